@@ -1,0 +1,5 @@
+use Rattle.hotel_core.proofs.RowsRooms.{left_follows}
+use Rattle.hotel_core.proofs.proved.left_follows.Goals as goal
+
+pub returns : goal.returns
+returns c = left_follows

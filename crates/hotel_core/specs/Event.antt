@@ -1,0 +1,45 @@
+-- What can happen at the desk: each accepted command or taken note is one event.
+use Rattle.std.specs.Prelude.{ℕ, List, Option, Some, None}
+use Rattle.hotel_core.specs.declared.keys.Link.{Link}
+use Rattle.hotel_core.specs.declared.keys.LockNote.{LockNote}
+use Rattle.hotel_core.specs.declared.keys.Act.TheVariants as act
+
+-- a day, and a second of it
+pub record Moment : Type 0 where
+  pub day : ℕ
+  pub second : ℕ
+
+pub data Event : Type 0 where
+  -- the first business day is set
+  Begun : (day : ℕ) → Event
+  -- a kind of rooms is added
+  Kind : (kind : List ℕ) → Event
+  -- a room of a kind is added, with its first code
+  Install : (room : ℕ) (kind : List ℕ) (code : ℕ) → Event
+  -- a party books
+  Reserved : (party : ℕ) (guest kind : List ℕ) (arrive depart : ℕ) → Event
+  -- a booking is given up
+  Cancelled : (party : ℕ) → Event
+  -- a party arrives at a room, and is given a card with a new code
+  CheckIn : (party room number code : ℕ) → Event
+  -- a party in house goes to another room, and is given a card with a new code
+  Transfer : (party room number code : ℕ) → Event
+  -- a party is given one more card with the link of its last one
+  Spare : (party number : ℕ) → Event
+  -- a party leaves for good
+  CheckOut : (party : ℕ) → Event
+  -- the next business day comes
+  NextDay : Event
+  -- a lock reports: this card entered
+  Entered : (room count number : ℕ) → Link → Moment → Event
+  -- a lock reports: this card left
+  Left : (room count number : ℕ) → Link → Moment → Event
+  -- a lock reports: staff recoded it
+  Recoded : (room count from to : ℕ) → Moment → Event
+
+-- the note that an event took, where it took one
+abbrev pub note_of : Event → Option LockNote
+note_of (Entered room count number link at) = Some (record { room = room; count = count; act = act.Entered number link; day = at.day; second = at.second })
+note_of (Left room count number link at) = Some (record { room = room; count = count; act = act.Left number link; day = at.day; second = at.second })
+note_of (Recoded room count from to at) = Some (record { room = room; count = count; act = act.Recoded from to; day = at.day; second = at.second })
+note_of _ = None

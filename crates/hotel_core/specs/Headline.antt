@@ -1,0 +1,78 @@
+-- What is to be proved of each history that can be reached.
+use Rattle.std.specs.Prelude.{ℕ, ◌≡◌, ◌≤◌, ◌↔◌, true, List, ◌∷◌, ◌++◌, Some, IsSome, Contains, length}
+use Rattle.hotel_core.specs.declared.keys.Card.{Card}
+use Rattle.hotel_core.specs.declared.keys.Link.{Link}
+use Rattle.hotel_core.specs.declared.command.Command.{Command}
+use Rattle.hotel_core.specs.Rows.{at_number}
+use Rattle.hotel_core.specs.Sound.{IsSound}
+use Rattle.hotel_core.specs.Event.{Event, Entered}
+use Rattle.hotel_core.specs.History.{History, start, ◌▷◌}
+use Rattle.hotel_core.specs.RowsOf.{rows_of}
+use Rattle.hotel_core.specs.Issued.{issued, current}
+use Rattle.hotel_core.specs.Cards.{cards, newest_link}
+use Rattle.hotel_core.specs.Lock.{turn, held}
+use Rattle.hotel_core.specs.Ledger.{passed, awaited, turns}
+use Rattle.hotel_core.specs.Guests.{registered, inside, secured}
+use Rattle.hotel_core.specs.Stays.{nights, rooms_of}
+use Rattle.hotel_core.specs.Cases.{is_room}
+use Rattle.hotel_core.specs.Outcome.{grown}
+use Rattle.hotel_core.specs.Answer.{answer_to}
+use Rattle.hotel_core.specs.Change.{made}
+use Rattle.hotel_core.specs.ChangeOf.{change_of, Fits}
+use Rattle.hotel_core.specs.Run.{Reached}
+
+-- No code stands at two places, of one room or of two.
+abbrev pub NoCodeTwice : History → Type 0
+NoCodeTwice h = (r s code : ℕ) (before later before' later' : List ℕ) → issued h r ≡ before ++ code ∷ later → issued h s ≡ before' ++ code ∷ later' → (r ≡ s) × (before ≡ before')
+
+-- At each room the passed codes, the held one and the awaited ones are the issued ones, in order.
+abbrev pub LedgerHolds : History → Type 0
+LedgerHolds h = (r : ℕ) → is_room h r ≡ true → passed h r ++ held h r ∷ awaited h r ≡ issued h r
+
+-- A code that an entry took out of the awaited ones was their first.
+abbrev pub TakesTheFirst : History → Type 0
+TakesTheFirst (start t) = Unit {0}
+TakesTheFirst (h ▷ Entered room count number link at) =
+    TakesTheFirst h × (turns h room link ≡ true → (later : List ℕ) × (awaited h room ≡ link.new_code ∷ later))
+TakesTheFirst (h ▷ _) = TakesTheFirst h
+
+-- A card opens only locks of rooms at which both codes of its link were issued.
+abbrev pub OpensOwnRoom : History → Type 0
+OpensOwnRoom h = (r number : ℕ) (card : Card) → is_room h r ≡ true → at_number (cards h) number ≡ Some card → IsSome (turn (held h r) card.link)
+    → Contains (issued h r) card.link.old_code × Contains (issued h r) card.link.new_code
+
+-- A room's newest link opens its lock exactly where the lock awaits at most one code.
+abbrev pub NewestOpens : History → Type 0
+NewestOpens h = (r : ℕ) (link : Link) → newest_link h r ≡ Some link → IsSome (turn (held h r) link) ↔ (length (awaited h r) ≤ 1)
+
+-- In a secured room with a registered party the lock holds the current code, and each card inside has the newest link and is that party's.
+abbrev pub SafeRoom : History → Type 0
+SafeRoom h = (r party : ℕ) → secured h r ≡ true → registered h r ≡ Some party → (held h r ≡ current h r)
+    × ((number : ℕ) → Contains (inside h r) number → (card : Card) × (at_number (cards h) number ≡ Some card) × (newest_link h r ≡ Some card.link) × (card.party ≡ party))
+
+-- The seven parts of the headline.
+pub record Headline (h : History) : Type 0 where
+  pub no_code_twice : NoCodeTwice h
+  pub ledger : LedgerHolds h
+  pub takes_the_first : TakesTheFirst h
+  pub opens_own_room : OpensOwnRoom h
+  pub newest_opens : NewestOpens h
+  pub safe_room : SafeRoom h
+  pub rows_sound : IsSound (rows_of h)
+
+-- The headline holds of each history that can be reached.
+abbrev pub HeadlineHolds : Type 0
+HeadlineHolds = (h : History) → Reached h → Headline h
+
+-- On no night are more stays of a kind booked and in house than the kind has rooms.
+abbrev pub NoOversell : Type 0
+NoOversell = (h : History) → Reached h → (kind : List ℕ) (d : ℕ) → nights h kind d ≤ rooms_of h kind
+
+-- The rows after one more event are those that its change makes, and the change fits.
+abbrev pub RowsFollow : Type 0
+RowsFollow = (h : History) (event : Event) → Reached (h ▷ event) →
+    (rows_of (h ▷ event) ≡ made (change_of h event) (rows_of h)) × Fits (change_of h event) (rows_of h)
+
+-- A step after a history that can be reached makes one that can be reached.
+abbrev pub StepKeeps : Type 0
+StepKeeps = (h : History) (codes : List ℕ) (command : Command) → Reached h → Reached (grown h (answer_to h codes command).event)

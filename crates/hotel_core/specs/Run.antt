@@ -1,0 +1,72 @@
+-- Runs: commands one after the other, with their replies and the history that they make.
+use Rattle.std.specs.Prelude.{ℕ, ◌≡◌, Bool, true, false, List, [], ◌∷◌, Some, drop}
+use Rattle.rand_core.specs.Stream.{Stream}
+use Rattle.hotel_core.specs.declared.command.Command.{Command}
+use Rattle.hotel_core.specs.declared.command.Reply.{Reply}
+use Rattle.hotel_core.specs.declared.command.Reply.TheVariants as reply
+use Rattle.hotel_core.specs.declared.command.Refusal.TheVariants.{Memory, Store}
+use Rattle.hotel_core.specs.Rows.{Rows}
+use Rattle.hotel_core.specs.Sound.{IsSound}
+use Rattle.hotel_core.specs.History.{History, start, ◌▷◌}
+use Rattle.hotel_core.specs.RowsOf.{rows_of}
+use Rattle.hotel_core.specs.Draw.{codes_ahead, past, MovedAtMost}
+use Rattle.hotel_core.specs.Outcome.{Outcome, grown}
+use Rattle.hotel_core.specs.Answer.{answer_to}
+
+-- The history can be reached: its start is sound, and each event was accepted after those before it.
+abbrev pub Reached : History → Type 0
+Reached (start t) = IsSound t
+Reached (h ▷ event) = Reached h × (codes : List ℕ) × (command : Command) × ((answer_to h codes command).event ≡ Some event)
+
+-- The rows stand for a history that can be reached.
+abbrev pub StandsFor : History → Rows → Type 0
+StandsFor h rows = Reached h × (rows ≡ rows_of h)
+
+-- the answer to a command at a source
+abbrev pub answered : History → Stream → Command → Outcome
+answered h source command = answer_to h (codes_ahead source) command
+
+-- memory or the store failed
+abbrev pub is_failed : Reply → Bool
+is_failed (reply.Refused Memory) = true
+is_failed (reply.Refused Store) = true
+is_failed _ = false
+
+-- A failed command: nothing happened, and the source moved by at most the words of its draw. Any other: the answer, its event, and the words that it examined.
+abbrev pub StepsIf : Bool → History → Stream → Command → Reply → History → Stream → Type 0
+StepsIf true h s command reply h' s' = (h' ≡ h) × MovedAtMost (answered h s command).examined s s'
+StepsIf false h s command reply h' s' =
+    (reply ≡ (answered h s command).reply) × (h' ≡ grown h (answered h s command).event) × (s' ≡ past (answered h s command).examined s)
+
+-- A command may be given this reply, after which these are the history and the source. Memory or Store may stand in place of any answer.
+abbrev pub Steps : History → Stream → Command → Reply → History → Stream → Type 0
+Steps h s command reply h' s' = StepsIf (is_failed reply) h s command reply h' s'
+
+-- The replies to commands in order, from a history and a source to those at the end.
+abbrev pub Runs : History → Stream → List Command → List Reply → History → Stream → Type 0
+Runs h s [] [] h' s' = (h' ≡ h) × (s' ≡ s)
+Runs h s (command ∷ commands) (reply ∷ replies) h' s' =
+    (mid : History) × (source : Stream) × Steps h s command reply mid source × Runs mid source commands replies h' s'
+Runs h s [] (reply ∷ replies) h' s' = ⊥
+Runs h s (command ∷ commands) [] h' s' = ⊥
+
+-- what a run without failures comes to
+pub record Ran : Type 0 where
+  -- the history at its end
+  pub history : History
+  -- the codes of the words that it left in the source
+  pub codes : List ℕ
+  -- its replies, in order
+  pub replies : List Reply
+
+abbrev pub first_reply : Reply → Ran → Ran
+first_reply reply ran = record ran { replies = reply ∷ ran.replies }
+
+abbrev pub go_on : Outcome → (Outcome → Ran) → Ran
+go_on outcome later = first_reply outcome.reply (later outcome)
+
+-- The run of commands in which nothing fails, where the source's words give these codes.
+abbrev pub run_on : History → List ℕ → List Command → Ran
+run_on h codes [] = record { history = h; codes = codes; replies = [] }
+run_on h codes (command ∷ commands) =
+    go_on (answer_to h codes command) (λ outcome. run_on (grown h outcome.event) (drop outcome.examined codes) commands)

@@ -1,0 +1,97 @@
+-- The first day of some that a test takes.
+use Rattle.std.proofs.Common.{◌≡◌, ℕ, zero, suc, ◌+◌, ◌-◌, ◌<◌, ◌≤◌, Bool, true, false, arith, refl, sym, ap, subst, ◌⊎◌, ◌∙◌, Option, Some, None, nat_lt, add-one, inl, inr}
+use Rattle.std.proofs.lemmas.Bool.{cases_Bool}
+use Rattle.std.proofs.lemmas.Bool.Decides.{nat_tests}
+use Rattle.std.specs.Option.{SomeIff}
+use Rattle.hotel_nights.specs.FullNight.{first_day, IsFirst}
+
+-- a day that the test refuses is passed over
+pub first_day-more : (test : ℕ → Bool) (d after : ℕ) → d < after → test d ≡ false → first_day test d (after - d) ≡ first_day test (d + 1) (after - (d + 1))
+unfolding first_day
+first_day-more test d after h f =
+    let e : after - d ≡ suc (after - (d + 1)) = omega arith in
+    rw (e, f, add-one) refl
+
+pub first_day-found : (test : ℕ → Bool) (d after : ℕ) → d < after → test d ≡ true → Some d ≡ first_day test d (after - d)
+unfolding first_day
+first_day-found test d after h y =
+    let e : after - d ≡ suc (after - (d + 1)) = omega arith in
+    rw (e, y) refl
+
+pub first_day-end : (test : ℕ → Bool) (d after : ℕ) → after ≤ d → None ≡ first_day test d (after - d)
+unfolding first_day
+first_day-end test d after h = let e : after - d ≡ 0 = omega arith in rw e refl
+
+-- the first of a first part is the first of all
+split-some : (test : ℕ → Bool) (d m n r : ℕ) → first_day test d m ≡ Some r → first_day test d (m + n) ≡ Some r
+unfolding first_day
+split-some test d zero n r h = absurd (cc)
+split-some test d (suc m) n r h =
+    let q : suc m + n ≡ suc (m + n) = omega arith in
+    elim (cases_Bool (test d)) [
+    | inl y ↦ rw (q, y) (rw y at h)
+    | inr nope ↦ rw (q, nope) (split-some test (suc d) m n r (rw nope at h))
+    ]
+
+split-none : (test : ℕ → Bool) (d m n : ℕ) → first_day test d m ≡ None → first_day test d (m + n) ≡ first_day test (d + m) n
+unfolding first_day
+split-none test d zero n h = let q : zero + n ≡ n = omega arith in let q2 : d + zero ≡ d = omega arith in rw (q, q2) refl
+split-none test d (suc m) n h =
+    let q : suc m + n ≡ suc (m + n) = omega arith in
+    let q2 : d + suc m ≡ suc d + m = omega arith in
+    elim (cases_Bool (test d)) [
+    | inl y ↦ let k = rw y at h in absurd (cc)
+    | inr nope ↦ rw (q, q2, nope) (split-none test (suc d) m n (rw nope at h))
+    ]
+
+pub block-some : (test : ℕ → Bool) (d mid after r : ℕ) → d ≤ mid → mid ≤ after → Some r ≡ first_day test d (mid - d) → Some r ≡ first_day test d (after - d)
+block-some test d mid after r h k e =
+    let q : after - d ≡ (mid - d) + (after - mid) = omega arith in
+    rw q (sym (split-some test d (mid - d) (after - mid) r (sym e)))
+
+pub block-none : (test : ℕ → Bool) (d mid after : ℕ) → d ≤ mid → mid ≤ after → None ≡ first_day test d (mid - d) → first_day test d (after - d) ≡ first_day test mid (after - mid)
+block-none test d mid after h k e =
+    let q : after - d ≡ (mid - d) + (after - mid) = omega arith in
+    let q2 : d + (mid - d) ≡ mid = omega arith in
+    rw q (split-none test d (mid - d) (after - mid) (sym e) ∙ rw q2 refl)
+
+within : (test : ℕ → Bool) (d n r : ℕ) → first_day test d n ≡ Some r → r < d + n
+unfolding first_day
+within test d zero r h = absurd (cc)
+within test d (suc n) r h = elim (cases_Bool (test d)) [
+  | inl y ↦ let k : Some d ≡ Some r = rw y at h in let e : d ≡ r = cc in omega arith
+  | inr nope ↦ let k = within test (suc d) n r (rw nope at h) in omega arith
+]
+
+-- a day that was found is before the end
+pub first_day-lt : (test : ℕ → Bool) (d after r : ℕ) → d ≤ after → Some r ≡ first_day test d (after - d) → r < after
+first_day-lt test d after r h e = let k = within test d (after - d) r (sym e) in omega arith
+
+pub some-is : (r : Option ℕ) (n : ℕ) → SomeIff r (n ≤ 36524) n → n ≤ 36524 → r ≡ Some n
+some-is None n h k = absurd (h k)
+some-is (Some x) n h k = ap Some h.1
+
+either_day : (d e : ℕ) → d ≤ e → (d ≡ e) ⊎ (suc d ≤ e)
+either_day d e h = elim (cases_Bool (nat_lt d e)) [
+  | inl lt ↦ inr (grind (arith, nat_tests))
+  | inr ge ↦ inl (grind (arith, nat_tests))
+]
+
+-- the first day of a test that refuses the first one
+first-later : (test : ℕ → Bool) (d n : ℕ) (o : Option ℕ) → test d ≡ false → IsFirst test (suc d) n o → IsFirst test d (suc n) o
+first-later test d n None f k = λ e low high. elim (either_day d e low) [
+  | inl q ↦ subst (λ x. test x ≡ false) q f
+  | inr lt ↦ k e lt (omega arith)
+]
+first-later test d n (Some r) f k = (omega (arith, k.0), omega (arith, k.1), k.2, λ e low high. elim (either_day d e low) [
+  | inl q ↦ subst (λ x. test x ≡ false) q f
+  | inr lt ↦ k.3 e lt high
+])
+
+pub first_day-is : (test : ℕ → Bool) (d n : ℕ) → IsFirst test d n (first_day test d n)
+unfolding first_day
+first_day-is test d zero = λ e low high. absurd (omega arith)
+first_day-is test d (suc n) = elim (cases_Bool (test d)) [
+  | inl y ↦ rw y (omega arith, omega arith, y, λ e low high. absurd (omega arith))
+  | inr nope ↦ rw nope (first-later test d n (first_day test (suc d) n) nope (first_day-is test (suc d) n))
+]

@@ -1,0 +1,29 @@
+-- Moments: a day and a second of it.
+use Rattle.std.specs.Prelude.{ℕ, ◌+◌, ◌*◌, ◌/◌, ◌%◌, ◌&&◌, ◌||◌, ◌==◌, List, [], ◌∷◌, ◌++◌, length, if◌then◌else◌, nat_le, Option, Some, None, slice_index, slice_range, option_and_then}
+use Rattle.keycard_rules.specs.Numerals.{numeral, fixed_text}
+use Rattle.hotel_nights.specs.Days.{read_day, day_text, ◌>>=◌}
+
+-- the seconds that `HH:MM:SS` writes
+abbrev pub read_time : List ℕ → Option ℕ
+read_time text =
+    if (length text == 8) && (slice_index text 2 == 58) && (slice_index text 5 == 58) then (do
+      h ← numeral 10 2 (slice_range text 0 2)
+      m ← numeral 10 2 (slice_range text 3 5)
+      s ← numeral 10 2 (slice_range text 6 8)
+      if nat_le h 23 && nat_le m 59 && nat_le s 59 then Some (h * 3600 + m * 60 + s) else None)
+    else None
+
+-- `YYYY-MM-DDTHH:MM:SS`, with `T` or a space
+abbrev pub read_moment : List ℕ → Option (ℕ × ℕ)
+read_moment text =
+    if (length text == 19) && ((slice_index text 10 == 84) || (slice_index text 10 == 32)) then (do
+      d ← read_day (slice_range text 0 10)
+      s ← read_time (slice_range text 11 19)
+      Some (d, s))
+    else None
+
+abbrev pub time_text : ℕ → List ℕ
+time_text s = fixed_text 10 2 (s / 3600) ++ (58 ∷ (fixed_text 10 2 (s / 60 % 60) ++ (58 ∷ fixed_text 10 2 (s % 60))))
+
+abbrev pub moment_text : ℕ × ℕ → List ℕ
+moment_text m = day_text m.0 ++ (84 ∷ time_text m.1)

@@ -1,0 +1,112 @@
+//! Days of the calendar.
+
+ghost use Rattle.std.specs.Prelude.{◌≡◌, ℕ, ◌≤◌, ◌<◌, ◌+◌, ◌^◌, Some, option_map};
+ghost use Rattle.std.specs.Option.{SomeIff};
+ghost use Rattle.hotel_nights.specs.Days.{read_ymd, ymd, read_day, day_text, date_of};
+ghost use Rattle.keycard_rules.specs.Numerals.{fixed_text};
+
+use jiff_core::civil::Date;
+use std::marker::Model;
+use keycard_rules::{read_numeral, write_fixed};
+
+/// A day from 2000-01-01 to 2099-12-31.
+#[derive(Clone, Copy, PartialEq, Eq, PartialOrd, Ord, Hash, Debug)]
+pub struct Day {
+    number: u16,
+}
+
+impl Model for Day {
+    ghost Value = { ℕ };
+
+    ghost view = { λ d. d.number };
+
+    ghost invariant = { λ d. d.number ≤ 36524 };
+
+    ghost inverse = { λ n. record { number = n } };
+}
+
+/// The days from -9999-01-01 to 2000-01-01.
+const BEFORE: u32 = 4_382_544;
+
+fn read_parts(text: &[u8]) -> Option<(u64, u64, u64)>
+    ensures { option_map (λ p. ymd p.0 p.1 p.2) result ≡ read_ymd text.now }
+{
+    if text.len() != 10 || text[4] != b'-' || text[7] != b'-' {
+        return None;
+    }
+    let year = read_numeral(&text[0..4], 10, 4)?;
+    let month = read_numeral(&text[5..7], 10, 2)?;
+    let day = read_numeral(&text[8..10], 10, 2)?;
+    Some((year, month, day))
+}
+
+pub(crate) fn two_digits(number: u8) -> [u8; 2]
+    ensures { result ≡ fixed_text 10 2 number }
+{
+    let mut text = [0; 2];
+    write_fixed(u64::from(number), 10, &mut text);
+    text
+}
+
+fn four_digits(number: u16) -> [u8; 4]
+    ensures { result ≡ fixed_text 10 4 number }
+{
+    let mut text = [0; 4];
+    write_fixed(u64::from(number), 10, &mut text);
+    text
+}
+
+impl Day {
+    pub fn new(number: u16) -> Option<Day>
+        ensures { SomeIff result (number ≤ 36524) number }
+    {
+        if number <= 36524 {
+            Some(Day { number })
+        } else {
+            None
+        }
+    }
+
+    pub fn number(&self) -> u16
+        ensures same { result ≡ self.now }
+        ensures below { result ≤ 36524 }
+    {
+        self.number
+    }
+
+    /// Reads `YYYY-MM-DD`.
+    pub fn read(text: &[u8]) -> Option<Day>
+        ensures { result ≡ read_day text.now }
+    {
+        let (year, month, day) = read_parts(text)?;
+        if year < 2000 || year > 2099 || month > 12 || day > 31 {
+            return None;
+        }
+        let Ok(date) = Date::new(year as i16, month as i8, day as i8) else {
+            return None;
+        };
+        Some(Day {
+            number: (date.days_since_min() - BEFORE) as u16,
+        })
+    }
+
+    /// Prints `YYYY-MM-DD`.
+    pub fn print(&self) -> [u8; 10]
+        ensures text { result ≡ day_text self.now }
+        ensures reads_back { read_day result ≡ Some self.now }
+    {
+        let date = Date::from_days_since_min(BEFORE + u32::from(self.number));
+        let [a, b, c, d] = four_digits(date.year.unsigned_abs());
+        let [e, f] = two_digits(date.month);
+        let [g, h] = two_digits(date.day);
+        [a, b, c, d, b'-', e, f, b'-', g, h]
+    }
+
+    /// The day that many days later.
+    pub fn plus(&self, days: u16) -> Option<Day>
+        ensures { SomeIff result (self.now + days ≤ 36524) (self.now + days) }
+    {
+        let number = self.number.checked_add(days)?;
+        Day::new(number)
+    }
+}

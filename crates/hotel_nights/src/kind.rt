@@ -1,0 +1,62 @@
+//! The codes of kinds of rooms.
+
+ghost use Rattle.std.specs.Prelude.{◌≡◌, ℕ, List, true};
+ghost use Rattle.std.specs.List.{list_all};
+ghost use Rattle.hotel_nights.specs.Kinds.{is_kind, read_kind, is_kind_byte};
+
+use std::marker::Model;
+
+/// The code of a kind: one to eight capital letters and digits.
+#[derive(Clone, Copy, PartialEq, Eq, PartialOrd, Ord, Debug)]
+pub struct KindCode {
+    bytes: [u8; 8],
+    len: usize,
+}
+
+impl Model for KindCode {
+    ghost use Rattle.std.specs.Prelude.{◌≡◌, ◌≤◌, ◌-◌, ◌++◌, ℕ, List, length, take, drop, replicate, true};
+    ghost use Rattle.std.proofs.Common.{arith, ap, sym, ◌∙◌, take-append-drop, length-take-le};
+    ghost use Rattle.hotel_nights.specs.Kinds.{is_kind};
+
+    ghost Value = { List ℕ };
+
+    ghost view = { λ k. take k.len k.bytes };
+
+    ghost invariant = { λ k. (length k.bytes ≡ 8) × (k.len ≤ 8) × (drop k.len k.bytes ≡ replicate (8 - k.len) 0) × (is_kind (take k.len k.bytes) ≡ true) };
+
+    ghost inverse = { λ l. record { bytes = l ++ replicate (8 - length l) 0; len = length l } };
+
+    ghost inverse_ok = { λ k h i. record {
+      bytes = (ap (λ m. take k.len k.bytes ++ replicate (8 - m) 0) (length-take-le k.len k.bytes (omega (arith, h.0, h.1))) ∙ (ap (λ t. take k.len k.bytes ++ t) (sym h.2) ∙ take-append-drop k.len k.bytes)) i;
+      len = length-take-le k.len k.bytes (omega (arith, h.0, h.1)) i;
+    } };
+}
+
+fn are_kind_bytes(text: &[u8]) -> bool
+    ensures { result ≡ list_all is_kind_byte text.now }
+{
+    text.iter()
+        .all(|byte| byte.is_ascii_uppercase() || byte.is_ascii_digit())
+}
+
+impl KindCode {
+    /// Reads one to eight capital letters and digits.
+    pub fn read(text: &[u8]) -> Option<KindCode>
+        ensures { result ≡ read_kind text.now }
+    {
+        if text.is_empty() || text.len() > 8 || !are_kind_bytes(text) {
+            return None;
+        }
+        let len = text.len();
+        let mut bytes = [0; 8];
+        bytes[..len].copy_from_slice(text);
+        Some(KindCode { bytes, len })
+    }
+
+    pub fn as_bytes(&self) -> &[u8]
+        ensures same { result.now ≡ self.now }
+        ensures known { is_kind result.now ≡ true }
+    {
+        &self.bytes[..self.len]
+    }
+}

@@ -1,0 +1,89 @@
+//! Moments: a day and a second of it.
+
+ghost use Rattle.std.specs.Prelude.{◌≡◌, ℕ, ◌≤◌, ◌<◌, Some};
+ghost use Rattle.hotel_nights.specs.Moments.{read_moment, read_time, moment_text, time_text};
+
+use crate::day::{Day, two_digits};
+use std::marker::Model;
+use keycard_rules::read_numeral;
+
+/// A second of a day.
+#[derive(Clone, Copy, PartialEq, Eq, PartialOrd, Ord, Debug)]
+pub struct Moment {
+    day: Day,
+    second: u32,
+}
+
+impl Model for Moment {
+    ghost Value = { ℕ × ℕ };
+
+    ghost view = { λ m. (m.day, m.second) };
+
+    ghost invariant = { λ m. (m.day ≤ 36524) × (m.second ≤ 86399) };
+
+    ghost inverse = { λ v. record { day = v.0; second = v.1 } };
+}
+
+fn read_time(text: &[u8]) -> Option<u32>
+    ensures { result ≡ read_time text.now }
+{
+    if text.len() != 8 || text[2] != b':' || text[5] != b':' {
+        return None;
+    }
+    let hour = read_numeral(&text[0..2], 10, 2)?;
+    let minute = read_numeral(&text[3..5], 10, 2)?;
+    let second = read_numeral(&text[6..8], 10, 2)?;
+    if hour > 23 || minute > 59 || second > 59 {
+        return None;
+    }
+    Some((hour * 3600 + minute * 60 + second) as u32)
+}
+
+fn print_time(second: u32) -> [u8; 8]
+    requires { second ≤ 86399 }
+    ensures { result ≡ time_text second }
+{
+    let [a, b] = two_digits((second / 3600) as u8);
+    let [c, d] = two_digits((second / 60 % 60) as u8);
+    let [e, f] = two_digits((second % 60) as u8);
+    [a, b, b':', c, d, b':', e, f]
+}
+
+impl Moment {
+    pub fn day(&self) -> Day
+        ensures { result ≡ self.now.0 }
+    {
+        self.day
+    }
+
+    pub fn second(&self) -> u32
+        ensures same { result ≡ self.now.1 }
+        ensures below { result ≤ 86399 }
+    {
+        self.second
+    }
+
+    /// Reads `YYYY-MM-DDTHH:MM:SS`, where a space may stand for the `T`.
+    pub fn read(text: &[u8]) -> Option<Moment>
+        ensures { result ≡ read_moment text.now }
+    {
+        if text.len() != 19 || (text[10] != b'T' && text[10] != b' ') {
+            return None;
+        }
+        let day = Day::read(&text[0..10])?;
+        let second = read_time(&text[11..19])?;
+        Some(Moment { day, second })
+    }
+
+    /// Prints `YYYY-MM-DDTHH:MM:SS`.
+    pub fn print(&self) -> [u8; 19]
+        ensures text { result ≡ moment_text self.now }
+        ensures reads_back { read_moment result ≡ Some self.now }
+    {
+        let [a, b, c, d, e, f, g, h, i, j] = self.day.print();
+        let [k, l, m, n, o, p, q, r] = print_time(self.second);
+        [
+            a, b, c, d, e, f, g, h, i, j, b'T', k, l, m, n, o, p, q, r,
+        ]
+    }
+}

@@ -1,0 +1,116 @@
+-- A draw, as far as it has come.
+use Rattle.std.proofs.Common.{ℕ, zero, suc, ◌≡◌, ◌+◌, ◌/◌, ◌^◌, ◌≤◌, ◌<◌, Bool, true, false, List, [], ◌∷◌, Option, Some, None, refl, ap, sym, ◌∙◌, arith, add-one, cond, nat_lt}
+use Rattle.std.specs.Prelude.{if◌then◌else◌}
+use Rattle.rand_core.specs.Stream.{Stream, next_u64}
+use Rattle.keycard_rules.specs.Draw.{is_among, words, past, code_of, Draw, one_more, draw_from, drawn}
+
+abbrev pub more : ℕ → Draw → Draw
+more n draw = record { code = draw.code; examined = n + draw.examined }
+
+pub past-suc : (n : ℕ) (s : Stream) → past (suc n) s ≡ (next_u64 (past n s)).1
+unfolding past
+past-suc zero s = refl
+past-suc (suc n) s = past-suc n (next_u64 s).1
+
+pub past-zero : (s : Stream) → past 0 s ≡ s
+unfolding past
+past-zero s = refl
+
+pub words-suc : (n : ℕ) (s : Stream) → words (suc n) s ≡ (next_u64 s).0 ∷ words n (next_u64 s).1
+unfolding words
+words-suc n s = refl
+
+pub words-zero : (s : Stream) → words 0 s ≡ []
+unfolding words
+words-zero s = refl
+
+-- n words gave issued codes, and the draw is what the words that are left give
+pub record SoFar (issued : List ℕ) (s0 : Stream) (n : ℕ) (s1 : Stream) : Type 0 where
+  pub left : ℕ
+  pub all : n + left ≡ 64
+  pub moved : s1 ≡ past n s0
+  pub same : drawn issued s0 ≡ more n (draw_from issued (words left s1))
+
+pub so_far_none : (issued : List ℕ) (s : Stream) → SoFar issued s 0 s
+so_far_none issued s = record {
+  left = 64;
+  all = refl;
+  moved = sym (past-zero s);
+  same = ap (λ (k : ℕ). let d : Draw = record { code = (drawn issued s).code; examined = k } in d) (omega arith);
+}
+
+more_one : (n : ℕ) (d : Draw) → more n (one_more d) ≡ more (suc n) d
+more_one n d = ap (λ (k : ℕ). let e : Draw = record { code = d.code; examined = k } in e) (omega arith)
+
+issued_first : (issued later : List ℕ) (word : ℕ) → is_among issued (code_of word) ≡ true → draw_from issued (word ∷ later) ≡ one_more (draw_from issued later)
+issued_first issued later word h = rw h
+
+fresh_first : (issued later : List ℕ) (word : ℕ) → is_among issued (code_of word) ≡ false → draw_from issued (word ∷ later) ≡ record { code = Some (code_of word); examined = 1 }
+fresh_first issued later word h = rw h
+
+at_least_one : (issued later : List ℕ) (w : ℕ) → 1 ≤ (draw_from issued (w ∷ later)).examined
+at_least_one issued later w = at_least_one_by (is_among issued (code_of w)) (draw_from issued later) (code_of w)
+  where
+  at_least_one_by : (b : Bool) (d : Draw) (c : ℕ) → 1 ≤ (let r : Draw = cond b (one_more d) (record { code = Some c; examined = 1 }) in r).examined
+  at_least_one_by true d c = omega arith
+  at_least_one_by false d c = omega arith
+
+-- at one more word
+module _ (issued : List ℕ) (s0 s1 s2 : Stream) (n word : ℕ) (h : SoFar issued s0 n s1) (low : n < 64) (next : (word, s2) ≡ next_u64 s1) where
+  is_word : (next_u64 s1).0 ≡ word
+  is_word = ap (λ p. p.0) (sym next)
+
+  is_later : (next_u64 s1).1 ≡ s2
+  is_later = ap (λ p. p.1) (sym next)
+
+  at_next : (left : ℕ) → n + left ≡ 64 → drawn issued s0 ≡ more n (draw_from issued (words left s1)) → (m : ℕ) × (left ≡ suc m) × (drawn issued s0 ≡ more n (draw_from issued (word ∷ words m s2)))
+  at_next zero e d = absurd (omega arith)
+  at_next (suc m) e d = (m, refl, d ∙ ap (λ ws. more n (draw_from issued ws)) (words-suc m s1 ∙ ap (λ p. p.0 ∷ words m p.1) (sym next)))
+
+  pub moved_on : s2 ≡ past (n + 1) s0
+  moved_on = rw add-one (sym is_later ∙ ap (λ s. (next_u64 s).1) h.moved ∙ sym (past-suc n s0))
+
+  pub so_far_more : is_among issued (code_of word) ≡ true → SoFar issued s0 (n + 1) s2
+  so_far_more hit =
+      let t = at_next h.left h.all h.same in
+      record {
+        left = t.0;
+        all = omega arith;
+        moved = moved_on;
+        same = rw add-one (t.2 ∙ ap (more n) (issued_first issued (words t.0 s2) word hit) ∙ more_one n (draw_from issued (words t.0 s2)));
+      }
+
+  pub found : is_among issued (code_of word) ≡ false → drawn issued s0 ≡ record { code = Some (code_of word); examined = n + 1 }
+  found miss =
+      let t = at_next h.left h.all h.same in
+      t.2 ∙ ap (more n) (fresh_first issued (words t.0 s2) word miss)
+
+  -- the draw goes at least as far as this word
+  pub examines : n + 1 ≤ (drawn issued s0).examined
+  examines =
+      let t = at_next h.left h.all h.same in
+      let e : (drawn issued s0).examined ≡ n + (draw_from issued (word ∷ words t.0 s2)).examined = ap (λ d. d.examined) t.2 in
+      omega (arith, e, at_least_one issued (words t.0 s2) word)
+
+-- no word is left
+no_more_at : (issued : List ℕ) (s0 s1 : Stream) (n left : ℕ) → n + left ≡ 64 → 64 ≤ n → drawn issued s0 ≡ more n (draw_from issued (words left s1)) → drawn issued s0 ≡ record { code = None; examined = n }
+no_more_at issued s0 s1 n zero a e d = d ∙ ap (λ ws. more n (draw_from issued ws)) (words-zero s1) ∙ ap (λ (k : ℕ). let d : Draw = record { code = None; examined = k } in d) (omega arith)
+no_more_at issued s0 s1 n (suc left) a e d = absurd (omega arith)
+
+pub no_more : (issued : List ℕ) (s0 s1 : Stream) (n : ℕ) → SoFar issued s0 n s1 → 64 ≤ n → drawn issued s0 ≡ record { code = None; examined = n }
+no_more issued s0 s1 n h e = no_more_at issued s0 s1 n h.left h.all e h.same
+
+-- what a word's code is, once `Code::new` took it
+code_by : (b : Bool) (v code : ℕ) → Some code ≡ cond b (Some v) None → code ≡ v
+code_by true v code h = cc
+code_by false v code h = cc
+
+pub code_taken : (word code : ℕ) → Some code ≡ (if nat_lt (word / 65536) (2 ^ 48) then Some (word / 65536) else None) → code ≡ code_of word
+code_taken word code h = code_by (nat_lt (word / 65536) (2 ^ 48)) (word / 65536) code h
+
+pub answer_at : (now then_ : List ℕ) (word code : ℕ) (was b : Bool) → was ≡ is_among now code → was ≡ b → now ≡ then_ → code ≡ code_of word → is_among then_ (code_of word) ≡ b
+answer_at now then_ word code was b a e s k = sym (ap (λ x. is_among now x) k ∙ ap (λ xs. is_among xs (code_of word)) s) ∙ sym a ∙ e
+
+-- a draw that is known
+pub draw_is : (issued : List ℕ) (s0 s2 : Stream) (code : Option ℕ) (n : ℕ) → drawn issued s0 ≡ record { code = code; examined = n } → s2 ≡ past n s0 → ((drawn issued s0).code ≡ code) × (s2 ≡ past (drawn issued s0).examined s0)
+draw_is issued s0 s2 code n d m = (ap (λ x. x.code) d, m ∙ ap (λ k. past k s0) (sym (ap (λ x. x.examined) d)))

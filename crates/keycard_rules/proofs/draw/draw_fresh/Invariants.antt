@@ -1,0 +1,16 @@
+use Rattle.std.proofs.Common.{◌≤◌, ◌≡◌}
+use Rattle.keycard_rules.proofs.Drawing.{SoFar}
+use Rattle.keycard_rules.proofs.draw.draw_fresh.Given as goal
+
+abbrev pub invariant-loop : goal.invariant-loop
+invariant-loop g l =
+    let issued = g.I.Issued.issued in
+    let stream = g.R.Rng.stream in
+    let is_clean = g.I.Issued.is_clean in
+    let failures = g.I.Issued.failures in
+    record {
+      counted : failures l.fn.issued ≤ failures l.issued;
+      was_clean : is_clean l.issued → is_clean l.fn.issued;
+      kept : is_clean l.issued → g.I.Issued.is_kept l.fn.issued l.issued;
+      so_far : is_clean l.issued → SoFar (issued l.fn.issued) (stream l.fn.source) l.counter (stream l.source);
+    }

@@ -1,0 +1,60 @@
+-- Drawing a code that was never issued.
+use Rattle.std.specs.Prelude.{ℕ, zero, suc, ◌≡◌, ◌≤◌, ◌+◌, ◌/◌, Bool, List, [], ◌∷◌, Option, Some, None, Result, Ok, Err, if◌then◌else◌, ◌==◌}
+use Rattle.std.specs.List.{list_any}
+use Rattle.rand_core.specs.Stream.{Stream, next_u64}
+use Rattle.keycard_rules.specs.declared.draw.DrawFault.{DrawFault}
+use Rattle.keycard_rules.specs.declared.draw.DrawFault.TheVariants.{NoFreshCode, Memory, Store}
+
+-- the code is among these
+abbrev pub is_among : List ℕ → ℕ → Bool
+is_among codes code = list_any (λ c. c == code) codes
+
+-- the next n words of a source
+unfoldable pub words : ℕ → Stream → List ℕ
+words zero source = []
+words (suc n) source = (next_u64 source).0 ∷ words n (next_u64 source).1
+
+-- the source after n words
+unfoldable pub past : ℕ → Stream → Stream
+past zero source = source
+past (suc n) source = past n (next_u64 source).1
+
+-- a word's code
+abbrev pub code_of : ℕ → ℕ
+code_of word = word / 65536
+
+-- what a draw finds: a code, or none, and how many words it examined
+pub record Draw : Type 0 where
+  pub code : Option ℕ
+  pub examined : ℕ
+
+abbrev pub one_more : Draw → Draw
+one_more draw = record { code = draw.code; examined = draw.examined + 1 }
+
+-- the first code of these words that isn't issued
+abbrev pub draw_from : List ℕ → List ℕ → Draw
+draw_from issued [] = record { code = None; examined = 0 }
+draw_from issued (word ∷ later) =
+    if is_among issued (code_of word) then one_more (draw_from issued later) else record { code = Some (code_of word); examined = 1 }
+
+-- the same of the next 64 words of a source
+abbrev pub drawn : List ℕ → Stream → Draw
+drawn issued source = draw_from issued (words 64 source)
+
+-- the source has moved by at most n words
+abbrev pub MovedAtMost : ℕ → Stream → Stream → Type 0
+MovedAtMost n source later = (k : ℕ) × (k ≤ n) × (later ≡ past k source)
+
+-- What a draw answers, and where it leaves the source: the code that is drawn, or none where all 64 are issued.
+abbrev pub Draws : List ℕ → Stream → Result ℕ DrawFault → Stream → Type 0
+Draws issued source (Ok code) later = ((drawn issued source).code ≡ Some code) × (later ≡ past (drawn issued source).examined source)
+Draws issued source (Err NoFreshCode) later = ((drawn issued source).code ≡ None) × (later ≡ past (drawn issued source).examined source)
+Draws issued source (Err Memory) later = MovedAtMost (drawn issued source).examined source later
+Draws issued source (Err Store) later = MovedAtMost (drawn issued source).examined source later
+
+-- memory or the store failed
+abbrev pub IsFailed : Result ℕ DrawFault → Type 0
+IsFailed (Ok code) = ⊥
+IsFailed (Err NoFreshCode) = ⊥
+IsFailed (Err Memory) = Unit {0}
+IsFailed (Err Store) = Unit {0}

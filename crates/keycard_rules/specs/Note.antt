@@ -1,0 +1,15 @@
+-- What a lock notes: a count, what happened, and when.
+use Rattle.std.specs.Prelude.{ℕ, ◌≤◌}
+use Rattle.keycard_rules.specs.declared.note.Act.{Act}
+
+-- A note: the room's count, the act, and the day and the second of it.
+pub record Note : Type 0 where
+  pub room : ℕ
+  pub count : ℕ
+  pub act : Act
+  pub day : ℕ
+  pub second : ℕ
+
+-- the day is one of the calendar's, and the second one of a day's
+abbrev pub IsTimed : ℕ → ℕ → Type 0
+IsTimed day second = (day ≤ 36524) × (second ≤ 86399)

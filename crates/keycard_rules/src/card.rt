@@ -1,0 +1,19 @@
+//! Links of codes, and the cards that carry them.
+
+use crate::code::Code;
+use crate::numbers::{CardNo, PartyNo};
+
+/// The pair of codes that one check-in or transfer makes: the room's current code before it, and the new one.
+#[derive(Clone, Copy, Debug, PartialEq, Eq)]
+pub struct Link {
+    pub old_code: Code,
+    pub new_code: Code,
+}
+
+/// A card: a spare card has a number of its own and the link of an earlier one.
+#[derive(Clone, Copy, Debug, PartialEq, Eq)]
+pub struct Card {
+    pub number: CardNo,
+    pub party: PartyNo,
+    pub link: Link,
+}

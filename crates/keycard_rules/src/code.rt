@@ -1,0 +1,61 @@
+//! The codes of cards and locks.
+
+ghost use Rattle.std.specs.Prelude.{◌≡◌, ℕ, ◌^◌, ◌<◌, Some, None, if◌then◌else◌, nat_lt};
+ghost use Rattle.keycard_rules.specs.Numerals.{read_code, code_text};
+
+use crate::numerals::{read_numeral, write_fixed};
+use std::marker::Model;
+
+/// A code of 48 bits.
+#[derive(Clone, Copy, PartialEq, Eq, PartialOrd, Ord, Hash, Debug)]
+pub struct Code {
+    value: u64,
+}
+
+impl Model for Code {
+    ghost Value = { ℕ };
+
+    ghost view = { λ c. c.value };
+
+    ghost invariant = { λ c. c.value < 2 ^ 48 };
+
+    ghost inverse = { λ n. record { value = n } };
+}
+
+impl Code {
+    /// The code of this value, below 2^48.
+    pub fn new(value: u64) -> Option<Code>
+        ensures { result ≡ (if nat_lt value (2 ^ 48) then Some value else None) }
+    {
+        if value < 1 << 48 {
+            Some(Code { value })
+        } else {
+            None
+        }
+    }
+
+    pub fn value(&self) -> u64
+        ensures same { result ≡ self.now }
+        ensures below { result < 2 ^ 48 }
+    {
+        self.value
+    }
+
+    /// Reads one to twelve hexadecimal digits of either case.
+    pub fn read(text: &[u8]) -> Option<Code>
+        ensures { result ≡ read_code text.now }
+    {
+        let value = read_numeral(text, 16, 12)?;
+        Some(Code { value })
+    }
+
+    /// Twelve hexadecimal digits with small letters.
+    pub fn print(&self) -> [u8; 12]
+        ensures text { result ≡ code_text self.now }
+        ensures reads_back { read_code result ≡ Some self.now }
+    {
+        let mut text = [0; 12];
+        write_fixed(self.value, 16, &mut text);
+        text
+    }
+}

@@ -1,0 +1,41 @@
+//! Drawing a code that was never issued.
+ghost use Rattle.std.specs.Prelude.{◌≡◌, ℕ, ◌≤◌};
+ghost use Rattle.rand_core.specs.Stream.{next_u64};
+ghost use Rattle.keycard_rules.specs.Draw.{Draws, IsFailed};
+ghost use Rattle.keycard_rules.specs.Rise.{HasRisen};
+
+use crate::code::Code;
+use crate::issued::{Issued, LookFault};
+use rand_core::Rng;
+
+/// Why no code was drawn.
+#[derive(Clone, Copy, Debug, PartialEq, Eq)]
+pub enum DrawFault {
+    NoFreshCode,
+    Memory,
+    Store,
+}
+
+/// The first code of the next 64 words of `source` that wasn't issued.
+pub fn draw_fresh<R: Rng, I: Issued>(source: &mut R, issued: &mut I) -> Result<Code, DrawFault>
+    ensures drawn { I.is_clean issued.new → Draws (I.issued issued.old) (R.stream source.old) result (R.stream source.new) }
+    ensures kept { I.is_clean issued.new → I.is_kept issued.old issued.new }
+    ensures was_clean { I.is_clean issued.new → I.is_clean issued.old }
+    ensures counted { I.failures issued.old ≤ I.failures issued.new }
+    ensures fault { IsFailed result → HasRisen (I.failures issued.old) (I.failures issued.new) }
+    ensures sure { I.never_fails → IsFailed result → ⊥ }
+{
+    for _ in 0..64u32 {
+        let word = source.next_u64();
+        let Some(code) = Code::new(word / 65_536) else {
+            return Err(DrawFault::NoFreshCode);
+        };
+        match issued.is_issued(code) {
+            Ok(false) => return Ok(code),
+            Ok(true) => {}
+            Err(LookFault::Memory) => return Err(DrawFault::Memory),
+            Err(LookFault::Store) => return Err(DrawFault::Store),
+        }
+    }
+    Err(DrawFault::NoFreshCode)
+}

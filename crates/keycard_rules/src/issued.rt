@@ -1,0 +1,46 @@
+//! What knows the codes that were issued.
+ghost use Rattle.std.specs.Prelude.{◌≡◌, ℕ, ◌≤◌, List, IfOk, OnErr, IsOk};
+ghost use Rattle.keycard_rules.specs.Draw.{is_among};
+ghost use Rattle.keycard_rules.specs.Rise.{HasRisen};
+
+use crate::code::Code;
+
+/// Why a look-up has no answer.
+#[derive(Clone, Copy, Debug, PartialEq, Eq)]
+pub enum LookFault {
+    Memory,
+    Store,
+}
+
+/// What knows the codes that were issued.
+pub trait Issued {
+    /// The codes that were issued.
+    ghost issued: { Self → List ℕ };
+
+    /// A test of the state: the clauses speak of calls at whose end it holds.
+    ghost is_clean: { Self → Type 0 };
+
+    /// The second state has what the first one has: all that a look-up may leave.
+    ghost is_kept: { Self → Self → Type 0 };
+
+    /// How often memory or the store failed, at most the greatest `u64`.
+    ghost failures: { Self → ℕ };
+
+    /// The look-ups never fail.
+    ghost never_fails: { Type 0 };
+
+    /// Whether a code was issued.
+    fn is_issued(&mut self, code: Code) -> Result<bool, LookFault>
+        ensures answer { is_clean self.new → IfOk result (λ yes. yes ≡ is_among (issued self.old) code) }
+        ensures kept { is_clean self.new → is_kept self.old self.new }
+        ensures was_clean { is_clean self.new → is_clean self.old }
+        ensures counted { failures self.old ≤ failures self.new }
+        ensures fault { OnErr result (HasRisen (failures self.old) (failures self.new)) }
+        ensures sure { never_fails → IsOk result };
+
+    ghost kept_refl: { (a : Self) → is_kept a a };
+
+    ghost kept_trans: { (a b c : Self) → is_kept a b → is_kept b c → is_kept a c };
+
+    ghost kept_issued: { (a b : Self) → is_kept a b → issued b ≡ issued a };
+}

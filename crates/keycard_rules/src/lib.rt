@@ -1,0 +1,22 @@
+//! Codes, cards and locks: the two-code rule of a door that stands alone, one room's chain of codes, and the drawing of codes.
+#![tactic(auto)]
+
+mod card;
+mod chain;
+mod code;
+mod draw;
+mod issued;
+mod lock;
+mod note;
+mod numbers;
+mod numerals;
+
+pub use card::{Card, Link};
+pub use chain::{Chain, Memory, RecodeFault, Turned};
+pub use code::Code;
+pub use draw::{DrawFault, draw_fresh};
+pub use issued::{Issued, LookFault};
+pub use lock::turn;
+pub use note::{Act, LockNote};
+pub use numbers::{CardNo, Count, Number, PartyNo, RoomNo};
+pub use numerals::{read_numeral, write_fixed};

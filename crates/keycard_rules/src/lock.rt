@@ -1,0 +1,19 @@
+//! The rule by which a lock opens to a card and recodes itself.
+ghost use Rattle.std.specs.Prelude.{◌≡◌};
+ghost use Rattle.keycard_rules.specs.Lock.{turn};
+
+use crate::card::Link;
+use crate::code::Code;
+
+/// The code that a lock holds after a card of the link, or `None` where it stays shut and keeps its own.
+///
+/// The two-key form of Nipkow's Verifying a Hotel Key Card System: no room and no other card is looked at.
+pub fn turn(held: Code, link: &Link) -> Option<Code>
+    ensures { result ≡ turn held link.now }
+{
+    if held == link.new_code || held == link.old_code {
+        Some(link.new_code)
+    } else {
+        None
+    }
+}

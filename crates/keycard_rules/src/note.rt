@@ -1,0 +1,93 @@
+//! What a lock notes of itself, counted by it from 1 on.
+ghost use Rattle.std.specs.Prelude.{◌≡◌, ℕ, ◌≤◌, Some, None, if◌then◌else◌, nat_le, ◌&&◌};
+ghost use Rattle.keycard_rules.specs.Note.{Note, IsTimed};
+
+use crate::card::Link;
+use crate::code::Code;
+use crate::numbers::{CardNo, Count, RoomNo};
+use std::marker::Model;
+
+/// What happened at a lock.
+#[derive(Clone, Copy, Debug, PartialEq, Eq)]
+pub enum Act {
+    /// A card opened the door from outside.
+    Entered { card: CardNo, link: Link },
+    /// A card was shown on the way out.
+    Left { card: CardNo, link: Link },
+    /// Staff recoded the lock.
+    Recoded { from: Code, to: Code },
+}
+
+/// One note of a lock.
+#[derive(Clone, Copy, Debug, PartialEq, Eq)]
+pub struct LockNote {
+    room: RoomNo,
+    count: Count,
+    act: Act,
+    day: u16,
+    second: u32,
+}
+
+impl Model for LockNote {
+    ghost use Rattle.keycard_rules.specs.Note.{Note, IsTimed};
+
+    ghost Value = { Note };
+
+    ghost view = { λ n. record { room = n.room; count = n.count; act = n.act; day = n.day; second = n.second } };
+
+    ghost invariant = { λ n. IsTimed n.day n.second };
+
+    ghost inverse = { λ v. record { room = v.room; count = v.count; act = v.act; day = v.day; second = v.second } };
+}
+
+impl LockNote {
+    /// The note of these, where the day is at most 36,524 (2099-12-31) and the second at most 86,399.
+    pub fn new(room: RoomNo, count: Count, act: Act, day: u16, second: u32) -> Option<LockNote>
+        ensures { result ≡ (if nat_le day 36524 && nat_le second 86399 then Some (record { room = room; count = count; act = act; day = day; second = second }) else None) }
+    {
+        if day > 36_524 || second > 86_399 {
+            return None;
+        }
+        Some(LockNote {
+            room,
+            count,
+            act,
+            day,
+            second,
+        })
+    }
+
+    pub fn room(&self) -> RoomNo
+        ensures { result ≡ self.now.room }
+    {
+        self.room
+    }
+
+    pub fn count(&self) -> Count
+        ensures { result ≡ self.now.count }
+    {
+        self.count
+    }
+
+    pub fn act(&self) -> Act
+        ensures { result ≡ self.now.act }
+    {
+        self.act
+    }
+
+    /// The day of the note, counted from 2000-01-01.
+    pub fn day(&self) -> u16
+        ensures same { result ≡ self.now.day }
+        ensures known { result ≤ 36524 }
+    {
+        self.day
+    }
+
+    /// The second of its day.
+    pub fn second(&self) -> u32
+        ensures same { result ≡ self.now.second }
+        ensures known { result ≤ 86399 }
+    {
+        self.second
+    }
+}

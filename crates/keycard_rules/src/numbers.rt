@@ -1,0 +1,101 @@
+//! The numbers of cards, parties, rooms and notes: one generic type.
+
+ghost use Rattle.std.specs.Prelude.{◌≡◌, ℕ, ◌+◌, ◌^◌, ◌<◌, ◌≤◌};
+ghost use Rattle.std.specs.Option.{SomeIff};
+ghost use Rattle.keycard_rules.specs.Numerals.{number_up_to};
+ghost use Rattle.keycard_rules.specs.Numbers.{IsNumberUpTo};
+
+use crate::numerals::read_numeral;
+use std::marker::{Model, PhantomData};
+
+/// A number from 1 up to the greatest of its kind.
+#[derive(Clone, Copy, PartialEq, Eq, PartialOrd, Ord, Debug)]
+pub struct Number<K, const MOST: u32> {
+    value: u32,
+    kind: PhantomData<K>,
+}
+
+impl<K, const MOST: u32> Model for Number<K, MOST> {
+    ghost Value = { ℕ };
+
+    ghost view = { λ n. n.value };
+
+    ghost invariant = { λ n. IsNumberUpTo MOST n.value };
+
+    ghost inverse = { λ n. record { value = n; kind = record { } } };
+}
+
+impl<K, const MOST: u32> Number<K, MOST> {
+    pub fn new(value: u32) -> Option<Number<K, MOST>>
+        ensures { SomeIff result (IsNumberUpTo MOST value) value }
+    {
+        if value == 0 || value > MOST {
+            return None;
+        }
+        Some(Number {
+            value,
+            kind: PhantomData,
+        })
+    }
+
+    pub fn value(&self) -> u32
+        ensures same { result ≡ self.now }
+        ensures known { IsNumberUpTo MOST result }
+    {
+        self.value
+    }
+
+    pub fn read(text: &[u8]) -> Option<Number<K, MOST>>
+        ensures { result ≡ number_up_to MOST text.now }
+    {
+        let value = read_numeral(text, 10, 9)?;
+        if value == 0 || value > u64::from(MOST) {
+            return None;
+        }
+        Some(Number {
+            value: value as u32,
+            kind: PhantomData,
+        })
+    }
+
+    /// The number after it, unless it is the greatest.
+    pub fn next(&self) -> Option<Number<K, MOST>>
+        ensures { SomeIff result (self.now < MOST) (self.now + 1) }
+    {
+        if self.value >= MOST {
+            return None;
+        }
+        Some(Number {
+            value: self.value + 1,
+            kind: PhantomData,
+        })
+    }
+}
+
+/// Marks the numbers of CardNo.
+#[derive(Clone, Copy, PartialEq, Eq, PartialOrd, Ord, Debug)]
+pub struct CardKind;
+
+/// The number of a card, 1 to 9,999,999.
+pub type CardNo = Number<CardKind, 9_999_999>;
+
+/// Marks the numbers of PartyNo.
+#[derive(Clone, Copy, PartialEq, Eq, PartialOrd, Ord, Debug)]
+pub struct PartyKind;
+
+/// The number of a party, which is one reservation, 1 to 9,999,999.
+pub type PartyNo = Number<PartyKind, 9_999_999>;
+
+/// Marks the numbers of RoomNo.
+#[derive(Clone, Copy, PartialEq, Eq, PartialOrd, Ord, Debug)]
+pub struct RoomKind;
+
+/// The number of a room, 1 to 9,999.
+pub type RoomNo = Number<RoomKind, 9_999>;
+
+/// Marks the numbers of Count.
+#[derive(Clone, Copy, PartialEq, Eq, PartialOrd, Ord, Debug)]
+pub struct NoteKind;
+
+/// The count of a lock's note, 1 to 9,999,999.
+pub type Count = Number<NoteKind, 9_999_999>;
