@@ -1,13 +1,14 @@
 -- What comes of a command: its reply, its event where it was accepted, and how many words of the source were examined.
 use Rattle.std.specs.Prelude.{ℕ, Bool, true, false, List, [], ◌∷◌, Option, Some, None, option_map}
-use Rattle.hotel_core.specs.declared.command.Reply.{Reply}
-use Rattle.hotel_core.specs.declared.command.Reply.TheVariants as reply
-use Rattle.hotel_core.specs.declared.command.Refusal.{Refusal}
-use Rattle.hotel_core.specs.declared.command.Refusal.TheVariants.{NoFreshCode}
+use Rattle.hotel_core.specs.declared.reply.Reply.{Reply}
+use Rattle.hotel_core.specs.declared.reply.Reply.TheVariants as reply
+use Rattle.hotel_core.specs.declared.reply.Refusal.{Refusal}
+use Rattle.hotel_core.specs.declared.reply.Refusal.TheVariants.{NoFreshCode}
 use Rattle.hotel_core.specs.Words.{said_of}
 use Rattle.hotel_core.specs.Event.{Event}
 use Rattle.hotel_core.specs.History.{History, ◌▷◌}
-use Rattle.hotel_core.specs.Draw.{Draw, drawn}
+use Rattle.keycard_rules.specs.Draw.{Draw, draw_from}
+use Rattle.hotel_core.specs.Issued.{issued_codes}
 
 pub record Outcome : Type 0 where
   pub reply : Reply
@@ -50,9 +51,9 @@ by_draw draw reply_with event_with = record {
   examined = draw.examined;
 }
 
--- the reply and the event of the first fresh code
+-- the reply and the event of the first fresh code that these words give
 abbrev pub with_fresh : History → List ℕ → (ℕ → Reply) → (ℕ → Event) → Outcome
-with_fresh h codes reply_with event_with = by_draw (drawn h codes) reply_with event_with
+with_fresh h words reply_with event_with = by_draw (draw_from (issued_codes h) words) reply_with event_with
 
 -- the history after an event, where there is one
 abbrev pub grown : History → Option Event → History
