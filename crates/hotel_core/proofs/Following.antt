@@ -26,11 +26,11 @@ use Rattle.hotel_core.proofs.RowsRooms.{eq_from}
 use Rattle.hotel_core.specs.Run.{Reached}
 use Rattle.hotel_core.specs.Follow.{MayFollow}
 
-keeps : (h : History) (ahead : List ℕ) (command : Command) (o : Option Event) → (answer_to h ahead command).event ≡ o → Reached h → Reached (grown h o)
+keeps : (h : History) (ahead : List ℕ) (command : Command) (o : Option Event) → (answer_to h ahead command).happens ≡ o → Reached h → Reached (grown h o)
 keeps h ahead command None e ok = ok
 keeps h ahead command (Some event) e ok = (ok, ahead, command, e)
 
-pub step_keeps : (h : History) (ahead : List ℕ) (command : Command) → Reached h → Reached (grown h (answer_to h ahead command).event)
+pub step_keeps : (h : History) (ahead : List ℕ) (command : Command) → Reached h → Reached (grown h (answer_to h ahead command).happens)
 step_keeps h ahead command ok = keeps h ahead command _ refl ok
 
 -- none of the checks refused
@@ -38,7 +38,7 @@ abbrev pub AllPass : List (Option Refusal) → Type 0
 AllPass [] = Unit {0}
 AllPass (c ∷ cs) = (c ≡ None) × AllPass cs
 
-pub passed_all : (checks : List (Option Refusal)) (o : Outcome) (e : Event) → (unless checks o).event ≡ Some e → AllPass checks × (o.event ≡ Some e)
+pub passed_all : (checks : List (Option Refusal)) (o : Outcome Event) (e : Event) → (unless checks o).happens ≡ Some e → AllPass checks × (o.happens ≡ Some e)
 passed_all [] o e h = (tt, h)
 passed_all (Some refusal ∷ checks) o e h = cc
 passed_all (None ∷ checks) o e h = let p = passed_all checks o e h in ((refl, p.0), p.1)
@@ -84,7 +84,7 @@ next_count : (taken : ℕ) (note : Note) (kept : List Note) → standing_among t
 next_count taken note [] h = eq_from note.count (taken + 1) (if_next (note.count == taken + 1) (taken + 1) h)
 next_count taken note (k ∷ ks) h = absurd (not_next (same_note k note) h)
 
-by_act : (h : History) (note : Note) (its_act : Act) (e : Event) → note.count ≡ length (notes h note.room) + 1 → is_room h note.room ≡ true → (told h note its_act).event ≡ Some e → MayFollow h e
+by_act : (h : History) (note : Note) (its_act : Act) (e : Event) → note.count ≡ length (notes h note.room) + 1 → is_room h note.room ≡ true → (told h note its_act).happens ≡ Some e → MayFollow h e
 by_act h note (act.Entered number link) e n r q =
     let p = passed_all (needs (is_card h number) NoCard ∷ needs (has_link h number link) CardDiffers ∷ needs (opens h note.room link) LockShut ∷ [])
     (accepted reply.Taken (event.Entered note.room note.count number link (moment_of note))) e q in
@@ -98,13 +98,13 @@ by_act h note (act.Recoded from to) e n r q =
     (accepted reply.Taken (event.Recoded note.room note.count from to (moment_of note))) e q in
     subst (λ x. MayFollow h x) (same_event p.1) (n, r, needed (holds h note.room from) _ p.0.0, needed (is_one_of to (awaited h note.room)) _ p.0.1.0)
 
-by_standing : (h : History) (note : Note) (s : Standing) (e : Event) → standing h note ≡ s → is_room h note.room ≡ true → (reported h note s).event ≡ Some e → MayFollow h e
+by_standing : (h : History) (note : Note) (s : Standing) (e : Event) → standing h note ≡ s → is_room h note.room ≡ true → (reported h note s).happens ≡ Some e → MayFollow h e
 by_standing h note Copy e f r q = cc
 by_standing h note Conflicting e f r q = cc
 by_standing h note (After expected) e f r q = cc
 by_standing h note Next e f r q = by_act h note note.act e (next_count (length (notes h note.room)) note (drop (note.count - 1) (notes h note.room)) f) r q
 
-follows_if : (h : History) (ahead : List ℕ) (command : Command) (e : Event) → AllPass (checks h command) → (effect h ahead command).event ≡ Some e → MayFollow h e
+follows_if : (h : History) (ahead : List ℕ) (command : Command) (e : Event) → AllPass (checks h command) → (effect h ahead command).happens ≡ Some e → MayFollow h e
 follows_if h ahead (command.Begin day) e p q = subst (λ x. MayFollow h x) (same_event q) (barred (is_begun h) _ p.0)
 follows_if h ahead (command.AddKind kind) e p q = subst (λ x. MayFollow h x) (same_event q) (barred (is_kind h kind) _ p.1.0)
 follows_if h ahead (command.AddRoom room kind) e p q =
@@ -140,6 +140,6 @@ follows_if h ahead (command.CheckOut party) e p q = subst (λ x. MayFollow h x) 
 follows_if h ahead command.NextDay e p q = subst (λ x. MayFollow h x) (same_event q) (needed (is_begun h) _ p.0)
 follows_if h ahead (command.Reported note) e p q = by_standing h note (standing h note) e refl (needed (is_room h note.room) _ p.1.0) q
 
-pub answers_follow : (h : History) (ahead : List ℕ) (command : Command) (e : Event) → (answer_to h ahead command).event ≡ Some e → MayFollow h e
+pub answers_follow : (h : History) (ahead : List ℕ) (command : Command) (e : Event) → (answer_to h ahead command).happens ≡ Some e → MayFollow h e
 unfolding answer_to
 answers_follow h ahead command e eq = let p = passed_all (checks h command) (effect h ahead command) e eq in follows_if h ahead command e p.0 p.1

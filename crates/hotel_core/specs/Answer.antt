@@ -10,6 +10,7 @@ use Rattle.keycard_rules.specs.declared.note.Act.TheVariants as act
 use Rattle.keycard_rules.specs.Note.{Note}
 use Rattle.hotel_core.specs.Words.{is_one_of}
 use Rattle.hotel_core.specs.Event as event
+use Rattle.hotel_core.specs.Event.{Event}
 use Rattle.hotel_core.specs.History.{History}
 use Rattle.hotel_core.specs.Cards.{card_of, link_to}
 use Rattle.hotel_core.specs.Ledger.{awaited}
@@ -24,7 +25,7 @@ abbrev pub moment_of : Note → event.Moment
 moment_of note = record { day = note.day; second = note.second }
 
 -- The next note of a room: what it says must be so.
-abbrev pub told : History → Note → Act → Outcome
+abbrev pub told : History → Note → Act → Outcome Event
 told h note (act.Entered number link) =
     unless (needs (is_card h number) NoCard ∷ needs (has_link h number link) CardDiffers ∷ needs (opens h note.room link) LockShut ∷ [])
     (accepted reply.Taken (event.Entered note.room note.count number link (moment_of note)))
@@ -36,7 +37,7 @@ told h note (act.Recoded from to) =
     (accepted reply.Taken (event.Recoded note.room note.count from to (moment_of note)))
 
 -- A copy was seen, another content is a conflict, a later count leaves a gap; only the next note is looked at.
-abbrev pub reported : History → Note → Standing → Outcome
+abbrev pub reported : History → Note → Standing → Outcome Event
 reported h note Copy = said reply.Seen
 reported h note Conflicting = refused Conflict
 reported h note (After expected) = refused (Gap expected)
@@ -66,7 +67,7 @@ checks h command.NextDay = needs (is_begun h) NotBegun ∷ needs (nat_lt (today 
 checks h (command.Reported note) = needs (is_begun h) NotBegun ∷ needs (is_room h note.room) NoRoom ∷ []
 
 -- What comes of each command that passes its checks, where these are the source's next words.
-abbrev pub effect : History → List ℕ → Command → Outcome
+abbrev pub effect : History → List ℕ → Command → Outcome Event
 effect h ahead (command.Begin day) = accepted reply.Begun (event.Begun day)
 effect h ahead (command.AddKind kind) = accepted reply.KindAdded (event.Kind kind)
 effect h ahead (command.AddRoom room kind) = with_fresh h ahead (λ code. reply.RoomAdded code) (λ code. event.Install room kind code)
@@ -80,5 +81,5 @@ effect h ahead command.NextDay = accepted (reply.DayIs (today h + 1)) event.Next
 effect h ahead (command.Reported note) = reported h note (standing h note)
 
 -- What the desk answers to a command after a history: the first refusal of its checks, else what comes of it.
-unfoldable pub answer_to : History → List ℕ → Command → Outcome
+unfoldable pub answer_to : History → List ℕ → Command → Outcome Event
 answer_to h ahead command = unless (checks h command) (effect h ahead command)

@@ -36,7 +36,7 @@ MayFollow h (Recoded room count from to at) = (count ≡ length (notes h room) +
 
 -- Each event that an answer accepts may follow.
 abbrev pub AnswersFollow : Type 0
-AnswersFollow = (h : History) (ahead : List ℕ) (command : Command) (event : Event) → (answer_to h ahead command).event ≡ Some event → MayFollow h event
+AnswersFollow = (h : History) (ahead : List ℕ) (command : Command) (event : Event) → (answer_to h ahead command).happens ≡ Some event → MayFollow h event
 
 -- The event's change makes the rows of the grown history.
 abbrev pub FollowsBy : History → Event → Type 0

@@ -76,4 +76,4 @@ RowsFollow = (h : History) (event : Event) → Reached (h ▷ event) →
 
 -- A step after a history that can be reached makes one that can be reached.
 abbrev pub StepKeeps : Type 0
-StepKeeps = (h : History) (ahead : List ℕ) (command : Command) → Reached h → Reached (grown h (answer_to h ahead command).event)
+StepKeeps = (h : History) (ahead : List ℕ) (command : Command) → Reached h → Reached (grown h (answer_to h ahead command).happens)

@@ -7,6 +7,7 @@ use Rattle.hotel_core.specs.declared.reply.Reply.TheVariants as reply
 use Rattle.hotel_core.specs.declared.reply.Refusal.TheVariants.{Memory, Store}
 use Rattle.hotel_core.specs.Rows.{Rows, no_rows}
 use Rattle.hotel_core.specs.History.{History, start, ◌▷◌}
+use Rattle.hotel_core.specs.Event.{Event}
 use Rattle.hotel_core.specs.RowsOf.{rows_of}
 use Rattle.keycard_rules.specs.Draw.{words, past, MovedAtMost}
 use Rattle.hotel_core.specs.Outcome.{Outcome, grown}
@@ -19,14 +20,14 @@ IsStart t = t ≡ no_rows
 -- The history can be reached: the desk can start so, and each event was accepted after those before it.
 abbrev pub Reached : History → Type 0
 Reached (start t) = IsStart t
-Reached (h ▷ event) = Reached h × (ahead : List ℕ) × (command : Command) × ((answer_to h ahead command).event ≡ Some event)
+Reached (h ▷ event) = Reached h × (ahead : List ℕ) × (command : Command) × ((answer_to h ahead command).happens ≡ Some event)
 
 -- The rows stand for a history that can be reached.
 abbrev pub StandsFor : History → Rows → Type 0
 StandsFor h rows = Reached h × (rows ≡ rows_of h)
 
 -- the answer to a command at a source
-abbrev pub answered : History → Stream → Command → Outcome
+abbrev pub answered : History → Stream → Command → Outcome Event
 answered h source command = answer_to h (words 64 source) command
 
 -- memory or the store failed
@@ -39,7 +40,7 @@ is_failed _ = false
 abbrev pub StepsIf : Bool → History → Stream → Command → Reply → History → Stream → Type 0
 StepsIf true h s command reply h' s' = (h' ≡ h) × MovedAtMost (answered h s command).examined s s'
 StepsIf false h s command reply h' s' =
-    (reply ≡ (answered h s command).reply) × (h' ≡ grown h (answered h s command).event) × (s' ≡ past (answered h s command).examined s)
+    (reply ≡ (answered h s command).reply) × (h' ≡ grown h (answered h s command).happens) × (s' ≡ past (answered h s command).examined s)
 
 -- A command may be given this reply, after which these are the history and the source. Memory or Store may stand in place of any answer.
 abbrev pub Steps : History → Stream → Command → Reply → History → Stream → Type 0
@@ -65,11 +66,11 @@ pub record Ran : Type 0 where
 abbrev pub first_reply : Reply → Ran → Ran
 first_reply reply ran = record ran { replies = reply ∷ ran.replies }
 
-abbrev pub go_on : Outcome → (Outcome → Ran) → Ran
+abbrev pub go_on : Outcome Event → (Outcome Event → Ran) → Ran
 go_on outcome later = first_reply outcome.reply (later outcome)
 
 -- The run of commands in which nothing fails, where these are the source's words.
 abbrev pub run_on : History → List ℕ → List Command → Ran
 run_on h ahead [] = record { history = h; ahead = ahead; replies = [] }
 run_on h ahead (command ∷ commands) =
-    go_on (answer_to h ahead command) (λ outcome. run_on (grown h outcome.event) (drop outcome.examined ahead) commands)
+    go_on (answer_to h ahead command) (λ outcome. run_on (grown h outcome.happens) (drop outcome.examined ahead) commands)
