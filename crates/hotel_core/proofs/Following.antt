@@ -62,6 +62,7 @@ fresh_case h word later c true f ih e = ih e
 
 -- a drawn code is fresh
 pub drawn_fresh : (h : History) (ahead : List ℕ) (c : ℕ) → (draw_from (issued_codes h) ahead).code ≡ Some c → is_fresh h c ≡ true
+unfolding draw_from
 drawn_fresh h [] c e = cc
 drawn_fresh h (word ∷ later) c e = fresh_case h word later c (is_among (issued_codes h) (code_of word)) refl (drawn_fresh h later c) e
 
