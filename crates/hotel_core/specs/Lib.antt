@@ -22,4 +22,5 @@ pub mod ChangeOf
 pub mod Headline
 pub mod Lists
 pub mod Follow
+pub mod CodeLaws
 pub mod Tests
