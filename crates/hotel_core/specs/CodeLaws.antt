@@ -1,12 +1,14 @@
 -- What holds of the codes, cards and rooms of each history that can be reached: the steps to the headline.
 use Rattle.std.specs.Prelude.{ℕ, ◌≡◌, ◌+◌, true, false, List, [], ◌∷◌, ◌++◌, Some, None, length}
 use Rattle.std.specs.Map.{keys_of}
+use Rattle.keycard_rules.specs.declared.card.Card.{Card}
+use Rattle.keycard_rules.specs.declared.card.Link.{Link}
 use Rattle.hotel_core.specs.declared.rows.CodeRow.{CodeRow}
 use Rattle.hotel_core.specs.Rows.{at_number}
 use Rattle.hotel_core.specs.History.{History}
 use Rattle.hotel_core.specs.Issued.{issued, all_issued}
 use Rattle.hotel_core.specs.Ledger.{passed, awaited}
-use Rattle.hotel_core.specs.Cards.{cards}
+use Rattle.hotel_core.specs.Cards.{cards, newest_link, link_of_party}
 use Rattle.hotel_core.specs.Stays.{stays}
 use Rattle.hotel_core.specs.SoundRooms.{count_up}
 use Rattle.hotel_core.specs.Cases.{is_room, next_card, next_party}
@@ -44,3 +46,23 @@ CodesHavePlaces h = (r : ℕ) (before : List ℕ) (code : ℕ) (later : List ℕ
 abbrev pub PlacesHaveCodes : History → Type 0
 PlacesHaveCodes h = (code : ℕ) (row : CodeRow) → at_number (all_issued h) code ≡ Some row
     → (before : List ℕ) × (later : List ℕ) × (issued h row.room ≡ before ++ code ∷ later) × (length before ≡ row.place)
+
+-- the link's codes are neighbours among these
+abbrev pub IsLinkAt : List ℕ → Link → Type 0
+IsLinkAt codes link = (before : List ℕ) × (later : List ℕ) × (codes ≡ before ++ link.old_code ∷ link.new_code ∷ later)
+
+-- the link's codes are neighbours at a room
+abbrev pub IsLink : History → Link → Type 0
+IsLink h link = (r : ℕ) × IsLinkAt (issued h r) link
+
+-- The codes of each card were issued one after the other at a room.
+abbrev pub CardsHaveLinks : History → Type 0
+CardsHaveLinks h = (number : ℕ) (card : Card) → at_number (cards h) number ≡ Some card → IsLink h card.link
+
+-- So were those of the link that a party was given last.
+abbrev pub PartiesHaveLinks : History → Type 0
+PartiesHaveLinks h = (party : ℕ) (link : Link) → link_of_party h party ≡ Some link → IsLink h link
+
+-- The newest link of a room is its last two codes.
+abbrev pub NewestAreLast : History → Type 0
+NewestAreLast h = (r : ℕ) (link : Link) → newest_link h r ≡ Some link → (front : List ℕ) × (issued h r ≡ front ++ link.old_code ∷ link.new_code ∷ [])
