@@ -31,3 +31,21 @@ pub fn easy_rows_follow()
 pub fn left_follows()
     ensures { LeftFollows }
 {}
+
+ghost use Rattle.std.specs.Prelude.{ℕ, ◌≡◌, option_map};
+ghost use Rattle.hotel_core.specs.History.{History};
+ghost use Rattle.hotel_core.specs.Run.{Reached};
+ghost use Rattle.hotel_core.specs.Rows.{at_number};
+ghost use Rattle.hotel_core.specs.RowsOf.{room_row, rows_of};
+ghost use Rattle.hotel_core.specs.Stays.{rooms};
+ghost use Rattle.hotel_core.specs.Follow.{RoomsOnce};
+
+/// No room's number stands twice.
+pub fn rooms_once()
+    ensures { (h : History) → Reached h → RoomsOnce (rooms h) }
+{}
+
+/// A look-up of a room finds its row, where there is such a room.
+pub fn room_found()
+    ensures { (h : History) (r : ℕ) → at_number (rows_of h).rooms r ≡ option_map (λ kind. room_row h r kind) (at_number (rooms h) r) }
+{}
