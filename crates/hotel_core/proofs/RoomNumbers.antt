@@ -17,18 +17,18 @@ use Rattle.hotel_core.specs.Run.{Reached}
 use Rattle.hotel_core.specs.Cases.{is_room}
 use Rattle.hotel_core.specs.Follow.{MayFollow, ApartFrom, RoomsOnce}
 use Rattle.hotel_core.proofs.Following.{answers_follow}
-use Rattle.hotel_core.proofs.RowsRooms.{eq_from, eq_self}
+use Rattle.hotel_core.proofs.RowsRooms.{eq_flip}
 use Rattle.hotel_core.proofs.Numbered.{at_mapped, row_there, no_row}
 
 -- what an event of a reached history needed
 pub needed_before : (h : History) (event : Event) → Reached (h ▷ event) → MayFollow h event
 needed_before h event ok = answers_follow h ok.1 ok.2 event ok.3
 
-or_false : (a b : Bool) → (a || b) ≡ false → (a ≡ false) × (b ≡ false)
+pub or_false : (a b : Bool) → (a || b) ≡ false → (a ≡ false) × (b ≡ false)
 or_false true b e = cc
 or_false false b e = (refl, e)
 
-apart_from : (n : ℕ) (es : List (ℕ × List ℕ)) → is_one_of n (keys_of es) ≡ false → ApartFrom n es
+pub apart_from : (n : ℕ) (es : List (ℕ × List ℕ)) → is_one_of n (keys_of es) ≡ false → ApartFrom n es
 apart_from n [] h = tt
 apart_from n (e ∷ es) h = let p = or_false (e.0 == n) (is_one_of n (keys_of es)) h in (p.0, apart_from n es p.1)
 
@@ -42,18 +42,11 @@ apart_inserted : (n k : ℕ) (v : List ℕ) (es : List (ℕ × List ℕ)) → (k
 apart_inserted n k v [] t a = (t, tt)
 apart_inserted n k v (e ∷ es) t a = apart_inserted_by (nat_cmp k e.0) n k v e es t a (apart_inserted n k v es t a.1)
 
-flip_apart : (a b : ℕ) → (a == b) ≡ false → (b == a) ≡ false
-flip_apart a b h = by (b == a) refl
-  where
-  by : (t : Bool) → (b == a) ≡ t → (b == a) ≡ false
-  by true e = let w : ◌≡◌ {A = Bool} true false = sym (ap (λ z. z == b) (sym (eq_from b a e)) ∙ eq_self b) ∙ h in cc
-  by false e = e
-
 once_inserted_by : (o : Ordering) (k : ℕ) (v : List ℕ) (e : ℕ × List ℕ) (es : List (ℕ × List ℕ)) → RoomsOnce (e ∷ es) → ApartFrom k (e ∷ es) → RoomsOnce (insert_entry nat_cmp es k v)
     → RoomsOnce (match_ordering o ((k, v) ∷ e ∷ es) ((e.0, v) ∷ es) (e ∷ insert_entry nat_cmp es k v))
 once_inserted_by Less k v e es n a ih = (a, n)
 once_inserted_by Equal k v e es n a ih = (n.0, n.1)
-once_inserted_by Greater k v e es n a ih = (apart_inserted e.0 k v es (flip_apart e.0 k a.0) n.0, ih)
+once_inserted_by Greater k v e es n a ih = (apart_inserted e.0 k v es (eq_flip e.0 k a.0) n.0, ih)
 
 once_inserted : (k : ℕ) (v : List ℕ) (es : List (ℕ × List ℕ)) → RoomsOnce es → ApartFrom k es → RoomsOnce (insert_entry nat_cmp es k v)
 once_inserted k v [] n a = (tt, tt)

@@ -49,3 +49,17 @@ pub fn rooms_once()
 pub fn room_found()
     ensures { (h : History) (r : ℕ) → at_number (rows_of h).rooms r ≡ option_map (λ kind. room_row h r kind) (at_number (rooms h) r) }
 {}
+
+ghost use Rattle.hotel_core.specs.Cases.{is_room};
+ghost use Rattle.hotel_core.specs.Follow.{FollowsBy};
+ghost use Rattle.hotel_core.specs.Event.{Install, CheckIn};
+ghost use Rattle.std.specs.Prelude.{List, true, false};
+/// The rows after a room was added.
+pub fn install_follows()
+    ensures { (h : History) (room code : ℕ) (kind : List ℕ) → Reached h → is_room h room ≡ false → FollowsBy h (Install room kind code) }
+{}
+
+/// The rows after a party came to a room.
+pub fn check_in_follows()
+    ensures { (h : History) (party room number code : ℕ) → Reached h → is_room h room ≡ true → FollowsBy h (CheckIn party room number code) }
+{}
