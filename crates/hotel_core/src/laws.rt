@@ -63,3 +63,19 @@ pub fn install_follows()
 pub fn check_in_follows()
     ensures { (h : History) (party room number code : ℕ) → Reached h → is_room h room ≡ true → FollowsBy h (CheckIn party room number code) }
 {}
+
+ghost use Rattle.hotel_core.specs.Event.{Moment, Entered, Recoded};
+ghost use Rattle.keycard_rules.specs.declared.card.Link.{Link};
+ghost use Rattle.std.specs.Prelude.{◌+◌, length};
+ghost use Rattle.hotel_core.specs.Notes.{notes};
+
+/// The rows after a card entered a room.
+pub fn entered_follows()
+    ensures { (h : History) (room count number : ℕ) (link : Link) (at : Moment) → Reached h → count ≡ length (notes h room) + 1 → FollowsBy h (Entered room count number link at) }
+{}
+
+
+/// The rows after staff recoded a lock.
+pub fn recoded_follows()
+    ensures { (h : History) (room count from to : ℕ) (at : Moment) → Reached h → count ≡ length (notes h room) + 1 → FollowsBy h (Recoded room count from to at) }
+{}
