@@ -19,7 +19,8 @@ use Rattle.hotel_core.specs.Cases.{is_room}
 use Rattle.hotel_core.specs.Outcome.{grown}
 use Rattle.hotel_core.specs.Answer.{answer_to}
 use Rattle.hotel_core.specs.Change.{made}
-use Rattle.hotel_core.specs.ChangeOf.{change_of, Fits}
+use Rattle.hotel_core.specs.ChangeOf.{change_of}
+use Rattle.hotel_core.specs.Fits.{Fits}
 use Rattle.hotel_core.specs.Run.{Reached}
 
 -- No code stands at two places, of one room or of two.

@@ -1,5 +1,6 @@
 pub mod Words
 pub mod Rows
+pub mod Lookups
 pub mod Event
 pub mod History
 pub mod Issued
@@ -19,6 +20,10 @@ pub mod SoundCards
 pub mod Sound
 pub mod Run
 pub mod ChangeOf
+pub mod Fits
+pub mod OnRows
+pub mod StepOnRows
+pub mod Reads
 pub mod Headline
 pub mod Lists
 pub mod Follow
