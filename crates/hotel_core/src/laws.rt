@@ -79,3 +79,12 @@ pub fn entered_follows()
 pub fn recoded_follows()
     ensures { (h : History) (room count from to : ℕ) (at : Moment) → Reached h → count ≡ length (notes h room) + 1 → FollowsBy h (Recoded room count from to at) }
 {}
+
+ghost use Rattle.std.specs.List.{slice_get};
+ghost use Rattle.std.specs.Prelude.{◌-◌, ◌≤◌};
+ghost use Rattle.hotel_core.specs.Lookups.{note_at};
+
+/// The note of a count that is 1 or more is the one of that place.
+pub fn note_found()
+    ensures { (h : History) → Reached h → (r count : ℕ) → 1 ≤ count → note_at (rows_of h) r count ≡ slice_get (notes h r) (count - 1) }
+{}
