@@ -27,4 +27,5 @@ pub mod Reads
 pub mod Headline
 pub mod Lists
 pub mod Follow
+pub mod CodeLaws
 pub mod Tests
