@@ -88,3 +88,12 @@ ghost use Rattle.hotel_core.specs.Lookups.{note_at};
 pub fn note_found()
     ensures { (h : History) → Reached h → (r count : ℕ) → 1 ≤ count → note_at (rows_of h) r count ≡ slice_get (notes h r) (count - 1) }
 {}
+
+ghost use Rattle.std.specs.Prelude.{Some};
+ghost use Rattle.hotel_core.specs.Guests.{registered};
+ghost use Rattle.hotel_core.specs.Cases.{room_of};
+
+/// A party is registered at a room exactly where it is in house there.
+pub fn registered_in_house()
+    ensures { (h : History) → Reached h → (r p : ℕ) → (registered h r ≡ Some p → room_of h p ≡ Some r) × (room_of h p ≡ Some r → registered h r ≡ Some p) }
+{}
