@@ -78,7 +78,7 @@ install_follows h room code kind ok none =
     }) (nothing_issued h ok room none)
 
 -- how many codes the row of a room that is there says
-codes_said : (h : History) (room : ℕ) → is_room h room ≡ true → codes_of (rows_of h) room ≡ length (issued h room)
+pub codes_said : (h : History) (room : ℕ) → is_room h room ≡ true → codes_of (rows_of h) room ≡ length (issued h room)
 codes_said h room e = ap (λ o. said_of o 0 (λ row. row.codes)) (room_there h room e).2
 
 -- the row of a room to which a party came

@@ -97,3 +97,17 @@ ghost use Rattle.hotel_core.specs.Cases.{room_of};
 pub fn registered_in_house()
     ensures { (h : History) → Reached h → (r p : ℕ) → (registered h r ≡ Some p → room_of h p ≡ Some r) × (room_of h p ≡ Some r → registered h r ≡ Some p) }
 {}
+
+ghost use Rattle.hotel_core.specs.Cases.{is_in_house};
+ghost use Rattle.hotel_core.specs.Event.{Transfer, CheckOut};
+
+/// The rows after a party left for good.
+pub fn check_out_follows()
+    ensures { (h : History) (party : ℕ) → Reached h → is_in_house h party ≡ true → FollowsBy h (CheckOut party) }
+{}
+
+
+/// The rows after a party went to another room.
+pub fn transfer_follows()
+    ensures { (h : History) (party room number code : ℕ) → Reached h → is_room h room ≡ true → is_in_house h party ≡ true → FollowsBy h (Transfer party room number code) }
+{}
