@@ -1,5 +1,5 @@
 -- The rows after a party left for good, and after it went to another room.
-use Rattle.std.proofs.Common.{ℕ, ◌≡◌, ◌+◌, Bool, true, false, Option, Some, None, List, refl, ap, sym, ◌∙◌, length}
+use Rattle.std.proofs.Common.{ℕ, ◌≡◌, true, false, Option, Some, None, List, refl, ap, sym, ◌∙◌, length}
 use Rattle.std.specs.Prelude.{◌==◌, is_some}
 use Rattle.std.specs.Ordering.{nat_cmp}
 use Rattle.std.specs.BTreeMap.{insert_entry}
@@ -46,7 +46,7 @@ left_room h party home ok e =
     let m = homes_match h ok in
     one_changed (row_without h party) (room_row h) (λ row. record row { party = None }) home
     (λ r k t. ap (λ p. record (room_row h r k) { party = p })
-      (not_leaving party (registered h r) (λ s. true_is_not_false (ap (λ z. home == z) (sym (two_homes e (m.forth r party s))) ∙ eq_self home) t)))
+    (not_leaving party (registered h r) (λ s. true_is_not_false (ap (λ z. home == z) (sym (two_homes e (m.forth r party s))) ∙ eq_self home) t)))
     (λ k. ap (λ p. record (room_row h home k) { party = p }) (ap (leaves party) (m.back home party e) ∙ itself_leaves party))
     (rooms h) (rooms_once h ok)
 
@@ -64,18 +64,18 @@ transfer_follows h party room number code ok there t =
     let home = home_there h party t in
     ap (λ rs. record (rows_of h') { rooms = rs })
     (one_changed (room_row h') (row_without h party) (came_to party) room
-      (λ r k t. ap (λ b. record (room_row h r k) {
-        codes = length (when b (and_last code) (issued h r));
-        secured = when b (λ _. false) (secured h r);
-        party = when b (λ _. Some party) (leaves party (registered h r));
-      }) t)
-      (λ k. ap (λ b. record (room_row h room k) {
-        codes = length (when b (and_last code) (issued h room));
-        secured = when b (λ _. false) (secured h room);
-        party = when b (λ _. Some party) (leaves party (registered h room));
-      }) (eq_self room) ∙ ap (λ n. record (room_row h room k) { codes = n; secured = false; party = Some party }) (length_more (issued h room) code))
-      (rooms h) (rooms_once h ok)
-      ∙ ap (λ rs. room_changed room (came_to party) rs) (left_room h party home.0 ok home.1 ∙ ap (λ o. left_by o (rows_of h).rooms) (sym home.1)))
+    (λ r k t. ap (λ b. record (room_row h r k) {
+      codes = length (when b (and_last code) (issued h r));
+      secured = when b (λ _. false) (secured h r);
+      party = when b (λ _. Some party) (leaves party (registered h r));
+    }) t)
+    (λ k. ap (λ b. record (room_row h room k) {
+      codes = length (when b (and_last code) (issued h room));
+      secured = when b (λ _. false) (secured h room);
+      party = when b (λ _. Some party) (leaves party (registered h room));
+    }) (eq_self room) ∙ ap (λ n. record (room_row h room k) { codes = n; secured = false; party = Some party }) (length_more (issued h room) code))
+    (rooms h) (rooms_once h ok)
+    ∙ ap (λ rs. room_changed room (came_to party) rs) (left_room h party home.0 ok home.1 ∙ ap (λ o. left_by o (rows_of h).rooms) (sym home.1)))
     ∙ ap (λ place. record (rows_of h') {
       rooms = room_changed room (came_to party) (left_by (room_of h party) (rows_of h).rooms);
       codes = insert_entry nat_cmp (all_issued h) code (record { room = room; place = place });
