@@ -117,3 +117,11 @@ ghost use Rattle.hotel_core.specs.History.{◌▷◌};
 pub fn made_follow()
     ensures { (h : History) (event : Event) → Reached (h ▷ event) → FollowsBy h event }
 {}
+
+ghost use Rattle.hotel_core.specs.ChangeOf.{change_of};
+ghost use Rattle.hotel_core.specs.Fits.{HasItsRows};
+
+/// The change of an event of a reached history has its rows.
+pub fn changes_have_rows()
+    ensures { (h : History) (event : Event) → Reached (h ▷ event) → HasItsRows (change_of h event) (rows_of h) }
+{}
