@@ -1,13 +1,12 @@
 -- The change of an event has its rows.
-use Rattle.std.proofs.Common.{ℕ, ◌≡◌, ◌<◌, ◌≤◌, ◌+◌, ◌-◌, ◌^◌, Bool, true, false, Option, Some, None, List, length, refl, ap, sym, ◌∙◌, arith}
+use Rattle.std.proofs.Common.{ℕ, ◌≡◌, ◌<◌, ◌≤◌, ◌+◌, ◌-◌, ◌^◌, Bool, true, false, Option, Some, None, length, refl, ap, sym, ◌∙◌, arith}
 use Rattle.std.specs.Prelude.{not, is_some}
 use Rattle.hotel_core.specs.Words.{is_one_of}
-use Rattle.hotel_core.specs.Rows.{at_number}
 use Rattle.hotel_core.specs.Event.{Event, Begun, Kind, Install, Reserved, Cancelled, CheckIn, Transfer, Spare, CheckOut, NextDay, Entered, Left, Recoded}
 use Rattle.hotel_core.specs.History.{History, ◌▷◌}
 use Rattle.hotel_core.specs.Issued.{issued, all_issued, issued_codes, is_fresh}
 use Rattle.hotel_core.specs.Cards.{cards}
-use Rattle.hotel_core.specs.Stays.{day, stays}
+use Rattle.hotel_core.specs.Stays.{day}
 use Rattle.hotel_core.specs.Cases.{is_room, room_of, is_in_house}
 use Rattle.hotel_core.specs.RowsOf.{rows_of}
 use Rattle.hotel_core.specs.Lookups.{room_at, code_place, note_at}
@@ -18,7 +17,7 @@ use Rattle.hotel_core.specs.Run.{Reached}
 use Rattle.hotel_core.specs.Follow.{MayFollow}
 use Rattle.hotel_core.specs.Words.{said_of}
 use Rattle.hotel_core.specs.Notes.{notes}
-use Rattle.hotel_core.proofs.Numbered.{true_is_not_false, is_there, no_row}
+use Rattle.hotel_core.proofs.Numbered.{no_row}
 use Rattle.hotel_core.proofs.RoomNumbers.{needed_before, room_there, room_not_there}
 use Rattle.hotel_core.proofs.RowsIssue.{codes_said}
 use Rattle.hotel_core.proofs.RowsLeft.{home_there}
@@ -48,10 +47,10 @@ room_has_row h room t = ap is_some (room_there h room t).2
 pub home_is_room : (h : History) (party room : ℕ) → Reached h → room_of h party ≡ Some room → is_room h room ≡ true
 home_is_room h party room ok e = by (is_room h room) refl
   where
-  by : (b : Bool) → is_room h room ≡ b → is_room h room ≡ true
-  by true t = t
-  by false f = let w : ◌≡◌ {A = Option ℕ} (Some party) None = sym ((homes_match h ok).back room party e) ∙ nobody_registered h ok room f in cc
-  
+    by : (b : Bool) → is_room h room ≡ b → is_room h room ≡ true
+    by true t = t
+    by false f = let w : ◌≡◌ {A = Option ℕ} (Some party) None = sym ((homes_match h ok).back room party e) ∙ nobody_registered h ok room f in cc
+
 -- A room can have one more code, as long as a card's number is left.
 codes_left : (h : History) (room : ℕ) → Reached h → is_room h room ≡ true → length (cards h) < 9999999 → codes_of (rows_of h) room < 2 ^ 32 - 1
 codes_left h room ok t n =
