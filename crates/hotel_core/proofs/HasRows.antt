@@ -17,8 +17,7 @@ use Rattle.hotel_core.specs.Run.{Reached}
 use Rattle.hotel_core.specs.Follow.{MayFollow}
 use Rattle.hotel_core.specs.Words.{said_of}
 use Rattle.hotel_core.specs.Notes.{notes}
-use Rattle.hotel_core.proofs.Numbered.{no_row}
-use Rattle.hotel_core.proofs.RoomNumbers.{needed_before, room_there, room_not_there}
+use Rattle.hotel_core.proofs.RoomNumbers.{room_there, room_not_there}
 use Rattle.hotel_core.proofs.RowsIssue.{codes_said}
 use Rattle.hotel_core.proofs.RowsLeft.{home_there}
 use Rattle.hotel_core.proofs.NoRooms.{nobody_registered}
@@ -26,6 +25,8 @@ use Rattle.hotel_core.proofs.InHouse.{homes_match, has_stay}
 use Rattle.hotel_core.proofs.NotesKept.{next_not_found}
 use Rattle.hotel_core.proofs.NumbersLeft.{NumberLeft, number_left}
 use Rattle.hotel_core.proofs.CodesFew.{room_codes_few}
+use Rattle.hotel_core.proofs.Grown.{may_follow}
+use Rattle.hotel_core.proofs.Tables.{no_key}
 
 no_day : (o : Option ℕ) → is_some o ≡ false → o ≡ None
 no_day (Some d) h = cc
@@ -37,7 +38,7 @@ not_among false h = refl
 
 -- a fresh code has no row
 pub fresh_has_no_row : (h : History) (code : ℕ) → is_fresh h code ≡ true → code_place (rows_of h) code ≡ None
-fresh_has_no_row h code f = no_row (all_issued h) code (not_among (is_one_of code (issued_codes h)) f)
+fresh_has_no_row h code f = no_key (all_issued h) code (not_among (is_one_of code (issued_codes h)) f)
 
 -- a room that is there has a row
 pub room_has_row : (h : History) (room : ℕ) → is_room h room ≡ true → is_some (room_at (rows_of h) room) ≡ true
@@ -83,4 +84,4 @@ has_rows_where h (Recoded room count from to at) ok n l = (room_has_row h room n
 
 -- The change of an event of a reached history has its rows.
 pub changes_have_rows : (h : History) (event : Event) → Reached (h ▷ event) → HasItsRows (change_of h event) (rows_of h)
-changes_have_rows h event ok = has_rows_where h event ok.0 (needed_before h event ok) (number_left h event ok)
+changes_have_rows h event ok = has_rows_where h event ok.0 (may_follow h event ok) (number_left h event ok)
