@@ -1,13 +1,13 @@
 -- Nothing happened at a number that is no room's.
-use Rattle.std.proofs.Common.{ℕ, ◌≡◌, true, false, Some, None, List, [], ◌∷◌, refl, ap, sym, ◌∙◌, subst}
-use Rattle.std.specs.Prelude.{◌==◌, ◌&&◌, ◌++◌}
+use Rattle.std.proofs.Common.{ℕ, ◌≡◌, true, false, Some, None, List, [], refl, ap, sym, ◌∙◌, subst}
+use Rattle.std.specs.Prelude.{◌==◌}
 use Rattle.keycard_rules.specs.Note.{Note}
 use Rattle.keycard_rules.specs.declared.note.Act.TheVariants as act
-use Rattle.hotel_core.specs.Words.{when, and_last, before}
+use Rattle.hotel_core.specs.Words.{when, and_last}
 use Rattle.hotel_core.specs.Event.{Install, CheckIn, Transfer, CheckOut, Entered, Left, Recoded}
 use Rattle.hotel_core.specs.History.{History, start, ◌▷◌}
 use Rattle.hotel_core.specs.Issued.{issued}
-use Rattle.hotel_core.specs.Ledger.{passed, turns, awaited}
+use Rattle.hotel_core.specs.Ledger.{passed}
 use Rattle.hotel_core.specs.Guests.{registered, leaves}
 use Rattle.hotel_core.specs.Notes.{notes}
 use Rattle.hotel_core.specs.Stays.{rooms}
@@ -17,6 +17,7 @@ use Rattle.hotel_core.proofs.Numbered.{true_is_not_false, apart_by}
 use Rattle.hotel_core.proofs.Grown.{may_follow}
 use Rattle.hotel_core.proofs.Tests.{or_false}
 use Rattle.hotel_core.proofs.Tables.{key_inserted}
+use Rattle.hotel_core.proofs.RoomCodes.{others_have_none}
 
 -- a room is apart from what is no room
 pub apart_rooms : (h : History) (room r : ℕ) → is_room h room ≡ true → is_room h r ≡ false → (room == r) ≡ false
@@ -27,26 +28,10 @@ pub not_added : (h : History) (room r code : ℕ) (kind : List ℕ) → is_room 
 not_added h room r code kind e = or_false (room == r) (is_room h r) (sym (key_inserted (rooms h) room kind r) ∙ e)
 
 pub nothing_issued : (h : History) → Reached h → (r : ℕ) → is_room h r ≡ false → issued h r ≡ []
-nothing_issued (start t) ok r e = subst (λ z. issued (start z) r ≡ []) (sym ok) refl
-nothing_issued (h ▷ Install room kind code) ok r e =
-    let p = not_added h room r code kind e in
-    ap (λ b. when b (and_last code) (issued h r)) p.0 ∙ nothing_issued h ok.0 r p.1
-nothing_issued (h ▷ CheckIn party room number code) ok r e =
-    ap (λ b. when b (and_last code) (issued h r)) (apart_rooms h room r (may_follow h (CheckIn party room number code) ok).0 e) ∙ nothing_issued h ok.0 r e
-nothing_issued (h ▷ Transfer party room number code) ok r e =
-    ap (λ b. when b (and_last code) (issued h r)) (apart_rooms h room r (may_follow h (Transfer party room number code) ok).0 e) ∙ nothing_issued h ok.0 r e
-nothing_issued (h ▷ _) ok r e = nothing_issued h ok.0 r e
+nothing_issued h ok r e = (others_have_none h ok r e).0
 
 pub nothing_passed : (h : History) → Reached h → (r : ℕ) → is_room h r ≡ false → passed h r ≡ []
-nothing_passed (start t) ok r e = subst (λ z. passed (start z) r ≡ []) (sym ok) refl
-nothing_passed (h ▷ Install room kind code) ok r e = nothing_passed h ok.0 r (not_added h room r code kind e).1
-nothing_passed (h ▷ Entered room count number link at) ok r e =
-    ap (λ b. when (b && turns h room link) (and_last link.old_code) (passed h r)) (apart_rooms h room r (may_follow h (Entered room count number link at) ok).1 e)
-    ∙ nothing_passed h ok.0 r e
-nothing_passed (h ▷ Recoded room count from to at) ok r e =
-    ap (λ b. when b (λ codes. codes ++ from ∷ before to (awaited h r)) (passed h r)) (apart_rooms h room r (may_follow h (Recoded room count from to at) ok).1 e)
-    ∙ nothing_passed h ok.0 r e
-nothing_passed (h ▷ _) ok r e = nothing_passed h ok.0 r e
+nothing_passed h ok r e = (others_have_none h ok r e).1
 
 pub nobody_registered : (h : History) → Reached h → (r : ℕ) → is_room h r ≡ false → registered h r ≡ None
 nobody_registered (start t) ok r e = subst (λ z. registered (start z) r ≡ None) (sym ok) refl
