@@ -27,11 +27,11 @@ use Rattle.hotel_core.specs.Ledger.{awaited}
 use Rattle.hotel_core.specs.Stays.{stays}
 use Rattle.hotel_core.specs.Notes.{Standing, Copy, Conflicting, Next, After, standing}
 use Rattle.hotel_core.specs.Cases.{is_room, is_card, has_link, opens, holds, next_card, parties_used_up, cards_used_up}
-use Rattle.hotel_core.specs.Outcome.{Outcome, accepted, unless, needs, bars}
+use Rattle.hotel_core.specs.Outcome.{accepted, needs, bars}
 use Rattle.hotel_core.specs.Answer.{answer_to, checks, effect, reported, told, moment_of}
 use Rattle.hotel_core.specs.Run.{Reached}
 use Rattle.hotel_core.specs.CodeLaws.{CardsFit, StaysFit, CodesFit}
-use Rattle.hotel_core.proofs.Tests.{eq_from, not_both}
+use Rattle.hotel_core.proofs.Tests.{eq_from}
 use Rattle.hotel_core.proofs.Following.{AllPass, passed_all}
 use Rattle.hotel_core.proofs.Counting.{counts_more}
 use Rattle.hotel_core.proofs.CodeLists.{length_more}
