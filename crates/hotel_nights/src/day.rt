@@ -1,13 +1,12 @@
 //! Days of the calendar.
 
 ghost use Rattle.std.specs.Prelude.{◌≡◌, ℕ, ◌≤◌, ◌<◌, ◌+◌, ◌^◌, Some, option_map};
-ghost use Rattle.std.specs.Option.{SomeIff};
-ghost use Rattle.hotel_nights.specs.Days.{read_ymd, ymd, read_day, day_text, date_of};
+ghost use Rattle.hotel_nights.specs.Days.{day_of_number, read_ymd, ymd, read_day, day_text};
 ghost use Rattle.keycard_rules.specs.Numerals.{fixed_text};
 
 use jiff_core::civil::Date;
-use std::marker::Model;
 use keycard_rules::{read_numeral, write_fixed};
+use std::marker::Model;
 
 /// A day from 2000-01-01 to 2099-12-31.
 #[derive(Clone, Copy, PartialEq, Eq, PartialOrd, Ord, Hash, Debug)]
@@ -58,7 +57,7 @@ fn four_digits(number: u16) -> [u8; 4]
 
 impl Day {
     pub fn new(number: u16) -> Option<Day>
-        ensures { SomeIff result (number ≤ 36524) number }
+        ensures { result ≡ day_of_number number }
     {
         if number <= 36524 {
             Some(Day { number })
@@ -69,7 +68,7 @@ impl Day {
 
     pub fn number(&self) -> u16
         ensures same { result ≡ self.now }
-        ensures below { result ≤ 36524 }
+        ensures known { result ≤ 36524 }
     {
         self.number
     }
@@ -104,7 +103,7 @@ impl Day {
 
     /// The day that many days later.
     pub fn plus(&self, days: u16) -> Option<Day>
-        ensures { SomeIff result (self.now + days ≤ 36524) (self.now + days) }
+        ensures { result ≡ day_of_number (self.now + days) }
     {
         let number = self.number.checked_add(days)?;
         Day::new(number)

@@ -6,9 +6,9 @@ ghost use Rattle.std.specs.List.{count_by};
 ghost use Rattle.hotel_nights.specs.FullNight.{takes, is_full, first_day, is_standing, is_of_kind, IsFirst};
 ghost use Rattle.hotel_nights.specs.Block.{begins, ends, one_if};
 
-use crate::stay::{Stay, StayState};
 use crate::day::Day;
 use crate::kind::KindCode;
+use crate::stay::{Stay, StayState};
 
 /// The most nights that are counted in one pass over the stays.
 const BLOCK: u16 = 90;
@@ -75,7 +75,13 @@ fn count_stays(stays: &[Stay], kind: &KindCode, first: u16, after: u16) -> Tally
 }
 
 /// The first full night of a block.
-fn first_in_block(stays: &[Stay], kind: &KindCode, rooms: u32, first: u16, after: u16) -> Option<u16>
+fn first_in_block(
+    stays: &[Stay],
+    kind: &KindCode,
+    rooms: u32,
+    first: u16,
+    after: u16,
+) -> Option<u16>
     requires order { first < after }
     requires few { after ≤ first + 90 }
     ensures { result ≡ first_day (is_full stays.now kind.now rooms) first (after - first) }
@@ -93,7 +99,13 @@ fn first_in_block(stays: &[Stay], kind: &KindCode, rooms: u32, first: u16, after
 }
 
 /// The first night of the range that at least `rooms` stays of the kind take.
-fn first_of_blocks(stays: &[Stay], kind: &KindCode, rooms: u32, arrive: Day, depart: Day) -> Option<Day>
+fn first_of_blocks(
+    stays: &[Stay],
+    kind: &KindCode,
+    rooms: u32,
+    arrive: Day,
+    depart: Day,
+) -> Option<Day>
     ensures { result ≡ first_day (is_full stays.now kind.now rooms) arrive (depart - arrive) }
 {
     let last = depart.number();
@@ -109,7 +121,13 @@ fn first_of_blocks(stays: &[Stay], kind: &KindCode, rooms: u32, arrive: Day, dep
 }
 
 /// The first night of the range that at least `rooms` stays of the kind take.
-pub fn first_full_night(stays: &[Stay], kind: &KindCode, rooms: u32, arrive: Day, depart: Day) -> Option<Day>
+pub fn first_full_night(
+    stays: &[Stay],
+    kind: &KindCode,
+    rooms: u32,
+    arrive: Day,
+    depart: Day,
+) -> Option<Day>
     ensures value { result ≡ first_day (is_full stays.now kind.now rooms) arrive (depart - arrive) }
     ensures first { IsFirst (is_full stays.now kind.now rooms) arrive (depart - arrive) result }
 {

@@ -6,7 +6,7 @@ ghost use Rattle.std.specs.Char.{is_control};
 ghost use Rattle.std.specs.Str.{chars};
 ghost use Rattle.hotel_nights.specs.Guests.{is_guest};
 
-use std::alloc::{AllocError, Global};
+use std::alloc::Global;
 use std::marker::Model;
 
 /// Why a text gives no guest.
@@ -73,18 +73,4 @@ impl Guest {
     {
         self.text.as_str()
     }
-
-    /// The same guest again.
-    pub fn copy(&self, alloc: Global) -> Result<Guest, AllocError>
-        ensures { IfOk result (λ g. g ≡ self.now) }
-    {
-        let text = String::from_str(alloc, self.text.as_str())?;
-        Ok(Guest { text })
-    }
-}
-
-pub fn twice(guest: &Guest) -> Result<Guest, AllocError>
-    ensures { IfOk result (λ g. g ≡ guest.now) }
-{
-    guest.clone()
 }

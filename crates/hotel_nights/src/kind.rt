@@ -1,13 +1,19 @@
 //! The codes of kinds of rooms.
 
-ghost use Rattle.std.specs.Prelude.{◌≡◌, ℕ, List, true};
+ghost use Rattle.std.specs.Prelude.{◌≡◌, ◌==◌, ℕ, List, true};
 ghost use Rattle.std.specs.List.{list_all};
+ghost use Rattle.std.specs.Ordering.{nat_cmp, as_partial_cmp};
+ghost use Rattle.std.specs.Cmp.{partial_order_from_own_ties};
+ghost use Rattle.std.specs.Cmp.Lexicographic.{slice_cmp, pointwise};
+ghost use Rattle.std.specs.Cmp.Rules.{comparing};
+ghost use Rattle.std.proofs.Common.{rules};
 ghost use Rattle.hotel_nights.specs.Kinds.{is_kind, read_kind, is_kind_byte};
 
+use std::cmp::Ordering;
 use std::marker::Model;
 
 /// The code of a kind: one to eight capital letters and digits.
-#[derive(Clone, Copy, PartialEq, Eq, PartialOrd, Ord, Debug)]
+#[derive(Clone, Copy, Debug)]
 pub struct KindCode {
     bytes: [u8; 8],
     len: usize,
@@ -58,5 +64,43 @@ impl KindCode {
         ensures known { is_kind result.now ≡ true }
     {
         &self.bytes[..self.len]
+    }
+}
+
+impl PartialEq for KindCode {
+    ghost eq = { pointwise ◌==◌ };
+
+    ghost laws = { Prim.search (comparing, rules) };
+
+    fn eq(&self, other: &KindCode) -> bool {
+        self.as_bytes() == other.as_bytes()
+    }
+}
+
+impl Eq for KindCode {
+    ghost laws = { Prim.search (comparing, rules) };
+}
+
+impl Ord for KindCode {
+    ghost cmp = { slice_cmp nat_cmp };
+
+    ghost total = { Prim.search (comparing, rules) };
+
+    ghost matches_partial_cmp = { Prim.search (comparing, rules) };
+
+    ghost matches_eq = { Prim.search (comparing, rules) };
+
+    fn cmp(&self, other: &KindCode) -> Ordering {
+        self.as_bytes().cmp(other.as_bytes())
+    }
+}
+
+impl PartialOrd for KindCode {
+    ghost partial_cmp = { as_partial_cmp (slice_cmp nat_cmp) };
+
+    ghost laws = { partial_order_from_own_ties (Prim.search (comparing, rules)) (Prim.search (comparing, rules)) };
+
+    fn partial_cmp(&self, other: &KindCode) -> Option<Ordering> {
+        Some(self.cmp(other))
     }
 }

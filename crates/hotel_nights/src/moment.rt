@@ -1,11 +1,11 @@
 //! Moments: a day and a second of it.
 
 ghost use Rattle.std.specs.Prelude.{◌≡◌, ℕ, ◌≤◌, ◌<◌, Some};
-ghost use Rattle.hotel_nights.specs.Moments.{read_moment, read_time, moment_text, time_text};
+ghost use Rattle.hotel_nights.specs.Moments.{moment_of, read_moment, read_time, moment_text, time_text};
 
 use crate::day::{Day, two_digits};
-use std::marker::Model;
 use keycard_rules::read_numeral;
+use std::marker::Model;
 
 /// A second of a day.
 #[derive(Clone, Copy, PartialEq, Eq, PartialOrd, Ord, Debug)]
@@ -50,6 +50,15 @@ fn print_time(second: u32) -> [u8; 8]
 }
 
 impl Moment {
+    pub fn new(day: Day, second: u32) -> Option<Moment>
+        ensures { result ≡ moment_of day second }
+    {
+        if second > 86_399 {
+            return None;
+        }
+        Some(Moment { day, second })
+    }
+
     pub fn day(&self) -> Day
         ensures { result ≡ self.now.0 }
     {
@@ -58,7 +67,7 @@ impl Moment {
 
     pub fn second(&self) -> u32
         ensures same { result ≡ self.now.1 }
-        ensures below { result ≤ 86399 }
+        ensures known { result ≤ 86399 }
     {
         self.second
     }
@@ -82,8 +91,6 @@ impl Moment {
     {
         let [a, b, c, d, e, f, g, h, i, j] = self.day.print();
         let [k, l, m, n, o, p, q, r] = print_time(self.second);
-        [
-            a, b, c, d, e, f, g, h, i, j, b'T', k, l, m, n, o, p, q, r,
-        ]
+        [a, b, c, d, e, f, g, h, i, j, b'T', k, l, m, n, o, p, q, r]
     }
 }

@@ -5,8 +5,8 @@ ghost use Rattle.std.specs.Option.{SomeIff};
 ghost use Rattle.keycard_rules.specs.Numerals.{number_up_to};
 ghost use Rattle.keycard_rules.specs.Numbers.{IsNumberUpTo};
 
-use std::marker::Model;
 use keycard_rules::read_numeral;
+use std::marker::Model;
 
 /// A number of nights, from 1 to 90.
 #[derive(Clone, Copy, PartialEq, Eq, PartialOrd, Ord, Hash, Debug)]

@@ -14,7 +14,7 @@ pub enum StayState {
 }
 
 /// A stay of a party.
-#[derive(Drop)]
+#[derive(Clone, Drop)]
 pub struct Stay {
     pub party: PartyNo,
     pub guest: Guest,

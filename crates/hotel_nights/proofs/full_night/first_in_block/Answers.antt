@@ -51,7 +51,7 @@ loop-night-preserved c =
     let test = is_full stays kind c.args.rooms in
     record {
       taken = now ∙ sym (was_taken-next stays kind c.args.first d (omega arith));
-      rest = c.loop-night.invariant.rest ∙ first_day-more test d c.args.after lt (full-no stays kind c.args.rooms d (omega arith))
+      rest = c.loop-night.invariant.rest ∙ first_day-more test d c.args.after lt (full-no stays kind c.args.rooms d (omega arith));
     }
 
 pub returns : goal.returns
