@@ -1,20 +1,25 @@
 //! The codes of kinds of rooms.
 
-ghost use Rattle.std.specs.Prelude.{◌≡◌, ◌==◌, ℕ, List, true};
+ghost use Rattle.std.specs.Prelude.{◌≡◌, ℕ, List, true};
 ghost use Rattle.std.specs.List.{list_all};
 ghost use Rattle.std.specs.Ordering.{nat_cmp, as_partial_cmp};
 ghost use Rattle.std.specs.Cmp.{partial_order_from_own_ties};
-ghost use Rattle.std.specs.Cmp.Lexicographic.{slice_cmp, pointwise};
+ghost use Rattle.std.specs.Cmp.Lexicographic.{slice_cmp};
 ghost use Rattle.std.specs.Cmp.Rules.{comparing};
+ghost use Rattle.std.specs.Str.{bytes_eq};
 ghost use Rattle.std.proofs.Common.{rules};
 ghost use Rattle.hotel_nights.specs.Kinds.{is_kind, read_kind, is_kind_byte};
 
 use std::cmp::Ordering;
 use std::marker::Model;
 
-/// The code of a kind: one to eight capital letters and digits.
+/// The code of a kind of rooms, as `DBL`: one to eight of the letters A to Z and the digits 0 to 9.
+///
+/// Contracts see a code as its bytes. Codes are equal where these are, and ordered as texts are: by the first byte that differs,
+/// and a code before each longer one that begins with it. So a `BTreeSet` of codes is a list of texts in this order.
 #[derive(Clone, Copy, Debug)]
 pub struct KindCode {
+    /// The code, and zeros after it.
     bytes: [u8; 8],
     len: usize,
 }
@@ -38,6 +43,7 @@ impl Model for KindCode {
     } };
 }
 
+/// Whether each byte is a capital letter or a digit.
 fn are_kind_bytes(text: &[u8]) -> bool
     ensures { result ≡ list_all is_kind_byte text.now }
 {
@@ -46,7 +52,7 @@ fn are_kind_bytes(text: &[u8]) -> bool
 }
 
 impl KindCode {
-    /// Reads one to eight capital letters and digits.
+    /// Reads one to eight capital letters and digits; `None` for any other text.
     pub fn read(text: &[u8]) -> Option<KindCode>
         ensures { result ≡ read_kind text.now }
     {
@@ -59,6 +65,7 @@ impl KindCode {
         Some(KindCode { bytes, len })
     }
 
+    /// The bytes of the code, one to eight.
     pub fn as_bytes(&self) -> &[u8]
         ensures same { result.now ≡ self.now }
         ensures known { is_kind result.now ≡ true }
@@ -68,7 +75,7 @@ impl KindCode {
 }
 
 impl PartialEq for KindCode {
-    ghost eq = { pointwise ◌==◌ };
+    ghost eq = { bytes_eq };
 
     ghost laws = { Prim.search (comparing, rules) };
 

@@ -1,6 +1,7 @@
 //! Days, moments, kinds of rooms, guests, stays, and the nights that stays take.
 #![tactic(auto)]
 
+mod block;
 mod day;
 mod full_night;
 mod guest;

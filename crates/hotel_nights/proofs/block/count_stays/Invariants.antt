@@ -1,6 +1,6 @@
 use Rattle.std.proofs.Common.{◌≡◌, ℕ, ◌+◌, get_or, take, count_by}
 use Rattle.hotel_nights.specs.Block.{begins, ends}
-use Rattle.hotel_nights.proofs.full_night.count_stays.Given as goal
+use Rattle.hotel_nights.proofs.block.count_stays.Given as goal
 
 abbrev pub invariant-loop-stay : goal.invariant-loop-stay
 invariant-loop-stay l = record {

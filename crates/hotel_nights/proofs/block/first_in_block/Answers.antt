@@ -5,7 +5,7 @@ use Rattle.hotel_nights.specs.FullNight.{takes, is_full, first_day}
 use Rattle.hotel_nights.specs.Block.{was_taken, begins, ends}
 use Rattle.hotel_nights.proofs.BlockLemmas.{taken-next, ends-le, was_taken-first, was_taken-next, full-yes, full-no}
 use Rattle.hotel_nights.proofs.FirstDay.{first_day-more, first_day-found, first_day-end}
-use Rattle.hotel_nights.proofs.full_night.first_in_block.Goals as goal
+use Rattle.hotel_nights.proofs.block.first_in_block.Goals as goal
 
 pub loop-night-init : goal.loop-night-init
 loop-night-init c = record { taken = sym (was_taken-first c.args.stays.now c.args.kind.now c.args.first); rest = refl }

@@ -1,7 +1,7 @@
 use Rattle.std.proofs.Common.{◌≡◌, ℕ, ◌-◌, count_by}
 use Rattle.hotel_nights.specs.Block.{was_taken}
 use Rattle.hotel_nights.specs.FullNight.{first_day, is_full}
-use Rattle.hotel_nights.proofs.full_night.first_in_block.Given as goal
+use Rattle.hotel_nights.proofs.block.first_in_block.Given as goal
 
 abbrev pub invariant-loop-night : goal.invariant-loop-night
 invariant-loop-night l = record {
