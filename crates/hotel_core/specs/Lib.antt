@@ -1,5 +1,6 @@
 pub mod Words
 pub mod Rows
+pub mod Lookups
 pub mod Event
 pub mod History
 pub mod Issued
@@ -7,7 +8,6 @@ pub mod Cards
 pub mod Lock
 pub mod Ledger
 pub mod Guests
-pub mod Draw
 pub mod Stays
 pub mod Notes
 pub mod RowsOf
@@ -20,6 +20,10 @@ pub mod SoundCards
 pub mod Sound
 pub mod Run
 pub mod ChangeOf
+pub mod Fits
+pub mod OnRows
+pub mod StepOnRows
+pub mod Reads
 pub mod Headline
 pub mod Lists
 pub mod Follow
