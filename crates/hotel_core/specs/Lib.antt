@@ -27,4 +27,3 @@ pub mod Reads
 pub mod Headline
 pub mod Lists
 pub mod Follow
-pub mod Tests
