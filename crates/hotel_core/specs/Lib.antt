@@ -27,4 +27,4 @@ pub mod Reads
 pub mod Headline
 pub mod Lists
 pub mod Follow
-pub mod Tests
+pub mod Texts
