@@ -28,3 +28,5 @@ pub mod Headline
 pub mod Lists
 pub mod Follow
 pub mod Texts
+pub mod CodeLaws
+pub mod Tests
