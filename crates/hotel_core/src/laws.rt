@@ -31,3 +31,51 @@ pub fn easy_rows_follow()
 pub fn left_follows()
     ensures { LeftFollows }
 {}
+
+ghost use Rattle.std.specs.Prelude.{ℕ, ◌≡◌, option_map};
+ghost use Rattle.hotel_core.specs.History.{History};
+ghost use Rattle.hotel_core.specs.Run.{Reached};
+ghost use Rattle.hotel_core.specs.Rows.{at_number};
+ghost use Rattle.hotel_core.specs.RowsOf.{room_row, rows_of};
+ghost use Rattle.hotel_core.specs.Stays.{rooms};
+ghost use Rattle.hotel_core.specs.Follow.{RoomsOnce};
+
+/// No room's number stands twice.
+pub fn rooms_once()
+    ensures { (h : History) → Reached h → RoomsOnce (rooms h) }
+{}
+
+/// A look-up of a room finds its row, where there is such a room.
+pub fn room_found()
+    ensures { (h : History) (r : ℕ) → at_number (rows_of h).rooms r ≡ option_map (λ kind. room_row h r kind) (at_number (rooms h) r) }
+{}
+
+ghost use Rattle.hotel_core.specs.Cases.{is_room};
+ghost use Rattle.hotel_core.specs.Follow.{FollowsBy};
+ghost use Rattle.hotel_core.specs.Event.{Install, CheckIn};
+ghost use Rattle.std.specs.Prelude.{List, true, false};
+/// The rows after a room was added.
+pub fn install_follows()
+    ensures { (h : History) (room code : ℕ) (kind : List ℕ) → Reached h → is_room h room ≡ false → FollowsBy h (Install room kind code) }
+{}
+
+/// The rows after a party came to a room.
+pub fn check_in_follows()
+    ensures { (h : History) (party room number code : ℕ) → Reached h → is_room h room ≡ true → FollowsBy h (CheckIn party room number code) }
+{}
+
+ghost use Rattle.hotel_core.specs.Event.{Moment, Entered, Recoded};
+ghost use Rattle.keycard_rules.specs.declared.card.Link.{Link};
+ghost use Rattle.std.specs.Prelude.{◌+◌, length};
+ghost use Rattle.hotel_core.specs.Notes.{notes};
+
+/// The rows after a card entered a room.
+pub fn entered_follows()
+    ensures { (h : History) (room count number : ℕ) (link : Link) (at : Moment) → Reached h → count ≡ length (notes h room) + 1 → FollowsBy h (Entered room count number link at) }
+{}
+
+
+/// The rows after staff recoded a lock.
+pub fn recoded_follows()
+    ensures { (h : History) (room count from to : ℕ) (at : Moment) → Reached h → count ≡ length (notes h room) + 1 → FollowsBy h (Recoded room count from to at) }
+{}

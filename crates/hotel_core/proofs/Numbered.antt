@@ -1,0 +1,118 @@
+-- Tables by number: what a look-up finds, which numbers are there, and what an added row changes.
+use Rattle.std.proofs.Common.{ℕ, ◌≡◌, Bool, true, false, cond, Option, Some, None, List, [], ◌∷◌, ◌⊎◌, inl, inr, refl, ap, sym, ◌∙◌, subst, arith}
+use Rattle.std.specs.Prelude.{◌==◌, ◌||◌, is_some, map, option_map}
+use Rattle.std.specs.Ordering.{nat_cmp, is_eq, match_ordering}
+use Rattle.std.specs.declared.cmp.Ordering.{Ordering}
+use Rattle.std.specs.declared.cmp.Ordering.TheVariants.{Less, Equal, Greater}
+use Rattle.std.specs.BTreeMap.{is_at, insert_entry}
+use Rattle.std.specs.Map.{keys_of}
+use Rattle.std.proofs.lemmas.Map.Lookups.{exact_unsigned}
+use Rattle.std.proofs.lemmas.Bool.Decides.{nat_tests}
+use Rattle.hotel_core.specs.Words.{is_one_of}
+use Rattle.hotel_core.specs.Rows.{at_number}
+use Rattle.hotel_core.proofs.RowsRooms.{eq_from, eq_self}
+
+-- the test of a look-up
+pub at_is : (n k : ℕ) → is_at (nat_cmp n) k ≡ (k == n)
+at_is n k = grind (arith, nat_tests)
+
+not_both : (b : Bool) → b ≡ true → b ≡ false → ⊥
+not_both true t f = cc
+not_both false t f = cc
+
+pub true_is_not_false : {b : Bool} → b ≡ true → b ≡ false → ⊥
+true_is_not_false {b} t f = not_both b t f
+
+is_true_else : (b : Bool) → (b ≡ false → ⊥) → b ≡ true
+is_true_else true f = refl
+is_true_else false f = absurd (f refl)
+
+-- numbers that a test tells apart
+pub apart_by : (a b : ℕ) → (a ≡ b → ⊥) → (a == b) ≡ false
+apart_by a b f = by (a == b) refl
+  where
+  by : (t : Bool) → (a == b) ≡ t → (a == b) ≡ false
+  by true e = absurd (f (eq_from a b e))
+  by false e = e
+
+swap_tests : {X : Type 0} (a b : Bool) (x v rest : Option X) → (a ≡ true → b ≡ true → ⊥) → cond a x (cond b v rest) ≡ cond b v (cond a x rest)
+swap_tests true true x v rest h = absurd (h refl refl)
+swap_tests true false x v rest h = refl
+swap_tests false true x v rest h = refl
+swap_tests false false x v rest h = refl
+
+same_tests : {X : Type 0} (a : Bool) (x v rest : Option X) → cond a v rest ≡ cond a v (cond a x rest)
+same_tests true x v rest = refl
+same_tests false x v rest = refl
+
+less_apart : (k m : ℕ) → nat_cmp k m ≡ Greater → k ≡ m → ⊥
+less_apart k m g e = grind (arith, nat_tests)
+
+at_inserted_by : {X : Type 0} (o : Ordering) (e : ℕ × X) (es : List (ℕ × X)) (k : ℕ) (v : X) (n : ℕ) → nat_cmp k e.0 ≡ o
+    → at_number (insert_entry nat_cmp es k v) n ≡ cond (is_at (nat_cmp n) k) (Some v) (at_number es n)
+    → at_number (match_ordering o ((k, v) ∷ e ∷ es) ((e.0, v) ∷ es) (e ∷ insert_entry nat_cmp es k v)) n ≡ cond (is_at (nat_cmp n) k) (Some v) (at_number (e ∷ es) n)
+at_inserted_by Less e es k v n c ih = refl
+at_inserted_by {X} Equal e es k v n c ih =
+    let P : ℕ → Type 0 = λ z. cond (is_at (nat_cmp n) z) (Some v) (at_number es n) ≡ cond (is_at (nat_cmp n) k) (Some v) (cond (is_at (nat_cmp n) z) (Some e.1) (at_number es n)) in
+    subst P (exact_unsigned k e.0 c) (same_tests (is_at (nat_cmp n) k) (Some e.1) (Some v) (at_number es n))
+at_inserted_by {X} Greater e es k v n c ih =
+    ap (λ r. cond (is_at (nat_cmp n) e.0) (Some e.1) r) ih
+    ∙ swap_tests (is_at (nat_cmp n) e.0) (is_at (nat_cmp n) k) (Some e.1) (Some v) (at_number es n)
+      (λ s t. less_apart k e.0 c (eq_from k n (sym (at_is n k) ∙ t) ∙ sym (eq_from e.0 n (sym (at_is n e.0) ∙ s))))
+
+-- what a table has after a row was added
+pub at_inserted : {X : Type 0} (es : List (ℕ × X)) (k : ℕ) (v : X) (n : ℕ) → at_number (insert_entry nat_cmp es k v) n ≡ cond (k == n) (Some v) (at_number es n)
+at_inserted {X} es k v n = by_tests es ∙ ap (λ b. cond b (Some v) (at_number es n)) (at_is n k)
+  where
+  by_tests : (xs : List (ℕ × X)) → at_number (insert_entry nat_cmp xs k v) n ≡ cond (is_at (nat_cmp n) k) (Some v) (at_number xs n)
+  by_tests [] = refl
+  by_tests (e ∷ xs) = at_inserted_by (nat_cmp k e.0) e xs k v n refl (by_tests xs)
+
+there_by : {X : Type 0} (b rest : Bool) (x : X) (o : Option X) → is_some o ≡ rest → is_some (cond b (Some x) o) ≡ (b || rest)
+there_by true rest x o e = refl
+there_by false rest x o e = e
+
+-- A number is one of a table's exactly where a look-up finds a row.
+pub is_there : {X : Type 0} (es : List (ℕ × X)) (n : ℕ) → is_some (at_number es n) ≡ is_one_of n (keys_of es)
+is_there [] n = refl
+is_there (e ∷ es) n = there_by (is_at (nat_cmp n) e.0) (is_one_of n (keys_of es)) e.1 (at_number es n) (is_there es n) ∙ ap (λ b. b || is_one_of n (keys_of es)) (at_is n e.0)
+
+-- the numbers of a table with one more row
+pub number_inserted : {X : Type 0} (es : List (ℕ × X)) (k : ℕ) (v : X) (n : ℕ) → is_one_of n (keys_of (insert_entry nat_cmp es k v)) ≡ ((k == n) || is_one_of n (keys_of es))
+number_inserted es k v n =
+    sym (is_there (insert_entry nat_cmp es k v) n) ∙ ap is_some (at_inserted es k v n) ∙ there_by (k == n) (is_one_of n (keys_of es)) v (at_number es n) (is_there es n)
+
+some_row : {X : Type 0} (o : Option X) → is_some o ≡ true → (x : X) × (o ≡ Some x)
+some_row (Some x) h = (x, refl)
+some_row None h = cc
+
+none_row : {X : Type 0} (o : Option X) → is_some o ≡ false → o ≡ None
+none_row (Some x) h = cc
+none_row None h = refl
+
+-- the row of a number that is there
+pub row_there : {X : Type 0} (es : List (ℕ × X)) (n : ℕ) → is_one_of n (keys_of es) ≡ true → (x : X) × (at_number es n ≡ Some x)
+row_there es n h = some_row (at_number es n) (is_there es n ∙ h)
+
+-- nothing at a number that isn't there
+pub no_row : {X : Type 0} (es : List (ℕ × X)) (n : ℕ) → is_one_of n (keys_of es) ≡ false → at_number es n ≡ None
+no_row es n h = none_row (at_number es n) (is_there es n ∙ h)
+
+-- a number is there where a look-up finds a row
+pub found_there : {X : Type 0} (es : List (ℕ × X)) (n : ℕ) (x : X) → at_number es n ≡ Some x → is_one_of n (keys_of es) ≡ true
+found_there es n x h = sym (is_there es n) ∙ ap is_some h
+
+-- a number isn't there where a look-up finds nothing
+pub not_found_there : {X : Type 0} (es : List (ℕ × X)) (n : ℕ) → at_number es n ≡ None → is_one_of n (keys_of es) ≡ false
+not_found_there es n h = sym (is_there es n) ∙ ap is_some h
+
+mapped_by : {X Y : Type 0} (f : ℕ → X → Y) (b : Bool) (k n : ℕ) (x : X) (o : Option X) → (b ≡ true → k ≡ n) → cond b (Some (f k x)) (option_map (f n) o) ≡ option_map (f n) (cond b (Some x) o)
+mapped_by f true k n x o e = ap (λ z. Some (f z x)) (e refl)
+mapped_by f false k n x o e = refl
+
+-- a look-up in a table whose rows were computed, each from its number and its value
+pub at_mapped : {X Y : Type 0} (f : ℕ → X → Y) (es : List (ℕ × X)) (n : ℕ) → at_number (map (λ e. (e.0, f e.0 e.1)) es) n ≡ option_map (f n) (at_number es n)
+at_mapped f [] n = refl
+at_mapped f (e ∷ es) n =
+    ap (λ o. cond (is_at (nat_cmp n) e.0) (Some (f e.0 e.1)) o) (at_mapped f es n)
+    ∙ mapped_by f (is_at (nat_cmp n) e.0) e.0 n e.1 (at_number es n) (λ t. eq_from e.0 n (sym (at_is n e.0) ∙ t))
