@@ -31,9 +31,9 @@ is_true_else false f = absurd (f refl)
 pub apart_by : (a b : ℕ) → (a ≡ b → ⊥) → (a == b) ≡ false
 apart_by a b f = by (a == b) refl
   where
-  by : (t : Bool) → (a == b) ≡ t → (a == b) ≡ false
-  by true e = absurd (f (eq_from a b e))
-  by false e = e
+    by : (t : Bool) → (a == b) ≡ t → (a == b) ≡ false
+    by true e = absurd (f (eq_from a b e))
+    by false e = e
 
 swap_tests : {X : Type 0} (a b : Bool) (x v rest : Option X) → (a ≡ true → b ≡ true → ⊥) → cond a x (cond b v rest) ≡ cond b v (cond a x rest)
 swap_tests true true x v rest h = absurd (h refl refl)
@@ -58,15 +58,15 @@ at_inserted_by {X} Equal e es k v n c ih =
 at_inserted_by {X} Greater e es k v n c ih =
     ap (λ r. cond (is_at (nat_cmp n) e.0) (Some e.1) r) ih
     ∙ swap_tests (is_at (nat_cmp n) e.0) (is_at (nat_cmp n) k) (Some e.1) (Some v) (at_number es n)
-      (λ s t. less_apart k e.0 c (eq_from k n (sym (at_is n k) ∙ t) ∙ sym (eq_from e.0 n (sym (at_is n e.0) ∙ s))))
+    (λ s t. less_apart k e.0 c (eq_from k n (sym (at_is n k) ∙ t) ∙ sym (eq_from e.0 n (sym (at_is n e.0) ∙ s))))
 
 -- what a table has after a row was added
 pub at_inserted : {X : Type 0} (es : List (ℕ × X)) (k : ℕ) (v : X) (n : ℕ) → at_number (insert_entry nat_cmp es k v) n ≡ cond (k == n) (Some v) (at_number es n)
 at_inserted {X} es k v n = by_tests es ∙ ap (λ b. cond b (Some v) (at_number es n)) (at_is n k)
   where
-  by_tests : (xs : List (ℕ × X)) → at_number (insert_entry nat_cmp xs k v) n ≡ cond (is_at (nat_cmp n) k) (Some v) (at_number xs n)
-  by_tests [] = refl
-  by_tests (e ∷ xs) = at_inserted_by (nat_cmp k e.0) e xs k v n refl (by_tests xs)
+    by_tests : (xs : List (ℕ × X)) → at_number (insert_entry nat_cmp xs k v) n ≡ cond (is_at (nat_cmp n) k) (Some v) (at_number xs n)
+    by_tests [] = refl
+    by_tests (e ∷ xs) = at_inserted_by (nat_cmp k e.0) e xs k v n refl (by_tests xs)
 
 there_by : {X : Type 0} (b rest : Bool) (x : X) (o : Option X) → is_some o ≡ rest → is_some (cond b (Some x) o) ≡ (b || rest)
 there_by true rest x o e = refl

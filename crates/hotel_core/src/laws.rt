@@ -74,7 +74,6 @@ pub fn entered_follows()
     ensures { (h : History) (room count number : ℕ) (link : Link) (at : Moment) → Reached h → count ≡ length (notes h room) + 1 → FollowsBy h (Entered room count number link at) }
 {}
 
-
 /// The rows after staff recoded a lock.
 pub fn recoded_follows()
     ensures { (h : History) (room count from to : ℕ) (at : Moment) → Reached h → count ≡ length (notes h room) + 1 → FollowsBy h (Recoded room count from to at) }
