@@ -13,3 +13,11 @@ pub fn easy_lifts()
     ensures check_out { (h : History) (party : ℕ) → Lifts h (command.CheckOut party) }
     ensures add_room { (h : History) (room : ℕ) (kind : List ℕ) → Lifts h (command.AddRoom room kind) }
 {}
+
+ghost use Rattle.hotel_core.specs.Found.{CurrentFound};
+
+/// A check-in and a transfer, where each room's current code is found at its place.
+pub fn issues_lift()
+    ensures check_in { (h : History) (party room : ℕ) → CurrentFound h → Lifts h (command.CheckIn party room) }
+    ensures transfer { (h : History) (party room : ℕ) → CurrentFound h → Lifts h (command.Transfer party room) }
+{}
