@@ -1,4 +1,5 @@
 use Rattle.hotel_core.proofs.LiftEasy.{begin_lifts, add_kind_lifts, next_day_lifts, cancel_lifts, check_out_lifts, add_room_lifts}
+use Rattle.hotel_core.proofs.LiftNights.{reserve_lifts}
 use Rattle.hotel_core.proofs.lift.easy_lifts.Goals as goal
 
 pub returns-clause-begin : goal.returns-clause-begin
@@ -18,3 +19,6 @@ returns-clause-check_out c = check_out_lifts
 
 pub returns-clause-add_room : goal.returns-clause-add_room
 returns-clause-add_room c = add_room_lifts
+
+pub returns-clause-reserve : goal.returns-clause-reserve
+returns-clause-reserve c = reserve_lifts
