@@ -14,11 +14,8 @@ use Rattle.hotel_core.specs.Guests.{insiders, inside, those_in}
 use Rattle.hotel_core.specs.Run.{Reached}
 use Rattle.hotel_core.specs.Change.{moved}
 use Rattle.hotel_core.specs.ChangeOf.{comes}
-use Rattle.hotel_core.proofs.Numbered.{at_is}
+use Rattle.hotel_core.proofs.Pairs.{pair_cmp_total, pair_is}
 use Rattle.hotel_core.proofs.KeysInOrder.{InOrder, has_key, in_order_inserted, in_order_removed, present_stays}
-
-pub pair_cmp_total : IsTotalOrder pair_cmp
-pair_cmp_total = then_total (on_total (λ p. p.0) nat_cmp_total) (on_total (λ p. p.1) nat_cmp_total)
 
 -- The cards inside rooms stand in order, none twice.
 pub insiders_in_order : (h : History) → Reached h → InOrder pair_cmp (insiders h)
@@ -26,15 +23,6 @@ insiders_in_order (start t) ok = subst (λ z. InOrder pair_cmp (insiders (start 
 insiders_in_order (h ▷ Entered room count number link at) ok = in_order_inserted pair_cmp pair_cmp_total (room, number) (insiders h) (insiders_in_order h ok.0)
 insiders_in_order (h ▷ Left room count number link at) ok = in_order_removed pair_cmp (room, number) (insiders h) (insiders_in_order h ok.0)
 insiders_in_order (h ▷ _) ok = insiders_in_order h ok.0
-
-both_equal : (a b : Ordering) → is_eq (ordering_then a b) ≡ (is_eq a && is_eq b)
-both_equal Less b = refl
-both_equal Equal b = refl
-both_equal Greater b = refl
-
--- the test of a pair
-pub pair_is : (room number : ℕ) (e : ℕ × ℕ) → is_eq (pair_cmp (room, number) e) ≡ ((e.0 == room) && (e.1 == number))
-pair_is room number e = both_equal (nat_cmp room e.0) (nat_cmp number e.1) ∙ ap (λ b. b && is_eq (nat_cmp number e.1)) (at_is room e.0) ∙ ap (λ b. (e.0 == room) && b) (at_is number e.1)
 
 those_by : (b : Bool) (n m : ℕ) (ns : List ℕ) → is_one_of n (when b (λ numbers. m ∷ numbers) ns) ≡ ((b && (m == n)) || is_one_of n ns)
 those_by true n m ns = refl

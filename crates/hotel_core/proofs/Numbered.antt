@@ -10,7 +10,9 @@ use Rattle.std.proofs.lemmas.Map.Lookups.{exact_unsigned}
 use Rattle.std.proofs.lemmas.Bool.Decides.{nat_tests}
 use Rattle.hotel_core.specs.Words.{is_one_of}
 use Rattle.hotel_core.specs.Rows.{at_number}
+use Rattle.std.proofs.lemmas.Cmp.{nat_cmp_total}
 use Rattle.hotel_core.proofs.RowsRooms.{eq_from, eq_self}
+use Rattle.hotel_core.proofs.Inserted.{found_inserted}
 
 -- the test of a look-up
 pub at_is : (n k : ℕ) → is_at (nat_cmp n) k ≡ (k == n)
@@ -31,42 +33,13 @@ is_true_else false f = absurd (f refl)
 pub apart_by : (a b : ℕ) → (a ≡ b → ⊥) → (a == b) ≡ false
 apart_by a b f = by (a == b) refl
   where
-    by : (t : Bool) → (a == b) ≡ t → (a == b) ≡ false
-    by true e = absurd (f (eq_from a b e))
-    by false e = e
-
-swap_tests : {X : Type 0} (a b : Bool) (x v rest : Option X) → (a ≡ true → b ≡ true → ⊥) → cond a x (cond b v rest) ≡ cond b v (cond a x rest)
-swap_tests true true x v rest h = absurd (h refl refl)
-swap_tests true false x v rest h = refl
-swap_tests false true x v rest h = refl
-swap_tests false false x v rest h = refl
-
-same_tests : {X : Type 0} (a : Bool) (x v rest : Option X) → cond a v rest ≡ cond a v (cond a x rest)
-same_tests true x v rest = refl
-same_tests false x v rest = refl
-
-less_apart : (k m : ℕ) → nat_cmp k m ≡ Greater → k ≡ m → ⊥
-less_apart k m g e = grind (arith, nat_tests)
-
-at_inserted_by : {X : Type 0} (o : Ordering) (e : ℕ × X) (es : List (ℕ × X)) (k : ℕ) (v : X) (n : ℕ) → nat_cmp k e.0 ≡ o
-    → at_number (insert_entry nat_cmp es k v) n ≡ cond (is_at (nat_cmp n) k) (Some v) (at_number es n)
-    → at_number (match_ordering o ((k, v) ∷ e ∷ es) ((e.0, v) ∷ es) (e ∷ insert_entry nat_cmp es k v)) n ≡ cond (is_at (nat_cmp n) k) (Some v) (at_number (e ∷ es) n)
-at_inserted_by Less e es k v n c ih = refl
-at_inserted_by {X} Equal e es k v n c ih =
-    let P : ℕ → Type 0 = λ z. cond (is_at (nat_cmp n) z) (Some v) (at_number es n) ≡ cond (is_at (nat_cmp n) k) (Some v) (cond (is_at (nat_cmp n) z) (Some e.1) (at_number es n)) in
-    subst P (exact_unsigned k e.0 c) (same_tests (is_at (nat_cmp n) k) (Some e.1) (Some v) (at_number es n))
-at_inserted_by {X} Greater e es k v n c ih =
-    ap (λ r. cond (is_at (nat_cmp n) e.0) (Some e.1) r) ih
-    ∙ swap_tests (is_at (nat_cmp n) e.0) (is_at (nat_cmp n) k) (Some e.1) (Some v) (at_number es n)
-    (λ s t. less_apart k e.0 c (eq_from k n (sym (at_is n k) ∙ t) ∙ sym (eq_from e.0 n (sym (at_is n e.0) ∙ s))))
+  by : (t : Bool) → (a == b) ≡ t → (a == b) ≡ false
+  by true e = absurd (f (eq_from a b e))
+  by false e = e
 
 -- what a table has after a row was added
 pub at_inserted : {X : Type 0} (es : List (ℕ × X)) (k : ℕ) (v : X) (n : ℕ) → at_number (insert_entry nat_cmp es k v) n ≡ cond (k == n) (Some v) (at_number es n)
-at_inserted {X} es k v n = by_tests es ∙ ap (λ b. cond b (Some v) (at_number es n)) (at_is n k)
-  where
-    by_tests : (xs : List (ℕ × X)) → at_number (insert_entry nat_cmp xs k v) n ≡ cond (is_at (nat_cmp n) k) (Some v) (at_number xs n)
-    by_tests [] = refl
-    by_tests (e ∷ xs) = at_inserted_by (nat_cmp k e.0) e xs k v n refl (by_tests xs)
+at_inserted es k v n = found_inserted nat_cmp_total es k v n ∙ ap (λ b. cond b (Some v) (at_number es n)) (at_is n k)
 
 there_by : {X : Type 0} (b rest : Bool) (x : X) (o : Option X) → is_some o ≡ rest → is_some (cond b (Some x) o) ≡ (b || rest)
 there_by true rest x o e = refl

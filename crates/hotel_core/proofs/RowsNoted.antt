@@ -34,13 +34,13 @@ entered_follows h room count number link at ok n =
     let c : RoomRow → RoomRow = noted_row (length (passed h' room)) (secured h' room) count in
     ap (λ rs. record (rows_of h') { rooms = rs })
     (one_changed (room_row h') (room_row h) c room
-    (λ r k t. ap (λ b. record (room_row h r k) {
-      lock_place = length (when (b && turns h room link) (and_last link.old_code) (passed h r));
-      secured = when (b && (link.new_code == current h room) && are_none (inside h room)) (λ _. true) (secured h r);
-      notes = length (when b (and_last note) (notes h r));
-    }) t)
-    (λ k. ap (λ m. record (room_row h' room k) { notes = m }) (ap (λ b. length (when b (and_last note) (notes h room))) (eq_self room) ∙ length_more (notes h room) note ∙ sym n))
-    (rooms h) (rooms_once h ok))
+      (λ r k t. ap (λ b. record (room_row h r k) {
+        lock_place = length (when (b && turns h room link) (and_last link.old_code) (passed h r));
+        secured = when (b && (link.new_code == current h room) && are_none (inside h room)) (λ _. true) (secured h r);
+        notes = length (when b (and_last note) (notes h r));
+      }) t)
+      (λ k. ap (λ m. record (room_row h' room k) { notes = m }) (ap (λ b. length (when b (and_last note) (notes h room))) (eq_self room) ∙ length_more (notes h room) note ∙ sym n))
+      (rooms h) (rooms_once h ok))
     ∙ ap (λ pairs. record (rows_of h') { rooms = room_changed room c (rows_of h).rooms; inside = pairs }) (card_came h room number ok)
 
 -- staff recode a lock
@@ -51,9 +51,9 @@ recoded_follows h room count from to at ok n =
     let c : RoomRow → RoomRow = noted_row (length (passed h' room)) (secured h' room) count in
     ap (λ rs. record (rows_of h') { rooms = rs })
     (one_changed (room_row h') (room_row h) c room
-    (λ r k t. ap (λ b. record (room_row h r k) {
-      lock_place = length (when b (λ codes. codes ++ from ∷ before to (awaited h r)) (passed h r));
-      notes = length (when b (and_last note) (notes h r));
-    }) t)
-    (λ k. ap (λ m. record (room_row h' room k) { notes = m }) (ap (λ b. length (when b (and_last note) (notes h room))) (eq_self room) ∙ length_more (notes h room) note ∙ sym n))
-    (rooms h) (rooms_once h ok))
+      (λ r k t. ap (λ b. record (room_row h r k) {
+        lock_place = length (when b (λ codes. codes ++ from ∷ before to (awaited h r)) (passed h r));
+        notes = length (when b (and_last note) (notes h r));
+      }) t)
+      (λ k. ap (λ m. record (room_row h' room k) { notes = m }) (ap (λ b. length (when b (and_last note) (notes h room))) (eq_self room) ∙ length_more (notes h room) note ∙ sym n))
+      (rooms h) (rooms_once h ok))

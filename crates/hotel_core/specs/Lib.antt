@@ -29,4 +29,5 @@ pub mod Reads
 pub mod Headline
 pub mod Lists
 pub mod Follow
+pub mod CodeLaws
 pub mod Tests

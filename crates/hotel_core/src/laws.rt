@@ -74,7 +74,26 @@ pub fn entered_follows()
     ensures { (h : History) (room count number : ℕ) (link : Link) (at : Moment) → Reached h → count ≡ length (notes h room) + 1 → FollowsBy h (Entered room count number link at) }
 {}
 
+
 /// The rows after staff recoded a lock.
 pub fn recoded_follows()
     ensures { (h : History) (room count from to : ℕ) (at : Moment) → Reached h → count ≡ length (notes h room) + 1 → FollowsBy h (Recoded room count from to at) }
+{}
+
+ghost use Rattle.std.specs.List.{slice_get};
+ghost use Rattle.std.specs.Prelude.{◌-◌, ◌≤◌};
+ghost use Rattle.hotel_core.specs.Lookups.{note_at};
+
+/// The note of a count that is 1 or more is the one of that place.
+pub fn note_found()
+    ensures { (h : History) → Reached h → (r count : ℕ) → 1 ≤ count → note_at (rows_of h) r count ≡ slice_get (notes h r) (count - 1) }
+{}
+
+ghost use Rattle.std.specs.Prelude.{Some};
+ghost use Rattle.hotel_core.specs.Guests.{registered};
+ghost use Rattle.hotel_core.specs.Cases.{room_of};
+
+/// A party is registered at a room exactly where it is in house there.
+pub fn registered_in_house()
+    ensures { (h : History) → Reached h → (r p : ℕ) → (registered h r ≡ Some p → room_of h p ≡ Some r) × (room_of h p ≡ Some r → registered h r ≡ Some p) }
 {}

@@ -1,0 +1,38 @@
+// Laws of codes, cards and locks along each history that can be reached.
+ghost use Rattle.hotel_core.specs.CodeLaws.{CardsCount, CardsHaveLinks, CodesHavePlaces, NewestAreLast, NextAreNew, OthersHaveNone, PartiesHaveLinks, PlacesHaveCodes, RoomsHaveCodes, StaysCount};
+ghost use Rattle.hotel_core.specs.Headline.{LedgerHolds, NoCodeTwice, TakesTheFirst};
+ghost use Rattle.hotel_core.specs.History.{History};
+ghost use Rattle.hotel_core.specs.Run.{Reached};
+
+/// Cards and stays are numbered from 1 on.
+pub fn numbers()
+    ensures of_cards { (h : History) → Reached h → CardsCount h }
+    ensures of_stays { (h : History) → Reached h → StaysCount h }
+    ensures next { (h : History) → Reached h → NextAreNew h }
+{}
+
+/// A room has codes exactly where it is there.
+pub fn rooms_and_codes()
+    ensures there { (h : History) → Reached h → RoomsHaveCodes h }
+    ensures elsewhere { (h : History) → Reached h → OthersHaveNone h }
+{}
+
+/// The table of codes tells each code's room and place.
+pub fn places()
+    ensures told { (h : History) → Reached h → CodesHavePlaces h }
+    ensures true_places { (h : History) → Reached h → PlacesHaveCodes h }
+    ensures no_code_twice { (h : History) → Reached h → NoCodeTwice h }
+{}
+
+/// A link is two codes of a room, issued one after the other.
+pub fn links()
+    ensures of_cards { (h : History) → Reached h → CardsHaveLinks h }
+    ensures of_parties { (h : History) → Reached h → PartiesHaveLinks h }
+    ensures newest { (h : History) → Reached h → NewestAreLast h }
+{}
+
+/// Codes are conserved: passed, held and awaited ones are the issued ones, and an entry takes the first awaited one.
+pub fn conservation()
+    ensures ledger_holds { (h : History) → Reached h → LedgerHolds h }
+    ensures takes_the_first { (h : History) → Reached h → TakesTheFirst h }
+{}
