@@ -32,7 +32,7 @@ same_unless (c ∷ cs) (d ∷ ds) e f a = ap (λ x. unless (x ∷ cs) e) a.0 ∙
 same_unless [] (d ∷ ds) e f a = absurd a
 same_unless (c ∷ cs) [] e f a = absurd a
 
-after_checks : (h : History) (cs : List (Option Refusal)) (e : Outcome Event) → unless cs (as_change h e) ≡ as_change h (unless cs e)
+pub after_checks : (h : History) (cs : List (Option Refusal)) (e : Outcome Event) → unless cs (as_change h e) ≡ as_change h (unless cs e)
 after_checks h [] e = refl
 after_checks h (None ∷ cs) e = after_checks h cs e
 after_checks h (Some refusal ∷ cs) e = refl

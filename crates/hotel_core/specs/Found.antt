@@ -1,7 +1,6 @@
 -- What look-ups by place, by code and by count find in the rows of a history.
-use Rattle.std.specs.Prelude.{ℕ, ◌≡◌, ◌<◌, ◌≤◌, ◌+◌, ◌-◌, ◌==◌, Bool, true, List, [], ◌∷◌, Option, Some, None, length, drop}
+use Rattle.std.specs.Prelude.{ℕ, ◌≡◌, ◌+◌, ◌-◌, ◌==◌, Bool, true, Some, length}
 use Rattle.keycard_rules.specs.declared.card.Link.{Link}
-use Rattle.keycard_rules.specs.Note.{Note}
 use Rattle.hotel_core.specs.Words.{is_one_of}
 use Rattle.hotel_core.specs.Event.{Moment, Entered, Recoded}
 use Rattle.hotel_core.specs.History.{History, ◌▷◌}
@@ -9,16 +8,10 @@ use Rattle.hotel_core.specs.Issued.{issued, current}
 use Rattle.hotel_core.specs.Cards.{link_of_party}
 use Rattle.hotel_core.specs.Lock.{held}
 use Rattle.hotel_core.specs.Ledger.{passed, awaited}
-use Rattle.hotel_core.specs.Notes.{notes}
 use Rattle.hotel_core.specs.RowsOf.{rows_of}
 use Rattle.hotel_core.specs.Cases.{is_room, room_of, has_link, opens, holds}
-use Rattle.hotel_core.specs.Lookups.{code_at, note_at}
+use Rattle.hotel_core.specs.Lookups.{code_at}
 use Rattle.hotel_core.specs.OnRows.{place_on, is_awaited_on, home_link_on}
-
--- the first of these notes, where there is one
-abbrev pub first_note : List Note → Option Note
-first_note [] = None
-first_note (note ∷ notes) = Some note
 
 -- the code that a room's lock holds stands after those that it passed
 abbrev pub HeldFound : History → Type 0
@@ -27,10 +20,6 @@ HeldFound h = (r : ℕ) → is_room h r ≡ true → code_at (rows_of h) r (leng
 -- a room's current code stands last
 abbrev pub CurrentFound : History → Type 0
 CurrentFound h = (r : ℕ) → is_room h r ≡ true → code_at (rows_of h) r (length (issued h r) - 1) ≡ Some (current h r)
-
--- the note of a count is found where so many were taken
-abbrev pub NoteFound : History → Type 0
-NoteFound h = (r count : ℕ) → 1 ≤ count → note_at (rows_of h) r count ≡ first_note (drop (count - 1) (notes h r))
 
 -- a party in house has the link of its room's last two codes
 abbrev pub HomeLink : History → Type 0
@@ -54,3 +43,13 @@ AwaitedFound h = (room code : ℕ) → is_room h room ≡ true → is_awaited_on
 abbrev pub RecodedPlace : History → Type 0
 RecodedPlace h = (room count from to : ℕ) (at : Moment) → is_room h room ≡ true → holds h room from ≡ true → is_one_of to (awaited h room) ≡ true
     → place_on (rows_of h) to ≡ length (passed (h ▷ Recoded room count from to at) room)
+
+-- What look-ups of codes find.
+pub record CodesFound (h : History) : Type 0 where
+  pub held : HeldFound h
+  pub current : CurrentFound h
+  pub awaited : AwaitedFound h
+  pub home_link : HomeLink h
+  pub entered_place : EnteredPlace h
+  pub entered_current : EnteredCurrent h
+  pub recoded_place : RecodedPlace h

@@ -15,10 +15,12 @@ pub fn easy_lifts()
     ensures add_room { (h : History) (room : ℕ) (kind : List ℕ) → Lifts h (command.AddRoom room kind) }
 {}
 
-ghost use Rattle.hotel_core.specs.Found.{CurrentFound};
+ghost use Rattle.hotel_core.specs.declared.command.Command.{Command};
+ghost use Rattle.hotel_core.specs.Found.{CodesFound};
+ghost use Rattle.hotel_core.specs.Lift.{IsCounted};
+ghost use Rattle.hotel_core.specs.Run.{Reached};
 
-/// A check-in and a transfer, where each room's current code is found at its place.
-pub fn issues_lift()
-    ensures check_in { (h : History) (party room : ℕ) → CurrentFound h → Lifts h (command.CheckIn party room) }
-    ensures transfer { (h : History) (party room : ℕ) → CurrentFound h → Lifts h (command.Transfer party room) }
+/// Every command, where look-ups of codes find what the history says.
+pub fn answers_lift()
+    ensures { (h : History) (command : Command) → Reached h → CodesFound h → IsCounted command → Lifts h command }
 {}
