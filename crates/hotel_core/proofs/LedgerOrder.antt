@@ -65,7 +65,8 @@ turned_case false h r link ok t same l a =
     let e = eq_from (held h r) link.new_code (holds_new (held h r == link.new_code) (held h r == link.old_code) link.new_code t a) in
     ap (λ z. passed h r ++ z ∷ awaited h r) (sym e) ∙ same
 
-entered_case : (b : Bool) (h : History) (room r : ℕ) (link : Link) → (b ≡ true → room ≡ r) → Reached h → InOrder h r → IsLink h link → opens h room link ≡ true
+-- an entry at a room keeps the order of its codes
+pub entered_case : (b : Bool) (h : History) (room r : ℕ) (link : Link) → (b ≡ true → room ≡ r) → Reached h → InOrder h r → IsLink h link → opens h room link ≡ true
     → when (b && turns h room link) (and_last link.old_code) (passed h r) ++ when b (λ _. link.new_code) (held h r) ∷ when (b && turns h room link) (without link.new_code) (awaited h r) ≡ issued h r
 entered_case true h room r link here ok same l a =
     turned_case (turns h room link) h r link ok (ap (λ z. turns h z link) (sym (here refl))) same l (ap (λ z. opens h z link) (sym (here refl)) ∙ a)

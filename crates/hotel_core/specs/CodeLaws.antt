@@ -11,6 +11,8 @@ use Rattle.hotel_core.specs.Ledger.{passed, awaited}
 use Rattle.hotel_core.specs.Cards.{cards, newest_link, link_of_party}
 use Rattle.hotel_core.specs.Stays.{stays}
 use Rattle.hotel_core.specs.SoundRooms.{count_up}
+use Rattle.hotel_core.specs.RowsOf.{rows_of}
+use Rattle.hotel_core.specs.Lookups.{code_at}
 use Rattle.hotel_core.specs.Cases.{is_room, next_card, next_party}
 
 -- The cards' numbers are 1, 2 and so on.
@@ -66,3 +68,7 @@ PartiesHaveLinks h = (party : ℕ) (link : Link) → link_of_party h party ≡ S
 -- The newest link of a room is its last two codes.
 abbrev pub NewestAreLast : History → Type 0
 NewestAreLast h = (r : ℕ) (link : Link) → newest_link h r ≡ Some link → (front : List ℕ) × (issued h r ≡ front ++ link.old_code ∷ link.new_code ∷ [])
+
+-- The search for the place of a room's code finds this code.
+abbrev pub CodesAreFound : History → Type 0
+CodesAreFound h = (r : ℕ) (before : List ℕ) (code : ℕ) (later : List ℕ) → issued h r ≡ before ++ code ∷ later → code_at (rows_of h) r (length before) ≡ Some code

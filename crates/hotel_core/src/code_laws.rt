@@ -1,6 +1,6 @@
 // Laws of codes, cards and locks along each history that can be reached.
-ghost use Rattle.hotel_core.specs.CodeLaws.{CardsCount, CardsHaveLinks, CodesHavePlaces, NewestAreLast, NextAreNew, OthersHaveNone, PartiesHaveLinks, PlacesHaveCodes, RoomsHaveCodes, StaysCount};
-ghost use Rattle.hotel_core.specs.Headline.{LedgerHolds, NoCodeTwice, TakesTheFirst};
+ghost use Rattle.hotel_core.specs.CodeLaws.{CardsCount, CardsHaveLinks, CodesAreFound, CodesHavePlaces, NewestAreLast, NextAreNew, OthersHaveNone, PartiesHaveLinks, PlacesHaveCodes, RoomsHaveCodes, StaysCount};
+ghost use Rattle.hotel_core.specs.Headline.{LedgerHolds, NewestOpens, NoCodeTwice, OpensOwnRoom, TakesTheFirst};
 ghost use Rattle.hotel_core.specs.History.{History};
 ghost use Rattle.hotel_core.specs.Run.{Reached};
 
@@ -35,4 +35,15 @@ pub fn links()
 pub fn conservation()
     ensures ledger_holds { (h : History) → Reached h → LedgerHolds h }
     ensures takes_the_first { (h : History) → Reached h → TakesTheFirst h }
+{}
+
+/// A card opens locks of its own room alone, and the newest link opens where at most one code is awaited.
+pub fn opening()
+    ensures opens_own_room { (h : History) → Reached h → OpensOwnRoom h }
+    ensures newest_opens { (h : History) → Reached h → NewestOpens h }
+{}
+
+/// A search by room and place finds the code that stands there.
+pub fn places_found()
+    ensures { (h : History) → Reached h → CodesAreFound h }
 {}
