@@ -1,6 +1,6 @@
 -- A code at a place of a list.
-use Rattle.std.proofs.Common.{ℕ, zero, suc, ◌≡◌, ◌+◌, Bool, true, false, cond, List, [], ◌∷◌, ◌++◌, length, ◌⊎◌, inl, inr, refl, ap, sym, ◌∙◌, arith}
-use Rattle.std.specs.Prelude.{◌==◌, ◌||◌}
+use Rattle.std.proofs.Common.{ℕ, ◌≡◌, ◌+◌, Bool, true, false, cond, List, [], ◌∷◌, ◌++◌, length, ◌⊎◌, inl, inr, refl, ap, sym, ◌∙◌, arith}
+use Rattle.std.specs.Prelude.{◌==◌}
 use Rattle.std.proofs.lemmas.Bool.{false≢true}
 use Rattle.hotel_core.specs.Words.{is_one_of, before, after, without, last_of}
 use Rattle.hotel_core.proofs.Tests.{eq_from, eq_self, or_second}

@@ -43,15 +43,15 @@ passed_all [] o e h = (tt, h)
 passed_all (Some refusal ∷ checks) o e h = cc
 passed_all (None ∷ checks) o e h = let p = passed_all checks o e h in ((refl, p.0), p.1)
 
-needed : (b : Bool) (r : Refusal) → needs b r ≡ None → b ≡ true
+pub needed : (b : Bool) (r : Refusal) → needs b r ≡ None → b ≡ true
 needed true r h = refl
 needed false r h = cc
 
-barred : (b : Bool) (r : Refusal) → bars b r ≡ None → b ≡ false
+pub barred : (b : Bool) (r : Refusal) → bars b r ≡ None → b ≡ false
 barred false r h = refl
 barred true r h = cc
 
-from_draw : (o : Option ℕ) (f : ℕ → Event) (e : Event) → option_map f o ≡ Some e → (code : ℕ) × (o ≡ Some code) × (f code ≡ e)
+pub from_draw : (o : Option ℕ) (f : ℕ → Event) (e : Event) → option_map f o ≡ Some e → (code : ℕ) × (o ≡ Some code) × (f code ≡ e)
 from_draw (Some code) f e h = (code, refl, cc)
 from_draw None f e h = cc
 
@@ -66,7 +66,7 @@ unfolding draw_from
 drawn_fresh h [] c e = cc
 drawn_fresh h (word ∷ later) c e = fresh_case h word later c (is_among (issued_codes h) (code_of word)) refl (drawn_fresh h later c) e
 
-same_event : {a b : Event} → Some a ≡ Some b → a ≡ b
+pub same_event : {a b : Event} → Some a ≡ Some b → a ≡ b
 same_event h = cc
 
 no_refusal : (o : Option ℕ) → option_map KindFull o ≡ None → o ≡ None

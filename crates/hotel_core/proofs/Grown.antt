@@ -1,5 +1,5 @@
 -- How what is read off a history changes with one more event.
-use Rattle.std.proofs.Common.{ℕ, ◌≡◌, Bool, true, false, refl, sym, ap, subst, ◌∙◌, List, [], ◌∷◌, ◌++◌}
+use Rattle.std.proofs.Common.{ℕ, ◌≡◌, Bool, true, false, refl, sym, ap, subst, ◌∙◌, List, []}
 use Rattle.hotel_core.specs.Words.{when, and_last}
 use Rattle.hotel_core.specs.Rows.{Rows, no_rows}
 use Rattle.hotel_core.specs.Event.{Event}

@@ -1,7 +1,7 @@
 -- Who is registered where, and who is in house where: two functions that say the same.
 use Rattle.std.proofs.Common.{ℕ, ◌≡◌, Bool, true, false, cond, Option, Some, None, refl, ap, sym, ◌∙◌}
 use Rattle.std.specs.Prelude.{◌==◌}
-use Rattle.hotel_core.specs.Words.{when, is_that}
+use Rattle.hotel_core.specs.Words.{when}
 use Rattle.hotel_core.specs.Guests.{leaves}
 use Rattle.hotel_core.proofs.RowsRooms.{eq_from, eq_self, eq_flip}
 use Rattle.hotel_core.proofs.Numbered.{true_is_not_false}
@@ -21,9 +21,9 @@ not_none s n = cc
 pub stays_on : (party : ℕ) (o : Option ℕ) (p : ℕ) → leaves party o ≡ Some p → (o ≡ Some p) × ((party == p) ≡ false)
 stays_on party (Some q) p h = by (q == party) refl h
   where
-  by : (b : Bool) → (q == party) ≡ b → when b (λ _. None) (Some q) ≡ Some p → (Some q ≡ Some p) × ((party == p) ≡ false)
-  by true e f = cc
-  by false e f = (f, eq_flip p party (ap (λ z. z == party) (sym (same_number f)) ∙ e))
+    by : (b : Bool) → (q == party) ≡ b → when b (λ _. None) (Some q) ≡ Some p → (Some q ≡ Some p) × ((party == p) ≡ false)
+    by true e f = cc
+    by false e f = (f, eq_flip p party (ap (λ z. z == party) (sym (same_number f)) ∙ e))
 stays_on party None p h = cc
 
 -- another party stays
@@ -34,9 +34,9 @@ others_stay party p f = ap (λ b. when b (λ _. None) (Some p)) (eq_flip party p
 pub not_leaving : (party : ℕ) (o : Option ℕ) → (o ≡ Some party → ⊥) → leaves party o ≡ o
 not_leaving party (Some q) f = by (q == party) refl
   where
-  by : (b : Bool) → (q == party) ≡ b → when b (λ _. None) (Some q) ≡ Some q
-  by true e = absurd (f (ap (λ z. Some z) (eq_from q party e)))
-  by false e = refl
+    by : (b : Bool) → (q == party) ≡ b → when b (λ _. None) (Some q) ≡ Some q
+    by true e = absurd (f (ap (λ z. Some z) (eq_from q party e)))
+    by false e = refl
 not_leaving party None f = refl
 
 -- the party leaves its room

@@ -1,15 +1,14 @@
 -- A party is registered at a room exactly where it is in house there.
 use Rattle.std.proofs.Common.{ℕ, ◌≡◌, Bool, true, false, cond, Option, Some, None, refl, ap, sym, ◌∙◌, subst}
 use Rattle.std.specs.Prelude.{◌==◌, is_some}
-use Rattle.hotel_nights.specs.declared.stay.Stay.{Stay}
 use Rattle.hotel_nights.specs.declared.stay.StayState.TheVariants as state
-use Rattle.hotel_core.specs.Words.{when, said_of}
+use Rattle.hotel_core.specs.Words.{when}
 use Rattle.hotel_core.specs.Rows.{at_number}
 use Rattle.hotel_core.specs.Event.{Reserved, Cancelled, CheckIn, Transfer, CheckOut}
 use Rattle.hotel_core.specs.History.{History, start, ◌▷◌}
 use Rattle.hotel_core.specs.Guests.{registered, leaves}
 use Rattle.hotel_core.specs.Stays.{stays}
-use Rattle.hotel_core.specs.Cases.{room_of, is_party, is_booked, is_taken, is_booked_state}
+use Rattle.hotel_core.specs.Cases.{room_of, is_party, is_booked}
 use Rattle.hotel_core.specs.Run.{Reached}
 use Rattle.hotel_core.proofs.RowsRooms.{eq_from}
 use Rattle.hotel_core.proofs.Numbered.{is_there}
@@ -18,7 +17,7 @@ use Rattle.hotel_core.proofs.RoomNumbers.{needed_before}
 use Rattle.hotel_core.proofs.StayStates.{home_of, home_changed, home_added, booked_has_no_home}
 use Rattle.hotel_core.proofs.Homes.{Match, match_left, match_came, match_same, not_leaving}
 
-none_is : (o : Option ℕ) → is_some o ≡ false → o ≡ None
+pub none_is : (o : Option ℕ) → is_some o ≡ false → o ≡ None
 none_is (Some x) h = cc
 none_is None h = refl
 
@@ -47,7 +46,7 @@ check_in_matches h party room number code ok m =
     let nowhere : room_of h party ≡ None = booked_nowhere h party n.2 in
     match_same (λ r. when (room == r) (λ _. Some party) (leaves party (registered h r))) (registered (h ▷ CheckIn party room number code)) _ _
     (match_came party room (registered h) (room_of h) (room_of (h ▷ CheckIn party room number code)) m (none_is (registered h room) n.4)
-      (λ p. home_changed party (state.InHouse room) (stays h) p (has_stay h party n.1)))
+    (λ p. home_changed party (state.InHouse room) (stays h) p (has_stay h party n.1)))
     (λ r. ap (when (room == r) (λ _. Some party)) (sym (not_leaving party (registered h r) (λ s. not_some nowhere (m.forth r party s)))))
     (λ p. refl)
 
@@ -58,12 +57,12 @@ homes_match (h ▷ Reserved party guest kind arrive depart) ok =
     let free : at_number (stays h) party ≡ None = subst (λ z. at_number (stays h) z ≡ None) (sym (needed_before h (Reserved party guest kind arrive depart) ok).1) (next_party_free h ok.0) in
     match_same (registered h) (registered h) (room_of h) (room_of (h ▷ Reserved party guest kind arrive depart)) (homes_match h ok.0) (λ r. refl)
     (λ p. home_added party (record { party = party; guest = guest; kind = kind; arrive = arrive; depart = depart; state = state.Booked }) (stays h) p
-      ∙ none_either (party == p) (room_of h p) (λ t. ap home_of (ap (at_number (stays h)) (sym (eq_from party p t)) ∙ free)))
+    ∙ none_either (party == p) (room_of h p) (λ t. ap home_of (ap (at_number (stays h)) (sym (eq_from party p t)) ∙ free)))
 homes_match (h ▷ Cancelled party) ok =
     let n = needed_before h (Cancelled party) ok in
     match_same (registered h) (registered h) (room_of h) (room_of (h ▷ Cancelled party)) (homes_match h ok.0) (λ r. refl)
     (λ p. home_changed party state.Cancelled (stays h) p (has_stay h party n.0)
-      ∙ none_either (party == p) (room_of h p) (λ t. ap (room_of h) (sym (eq_from party p t)) ∙ booked_nowhere h party n.1))
+    ∙ none_either (party == p) (room_of h p) (λ t. ap (room_of h) (sym (eq_from party p t)) ∙ booked_nowhere h party n.1))
 homes_match (h ▷ CheckIn party room number code) ok = check_in_matches h party room number code ok (homes_match h ok.0)
 homes_match (h ▷ Transfer party room number code) ok =
     let n = needed_before h (Transfer party room number code) ok in

@@ -6,7 +6,7 @@ use Rattle.keycard_rules.specs.declared.card.Link.{Link}
 use Rattle.keycard_rules.specs.Lock.{turn}
 use Rattle.hotel_core.specs.Words.{when, and_last, is_one_of, before, after, without, said_of}
 use Rattle.hotel_core.specs.Rows.{at_number}
-use Rattle.hotel_core.specs.Event.{Event, Install, CheckIn, Transfer, Entered, Recoded}
+use Rattle.hotel_core.specs.Event.{Install, CheckIn, Transfer, Entered, Recoded}
 use Rattle.hotel_core.specs.History.{History, start, ◌▷◌}
 use Rattle.hotel_core.specs.Issued.{issued}
 use Rattle.hotel_core.specs.Cards.{cards}
@@ -14,11 +14,11 @@ use Rattle.hotel_core.specs.Lock.{held}
 use Rattle.hotel_core.specs.Ledger.{passed, awaited, turns}
 use Rattle.hotel_core.specs.Stays.{rooms}
 use Rattle.hotel_core.specs.Notes.{same_link}
-use Rattle.hotel_core.specs.Cases.{is_room, is_card, has_link, opens, holds}
+use Rattle.hotel_core.specs.Cases.{is_room, is_card, has_link, opens}
 use Rattle.hotel_core.specs.Run.{Reached}
 use Rattle.hotel_core.specs.Headline.{LedgerHolds, TakesTheFirst}
-use Rattle.hotel_core.specs.CodeLaws.{IsLink, IsLinkAt}
-use Rattle.hotel_core.proofs.Tests.{eq_from, eq_self, not_both, and_true, or_second, or_true}
+use Rattle.hotel_core.specs.CodeLaws.{IsLink}
+use Rattle.hotel_core.proofs.Tests.{eq_from, not_both, and_true, or_second}
 use Rattle.hotel_core.proofs.Tables.{key_inserted, row_of_key}
 use Rattle.hotel_core.proofs.CodeLists.{first_out, parted}
 use Rattle.hotel_core.proofs.Grown.{at_start, may_follow}

@@ -1,10 +1,10 @@
 -- Nothing happened at a number that is no room's.
-use Rattle.std.proofs.Common.{ℕ, ◌≡◌, Bool, true, false, Option, Some, None, List, [], ◌∷◌, refl, ap, sym, ◌∙◌, subst}
-use Rattle.std.specs.Prelude.{◌==◌, ◌&&◌, ◌||◌, ◌++◌}
+use Rattle.std.proofs.Common.{ℕ, ◌≡◌, true, false, Some, None, List, [], ◌∷◌, refl, ap, sym, ◌∙◌, subst}
+use Rattle.std.specs.Prelude.{◌==◌, ◌&&◌, ◌++◌}
 use Rattle.keycard_rules.specs.Note.{Note}
 use Rattle.keycard_rules.specs.declared.note.Act.TheVariants as act
 use Rattle.hotel_core.specs.Words.{when, and_last, before}
-use Rattle.hotel_core.specs.Event.{Event, Install, CheckIn, Transfer, CheckOut, Entered, Left, Recoded}
+use Rattle.hotel_core.specs.Event.{Install, CheckIn, Transfer, CheckOut, Entered, Left, Recoded}
 use Rattle.hotel_core.specs.History.{History, start, ◌▷◌}
 use Rattle.hotel_core.specs.Issued.{issued}
 use Rattle.hotel_core.specs.Ledger.{passed, turns, awaited}

@@ -1,17 +1,14 @@
 -- Tables by number: what a look-up finds, which numbers are there, and what an added row changes.
-use Rattle.std.proofs.Common.{ℕ, ◌≡◌, Bool, true, false, cond, Option, Some, None, List, [], ◌∷◌, ◌⊎◌, inl, inr, refl, ap, sym, ◌∙◌, subst, arith}
+use Rattle.std.proofs.Common.{ℕ, ◌≡◌, Bool, true, false, cond, Option, Some, None, List, [], ◌∷◌, refl, ap, sym, ◌∙◌, arith}
 use Rattle.std.specs.Prelude.{◌==◌, ◌||◌, is_some, map, option_map}
-use Rattle.std.specs.Ordering.{nat_cmp, is_eq, match_ordering}
-use Rattle.std.specs.declared.cmp.Ordering.{Ordering}
-use Rattle.std.specs.declared.cmp.Ordering.TheVariants.{Less, Equal, Greater}
+use Rattle.std.specs.Ordering.{nat_cmp}
 use Rattle.std.specs.BTreeMap.{is_at, insert_entry}
 use Rattle.std.specs.Map.{keys_of}
-use Rattle.std.proofs.lemmas.Map.Lookups.{exact_unsigned}
 use Rattle.std.proofs.lemmas.Bool.Decides.{nat_tests}
 use Rattle.hotel_core.specs.Words.{is_one_of}
 use Rattle.hotel_core.specs.Rows.{at_number}
 use Rattle.std.proofs.lemmas.Cmp.{nat_cmp_total}
-use Rattle.hotel_core.proofs.RowsRooms.{eq_from, eq_self}
+use Rattle.hotel_core.proofs.RowsRooms.{eq_from}
 use Rattle.hotel_core.proofs.Inserted.{found_inserted}
 
 -- the test of a look-up
@@ -33,9 +30,9 @@ is_true_else false f = absurd (f refl)
 pub apart_by : (a b : ℕ) → (a ≡ b → ⊥) → (a == b) ≡ false
 apart_by a b f = by (a == b) refl
   where
-  by : (t : Bool) → (a == b) ≡ t → (a == b) ≡ false
-  by true e = absurd (f (eq_from a b e))
-  by false e = e
+    by : (t : Bool) → (a == b) ≡ t → (a == b) ≡ false
+    by true e = absurd (f (eq_from a b e))
+    by false e = e
 
 -- what a table has after a row was added
 pub at_inserted : {X : Type 0} (es : List (ℕ × X)) (k : ℕ) (v : X) (n : ℕ) → at_number (insert_entry nat_cmp es k v) n ≡ cond (k == n) (Some v) (at_number es n)

@@ -1,5 +1,5 @@
 -- The cards and the stays are numbered 1, 2 and so on.
-use Rattle.std.proofs.Common.{ℕ, ◌≡◌, ◌+◌, Bool, true, false, cond, Option, Some, None, List, [], ◌∷◌, length, refl, ap, sym, ◌∙◌, arith}
+use Rattle.std.proofs.Common.{ℕ, ◌≡◌, ◌+◌, Bool, true, false, cond, Option, Some, None, List, [], ◌∷◌, length, refl, ap, ◌∙◌, arith}
 use Rattle.std.specs.Prelude.{◌==◌}
 use Rattle.std.specs.Map.{keys_of}
 use Rattle.keycard_rules.specs.declared.card.Card.{Card}
@@ -9,7 +9,7 @@ use Rattle.hotel_nights.specs.declared.stay.StayState.{StayState}
 use Rattle.hotel_nights.specs.declared.stay.StayState.TheVariants as state
 use Rattle.hotel_core.specs.SoundRooms.{count_up}
 use Rattle.hotel_core.specs.Rows.{at_number}
-use Rattle.hotel_core.specs.Event.{Event, Reserved, Cancelled, CheckIn, Transfer, Spare, CheckOut}
+use Rattle.hotel_core.specs.Event.{Reserved, Cancelled, CheckIn, Transfer, Spare, CheckOut}
 use Rattle.hotel_core.specs.History.{History, start, ◌▷◌}
 use Rattle.hotel_core.specs.Cards.{cards, card_of, with_spare, link_of_party, link_to}
 use Rattle.hotel_core.specs.Stays.{stays, in_state, now_is}

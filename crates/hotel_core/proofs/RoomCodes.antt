@@ -1,9 +1,8 @@
 -- A room has codes exactly where it is there.
 use Rattle.std.proofs.Common.{ℕ, ◌≡◌, Bool, true, false, List, [], ◌∷◌, ◌++◌, inl, inr, refl, ap, sym, ◌∙◌}
-use Rattle.std.specs.Prelude.{◌==◌, ◌||◌, ◌&&◌}
-use Rattle.keycard_rules.specs.declared.card.Link.{Link}
-use Rattle.hotel_core.specs.Words.{when, and_last, is_one_of, without, before, after}
-use Rattle.hotel_core.specs.Event.{Event, Install, CheckIn, Transfer, Entered, Recoded}
+use Rattle.std.specs.Prelude.{◌==◌, ◌&&◌}
+use Rattle.hotel_core.specs.Words.{when, and_last, without, before, after}
+use Rattle.hotel_core.specs.Event.{Install, CheckIn, Transfer, Entered, Recoded}
 use Rattle.hotel_core.specs.History.{History, start, ◌▷◌}
 use Rattle.hotel_core.specs.Issued.{issued}
 use Rattle.hotel_core.specs.Ledger.{passed, awaited, turns}

@@ -7,14 +7,14 @@ use Rattle.keycard_rules.specs.declared.card.Card.{Card}
 use Rattle.keycard_rules.specs.declared.card.Link.{Link}
 use Rattle.hotel_core.specs.Words.{when, and_last, last_of}
 use Rattle.hotel_core.specs.Rows.{at_number}
-use Rattle.hotel_core.specs.Event.{Event, Install, CheckIn, Transfer, Spare}
+use Rattle.hotel_core.specs.Event.{Install, CheckIn, Transfer, Spare}
 use Rattle.hotel_core.specs.History.{History, start, ◌▷◌}
 use Rattle.hotel_core.specs.Issued.{issued, current}
 use Rattle.hotel_core.specs.Cards.{cards, card_of, with_spare, link_of_party, link_to, newest_link}
 use Rattle.hotel_core.specs.Cases.{is_room}
 use Rattle.hotel_core.specs.Run.{Reached}
 use Rattle.hotel_core.specs.CodeLaws.{IsLinkAt, IsLink, CardsHaveLinks, PartiesHaveLinks, NewestAreLast, HasCodes}
-use Rattle.hotel_core.proofs.Tests.{eq_from, eq_self, not_both}
+use Rattle.hotel_core.proofs.Tests.{eq_from, eq_self}
 use Rattle.hotel_core.proofs.Tables.{row_inserted}
 use Rattle.hotel_core.proofs.CodeLists.{last_split}
 use Rattle.hotel_core.proofs.Grown.{at_start, may_follow}

@@ -1,5 +1,5 @@
 -- The rows after a room was added, and after a party came to a room.
-use Rattle.std.proofs.Common.{ℕ, ◌≡◌, ◌+◌, Bool, true, false, Option, Some, None, List, [], ◌∷◌, refl, ap, sym, ◌∙◌, subst, length}
+use Rattle.std.proofs.Common.{ℕ, ◌≡◌, ◌+◌, Bool, true, false, Option, Some, None, List, [], ◌∷◌, refl, ap, sym, ◌∙◌, length}
 use Rattle.std.specs.Prelude.{◌==◌}
 use Rattle.std.specs.Ordering.{nat_cmp, match_ordering}
 use Rattle.std.specs.declared.cmp.Ordering.{Ordering}
@@ -7,15 +7,11 @@ use Rattle.std.specs.declared.cmp.Ordering.TheVariants.{Less, Equal, Greater}
 use Rattle.std.specs.BTreeMap.{insert_entry}
 use Rattle.std.proofs.lemmas.Map.Lookups.{exact_unsigned}
 use Rattle.hotel_core.specs.declared.rows.RoomRow.{RoomRow}
-use Rattle.hotel_core.specs.declared.rows.CodeRow.{CodeRow}
 use Rattle.hotel_core.specs.Words.{when, and_last, said_of}
-use Rattle.hotel_core.specs.Rows.{Rows, at_number}
 use Rattle.hotel_core.specs.Event.{Install, CheckIn}
 use Rattle.hotel_core.specs.History.{History, ◌▷◌}
 use Rattle.hotel_core.specs.Issued.{issued, all_issued}
-use Rattle.hotel_core.specs.Ledger.{passed}
 use Rattle.hotel_core.specs.Guests.{registered, secured}
-use Rattle.hotel_core.specs.Notes.{notes}
 use Rattle.hotel_core.specs.Stays.{rooms}
 use Rattle.hotel_core.specs.RowsOf.{room_row, rows_of}
 use Rattle.hotel_core.specs.Cases.{is_room}
@@ -31,7 +27,7 @@ new_room_by : (o : Ordering) (f g : ℕ → List ℕ → RoomRow) (room : ℕ) (
     → nat_cmp room e.0 ≡ o → (e.0 == room) ≡ false → f e.0 e.1 ≡ g e.0 e.1 → rows_by f es ≡ rows_by g es
     → rows_by f (insert_entry nat_cmp es room kind) ≡ insert_entry nat_cmp (rows_by g es) room (f room kind)
     → rows_by f (match_ordering o ((room, kind) ∷ e ∷ es) ((e.0, kind) ∷ es) (e ∷ insert_entry nat_cmp es room kind))
-      ≡ match_ordering o ((room, f room kind) ∷ (e.0, g e.0 e.1) ∷ rows_by g es) ((e.0, f room kind) ∷ rows_by g es) ((e.0, g e.0 e.1) ∷ insert_entry nat_cmp (rows_by g es) room (f room kind))
+    ≡ match_ordering o ((room, f room kind) ∷ (e.0, g e.0 e.1) ∷ rows_by g es) ((e.0, f room kind) ∷ rows_by g es) ((e.0, g e.0 e.1) ∷ insert_entry nat_cmp (rows_by g es) room (f room kind))
 new_room_by Less f g room kind e es c n here rest ih =
     ap (λ row. (room, f room kind) ∷ (e.0, row) ∷ rows_by f es) here ∙ ap (λ zs. (room, f room kind) ∷ (e.0, g e.0 e.1) ∷ zs) rest
 new_room_by Equal f g room kind e es c n here rest ih =
@@ -49,7 +45,7 @@ new_room f g room kind a (e ∷ es) n =
 -- rows of a room that agree
 row_is : (room : ℕ) (kind : List ℕ) (place place' codes codes' : ℕ) (s s' : Bool) (p p' : Option ℕ) (n n' : ℕ) → place ≡ place' → codes ≡ codes' → s ≡ s' → p ≡ p' → n ≡ n'
     → (let x : RoomRow = record { room = room; kind = kind; lock_place = place; codes = codes; secured = s; party = p; notes = n } in x)
-      ≡ record { room = room; kind = kind; lock_place = place'; codes = codes'; secured = s'; party = p'; notes = n' }
+    ≡ record { room = room; kind = kind; lock_place = place'; codes = codes'; secured = s'; party = p'; notes = n' }
 row_is room kind place place' codes codes' s s' p p' n n' a b c d e = cc
 
 -- the row of a room that was just added
@@ -69,16 +65,16 @@ install_follows h room code kind ok none =
     let h' : History = h ▷ Install room kind code in
     ap (λ rs. record (rows_of h') { rooms = rs })
     (new_room (room_row h') (room_row h) room kind
-      (λ r k t. ap (λ b. record (room_row h r k) { codes = length (when b (and_last code) (issued h r)); secured = when b (λ _. false) (secured h r) }) t)
-      (rooms h) (apart_from room (rooms h) none)
-      ∙ ap (λ row. insert_entry nat_cmp (rows_of h).rooms room row) (added_row h room code kind ok none))
+    (λ r k t. ap (λ b. record (room_row h r k) { codes = length (when b (and_last code) (issued h r)); secured = when b (λ _. false) (secured h r) }) t)
+    (rooms h) (apart_from room (rooms h) none)
+    ∙ ap (λ row. insert_entry nat_cmp (rows_of h).rooms room row) (added_row h room code kind ok none))
     ∙ ap (λ (xs : List ℕ). record (rows_of h) {
       rooms = insert_entry nat_cmp (rows_of h).rooms room (record { room = room; kind = kind; lock_place = 0; codes = 1; secured = false; party = None; notes = 0 });
       codes = insert_entry nat_cmp (all_issued h) code (record { room = room; place = length xs });
     }) (nothing_issued h ok room none)
 
 -- how many codes the row of a room that is there says
-codes_said : (h : History) (room : ℕ) → is_room h room ≡ true → codes_of (rows_of h) room ≡ length (issued h room)
+pub codes_said : (h : History) (room : ℕ) → is_room h room ≡ true → codes_of (rows_of h) room ≡ length (issued h room)
 codes_said h room e = ap (λ o. said_of o 0 (λ row. row.codes)) (room_there h room e).2
 
 -- the row of a room to which a party came
@@ -91,17 +87,17 @@ check_in_follows h party room number code ok there =
     let h' : History = h ▷ CheckIn party room number code in
     ap (λ rs. record (rows_of h') { rooms = rs })
     (one_changed (room_row h') (room_row h) (came_to party) room
-      (λ r k t. ap (λ b. record (room_row h r k) {
-        codes = length (when b (and_last code) (issued h r));
-        secured = when b (λ _. false) (secured h r);
-        party = when b (λ _. Some party) (registered h r);
-      }) t)
-      (λ k. ap (λ b. record (room_row h room k) {
-        codes = length (when b (and_last code) (issued h room));
-        secured = when b (λ _. false) (secured h room);
-        party = when b (λ _. Some party) (registered h room);
-      }) (eq_self room) ∙ ap (λ n. record (room_row h room k) { codes = n; secured = false; party = Some party }) (length_more (issued h room) code))
-      (rooms h) (rooms_once h ok))
+    (λ r k t. ap (λ b. record (room_row h r k) {
+      codes = length (when b (and_last code) (issued h r));
+      secured = when b (λ _. false) (secured h r);
+      party = when b (λ _. Some party) (registered h r);
+    }) t)
+    (λ k. ap (λ b. record (room_row h room k) {
+      codes = length (when b (and_last code) (issued h room));
+      secured = when b (λ _. false) (secured h room);
+      party = when b (λ _. Some party) (registered h room);
+    }) (eq_self room) ∙ ap (λ n. record (room_row h room k) { codes = n; secured = false; party = Some party }) (length_more (issued h room) code))
+    (rooms h) (rooms_once h ok))
     ∙ ap (λ place. record (rows_of h') {
       rooms = room_changed room (came_to party) (rows_of h).rooms;
       codes = insert_entry nat_cmp (all_issued h) code (record { room = room; place = place });

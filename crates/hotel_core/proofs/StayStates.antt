@@ -10,7 +10,7 @@ use Rattle.hotel_core.specs.Words.{said_of}
 use Rattle.hotel_core.specs.Rows.{at_number}
 use Rattle.hotel_core.specs.Stays.{in_state, now_is}
 use Rattle.hotel_core.specs.Cases.{room_of_state, is_booked_state}
-use Rattle.hotel_core.proofs.RowsRooms.{eq_from, eq_self}
+use Rattle.hotel_core.proofs.RowsRooms.{eq_from}
 use Rattle.hotel_core.proofs.Numbered.{true_is_not_false, at_is, at_inserted}
 
 -- the room of a stay in house
@@ -31,30 +31,30 @@ changed_by false false false s stay rest later f g ih = ih
 
 one_of_two : (b : Bool) (party : ℕ) (s : StayState) (p : ℕ) (e : ℕ × Stay) (es : List (ℕ × Stay))
     → at_number (cond b ((e.0, now_is s e.1) ∷ es) (e ∷ in_state party s es)) p
-      ≡ cond b (cond (is_at (nat_cmp p) e.0) (Some (now_is s e.1)) (at_number es p)) (cond (is_at (nat_cmp p) e.0) (Some e.1) (at_number (in_state party s es) p))
+    ≡ cond b (cond (is_at (nat_cmp p) e.0) (Some (now_is s e.1)) (at_number es p)) (cond (is_at (nat_cmp p) e.0) (Some e.1) (at_number (in_state party s es) p))
 one_of_two true party s p e es = refl
 one_of_two false party s p e es = refl
 
 not_that : (party k p : ℕ) → (k == party) ≡ false → (k == p) ≡ true → (party == p) ≡ false
 not_that party k p f t = by (party == p) refl
   where
-  by : (b : Bool) → (party == p) ≡ b → (party == p) ≡ false
-  by true e = absurd (true_is_not_false (ap (λ z. k == z) (eq_from party p e) ∙ t) f)
-  by false e = e
+    by : (b : Bool) → (party == p) ≡ b → (party == p) ≡ false
+    by true e = absurd (true_is_not_false (ap (λ z. k == z) (eq_from party p e) ∙ t) f)
+    by false e = e
 
 -- what a look-up of a stay finds, after the one of a party changed its state
 pub stay_changed : (party : ℕ) (s : StayState) (es : List (ℕ × Stay)) (p : ℕ) → at_number (in_state party s es) p ≡ cond (party == p) (option_map (now_is s) (at_number es p)) (at_number es p)
 stay_changed party s [] p = by (party == p)
   where
-  by : (b : Bool) → ◌≡◌ {A = Option Stay} None (cond b None None)
-  by true = refl
-  by false = refl
+    by : (b : Bool) → ◌≡◌ {A = Option Stay} None (cond b None None)
+    by true = refl
+    by false = refl
 stay_changed party s (e ∷ es) p =
     one_of_two (e.0 == party) party s p e es
     ∙ changed_by (e.0 == party) (is_at (nat_cmp p) e.0) (party == p) s e.1 (at_number es p) (at_number (in_state party s es) p)
-      (λ t. at_is p e.0 ∙ ap (λ z. z == p) (eq_from e.0 party t))
-      (λ f t. not_that party e.0 p f (sym (at_is p e.0) ∙ t))
-      (stay_changed party s es p)
+    (λ t. at_is p e.0 ∙ ap (λ z. z == p) (eq_from e.0 party t))
+    (λ f t. not_that party e.0 p f (sym (at_is p e.0) ∙ t))
+    (stay_changed party s es p)
 
 home_by : (b : Bool) (s : StayState) (o : Option Stay) → home_of (cond b (option_map (now_is s) o) o) ≡ cond b (home_of (option_map (now_is s) o)) (home_of o)
 home_by true s o = refl

@@ -74,7 +74,6 @@ pub fn entered_follows()
     ensures { (h : History) (room count number : ℕ) (link : Link) (at : Moment) → Reached h → count ≡ length (notes h room) + 1 → FollowsBy h (Entered room count number link at) }
 {}
 
-
 /// The rows after staff recoded a lock.
 pub fn recoded_follows()
     ensures { (h : History) (room count from to : ℕ) (at : Moment) → Reached h → count ≡ length (notes h room) + 1 → FollowsBy h (Recoded room count from to at) }
@@ -96,4 +95,25 @@ ghost use Rattle.hotel_core.specs.Cases.{room_of};
 /// A party is registered at a room exactly where it is in house there.
 pub fn registered_in_house()
     ensures { (h : History) → Reached h → (r p : ℕ) → (registered h r ≡ Some p → room_of h p ≡ Some r) × (room_of h p ≡ Some r → registered h r ≡ Some p) }
+{}
+
+ghost use Rattle.hotel_core.specs.Cases.{is_in_house};
+ghost use Rattle.hotel_core.specs.Event.{Transfer, CheckOut};
+
+/// The rows after a party left for good.
+pub fn check_out_follows()
+    ensures { (h : History) (party : ℕ) → Reached h → is_in_house h party ≡ true → FollowsBy h (CheckOut party) }
+{}
+
+/// The rows after a party went to another room.
+pub fn transfer_follows()
+    ensures { (h : History) (party room number code : ℕ) → Reached h → is_room h room ≡ true → is_in_house h party ≡ true → FollowsBy h (Transfer party room number code) }
+{}
+
+ghost use Rattle.hotel_core.specs.Event.{Event};
+ghost use Rattle.hotel_core.specs.History.{◌▷◌};
+
+/// The rows after one more event are those that its change makes.
+pub fn made_follow()
+    ensures { (h : History) (event : Event) → Reached (h ▷ event) → FollowsBy h event }
 {}
