@@ -25,7 +25,7 @@ use Rattle.hotel_core.proofs.Numbered.{is_there}
 use Rattle.hotel_core.proofs.LiftTools.{lifts_by, draw_lifts, needed}
 use Rattle.hotel_core.proofs.LiftEasy.{room_is_there}
 use Rattle.hotel_core.proofs.LiftRooms.{last_number, taken_said, home_said, kind_said, link_said}
-use Rattle.hotel_core.specs.Found.{CurrentFound, HomeLink}
+use Rattle.hotel_core.proofs.LiftFacts.{CurrentFound, HomeLink}
 
 -- a card of a new code, and the change that makes it, where the link of each code is this
 abbrev issue_by : History → ℕ → ℕ → Option ℕ → Draw → (ℕ → Link) → Outcome Change

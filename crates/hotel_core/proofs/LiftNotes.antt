@@ -31,7 +31,7 @@ use Rattle.hotel_core.specs.Change.{codes_of}
 use Rattle.hotel_core.specs.OnRows.{told_on, reported_on, held_on, said_code_at, place_on, lock_place_on, secured_on, secured_after_on, is_awaited_on, has_link_on}
 use Rattle.hotel_core.specs.Run.{Reached}
 use Rattle.hotel_core.specs.Lift.{Lifts, as_change}
-use Rattle.hotel_core.specs.Found.{CodesFound}
+use Rattle.hotel_core.proofs.LiftFacts.{CodesFound}
 use Rattle.hotel_core.proofs.RowsRooms.{eq_self}
 use Rattle.hotel_core.proofs.Numbered.{is_there}
 use Rattle.hotel_core.proofs.RoomNumbers.{room_there}
@@ -52,12 +52,12 @@ secured_by false true s = refl
 secured_by false false s = refl
 
 -- whether the room is secured after an entry
-secured_entered : (h : History) (room count number : ℕ) (link : Link) (at : event.Moment) → CodesFound h → is_room h room ≡ true → has_link h number link ≡ true → opens h room link ≡ true
+secured_entered : (h : History) (room count number : ℕ) (link : Link) (at : event.Moment) → CodesFound h → is_room h room ≡ true → is_card h number ≡ true → has_link h number link ≡ true → opens h room link ≡ true
     → secured_after_on (rows_of h) room link ≡ secured (h ▷ event.Entered room count number link at) room
-secured_entered h room count number link at found r l o =
+secured_entered h room count number link at found r k l o =
     let none : Bool = are_none (inside h room) in
     ap (λ n. cond (none && (place_on (rows_of h) link.new_code + 1 == n)) true (secured_on (rows_of h) room)) (codes_said h room r)
-    ∙ ap (λ b. cond (none && b) true (secured_on (rows_of h) room)) (found.entered_current room number link r l o)
+    ∙ ap (λ b. cond (none && b) true (secured_on (rows_of h) room)) (found.entered_current room number link r k l o)
     ∙ ap (λ s. cond (none && (link.new_code == current h room)) true s) (secured_said h room r)
     ∙ secured_by none (link.new_code == current h room) (secured h room)
     ∙ ap (λ b. when (b && (link.new_code == current h room) && none) (λ _. true) (secured h room)) (sym (eq_self room))
@@ -80,12 +80,13 @@ told_lifts h note (act.Entered number link) found r =
     (accepted reply.Taken (change.Noted n (place_on rows link.new_code) (secured_after_on rows note.room link) (comes (is_one_of number (inside_at rows note.room)) number)))
     (as_change h (accepted reply.Taken e))
     (ap (λ b. needs b NoCard) (is_there (cards h) number),
-      λ _. (refl, λ l. (ap (λ code. needs (is_some (turn code link)) LockShut) (held_said h note.room found r),
-        λ o. let seen = needed (has_link h number link) CardDiffers l in
+      λ k. (refl, λ l. (ap (λ code. needs (is_some (turn code link)) LockShut) (held_said h note.room found r),
+        λ o. let there = needed (is_card h number) NoCard k in
+        let seen = needed (has_link h number link) CardDiffers l in
         let opened = needed (opens h note.room link) LockShut o in
         taken_alike n _ _ _ _ (comes (is_one_of number (inside h note.room)) number)
-        (found.entered_place note.room note.count number link (moment_of note) r seen opened)
-        (secured_entered h note.room note.count number link (moment_of note) found r seen opened))))
+        (found.entered_place note.room note.count number link (moment_of note) r there seen opened)
+        (secured_entered h note.room note.count number link (moment_of note) found r there seen opened))))
     ∙ after_checks h (needs (is_card h number) NoCard ∷ needs (has_link h number link) CardDiffers ∷ needs (opens h note.room link) LockShut ∷ []) (accepted reply.Taken e)
 told_lifts h note (act.Left number link) found r =
     let n : Note = record note { act = act.Left number link } in

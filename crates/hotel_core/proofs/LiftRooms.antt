@@ -18,7 +18,7 @@ use Rattle.hotel_core.specs.Lookups.{room_at, number_after, code_at}
 use Rattle.hotel_core.specs.Change.{codes_of}
 use Rattle.hotel_core.specs.OnRows.{room_is_on, kinds_agree_on, lock_place_on, secured_on, said_code_at, link_on}
 use Rattle.hotel_core.proofs.RoomNumbers.{room_found, room_there}
-use Rattle.hotel_core.specs.Found.{CurrentFound}
+use Rattle.hotel_core.proofs.LiftFacts.{CurrentFound}
 
 none_after : (b c : Bool) (n : ℕ) → (b ≡ true → c ≡ false) → (b ≡ false → c ≡ true) → is_none (cond b (Some n) None) ≡ c
 none_after true c n f g = sym (f refl)

@@ -24,7 +24,6 @@ pub mod Fits
 pub mod OnRows
 pub mod StepOnRows
 pub mod Lift
-pub mod Found
 pub mod Reads
 pub mod Headline
 pub mod Lists

@@ -1,4 +1,4 @@
--- What look-ups by place, by code and by count find in the rows of a history.
+-- What the lifts of commands need: what look-ups of codes find in the rows of a history.
 use Rattle.std.specs.Prelude.{ℕ, ◌≡◌, ◌+◌, ◌-◌, ◌==◌, Bool, true, Some, length}
 use Rattle.keycard_rules.specs.declared.card.Link.{Link}
 use Rattle.hotel_core.specs.Words.{is_one_of}
@@ -9,7 +9,7 @@ use Rattle.hotel_core.specs.Cards.{link_of_party}
 use Rattle.hotel_core.specs.Lock.{held}
 use Rattle.hotel_core.specs.Ledger.{passed, awaited}
 use Rattle.hotel_core.specs.RowsOf.{rows_of}
-use Rattle.hotel_core.specs.Cases.{is_room, room_of, has_link, opens, holds}
+use Rattle.hotel_core.specs.Cases.{is_room, room_of, is_card, has_link, opens, holds}
 use Rattle.hotel_core.specs.Lookups.{code_at}
 use Rattle.hotel_core.specs.OnRows.{place_on, is_awaited_on, home_link_on}
 
@@ -27,12 +27,12 @@ HomeLink h = (party room : ℕ) → room_of h party ≡ Some room → link_of_pa
 
 -- after an entry the lock stands at the place of the link's new code
 abbrev pub EnteredPlace : History → Type 0
-EnteredPlace h = (room count number : ℕ) (link : Link) (at : Moment) → is_room h room ≡ true → has_link h number link ≡ true → opens h room link ≡ true
+EnteredPlace h = (room count number : ℕ) (link : Link) (at : Moment) → is_room h room ≡ true → is_card h number ≡ true → has_link h number link ≡ true → opens h room link ≡ true
     → place_on (rows_of h) link.new_code ≡ length (passed (h ▷ Entered room count number link at) room)
 
 -- of a card that opens the room, the new code is the current one exactly where it stands last
 abbrev pub EnteredCurrent : History → Type 0
-EnteredCurrent h = (room number : ℕ) (link : Link) → is_room h room ≡ true → has_link h number link ≡ true → opens h room link ≡ true
+EnteredCurrent h = (room number : ℕ) (link : Link) → is_room h room ≡ true → is_card h number ≡ true → has_link h number link ≡ true → opens h room link ≡ true
     → (place_on (rows_of h) link.new_code + 1 == length (issued h room)) ≡ (link.new_code == current h room)
 
 -- a code is awaited exactly where it stands at the room after the one that the lock holds
