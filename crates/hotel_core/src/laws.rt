@@ -117,3 +117,26 @@ ghost use Rattle.hotel_core.specs.History.{◌▷◌};
 pub fn made_follow()
     ensures { (h : History) (event : Event) → Reached (h ▷ event) → FollowsBy h event }
 {}
+
+ghost use Rattle.hotel_core.specs.ChangeOf.{change_of};
+ghost use Rattle.hotel_core.specs.Fits.{HasItsRows};
+
+/// The change of an event of a reached history has its rows.
+pub fn changes_have_rows()
+    ensures { (h : History) (event : Event) → Reached (h ▷ event) → HasItsRows (change_of h event) (rows_of h) }
+{}
+
+ghost use Rattle.hotel_core.specs.Lookups.{rooms_of_kind, stays_of_kind};
+ghost use Rattle.hotel_core.specs.Stays.{rooms_of, first_full};
+
+/// The rows have as many rooms of a kind as there are.
+pub fn rooms_counted()
+    ensures { (h : History) (kind : List ℕ) → rooms_of_kind (rows_of h) kind ≡ rooms_of h kind }
+{}
+
+ghost use Rattle.hotel_nights.specs.FullNight.{first_day, is_full};
+
+/// The first full night, as the rows' look-ups give it.
+pub fn first_full_on()
+    ensures { (h : History) (kind : List ℕ) (d k : ℕ) → first_day (is_full (stays_of_kind (rows_of h) kind) kind (rooms_of_kind (rows_of h) kind)) d k ≡ first_full h kind d k }
+{}
