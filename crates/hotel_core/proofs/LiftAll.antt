@@ -7,8 +7,7 @@ use Rattle.hotel_core.specs.Run.{Reached}
 use Rattle.hotel_core.specs.Lift.{Lifts, IsCounted}
 use Rattle.hotel_core.proofs.LiftFacts.{CodesFound}
 use Rattle.hotel_core.proofs.LiftFound.{codes_found}
-use Rattle.hotel_core.proofs.LiftEasy.{begin_lifts, add_kind_lifts, next_day_lifts, cancel_lifts, check_out_lifts, add_room_lifts}
-use Rattle.hotel_core.proofs.LiftNights.{reserve_lifts}
+use Rattle.hotel_core.proofs.LiftEasy.{begin_lifts, add_kind_lifts, next_day_lifts, cancel_lifts, check_out_lifts, add_room_lifts, reserve_lifts}
 use Rattle.hotel_core.proofs.LiftGuests.{check_in_lifts, transfer_lifts, spare_lifts}
 use Rattle.hotel_core.proofs.LiftNotes.{note_lifts}
 

@@ -1,10 +1,10 @@
--- The commands that touch no room, lifted.
-use Rattle.std.proofs.Common.{ℕ, ◌≡◌, ◌+◌, Bool, true, false, Option, Some, None, List, [], ◌∷◌, refl, ap, sym, ◌∙◌, arith}
+-- The commands that read no room's row, lifted.
+use Rattle.std.proofs.Common.{ℕ, ◌≡◌, ◌+◌, Bool, true, false, Option, Some, None, List, [], ◌∷◌, refl, ap, sym, ◌∙◌, arith, length}
 use Rattle.std.specs.Prelude.{option_map, is_some}
 use Rattle.keycard_rules.specs.Draw.{draw_from}
 use Rattle.hotel_core.specs.declared.command.Command.TheVariants as command
 use Rattle.hotel_core.specs.declared.reply.Reply.TheVariants as reply
-use Rattle.hotel_core.specs.declared.reply.Refusal.TheVariants.{NoParty, RoomExists}
+use Rattle.hotel_core.specs.declared.reply.Refusal.TheVariants.{NoParty, RoomExists, KindFull, NumbersUsedUp}
 use Rattle.hotel_core.specs.Rows.{at_number}
 use Rattle.hotel_core.specs.Event as event
 use Rattle.hotel_core.specs.History.{History}
@@ -17,6 +17,8 @@ use Rattle.hotel_core.specs.Lookups.{room_at}
 use Rattle.hotel_core.specs.Lift.{Lifts}
 use Rattle.hotel_core.proofs.LiftTools.{lifts_by, draw_lifts}
 use Rattle.hotel_core.proofs.Numbered.{is_there}
+use Rattle.hotel_core.proofs.KindCounts.{first_full_on}
+use Rattle.hotel_core.proofs.LiftRooms.{last_number}
 use Rattle.hotel_core.proofs.RoomNumbers.{room_found}
 
 pub begin_lifts : (h : History) (day : ℕ) → Lifts h (command.Begin day)
@@ -54,3 +56,8 @@ add_room_lifts h room kind ahead =
         ),
       ),
     )
+
+pub reserve_lifts : (h : History) (guest kind : List ℕ) (arrive nights : ℕ) → Lifts h (command.Reserve guest kind arrive nights)
+reserve_lifts h guest kind arrive nights ahead =
+    lifts_by h ahead (command.Reserve guest kind arrive nights)
+    (refl, λ _. (refl, λ _. (refl, λ _. (refl, λ _. (ap (option_map KindFull) (first_full_on h kind arrive nights), λ _. (ap (λ b. bars b NumbersUsedUp) (last_number (length (stays h))), λ _. refl))))))
