@@ -1,15 +1,15 @@
 -- The held code, the current one and an awaited one, by their places.
-use Rattle.std.proofs.Common.{ℕ, ◌≡◌, ◌+◌, ◌-◌, ◌≤◌, ◌<◌, Bool, true, false, cond, Option, Some, None, List, [], ◌∷◌, ◌++◌, length, ◌⊎◌, inl, inr, refl, ap, sym, ◌∙◌, subst, arith, append_assoc, length-append}
+use Rattle.std.proofs.Common.{ℕ, ◌≡◌, ◌+◌, ◌-◌, ◌<◌, Bool, true, false, Option, Some, None, List, [], ◌∷◌, ◌++◌, length, refl, ap, sym, ◌∙◌, arith, append_assoc, length-append}
 use Rattle.std.specs.Prelude.{◌==◌, ◌&&◌, ◌||◌, nat_lt}
 use Rattle.std.proofs.lemmas.Bool.Decides.{nat_tests}
 use Rattle.keycard_rules.specs.declared.card.Link.{Link}
 use Rattle.hotel_core.specs.declared.rows.CodeRow.{CodeRow}
-use Rattle.hotel_core.specs.Words.{when, and_last, is_one_of, before, after, said_of, last_of}
+use Rattle.hotel_core.specs.Words.{when, is_one_of, before, after, said_of, last_of}
 use Rattle.hotel_core.specs.Rows.{at_number}
 use Rattle.hotel_core.specs.RowsOf.{rows_of}
 use Rattle.hotel_core.specs.Lookups.{code_at}
-use Rattle.hotel_core.specs.Event.{Event, Moment, Entered, Recoded}
-use Rattle.hotel_core.specs.History.{History, start, ◌▷◌}
+use Rattle.hotel_core.specs.Event.{Moment, Entered, Recoded}
+use Rattle.hotel_core.specs.History.{History, ◌▷◌}
 use Rattle.hotel_core.specs.Issued.{issued, all_issued, current}
 use Rattle.hotel_core.specs.Cards.{newest_link}
 use Rattle.hotel_core.specs.Lock.{held}
@@ -17,8 +17,8 @@ use Rattle.hotel_core.specs.Ledger.{passed, awaited}
 use Rattle.hotel_core.specs.Cases.{is_room}
 use Rattle.hotel_core.specs.Run.{Reached}
 use Rattle.hotel_core.specs.Follow.{MayFollow}
-use Rattle.hotel_core.proofs.Tests.{eq_from, eq_self, and_true, not_both, same_bool, either_way}
-use Rattle.hotel_core.proofs.CodeLists.{length_more, last_more, parted, cut_alike}
+use Rattle.hotel_core.proofs.Tests.{eq_from, eq_self, and_true, not_both, same_bool}
+use Rattle.hotel_core.proofs.CodeLists.{length_more, last_more, parted}
 use Rattle.hotel_core.proofs.RoomCodes.{rooms_have_codes}
 use Rattle.hotel_core.proofs.CodePlaces.{codes_have_places, places_have_codes, same_place}
 use Rattle.hotel_core.proofs.CodeSearch.{codes_are_found}

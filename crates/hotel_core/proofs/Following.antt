@@ -22,9 +22,9 @@ use Rattle.hotel_core.specs.Answer.{answer_to, checks, effect, reported, told, m
 use Rattle.hotel_core.specs.Cases.{is_begun, is_kind, is_room, is_party, is_booked, is_in_house, is_of_kind, is_taken, is_card, has_link, opens, holds, next_card}
 use Rattle.hotel_core.specs.Stays.{first_full}
 use Rattle.hotel_core.specs.Notes.{Standing, Copy, Conflicting, Next, After, standing, standing_among, notes, same_note}
-use Rattle.hotel_core.proofs.RowsRooms.{eq_from}
 use Rattle.hotel_core.specs.Run.{Reached}
 use Rattle.hotel_core.specs.Follow.{MayFollow}
+use Rattle.hotel_core.proofs.Tests.{eq_from}
 
 keeps : (h : History) (ahead : List ℕ) (command : Command) (o : Option Event) → (answer_to h ahead command).happens ≡ o → Reached h → Reached (grown h o)
 keeps h ahead command None e ok = ok

@@ -1,14 +1,13 @@
 -- The change of an event has its rows.
-use Rattle.std.proofs.Common.{ℕ, ◌≡◌, ◌<◌, ◌≤◌, ◌+◌, ◌-◌, ◌^◌, Bool, true, false, Option, Some, None, List, length, refl, ap, sym, ◌∙◌, arith}
+use Rattle.std.proofs.Common.{ℕ, ◌≡◌, ◌<◌, ◌≤◌, ◌+◌, ◌-◌, ◌^◌, Bool, true, false, Option, Some, None, length, refl, ap, sym, ◌∙◌, arith}
 use Rattle.std.specs.Prelude.{not, is_some}
 use Rattle.hotel_core.specs.Words.{is_one_of}
-use Rattle.hotel_core.specs.Rows.{at_number}
 use Rattle.hotel_core.specs.Event.{Event, Begun, Kind, Install, Reserved, Cancelled, CheckIn, Transfer, Spare, CheckOut, NextDay, Entered, Left, Recoded}
 use Rattle.hotel_core.specs.History.{History, ◌▷◌}
 use Rattle.hotel_core.specs.Issued.{issued, all_issued, issued_codes, is_fresh}
 use Rattle.hotel_core.specs.Cards.{cards}
-use Rattle.hotel_core.specs.Stays.{day, stays}
-use Rattle.hotel_core.specs.Cases.{is_room, room_of, is_in_house}
+use Rattle.hotel_core.specs.Stays.{day}
+use Rattle.hotel_core.specs.Cases.{is_room, room_of, is_in_house, cards_used_up}
 use Rattle.hotel_core.specs.RowsOf.{rows_of}
 use Rattle.hotel_core.specs.Lookups.{room_at, code_place, note_at}
 use Rattle.hotel_core.specs.Change.{codes_of}
@@ -18,15 +17,16 @@ use Rattle.hotel_core.specs.Run.{Reached}
 use Rattle.hotel_core.specs.Follow.{MayFollow}
 use Rattle.hotel_core.specs.Words.{said_of}
 use Rattle.hotel_core.specs.Notes.{notes}
-use Rattle.hotel_core.proofs.Numbered.{true_is_not_false, is_there, no_row}
-use Rattle.hotel_core.proofs.RoomNumbers.{needed_before, room_there, room_not_there}
+use Rattle.hotel_core.proofs.RoomNumbers.{room_there, room_not_there}
 use Rattle.hotel_core.proofs.RowsIssue.{codes_said}
 use Rattle.hotel_core.proofs.RowsLeft.{home_there}
 use Rattle.hotel_core.proofs.NoRooms.{nobody_registered}
 use Rattle.hotel_core.proofs.InHouse.{homes_match, has_stay}
 use Rattle.hotel_core.proofs.NotesKept.{next_not_found}
-use Rattle.hotel_core.proofs.NumbersLeft.{NumberLeft, number_left}
-use Rattle.hotel_core.proofs.CodesFew.{room_codes_few}
+use Rattle.hotel_core.proofs.NumbersLeft.{HasNumber, has_number, codes_fit}
+use Rattle.std.proofs.lemmas.Bool.{leb-false}
+use Rattle.hotel_core.proofs.Grown.{may_follow}
+use Rattle.hotel_core.proofs.Tables.{no_key}
 
 no_day : (o : Option ℕ) → is_some o ≡ false → o ≡ None
 no_day (Some d) h = cc
@@ -38,7 +38,7 @@ not_among false h = refl
 
 -- a fresh code has no row
 pub fresh_has_no_row : (h : History) (code : ℕ) → is_fresh h code ≡ true → code_place (rows_of h) code ≡ None
-fresh_has_no_row h code f = no_row (all_issued h) code (not_among (is_one_of code (issued_codes h)) f)
+fresh_has_no_row h code f = no_key (all_issued h) code (not_among (is_one_of code (issued_codes h)) f)
 
 -- a room that is there has a row
 pub room_has_row : (h : History) (room : ℕ) → is_room h room ≡ true → is_some (room_at (rows_of h) room) ≡ true
@@ -48,15 +48,16 @@ room_has_row h room t = ap is_some (room_there h room t).2
 pub home_is_room : (h : History) (party room : ℕ) → Reached h → room_of h party ≡ Some room → is_room h room ≡ true
 home_is_room h party room ok e = by (is_room h room) refl
   where
-  by : (b : Bool) → is_room h room ≡ b → is_room h room ≡ true
-  by true t = t
-  by false f = let w : ◌≡◌ {A = Option ℕ} (Some party) None = sym ((homes_match h ok).back room party e) ∙ nobody_registered h ok room f in cc
-  
+    by : (b : Bool) → is_room h room ≡ b → is_room h room ≡ true
+    by true t = t
+    by false f = let w : ◌≡◌ {A = Option ℕ} (Some party) None = sym ((homes_match h ok).back room party e) ∙ nobody_registered h ok room f in cc
+
 -- A room can have one more code, as long as a card's number is left.
-codes_left : (h : History) (room : ℕ) → Reached h → is_room h room ≡ true → length (cards h) < 9999999 → codes_of (rows_of h) room < 2 ^ 32 - 1
+codes_left : (h : History) (room : ℕ) → Reached h → is_room h room ≡ true → cards_used_up h ≡ false → codes_of (rows_of h) room < 2 ^ 32 - 1
 codes_left h room ok t n =
     let said : codes_of (rows_of h) room ≡ length (issued h room) = codes_said h room t in
-    let few : length (issued h room) ≤ length (cards h) + 1 = room_codes_few h ok room in
+    let few : length (issued h room) ≤ length (cards h) + 1 = codes_fit h ok room in
+    let left : length (cards h) < 9999999 = leb-false 9999999 (length (cards h)) n in
     omega arith
 
 home_has_row : (h : History) (party : ℕ) → Reached h → is_in_house h party ≡ true → is_some (room_at (rows_of h) (said_of (room_of h party) 0 (λ room. room))) ≡ true
@@ -67,7 +68,7 @@ home_has_row h party ok t =
 next_is_new : (h : History) (room count : ℕ) → Reached h → count ≡ length (notes h room) + 1 → note_at (rows_of h) room count ≡ None
 next_is_new h room count ok n = next_not_found h ok room count (omega arith)
 
-has_rows_where : (h : History) (event : Event) → Reached h → MayFollow h event → NumberLeft h event → HasItsRows (change_of h event) (rows_of h)
+has_rows_where : (h : History) (event : Event) → Reached h → MayFollow h event → HasNumber h event → HasItsRows (change_of h event) (rows_of h)
 has_rows_where h (Begun day) ok n l = no_day _ n
 has_rows_where h (Kind kind) ok n l = n
 has_rows_where h (Install room kind code) ok n l = (n.0, room_not_there h room n.1, fresh_has_no_row h code n.2)
@@ -84,4 +85,4 @@ has_rows_where h (Recoded room count from to at) ok n l = (room_has_row h room n
 
 -- The change of an event of a reached history has its rows.
 pub changes_have_rows : (h : History) (event : Event) → Reached (h ▷ event) → HasItsRows (change_of h event) (rows_of h)
-changes_have_rows h event ok = has_rows_where h event ok.0 (needed_before h event ok) (number_left h event ok)
+changes_have_rows h event ok = has_rows_where h event ok.0 (may_follow h event ok) (has_number h event ok)

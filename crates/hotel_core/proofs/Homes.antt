@@ -3,8 +3,9 @@ use Rattle.std.proofs.Common.{ℕ, ◌≡◌, Bool, true, false, cond, Option, S
 use Rattle.std.specs.Prelude.{◌==◌}
 use Rattle.hotel_core.specs.Words.{when}
 use Rattle.hotel_core.specs.Guests.{leaves}
-use Rattle.hotel_core.proofs.RowsRooms.{eq_from, eq_self, eq_flip}
+use Rattle.hotel_core.proofs.RowsRooms.{eq_flip}
 use Rattle.hotel_core.proofs.Numbered.{true_is_not_false}
+use Rattle.hotel_core.proofs.Tests.{eq_from, eq_self}
 
 -- A party is registered at a room exactly where that is its home.
 pub record Match (at : ℕ → Option ℕ) (home : ℕ → Option ℕ) : Type 0 where

@@ -11,9 +11,9 @@ use Rattle.hotel_core.specs.Cards.{link_of_party, link_to}
 use Rattle.hotel_core.specs.Stays.{stays}
 use Rattle.hotel_core.specs.Cases.{room_of, is_in_house}
 use Rattle.hotel_core.specs.Run.{Reached}
-use Rattle.hotel_core.proofs.RoomNumbers.{needed_before}
 use Rattle.hotel_core.proofs.StayStates.{home_changed, home_added}
 use Rattle.hotel_core.proofs.InHouse.{has_stay}
+use Rattle.hotel_core.proofs.Grown.{may_follow}
 
 was_some : (b : Bool) (o : Option ℕ) → is_some (cond b None o) ≡ true → is_some o ≡ true
 was_some true o h = cc
@@ -32,16 +32,16 @@ in_house_has_link (h ▷ Reserved party guest kind arrive depart) ok p e =
     (sym (ap is_some (home_added party (record { party = party; guest = guest; kind = kind; arrive = arrive; depart = depart; state = state.Booked }) (stays h) p)) ∙ e))
 in_house_has_link (h ▷ Cancelled party) ok p e =
     in_house_has_link h ok.0 p (was_some (party == p) (room_of h p)
-    (sym (ap is_some (home_changed party state.Cancelled (stays h) p (has_stay h party (needed_before h (Cancelled party) ok).0))) ∙ e))
+    (sym (ap is_some (home_changed party state.Cancelled (stays h) p (has_stay h party (may_follow h (Cancelled party) ok).0))) ∙ e))
 in_house_has_link (h ▷ CheckIn party room number code) ok p e =
     given_or_was (party == p) room (link_to h room code) (room_of h p) (link_of_party h p)
-    (sym (ap is_some (home_changed party (state.InHouse room) (stays h) p (has_stay h party (needed_before h (CheckIn party room number code) ok).1))) ∙ e)
+    (sym (ap is_some (home_changed party (state.InHouse room) (stays h) p (has_stay h party (may_follow h (CheckIn party room number code) ok).1))) ∙ e)
     (in_house_has_link h ok.0 p)
 in_house_has_link (h ▷ Transfer party room number code) ok p e =
     given_or_was (party == p) room (link_to h room code) (room_of h p) (link_of_party h p)
-    (sym (ap is_some (home_changed party (state.InHouse room) (stays h) p (has_stay h party (needed_before h (Transfer party room number code) ok).1))) ∙ e)
+    (sym (ap is_some (home_changed party (state.InHouse room) (stays h) p (has_stay h party (may_follow h (Transfer party room number code) ok).1))) ∙ e)
     (in_house_has_link h ok.0 p)
 in_house_has_link (h ▷ CheckOut party) ok p e =
     in_house_has_link h ok.0 p (was_some (party == p) (room_of h p)
-    (sym (ap is_some (home_changed party state.Done (stays h) p (has_stay h party (needed_before h (CheckOut party) ok).0))) ∙ e))
+    (sym (ap is_some (home_changed party state.Done (stays h) p (has_stay h party (may_follow h (CheckOut party) ok).0))) ∙ e))
 in_house_has_link (h ▷ _) ok p e = in_house_has_link h ok.0 p e

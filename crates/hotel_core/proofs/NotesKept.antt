@@ -16,8 +16,8 @@ use Rattle.hotel_core.specs.Lookups.{note_at}
 use Rattle.hotel_core.specs.Run.{Reached}
 use Rattle.hotel_core.proofs.Inserted.{found_inserted}
 use Rattle.hotel_core.proofs.Pairs.{pair_cmp_total, pair_is}
-use Rattle.hotel_core.proofs.RowsRooms.{eq_from}
-use Rattle.hotel_core.proofs.RoomNumbers.{needed_before}
+use Rattle.hotel_core.proofs.Tests.{eq_from}
+use Rattle.hotel_core.proofs.Grown.{may_follow}
 
 -- the first of some notes
 abbrev pub first_note : List Note → Option Note
@@ -65,13 +65,13 @@ pub note_kept : (h : History) → Reached h → (r k : ℕ) → lookup (is_at (p
 note_kept (start t) ok r k = subst (λ z. lookup (is_at (pair_cmp (r, k + 1))) (all_notes (start z)) ≡ first_note (drop k (notes (start z) r))) (sym ok) (sym (nothing_left k))
 note_kept (h ▷ Entered room count number link at) ok r k =
     kept_more h (record { room = room; count = count; act = act.Entered number link; day = at.day; second = at.second }) r k
-    (needed_before h (Entered room count number link at) ok).0 (note_kept h ok.0 r k)
+    (may_follow h (Entered room count number link at) ok).0 (note_kept h ok.0 r k)
 note_kept (h ▷ Left room count number link at) ok r k =
     kept_more h (record { room = room; count = count; act = act.Left number link; day = at.day; second = at.second }) r k
-    (needed_before h (Left room count number link at) ok).0 (note_kept h ok.0 r k)
+    (may_follow h (Left room count number link at) ok).0 (note_kept h ok.0 r k)
 note_kept (h ▷ Recoded room count from to at) ok r k =
     kept_more h (record { room = room; count = count; act = act.Recoded from to; day = at.day; second = at.second }) r k
-    (needed_before h (Recoded room count from to at) ok).0 (note_kept h ok.0 r k)
+    (may_follow h (Recoded room count from to at) ok).0 (note_kept h ok.0 r k)
 note_kept (h ▷ _) ok r k = note_kept h ok.0 r k
 
 found_first : (h : History) → Reached h → (r count : ℕ) → 1 ≤ count → note_at (rows_of h) r count ≡ first_note (drop (count - 1) (notes h r))

@@ -1,30 +1,19 @@
 -- Tables by number: what a look-up finds, which numbers are there, and what an added row changes.
-use Rattle.std.proofs.Common.{ℕ, ◌≡◌, Bool, true, false, cond, Option, Some, None, List, [], ◌∷◌, refl, ap, sym, ◌∙◌, arith}
-use Rattle.std.specs.Prelude.{◌==◌, ◌||◌, is_some, map, option_map}
+use Rattle.std.proofs.Common.{ℕ, ◌≡◌, Bool, true, false, cond, Option, Some, None, List, [], ◌∷◌, refl, ap, sym, ◌∙◌}
+use Rattle.std.specs.Prelude.{◌==◌, is_some, map, option_map}
 use Rattle.std.specs.Ordering.{nat_cmp}
 use Rattle.std.specs.BTreeMap.{is_at, insert_entry}
 use Rattle.std.specs.Map.{keys_of}
-use Rattle.std.proofs.lemmas.Bool.Decides.{nat_tests}
 use Rattle.hotel_core.specs.Words.{is_one_of}
 use Rattle.hotel_core.specs.Rows.{at_number}
 use Rattle.std.proofs.lemmas.Cmp.{nat_cmp_total}
-use Rattle.hotel_core.proofs.RowsRooms.{eq_from}
 use Rattle.hotel_core.proofs.Inserted.{found_inserted}
+use Rattle.hotel_core.proofs.Tables.{at_is, is_key}
+use Rattle.hotel_core.proofs.Tests.{eq_from, not_both}
 
--- the test of a look-up
-pub at_is : (n k : ℕ) → is_at (nat_cmp n) k ≡ (k == n)
-at_is n k = grind (arith, nat_tests)
-
-not_both : (b : Bool) → b ≡ true → b ≡ false → ⊥
-not_both true t f = cc
-not_both false t f = cc
-
+-- a test that holds and fails
 pub true_is_not_false : {b : Bool} → b ≡ true → b ≡ false → ⊥
 true_is_not_false {b} t f = not_both b t f
-
-is_true_else : (b : Bool) → (b ≡ false → ⊥) → b ≡ true
-is_true_else true f = refl
-is_true_else false f = absurd (f refl)
 
 -- numbers that a test tells apart
 pub apart_by : (a b : ℕ) → (a ≡ b → ⊥) → (a == b) ≡ false
@@ -38,35 +27,9 @@ apart_by a b f = by (a == b) refl
 pub at_inserted : {X : Type 0} (es : List (ℕ × X)) (k : ℕ) (v : X) (n : ℕ) → at_number (insert_entry nat_cmp es k v) n ≡ cond (k == n) (Some v) (at_number es n)
 at_inserted es k v n = found_inserted nat_cmp_total es k v n ∙ ap (λ b. cond b (Some v) (at_number es n)) (at_is n k)
 
-there_by : {X : Type 0} (b rest : Bool) (x : X) (o : Option X) → is_some o ≡ rest → is_some (cond b (Some x) o) ≡ (b || rest)
-there_by true rest x o e = refl
-there_by false rest x o e = e
-
 -- A number is one of a table's exactly where a look-up finds a row.
 pub is_there : {X : Type 0} (es : List (ℕ × X)) (n : ℕ) → is_some (at_number es n) ≡ is_one_of n (keys_of es)
-is_there [] n = refl
-is_there (e ∷ es) n = there_by (is_at (nat_cmp n) e.0) (is_one_of n (keys_of es)) e.1 (at_number es n) (is_there es n) ∙ ap (λ b. b || is_one_of n (keys_of es)) (at_is n e.0)
-
--- the numbers of a table with one more row
-pub number_inserted : {X : Type 0} (es : List (ℕ × X)) (k : ℕ) (v : X) (n : ℕ) → is_one_of n (keys_of (insert_entry nat_cmp es k v)) ≡ ((k == n) || is_one_of n (keys_of es))
-number_inserted es k v n =
-    sym (is_there (insert_entry nat_cmp es k v) n) ∙ ap is_some (at_inserted es k v n) ∙ there_by (k == n) (is_one_of n (keys_of es)) v (at_number es n) (is_there es n)
-
-some_row : {X : Type 0} (o : Option X) → is_some o ≡ true → (x : X) × (o ≡ Some x)
-some_row (Some x) h = (x, refl)
-some_row None h = cc
-
-none_row : {X : Type 0} (o : Option X) → is_some o ≡ false → o ≡ None
-none_row (Some x) h = cc
-none_row None h = refl
-
--- the row of a number that is there
-pub row_there : {X : Type 0} (es : List (ℕ × X)) (n : ℕ) → is_one_of n (keys_of es) ≡ true → (x : X) × (at_number es n ≡ Some x)
-row_there es n h = some_row (at_number es n) (is_there es n ∙ h)
-
--- nothing at a number that isn't there
-pub no_row : {X : Type 0} (es : List (ℕ × X)) (n : ℕ) → is_one_of n (keys_of es) ≡ false → at_number es n ≡ None
-no_row es n h = none_row (at_number es n) (is_there es n ∙ h)
+is_there es n = sym (is_key es n)
 
 -- a number is there where a look-up finds a row
 pub found_there : {X : Type 0} (es : List (ℕ × X)) (n : ℕ) (x : X) → at_number es n ≡ Some x → is_one_of n (keys_of es) ≡ true

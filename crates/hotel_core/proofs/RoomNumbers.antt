@@ -1,6 +1,6 @@
 -- The numbers of rooms: none stands twice, and what a look-up of a room finds.
-use Rattle.std.proofs.Common.{ℕ, ◌≡◌, Bool, true, false, Some, None, List, [], ◌∷◌, refl, ap, sym, ◌∙◌, subst}
-use Rattle.std.specs.Prelude.{◌==◌, ◌||◌, option_map}
+use Rattle.std.proofs.Common.{ℕ, ◌≡◌, true, false, Some, None, List, [], ◌∷◌, ap, sym, ◌∙◌, subst}
+use Rattle.std.specs.Prelude.{◌==◌, option_map}
 use Rattle.std.specs.Ordering.{nat_cmp, match_ordering}
 use Rattle.std.specs.declared.cmp.Ordering.{Ordering}
 use Rattle.std.specs.declared.cmp.Ordering.TheVariants.{Less, Equal, Greater}
@@ -8,24 +8,18 @@ use Rattle.std.specs.BTreeMap.{insert_entry}
 use Rattle.std.specs.Map.{keys_of}
 use Rattle.hotel_core.specs.Words.{is_one_of}
 use Rattle.hotel_core.specs.Rows.{at_number}
-use Rattle.hotel_core.specs.Event.{Event, Install}
+use Rattle.hotel_core.specs.Event.{Install}
 use Rattle.hotel_core.specs.History.{History, start, ◌▷◌}
 use Rattle.hotel_core.specs.Stays.{rooms}
 use Rattle.hotel_core.specs.RowsOf.{room_row, rows_of}
 use Rattle.hotel_core.specs.Run.{Reached}
 use Rattle.hotel_core.specs.Cases.{is_room}
-use Rattle.hotel_core.specs.Follow.{MayFollow, ApartFrom, RoomsOnce}
-use Rattle.hotel_core.proofs.Following.{answers_follow}
+use Rattle.hotel_core.specs.Follow.{ApartFrom, RoomsOnce}
 use Rattle.hotel_core.proofs.RowsRooms.{eq_flip}
-use Rattle.hotel_core.proofs.Numbered.{at_mapped, row_there, no_row}
-
--- what an event of a reached history needed
-pub needed_before : (h : History) (event : Event) → Reached (h ▷ event) → MayFollow h event
-needed_before h event ok = answers_follow h ok.1 ok.2 event ok.3
-
-pub or_false : (a b : Bool) → (a || b) ≡ false → (a ≡ false) × (b ≡ false)
-or_false true b e = cc
-or_false false b e = (refl, e)
+use Rattle.hotel_core.proofs.Numbered.{at_mapped}
+use Rattle.hotel_core.proofs.Grown.{may_follow}
+use Rattle.hotel_core.proofs.Tests.{or_false}
+use Rattle.hotel_core.proofs.Tables.{row_of_key, no_key}
 
 pub apart_from : (n : ℕ) (es : List (ℕ × List ℕ)) → is_one_of n (keys_of es) ≡ false → ApartFrom n es
 apart_from n [] h = tt
@@ -55,7 +49,7 @@ once_inserted k v (e ∷ es) n a = once_inserted_by (nat_cmp k e.0) k v e es n a
 pub rooms_once : (h : History) → Reached h → RoomsOnce (rooms h)
 rooms_once (start t) ok = subst (λ z. RoomsOnce (rooms (start z))) (sym ok) tt
 rooms_once (h ▷ Install room kind code) ok =
-    once_inserted room kind (rooms h) (rooms_once h ok.0) (apart_from room (rooms h) (needed_before h (Install room kind code) ok).1)
+    once_inserted room kind (rooms h) (rooms_once h ok.0) (apart_from room (rooms h) (may_follow h (Install room kind code) ok).1)
 rooms_once (h ▷ _) ok = rooms_once h ok.0
 
 -- A look-up of a room finds its row, where there is such a room.
@@ -64,8 +58,8 @@ room_found h r = at_mapped (room_row h) (rooms h) r
 
 -- the row of a room that is there
 pub room_there : (h : History) (r : ℕ) → is_room h r ≡ true → (kind : List ℕ) × (at_number (rooms h) r ≡ Some kind) × (at_number (rows_of h).rooms r ≡ Some (room_row h r kind))
-room_there h r e = let p = row_there (rooms h) r e in (p.0, p.1, room_found h r ∙ ap (option_map (λ kind. room_row h r kind)) p.1)
+room_there h r e = let p = row_of_key (rooms h) r e in (p.0, p.1, room_found h r ∙ ap (option_map (λ kind. room_row h r kind)) p.1)
 
 -- no row of a room that isn't there
 pub room_not_there : (h : History) (r : ℕ) → is_room h r ≡ false → at_number (rows_of h).rooms r ≡ None
-room_not_there h r e = room_found h r ∙ ap (option_map (λ kind. room_row h r kind)) (no_row (rooms h) r e)
+room_not_there h r e = room_found h r ∙ ap (option_map (λ kind. room_row h r kind)) (no_key (rooms h) r e)

@@ -4,13 +4,14 @@ use Rattle.hotel_core.specs.Event.{Event, Begun, Kind, Install, Reserved, Cancel
 use Rattle.hotel_core.specs.History.{History, ◌▷◌}
 use Rattle.hotel_core.specs.Run.{Reached}
 use Rattle.hotel_core.specs.Follow.{FollowsBy, MayFollow}
-use Rattle.hotel_core.proofs.RoomNumbers.{needed_before, rooms_once}
+use Rattle.hotel_core.proofs.RoomNumbers.{rooms_once}
 use Rattle.hotel_core.proofs.RowsEasy.{next_day_follows, spare_follows}
 use Rattle.hotel_core.proofs.RowsIssue.{install_follows, check_in_follows}
 use Rattle.hotel_core.proofs.RowsLeft.{check_out_follows, transfer_follows}
 use Rattle.hotel_core.proofs.RowsNoted.{entered_follows, recoded_follows}
 use Rattle.hotel_core.proofs.RowsRooms.{left_follows}
 use Rattle.hotel_core.proofs.InHouseLinks.{in_house_has_link}
+use Rattle.hotel_core.proofs.Grown.{may_follow}
 
 follows_where : (h : History) (event : Event) → Reached h → MayFollow h event → FollowsBy h event
 follows_where h (Begun day) ok n = refl
@@ -29,4 +30,4 @@ follows_where h (Recoded room count from to at) ok n = recoded_follows h room co
 
 -- The rows after one more event are those that its change makes.
 pub made_follow : (h : History) (event : Event) → Reached (h ▷ event) → FollowsBy h event
-made_follow h event ok = follows_where h event ok.0 (needed_before h event ok)
+made_follow h event ok = follows_where h event ok.0 (may_follow h event ok)

@@ -18,10 +18,11 @@ use Rattle.hotel_core.specs.Cases.{is_room}
 use Rattle.hotel_core.specs.Run.{Reached}
 use Rattle.hotel_core.specs.Change.{codes_of, room_changed}
 use Rattle.hotel_core.specs.Follow.{FollowsBy, ApartFrom}
-use Rattle.hotel_core.proofs.RowsRooms.{eq_self, eq_flip, rows_by, others, one_changed, length_more}
+use Rattle.hotel_core.proofs.RowsRooms.{eq_flip, rows_by, others, one_changed, length_more}
 use Rattle.hotel_core.proofs.Numbered.{true_is_not_false}
 use Rattle.hotel_core.proofs.RoomNumbers.{apart_from, rooms_once, room_there}
 use Rattle.hotel_core.proofs.NoRooms.{nothing_issued, nothing_passed, nobody_registered, nothing_noted}
+use Rattle.hotel_core.proofs.Tests.{eq_self}
 
 new_room_by : (o : Ordering) (f g : ℕ → List ℕ → RoomRow) (room : ℕ) (kind : List ℕ) (e : ℕ × List ℕ) (es : List (ℕ × List ℕ))
     → nat_cmp room e.0 ≡ o → (e.0 == room) ≡ false → f e.0 e.1 ≡ g e.0 e.1 → rows_by f es ≡ rows_by g es

@@ -15,12 +15,13 @@ use Rattle.hotel_core.specs.Cases.{is_room, is_in_house, room_of}
 use Rattle.hotel_core.specs.Run.{Reached}
 use Rattle.hotel_core.specs.Change.{room_changed, without_party, left_by}
 use Rattle.hotel_core.specs.Follow.{FollowsBy}
-use Rattle.hotel_core.proofs.RowsRooms.{eq_self, rows_by, one_changed, length_more}
+use Rattle.hotel_core.proofs.RowsRooms.{rows_by, one_changed, length_more}
 use Rattle.hotel_core.proofs.Numbered.{true_is_not_false}
 use Rattle.hotel_core.proofs.RoomNumbers.{rooms_once}
 use Rattle.hotel_core.proofs.RowsIssue.{came_to, codes_said}
 use Rattle.hotel_core.proofs.Homes.{not_leaving}
 use Rattle.hotel_core.proofs.InHouse.{homes_match}
+use Rattle.hotel_core.proofs.Tests.{eq_self}
 
 some_home : (o : Option ℕ) → is_some o ≡ true → (room : ℕ) × (o ≡ Some room)
 some_home (Some room) h = (room, refl)

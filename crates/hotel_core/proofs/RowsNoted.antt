@@ -17,9 +17,10 @@ use Rattle.hotel_core.specs.RowsOf.{room_row, rows_of}
 use Rattle.hotel_core.specs.Run.{Reached}
 use Rattle.hotel_core.specs.Change.{room_changed}
 use Rattle.hotel_core.specs.Follow.{FollowsBy}
-use Rattle.hotel_core.proofs.RowsRooms.{eq_self, one_changed, length_more}
+use Rattle.hotel_core.proofs.RowsRooms.{one_changed, length_more}
 use Rattle.hotel_core.proofs.RoomNumbers.{rooms_once}
 use Rattle.hotel_core.proofs.Insiders.{card_came}
+use Rattle.hotel_core.proofs.Tests.{eq_self}
 
 -- the row of a room after a note
 abbrev pub noted_row : ℕ → Bool → ℕ → RoomRow → RoomRow

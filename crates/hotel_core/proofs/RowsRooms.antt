@@ -14,12 +14,7 @@ use Rattle.hotel_core.specs.Stays.{rooms}
 use Rattle.hotel_core.specs.RowsOf.{room_row, rows_of}
 use Rattle.hotel_core.specs.Change.{room_changed}
 use Rattle.hotel_core.specs.Follow.{FollowsBy, ApartFrom, RoomsOnce}
-
-pub eq_from : (a b : ℕ) → (a == b) ≡ true → a ≡ b
-eq_from a b h = grind (arith, nat_tests)
-
-pub eq_self : (a : ℕ) → (a == a) ≡ true
-eq_self a = grind (arith, nat_tests)
+use Rattle.hotel_core.proofs.Tests.{eq_from, eq_self}
 
 pub eq_flip : (a b : ℕ) → (a == b) ≡ false → (b == a) ≡ false
 eq_flip a b h = grind (arith, nat_tests)

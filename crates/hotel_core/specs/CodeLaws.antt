@@ -1,5 +1,5 @@
 -- What holds of the codes, cards and rooms of each history that can be reached: the steps to the headline.
-use Rattle.std.specs.Prelude.{ℕ, ◌≡◌, true, false, List, [], ◌∷◌, ◌++◌, Some, None, length}
+use Rattle.std.specs.Prelude.{ℕ, ◌≡◌, ◌≤◌, ◌+◌, true, false, List, [], ◌∷◌, ◌++◌, Some, None, length}
 use Rattle.std.specs.Map.{keys_of}
 use Rattle.keycard_rules.specs.declared.card.Card.{Card}
 use Rattle.keycard_rules.specs.declared.card.Link.{Link}
@@ -72,3 +72,15 @@ NewestAreLast h = (r : ℕ) (link : Link) → newest_link h r ≡ Some link → 
 -- The search for the place of a room's code finds this code.
 abbrev pub CodesAreFound : History → Type 0
 CodesAreFound h = (r : ℕ) (before : List ℕ) (code : ℕ) (later : List ℕ) → issued h r ≡ before ++ code ∷ later → code_at (rows_of h) r (length before) ≡ Some code
+
+-- There are at most 9,999,999 cards.
+abbrev pub CardsFit : History → Type 0
+CardsFit h = length (cards h) ≤ 9999999
+
+-- There are at most 9,999,999 stays.
+abbrev pub StaysFit : History → Type 0
+StaysFit h = length (stays h) ≤ 9999999
+
+-- A room has at most one code more than there are cards.
+abbrev pub CodesFit : History → Type 0
+CodesFit h = (r : ℕ) → length (issued h r) ≤ length (cards h) + 1

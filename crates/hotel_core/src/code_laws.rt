@@ -1,5 +1,5 @@
 // Laws of codes, cards and locks along each history that can be reached.
-ghost use Rattle.hotel_core.specs.CodeLaws.{CardsCount, CardsHaveLinks, CodesAreFound, CodesHavePlaces, NewestAreLast, NextAreNew, OthersHaveNone, PartiesHaveLinks, PlacesHaveCodes, RoomsHaveCodes, StaysCount};
+ghost use Rattle.hotel_core.specs.CodeLaws.{CardsCount, CardsFit, CardsHaveLinks, CodesAreFound, CodesFit, CodesHavePlaces, NewestAreLast, NextAreNew, OthersHaveNone, PartiesHaveLinks, PlacesHaveCodes, RoomsHaveCodes, StaysCount, StaysFit};
 ghost use Rattle.hotel_core.specs.Headline.{LedgerHolds, NewestOpens, NoCodeTwice, OpensOwnRoom, TakesTheFirst};
 ghost use Rattle.hotel_core.specs.History.{History};
 ghost use Rattle.hotel_core.specs.Run.{Reached};
@@ -46,4 +46,11 @@ pub fn opening()
 /// A search by room and place finds the code that stands there.
 pub fn places_found()
     ensures { (h : History) → Reached h → CodesAreFound h }
+{}
+
+/// How many cards, stays and codes there can be.
+pub fn bounds()
+    ensures of_cards { (h : History) → Reached h → CardsFit h }
+    ensures of_stays { (h : History) → Reached h → StaysFit h }
+    ensures of_codes { (h : History) → Reached h → CodesFit h }
 {}
