@@ -15,9 +15,9 @@ use Rattle.hotel_core.specs.Lookups.{code_at}
 use Rattle.hotel_core.specs.Change.{codes_of}
 use Rattle.hotel_core.specs.OnRows.{said_code_at, home_link_on}
 use Rattle.hotel_core.specs.Run.{Reached}
-use Rattle.hotel_core.proofs.RowsRooms.{eq_from, eq_self}
+use Rattle.hotel_core.proofs.Tests.{eq_self}
 use Rattle.hotel_core.proofs.Numbered.{apart_by}
-use Rattle.hotel_core.proofs.RoomNumbers.{needed_before}
+use Rattle.hotel_core.proofs.Grown.{may_follow}
 use Rattle.hotel_core.proofs.Homes.{stays_on}
 use Rattle.hotel_core.proofs.InHouse.{booked_nowhere, registered_in_house}
 use Rattle.hotel_core.proofs.InHouseLinks.{in_house_has_link}
@@ -51,7 +51,7 @@ booked_is_another h ok party p r none e =
 pub has_newest : (h : History) → Reached h → HasNewest h
 has_newest (start t) ok r p e = absurd (no_party p (subst (λ z. registered (start z) r ≡ Some p) ok e))
 has_newest (h ▷ CheckIn party room number code) ok r p e =
-    let booked = (needed_before h (CheckIn party room number code) ok).2 in
+    let booked = (may_follow h (CheckIn party room number code) ok).2 in
     let same : when (room == r) (λ _. Some (link_to h room code)) (newest_link h r) ≡ when (party == p) (λ _. Some (link_to h room code)) (link_of_party h p) =
         came_with_link (room == r) party p r (link_to h room code) (registered h r) (newest_link h r) (link_of_party h p) e
         (λ was. (booked_is_another h ok.0 party p r (booked_nowhere h party booked) was, has_newest h ok.0 r p was)) in
@@ -66,13 +66,18 @@ some_link : (o : Option Link) → is_some o ≡ true → (link : Link) × (o ≡
 some_link (Some link) e = (link, refl)
 some_link None e = cc
 
+-- a party in house has a link, and it is the newest of its room
+pub home_has_newest : (h : History) → Reached h → (party room : ℕ) → room_of h party ≡ Some room → (link : Link) × (link_of_party h party ≡ Some link) × (newest_link h room ≡ Some link)
+home_has_newest h ok party room e =
+    let l = some_link (link_of_party h party) (in_house_has_link h ok party (ap is_some e)) in
+    (l.0, l.1, has_newest h ok room party ((registered_in_house h ok room party).1 e) ∙ l.1)
+
 -- the link of a room's last two codes is that of a party that is in house there
 pub home_link_found : (h : History) → Reached h → HomeLink h
 home_link_found h ok party room e =
-    let l = some_link (link_of_party h party) (in_house_has_link h ok party (ap is_some e)) in
-    let newest : newest_link h room ≡ Some l.0 = has_newest h ok room party ((registered_in_house h ok room party).1 e) ∙ l.1 in
-    let codes = newest_found h ok room l.0 newest in
-    let n : codes_of (rows_of h) room ≡ length (issued h room) = codes_said h room (there_by_link h ok room l.0 newest) in
+    let l = home_has_newest h ok party room e in
+    let codes = newest_found h ok room l.0 l.2 in
+    let n : codes_of (rows_of h) room ≡ length (issued h room) = codes_said h room (there_by_link h ok room l.0 l.2) in
     let here : home_link_on (rows_of h) party ≡ record { old_code = said_code_at (rows_of h) room (length (issued h room) - 2); new_code = said_code_at (rows_of h) room (length (issued h room) - 1) } =
         ap (λ o. said_of o no_link (λ r. record { old_code = said_code_at (rows_of h) r (codes_of (rows_of h) r - 2); new_code = said_code_at (rows_of h) r (codes_of (rows_of h) r - 1) })) e
         ∙ ap (λ m. let x : Link = record { old_code = said_code_at (rows_of h) room (m - 2); new_code = said_code_at (rows_of h) room (m - 1) } in x) n in

@@ -32,7 +32,7 @@ use Rattle.hotel_core.specs.OnRows.{told_on, reported_on, held_on, said_code_at,
 use Rattle.hotel_core.specs.Run.{Reached}
 use Rattle.hotel_core.specs.Lift.{Lifts, as_change}
 use Rattle.hotel_core.proofs.LiftFacts.{CodesFound}
-use Rattle.hotel_core.proofs.RowsRooms.{eq_self}
+use Rattle.hotel_core.proofs.Tests.{eq_self}
 use Rattle.hotel_core.proofs.Numbered.{is_there}
 use Rattle.hotel_core.proofs.RoomNumbers.{room_there}
 use Rattle.hotel_core.proofs.NotesKept.{standing_on, standing_by_lookup}

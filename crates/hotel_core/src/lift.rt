@@ -1,9 +1,14 @@
 //! Laws that lift what books compute on rows to what the desk answers after a history.
-ghost use Rattle.hotel_core.specs.Lift.{AnswersLift, RunsAgree, RunsGoOn, RunsJoin, StepsLift};
+ghost use Rattle.hotel_core.specs.Lift.{AnswersLift, RowsAreWhole, RunsAgree, RunsGoOn, RunsJoin, StepsLift};
 
 /// What comes of a command on the rows of a history is the answer after that history.
 pub fn answers_lift()
     ensures { AnswersLift }
+{}
+
+/// Rows that stand for a history are whole.
+pub fn rows_are_whole()
+    ensures { RowsAreWhole }
 {}
 
 /// A step over books whose rows stand for a history is a step from that history.
