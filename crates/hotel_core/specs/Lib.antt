@@ -23,6 +23,7 @@ pub mod ChangeOf
 pub mod Fits
 pub mod OnRows
 pub mod StepOnRows
+pub mod Lift
 pub mod Reads
 pub mod Headline
 pub mod Lists
