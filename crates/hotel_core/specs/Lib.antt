@@ -30,4 +30,3 @@ pub mod Lists
 pub mod Follow
 pub mod Texts
 pub mod CodeLaws
-pub mod Tests
