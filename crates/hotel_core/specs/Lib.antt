@@ -23,9 +23,10 @@ pub mod ChangeOf
 pub mod Fits
 pub mod OnRows
 pub mod StepOnRows
+pub mod Lift
 pub mod Reads
 pub mod Headline
 pub mod Lists
 pub mod Follow
+pub mod Texts
 pub mod CodeLaws
-pub mod Tests
