@@ -10,8 +10,7 @@ use Rattle.std.specs.Map.{values_of}
 use Rattle.std.proofs.lemmas.List.Sums.{sum_by-cons}
 use Rattle.hotel_nights.specs.declared.stay.Stay.{Stay}
 use Rattle.hotel_nights.specs.declared.stay.StayState.{StayState}
-use Rattle.hotel_nights.specs.FullNight.{first_day, IsFirst}
-use Rattle.hotel_nights.proofs.FirstDay.{first_day-is}
+use Rattle.hotel_nights.specs.FullNight.{first_day}
 use Rattle.hotel_core.specs.Rows.{at_number}
 use Rattle.hotel_core.specs.Stays.{in_state, now_is}
 use Rattle.hotel_core.proofs.Tests.{not_both}
@@ -69,6 +68,27 @@ count_changed p party s (e ∷ es) passed_before =
     (λ t. passed_before e.1 (ap (λ b. cond b (Some e.1) (at_number es party)) (at_is party e.0 ∙ t)))
     (λ f. count_changed p party s es (λ stay q. passed_before stay (ap (λ b. cond b (Some e.1) (at_number es party)) (at_is party e.0 ∙ f) ∙ q)))
 
+passed_over : (b : Bool) (d : ℕ) (rest : Option ℕ) → cond b (Some d) rest ≡ None → (b ≡ false) × (rest ≡ None)
+passed_over true d rest e = absurd (let w : ◌≡◌ {A = Option ℕ} (Some d) None = e in cc)
+passed_over false d rest e = (refl, e)
+
+here_or_after : (d e : ℕ) → d ≤ e → (e ≡ d) ⊎ (suc d ≤ e)
+here_or_after zero zero le = inl refl
+here_or_after zero (suc e) le = inr (omega arith)
+here_or_after (suc d) zero le = absurd (omega arith)
+here_or_after (suc d) (suc e) le =
+    elim (here_or_after d e (omega arith)) [
+      | inl q ↦ inl (ap suc q)
+      | inr q ↦ inr (omega arith)
+    ]
+
 -- where no day passes a test, each fails it
 pub none_passes : (test : ℕ → Bool) (d n : ℕ) → first_day test d n ≡ None → (e : ℕ) → d ≤ e → e < d + n → test e ≡ false
-none_passes test d n none = subst (IsFirst test d n) none (first_day-is test d n)
+unfolding first_day
+none_passes test d zero none e le lt = absurd (omega arith)
+none_passes test d (suc n) none e le lt =
+    let p = passed_over (test d) d (first_day test (suc d) n) none in
+    elim (here_or_after d e le) [
+      | inl q ↦ ap test q ∙ p.0
+      | inr q ↦ none_passes test (suc d) n p.1 e q (omega arith)
+    ]

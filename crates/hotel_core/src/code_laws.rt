@@ -19,8 +19,8 @@ pub fn rooms_and_codes()
 
 /// The table of codes tells each code's room and place.
 pub fn places()
-    ensures told { (h : History) → Reached h → CodesHavePlaces h }
-    ensures true_places { (h : History) → Reached h → PlacesHaveCodes h }
+    ensures of_codes { (h : History) → Reached h → CodesHavePlaces h }
+    ensures of_rows { (h : History) → Reached h → PlacesHaveCodes h }
     ensures no_code_twice { (h : History) → Reached h → NoCodeTwice h }
 {}
 
