@@ -113,16 +113,6 @@ in_house_by h party None found e n = cc
 
 pub spare_lifts : (h : History) (party : ℕ) → HomeLink h → Lifts h (command.Spare party)
 spare_lifts h party found ahead =
-    lifts_by h ahead (command.Spare party) (
-      refl,
-      λ _. (
-        ap (λ b. needs b NoParty) (is_there (stays h) party),
-        λ _. (
-          refl,
-          λ n. (
-            ap (λ b. bars b NumbersUsedUp) (last_number (length (cards h))),
-            λ _. ap (λ link. accepted (reply.Issued (card_of (next_card h) party link)) (change.Spare (card_of (next_card h) party link))) (in_house_by h party (room_of h party) found refl n),
-          ),
-        ),
-      ),
-    )
+    lifts_by h ahead (command.Spare party)
+    (refl, λ _. (ap (λ b. needs b NoParty) (is_there (stays h) party), λ _. (refl, λ n. (ap (λ b. bars b NumbersUsedUp) (last_number (length (cards h))),
+      λ _. ap (λ link. accepted (reply.Issued (card_of (next_card h) party link)) (change.Spare (card_of (next_card h) party link))) (in_house_by h party (room_of h party) found refl n)))))

@@ -1,5 +1,5 @@
 -- On no night are more stays of a kind than rooms.
-use Rattle.std.proofs.Common.{ℕ, ◌≡◌, ◌≤◌, ◌<◌, ◌+◌, Bool, true, false, cond, Option, Some, None, List, [], ◌∷◌, inl, inr, refl, ap, sym, ◌∙◌, subst, arith}
+use Rattle.std.proofs.Common.{ℕ, ◌≡◌, ◌≤◌, ◌<◌, ◌+◌, Bool, true, false, cond, Some, None, List, refl, ap, sym, ◌∙◌, subst, arith}
 use Rattle.std.specs.Prelude.{◌&&◌, nat_le, nat_lt, is_some, bytes_eq}
 use Rattle.std.specs.List.{count_by}
 use Rattle.std.specs.Map.{values_of}
@@ -12,13 +12,13 @@ use Rattle.hotel_nights.specs.declared.stay.StayState.TheVariants as state
 use Rattle.hotel_nights.specs.FullNight.{takes, is_standing, is_full, nights_taken}
 use Rattle.hotel_core.specs.Words.{said_of}
 use Rattle.hotel_core.specs.Rows.{at_number}
-use Rattle.hotel_core.specs.Event.{Event, Install, Reserved, Cancelled, CheckIn, Transfer, CheckOut}
+use Rattle.hotel_core.specs.Event.{Install, Reserved, Cancelled, CheckIn, Transfer, CheckOut}
 use Rattle.hotel_core.specs.History.{History, start, ◌▷◌}
 use Rattle.hotel_core.specs.Stays.{stays, rooms, rooms_of, now_is, first_full}
 use Rattle.hotel_core.specs.Cases.{is_booked, is_in_house, is_booked_state, room_of_state}
 use Rattle.hotel_core.specs.Run.{Reached}
 use Rattle.hotel_core.specs.Headline.{NoOversell}
-use Rattle.hotel_core.proofs.Tests.{and_true, either_way, not_both}
+use Rattle.hotel_core.proofs.Tests.{and_true, not_both}
 use Rattle.hotel_core.proofs.Tables.{no_key}
 use Rattle.hotel_core.proofs.Grown.{at_start, may_follow}
 use Rattle.hotel_core.proofs.Numbering.{next_party_free}

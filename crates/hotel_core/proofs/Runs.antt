@@ -47,7 +47,7 @@ pub steps_lift : (h : History) (rows : Rows) (s : Stream) (command : Command) (r
     → Goes (outcome_on rows (words 64 s) command) rows s reply later rest → (h' : History) × StandsFor h' later × Steps h s command reply h' rest
 steps_lift h rows s command reply later rest stands n g =
     let on_history : Goes (outcome_on (rows_of h) (words 64 s) command) (rows_of h) s reply later rest =
-    subst (λ z. Goes (outcome_on z (words 64 s) command) z s reply later rest) stands.1 g in
+        subst (λ z. Goes (outcome_on z (words 64 s) command) z s reply later rest) stands.1 g in
     step_by (is_failed reply) h s command reply later rest stands.0
     (subst (λ o. Goes o (rows_of h) s reply later rest) (answers_lift h command stands.0 n (words 64 s)) on_history)
 

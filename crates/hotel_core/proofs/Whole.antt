@@ -74,7 +74,7 @@ card_there : (h : History) → Reached h → (number : ℕ) (card : Card) → at
 card_there h ok number card e =
     let l = cards_have_links h ok number card e in
     ap is_some (codes_have_places h ok l.0 (l.1.0 ++ card.link.old_code ∷ []) card.link.new_code l.1.1
-    (l.1.2 ∙ sym (append_assoc l.1.0 (card.link.old_code ∷ []) (card.link.new_code ∷ l.1.1))))
+      (l.1.2 ∙ sym (append_assoc l.1.0 (card.link.old_code ∷ []) (card.link.new_code ∷ l.1.1))))
 
 pub whole : (h : History) → Reached h → AreWhole (rows_of h)
 whole h ok = record {
