@@ -4,11 +4,13 @@ use Rattle.std.specs.Map.{keys_of}
 use Rattle.keycard_rules.specs.declared.card.Card.{Card}
 use Rattle.keycard_rules.specs.declared.card.Link.{Link}
 use Rattle.hotel_core.specs.declared.rows.CodeRow.{CodeRow}
+use Rattle.hotel_core.specs.Words.{is_one_of}
 use Rattle.hotel_core.specs.Rows.{at_number}
 use Rattle.hotel_core.specs.History.{History}
 use Rattle.hotel_core.specs.Issued.{issued, all_issued}
 use Rattle.hotel_core.specs.Ledger.{passed, awaited}
 use Rattle.hotel_core.specs.Cards.{cards, newest_link, link_of_party}
+use Rattle.hotel_core.specs.Guests.{registered, inside, secured}
 use Rattle.hotel_core.specs.Stays.{stays}
 use Rattle.hotel_core.specs.SoundRooms.{count_up}
 use Rattle.hotel_core.specs.RowsOf.{rows_of}
@@ -84,3 +86,24 @@ StaysFit h = length (stays h) ≤ 9999999
 -- A room has at most one code more than there are cards.
 abbrev pub CodesFit : History → Type 0
 CodesFit h = (r : ℕ) → length (issued h r) ≤ length (cards h) + 1
+
+-- the party has a card of this link
+abbrev pub HasCard : History → ℕ → Link → Type 0
+HasCard h party link = (number : ℕ) × (card : Card) × (at_number (cards h) number ≡ Some card) × (card.link ≡ link) × (card.party ≡ party)
+
+-- A party has a card of the link that it was given last.
+abbrev pub PartiesHaveCards : History → Type 0
+PartiesHaveCards h = (party : ℕ) (link : Link) → link_of_party h party ≡ Some link → HasCard h party link
+
+-- Cards that bring the same new code are one party's.
+abbrev pub CardsOneParty : History → Type 0
+CardsOneParty h = (n m : ℕ) (a b : Card) → at_number (cards h) n ≡ Some a → at_number (cards h) m ≡ Some b → a.link.new_code ≡ b.link.new_code → a.party ≡ b.party
+
+-- A registered party has a card of its room's newest link.
+abbrev pub GuestsHaveCards : History → Type 0
+GuestsHaveCards h = (r party : ℕ) → registered h r ≡ Some party → (link : Link) × (newest_link h r ≡ Some link) × HasCard h party link
+
+-- A secured room awaits no code, and each card inside has its newest link.
+abbrev pub SecuredRoomsFit : History → Type 0
+SecuredRoomsFit h = (r : ℕ) → secured h r ≡ true → (is_room h r ≡ true) × (awaited h r ≡ [])
+    × ((number : ℕ) → is_one_of number (inside h r) ≡ true → (card : Card) × (at_number (cards h) number ≡ Some card) × (newest_link h r ≡ Some card.link))

@@ -1,6 +1,6 @@
 // Laws of codes, cards and locks along each history that can be reached.
-ghost use Rattle.hotel_core.specs.CodeLaws.{CardsCount, CardsFit, CardsHaveLinks, CodesAreFound, CodesFit, CodesHavePlaces, NewestAreLast, NextAreNew, OthersHaveNone, PartiesHaveLinks, PlacesHaveCodes, RoomsHaveCodes, StaysCount, StaysFit};
-ghost use Rattle.hotel_core.specs.Headline.{LedgerHolds, NewestOpens, NoCodeTwice, OpensOwnRoom, TakesTheFirst};
+ghost use Rattle.hotel_core.specs.CodeLaws.{CardsCount, CardsFit, CardsHaveLinks, CardsOneParty, CodesAreFound, CodesFit, CodesHavePlaces, GuestsHaveCards, NewestAreLast, NextAreNew, OthersHaveNone, PartiesHaveCards, PartiesHaveLinks, PlacesHaveCodes, RoomsHaveCodes, SecuredRoomsFit, StaysCount, StaysFit};
+ghost use Rattle.hotel_core.specs.Headline.{LedgerHolds, NewestOpens, NoCodeTwice, OpensOwnRoom, SafeRoom, TakesTheFirst};
 ghost use Rattle.hotel_core.specs.History.{History};
 ghost use Rattle.hotel_core.specs.Run.{Reached};
 
@@ -53,4 +53,17 @@ pub fn bounds()
     ensures of_cards { (h : History) → Reached h → CardsFit h }
     ensures of_stays { (h : History) → Reached h → StaysFit h }
     ensures of_codes { (h : History) → Reached h → CodesFit h }
+{}
+
+/// Whose the cards of a link are.
+pub fn owners()
+    ensures of_links { (h : History) → Reached h → PartiesHaveCards h }
+    ensures one_party { (h : History) → Reached h → CardsOneParty h }
+    ensures of_guests { (h : History) → Reached h → GuestsHaveCards h }
+{}
+
+/// Who can be inside a secured room.
+pub fn safety()
+    ensures secured { (h : History) → Reached h → SecuredRoomsFit h }
+    ensures safe_room { (h : History) → Reached h → SafeRoom h }
 {}
