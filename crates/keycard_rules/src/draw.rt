@@ -1,7 +1,7 @@
 //! Drawing a code that was never issued.
-ghost use Rattle.std.specs.Prelude.{◌≡◌, ℕ, ◌≤◌};
+ghost use Rattle.std.specs.Prelude.{◌≡◌, ℕ, ◌≤◌, false, Err, IfOk};
 ghost use Rattle.rand_core.specs.Stream.{next_u64};
-ghost use Rattle.keycard_rules.specs.Draw.{Draws, IsFailed};
+ghost use Rattle.keycard_rules.specs.Draw.{is_among, words, Draws, AllIssued, IsFailed};
 ghost use Rattle.keycard_rules.specs.Rise.{HasRisen};
 
 use crate::code::Code;
@@ -19,6 +19,9 @@ pub enum DrawFault {
 /// The first code of the next 64 words of `source` that wasn't issued.
 pub fn draw_fresh<R: Rng, I: Issued>(source: &mut R, issued: &mut I) -> Result<Code, DrawFault>
     ensures drawn { I.is_clean issued.new → Draws (I.issued issued.old) (R.stream source.old) result (R.stream source.new) }
+    ensures fresh { I.is_clean issued.new → IfOk result (λ code. is_among (I.issued issued.old) code ≡ false) }
+    ensures none_fresh { I.is_clean issued.new → result ≡ Err DrawFault.NoFreshCode → AllIssued (I.issued issued.old) (words 64 (R.stream source.old)) }
+
     ensures kept { I.is_clean issued.new → I.is_kept issued.old issued.new }
     ensures was_clean { I.is_clean issued.new → I.is_clean issued.old }
     ensures counted { I.failures issued.old ≤ I.failures issued.new }

@@ -1,9 +1,11 @@
 //! What knows the codes that were issued.
-ghost use Rattle.std.specs.Prelude.{◌≡◌, ℕ, ◌≤◌, List, IfOk, OnErr, IsOk};
+ghost use Rattle.std.specs.Prelude.{◌≡◌, ℕ, ◌≤◌, List, IfOk, OnErr, IsOk, refl};
+ghost use Rattle.std.proofs.Common.{◌∙◌};
 ghost use Rattle.keycard_rules.specs.Draw.{is_among};
 ghost use Rattle.keycard_rules.specs.Rise.{HasRisen};
 
 use crate::code::Code;
+use std::marker::Model;
 
 /// Why a look-up has no answer.
 #[derive(Clone, Copy, Debug, PartialEq, Eq)]
@@ -43,4 +45,49 @@ pub trait Issued {
     ghost kept_trans: { (a b c : Self) → is_kept a b → is_kept b c → is_kept a c };
 
     ghost kept_issued: { (a b : Self) → is_kept a b → issued b ≡ issued a };
+}
+
+/// Issued codes in a list, for tests: its look-ups never fail.
+#[derive(Drop)]
+pub struct ListedCodes {
+    codes: Vec<Code>,
+}
+
+impl Model for ListedCodes {
+    ghost use Rattle.std.specs.Prelude.{ℕ, List};
+
+    ghost Value = { List ℕ };
+
+    ghost view = { λ listed. listed.codes.items };
+}
+
+impl ListedCodes {
+    /// These codes, which may stand more than once.
+    pub fn new(codes: Vec<Code>) -> ListedCodes
+        ensures { result ≡ codes.items }
+    {
+        ListedCodes { codes }
+    }
+}
+
+impl Issued for ListedCodes {
+    ghost issued = { λ listed. listed };
+
+    ghost is_clean = { λ _. Unit {0} };
+
+    ghost is_kept = { λ before after. after ≡ before };
+
+    ghost failures = { λ _. 0 };
+
+    ghost never_fails = { Unit {0} };
+
+    fn is_issued(&mut self, code: Code) -> Result<bool, LookFault> {
+        Ok(self.codes.as_slice().contains(&code))
+    }
+
+    ghost kept_refl = { λ a. refl };
+
+    ghost kept_trans = { λ a b c first second. second ∙ first };
+
+    ghost kept_issued = { λ a b kept. kept };
 }

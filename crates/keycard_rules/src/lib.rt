@@ -16,7 +16,7 @@ pub use card::{Card, Link};
 pub use chain::{Chain, Memory, RecodeFault, Turned};
 pub use code::Code;
 pub use draw::{DrawFault, draw_fresh};
-pub use issued::{Issued, LookFault};
+pub use issued::{Issued, ListedCodes, LookFault};
 pub use listed_words::ListedWords;
 pub use lock::turn;
 pub use note::{Act, LockNote};

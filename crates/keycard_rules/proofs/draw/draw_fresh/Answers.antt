@@ -1,6 +1,6 @@
 use Rattle.std.proofs.Common.{rules, ℕ, sym, ap, ◌∙◌, arith, ◌+◌, Some}
 use Rattle.keycard_rules.specs.Draw.{Draw}
-use Rattle.keycard_rules.proofs.Drawing.{so_far_none, so_far_more, found, examines, moved_on, no_more, code_taken, answer_at, draw_is}
+use Rattle.keycard_rules.proofs.Drawing.{so_far_none, so_far_more, found, examines, moved_on, no_more, code_taken, answer_at, draw_is, drawn-none}
 use Rattle.keycard_rules.proofs.draw.draw_fresh.Goals as goal
 
 pub loop-init : goal.loop-init
@@ -47,3 +47,8 @@ pub returns-clause-drawn : goal.returns-clause-drawn
 returns-clause-drawn g c = λ clean.
     let d = no_more _ _ _ _ (c.loop.invariant.so_far clean) c.loop-test.false in
     draw_is _ _ _ _ _ d ((c.loop.invariant.so_far clean).moved)
+
+pub returns-clause-none_fresh : goal.returns-clause-none_fresh
+returns-clause-none_fresh g c = λ clean is.
+    let d = no_more _ _ _ _ (c.loop.invariant.so_far clean) c.loop-test.false in
+    drawn-none _ _ (ap (λ (x : Draw). x.code) d)
