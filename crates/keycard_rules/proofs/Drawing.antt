@@ -106,14 +106,7 @@ no_more_at issued s0 s1 n (suc left) a e d = absurd (omega arith)
 pub no_more : (issued : List ℕ) (s0 s1 : Stream) (n : ℕ) → SoFar issued s0 n s1 → 64 ≤ n → drawn issued s0 ≡ record { code = None; examined = n }
 no_more issued s0 s1 n h e = no_more_at issued s0 s1 n h.left h.all e h.same
 
--- what a word's code is, once `Code::new` took it
-code_by : (b : Bool) (v code : ℕ) → Some code ≡ cond b (Some v) None → code ≡ v
-code_by true v code h = cc
-code_by false v code h = cc
-
-pub code_taken : (word code : ℕ) → Some code ≡ (if nat_lt (word / 65536) (2 ^ 48) then Some (word / 65536) else None) → code ≡ code_of word
-code_taken word code h = code_by (nat_lt (word / 65536) (2 ^ 48)) (word / 65536) code h
-
+-- an answer of a look-up, of the word's code and the codes at the start
 pub answer_at : (now then_ : List ℕ) (word code : ℕ) (was b : Bool) → was ≡ is_among now code → was ≡ b → now ≡ then_ → code ≡ code_of word → is_among then_ (code_of word) ≡ b
 answer_at now then_ word code was b a e s k = sym (ap (λ x. is_among now x) k ∙ ap (λ xs. is_among xs (code_of word)) s) ∙ sym a ∙ e
 

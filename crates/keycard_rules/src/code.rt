@@ -1,6 +1,7 @@
 //! The codes of cards and locks.
 
 ghost use Rattle.std.specs.Prelude.{◌≡◌, ℕ, ◌^◌, ◌<◌, Some, None, if◌then◌else◌, nat_lt};
+ghost use Rattle.keycard_rules.specs.Draw.{code_of};
 ghost use Rattle.keycard_rules.specs.Numerals.{read_code, code_text};
 
 use crate::numerals::{read_numeral, write_fixed};
@@ -31,6 +32,15 @@ impl Code {
             Some(Code { value })
         } else {
             None
+        }
+    }
+
+    /// The code of a source's word: its upper 48 bits.
+    pub(crate) fn of_word(word: u64) -> Code
+        ensures { result ≡ code_of word }
+    {
+        Code {
+            value: word / 65_536,
         }
     }
 

@@ -29,10 +29,7 @@ pub fn draw_fresh<R: Rng, I: Issued>(source: &mut R, issued: &mut I) -> Result<C
     ensures sure { I.never_fails → IsFailed result → ⊥ }
 {
     for _ in 0..64u32 {
-        let word = source.next_u64();
-        let Some(code) = Code::new(word / 65_536) else {
-            return Err(DrawFault::NoFreshCode);
-        };
+        let code = Code::of_word(source.next_u64());
         match issued.is_issued(code) {
             Ok(false) => return Ok(code),
             Ok(true) => {}
