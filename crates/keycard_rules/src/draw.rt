@@ -11,12 +11,18 @@ use rand_core::Rng;
 /// Why no code was drawn.
 #[derive(Clone, Copy, Debug, PartialEq, Eq)]
 pub enum DrawFault {
+    /// The codes of all 64 words were issued.
     NoFreshCode,
+    /// A look-up answered want of memory.
     Memory,
+    /// A look-up answered that the store failed.
     Store,
 }
 
-/// The first code of the next 64 words of `source` that wasn't issued.
+/// Draws a code that wasn't issued: the first such one among the codes of the source's next 64 words.
+///
+/// A word's code is its upper 48 bits. The source moves by the words that were examined, and on a fault of a look-up by no more
+/// than without it. Takes no memory of its own.
 pub fn draw_fresh<R: Rng, I: Issued>(source: &mut R, issued: &mut I) -> Result<Code, DrawFault>
     ensures drawn { I.is_clean issued.new → Draws (I.issued issued.old) (R.stream source.old) result (R.stream source.new) }
     ensures fresh { I.is_clean issued.new → IfOk result (λ code. is_among (I.issued issued.old) code ≡ false) }

@@ -1,4 +1,4 @@
-//! What knows the codes that were issued.
+//! What knows the codes that were issued, asked before a new one is given out.
 ghost use Rattle.std.specs.Prelude.{◌≡◌, ℕ, ◌≤◌, List, IfOk, OnErr, IsOk, refl};
 ghost use Rattle.std.proofs.Common.{◌∙◌};
 ghost use Rattle.keycard_rules.specs.Draw.{is_among};
@@ -10,11 +10,15 @@ use std::marker::Model;
 /// Why a look-up has no answer.
 #[derive(Clone, Copy, Debug, PartialEq, Eq)]
 pub enum LookFault {
+    /// A growth was refused.
     Memory,
+    /// A call of the store failed.
     Store,
 }
 
-/// What knows the codes that were issued.
+/// What knows the codes that were issued: a list in memory, or tables in a store.
+///
+/// An implementation counts its failures: a look-up answers a fault only where the count rose, or was at its greatest value.
 pub trait Issued {
     /// The codes that were issued.
     ghost issued: { Self → List ℕ };
@@ -31,7 +35,7 @@ pub trait Issued {
     /// The look-ups never fail.
     ghost never_fails: { Type 0 };
 
-    /// Whether a code was issued.
+    /// Whether a code was issued. It changes nothing but the count of failures.
     fn is_issued(&mut self, code: Code) -> Result<bool, LookFault>
         ensures answer { is_clean self.new → IfOk result (λ yes. yes ≡ is_among (issued self.old) code) }
         ensures kept { is_clean self.new → is_kept self.old self.new }
