@@ -71,9 +71,7 @@ impl Chain {
         ensures { IfOk result (λ c. c ≡ installed code) }
     {
         let mut codes = Vec::new(alloc);
-        if codes.push(code).is_err() {
-            return Err(Memory);
-        }
+        codes.push(code).map_err(|_| Memory)?;
         Ok(Chain { codes, place: 0 })
     }
 
@@ -88,9 +86,7 @@ impl Chain {
         ensures err { OnErr result (self.new ≡ self.old) }
     {
         let old_code = self.current();
-        if self.codes.push(code).is_err() {
-            return Err(Memory);
-        }
+        self.codes.push(code).map_err(|_| Memory)?;
         Ok(Link {
             old_code,
             new_code: code,
