@@ -1,6 +1,6 @@
 //! The codes of one room, in order of issue, and the lock's place among them.
 
-ghost use Rattle.std.specs.Prelude.{◌≡◌, ℕ, ◌+◌, ◌<◌, ◌≤◌, ◌==◌, length, Some, Ok, IfOk, IfErr, OnOk, OnErr, option_map, false, nat_eq};
+ghost use Rattle.std.specs.Prelude.{◌≡◌, [], ◌∷◌, ◌++◌, length, Ok, IfOk, OnOk, OnErr, option_map, false, nat_eq};
 ghost use Rattle.std.specs.List.{IsDistinct};
 ghost use Rattle.keycard_rules.specs.Draw.{is_among};
 ghost use Rattle.keycard_rules.specs.Lock.{turn};
@@ -81,6 +81,7 @@ impl Chain {
     pub fn issue(&mut self, code: Code) -> Result<Link, Memory>
         requires fresh { is_among (issued self.old) code ≡ false }
         ensures ok { OnOk result (self.new ≡ with_issued self.old code) }
+        ensures codes { OnOk result (issued self.new ≡ issued self.old ++ (code ∷ [])) }
         ensures link { IfOk result (λ l. l ≡ record { old_code = current self.old; new_code = code }) }
         ensures is_link { IfOk result (λ l. IsLinkOf (issued self.new) l) }
         ensures err { OnErr result (self.new ≡ self.old) }

@@ -1,6 +1,5 @@
 //! Drawing a code that was never issued.
-ghost use Rattle.std.specs.Prelude.{◌≡◌, ℕ, ◌≤◌, false, Err, IfOk};
-ghost use Rattle.rand_core.specs.Stream.{next_u64};
+ghost use Rattle.std.specs.Prelude.{◌≡◌, ◌≤◌, false, Err, IfOk};
 ghost use Rattle.keycard_rules.specs.Draw.{is_among, words, MovedAtMost, Draws, AllIssued, IsFailed};
 ghost use Rattle.keycard_rules.specs.Rise.{HasRisen};
 
