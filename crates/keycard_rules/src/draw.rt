@@ -1,6 +1,6 @@
 //! Drawing a code that was never issued.
 ghost use Rattle.std.specs.Prelude.{◌≡◌, ◌≤◌, false, Err, IfOk};
-ghost use Rattle.keycard_rules.specs.Draw.{is_among, words, MovedAtMost, Draws, AllIssued, IsFailed};
+ghost use Rattle.keycard_rules.specs.Draw.{is_among, words, past, MovedAtMost, Draws, AllIssued, IsFailed};
 ghost use Rattle.keycard_rules.specs.Rise.{HasRisen};
 
 use crate::code::Code;
@@ -28,6 +28,7 @@ pub fn draw_fresh<R: Rng, I: Issued>(source: &mut R, issued: &mut I) -> Result<C
     ensures none_fresh { I.is_clean issued.new → result ≡ Err DrawFault.NoFreshCode → AllIssued (I.issued issued.old) (words 64 (R.stream source.old)) }
 
     ensures moved { MovedAtMost 64 (R.stream source.old) (R.stream source.new) }
+    ensures none_moved { result ≡ Err DrawFault.NoFreshCode → R.stream source.new ≡ past 64 (R.stream source.old) }
 
     ensures kept { I.is_clean issued.new → I.is_kept issued.old issued.new }
     ensures was_clean { I.is_clean issued.new → I.is_clean issued.old }

@@ -1,4 +1,4 @@
-use Rattle.std.proofs.Common.{ℕ, sym, ap, ◌∙◌, arith, ◌+◌, Some}
+use Rattle.std.proofs.Common.{◌≡◌, ℕ, sym, ap, ◌∙◌, arith, ◌+◌, Some}
 use Rattle.keycard_rules.specs.Draw.{Draw}
 use Rattle.keycard_rules.proofs.Drawing.{past-zero, past-next, so_far_none, so_far_more, found, examines, moved_on, no_more, answer_at, draw_is, drawn-none}
 use Rattle.keycard_rules.proofs.draw.draw_fresh.Goals as goal
@@ -64,3 +64,8 @@ returns-in-Err-Store-clause-moved g c = (c.loop.counter + 1, omega arith, past-n
 
 pub returns-clause-moved : goal.returns-clause-moved
 returns-clause-moved g c = (c.loop.counter, omega arith, c.loop.invariant.moved)
+
+pub returns-clause-none_moved : goal.returns-clause-none_moved
+returns-clause-none_moved g c = λ is.
+    let all : c.loop.counter ≡ 64 = omega arith in
+    rw all at c.loop.invariant.moved
