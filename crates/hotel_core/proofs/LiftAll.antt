@@ -1,5 +1,4 @@
 -- Every command, lifted.
-use Rattle.std.proofs.Common.{ℕ, ◌≡◌, ◌≤◌}
 use Rattle.hotel_core.specs.declared.command.Command.{Command}
 use Rattle.hotel_core.specs.declared.command.Command.TheVariants as command
 use Rattle.hotel_core.specs.History.{History}

@@ -1,5 +1,5 @@
 -- The commands that read no room's row, lifted.
-use Rattle.std.proofs.Common.{ℕ, ◌≡◌, ◌+◌, Bool, true, false, Option, Some, None, List, [], ◌∷◌, refl, ap, sym, ◌∙◌, arith, length}
+use Rattle.std.proofs.Common.{ℕ, ◌≡◌, Option, Some, None, List, refl, ap, ◌∙◌, length}
 use Rattle.std.specs.Prelude.{option_map, is_some}
 use Rattle.keycard_rules.specs.Draw.{draw_from}
 use Rattle.hotel_core.specs.declared.command.Command.TheVariants as command
@@ -11,7 +11,7 @@ use Rattle.hotel_core.specs.History.{History}
 use Rattle.hotel_core.specs.Issued.{issued_codes}
 use Rattle.hotel_core.specs.Stays.{stays, rooms}
 use Rattle.hotel_core.specs.RowsOf.{room_row, rows_of}
-use Rattle.hotel_core.specs.Cases.{is_room, is_party}
+use Rattle.hotel_core.specs.Cases.{is_room}
 use Rattle.hotel_core.specs.Outcome.{needs, bars}
 use Rattle.hotel_core.specs.Lookups.{room_at}
 use Rattle.hotel_core.specs.Lift.{Lifts}

@@ -1,14 +1,12 @@
 -- Look-ups of codes find what the lifts of commands need.
-use Rattle.std.proofs.Common.{ℕ, ◌≡◌, ◌+◌, Bool, true, false, Option, Some, None, List, refl, ap, sym, ◌∙◌, length}
+use Rattle.std.proofs.Common.{◌+◌, false, Option, refl, ap, sym, ◌∙◌, length}
 use Rattle.std.specs.Prelude.{◌==◌, ◌&&◌, nat_lt}
-use Rattle.keycard_rules.specs.declared.card.Link.{Link}
 use Rattle.hotel_core.specs.declared.rows.CodeRow.{CodeRow}
 use Rattle.hotel_core.specs.Words.{said_of}
 use Rattle.hotel_core.specs.Rows.{at_number}
 use Rattle.hotel_core.specs.Event.{Moment}
 use Rattle.hotel_core.specs.History.{History}
-use Rattle.hotel_core.specs.Issued.{issued, all_issued, current}
-use Rattle.hotel_core.specs.Ledger.{passed}
+use Rattle.hotel_core.specs.Issued.{issued, all_issued}
 use Rattle.hotel_core.specs.Notes.{notes}
 use Rattle.hotel_core.specs.Run.{Reached}
 use Rattle.hotel_core.proofs.CodesFound as found

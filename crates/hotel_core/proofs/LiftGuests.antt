@@ -1,5 +1,5 @@
 -- The commands by which a party comes to a room, lifted.
-use Rattle.std.proofs.Common.{ℕ, ◌≡◌, ◌+◌, Bool, true, false, Option, Some, None, List, [], ◌∷◌, refl, ap, sym, ◌∙◌, arith, length}
+use Rattle.std.proofs.Common.{ℕ, ◌≡◌, true, Option, Some, None, refl, ap, sym, ◌∙◌, length}
 use Rattle.std.specs.Prelude.{is_some}
 use Rattle.hotel_core.specs.Words.{said_of}
 use Rattle.keycard_rules.specs.Draw.{draw_from, Draw}
@@ -17,10 +17,9 @@ use Rattle.hotel_core.specs.Cards.{card_of, cards, link_to}
 use Rattle.hotel_core.specs.Stays.{stays}
 use Rattle.hotel_core.specs.RowsOf.{rows_of}
 use Rattle.hotel_core.specs.Cases.{is_room, next_card, room_of, last_card_of, no_link}
-use Rattle.hotel_core.specs.ChangeOf.{change_of}
 use Rattle.hotel_core.specs.Outcome.{Outcome, needs, bars, accepted, by_draw}
 use Rattle.hotel_core.specs.OnRows.{link_on, home_link_on}
-use Rattle.hotel_core.specs.Lift.{Lifts, as_change}
+use Rattle.hotel_core.specs.Lift.{Lifts}
 use Rattle.hotel_core.proofs.Numbered.{is_there}
 use Rattle.hotel_core.proofs.LiftTools.{lifts_by, draw_lifts, needed}
 use Rattle.hotel_core.proofs.LiftEasy.{room_is_there}
@@ -113,6 +112,16 @@ in_house_by h party None found e n = cc
 
 pub spare_lifts : (h : History) (party : ℕ) → HomeLink h → Lifts h (command.Spare party)
 spare_lifts h party found ahead =
-    lifts_by h ahead (command.Spare party)
-    (refl, λ _. (ap (λ b. needs b NoParty) (is_there (stays h) party), λ _. (refl, λ n. (ap (λ b. bars b NumbersUsedUp) (last_number (length (cards h))),
-      λ _. ap (λ link. accepted (reply.Issued (card_of (next_card h) party link)) (change.Spare (card_of (next_card h) party link))) (in_house_by h party (room_of h party) found refl n)))))
+    lifts_by h ahead (command.Spare party) (
+      refl,
+      λ _. (
+        ap (λ b. needs b NoParty) (is_there (stays h) party),
+        λ _. (
+          refl,
+          λ n. (
+            ap (λ b. bars b NumbersUsedUp) (last_number (length (cards h))),
+            λ _. ap (λ link. accepted (reply.Issued (card_of (next_card h) party link)) (change.Spare (card_of (next_card h) party link))) (in_house_by h party (room_of h party) found refl n),
+          ),
+        ),
+      ),
+    )

@@ -1,17 +1,15 @@
 -- A registered party's last card has the newest link of its room.
-use Rattle.std.proofs.Common.{ℕ, ◌≡◌, ◌+◌, ◌-◌, Bool, true, false, Option, Some, None, List, refl, ap, sym, ◌∙◌, subst, length}
+use Rattle.std.proofs.Common.{ℕ, ◌≡◌, ◌-◌, Bool, true, false, Option, Some, None, refl, ap, sym, ◌∙◌, subst, length}
 use Rattle.std.specs.Prelude.{◌==◌, is_some}
 use Rattle.keycard_rules.specs.declared.card.Link.{Link}
 use Rattle.hotel_core.specs.Words.{when, said_of}
-use Rattle.hotel_core.specs.Rows.{no_rows}
-use Rattle.hotel_core.specs.Event.{Install, CheckIn, Transfer, CheckOut}
+use Rattle.hotel_core.specs.Event.{CheckIn, Transfer, CheckOut}
 use Rattle.hotel_core.specs.History.{History, start, ◌▷◌}
 use Rattle.hotel_core.specs.Cards.{link_to, newest_link, link_of_party}
 use Rattle.hotel_core.specs.Guests.{registered, leaves}
 use Rattle.hotel_core.specs.Issued.{issued}
 use Rattle.hotel_core.specs.RowsOf.{rows_of}
-use Rattle.hotel_core.specs.Cases.{is_room, room_of, no_link}
-use Rattle.hotel_core.specs.Lookups.{code_at}
+use Rattle.hotel_core.specs.Cases.{room_of, no_link}
 use Rattle.hotel_core.specs.Change.{codes_of}
 use Rattle.hotel_core.specs.OnRows.{said_code_at, home_link_on}
 use Rattle.hotel_core.specs.Run.{Reached}
@@ -53,8 +51,8 @@ has_newest (start t) ok r p e = absurd (no_party p (subst (λ z. registered (sta
 has_newest (h ▷ CheckIn party room number code) ok r p e =
     let booked = (may_follow h (CheckIn party room number code) ok).2 in
     let same : when (room == r) (λ _. Some (link_to h room code)) (newest_link h r) ≡ when (party == p) (λ _. Some (link_to h room code)) (link_of_party h p) =
-        came_with_link (room == r) party p r (link_to h room code) (registered h r) (newest_link h r) (link_of_party h p) e
-        (λ was. (booked_is_another h ok.0 party p r (booked_nowhere h party booked) was, has_newest h ok.0 r p was)) in
+    came_with_link (room == r) party p r (link_to h room code) (registered h r) (newest_link h r) (link_of_party h p) e
+    (λ was. (booked_is_another h ok.0 party p r (booked_nowhere h party booked) was, has_newest h ok.0 r p was)) in
     same
 has_newest (h ▷ Transfer party room number code) ok r p e =
     came_with_link (room == r) party p r (link_to h room code) (leaves party (registered h r)) (newest_link h r) (link_of_party h p) e
@@ -79,8 +77,8 @@ home_link_found h ok party room e =
     let codes = newest_found h ok room l.0 l.2 in
     let n : codes_of (rows_of h) room ≡ length (issued h room) = codes_said h room (there_by_link h ok room l.0 l.2) in
     let here : home_link_on (rows_of h) party ≡ record { old_code = said_code_at (rows_of h) room (length (issued h room) - 2); new_code = said_code_at (rows_of h) room (length (issued h room) - 1) } =
-        ap (λ o. said_of o no_link (λ r. record { old_code = said_code_at (rows_of h) r (codes_of (rows_of h) r - 2); new_code = said_code_at (rows_of h) r (codes_of (rows_of h) r - 1) })) e
-        ∙ ap (λ m. let x : Link = record { old_code = said_code_at (rows_of h) room (m - 2); new_code = said_code_at (rows_of h) room (m - 1) } in x) n in
+    ap (λ o. said_of o no_link (λ r. record { old_code = said_code_at (rows_of h) r (codes_of (rows_of h) r - 2); new_code = said_code_at (rows_of h) r (codes_of (rows_of h) r - 1) })) e
+    ∙ ap (λ m. let x : Link = record { old_code = said_code_at (rows_of h) room (m - 2); new_code = said_code_at (rows_of h) room (m - 1) } in x) n in
     l.1 ∙ ap (λ z. Some z) (sym (here
-      ∙ ap (λ o. let x : Link = record { old_code = said_of o 0 (λ c. c); new_code = said_code_at (rows_of h) room (length (issued h room) - 1) } in x) codes.0
-      ∙ ap (λ o. let x : Link = record { old_code = l.0.old_code; new_code = said_of o 0 (λ c. c) } in x) codes.1))
+    ∙ ap (λ o. let x : Link = record { old_code = said_of o 0 (λ c. c); new_code = said_code_at (rows_of h) room (length (issued h room) - 1) } in x) codes.0
+    ∙ ap (λ o. let x : Link = record { old_code = l.0.old_code; new_code = said_of o 0 (λ c. c) } in x) codes.1))

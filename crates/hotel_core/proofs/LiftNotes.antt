@@ -1,5 +1,5 @@
 -- A note of a lock, lifted.
-use Rattle.std.proofs.Common.{ℕ, ◌≡◌, ◌+◌, ◌≤◌, Bool, true, false, cond, Option, Some, None, List, [], ◌∷◌, refl, ap, sym, ◌∙◌, arith, length}
+use Rattle.std.proofs.Common.{ℕ, ◌≡◌, ◌+◌, ◌≤◌, Bool, true, false, cond, Option, Some, None, [], ◌∷◌, refl, ap, sym, ◌∙◌, length}
 use Rattle.std.specs.Prelude.{◌==◌, ◌&&◌, is_some}
 use Rattle.keycard_rules.specs.declared.card.Link.{Link}
 use Rattle.keycard_rules.specs.declared.note.Act.{Act}
@@ -15,19 +15,18 @@ use Rattle.hotel_core.specs.declared.reply.Refusal.TheVariants.{NoRoom, NoCard, 
 use Rattle.hotel_core.specs.Words.{when, said_of, is_one_of}
 use Rattle.hotel_core.specs.Event as event
 use Rattle.hotel_core.specs.History.{History, ◌▷◌}
-use Rattle.hotel_core.specs.Issued.{issued, current}
+use Rattle.hotel_core.specs.Issued.{current}
 use Rattle.hotel_core.specs.Cards.{cards}
 use Rattle.hotel_core.specs.Lock.{held}
-use Rattle.hotel_core.specs.Ledger.{passed, awaited}
+use Rattle.hotel_core.specs.Ledger.{awaited}
 use Rattle.hotel_core.specs.Guests.{inside, secured, are_none}
-use Rattle.hotel_core.specs.Notes.{Copy, Conflicting, Next, After, notes, standing, same_note}
+use Rattle.hotel_core.specs.Notes.{Copy, Conflicting, Next, After, notes, same_note}
 use Rattle.hotel_core.specs.RowsOf.{rows_of}
 use Rattle.hotel_core.specs.Cases.{is_room, is_card, has_link, opens, holds}
 use Rattle.hotel_core.specs.Lookups.{card_at, note_at, inside_at}
-use Rattle.hotel_core.specs.Outcome.{Outcome, needs, unless, accepted, said, refused}
+use Rattle.hotel_core.specs.Outcome.{needs, accepted, said, refused}
 use Rattle.hotel_core.specs.Answer.{told, reported, moment_of}
-use Rattle.hotel_core.specs.ChangeOf.{change_of, comes}
-use Rattle.hotel_core.specs.Change.{codes_of}
+use Rattle.hotel_core.specs.ChangeOf.{comes}
 use Rattle.hotel_core.specs.OnRows.{told_on, reported_on, held_on, said_code_at, place_on, lock_place_on, secured_on, secured_after_on, is_awaited_on, has_link_on}
 use Rattle.hotel_core.specs.Run.{Reached}
 use Rattle.hotel_core.specs.Lift.{Lifts, as_change}
@@ -36,7 +35,7 @@ use Rattle.hotel_core.proofs.Tests.{eq_self}
 use Rattle.hotel_core.proofs.Numbered.{is_there}
 use Rattle.hotel_core.proofs.RoomNumbers.{room_there}
 use Rattle.hotel_core.proofs.NotesKept.{standing_on, standing_by_lookup}
-use Rattle.hotel_core.proofs.LiftTools.{Alike, lifts_by, same_unless, after_checks, needed}
+use Rattle.hotel_core.proofs.LiftTools.{lifts_by, same_unless, after_checks, needed}
 use Rattle.hotel_core.proofs.LiftEasy.{room_is_there}
 use Rattle.hotel_core.proofs.LiftRooms.{codes_said, place_said, secured_said}
 
@@ -78,15 +77,21 @@ told_lifts h note (act.Entered number link) found r =
     (needs (is_some (card_at rows number)) NoCard ∷ needs (has_link_on rows number link) CardDiffers ∷ needs (is_some (turn (held_on rows note.room) link)) LockShut ∷ [])
     (needs (is_card h number) NoCard ∷ needs (has_link h number link) CardDiffers ∷ needs (opens h note.room link) LockShut ∷ [])
     (accepted reply.Taken (change.Noted n (place_on rows link.new_code) (secured_after_on rows note.room link) (comes (is_one_of number (inside_at rows note.room)) number)))
-    (as_change h (accepted reply.Taken e))
-    (ap (λ b. needs b NoCard) (is_there (cards h) number),
-      λ k. (refl, λ l. (ap (λ code. needs (is_some (turn code link)) LockShut) (held_said h note.room found r),
-        λ o. let there = needed (is_card h number) NoCard k in
-        let seen = needed (has_link h number link) CardDiffers l in
-        let opened = needed (opens h note.room link) LockShut o in
-        taken_alike n _ _ _ _ (comes (is_one_of number (inside h note.room)) number)
-        (found.entered_place note.room note.count number link (moment_of note) r there seen opened)
-        (secured_entered h note.room note.count number link (moment_of note) found r there seen opened))))
+    (as_change h (accepted reply.Taken e)) (
+      ap (λ b. needs b NoCard) (is_there (cards h) number),
+      λ k. (
+        refl,
+        λ l. (
+          ap (λ code. needs (is_some (turn code link)) LockShut) (held_said h note.room found r),
+          λ o. let there = needed (is_card h number) NoCard k in
+              let seen = needed (has_link h number link) CardDiffers l in
+              let opened = needed (opens h note.room link) LockShut o in
+              taken_alike n _ _ _ _ (comes (is_one_of number (inside h note.room)) number)
+              (found.entered_place note.room note.count number link (moment_of note) r there seen opened)
+              (secured_entered h note.room note.count number link (moment_of note) found r there seen opened),
+        ),
+      ),
+    )
     ∙ after_checks h (needs (is_card h number) NoCard ∷ needs (has_link h number link) CardDiffers ∷ needs (opens h note.room link) LockShut ∷ []) (accepted reply.Taken e)
 told_lifts h note (act.Left number link) found r =
     let n : Note = record note { act = act.Left number link } in
@@ -96,9 +101,10 @@ told_lifts h note (act.Left number link) found r =
     (needs (is_some (card_at rows number)) NoCard ∷ needs (has_link_on rows number link) CardDiffers ∷ needs (is_one_of number (inside_at rows note.room)) NotInside ∷ [])
     (needs (is_card h number) NoCard ∷ needs (has_link h number link) CardDiffers ∷ needs (is_one_of number (inside h note.room)) NotInside ∷ [])
     (accepted reply.Taken (change.Noted n (lock_place_on rows note.room) (secured_on rows note.room) (Goes number)))
-    (as_change h (accepted reply.Taken e))
-    (ap (λ b. needs b NoCard) (is_there (cards h) number),
-      λ _. (refl, λ _. (refl, λ _. taken_alike n _ _ _ _ (Goes number) (place_said h note.room r) (secured_said h note.room r))))
+    (as_change h (accepted reply.Taken e)) (
+      ap (λ b. needs b NoCard) (is_there (cards h) number),
+      λ _. (refl, λ _. (refl, λ _. taken_alike n _ _ _ _ (Goes number) (place_said h note.room r) (secured_said h note.room r))),
+    )
     ∙ after_checks h (needs (is_card h number) NoCard ∷ needs (has_link h number link) CardDiffers ∷ needs (is_one_of number (inside h note.room)) NotInside ∷ []) (accepted reply.Taken e)
 told_lifts h note (act.Recoded from to) found r =
     let n : Note = record note { act = act.Recoded from to } in
@@ -108,12 +114,15 @@ told_lifts h note (act.Recoded from to) found r =
     (needs (held_on rows note.room == from) HeldDiffers ∷ needs (is_awaited_on rows note.room to) NotAwaited ∷ [])
     (needs (holds h note.room from) HeldDiffers ∷ needs (is_one_of to (awaited h note.room)) NotAwaited ∷ [])
     (accepted reply.Taken (change.Noted n (place_on rows to) (secured_on rows note.room) Same))
-    (as_change h (accepted reply.Taken e))
-    (ap (λ code. needs (code == from) HeldDiffers) (held_said h note.room found r),
-      λ f. (ap (λ b. needs b NotAwaited) (found.awaited note.room to r),
+    (as_change h (accepted reply.Taken e)) (
+      ap (λ code. needs (code == from) HeldDiffers) (held_said h note.room found r),
+      λ f. (
+        ap (λ b. needs b NotAwaited) (found.awaited note.room to r),
         λ a. taken_alike n _ _ _ _ Same
-        (found.recoded_place note.room note.count from to (moment_of note) r (needed (holds h note.room from) HeldDiffers f) (needed (is_one_of to (awaited h note.room)) NotAwaited a))
-        (secured_said h note.room r)))
+            (found.recoded_place note.room note.count from to (moment_of note) r (needed (holds h note.room from) HeldDiffers f) (needed (is_one_of to (awaited h note.room)) NotAwaited a))
+            (secured_said h note.room r),
+      ),
+    )
     ∙ after_checks h (needs (holds h note.room from) HeldDiffers ∷ needs (is_one_of to (awaited h note.room)) NotAwaited ∷ []) (accepted reply.Taken e)
 
 kept_by : (b : Bool) (h : History) (note : Note) → cond b (said reply.Seen) (refused Conflict) ≡ as_change h (reported h note (cond b Copy Conflicting))
@@ -135,7 +144,11 @@ reported_lifts h note None found r =
 
 pub note_lifts : (h : History) (note : Note) → Reached h → CodesFound h → 1 ≤ note.count → Lifts h (command.Reported note)
 note_lifts h note ok found n ahead =
-    lifts_by h ahead (command.Reported note)
-    (refl, λ _. (ap (λ b. needs b NoRoom) (room_is_there h note.room),
-      λ r. reported_lifts h note (note_at (rows_of h) note.room note.count) found (needed (is_room h note.room) NoRoom r)
-        ∙ ap (λ s. as_change h (reported h note s)) (sym (standing_by_lookup h note ok n))))
+    lifts_by h ahead (command.Reported note) (
+      refl,
+      λ _. (
+        ap (λ b. needs b NoRoom) (room_is_there h note.room),
+        λ r. reported_lifts h note (note_at (rows_of h) note.room note.count) found (needed (is_room h note.room) NoRoom r)
+            ∙ ap (λ s. as_change h (reported h note s)) (sym (standing_by_lookup h note ok n)),
+      ),
+    )

@@ -3,18 +3,17 @@ use Rattle.std.proofs.Common.{ℕ, ◌≡◌, ◌+◌, ◌-◌, Bool, true, fals
 use Rattle.std.specs.Prelude.{option_map, is_none, is_some, nat_lt, nat_le, bytes_eq}
 use Rattle.std.proofs.lemmas.Bool.Decides.{nat_tests}
 use Rattle.hotel_nights.specs.declared.stay.Stay.{Stay}
-use Rattle.hotel_core.specs.declared.rows.RoomRow.{RoomRow}
 use Rattle.hotel_core.specs.Words.{said_of, is_that}
 use Rattle.hotel_core.specs.Rows.{at_number}
 use Rattle.hotel_core.specs.History.{History}
-use Rattle.hotel_core.specs.Issued.{issued, current}
+use Rattle.hotel_core.specs.Issued.{issued}
 use Rattle.hotel_core.specs.Cards.{link_to}
 use Rattle.hotel_core.specs.Ledger.{passed}
-use Rattle.hotel_core.specs.Guests.{registered, secured}
+use Rattle.hotel_core.specs.Guests.{secured}
 use Rattle.hotel_core.specs.Stays.{stays, rooms}
 use Rattle.hotel_core.specs.RowsOf.{room_row, rows_of}
 use Rattle.hotel_core.specs.Cases.{is_room, is_of_kind, is_taken, is_home}
-use Rattle.hotel_core.specs.Lookups.{room_at, number_after, code_at}
+use Rattle.hotel_core.specs.Lookups.{number_after}
 use Rattle.hotel_core.specs.Change.{codes_of}
 use Rattle.hotel_core.specs.OnRows.{room_is_on, kinds_agree_on, lock_place_on, secured_on, said_code_at, link_on}
 use Rattle.hotel_core.proofs.RoomNumbers.{room_found, room_there}

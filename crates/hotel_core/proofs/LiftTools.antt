@@ -1,8 +1,7 @@
 -- Outcomes compared check by check, each where those before it passed.
-use Rattle.std.proofs.Common.{ℕ, ◌≡◌, Bool, true, false, Option, Some, None, List, [], ◌∷◌, refl, ap, sym, ◌∙◌}
+use Rattle.std.proofs.Common.{ℕ, ◌≡◌, Bool, true, false, Option, Some, None, List, [], ◌∷◌, refl, ap, ◌∙◌}
 use Rattle.std.specs.Prelude.{option_map}
-use Rattle.keycard_rules.specs.Draw.{Draw, draw_from}
-use Rattle.hotel_core.specs.declared.change.Change.{Change}
+use Rattle.keycard_rules.specs.Draw.{Draw}
 use Rattle.hotel_core.specs.declared.command.Command.{Command}
 use Rattle.hotel_core.specs.declared.reply.Reply.{Reply}
 use Rattle.hotel_core.specs.declared.reply.Refusal.{Refusal}
@@ -13,7 +12,7 @@ use Rattle.hotel_core.specs.Outcome.{Outcome, needs, bars, unless, by_draw}
 use Rattle.hotel_core.specs.Answer.{answer_to, checks, effect}
 use Rattle.hotel_core.specs.ChangeOf.{change_of}
 use Rattle.hotel_core.specs.OnRows.{outcome_on, checks_on, effect_on}
-use Rattle.hotel_core.specs.Lift.{as_change, Lifts}
+use Rattle.hotel_core.specs.Lift.{as_change}
 
 -- Each check is as the other list's, where those before it passed, and so is what comes after them.
 abbrev pub Alike : {X : Type 0} → List (Option Refusal) → List (Option Refusal) → Outcome X → Outcome X → Type 0

@@ -1,16 +1,15 @@
 -- Runs: one after the other, one command more, and that they are determined where nothing failed.
-use Rattle.std.proofs.Common.{ℕ, ◌≡◌, Bool, true, false, Option, Some, None, List, [], ◌∷◌, ◌++◌, refl, ap, sym, ◌∙◌, subst}
+use Rattle.std.proofs.Common.{◌≡◌, Bool, true, false, Option, Some, None, List, [], ◌∷◌, ◌++◌, refl, ap, sym, ◌∙◌, subst}
 use Rattle.std.specs.Prelude.{option_map}
 use Rattle.rand_core.specs.Stream.{Stream}
-use Rattle.keycard_rules.specs.Draw.{words, past, MovedAtMost}
+use Rattle.keycard_rules.specs.Draw.{words, past}
 use Rattle.hotel_core.specs.declared.command.Command.{Command}
 use Rattle.hotel_core.specs.declared.reply.Reply.{Reply}
 use Rattle.hotel_core.specs.Rows.{Rows}
 use Rattle.hotel_core.specs.Event.{Event}
-use Rattle.hotel_core.specs.History.{History, ◌▷◌}
+use Rattle.hotel_core.specs.History.{History}
 use Rattle.hotel_core.specs.RowsOf.{rows_of}
 use Rattle.hotel_core.specs.Outcome.{Outcome, grown}
-use Rattle.hotel_core.specs.Answer.{answer_to}
 use Rattle.hotel_core.specs.ChangeOf.{change_of}
 use Rattle.hotel_core.specs.OnRows.{outcome_on}
 use Rattle.hotel_core.specs.StepOnRows.{made_by, GoesIf, Goes}
@@ -47,7 +46,7 @@ pub steps_lift : (h : History) (rows : Rows) (s : Stream) (command : Command) (r
     → Goes (outcome_on rows (words 64 s) command) rows s reply later rest → (h' : History) × StandsFor h' later × Steps h s command reply h' rest
 steps_lift h rows s command reply later rest stands n g =
     let on_history : Goes (outcome_on (rows_of h) (words 64 s) command) (rows_of h) s reply later rest =
-        subst (λ z. Goes (outcome_on z (words 64 s) command) z s reply later rest) stands.1 g in
+    subst (λ z. Goes (outcome_on z (words 64 s) command) z s reply later rest) stands.1 g in
     step_by (is_failed reply) h s command reply later rest stands.0
     (subst (λ o. Goes o (rows_of h) s reply later rest) (answers_lift h command stands.0 n (words 64 s)) on_history)
 
@@ -57,6 +56,28 @@ pub runs_go_on : (h : History) (s : Stream) (commands : List Command) (replies :
 runs_go_on h s commands replies rows source command reply later rest r n g =
     let step = steps_lift r.0 rows source command reply later rest r.1 n g in
     (step.0, step.1, runs_join h r.0 step.0 s source rest commands (command ∷ []) replies (reply ∷ []) r.2 (step.0, rest, step.2, (refl, refl)))
+
+pub runs_begin : (h : History) (s : Stream) (rows : Rows) → StandsFor h rows → RunsTo h s [] [] rows s
+runs_begin h s rows stands = (h, stands, (refl, refl))
+
+-- a run in two parts
+pub runs_part : (h h' : History) (s s' : Stream) (commands later : List Command) (replies : List Reply) → Runs h s (commands ++ later) replies h' s'
+    → (first : List Reply) × (more : List Reply) × (mid : History) × (source : Stream) × (replies ≡ first ++ more) × Runs h s commands first mid source × Runs mid source later more h' s'
+runs_part h h' s s' [] later replies r = ([], replies, h, s, refl, (refl, refl), r)
+runs_part h h' s s' (c ∷ commands) later (p ∷ replies) r =
+    let q = runs_part r.0 h' r.1 s' commands later replies r.3 in
+    (p ∷ q.0, q.1, q.2, q.3, ap (λ ps. p ∷ ps) q.4, (r.0, r.1, r.2, q.5), q.6)
+runs_part h h' s s' (c ∷ commands) later [] r = absurd r
+
+step_reaches : (b : Bool) (h : History) (s : Stream) (command : Command) (reply : Reply) (h' : History) (s' : Stream) → Reached h → StepsIf b h s command reply h' s' → Reached h'
+step_reaches true h s command reply h' s' ok d = subst (λ z. Reached z) (sym d.0) ok
+step_reaches false h s command reply h' s' ok d = subst (λ z. Reached z) (sym d.1) (step_keeps h (words 64 s) command ok)
+
+pub runs_reach : (h h' : History) (s s' : Stream) (commands : List Command) (replies : List Reply) → Reached h → Runs h s commands replies h' s' → Reached h'
+runs_reach h h' s s' [] [] ok r = subst (λ z. Reached z) (sym r.0) ok
+runs_reach h h' s s' (c ∷ commands) (p ∷ replies) ok r = runs_reach r.0 h' r.1 s' commands replies (step_reaches (is_failed p) h s c p r.0 r.1 ok r.2) r.3
+runs_reach h h' s s' [] (p ∷ replies) ok r = absurd r
+runs_reach h h' s s' (c ∷ commands) [] ok r = absurd r
 
 -- a step that didn't fail
 step_done : (h : History) (s : Stream) (command : Command) (reply : Reply) (h' : History) (s' : Stream) → is_failed reply ≡ false → Steps h s command reply h' s' → StepsIf false h s command reply h' s'

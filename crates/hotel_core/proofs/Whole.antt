@@ -1,17 +1,15 @@
 -- The rows of a history are whole: what they point to is there.
-use Rattle.std.proofs.Common.{ℕ, ◌≡◌, ◌+◌, ◌-◌, ◌*◌, ◌<◌, ◌≤◌, ◌^◌, Bool, true, false, Option, Some, None, List, [], ◌∷◌, ◌++◌, refl, ap, sym, ◌∙◌, subst, arith, length, append_assoc, get_or}
+use Rattle.std.proofs.Common.{ℕ, ◌≡◌, ◌+◌, ◌-◌, ◌<◌, ◌≤◌, ◌^◌, true, Some, None, List, [], ◌∷◌, ◌++◌, ap, sym, ◌∙◌, subst, arith, length, append_assoc}
 use Rattle.std.specs.Prelude.{is_some, IsSome}
 use Rattle.std.specs.List.{slice_get}
 use Rattle.std.proofs.lemmas.Option.{slice_get-get_or}
 use Rattle.keycard_rules.specs.Note.{Note}
 use Rattle.keycard_rules.specs.declared.card.Card.{Card}
-use Rattle.keycard_rules.specs.declared.card.Link.{Link}
 use Rattle.hotel_core.specs.declared.rows.RoomRow.{RoomRow}
 use Rattle.hotel_core.specs.Rows.{Rows, at_number}
 use Rattle.hotel_core.specs.History.{History}
 use Rattle.hotel_core.specs.Issued.{issued, all_issued}
-use Rattle.hotel_core.specs.Cards.{cards, link_of_party, newest_link}
-use Rattle.hotel_core.specs.Ledger.{passed}
+use Rattle.hotel_core.specs.Cards.{cards}
 use Rattle.hotel_core.specs.Notes.{notes}
 use Rattle.hotel_core.specs.RowsOf.{room_row, rows_of}
 use Rattle.hotel_core.specs.Cases.{is_room, room_of}
@@ -74,7 +72,7 @@ card_there : (h : History) → Reached h → (number : ℕ) (card : Card) → at
 card_there h ok number card e =
     let l = cards_have_links h ok number card e in
     ap is_some (codes_have_places h ok l.0 (l.1.0 ++ card.link.old_code ∷ []) card.link.new_code l.1.1
-      (l.1.2 ∙ sym (append_assoc l.1.0 (card.link.old_code ∷ []) (card.link.new_code ∷ l.1.1))))
+    (l.1.2 ∙ sym (append_assoc l.1.0 (card.link.old_code ∷ []) (card.link.new_code ∷ l.1.1))))
 
 pub whole : (h : History) → Reached h → AreWhole (rows_of h)
 whole h ok = record {

@@ -1,5 +1,5 @@
 -- What the books compute on rows, lifted to what the desk answers after a history.
-use Rattle.std.specs.Prelude.{ℕ, ◌≡◌, ◌≤◌, Bool, false, List, [], ◌∷◌, ◌++◌, option_map}
+use Rattle.std.specs.Prelude.{ℕ, ◌≡◌, ◌≤◌, false, List, [], ◌∷◌, ◌++◌, option_map}
 use Rattle.rand_core.specs.Stream.{Stream}
 use Rattle.keycard_rules.specs.Draw.{words}
 use Rattle.hotel_core.specs.declared.change.Change.{Change}
@@ -43,6 +43,10 @@ StepsLift = (h : History) (rows : Rows) (s : Stream) (command : Command) (reply 
 abbrev pub RunsTo : History → Stream → List Command → List Reply → Rows → Stream → Type 0
 RunsTo h s commands replies rows s' = (h' : History) × StandsFor h' rows × Runs h s commands replies h' s'
 
+-- A run of no commands has come to the rows that it starts with.
+abbrev pub RunsBegin : Type 0
+RunsBegin = (h : History) (s : Stream) (rows : Rows) → StandsFor h rows → RunsTo h s [] [] rows s
+
 -- A run goes on by a step over the books that it has come to.
 abbrev pub RunsGoOn : Type 0
 RunsGoOn = (h : History) (s : Stream) (commands : List Command) (replies : List Reply) (rows : Rows) (source : Stream) (command : Command) (reply : Reply) (later : Rows) (rest : Stream)
@@ -53,6 +57,15 @@ RunsGoOn = (h : History) (s : Stream) (commands : List Command) (replies : List 
 abbrev pub RunsJoin : Type 0
 RunsJoin = (h mid h' : History) (s source s' : Stream) (commands later : List Command) (replies more : List Reply) → Runs h s commands replies mid source
     → Runs mid source later more h' s' → Runs h s (commands ++ later) (replies ++ more) h' s'
+
+-- A run of two lists of commands is a run of the first and then one of the second.
+abbrev pub RunsPart : Type 0
+RunsPart = (h h' : History) (s s' : Stream) (commands later : List Command) (replies : List Reply) → Runs h s (commands ++ later) replies h' s'
+    → (first : List Reply) × (more : List Reply) × (mid : History) × (source : Stream) × (replies ≡ first ++ more) × Runs h s commands first mid source × Runs mid source later more h' s'
+
+-- A run from a history that can be reached ends in one that can be reached.
+abbrev pub RunsReach : Type 0
+RunsReach = (h h' : History) (s s' : Stream) (commands : List Command) (replies : List Reply) → Reached h → Runs h s commands replies h' s' → Reached h'
 
 -- no reply says that memory or the store failed
 abbrev pub NoneFailed : List Reply → Type 0
