@@ -1,6 +1,6 @@
 -- All cards of a link are one party's: that of the check-in or transfer that made the link.
 use Rattle.std.proofs.Common.{ℕ, ◌≡◌, Bool, true, false, Option, Some, None, List, [], ◌∷◌, ◌++◌, length, inl, inr, refl, ap, sym, ◌∙◌, subst, append_assoc}
-use Rattle.std.specs.Prelude.{◌==◌, ◌+◌}
+use Rattle.std.specs.Prelude.{◌==◌}
 use Rattle.std.specs.Ordering.{nat_cmp}
 use Rattle.std.specs.BTreeMap.{insert_entry}
 use Rattle.keycard_rules.specs.declared.card.Card.{Card}
@@ -8,7 +8,7 @@ use Rattle.keycard_rules.specs.declared.card.Link.{Link}
 use Rattle.hotel_core.specs.declared.rows.CodeRow.{CodeRow}
 use Rattle.hotel_core.specs.Words.{when, is_that}
 use Rattle.hotel_core.specs.Rows.{at_number}
-use Rattle.hotel_core.specs.Event.{Event, CheckIn, Transfer, Spare, CheckOut}
+use Rattle.hotel_core.specs.Event.{CheckIn, Transfer, Spare, CheckOut}
 use Rattle.hotel_core.specs.History.{History, start, ◌▷◌}
 use Rattle.hotel_core.specs.Issued.{is_fresh}
 use Rattle.hotel_core.specs.Cards.{cards, card_of, with_spare, link_of_party, link_to, newest_link}

@@ -1,9 +1,9 @@
 -- A room with two codes has a newest link.
-use Rattle.std.proofs.Common.{ℕ, ◌≡◌, ◌+◌, Bool, true, false, Option, Some, None, List, [], ◌∷◌, ◌++◌, length, refl, ap, sym, ◌∙◌, arith, length-append}
+use Rattle.std.proofs.Common.{ℕ, ◌≡◌, Bool, true, false, Some, List, [], ◌∷◌, ◌++◌, length, refl, ap, sym, ◌∙◌, arith, length-append}
 use Rattle.std.specs.Prelude.{◌==◌}
 use Rattle.keycard_rules.specs.declared.card.Link.{Link}
 use Rattle.hotel_core.specs.Words.{when, and_last}
-use Rattle.hotel_core.specs.Event.{Event, Install, CheckIn, Transfer}
+use Rattle.hotel_core.specs.Event.{Install, CheckIn, Transfer}
 use Rattle.hotel_core.specs.History.{History, start, ◌▷◌}
 use Rattle.hotel_core.specs.Issued.{issued}
 use Rattle.hotel_core.specs.Cards.{newest_link, link_to}

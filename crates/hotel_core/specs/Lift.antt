@@ -1,10 +1,9 @@
 -- What the books compute on rows, lifted to what the desk answers after a history.
-use Rattle.std.specs.Prelude.{ℕ, ◌≡◌, ◌≤◌, false, List, [], ◌∷◌, ◌++◌, option_map}
+use Rattle.std.specs.Prelude.{ℕ, ◌≡◌, All, false, List, [], ◌∷◌, ◌++◌, option_map}
 use Rattle.rand_core.specs.Stream.{Stream}
 use Rattle.keycard_rules.specs.Draw.{words}
 use Rattle.hotel_core.specs.declared.change.Change.{Change}
 use Rattle.hotel_core.specs.declared.command.Command.{Command}
-use Rattle.hotel_core.specs.declared.command.Command.TheVariants as command
 use Rattle.hotel_core.specs.declared.reply.Reply.{Reply}
 use Rattle.hotel_core.specs.Rows.{Rows}
 use Rattle.hotel_core.specs.Event.{Event}
@@ -63,9 +62,9 @@ abbrev pub RunsPart : Type 0
 RunsPart = (h h' : History) (s s' : Stream) (commands later : List Command) (replies : List Reply) → Runs h s (commands ++ later) replies h' s'
     → (first : List Reply) × (more : List Reply) × (mid : History) × (source : Stream) × (replies ≡ first ++ more) × Runs h s commands first mid source × Runs mid source later more h' s'
 
--- A run from a history that can be reached ends in one that can be reached.
+-- A run from a history that can be reached ends in one that can be reached, where the commands' and replies' values are in their ranges.
 abbrev pub RunsReach : Type 0
-RunsReach = (h h' : History) (s s' : Stream) (commands : List Command) (replies : List Reply) → Reached h → Runs h s commands replies h' s' → Reached h'
+RunsReach = (h h' : History) (s s' : Stream) (commands : List Command) (replies : List Reply) → Reached h → All IsCommand commands → All IsReply replies → Runs h s commands replies h' s' → Reached h'
 
 -- no reply says that memory or the store failed
 abbrev pub NoneFailed : List Reply → Type 0

@@ -8,7 +8,7 @@ use Rattle.hotel_core.specs.declared.command.Command.{Command}
 use Rattle.hotel_core.specs.declared.command.Command.TheVariants as command
 use Rattle.hotel_core.specs.declared.reply.Reply.{Reply}
 use Rattle.hotel_core.specs.declared.reply.Reply.TheVariants as reply
-use Rattle.hotel_core.specs.Event.{Event, Begun, Kind, Install, Reserved, Cancelled, CheckIn, Transfer, Spare, CheckOut, NextDay, Entered, Left, Recoded}
+use Rattle.hotel_core.specs.Event.{Event, Begun, Kind, Install, Reserved, CheckIn, Transfer, Entered, Left, Recoded}
 
 -- a day of the calendar
 abbrev pub IsDay : ℕ → Type 0
