@@ -3,6 +3,10 @@ use Rattle.std.specs.Prelude.{ℕ, zero, suc, ◌+◌, ◌-◌, ◌&&◌, ◌==�
 use Rattle.jiff_core.specs.Calendar.{days_in_month, day_count}
 use Rattle.keycard_rules.specs.Numerals.{numeral, fixed_text}
 
+-- the day of a number of days after 2000-01-01, unless it is after 2099-12-31
+abbrev pub day_of_number : ℕ → Option ℕ
+day_of_number n = if nat_le n 36524 then Some n else None
+
 -- a year, a month and a day
 pub record Ymd : Type 0 where
   pub year : ℕ

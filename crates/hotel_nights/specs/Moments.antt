@@ -3,6 +3,10 @@ use Rattle.std.specs.Prelude.{ℕ, ◌+◌, ◌*◌, ◌/◌, ◌%◌, ◌&&◌,
 use Rattle.keycard_rules.specs.Numerals.{numeral, fixed_text}
 use Rattle.hotel_nights.specs.Days.{read_day, day_text, ◌>>=◌}
 
+-- the moment of a day and a second of it, unless a day has fewer seconds
+abbrev pub moment_of : ℕ → ℕ → Option (ℕ × ℕ)
+moment_of day second = if nat_le second 86399 then Some (day, second) else None
+
 -- the seconds that `HH:MM:SS` writes
 abbrev pub read_time : List ℕ → Option ℕ
 read_time text =

@@ -1,6 +1,7 @@
 //! Days, moments, kinds of rooms, guests, stays, and the nights that stays take.
 #![tactic(auto)]
 
+mod block;
 mod day;
 mod full_night;
 mod guest;
@@ -8,6 +9,8 @@ mod kind;
 mod moment;
 mod nights;
 mod stay;
+#[cfg(test)]
+mod tests;
 
 pub use day::Day;
 pub use full_night::first_full_night;

@@ -5,7 +5,7 @@ use Rattle.hotel_nights.specs.FullNight.{takes, is_full, first_day}
 use Rattle.hotel_nights.specs.Block.{was_taken, begins, ends}
 use Rattle.hotel_nights.proofs.BlockLemmas.{taken-next, ends-le, was_taken-first, was_taken-next, full-yes, full-no}
 use Rattle.hotel_nights.proofs.FirstDay.{first_day-more, first_day-found, first_day-end}
-use Rattle.hotel_nights.proofs.full_night.first_in_block.Goals as goal
+use Rattle.hotel_nights.proofs.block.first_in_block.Goals as goal
 
 pub loop-night-init : goal.loop-night-init
 loop-night-init c = record { taken = sym (was_taken-first c.args.stays.now c.args.kind.now c.args.first); rest = refl }
@@ -51,7 +51,7 @@ loop-night-preserved c =
     let test = is_full stays kind c.args.rooms in
     record {
       taken = now ∙ sym (was_taken-next stays kind c.args.first d (omega arith));
-      rest = c.loop-night.invariant.rest ∙ first_day-more test d c.args.after lt (full-no stays kind c.args.rooms d (omega arith))
+      rest = c.loop-night.invariant.rest ∙ first_day-more test d c.args.after lt (full-no stays kind c.args.rooms d (omega arith));
     }
 
 pub returns : goal.returns
