@@ -1,4 +1,4 @@
-use Rattle.std.proofs.Common.{◌≤◌, ◌≡◌}
+use Rattle.std.proofs.Common.{◌≤◌}
 use Rattle.keycard_rules.proofs.Drawing.{SoFar}
 use Rattle.keycard_rules.proofs.draw.draw_fresh.Given as goal
 
