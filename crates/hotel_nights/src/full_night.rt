@@ -45,7 +45,7 @@ pub fn first_full_night(
     ensures value { result ≡ first_day (is_full stays.now kind.now rooms) arrive (depart - arrive) }
 
     // What that is: a full night after nights that aren't, or none is full.
-    ensures first { IsFirst (is_full stays.now kind.now rooms) arrive (depart - arrive) result }
+    ensures first { IsFirst (is_full stays.now kind.now rooms) arrive depart result }
 {
     first_of_blocks(stays, kind, rooms, arrive, depart)
 }

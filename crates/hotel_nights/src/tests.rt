@@ -151,7 +151,7 @@ fn kinds_of_value_readers(rt: HostRuntime) -> Result<(), Fail> {
     Ok(())
 }
 
-/// With memory refused (`rt try --test --fail-alloc 1`) it ends by the fault `Memory`, and by none after an `Unread`.
+/// With a growth refused (`rt try --test --fail-alloc N`) it ends by the fault `Memory`, or by the refused copy.
 #[test]
 fn guests_of_value_readers(rt: HostRuntime) -> Result<(), Fail> {
     let alloc = rt.alloc();

@@ -1,8 +1,6 @@
-use Rattle.std.proofs.Common.{◌≡◌, ℕ, ◌+◌, ◌-◌, ◌<◌, ◌≤◌, arith, sym, ◌∙◌, rules, length, get_or, count_by, true, false, refl}
-use Rattle.std.proofs.lemmas.List.Sums.{count_by-le-length}
-use Rattle.std.proofs.lemmas.Bool.Decides.{nat_tests}
-use Rattle.hotel_nights.specs.FullNight.{takes, is_full, first_day}
-use Rattle.hotel_nights.specs.Block.{was_taken, begins, ends}
+use Rattle.std.proofs.Common.{◌≡◌, ◌+◌, ◌-◌, ◌<◌, arith, sym, ◌∙◌, get_or, count_by, refl}
+use Rattle.hotel_nights.specs.FullNight.{takes, is_full}
+use Rattle.hotel_nights.specs.Block.{begins, ends}
 use Rattle.hotel_nights.proofs.BlockLemmas.{taken-next, ends-le, was_taken-first, was_taken-next, full-yes, full-no}
 use Rattle.hotel_nights.proofs.FirstDay.{first_day-more, first_day-found, first_day-end}
 use Rattle.hotel_nights.proofs.block.first_in_block.Goals as goal

@@ -1,6 +1,5 @@
-use Rattle.std.proofs.Common.{◌≡◌, ℕ, ◌+◌, ◌-◌, ◌<◌, ◌≤◌, arith, sym, ◌∙◌, rules, length, get_or, count_by, true, false, refl, Some, None}
-use Rattle.std.proofs.lemmas.Bool.Decides.{nat_tests}
-use Rattle.hotel_nights.specs.FullNight.{takes, is_full, first_day}
+use Rattle.std.proofs.Common.{◌≡◌, ◌-◌, arith, sym, ◌∙◌, Some, None}
+use Rattle.hotel_nights.specs.FullNight.{is_full, first_day}
 use Rattle.hotel_nights.proofs.FirstDay.{block-some, block-none, first_day-lt, first_day-end, day_of_number-le}
 use Rattle.hotel_nights.proofs.full_night.first_of_blocks.Goals as goal
 

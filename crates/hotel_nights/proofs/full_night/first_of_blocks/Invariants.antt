@@ -1,4 +1,4 @@
-use Rattle.std.proofs.Common.{◌≡◌, ◌≤◌, ℕ, ◌-◌}
+use Rattle.std.proofs.Common.{◌≡◌, ◌≤◌, ◌-◌}
 use Rattle.hotel_nights.specs.FullNight.{first_day, is_full}
 use Rattle.hotel_nights.proofs.full_night.first_of_blocks.Given as goal
 

@@ -1,7 +1,7 @@
-use Rattle.std.proofs.Common.{rules, arith, ◌≡◌, ℕ, ◌+◌, ◌≤◌, ◌<◌, ℤ, pos, w8, w16, sym, ◌∙◌, ap, ap₂, refl}
+use Rattle.std.proofs.Common.{arith, ◌≡◌, ℕ, ◌+◌, ◌≤◌, ◌<◌, ℤ, pos, w8, w16, ◌∙◌}
 use Rattle.std.proofs.lemmas.Int.{to_z_pos}
 use Rattle.jiff_core.specs.Calendar.{IsCivilDate, day_count}
-use Rattle.hotel_nights.proofs.DayLemmas.{count_of, count-low, count-high, is_date-true, is_in_range-true, read_day-is}
+use Rattle.hotel_nights.proofs.DayLemmas.{count_of, count-low, count-high, read_day-is}
 use Rattle.hotel_nights.proofs.day.Day.read.Goals as goal
 
 pub overflow_sub-result : goal.overflow_sub-result
