@@ -2,7 +2,10 @@
 ghost use Rattle.std.specs.Prelude.{◌≡◌, ℕ, List, [], ◌+◌, ◌^◌, ◌-◌, refl};
 ghost use Rattle.std.proofs.Common.{◌∙◌};
 
-use crate::{Act, CardNo, Chain, Code, Count, DrawFault, Issued, Link, ListedCodes, ListedWords, LockNote, LookFault, Memory, RecodeFault, RoomNo, Turned, draw_fresh, turn};
+use crate::{
+    Act, CardNo, Chain, Code, Count, DrawFault, Issued, Link, ListedCodes, ListedWords, LockNote,
+    LookFault, Memory, RecodeFault, RoomNo, Turned, draw_fresh, turn,
+};
 use rand_core::Rng;
 use std::process::Abort;
 use std::test::Fail;
@@ -28,7 +31,15 @@ fn value_readers(rt: HostRuntime) {
     let read = Code::read(b"ABC").expect(&rt, "hexadecimal digits");
     assert_eq!(rt; read.print(), *b"000000000abc");
     assert_eq!(rt; Code::read(b"aBc"), Some(read));
-    for text in [b"".as_slice(), b"1234567890123", b"xyz", b" ab", b"a b", b"0x1", b"-1"] {
+    for text in [
+        b"".as_slice(),
+        b"1234567890123",
+        b"xyz",
+        b" ab",
+        b"a b",
+        b"0x1",
+        b"-1",
+    ] {
         assert_eq!(rt; Code::read(text), None, "{text:?}");
     }
     assert_eq!(rt; Code::read(b"ffffffffffff"), Code::new(281_474_976_710_655));
@@ -37,7 +48,15 @@ fn value_readers(rt: HostRuntime) {
     let greatest = CardNo::new(9_999_999).expect(&rt, "a number in range");
     assert_eq!(rt; greatest.next(), None);
     assert_eq!(rt; CardNo::read(b"009999999"), Some(greatest));
-    for text in [b"".as_slice(), b"0", b"10000000", b"0000000001", b"a", b"+1", b" 1"] {
+    for text in [
+        b"".as_slice(),
+        b"0",
+        b"10000000",
+        b"0000000001",
+        b"a",
+        b"+1",
+        b" 1",
+    ] {
         assert_eq!(rt; CardNo::read(text), None, "{text:?}");
     }
     assert_eq!(rt; RoomNo::new(10_000), None);
@@ -104,7 +123,11 @@ fn recoding_refused(rt: HostRuntime) -> Result<(), Fail> {
     issued(&rt, &mut chain, 0xa2);
     assert!(rt; chain.enter(&link).is_some());
     for to in [first, code(&rt, 0xb0), second] {
-        assert_eq!(rt; chain.recode(second, to), Err(RecodeFault::NotAwaited), "to {to:?}");
+        assert_eq!(rt;
+            chain.recode(second, to),
+            Err(RecodeFault::NotAwaited),
+            "to {to:?}"
+        );
     }
     assert_eq!(rt; chain.recode(first, third), Err(RecodeFault::HeldDiffers));
     assert_eq!(rt; chain.held(), second);
@@ -132,8 +155,14 @@ fn no_fresh_code(rt: HostRuntime) -> Result<(), Fail> {
     list.push(0xb0_0000)?;
     let mut words = source(&rt, list);
     let mut taken = ListedCodes::new([code(&rt, 0xa0)].to_vec(rt.alloc())?);
-    assert_eq!(rt; draw_fresh(&mut words, &mut taken), Err(DrawFault::NoFreshCode));
-    assert_eq!(rt; draw_fresh(&mut words, &mut taken), Err(DrawFault::NoFreshCode));
+    assert_eq!(rt;
+        draw_fresh(&mut words, &mut taken),
+        Err(DrawFault::NoFreshCode)
+    );
+    assert_eq!(rt;
+        draw_fresh(&mut words, &mut taken),
+        Err(DrawFault::NoFreshCode)
+    );
     // The two draws have examined 64 words each.
     assert_eq!(rt; draw_fresh(&mut words, &mut taken), Ok(code(&rt, 0xb0)));
     Ok(())
@@ -176,7 +205,10 @@ impl Issued for FailingCodes {
 
 #[test]
 fn failed_look_ups(rt: HostRuntime) -> Result<(), Fail> {
-    for (fault, want) in [(LookFault::Memory, DrawFault::Memory), (LookFault::Store, DrawFault::Store)] {
+    for (fault, want) in [
+        (LookFault::Memory, DrawFault::Memory),
+        (LookFault::Store, DrawFault::Store),
+    ] {
         let mut words = source(&rt, [1, 2, 3, 4].to_vec(rt.alloc())?);
         let mut codes = FailingCodes {
             left: 2,
@@ -205,7 +237,10 @@ fn notes_of_a_lock(rt: HostRuntime) {
     assert_eq!(rt; note.count(), count);
     assert_eq!(rt; note.act(), recoded);
     assert_eq!(rt; (note.day(), note.second()), (36_524, 86_399));
-    assert_ne!(rt; LockNote::new(room, count, recoded, 36_524, 86_398), Some(note));
+    assert_ne!(rt;
+        LockNote::new(room, count, recoded, 36_524, 86_398),
+        Some(note)
+    );
 }
 
 #[test]
