@@ -28,3 +28,4 @@ pub mod Headline
 pub mod Lists
 pub mod Follow
 pub mod Tests
+pub mod CodeTable
