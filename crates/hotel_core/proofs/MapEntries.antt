@@ -22,7 +22,7 @@ eq_from a b h = grind (arith, nat_tests)
 pub eq_self : (a : ℕ) → (a == a) ≡ true
 eq_self a = grind (arith, nat_tests)
 
-same_bool : (a b : Bool) → (a ≡ true → b ≡ true) → (b ≡ true → a ≡ true) → a ≡ b
+pub same_bool : (a b : Bool) → (a ≡ true → b ≡ true) → (b ≡ true → a ≡ true) → a ≡ b
 same_bool true b f g = sym (f refl)
 same_bool false true f g = g refl
 same_bool false false f g = refl

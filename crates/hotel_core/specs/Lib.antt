@@ -29,3 +29,4 @@ pub mod Lists
 pub mod Follow
 pub mod Tests
 pub mod CodeTable
+pub mod Tables
