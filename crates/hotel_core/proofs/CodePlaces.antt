@@ -17,7 +17,7 @@ use Rattle.hotel_core.proofs.MapEntries.{missed, pair_is, eq_from, eq_turned}
 abbrev pub is_here : CodeRow → ℕ → ℕ → Bool
 is_here row r p = (row.room == r) && (row.place == p)
 
-both_true : (a b : Bool) → (a && b) ≡ true → (a ≡ true) × (b ≡ true)
+pub both_true : (a b : Bool) → (a && b) ≡ true → (a ≡ true) × (b ≡ true)
 both_true true b h = (refl, h)
 both_true false b h = absurd (let w : ◌≡◌ {A = Bool} false true = h in cc)
 

@@ -2,13 +2,23 @@
 ghost use Rattle.std.specs.Prelude.{◌≡◌, ℕ, ◌+◌, ◌-◌, ◌^◌, ◌<◌, Some, None, false};
 ghost use Rattle.hotel_core.specs.Words.{said_of};
 ghost use Rattle.hotel_core.specs.Rows.{at_number};
-ghost use Rattle.hotel_core.specs.Change.{room_changed, without_party};
+ghost use Rattle.hotel_core.specs.Change.{room_changed, without_party, left_by};
 ghost use Rattle.hotel_core.specs.Stays.{in_state};
 
 use crate::rows::RoomRow;
 use hotel_nights::{Stay, StayState};
 use keycard_rules::{PartyNo, RoomNo};
 use std::collections::BTreeMap;
+
+/// How many codes were issued at a room; 0 where it isn't there.
+pub(crate) fn codes_issued(rooms: &BTreeMap<RoomNo, RoomRow>, room: RoomNo) -> u32
+    ensures { result ≡ said_of (at_number rooms.now.entries room) 0 (λ row. row.codes) }
+{
+    match rooms.get(&room) {
+        Some(row) => row.codes,
+        None => 0,
+    }
+}
 
 /// One more code was issued at the room, to the party that is registered there from now on.
 pub(crate) fn issue_at(rooms: &mut BTreeMap<RoomNo, RoomRow>, room: RoomNo, party: PartyNo)
@@ -28,6 +38,15 @@ pub(crate) fn leave(rooms: &mut BTreeMap<RoomNo, RoomRow>, room: RoomNo)
 {
     if let Some(row) = rooms.get_mut(&room) {
         row.party = None;
+    }
+}
+
+/// The party has left the room that is named, if one is.
+pub(crate) fn leave_any(rooms: &mut BTreeMap<RoomNo, RoomRow>, leaves: Option<RoomNo>)
+    ensures { rooms.new.entries ≡ left_by leaves rooms.old.entries }
+{
+    if let Some(room) = leaves {
+        leave(rooms, room);
     }
 }
 
