@@ -30,3 +30,4 @@ pub mod Follow
 pub mod Tests
 pub mod CodeTable
 pub mod Tables
+pub mod ListBooks
