@@ -31,3 +31,6 @@ pub mod Lists
 pub mod Follow
 pub mod Texts
 pub mod CodeLaws
+pub mod CodeTable
+pub mod Tables
+pub mod ListBooks
