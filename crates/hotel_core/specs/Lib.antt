@@ -24,6 +24,7 @@ pub mod Fits
 pub mod OnRows
 pub mod StepOnRows
 pub mod Reads
+pub mod Finds
 pub mod Headline
 pub mod Lists
 pub mod Follow
