@@ -1,5 +1,5 @@
 -- The parts of a step, one after the other.
-use Rattle.std.proofs.Common.{ℕ, ◌≡◌, ◌≤◌, ◌<◌, ◌^◌, ◌-◌, ◌⊎◌, Bool, true, false, Option, Some, None, Result, Ok, Err, refl, ap, sym, ◌∙◌, arith, subst, IsErrAnd, inl, inr}
+use Rattle.std.proofs.Common.{ℕ, ◌≡◌, ◌≤◌, ◌<◌, ◌^◌, ◌-◌, ◌⊎◌, Bool, true, false, Option, Some, None, Result, Ok, Err, refl, ap, sym, ◌∙◌, arith, subst, IsErrAnd, inl, inr, is_some}
 use Rattle.std.proofs.lemmas.Bool.{false≢true}
 use Rattle.rand_core.specs.Stream.{Stream}
 use Rattle.keycard_rules.specs.Draw.{past, MovedAtMost}
@@ -167,3 +167,7 @@ fails {is_clean = is_clean} {rows = rows} {failures = failures} {never_fails = n
       fault = λ clean whole k. inl risen;
       no_store = λ clean whole k p. no_store_at fault (n k) p;
     })
+
+pub none : {A : Type 0} (o : Option A) → is_some o ≡ false → o ≡ None
+none None e = refl
+none (Some a) e = absurd (false≢true (sym e))

@@ -1,13 +1,18 @@
 -- What a part of a step finds in the books: what stands there, or a refusal where nothing does.
 use Rattle.std.specs.Prelude.{ℕ, ◌≡◌, ◌≤◌, Bool, true, false, Option, Some, None, Result, Ok, Err}
+use Rattle.rand_core.specs.Stream.{Stream}
+use Rattle.keycard_rules.specs.Draw.{Draw, words, past, draw_from, MovedAtMost}
 use Rattle.keycard_rules.specs.Rise.{HasRisen}
 use Rattle.keycard_rules.specs.declared.issued.LookFault.{LookFault}
 use Rattle.keycard_rules.specs.declared.issued.LookFault.TheVariants as look
+use Rattle.keycard_rules.specs.declared.draw.DrawFault.{DrawFault}
+use Rattle.keycard_rules.specs.declared.draw.DrawFault.TheVariants as draw
 use Rattle.hotel_core.specs.declared.reply.Reply.{Reply}
 use Rattle.hotel_core.specs.declared.reply.Reply.TheVariants as reply
 use Rattle.hotel_core.specs.declared.reply.Refusal.{Refusal}
-use Rattle.hotel_core.specs.declared.reply.Refusal.TheVariants.{Memory, Store}
+use Rattle.hotel_core.specs.declared.reply.Refusal.TheVariants.{Memory, Store, NoFreshCode}
 use Rattle.hotel_core.specs.Rows.{Rows}
+use Rattle.hotel_core.specs.Lookups.{codes_in}
 use Rattle.hotel_core.specs.Run.{is_failed}
 
 -- the refusal that a fault of a look-up is answered by
@@ -53,3 +58,29 @@ pub record Finds {S A : Type 0} (is_clean : S → Type 0) (rows : S → Rows) (f
 -- all rows are whole enough
 abbrev pub AnyRows : Rows → Type 0
 AnyRows rows = Unit {0}
+
+-- what was drawn, with its fault as a refusal
+abbrev pub drawn_or : Result ℕ DrawFault → Result ℕ Refusal
+drawn_or (Ok code) = Ok code
+drawn_or (Err draw.NoFreshCode) = Err NoFreshCode
+drawn_or (Err draw.Memory) = Err Memory
+drawn_or (Err draw.Store) = Err Store
+
+-- no code was drawn: all words give issued codes; or it failed, and the source moved by at most the words that were examined
+abbrev pub DrewNone : Bool → Draw → Stream → Stream → Refusal → Type 0
+DrewNone true draw source rest why = MovedAtMost draw.examined source rest
+DrewNone false draw source rest why = (why ≡ NoFreshCode) × (draw.code ≡ None) × (rest ≡ past draw.examined source)
+
+-- what a draw comes to: the first fresh code of the next words of the source, or none
+abbrev pub Drew : Draw → Stream → Stream → Result ℕ Refusal → Type 0
+Drew draw source rest (Ok code) = (draw.code ≡ Some code) × (rest ≡ past draw.examined source)
+Drew draw source rest (Err why) = DrewNone (is_failed (reply.Refused why)) draw source rest why
+
+-- A draw over books, which changes no row.
+pub record DrawsCode {S : Type 0} (is_clean : S → Type 0) (rows : S → Rows) (failures : S → ℕ) (never_fails : Type 0) (old new : S) (source rest : Stream) (result : Result ℕ Refusal) : Type 0 where
+  pub answer : is_clean new → Drew (draw_from (codes_in (rows old)) (words 64 source)) source rest result
+  pub same : is_clean new → rows new ≡ rows old
+  pub was_clean : is_clean new → is_clean old
+  pub counted : failures old ≤ failures new
+  pub fault : has_failed result ≡ true → HasRisen (failures old) (failures new)
+  pub sure : never_fails → has_failed result ≡ true → ⊥

@@ -77,3 +77,39 @@ pub(crate) fn stay_there<B: Books>(books: &mut B, party: PartyNo) -> Result<Stay
     let stay = books.stay(party);
     there_or(stay, Refusal::NoParty)
 }
+
+/// The room's row, where it is there.
+pub(crate) fn room_if_there<B: Books>(
+    books: &mut B,
+    room: RoomNo,
+) -> Result<Option<RoomRow>, Refusal>
+    ensures { Finds B.is_clean B.rows B.failures B.never_fails AnyRows Store (λ rows. Some (room_at rows room)) books.old books.new result }
+{
+    let row = books.room(room);
+    known(row)
+}
+
+/// The number of the next party.
+pub(crate) fn next_party<B: Books>(books: &mut B) -> Result<PartyNo, Refusal>
+    ensures { Finds B.is_clean B.rows B.failures B.never_fails AnyRows NumbersUsedUp (λ rows. number_after (length rows.stays)) books.old books.new result }
+{
+    let numbers = books.next_numbers();
+    let number = known(numbers)?.party;
+    number.ok_or(Refusal::NumbersUsedUp)
+}
+
+/// The number of the next card.
+pub(crate) fn next_card<B: Books>(books: &mut B) -> Result<CardNo, Refusal>
+    ensures { Finds B.is_clean B.rows B.failures B.never_fails AnyRows NumbersUsedUp (λ rows. number_after (length rows.cards)) books.old books.new result }
+{
+    let numbers = books.next_numbers();
+    let number = known(numbers)?.card;
+    number.ok_or(Refusal::NumbersUsedUp)
+}
+
+pub(crate) fn card_there<B: Books>(books: &mut B, number: CardNo) -> Result<Card, Refusal>
+    ensures { Finds B.is_clean B.rows B.failures B.never_fails AnyRows NoCard (λ rows. card_at rows number) books.old books.new result }
+{
+    let card = books.card(number);
+    there_or(card, Refusal::NoCard)
+}
