@@ -1,5 +1,5 @@
 -- The parts of a step, one after the other.
-use Rattle.std.proofs.Common.{ℕ, ◌≡◌, ◌≤◌, ◌<◌, ◌^◌, ◌-◌, ◌⊎◌, Bool, true, false, Option, Some, None, Result, Ok, Err, refl, ap, sym, ◌∙◌, arith, subst, IsErrAnd, inl, inr, is_some}
+use Rattle.std.proofs.Common.{ℕ, ◌≡◌, ◌≤◌, ◌<◌, ◌^◌, ◌-◌, ◌⊎◌, Bool, true, false, Option, Some, None, Result, Ok, Err, refl, ap, sym, ◌∙◌, arith, subst, IsErrAnd, inl, inr, is_some, List, [], ◌∷◌, ◌++◌, ◌+◌, nat_lt, cond}
 use Rattle.std.proofs.lemmas.Bool.{false≢true}
 use Rattle.rand_core.specs.Stream.{Stream}
 use Rattle.keycard_rules.specs.Draw.{past, MovedAtMost}
@@ -13,11 +13,12 @@ use Rattle.hotel_core.specs.declared.reply.Reply.TheVariants.{Refused}
 use Rattle.hotel_core.specs.declared.reply.Refusal.{Refusal}
 use Rattle.hotel_core.specs.declared.reply.Refusal.TheVariants.{Store, Memory}
 use Rattle.hotel_core.specs.Rows.{Rows}
+use Rattle.hotel_core.specs.Lookups.{number_after}
 use Rattle.hotel_core.specs.Run.{is_failed}
-use Rattle.hotel_core.specs.Outcome.{Outcome, refused, accepted}
+use Rattle.hotel_core.specs.Outcome.{Outcome, refused, accepted, unless}
 use Rattle.hotel_core.specs.Change.{made}
 use Rattle.hotel_core.specs.StepOnRows.{GoesIf, Goes, made_by, AreWhole, MayLack, StepsAs}
-use Rattle.hotel_core.specs.Finds.{Finds, Found, AnyRows, has_failed, reply_of, refusal_of}
+use Rattle.hotel_core.specs.Finds.{Finds, Found, AnyRows, has_failed, reply_of, refusal_of, first_refusal}
 
 -- From the state start to now no row changed, and this is known of the rows at the start, if the state is clean now.
 pub record SoFar {S : Type 0} (is_clean : S → Type 0) (rows : S → Rows) (failures : S → ℕ) (facts : Rows → Type 0) (start now : S) : Type 0 where
@@ -29,6 +30,10 @@ pub record SoFar {S : Type 0} (is_clean : S → Type 0) (rows : S → Rows) (fai
 -- at the start nothing is known
 pub begun : {S : Type 0} {is_clean : S → Type 0} {rows : S → Rows} {failures : S → ℕ} {start : S} → SoFar is_clean rows failures AnyRows start start
 begun = record { facts_hold = λ _. tt; same = λ _. refl; was_clean = λ clean. clean; counted = omega arith }
+
+-- at the start this is known
+pub given : {S : Type 0} {is_clean : S → Type 0} {rows : S → Rows} {failures : S → ℕ} (facts : Rows → Type 0) {start : S} → (is_clean start → facts (rows start)) → SoFar is_clean rows failures facts start start
+given facts h = record { facts_hold = h; same = λ _. refl; was_clean = λ clean. clean; counted = omega arith }
 
 -- the facts, in the rows as they are now
 pub at_now : {S : Type 0} {is_clean : S → Type 0} {rows : S → Rows} {failures : S → ℕ} {facts : Rows → Type 0} {start now : S}
@@ -61,12 +66,12 @@ goes_at false o rows later source why h same =
 pub stopped_where : {S A : Type 0} {is_clean : S → Type 0} {rows : S → Rows} {failures : S → ℕ} {facts : Rows → Type 0} {never_fails : Type 0} {are_whole : Rows → Type 0} {why : Refusal} {wanted : Rows → Option A} {start old new : S} {e : Refusal} {copies : Bool} {outcome : Rows → Outcome Change} {source : Stream}
     → SoFar is_clean rows failures facts start old → Finds is_clean rows failures never_fails are_whole why wanted old new (Err e)
     → (AreWhole (rows start) → facts (rows start) → are_whole (rows start))
-    → (facts (rows start) → wanted (rows start) ≡ None → outcome (rows start) ≡ refused why)
+    → (facts (rows start) → wanted (rows start) ≡ None → is_failed (Refused why) ≡ false → outcome (rows start) ≡ refused why)
     → StepsAs is_clean rows failures never_fails copies outcome start new source source (Refused e)
 stopped_where {rows = rows} {failures = failures} {are_whole = are_whole} {wanted = wanted} {start = start} {old = old} {new = new} {e = e} {outcome = outcome} {source = source} s f whole h = record {
   goes = λ clean. goes_at (is_failed (Refused e)) (outcome (rows start)) (rows start) (rows new) source e
       (λ k. let a = f.answer clean k in
-      h (s.facts_hold (f.was_clean clean)) (ap wanted (sym (s.same (f.was_clean clean))) ∙ a.0) ∙ ap refused (sym a.1))
+      h (s.facts_hold (f.was_clean clean)) (ap wanted (sym (s.same (f.was_clean clean))) ∙ a.0) (ap (λ x. is_failed (Refused x)) (sym a.1) ∙ k) ∙ ap refused (sym a.1))
       (f.same clean ∙ s.same (f.was_clean clean));
   was_clean = λ clean. s.was_clean (f.was_clean clean);
   counted = omega (arith, s.counted, f.counted);
@@ -83,16 +88,23 @@ passed_on (Err e) why h = ap Refused h
 pub stopped_whole : {S A : Type 0} {is_clean : S → Type 0} {rows : S → Rows} {failures : S → ℕ} {facts : Rows → Type 0} {never_fails : Type 0} {are_whole : Rows → Type 0} {why : Refusal} {wanted : Rows → Option A} {start old new : S} {e : Refusal} {copies : Bool} {outcome : Rows → Outcome Change} {source : Stream} (r : Result Reply Refusal)
     → IsErrAnd r (λ x. x ≡ e) → SoFar is_clean rows failures facts start old → Finds is_clean rows failures never_fails are_whole why wanted old new (Err e)
     → (AreWhole (rows start) → facts (rows start) → are_whole (rows start))
-    → (facts (rows start) → wanted (rows start) ≡ None → outcome (rows start) ≡ refused why)
+    → (facts (rows start) → wanted (rows start) ≡ None → is_failed (Refused why) ≡ false → outcome (rows start) ≡ refused why)
     → StepsAs is_clean rows failures never_fails copies outcome start new source source (reply_of r)
 stopped_whole {is_clean = is_clean} {rows = rows} {failures = failures} {never_fails = never_fails} {start = start} {new = new} {e = e} {copies = copies} {outcome = outcome} {source = source} r p s f whole h =
     subst (λ answer. StepsAs is_clean rows failures never_fails copies outcome start new source source answer) (sym (passed_on r e p)) (stopped_where s f whole h)
+
+-- what sound books have wasn't there, or the search failed
+pub halted : {S A : Type 0} {is_clean : S → Type 0} {rows : S → Rows} {failures : S → ℕ} {facts : Rows → Type 0} {never_fails : Type 0} {are_whole : Rows → Type 0} {wanted : Rows → Option A} {start old new : S} {e : Refusal} {copies : Bool} {outcome : Rows → Outcome Change} {source : Stream} (r : Result Reply Refusal)
+    → IsErrAnd r (λ x. x ≡ e) → SoFar is_clean rows failures facts start old → Finds is_clean rows failures never_fails are_whole Store wanted old new (Err e)
+    → (AreWhole (rows start) → facts (rows start) → are_whole (rows start))
+    → StepsAs is_clean rows failures never_fails copies outcome start new source source (reply_of r)
+halted r p s f whole = stopped_whole r p s f whole (λ k n x. absurd (false≢true (sym x)))
 
 pub stopped : {S A : Type 0} {is_clean : S → Type 0} {rows : S → Rows} {failures : S → ℕ} {facts : Rows → Type 0} {never_fails : Type 0} {why : Refusal} {wanted : Rows → Option A} {start old new : S} {e : Refusal} {copies : Bool} {outcome : Rows → Outcome Change} {source : Stream} (r : Result Reply Refusal)
     → IsErrAnd r (λ x. x ≡ e) → SoFar is_clean rows failures facts start old → Finds is_clean rows failures never_fails AnyRows why wanted old new (Err e)
     → (facts (rows start) → wanted (rows start) ≡ None → outcome (rows start) ≡ refused why)
     → StepsAs is_clean rows failures never_fails copies outcome start new source source (reply_of r)
-stopped r p s f h = stopped_whole r p s f (λ w k. tt) h
+stopped r p s f h = stopped_whole r p s f (λ w k. tt) (λ k n x. h k n)
 
 -- a refusal, where the checks come to it
 pub refuses : {S : Type 0} {is_clean : S → Type 0} {rows : S → Rows} {failures : S → ℕ} {facts : Rows → Type 0} {never_fails : Type 0} {start now : S} {copies : Bool} {outcome : Rows → Outcome Change} {source : Stream} (why : Refusal)
@@ -171,3 +183,31 @@ fails {is_clean = is_clean} {rows = rows} {failures = failures} {never_fails = n
 pub none : {A : Type 0} (o : Option A) → is_some o ≡ false → o ≡ None
 none None e = refl
 none (Some a) e = absurd (false≢true (sym e))
+
+-- a refusal of the checks, passed on
+pub barred : {S : Type 0} {is_clean : S → Type 0} {rows : S → Rows} {failures : S → ℕ} {facts : Rows → Type 0} {never_fails : Type 0} {start now : S} {e : Refusal} {copies : Bool} {outcome : Rows → Outcome Change} {source : Stream} (r : Result Reply Refusal)
+    → IsErrAnd r (λ x. x ≡ e) → is_failed (Refused e) ≡ false → SoFar is_clean rows failures facts start now
+    → (facts (rows start) → outcome (rows start) ≡ refused e)
+    → StepsAs is_clean rows failures never_fails copies outcome start now source source (reply_of r)
+barred {is_clean = is_clean} {rows = rows} {failures = failures} {never_fails = never_fails} {start = start} {now = now} {e = e} {copies = copies} {outcome = outcome} {source = source} r p k s h =
+    subst (λ answer. StepsAs is_clean rows failures never_fails copies outcome start now source source answer) (sym (passed_on r e p)) (refuses e k s h)
+
+-- the first of these checks that refuses, and others after them
+pub bars_refuse : {X : Type 0} (checks later : List (Option Refusal)) (o : Outcome X) (why : Refusal) → first_refusal checks ≡ Some why → unless (checks ++ later) o ≡ refused why
+bars_refuse [] later o why e = cc
+bars_refuse (Some other ∷ checks) later o why e = ap refused (only e)
+bars_refuse (None ∷ checks) later o why e = bars_refuse checks later o why e
+
+-- these checks pass
+pub bars_pass : {X : Type 0} (checks later : List (Option Refusal)) (o : Outcome X) → first_refusal checks ≡ None → unless (checks ++ later) o ≡ unless later o
+bars_pass [] later o e = refl
+bars_pass (Some other ∷ checks) later o e = cc
+bars_pass (None ∷ checks) later o e = bars_pass checks later o e
+
+-- the number after so many
+pub number_is : (n m : ℕ) → number_after n ≡ Some m → n + 1 ≡ m
+number_is n m e = at (nat_lt n 9999999) n m e
+  where
+    at : (b : Bool) (n m : ℕ) → cond b (Some (n + 1)) None ≡ Some m → n + 1 ≡ m
+    at true n m e = only e
+    at false n m e = cc

@@ -1,5 +1,5 @@
 -- What a part of a step finds in the books: what stands there, or a refusal where nothing does.
-use Rattle.std.specs.Prelude.{ℕ, ◌≡◌, ◌≤◌, Bool, true, false, Option, Some, None, Result, Ok, Err}
+use Rattle.std.specs.Prelude.{ℕ, ◌≡◌, ◌≤◌, Bool, true, false, List, [], ◌∷◌, Option, Some, None, Result, Ok, Err}
 use Rattle.rand_core.specs.Stream.{Stream}
 use Rattle.keycard_rules.specs.Draw.{Draw, words, past, draw_from, MovedAtMost}
 use Rattle.keycard_rules.specs.Rise.{HasRisen}
@@ -84,3 +84,14 @@ pub record DrawsCode {S : Type 0} (is_clean : S → Type 0) (rows : S → Rows) 
   pub counted : failures old ≤ failures new
   pub fault : has_failed result ≡ true → HasRisen (failures old) (failures new)
   pub sure : never_fails → has_failed result ≡ true → ⊥
+
+-- the first refusal of these checks
+abbrev pub first_refusal : List (Option Refusal) → Option Refusal
+first_refusal [] = None
+first_refusal (Some why ∷ checks) = Some why
+first_refusal (None ∷ checks) = first_refusal checks
+
+-- the checks pass, or this is their first refusal
+abbrev pub Passes : List (Option Refusal) → Result (Unit {0}) Refusal → Type 0
+Passes checks (Ok done) = first_refusal checks ≡ None
+Passes checks (Err why) = (first_refusal checks ≡ Some why) × (is_failed (reply.Refused why) ≡ false)

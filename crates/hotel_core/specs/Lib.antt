@@ -25,6 +25,7 @@ pub mod OnRows
 pub mod StepOnRows
 pub mod Reads
 pub mod Finds
+pub mod Issuing
 pub mod Headline
 pub mod Lists
 pub mod Follow

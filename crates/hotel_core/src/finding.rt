@@ -1,5 +1,5 @@
 //! What commands find in the books, or the refusal where it isn't there.
-ghost use Rattle.std.specs.Prelude.{◌≡◌, ◌≤◌, ℕ, Option, Some, None, Bool, true, false, Result, Ok, Err, OnErr, OnOk, IsOk, length};
+ghost use Rattle.std.specs.Prelude.{◌≡◌, ◌≤◌, ℕ, Option, Some, None, Bool, true, false, Result, Ok, Err, OnErr, OnOk, IsOk, IsSome, length};
 ghost use Rattle.hotel_core.specs.Rows.{Rows};
 ghost use Rattle.hotel_core.specs.Lookups.{has_kind, room_at, code_at, code_place, stay_at, card_at, note_at, number_after};
 ghost use Rattle.hotel_core.specs.Finds.{Finds, AnyRows, has_failed, refusal_of, known, there_or};
@@ -29,7 +29,7 @@ fn known<A>(answer: Result<A, LookFault>) -> Result<A, Refusal>
     }
 }
 
-fn there_or<A>(answer: Result<Option<A>, LookFault>, why: Refusal) -> Result<A, Refusal>
+pub(crate) fn there_or<A>(answer: Result<Option<A>, LookFault>, why: Refusal) -> Result<A, Refusal>
     ensures { result ≡ there_or why answer }
 {
     match answer {
@@ -76,6 +76,14 @@ pub(crate) fn stay_there<B: Books>(books: &mut B, party: PartyNo) -> Result<Stay
 {
     let stay = books.stay(party);
     there_or(stay, Refusal::NoParty)
+}
+
+/// The row of a room in which a party is in house, which sound books have.
+pub(crate) fn row_of<B: Books>(books: &mut B, room: RoomNo) -> Result<RoomRow, Refusal>
+    ensures { Finds B.is_clean B.rows B.failures B.never_fails (λ rows. IsSome (room_at rows room)) Store (λ rows. room_at rows room) books.old books.new result }
+{
+    let row = books.room(room);
+    there_or(row, Refusal::Store)
 }
 
 /// The room's row, where it is there.
