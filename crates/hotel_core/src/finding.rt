@@ -20,7 +20,7 @@ pub(crate) fn refusal_of(fault: LookFault) -> Refusal
     }
 }
 
-fn known<A>(answer: Result<A, LookFault>) -> Result<A, Refusal>
+pub(crate) fn known<A>(answer: Result<A, LookFault>) -> Result<A, Refusal>
     ensures { result ≡ known answer }
 {
     match answer {
