@@ -121,7 +121,7 @@ refuses {rows = rows} {start = start} {now = now} {outcome = outcome} {source = 
 
 -- the step goes on as one that ends it
 pub ends : {S : Type 0} {is_clean : S → Type 0} {rows : S → Rows} {failures : S → ℕ} {facts : Rows → Type 0} {never_fails : Type 0} {start old new : S} {copies : Bool} {outcome last : Rows → Outcome Change} {source rest : Stream} {answer : Reply}
-    → SoFar is_clean rows failures facts start old → StepsAs is_clean rows failures never_fails copies last old new source rest answer
+    → SoFar is_clean rows failures facts start old → StepsAs is_clean rows failures never_fails false last old new source rest answer
     → (facts (rows start) → outcome (rows start) ≡ last (rows start))
     → StepsAs is_clean rows failures never_fails copies outcome start new source rest answer
 ends {is_clean = is_clean} {rows = rows} {failures = failures} {never_fails = never_fails} {start = start} {old = old} {new = new} {copies = copies} {outcome = outcome} {last = last} {source = source} {rest = rest} {answer = answer} s t h = record {
@@ -132,7 +132,7 @@ ends {is_clean = is_clean} {rows = rows} {failures = failures} {never_fails = ne
   was_clean = λ clean. s.was_clean (t.was_clean clean);
   counted = omega (arith, s.counted, t.counted);
   fault = λ clean w e.
-      elim (t.fault clean (subst AreWhole (sym (s.same (t.was_clean clean))) w) e) [ inl r ↦ inl (risen_later (failures start) (failures old) (failures new) s.counted r t.counted) | inr m ↦ inr m ];
+      elim (t.fault clean (subst AreWhole (sym (s.same (t.was_clean clean))) w) e) [ inl r ↦ inl (risen_later (failures start) (failures old) (failures new) s.counted r t.counted) | inr m ↦ absurd m ];
   no_store = λ clean w n e. t.no_store clean (subst AreWhole (sym (s.same (t.was_clean clean))) w) n e;
 }
 
@@ -211,3 +211,14 @@ number_is n m e = at (nat_lt n 9999999) n m e
     at : (b : Bool) (n m : ℕ) → cond b (Some (n + 1)) None ≡ Some m → n + 1 ≡ m
     at true n m e = only e
     at false n m e = cc
+
+-- there is no memory for a copy
+pub lacks : {S : Type 0} {is_clean : S → Type 0} {rows : S → Rows} {failures : S → ℕ} {facts : Rows → Type 0} {never_fails : Type 0} {start now : S} {outcome : Rows → Outcome Change} {source : Stream}
+    → SoFar is_clean rows failures facts start now → StepsAs is_clean rows failures never_fails true outcome start now source source (Refused Memory)
+lacks {rows = rows} {start = start} {now = now} {outcome = outcome} {source = source} s = record {
+  goes = λ clean. goes_at true (outcome (rows start)) (rows start) (rows now) source Memory (λ k. absurd (false≢true (sym k))) (s.same clean);
+  was_clean = s.was_clean;
+  counted = s.counted;
+  fault = λ clean w e. inr refl;
+  no_store = λ clean w n e. cc;
+}
