@@ -26,6 +26,9 @@ pub mod OnRows
 pub mod StepOnRows
 pub mod Lift
 pub mod Reads
+pub mod Finds
+pub mod Issuing
+pub mod Noting
 pub mod Headline
 pub mod Lists
 pub mod Follow
