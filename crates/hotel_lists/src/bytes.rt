@@ -228,3 +228,6 @@ pub fn read_whole<R: Read>(
     }
     Err(WholeFault::TooLarge)
 }
+
+#[cfg(test)]
+mod tests;

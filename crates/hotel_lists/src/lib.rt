@@ -2,8 +2,10 @@
 #![tactic(auto)]
 
 mod bytes;
+mod fakes;
 
 pub use bytes::{
     Interruptions, ReadFailed, ReadFault, WholeFault, WriteFailed, read_more, read_whole,
     write_bytes, write_parts,
 };
+pub use fakes::{FakeReader, FakeWriter};

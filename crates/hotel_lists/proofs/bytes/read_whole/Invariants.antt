@@ -1,5 +1,5 @@
 -- the bytes so far are what was consumed
-use Rattle.std.proofs.Common.{◌+◌, ◌-◌, ◌≤◌, length, vec_len}
+use Rattle.std.proofs.Common.{◌+◌, ◌-◌, vec_len}
 use Rattle.std.specs.Io.KnownBytes.{Consumes}
 use Rattle.hotel_lists.proofs.bytes.read_whole.Given as goal
 
