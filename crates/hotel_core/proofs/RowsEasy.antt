@@ -1,8 +1,8 @@
 -- The rows after events that touch no room.
 use Rattle.std.proofs.Common.{ℕ, ◌≡◌, ◌+◌, List, true, Option, Some, None, refl, ap}
 use Rattle.std.specs.Prelude.{option_map, is_some}
-use Rattle.hotel_core.specs.declared.keys.Link.{Link}
-use Rattle.hotel_core.specs.declared.keys.Card.{Card}
+use Rattle.keycard_rules.specs.declared.card.Link.{Link}
+use Rattle.keycard_rules.specs.declared.card.Card.{Card}
 use Rattle.hotel_core.specs.Words.{said_of}
 use Rattle.hotel_core.specs.Event.{NextDay, Spare}
 use Rattle.hotel_core.specs.History.{History}

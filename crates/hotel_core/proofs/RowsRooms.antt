@@ -2,9 +2,9 @@
 use Rattle.std.proofs.Common.{ℕ, ◌≡◌, ◌+◌, List, [], ◌∷◌, ◌++◌, Bool, true, false, cond, refl, ap, sym, ◌∙◌, subst, length, arith}
 use Rattle.std.specs.Prelude.{◌==◌, map}
 use Rattle.std.proofs.lemmas.Bool.Decides.{nat_tests}
-use Rattle.hotel_core.specs.declared.keys.Link.{Link}
-use Rattle.hotel_core.specs.declared.keys.LockNote.{LockNote}
-use Rattle.hotel_core.specs.declared.keys.Act.TheVariants as act
+use Rattle.keycard_rules.specs.declared.card.Link.{Link}
+use Rattle.keycard_rules.specs.Note.{Note}
+use Rattle.keycard_rules.specs.declared.note.Act.TheVariants as act
 use Rattle.hotel_core.specs.declared.rows.RoomRow.{RoomRow}
 use Rattle.hotel_core.specs.Words.{when, and_last}
 use Rattle.hotel_core.specs.Event.{Moment, Left}
@@ -56,7 +56,7 @@ length_more (y ∷ ys) x = let p = length_more ys x in omega arith
 pub left_follows : (h : History) (room count number : ℕ) (link : Link) (at : Moment) → RoomsOnce (rooms h) → count ≡ length (notes h room) + 1 → FollowsBy h (Left room count number link at)
 left_follows h room count number link at once n =
     let h' : History = h ▷ Left room count number link at in
-    let note : LockNote = record { room = room; count = count; act = act.Left number link; day = at.day; second = at.second } in
+    let note : Note = record { room = room; count = count; act = act.Left number link; day = at.day; second = at.second } in
     ap (λ rs. record (rows_of h') { rooms = rs })
     (one_changed (room_row h') (room_row h) _ room
     (λ r k t. ap (λ b. record (room_row h r k) { notes = length (when b (and_last note) (notes h r)) }) t)

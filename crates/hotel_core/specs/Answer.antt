@@ -2,14 +2,15 @@
 use Rattle.std.specs.Prelude.{ℕ, List, [], ◌∷◌, Option, ◌+◌, nat_lt, option_map}
 use Rattle.hotel_core.specs.declared.command.Command.{Command}
 use Rattle.hotel_core.specs.declared.command.Command.TheVariants as command
-use Rattle.hotel_core.specs.declared.command.Reply.TheVariants as reply
-use Rattle.hotel_core.specs.declared.command.Refusal.{Refusal}
-use Rattle.hotel_core.specs.declared.command.Refusal.TheVariants.{NotBegun, AlreadyBegun, KindExists, NoKind, RoomExists, NoRoom, NoParty, NotBooked, NotInHouse, TooEarly, StayOver, WrongKind, SameRoom, RoomTaken, PastArrival, PastEnd, KindFull, NumbersUsedUp, LastDay, Conflict, Gap, NoCard, CardDiffers, LockShut, NotInside, HeldDiffers, NotAwaited}
-use Rattle.hotel_core.specs.declared.keys.Act.{Act}
-use Rattle.hotel_core.specs.declared.keys.Act.TheVariants as act
-use Rattle.hotel_core.specs.declared.keys.LockNote.{LockNote}
+use Rattle.hotel_core.specs.declared.reply.Reply.TheVariants as reply
+use Rattle.hotel_core.specs.declared.reply.Refusal.{Refusal}
+use Rattle.hotel_core.specs.declared.reply.Refusal.TheVariants.{NotBegun, AlreadyBegun, KindExists, NoKind, RoomExists, NoRoom, NoParty, NotBooked, NotInHouse, TooEarly, StayOver, WrongKind, SameRoom, RoomTaken, PastArrival, PastEnd, KindFull, NumbersUsedUp, LastDay, Conflict, Gap, NoCard, CardDiffers, LockShut, NotInside, HeldDiffers, NotAwaited}
+use Rattle.keycard_rules.specs.declared.note.Act.{Act}
+use Rattle.keycard_rules.specs.declared.note.Act.TheVariants as act
+use Rattle.keycard_rules.specs.Note.{Note}
 use Rattle.hotel_core.specs.Words.{is_one_of}
 use Rattle.hotel_core.specs.Event as event
+use Rattle.hotel_core.specs.Event.{Event}
 use Rattle.hotel_core.specs.History.{History}
 use Rattle.hotel_core.specs.Cards.{card_of, link_to}
 use Rattle.hotel_core.specs.Ledger.{awaited}
@@ -20,11 +21,11 @@ use Rattle.hotel_core.specs.Cases.{is_begun, today, is_kind, is_room, is_party, 
 use Rattle.hotel_core.specs.Outcome.{Outcome, needs, bars, unless, accepted, said, refused, with_fresh}
 
 -- the moment of a note
-abbrev pub moment_of : LockNote → event.Moment
+abbrev pub moment_of : Note → event.Moment
 moment_of note = record { day = note.day; second = note.second }
 
 -- The next note of a room: what it says must be so.
-abbrev pub told : History → LockNote → Act → Outcome
+abbrev pub told : History → Note → Act → Outcome Event
 told h note (act.Entered number link) =
     unless (needs (is_card h number) NoCard ∷ needs (has_link h number link) CardDiffers ∷ needs (opens h note.room link) LockShut ∷ [])
     (accepted reply.Taken (event.Entered note.room note.count number link (moment_of note)))
@@ -36,7 +37,7 @@ told h note (act.Recoded from to) =
     (accepted reply.Taken (event.Recoded note.room note.count from to (moment_of note)))
 
 -- A copy was seen, another content is a conflict, a later count leaves a gap; only the next note is looked at.
-abbrev pub reported : History → LockNote → Standing → Outcome
+abbrev pub reported : History → Note → Standing → Outcome Event
 reported h note Copy = said reply.Seen
 reported h note Conflicting = refused Conflict
 reported h note (After expected) = refused (Gap expected)
@@ -65,20 +66,20 @@ checks h (command.CheckOut party) = needs (is_begun h) NotBegun ∷ needs (is_pa
 checks h command.NextDay = needs (is_begun h) NotBegun ∷ needs (nat_lt (today h) 36524) LastDay ∷ []
 checks h (command.Reported note) = needs (is_begun h) NotBegun ∷ needs (is_room h note.room) NoRoom ∷ []
 
--- What comes of each command that passes its checks, where the source's next words give these codes.
-abbrev pub effect : History → List ℕ → Command → Outcome
-effect h codes (command.Begin day) = accepted reply.Begun (event.Begun day)
-effect h codes (command.AddKind kind) = accepted reply.KindAdded (event.Kind kind)
-effect h codes (command.AddRoom room kind) = with_fresh h codes (λ code. reply.RoomAdded code) (λ code. event.Install room kind code)
-effect h codes (command.Reserve guest kind arrive nights) = accepted (reply.Reserved (next_party h)) (event.Reserved (next_party h) guest kind arrive (arrive + nights))
-effect h codes (command.Cancel party) = accepted reply.Cancelled (event.Cancelled party)
-effect h codes (command.CheckIn party room) = with_fresh h codes (λ code. reply.Issued (card_of (next_card h) party (link_to h room code))) (λ code. event.CheckIn party room (next_card h) code)
-effect h codes (command.Spare party) = accepted (reply.Issued (card_of (next_card h) party (last_card_of h party))) (event.Spare party (next_card h))
-effect h codes (command.Transfer party room) = with_fresh h codes (λ code. reply.Issued (card_of (next_card h) party (link_to h room code))) (λ code. event.Transfer party room (next_card h) code)
-effect h codes (command.CheckOut party) = accepted reply.CheckedOut (event.CheckOut party)
-effect h codes command.NextDay = accepted (reply.DayIs (today h + 1)) event.NextDay
-effect h codes (command.Reported note) = reported h note (standing h note)
+-- What comes of each command that passes its checks, where these are the source's next words.
+abbrev pub effect : History → List ℕ → Command → Outcome Event
+effect h ahead (command.Begin day) = accepted reply.Begun (event.Begun day)
+effect h ahead (command.AddKind kind) = accepted reply.KindAdded (event.Kind kind)
+effect h ahead (command.AddRoom room kind) = with_fresh h ahead (λ code. reply.RoomAdded code) (λ code. event.Install room kind code)
+effect h ahead (command.Reserve guest kind arrive nights) = accepted (reply.Reserved (next_party h)) (event.Reserved (next_party h) guest kind arrive (arrive + nights))
+effect h ahead (command.Cancel party) = accepted reply.Cancelled (event.Cancelled party)
+effect h ahead (command.CheckIn party room) = with_fresh h ahead (λ code. reply.Issued (card_of (next_card h) party (link_to h room code))) (λ code. event.CheckIn party room (next_card h) code)
+effect h ahead (command.Spare party) = accepted (reply.Issued (card_of (next_card h) party (last_card_of h party))) (event.Spare party (next_card h))
+effect h ahead (command.Transfer party room) = with_fresh h ahead (λ code. reply.Issued (card_of (next_card h) party (link_to h room code))) (λ code. event.Transfer party room (next_card h) code)
+effect h ahead (command.CheckOut party) = accepted reply.CheckedOut (event.CheckOut party)
+effect h ahead command.NextDay = accepted (reply.DayIs (today h + 1)) event.NextDay
+effect h ahead (command.Reported note) = reported h note (standing h note)
 
 -- What the desk answers to a command after a history: the first refusal of its checks, else what comes of it.
-unfoldable pub answer_to : History → List ℕ → Command → Outcome
-answer_to h codes command = unless (checks h command) (effect h codes command)
+unfoldable pub answer_to : History → List ℕ → Command → Outcome Event
+answer_to h ahead command = unless (checks h command) (effect h ahead command)

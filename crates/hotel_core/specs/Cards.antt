@@ -2,8 +2,8 @@
 use Rattle.std.specs.Prelude.{ℕ, List, Option, Some, None, ◌==◌}
 use Rattle.std.specs.Ordering.{nat_cmp}
 use Rattle.std.specs.BTreeMap.{insert_entry}
-use Rattle.hotel_core.specs.declared.keys.Card.{Card}
-use Rattle.hotel_core.specs.declared.keys.Link.{Link}
+use Rattle.keycard_rules.specs.declared.card.Card.{Card}
+use Rattle.keycard_rules.specs.declared.card.Link.{Link}
 use Rattle.hotel_core.specs.Words.{when}
 use Rattle.hotel_core.specs.Rows.{codes_at, last_link_of, link_of_last_card}
 use Rattle.hotel_core.specs.Event.{CheckIn, Transfer, Spare}

@@ -2,15 +2,16 @@
 use Rattle.std.specs.Prelude.{ℕ, Bool, true, false, List, Option, Some, None, ◌+◌, ◌==◌, nat_lt, nat_le, length, is_some, bytes_eq}
 use Rattle.std.specs.List.{list_any}
 use Rattle.std.specs.Map.{keys_of}
-use Rattle.hotel_core.specs.declared.keys.Link.{Link}
-use Rattle.hotel_core.specs.declared.nights.Stay.{Stay}
-use Rattle.hotel_core.specs.declared.nights.StayState.{StayState}
-use Rattle.hotel_core.specs.declared.nights.StayState.TheVariants as state
+use Rattle.keycard_rules.specs.declared.card.Link.{Link}
+use Rattle.hotel_nights.specs.declared.stay.Stay.{Stay}
+use Rattle.hotel_nights.specs.declared.stay.StayState.{StayState}
+use Rattle.hotel_nights.specs.declared.stay.StayState.TheVariants as state
 use Rattle.hotel_core.specs.Words.{is_one_of, is_that, said_of}
 use Rattle.hotel_core.specs.Rows.{at_number}
 use Rattle.hotel_core.specs.History.{History}
 use Rattle.hotel_core.specs.Cards.{cards, link_of_party}
-use Rattle.hotel_core.specs.Lock.{turn, held}
+use Rattle.keycard_rules.specs.Lock.{turn}
+use Rattle.hotel_core.specs.Lock.{held}
 use Rattle.hotel_core.specs.Guests.{registered}
 use Rattle.hotel_core.specs.Stays.{day, kinds, rooms, stays}
 use Rattle.hotel_core.specs.Notes.{same_link}

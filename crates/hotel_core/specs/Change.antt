@@ -4,12 +4,12 @@ use Rattle.std.specs.Ordering.{nat_cmp}
 use Rattle.std.specs.Cmp.Lexicographic.{slice_cmp}
 use Rattle.std.specs.BTreeMap.{insert_entry}
 use Rattle.std.specs.BTreeSet.{insert_key}
-use Rattle.hotel_core.specs.declared.nights.StayState.TheVariants as state
+use Rattle.hotel_nights.specs.declared.stay.StayState.TheVariants as state
 use Rattle.hotel_core.specs.declared.rows.RoomRow.{RoomRow}
-use Rattle.hotel_core.specs.declared.rows.InsideMove.{InsideMove}
-use Rattle.hotel_core.specs.declared.rows.InsideMove.TheVariants.{Same, Goes, Comes}
-use Rattle.hotel_core.specs.declared.rows.Change.{Change}
-use Rattle.hotel_core.specs.declared.rows.Change.TheVariants.{Begin, DayTo, Kind, Room, Reserved, Cancelled, Issue, Spare, CheckedOut, Noted}
+use Rattle.hotel_core.specs.declared.change.InsideMove.{InsideMove}
+use Rattle.hotel_core.specs.declared.change.InsideMove.TheVariants.{Same, Goes, Comes}
+use Rattle.hotel_core.specs.declared.change.Change.{Change}
+use Rattle.hotel_core.specs.declared.change.Change.TheVariants.{Begin, DayTo, Kind, Room, Reserved, Cancelled, Issue, Spare, CheckedOut, Noted}
 use Rattle.hotel_core.specs.Words.{said_of, pair_cmp, remove_key}
 use Rattle.hotel_core.specs.Rows.{Rows, at_number}
 use Rattle.hotel_core.specs.Stays.{in_state}

@@ -1,12 +1,12 @@
 -- The change that an event makes of the books, and when a change fits them.
 use Rattle.std.specs.Prelude.{ℕ, ◌≡◌, Bool, true, false, None, ◌+◌, length, IsSome}
-use Rattle.hotel_core.specs.declared.keys.LockNote.{LockNote}
-use Rattle.hotel_core.specs.declared.keys.Act.TheVariants as act
-use Rattle.hotel_core.specs.declared.nights.StayState.TheVariants as state
-use Rattle.hotel_core.specs.declared.rows.InsideMove.{InsideMove}
-use Rattle.hotel_core.specs.declared.rows.InsideMove.TheVariants.{Same, Goes, Comes}
-use Rattle.hotel_core.specs.declared.rows.Change.{Change}
-use Rattle.hotel_core.specs.declared.rows.Change.TheVariants as change
+use Rattle.keycard_rules.specs.Note.{Note}
+use Rattle.keycard_rules.specs.declared.note.Act.TheVariants as act
+use Rattle.hotel_nights.specs.declared.stay.StayState.TheVariants as state
+use Rattle.hotel_core.specs.declared.change.InsideMove.{InsideMove}
+use Rattle.hotel_core.specs.declared.change.InsideMove.TheVariants.{Same, Goes, Comes}
+use Rattle.hotel_core.specs.declared.change.Change.{Change}
+use Rattle.hotel_core.specs.declared.change.Change.TheVariants as change
 use Rattle.hotel_core.specs.Words.{said_of, is_one_of}
 use Rattle.hotel_core.specs.Rows.{Rows, at_number}
 use Rattle.hotel_core.specs.Sound.{IsSound}
@@ -20,7 +20,7 @@ use Rattle.hotel_core.specs.Cases.{today, room_of, last_card_of}
 use Rattle.hotel_core.specs.Change.{made}
 
 -- what a note leaves of its room's row, and who moves
-abbrev pub noted : History → Event → LockNote → InsideMove → Change
+abbrev pub noted : History → Event → Note → InsideMove → Change
 noted h event note insides = change.Noted note (length (passed (h ▷ event) note.room)) (secured (h ▷ event) note.room) insides
 
 -- a card comes in, unless it is inside

@@ -1,8 +1,8 @@
 -- What can happen at the desk: each accepted command or taken note is one event.
 use Rattle.std.specs.Prelude.{ℕ, List, Option, Some, None}
-use Rattle.hotel_core.specs.declared.keys.Link.{Link}
-use Rattle.hotel_core.specs.declared.keys.LockNote.{LockNote}
-use Rattle.hotel_core.specs.declared.keys.Act.TheVariants as act
+use Rattle.keycard_rules.specs.declared.card.Link.{Link}
+use Rattle.keycard_rules.specs.Note.{Note}
+use Rattle.keycard_rules.specs.declared.note.Act.TheVariants as act
 
 -- a day, and a second of it
 pub record Moment : Type 0 where
@@ -38,7 +38,7 @@ pub data Event : Type 0 where
   Recoded : (room count from to : ℕ) → Moment → Event
 
 -- the note that an event took, where it took one
-abbrev pub note_of : Event → Option LockNote
+abbrev pub note_of : Event → Option Note
 note_of (Entered room count number link at) = Some (record { room = room; count = count; act = act.Entered number link; day = at.day; second = at.second })
 note_of (Left room count number link at) = Some (record { room = room; count = count; act = act.Left number link; day = at.day; second = at.second })
 note_of (Recoded room count from to at) = Some (record { room = room; count = count; act = act.Recoded from to; day = at.day; second = at.second })

@@ -3,7 +3,7 @@ use Rattle.std.specs.Prelude.{ℕ, ◌≡◌, true, false, List, Some, None, ◌
 use Rattle.hotel_core.specs.declared.command.Command.{Command}
 use Rattle.hotel_core.specs.Words.{is_one_of}
 use Rattle.hotel_core.specs.Answer.{answer_to}
-use Rattle.hotel_core.specs.declared.keys.Link.{Link}
+use Rattle.keycard_rules.specs.declared.card.Link.{Link}
 use Rattle.hotel_core.specs.Notes.{notes}
 use Rattle.hotel_core.specs.Event.{Event, Moment, Begun, Kind, Install, Reserved, Cancelled, CheckIn, Transfer, Spare, CheckOut, NextDay, Entered, Left, Recoded}
 use Rattle.hotel_core.specs.History.{History, ◌▷◌}
@@ -36,7 +36,7 @@ MayFollow h (Recoded room count from to at) = (count ≡ length (notes h room) +
 
 -- Each event that an answer accepts may follow.
 abbrev pub AnswersFollow : Type 0
-AnswersFollow = (h : History) (codes : List ℕ) (command : Command) (event : Event) → (answer_to h codes command).event ≡ Some event → MayFollow h event
+AnswersFollow = (h : History) (ahead : List ℕ) (command : Command) (event : Event) → (answer_to h ahead command).happens ≡ Some event → MayFollow h event
 
 -- The event's change makes the rows of the grown history.
 abbrev pub FollowsBy : History → Event → Type 0

@@ -1,7 +1,7 @@
 -- What is to be proved of each history that can be reached.
 use Rattle.std.specs.Prelude.{ℕ, ◌≡◌, ◌≤◌, ◌↔◌, true, List, ◌∷◌, ◌++◌, Some, IsSome, Contains, length}
-use Rattle.hotel_core.specs.declared.keys.Card.{Card}
-use Rattle.hotel_core.specs.declared.keys.Link.{Link}
+use Rattle.keycard_rules.specs.declared.card.Card.{Card}
+use Rattle.keycard_rules.specs.declared.card.Link.{Link}
 use Rattle.hotel_core.specs.declared.command.Command.{Command}
 use Rattle.hotel_core.specs.Rows.{at_number}
 use Rattle.hotel_core.specs.Sound.{IsSound}
@@ -10,7 +10,8 @@ use Rattle.hotel_core.specs.History.{History, start, ◌▷◌}
 use Rattle.hotel_core.specs.RowsOf.{rows_of}
 use Rattle.hotel_core.specs.Issued.{issued, current}
 use Rattle.hotel_core.specs.Cards.{cards, newest_link}
-use Rattle.hotel_core.specs.Lock.{turn, held}
+use Rattle.keycard_rules.specs.Lock.{turn}
+use Rattle.hotel_core.specs.Lock.{held}
 use Rattle.hotel_core.specs.Ledger.{passed, awaited, turns}
 use Rattle.hotel_core.specs.Guests.{registered, inside, secured}
 use Rattle.hotel_core.specs.Stays.{nights, rooms_of}
@@ -75,4 +76,4 @@ RowsFollow = (h : History) (event : Event) → Reached (h ▷ event) →
 
 -- A step after a history that can be reached makes one that can be reached.
 abbrev pub StepKeeps : Type 0
-StepKeeps = (h : History) (codes : List ℕ) (command : Command) → Reached h → Reached (grown h (answer_to h codes command).event)
+StepKeeps = (h : History) (ahead : List ℕ) (command : Command) → Reached h → Reached (grown h (answer_to h ahead command).happens)

@@ -3,8 +3,9 @@ use Rattle.std.specs.Prelude.{ℕ, Bool, List, ◌==◌, not, length}
 use Rattle.std.specs.Ordering.{nat_cmp}
 use Rattle.std.specs.BTreeMap.{insert_entry}
 use Rattle.std.specs.Map.{keys_of}
+use Rattle.keycard_rules.specs.Draw.{is_among}
 use Rattle.hotel_core.specs.declared.rows.CodeRow.{CodeRow}
-use Rattle.hotel_core.specs.Words.{when, and_last, last_of, is_one_of}
+use Rattle.hotel_core.specs.Words.{when, and_last, last_of}
 use Rattle.hotel_core.specs.Rows.{codes_at}
 use Rattle.hotel_core.specs.Event.{Install, CheckIn, Transfer}
 use Rattle.hotel_core.specs.History.{History, start, ◌▷◌}
@@ -29,6 +30,10 @@ all_issued (h ▷ CheckIn party room number code) = insert_entry nat_cmp (all_is
 all_issued (h ▷ Transfer party room number code) = insert_entry nat_cmp (all_issued h) code (record { room = room; place = length (issued h room) })
 all_issued (h ▷ _) = all_issued h
 
+-- The codes that were issued at any room.
+abbrev pub issued_codes : History → List ℕ
+issued_codes h = keys_of (all_issued h)
+
 -- A code is fresh where it was issued at no room.
 abbrev pub is_fresh : History → ℕ → Bool
-is_fresh h code = not (is_one_of code (keys_of (all_issued h)))
+is_fresh h code = not (is_among (issued_codes h) code)

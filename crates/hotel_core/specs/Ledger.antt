@@ -1,6 +1,6 @@
 -- The codes that a room's lock has passed, and those that it awaits.
 use Rattle.std.specs.Prelude.{ℕ, Bool, List, ◌∷◌, ◌++◌, ◌==◌, ◌&&◌, ◌+◌, take, drop}
-use Rattle.hotel_core.specs.declared.keys.Link.{Link}
+use Rattle.keycard_rules.specs.declared.card.Link.{Link}
 use Rattle.hotel_core.specs.Words.{when, and_last, before, after, without}
 use Rattle.hotel_core.specs.Rows.{codes_at, lock_place_of}
 use Rattle.hotel_core.specs.Event.{CheckIn, Transfer, Entered, Recoded}

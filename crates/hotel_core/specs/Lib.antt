@@ -7,7 +7,6 @@ pub mod Cards
 pub mod Lock
 pub mod Ledger
 pub mod Guests
-pub mod Draw
 pub mod Stays
 pub mod Notes
 pub mod RowsOf

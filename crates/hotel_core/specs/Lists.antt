@@ -1,8 +1,8 @@
 -- The rows of the five lists, read off a history.
 use Rattle.std.specs.Prelude.{ℕ, Bool, List, [], ◌∷◌, ◌++◌, Option, Some, None, ◌+◌, ◌&&◌, if◌then◌else◌, nat_le, nat_lt, length, filter, filter_map}
 use Rattle.std.specs.Map.{keys_of, values_of}
-use Rattle.hotel_core.specs.declared.nights.Stay.{Stay}
-use Rattle.hotel_core.specs.declared.keys.LockNote.{LockNote}
+use Rattle.hotel_nights.specs.declared.stay.Stay.{Stay}
+use Rattle.keycard_rules.specs.Note.{Note}
 use Rattle.hotel_core.specs.Words.{said_of}
 use Rattle.hotel_core.specs.Rows.{at_number}
 use Rattle.hotel_core.specs.History.{History}
@@ -70,5 +70,5 @@ abbrev pub left_behind : History → List BehindRow
 left_behind h = filter_map (behind_row h) (keys_of (rooms h))
 
 -- A room's notes, by count.
-abbrev pub audit_of : History → ℕ → List LockNote
+abbrev pub audit_of : History → ℕ → List Note
 audit_of h room = notes h room

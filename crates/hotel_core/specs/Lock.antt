@@ -1,14 +1,10 @@
--- The lock's rule, and the code that each lock holds.
+-- The code that each lock holds.
 use Rattle.std.specs.Prelude.{ℕ, Option, Some, None, ◌==◌, ◌||◌, if◌then◌else◌, drop}
-use Rattle.hotel_core.specs.declared.keys.Link.{Link}
+use Rattle.keycard_rules.specs.declared.card.Link.{Link}
 use Rattle.hotel_core.specs.Words.{when}
 use Rattle.hotel_core.specs.Rows.{codes_at, lock_place_of, first_of}
 use Rattle.hotel_core.specs.Event.{Install, Entered, Recoded}
 use Rattle.hotel_core.specs.History.{History, start, ◌▷◌}
-
--- What a lock that holds a code holds after a card: it opens to the card's new and to its old code, and then holds the new one. Else it stays shut.
-abbrev pub turn : ℕ → Link → Option ℕ
-turn code link = if (code == link.new_code) || (code == link.old_code) then Some link.new_code else None
 
 -- The code that a room's lock holds: its first code, then that of the last entry or recoding there.
 abbrev pub held : History → ℕ → ℕ

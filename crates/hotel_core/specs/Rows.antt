@@ -3,10 +3,10 @@ use Rattle.std.specs.Prelude.{ℕ, List, [], ◌∷◌, Option, Some, None, ◌=
 use Rattle.std.specs.Ordering.{nat_cmp}
 use Rattle.std.specs.BTreeMap.{is_at, insert_entry}
 use Rattle.std.specs.Map.{lookup, values_of}
-use Rattle.hotel_core.specs.declared.keys.Card.{Card}
-use Rattle.hotel_core.specs.declared.keys.Link.{Link}
-use Rattle.hotel_core.specs.declared.keys.LockNote.{LockNote}
-use Rattle.hotel_core.specs.declared.nights.Stay.{Stay}
+use Rattle.keycard_rules.specs.declared.card.Card.{Card}
+use Rattle.keycard_rules.specs.declared.card.Link.{Link}
+use Rattle.keycard_rules.specs.Note.{Note}
+use Rattle.hotel_nights.specs.declared.stay.Stay.{Stay}
 use Rattle.hotel_core.specs.declared.rows.RoomRow.{RoomRow}
 use Rattle.hotel_core.specs.declared.rows.CodeRow.{CodeRow}
 use Rattle.hotel_core.specs.Words.{when, said_of}
@@ -27,7 +27,7 @@ pub record Rows : Type 0 where
   -- the cards that are inside a room, by room and card
   pub inside : List (ℕ × ℕ)
   -- the notes that were taken, by room and count
-  pub notes : List ((ℕ × ℕ) × LockNote)
+  pub notes : List ((ℕ × ℕ) × Note)
 
 abbrev pub no_rows : Rows
 no_rows = record { day = None; kinds = []; rooms = []; codes = []; stays = []; cards = []; inside = []; notes = [] }
@@ -72,6 +72,6 @@ link_of_last_card [] party = None
 link_of_last_card (e ∷ es) party = or_else (link_of_last_card es party) (if e.1.party == party then Some e.1.link else None)
 
 -- the notes of a room, in the order of their counts
-abbrev pub notes_at : List ((ℕ × ℕ) × LockNote) → ℕ → List LockNote
+abbrev pub notes_at : List ((ℕ × ℕ) × Note) → ℕ → List Note
 notes_at [] room = []
 notes_at (e ∷ es) room = when (e.0.0 == room) (λ notes. e.1 ∷ notes) (notes_at es room)

@@ -2,29 +2,33 @@
 use Rattle.std.specs.Prelude.{ℕ, ◌≡◌, Bool, true, false, List, [], ◌∷◌, Some, drop}
 use Rattle.rand_core.specs.Stream.{Stream}
 use Rattle.hotel_core.specs.declared.command.Command.{Command}
-use Rattle.hotel_core.specs.declared.command.Reply.{Reply}
-use Rattle.hotel_core.specs.declared.command.Reply.TheVariants as reply
-use Rattle.hotel_core.specs.declared.command.Refusal.TheVariants.{Memory, Store}
-use Rattle.hotel_core.specs.Rows.{Rows}
-use Rattle.hotel_core.specs.Sound.{IsSound}
+use Rattle.hotel_core.specs.declared.reply.Reply.{Reply}
+use Rattle.hotel_core.specs.declared.reply.Reply.TheVariants as reply
+use Rattle.hotel_core.specs.declared.reply.Refusal.TheVariants.{Memory, Store}
+use Rattle.hotel_core.specs.Rows.{Rows, no_rows}
 use Rattle.hotel_core.specs.History.{History, start, ◌▷◌}
+use Rattle.hotel_core.specs.Event.{Event}
 use Rattle.hotel_core.specs.RowsOf.{rows_of}
-use Rattle.hotel_core.specs.Draw.{codes_ahead, past, MovedAtMost}
+use Rattle.keycard_rules.specs.Draw.{words, past, MovedAtMost}
 use Rattle.hotel_core.specs.Outcome.{Outcome, grown}
 use Rattle.hotel_core.specs.Answer.{answer_to}
 
--- The history can be reached: its start is sound, and each event was accepted after those before it.
+-- A desk starts with empty books.
+abbrev pub IsStart : Rows → Type 0
+IsStart t = t ≡ no_rows
+
+-- The history can be reached: the desk can start so, and each event was accepted after those before it.
 abbrev pub Reached : History → Type 0
-Reached (start t) = IsSound t
-Reached (h ▷ event) = Reached h × (codes : List ℕ) × (command : Command) × ((answer_to h codes command).event ≡ Some event)
+Reached (start t) = IsStart t
+Reached (h ▷ event) = Reached h × (ahead : List ℕ) × (command : Command) × ((answer_to h ahead command).happens ≡ Some event)
 
 -- The rows stand for a history that can be reached.
 abbrev pub StandsFor : History → Rows → Type 0
 StandsFor h rows = Reached h × (rows ≡ rows_of h)
 
 -- the answer to a command at a source
-abbrev pub answered : History → Stream → Command → Outcome
-answered h source command = answer_to h (codes_ahead source) command
+abbrev pub answered : History → Stream → Command → Outcome Event
+answered h source command = answer_to h (words 64 source) command
 
 -- memory or the store failed
 abbrev pub is_failed : Reply → Bool
@@ -36,7 +40,7 @@ is_failed _ = false
 abbrev pub StepsIf : Bool → History → Stream → Command → Reply → History → Stream → Type 0
 StepsIf true h s command reply h' s' = (h' ≡ h) × MovedAtMost (answered h s command).examined s s'
 StepsIf false h s command reply h' s' =
-    (reply ≡ (answered h s command).reply) × (h' ≡ grown h (answered h s command).event) × (s' ≡ past (answered h s command).examined s)
+    (reply ≡ (answered h s command).reply) × (h' ≡ grown h (answered h s command).happens) × (s' ≡ past (answered h s command).examined s)
 
 -- A command may be given this reply, after which these are the history and the source. Memory or Store may stand in place of any answer.
 abbrev pub Steps : History → Stream → Command → Reply → History → Stream → Type 0
@@ -54,19 +58,19 @@ Runs h s (command ∷ commands) [] h' s' = ⊥
 pub record Ran : Type 0 where
   -- the history at its end
   pub history : History
-  -- the codes of the words that it left in the source
-  pub codes : List ℕ
+  -- the words that it left in the source
+  pub ahead : List ℕ
   -- its replies, in order
   pub replies : List Reply
 
 abbrev pub first_reply : Reply → Ran → Ran
 first_reply reply ran = record ran { replies = reply ∷ ran.replies }
 
-abbrev pub go_on : Outcome → (Outcome → Ran) → Ran
+abbrev pub go_on : Outcome Event → (Outcome Event → Ran) → Ran
 go_on outcome later = first_reply outcome.reply (later outcome)
 
--- The run of commands in which nothing fails, where the source's words give these codes.
+-- The run of commands in which nothing fails, where these are the source's words.
 abbrev pub run_on : History → List ℕ → List Command → Ran
-run_on h codes [] = record { history = h; codes = codes; replies = [] }
-run_on h codes (command ∷ commands) =
-    go_on (answer_to h codes command) (λ outcome. run_on (grown h outcome.event) (drop outcome.examined codes) commands)
+run_on h ahead [] = record { history = h; ahead = ahead; replies = [] }
+run_on h ahead (command ∷ commands) =
+    go_on (answer_to h ahead command) (λ outcome. run_on (grown h outcome.happens) (drop outcome.examined ahead) commands)

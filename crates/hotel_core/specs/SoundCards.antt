@@ -2,11 +2,11 @@
 use Rattle.std.specs.Prelude.{ℕ, Bool, true, false, List, [], ◌∷◌, ◌+◌, ◌^◌, ◌==◌, ◌&&◌, ◌||◌, not, nat_le, nat_lt, length, is_some, count_by}
 use Rattle.std.specs.List.{list_any, list_all}
 use Rattle.std.specs.Map.{keys_of, values_of}
-use Rattle.hotel_core.specs.declared.keys.Card.{Card}
-use Rattle.hotel_core.specs.declared.keys.Link.{Link}
-use Rattle.hotel_core.specs.declared.keys.LockNote.{LockNote}
-use Rattle.hotel_core.specs.declared.keys.Act.{Act}
-use Rattle.hotel_core.specs.declared.keys.Act.TheVariants as act
+use Rattle.keycard_rules.specs.declared.card.Card.{Card}
+use Rattle.keycard_rules.specs.declared.card.Link.{Link}
+use Rattle.keycard_rules.specs.Note.{Note}
+use Rattle.keycard_rules.specs.declared.note.Act.{Act}
+use Rattle.keycard_rules.specs.declared.note.Act.TheVariants as act
 use Rattle.hotel_core.specs.declared.rows.CodeRow.{CodeRow}
 use Rattle.hotel_core.specs.Words.{said_of}
 use Rattle.hotel_core.specs.Rows.{Rows, at_number, codes_by_place, codes_at, last_link_of, link_of_last_card, notes_at}
@@ -93,10 +93,10 @@ act_fits rows room (act.Recoded from to) = said_of (at_number rows.codes from) f
     (first.room == room) && (second.room == room) && nat_lt first.place second.place))
 
 abbrev pub notes_fit : Rows → Bool
-notes_fit rows = list_all (λ (e : (ℕ × ℕ) × LockNote). (e.1.room == e.0.0) && (e.1.count == e.0.1) && is_some (at_number rows.rooms e.0.0) && act_fits rows e.0.0 e.1.act && is_day e.1.day && nat_lt e.1.second 86400) rows.notes
+notes_fit rows = list_all (λ (e : (ℕ × ℕ) × Note). (e.1.room == e.0.0) && (e.1.count == e.0.1) && is_some (at_number rows.rooms e.0.0) && act_fits rows e.0.0 e.1.act && is_day e.1.day && nat_lt e.1.second 86400) rows.notes
 
 -- the counts of a room's notes
-abbrev pub counts_at : List LockNote → List ℕ
+abbrev pub counts_at : List Note → List ℕ
 counts_at [] = []
 counts_at (note ∷ notes) = note.count ∷ counts_at notes
 

@@ -5,12 +5,12 @@ use Rattle.std.specs.Ordering.{is_lt}
 use Rattle.std.specs.declared.cmp.Ordering.{Ordering}
 use Rattle.std.specs.List.{list_any, list_all}
 use Rattle.std.specs.Map.{keys_of, values_of}
-use Rattle.hotel_core.specs.declared.nights.Stay.{Stay}
+use Rattle.hotel_nights.specs.declared.stay.Stay.{Stay}
 use Rattle.hotel_core.specs.declared.rows.RoomRow.{RoomRow}
 use Rattle.hotel_core.specs.Words.{is_that, said_of, last_of}
 use Rattle.hotel_core.specs.Rows.{Rows, at_number, first_of}
 use Rattle.hotel_core.specs.Cases.{room_of_state}
-use Rattle.hotel_core.specs.Stays.{takes_night}
+use Rattle.hotel_nights.specs.FullNight.{takes}
 
 -- each key comes before the next one
 abbrev pub are_in_order : {K : Type 0} → (K → K → Ordering) → List K → Bool
@@ -110,7 +110,7 @@ stay_rooms rows = each_stay rows (λ stay. said_of (room_of_state stay.state) tr
 
 -- how many open stays of a kind take the night of a day, and how many rooms the kind has
 abbrev pub stays_on : Rows → List ℕ → ℕ → ℕ
-stays_on rows kind d = count_by (takes_night kind d) (values_of rows.stays)
+stays_on rows kind d = count_by (takes kind d) (values_of rows.stays)
 
 abbrev pub rooms_with : Rows → List ℕ → ℕ
 rooms_with rows kind = count_by (λ (row : RoomRow). bytes_eq row.kind kind) (values_of rows.rooms)

@@ -5,9 +5,10 @@ use Rattle.std.specs.Cmp.Lexicographic.{slice_cmp}
 use Rattle.std.specs.BTreeMap.{insert_entry}
 use Rattle.std.specs.BTreeSet.{insert_key}
 use Rattle.std.specs.Map.{values_of}
-use Rattle.hotel_core.specs.declared.nights.Stay.{Stay}
-use Rattle.hotel_core.specs.declared.nights.StayState.{StayState}
-use Rattle.hotel_core.specs.declared.nights.StayState.TheVariants as state
+use Rattle.hotel_nights.specs.declared.stay.Stay.{Stay}
+use Rattle.hotel_nights.specs.declared.stay.StayState.{StayState}
+use Rattle.hotel_nights.specs.declared.stay.StayState.TheVariants as state
+use Rattle.hotel_nights.specs.FullNight.{nights_taken, is_full, first_day}
 use Rattle.hotel_core.specs.Event.{Begun, Kind, Install, Reserved, Cancelled, CheckIn, Transfer, CheckOut, NextDay}
 use Rattle.hotel_core.specs.History.{History, start, ◌▷◌}
 
@@ -50,20 +51,9 @@ stays (h ▷ Transfer party room number code) = in_state party (state.InHouse ro
 stays (h ▷ CheckOut party) = in_state party state.Done (stays h)
 stays (h ▷ _) = stays h
 
--- The stay is booked or in house.
-abbrev pub is_open : StayState → Bool
-is_open state.Booked = true
-is_open (state.InHouse room) = true
-is_open state.Done = false
-is_open state.Cancelled = false
-
--- The stay takes a room of the kind on the night of the day.
-abbrev pub takes_night : List ℕ → ℕ → Stay → Bool
-takes_night kind d stay = is_open stay.state && bytes_eq stay.kind kind && nat_le stay.arrive d && nat_lt d stay.depart
-
 -- How many booked and in-house stays of a kind take the night of a day.
 abbrev pub nights : History → List ℕ → ℕ → ℕ
-nights h kind d = count_by (takes_night kind d) (values_of (stays h))
+nights h kind d = nights_taken (values_of (stays h)) kind d
 
 -- How many rooms a kind has.
 abbrev pub rooms_of : History → List ℕ → ℕ
@@ -71,5 +61,4 @@ rooms_of h kind = count_by (λ k. bytes_eq k kind) (values_of (rooms h))
 
 -- The first night, of so many from a day on, on which each room of the kind is taken.
 abbrev pub first_full : History → List ℕ → ℕ → ℕ → Option ℕ
-first_full h kind d zero = None
-first_full h kind d (suc n) = if nat_le (rooms_of h kind) (nights h kind d) then Some d else first_full h kind (d + 1) n
+first_full h kind d n = first_day (is_full (values_of (stays h)) kind (rooms_of h kind)) d n

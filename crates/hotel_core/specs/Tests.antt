@@ -2,7 +2,7 @@
 use Rattle.std.specs.Prelude.{ℕ, Bool, true, false, List, [], ◌∷◌, ◌++◌, ◌==◌, ◌&&◌, ◌||◌, not, is_some, nat_le, length, bytes_eq}
 use Rattle.std.specs.List.{list_all}
 use Rattle.std.specs.Map.{keys_of}
-use Rattle.hotel_core.specs.declared.keys.Card.{Card}
+use Rattle.keycard_rules.specs.declared.card.Card.{Card}
 use Rattle.hotel_core.specs.Words.{said_of, is_one_of}
 use Rattle.hotel_core.specs.Rows.{Rows, at_number}
 use Rattle.hotel_core.specs.Sound.{passes_rules}
@@ -10,7 +10,8 @@ use Rattle.hotel_core.specs.History.{History, start, ◌▷◌}
 use Rattle.hotel_core.specs.RowsOf.{rows_of}
 use Rattle.hotel_core.specs.Issued.{issued, current}
 use Rattle.hotel_core.specs.Cards.{cards, newest_link}
-use Rattle.hotel_core.specs.Lock.{turn, held}
+use Rattle.keycard_rules.specs.Lock.{turn}
+use Rattle.hotel_core.specs.Lock.{held}
 use Rattle.hotel_core.specs.Ledger.{passed, awaited}
 use Rattle.hotel_core.specs.Guests.{registered, inside, secured}
 use Rattle.hotel_core.specs.Stays.{rooms}

@@ -66,8 +66,8 @@ pub shut : (items : List ℕ) (p : ℕ) (link : Link) → p < length items → I
 shut items p link h d n m k =
     let k2 : IsLinkOf items link = rw (issued-is items p h) at k in
     let o : get_or items p 0 ≡ link.old_code → ⊥ = λ e.
-        let same : p ≡ k2.0 = same_place items p k2.0 d h (omega arith) (e ∙ sym k2.2) in
-        m e (rw same (k2.1)) (rw same (k2.3)) in
+    let same : p ≡ k2.0 = same_place items p k2.0 d h (omega arith) (e ∙ sym k2.2) in
+    m e (rw same (k2.1)) (rw same (k2.3)) in
     rw (ne_eqb (get_or items p 0) link.new_code n, ne_eqb (get_or items p 0) link.old_code o) refl
 
 among-no : (p : ℕ → Bool) (xs : List ℕ) → length xs ≤ position_or_len p xs → list_any p xs ≡ false
@@ -109,8 +109,8 @@ unfolding place_in
 recoded-is items p to a h e lt =
     let stop : get_or (drop (p + 1) items) a 0 ≡ to = stopped (drop (p + 1) items) to a e lt in
     let front : take (p + 1 + a) items ≡ take p items ++ (get_or items p 0 ∷ take a (drop (p + 1) items)) =
-        let q : p + 1 + a ≡ p + suc a = omega arith in
-        rw (q, take-add p (suc a) items, drop-cons items p 0 h, add-one) refl in
+    let q : p + 1 + a ≡ p + suc a = omega arith in
+    rw (q, take-add p (suc a) items, drop-cons items p 0 h, add-one) refl in
     let held : get_or items (p + 1 + a) 0 ≡ to = sym (get_or-drop (p + 1) items a 0) ∙ stop in
     let back : drop (p + 1 + a + 1) items ≡ drop (a + 1) (drop (p + 1) items) = grind (arith, common_steps, drop-drop) in
     rw (← e, front, held, back) refl

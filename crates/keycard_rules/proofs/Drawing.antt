@@ -32,6 +32,7 @@ pub record SoFar (issued : List ℕ) (s0 : Stream) (n : ℕ) (s1 : Stream) : Typ
   pub same : drawn issued s0 ≡ more n (draw_from issued (words left s1))
 
 pub so_far_none : (issued : List ℕ) (s : Stream) → SoFar issued s 0 s
+unfolding drawn
 so_far_none issued s = record {
   left = 64;
   all = refl;
@@ -43,17 +44,20 @@ more_one : (n : ℕ) (d : Draw) → more n (one_more d) ≡ more (suc n) d
 more_one n d = ap (λ (k : ℕ). let e : Draw = record { code = d.code; examined = k } in e) (omega arith)
 
 issued_first : (issued later : List ℕ) (word : ℕ) → is_among issued (code_of word) ≡ true → draw_from issued (word ∷ later) ≡ one_more (draw_from issued later)
+unfolding draw_from
 issued_first issued later word h = rw h
 
 fresh_first : (issued later : List ℕ) (word : ℕ) → is_among issued (code_of word) ≡ false → draw_from issued (word ∷ later) ≡ record { code = Some (code_of word); examined = 1 }
+unfolding draw_from
 fresh_first issued later word h = rw h
 
 at_least_one : (issued later : List ℕ) (w : ℕ) → 1 ≤ (draw_from issued (w ∷ later)).examined
+unfolding draw_from
 at_least_one issued later w = at_least_one_by (is_among issued (code_of w)) (draw_from issued later) (code_of w)
   where
-  at_least_one_by : (b : Bool) (d : Draw) (c : ℕ) → 1 ≤ (let r : Draw = cond b (one_more d) (record { code = Some c; examined = 1 }) in r).examined
-  at_least_one_by true d c = omega arith
-  at_least_one_by false d c = omega arith
+    at_least_one_by : (b : Bool) (d : Draw) (c : ℕ) → 1 ≤ (let r : Draw = cond b (one_more d) (record { code = Some c; examined = 1 }) in r).examined
+    at_least_one_by true d c = omega arith
+    at_least_one_by false d c = omega arith
 
 -- at one more word
 module _ (issued : List ℕ) (s0 s1 s2 : Stream) (n word : ℕ) (h : SoFar issued s0 n s1) (low : n < 64) (next : (word, s2) ≡ next_u64 s1) where
@@ -94,6 +98,7 @@ module _ (issued : List ℕ) (s0 s1 s2 : Stream) (n word : ℕ) (h : SoFar issue
 
 -- no word is left
 no_more_at : (issued : List ℕ) (s0 s1 : Stream) (n left : ℕ) → n + left ≡ 64 → 64 ≤ n → drawn issued s0 ≡ more n (draw_from issued (words left s1)) → drawn issued s0 ≡ record { code = None; examined = n }
+unfolding draw_from
 no_more_at issued s0 s1 n zero a e d = d ∙ ap (λ ws. more n (draw_from issued ws)) (words-zero s1) ∙ ap (λ (k : ℕ). let d : Draw = record { code = None; examined = k } in d) (omega arith)
 no_more_at issued s0 s1 n (suc left) a e d = absurd (omega arith)
 

@@ -1,3 +1,4 @@
 pub mod NumeralLemmas
 pub mod Drawing
+pub mod ListedLemmas
 pub mod ChainLemmas

@@ -70,7 +70,7 @@ length-fixed_text base (suc width) n = omega (arith, length-append (fixed_text b
 pub digits-fixed_text : (base width n : ℕ) → 2 ≤ base → base ≤ 16 → All (λ b. digit_value b < base) (fixed_text base width n)
 unfolding fixed_text
 digits-fixed_text base zero n h2 h16 = All-nil (λ b. digit_value b < base)
-digits-fixed_text base (suc width) n h2 h16 = 
+digits-fixed_text base (suc width) n h2 h16 =
     let r : n % base < base = omega arith in
     let v = digit_value-digit_byte (n % base) (omega arith) in
     All-push (λ b. digit_value b < base) (fixed_text base width (n / base)) (digit_byte (n % base)) (digits-fixed_text base width (n / base) h2 h16) (omega arith)
@@ -147,11 +147,13 @@ is_numeral-true base most text n =
 
 pub IsNumeral-from_test : (base most : ℕ) (text : List ℕ) → is_numeral base most text ≡ true → IsNumeral base most text
 unfolding is_numeral
-IsNumeral-from_test base most text h = 
+IsNumeral-from_test base most text h =
     let p = both-true _ _ h in
-    let q = both-true _ _ p.0 in
-    (test-le _ _ q.0, test-le _ _ q.1,
-    All-weaker (λ b. nat_lt (digit_value b) base ≡ true) (λ b. digit_value b < base) (digit_test base) text (AllPass-from_list_all (λ b. nat_lt (digit_value b) base) text p.1))
+    let q = both-true _ _ p.0 in (
+      test-le _ _ q.0,
+      test-le _ _ q.1,
+      All-weaker (λ b. nat_lt (digit_value b) base ≡ true) (λ b. digit_value b < base) (digit_test base) text (AllPass-from_list_all (λ b. nat_lt (digit_value b) base) text p.1),
+    )
 
 pub numeral-from : (r : Option ℕ) (base most : ℕ) (text : List ℕ) → SomeIff r (IsNumeral base most text) (number_of base text) → r ≡ numeral base most text
 numeral-from None base most text h = elim (cases_Bool (is_numeral base most text)) [

@@ -49,8 +49,8 @@ abbrev pub entered : Ledger → Link → Ledger
 entered c link =
     if c.held == link.new_code then c
     else (if (c.held == link.old_code) && is_next c.awaited link.new_code
-      then record { passed = c.passed ++ (c.held ∷ []); held = link.new_code; awaited = without_first c.awaited }
-      else c)
+    then record { passed = c.passed ++ (c.held ∷ []); held = link.new_code; awaited = without_first c.awaited }
+    else c)
 
 -- the codes held before and after, where the card opens
 abbrev pub turned : Ledger → Link → Option Turned
@@ -72,7 +72,8 @@ abbrev pub recoded : Ledger → ℕ → Ledger
 recoded c to = record {
   passed = c.passed ++ (c.held ∷ before_first (λ code. code == to) c.awaited);
   held = to;
-  awaited = after_first (λ code. code == to) c.awaited }
+  awaited = after_first (λ code. code == to) c.awaited;
+}
 
 -- the codes of the link stand one after the other: some issue made it
 abbrev pub IsLinkOf : List ℕ → Link → Type 0

@@ -32,13 +32,13 @@ abbrev pub one_more : Draw → Draw
 one_more draw = record { code = draw.code; examined = draw.examined + 1 }
 
 -- the first code of these words that isn't issued
-abbrev pub draw_from : List ℕ → List ℕ → Draw
+unfoldable pub draw_from : List ℕ → List ℕ → Draw
 draw_from issued [] = record { code = None; examined = 0 }
 draw_from issued (word ∷ later) =
     if is_among issued (code_of word) then one_more (draw_from issued later) else record { code = Some (code_of word); examined = 1 }
 
 -- the same of the next 64 words of a source
-abbrev pub drawn : List ℕ → Stream → Draw
+unfoldable pub drawn : List ℕ → Stream → Draw
 drawn issued source = draw_from issued (words 64 source)
 
 -- the source has moved by at most n words

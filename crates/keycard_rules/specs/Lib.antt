@@ -5,3 +5,4 @@ pub mod Rise
 pub mod Draw
 pub mod Note
 pub mod Chain
+pub mod ListedWords

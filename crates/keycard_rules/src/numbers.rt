@@ -22,7 +22,7 @@ impl<K, const MOST: u32> Model for Number<K, MOST> {
 
     ghost invariant = { λ n. IsNumberUpTo MOST n.value };
 
-    ghost inverse = { λ n. record { value = n; kind = record { } } };
+    ghost inverse = { λ n. record { value = n; kind = record {} } };
 }
 
 impl<K, const MOST: u32> Number<K, MOST> {

@@ -35,12 +35,12 @@ loop-preserved g c = record {
   counted = omega arith;
   was_clean = λ clean. c.loop.invariant.was_clean (c.is_issued.ensures.was_clean clean);
   kept = λ clean.
-    g.met.I.Issued.kept_trans _ _ _ (c.loop.invariant.kept (c.is_issued.ensures.was_clean clean)) (c.is_issued.ensures.kept clean);
+      g.met.I.Issued.kept_trans _ _ _ (c.loop.invariant.kept (c.is_issued.ensures.was_clean clean)) (c.is_issued.ensures.kept clean);
   so_far = λ clean.
-    let before = c.is_issued.ensures.was_clean clean in
-    let k = code_taken _ _ c.in-Some.ensures in
-    let hit = answer_at _ _ _ _ _ _ (c.in-Ok-true.ensures.answer clean) c.in-Ok-true.field-0-test (g.met.I.Issued.kept_issued _ _ (c.loop.invariant.kept before)) k in
-    so_far_more _ _ _ _ _ _ (c.loop.invariant.so_far before) c.loop-test.true c.next_u64-word.ensures hit;
+      let before = c.is_issued.ensures.was_clean clean in
+      let k = code_taken _ _ c.in-Some.ensures in
+      let hit = answer_at _ _ _ _ _ _ (c.in-Ok-true.ensures.answer clean) c.in-Ok-true.field-0-test (g.met.I.Issued.kept_issued _ _ (c.loop.invariant.kept before)) k in
+      so_far_more _ _ _ _ _ _ (c.loop.invariant.so_far before) c.loop-test.true c.next_u64-word.ensures hit;
 }
 
 pub returns-clause-drawn : goal.returns-clause-drawn

@@ -24,5 +24,5 @@ loop-byte-preserved c =
     let more = number_of-more c.args.base c.args.text.now c.loop-byte.byte-index (omega arith) in
     record {
       value = rw (more, ← c.loop-byte.invariant.value, c.from-digit.ensures, c.value_of_digit.ensures) refl;
-      digits = All-more (λ b. digit_value b < c.args.base) c.args.text.now c.loop-byte.byte-index 0 (omega arith) c.loop-byte.invariant.digits (omega arith)
+      digits = All-more (λ b. digit_value b < c.args.base) c.args.text.now c.loop-byte.byte-index 0 (omega arith) c.loop-byte.invariant.digits (omega arith);
     }

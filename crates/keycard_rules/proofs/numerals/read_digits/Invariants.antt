@@ -6,5 +6,5 @@ use Rattle.keycard_rules.proofs.numerals.read_digits.Given as goal
 abbrev pub invariant-loop-byte : goal.invariant-loop-byte
 invariant-loop-byte l = record {
   value : l.number ≡ number_of l.base (take l.byte-index l.text);
-  digits : All (λ b. digit_value b < l.base) (take l.byte-index l.text)
+  digits : All (λ b. digit_value b < l.base) (take l.byte-index l.text);
 }

@@ -1,5 +1,5 @@
 use Rattle.hotel_core.proofs.RowsRooms.{left_follows}
-use Rattle.hotel_core.proofs.proved.left_follows.Goals as goal
+use Rattle.hotel_core.proofs.laws.left_follows.Goals as goal
 
 pub returns : goal.returns
 returns c = left_follows

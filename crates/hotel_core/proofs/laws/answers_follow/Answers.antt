@@ -1,5 +1,5 @@
 use Rattle.hotel_core.proofs.Following.{answers_follow}
-use Rattle.hotel_core.proofs.proved.answers_follow.Goals as goal
+use Rattle.hotel_core.proofs.laws.answers_follow.Goals as goal
 
 pub returns : goal.returns
 returns c = answers_follow

@@ -1,5 +1,5 @@
 use Rattle.std.proofs.Common.{refl, arith}
-use Rattle.hotel_core.proofs.proved.empty_is_sound.Goals as goal
+use Rattle.hotel_core.proofs.laws.empty_is_sound.Goals as goal
 
 pub returns : goal.returns
 returns c = record {

@@ -12,13 +12,12 @@ pub fn answers_follow()
     ensures { AnswersFollow }
 {}
 
-ghost use Rattle.hotel_core.specs.Run.{Reached};
 ghost use Rattle.hotel_core.specs.Rows.{no_rows};
-ghost use Rattle.hotel_core.specs.History.{start};
+ghost use Rattle.hotel_core.specs.Sound.{IsSound};
 
-/// Empty books can be started from.
+/// Empty books are sound.
 pub fn empty_is_sound()
-    ensures { Reached (start no_rows) }
+    ensures { IsSound no_rows }
 {}
 
 ghost use Rattle.hotel_core.specs.Follow.{EasyRowsFollow, LeftFollows};
@@ -26,13 +25,6 @@ ghost use Rattle.hotel_core.specs.Follow.{EasyRowsFollow, LeftFollows};
 /// The rows after events that touch no room.
 pub fn easy_rows_follow()
     ensures { EasyRowsFollow }
-{}
-
-ghost use Rattle.hotel_core.specs.SceneDamaged as damaged;
-
-/// Damaged rows fail their rules.
-pub fn damaged_rows_fail()
-    ensures { damaged.Holds }
 {}
 
 /// The rows after a card left a room.

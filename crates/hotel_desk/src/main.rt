@@ -1,0 +1,7 @@
+//! The hotel's front desk as a program.
+#![tactic(auto)]
+
+mod lines;
+mod words;
+
+fn main() {}

@@ -1,0 +1,7 @@
+use Rattle.std.proofs.Common.{◌≡◌, ℕ, ◌<◌, length, arith, refl}
+use Rattle.std.proofs.lemmas.Bool.Decides.{nat_tests}
+use Rattle.keycard_rules.proofs.ListedLemmas.{words-listed}
+use Rattle.keycard_rules.proofs.listed_words.ListedWords.new.Goals as goal
+
+pub returns-clause-stream : goal.returns-clause-stream
+returns-clause-stream c = λ n. words-listed n c.args.list.items (grind (arith, nat_tests, c.args.list.ok))
