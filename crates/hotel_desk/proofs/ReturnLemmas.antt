@@ -1,6 +1,6 @@
 -- A carriage return at the end of a line.
-use Rattle.std.proofs.Common.{◌≡◌, ℕ, zero, suc, ◌+◌, ◌-◌, ◌<◌, ◌==◌, List, [], ◌∷◌, length, take, get_or, arith, refl, sym, ap, ◌∙◌, true, false}
-use Rattle.std.proofs.lemmas.Bool.{eqb-true, ne_eqb}
+use Rattle.std.proofs.Common.{◌≡◌, ℕ, suc, ◌-◌, ◌<◌, List, [], ◌∷◌, length, take, get_or, arith, refl, ap}
+use Rattle.std.proofs.lemmas.Bool.{ne_eqb}
 use Rattle.hotel_desk.specs.Lines.{without_return}
 
 pub cr-at-end : (line : List ℕ) → 0 < length line → get_or line (length line - 1) 0 ≡ 13 → take (length line - 1) line ≡ without_return line

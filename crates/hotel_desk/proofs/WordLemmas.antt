@@ -1,9 +1,9 @@
 -- The words of a line, one after the other.
-use Rattle.std.proofs.Common.{◌≡◌, ℕ, zero, suc, ◌+◌, ◌-◌, ◌<◌, ◌==◌, List, [], ◌∷◌, length, take, drop, arith, refl, sym, ap, ◌∙◌, true, false, not, inl, inr, Bool, Some, None, cond}
+use Rattle.std.proofs.Common.{◌≡◌, ℕ, suc, ◌+◌, ◌==◌, List, [], ◌∷◌, length, arith, refl, ap, true, false, inl, inr}
 use Rattle.std.proofs.lemmas.Bool.{cases_Bool}
 use Rattle.std.proofs.lemmas.Bool.Decides.{nat_tests}
 use Rattle.std.specs.List.{prefix_len, position_or_len}
-use Rattle.hotel_desk.specs.Words.{words, next_word, words_from, trimmed_start, first_word, after_word, begins_word, with_first}
+use Rattle.hotel_desk.specs.Words.{words, next_word, words_from, trimmed_start, first_word, after_word, with_first}
 
 spaces-skip : (b : ℕ) (rest : List ℕ) → (b == 32) ≡ true → trimmed_start (b ∷ rest) ≡ trimmed_start rest
 unfolding trimmed_start
