@@ -1,2 +1,5 @@
 pub mod Words
 pub mod Lines
+pub mod Values
+pub mod Commands
+pub mod Verbs
