@@ -3,3 +3,4 @@ pub mod Lines
 pub mod Values
 pub mod Commands
 pub mod Verbs
+pub mod Asks

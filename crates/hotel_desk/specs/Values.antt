@@ -1,5 +1,5 @@
 -- The values of commands: each is what its reader makes of a text, or refused by its name.
-use Rattle.std.specs.Prelude.{◌≡◌, ℕ, ◌&&◌, IsOk, List, if◌then◌else◌, Option, Some, None, Result, Ok, Err}
+use Rattle.std.specs.Prelude.{◌≡◌, ℕ, ◌&&◌, IsOk, List, if◌then◌else◌, Result, Ok, Err}
 use Rattle.std.specs.Option.{ok_or}
 use Rattle.std.specs.Str.{is_utf8}
 use Rattle.keycard_rules.specs.Numerals.{number_up_to, read_code}

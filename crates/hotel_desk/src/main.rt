@@ -1,7 +1,9 @@
 //! The hotel's front desk as a program.
 #![tactic(auto)]
 
+mod asks;
 mod commands;
+mod line_values;
 mod lines;
 mod values;
 mod verb;

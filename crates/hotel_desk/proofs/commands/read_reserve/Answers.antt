@@ -1,5 +1,5 @@
 -- Four values are those of a booking, and other numbers of values are none.
-use Rattle.std.proofs.Common.{◌≡◌, ◌≢◌, ℕ, List, [], ◌∷◌, length, map, get_or, refl, arith, Err, Bor, Result, sym, subst}
+use Rattle.std.proofs.Common.{◌≡◌, ◌≢◌, ℕ, List, [], ◌∷◌, length, map, get_or, refl, arith, Err, Bor, Result, subst}
 use Rattle.hotel_core.specs.declared.command.Command.{Command}
 use Rattle.hotel_desk.specs.declared.values.ValueFault.{ValueFault}
 use Rattle.hotel_desk.specs.declared.values.ValueFault.TheVariants.{Number}
