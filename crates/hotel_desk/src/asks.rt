@@ -106,3 +106,6 @@ pub fn read_line(alloc: Global, line: &[u8]) -> Result<Command, LineFault>
     };
     read_values(alloc, verb, text)
 }
+
+#[cfg(test)]
+mod tests;

@@ -70,3 +70,6 @@ pub fn is_readable(line: &[u8]) -> bool
         Err(_) => false,
     }
 }
+
+#[cfg(test)]
+mod tests;
