@@ -1,4 +1,4 @@
-use Rattle.hotel_lists.proofs.PieceLemmas.{appended_next}
+use Rattle.hotel_lists.proofs.BytesLemmas.{appended_next}
 use Rattle.hotel_lists.proofs.bytes.write_bytes.Goals as goal
 
 pub loop-done-preserved : goal.loop-done-preserved

@@ -1,4 +1,4 @@
-use Rattle.hotel_lists.proofs.PieceLemmas.{on_err, parts_front}
+use Rattle.hotel_lists.proofs.BytesLemmas.{on_err, parts_front}
 use Rattle.hotel_lists.proofs.bytes.write_parts.Goals as goal
 
 pub returns-in_err-write_bytes-clause-err : goal.returns-in_err-write_bytes-clause-err

@@ -24,7 +24,7 @@ on_err (Ok a) p = tt
 on_err (Err e) p = p
 
 -- parts that went, and then a front of the next one
-front_next : (a b c : Option (List ℕ)) (done part rest : List ℕ) → Appends a b done → AppendsFront b c part → AppendsFront a c ((done ++ part) ++ rest)
+pub front_next : (a b c : Option (List ℕ)) (done part rest : List ℕ) → Appends a b done → AppendsFront b c part → AppendsFront a c ((done ++ part) ++ rest)
 front_next a b c done part rest first (n, within, next) =
     let whole : (done ++ part) ++ rest ≡ done ++ (part ++ rest) = append_assoc done part rest in
     let cut : take (length done + n) ((done ++ part) ++ rest) ≡ done ++ take n part =
