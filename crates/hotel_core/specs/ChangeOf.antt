@@ -1,5 +1,5 @@
--- The change that an event makes of the books, and when a change fits them.
-use Rattle.std.specs.Prelude.{ℕ, ◌≡◌, Bool, true, false, None, ◌+◌, length, IsSome}
+-- The change that an event makes of the books.
+use Rattle.std.specs.Prelude.{ℕ, Bool, true, false, None, ◌+◌, length}
 use Rattle.keycard_rules.specs.Note.{Note}
 use Rattle.keycard_rules.specs.declared.note.Act.TheVariants as act
 use Rattle.hotel_nights.specs.declared.stay.StayState.TheVariants as state
@@ -8,16 +8,12 @@ use Rattle.hotel_core.specs.declared.change.InsideMove.TheVariants.{Same, Goes, 
 use Rattle.hotel_core.specs.declared.change.Change.{Change}
 use Rattle.hotel_core.specs.declared.change.Change.TheVariants as change
 use Rattle.hotel_core.specs.Words.{said_of, is_one_of}
-use Rattle.hotel_core.specs.Rows.{Rows, at_number}
-use Rattle.hotel_core.specs.Sound.{IsSound}
-use Rattle.hotel_core.specs.SoundRooms.{has_kind}
 use Rattle.hotel_core.specs.Event.{Event, Begun, Kind, Install, Reserved, Cancelled, CheckIn, Transfer, Spare, CheckOut, NextDay, Entered, Left, Recoded}
 use Rattle.hotel_core.specs.History.{History, ◌▷◌}
 use Rattle.hotel_core.specs.Cards.{card_of, link_to}
 use Rattle.hotel_core.specs.Ledger.{passed}
 use Rattle.hotel_core.specs.Guests.{inside, secured}
 use Rattle.hotel_core.specs.Cases.{today, room_of, last_card_of}
-use Rattle.hotel_core.specs.Change.{made}
 
 -- what a note leaves of its room's row, and who moves
 abbrev pub noted : History → Event → Note → InsideMove → Change
@@ -48,21 +44,3 @@ change_of h (Left room count number link at) =
     noted h (Left room count number link at) (record { room = room; count = count; act = act.Left number link; day = at.day; second = at.second }) (Goes number)
 change_of h (Recoded room count from to at) =
     noted h (Recoded room count from to at) (record { room = room; count = count; act = act.Recoded from to; day = at.day; second = at.second }) Same
-
--- The rows that the change names are there, and those that it adds are new.
-abbrev pub HasItsRows : Change → Rows → Type 0
-HasItsRows (change.Begin day) rows = rows.day ≡ None
-HasItsRows (change.DayTo day) rows = IsSome rows.day
-HasItsRows (change.Kind kind) rows = has_kind rows kind ≡ false
-HasItsRows (change.Room room kind code) rows = (has_kind rows kind ≡ true) × (at_number rows.rooms room ≡ None) × (at_number rows.codes code ≡ None)
-HasItsRows (change.Reserved stay) rows = at_number rows.stays stay.party ≡ None
-HasItsRows (change.Cancelled party) rows = IsSome (at_number rows.stays party)
-HasItsRows (change.Issue card room leaves) rows =
-    IsSome (at_number rows.rooms room) × (at_number rows.codes card.link.new_code ≡ None) × (at_number rows.cards card.number ≡ None) × IsSome (at_number rows.stays card.party)
-HasItsRows (change.Spare card) rows = at_number rows.cards card.number ≡ None
-HasItsRows (change.CheckedOut party room) rows = IsSome (at_number rows.stays party) × IsSome (at_number rows.rooms room)
-HasItsRows (change.Noted note lock_place secured insides) rows = IsSome (at_number rows.rooms note.room)
-
--- A change fits where it has its rows and what it makes is sound.
-abbrev pub Fits : Change → Rows → Type 0
-Fits change rows = HasItsRows change rows × IsSound (made change rows)

@@ -1,7 +1,9 @@
 pub mod Words
 pub mod Rows
+pub mod Lookups
 pub mod Event
 pub mod History
+pub mod Ranges
 pub mod Issued
 pub mod Cards
 pub mod Lock
@@ -19,7 +21,13 @@ pub mod SoundCards
 pub mod Sound
 pub mod Run
 pub mod ChangeOf
+pub mod Fits
+pub mod OnRows
+pub mod StepOnRows
+pub mod Lift
+pub mod Reads
 pub mod Headline
 pub mod Lists
 pub mod Follow
-pub mod Tests
+pub mod Texts
+pub mod CodeLaws

@@ -9,6 +9,7 @@ use Rattle.hotel_nights.specs.declared.stay.Stay.{Stay}
 use Rattle.hotel_core.specs.declared.rows.RoomRow.{RoomRow}
 use Rattle.hotel_core.specs.Words.{is_that, said_of, last_of}
 use Rattle.hotel_core.specs.Rows.{Rows, at_number, first_of}
+use Rattle.hotel_core.specs.Lookups.{has_kind}
 use Rattle.hotel_core.specs.Cases.{room_of_state}
 use Rattle.hotel_nights.specs.FullNight.{takes}
 
@@ -43,9 +44,6 @@ is_kind_byte b = (nat_le 48 b && nat_le b 57) || (nat_le 65 b && nat_le b 90)
 -- each kind reads as a kind code: 1 to 8 letters or digits
 abbrev pub kinds_read : Rows → Bool
 kinds_read rows = list_all (λ kind. nat_le 1 (length kind) && nat_le (length kind) 8 && list_all is_kind_byte kind) rows.kinds
-
-abbrev pub has_kind : Rows → List ℕ → Bool
-has_kind rows kind = list_any (λ k. bytes_eq k kind) rows.kinds
 
 -- ---- room: rules of all rooms
 

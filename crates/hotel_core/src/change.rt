@@ -35,7 +35,10 @@ pub enum Change {
     },
     /// One more card of a link that is there.
     Spare(Card),
-    CheckedOut { party: PartyNo, room: RoomNo },
+    CheckedOut {
+        party: PartyNo,
+        room: RoomNo,
+    },
     /// A note that was taken, with the lock's place and the secured flag after it.
     Noted {
         note: LockNote,

@@ -5,6 +5,7 @@ mod asks;
 mod commands;
 mod line_values;
 mod lines;
+mod scenes;
 mod values;
 mod verb;
 mod words;

@@ -1,6 +1,6 @@
 //! The numbers of cards, parties, rooms and notes: one generic type.
 
-ghost use Rattle.std.specs.Prelude.{◌≡◌, ℕ, ◌+◌, ◌^◌, ◌<◌, ◌≤◌};
+ghost use Rattle.std.specs.Prelude.{◌≡◌, ℕ, ◌+◌, ◌<◌};
 ghost use Rattle.std.specs.Option.{SomeIff};
 ghost use Rattle.keycard_rules.specs.Numerals.{number_up_to};
 ghost use Rattle.keycard_rules.specs.Numbers.{IsNumberUpTo};
@@ -8,7 +8,7 @@ ghost use Rattle.keycard_rules.specs.Numbers.{IsNumberUpTo};
 use crate::numerals::read_numeral;
 use std::marker::{Model, PhantomData};
 
-/// A number from 1 up to the greatest of its kind.
+/// A number from 1 up to `MOST`. `K` keeps the numbers of different things apart.
 #[derive(Clone, Copy, PartialEq, Eq, PartialOrd, Ord, Debug)]
 pub struct Number<K, const MOST: u32> {
     value: u32,
@@ -26,6 +26,7 @@ impl<K, const MOST: u32> Model for Number<K, MOST> {
 }
 
 impl<K, const MOST: u32> Number<K, MOST> {
+    /// The number of this value, or `None` where it is 0 or above `MOST`.
     pub fn new(value: u32) -> Option<Number<K, MOST>>
         ensures { SomeIff result (IsNumberUpTo MOST value) value }
     {
@@ -38,6 +39,7 @@ impl<K, const MOST: u32> Number<K, MOST> {
         })
     }
 
+    /// The number as an integer.
     pub fn value(&self) -> u32
         ensures same { result ≡ self.now }
         ensures known { IsNumberUpTo MOST result }
@@ -45,6 +47,7 @@ impl<K, const MOST: u32> Number<K, MOST> {
         self.value
     }
 
+    /// Reads one to nine decimal digits and nothing else: leading zeros are allowed, the value is in range.
     pub fn read(text: &[u8]) -> Option<Number<K, MOST>>
         ensures { result ≡ number_up_to MOST text.now }
     {
@@ -58,7 +61,7 @@ impl<K, const MOST: u32> Number<K, MOST> {
         })
     }
 
-    /// The number after it, unless it is the greatest.
+    /// The number after it, or `None` at the greatest.
     pub fn next(&self) -> Option<Number<K, MOST>>
         ensures { SomeIff result (self.now < MOST) (self.now + 1) }
     {
@@ -72,30 +75,30 @@ impl<K, const MOST: u32> Number<K, MOST> {
     }
 }
 
-/// Marks the numbers of CardNo.
+/// Marks the numbers of cards.
 #[derive(Clone, Copy, PartialEq, Eq, PartialOrd, Ord, Debug)]
 pub struct CardKind;
 
 /// The number of a card, 1 to 9,999,999.
 pub type CardNo = Number<CardKind, 9_999_999>;
 
-/// Marks the numbers of PartyNo.
+/// Marks the numbers of parties.
 #[derive(Clone, Copy, PartialEq, Eq, PartialOrd, Ord, Debug)]
 pub struct PartyKind;
 
 /// The number of a party, which is one reservation, 1 to 9,999,999.
 pub type PartyNo = Number<PartyKind, 9_999_999>;
 
-/// Marks the numbers of RoomNo.
+/// Marks the numbers of rooms.
 #[derive(Clone, Copy, PartialEq, Eq, PartialOrd, Ord, Debug)]
 pub struct RoomKind;
 
 /// The number of a room, 1 to 9,999.
 pub type RoomNo = Number<RoomKind, 9_999>;
 
-/// Marks the numbers of Count.
+/// Marks the counts of lock notes.
 #[derive(Clone, Copy, PartialEq, Eq, PartialOrd, Ord, Debug)]
 pub struct NoteKind;
 
-/// The count of a lock's note, 1 to 9,999,999.
+/// The count that a lock gives its note, 1 to 9,999,999.
 pub type Count = Number<NoteKind, 9_999_999>;
