@@ -83,7 +83,7 @@ impl Tables {
         self.day = Some(day);
     }
 
-    fn add_kind(&mut self, kind: KindCode) -> Result<(), Memory>
+    pub(crate) fn add_kind(&mut self, kind: KindCode) -> Result<(), Memory>
         ensures ok { OnOk result (self.new ≡ made (change.Kind kind) self.old) }
         ensures err { OnErr result (self.new ≡ self.old) }
     {
@@ -94,7 +94,12 @@ impl Tables {
     }
 
     /// Adds a room and its first code.
-    fn add_room(&mut self, room: RoomNo, kind: KindCode, code: Code) -> Result<(), Memory>
+    pub(crate) fn add_room(
+        &mut self,
+        room: RoomNo,
+        kind: KindCode,
+        code: Code,
+    ) -> Result<(), Memory>
         requires new_room { room_at self.old room ≡ None }
         requires new_code { code_place self.old code ≡ None }
         ensures ok { OnOk result (self.new ≡ made (change.Room room kind code) self.old) }
@@ -119,7 +124,7 @@ impl Tables {
         Ok(())
     }
 
-    fn add_stay(&mut self, stay: Stay) -> Result<(), Memory>
+    pub(crate) fn add_stay(&mut self, stay: Stay) -> Result<(), Memory>
         ensures ok { OnOk result (self.new ≡ made (change.Reserved stay) self.old) }
         ensures err { OnErr result (self.new ≡ self.old) }
     {
@@ -137,7 +142,12 @@ impl Tables {
     }
 
     /// Adds a new code and a card with it; the card's party comes to the room, and leaves another one where that is named.
-    fn issue(&mut self, card: &Card, room: RoomNo, leaves: Option<RoomNo>) -> Result<(), Memory>
+    pub(crate) fn issue(
+        &mut self,
+        card: &Card,
+        room: RoomNo,
+        leaves: Option<RoomNo>,
+    ) -> Result<(), Memory>
         requires there { IsSome (room_at self.old room) }
         requires few { codes_of self.old room < 2 ^ 32 - 1 }
         requires new_code { code_place self.old card.now.link.new_code ≡ None }
@@ -159,7 +169,7 @@ impl Tables {
         Ok(())
     }
 
-    fn add_card(&mut self, card: &Card) -> Result<(), Memory>
+    pub(crate) fn add_card(&mut self, card: &Card) -> Result<(), Memory>
         ensures ok { OnOk result (self.new ≡ made (change.Spare card.now) self.old) }
         ensures err { OnErr result (self.new ≡ self.old) }
     {
@@ -176,7 +186,7 @@ impl Tables {
         set_state(&mut self.stays, party, StayState::Done);
     }
 
-    fn add_note(
+    pub(crate) fn add_note(
         &mut self,
         note: &LockNote,
         lock_place: u32,
