@@ -31,3 +31,4 @@ pub mod Tests
 pub mod CodeTable
 pub mod Tables
 pub mod ListBooks
+pub mod InsideTable

@@ -5,7 +5,7 @@
 ghost use Rattle.std.specs.Prelude.{◌≡◌, ℕ, ◌-◌, ◌^◌, ◌<◌, Some, None, false, IsSome, OnOk, OnErr, IsOk};
 ghost use Rattle.hotel_core.specs.declared.change.Change.TheVariants as change;
 ghost use Rattle.hotel_core.specs.Lookups.{room_at, code_place, note_at};
-ghost use Rattle.hotel_core.specs.Change.{made, moved, codes_of};
+ghost use Rattle.hotel_core.specs.Change.{made, codes_of};
 ghost use Rattle.hotel_core.specs.Fits.{HasItsRows, takes_memory};
 
 use crate::change::{Change, InsideMove};
@@ -13,30 +13,7 @@ use crate::row_changes::{codes_issued, issue_at, leave, leave_any, note_at, set_
 use crate::rows::{CodeRow, RoomRow};
 use crate::tables::Tables;
 use hotel_nights::{Day, KindCode, Stay, StayState};
-use keycard_rules::{Card, CardNo, Code, LockNote, Memory, PartyNo, RoomNo};
-use std::collections::BTreeSet;
-
-/// A card comes to a room, goes from it, or neither.
-fn move_inside(
-    inside: &mut BTreeSet<(RoomNo, CardNo)>,
-    room: RoomNo,
-    insides: InsideMove,
-) -> Result<(), Memory>
-    ensures ok { OnOk result (inside.new.keys ≡ moved insides room inside.old.keys) }
-    ensures err { OnErr result (inside.new.keys ≡ inside.old.keys) }
-{
-    match insides {
-        InsideMove::Same => Ok(()),
-        InsideMove::Goes(number) => {
-            inside.remove(&(room, number));
-            Ok(())
-        }
-        InsideMove::Comes(number) => match inside.insert((room, number)) {
-            Ok(_) => Ok(()),
-            Err(_) => Err(Memory),
-        },
-    }
-}
+use keycard_rules::{Card, Code, LockNote, Memory, PartyNo, RoomNo};
 
 impl Tables {
     /// Makes all of a change, or nothing.
@@ -202,7 +179,7 @@ impl Tables {
         let Ok(_) = self.notes.insert((room, count), *note) else {
             return Err(Memory);
         };
-        let Ok(()) = move_inside(&mut self.inside, room, insides) else {
+        let Ok(()) = self.inside.change(room, insides) else {
             self.notes.remove(&(room, count));
             return Err(Memory);
         };
