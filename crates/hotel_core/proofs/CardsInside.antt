@@ -1,5 +1,5 @@
 -- The cards inside a room, as a part of the pairs in order.
-use Rattle.std.proofs.Common.{ℕ, ◌≡◌, ◌≤◌, ◌<◌, Bool, true, false, cond, List, [], ◌∷◌, map, filter, refl, ap, sym, ◌∙◌, subst, arith}
+use Rattle.std.proofs.Common.{ℕ, ◌≡◌, ◌≤◌, ◌<◌, Bool, true, false, cond, List, [], ◌∷◌, map, filter, refl, ap, sym, ◌∙◌, arith}
 use Rattle.std.specs.Prelude.{◌==◌, ◌&&◌, not}
 use Rattle.std.specs.Ordering.{nat_cmp, is_le, is_lt, is_eq, ordering_then, match_ordering, MatchOrdering}
 use Rattle.std.specs.declared.cmp.Ordering.{Ordering}
@@ -14,7 +14,7 @@ use Rattle.keycard_rules.specs.Numbers.{IsNumberUpTo}
 use Rattle.hotel_core.specs.Words.{pair_cmp, when, remove_key}
 use Rattle.hotel_core.specs.Guests.{those_in}
 use Rattle.hotel_core.specs.InsideTable.{HaveCardNumbers}
-use Rattle.hotel_core.proofs.MapEntries.{at_is, eq_turned}
+use Rattle.hotel_core.proofs.MapEntries.{at_is}
 
 -- ---- changes keep the numbers
 
