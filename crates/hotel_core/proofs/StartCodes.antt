@@ -32,26 +32,28 @@ use Rattle.hotel_core.proofs.StartSplits.{SplitsAt, split_at, found_at, length_v
 pub record Orders (t : Rows) : Type 0 where
   pub rooms : InOrder nat_cmp (keys_of t.rooms)
   pub codes : InOrder nat_cmp (keys_of t.codes)
+  pub cards : InOrder nat_cmp (keys_of t.cards)
   pub inside : InOrder pair_cmp t.inside
 
-three_of : (a b c d e f g : Bool) → (a && b && c && d && e && f && g) ≡ true → (b ≡ true) × (c ≡ true) × (f ≡ true)
-three_of a b c d e f g t =
+parts_of : (a b c d e f g : Bool) → (a && b && c && d && e && f && g) ≡ true → (b ≡ true) × (c ≡ true) × (e ≡ true) × (f ≡ true)
+parts_of a b c d e f g t =
     let p = and_true (a && b && c && d && e && f) g t in
     let q = and_true (a && b && c && d && e) f p.0 in
     let u = and_true (a && b && c && d) e q.0 in
     let v = and_true (a && b && c) d u.0 in
     let w = and_true (a && b) c v.0 in
-    ((and_true a b w.0).1, w.1, q.1)
+    ((and_true a b w.0).1, w.1, u.1, q.1)
 
 pub orders : (t : Rows) → IsSound t → Orders t
 orders t s =
     let a =
-    three_of (are_in_order (slice_cmp nat_cmp) t.kinds) (are_in_order nat_cmp (keys_of t.rooms)) (are_in_order nat_cmp (keys_of t.codes)) (are_in_order nat_cmp (keys_of t.stays))
+    parts_of (are_in_order (slice_cmp nat_cmp) t.kinds) (are_in_order nat_cmp (keys_of t.rooms)) (are_in_order nat_cmp (keys_of t.codes)) (are_in_order nat_cmp (keys_of t.stays))
     (are_in_order nat_cmp (keys_of t.cards)) (are_in_order pair_cmp t.inside) (are_in_order pair_cmp (keys_of t.notes)) s.keys in
     record {
       rooms = in_order_from nat_cmp nat_cmp_total (keys_of t.rooms) a.0;
       codes = in_order_from nat_cmp nat_cmp_total (keys_of t.codes) a.1;
-      inside = in_order_from pair_cmp pair_cmp_total t.inside a.2;
+      cards = in_order_from nat_cmp nat_cmp_total (keys_of t.cards) a.2;
+      inside = in_order_from pair_cmp pair_cmp_total t.inside a.3;
     }
 
 -- a room's row has its number
