@@ -3,6 +3,7 @@ pub mod Rows
 pub mod Lookups
 pub mod Event
 pub mod History
+pub mod Ranges
 pub mod Issued
 pub mod Cards
 pub mod Lock
