@@ -1,18 +1,17 @@
 -- The codes of sound rows: each stands at one place of one room, and the places of a room are counted.
-use Rattle.std.proofs.Common.{ℕ, ◌≡◌, ◌≤◌, ◌<◌, Bool, true, false, cond, Option, Some, None, List, [], ◌∷◌, ◌++◌, length, refl, ap, sym, ◌∙◌, subst, arith}
+use Rattle.std.proofs.Common.{ℕ, ◌≡◌, ◌<◌, Bool, true, false, Option, Some, None, List, [], ◌∷◌, ◌++◌, length, refl, ap, sym, ◌∙◌, subst, arith}
 use Rattle.std.specs.Prelude.{◌==◌, ◌&&◌, nat_le, nat_lt, is_some, map}
 use Rattle.std.specs.Ordering.{nat_cmp}
 use Rattle.std.specs.List.{list_all}
 use Rattle.std.specs.BTreeMap.{insert_entry}
 use Rattle.std.specs.Map.{keys_of, values_of}
 use Rattle.std.specs.Cmp.Lexicographic.{slice_cmp}
-use Rattle.std.proofs.lemmas.Cmp.{nat_cmp_total}
+use Rattle.std.proofs.lemmas.Cmp.{nat_cmp_total, nat_list_cmp_total}
 use Rattle.hotel_core.specs.declared.rows.CodeRow.{CodeRow}
 use Rattle.hotel_core.specs.declared.rows.RoomRow.{RoomRow}
 use Rattle.hotel_core.specs.Words.{when, pair_cmp, is_one_of, said_of}
 use Rattle.hotel_core.specs.Rows.{Rows, at_number, codes_by_place, codes_at, lock_place_of}
 use Rattle.hotel_core.specs.History.{start}
-use Rattle.hotel_core.specs.Stays.{rooms}
 use Rattle.hotel_core.specs.Cases.{is_room}
 use Rattle.hotel_core.specs.SoundRooms.{count_up, are_in_order}
 use Rattle.hotel_core.specs.SoundCards.{codes_listed}
@@ -21,28 +20,32 @@ use Rattle.hotel_core.specs.CodeLaws.{CodesHavePlaces, PlacesHaveCodes}
 use Rattle.hotel_core.proofs.KeysInOrder.{InOrder}
 use Rattle.hotel_core.proofs.CodeLists.{nothing_in_nil}
 use Rattle.hotel_core.proofs.Pairs.{pair_cmp_total}
-use Rattle.hotel_core.proofs.Tests.{eq_from, and_true, not_both, either_way}
+use Rattle.hotel_core.proofs.Tests.{eq_from, and_true, not_both}
 use Rattle.hotel_core.proofs.Tables.{is_key}
 use Rattle.hotel_core.proofs.StartRules.{each_found, some_of, lt_from}
 use Rattle.hotel_core.proofs.StartOrder.{in_order_from}
 use Rattle.hotel_core.proofs.StartPlaces.{is_placed, placed_back}
 use Rattle.hotel_core.proofs.StartSplits.{SplitsAt, split_at, found_at, length_values}
 
--- the orders of the keys, each apart
+-- the keys of each table stand in order
 pub record Orders (t : Rows) : Type 0 where
+  pub kinds : InOrder (slice_cmp nat_cmp) t.kinds
   pub rooms : InOrder nat_cmp (keys_of t.rooms)
   pub codes : InOrder nat_cmp (keys_of t.codes)
+  pub stays : InOrder nat_cmp (keys_of t.stays)
   pub cards : InOrder nat_cmp (keys_of t.cards)
   pub inside : InOrder pair_cmp t.inside
+  pub notes : InOrder pair_cmp (keys_of t.notes)
 
-parts_of : (a b c d e f g : Bool) → (a && b && c && d && e && f && g) ≡ true → (b ≡ true) × (c ≡ true) × (e ≡ true) × (f ≡ true)
+parts_of : (a b c d e f g : Bool) → (a && b && c && d && e && f && g) ≡ true → (a ≡ true) × (b ≡ true) × (c ≡ true) × (d ≡ true) × (e ≡ true) × (f ≡ true) × (g ≡ true)
 parts_of a b c d e f g t =
     let p = and_true (a && b && c && d && e && f) g t in
     let q = and_true (a && b && c && d && e) f p.0 in
     let u = and_true (a && b && c && d) e q.0 in
     let v = and_true (a && b && c) d u.0 in
     let w = and_true (a && b) c v.0 in
-    ((and_true a b w.0).1, w.1, u.1, q.1)
+    let x = and_true a b w.0 in
+    (x.0, x.1, w.1, v.1, u.1, q.1, p.1)
 
 pub orders : (t : Rows) → IsSound t → Orders t
 orders t s =
@@ -50,10 +53,13 @@ orders t s =
     parts_of (are_in_order (slice_cmp nat_cmp) t.kinds) (are_in_order nat_cmp (keys_of t.rooms)) (are_in_order nat_cmp (keys_of t.codes)) (are_in_order nat_cmp (keys_of t.stays))
     (are_in_order nat_cmp (keys_of t.cards)) (are_in_order pair_cmp t.inside) (are_in_order pair_cmp (keys_of t.notes)) s.keys in
     record {
-      rooms = in_order_from nat_cmp nat_cmp_total (keys_of t.rooms) a.0;
-      codes = in_order_from nat_cmp nat_cmp_total (keys_of t.codes) a.1;
-      cards = in_order_from nat_cmp nat_cmp_total (keys_of t.cards) a.2;
-      inside = in_order_from pair_cmp pair_cmp_total t.inside a.3;
+      kinds = in_order_from (slice_cmp nat_cmp) nat_list_cmp_total t.kinds a.0;
+      rooms = in_order_from nat_cmp nat_cmp_total (keys_of t.rooms) a.1;
+      codes = in_order_from nat_cmp nat_cmp_total (keys_of t.codes) a.2;
+      stays = in_order_from nat_cmp nat_cmp_total (keys_of t.stays) a.3;
+      cards = in_order_from nat_cmp nat_cmp_total (keys_of t.cards) a.4;
+      inside = in_order_from pair_cmp pair_cmp_total t.inside a.5;
+      notes = in_order_from pair_cmp pair_cmp_total (keys_of t.notes) a.6;
     }
 
 -- a room's row has its number
@@ -91,12 +97,12 @@ pub no_codes_at : (t : Rows) → IsSound t → (r : ℕ) → at_number t.rooms r
 no_codes_at t s r n = ap values_of (none_by t r n t.codes s.code_room)
 
 -- each room of a start has its row
-same_keys : (es : List (ℕ × RoomRow)) → keys_of (map (λ e. (e.0, e.1.kind)) es) ≡ keys_of es
-same_keys [] = refl
-same_keys (e ∷ es) = ap (λ zs. e.0 ∷ zs) (same_keys es)
+pub same_room_keys : (es : List (ℕ × RoomRow)) → keys_of (map (λ e. (e.0, e.1.kind)) es) ≡ keys_of es
+same_room_keys [] = refl
+same_room_keys (e ∷ es) = ap (λ zs. e.0 ∷ zs) (same_room_keys es)
 
 pub room_there_is : (t : Rows) (r : ℕ) → is_room (start t) r ≡ is_some (at_number t.rooms r)
-room_there_is t r = ap (is_one_of r) (same_keys t.rooms) ∙ is_key t.rooms r
+room_there_is t r = ap (is_one_of r) (same_room_keys t.rooms) ∙ is_key t.rooms r
 
 pub has_row : (t : Rows) (r : ℕ) → is_room (start t) r ≡ true → (row : RoomRow) × (at_number t.rooms r ≡ Some row)
 has_row t r e = some_of (at_number t.rooms r) (sym (room_there_is t r) ∙ e)

@@ -1,11 +1,11 @@
 -- The guests of sound rows: who is registered is in house there, and has a card of the room's newest link.
-use Rattle.std.proofs.Common.{ℕ, ◌≡◌, Bool, true, false, Option, Some, None, List, refl, ap, sym, ◌∙◌}
+use Rattle.std.proofs.Common.{ℕ, ◌≡◌, true, false, Option, Some, None, refl, ap, sym, ◌∙◌}
 use Rattle.std.specs.Prelude.{◌&&◌, is_some, bytes_eq}
 use Rattle.keycard_rules.specs.declared.card.Link.{Link}
 use Rattle.hotel_nights.specs.declared.stay.Stay.{Stay}
 use Rattle.hotel_core.specs.declared.rows.RoomRow.{RoomRow}
 use Rattle.hotel_core.specs.Words.{said_of, is_that}
-use Rattle.hotel_core.specs.Rows.{Rows, at_number, codes_at, last_link_of, link_of_last_card}
+use Rattle.hotel_core.specs.Rows.{Rows, at_number, link_of_last_card}
 use Rattle.hotel_core.specs.History.{start}
 use Rattle.hotel_core.specs.Guests.{registered}
 use Rattle.hotel_core.specs.Cards.{newest_link, link_of_party}
@@ -13,7 +13,7 @@ use Rattle.hotel_core.specs.Cases.{is_room, room_of, room_of_state, is_in_house}
 use Rattle.hotel_core.specs.SoundCards.{is_newest}
 use Rattle.hotel_core.specs.Sound.{IsSound}
 use Rattle.hotel_core.specs.CodeLaws.{GuestsHaveCards}
-use Rattle.hotel_core.proofs.Tests.{and_true, not_both}
+use Rattle.hotel_core.proofs.Tests.{and_true}
 use Rattle.hotel_core.proofs.Homes.{Match}
 use Rattle.hotel_core.proofs.StartRules.{each_found, said_true, said_at, some_of, that_is}
 use Rattle.hotel_core.proofs.StartCodes.{room_is}

@@ -12,7 +12,7 @@ use Rattle.hotel_core.specs.History.{start}
 use Rattle.hotel_core.specs.Notes.{notes}
 use Rattle.hotel_core.specs.Cases.{is_room}
 use Rattle.hotel_core.specs.SoundRooms.{count_up, is_day}
-use Rattle.hotel_core.specs.SoundCards.{counts_at, act_fits}
+use Rattle.hotel_core.specs.SoundCards.{counts_at, act_fits, note_fits}
 use Rattle.hotel_core.specs.Sound.{IsSound}
 use Rattle.hotel_core.proofs.Pairs.{pair_is}
 use Rattle.hotel_core.proofs.Tests.{eq_from, eq_self, and_true, not_both}
@@ -21,11 +21,11 @@ use Rattle.hotel_core.proofs.StartCodes.{room_is, has_no_row}
 use Rattle.hotel_core.proofs.StartLedger.{not_there}
 
 -- the first of some notes
-abbrev first_one : List Note → Option Note
-first_one [] = None
-first_one (note ∷ later) = Some note
+abbrev pub first_note : List Note → Option Note
+first_note [] = None
+first_note (note ∷ later) = Some note
 
-nothing_left : (k : ℕ) → first_one (drop k []) ≡ None
+pub nothing_left : (k : ℕ) → first_note (drop k []) ≡ None
 nothing_left zero = refl
 nothing_left (suc k) = refl
 
@@ -35,7 +35,7 @@ Kept t [] = Unit {0}
 Kept t (e ∷ es) = (e.1.count ≡ e.0.1) × (is_some (at_number t.rooms e.0.0) ≡ true) × Kept t es
 
 kept_from : (t : Rows) (es : List ((ℕ × ℕ) × Note))
-    → list_all (λ (e : (ℕ × ℕ) × Note). (e.1.room == e.0.0) && (e.1.count == e.0.1) && is_some (at_number t.rooms e.0.0) && act_fits t e.0.0 e.1.act && is_day e.1.day && nat_lt e.1.second 86400) es ≡ true → Kept t es
+    → list_all (note_fits t) es ≡ true → Kept t es
 kept_from t [] a = tt
 kept_from t (e ∷ es) a =
     let first = (e.1.room == e.0.0) && (e.1.count == e.0.1) in
@@ -69,9 +69,9 @@ later_is n k l = by (n == k) refl
     by false e = e
 
 found_by : (b : Bool) (e : (ℕ × ℕ) × Note) (found : Option Note) (later : List Note) (n k : ℕ) → (b ≡ true → e.1.count ≡ e.0.1) → count_up n (counts_at (when b (λ notes. e.1 ∷ notes) later)) ≡ true
-    → (count_up n (counts_at later) ≡ true → found ≡ first_one (drop k later))
-    → ((j : ℕ) → k ≡ suc j → count_up (n + 1) (counts_at later) ≡ true → found ≡ first_one (drop j later))
-    → cond (b && (e.0.1 == n + k)) (Some e.1) found ≡ first_one (drop k (when b (λ notes. e.1 ∷ notes) later))
+    → (count_up n (counts_at later) ≡ true → found ≡ first_note (drop k later))
+    → ((j : ℕ) → k ≡ suc j → count_up (n + 1) (counts_at later) ≡ true → found ≡ first_note (drop j later))
+    → cond (b && (e.0.1 == n + k)) (Some e.1) found ≡ first_note (drop k (when b (λ notes. e.1 ∷ notes) later))
 found_by false e found later n k count up same next = same up
 found_by true e found later n zero count up same next =
     let p = and_true (e.1.count == n) (count_up (n + 1) (counts_at later)) up in
@@ -86,7 +86,7 @@ found_by true e found later n (suc j) count up same next =
     ap (λ b. cond b (Some e.1) found) (later_is e.0.1 (n + suc j) (omega arith)) ∙ next j refl p.1
 
 -- the note of a count, where the counts go up from n
-note_from : (t : Rows) (r n : ℕ) (es : List ((ℕ × ℕ) × Note)) (k : ℕ) → Kept t es → count_up n (counts_at (notes_at es r)) ≡ true → lookup (is_at (pair_cmp (r, n + k))) es ≡ first_one (drop k (notes_at es r))
+note_from : (t : Rows) (r n : ℕ) (es : List ((ℕ × ℕ) × Note)) (k : ℕ) → Kept t es → count_up n (counts_at (notes_at es r)) ≡ true → lookup (is_at (pair_cmp (r, n + k))) es ≡ first_note (drop k (notes_at es r))
 note_from t r n [] k a up = sym (nothing_left k)
 note_from t r n (e ∷ es) k a up =
     ap (λ b. cond b (Some e.1) (lookup (is_at (pair_cmp (r, n + k))) es)) (pair_is r (n + k) e.0)
@@ -95,7 +95,7 @@ note_from t r n (e ∷ es) k a up =
     (λ j q u. let m : n + k ≡ (n + 1) + j = omega arith in ap (λ z. lookup (is_at (pair_cmp (r, z))) es) m ∙ note_from t r (n + 1) es j a.2 u)
 
 -- The note of a room's count k + 1 is the first after k notes there.
-pub note_kept_at_start : (t : Rows) → IsSound t → (r k : ℕ) → lookup (is_at (pair_cmp (r, k + 1))) t.notes ≡ first_one (drop k (notes_at t.notes r))
+pub note_kept_at_start : (t : Rows) → IsSound t → (r k : ℕ) → lookup (is_at (pair_cmp (r, k + 1))) t.notes ≡ first_note (drop k (notes_at t.notes r))
 note_kept_at_start t s r k =
     let m : k + 1 ≡ 1 + k = omega arith in
     ap (λ z. lookup (is_at (pair_cmp (r, z))) t.notes) m ∙ note_from t r 1 t.notes k (kept_from t t.notes s.note_fits) (by (is_some (at_number t.rooms r)) refl)

@@ -1,5 +1,5 @@
 -- The cards and stays of a start are numbered from 1 on.
-use Rattle.std.proofs.Common.{ℕ, ◌≡◌, ◌≤◌, Bool, true, false, Option, Some, None, List, length}
+use Rattle.std.proofs.Common.{ℕ, ◌≡◌, Bool, true, Some, length}
 use Rattle.std.specs.Prelude.{◌==◌, ◌&&◌, nat_le}
 use Rattle.std.specs.List.{list_all}
 use Rattle.std.specs.Map.{keys_of}

@@ -1,7 +1,7 @@
 -- The codes of a room in the order of their places: each code of the table at its place, and no other.
-use Rattle.std.proofs.Common.{ℕ, ◌≡◌, ◌≤◌, ◌+◌, Bool, true, false, cond, Option, Some, None, List, [], ◌∷◌, ◌++◌, length, inl, inr, refl, ap, sym, ◌∙◌, subst, arith}
-use Rattle.std.specs.Prelude.{◌==◌, ◌&&◌, ◌||◌}
-use Rattle.std.specs.Ordering.{nat_cmp, is_eq, match_ordering}
+use Rattle.std.proofs.Common.{ℕ, ◌≡◌, ◌≤◌, ◌+◌, Bool, true, false, cond, Option, Some, None, List, [], ◌∷◌, length, inl, inr, refl, ap, sym, ◌∙◌, subst, arith}
+use Rattle.std.specs.Prelude.{◌==◌, ◌||◌}
+use Rattle.std.specs.Ordering.{nat_cmp, match_ordering}
 use Rattle.std.specs.declared.cmp.Ordering.{Ordering}
 use Rattle.std.specs.declared.cmp.Ordering.TheVariants.{Less, Equal, Greater}
 use Rattle.std.specs.List.{count_by}
@@ -121,7 +121,6 @@ is_placed [] room code row n here f = absurd (let w : ◌≡◌ {A = Option Code
 is_placed (e ∷ es) room code row n here f =
     let a = apart e es room n in
     placed_by (is_at (nat_cmp code) e.0) e es room code row (same_number code e.0) here a.1 (is_placed es room code row a.0 here) f
-
 
 back_by : (b : Bool) (e : ℕ × CodeRow) (es : List (ℕ × CodeRow)) (room place code : ℕ) → (b ≡ true → e.1.room ≡ room) → (at_number (codes_by_place es room) place ≡ Some code → at_number (e ∷ es) code ≡ Some (record { room = room; place = place }))
     → at_number (when b (λ placed. insert_entry nat_cmp placed e.1.place e.0) (codes_by_place es room)) place ≡ Some code → at_number (e ∷ es) code ≡ Some (record { room = room; place = place })

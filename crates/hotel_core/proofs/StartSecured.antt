@@ -1,21 +1,20 @@
 -- Secured rooms of sound rows: nothing is awaited there, and the cards inside have the newest link.
-use Rattle.std.proofs.Common.{ℕ, ◌≡◌, ◌≤◌, ◌-◌, ◌+◌, Bool, true, false, Some, List, [], ◌∷◌, length, drop, inl, inr, refl, ap, sym, ◌∙◌, arith}
+use Rattle.std.proofs.Common.{ℕ, ◌≡◌, ◌≤◌, ◌-◌, ◌+◌, Bool, true, false, Some, List, [], ◌∷◌, length, inl, inr, refl, ap, sym, ◌∙◌, arith}
 use Rattle.std.specs.Prelude.{◌==◌, ◌&&◌, ◌||◌, not, nat_le, is_some}
 use Rattle.std.specs.List.{list_all}
 use Rattle.std.proofs.Math.ListN.{drop_of_length-le}
 use Rattle.hotel_core.specs.declared.rows.RoomRow.{RoomRow}
-use Rattle.hotel_core.specs.declared.rows.CodeRow.{CodeRow}
 use Rattle.keycard_rules.specs.declared.card.Card.{Card}
-use Rattle.hotel_core.specs.Words.{when, said_of, is_one_of}
+use Rattle.hotel_core.specs.Words.{is_one_of}
 use Rattle.hotel_core.specs.Rows.{Rows, at_number, codes_at, lock_place_of, last_link_of}
 use Rattle.hotel_core.specs.History.{start}
 use Rattle.hotel_core.specs.Guests.{those_in}
-use Rattle.hotel_core.specs.SoundCards.{stands_at, is_newest}
+use Rattle.hotel_core.specs.SoundCards.{room_is, card_is, code_is, stands_at, is_newest, fits_inside}
 use Rattle.hotel_core.specs.Sound.{IsSound}
 use Rattle.hotel_core.specs.CodeLaws.{SecuredRoomsFit}
 use Rattle.hotel_core.proofs.Tests.{eq_from, and_true, or_second, not_both}
 use Rattle.hotel_core.proofs.InsideRooms.{one_of_when}
-use Rattle.hotel_core.proofs.StartRules.{each_found, said_true, said_at, le_from}
+use Rattle.hotel_core.proofs.StartRules.{each_found, said_true, said_at}
 use Rattle.hotel_core.proofs.StartCodes.{room_there_is, counted, lock_within}
 use Rattle.hotel_core.proofs.StartLinks.{newest_by_rule}
 
@@ -43,14 +42,10 @@ secured_last t s r row e secured =
 inside_newest : (t : Rows) → IsSound t → (r : ℕ) (row : RoomRow) (n : ℕ) → at_number t.rooms r ≡ Some row → row.secured ≡ true → is_one_of n (those_in t.inside r) ≡ true
     → (card : Card) × (at_number t.cards n ≡ Some card) × (last_link_of (codes_at t r) ≡ Some card.link)
 inside_newest t s r row n e secured i =
-    let a = inside_passes (λ (e : ℕ × ℕ). said_of (at_number t.rooms e.0) false (λ row. said_of (at_number t.cards e.1) false (λ card. said_of (at_number t.codes card.link.new_code) false (λ new.
-    stands_at t e.0 card.link && nat_le new.place row.lock_place && (not row.secured || is_newest t e.0 card.link))))) t.inside r n s.inside_fits i in
-    let b = said_at (at_number t.rooms r) false (λ row. said_of (at_number t.cards n) false (λ card. said_of (at_number t.codes card.link.new_code) false (λ new.
-    stands_at t r card.link && nat_le new.place row.lock_place && (not row.secured || is_newest t r card.link)))) row e a in
-    let card = said_true (at_number t.cards n) (λ card. said_of (at_number t.codes card.link.new_code) false (λ new.
-    stands_at t r card.link && nat_le new.place row.lock_place && (not row.secured || is_newest t r card.link))) b in
-    let new = said_true (at_number t.codes card.0.link.new_code) (λ new. stands_at t r card.0.link && nat_le new.place row.lock_place && (not row.secured || is_newest t r card.0.link)) card.2 in
-    let c = and_true (stands_at t r card.0.link && nat_le new.0.place row.lock_place) (not row.secured || is_newest t r card.0.link) new.2 in
+    let a = inside_passes (λ (e : ℕ × ℕ). room_is t e.0 (λ row. card_is t e.1 (fits_inside t e.0 row))) t.inside r n s.inside_fits i in
+    let b = said_at (at_number t.rooms r) false (λ row. card_is t n (fits_inside t r row)) row e a in
+    let card = said_true (at_number t.cards n) (fits_inside t r row) b in
+    let c = and_true (stands_at t r card.0.link && code_is t card.0.link.new_code (λ new. nat_le new.place row.lock_place)) (not row.secured || is_newest t r card.0.link) card.2 in
     (card.0, card.1, newest_by_rule t r card.0.link (or_second (not row.secured) (is_newest t r card.0.link) (ap not secured) c.1))
 
 -- A secured room awaits no code, and each card inside has its newest link.

@@ -1,12 +1,12 @@
 -- A list of pairs whose numbers count up: the pair of a number is the one of that place.
-use Rattle.std.proofs.Common.{ℕ, ◌≡◌, ◌≤◌, ◌<◌, ◌+◌, Bool, true, false, cond, Option, Some, None, List, [], ◌∷◌, ◌++◌, length, refl, ap, sym, ◌∙◌, arith}
-use Rattle.std.specs.Prelude.{◌==◌, ◌&&◌}
+use Rattle.std.proofs.Common.{ℕ, ◌≡◌, ◌<◌, ◌+◌, Bool, true, false, cond, Option, Some, None, List, [], ◌∷◌, ◌++◌, length, refl, ap, ◌∙◌, arith}
+use Rattle.std.specs.Prelude.{◌==◌}
 use Rattle.std.specs.Ordering.{nat_cmp}
 use Rattle.std.specs.BTreeMap.{is_at}
 use Rattle.std.specs.Map.{keys_of, values_of}
 use Rattle.hotel_core.specs.Rows.{at_number}
 use Rattle.hotel_core.specs.SoundRooms.{count_up}
-use Rattle.hotel_core.proofs.Tests.{eq_from, eq_self, and_true, not_both}
+use Rattle.hotel_core.proofs.Tests.{eq_from, eq_self, and_true}
 use Rattle.hotel_core.proofs.Tables.{at_is, same_number}
 
 -- the value stands in the list, after so many others
