@@ -26,6 +26,7 @@ pub mod StepOnRows
 pub mod Reads
 pub mod Finds
 pub mod Issuing
+pub mod Taking
 pub mod Headline
 pub mod Lists
 pub mod Follow
