@@ -12,7 +12,7 @@ use Rattle.keycard_rules.specs.Lock.{turn}
 use Rattle.hotel_core.specs.Notes.{same_link, same_note}
 use Rattle.hotel_core.specs.Taking.{IsNext}
 use Rattle.keycard_rules.specs.Draw.{words}
-use Rattle.hotel_core.proofs.NoteParts.{next_told, not_true, not_false}
+use Rattle.hotel_core.proofs.NextNote.{next_told, not_true, not_false}
 use Rattle.hotel_core.specs.declared.notes.Insiders.{Insiders}
 use Rattle.hotel_core.proofs.WholeRows.{same_new}
 use Rattle.hotel_core.proofs.Parts.{given, says, unsound}
