@@ -27,6 +27,7 @@ pub mod StepOnRows
 pub mod Lift
 pub mod Reads
 pub mod Finds
+pub mod Stepping
 pub mod Issuing
 pub mod Taking
 pub mod Headline
