@@ -27,9 +27,9 @@ pub mod StepOnRows
 pub mod Lift
 pub mod Reads
 pub mod Finds
-pub mod Stepping
 pub mod Issuing
-pub mod Taking
+pub mod Stepping
+pub mod Noting
 pub mod Headline
 pub mod Lists
 pub mod Follow
