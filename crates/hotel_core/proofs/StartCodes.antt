@@ -22,7 +22,8 @@ use Rattle.hotel_core.proofs.CodeLists.{nothing_in_nil}
 use Rattle.hotel_core.proofs.Pairs.{pair_cmp_total}
 use Rattle.hotel_core.proofs.Tests.{eq_from, and_true, not_both}
 use Rattle.hotel_core.proofs.Tables.{is_key}
-use Rattle.hotel_core.proofs.StartRules.{each_found, some_of, lt_from}
+use Rattle.hotel_core.proofs.RowTests.{found_passes}
+use Rattle.hotel_core.proofs.StartRules.{some_of, lt_from}
 use Rattle.hotel_core.proofs.StartOrder.{in_order_from}
 use Rattle.hotel_core.proofs.StartPlaces.{is_placed, placed_back}
 use Rattle.hotel_core.proofs.StartSplits.{SplitsAt, split_at, found_at, length_values}
@@ -65,7 +66,7 @@ orders t s =
 -- a room's row has its number
 pub room_is : (t : Rows) → IsSound t → (r : ℕ) (row : RoomRow) → at_number t.rooms r ≡ Some row → row.room ≡ r
 room_is t s r row e =
-    let a = each_found (λ (e : ℕ × RoomRow). (e.1.room == e.0) && nat_le 1 e.0 && nat_le e.0 9999) t.rooms r row s.room_number e in
+    let a = found_passes (λ (e : ℕ × RoomRow). (e.1.room == e.0) && nat_le 1 e.0 && nat_le e.0 9999) t.rooms r row s.room_number e in
     let b = and_true ((row.room == r) && nat_le 1 r) (nat_le r 9999) a in
     eq_from row.room r (and_true (row.room == r) (nat_le 1 r) b.0).0
 
@@ -77,7 +78,7 @@ pub record Counted (t : Rows) (r : ℕ) (row : RoomRow) : Type 0 where
 
 pub counted : (t : Rows) → IsSound t → (r : ℕ) (row : RoomRow) → at_number t.rooms r ≡ Some row → Counted t r row
 counted t s r row e =
-    let a = each_found (λ (e : ℕ × RoomRow). count_up 0 (keys_of (codes_by_place t.codes e.1.room)) && (length (codes_at t e.1.room) == e.1.codes) && (codes_listed t e.1.room == e.1.codes)) t.rooms r row s.code_places e in
+    let a = found_passes (λ (e : ℕ × RoomRow). count_up 0 (keys_of (codes_by_place t.codes e.1.room)) && (length (codes_at t e.1.room) == e.1.codes) && (codes_listed t e.1.room == e.1.codes)) t.rooms r row s.code_places e in
     let b = and_true (count_up 0 (keys_of (codes_by_place t.codes row.room)) && (length (codes_at t row.room) == row.codes)) (codes_listed t row.room == row.codes) a in
     let c = and_true (count_up 0 (keys_of (codes_by_place t.codes row.room))) (length (codes_at t row.room) == row.codes) b.0 in
     subst (λ z. Counted t z row) (room_is t s r row e) (record { up = c.0; many = eq_from _ _ c.1; listed = eq_from _ _ b.1 })
@@ -116,7 +117,7 @@ has_no_row t r e = by (at_number t.rooms r) e
 
 -- a code's room is there
 code_has_room : (t : Rows) → IsSound t → (code : ℕ) (row : CodeRow) → at_number t.codes code ≡ Some row → (room : RoomRow) × (at_number t.rooms row.room ≡ Some room)
-code_has_room t s code row e = some_of (at_number t.rooms row.room) (each_found (λ (e : ℕ × CodeRow). is_some (at_number t.rooms e.1.room)) t.codes code row s.code_room e)
+code_has_room t s code row e = some_of (at_number t.rooms row.room) (found_passes (λ (e : ℕ × CodeRow). is_some (at_number t.rooms e.1.room)) t.codes code row s.code_room e)
 
 -- Each row of the table of codes tells the place of its code.
 pub row_is_place : (t : Rows) → IsSound t → (code : ℕ) (row : CodeRow) → at_number t.codes code ≡ Some row → SplitsAt (codes_at t row.room) code row.place
@@ -146,6 +147,6 @@ rows_at_start t s code row e = row_is_place t s code row e
 -- the place of a room's lock is one of its codes'
 pub lock_within : (t : Rows) → IsSound t → (r : ℕ) (row : RoomRow) → at_number t.rooms r ≡ Some row → (lock_place_of t r ≡ row.lock_place) × (row.lock_place < length (codes_at t r))
 lock_within t s r row e =
-    let l = lt_from row.lock_place row.codes (each_found (λ (e : ℕ × RoomRow). nat_lt e.1.lock_place e.1.codes) t.rooms r row s.room_lock_place e) in
+    let l = lt_from row.lock_place row.codes (found_passes (λ (e : ℕ × RoomRow). nat_lt e.1.lock_place e.1.codes) t.rooms r row s.room_lock_place e) in
     let c = (counted t s r row e).many in
     (ap (λ o. said_of o 0 (λ row. row.lock_place)) e, omega arith)

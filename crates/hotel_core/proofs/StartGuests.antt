@@ -15,7 +15,8 @@ use Rattle.hotel_core.specs.Sound.{IsSound}
 use Rattle.hotel_core.specs.CodeLaws.{GuestsHaveCards}
 use Rattle.hotel_core.proofs.Tests.{and_true}
 use Rattle.hotel_core.proofs.Homes.{Match}
-use Rattle.hotel_core.proofs.StartRules.{each_found, said_true, said_at, some_of, that_is}
+use Rattle.hotel_core.proofs.RowTests.{found_passes}
+use Rattle.hotel_core.proofs.StartRules.{said_true, said_at, some_of, that_is}
 use Rattle.hotel_core.proofs.StartCodes.{room_is}
 use Rattle.hotel_core.proofs.StartNumbers.{party_is}
 use Rattle.hotel_core.proofs.StartLedger.{not_there}
@@ -29,7 +30,7 @@ said_some None f n e = absurd (let w : ◌≡◌ {A = Option ℕ} None (Some n) 
 in_house_there : (t : Rows) → IsSound t → (r p : ℕ) → registered (start t) r ≡ Some p → room_of (start t) p ≡ Some r
 in_house_there t s r p e =
     let row = said_some (at_number t.rooms r) (λ row. row.party) p e in
-    let a = each_found (λ (e : ℕ × RoomRow). said_of e.1.party true (λ party. said_of (at_number t.stays party) false (λ stay. is_that (room_of_state stay.state) e.1.room && bytes_eq stay.kind e.1.kind)))
+    let a = found_passes (λ (e : ℕ × RoomRow). said_of e.1.party true (λ party. said_of (at_number t.stays party) false (λ stay. is_that (room_of_state stay.state) e.1.room && bytes_eq stay.kind e.1.kind)))
     t.rooms r row.0 s.room_party row.1 in
     let b = said_at row.0.party true (λ party. said_of (at_number t.stays party) false (λ stay. is_that (room_of_state stay.state) row.0.room && bytes_eq stay.kind row.0.kind)) p row.2 a in
     let stay = said_true (at_number t.stays p) (λ stay. is_that (room_of_state stay.state) row.0.room && bytes_eq stay.kind row.0.kind) b in
@@ -40,7 +41,7 @@ in_house_there t s r p e =
 registered_there : (t : Rows) → IsSound t → (r p : ℕ) → room_of (start t) p ≡ Some r → registered (start t) r ≡ Some p
 registered_there t s r p e =
     let stay = said_some (at_number t.stays p) (λ stay. room_of_state stay.state) r e in
-    let a = each_found (λ (e : ℕ × Stay). said_of (room_of_state e.1.state) true (λ room. said_of (at_number t.rooms room) false (λ row. is_that row.party e.1.party))) t.stays p stay.0 s.stay_room stay.1 in
+    let a = found_passes (λ (e : ℕ × Stay). said_of (room_of_state e.1.state) true (λ room. said_of (at_number t.rooms room) false (λ row. is_that row.party e.1.party))) t.stays p stay.0 s.stay_room stay.1 in
     let b = said_at (room_of_state stay.0.state) true (λ room. said_of (at_number t.rooms room) false (λ row. is_that row.party stay.0.party)) r stay.2 a in
     let row = said_true (at_number t.rooms r) (λ row. is_that row.party stay.0.party) b in
     ap (λ o. said_of o None (λ row. row.party)) row.1 ∙ that_is row.0.party stay.0.party row.2 ∙ ap (λ z. Some z) (party_is t s p stay.0 stay.1)
@@ -53,7 +54,7 @@ homes_match_at_start t s = record { forth = λ r p e. in_house_there t s r p e; 
 pub home_link_at_start : (t : Rows) → IsSound t → (p r : ℕ) → room_of (start t) p ≡ Some r → (link : Link) × (link_of_party (start t) p ≡ Some link) × (newest_link (start t) r ≡ Some link)
 home_link_at_start t s p r e =
     let stay = said_some (at_number t.stays p) (λ stay. room_of_state stay.state) r e in
-    let a = each_found (λ (e : ℕ × Stay). said_of (room_of_state e.1.state) true (λ room. said_of (link_of_last_card t.cards e.1.party) false (is_newest t room))) t.stays p stay.0 s.card_last stay.1 in
+    let a = found_passes (λ (e : ℕ × Stay). said_of (room_of_state e.1.state) true (λ room. said_of (link_of_last_card t.cards e.1.party) false (is_newest t room))) t.stays p stay.0 s.card_last stay.1 in
     let b = said_at (room_of_state stay.0.state) true (λ room. said_of (link_of_last_card t.cards stay.0.party) false (is_newest t room)) r stay.2 a in
     let link = said_true (link_of_last_card t.cards stay.0.party) (is_newest t r) b in
     (link.0, ap (link_of_last_card t.cards) (sym (party_is t s p stay.0 stay.1)) ∙ link.1, newest_by_rule t r link.0 link.2)

@@ -78,7 +78,8 @@ at_most_listed : (es : List (ℕ × CodeRow)) (room : ℕ) → length (codes_by_
 at_most_listed [] room = omega arith
 at_most_listed (e ∷ es) room = few_by (e.1.room == room) (codes_by_place es room) e.1.place e.0 (listed es room) _ (one_listed e es room) (at_most_listed es room)
 
-none_or : (o : Option ℕ) → ((w : ℕ) → o ≡ Some w → ⊥) → o ≡ None
+-- what isn't there at any value is nothing
+pub none_or : (o : Option ℕ) → ((w : ℕ) → o ≡ Some w → ⊥) → o ≡ None
 none_or (Some w) f = absurd (f w refl)
 none_or None f = refl
 

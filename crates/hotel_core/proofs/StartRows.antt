@@ -19,7 +19,7 @@ use Rattle.hotel_core.proofs.KeysInOrder.{AllAfter, InOrder}
 use Rattle.hotel_core.proofs.StayCounts.{count_first}
 use Rattle.hotel_core.proofs.Tests.{eq_from, and_true}
 use Rattle.hotel_core.proofs.Tables.{at_is, is_at_self}
-use Rattle.hotel_core.proofs.StartRules.{each_found}
+use Rattle.hotel_core.proofs.RowTests.{found_passes}
 use Rattle.hotel_core.proofs.StartOrder.{found_later}
 use Rattle.hotel_core.proofs.StartCodes.{orders, room_is, counted, lock_within}
 
@@ -45,7 +45,7 @@ row_by r k l c s p n = record { room = r; kind = k; lock_place = l; codes = c; s
 
 notes_counted : (t : Rows) → IsSound t → (r : ℕ) (row : RoomRow) → at_number t.rooms r ≡ Some row → length (notes_at t.notes r) ≡ row.notes
 notes_counted t s r row e =
-    let a = each_found (λ (e : ℕ × RoomRow). count_up 1 (counts_at (notes_at t.notes e.1.room)) && (length (notes_at t.notes e.1.room) == e.1.notes)) t.rooms r row s.note_counted e in
+    let a = found_passes (λ (e : ℕ × RoomRow). count_up 1 (counts_at (notes_at t.notes e.1.room)) && (length (notes_at t.notes e.1.room) == e.1.notes)) t.rooms r row s.note_counted e in
     let b = and_true (count_up 1 (counts_at (notes_at t.notes row.room))) (length (notes_at t.notes row.room) == row.notes) a in
     ap (λ z. length (notes_at t.notes z)) (sym (room_is t s r row e)) ∙ eq_from _ _ b.1
 

@@ -14,7 +14,8 @@ use Rattle.hotel_core.specs.Sound.{IsSound}
 use Rattle.hotel_core.specs.CodeLaws.{SecuredRoomsFit}
 use Rattle.hotel_core.proofs.Tests.{eq_from, and_true, or_second, not_both}
 use Rattle.hotel_core.proofs.InsideRooms.{one_of_when}
-use Rattle.hotel_core.proofs.StartRules.{each_found, said_true, said_at}
+use Rattle.hotel_core.proofs.RowTests.{found_passes}
+use Rattle.hotel_core.proofs.StartRules.{said_true, said_at}
 use Rattle.hotel_core.proofs.StartCodes.{room_there_is, counted, lock_within}
 use Rattle.hotel_core.proofs.StartLinks.{newest_by_rule}
 
@@ -31,7 +32,7 @@ inside_passes test (x ∷ es) r n a e =
 -- a secured room's lock holds its last code
 secured_last : (t : Rows) → IsSound t → (r : ℕ) (row : RoomRow) → at_number t.rooms r ≡ Some row → row.secured ≡ true → length (codes_at t r) ≤ lock_place_of t r + 1
 secured_last t s r row e secured =
-    let a = each_found (λ (e : ℕ × RoomRow). not e.1.secured || ((e.1.lock_place == e.1.codes - 1) && nat_le 2 e.1.codes)) t.rooms r row s.room_secured e in
+    let a = found_passes (λ (e : ℕ × RoomRow). not e.1.secured || ((e.1.lock_place == e.1.codes - 1) && nat_le 2 e.1.codes)) t.rooms r row s.room_secured e in
     let b = or_second (not row.secured) ((row.lock_place == row.codes - 1) && nat_le 2 row.codes) (ap not secured) a in
     let c = and_true (row.lock_place == row.codes - 1) (nat_le 2 row.codes) b in
     let d : row.lock_place ≡ row.codes - 1 = eq_from row.lock_place (row.codes - 1) c.0 in
