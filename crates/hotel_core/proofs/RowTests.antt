@@ -52,7 +52,8 @@ inserted_by cmp exact t Less e es k v c h all ih = both (t (k, v)) _ h all
 inserted_by cmp exact t Equal e es k v c h all ih = both (t (e.0, v)) _ (ap (λ z. t (z, v)) (sym (exact k e.0 c)) ∙ h) (and_true (t e) (list_all t es) all).1
 inserted_by cmp exact t Greater e es k v c h all ih = both (t e) _ (and_true (t e) (list_all t es) all).0 ih
 
-all_added_by : {K X : Type 0} (cmp : K → K → Ordering) (exact : (a b : K) → cmp a b ≡ Equal → a ≡ b) (t : K × X → Bool) (es : List (K × X)) (k : K) (v : X) → t (k, v) ≡ true
+-- a table of any keys with one row more
+pub all_added_by : {K X : Type 0} (cmp : K → K → Ordering) (exact : (a b : K) → cmp a b ≡ Equal → a ≡ b) (t : K × X → Bool) (es : List (K × X)) (k : K) (v : X) → t (k, v) ≡ true
     → list_all t es ≡ true → list_all t (insert_entry cmp es k v) ≡ true
 all_added_by cmp exact t [] k v h all = both (t (k, v)) true h refl
 all_added_by cmp exact t (e ∷ es) k v h all =
