@@ -98,7 +98,8 @@ equal_tested Less h = cc
 equal_tested Equal h = refl
 equal_tested Greater h = cc
 
-after_not_same : {K X : Type 0} (cmp : K → K → Ordering) (total : IsTotalOrder cmp) (k q : K) (v : X) (es : List (K × X)) → AllAfter cmp k (keys_of es) → lookup (is_at (cmp q)) es ≡ Some v → is_eq (cmp q k) ≡ false
+-- a key before all of a table is none of it
+pub after_not_same : {K X : Type 0} (cmp : K → K → Ordering) (total : IsTotalOrder cmp) (k q : K) (v : X) (es : List (K × X)) → AllAfter cmp k (keys_of es) → lookup (is_at (cmp q)) es ≡ Some v → is_eq (cmp q k) ≡ false
 after_not_same cmp total k q v [] a h = cc
 after_not_same {K} {X} cmp total k q v (e ∷ es) a h = by (is_eq (cmp q e.0)) refl h (after_not_same cmp total k q v es a.1)
   where
