@@ -121,7 +121,7 @@ holds_last ps code later codes e none =
     let m = ap (λ (zs : List ℕ). length zs) none in
     omega (arith, n, m, length-append ps (code ∷ later))
 
-eq_tested : (a b : ℕ) → a ≡ b → (a == b) ≡ true
+pub eq_tested : (a b : ℕ) → a ≡ b → (a == b) ≡ true
 eq_tested a b e = grind (arith, nat_tests)
 
 if_secured : (s : Bool) (rule : Bool) → (s ≡ true → rule ≡ true) → (not s || rule) ≡ true
