@@ -26,10 +26,11 @@ use Rattle.hotel_core.specs.Run.{Reached}
 use Rattle.hotel_core.specs.SoundRooms.{stays_on, rooms_with}
 use Rattle.hotel_core.proofs.Tests.{eq_from, eq_self, and_true, either_way, not_both}
 use Rattle.hotel_core.proofs.Tables.{no_key, is_at_self, at_is}
-use Rattle.hotel_core.proofs.Grown.{at_start, may_follow}
+use Rattle.hotel_core.proofs.Grown.{may_follow}
 use Rattle.hotel_core.proofs.KindCounts.{count_more, rooms_counted}
 use Rattle.hotel_core.proofs.Numbering.{next_party_free}
 use Rattle.hotel_core.proofs.RowsPass.{booked}
+use Rattle.hotel_core.proofs.StartRows.{rooms_of_start}
 
 -- where no day is found, each of them fails the test
 pub none_passes : (test : ℕ → Bool) (d n : ℕ) → first_day test d n ≡ None → (e : ℕ) → d ≤ e → e < d + n → test e ≡ false
@@ -153,7 +154,7 @@ le_after n m k a b = omega arith
 
 -- On no night are more stays of a kind booked and in house than the kind has rooms.
 pub nights_fit : (h : History) → Reached h → (kind : List ℕ) (d : ℕ) → FitsNight h kind d
-nights_fit (start t) ok kind d = at_start (λ h. FitsNight h kind d) t ok (omega arith)
+nights_fit (start t) ok kind d = subst (λ n. count_by (takes kind d) (values_of t.stays) ≤ n) (rooms_of_start t kind) (ok.stay_nights kind d)
 nights_fit (h ▷ Install room of code) ok kind d =
     let more = count_added (λ k. bytes_eq k kind) (rooms h) room of (no_key (rooms h) room (may_follow h (Install room of code) ok).1) in
     let ih = nights_fit h ok.0 kind d in

@@ -1,5 +1,5 @@
 -- The codes of sound rows: each stands at one place of one room, and the places of a room are counted.
-use Rattle.std.proofs.Common.{ℕ, ◌≡◌, ◌<◌, Bool, true, false, Option, Some, None, List, [], ◌∷◌, ◌++◌, length, refl, ap, sym, ◌∙◌, subst, arith}
+use Rattle.std.proofs.Common.{ℕ, ◌≡◌, ◌<◌, ◌+◌, Bool, true, false, cond, Option, Some, None, List, [], ◌∷◌, ◌++◌, length, refl, ap, sym, ◌∙◌, subst, arith}
 use Rattle.std.specs.Prelude.{◌==◌, ◌&&◌, nat_le, nat_lt, is_some, map}
 use Rattle.std.specs.Ordering.{nat_cmp}
 use Rattle.std.specs.List.{list_all}
@@ -25,7 +25,7 @@ use Rattle.hotel_core.proofs.Tables.{is_key}
 use Rattle.hotel_core.proofs.RowTests.{found_passes}
 use Rattle.hotel_core.proofs.StartRules.{some_of, lt_from}
 use Rattle.hotel_core.proofs.StartOrder.{in_order_from}
-use Rattle.hotel_core.proofs.StartPlaces.{is_placed, placed_back}
+use Rattle.hotel_core.proofs.StartPlaces.{listed, one_listed, is_placed, placed_back}
 use Rattle.hotel_core.proofs.StartSplits.{SplitsAt, split_at, found_at, length_values}
 
 -- the keys of each table stand in order
@@ -94,6 +94,16 @@ none_by t r n (e ∷ es) a =
     skip true e ps f n = absurd (f refl)
     skip false e ps f n = n
 
+none_listed_by : (b : Bool) (n m : ℕ) → m ≡ cond b 1 0 + n → (b ≡ true → ⊥) → n ≡ 0 → m ≡ 0
+none_listed_by true n m e f z = absurd (f refl)
+none_listed_by false n m e f z = omega arith
+
+none_listed : (t : Rows) (r : ℕ) → at_number t.rooms r ≡ None → (es : List (ℕ × CodeRow)) → list_all (λ (e : ℕ × CodeRow). is_some (at_number t.rooms e.1.room)) es ≡ true → listed es r ≡ 0
+none_listed t r n [] a = refl
+none_listed t r n (e ∷ es) a =
+    let p = and_true (is_some (at_number t.rooms e.1.room)) _ a in
+    none_listed_by (e.1.room == r) (listed es r) _ (one_listed e es r) (λ q. not_both _ p.0 (ap (λ z. is_some (at_number t.rooms z)) (eq_from e.1.room r q) ∙ ap is_some n)) (none_listed t r n es p.1)
+
 pub no_codes_at : (t : Rows) → IsSound t → (r : ℕ) → at_number t.rooms r ≡ None → codes_at t r ≡ []
 no_codes_at t s r n = ap values_of (none_by t r n t.codes s.code_room)
 
@@ -137,6 +147,22 @@ place_is_row t s r before code later e =
         let row = some_of (at_number t.rooms r) q in
         placed_back t.codes r (length before) code (orders t s).codes (found_at (codes_by_place t.codes r) before code later (counted t s r row.0 row.1).up e)
     by false q = absurd (nothing_in_nil before code later (sym (no_codes_at t s r (has_no_row t r q)) ∙ e))
+
+-- The places of each room's codes are 0 and on.
+pub places_count_up : (t : Rows) → IsSound t → (r : ℕ) → count_up 0 (keys_of (codes_by_place t.codes r)) ≡ true
+places_count_up t s r = by (is_some (at_number t.rooms r)) refl
+  where
+    by : (b : Bool) → is_some (at_number t.rooms r) ≡ b → count_up 0 (keys_of (codes_by_place t.codes r)) ≡ true
+    by true q = let row = some_of (at_number t.rooms r) q in (counted t s r row.0 row.1).up
+    by false q = ap (λ (ps : List (ℕ × ℕ)). count_up 0 (keys_of ps)) (none_by t r (has_no_row t r q) t.codes s.code_room)
+
+-- The table has as many codes of each room as stand there.
+pub listed_at_start : (t : Rows) → IsSound t → (r : ℕ) → listed t.codes r ≡ length (codes_at t r)
+listed_at_start t s r = by (is_some (at_number t.rooms r)) refl
+  where
+    by : (b : Bool) → is_some (at_number t.rooms r) ≡ b → listed t.codes r ≡ length (codes_at t r)
+    by true q = let row = some_of (at_number t.rooms r) q in let c = counted t s r row.0 row.1 in c.listed ∙ sym c.many
+    by false q = none_listed t r (has_no_row t r q) t.codes s.code_room ∙ ap (λ (zs : List ℕ). length zs) (sym (no_codes_at t s r (has_no_row t r q)))
 
 pub places_at_start : (t : Rows) → IsSound t → CodesHavePlaces (start t)
 places_at_start t s r before code later e = place_is_row t s r before code later e
