@@ -15,7 +15,7 @@ use Rattle.hotel_core.specs.CodeLaws.{SecuredRoomsFit}
 use Rattle.hotel_core.proofs.Tests.{eq_from, and_true, or_second, not_both}
 use Rattle.hotel_core.proofs.InsideRooms.{one_of_when}
 use Rattle.hotel_core.proofs.RowTests.{found_passes}
-use Rattle.hotel_core.proofs.StartRules.{said_true, said_at}
+use Rattle.hotel_core.proofs.StartRules.{said_true, said_at, le_from}
 use Rattle.hotel_core.proofs.StartCodes.{room_there_is, counted, lock_within}
 use Rattle.hotel_core.proofs.StartLinks.{newest_by_rule}
 
