@@ -4,7 +4,6 @@ use Rattle.std.specs.Prelude.{◌&&◌, nat_le, nat_lt, is_some, bytes_eq}
 use Rattle.std.specs.List.{count_by}
 use Rattle.std.specs.Map.{values_of}
 use Rattle.std.proofs.lemmas.Bool.{leb-false}
-use Rattle.std.proofs.lemmas.Bool.Decides.{nat_tests}
 use Rattle.std.proofs.lemmas.Slice.Eq.{bytes_eq-Decides}
 use Rattle.hotel_nights.specs.declared.stay.Stay.{Stay}
 use Rattle.hotel_nights.specs.declared.stay.StayState.{StayState}
@@ -24,6 +23,7 @@ use Rattle.hotel_core.proofs.Grown.{may_follow}
 use Rattle.hotel_core.proofs.Numbering.{next_party_free}
 use Rattle.hotel_core.proofs.StayCounts.{count_inserted, count_changed, none_passes}
 use Rattle.hotel_core.proofs.StartRows.{rooms_of_start}
+use Rattle.hotel_core.proofs.StartRules.{le_from, lt_from}
 
 -- on no night are more stays of a kind than rooms
 abbrev pub RoomsSuffice : History → Type 0
@@ -31,12 +31,6 @@ RoomsSuffice h = (kind : List ℕ) (d : ℕ) → count_by (takes kind d) (values
 
 same_kind : (a b : List ℕ) → bytes_eq a b ≡ true → a ≡ b
 same_kind a b e = (bytes_eq-Decides a b).0 e
-
-le_from : (a b : ℕ) → nat_le a b ≡ true → a ≤ b
-le_from a b e = grind (arith, nat_tests)
-
-lt_from : (a b : ℕ) → nat_lt a b ≡ true → a < b
-lt_from a b e = grind (arith, nat_tests)
 
 booked_stands : (s : StayState) → is_booked_state s ≡ true → is_standing s ≡ true
 booked_stands state.Booked e = refl

@@ -1,5 +1,5 @@
 -- The notes of sound rows: the note of a room's count is the one of that place.
-use Rattle.std.proofs.Common.{ℕ, zero, suc, ◌≡◌, ◌<◌, ◌+◌, Bool, true, false, cond, Option, Some, None, List, [], ◌∷◌, drop, refl, ap, sym, ◌∙◌, arith}
+use Rattle.std.proofs.Common.{ℕ, zero, suc, ◌≡◌, ◌+◌, Bool, true, false, cond, Option, Some, None, List, [], ◌∷◌, drop, refl, ap, sym, ◌∙◌, arith}
 use Rattle.std.specs.Prelude.{◌==◌, ◌&&◌, is_some, nat_lt, length}
 use Rattle.std.specs.BTreeMap.{is_at}
 use Rattle.std.specs.List.{list_all}
@@ -16,9 +16,11 @@ use Rattle.hotel_core.specs.SoundCards.{counts_at, act_fits, note_fits}
 use Rattle.hotel_core.specs.Sound.{IsSound}
 use Rattle.hotel_core.proofs.Pairs.{pair_is}
 use Rattle.hotel_core.proofs.Tests.{eq_from, eq_self, and_true, not_both}
-use Rattle.hotel_core.proofs.StartRules.{each_found, some_of}
+use Rattle.hotel_core.proofs.RowTests.{found_passes}
+use Rattle.hotel_core.proofs.StartRules.{some_of}
 use Rattle.hotel_core.proofs.StartCodes.{room_is, has_no_row}
 use Rattle.hotel_core.proofs.StartLedger.{not_there}
+use Rattle.hotel_core.proofs.StartSplits.{past}
 
 -- the first of some notes
 abbrev pub first_note : List Note → Option Note
@@ -61,13 +63,6 @@ no_notes t r n (e ∷ es) a =
 pub nothing_noted_at_start : (t : Rows) → IsSound t → (r : ℕ) → is_room (start t) r ≡ false → notes (start t) r ≡ []
 nothing_noted_at_start t s r e = no_notes t r (not_there t r e) t.notes (kept_from t t.notes s.note_fits)
 
-later_is : (n k : ℕ) → n < k → (n == k) ≡ false
-later_is n k l = by (n == k) refl
-  where
-    by : (b : Bool) → (n == k) ≡ b → (n == k) ≡ false
-    by true e = let q : n ≡ k = eq_from n k e in absurd (omega arith)
-    by false e = e
-
 found_by : (b : Bool) (e : (ℕ × ℕ) × Note) (found : Option Note) (later : List Note) (n k : ℕ) → (b ≡ true → e.1.count ≡ e.0.1) → count_up n (counts_at (when b (λ notes. e.1 ∷ notes) later)) ≡ true
     → (count_up n (counts_at later) ≡ true → found ≡ first_note (drop k later))
     → ((j : ℕ) → k ≡ suc j → count_up (n + 1) (counts_at later) ≡ true → found ≡ first_note (drop j later))
@@ -83,7 +78,7 @@ found_by true e found later n (suc j) count up same next =
     let p = and_true (e.1.count == n) (count_up (n + 1) (counts_at later)) up in
     let here : e.1.count ≡ n = eq_from e.1.count n p.0 in
     let c : e.1.count ≡ e.0.1 = count refl in
-    ap (λ b. cond b (Some e.1) found) (later_is e.0.1 (n + suc j) (omega arith)) ∙ next j refl p.1
+    ap (λ b. cond b (Some e.1) found) (past e.0.1 (n + suc j) (omega arith)) ∙ next j refl p.1
 
 -- the note of a count, where the counts go up from n
 note_from : (t : Rows) (r n : ℕ) (es : List ((ℕ × ℕ) × Note)) (k : ℕ) → Kept t es → count_up n (counts_at (notes_at es r)) ≡ true → lookup (is_at (pair_cmp (r, n + k))) es ≡ first_note (drop k (notes_at es r))
@@ -103,7 +98,7 @@ note_kept_at_start t s r k =
     by : (b : Bool) → is_some (at_number t.rooms r) ≡ b → count_up 1 (counts_at (notes_at t.notes r)) ≡ true
     by true q =
         let row = some_of (at_number t.rooms r) q in
-        let a = each_found (λ (e : ℕ × RoomRow). count_up 1 (counts_at (notes_at t.notes e.1.room)) && (length (notes_at t.notes e.1.room) == e.1.notes)) t.rooms r row.0 s.note_counted row.1 in
+        let a = found_passes (λ (e : ℕ × RoomRow). count_up 1 (counts_at (notes_at t.notes e.1.room)) && (length (notes_at t.notes e.1.room) == e.1.notes)) t.rooms r row.0 s.note_counted row.1 in
         let b = and_true (count_up 1 (counts_at (notes_at t.notes row.0.room))) (length (notes_at t.notes row.0.room) == row.0.notes) a in
         ap (λ z. count_up 1 (counts_at (notes_at t.notes z))) (sym (room_is t s r row.0 row.1)) ∙ b.0
     by false q = ap (λ zs. count_up 1 (counts_at zs)) (no_notes t r (has_no_row t r q) t.notes (kept_from t t.notes s.note_fits))
