@@ -1,11 +1,9 @@
 -- Counts of stays that begin and end at a night.
-use Rattle.std.proofs.Common.{◌≡◌, ℕ, zero, suc, ◌+◌, ◌-◌, ◌<◌, ◌≤◌, ◌&&◌, not, cond, Bool, true, false, List, [], ◌∷◌, length, take, get_or, arith, refl, sym, ap, ◌∙◌, count_by, sum_by, nat_lt, nat_le, nat_eq, max, min, replicate, inl, inr, add-one, Some}
-use Rattle.std.proofs.lemmas.Bool.{cases_Bool}
+use Rattle.std.proofs.Common.{◌≡◌, ℕ, zero, suc, ◌+◌, ◌-◌, ◌<◌, ◌≤◌, ◌&&◌, not, Bool, true, false, List, [], ◌∷◌, length, take, get_or, arith, refl, sym, ap, ◌∙◌, count_by, nat_lt, nat_le, replicate}
 use Rattle.std.proofs.lemmas.Bool.Decides.{nat_tests}
-use Rattle.std.proofs.lemmas.List.Sums.{sum_by-cons, sum_by_more, count_by-le-length}
-use Rattle.std.proofs.lemmas.Grind.{common_steps}
+use Rattle.std.proofs.lemmas.List.Sums.{sum_by-cons, sum_by_more}
 use Rattle.hotel_nights.specs.declared.stay.Stay.{Stay}
-use Rattle.hotel_nights.specs.FullNight.{takes, is_of_kind, is_full, nights_taken}
+use Rattle.hotel_nights.specs.FullNight.{takes, is_full, nights_taken}
 use Rattle.hotel_nights.specs.Block.{was_taken, begins, ends, one_if}
 
 -- what pass `p` and what pass `q` alone are what pass `q` and what pass `p` alone

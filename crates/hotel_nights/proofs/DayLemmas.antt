@@ -1,10 +1,10 @@
 -- The order of dates in range, and the dates of day numbers.
-use Rattle.std.proofs.Common.{◌≡◌, ℕ, zero, suc, ◌+◌, ◌-◌, ◌*◌, ◌<◌, ◌≤◌, ◌⊎◌, inl, inr, refl, sym, ap, subst, ◌∙◌, arith, rules, ℤ, pos, ◌+ℤ◌, ◌-ℤ◌, ◌<ℤ◌, ◌≤ℤ◌, true, false, Bool, Some, None, Option, List, [], ◌∷◌, get_or, ◌&&◌, nat_le, nat_lt}
+use Rattle.std.proofs.Common.{◌≡◌, ℕ, zero, suc, ◌+◌, ◌-◌, ◌<◌, ◌≤◌, ◌⊎◌, inl, inr, refl, sym, ◌∙◌, arith, ℤ, pos, ◌+ℤ◌, true, false, Some, List, [], ◌∷◌, get_or, nat_le, nat_lt}
 use Rattle.std.proofs.lemmas.Bool.{cases_Bool}
 use Rattle.std.proofs.lemmas.Int.{by_lt_z}
 use Rattle.std.proofs.lemmas.Bool.Decides.{nat_tests}
 use Rattle.std.specs.Int.{IsInRange}
-use Rattle.jiff_core.specs.Calendar.{IsCivilDate, IsYear, days_in_month, days_in_year, day_count, days_from_civil, day_of_year, days_of_years, days_of_months}
+use Rattle.jiff_core.specs.Calendar.{IsCivilDate, days_in_month, day_count, days_from_civil, days_of_years, days_of_months}
 use Rattle.jiff_core.proofs.CalendarLemmas.{days_from_civil-day_count, day_count-day_of_year, day_count-later_year, day_count-lt_year, day_count-lt_month, day_count-day, day_count-next_month, day_count-next_year, day_count-last_of_year, days_in_month_bounds}
 use Rattle.jiff_core.proofs.SignedLemmas.{signed_arith}
 use Rattle.keycard_rules.specs.Numerals.{numeral, fixed_text}
@@ -93,13 +93,13 @@ next-on n a h = elim (cases_Bool (nat_lt a.day (days_in_month (pos a.year) a.mon
       let ge = ge-of _ _ last in
       let e = day_count-day (pos a.year) a.month a.day 1 h.day.0 (omega arith) in
       elim (cases_Bool (nat_lt a.month 12)) [
-      | inl more ↦
-          let lt = lt-of _ _ more in
-          let k = day_count-next_month (pos a.year) a.month h.month.0 in
-          rw (last, more) (record { year = h.year; month = (omega arith, omega arith); day = (omega arith, omega (arith, (days_in_month_bounds (pos a.year) (a.month + 1)).1)); count = omega (arith, h.count, h.day.1) })
-      | inr dec ↦
-          let ge12 = ge-of _ _ dec in
-          rw (last, dec) (december n a.year a.month a.day (omega (arith, h.month.1)) h.year ge h.day.1 h.count)
+        | inl more ↦
+            let lt = lt-of _ _ more in
+            let k = day_count-next_month (pos a.year) a.month h.month.0 in
+            rw (last, more) (record { year = h.year; month = (omega arith, omega arith); day = (omega arith, omega (arith, (days_in_month_bounds (pos a.year) (a.month + 1)).1)); count = omega (arith, h.count, h.day.1) })
+        | inr dec ↦
+            let ge12 = ge-of _ _ dec in
+            rw (last, dec) (december n a.year a.month a.day (omega (arith, h.month.1)) h.year ge h.day.1 h.count)
       ]
 ]
 
@@ -138,11 +138,11 @@ same_date y m d n le civil count =
     by_lt_z y (pos a.year)
     (λ lt. let k = day_count-lt_year y m d (pos a.year) a.month a.day civil on.day.0 lt in absurd (omega (arith, on.count)))
     (λ ge. by_lt_z (pos a.year) y
-        (λ lt. let k = day_count-lt_year (pos a.year) a.month a.day y m d civil2 civil.2.0 lt in absurd (omega (arith, on.count)))
-        (λ le2.
-            let e : y ≡ pos a.year = omega (arith, signed_arith) in
-            let same = same_in_year (pos a.year) m d a.month a.day (rw e at civil) civil2 (rw e at count ∙ sym on.count) in
-            (e, same.0, same.1)))
+    (λ lt. let k = day_count-lt_year (pos a.year) a.month a.day y m d civil2 civil.2.0 lt in absurd (omega (arith, on.count)))
+    (λ le2.
+    let e : y ≡ pos a.year = omega (arith, signed_arith) in
+    let same = same_in_year (pos a.year) m d a.month a.day (rw e at civil) civil2 (rw e at count ∙ sym on.count) in
+    (e, same.0, same.1)))
 
 -- what a text with these parts reads as
 pub read_day-is : (text : List ℕ) (y m d r : ℕ) → Some (ymd y m d) ≡ read_ymd text → 2000 ≤ y → y ≤ 2099 → IsInRange 1 12 m → IsInRange 1 (days_in_month (pos y) m) d

@@ -1,9 +1,8 @@
 -- A moment is read back from its text.
-use Rattle.std.proofs.Common.{◌≡◌, ℕ, ◌+◌, ◌*◌, ◌/◌, ◌%◌, ◌≤◌, ◌<◌, List, [], ◌∷◌, ◌++◌, get_or, arith, refl, Some, nat_le, true}
-use Rattle.std.proofs.lemmas.Bool.Decides.{nat_tests}
+use Rattle.std.proofs.Common.{◌≡◌, ℕ, ◌+◌, ◌*◌, ◌/◌, ◌%◌, ◌≤◌, List, [], ◌∷◌, get_or, arith, refl, Some, nat_le, true}
 use Rattle.keycard_rules.specs.Numerals.{numeral, fixed_text}
 use Rattle.keycard_rules.proofs.NumeralLemmas.{numeral-fixed_text}
-use Rattle.hotel_nights.specs.Days.{read_day, day_text}
+use Rattle.hotel_nights.specs.Days.{day_text}
 use Rattle.hotel_nights.specs.Moments.{read_time, read_moment, time_text, moment_text}
 use Rattle.hotel_nights.proofs.DayLemmas.{read_day-day_text, leb-of}
 

@@ -1,9 +1,13 @@
 -- Moments: a day and a second of it.
-use Rattle.std.specs.Prelude.{ℕ, ◌+◌, ◌*◌, ◌/◌, ◌%◌, ◌&&◌, ◌||◌, ◌==◌, List, [], ◌∷◌, ◌++◌, length, if◌then◌else◌, nat_le, Option, Some, None, slice_index, slice_range, option_and_then}
+use Rattle.std.specs.Prelude.{ℕ, ◌+◌, ◌*◌, ◌/◌, ◌%◌, ◌&&◌, ◌||◌, ◌==◌, List, ◌∷◌, ◌++◌, length, if◌then◌else◌, nat_le, Option, Some, None, slice_index, slice_range}
 use Rattle.keycard_rules.specs.Numerals.{numeral, fixed_text}
 use Rattle.hotel_nights.specs.Days.{read_day, day_text, ◌>>=◌}
 
--- the seconds that `HH:MM:SS` writes
+-- that second of the day, unless a day has fewer
+abbrev pub moment_of : ℕ → ℕ → Option (ℕ × ℕ)
+moment_of day second = if nat_le second 86399 then Some (day, second) else None
+
+-- the second of the day that `HH:MM:SS` writes: eight bytes, colons (byte 58), hours to 23, minutes and seconds to 59
 abbrev pub read_time : List ℕ → Option ℕ
 read_time text =
     if (length text == 8) && (slice_index text 2 == 58) && (slice_index text 5 == 58) then (do
@@ -13,7 +17,7 @@ read_time text =
       if nat_le h 23 && nat_le m 59 && nat_le s 59 then Some (h * 3600 + m * 60 + s) else None)
     else None
 
--- `YYYY-MM-DDTHH:MM:SS`, with `T` or a space
+-- the moment that `YYYY-MM-DDTHH:MM:SS` writes: 19 bytes, with `T` (byte 84) or a space (byte 32) between a day and a time
 abbrev pub read_moment : List ℕ → Option (ℕ × ℕ)
 read_moment text =
     if (length text == 19) && ((slice_index text 10 == 84) || (slice_index text 10 == 32)) then (do
@@ -22,8 +26,10 @@ read_moment text =
       Some (d, s))
     else None
 
+-- a second of the day as `HH:MM:SS`
 abbrev pub time_text : ℕ → List ℕ
 time_text s = fixed_text 10 2 (s / 3600) ++ (58 ∷ (fixed_text 10 2 (s / 60 % 60) ++ (58 ∷ fixed_text 10 2 (s % 60))))
 
+-- the text of a moment: its day, `T` and its time
 abbrev pub moment_text : ℕ × ℕ → List ℕ
 moment_text m = day_text m.0 ++ (84 ∷ time_text m.1)

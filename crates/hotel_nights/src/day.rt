@@ -1,15 +1,18 @@
-//! Days of the calendar.
+//! Days of the calendar, by their numbers.
 
-ghost use Rattle.std.specs.Prelude.{◌≡◌, ℕ, ◌≤◌, ◌<◌, ◌+◌, ◌^◌, Some, option_map};
-ghost use Rattle.std.specs.Option.{SomeIff};
-ghost use Rattle.hotel_nights.specs.Days.{read_ymd, ymd, read_day, day_text, date_of};
+ghost use Rattle.std.specs.Prelude.{◌≡◌, ℕ, ◌≤◌, ◌+◌, Some, option_map};
+ghost use Rattle.hotel_nights.specs.Days.{day_of_number, read_ymd, ymd, read_day, day_text};
 ghost use Rattle.keycard_rules.specs.Numerals.{fixed_text};
 
-use jiff_core::civil::Date;
-use std::marker::Model;
+use jiff::civil::Date;
+use jiff_core::civil::Date as PlainDate;
 use keycard_rules::{read_numeral, write_fixed};
+use std::marker::Model;
 
-/// A day from 2000-01-01 to 2099-12-31.
+/// A day from 2000-01-01 to 2099-12-31 of the Gregorian calendar.
+///
+/// Contracts see a day as its number: how many days after 2000-01-01 it is, 0 to 36,524.
+/// Days are ordered by it.
 #[derive(Clone, Copy, PartialEq, Eq, PartialOrd, Ord, Hash, Debug)]
 pub struct Day {
     number: u16,
@@ -25,9 +28,13 @@ impl Model for Day {
     ghost inverse = { λ n. record { number = n } };
 }
 
-/// The days from -9999-01-01 to 2000-01-01.
+/// The number of 2099-12-31, the last day.
+const LAST: u16 = 36_524;
+
+/// The days from -9999-01-01, the first date of `jiff`, to 2000-01-01.
 const BEFORE: u32 = 4_382_544;
 
+/// The year, the month and the day that `YYYY-MM-DD` writes, whether or not the calendar has them.
 fn read_parts(text: &[u8]) -> Option<(u64, u64, u64)>
     ensures { option_map (λ p. ymd p.0 p.1 p.2) result ≡ read_ymd text.now }
 {
@@ -40,6 +47,7 @@ fn read_parts(text: &[u8]) -> Option<(u64, u64, u64)>
     Some((year, month, day))
 }
 
+/// The last two decimal digits of the number, with leading zeros.
 pub(crate) fn two_digits(number: u8) -> [u8; 2]
     ensures { result ≡ fixed_text 10 2 number }
 {
@@ -48,6 +56,7 @@ pub(crate) fn two_digits(number: u8) -> [u8; 2]
     text
 }
 
+/// The last four decimal digits of the number, with leading zeros.
 fn four_digits(number: u16) -> [u8; 4]
     ensures { result ≡ fixed_text 10 4 number }
 {
@@ -57,24 +66,27 @@ fn four_digits(number: u16) -> [u8; 4]
 }
 
 impl Day {
+    /// The day that many days after 2000-01-01; `None` above 36,524, which is 2099-12-31.
     pub fn new(number: u16) -> Option<Day>
-        ensures { SomeIff result (number ≤ 36524) number }
+        ensures { result ≡ day_of_number number }
     {
-        if number <= 36524 {
-            Some(Day { number })
-        } else {
-            None
+        if number > LAST {
+            return None;
         }
+        Some(Day { number })
     }
 
+    /// The days from 2000-01-01 to this day, 0 to 36,524.
     pub fn number(&self) -> u16
         ensures same { result ≡ self.now }
-        ensures below { result ≤ 36524 }
+        ensures known { result ≤ 36524 }
     {
         self.number
     }
 
-    /// Reads `YYYY-MM-DD`.
+    /// Reads `YYYY-MM-DD`, ten bytes: a date that `jiff` takes, from 2000-01-01 to 2099-12-31.
+    ///
+    /// `None` for any other text, as for `2001-02-29`.
     pub fn read(text: &[u8]) -> Option<Day>
         ensures { result ≡ read_day text.now }
     {
@@ -86,25 +98,25 @@ impl Day {
             return None;
         };
         Some(Day {
-            number: (date.days_since_min() - BEFORE) as u16,
+            number: (date.to_plain().days_since_min() - BEFORE) as u16,
         })
     }
 
-    /// Prints `YYYY-MM-DD`.
+    /// Prints `YYYY-MM-DD`, which `read` takes back to this day.
     pub fn print(&self) -> [u8; 10]
         ensures text { result ≡ day_text self.now }
         ensures reads_back { read_day result ≡ Some self.now }
     {
-        let date = Date::from_days_since_min(BEFORE + u32::from(self.number));
+        let date = PlainDate::from_days_since_min(BEFORE + u32::from(self.number));
         let [a, b, c, d] = four_digits(date.year.unsigned_abs());
         let [e, f] = two_digits(date.month);
         let [g, h] = two_digits(date.day);
         [a, b, c, d, b'-', e, f, b'-', g, h]
     }
 
-    /// The day that many days later.
+    /// The day that many days later; `None` where that is after 2099-12-31.
     pub fn plus(&self, days: u16) -> Option<Day>
-        ensures { SomeIff result (self.now + days ≤ 36524) (self.now + days) }
+        ensures { result ≡ day_of_number (self.now + days) }
     {
         let number = self.number.checked_add(days)?;
         Day::new(number)

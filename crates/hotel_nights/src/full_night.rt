@@ -1,99 +1,21 @@
 //! The first full night.
 
-ghost use Rattle.std.specs.Prelude.{◌≡◌, ℕ, ◌+◌, ◌-◌, ◌<◌, ◌≤◌, ◌^◌, ◌&&◌, length, slice_index, Some, None, IfSome};
-ghost use Rattle.std.specs.Str.{bytes_eq};
-ghost use Rattle.std.specs.List.{count_by};
-ghost use Rattle.hotel_nights.specs.FullNight.{takes, is_full, first_day, is_standing, is_of_kind, IsFirst};
-ghost use Rattle.hotel_nights.specs.Block.{begins, ends, one_if};
+ghost use Rattle.std.specs.Prelude.{◌≡◌, ◌-◌};
+ghost use Rattle.hotel_nights.specs.FullNight.{is_full, first_day, IsFirst};
 
-use crate::stay::{Stay, StayState};
+use crate::block::{BLOCK, first_in_block};
 use crate::day::Day;
 use crate::kind::KindCode;
+use crate::stay::Stay;
 
-/// The most nights that are counted in one pass over the stays.
-const BLOCK: u16 = 90;
-
-/// For each night of a block, how many stays begin to take it, and how many end before it.
-#[derive(Clone, Copy)]
-struct Tally {
-    begins: [usize; 90],
-    ends: [usize; 90],
-}
-
-const fn is_standing(state: &StayState) -> bool
-    ensures { result ≡ is_standing state.now }
-{
-    match state {
-        StayState::Booked | StayState::InHouse(_) => true,
-        StayState::Done | StayState::Cancelled => false,
-    }
-}
-
-fn is_of_kind(stay: &Stay, kind: &KindCode) -> bool
-    ensures { result ≡ is_of_kind kind.now stay.now }
-{
-    is_standing(&stay.state) && stay.kind.as_bytes() == kind.as_bytes()
-}
-
-/// Counts the stay at its first night in the block and at the night after its last.
-fn add(tally: &mut Tally, stay: &Stay, kind: &KindCode, first: u16, after: u16)
-    requires order { first < after }
-    requires few { after ≤ first + 90 }
-    requires begins_fit { (j : ℕ) → slice_index tally.old.begins j < 2 ^ 63 }
-    requires ends_fit { (j : ℕ) → slice_index tally.old.ends j < 2 ^ 63 }
-    ensures begins { (j : ℕ) → slice_index tally.new.begins j ≡ slice_index tally.old.begins j + one_if (begins kind.now first after (first + j) stay.now) }
-    ensures ends { (j : ℕ) → slice_index tally.new.ends j ≡ slice_index tally.old.ends j + one_if (ends kind.now first after (first + j) stay.now) }
-{
-    if !is_of_kind(stay, kind) {
-        return;
-    }
-    let from = stay.arrive.number().max(first);
-    let to = stay.depart.number().min(after);
-    if from >= to {
-        return;
-    }
-    tally.begins[usize::from(from - first)] += 1;
-    if to < after {
-        tally.ends[usize::from(to - first)] += 1;
-    }
-}
-
-fn count_stays(stays: &[Stay], kind: &KindCode, first: u16, after: u16) -> Tally
-    requires order { first < after }
-    requires few { after ≤ first + 90 }
-    ensures begins { (j : ℕ) → slice_index result.begins j ≡ count_by (begins kind.now first after (first + j)) stays.now }
-    ensures ends { (j : ℕ) → slice_index result.ends j ≡ count_by (ends kind.now first after (first + j)) stays.now }
-{
-    let mut tally = Tally {
-        begins: [0; 90],
-        ends: [0; 90],
-    };
-    for stay in stays {
-        add(&mut tally, stay, kind, first, after);
-    }
-    tally
-}
-
-/// The first full night of a block.
-fn first_in_block(stays: &[Stay], kind: &KindCode, rooms: u32, first: u16, after: u16) -> Option<u16>
-    requires order { first < after }
-    requires few { after ≤ first + 90 }
-    ensures { result ≡ first_day (is_full stays.now kind.now rooms) first (after - first) }
-{
-    let tally = count_stays(stays, kind, first, after);
-    let mut taken = 0;
-    for night in first..after {
-        let place = usize::from(night - first);
-        taken = taken - tally.ends[place] + tally.begins[place];
-        if taken >= rooms as usize {
-            return Some(night);
-        }
-    }
-    None
-}
-
-/// The first night of the range that at least `rooms` stays of the kind take.
-fn first_of_blocks(stays: &[Stay], kind: &KindCode, rooms: u32, arrive: Day, depart: Day) -> Option<Day>
+/// The first full night, found block by block.
+fn first_of_blocks(
+    stays: &[Stay],
+    kind: &KindCode,
+    rooms: u32,
+    arrive: Day,
+    depart: Day,
+) -> Option<Day>
     ensures { result ≡ first_day (is_full stays.now kind.now rooms) arrive (depart - arrive) }
 {
     let last = depart.number();
@@ -108,10 +30,22 @@ fn first_of_blocks(stays: &[Stay], kind: &KindCode, rooms: u32, arrive: Day, dep
     None
 }
 
-/// The first night of the range that at least `rooms` stays of the kind take.
-pub fn first_full_night(stays: &[Stay], kind: &KindCode, rooms: u32, arrive: Day, depart: Day) -> Option<Day>
+/// The first full night `d` with `arrive <= d < depart`: one that at least `rooms` booked or in-house stays of the kind take.
+///
+/// `None` where no night of these is full, and where `depart` isn't after `arrive`. With no rooms each night is full. It takes no
+/// memory, and goes over the stays once for each 90 nights.
+pub fn first_full_night(
+    stays: &[Stay],
+    kind: &KindCode,
+    rooms: u32,
+    arrive: Day,
+    depart: Day,
+) -> Option<Day>
+    // What is computed, for definitions to cite.
     ensures value { result ≡ first_day (is_full stays.now kind.now rooms) arrive (depart - arrive) }
-    ensures first { IsFirst (is_full stays.now kind.now rooms) arrive (depart - arrive) result }
+
+    // What that is: a full night after nights that aren't, or none is full.
+    ensures first { IsFirst (is_full stays.now kind.now rooms) arrive depart result }
 {
     first_of_blocks(stays, kind, rooms, arrive, depart)
 }

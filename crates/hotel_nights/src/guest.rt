@@ -3,21 +3,29 @@
 ghost use Rattle.std.specs.Prelude.{◌≡◌, ◌↔◌, ℕ, List, true, false, IfOk, string_bytes, not};
 ghost use Rattle.std.specs.List.{list_all};
 ghost use Rattle.std.specs.Char.{is_control};
-ghost use Rattle.std.specs.Str.{chars};
+ghost use Rattle.std.specs.Cmp.Rules.{comparing};
+ghost use Rattle.std.specs.Str.{chars, bytes_eq};
+ghost use Rattle.std.proofs.Common.{rules};
 ghost use Rattle.hotel_nights.specs.Guests.{is_guest};
 
-use std::alloc::{AllocError, Global};
+use std::alloc::Global;
 use std::marker::Model;
 
 /// Why a text gives no guest.
 #[derive(Clone, Copy, PartialEq, Eq, Debug)]
 pub enum GuestFault {
+    /// The text is no name of a guest.
     Unread,
+    /// The memory for a copy of the text was refused.
     Memory,
 }
 
-/// The name of a guest.
-#[derive(Clone, Drop)]
+/// The name of a guest: 1 to 60 bytes of UTF-8 with no control character (U+0000 to U+001F and U+007F to U+009F) and no space
+/// (U+0020) first or last.
+///
+/// Contracts see a guest as the bytes of the name. A copy takes memory, so `clone` answers a `Result`; a copy that was made is
+/// the same guest.
+#[derive(Clone, Debug, Drop)]
 pub struct Guest {
     text: String,
 }
@@ -33,17 +41,22 @@ impl Model for Guest {
     ghost invariant = { λ g. is_guest (string_bytes g.text) ≡ true };
 }
 
+/// The most bytes of a name.
+const MOST_BYTES: usize = 60;
+
+/// Whether no character of the text is a control character.
 fn has_no_control(text: &str) -> bool
     ensures { result ≡ list_all (λ c. not (is_control c)) (chars text.now) }
 {
     text.chars().all(|c| !c.is_control())
 }
 
+/// Whether the text is the name of a guest.
 fn is_guest(text: &str) -> bool
     ensures { result ≡ is_guest text.now }
 {
     let bytes = text.as_bytes();
-    if bytes.is_empty() || bytes.len() > 60 {
+    if bytes.is_empty() || bytes.len() > MOST_BYTES {
         return false;
     }
     if bytes[0] == b' ' || bytes[bytes.len() - 1] == b' ' {
@@ -53,7 +66,9 @@ fn is_guest(text: &str) -> bool
 }
 
 impl Guest {
-    /// Reads 1 to 60 bytes with no control character and no space first or last.
+    /// The guest of this name, whose text is copied.
+    ///
+    /// `Unread` where the text is no name of a guest; else `Memory` where the memory for the copy was refused.
     pub fn read(alloc: Global, text: &str) -> Result<Guest, GuestFault>
         ensures same { IfOk result (λ g. g ≡ text.now) }
         ensures unread { (result ≡ Err GuestFault.Unread) ↔ (is_guest text.now ≡ false) }
@@ -67,24 +82,25 @@ impl Guest {
         Ok(Guest { text })
     }
 
+    /// The name.
     pub fn text(&self) -> &str
         ensures same { result.now ≡ self.now }
         ensures known { is_guest result.now ≡ true }
     {
         self.text.as_str()
     }
+}
 
-    /// The same guest again.
-    pub fn copy(&self, alloc: Global) -> Result<Guest, AllocError>
-        ensures { IfOk result (λ g. g ≡ self.now) }
-    {
-        let text = String::from_str(alloc, self.text.as_str())?;
-        Ok(Guest { text })
+impl PartialEq for Guest {
+    ghost eq = { bytes_eq };
+
+    ghost laws = { Prim.search (comparing, rules) };
+
+    fn eq(&self, other: &Guest) -> bool {
+        self.text() == other.text()
     }
 }
 
-pub fn twice(guest: &Guest) -> Result<Guest, AllocError>
-    ensures { IfOk result (λ g. g ≡ guest.now) }
-{
-    guest.clone()
+impl Eq for Guest {
+    ghost laws = { Prim.search (comparing, rules) };
 }

@@ -1,14 +1,17 @@
 //! Moments: a day and a second of it.
 
-ghost use Rattle.std.specs.Prelude.{◌≡◌, ℕ, ◌≤◌, ◌<◌, Some};
-ghost use Rattle.hotel_nights.specs.Moments.{read_moment, read_time, moment_text, time_text};
+ghost use Rattle.std.specs.Prelude.{◌≡◌, ℕ, ◌≤◌, Some};
+ghost use Rattle.hotel_nights.specs.Moments.{moment_of, read_moment, read_time, moment_text, time_text};
 
 use crate::day::{Day, two_digits};
-use std::marker::Model;
 use keycard_rules::read_numeral;
+use std::marker::Model;
 
-/// A second of a day.
-#[derive(Clone, Copy, PartialEq, Eq, PartialOrd, Ord, Debug)]
+/// A second of a day, in no time zone: each day has 86,400.
+///
+/// Contracts see a moment as the pair of its day's number and its second, 0 to 86,399.
+/// Moments are ordered by the day, and on one day by the second.
+#[derive(Clone, Copy, PartialEq, Eq, PartialOrd, Ord, Hash, Debug)]
 pub struct Moment {
     day: Day,
     second: u32,
@@ -24,6 +27,10 @@ impl Model for Moment {
     ghost inverse = { λ v. record { day = v.0; second = v.1 } };
 }
 
+/// The last second of a day, 23:59:59.
+const LAST_SECOND: u32 = 86_399;
+
+/// The second of the day that `HH:MM:SS` writes.
 fn read_time(text: &[u8]) -> Option<u32>
     ensures { result ≡ read_time text.now }
 {
@@ -39,6 +46,7 @@ fn read_time(text: &[u8]) -> Option<u32>
     Some((hour * 3600 + minute * 60 + second) as u32)
 }
 
+/// The second of a day as `HH:MM:SS`.
 fn print_time(second: u32) -> [u8; 8]
     requires { second ≤ 86399 }
     ensures { result ≡ time_text second }
@@ -50,20 +58,35 @@ fn print_time(second: u32) -> [u8; 8]
 }
 
 impl Moment {
+    /// That second of the day; `None` above 86,399.
+    pub fn new(day: Day, second: u32) -> Option<Moment>
+        ensures { result ≡ moment_of day second }
+    {
+        if second > LAST_SECOND {
+            return None;
+        }
+        Some(Moment { day, second })
+    }
+
+    /// The day.
     pub fn day(&self) -> Day
         ensures { result ≡ self.now.0 }
     {
         self.day
     }
 
+    /// The second of the day, 0 to 86,399.
     pub fn second(&self) -> u32
         ensures same { result ≡ self.now.1 }
-        ensures below { result ≤ 86399 }
+        ensures known { result ≤ 86399 }
     {
         self.second
     }
 
-    /// Reads `YYYY-MM-DDTHH:MM:SS`, where a space may stand for the `T`.
+    /// Reads `YYYY-MM-DDTHH:MM:SS`, 19 bytes, where one space may stand for the `T`: a date as `Day::read` takes it, hours 00 to
+    /// 23, minutes and seconds 00 to 59.
+    ///
+    /// `None` for any other text, as for the second 60 of a leap second.
     pub fn read(text: &[u8]) -> Option<Moment>
         ensures { result ≡ read_moment text.now }
     {
@@ -75,15 +98,13 @@ impl Moment {
         Some(Moment { day, second })
     }
 
-    /// Prints `YYYY-MM-DDTHH:MM:SS`.
+    /// Prints `YYYY-MM-DDTHH:MM:SS`, which `read` takes back to this moment.
     pub fn print(&self) -> [u8; 19]
         ensures text { result ≡ moment_text self.now }
         ensures reads_back { read_moment result ≡ Some self.now }
     {
         let [a, b, c, d, e, f, g, h, i, j] = self.day.print();
         let [k, l, m, n, o, p, q, r] = print_time(self.second);
-        [
-            a, b, c, d, e, f, g, h, i, j, b'T', k, l, m, n, o, p, q, r,
-        ]
+        [a, b, c, d, e, f, g, h, i, j, b'T', k, l, m, n, o, p, q, r]
     }
 }

@@ -5,7 +5,7 @@ use Rattle.hotel_core.specs.declared.reply.Reply.TheVariants as reply
 use Rattle.hotel_core.specs.declared.change.Change.TheVariants as change
 use Rattle.hotel_core.specs.Outcome.{accepted}
 use Rattle.hotel_core.specs.OnRows.{outcome_on}
-use Rattle.hotel_core.proofs.Parts.{begun, then_found, stopped, refuses, ends}
+use Rattle.hotel_core.proofs.Parts.{begun, then_found, stopped, refuses, ends, let_through}
 use Rattle.hotel_core.proofs.calendar.next_day.Goals as goal
 
 pub returns-in_err-day-clause-steps : goal.returns-in_err-day-clause-steps
@@ -23,4 +23,4 @@ pub returns-clause-steps : goal.returns-clause-steps
 unfolding outcome_on
 returns-clause-steps g c = λ source.
     let early : nat_lt c.in_ok-day.day 36524 ≡ true = grind (arith, nat_tests) in
-    ends (then_found begun c.in_ok-day.ensures.finds) (c.make.ensures.steps source) (λ k. rw (k.1, early) (ap (λ (n : ℕ). accepted (reply.DayIs n) (change.DayTo n)) (sym c.in-Some.ensures.1)))
+    ends (then_found begun c.in_ok-day.ensures.finds) (c.make.ensures.steps source) (λ k. rw (k.1, early) (ap (λ (n : ℕ). accepted (reply.DayIs n) (change.DayTo n)) (sym (let_through _ _ _ c.in-Some.ensures).1)))

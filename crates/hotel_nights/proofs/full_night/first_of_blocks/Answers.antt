@@ -1,7 +1,6 @@
-use Rattle.std.proofs.Common.{◌≡◌, ℕ, ◌+◌, ◌-◌, ◌<◌, ◌≤◌, arith, sym, ◌∙◌, rules, length, get_or, count_by, true, false, refl, Some, None}
-use Rattle.std.proofs.lemmas.Bool.Decides.{nat_tests}
-use Rattle.hotel_nights.specs.FullNight.{takes, is_full, first_day}
-use Rattle.hotel_nights.proofs.FirstDay.{block-some, block-none, first_day-lt, first_day-end, some-is}
+use Rattle.std.proofs.Common.{◌≡◌, ◌-◌, arith, sym, ◌∙◌, Some, None}
+use Rattle.hotel_nights.specs.FullNight.{is_full, first_day}
+use Rattle.hotel_nights.proofs.FirstDay.{block-some, block-none, first_day-lt, first_day-end, day_of_number-le}
 use Rattle.hotel_nights.proofs.full_night.first_of_blocks.Goals as goal
 
 pub returns-in-Some : goal.returns-in-Some
@@ -9,7 +8,7 @@ returns-in-Some c =
     let test = is_full c.args.stays.now c.args.kind.now c.args.rooms in
     let here : Some c.in-Some.night ≡ first_day test c.loop-first.first (c.min-after.result - c.loop-first.first) = sym c.in-Some.is ∙ c.first_in_block.ensures in
     let lt = first_day-lt test c.loop-first.first c.min-after.result c.in-Some.night (omega arith) here in
-    let new : c.new.result ≡ Some c.in-Some.night = some-is c.new.result c.in-Some.night c.new.ensures (omega arith) in
+    let new : c.new.result ≡ Some c.in-Some.night = c.new.ensures ∙ day_of_number-le c.in-Some.night (omega arith) in
     new ∙ (block-some test c.loop-first.first c.min-after.result c.number-last.result c.in-Some.night (omega arith) (omega arith) here ∙ (sym c.loop-first.invariant.rest))
 
 pub loop-first-preserved : goal.loop-first-preserved
@@ -18,7 +17,7 @@ loop-first-preserved c =
     let here : None ≡ first_day test c.loop-first.first (c.min-after.result - c.loop-first.first) = sym c.in_default.is ∙ c.first_in_block.ensures in
     record {
       small = omega arith;
-      rest = c.loop-first.invariant.rest ∙ block-none test c.loop-first.first c.min-after.result c.number-last.result (omega arith) (omega arith) here
+      rest = c.loop-first.invariant.rest ∙ block-none test c.loop-first.first c.min-after.result c.number-last.result (omega arith) (omega arith) here;
     }
 
 pub returns : goal.returns

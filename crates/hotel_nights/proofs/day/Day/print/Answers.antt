@@ -1,9 +1,7 @@
-use Rattle.std.proofs.Common.{rules, arith, ◌≡◌, ℕ, ◌+◌, pos, sym, ◌∙◌, ap, ap₂, refl, subst, List, FitsSigned, w16, Some}
+use Rattle.std.proofs.Common.{arith, ◌≡◌, ℕ, sym, subst, List, FitsSigned, w16, Some}
 use Rattle.jiff_core.proofs.SignedLemmas.{signed_arith}
 use Rattle.std.proofs.lemmas.Int.{to_z-of_z}
-use Rattle.jiff_core.specs.Calendar.{IsCivilDate, day_count}
-use Rattle.keycard_rules.specs.Numerals.{fixed_text}
-use Rattle.hotel_nights.specs.Days.{day_text, read_day}
+use Rattle.hotel_nights.specs.Days.{read_day}
 use Rattle.hotel_nights.proofs.DayLemmas.{count_of, same_date, read_day-day_text, day_text-is}
 use Rattle.hotel_nights.proofs.day.Day.print.Goals as goal
 

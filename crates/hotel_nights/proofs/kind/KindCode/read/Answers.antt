@@ -1,4 +1,4 @@
-use Rattle.std.proofs.Common.{◌≡◌, arith, rules, true, List, ℕ, subst, sym, replicate, drop, length, ◌++◌}
+use Rattle.std.proofs.Common.{◌≡◌, arith, true, List, ℕ, subst, sym, replicate, drop, length, ◌++◌}
 use Rattle.std.proofs.lemmas.Bool.Decides.{nat_tests}
 use Rattle.hotel_nights.specs.Kinds.{is_kind}
 use Rattle.hotel_nights.proofs.KindLemmas.{padded, IsPadded}

@@ -1,5 +1,5 @@
-use Rattle.std.proofs.Common.{◌≡◌, ℕ, List, Some, sym, subst, arith}
-use Rattle.hotel_nights.specs.Moments.{read_moment, moment_text}
+use Rattle.std.proofs.Common.{◌≡◌, ℕ, List, Some, sym, subst}
+use Rattle.hotel_nights.specs.Moments.{read_moment}
 use Rattle.hotel_nights.proofs.MomentLemmas.{moment_text-is, read_moment-text}
 use Rattle.hotel_nights.proofs.moment.Moment.print.Goals as goal
 

@@ -1,0 +1,6 @@
+//! The program.
+#![tactic(auto)]
+
+mod scenes;
+
+pub use scenes::scenarios;
