@@ -1,5 +1,5 @@
 -- The parts of a step, one after the other.
-use Rattle.std.proofs.Common.{ℕ, ◌≡◌, ◌≤◌, ◌<◌, ◌^◌, ◌-◌, ◌⊎◌, Bool, true, false, Option, Some, None, Result, Ok, Err, refl, ap, sym, ◌∙◌, arith, subst, IsErrAnd, inl, inr, is_some, List, [], ◌∷◌, ◌++◌, ◌+◌, nat_lt, cond, if◌then◌else◌}
+use Rattle.std.proofs.Common.{ℕ, ◌≡◌, ◌≤◌, ◌<◌, ◌^◌, ◌-◌, ◌⊎◌, Bool, true, false, Option, Some, None, Result, Ok, Err, refl, ap, sym, ◌∙◌, arith, subst, IsErrAnd, inl, inr, is_some, List, [], ◌∷◌, ◌++◌, ◌+◌, nat_lt, cond}
 use Rattle.std.proofs.lemmas.Bool.{false≢true}
 use Rattle.rand_core.specs.Stream.{Stream}
 use Rattle.keycard_rules.specs.Draw.{past, MovedAtMost}
@@ -15,7 +15,7 @@ use Rattle.hotel_core.specs.declared.reply.Refusal.TheVariants.{Store, Memory}
 use Rattle.hotel_core.specs.Rows.{Rows}
 use Rattle.hotel_core.specs.Lookups.{number_after}
 use Rattle.hotel_core.specs.Run.{is_failed}
-use Rattle.hotel_core.specs.Outcome.{Outcome, refused, said, accepted, unless}
+use Rattle.hotel_core.specs.Outcome.{Outcome, refused, accepted, unless}
 use Rattle.hotel_core.specs.Change.{made}
 use Rattle.hotel_core.specs.StepOnRows.{GoesIf, Goes, made_by, AreWhole, MayLack, StepsAs}
 use Rattle.hotel_core.specs.Finds.{Finds, Found, AnyRows, has_failed, reply_of, refusal_of, first_refusal}
@@ -222,38 +222,3 @@ lacks {rows = rows} {start = start} {now = now} {outcome = outcome} {source = so
   fault = λ clean w e. inr refl;
   no_store = λ clean w n e. cc;
 }
-
--- an answer by which nothing happens
-pub says : {S : Type 0} {is_clean : S → Type 0} {rows : S → Rows} {failures : S → ℕ} {facts : Rows → Type 0} {never_fails : Type 0} {start now : S} {copies : Bool} {outcome : Rows → Outcome Change} {source : Stream} (answer : Reply)
-    → is_failed answer ≡ false → SoFar is_clean rows failures facts start now
-    → (facts (rows start) → outcome (rows start) ≡ said answer)
-    → StepsAs is_clean rows failures never_fails copies outcome start now source source answer
-says {rows = rows} {start = start} {now = now} {outcome = outcome} {source = source} answer k s h = record {
-  goes = λ clean. said_at (is_failed answer) (outcome (rows start)) (rows start) (rows now) source answer k (h (s.facts_hold clean)) (s.same clean);
-  was_clean = s.was_clean;
-  counted = s.counted;
-  fault = λ clean w e. absurd (false≢true (sym k ∙ e));
-  no_store = λ clean w n e. absurd (false≢true (sym k ∙ ap is_failed e));
-}
-  where
-    said_at : (b : Bool) (o : Outcome Change) (rs later : Rows) (source : Stream) (answer : Reply) → b ≡ false → o ≡ said answer → later ≡ rs → GoesIf b o rs source answer later source
-    said_at true o rs later source answer k e same = absurd (false≢true (sym k))
-    said_at false o rs later source answer k e same =
-        (sym (ap (λ x. x.reply) e), same ∙ ap (λ x. made_by x.happens rs) (sym e), sym (past-zero source) ∙ ap (λ x. past x.examined source) (sym e))
-
--- whole rows don't come to this
-pub unsound : {S : Type 0} {is_clean : S → Type 0} {rows : S → Rows} {failures : S → ℕ} {facts : Rows → Type 0} {never_fails : Type 0} {start now : S} {copies : Bool} {outcome : Rows → Outcome Change} {source : Stream}
-    → SoFar is_clean rows failures facts start now → (AreWhole (rows start) → facts (rows start) → ⊥)
-    → StepsAs is_clean rows failures never_fails copies outcome start now source source (Refused Store)
-unsound {rows = rows} {start = start} {now = now} {outcome = outcome} {source = source} s h = record {
-  goes = λ clean. goes_at true (outcome (rows start)) (rows start) (rows now) source Store (λ k. absurd (false≢true (sym k))) (s.same clean);
-  was_clean = s.was_clean;
-  counted = s.counted;
-  fault = λ clean w e. absurd (h w (s.facts_hold clean));
-  no_store = λ clean w n e. h w (s.facts_hold clean);
-}
-
--- what a test let through
-pub let_through : (b : Bool) (n m : ℕ) → Some m ≡ (if b then Some n else None) → (b ≡ true) × (m ≡ n)
-let_through true n m e = (refl, only e)
-let_through false n m e = cc

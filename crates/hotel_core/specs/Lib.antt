@@ -27,10 +27,10 @@ pub mod StepOnRows
 pub mod Lift
 pub mod Reads
 pub mod Finds
-pub mod Stepping
 pub mod Issuing
 pub mod Noting
 pub mod Taking
+pub mod Stepping
 pub mod Headline
 pub mod Lists
 pub mod Follow

@@ -16,7 +16,7 @@ use crate::books::Books;
 use crate::calendar::{begin, next_day};
 use crate::command::Command;
 use crate::inventory::{add_kind, add_room};
-use crate::notes::take;
+use crate::noting::take_note;
 use crate::reply::{Refusal, Reply};
 use crate::stays::{check_in, check_out, spare, transfer};
 use keycard_rules::LockNote;
@@ -57,7 +57,7 @@ fn carry_out<B: Books, R: Rng>(
         Command::Transfer { party, room } => transfer(books, source, *party, *room),
         Command::CheckOut(party) => check_out(books, *party),
         Command::NextDay => next_day(books),
-        Command::Reported(note) => take(books, note),
+        Command::Reported(note) => take_note(books, note),
     }
 }
 
@@ -146,7 +146,7 @@ pub fn report<B: Books>(books: &mut B, note: &LockNote) -> Reply
         books.old books.new source source result }
 {
     known_note(note);
-    let outcome = take(books, note);
+    let outcome = take_note(books, note);
     let reply = reply_of(outcome);
     known_reply(&reply);
     reply

@@ -5,10 +5,11 @@ use Rattle.hotel_core.specs.declared.reply.Reply.TheVariants as reply
 use Rattle.hotel_core.specs.declared.change.Change.TheVariants as change
 use Rattle.hotel_core.specs.OnRows.{outcome_on}
 use Rattle.hotel_core.specs.Issuing.{bars_to_check_in, bars_to_transfer}
+use Rattle.hotel_core.proofs.DayNumbers.{is_day, no_day}
 use Rattle.hotel_core.proofs.Parts.{begun, then_found, at_now, stopped, halted, refuses, barred, ends, only, none, bars_refuse, bars_pass}
 use Rattle.std.specs.Prelude.{nat_lt, nat_le, ◌+◌, ◌-◌}
 use Rattle.std.proofs.lemmas.Bool.Decides.{nat_tests}
-use Rattle.hotel_core.proofs.Parts.{number_is, lacks, let_through}
+use Rattle.hotel_core.proofs.Parts.{number_is, lacks}
 use Rattle.hotel_nights.specs.declared.stay.StayState.TheVariants as state
 use Rattle.hotel_core.specs.declared.change.Change.{Change}
 use Rattle.hotel_core.specs.Outcome.{Outcome, accepted}
@@ -43,7 +44,8 @@ pub returns-in_default : goal.returns-in_default
 unfolding outcome_on
 returns-in_default g c = λ source.
     let past : nat_lt c.args.arrive c.in_ok-today.today ≡ false = grind (arith, nat_tests) in
-    let late : nat_lt 36524 (c.args.arrive + c.args.nights) ≡ true = grind (arith, nat_tests) in
+    let beyond = no_day (c.args.arrive + c.from.result) c.in_default.ensures in
+    let late : nat_lt 36524 (c.args.arrive + c.args.nights) ≡ true = grind (arith, nat_tests, beyond) in
     refuses refusal.PastEnd refl (then_found (then_found begun c.in_ok-today.ensures.finds) c.in_ok-is_kind.ensures) (λ k. rw (k.0.1, only k.1, c.if-not-branch.false, past, late) refl)
 
 pub returns-in_err-night : goal.returns-in_err-night
@@ -55,16 +57,18 @@ pub returns-in-Some-2 : goal.returns-in-Some-2
 unfolding outcome_on
 returns-in-Some-2 g c = λ source.
     let past : nat_lt c.args.arrive c.in_ok-today.today ≡ false = grind (arith, nat_tests) in
-    let late : nat_lt 36524 (c.args.arrive + c.args.nights) ≡ false = grind (arith, nat_tests) in
-    let span : c.in-Some.depart - c.args.arrive ≡ c.args.nights = let d = (let_through _ _ _ c.in-Some.ensures).1 in omega arith in
+    let leaving = is_day (c.args.arrive + c.from.result) c.in-Some.depart c.in-Some.ensures in
+    let late : nat_lt 36524 (c.args.arrive + c.args.nights) ≡ false = grind (arith, nat_tests, leaving.1) in
+    let span : c.in-Some.depart - c.args.arrive ≡ c.args.nights = omega (arith, leaving.0) in
     refuses (refusal.KindFull c.in-Some-2.night) refl (then_found (then_found (then_found begun c.in_ok-today.ensures.finds) c.in_ok-is_kind.ensures) c.in_ok-night.ensures) (λ k. let full = rw span at (only k.1) in rw (k.0.0.1, only k.0.1, c.if-not-branch.false, past, late, full, c.in-Some-2.is) refl)
 
 pub returns-in_err-party : goal.returns-in_err-party
 unfolding outcome_on
 returns-in_err-party g c = λ source.
     let past : nat_lt c.args.arrive c.in_ok-today.today ≡ false = grind (arith, nat_tests) in
-    let late : nat_lt 36524 (c.args.arrive + c.args.nights) ≡ false = grind (arith, nat_tests) in
-    let span : c.in-Some.depart - c.args.arrive ≡ c.args.nights = let d = (let_through _ _ _ c.in-Some.ensures).1 in omega arith in
+    let leaving = is_day (c.args.arrive + c.from.result) c.in-Some.depart c.in-Some.ensures in
+    let late : nat_lt 36524 (c.args.arrive + c.args.nights) ≡ false = grind (arith, nat_tests, leaving.1) in
+    let span : c.in-Some.depart - c.args.arrive ≡ c.args.nights = omega (arith, leaving.0) in
     let free : c.in_ok-night.field-0 ≡ None = cc in
     stopped c.from_residual-in_err-party.result c.from_residual-in_err-party.ensures.1 (then_found (then_found (then_found begun c.in_ok-today.ensures.finds) c.in_ok-is_kind.ensures) c.in_ok-night.ensures) c.in_err-party.ensures (λ k e. let full = rw span at (only k.1) in rw (k.0.0.1, only k.0.1, c.if-not-branch.false, past, late, full, free, e) refl)
 
@@ -81,9 +85,10 @@ pub returns : goal.returns
 unfolding outcome_on
 returns g c = λ source.
     let past : nat_lt c.args.arrive c.in_ok-today.today ≡ false = grind (arith, nat_tests) in
-    let late : nat_lt 36524 (c.args.arrive + c.args.nights) ≡ false = grind (arith, nat_tests) in
-    let span : c.in-Some.depart - c.args.arrive ≡ c.args.nights = let d = (let_through _ _ _ c.in-Some.ensures).1 in omega arith in
+    let leaving = is_day (c.args.arrive + c.from.result) c.in-Some.depart c.in-Some.ensures in
+    let late : nat_lt 36524 (c.args.arrive + c.args.nights) ≡ false = grind (arith, nat_tests, leaving.1) in
+    let span : c.in-Some.depart - c.args.arrive ≡ c.args.nights = omega (arith, leaving.0) in
     let free : c.in_ok-night.field-0 ≡ None = cc in
-    let last : c.in-Some.depart ≡ c.args.arrive + c.args.nights = let d = (let_through _ _ _ c.in-Some.ensures).1 in omega arith in
+    let last : c.in-Some.depart ≡ c.args.arrive + c.args.nights = omega (arith, leaving.0) in
     ends (then_found (then_found (then_found (then_found begun c.in_ok-today.ensures.finds) c.in_ok-is_kind.ensures) c.in_ok-night.ensures) c.in_ok-party.ensures) (c.make.ensures.steps source) (λ k. let full = rw span at (only k.0.1) in rw (k.0.0.0.1, only k.0.0.1, c.if-not-branch.false, past, late, full, free, k.1, number_is _ _ k.1) (ap (λ (d : ℕ). booked_as c.in_ok-party.party c.args.guest.now c.args.kind.now c.args.arrive d) (sym last)
     ∙ ap (λ (g : List ℕ). booked_as c.in_ok-party.party g c.args.kind.now c.args.arrive c.in-Some.depart) (sym c.in-Ok.ensures)))

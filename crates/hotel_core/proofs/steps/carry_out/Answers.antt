@@ -30,4 +30,4 @@ returns-in-NextDay-clause-steps g c =
 
 pub returns-in-Reported-clause-steps : goal.returns-in-Reported-clause-steps
 returns-in-Reported-clause-steps g c =
-    rw c.in-Reported.is (c.take.ensures (g.R.Rng.stream c.args.source.now))
+    rw c.in-Reported.is (c.take_note.ensures (g.R.Rng.stream c.args.source.now))
