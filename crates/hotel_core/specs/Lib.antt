@@ -29,7 +29,6 @@ pub mod Reads
 pub mod Finds
 pub mod Issuing
 pub mod Noting
-pub mod Taking
 pub mod Stepping
 pub mod Headline
 pub mod Lists
