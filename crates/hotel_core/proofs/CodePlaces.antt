@@ -1,141 +1,107 @@
--- Codes by their places, when a code is added or taken out.
-use Rattle.std.proofs.Common.{ℕ, ◌≡◌, Bool, true, false, cond, Option, Some, None, List, [], ◌∷◌, refl, ap, sym, ◌∙◌, subst}
-use Rattle.std.specs.Prelude.{◌==◌, ◌&&◌}
-use Rattle.std.specs.Ordering.{nat_cmp, is_eq, match_ordering}
-use Rattle.std.specs.declared.cmp.Ordering.{Ordering}
-use Rattle.std.specs.declared.cmp.Ordering.TheVariants.{Less, Equal, Greater}
-use Rattle.std.specs.BTreeMap.{is_at, insert_entry}
-use Rattle.std.specs.Map.{lookup, remove_entry}
+-- Each code stands at one place of one room.
+use Rattle.std.proofs.Common.{ℕ, ◌≡◌, Bool, true, false, Option, Some, None, List, [], ◌∷◌, ◌++◌, length, inl, inr, refl, ap, sym, ◌∙◌, append_assoc}
+use Rattle.std.specs.Prelude.{◌==◌, not}
+use Rattle.std.specs.Ordering.{nat_cmp}
+use Rattle.std.specs.BTreeMap.{insert_entry}
 use Rattle.hotel_core.specs.declared.rows.CodeRow.{CodeRow}
-use Rattle.hotel_core.specs.Words.{pair_cmp}
+use Rattle.hotel_core.specs.Words.{when, and_last}
 use Rattle.hotel_core.specs.Rows.{at_number}
-use Rattle.hotel_core.specs.Lookups.{first_code_at}
-use Rattle.hotel_core.specs.CodeTable.{PlacesAgree}
-use Rattle.hotel_core.proofs.MapEntries.{missed, pair_is, eq_from, eq_turned}
+use Rattle.hotel_core.specs.Event.{Install, CheckIn, Transfer}
+use Rattle.hotel_core.specs.History.{History, start, ◌▷◌}
+use Rattle.hotel_core.specs.Issued.{issued, all_issued, issued_codes, is_fresh}
+use Rattle.keycard_rules.specs.Draw.{is_among}
+use Rattle.hotel_core.specs.Run.{Reached}
+use Rattle.hotel_core.specs.Headline.{NoCodeTwice}
+use Rattle.hotel_core.specs.CodeLaws.{CodesHavePlaces, PlacesHaveCodes}
+use Rattle.hotel_core.proofs.Tests.{eq_from, eq_self, not_both}
+use Rattle.hotel_core.proofs.TableKeys.{row_inserted, row_kept, row_added, no_key}
+use Rattle.hotel_core.proofs.CodeLists.{nothing_in_nil, snoc_split, cut_alike}
+use Rattle.hotel_core.proofs.Grown.{at_start, may_follow}
 
--- the row is of this place
-abbrev pub is_here : CodeRow → ℕ → ℕ → Bool
-is_here row r p = (row.room == r) && (row.place == p)
+not_true : (b : Bool) → not b ≡ true → b ≡ false
+not_true true e = not_both false e refl
+not_true false e = refl
 
-pub both_true : (a b : Bool) → (a && b) ≡ true → (a ≡ true) × (b ≡ true)
-both_true true b h = (refl, h)
-both_true false b h = absurd (let w : ◌≡◌ {A = Bool} false true = h in cc)
+-- a fresh code has no row
+pub fresh_has_no_row : (h : History) (code : ℕ) → is_fresh h code ≡ true → at_number (all_issued h) code ≡ None
+fresh_has_no_row h code e = no_key (all_issued h) code (not_true (is_among (issued_codes h) code) e)
 
--- what is so at the row's place is so at a place that is the row's
-moved_here : (P : ℕ → ℕ → Type 0) (row : CodeRow) (r p : ℕ) → is_here row r p ≡ true → P row.room row.place → P r p
-moved_here P row r p h x =
-    let b = both_true (row.room == r) (row.place == p) h in
-    subst (λ z. P z p) (eq_from row.room r b.0) (subst (λ z. P row.room z) (eq_from row.place p b.1) x)
+-- where the next code of a room comes to stand
+abbrev pub next_place : History → ℕ → CodeRow
+next_place h room = record { room = room; place = length (issued h room) }
 
-swapped : (a b : Bool) (x y z : Option ℕ) → (b ≡ true → a ≡ false) → cond a x (cond b y z) ≡ cond b y (cond a x z)
-swapped true true x y z f = absurd (let w : ◌≡◌ {A = Bool} true false = f refl in cc)
-swapped true false x y z f = refl
-swapped false true x y z f = refl
-swapped false false x y z f = refl
+-- one more code at a room
+placed_more : (b : Bool) (h : History) (room new r : ℕ) → (b ≡ true → room ≡ r) → at_number (all_issued h) new ≡ None → CodesHavePlaces h
+    → (before : List ℕ) (code : ℕ) (later : List ℕ) → when b (and_last new) (issued h r) ≡ before ++ code ∷ later
+    → at_number (insert_entry nat_cmp (all_issued h) new (next_place h room)) code ≡ Some (record { room = r; place = length before })
+placed_more true h room new r here fresh ih before code later e =
+    elim (snoc_split (issued h r) new before code later e) [
+      | inl p ↦
+          let v = next_place h room in
+          let w : v ≡ record { room = r; place = length before } =
+          ap (next_place h) (here refl) ∙ ap (λ (zs : List ℕ). let x : CodeRow = record { room = r; place = length zs } in x) (sym p.0) in
+          ap (at_number (insert_entry nat_cmp (all_issued h) new v)) p.1 ∙ row_added (all_issued h) new v ∙ ap (λ z. Some z) w
+      | inr p ↦ row_kept (all_issued h) new _ _ code fresh (ih r before code p.0 p.1)
+    ]
+placed_more false h room new r here fresh ih before code later e = row_kept (all_issued h) new _ _ code fresh (ih r before code later e)
 
-same_cond : (b : Bool) (x : Option ℕ) → (b ≡ true → x ≡ None) → cond b None x ≡ x
-same_cond true x f = sym (f refl)
-same_cond false x f = refl
+pub codes_have_places : (h : History) → Reached h → CodesHavePlaces h
+codes_have_places (start t) ok r before code later e = at_start CodesHavePlaces t ok (λ r before code later e. absurd (nothing_in_nil before code later e)) r before code later e
+codes_have_places (h ▷ Install room kind new) ok r before code later e =
+    let fresh = fresh_has_no_row h new (may_follow h (Install room kind new) ok).2 in
+    placed_more (room == r) h room new r (eq_from room r) fresh (codes_have_places h ok.0) before code later e
+codes_have_places (h ▷ CheckIn party room number new) ok r before code later e =
+    let fresh = fresh_has_no_row h new (may_follow h (CheckIn party room number new) ok).6 in
+    placed_more (room == r) h room new r (eq_from room r) fresh (codes_have_places h ok.0) before code later e
+codes_have_places (h ▷ Transfer party room number new) ok r before code later e =
+    let fresh = fresh_has_no_row h new (may_follow h (Transfer party room number new) ok).6 in
+    placed_more (room == r) h room new r (eq_from room r) fresh (codes_have_places h ok.0) before code later e
+codes_have_places (h ▷ _) ok r before code later e = codes_have_places h ok.0 r before code later e
 
--- ---- one code more
+-- two places of one code are one
+pub same_place : (h : History) → Reached h → (r s code : ℕ) (before later before' later' : List ℕ) → issued h r ≡ before ++ code ∷ later → issued h s ≡ before' ++ code ∷ later' → (r ≡ s) × (before ≡ before') × (later ≡ later')
+same_place h ok r s code before later before' later' e f =
+    let p = codes_have_places h ok r before code later e in
+    let q = codes_have_places h ok s before' code later' f in
+    let w : Some (let x : CodeRow = record { room = r; place = length before } in x) ≡ Some (record { room = s; place = length before' }) = sym p ∙ q in
+    let rooms : r ≡ s = ap (λ o. elim o [ Some x ↦ x.room | None ↦ 0 ]) w in
+    let lengths : length before ≡ length before' = ap (λ o. elim o [ Some x ↦ x.place | None ↦ 0 ]) w in
+    let c = cut_alike before before' (code ∷ later) (code ∷ later') lengths (sym e ∙ ap (issued h) rooms ∙ f) in
+    let t : later ≡ later' = cc in
+    (rooms, c.0, t)
 
-placed_by : (o : Ordering) (e : ℕ × CodeRow) (es : List (ℕ × CodeRow)) (code : ℕ) (row : CodeRow) (r p : ℕ) → is_eq o ≡ false → is_here e.1 row.room row.place ≡ false
-    → first_code_at (insert_entry nat_cmp es code row) r p ≡ cond (is_here row r p) (Some code) (first_code_at es r p)
-    → first_code_at (match_ordering o ((code, row) ∷ e ∷ es) ((e.0, row) ∷ es) (e ∷ insert_entry nat_cmp es code row)) r p ≡ cond (is_here row r p) (Some code) (first_code_at (e ∷ es) r p)
-placed_by Less e es code row r p n apart ih = refl
-placed_by Equal e es code row r p n apart ih = absurd (let w : ◌≡◌ {A = Bool} true false = n in cc)
-placed_by Greater e es code row r p n apart ih =
-    ap (λ z. cond (is_here e.1 r p) (Some e.0) z) ih
-    ∙ swapped (is_here e.1 r p) (is_here row r p) (Some e.0) (Some code) (first_code_at es r p) (λ h. moved_here (λ s q. is_here e.1 s q ≡ false) row r p h apart)
+pub no_code_twice : (h : History) → Reached h → NoCodeTwice h
+no_code_twice h ok r s code before later before' later' e f = let p = same_place h ok r s code before later before' later' e f in (p.0, p.1)
 
--- A new code at a free place is found there, and other places stay.
-pub placed : (es : List (ℕ × CodeRow)) (code : ℕ) (row : CodeRow) (r p : ℕ) → at_number es code ≡ None → first_code_at es row.room row.place ≡ None
-    → first_code_at (insert_entry nat_cmp es code row) r p ≡ cond (is_here row r p) (Some code) (first_code_at es r p)
-placed [] code row r p a f = refl
-placed (e ∷ es) code row r p a f =
-    let m = missed (is_at (nat_cmp code) e.0) e.1 (at_number es code) a in
-    let n = missed (is_here e.1 row.room row.place) e.0 (first_code_at es row.room row.place) f in
-    placed_by (nat_cmp code e.0) e es code row r p m.0 n.0 (placed es code row r p m.1 n.1)
+-- a code stands at a place of its row's room
+abbrev pub StandsAt : History → ℕ → CodeRow → Type 0
+StandsAt h code row = (before : List ℕ) × (later : List ℕ) × (issued h row.room ≡ before ++ code ∷ later) × (length before ≡ row.place)
 
-here_is_at : (row : CodeRow) (r p : ℕ) → is_at (pair_cmp (row.room, row.place)) (r, p) ≡ is_here row r p
-here_is_at row r p = pair_is row.room row.place (r, p) ∙ ap (λ b. b && (p == row.place)) (eq_turned r row.room) ∙ ap (λ b. (row.room == r) && b) (eq_turned p row.place)
+still_there : (b : Bool) (new code : ℕ) (codes before later : List ℕ) → codes ≡ before ++ code ∷ later → (later' : List ℕ) × (when b (and_last new) codes ≡ before ++ code ∷ later')
+still_there true new code codes before later e = (later ++ new ∷ [], ap (λ zs. zs ++ new ∷ []) e ∙ append_assoc before (code ∷ later) (new ∷ []))
+still_there false new code codes before later e = (later, e)
 
--- The table of places, with the new code's place.
-pub agree_after : (codes : List (ℕ × CodeRow)) (places later : List ((ℕ × ℕ) × ℕ)) (code : ℕ) (row : CodeRow) → PlacesAgree codes places → at_number codes code ≡ None → first_code_at codes row.room row.place ≡ None
-    → ((r p : ℕ) → lookup (is_at (pair_cmp (r, p))) later ≡ cond (is_at (pair_cmp (row.room, row.place)) (r, p)) (Some code) (lookup (is_at (pair_cmp (r, p))) places))
-    → PlacesAgree (insert_entry nat_cmp codes code row) later
-agree_after codes places later code row agree a f u r p =
-    u r p
-    ∙ ap (λ b. cond b (Some code) (lookup (is_at (pair_cmp (r, p))) places)) (here_is_at row r p)
-    ∙ ap (λ z. cond (is_here row r p) (Some code) z) (agree r p)
-    ∙ sym (placed codes code row r p a f)
+stands_more : (h : History) (room new code : ℕ) (row : CodeRow) → PlacesHaveCodes h → at_number (insert_entry nat_cmp (all_issued h) new (next_place h room)) code ≡ Some row
+    → (before : List ℕ) × (later : List ℕ) × (when (room == row.room) (and_last new) (issued h row.room) ≡ before ++ code ∷ later) × (length before ≡ row.place)
+stands_more h room new code row ih e =
+    elim (row_inserted (all_issued h) new (next_place h room) row code e) [
+      | inl p ↦
+          let q : room ≡ row.room = ap (λ (x : CodeRow). x.room) p.1 in
+          let l : length (issued h room) ≡ row.place = ap (λ (x : CodeRow). x.place) p.1 in (
+            issued h row.room,
+            [],
+            ap (λ z. when (z == row.room) (and_last new) (issued h row.room)) q ∙ ap (λ b. when b (and_last new) (issued h row.room)) (eq_self row.room) ∙ ap (λ z. issued h row.room ++ z ∷ []) (sym p.0),
+            ap (λ z. length (issued h z)) (sym q) ∙ l,
+          )
+      | inr e' ↦
+          let p = ih code row e' in
+          let q = still_there (room == row.room) new code (issued h row.room) p.0 p.1 p.2 in
+          (p.0, q.0, q.1, p.3)
+    ]
 
--- The table of places, with a free place put in and taken out again.
-pub agree_again : (codes : List (ℕ × CodeRow)) (places mid later : List ((ℕ × ℕ) × ℕ)) (code : ℕ) (row : CodeRow) → PlacesAgree codes places → first_code_at codes row.room row.place ≡ None
-    → ((r p : ℕ) → lookup (is_at (pair_cmp (r, p))) mid ≡ cond (is_at (pair_cmp (row.room, row.place)) (r, p)) (Some code) (lookup (is_at (pair_cmp (r, p))) places))
-    → ((r p : ℕ) → lookup (is_at (pair_cmp (r, p))) later ≡ cond (is_at (pair_cmp (row.room, row.place)) (r, p)) None (lookup (is_at (pair_cmp (r, p))) mid))
-    → PlacesAgree codes later
-agree_again codes places mid later code row agree f u w r p =
-    w r p
-    ∙ ap (λ z. cond (is_at (pair_cmp (row.room, row.place)) (r, p)) None z) (u r p)
-    ∙ twice (is_at (pair_cmp (row.room, row.place)) (r, p)) (Some code) (lookup (is_at (pair_cmp (r, p))) places)
-    ∙ ap (λ b. cond b None (lookup (is_at (pair_cmp (r, p))) places)) (here_is_at row r p)
-    ∙ ap (λ z. cond (is_here row r p) None z) (agree r p)
-    ∙ same_cond (is_here row r p) (first_code_at codes r p) (λ h. moved_here (λ s q. first_code_at codes s q ≡ None) row r p h f)
-  where
-    twice : (b : Bool) (x y : Option ℕ) → cond b None (cond b x y) ≡ cond b None y
-    twice true x y = refl
-    twice false x y = refl
-
--- ---- one code less
-
-there_is : {a b : CodeRow} → Some a ≡ Some b → a ≡ b
-there_is h = cc
-
-removed_by : (b : Bool) (e : ℕ × CodeRow) (es : List (ℕ × CodeRow)) (code : ℕ) (row : CodeRow) (r p : ℕ)
-    → (b ≡ true → (e.1 ≡ row) × (first_code_at es row.room row.place ≡ None))
-    → (b ≡ false → (is_here e.1 row.room row.place ≡ false) × (first_code_at (remove_entry (is_at (nat_cmp code)) es) r p ≡ cond (is_here row r p) None (first_code_at es r p)))
-    → first_code_at (cond b es (e ∷ remove_entry (is_at (nat_cmp code)) es)) r p ≡ cond (is_here row r p) None (first_code_at (e ∷ es) r p)
-removed_by true e es code row r p f g =
-    let x = f refl in
-    sym (ap (λ (z : CodeRow). cond (is_here row r p) None (cond (is_here z r p) (Some e.0) (first_code_at es r p))) x.0
-    ∙ here_or_not (is_here row r p) (Some e.0) (first_code_at es r p) (λ h. moved_here (λ s q. first_code_at es s q ≡ None) row r p h x.1))
-  where
-    here_or_not : (b : Bool) (x y : Option ℕ) → (b ≡ true → y ≡ None) → cond b None (cond b x y) ≡ y
-    here_or_not true x y f = sym (f refl)
-    here_or_not false x y f = refl
-removed_by false e es code row r p f g =
-    let x = g refl in
-    ap (λ z. cond (is_here e.1 r p) (Some e.0) z) x.1
-    ∙ swapped (is_here e.1 r p) (is_here row r p) (Some e.0) None (first_code_at es r p) (λ h. moved_here (λ s q. is_here e.1 s q ≡ false) row r p h x.0)
-
-at_head : (b : Bool) (x y : CodeRow) (rest : Option CodeRow) → cond b (Some x) rest ≡ Some y → b ≡ true → x ≡ y
-at_head true x y rest h t = there_is h
-at_head false x y rest h t = absurd (let w : ◌≡◌ {A = Bool} false true = t in cc)
-
-at_tail : (b : Bool) (x y : CodeRow) (rest : Option CodeRow) → cond b (Some x) rest ≡ Some y → b ≡ false → rest ≡ Some y
-at_tail true x y rest h t = absurd (let w : ◌≡◌ {A = Bool} true false = t in cc)
-at_tail false x y rest h t = h
-
--- A code that stood at its place alone leaves it free, and other places stay.
-pub unplaced : (es : List (ℕ × CodeRow)) (code : ℕ) (row : CodeRow) (r p : ℕ) → at_number es code ≡ Some row → first_code_at (remove_entry (is_at (nat_cmp code)) es) row.room row.place ≡ None
-    → first_code_at (remove_entry (is_at (nat_cmp code)) es) r p ≡ cond (is_here row r p) None (first_code_at es r p)
-unplaced [] code row r p a f = absurd (let w : ◌≡◌ {A = Option CodeRow} None (Some row) = a in cc)
-unplaced (e ∷ es) code row r p a f =
-    removed_by (is_at (nat_cmp code) e.0) e es code row r p
-    (λ t. (at_head (is_at (nat_cmp code) e.0) e.1 row (at_number es code) a t, subst (λ b. first_code_at (cond b es (e ∷ remove_entry (is_at (nat_cmp code)) es)) row.room row.place ≡ None) t f))
-    (λ t.
-    let k = missed (is_here e.1 row.room row.place) e.0 (first_code_at (remove_entry (is_at (nat_cmp code)) es) row.room row.place)
-    (subst (λ b. first_code_at (cond b es (e ∷ remove_entry (is_at (nat_cmp code)) es)) row.room row.place ≡ None) t f) in
-    (k.0, unplaced es code row r p (at_tail (is_at (nat_cmp code) e.0) e.1 row (at_number es code) a t) k.1))
-
--- The table of places, without the code's place.
-pub agree_without : (codes : List (ℕ × CodeRow)) (places later : List ((ℕ × ℕ) × ℕ)) (code : ℕ) (row : CodeRow) → PlacesAgree codes places → at_number codes code ≡ Some row
-    → first_code_at (remove_entry (is_at (nat_cmp code)) codes) row.room row.place ≡ None
-    → ((r p : ℕ) → lookup (is_at (pair_cmp (r, p))) later ≡ cond (is_at (pair_cmp (row.room, row.place)) (r, p)) None (lookup (is_at (pair_cmp (r, p))) places))
-    → PlacesAgree (remove_entry (is_at (nat_cmp code)) codes) later
-agree_without codes places later code row agree a f u r p =
-    u r p
-    ∙ ap (λ b. cond b None (lookup (is_at (pair_cmp (r, p))) places)) (here_is_at row r p)
-    ∙ ap (λ z. cond (is_here row r p) None z) (agree r p)
-    ∙ sym (unplaced codes code row r p a f)
+pub places_have_codes : (h : History) → Reached h → PlacesHaveCodes h
+places_have_codes (start t) ok code row e = at_start PlacesHaveCodes t ok (λ code row e. absurd (let w : ◌≡◌ {A = Option CodeRow} None (Some row) = e in cc)) code row e
+places_have_codes (h ▷ Install room kind new) ok code row e = stands_more h room new code row (places_have_codes h ok.0) e
+places_have_codes (h ▷ CheckIn party room number new) ok code row e = stands_more h room new code row (places_have_codes h ok.0) e
+places_have_codes (h ▷ Transfer party room number new) ok code row e = stands_more h room new code row (places_have_codes h ok.0) e
+places_have_codes (h ▷ _) ok code row e = places_have_codes h ok.0 code row e

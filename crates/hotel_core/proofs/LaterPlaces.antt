@@ -11,7 +11,7 @@ use Rattle.hotel_core.specs.Lookups.{first_code_at}
 use Rattle.hotel_core.specs.Change.{room_changed, left_by}
 use Rattle.hotel_core.specs.Tables.{LaterPlacesFree}
 use Rattle.hotel_core.proofs.MapEntries.{at_is, at_self, eq_from}
-use Rattle.hotel_core.proofs.CodePlaces.{placed, is_here, both_true}
+use Rattle.hotel_core.proofs.PlacedCodes.{placed, is_here, both_true}
 use Rattle.std.proofs.lemmas.Cmp.{nat_cmp_total}
 
 -- how many codes a room has

@@ -14,21 +14,16 @@ use Rattle.hotel_core.specs.Stays.{rooms}
 use Rattle.hotel_core.specs.RowsOf.{room_row, rows_of}
 use Rattle.hotel_core.specs.Change.{room_changed}
 use Rattle.hotel_core.specs.Follow.{FollowsBy, ApartFrom, RoomsOnce}
+use Rattle.hotel_core.proofs.Tests.{eq_from, eq_self}
 
-pub eq_from : (a b : ℕ) → (a == b) ≡ true → a ≡ b
-eq_from a b h = grind (arith, nat_tests)
-
-pub eq_self : (a : ℕ) → (a == a) ≡ true
-eq_self a = grind (arith, nat_tests)
-
-eq_flip : (a b : ℕ) → (a == b) ≡ false → (b == a) ≡ false
+pub eq_flip : (a b : ℕ) → (a == b) ≡ false → (b == a) ≡ false
 eq_flip a b h = grind (arith, nat_tests)
 
 -- the rows of these rooms
 abbrev pub rows_by : (ℕ → List ℕ → RoomRow) → List (ℕ × List ℕ) → List (ℕ × RoomRow)
 rows_by f rs = map (λ e. (e.0, f e.0 e.1)) rs
 
-others : (f g : ℕ → List ℕ → RoomRow) (room : ℕ) → ((r : ℕ) (k : List ℕ) → (room == r) ≡ false → f r k ≡ g r k) → (rs : List (ℕ × List ℕ)) → ApartFrom room rs → rows_by f rs ≡ rows_by g rs
+pub others : (f g : ℕ → List ℕ → RoomRow) (room : ℕ) → ((r : ℕ) (k : List ℕ) → (room == r) ≡ false → f r k ≡ g r k) → (rs : List (ℕ × List ℕ)) → ApartFrom room rs → rows_by f rs ≡ rows_by g rs
 others f g room a [] n = refl
 others f g room a (e ∷ es) n = ap (λ row. (e.0, row) ∷ rows_by f es) (a e.0 e.1 (eq_flip e.0 room n.0)) ∙ ap (λ zs. (e.0, g e.0 e.1) ∷ zs) (others f g room a es n.1)
 
@@ -48,7 +43,7 @@ one_changed f g c room a s (e ∷ es) n =
     (λ t. (subst (λ z. f z e.1 ≡ c (g z e.1)) (sym (eq_from e.0 room t)) (s e.1), others f g room a es (subst (λ z. ApartFrom z es) (eq_from e.0 room t) n.0)))
     (λ t. (a e.0 e.1 (eq_flip e.0 room t), one_changed f g c room a s es n.1))
 
-length_more : {X : Type 0} (xs : List X) (x : X) → length (xs ++ x ∷ []) ≡ length xs + 1
+pub length_more : {X : Type 0} (xs : List X) (x : X) → length (xs ++ x ∷ []) ≡ length xs + 1
 length_more [] x = refl
 length_more (y ∷ ys) x = let p = length_more ys x in omega arith
 

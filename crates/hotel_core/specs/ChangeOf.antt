@@ -1,5 +1,5 @@
 -- The change that an event makes of the books.
-use Rattle.std.specs.Prelude.{ℕ, ◌≡◌, Bool, true, false, None, ◌+◌, length, IsSome}
+use Rattle.std.specs.Prelude.{ℕ, Bool, true, false, None, ◌+◌, length}
 use Rattle.keycard_rules.specs.Note.{Note}
 use Rattle.keycard_rules.specs.declared.note.Act.TheVariants as act
 use Rattle.hotel_nights.specs.declared.stay.StayState.TheVariants as state

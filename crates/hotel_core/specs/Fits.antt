@@ -1,9 +1,9 @@
 -- When a change fits the rows.
-use Rattle.std.specs.Prelude.{ℕ, ◌≡◌, ◌<◌, ◌-◌, ◌^◌, ◌+◌, Bool, true, false, None, IsSome, length}
+use Rattle.std.specs.Prelude.{◌≡◌, ◌<◌, ◌-◌, ◌^◌, ◌+◌, Bool, true, false, None, IsSome, length}
 use Rattle.hotel_core.specs.declared.change.Change.{Change}
 use Rattle.hotel_core.specs.declared.change.Change.TheVariants as change
 use Rattle.hotel_nights.specs.declared.stay.StayState.TheVariants as state
-use Rattle.hotel_core.specs.Rows.{Rows, at_number}
+use Rattle.hotel_core.specs.Rows.{Rows}
 use Rattle.hotel_core.specs.Lookups.{has_kind, room_at, code_place, stay_at, note_at}
 use Rattle.hotel_core.specs.Change.{made, codes_of}
 use Rattle.hotel_core.specs.Sound.{IsSound}

@@ -3,6 +3,7 @@ pub mod Rows
 pub mod Lookups
 pub mod Event
 pub mod History
+pub mod Ranges
 pub mod Issued
 pub mod Cards
 pub mod Lock
@@ -23,11 +24,16 @@ pub mod ChangeOf
 pub mod Fits
 pub mod OnRows
 pub mod StepOnRows
+pub mod Lift
 pub mod Reads
+pub mod Finds
+pub mod Issuing
+pub mod Noting
 pub mod Headline
 pub mod Lists
 pub mod Follow
-pub mod Tests
+pub mod Texts
+pub mod CodeLaws
 pub mod CodeTable
 pub mod Tables
 pub mod ListBooks

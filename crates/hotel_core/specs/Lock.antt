@@ -1,6 +1,5 @@
 -- The code that each lock holds.
-use Rattle.std.specs.Prelude.{ℕ, Option, Some, None, ◌==◌, ◌||◌, if◌then◌else◌, drop}
-use Rattle.keycard_rules.specs.declared.card.Link.{Link}
+use Rattle.std.specs.Prelude.{ℕ, ◌==◌, drop}
 use Rattle.hotel_core.specs.Words.{when}
 use Rattle.hotel_core.specs.Rows.{codes_at, lock_place_of, first_of}
 use Rattle.hotel_core.specs.Event.{Install, Entered, Recoded}

@@ -1,5 +1,5 @@
 -- What the look-ups of the books answer, read off the rows.
-use Rattle.std.specs.Prelude.{ℕ, Bool, List, [], ◌∷◌, Option, Some, None, ◌+◌, ◌==◌, ◌&&◌, if◌then◌else◌, nat_lt, length, filter, bytes_eq}
+use Rattle.std.specs.Prelude.{ℕ, Bool, List, [], ◌∷◌, Option, Some, None, ◌+◌, ◌==◌, ◌&&◌, if◌then◌else◌, nat_lt, filter, bytes_eq}
 use Rattle.std.specs.List.{list_any, count_by}
 use Rattle.std.specs.Map.{lookup, keys_of, values_of}
 use Rattle.std.specs.BTreeMap.{is_at}

@@ -1,5 +1,5 @@
 -- One step over books: it goes as the outcome says, or it fails and changes nothing.
-use Rattle.std.specs.Prelude.{ℕ, ◌≡◌, ◌≤◌, ◌<◌, ◌-◌, ◌^◌, ◌⊎◌, Bool, true, false, Option, Some, None, IsSome, ◌+◌}
+use Rattle.std.specs.Prelude.{ℕ, ◌≡◌, ◌≤◌, ◌<◌, ◌-◌, ◌^◌, ◌⊎◌, Bool, true, false, Option, Some, None, IsSome}
 use Rattle.rand_core.specs.Stream.{Stream}
 use Rattle.keycard_rules.specs.Draw.{past, MovedAtMost}
 use Rattle.keycard_rules.specs.Rise.{HasRisen}

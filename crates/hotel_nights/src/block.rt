@@ -14,8 +14,8 @@ pub(crate) const BLOCK: u16 = 90;
 /// For each night of a block, how many stays begin to take it, and how many took the night before and don't take it.
 #[derive(Clone, Copy)]
 struct Tally {
-    begins: [usize; 90],
-    ends: [usize; 90],
+    pub begins: [usize; 90],
+    pub ends: [usize; 90],
 }
 
 /// Whether a stay in this state holds its nights.

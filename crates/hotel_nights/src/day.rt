@@ -4,7 +4,8 @@ ghost use Rattle.std.specs.Prelude.{◌≡◌, ℕ, ◌≤◌, ◌+◌, Some, op
 ghost use Rattle.hotel_nights.specs.Days.{day_of_number, read_ymd, ymd, read_day, day_text};
 ghost use Rattle.keycard_rules.specs.Numerals.{fixed_text};
 
-use jiff_core::civil::Date;
+use jiff::civil::Date;
+use jiff_core::civil::Date as PlainDate;
 use keycard_rules::{read_numeral, write_fixed};
 use std::marker::Model;
 
@@ -30,7 +31,7 @@ impl Model for Day {
 /// The number of 2099-12-31, the last day.
 const LAST: u16 = 36_524;
 
-/// The days from -9999-01-01, the first date of `jiff_core`, to 2000-01-01.
+/// The days from -9999-01-01, the first date of `jiff`, to 2000-01-01.
 const BEFORE: u32 = 4_382_544;
 
 /// The year, the month and the day that `YYYY-MM-DD` writes, whether or not the calendar has them.
@@ -97,7 +98,7 @@ impl Day {
             return None;
         };
         Some(Day {
-            number: (date.days_since_min() - BEFORE) as u16,
+            number: (date.to_plain().days_since_min() - BEFORE) as u16,
         })
     }
 
@@ -106,7 +107,7 @@ impl Day {
         ensures text { result ≡ day_text self.now }
         ensures reads_back { read_day result ≡ Some self.now }
     {
-        let date = Date::from_days_since_min(BEFORE + u32::from(self.number));
+        let date = PlainDate::from_days_since_min(BEFORE + u32::from(self.number));
         let [a, b, c, d] = four_digits(date.year.unsigned_abs());
         let [e, f] = two_digits(date.month);
         let [g, h] = two_digits(date.day);

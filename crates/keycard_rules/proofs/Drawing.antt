@@ -1,5 +1,5 @@
 -- A draw, as far as it has come.
-use Rattle.std.proofs.Common.{ℕ, zero, suc, ◌≡◌, ◌+◌, ◌≤◌, ◌<◌, Bool, true, false, List, [], ◌∷◌, Option, Some, None, refl, ap, sym, ◌∙◌, arith, add-one, cond}
+use Rattle.std.proofs.Common.{ℕ, zero, suc, ◌≡◌, ◌+◌, ◌≤◌, ◌<◌, Bool, true, false, List, [], ◌∷◌, Option, Some, None, refl, ap, sym, ◌∙◌, arith, add-one, cond, length}
 use Rattle.std.proofs.lemmas.List.Elements.{All-cons, All-nil}
 use Rattle.rand_core.specs.Stream.{Stream, next_u64}
 use Rattle.keycard_rules.specs.Draw.{is_among, words, past, code_of, Draw, one_more, draw_from, drawn, AllIssued}
@@ -11,6 +11,10 @@ pub past-suc : (n : ℕ) (s : Stream) → past (suc n) s ≡ (next_u64 (past n s
 unfolding past
 past-suc zero s = refl
 past-suc (suc n) s = past-suc n (next_u64 s).1
+
+-- one more word
+pub past-next : (n word : ℕ) (s0 s1 s2 : Stream) → s1 ≡ past n s0 → (word, s2) ≡ next_u64 s1 → s2 ≡ past (n + 1) s0
+past-next n word s0 s1 s2 m next = rw add-one (ap (λ p. p.1) next ∙ ap (λ s. (next_u64 s).1) m ∙ sym (past-suc n s0))
 
 pub past-zero : (s : Stream) → past 0 s ≡ s
 unfolding past
@@ -144,3 +148,24 @@ drawn-fresh issued s code h = draw_from-fresh issued (words 64 s) code h
 pub drawn-none : (issued : List ℕ) (s : Stream) → (drawn issued s).code ≡ None → AllIssued issued (words 64 s)
 unfolding drawn
 drawn-none issued s h = draw_from-none issued (words 64 s) h
+
+pub length-words : (n : ℕ) (s : Stream) → length (words n s) ≡ n
+unfolding words
+length-words zero s = refl
+length-words (suc n) s = ap suc (length-words n (next_u64 s).1)
+
+draw_from-examined_by : (b : Bool) (d : Draw) (code n : ℕ) → d.examined ≤ n → (let r : Draw = cond b (one_more d) (record { code = Some code; examined = 1 }) in r).examined ≤ suc n
+draw_from-examined_by true d code n h = omega arith
+draw_from-examined_by false d code n h = omega arith
+
+-- no more words are examined than are given
+pub draw_from-examined : (issued given : List ℕ) → (draw_from issued given).examined ≤ length given
+unfolding draw_from
+draw_from-examined issued [] = omega arith
+draw_from-examined issued (word ∷ later) =
+    draw_from-examined_by (is_among issued (code_of word)) (draw_from issued later) (code_of word) (length later) (draw_from-examined issued later)
+
+pub drawn-examined : (issued : List ℕ) (s : Stream) → (drawn issued s).examined ≤ 64
+unfolding drawn
+drawn-examined issued s =
+    let h : (draw_from issued (words 64 s)).examined ≤ 64 = rw length-words at (draw_from-examined issued (words 64 s)) in h

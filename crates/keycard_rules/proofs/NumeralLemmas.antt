@@ -106,7 +106,7 @@ fixed_text-write base (suc i) rest number l pos le h =
     let cut = drop-set l i d (omega arith) in
     let step = fixed_text-step base i rest (drop (i + 1) l) in
     let len = length-set l i d in
-    rw (e, len, cut) (h ∙ rw (← add-one) step)
+    rw (e, len, cut) (h ∙ rw (← add-one i) step)
 
 -- a numeral of at most so many digits is below that power of the base
 pub number_of-below : (base most : ℕ) (text : List ℕ) → 0 < base → IsNumeral base most text → number_of base text < base ^ most

@@ -28,6 +28,7 @@ pub record Draw : Type 0 where
   pub code : Option ℕ
   pub examined : ℕ
 
+-- the same draw, one more word examined before it
 abbrev pub one_more : Draw → Draw
 one_more draw = record { code = draw.code; examined = draw.examined + 1 }
 

@@ -1,6 +1,6 @@
 //! The codes of one room, in order of issue, and the lock's place among them.
 
-ghost use Rattle.std.specs.Prelude.{◌≡◌, ℕ, ◌+◌, ◌<◌, ◌≤◌, ◌==◌, length, Some, Ok, IfOk, IfErr, OnOk, OnErr, option_map, false, eqb};
+ghost use Rattle.std.specs.Prelude.{◌≡◌, [], ◌∷◌, ◌++◌, length, Ok, IfOk, OnOk, OnErr, option_map, false, nat_eq};
 ghost use Rattle.std.specs.List.{IsDistinct};
 ghost use Rattle.keycard_rules.specs.Draw.{is_among};
 ghost use Rattle.keycard_rules.specs.Lock.{turn};
@@ -41,7 +41,7 @@ pub struct Chain {
 }
 
 impl Model for Chain {
-    ghost use Rattle.std.specs.Prelude.{ℕ, ◌<◌, ◌+◌, length, take, drop, slice_index, eqb};
+    ghost use Rattle.std.specs.Prelude.{ℕ, ◌<◌, ◌+◌, length, take, drop, slice_index, nat_eq};
     ghost use Rattle.std.specs.List.{IsDistinct};
     ghost use Rattle.keycard_rules.specs.Chain.{Ledger};
 
@@ -49,7 +49,7 @@ impl Model for Chain {
 
     ghost view = { λ c. record { passed = take c.place c.codes.items; held = slice_index c.codes.items c.place; awaited = drop (c.place + 1) c.codes.items } };
 
-    ghost invariant = { λ c. (c.place < length c.codes.items) × IsDistinct eqb c.codes.items };
+    ghost invariant = { λ c. (c.place < length c.codes.items) × IsDistinct nat_eq c.codes.items };
 }
 
 /// The first place of the code, or the number of codes where it is not there.
@@ -71,9 +71,7 @@ impl Chain {
         ensures { IfOk result (λ c. c ≡ installed code) }
     {
         let mut codes = Vec::new(alloc);
-        if codes.push(code).is_err() {
-            return Err(Memory);
-        }
+        codes.push(code).map_err(|_| Memory)?;
         Ok(Chain { codes, place: 0 })
     }
 
@@ -83,14 +81,13 @@ impl Chain {
     pub fn issue(&mut self, code: Code) -> Result<Link, Memory>
         requires fresh { is_among (issued self.old) code ≡ false }
         ensures ok { OnOk result (self.new ≡ with_issued self.old code) }
+        ensures codes { OnOk result (issued self.new ≡ issued self.old ++ (code ∷ [])) }
         ensures link { IfOk result (λ l. l ≡ record { old_code = current self.old; new_code = code }) }
         ensures is_link { IfOk result (λ l. IsLinkOf (issued self.new) l) }
         ensures err { OnErr result (self.new ≡ self.old) }
     {
         let old_code = self.current();
-        if self.codes.push(code).is_err() {
-            return Err(Memory);
-        }
+        self.codes.push(code).map_err(|_| Memory)?;
         Ok(Link {
             old_code,
             new_code: code,
@@ -148,7 +145,7 @@ impl Chain {
     /// Whether the code was issued here: passed, held or awaited.
     pub fn holds(&self, code: Code) -> bool
         ensures answer { result ≡ is_among (issued self.now) code }
-        ensures distinct { IsDistinct eqb (issued self.now) }
+        ensures distinct { IsDistinct nat_eq (issued self.now) }
     {
         self.codes.as_slice().contains(&code)
     }

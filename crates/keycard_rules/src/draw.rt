@@ -1,7 +1,6 @@
 //! Drawing a code that was never issued.
-ghost use Rattle.std.specs.Prelude.{◌≡◌, ℕ, ◌≤◌, false, Err, IfOk};
-ghost use Rattle.rand_core.specs.Stream.{next_u64};
-ghost use Rattle.keycard_rules.specs.Draw.{is_among, words, Draws, AllIssued, IsFailed};
+ghost use Rattle.std.specs.Prelude.{◌≡◌, ◌≤◌, false, Err, IfOk};
+ghost use Rattle.keycard_rules.specs.Draw.{is_among, words, past, MovedAtMost, Draws, AllIssued, IsFailed};
 ghost use Rattle.keycard_rules.specs.Rise.{HasRisen};
 
 use crate::code::Code;
@@ -27,6 +26,9 @@ pub fn draw_fresh<R: Rng, I: Issued>(source: &mut R, issued: &mut I) -> Result<C
     ensures drawn { I.is_clean issued.new → Draws (I.issued issued.old) (R.stream source.old) result (R.stream source.new) }
     ensures fresh { I.is_clean issued.new → IfOk result (λ code. is_among (I.issued issued.old) code ≡ false) }
     ensures none_fresh { I.is_clean issued.new → result ≡ Err DrawFault.NoFreshCode → AllIssued (I.issued issued.old) (words 64 (R.stream source.old)) }
+
+    ensures moved { MovedAtMost 64 (R.stream source.old) (R.stream source.new) }
+    ensures none_moved { result ≡ Err DrawFault.NoFreshCode → R.stream source.new ≡ past 64 (R.stream source.old) }
 
     ensures kept { I.is_clean issued.new → I.is_kept issued.old issued.new }
     ensures was_clean { I.is_clean issued.new → I.is_clean issued.old }

@@ -1,6 +1,5 @@
 //! What a lock notes of itself, counted by it from 1 on.
-ghost use Rattle.std.specs.Prelude.{◌≡◌, ℕ, ◌≤◌, Some, None, if◌then◌else◌, nat_le, ◌&&◌};
-ghost use Rattle.keycard_rules.specs.Note.{Note, IsTimed};
+ghost use Rattle.std.specs.Prelude.{◌≡◌, ◌≤◌, Some, None, if◌then◌else◌, nat_le, ◌&&◌};
 
 use crate::card::Link;
 use crate::code::Code;

@@ -1,6 +1,6 @@
 //! The numbers of cards, parties, rooms and notes: one generic type.
 
-ghost use Rattle.std.specs.Prelude.{◌≡◌, ℕ, ◌+◌, ◌^◌, ◌<◌, ◌≤◌};
+ghost use Rattle.std.specs.Prelude.{◌≡◌, ℕ, ◌+◌, ◌<◌};
 ghost use Rattle.std.specs.Option.{SomeIff};
 ghost use Rattle.keycard_rules.specs.Numerals.{number_up_to};
 ghost use Rattle.keycard_rules.specs.Numbers.{IsNumberUpTo};

@@ -1,6 +1,6 @@
 //! Numbers written with digits, for the readers and printers of codes, numbers and days.
 
-ghost use Rattle.std.specs.Prelude.{◌≡◌, ℕ, ◌+◌, ◌*◌, ◌^◌, ◌<◌, ◌≤◌, length};
+ghost use Rattle.std.specs.Prelude.{◌≡◌, ◌^◌, ◌<◌, ◌≤◌, length};
 ghost use Rattle.std.specs.Option.{SomeIff};
 ghost use Rattle.keycard_rules.specs.Numerals.{digit_value, digit_byte, number_of, numeral, fixed_text};
 ghost use Rattle.keycard_rules.specs.Numerals.{IsNumeral};

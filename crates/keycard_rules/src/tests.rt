@@ -1,6 +1,5 @@
 //! The crate's part of each scenario, and what no clause says.
-ghost use Rattle.std.specs.Prelude.{◌≡◌, ℕ, List, [], ◌+◌, ◌^◌, ◌-◌, refl};
-ghost use Rattle.std.proofs.Common.{◌∙◌};
+ghost use Rattle.std.specs.Prelude.{[], refl};
 
 use crate::{
     Act, CardNo, Chain, Code, Count, DrawFault, Issued, Link, ListedCodes, ListedWords, LockNote,

@@ -1,10 +1,11 @@
-use Rattle.std.proofs.Common.{ℕ, sym, ap, ◌∙◌, arith, ◌+◌, Some}
+use Rattle.std.proofs.Common.{◌≡◌, ℕ, sym, ap, ◌∙◌, arith, ◌+◌, Some}
 use Rattle.keycard_rules.specs.Draw.{Draw}
-use Rattle.keycard_rules.proofs.Drawing.{so_far_none, so_far_more, found, examines, moved_on, no_more, answer_at, draw_is, drawn-none}
+use Rattle.keycard_rules.proofs.Drawing.{past-zero, past-next, so_far_none, so_far_more, found, examines, moved_on, no_more, answer_at, draw_is, drawn-none}
 use Rattle.keycard_rules.proofs.draw.draw_fresh.Goals as goal
 
 pub loop-init : goal.loop-init
 loop-init g c = record {
+  moved = sym (past-zero _);
   counted = omega arith;
   was_clean = λ h. h;
   kept = λ h. g.met.I.Issued.kept_refl _;
@@ -31,6 +32,7 @@ returns-in-Err-Store-clause-drawn g c = λ clean.
 
 pub loop-preserved : goal.loop-preserved
 loop-preserved g c = record {
+  moved = past-next _ _ _ _ _ c.loop.invariant.moved c.next_u64.ensures;
   counted = omega arith;
   was_clean = λ clean. c.loop.invariant.was_clean (c.is_issued.ensures.was_clean clean);
   kept = λ clean.
@@ -50,3 +52,20 @@ pub returns-clause-none_fresh : goal.returns-clause-none_fresh
 returns-clause-none_fresh g c = λ clean is.
     let d = no_more _ _ _ _ (c.loop.invariant.so_far clean) c.loop-test.false in
     drawn-none _ _ (ap (λ (x : Draw). x.code) d)
+
+pub returns-in-Ok-false-clause-moved : goal.returns-in-Ok-false-clause-moved
+returns-in-Ok-false-clause-moved g c = (c.loop.counter + 1, omega arith, past-next _ _ _ _ _ c.loop.invariant.moved c.next_u64.ensures)
+
+pub returns-in-Err-Memory-clause-moved : goal.returns-in-Err-Memory-clause-moved
+returns-in-Err-Memory-clause-moved g c = (c.loop.counter + 1, omega arith, past-next _ _ _ _ _ c.loop.invariant.moved c.next_u64.ensures)
+
+pub returns-in-Err-Store-clause-moved : goal.returns-in-Err-Store-clause-moved
+returns-in-Err-Store-clause-moved g c = (c.loop.counter + 1, omega arith, past-next _ _ _ _ _ c.loop.invariant.moved c.next_u64.ensures)
+
+pub returns-clause-moved : goal.returns-clause-moved
+returns-clause-moved g c = (c.loop.counter, omega arith, c.loop.invariant.moved)
+
+pub returns-clause-none_moved : goal.returns-clause-none_moved
+returns-clause-none_moved g c = λ is.
+    let all : c.loop.counter ≡ 64 = omega arith in
+    rw all at c.loop.invariant.moved

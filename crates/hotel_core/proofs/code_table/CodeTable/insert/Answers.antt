@@ -2,7 +2,7 @@ use Rattle.std.proofs.Common.{ap, sym, ◌∙◌, subst}
 use Rattle.hotel_core.specs.Rows.{at_number}
 use Rattle.hotel_core.specs.Lookups.{first_code_at}
 use Rattle.hotel_core.specs.CodeTable.{PlacesAgree}
-use Rattle.hotel_core.proofs.CodePlaces.{agree_after, agree_again}
+use Rattle.hotel_core.proofs.PlacedCodes.{agree_after, agree_again}
 use Rattle.hotel_core.proofs.code_table.CodeTable.insert.Goals as goal
 
 pub invariant_of-self-in-Ok-insert : goal.invariant_of-self-in-Ok-insert

@@ -5,7 +5,7 @@ use Rattle.std.specs.Map.{remove_entry}
 use Rattle.hotel_core.specs.Rows.{at_number}
 use Rattle.hotel_core.specs.Lookups.{first_code_at}
 use Rattle.hotel_core.specs.CodeTable.{PlacesAgree}
-use Rattle.hotel_core.proofs.CodePlaces.{agree_without}
+use Rattle.hotel_core.proofs.PlacedCodes.{agree_without}
 use Rattle.hotel_core.proofs.code_table.CodeTable.remove.Goals as goal
 
 pub invariant_of-self : goal.invariant_of-self

@@ -6,9 +6,9 @@ use Rattle.hotel_nights.proofs.day.Day.read.Goals as goal
 
 pub overflow_sub-result : goal.overflow_sub-result
 overflow_sub-result c =
-    let v = c.in-Ok.ensures.value in
+    let v = (rw (← c.to_plain.ensures) at c.in-Ok.ensures.value) in
     let g = c.days_since_min.ensures.value in
-    let dt = c.in-Ok.date in
+    let dt = c.to_plain.result in
     let y : dt.year ≡ pos c.in_ok-year.year = v.0 ∙ to_z_pos w16 c.in_ok-year.year (omega arith) in
     let k = count_of _ _ _ _ g in
     let k2 = rw y at k in
@@ -19,22 +19,22 @@ high y0 m d r y e le civil k = let k2 = rw e at k in omega (arith, count-high y0
 
 pub overflow_cast-result : goal.overflow_cast-result
 overflow_cast-result c =
-    let dt = c.in-Ok.date in
-    let y : dt.year ≡ pos c.in_ok-year.year = c.in-Ok.ensures.value.0 ∙ to_z_pos w16 c.in_ok-year.year (omega arith) in
+    let dt = c.to_plain.result in
+    let y : dt.year ≡ pos c.in_ok-year.year = (rw (← c.to_plain.ensures) at c.in-Ok.ensures.value).0 ∙ to_z_pos w16 c.in_ok-year.year (omega arith) in
     let h = high c.in_ok-year.year dt.month dt.day c.days_since_min.result dt.year y (omega arith) (dt.year_in, dt.month_in, dt.day_in) (count_of _ _ _ _ c.days_since_min.ensures.value) in
     omega arith
 
 pub invariant_of-result : goal.invariant_of-result
 invariant_of-result c =
-    let dt = c.in-Ok.date in
-    let y : dt.year ≡ pos c.in_ok-year.year = c.in-Ok.ensures.value.0 ∙ to_z_pos w16 c.in_ok-year.year (omega arith) in
+    let dt = c.to_plain.result in
+    let y : dt.year ≡ pos c.in_ok-year.year = (rw (← c.to_plain.ensures) at c.in-Ok.ensures.value).0 ∙ to_z_pos w16 c.in_ok-year.year (omega arith) in
     let h = high c.in_ok-year.year dt.month dt.day c.days_since_min.result dt.year y (omega arith) (dt.year_in, dt.month_in, dt.day_in) (count_of _ _ _ _ c.days_since_min.ensures.value) in
     omega arith
 
 pub returns : goal.returns
 returns c =
-    let dt = c.in-Ok.date in
-    let v = c.in-Ok.ensures.value in
+    let dt = c.to_plain.result in
+    let v = (rw (← c.to_plain.ensures) at c.in-Ok.ensures.value) in
     let y : dt.year ≡ pos c.in_ok-year.year = v.0 ∙ to_z_pos w16 c.in_ok-year.year (omega arith) in
     let m : dt.month ≡ c.in_ok-year.month = cc (v.1 ∙ to_z_pos w8 c.in_ok-year.month (omega arith)) in
     let d : dt.day ≡ c.in_ok-year.day = cc (v.2 ∙ to_z_pos w8 c.in_ok-year.day (omega arith)) in

@@ -1,0 +1,5 @@
+use Rattle.hotel_core.proofs.Whole.{rows_are_whole}
+use Rattle.hotel_core.proofs.lift.rows_are_whole.Goals as goal
+
+pub returns : goal.returns
+returns c = rows_are_whole

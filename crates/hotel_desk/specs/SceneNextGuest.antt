@@ -1,0 +1,61 @@
+-- The scenario "next-guest": after the next guest's entry the earlier card opens nothing.
+use Rattle.std.specs.Prelude.{ℕ, ◌≡◌, true, List, [], ◌∷◌, ◌++◌, replicate}
+use Rattle.hotel_core.specs.declared.command.Command.{Command}
+use Rattle.hotel_core.specs.declared.command.Command.TheVariants as command
+use Rattle.hotel_core.specs.declared.reply.Reply.{Reply}
+use Rattle.hotel_core.specs.declared.reply.Reply.TheVariants as reply
+use Rattle.hotel_core.specs.declared.reply.Refusal.TheVariants as refusal
+use Rattle.keycard_rules.specs.declared.note.Act.TheVariants as act
+use Rattle.hotel_core.specs.Rows.{no_rows}
+use Rattle.hotel_core.specs.History.{start}
+use Rattle.hotel_desk.specs.Tests.{rows_made, rows_read, always_kept}
+use Rattle.hotel_core.specs.Run.{Ran, run_on}
+use Rattle.hotel_desk.specs.Scenes.{as_words, link, card, note}
+
+-- the codes of the source's words
+abbrev pub source : List ℕ
+source = 160 ∷ 161 ∷ 162 ∷ [] ++ replicate 64 162
+
+abbrev pub commands_1 : List Command
+commands_1 =
+    command.Begin 11443
+    ∷ command.AddKind (68 ∷ 66 ∷ 76 ∷ [])
+    ∷ command.AddRoom 101 (68 ∷ 66 ∷ 76 ∷ [])
+    ∷ command.Reserve (65 ∷ 110 ∷ 110 ∷ 32 ∷ 76 ∷ 101 ∷ 101 ∷ []) (68 ∷ 66 ∷ 76 ∷ []) 11443 2
+    ∷ command.CheckIn 1 101
+    ∷ command.Reported (note 101 1 (act.Entered 1 (link 160 161)) 11443 54000)
+    ∷ command.Reported (note 101 2 (act.Entered 1 (link 160 161)) 11443 54000)
+    ∷ command.Reported (note 101 3 (act.Left 1 (link 160 161)) 11443 54000)
+    ∷ command.CheckOut 1
+    ∷ command.Reserve (66 ∷ 111 ∷ []) (68 ∷ 66 ∷ 76 ∷ []) 11443 2
+    ∷ command.CheckIn 2 101
+    ∷ command.Reported (note 101 4 (act.Entered 2 (link 161 162)) 11443 54000)
+    ∷ command.Reported (note 101 5 (act.Entered 1 (link 160 161)) 11443 54000)
+    ∷ []
+
+abbrev pub replies_1 : List Reply
+replies_1 =
+    reply.Begun
+    ∷ reply.KindAdded
+    ∷ reply.RoomAdded 160
+    ∷ reply.Reserved 1
+    ∷ reply.Issued (card 1 1 (link 160 161))
+    ∷ reply.Taken
+    ∷ reply.Taken
+    ∷ reply.Taken
+    ∷ reply.CheckedOut
+    ∷ reply.Reserved 2
+    ∷ reply.Issued (card 2 2 (link 161 162))
+    ∷ reply.Taken
+    ∷ reply.Refused refusal.LockShut
+    ∷ []
+
+abbrev pub ran_1 : Ran
+ran_1 = run_on (start no_rows) (as_words source) commands_1
+
+-- The replies and lists are these; the change of each event makes the rows; and what the headline says is kept throughout.
+abbrev pub Holds : Type 0
+Holds =
+    (ran_1.replies ≡ replies_1)
+    × (rows_made ran_1.history ≡ rows_read ran_1.history)
+    × (always_kept ran_1.history ≡ true)
