@@ -1,0 +1,4 @@
+pub mod Fields
+pub mod Header
+pub mod Line
+pub mod AuditFile
