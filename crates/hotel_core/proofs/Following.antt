@@ -1,6 +1,6 @@
 -- What an accepted event needs.
 use Rattle.std.proofs.Common.{ℕ, ◌≡◌, List, [], ◌∷◌, Bool, true, false, Option, Some, None, refl, ap, subst}
-use Rattle.std.specs.Prelude.{option_map, not, cond, length, drop, ◌+◌, ◌-◌, ◌==◌}
+use Rattle.std.specs.Prelude.{nat_lt, option_map, not, cond, length, drop, ◌+◌, ◌-◌, ◌==◌}
 use Rattle.hotel_core.specs.declared.command.Command.{Command}
 use Rattle.hotel_core.specs.declared.command.Command.TheVariants as command
 use Rattle.hotel_core.specs.declared.reply.Refusal.{Refusal}
@@ -17,21 +17,13 @@ use Rattle.hotel_core.specs.Event as event
 use Rattle.hotel_core.specs.History.{History}
 use Rattle.hotel_core.specs.Issued.{is_fresh, issued_codes}
 use Rattle.keycard_rules.specs.Draw.{draw_from, one_more, is_among, code_of}
-use Rattle.hotel_core.specs.Outcome.{Outcome, accepted, unless, needs, bars, grown}
+use Rattle.hotel_core.specs.Outcome.{Outcome, accepted, unless, needs, bars}
 use Rattle.hotel_core.specs.Answer.{answer_to, checks, effect, reported, told, moment_of}
-use Rattle.hotel_core.specs.Cases.{is_begun, is_kind, is_room, is_party, is_booked, is_in_house, is_of_kind, is_taken, is_card, has_link, opens, holds, next_card}
+use Rattle.hotel_core.specs.Cases.{is_begun, today, is_kind, is_room, is_party, is_booked, is_in_house, is_of_kind, is_taken, is_card, has_link, opens, holds, next_card}
 use Rattle.hotel_core.specs.Stays.{first_full}
 use Rattle.hotel_core.specs.Notes.{Standing, Copy, Conflicting, Next, After, standing, standing_among, notes, same_note}
-use Rattle.hotel_core.specs.Run.{Reached}
 use Rattle.hotel_core.specs.Follow.{MayFollow}
 use Rattle.hotel_core.proofs.Tests.{eq_from}
-
-keeps : (h : History) (ahead : List ℕ) (command : Command) (o : Option Event) → (answer_to h ahead command).happens ≡ o → Reached h → Reached (grown h o)
-keeps h ahead command None e ok = ok
-keeps h ahead command (Some event) e ok = (ok, ahead, command, e)
-
-pub step_keeps : (h : History) (ahead : List ℕ) (command : Command) → Reached h → Reached (grown h (answer_to h ahead command).happens)
-step_keeps h ahead command ok = keeps h ahead command _ refl ok
 
 -- none of the checks refused
 abbrev pub AllPass : List (Option Refusal) → Type 0
@@ -107,7 +99,7 @@ by_standing h note Next e f r q = by_act h note note.act e (next_count (length (
 
 follows_if : (h : History) (ahead : List ℕ) (command : Command) (e : Event) → AllPass (checks h command) → (effect h ahead command).happens ≡ Some e → MayFollow h e
 follows_if h ahead (command.Begin day) e p q = subst (λ x. MayFollow h x) (same_event q) (barred (is_begun h) _ p.0)
-follows_if h ahead (command.AddKind kind) e p q = subst (λ x. MayFollow h x) (same_event q) (barred (is_kind h kind) _ p.1.0)
+follows_if h ahead (command.AddKind kind) e p q = subst (λ x. MayFollow h x) (same_event q) (needed (is_begun h) _ p.0, barred (is_kind h kind) _ p.1.0)
 follows_if h ahead (command.AddRoom room kind) e p q =
     let d = from_draw (draw_from (issued_codes h) ahead).code (λ code. event.Install room kind code) e q in
     subst (λ x. MayFollow h x) d.2 (needed (is_kind h kind) _ p.1.0, barred (is_room h room) _ p.1.1.0, drawn_fresh h ahead d.0 d.1)
@@ -138,7 +130,7 @@ follows_if h ahead (command.Transfer party room) e p q =
       drawn_fresh h ahead d.0 d.1,
     )
 follows_if h ahead (command.CheckOut party) e p q = subst (λ x. MayFollow h x) (same_event q) (needed (is_party h party) _ p.1.0, needed (is_in_house h party) _ p.1.1.0)
-follows_if h ahead command.NextDay e p q = subst (λ x. MayFollow h x) (same_event q) (needed (is_begun h) _ p.0)
+follows_if h ahead command.NextDay e p q = subst (λ x. MayFollow h x) (same_event q) (needed (is_begun h) _ p.0, needed (nat_lt (today h) 36524) _ p.1.0)
 follows_if h ahead (command.Reported note) e p q = by_standing h note (standing h note) e refl (needed (is_room h note.room) _ p.1.0) q
 
 pub answers_follow : (h : History) (ahead : List ℕ) (command : Command) (e : Event) → (answer_to h ahead command).happens ≡ Some e → MayFollow h e

@@ -26,7 +26,7 @@ use Rattle.hotel_core.proofs.NotesKept.{next_not_found}
 use Rattle.hotel_core.proofs.NumbersLeft.{HasNumber, has_number, codes_fit}
 use Rattle.std.proofs.lemmas.Bool.{leb-false}
 use Rattle.hotel_core.proofs.Grown.{may_follow}
-use Rattle.hotel_core.proofs.Tables.{no_key}
+use Rattle.hotel_core.proofs.TableKeys.{no_key}
 
 no_day : (o : Option ℕ) → is_some o ≡ false → o ≡ None
 no_day (Some d) h = cc
@@ -70,7 +70,7 @@ next_is_new h room count ok n = next_not_found h ok room count (omega arith)
 
 has_rows_where : (h : History) (event : Event) → Reached h → MayFollow h event → HasNumber h event → HasItsRows (change_of h event) (rows_of h)
 has_rows_where h (Begun day) ok n l = no_day _ n
-has_rows_where h (Kind kind) ok n l = n
+has_rows_where h (Kind kind) ok n l = n.1
 has_rows_where h (Install room kind code) ok n l = (n.0, room_not_there h room n.1, fresh_has_no_row h code n.2)
 has_rows_where h (Reserved party guest kind arrive depart) ok n l = (n.1, refl)
 has_rows_where h (Cancelled party) ok n l = has_stay h party n.0
@@ -78,7 +78,7 @@ has_rows_where h (CheckIn party room number code) ok n l = (room_has_row h room 
 has_rows_where h (Transfer party room number code) ok n l = (room_has_row h room n.0, codes_left h room ok n.0 l, fresh_has_no_row h code n.6, n.5, has_stay h party n.1)
 has_rows_where h (Spare party number) ok n l = n.2
 has_rows_where h (CheckOut party) ok n l = (has_stay h party n.0, home_has_row h party ok n.1)
-has_rows_where h NextDay ok n l = n
+has_rows_where h NextDay ok n l = n.0
 has_rows_where h (Entered room count number link at) ok n l = (room_has_row h room n.1, next_is_new h room count ok n.0)
 has_rows_where h (Left room count number link at) ok n l = (room_has_row h room n.1, next_is_new h room count ok n.0)
 has_rows_where h (Recoded room count from to at) ok n l = (room_has_row h room n.1, next_is_new h room count ok n.0)

@@ -3,14 +3,15 @@ use Rattle.hotel_core.specs.declared.command.Command.{Command}
 use Rattle.hotel_core.specs.declared.command.Command.TheVariants as command
 use Rattle.hotel_core.specs.History.{History}
 use Rattle.hotel_core.specs.Run.{Reached}
-use Rattle.hotel_core.specs.Lift.{Lifts, IsCounted}
+use Rattle.hotel_core.specs.Ranges.{IsCommand}
+use Rattle.hotel_core.specs.Lift.{Lifts}
 use Rattle.hotel_core.proofs.LiftFacts.{CodesFound}
 use Rattle.hotel_core.proofs.LiftFound.{codes_found}
 use Rattle.hotel_core.proofs.LiftEasy.{begin_lifts, add_kind_lifts, next_day_lifts, cancel_lifts, check_out_lifts, add_room_lifts, reserve_lifts}
 use Rattle.hotel_core.proofs.LiftGuests.{check_in_lifts, transfer_lifts, spare_lifts}
 use Rattle.hotel_core.proofs.LiftNotes.{note_lifts}
 
-answers_lift_where : (h : History) (command : Command) → Reached h → CodesFound h → IsCounted command → Lifts h command
+answers_lift_where : (h : History) (command : Command) → Reached h → CodesFound h → IsCommand command → Lifts h command
 answers_lift_where h (command.Begin day) ok found n = begin_lifts h day
 answers_lift_where h (command.AddKind kind) ok found n = add_kind_lifts h kind
 answers_lift_where h (command.AddRoom room kind) ok found n = add_room_lifts h room kind
@@ -21,7 +22,7 @@ answers_lift_where h (command.Spare party) ok found n = spare_lifts h party foun
 answers_lift_where h (command.Transfer party room) ok found n = transfer_lifts h party room found.current
 answers_lift_where h (command.CheckOut party) ok found n = check_out_lifts h party
 answers_lift_where h command.NextDay ok found n = next_day_lifts h
-answers_lift_where h (command.Reported note) ok found n = note_lifts h note ok found n
+answers_lift_where h (command.Reported note) ok found n = note_lifts h note ok found n.0.0
 
-pub answers_lift : (h : History) (command : Command) → Reached h → IsCounted command → Lifts h command
+pub answers_lift : (h : History) (command : Command) → Reached h → IsCommand command → Lifts h command
 answers_lift h command ok n = answers_lift_where h command ok (codes_found h ok) n

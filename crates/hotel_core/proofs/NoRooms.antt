@@ -16,7 +16,7 @@ use Rattle.hotel_core.specs.Cases.{is_room}
 use Rattle.hotel_core.proofs.Numbered.{true_is_not_false, apart_by}
 use Rattle.hotel_core.proofs.Grown.{may_follow}
 use Rattle.hotel_core.proofs.Tests.{or_false}
-use Rattle.hotel_core.proofs.Tables.{key_inserted}
+use Rattle.hotel_core.proofs.TableKeys.{key_inserted}
 use Rattle.hotel_core.proofs.RoomCodes.{others_have_none}
 
 -- a room is apart from what is no room

@@ -1,6 +1,7 @@
 -- Runs: one after the other, one command more, and that they are determined where nothing failed.
 use Rattle.std.proofs.Common.{◌≡◌, Bool, true, false, Option, Some, None, List, [], ◌∷◌, ◌++◌, refl, ap, sym, ◌∙◌, subst}
-use Rattle.std.specs.Prelude.{option_map}
+use Rattle.std.specs.Prelude.{All, option_map}
+use Rattle.std.proofs.lemmas.List.Elements.{All-head, All-tail}
 use Rattle.rand_core.specs.Stream.{Stream}
 use Rattle.keycard_rules.specs.Draw.{words, past}
 use Rattle.hotel_core.specs.declared.command.Command.{Command}
@@ -14,8 +15,9 @@ use Rattle.hotel_core.specs.ChangeOf.{change_of}
 use Rattle.hotel_core.specs.OnRows.{outcome_on}
 use Rattle.hotel_core.specs.StepOnRows.{made_by, GoesIf, Goes}
 use Rattle.hotel_core.specs.Run.{Reached, StandsFor, answered, is_failed, StepsIf, Steps, Runs}
-use Rattle.hotel_core.specs.Lift.{as_change, IsCounted, RunsTo, NoneFailed}
-use Rattle.hotel_core.proofs.Following.{step_keeps}
+use Rattle.hotel_core.specs.Ranges.{IsCommand, IsReply}
+use Rattle.hotel_core.specs.Lift.{as_change, RunsTo, NoneFailed}
+use Rattle.hotel_core.proofs.EventRanges.{step_keeps}
 use Rattle.hotel_core.proofs.RowsFollow.{made_follow}
 use Rattle.hotel_core.proofs.LiftAll.{answers_lift}
 
@@ -33,28 +35,28 @@ grown_rows h None ok = refl
 grown_rows h (Some event) ok = made_follow h event ok
 
 -- a step over the rows of a history, where the outcome is the answer's
-step_by : (b : Bool) (h : History) (s : Stream) (command : Command) (reply : Reply) (later : Rows) (rest : Stream) → Reached h → GoesIf b (as_change h (answered h s command)) (rows_of h) s reply later rest
+step_by : (b : Bool) (h : History) (s : Stream) (command : Command) (reply : Reply) (later : Rows) (rest : Stream) → Reached h → IsCommand command → IsReply reply → GoesIf b (as_change h (answered h s command)) (rows_of h) s reply later rest
     → (h' : History) × StandsFor h' later × StepsIf b h s command reply h' rest
-step_by true h s command reply later rest ok g = (h, (ok, g.0), (refl, g.1))
-step_by false h s command reply later rest ok g =
+step_by true h s command reply later rest ok n r g = (h, (ok, g.0), (refl, g.1))
+step_by false h s command reply later rest ok n r g =
     let o : Outcome Event = answered h s command in
-    let ok' : Reached (grown h o.happens) = step_keeps h (words 64 s) command ok in
+    let ok' : Reached (grown h o.happens) = step_keeps h (words 64 s) command reply n (sym g.0) r ok in
     (grown h o.happens, (ok', g.1 ∙ sym (grown_rows h o.happens ok')), (g.0, refl, g.2))
 
 -- A step over books whose rows stand for a history is a step from that history.
-pub steps_lift : (h : History) (rows : Rows) (s : Stream) (command : Command) (reply : Reply) (later : Rows) (rest : Stream) → StandsFor h rows → IsCounted command
+pub steps_lift : (h : History) (rows : Rows) (s : Stream) (command : Command) (reply : Reply) (later : Rows) (rest : Stream) → StandsFor h rows → IsCommand command → IsReply reply
     → Goes (outcome_on rows (words 64 s) command) rows s reply later rest → (h' : History) × StandsFor h' later × Steps h s command reply h' rest
-steps_lift h rows s command reply later rest stands n g =
+steps_lift h rows s command reply later rest stands n r g =
     let on_history : Goes (outcome_on (rows_of h) (words 64 s) command) (rows_of h) s reply later rest =
     subst (λ z. Goes (outcome_on z (words 64 s) command) z s reply later rest) stands.1 g in
-    step_by (is_failed reply) h s command reply later rest stands.0
+    step_by (is_failed reply) h s command reply later rest stands.0 n r
     (subst (λ o. Goes o (rows_of h) s reply later rest) (answers_lift h command stands.0 n (words 64 s)) on_history)
 
 pub runs_go_on : (h : History) (s : Stream) (commands : List Command) (replies : List Reply) (rows : Rows) (source : Stream) (command : Command) (reply : Reply) (later : Rows) (rest : Stream)
-    → RunsTo h s commands replies rows source → IsCounted command → Goes (outcome_on rows (words 64 source) command) rows source reply later rest
+    → RunsTo h s commands replies rows source → IsCommand command → IsReply reply → Goes (outcome_on rows (words 64 source) command) rows source reply later rest
     → RunsTo h s (commands ++ command ∷ []) (replies ++ reply ∷ []) later rest
-runs_go_on h s commands replies rows source command reply later rest r n g =
-    let step = steps_lift r.0 rows source command reply later rest r.1 n g in
+runs_go_on h s commands replies rows source command reply later rest r n answer g =
+    let step = steps_lift r.0 rows source command reply later rest r.1 n answer g in
     (step.0, step.1, runs_join h r.0 step.0 s source rest commands (command ∷ []) replies (reply ∷ []) r.2 (step.0, rest, step.2, (refl, refl)))
 
 pub runs_begin : (h : History) (s : Stream) (rows : Rows) → StandsFor h rows → RunsTo h s [] [] rows s
@@ -69,15 +71,16 @@ runs_part h h' s s' (c ∷ commands) later (p ∷ replies) r =
     (p ∷ q.0, q.1, q.2, q.3, ap (λ ps. p ∷ ps) q.4, (r.0, r.1, r.2, q.5), q.6)
 runs_part h h' s s' (c ∷ commands) later [] r = absurd r
 
-step_reaches : (b : Bool) (h : History) (s : Stream) (command : Command) (reply : Reply) (h' : History) (s' : Stream) → Reached h → StepsIf b h s command reply h' s' → Reached h'
-step_reaches true h s command reply h' s' ok d = subst (λ z. Reached z) (sym d.0) ok
-step_reaches false h s command reply h' s' ok d = subst (λ z. Reached z) (sym d.1) (step_keeps h (words 64 s) command ok)
+step_reaches : (b : Bool) (h : History) (s : Stream) (command : Command) (reply : Reply) (h' : History) (s' : Stream) → Reached h → IsCommand command → IsReply reply → StepsIf b h s command reply h' s' → Reached h'
+step_reaches true h s command reply h' s' ok n r d = subst (λ z. Reached z) (sym d.0) ok
+step_reaches false h s command reply h' s' ok n r d = subst (λ z. Reached z) (sym d.1) (step_keeps h (words 64 s) command reply n (sym d.0) r ok)
 
-pub runs_reach : (h h' : History) (s s' : Stream) (commands : List Command) (replies : List Reply) → Reached h → Runs h s commands replies h' s' → Reached h'
-runs_reach h h' s s' [] [] ok r = subst (λ z. Reached z) (sym r.0) ok
-runs_reach h h' s s' (c ∷ commands) (p ∷ replies) ok r = runs_reach r.0 h' r.1 s' commands replies (step_reaches (is_failed p) h s c p r.0 r.1 ok r.2) r.3
-runs_reach h h' s s' [] (p ∷ replies) ok r = absurd r
-runs_reach h h' s s' (c ∷ commands) [] ok r = absurd r
+pub runs_reach : (h h' : History) (s s' : Stream) (commands : List Command) (replies : List Reply) → Reached h → All IsCommand commands → All IsReply replies → Runs h s commands replies h' s' → Reached h'
+runs_reach h h' s s' [] [] ok n a r = subst (λ z. Reached z) (sym r.0) ok
+runs_reach h h' s s' (c ∷ commands) (p ∷ replies) ok n a r =
+    runs_reach r.0 h' r.1 s' commands replies (step_reaches (is_failed p) h s c p r.0 r.1 ok (All-head IsCommand c commands n) (All-head IsReply p replies a) r.2) (All-tail IsCommand c commands n) (All-tail IsReply p replies a) r.3
+runs_reach h h' s s' [] (p ∷ replies) ok n a r = absurd r
+runs_reach h h' s s' (c ∷ commands) [] ok n a r = absurd r
 
 -- a step that didn't fail
 step_done : (h : History) (s : Stream) (command : Command) (reply : Reply) (h' : History) (s' : Stream) → is_failed reply ≡ false → Steps h s command reply h' s' → StepsIf false h s command reply h' s'

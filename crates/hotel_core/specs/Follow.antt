@@ -1,5 +1,5 @@
 -- What an accepted event needs of the history before it. A consequence of the answers, for proofs.
-use Rattle.std.specs.Prelude.{ℕ, ◌≡◌, true, false, List, Some, None, ◌+◌, is_some, [], ◌∷◌, ◌==◌, length}
+use Rattle.std.specs.Prelude.{ℕ, ◌≡◌, true, false, List, Some, None, ◌+◌, is_some, nat_lt, [], ◌∷◌, ◌==◌, length}
 use Rattle.hotel_core.specs.declared.command.Command.{Command}
 use Rattle.hotel_core.specs.Words.{is_one_of}
 use Rattle.hotel_core.specs.Answer.{answer_to}
@@ -15,11 +15,11 @@ use Rattle.hotel_core.specs.Issued.{is_fresh}
 use Rattle.hotel_core.specs.Ledger.{awaited}
 use Rattle.hotel_core.specs.Guests.{inside}
 use Rattle.hotel_core.specs.Stays.{first_full, rooms}
-use Rattle.hotel_core.specs.Cases.{is_begun, is_kind, is_room, is_party, is_booked, is_in_house, is_of_kind, is_taken, is_card, has_link, opens, holds, next_card, next_party}
+use Rattle.hotel_core.specs.Cases.{is_begun, today, is_kind, is_room, is_party, is_booked, is_in_house, is_of_kind, is_taken, is_card, has_link, opens, holds, next_card, next_party}
 
 abbrev pub MayFollow : History → Event → Type 0
 MayFollow h (Begun day) = is_begun h ≡ false
-MayFollow h (Kind kind) = is_kind h kind ≡ false
+MayFollow h (Kind kind) = (is_begun h ≡ true) × (is_kind h kind ≡ false)
 MayFollow h (Install room kind code) = (is_kind h kind ≡ true) × (is_room h room ≡ false) × (is_fresh h code ≡ true)
 MayFollow h (Reserved party guest kind arrive depart) = (is_kind h kind ≡ true) × (party ≡ next_party h) × (nights : ℕ) × (depart ≡ arrive + nights) × (first_full h kind arrive nights ≡ None)
 MayFollow h (Cancelled party) = (is_party h party ≡ true) × (is_booked h party ≡ true)
@@ -29,7 +29,7 @@ MayFollow h (Transfer party room number code) =
     (is_room h room ≡ true) × (is_party h party ≡ true) × (is_in_house h party ≡ true) × (is_of_kind h room party ≡ true) × (is_taken h room ≡ false) × (number ≡ next_card h) × (is_fresh h code ≡ true)
 MayFollow h (Spare party number) = (is_party h party ≡ true) × (is_in_house h party ≡ true) × (number ≡ next_card h)
 MayFollow h (CheckOut party) = (is_party h party ≡ true) × (is_in_house h party ≡ true)
-MayFollow h NextDay = is_begun h ≡ true
+MayFollow h NextDay = (is_begun h ≡ true) × (nat_lt (today h) 36524 ≡ true)
 MayFollow h (Entered room count number link at) = (count ≡ length (notes h room) + 1) × (is_room h room ≡ true) × (is_card h number ≡ true) × (has_link h number link ≡ true) × (opens h room link ≡ true)
 MayFollow h (Left room count number link at) = (count ≡ length (notes h room) + 1) × (is_room h room ≡ true) × (is_card h number ≡ true) × (has_link h number link ≡ true) × (is_one_of number (inside h room) ≡ true)
 MayFollow h (Recoded room count from to at) = (count ≡ length (notes h room) + 1) × (is_room h room ≡ true) × (holds h room from ≡ true) × (is_one_of to (awaited h room) ≡ true)

@@ -3,6 +3,8 @@ use Rattle.std.specs.Prelude.{ℕ, ◌≡◌, ◌≤◌, ◌↔◌, true, List, 
 use Rattle.keycard_rules.specs.declared.card.Card.{Card}
 use Rattle.keycard_rules.specs.declared.card.Link.{Link}
 use Rattle.hotel_core.specs.declared.command.Command.{Command}
+use Rattle.hotel_core.specs.declared.reply.Reply.{Reply}
+use Rattle.hotel_core.specs.Ranges.{IsCommand, IsReply}
 use Rattle.hotel_core.specs.Rows.{at_number}
 use Rattle.hotel_core.specs.Sound.{IsSound}
 use Rattle.hotel_core.specs.Event.{Event, Entered}
@@ -77,4 +79,5 @@ RowsFollow = (h : History) (event : Event) → Reached (h ▷ event) →
 
 -- A step after a history that can be reached makes one that can be reached.
 abbrev pub StepKeeps : Type 0
-StepKeeps = (h : History) (ahead : List ℕ) (command : Command) → Reached h → Reached (grown h (answer_to h ahead command).happens)
+StepKeeps = (h : History) (ahead : List ℕ) (command : Command) (reply : Reply) → IsCommand command → (answer_to h ahead command).reply ≡ reply → IsReply reply → Reached h
+    → Reached (grown h (answer_to h ahead command).happens)

@@ -3,6 +3,7 @@ pub mod Rows
 pub mod Lookups
 pub mod Event
 pub mod History
+pub mod Ranges
 pub mod Issued
 pub mod Cards
 pub mod Lock
@@ -30,3 +31,6 @@ pub mod Lists
 pub mod Follow
 pub mod Texts
 pub mod CodeLaws
+pub mod CodeTable
+pub mod Tables
+pub mod ListBooks

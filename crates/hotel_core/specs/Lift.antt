@@ -1,13 +1,13 @@
 -- What the books compute on rows, lifted to what the desk answers after a history.
-use Rattle.std.specs.Prelude.{ℕ, ◌≡◌, ◌≤◌, false, List, [], ◌∷◌, ◌++◌, option_map}
+use Rattle.std.specs.Prelude.{ℕ, ◌≡◌, All, false, List, [], ◌∷◌, ◌++◌, option_map}
 use Rattle.rand_core.specs.Stream.{Stream}
 use Rattle.keycard_rules.specs.Draw.{words}
 use Rattle.hotel_core.specs.declared.change.Change.{Change}
 use Rattle.hotel_core.specs.declared.command.Command.{Command}
-use Rattle.hotel_core.specs.declared.command.Command.TheVariants as command
 use Rattle.hotel_core.specs.declared.reply.Reply.{Reply}
 use Rattle.hotel_core.specs.Rows.{Rows}
 use Rattle.hotel_core.specs.Event.{Event}
+use Rattle.hotel_core.specs.Ranges.{IsCommand, IsReply}
 use Rattle.hotel_core.specs.History.{History}
 use Rattle.hotel_core.specs.RowsOf.{rows_of}
 use Rattle.hotel_core.specs.Outcome.{Outcome}
@@ -21,18 +21,13 @@ use Rattle.hotel_core.specs.Run.{Reached, StandsFor, Steps, Runs, is_failed}
 abbrev pub as_change : History → Outcome Event → Outcome Change
 as_change h o = record { reply = o.reply; happens = option_map (change_of h) o.happens; examined = o.examined }
 
--- a note's count is 1 or more
-abbrev pub IsCounted : Command → Type 0
-IsCounted (command.Reported note) = 1 ≤ note.count
-IsCounted _ = Unit {0}
-
 -- What comes of a command on the rows of a history is the answer after that history.
 abbrev pub Lifts : History → Command → Type 0
 Lifts h command = (ahead : List ℕ) → outcome_on (rows_of h) ahead command ≡ as_change h (answer_to h ahead command)
 
 -- This holds after each history that can be reached.
 abbrev pub AnswersLift : Type 0
-AnswersLift = (h : History) (command : Command) → Reached h → IsCounted command → Lifts h command
+AnswersLift = (h : History) (command : Command) → Reached h → IsCommand command → Lifts h command
 
 -- Rows that stand for a history are whole.
 abbrev pub RowsAreWhole : Type 0
@@ -40,7 +35,7 @@ RowsAreWhole = (h : History) (rows : Rows) → StandsFor h rows → AreWhole row
 
 -- A step over books whose rows stand for a history is a step from that history, to one that the later rows stand for.
 abbrev pub StepsLift : Type 0
-StepsLift = (h : History) (rows : Rows) (s : Stream) (command : Command) (reply : Reply) (later : Rows) (rest : Stream) → StandsFor h rows → IsCounted command
+StepsLift = (h : History) (rows : Rows) (s : Stream) (command : Command) (reply : Reply) (later : Rows) (rest : Stream) → StandsFor h rows → IsCommand command → IsReply reply
     → Goes (outcome_on rows (words 64 s) command) rows s reply later rest → (h' : History) × StandsFor h' later × Steps h s command reply h' rest
 
 -- A run has come to these rows and this source.
@@ -54,7 +49,7 @@ RunsBegin = (h : History) (s : Stream) (rows : Rows) → StandsFor h rows → Ru
 -- A run goes on by a step over the books that it has come to.
 abbrev pub RunsGoOn : Type 0
 RunsGoOn = (h : History) (s : Stream) (commands : List Command) (replies : List Reply) (rows : Rows) (source : Stream) (command : Command) (reply : Reply) (later : Rows) (rest : Stream)
-    → RunsTo h s commands replies rows source → IsCounted command → Goes (outcome_on rows (words 64 source) command) rows source reply later rest
+    → RunsTo h s commands replies rows source → IsCommand command → IsReply reply → Goes (outcome_on rows (words 64 source) command) rows source reply later rest
     → RunsTo h s (commands ++ command ∷ []) (replies ++ reply ∷ []) later rest
 
 -- A run after a run is a run.
@@ -67,9 +62,9 @@ abbrev pub RunsPart : Type 0
 RunsPart = (h h' : History) (s s' : Stream) (commands later : List Command) (replies : List Reply) → Runs h s (commands ++ later) replies h' s'
     → (first : List Reply) × (more : List Reply) × (mid : History) × (source : Stream) × (replies ≡ first ++ more) × Runs h s commands first mid source × Runs mid source later more h' s'
 
--- A run from a history that can be reached ends in one that can be reached.
+-- A run from a history that can be reached ends in one that can be reached, where the commands' and replies' values are in their ranges.
 abbrev pub RunsReach : Type 0
-RunsReach = (h h' : History) (s s' : Stream) (commands : List Command) (replies : List Reply) → Reached h → Runs h s commands replies h' s' → Reached h'
+RunsReach = (h h' : History) (s s' : Stream) (commands : List Command) (replies : List Reply) → Reached h → All IsCommand commands → All IsReply replies → Runs h s commands replies h' s' → Reached h'
 
 -- no reply says that memory or the store failed
 abbrev pub NoneFailed : List Reply → Type 0

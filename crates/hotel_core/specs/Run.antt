@@ -8,6 +8,7 @@ use Rattle.hotel_core.specs.declared.reply.Refusal.TheVariants.{Memory, Store}
 use Rattle.hotel_core.specs.Rows.{Rows, no_rows}
 use Rattle.hotel_core.specs.History.{History, start, ◌▷◌}
 use Rattle.hotel_core.specs.Event.{Event}
+use Rattle.hotel_core.specs.Ranges.{InRange}
 use Rattle.hotel_core.specs.RowsOf.{rows_of}
 use Rattle.keycard_rules.specs.Draw.{words, past, MovedAtMost}
 use Rattle.hotel_core.specs.Outcome.{Outcome, grown}
@@ -17,10 +18,10 @@ use Rattle.hotel_core.specs.Answer.{answer_to}
 abbrev pub IsStart : Rows → Type 0
 IsStart t = t ≡ no_rows
 
--- The history can be reached: the desk can start so, and each event was accepted after those before it.
+-- The history can be reached: the desk can start so, each event was accepted after those before it, and its values are in their ranges.
 abbrev pub Reached : History → Type 0
 Reached (start t) = IsStart t
-Reached (h ▷ event) = Reached h × (ahead : List ℕ) × (command : Command) × ((answer_to h ahead command).happens ≡ Some event)
+Reached (h ▷ event) = Reached h × (ahead : List ℕ) × (command : Command) × ((answer_to h ahead command).happens ≡ Some event) × InRange event
 
 -- The rows stand for a history that can be reached.
 abbrev pub StandsFor : History → Rows → Type 0

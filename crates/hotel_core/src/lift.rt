@@ -17,7 +17,7 @@ pub fn steps_lift()
 {}
 
 /// A run after a run is a run, and has these parts; over books it begins with no command and goes on by a step. It
-/// ends in a history that can be reached.
+/// ends in a history that can be reached, where all values are in their ranges.
 pub fn runs_join()
     ensures join { RunsJoin }
     ensures begin { RunsBegin }

@@ -1,4 +1,4 @@
-use Rattle.std.proofs.Common.{◌≡◌, arith, rules, ap, length, ◌∙◌}
+use Rattle.std.proofs.Common.{◌≡◌, arith, rules, ap, length}
 use Rattle.std.specs.Fmt.{decimal}
 use Rattle.std.proofs.lemmas.Fmt.{length-decimal-le}
 use Rattle.hotel_core.proofs.texts.ReplyText.push_count.Goals as goal
