@@ -2,3 +2,5 @@ pub mod Fields
 pub mod Header
 pub mod Line
 pub mod AuditFile
+pub mod Readings
+pub mod Answers
