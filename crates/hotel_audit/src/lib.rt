@@ -14,3 +14,6 @@ pub use audit_file::{AuditFault, read_notes};
 pub use laws::records_of_bytes;
 pub use line::{Cause, Line};
 pub use texts::{AnswerText, answer_text};
+
+#[cfg(test)]
+mod tests;
