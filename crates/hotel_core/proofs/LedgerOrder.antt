@@ -21,10 +21,11 @@ use Rattle.hotel_core.specs.CodeLaws.{IsLink}
 use Rattle.hotel_core.proofs.Tests.{eq_from, not_both, and_true, or_second}
 use Rattle.hotel_core.proofs.TableKeys.{key_inserted, row_of_key}
 use Rattle.hotel_core.proofs.CodeLists.{first_out, parted}
-use Rattle.hotel_core.proofs.Grown.{at_start, may_follow}
+use Rattle.hotel_core.proofs.Grown.{may_follow}
 use Rattle.hotel_core.proofs.RoomCodes.{others_have_none}
 use Rattle.hotel_core.proofs.CodePlaces.{same_place}
 use Rattle.hotel_core.proofs.RoomLinks.{cards_have_links}
+use Rattle.hotel_core.proofs.StartLedger.{ledger_at_start}
 
 -- the ledger of one room
 abbrev pub InOrder : History → ℕ → Type 0
@@ -101,7 +102,7 @@ link_seen h number link ok there has = let c = card_seen h number link there has
 
 -- At each room the passed codes, the held one and the awaited ones are the issued ones, in order.
 pub ledger_holds : (h : History) → Reached h → LedgerHolds h
-ledger_holds (start t) ok r f = at_start LedgerHolds t ok (λ s g. not_both false g refl) r f
+ledger_holds (start t) ok r f = ledger_at_start t ok r f
 ledger_holds (h ▷ Install room kind code) ok r f =
     install_case (room == r) h code r
     (λ t. others_have_none h ok.0 r (ap (is_room h) (sym (eq_from room r t)) ∙ (may_follow h (Install room kind code) ok).1))

@@ -20,9 +20,10 @@ use Rattle.hotel_core.specs.Run.{Reached}
 use Rattle.hotel_core.specs.Headline.{NoOversell}
 use Rattle.hotel_core.proofs.Tests.{and_true, not_both}
 use Rattle.hotel_core.proofs.TableKeys.{no_key}
-use Rattle.hotel_core.proofs.Grown.{at_start, may_follow}
+use Rattle.hotel_core.proofs.Grown.{may_follow}
 use Rattle.hotel_core.proofs.Numbering.{next_party_free}
 use Rattle.hotel_core.proofs.StayCounts.{count_inserted, count_changed, none_passes}
+use Rattle.hotel_core.proofs.StartRows.{rooms_of_start}
 
 -- on no night are more stays of a kind than rooms
 abbrev pub RoomsSuffice : History → Type 0
@@ -87,7 +88,7 @@ more_rooms true taken rooms_there rooms_now e le = omega arith
 more_rooms false taken rooms_there rooms_now e le = omega arith
 
 pub rooms_suffice : (h : History) → Reached h → RoomsSuffice h
-rooms_suffice (start t) ok kind d = at_start RoomsSuffice t ok (λ k e. omega arith) kind d
+rooms_suffice (start t) ok kind d = subst (λ n. count_by (takes kind d) (values_of t.stays) ≤ n) (rooms_of_start t kind) (ok.stay_nights kind d)
 rooms_suffice (h ▷ Install room k code) ok kind d =
     more_rooms (bytes_eq k kind) _ (rooms_of h kind) _ (count_inserted (λ x. bytes_eq x kind) (rooms h) room k (no_key (rooms h) room (may_follow h (Install room k code) ok).1)) (rooms_suffice h ok.0 kind d)
 rooms_suffice (h ▷ Reserved party guest k arrive depart) ok kind d =
