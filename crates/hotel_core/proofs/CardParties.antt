@@ -17,7 +17,7 @@ use Rattle.hotel_core.specs.Cases.{next_card}
 use Rattle.hotel_core.specs.Run.{Reached}
 use Rattle.hotel_core.specs.CodeLaws.{IsLink, HasCard, PartiesHaveCards, CardsOneParty, GuestsHaveCards}
 use Rattle.hotel_core.proofs.Tests.{eq_from}
-use Rattle.hotel_core.proofs.Tables.{row_inserted, row_kept, row_added}
+use Rattle.hotel_core.proofs.TableKeys.{row_inserted, row_kept, row_added}
 use Rattle.hotel_core.proofs.Grown.{may_follow}
 use Rattle.hotel_core.proofs.Numbering.{next_card_free}
 use Rattle.hotel_core.proofs.CodePlaces.{codes_have_places, fresh_has_no_row}

@@ -14,7 +14,7 @@ use Rattle.hotel_core.specs.Run.{Reached}
 use Rattle.hotel_core.specs.Headline.{NoCodeTwice}
 use Rattle.hotel_core.specs.CodeLaws.{CodesHavePlaces, PlacesHaveCodes}
 use Rattle.hotel_core.proofs.Tests.{eq_from, eq_self, not_both}
-use Rattle.hotel_core.proofs.Tables.{row_inserted, row_kept, row_added, no_key}
+use Rattle.hotel_core.proofs.TableKeys.{row_inserted, row_kept, row_added, no_key}
 use Rattle.hotel_core.proofs.CodeLists.{snoc_split, cut_alike}
 use Rattle.hotel_core.proofs.Grown.{may_follow}
 use Rattle.hotel_core.proofs.StartCodes.{places_at_start, rows_at_start}

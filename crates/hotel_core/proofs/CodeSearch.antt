@@ -15,7 +15,7 @@ use Rattle.hotel_core.specs.Issued.{issued, all_issued}
 use Rattle.hotel_core.specs.Run.{Reached}
 use Rattle.hotel_core.specs.CodeLaws.{CodesAreFound}
 use Rattle.hotel_core.proofs.Tests.{eq_from, eq_self, and_true, not_both}
-use Rattle.hotel_core.proofs.Tables.{swap_tests}
+use Rattle.hotel_core.proofs.TableKeys.{swap_tests}
 use Rattle.hotel_core.proofs.CodeLists.{snoc_split, length_more}
 use Rattle.hotel_core.proofs.CodePlaces.{next_place, fresh_has_no_row}
 use Rattle.hotel_core.proofs.Grown.{may_follow}

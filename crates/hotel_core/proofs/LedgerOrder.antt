@@ -19,7 +19,7 @@ use Rattle.hotel_core.specs.Run.{Reached}
 use Rattle.hotel_core.specs.Headline.{LedgerHolds, TakesTheFirst}
 use Rattle.hotel_core.specs.CodeLaws.{IsLink}
 use Rattle.hotel_core.proofs.Tests.{eq_from, not_both, or_second}
-use Rattle.hotel_core.proofs.Tables.{key_inserted, row_of_key}
+use Rattle.hotel_core.proofs.TableKeys.{key_inserted, row_of_key}
 use Rattle.hotel_core.proofs.CodeLists.{first_out, parted}
 use Rattle.hotel_core.proofs.Grown.{may_follow}
 use Rattle.hotel_core.proofs.RoomCodes.{others_have_none}

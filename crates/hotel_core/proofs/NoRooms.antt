@@ -16,7 +16,7 @@ use Rattle.hotel_core.specs.Cases.{is_room}
 use Rattle.hotel_core.proofs.Numbered.{true_is_not_false, apart_by}
 use Rattle.hotel_core.proofs.Grown.{may_follow}
 use Rattle.hotel_core.proofs.Tests.{or_false}
-use Rattle.hotel_core.proofs.Tables.{key_inserted}
+use Rattle.hotel_core.proofs.TableKeys.{key_inserted}
 use Rattle.hotel_core.proofs.RoomCodes.{others_have_none}
 use Rattle.hotel_core.proofs.StartGuests.{nobody_at_start}
 use Rattle.hotel_core.proofs.StartNotes.{nothing_noted_at_start}

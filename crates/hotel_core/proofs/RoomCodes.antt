@@ -11,7 +11,7 @@ use Rattle.hotel_core.specs.Cases.{is_room}
 use Rattle.hotel_core.specs.Run.{Reached}
 use Rattle.hotel_core.specs.CodeLaws.{HasCodes, RoomsHaveCodes, OthersHaveNone}
 use Rattle.hotel_core.proofs.Tests.{eq_from, or_true, or_false, not_both}
-use Rattle.hotel_core.proofs.Tables.{key_inserted}
+use Rattle.hotel_core.proofs.TableKeys.{key_inserted}
 use Rattle.hotel_core.proofs.Grown.{may_follow, not_here}
 use Rattle.hotel_core.proofs.StartLedger.{rooms_have_codes_at_start, others_have_none_at_start}
 

@@ -15,7 +15,7 @@ use Rattle.hotel_core.specs.Cases.{is_room}
 use Rattle.hotel_core.specs.Run.{Reached}
 use Rattle.hotel_core.specs.CodeLaws.{IsLinkAt, IsLink, CardsHaveLinks, PartiesHaveLinks, NewestAreLast, HasCodes}
 use Rattle.hotel_core.proofs.Tests.{eq_from, eq_self}
-use Rattle.hotel_core.proofs.Tables.{row_inserted}
+use Rattle.hotel_core.proofs.TableKeys.{row_inserted}
 use Rattle.hotel_core.proofs.CodeLists.{last_split}
 use Rattle.hotel_core.proofs.Grown.{may_follow}
 use Rattle.hotel_core.proofs.RoomCodes.{rooms_have_codes, others_have_none}

@@ -19,7 +19,7 @@ use Rattle.hotel_core.proofs.RowsRooms.{eq_flip}
 use Rattle.hotel_core.proofs.Numbered.{at_mapped}
 use Rattle.hotel_core.proofs.Grown.{may_follow}
 use Rattle.hotel_core.proofs.Tests.{or_false}
-use Rattle.hotel_core.proofs.Tables.{row_of_key, no_key}
+use Rattle.hotel_core.proofs.TableKeys.{row_of_key, no_key}
 use Rattle.hotel_core.proofs.StartRows.{rooms_once_at_start}
 
 pub apart_from : (n : ℕ) (es : List (ℕ × List ℕ)) → is_one_of n (keys_of es) ≡ false → ApartFrom n es

@@ -18,7 +18,7 @@ use Rattle.hotel_core.specs.Cases.{is_booked, is_in_house, is_booked_state, room
 use Rattle.hotel_core.specs.Run.{Reached}
 use Rattle.hotel_core.specs.Headline.{NoOversell}
 use Rattle.hotel_core.proofs.Tests.{and_true, not_both}
-use Rattle.hotel_core.proofs.Tables.{no_key}
+use Rattle.hotel_core.proofs.TableKeys.{no_key}
 use Rattle.hotel_core.proofs.Grown.{may_follow}
 use Rattle.hotel_core.proofs.Numbering.{next_party_free}
 use Rattle.hotel_core.proofs.StayCounts.{count_inserted, count_changed, none_passes}

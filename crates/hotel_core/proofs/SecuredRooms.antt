@@ -21,7 +21,7 @@ use Rattle.hotel_core.specs.Follow.{MayFollow}
 use Rattle.hotel_core.specs.Headline.{SafeRoom}
 use Rattle.hotel_core.specs.CodeLaws.{SecuredRoomsFit}
 use Rattle.hotel_core.proofs.Tests.{eq_from, eq_self, and_true, either_way, not_both}
-use Rattle.hotel_core.proofs.Tables.{key_inserted}
+use Rattle.hotel_core.proofs.TableKeys.{key_inserted}
 use Rattle.hotel_core.proofs.CodeLists.{last_more}
 use Rattle.hotel_core.proofs.Grown.{may_follow}
 use Rattle.hotel_core.proofs.RoomCodes.{rooms_have_codes}

@@ -19,7 +19,7 @@ use Rattle.hotel_core.specs.Cases.{room_of_state, room_of, is_of_kind}
 use Rattle.hotel_core.specs.Run.{Reached}
 use Rattle.hotel_core.specs.SoundRooms.{is_home_of, parties_in_house}
 use Rattle.hotel_core.proofs.Tests.{eq_from, eq_self, not_both}
-use Rattle.hotel_core.proofs.Tables.{row_inserted, row_kept, no_key}
+use Rattle.hotel_core.proofs.TableKeys.{row_inserted, row_kept, no_key}
 use Rattle.hotel_core.proofs.StayStates.{stay_changed, home_of}
 use Rattle.hotel_core.proofs.Grown.{may_follow}
 use Rattle.hotel_core.proofs.InHouse.{registered_in_house}

@@ -25,7 +25,7 @@ use Rattle.hotel_core.specs.Cases.{is_booked, is_booked_state, is_in_house, room
 use Rattle.hotel_core.specs.Run.{Reached}
 use Rattle.hotel_core.specs.SoundRooms.{stays_on, rooms_with}
 use Rattle.hotel_core.proofs.Tests.{eq_from, eq_self, and_true, either_way, not_both}
-use Rattle.hotel_core.proofs.Tables.{no_key, is_at_self, at_is}
+use Rattle.hotel_core.proofs.TableKeys.{no_key, is_at_self, at_is}
 use Rattle.hotel_core.proofs.Grown.{may_follow}
 use Rattle.hotel_core.proofs.KindCounts.{count_more, rooms_counted}
 use Rattle.hotel_core.proofs.Numbering.{next_party_free}

@@ -21,7 +21,7 @@ use Rattle.hotel_core.proofs.KeysInOrder.{InOrder}
 use Rattle.hotel_core.proofs.CodeLists.{nothing_in_nil}
 use Rattle.hotel_core.proofs.Pairs.{pair_cmp_total}
 use Rattle.hotel_core.proofs.Tests.{eq_from, and_true, not_both}
-use Rattle.hotel_core.proofs.Tables.{is_key}
+use Rattle.hotel_core.proofs.TableKeys.{is_key}
 use Rattle.hotel_core.proofs.RowTests.{found_passes}
 use Rattle.hotel_core.proofs.StartRules.{some_of, lt_from}
 use Rattle.hotel_core.proofs.StartOrder.{in_order_from}

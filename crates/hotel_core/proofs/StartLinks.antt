@@ -17,7 +17,7 @@ use Rattle.hotel_core.specs.CodeLaws.{IsLinkAt, CardsHaveLinks, PartiesHaveLinks
 use Rattle.hotel_core.proofs.KeysInOrder.{InOrder}
 use Rattle.hotel_core.proofs.CodeLists.{cut_alike, last_more}
 use Rattle.hotel_core.proofs.Tests.{eq_from, eq_self, and_true, or_second}
-use Rattle.hotel_core.proofs.Tables.{is_at_self}
+use Rattle.hotel_core.proofs.TableKeys.{is_at_self}
 use Rattle.hotel_core.proofs.RowTests.{found_passes}
 use Rattle.hotel_core.proofs.StartRules.{said_true, link_is}
 use Rattle.hotel_core.proofs.StartOrder.{found_later}

@@ -10,7 +10,7 @@ use Rattle.hotel_core.specs.Rows.{at_number}
 use Rattle.hotel_core.specs.SoundRooms.{are_in_order}
 use Rattle.hotel_core.proofs.KeysInOrder.{AllAfter, InOrder, all_after}
 use Rattle.hotel_core.proofs.Tests.{and_true, not_both}
-use Rattle.hotel_core.proofs.Tables.{same_number}
+use Rattle.hotel_core.proofs.TableKeys.{same_number}
 
 is_less : (o : Ordering) → is_lt o ≡ true → o ≡ Less
 is_less Less e = refl

@@ -15,7 +15,7 @@ use Rattle.hotel_core.specs.Words.{when}
 use Rattle.hotel_core.specs.Rows.{at_number, codes_by_place}
 use Rattle.hotel_core.proofs.KeysInOrder.{InOrder, has_key, in_order_inserted, keys_inserted, present_stays}
 use Rattle.hotel_core.proofs.Tests.{eq_from, eq_self, not_both}
-use Rattle.hotel_core.proofs.Tables.{same_number, is_at_self, row_inserted, row_kept, row_added}
+use Rattle.hotel_core.proofs.TableKeys.{same_number, is_at_self, row_inserted, row_kept, row_added}
 use Rattle.hotel_core.proofs.StartOrder.{found_later}
 
 -- how many codes of a room stand in a table

@@ -19,7 +19,7 @@ use Rattle.hotel_core.specs.Follow.{ApartFrom, RoomsOnce}
 use Rattle.hotel_core.proofs.KeysInOrder.{AllAfter, InOrder}
 use Rattle.hotel_core.proofs.StayCounts.{count_first}
 use Rattle.hotel_core.proofs.Tests.{eq_from, eq_self, and_true}
-use Rattle.hotel_core.proofs.Tables.{at_is, is_at_self}
+use Rattle.hotel_core.proofs.TableKeys.{at_is, is_at_self}
 use Rattle.hotel_core.proofs.RowTests.{found_passes, all_weaker, both}
 use Rattle.hotel_core.proofs.StartOrder.{found_later}
 use Rattle.hotel_core.proofs.StartCodes.{orders, room_is, counted, lock_within, room_there_is}

@@ -13,7 +13,7 @@ use Rattle.hotel_core.specs.CodeLaws.{CodesAreFound}
 use Rattle.hotel_core.proofs.KeysInOrder.{InOrder}
 use Rattle.hotel_core.proofs.CodeLists.{cut_alike}
 use Rattle.hotel_core.proofs.Tests.{eq_from, eq_self, and_true}
-use Rattle.hotel_core.proofs.Tables.{is_at_self}
+use Rattle.hotel_core.proofs.TableKeys.{is_at_self}
 use Rattle.hotel_core.proofs.StartOrder.{found_later}
 use Rattle.hotel_core.proofs.StartCodes.{orders, row_is_place, place_is_row}
 use Rattle.hotel_core.proofs.StartPlaces.{none_or}

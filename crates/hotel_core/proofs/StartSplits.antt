@@ -7,7 +7,7 @@ use Rattle.std.specs.Map.{keys_of, values_of}
 use Rattle.hotel_core.specs.Rows.{at_number}
 use Rattle.hotel_core.specs.SoundRooms.{count_up}
 use Rattle.hotel_core.proofs.Tests.{eq_from, eq_self, and_true}
-use Rattle.hotel_core.proofs.Tables.{at_is, same_number}
+use Rattle.hotel_core.proofs.TableKeys.{at_is, same_number}
 
 -- the value stands in the list, after so many others
 abbrev pub SplitsAt : List ℕ → ℕ → ℕ → Type 0

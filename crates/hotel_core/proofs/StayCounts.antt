@@ -14,7 +14,7 @@ use Rattle.hotel_nights.specs.FullNight.{first_day}
 use Rattle.hotel_core.specs.Rows.{at_number}
 use Rattle.hotel_core.specs.Stays.{in_state, now_is}
 use Rattle.hotel_core.proofs.Tests.{not_both}
-use Rattle.hotel_core.proofs.Tables.{at_is}
+use Rattle.hotel_core.proofs.TableKeys.{at_is}
 
 pub count_first : {X : Type 0} (p : X → Bool) (x : X) (xs : List X) → count_by p (x ∷ xs) ≡ cond (p x) 1 0 + count_by p xs
 count_first p x xs = sum_by-cons (λ y. cond (p y) 1 0) x xs

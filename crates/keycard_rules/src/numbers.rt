@@ -4,12 +4,17 @@ ghost use Rattle.std.specs.Prelude.{◌≡◌, ℕ, ◌+◌, ◌<◌};
 ghost use Rattle.std.specs.Option.{SomeIff};
 ghost use Rattle.keycard_rules.specs.Numerals.{number_up_to};
 ghost use Rattle.keycard_rules.specs.Numbers.{IsNumberUpTo};
+ghost use Rattle.std.specs.Ordering.{nat_cmp, as_partial_cmp};
+ghost use Rattle.std.specs.Cmp.{partial_order_from_own_ties};
+ghost use Rattle.std.specs.Cmp.Rules.{comparing};
+ghost use Rattle.std.proofs.Common.{rules};
 
 use crate::numerals::read_numeral;
+use std::cmp::Ordering;
 use std::marker::{Model, PhantomData};
 
 /// A number from 1 up to `MOST`. `K` keeps the numbers of different things apart.
-#[derive(Clone, Copy, PartialEq, Eq, PartialOrd, Ord, Debug)]
+#[derive(Clone, Copy, PartialEq, Eq, Debug)]
 pub struct Number<K, const MOST: u32> {
     value: u32,
     kind: PhantomData<K>,
@@ -72,6 +77,31 @@ impl<K, const MOST: u32> Number<K, MOST> {
             value: self.value + 1,
             kind: PhantomData,
         })
+    }
+}
+
+// Written out, so that contracts see a map's keys in the order of plain numbers.
+impl<K: Eq, const MOST: u32> Ord for Number<K, MOST> {
+    ghost cmp = { nat_cmp };
+
+    ghost total = { Prim.search (comparing, rules) };
+
+    ghost matches_partial_cmp = { Prim.search (comparing, rules) };
+
+    ghost matches_eq = { Prim.search (comparing, rules) };
+
+    fn cmp(&self, other: &Number<K, MOST>) -> Ordering {
+        self.value.cmp(&other.value)
+    }
+}
+
+impl<K: Eq, const MOST: u32> PartialOrd for Number<K, MOST> {
+    ghost partial_cmp = { as_partial_cmp nat_cmp };
+
+    ghost laws = { partial_order_from_own_ties (Prim.search (comparing, rules)) (Prim.search (comparing, rules)) };
+
+    fn partial_cmp(&self, other: &Number<K, MOST>) -> Option<Ordering> {
+        Some(self.cmp(other))
     }
 }
 
