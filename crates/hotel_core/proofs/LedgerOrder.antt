@@ -80,7 +80,8 @@ recoded_case true h room r from to here same e a =
     ∙ ap (λ zs. passed h r ++ from ∷ zs) parts ∙ ap (λ z. passed h r ++ z ∷ awaited h r) (sym e ∙ ap (held h) (here refl)) ∙ same
 recoded_case false h room r from to here same e a = same
 
-same_fields : (a b : Link) → same_link a b ≡ true → a ≡ b
+-- links that pass the test are the same
+pub same_fields : (a b : Link) → same_link a b ≡ true → a ≡ b
 same_fields a b e =
     let p = and_true (a.old_code == b.old_code) (a.new_code == b.new_code) e in
     ap (λ z. let k : Link = record { old_code = z; new_code = a.new_code } in k) (eq_from _ _ p.0)
