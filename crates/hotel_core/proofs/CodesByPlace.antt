@@ -1,12 +1,12 @@
 -- The table of codes has each room's codes at the places 0 and on, in the order of issue.
-use Rattle.std.proofs.Common.{ℕ, ◌≡◌, ◌≤◌, ◌<◌, ◌+◌, Bool, true, false, cond, Option, Some, None, List, [], ◌∷◌, ◌++◌, length, refl, ap, sym, ◌∙◌, subst, arith, length-append}
-use Rattle.std.specs.Prelude.{◌==◌, ◌&&◌, not, nat_lt}
+use Rattle.std.proofs.Common.{ℕ, ◌≡◌, ◌<◌, ◌+◌, Bool, true, false, cond, Some, None, List, [], ◌∷◌, ◌++◌, length, refl, ap, sym, ◌∙◌, subst, arith, length-append}
+use Rattle.std.specs.Prelude.{◌==◌, ◌&&◌, not}
 use Rattle.std.specs.Ordering.{nat_cmp, match_ordering}
 use Rattle.std.specs.declared.cmp.Ordering.{Ordering}
 use Rattle.std.specs.declared.cmp.Ordering.TheVariants.{Less, Equal, Greater}
 use Rattle.std.specs.BTreeMap.{is_at, insert_entry}
 use Rattle.std.specs.List.{list_all, count_by}
-use Rattle.std.specs.Map.{lookup, keys_of, values_of}
+use Rattle.std.specs.Map.{keys_of, values_of}
 use Rattle.std.proofs.lemmas.Bool.Decides.{nat_tests}
 use Rattle.std.proofs.lemmas.Cmp.{nat_cmp_total}
 use Rattle.std.proofs.lemmas.Map.Lookups.{exact_unsigned}
@@ -18,7 +18,7 @@ use Rattle.hotel_core.specs.History.{History, start, ◌▷◌}
 use Rattle.hotel_core.specs.Issued.{issued, all_issued}
 use Rattle.hotel_core.specs.Run.{Reached}
 use Rattle.hotel_core.specs.SoundRooms.{count_up}
-use Rattle.hotel_core.proofs.Tests.{eq_from, eq_self, and_true, not_both}
+use Rattle.hotel_core.proofs.Tests.{eq_from, eq_self, and_true}
 use Rattle.hotel_core.proofs.Tables.{is_at_self}
 use Rattle.hotel_core.proofs.Grown.{at_start, may_follow}
 use Rattle.hotel_core.proofs.Counting.{comes_last, counts_on}

@@ -1,10 +1,9 @@
 -- Cards: their numbers, parties and links.
-use Rattle.std.proofs.Common.{ℕ, ◌≡◌, ◌+◌, Bool, true, false, cond, Option, Some, None, List, [], ◌∷◌, ◌++◌, length, refl, ap, sym, ◌∙◌, subst}
-use Rattle.std.specs.Prelude.{◌==◌, ◌&&◌, ◌||◌, not, is_some}
+use Rattle.std.proofs.Common.{ℕ, ◌≡◌, Bool, true, false, cond, Option, Some, None, List, [], ◌∷◌, ◌++◌, length, refl, ap, sym, ◌∙◌}
+use Rattle.std.specs.Prelude.{◌==◌, ◌||◌, is_some}
 use Rattle.std.specs.Ordering.{nat_cmp}
 use Rattle.std.specs.BTreeMap.{is_at, insert_entry}
-use Rattle.std.specs.List.{list_any, list_all}
-use Rattle.std.specs.Map.{lookup, keys_of}
+use Rattle.std.specs.List.{list_any}
 use Rattle.std.proofs.lemmas.Cmp.{nat_cmp_total}
 use Rattle.keycard_rules.specs.declared.card.Card.{Card}
 use Rattle.keycard_rules.specs.declared.card.Link.{Link}
@@ -16,11 +15,10 @@ use Rattle.hotel_core.specs.Words.{said_of, is_one_of}
 use Rattle.hotel_core.specs.Rows.{at_number, link_of_last_card}
 use Rattle.hotel_core.specs.Event.{Event, Install, Reserved, Cancelled, CheckIn, Transfer, Spare, CheckOut}
 use Rattle.hotel_core.specs.History.{History, ◌▷◌}
-use Rattle.hotel_core.specs.Issued.{issued}
-use Rattle.hotel_core.specs.Cards.{cards, card_of, with_spare, link_of_party, link_to, newest_link}
+use Rattle.hotel_core.specs.Cards.{cards, card_of, with_spare, link_of_party, link_to}
 use Rattle.hotel_core.specs.Guests.{registered}
-use Rattle.hotel_core.specs.Stays.{rooms, stays, in_state}
-use Rattle.hotel_core.specs.RowsOf.{room_row, rows_of}
+use Rattle.hotel_core.specs.Stays.{stays, in_state}
+use Rattle.hotel_core.specs.RowsOf.{rows_of}
 use Rattle.hotel_core.specs.Cases.{room_of_state, room_of, next_card}
 use Rattle.hotel_core.specs.Notes.{same_link}
 use Rattle.hotel_core.specs.Run.{Reached}
@@ -37,7 +35,7 @@ use Rattle.hotel_core.proofs.LiftHomes as homes
 use Rattle.hotel_core.proofs.LedgerOrder.{same_fields}
 use Rattle.hotel_core.proofs.CardParties.{cards_one_party, guests_have_cards}
 use Rattle.hotel_core.proofs.RowTests.{both, or_first, or_later, where_so, all_found}
-use Rattle.hotel_core.proofs.RowsPass.{cards_pass, codes_pass, next_row}
+use Rattle.hotel_core.proofs.RowsPass.{cards_pass, codes_pass}
 use Rattle.hotel_core.proofs.SoundKeys.{cards_in_order, stays_in_order}
 use Rattle.hotel_core.proofs.SoundDay.{le_tested}
 use Rattle.hotel_core.proofs.SoundRoomRows.{each_room_is, eq_tested}

@@ -1,6 +1,6 @@
 -- Each table of a history's rows is in the order of its keys, and no key stands twice.
 use Rattle.std.proofs.Common.{ℕ, ◌≡◌, true, List, [], ◌∷◌, Option, Some, None, refl, ap, sym, ◌∙◌, subst}
-use Rattle.std.specs.Prelude.{◌&&◌, map}
+use Rattle.std.specs.Prelude.{map}
 use Rattle.std.specs.Ordering.{nat_cmp}
 use Rattle.std.specs.Cmp.Lexicographic.{slice_cmp}
 use Rattle.std.specs.Map.{keys_of}
@@ -9,16 +9,13 @@ use Rattle.std.proofs.lemmas.Cmp.{nat_cmp_total, nat_list_cmp_total}
 use Rattle.keycard_rules.specs.declared.card.Card.{Card}
 use Rattle.keycard_rules.specs.declared.card.Link.{Link}
 use Rattle.keycard_rules.specs.Note.{Note}
-use Rattle.keycard_rules.specs.declared.note.Act.TheVariants as act
 use Rattle.hotel_nights.specs.declared.stay.Stay.{Stay}
 use Rattle.hotel_nights.specs.declared.stay.StayState.{StayState}
 use Rattle.hotel_nights.specs.declared.stay.StayState.TheVariants as state
-use Rattle.hotel_core.specs.declared.rows.RoomRow.{RoomRow}
-use Rattle.hotel_core.specs.declared.rows.CodeRow.{CodeRow}
 use Rattle.hotel_core.specs.Words.{pair_cmp}
-use Rattle.hotel_core.specs.Event.{Event, Kind, Install, Reserved, Cancelled, CheckIn, Transfer, Spare, CheckOut, note_of}
+use Rattle.hotel_core.specs.Event.{Kind, Install, Reserved, Cancelled, CheckIn, Transfer, Spare, CheckOut, note_of}
 use Rattle.hotel_core.specs.History.{History, start, ◌▷◌}
-use Rattle.hotel_core.specs.Issued.{issued, all_issued}
+use Rattle.hotel_core.specs.Issued.{all_issued}
 use Rattle.hotel_core.specs.Cards.{cards, card_of, with_spare, link_of_party, link_to}
 use Rattle.hotel_core.specs.Guests.{insiders}
 use Rattle.hotel_core.specs.Stays.{kinds, rooms, stays, in_state}

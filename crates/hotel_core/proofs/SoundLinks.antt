@@ -1,6 +1,6 @@
 -- Links as the rows tell them: where they stand, and which is a room's newest and a party's last.
-use Rattle.std.proofs.Common.{ℕ, ◌≡◌, ◌+◌, Bool, true, false, cond, Option, Some, None, List, [], ◌∷◌, ◌++◌, length, refl, ap, sym, ◌∙◌, subst, append_assoc, arith, length-append}
-use Rattle.std.specs.Prelude.{◌==◌, ◌&&◌, if◌then◌else◌}
+use Rattle.std.proofs.Common.{ℕ, ◌≡◌, Bool, true, false, cond, Option, Some, None, List, [], ◌∷◌, ◌++◌, length, refl, ap, sym, ◌∙◌, append_assoc, arith, length-append}
+use Rattle.std.specs.Prelude.{◌==◌, if◌then◌else◌}
 use Rattle.std.specs.Ordering.{nat_cmp}
 use Rattle.std.specs.BTreeMap.{insert_entry}
 use Rattle.keycard_rules.specs.declared.card.Card.{Card}
@@ -66,7 +66,7 @@ two_last (c ∷ []) a b = refl
 two_last (c ∷ d ∷ []) a b = refl
 two_last (c ∷ d ∷ f ∷ front) a b = two_last (d ∷ f ∷ front) a b
 
-same_self : (link : Link) → same_link link link ≡ true
+pub same_self : (link : Link) → same_link link link ≡ true
 same_self link = both _ _ (eq_self link.old_code) (eq_self link.new_code)
 
 -- A room's newest link is the newest of the rows.

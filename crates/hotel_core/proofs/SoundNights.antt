@@ -6,7 +6,7 @@ use Rattle.std.specs.declared.cmp.Ordering.{Ordering}
 use Rattle.std.specs.declared.cmp.Ordering.TheVariants.{Less, Equal, Greater}
 use Rattle.std.specs.BTreeMap.{is_at, insert_entry}
 use Rattle.std.specs.List.{count_by}
-use Rattle.std.specs.Map.{lookup, values_of}
+use Rattle.std.specs.Map.{values_of}
 use Rattle.std.proofs.lemmas.Bool.Decides.{nat_tests}
 use Rattle.std.proofs.lemmas.Map.Lookups.{exact_unsigned}
 use Rattle.std.proofs.lemmas.Slice.Eq.{bytes_eq-Decides}
@@ -14,17 +14,16 @@ use Rattle.hotel_nights.specs.declared.stay.Stay.{Stay}
 use Rattle.hotel_nights.specs.declared.stay.StayState.{StayState}
 use Rattle.hotel_nights.specs.declared.stay.StayState.TheVariants as state
 use Rattle.hotel_nights.specs.FullNight.{first_day, is_full, is_standing, nights_taken, takes}
-use Rattle.hotel_core.specs.declared.rows.RoomRow.{RoomRow}
 use Rattle.hotel_core.specs.Words.{said_of}
 use Rattle.hotel_core.specs.Rows.{at_number}
 use Rattle.hotel_core.specs.Event.{Install, Reserved, Cancelled, CheckIn, Transfer, CheckOut}
 use Rattle.hotel_core.specs.History.{History, start, ◌▷◌}
-use Rattle.hotel_core.specs.Stays.{rooms, stays, in_state, now_is, nights, rooms_of, first_full}
+use Rattle.hotel_core.specs.Stays.{rooms, stays, in_state, now_is, nights, rooms_of}
 use Rattle.hotel_core.specs.RowsOf.{rows_of}
-use Rattle.hotel_core.specs.Cases.{is_booked, is_booked_state, is_in_house, room_of_state}
+use Rattle.hotel_core.specs.Cases.{is_booked_state, room_of_state}
 use Rattle.hotel_core.specs.Run.{Reached}
 use Rattle.hotel_core.specs.SoundRooms.{stays_on, rooms_with}
-use Rattle.hotel_core.proofs.Tests.{eq_from, eq_self, and_true, either_way, not_both}
+use Rattle.hotel_core.proofs.Tests.{eq_from, and_true, either_way, not_both}
 use Rattle.hotel_core.proofs.Tables.{no_key, is_at_self, at_is}
 use Rattle.hotel_core.proofs.Grown.{at_start, may_follow}
 use Rattle.hotel_core.proofs.KindCounts.{count_more, rooms_counted}
