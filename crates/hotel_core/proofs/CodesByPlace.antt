@@ -18,7 +18,7 @@ use Rattle.hotel_core.specs.History.{History, start, ◌▷◌}
 use Rattle.hotel_core.specs.Issued.{issued, all_issued}
 use Rattle.hotel_core.specs.Run.{Reached}
 use Rattle.hotel_core.specs.SoundRooms.{count_up}
-use Rattle.hotel_core.proofs.Tests.{eq_from, eq_self, and_true, not_both}
+use Rattle.hotel_core.proofs.Tests.{eq_from, eq_self, and_true}
 use Rattle.hotel_core.proofs.TableKeys.{is_at_self}
 use Rattle.hotel_core.proofs.Grown.{may_follow}
 use Rattle.hotel_core.proofs.Counting.{comes_last, counts_on}

@@ -1,5 +1,5 @@
 -- What is inside a room is a card of this room that the lock has seen.
-use Rattle.std.proofs.Common.{ℕ, ◌≡◌, ◌≤◌, ◌+◌, Bool, true, false, Option, Some, List, [], ◌∷◌, ◌++◌, length, inl, inr, refl, ap, sym, ◌∙◌, subst, append_assoc, arith, length-append}
+use Rattle.std.proofs.Common.{ℕ, ◌≡◌, ◌≤◌, ◌+◌, Bool, true, false, Option, Some, List, [], ◌∷◌, ◌++◌, length, inl, inr, ap, sym, ◌∙◌, subst, append_assoc, arith, length-append}
 use Rattle.std.specs.Prelude.{◌==◌, ◌&&◌, nat_le}
 use Rattle.keycard_rules.specs.declared.card.Card.{Card}
 use Rattle.keycard_rules.specs.declared.card.Link.{Link}
@@ -18,7 +18,6 @@ use Rattle.hotel_core.specs.Run.{Reached}
 use Rattle.hotel_core.specs.Follow.{MayFollow}
 use Rattle.hotel_core.specs.CodeLaws.{IsLinkAt}
 use Rattle.hotel_core.specs.SoundCards.{room_is, card_is, fits_inside, insides_fit}
-use Rattle.hotel_core.proofs.Tests.{not_both}
 use Rattle.hotel_core.proofs.Grown.{may_follow}
 use Rattle.hotel_core.proofs.Pairs.{pair_cmp_total}
 use Rattle.hotel_core.proofs.Insiders.{inside_is}
