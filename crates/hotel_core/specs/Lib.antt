@@ -28,8 +28,8 @@ pub mod Lift
 pub mod Reads
 pub mod Finds
 pub mod Issuing
-pub mod Stepping
 pub mod Noting
+pub mod Stepping
 pub mod Headline
 pub mod Lists
 pub mod Follow
