@@ -1,7 +1,5 @@
-use Rattle.std.proofs.Common.{◌≡◌, ◌+◌, List, take, ◌++◌, ◌∷◌, [], refl, sym, ap, ◌∙◌, arith}
+use Rattle.std.proofs.Common.{◌≡◌, ◌+◌, take, ◌++◌, ◌∷◌, [], sym, ap, ◌∙◌, arith}
 use Rattle.std.proofs.lemmas.List.{take_more}
-use Rattle.hotel_core.specs.declared.command.Command.{Command}
-use Rattle.hotel_core.proofs.Runs.{runs_begin}
 use Rattle.hotel_core.proofs.RunParts.{runs_step}
 use Rattle.hotel_core.proofs.running.run.Goals as goal
 
