@@ -21,7 +21,7 @@ use Rattle.hotel_core.proofs.SoundKinds.{kinds_are_read, room_kinds, stay_kinds}
 use Rattle.hotel_core.proofs.SoundRoomRows.{rooms_numbered, locks_placed, few_codes, notes_numbered, secured_locks}
 use Rattle.hotel_core.proofs.SoundHomes.{parties_at_home}
 use Rattle.hotel_core.proofs.SoundStays.{stays_numbered, guests_are_read, days_fit, rooms_of_stays}
-use Rattle.hotel_core.proofs.SoundNights.{rows_not_oversold}
+use Rattle.hotel_core.proofs.RoomsLeft.{rows_not_oversold}
 use Rattle.hotel_core.proofs.SoundCodes.{codes_fit, code_rooms, codes_once}
 use Rattle.hotel_core.proofs.SoundCardRows.{cards_numbered, card_parties, card_links, card_owners, codes_are_brought, newest_owned, last_are_newest}
 use Rattle.hotel_core.proofs.SoundInside.{all_inside_fit}

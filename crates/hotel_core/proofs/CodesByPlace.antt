@@ -19,8 +19,8 @@ use Rattle.hotel_core.specs.Issued.{issued, all_issued}
 use Rattle.hotel_core.specs.Run.{Reached}
 use Rattle.hotel_core.specs.SoundRooms.{count_up}
 use Rattle.hotel_core.proofs.Tests.{eq_from, eq_self, and_true}
-use Rattle.hotel_core.proofs.Tables.{is_at_self}
-use Rattle.hotel_core.proofs.Grown.{at_start, may_follow}
+use Rattle.hotel_core.proofs.TableKeys.{is_at_self}
+use Rattle.hotel_core.proofs.Grown.{may_follow}
 use Rattle.hotel_core.proofs.Counting.{comes_last, counts_on}
 use Rattle.hotel_core.proofs.CodeLists.{length_more}
 use Rattle.hotel_core.proofs.CodePlaces.{places_have_codes, fresh_has_no_row, next_place}
@@ -28,7 +28,8 @@ use Rattle.hotel_core.proofs.KeysInOrder.{InOrder, in_order_inserted, keys_inser
 use Rattle.hotel_core.proofs.SameTables.{added_in_any_order}
 use Rattle.hotel_core.proofs.RowTests.{all_found}
 use Rattle.hotel_core.proofs.SoundKeys.{codes_in_order}
-use Rattle.hotel_core.proofs.SoundNights.{count_added}
+use Rattle.hotel_core.proofs.StayCounts.{count_inserted}
+use Rattle.hotel_core.proofs.StartCodes.{places_count_up, listed_at_start}
 
 -- the row isn't at this place of the room
 abbrev pub is_elsewhere : ℕ → ℕ → ℕ × CodeRow → Bool
@@ -132,7 +133,7 @@ issue_placed h room code r ok fresh a =
 
 -- Each room's codes stand at the places 0 and on, in the order of issue.
 pub codes_are_placed : (h : History) → Reached h → (r : ℕ) → ArePlaced (codes_by_place (all_issued h) r) (issued h r)
-codes_are_placed (start t) ok r = at_start (λ h. ArePlaced (codes_by_place (all_issued h) r) (issued h r)) t ok (refl, refl)
+codes_are_placed (start t) ok r = (places_count_up t ok r, refl)
 codes_are_placed (h ▷ Install room kind code) ok r = issue_placed h room code r ok.0 (fresh_has_no_row h code (may_follow h (Install room kind code) ok).2) (codes_are_placed h ok.0 r)
 codes_are_placed (h ▷ CheckIn party room number code) ok r = issue_placed h room code r ok.0 (fresh_has_no_row h code (may_follow h (CheckIn party room number code) ok).6) (codes_are_placed h ok.0 r)
 codes_are_placed (h ▷ Transfer party room number code) ok r = issue_placed h room code r ok.0 (fresh_has_no_row h code (may_follow h (Transfer party room number code) ok).6) (codes_are_placed h ok.0 r)
@@ -145,11 +146,11 @@ one_listed false codes code n e = omega arith
 issue_listed : (h : History) (room code r : ℕ) → at_number (all_issued h) code ≡ None → count_by (λ (row : CodeRow). row.room == r) (values_of (all_issued h)) ≡ length (issued h r)
     → count_by (λ (row : CodeRow). row.room == r) (values_of (insert_entry nat_cmp (all_issued h) code (next_place h room))) ≡ length (when (room == r) (and_last code) (issued h r))
 issue_listed h room code r fresh ih =
-    count_added (λ (row : CodeRow). row.room == r) (all_issued h) code (next_place h room) fresh ∙ one_listed (room == r) (issued h r) code _ ih
+    count_inserted (λ (row : CodeRow). row.room == r) (all_issued h) code (next_place h room) fresh ∙ one_listed (room == r) (issued h r) code _ ih
 
 -- The table has as many codes of each room as were issued there.
 pub codes_are_listed : (h : History) → Reached h → (r : ℕ) → count_by (λ (row : CodeRow). row.room == r) (values_of (all_issued h)) ≡ length (issued h r)
-codes_are_listed (start t) ok r = at_start (λ h. count_by (λ (row : CodeRow). row.room == r) (values_of (all_issued h)) ≡ length (issued h r)) t ok refl
+codes_are_listed (start t) ok r = listed_at_start t ok r
 codes_are_listed (h ▷ Install room kind code) ok r = issue_listed h room code r (fresh_has_no_row h code (may_follow h (Install room kind code) ok).2) (codes_are_listed h ok.0 r)
 codes_are_listed (h ▷ CheckIn party room number code) ok r = issue_listed h room code r (fresh_has_no_row h code (may_follow h (CheckIn party room number code) ok).6) (codes_are_listed h ok.0 r)
 codes_are_listed (h ▷ Transfer party room number code) ok r = issue_listed h room code r (fresh_has_no_row h code (may_follow h (Transfer party room number code) ok).6) (codes_are_listed h ok.0 r)

@@ -10,7 +10,7 @@ use Rattle.hotel_core.specs.Words.{is_one_of}
 use Rattle.hotel_core.specs.Rows.{at_number}
 use Rattle.hotel_core.specs.SoundRooms.{count_up}
 use Rattle.hotel_core.proofs.Tests.{eq_from, eq_self, and_true}
-use Rattle.hotel_core.proofs.Tables.{no_key}
+use Rattle.hotel_core.proofs.TableKeys.{no_key}
 
 greater_is : (k n : ℕ) → n < k → nat_cmp k n ≡ Greater
 greater_is k n lt = grind (arith, nat_tests)

@@ -26,7 +26,7 @@ use Rattle.hotel_core.proofs.NotesKept.{next_not_found}
 use Rattle.hotel_core.proofs.NumbersLeft.{HasNumber, has_number, codes_fit}
 use Rattle.std.proofs.lemmas.Bool.{leb-false}
 use Rattle.hotel_core.proofs.Grown.{may_follow}
-use Rattle.hotel_core.proofs.Tables.{no_key}
+use Rattle.hotel_core.proofs.TableKeys.{no_key}
 
 no_day : (o : Option ℕ) → is_some o ≡ false → o ≡ None
 no_day (Some d) h = cc

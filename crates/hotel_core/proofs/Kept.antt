@@ -15,7 +15,7 @@ use Rattle.hotel_core.specs.RowsOf.{rows_of}
 use Rattle.hotel_core.specs.Run.{Reached}
 use Rattle.hotel_core.specs.SoundCards.{code_is, card_is}
 use Rattle.hotel_core.proofs.Tests.{not_both}
-use Rattle.hotel_core.proofs.Tables.{key_inserted, row_kept}
+use Rattle.hotel_core.proofs.TableKeys.{key_inserted, row_kept}
 use Rattle.hotel_core.proofs.Grown.{may_follow}
 use Rattle.hotel_core.proofs.CodePlaces.{fresh_has_no_row}
 use Rattle.hotel_core.proofs.CardParties.{card_kept, card_kept_spare}

@@ -19,12 +19,13 @@ use Rattle.hotel_core.specs.Run.{Reached}
 use Rattle.hotel_core.specs.SoundRooms.{count_up}
 use Rattle.hotel_core.specs.SoundCards.{counts_at}
 use Rattle.hotel_core.proofs.Tests.{eq_from, eq_self, and_true}
-use Rattle.hotel_core.proofs.Grown.{at_start, may_follow}
+use Rattle.hotel_core.proofs.Grown.{may_follow}
 use Rattle.hotel_core.proofs.KeysInOrder.{AllAfter, InOrder}
 use Rattle.hotel_core.proofs.Pairs.{pair_cmp_total, pair_exact}
 use Rattle.hotel_core.proofs.RowTests.{both}
 use Rattle.hotel_core.proofs.RowsPass.{notes_pass}
 use Rattle.hotel_core.proofs.SoundKeys.{notes_in_order}
+use Rattle.hotel_core.proofs.StartNotes.{notes_count_at_start, counts_within_at_start}
 
 -- the note is of another room, or of a lower count
 abbrev pub is_before : ℕ → ℕ → (ℕ × ℕ) × Note → Bool
@@ -139,7 +140,7 @@ one_noted h event note ok e =
 -- no note has a count above how many its room has
 counts_within : (h : History) → Reached h → list_all (λ (e : (ℕ × ℕ) × Note). nat_le e.0.1 (length (notes h e.0.0))) (all_notes h) ≡ true
 counts_within h ok =
-    notes_pass (λ h e. nat_le e.0.1 (length (notes h e.0.0))) (λ h event e ok t. le_more e.0.1 (length (notes h e.0.0)) _ (notes_grow (note_of event) e.0.0 (notes h e.0.0)) t) one_noted h ok
+    notes_pass (λ h e. nat_le e.0.1 (length (notes h e.0.0))) (λ h event e ok t. le_more e.0.1 (length (notes h e.0.0)) _ (notes_grow (note_of event) e.0.0 (notes h e.0.0)) t) counts_within_at_start one_noted h ok
 
 within_before : (r c : ℕ) (e : (ℕ × ℕ) × Note) (n : ℕ → ℕ) → c ≡ n r + 1 → nat_le e.0.1 (n e.0.0) ≡ true → is_before r c e ≡ true
 within_before r c e n next t = by (e.0.0 == r) refl
@@ -181,5 +182,5 @@ counted_by h event r ok None e ih = ih
 
 -- The counts of a room's notes are 1, 2 and so on.
 pub notes_count : (h : History) → Reached h → (r : ℕ) → count_up 1 (counts_at (notes h r)) ≡ true
-notes_count (start t) ok r = at_start (λ h. count_up 1 (counts_at (notes h r)) ≡ true) t ok refl
+notes_count (start t) ok r = notes_count_at_start t ok r
 notes_count (h ▷ event) ok r = counted_by h event r ok (note_of event) refl (notes_count h ok.0 r)

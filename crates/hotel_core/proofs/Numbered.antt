@@ -8,7 +8,7 @@ use Rattle.hotel_core.specs.Words.{is_one_of}
 use Rattle.hotel_core.specs.Rows.{at_number}
 use Rattle.std.proofs.lemmas.Cmp.{nat_cmp_total}
 use Rattle.hotel_core.proofs.Inserted.{found_inserted}
-use Rattle.hotel_core.proofs.Tables.{at_is, is_key}
+use Rattle.hotel_core.proofs.TableKeys.{at_is, is_key}
 use Rattle.hotel_core.proofs.Tests.{eq_from, not_both}
 
 -- a test that holds and fails

@@ -15,7 +15,7 @@ use Rattle.hotel_nights.specs.declared.stay.StayState.{StayState}
 use Rattle.hotel_core.specs.Rows.{at_number}
 use Rattle.hotel_core.specs.Stays.{in_state, now_is}
 use Rattle.hotel_core.proofs.Tests.{and_true, not_both}
-use Rattle.hotel_core.proofs.Tables.{same_number}
+use Rattle.hotel_core.proofs.TableKeys.{same_number}
 use Rattle.hotel_core.proofs.KeysInOrder.{AllAfter, InOrder, has_key}
 
 pub both : (a b : Bool) → a ≡ true → b ≡ true → (a && b) ≡ true

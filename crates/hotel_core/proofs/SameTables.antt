@@ -7,7 +7,7 @@ use Rattle.std.specs.BTreeMap.{is_at, insert_entry}
 use Rattle.std.specs.Map.{keys_of}
 use Rattle.std.proofs.lemmas.Cmp.{nat_cmp_total}
 use Rattle.hotel_core.specs.Rows.{at_number}
-use Rattle.hotel_core.proofs.Tables.{at_inserted, is_at_self, same_number, swap_tests}
+use Rattle.hotel_core.proofs.TableKeys.{at_inserted, is_at_self, same_number, swap_tests}
 use Rattle.hotel_core.proofs.KeysInOrder.{AllAfter, InOrder, in_order_inserted, keys_inserted}
 use Rattle.hotel_core.proofs.RowTests.{after_not_same}
 

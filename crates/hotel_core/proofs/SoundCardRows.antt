@@ -24,7 +24,7 @@ use Rattle.hotel_core.specs.Notes.{same_link}
 use Rattle.hotel_core.specs.Run.{Reached}
 use Rattle.hotel_core.specs.SoundCards.{each_card, card_numbers, card_parties_there, links_are_neighbours, links_of_one_party, neighbours_are_links, is_newest, owns_newest, newest_of_party, has_newest, last_cards_newest, stands_at}
 use Rattle.hotel_core.proofs.Tests.{eq_self}
-use Rattle.hotel_core.proofs.Tables.{at_inserted, is_key}
+use Rattle.hotel_core.proofs.TableKeys.{at_inserted, is_key}
 use Rattle.hotel_core.proofs.Grown.{may_follow}
 use Rattle.hotel_core.proofs.RoomCodes.{others_have_none}
 use Rattle.hotel_core.proofs.RoomLinks.{cards_have_links}
@@ -32,7 +32,7 @@ use Rattle.hotel_core.proofs.Numbering.{same_keys, cards_count}
 use Rattle.hotel_core.proofs.NumbersLeft.{cards_fit}
 use Rattle.hotel_core.proofs.InHouse.{has_stay, registered_in_house}
 use Rattle.hotel_core.proofs.LiftHomes as homes
-use Rattle.hotel_core.proofs.LedgerOrder.{same_fields}
+use Rattle.hotel_core.proofs.StartRules.{link_is}
 use Rattle.hotel_core.proofs.CardParties.{cards_one_party, guests_have_cards}
 use Rattle.hotel_core.proofs.RowTests.{both, or_first, or_later, where_so, all_found}
 use Rattle.hotel_core.proofs.RowsPass.{cards_pass, codes_pass}
@@ -41,6 +41,7 @@ use Rattle.hotel_core.proofs.SoundDay.{le_tested}
 use Rattle.hotel_core.proofs.SoundRoomRows.{each_room_is, eq_tested}
 use Rattle.hotel_core.proofs.SoundStays.{stay_has_number}
 use Rattle.hotel_core.proofs.SoundLinks.{said_some, new_at, link_stands, newest_tested, tested_newest, card_comes_last, last_cards}
+use Rattle.hotel_core.proofs.StartNumbers.{cards_numbered_at_start}
 
 -- a rule of all cards holds where it holds of each that a look-up finds
 pub each_card_is : (h : History) → Reached h → (rule : Card → Bool) → ((n : ℕ) (card : Card) → at_number (cards h) n ≡ Some card → rule card ≡ true) → each_card (rows_of h) rule ≡ true
@@ -51,7 +52,7 @@ pub cards_numbered : (h : History) → Reached h → card_numbers (rows_of h) �
 cards_numbered h ok =
     both _ _
     (both _ _
-    (cards_pass (λ h e. e.1.number == e.0) (λ h event e ok t. t) (λ h party room number code ok. eq_self number) (λ h party room number code ok. eq_self number) (λ h party number link ok e. eq_self number) h ok)
+    (cards_pass (λ h e. e.1.number == e.0) (λ h event e ok t. t) (λ s ok. (cards_numbered_at_start s ok).0) (λ h party room number code ok. eq_self number) (λ h party room number code ok. eq_self number) (λ h party number link ok e. eq_self number) h ok)
     (cards_count h ok))
     (le_tested _ _ (cards_fit h ok))
 
@@ -74,7 +75,7 @@ stay_goes_on h _ p e = e
 -- Each card's party has a stay.
 pub card_parties : (h : History) → Reached h → card_parties_there (rows_of h) ≡ true
 card_parties h ok =
-    cards_pass (λ h e. is_some (at_number (stays h) e.1.party)) (λ h event e ok. stay_goes_on h event e.1.party)
+    cards_pass (λ h e. is_some (at_number (stays h) e.1.party)) (λ h event e ok. stay_goes_on h event e.1.party) (λ s ok. ok.card_party)
     (λ h party room number code ok. state_some party (state.InHouse room) (stays h) party (has_stay h party (may_follow h (CheckIn party room number code) ok).1))
     (λ h party room number code ok. state_some party (state.InHouse room) (stays h) party (has_stay h party (may_follow h (Transfer party room number code) ok).1))
     (λ h party number link ok e. has_stay h party (may_follow h (Spare party number) ok).0) h ok
@@ -93,7 +94,7 @@ card_owners h ok =
     each_card_is h ok _
     (λ n card e. each_card_is h ok _
     (λ m other f. where_so (same_link card.link other.link) _
-    (λ t. eq_tested card.party other.party (cards_one_party h ok n m card other e f (ap (λ (l : Link). l.new_code) (same_fields card.link other.link t))))))
+    (λ t. eq_tested card.party other.party (cards_one_party h ok n m card other e f (ap (λ (l : Link). l.new_code) (link_is card.link other.link t))))))
 
 any_before : {X : Type 0} (t : X → Bool) (xs ys : List X) → list_any t xs ≡ true → list_any t (xs ++ ys) ≡ true
 any_before t [] ys h = cc
@@ -140,7 +141,7 @@ goes_on_first false h event code ok t = goes_on_brought h event code ok t
 -- Each code but the first of its room is the new code of a card.
 pub codes_are_brought : (h : History) → Reached h → neighbours_are_links (rows_of h) ≡ true
 codes_are_brought h ok =
-    codes_pass is_first_or_brought (λ h event e ok. goes_on_first (e.1.place == 0) h event e.0 ok)
+    codes_pass is_first_or_brought (λ h event e ok. goes_on_first (e.1.place == 0) h event e.0 ok) (λ s ok. ok.card_neighbours)
     (λ h room code kind ok. or_first _ _ (ap (λ (zs : List ℕ). length zs == 0) (others_have_none h ok.0 room (may_follow h (Install room kind code) ok).1).0))
     (λ h party room number code ok. or_later _ _ (new_brings h party room number code ok.0 (may_follow h (CheckIn party room number code) ok).5))
     (λ h party room number code ok. or_later _ _ (new_brings h party room number code ok.0 (may_follow h (Transfer party room number code) ok).5)) h ok

@@ -27,7 +27,7 @@ use Rattle.hotel_core.proofs.CodesByPlace.{codes_are_placed, codes_are_listed}
 pub codes_fit : (h : History) → Reached h → codes_in_range (rows_of h) ≡ true
 codes_fit h ok =
     all_mapped (λ code. nat_lt code (2 ^ 48)) (λ (e : ℕ × CodeRow). e.0) (all_issued h)
-    ∙ codes_pass (λ h e. nat_lt e.0 (2 ^ 48)) (λ h event e ok t. t)
+    ∙ codes_pass (λ h e. nat_lt e.0 (2 ^ 48)) (λ h event e ok t. t) (λ s ok. sym (all_mapped (λ code. nat_lt code (2 ^ 48)) (λ (e : ℕ × CodeRow). e.0) s.codes) ∙ ok.code_range)
     (λ h room code kind ok. lt_tested code (2 ^ 48) (last_in_range h (Install room kind code) ok).1)
     (λ h party room number code ok. lt_tested code (2 ^ 48) (last_in_range h (CheckIn party room number code) ok))
     (λ h party room number code ok. lt_tested code (2 ^ 48) (last_in_range h (Transfer party room number code) ok)) h ok

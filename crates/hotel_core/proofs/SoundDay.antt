@@ -9,7 +9,7 @@ use Rattle.hotel_core.specs.Stays.{day, kinds}
 use Rattle.hotel_core.specs.RowsOf.{rows_of}
 use Rattle.hotel_core.specs.Run.{Reached}
 use Rattle.hotel_core.specs.SoundRooms.{is_day, day_in_range, day_before_kinds}
-use Rattle.hotel_core.proofs.Grown.{at_start, may_follow}
+use Rattle.hotel_core.proofs.Grown.{may_follow}
 use Rattle.hotel_core.proofs.EventRanges.{last_in_range}
 use Rattle.hotel_core.proofs.RowTests.{or_first}
 
@@ -25,7 +25,7 @@ next_by None h = refl
 
 -- The day is in range.
 pub day_fits : (h : History) → Reached h → day_in_range (rows_of h) ≡ true
-day_fits (start t) ok = at_start (λ h. day_in_range (rows_of h) ≡ true) t ok refl
+day_fits (start t) ok = ok.meta_day
 day_fits (h ▷ Begun first) ok = le_tested first 36524 (last_in_range h (Begun first) ok)
 day_fits (h ▷ NextDay) ok = next_by (day h) (may_follow h NextDay ok).1
 day_fits (h ▷ _) ok = day_fits h ok.0
@@ -36,7 +36,7 @@ still_set None e = cc
 
 -- The day is set before a kind is added.
 pub day_before : (h : History) → Reached h → day_before_kinds (rows_of h) ≡ true
-day_before (start t) ok = at_start (λ h. day_before_kinds (rows_of h) ≡ true) t ok refl
+day_before (start t) ok = ok.meta_kinds
 day_before (h ▷ Begun first) ok = refl
 day_before (h ▷ NextDay) ok = or_first _ (length (kinds h) == 0) (still_set (day h) (may_follow h NextDay ok).0)
 day_before (h ▷ Kind kind) ok = or_first (is_some (day h)) _ (may_follow h (Kind kind) ok).0

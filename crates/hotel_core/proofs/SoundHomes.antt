@@ -17,12 +17,13 @@ use Rattle.hotel_core.specs.Cases.{room_of_state, is_of_kind}
 use Rattle.hotel_core.specs.Run.{Reached}
 use Rattle.hotel_core.specs.SoundRooms.{is_home_of, parties_in_house}
 use Rattle.hotel_core.proofs.Tests.{eq_from, eq_self, not_both}
-use Rattle.hotel_core.proofs.Tables.{row_inserted, row_kept, no_key}
+use Rattle.hotel_core.proofs.TableKeys.{row_inserted, row_kept, no_key}
 use Rattle.hotel_core.proofs.StayStates.{stay_changed, home_of}
-use Rattle.hotel_core.proofs.Grown.{at_start, may_follow}
+use Rattle.hotel_core.proofs.Grown.{may_follow}
 use Rattle.hotel_core.proofs.InHouse.{registered_in_house}
 use Rattle.hotel_core.proofs.RowTests.{both}
 use Rattle.hotel_core.proofs.SoundRoomRows.{each_room_is}
+use Rattle.hotel_core.proofs.StartGuests.{homes_of_kind_at_start}
 
 -- the room is there, and of this kind
 abbrev pub room_of_kind : List (ℕ × List ℕ) → ℕ → List ℕ → Bool
@@ -65,7 +66,7 @@ homed : (h : History) (party room : ℕ) → is_of_kind h room party ≡ true �
 homed h party room t old r e home = let same : room ≡ r = cc in subst (λ z. room_of_kind (rooms h) z old.kind ≡ true) same (kind_checked (at_number (stays h) party) old (rooms h) room e t)
 
 pub homes_of_kind : (h : History) → Reached h → HomesOfKind h
-homes_of_kind (start t) ok p r stay e home = at_start HomesOfKind t ok (λ q s x f g. absurd (let w : ◌≡◌ {A = Option Stay} None (Some x) = f in cc)) p r stay e home
+homes_of_kind (start t) ok p r stay e home = homes_of_kind_at_start t ok p r stay e home
 homes_of_kind (h ▷ Install room kind code) ok p r stay e home =
     still_of_kind (rooms h) room kind r stay.kind (at_number (rooms h) r) (no_key (rooms h) room (may_follow h (Install room kind code) ok).1) refl (homes_of_kind h ok.0 p r stay e home)
 homes_of_kind (h ▷ Reserved party guest kind arrive depart) ok p r stay e home =

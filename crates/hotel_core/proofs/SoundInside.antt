@@ -1,5 +1,5 @@
 -- What is inside a room is a card of this room that the lock has seen.
-use Rattle.std.proofs.Common.{ℕ, ◌≡◌, ◌≤◌, ◌+◌, Bool, true, false, Option, Some, List, [], ◌∷◌, ◌++◌, length, inl, inr, refl, ap, sym, ◌∙◌, subst, append_assoc, arith, length-append}
+use Rattle.std.proofs.Common.{ℕ, ◌≡◌, ◌≤◌, ◌+◌, Bool, true, false, Option, Some, List, [], ◌∷◌, ◌++◌, length, inl, inr, ap, sym, ◌∙◌, subst, append_assoc, arith, length-append}
 use Rattle.std.specs.Prelude.{◌==◌, ◌&&◌, nat_le}
 use Rattle.keycard_rules.specs.declared.card.Card.{Card}
 use Rattle.keycard_rules.specs.declared.card.Link.{Link}
@@ -18,8 +18,7 @@ use Rattle.hotel_core.specs.Run.{Reached}
 use Rattle.hotel_core.specs.Follow.{MayFollow}
 use Rattle.hotel_core.specs.CodeLaws.{IsLinkAt}
 use Rattle.hotel_core.specs.SoundCards.{room_is, card_is, fits_inside, insides_fit}
-use Rattle.hotel_core.proofs.Tests.{not_both}
-use Rattle.hotel_core.proofs.Grown.{at_start, may_follow}
+use Rattle.hotel_core.proofs.Grown.{may_follow}
 use Rattle.hotel_core.proofs.Pairs.{pair_cmp_total}
 use Rattle.hotel_core.proofs.Insiders.{inside_is}
 use Rattle.hotel_core.proofs.InsideRooms.{came_in, left_out}
@@ -33,6 +32,7 @@ use Rattle.hotel_core.proofs.RowTests.{both, where_so, all_there}
 use Rattle.hotel_core.proofs.SoundDay.{le_tested}
 use Rattle.hotel_core.proofs.SoundLinks.{said_some, new_at, link_stands, newest_tested}
 use Rattle.hotel_core.proofs.Kept.{room_goes_on, card_goes_on, link_goes_on}
+use Rattle.hotel_core.proofs.StartInside.{insiders_seen_at_start}
 
 -- the link's codes are neighbours at the room, and its lock came to the new one
 abbrev pub HasSeen : History → ℕ → Link → Type 0
@@ -82,7 +82,7 @@ entry_seen h ok room count number link at needs =
     (l.0, l.1, l.2, omega (arith, n, length-append l.0 (link.old_code ∷ [])))
 
 pub insiders_seen : (h : History) → Reached h → InsidersSeen h
-insiders_seen (start t) ok r n e = at_start InsidersSeen t ok (λ s m f. not_both false f refl) r n e
+insiders_seen (start t) ok r n e = insiders_seen_at_start t ok r n e
 insiders_seen (h ▷ Entered room count number link at) ok r n e =
     let event : Event = Entered room count number link at in
     elim (came_in (insiders h) room number r n e) [

@@ -23,30 +23,30 @@ use Rattle.hotel_core.specs.RowsOf.{room_row, rows_of}
 use Rattle.hotel_core.specs.Run.{Reached}
 use Rattle.hotel_core.specs.SoundRooms.{are_in_order}
 use Rattle.hotel_core.specs.Sound.{keys_in_order}
-use Rattle.hotel_core.proofs.Grown.{at_start}
 use Rattle.hotel_core.proofs.KeysInOrder.{InOrder, in_order_inserted, keys_inserted, in_order_tested}
 use Rattle.hotel_core.proofs.Insiders.{insiders_in_order}
 use Rattle.hotel_core.proofs.Pairs.{pair_cmp_total}
 use Rattle.hotel_core.proofs.Numbering.{same_keys}
 use Rattle.hotel_core.proofs.RowTests.{both}
 use Rattle.hotel_core.proofs.SameTables.{in_order_with}
+use Rattle.hotel_core.proofs.StartCodes.{orders, same_room_keys}
 
 -- a table's keys stand in order
 abbrev pub AreInOrder : {X : Type 0} → List (ℕ × X) → Type 0
 AreInOrder es = InOrder nat_cmp (keys_of es)
 
 pub kinds_in_order : (h : History) → Reached h → InOrder (slice_cmp nat_cmp) (kinds h)
-kinds_in_order (start t) ok = at_start (λ h. InOrder (slice_cmp nat_cmp) (kinds h)) t ok tt
+kinds_in_order (start t) ok = (orders t ok).kinds
 kinds_in_order (h ▷ Kind kind) ok = in_order_inserted (slice_cmp nat_cmp) nat_list_cmp_total kind (kinds h) (kinds_in_order h ok.0)
 kinds_in_order (h ▷ _) ok = kinds_in_order h ok.0
 
 pub rooms_in_order : (h : History) → Reached h → AreInOrder (rooms h)
-rooms_in_order (start t) ok = at_start (λ h. AreInOrder (rooms h)) t ok tt
+rooms_in_order (start t) ok = subst (InOrder nat_cmp) (sym (same_room_keys t.rooms)) (orders t ok).rooms
 rooms_in_order (h ▷ Install room kind code) ok = in_order_with (rooms h) room kind (rooms_in_order h ok.0)
 rooms_in_order (h ▷ _) ok = rooms_in_order h ok.0
 
 pub codes_in_order : (h : History) → Reached h → AreInOrder (all_issued h)
-codes_in_order (start t) ok = at_start (λ h. AreInOrder (all_issued h)) t ok tt
+codes_in_order (start t) ok = (orders t ok).codes
 codes_in_order (h ▷ Install room kind code) ok = in_order_with (all_issued h) code _ (codes_in_order h ok.0)
 codes_in_order (h ▷ CheckIn party room number code) ok = in_order_with (all_issued h) code _ (codes_in_order h ok.0)
 codes_in_order (h ▷ Transfer party room number code) ok = in_order_with (all_issued h) code _ (codes_in_order h ok.0)
@@ -56,7 +56,7 @@ still_in_order : (party : ℕ) (s : StayState) (es : List (ℕ × Stay)) → Are
 still_in_order party s es i = subst (InOrder nat_cmp) (sym (same_keys party s es)) i
 
 pub stays_in_order : (h : History) → Reached h → AreInOrder (stays h)
-stays_in_order (start t) ok = at_start (λ h. AreInOrder (stays h)) t ok tt
+stays_in_order (start t) ok = (orders t ok).stays
 stays_in_order (h ▷ Reserved party guest kind arrive depart) ok = in_order_with (stays h) party _ (stays_in_order h ok.0)
 stays_in_order (h ▷ Cancelled party) ok = still_in_order party state.Cancelled (stays h) (stays_in_order h ok.0)
 stays_in_order (h ▷ CheckIn party room number code) ok = still_in_order party (state.InHouse room) (stays h) (stays_in_order h ok.0)
@@ -69,7 +69,7 @@ spare_in_order (Some link) number party all i = in_order_with all number (card_o
 spare_in_order None number party all i = i
 
 pub cards_in_order : (h : History) → Reached h → AreInOrder (cards h)
-cards_in_order (start t) ok = at_start (λ h. AreInOrder (cards h)) t ok tt
+cards_in_order (start t) ok = (orders t ok).cards
 cards_in_order (h ▷ CheckIn party room number code) ok = in_order_with (cards h) number (card_of number party (link_to h room code)) (cards_in_order h ok.0)
 cards_in_order (h ▷ Transfer party room number code) ok = in_order_with (cards h) number (card_of number party (link_to h room code)) (cards_in_order h ok.0)
 cards_in_order (h ▷ Spare party number) ok = spare_in_order (link_of_party h party) number party (cards h) (cards_in_order h ok.0)
@@ -81,7 +81,7 @@ noted_in_order (Some note) all i =
 noted_in_order None all i = i
 
 pub notes_in_order : (h : History) → Reached h → InOrder pair_cmp (keys_of (all_notes h))
-notes_in_order (start t) ok = at_start (λ h. InOrder pair_cmp (keys_of (all_notes h))) t ok tt
+notes_in_order (start t) ok = (orders t ok).notes
 notes_in_order (h ▷ event) ok = noted_in_order (note_of event) (all_notes h) (notes_in_order h ok.0)
 
 -- the numbers of a table whose rows were computed

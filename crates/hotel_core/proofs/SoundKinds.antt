@@ -15,14 +15,14 @@ use Rattle.hotel_core.specs.Cases.{is_kind}
 use Rattle.hotel_core.specs.Run.{Reached}
 use Rattle.hotel_core.specs.SoundRooms.{kinds_read, room_kinds_there, stay_kinds_there}
 use Rattle.hotel_nights.specs.Kinds as nights
-use Rattle.hotel_core.proofs.Grown.{at_start, may_follow}
+use Rattle.hotel_core.proofs.Grown.{may_follow}
 use Rattle.hotel_core.proofs.EventRanges.{last_in_range}
 use Rattle.hotel_core.proofs.RowTests.{or_later, all_mapped, all_keys_inserted}
 use Rattle.hotel_core.proofs.RowsPass.{rooms_pass, stays_pass}
 
 -- Each kind reads as a code.
 pub kinds_are_read : (h : History) → Reached h → kinds_read (rows_of h) ≡ true
-kinds_are_read (start t) ok = at_start (λ h. kinds_read (rows_of h) ≡ true) t ok refl
+kinds_are_read (start t) ok = ok.kind_reads
 kinds_are_read (h ▷ Kind kind) ok = all_keys_inserted (slice_cmp nat_cmp) nights.is_kind kind (kinds h) (last_in_range h (Kind kind) ok) (kinds_are_read h ok.0)
 kinds_are_read (h ▷ _) ok = kinds_are_read h ok.0
 
@@ -50,10 +50,10 @@ kind_stays h _ kind e = e
 pub room_kinds : (h : History) → Reached h → room_kinds_there (rows_of h) ≡ true
 room_kinds h ok =
     all_mapped _ (λ e. (e.0, room_row h e.0 e.1)) (rooms h)
-    ∙ rooms_pass (λ h e. is_kind h e.1) (λ h event e ok. kind_stays h event e.1) (λ h room code kind ok. (may_follow h (Install room kind code) ok).0) h ok
+    ∙ rooms_pass (λ h e. is_kind h e.1) (λ h event e ok. kind_stays h event e.1) (λ s ok. all_mapped _ (λ e. (e.0, e.1.kind)) s.rooms ∙ ok.room_kind) (λ h room code kind ok. (may_follow h (Install room kind code) ok).0) h ok
 
 -- The kind of each stay is there.
 pub stay_kinds : (h : History) → Reached h → stay_kinds_there (rows_of h) ≡ true
 stay_kinds h ok =
-    stays_pass (λ h e. is_kind h e.1.kind) (λ h event e ok. kind_stays h event e.1.kind) (λ h x s e. e)
+    stays_pass (λ h e. is_kind h e.1.kind) (λ h event e ok. kind_stays h event e.1.kind) (λ s ok. ok.stay_kind) (λ h x s e. e)
     (λ h party guest kind arrive depart ok. (may_follow h (Reserved party guest kind arrive depart) ok).0) h ok

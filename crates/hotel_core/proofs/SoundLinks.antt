@@ -19,13 +19,13 @@ use Rattle.hotel_core.specs.Run.{Reached}
 use Rattle.hotel_core.specs.CodeLaws.{IsLinkAt}
 use Rattle.hotel_core.specs.SoundCards.{code_is, stands_at, are_neighbours, is_newest}
 use Rattle.hotel_core.proofs.Tests.{eq_from, eq_self, not_both}
-use Rattle.hotel_core.proofs.Grown.{at_start, may_follow}
+use Rattle.hotel_core.proofs.Grown.{may_follow}
 use Rattle.hotel_core.proofs.Counting.{comes_last}
 use Rattle.hotel_core.proofs.Numbering.{cards_count}
 use Rattle.hotel_core.proofs.CodePlaces.{codes_have_places}
 use Rattle.hotel_core.proofs.RoomLinks.{newest_are_last}
 use Rattle.hotel_core.proofs.NewestLinks.{newest_is}
-use Rattle.hotel_core.proofs.LedgerOrder.{same_fields}
+use Rattle.hotel_core.proofs.StartRules.{link_is}
 use Rattle.hotel_core.proofs.RowTests.{both}
 use Rattle.hotel_core.proofs.SoundRoomRows.{eq_tested}
 use Rattle.hotel_core.proofs.CodesByPlace.{codes_are_placed}
@@ -79,7 +79,7 @@ newest_tested h ok r link e =
 newest_by : (h : History) → Reached h → (r : ℕ) (link : Link) (o : Option Link) → last_link_of (codes_at (rows_of h) r) ≡ o → said_of o false (λ newest. same_link newest link) ≡ true → newest_link h r ≡ Some link
 newest_by h ok r link (Some newest) e t =
     let l = last_two (codes_at (rows_of h) r) newest e in
-    newest_is h ok r l.0 newest (sym (codes_are_placed h ok r).1 ∙ l.1) ∙ ap (λ z. Some z) (same_fields newest link t)
+    newest_is h ok r l.0 newest (sym (codes_are_placed h ok r).1 ∙ l.1) ∙ ap (λ z. Some z) (link_is newest link t)
 newest_by h ok r link None e t = not_both false t refl
 
 -- and the other way
@@ -126,7 +126,7 @@ spare_last None h party number p ok n e ih = ih
 
 -- The link of a party's last card is the one that it was given last.
 pub last_cards : (h : History) → Reached h → (p : ℕ) → link_of_last_card (cards h) p ≡ link_of_party h p
-last_cards (start t) ok p = at_start (λ h. link_of_last_card (cards h) p ≡ link_of_party h p) t ok refl
+last_cards (start t) ok p = refl
 last_cards (h ▷ CheckIn party room number code) ok p = issue_last h party number (link_to h room code) p ok.0 (may_follow h (CheckIn party room number code) ok).5 (last_cards h ok.0 p)
 last_cards (h ▷ Transfer party room number code) ok p = issue_last h party number (link_to h room code) p ok.0 (may_follow h (Transfer party room number code) ok).5 (last_cards h ok.0 p)
 last_cards (h ▷ Spare party number) ok p = spare_last (link_of_party h party) h party number p ok.0 (may_follow h (Spare party number) ok).2 refl (last_cards h ok.0 p)

@@ -39,6 +39,8 @@ use Rattle.hotel_core.proofs.SoundLinks.{said_some, link_stands, same_self}
 use Rattle.hotel_core.proofs.SoundInside.{insiders_seen, one_card}
 use Rattle.hotel_core.proofs.Kept.{room_goes_on, code_is_on, card_is_on}
 use Rattle.hotel_core.proofs.NotesListed.{notes_are_listed, notes_count}
+use Rattle.hotel_core.proofs.StartRows.{rows_of_start}
+use Rattle.std.specs.List.{list_all}
 
 -- The counts of each room's notes are 1 to how many there are.
 pub notes_are_counted : (h : History) → Reached h → notes_counted (rows_of h) ≡ true
@@ -153,4 +155,4 @@ one_fits h NextDay note ok e = cc
 
 -- What each note says fits its room.
 pub notes_all_fit : (h : History) → Reached h → notes_fit (rows_of h) ≡ true
-notes_all_fit h ok = notes_pass (λ h e. note_fits (rows_of h) e) (λ h event e ok. note_on h event e ok) one_fits h ok
+notes_all_fit h ok = notes_pass (λ h e. note_fits (rows_of h) e) (λ h event e ok. note_on h event e ok) (λ s ok. ap (λ rows. list_all (note_fits rows) s.notes) (rows_of_start s ok) ∙ ok.note_fits) one_fits h ok

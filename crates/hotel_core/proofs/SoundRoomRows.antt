@@ -25,7 +25,7 @@ use Rattle.hotel_core.specs.CodeLaws.{IsLinkAt}
 use Rattle.hotel_core.specs.SoundRooms.{each_room, room_numbers, lock_places, codes_few, note_counts, secured_hold_last}
 use Rattle.hotel_core.proofs.Tests.{eq_from, eq_self, and_true, not_both}
 use Rattle.hotel_core.proofs.Numbered.{found_there}
-use Rattle.hotel_core.proofs.Grown.{at_start, may_follow}
+use Rattle.hotel_core.proofs.Grown.{may_follow}
 use Rattle.hotel_core.proofs.EventRanges.{last_in_range}
 use Rattle.hotel_core.proofs.NumbersLeft.{codes_fit}
 use Rattle.hotel_core.proofs.LedgerOrder.{ledger_holds, link_seen}
@@ -35,6 +35,8 @@ use Rattle.hotel_core.proofs.RowTests.{both, where_so, all_mapped, all_found}
 use Rattle.hotel_core.proofs.RowsPass.{rooms_pass}
 use Rattle.hotel_core.proofs.SoundKeys.{rooms_in_order}
 use Rattle.hotel_core.proofs.SoundDay.{le_tested, lt_tested}
+use Rattle.hotel_core.proofs.StartRows.{rooms_numbered_at_start, few_notes_at_start}
+use Rattle.hotel_core.proofs.StartSecured.{secured_have_two_at_start}
 
 -- a rule of all rooms holds where it holds of each room's row
 pub each_room_is : (h : History) → Reached h → (rule : RoomRow → Bool) → ((r : ℕ) (kind : List ℕ) → at_number (rooms h) r ≡ Some kind → rule (room_row h r kind) ≡ true) → each_room (rows_of h) rule ≡ true
@@ -50,7 +52,7 @@ listed_there h r kind e = found_there (rooms h) r kind e
 pub rooms_numbered : (h : History) → Reached h → room_numbers (rows_of h) ≡ true
 rooms_numbered h ok =
     all_mapped _ (λ e. (e.0, room_row h e.0 e.1)) (rooms h)
-    ∙ rooms_pass (λ h e. (e.0 == e.0) && nat_le 1 e.0 && nat_le e.0 9999) (λ h event e ok t. t)
+    ∙ rooms_pass (λ h e. (e.0 == e.0) && nat_le 1 e.0 && nat_le e.0 9999) (λ h event e ok t. t) (λ s ok. all_mapped _ (λ e. (e.0, e.1.kind)) s.rooms ∙ rooms_numbered_at_start s ok)
     (λ h room code kind ok. let n = (last_in_range h (Install room kind code) ok).0 in both _ _ (both _ _ (eq_self room) (le_tested 1 room n.0)) (le_tested room 9999 n.1)) h ok
 
 within_by : (ps : List ℕ) (code : ℕ) (later codes : List ℕ) → ps ++ code ∷ later ≡ codes → length ps < length codes
@@ -72,7 +74,7 @@ one_more_by false note taken count n m few = few
 
 -- A room has at most 9,999,999 notes.
 pub few_notes : (h : History) → Reached h → (r : ℕ) → length (notes h r) ≤ 9999999
-few_notes (start t) ok r = at_start (λ h. length (notes h r) ≤ 9999999) t ok (omega arith)
+few_notes (start t) ok r = few_notes_at_start t ok r
 few_notes (h ▷ Entered room count number link at) ok r =
     one_more_by (room == r) (record { room = room; count = count; act = act.Entered number link; day = at.day; second = at.second }) (notes h r) count
     (λ t. (may_follow h (Entered room count number link at) ok).0 ∙ ap (λ z. length (notes h z) + 1) (eq_from room r t)) (last_in_range h (Entered room count number link at) ok).0.1 (few_notes h ok.0 r)
@@ -96,7 +98,7 @@ issued_to false c codes code two e = two e
 
 -- A secured room has two codes or more.
 pub secured_have_two : (h : History) → Reached h → (r : ℕ) → secured h r ≡ true → 2 ≤ length (issued h r)
-secured_have_two (start t) ok r e = at_start (λ h. secured h r ≡ true → 2 ≤ length (issued h r)) t ok (λ n. not_both false n refl) e
+secured_have_two (start t) ok r e = secured_have_two_at_start t ok r e
 secured_have_two (h ▷ Install room kind code) ok r e = issued_to (room == r) (secured h r) (issued h r) code (secured_have_two h ok.0 r) e
 secured_have_two (h ▷ CheckIn party room number code) ok r e = issued_to (room == r) (secured h r) (issued h r) code (secured_have_two h ok.0 r) e
 secured_have_two (h ▷ Transfer party room number code) ok r e = issued_to (room == r) (secured h r) (issued h r) code (secured_have_two h ok.0 r) e

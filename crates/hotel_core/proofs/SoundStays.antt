@@ -26,30 +26,31 @@ use Rattle.hotel_core.proofs.RowTests.{both, all_found, found_passes}
 use Rattle.hotel_core.proofs.RowsPass.{stays_pass}
 use Rattle.hotel_core.proofs.SoundKeys.{stays_in_order}
 use Rattle.hotel_core.proofs.SoundDay.{le_tested, lt_tested}
+use Rattle.hotel_core.proofs.StartNumbers.{stays_numbered_at_start}
 
 -- the stay of a number has it
 pub stay_has_number : (h : History) → Reached h → (p : ℕ) (stay : Stay) → at_number (stays h) p ≡ Some stay → stay.party ≡ p
 stay_has_number h ok p stay e =
-    let all = stays_pass (λ h e. e.1.party == e.0) (λ h event x ok t. t) (λ h x s t. t) (λ h party guest kind arrive depart ok. eq_self party) h ok in
+    let all = stays_pass (λ h e. e.1.party == e.0) (λ h event x ok t. t) (λ s ok. (stays_numbered_at_start s ok).0) (λ h x s t. t) (λ h party guest kind arrive depart ok. eq_self party) h ok in
     eq_from stay.party p (found_passes (λ (x : ℕ × Stay). x.1.party == x.0) (stays h) p stay all e)
 
 -- Stays are numbered from 1 on.
 pub stays_numbered : (h : History) → Reached h → stay_numbers (rows_of h) ≡ true
 stays_numbered h ok =
     both _ _
-    (both _ _ (stays_pass (λ h e. e.1.party == e.0) (λ h event x ok t. t) (λ h x s t. t) (λ h party guest kind arrive depart ok. eq_self party) h ok) (stays_count h ok))
+    (both _ _ (stays_pass (λ h e. e.1.party == e.0) (λ h event x ok t. t) (λ s ok. (stays_numbered_at_start s ok).0) (λ h x s t. t) (λ h party guest kind arrive depart ok. eq_self party) h ok) (stays_count h ok))
     (le_tested _ _ (stays_fit h ok))
 
 -- Each guest reads as a guest's name.
 pub guests_are_read : (h : History) → Reached h → guests_read (rows_of h) ≡ true
 guests_are_read h ok =
-    stays_pass (λ h e. is_guest e.1.guest) (λ h event x ok t. t) (λ h x s t. t)
+    stays_pass (λ h e. is_guest e.1.guest) (λ h event x ok t. t) (λ s ok. ok.stay_guest) (λ h x s t. t)
     (λ h party guest kind arrive depart ok. (last_in_range h (Reserved party guest kind arrive depart) ok).0) h ok
 
 -- The days of each stay are in range.
 pub days_fit : (h : History) → Reached h → stay_days (rows_of h) ≡ true
 days_fit h ok =
-    stays_pass (λ h e. is_day e.1.depart && nat_lt e.1.arrive e.1.depart && nat_le e.1.depart (e.1.arrive + 90)) (λ h event x ok t. t) (λ h x s t. t)
+    stays_pass (λ h e. is_day e.1.depart && nat_lt e.1.arrive e.1.depart && nat_le e.1.depart (e.1.arrive + 90)) (λ h event x ok t. t) (λ s ok. ok.stay_day) (λ h x s t. t)
     (λ h party guest kind arrive depart ok.
     let n = last_in_range h (Reserved party guest kind arrive depart) ok in
     both _ _ (both _ _ (le_tested depart 36524 n.3) (lt_tested arrive depart n.1)) (le_tested depart (arrive + 90) n.2)) h ok

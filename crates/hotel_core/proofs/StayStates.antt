@@ -12,7 +12,7 @@ use Rattle.hotel_core.specs.Stays.{in_state, now_is}
 use Rattle.hotel_core.specs.Cases.{room_of_state, is_booked_state}
 use Rattle.hotel_core.proofs.Numbered.{true_is_not_false, at_inserted}
 use Rattle.hotel_core.proofs.Tests.{eq_from}
-use Rattle.hotel_core.proofs.Tables.{at_is}
+use Rattle.hotel_core.proofs.TableKeys.{at_is}
 
 -- the room of a stay in house
 abbrev pub home_of : Option Stay → Option ℕ

@@ -26,8 +26,16 @@ pub mod OnRows
 pub mod StepOnRows
 pub mod Lift
 pub mod Reads
+pub mod Finds
+pub mod Issuing
+pub mod Noting
+pub mod Stepping
 pub mod Headline
 pub mod Lists
 pub mod Follow
 pub mod Texts
 pub mod CodeLaws
+pub mod CodeTable
+pub mod Tables
+pub mod ListBooks
+pub mod InsideTable

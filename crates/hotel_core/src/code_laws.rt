@@ -1,6 +1,6 @@
 // Laws of codes, cards and locks along each history that can be reached.
 ghost use Rattle.hotel_core.specs.CodeLaws.{CardsCount, CardsFit, CardsHaveLinks, CardsOneParty, CodesAreFound, CodesFit, CodesHavePlaces, GuestsHaveCards, NewestAreLast, NextAreNew, OthersHaveNone, PartiesHaveCards, PartiesHaveLinks, PlacesHaveCodes, RoomsHaveCodes, SecuredRoomsFit, StaysCount, StaysFit};
-ghost use Rattle.hotel_core.specs.Headline.{LedgerHolds, NewestOpens, NoCodeTwice, OpensOwnRoom, SafeRoom, TakesTheFirst};
+ghost use Rattle.hotel_core.specs.Headline.{LedgerHolds, NewestOpens, NoCodeTwice, NoOversell, OpensOwnRoom, SafeRoom, TakesTheFirst};
 ghost use Rattle.hotel_core.specs.History.{History};
 ghost use Rattle.hotel_core.specs.Run.{Reached};
 
@@ -19,8 +19,8 @@ pub fn rooms_and_codes()
 
 /// The table of codes tells each code's room and place.
 pub fn places()
-    ensures told { (h : History) → Reached h → CodesHavePlaces h }
-    ensures true_places { (h : History) → Reached h → PlacesHaveCodes h }
+    ensures of_codes { (h : History) → Reached h → CodesHavePlaces h }
+    ensures of_rows { (h : History) → Reached h → PlacesHaveCodes h }
     ensures no_code_twice { (h : History) → Reached h → NoCodeTwice h }
 {}
 
@@ -66,4 +66,9 @@ pub fn owners()
 pub fn safety()
     ensures secured { (h : History) → Reached h → SecuredRoomsFit h }
     ensures safe_room { (h : History) → Reached h → SafeRoom h }
+{}
+
+/// No kind is sold beyond its rooms.
+pub fn no_oversell()
+    ensures { NoOversell }
 {}

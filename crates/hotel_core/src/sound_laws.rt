@@ -1,5 +1,5 @@
 //! The headline: what holds of each history that can be reached, and that its rows are sound.
-ghost use Rattle.hotel_core.specs.Headline.{HeadlineHolds, NoOversell, RowsFollow, RowsSound};
+ghost use Rattle.hotel_core.specs.Headline.{HeadlineHolds, RowsFollow, RowsSound};
 ghost use Rattle.hotel_core.specs.Sound.{RulesAreTested};
 
 /// The rows of a history that can be reached are sound.
@@ -10,11 +10,6 @@ pub fn rows_are_sound()
 /// The rows after one more event are those that its change makes, and the change fits.
 pub fn changes_fit()
     ensures { RowsFollow }
-{}
-
-/// On no night are more stays of a kind booked and in house than the kind has rooms.
-pub fn no_oversell()
-    ensures { NoOversell }
 {}
 
 /// All seven parts of the headline hold of each history that can be reached.

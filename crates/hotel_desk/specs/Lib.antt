@@ -1,3 +1,9 @@
+pub mod Words
+pub mod Lines
+pub mod Values
+pub mod Commands
+pub mod Verbs
+pub mod Asks
 pub mod Tests
 pub mod Scenes
 pub mod SceneAuditGapConflict

@@ -1,17 +1,18 @@
 -- The three lists of a place in a list of codes.
-use Rattle.std.proofs.Common.{◌≡◌, ℕ, zero, suc, ◌+◌, ◌-◌, ◌<◌, ◌≤◌, ◌==◌, ◌||◌, ◌&&◌, Bool, true, false, not, cond, eqb, nat_eq, nat_lt, List, [], ◌∷◌, ◌++◌, length, take, drop, get_or, arith, refl, sym, ap, ◌∙◌, rules, add-one, Option, Some, None, subst, inl, inr, length-append, append_assoc}
-use Rattle.std.proofs.Math.Seq.{take-add, drop-cons}
-use Rattle.std.proofs.lemmas.List.{drop-drop, get_or-drop, take-append-drop, length-drop}
+use Rattle.std.proofs.Common.{◌≡◌, ℕ, zero, suc, ◌+◌, ◌-◌, ◌<◌, ◌≤◌, ◌==◌, Bool, true, false, not, nat_eq, nat_lt, List, [], ◌∷◌, ◌++◌, length, take, drop, get_or, arith, refl, sym, ap, ◌∙◌, add-one, None, inl, inr, length-append, append_assoc}
+use Rattle.std.proofs.Math.Seq.{take-add, drop-cons, get_or-append_seam}
+use Rattle.std.proofs.lemmas.List.{get_or-append-add, drop-drop, get_or-drop, take-append-drop}
 use Rattle.std.proofs.lemmas.List.Sums.{prefix_len_stops, prefix_len-le-length}
 use Rattle.std.proofs.lemmas.Cmp.{nat_eq_equiv}
 use Rattle.std.proofs.lemmas.Map.Keys.{IsDistinct-push, apart_from_distinct}
-use Rattle.std.proofs.lemmas.Bool.{cases_Bool, eqb-true, ne_eqb}
+use Rattle.std.proofs.lemmas.Bool.{cases_Bool, ne_eqb}
 use Rattle.std.proofs.lemmas.Bool.Decides.{nat_tests}
 use Rattle.std.proofs.lemmas.Grind.{common_steps}
 use Rattle.std.specs.List.{IsDistinct, list_any, position_or_len}
 use Rattle.keycard_rules.specs.declared.card.Link.{Link}
+use Rattle.keycard_rules.specs.Draw.{is_among}
 use Rattle.keycard_rules.specs.Lock.{turn}
-use Rattle.keycard_rules.specs.Chain.{Ledger, last_from, issued, is_among, IsLinkOf, recoded, place_in}
+use Rattle.keycard_rules.specs.Chain.{Ledger, last_from, issued, current, IsLinkOf, recoded, place_in}
 
 last_from-at : (x : ℕ) (xs : List ℕ) → last_from x xs ≡ get_or (x ∷ xs) (length xs) 0
 last_from-at x [] = refl
@@ -59,12 +60,46 @@ same_place items i j d hi hj e = elim (cases_Bool (nat_lt i j)) [
   ]
 ]
 
+-- a move of the place keeps the codes
+pub issued-same : (items : List ℕ) (p q : ℕ) → p < length items → q < length items → issued (ledger_of items p) ≡ issued (ledger_of items q)
+issued-same items p q h k = issued-is items p h ∙ sym (issued-is items q k)
+
+-- all but the last of a list that begins with a code
+front : ℕ → List ℕ → List ℕ
+front x [] = []
+front x (y ∷ ys) = x ∷ front y ys
+
+front-last : (x code : ℕ) (xs : List ℕ) → x ∷ (xs ++ (code ∷ [])) ≡ front x xs ++ (last_from x xs ∷ code ∷ [])
+unfolding front
+front-last x code [] = refl
+front-last x code (y ∷ ys) = ap (λ r. x ∷ r) (front-last y code ys)
+
+-- the link of a new code
+pub is_link-pushed : (items new : List ℕ) (p old code : ℕ) → p < length items → new ≡ items ++ (code ∷ []) → p < length new → old ≡ current (ledger_of items p)
+    → IsLinkOf (issued (ledger_of new p)) (record { old_code = old; new_code = code })
+is_link-pushed items new p old code h e k o =
+    let held = get_or items p 0 in
+    let awaited = drop (p + 1) items in
+    let all : issued (ledger_of new p) ≡ issued (ledger_of items p) ++ (code ∷ []) = issued-is new p k ∙ e ∙ ap (λ r. r ++ (code ∷ [])) (sym (issued-is items p h)) in (
+      take p items ++ front held awaited,
+      [],
+      rw o (all ∙ append_assoc (take p items) (held ∷ awaited) (code ∷ []) ∙ ap (λ r. take p items ++ r) (front-last held code awaited)
+          ∙ sym (append_assoc (take p items) (front held awaited) (current (ledger_of items p) ∷ code ∷ []))),
+    )
+
+neighbours : (items : List ℕ) (link : Link) → IsLinkOf items link
+    → (k : ℕ) × (suc k < length items) × (get_or items k 0 ≡ link.old_code) × (get_or items (suc k) 0 ≡ link.new_code)
+neighbours items link h =
+    let size = length-append h.0 (link.old_code ∷ link.new_code ∷ h.1) in
+    let more : get_or (h.0 ++ (link.old_code ∷ link.new_code ∷ h.1)) (length h.0 + 1) 0 ≡ link.new_code = get_or-append-add h.0 (link.old_code ∷ link.new_code ∷ h.1) 1 0 in
+    (length h.0, rw h.2 (omega arith), rw h.2 (get_or-append_seam h.0 link.old_code (link.new_code ∷ h.1) 0), rw (h.2, ← add-one) more)
+
 -- a link that the chain issued opens nothing only where the lock rule says so
 pub shut : (items : List ℕ) (p : ℕ) (link : Link) → p < length items → IsDistinct nat_eq items → (get_or items p 0 ≡ link.new_code → ⊥)
     → (get_or items p 0 ≡ link.old_code → suc p < length items → get_or items (suc p) 0 ≡ link.new_code → ⊥)
     → IsLinkOf (issued (ledger_of items p)) link → None ≡ turn (get_or items p 0) link
 shut items p link h d n m k =
-    let k2 : IsLinkOf items link = rw (issued-is items p h) at k in
+    let k2 = neighbours items link (rw (issued-is items p h) at k) in
     let o : get_or items p 0 ≡ link.old_code → ⊥ = λ e.
     let same : p ≡ k2.0 = same_place items p k2.0 d h (omega arith) (e ∙ sym k2.2) in
     m e (rw same (k2.1)) (rw same (k2.3)) in

@@ -1,8 +1,8 @@
 -- A draw, as far as it has come.
-use Rattle.std.proofs.Common.{ℕ, zero, suc, ◌≡◌, ◌+◌, ◌/◌, ◌^◌, ◌≤◌, ◌<◌, Bool, true, false, List, [], ◌∷◌, Option, Some, None, refl, ap, sym, ◌∙◌, arith, add-one, cond, nat_lt}
-use Rattle.std.specs.Prelude.{if◌then◌else◌}
+use Rattle.std.proofs.Common.{ℕ, zero, suc, ◌≡◌, ◌+◌, ◌≤◌, ◌<◌, Bool, true, false, List, [], ◌∷◌, Option, Some, None, refl, ap, sym, ◌∙◌, arith, add-one, cond, length}
+use Rattle.std.proofs.lemmas.List.Elements.{All-cons, All-nil}
 use Rattle.rand_core.specs.Stream.{Stream, next_u64}
-use Rattle.keycard_rules.specs.Draw.{is_among, words, past, code_of, Draw, one_more, draw_from, drawn}
+use Rattle.keycard_rules.specs.Draw.{is_among, words, past, code_of, Draw, one_more, draw_from, drawn, AllIssued}
 
 abbrev pub more : ℕ → Draw → Draw
 more n draw = record { code = draw.code; examined = n + draw.examined }
@@ -11,6 +11,10 @@ pub past-suc : (n : ℕ) (s : Stream) → past (suc n) s ≡ (next_u64 (past n s
 unfolding past
 past-suc zero s = refl
 past-suc (suc n) s = past-suc n (next_u64 s).1
+
+-- one more word
+pub past-next : (n word : ℕ) (s0 s1 s2 : Stream) → s1 ≡ past n s0 → (word, s2) ≡ next_u64 s1 → s2 ≡ past (n + 1) s0
+past-next n word s0 s1 s2 m next = rw add-one (ap (λ p. p.1) next ∙ ap (λ s. (next_u64 s).1) m ∙ sym (past-suc n s0))
 
 pub past-zero : (s : Stream) → past 0 s ≡ s
 unfolding past
@@ -105,17 +109,63 @@ no_more_at issued s0 s1 n (suc left) a e d = absurd (omega arith)
 pub no_more : (issued : List ℕ) (s0 s1 : Stream) (n : ℕ) → SoFar issued s0 n s1 → 64 ≤ n → drawn issued s0 ≡ record { code = None; examined = n }
 no_more issued s0 s1 n h e = no_more_at issued s0 s1 n h.left h.all e h.same
 
--- what a word's code is, once `Code::new` took it
-code_by : (b : Bool) (v code : ℕ) → Some code ≡ cond b (Some v) None → code ≡ v
-code_by true v code h = cc
-code_by false v code h = cc
-
-pub code_taken : (word code : ℕ) → Some code ≡ (if nat_lt (word / 65536) (2 ^ 48) then Some (word / 65536) else None) → code ≡ code_of word
-code_taken word code h = code_by (nat_lt (word / 65536) (2 ^ 48)) (word / 65536) code h
-
+-- an answer of a look-up, of the word's code and the codes at the start
 pub answer_at : (now then_ : List ℕ) (word code : ℕ) (was b : Bool) → was ≡ is_among now code → was ≡ b → now ≡ then_ → code ≡ code_of word → is_among then_ (code_of word) ≡ b
 answer_at now then_ word code was b a e s k = sym (ap (λ x. is_among now x) k ∙ ap (λ xs. is_among xs (code_of word)) s) ∙ sym a ∙ e
 
 -- a draw that is known
 pub draw_is : (issued : List ℕ) (s0 s2 : Stream) (code : Option ℕ) (n : ℕ) → drawn issued s0 ≡ record { code = code; examined = n } → s2 ≡ past n s0 → ((drawn issued s0).code ≡ code) × (s2 ≡ past (drawn issued s0).examined s0)
 draw_is issued s0 s2 code n d m = (ap (λ x. x.code) d, m ∙ ap (λ k. past k s0) (sym (ap (λ x. x.examined) d)))
+
+draw_from-fresh_by : (b : Bool) (issued later : List ℕ) (word code : ℕ) → is_among issued (code_of word) ≡ b
+    → (let d : Draw = cond b (one_more (draw_from issued later)) (record { code = Some (code_of word); examined = 1 }) in d).code ≡ Some code
+    → ((draw_from issued later).code ≡ Some code → is_among issued code ≡ false) → is_among issued code ≡ false
+draw_from-fresh_by true issued later word code e h rest = rest h
+draw_from-fresh_by false issued later word code e h rest = let k : code_of word ≡ code = cc in rw (← k) e
+
+-- the code that is drawn isn't issued
+pub draw_from-fresh : (issued given : List ℕ) (code : ℕ) → (draw_from issued given).code ≡ Some code → is_among issued code ≡ false
+unfolding draw_from
+draw_from-fresh issued [] code h = cc
+draw_from-fresh issued (word ∷ later) code h = draw_from-fresh_by (is_among issued (code_of word)) issued later word code refl h (draw_from-fresh issued later code)
+
+draw_from-none_by : (b : Bool) (issued later : List ℕ) (word : ℕ) → is_among issued (code_of word) ≡ b
+    → (let d : Draw = cond b (one_more (draw_from issued later)) (record { code = Some (code_of word); examined = 1 }) in d).code ≡ None
+    → ((draw_from issued later).code ≡ None → AllIssued issued later) → AllIssued issued (word ∷ later)
+draw_from-none_by true issued later word e h rest = All-cons (λ w. is_among issued (code_of w) ≡ true) word later e (rest h)
+draw_from-none_by false issued later word e h rest = cc
+
+-- where none is drawn, all words give issued codes
+pub draw_from-none : (issued given : List ℕ) → (draw_from issued given).code ≡ None → AllIssued issued given
+unfolding draw_from
+draw_from-none issued [] h = All-nil (λ w. is_among issued (code_of w) ≡ true)
+draw_from-none issued (word ∷ later) h = draw_from-none_by (is_among issued (code_of word)) issued later word refl h (draw_from-none issued later)
+
+pub drawn-fresh : (issued : List ℕ) (s : Stream) (code : ℕ) → (drawn issued s).code ≡ Some code → is_among issued code ≡ false
+unfolding drawn
+drawn-fresh issued s code h = draw_from-fresh issued (words 64 s) code h
+
+pub drawn-none : (issued : List ℕ) (s : Stream) → (drawn issued s).code ≡ None → AllIssued issued (words 64 s)
+unfolding drawn
+drawn-none issued s h = draw_from-none issued (words 64 s) h
+
+pub length-words : (n : ℕ) (s : Stream) → length (words n s) ≡ n
+unfolding words
+length-words zero s = refl
+length-words (suc n) s = ap suc (length-words n (next_u64 s).1)
+
+draw_from-examined_by : (b : Bool) (d : Draw) (code n : ℕ) → d.examined ≤ n → (let r : Draw = cond b (one_more d) (record { code = Some code; examined = 1 }) in r).examined ≤ suc n
+draw_from-examined_by true d code n h = omega arith
+draw_from-examined_by false d code n h = omega arith
+
+-- no more words are examined than are given
+pub draw_from-examined : (issued given : List ℕ) → (draw_from issued given).examined ≤ length given
+unfolding draw_from
+draw_from-examined issued [] = omega arith
+draw_from-examined issued (word ∷ later) =
+    draw_from-examined_by (is_among issued (code_of word)) (draw_from issued later) (code_of word) (length later) (draw_from-examined issued later)
+
+pub drawn-examined : (issued : List ℕ) (s : Stream) → (drawn issued s).examined ≤ 64
+unfolding drawn
+drawn-examined issued s =
+    let h : (draw_from issued (words 64 s)).examined ≤ 64 = rw length-words at (draw_from-examined issued (words 64 s)) in h

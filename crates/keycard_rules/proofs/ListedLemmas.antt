@@ -1,7 +1,7 @@
 -- The words of a list, one after the other.
-use Rattle.std.proofs.Common.{◌≡◌, ℕ, zero, suc, ◌+◌, ◌-◌, ◌<◌, ◌≤◌, List, [], ◌∷◌, ◌++◌, length, take, drop, replicate, get_or, arith, refl, sym, ap, ◌∙◌, add-one}
+use Rattle.std.proofs.Common.{◌≡◌, ℕ, zero, suc, ◌-◌, ◌<◌, ◌≤◌, List, [], ◌∷◌, ◌++◌, length, take, drop, replicate, get_or, arith, refl, sym, ap, ◌∙◌}
 use Rattle.rand_core.specs.Stream.{Stream}
-use Rattle.rand_core.specs.Steps.{stream_of, steps_u64_low}
+use Rattle.rand_core.specs.Steps.{steps_u64_low}
 use Rattle.rand_core.proofs.StepsLemmas.{next_u64-stream_of}
 use Rattle.keycard_rules.specs.Draw.{words}
 use Rattle.keycard_rules.specs.ListedWords.{next_listed, listed_stream, last_listed, first_listed}

@@ -1,10 +1,10 @@
 -- Facts about numerals.
-use Rattle.std.proofs.Common.{◌≡◌, ℕ, zero, suc, ◌+◌, ◌-◌, ◌*◌, ◌/◌, ◌%◌, ◌^◌, ◌<◌, ◌≤◌, List, [], ◌∷◌, ◌++◌, length, take, drop, set, get_or, arith, refl, sym, ap, subst, ◌∙◌, append_assoc, add-one, length-append, rules}
+use Rattle.std.proofs.Common.{◌≡◌, ℕ, zero, suc, ◌+◌, ◌-◌, ◌*◌, ◌/◌, ◌%◌, ◌^◌, ◌<◌, ◌≤◌, List, [], ◌∷◌, ◌++◌, length, take, drop, set, get_or, arith, refl, ◌∙◌, append_assoc, add-one, length-append}
 use Rattle.std.proofs.Math.Nat.{pow-zero, pow-suc, mul-le-mul_right, pow-le-pow_right}
 use Rattle.std.proofs.Math.Seq.{take-suc}
 use Rattle.std.proofs.lemmas.Nat.{div_below, div-add-mod'}
-use Rattle.std.proofs.lemmas.List.{append-nil, length-take-le, length-set}
-use Rattle.std.proofs.lemmas.List.Elements.{All-append, All-head, All-tail, All-nil, All-push}
+use Rattle.std.proofs.lemmas.List.{length-take-le, length-set}
+use Rattle.std.proofs.lemmas.List.Elements.{All-head, All-tail, All-nil, All-push}
 use Rattle.std.proofs.lemmas.Grind.{common_steps}
 use Rattle.std.specs.List.{All}
 use Rattle.keycard_rules.specs.Numerals.{digit_value, number_of, fixed_text, digit_byte, is_numeral, numeral}
@@ -14,8 +14,7 @@ use Rattle.std.proofs.lemmas.List.Sums.{AllPass-from_list_all, list_all-from_All
 use Rattle.std.proofs.lemmas.List.Elements.{All-weaker}
 use Rattle.std.proofs.lemmas.Bool.{cases_Bool}
 use Rattle.std.proofs.lemmas.Bool.Decides.{nat_tests}
-use Rattle.std.proofs.Common.{Option, Some, None, true, false, Bool, inl, inr, tests, ◌&&◌, nat_lt, nat_le}
-use Rattle.std.specs.List.{list_all}
+use Rattle.std.proofs.Common.{Option, Some, None, true, false, Bool, inl, inr, ◌&&◌, nat_lt, nat_le}
 
 regrouped : (x p b n d : ℕ) → x * (p * b) + (n * b + d) ≡ (x * p + n) * b + d
 regrouped x p b n d = omega arith
@@ -107,7 +106,7 @@ fixed_text-write base (suc i) rest number l pos le h =
     let cut = drop-set l i d (omega arith) in
     let step = fixed_text-step base i rest (drop (i + 1) l) in
     let len = length-set l i d in
-    rw (e, len, cut) (h ∙ rw (← add-one) step)
+    rw (e, len, cut) (h ∙ rw (← add-one i) step)
 
 -- a numeral of at most so many digits is below that power of the base
 pub number_of-below : (base most : ℕ) (text : List ℕ) → 0 < base → IsNumeral base most text → number_of base text < base ^ most

@@ -1,11 +1,13 @@
 -- A room's codes in order of issue: those that the lock has left behind, the one that it holds, and those that it has not seen.
-use Rattle.std.specs.Prelude.{◌≡◌, ℕ, suc, ◌<◌, length, slice_index, ◌==◌, ◌&&◌, ◌||◌, Bool, true, false, not, List, [], ◌∷◌, ◌++◌, Option, Some, None, Result, Ok, Err, if◌then◌else◌, option_map}
-use Rattle.std.specs.List.{list_any, before_first, after_first, position_or_len}
+use Rattle.std.specs.Prelude.{◌≡◌, ℕ, ◌==◌, ◌&&◌, ◌||◌, Bool, false, not, List, [], ◌∷◌, ◌++◌, Option, Some, None, Result, Ok, Err, if◌then◌else◌}
+use Rattle.std.specs.List.{before_first, after_first, position_or_len}
+use Rattle.keycard_rules.specs.Draw.{is_among}
 use Rattle.keycard_rules.specs.declared.card.Link.{Link}
 use Rattle.keycard_rules.specs.declared.chain.Turned.{Turned}
 use Rattle.keycard_rules.specs.declared.chain.RecodeFault.{RecodeFault}
 use Rattle.keycard_rules.specs.declared.chain.RecodeFault.TheVariants.{HeldDiffers, NotAwaited}
 
+-- passed, held and awaited codes
 pub record Ledger : Type 0 where
   pub passed : List ℕ
   pub held : ℕ
@@ -13,7 +15,7 @@ pub record Ledger : Type 0 where
 
 -- all codes, in order of issue
 abbrev pub issued : Ledger → List ℕ
-issued c = c.passed ++ (c.held ∷ c.awaited)
+issued ledger = ledger.passed ++ (ledger.held ∷ ledger.awaited)
 
 -- the last of a list that begins with a code
 abbrev pub last_from : ℕ → List ℕ → ℕ
@@ -22,59 +24,59 @@ last_from code (next ∷ later) = last_from next later
 
 -- the newest code
 abbrev pub current : Ledger → ℕ
-current c = last_from c.held c.awaited
+current ledger = last_from ledger.held ledger.awaited
 
-abbrev pub is_among : List ℕ → ℕ → Bool
-is_among codes code = list_any (λ c. c == code) codes
-
--- one code held
+-- one code, held
 abbrev pub installed : ℕ → Ledger
 installed code = record { passed = []; held = code; awaited = [] }
 
--- a code more to come
+-- one more awaited code
 abbrev pub with_issued : Ledger → ℕ → Ledger
-with_issued c code = record c { awaited = c.awaited ++ (code ∷ []) }
+with_issued ledger code = record ledger { awaited = ledger.awaited ++ (code ∷ []) }
 
 -- the code is the first awaited one
 abbrev pub is_next : List ℕ → ℕ → Bool
 is_next [] code = false
 is_next (next ∷ later) code = next == code
 
+-- the codes after the first
 abbrev pub without_first : List ℕ → List ℕ
 without_first [] = []
 without_first (next ∷ later) = later
 
--- the codes as they stand after a card of the link
+-- a card of the link moves the lock on: its old code is held, and its new one is the first awaited
+abbrev pub moves_on : Ledger → Link → Bool
+moves_on ledger link = (ledger.held == link.old_code) && is_next ledger.awaited link.new_code
+
+-- the codes after the lock has moved on to the first awaited one
+abbrev pub moved_on : Ledger → ℕ → Ledger
+moved_on ledger code = record { passed = ledger.passed ++ (ledger.held ∷ []); held = code; awaited = without_first ledger.awaited }
+
+-- the codes after a card of the link: where its new code is held, nothing moves
 abbrev pub entered : Ledger → Link → Ledger
-entered c link =
-    if c.held == link.new_code then c
-    else (if (c.held == link.old_code) && is_next c.awaited link.new_code
-    then record { passed = c.passed ++ (c.held ∷ []); held = link.new_code; awaited = without_first c.awaited }
-    else c)
+entered ledger link = if ledger.held == link.new_code then ledger else (if moves_on ledger link then moved_on ledger link.new_code else ledger)
 
 -- the codes held before and after, where the card opens
 abbrev pub turned : Ledger → Link → Option Turned
-turned c link =
-    if (c.held == link.new_code) || ((c.held == link.old_code) && is_next c.awaited link.new_code)
-    then Some (record { before = c.held; after = link.new_code }) else None
+turned ledger link = if (ledger.held == link.new_code) || moves_on ledger link then Some (record { before = ledger.held; after = link.new_code }) else None
 
 -- the first place of a code, or the number of codes
 unfoldable pub place_in : List ℕ → ℕ → ℕ
 place_in codes code = position_or_len (λ c. c == code) codes
 
--- what a recoding answers
+-- what a recoding answers: the first code has to be held, the second one awaited
 abbrev pub recode_answer : Ledger → ℕ → ℕ → Result (Unit {0}) RecodeFault
-recode_answer c from to =
-    if not (c.held == from) then Err HeldDiffers else (if is_among c.awaited to then Ok tt else Err NotAwaited)
+recode_answer ledger from to =
+    if not (ledger.held == from) then Err HeldDiffers else (if is_among ledger.awaited to then Ok tt else Err NotAwaited)
 
--- the codes as they stand after a recoding that is not refused
+-- the codes after a recoding: the held one and those awaited before the new one are passed
 abbrev pub recoded : Ledger → ℕ → Ledger
-recoded c to = record {
-  passed = c.passed ++ (c.held ∷ before_first (λ code. code == to) c.awaited);
+recoded ledger to = record {
+  passed = ledger.passed ++ (ledger.held ∷ before_first (λ code. code == to) ledger.awaited);
   held = to;
-  awaited = after_first (λ code. code == to) c.awaited;
+  awaited = after_first (λ code. code == to) ledger.awaited;
 }
 
--- the codes of the link stand one after the other: some issue made it
+-- an issue made the link: its codes stand one after the other
 abbrev pub IsLinkOf : List ℕ → Link → Type 0
-IsLinkOf codes link = (k : ℕ) × (suc k < length codes) × (slice_index codes k ≡ link.old_code) × (slice_index codes (suc k) ≡ link.new_code)
+IsLinkOf codes link = (before : List ℕ) × (later : List ℕ) × (codes ≡ before ++ (link.old_code ∷ link.new_code ∷ later))

@@ -1,5 +1,5 @@
 -- Drawing a code that was never issued.
-use Rattle.std.specs.Prelude.{ℕ, zero, suc, ◌≡◌, ◌≤◌, ◌+◌, ◌/◌, Bool, List, [], ◌∷◌, Option, Some, None, Result, Ok, Err, if◌then◌else◌, ◌==◌}
+use Rattle.std.specs.Prelude.{ℕ, zero, suc, ◌≡◌, ◌≤◌, ◌+◌, ◌/◌, Bool, true, List, [], All, ◌∷◌, Option, Some, None, Result, Ok, Err, if◌then◌else◌, ◌==◌}
 use Rattle.std.specs.List.{list_any}
 use Rattle.rand_core.specs.Stream.{Stream, next_u64}
 use Rattle.keycard_rules.specs.declared.draw.DrawFault.{DrawFault}
@@ -28,6 +28,7 @@ pub record Draw : Type 0 where
   pub code : Option ℕ
   pub examined : ℕ
 
+-- the same draw, one more word examined before it
 abbrev pub one_more : Draw → Draw
 one_more draw = record { code = draw.code; examined = draw.examined + 1 }
 
@@ -51,6 +52,10 @@ Draws issued source (Ok code) later = ((drawn issued source).code ≡ Some code)
 Draws issued source (Err NoFreshCode) later = ((drawn issued source).code ≡ None) × (later ≡ past (drawn issued source).examined source)
 Draws issued source (Err Memory) later = MovedAtMost (drawn issued source).examined source later
 Draws issued source (Err Store) later = MovedAtMost (drawn issued source).examined source later
+
+-- each of these words gives an issued code
+abbrev pub AllIssued : List ℕ → List ℕ → Type 0
+AllIssued issued given = All (λ word. is_among issued (code_of word) ≡ true) given
 
 -- memory or the store failed
 abbrev pub IsFailed : Result ℕ DrawFault → Type 0

@@ -1,33 +1,39 @@
 //! The codes of one room, in order of issue, and the lock's place among them.
 
-ghost use Rattle.std.specs.Prelude.{◌≡◌, ℕ, ◌+◌, ◌<◌, ◌≤◌, ◌==◌, length, Some, Ok, IfOk, IfErr, OnOk, OnErr, option_map, true, false};
+ghost use Rattle.std.specs.Prelude.{◌≡◌, [], ◌∷◌, ◌++◌, length, Ok, IfOk, OnOk, OnErr, option_map, false, nat_eq};
+ghost use Rattle.std.specs.List.{IsDistinct};
+ghost use Rattle.keycard_rules.specs.Draw.{is_among};
 ghost use Rattle.keycard_rules.specs.Lock.{turn};
-ghost use Rattle.keycard_rules.specs.Chain.{Ledger, IsLinkOf, issued, current, is_among, installed, with_issued, entered, turned, recode_answer, recoded, place_in};
+ghost use Rattle.keycard_rules.specs.Chain.{Ledger, IsLinkOf, issued, current, installed, with_issued, entered, turned, recode_answer, recoded, place_in};
 
 use crate::card::Link;
 use crate::code::Code;
 use std::alloc::Global;
 use std::marker::Model;
 
-/// Want of memory.
+/// Want of memory: the one fault of a call that only makes room.
 #[derive(Clone, Copy, PartialEq, Eq, Debug)]
 pub struct Memory;
 
 /// Why a recoding is refused.
 #[derive(Clone, Copy, PartialEq, Eq, Debug)]
 pub enum RecodeFault {
+    /// The lock holds another code than the one that the recoding starts from.
     HeldDiffers,
+    /// The lock doesn't await the code that it was to be set to: it is passed, held, or no code of the chain.
     NotAwaited,
 }
 
-/// The codes that a lock held before and after a card.
+/// The codes that a lock held before and after a card that opened it: the same one where the card's new code was held.
 #[derive(Clone, Copy, PartialEq, Eq, Debug)]
 pub struct Turned {
     pub before: Code,
     pub after: Code,
 }
 
-/// One room's codes and its lock's place.
+/// One room's codes in order of issue, and which of them its lock holds.
+///
+/// No code stands twice. A call that refuses leaves the chain as it was.
 #[derive(Drop)]
 pub struct Chain {
     codes: Vec<Code>,
@@ -35,7 +41,7 @@ pub struct Chain {
 }
 
 impl Model for Chain {
-    ghost use Rattle.std.specs.Prelude.{ℕ, ◌<◌, ◌+◌, length, take, drop, slice_index, eqb};
+    ghost use Rattle.std.specs.Prelude.{ℕ, ◌<◌, ◌+◌, length, take, drop, slice_index, nat_eq};
     ghost use Rattle.std.specs.List.{IsDistinct};
     ghost use Rattle.keycard_rules.specs.Chain.{Ledger};
 
@@ -43,7 +49,7 @@ impl Model for Chain {
 
     ghost view = { λ c. record { passed = take c.place c.codes.items; held = slice_index c.codes.items c.place; awaited = drop (c.place + 1) c.codes.items } };
 
-    ghost invariant = { λ c. (c.place < length c.codes.items) × IsDistinct eqb c.codes.items };
+    ghost invariant = { λ c. (c.place < length c.codes.items) × IsDistinct nat_eq c.codes.items };
 }
 
 /// The first place of the code, or the number of codes where it is not there.
@@ -60,38 +66,42 @@ fn place_of(codes: &[Code], code: Code) -> usize
 }
 
 impl Chain {
-    /// One code, held.
+    /// A new room: its lock holds this one code. Keeps `alloc` for later issues.
     pub fn install(alloc: Global, code: Code) -> Result<Chain, Memory>
         ensures { IfOk result (λ c. c ≡ installed code) }
     {
         let mut codes = Vec::new(alloc);
-        if codes.push(code).is_err() {
-            return Err(Memory);
-        }
+        codes.push(code).map_err(|_| Memory)?;
         Ok(Chain { codes, place: 0 })
     }
 
-    /// Adds a code that the chain does not hold, awaited, and gives its link.
+    /// Issues a code that no call has issued here before (`holds` is the test): the lock awaits it as the last.
+    ///
+    /// The link is for the cards of this issue.
     pub fn issue(&mut self, code: Code) -> Result<Link, Memory>
         requires fresh { is_among (issued self.old) code ≡ false }
         ensures ok { OnOk result (self.new ≡ with_issued self.old code) }
+        ensures codes { OnOk result (issued self.new ≡ issued self.old ++ (code ∷ [])) }
         ensures link { IfOk result (λ l. l ≡ record { old_code = current self.old; new_code = code }) }
+        ensures is_link { IfOk result (λ l. IsLinkOf (issued self.new) l) }
         ensures err { OnErr result (self.new ≡ self.old) }
     {
         let old_code = self.current();
-        if self.codes.push(code).is_err() {
-            return Err(Memory);
-        }
+        self.codes.push(code).map_err(|_| Memory)?;
         Ok(Link {
             old_code,
             new_code: code,
         })
     }
 
-    /// A card of the link at the lock.
+    /// Shows a card of the link to the lock: `None` where it stays shut.
+    ///
+    /// A link that the chain issued opens as the lock's rule says. A link from elsewhere that has the held code as its old one stays
+    /// shut unless its new code is the first awaited one.
     pub fn enter(&mut self, link: &Link) -> Option<Turned>
         ensures answer { result ≡ turned self.old link.now }
         ensures moved { self.new ≡ entered self.old link.now }
+        ensures same_codes { issued self.new ≡ issued self.old }
         ensures lock_rule { IsLinkOf (issued self.old) link.now → option_map (λ t. t.after) result ≡ turn self.old.held link.now }
     {
         let held = self.codes[self.place];
@@ -112,11 +122,12 @@ impl Chain {
         })
     }
 
-    /// Staff sets the lock from one code to a later one.
+    /// Staff set the lock from the code that it holds to an awaited one. The codes between the two are passed.
     pub fn recode(&mut self, from: Code, to: Code) -> Result<(), RecodeFault>
         ensures answer { result ≡ recode_answer self.old from to }
         ensures ok { OnOk result (self.new ≡ recoded self.old to) }
         ensures err { OnErr result (self.new ≡ self.old) }
+        ensures same_codes { issued self.new ≡ issued self.old }
     {
         if self.codes[self.place] != from {
             return Err(RecodeFault::HeldDiffers);
@@ -131,8 +142,10 @@ impl Chain {
         Ok(())
     }
 
+    /// Whether the code was issued here: passed, held or awaited.
     pub fn holds(&self, code: Code) -> bool
-        ensures { result ≡ is_among (issued self.now) code }
+        ensures answer { result ≡ is_among (issued self.now) code }
+        ensures distinct { IsDistinct nat_eq (issued self.now) }
     {
         self.codes.as_slice().contains(&code)
     }
@@ -144,14 +157,14 @@ impl Chain {
         self.codes[self.place]
     }
 
-    /// The newest code.
+    /// The code issued last.
     pub fn current(&self) -> Code
         ensures { result ≡ current self.now }
     {
         self.codes[self.codes.len() - 1]
     }
 
-    /// How many codes the lock has not seen.
+    /// How many codes the lock has not yet taken.
     pub fn awaited_len(&self) -> usize
         ensures { result ≡ length self.now.awaited }
     {

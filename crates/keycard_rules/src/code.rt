@@ -1,12 +1,13 @@
 //! The codes of cards and locks.
 
 ghost use Rattle.std.specs.Prelude.{◌≡◌, ℕ, ◌^◌, ◌<◌, Some, None, if◌then◌else◌, nat_lt};
+ghost use Rattle.keycard_rules.specs.Draw.{code_of};
 ghost use Rattle.keycard_rules.specs.Numerals.{read_code, code_text};
 
 use crate::numerals::{read_numeral, write_fixed};
 use std::marker::Model;
 
-/// A code of 48 bits.
+/// A code of a card or a lock: a whole number below 2^48.
 #[derive(Clone, Copy, PartialEq, Eq, PartialOrd, Ord, Hash, Debug)]
 pub struct Code {
     value: u64,
@@ -23,7 +24,7 @@ impl Model for Code {
 }
 
 impl Code {
-    /// The code of this value, below 2^48.
+    /// The code of this value, or `None` from 2^48 on.
     pub fn new(value: u64) -> Option<Code>
         ensures { result ≡ (if nat_lt value (2 ^ 48) then Some value else None) }
     {
@@ -34,6 +35,16 @@ impl Code {
         }
     }
 
+    /// The code of a source's word: its upper 48 bits.
+    pub(crate) fn of_word(word: u64) -> Code
+        ensures { result ≡ code_of word }
+    {
+        Code {
+            value: word / 65_536,
+        }
+    }
+
+    /// The code as a number.
     pub fn value(&self) -> u64
         ensures same { result ≡ self.now }
         ensures below { result < 2 ^ 48 }
@@ -41,7 +52,7 @@ impl Code {
         self.value
     }
 
-    /// Reads one to twelve hexadecimal digits of either case.
+    /// Reads one to twelve hexadecimal digits of either case and nothing else.
     pub fn read(text: &[u8]) -> Option<Code>
         ensures { result ≡ read_code text.now }
     {
@@ -49,7 +60,7 @@ impl Code {
         Some(Code { value })
     }
 
-    /// Twelve hexadecimal digits with small letters.
+    /// Twelve hexadecimal digits with small letters and leading zeros.
     pub fn print(&self) -> [u8; 12]
         ensures text { result ≡ code_text self.now }
         ensures reads_back { read_code result ≡ Some self.now }

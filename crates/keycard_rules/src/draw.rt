@@ -1,7 +1,6 @@
 //! Drawing a code that was never issued.
-ghost use Rattle.std.specs.Prelude.{◌≡◌, ℕ, ◌≤◌};
-ghost use Rattle.rand_core.specs.Stream.{next_u64};
-ghost use Rattle.keycard_rules.specs.Draw.{Draws, IsFailed};
+ghost use Rattle.std.specs.Prelude.{◌≡◌, ◌≤◌, false, Err, IfOk};
+ghost use Rattle.keycard_rules.specs.Draw.{is_among, words, past, MovedAtMost, Draws, AllIssued, IsFailed};
 ghost use Rattle.keycard_rules.specs.Rise.{HasRisen};
 
 use crate::code::Code;
@@ -11,14 +10,26 @@ use rand_core::Rng;
 /// Why no code was drawn.
 #[derive(Clone, Copy, Debug, PartialEq, Eq)]
 pub enum DrawFault {
+    /// The codes of all 64 words were issued.
     NoFreshCode,
+    /// A look-up answered want of memory.
     Memory,
+    /// A look-up answered that the store failed.
     Store,
 }
 
-/// The first code of the next 64 words of `source` that wasn't issued.
+/// Draws a code that wasn't issued: the first such one among the codes of the source's next 64 words.
+///
+/// A word's code is its upper 48 bits. The source moves by the words that were examined, and on a fault of a look-up by no more
+/// than without it. Takes no memory of its own.
 pub fn draw_fresh<R: Rng, I: Issued>(source: &mut R, issued: &mut I) -> Result<Code, DrawFault>
     ensures drawn { I.is_clean issued.new → Draws (I.issued issued.old) (R.stream source.old) result (R.stream source.new) }
+    ensures fresh { I.is_clean issued.new → IfOk result (λ code. is_among (I.issued issued.old) code ≡ false) }
+    ensures none_fresh { I.is_clean issued.new → result ≡ Err DrawFault.NoFreshCode → AllIssued (I.issued issued.old) (words 64 (R.stream source.old)) }
+
+    ensures moved { MovedAtMost 64 (R.stream source.old) (R.stream source.new) }
+    ensures none_moved { result ≡ Err DrawFault.NoFreshCode → R.stream source.new ≡ past 64 (R.stream source.old) }
+
     ensures kept { I.is_clean issued.new → I.is_kept issued.old issued.new }
     ensures was_clean { I.is_clean issued.new → I.is_clean issued.old }
     ensures counted { I.failures issued.old ≤ I.failures issued.new }
@@ -26,10 +37,7 @@ pub fn draw_fresh<R: Rng, I: Issued>(source: &mut R, issued: &mut I) -> Result<C
     ensures sure { I.never_fails → IsFailed result → ⊥ }
 {
     for _ in 0..64u32 {
-        let word = source.next_u64();
-        let Some(code) = Code::new(word / 65_536) else {
-            return Err(DrawFault::NoFreshCode);
-        };
+        let code = Code::of_word(source.next_u64());
         match issued.is_issued(code) {
             Ok(false) => return Ok(code),
             Ok(true) => {}

@@ -1,18 +1,24 @@
-//! What knows the codes that were issued.
-ghost use Rattle.std.specs.Prelude.{◌≡◌, ℕ, ◌≤◌, List, IfOk, OnErr, IsOk};
+//! What knows the codes that were issued, asked before a new one is given out.
+ghost use Rattle.std.specs.Prelude.{◌≡◌, ℕ, ◌≤◌, List, IfOk, OnErr, IsOk, refl};
+ghost use Rattle.std.proofs.Common.{◌∙◌};
 ghost use Rattle.keycard_rules.specs.Draw.{is_among};
 ghost use Rattle.keycard_rules.specs.Rise.{HasRisen};
 
 use crate::code::Code;
+use std::marker::Model;
 
 /// Why a look-up has no answer.
 #[derive(Clone, Copy, Debug, PartialEq, Eq)]
 pub enum LookFault {
+    /// A growth was refused.
     Memory,
+    /// A call of the store failed.
     Store,
 }
 
-/// What knows the codes that were issued.
+/// What knows the codes that were issued: a list in memory, or tables in a store.
+///
+/// An implementation counts its failures: a look-up answers a fault only where the count rose, or was at its greatest value.
 pub trait Issued {
     /// The codes that were issued.
     ghost issued: { Self → List ℕ };
@@ -29,7 +35,7 @@ pub trait Issued {
     /// The look-ups never fail.
     ghost never_fails: { Type 0 };
 
-    /// Whether a code was issued.
+    /// Whether a code was issued. It changes nothing but the count of failures.
     fn is_issued(&mut self, code: Code) -> Result<bool, LookFault>
         ensures answer { is_clean self.new → IfOk result (λ yes. yes ≡ is_among (issued self.old) code) }
         ensures kept { is_clean self.new → is_kept self.old self.new }
@@ -43,4 +49,49 @@ pub trait Issued {
     ghost kept_trans: { (a b c : Self) → is_kept a b → is_kept b c → is_kept a c };
 
     ghost kept_issued: { (a b : Self) → is_kept a b → issued b ≡ issued a };
+}
+
+/// Issued codes in a list, for tests: its look-ups never fail.
+#[derive(Drop)]
+pub struct ListedCodes {
+    codes: Vec<Code>,
+}
+
+impl Model for ListedCodes {
+    ghost use Rattle.std.specs.Prelude.{ℕ, List};
+
+    ghost Value = { List ℕ };
+
+    ghost view = { λ listed. listed.codes.items };
+}
+
+impl ListedCodes {
+    /// These codes, which may stand more than once.
+    pub fn new(codes: Vec<Code>) -> ListedCodes
+        ensures { result ≡ codes.items }
+    {
+        ListedCodes { codes }
+    }
+}
+
+impl Issued for ListedCodes {
+    ghost issued = { λ listed. listed };
+
+    ghost is_clean = { λ _. Unit {0} };
+
+    ghost is_kept = { λ before after. after ≡ before };
+
+    ghost failures = { λ _. 0 };
+
+    ghost never_fails = { Unit {0} };
+
+    fn is_issued(&mut self, code: Code) -> Result<bool, LookFault> {
+        Ok(self.codes.as_slice().contains(&code))
+    }
+
+    ghost kept_refl = { λ a. refl };
+
+    ghost kept_trans = { λ a b c first second. second ∙ first };
+
+    ghost kept_issued = { λ a b kept. kept };
 }

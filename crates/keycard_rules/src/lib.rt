@@ -11,12 +11,14 @@ mod lock;
 mod note;
 mod numbers;
 mod numerals;
+#[cfg(test)]
+mod tests;
 
 pub use card::{Card, Link};
 pub use chain::{Chain, Memory, RecodeFault, Turned};
 pub use code::Code;
 pub use draw::{DrawFault, draw_fresh};
-pub use issued::{Issued, LookFault};
+pub use issued::{Issued, ListedCodes, LookFault};
 pub use listed_words::ListedWords;
 pub use lock::turn;
 pub use note::{Act, LockNote};

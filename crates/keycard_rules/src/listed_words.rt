@@ -1,7 +1,6 @@
 //! A source of words for tests.
 ghost use Rattle.std.specs.Prelude.{◌≡◌, ℕ, ◌<◌, length, IfSome};
 ghost use Rattle.std.specs.Option.{SomeIff};
-ghost use Rattle.rand_core.specs.Steps.{stream_of, steps_u64_low};
 ghost use Rattle.keycard_rules.specs.Draw.{words};
 ghost use Rattle.keycard_rules.specs.ListedWords.{next_listed, listed_stream, first_listed};
 

@@ -1,6 +1,5 @@
 //! What a lock notes of itself, counted by it from 1 on.
-ghost use Rattle.std.specs.Prelude.{◌≡◌, ℕ, ◌≤◌, Some, None, if◌then◌else◌, nat_le, ◌&&◌};
-ghost use Rattle.keycard_rules.specs.Note.{Note, IsTimed};
+ghost use Rattle.std.specs.Prelude.{◌≡◌, ◌≤◌, Some, None, if◌then◌else◌, nat_le, ◌&&◌};
 
 use crate::card::Link;
 use crate::code::Code;
@@ -18,7 +17,7 @@ pub enum Act {
     Recoded { from: Code, to: Code },
 }
 
-/// One note of a lock.
+/// One note of a lock. Two notes are equal where all their fields are.
 #[derive(Clone, Copy, Debug, PartialEq, Eq)]
 pub struct LockNote {
     room: RoomNo,
@@ -41,7 +40,7 @@ impl Model for LockNote {
 }
 
 impl LockNote {
-    /// The note of these, where the day is at most 36,524 (2099-12-31) and the second at most 86,399.
+    /// The note of these, or `None` where the day is above 36,524 (2099-12-31) or the second above 86,399.
     pub fn new(room: RoomNo, count: Count, act: Act, day: u16, second: u32) -> Option<LockNote>
         ensures { result ≡ (if nat_le day 36524 && nat_le second 86399 then Some (record { room = room; count = count; act = act; day = day; second = second }) else None) }
     {
@@ -57,25 +56,28 @@ impl LockNote {
         })
     }
 
+    /// The room whose lock noted it.
     pub fn room(&self) -> RoomNo
         ensures { result ≡ self.now.room }
     {
         self.room
     }
 
+    /// The lock's count of the note.
     pub fn count(&self) -> Count
         ensures { result ≡ self.now.count }
     {
         self.count
     }
 
+    /// What happened.
     pub fn act(&self) -> Act
         ensures { result ≡ self.now.act }
     {
         self.act
     }
 
-    /// The day of the note, counted from 2000-01-01.
+    /// The day of the note, counted from 2000-01-01 as day 0.
     pub fn day(&self) -> u16
         ensures same { result ≡ self.now.day }
         ensures known { result ≤ 36524 }
@@ -83,7 +85,7 @@ impl LockNote {
         self.day
     }
 
-    /// The second of its day.
+    /// The second of its day, from 0 on.
     pub fn second(&self) -> u32
         ensures same { result ≡ self.now.second }
         ensures known { result ≤ 86399 }

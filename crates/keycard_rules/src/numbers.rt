@@ -1,15 +1,20 @@
 //! The numbers of cards, parties, rooms and notes: one generic type.
 
-ghost use Rattle.std.specs.Prelude.{◌≡◌, ℕ, ◌+◌, ◌^◌, ◌<◌, ◌≤◌};
+ghost use Rattle.std.specs.Prelude.{◌≡◌, ℕ, ◌+◌, ◌<◌};
 ghost use Rattle.std.specs.Option.{SomeIff};
 ghost use Rattle.keycard_rules.specs.Numerals.{number_up_to};
 ghost use Rattle.keycard_rules.specs.Numbers.{IsNumberUpTo};
+ghost use Rattle.std.specs.Ordering.{nat_cmp, as_partial_cmp};
+ghost use Rattle.std.specs.Cmp.{partial_order_from_own_ties};
+ghost use Rattle.std.specs.Cmp.Rules.{comparing};
+ghost use Rattle.std.proofs.Common.{rules};
 
 use crate::numerals::read_numeral;
+use std::cmp::Ordering;
 use std::marker::{Model, PhantomData};
 
-/// A number from 1 up to the greatest of its kind.
-#[derive(Clone, Copy, PartialEq, Eq, PartialOrd, Ord, Debug)]
+/// A number from 1 up to `MOST`. `K` keeps the numbers of different things apart.
+#[derive(Clone, Copy, PartialEq, Eq, Debug)]
 pub struct Number<K, const MOST: u32> {
     value: u32,
     kind: PhantomData<K>,
@@ -26,6 +31,7 @@ impl<K, const MOST: u32> Model for Number<K, MOST> {
 }
 
 impl<K, const MOST: u32> Number<K, MOST> {
+    /// The number of this value, or `None` where it is 0 or above `MOST`.
     pub fn new(value: u32) -> Option<Number<K, MOST>>
         ensures { SomeIff result (IsNumberUpTo MOST value) value }
     {
@@ -38,6 +44,7 @@ impl<K, const MOST: u32> Number<K, MOST> {
         })
     }
 
+    /// The number as an integer.
     pub fn value(&self) -> u32
         ensures same { result ≡ self.now }
         ensures known { IsNumberUpTo MOST result }
@@ -45,6 +52,7 @@ impl<K, const MOST: u32> Number<K, MOST> {
         self.value
     }
 
+    /// Reads one to nine decimal digits and nothing else: leading zeros are allowed, the value is in range.
     pub fn read(text: &[u8]) -> Option<Number<K, MOST>>
         ensures { result ≡ number_up_to MOST text.now }
     {
@@ -58,7 +66,7 @@ impl<K, const MOST: u32> Number<K, MOST> {
         })
     }
 
-    /// The number after it, unless it is the greatest.
+    /// The number after it, or `None` at the greatest.
     pub fn next(&self) -> Option<Number<K, MOST>>
         ensures { SomeIff result (self.now < MOST) (self.now + 1) }
     {
@@ -72,30 +80,55 @@ impl<K, const MOST: u32> Number<K, MOST> {
     }
 }
 
-/// Marks the numbers of CardNo.
+// Written out, so that contracts see a map's keys in the order of plain numbers.
+impl<K: Eq, const MOST: u32> Ord for Number<K, MOST> {
+    ghost cmp = { nat_cmp };
+
+    ghost total = { Prim.search (comparing, rules) };
+
+    ghost matches_partial_cmp = { Prim.search (comparing, rules) };
+
+    ghost matches_eq = { Prim.search (comparing, rules) };
+
+    fn cmp(&self, other: &Number<K, MOST>) -> Ordering {
+        self.value.cmp(&other.value)
+    }
+}
+
+impl<K: Eq, const MOST: u32> PartialOrd for Number<K, MOST> {
+    ghost partial_cmp = { as_partial_cmp nat_cmp };
+
+    ghost laws = { partial_order_from_own_ties (Prim.search (comparing, rules)) (Prim.search (comparing, rules)) };
+
+    fn partial_cmp(&self, other: &Number<K, MOST>) -> Option<Ordering> {
+        Some(self.cmp(other))
+    }
+}
+
+/// Marks the numbers of cards.
 #[derive(Clone, Copy, PartialEq, Eq, PartialOrd, Ord, Debug)]
 pub struct CardKind;
 
 /// The number of a card, 1 to 9,999,999.
 pub type CardNo = Number<CardKind, 9_999_999>;
 
-/// Marks the numbers of PartyNo.
+/// Marks the numbers of parties.
 #[derive(Clone, Copy, PartialEq, Eq, PartialOrd, Ord, Debug)]
 pub struct PartyKind;
 
 /// The number of a party, which is one reservation, 1 to 9,999,999.
 pub type PartyNo = Number<PartyKind, 9_999_999>;
 
-/// Marks the numbers of RoomNo.
+/// Marks the numbers of rooms.
 #[derive(Clone, Copy, PartialEq, Eq, PartialOrd, Ord, Debug)]
 pub struct RoomKind;
 
 /// The number of a room, 1 to 9,999.
 pub type RoomNo = Number<RoomKind, 9_999>;
 
-/// Marks the numbers of Count.
+/// Marks the counts of lock notes.
 #[derive(Clone, Copy, PartialEq, Eq, PartialOrd, Ord, Debug)]
 pub struct NoteKind;
 
-/// The count of a lock's note, 1 to 9,999,999.
+/// The count that a lock gives its note, 1 to 9,999,999.
 pub type Count = Number<NoteKind, 9_999_999>;

@@ -1,6 +1,6 @@
-//! Numbers written with digits.
+//! Numbers written with digits, for the readers and printers of codes, numbers and days.
 
-ghost use Rattle.std.specs.Prelude.{◌≡◌, ℕ, ◌+◌, ◌*◌, ◌^◌, ◌<◌, ◌≤◌, length};
+ghost use Rattle.std.specs.Prelude.{◌≡◌, ◌^◌, ◌<◌, ◌≤◌, length};
 ghost use Rattle.std.specs.Option.{SomeIff};
 ghost use Rattle.keycard_rules.specs.Numerals.{digit_value, digit_byte, number_of, numeral, fixed_text};
 ghost use Rattle.keycard_rules.specs.Numerals.{IsNumeral};
@@ -18,7 +18,7 @@ const fn value_of_digit(byte: u8) -> u8
     }
 }
 
-/// The number that the text writes in the base, if it is one to `most` digits of it.
+/// The number that the text writes in the base, or `None` where it isn't one to `most` digits of it. Letters may be of either case.
 pub fn read_numeral(text: &[u8], base: u64, most: usize) -> Option<u64>
     requires least { 2 ≤ base }
     requires known { base ≤ 16 }
@@ -56,7 +56,7 @@ const fn byte_of_digit(digit: u8) -> u8
     if digit <= 9 { digit + b'0' } else { digit + 87 }
 }
 
-/// The last digits of the number, as many as there is room for.
+/// Writes the last digits of the number, as many as there is room for, with small letters and leading zeros.
 pub fn write_fixed(number: u64, base: u64, into: &mut [u8])
     requires least { 2 ≤ base }
     requires known { base ≤ 16 }

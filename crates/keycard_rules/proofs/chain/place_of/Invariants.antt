@@ -1,4 +1,4 @@
-use Rattle.std.proofs.Common.{◌≡◌, ℕ, ◌+◌, ◌==◌, drop}
+use Rattle.std.proofs.Common.{◌≡◌, ◌+◌, ◌==◌, drop}
 use Rattle.std.specs.List.{position_or_len}
 use Rattle.keycard_rules.proofs.chain.place_of.Given as goal
 

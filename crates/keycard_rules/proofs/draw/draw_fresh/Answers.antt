@@ -1,10 +1,11 @@
-use Rattle.std.proofs.Common.{rules, ℕ, sym, ap, ◌∙◌, arith, ◌+◌, Some}
+use Rattle.std.proofs.Common.{◌≡◌, ℕ, sym, ap, ◌∙◌, arith, ◌+◌, Some}
 use Rattle.keycard_rules.specs.Draw.{Draw}
-use Rattle.keycard_rules.proofs.Drawing.{so_far_none, so_far_more, found, examines, moved_on, no_more, code_taken, answer_at, draw_is}
+use Rattle.keycard_rules.proofs.Drawing.{past-zero, past-next, so_far_none, so_far_more, found, examines, moved_on, no_more, answer_at, draw_is, drawn-none}
 use Rattle.keycard_rules.proofs.draw.draw_fresh.Goals as goal
 
 pub loop-init : goal.loop-init
 loop-init g c = record {
+  moved = sym (past-zero _);
   counted = omega arith;
   was_clean = λ h. h;
   kept = λ h. g.met.I.Issued.kept_refl _;
@@ -14,36 +15,57 @@ loop-init g c = record {
 pub returns-in-Ok-false-clause-drawn : goal.returns-in-Ok-false-clause-drawn
 returns-in-Ok-false-clause-drawn g c = λ clean.
     let before = c.is_issued.ensures.was_clean clean in
-    let k = code_taken _ _ c.in-Some.ensures in
-    let hit = answer_at _ _ _ _ _ _ (c.in-Ok-false.ensures.answer clean) c.in-Ok-false.field-0-test (g.met.I.Issued.kept_issued _ _ (c.loop.invariant.kept before)) k in
-    let d = found _ _ _ _ _ _ (c.loop.invariant.so_far before) c.loop-test.true c.next_u64-word.ensures hit in
-    let m = moved_on _ _ _ _ _ _ (c.loop.invariant.so_far before) c.loop-test.true c.next_u64-word.ensures in
-    draw_is _ _ _ _ _ (d ∙ ap (λ (x : ℕ). let r : Draw = record { code = Some x; examined = c.loop.counter + 1 } in r) (sym k)) m
+    let hit = answer_at _ _ _ _ _ _ (c.in-Ok-false.ensures.answer clean) c.in-Ok-false.field-0-test (g.met.I.Issued.kept_issued _ _ (c.loop.invariant.kept before)) c.of_word-code.ensures in
+    let d = found _ _ _ _ _ _ (c.loop.invariant.so_far before) c.loop-test.true c.next_u64.ensures hit in
+    let m = moved_on _ _ _ _ _ _ (c.loop.invariant.so_far before) c.loop-test.true c.next_u64.ensures in
+    draw_is _ _ _ _ _ (d ∙ ap (λ (x : ℕ). let r : Draw = record { code = Some x; examined = c.loop.counter + 1 } in r) (sym c.of_word-code.ensures)) m
 
 pub returns-in-Err-Memory-clause-drawn : goal.returns-in-Err-Memory-clause-drawn
 returns-in-Err-Memory-clause-drawn g c = λ clean.
     let before = c.is_issued.ensures.was_clean clean in
-    (_, examines _ _ _ _ _ _ (c.loop.invariant.so_far before) c.loop-test.true c.next_u64-word.ensures, moved_on _ _ _ _ _ _ (c.loop.invariant.so_far before) c.loop-test.true c.next_u64-word.ensures)
+    (_, examines _ _ _ _ _ _ (c.loop.invariant.so_far before) c.loop-test.true c.next_u64.ensures, moved_on _ _ _ _ _ _ (c.loop.invariant.so_far before) c.loop-test.true c.next_u64.ensures)
 
 pub returns-in-Err-Store-clause-drawn : goal.returns-in-Err-Store-clause-drawn
 returns-in-Err-Store-clause-drawn g c = λ clean.
     let before = c.is_issued.ensures.was_clean clean in
-    (_, examines _ _ _ _ _ _ (c.loop.invariant.so_far before) c.loop-test.true c.next_u64-word.ensures, moved_on _ _ _ _ _ _ (c.loop.invariant.so_far before) c.loop-test.true c.next_u64-word.ensures)
+    (_, examines _ _ _ _ _ _ (c.loop.invariant.so_far before) c.loop-test.true c.next_u64.ensures, moved_on _ _ _ _ _ _ (c.loop.invariant.so_far before) c.loop-test.true c.next_u64.ensures)
 
 pub loop-preserved : goal.loop-preserved
 loop-preserved g c = record {
+  moved = past-next _ _ _ _ _ c.loop.invariant.moved c.next_u64.ensures;
   counted = omega arith;
   was_clean = λ clean. c.loop.invariant.was_clean (c.is_issued.ensures.was_clean clean);
   kept = λ clean.
       g.met.I.Issued.kept_trans _ _ _ (c.loop.invariant.kept (c.is_issued.ensures.was_clean clean)) (c.is_issued.ensures.kept clean);
   so_far = λ clean.
       let before = c.is_issued.ensures.was_clean clean in
-      let k = code_taken _ _ c.in-Some.ensures in
-      let hit = answer_at _ _ _ _ _ _ (c.in-Ok-true.ensures.answer clean) c.in-Ok-true.field-0-test (g.met.I.Issued.kept_issued _ _ (c.loop.invariant.kept before)) k in
-      so_far_more _ _ _ _ _ _ (c.loop.invariant.so_far before) c.loop-test.true c.next_u64-word.ensures hit;
+      let hit = answer_at _ _ _ _ _ _ (c.in-Ok-true.ensures.answer clean) c.in-Ok-true.field-0-test (g.met.I.Issued.kept_issued _ _ (c.loop.invariant.kept before)) c.of_word-code.ensures in
+      so_far_more _ _ _ _ _ _ (c.loop.invariant.so_far before) c.loop-test.true c.next_u64.ensures hit;
 }
 
 pub returns-clause-drawn : goal.returns-clause-drawn
 returns-clause-drawn g c = λ clean.
     let d = no_more _ _ _ _ (c.loop.invariant.so_far clean) c.loop-test.false in
     draw_is _ _ _ _ _ d ((c.loop.invariant.so_far clean).moved)
+
+pub returns-clause-none_fresh : goal.returns-clause-none_fresh
+returns-clause-none_fresh g c = λ clean is.
+    let d = no_more _ _ _ _ (c.loop.invariant.so_far clean) c.loop-test.false in
+    drawn-none _ _ (ap (λ (x : Draw). x.code) d)
+
+pub returns-in-Ok-false-clause-moved : goal.returns-in-Ok-false-clause-moved
+returns-in-Ok-false-clause-moved g c = (c.loop.counter + 1, omega arith, past-next _ _ _ _ _ c.loop.invariant.moved c.next_u64.ensures)
+
+pub returns-in-Err-Memory-clause-moved : goal.returns-in-Err-Memory-clause-moved
+returns-in-Err-Memory-clause-moved g c = (c.loop.counter + 1, omega arith, past-next _ _ _ _ _ c.loop.invariant.moved c.next_u64.ensures)
+
+pub returns-in-Err-Store-clause-moved : goal.returns-in-Err-Store-clause-moved
+returns-in-Err-Store-clause-moved g c = (c.loop.counter + 1, omega arith, past-next _ _ _ _ _ c.loop.invariant.moved c.next_u64.ensures)
+
+pub returns-clause-moved : goal.returns-clause-moved
+returns-clause-moved g c = (c.loop.counter, omega arith, c.loop.invariant.moved)
+
+pub returns-clause-none_moved : goal.returns-clause-none_moved
+returns-clause-none_moved g c = λ is.
+    let all : c.loop.counter ≡ 64 = omega arith in
+    rw all at c.loop.invariant.moved

@@ -1,4 +1,5 @@
-use Rattle.std.proofs.Common.{◌≤◌, ◌≡◌}
+use Rattle.std.proofs.Common.{◌≡◌, ◌≤◌}
+use Rattle.keycard_rules.specs.Draw.{past}
 use Rattle.keycard_rules.proofs.Drawing.{SoFar}
 use Rattle.keycard_rules.proofs.draw.draw_fresh.Given as goal
 
@@ -9,6 +10,7 @@ invariant-loop g l =
     let is_clean = g.I.Issued.is_clean in
     let failures = g.I.Issued.failures in
     record {
+      moved : stream l.source ≡ past l.counter (stream l.fn.source);
       counted : failures l.fn.issued ≤ failures l.issued;
       was_clean : is_clean l.issued → is_clean l.fn.issued;
       kept : is_clean l.issued → g.I.Issued.is_kept l.fn.issued l.issued;

@@ -1,5 +1,4 @@
-use Rattle.std.proofs.Common.{rules, ◌≡◌, ℕ, ◌+◌, ◌*◌, ◌^◌, ◌<◌, ◌≤◌, length, take, arith, refl}
-use Rattle.std.specs.List.{All}
+use Rattle.std.proofs.Common.{◌<◌, arith, refl}
 use Rattle.std.proofs.lemmas.List.Elements.{All-nil, All-more}
 use Rattle.keycard_rules.specs.Numerals.{digit_value, number_of}
 use Rattle.keycard_rules.proofs.NumeralLemmas.{number_of-more, number_of-fits}

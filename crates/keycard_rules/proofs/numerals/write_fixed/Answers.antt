@@ -1,4 +1,4 @@
-use Rattle.std.proofs.Common.{rules, ◌≡◌, ℕ, ◌+◌, ◌*◌, ◌^◌, ◌<◌, ◌≤◌, length, take, arith, refl, sym, ◌∙◌, drop, ◌-◌, set}
+use Rattle.std.proofs.Common.{◌≡◌, length, arith, sym, ◌-◌}
 use Rattle.std.proofs.lemmas.List.{length-set}
 use Rattle.keycard_rules.specs.Numerals.{fixed_text}
 use Rattle.keycard_rules.proofs.NumeralLemmas.{fixed_text-write}

@@ -1,4 +1,4 @@
-use Rattle.std.proofs.Common.{◌≡◌, ℕ, ◌-◌, arith, sym, ◌∙◌, length, refl}
+use Rattle.std.proofs.Common.{◌≡◌, ◌-◌, arith, sym, ◌∙◌, length, refl}
 use Rattle.std.proofs.lemmas.List.{get_or_read_under}
 use Rattle.keycard_rules.proofs.ChainLemmas.{last-at}
 use Rattle.keycard_rules.proofs.chain.Chain.current.Goals as goal

@@ -1,4 +1,4 @@
-use Rattle.std.proofs.Common.{◌≡◌, ◌<◌, suc, ℕ, arith, sym, ◌∙◌, rules, get_or, length, add-one, false}
+use Rattle.std.proofs.Common.{◌≡◌, ◌<◌, suc, arith, get_or, length}
 use Rattle.std.proofs.lemmas.List.{get_or_read}
 use Rattle.std.proofs.lemmas.Bool.Decides.{nat_tests}
 use Rattle.keycard_rules.proofs.ChainLemmas.{shut}

@@ -1,5 +1,4 @@
-use Rattle.std.proofs.Common.{◌≡◌, ℕ, arith, sym, ◌∙◌, rules}
-use Rattle.std.proofs.lemmas.Grind.{common_steps}
+use Rattle.std.proofs.Common.{rules}
 use Rattle.keycard_rules.proofs.ChainLemmas.{distinct-one}
 use Rattle.keycard_rules.proofs.chain.Chain.install.Goals as goal
 

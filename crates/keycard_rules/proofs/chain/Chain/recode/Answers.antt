@@ -1,4 +1,4 @@
-use Rattle.std.proofs.Common.{◌≡◌, ◌==◌, ◌≤◌, ◌<◌, ◌+◌, ℕ, arith, sym, ◌∙◌, rules, drop, length, get_or, true, refl}
+use Rattle.std.proofs.Common.{◌≡◌, ◌==◌, ◌+◌, arith, drop, get_or, true, refl}
 use Rattle.std.proofs.lemmas.List.{length-drop, take_rest, get_or_read}
 use Rattle.std.proofs.lemmas.Bool.Decides.{nat_tests}
 use Rattle.keycard_rules.specs.Chain.{place_in}

@@ -1,5 +1,4 @@
-use Rattle.std.proofs.Common.{arith, refl, ◌≡◌, ◌^◌, ◌<◌}
-use Rattle.keycard_rules.specs.Numerals.{IsNumeral, number_of}
+use Rattle.std.proofs.Common.{arith}
 use Rattle.keycard_rules.proofs.NumeralLemmas.{number_of-below, numeral-some}
 use Rattle.keycard_rules.proofs.code.Code.read.Goals as goal
 

@@ -1,4 +1,4 @@
-use Rattle.std.proofs.Common.{◌≡◌, ℕ, ◌<◌, length, arith, refl}
+use Rattle.std.proofs.Common.{arith}
 use Rattle.std.proofs.lemmas.Bool.Decides.{nat_tests}
 use Rattle.keycard_rules.proofs.ListedLemmas.{words-listed}
 use Rattle.keycard_rules.proofs.listed_words.ListedWords.new.Goals as goal

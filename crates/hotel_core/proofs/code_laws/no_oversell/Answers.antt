@@ -1,0 +1,5 @@
+use Rattle.hotel_core.proofs.RoomsLeft.{none_oversold}
+use Rattle.hotel_core.proofs.code_laws.no_oversell.Goals as goal
+
+pub returns : goal.returns
+returns c = none_oversold

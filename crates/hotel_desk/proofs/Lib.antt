@@ -1,0 +1,2 @@
+pub mod ReturnLemmas
+pub mod WordLemmas

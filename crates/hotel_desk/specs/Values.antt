@@ -1,0 +1,58 @@
+-- The values of commands: each is what its reader makes of a text, or refused by its name.
+use Rattle.std.specs.Prelude.{◌≡◌, ℕ, ◌&&◌, IsOk, List, if◌then◌else◌, Result, Ok, Err}
+use Rattle.std.specs.Option.{ok_or}
+use Rattle.std.specs.Str.{is_utf8}
+use Rattle.keycard_rules.specs.Numerals.{number_up_to, read_code}
+use Rattle.hotel_nights.specs.Days.{read_day}
+use Rattle.hotel_nights.specs.Guests.{is_guest}
+use Rattle.hotel_nights.specs.Kinds.{read_kind}
+use Rattle.hotel_nights.specs.Moments.{read_moment}
+use Rattle.hotel_desk.specs.declared.values.ValueFault.{ValueFault}
+use Rattle.hotel_desk.specs.declared.values.ValueFault.TheVariants.{Value}
+use Rattle.hotel_desk.specs.declared.values.AskFault.{AskFault}
+use Rattle.hotel_desk.specs.declared.values.AskFault.TheVariants.{Values, Memory}
+use Rattle.hotel_desk.specs.declared.values.ValueName.{ValueName}
+use Rattle.hotel_desk.specs.declared.values.ValueName.TheVariants.{Kind, Nights, Guest, Room, Party, Card, Count, Moment}
+
+-- A day, as the value of that name.
+abbrev pub day_in : ValueName → List ℕ → Result ℕ ValueFault
+day_in name text = ok_or (read_day text) (Value name)
+
+-- A code, as the value of that name.
+abbrev pub code_in : ValueName → List ℕ → Result ℕ ValueFault
+code_in name text = ok_or (read_code text) (Value name)
+
+abbrev pub kind_in : List ℕ → Result (List ℕ) ValueFault
+kind_in text = ok_or (read_kind text) (Value Kind)
+
+abbrev pub nights_in : List ℕ → Result ℕ ValueFault
+nights_in text = ok_or (number_up_to 90 text) (Value Nights)
+
+abbrev pub guest_in : List ℕ → Result (List ℕ) ValueFault
+guest_in text = if is_utf8 text && is_guest text then Ok text else Err (Value Guest)
+
+abbrev pub room_in : List ℕ → Result ℕ ValueFault
+room_in text = ok_or (number_up_to 9999 text) (Value Room)
+
+abbrev pub party_in : List ℕ → Result ℕ ValueFault
+party_in text = ok_or (number_up_to 9999999 text) (Value Party)
+
+abbrev pub card_in : List ℕ → Result ℕ ValueFault
+card_in text = ok_or (number_up_to 9999999 text) (Value Card)
+
+abbrev pub count_in : List ℕ → Result ℕ ValueFault
+count_in text = ok_or (number_up_to 9999999 text) (Value Count)
+
+abbrev pub moment_in : List ℕ → Result (ℕ × ℕ) ValueFault
+moment_in text = ok_or (read_moment text) (Value Moment)
+
+infixl 10 ◌>>=◌
+abbrev pub ◌>>=◌ : {A B : Type 0} → Result A ValueFault → (A → Result B ValueFault) → Result B ValueFault
+(Ok a) >>= f = f a
+(Err e) >>= f = Err e
+
+-- A reading is as wanted, or there was no memory for what is wanted.
+abbrev pub IsReading : {A : Type 0} → Result A ValueFault → Result A AskFault → Type 0
+IsReading wanted (Ok a) = Ok a ≡ wanted
+IsReading wanted (Err (Values fault)) = Err fault ≡ wanted
+IsReading wanted (Err Memory) = IsOk wanted

@@ -1,6 +1,0 @@
-//! The program.
-#![tactic(auto)]
-
-mod scenes;
-
-pub use scenes::scenarios;

@@ -1,0 +1,54 @@
+//! The texts of a line's values.
+
+ghost use Rattle.std.specs.Prelude.{◌≡◌, ◌↔◌, false, ◌<◌, ◌++◌, [], ◌∷◌, length, map};
+
+use std::marker::Model;
+
+/// The most values that a verb has.
+pub const MOST_VALUES: usize = 6;
+
+/// The texts of up to `MOST_VALUES` values. Contracts see the list of the texts.
+#[derive(Drop)]
+pub struct LineValues<'a> {
+    texts: [&'a [u8]; MOST_VALUES],
+    count: usize,
+}
+
+impl<'a> Model for LineValues<'a> {
+    ghost use Rattle.std.specs.Prelude.{◌≡◌, ◌≤◌, ℕ, List, length, map, take};
+
+    ghost Value = { List (List ℕ) };
+
+    ghost view = { λ v. map (λ t. t.now) (take v.count v.texts) };
+
+    ghost invariant = { λ v. (length v.texts ≡ 6) × (v.count ≤ 6) };
+}
+
+impl<'a> LineValues<'a> {
+    pub fn new() -> LineValues<'a>
+        ensures { result ≡ [] }
+    {
+        let texts: [&[u8]; MOST_VALUES] = [b""; MOST_VALUES];
+        LineValues { texts, count: 0 }
+    }
+
+    pub fn is_full(&self) -> bool
+        ensures { result ≡ false ↔ (length self.now < 6) }
+    {
+        self.count == MOST_VALUES
+    }
+
+    pub fn push(&mut self, text: &'a [u8])
+        requires { length self.old < 6 }
+        ensures { self.new ≡ self.old ++ text.now ∷ [] }
+    {
+        self.texts[self.count] = text;
+        self.count += 1;
+    }
+
+    pub fn as_slice(&self) -> &[&'a [u8]]
+        ensures { map (λ t. t.now) result.now ≡ self.now }
+    {
+        &self.texts[..self.count]
+    }
+}

@@ -1,0 +1,121 @@
+//! The values of commands: each read from a text, or refused by its name.
+
+ghost use Rattle.std.specs.Prelude.{◌≡◌};
+ghost use Rattle.hotel_desk.specs.Values.{day_in, code_in, kind_in, nights_in, guest_in, room_in, party_in, card_in, count_in, moment_in, IsReading};
+ghost use Rattle.hotel_desk.specs.declared.values.AskFault.TheVariants.{Values};
+
+use hotel_nights::{Day, Guest, GuestFault, KindCode, Moment, Nights};
+use keycard_rules::{CardNo, Code, Count, PartyNo, RoomNo};
+use std::alloc::Global;
+
+/// The names of the values.
+#[derive(Clone, Copy, Debug, PartialEq, Eq)]
+pub enum ValueName {
+    Day,
+    Kind,
+    Arrive,
+    Nights,
+    Guest,
+    Room,
+    Party,
+    Card,
+    Count,
+    Old,
+    New,
+    From,
+    To,
+    Moment,
+}
+
+/// Why the texts are no values of a command.
+#[derive(Clone, Copy, Debug, PartialEq, Eq)]
+pub enum ValueFault {
+    /// There are too few or too many of them.
+    Number,
+    /// The first value that its reader refuses.
+    Value(ValueName),
+}
+
+/// Why a verb's values gave no command.
+#[derive(Clone, Copy, Debug, PartialEq, Eq)]
+pub enum AskFault {
+    Values(ValueFault),
+    /// A growth of memory was refused.
+    Memory,
+}
+
+impl From<ValueFault> for AskFault {
+    ghost from_gives = { λ fault e. e ≡ Values fault };
+
+    fn from(fault: ValueFault) -> AskFault {
+        AskFault::Values(fault)
+    }
+}
+
+pub fn read_day(name: ValueName, text: &[u8]) -> Result<Day, ValueFault>
+    ensures { result ≡ day_in name text.now }
+{
+    Day::read(text).ok_or(ValueFault::Value(name))
+}
+
+pub fn read_code(name: ValueName, text: &[u8]) -> Result<Code, ValueFault>
+    ensures { result ≡ code_in name text.now }
+{
+    Code::read(text).ok_or(ValueFault::Value(name))
+}
+
+pub fn read_kind(text: &[u8]) -> Result<KindCode, ValueFault>
+    ensures { result ≡ kind_in text.now }
+{
+    KindCode::read(text).ok_or(ValueFault::Value(ValueName::Kind))
+}
+
+pub fn read_nights(text: &[u8]) -> Result<Nights, ValueFault>
+    ensures { result ≡ nights_in text.now }
+{
+    Nights::read(text).ok_or(ValueFault::Value(ValueName::Nights))
+}
+
+pub fn read_room(text: &[u8]) -> Result<RoomNo, ValueFault>
+    ensures { result ≡ room_in text.now }
+{
+    RoomNo::read(text).ok_or(ValueFault::Value(ValueName::Room))
+}
+
+pub fn read_party(text: &[u8]) -> Result<PartyNo, ValueFault>
+    ensures { result ≡ party_in text.now }
+{
+    PartyNo::read(text).ok_or(ValueFault::Value(ValueName::Party))
+}
+
+pub fn read_card(text: &[u8]) -> Result<CardNo, ValueFault>
+    ensures { result ≡ card_in text.now }
+{
+    CardNo::read(text).ok_or(ValueFault::Value(ValueName::Card))
+}
+
+pub fn read_count(text: &[u8]) -> Result<Count, ValueFault>
+    ensures { result ≡ count_in text.now }
+{
+    Count::read(text).ok_or(ValueFault::Value(ValueName::Count))
+}
+
+pub fn read_moment(text: &[u8]) -> Result<Moment, ValueFault>
+    ensures { result ≡ moment_in text.now }
+{
+    Moment::read(text).ok_or(ValueFault::Value(ValueName::Moment))
+}
+
+/// Reads the name of a guest.
+pub fn read_guest(alloc: Global, text: &[u8]) -> Result<Guest, AskFault>
+    ensures { IsReading (guest_in text.now) result }
+{
+    let Ok(text) = std::str::from_utf8(text) else {
+        return Err(AskFault::Values(ValueFault::Value(ValueName::Guest)));
+    };
+    match Guest::read(alloc, text) {
+        Ok(guest) => Ok(guest),
+        Err(GuestFault::Unread) => Err(AskFault::Values(ValueFault::Value(ValueName::Guest))),
+        Err(GuestFault::Memory) => Err(AskFault::Memory),
+    }
+}

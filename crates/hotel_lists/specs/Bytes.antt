@@ -1,0 +1,21 @@
+-- What a loop of reads or writes did to known bytes.
+use Rattle.std.specs.Prelude.{◌≡◌, ℕ, ◌≤◌, ◌++◌, List, length, take, Option}
+use Rattle.std.specs.Borrow.{Bor}
+use Rattle.std.specs.List.{flat_map}
+use Rattle.std.specs.Io.KnownBytes.{Appends, Consumes}
+
+-- A writer took a front of the bytes: all of them, some or none.
+abbrev pub AppendsFront : Option (List ℕ) → Option (List ℕ) → List ℕ → Type 0
+AppendsFront old new bytes = (n : ℕ) × (n ≤ length bytes) × Appends old new (take n bytes)
+
+-- A reader lost a number of bytes at its front, not more than `most`.
+abbrev pub ConsumesAtMost : ℕ → Option (List ℕ) → Option (List ℕ) → Type 0
+ConsumesAtMost most old new = (bytes : List ℕ) × (length bytes ≤ most) × Consumes old new bytes
+
+-- A reader lost n bytes at its front, and they were put behind the bytes that were there.
+abbrev pub ReadsOnto : Option (List ℕ) → Option (List ℕ) → List ℕ → List ℕ → ℕ → Type 0
+ReadsOnto old new before after n = (bytes : List ℕ) × (length bytes ≡ n) × Consumes old new bytes × (after ≡ before ++ bytes)
+
+-- The bytes of parts, one part after the other.
+abbrev pub joined : List (Bor (List ℕ)) → List ℕ
+joined parts = flat_map (λ part. part.now) parts
