@@ -74,7 +74,8 @@ same_tables (a ∷ xs) (b ∷ ys) s t f =
     let later = same_tables xs ys s.1 t.1 (λ q. later_same xs ys a b q s t k (f q)) in
     ap (λ z. (z, a.1) ∷ xs) k ∙ ap (λ z. (b.0, z) ∷ xs) v ∙ ap (λ zs. b ∷ zs) later
 
-in_order_with : {X : Type 0} (es : List (ℕ × X)) (k : ℕ) (v : X) → InOrder nat_cmp (keys_of es) → InOrder nat_cmp (keys_of (insert_entry nat_cmp es k v))
+-- keys in order, with a row more
+pub in_order_with : {X : Type 0} (es : List (ℕ × X)) (k : ℕ) (v : X) → InOrder nat_cmp (keys_of es) → InOrder nat_cmp (keys_of (insert_entry nat_cmp es k v))
 in_order_with es k v s = subst (InOrder nat_cmp) (sym (keys_inserted nat_cmp k v es)) (in_order_inserted nat_cmp nat_cmp_total k (keys_of es) s)
 
 -- Rows of two keys can be added in either order.

@@ -1,5 +1,5 @@
 -- Rooms: their numbers, locks, counts of codes and notes, and which are secured.
-use Rattle.std.proofs.Common.{ℕ, ◌≡◌, ◌≤◌, ◌<◌, ◌+◌, ◌-◌, Bool, true, false, Some, List, [], ◌∷◌, ◌++◌, length, ◌⊎◌, inl, inr, refl, ap, ◌∙◌, subst, arith, length-append}
+use Rattle.std.proofs.Common.{ℕ, ◌≡◌, ◌≤◌, ◌<◌, ◌+◌, ◌-◌, Bool, true, false, Some, List, [], ◌∷◌, ◌++◌, length, inl, inr, refl, ap, ◌∙◌, subst, arith, length-append}
 use Rattle.std.specs.Prelude.{◌==◌, ◌&&◌, nat_le}
 use Rattle.std.specs.Ordering.{nat_cmp}
 use Rattle.std.proofs.lemmas.Cmp.{nat_cmp_total}
@@ -30,7 +30,7 @@ use Rattle.hotel_core.proofs.EventRanges.{last_in_range}
 use Rattle.hotel_core.proofs.NumbersLeft.{codes_fit}
 use Rattle.hotel_core.proofs.LedgerOrder.{ledger_holds, link_seen}
 use Rattle.hotel_core.proofs.OpenLocks.{link_of_room}
-use Rattle.hotel_core.proofs.SecuredRooms.{secured_rooms_fit}
+use Rattle.hotel_core.proofs.SecuredRooms.{secured_by, secured_rooms_fit}
 use Rattle.hotel_core.proofs.RowTests.{both, where_so, all_mapped, all_found}
 use Rattle.hotel_core.proofs.RowsPass.{rooms_pass}
 use Rattle.hotel_core.proofs.SoundKeys.{rooms_in_order}
@@ -95,10 +95,6 @@ two_of_link codes link l = let n = ap (λ (zs : List ℕ). length zs) l.2 in ome
 issued_to : (b c : Bool) (codes : List ℕ) (code : ℕ) → (c ≡ true → 2 ≤ length codes) → when b (λ _. false) c ≡ true → 2 ≤ length (when b (and_last code) codes)
 issued_to true c codes code two e = not_both false e refl
 issued_to false c codes code two e = two e
-
-secured_by : (b c : Bool) → when b (λ _. true) c ≡ true → (b ≡ true) ⊎ (c ≡ true)
-secured_by true c e = inl refl
-secured_by false c e = inr e
 
 -- A secured room has two codes or more.
 pub secured_have_two : (h : History) → Reached h → (r : ℕ) → secured h r ≡ true → 2 ≤ length (issued h r)
