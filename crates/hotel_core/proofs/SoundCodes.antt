@@ -1,14 +1,13 @@
 -- Codes: their range, their rooms and their places.
-use Rattle.std.proofs.Common.{ℕ, ◌≡◌, ◌<◌, ◌+◌, ◌^◌, Bool, true, false, Some, List, [], ◌∷◌, ◌++◌, length, refl, ap, sym, ◌∙◌, subst}
-use Rattle.std.specs.Prelude.{◌==◌, ◌&&◌, is_some, nat_lt}
+use Rattle.std.proofs.Common.{ℕ, ◌≡◌, ◌^◌, true, Some, List, [], ◌∷◌, ◌++◌, length, ap, sym, ◌∙◌}
+use Rattle.std.specs.Prelude.{is_some, nat_lt}
 use Rattle.std.specs.Ordering.{nat_cmp}
-use Rattle.std.specs.Map.{keys_of}
 use Rattle.std.proofs.lemmas.Cmp.{nat_cmp_total}
 use Rattle.hotel_core.specs.declared.rows.CodeRow.{CodeRow}
-use Rattle.hotel_core.specs.Rows.{at_number, codes_by_place}
+use Rattle.hotel_core.specs.Rows.{at_number}
 use Rattle.hotel_core.specs.Event.{Install, CheckIn, Transfer}
 use Rattle.hotel_core.specs.History.{History}
-use Rattle.hotel_core.specs.Issued.{issued, all_issued}
+use Rattle.hotel_core.specs.Issued.{all_issued}
 use Rattle.hotel_core.specs.RowsOf.{rows_of}
 use Rattle.hotel_core.specs.Run.{Reached}
 use Rattle.hotel_core.specs.Cases.{is_room}

@@ -1,8 +1,7 @@
 -- Rooms: their numbers, locks, counts of codes and notes, and which are secured.
-use Rattle.std.proofs.Common.{ℕ, ◌≡◌, ◌≤◌, ◌<◌, ◌+◌, ◌-◌, Bool, true, false, Option, Some, None, List, [], ◌∷◌, ◌++◌, length, ◌⊎◌, inl, inr, refl, ap, sym, ◌∙◌, subst, arith, length-append}
-use Rattle.std.specs.Prelude.{◌==◌, ◌&&◌, ◌||◌, not, nat_le, nat_lt}
+use Rattle.std.proofs.Common.{ℕ, ◌≡◌, ◌≤◌, ◌<◌, ◌+◌, ◌-◌, Bool, true, false, Some, List, [], ◌∷◌, ◌++◌, length, ◌⊎◌, inl, inr, refl, ap, ◌∙◌, subst, arith, length-append}
+use Rattle.std.specs.Prelude.{◌==◌, ◌&&◌, nat_le}
 use Rattle.std.specs.Ordering.{nat_cmp}
-use Rattle.std.specs.List.{list_all}
 use Rattle.std.proofs.lemmas.Cmp.{nat_cmp_total}
 use Rattle.std.proofs.lemmas.Bool.Decides.{nat_tests}
 use Rattle.keycard_rules.specs.declared.card.Link.{Link}
@@ -32,7 +31,7 @@ use Rattle.hotel_core.proofs.NumbersLeft.{codes_fit}
 use Rattle.hotel_core.proofs.LedgerOrder.{ledger_holds, link_seen}
 use Rattle.hotel_core.proofs.OpenLocks.{link_of_room}
 use Rattle.hotel_core.proofs.SecuredRooms.{secured_rooms_fit}
-use Rattle.hotel_core.proofs.RowTests.{both, all_mapped, all_found}
+use Rattle.hotel_core.proofs.RowTests.{both, where_so, all_mapped, all_found}
 use Rattle.hotel_core.proofs.RowsPass.{rooms_pass}
 use Rattle.hotel_core.proofs.SoundKeys.{rooms_in_order}
 use Rattle.hotel_core.proofs.SoundDay.{le_tested, lt_tested}
@@ -126,14 +125,10 @@ holds_last ps code later codes e none =
 pub eq_tested : (a b : ℕ) → a ≡ b → (a == b) ≡ true
 eq_tested a b e = grind (arith, nat_tests)
 
-if_secured : (s : Bool) (rule : Bool) → (s ≡ true → rule ≡ true) → (not s || rule) ≡ true
-if_secured true rule f = f refl
-if_secured false rule f = refl
-
 -- A secured room's lock holds its last code, which isn't its first.
 pub secured_locks : (h : History) → Reached h → secured_hold_last (rows_of h) ≡ true
 secured_locks h ok =
     each_room_is h ok _
-    (λ r kind e. if_secured (secured h r) _
+    (λ r kind e. where_so (secured h r) _
     (λ s. let fit = secured_rooms_fit h ok r s in
     both _ _ (eq_tested _ _ (holds_last (passed h r) (held h r) (awaited h r) (issued h r) (ledger_holds h ok r fit.0) fit.1)) (le_tested 2 _ (secured_have_two h ok r s))))
