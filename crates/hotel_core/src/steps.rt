@@ -147,8 +147,8 @@ pub fn report<B: Books>(books: &mut B, note: &LockNote) -> Reply
         books.old books.new source source result }
 {
     known_note(note);
-    let outcome = take_note(books, note);
-    let reply = reply_of(outcome);
+    let taken = take_note(books, note);
+    let reply = reply_of(taken);
     known_reply(&reply);
     reply
 }
