@@ -29,6 +29,7 @@ pub mod Reads
 pub mod Finds
 pub mod Issuing
 pub mod Noting
+pub mod Stepping
 pub mod Headline
 pub mod Lists
 pub mod Follow
