@@ -61,10 +61,13 @@ pub rows_more : (a b c : Rows) (s t u : Stream) (all : List (List ℕ)) (done : 
 rows_more a b c s t u all done line text later P Q go e step written = λ h stands.
     let p = go h stands in
     let q = step p.1 p.2 in
-    let whole = sym (next_line all done line later e).2 in
-    (p.0 ++ text, q.0, q.1,
-    subst (λ (ls : List (List ℕ)). ScriptGoes h s ls (p.0 ++ text) q.0 u) whole (script-push h p.1 q.0 s t u (take done all) p.0 line text p.3 q.2),
-    written p.0 p.4)
+    let whole = sym (next_line all done line later e).2 in (
+      p.0 ++ text,
+      q.0,
+      q.1,
+      subst (λ (ls : List (List ℕ)). ScriptGoes h s ls (p.0 ++ text) q.0 u) whole (script-push h p.1 q.0 s t u (take done all) p.0 line text p.3 q.2),
+      written p.0 p.4,
+    )
 
 -- no line went yet
 pub rows_begin : (a : Rows) (s : Stream) (known : Option (List ℕ)) → RowsGo a s [] (Appends known known) a s

@@ -102,10 +102,10 @@ pub fn run_script<I: Read, W: Write, B: Books, R: Rng>(
 ) -> Result<ScriptEnd, ScriptFault>
     ensures ok { IfOk result (λ script_end. (script : List ℕ) × IsInput SCRIPT_LIMIT (I.remaining reader.old) script × (script_end.lines ≡ length (answered_lines script))
         × (B.is_clean books.new → RowsGo (B.rows books.old) (R.stream source.old) (answered_lines script)
-            (Appends (W.contents writer.old) (W.contents writer.new)) (B.rows books.new) (R.stream source.new))) }
+        (Appends (W.contents writer.old) (W.contents writer.new)) (B.rows books.new) (R.stream source.new))) }
     ensures cut { IfErr result (λ fault. IfSome (lines_done fault) (λ done. (script : List ℕ) × IsInput SCRIPT_LIMIT (I.remaining reader.old) script × (done ≤ length (answered_lines script))
         × (B.is_clean books.new → RowsGo (B.rows books.old) (R.stream source.old) (take done (answered_lines script))
-            (AppendsFront (W.contents writer.old) (W.contents writer.new)) (B.rows books.new) (R.stream source.new)))) }
+        (AppendsFront (W.contents writer.old) (W.contents writer.new)) (B.rows books.new) (R.stream source.new)))) }
     ensures unbegun { IfErr result (λ fault. lines_done fault ≡ None → (books.new ≡ books.old) × (source.new ≡ source.old) × (writer.new ≡ writer.old)) }
     ensures large { IsErrOf result TooLarge → IfSome (I.remaining reader.old) (λ input. SCRIPT_LIMIT < length input) }
     ensures was_clean { B.is_clean books.new → B.is_clean books.old }

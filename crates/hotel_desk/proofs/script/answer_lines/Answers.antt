@@ -14,7 +14,8 @@ loop-line-init g c = record {
   within = omega arith;
   left = refl;
   clean = λ clean. clean;
-  went = λ clean. rows_begin (g.B.Books.rows c.args.books.now) (g.R.Rng.stream c.args.source.now) (g.W.Write.contents c.args.writer.now) }
+  went = λ clean. rows_begin (g.B.Books.rows c.args.books.now) (g.R.Rng.stream c.args.source.now) (g.W.Write.contents c.args.writer.now);
+}
 
 pub loop-line-preserved-in-Ok-1 : goal.loop-line-preserved-in-Ok-1
 loop-line-preserved-in-Ok-1 g c =
@@ -30,8 +31,8 @@ loop-line-preserved-in-Ok-1 g c =
       left = next.1;
       clean = λ clean. c.loop-line.invariant.clean (answered.was_clean clean);
       went = λ clean. rows_more _ _ _ _ _ _ all c.loop-line.done line (answer_text c.answer_line-answer.result) _ _ _
-        (c.loop-line.invariant.went (answered.was_clean clean)) left (λ h stands. answered.goes h stands clean)
-        (λ output written. Appends-trans _ _ _ output _ written c.in-Ok.ensures.ok)
+          (c.loop-line.invariant.went (answered.was_clean clean)) left (λ h stands. answered.goes h stands clean)
+          (λ output written. Appends-trans _ _ _ output _ written c.in-Ok.ensures.ok);
     }
 
 pub returns-in_default-write_answer-clause-cut : goal.returns-in_default-write_answer-clause-cut
@@ -55,5 +56,5 @@ returns-clause-ok g c = λ clean.
     let none : answered_lines c.loop-line.rest.now ≡ [] = rw (c.first_line.ensures.none c.in_default.is) refl in
     let whole = (all_done (answered_lines c.args.script.now) c.loop-line.done c.loop-line.invariant.within (c.loop-line.invariant.left ∙ none)).1 in
     subst (λ (ls : List (List ℕ)). RowsGo (g.B.Books.rows c.args.books.now) (g.R.Rng.stream c.args.source.now) ls
-      (Appends (g.W.Write.contents c.args.writer.now) (g.W.Write.contents c.loop-line.writer)) (g.B.Books.rows c.loop-line.books) (g.R.Rng.stream c.loop-line.source))
+    (Appends (g.W.Write.contents c.args.writer.now) (g.W.Write.contents c.loop-line.writer)) (g.B.Books.rows c.loop-line.books) (g.R.Rng.stream c.loop-line.source))
     whole (c.loop-line.invariant.went clean)

@@ -12,7 +12,7 @@ invariant-loop-line g l = record {
   left : drop l.done (answered_lines l.script) ≡ answered_lines l.rest;
   clean : g.B.Issued.is_clean l.books → g.B.Issued.is_clean l.initial.books;
   went : g.B.Issued.is_clean l.books → RowsGo (g.B.Books.rows l.initial.books) (g.R.Rng.stream l.initial.source) (take l.done (answered_lines l.script))
-    (Appends (g.W.Write.contents l.initial.writer) (g.W.Write.contents l.writer)) (g.B.Books.rows l.books) (g.R.Rng.stream l.source)
+      (Appends (g.W.Write.contents l.initial.writer) (g.W.Write.contents l.writer)) (g.B.Books.rows l.books) (g.R.Rng.stream l.source);
 }
 
 abbrev pub decreases-loop-line : goal.decreases-loop-line
