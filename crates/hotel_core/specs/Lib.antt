@@ -28,6 +28,7 @@ pub mod Lift
 pub mod Reads
 pub mod Finds
 pub mod Issuing
+pub mod Stepping
 pub mod Noting
 pub mod Headline
 pub mod Lists
