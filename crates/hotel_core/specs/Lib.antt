@@ -28,8 +28,8 @@ pub mod Lift
 pub mod Reads
 pub mod Finds
 pub mod Issuing
-pub mod Stepping
 pub mod Noting
+pub mod Stepping
 pub mod Headline
 pub mod Lists
 pub mod Follow
@@ -38,3 +38,4 @@ pub mod CodeLaws
 pub mod CodeTable
 pub mod Tables
 pub mod ListBooks
+pub mod InsideTable

@@ -39,3 +39,12 @@ pub fn rows_counted()
     ensures rooms_counted { (h : History) (kind : List ℕ) → rooms_of_kind (rows_of h) kind ≡ rooms_of h kind }
     ensures first_full { (h : History) (kind : List ℕ) (d k : ℕ) → first_day (is_full (stays_of_kind (rows_of h) kind) kind (rooms_of_kind (rows_of h) kind)) d k ≡ first_full h kind d k }
 {}
+
+ghost use Rattle.hotel_core.specs.History.{start};
+ghost use Rattle.hotel_core.specs.Rows.{Rows};
+ghost use Rattle.hotel_core.specs.Sound.{IsSound};
+
+/// The rows that stand for a start are the start's rows.
+pub fn starts()
+    ensures { (t : Rows) → IsSound t → rows_of (start t) ≡ t }
+{}
