@@ -8,8 +8,7 @@ ghost use Rattle.hotel_lists.specs.Bytes.{AppendsFront};
 ghost use Rattle.hotel_desk.specs.LineAnswers.{LineGoes, answer_text};
 
 use crate::asks::{LineFault, read_line};
-use crate::step_stub::step;
-use hotel_core::{Books, Refusal, Reply, reply_text};
+use hotel_core::{Books, Refusal, Reply, reply_text, step};
 use hotel_lists::{Interruptions, WriteFailed, write_bytes};
 use rand_core::Rng;
 use std::alloc::Global;

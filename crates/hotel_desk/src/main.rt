@@ -9,7 +9,6 @@ mod lines;
 mod program;
 mod scenes;
 mod script;
-mod step_stub;
 mod values;
 mod verb;
 mod words;
