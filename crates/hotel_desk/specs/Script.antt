@@ -6,7 +6,9 @@ use Rattle.hotel_core.specs.History.{History}
 use Rattle.hotel_core.specs.Run.{StandsFor}
 use Rattle.hotel_desk.specs.LineAnswers.{LineGoes}
 use Rattle.hotel_desk.specs.declared.script.ScriptFault.{ScriptFault}
-use Rattle.hotel_desk.specs.declared.script.ScriptFault.TheVariants.{Write}
+use Rattle.hotel_desk.specs.declared.script.ScriptFault.TheVariants.{Read, TooLarge, Memory, Write}
+use Rattle.hotel_lists.specs.declared.bytes.WholeFault.{WholeFault}
+use Rattle.hotel_lists.specs.declared.bytes.WholeFault.TheVariants as whole
 
 -- The lines go in their order, and the output is their answers joined.
 unfoldable pub ScriptGoes : History → Stream → List (List ℕ) → List ℕ → History → Stream → Type 0
@@ -28,3 +30,9 @@ IsInput limit known script = (length script ≤ limit) × IfSome known (λ input
 abbrev pub lines_done : ScriptFault → Option ℕ
 lines_done (Write done) = Some done
 lines_done _ = None
+
+-- The fault of a script that was not read whole.
+abbrev pub fault_of : WholeFault → ScriptFault
+fault_of whole.Read = Read
+fault_of whole.TooLarge = TooLarge
+fault_of whole.Memory = Memory

@@ -3,10 +3,9 @@
 ghost use Rattle.std.specs.Prelude.{◌≡◌, ◌≢◌, ℕ, List, ◌≤◌, ◌<◌, length, take, Option, None, Some, IfSome, IfOk, IfErr, IsErrOf};
 ghost use Rattle.std.specs.Io.KnownBytes.{Appends};
 ghost use Rattle.hotel_lists.specs.Bytes.{AppendsFront};
-ghost use Rattle.hotel_lists.specs.declared.bytes.WholeFault.TheVariants as whole;
-ghost use Rattle.hotel_desk.specs.declared.script.ScriptFault.TheVariants.{Read, TooLarge, Memory};
+ghost use Rattle.hotel_desk.specs.declared.script.ScriptFault.TheVariants.{TooLarge};
 ghost use Rattle.hotel_desk.specs.Lines.{answered_lines};
-ghost use Rattle.hotel_desk.specs.Script.{RowsGo, IsInput, lines_done};
+ghost use Rattle.hotel_desk.specs.Script.{RowsGo, IsInput, lines_done, fault_of};
 
 use crate::line_answers::{answer_line, write_answer};
 use crate::lines::{first_line, is_silent, without_return};
@@ -43,7 +42,7 @@ pub enum ScriptFault {
 }
 
 impl From<WholeFault> for ScriptFault {
-    ghost from_gives = { λ fault e. (lines_done e ≡ None) × (e ≡ TooLarge → fault ≡ whole.TooLarge) };
+    ghost from_gives = { λ fault e. e ≡ fault_of fault };
 
     fn from(fault: WholeFault) -> ScriptFault {
         match fault {
@@ -121,3 +120,8 @@ pub fn run_script<I: Read, W: Write, B: Books, R: Rng>(
         &mut interruptions,
     )
 }
+
+#[cfg(test)]
+mod scenarios;
+#[cfg(test)]
+mod tests;
