@@ -31,6 +31,8 @@ pub mod Issuing
 pub mod Noting
 pub mod Headline
 pub mod Lists
+pub mod ListsOnRows
+pub mod Walks
 pub mod Follow
 pub mod Texts
 pub mod CodeLaws
