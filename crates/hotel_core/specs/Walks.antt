@@ -31,9 +31,9 @@ walk_failed (Err why.Stopped) = false
 walk_failed (Err why.Memory) = true
 walk_failed (Err why.Store) = true
 
--- A walk over these rows, of books from old to new and a sink from its meaning to that at the end: where the test of the state holds at its end, it hands over the rows and leaves what a look-up may leave; memory or the store fails only where a failure was counted, and in memory no store fails.
+-- A walk over these rows, of books from old to new and a sink from its meaning to that at the end: it hands over some rows, which are these and leave what a look-up may leave where the test of the state holds at its end; memory or the store fails only where a failure was counted, and in memory no store fails.
 pub record WalksOver {B S R : Type 0} (is_clean : B → Type 0) (is_kept : B → B → Type 0) (failures : B → ℕ) (never_fails : Type 0) (after after_stop : S → R → S → Type 0) (rows : List R) (old new : B) (sink end : S) (result : Result (Unit {0}) WalkFault) : Type 0 where
-  pub hands : is_clean new → Hands after after_stop rows sink end result
+  pub hands : (handed : List R) × Hands after after_stop handed sink end result × (is_clean new → handed ≡ rows)
   pub kept : is_clean new → is_kept old new
   pub was_clean : is_clean new → is_clean old
   pub counted : failures old ≤ failures new
