@@ -28,4 +28,6 @@ returns-clause-text g c = λ clean.
     let same = same_writer name contents failed note_line hands.0 _ _ _ hands.1 in
     let written = list_written name contents failed note_line _ audit_header rows hands.0 _ _ _ c.in_ok-write_bytes.ensures.ok (hands.2 clean ∙ ap (λ rs. audit_on rs c.args.room) kept) hands.1 in
     let listed = room_listed (room_at (g.B.Books.rows c.args.books.now) c.args.room) _ _ audit_header note_line rows _ _ found (listed_there _ _) written in
-    rw (c.writer-1.given.1 (sym same), c.listed.ensures) listed
+    let said : ListsRoom (room_at (g.B.Books.rows c.args.books.now) c.args.room) (g.W.Write.contents c.args.writer.now) (g.W.Write.contents c.walk_audit-end.new.sink.writer.now) audit_header note_line rows c.listed.result = rw c.listed.ensures listed in
+    let back = sym same in
+    search rules

@@ -28,4 +28,6 @@ returns-clause-text g c = λ clean.
     let same = same_writer name contents failed chain_line hands.0 _ _ _ hands.1 in
     let written = list_written name contents failed chain_line _ chain_header rows hands.0 _ _ _ c.in_ok-write_bytes.ensures.ok (hands.2 clean ∙ ap (λ rs. chain_on rs c.args.room) kept) hands.1 in
     let listed = room_listed (room_at (g.B.Books.rows c.args.books.now) c.args.room) _ _ chain_header chain_line rows _ _ found (listed_there _ _) written in
-    rw (c.writer-1.given.1 (sym same), c.listed.ensures) listed
+    let said : ListsRoom (room_at (g.B.Books.rows c.args.books.now) c.args.room) (g.W.Write.contents c.args.writer.now) (g.W.Write.contents c.walk_chain-end.new.sink.writer.now) chain_header chain_line rows c.listed.result = rw c.listed.ensures listed in
+    let back = sym same in
+    search rules

@@ -19,4 +19,6 @@ returns-clause-text g c = λ clean.
     let failed = λ (s : Lines g.row.W.Denot). s.write_failed in
     let same = same_writer name contents failed house_line hands.0 _ _ _ hands.1 in
     let written = list_written name contents failed house_line _ in_house_header (in_house_on (g.B.Books.rows c.args.books.now)) hands.0 _ _ _ c.in_ok-write_bytes.ensures.ok (hands.2 clean) hands.1 in
-    rw (c.writer-1.given.1 (sym same), c.listed.ensures) written
+    let said : Lists (g.W.Write.contents c.args.writer.now) (g.W.Write.contents c.walk_in_house-end.new.sink.writer.now) in_house_header house_line (in_house_on (g.B.Books.rows c.args.books.now)) c.listed.result = rw c.listed.ensures written in
+    let back = sym same in
+    search rules
