@@ -18,10 +18,12 @@ use Rattle.hotel_core.specs.Run.{Reached}
 use Rattle.hotel_core.specs.CodeLaws.{IsLink, HasCard, PartiesHaveCards, CardsOneParty, GuestsHaveCards}
 use Rattle.hotel_core.proofs.Tests.{eq_from}
 use Rattle.hotel_core.proofs.TableKeys.{row_inserted, row_kept, row_added}
-use Rattle.hotel_core.proofs.Grown.{at_start, may_follow}
+use Rattle.hotel_core.proofs.Grown.{may_follow}
 use Rattle.hotel_core.proofs.Numbering.{next_card_free}
 use Rattle.hotel_core.proofs.CodePlaces.{codes_have_places, fresh_has_no_row}
 use Rattle.hotel_core.proofs.RoomLinks.{cards_have_links}
+use Rattle.hotel_core.proofs.StartLinks.{parties_have_cards_at_start, cards_one_party_at_start}
+use Rattle.hotel_core.proofs.StartGuests.{guests_have_cards_at_start}
 
 -- a card that was there is there when one more is made
 pub card_kept : (h : History) (number : ℕ) (new : Card) (n : ℕ) (card : Card) → Reached h → number ≡ next_card h → at_number (cards h) n ≡ Some card → at_number (insert_entry nat_cmp (cards h) number new) n ≡ Some card
@@ -55,7 +57,7 @@ given_by false h p number party new link was here ok next ih e = still_has h num
 
 -- A party has a card of the link that it was given last.
 pub parties_have_cards : (h : History) → Reached h → PartiesHaveCards h
-parties_have_cards (start t) ok party link e = at_start PartiesHaveCards t ok (λ p l n. absurd (let w : ◌≡◌ {A = Option Link} None (Some l) = n in cc)) party link e
+parties_have_cards (start t) ok party link e = parties_have_cards_at_start t ok party link e
 parties_have_cards (h ▷ CheckIn p room number code) ok party link e =
     given_by (p == party) h p number party (link_to h room code) link (link_of_party h party) (eq_from p party) ok.0 (may_follow h (CheckIn p room number code) ok).5 (parties_have_cards h ok.0 party link) e
 parties_have_cards (h ▷ Transfer p room number code) ok party link e =
@@ -108,7 +110,7 @@ one_of_spare None h number party ih own n m a b e f same = ih n m a b e f same
 
 -- Cards with the same new code are one party's.
 pub cards_one_party : (h : History) → Reached h → CardsOneParty h
-cards_one_party (start t) ok n m a b e f same = at_start CardsOneParty t ok (λ i j c d g k l. absurd (let w : ◌≡◌ {A = Option Card} None (Some c) = g in cc)) n m a b e f same
+cards_one_party (start t) ok n m a b e f same = cards_one_party_at_start t ok n m a b e f same
 cards_one_party (h ▷ CheckIn party room number code) ok n m a b e f same =
     one_of_fresh h number (card_of number party (link_to h room code)) ok.0 (cards_one_party h ok.0) (may_follow h (CheckIn party room number code) ok).6 n m a b e f same
 cards_one_party (h ▷ Transfer party room number code) ok n m a b e f same =
@@ -135,7 +137,7 @@ came_by false h party room number code r p was ok here next ih e =
 
 -- A registered party has a card of its room's newest link.
 pub guests_have_cards : (h : History) → Reached h → GuestsHaveCards h
-guests_have_cards (start t) ok r p e = at_start GuestsHaveCards t ok (λ s q n. absurd (let w : ◌≡◌ {A = Option ℕ} None (Some q) = n in cc)) r p e
+guests_have_cards (start t) ok r p e = guests_have_cards_at_start t ok r p e
 guests_have_cards (h ▷ CheckIn party room number code) ok r p e =
     came_by (room == r) h party room number code r p (registered h r) ok.0 (eq_from room r) (may_follow h (CheckIn party room number code) ok).5 (guests_have_cards h ok.0 r p) e
 guests_have_cards (h ▷ Transfer party room number code) ok r p e =

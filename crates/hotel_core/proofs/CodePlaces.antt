@@ -1,5 +1,5 @@
 -- Each code stands at one place of one room.
-use Rattle.std.proofs.Common.{ℕ, ◌≡◌, Bool, true, false, Option, Some, None, List, [], ◌∷◌, ◌++◌, length, inl, inr, refl, ap, sym, ◌∙◌, append_assoc}
+use Rattle.std.proofs.Common.{ℕ, ◌≡◌, Bool, true, false, Some, None, List, [], ◌∷◌, ◌++◌, length, inl, inr, refl, ap, sym, ◌∙◌, append_assoc}
 use Rattle.std.specs.Prelude.{◌==◌, not}
 use Rattle.std.specs.Ordering.{nat_cmp}
 use Rattle.std.specs.BTreeMap.{insert_entry}
@@ -15,8 +15,9 @@ use Rattle.hotel_core.specs.Headline.{NoCodeTwice}
 use Rattle.hotel_core.specs.CodeLaws.{CodesHavePlaces, PlacesHaveCodes}
 use Rattle.hotel_core.proofs.Tests.{eq_from, eq_self, not_both}
 use Rattle.hotel_core.proofs.TableKeys.{row_inserted, row_kept, row_added, no_key}
-use Rattle.hotel_core.proofs.CodeLists.{nothing_in_nil, snoc_split, cut_alike}
-use Rattle.hotel_core.proofs.Grown.{at_start, may_follow}
+use Rattle.hotel_core.proofs.CodeLists.{snoc_split, cut_alike}
+use Rattle.hotel_core.proofs.Grown.{may_follow}
+use Rattle.hotel_core.proofs.StartCodes.{places_at_start, rows_at_start}
 
 not_true : (b : Bool) → not b ≡ true → b ≡ false
 not_true true e = not_both false e refl
@@ -46,7 +47,7 @@ placed_more true h room new r here fresh ih before code later e =
 placed_more false h room new r here fresh ih before code later e = row_kept (all_issued h) new _ _ code fresh (ih r before code later e)
 
 pub codes_have_places : (h : History) → Reached h → CodesHavePlaces h
-codes_have_places (start t) ok r before code later e = at_start CodesHavePlaces t ok (λ r before code later e. absurd (nothing_in_nil before code later e)) r before code later e
+codes_have_places (start t) ok r before code later e = places_at_start t ok r before code later e
 codes_have_places (h ▷ Install room kind new) ok r before code later e =
     let fresh = fresh_has_no_row h new (may_follow h (Install room kind new) ok).2 in
     placed_more (room == r) h room new r (eq_from room r) fresh (codes_have_places h ok.0) before code later e
@@ -100,7 +101,7 @@ stands_more h room new code row ih e =
     ]
 
 pub places_have_codes : (h : History) → Reached h → PlacesHaveCodes h
-places_have_codes (start t) ok code row e = at_start PlacesHaveCodes t ok (λ code row e. absurd (let w : ◌≡◌ {A = Option CodeRow} None (Some row) = e in cc)) code row e
+places_have_codes (start t) ok code row e = rows_at_start t ok code row e
 places_have_codes (h ▷ Install room kind new) ok code row e = stands_more h room new code row (places_have_codes h ok.0) e
 places_have_codes (h ▷ CheckIn party room number new) ok code row e = stands_more h room new code row (places_have_codes h ok.0) e
 places_have_codes (h ▷ Transfer party room number new) ok code row e = stands_more h room new code row (places_have_codes h ok.0) e

@@ -16,9 +16,10 @@ use Rattle.hotel_core.specs.Run.{Reached}
 use Rattle.hotel_core.specs.CodeLaws.{CodesAreFound}
 use Rattle.hotel_core.proofs.Tests.{eq_from, eq_self, and_true, not_both}
 use Rattle.hotel_core.proofs.TableKeys.{swap_tests}
-use Rattle.hotel_core.proofs.CodeLists.{nothing_in_nil, snoc_split, length_more}
+use Rattle.hotel_core.proofs.CodeLists.{snoc_split, length_more}
 use Rattle.hotel_core.proofs.CodePlaces.{next_place, fresh_has_no_row}
-use Rattle.hotel_core.proofs.Grown.{at_start, may_follow}
+use Rattle.hotel_core.proofs.Grown.{may_follow}
+use Rattle.hotel_core.proofs.StartSearch.{free_at_start, found_at_start}
 
 abbrev pub is_here : CodeRow → ℕ → ℕ → Bool
 is_here v r p = (v.room == r) && (v.place == p)
@@ -92,7 +93,7 @@ fresh_transferred : (h : History) (party room number new : ℕ) → Reached (h �
 fresh_transferred h party room number new ok = fresh_has_no_row h new (may_follow h (Transfer party room number new) ok).6
 
 pub all_free : (h : History) → Reached h → AllFree h
-all_free (start t) ok r p l = at_start AllFree t ok (λ s q m. refl) r p l
+all_free (start t) ok r p l = free_at_start t ok r p l
 all_free (h ▷ Install room kind new) ok r p l = free_more h room new (fresh_installed h room kind new ok) (all_free h ok.0) r p l
 all_free (h ▷ CheckIn party room n new) ok r p l = free_more h room new (fresh_checked_in h party room n new ok) (all_free h ok.0) r p l
 all_free (h ▷ Transfer party room n new) ok r p l = free_more h room new (fresh_transferred h party room n new ok) (all_free h ok.0) r p l
@@ -121,7 +122,7 @@ found_more false h room new r here fresh free ih before code later e =
 
 -- The search for a code's place finds the code.
 pub codes_are_found : (h : History) → Reached h → CodesAreFound h
-codes_are_found (start t) ok r before code later e = at_start CodesAreFound t ok (λ s b c l n. absurd (nothing_in_nil b c l n)) r before code later e
+codes_are_found (start t) ok r before code later e = found_at_start t ok r before code later e
 codes_are_found (h ▷ Install room kind new) ok r before code later e =
     found_more (room == r) h room new r (eq_from room r) (fresh_installed h room kind new ok) (all_free h ok.0) (codes_are_found h ok.0) before code later e
 codes_are_found (h ▷ CheckIn party room n new) ok r before code later e =

@@ -1,19 +1,14 @@
 -- How what is read off a history changes with one more event.
-use Rattle.std.proofs.Common.{ℕ, ◌≡◌, Bool, true, false, refl, sym, ap, subst, ◌∙◌, List, []}
+use Rattle.std.proofs.Common.{ℕ, ◌≡◌, Bool, true, false, refl, sym, ap, ◌∙◌, List, []}
 use Rattle.hotel_core.specs.Words.{when, and_last}
-use Rattle.hotel_core.specs.Rows.{Rows, no_rows}
 use Rattle.hotel_core.specs.Event.{Event}
-use Rattle.hotel_core.specs.History.{History, start, ◌▷◌}
+use Rattle.hotel_core.specs.History.{History, ◌▷◌}
 use Rattle.hotel_core.specs.Cases.{is_room}
-use Rattle.hotel_core.specs.Run.{IsStart, Reached}
+use Rattle.hotel_core.specs.Run.{Reached}
 use Rattle.hotel_core.specs.Follow.{MayFollow}
 use Rattle.hotel_core.proofs.Following.{answers_follow}
 use Rattle.hotel_core.proofs.Tests.{not_both}
 use Rattle.hotel_core.proofs.CodeLists.{no_snoc}
-
--- what holds of an empty start holds of each
-pub at_start : (P : History → Type 0) (t : Rows) → IsStart t → P (start no_rows) → P (start t)
-at_start P t e base = subst (λ z. P (start z)) (sym e) base
 
 -- what the last event needed
 pub may_follow : (h : History) (event : Event) → Reached (h ▷ event) → MayFollow h event

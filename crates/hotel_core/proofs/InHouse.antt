@@ -16,6 +16,7 @@ use Rattle.hotel_core.proofs.StayStates.{home_of, home_changed, home_added, book
 use Rattle.hotel_core.proofs.Homes.{Match, match_left, match_came, match_same, not_leaving}
 use Rattle.hotel_core.proofs.Tests.{eq_from}
 use Rattle.hotel_core.proofs.Grown.{may_follow}
+use Rattle.hotel_core.proofs.StartGuests.{homes_match_at_start}
 
 pub none_is : (o : Option ℕ) → is_some o ≡ false → o ≡ None
 none_is (Some x) h = cc
@@ -52,7 +53,7 @@ check_in_matches h party room number code ok m =
 
 -- A party is registered at a room exactly where it is in house there.
 pub homes_match : (h : History) → Reached h → HomesMatch h
-homes_match (start t) ok = subst (λ z. HomesMatch (start z)) (sym ok) (record { forth = λ r p h. cc; back = λ r p h. cc })
+homes_match (start t) ok = homes_match_at_start t ok
 homes_match (h ▷ Reserved party guest kind arrive depart) ok =
     let free : at_number (stays h) party ≡ None = subst (λ z. at_number (stays h) z ≡ None) (sym (may_follow h (Reserved party guest kind arrive depart) ok).1) (next_party_free h ok.0) in
     match_same (registered h) (registered h) (room_of h) (room_of (h ▷ Reserved party guest kind arrive depart)) (homes_match h ok.0) (λ r. refl)

@@ -1,10 +1,9 @@
 -- A party in house was given a card.
-use Rattle.std.proofs.Common.{ℕ, ◌≡◌, Bool, true, false, cond, Option, Some, None, refl, ap, sym, ◌∙◌, subst}
+use Rattle.std.proofs.Common.{ℕ, ◌≡◌, Bool, true, false, cond, Option, Some, None, refl, ap, sym, ◌∙◌}
 use Rattle.std.specs.Prelude.{◌==◌, is_some}
 use Rattle.keycard_rules.specs.declared.card.Link.{Link}
 use Rattle.hotel_nights.specs.declared.stay.StayState.TheVariants as state
 use Rattle.hotel_core.specs.Words.{when}
-use Rattle.hotel_core.specs.Rows.{no_rows}
 use Rattle.hotel_core.specs.Event.{Reserved, Cancelled, CheckIn, Transfer, CheckOut}
 use Rattle.hotel_core.specs.History.{History, start, ◌▷◌}
 use Rattle.hotel_core.specs.Cards.{link_of_party, link_to}
@@ -14,6 +13,7 @@ use Rattle.hotel_core.specs.Run.{Reached}
 use Rattle.hotel_core.proofs.StayStates.{home_changed, home_added}
 use Rattle.hotel_core.proofs.InHouse.{has_stay}
 use Rattle.hotel_core.proofs.Grown.{may_follow}
+use Rattle.hotel_core.proofs.StartGuests.{in_house_has_link_at_start}
 
 was_some : (b : Bool) (o : Option ℕ) → is_some (cond b None o) ≡ true → is_some o ≡ true
 was_some true o h = cc
@@ -26,7 +26,7 @@ given_or_was false room link home last h f = f h
 
 -- A party in house was given a card.
 pub in_house_has_link : (h : History) → Reached h → (p : ℕ) → is_in_house h p ≡ true → is_some (link_of_party h p) ≡ true
-in_house_has_link (start t) ok p e = let none : is_in_house (start no_rows) p ≡ true = subst (λ z. is_in_house (start z) p ≡ true) ok e in cc
+in_house_has_link (start t) ok p e = in_house_has_link_at_start t ok p e
 in_house_has_link (h ▷ Reserved party guest kind arrive depart) ok p e =
     in_house_has_link h ok.0 p (was_some (party == p) (room_of h p)
     (sym (ap is_some (home_added party (record { party = party; guest = guest; kind = kind; arrive = arrive; depart = depart; state = state.Booked }) (stays h) p)) ∙ e))

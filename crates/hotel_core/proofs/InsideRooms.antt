@@ -10,7 +10,7 @@ use Rattle.hotel_core.specs.Words.{when, is_one_of, pair_cmp, remove_key}
 use Rattle.hotel_core.specs.Guests.{those_in, are_none}
 use Rattle.hotel_core.proofs.Tests.{eq_from, eq_self, or_true, not_both}
 
-one_of_when : (b : Bool) (m x : ℕ) (ns : List ℕ) → is_one_of m (when b (λ numbers. x ∷ numbers) ns) ≡ true → ((b ≡ true) × (x ≡ m)) ⊎ (is_one_of m ns ≡ true)
+pub one_of_when : (b : Bool) (m x : ℕ) (ns : List ℕ) → is_one_of m (when b (λ numbers. x ∷ numbers) ns) ≡ true → ((b ≡ true) × (x ≡ m)) ⊎ (is_one_of m ns ≡ true)
 one_of_when true m x ns e =
     elim (or_true (x == m) (is_one_of m ns) e) [
       | inl t ↦ inl (refl, eq_from x m t)

@@ -1,5 +1,5 @@
 -- The cards inside rooms: they stand in order, and being inside is standing in the list.
-use Rattle.std.proofs.Common.{ℕ, ◌≡◌, Bool, true, false, List, [], ◌∷◌, refl, ap, sym, ◌∙◌, subst}
+use Rattle.std.proofs.Common.{ℕ, ◌≡◌, Bool, true, false, List, [], ◌∷◌, refl, ap, sym, ◌∙◌}
 use Rattle.std.specs.Prelude.{◌==◌, ◌&&◌, ◌||◌}
 use Rattle.std.specs.BTreeSet.{insert_key}
 use Rattle.hotel_core.specs.Words.{when, pair_cmp, is_one_of}
@@ -11,10 +11,11 @@ use Rattle.hotel_core.specs.Change.{moved}
 use Rattle.hotel_core.specs.ChangeOf.{comes}
 use Rattle.hotel_core.proofs.Pairs.{pair_cmp_total, pair_is}
 use Rattle.hotel_core.proofs.KeysInOrder.{InOrder, has_key, in_order_inserted, in_order_removed, present_stays}
+use Rattle.hotel_core.proofs.StartCodes.{orders}
 
 -- The cards inside rooms stand in order, none twice.
 pub insiders_in_order : (h : History) → Reached h → InOrder pair_cmp (insiders h)
-insiders_in_order (start t) ok = subst (λ z. InOrder pair_cmp (insiders (start z))) (sym ok) tt
+insiders_in_order (start t) ok = (orders t ok).inside
 insiders_in_order (h ▷ Entered room count number link at) ok = in_order_inserted pair_cmp pair_cmp_total (room, number) (insiders h) (insiders_in_order h ok.0)
 insiders_in_order (h ▷ Left room count number link at) ok = in_order_removed pair_cmp (room, number) (insiders h) (insiders_in_order h ok.0)
 insiders_in_order (h ▷ _) ok = insiders_in_order h ok.0

@@ -26,7 +26,7 @@ InOrder cmp (x ∷ xs) = AllAfter cmp x xs × InOrder cmp xs
 abbrev pub has_key : {K : Type 0} → (K → K → Ordering) → K → List K → Bool
 has_key cmp k xs = list_any (λ x. is_eq (cmp k x)) xs
 
-all_after : {K : Type 0} (cmp : K → K → Ordering) (total : IsTotalOrder cmp) (a b : K) (xs : List K) → cmp a b ≡ Less → AllAfter cmp b xs → AllAfter cmp a xs
+pub all_after : {K : Type 0} (cmp : K → K → Ordering) (total : IsTotalOrder cmp) (a b : K) (xs : List K) → cmp a b ≡ Less → AllAfter cmp b xs → AllAfter cmp a xs
 all_after cmp total a b [] l h = tt
 all_after cmp total a b (x ∷ xs) l h = (total.trans a b x l h.0, all_after cmp total a b xs l h.1)
 

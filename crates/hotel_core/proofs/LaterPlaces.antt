@@ -8,7 +8,7 @@ use Rattle.hotel_core.specs.declared.rows.CodeRow.{CodeRow}
 use Rattle.hotel_core.specs.Words.{said_of}
 use Rattle.hotel_core.specs.Rows.{at_number}
 use Rattle.hotel_core.specs.Lookups.{first_code_at}
-use Rattle.hotel_core.specs.Change.{room_changed, without_party, left_by}
+use Rattle.hotel_core.specs.Change.{room_changed, left_by}
 use Rattle.hotel_core.specs.Tables.{LaterPlacesFree}
 use Rattle.hotel_core.proofs.MapEntries.{at_is, at_self, eq_from}
 use Rattle.hotel_core.proofs.PlacedCodes.{placed, is_here, both_true}

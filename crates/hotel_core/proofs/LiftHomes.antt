@@ -23,6 +23,7 @@ use Rattle.hotel_core.proofs.OpenLocks.{there_by_link}
 use Rattle.hotel_core.proofs.CodesFound.{newest_found}
 use Rattle.hotel_core.proofs.LiftFacts.{HomeLink}
 use Rattle.hotel_core.proofs.LiftRooms.{codes_said}
+use Rattle.hotel_core.proofs.StartGuests.{has_newest_at_start}
 
 -- a registered party's last link is its room's newest
 abbrev pub HasNewest : History → Type 0
@@ -47,7 +48,7 @@ booked_is_another h ok party p r none e =
     apart_by party p (λ same. let home : room_of h party ≡ Some r = subst (λ z. room_of h z ≡ Some r) (sym same) ((registered_in_house h ok r p).0 e) in no_party r (sym none ∙ home))
 
 pub has_newest : (h : History) → Reached h → HasNewest h
-has_newest (start t) ok r p e = absurd (no_party p (subst (λ z. registered (start z) r ≡ Some p) ok e))
+has_newest (start t) ok r p e = has_newest_at_start t ok r p e
 has_newest (h ▷ CheckIn party room number code) ok r p e =
     let booked = (may_follow h (CheckIn party room number code) ok).2 in
     let same : when (room == r) (λ _. Some (link_to h room code)) (newest_link h r) ≡ when (party == p) (λ _. Some (link_to h room code)) (link_of_party h p) =

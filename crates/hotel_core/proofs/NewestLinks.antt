@@ -13,7 +13,8 @@ use Rattle.hotel_core.proofs.Tests.{eq_from}
 use Rattle.hotel_core.proofs.CodeLists.{cut_alike}
 use Rattle.hotel_core.proofs.RoomCodes.{others_have_none}
 use Rattle.hotel_core.proofs.RoomLinks.{newest_are_last}
-use Rattle.hotel_core.proofs.Grown.{at_start, may_follow}
+use Rattle.hotel_core.proofs.Grown.{may_follow}
+use Rattle.hotel_core.proofs.StartLinks.{two_have_newest_at_start}
 
 -- there is a newest link of a room whose codes end with two
 abbrev pub TwoHaveNewest : History → Type 0
@@ -37,7 +38,7 @@ issued_two true h room code r front a b ih e = (link_to h room code, refl)
 issued_two false h room code r front a b ih e = ih e
 
 pub two_have_newest : (h : History) → Reached h → TwoHaveNewest h
-two_have_newest (start t) ok r front a b e = at_start TwoHaveNewest t ok (λ s f x y n. absurd (none_of_two f x y n)) r front a b e
+two_have_newest (start t) ok r front a b e = two_have_newest_at_start t r front a b e
 two_have_newest (h ▷ Install room kind code) ok r front a b e =
     installed_two (room == r) h code r front a b
     (λ t. (others_have_none h ok.0 r (ap (is_room h) (sym (eq_from room r t)) ∙ (may_follow h (Install room kind code) ok).1)).0) (two_have_newest h ok.0 r front a b) e

@@ -1,5 +1,5 @@
 -- Nothing happened at a number that is no room's.
-use Rattle.std.proofs.Common.{ℕ, ◌≡◌, true, false, Some, None, List, [], refl, ap, sym, ◌∙◌, subst}
+use Rattle.std.proofs.Common.{ℕ, ◌≡◌, true, false, Some, None, List, [], ap, sym, ◌∙◌, subst}
 use Rattle.std.specs.Prelude.{◌==◌}
 use Rattle.keycard_rules.specs.Note.{Note}
 use Rattle.keycard_rules.specs.declared.note.Act.TheVariants as act
@@ -18,6 +18,8 @@ use Rattle.hotel_core.proofs.Grown.{may_follow}
 use Rattle.hotel_core.proofs.Tests.{or_false}
 use Rattle.hotel_core.proofs.TableKeys.{key_inserted}
 use Rattle.hotel_core.proofs.RoomCodes.{others_have_none}
+use Rattle.hotel_core.proofs.StartGuests.{nobody_at_start}
+use Rattle.hotel_core.proofs.StartNotes.{nothing_noted_at_start}
 
 -- a room is apart from what is no room
 pub apart_rooms : (h : History) (room r : ℕ) → is_room h room ≡ true → is_room h r ≡ false → (room == r) ≡ false
@@ -34,7 +36,7 @@ pub nothing_passed : (h : History) → Reached h → (r : ℕ) → is_room h r �
 nothing_passed h ok r e = (others_have_none h ok r e).1
 
 pub nobody_registered : (h : History) → Reached h → (r : ℕ) → is_room h r ≡ false → registered h r ≡ None
-nobody_registered (start t) ok r e = subst (λ z. registered (start z) r ≡ None) (sym ok) refl
+nobody_registered (start t) ok r e = nobody_at_start t r e
 nobody_registered (h ▷ Install room kind code) ok r e = nobody_registered h ok.0 r (not_added h room r code kind e).1
 nobody_registered (h ▷ CheckIn party room number code) ok r e =
     ap (λ b. when b (λ _. Some party) (registered h r)) (apart_rooms h room r (may_follow h (CheckIn party room number code) ok).0 e)
@@ -46,7 +48,7 @@ nobody_registered (h ▷ CheckOut party) ok r e = ap (leaves party) (nobody_regi
 nobody_registered (h ▷ _) ok r e = nobody_registered h ok.0 r e
 
 pub nothing_noted : (h : History) → Reached h → (r : ℕ) → is_room h r ≡ false → notes h r ≡ []
-nothing_noted (start t) ok r e = subst (λ z. notes (start z) r ≡ []) (sym ok) refl
+nothing_noted (start t) ok r e = nothing_noted_at_start t ok r e
 nothing_noted (h ▷ Install room kind code) ok r e = nothing_noted h ok.0 r (not_added h room r code kind e).1
 nothing_noted (h ▷ Entered room count number link at) ok r e =
     let note : Note = record { room = room; count = count; act = act.Entered number link; day = at.day; second = at.second } in

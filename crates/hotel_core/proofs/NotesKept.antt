@@ -18,11 +18,7 @@ use Rattle.hotel_core.proofs.Inserted.{found_inserted}
 use Rattle.hotel_core.proofs.Pairs.{pair_cmp_total, pair_is}
 use Rattle.hotel_core.proofs.Tests.{eq_from}
 use Rattle.hotel_core.proofs.Grown.{may_follow}
-
--- the first of some notes
-abbrev pub first_note : List Note → Option Note
-first_note [] = None
-first_note (note ∷ later) = Some note
+use Rattle.hotel_core.proofs.StartNotes.{first_note, nothing_left, note_kept_at_start}
 
 -- how a note stands, by the one of its count
 abbrev pub standing_on : Option Note → ℕ → Note → Standing
@@ -31,10 +27,6 @@ standing_on None taken note = if note.count == taken + 1 then Next else After (t
 
 eq_suc : (a b : ℕ) → (suc a == suc b) ≡ (a == b)
 eq_suc a b = grind (arith, nat_tests)
-
-nothing_left : (k : ℕ) → first_note (drop k []) ≡ None
-nothing_left zero = refl
-nothing_left (suc k) = refl
 
 -- one more note comes after those that are there
 first_more : (note : Note) (xs : List Note) (k : ℕ) → cond (length xs == k) (Some note) (first_note (drop k xs)) ≡ first_note (drop k (xs ++ note ∷ []))
@@ -62,7 +54,7 @@ kept_more h note r k n ih =
 
 -- The note of a room's count k + 1 is the first after k notes there.
 pub note_kept : (h : History) → Reached h → (r k : ℕ) → lookup (is_at (pair_cmp (r, k + 1))) (all_notes h) ≡ first_note (drop k (notes h r))
-note_kept (start t) ok r k = subst (λ z. lookup (is_at (pair_cmp (r, k + 1))) (all_notes (start z)) ≡ first_note (drop k (notes (start z) r))) (sym ok) (sym (nothing_left k))
+note_kept (start t) ok r k = note_kept_at_start t ok r k
 note_kept (h ▷ Entered room count number link at) ok r k =
     kept_more h (record { room = room; count = count; act = act.Entered number link; day = at.day; second = at.second }) r k
     (may_follow h (Entered room count number link at) ok).0 (note_kept h ok.0 r k)

@@ -16,7 +16,8 @@ use Rattle.hotel_core.specs.Stays.{stays, in_state, now_is}
 use Rattle.hotel_core.specs.Run.{Reached}
 use Rattle.hotel_core.specs.CodeLaws.{CardsCount, StaysCount}
 use Rattle.hotel_core.proofs.Counting.{counts_more, next_is_free}
-use Rattle.hotel_core.proofs.Grown.{at_start, may_follow}
+use Rattle.hotel_core.proofs.Grown.{may_follow}
+use Rattle.hotel_core.proofs.StartNumbers.{cards_count_at_start, stays_count_at_start}
 
 keys_by : (b : Bool) (e : ℕ × Stay) (s : Stay) (es later : List (ℕ × Stay)) → keys_of later ≡ keys_of es → keys_of (cond b ((e.0, s) ∷ es) (e ∷ later)) ≡ e.0 ∷ keys_of es
 keys_by true e s es later same = refl
@@ -40,7 +41,7 @@ counted_still : (party : ℕ) (to : StayState) (es : List (ℕ × Stay)) → cou
 counted_still party to es up = ap (λ ks. count_up 1 ks) (same_keys party to es) ∙ up
 
 pub stays_count : (h : History) → Reached h → StaysCount h
-stays_count (start t) ok = at_start StaysCount t ok refl
+stays_count (start t) ok = stays_count_at_start t ok
 stays_count (h ▷ Reserved party guest kind arrive depart) ok =
     (counts_more (stays h) party (record { party = party; guest = guest; kind = kind; arrive = arrive; depart = depart; state = state.Booked })
     (stays_count h ok.0) (may_follow h (Reserved party guest kind arrive depart) ok).1).0
@@ -55,7 +56,7 @@ spare_counts (Some link) number party all n up = (counts_more all number (card_o
 spare_counts None number party all n up = up
 
 pub cards_count : (h : History) → Reached h → CardsCount h
-cards_count (start t) ok = at_start CardsCount t ok refl
+cards_count (start t) ok = cards_count_at_start t ok
 cards_count (h ▷ CheckIn party room number code) ok =
     (counts_more (cards h) number (card_of number party (link_to h room code)) (cards_count h ok.0) (may_follow h (CheckIn party room number code) ok).5).0
 cards_count (h ▷ Transfer party room number code) ok =

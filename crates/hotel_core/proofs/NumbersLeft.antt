@@ -37,7 +37,9 @@ use Rattle.hotel_core.proofs.Counting.{counts_more}
 use Rattle.hotel_core.proofs.CodeLists.{length_more}
 use Rattle.hotel_core.proofs.Numbering.{cards_count, stays_count, same_length}
 use Rattle.hotel_core.proofs.RoomCodes.{others_have_none}
-use Rattle.hotel_core.proofs.Grown.{at_start, may_follow}
+use Rattle.hotel_core.proofs.Grown.{may_follow}
+use Rattle.hotel_core.proofs.StartNumbers.{cards_fit_at_start, stays_fit_at_start}
+use Rattle.hotel_core.proofs.StartLedger.{codes_fit_at_start}
 
 -- an event that uses a number finds one left
 abbrev pub HasNumber : History → Event → Type 0
@@ -114,7 +116,7 @@ spare_fits None h party number ok n left few = few
 
 -- There are at most as many cards as numbers.
 pub cards_fit : (h : History) → Reached h → CardsFit h
-cards_fit (start t) ok = at_start CardsFit t ok (omega arith)
+cards_fit (start t) ok = cards_fit_at_start t ok
 cards_fit (h ▷ event.CheckIn party room number code) ok =
     fits_more (length (cards h)) _ (one_more_card h ok.0 number (card_of number party (link_to h room code)) (may_follow h (event.CheckIn party room number code) ok).5) (has_number h (event.CheckIn party room number code) ok)
 cards_fit (h ▷ event.Transfer party room number code) ok =
@@ -125,7 +127,7 @@ cards_fit (h ▷ _) ok = cards_fit h ok.0
 
 -- There are at most as many stays as numbers.
 pub stays_fit : (h : History) → Reached h → StaysFit h
-stays_fit (start t) ok = at_start StaysFit t ok (omega arith)
+stays_fit (start t) ok = stays_fit_at_start t ok
 stays_fit (h ▷ event.Reserved party guest kind arrive depart) ok =
     fits_more (length (stays h)) _
     (counts_more (stays h) party (record { party = party; guest = guest; kind = kind; arrive = arrive; depart = depart; state = state.Booked }) (stays_count h ok.0) (may_follow h (event.Reserved party guest kind arrive depart) ok).1).1
@@ -150,7 +152,7 @@ with_spare_more None h party number ok n = omega arith
 
 -- A room has at most one code more than there are cards.
 pub codes_fit : (h : History) → Reached h → CodesFit h
-codes_fit (start t) ok r = at_start CodesFit t ok (λ s. omega arith) r
+codes_fit (start t) ok r = codes_fit_at_start t ok r
 codes_fit (h ▷ event.Install room kind code) ok r =
     first_fits (room == r) (issued h r) code (length (cards h))
     (λ t. (others_have_none h ok.0 r (ap (is_room h) (sym (eq_from room r t)) ∙ (may_follow h (event.Install room kind code) ok).1)).0) (codes_fit h ok.0 r)

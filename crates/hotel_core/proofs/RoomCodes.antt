@@ -12,7 +12,8 @@ use Rattle.hotel_core.specs.Run.{Reached}
 use Rattle.hotel_core.specs.CodeLaws.{HasCodes, RoomsHaveCodes, OthersHaveNone}
 use Rattle.hotel_core.proofs.Tests.{eq_from, or_true, or_false, not_both}
 use Rattle.hotel_core.proofs.TableKeys.{key_inserted}
-use Rattle.hotel_core.proofs.Grown.{at_start, may_follow, not_here}
+use Rattle.hotel_core.proofs.Grown.{may_follow, not_here}
+use Rattle.hotel_core.proofs.StartLedger.{rooms_have_codes_at_start, others_have_none_at_start}
 
 -- one more code at another room
 no_code_here : (b : Bool) (h : History) (code r : ℕ) → b ≡ false → issued h r ≡ [] → when b (and_last code) (issued h r) ≡ []
@@ -26,7 +27,7 @@ issue_elsewhere h room code r t f none =
 
 -- Where a room isn't there no code was issued, none was passed, and none is awaited.
 pub others_have_none : (h : History) → Reached h → OthersHaveNone h
-others_have_none (start t) ok r e = at_start OthersHaveNone t ok (λ r e. (refl, refl, refl)) r e
+others_have_none (start t) ok r e = others_have_none_at_start t ok r e
 others_have_none (h ▷ Install room kind code) ok r e =
     let f = or_false (room == r) (is_room h r) (sym (key_inserted (rooms h) room kind r) ∙ e) in
     let none = others_have_none h ok.0 r f.1 in
@@ -65,7 +66,7 @@ first_code false c xs t = not_both false t refl
 
 -- A room that is there has a code.
 pub rooms_have_codes : (h : History) → Reached h → RoomsHaveCodes h
-rooms_have_codes (start t) ok r e = at_start RoomsHaveCodes t ok (λ r e. not_both false e refl) r e
+rooms_have_codes (start t) ok r e = rooms_have_codes_at_start t ok r e
 rooms_have_codes (h ▷ Install room kind code) ok r e =
     elim (or_true (room == r) (is_room h r) (sym (key_inserted (rooms h) room kind r) ∙ e)) [
       | inl t ↦ first_code (room == r) code (issued h r) t

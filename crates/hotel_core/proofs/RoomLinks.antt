@@ -17,8 +17,9 @@ use Rattle.hotel_core.specs.CodeLaws.{IsLinkAt, IsLink, CardsHaveLinks, PartiesH
 use Rattle.hotel_core.proofs.Tests.{eq_from, eq_self}
 use Rattle.hotel_core.proofs.TableKeys.{row_inserted}
 use Rattle.hotel_core.proofs.CodeLists.{last_split}
-use Rattle.hotel_core.proofs.Grown.{at_start, may_follow}
+use Rattle.hotel_core.proofs.Grown.{may_follow}
 use Rattle.hotel_core.proofs.RoomCodes.{rooms_have_codes, others_have_none}
+use Rattle.hotel_core.proofs.StartLinks.{cards_have_links_at_start, parties_have_links_at_start, newest_are_last_at_start}
 
 -- neighbours stay neighbours
 still_at : (b : Bool) (new : ℕ) (codes : List ℕ) (link : Link) → IsLinkAt codes link → IsLinkAt (when b (and_last new) codes) link
@@ -54,7 +55,7 @@ given_by false h room new was link f ih e = still_link h room new link (ih e)
 
 -- The link that a party was given last is one.
 pub parties_have_links : (h : History) → Reached h → PartiesHaveLinks h
-parties_have_links (start t) ok party link e = at_start PartiesHaveLinks t ok (λ p l n. absurd (let w : ◌≡◌ {A = Option Link} None (Some l) = n in cc)) party link e
+parties_have_links (start t) ok party link e = parties_have_links_at_start t ok party link e
 parties_have_links (h ▷ Install room kind code) ok party link e = still_link h room code link (parties_have_links h ok.0 party link e)
 parties_have_links (h ▷ CheckIn p room number code) ok party link e =
     given_by (p == party) h room code (link_of_party h party) link (rooms_have_codes h ok.0 room (may_follow h (CheckIn p room number code) ok).0) (parties_have_links h ok.0 party link) e
@@ -82,7 +83,7 @@ spared None h party number n card had ih e = ih n card e
 
 -- The link of each card is one.
 pub cards_have_links : (h : History) → Reached h → CardsHaveLinks h
-cards_have_links (start t) ok n card e = at_start CardsHaveLinks t ok (λ m c q. absurd (let w : ◌≡◌ {A = Option Card} None (Some c) = q in cc)) n card e
+cards_have_links (start t) ok n card e = cards_have_links_at_start t ok n card e
 cards_have_links (h ▷ Install room kind code) ok n card e = still_link h room code card.link (cards_have_links h ok.0 n card e)
 cards_have_links (h ▷ CheckIn party room number code) ok n card e =
     carded h party room number code n card (rooms_have_codes h ok.0 room (may_follow h (CheckIn party room number code) ok).0) (cards_have_links h ok.0) e
@@ -110,7 +111,7 @@ installed_by false h room new r link none l = l
 
 -- The newest link of a room is its last two codes.
 pub newest_are_last : (h : History) → Reached h → NewestAreLast h
-newest_are_last (start t) ok r link e = at_start NewestAreLast t ok (λ s l n. absurd (let w : ◌≡◌ {A = Option Link} None (Some l) = n in cc)) r link e
+newest_are_last (start t) ok r link e = newest_are_last_at_start t ok r link e
 newest_are_last (h ▷ Install room kind code) ok r link e =
     installed_by (room == r) h room code r link
     (λ t. (others_have_none h ok.0 r (ap (is_room h) (sym (eq_from room r t)) ∙ (may_follow h (Install room kind code) ok).1)).0)

@@ -1,5 +1,5 @@
 -- The numbers of rooms: none stands twice, and what a look-up of a room finds.
-use Rattle.std.proofs.Common.{ℕ, ◌≡◌, true, false, Some, None, List, [], ◌∷◌, ap, sym, ◌∙◌, subst}
+use Rattle.std.proofs.Common.{ℕ, ◌≡◌, true, false, Some, None, List, [], ◌∷◌, ap, ◌∙◌}
 use Rattle.std.specs.Prelude.{◌==◌, option_map}
 use Rattle.std.specs.Ordering.{nat_cmp, match_ordering}
 use Rattle.std.specs.declared.cmp.Ordering.{Ordering}
@@ -20,6 +20,7 @@ use Rattle.hotel_core.proofs.Numbered.{at_mapped}
 use Rattle.hotel_core.proofs.Grown.{may_follow}
 use Rattle.hotel_core.proofs.Tests.{or_false}
 use Rattle.hotel_core.proofs.TableKeys.{row_of_key, no_key}
+use Rattle.hotel_core.proofs.StartRows.{rooms_once_at_start}
 
 pub apart_from : (n : ℕ) (es : List (ℕ × List ℕ)) → is_one_of n (keys_of es) ≡ false → ApartFrom n es
 apart_from n [] h = tt
@@ -47,7 +48,7 @@ once_inserted k v (e ∷ es) n a = once_inserted_by (nat_cmp k e.0) k v e es n a
 
 -- No room's number stands twice.
 pub rooms_once : (h : History) → Reached h → RoomsOnce (rooms h)
-rooms_once (start t) ok = subst (λ z. RoomsOnce (rooms (start z))) (sym ok) tt
+rooms_once (start t) ok = rooms_once_at_start t ok
 rooms_once (h ▷ Install room kind code) ok =
     once_inserted room kind (rooms h) (rooms_once h ok.0) (apart_from room (rooms h) (may_follow h (Install room kind code) ok).1)
 rooms_once (h ▷ _) ok = rooms_once h ok.0

@@ -4,7 +4,6 @@ use Rattle.std.specs.Prelude.{◌&&◌, nat_le, nat_lt, is_some, bytes_eq}
 use Rattle.std.specs.List.{count_by}
 use Rattle.std.specs.Map.{values_of}
 use Rattle.std.proofs.lemmas.Bool.{leb-false}
-use Rattle.std.proofs.lemmas.Bool.Decides.{nat_tests}
 use Rattle.std.proofs.lemmas.Slice.Eq.{bytes_eq-Decides}
 use Rattle.hotel_nights.specs.declared.stay.Stay.{Stay}
 use Rattle.hotel_nights.specs.declared.stay.StayState.{StayState}
@@ -20,9 +19,14 @@ use Rattle.hotel_core.specs.Run.{Reached}
 use Rattle.hotel_core.specs.Headline.{NoOversell}
 use Rattle.hotel_core.proofs.Tests.{and_true, not_both}
 use Rattle.hotel_core.proofs.TableKeys.{no_key}
-use Rattle.hotel_core.proofs.Grown.{at_start, may_follow}
+use Rattle.hotel_core.proofs.Grown.{may_follow}
 use Rattle.hotel_core.proofs.Numbering.{next_party_free}
 use Rattle.hotel_core.proofs.StayCounts.{count_inserted, count_changed, none_passes}
+use Rattle.hotel_core.proofs.StartRows.{rooms_of_start}
+use Rattle.hotel_core.proofs.StartRules.{le_from, lt_from}
+use Rattle.hotel_core.specs.RowsOf.{rows_of}
+use Rattle.hotel_core.specs.SoundRooms.{stays_on, rooms_with}
+use Rattle.hotel_core.proofs.KindCounts.{rooms_counted}
 
 -- on no night are more stays of a kind than rooms
 abbrev pub RoomsSuffice : History → Type 0
@@ -30,12 +34,6 @@ RoomsSuffice h = (kind : List ℕ) (d : ℕ) → count_by (takes kind d) (values
 
 same_kind : (a b : List ℕ) → bytes_eq a b ≡ true → a ≡ b
 same_kind a b e = (bytes_eq-Decides a b).0 e
-
-le_from : (a b : ℕ) → nat_le a b ≡ true → a ≤ b
-le_from a b e = grind (arith, nat_tests)
-
-lt_from : (a b : ℕ) → nat_lt a b ≡ true → a < b
-lt_from a b e = grind (arith, nat_tests)
 
 booked_stands : (s : StayState) → is_booked_state s ≡ true → is_standing s ≡ true
 booked_stands state.Booked e = refl
@@ -87,7 +85,7 @@ more_rooms true taken rooms_there rooms_now e le = omega arith
 more_rooms false taken rooms_there rooms_now e le = omega arith
 
 pub rooms_suffice : (h : History) → Reached h → RoomsSuffice h
-rooms_suffice (start t) ok kind d = at_start RoomsSuffice t ok (λ k e. omega arith) kind d
+rooms_suffice (start t) ok kind d = subst (λ n. count_by (takes kind d) (values_of t.stays) ≤ n) (rooms_of_start t kind) (ok.stay_nights kind d)
 rooms_suffice (h ▷ Install room k code) ok kind d =
     more_rooms (bytes_eq k kind) _ (rooms_of h kind) _ (count_inserted (λ x. bytes_eq x kind) (rooms h) room k (no_key (rooms h) room (may_follow h (Install room k code) ok).1)) (rooms_suffice h ok.0 kind d)
 rooms_suffice (h ▷ Reserved party guest k arrive depart) ok kind d =
@@ -112,3 +110,7 @@ rooms_suffice (h ▷ _) ok kind d = rooms_suffice h ok.0 kind d
 pub none_oversold : NoOversell
 unfolding nights_taken
 none_oversold h ok kind d = rooms_suffice h ok kind d
+
+-- and of the rows
+pub rows_not_oversold : (h : History) → Reached h → (kind : List ℕ) (d : ℕ) → stays_on (rows_of h) kind d ≤ rooms_with (rows_of h) kind
+rows_not_oversold h ok kind d = subst (λ n. stays_on (rows_of h) kind d ≤ n) (sym (rooms_counted h kind)) (rooms_suffice h ok kind d)

@@ -23,7 +23,7 @@ use Rattle.hotel_core.specs.CodeLaws.{SecuredRoomsFit}
 use Rattle.hotel_core.proofs.Tests.{eq_from, eq_self, and_true, either_way, not_both}
 use Rattle.hotel_core.proofs.TableKeys.{key_inserted}
 use Rattle.hotel_core.proofs.CodeLists.{last_more}
-use Rattle.hotel_core.proofs.Grown.{at_start, may_follow}
+use Rattle.hotel_core.proofs.Grown.{may_follow}
 use Rattle.hotel_core.proofs.RoomCodes.{rooms_have_codes}
 use Rattle.hotel_core.proofs.CodePlaces.{same_place}
 use Rattle.hotel_core.proofs.RoomLinks.{ends_with_current, newest_are_last}
@@ -33,6 +33,7 @@ use Rattle.hotel_core.proofs.CodesFound.{entered_in_order}
 use Rattle.hotel_core.proofs.NewestLinks.{newest_is}
 use Rattle.hotel_core.proofs.InsideRooms.{came_in, left_out, nobody_in, one_of_these}
 use Rattle.hotel_core.proofs.CardParties.{card_kept, card_kept_spare, cards_one_party, guests_have_cards}
+use Rattle.hotel_core.proofs.StartSecured.{secured_rooms_fit_at_start}
 
 -- a room that is there awaits nothing, and the cards inside have its newest link
 abbrev pub IsFit : History → ℕ → Type 0
@@ -145,7 +146,7 @@ fit_issue false h party room number code r ok next e ih =
 
 -- A secured room awaits no code, and each card inside has its newest link.
 pub secured_rooms_fit : (h : History) → Reached h → SecuredRoomsFit h
-secured_rooms_fit (start t) ok r e = at_start SecuredRoomsFit t ok (λ s g. not_both false g refl) r e
+secured_rooms_fit (start t) ok r e = secured_rooms_fit_at_start t ok r e
 secured_rooms_fit (h ▷ Install room kind code) ok r e =
     let fit = secured_rooms_fit h ok.0 r (was_secured (room == r) (secured h r) e).1 in
     (key_inserted (rooms h) room kind r ∙ or_there (room == r) (is_room h r) fit.0, fit.1, fit.2)

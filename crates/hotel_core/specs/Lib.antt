@@ -29,6 +29,7 @@ pub mod Reads
 pub mod Finds
 pub mod Issuing
 pub mod Noting
+pub mod Stepping
 pub mod Headline
 pub mod Lists
 pub mod ListsOnRows
@@ -39,3 +40,4 @@ pub mod CodeLaws
 pub mod CodeTable
 pub mod Tables
 pub mod ListBooks
+pub mod InsideTable

@@ -5,7 +5,8 @@ use Rattle.hotel_core.specs.declared.command.Command.{Command}
 use Rattle.hotel_core.specs.declared.reply.Reply.{Reply}
 use Rattle.hotel_core.specs.declared.reply.Reply.TheVariants as reply
 use Rattle.hotel_core.specs.declared.reply.Refusal.TheVariants.{Memory, Store}
-use Rattle.hotel_core.specs.Rows.{Rows, no_rows}
+use Rattle.hotel_core.specs.Rows.{Rows}
+use Rattle.hotel_core.specs.Sound.{IsSound}
 use Rattle.hotel_core.specs.History.{History, start, ◌▷◌}
 use Rattle.hotel_core.specs.Event.{Event}
 use Rattle.hotel_core.specs.Ranges.{InRange}
@@ -14,9 +15,9 @@ use Rattle.keycard_rules.specs.Draw.{words, past, MovedAtMost}
 use Rattle.hotel_core.specs.Outcome.{Outcome, grown}
 use Rattle.hotel_core.specs.Answer.{answer_to}
 
--- A desk starts with empty books.
+-- A desk starts with sound rows.
 abbrev pub IsStart : Rows → Type 0
-IsStart t = t ≡ no_rows
+IsStart t = IsSound t
 
 -- The history can be reached: the desk can start so, each event was accepted after those before it, and its values are in their ranges.
 abbrev pub Reached : History → Type 0

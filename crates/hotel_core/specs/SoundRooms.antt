@@ -1,17 +1,18 @@
 -- The rules of sound rows, first part: the day, kinds, rooms and stays. Each rule is a test of all rows.
 use Rattle.std.specs.Prelude.{ℕ, Bool, true, false, List, [], ◌∷◌, ◌+◌, ◌-◌, ◌==◌, ◌&&◌, ◌||◌, not, nat_le, nat_lt, length, is_some, bytes_eq, count_by}
-use Rattle.std.specs.Str.{is_utf8, chars}
 use Rattle.std.specs.Ordering.{is_lt}
 use Rattle.std.specs.declared.cmp.Ordering.{Ordering}
-use Rattle.std.specs.List.{list_any, list_all}
+use Rattle.std.specs.List.{list_all}
 use Rattle.std.specs.Map.{keys_of, values_of}
 use Rattle.hotel_nights.specs.declared.stay.Stay.{Stay}
 use Rattle.hotel_core.specs.declared.rows.RoomRow.{RoomRow}
-use Rattle.hotel_core.specs.Words.{is_that, said_of, last_of}
-use Rattle.hotel_core.specs.Rows.{Rows, at_number, first_of}
+use Rattle.hotel_core.specs.Words.{is_that, said_of}
+use Rattle.hotel_core.specs.Rows.{Rows, at_number}
 use Rattle.hotel_core.specs.Lookups.{has_kind}
 use Rattle.hotel_core.specs.Cases.{room_of_state}
 use Rattle.hotel_nights.specs.FullNight.{takes}
+use Rattle.hotel_nights.specs.Guests.{is_guest}
+use Rattle.hotel_nights.specs.Kinds.{is_kind}
 
 -- each key comes before the next one
 abbrev pub are_in_order : {K : Type 0} → (K → K → Ordering) → List K → Bool
@@ -37,13 +38,9 @@ day_in_range rows = said_of rows.day true is_day
 abbrev pub day_before_kinds : Rows → Bool
 day_before_kinds rows = is_some rows.day || (length rows.kinds == 0)
 
--- a letter A to Z or a digit
-abbrev pub is_kind_byte : ℕ → Bool
-is_kind_byte b = (nat_le 48 b && nat_le b 57) || (nat_le 65 b && nat_le b 90)
-
 -- each kind reads as a kind code: 1 to 8 letters or digits
 abbrev pub kinds_read : Rows → Bool
-kinds_read rows = list_all (λ kind. nat_le 1 (length kind) && nat_le (length kind) 8 && list_all is_kind_byte kind) rows.kinds
+kinds_read rows = list_all is_kind rows.kinds
 
 -- ---- room: rules of all rooms
 
@@ -68,10 +65,13 @@ codes_few rows = each_room rows (λ row. nat_le row.codes (length rows.cards + 1
 abbrev pub note_counts : Rows → Bool
 note_counts rows = each_room rows (λ row. nat_le row.notes 9999999)
 
+-- the party is in house at the row's room, and booked its kind
+abbrev pub is_home_of : Rows → RoomRow → ℕ → Bool
+is_home_of rows row party = said_of (at_number rows.stays party) false (λ stay. is_that (room_of_state stay.state) row.room && bytes_eq row.kind stay.kind)
+
 -- a room's party is in house at this room, and booked its kind
 abbrev pub parties_in_house : Rows → Bool
-parties_in_house rows = each_room rows (λ row. said_of row.party true (λ party. said_of (at_number rows.stays party) false (λ stay.
-    is_that (room_of_state stay.state) row.room && bytes_eq stay.kind row.kind)))
+parties_in_house rows = each_room rows (λ row. said_of row.party true (is_home_of rows row))
 
 -- a secured room's lock holds its last code, which isn't its first
 abbrev pub secured_hold_last : Rows → Bool
@@ -86,14 +86,9 @@ each_stay rows rule = list_all (λ (e : ℕ × Stay). rule e.1) rows.stays
 abbrev pub stay_numbers : Rows → Bool
 stay_numbers rows = list_all (λ (e : ℕ × Stay). e.1.party == e.0) rows.stays && count_up 1 (keys_of rows.stays) && nat_le (length rows.stays) 9999999
 
--- a control character
-abbrev pub is_control : ℕ → Bool
-is_control c = nat_lt c 32 || (nat_le 127 c && nat_le c 159)
-
--- each guest reads: 1 to 60 bytes of UTF-8, no control character, no space first or last
+-- each guest reads as a guest's name: 1 to 60 bytes of UTF-8, no control character, no space first or last
 abbrev pub guests_read : Rows → Bool
-guests_read rows = each_stay rows (λ stay. nat_le 1 (length stay.guest) && nat_le (length stay.guest) 60 && is_utf8 stay.guest
-    && not (list_any is_control (chars stay.guest)) && not (first_of stay.guest == 32) && not (last_of stay.guest == 32))
+guests_read rows = each_stay rows (λ stay. is_guest stay.guest)
 
 abbrev pub stay_kinds_there : Rows → Bool
 stay_kinds_there rows = each_stay rows (λ stay. has_kind rows stay.kind)
@@ -102,9 +97,13 @@ stay_kinds_there rows = each_stay rows (λ stay. has_kind rows stay.kind)
 abbrev pub stay_days : Rows → Bool
 stay_days rows = each_stay rows (λ stay. is_day stay.depart && nat_lt stay.arrive stay.depart && nat_le stay.depart (stay.arrive + 90))
 
+-- the room is there, and has this party
+abbrev pub has_party : Rows → ℕ → ℕ → Bool
+has_party rows party room = said_of (at_number rows.rooms room) false (λ row. is_that row.party party)
+
 -- the room of a stay in house has its party
 abbrev pub stay_rooms : Rows → Bool
-stay_rooms rows = each_stay rows (λ stay. said_of (room_of_state stay.state) true (λ room. said_of (at_number rows.rooms room) false (λ row. is_that row.party stay.party)))
+stay_rooms rows = each_stay rows (λ stay. said_of (room_of_state stay.state) true (has_party rows stay.party))
 
 -- how many open stays of a kind take the night of a day, and how many rooms the kind has
 abbrev pub stays_on : Rows → List ℕ → ℕ → ℕ

@@ -1,8 +1,9 @@
 //! The business day.
-ghost use Rattle.std.specs.Prelude.{◌≡◌, ◌≤◌, ℕ, false, true};
+ghost use Rattle.std.specs.Prelude.{◌≡◌, false};
 ghost use Rattle.rand_core.specs.Stream.{Stream};
 ghost use Rattle.keycard_rules.specs.Draw.{words};
-ghost use Rattle.hotel_core.specs.Finds.{has_failed, reply_of};
+ghost use Rattle.hotel_core.specs.Finds.{reply_of};
+ghost use Rattle.hotel_core.specs.Run.{is_failed};
 ghost use Rattle.hotel_core.specs.OnRows.{outcome_on};
 ghost use Rattle.hotel_core.specs.StepOnRows.{StepsAs};
 ghost use Rattle.hotel_core.specs.declared.command.Command.TheVariants as command;
@@ -17,7 +18,7 @@ use hotel_nights::Day;
 /// Sets the first business day.
 pub(crate) fn begin<B: Books>(books: &mut B, day: Day) -> Result<Reply, Refusal>
     ensures steps { (source : Stream) → StepsAs B.is_clean B.rows B.failures B.never_fails false (λ rows. outcome_on rows (words 64 source) (command.Begin day)) books.old books.new source source (reply_of result) }
-    ensures sure { B.never_fails → has_failed result ≡ false }
+    ensures sure { B.never_fails → is_failed (reply_of result) ≡ false }
 {
     if day_if_set(books)?.is_some() {
         return Err(Refusal::AlreadyBegun);
@@ -28,7 +29,7 @@ pub(crate) fn begin<B: Books>(books: &mut B, day: Day) -> Result<Reply, Refusal>
 /// Moves the business day on by one.
 pub(crate) fn next_day<B: Books>(books: &mut B) -> Result<Reply, Refusal>
     ensures steps { (source : Stream) → StepsAs B.is_clean B.rows B.failures B.never_fails false (λ rows. outcome_on rows (words 64 source) command.NextDay) books.old books.new source source (reply_of result) }
-    ensures sure { B.never_fails → has_failed result ≡ false }
+    ensures sure { B.never_fails → is_failed (reply_of result) ≡ false }
 {
     let day = today(books)?;
     let Some(next) = day.plus(1) else {

@@ -1,6 +1,7 @@
 //! Cards that open a door from outside.
-ghost use Rattle.std.specs.Prelude.{◌≡◌, ◌+◌, true, false};
+ghost use Rattle.std.specs.Prelude.{◌≡◌, ◌+◌, true, false, is_some};
 ghost use Rattle.rand_core.specs.Stream.{Stream};
+ghost use Rattle.keycard_rules.specs.Lock.{turn};
 ghost use Rattle.keycard_rules.specs.declared.note.Act.TheVariants as act;
 ghost use Rattle.hotel_core.specs.Finds.{reply_of};
 ghost use Rattle.hotel_core.specs.Noting.{IsUntaken, opened_on, secured_by};
@@ -17,7 +18,14 @@ use crate::lock_search::{cards_inside, is_inside, issued_place, same_link};
 use crate::making::make;
 use crate::reply::{Refusal, Reply};
 use crate::rows::RoomRow;
-use keycard_rules::{CardNo, Link, LockNote, turn};
+use keycard_rules::{CardNo, Code, Link, LockNote, turn};
+
+/// Whether a lock that holds a code opens to a card of the link.
+fn opens(held: Code, link: &Link) -> bool
+    ensures { result ≡ is_some (turn held link.now) }
+{
+    turn(held, link).is_some()
+}
 
 /// Whether a room is secured after an entry by the code at a place, where these cards are inside.
 fn is_secured_by(row: &RoomRow, place: u32, cards: &[CardNo]) -> bool
@@ -82,7 +90,7 @@ pub(crate) fn enter<B: Books>(
         return Err(Refusal::CardDiffers);
     }
     let held = code_in(books, note.room(), row.lock_place)?;
-    if turn(held, link).is_none() {
+    if !opens(held, link) {
         return Err(Refusal::LockShut);
     }
     open(books, note, row, number, link)

@@ -2,7 +2,7 @@
 ghost use Rattle.std.specs.Prelude.{◌≡◌, false};
 ghost use Rattle.rand_core.specs.Stream.{Stream};
 ghost use Rattle.hotel_core.specs.Fits.{HasItsRows, takes_memory};
-ghost use Rattle.hotel_core.specs.Finds.{has_failed, reply_of};
+ghost use Rattle.hotel_core.specs.Finds.{reply_of};
 ghost use Rattle.hotel_core.specs.Outcome.{accepted};
 ghost use Rattle.hotel_core.specs.Run.{is_failed};
 ghost use Rattle.hotel_core.specs.StepOnRows.{StepsAs};
@@ -17,7 +17,7 @@ pub(crate) fn make<B: Books>(books: &mut B, change: Change, reply: Reply) -> Res
     requires has_its_rows { B.is_clean books.old → HasItsRows change (B.rows books.old) }
     requires is_answer { is_failed reply ≡ false }
     ensures steps { (source : Stream) → StepsAs B.is_clean B.rows B.failures B.never_fails false (λ _. accepted reply change) books.old books.new source source (reply_of result) }
-    ensures sure { B.never_fails → takes_memory change ≡ false → has_failed result ≡ false }
+    ensures sure { B.never_fails → takes_memory change ≡ false → is_failed (reply_of result) ≡ false }
 {
     match books.apply(change) {
         Ok(()) => Ok(reply),

@@ -5,7 +5,7 @@
 ghost use Rattle.std.specs.Prelude.{◌≡◌, ℕ, ◌-◌, ◌^◌, ◌<◌, Some, None, false, IsSome, OnOk, OnErr, IsOk};
 ghost use Rattle.hotel_core.specs.declared.change.Change.TheVariants as change;
 ghost use Rattle.hotel_core.specs.Lookups.{room_at, code_place, note_at};
-ghost use Rattle.hotel_core.specs.Change.{made, moved, codes_of};
+ghost use Rattle.hotel_core.specs.Change.{made, codes_of};
 ghost use Rattle.hotel_core.specs.Fits.{HasItsRows, takes_memory};
 
 use crate::change::{Change, InsideMove};
@@ -13,30 +13,7 @@ use crate::row_changes::{codes_issued, issue_at, leave, leave_any, note_at, set_
 use crate::rows::{CodeRow, RoomRow};
 use crate::tables::Tables;
 use hotel_nights::{Day, KindCode, Stay, StayState};
-use keycard_rules::{Card, CardNo, Code, LockNote, Memory, PartyNo, RoomNo};
-use std::collections::BTreeSet;
-
-/// A card comes to a room, goes from it, or neither.
-fn move_inside(
-    inside: &mut BTreeSet<(RoomNo, CardNo)>,
-    room: RoomNo,
-    insides: InsideMove,
-) -> Result<(), Memory>
-    ensures ok { OnOk result (inside.new.keys ≡ moved insides room inside.old.keys) }
-    ensures err { OnErr result (inside.new.keys ≡ inside.old.keys) }
-{
-    match insides {
-        InsideMove::Same => Ok(()),
-        InsideMove::Goes(number) => {
-            inside.remove(&(room, number));
-            Ok(())
-        }
-        InsideMove::Comes(number) => match inside.insert((room, number)) {
-            Ok(_) => Ok(()),
-            Err(_) => Err(Memory),
-        },
-    }
-}
+use keycard_rules::{Card, Code, LockNote, Memory, PartyNo, RoomNo};
 
 impl Tables {
     /// Makes all of a change, or nothing.
@@ -83,7 +60,7 @@ impl Tables {
         self.day = Some(day);
     }
 
-    fn add_kind(&mut self, kind: KindCode) -> Result<(), Memory>
+    pub(crate) fn add_kind(&mut self, kind: KindCode) -> Result<(), Memory>
         ensures ok { OnOk result (self.new ≡ made (change.Kind kind) self.old) }
         ensures err { OnErr result (self.new ≡ self.old) }
     {
@@ -94,7 +71,12 @@ impl Tables {
     }
 
     /// Adds a room and its first code.
-    fn add_room(&mut self, room: RoomNo, kind: KindCode, code: Code) -> Result<(), Memory>
+    pub(crate) fn add_room(
+        &mut self,
+        room: RoomNo,
+        kind: KindCode,
+        code: Code,
+    ) -> Result<(), Memory>
         requires new_room { room_at self.old room ≡ None }
         requires new_code { code_place self.old code ≡ None }
         ensures ok { OnOk result (self.new ≡ made (change.Room room kind code) self.old) }
@@ -119,7 +101,7 @@ impl Tables {
         Ok(())
     }
 
-    fn add_stay(&mut self, stay: Stay) -> Result<(), Memory>
+    pub(crate) fn add_stay(&mut self, stay: Stay) -> Result<(), Memory>
         ensures ok { OnOk result (self.new ≡ made (change.Reserved stay) self.old) }
         ensures err { OnErr result (self.new ≡ self.old) }
     {
@@ -137,7 +119,12 @@ impl Tables {
     }
 
     /// Adds a new code and a card with it; the card's party comes to the room, and leaves another one where that is named.
-    fn issue(&mut self, card: &Card, room: RoomNo, leaves: Option<RoomNo>) -> Result<(), Memory>
+    pub(crate) fn issue(
+        &mut self,
+        card: &Card,
+        room: RoomNo,
+        leaves: Option<RoomNo>,
+    ) -> Result<(), Memory>
         requires there { IsSome (room_at self.old room) }
         requires few { codes_of self.old room < 2 ^ 32 - 1 }
         requires new_code { code_place self.old card.now.link.new_code ≡ None }
@@ -159,7 +146,7 @@ impl Tables {
         Ok(())
     }
 
-    fn add_card(&mut self, card: &Card) -> Result<(), Memory>
+    pub(crate) fn add_card(&mut self, card: &Card) -> Result<(), Memory>
         ensures ok { OnOk result (self.new ≡ made (change.Spare card.now) self.old) }
         ensures err { OnErr result (self.new ≡ self.old) }
     {
@@ -176,7 +163,7 @@ impl Tables {
         set_state(&mut self.stays, party, StayState::Done);
     }
 
-    fn add_note(
+    pub(crate) fn add_note(
         &mut self,
         note: &LockNote,
         lock_place: u32,
@@ -192,7 +179,7 @@ impl Tables {
         let Ok(_) = self.notes.insert((room, count), *note) else {
             return Err(Memory);
         };
-        let Ok(()) = move_inside(&mut self.inside, room, insides) else {
+        let Ok(()) = self.inside.change(room, insides) else {
             self.notes.remove(&(room, count));
             return Err(Memory);
         };

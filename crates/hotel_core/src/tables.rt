@@ -6,6 +6,7 @@ ghost use Rattle.hotel_core.specs.Rows.{Rows, no_rows, at_number};
 ghost use Rattle.hotel_core.specs.Lookups.{has_kind, room_at, codes_in, code_place, code_at, stay_at, stays_of_kind, card_at, inside_at, note_at, rooms_of_kind, number_after};
 
 use crate::code_table::CodeTable;
+use crate::inside_table::InsideTable;
 use crate::rows::{CodeRow, NextNumbers, RoomRow};
 use hotel_nights::{Day, KindCode, Stay};
 use keycard_rules::{Card, CardNo, Code, Count, LockNote, Number, PartyNo, RoomNo};
@@ -23,7 +24,7 @@ pub(crate) struct Tables {
     pub(crate) codes: CodeTable,
     pub(crate) stays: BTreeMap<PartyNo, Stay>,
     pub(crate) cards: BTreeMap<CardNo, Card>,
-    pub(crate) inside: BTreeSet<(RoomNo, CardNo)>,
+    pub(crate) inside: InsideTable,
     pub(crate) notes: BTreeMap<(RoomNo, Count), LockNote>,
 }
 
@@ -33,7 +34,7 @@ impl Model for Tables {
 
     ghost Value = { Rows };
 
-    ghost view = { λ t. record { day = t.day; kinds = t.kinds.keys; rooms = t.rooms.entries; codes = t.codes; stays = t.stays.entries; cards = t.cards.entries; inside = t.inside.keys; notes = t.notes.entries } };
+    ghost view = { λ t. record { day = t.day; kinds = t.kinds.keys; rooms = t.rooms.entries; codes = t.codes; stays = t.stays.entries; cards = t.cards.entries; inside = t.inside; notes = t.notes.entries } };
 
     ghost invariant = { λ t. LaterPlacesFree t.rooms.entries t.codes };
 }
@@ -60,7 +61,7 @@ impl Tables {
             codes: CodeTable::empty(alloc),
             stays: BTreeMap::new(alloc),
             cards: BTreeMap::new(alloc),
-            inside: BTreeSet::new(alloc),
+            inside: InsideTable::empty(alloc),
             notes: BTreeMap::new(alloc),
         }
     }
@@ -134,13 +135,7 @@ impl Tables {
     pub(crate) fn inside(&self, room: RoomNo) -> Result<Vec<CardNo>, AllocError>
         ensures { IfOk result (λ numbers. numbers.items ≡ inside_at self.now room) }
     {
-        let mut found = Vec::new(self.alloc);
-        for pair in &self.inside {
-            if pair.0 == room {
-                found.push(pair.1)?;
-            }
-        }
-        Ok(found)
+        self.inside.at(self.alloc, room)
     }
 
     pub(crate) fn note(&self, room: RoomNo, count: Count) -> Option<LockNote>

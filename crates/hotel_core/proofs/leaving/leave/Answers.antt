@@ -3,6 +3,7 @@ use Rattle.hotel_core.specs.declared.reply.Refusal.TheVariants as refusal
 use Rattle.hotel_core.specs.Notes.{same_link}
 use Rattle.hotel_core.specs.Words.{is_one_of}
 use Rattle.hotel_core.specs.Noting.{IsUntaken}
+use Rattle.hotel_core.specs.Outcome.{refused}
 use Rattle.hotel_core.proofs.Parts.{given, then_found, stopped, refuses, ends, only}
 use Rattle.hotel_core.proofs.leaving.leave.Goals as goal
 
@@ -13,7 +14,7 @@ returns-in_err-card g c = λ source.
 pub returns-then-not-same_link : goal.returns-then-not-same_link
 returns-then-not-same_link g c = λ source.
     let differ : same_link c.in_ok-card.card.link c.args.link.now ≡ false = sym c.same_link.ensures ∙ c.if-not-same_link.true in
-    refuses refusal.CardDiffers refl (then_found (given (IsUntaken c.args.note.now c.args.row.now) c.requires) c.in_ok-card.ensures) (λ k. rw (k.1, differ) refl)
+    refuses refusal.CardDiffers refl (then_found (given (IsUntaken c.args.note.now c.args.row.now) c.requires) c.in_ok-card.ensures) (λ k. rw (k.1, differ) (refl {a = refused refusal.CardDiffers}))
 
 pub returns-in_err-cards : goal.returns-in_err-cards
 returns-in_err-cards g c = λ source.
@@ -25,7 +26,7 @@ returns-then-not-is_inside g c = λ source.
     let same : same_link c.in_ok-card.card.link c.args.link.now ≡ true = sym c.same_link.ensures ∙ c.if-not-same_link.false in
     let away : is_one_of c.args.number c.in_ok-cards.cards.items ≡ false = ap (is_one_of c.args.number) (sym c.deref.ensures.value) ∙ sym c.is_inside.ensures ∙ c.if-not-is_inside.true in
     refuses refusal.NotInside refl (then_found (then_found (given (IsUntaken c.args.note.now c.args.row.now) c.requires) c.in_ok-card.ensures) (rw c.room.ensures at c.in_ok-cards.ensures))
-    (λ k. rw (k.0.1, same, only k.1, away) refl)
+    (λ k. rw (k.0.1, same, only k.1, away) (refl {a = refused refusal.NotInside}))
 
 pub returns : goal.returns
 returns g c = λ source.

@@ -2,6 +2,7 @@ use Rattle.std.proofs.Common.{None, refl, sym, ◌∙◌}
 use Rattle.hotel_core.specs.declared.reply.Refusal.TheVariants as refusal
 use Rattle.hotel_core.specs.declared.reply.Reply.TheVariants as reply
 use Rattle.hotel_core.specs.OnRows.{outcome_on}
+use Rattle.hotel_core.specs.Outcome.{refused}
 use Rattle.hotel_core.proofs.Parts.{begun, then_found, stopped, refuses, ends, only}
 use Rattle.hotel_core.proofs.NoteParts.{reported_there, says}
 use Rattle.hotel_core.proofs.noting.take_note.Goals as goal
@@ -33,7 +34,7 @@ pub returns-in-Some-2 : goal.returns-in-Some-2
 unfolding outcome_on
 returns-in-Some-2 g c = λ source.
     refuses refusal.Conflict refl (then_found (then_found (then_found begun c.in_ok-today.ensures.finds) (rw c.room.ensures at c.in_ok-row.ensures)) c.in_ok-kept.ensures)
-    (λ k. rw (k.0.0.1, k.0.1, only k.1 ∙ c.in-Some.is, sym c.if-same_note.ensures) refl)
+    (λ k. rw (k.0.0.1, k.0.1, only k.1 ∙ c.in-Some.is, sym c.if-same_note.ensures) (refl {a = refused refusal.Conflict}))
 
 pub returns-in-None : goal.returns-in-None
 returns-in-None g c = λ source.

@@ -1,6 +1,7 @@
 use Rattle.std.proofs.Common.{◌≡◌, ◌==◌, ◌&&◌, true, false, nat_lt, refl, sym, ◌∙◌}
 use Rattle.hotel_core.specs.declared.reply.Refusal.TheVariants as refusal
 use Rattle.hotel_core.specs.Noting.{IsUntaken}
+use Rattle.hotel_core.specs.Outcome.{refused}
 use Rattle.hotel_core.proofs.Parts.{given, then_found, stopped, halted, refuses, ends}
 use Rattle.hotel_core.proofs.NoteParts.{not_true, not_false}
 use Rattle.hotel_core.proofs.recoding.recode.Goals as goal
@@ -12,7 +13,7 @@ returns-in_err-held g c = λ source.
 pub returns-then-ne : goal.returns-then-ne
 returns-then-ne g c = λ source.
     let differ : (c.in_ok-held.held == c.args.from) ≡ false = not_true _ (sym c.if-ne.ensures) in
-    refuses refusal.HeldDiffers refl (then_found (given (IsUntaken c.args.note.now c.args.row.now) c.requires) (rw c.room-room.ensures at c.in_ok-held.ensures)) (λ k. rw (k.0.0, k.1, differ) refl)
+    refuses refusal.HeldDiffers refl (then_found (given (IsUntaken c.args.note.now c.args.row.now) c.requires) (rw c.room-room.ensures at c.in_ok-held.ensures)) (λ k. rw (k.0.0, k.1, differ) (refl {a = refused refusal.HeldDiffers}))
 
 pub returns-in_err-awaited : goal.returns-in_err-awaited
 returns-in_err-awaited g c = λ source.
@@ -25,7 +26,7 @@ returns-then-not-is_awaited g c = λ source.
     let same : (c.in_ok-held.held == c.args.from) ≡ true = not_false _ (sym c.if-ne.ensures) in
     let passed : ((c.in_ok-awaited.awaited.room == c.args.note.now.room) && nat_lt c.args.row.now.lock_place c.in_ok-awaited.awaited.place) ≡ false = rw c.room-room.ensures at (sym c.is_awaited.ensures ∙ c.if-not-is_awaited.true) in
     refuses refusal.NotAwaited refl (then_found (then_found (given (IsUntaken c.args.note.now c.args.row.now) c.requires) (rw c.room-room.ensures at c.in_ok-held.ensures)) c.in_ok-awaited.ensures)
-    (λ k. rw (k.0.0.0, k.0.1, same, k.1, passed) refl)
+    (λ k. rw (k.0.0.0, k.0.1, same, k.1, passed) (refl {a = refused refusal.NotAwaited}))
 
 pub returns : goal.returns
 returns g c = λ source.

@@ -1,4 +1,4 @@
-use Rattle.std.proofs.Common.{◌≡◌, ap, sym, ◌∙◌}
+use Rattle.std.proofs.Common.{ap, sym, ◌∙◌}
 use Rattle.hotel_core.specs.Stays.{now_is}
 use Rattle.hotel_core.proofs.RowsChanged.{stay_written, stay_absent}
 use Rattle.hotel_core.proofs.row_changes.set_state.Goals as goal

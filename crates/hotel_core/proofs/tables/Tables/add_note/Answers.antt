@@ -1,4 +1,4 @@
-use Rattle.std.proofs.Common.{◌≡◌, ◌≤◌, ℕ, List, None, refl, ap, sym, ◌∙◌, subst, arith}
+use Rattle.std.proofs.Common.{◌≡◌, ◌≤◌, ℕ, List, ap, sym, ◌∙◌, subst, arith}
 use Rattle.std.specs.BTreeMap.{is_at}
 use Rattle.std.specs.Map.{remove_entry}
 use Rattle.keycard_rules.specs.Note.{Note}
@@ -17,13 +17,13 @@ invariant_of-self-2 c =
     subst (λ rooms. LaterPlacesFree rooms c.self.inside.codes) (sym c.note_at.ensures)
     (free_on c.self.inside.rooms.entries _ c.self.inside.codes c.self.invariant (λ r. codes_changed (λ m n. m ≤ n) (λ n. omega arith) f (λ row. omega arith) c.room-room.result r c.self.inside.rooms.entries))
 
-pub returns-in_default-move_inside-clause-err : goal.returns-in_default-move_inside-clause-err
-returns-in_default-move_inside-clause-err c =
+pub returns-in_default-change-clause-err : goal.returns-in_default-change-clause-err
+returns-in_default-change-clause-err c =
     let t = c.self.inside in
     let key : ℕ × ℕ = (c.room-room.result, c.count-count.result) in
     let its_key : key ≡ (c.args.note.now.room, c.args.note.now.count) = (λ i. (c.room-room.ensures i, c.count-count.ensures i)) in
     let absent = ap (λ rows. note_at rows c.room-room.result c.count-count.result) c.self.view_is ∙ ap (λ k. note_at c.args.self.now k.0 k.1) its_key ∙ c.requires in
-    let before : List ((ℕ × ℕ) × Note) → Rows = λ notes. record { day = t.day; kinds = t.kinds.keys; rooms = t.rooms.entries; codes = t.codes; stays = t.stays.entries; cards = t.cards.entries; inside = c.move_inside.new.inside.keys; notes = notes } in
+    let before : List ((ℕ × ℕ) × Note) → Rows = λ notes. record { day = t.day; kinds = t.kinds.keys; rooms = t.rooms.entries; codes = t.codes; stays = t.stays.entries; cards = t.cards.entries; inside = c.change.new.self; notes = notes } in
     ap before (c.remove.ensures.entries ∙ ap (remove_entry (is_at (pair_cmp key))) c.in-Ok.ensures.entries ∙ taken_back pair_cmp pair_total key c.args.note.now t.notes.entries absent)
-    ∙ ap (λ inside. let rows : Rows = record { day = t.day; kinds = t.kinds.keys; rooms = t.rooms.entries; codes = t.codes; stays = t.stays.entries; cards = t.cards.entries; inside = inside; notes = t.notes.entries } in rows) c.in_default-move_inside.ensures.err
+    ∙ ap (λ inside. let rows : Rows = record { day = t.day; kinds = t.kinds.keys; rooms = t.rooms.entries; codes = t.codes; stays = t.stays.entries; cards = t.cards.entries; inside = inside; notes = t.notes.entries } in rows) c.in_default-change.ensures.err
     ∙ c.self.view_is

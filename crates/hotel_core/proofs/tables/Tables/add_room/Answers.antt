@@ -1,10 +1,9 @@
-use Rattle.std.proofs.Common.{◌≡◌, ◌≤◌, ◌<◌, ℕ, List, Some, None, false, refl, ap, sym, ◌∙◌, subst, arith}
+use Rattle.std.proofs.Common.{◌≡◌, ℕ, List, None, false, ap, sym, ◌∙◌, subst, arith}
 use Rattle.std.specs.Ordering.{nat_cmp}
 use Rattle.std.specs.BTreeMap.{is_at}
 use Rattle.std.specs.Map.{remove_entry}
 use Rattle.std.proofs.lemmas.Cmp.{nat_cmp_total}
 use Rattle.hotel_core.specs.declared.rows.RoomRow.{RoomRow}
-use Rattle.hotel_core.specs.declared.rows.CodeRow.{CodeRow}
 use Rattle.hotel_core.specs.Words.{said_of}
 use Rattle.hotel_core.specs.Rows.{Rows}
 use Rattle.hotel_core.specs.Lookups.{room_at, code_place}
@@ -31,7 +30,7 @@ returns-in_default-insert-clause-err c =
     let absent = ap (λ rows. room_at rows c.args.room) c.self.view_is ∙ c.requires.new_room in
     let row : RoomRow = record { room = c.args.room; kind = c.args.kind; lock_place = 0; codes = 1; secured = false; party = None; notes = 0 } in
     let t = c.self.inside in
-    let before : List (ℕ × RoomRow) → Rows = λ rooms. record { day = t.day; kinds = t.kinds.keys; rooms = rooms; codes = c.insert-2.new.self; stays = t.stays.entries; cards = t.cards.entries; inside = t.inside.keys; notes = t.notes.entries } in
+    let before : List (ℕ × RoomRow) → Rows = λ rooms. record { day = t.day; kinds = t.kinds.keys; rooms = rooms; codes = c.insert-2.new.self; stays = t.stays.entries; cards = t.cards.entries; inside = t.inside; notes = t.notes.entries } in
     ap before (c.remove.ensures.entries ∙ ap (remove_entry (is_at (nat_cmp c.args.room))) c.in-Ok.ensures.entries ∙ taken_back nat_cmp nat_cmp_total c.args.room row t.rooms.entries absent)
-    ∙ ap (λ codes. let rows : Rows = record { day = t.day; kinds = t.kinds.keys; rooms = t.rooms.entries; codes = codes; stays = t.stays.entries; cards = t.cards.entries; inside = t.inside.keys; notes = t.notes.entries } in rows) c.in_default-insert.ensures.err
+    ∙ ap (λ codes. let rows : Rows = record { day = t.day; kinds = t.kinds.keys; rooms = t.rooms.entries; codes = codes; stays = t.stays.entries; cards = t.cards.entries; inside = t.inside; notes = t.notes.entries } in rows) c.in_default-insert.ensures.err
     ∙ c.self.view_is

@@ -1,6 +1,6 @@
-use Rattle.std.proofs.Common.{◌≡◌, ◌≤◌, None, refl, sym, subst, arith}
+use Rattle.std.proofs.Common.{◌≤◌, None, sym, subst, arith}
 use Rattle.hotel_core.specs.Tables.{LaterPlacesFree}
-use Rattle.hotel_core.proofs.LaterPlaces.{free_on, codes_changed, codes_there}
+use Rattle.hotel_core.proofs.LaterPlaces.{free_on, codes_changed}
 use Rattle.hotel_core.proofs.tables.Tables.check_out.Goals as goal
 
 pub invariant_of-self : goal.invariant_of-self

@@ -1,8 +1,8 @@
-use Rattle.std.proofs.Common.{◌≡◌, ◌∷◌, sym, ◌∙◌, subst, arith, Fits}
+use Rattle.std.proofs.Common.{sym, ◌∙◌, subst, arith}
 use Rattle.std.specs.Map.Iter.{deref_pair}
 use Rattle.std.proofs.lemmas.Map.Iter.{rest_more}
 use Rattle.hotel_core.specs.Lookups.{rooms_of_kind}
-use Rattle.hotel_core.proofs.RoomCount.{Counted, counted_none, counted_head, counted_one, counted_other}
+use Rattle.hotel_core.proofs.RoomCount.{Counted, counted_head, counted_one, counted_other}
 use Rattle.hotel_core.proofs.tables.Tables.rooms_of_kind.Goals as goal
 
 pub overflow_add-count : goal.overflow_add-count

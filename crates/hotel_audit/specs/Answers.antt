@@ -1,0 +1,36 @@
+-- The texts of the answers to an audit file's lines.
+use Rattle.std.specs.Prelude.{ℕ, List, [], ◌∷◌, ◌++◌, ◌+◌, codes}
+use Rattle.std.specs.Fmt.{decimal}
+use Rattle.hotel_core.specs.declared.reply.Reply.TheVariants as reply
+use Rattle.hotel_core.specs.Texts.{reply_text}
+use Rattle.hotel_audit.specs.declared.answer.LineAnswer.{LineAnswer}
+use Rattle.hotel_audit.specs.declared.answer.LineAnswer.TheVariants.{Taken, Seen, Unread, Refused}
+use Rattle.hotel_audit.specs.declared.line.Cause.{Cause}
+use Rattle.hotel_audit.specs.declared.line.Cause.TheVariants.{FieldCount, BadRoom, BadCount, BadKind, BadCard, BadOld, BadNew, BadMoment}
+
+-- the name of a cause
+abbrev pub cause_name : Cause → List ℕ
+cause_name FieldCount = codes "FieldCount"
+cause_name BadRoom = codes "BadRoom"
+cause_name BadCount = codes "BadCount"
+cause_name BadKind = codes "BadKind"
+cause_name BadCard = codes "BadCard"
+cause_name BadOld = codes "BadOld"
+cause_name BadNew = codes "BadNew"
+cause_name BadMoment = codes "BadMoment"
+
+-- what is said of a line: the text of the reply to its note, or why it is none
+abbrev pub said_of_line : LineAnswer → List ℕ
+said_of_line Taken = reply_text reply.Taken
+said_of_line Seen = reply_text reply.Seen
+said_of_line (Unread cause) = codes "unread " ++ cause_name cause ++ (10 ∷ [])
+said_of_line (Refused refusal) = reply_text (reply.Refused refusal)
+
+-- the text of an answer: the line's number, a space and what is said of it
+abbrev pub answer_text : ℕ → LineAnswer → List ℕ
+answer_text number answer = decimal number ++ codes " " ++ said_of_line answer
+
+-- the texts of answers to the lines from a number on
+abbrev pub answers_text : ℕ → List LineAnswer → List ℕ
+answers_text number [] = []
+answers_text number (answer ∷ answers) = answer_text number answer ++ answers_text (number + 1) answers

@@ -1,0 +1,21 @@
+-- An audit file: its records are those of `csv`, the first is the header, each later one is a line.
+use Rattle.std.specs.Prelude.{◌≡◌, ◌≢◌, ℕ, List, [], ◌∷◌, length, map, nat_lt, if◌then◌else◌, Result, Ok, Err}
+use Rattle.csv.specs.Reading.{default_config, records, strip_bom}
+use Rattle.hotel_audit.specs.declared.audit_file.AuditFault.{AuditFault}
+use Rattle.hotel_audit.specs.declared.audit_file.AuditFault.TheVariants.{TooLarge, NoHeader, WrongHeader, Memory}
+use Rattle.hotel_audit.specs.declared.line.Line.{Line}
+use Rattle.hotel_audit.specs.Header.{is_header}
+use Rattle.hotel_audit.specs.Line.{read_line}
+
+-- the records of the bytes, without a byte order mark at their start
+abbrev pub file_records : List ℕ → List (List (List ℕ))
+file_records bytes = records default_config (strip_bom bytes)
+
+-- the lines of records whose first is the header
+abbrev pub lines_of : List (List (List ℕ)) → Result (List Line) AuditFault
+lines_of [] = Err NoHeader
+lines_of (first ∷ later) = if is_header first then Ok (map read_line later) else Err WrongHeader
+
+-- what the bytes are read as: their lines, or why they are no audit file
+abbrev pub audit_lines : List ℕ → Result (List Line) AuditFault
+audit_lines bytes = if nat_lt 262144 (length bytes) then Err TooLarge else lines_of (file_records bytes)

@@ -1,0 +1,6 @@
+pub mod Fields
+pub mod Header
+pub mod Line
+pub mod AuditFile
+pub mod Readings
+pub mod Answers

@@ -1,0 +1,70 @@
+-- The lines of an audit file: each a note, or the first cause why it can't be read.
+use Rattle.std.specs.Prelude.{ℕ, List, [], ◌∷◌, ◌==◌, length, codes, if◌then◌else◌, Option, Some, None, Result, Ok, Err}
+use Rattle.std.specs.Option.{ok_or}
+use Rattle.std.specs.Str.{bytes_eq}
+use Rattle.keycard_rules.specs.Note.{Note}
+use Rattle.keycard_rules.specs.Numerals.{number_up_to, read_code}
+use Rattle.keycard_rules.specs.declared.card.Link.{Link}
+use Rattle.keycard_rules.specs.declared.note.Act.{Act}
+use Rattle.keycard_rules.specs.declared.note.Act.TheVariants.{Entered, Left, Recoded}
+use Rattle.hotel_nights.specs.Moments.{read_moment}
+use Rattle.hotel_audit.specs.declared.line.Cause.{Cause}
+use Rattle.hotel_audit.specs.declared.line.Cause.TheVariants.{FieldCount, BadRoom, BadCount, BadKind, BadCard, BadOld, BadNew, BadMoment}
+use Rattle.hotel_audit.specs.declared.line.Happening.{Happening}
+use Rattle.hotel_audit.specs.declared.line.Happening.TheVariants.{In, Out, Recode}
+use Rattle.hotel_audit.specs.declared.line.Line.{Line}
+use Rattle.hotel_audit.specs.declared.line.Line.TheVariants as line
+use Rattle.hotel_audit.specs.Fields.{FieldTexts, seven_fields}
+
+-- what a value leads to; the first cause is the answer
+infixl 10 ◌>>=◌
+abbrev pub ◌>>=◌ : {A B : Type 0} → Result A Cause → (A → Result B Cause) → Result B Cause
+(Ok a) >>= f = f a
+(Err cause) >>= f = Err cause
+
+-- the number of a card
+abbrev pub card_in : List ℕ → Result ℕ Cause
+card_in text = ok_or (number_up_to 9999999 text) BadCard
+
+-- what the kind and the card say: `in` and `out` are of a card, `recode` of none
+abbrev pub happening : List ℕ → List ℕ → Result Happening Cause
+happening kind card =
+    if bytes_eq kind (codes "in") then (do
+      number ← card_in card
+      Ok (In number))
+    else if bytes_eq kind (codes "out") then (do
+      number ← card_in card
+      Ok (Out number))
+    else if bytes_eq kind (codes "recode") then (if length card == 0 then Ok Recode else Err BadCard)
+    else Err BadKind
+
+-- what happened at the lock: a card came in or went out by its link, or the lock was recoded from the old code to the new one
+abbrev pub act_of : Happening → Link → Act
+act_of (In card) link = Entered card link
+act_of (Out card) link = Left card link
+act_of Recode link = Recoded link.old_code link.new_code
+
+-- the note of seven fields, each read in its turn
+abbrev pub note_of : FieldTexts → Result Note Cause
+note_of fields = do
+  room ← ok_or (number_up_to 9999 fields.room) BadRoom
+  count ← ok_or (number_up_to 9999999 fields.count) BadCount
+  what ← happening fields.kind fields.card
+  old ← ok_or (read_code fields.old_code) BadOld
+  new ← ok_or (read_code fields.new_code) BadNew
+  moment ← ok_or (read_moment fields.moment) BadMoment
+  Ok (record { room = room; count = count; act = act_of what (record { old_code = old; new_code = new }); day = moment.0; second = moment.1 })
+
+-- the line of what was read
+abbrev pub line_of : Result Note Cause → Line
+line_of (Ok note) = line.Note note
+line_of (Err cause) = line.Unread cause
+
+-- the line of the fields, where there are seven
+abbrev pub line_with : Option FieldTexts → Line
+line_with None = line.Unread FieldCount
+line_with (Some fields) = line_of (note_of fields)
+
+-- the line that a record is
+abbrev pub read_line : List (List ℕ) → Line
+read_line record_fields = line_with (seven_fields record_fields)

@@ -1,0 +1,19 @@
+//! Audit files of locks: the notes that staff read out of the locks and send to the desk.
+#![tactic(auto)]
+
+mod answer;
+mod audit_file;
+mod fields;
+mod header;
+mod laws;
+mod line;
+mod texts;
+
+pub use answer::LineAnswer;
+pub use audit_file::{AuditFault, read_notes};
+pub use laws::records_of_bytes;
+pub use line::{Cause, Line};
+pub use texts::{AnswerText, answer_text};
+
+#[cfg(test)]
+mod tests;

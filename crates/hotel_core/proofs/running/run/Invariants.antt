@@ -1,0 +1,19 @@
+use Rattle.std.proofs.Common.{◌≡◌, ◌≤◌, take, length, vec_len, vec_capacity}
+use Rattle.hotel_core.specs.History.{History}
+use Rattle.hotel_core.specs.Run.{StandsFor}
+use Rattle.hotel_core.specs.Lift.{RunsTo}
+use Rattle.hotel_core.proofs.running.run.Given as goal
+
+abbrev pub invariant-loop-command : goal.invariant-loop-command
+invariant-loop-command g l =
+    let rows = g.B.Books.rows in
+    let stream = g.R.Rng.stream in
+    let is_clean = g.B.Issued.is_clean in
+    record {
+      was_clean : is_clean l.books → is_clean l.fn.books;
+      counted : g.B.Issued.failures l.fn.books ≤ g.B.Issued.failures l.books;
+      room : length l.commands ≤ vec_capacity l.replies;
+      answered : vec_len l.replies ≡ l.command-index;
+      ran : is_clean l.books → (h : History) → StandsFor h (rows l.fn.books) →
+          RunsTo h (stream l.fn.source) (take l.command-index l.commands) l.replies.items (rows l.books) (stream l.source);
+    }
