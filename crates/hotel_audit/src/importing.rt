@@ -115,3 +115,6 @@ pub fn import<B: Books>(
         Err(fault) => Err(ImportFault::File(fault)),
     }
 }
+
+#[cfg(test)]
+mod tests;
