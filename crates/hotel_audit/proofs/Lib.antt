@@ -1,1 +1,3 @@
 mod Records
+mod NoteReplies
+mod Imports

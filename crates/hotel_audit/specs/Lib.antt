@@ -4,3 +4,4 @@ pub mod Line
 pub mod AuditFile
 pub mod Readings
 pub mod Answers
+pub mod Import
