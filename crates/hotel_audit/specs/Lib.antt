@@ -5,3 +5,4 @@ pub mod AuditFile
 pub mod Readings
 pub mod Answers
 pub mod Import
+pub mod SentAgain
