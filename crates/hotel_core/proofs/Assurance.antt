@@ -1,5 +1,5 @@
 -- What is assured of each history that books stand for.
-use Rattle.std.proofs.Common.{ℕ, ◌≡◌, List}
+use Rattle.std.proofs.Common.{List}
 use Rattle.rand_core.specs.Stream.{Stream}
 use Rattle.hotel_core.specs.declared.command.Command.{Command}
 use Rattle.hotel_core.specs.declared.reply.Reply.{Reply}

@@ -1,14 +1,9 @@
 -- A draw as a part of a step.
-use Rattle.std.proofs.Common.{ℕ, ◌≡◌, ◌≤◌, Bool, true, false, cond, Option, Some, None, Result, Ok, Err, IsErrAnd, List, [], ◌∷◌, refl, ap, sym, ◌∙◌, arith, subst, inl, inr, option_map}
-use Rattle.std.specs.Prelude.{◌||◌, ◌==◌}
-use Rattle.std.specs.Map.{keys_of}
-use Rattle.std.specs.BTreeMap.{is_at}
-use Rattle.std.specs.Ordering.{nat_cmp}
+use Rattle.std.proofs.Common.{ℕ, ◌≡◌, ◌≤◌, Bool, true, false, Some, Result, Ok, Err, IsErrAnd, List, refl, ap, sym, ◌∙◌, arith, subst, inl, inr, option_map}
 use Rattle.std.proofs.lemmas.Bool.{false≢true}
-use Rattle.std.proofs.lemmas.Bool.Decides.{nat_tests}
 use Rattle.rand_core.specs.Stream.{Stream}
 use Rattle.keycard_rules.specs.Rise.{HasRisen}
-use Rattle.keycard_rules.specs.Draw.{Draw, Draws, IsFailed, is_among, code_of, one_more, draw_from, drawn, words, past}
+use Rattle.keycard_rules.specs.Draw.{Draw, Draws, IsFailed, draw_from, drawn, words, past}
 use Rattle.keycard_rules.specs.declared.draw.DrawFault.{DrawFault}
 use Rattle.keycard_rules.specs.declared.draw.DrawFault.TheVariants as fault
 use Rattle.hotel_core.specs.declared.change.Change.{Change}
@@ -17,45 +12,14 @@ use Rattle.hotel_core.specs.declared.reply.Reply.TheVariants.{Refused}
 use Rattle.hotel_core.specs.declared.reply.Refusal.{Refusal}
 use Rattle.hotel_core.specs.declared.reply.Refusal.TheVariants.{NoFreshCode}
 use Rattle.hotel_core.specs.Words.{said_of}
-use Rattle.hotel_core.specs.Rows.{Rows, at_number}
-use Rattle.hotel_core.specs.Lookups.{codes_in, code_place}
+use Rattle.hotel_core.specs.Rows.{Rows}
+use Rattle.hotel_core.specs.Lookups.{codes_in}
 use Rattle.hotel_core.specs.Run.{is_failed}
 use Rattle.hotel_core.specs.Outcome.{Outcome, accepted, by_draw}
 use Rattle.hotel_core.specs.Change.{made}
 use Rattle.hotel_core.specs.StepOnRows.{GoesIf, made_by, AreWhole, StepsAs}
 use Rattle.hotel_core.specs.Finds.{DrawsCode, Drew, DrewNone, drawn_or, has_failed, reply_of}
 use Rattle.hotel_core.proofs.Parts.{SoFar, passed_on, risen_later}
-
--- what is drawn isn't issued
-drawn_fresh_at : (b : Bool) (issued later : List ℕ) (word code : ℕ) → is_among issued (code_of word) ≡ b → ((draw_from issued later).code ≡ Some code → is_among issued code ≡ false)
-    → (cond b (one_more (draw_from issued later)) (let d : Draw = record { code = Some (code_of word); examined = 1 } in d)).code ≡ Some code → is_among issued code ≡ false
-drawn_fresh_at true issued later word code h k e = k e
-drawn_fresh_at false issued later word code h k e = let q : code_of word ≡ code = cc in subst (λ c. is_among issued c ≡ false) q h
-
-drawn_fresh : (issued ws : List ℕ) (code : ℕ) → (draw_from issued ws).code ≡ Some code → is_among issued code ≡ false
-unfolding draw_from
-drawn_fresh issued [] code e = cc
-drawn_fresh issued (word ∷ later) code e = drawn_fresh_at (is_among issued (code_of word)) issued later word code refl (drawn_fresh issued later code) e
-
-not_there_at : {X : Type 0} (b : Bool) (x : X) (rest : Option X) → b ≡ false → rest ≡ None → cond b (Some x) rest ≡ None
-not_there_at true x rest h e = cc
-not_there_at false x rest h e = e
-
-not_there : {X : Type 0} (es : List (ℕ × X)) (code : ℕ) → is_among (keys_of es) code ≡ false → at_number es code ≡ None
-not_there [] code h = refl
-not_there (e ∷ es) code h =
-    not_there_at (is_at (nat_cmp code) e.0) e.1 (at_number es code) (miss_key code e.0 (or_left (e.0 == code) _ h)) (not_there es code (or_right (e.0 == code) _ h))
-  where
-    or_left : (a b : Bool) → (a || b) ≡ false → a ≡ false
-    or_left true b k = k
-    or_left false b k = refl
-
-    or_right : (a b : Bool) → (a || b) ≡ false → b ≡ false
-    or_right true b k = absurd (let q : true ≡ false = k in cc)
-    or_right false b k = k
-
-    miss_key : (c k : ℕ) → (k == c) ≡ false → is_at (nat_cmp c) k ≡ false
-    miss_key c k h = grind (arith, nat_tests)
 
 drew : (found : Result ℕ DrawFault) (issued : List ℕ) (source rest : Stream) → Draws issued source found rest → Drew (draw_from issued (words 64 source)) source rest (drawn_or found)
 unfolding drawn
@@ -84,20 +48,6 @@ draws {is_clean = is_clean} {rows = rows} {failures = failures} {never_fails = n
   fault = λ e. risen (failed found e);
   sure = λ n e. sure n (failed found e);
 })
-
--- a code was drawn: it stands nowhere
-pub then_drawn : {S : Type 0} {is_clean : S → Type 0} {rows : S → Rows} {failures : S → ℕ} {facts : Rows → Type 0} {never_fails : Type 0} {start old new : S} {source rest : Stream} {code : ℕ}
-    → SoFar is_clean rows failures facts start old → DrawsCode is_clean rows failures never_fails old new source rest (Ok code)
-    → SoFar is_clean rows failures (λ rs. facts rs × (code_place rs code ≡ None)) start new
-then_drawn {rows = rows} {old = old} {source = source} {code = code} s d = record {
-  facts_hold = λ clean. (
-    s.facts_hold (d.was_clean clean),
-    subst (λ rs. code_place rs code ≡ None) (s.same (d.was_clean clean)) (not_there (rows old).codes code (drawn_fresh (codes_in (rows old)) (words 64 source) code (d.answer clean).0)),
-  );
-  same = λ clean. d.same clean ∙ s.same (d.was_clean clean);
-  was_clean = λ clean. s.was_clean (d.was_clean clean);
-  counted = omega (arith, s.counted, d.counted);
-}
 
 undrawn_at : (b : Bool) (o : Outcome Change) (draw : Draw) (rows later : Rows) (source rest : Stream) (why : Refusal) (reply_with : ℕ → Reply) (change_with : ℕ → Change)
     → o ≡ by_draw draw reply_with change_with → later ≡ rows → DrewNone b draw source rest why → GoesIf b o rows source (Refused why) later rest

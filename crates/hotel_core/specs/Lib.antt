@@ -41,3 +41,4 @@ pub mod CodeTable
 pub mod Tables
 pub mod ListBooks
 pub mod InsideTable
+pub mod Answered

@@ -6,6 +6,7 @@ ghost use Rattle.keycard_rules.specs.Draw.{words};
 ghost use Rattle.hotel_core.specs.Lookups.{stays_of_kind, rooms_of_kind};
 ghost use Rattle.hotel_core.specs.Finds.{Finds, AnyRows, reply_of};
 ghost use Rattle.hotel_core.specs.OnRows.{outcome_on};
+ghost use Rattle.hotel_core.specs.Ranges.{IsCommand};
 ghost use Rattle.hotel_core.specs.StepOnRows.{StepsAs};
 ghost use Rattle.hotel_core.specs.declared.command.Command.TheVariants as command;
 ghost use Rattle.hotel_core.specs.declared.reply.Refusal.TheVariants.{Store};
@@ -63,6 +64,7 @@ pub(crate) fn reserve<B: Books>(
     arrive: Day,
     nights: Nights,
 ) -> Result<Reply, Refusal>
+    requires { IsCommand (command.Reserve guest.now kind.now arrive nights) }
     ensures { (source : Stream) → StepsAs B.is_clean B.rows B.failures B.never_fails true
         (λ rows. outcome_on rows (words 64 source) (command.Reserve guest.now kind.now arrive nights)) books.old books.new source source (reply_of result) }
 {

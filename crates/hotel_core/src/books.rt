@@ -6,7 +6,8 @@ ghost use Rattle.hotel_core.specs.Rows.{Rows};
 ghost use Rattle.hotel_core.specs.Lookups.{has_kind, room_at, codes_in, code_place, code_at, stay_at, stays_of_kind, card_at, inside_at, note_at, rooms_of_kind, number_after};
 ghost use Rattle.hotel_core.specs.Reads.{LooksUp};
 ghost use Rattle.hotel_core.specs.Change.{made};
-ghost use Rattle.hotel_core.specs.Fits.{HasItsRows, takes_memory};
+ghost use Rattle.hotel_core.specs.Fits.{Fits, takes_memory};
+ghost use Rattle.hotel_core.specs.Sound.{IsSound};
 
 use crate::change::Change;
 use crate::rows::{CodeRow, NextNumbers, RoomRow};
@@ -67,9 +68,13 @@ pub trait Books: Issued {
     fn next_numbers(&mut self) -> Result<NextNumbers, LookFault>
         ensures { LooksUp Self.is_clean Self.is_kept Self.failures Self.never_fails false (λ a. a) (record { party = number_after (length (rows self.old).stays); card = number_after (length (rows self.old).cards) }) self.old self.new result };
 
+    /// The rows are sound. The call does nothing.
+    fn known_sound(&self)
+        ensures { Self.is_clean self.now → IsSound (rows self.now) };
+
     /// Makes all of a change, or nothing.
     fn apply(&mut self, change: Change) -> Result<(), LookFault>
-        requires { Self.is_clean self.old → HasItsRows change (rows self.old) }
+        requires { Self.is_clean self.old → Fits change (rows self.old) }
         ensures ok { Self.is_clean self.new → OnOk result (rows self.new ≡ made change (rows self.old)) }
         ensures err { Self.is_clean self.new → OnErr result (rows self.new ≡ rows self.old) }
         ensures was_clean { Self.is_clean self.new → Self.is_clean self.old }

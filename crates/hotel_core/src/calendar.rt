@@ -5,6 +5,7 @@ ghost use Rattle.keycard_rules.specs.Draw.{words};
 ghost use Rattle.hotel_core.specs.Finds.{reply_of};
 ghost use Rattle.hotel_core.specs.Run.{is_failed};
 ghost use Rattle.hotel_core.specs.OnRows.{outcome_on};
+ghost use Rattle.hotel_core.specs.Ranges.{IsCommand};
 ghost use Rattle.hotel_core.specs.StepOnRows.{StepsAs};
 ghost use Rattle.hotel_core.specs.declared.command.Command.TheVariants as command;
 
@@ -17,6 +18,7 @@ use hotel_nights::Day;
 
 /// Sets the first business day.
 pub(crate) fn begin<B: Books>(books: &mut B, day: Day) -> Result<Reply, Refusal>
+    requires { IsCommand (command.Begin day) }
     ensures steps { (source : Stream) → StepsAs B.is_clean B.rows B.failures B.never_fails false (λ rows. outcome_on rows (words 64 source) (command.Begin day)) books.old books.new source source (reply_of result) }
     ensures sure { B.never_fails → is_failed (reply_of result) ≡ false }
 {

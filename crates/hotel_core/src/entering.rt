@@ -3,6 +3,7 @@ ghost use Rattle.std.specs.Prelude.{◌≡◌, ◌+◌, true, false, is_some};
 ghost use Rattle.rand_core.specs.Stream.{Stream};
 ghost use Rattle.keycard_rules.specs.Lock.{turn};
 ghost use Rattle.keycard_rules.specs.declared.note.Act.TheVariants as act;
+ghost use Rattle.hotel_core.specs.Answered.{IsOutcome};
 ghost use Rattle.hotel_core.specs.Finds.{reply_of};
 ghost use Rattle.hotel_core.specs.Noting.{IsUntaken, opened_on, secured_by};
 ghost use Rattle.hotel_core.specs.ChangeOf.{comes};
@@ -54,7 +55,8 @@ fn open<B: Books>(
     number: CardNo,
     link: &Link,
 ) -> Result<Reply, Refusal>
-    requires { B.is_clean books.old → IsUntaken note.now row.now (B.rows books.old) × (has_link_on (B.rows books.old) number link.now ≡ true) }
+    requires known { B.is_clean books.old → IsUntaken note.now row.now (B.rows books.old) × (has_link_on (B.rows books.old) number link.now ≡ true) }
+    requires outcome { B.is_clean books.old → IsOutcome (B.rows books.old) (opened_on (B.rows books.old) note.now number link.now) }
     ensures { (source : Stream) → StepsAs B.is_clean B.rows B.failures B.never_fails false (λ rows. opened_on rows note.now number link.now) books.old books.new source source (reply_of result) }
 {
     let lock_place = issued_place(books, link.new_code)?.place;
@@ -82,7 +84,8 @@ pub(crate) fn enter<B: Books>(
     number: CardNo,
     link: &Link,
 ) -> Result<Reply, Refusal>
-    requires { B.is_clean books.old → IsUntaken note.now row.now (B.rows books.old) }
+    requires untaken { B.is_clean books.old → IsUntaken note.now row.now (B.rows books.old) }
+    requires outcome { B.is_clean books.old → IsOutcome (B.rows books.old) (told_on (B.rows books.old) note.now (act.Entered number link.now)) }
     ensures { (source : Stream) → StepsAs B.is_clean B.rows B.failures B.never_fails false (λ rows. told_on rows note.now (act.Entered number link.now)) books.old books.new source source (reply_of result) }
 {
     let card = card_there(books, number)?;

@@ -4,6 +4,7 @@ ghost use Rattle.rand_core.specs.Stream.{Stream};
 ghost use Rattle.keycard_rules.specs.Draw.{words};
 ghost use Rattle.hotel_core.specs.Finds.{reply_of};
 ghost use Rattle.hotel_core.specs.OnRows.{outcome_on};
+ghost use Rattle.hotel_core.specs.Ranges.{IsCommand};
 ghost use Rattle.hotel_core.specs.StepOnRows.{StepsAs};
 ghost use Rattle.hotel_core.specs.declared.command.Command.TheVariants as command;
 
@@ -19,6 +20,7 @@ use rand_core::Rng;
 
 /// Adds a kind.
 pub(crate) fn add_kind<B: Books>(books: &mut B, kind: &KindCode) -> Result<Reply, Refusal>
+    requires { IsCommand (command.AddKind kind.now) }
     ensures { (source : Stream) → StepsAs B.is_clean B.rows B.failures B.never_fails false (λ rows. outcome_on rows (words 64 source) (command.AddKind kind.now)) books.old books.new source source (reply_of result) }
 {
     today(books)?;
@@ -35,6 +37,7 @@ pub(crate) fn add_room<B: Books, R: Rng>(
     room: RoomNo,
     kind: &KindCode,
 ) -> Result<Reply, Refusal>
+    requires { IsCommand (command.AddRoom room kind.now) }
     ensures { StepsAs B.is_clean B.rows B.failures B.never_fails false (λ rows. outcome_on rows (words 64 (R.stream source.old)) (command.AddRoom room kind.now)) books.old books.new (R.stream source.old) (R.stream source.new) (reply_of result) }
 {
     today(books)?;

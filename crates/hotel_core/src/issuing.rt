@@ -1,9 +1,10 @@
 //! Cards of new codes.
 ghost use Rattle.std.specs.Prelude.{◌≡◌, ◌<◌, ◌-◌, ◌^◌, false, Option, Some, IsSome, OnOk};
 ghost use Rattle.keycard_rules.specs.Draw.{words};
+ghost use Rattle.hotel_core.specs.Answered.{IsOutcome};
 ghost use Rattle.hotel_core.specs.Finds.{Finds, reply_of};
 ghost use Rattle.hotel_core.specs.Issuing.{issued_on, HasCurrent, HasLink, last_link_on};
-ghost use Rattle.hotel_core.specs.Lookups.{room_at, code_at, stay_at};
+ghost use Rattle.hotel_core.specs.Lookups.{room_at, code_at};
 ghost use Rattle.hotel_core.specs.StepOnRows.{StepsAs};
 ghost use Rattle.hotel_core.specs.declared.reply.Refusal.TheVariants.{Store};
 
@@ -55,7 +56,8 @@ pub(crate) fn issue<B: Books, R: Rng>(
     room: RoomNo,
     leaves: Option<RoomNo>,
 ) -> Result<Reply, Refusal>
-    requires { B.is_clean books.old → (room_at (B.rows books.old) room ≡ Some row.now) × IsSome (stay_at (B.rows books.old) party) }
+    requires there { B.is_clean books.old → room_at (B.rows books.old) room ≡ Some row.now }
+    requires outcome { B.is_clean books.old → IsOutcome (B.rows books.old) (issued_on (B.rows books.old) (words 64 (R.stream source.old)) party room leaves) }
     ensures { StepsAs B.is_clean B.rows B.failures B.never_fails false (λ rows. issued_on rows (words 64 (R.stream source.old)) party room leaves) books.old books.new (R.stream source.old) (R.stream source.new) (reply_of result) }
 {
     let number = next_card(books)?;

@@ -2,6 +2,7 @@
 ghost use Rattle.std.specs.Prelude.{◌≡◌, false};
 ghost use Rattle.rand_core.specs.Stream.{Stream};
 ghost use Rattle.keycard_rules.specs.declared.note.Act.TheVariants as act;
+ghost use Rattle.hotel_core.specs.Answered.{IsOutcome};
 ghost use Rattle.hotel_core.specs.Finds.{reply_of};
 ghost use Rattle.hotel_core.specs.Noting.{IsUntaken};
 ghost use Rattle.hotel_core.specs.OnRows.{told_on};
@@ -24,7 +25,8 @@ pub(crate) fn leave<B: Books>(
     number: CardNo,
     link: &Link,
 ) -> Result<Reply, Refusal>
-    requires { B.is_clean books.old → IsUntaken note.now row.now (B.rows books.old) }
+    requires untaken { B.is_clean books.old → IsUntaken note.now row.now (B.rows books.old) }
+    requires outcome { B.is_clean books.old → IsOutcome (B.rows books.old) (told_on (B.rows books.old) note.now (act.Left number link.now)) }
     ensures { (source : Stream) → StepsAs B.is_clean B.rows B.failures B.never_fails false (λ rows. told_on rows note.now (act.Left number link.now)) books.old books.new source source (reply_of result) }
 {
     let card = card_there(books, number)?;

@@ -29,10 +29,13 @@ pub struct ListBooks {
 
 impl Model for ListBooks {
     ghost use Rattle.hotel_core.specs.ListBooks.{Listed};
+    ghost use Rattle.hotel_core.specs.Sound.{IsSound};
 
     ghost Value = { Listed };
 
     ghost view = { λ b. record { rows = b.tables; failures = b.failures } };
+
+    ghost invariant = { λ b. IsSound b.tables };
 }
 
 impl ListBooks {
@@ -151,6 +154,11 @@ impl Books for ListBooks {
 
     fn next_numbers(&mut self) -> Result<NextNumbers, LookFault> {
         Ok(self.tables.next_numbers())
+    }
+
+    fn known_sound(&self) {
+        // The type's invariant is known where a field is read.
+        let _ = &self.failures;
     }
 
     fn apply(&mut self, change: Change) -> Result<(), LookFault> {

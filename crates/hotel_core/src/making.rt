@@ -1,7 +1,8 @@
 //! The end of a command: its change is made.
 ghost use Rattle.std.specs.Prelude.{◌≡◌, false};
 ghost use Rattle.rand_core.specs.Stream.{Stream};
-ghost use Rattle.hotel_core.specs.Fits.{HasItsRows, takes_memory};
+ghost use Rattle.hotel_core.specs.Answered.{IsAnswered};
+ghost use Rattle.hotel_core.specs.Fits.{takes_memory};
 ghost use Rattle.hotel_core.specs.Finds.{reply_of};
 ghost use Rattle.hotel_core.specs.Outcome.{accepted};
 ghost use Rattle.hotel_core.specs.Run.{is_failed};
@@ -10,15 +11,18 @@ ghost use Rattle.hotel_core.specs.StepOnRows.{StepsAs};
 use crate::books::Books;
 use crate::change::Change;
 use crate::finding::refusal_of;
+use crate::ranges::known_reply;
 use crate::reply::{Refusal, Reply};
 
-/// Makes a change, and answers so where it was made.
+/// Makes the change that comes of a command, and answers so where it was made.
 pub(crate) fn make<B: Books>(books: &mut B, change: Change, reply: Reply) -> Result<Reply, Refusal>
-    requires has_its_rows { B.is_clean books.old → HasItsRows change (B.rows books.old) }
+    requires answered { B.is_clean books.old → IsAnswered (B.rows books.old) change reply }
     requires is_answer { is_failed reply ≡ false }
     ensures steps { (source : Stream) → StepsAs B.is_clean B.rows B.failures B.never_fails false (λ _. accepted reply change) books.old books.new source source (reply_of result) }
     ensures sure { B.never_fails → takes_memory change ≡ false → is_failed (reply_of result) ≡ false }
 {
+    books.known_sound();
+    known_reply(&reply);
     match books.apply(change) {
         Ok(()) => Ok(reply),
         Err(fault) => Err(refusal_of(fault)),

@@ -2,10 +2,12 @@
 ghost use Rattle.std.specs.Prelude.{◌≡◌, false, None};
 ghost use Rattle.rand_core.specs.Stream.{Stream};
 ghost use Rattle.keycard_rules.specs.Draw.{words};
+ghost use Rattle.hotel_core.specs.Answered.{IsOutcome};
 ghost use Rattle.hotel_core.specs.Finds.{reply_of};
 ghost use Rattle.hotel_core.specs.Noting.{IsUntaken};
 ghost use Rattle.hotel_core.specs.Notes.{same_link, same_act, same_note};
 ghost use Rattle.hotel_core.specs.OnRows.{outcome_on, reported_on};
+ghost use Rattle.hotel_core.specs.Ranges.{IsCommand};
 ghost use Rattle.hotel_core.specs.StepOnRows.{StepsAs};
 ghost use Rattle.hotel_core.specs.declared.command.Command.TheVariants as command;
 
@@ -27,7 +29,8 @@ fn same_note(kept: &LockNote, note: &LockNote) -> bool
 
 /// Takes a note whose count wasn't taken.
 fn take_new<B: Books>(books: &mut B, note: &LockNote, row: &RoomRow) -> Result<Reply, Refusal>
-    requires { B.is_clean books.old → IsUntaken note.now row.now (B.rows books.old) }
+    requires untaken { B.is_clean books.old → IsUntaken note.now row.now (B.rows books.old) }
+    requires outcome { B.is_clean books.old → IsOutcome (B.rows books.old) (reported_on (B.rows books.old) note.now None) }
     ensures { (source : Stream) → StepsAs B.is_clean B.rows B.failures B.never_fails false (λ rows. reported_on rows note.now None) books.old books.new source source (reply_of result) }
 {
     let count = note.count().value();
@@ -48,6 +51,7 @@ fn take_new<B: Books>(books: &mut B, note: &LockNote, row: &RoomRow) -> Result<R
 
 /// Takes a note of a lock.
 pub(crate) fn take_note<B: Books>(books: &mut B, note: &LockNote) -> Result<Reply, Refusal>
+    requires { IsCommand (command.Reported note.now) }
     ensures { (source : Stream) → StepsAs B.is_clean B.rows B.failures B.never_fails false (λ rows. outcome_on rows (words 64 source) (command.Reported note.now)) books.old books.new source source (reply_of result) }
 {
     today(books)?;

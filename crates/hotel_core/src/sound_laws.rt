@@ -1,6 +1,12 @@
 //! The headline: what holds of each history that can be reached, and that its rows are sound.
+ghost use Rattle.hotel_core.specs.Answered.{IsAnswered};
+ghost use Rattle.hotel_core.specs.Fits.{Fits};
 ghost use Rattle.hotel_core.specs.Headline.{HeadlineHolds, RowsFollow, RowsSound};
-ghost use Rattle.hotel_core.specs.Sound.{RulesAreTested};
+ghost use Rattle.hotel_core.specs.Ranges.{IsReply};
+ghost use Rattle.hotel_core.specs.Rows.{Rows};
+ghost use Rattle.hotel_core.specs.Sound.{IsSound, RulesAreTested};
+ghost use Rattle.hotel_core.specs.declared.change.Change.{Change};
+ghost use Rattle.hotel_core.specs.declared.reply.Reply.{Reply};
 
 /// The rows of a history that can be reached are sound.
 pub fn rows_are_sound()
@@ -20,4 +26,9 @@ pub fn headline()
 /// The rules of sound rows hold exactly where their test passes.
 pub fn rules_are_tested()
     ensures { RulesAreTested }
+{}
+
+/// The change that comes of a command on sound rows fits them.
+pub fn answers_fit()
+    ensures { (rows : Rows) (change : Change) (reply : Reply) → IsSound rows → IsReply reply → IsAnswered rows change reply → Fits change rows }
 {}

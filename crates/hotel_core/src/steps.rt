@@ -18,6 +18,7 @@ use crate::calendar::{begin, next_day};
 use crate::command::Command;
 use crate::inventory::{add_kind, add_room};
 use crate::noting::take_note;
+use crate::ranges::{known_command, known_note, known_reply};
 use crate::reply::{Refusal, Reply};
 use crate::stays::{check_in, check_out, spare, transfer};
 use keycard_rules::LockNote;
@@ -38,6 +39,7 @@ fn carry_out<B: Books, R: Rng>(
     source: &mut R,
     command: &Command,
 ) -> Result<Reply, Refusal>
+    requires { IsCommand command.now }
     ensures steps { StepsAs B.is_clean B.rows B.failures B.never_fails (copies command.now) (λ rows. outcome_on rows (words 64 (R.stream source.old)) command.now)
         books.old books.new (R.stream source.old) (R.stream source.new) (reply_of result) }
     ensures sure { B.never_fails → takes_none command.now ≡ true → is_failed (reply_of result) ≡ false }
@@ -59,64 +61,6 @@ fn carry_out<B: Books, R: Rng>(
         Command::CheckOut(party) => check_out(books, *party),
         Command::NextDay => next_day(books),
         Command::Reported(note) => take_note(books, note),
-    }
-}
-
-/// Does nothing: a note's values are in their ranges.
-fn known_note(note: &LockNote)
-    ensures { IsCommand (command.Reported note.now) }
-{
-    note.count().value();
-    note.day();
-    note.second();
-}
-
-/// Does nothing: a command's values are in their ranges.
-fn known_command(command: &Command)
-    ensures { IsCommand command.now }
-{
-    match command {
-        Command::Begin(day) => {
-            day.number();
-        }
-        Command::AddKind(kind) => {
-            kind.as_bytes();
-        }
-        Command::AddRoom { room, .. } => {
-            room.value();
-        }
-        Command::Reserve {
-            guest,
-            arrive,
-            nights,
-            ..
-        } => {
-            guest.text();
-            arrive.number();
-            nights.value();
-        }
-        Command::Reported(note) => known_note(note),
-        Command::Cancel(_)
-        | Command::CheckIn { .. }
-        | Command::Spare(_)
-        | Command::Transfer { .. }
-        | Command::CheckOut(_)
-        | Command::NextDay => {}
-    }
-}
-
-/// Does nothing: a reply's codes are in their range.
-fn known_reply(reply: &Reply)
-    ensures { IsReply reply.now }
-{
-    match reply {
-        Reply::RoomAdded { code } => {
-            code.value();
-        }
-        Reply::Issued(card) => {
-            card.link.new_code.value();
-        }
-        _ => {}
     }
 }
 

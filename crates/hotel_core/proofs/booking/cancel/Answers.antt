@@ -1,8 +1,11 @@
 use Rattle.std.proofs.Common.{◌≡◌, true, false, refl}
 use Rattle.hotel_core.specs.declared.reply.Refusal.TheVariants as refusal
 use Rattle.hotel_core.specs.OnRows.{outcome_on}
-use Rattle.hotel_core.proofs.Parts.{begun, then_found, at_now, stopped, refuses, ends}
+use Rattle.hotel_core.proofs.Parts.{begun, then_found, stopped, refuses, ends}
 use Rattle.hotel_core.specs.Cases.{is_booked_state}
+use Rattle.std.specs.Prelude.{[]}
+use Rattle.hotel_core.proofs.AnswerParts.{answers}
+use Rattle.hotel_core.specs.declared.command.Command.TheVariants as command
 use Rattle.hotel_core.proofs.booking.cancel.Goals as goal
 
 pub returns-in_err-today : goal.returns-in_err-today
@@ -21,9 +24,11 @@ returns-then-not-is_booked g c = λ source.
     let booked : is_booked_state c.in_ok-stay.stay.state ≡ false = cc in
     refuses refusal.NotBooked refl (then_found (then_found begun c.in_ok-today.ensures.finds) c.in_ok-stay.ensures) (λ k. rw (k.0.1, k.1, booked) refl)
 
-pub make-requires-clause-has_its_rows : goal.make-requires-clause-has_its_rows
-make-requires-clause-has_its_rows g c =
-    λ clean. let k = at_now (then_found (then_found begun c.in_ok-today.ensures.finds) c.in_ok-stay.ensures) clean in rw k.1 refl
+pub make-requires-clause-answered : goal.make-requires-clause-answered
+unfolding outcome_on
+make-requires-clause-answered g c =
+    let booked : is_booked_state c.in_ok-stay.stay.state ≡ true = cc in
+    answers (then_found (then_found begun c.in_ok-today.ensures.finds) c.in_ok-stay.ensures) (λ clean k. ([], command.Cancel c.args.party, tt, rw (k.0.1, k.1, booked) refl))
 
 pub returns : goal.returns
 unfolding outcome_on

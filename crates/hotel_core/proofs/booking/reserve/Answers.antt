@@ -4,13 +4,16 @@ use Rattle.hotel_core.specs.declared.reply.Reply.TheVariants as reply
 use Rattle.hotel_core.specs.declared.change.Change.TheVariants as change
 use Rattle.hotel_core.specs.OnRows.{outcome_on}
 use Rattle.hotel_core.proofs.DayNumbers.{is_day, no_day}
-use Rattle.hotel_core.proofs.Parts.{begun, then_found, at_now, stopped, refuses, ends, only}
+use Rattle.hotel_core.proofs.Parts.{begun, then_found, stopped, refuses, ends, only}
 use Rattle.std.specs.Prelude.{nat_lt, ◌+◌, ◌-◌}
 use Rattle.std.proofs.lemmas.Bool.Decides.{nat_tests}
 use Rattle.hotel_core.proofs.Parts.{number_is, lacks}
 use Rattle.hotel_nights.specs.declared.stay.StayState.TheVariants as state
 use Rattle.hotel_core.specs.declared.change.Change.{Change}
 use Rattle.hotel_core.specs.Outcome.{Outcome, accepted}
+use Rattle.std.specs.Prelude.{[]}
+use Rattle.hotel_core.proofs.AnswerParts.{answers}
+use Rattle.hotel_core.specs.declared.command.Command.TheVariants as command
 use Rattle.hotel_core.proofs.booking.reserve.Goals as goal
 
 abbrev booked_as : ℕ → List ℕ → List ℕ → ℕ → ℕ → Outcome Change
@@ -75,9 +78,22 @@ unfolding outcome_on
 returns-in_default-again g c = λ source.
     lacks (then_found (then_found (then_found (then_found begun c.in_ok-today.ensures.finds) c.in_ok-is_kind.ensures) c.in_ok-night.ensures) c.in_ok-party.ensures)
 
-pub make-requires-clause-has_its_rows : goal.make-requires-clause-has_its_rows
-make-requires-clause-has_its_rows g c =
-    λ clean. let k = at_now (then_found (then_found (then_found (then_found begun c.in_ok-today.ensures.finds) c.in_ok-is_kind.ensures) c.in_ok-night.ensures) c.in_ok-party.ensures) clean in (sym (number_is _ _ k.1), refl)
+pub make-requires-clause-answered : goal.make-requires-clause-answered
+unfolding outcome_on
+make-requires-clause-answered g c =
+    let past : nat_lt c.args.arrive c.in_ok-today.today ≡ false = grind (arith, nat_tests) in
+    let leaving = is_day (c.args.arrive + c.from.result) c.in-Some.depart c.in-Some.ensures in
+    let late : nat_lt 36524 (c.args.arrive + c.args.nights) ≡ false = grind (arith, nat_tests, leaving.1) in
+    let span : c.in-Some.depart - c.args.arrive ≡ c.args.nights = omega (arith, leaving.0) in
+    let free : c.in_ok-night.field-0 ≡ None = cc in
+    let last : c.in-Some.depart ≡ c.args.arrive + c.args.nights = omega (arith, leaving.0) in
+    answers (then_found (then_found (then_found (then_found begun c.in_ok-today.ensures.finds) c.in_ok-is_kind.ensures) c.in_ok-night.ensures) c.in_ok-party.ensures) (λ clean k. let full = rw span at (only k.0.1) in (
+      [],
+      command.Reserve c.args.guest.now c.args.kind.now c.args.arrive c.args.nights,
+      c.requires,
+      rw (k.0.0.0.1, only k.0.0.1, c.if-not-branch.false, past, late, full, free, k.1, number_is _ _ k.1) (ap (λ (d : ℕ). booked_as c.in_ok-party.party c.args.guest.now c.args.kind.now c.args.arrive d) (sym last)
+          ∙ ap (λ (g : List ℕ). booked_as c.in_ok-party.party g c.args.kind.now c.args.arrive c.in-Some.depart) (sym c.in-Ok.ensures)),
+    ))
 
 pub returns : goal.returns
 unfolding outcome_on

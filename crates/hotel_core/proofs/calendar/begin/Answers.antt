@@ -2,6 +2,9 @@ use Rattle.std.proofs.Common.{◌≡◌, true, false, refl, is_some}
 use Rattle.hotel_core.specs.declared.reply.Refusal.TheVariants.{AlreadyBegun}
 use Rattle.hotel_core.specs.OnRows.{outcome_on}
 use Rattle.hotel_core.proofs.Parts.{begun, then_found, stopped, refuses, ends, only}
+use Rattle.std.specs.Prelude.{[]}
+use Rattle.hotel_core.proofs.AnswerParts.{answers}
+use Rattle.hotel_core.specs.declared.command.Command.TheVariants as command
 use Rattle.hotel_core.proofs.calendar.begin.Goals as goal
 
 pub returns-in_err-day_if_set-clause-steps : goal.returns-in_err-day_if_set-clause-steps
@@ -14,6 +17,12 @@ unfolding outcome_on
 returns-then-is_some-clause-steps g c = λ source.
     let set : is_some c.in_ok-day_if_set.field-0 ≡ true = cc in
     refuses AlreadyBegun refl (then_found begun c.in_ok-day_if_set.ensures.finds) (λ k. rw (only k.1, set) refl)
+
+pub make-requires-clause-answered : goal.make-requires-clause-answered
+unfolding outcome_on
+make-requires-clause-answered g c =
+    let unset : is_some c.in_ok-day_if_set.field-0 ≡ false = cc in
+    answers (then_found begun c.in_ok-day_if_set.ensures.finds) (λ clean k. ([], command.Begin c.args.day, c.requires, rw (only k.1, unset) refl))
 
 pub returns-clause-steps : goal.returns-clause-steps
 unfolding outcome_on

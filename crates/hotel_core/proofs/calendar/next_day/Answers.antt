@@ -7,6 +7,9 @@ use Rattle.hotel_core.specs.Outcome.{accepted}
 use Rattle.hotel_core.specs.OnRows.{outcome_on}
 use Rattle.hotel_core.proofs.DayNumbers.{is_day, no_day}
 use Rattle.hotel_core.proofs.Parts.{begun, then_found, stopped, refuses, ends}
+use Rattle.std.specs.Prelude.{[]}
+use Rattle.hotel_core.proofs.AnswerParts.{answers}
+use Rattle.hotel_core.specs.declared.command.Command.TheVariants as command
 use Rattle.hotel_core.proofs.calendar.next_day.Goals as goal
 
 pub returns-in_err-day-clause-steps : goal.returns-in_err-day-clause-steps
@@ -19,6 +22,13 @@ unfolding outcome_on
 returns-in_default-clause-steps g c = λ source.
     let late : nat_lt c.in_ok-day.day 36524 ≡ false = let p = no_day (c.in_ok-day.day + 1) c.in_default.ensures in grind (arith, nat_tests, p) in
     refuses LastDay refl (then_found begun c.in_ok-day.ensures.finds) (λ k. rw (k.1, late) refl)
+
+pub make-requires-clause-answered : goal.make-requires-clause-answered
+unfolding outcome_on
+make-requires-clause-answered g c =
+    let next = is_day (c.in_ok-day.day + 1) c.in-Some.next c.in-Some.ensures in
+    let early : nat_lt c.in_ok-day.day 36524 ≡ true = grind (arith, nat_tests, next.1) in
+    answers (then_found begun c.in_ok-day.ensures.finds) (λ clean k. ([], command.NextDay, tt, rw (k.1, early) (ap (λ (n : ℕ). accepted (reply.DayIs n) (change.DayTo n)) (sym next.0))))
 
 pub returns-clause-steps : goal.returns-clause-steps
 unfolding outcome_on

@@ -2,6 +2,9 @@ use Rattle.std.proofs.Common.{refl}
 use Rattle.hotel_core.specs.declared.reply.Refusal.TheVariants.{KindExists}
 use Rattle.hotel_core.specs.OnRows.{outcome_on}
 use Rattle.hotel_core.proofs.Parts.{begun, then_found, stopped, refuses, ends, only}
+use Rattle.std.specs.Prelude.{[]}
+use Rattle.hotel_core.proofs.AnswerParts.{answers}
+use Rattle.hotel_core.specs.declared.command.Command.TheVariants as command
 use Rattle.hotel_core.proofs.inventory.add_kind.Goals as goal
 
 pub returns-in_err-today : goal.returns-in_err-today
@@ -19,6 +22,12 @@ unfolding outcome_on
 returns-then-branch g c = λ source.
     let there = c.if-branch.true in
     refuses KindExists refl (then_found (then_found begun c.in_ok-today.ensures.finds) c.in_ok-is_kind.ensures) (λ k. rw (k.0.1, only k.1, there) refl)
+
+pub make-requires-clause-answered : goal.make-requires-clause-answered
+unfolding outcome_on
+make-requires-clause-answered g c =
+    let there = c.if-branch.false in
+    answers (then_found (then_found begun c.in_ok-today.ensures.finds) c.in_ok-is_kind.ensures) (λ clean k. ([], command.AddKind c.args.kind.now, c.requires, rw (k.0.1, only k.1, there) refl))
 
 pub returns : goal.returns
 unfolding outcome_on

@@ -1,10 +1,13 @@
-use Rattle.std.proofs.Common.{◌≡◌, true, false, is_some, refl, ◌∙◌}
+use Rattle.std.proofs.Common.{◌≡◌, true, false, is_some, refl}
 use Rattle.hotel_core.specs.declared.reply.Refusal.TheVariants.{NoKind, RoomExists}
 use Rattle.hotel_core.specs.declared.reply.Reply.TheVariants as reply
 use Rattle.hotel_core.specs.declared.change.Change.TheVariants as change
 use Rattle.hotel_core.specs.OnRows.{outcome_on}
-use Rattle.hotel_core.proofs.Parts.{begun, then_found, at_now, stopped, refuses, only, none}
-use Rattle.hotel_core.proofs.DrawParts.{then_drawn, undrawn, drawn_ends}
+use Rattle.hotel_core.proofs.Parts.{begun, then_found, stopped, refuses, only}
+use Rattle.hotel_core.proofs.DrawParts.{undrawn, drawn_ends}
+use Rattle.keycard_rules.specs.Draw.{words}
+use Rattle.hotel_core.proofs.AnswerParts.{drawn_answers}
+use Rattle.hotel_core.specs.declared.command.Command.TheVariants as command
 use Rattle.hotel_core.proofs.inventory.add_room.Goals as goal
 
 pub returns-in_err-today : goal.returns-in_err-today
@@ -43,11 +46,13 @@ returns-in_err-code g c =
     (then_found (then_found (then_found begun c.in_ok-today.ensures.finds) c.in_ok-is_kind.ensures) c.in_ok-room_if_there.ensures) c.in_err-code.ensures
     (λ k. rw (k.0.0.1, only k.0.1, c.if-not-branch.false, only k.1, there) refl)
 
-pub make-requires-clause-has_its_rows : goal.make-requires-clause-has_its_rows
-make-requires-clause-has_its_rows g c = λ clean.
-    let k = at_now (then_drawn (then_found (then_found (then_found begun c.in_ok-today.ensures.finds) c.in_ok-is_kind.ensures) c.in_ok-room_if_there.ensures) c.in_ok-code.ensures) clean in
+pub make-requires-clause-answered : goal.make-requires-clause-answered
+unfolding outcome_on
+make-requires-clause-answered g c =
     let there : is_some c.in_ok-room_if_there.field-0 ≡ false = cc in
-    (only k.0.0.1 ∙ c.if-not-branch.false, only k.0.1 ∙ none _ there, k.1)
+    drawn_answers (λ code. reply.RoomAdded code) (λ code. change.Room c.args.room c.args.kind.now code)
+    (then_found (then_found (then_found begun c.in_ok-today.ensures.finds) c.in_ok-is_kind.ensures) c.in_ok-room_if_there.ensures) c.in_ok-code.ensures
+    (λ clean k. (words 64 (g.R.Rng.stream c.args.source.now), command.AddRoom c.args.room c.args.kind.now, c.requires, rw (k.0.0.1, only k.0.1, c.if-not-branch.false, only k.1, there) refl))
 
 pub returns : goal.returns
 unfolding outcome_on

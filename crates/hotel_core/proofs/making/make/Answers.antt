@@ -1,6 +1,11 @@
 use Rattle.hotel_core.proofs.Parts.{makes, fails}
 use Rattle.hotel_core.specs.Outcome.{accepted}
+use Rattle.hotel_core.proofs.FitsAfter.{fits_after}
 use Rattle.hotel_core.proofs.making.make.Goals as goal
+
+pub apply-requires : goal.apply-requires
+apply-requires g c = λ clean.
+    fits_after (g.B.Books.rows c.args.books.now) c.args.change c.args.reply (c.known_sound.ensures clean) c.known_reply.ensures (c.requires.answered clean)
 
 pub returns-in-Ok-clause-steps : goal.returns-in-Ok-clause-steps
 returns-in-Ok-clause-steps g c = λ source.

@@ -1,10 +1,13 @@
 use Rattle.std.proofs.Common.{None, refl, sym, ◌∙◌}
 use Rattle.hotel_core.specs.declared.reply.Refusal.TheVariants as refusal
 use Rattle.hotel_core.specs.declared.reply.Reply.TheVariants as reply
-use Rattle.hotel_core.specs.OnRows.{outcome_on}
+use Rattle.hotel_core.specs.OnRows.{outcome_on, reported_on}
 use Rattle.hotel_core.specs.Outcome.{refused}
 use Rattle.hotel_core.proofs.Parts.{begun, then_found, stopped, refuses, ends, only}
 use Rattle.hotel_core.proofs.NoteParts.{reported_there, says}
+use Rattle.std.specs.Prelude.{[]}
+use Rattle.hotel_core.proofs.AnswerParts.{comes_now}
+use Rattle.hotel_core.specs.declared.command.Command.TheVariants as command
 use Rattle.hotel_core.proofs.noting.take_note.Goals as goal
 
 pub returns-in_err-today : goal.returns-in_err-today
@@ -35,6 +38,11 @@ unfolding outcome_on
 returns-in-Some-2 g c = λ source.
     refuses refusal.Conflict refl (then_found (then_found (then_found begun c.in_ok-today.ensures.finds) (rw c.room.ensures at c.in_ok-row.ensures)) c.in_ok-kept.ensures)
     (λ k. rw (k.0.0.1, k.0.1, only k.1 ∙ c.in-Some.is, sym c.if-same_note.ensures) (refl {a = refused refusal.Conflict}))
+
+pub take_new-requires-clause-outcome : goal.take_new-requires-clause-outcome
+take_new-requires-clause-outcome g c =
+    comes_now (λ rs. reported_on rs c.args.note.now None) (then_found (then_found (then_found begun c.in_ok-today.ensures.finds) (rw c.room.ensures at c.in_ok-row.ensures)) c.in_ok-kept.ensures)
+    (λ clean k. ([], command.Reported c.args.note.now, c.requires, reported_there _ _ _ _ _ None k.0.0.1 k.0.1 (only k.1 ∙ c.in-None.is)))
 
 pub returns-in-None : goal.returns-in-None
 returns-in-None g c = λ source.

@@ -2,7 +2,10 @@ use Rattle.hotel_core.specs.Cases.{room_of_state}
 use Rattle.std.proofs.Common.{◌≡◌, Some, None, refl}
 use Rattle.hotel_core.specs.declared.reply.Refusal.TheVariants as refusal
 use Rattle.hotel_core.specs.OnRows.{outcome_on}
-use Rattle.hotel_core.proofs.Parts.{begun, then_found, at_now, stopped, halted, refuses, ends}
+use Rattle.hotel_core.proofs.Parts.{begun, then_found, stopped, halted, refuses, ends}
+use Rattle.std.specs.Prelude.{[]}
+use Rattle.hotel_core.proofs.AnswerParts.{answers}
+use Rattle.hotel_core.specs.declared.command.Command.TheVariants as command
 use Rattle.hotel_core.proofs.stays.check_out.Goals as goal
 
 pub returns-in_err-today : goal.returns-in_err-today
@@ -27,9 +30,12 @@ returns-in_err-row_of g c = λ source.
     let home : room_of_state c.in_ok-stay.stay.state ≡ Some c.in-Some.room = cc in
     halted c.from_residual-in_err-row_of.result c.from_residual-in_err-row_of.ensures.1 (then_found (then_found begun c.in_ok-today.ensures.finds) c.in_ok-stay.ensures) c.in_err-row_of.ensures (λ w k. (w.homes c.args.party c.in-Some.room (rw (k.1, home) refl)).0)
 
-pub make-requires-clause-has_its_rows : goal.make-requires-clause-has_its_rows
-make-requires-clause-has_its_rows g c =
-    λ clean. let k = at_now (then_found (then_found (then_found begun c.in_ok-today.ensures.finds) c.in_ok-stay.ensures) c.in_ok-row_of.ensures) clean in (rw k.0.1 refl, rw k.1 refl)
+pub make-requires-clause-answered : goal.make-requires-clause-answered
+unfolding outcome_on
+make-requires-clause-answered g c =
+    let home : room_of_state c.in_ok-stay.stay.state ≡ Some c.in-Some.room = cc in
+    answers (then_found (then_found (then_found begun c.in_ok-today.ensures.finds) c.in_ok-stay.ensures) c.in_ok-row_of.ensures)
+    (λ clean k. ([], command.CheckOut c.args.party, tt, rw (k.0.0.1, k.0.1, home) refl))
 
 pub returns : goal.returns
 unfolding outcome_on

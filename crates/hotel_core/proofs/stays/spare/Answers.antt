@@ -1,10 +1,13 @@
 use Rattle.hotel_core.specs.Cases.{room_of_state}
-use Rattle.std.proofs.Common.{◌≡◌, Some, None, refl, sym}
+use Rattle.std.proofs.Common.{◌≡◌, Some, None, refl}
 use Rattle.hotel_core.specs.declared.reply.Refusal.TheVariants as refusal
 use Rattle.hotel_core.specs.OnRows.{outcome_on}
-use Rattle.hotel_core.proofs.Parts.{begun, then_found, at_now, stopped, halted, refuses, ends, only}
+use Rattle.hotel_core.proofs.Parts.{begun, then_found, stopped, halted, refuses, ends, only}
 use Rattle.hotel_core.proofs.Parts.{number_is}
 use Rattle.hotel_core.proofs.WholeRows.{home_has_link}
+use Rattle.std.specs.Prelude.{[]}
+use Rattle.hotel_core.proofs.AnswerParts.{answers}
+use Rattle.hotel_core.specs.declared.command.Command.TheVariants as command
 use Rattle.hotel_core.proofs.stays.spare.Goals as goal
 
 pub returns-in_err-today : goal.returns-in_err-today
@@ -35,9 +38,12 @@ returns-in_err-link g c = λ source.
     let home : room_of_state c.in_ok-stay.stay.state ≡ Some c.in-Some.home = cc in
     halted c.from_residual-in_err-link.result c.from_residual-in_err-link.ensures.1 (then_found (then_found (then_found begun c.in_ok-today.ensures.finds) c.in_ok-stay.ensures) c.in_ok-number.ensures) c.in_err-link.ensures (λ w k. home_has_link _ c.args.party c.in-Some.home w (rw (k.0.1, home) refl))
 
-pub make-requires-clause-has_its_rows : goal.make-requires-clause-has_its_rows
-make-requires-clause-has_its_rows g c =
-    λ clean. let k = at_now (then_found (then_found (then_found (then_found begun c.in_ok-today.ensures.finds) c.in_ok-stay.ensures) c.in_ok-number.ensures) c.in_ok-link.ensures) clean in sym (number_is _ _ k.0.1)
+pub make-requires-clause-answered : goal.make-requires-clause-answered
+unfolding outcome_on
+make-requires-clause-answered g c =
+    let home : room_of_state c.in_ok-stay.stay.state ≡ Some c.in-Some.home = cc in
+    answers (then_found (then_found (then_found (then_found begun c.in_ok-today.ensures.finds) c.in_ok-stay.ensures) c.in_ok-number.ensures) c.in_ok-link.ensures)
+    (λ clean k. ([], command.Spare c.args.party, tt, rw (k.0.0.0.1, k.0.0.1, home, k.0.1, number_is _ _ k.0.1, only k.1) refl))
 
 pub returns : goal.returns
 unfolding outcome_on
