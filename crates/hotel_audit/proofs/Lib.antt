@@ -1,1 +1,5 @@
 mod Records
+mod NoteReplies
+mod Imports
+mod NotesKnown
+mod SentAgain

@@ -4,3 +4,5 @@ pub mod Line
 pub mod AuditFile
 pub mod Readings
 pub mod Answers
+pub mod Import
+pub mod SentAgain

@@ -5,13 +5,15 @@ mod answer;
 mod audit_file;
 mod fields;
 mod header;
+mod importing;
 mod laws;
 mod line;
 mod texts;
 
 pub use answer::LineAnswer;
 pub use audit_file::{AuditFault, read_notes};
-pub use laws::records_of_bytes;
+pub use importing::{ImportFault, import};
+pub use laws::{records_of_bytes, seen_again};
 pub use line::{Cause, Line};
 pub use texts::{AnswerText, answer_text};
 

@@ -1,12 +1,12 @@
 -- The table of codes has each room's codes at the places 0 and on, in the order of issue.
-use Rattle.std.proofs.Common.{ℕ, ◌≡◌, ◌≤◌, ◌<◌, ◌+◌, Bool, true, false, cond, Option, Some, None, List, [], ◌∷◌, ◌++◌, length, refl, ap, sym, ◌∙◌, subst, arith, length-append}
-use Rattle.std.specs.Prelude.{◌==◌, ◌&&◌, not, nat_lt}
+use Rattle.std.proofs.Common.{ℕ, ◌≡◌, ◌<◌, ◌+◌, Bool, true, false, cond, Some, None, List, [], ◌∷◌, ◌++◌, length, refl, ap, sym, ◌∙◌, subst, arith, length-append}
+use Rattle.std.specs.Prelude.{◌==◌, ◌&&◌, not}
 use Rattle.std.specs.Ordering.{nat_cmp, match_ordering}
 use Rattle.std.specs.declared.cmp.Ordering.{Ordering}
 use Rattle.std.specs.declared.cmp.Ordering.TheVariants.{Less, Equal, Greater}
 use Rattle.std.specs.BTreeMap.{is_at, insert_entry}
 use Rattle.std.specs.List.{list_all, count_by}
-use Rattle.std.specs.Map.{lookup, keys_of, values_of}
+use Rattle.std.specs.Map.{keys_of, values_of}
 use Rattle.std.proofs.lemmas.Bool.Decides.{nat_tests}
 use Rattle.std.proofs.lemmas.Cmp.{nat_cmp_total}
 use Rattle.std.proofs.lemmas.Map.Lookups.{exact_unsigned}
@@ -18,7 +18,7 @@ use Rattle.hotel_core.specs.History.{History, start, ◌▷◌}
 use Rattle.hotel_core.specs.Issued.{issued, all_issued}
 use Rattle.hotel_core.specs.Run.{Reached}
 use Rattle.hotel_core.specs.SoundRooms.{count_up}
-use Rattle.hotel_core.proofs.Tests.{eq_from, eq_self, and_true, not_both}
+use Rattle.hotel_core.proofs.Tests.{eq_from, eq_self, and_true}
 use Rattle.hotel_core.proofs.TableKeys.{is_at_self}
 use Rattle.hotel_core.proofs.Grown.{may_follow}
 use Rattle.hotel_core.proofs.Counting.{comes_last, counts_on}
@@ -28,7 +28,7 @@ use Rattle.hotel_core.proofs.KeysInOrder.{InOrder, in_order_inserted, keys_inser
 use Rattle.hotel_core.proofs.SameTables.{added_in_any_order}
 use Rattle.hotel_core.proofs.RowTests.{all_found}
 use Rattle.hotel_core.proofs.SoundKeys.{codes_in_order}
-use Rattle.hotel_core.proofs.SoundNights.{count_added}
+use Rattle.hotel_core.proofs.StayCounts.{count_inserted}
 use Rattle.hotel_core.proofs.StartCodes.{places_count_up, listed_at_start}
 
 -- the row isn't at this place of the room
@@ -146,7 +146,7 @@ one_listed false codes code n e = omega arith
 issue_listed : (h : History) (room code r : ℕ) → at_number (all_issued h) code ≡ None → count_by (λ (row : CodeRow). row.room == r) (values_of (all_issued h)) ≡ length (issued h r)
     → count_by (λ (row : CodeRow). row.room == r) (values_of (insert_entry nat_cmp (all_issued h) code (next_place h room))) ≡ length (when (room == r) (and_last code) (issued h r))
 issue_listed h room code r fresh ih =
-    count_added (λ (row : CodeRow). row.room == r) (all_issued h) code (next_place h room) fresh ∙ one_listed (room == r) (issued h r) code _ ih
+    count_inserted (λ (row : CodeRow). row.room == r) (all_issued h) code (next_place h room) fresh ∙ one_listed (room == r) (issued h r) code _ ih
 
 -- The table has as many codes of each room as were issued there.
 pub codes_are_listed : (h : History) → Reached h → (r : ℕ) → count_by (λ (row : CodeRow). row.room == r) (values_of (all_issued h)) ≡ length (issued h r)

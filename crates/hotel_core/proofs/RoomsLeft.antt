@@ -24,6 +24,9 @@ use Rattle.hotel_core.proofs.Numbering.{next_party_free}
 use Rattle.hotel_core.proofs.StayCounts.{count_inserted, count_changed, none_passes}
 use Rattle.hotel_core.proofs.StartRows.{rooms_of_start}
 use Rattle.hotel_core.proofs.StartRules.{le_from, lt_from}
+use Rattle.hotel_core.specs.RowsOf.{rows_of}
+use Rattle.hotel_core.specs.SoundRooms.{stays_on, rooms_with}
+use Rattle.hotel_core.proofs.KindCounts.{rooms_counted}
 
 -- on no night are more stays of a kind than rooms
 abbrev pub RoomsSuffice : History → Type 0
@@ -107,3 +110,7 @@ rooms_suffice (h ▷ _) ok kind d = rooms_suffice h ok.0 kind d
 pub none_oversold : NoOversell
 unfolding nights_taken
 none_oversold h ok kind d = rooms_suffice h ok kind d
+
+-- and of the rows
+pub rows_not_oversold : (h : History) → Reached h → (kind : List ℕ) (d : ℕ) → stays_on (rows_of h) kind d ≤ rooms_with (rows_of h) kind
+rows_not_oversold h ok kind d = subst (λ n. stays_on (rows_of h) kind d ≤ n) (sym (rooms_counted h kind)) (rooms_suffice h ok kind d)

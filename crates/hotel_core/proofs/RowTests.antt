@@ -1,6 +1,6 @@
 -- Tests that all rows of a table pass.
-use Rattle.std.proofs.Common.{ℕ, ◌≡◌, Bool, true, false, cond, Option, Some, None, List, [], ◌∷◌, refl, ap, sym, ◌∙◌, subst}
-use Rattle.std.specs.Prelude.{◌==◌, ◌&&◌, ◌||◌, map}
+use Rattle.std.proofs.Common.{ℕ, ◌≡◌, Bool, true, false, cond, Some, List, [], ◌∷◌, refl, ap, sym, ◌∙◌}
+use Rattle.std.specs.Prelude.{◌==◌, ◌&&◌, ◌||◌, not, map}
 use Rattle.std.specs.Ordering.{nat_cmp, is_eq, match_ordering, ordering_reverse}
 use Rattle.std.specs.Cmp.{IsTotalOrder}
 use Rattle.std.specs.declared.cmp.Ordering.{Ordering}
@@ -27,6 +27,11 @@ or_first a b s = ap (λ z. z || b) s
 pub or_later : (a b : Bool) → b ≡ true → (a || b) ≡ true
 or_later true b t = refl
 or_later false b t = t
+
+-- what holds where a case is so
+pub where_so : (so rule : Bool) → (so ≡ true → rule ≡ true) → (not so || rule) ≡ true
+where_so true rule f = f refl
+where_so false rule f = refl
 
 -- what passes a test passes a weaker one
 pub all_weaker : {X : Type 0} (t u : X → Bool) → ((x : X) → t x ≡ true → u x ≡ true) → (xs : List X) → list_all t xs ≡ true → list_all u xs ≡ true

@@ -1,7 +1,5 @@
 -- Tests that the rows of a table pass along each history: where each new row passes, and what passed goes on to pass.
-use Rattle.std.proofs.Common.{ℕ, ◌≡◌, Bool, true, List, [], ◌∷◌, Option, Some, None, refl, ap, sym, ◌∙◌, subst, length}
-use Rattle.std.specs.Ordering.{nat_cmp}
-use Rattle.std.specs.BTreeMap.{insert_entry}
+use Rattle.std.proofs.Common.{ℕ, ◌≡◌, Bool, true, List, Option, Some, None, refl, length}
 use Rattle.std.specs.List.{list_all}
 use Rattle.keycard_rules.specs.declared.card.Card.{Card}
 use Rattle.keycard_rules.specs.declared.card.Link.{Link}
@@ -15,7 +13,7 @@ use Rattle.hotel_core.specs.Event.{Event, Install, Reserved, Cancelled, CheckIn,
 use Rattle.hotel_core.specs.History.{History, start, ◌▷◌}
 use Rattle.hotel_core.specs.Issued.{issued, all_issued}
 use Rattle.hotel_core.specs.Cards.{cards, card_of, with_spare, link_of_party, link_to}
-use Rattle.hotel_core.specs.Stays.{rooms, stays, in_state, now_is}
+use Rattle.hotel_core.specs.Stays.{rooms, stays, now_is}
 use Rattle.hotel_core.specs.Notes.{all_notes, and_note}
 use Rattle.hotel_core.specs.Words.{pair_cmp}
 use Rattle.hotel_core.specs.Run.{Reached}

@@ -1,13 +1,11 @@
 -- Tables in the order of their keys that have the same rows are the same, so rows can be added in any order.
 use Rattle.std.proofs.Common.{ℕ, ◌≡◌, Bool, true, false, cond, Option, Some, None, List, [], ◌∷◌, refl, ap, sym, ◌∙◌, subst}
-use Rattle.std.specs.Prelude.{◌==◌}
-use Rattle.std.specs.Ordering.{nat_cmp, is_eq, ordering_reverse}
+use Rattle.std.specs.Ordering.{nat_cmp, ordering_reverse}
 use Rattle.std.specs.declared.cmp.Ordering.{Ordering}
-use Rattle.std.specs.declared.cmp.Ordering.TheVariants.{Less, Equal, Greater}
+use Rattle.std.specs.declared.cmp.Ordering.TheVariants.{Less, Greater}
 use Rattle.std.specs.BTreeMap.{is_at, insert_entry}
-use Rattle.std.specs.Map.{lookup, keys_of}
+use Rattle.std.specs.Map.{keys_of}
 use Rattle.std.proofs.lemmas.Cmp.{nat_cmp_total}
-use Rattle.std.proofs.lemmas.Map.Lookups.{exact_unsigned}
 use Rattle.hotel_core.specs.Rows.{at_number}
 use Rattle.hotel_core.proofs.TableKeys.{at_inserted, is_at_self, same_number, swap_tests}
 use Rattle.hotel_core.proofs.KeysInOrder.{AllAfter, InOrder, in_order_inserted, keys_inserted}
@@ -76,7 +74,8 @@ same_tables (a ∷ xs) (b ∷ ys) s t f =
     let later = same_tables xs ys s.1 t.1 (λ q. later_same xs ys a b q s t k (f q)) in
     ap (λ z. (z, a.1) ∷ xs) k ∙ ap (λ z. (b.0, z) ∷ xs) v ∙ ap (λ zs. b ∷ zs) later
 
-in_order_with : {X : Type 0} (es : List (ℕ × X)) (k : ℕ) (v : X) → InOrder nat_cmp (keys_of es) → InOrder nat_cmp (keys_of (insert_entry nat_cmp es k v))
+-- keys in order, with a row more
+pub in_order_with : {X : Type 0} (es : List (ℕ × X)) (k : ℕ) (v : X) → InOrder nat_cmp (keys_of es) → InOrder nat_cmp (keys_of (insert_entry nat_cmp es k v))
 in_order_with es k v s = subst (InOrder nat_cmp) (sym (keys_inserted nat_cmp k v es)) (in_order_inserted nat_cmp nat_cmp_total k (keys_of es) s)
 
 -- Rows of two keys can be added in either order.

@@ -1,21 +1,20 @@
 -- Codes: their range, their rooms and their places.
-use Rattle.std.proofs.Common.{ℕ, ◌≡◌, ◌<◌, ◌+◌, ◌^◌, Bool, true, false, Some, List, [], ◌∷◌, ◌++◌, length, refl, ap, sym, ◌∙◌, subst}
-use Rattle.std.specs.Prelude.{◌==◌, ◌&&◌, is_some, nat_lt}
+use Rattle.std.proofs.Common.{ℕ, ◌≡◌, ◌^◌, true, Some, List, length, ap, sym, ◌∙◌}
+use Rattle.std.specs.Prelude.{is_some, nat_lt}
 use Rattle.std.specs.Ordering.{nat_cmp}
-use Rattle.std.specs.Map.{keys_of}
 use Rattle.std.proofs.lemmas.Cmp.{nat_cmp_total}
 use Rattle.hotel_core.specs.declared.rows.CodeRow.{CodeRow}
-use Rattle.hotel_core.specs.Rows.{at_number, codes_by_place}
+use Rattle.hotel_core.specs.Rows.{at_number}
 use Rattle.hotel_core.specs.Event.{Install, CheckIn, Transfer}
 use Rattle.hotel_core.specs.History.{History}
-use Rattle.hotel_core.specs.Issued.{issued, all_issued}
+use Rattle.hotel_core.specs.Issued.{all_issued}
 use Rattle.hotel_core.specs.RowsOf.{rows_of}
 use Rattle.hotel_core.specs.Run.{Reached}
 use Rattle.hotel_core.specs.Cases.{is_room}
 use Rattle.hotel_core.specs.SoundCards.{codes_in_range, code_rooms_there, places_once}
 use Rattle.hotel_core.proofs.EventRanges.{last_in_range}
 use Rattle.hotel_core.proofs.CodePlaces.{places_have_codes}
-use Rattle.hotel_core.proofs.OpenLocks.{there_by_codes}
+use Rattle.hotel_core.proofs.OpenLocks.{there_by_codes, not_empty}
 use Rattle.hotel_core.proofs.HasRows.{room_has_row}
 use Rattle.hotel_core.proofs.RowTests.{both, all_mapped, all_found}
 use Rattle.hotel_core.proofs.RowsPass.{codes_pass}
@@ -32,10 +31,6 @@ codes_fit h ok =
     (λ h room code kind ok. lt_tested code (2 ^ 48) (last_in_range h (Install room kind code) ok).1)
     (λ h party room number code ok. lt_tested code (2 ^ 48) (last_in_range h (CheckIn party room number code) ok))
     (λ h party room number code ok. lt_tested code (2 ^ 48) (last_in_range h (Transfer party room number code) ok)) h ok
-
-not_empty : (front : List ℕ) (a : ℕ) (back : List ℕ) → front ++ a ∷ back ≡ [] → ⊥
-not_empty [] a back e = cc
-not_empty (x ∷ xs) a back e = cc
 
 -- the room of a code in the table is there
 pub code_room_there : (h : History) → Reached h → (code : ℕ) (row : CodeRow) → at_number (all_issued h) code ≡ Some row → is_room h row.room ≡ true

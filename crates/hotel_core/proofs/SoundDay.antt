@@ -1,6 +1,6 @@
 -- The day of a history's rows is in range, and is set before a kind is added.
-use Rattle.std.proofs.Common.{ℕ, ◌≡◌, ◌≤◌, ◌<◌, ◌+◌, Bool, true, false, Option, Some, None, refl, ap, sym, ◌∙◌, subst, arith, length}
-use Rattle.std.specs.Prelude.{◌==◌, ◌||◌, is_some, nat_le, nat_lt, option_map}
+use Rattle.std.proofs.Common.{ℕ, ◌≡◌, ◌≤◌, ◌<◌, ◌+◌, true, Option, Some, None, refl, arith, length}
+use Rattle.std.specs.Prelude.{◌==◌, is_some, nat_le, nat_lt, option_map}
 use Rattle.std.proofs.lemmas.Bool.Decides.{nat_tests}
 use Rattle.hotel_core.specs.Words.{said_of}
 use Rattle.hotel_core.specs.Event.{Begun, Kind, NextDay}

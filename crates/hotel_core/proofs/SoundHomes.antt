@@ -1,13 +1,11 @@
 -- Rooms and the stays in house: each has the other, and they are of one kind.
-use Rattle.std.proofs.Common.{ℕ, ◌≡◌, Bool, true, false, cond, Option, Some, None, List, [], ◌∷◌, ◌⊎◌, inl, inr, refl, ap, sym, ◌∙◌, subst}
+use Rattle.std.proofs.Common.{ℕ, ◌≡◌, Bool, true, false, cond, Option, Some, None, List, ◌⊎◌, inl, inr, refl, ap, sym, ◌∙◌, subst}
 use Rattle.std.specs.Prelude.{◌==◌, ◌&&◌, option_map, bytes_eq}
 use Rattle.std.specs.Ordering.{nat_cmp}
 use Rattle.std.specs.BTreeMap.{insert_entry}
-use Rattle.std.specs.Map.{lookup}
 use Rattle.hotel_nights.specs.declared.stay.Stay.{Stay}
 use Rattle.hotel_nights.specs.declared.stay.StayState.{StayState}
 use Rattle.hotel_nights.specs.declared.stay.StayState.TheVariants as state
-use Rattle.hotel_core.specs.declared.rows.RoomRow.{RoomRow}
 use Rattle.hotel_core.specs.Words.{said_of, is_that}
 use Rattle.hotel_core.specs.Rows.{at_number}
 use Rattle.hotel_core.specs.Event.{Install, Reserved, Cancelled, CheckIn, Transfer, CheckOut}
@@ -15,7 +13,7 @@ use Rattle.hotel_core.specs.History.{History, start, ◌▷◌}
 use Rattle.hotel_core.specs.Guests.{registered}
 use Rattle.hotel_core.specs.Stays.{rooms, stays, in_state, now_is}
 use Rattle.hotel_core.specs.RowsOf.{room_row, rows_of}
-use Rattle.hotel_core.specs.Cases.{room_of_state, room_of, is_of_kind}
+use Rattle.hotel_core.specs.Cases.{room_of_state, is_of_kind}
 use Rattle.hotel_core.specs.Run.{Reached}
 use Rattle.hotel_core.specs.SoundRooms.{is_home_of, parties_in_house}
 use Rattle.hotel_core.proofs.Tests.{eq_from, eq_self, not_both}

@@ -1,8 +1,7 @@
 -- Rooms: their numbers, locks, counts of codes and notes, and which are secured.
-use Rattle.std.proofs.Common.{ℕ, ◌≡◌, ◌≤◌, ◌<◌, ◌+◌, ◌-◌, Bool, true, false, Option, Some, None, List, [], ◌∷◌, ◌++◌, length, ◌⊎◌, inl, inr, refl, ap, sym, ◌∙◌, subst, arith, length-append}
-use Rattle.std.specs.Prelude.{◌==◌, ◌&&◌, ◌||◌, not, nat_le, nat_lt}
+use Rattle.std.proofs.Common.{ℕ, ◌≡◌, ◌≤◌, ◌<◌, ◌+◌, ◌-◌, Bool, true, false, Some, List, [], ◌∷◌, ◌++◌, length, inl, inr, refl, ap, ◌∙◌, subst, arith, length-append}
+use Rattle.std.specs.Prelude.{◌==◌, ◌&&◌, nat_le}
 use Rattle.std.specs.Ordering.{nat_cmp}
-use Rattle.std.specs.List.{list_all}
 use Rattle.std.proofs.lemmas.Cmp.{nat_cmp_total}
 use Rattle.std.proofs.lemmas.Bool.Decides.{nat_tests}
 use Rattle.keycard_rules.specs.declared.card.Link.{Link}
@@ -31,8 +30,8 @@ use Rattle.hotel_core.proofs.EventRanges.{last_in_range}
 use Rattle.hotel_core.proofs.NumbersLeft.{codes_fit}
 use Rattle.hotel_core.proofs.LedgerOrder.{ledger_holds, link_seen}
 use Rattle.hotel_core.proofs.OpenLocks.{link_of_room}
-use Rattle.hotel_core.proofs.SecuredRooms.{secured_rooms_fit}
-use Rattle.hotel_core.proofs.RowTests.{both, all_mapped, all_found}
+use Rattle.hotel_core.proofs.SecuredRooms.{secured_by, secured_rooms_fit}
+use Rattle.hotel_core.proofs.RowTests.{both, where_so, all_mapped, all_found}
 use Rattle.hotel_core.proofs.RowsPass.{rooms_pass}
 use Rattle.hotel_core.proofs.SoundKeys.{rooms_in_order}
 use Rattle.hotel_core.proofs.SoundDay.{le_tested, lt_tested}
@@ -97,10 +96,6 @@ issued_to : (b c : Bool) (codes : List ℕ) (code : ℕ) → (c ≡ true → 2 �
 issued_to true c codes code two e = not_both false e refl
 issued_to false c codes code two e = two e
 
-secured_by : (b c : Bool) → when b (λ _. true) c ≡ true → (b ≡ true) ⊎ (c ≡ true)
-secured_by true c e = inl refl
-secured_by false c e = inr e
-
 -- A secured room has two codes or more.
 pub secured_have_two : (h : History) → Reached h → (r : ℕ) → secured h r ≡ true → 2 ≤ length (issued h r)
 secured_have_two (start t) ok r e = secured_have_two_at_start t ok r e
@@ -126,14 +121,10 @@ holds_last ps code later codes e none =
 pub eq_tested : (a b : ℕ) → a ≡ b → (a == b) ≡ true
 eq_tested a b e = grind (arith, nat_tests)
 
-if_secured : (s : Bool) (rule : Bool) → (s ≡ true → rule ≡ true) → (not s || rule) ≡ true
-if_secured true rule f = f refl
-if_secured false rule f = refl
-
 -- A secured room's lock holds its last code, which isn't its first.
 pub secured_locks : (h : History) → Reached h → secured_hold_last (rows_of h) ≡ true
 secured_locks h ok =
     each_room_is h ok _
-    (λ r kind e. if_secured (secured h r) _
+    (λ r kind e. where_so (secured h r) _
     (λ s. let fit = secured_rooms_fit h ok r s in
     both _ _ (eq_tested _ _ (holds_last (passed h r) (held h r) (awaited h r) (issued h r) (ledger_holds h ok r fit.0) fit.1)) (le_tested 2 _ (secured_have_two h ok r s))))

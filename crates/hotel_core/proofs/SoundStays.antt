@@ -1,5 +1,5 @@
 -- Stays: their numbers, guests, days and rooms.
-use Rattle.std.proofs.Common.{ℕ, ◌≡◌, ◌≤◌, ◌<◌, ◌+◌, Bool, true, false, Option, Some, None, List, [], ◌∷◌, refl, ap, sym, ◌∙◌, subst}
+use Rattle.std.proofs.Common.{ℕ, ◌≡◌, ◌+◌, true, false, Option, Some, None, refl, ap, ◌∙◌}
 use Rattle.std.specs.Prelude.{◌==◌, ◌&&◌, nat_le, nat_lt}
 use Rattle.std.specs.Ordering.{nat_cmp}
 use Rattle.std.proofs.lemmas.Cmp.{nat_cmp_total}
@@ -9,10 +9,9 @@ use Rattle.hotel_core.specs.declared.rows.RoomRow.{RoomRow}
 use Rattle.hotel_core.specs.Words.{said_of, is_that}
 use Rattle.hotel_core.specs.Rows.{at_number}
 use Rattle.hotel_core.specs.Event.{Reserved}
-use Rattle.hotel_core.specs.History.{History, start, ◌▷◌}
-use Rattle.hotel_core.specs.Guests.{registered}
+use Rattle.hotel_core.specs.History.{History}
 use Rattle.hotel_core.specs.Stays.{stays}
-use Rattle.hotel_core.specs.RowsOf.{room_row, rows_of}
+use Rattle.hotel_core.specs.RowsOf.{rows_of}
 use Rattle.hotel_core.specs.Cases.{room_of_state, room_of}
 use Rattle.hotel_core.specs.Run.{Reached}
 use Rattle.hotel_core.specs.SoundRooms.{is_day, stay_numbers, guests_read, stay_days, has_party, stay_rooms}

@@ -1,9 +1,10 @@
 -- The notes of sound rows: the note of a room's count is the one of that place.
-use Rattle.std.proofs.Common.{ℕ, zero, suc, ◌≡◌, ◌+◌, Bool, true, false, cond, Option, Some, None, List, [], ◌∷◌, drop, refl, ap, sym, ◌∙◌, arith}
-use Rattle.std.specs.Prelude.{◌==◌, ◌&&◌, is_some, nat_lt, length}
+use Rattle.std.proofs.Common.{ℕ, zero, suc, ◌≡◌, ◌≤◌, ◌<◌, ◌+◌, Bool, true, false, cond, Option, Some, None, List, [], ◌∷◌, drop, refl, ap, sym, ◌∙◌, arith}
+use Rattle.std.specs.Prelude.{◌==◌, ◌&&◌, is_some, nat_le, nat_lt, length}
 use Rattle.std.specs.BTreeMap.{is_at}
 use Rattle.std.specs.List.{list_all}
 use Rattle.std.specs.Map.{lookup}
+use Rattle.std.proofs.lemmas.Bool.Decides.{nat_tests}
 use Rattle.keycard_rules.specs.Note.{Note}
 use Rattle.hotel_core.specs.declared.rows.RoomRow.{RoomRow}
 use Rattle.hotel_core.specs.Words.{when, pair_cmp}
@@ -14,11 +15,11 @@ use Rattle.hotel_core.specs.Cases.{is_room}
 use Rattle.hotel_core.specs.SoundRooms.{count_up, is_day}
 use Rattle.hotel_core.specs.SoundCards.{counts_at, act_fits, note_fits}
 use Rattle.hotel_core.specs.Sound.{IsSound}
-use Rattle.hotel_core.proofs.Pairs.{pair_is}
+use Rattle.hotel_core.proofs.Pairs.{pair_is, pair_cmp_total}
 use Rattle.hotel_core.proofs.Tests.{eq_from, eq_self, and_true, not_both}
-use Rattle.hotel_core.proofs.RowTests.{found_passes}
+use Rattle.hotel_core.proofs.RowTests.{found_passes, all_found}
 use Rattle.hotel_core.proofs.StartRules.{some_of}
-use Rattle.hotel_core.proofs.StartCodes.{room_is, has_no_row}
+use Rattle.hotel_core.proofs.StartCodes.{room_is, has_no_row, orders}
 use Rattle.hotel_core.proofs.StartLedger.{not_there}
 use Rattle.hotel_core.proofs.StartSplits.{past}
 
@@ -89,11 +90,9 @@ note_from t r n (e ∷ es) k a up =
     (λ u. note_from t r n es k a.2 u)
     (λ j q u. let m : n + k ≡ (n + 1) + j = omega arith in ap (λ z. lookup (is_at (pair_cmp (r, z))) es) m ∙ note_from t r (n + 1) es j a.2 u)
 
--- The note of a room's count k + 1 is the first after k notes there.
-pub note_kept_at_start : (t : Rows) → IsSound t → (r k : ℕ) → lookup (is_at (pair_cmp (r, k + 1))) t.notes ≡ first_note (drop k (notes_at t.notes r))
-note_kept_at_start t s r k =
-    let m : k + 1 ≡ 1 + k = omega arith in
-    ap (λ z. lookup (is_at (pair_cmp (r, z))) t.notes) m ∙ note_from t r 1 t.notes k (kept_from t t.notes s.note_fits) (by (is_some (at_number t.rooms r)) refl)
+-- The counts of a room's notes are 1, 2 and so on.
+pub notes_count_at_start : (t : Rows) → IsSound t → (r : ℕ) → count_up 1 (counts_at (notes_at t.notes r)) ≡ true
+notes_count_at_start t s r = by (is_some (at_number t.rooms r)) refl
   where
     by : (b : Bool) → is_some (at_number t.rooms r) ≡ b → count_up 1 (counts_at (notes_at t.notes r)) ≡ true
     by true q =
@@ -102,3 +101,29 @@ note_kept_at_start t s r k =
         let b = and_true (count_up 1 (counts_at (notes_at t.notes row.0.room))) (length (notes_at t.notes row.0.room) == row.0.notes) a in
         ap (λ z. count_up 1 (counts_at (notes_at t.notes z))) (sym (room_is t s r row.0 row.1)) ∙ b.0
     by false q = ap (λ zs. count_up 1 (counts_at zs)) (no_notes t r (has_no_row t r q) t.notes (kept_from t t.notes s.note_fits))
+
+-- The note of a room's count k + 1 is the first after k notes there.
+pub note_kept_at_start : (t : Rows) → IsSound t → (r k : ℕ) → lookup (is_at (pair_cmp (r, k + 1))) t.notes ≡ first_note (drop k (notes_at t.notes r))
+note_kept_at_start t s r k =
+    let m : k + 1 ≡ 1 + k = omega arith in
+    ap (λ z. lookup (is_at (pair_cmp (r, z))) t.notes) m ∙ note_from t r 1 t.notes k (kept_from t t.notes s.note_fits) (notes_count_at_start t s r)
+
+some_left : (k : ℕ) (xs : List Note) (note : Note) → first_note (drop k xs) ≡ Some note → k < length xs
+some_left k [] note e = let w : ◌≡◌ {A = Option Note} None (Some note) = sym (nothing_left k) ∙ e in cc
+some_left zero (x ∷ xs) note e = omega arith
+some_left (suc k) (x ∷ xs) note e = let l = some_left k xs note e in omega arith
+
+within_by : (t : Rows) → IsSound t → (r c : ℕ) (note : Note) → lookup (is_at (pair_cmp (r, c))) t.notes ≡ Some note → c ≤ length (notes_at t.notes r)
+within_by t s r zero note e = omega arith
+within_by t s r (suc k) note e =
+    let m : k + 1 ≡ suc k = omega arith in
+    let l = some_left k (notes_at t.notes r) note (sym (note_kept_at_start t s r k) ∙ ap (λ z. lookup (is_at (pair_cmp (r, z))) t.notes) m ∙ e) in
+    omega arith
+
+le_tested : (a b : ℕ) → a ≤ b → nat_le a b ≡ true
+le_tested a b l = grind (arith, nat_tests)
+
+-- No note has a count above how many its room has.
+pub counts_within_at_start : (t : Rows) → IsSound t → list_all (λ (e : (ℕ × ℕ) × Note). nat_le e.0.1 (length (notes_at t.notes e.0.0))) t.notes ≡ true
+counts_within_at_start t s =
+    all_found pair_cmp pair_cmp_total (λ (e : (ℕ × ℕ) × Note). nat_le e.0.1 (length (notes_at t.notes e.0.0))) t.notes (orders t s).notes (λ k note e. le_tested _ _ (within_by t s k.0 k.1 note e))

@@ -77,7 +77,8 @@ pub rooms_numbered_at_start : (t : Rows) → IsSound t → list_all (λ (e : ℕ
 rooms_numbered_at_start t s =
     all_weaker (λ (e : ℕ × RoomRow). (e.1.room == e.0) && nat_le 1 e.0 && nat_le e.0 9999) (λ (e : ℕ × RoomRow). (e.0 == e.0) && nat_le 1 e.0 && nat_le e.0 9999) weaker t.rooms s.room_number
 
-lock_is : (t : Rows) → IsSound t → (r : ℕ) (row : RoomRow) → at_number t.rooms r ≡ Some row → length (take (lock_place_of t r) (codes_at t r)) ≡ row.lock_place
+-- as many codes are passed as the lock's place says
+pub lock_is : (t : Rows) → IsSound t → (r : ℕ) (row : RoomRow) → at_number t.rooms r ≡ Some row → length (take (lock_place_of t r) (codes_at t r)) ≡ row.lock_place
 lock_is t s r row e =
     let l = lock_within t s r row e in
     ap (λ z. length (take z (codes_at t r))) l.0 ∙ length-take-le row.lock_place (codes_at t r) (below l.1)

@@ -20,7 +20,7 @@ use Rattle.hotel_core.proofs.StartCodes.{room_there_is, counted, lock_within}
 use Rattle.hotel_core.proofs.StartLinks.{newest_by_rule}
 
 -- a card inside a room passes the test of all insides
-inside_passes : (test : ℕ × ℕ → Bool) (es : List (ℕ × ℕ)) (r n : ℕ) → list_all test es ≡ true → is_one_of n (those_in es r) ≡ true → test (r, n) ≡ true
+pub inside_passes : (test : ℕ × ℕ → Bool) (es : List (ℕ × ℕ)) (r n : ℕ) → list_all test es ≡ true → is_one_of n (those_in es r) ≡ true → test (r, n) ≡ true
 inside_passes test [] r n a e = not_both false e refl
 inside_passes test (x ∷ es) r n a e =
     let p = and_true (test x) (list_all test es) a in

@@ -32,6 +32,8 @@ pub mod Noting
 pub mod Stepping
 pub mod Headline
 pub mod Lists
+pub mod ListsOnRows
+pub mod Walks
 pub mod Follow
 pub mod Texts
 pub mod CodeLaws

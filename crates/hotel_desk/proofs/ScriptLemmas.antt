@@ -6,6 +6,7 @@ use Rattle.std.specs.Io.KnownBytes.{Appends}
 use Rattle.std.proofs.KnownBytes.{Appends-trans, Appends-nil}
 use Rattle.rand_core.specs.Stream.{Stream}
 use Rattle.keycard_rules.proofs.Drawing.{past-zero}
+use Rattle.hotel_core.proofs.Assurance.{assured}
 use Rattle.hotel_core.specs.declared.command.Command.{Command}
 use Rattle.hotel_core.specs.declared.reply.Reply.TheVariants.{Refused}
 use Rattle.hotel_core.specs.declared.reply.Refusal.TheVariants.{Memory}
@@ -16,7 +17,7 @@ use Rattle.hotel_core.specs.Texts.{reply_text}
 use Rattle.hotel_lists.specs.Bytes.{AppendsFront}
 use Rattle.hotel_desk.specs.Lines.{lines, without_return, is_silent, answered_lines}
 use Rattle.hotel_desk.specs.LineAnswers.{AskGoes, LineGoes}
-use Rattle.hotel_desk.specs.Script.{ScriptGoes, RowsGo}
+use Rattle.hotel_desk.specs.Script.{ScriptGoes, RowsGoSafely, RowsGo}
 
 -- a command for which there is no memory moves nothing
 pub ask_without_memory : (wanted : Option Command) (h : History) (s : Stream) → IsSome wanted → AskGoes wanted h s (reply_text (Refused Memory)) h s
@@ -89,3 +90,8 @@ answered_more text later line cut e w h =
     let s : is_silent (without_return line) ≡ false = subst (λ (x : List ℕ). is_silent x ≡ false) w h in
     let k : answered_lines text ≡ without_return line ∷ answered_lines later = rw (e, s) refl in
     k ∙ ap (λ (x : List ℕ). x ∷ answered_lines later) (sym w)
+
+-- what is assured holds of the history after the lines
+pub goes_safely : (a : Rows) (s : Stream) (lines : List (List ℕ)) (P : List ℕ → Type 0) (b : Rows) (t : Stream) → RowsGo a s lines P b t → RowsGoSafely a s lines P b t
+unfolding RowsGoSafely
+goes_safely a s lines P b t go = λ h stands. let r = go h stands in (r.0, r.1, r.2, r.3, r.4, assured r.1 r.2.0)

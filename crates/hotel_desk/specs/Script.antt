@@ -3,6 +3,7 @@ use Rattle.std.specs.Prelude.{◌≡◌, ◌≤◌, ℕ, length, List, [], ◌�
 use Rattle.rand_core.specs.Stream.{Stream}
 use Rattle.hotel_core.specs.Rows.{Rows}
 use Rattle.hotel_core.specs.History.{History}
+use Rattle.hotel_core.specs.Headline.{Assured}
 use Rattle.hotel_core.specs.Run.{StandsFor}
 use Rattle.hotel_desk.specs.LineAnswers.{LineGoes}
 use Rattle.hotel_desk.specs.declared.script.ScriptFault.{ScriptFault}
@@ -21,6 +22,11 @@ ScriptGoes h s (line ∷ later) output h' s' =
 abbrev pub RowsGo : Rows → Stream → List (List ℕ) → (List ℕ → Type 0) → Rows → Stream → Type 0
 RowsGo rows s lines written rows' s' =
     (h : History) → StandsFor h rows → (output : List ℕ) × (h' : History) × StandsFor h' rows' × ScriptGoes h s lines output h' s' × written output
+
+-- And what is assured holds of the history after them.
+unfoldable pub RowsGoSafely : Rows → Stream → List (List ℕ) → (List ℕ → Type 0) → Rows → Stream → Type 0
+RowsGoSafely rows s lines written rows' s' =
+    (h : History) → StandsFor h rows → (output : List ℕ) × (h' : History) × StandsFor h' rows' × ScriptGoes h s lines output h' s' × written output × Assured h'
 
 -- The script is what the reader had, where its bytes are known, and no longer than the limit.
 abbrev pub IsInput : ℕ → Option (List ℕ) → List ℕ → Type 0

@@ -1,6 +1,6 @@
-use Rattle.std.proofs.Common.{rules, arith, ◌≡◌, ◌≤◌, ℕ, zero, suc, List, [], ◌∷◌, length, Option, Some, None}
+use Rattle.std.proofs.Common.{rules, arith, ◌≡◌, ◌≤◌, ℕ, zero, suc, List, [], ◌∷◌, length, Some, None}
 use Rattle.csv.specs.Records.{fields_of, field_at}
-use Rattle.hotel_audit.specs.Fields.{FieldTexts, seven_fields}
+use Rattle.hotel_audit.specs.Fields.{seven_fields}
 use Rattle.hotel_audit.proofs.fields.fields_of_record.Goals as goal
 
 -- no field stands at a place only after the last one

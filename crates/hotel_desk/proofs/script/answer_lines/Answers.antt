@@ -4,7 +4,7 @@ use Rattle.std.proofs.KnownBytes.{Appends-trans}
 use Rattle.hotel_desk.specs.Lines.{answered_lines, is_silent}
 use Rattle.hotel_desk.specs.LineAnswers.{answer_text}
 use Rattle.hotel_desk.specs.Script.{RowsGo}
-use Rattle.hotel_desk.proofs.ScriptLemmas.{rows_begin, rows_more, next_line, all_done, answered_more, appends_front}
+use Rattle.hotel_desk.proofs.ScriptLemmas.{goes_safely, rows_begin, rows_more, next_line, all_done, answered_more, appends_front}
 use Rattle.hotel_desk.proofs.script.answer_lines.Goals as goal
 
 pub loop-line-init : goal.loop-line-init
@@ -41,9 +41,10 @@ returns-in_default-write_answer-clause-cut g c = λ clean.
     let silent : is_silent line ≡ false = sym c.is_silent.ensures ∙ c.if-not-is_silent.true in
     let left = c.loop-line.invariant.left ∙ answered_more c.loop-line.rest.now c.in-Some.later.now c.in-Some.line.now line c.in-Some.ensures.some c.without_return-line.ensures silent in
     let answered = c.answer_line-answer.ensures in
-    rows_more _ _ _ _ _ _ all c.loop-line.done line (answer_text c.answer_line-answer.result) _ _ _
+    goes_safely _ _ _ _ _ _
+    (rows_more _ _ _ _ _ _ all c.loop-line.done line (answer_text c.answer_line-answer.result) _ _ _
     (c.loop-line.invariant.went (answered.was_clean clean)) left (λ h stands. answered.goes h stands clean)
-    (λ output written. appends_front _ _ _ output _ c.in_default-write_answer.ensures.err written)
+    (λ output written. appends_front _ _ _ output _ c.in_default-write_answer.ensures.err written))
 
 pub returns-clause-count : goal.returns-clause-count
 returns-clause-count g c =
@@ -54,6 +55,6 @@ pub returns-clause-ok : goal.returns-clause-ok
 returns-clause-ok g c = λ clean.
     let none : answered_lines c.loop-line.rest.now ≡ [] = rw (c.first_line.ensures.none c.in_default.is) refl in
     let whole = (all_done (answered_lines c.args.script.now) c.loop-line.done c.loop-line.invariant.within (c.loop-line.invariant.left ∙ none)).1 in
-    subst (λ (ls : List (List ℕ)). RowsGo (g.B.Books.rows c.args.books.now) (g.R.Rng.stream c.args.source.now) ls
+    goes_safely _ _ _ _ _ _ (subst (λ (ls : List (List ℕ)). RowsGo (g.B.Books.rows c.args.books.now) (g.R.Rng.stream c.args.source.now) ls
     (Appends (g.W.Write.contents c.args.writer.now) (g.W.Write.contents c.loop-line.writer)) (g.B.Books.rows c.loop-line.books) (g.R.Rng.stream c.loop-line.source))
-    whole (c.loop-line.invariant.went clean)
+    whole (c.loop-line.invariant.went clean))

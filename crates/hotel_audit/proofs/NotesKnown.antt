@@ -1,0 +1,193 @@
+-- A note that was taken stays so, and is seen when it comes again.
+use Rattle.std.proofs.Common.{◌≡◌, ◌≢◌, ◌∙◌, ℕ, zero, suc, Bool, true, false, List, [], ◌∷◌, ◌++◌, Option, Some, None, length, drop, sym, refl, subst, ap, arith, eq-eqb}
+use Rattle.std.proofs.lemmas.Bool.{eqb-true}
+use Rattle.std.specs.Prelude.{◌==◌, ◌&&◌, ◌+◌, ◌-◌, is_some, option_map, if◌then◌else◌}
+use Rattle.std.proofs.Math.Seq.{drop-append_seam}
+use Rattle.rand_core.specs.Stream.{Stream}
+use Rattle.keycard_rules.specs.declared.card.Link.{Link}
+use Rattle.keycard_rules.specs.declared.note.Act.{Act}
+use Rattle.keycard_rules.specs.declared.note.Act.TheVariants as act
+use Rattle.keycard_rules.specs.Note.{Note}
+use Rattle.keycard_rules.specs.Draw.{words}
+use Rattle.hotel_core.specs.declared.command.Command.{Command}
+use Rattle.hotel_core.specs.declared.command.Command.TheVariants as command
+use Rattle.hotel_core.specs.declared.reply.Reply.{Reply}
+use Rattle.hotel_core.specs.declared.reply.Reply.TheVariants as reply
+use Rattle.hotel_core.specs.declared.reply.Refusal.{Refusal}
+use Rattle.hotel_core.specs.declared.reply.Refusal.TheVariants.{NotBegun, NoRoom, NoCard, CardDiffers, LockShut, NotInside, HeldDiffers, NotAwaited}
+use Rattle.hotel_core.specs.Answer.{answer_to, moment_of, told, reported}
+use Rattle.hotel_core.specs.Cases.{is_begun, is_card, is_room, has_link, holds, opens}
+use Rattle.hotel_core.specs.Event as event
+use Rattle.hotel_core.specs.Guests.{inside}
+use Rattle.hotel_core.specs.Ledger.{awaited}
+use Rattle.hotel_core.specs.Event.{Event, Begun, NextDay, Install, note_of}
+use Rattle.hotel_core.specs.History.{History, ◌▷◌}
+use Rattle.hotel_core.specs.Notes.{Copy, Conflicting, Next, After, notes, with_note, same_note, same_act, same_link, standing, standing_among}
+use Rattle.hotel_core.specs.Outcome.{Outcome, accepted, grown, needs, said, unless}
+use Rattle.hotel_core.specs.Run.{Runs, Steps, StepsIf, is_failed}
+use Rattle.hotel_core.specs.Stays.{day}
+use Rattle.hotel_core.specs.Words.{and_last, is_one_of, when}
+use Rattle.hotel_core.proofs.NoRooms.{not_added}
+
+-- the first of these notes is the note
+abbrev pub BeginsWith : List Note → Note → Type 0
+BeginsWith [] note = ⊥
+BeginsWith (kept ∷ more) note = same_note kept note ≡ true
+
+-- a business day is set, the room is there, and the note was taken
+pub record Knows (h : History) (note : Note) : Type 0 where
+  pub begun : is_begun h ≡ true
+  pub room : is_room h note.room ≡ true
+  pub kept : BeginsWith (drop (note.count - 1) (notes h note.room)) note
+
+begun_more : (h : History) (e : Event) → is_begun h ≡ true → is_begun (h ▷ e) ≡ true
+begun_more h (Begun first) b = refl
+begun_more h NextDay b = by (day h) b
+  where
+    by : (d : Option ℕ) → is_some d ≡ true → is_some (option_map (λ n. n + 1) d) ≡ true
+    by None q = q
+    by (Some n) q = refl
+begun_more h _ b = b
+
+room_more : (h : History) (e : Event) (r : ℕ) → is_room h r ≡ true → is_room (h ▷ e) r ≡ true
+room_more h (Install room kind code) r there = by (is_room (h ▷ Install room kind code) r) refl
+  where
+    by : (b : Bool) → is_room (h ▷ Install room kind code) r ≡ b → is_room (h ▷ Install room kind code) r ≡ true
+    by true q = q
+    by false q = let none = (not_added h room r code kind q).1 in cc (there, none)
+room_more h _ r there = there
+
+begins_longer : (k : ℕ) (xs ys : List Note) (note : Note) → BeginsWith (drop k xs) note → BeginsWith (drop k (xs ++ ys)) note
+begins_longer zero [] ys note b = absurd b
+begins_longer zero (x ∷ xs) ys note b = b
+begins_longer (suc k) [] ys note b = absurd b
+begins_longer (suc k) (x ∷ xs) ys note b = begins_longer k xs ys note b
+
+kept_more : (o : Option Note) (r k : ℕ) (xs : List Note) (note : Note) → BeginsWith (drop k xs) note → BeginsWith (drop k (with_note r o xs)) note
+kept_more None r k xs note b = b
+kept_more (Some n) r k xs note b = by (n.room == r)
+  where
+    by : (t : Bool) → BeginsWith (drop k (when t (and_last n) xs)) note
+    by true = begins_longer k xs (n ∷ []) note b
+    by false = b
+
+knows_more : (h : History) (e : Event) (note : Note) → Knows h note → Knows (h ▷ e) note
+knows_more h e note k = record {
+  begun = begun_more h e k.begun;
+  room = room_more h e note.room k.room;
+  kept = kept_more (note_of e) note.room (note.count - 1) (notes h note.room) note k.kept;
+}
+
+knows_grown : (h : History) (o : Option Event) (note : Note) → Knows h note → Knows (grown h o) note
+knows_grown h None note k = k
+knows_grown h (Some e) note k = knows_more h e note k
+
+knows_after : (b : Bool) (h : History) (s : Stream) (c : Command) (reply : Reply) (h' : History) (s' : Stream) (note : Note) → StepsIf b h s c reply h' s' → Knows h note → Knows h' note
+knows_after true h s c reply h' s' note d k = subst (λ z. Knows z note) (sym d.0) k
+knows_after false h s c reply h' s' note d k = subst (λ z. Knows z note) (sym d.1) (knows_grown h _ note k)
+
+-- what was taken stays so along a run
+pub knows_along : (h h' : History) (s s' : Stream) (commands : List Command) (replies : List Reply) (note : Note) → Runs h s commands replies h' s' → Knows h note → Knows h' note
+knows_along h h' s s' [] [] note r k = subst (λ z. Knows z note) (sym r.0) k
+knows_along h h' s s' (c ∷ commands) (p ∷ replies) note r k =
+    knows_along r.0 h' r.1 s' commands replies note r.3 (knows_after (is_failed p) h s c p r.0 r.1 note r.2 k)
+knows_along h h' s s' [] (p ∷ replies) note r k = absurd r
+knows_along h h' s s' (c ∷ commands) [] note r k = absurd r
+
+-- a note that was taken is answered Seen
+pub known_seen : (h : History) (ahead : List ℕ) (note : Note) → Knows h note → answer_to h ahead (command.Reported note) ≡ said reply.Seen
+unfolding answer_to
+known_seen h ahead note k = rw (k.begun, k.room) (by (drop (note.count - 1) (notes h note.room)) k.kept)
+  where
+    by : (xs : List Note) → BeginsWith xs note → reported h note (standing_among (length (notes h note.room)) note xs) ≡ said reply.Seen
+    by [] b = absurd b
+    by (kept ∷ more) b = rw b refl
+
+same_link_itself : (l : Link) → same_link l l ≡ true
+same_link_itself l = rw (eq-eqb l.old_code l.old_code refl, eq-eqb l.new_code l.new_code refl) refl
+
+same_act_itself : (a : Act) → same_act a a ≡ true
+same_act_itself (act.Entered n l) = rw (eq-eqb n n refl, same_link_itself l) refl
+same_act_itself (act.Left n l) = rw (eq-eqb n n refl, same_link_itself l) refl
+same_act_itself (act.Recoded from to) = rw (eq-eqb from from refl, eq-eqb to to refl) refl
+
+same_note_itself : (n : Note) → same_note n n ≡ true
+same_note_itself n =
+    rw (eq-eqb n.room n.room refl, eq-eqb n.count n.count refl, same_act_itself n.act, eq-eqb n.day n.day refl, eq-eqb n.second n.second refl) refl
+
+-- the next note of a room is its last one afterwards
+next_kept : (note : Note) (taken : List Note) → note.count ≡ length taken + 1 → BeginsWith (drop (note.count - 1) (with_note note.room (Some note) taken)) note
+next_kept note taken next =
+    let at : note.count - 1 ≡ length taken = omega arith in
+    rw (at, eq-eqb note.room note.room refl, drop-append_seam taken (note ∷ [])) (same_note_itself note)
+
+knows_next : (h : History) (e : Event) (note : Note) → note_of e ≡ Some note → is_begun h ≡ true → is_room h note.room ≡ true → note.count ≡ length (notes h note.room) + 1 → Knows (h ▷ e) note
+knows_next h e note of begun room next = record {
+  begun = begun_more h e begun;
+  room = room_more h e note.room room;
+  kept = rw of (next_kept note (notes h note.room) next);
+}
+
+-- the reply is Taken or Seen
+abbrev pub IsTaken : Reply → Type 0
+IsTaken reply.Taken = Unit {0}
+IsTaken reply.Seen = Unit {0}
+IsTaken _ = ⊥
+
+-- what comes of checks is what comes otherwise, where it isn't a refusal
+unless_taken : (checks : List (Option Refusal)) (o p : Outcome Event) → p ≡ unless checks o → IsTaken p.reply → p ≡ o
+unless_taken [] o p e t = e
+unless_taken (Some why ∷ checks) o p e t = absurd (rw e at t)
+unless_taken (None ∷ checks) o p e t = unless_taken checks o p e t
+
+needs_taken : (begun room : Bool) (o : Outcome Event) → IsTaken (unless (needs begun NotBegun ∷ needs room NoRoom ∷ []) o).reply → (begun ≡ true) × (room ≡ true) × IsTaken o.reply
+needs_taken true true o t = (refl, refl, t)
+needs_taken true false o t = absurd t
+needs_taken false room o t = absurd t
+
+knows_told : (h : History) (note : Note) (what : Act) (o : Outcome Event) → what ≡ note.act → is_begun h ≡ true → is_room h note.room ≡ true → note.count ≡ length (notes h note.room) + 1
+    → o ≡ told h note what → IsTaken o.reply → Knows (grown h o.happens) note
+knows_told h note (act.Entered number link) o w begun room next e t =
+    let ev = event.Entered note.room note.count number link (moment_of note) in
+    let same = unless_taken (needs (is_card h number) NoCard ∷ needs (has_link h number link) CardDiffers ∷ needs (opens h note.room link) LockShut ∷ []) (accepted reply.Taken ev) o e t in
+    rw same (knows_next h ev note (ap (λ a. Some (record note { act = a })) w) begun room next)
+knows_told h note (act.Left number link) o w begun room next e t =
+    let ev = event.Left note.room note.count number link (moment_of note) in
+    let same = unless_taken (needs (is_card h number) NoCard ∷ needs (has_link h number link) CardDiffers ∷ needs (is_one_of number (inside h note.room)) NotInside ∷ []) (accepted reply.Taken ev) o e t in
+    rw same (knows_next h ev note (ap (λ a. Some (record note { act = a })) w) begun room next)
+knows_told h note (act.Recoded from to) o w begun room next e t =
+    let ev = event.Recoded note.room note.count from to (moment_of note) in
+    let same = unless_taken (needs (holds h note.room from) HeldDiffers ∷ needs (is_one_of to (awaited h note.room)) NotAwaited ∷ []) (accepted reply.Taken ev) o e t in
+    rw same (knows_next h ev note (ap (λ a. Some (record note { act = a })) w) begun room next)
+
+knows_reported : (h : History) (note : Note) (o : Outcome Event) → is_begun h ≡ true → is_room h note.room ≡ true → o ≡ reported h note (standing h note) → IsTaken o.reply → Knows (grown h o.happens) note
+knows_reported h note o begun room e t = by (drop (note.count - 1) (notes h note.room)) refl
+  where
+    taken : ℕ
+    taken = length (notes h note.room)
+
+    seen : (b : Bool) (kept : Note) (more : List Note) → drop (note.count - 1) (notes h note.room) ≡ kept ∷ more → same_note kept note ≡ b → o ≡ reported h note (if b then Copy else Conflicting) → Knows (grown h o.happens) note
+    seen true kept more d q f =
+        let k : Knows h note = record { begun = begun; room = room; kept = rw d q } in
+        rw f k
+    seen false kept more d q f = absurd (rw f at t)
+
+    next : (b : Bool) → (note.count == taken + 1) ≡ b → o ≡ reported h note (if b then Next else After (taken + 1)) → Knows (grown h o.happens) note
+    next true q f = knows_told h note note.act o refl begun room (eqb-true note.count (taken + 1) q) f t
+    next false q f = absurd (rw f at t)
+
+    by : (xs : List Note) → drop (note.count - 1) (notes h note.room) ≡ xs → Knows (grown h o.happens) note
+    by (kept ∷ more) d = seen (same_note kept note) kept more d refl (rw d at e)
+    by [] d = next (note.count == taken + 1) refl (rw d at e)
+
+-- a note whose reply is Taken or Seen was taken
+knows_answered : (h : History) (ahead : List ℕ) (note : Note) → IsTaken (answer_to h ahead (command.Reported note)).reply → Knows (grown h (answer_to h ahead (command.Reported note)).happens) note
+unfolding answer_to
+knows_answered h ahead note t =
+    let checked = needs_taken (is_begun h) (is_room h note.room) (reported h note (standing h note)) t in
+    rw (checked.0, checked.1) (knows_reported h note (reported h note (standing h note)) checked.0 checked.1 refl checked.2)
+
+pub knows_step : (h : History) (s : Stream) (note : Note) (given : Reply) (h' : History) (s' : Stream) → IsTaken given → Steps h s (command.Reported note) given h' s' → Knows h' note
+knows_step h s note reply.Taken h' s' t d = subst (λ z. Knows z note) (sym d.1) (knows_answered h (words 64 s) note (subst (λ r. IsTaken r) d.0 tt))
+knows_step h s note reply.Seen h' s' t d = subst (λ z. Knows z note) (sym d.1) (knows_answered h (words 64 s) note (subst (λ r. IsTaken r) d.0 tt))
+knows_step h s note _ h' s' t d = absurd t

@@ -1,0 +1,54 @@
+use Rattle.std.proofs.Common.{◌≡◌, ◌∙◌, inl, inr, sym, refl}
+use Rattle.std.specs.Prelude.{Result, Ok, Err, IfOk, OnErr}
+use Rattle.keycard_rules.specs.Draw.{words}
+use Rattle.hotel_core.specs.declared.command.Command.TheVariants as command
+use Rattle.hotel_core.specs.OnRows.{outcome_on}
+use Rattle.hotel_audit.proofs.Imports.{Imports-note, silent}
+use Rattle.hotel_audit.proofs.NoteReplies.{failed_note, outcome_reply, store_reply}
+use Rattle.hotel_audit.proofs.importing.answer_line.Goals as goal
+
+if_ok : {A E : Type 0} (r : Result A E) (P : A → Type 0) → ((a : A) → Ok a ≡ r → P a) → IfOk r P
+if_ok (Ok a) P h = h a refl
+if_ok (Err e) P h = tt
+
+on_err : {A E : Type 0} (r : Result A E) (P : Type 0) → ((e : E) → Err e ≡ r → P) → OnErr r P
+on_err (Ok a) P h = tt
+on_err (Err e) P h = h e refl
+
+pub returns-in-Note-clause-answer : goal.returns-in-Note-clause-answer
+returns-in-Note-clause-answer g c =
+    rw c.in-Note.is
+    (if_ok c.answer_of.result _ (λ a e. Imports-note g.B.Issued.is_clean g.B.Books.rows c.args.books.now c.report.new.books c.in-Note.note c.report.result a (e ∙ c.answer_of.ensures) (λ h stands clean source. let r = c.report.ensures.step h stands clean source in (r.0, r.1, r.2))))
+
+pub returns-in-Note-clause-unchanged : goal.returns-in-Note-clause-unchanged
+returns-in-Note-clause-unchanged g c =
+    let old = g.B.Books.rows c.args.books.now in
+    let new = g.B.Books.rows c.report.new.books in
+    let o = outcome_on old (words 64 silent) (command.Reported c.in-Note.note) in
+    on_err c.answer_of.result _ (λ why e clean.
+    (failed_note c.report.result why o old new silent silent (e ∙ c.answer_of.ensures) (outcome_reply old (words 64 silent) c.in-Note.note) ((c.report.ensures.rows silent).goes clean)).1)
+
+pub returns-in-Note-clause-fault : goal.returns-in-Note-clause-fault
+returns-in-Note-clause-fault g c =
+    let old = g.B.Books.rows c.args.books.now in
+    let new = g.B.Books.rows c.report.new.books in
+    let o = outcome_on old (words 64 silent) (command.Reported c.in-Note.note) in
+    let steps = c.report.ensures.rows silent in
+    on_err c.answer_of.result _ (λ why e clean whole.
+    let failed = failed_note c.report.result why o old new silent silent (e ∙ c.answer_of.ensures) (outcome_reply old (words 64 silent) c.in-Note.note) (steps.goes clean) in
+    elim (steps.fault clean whole failed.0) [ inl risen ↦ risen | inr lacks ↦ absurd lacks ])
+
+pub returns-in-Note-clause-no_store : goal.returns-in-Note-clause-no_store
+returns-in-Note-clause-no_store g c = λ never clean whole e.
+    let old = g.B.Books.rows c.args.books.now in
+    let new = g.B.Books.rows c.report.new.books in
+    let o = outcome_on old (words 64 silent) (command.Reported c.in-Note.note) in
+    let steps = c.report.ensures.rows silent in
+    let failed = failed_note c.report.result _ o old new silent silent (sym e ∙ c.answer_of.ensures) (outcome_reply old (words 64 silent) c.in-Note.note) (steps.goes clean) in
+    steps.no_store clean whole never (store_reply c.report.result (sym e ∙ c.answer_of.ensures) failed.0)
+
+pub returns-in-Note-clause-was_clean : goal.returns-in-Note-clause-was_clean
+returns-in-Note-clause-was_clean g c = (c.report.ensures.rows silent).was_clean
+
+pub returns-in-Note-clause-counted : goal.returns-in-Note-clause-counted
+returns-in-Note-clause-counted g c = (c.report.ensures.rows silent).counted

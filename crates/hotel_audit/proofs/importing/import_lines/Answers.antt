@@ -1,0 +1,73 @@
+use Rattle.std.proofs.Common.{◌≡◌, ◌∙◌, ◌+◌, false, [], ◌∷◌, ◌++◌, take, length, arith, sym, refl, ap}
+use Rattle.std.specs.Prelude.{◌||◌}
+use Rattle.hotel_core.proofs.Parts.{risen_later}
+use Rattle.std.proofs.lemmas.List.{take_more}
+use Rattle.hotel_audit.specs.declared.answer.LineAnswer.{LineAnswer}
+use Rattle.hotel_audit.specs.declared.answer.LineAnswer.TheVariants.{Taken}
+use Rattle.hotel_audit.specs.Import.{has_taken}
+use Rattle.hotel_audit.proofs.Imports.{Imports-join, Imports-stay, Imports-whole, has_taken-push}
+use Rattle.hotel_audit.proofs.importing.import_lines.Goals as goal
+use Rattle.hotel_audit.proofs.importing.import_lines.Goals.{then-taken, else-taken+in-Taken, else-taken+in_default-matches}
+
+-- an answer other than Taken
+has_taken-other : (a : LineAnswer) → (a ≡ Taken → ⊥) → has_taken (a ∷ []) ≡ false
+has_taken-other Taken other = absurd (other refl)
+has_taken-other _ other = refl
+
+pub returns-in-Err-Memory-clause-memory : goal.returns-in-Err-Memory-clause-memory
+returns-in-Err-Memory-clause-memory g c = λ answered taken e.
+    let inv = c.loop-line.invariant in
+    let f = c.in-Err-Memory.ensures in
+    let stay = Imports-stay g.B.Issued.is_clean g.B.Books.rows c.args.books.now c.loop-line.books c.answer_line.new.books _ _ f.was_clean f.unchanged inv.imported in
+    let n : c.len-answered.result ≡ answered = cc e in
+    let t : c.loop-line.taken ≡ taken = cc e in
+    let at : c.loop-line.line-index ≡ answered = omega (arith, n, inv.number, c.len-answered.ensures) in
+    let count : length c.loop-line.answers.items ≡ answered = omega (arith, n, c.len-answered.ensures) in
+    (c.loop-line.answers.items, count, sym inv.taken ∙ t, rw (sym at) stay)
+
+pub returns-in-Err-Store-clause-store : goal.returns-in-Err-Store-clause-store
+returns-in-Err-Store-clause-store g c = λ answered taken e.
+    let inv = c.loop-line.invariant in
+    let f = c.in-Err-Store.ensures in
+    let stay = Imports-stay g.B.Issued.is_clean g.B.Books.rows c.args.books.now c.loop-line.books c.answer_line.new.books _ _ f.was_clean f.unchanged inv.imported in
+    let n : c.len-answered.result ≡ answered = cc e in
+    let t : c.loop-line.taken ≡ taken = cc e in
+    let at : c.loop-line.line-index ≡ answered = omega (arith, n, inv.number, c.len-answered.ensures) in
+    let count : length c.loop-line.answers.items ≡ answered = omega (arith, n, c.len-answered.ensures) in
+    (c.loop-line.answers.items, count, sym inv.taken ∙ t, rw (sym at) stay)
+
+pub returns-in-Err-Store-clause-fault : goal.returns-in-Err-Store-clause-fault
+returns-in-Err-Store-clause-fault g c = λ h stands clean same.
+    let inv = c.loop-line.invariant in
+    let f = c.in-Err-Store.ensures in
+    let whole = Imports-whole g.B.Issued.is_clean g.B.Books.rows c.args.books.now c.loop-line.books _ _ h inv.imported stands (f.was_clean clean) in
+    risen_later _ _ _ inv.counted (f.fault clean whole) f.counted
+
+pub returns-in-Err-Store-clause-no_store : goal.returns-in-Err-Store-clause-no_store
+returns-in-Err-Store-clause-no_store g c = λ h stands clean never same.
+    let inv = c.loop-line.invariant in
+    let f = c.in-Err-Store.ensures in
+    let whole = Imports-whole g.B.Issued.is_clean g.B.Books.rows c.args.books.now c.loop-line.books _ _ h inv.imported stands (f.was_clean clean) in
+    f.no_store never clean whole (rw c.in-Err-Store.field-0-is refl)
+
+pub loop-line-preserved : goal.loop-line-preserved
+loop-line-preserved g c =
+    let inv = c.loop-line.invariant in
+    let f = c.in-Ok-answer_line.ensures in
+    let xs = c.args.lines.now in
+    let i = c.loop-line.line-index in
+    let e : take (i + 1) xs ≡ take i xs ++ c.line-item.result ∷ [] = take_more xs i c.line-item.result c.loop-line-test.true ∙ ap (λ x. take i xs ++ x ∷ []) (sym c.line-item.is) in
+    let now : c.if-taken.taken ≡ (has_taken c.loop-line.answers.items || has_taken (c.in-Ok-answer_line.answer ∷ [])) =
+    elim c.if-taken.branch [
+      | then-taken w ↦ rw (sym inv.taken, w.if-taken.true) (w.taken-is ∙ w.if-taken.true)
+      | else-taken+in-Taken w ↦ rw (sym inv.taken, w.if-taken.false, w.in-Taken.is) w.taken-is
+      | else-taken+in_default-matches w ↦ rw (sym inv.taken, w.if-taken.false, has_taken-other c.in-Ok-answer_line.answer w.in_default-matches.not-Taken) w.taken-is
+    ] in
+    record {
+      was_clean = λ clean. inv.was_clean (f.was_clean clean);
+      counted = omega (arith, f.counted, inv.counted);
+      room = omega (arith, c.in-Ok-push.ensures.capacity, inv.room);
+      number = omega (arith, c.in-Ok-push.ensures.len, inv.number);
+      taken = rw c.in-Ok-push.ensures.items (now ∙ sym (has_taken-push c.loop-line.answers.items c.in-Ok-answer_line.answer));
+      imported = rw (e, c.in-Ok-push.ensures.items) (Imports-join g.B.Issued.is_clean g.B.Books.rows c.args.books.now c.loop-line.books c.answer_line.new.books _ _ _ _ f.was_clean inv.imported f.answer);
+    }

@@ -1,0 +1,13 @@
+use Rattle.std.proofs.Common.{◌≡◌, ◌≤◌, take, length, vec_len, vec_capacity}
+use Rattle.hotel_audit.specs.Import.{Imports, has_taken}
+use Rattle.hotel_audit.proofs.importing.import_lines.Given as goal
+
+abbrev pub invariant-loop-line : goal.invariant-loop-line
+invariant-loop-line g l = record {
+  was_clean : g.B.Issued.is_clean l.books → g.B.Issued.is_clean l.fn.books;
+  counted : g.B.Issued.failures l.fn.books ≤ g.B.Issued.failures l.books;
+  room : length l.lines ≤ vec_capacity l.answers;
+  number : vec_len l.answers ≡ l.line-index;
+  taken : l.taken ≡ has_taken l.answers.items;
+  imported : Imports g.B.Issued.is_clean g.B.Books.rows l.fn.books l.books (take l.line-index l.lines) l.answers.items;
+}

@@ -1,0 +1,120 @@
+//! The import of an audit file into any books.
+ghost use Rattle.std.specs.Prelude.{◌≡◌, ◌≤◌, ℕ, [], ◌∷◌, true, IfOk, IfErr, OnErr, Err, Bool};
+ghost use Rattle.keycard_rules.specs.Rise.{HasRisen};
+ghost use Rattle.keycard_rules.specs.declared.issued.LookFault.TheVariants as look;
+ghost use Rattle.hotel_core.specs.History.{History};
+ghost use Rattle.hotel_core.specs.Run.{StandsFor};
+ghost use Rattle.hotel_core.specs.StepOnRows.{AreWhole};
+ghost use Rattle.hotel_audit.specs.declared.audit_file.AuditFault.{AuditFault};
+ghost use Rattle.hotel_audit.specs.Import.{answer_of, Imports, ImportsFile, ImportsSome, StopsImport, is_store};
+
+use crate::answer::LineAnswer;
+use crate::audit_file::{AuditFault, read_notes};
+use crate::line::Line;
+use hotel_core::{Books, Refusal, Reply, report};
+use keycard_rules::LookFault;
+use std::alloc::Global;
+
+/// Why an import has no answers.
+#[derive(Clone, Copy, Debug, PartialEq, Eq)]
+pub enum ImportFault {
+    /// The bytes are no audit file, or there was no memory to read it. Nothing was begun.
+    File(AuditFault),
+    /// A growth of memory was refused. So many lines were answered, which stand, and `taken` says whether one of them was
+    /// Taken; the next one changed nothing.
+    Memory { answered: usize, taken: bool },
+    /// A call of the store failed. So many lines were answered, which stand, and `taken` says whether one of them was
+    /// Taken; the next one changed nothing.
+    Store { answered: usize, taken: bool },
+}
+
+const fn answer_of(reply: &Reply) -> Result<LineAnswer, LookFault>
+    ensures { result ≡ answer_of reply.now }
+{
+    match reply {
+        Reply::Taken => Ok(LineAnswer::Taken),
+        Reply::Seen => Ok(LineAnswer::Seen),
+        Reply::Refused(Refusal::Memory) => Err(LookFault::Memory),
+        Reply::Refused(Refusal::Store) => Err(LookFault::Store),
+        Reply::Refused(refusal) => Ok(LineAnswer::Refused(*refusal)),
+        // A note is given no other reply.
+        _ => Err(LookFault::Store),
+    }
+}
+
+/// Carries out one line.
+fn answer_line<B: Books>(books: &mut B, line: &Line) -> Result<LineAnswer, LookFault>
+    ensures answer { IfOk result (λ answer. Imports B.is_clean B.rows books.old books.new (line.now ∷ []) (answer ∷ [])) }
+    ensures unchanged { OnErr result (B.is_clean books.new → B.rows books.new ≡ B.rows books.old) }
+    ensures fault { OnErr result (B.is_clean books.new → AreWhole (B.rows books.old) → HasRisen (B.failures books.old) (B.failures books.new)) }
+    ensures no_store { B.never_fails → B.is_clean books.new → AreWhole (B.rows books.old) → result ≡ Err look.Store → ⊥ }
+    ensures was_clean { B.is_clean books.new → B.is_clean books.old }
+    ensures counted { B.failures books.old ≤ B.failures books.new }
+{
+    match line {
+        Line::Unread(cause) => Ok(LineAnswer::Unread(*cause)),
+        Line::Note(note) => answer_of(&report(books, note)),
+    }
+}
+
+/// Carries out lines in order. The memory for all answers is taken before the first line.
+fn import_lines<B: Books>(
+    alloc: Global,
+    books: &mut B,
+    lines: &[Line],
+) -> Result<Vec<LineAnswer>, ImportFault>
+    ensures imported { IfOk result (λ answers. Imports B.is_clean B.rows books.old books.new lines.now answers.items) }
+    ensures memory { (answered : ℕ) (taken : Bool) → result ≡ Err (ImportFault.Memory answered taken) → ImportsSome B.is_clean B.rows lines.now books.old books.new answered taken }
+    ensures store { (answered : ℕ) (taken : Bool) → result ≡ Err (ImportFault.Store answered taken) → ImportsSome B.is_clean B.rows lines.now books.old books.new answered taken }
+    ensures file { (why : AuditFault) → result ≡ Err (ImportFault.File why) → ⊥ }
+    ensures fault { IfErr result (λ f. (h : History) → StandsFor h (B.rows books.old) → B.is_clean books.new → is_store f ≡ true → HasRisen (B.failures books.old) (B.failures books.new)) }
+    ensures no_store { IfErr result (λ f. (h : History) → StandsFor h (B.rows books.old) → B.is_clean books.new → B.never_fails → is_store f ≡ true → ⊥) }
+    ensures was_clean { B.is_clean books.new → B.is_clean books.old }
+    ensures counted { B.failures books.old ≤ B.failures books.new }
+{
+    let Ok(mut answers) = Vec::with_capacity(alloc, lines.len()) else {
+        return Err(ImportFault::Memory {
+            answered: 0,
+            taken: false,
+        });
+    };
+    let mut taken = false;
+    for line in lines {
+        let answered = answers.len();
+        let answer = match answer_line(books, line) {
+            Ok(answer) => answer,
+            Err(LookFault::Memory) => return Err(ImportFault::Memory { answered, taken }),
+            Err(LookFault::Store) => return Err(ImportFault::Store { answered, taken }),
+        };
+        taken = taken || matches!(answer, LineAnswer::Taken);
+        let Ok(()) = answers.push(answer) else {
+            return Err(ImportFault::Memory { answered, taken });
+        };
+    }
+    Ok(answers)
+}
+
+/// Imports an audit file: reports its notes in order.
+///
+/// The file is read whole and the memory for all answers is taken first. The answers are those to the lines, in order:
+/// the reply to the line's note, or Unread with its cause. Unread and refused lines don't stop the import.
+pub fn import<B: Books>(
+    alloc: Global,
+    books: &mut B,
+    bytes: &[u8],
+) -> Result<Vec<LineAnswer>, ImportFault>
+    ensures imported { IfOk result (λ answers. ImportsFile B.is_clean B.rows bytes.now books.old books.new answers.items) }
+    ensures stopped { IfErr result (λ f. StopsImport B.is_clean B.rows bytes.now books.old books.new f) }
+    ensures fault { IfErr result (λ f. (h : History) → StandsFor h (B.rows books.old) → B.is_clean books.new → is_store f ≡ true → HasRisen (B.failures books.old) (B.failures books.new)) }
+    ensures no_store { IfErr result (λ f. (h : History) → StandsFor h (B.rows books.old) → B.is_clean books.new → B.never_fails → is_store f ≡ true → ⊥) }
+    ensures was_clean { B.is_clean books.new → B.is_clean books.old }
+    ensures counted { B.failures books.old ≤ B.failures books.new }
+{
+    match read_notes(alloc, bytes) {
+        Ok(lines) => import_lines(alloc, books, lines.as_slice()),
+        Err(fault) => Err(ImportFault::File(fault)),
+    }
+}
+
+#[cfg(test)]
+mod tests;
