@@ -1,3 +1,4 @@
 pub mod ReturnLemmas
 pub mod WordLemmas
 pub mod ScriptLemmas
+pub mod ScriptRunLemmas

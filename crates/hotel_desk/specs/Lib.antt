@@ -6,6 +6,7 @@ pub mod Verbs
 pub mod Asks
 pub mod LineAnswers
 pub mod Script
+pub mod ScriptRun
 pub mod Program
 pub mod Tests
 pub mod Scenes

@@ -9,6 +9,7 @@ mod lines;
 mod program;
 mod scenes;
 mod script;
+mod script_run;
 mod values;
 mod verb;
 mod words;

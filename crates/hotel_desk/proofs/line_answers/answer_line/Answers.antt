@@ -1,4 +1,4 @@
-use Rattle.std.proofs.Common.{◌≡◌, ◌∙◌, Err, ap, subst}
+use Rattle.std.proofs.Common.{◌∙◌, Err, ap, subst}
 use Rattle.hotel_desk.specs.Asks.{command_in, IsLineRead}
 use Rattle.hotel_desk.proofs.ScriptLemmas.{ask_without_memory}
 use Rattle.hotel_desk.proofs.line_answers.answer_line.Goals as goal

@@ -1,8 +1,7 @@
-use Rattle.std.proofs.Common.{◌≡◌, ◌∙◌, ◌++◌, ◌∷◌, [], ap, arith, false, refl, subst, sym, List, ℕ, drop, take}
+use Rattle.std.proofs.Common.{◌≡◌, ◌∙◌, [], arith, false, refl, subst, sym, List, ℕ}
 use Rattle.std.specs.Io.KnownBytes.{Appends}
 use Rattle.std.proofs.KnownBytes.{Appends-trans}
-use Rattle.hotel_lists.specs.Bytes.{AppendsFront}
-use Rattle.hotel_desk.specs.Lines.{answered_lines, is_silent, lines}
+use Rattle.hotel_desk.specs.Lines.{answered_lines, is_silent}
 use Rattle.hotel_desk.specs.LineAnswers.{answer_text}
 use Rattle.hotel_desk.specs.Script.{RowsGo}
 use Rattle.hotel_desk.proofs.ScriptLemmas.{goes_safely, rows_begin, rows_more, next_line, all_done, answered_more, appends_front}
