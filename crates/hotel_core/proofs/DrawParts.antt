@@ -8,22 +8,21 @@ use Rattle.std.proofs.lemmas.Bool.{false≢true}
 use Rattle.std.proofs.lemmas.Bool.Decides.{nat_tests}
 use Rattle.rand_core.specs.Stream.{Stream}
 use Rattle.keycard_rules.specs.Rise.{HasRisen}
-use Rattle.keycard_rules.specs.Draw.{Draw, Draws, IsFailed, is_among, code_of, one_more, draw_from, drawn, words, past, MovedAtMost}
+use Rattle.keycard_rules.specs.Draw.{Draw, Draws, IsFailed, is_among, code_of, one_more, draw_from, drawn, words, past}
 use Rattle.keycard_rules.specs.declared.draw.DrawFault.{DrawFault}
 use Rattle.keycard_rules.specs.declared.draw.DrawFault.TheVariants as fault
-use Rattle.keycard_rules.proofs.Drawing.{past-zero}
 use Rattle.hotel_core.specs.declared.change.Change.{Change}
 use Rattle.hotel_core.specs.declared.reply.Reply.{Reply}
 use Rattle.hotel_core.specs.declared.reply.Reply.TheVariants.{Refused}
 use Rattle.hotel_core.specs.declared.reply.Refusal.{Refusal}
-use Rattle.hotel_core.specs.declared.reply.Refusal.TheVariants.{Store, Memory, NoFreshCode}
+use Rattle.hotel_core.specs.declared.reply.Refusal.TheVariants.{NoFreshCode}
 use Rattle.hotel_core.specs.Words.{said_of}
 use Rattle.hotel_core.specs.Rows.{Rows, at_number}
 use Rattle.hotel_core.specs.Lookups.{codes_in, code_place}
 use Rattle.hotel_core.specs.Run.{is_failed}
 use Rattle.hotel_core.specs.Outcome.{Outcome, accepted, by_draw}
 use Rattle.hotel_core.specs.Change.{made}
-use Rattle.hotel_core.specs.StepOnRows.{GoesIf, Goes, made_by, AreWhole, StepsAs}
+use Rattle.hotel_core.specs.StepOnRows.{GoesIf, made_by, AreWhole, StepsAs}
 use Rattle.hotel_core.specs.Finds.{DrawsCode, Drew, DrewNone, drawn_or, has_failed, reply_of}
 use Rattle.hotel_core.proofs.Parts.{SoFar, passed_on, risen_later}
 

@@ -12,7 +12,8 @@ use Rattle.hotel_core.specs.Stays.{rooms, stays, rooms_of, first_full}
 use Rattle.hotel_core.specs.RowsOf.{room_row, rows_of}
 use Rattle.hotel_core.specs.Lookups.{rooms_of_kind, stays_of_kind}
 
-count_more : {X : Type 0} (p : X → Bool) (x : X) (xs : List X) → count_by p (x ∷ xs) ≡ cond (p x) 1 0 + count_by p xs
+-- how many pass a test, with one more
+pub count_more : {X : Type 0} (p : X → Bool) (x : X) (xs : List X) → count_by p (x ∷ xs) ≡ cond (p x) 1 0 + count_by p xs
 count_more p x xs = sum_by-cons (λ y. cond (p y) 1 0) x xs
 
 rooms_by_kind : (h : History) (kind : List ℕ) (rs : List (ℕ × List ℕ))

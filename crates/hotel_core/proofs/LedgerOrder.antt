@@ -18,7 +18,7 @@ use Rattle.hotel_core.specs.Cases.{is_room, is_card, has_link, opens}
 use Rattle.hotel_core.specs.Run.{Reached}
 use Rattle.hotel_core.specs.Headline.{LedgerHolds, TakesTheFirst}
 use Rattle.hotel_core.specs.CodeLaws.{IsLink}
-use Rattle.hotel_core.proofs.Tests.{eq_from, not_both, and_true, or_second}
+use Rattle.hotel_core.proofs.Tests.{eq_from, not_both, or_second}
 use Rattle.hotel_core.proofs.TableKeys.{key_inserted, row_of_key}
 use Rattle.hotel_core.proofs.CodeLists.{first_out, parted}
 use Rattle.hotel_core.proofs.Grown.{may_follow}
@@ -26,6 +26,7 @@ use Rattle.hotel_core.proofs.RoomCodes.{others_have_none}
 use Rattle.hotel_core.proofs.CodePlaces.{same_place}
 use Rattle.hotel_core.proofs.RoomLinks.{cards_have_links}
 use Rattle.hotel_core.proofs.StartLedger.{ledger_at_start}
+use Rattle.hotel_core.proofs.StartRules.{link_is}
 
 -- the ledger of one room
 abbrev pub InOrder : History → ℕ → Type 0
@@ -81,12 +82,6 @@ recoded_case true h room r from to here same e a =
     ∙ ap (λ zs. passed h r ++ from ∷ zs) parts ∙ ap (λ z. passed h r ++ z ∷ awaited h r) (sym e ∙ ap (held h) (here refl)) ∙ same
 recoded_case false h room r from to here same e a = same
 
-same_fields : (a b : Link) → same_link a b ≡ true → a ≡ b
-same_fields a b e =
-    let p = and_true (a.old_code == b.old_code) (a.new_code == b.new_code) e in
-    ap (λ z. let k : Link = record { old_code = z; new_code = a.new_code } in k) (eq_from _ _ p.0)
-    ∙ ap (λ z. let k : Link = record { old_code = b.old_code; new_code = z } in k) (eq_from _ _ p.1)
-
 has_by : (o : Option Card) (card : Card) (link : Link) → o ≡ Some card → said_of o false (λ k. same_link k.link link) ≡ true → same_link card.link link ≡ true
 has_by o card link e t = ap (λ x. said_of x false (λ k. same_link k.link link)) (sym e) ∙ t
 
@@ -94,7 +89,7 @@ has_by o card link e t = ap (λ x. said_of x false (λ k. same_link k.link link)
 pub card_seen : (h : History) (number : ℕ) (link : Link) → is_card h number ≡ true → has_link h number link ≡ true → (card : Card) × (at_number (cards h) number ≡ Some card) × (card.link ≡ link)
 card_seen h number link there has =
     let row = row_of_key (cards h) number there in
-    (row.0, row.1, same_fields row.0.link link (has_by (at_number (cards h) number) row.0 link row.1 has))
+    (row.0, row.1, link_is row.0.link link (has_by (at_number (cards h) number) row.0 link row.1 has))
 
 -- its link is one
 pub link_seen : (h : History) (number : ℕ) (link : Link) → Reached h → is_card h number ≡ true → has_link h number link ≡ true → IsLink h link

@@ -78,7 +78,8 @@ there_by_codes h ok r some =
       | inr f ↦ absurd (some (others_have_none h ok r f).0)
     ]
 
-not_empty : (front : List ℕ) (a : ℕ) (back : List ℕ) → front ++ a ∷ back ≡ [] → ⊥
+-- a list with a code isn't empty
+pub not_empty : (front : List ℕ) (a : ℕ) (back : List ℕ) → front ++ a ∷ back ≡ [] → ⊥
 not_empty [] a back e = cc
 not_empty (x ∷ xs) a back e = cc
 

@@ -1,8 +1,8 @@
 -- The parts of a step, one after the other.
-use Rattle.std.proofs.Common.{ℕ, ◌≡◌, ◌≤◌, ◌<◌, ◌^◌, ◌-◌, ◌⊎◌, Bool, true, false, Option, Some, None, Result, Ok, Err, refl, ap, sym, ◌∙◌, arith, subst, IsErrAnd, inl, inr, is_some, List, [], ◌∷◌, ◌++◌, ◌+◌, nat_lt, cond}
+use Rattle.std.proofs.Common.{ℕ, ◌≡◌, ◌≤◌, Bool, true, false, Option, Some, None, Result, Ok, Err, refl, ap, sym, ◌∙◌, arith, subst, IsErrAnd, inl, inr, is_some, List, [], ◌∷◌, ◌++◌, ◌+◌, nat_lt, cond}
 use Rattle.std.proofs.lemmas.Bool.{false≢true}
 use Rattle.rand_core.specs.Stream.{Stream}
-use Rattle.keycard_rules.specs.Draw.{past, MovedAtMost}
+use Rattle.keycard_rules.specs.Draw.{past}
 use Rattle.keycard_rules.specs.Rise.{HasRisen}
 use Rattle.keycard_rules.proofs.Drawing.{past-zero}
 use Rattle.keycard_rules.specs.declared.issued.LookFault.{LookFault}
@@ -17,8 +17,8 @@ use Rattle.hotel_core.specs.Lookups.{number_after}
 use Rattle.hotel_core.specs.Run.{is_failed}
 use Rattle.hotel_core.specs.Outcome.{Outcome, refused, accepted, unless}
 use Rattle.hotel_core.specs.Change.{made}
-use Rattle.hotel_core.specs.StepOnRows.{GoesIf, Goes, made_by, AreWhole, MayLack, StepsAs}
-use Rattle.hotel_core.specs.Finds.{Finds, Found, AnyRows, has_failed, reply_of, refusal_of, first_refusal}
+use Rattle.hotel_core.specs.StepOnRows.{GoesIf, Goes, made_by, AreWhole, StepsAs}
+use Rattle.hotel_core.specs.Finds.{Finds, AnyRows, reply_of, refusal_of, first_refusal}
 
 -- From the state start to now no row changed, and this is known of the rows at the start, if the state is clean now.
 pub record SoFar {S : Type 0} (is_clean : S → Type 0) (rows : S → Rows) (failures : S → ℕ) (facts : Rows → Type 0) (start now : S) : Type 0 where

@@ -4,7 +4,6 @@ use Rattle.std.specs.Prelude.{◌&&◌, nat_le, nat_lt, is_some, bytes_eq}
 use Rattle.std.specs.List.{count_by}
 use Rattle.std.specs.Map.{values_of}
 use Rattle.std.proofs.lemmas.Bool.{leb-false}
-use Rattle.std.proofs.lemmas.Bool.Decides.{nat_tests}
 use Rattle.std.proofs.lemmas.Slice.Eq.{bytes_eq-Decides}
 use Rattle.hotel_nights.specs.declared.stay.Stay.{Stay}
 use Rattle.hotel_nights.specs.declared.stay.StayState.{StayState}
@@ -24,6 +23,10 @@ use Rattle.hotel_core.proofs.Grown.{may_follow}
 use Rattle.hotel_core.proofs.Numbering.{next_party_free}
 use Rattle.hotel_core.proofs.StayCounts.{count_inserted, count_changed, none_passes}
 use Rattle.hotel_core.proofs.StartRows.{rooms_of_start}
+use Rattle.hotel_core.proofs.StartRules.{le_from, lt_from}
+use Rattle.hotel_core.specs.RowsOf.{rows_of}
+use Rattle.hotel_core.specs.SoundRooms.{stays_on, rooms_with}
+use Rattle.hotel_core.proofs.KindCounts.{rooms_counted}
 
 -- on no night are more stays of a kind than rooms
 abbrev pub RoomsSuffice : History → Type 0
@@ -31,12 +34,6 @@ RoomsSuffice h = (kind : List ℕ) (d : ℕ) → count_by (takes kind d) (values
 
 same_kind : (a b : List ℕ) → bytes_eq a b ≡ true → a ≡ b
 same_kind a b e = (bytes_eq-Decides a b).0 e
-
-le_from : (a b : ℕ) → nat_le a b ≡ true → a ≤ b
-le_from a b e = grind (arith, nat_tests)
-
-lt_from : (a b : ℕ) → nat_lt a b ≡ true → a < b
-lt_from a b e = grind (arith, nat_tests)
 
 booked_stands : (s : StayState) → is_booked_state s ≡ true → is_standing s ≡ true
 booked_stands state.Booked e = refl
@@ -113,3 +110,7 @@ rooms_suffice (h ▷ _) ok kind d = rooms_suffice h ok.0 kind d
 pub none_oversold : NoOversell
 unfolding nights_taken
 none_oversold h ok kind d = rooms_suffice h ok kind d
+
+-- and of the rows
+pub rows_not_oversold : (h : History) → Reached h → (kind : List ℕ) (d : ℕ) → stays_on (rows_of h) kind d ≤ rooms_with (rows_of h) kind
+rows_not_oversold h ok kind d = subst (λ n. stays_on (rows_of h) kind d ≤ n) (sym (rooms_counted h kind)) (rooms_suffice h ok kind d)

@@ -1,6 +1,6 @@
 -- Tests that all rows of a table pass.
-use Rattle.std.proofs.Common.{ℕ, ◌≡◌, Bool, true, false, cond, Option, Some, None, List, [], ◌∷◌, refl, ap, sym, ◌∙◌, subst}
-use Rattle.std.specs.Prelude.{◌==◌, ◌&&◌, ◌||◌, map}
+use Rattle.std.proofs.Common.{ℕ, ◌≡◌, Bool, true, false, cond, Some, List, [], ◌∷◌, refl, ap, sym, ◌∙◌}
+use Rattle.std.specs.Prelude.{◌==◌, ◌&&◌, ◌||◌, not, map}
 use Rattle.std.specs.Ordering.{nat_cmp, is_eq, match_ordering, ordering_reverse}
 use Rattle.std.specs.Cmp.{IsTotalOrder}
 use Rattle.std.specs.declared.cmp.Ordering.{Ordering}
@@ -28,6 +28,11 @@ pub or_later : (a b : Bool) → b ≡ true → (a || b) ≡ true
 or_later true b t = refl
 or_later false b t = t
 
+-- what holds where a case is so
+pub where_so : (so rule : Bool) → (so ≡ true → rule ≡ true) → (not so || rule) ≡ true
+where_so true rule f = f refl
+where_so false rule f = refl
+
 -- what passes a test passes a weaker one
 pub all_weaker : {X : Type 0} (t u : X → Bool) → ((x : X) → t x ≡ true → u x ≡ true) → (xs : List X) → list_all t xs ≡ true → list_all u xs ≡ true
 all_weaker t u w [] h = refl
@@ -52,7 +57,8 @@ inserted_by cmp exact t Less e es k v c h all ih = both (t (k, v)) _ h all
 inserted_by cmp exact t Equal e es k v c h all ih = both (t (e.0, v)) _ (ap (λ z. t (z, v)) (sym (exact k e.0 c)) ∙ h) (and_true (t e) (list_all t es) all).1
 inserted_by cmp exact t Greater e es k v c h all ih = both (t e) _ (and_true (t e) (list_all t es) all).0 ih
 
-all_added_by : {K X : Type 0} (cmp : K → K → Ordering) (exact : (a b : K) → cmp a b ≡ Equal → a ≡ b) (t : K × X → Bool) (es : List (K × X)) (k : K) (v : X) → t (k, v) ≡ true
+-- a table of any keys with one row more
+pub all_added_by : {K X : Type 0} (cmp : K → K → Ordering) (exact : (a b : K) → cmp a b ≡ Equal → a ≡ b) (t : K × X → Bool) (es : List (K × X)) (k : K) (v : X) → t (k, v) ≡ true
     → list_all t es ≡ true → list_all t (insert_entry cmp es k v) ≡ true
 all_added_by cmp exact t [] k v h all = both (t (k, v)) true h refl
 all_added_by cmp exact t (e ∷ es) k v h all =
@@ -97,7 +103,8 @@ equal_tested Less h = cc
 equal_tested Equal h = refl
 equal_tested Greater h = cc
 
-after_not_same : {K X : Type 0} (cmp : K → K → Ordering) (total : IsTotalOrder cmp) (k q : K) (v : X) (es : List (K × X)) → AllAfter cmp k (keys_of es) → lookup (is_at (cmp q)) es ≡ Some v → is_eq (cmp q k) ≡ false
+-- a key before all of a table is none of it
+pub after_not_same : {K X : Type 0} (cmp : K → K → Ordering) (total : IsTotalOrder cmp) (k q : K) (v : X) (es : List (K × X)) → AllAfter cmp k (keys_of es) → lookup (is_at (cmp q)) es ≡ Some v → is_eq (cmp q k) ≡ false
 after_not_same cmp total k q v [] a h = cc
 after_not_same {K} {X} cmp total k q v (e ∷ es) a h = by (is_eq (cmp q e.0)) refl h (after_not_same cmp total k q v es a.1)
   where

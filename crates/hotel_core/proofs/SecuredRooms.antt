@@ -44,7 +44,8 @@ was_secured : (b c : Bool) → when b (λ _. false) c ≡ true → (b ≡ false)
 was_secured true c e = not_both false e refl
 was_secured false c e = (refl, e)
 
-secured_by : (b c : Bool) → when b (λ _. true) c ≡ true → (b ≡ true) ⊎ (c ≡ true)
+-- a room is secured by an entry, or was so
+pub secured_by : (b c : Bool) → when b (λ _. true) c ≡ true → (b ≡ true) ⊎ (c ≡ true)
 secured_by true c e = inl refl
 secured_by false c e = inr e
 

@@ -4,8 +4,7 @@ use Rattle.std.specs.Prelude.{map}
 use Rattle.std.specs.Ordering.{nat_cmp}
 use Rattle.std.specs.Cmp.Lexicographic.{slice_cmp}
 use Rattle.std.specs.Map.{keys_of}
-use Rattle.std.specs.BTreeMap.{insert_entry}
-use Rattle.std.proofs.lemmas.Cmp.{nat_cmp_total, nat_list_cmp_total}
+use Rattle.std.proofs.lemmas.Cmp.{nat_list_cmp_total}
 use Rattle.keycard_rules.specs.declared.card.Card.{Card}
 use Rattle.keycard_rules.specs.declared.card.Link.{Link}
 use Rattle.keycard_rules.specs.Note.{Note}
@@ -29,14 +28,12 @@ use Rattle.hotel_core.proofs.Insiders.{insiders_in_order}
 use Rattle.hotel_core.proofs.Pairs.{pair_cmp_total}
 use Rattle.hotel_core.proofs.Numbering.{same_keys}
 use Rattle.hotel_core.proofs.RowTests.{both}
+use Rattle.hotel_core.proofs.SameTables.{in_order_with}
 use Rattle.hotel_core.proofs.StartCodes.{orders, same_room_keys}
 
 -- a table's keys stand in order
 abbrev pub AreInOrder : {X : Type 0} → List (ℕ × X) → Type 0
 AreInOrder es = InOrder nat_cmp (keys_of es)
-
-in_order_with : {X : Type 0} (es : List (ℕ × X)) (k : ℕ) (v : X) → AreInOrder es → AreInOrder (insert_entry nat_cmp es k v)
-in_order_with es k v s = subst (InOrder nat_cmp) (sym (keys_inserted nat_cmp k v es)) (in_order_inserted nat_cmp nat_cmp_total k (keys_of es) s)
 
 pub kinds_in_order : (h : History) → Reached h → InOrder (slice_cmp nat_cmp) (kinds h)
 kinds_in_order (start t) ok = (orders t ok).kinds

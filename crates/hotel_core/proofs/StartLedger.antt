@@ -8,7 +8,8 @@ use Rattle.hotel_core.specs.Cases.{is_room}
 use Rattle.hotel_core.specs.Sound.{IsSound}
 use Rattle.hotel_core.specs.Headline.{LedgerHolds}
 use Rattle.hotel_core.specs.CodeLaws.{HasCodes, RoomsHaveCodes, OthersHaveNone, CodesFit}
-use Rattle.hotel_core.proofs.StartRules.{each_found, le_from, some_of}
+use Rattle.hotel_core.proofs.RowTests.{found_passes}
+use Rattle.hotel_core.proofs.StartRules.{le_from, some_of}
 use Rattle.hotel_core.proofs.StartCodes.{counted, lock_within, no_codes_at, has_row, has_no_row, room_there_is}
 
 -- a list cut at one of its places
@@ -61,7 +62,7 @@ codes_fit_at_start t s r = by (is_some (at_number t.rooms r)) refl
     by : (b : Bool) → is_some (at_number t.rooms r) ≡ b → length (codes_at t r) ≤ length t.cards + 1
     by true q =
         let row = some_of (at_number t.rooms r) q in
-        let few = le_from row.0.codes (length t.cards + 1) (each_found (λ (e : ℕ × RoomRow). nat_le e.1.codes (length t.cards + 1)) t.rooms r row.0 s.room_codes row.1) in
+        let few = le_from row.0.codes (length t.cards + 1) (found_passes (λ (e : ℕ × RoomRow). nat_le e.1.codes (length t.cards + 1)) t.rooms r row.0 s.room_codes row.1) in
         let many = (counted t s r row.0 row.1).many in
         omega arith
     by false q =

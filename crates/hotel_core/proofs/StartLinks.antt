@@ -18,7 +18,8 @@ use Rattle.hotel_core.proofs.KeysInOrder.{InOrder}
 use Rattle.hotel_core.proofs.CodeLists.{cut_alike, last_more}
 use Rattle.hotel_core.proofs.Tests.{eq_from, eq_self, and_true, or_second}
 use Rattle.hotel_core.proofs.TableKeys.{is_at_self}
-use Rattle.hotel_core.proofs.StartRules.{each_found, said_true, link_is}
+use Rattle.hotel_core.proofs.RowTests.{found_passes}
+use Rattle.hotel_core.proofs.StartRules.{said_true, link_is}
 use Rattle.hotel_core.proofs.StartOrder.{found_later}
 use Rattle.hotel_core.proofs.StartSplits.{SplitsAt}
 use Rattle.hotel_core.proofs.StartCodes.{orders, row_is_place, place_is_row}
@@ -46,7 +47,7 @@ stands_is t s room link e =
 -- The codes of each card are neighbours at a room.
 pub cards_have_links_at_start : (t : Rows) → IsSound t → CardsHaveLinks (start t)
 cards_have_links_at_start t s n card e =
-    let a = each_found (λ (e : ℕ × Card). said_of (at_number t.codes e.1.link.new_code) false (λ new. stands_at t new.room e.1.link)) t.cards n card s.card_link e in
+    let a = found_passes (λ (e : ℕ × Card). said_of (at_number t.codes e.1.link.new_code) false (λ new. stands_at t new.room e.1.link)) t.cards n card s.card_link e in
     let new = said_true (at_number t.codes card.link.new_code) (λ new. stands_at t new.room card.link) a in
     (new.0.room, stands_is t s new.0.room card.link new.2)
 
@@ -126,8 +127,8 @@ cards_one_party_at_start t s n m a b e f same =
     let l = cards_have_links_at_start t s n a e in
     let k = cards_have_links_at_start t s m b f in
     let link : a.link ≡ b.link = same_old t s l.0 k.0 a.link b.link l.1 k.1 same in
-    let p = each_found (λ (x : ℕ × Card). list_all (λ (y : ℕ × Card). not (same_link x.1.link y.1.link) || (x.1.party == y.1.party)) t.cards) t.cards n a s.card_one_party e in
-    let q = each_found (λ (y : ℕ × Card). not (same_link a.link y.1.link) || (a.party == y.1.party)) t.cards m b p f in
+    let p = found_passes (λ (x : ℕ × Card). list_all (λ (y : ℕ × Card). not (same_link x.1.link y.1.link) || (x.1.party == y.1.party)) t.cards) t.cards n a s.card_one_party e in
+    let q = found_passes (λ (y : ℕ × Card). not (same_link a.link y.1.link) || (a.party == y.1.party)) t.cards m b p f in
     eq_from a.party b.party (or_second (not (same_link a.link b.link)) (a.party == b.party) (ap not (ap (same_link a.link) (sym link) ∙ link_self a.link)) q)
 
 -- the newest link, as the rules say it

@@ -67,7 +67,7 @@ by_place_in_order : (es : List (ℕ × CodeRow)) (room : ℕ) → InOrder nat_cm
 by_place_in_order [] room = tt
 by_place_in_order (e ∷ es) room = ordered_by (e.1.room == room) (codes_by_place es room) e.1.place e.0 (by_place_in_order es room)
 
-one_listed : (e : ℕ × CodeRow) (es : List (ℕ × CodeRow)) (room : ℕ) → listed (e ∷ es) room ≡ cond (e.1.room == room) 1 0 + listed es room
+pub one_listed : (e : ℕ × CodeRow) (es : List (ℕ × CodeRow)) (room : ℕ) → listed (e ∷ es) room ≡ cond (e.1.room == room) 1 0 + listed es room
 one_listed e es room = sum_by-cons (λ (row : CodeRow). cond (row.room == room) 1 0) e.1 (values_of es)
 
 few_by : (b : Bool) (ps : List (ℕ × ℕ)) (k v n m : ℕ) → m ≡ cond b 1 0 + n → length ps ≤ n → length (when b (λ placed. insert_entry nat_cmp placed k v) ps) ≤ m
@@ -78,7 +78,8 @@ at_most_listed : (es : List (ℕ × CodeRow)) (room : ℕ) → length (codes_by_
 at_most_listed [] room = omega arith
 at_most_listed (e ∷ es) room = few_by (e.1.room == room) (codes_by_place es room) e.1.place e.0 (listed es room) _ (one_listed e es room) (at_most_listed es room)
 
-none_or : (o : Option ℕ) → ((w : ℕ) → o ≡ Some w → ⊥) → o ≡ None
+-- what isn't there at any value is nothing
+pub none_or : (o : Option ℕ) → ((w : ℕ) → o ≡ Some w → ⊥) → o ≡ None
 none_or (Some w) f = absurd (f w refl)
 none_or None f = refl
 

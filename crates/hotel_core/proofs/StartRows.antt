@@ -1,11 +1,12 @@
 -- The rows that stand for a start are the start's rows.
-use Rattle.std.proofs.Common.{ℕ, ◌≡◌, ◌≤◌, ◌<◌, ◌+◌, Bool, false, cond, Option, Some, None, List, [], ◌∷◌, length, take, refl, ap, sym, ◌∙◌, arith}
-use Rattle.std.specs.Prelude.{◌==◌, ◌&&◌, map, bytes_eq}
+use Rattle.std.proofs.Common.{ℕ, ◌≡◌, ◌≤◌, ◌<◌, ◌+◌, Bool, true, false, cond, Option, Some, None, List, [], ◌∷◌, length, take, refl, ap, sym, ◌∙◌, arith}
+use Rattle.std.specs.Prelude.{◌==◌, ◌&&◌, map, bytes_eq, nat_le, is_some}
 use Rattle.std.specs.Ordering.{nat_cmp, is_eq}
-use Rattle.std.specs.List.{count_by}
+use Rattle.std.specs.List.{count_by, list_all}
 use Rattle.std.specs.Map.{keys_of, values_of}
 use Rattle.std.proofs.lemmas.List.{length-take-le}
 use Rattle.hotel_core.specs.declared.rows.RoomRow.{RoomRow}
+use Rattle.keycard_rules.specs.Note.{Note}
 use Rattle.hotel_core.specs.Words.{said_of}
 use Rattle.hotel_core.specs.Rows.{Rows, at_number, codes_at, lock_place_of, notes_at}
 use Rattle.hotel_core.specs.History.{start}
@@ -17,11 +18,13 @@ use Rattle.hotel_core.specs.Sound.{IsSound}
 use Rattle.hotel_core.specs.Follow.{ApartFrom, RoomsOnce}
 use Rattle.hotel_core.proofs.KeysInOrder.{AllAfter, InOrder}
 use Rattle.hotel_core.proofs.StayCounts.{count_first}
-use Rattle.hotel_core.proofs.Tests.{eq_from, and_true}
+use Rattle.hotel_core.proofs.Tests.{eq_from, eq_self, and_true}
 use Rattle.hotel_core.proofs.TableKeys.{at_is, is_at_self}
-use Rattle.hotel_core.proofs.StartRules.{each_found}
+use Rattle.hotel_core.proofs.RowTests.{found_passes, all_weaker, both}
 use Rattle.hotel_core.proofs.StartOrder.{found_later}
-use Rattle.hotel_core.proofs.StartCodes.{orders, room_is, counted, lock_within}
+use Rattle.hotel_core.proofs.StartCodes.{orders, room_is, counted, lock_within, room_there_is}
+use Rattle.hotel_core.proofs.StartRules.{le_from, some_of}
+use Rattle.hotel_core.proofs.StartNotes.{nothing_noted_at_start}
 
 -- a room and its kind
 abbrev with_kind : List (ℕ × RoomRow) → List (ℕ × List ℕ)
@@ -45,11 +48,37 @@ row_by r k l c s p n = record { room = r; kind = k; lock_place = l; codes = c; s
 
 notes_counted : (t : Rows) → IsSound t → (r : ℕ) (row : RoomRow) → at_number t.rooms r ≡ Some row → length (notes_at t.notes r) ≡ row.notes
 notes_counted t s r row e =
-    let a = each_found (λ (e : ℕ × RoomRow). count_up 1 (counts_at (notes_at t.notes e.1.room)) && (length (notes_at t.notes e.1.room) == e.1.notes)) t.rooms r row s.note_counted e in
+    let a = found_passes (λ (e : ℕ × RoomRow). count_up 1 (counts_at (notes_at t.notes e.1.room)) && (length (notes_at t.notes e.1.room) == e.1.notes)) t.rooms r row s.note_counted e in
     let b = and_true (count_up 1 (counts_at (notes_at t.notes row.room))) (length (notes_at t.notes row.room) == row.notes) a in
     ap (λ z. length (notes_at t.notes z)) (sym (room_is t s r row e)) ∙ eq_from _ _ b.1
 
-lock_is : (t : Rows) → IsSound t → (r : ℕ) (row : RoomRow) → at_number t.rooms r ≡ Some row → length (take (lock_place_of t r) (codes_at t r)) ≡ row.lock_place
+-- A room has at most 9,999,999 notes.
+pub few_notes_at_start : (t : Rows) → IsSound t → (r : ℕ) → length (notes_at t.notes r) ≤ 9999999
+few_notes_at_start t s r = by (is_some (at_number t.rooms r)) refl
+  where
+    by : (b : Bool) → is_some (at_number t.rooms r) ≡ b → length (notes_at t.notes r) ≤ 9999999
+    by true q =
+        let row = some_of (at_number t.rooms r) q in
+        let few = le_from row.0.notes 9999999 (found_passes (λ (e : ℕ × RoomRow). nat_le e.1.notes 9999999) t.rooms r row.0 s.room_notes row.1) in
+        let many = notes_counted t s r row.0 row.1 in
+        omega arith
+    by false q =
+        let none = ap (λ (zs : List Note). length zs) (nothing_noted_at_start t s r (room_there_is t r ∙ q)) in
+        omega arith
+
+weaker : (e : ℕ × RoomRow) → ((e.1.room == e.0) && nat_le 1 e.0 && nat_le e.0 9999) ≡ true → ((e.0 == e.0) && nat_le 1 e.0 && nat_le e.0 9999) ≡ true
+weaker e t =
+    let p = and_true ((e.1.room == e.0) && nat_le 1 e.0) (nat_le e.0 9999) t in
+    let q = and_true (e.1.room == e.0) (nat_le 1 e.0) p.0 in
+    both ((e.0 == e.0) && nat_le 1 e.0) _ (both (e.0 == e.0) _ (eq_self e.0) q.1) p.1
+
+-- The rooms' numbers are 1 to 9999.
+pub rooms_numbered_at_start : (t : Rows) → IsSound t → list_all (λ (e : ℕ × RoomRow). (e.0 == e.0) && nat_le 1 e.0 && nat_le e.0 9999) t.rooms ≡ true
+rooms_numbered_at_start t s =
+    all_weaker (λ (e : ℕ × RoomRow). (e.1.room == e.0) && nat_le 1 e.0 && nat_le e.0 9999) (λ (e : ℕ × RoomRow). (e.0 == e.0) && nat_le 1 e.0 && nat_le e.0 9999) weaker t.rooms s.room_number
+
+-- as many codes are passed as the lock's place says
+pub lock_is : (t : Rows) → IsSound t → (r : ℕ) (row : RoomRow) → at_number t.rooms r ≡ Some row → length (take (lock_place_of t r) (codes_at t r)) ≡ row.lock_place
 lock_is t s r row e =
     let l = lock_within t s r row e in
     ap (λ z. length (take z (codes_at t r))) l.0 ∙ length-take-le row.lock_place (codes_at t r) (below l.1)

@@ -1,36 +1,17 @@
 -- What a test of all rows of a table tells of a row that is found there.
-use Rattle.std.proofs.Common.{ℕ, ◌≡◌, ◌≤◌, ◌<◌, Bool, true, false, cond, Option, Some, None, List, [], ◌∷◌, refl, ap, sym, ◌∙◌, arith}
+use Rattle.std.proofs.Common.{ℕ, ◌≡◌, ◌≤◌, ◌<◌, Bool, true, false, Option, Some, None, refl, ap, sym, ◌∙◌, arith}
 use Rattle.std.specs.Prelude.{◌==◌, nat_le, nat_lt, is_some}
-use Rattle.std.specs.Ordering.{nat_cmp}
-use Rattle.std.specs.List.{list_all}
-use Rattle.std.specs.BTreeMap.{is_at}
 use Rattle.std.proofs.lemmas.Bool.Decides.{nat_tests}
 use Rattle.keycard_rules.specs.declared.card.Link.{Link}
 use Rattle.hotel_core.specs.Words.{said_of, is_that}
-use Rattle.hotel_core.specs.Rows.{at_number}
 use Rattle.hotel_core.specs.Notes.{same_link}
 use Rattle.hotel_core.proofs.Tests.{eq_from, and_true, not_both}
-use Rattle.hotel_core.proofs.TableKeys.{same_number}
 
 pub le_from : (a b : ℕ) → nat_le a b ≡ true → a ≤ b
 le_from a b e = grind (arith, nat_tests)
 
 pub lt_from : (a b : ℕ) → nat_lt a b ≡ true → a < b
 lt_from a b e = grind (arith, nat_tests)
-
-found_by : {X : Type 0} (test : ℕ × X → Bool) (b : Bool) (e : ℕ × X) (rest : Option X) (k : ℕ) (v : X) → (b ≡ true → k ≡ e.0) → test e ≡ true → (rest ≡ Some v → test (k, v) ≡ true) → cond b (Some e.1) rest ≡ Some v
-    → test (k, v) ≡ true
-found_by test true e rest k v same t ih f =
-    let w : e.1 ≡ v = cc in
-    ap (λ z. test (z, v)) (same refl) ∙ ap (λ x. test (e.0, x)) (sym w) ∙ t
-found_by test false e rest k v same t ih f = ih f
-
--- a row that is found passes the test of all rows
-pub each_found : {X : Type 0} (test : ℕ × X → Bool) (es : List (ℕ × X)) (k : ℕ) (v : X) → list_all test es ≡ true → at_number es k ≡ Some v → test (k, v) ≡ true
-each_found test [] k v a f = absurd (let w : ◌≡◌ {A = Option _} None (Some v) = f in cc)
-each_found test (e ∷ es) k v a f =
-    let p = and_true (test e) (list_all test es) a in
-    found_by test (is_at (nat_cmp k) e.0) e (at_number es k) k v (same_number k e.0) p.0 (each_found test es k v p.1) f
 
 -- what is said of a value that is there
 pub said_true : {X : Type 0} (o : Option X) (f : X → Bool) → said_of o false f ≡ true → (x : X) × (o ≡ Some x) × (f x ≡ true)

@@ -16,6 +16,7 @@ use Rattle.hotel_core.proofs.Tests.{eq_from, eq_self, and_true}
 use Rattle.hotel_core.proofs.TableKeys.{is_at_self}
 use Rattle.hotel_core.proofs.StartOrder.{found_later}
 use Rattle.hotel_core.proofs.StartCodes.{orders, row_is_place, place_is_row}
+use Rattle.hotel_core.proofs.StartPlaces.{none_or}
 
 here_by : (b : Bool) (e : ℕ × CodeRow) (es : List (ℕ × CodeRow)) (room place code : ℕ) → (b ≡ true → (e.1.room ≡ room) × (e.1.place ≡ place))
     → (first_code_at es room place ≡ Some code → at_number (e ∷ es) code ≡ Some (record { room = room; place = place })) → cond b (Some e.0) (first_code_at es room place) ≡ Some code
@@ -52,10 +53,6 @@ some_found (e ∷ es) room place code f =
     some_by (is_at (nat_cmp code) e.0) ((e.1.room == room) && (e.1.place == place)) e es room place code
     (λ t w. ap (λ (x : CodeRow). (x.room == room) && (x.place == place)) w ∙ ap (λ z. z && (place == place)) (eq_self room) ∙ eq_self place)
     (some_found es room place code) f
-
-none_or : (o : Option ℕ) → ((w : ℕ) → o ≡ Some w → ⊥) → o ≡ None
-none_or (Some w) f = absurd (f w refl)
-none_or None f = refl
 
 -- past the codes of a room no place has a code
 pub free_at_start : (t : Rows) → IsSound t → (r p : ℕ) → length (codes_at t r) ≤ p → first_code_at t.codes r p ≡ None

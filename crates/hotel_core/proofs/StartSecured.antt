@@ -8,18 +8,19 @@ use Rattle.keycard_rules.specs.declared.card.Card.{Card}
 use Rattle.hotel_core.specs.Words.{is_one_of}
 use Rattle.hotel_core.specs.Rows.{Rows, at_number, codes_at, lock_place_of, last_link_of}
 use Rattle.hotel_core.specs.History.{start}
-use Rattle.hotel_core.specs.Guests.{those_in}
+use Rattle.hotel_core.specs.Guests.{those_in, secured}
 use Rattle.hotel_core.specs.SoundCards.{room_is, card_is, code_is, stands_at, is_newest, fits_inside}
 use Rattle.hotel_core.specs.Sound.{IsSound}
 use Rattle.hotel_core.specs.CodeLaws.{SecuredRoomsFit}
 use Rattle.hotel_core.proofs.Tests.{eq_from, and_true, or_second, not_both}
 use Rattle.hotel_core.proofs.InsideRooms.{one_of_when}
-use Rattle.hotel_core.proofs.StartRules.{each_found, said_true, said_at}
+use Rattle.hotel_core.proofs.RowTests.{found_passes}
+use Rattle.hotel_core.proofs.StartRules.{said_true, said_at, le_from}
 use Rattle.hotel_core.proofs.StartCodes.{room_there_is, counted, lock_within}
 use Rattle.hotel_core.proofs.StartLinks.{newest_by_rule}
 
 -- a card inside a room passes the test of all insides
-inside_passes : (test : ℕ × ℕ → Bool) (es : List (ℕ × ℕ)) (r n : ℕ) → list_all test es ≡ true → is_one_of n (those_in es r) ≡ true → test (r, n) ≡ true
+pub inside_passes : (test : ℕ × ℕ → Bool) (es : List (ℕ × ℕ)) (r n : ℕ) → list_all test es ≡ true → is_one_of n (those_in es r) ≡ true → test (r, n) ≡ true
 inside_passes test [] r n a e = not_both false e refl
 inside_passes test (x ∷ es) r n a e =
     let p = and_true (test x) (list_all test es) a in
@@ -28,13 +29,27 @@ inside_passes test (x ∷ es) r n a e =
       | inr q ↦ inside_passes test es r n p.1 q
     ]
 
+-- what the rule says of a secured room
+secured_rule : (t : Rows) → IsSound t → (r : ℕ) (row : RoomRow) → at_number t.rooms r ≡ Some row → row.secured ≡ true → ((row.lock_place == row.codes - 1) ≡ true) × (nat_le 2 row.codes ≡ true)
+secured_rule t s r row e secured =
+    let a = found_passes (λ (e : ℕ × RoomRow). not e.1.secured || ((e.1.lock_place == e.1.codes - 1) && nat_le 2 e.1.codes)) t.rooms r row s.room_secured e in
+    let b = or_second (not row.secured) ((row.lock_place == row.codes - 1) && nat_le 2 row.codes) (ap not secured) a in
+    and_true (row.lock_place == row.codes - 1) (nat_le 2 row.codes) b
+
+-- A secured room has two codes or more.
+pub secured_have_two_at_start : (t : Rows) → IsSound t → (r : ℕ) → secured (start t) r ≡ true → 2 ≤ length (codes_at t r)
+secured_have_two_at_start t s r e =
+    let row = said_true (at_number t.rooms r) (λ row. row.secured) e in
+    let last = secured_rule t s r row.0 row.1 row.2 in
+    let two = le_from 2 row.0.codes last.1 in
+    let many = (counted t s r row.0 row.1).many in
+    omega arith
+
 -- a secured room's lock holds its last code
 secured_last : (t : Rows) → IsSound t → (r : ℕ) (row : RoomRow) → at_number t.rooms r ≡ Some row → row.secured ≡ true → length (codes_at t r) ≤ lock_place_of t r + 1
 secured_last t s r row e secured =
-    let a = each_found (λ (e : ℕ × RoomRow). not e.1.secured || ((e.1.lock_place == e.1.codes - 1) && nat_le 2 e.1.codes)) t.rooms r row s.room_secured e in
-    let b = or_second (not row.secured) ((row.lock_place == row.codes - 1) && nat_le 2 row.codes) (ap not secured) a in
-    let c = and_true (row.lock_place == row.codes - 1) (nat_le 2 row.codes) b in
-    let d : row.lock_place ≡ row.codes - 1 = eq_from row.lock_place (row.codes - 1) c.0 in
+    let rule = secured_rule t s r row e secured in
+    let d : row.lock_place ≡ row.codes - 1 = eq_from row.lock_place (row.codes - 1) rule.0 in
     let many = (counted t s r row e).many in
     let l = (lock_within t s r row e).0 in
     omega arith

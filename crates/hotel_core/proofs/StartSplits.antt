@@ -40,7 +40,8 @@ split_at ps k v up f =
     let l = s.3 in
     (s.0, s.1, s.2, omega arith)
 
-past : (n k : ℕ) → n < k → (n == k) ≡ false
+-- a number before another isn't that one
+pub past : (n k : ℕ) → n < k → (n == k) ≡ false
 past n k l = by (n == k) refl
   where
     by : (b : Bool) → (n == k) ≡ b → (n == k) ≡ false

@@ -68,6 +68,11 @@ pub record Headline (h : History) : Type 0 where
 abbrev pub HeadlineHolds : Type 0
 HeadlineHolds = (h : History) → Reached h → Headline h
 
+-- What is assured after each step: the headline, and that on no night more stays of a kind are booked and in house than the kind has rooms.
+pub record Assured (h : History) : Type 0 where
+  pub headline : Headline h
+  pub none_oversold : (kind : List ℕ) (d : ℕ) → nights h kind d ≤ rooms_of h kind
+
 -- The rows of a history that can be reached are sound.
 abbrev pub RowsSound : Type 0
 RowsSound = (h : History) → Reached h → IsSound (rows_of h)

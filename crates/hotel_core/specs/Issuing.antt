@@ -1,5 +1,5 @@
 -- What comes of a card for a room, once the checks of the party and the room have passed.
-use Rattle.std.specs.Prelude.{ℕ, ◌≡◌, ◌<◌, ◌+◌, ◌-◌, ◌^◌, List, [], ◌∷◌, Option, IsSome, is_some, is_none, nat_lt, nat_le, bytes_eq, length}
+use Rattle.std.specs.Prelude.{ℕ, ◌<◌, ◌+◌, ◌-◌, ◌^◌, List, [], ◌∷◌, Option, IsSome, is_some, is_none, nat_lt, nat_le, bytes_eq, length}
 use Rattle.keycard_rules.specs.declared.card.Link.{Link}
 use Rattle.hotel_nights.specs.declared.stay.Stay.{Stay}
 use Rattle.hotel_core.specs.declared.change.Change.{Change}

@@ -28,10 +28,12 @@ pub mod Lift
 pub mod Reads
 pub mod Finds
 pub mod Issuing
-pub mod Stepping
 pub mod Noting
+pub mod Stepping
 pub mod Headline
 pub mod Lists
+pub mod ListsOnRows
+pub mod Walks
 pub mod Follow
 pub mod Texts
 pub mod CodeLaws

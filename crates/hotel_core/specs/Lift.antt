@@ -15,6 +15,7 @@ use Rattle.hotel_core.specs.Answer.{answer_to}
 use Rattle.hotel_core.specs.ChangeOf.{change_of}
 use Rattle.hotel_core.specs.OnRows.{outcome_on}
 use Rattle.hotel_core.specs.StepOnRows.{Goes, AreWhole}
+use Rattle.hotel_core.specs.Headline.{Assured}
 use Rattle.hotel_core.specs.Run.{Reached, StandsFor, Steps, Runs, is_failed}
 
 -- The outcome, with the change of the books in place of the event.
@@ -76,3 +77,7 @@ abbrev pub RunsAgree : Type 0
 RunsAgree = (h : History) (s : Stream) (commands : List Command) (replies replies' : List Reply) (rows rows' : Rows) (rest rest' : Stream)
     → NoneFailed replies → NoneFailed replies' → RunsTo h s commands replies rows rest → RunsTo h s commands replies' rows' rest'
     → (replies ≡ replies') × (rows ≡ rows') × (rest ≡ rest')
+
+-- A run has come to these rows and this source, and what is assured holds of its history.
+abbrev pub RunsSafely : History → Stream → List Command → List Reply → Rows → Stream → Type 0
+RunsSafely h s commands replies rows s' = (h' : History) × StandsFor h' rows × Runs h s commands replies h' s' × Assured h'

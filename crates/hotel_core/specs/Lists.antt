@@ -1,8 +1,13 @@
 -- The rows of the five lists, read off a history.
-use Rattle.std.specs.Prelude.{ℕ, Bool, List, [], ◌∷◌, ◌++◌, Option, Some, None, ◌+◌, ◌&&◌, if◌then◌else◌, nat_le, nat_lt, length, filter, filter_map}
+use Rattle.std.specs.Prelude.{ℕ, List, [], ◌∷◌, ◌++◌, Option, Some, None, ◌+◌, ◌&&◌, if◌then◌else◌, nat_le, nat_lt, length, filter, filter_map}
 use Rattle.std.specs.Map.{keys_of, values_of}
 use Rattle.hotel_nights.specs.declared.stay.Stay.{Stay}
 use Rattle.keycard_rules.specs.Note.{Note}
+use Rattle.hotel_core.specs.declared.list_rows.HouseRow.{HouseRow}
+use Rattle.hotel_core.specs.declared.list_rows.ChainRow.{ChainRow}
+use Rattle.hotel_core.specs.declared.list_rows.BehindRow.{BehindRow}
+use Rattle.hotel_core.specs.declared.list_rows.CodeState.{CodeState}
+use Rattle.hotel_core.specs.declared.list_rows.CodeState.TheVariants.{Passed, Held, Awaited}
 use Rattle.hotel_core.specs.Words.{said_of}
 use Rattle.hotel_core.specs.Rows.{at_number}
 use Rattle.hotel_core.specs.History.{History}
@@ -18,14 +23,6 @@ use Rattle.hotel_core.specs.Notes.{notes}
 abbrev pub arrivals : History → ℕ → List Stay
 arrivals h day = filter (λ stay. is_booked_state stay.state && nat_le stay.arrive day && nat_lt day stay.depart) (values_of (stays h))
 
-pub record HouseRow : Type 0 where
-  pub room : ℕ
-  pub party : ℕ
-  pub guest : List ℕ
-  pub kind : List ℕ
-  pub depart : ℕ
-  pub secured : Bool
-
 abbrev pub house_row_of : History → ℕ → Stay → HouseRow
 house_row_of h room stay = record { room = room; party = stay.party; guest = stay.guest; kind = stay.kind; depart = stay.depart; secured = secured h room }
 
@@ -37,16 +34,6 @@ house_row h room = said_of (registered h room) None (λ party. said_of (at_numbe
 abbrev pub in_house : History → List HouseRow
 in_house h = filter_map (house_row h) (keys_of (rooms h))
 
-pub data CodeState : Type 0 where
-  Passed : CodeState
-  Held : CodeState
-  Awaited : CodeState
-
-pub record ChainRow : Type 0 where
-  pub place : ℕ
-  pub code : ℕ
-  pub state : CodeState
-
 -- the codes with their places from one place on, all in one state
 abbrev pub in_places : ℕ → CodeState → List ℕ → List ChainRow
 in_places place state [] = []
@@ -55,12 +42,6 @@ in_places place state (code ∷ codes) = record { place = place; code = code; st
 -- A room's codes with their places and states: the passed ones, the one held, the awaited ones.
 abbrev pub chain : History → ℕ → List ChainRow
 chain h room = in_places 0 Passed (passed h room) ++ in_places (length (passed h room)) Held (held h room ∷ []) ++ in_places (length (passed h room) + 1) Awaited (awaited h room)
-
-pub record BehindRow : Type 0 where
-  pub room : ℕ
-  pub held : ℕ
-  pub current : ℕ
-  pub awaited : ℕ
 
 abbrev pub behind_row : History → ℕ → Option BehindRow
 behind_row h room = if nat_le 2 (length (awaited h room)) then Some (record { room = room; held = held h room; current = current h room; awaited = length (awaited h room) }) else None

@@ -1,5 +1,5 @@
 -- Sound rows: the rules, each with a name.
-use Rattle.std.specs.Prelude.{ℕ, ◌≡◌, ◌≤◌, Bool, true, List, ◌&&◌}
+use Rattle.std.specs.Prelude.{ℕ, ◌≡◌, ◌≤◌, ◌↔◌, Bool, true, List, ◌&&◌}
 use Rattle.std.specs.Ordering.{nat_cmp}
 use Rattle.std.specs.Cmp.Lexicographic.{slice_cmp}
 use Rattle.std.specs.Map.{keys_of}
@@ -63,3 +63,7 @@ passes_rules rows =
     && stay_days rows && stay_rooms rows && nights_fit rows && codes_in_range rows && code_rooms_there rows && places_once rows && card_numbers rows
     && card_parties_there rows && links_are_neighbours rows && links_of_one_party rows && neighbours_are_links rows && newest_of_party rows
     && last_cards_newest rows && insides_fit rows && notes_counted rows && notes_fit rows
+
+-- Rows are sound exactly where they pass the test.
+abbrev pub RulesAreTested : Type 0
+RulesAreTested = (rows : Rows) → (passes_rules rows ≡ true) ↔ IsSound rows

@@ -67,7 +67,7 @@ note_counts rows = each_room rows (λ row. nat_le row.notes 9999999)
 
 -- the party is in house at the row's room, and booked its kind
 abbrev pub is_home_of : Rows → RoomRow → ℕ → Bool
-is_home_of rows row party = said_of (at_number rows.stays party) false (λ stay. is_that (room_of_state stay.state) row.room && bytes_eq stay.kind row.kind)
+is_home_of rows row party = said_of (at_number rows.stays party) false (λ stay. is_that (room_of_state stay.state) row.room && bytes_eq row.kind stay.kind)
 
 -- a room's party is in house at this room, and booked its kind
 abbrev pub parties_in_house : Rows → Bool

@@ -1,5 +1,5 @@
 //! Bookings.
-ghost use Rattle.std.specs.Prelude.{◌≡◌, ◌+◌, ◌-◌, ◌≤◌, ℕ, false, true, Option, Some, None, IfOk};
+ghost use Rattle.std.specs.Prelude.{◌≡◌, ◌-◌, false, true, Option, Some, IfOk};
 ghost use Rattle.rand_core.specs.Stream.{Stream};
 ghost use Rattle.hotel_nights.specs.FullNight.{is_full, first_day};
 ghost use Rattle.keycard_rules.specs.Draw.{words};

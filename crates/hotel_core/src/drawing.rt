@@ -1,6 +1,5 @@
 //! Fresh codes over the books.
-ghost use Rattle.std.specs.Prelude.{◌≡◌, false, true};
-ghost use Rattle.keycard_rules.specs.Draw.{words};
+ghost use Rattle.std.specs.Prelude.{◌≡◌};
 ghost use Rattle.hotel_core.specs.Finds.{DrawsCode, drawn_or};
 
 use crate::books::Books;

@@ -1,15 +1,14 @@
 //! What commands find in the books, or the refusal where it isn't there.
-ghost use Rattle.std.specs.Prelude.{◌≡◌, ◌≤◌, ℕ, Option, Some, None, Bool, true, false, Result, Ok, Err, OnErr, OnOk, IsOk, IsSome, length};
-ghost use Rattle.hotel_core.specs.Rows.{Rows};
-ghost use Rattle.hotel_core.specs.Lookups.{has_kind, room_at, code_at, code_place, stay_at, card_at, note_at, number_after};
+ghost use Rattle.std.specs.Prelude.{◌≡◌, Option, Some, None, false, Result, Ok, Err, IsSome, length};
+ghost use Rattle.hotel_core.specs.Lookups.{has_kind, room_at, stay_at, card_at, number_after};
 ghost use Rattle.hotel_core.specs.Finds.{Finds, AnyRows, has_failed, refusal_of, known, there_or};
 ghost use Rattle.hotel_core.specs.declared.reply.Refusal.TheVariants.{NotBegun, NoRoom, NoParty, NoCard, NumbersUsedUp, Store};
 
 use crate::books::Books;
 use crate::reply::Refusal;
-use crate::rows::{CodeRow, RoomRow};
+use crate::rows::RoomRow;
 use hotel_nights::{Day, KindCode, Stay};
-use keycard_rules::{Card, CardNo, Code, Count, LockNote, LookFault, PartyNo, RoomNo};
+use keycard_rules::{Card, CardNo, LookFault, PartyNo, RoomNo};
 
 pub(crate) fn refusal_of(fault: LookFault) -> Refusal
     ensures { result ≡ refusal_of fault }

@@ -1,5 +1,5 @@
 //! The kinds and the rooms.
-ghost use Rattle.std.specs.Prelude.{◌≡◌, ◌≤◌, ℕ, false, true, Option, Some, None};
+ghost use Rattle.std.specs.Prelude.{false};
 ghost use Rattle.rand_core.specs.Stream.{Stream};
 ghost use Rattle.keycard_rules.specs.Draw.{words};
 ghost use Rattle.hotel_core.specs.Finds.{reply_of};

@@ -1,7 +1,7 @@
 //! Cards of new codes.
-ghost use Rattle.std.specs.Prelude.{◌≡◌, ◌<◌, ◌-◌, ◌^◌, ◌+◌, ℕ, false, Option, Some, IsSome, OnOk, OnErr};
+ghost use Rattle.std.specs.Prelude.{◌≡◌, ◌<◌, ◌-◌, ◌^◌, false, Option, Some, IsSome, OnOk};
 ghost use Rattle.keycard_rules.specs.Draw.{words};
-ghost use Rattle.hotel_core.specs.Finds.{Finds, AnyRows, reply_of};
+ghost use Rattle.hotel_core.specs.Finds.{Finds, reply_of};
 ghost use Rattle.hotel_core.specs.Issuing.{issued_on, HasCurrent, HasLink, last_link_on};
 ghost use Rattle.hotel_core.specs.Lookups.{room_at, code_at, stay_at};
 ghost use Rattle.hotel_core.specs.StepOnRows.{StepsAs};

@@ -1,15 +1,18 @@
 //! Books in memory.
-ghost use Rattle.std.specs.Prelude.{◌≡◌, ℕ, ◌≤◌, refl};
+ghost use Rattle.std.specs.Prelude.{◌≡◌, ℕ, ◌≤◌, true, refl};
 ghost use Rattle.std.proofs.Common.{ap, ◌∙◌};
 ghost use Rattle.keycard_rules.specs.Rise.{HasRisen};
 ghost use Rattle.keycard_rules.specs.declared.issued.LookFault.TheVariants.{Memory};
 ghost use Rattle.hotel_core.specs.Rows.{no_rows};
 ghost use Rattle.hotel_core.specs.Lookups.{codes_in};
+ghost use Rattle.hotel_core.specs.Walks.{walk_failed};
 
 use crate::books::Books;
 use crate::change::Change;
+use crate::list_rows::{BehindRow, ChainRow, HouseRow};
 use crate::rows::{CodeRow, NextNumbers, RoomRow};
 use crate::tables::Tables;
+use crate::walks::{Sink, WalkFault, Walks};
 use hotel_nights::{Day, KindCode, Stay};
 use keycard_rules::{Card, CardNo, Code, Count, Issued, LockNote, LookFault, PartyNo, RoomNo};
 use std::alloc::Global;
@@ -52,6 +55,19 @@ impl ListBooks {
     {
         self.failures = self.failures.saturating_add(1);
         LookFault::Memory
+    }
+
+    /// How a walk ended, which is counted where it found no memory.
+    fn ended(&mut self, end: Result<(), WalkFault>) -> Result<(), WalkFault>
+        ensures same { result ≡ end }
+        ensures rows { self.new.rows ≡ self.old.rows }
+        ensures counted { self.old.failures ≤ self.new.failures }
+        ensures risen { walk_failed end ≡ true → HasRisen self.old.failures self.new.failures }
+    {
+        if matches!(end, Err(WalkFault::Memory | WalkFault::Store)) {
+            self.wanting();
+        }
+        end
     }
 }
 
@@ -147,4 +163,39 @@ impl Books for ListBooks {
     ghost kept_rows = { λ a b h. h };
 
     ghost issued_are = { λ a. refl };
+}
+
+impl Walks for ListBooks {
+    fn walk_arrivals<S: Sink<Stay>>(&mut self, day: Day, sink: &mut S) -> Result<(), WalkFault> {
+        let end = self.tables.walk_arrivals(day, sink);
+        self.ended(end)
+    }
+
+    fn walk_in_house<S: Sink<HouseRow>>(&mut self, sink: &mut S) -> Result<(), WalkFault> {
+        let end = self.tables.walk_in_house(sink);
+        self.ended(end)
+    }
+
+    fn walk_chain<S: Sink<ChainRow>>(
+        &mut self,
+        room: RoomNo,
+        sink: &mut S,
+    ) -> Result<(), WalkFault> {
+        let end = self.tables.walk_chain(room, sink);
+        self.ended(end)
+    }
+
+    fn walk_left_behind<S: Sink<BehindRow>>(&mut self, sink: &mut S) -> Result<(), WalkFault> {
+        let end = self.tables.walk_left_behind(sink);
+        self.ended(end)
+    }
+
+    fn walk_audit<S: Sink<LockNote>>(
+        &mut self,
+        room: RoomNo,
+        sink: &mut S,
+    ) -> Result<(), WalkFault> {
+        let end = self.tables.walk_audit(room, sink);
+        self.ended(end)
+    }
 }

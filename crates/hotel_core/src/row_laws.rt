@@ -8,12 +8,13 @@ ghost use Rattle.hotel_core.specs.Event.{Event};
 ghost use Rattle.hotel_core.specs.Fits.{HasItsRows};
 ghost use Rattle.hotel_core.specs.Follow.{FollowsBy, RoomsOnce};
 ghost use Rattle.hotel_core.specs.Guests.{registered};
-ghost use Rattle.hotel_core.specs.History.{History, ◌▷◌};
+ghost use Rattle.hotel_core.specs.History.{History, start, ◌▷◌};
 ghost use Rattle.hotel_core.specs.Lookups.{note_at, rooms_of_kind, stays_of_kind};
 ghost use Rattle.hotel_core.specs.Notes.{notes};
-ghost use Rattle.hotel_core.specs.Rows.{at_number};
+ghost use Rattle.hotel_core.specs.Rows.{Rows, at_number};
 ghost use Rattle.hotel_core.specs.RowsOf.{room_row, rows_of};
 ghost use Rattle.hotel_core.specs.Run.{Reached};
+ghost use Rattle.hotel_core.specs.Sound.{IsSound};
 ghost use Rattle.hotel_core.specs.Stays.{first_full, rooms, rooms_of};
 
 /// The rows after one more event are those that its change makes, and the change has its rows.
@@ -40,11 +41,7 @@ pub fn rows_counted()
     ensures first_full { (h : History) (kind : List ℕ) (d k : ℕ) → first_day (is_full (stays_of_kind (rows_of h) kind) kind (rooms_of_kind (rows_of h) kind)) d k ≡ first_full h kind d k }
 {}
 
-ghost use Rattle.hotel_core.specs.History.{start};
-ghost use Rattle.hotel_core.specs.Rows.{Rows};
-ghost use Rattle.hotel_core.specs.Sound.{IsSound};
-
 /// The rows that stand for a start are the start's rows.
-pub fn starts()
+pub fn rows_of_start()
     ensures { (t : Rows) → IsSound t → rows_of (start t) ≡ t }
 {}

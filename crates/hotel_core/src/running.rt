@@ -3,7 +3,7 @@ ghost use Rattle.std.specs.Prelude.{List, IfOk, IfErr, take, ◌≤◌};
 ghost use Rattle.hotel_core.specs.declared.reply.Reply.{Reply};
 ghost use Rattle.hotel_core.specs.History.{History};
 ghost use Rattle.hotel_core.specs.Run.{StandsFor};
-ghost use Rattle.hotel_core.specs.Lift.{RunsTo};
+ghost use Rattle.hotel_core.specs.Lift.{RunsSafely};
 
 use crate::books::Books;
 use crate::command::Command;
@@ -26,9 +26,9 @@ pub fn run<B: Books, R: Rng>(
     commands: &[Command],
 ) -> Result<Vec<Reply>, RunFault>
     ensures run { IfOk result (λ replies. (h : History) → StandsFor h (B.rows books.old) → B.is_clean books.new →
-        RunsTo h (R.stream source.old) commands.now replies.items (B.rows books.new) (R.stream source.new)) }
+        RunsSafely h (R.stream source.old) commands.now replies.items (B.rows books.new) (R.stream source.new)) }
     ensures fault { IfErr result (λ fault. (h : History) → StandsFor h (B.rows books.old) → B.is_clean books.new →
-        (replies : List Reply) × RunsTo h (R.stream source.old) (take fault.answered commands.now) replies (B.rows books.new) (R.stream source.new)) }
+        (replies : List Reply) × RunsSafely h (R.stream source.old) (take fault.answered commands.now) replies (B.rows books.new) (R.stream source.new)) }
     ensures was_clean { B.is_clean books.new → B.is_clean books.old }
     ensures counted { B.failures books.old ≤ B.failures books.new }
 {

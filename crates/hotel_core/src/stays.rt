@@ -1,5 +1,5 @@
 //! Parties that come, move and leave.
-ghost use Rattle.std.specs.Prelude.{◌≡◌, ◌≤◌, ℕ, false, true, Option, Some, None, bytes_eq};
+ghost use Rattle.std.specs.Prelude.{◌≡◌, false, Option, Some, None, bytes_eq};
 ghost use Rattle.rand_core.specs.Stream.{Stream};
 ghost use Rattle.keycard_rules.specs.Draw.{words};
 ghost use Rattle.hotel_core.specs.Cases.{is_booked_state, room_of_state};

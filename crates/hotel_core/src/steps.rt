@@ -3,6 +3,7 @@ ghost use Rattle.std.specs.Prelude.{◌≡◌, true, false};
 ghost use Rattle.rand_core.specs.Stream.{Stream};
 ghost use Rattle.keycard_rules.specs.Draw.{words};
 ghost use Rattle.hotel_core.specs.History.{History};
+ghost use Rattle.hotel_core.specs.Headline.{Assured};
 ghost use Rattle.hotel_core.specs.Run.{StandsFor, Steps, is_failed};
 ghost use Rattle.hotel_core.specs.Ranges.{IsCommand, IsReply};
 ghost use Rattle.hotel_core.specs.Finds.{reply_of};
@@ -125,7 +126,7 @@ fn known_reply(reply: &Reply)
 /// a guest's name.
 pub fn step<B: Books, R: Rng>(books: &mut B, source: &mut R, command: &Command) -> Reply
     ensures step { (h : History) → StandsFor h (B.rows books.old) → B.is_clean books.new →
-        (h' : History) × StandsFor h' (B.rows books.new) × Steps h (R.stream source.old) command.now result h' (R.stream source.new) }
+        (h' : History) × StandsFor h' (B.rows books.new) × Steps h (R.stream source.old) command.now result h' (R.stream source.new) × Assured h' }
     ensures rows { StepsAs B.is_clean B.rows B.failures B.never_fails (copies command.now) (λ rows. outcome_on rows (words 64 (R.stream source.old)) command.now)
         books.old books.new (R.stream source.old) (R.stream source.new) result }
     ensures range { IsReply result }
@@ -141,13 +142,13 @@ pub fn step<B: Books, R: Rng>(books: &mut B, source: &mut R, command: &Command) 
 /// Takes a note of a lock: `step` of [`Command::Reported`], which draws nothing.
 pub fn report<B: Books>(books: &mut B, note: &LockNote) -> Reply
     ensures step { (h : History) → StandsFor h (B.rows books.old) → B.is_clean books.new → (source : Stream) →
-        (h' : History) × StandsFor h' (B.rows books.new) × Steps h source (command.Reported note.now) result h' source }
+        (h' : History) × StandsFor h' (B.rows books.new) × Steps h source (command.Reported note.now) result h' source × Assured h' }
     ensures rows { (source : Stream) → StepsAs B.is_clean B.rows B.failures B.never_fails false (λ rows. outcome_on rows (words 64 source) (command.Reported note.now))
         books.old books.new source source result }
 {
     known_note(note);
-    let outcome = take_note(books, note);
-    let reply = reply_of(outcome);
+    let taken = take_note(books, note);
+    let reply = reply_of(taken);
     known_reply(&reply);
     reply
 }

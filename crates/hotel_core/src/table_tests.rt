@@ -31,11 +31,11 @@ fn first_card<A: Abort>(rt: &A) -> Card {
     }
 }
 
-/// Rooms 1 to 11, each with the code of its number, so that the next code wants memory.
+/// Rooms 1 to 15, each with the code of its number, so that the next code wants memory: 15 fill a node of the maps.
 fn rooms<A: Abort>(rt: &A, alloc: Global) -> Result<Tables, Memory> {
     let mut tables = Tables::empty(alloc);
     tables.add_kind(kind(rt))?;
-    for number in 1..12u32 {
+    for number in 1..16u32 {
         let room = room_no(rt, number);
         let first = code(rt, u64::from(number));
         assert!(rt; tables.room(room).is_none(), "the room is new");

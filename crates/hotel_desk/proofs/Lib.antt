@@ -1,2 +1,3 @@
 pub mod ReturnLemmas
 pub mod WordLemmas
+pub mod ScriptLemmas

@@ -4,6 +4,9 @@ pub mod Values
 pub mod Commands
 pub mod Verbs
 pub mod Asks
+pub mod LineAnswers
+pub mod Script
+pub mod Program
 pub mod Tests
 pub mod Scenes
 pub mod SceneAuditGapConflict

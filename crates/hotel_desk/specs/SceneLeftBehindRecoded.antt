@@ -10,7 +10,8 @@ use Rattle.hotel_core.specs.Rows.{no_rows}
 use Rattle.hotel_core.specs.History.{start}
 use Rattle.hotel_desk.specs.Tests.{rows_made, rows_read, always_kept}
 use Rattle.hotel_core.specs.Run.{Ran, run_on}
-use Rattle.hotel_core.specs.Lists.{Passed, Held, chain, left_behind}
+use Rattle.hotel_core.specs.Lists.{chain, left_behind}
+use Rattle.hotel_core.specs.declared.list_rows.CodeState.TheVariants.{Passed, Held}
 use Rattle.hotel_desk.specs.Scenes.{as_words, link, card, note}
 
 -- the codes of the source's words

@@ -3,11 +3,25 @@
 
 mod asks;
 mod commands;
+mod line_answers;
 mod line_values;
 mod lines;
+mod program;
 mod scenes;
+mod script;
 mod values;
 mod verb;
 mod words;
 
-fn main() {}
+use program::run_standard;
+use std::process::ExitCode;
+
+fn main(rt: HostRuntime) -> ExitCode {
+    match run_standard(&rt) {
+        Ok(_) => ExitCode::SUCCESS,
+        Err(fault) => {
+            let _ = rt.eprintln(fault.text());
+            ExitCode::from(fault.status())
+        }
+    }
+}

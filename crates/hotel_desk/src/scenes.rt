@@ -16,7 +16,6 @@ ghost use Rattle.hotel_desk.specs.SceneEndOfCalendar as scene_end_of_calendar;
 ghost use Rattle.hotel_desk.specs.SceneEndOfCalendarLastDay as scene_end_of_calendar_last_day;
 ghost use Rattle.hotel_desk.specs.SceneDeskDay as scene_desk_day;
 ghost use Rattle.hotel_desk.specs.SceneNoteRefusals as scene_note_refusals;
-
 ghost use Rattle.hotel_desk.specs.SceneDamaged as scene_damaged;
 
 /// The worked scenarios hold of the model, and damaged rows fail their rules.

@@ -18,7 +18,7 @@ on_err (Err e) P h = h e refl
 pub returns-in-Note-clause-answer : goal.returns-in-Note-clause-answer
 returns-in-Note-clause-answer g c =
     rw c.in-Note.is
-    (if_ok c.answer_of.result _ (λ a e. Imports-note g.B.Issued.is_clean g.B.Books.rows c.args.books.now c.report.new.books c.in-Note.note c.report.result a (e ∙ c.answer_of.ensures) c.report.ensures.step))
+    (if_ok c.answer_of.result _ (λ a e. Imports-note g.B.Issued.is_clean g.B.Books.rows c.args.books.now c.report.new.books c.in-Note.note c.report.result a (e ∙ c.answer_of.ensures) (λ h stands clean source. let r = c.report.ensures.step h stands clean source in (r.0, r.1, r.2))))
 
 pub returns-in-Note-clause-unchanged : goal.returns-in-Note-clause-unchanged
 returns-in-Note-clause-unchanged g c =

@@ -1,11 +1,7 @@
-use Rattle.hotel_core.specs.Cases.{room_of_state}
-use Rattle.std.proofs.Common.{ℕ, ◌≡◌, true, false, Option, Some, None, is_some, List, [], ◌∷◌, refl, sym, ap, ◌∙◌, arith}
+use Rattle.std.proofs.Common.{◌≡◌, true, false, refl}
 use Rattle.hotel_core.specs.declared.reply.Refusal.TheVariants as refusal
-use Rattle.hotel_core.specs.declared.reply.Reply.TheVariants as reply
-use Rattle.hotel_core.specs.declared.change.Change.TheVariants as change
 use Rattle.hotel_core.specs.OnRows.{outcome_on}
-use Rattle.hotel_core.specs.Issuing.{bars_to_check_in, bars_to_transfer}
-use Rattle.hotel_core.proofs.Parts.{begun, then_found, at_now, stopped, halted, refuses, barred, ends, only, none, bars_refuse, bars_pass}
+use Rattle.hotel_core.proofs.Parts.{begun, then_found, at_now, stopped, refuses, ends}
 use Rattle.hotel_core.specs.Cases.{is_booked_state}
 use Rattle.hotel_core.proofs.booking.cancel.Goals as goal
 

@@ -1,13 +1,11 @@
-use Rattle.hotel_core.specs.Cases.{room_of_state}
-use Rattle.std.proofs.Common.{ℕ, ◌≡◌, true, false, Option, Some, None, is_some, List, [], ◌∷◌, refl, sym, ap, ◌∙◌, arith}
+use Rattle.std.proofs.Common.{ℕ, ◌≡◌, true, false, None, List, refl, sym, ap, ◌∙◌, arith}
 use Rattle.hotel_core.specs.declared.reply.Refusal.TheVariants as refusal
 use Rattle.hotel_core.specs.declared.reply.Reply.TheVariants as reply
 use Rattle.hotel_core.specs.declared.change.Change.TheVariants as change
 use Rattle.hotel_core.specs.OnRows.{outcome_on}
-use Rattle.hotel_core.specs.Issuing.{bars_to_check_in, bars_to_transfer}
 use Rattle.hotel_core.proofs.DayNumbers.{is_day, no_day}
-use Rattle.hotel_core.proofs.Parts.{begun, then_found, at_now, stopped, halted, refuses, barred, ends, only, none, bars_refuse, bars_pass}
-use Rattle.std.specs.Prelude.{nat_lt, nat_le, ◌+◌, ◌-◌}
+use Rattle.hotel_core.proofs.Parts.{begun, then_found, at_now, stopped, refuses, ends, only}
+use Rattle.std.specs.Prelude.{nat_lt, ◌+◌, ◌-◌}
 use Rattle.std.proofs.lemmas.Bool.Decides.{nat_tests}
 use Rattle.hotel_core.proofs.Parts.{number_is, lacks}
 use Rattle.hotel_nights.specs.declared.stay.StayState.TheVariants as state

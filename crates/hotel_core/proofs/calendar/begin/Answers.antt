@@ -1,4 +1,4 @@
-use Rattle.std.proofs.Common.{◌≡◌, true, false, nat_lt, refl, arith, sym, ap, is_some, is_none, option_map}
+use Rattle.std.proofs.Common.{◌≡◌, true, false, refl, is_some}
 use Rattle.hotel_core.specs.declared.reply.Refusal.TheVariants.{AlreadyBegun}
 use Rattle.hotel_core.specs.OnRows.{outcome_on}
 use Rattle.hotel_core.proofs.Parts.{begun, then_found, stopped, refuses, ends, only}

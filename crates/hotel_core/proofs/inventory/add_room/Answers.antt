@@ -1,9 +1,9 @@
-use Rattle.std.proofs.Common.{ℕ, ◌≡◌, true, false, is_some, None, refl, ◌∙◌}
+use Rattle.std.proofs.Common.{◌≡◌, true, false, is_some, refl, ◌∙◌}
 use Rattle.hotel_core.specs.declared.reply.Refusal.TheVariants.{NoKind, RoomExists}
 use Rattle.hotel_core.specs.declared.reply.Reply.TheVariants as reply
 use Rattle.hotel_core.specs.declared.change.Change.TheVariants as change
 use Rattle.hotel_core.specs.OnRows.{outcome_on}
-use Rattle.hotel_core.proofs.Parts.{begun, then_found, at_now, stopped, refuses, ends, only, none}
+use Rattle.hotel_core.proofs.Parts.{begun, then_found, at_now, stopped, refuses, only, none}
 use Rattle.hotel_core.proofs.DrawParts.{then_drawn, undrawn, drawn_ends}
 use Rattle.hotel_core.proofs.inventory.add_room.Goals as goal
 

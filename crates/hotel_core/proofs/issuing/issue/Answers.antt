@@ -1,11 +1,8 @@
-use Rattle.hotel_core.specs.Cases.{room_of_state}
-use Rattle.std.proofs.Common.{ℕ, ◌≡◌, true, false, Option, Some, None, is_some, List, [], ◌∷◌, refl, sym, ap, ◌∙◌, arith}
-use Rattle.hotel_core.specs.declared.reply.Refusal.TheVariants as refusal
+use Rattle.std.proofs.Common.{ℕ, ◌≡◌, Some, refl, sym}
 use Rattle.hotel_core.specs.declared.reply.Reply.TheVariants as reply
 use Rattle.hotel_core.specs.declared.change.Change.TheVariants as change
 use Rattle.hotel_core.specs.OnRows.{outcome_on}
-use Rattle.hotel_core.specs.Issuing.{bars_to_check_in, bars_to_transfer}
-use Rattle.hotel_core.proofs.Parts.{begun, then_found, at_now, stopped, halted, refuses, barred, ends, only, none, bars_refuse, bars_pass}
+use Rattle.hotel_core.proofs.Parts.{then_found, at_now, stopped, halted}
 use Rattle.std.specs.Prelude.{IsSome}
 use Rattle.keycard_rules.specs.declared.card.Link.{Link}
 use Rattle.hotel_core.specs.Cards.{card_of}

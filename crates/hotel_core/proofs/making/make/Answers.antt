@@ -1,4 +1,3 @@
-use Rattle.std.proofs.Common.{refl, Err}
 use Rattle.hotel_core.proofs.Parts.{makes, fails}
 use Rattle.hotel_core.specs.Outcome.{accepted}
 use Rattle.hotel_core.proofs.making.make.Goals as goal

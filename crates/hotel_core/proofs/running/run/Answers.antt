@@ -1,8 +1,9 @@
-use Rattle.std.proofs.Common.{◌≡◌, ◌+◌, List, take, ◌++◌, ◌∷◌, [], refl, sym, ap, ◌∙◌, arith}
-use Rattle.std.proofs.lemmas.List.{take_more}
-use Rattle.hotel_core.specs.declared.command.Command.{Command}
+use Rattle.std.proofs.Common.{◌≡◌, ◌+◌, take, ◌++◌, ◌∷◌, [], sym, ap, ◌∙◌, arith, subst}
+use Rattle.std.proofs.lemmas.List.{take_more, take_all}
+use Rattle.hotel_core.specs.Lift.{RunsTo}
 use Rattle.hotel_core.proofs.Runs.{runs_begin}
 use Rattle.hotel_core.proofs.RunParts.{runs_step}
+use Rattle.hotel_core.proofs.Assurance.{runs_safely}
 use Rattle.hotel_core.proofs.running.run.Goals as goal
 
 pub loop-command-preserved : goal.loop-command-preserved
@@ -14,9 +15,20 @@ loop-command-preserved g c =
       room = omega (arith, c.in-Ok-push.ensures.capacity, c.loop-command.invariant.room);
       answered = omega (arith, c.in-Ok-push.ensures.len, c.loop-command.invariant.answered);
       ran = λ clean h stands.
-          let r = runs_step h _ _ _ _ _ c.command-item.result c.step-reply.result (g.B.Books.rows c.step-reply.new.books) (g.R.Rng.stream c.step-reply.new.source) (c.loop-command.invariant.ran (before clean) h stands) (λ k s. c.step-reply.ensures.step k s clean) in
+          let r = runs_step h _ _ _ _ _ c.command-item.result c.step-reply.result (g.B.Books.rows c.step-reply.new.books) (g.R.Rng.stream c.step-reply.new.source) (c.loop-command.invariant.ran (before clean) h stands) (λ k s. let r = c.step-reply.ensures.step k s clean in (r.0, r.1, r.2)) in
           let xs = c.args.commands.now in
           let i = c.loop-command.command-index in
           let e : take (i + 1) xs ≡ take i xs ++ c.command-item.result ∷ [] = take_more xs i c.command-item.result c.loop-command-test.true ∙ ap (λ x. take i xs ++ x ∷ []) (sym c.command-item.is) in
           rw (e, c.in-Ok-push.ensures.items) r;
     }
+
+pub returns-clause-run : goal.returns-clause-run
+returns-clause-run g c = λ h stands clean.
+    let all : take c.loop-command.command-index c.args.commands.now ≡ c.args.commands.now = take_all _ _ c.loop-command-test.false in
+    runs_safely h _ _ _ _ _ (subst (λ xs. RunsTo h (g.R.Rng.stream c.args.source.now) xs c.loop-command.replies.items (g.B.Books.rows c.loop-command.books) (g.R.Rng.stream c.loop-command.source))
+    all (c.loop-command.invariant.ran clean h stands))
+
+pub returns-in_default-clause-fault : goal.returns-in_default-clause-fault
+returns-in_default-clause-fault g c = λ h stands clean.
+    let s = g.R.Rng.stream c.args.source.now in
+    ([], runs_safely h s s [] [] (g.B.Books.rows c.args.books.now) (runs_begin h s (g.B.Books.rows c.args.books.now) stands))

@@ -1,0 +1,47 @@
+//! The rows of the lists.
+use hotel_nights::{Day, Guest, KindCode};
+use keycard_rules::{Code, PartyNo, RoomNo};
+
+/// A room in which a party is registered, with the party's stay.
+#[derive(Debug, Drop)]
+pub struct HouseRow {
+    pub room: RoomNo,
+    pub party: PartyNo,
+    pub guest: Guest,
+    pub kind: KindCode,
+    /// The day of departure.
+    pub depart: Day,
+    /// Whether, since the last issue at the room, a card of its newest link entered while no card was inside.
+    pub secured: bool,
+}
+
+/// How a code stands to its room's lock.
+#[derive(Clone, Copy, PartialEq, Eq, Debug)]
+pub enum CodeState {
+    /// The lock has left it.
+    Passed,
+    Held,
+    /// The lock has not taken it yet.
+    Awaited,
+}
+
+/// A code of a room.
+#[derive(Clone, Copy, PartialEq, Eq, Debug)]
+pub struct ChainRow {
+    /// Its place among the room's codes, counted from 0 in order of issue.
+    pub place: u32,
+    pub code: Code,
+    pub state: CodeState,
+}
+
+/// A room whose lock has not taken two codes or more, so that its newest card does not open it.
+#[derive(Clone, Copy, PartialEq, Eq, Debug)]
+pub struct BehindRow {
+    pub room: RoomNo,
+    /// The code that the lock holds.
+    pub held: Code,
+    /// The code that was issued last.
+    pub current: Code,
+    /// How many codes the lock has not taken yet.
+    pub awaited: u32,
+}

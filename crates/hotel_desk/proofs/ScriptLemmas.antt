@@ -1,0 +1,91 @@
+-- Lines of a script, answered one after the other.
+use Rattle.std.proofs.Common.{◌≡◌, ℕ, zero, suc, ◌+◌, ◌≤◌, ◌<◌, List, [], ◌∷◌, ◌++◌, length, take, drop, arith, refl, sym, ap, subst, ◌∙◌, append_assoc, append-nil, length-append, take-append-drop, add-one, Option, Some, None, IsSome, true, false}
+use Rattle.std.proofs.Math.Seq.{take-append-add}
+use Rattle.std.proofs.lemmas.List.{length-drop}
+use Rattle.std.specs.Io.KnownBytes.{Appends}
+use Rattle.std.proofs.KnownBytes.{Appends-trans, Appends-nil}
+use Rattle.rand_core.specs.Stream.{Stream}
+use Rattle.keycard_rules.proofs.Drawing.{past-zero}
+use Rattle.hotel_core.specs.declared.command.Command.{Command}
+use Rattle.hotel_core.specs.declared.reply.Reply.TheVariants.{Refused}
+use Rattle.hotel_core.specs.declared.reply.Refusal.TheVariants.{Memory}
+use Rattle.hotel_core.specs.Rows.{Rows}
+use Rattle.hotel_core.specs.History.{History}
+use Rattle.hotel_core.specs.Run.{StandsFor}
+use Rattle.hotel_core.specs.Texts.{reply_text}
+use Rattle.hotel_lists.specs.Bytes.{AppendsFront}
+use Rattle.hotel_desk.specs.Lines.{lines, without_return, is_silent, answered_lines}
+use Rattle.hotel_desk.specs.LineAnswers.{AskGoes, LineGoes}
+use Rattle.hotel_desk.specs.Script.{ScriptGoes, RowsGo}
+
+-- a command for which there is no memory moves nothing
+pub ask_without_memory : (wanted : Option Command) (h : History) (s : Stream) → IsSome wanted → AskGoes wanted h s (reply_text (Refused Memory)) h s
+ask_without_memory None h s p = cc p
+ask_without_memory (Some command) h s p = (Refused Memory, (refl, (0, omega arith, sym (past-zero s))), refl)
+
+-- one line more at the end
+pub script-push : (h mid h' : History) (s source s' : Stream) (before : List (List ℕ)) (output line text : List ℕ)
+    → ScriptGoes h s before output mid source → LineGoes mid source line text h' s' → ScriptGoes h s (before ++ line ∷ []) (output ++ text) h' s'
+unfolding ScriptGoes
+script-push h mid h' s source s' [] output line text r p =
+    let p = subst (λ (x : History). LineGoes x source line text h' s') r.1 p in
+    let p = subst (λ (x : Stream). LineGoes h x line text h' s') r.2 p in
+    (h', s', text, [], p, (refl, refl, refl), rw r.0 (sym (append-nil text)))
+script-push h mid h' s source s' (first ∷ before) output line text r p =
+    (r.0, r.1, r.2, r.3 ++ text, r.4, script-push r.0 mid h' r.1 source s' before r.3 line text r.5 p, rw r.6 (append_assoc r.2 r.3 text))
+
+line_after : (all : List (List ℕ)) (done : ℕ) (line : List ℕ) (later : List (List ℕ)) → drop done all ≡ line ∷ later
+    → (suc done ≤ length all) × (drop (suc done) all ≡ later) × (take (suc done) all ≡ take done all ++ line ∷ [])
+line_after [] zero line later e = cc e
+line_after [] (suc done) line later e = cc e
+line_after (first ∷ all) zero line later e = (omega arith, cc e, ap (λ (x : List ℕ). x ∷ []) (cc e))
+line_after (first ∷ all) (suc done) line later e =
+    let k = line_after all done line later e in (omega (arith, k.0), k.1, ap (λ (ls : List (List ℕ)). first ∷ ls) k.2)
+
+-- the line after those that are done
+pub next_line : (all : List (List ℕ)) (done : ℕ) (line : List ℕ) (later : List (List ℕ)) → drop done all ≡ line ∷ later
+    → (done + 1 ≤ length all) × (drop (done + 1) all ≡ later) × (take (done + 1) all ≡ take done all ++ line ∷ [])
+next_line all done line later e = rw (add-one done) (line_after all done line later e)
+
+-- no line is left
+pub all_done : (all : List (List ℕ)) (done : ℕ) → done ≤ length all → drop done all ≡ [] → (done ≡ length all) × (take done all ≡ all)
+all_done all done h e =
+    let none : length (drop done all) ≡ 0 = rw e refl in
+    (omega (arith, none, length-drop done all), sym (append-nil (take done all)) ∙ (ap (λ (ls : List (List ℕ)). take done all ++ ls) (sym e) ∙ take-append-drop done all))
+
+-- a line more goes, and what is written grows by some of its answer
+pub rows_more : (a b c : Rows) (s t u : Stream) (all : List (List ℕ)) (done : ℕ) (line text : List ℕ) (later : List (List ℕ)) (P Q : List ℕ → Type 0)
+    → RowsGo a s (take done all) P b t → drop done all ≡ line ∷ later
+    → ((h : History) → StandsFor h b → (h' : History) × StandsFor h' c × LineGoes h t line text h' u)
+    → ((output : List ℕ) → P output → Q (output ++ text)) → RowsGo a s (take (done + 1) all) Q c u
+rows_more a b c s t u all done line text later P Q go e step written = λ h stands.
+    let p = go h stands in
+    let q = step p.1 p.2 in
+    let whole = sym (next_line all done line later e).2 in (
+      p.0 ++ text,
+      q.0,
+      q.1,
+      subst (λ (ls : List (List ℕ)). ScriptGoes h s ls (p.0 ++ text) q.0 u) whole (script-push h p.1 q.0 s t u (take done all) p.0 line text p.3 q.2),
+      written p.0 p.4,
+    )
+
+-- no line went yet
+pub rows_begin : (a : Rows) (s : Stream) (known : Option (List ℕ)) → RowsGo a s [] (Appends known known) a s
+unfolding ScriptGoes
+rows_begin a s known = λ h stands. ([], h, stands, (refl, refl, refl), Appends-nil known)
+
+-- bytes, and then a front of some more
+pub appends_front : (a b c : Option (List ℕ)) (output text : List ℕ) → AppendsFront b c text → Appends a b output → AppendsFront a c (output ++ text)
+appends_front a b c output text (n, within, next) first =
+    (length output + n, simp length-append (omega arith), subst (Appends a c) (sym (take-append-add output text n)) (Appends-trans a b c output (take n text) first next))
+
+-- a silent line is not among those that are answered
+pub answered_silent : (text later line cut : List ℕ) → lines text ≡ line ∷ lines later → cut ≡ without_return line → is_silent cut ≡ true → answered_lines text ≡ answered_lines later
+answered_silent text later line cut e w h = rw (e, subst (λ (x : List ℕ). is_silent x ≡ true) w h) refl
+
+-- any other line is
+pub answered_more : (text later line cut : List ℕ) → lines text ≡ line ∷ lines later → cut ≡ without_return line → is_silent cut ≡ false → answered_lines text ≡ cut ∷ answered_lines later
+answered_more text later line cut e w h =
+    let s : is_silent (without_return line) ≡ false = subst (λ (x : List ℕ). is_silent x ≡ false) w h in
+    let k : answered_lines text ≡ without_return line ∷ answered_lines later = rw (e, s) refl in
+    k ∙ ap (λ (x : List ℕ). x ∷ answered_lines later) (sym w)

@@ -1,0 +1,60 @@
+use Rattle.std.proofs.Common.{◌≡◌, ◌∙◌, ◌++◌, ◌∷◌, [], ap, arith, false, refl, subst, sym, List, ℕ, drop, take}
+use Rattle.std.specs.Io.KnownBytes.{Appends}
+use Rattle.std.proofs.KnownBytes.{Appends-trans}
+use Rattle.hotel_lists.specs.Bytes.{AppendsFront}
+use Rattle.hotel_desk.specs.Lines.{answered_lines, is_silent, lines}
+use Rattle.hotel_desk.specs.LineAnswers.{answer_text}
+use Rattle.hotel_desk.specs.Script.{RowsGo}
+use Rattle.hotel_desk.proofs.ScriptLemmas.{rows_begin, rows_more, next_line, all_done, answered_more, appends_front}
+use Rattle.hotel_desk.proofs.script.answer_lines.Goals as goal
+
+pub loop-line-init : goal.loop-line-init
+loop-line-init g c = record {
+  fits = omega arith;
+  within = omega arith;
+  left = refl;
+  clean = λ clean. clean;
+  went = λ clean. rows_begin (g.B.Books.rows c.args.books.now) (g.R.Rng.stream c.args.source.now) (g.W.Write.contents c.args.writer.now);
+}
+
+pub loop-line-preserved-in-Ok-1 : goal.loop-line-preserved-in-Ok-1
+loop-line-preserved-in-Ok-1 g c =
+    let all = answered_lines c.args.script.now in
+    let line = c.without_return-line.result.now in
+    let silent : is_silent line ≡ false = sym c.is_silent.ensures ∙ c.if-not-is_silent.true in
+    let left = c.loop-line.invariant.left ∙ answered_more c.loop-line.rest.now c.in-Some.later.now c.in-Some.line.now line c.in-Some.ensures.some c.without_return-line.ensures silent in
+    let next = next_line all c.loop-line.done line _ left in
+    let answered = c.answer_line-answer.ensures in
+    record {
+      fits = omega (arith, c.loop-line.invariant.fits, c.in-Some.ensures.shorter);
+      within = next.0;
+      left = next.1;
+      clean = λ clean. c.loop-line.invariant.clean (answered.was_clean clean);
+      went = λ clean. rows_more _ _ _ _ _ _ all c.loop-line.done line (answer_text c.answer_line-answer.result) _ _ _
+          (c.loop-line.invariant.went (answered.was_clean clean)) left (λ h stands. answered.goes h stands clean)
+          (λ output written. Appends-trans _ _ _ output _ written c.in-Ok.ensures.ok);
+    }
+
+pub returns-in_default-write_answer-clause-cut : goal.returns-in_default-write_answer-clause-cut
+returns-in_default-write_answer-clause-cut g c = λ clean.
+    let all = answered_lines c.args.script.now in
+    let line = c.without_return-line.result.now in
+    let silent : is_silent line ≡ false = sym c.is_silent.ensures ∙ c.if-not-is_silent.true in
+    let left = c.loop-line.invariant.left ∙ answered_more c.loop-line.rest.now c.in-Some.later.now c.in-Some.line.now line c.in-Some.ensures.some c.without_return-line.ensures silent in
+    let answered = c.answer_line-answer.ensures in
+    rows_more _ _ _ _ _ _ all c.loop-line.done line (answer_text c.answer_line-answer.result) _ _ _
+    (c.loop-line.invariant.went (answered.was_clean clean)) left (λ h stands. answered.goes h stands clean)
+    (λ output written. appends_front _ _ _ output _ c.in_default-write_answer.ensures.err written)
+
+pub returns-clause-count : goal.returns-clause-count
+returns-clause-count g c =
+    let none : answered_lines c.loop-line.rest.now ≡ [] = rw (c.first_line.ensures.none c.in_default.is) refl in
+    (all_done (answered_lines c.args.script.now) c.loop-line.done c.loop-line.invariant.within (c.loop-line.invariant.left ∙ none)).0
+
+pub returns-clause-ok : goal.returns-clause-ok
+returns-clause-ok g c = λ clean.
+    let none : answered_lines c.loop-line.rest.now ≡ [] = rw (c.first_line.ensures.none c.in_default.is) refl in
+    let whole = (all_done (answered_lines c.args.script.now) c.loop-line.done c.loop-line.invariant.within (c.loop-line.invariant.left ∙ none)).1 in
+    subst (λ (ls : List (List ℕ)). RowsGo (g.B.Books.rows c.args.books.now) (g.R.Rng.stream c.args.source.now) ls
+    (Appends (g.W.Write.contents c.args.writer.now) (g.W.Write.contents c.loop-line.writer)) (g.B.Books.rows c.loop-line.books) (g.R.Rng.stream c.loop-line.source))
+    whole (c.loop-line.invariant.went clean)

@@ -1,0 +1,289 @@
+//! Scripts from bytes to bytes, and readers and writers that go wrong.
+use super::scenarios::{self, Scenario};
+use super::{SCRIPT_LIMIT, ScriptEnd, ScriptFault, run_script};
+use hotel_core::ListBooks;
+use hotel_lists::{FakeReader, FakeWriter};
+use keycard_rules::ListedWords;
+use rand_chacha::ChaCha20Rng;
+use rand_core::{Rng, SeedableRng};
+use std::alloc::Global;
+use std::process::Abort;
+use std::test::Fail;
+
+/// Books in memory, and a source.
+#[derive(Drop)]
+struct Desk<R> {
+    books: ListBooks,
+    source: R,
+}
+
+impl<R: Rng> Desk<R> {
+    /// Answers the reader's script to the writer.
+    fn answer(
+        &mut self,
+        alloc: Global,
+        reader: &mut FakeReader<'_>,
+        writer: &mut FakeWriter,
+    ) -> Result<ScriptEnd, ScriptFault> {
+        run_script(alloc, reader, writer, &mut self.books, &mut self.source)
+    }
+}
+
+/// A desk with empty books, and a source of words that give these codes, the last one for ever.
+fn desk_of(alloc: Global, codes: &[u64]) -> Result<Desk<ListedWords>, Fail> {
+    let mut words = Vec::new(alloc);
+    for code in codes {
+        words.push(*code << 16)?;
+    }
+    let source = ListedWords::new(words).ok_or("no words")?;
+    let books = ListBooks::empty(alloc);
+    Ok(Desk { books, source })
+}
+
+/// How many lines the text has.
+fn line_count(text: &[u8]) -> u32 {
+    let mut count = 0u32;
+    for byte in text {
+        if *byte == b'\n' {
+            count = count.saturating_add(1);
+        }
+    }
+    count
+}
+
+/// The script is answered so, over empty books and a source of these codes.
+fn is_answered(
+    rt: &(impl Abort + AllocGlobal),
+    codes: &[u64],
+    script: &[u8],
+    answers: &[u8],
+) -> Result<(), Fail> {
+    let mut desk = desk_of(rt.alloc(), codes)?;
+    let mut reader = FakeReader::new(script).in_pieces(100);
+    let mut writer = FakeWriter::new(rt.alloc());
+    let lines = line_count(answers);
+    let ran = desk.answer(rt.alloc(), &mut reader, &mut writer);
+    assert_eq!(rt; writer.written(), answers);
+    assert_eq!(rt; ran, Ok(ScriptEnd { lines }));
+    Ok(())
+}
+
+/// The scenario's script is answered as it says.
+fn holds(rt: &(impl Abort + AllocGlobal), codes: &[u64], scenario: &Scenario) -> Result<(), Fail> {
+    is_answered(rt, codes, scenario.script, scenario.answers)
+}
+
+#[test]
+fn first_run(rt: HostRuntime) {
+    let Scenario { script, answers } = &scenarios::FIRST_RUN;
+    let books = ListBooks::empty(rt.alloc());
+    let source = ChaCha20Rng::from_seed([0; 32]);
+    let mut desk = Desk { books, source };
+    let mut writer = FakeWriter::new(rt.alloc()).in_pieces(1);
+    let ran = desk.answer(rt.alloc(), &mut FakeReader::new(script), &mut writer);
+    assert_eq!(rt; writer.written(), *answers);
+    assert_eq!(rt; ran, Ok(ScriptEnd { lines: 6 }));
+}
+
+#[test]
+fn two_entries(rt: HostRuntime) -> Result<(), Fail> {
+    holds(&rt, &[0xa0, 0xa1, 0xa2], &scenarios::TWO_ENTRIES)
+}
+
+#[test]
+fn next_guest(rt: HostRuntime) -> Result<(), Fail> {
+    holds(&rt, &[0xa0, 0xa1, 0xa2], &scenarios::NEXT_GUEST)
+}
+
+#[test]
+fn left_behind_recoded(rt: HostRuntime) -> Result<(), Fail> {
+    holds(&rt, &[0xa0, 0xa1, 0xa2], &scenarios::LEFT_BEHIND_RECODED)
+}
+
+#[test]
+fn away_and_back(rt: HostRuntime) -> Result<(), Fail> {
+    holds(
+        &rt,
+        &[0xa0, 0xb0, 0xa1, 0xb1, 0xa2, 0xa3],
+        &scenarios::AWAY_AND_BACK,
+    )
+}
+
+#[test]
+fn code_drawn_twice(rt: HostRuntime) -> Result<(), Fail> {
+    holds(&rt, &[0xa0, 0xa0, 0xb0], &scenarios::CODE_DRAWN_TWICE)
+}
+
+#[test]
+fn no_fresh_code(rt: HostRuntime) -> Result<(), Fail> {
+    holds(&rt, &[0xa0], &scenarios::NO_FRESH_CODE)
+}
+
+#[test]
+fn no_fresh_code_twice(rt: HostRuntime) -> Result<(), Fail> {
+    let mut codes = vec![in rt.alloc(); 0xa0; 129]?;
+    codes.push(0xb0)?;
+    holds(&rt, codes.as_slice(), &scenarios::NO_FRESH_CODE_TWICE)
+}
+
+#[test]
+fn spare_keeps_room_open(rt: HostRuntime) -> Result<(), Fail> {
+    holds(&rt, &[0xa0, 0xa1, 0xa2], &scenarios::SPARE_KEEPS_ROOM_OPEN)
+}
+
+#[test]
+fn kind_full(rt: HostRuntime) -> Result<(), Fail> {
+    holds(&rt, &[0xa0], &scenarios::KIND_FULL)
+}
+
+#[test]
+fn end_of_calendar(rt: HostRuntime) -> Result<(), Fail> {
+    holds(&rt, &[0xa0, 0xb0], &scenarios::END_OF_CALENDAR)
+}
+
+#[test]
+fn end_of_calendar_last_day(rt: HostRuntime) -> Result<(), Fail> {
+    holds(&rt, &[0xa0], &scenarios::END_OF_CALENDAR_LAST_DAY)
+}
+
+#[test]
+fn desk_day(rt: HostRuntime) -> Result<(), Fail> {
+    holds(&rt, &[0xa0, 0xb0, 0xc0, 0xa1], &scenarios::DESK_DAY)
+}
+
+#[test]
+fn note_refusals(rt: HostRuntime) -> Result<(), Fail> {
+    holds(&rt, &[0xa0, 0xa1, 0xa2], &scenarios::NOTE_REFUSALS)
+}
+
+#[test]
+fn recoding_refused(rt: HostRuntime) -> Result<(), Fail> {
+    holds(&rt, &[0xa0, 0xa1, 0xa2, 0xb0], &scenarios::RECODING_REFUSED)
+}
+
+#[test]
+fn words_and_empties(rt: HostRuntime) -> Result<(), Fail> {
+    holds(&rt, &[0xa0], &scenarios::WORDS_AND_EMPTIES)
+}
+
+#[test]
+fn ends_of_lines_and_silent_lines(rt: HostRuntime) -> Result<(), Fail> {
+    let script = b"\n   \r\n # a note\nbegin 2031-05-01\r\nnext-day 1\n\nnext-day\r";
+    is_answered(&rt, &[0xa0], script, b"begun\nunread\nday 2031-05-02\n")
+}
+
+#[test]
+fn a_line_of_1025_bytes_is_unread(rt: HostRuntime) -> Result<(), Fail> {
+    let mut script = vec![in rt.alloc(); b' '; 1008]?;
+    script.extend_from_slice(b"begin 2031-05-01\r\n")?;
+    is_answered(&rt, &[0xa0], script.as_slice(), b"begun\n")?;
+    let mut script = vec![in rt.alloc(); b' '; 1009]?;
+    script.extend_from_slice(b"begin 2031-05-01\r\n")?;
+    is_answered(&rt, &[0xa0], script.as_slice(), b"unread\n")
+}
+
+/// Each read of the script fails in turn; then the script is answered over the same books.
+fn fails_by_reads(rt: &(impl Abort + AllocGlobal), scenario: &Scenario) -> Result<(), Fail> {
+    let mut desk = desk_of(rt.alloc(), &[0xa0, 0xa1, 0xa2])?;
+    let mut writer = FakeWriter::new(rt.alloc());
+    for call in 1..=5 {
+        let mut reader = FakeReader::new(scenario.script)
+            .in_pieces(60)
+            .failing_at(call);
+        let ran = desk.answer(rt.alloc(), &mut reader, &mut writer);
+        assert_eq!(rt; ran, Err(ScriptFault::Read), "call {call}");
+    }
+    let mut reader = FakeReader::new(scenario.script);
+    let ran = desk.answer(rt.alloc(), &mut reader, &mut writer);
+    assert!(rt; ran.is_ok());
+    assert_eq!(rt; writer.written(), scenario.answers);
+    Ok(())
+}
+
+#[test]
+fn a_read_that_fails_begins_nothing(rt: HostRuntime) -> Result<(), Fail> {
+    fails_by_reads(&rt, &scenarios::TWO_ENTRIES)
+}
+
+/// The write of this number fails: the answers before it were written.
+fn fails_by_write(
+    rt: &(impl Abort + AllocGlobal),
+    scenario: &Scenario,
+    done: u32,
+) -> Result<(), Fail> {
+    let mut desk = desk_of(rt.alloc(), &[0xa0, 0xa1, 0xa2])?;
+    let mut reader = FakeReader::new(scenario.script);
+    let mut writer = FakeWriter::new(rt.alloc()).failing_at(done);
+    let ran = desk.answer(rt.alloc(), &mut reader, &mut writer);
+    assert_eq!(rt; ran, Err(ScriptFault::Write { done }));
+    assert!(rt; scenario.answers.starts_with(writer.written()));
+    assert_eq!(rt; line_count(writer.written()), done.saturating_sub(1));
+    Ok(())
+}
+
+#[test]
+fn each_write_that_fails_leaves_whole_answers(rt: HostRuntime) -> Result<(), Fail> {
+    for done in 1..=7 {
+        fails_by_write(&rt, &scenarios::TWO_ENTRIES, done)?;
+    }
+    Ok(())
+}
+
+#[test]
+fn lines_stand_after_a_write_that_took_no_byte(rt: HostRuntime) -> Result<(), Fail> {
+    let mut desk = desk_of(rt.alloc(), &[0xa0])?;
+    let mut reader = FakeReader::new(b"begin 2031-05-01\nadd-kind DBL\n");
+    let mut writer = FakeWriter::new(rt.alloc()).in_pieces(4).stuck_at(2);
+    let ran = desk.answer(rt.alloc(), &mut reader, &mut writer);
+    assert_eq!(rt; ran, Err(ScriptFault::Write { done: 1 }));
+    assert_eq!(rt; writer.written(), b"begu".as_slice());
+    let mut reader = FakeReader::new(b"begin 2031-05-02\nadd-kind DBL\n");
+    let mut writer = FakeWriter::new(rt.alloc());
+    let ran = desk.answer(rt.alloc(), &mut reader, &mut writer);
+    assert_eq!(rt; ran, Ok(ScriptEnd { lines: 2 }));
+    let answers = b"refused 2 AlreadyBegun\nkind added\n".as_slice();
+    assert_eq!(rt; writer.written(), answers);
+    Ok(())
+}
+
+/// A script of spaces ends so.
+fn spaces_end(
+    rt: &(impl Abort + AllocGlobal),
+    len: usize,
+    outcome: Result<ScriptEnd, ScriptFault>,
+) -> Result<(), Fail> {
+    let text = vec![in rt.alloc(); b' '; len]?;
+    let mut desk = desk_of(rt.alloc(), &[0xa0])?;
+    let mut reader = FakeReader::new(text.as_slice());
+    let mut writer = FakeWriter::new(rt.alloc());
+    let ran = desk.answer(rt.alloc(), &mut reader, &mut writer);
+    assert_eq!(rt; ran, outcome, "{len} bytes");
+    assert!(rt; writer.written().is_empty());
+    Ok(())
+}
+
+#[test]
+fn a_script_over_the_limit_is_too_large(rt: HostRuntime) -> Result<(), Fail> {
+    spaces_end(&rt, SCRIPT_LIMIT, Ok(ScriptEnd { lines: 0 }))?;
+    spaces_end(&rt, SCRIPT_LIMIT + 1, Err(ScriptFault::TooLarge))
+}
+
+/// A script of one line ends so, after 600 interrupted reads and some interrupted writes.
+fn interrupted_end(
+    rt: &(impl Abort + AllocGlobal),
+    writes: u32,
+    outcome: Result<ScriptEnd, ScriptFault>,
+) -> Result<(), Fail> {
+    let mut desk = desk_of(rt.alloc(), &[0xa0])?;
+    let mut reader = FakeReader::new(b"begin 2031-05-01").interrupted(600);
+    let mut writer = FakeWriter::new(rt.alloc()).interrupted(writes);
+    let ran = desk.answer(rt.alloc(), &mut reader, &mut writer);
+    assert_eq!(rt; ran, outcome, "{writes} writes");
+    Ok(())
+}
+
+#[test]
+fn interruptions_of_one_call_are_counted_together(rt: HostRuntime) -> Result<(), Fail> {
+    interrupted_end(&rt, 399, Ok(ScriptEnd { lines: 1 }))?;
+    interrupted_end(&rt, 400, Err(ScriptFault::Write { done: 1 }))
+}

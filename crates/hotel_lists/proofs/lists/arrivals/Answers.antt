@@ -1,0 +1,24 @@
+use Rattle.std.proofs.Common.{◌≡◌, Err, rules, sym, subst}
+use Rattle.hotel_core.specs.ListsOnRows.{arrivals_on}
+use Rattle.hotel_lists.specs.Lines.{Lists, arrivals_header, arrival_line}
+use Rattle.hotel_lists.specs.declared.lines.Lines.{Lines}
+use Rattle.hotel_lists.specs.declared.fault.ListFault.TheVariants.{Write}
+use Rattle.hotel_lists.proofs.LinesWritten.{front_of_first, same_writer, list_written}
+use Rattle.hotel_lists.proofs.lists.arrivals.Goals as goal
+
+pub returns-in_err-write_bytes-clause-text : goal.returns-in_err-write_bytes-clause-text
+returns-in_err-write_bytes-clause-text g c = λ clean.
+    let why : c.from_residual.result ≡ Err Write = search rules in
+    subst (Lists _ _ arrivals_header arrival_line (arrivals_on (g.B.Books.rows c.args.books.now) c.args.day)) (sym why) (front_of_first _ _ arrivals_header _ c.in_err-write_bytes.ensures.err)
+
+pub returns-clause-text : goal.returns-clause-text
+returns-clause-text g c = λ clean.
+    let hands = c.walk_arrivals-end.ensures.hands in
+    let name = λ (s : Lines g.row.W.Denot). s.writer.ghost_name in
+    let contents = λ (s : Lines g.row.W.Denot). g.W.Write.contents s.writer.now in
+    let failed = λ (s : Lines g.row.W.Denot). s.write_failed in
+    let same = same_writer name contents failed arrival_line hands.0 _ _ _ hands.1 in
+    let written = list_written name contents failed arrival_line _ arrivals_header (arrivals_on (g.B.Books.rows c.args.books.now) c.args.day) hands.0 _ _ _ c.in_ok-write_bytes.ensures.ok (hands.2 clean) hands.1 in
+    let said : Lists (g.W.Write.contents c.args.writer.now) (g.W.Write.contents c.walk_arrivals-end.new.sink.writer.now) arrivals_header arrival_line (arrivals_on (g.B.Books.rows c.args.books.now) c.args.day) c.listed.result = rw c.listed.ensures written in
+    let back = sym same in
+    search rules

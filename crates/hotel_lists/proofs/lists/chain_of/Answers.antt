@@ -1,0 +1,33 @@
+use Rattle.std.proofs.Common.{◌≡◌, Err, rules, ap, sym, ◌∙◌, subst}
+use Rattle.hotel_core.specs.Lookups.{room_at}
+use Rattle.hotel_core.specs.ListsOnRows.{chain_on}
+use Rattle.hotel_lists.specs.Lines.{ListsRoom, chain_header, chain_line}
+use Rattle.hotel_lists.specs.declared.lines.Lines.{Lines}
+use Rattle.hotel_lists.specs.declared.fault.ListFault.TheVariants.{Write}
+use Rattle.hotel_lists.proofs.LinesWritten.{front_of_first, same_writer, list_written, listed_there, room_listed}
+use Rattle.hotel_lists.proofs.lists.chain_of.Goals as goal
+
+pub returns-in_err-write_bytes-clause-text : goal.returns-in_err-write_bytes-clause-text
+returns-in_err-write_bytes-clause-text g c = λ clean.
+    let why : c.from_residual-in_err-write_bytes.result ≡ Err Write = search rules in
+    let rows = chain_on (g.B.Books.rows c.args.books.now) c.args.room in
+    let found = rw c.in_ok-find_room.was at (c.find_room.ensures.room clean) in
+    subst (ListsRoom (room_at (g.B.Books.rows c.args.books.now) c.args.room) _ _ chain_header chain_line rows) (sym why)
+    (room_listed _ _ _ chain_header chain_line rows _ (Err Write) found (λ e. cc) (front_of_first _ _ chain_header _ c.in_err-write_bytes.ensures.err))
+
+pub returns-clause-text : goal.returns-clause-text
+returns-clause-text g c = λ clean.
+    let clean_found = c.walk_chain-end.ensures.was_clean clean in
+    let kept = g.met.B.Books.kept_rows _ _ (c.find_room.ensures.books.kept clean_found) in
+    let rows = chain_on (g.B.Books.rows c.args.books.now) c.args.room in
+    let found = rw c.in_ok-find_room.was at (c.find_room.ensures.room clean_found) in
+    let hands = c.walk_chain-end.ensures.hands in
+    let name = λ (s : Lines g.row.W.Denot). s.writer.ghost_name in
+    let contents = λ (s : Lines g.row.W.Denot). g.W.Write.contents s.writer.now in
+    let failed = λ (s : Lines g.row.W.Denot). s.write_failed in
+    let same = same_writer name contents failed chain_line hands.0 _ _ _ hands.1 in
+    let written = list_written name contents failed chain_line _ chain_header rows hands.0 _ _ _ c.in_ok-write_bytes.ensures.ok (hands.2 clean ∙ ap (λ rs. chain_on rs c.args.room) kept) hands.1 in
+    let listed = room_listed (room_at (g.B.Books.rows c.args.books.now) c.args.room) _ _ chain_header chain_line rows _ _ found (listed_there _ _) written in
+    let said : ListsRoom (room_at (g.B.Books.rows c.args.books.now) c.args.room) (g.W.Write.contents c.args.writer.now) (g.W.Write.contents c.walk_chain-end.new.sink.writer.now) chain_header chain_line rows c.listed.result = rw c.listed.ensures listed in
+    let back = sym same in
+    search rules

@@ -1,0 +1,24 @@
+use Rattle.std.proofs.Common.{◌≡◌, Err, rules, sym, subst}
+use Rattle.hotel_core.specs.ListsOnRows.{in_house_on}
+use Rattle.hotel_lists.specs.Lines.{Lists, in_house_header, house_line}
+use Rattle.hotel_lists.specs.declared.lines.Lines.{Lines}
+use Rattle.hotel_lists.specs.declared.fault.ListFault.TheVariants.{Write}
+use Rattle.hotel_lists.proofs.LinesWritten.{front_of_first, same_writer, list_written}
+use Rattle.hotel_lists.proofs.lists.in_house.Goals as goal
+
+pub returns-in_err-write_bytes-clause-text : goal.returns-in_err-write_bytes-clause-text
+returns-in_err-write_bytes-clause-text g c = λ clean.
+    let why : c.from_residual.result ≡ Err Write = search rules in
+    subst (Lists _ _ in_house_header house_line (in_house_on (g.B.Books.rows c.args.books.now))) (sym why) (front_of_first _ _ in_house_header _ c.in_err-write_bytes.ensures.err)
+
+pub returns-clause-text : goal.returns-clause-text
+returns-clause-text g c = λ clean.
+    let hands = c.walk_in_house-end.ensures.hands in
+    let name = λ (s : Lines g.row.W.Denot). s.writer.ghost_name in
+    let contents = λ (s : Lines g.row.W.Denot). g.W.Write.contents s.writer.now in
+    let failed = λ (s : Lines g.row.W.Denot). s.write_failed in
+    let same = same_writer name contents failed house_line hands.0 _ _ _ hands.1 in
+    let written = list_written name contents failed house_line _ in_house_header (in_house_on (g.B.Books.rows c.args.books.now)) hands.0 _ _ _ c.in_ok-write_bytes.ensures.ok (hands.2 clean) hands.1 in
+    let said : Lists (g.W.Write.contents c.args.writer.now) (g.W.Write.contents c.walk_in_house-end.new.sink.writer.now) in_house_header house_line (in_house_on (g.B.Books.rows c.args.books.now)) c.listed.result = rw c.listed.ensures written in
+    let back = sym same in
+    search rules

@@ -1,0 +1,134 @@
+-- The lines of the five lists, and how a list was written.
+use Rattle.std.specs.Prelude.{ℕ, ◌≡◌, ◌≤◌, Bool, true, false, List, [], ◌∷◌, ◌++◌, codes, if◌then◌else◌, Option, Some, None, Result, Ok, Err, ◌⊎◌}
+use Rattle.std.specs.List.{flat_map}
+use Rattle.std.specs.Fmt.{decimal}
+use Rattle.std.specs.Io.KnownBytes.{Appends, Keeps}
+use Rattle.csv.specs.Writing.{default_writer, row_text}
+use Rattle.keycard_rules.specs.Rise.{HasRisen}
+use Rattle.keycard_rules.specs.Numerals.{code_text}
+use Rattle.keycard_rules.specs.Note.{Note}
+use Rattle.keycard_rules.specs.declared.note.Act.{Act}
+use Rattle.keycard_rules.specs.declared.note.Act.TheVariants.{Entered, Left, Recoded}
+use Rattle.hotel_nights.specs.Days.{day_text}
+use Rattle.hotel_nights.specs.Moments.{moment_text}
+use Rattle.hotel_nights.specs.declared.stay.Stay.{Stay}
+use Rattle.hotel_core.specs.declared.rows.RoomRow.{RoomRow}
+use Rattle.hotel_core.specs.declared.list_rows.HouseRow.{HouseRow}
+use Rattle.hotel_core.specs.declared.list_rows.ChainRow.{ChainRow}
+use Rattle.hotel_core.specs.declared.list_rows.BehindRow.{BehindRow}
+use Rattle.hotel_core.specs.declared.list_rows.CodeState.{CodeState}
+use Rattle.hotel_core.specs.declared.list_rows.CodeState.TheVariants as state
+use Rattle.hotel_core.specs.declared.walks.WalkFault.{WalkFault}
+use Rattle.hotel_core.specs.declared.walks.WalkFault.TheVariants as walk
+use Rattle.hotel_lists.specs.Bytes.{AppendsFront}
+use Rattle.hotel_lists.specs.declared.fault.ListFault.{ListFault}
+use Rattle.hotel_lists.specs.declared.fault.ListFault.TheVariants as fault
+
+-- the line of these fields
+abbrev pub line_of : List (List ℕ) → List ℕ
+line_of fields = row_text default_writer fields
+
+-- a booked stay
+abbrev pub arrival_line : Stay → List ℕ
+arrival_line stay = line_of (decimal stay.party ∷ stay.guest ∷ stay.kind ∷ day_text stay.arrive ∷ day_text stay.depart ∷ [])
+
+abbrev pub yes_or_no : Bool → List ℕ
+yes_or_no true = codes "yes"
+yes_or_no false = codes "no"
+
+-- a room with its party
+abbrev pub house_line : HouseRow → List ℕ
+house_line row = line_of (decimal row.room ∷ decimal row.party ∷ row.guest ∷ row.kind ∷ day_text row.depart ∷ yes_or_no row.secured ∷ [])
+
+abbrev pub state_text : CodeState → List ℕ
+state_text state.Passed = codes "passed"
+state_text state.Held = codes "held"
+state_text state.Awaited = codes "awaited"
+
+-- a code of a room
+abbrev pub chain_line : ChainRow → List ℕ
+chain_line row = line_of (decimal row.place ∷ code_text row.code ∷ state_text row.state ∷ [])
+
+-- a room that is left behind
+abbrev pub behind_line : BehindRow → List ℕ
+behind_line row = line_of (decimal row.room ∷ code_text row.held ∷ code_text row.current ∷ decimal row.awaited ∷ [])
+
+-- what happened, the card (none for a recoding), and the two codes
+abbrev pub act_fields : Act → List (List ℕ)
+act_fields (Entered card link) = codes "in" ∷ decimal card ∷ code_text link.old_code ∷ code_text link.new_code ∷ []
+act_fields (Left card link) = codes "out" ∷ decimal card ∷ code_text link.old_code ∷ code_text link.new_code ∷ []
+act_fields (Recoded from to) = codes "recode" ∷ [] ∷ code_text from ∷ code_text to ∷ []
+
+-- a note
+abbrev pub note_line : Note → List ℕ
+note_line note = line_of (decimal note.room ∷ decimal note.count ∷ act_fields note.act ++ moment_text (note.day, note.second) ∷ [])
+
+-- the first line of each list
+abbrev pub arrivals_header : List ℕ
+arrivals_header = codes "party,guest,kind,arrive,depart\n"
+
+abbrev pub in_house_header : List ℕ
+in_house_header = codes "room,party,guest,kind,depart,secured\n"
+
+abbrev pub chain_header : List ℕ
+chain_header = codes "place,code,state\n"
+
+abbrev pub left_behind_header : List ℕ
+left_behind_header = codes "room,held,current,awaited\n"
+
+abbrev pub audit_header : List ℕ
+audit_header = codes "room,count,kind,card,old,new,at\n"
+
+-- The text of a list: its header, and a line for each row.
+abbrev pub list_text : {R : Type 0} → List ℕ → (R → List ℕ) → List R → List ℕ
+list_text header line rows = header ++ flat_map line rows
+
+-- The writer took the text of a front of the rows, or nothing.
+abbrev pub AppendsRows : {R : Type 0} → Option (List ℕ) → Option (List ℕ) → List ℕ → (R → List ℕ) → List R → Type 0
+AppendsRows {R = R} old new header line rows = Keeps old new ⊎ ((taken : List R) × (rest : List R) × (rows ≡ taken ++ rest) × Appends old new (list_text header line taken))
+
+-- What the writer took of a list: its text; or, after a failed write, a front of it; where memory or the store failed, whole rows of it; and nothing where the room isn't there.
+abbrev pub Lists : {R : Type 0} → Option (List ℕ) → Option (List ℕ) → List ℕ → (R → List ℕ) → List R → Result (Unit {0}) ListFault → Type 0
+Lists old new header line rows (Ok done) = Appends old new (list_text header line rows)
+Lists old new header line rows (Err fault.Write) = AppendsFront old new (list_text header line rows)
+Lists old new header line rows (Err fault.Memory) = AppendsRows old new header line rows
+Lists old new header line rows (Err fault.Store) = AppendsRows old new header line rows
+Lists old new header line rows (Err fault.NoRoom) = Keeps old new
+
+-- A writer stopped at a line: it took a front of it where the write failed, and nothing of it otherwise.
+abbrev pub StopsBy : Bool → Option (List ℕ) → Option (List ℕ) → List ℕ → Type 0
+StopsBy true old new line = AppendsFront old new line
+StopsBy false old new line = Keeps old new
+
+-- how a list ended, where its walk ended so, and the sink stopped for a failed write or not
+abbrev pub listed : Result (Unit {0}) WalkFault → Bool → Result (Unit {0}) ListFault
+listed (Ok done) write_failed = Ok tt
+listed (Err walk.Memory) write_failed = Err fault.Memory
+listed (Err walk.Store) write_failed = Err fault.Store
+listed (Err walk.Stopped) write_failed = if write_failed then Err fault.Write else Err fault.Memory
+
+-- A list left of the books what a look-up may leave; the store fails only where a failure was counted, and in memory it never does.
+pub record LooksAt {B : Type 0} (is_clean : B → Type 0) (is_kept : B → B → Type 0) (failures : B → ℕ) (never_fails : Type 0) (old new : B) (result : Result (Unit {0}) ListFault) : Type 0 where
+  pub kept : is_clean new → is_kept old new
+  pub was_clean : is_clean new → is_clean old
+  pub counted : failures old ≤ failures new
+  pub store : result ≡ Err fault.Store → HasRisen (failures old) (failures new)
+  pub no_store : never_fails → result ≡ Err fault.Store → ⊥
+
+-- no row and no header can have been written
+abbrev pub is_early : Result (Unit {0}) ListFault → Bool
+is_early (Ok done) = false
+is_early (Err fault.NoRoom) = true
+is_early (Err fault.Memory) = true
+is_early (Err fault.Store) = true
+is_early (Err fault.Write) = false
+
+-- What the writer took of a list of a room: the list where the room is there; else nothing, and the answer is NoRoom, unless memory or the store failed.
+abbrev pub ListsRoom : {R : Type 0} → Option RoomRow → Option (List ℕ) → Option (List ℕ) → List ℕ → (R → List ℕ) → List R → Result (Unit {0}) ListFault → Type 0
+ListsRoom (Some row) old new header line rows result = (result ≡ Err fault.NoRoom → ⊥) × Lists old new header line rows result
+ListsRoom None old new header line rows result = (is_early result ≡ true) × Keeps old new
+
+-- the room is there, or it isn't and the answer is NoRoom, unless memory or the store failed
+abbrev pub FindsRoom : Option RoomRow → Result (Unit {0}) ListFault → Type 0
+FindsRoom (Some row) result = (result ≡ Err fault.NoRoom → ⊥) × (result ≡ Err fault.Write → ⊥)
+FindsRoom None result = is_early result ≡ true

@@ -1,0 +1,55 @@
+//! A sink that writes the lines of a list.
+ghost use Rattle.std.specs.Prelude.{◌≡◌};
+ghost use Rattle.hotel_lists.specs.Lines.{listed};
+
+use crate::bytes::{Interruptions, write_bytes};
+use crate::fault::ListFault;
+use crate::line::Line;
+use hotel_core::{Sink, Stop, WalkFault};
+use std::alloc::Global;
+use std::io::Write;
+
+/// Writes the line of each row that it takes. A line is made in memory first, and then written.
+#[derive(Drop)]
+pub(crate) struct Lines<'a, W> {
+    pub(crate) alloc: Global,
+    pub(crate) writer: &'a mut W,
+    pub(crate) interruptions: Interruptions,
+    /// Whether it stopped since a write failed, and not for want of memory.
+    pub(crate) write_failed: bool,
+}
+
+impl<'a, W: Write, R: Line> Sink<R> for Lines<'a, W> {
+    ghost use Rattle.std.specs.Prelude.{◌≡◌};
+    ghost use Rattle.std.specs.Io.KnownBytes.{Appends};
+    ghost use Rattle.hotel_lists.specs.Lines.{StopsBy};
+
+    ghost after = { λ old row new. (new.writer.ghost_name ≡ old.writer.ghost_name) × Appends (W.contents old.writer.now) (W.contents new.writer.now) (R.line row) };
+
+    ghost after_stop = { λ old row new. (new.writer.ghost_name ≡ old.writer.ghost_name) × StopsBy new.write_failed (W.contents old.writer.now) (W.contents new.writer.now) (R.line row) };
+
+    fn take(&mut self, row: &R) -> Result<(), Stop> {
+        let Ok(line) = row.line(self.alloc) else {
+            self.write_failed = false;
+            return Err(Stop);
+        };
+        let Ok(()) = write_bytes(self.writer, line.as_slice(), &mut self.interruptions) else {
+            self.write_failed = true;
+            return Err(Stop);
+        };
+        Ok(())
+    }
+}
+
+/// How a list ended, where its walk ended so.
+pub(crate) fn listed(end: Result<(), WalkFault>, write_failed: bool) -> Result<(), ListFault>
+    ensures { result ≡ listed end write_failed }
+{
+    match end {
+        Ok(()) => Ok(()),
+        Err(WalkFault::Memory) => Err(ListFault::Memory),
+        Err(WalkFault::Store) => Err(ListFault::Store),
+        Err(WalkFault::Stopped) if write_failed => Err(ListFault::Write),
+        Err(WalkFault::Stopped) => Err(ListFault::Memory),
+    }
+}
