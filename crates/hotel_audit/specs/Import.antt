@@ -1,5 +1,5 @@
 -- The import of an audit file: its notes are reported in order, and its unread lines do nothing.
-use Rattle.std.specs.Prelude.{ℕ, ◌≡◌, ◌⊎◌, Bool, true, false, List, [], ◌∷◌, take, length, if◌then◌else◌, Result, Ok, Err}
+use Rattle.std.specs.Prelude.{ℕ, ◌≡◌, ◌⊎◌, Bool, true, false, List, [], ◌∷◌, take, length, nat_lt, if◌then◌else◌, Result, Ok, Err}
 use Rattle.rand_core.specs.Stream.{Stream}
 use Rattle.keycard_rules.specs.declared.issued.LookFault.{LookFault}
 use Rattle.keycard_rules.specs.declared.issued.LookFault.TheVariants as look
@@ -88,6 +88,12 @@ abbrev pub is_store : ImportFault → Bool
 is_store (Store answered taken) = true
 is_store (Memory answered taken) = false
 is_store (File why) = false
+
+-- the books counted the failure: the store's, and want of memory after the first line
+abbrev pub is_counted : ImportFault → Bool
+is_counted (Store answered taken) = true
+is_counted (Memory answered taken) = nat_lt 0 answered
+is_counted (File why) = false
 
 -- which of the two failed, by the refusal that says so
 abbrev pub failed_by : Refusal → LookFault

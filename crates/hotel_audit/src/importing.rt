@@ -6,7 +6,7 @@ ghost use Rattle.hotel_core.specs.History.{History};
 ghost use Rattle.hotel_core.specs.Run.{StandsFor};
 ghost use Rattle.hotel_core.specs.StepOnRows.{AreWhole};
 ghost use Rattle.hotel_audit.specs.declared.audit_file.AuditFault.{AuditFault};
-ghost use Rattle.hotel_audit.specs.Import.{answer_of, Imports, ImportsFile, ImportsSome, StopsImport, is_store};
+ghost use Rattle.hotel_audit.specs.Import.{answer_of, Imports, ImportsFile, ImportsSome, StopsImport, is_counted, is_store};
 
 use crate::answer::LineAnswer;
 use crate::audit_file::{AuditFault, read_notes};
@@ -67,7 +67,7 @@ fn import_lines<B: Books>(
     ensures memory { (answered : ℕ) (taken : Bool) → result ≡ Err (ImportFault.Memory answered taken) → ImportsSome B.is_clean B.rows lines.now books.old books.new answered taken }
     ensures store { (answered : ℕ) (taken : Bool) → result ≡ Err (ImportFault.Store answered taken) → ImportsSome B.is_clean B.rows lines.now books.old books.new answered taken }
     ensures file { (why : AuditFault) → result ≡ Err (ImportFault.File why) → ⊥ }
-    ensures fault { IfErr result (λ f. (h : History) → StandsFor h (B.rows books.old) → B.is_clean books.new → is_store f ≡ true → HasRisen (B.failures books.old) (B.failures books.new)) }
+    ensures fault { IfErr result (λ f. (h : History) → StandsFor h (B.rows books.old) → B.is_clean books.new → is_counted f ≡ true → HasRisen (B.failures books.old) (B.failures books.new)) }
     ensures no_store { IfErr result (λ f. (h : History) → StandsFor h (B.rows books.old) → B.is_clean books.new → B.never_fails → is_store f ≡ true → ⊥) }
     ensures was_clean { B.is_clean books.new → B.is_clean books.old }
     ensures counted { B.failures books.old ≤ B.failures books.new }
@@ -105,7 +105,7 @@ pub fn import<B: Books>(
 ) -> Result<Vec<LineAnswer>, ImportFault>
     ensures imported { IfOk result (λ answers. ImportsFile B.is_clean B.rows bytes.now books.old books.new answers.items) }
     ensures stopped { IfErr result (λ f. StopsImport B.is_clean B.rows bytes.now books.old books.new f) }
-    ensures fault { IfErr result (λ f. (h : History) → StandsFor h (B.rows books.old) → B.is_clean books.new → is_store f ≡ true → HasRisen (B.failures books.old) (B.failures books.new)) }
+    ensures fault { IfErr result (λ f. (h : History) → StandsFor h (B.rows books.old) → B.is_clean books.new → is_counted f ≡ true → HasRisen (B.failures books.old) (B.failures books.new)) }
     ensures no_store { IfErr result (λ f. (h : History) → StandsFor h (B.rows books.old) → B.is_clean books.new → B.never_fails → is_store f ≡ true → ⊥) }
     ensures was_clean { B.is_clean books.new → B.is_clean books.old }
     ensures counted { B.failures books.old ≤ B.failures books.new }

@@ -36,6 +36,13 @@ returns-in-Err-Store-clause-store g c = λ answered taken e.
     let count : length c.loop-line.answers.items ≡ answered = omega (arith, n, c.len-answered.ensures) in
     (c.loop-line.answers.items, count, sym inv.taken ∙ t, rw (sym at) stay)
 
+pub returns-in-Err-Memory-clause-fault : goal.returns-in-Err-Memory-clause-fault
+returns-in-Err-Memory-clause-fault g c = λ h stands clean same.
+    let inv = c.loop-line.invariant in
+    let f = c.in-Err-Memory.ensures in
+    let whole = Imports-whole g.B.Issued.is_clean g.B.Books.rows c.args.books.now c.loop-line.books _ _ h inv.imported stands (f.was_clean clean) in
+    risen_later _ _ _ inv.counted (f.fault clean whole) f.counted
+
 pub returns-in-Err-Store-clause-fault : goal.returns-in-Err-Store-clause-fault
 returns-in-Err-Store-clause-fault g c = λ h stands clean same.
     let inv = c.loop-line.invariant in
