@@ -33,6 +33,7 @@ pub mod Stepping
 pub mod Headline
 pub mod Lists
 pub mod ListsOnRows
+pub mod ListsLift
 pub mod Walks
 pub mod Follow
 pub mod Texts

@@ -151,3 +151,6 @@ pub fn audit_of<B: Walks, W: Write>(
     let end = books.walk_audit(room, &mut lines);
     listed(end, lines.write_failed)
 }
+
+#[cfg(test)]
+mod tests;

@@ -1,0 +1,9 @@
+// Laws of the lists along each history that can be reached.
+ghost use Rattle.hotel_core.specs.History.{History};
+ghost use Rattle.hotel_core.specs.ListsLift.{ListsLift};
+ghost use Rattle.hotel_core.specs.Run.{Reached};
+
+/// The rows of the lists, computed on the rows of a history, are those of the history.
+pub fn lists_lift()
+    ensures { (h : History) → Reached h → ListsLift h }
+{}
