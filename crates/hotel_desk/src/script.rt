@@ -122,6 +122,8 @@ pub fn run_script<I: Read, W: Write, B: Books, R: Rng>(
 }
 
 #[cfg(test)]
+mod chains_beside;
+#[cfg(test)]
 mod scenarios;
 #[cfg(test)]
 mod tests;
