@@ -19,7 +19,6 @@ use Rattle.hotel_core.specs.declared.reply.Reply.TheVariants.{Refused}
 use Rattle.hotel_core.specs.declared.reply.Refusal.TheVariants.{Memory}
 use Rattle.hotel_core.specs.Rows.{Rows}
 use Rattle.hotel_core.specs.History.{History}
-use Rattle.hotel_core.specs.Run.{StandsFor}
 use Rattle.hotel_core.specs.Texts.{reply_text}
 use Rattle.hotel_lists.specs.Bytes.{AppendsFront}
 use Rattle.hotel_desk.specs.Lines.{lines, without_return, is_silent, answered_lines}

@@ -1,4 +1,4 @@
-use Rattle.std.proofs.Common.{◌≡◌, ◌∙◌, sym, subst, ℕ, List, Option, None, Some, Result}
+use Rattle.std.proofs.Common.{◌≡◌, ◌∙◌, sym, subst, ℕ, List, Option, None, Result}
 use Rattle.hotel_desk.specs.declared.asks.Ask.{Ask}
 use Rattle.hotel_desk.specs.declared.asks.LineFault.{LineFault}
 use Rattle.hotel_desk.specs.declared.list_asks.ListVerb.{ListVerb}
