@@ -1,4 +1,5 @@
 pub mod ReturnLemmas
 pub mod WordLemmas
 pub mod ScriptLemmas
+pub mod ListAnswerLemmas
 pub mod ScriptRunLemmas

@@ -1,5 +1,5 @@
 -- Lines of a script, answered one after the other.
-use Rattle.std.proofs.Common.{◌≡◌, ℕ, zero, suc, ◌+◌, ◌≤◌, List, [], ◌∷◌, ◌++◌, length, take, drop, arith, refl, sym, ap, subst, ◌∙◌, append_assoc, append-nil, length-append, take-append-drop, add-one, Option, Some, None, IsSome, true, false}
+use Rattle.std.proofs.Common.{◌≡◌, ℕ, zero, suc, ◌+◌, ◌≤◌, List, [], ◌∷◌, ◌++◌, length, take, drop, arith, refl, sym, ap, subst, ◌∙◌, append_assoc, append-nil, length-append, take-append-drop, add-one, Option, Some, None, IsSome, Bool, true, false, inl, inr}
 use Rattle.std.proofs.Math.Seq.{take-append-add}
 use Rattle.std.proofs.lemmas.List.{length-drop}
 use Rattle.std.specs.Io.KnownBytes.{Appends}
@@ -7,22 +7,43 @@ use Rattle.std.proofs.KnownBytes.{Appends-trans, Appends-nil}
 use Rattle.rand_core.specs.Stream.{Stream}
 use Rattle.keycard_rules.proofs.Drawing.{past-zero}
 use Rattle.hotel_core.proofs.Assurance.{assured}
-use Rattle.hotel_core.specs.declared.command.Command.{Command}
+use Rattle.hotel_core.specs.Cases.{is_room}
+use Rattle.hotel_core.specs.Lists.{arrivals, in_house, chain, left_behind, audit_of}
+use Rattle.hotel_lists.specs.Lines.{arrivals_header, in_house_header, chain_header, left_behind_header, audit_header, arrival_line, house_line, chain_line, behind_line, note_line}
+use Rattle.hotel_desk.specs.declared.asks.Ask.{Ask}
+use Rattle.hotel_desk.specs.declared.asks.Ask.TheVariants as ask
+use Rattle.hotel_desk.specs.declared.list_asks.ListAsk.{ListAsk}
+use Rattle.hotel_desk.specs.declared.list_asks.ListAsk.TheVariants.{Arrivals, InHouse, ChainOf, LeftBehind, AuditOf}
+use Rattle.hotel_desk.specs.ListAnswers.{IsListAnswer, IsRoomAnswer, AnswersList}
 use Rattle.hotel_core.specs.declared.reply.Reply.TheVariants.{Refused}
 use Rattle.hotel_core.specs.declared.reply.Refusal.TheVariants.{Memory}
 use Rattle.hotel_core.specs.Rows.{Rows}
 use Rattle.hotel_core.specs.History.{History}
-use Rattle.hotel_core.specs.Run.{StandsFor}
 use Rattle.hotel_core.specs.Texts.{reply_text}
 use Rattle.hotel_lists.specs.Bytes.{AppendsFront}
 use Rattle.hotel_desk.specs.Lines.{lines, without_return, is_silent, answered_lines}
-use Rattle.hotel_desk.specs.LineAnswers.{AskGoes, LineGoes}
+use Rattle.hotel_desk.specs.LineAnswers.{AskGoes, LineGoes, LineIsAnswered}
 use Rattle.hotel_desk.specs.Script.{ScriptGoes, RowsGoSafely, RowsGo}
 
--- a command for which there is no memory moves nothing
-pub ask_without_memory : (wanted : Option Command) (h : History) (s : Stream) → IsSome wanted → AskGoes wanted h s (reply_text (Refused Memory)) h s
+cut_at_once : {R : Type 0} (header : List ℕ) (line : R → List ℕ) (rows : List R) → IsListAnswer header line rows (reply_text (Refused Memory))
+cut_at_once header line rows = inr ([], Memory, inl refl, refl, refl)
+
+room_at_once : {R : Type 0} (there : Bool) (header : List ℕ) (line : R → List ℕ) (rows : List R) → IsRoomAnswer there header line rows (reply_text (Refused Memory))
+room_at_once true header line rows = cut_at_once header line rows
+room_at_once false header line rows = inr (Memory, refl, refl)
+
+list_without_memory : (h : History) (its_list : ListAsk) → AnswersList h its_list (reply_text (Refused Memory))
+list_without_memory h (Arrivals day) = cut_at_once arrivals_header arrival_line (arrivals h day)
+list_without_memory h InHouse = cut_at_once in_house_header house_line (in_house h)
+list_without_memory h (ChainOf room) = room_at_once (is_room h room) chain_header chain_line (chain h room)
+list_without_memory h LeftBehind = cut_at_once left_behind_header behind_line (left_behind h)
+list_without_memory h (AuditOf room) = room_at_once (is_room h room) audit_header note_line (audit_of h room)
+
+-- where there is no memory to read what is asked, nothing is moved
+pub ask_without_memory : (wanted : Option Ask) (h : History) (s : Stream) → IsSome wanted → AskGoes wanted h s (reply_text (Refused Memory)) h s
 ask_without_memory None h s p = cc p
-ask_without_memory (Some command) h s p = (Refused Memory, (refl, (0, omega arith, sym (past-zero s))), refl)
+ask_without_memory (Some (ask.Command command)) h s p = (Refused Memory, (refl, (0, omega arith, sym (past-zero s))), refl)
+ask_without_memory (Some (ask.List its_list)) h s p = (list_without_memory h its_list, refl, refl)
 
 -- one line more at the end
 pub script-push : (h mid h' : History) (s source s' : Stream) (before : List (List ℕ)) (output line text : List ℕ)
@@ -55,19 +76,18 @@ all_done all done h e =
     (omega (arith, none, length-drop done all), sym (append-nil (take done all)) ∙ (ap (λ (ls : List (List ℕ)). take done all ++ ls) (sym e) ∙ take-append-drop done all))
 
 -- a line more goes, and what is written grows by some of its answer
-pub rows_more : (a b c : Rows) (s t u : Stream) (all : List (List ℕ)) (done : ℕ) (line text : List ℕ) (later : List (List ℕ)) (P Q : List ℕ → Type 0)
-    → RowsGo a s (take done all) P b t → drop done all ≡ line ∷ later
-    → ((h : History) → StandsFor h b → (h' : History) × StandsFor h' c × LineGoes h t line text h' u)
-    → ((output : List ℕ) → P output → Q (output ++ text)) → RowsGo a s (take (done + 1) all) Q c u
-rows_more a b c s t u all done line text later P Q go e step written = λ h stands.
+pub rows_more : (a b c : Rows) (s t u : Stream) (all : List (List ℕ)) (done : ℕ) (line : List ℕ) (later : List (List ℕ)) (P wrote Q : List ℕ → Type 0)
+    → RowsGo a s (take done all) P b t → drop done all ≡ line ∷ later → LineIsAnswered b t line wrote c u
+    → ((output text : List ℕ) → P output → wrote text → Q (output ++ text)) → RowsGo a s (take (done + 1) all) Q c u
+rows_more a b c s t u all done line later P wrote Q go e step written = λ h stands.
     let p = go h stands in
     let q = step p.1 p.2 in
     let whole = sym (next_line all done line later e).2 in (
-      p.0 ++ text,
-      q.0,
+      p.0 ++ q.0,
       q.1,
-      subst (λ (ls : List (List ℕ)). ScriptGoes h s ls (p.0 ++ text) q.0 u) whole (script-push h p.1 q.0 s t u (take done all) p.0 line text p.3 q.2),
-      written p.0 p.4,
+      q.2,
+      subst (λ (ls : List (List ℕ)). ScriptGoes h s ls (p.0 ++ q.0) q.1 u) whole (script-push h p.1 q.1 s t u (take done all) p.0 line q.0 p.3 q.3),
+      written p.0 q.0 p.4 q.4,
     )
 
 -- no line went yet

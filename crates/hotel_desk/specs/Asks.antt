@@ -1,12 +1,17 @@
 -- What a script's line asks for.
 use Rattle.std.specs.Prelude.{◌≡◌, ℕ, zero, suc, List, [], ◌∷◌, if◌then◌else◌, Option, Some, None, IsSome, Result, Ok, Err}
 use Rattle.hotel_core.specs.declared.command.Command.{Command}
+use Rattle.hotel_desk.specs.declared.asks.Ask.{Ask}
+use Rattle.hotel_desk.specs.declared.asks.Ask.TheVariants as ask
 use Rattle.hotel_desk.specs.declared.asks.LineFault.{LineFault}
 use Rattle.hotel_desk.specs.declared.asks.LineFault.TheVariants.{Unread, Memory}
 use Rattle.hotel_desk.specs.declared.values.ValueFault.{ValueFault}
 use Rattle.hotel_desk.specs.declared.verb.Verb.{Verb}
 use Rattle.hotel_desk.specs.declared.verb.Verb.TheVariants.{Reserve}
+use Rattle.hotel_desk.specs.declared.list_asks.ListAsk.{ListAsk}
+use Rattle.hotel_desk.specs.declared.list_asks.ListVerb.{ListVerb}
 use Rattle.hotel_desk.specs.Lines.{is_readable}
+use Rattle.hotel_desk.specs.ListAsks.{read_list_verb, list_of}
 use Rattle.hotel_desk.specs.Verbs.{read_verb, command_of}
 use Rattle.hotel_desk.specs.Words.{words, next_word, trimmed}
 
@@ -35,17 +40,32 @@ abbrev pub command_after : Option Verb → List ℕ → Option Command
 command_after None text = None
 command_after (Some verb) text = command_given (command_of verb (values_after verb text))
 
--- The command that a line's first word and the text after it ask for.
-abbrev pub command_from : Option (List ℕ × List ℕ) → Option Command
-command_from None = None
-command_from (Some p) = command_after (read_verb p.0) p.1
+-- What a line asks for whose values give this command, or none.
+abbrev pub command_asked : Option Command → Option Ask
+command_asked None = None
+command_asked (Some command) = Some (ask.Command command)
 
--- The command that a line asks for; none where the line is unread.
-abbrev pub command_in : List ℕ → Option Command
-command_in line = if is_readable line then command_from (next_word line) else None
+-- What a line asks for whose values give this list, or none.
+abbrev pub list_given : Result ListAsk ValueFault → Option Ask
+list_given (Ok its_list) = Some (ask.List its_list)
+list_given (Err _) = None
 
--- A line is read as wanted: its command, or that it is unread, or that there was no memory for its command.
-abbrev pub IsLineRead : Option Command → Result Command LineFault → Type 0
-IsLineRead wanted (Ok command) = Some command ≡ wanted
+-- What a first word and the text after it ask for: a list where the word is the verb of one, else a command.
+abbrev pub ask_after : Option ListVerb → List ℕ → List ℕ → Option Ask
+ask_after None word text = command_asked (command_after (read_verb word) text)
+ask_after (Some verb) word text = list_given (list_of verb (words text))
+
+-- What a line's first word and the text after it ask for.
+abbrev pub ask_from : Option (List ℕ × List ℕ) → Option Ask
+ask_from None = None
+ask_from (Some p) = ask_after (read_list_verb p.0) p.0 p.1
+
+-- What a line asks for; nothing where the line is unread.
+abbrev pub ask_in : List ℕ → Option Ask
+ask_in line = if is_readable line then ask_from (next_word line) else None
+
+-- A line is read as wanted: what it asks for, or that it is unread, or that there was no memory for what it asks for.
+abbrev pub IsLineRead : {A : Type 0} → Option A → Result A LineFault → Type 0
+IsLineRead wanted (Ok given) = Some given ≡ wanted
 IsLineRead wanted (Err Unread) = None ≡ wanted
 IsLineRead wanted (Err Memory) = IsSome wanted

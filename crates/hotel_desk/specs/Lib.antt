@@ -3,6 +3,8 @@ pub mod Lines
 pub mod Values
 pub mod Commands
 pub mod Verbs
+pub mod ListAsks
+pub mod ListAnswers
 pub mod Asks
 pub mod LineAnswers
 pub mod Script

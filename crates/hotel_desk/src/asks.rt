@@ -1,22 +1,31 @@
 //! What a script's line asks for.
 
-ghost use Rattle.std.specs.Prelude.{◌≡◌, ◌≤◌, ◌<◌, None, Some, IfSome, MatchOption, Result, length, map, take};
-ghost use Rattle.hotel_desk.specs.Asks.{words_and_rest, command_given, command_after, command_in, IsLineRead};
+ghost use Rattle.std.specs.Prelude.{◌≡◌, ◌≤◌, ◌<◌, Option, None, Some, IfSome, MatchOption, Result, length, map, take};
+ghost use Rattle.hotel_desk.specs.Asks.{words_and_rest, command_given, command_after, command_asked, list_given, ask_after, ask_in, IsLineRead};
 ghost use Rattle.hotel_core.specs.declared.command.Command.{Command};
 ghost use Rattle.hotel_desk.specs.declared.values.ValueFault.{ValueFault};
 ghost use Rattle.hotel_desk.specs.Values.{IsReading};
+ghost use Rattle.hotel_desk.specs.ListAsks.{list_of, read_list_verb};
 ghost use Rattle.hotel_desk.specs.Words.{words};
 
 use crate::commands::read_command;
 use crate::line_values::LineValues;
 use crate::lines::is_readable;
+use crate::list_asks::{ListAsk, ListVerb, read_list, read_list_verb};
 use crate::values::AskFault;
 use crate::verb::{Verb, read_verb};
 use crate::words::{first_of_words, next_word, trimmed};
 use hotel_core::Command;
 use std::alloc::Global;
 
-/// Why a line gives no command.
+/// What a line asks for.
+#[derive(Drop)]
+pub enum Ask {
+    Command(Command),
+    List(ListAsk),
+}
+
+/// Why a line asks for nothing.
 #[derive(Clone, Copy, Debug, PartialEq, Eq)]
 pub enum LineFault {
     /// It is too long, not UTF-8, has another first word, too few or too many words, or a word that
@@ -90,10 +99,47 @@ fn read_values(alloc: Global, verb: Verb, text: &[u8]) -> Result<Command, LineFa
     }
 }
 
-/// Reads the command that a script's line asks for. The line is without its end. A guest is the
-/// rest of its line; a moment has a `T`, since a space would make two words of it.
-pub fn read_line(alloc: Global, line: &[u8]) -> Result<Command, LineFault>
-    ensures { IsLineRead (command_in line.now) result }
+/// What a line asks for whose command was read.
+fn command_asked(read: Result<Command, LineFault>) -> Result<Ask, LineFault>
+    ensures { (wanted : Option Command) → IsLineRead wanted read → IsLineRead (command_asked wanted) result }
+{
+    match read {
+        Ok(command) => Ok(Ask::Command(command)),
+        Err(fault) => Err(fault),
+    }
+}
+
+/// Reads the list that the verb and the text after it ask for.
+fn list_asked(verb: ListVerb, text: &[u8]) -> Result<Ask, LineFault>
+    ensures { IsLineRead (list_given (list_of verb (words text.now))) result }
+{
+    let Some(values) = split_words(text) else {
+        return Err(LineFault::Unread);
+    };
+    match read_list(verb, values.as_slice()) {
+        Ok(list) => Ok(Ask::List(list)),
+        Err(_) => Err(LineFault::Unread),
+    }
+}
+
+/// Reads what a line's first word and the text after it ask for: a list where the word is the verb of
+/// one, else a command.
+fn read_ask(alloc: Global, word: &[u8], text: &[u8]) -> Result<Ask, LineFault>
+    ensures { IsLineRead (ask_after (read_list_verb word.now) word.now text.now) result }
+{
+    if let Some(verb) = read_list_verb(word) {
+        return list_asked(verb, text);
+    }
+    let Some(verb) = read_verb(word) else {
+        return Err(LineFault::Unread);
+    };
+    command_asked(read_values(alloc, verb, text))
+}
+
+/// Reads what a script's line asks for. The line is without its end. A guest is the rest of its line;
+/// a moment has a `T`, since a space would make two words of it.
+pub fn read_line(alloc: Global, line: &[u8]) -> Result<Ask, LineFault>
+    ensures { IsLineRead (ask_in line.now) result }
 {
     if !is_readable(line) {
         return Err(LineFault::Unread);
@@ -101,10 +147,7 @@ pub fn read_line(alloc: Global, line: &[u8]) -> Result<Command, LineFault>
     let Some((word, text)) = next_word(line) else {
         return Err(LineFault::Unread);
     };
-    let Some(verb) = read_verb(word) else {
-        return Err(LineFault::Unread);
-    };
-    read_values(alloc, verb, text)
+    read_ask(alloc, word, text)
 }
 
 #[cfg(test)]

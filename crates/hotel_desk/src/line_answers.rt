@@ -1,14 +1,14 @@
 //! The answer to a line of a script.
 
-ghost use Rattle.std.specs.Prelude.{◌≡◌, OnOk, OnErr};
+ghost use Rattle.std.specs.Prelude.{Some, OnOk, OnErr};
+ghost use Rattle.hotel_desk.specs.declared.asks.Ask.TheVariants as ask;
 ghost use Rattle.std.specs.Io.KnownBytes.{Appends};
-ghost use Rattle.hotel_core.specs.History.{History};
-ghost use Rattle.hotel_core.specs.Run.{StandsFor};
 ghost use Rattle.hotel_lists.specs.Bytes.{AppendsFront};
-ghost use Rattle.hotel_desk.specs.LineAnswers.{LineGoes, answer_text};
+ghost use Rattle.hotel_desk.specs.LineAnswers.{LineIsAnswered, AskIsAnswered, answer_text};
 
-use crate::asks::{LineFault, read_line};
-use hotel_core::{Books, Refusal, Reply, reply_text, step};
+use crate::asks::{Ask, LineFault, read_line};
+use crate::list_answers::answer_list;
+use hotel_core::{Command, Refusal, Reply, Walks, reply_text, step};
 use hotel_lists::{Interruptions, WriteFailed, write_bytes};
 use rand_core::Rng;
 use std::alloc::Global;
@@ -23,27 +23,8 @@ pub enum LineAnswer {
     Unread,
 }
 
-/// Reads a line, which is without its end, and carries out its command. Where a growth of memory
-/// for the command is refused, nothing is done and the reply says so.
-pub fn answer_line<B: Books, R: Rng>(
-    alloc: Global,
-    line: &[u8],
-    books: &mut B,
-    source: &mut R,
-) -> LineAnswer
-    ensures goes { (h : History) → StandsFor h (B.rows books.old) → B.is_clean books.new →
-        (h' : History) × StandsFor h' (B.rows books.new) × LineGoes h (R.stream source.old) line.now (answer_text result) h' (R.stream source.new) }
-    ensures was_clean { B.is_clean books.new → B.is_clean books.old }
-{
-    match read_line(alloc, line) {
-        Ok(command) => LineAnswer::Replied(step(books, source, &command)),
-        Err(LineFault::Unread) => LineAnswer::Unread,
-        Err(LineFault::Memory) => LineAnswer::Replied(Reply::Refused(Refusal::Memory)),
-    }
-}
-
 /// Writes the text of an answer. After a fault the writer took a front of it.
-pub fn write_answer<W: Write>(
+fn write_answer<W: Write>(
     writer: &mut W,
     answer: &LineAnswer,
     interruptions: &mut Interruptions,
@@ -56,5 +37,49 @@ pub fn write_answer<W: Write>(
             write_bytes(writer, reply_text(reply).as_bytes(), interruptions)
         }
         LineAnswer::Unread => write_bytes(writer, b"unread\n", interruptions),
+    }
+}
+
+/// Carries out a command and writes the reply.
+fn answer_command<W: Write, B: Walks, R: Rng>(
+    command: &Command,
+    writer: &mut W,
+    books: &mut B,
+    source: &mut R,
+    interruptions: &mut Interruptions,
+) -> Result<(), WriteFailed>
+    ensures ok { B.is_clean books.new → OnOk result (AskIsAnswered (Some (ask.Command command.now)) (B.rows books.old) (R.stream source.old) (Appends (W.contents writer.old) (W.contents writer.new)) (B.rows books.new) (R.stream source.new)) }
+    ensures err { B.is_clean books.new → OnErr result (AskIsAnswered (Some (ask.Command command.now)) (B.rows books.old) (R.stream source.old) (AppendsFront (W.contents writer.old) (W.contents writer.new)) (B.rows books.new) (R.stream source.new)) }
+    ensures was_clean { B.is_clean books.new → B.is_clean books.old }
+{
+    let answer = LineAnswer::Replied(step(books, source, command));
+    write_answer(writer, &answer, interruptions)
+}
+
+/// Reads a line, which is without its end, carries out its command, and writes the answer; of a list,
+/// the list itself. Where a growth of memory for the line is refused, nothing is done and the answer
+/// says so. After a fault the writer took a front of the answer.
+pub fn answer_line<W: Write, B: Walks, R: Rng>(
+    alloc: Global,
+    line: &[u8],
+    writer: &mut W,
+    books: &mut B,
+    source: &mut R,
+    interruptions: &mut Interruptions,
+) -> Result<(), WriteFailed>
+    ensures ok { B.is_clean books.new → OnOk result (LineIsAnswered (B.rows books.old) (R.stream source.old) line.now (Appends (W.contents writer.old) (W.contents writer.new)) (B.rows books.new) (R.stream source.new)) }
+    ensures err { B.is_clean books.new → OnErr result (LineIsAnswered (B.rows books.old) (R.stream source.old) line.now (AppendsFront (W.contents writer.old) (W.contents writer.new)) (B.rows books.new) (R.stream source.new)) }
+    ensures was_clean { B.is_clean books.new → B.is_clean books.old }
+{
+    match read_line(alloc, line) {
+        Ok(Ask::Command(command)) => {
+            answer_command(&command, writer, books, source, interruptions)
+        }
+        Ok(Ask::List(list)) => answer_list(alloc, &list, writer, books, interruptions),
+        Err(LineFault::Unread) => write_answer(writer, &LineAnswer::Unread, interruptions),
+        Err(LineFault::Memory) => {
+            let answer = LineAnswer::Replied(Reply::Refused(Refusal::Memory));
+            write_answer(writer, &answer, interruptions)
+        }
     }
 }

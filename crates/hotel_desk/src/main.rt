@@ -6,6 +6,8 @@ mod commands;
 mod line_answers;
 mod line_values;
 mod lines;
+mod list_answers;
+mod list_asks;
 mod program;
 mod scenes;
 mod script;

@@ -1,4 +1,4 @@
-//! Scripts: lines of commands, each answered by a line.
+//! Scripts: lines of commands and lists, each answered before the next.
 
 ghost use Rattle.std.specs.Prelude.{◌≡◌, ◌≢◌, ℕ, List, ◌≤◌, ◌<◌, length, take, Option, None, Some, IfSome, IfOk, IfErr, IsErrOf};
 ghost use Rattle.std.specs.Io.KnownBytes.{Appends};
@@ -7,9 +7,9 @@ ghost use Rattle.hotel_desk.specs.declared.script.ScriptFault.TheVariants.{TooLa
 ghost use Rattle.hotel_desk.specs.Lines.{answered_lines};
 ghost use Rattle.hotel_desk.specs.Script.{RowsGoSafely, IsInput, lines_done, fault_of};
 
-use crate::line_answers::{answer_line, write_answer};
+use crate::line_answers::answer_line;
 use crate::lines::{first_line, is_silent, without_return};
-use hotel_core::Books;
+use hotel_core::Walks;
 use hotel_lists::{Interruptions, WholeFault, read_whole};
 use rand_core::Rng;
 use std::alloc::Global;
@@ -54,7 +54,7 @@ impl From<WholeFault> for ScriptFault {
 }
 
 /// Answers the lines of a script. Each answer is written before the next line is begun.
-fn answer_lines<W: Write, B: Books, R: Rng>(
+fn answer_lines<W: Write, B: Walks, R: Rng>(
     alloc: Global,
     script: &[u8],
     writer: &mut W,
@@ -78,9 +78,9 @@ fn answer_lines<W: Write, B: Books, R: Rng>(
         rest = later;
         let line = without_return(line);
         if !is_silent(line) {
-            let answer = answer_line(alloc, line, books, source);
+            let answered = answer_line(alloc, line, writer, books, source, interruptions);
             done += 1;
-            let Ok(()) = write_answer(writer, &answer, interruptions) else {
+            let Ok(()) = answered else {
                 return Err(ScriptFault::Write { done });
             };
         }
@@ -90,9 +90,10 @@ fn answer_lines<W: Write, B: Books, R: Rng>(
 
 /// Answers the lines of a script: all the bytes that the reader has. The whole script is read first;
 /// then each line is carried out and its answer written before the next line is begun. The
-/// interrupted reads and writes of the call are counted together, and the thousandth is a fault.
+/// interrupted reads and writes of the call are counted together, but those of each list alone; the
+/// thousandth is a fault.
 /// The writer is not flushed.
-pub fn run_script<I: Read, W: Write, B: Books, R: Rng>(
+pub fn run_script<I: Read, W: Write, B: Walks, R: Rng>(
     alloc: Global,
     reader: &mut I,
     writer: &mut W,
@@ -123,6 +124,8 @@ pub fn run_script<I: Read, W: Write, B: Books, R: Rng>(
 
 #[cfg(test)]
 mod chains_beside;
+#[cfg(test)]
+mod command_scenarios;
 #[cfg(test)]
 mod scenarios;
 #[cfg(test)]

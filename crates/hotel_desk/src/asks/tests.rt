@@ -1,5 +1,5 @@
-//! The commands that lines of scripts ask for.
-use super::{LineFault, read_line};
+//! What lines of scripts ask for.
+use super::{Ask, LineFault, read_line};
 use hotel_core::Command;
 use keycard_rules::Act;
 use std::test::Fail;
@@ -7,16 +7,17 @@ use std::test::Fail;
 #[test]
 fn a_reservation_takes_the_rest_of_its_line(rt: HostRuntime) -> Result<(), Fail> {
     let line = b"  reserve DBL  2031-05-01 2   Ann  Lee ";
-    let Ok(
-        Command::Reserve {
-            guest,
-            kind,
-            arrive,
-            nights,
-        },
-    ) = read_line(rt.alloc(), line)
-    else {
+    let Ok(Ask::Command(command)) = read_line(rt.alloc(), line) else {
         return Err(Fail::from("unread"));
+    };
+    let Command::Reserve {
+        guest,
+        kind,
+        arrive,
+        nights,
+    } = &command
+    else {
+        return Err(Fail::from("no reservation"));
     };
     assert_eq!(rt; guest.text(), "Ann  Lee");
     assert_eq!(rt; kind.as_bytes(), b"DBL".as_slice());
@@ -30,7 +31,7 @@ fn a_note_of_an_entry(rt: HostRuntime) -> Result<(), Fail> {
     let line = b"entered 101 2 1 A0 00000000000a1 2031-05-01T15:00:00";
     assert!(rt; matches!(read_line(rt.alloc(), line), Err(LineFault::Unread)));
     let line = b"entered 101 2 1 A0 0000000000a1 2031-05-01T15:00:00";
-    let Ok(command) = read_line(rt.alloc(), line) else {
+    let Ok(Ask::Command(command)) = read_line(rt.alloc(), line) else {
         return Err(Fail::from("unread"));
     };
     let Command::Reported(note) = &command else {
@@ -53,7 +54,7 @@ fn a_note_of_an_entry(rt: HostRuntime) -> Result<(), Fail> {
 
 #[test]
 fn each_verb_is_read(rt: HostRuntime) {
-    let lines: [&[u8]; 13] = [
+    let lines: [&[u8]; 18] = [
         b"begin 2031-05-01",
         b"add-kind DBL",
         b"add-room 101 DBL",
@@ -67,6 +68,11 @@ fn each_verb_is_read(rt: HostRuntime) {
         b"entered 101 1 1 a0 a1 2031-05-01T15:00:00",
         b"left 101 1 1 a0 a1 2031-05-01T15:00:00",
         b"recoded 101 1 a0 a1 2031-05-01T15:00:00",
+        b"arrivals 2031-05-01",
+        b"in-house",
+        b"chain 101",
+        b"left-behind",
+        b"audit-of 101",
     ];
     for line in lines {
         assert!(rt; read_line(rt.alloc(), line).is_ok());

@@ -1,13 +1,22 @@
 //! Each room of the books beside a chain of codes that is told the same: they agree after each command. And runs of
 //! commands in one call.
-use super::scenarios::{self, Scenario};
-use crate::asks::read_line;
+use super::command_scenarios;
+use super::scenarios::Scenario;
+use crate::asks::{Ask, read_line};
 use crate::lines::first_line;
 use hotel_core::{Books, CodeRow, Command, ListBooks, Refusal, Reply, reply_text, run, step};
 use keycard_rules::{Act, Chain, Code, Link, ListedWords, LockNote, RoomNo};
 use std::alloc::Global;
 use std::process::Abort;
 use std::test::Fail;
+
+/// The command that a line asks for.
+fn command_in(alloc: Global, line: &[u8]) -> Result<Command, Fail> {
+    match read_line(alloc, line)? {
+        Ask::Command(command) => Ok(command),
+        Ask::List(_) => Err("a list".into()),
+    }
+}
 
 /// A room's codes, kept by its chain alone.
 #[derive(Drop)]
@@ -110,7 +119,7 @@ fn desk_of(alloc: Global, codes: &[u64]) -> Result<Desk, Fail> {
 impl Desk {
     /// Carries out the line's command over the books, and tells the chains.
     fn answer(&mut self, rt: &(impl Abort + AllocGlobal), line: &[u8]) -> Result<Reply, Fail> {
-        let command = read_line(rt.alloc(), line)?;
+        let command = command_in(rt.alloc(), line)?;
         let reply = step(&mut self.books, &mut self.source, &command);
         for beside in self.rooms.iter_mut() {
             beside.follow(rt, &command, &reply);
@@ -158,19 +167,19 @@ fn holds_beside(
 #[test]
 fn left_behind_recoded_beside_chains(rt: HostRuntime) -> Result<(), Fail> {
     let codes = [0xa0, 0xa1, 0xa2];
-    holds_beside(&rt, &codes, &scenarios::LEFT_BEHIND_RECODED, 1)
+    holds_beside(&rt, &codes, &command_scenarios::LEFT_BEHIND_RECODED, 1)
 }
 
 #[test]
 fn away_and_back_beside_chains(rt: HostRuntime) -> Result<(), Fail> {
     let codes = [0xa0, 0xb0, 0xa1, 0xb1, 0xa2, 0xa3];
-    holds_beside(&rt, &codes, &scenarios::AWAY_AND_BACK, 2)
+    holds_beside(&rt, &codes, &command_scenarios::AWAY_AND_BACK, 2)
 }
 
 #[test]
 fn spare_keeps_room_open_beside_chains(rt: HostRuntime) -> Result<(), Fail> {
     let codes = [0xa0, 0xa1, 0xa2];
-    holds_beside(&rt, &codes, &scenarios::SPARE_KEEPS_ROOM_OPEN, 1)
+    holds_beside(&rt, &codes, &command_scenarios::SPARE_KEEPS_ROOM_OPEN, 1)
 }
 
 /// The commands of a script's lines.
@@ -179,7 +188,7 @@ fn commands_of(alloc: Global, script: &[u8]) -> Result<Vec<Command>, Fail> {
     let mut rest = script;
     while let Some((line, later)) = first_line(rest) {
         rest = later;
-        commands.push(read_line(alloc, line)?)?;
+        commands.push(command_in(alloc, line)?)?;
     }
     Ok(commands)
 }
@@ -193,13 +202,13 @@ fn words_and_empties_runs(rt: HostRuntime) -> Result<(), Fail> {
     } = desk_of(rt.alloc(), &[0xa0, 0xa1, 0xa2])?;
     let replies = run(rt.alloc(), &mut books, &mut source, &[])?;
     assert!(rt; replies.is_empty());
-    let commands = commands_of(rt.alloc(), scenarios::TWO_ENTRIES.script)?;
+    let commands = commands_of(rt.alloc(), command_scenarios::TWO_ENTRIES.script)?;
     let replies = run(rt.alloc(), &mut books, &mut source, commands.as_slice())?;
     assert_eq!(rt; replies.len(), 7);
     let mut texts = Vec::new(rt.alloc());
     for reply in &replies {
         texts.extend_from_slice(reply_text(reply).as_bytes())?;
     }
-    assert_eq!(rt; texts.as_slice(), scenarios::TWO_ENTRIES.answers);
+    assert_eq!(rt; texts.as_slice(), command_scenarios::TWO_ENTRIES.answers);
     Ok(())
 }

@@ -37,6 +37,7 @@ reserve DBL 2031-05-01 2 Ann Lee
 check-in 1 101
 entered 101 1 1 0000000000a0 0000000000a1 2031-05-01T15:00:00
 entered 101 2 1 0000000000a0 0000000000a1 2031-05-01T15:00:00
+chain 101
 ",
     answers: b"\
 begun
@@ -46,6 +47,9 @@ party 1
 card 1 party 1 old 0000000000a0 new 0000000000a1
 taken
 taken
+place,code,state
+0,0000000000a0,passed
+1,0000000000a1,held
 ",
 };
 
@@ -95,8 +99,11 @@ check-out 1
 reserve DBL 2031-05-01 2 Bo
 check-in 2 101
 entered 101 1 2 0000000000a1 0000000000a2 2031-05-01T15:00:00
+left-behind
 recoded 101 1 0000000000a0 0000000000a2 2031-05-01T15:00:00
 entered 101 2 2 0000000000a1 0000000000a2 2031-05-01T15:00:00
+chain 101
+left-behind
 ",
     answers: b"\
 begun
@@ -108,8 +115,15 @@ checked out
 party 2
 card 2 party 2 old 0000000000a1 new 0000000000a2
 refused 25 LockShut
+room,held,current,awaited
+101,0000000000a0,0000000000a2,2
 taken
 taken
+place,code,state
+0,0000000000a0,passed
+1,0000000000a1,passed
+2,0000000000a2,held
+room,held,current,awaited
 ",
 };
 
@@ -131,10 +145,12 @@ check-out 2
 transfer 1 101
 entered 101 3 4 0000000000a2 0000000000a3 2031-05-01T15:00:00
 entered 101 3 1 0000000000a0 0000000000a1 2031-05-01T15:00:00
+in-house
 left 101 4 1 0000000000a0 0000000000a1 2031-05-01T15:00:00
 entered 101 5 3 0000000000a1 0000000000a2 2031-05-01T15:00:00
 left 101 6 3 0000000000a1 0000000000a2 2031-05-01T15:00:00
 entered 101 7 4 0000000000a2 0000000000a3 2031-05-01T15:00:00
+in-house
 ",
     answers: b"\
 begun
@@ -152,10 +168,14 @@ checked out
 card 4 party 1 old 0000000000a2 new 0000000000a3
 refused 25 LockShut
 taken
+room,party,guest,kind,depart,secured
+101,1,Ann Lee,DBL,2031-05-03,no
 taken
 taken
 taken
 taken
+room,party,guest,kind,depart,secured
+101,1,Ann Lee,DBL,2031-05-03,yes
 ",
 };
 
@@ -182,12 +202,14 @@ begin 2031-05-01
 add-kind DBL
 add-room 101 DBL
 add-room 102 DBL
+chain 102
 ",
     answers: b"\
 begun
 kind added
 room code 0000000000a0
 refused 19 NoFreshCode
+refused 6 NoRoom
 ",
 };
 
@@ -227,9 +249,11 @@ check-out 1
 reserve DBL 2031-05-01 2 Bo
 check-in 2 101
 entered 101 4 3 0000000000a1 0000000000a2 2031-05-01T15:00:00
+in-house
 left 101 5 2 0000000000a0 0000000000a1 2031-05-01T15:00:00
 left 101 6 3 0000000000a1 0000000000a2 2031-05-01T15:00:00
 entered 101 7 3 0000000000a1 0000000000a2 2031-05-01T15:00:00
+in-house
 ",
     answers: b"\
 begun
@@ -245,9 +269,13 @@ checked out
 party 2
 card 3 party 2 old 0000000000a1 new 0000000000a2
 taken
+room,party,guest,kind,depart,secured
+101,2,Bo,DBL,2031-05-03,no
 taken
 taken
 taken
+room,party,guest,kind,depart,secured
+101,2,Bo,DBL,2031-05-03,yes
 ",
 };
 
@@ -326,6 +354,7 @@ transfer 1 101
 spare 2
 next-day
 check-in 2 101
+arrivals 2031-05-02
 next-day
 check-in 2 102
 cancel 2
@@ -349,6 +378,8 @@ refused 13 SameRoom
 refused 9 NotInHouse
 day 2031-05-02
 refused 14 RoomTaken
+party,guest,kind,arrive,depart
+2,Bo,DBL,2031-05-02,2031-05-03
 day 2031-05-03
 refused 11 StayOver
 cancelled
@@ -430,5 +461,53 @@ refused 28 NotAwaited
 refused 28 NotAwaited
 refused 27 HeldDiffers
 taken
+",
+};
+
+/// A guest with a comma is quoted.
+pub static QUOTED_GUEST: Scenario = Scenario {
+    script: b"\
+begin 2031-05-01
+add-kind DBL
+add-room 101 DBL
+reserve DBL 2031-05-01 2 Lee, Ann
+arrivals 2031-05-01
+",
+    answers: b"\
+begun
+kind added
+room code 0000000000a0
+party 1
+party,guest,kind,arrive,depart
+1,\"Lee, Ann\",DBL,2031-05-01,2031-05-03
+",
+};
+
+/// The notes of a room, by count.
+pub static NOTES_OF_A_ROOM: Scenario = Scenario {
+    script: b"\
+begin 2031-05-01
+add-kind DBL
+add-room 101 DBL
+reserve DBL 2031-05-01 2 Ann Lee
+check-in 1 101
+recoded 101 1 0000000000a0 0000000000a1 2031-05-01T14:59:59
+entered 101 2 1 0000000000a0 0000000000a1 2031-05-01T15:00:00
+left 101 3 1 0000000000a0 0000000000a1 2031-05-02T09:00:00
+audit-of 101
+",
+    answers: b"\
+begun
+kind added
+room code 0000000000a0
+party 1
+card 1 party 1 old 0000000000a0 new 0000000000a1
+taken
+taken
+taken
+room,count,kind,card,old,new,at
+101,1,recode,,0000000000a0,0000000000a1,2031-05-01T14:59:59
+101,2,in,1,0000000000a0,0000000000a1,2031-05-01T15:00:00
+101,3,out,1,0000000000a0,0000000000a1,2031-05-02T09:00:00
 ",
 };

@@ -51,26 +51,27 @@ fn line_count(text: &[u8]) -> u32 {
     count
 }
 
-/// The script is answered so, over empty books and a source of these codes.
+/// So many lines of the script are answered so, over empty books and a source of these codes.
 fn is_answered(
     rt: &(impl Abort + AllocGlobal),
     codes: &[u64],
     script: &[u8],
     answers: &[u8],
+    lines: u32,
 ) -> Result<(), Fail> {
     let mut desk = desk_of(rt.alloc(), codes)?;
     let mut reader = FakeReader::new(script).in_pieces(100);
     let mut writer = FakeWriter::new(rt.alloc());
-    let lines = line_count(answers);
     let ran = desk.answer(rt.alloc(), &mut reader, &mut writer);
     assert_eq!(rt; writer.written(), answers);
     assert_eq!(rt; ran, Ok(ScriptEnd { lines }));
     Ok(())
 }
 
-/// The scenario's script is answered as it says.
+/// The scenario's script is answered as it says, each of its lines.
 fn holds(rt: &(impl Abort + AllocGlobal), codes: &[u64], scenario: &Scenario) -> Result<(), Fail> {
-    is_answered(rt, codes, scenario.script, scenario.answers)
+    let Scenario { script, answers } = scenario;
+    is_answered(rt, codes, script, answers, line_count(script))
 }
 
 #[test]
@@ -132,6 +133,41 @@ fn spare_keeps_room_open(rt: HostRuntime) -> Result<(), Fail> {
 }
 
 #[test]
+fn quoted_guest(rt: HostRuntime) -> Result<(), Fail> {
+    holds(&rt, &[0xa0], &scenarios::QUOTED_GUEST)
+}
+
+#[test]
+fn notes_of_a_room(rt: HostRuntime) -> Result<(), Fail> {
+    holds(&rt, &[0xa0, 0xa1], &scenarios::NOTES_OF_A_ROOM)
+}
+
+#[test]
+fn lists_of_a_room_that_is_not_there(rt: HostRuntime) -> Result<(), Fail> {
+    let script = b"chain 101\naudit-of 101\nin-house 1\nchain\nin-house\n";
+    let answers =
+        b"refused 6 NoRoom\nrefused 6 NoRoom\nunread\nunread\nroom,party,guest,kind,depart,secured\n";
+    is_answered(&rt, &[0xa0], script, answers, 5)
+}
+
+/// The write of this number fails within the last line, a list.
+fn fails_in_list(rt: &(impl Abort + AllocGlobal), call: u32) -> Result<(), Fail> {
+    let Scenario { script, answers } = &scenarios::TWO_ENTRIES;
+    let mut desk = desk_of(rt.alloc(), &[0xa0, 0xa1, 0xa2])?;
+    let mut writer = FakeWriter::new(rt.alloc()).failing_at(call);
+    let ran = desk.answer(rt.alloc(), &mut FakeReader::new(script), &mut writer);
+    assert_eq!(rt; ran, Err(ScriptFault::Write { done: 8 }));
+    assert!(rt; answers.starts_with(writer.written()));
+    Ok(())
+}
+
+#[test]
+fn a_write_that_fails_within_a_list(rt: HostRuntime) -> Result<(), Fail> {
+    fails_in_list(&rt, 8)?;
+    fails_in_list(&rt, 9)
+}
+
+#[test]
 fn kind_full(rt: HostRuntime) -> Result<(), Fail> {
     holds(&rt, &[0xa0], &scenarios::KIND_FULL)
 }
@@ -163,23 +199,24 @@ fn recoding_refused(rt: HostRuntime) -> Result<(), Fail> {
 
 #[test]
 fn words_and_empties(rt: HostRuntime) -> Result<(), Fail> {
-    holds(&rt, &[0xa0], &scenarios::WORDS_AND_EMPTIES)
+    let Scenario { script, answers } = &scenarios::WORDS_AND_EMPTIES;
+    is_answered(&rt, &[0xa0], script, answers, line_count(answers))
 }
 
 #[test]
 fn ends_of_lines_and_silent_lines(rt: HostRuntime) -> Result<(), Fail> {
     let script = b"\n   \r\n # a note\nbegin 2031-05-01\r\nnext-day 1\n\nnext-day\r";
-    is_answered(&rt, &[0xa0], script, b"begun\nunread\nday 2031-05-02\n")
+    is_answered(&rt, &[0xa0], script, b"begun\nunread\nday 2031-05-02\n", 3)
 }
 
 #[test]
 fn a_line_of_1025_bytes_is_unread(rt: HostRuntime) -> Result<(), Fail> {
     let mut script = vec![in rt.alloc(); b' '; 1008]?;
     script.extend_from_slice(b"begin 2031-05-01\r\n")?;
-    is_answered(&rt, &[0xa0], script.as_slice(), b"begun\n")?;
+    is_answered(&rt, &[0xa0], script.as_slice(), b"begun\n", 1)?;
     let mut script = vec![in rt.alloc(); b' '; 1009]?;
     script.extend_from_slice(b"begin 2031-05-01\r\n")?;
-    is_answered(&rt, &[0xa0], script.as_slice(), b"unread\n")
+    is_answered(&rt, &[0xa0], script.as_slice(), b"unread\n", 1)
 }
 
 /// Each read of the script fails in turn; then the script is answered over the same books.

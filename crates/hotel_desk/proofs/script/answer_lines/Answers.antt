@@ -1,11 +1,17 @@
-use Rattle.std.proofs.Common.{◌≡◌, ◌∙◌, [], arith, false, refl, subst, sym, List, ℕ}
+use Rattle.std.proofs.Common.{◌≡◌, ◌∙◌, [], arith, false, refl, subst, sym, List, ℕ, Result, Ok, Err}
+use Rattle.std.specs.Prelude.{OnOk, OnErr}
 use Rattle.std.specs.Io.KnownBytes.{Appends}
 use Rattle.std.proofs.KnownBytes.{Appends-trans}
 use Rattle.hotel_desk.specs.Lines.{answered_lines, is_silent}
-use Rattle.hotel_desk.specs.LineAnswers.{answer_text}
 use Rattle.hotel_desk.specs.Script.{RowsGo}
 use Rattle.hotel_desk.proofs.ScriptLemmas.{goes_safely, rows_begin, rows_more, next_line, all_done, answered_more, appends_front}
 use Rattle.hotel_desk.proofs.script.answer_lines.Goals as goal
+
+got_ok : {T E : Type 0} {r : Result T E} {t : T} {P : Type 0} → r ≡ Ok t → OnOk r P → P
+got_ok {P = P} e p = subst (λ r. OnOk r P) e p
+
+got_err : {T E : Type 0} {r : Result T E} {fault : E} {P : Type 0} → r ≡ Err fault → OnErr r P → P
+got_err {P = P} e p = subst (λ r. OnErr r P) e p
 
 pub loop-line-init : goal.loop-line-init
 loop-line-init g c = record {
@@ -23,28 +29,28 @@ loop-line-preserved-in-Ok-1 g c =
     let silent : is_silent line ≡ false = sym c.is_silent.ensures ∙ c.if-not-is_silent.true in
     let left = c.loop-line.invariant.left ∙ answered_more c.loop-line.rest.now c.in-Some.later.now c.in-Some.line.now line c.in-Some.ensures.some c.without_return-line.ensures silent in
     let next = next_line all c.loop-line.done line _ left in
-    let answered = c.answer_line-answer.ensures in
+    let answered = c.answer_line-answered.ensures in
     record {
       fits = omega (arith, c.loop-line.invariant.fits, c.in-Some.ensures.shorter);
       within = next.0;
       left = next.1;
       clean = λ clean. c.loop-line.invariant.clean (answered.was_clean clean);
-      went = λ clean. rows_more _ _ _ _ _ _ all c.loop-line.done line (answer_text c.answer_line-answer.result) _ _ _
-          (c.loop-line.invariant.went (answered.was_clean clean)) left (λ h stands. answered.goes h stands clean)
-          (λ output written. Appends-trans _ _ _ output _ written c.in-Ok.ensures.ok);
+      went = λ clean. rows_more _ _ _ _ _ _ all c.loop-line.done line _ _ _ _
+          (c.loop-line.invariant.went (answered.was_clean clean)) left (got_ok c.in-Ok.is (answered.ok clean))
+          (λ output text written more. Appends-trans _ _ _ output text written more);
     }
 
-pub returns-in_default-write_answer-clause-cut : goal.returns-in_default-write_answer-clause-cut
-returns-in_default-write_answer-clause-cut g c = λ clean.
+pub returns-in_default-answered-clause-cut : goal.returns-in_default-answered-clause-cut
+returns-in_default-answered-clause-cut g c = λ clean.
     let all = answered_lines c.args.script.now in
     let line = c.without_return-line.result.now in
     let silent : is_silent line ≡ false = sym c.is_silent.ensures ∙ c.if-not-is_silent.true in
     let left = c.loop-line.invariant.left ∙ answered_more c.loop-line.rest.now c.in-Some.later.now c.in-Some.line.now line c.in-Some.ensures.some c.without_return-line.ensures silent in
-    let answered = c.answer_line-answer.ensures in
+    let answered = c.answer_line-answered.ensures in
     goes_safely _ _ _ _ _ _
-    (rows_more _ _ _ _ _ _ all c.loop-line.done line (answer_text c.answer_line-answer.result) _ _ _
-    (c.loop-line.invariant.went (answered.was_clean clean)) left (λ h stands. answered.goes h stands clean)
-    (λ output written. appends_front _ _ _ output _ c.in_default-write_answer.ensures.err written))
+    (rows_more _ _ _ _ _ _ all c.loop-line.done line _ _ _ _
+    (c.loop-line.invariant.went (answered.was_clean clean)) left (got_err c.in_default-answered.is (answered.err clean))
+    (λ output text written more. appends_front _ _ _ output text more written))
 
 pub returns-clause-count : goal.returns-clause-count
 returns-clause-count g c =

@@ -1,0 +1,72 @@
+//! The answer to a line that asks for a list.
+
+ghost use Rattle.std.specs.Prelude.{◌≡◌, OnOk, OnErr};
+ghost use Rattle.std.specs.Io.KnownBytes.{Appends};
+ghost use Rattle.hotel_lists.specs.Bytes.{AppendsFront};
+ghost use Rattle.hotel_desk.specs.ListAnswers.{WritesAnswer, WritesList, refusal_of};
+
+use crate::list_asks::ListAsk;
+use hotel_core::{Refusal, Reply, Walks, reply_text};
+use hotel_lists::{
+    Interruptions, ListFault, WriteFailed, arrivals, audit_of, chain_of, in_house, left_behind,
+    write_bytes,
+};
+use std::alloc::Global;
+use std::io::Write;
+
+/// Writes the text of a list.
+fn write_list<W: Write, B: Walks>(
+    alloc: Global,
+    list: &ListAsk,
+    writer: &mut W,
+    books: &mut B,
+) -> Result<(), ListFault>
+    ensures text { B.is_clean books.new → WritesList (B.rows books.old) list.now (W.contents writer.old) (W.contents writer.new) result }
+    ensures kept { B.is_clean books.new → B.is_kept books.old books.new }
+    ensures was_clean { B.is_clean books.new → B.is_clean books.old }
+{
+    match list {
+        ListAsk::Arrivals(day) => arrivals(alloc, books, *day, writer),
+        ListAsk::InHouse => in_house(alloc, books, writer),
+        ListAsk::ChainOf(room) => chain_of(alloc, books, *room, writer),
+        ListAsk::LeftBehind => left_behind(alloc, books, writer),
+        ListAsk::AuditOf(room) => audit_of(alloc, books, *room, writer),
+    }
+}
+
+/// The refusal that a list's fault is answered by. None where the writer itself failed.
+fn refusal_of(fault: ListFault) -> Option<Refusal>
+    ensures { result ≡ refusal_of fault }
+{
+    match fault {
+        ListFault::NoRoom => Some(Refusal::NoRoom),
+        ListFault::Memory => Some(Refusal::Memory),
+        ListFault::Store => Some(Refusal::Store),
+        ListFault::Write => None,
+    }
+}
+
+/// Writes the answer to a list: its text; or, where the room isn't there, the line that says so; or,
+/// where memory or the store failed, whole rows of it and then the line that says so. The list
+/// itself counts its own interruptions.
+pub fn answer_list<W: Write, B: Walks>(
+    alloc: Global,
+    list: &ListAsk,
+    writer: &mut W,
+    books: &mut B,
+    interruptions: &mut Interruptions,
+) -> Result<(), WriteFailed>
+    ensures ok { B.is_clean books.new → OnOk result (WritesAnswer (B.rows books.old) list.now (Appends (W.contents writer.old) (W.contents writer.new))) }
+    ensures err { B.is_clean books.new → OnErr result (WritesAnswer (B.rows books.old) list.now (AppendsFront (W.contents writer.old) (W.contents writer.new))) }
+    ensures kept { B.is_clean books.new → B.is_kept books.old books.new }
+    ensures was_clean { B.is_clean books.new → B.is_clean books.old }
+{
+    let Err(fault) = write_list(alloc, list, writer, books) else {
+        return Ok(());
+    };
+    let Some(refusal) = refusal_of(fault) else {
+        return Err(WriteFailed);
+    };
+    let text = reply_text(&Reply::Refused(refusal));
+    write_bytes(writer, text.as_bytes(), interruptions)
+}
