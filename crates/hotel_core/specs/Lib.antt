@@ -23,13 +23,14 @@ pub mod Run
 pub mod ChangeOf
 pub mod Fits
 pub mod OnRows
+pub mod Stepping
+pub mod Failures
 pub mod StepOnRows
 pub mod Lift
 pub mod Reads
 pub mod Finds
 pub mod Issuing
 pub mod Noting
-pub mod Stepping
 pub mod Headline
 pub mod Lists
 pub mod ListsOnRows

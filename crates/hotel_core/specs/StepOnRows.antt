@@ -15,6 +15,7 @@ use Rattle.hotel_core.specs.Change.{made, codes_of}
 use Rattle.hotel_core.specs.OnRows.{home_on}
 use Rattle.hotel_core.specs.Outcome.{Outcome}
 use Rattle.hotel_core.specs.Run.{is_failed}
+use Rattle.hotel_core.specs.Failures.{AreCounted, failure_in}
 
 -- the rows after what happened, where something did
 abbrev pub made_by : Option Change → Rows → Rows
@@ -43,10 +44,17 @@ abbrev pub MayLack : Bool → Reply → Type 0
 MayLack true answer = answer ≡ reply.Refused Memory
 MayLack false answer = ⊥
 
--- A step from the state old to new, with the source moved to rest, where the outcome says what comes of it.
+-- A part of a step from the state old to new, with the source moved to rest, where the outcome says what comes of it.
 pub record StepsAs {S : Type 0} (is_clean : S → Type 0) (rows : S → Rows) (failures : S → ℕ) (never_fails : Type 0) (copies : Bool) (outcome : Rows → Outcome Change) (old new : S) (source rest : Stream) (answer : Reply) : Type 0 where
   pub goes : is_clean new → Goes (outcome (rows old)) (rows old) source answer (rows new) rest
   pub was_clean : is_clean new → is_clean old
   pub counted : failures old ≤ failures new
   pub fault : is_clean new → AreWhole (rows old) → is_failed answer ≡ true → HasRisen (failures old) (failures new) ⊎ MayLack copies answer
   pub no_store : is_clean new → AreWhole (rows old) → never_fails → answer ≡ reply.Refused Store → ⊥
+
+-- A step from the state old to new, with the source moved to rest, where the outcome says what comes of it. A failure that is answered was counted.
+pub record StepsOver {S : Type 0} (is_clean : S → Type 0) (rows : S → Rows) (failures : S → ℕ) (never_fails : Type 0) (copies : Bool) (outcome : Rows → Outcome Change) (old new : S) (source rest : Stream) (answer : Reply) : Type 0 where
+  pub goes : is_clean new → Goes (outcome (rows old)) (rows old) source answer (rows new) rest
+  pub was_clean : is_clean new → is_clean old
+  pub counted : failures old ≤ failures new
+  pub failed : is_clean new → AreCounted never_fails (failures old) (failures new) (failure_in answer copies)

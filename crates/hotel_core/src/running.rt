@@ -1,6 +1,7 @@
 //! Commands one after the other, over any books.
 ghost use Rattle.std.specs.Prelude.{List, IfOk, IfErr, take, ◌≤◌};
 ghost use Rattle.hotel_core.specs.declared.reply.Reply.{Reply};
+ghost use Rattle.hotel_core.specs.Failures.{AreCounted, failures_in};
 ghost use Rattle.hotel_core.specs.History.{History};
 ghost use Rattle.hotel_core.specs.Run.{StandsFor};
 ghost use Rattle.hotel_core.specs.Lift.{RunsSafely};
@@ -29,6 +30,7 @@ pub fn run<B: Books, R: Rng>(
         RunsSafely h (R.stream source.old) commands.now replies.items (B.rows books.new) (R.stream source.new)) }
     ensures fault { IfErr result (λ fault. (h : History) → StandsFor h (B.rows books.old) → B.is_clean books.new →
         (replies : List Reply) × RunsSafely h (R.stream source.old) (take fault.answered commands.now) replies (B.rows books.new) (R.stream source.new)) }
+    ensures failed { IfOk result (λ replies. B.is_clean books.new → AreCounted B.never_fails (B.failures books.old) (B.failures books.new) (failures_in commands.now replies.items)) }
     ensures was_clean { B.is_clean books.new → B.is_clean books.old }
     ensures counted { B.failures books.old ≤ B.failures books.new }
 {

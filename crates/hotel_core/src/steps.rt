@@ -8,7 +8,7 @@ ghost use Rattle.hotel_core.specs.Run.{StandsFor, Steps, is_failed};
 ghost use Rattle.hotel_core.specs.Ranges.{IsCommand, IsReply};
 ghost use Rattle.hotel_core.specs.Finds.{reply_of};
 ghost use Rattle.hotel_core.specs.OnRows.{outcome_on};
-ghost use Rattle.hotel_core.specs.StepOnRows.{StepsAs};
+ghost use Rattle.hotel_core.specs.StepOnRows.{StepsAs, StepsOver};
 ghost use Rattle.hotel_core.specs.Stepping.{copies, takes_none};
 ghost use Rattle.hotel_core.specs.declared.command.Command.TheVariants as command;
 
@@ -71,12 +71,13 @@ fn carry_out<B: Books, R: Rng>(
 pub fn step<B: Books, R: Rng>(books: &mut B, source: &mut R, command: &Command) -> Reply
     ensures step { (h : History) → StandsFor h (B.rows books.old) → B.is_clean books.new →
         (h' : History) × StandsFor h' (B.rows books.new) × Steps h (R.stream source.old) command.now result h' (R.stream source.new) × Assured h' }
-    ensures rows { StepsAs B.is_clean B.rows B.failures B.never_fails (copies command.now) (λ rows. outcome_on rows (words 64 (R.stream source.old)) command.now)
+    ensures rows { StepsOver B.is_clean B.rows B.failures B.never_fails (copies command.now) (λ rows. outcome_on rows (words 64 (R.stream source.old)) command.now)
         books.old books.new (R.stream source.old) (R.stream source.new) result }
     ensures range { IsReply result }
     ensures sure { B.never_fails → takes_none command.now ≡ true → is_failed result ≡ false }
 {
     known_command(command);
+    books.known_sound();
     let outcome = carry_out(books, source, command);
     let reply = reply_of(outcome);
     known_reply(&reply);
@@ -87,10 +88,11 @@ pub fn step<B: Books, R: Rng>(books: &mut B, source: &mut R, command: &Command) 
 pub fn report<B: Books>(books: &mut B, note: &LockNote) -> Reply
     ensures step { (h : History) → StandsFor h (B.rows books.old) → B.is_clean books.new → (source : Stream) →
         (h' : History) × StandsFor h' (B.rows books.new) × Steps h source (command.Reported note.now) result h' source × Assured h' }
-    ensures rows { (source : Stream) → StepsAs B.is_clean B.rows B.failures B.never_fails false (λ rows. outcome_on rows (words 64 source) (command.Reported note.now))
+    ensures rows { (source : Stream) → StepsOver B.is_clean B.rows B.failures B.never_fails false (λ rows. outcome_on rows (words 64 source) (command.Reported note.now))
         books.old books.new source source result }
 {
     known_note(note);
+    books.known_sound();
     let taken = take_note(books, note);
     let reply = reply_of(taken);
     known_reply(&reply);

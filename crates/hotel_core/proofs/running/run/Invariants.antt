@@ -2,6 +2,7 @@ use Rattle.std.proofs.Common.{◌≡◌, ◌≤◌, take, length, vec_len, vec_c
 use Rattle.hotel_core.specs.History.{History}
 use Rattle.hotel_core.specs.Run.{StandsFor}
 use Rattle.hotel_core.specs.Lift.{RunsTo}
+use Rattle.hotel_core.specs.Failures.{AreCounted, failures_in}
 use Rattle.hotel_core.proofs.running.run.Given as goal
 
 abbrev pub invariant-loop-command : goal.invariant-loop-command
@@ -12,6 +13,8 @@ invariant-loop-command g l =
     record {
       was_clean : is_clean l.books → is_clean l.fn.books;
       counted : g.B.Issued.failures l.fn.books ≤ g.B.Issued.failures l.books;
+      failed : is_clean l.books → AreCounted g.B.Issued.never_fails (g.B.Issued.failures l.fn.books) (g.B.Issued.failures l.books) (failures_in (take l.command-index l.commands) l.replies.items);
+      as_many : length l.replies.items ≡ l.command-index;
       room : length l.commands ≤ vec_capacity l.replies;
       answered : vec_len l.replies ≡ l.command-index;
       ran : is_clean l.books → (h : History) → StandsFor h (rows l.fn.books) →

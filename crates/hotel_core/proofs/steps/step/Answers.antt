@@ -1,5 +1,6 @@
 use Rattle.hotel_core.proofs.Runs.{steps_lift}
 use Rattle.hotel_core.proofs.Assurance.{assured_too}
+use Rattle.hotel_core.proofs.FailuresCounted.{steps_over}
 use Rattle.hotel_core.proofs.steps.step.Goals as goal
 
 pub returns-clause-step : goal.returns-clause-step
@@ -8,3 +9,6 @@ returns-clause-step g c = λ h stands clean.
 
 pub returns-clause-sure : goal.returns-clause-sure
 returns-clause-sure g c = λ never takes. rw c.reply_of-reply.ensures (c.carry_out-outcome.ensures.sure never takes)
+
+pub returns-clause-rows : goal.returns-clause-rows
+returns-clause-rows g c = rw c.reply_of-reply.ensures (steps_over c.known_sound.ensures c.carry_out-outcome.ensures.steps)
