@@ -57,7 +57,7 @@ part_by Equal low high l h = ap (λ b. b && not (is_lt high)) l ∙ h
 part_by Greater low high l h = refl
 
 -- what lies between a room's least and greatest card is of the room
-in_part : (room : ℕ) (e : ℕ × ℕ) → IsNumberUpTo 9999999 e.1 → range_contains pair_cmp (Included (room, 1)) (Included (room, 9999999)) e ≡ (e.0 == room)
+pub in_part : (room : ℕ) (e : ℕ × ℕ) → IsNumberUpTo 9999999 e.1 → range_contains pair_cmp (Included (room, 1)) (Included (room, 9999999)) e ≡ (e.0 == room)
 in_part room e i =
     part_by (nat_cmp room e.0) (nat_cmp 1 e.1) (nat_cmp 9999999 e.1) (least_first (nat_cmp 1 e.1) e.1 (ranks 1 e.1) i.0) (most_last (nat_cmp 9999999 e.1) e.1 (ranks 9999999 e.1) i.1)
     ∙ at_is room e.0

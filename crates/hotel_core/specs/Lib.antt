@@ -43,4 +43,5 @@ pub mod CodeTable
 pub mod Tables
 pub mod ListBooks
 pub mod InsideTable
+pub mod NoteTable
 pub mod Answered

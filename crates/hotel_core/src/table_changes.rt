@@ -176,11 +176,11 @@ impl Tables {
     {
         let room = note.room();
         let count = note.count();
-        let Ok(_) = self.notes.insert((room, count), *note) else {
+        let Ok(()) = self.notes.insert(note) else {
             return Err(Memory);
         };
         let Ok(()) = self.inside.change(room, insides) else {
-            self.notes.remove(&(room, count));
+            self.notes.remove(room, count);
             return Err(Memory);
         };
         note_at(&mut self.rooms, room, lock_place, secured, count.value());

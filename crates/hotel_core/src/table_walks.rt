@@ -156,11 +156,6 @@ impl Tables {
         ensures hands { Hands S.after S.after_stop (audit_on self.now room) sink.old sink.new result }
         ensures no_store { result ≡ Err Store → ⊥ }
     {
-        for (place, note) in &self.notes {
-            if place.0 == room {
-                sink.take(note)?;
-            }
-        }
-        Ok(())
+        self.notes.walk(room, sink)
     }
 }

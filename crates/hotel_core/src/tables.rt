@@ -7,6 +7,7 @@ ghost use Rattle.hotel_core.specs.Lookups.{has_kind, room_at, codes_in, code_pla
 
 use crate::code_table::CodeTable;
 use crate::inside_table::InsideTable;
+use crate::note_table::NoteTable;
 use crate::rows::{CodeRow, NextNumbers, RoomRow};
 use hotel_nights::{Day, KindCode, Stay};
 use keycard_rules::{Card, CardNo, Code, Count, LockNote, Number, PartyNo, RoomNo};
@@ -25,7 +26,7 @@ pub(crate) struct Tables {
     pub(crate) stays: BTreeMap<PartyNo, Stay>,
     pub(crate) cards: BTreeMap<CardNo, Card>,
     pub(crate) inside: InsideTable,
-    pub(crate) notes: BTreeMap<(RoomNo, Count), LockNote>,
+    pub(crate) notes: NoteTable,
 }
 
 impl Model for Tables {
@@ -34,7 +35,7 @@ impl Model for Tables {
 
     ghost Value = { Rows };
 
-    ghost view = { λ t. record { day = t.day; kinds = t.kinds.keys; rooms = t.rooms.entries; codes = t.codes; stays = t.stays.entries; cards = t.cards.entries; inside = t.inside; notes = t.notes.entries } };
+    ghost view = { λ t. record { day = t.day; kinds = t.kinds.keys; rooms = t.rooms.entries; codes = t.codes; stays = t.stays.entries; cards = t.cards.entries; inside = t.inside; notes = t.notes } };
 
     ghost invariant = { λ t. LaterPlacesFree t.rooms.entries t.codes };
 }
@@ -62,7 +63,7 @@ impl Tables {
             stays: BTreeMap::new(alloc),
             cards: BTreeMap::new(alloc),
             inside: InsideTable::empty(alloc),
-            notes: BTreeMap::new(alloc),
+            notes: NoteTable::empty(alloc),
         }
     }
 
@@ -141,7 +142,7 @@ impl Tables {
     pub(crate) fn note(&self, room: RoomNo, count: Count) -> Option<LockNote>
         ensures { result ≡ note_at self.now room count }
     {
-        self.notes.get(&(room, count)).copied()
+        self.notes.note(room, count)
     }
 
     pub(crate) fn rooms_of_kind(&self, kind: &KindCode) -> u32
