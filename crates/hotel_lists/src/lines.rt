@@ -14,7 +14,7 @@ use std::io::Write;
 pub(crate) struct Lines<'a, W> {
     pub(crate) alloc: Global,
     pub(crate) writer: &'a mut W,
-    pub(crate) interruptions: Interruptions,
+    pub(crate) interruptions: &'a mut Interruptions,
     /// Whether it stopped since a write failed, and not for want of memory.
     pub(crate) write_failed: bool,
 }
@@ -33,7 +33,7 @@ impl<'a, W: Write, R: Line> Sink<R> for Lines<'a, W> {
             self.write_failed = false;
             return Err(Stop);
         };
-        let Ok(()) = write_bytes(self.writer, line.as_slice(), &mut self.interruptions) else {
+        let Ok(()) = write_bytes(self.writer, line.as_slice(), self.interruptions) else {
             self.write_failed = true;
             return Err(Stop);
         };

@@ -5,7 +5,7 @@ use Rattle.hotel_lists.specs.Lines.{ListsRoom, chain_header, chain_line}
 use Rattle.hotel_lists.specs.declared.lines.Lines.{Lines}
 use Rattle.hotel_lists.specs.declared.fault.ListFault.TheVariants.{Write}
 use Rattle.hotel_lists.proofs.LinesWritten.{front_of_first, same_writer, list_written, listed_there, room_listed}
-use Rattle.hotel_lists.proofs.lists.chain_of.Goals as goal
+use Rattle.hotel_lists.proofs.write_lists.write_chain_of.Goals as goal
 
 pub returns-in_err-write_bytes-clause-text : goal.returns-in_err-write_bytes-clause-text
 returns-in_err-write_bytes-clause-text g c = λ clean.

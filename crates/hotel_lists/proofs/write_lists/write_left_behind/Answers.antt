@@ -4,7 +4,7 @@ use Rattle.hotel_lists.specs.Lines.{Lists, left_behind_header, behind_line}
 use Rattle.hotel_lists.specs.declared.lines.Lines.{Lines}
 use Rattle.hotel_lists.specs.declared.fault.ListFault.TheVariants.{Write}
 use Rattle.hotel_lists.proofs.LinesWritten.{front_of_first, same_writer, list_written}
-use Rattle.hotel_lists.proofs.lists.left_behind.Goals as goal
+use Rattle.hotel_lists.proofs.write_lists.write_left_behind.Goals as goal
 
 pub returns-in_err-write_bytes-clause-text : goal.returns-in_err-write_bytes-clause-text
 returns-in_err-write_bytes-clause-text g c = λ clean.

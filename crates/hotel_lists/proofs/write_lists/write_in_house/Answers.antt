@@ -4,7 +4,7 @@ use Rattle.hotel_lists.specs.Lines.{Lists, in_house_header, house_line}
 use Rattle.hotel_lists.specs.declared.lines.Lines.{Lines}
 use Rattle.hotel_lists.specs.declared.fault.ListFault.TheVariants.{Write}
 use Rattle.hotel_lists.proofs.LinesWritten.{front_of_first, same_writer, list_written}
-use Rattle.hotel_lists.proofs.lists.in_house.Goals as goal
+use Rattle.hotel_lists.proofs.write_lists.write_in_house.Goals as goal
 
 pub returns-in_err-write_bytes-clause-text : goal.returns-in_err-write_bytes-clause-text
 returns-in_err-write_bytes-clause-text g c = λ clean.
