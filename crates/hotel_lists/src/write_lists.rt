@@ -1,11 +1,12 @@
-//! The five lists as text, within a call that counts its interrupted writes.
+//! The five lists as text, within a call that has begun a count of its interrupted reads and writes. Those of a list are
+//! added to it.
 ghost use Rattle.std.specs.Prelude.{◌≡◌, Err, Option, Some, None, Result, Ok};
 ghost use Rattle.hotel_core.specs.Lookups.{room_at};
 ghost use Rattle.hotel_core.specs.ListsOnRows.{arrivals_on, in_house_on, chain_on, left_behind_on, audit_on};
 ghost use Rattle.hotel_lists.specs.Lines.{Lists, ListsRoom, LooksAt, FindsRoom, arrivals_header, in_house_header, chain_header, left_behind_header, audit_header, arrival_line, house_line, chain_line, behind_line, note_line};
 ghost use Rattle.hotel_lists.specs.declared.fault.ListFault.TheVariants.{NoRoom};
 
-use crate::bytes::{Interruptions, write_bytes};
+use crate::bytes::Interruptions;
 use crate::fault::ListFault;
 use crate::lines::{Lines, listed};
 use hotel_core::Walks;
@@ -39,13 +40,8 @@ pub fn write_arrivals<B: Walks, W: Write>(
     ensures no_room { result ≡ Err NoRoom → ⊥ }
     ensures books { LooksAt B.is_clean B.is_kept B.failures B.never_fails books.old books.new result }
 {
-    write_bytes(writer, b"party,guest,kind,arrive,depart\n", interruptions)?;
-    let mut lines = Lines {
-        alloc,
-        writer,
-        interruptions,
-        write_failed: false,
-    };
+    let mut lines = Lines::new(alloc, writer, interruptions);
+    lines.begin(b"party,guest,kind,arrive,depart\n")?;
     let end = books.walk_arrivals(day, &mut lines);
     listed(end, lines.write_failed)
 }
@@ -61,17 +57,8 @@ pub fn write_in_house<B: Walks, W: Write>(
     ensures no_room { result ≡ Err NoRoom → ⊥ }
     ensures books { LooksAt B.is_clean B.is_kept B.failures B.never_fails books.old books.new result }
 {
-    write_bytes(
-        writer,
-        b"room,party,guest,kind,depart,secured\n",
-        interruptions,
-    )?;
-    let mut lines = Lines {
-        alloc,
-        writer,
-        interruptions,
-        write_failed: false,
-    };
+    let mut lines = Lines::new(alloc, writer, interruptions);
+    lines.begin(b"room,party,guest,kind,depart,secured\n")?;
     let end = books.walk_in_house(&mut lines);
     listed(end, lines.write_failed)
 }
@@ -88,13 +75,8 @@ pub fn write_chain_of<B: Walks, W: Write>(
     ensures books { LooksAt B.is_clean B.is_kept B.failures B.never_fails books.old books.new result }
 {
     find_room(books, room)?;
-    write_bytes(writer, b"place,code,state\n", interruptions)?;
-    let mut lines = Lines {
-        alloc,
-        writer,
-        interruptions,
-        write_failed: false,
-    };
+    let mut lines = Lines::new(alloc, writer, interruptions);
+    lines.begin(b"place,code,state\n")?;
     let end = books.walk_chain(room, &mut lines);
     listed(end, lines.write_failed)
 }
@@ -110,13 +92,8 @@ pub fn write_left_behind<B: Walks, W: Write>(
     ensures no_room { result ≡ Err NoRoom → ⊥ }
     ensures books { LooksAt B.is_clean B.is_kept B.failures B.never_fails books.old books.new result }
 {
-    write_bytes(writer, b"room,held,current,awaited\n", interruptions)?;
-    let mut lines = Lines {
-        alloc,
-        writer,
-        interruptions,
-        write_failed: false,
-    };
+    let mut lines = Lines::new(alloc, writer, interruptions);
+    lines.begin(b"room,held,current,awaited\n")?;
     let end = books.walk_left_behind(&mut lines);
     listed(end, lines.write_failed)
 }
@@ -133,13 +110,8 @@ pub fn write_audit_of<B: Walks, W: Write>(
     ensures books { LooksAt B.is_clean B.is_kept B.failures B.never_fails books.old books.new result }
 {
     find_room(books, room)?;
-    write_bytes(writer, b"room,count,kind,card,old,new,at\n", interruptions)?;
-    let mut lines = Lines {
-        alloc,
-        writer,
-        interruptions,
-        write_failed: false,
-    };
+    let mut lines = Lines::new(alloc, writer, interruptions);
+    lines.begin(b"room,count,kind,card,old,new,at\n")?;
     let end = books.walk_audit(room, &mut lines);
     listed(end, lines.write_failed)
 }
