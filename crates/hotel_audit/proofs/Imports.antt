@@ -10,6 +10,7 @@ use Rattle.hotel_core.specs.History.{History}
 use Rattle.hotel_core.specs.Rows.{Rows}
 use Rattle.hotel_core.specs.Run.{StandsFor, Steps}
 use Rattle.hotel_core.specs.StepOnRows.{AreWhole}
+use Rattle.hotel_core.proofs.Assurance.{assured}
 use Rattle.hotel_core.proofs.Runs.{runs_join}
 use Rattle.hotel_core.proofs.Whole.{rows_are_whole}
 use Rattle.hotel_audit.specs.declared.answer.LineAnswer.{LineAnswer}
@@ -52,20 +53,20 @@ LinesRun-join h lines more answers others rows later first second source =
     let r = first source in
     let k = second r.0 r.1 source in
     rw (commands_of-append lines more, replies_in-append answers others)
-    (k.0, k.1, runs_join h r.0 k.0 source source source (commands_of lines) (commands_of more) (replies_in answers) (replies_in others) r.2 k.2)
+    (k.0, k.1, runs_join h r.0 k.0 source source source (commands_of lines) (commands_of more) (replies_in answers) (replies_in others) r.2 k.2, k.3)
 
 -- no lines change nothing
 pub Imports-none : {S : Type 0} (is_clean : S → Type 0) (rows : S → Rows) (old : S) → Imports is_clean rows old old [] []
 Imports-none is_clean rows old = record {
   each = tt;
-  run = λ h stands clean source. (h, stands, (refl, refl));
+  run = λ h stands clean source. (h, stands, (refl, refl), assured h stands.0);
 }
 
 -- an unread line changes nothing
 pub Imports-unread : {S : Type 0} (is_clean : S → Type 0) (rows : S → Rows) (old : S) (cause : Cause) → Imports is_clean rows old old (line.Unread cause ∷ []) (answer.Unread cause ∷ [])
 Imports-unread is_clean rows old cause = record {
   each = (refl, tt);
-  run = λ h stands clean source. (h, stands, (refl, refl));
+  run = λ h stands clean source. (h, stands, (refl, refl), assured h stands.0);
 }
 
 -- a note's line is one step
@@ -78,7 +79,7 @@ Imports-note is_clean rows old new note given a e step =
       each = (answered.0, tt);
       run = λ h stands clean source.
           let s = step h stands clean source in
-          rw (answered.1) (s.0, s.1, (s.0, source, s.2, (refl, refl)));
+          rw (answered.1) (s.0, s.1, (s.0, source, s.2, (refl, refl)), assured s.0 s.1.0);
     }
 
 -- further lines after some

@@ -10,7 +10,7 @@ use Rattle.hotel_core.specs.declared.reply.Reply.TheVariants as reply
 use Rattle.hotel_core.specs.declared.reply.Refusal.{Refusal}
 use Rattle.hotel_core.specs.declared.reply.Refusal.TheVariants as refusal
 use Rattle.hotel_core.specs.History.{History}
-use Rattle.hotel_core.specs.Lift.{RunsTo}
+use Rattle.hotel_core.specs.Lift.{RunsSafely}
 use Rattle.hotel_core.specs.Rows.{Rows}
 use Rattle.hotel_core.specs.Run.{StandsFor, is_failed}
 use Rattle.hotel_audit.specs.declared.answer.LineAnswer.{LineAnswer}
@@ -51,9 +51,9 @@ AreAnswered (line ∷ lines) (answer ∷ answers) = IsAnswerTo line answer × Ar
 AreAnswered [] (answer ∷ answers) = ⊥
 AreAnswered (line ∷ lines) [] = ⊥
 
--- The lines with these answers lead from the history to the rows: their notes ran, with these replies. No word of a source is taken.
+-- The lines with these answers lead from the history to the rows: their notes ran, with these replies, and what is assured holds then. No word of a source is taken.
 abbrev pub LinesRun : History → List Line → List LineAnswer → Rows → Type 0
-LinesRun h lines answers rows = (source : Stream) → RunsTo h source (commands_of lines) (replies_in answers) rows source
+LinesRun h lines answers rows = (source : Stream) → RunsSafely h source (commands_of lines) (replies_in answers) rows source
 
 -- The books went from the state old to new by these lines, which have these answers.
 pub record Imports {S : Type 0} (is_clean : S → Type 0) (rows : S → Rows) (old new : S) (lines : List Line) (answers : List LineAnswer) : Type 0 where

@@ -117,4 +117,6 @@ pub fn import<B: Books>(
 }
 
 #[cfg(test)]
+mod desks;
+#[cfg(test)]
 mod tests;

@@ -1,141 +1,45 @@
 //! The scenarios of imports, over books in memory.
 
+use super::desks::{CUT_LAST_LINE, Desk, RoomNow, TWO_NOTES, answers_to};
 use super::{ImportFault, import};
+use crate::answer::LineAnswer;
 use crate::audit_file::AuditFault;
-use crate::texts::answer_text;
-use hotel_core::{Books, Command, ListBooks, Reply, step};
-use hotel_nights::{Day, Guest, KindCode, Nights};
-use keycard_rules::{ListedWords, PartyNo, RoomNo};
-use std::alloc::Global;
+use keycard_rules::PartyNo;
 use std::test::Fail;
 
-/// Books with room 101, where party 1 checked in: code a0, then a1. The source gives a2 next.
-fn checked_in(alloc: Global) -> Result<(ListBooks, ListedWords), Fail> {
-    let words = [0xa0 << 16, 0xa1 << 16, 0xa2 << 16].to_vec(alloc)?;
-    let mut source = ListedWords::new(words).ok_or("no words")?;
-    let mut books = ListBooks::empty(alloc);
-    let day = Day::read(b"2031-05-01").ok_or("no day")?;
-    let kind = KindCode::read(b"DBL").ok_or("no kind")?;
-    let room = RoomNo::new(101).ok_or("no room")?;
-    let party = PartyNo::new(1).ok_or("no party")?;
-    step(&mut books, &mut source, &Command::Begin(day));
-    step(&mut books, &mut source, &Command::AddKind(kind));
-    step(&mut books, &mut source, &Command::AddRoom { room, kind });
-    let reserve = Command::Reserve {
-        guest: Guest::read(alloc, "Ann Lee")?,
-        kind,
-        arrive: day,
-        nights: Nights::new(2).ok_or("no nights")?,
-    };
-    step(&mut books, &mut source, &reserve);
-    let reply = step(&mut books, &mut source, &Command::CheckIn { party, room });
-    if !matches!(reply, Reply::Issued(_)) {
-        return Err(Fail::from("no card"));
-    }
-    Ok((books, source))
+/// Which desk a file comes to.
+#[derive(Clone, Copy)]
+enum Opening {
+    /// Party 1 checked in.
+    OneGuest,
+    /// Party 2 checked in after party 1 had checked out.
+    NextGuest,
+    /// That of the file before it.
+    SameDesk,
 }
 
-/// The texts of the answers to a file's lines.
-fn answers_to(alloc: Global, books: &mut ListBooks, bytes: &[u8]) -> Result<Vec<u8>, Fail> {
-    let Ok(answers) = import(alloc, books, bytes) else {
-        return Err(Fail::from("stopped"));
-    };
-    let mut texts = Vec::new(alloc);
-    let mut number = 0usize;
-    for answer in answers.as_slice() {
-        number = number.saturating_add(1);
-        texts.extend_from_slice(answer_text(number, answer).as_bytes())?;
-    }
-    Ok(texts)
-}
+const TWO_TAKEN: &[u8] = b"1 taken\n2 taken\n";
 
-const TWO_NOTES: &[u8] = b"room,count,kind,card,old,new,at
-101,1,in,1,0000000000a0,0000000000a1,2031-05-01T15:00:00
-101,2,out,1,0000000000a0,0000000000a1,2031-05-01 16:00:00
-";
-
-#[test]
-fn audit_twice(rt: HostRuntime) -> Result<(), Fail> {
-    let (mut books, _) = checked_in(rt.alloc())?;
-    let first = answers_to(rt.alloc(), &mut books, TWO_NOTES)?;
-    assert_eq!(rt; first.as_slice(), b"1 taken\n2 taken\n".as_slice());
-    let again = answers_to(rt.alloc(), &mut books, TWO_NOTES)?;
-    assert_eq!(rt; again.as_slice(), b"1 seen\n2 seen\n".as_slice());
-    let room = RoomNo::new(101).ok_or("no room")?;
-    let Ok(Some(row)) = books.room(room) else {
-        return Err(Fail::from("no room"));
-    };
-    assert_eq!(rt; (row.notes, row.lock_place, row.secured), (2, 1, true));
-    Ok(())
-}
-
-#[test]
-fn audit_round_trip(rt: HostRuntime) -> Result<(), Fail> {
-    let (mut books, _) = checked_in(rt.alloc())?;
-    answers_to(rt.alloc(), &mut books, TWO_NOTES)?;
-    let listed = b"room,count,kind,card,old,new,at
+/// The two notes as the list of a room's notes writes them.
+const LISTED_NOTES: &[u8] = b"room,count,kind,card,old,new,at
 101,1,in,1,0000000000a0,0000000000a1,2031-05-01T15:00:00
 101,2,out,1,0000000000a0,0000000000a1,2031-05-01T16:00:00
 ";
-    let answers = answers_to(rt.alloc(), &mut books, listed)?;
-    assert_eq!(rt; answers.as_slice(), b"1 seen\n2 seen\n".as_slice());
-    Ok(())
-}
 
-#[test]
-fn audit_gap_conflict(rt: HostRuntime) -> Result<(), Fail> {
-    let (mut books, _) = checked_in(rt.alloc())?;
-    answers_to(rt.alloc(), &mut books, TWO_NOTES)?;
-    let with_gap = b"room,count,kind,card,old,new,at
+const WITH_A_GAP: &[u8] = b"room,count,kind,card,old,new,at
 101,3,in,1,0000000000a0,0000000000a1,2031-05-01T15:00:00
 101,5,out,1,0000000000a0,0000000000a1,2031-05-01T15:00:00
 ";
-    let answers = answers_to(rt.alloc(), &mut books, with_gap)?;
-    assert_eq!(rt;
-        answers.as_slice(),
-        b"1 taken\n2 refused 22 Gap 4\n".as_slice()
-    );
-    let other = b"room,count,kind,card,old,new,at
+
+const OTHER_CONTENT: &[u8] = b"room,count,kind,card,old,new,at
 101,3,in,1,0000000000a0,0000000000a1,2031-05-01T15:00:01
 ";
-    let answers = answers_to(rt.alloc(), &mut books, other)?;
-    assert_eq!(rt; answers.as_slice(), b"1 refused 21 Conflict\n".as_slice());
-    Ok(())
-}
 
-#[test]
-fn late_audit(rt: HostRuntime) -> Result<(), Fail> {
-    let (mut books, mut source) = checked_in(rt.alloc())?;
-    let room = RoomNo::new(101).ok_or("no room")?;
-    let first = PartyNo::new(1).ok_or("no party")?;
-    let party = PartyNo::new(2).ok_or("no party")?;
-    step(&mut books, &mut source, &Command::CheckOut(first));
-    let reserve = Command::Reserve {
-        guest: Guest::read(rt.alloc(), "Bo")?,
-        kind: KindCode::read(b"DBL").ok_or("no kind")?,
-        arrive: Day::read(b"2031-05-01").ok_or("no day")?,
-        nights: Nights::new(2).ok_or("no nights")?,
-    };
-    step(&mut books, &mut source, &reserve);
-    step(&mut books, &mut source, &Command::CheckIn { party, room });
-    let late = b"room,count,kind,card,old,new,at
+const FIRST_ENTRY: &[u8] = b"room,count,kind,card,old,new,at
 101,1,in,1,0000000000a0,0000000000a1,2031-05-01T15:00:00
 ";
-    let answers = answers_to(rt.alloc(), &mut books, late)?;
-    assert_eq!(rt; answers.as_slice(), b"1 taken\n".as_slice());
-    let Ok(Some(row)) = books.room(room) else {
-        return Err(Fail::from("no room"));
-    };
-    assert_eq!(rt; (row.codes, row.lock_place, row.secured), (3, 1, false));
-    assert_eq!(rt; row.party, Some(party));
-    Ok(())
-}
 
-#[test]
-fn audit_causes_with_notes_after_them(rt: HostRuntime) -> Result<(), Fail> {
-    let (mut books, _) = checked_in(rt.alloc())?;
-    answers_to(rt.alloc(), &mut books, TWO_NOTES)?;
-    let text = b"room,count,kind,card,old,new,at
+const EACH_CAUSE: &[u8] = b"room,count,kind,card,old,new,at
 0,3,in,1,0000000000a0,0000000000a1,2031-05-01T15:00:00
 101,10000000,in,1,0000000000a0,0000000000a1,2031-05-01T15:00:00
 101,3,IN,1,0000000000a0,0000000000a1,2031-05-01T15:00:00
@@ -144,8 +48,8 @@ fn audit_causes_with_notes_after_them(rt: HostRuntime) -> Result<(), Fail> {
 101,3,in,1,0000000000a0,0000000000a1,2031-02-29T15:00:00
 101,3,in,1,0000000000a0,0000000000a1,2031-05-01T15:00:00
 ";
-    let answers = answers_to(rt.alloc(), &mut books, text)?;
-    let expected = b"1 unread BadRoom
+
+const CAUSES_NAMED: &[u8] = b"1 unread BadRoom
 2 unread BadCount
 3 unread BadKind
 4 unread BadCard
@@ -153,25 +57,267 @@ fn audit_causes_with_notes_after_them(rt: HostRuntime) -> Result<(), Fail> {
 6 unread BadMoment
 7 taken
 ";
-    assert_eq!(rt; answers.as_slice(), expected.as_slice());
+
+const RECODINGS: &[u8] = b"room,count,kind,card,old,new,at
+101,2,recode,,0000000000a1,0000000000a0,2031-05-01T15:00:00
+101,2,recode,,0000000000a1,0000000000b0,2031-05-01T15:00:00
+101,2,recode,,0000000000a1,0000000000a1,2031-05-01T15:00:00
+101,2,recode,,0000000000a0,0000000000a2,2031-05-01T15:00:00
+101,2,recode,,0000000000a1,0000000000a2,2031-05-01T15:00:00
+";
+
+const RECODINGS_ANSWERED: &[u8] = b"1 refused 28 NotAwaited
+2 refused 28 NotAwaited
+3 refused 28 NotAwaited
+4 refused 27 HeldDiffers
+5 taken
+";
+
+/// Each file's answers, and afterwards the number of the room's notes, the lock's place and whether the room is secured.
+/// A file of which no note is taken changes nothing.
+#[test]
+fn scenarios_of_files(rt: HostRuntime) -> Result<(), Fail> {
+    let mut desk = Desk::of_one_guest(rt.alloc())?;
+    for (name, opening, file, answers, after) in [
+        (
+            "audit-twice",
+            Opening::OneGuest,
+            TWO_NOTES,
+            TWO_TAKEN,
+            (2, 1, true),
+        ),
+        (
+            "audit-twice again",
+            Opening::SameDesk,
+            TWO_NOTES,
+            b"1 seen\n2 seen\n",
+            (2, 1, true),
+        ),
+        (
+            "audit-round-trip",
+            Opening::SameDesk,
+            LISTED_NOTES,
+            b"1 seen\n2 seen\n",
+            (2, 1, true),
+        ),
+        (
+            "audit-gap",
+            Opening::SameDesk,
+            WITH_A_GAP,
+            b"1 taken\n2 refused 22 Gap 4\n",
+            (3, 1, true),
+        ),
+        (
+            "audit-conflict",
+            Opening::SameDesk,
+            OTHER_CONTENT,
+            b"1 refused 21 Conflict\n",
+            (3, 1, true),
+        ),
+        (
+            "audit-causes",
+            Opening::OneGuest,
+            TWO_NOTES,
+            TWO_TAKEN,
+            (2, 1, true),
+        ),
+        (
+            "audit-causes listed",
+            Opening::SameDesk,
+            EACH_CAUSE,
+            CAUSES_NAMED,
+            (3, 1, true),
+        ),
+        (
+            "audit-bytes",
+            Opening::OneGuest,
+            CUT_LAST_LINE,
+            b"1 taken\n2 unread FieldCount\n",
+            (1, 1, true),
+        ),
+        (
+            "a header alone",
+            Opening::SameDesk,
+            b"room,count,kind,card,old,new,at\n",
+            b"",
+            (1, 1, true),
+        ),
+        (
+            "late-audit",
+            Opening::NextGuest,
+            FIRST_ENTRY,
+            b"1 taken\n",
+            (1, 1, false),
+        ),
+    ] {
+        match opening {
+            Opening::OneGuest => desk = Desk::of_one_guest(rt.alloc())?,
+            Opening::NextGuest => desk = Desk::of_next_guest(rt.alloc())?,
+            Opening::SameDesk => {}
+        }
+        let before = RoomNow::of(rt.alloc(), &mut desk.books)?;
+        let given = answers_to(rt.alloc(), &mut desk.books, file)?;
+        assert_eq!(rt; given.as_slice(), answers, "{name}");
+        let room = RoomNow::of(rt.alloc(), &mut desk.books)?;
+        assert_eq!(rt;
+            (room.notes.len(), room.lock_place, room.secured),
+            after,
+            "{name}"
+        );
+        if room.notes.len() == before.notes.len() {
+            room.assert_same(&rt, &before, name);
+        }
+    }
     Ok(())
 }
 
+/// After a late note of the first guest's card the second guest is registered, and the lock is one code behind. Then the
+/// lock is recoded, after files and a command that don't fit.
 #[test]
-fn audit_bytes_over_books(rt: HostRuntime) -> Result<(), Fail> {
-    let (mut books, _) = checked_in(rt.alloc())?;
-    let empty = import(rt.alloc(), &mut books, b"");
-    assert!(rt; matches!(empty, Err(ImportFault::File(AuditFault::NoHeader))));
-    let text =
-        b"\xef\xbb\xbfroom,count,kind,card,old,new,at\r\n\"101\",1,in,1,\"A0\",0000000000A1,2031-05-01T15:00:00\r\n101,2,out";
-    let answers = answers_to(rt.alloc(), &mut books, text)?;
+fn late_audit_and_recodings(rt: HostRuntime) -> Result<(), Fail> {
+    let mut desk = Desk::of_next_guest(rt.alloc())?;
+    answers_to(rt.alloc(), &mut desk.books, FIRST_ENTRY)?;
+    let late = RoomNow::of(rt.alloc(), &mut desk.books)?;
+    assert_eq!(rt;
+        (late.codes.len(), late.lock_place, late.secured),
+        (3, 1, false)
+    );
+    assert_eq!(rt; late.party, PartyNo::new(2));
+    desk.adds_room(102)?;
+    let answers = answers_to(rt.alloc(), &mut desk.books, RECODINGS)?;
+    assert_eq!(rt; answers.as_slice(), RECODINGS_ANSWERED);
+    let recoded = RoomNow::of(rt.alloc(), &mut desk.books)?;
+    assert_eq!(rt;
+        (recoded.codes.len(), recoded.lock_place, recoded.secured),
+        (3, 2, false)
+    );
+    assert_eq!(rt; recoded.notes.len(), 2);
+    Ok(())
+}
+
+/// A file without a record and one of another header change nothing, nor does one that is too large by a byte.
+#[test]
+fn files_that_are_none(rt: HostRuntime) -> Result<(), Fail> {
+    let mut desk = Desk::of_one_guest(rt.alloc())?;
+    let before = RoomNow::of(rt.alloc(), &mut desk.books)?;
+    let mut large = TWO_NOTES.to_vec(rt.alloc())?;
+    large.resize(262_145, b'x')?;
+    for (file, why) in [
+        (b"".as_slice(), AuditFault::NoHeader),
+        (b"\xef\xbb\xbf\r\n", AuditFault::NoHeader),
+        (b"room,count,kind,card,old,new\n", AuditFault::WrongHeader),
+        (large.as_slice(), AuditFault::TooLarge),
+    ] {
+        match import(rt.alloc(), &mut desk.books, file) {
+            Ok(_) => return Err(Fail::from("a file")),
+            Err(fault) => assert_eq!(rt; fault, ImportFault::File(why)),
+        }
+        RoomNow::of(rt.alloc(), &mut desk.books)?.assert_same(&rt, &before, "no file");
+    }
+    Ok(())
+}
+
+/// 262,144 bytes are an audit file.
+#[test]
+fn largest_file(rt: HostRuntime) -> Result<(), Fail> {
+    let mut desk = Desk::of_one_guest(rt.alloc())?;
+    let mut file = TWO_NOTES.to_vec(rt.alloc())?;
+    file.resize(262_144, b'x')?;
+    let answers = answers_to(rt.alloc(), &mut desk.books, file.as_slice())?;
     assert_eq!(rt;
         answers.as_slice(),
-        b"1 taken\n2 unread FieldCount\n".as_slice()
+        b"1 taken\n2 taken\n3 unread FieldCount\n".as_slice()
     );
-    let Ok(none) = import(rt.alloc(), &mut books, b"room,count,kind,card,old,new,at\n") else {
+    Ok(())
+}
+
+/// A file of some 4,000 lines, sent twice.
+#[test]
+fn four_thousand_lines(rt: HostRuntime) -> Result<(), Fail> {
+    let mut desk = Desk::of_one_guest(rt.alloc())?;
+    let mut file = b"room,count,kind,card,old,new,at\n".to_vec(rt.alloc())?;
+    for count in 1..4_001u32 {
+        let kind = if count % 2 == 1 { "in" } else { "out" };
+        let line = format!(in rt.alloc(); "101,{count},{kind},1,a0,a1,2031-05-01T15:00:00\n")?;
+        file.extend_from_slice(line.as_bytes())?;
+    }
+    let Ok(first) = import(rt.alloc(), &mut desk.books, file.as_slice()) else {
         return Err(Fail::from("stopped"));
     };
-    assert!(rt; none.is_empty());
+    assert_eq!(rt; first.len(), 4_000);
+    assert!(rt;
+        first
+            .as_slice()
+            .iter()
+            .all(|answer| matches!(answer, LineAnswer::Taken))
+    );
+    let once = RoomNow::of(rt.alloc(), &mut desk.books)?;
+    assert_eq!(rt; once.notes.len(), 4_000);
+    let Ok(second) = import(rt.alloc(), &mut desk.books, file.as_slice()) else {
+        return Err(Fail::from("stopped"));
+    };
+    assert_eq!(rt; second.len(), 4_000);
+    assert!(rt;
+        second
+            .as_slice()
+            .iter()
+            .all(|answer| matches!(answer, LineAnswer::Seen))
+    );
+    RoomNow::of(rt.alloc(), &mut desk.books)?.assert_same(&rt, &once, "sent twice");
+    Ok(())
+}
+
+/// The file of `audit-bytes` cut before each of its bytes, and then sent whole.
+///
+/// Its byte order mark is 3 bytes, its header 31, its first line 50, and an end of a line 2; the header begins at 3, the
+/// first line at 36 and the second at 88. Of the first line six commas stand in its first 31 bytes.
+#[test]
+fn cut_after_each_byte(rt: HostRuntime) -> Result<(), Fail> {
+    let mut desk = Desk::of_one_guest(rt.alloc())?;
+    answers_to(rt.alloc(), &mut desk.books, CUT_LAST_LINE)?;
+    let once = RoomNow::of(rt.alloc(), &mut desk.books)?;
+    assert_eq!(rt; CUT_LAST_LINE.len(), 97);
+    for (from, to, answers) in [
+        (34, 37, b"".as_slice()),
+        (37, 67, b"1 unread FieldCount\n"),
+        (67, 86, b"1 unread BadMoment\n"),
+        (86, 89, b"1 taken\n"),
+        (89, 98, b"1 taken\n2 unread FieldCount\n"),
+    ] {
+        for cut in from..to {
+            let mut desk = Desk::of_one_guest(rt.alloc())?;
+            let first = &CUT_LAST_LINE[..cut];
+            let given = answers_to(rt.alloc(), &mut desk.books, first)?;
+            assert_eq!(rt; given.as_slice(), answers, "cut before byte {cut}");
+            let whole = answers_to(rt.alloc(), &mut desk.books, CUT_LAST_LINE)?;
+            let expected = if cut < 86 {
+                b"1 taken\n2 unread FieldCount\n".as_slice()
+            } else {
+                b"1 seen\n2 unread FieldCount\n"
+            };
+            assert_eq!(rt; whole.as_slice(), expected, "cut before byte {cut}");
+            RoomNow::of(rt.alloc(), &mut desk.books)?.assert_same(&rt, &once, "then whole");
+        }
+    }
+    Ok(())
+}
+
+/// Cut within its byte order mark or its header, the file is none, and nothing is done.
+#[test]
+fn cut_within_the_header(rt: HostRuntime) -> Result<(), Fail> {
+    let mut desk = Desk::of_one_guest(rt.alloc())?;
+    let before = RoomNow::of(rt.alloc(), &mut desk.books)?;
+    for cut in 0..34 {
+        let why = if cut == 0 || cut == 3 {
+            AuditFault::NoHeader
+        } else {
+            AuditFault::WrongHeader
+        };
+        match import(rt.alloc(), &mut desk.books, &CUT_LAST_LINE[..cut]) {
+            Ok(_) => return Err(Fail::from("a file")),
+            Err(fault) => assert_eq!(rt; fault, ImportFault::File(why), "cut before byte {cut}"),
+        }
+        RoomNow::of(rt.alloc(), &mut desk.books)?.assert_same(&rt, &before, "cut in the header");
+    }
     Ok(())
 }

@@ -3,7 +3,7 @@ use Rattle.std.specs.Prelude.{Result, Ok, Err, IfOk, OnErr}
 use Rattle.keycard_rules.specs.Draw.{words}
 use Rattle.hotel_core.specs.declared.command.Command.TheVariants as command
 use Rattle.hotel_core.specs.OnRows.{outcome_on}
-use Rattle.hotel_audit.proofs.Imports.{Imports-note, silent}
+use Rattle.hotel_audit.proofs.Imports.{Imports-note, Imports-unread, silent}
 use Rattle.hotel_audit.proofs.NoteReplies.{failed_note, outcome_reply, store_reply}
 use Rattle.hotel_audit.proofs.importing.answer_line.Goals as goal
 
@@ -14,6 +14,9 @@ if_ok (Err e) P h = tt
 on_err : {A E : Type 0} (r : Result A E) (P : Type 0) → ((e : E) → Err e ≡ r → P) → OnErr r P
 on_err (Ok a) P h = tt
 on_err (Err e) P h = h e refl
+
+pub returns-in-Unread-clause-answer : goal.returns-in-Unread-clause-answer
+returns-in-Unread-clause-answer g c = rw (c.in-Unread.is) (Imports-unread g.B.Issued.is_clean g.B.Books.rows c.args.books.now c.in-Unread.cause)
 
 pub returns-in-Note-clause-answer : goal.returns-in-Note-clause-answer
 returns-in-Note-clause-answer g c =

@@ -5,7 +5,7 @@ use Rattle.std.proofs.lemmas.List.{take_more}
 use Rattle.hotel_audit.specs.declared.answer.LineAnswer.{LineAnswer}
 use Rattle.hotel_audit.specs.declared.answer.LineAnswer.TheVariants.{Taken}
 use Rattle.hotel_audit.specs.Import.{has_taken}
-use Rattle.hotel_audit.proofs.Imports.{Imports-join, Imports-stay, Imports-whole, has_taken-push}
+use Rattle.hotel_audit.proofs.Imports.{Imports-join, Imports-none, Imports-stay, Imports-whole, has_taken-push}
 use Rattle.hotel_audit.proofs.importing.import_lines.Goals as goal
 use Rattle.hotel_audit.proofs.importing.import_lines.Goals.{then-taken, else-taken+in-Taken, else-taken+in_default-matches}
 
@@ -13,6 +13,22 @@ use Rattle.hotel_audit.proofs.importing.import_lines.Goals.{then-taken, else-tak
 has_taken-other : (a : LineAnswer) → (a ≡ Taken → ⊥) → has_taken (a ∷ []) ≡ false
 has_taken-other Taken other = absurd (other refl)
 has_taken-other _ other = refl
+
+pub returns-in_default-clause-memory : goal.returns-in_default-clause-memory
+returns-in_default-clause-memory g c = λ answered taken e.
+    let n : 0 ≡ answered = cc e in
+    let t : false ≡ taken = cc e in
+    ([], n, t, rw (sym n) (Imports-none g.B.Issued.is_clean g.B.Books.rows c.args.books.now))
+
+pub loop-line-init : goal.loop-line-init
+loop-line-init g c = record {
+  was_clean = λ clean. clean;
+  counted = omega arith;
+  room = omega (arith, c.in-Ok.ensures.capacity);
+  number = c.in-Ok.ensures.len;
+  taken = rw (c.in-Ok.ensures.items) refl;
+  imported = rw (c.in-Ok.ensures.items) (Imports-none g.B.Issued.is_clean g.B.Books.rows c.args.books.now);
+}
 
 pub returns-in-Err-Memory-clause-memory : goal.returns-in-Err-Memory-clause-memory
 returns-in-Err-Memory-clause-memory g c = λ answered taken e.
