@@ -3,3 +3,7 @@ mod NoteReplies
 mod Imports
 mod NotesKnown
 mod SentAgain
+mod NoteOutcomes
+mod OtherRooms
+mod IdleNotes
+mod SentAtOnce

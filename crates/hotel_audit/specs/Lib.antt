@@ -6,3 +6,5 @@ pub mod Readings
 pub mod Answers
 pub mod Import
 pub mod SentAgain
+pub mod SentAtOnce
+pub mod FilesCounted

@@ -1,6 +1,7 @@
 //! Laws of audit files, which make no call.
 ghost use Rattle.hotel_audit.specs.Readings.{GivesFileRecords, HasOneReading};
 ghost use Rattle.hotel_audit.specs.SentAgain.{SeenAgain};
+ghost use Rattle.hotel_audit.specs.SentAtOnce.{SentAtOnce, StoppedAndSent};
 
 /// A reading of bytes as CSV gives the file's records, so that two readings of the same bytes are the same.
 pub fn records_of_bytes()
@@ -11,4 +12,14 @@ pub fn records_of_bytes()
 /// A file whose lines were all Taken or Seen changes nothing when it comes again, at any later time: each line is seen.
 pub fn seen_again()
     ensures { SeenAgain }
+{}
+
+/// A file in which no room's counts fall from one line to a later one changes nothing when it, or any front of it, comes again with no command between.
+pub fn sent_again_at_once()
+    ensures { SentAtOnce }
+{}
+
+/// Such a file comes to the same history, and so to the same tables, whether it is sent once or, after a front of its lines, whole again with no command between.
+pub fn stopped_and_sent_again()
+    ensures { StoppedAndSent }
 {}

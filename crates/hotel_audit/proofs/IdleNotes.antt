@@ -1,0 +1,149 @@
+-- Notes that would not be taken, and that they stay so.
+use Rattle.std.proofs.Common.{◌≡◌, ◌∙◌, ◌<◌, ◌≤◌, ℕ, zero, suc, Bool, true, false, List, [], ◌∷◌, ◌++◌, Some, None, inl, inr, length, drop, refl, ap, sym, subst, arith, length-append}
+use Rattle.std.specs.Prelude.{◌==◌, ◌+◌, ◌-◌}
+use Rattle.rand_core.specs.Stream.{Stream}
+use Rattle.keycard_rules.specs.Draw.{words}
+use Rattle.keycard_rules.specs.declared.note.Act.{Act}
+use Rattle.keycard_rules.specs.declared.note.Act.TheVariants as act
+use Rattle.keycard_rules.specs.Note.{Note}
+use Rattle.hotel_core.specs.declared.command.Command.TheVariants as command
+use Rattle.hotel_core.specs.declared.reply.Reply.{Reply}
+use Rattle.hotel_core.specs.declared.reply.Reply.TheVariants as reply
+use Rattle.hotel_core.specs.declared.reply.Refusal.TheVariants.{NotBegun, NoRoom}
+use Rattle.hotel_core.specs.Answer.{answer_to, reported}
+use Rattle.hotel_core.specs.Cases.{is_begun, is_room}
+use Rattle.hotel_core.specs.Event.{Event, note_of}
+use Rattle.hotel_core.specs.History.{History, ◌▷◌}
+use Rattle.hotel_core.specs.Notes.{notes, same_note, standing_among, with_note}
+use Rattle.hotel_core.specs.Outcome.{Outcome, grown, needs}
+use Rattle.hotel_core.specs.Run.{Runs, StepsIf}
+use Rattle.hotel_core.specs.Words.{and_last, when}
+use Rattle.hotel_core.proofs.Tests.{eq_from, eq_self}
+use Rattle.hotel_audit.specs.declared.answer.LineAnswer.{LineAnswer}
+use Rattle.hotel_audit.specs.declared.answer.LineAnswer.TheVariants.{Taken, Seen, Unread, Refused}
+use Rattle.hotel_audit.specs.declared.line.Line.{Line}
+use Rattle.hotel_audit.specs.declared.line.Line.TheVariants as line
+use Rattle.hotel_audit.specs.FilesCounted.{event_by, event_of}
+use Rattle.hotel_audit.specs.Import.{AreAnswered, commands_of, replies_in}
+use Rattle.hotel_audit.specs.SentAtOnce.{CountsDoNotFall, NoneLower}
+use Rattle.hotel_audit.proofs.NoteOutcomes.{IsIdle, idle_beside, idle_checked, note_outcome, same_words}
+use Rattle.hotel_audit.proofs.OtherRooms.{answered_same, other_room}
+
+-- what comes of a note
+abbrev pub outcome_of : History → Note → Outcome Event
+outcome_of h note = answer_to h [] (command.Reported note)
+
+-- the history after a note
+abbrev pub after_note : History → Note → History
+after_note h note = grown h (outcome_of h note).happens
+
+-- the history after the notes of some lines
+abbrev pub after_lines : History → List Line → History
+after_lines h [] = h
+after_lines h (line.Note note ∷ lines) = after_lines (after_note h note) lines
+after_lines h (line.Unread cause ∷ lines) = after_lines h lines
+
+pub after_lines-append : (h : History) (front rest : List Line) → after_lines h (front ++ rest) ≡ after_lines (after_lines h front) rest
+after_lines-append h [] rest = refl
+after_lines-append h (line.Note note ∷ front) rest = after_lines-append (after_note h note) front rest
+after_lines-append h (line.Unread cause ∷ front) rest = after_lines-append h front rest
+
+stepped : (h : History) (s : Stream) (note : Note) (given : Reply) (h' : History) (s' : Stream) → StepsIf false h s (command.Reported note) given h' s' → h' ≡ after_note h note
+stepped h s note given h' s' d = d.1 ∙ ap (λ (o : Outcome Event). grown h o.happens) (same_words h (words 64 s) note)
+
+-- lines lead to the history after their notes
+pub lead_to : (h h' : History) (s s' : Stream) (lines : List Line) (answers : List LineAnswer) → AreAnswered lines answers → Runs h s (commands_of lines) (replies_in answers) h' s' → h' ≡ after_lines h lines
+lead_to h h' s s' [] [] each r = r.0
+lead_to h h' s s' (line.Note note ∷ lines) (Taken ∷ answers) each r =
+    lead_to r.0 h' r.1 s' lines answers each.1 r.3 ∙ ap (λ z. after_lines z lines) (stepped h s note reply.Taken r.0 r.1 r.2)
+lead_to h h' s s' (line.Note note ∷ lines) (Seen ∷ answers) each r =
+    lead_to r.0 h' r.1 s' lines answers each.1 r.3 ∙ ap (λ z. after_lines z lines) (stepped h s note reply.Seen r.0 r.1 r.2)
+lead_to h h' s s' (line.Note note ∷ lines) (Unread cause ∷ answers) each r = absurd each.0
+lead_to h h' s s' (line.Note note ∷ lines) (Refused why ∷ answers) each r =
+    let step = subst (λ b. StepsIf b h s (command.Reported note) (reply.Refused why) r.0 r.1) each.0 r.2 in
+    lead_to r.0 h' r.1 s' lines answers each.1 r.3 ∙ ap (λ z. after_lines z lines) (stepped h s note (reply.Refused why) r.0 r.1 step)
+lead_to h h' s s' (line.Unread cause ∷ lines) (a ∷ answers) each r =
+    lead_to h h' s s' lines answers each.1 (subst (λ x. Runs h s (commands_of lines) (replies_in (x ∷ answers)) h' s') each.0 r)
+lead_to h h' s s' [] (a ∷ answers) each r = absurd each
+lead_to h h' s s' (line.Note note ∷ lines) [] each r = absurd each
+lead_to h h' s s' (line.Unread cause ∷ lines) [] each r = absurd each
+
+-- the note would not be taken
+abbrev pub Idle : History → Note → Type 0
+Idle h note = (outcome_of h note).happens ≡ None
+
+below : (k taken : ℕ) (h : History) (note : Note) (xs : List Note) → k < length xs → IsIdle (reported h note (standing_among taken note (drop k xs)))
+below k taken h note [] l = absurd (omega (arith, l))
+below zero taken h note (x ∷ xs) l = idle_beside (same_note x note) h note
+below (suc k) taken h note (x ∷ xs) l = below k taken h note xs (omega (arith, l))
+
+-- a note whose count is one that its room has would not be taken
+idle_below : (h : History) (note : Note) → note.count - 1 < length (notes h note.room) → Idle h note
+unfolding answer_to
+idle_below h note l =
+    let among = standing_among (length (notes h note.room)) note (drop (note.count - 1) (notes h note.room)) in
+    (idle_checked (needs (is_begun h) NotBegun ∷ needs (is_room h note.room) NoRoom ∷ []) (reported h note among) (below (note.count - 1) (length (notes h note.room)) h note (notes h note.room) l)).0
+
+noted_by : (note : Note) (what : Act) → what ≡ note.act → note_of (event_by note what) ≡ Some note
+noted_by note (act.Entered number link) w = ap (λ a. Some (record note { act = a })) w
+noted_by note (act.Left number link) w = ap (λ a. Some (record note { act = a })) w
+noted_by note (act.Recoded from to) w = ap (λ a. Some (record note { act = a })) w
+
+-- the event of a note takes that note
+pub noted : (note : Note) → note_of (event_of note) ≡ Some note
+noted note = noted_by note note.act refl
+
+-- after the next note of its room was taken, a note of no higher count would not be
+idle_here : (h : History) (later note : Note) → later.room ≡ note.room → note.count ≤ later.count → later.count ≡ length (notes h later.room) + 1 → Idle (h ▷ event_of later) note
+idle_here h later note same low next = idle_below (h ▷ event_of later) note long
+  where
+    now : notes (h ▷ event_of later) note.room ≡ notes h note.room ++ later ∷ []
+    now = ap (λ o. with_note note.room o (notes h note.room)) (noted later) ∙ ap (λ b. when b (and_last later) (notes h note.room)) (ap (λ z. z == note.room) same ∙ eq_self note.room)
+
+    long : note.count - 1 < length (notes (h ▷ event_of later) note.room)
+    long = omega (arith, ap (λ (zs : List Note). length zs) now, length-append (notes h note.room) (later ∷ []), low, next, ap (λ z. length (notes h z)) same)
+
+idle_after : (h : History) (later note : Note) → (later.room ≡ note.room → note.count ≤ later.count) → later.count ≡ length (notes h later.room) + 1 → Idle h note → Idle (h ▷ event_of later) note
+idle_after h later note low next i = by (later.room == note.room) refl
+  where
+    by : (b : Bool) → (later.room == note.room) ≡ b → Idle (h ▷ event_of later) note
+    by true q = let same = eq_from later.room note.room q in idle_here h later note same (low same) next
+    by false q = ap (λ (o : Outcome Event). o.happens) (answered_same h (h ▷ event_of later) [] note (other_room h later note.room q)) ∙ i
+
+idle_step : (h : History) (later note : Note) → (later.room ≡ note.room → note.count ≤ later.count) → Idle h note → Idle (after_note h later) note
+idle_step h later note low i =
+    elim (note_outcome h [] later) [
+      | inl t ↦ subst (λ o. Idle (grown h o) note) (sym t.1) (idle_after h later note low t.2 i)
+      | inr n ↦ subst (λ o. Idle (grown h o) note) (sym n.0) i
+    ]
+
+-- after its own step a note would not be taken
+idle_own : (h : History) (note : Note) → Idle (after_note h note) note
+idle_own h note =
+    elim (note_outcome h [] note) [
+      | inl t ↦ subst (λ o. Idle (grown h o) note) (sym t.1) (idle_here h note note refl (omega arith) t.2)
+      | inr n ↦ subst (λ o. Idle (grown h o) note) (sym n.0) n.0
+    ]
+
+idle_along : (h : History) (note : Note) (lines : List Line) → NoneLower note lines → Idle h note → Idle (after_lines h lines) note
+idle_along h note [] low i = i
+idle_along h note (line.Note later ∷ lines) low i = idle_along (after_note h later) note lines low.1 (idle_step h later note low.0 i)
+idle_along h note (line.Unread cause ∷ lines) low i = idle_along h note lines low i
+
+-- no note of the lines would be taken
+abbrev pub AreIdle : History → List Line → Type 0
+AreIdle h [] = Unit {0}
+AreIdle h (line.Note note ∷ lines) = Idle h note × AreIdle h lines
+AreIdle h (line.Unread cause ∷ lines) = AreIdle h lines
+
+-- after lines in which no room's counts fall, no note of them would be taken
+pub all_idle : (h : History) (lines : List Line) → CountsDoNotFall lines → AreIdle (after_lines h lines) lines
+all_idle h [] c = tt
+all_idle h (line.Note note ∷ lines) c = (idle_along (after_note h note) note lines c.0 (idle_own h note), all_idle (after_note h note) lines c.1)
+all_idle h (line.Unread cause ∷ lines) c = all_idle h lines c
+
+-- such lines change nothing
+pub still : (h : History) (lines : List Line) → AreIdle h lines → after_lines h lines ≡ h
+still h [] i = refl
+still h (line.Note note ∷ lines) i = let same : after_note h note ≡ h = ap (grown h) i.0 in ap (λ z. after_lines z lines) same ∙ still h lines i.1
+still h (line.Unread cause ∷ lines) i = still h lines i
