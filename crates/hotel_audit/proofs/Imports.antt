@@ -9,10 +9,8 @@ use Rattle.hotel_core.specs.declared.reply.Reply.TheVariants as reply
 use Rattle.hotel_core.specs.History.{History}
 use Rattle.hotel_core.specs.Rows.{Rows}
 use Rattle.hotel_core.specs.Run.{StandsFor, Steps}
-use Rattle.hotel_core.specs.StepOnRows.{AreWhole}
 use Rattle.hotel_core.proofs.Assurance.{assured}
 use Rattle.hotel_core.proofs.Runs.{runs_join}
-use Rattle.hotel_core.proofs.Whole.{rows_are_whole}
 use Rattle.hotel_audit.specs.declared.answer.LineAnswer.{LineAnswer}
 use Rattle.hotel_audit.specs.declared.answer.LineAnswer.TheVariants as answer
 use Rattle.hotel_audit.specs.declared.line.Cause.{Cause}
@@ -101,10 +99,3 @@ Imports-stay is_clean rows old mid new lines answers back same first = record {
 -- a source that answers 0 always
 pub silent : Stream
 silent = record { u32_after = λ calls. 0; u64_after = λ calls. 0; bytes_after = λ calls n. [] }
-
--- the rows after lines are whole
-pub Imports-whole : {S : Type 0} (is_clean : S → Type 0) (rows : S → Rows) (old mid : S) (lines : List Line) (answers : List LineAnswer) (h : History) → Imports is_clean rows old mid lines answers
-    → StandsFor h (rows old) → is_clean mid → AreWhole (rows mid)
-Imports-whole is_clean rows old mid lines answers h first stands clean =
-    let r = first.run h stands clean silent in
-    rows_are_whole r.0 (rows mid) r.1

@@ -25,11 +25,12 @@ use Rattle.hotel_core.specs.Notes.{same_note}
 use Rattle.hotel_core.specs.OnRows.{outcome_on, reported_on, told_on, checks_on, has_link_on, held_on, place_on, lock_place_on, secured_on, secured_after_on, is_awaited_on}
 use Rattle.hotel_core.specs.Outcome.{Outcome, accepted, needs, refused, said, unless}
 use Rattle.hotel_core.specs.Run.{is_failed}
+use Rattle.hotel_core.specs.Failures.{failure_in}
 use Rattle.hotel_core.specs.StepOnRows as step
 use Rattle.hotel_audit.specs.declared.answer.LineAnswer.{LineAnswer}
 use Rattle.hotel_audit.specs.declared.answer.LineAnswer.TheVariants.{Taken, Seen, Refused}
 use Rattle.hotel_audit.specs.declared.line.Line.TheVariants as line
-use Rattle.hotel_audit.specs.Import.{IsAnswerTo, answer_of, failed_by, replies_in}
+use Rattle.hotel_audit.specs.Import.{IsAnswerTo, answer_of, failed_by, refusal_by, replies_in}
 
 -- a reply that a note may be given
 abbrev pub IsNoteReply : Reply → Type 0
@@ -108,16 +109,8 @@ failed_note given why o rows later source rest e n g = by (is_failed given) refl
         let failed = failed_reply given why e (subst (λ r. IsNoteReply r) (sym went.0) n) in
         cc (q, failed)
 
-failed_by-store : (why : Refusal) → failed_by why ≡ look.Store → is_failed (reply.Refused why) ≡ true → why ≡ refusal.Store
-failed_by-store refusal.Store e f = refl
-failed_by-store refusal.Memory e f = cc e
-failed_by-store _ e f = cc f
-
--- where the store is said to have failed, the reply says so
-pub store_reply : (given : Reply) → Err look.Store ≡ answer_of given → is_failed given ≡ true → given ≡ reply.Refused refusal.Store
-store_reply (reply.Refused why) e f =
-    let g = rw f at e in
-    let same : failed_by why ≡ look.Store = cc g in
-    let store = failed_by-store why same f in
-    rw store refl
-store_reply _ e f = cc f
+-- the failure that is told is the one that the reply tells
+pub failure_told : (given : Reply) (why : LookFault) → Err why ≡ answer_of given → is_failed given ≡ true → failure_in given false ≡ refusal_by why ∷ []
+failure_told (reply.Refused refusal.Memory) why e f = let same : why ≡ look.Memory = cc e in rw same refl
+failure_told (reply.Refused refusal.Store) why e f = let same : why ≡ look.Store = cc e in rw same refl
+failure_told _ why e f = cc f

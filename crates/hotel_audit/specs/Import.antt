@@ -83,17 +83,16 @@ StopsImport is_clean rows bytes old new (File why) = (new ≡ old) × ((why ≡ 
 StopsImport is_clean rows bytes old new (Memory answered taken) = (lines : List Line) × (audit_lines bytes ≡ Ok lines) × ImportsSome is_clean rows lines old new answered taken
 StopsImport is_clean rows bytes old new (Store answered taken) = (lines : List Line) × (audit_lines bytes ≡ Ok lines) × ImportsSome is_clean rows lines old new answered taken
 
--- the store failed
-abbrev pub is_store : ImportFault → Bool
-is_store (Store answered taken) = true
-is_store (Memory answered taken) = false
-is_store (File why) = false
+-- The failure that stopped the import, where the books counted it: the store's, and want of memory after the first line. That there was no memory for the file or for its answers isn't counted.
+abbrev pub failures_of : ImportFault → List Refusal
+failures_of (Store answered taken) = refusal.Store ∷ []
+failures_of (Memory answered taken) = if nat_lt 0 answered then refusal.Memory ∷ [] else []
+failures_of (File why) = []
 
--- the books counted the failure: the store's, and want of memory after the first line
-abbrev pub is_counted : ImportFault → Bool
-is_counted (Store answered taken) = true
-is_counted (Memory answered taken) = nat_lt 0 answered
-is_counted (File why) = false
+-- the refusal that says which of the two failed
+abbrev pub refusal_by : LookFault → Refusal
+refusal_by look.Memory = refusal.Memory
+refusal_by look.Store = refusal.Store
 
 -- which of the two failed, by the refusal that says so
 abbrev pub failed_by : Refusal → LookFault

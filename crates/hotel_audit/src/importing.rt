@@ -1,12 +1,8 @@
 //! The import of an audit file into any books.
 ghost use Rattle.std.specs.Prelude.{◌≡◌, ◌≤◌, ℕ, [], ◌∷◌, true, IfOk, IfErr, OnErr, Err, Bool};
-ghost use Rattle.keycard_rules.specs.Rise.{HasRisen};
-ghost use Rattle.keycard_rules.specs.declared.issued.LookFault.TheVariants as look;
-ghost use Rattle.hotel_core.specs.History.{History};
-ghost use Rattle.hotel_core.specs.Run.{StandsFor};
-ghost use Rattle.hotel_core.specs.StepOnRows.{AreWhole};
+ghost use Rattle.hotel_core.specs.Failures.{AreCounted};
 ghost use Rattle.hotel_audit.specs.declared.audit_file.AuditFault.{AuditFault};
-ghost use Rattle.hotel_audit.specs.Import.{answer_of, Imports, ImportsFile, ImportsSome, StopsImport, is_counted, is_store};
+ghost use Rattle.hotel_audit.specs.Import.{answer_of, Imports, ImportsFile, ImportsSome, StopsImport, failures_of, refusal_by};
 
 use crate::answer::LineAnswer;
 use crate::audit_file::{AuditFault, read_notes};
@@ -46,8 +42,7 @@ const fn answer_of(reply: &Reply) -> Result<LineAnswer, LookFault>
 fn answer_line<B: Books>(books: &mut B, line: &Line) -> Result<LineAnswer, LookFault>
     ensures answer { IfOk result (λ answer. Imports B.is_clean B.rows books.old books.new (line.now ∷ []) (answer ∷ [])) }
     ensures unchanged { OnErr result (B.is_clean books.new → B.rows books.new ≡ B.rows books.old) }
-    ensures fault { OnErr result (B.is_clean books.new → AreWhole (B.rows books.old) → HasRisen (B.failures books.old) (B.failures books.new)) }
-    ensures no_store { B.never_fails → B.is_clean books.new → AreWhole (B.rows books.old) → result ≡ Err look.Store → ⊥ }
+    ensures failed { IfErr result (λ why. B.is_clean books.new → AreCounted B.never_fails (B.failures books.old) (B.failures books.new) (refusal_by why ∷ [])) }
     ensures was_clean { B.is_clean books.new → B.is_clean books.old }
     ensures counted { B.failures books.old ≤ B.failures books.new }
 {
@@ -67,8 +62,7 @@ fn import_lines<B: Books>(
     ensures memory { (answered : ℕ) (taken : Bool) → result ≡ Err (ImportFault.Memory answered taken) → ImportsSome B.is_clean B.rows lines.now books.old books.new answered taken }
     ensures store { (answered : ℕ) (taken : Bool) → result ≡ Err (ImportFault.Store answered taken) → ImportsSome B.is_clean B.rows lines.now books.old books.new answered taken }
     ensures file { (why : AuditFault) → result ≡ Err (ImportFault.File why) → ⊥ }
-    ensures fault { IfErr result (λ f. (h : History) → StandsFor h (B.rows books.old) → B.is_clean books.new → is_counted f ≡ true → HasRisen (B.failures books.old) (B.failures books.new)) }
-    ensures no_store { IfErr result (λ f. (h : History) → StandsFor h (B.rows books.old) → B.is_clean books.new → B.never_fails → is_store f ≡ true → ⊥) }
+    ensures failed { IfErr result (λ f. B.is_clean books.new → AreCounted B.never_fails (B.failures books.old) (B.failures books.new) (failures_of f)) }
     ensures was_clean { B.is_clean books.new → B.is_clean books.old }
     ensures counted { B.failures books.old ≤ B.failures books.new }
 {
@@ -105,8 +99,7 @@ pub fn import<B: Books>(
 ) -> Result<Vec<LineAnswer>, ImportFault>
     ensures imported { IfOk result (λ answers. ImportsFile B.is_clean B.rows bytes.now books.old books.new answers.items) }
     ensures stopped { IfErr result (λ f. StopsImport B.is_clean B.rows bytes.now books.old books.new f) }
-    ensures fault { IfErr result (λ f. (h : History) → StandsFor h (B.rows books.old) → B.is_clean books.new → is_counted f ≡ true → HasRisen (B.failures books.old) (B.failures books.new)) }
-    ensures no_store { IfErr result (λ f. (h : History) → StandsFor h (B.rows books.old) → B.is_clean books.new → B.never_fails → is_store f ≡ true → ⊥) }
+    ensures failed { IfErr result (λ f. B.is_clean books.new → AreCounted B.never_fails (B.failures books.old) (B.failures books.new) (failures_of f)) }
     ensures was_clean { B.is_clean books.new → B.is_clean books.old }
     ensures counted { B.failures books.old ≤ B.failures books.new }
 {

@@ -1,11 +1,12 @@
-use Rattle.std.proofs.Common.{◌≡◌, ◌∙◌, ◌+◌, false, [], ◌∷◌, ◌++◌, take, length, arith, sym, refl, ap}
+use Rattle.std.proofs.Common.{◌≡◌, ◌∙◌, ◌+◌, nat_lt, subst, false, [], ◌∷◌, ◌++◌, take, length, arith, sym, refl, ap}
 use Rattle.std.specs.Prelude.{◌||◌}
-use Rattle.hotel_core.proofs.Parts.{risen_later}
+use Rattle.hotel_core.specs.Failures.{AreCounted}
+use Rattle.hotel_core.proofs.FailuresCounted.{counted_after, counted_or_none}
 use Rattle.std.proofs.lemmas.List.{take_more}
 use Rattle.hotel_audit.specs.declared.answer.LineAnswer.{LineAnswer}
 use Rattle.hotel_audit.specs.declared.answer.LineAnswer.TheVariants.{Taken}
-use Rattle.hotel_audit.specs.Import.{has_taken}
-use Rattle.hotel_audit.proofs.Imports.{Imports-join, Imports-none, Imports-stay, Imports-whole, has_taken-push}
+use Rattle.hotel_audit.specs.Import.{has_taken, refusal_by}
+use Rattle.hotel_audit.proofs.Imports.{Imports-join, Imports-none, Imports-stay, has_taken-push}
 use Rattle.hotel_audit.proofs.importing.import_lines.Goals as goal
 use Rattle.hotel_audit.proofs.importing.import_lines.Goals.{then-taken, else-taken+in-Taken, else-taken+in_default-matches}
 
@@ -52,26 +53,17 @@ returns-in-Err-Store-clause-store g c = λ answered taken e.
     let count : length c.loop-line.answers.items ≡ answered = omega (arith, n, c.len-answered.ensures) in
     (c.loop-line.answers.items, count, sym inv.taken ∙ t, rw (sym at) stay)
 
-pub returns-in-Err-Memory-clause-fault : goal.returns-in-Err-Memory-clause-fault
-returns-in-Err-Memory-clause-fault g c = λ h stands clean same.
+pub returns-in-Err-Memory-clause-failed : goal.returns-in-Err-Memory-clause-failed
+returns-in-Err-Memory-clause-failed g c = λ clean.
     let inv = c.loop-line.invariant in
     let f = c.in-Err-Memory.ensures in
-    let whole = Imports-whole g.B.Issued.is_clean g.B.Books.rows c.args.books.now c.loop-line.books _ _ h inv.imported stands (f.was_clean clean) in
-    risen_later _ _ _ inv.counted (f.fault clean whole) f.counted
+    counted_or_none _ _ _ (nat_lt 0 c.len-answered.result) _ (omega (arith, inv.counted, f.counted)) (counted_after _ _ _ _ _ inv.counted (subst (λ why. AreCounted g.B.Issued.never_fails (g.B.Issued.failures c.loop-line.books) (g.B.Issued.failures c.answer_line.new.books) (refusal_by why ∷ [])) c.in-Err-Memory.field-0-is (f.failed clean)))
 
-pub returns-in-Err-Store-clause-fault : goal.returns-in-Err-Store-clause-fault
-returns-in-Err-Store-clause-fault g c = λ h stands clean same.
+pub returns-in-Err-Store-clause-failed : goal.returns-in-Err-Store-clause-failed
+returns-in-Err-Store-clause-failed g c = λ clean.
     let inv = c.loop-line.invariant in
     let f = c.in-Err-Store.ensures in
-    let whole = Imports-whole g.B.Issued.is_clean g.B.Books.rows c.args.books.now c.loop-line.books _ _ h inv.imported stands (f.was_clean clean) in
-    risen_later _ _ _ inv.counted (f.fault clean whole) f.counted
-
-pub returns-in-Err-Store-clause-no_store : goal.returns-in-Err-Store-clause-no_store
-returns-in-Err-Store-clause-no_store g c = λ h stands clean never same.
-    let inv = c.loop-line.invariant in
-    let f = c.in-Err-Store.ensures in
-    let whole = Imports-whole g.B.Issued.is_clean g.B.Books.rows c.args.books.now c.loop-line.books _ _ h inv.imported stands (f.was_clean clean) in
-    f.no_store never clean whole (rw c.in-Err-Store.field-0-is refl)
+    counted_after _ _ _ _ _ inv.counted (subst (λ why. AreCounted g.B.Issued.never_fails (g.B.Issued.failures c.loop-line.books) (g.B.Issued.failures c.answer_line.new.books) (refusal_by why ∷ [])) c.in-Err-Store.field-0-is (f.failed clean))
 
 pub loop-line-preserved : goal.loop-line-preserved
 loop-line-preserved g c =
