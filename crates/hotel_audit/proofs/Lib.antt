@@ -7,3 +7,5 @@ mod NoteOutcomes
 mod OtherRooms
 mod IdleNotes
 mod SentAtOnce
+mod NotesInRange
+mod FilesCounted

@@ -1,5 +1,6 @@
 -- What a list of files does: each room's notes have the counts 1, 2 and so on, however the files were cut.
-use Rattle.std.specs.Prelude.{◌≡◌, List, [], ◌∷◌, ◌++◌}
+use Rattle.std.specs.Prelude.{ℕ, ◌≡◌, ◌≤◌, ◌-◌, List, [], ◌∷◌, ◌++◌, length, map, Ok}
+use Rattle.std.specs.List.{range_with_len, slice_get}
 use Rattle.rand_core.specs.Stream.{Stream}
 use Rattle.keycard_rules.specs.Note.{Note}
 use Rattle.keycard_rules.specs.declared.note.Act.{Act}
@@ -7,10 +8,15 @@ use Rattle.keycard_rules.specs.declared.note.Act.TheVariants as act
 use Rattle.hotel_core.specs.Answer.{moment_of}
 use Rattle.hotel_core.specs.Event.{Event, Entered, Left, Recoded}
 use Rattle.hotel_core.specs.History.{History, ◌▷◌}
+use Rattle.hotel_core.specs.Lookups.{note_at}
+use Rattle.hotel_core.specs.Notes.{notes}
+use Rattle.hotel_core.specs.RowsOf.{rows_of}
+use Rattle.hotel_core.specs.Run.{Reached}
 use Rattle.hotel_audit.specs.declared.answer.LineAnswer.{LineAnswer}
 use Rattle.hotel_audit.specs.declared.answer.LineAnswer.TheVariants.{Taken}
 use Rattle.hotel_audit.specs.declared.line.Line.{Line}
 use Rattle.hotel_audit.specs.declared.line.Line.TheVariants as line
+use Rattle.hotel_audit.specs.AuditFile.{audit_lines}
 use Rattle.hotel_audit.specs.SentAgain.{LinesLead}
 
 -- what happened by a note with this act
@@ -34,17 +40,35 @@ abbrev pub followed_by : History → List Event → History
 followed_by h [] = h
 followed_by h (event ∷ events) = followed_by (h ▷ event) events
 
--- a file's lines and their answers
+-- a file, the lines that were answered, and their answers
 pub record AnsweredFile : Type 0 where
+  pub bytes : List ℕ
   pub lines : List Line
   pub answers : List LineAnswer
+
+-- The lines that were answered are the file's, or a front of them where the import was stopped.
+abbrev pub IsFront : AnsweredFile → Type 0
+IsFront file = (rest : List Line) × (audit_lines file.bytes ≡ Ok (file.lines ++ rest))
 
 -- The files, one after the other, lead from a history to that at the end.
 abbrev pub FilesLead : History → List AnsweredFile → History → Type 0
 FilesLead h [] h' = h' ≡ h
-FilesLead h (file ∷ files) h' = (mid : History) × (s s' : Stream) × LinesLead h s file.lines file.answers mid s' × FilesLead mid files h'
+FilesLead h (file ∷ files) h' = IsFront file × (mid : History) × (s s' : Stream) × LinesLead h s file.lines file.answers mid s' × FilesLead mid files h'
 
 -- the events of all files' notes that were answered Taken, in order
 abbrev pub all_events_taken : List AnsweredFile → List Event
 all_events_taken [] = []
 all_events_taken (file ∷ files) = events_taken file.lines file.answers ++ all_events_taken files
+
+-- Each room's notes have the counts 1, 2 and so on, each once, and the table of notes has the note of each count, and none above.
+abbrev pub AreCounted : History → Type 0
+AreCounted h = (r : ℕ) → (map (λ note. note.count) (notes h r) ≡ range_with_len 1 (length (notes h r)))
+    × ((count : ℕ) → 1 ≤ count → note_at (rows_of h) r count ≡ slice_get (notes h r) (count - 1))
+
+-- Any files, cut, overlapping or repeated, lead to the history before them and then the events of the notes that were taken, and the notes are counted.
+abbrev pub FilesCounted : Type 0
+FilesCounted = (h h' : History) (files : List AnsweredFile) → Reached h → FilesLead h files h' → Reached h' × (h' ≡ followed_by h (all_events_taken files)) × AreCounted h'
+
+-- The notes are counted after whatever was done at the desk.
+abbrev pub NotesCounted : Type 0
+NotesCounted = (h : History) → Reached h → AreCounted h

@@ -1,4 +1,5 @@
 //! Laws of audit files, which make no call.
+ghost use Rattle.hotel_audit.specs.FilesCounted.{FilesCounted, NotesCounted};
 ghost use Rattle.hotel_audit.specs.Readings.{GivesFileRecords, HasOneReading};
 ghost use Rattle.hotel_audit.specs.SentAgain.{SeenAgain};
 ghost use Rattle.hotel_audit.specs.SentAtOnce.{SentAtOnce, StoppedAndSent};
@@ -22,4 +23,12 @@ pub fn sent_again_at_once()
 /// Such a file comes to the same history, and so to the same tables, whether it is sent once or, after a front of its lines, whole again with no command between.
 pub fn stopped_and_sent_again()
     ensures { StoppedAndSent }
+{}
+
+/// However the notes come, in files that are cut, overlap or repeat, each room's are taken with the counts 1, 2 and so on, each once.
+///
+/// The history is then the one before the files and the events of the notes that were answered Taken, in order, so that the tables are those of these events.
+pub fn files_counted()
+    ensures of_files { FilesCounted }
+    ensures of_histories { NotesCounted }
 {}

@@ -13,7 +13,9 @@ mod texts;
 pub use answer::LineAnswer;
 pub use audit_file::{AuditFault, read_notes};
 pub use importing::{ImportFault, import};
-pub use laws::{records_of_bytes, seen_again, sent_again_at_once, stopped_and_sent_again};
+pub use laws::{
+    files_counted, records_of_bytes, seen_again, sent_again_at_once, stopped_and_sent_again,
+};
 pub use line::{Cause, Line};
 pub use texts::{AnswerText, answer_text};
 

@@ -1,0 +1,8 @@
+use Rattle.hotel_audit.proofs.FilesCounted.{files_counted, notes_counted}
+use Rattle.hotel_audit.proofs.laws.files_counted.Goals as goal
+
+pub returns-clause-of_files : goal.returns-clause-of_files
+returns-clause-of_files c = files_counted
+
+pub returns-clause-of_histories : goal.returns-clause-of_histories
+returns-clause-of_histories c = notes_counted
