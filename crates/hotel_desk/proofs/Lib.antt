@@ -2,4 +2,5 @@ pub mod ReturnLemmas
 pub mod WordLemmas
 pub mod ScriptLemmas
 pub mod ListAnswerLemmas
+pub mod ListRunLemmas
 pub mod ScriptRunLemmas

@@ -10,6 +10,9 @@ pub mod LineAnswers
 pub mod Script
 pub mod ScriptRun
 pub mod Program
+pub mod Statuses
+pub mod Faults
+pub mod ListRuns
 pub mod Tests
 pub mod Scenes
 pub mod SceneAuditGapConflict

@@ -3,15 +3,18 @@
 
 mod asks;
 mod commands;
+mod faults;
 mod line_answers;
 mod line_values;
 mod lines;
 mod list_answers;
 mod list_asks;
+mod list_runs;
 mod program;
 mod scenes;
 mod script;
 mod script_run;
+mod statuses;
 mod values;
 mod verb;
 mod words;
