@@ -3,4 +3,5 @@ pub mod WordLemmas
 pub mod ScriptLemmas
 pub mod ListAnswerLemmas
 pub mod ListRunLemmas
+pub mod AuditRunLemmas
 pub mod ScriptRunLemmas

@@ -13,6 +13,7 @@ pub mod Program
 pub mod Statuses
 pub mod Faults
 pub mod ListRuns
+pub mod AuditRuns
 pub mod Tests
 pub mod Scenes
 pub mod SceneAuditGapConflict

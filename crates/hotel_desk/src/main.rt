@@ -2,6 +2,7 @@
 #![tactic(auto)]
 
 mod asks;
+mod audit_runs;
 mod commands;
 mod faults;
 mod line_answers;
