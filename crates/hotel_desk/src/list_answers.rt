@@ -9,18 +9,19 @@ ghost use Rattle.hotel_desk.specs.ListAnswers.{WritesAnswer, WritesList, refusal
 use crate::list_asks::ListAsk;
 use hotel_core::{Refusal, Reply, Walks, reply_text};
 use hotel_lists::{
-    Interruptions, ListFault, WriteFailed, arrivals, audit_of, chain_of, in_house, left_behind,
-    write_bytes,
+    Interruptions, ListFault, WriteFailed, write_arrivals, write_audit_of, write_bytes,
+    write_chain_of, write_in_house, write_left_behind,
 };
 use std::alloc::Global;
 use std::io::Write;
 
-/// Writes the text of a list.
+/// Writes the text of a list. Its interrupted writes are added to the count of the call.
 pub(crate) fn write_list<W: Write, B: Walks>(
     alloc: Global,
     list: &ListAsk,
     writer: &mut W,
     books: &mut B,
+    interruptions: &mut Interruptions,
 ) -> Result<(), ListFault>
     ensures text { B.is_clean books.new → WritesList (B.rows books.old) list.now (W.contents writer.old) (W.contents writer.new) result }
     ensures kept { B.is_clean books.new → B.is_kept books.old books.new }
@@ -28,11 +29,11 @@ pub(crate) fn write_list<W: Write, B: Walks>(
     ensures books { LooksAt B.is_clean B.is_kept B.failures B.never_fails books.old books.new result }
 {
     match list {
-        ListAsk::Arrivals(day) => arrivals(alloc, books, *day, writer),
-        ListAsk::InHouse => in_house(alloc, books, writer),
-        ListAsk::ChainOf(room) => chain_of(alloc, books, *room, writer),
-        ListAsk::LeftBehind => left_behind(alloc, books, writer),
-        ListAsk::AuditOf(room) => audit_of(alloc, books, *room, writer),
+        ListAsk::Arrivals(day) => write_arrivals(alloc, books, *day, writer, interruptions),
+        ListAsk::InHouse => write_in_house(alloc, books, writer, interruptions),
+        ListAsk::ChainOf(room) => write_chain_of(alloc, books, *room, writer, interruptions),
+        ListAsk::LeftBehind => write_left_behind(alloc, books, writer, interruptions),
+        ListAsk::AuditOf(room) => write_audit_of(alloc, books, *room, writer, interruptions),
     }
 }
 
@@ -49,8 +50,8 @@ fn refusal_of(fault: ListFault) -> Option<Refusal>
 }
 
 /// Writes the answer to a list: its text; or, where the room isn't there, the line that says so; or,
-/// where memory or the store failed, whole rows of it and then the line that says so. The list
-/// itself counts its own interruptions.
+/// where memory or the store failed, whole rows of it and then the line that says so. The interrupted
+/// writes of the list and of such a line are added to the count of the script.
 pub fn answer_list<W: Write, B: Walks>(
     alloc: Global,
     list: &ListAsk,
@@ -63,7 +64,7 @@ pub fn answer_list<W: Write, B: Walks>(
     ensures kept { B.is_clean books.new → B.is_kept books.old books.new }
     ensures was_clean { B.is_clean books.new → B.is_clean books.old }
 {
-    let Err(fault) = write_list(alloc, list, writer, books) else {
+    let Err(fault) = write_list(alloc, list, writer, books, interruptions) else {
         return Ok(());
     };
     let Some(refusal) = refusal_of(fault) else {

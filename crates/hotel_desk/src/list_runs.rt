@@ -26,7 +26,7 @@ fn write_list_or_refusal<W: Write, B: Walks>(
     ensures text { B.is_clean books.new → AnswerEndsOn (B.rows books.old) list.now (W.contents writer.old) (W.contents writer.new) result }
     ensures books { LooksAt B.is_clean B.is_kept B.failures B.never_fails books.old books.new result }
 {
-    match write_list(alloc, list, writer, books) {
+    match write_list(alloc, list, writer, books, interruptions) {
         Err(ListFault::NoRoom) => {
             let refused = reply_text(&Reply::Refused(Refusal::NoRoom));
             write_bytes(writer, refused.as_bytes(), interruptions)?;
@@ -51,7 +51,7 @@ fn end_of_list(end: Result<(), ListFault>) -> Result<u8, Fault>
 
 /// Answers a list: writes its text, or the line that its room isn't there, and tells the fault that
 /// came instead. It answers the exit status. The interrupted writes of the call are counted together,
-/// on both writers, but those of the list alone.
+/// on both writers.
 pub fn run_list<B: Walks, W: Write, F: FaultSink>(
     alloc: Global,
     list: &ListAsk,

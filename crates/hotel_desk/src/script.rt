@@ -90,9 +90,8 @@ fn answer_lines<W: Write, B: Walks, R: Rng>(
 
 /// Answers the lines of a script: all the bytes that the reader has. The whole script is read first;
 /// then each line is carried out and its answer written before the next line is begun. The
-/// interrupted reads and writes of the call are counted together, but those of each list alone; the
-/// thousandth is a fault.
-/// The writer is not flushed.
+/// interrupted reads and writes of the call are counted together, those of its lists among them; the
+/// thousandth is a fault. The writer is not flushed.
 pub fn run_script<I: Read, W: Write, B: Walks, R: Rng>(
     alloc: Global,
     reader: &mut I,

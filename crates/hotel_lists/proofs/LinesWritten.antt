@@ -1,15 +1,14 @@
 -- The lines that a sink wrote along a walk.
-use Rattle.std.proofs.Common.{ℕ, ◌≡◌, ◌≤◌, ◌+◌, Bool, true, false, List, [], ◌∷◌, ◌++◌, Option, Some, None, Result, Ok, Err, length, take, append_assoc, append-nil, length-append, refl, ap, sym, ◌∙◌, subst, arith, ◌⊎◌, inl, inr}
+use Rattle.std.proofs.Common.{ℕ, ◌≡◌, Bool, true, false, List, [], ◌∷◌, ◌++◌, Option, Some, None, Result, Ok, Err, append_assoc, length-append, ap, sym, ◌∙◌, subst, arith, inr}
 use Rattle.std.specs.List.{flat_map}
 use Rattle.std.proofs.lemmas.Bool.{false≢true}
 use Rattle.std.proofs.lemmas.List.{take-append-le}
 use Rattle.std.proofs.lemmas.List.Concat.{flat_map-append}
-use Rattle.std.proofs.Math.Seq.{take-append-add}
-use Rattle.std.specs.Io.KnownBytes.{Appends, Keeps}
+use Rattle.std.specs.Io.KnownBytes.{Appends}
 use Rattle.std.proofs.KnownBytes.{Appends-nil, Appends-trans, Appends-kept}
 use Rattle.hotel_core.specs.declared.walks.WalkFault.{WalkFault}
 use Rattle.hotel_core.specs.declared.walks.WalkFault.TheVariants as walk
-use Rattle.hotel_core.specs.Walks.{Takes, TakesFront, StopsAt, Hands}
+use Rattle.hotel_core.specs.Walks.{Takes, Hands}
 use Rattle.hotel_lists.specs.Bytes.{AppendsFront}
 use Rattle.hotel_core.specs.declared.rows.RoomRow.{RoomRow}
 use Rattle.hotel_lists.specs.declared.fault.ListFault.{ListFault}

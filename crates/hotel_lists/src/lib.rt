@@ -7,6 +7,7 @@ mod fault;
 mod line;
 mod lines;
 mod lists;
+mod write_lists;
 
 pub use bytes::{
     Interruptions, ReadFailed, ReadFault, WholeFault, WriteFailed, read_more, read_whole,
@@ -15,3 +16,6 @@ pub use bytes::{
 pub use fakes::{FakeReader, FakeWriter};
 pub use fault::ListFault;
 pub use lists::{arrivals, audit_of, chain_of, in_house, left_behind};
+pub use write_lists::{
+    write_arrivals, write_audit_of, write_chain_of, write_in_house, write_left_behind,
+};

@@ -1,8 +1,10 @@
 //! A sink that writes the lines of a list.
-ghost use Rattle.std.specs.Prelude.{◌≡◌};
+ghost use Rattle.std.specs.Prelude.{◌≡◌, OnOk, OnErr};
+ghost use Rattle.std.specs.Io.KnownBytes.{Appends};
+ghost use Rattle.hotel_lists.specs.Bytes.{AppendsFront};
 ghost use Rattle.hotel_lists.specs.Lines.{listed};
 
-use crate::bytes::{Interruptions, write_bytes};
+use crate::bytes::{Interruptions, WriteFailed, write_bytes};
 use crate::fault::ListFault;
 use crate::line::Line;
 use hotel_core::{Sink, Stop, WalkFault};
@@ -14,9 +16,37 @@ use std::io::Write;
 pub(crate) struct Lines<'a, W> {
     pub(crate) alloc: Global,
     pub(crate) writer: &'a mut W,
-    pub(crate) interruptions: Interruptions,
+    pub(crate) interruptions: &'a mut Interruptions,
     /// Whether it stopped since a write failed, and not for want of memory.
     pub(crate) write_failed: bool,
+}
+
+impl<'a, W: Write> Lines<'a, W> {
+    /// No line is written yet.
+    pub(crate) fn new(
+        alloc: Global,
+        writer: &'a mut W,
+        interruptions: &'a mut Interruptions,
+    ) -> Lines<'a, W>
+        ensures same_writer { result.writer.ghost_name ≡ writer.entry.ghost_name }
+        ensures unwritten { result.writer.now ≡ writer.old }
+    {
+        Lines {
+            alloc,
+            writer,
+            interruptions,
+            write_failed: false,
+        }
+    }
+
+    /// Writes the header, which stands before the lines.
+    pub(crate) fn begin(&mut self, header: &[u8]) -> Result<(), WriteFailed>
+        ensures same_writer { self.new.writer.ghost_name ≡ self.old.writer.ghost_name }
+        ensures ok { OnOk result (Appends (W.contents self.old.writer.now) (W.contents self.new.writer.now) header.now) }
+        ensures err { OnErr result (AppendsFront (W.contents self.old.writer.now) (W.contents self.new.writer.now) header.now) }
+    {
+        write_bytes(self.writer, header, self.interruptions)
+    }
 }
 
 impl<'a, W: Write, R: Line> Sink<R> for Lines<'a, W> {
@@ -33,7 +63,7 @@ impl<'a, W: Write, R: Line> Sink<R> for Lines<'a, W> {
             self.write_failed = false;
             return Err(Stop);
         };
-        let Ok(()) = write_bytes(self.writer, line.as_slice(), &mut self.interruptions) else {
+        let Ok(()) = write_bytes(self.writer, line.as_slice(), self.interruptions) else {
             self.write_failed = true;
             return Err(Stop);
         };

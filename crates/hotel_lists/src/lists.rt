@@ -2,30 +2,19 @@
 ghost use Rattle.std.specs.Prelude.{◌≡◌, Err, Option, Some, None, Result, Ok};
 ghost use Rattle.hotel_core.specs.Lookups.{room_at};
 ghost use Rattle.hotel_core.specs.ListsOnRows.{arrivals_on, in_house_on, chain_on, left_behind_on, audit_on};
-ghost use Rattle.hotel_lists.specs.Lines.{Lists, ListsRoom, LooksAt, FindsRoom, arrivals_header, in_house_header, chain_header, left_behind_header, audit_header, arrival_line, house_line, chain_line, behind_line, note_line};
+ghost use Rattle.hotel_lists.specs.Lines.{Lists, ListsRoom, LooksAt, arrivals_header, in_house_header, chain_header, left_behind_header, audit_header, arrival_line, house_line, chain_line, behind_line, note_line};
 ghost use Rattle.hotel_lists.specs.declared.fault.ListFault.TheVariants.{NoRoom};
 
-use crate::bytes::{Interruptions, write_bytes};
+use crate::bytes::Interruptions;
 use crate::fault::ListFault;
-use crate::lines::{Lines, listed};
+use crate::write_lists::{
+    write_arrivals, write_audit_of, write_chain_of, write_in_house, write_left_behind,
+};
 use hotel_core::Walks;
 use hotel_nights::Day;
-use keycard_rules::{LookFault, RoomNo};
+use keycard_rules::RoomNo;
 use std::alloc::Global;
 use std::io::Write;
-
-/// Whether the room is there, or why no list of it is written.
-fn find_room<B: Walks>(books: &mut B, room: RoomNo) -> Result<(), ListFault>
-    ensures room { B.is_clean books.new → FindsRoom (room_at (B.rows books.old) room) result }
-    ensures books { LooksAt B.is_clean B.is_kept B.failures B.never_fails books.old books.new result }
-{
-    match books.room(room) {
-        Ok(Some(_)) => Ok(()),
-        Ok(None) => Err(ListFault::NoRoom),
-        Err(LookFault::Memory) => Err(ListFault::Memory),
-        Err(LookFault::Store) => Err(ListFault::Store),
-    }
-}
 
 /// Writes the booked stays that take the night of a day, by party.
 pub fn arrivals<B: Walks, W: Write>(
@@ -38,20 +27,7 @@ pub fn arrivals<B: Walks, W: Write>(
     ensures no_room { result ≡ Err NoRoom → ⊥ }
     ensures books { LooksAt B.is_clean B.is_kept B.failures B.never_fails books.old books.new result }
 {
-    let mut interruptions = Interruptions::none();
-    write_bytes(
-        writer,
-        b"party,guest,kind,arrive,depart\n",
-        &mut interruptions,
-    )?;
-    let mut lines = Lines {
-        alloc,
-        writer,
-        interruptions,
-        write_failed: false,
-    };
-    let end = books.walk_arrivals(day, &mut lines);
-    listed(end, lines.write_failed)
+    write_arrivals(alloc, books, day, writer, &mut Interruptions::none())
 }
 
 /// Writes the rooms with a registered party, by room.
@@ -64,20 +40,7 @@ pub fn in_house<B: Walks, W: Write>(
     ensures no_room { result ≡ Err NoRoom → ⊥ }
     ensures books { LooksAt B.is_clean B.is_kept B.failures B.never_fails books.old books.new result }
 {
-    let mut interruptions = Interruptions::none();
-    write_bytes(
-        writer,
-        b"room,party,guest,kind,depart,secured\n",
-        &mut interruptions,
-    )?;
-    let mut lines = Lines {
-        alloc,
-        writer,
-        interruptions,
-        write_failed: false,
-    };
-    let end = books.walk_in_house(&mut lines);
-    listed(end, lines.write_failed)
+    write_in_house(alloc, books, writer, &mut Interruptions::none())
 }
 
 /// Writes the codes of a room in order of issue. `NoRoom` where it isn't there.
@@ -90,17 +53,7 @@ pub fn chain_of<B: Walks, W: Write>(
     ensures text { B.is_clean books.new → ListsRoom (room_at (B.rows books.old) room) (W.contents writer.old) (W.contents writer.new) chain_header chain_line (chain_on (B.rows books.old) room) result }
     ensures books { LooksAt B.is_clean B.is_kept B.failures B.never_fails books.old books.new result }
 {
-    find_room(books, room)?;
-    let mut interruptions = Interruptions::none();
-    write_bytes(writer, b"place,code,state\n", &mut interruptions)?;
-    let mut lines = Lines {
-        alloc,
-        writer,
-        interruptions,
-        write_failed: false,
-    };
-    let end = books.walk_chain(room, &mut lines);
-    listed(end, lines.write_failed)
+    write_chain_of(alloc, books, room, writer, &mut Interruptions::none())
 }
 
 /// Writes the rooms whose lock awaits two codes or more, by room.
@@ -113,16 +66,7 @@ pub fn left_behind<B: Walks, W: Write>(
     ensures no_room { result ≡ Err NoRoom → ⊥ }
     ensures books { LooksAt B.is_clean B.is_kept B.failures B.never_fails books.old books.new result }
 {
-    let mut interruptions = Interruptions::none();
-    write_bytes(writer, b"room,held,current,awaited\n", &mut interruptions)?;
-    let mut lines = Lines {
-        alloc,
-        writer,
-        interruptions,
-        write_failed: false,
-    };
-    let end = books.walk_left_behind(&mut lines);
-    listed(end, lines.write_failed)
+    write_left_behind(alloc, books, writer, &mut Interruptions::none())
 }
 
 /// Writes the notes of a room, by count. `NoRoom` where it isn't there.
@@ -135,21 +79,7 @@ pub fn audit_of<B: Walks, W: Write>(
     ensures text { B.is_clean books.new → ListsRoom (room_at (B.rows books.old) room) (W.contents writer.old) (W.contents writer.new) audit_header note_line (audit_on (B.rows books.old) room) result }
     ensures books { LooksAt B.is_clean B.is_kept B.failures B.never_fails books.old books.new result }
 {
-    find_room(books, room)?;
-    let mut interruptions = Interruptions::none();
-    write_bytes(
-        writer,
-        b"room,count,kind,card,old,new,at\n",
-        &mut interruptions,
-    )?;
-    let mut lines = Lines {
-        alloc,
-        writer,
-        interruptions,
-        write_failed: false,
-    };
-    let end = books.walk_audit(room, &mut lines);
-    listed(end, lines.write_failed)
+    write_audit_of(alloc, books, room, writer, &mut Interruptions::none())
 }
 
 #[cfg(test)]

@@ -1,19 +1,19 @@
-use Rattle.std.proofs.Common.{◌≡◌, Err, rules, ap, sym, ◌∙◌, subst}
+use Rattle.std.proofs.Common.{Err, rules, ap, sym, ◌∙◌}
 use Rattle.hotel_core.specs.Lookups.{room_at}
 use Rattle.hotel_core.specs.ListsOnRows.{chain_on}
 use Rattle.hotel_lists.specs.Lines.{ListsRoom, chain_header, chain_line}
 use Rattle.hotel_lists.specs.declared.lines.Lines.{Lines}
 use Rattle.hotel_lists.specs.declared.fault.ListFault.TheVariants.{Write}
 use Rattle.hotel_lists.proofs.LinesWritten.{front_of_first, same_writer, list_written, listed_there, room_listed}
-use Rattle.hotel_lists.proofs.lists.chain_of.Goals as goal
+use Rattle.hotel_lists.proofs.write_lists.write_chain_of.Goals as goal
 
-pub returns-in_err-write_bytes-clause-text : goal.returns-in_err-write_bytes-clause-text
-returns-in_err-write_bytes-clause-text g c = λ clean.
-    let why : c.from_residual-in_err-write_bytes.result ≡ Err Write = search rules in
+pub returns-in_err-begin-clause-text : goal.returns-in_err-begin-clause-text
+returns-in_err-begin-clause-text g c = λ clean.
     let rows = chain_on (g.B.Books.rows c.args.books.now) c.args.room in
     let found = rw c.in_ok-find_room.was at (c.find_room.ensures.room clean) in
-    subst (ListsRoom (room_at (g.B.Books.rows c.args.books.now) c.args.room) _ _ chain_header chain_line rows) (sym why)
-    (room_listed _ _ _ chain_header chain_line rows _ (Err Write) found (λ e. cc) (front_of_first _ _ chain_header _ c.in_err-write_bytes.ensures.err))
+    let said : ListsRoom (room_at (g.B.Books.rows c.args.books.now) c.args.room) (g.W.Write.contents c.args.writer.now) (g.W.Write.contents c.begin.new.self.writer.now) chain_header chain_line rows (Err Write) = room_listed _ _ _ chain_header chain_line rows _ (Err Write) found (λ e. cc) (front_of_first _ _ chain_header _ (rw c.new-lines.ensures.unwritten at c.in_err-begin.ensures.err)) in
+    let back = sym (c.begin.ensures.same_writer ∙ c.new-lines.ensures.same_writer) in
+    search rules
 
 pub returns-clause-text : goal.returns-clause-text
 returns-clause-text g c = λ clean.
@@ -26,8 +26,8 @@ returns-clause-text g c = λ clean.
     let contents = λ (s : Lines g.row.W.Denot). g.W.Write.contents s.writer.now in
     let failed = λ (s : Lines g.row.W.Denot). s.write_failed in
     let same = same_writer name contents failed chain_line hands.0 _ _ _ hands.1 in
-    let written = list_written name contents failed chain_line _ chain_header rows hands.0 _ _ _ c.in_ok-write_bytes.ensures.ok (hands.2 clean ∙ ap (λ rs. chain_on rs c.args.room) kept) hands.1 in
+    let written = list_written name contents failed chain_line _ chain_header rows hands.0 _ _ _ (rw c.new-lines.ensures.unwritten at c.in_ok-begin.ensures.ok) (hands.2 clean ∙ ap (λ rs. chain_on rs c.args.room) kept) hands.1 in
     let listed = room_listed (room_at (g.B.Books.rows c.args.books.now) c.args.room) _ _ chain_header chain_line rows _ _ found (listed_there _ _) written in
     let said : ListsRoom (room_at (g.B.Books.rows c.args.books.now) c.args.room) (g.W.Write.contents c.args.writer.now) (g.W.Write.contents c.walk_chain-end.new.sink.writer.now) chain_header chain_line rows c.listed.result = rw c.listed.ensures listed in
-    let back = sym same in
+    let back = sym (same ∙ c.begin.ensures.same_writer ∙ c.new-lines.ensures.same_writer) in
     search rules

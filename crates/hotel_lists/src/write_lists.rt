@@ -1,0 +1,117 @@
+//! The five lists as text, within a call that has begun a count of its interrupted reads and writes. Those of a list are
+//! added to it.
+ghost use Rattle.std.specs.Prelude.{◌≡◌, Err, Option, Some, None, Result, Ok};
+ghost use Rattle.hotel_core.specs.Lookups.{room_at};
+ghost use Rattle.hotel_core.specs.ListsOnRows.{arrivals_on, in_house_on, chain_on, left_behind_on, audit_on};
+ghost use Rattle.hotel_lists.specs.Lines.{Lists, ListsRoom, LooksAt, FindsRoom, arrivals_header, in_house_header, chain_header, left_behind_header, audit_header, arrival_line, house_line, chain_line, behind_line, note_line};
+ghost use Rattle.hotel_lists.specs.declared.fault.ListFault.TheVariants.{NoRoom};
+
+use crate::bytes::Interruptions;
+use crate::fault::ListFault;
+use crate::lines::{Lines, listed};
+use hotel_core::Walks;
+use hotel_nights::Day;
+use keycard_rules::{LookFault, RoomNo};
+use std::alloc::Global;
+use std::io::Write;
+
+/// Whether the room is there, or why no list of it is written.
+fn find_room<B: Walks>(books: &mut B, room: RoomNo) -> Result<(), ListFault>
+    ensures room { B.is_clean books.new → FindsRoom (room_at (B.rows books.old) room) result }
+    ensures books { LooksAt B.is_clean B.is_kept B.failures B.never_fails books.old books.new result }
+{
+    match books.room(room) {
+        Ok(Some(_)) => Ok(()),
+        Ok(None) => Err(ListFault::NoRoom),
+        Err(LookFault::Memory) => Err(ListFault::Memory),
+        Err(LookFault::Store) => Err(ListFault::Store),
+    }
+}
+
+/// Writes the booked stays that take the night of a day, by party.
+pub fn write_arrivals<B: Walks, W: Write>(
+    alloc: Global,
+    books: &mut B,
+    day: Day,
+    writer: &mut W,
+    interruptions: &mut Interruptions,
+) -> Result<(), ListFault>
+    ensures text { B.is_clean books.new → Lists (W.contents writer.old) (W.contents writer.new) arrivals_header arrival_line (arrivals_on (B.rows books.old) day) result }
+    ensures no_room { result ≡ Err NoRoom → ⊥ }
+    ensures books { LooksAt B.is_clean B.is_kept B.failures B.never_fails books.old books.new result }
+{
+    let mut lines = Lines::new(alloc, writer, interruptions);
+    lines.begin(b"party,guest,kind,arrive,depart\n")?;
+    let end = books.walk_arrivals(day, &mut lines);
+    listed(end, lines.write_failed)
+}
+
+/// Writes the rooms with a registered party, by room.
+pub fn write_in_house<B: Walks, W: Write>(
+    alloc: Global,
+    books: &mut B,
+    writer: &mut W,
+    interruptions: &mut Interruptions,
+) -> Result<(), ListFault>
+    ensures text { B.is_clean books.new → Lists (W.contents writer.old) (W.contents writer.new) in_house_header house_line (in_house_on (B.rows books.old)) result }
+    ensures no_room { result ≡ Err NoRoom → ⊥ }
+    ensures books { LooksAt B.is_clean B.is_kept B.failures B.never_fails books.old books.new result }
+{
+    let mut lines = Lines::new(alloc, writer, interruptions);
+    lines.begin(b"room,party,guest,kind,depart,secured\n")?;
+    let end = books.walk_in_house(&mut lines);
+    listed(end, lines.write_failed)
+}
+
+/// Writes the codes of a room in order of issue. `NoRoom` where it isn't there.
+pub fn write_chain_of<B: Walks, W: Write>(
+    alloc: Global,
+    books: &mut B,
+    room: RoomNo,
+    writer: &mut W,
+    interruptions: &mut Interruptions,
+) -> Result<(), ListFault>
+    ensures text { B.is_clean books.new → ListsRoom (room_at (B.rows books.old) room) (W.contents writer.old) (W.contents writer.new) chain_header chain_line (chain_on (B.rows books.old) room) result }
+    ensures books { LooksAt B.is_clean B.is_kept B.failures B.never_fails books.old books.new result }
+{
+    find_room(books, room)?;
+    let mut lines = Lines::new(alloc, writer, interruptions);
+    lines.begin(b"place,code,state\n")?;
+    let end = books.walk_chain(room, &mut lines);
+    listed(end, lines.write_failed)
+}
+
+/// Writes the rooms whose lock awaits two codes or more, by room.
+pub fn write_left_behind<B: Walks, W: Write>(
+    alloc: Global,
+    books: &mut B,
+    writer: &mut W,
+    interruptions: &mut Interruptions,
+) -> Result<(), ListFault>
+    ensures text { B.is_clean books.new → Lists (W.contents writer.old) (W.contents writer.new) left_behind_header behind_line (left_behind_on (B.rows books.old)) result }
+    ensures no_room { result ≡ Err NoRoom → ⊥ }
+    ensures books { LooksAt B.is_clean B.is_kept B.failures B.never_fails books.old books.new result }
+{
+    let mut lines = Lines::new(alloc, writer, interruptions);
+    lines.begin(b"room,held,current,awaited\n")?;
+    let end = books.walk_left_behind(&mut lines);
+    listed(end, lines.write_failed)
+}
+
+/// Writes the notes of a room, by count. `NoRoom` where it isn't there.
+pub fn write_audit_of<B: Walks, W: Write>(
+    alloc: Global,
+    books: &mut B,
+    room: RoomNo,
+    writer: &mut W,
+    interruptions: &mut Interruptions,
+) -> Result<(), ListFault>
+    ensures text { B.is_clean books.new → ListsRoom (room_at (B.rows books.old) room) (W.contents writer.old) (W.contents writer.new) audit_header note_line (audit_on (B.rows books.old) room) result }
+    ensures books { LooksAt B.is_clean B.is_kept B.failures B.never_fails books.old books.new result }
+{
+    find_room(books, room)?;
+    let mut lines = Lines::new(alloc, writer, interruptions);
+    lines.begin(b"room,count,kind,card,old,new,at\n")?;
+    let end = books.walk_audit(room, &mut lines);
+    listed(end, lines.write_failed)
+}
