@@ -2,4 +2,6 @@ pub mod ReturnLemmas
 pub mod WordLemmas
 pub mod ScriptLemmas
 pub mod ListAnswerLemmas
+pub mod ListRunLemmas
+pub mod AuditRunLemmas
 pub mod ScriptRunLemmas

@@ -10,6 +10,10 @@ pub mod LineAnswers
 pub mod Script
 pub mod ScriptRun
 pub mod Program
+pub mod Statuses
+pub mod Faults
+pub mod ListRuns
+pub mod AuditRuns
 pub mod Tests
 pub mod Scenes
 pub mod SceneAuditGapConflict

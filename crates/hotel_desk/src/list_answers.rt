@@ -3,6 +3,7 @@
 ghost use Rattle.std.specs.Prelude.{◌≡◌, OnOk, OnErr};
 ghost use Rattle.std.specs.Io.KnownBytes.{Appends};
 ghost use Rattle.hotel_lists.specs.Bytes.{AppendsFront};
+ghost use Rattle.hotel_lists.specs.Lines.{LooksAt};
 ghost use Rattle.hotel_desk.specs.ListAnswers.{WritesAnswer, WritesList, refusal_of};
 
 use crate::list_asks::ListAsk;
@@ -14,8 +15,8 @@ use hotel_lists::{
 use std::alloc::Global;
 use std::io::Write;
 
-/// Writes the text of a list. Its interrupted writes are added to the count of the script.
-fn write_list<W: Write, B: Walks>(
+/// Writes the text of a list. Its interrupted writes are added to the count of the call.
+pub(crate) fn write_list<W: Write, B: Walks>(
     alloc: Global,
     list: &ListAsk,
     writer: &mut W,
@@ -25,6 +26,7 @@ fn write_list<W: Write, B: Walks>(
     ensures text { B.is_clean books.new → WritesList (B.rows books.old) list.now (W.contents writer.old) (W.contents writer.new) result }
     ensures kept { B.is_clean books.new → B.is_kept books.old books.new }
     ensures was_clean { B.is_clean books.new → B.is_clean books.old }
+    ensures books { LooksAt B.is_clean B.is_kept B.failures B.never_fails books.old books.new result }
 {
     match list {
         ListAsk::Arrivals(day) => write_arrivals(alloc, books, *day, writer, interruptions),

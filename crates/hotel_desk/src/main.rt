@@ -2,16 +2,20 @@
 #![tactic(auto)]
 
 mod asks;
+mod audit_runs;
 mod commands;
+mod faults;
 mod line_answers;
 mod line_values;
 mod lines;
 mod list_answers;
 mod list_asks;
+mod list_runs;
 mod program;
 mod scenes;
 mod script;
 mod script_run;
+mod statuses;
 mod values;
 mod verb;
 mod words;

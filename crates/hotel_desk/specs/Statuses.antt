@@ -1,0 +1,17 @@
+-- The exit status of a reply.
+use Rattle.std.specs.Prelude.{ℕ}
+use Rattle.hotel_core.specs.declared.reply.Reply.{Reply}
+use Rattle.hotel_core.specs.declared.reply.Reply.TheVariants.{Refused}
+use Rattle.hotel_core.specs.declared.reply.Refusal.{Refusal}
+use Rattle.hotel_core.specs.declared.reply.Refusal.TheVariants.{Memory, Store}
+
+-- The status of a refusal: 4 where memory or the store failed, else 3.
+abbrev pub refusal_status : Refusal → ℕ
+refusal_status Memory = 4
+refusal_status Store = 4
+refusal_status _ = 3
+
+-- The status of a reply: 0 where it is no refusal.
+abbrev pub reply_status : Reply → ℕ
+reply_status (Refused why) = refusal_status why
+reply_status _ = 0

@@ -1,0 +1,119 @@
+//! An audit file that is imported alone: its answers on one writer, and what went wrong on another.
+
+ghost use Rattle.std.specs.Prelude.{◌≡◌, OnOk, OnErr, List, Bool, Result};
+ghost use Rattle.std.specs.Io.KnownBytes.{Appends};
+ghost use Rattle.hotel_lists.specs.Bytes.{AppendsFront};
+ghost use Rattle.hotel_audit.specs.Answers.{answers_text};
+ghost use Rattle.hotel_audit.specs.declared.answer.LineAnswer.{LineAnswer};
+ghost use Rattle.hotel_audit.specs.declared.importing.ImportFault.{ImportFault};
+ghost use Rattle.hotel_desk.specs.Faults.{end_status, Tells};
+ghost use Rattle.hotel_desk.specs.AuditRuns.{answers_status, file_fault, import_fault, audit_end, WritesAnswers, ImportEnds};
+
+use crate::faults::{Fault, FaultSink, finish};
+use crate::statuses::{DONE, REFUSED};
+use hotel_audit::{AuditFault, ImportFault, LineAnswer, answer_text, import};
+use hotel_core::Books;
+use hotel_lists::{Interruptions, WriteFailed, write_bytes};
+use keycard_rules::LookFault;
+use std::alloc::Global;
+use std::io::Write;
+
+/// Writes the texts of answers, a line each, numbered from 1. After a fault the writer took a front
+/// of them.
+fn write_answers<W: Write>(
+    writer: &mut W,
+    answers: &[LineAnswer],
+    interruptions: &mut Interruptions,
+) -> Result<(), WriteFailed>
+    ensures ok { OnOk result (Appends (W.contents writer.old) (W.contents writer.new) (answers_text 1 answers.now)) }
+    ensures err { OnErr result (AppendsFront (W.contents writer.old) (W.contents writer.new) (answers_text 1 answers.now)) }
+{
+    for (index, answer) in answers.iter().enumerate() {
+        let text = answer_text(index + 1, answer);
+        write_bytes(writer, text.as_bytes(), interruptions)?;
+    }
+    Ok(())
+}
+
+/// The exit status that goes with answers.
+fn answers_status(answers: &[LineAnswer]) -> u8
+    ensures { result ≡ answers_status answers.now }
+{
+    for answer in answers {
+        if let LineAnswer::Unread(_) | LineAnswer::Refused(_) = answer {
+            return REFUSED;
+        }
+    }
+    DONE
+}
+
+/// The fault of bytes that give no lines.
+fn file_fault(fault: AuditFault) -> Fault
+    ensures { result ≡ file_fault fault }
+{
+    match fault {
+        AuditFault::TooLarge => Fault::TooLarge,
+        AuditFault::NoHeader => Fault::NoHeader,
+        AuditFault::WrongHeader => Fault::WrongHeader,
+        AuditFault::Memory => Fault::Memory,
+    }
+}
+
+/// The fault of an import that has no answers.
+fn import_fault(fault: ImportFault) -> Fault
+    ensures { result ≡ import_fault fault }
+{
+    match fault {
+        ImportFault::File(why) => file_fault(why),
+        ImportFault::Memory { answered, .. } => Fault::Stopped {
+            answered,
+            by: LookFault::Memory,
+        },
+        ImportFault::Store { answered, .. } => Fault::Stopped {
+            answered,
+            by: LookFault::Store,
+        },
+    }
+}
+
+/// Imports an audit file and writes the texts of its answers. It answers the exit status, or the
+/// fault that came instead.
+fn import_and_write<B: Books, W: Write>(
+    alloc: Global,
+    bytes: &[u8],
+    books: &mut B,
+    writer: &mut W,
+    interruptions: &mut Interruptions,
+) -> Result<u8, Fault>
+    ensures { (outcome : Result (List LineAnswer) ImportFault) × (write_failed : Bool) × (result ≡ audit_end outcome write_failed)
+        × WritesAnswers W.contents writer.old writer.new outcome write_failed
+        × ImportEnds B.is_clean B.rows B.failures B.never_fails bytes.now books.old books.new outcome }
+{
+    let answers = match import(alloc, books, bytes) {
+        Ok(answers) => answers,
+        Err(fault) => return Err(import_fault(fault)),
+    };
+    let answers = answers.as_slice();
+    match write_answers(writer, answers, interruptions) {
+        Ok(()) => Ok(answers_status(answers)),
+        Err(WriteFailed) => Err(Fault::Write),
+    }
+}
+
+/// Imports an audit file: writes the answers to its lines, and tells the fault that came instead. It
+/// answers the exit status. The interrupted writes of the call are counted together, on both writers.
+pub fn run_audit<B: Books, W: Write, F: FaultSink>(
+    alloc: Global,
+    bytes: &[u8],
+    books: &mut B,
+    writer: &mut W,
+    faults: &mut F,
+) -> u8
+    ensures { (outcome : Result (List LineAnswer) ImportFault) × (write_failed : Bool) × (result ≡ end_status (audit_end outcome write_failed))
+        × Tells F.told faults.old (audit_end outcome write_failed) faults.new × WritesAnswers W.contents writer.old writer.new outcome write_failed
+        × ImportEnds B.is_clean B.rows B.failures B.never_fails bytes.now books.old books.new outcome }
+{
+    let mut interruptions = Interruptions::none();
+    let end = import_and_write(alloc, bytes, books, writer, &mut interruptions);
+    finish(end, faults, &mut interruptions)
+}

@@ -1,0 +1,129 @@
+//! Faults of the desk's calls: what is said of each, and where it is said.
+
+ghost use Rattle.std.specs.Prelude.{◌≡◌, OnOk, OnErr};
+ghost use Rattle.std.specs.Io.KnownBytes.{Appends};
+ghost use Rattle.hotel_lists.specs.Bytes.{AppendsFront};
+ghost use Rattle.hotel_desk.specs.Faults.{cause_text, fault_text, fault_status, end_status, Tells};
+
+use crate::statuses::{BROKEN, FAILED};
+use hotel_lists::{Interruptions, WriteFailed, write_bytes, write_parts};
+use keycard_rules::LookFault;
+use std::io::Write;
+
+/// Why a call didn't do its work to the end.
+#[derive(Clone, Copy, Debug, PartialEq, Eq)]
+pub enum Fault {
+    /// A growth of memory was refused.
+    Memory,
+    /// A call of the store failed.
+    Store,
+    /// A write failed.
+    Write,
+    /// An audit file has too many bytes.
+    TooLarge,
+    /// An audit file has no record.
+    NoHeader,
+    /// The first record of an audit file isn't the header.
+    WrongHeader,
+    /// An import was stopped after so many lines.
+    Stopped { answered: usize, by: LookFault },
+}
+
+impl Fault {
+    /// The exit status of a call that came to it.
+    pub fn status(&self) -> u8
+        ensures { result ≡ fault_status self.now }
+    {
+        match self {
+            Fault::Memory | Fault::Store | Fault::Stopped { .. } => FAILED,
+            _ => BROKEN,
+        }
+    }
+}
+
+/// What stopped an import, and the end of the line.
+fn cause_text(by: LookFault) -> &'static [u8]
+    ensures { result.now ≡ cause_text by }
+{
+    match by {
+        LookFault::Memory => b": Memory\n",
+        LookFault::Store => b": Store\n",
+    }
+}
+
+/// Writes the line of an import that was stopped.
+fn write_stopped<W: Write>(
+    writer: &mut W,
+    answered: usize,
+    by: LookFault,
+    interruptions: &mut Interruptions,
+) -> Result<(), WriteFailed>
+    ensures ok { OnOk result (Appends (W.contents writer.old) (W.contents writer.new) (fault_text (Fault.Stopped answered by))) }
+    ensures err { OnErr result (AppendsFront (W.contents writer.old) (W.contents writer.new) (fault_text (Fault.Stopped answered by))) }
+{
+    let mut buffer = itoa::Buffer::new();
+    let number = buffer.format(answered).as_bytes();
+    let parts = [b"stopped after ".as_slice(), number, cause_text(by)];
+    write_parts(writer, &parts, interruptions)
+}
+
+/// Writes the line of a fault.
+fn write_fault<W: Write>(
+    writer: &mut W,
+    fault: &Fault,
+    interruptions: &mut Interruptions,
+) -> Result<(), WriteFailed>
+    ensures ok { OnOk result (Appends (W.contents writer.old) (W.contents writer.new) (fault_text fault.now)) }
+    ensures err { OnErr result (AppendsFront (W.contents writer.old) (W.contents writer.new) (fault_text fault.now)) }
+{
+    match fault {
+        Fault::Memory => write_bytes(writer, b"memory\n", interruptions),
+        Fault::Store => write_bytes(writer, b"store\n", interruptions),
+        Fault::Write => write_bytes(writer, b"write\n", interruptions),
+        Fault::TooLarge => write_bytes(writer, b"too large\n", interruptions),
+        Fault::NoHeader => write_bytes(writer, b"no header\n", interruptions),
+        Fault::WrongHeader => write_bytes(writer, b"wrong header\n", interruptions),
+        Fault::Stopped { answered, by } => write_stopped(writer, *answered, *by, interruptions),
+    }
+}
+
+/// Takes the faults that calls tell. Each writer is one.
+pub trait FaultSink {
+    ghost use Rattle.hotel_desk.specs.declared.faults.Fault.{Fault};
+
+    /// The meanings that may follow one after a fault was told.
+    ghost told: { Self → Fault → Self → Type 0 };
+
+    /// Takes a fault. Where that goes wrong, nobody hears of it.
+    fn tell(&mut self, fault: &Fault, interruptions: &mut Interruptions)
+        ensures { told self.old fault.now self.new };
+}
+
+impl<W: Write> FaultSink for W {
+    ghost use Rattle.hotel_lists.specs.Bytes.{AppendsFront};
+    ghost use Rattle.hotel_desk.specs.Faults.{fault_text};
+
+    ghost told = { λ old fault new. AppendsFront (W.contents old) (W.contents new) (fault_text fault) };
+
+    fn tell(&mut self, fault: &Fault, interruptions: &mut Interruptions) {
+        let _ = write_fault(self, fault, interruptions);
+    }
+}
+
+/// The exit status of a call that came to this end. A fault is told first.
+pub fn finish<F: FaultSink>(
+    end: Result<u8, Fault>,
+    faults: &mut F,
+    interruptions: &mut Interruptions,
+) -> u8
+    ensures status { result ≡ end_status end }
+    ensures told { Tells F.told faults.old end faults.new }
+{
+    match end {
+        Ok(status) => status,
+        Err(fault) => {
+            faults.tell(&fault, interruptions);
+            fault.status()
+        }
+    }
+}

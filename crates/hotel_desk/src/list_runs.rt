@@ -1,0 +1,69 @@
+//! A list that is asked for alone: its text on one writer, and what went wrong on another.
+
+ghost use Rattle.std.specs.Prelude.{◌≡◌, Result};
+ghost use Rattle.hotel_lists.specs.Lines.{LooksAt};
+ghost use Rattle.hotel_lists.specs.declared.fault.ListFault.{ListFault};
+ghost use Rattle.hotel_desk.specs.Faults.{end_status, Tells};
+ghost use Rattle.hotel_desk.specs.ListRuns.{AnswerEndsOn, AnswerEndsFor, list_end};
+
+use crate::faults::{Fault, FaultSink, finish};
+use crate::list_answers::write_list;
+use crate::list_asks::ListAsk;
+use crate::statuses::{DONE, REFUSED};
+use hotel_core::{Refusal, Reply, Walks, reply_text};
+use hotel_lists::{Interruptions, ListFault, write_bytes};
+use std::alloc::Global;
+use std::io::Write;
+
+/// Writes a list's text; or, where the room isn't there, the line that says so.
+fn write_list_or_refusal<W: Write, B: Walks>(
+    alloc: Global,
+    list: &ListAsk,
+    writer: &mut W,
+    books: &mut B,
+    interruptions: &mut Interruptions,
+) -> Result<(), ListFault>
+    ensures text { B.is_clean books.new → AnswerEndsOn (B.rows books.old) list.now (W.contents writer.old) (W.contents writer.new) result }
+    ensures books { LooksAt B.is_clean B.is_kept B.failures B.never_fails books.old books.new result }
+{
+    match write_list(alloc, list, writer, books, interruptions) {
+        Err(ListFault::NoRoom) => {
+            let refused = reply_text(&Reply::Refused(Refusal::NoRoom));
+            write_bytes(writer, refused.as_bytes(), interruptions)?;
+            Err(ListFault::NoRoom)
+        }
+        end => end,
+    }
+}
+
+/// The exit status of a list that ended so, or the fault that is told.
+fn end_of_list(end: Result<(), ListFault>) -> Result<u8, Fault>
+    ensures { result ≡ list_end end }
+{
+    match end {
+        Ok(()) => Ok(DONE),
+        Err(ListFault::NoRoom) => Ok(REFUSED),
+        Err(ListFault::Memory) => Err(Fault::Memory),
+        Err(ListFault::Store) => Err(Fault::Store),
+        Err(ListFault::Write) => Err(Fault::Write),
+    }
+}
+
+/// Answers a list: writes its text, or the line that its room isn't there, and tells the fault that
+/// came instead. It answers the exit status. The interrupted writes of the call are counted together,
+/// on both writers.
+pub fn run_list<B: Walks, W: Write, F: FaultSink>(
+    alloc: Global,
+    list: &ListAsk,
+    books: &mut B,
+    writer: &mut W,
+    faults: &mut F,
+) -> u8
+    ensures { (end : Result (Unit {0}) ListFault) × (result ≡ end_status (list_end end)) × Tells F.told faults.old (list_end end) faults.new
+        × (B.is_clean books.new → AnswerEndsFor (B.rows books.old) list.now (W.contents writer.old) (W.contents writer.new) end)
+        × LooksAt B.is_clean B.is_kept B.failures B.never_fails books.old books.new end }
+{
+    let mut interruptions = Interruptions::none();
+    let end = write_list_or_refusal(alloc, list, writer, books, &mut interruptions);
+    finish(end_of_list(end), faults, &mut interruptions)
+}
