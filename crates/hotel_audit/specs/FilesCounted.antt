@@ -61,14 +61,14 @@ all_events_taken [] = []
 all_events_taken (file ∷ files) = events_taken file.lines file.answers ++ all_events_taken files
 
 -- Each room's notes have the counts 1, 2 and so on, each once, and the table of notes has the note of each count, and none above.
-abbrev pub AreCounted : History → Type 0
-AreCounted h = (r : ℕ) → (map (λ note. note.count) (notes h r) ≡ range_with_len 1 (length (notes h r)))
+abbrev pub AreNumbered : History → Type 0
+AreNumbered h = (r : ℕ) → (map (λ note. note.count) (notes h r) ≡ range_with_len 1 (length (notes h r)))
     × ((count : ℕ) → 1 ≤ count → note_at (rows_of h) r count ≡ slice_get (notes h r) (count - 1))
 
 -- Any files, cut, overlapping or repeated, lead to the history before them and then the events of the notes that were taken, and the notes are counted.
 abbrev pub FilesCounted : Type 0
-FilesCounted = (h h' : History) (files : List AnsweredFile) → Reached h → FilesLead h files h' → Reached h' × (h' ≡ followed_by h (all_events_taken files)) × AreCounted h'
+FilesCounted = (h h' : History) (files : List AnsweredFile) → Reached h → FilesLead h files h' → Reached h' × (h' ≡ followed_by h (all_events_taken files)) × AreNumbered h'
 
 -- The notes are counted after whatever was done at the desk.
 abbrev pub NotesCounted : Type 0
-NotesCounted = (h : History) → Reached h → AreCounted h
+NotesCounted = (h : History) → Reached h → AreNumbered h

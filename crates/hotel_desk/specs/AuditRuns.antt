@@ -1,14 +1,12 @@
 -- What an audit file that is imported alone comes to.
 use Rattle.std.specs.Prelude.{◌≡◌, ◌≤◌, ℕ, Bool, true, false, List, [], ◌∷◌, Option, Result, Ok, Err, IfErr}
 use Rattle.std.specs.Io.KnownBytes.{Appends}
-use Rattle.keycard_rules.specs.Rise.{HasRisen}
 use Rattle.keycard_rules.specs.declared.issued.LookFault.TheVariants as look
-use Rattle.hotel_core.specs.History.{History}
 use Rattle.hotel_core.specs.Rows.{Rows}
-use Rattle.hotel_core.specs.Run.{StandsFor}
+use Rattle.hotel_core.specs.Failures.{AreCounted}
 use Rattle.hotel_lists.specs.Bytes.{AppendsFront}
 use Rattle.hotel_audit.specs.Answers.{answers_text}
-use Rattle.hotel_audit.specs.Import.{ImportsFile, StopsImport, is_counted, is_store}
+use Rattle.hotel_audit.specs.Import.{ImportsFile, StopsImport, failures_of}
 use Rattle.hotel_audit.specs.declared.answer.LineAnswer.{LineAnswer}
 use Rattle.hotel_audit.specs.declared.answer.LineAnswer.TheVariants.{Taken, Seen, Unread, Refused}
 use Rattle.hotel_audit.specs.declared.audit_file.AuditFault.{AuditFault}
@@ -61,5 +59,4 @@ pub record ImportEnds {B : Type 0} (is_clean : B → Type 0) (rows : B → Rows)
   pub went : GoesBy is_clean rows bytes old new outcome
   pub was_clean : is_clean new → is_clean old
   pub counted : failures old ≤ failures new
-  pub fault : IfErr outcome (λ why. (h : History) → StandsFor h (rows old) → is_clean new → is_counted why ≡ true → HasRisen (failures old) (failures new))
-  pub no_store : IfErr outcome (λ why. (h : History) → StandsFor h (rows old) → is_clean new → never_fails → is_store why ≡ true → ⊥)
+  pub failed : IfErr outcome (λ why. is_clean new → AreCounted never_fails (failures old) (failures new) (failures_of why))

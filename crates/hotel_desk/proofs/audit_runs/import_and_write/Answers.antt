@@ -17,8 +17,7 @@ returns-in-Err g c =
         went = e.stopped;
         was_clean = e.was_clean;
         counted = e.counted;
-        fault = e.fault;
-        no_store = e.no_store;
+        failed = e.failed;
       },
     )
 
@@ -36,8 +35,7 @@ returns-in-Ok-write_answers g c =
         went = e.imported;
         was_clean = e.was_clean;
         counted = e.counted;
-        fault = tt;
-        no_store = tt;
+        failed = tt;
       },
     )
 
@@ -55,7 +53,6 @@ returns g c =
         went = e.imported;
         was_clean = e.was_clean;
         counted = e.counted;
-        fault = tt;
-        no_store = tt;
+        failed = tt;
       },
     )
