@@ -9,3 +9,4 @@ mod IdleNotes
 mod SentAtOnce
 mod NotesInRange
 mod FilesCounted
+mod NotesTaken

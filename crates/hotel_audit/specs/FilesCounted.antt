@@ -1,17 +1,22 @@
 -- What a list of files does: each room's notes have the counts 1, 2 and so on, however the files were cut.
-use Rattle.std.specs.Prelude.{ℕ, ◌≡◌, ◌≤◌, ◌-◌, List, [], ◌∷◌, ◌++◌, length, map, Ok}
+use Rattle.std.specs.Prelude.{ℕ, ◌≡◌, ◌≤◌, ◌-◌, List, [], ◌∷◌, ◌++◌, length, map, Ok, Option, Some, None, ◌==◌}
 use Rattle.std.specs.List.{range_with_len, slice_get}
 use Rattle.rand_core.specs.Stream.{Stream}
 use Rattle.keycard_rules.specs.Note.{Note}
 use Rattle.keycard_rules.specs.declared.note.Act.{Act}
 use Rattle.keycard_rules.specs.declared.note.Act.TheVariants as act
+use Rattle.hotel_core.specs.declared.command.Command.{Command}
+use Rattle.hotel_core.specs.declared.command.Command.TheVariants as command
+use Rattle.hotel_core.specs.declared.reply.Reply.{Reply}
+use Rattle.hotel_core.specs.declared.reply.Reply.TheVariants as reply
 use Rattle.hotel_core.specs.Answer.{moment_of}
 use Rattle.hotel_core.specs.Event.{Event, Entered, Left, Recoded}
 use Rattle.hotel_core.specs.History.{History, ◌▷◌}
 use Rattle.hotel_core.specs.Lookups.{note_at}
 use Rattle.hotel_core.specs.Notes.{notes}
 use Rattle.hotel_core.specs.RowsOf.{rows_of}
-use Rattle.hotel_core.specs.Run.{Reached}
+use Rattle.hotel_core.specs.Run.{Reached, Runs}
+use Rattle.hotel_core.specs.Words.{when}
 use Rattle.hotel_audit.specs.declared.answer.LineAnswer.{LineAnswer}
 use Rattle.hotel_audit.specs.declared.answer.LineAnswer.TheVariants.{Taken}
 use Rattle.hotel_audit.specs.declared.line.Line.{Line}
@@ -72,3 +77,22 @@ FilesCounted = (h h' : History) (files : List AnsweredFile) → Reached h → Fi
 -- The notes are counted after whatever was done at the desk.
 abbrev pub NotesCounted : Type 0
 NotesCounted = (h : History) → Reached h → AreNumbered h
+
+-- the note that a command took, by its reply
+abbrev pub note_taken : Command → Reply → Option Note
+note_taken (command.Reported note) reply.Taken = Some note
+note_taken _ _ = None
+
+-- the note before some of a room, where there is one and it is of that room
+abbrev pub and_before : ℕ → Option Note → List Note → List Note
+and_before r (Some note) later = when (note.room == r) (λ ns. note ∷ ns) later
+and_before r None later = later
+
+-- the notes of a room that were answered Taken, in order
+abbrev pub notes_taken : ℕ → List Command → List Reply → List Note
+notes_taken r (command ∷ commands) (reply ∷ replies) = and_before r (note_taken command reply) (notes_taken r commands replies)
+notes_taken r commands replies = []
+
+-- In any run, files and other commands in any mixture, a room's notes are those before it and then those that were answered Taken, in order.
+abbrev pub RunsTake : Type 0
+RunsTake = (h h' : History) (s s' : Stream) (commands : List Command) (replies : List Reply) (r : ℕ) → Runs h s commands replies h' s' → notes h' r ≡ notes h r ++ notes_taken r commands replies

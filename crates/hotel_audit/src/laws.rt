@@ -1,5 +1,5 @@
 //! Laws of audit files, which make no call.
-ghost use Rattle.hotel_audit.specs.FilesCounted.{FilesCounted, NotesCounted};
+ghost use Rattle.hotel_audit.specs.FilesCounted.{FilesCounted, NotesCounted, RunsTake};
 ghost use Rattle.hotel_audit.specs.Readings.{GivesFileRecords, HasOneReading};
 ghost use Rattle.hotel_audit.specs.SentAgain.{SeenAgain};
 ghost use Rattle.hotel_audit.specs.SentAtOnce.{SentAtOnce, StoppedAndSent};
@@ -28,7 +28,9 @@ pub fn stopped_and_sent_again()
 /// However the notes come, in files that are cut, overlap or repeat, each room's are taken with the counts 1, 2 and so on, each once.
 ///
 /// The history is then the one before the files and the events of the notes that were answered Taken, in order, so that the tables are those of these events.
+/// The last two clauses speak of other commands between the files too.
 pub fn files_counted()
     ensures of_files { FilesCounted }
     ensures of_histories { NotesCounted }
+    ensures of_runs { RunsTake }
 {}

@@ -1,4 +1,5 @@
 use Rattle.hotel_audit.proofs.FilesCounted.{files_counted, notes_counted}
+use Rattle.hotel_audit.proofs.NotesTaken.{runs_take}
 use Rattle.hotel_audit.proofs.laws.files_counted.Goals as goal
 
 pub returns-clause-of_files : goal.returns-clause-of_files
@@ -6,3 +7,6 @@ returns-clause-of_files c = files_counted
 
 pub returns-clause-of_histories : goal.returns-clause-of_histories
 returns-clause-of_histories c = notes_counted
+
+pub returns-clause-of_runs : goal.returns-clause-of_runs
+returns-clause-of_runs c = runs_take
