@@ -28,7 +28,7 @@ sound_whole rows sound = rows_are_whole (start rows) rows (sound, sym (rows_of_s
 pub none_counted : (never_fails : Type 0) (a b : ℕ) → a ≤ b → AreCounted never_fails a b []
 none_counted never_fails a b k = record { risen = inl (omega (arith, k)); no_store = λ never. tt }
 
-one_counted : (never_fails : Type 0) (a b : ℕ) (why : Refusal) → a ≤ b → HasRisen a b → (never_fails → why ≡ Memory) → AreCounted never_fails a b (why ∷ [])
+pub one_counted : (never_fails : Type 0) (a b : ℕ) (why : Refusal) → a ≤ b → HasRisen a b → (never_fails → why ≡ Memory) → AreCounted never_fails a b (why ∷ [])
 one_counted never_fails a b why k risen store = record {
   risen = by risen;
   no_store = λ never. (store never, tt);

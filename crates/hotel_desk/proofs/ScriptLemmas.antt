@@ -1,5 +1,5 @@
 -- Lines of a script, answered one after the other.
-use Rattle.std.proofs.Common.{◌≡◌, ℕ, zero, suc, ◌+◌, ◌≤◌, List, [], ◌∷◌, ◌++◌, length, take, drop, arith, refl, sym, ap, subst, ◌∙◌, append_assoc, append-nil, length-append, take-append-drop, add-one, Option, Some, None, IsSome, Bool, true, false, inl, inr}
+use Rattle.std.proofs.Common.{◌≡◌, ℕ, zero, suc, ◌+◌, ◌≤◌, List, [], ◌∷◌, ◌++◌, length, take, drop, arith, refl, sym, ap, subst, ◌∙◌, append_assoc, append-nil, length-append, take-append-drop, add-one, Option, Some, None, Bool, true, false}
 use Rattle.std.proofs.Math.Seq.{take-append-add}
 use Rattle.std.proofs.lemmas.List.{length-drop}
 use Rattle.std.specs.Io.KnownBytes.{Appends}
@@ -7,16 +7,14 @@ use Rattle.std.proofs.KnownBytes.{Appends-trans, Appends-nil}
 use Rattle.rand_core.specs.Stream.{Stream}
 use Rattle.keycard_rules.proofs.Drawing.{past-zero}
 use Rattle.hotel_core.proofs.Assurance.{assured}
-use Rattle.hotel_core.specs.Cases.{is_room}
-use Rattle.hotel_core.specs.Lists.{arrivals, in_house, chain, left_behind, audit_of}
-use Rattle.hotel_lists.specs.Lines.{arrivals_header, in_house_header, chain_header, left_behind_header, audit_header, arrival_line, house_line, chain_line, behind_line, note_line}
+use Rattle.hotel_core.proofs.FailuresCounted.{none_counted, counted_join}
+use Rattle.hotel_core.specs.Failures.{AreCounted}
 use Rattle.hotel_desk.specs.declared.asks.Ask.{Ask}
 use Rattle.hotel_desk.specs.declared.asks.Ask.TheVariants as ask
-use Rattle.hotel_desk.specs.declared.list_asks.ListAsk.{ListAsk}
-use Rattle.hotel_desk.specs.declared.list_asks.ListAsk.TheVariants.{Arrivals, InHouse, ChainOf, LeftBehind, AuditOf}
-use Rattle.hotel_desk.specs.ListAnswers.{IsListAnswer, IsRoomAnswer, AnswersList}
 use Rattle.hotel_core.specs.declared.reply.Reply.TheVariants.{Refused}
+use Rattle.hotel_core.specs.declared.reply.Refusal.{Refusal}
 use Rattle.hotel_core.specs.declared.reply.Refusal.TheVariants.{Memory}
+use Rattle.hotel_desk.specs.Asks.{ask_copies, AsksCopy}
 use Rattle.hotel_core.specs.Rows.{Rows}
 use Rattle.hotel_core.specs.History.{History}
 use Rattle.hotel_core.specs.Texts.{reply_text}
@@ -25,36 +23,32 @@ use Rattle.hotel_desk.specs.Lines.{lines, without_return, is_silent, answered_li
 use Rattle.hotel_desk.specs.LineAnswers.{AskGoes, LineGoes, LineIsAnswered}
 use Rattle.hotel_desk.specs.Script.{ScriptGoes, RowsGoSafely, RowsGo}
 
-cut_at_once : {R : Type 0} (header : List ℕ) (line : R → List ℕ) (rows : List R) → IsListAnswer header line rows (reply_text (Refused Memory))
-cut_at_once header line rows = inr ([], Memory, inl refl, refl, refl)
-
-room_at_once : {R : Type 0} (there : Bool) (header : List ℕ) (line : R → List ℕ) (rows : List R) → IsRoomAnswer there header line rows (reply_text (Refused Memory))
-room_at_once true header line rows = cut_at_once header line rows
-room_at_once false header line rows = inr (Memory, refl, refl)
-
-list_without_memory : (h : History) (its_list : ListAsk) → AnswersList h its_list (reply_text (Refused Memory))
-list_without_memory h (Arrivals day) = cut_at_once arrivals_header arrival_line (arrivals h day)
-list_without_memory h InHouse = cut_at_once in_house_header house_line (in_house h)
-list_without_memory h (ChainOf room) = room_at_once (is_room h room) chain_header chain_line (chain h room)
-list_without_memory h LeftBehind = cut_at_once left_behind_header behind_line (left_behind h)
-list_without_memory h (AuditOf room) = room_at_once (is_room h room) audit_header note_line (audit_of h room)
-
--- where there is no memory to read what is asked, nothing is moved
-pub ask_without_memory : (wanted : Option Ask) (h : History) (s : Stream) → IsSome wanted → AskGoes wanted h s (reply_text (Refused Memory)) h s
-ask_without_memory None h s p = cc p
-ask_without_memory (Some (ask.Command command)) h s p = (Refused Memory, (refl, (0, omega arith, sym (past-zero s))), refl)
-ask_without_memory (Some (ask.List its_list)) h s p = (list_without_memory h its_list, refl, refl)
+-- where there is no memory to copy a text of what is asked, nothing is moved
+pub ask_without_memory : (wanted : Option Ask) (h : History) (s : Stream) → AsksCopy ask_copies wanted → AskGoes wanted h s (reply_text (Refused Memory)) [] h s
+ask_without_memory None h s p = absurd p
+ask_without_memory (Some (ask.Command command)) h s p = (Refused Memory, (refl, (0, omega arith, sym (past-zero s))), refl, rw p refl)
+ask_without_memory (Some (ask.List its_list)) h s p = cc p
 
 -- one line more at the end
-pub script-push : (h mid h' : History) (s source s' : Stream) (before : List (List ℕ)) (output line text : List ℕ)
-    → ScriptGoes h s before output mid source → LineGoes mid source line text h' s' → ScriptGoes h s (before ++ line ∷ []) (output ++ text) h' s'
+pub script-push : (h mid h' : History) (s source s' : Stream) (before : List (List ℕ)) (output line text : List ℕ) (failed more : List Refusal)
+    → ScriptGoes h s before output failed mid source → LineGoes mid source line text more h' s' → ScriptGoes h s (before ++ line ∷ []) (output ++ text) (failed ++ more) h' s'
 unfolding ScriptGoes
-script-push h mid h' s source s' [] output line text r p =
-    let p = subst (λ (x : History). LineGoes x source line text h' s') r.1 p in
-    let p = subst (λ (x : Stream). LineGoes h x line text h' s') r.2 p in
-    (h', s', text, [], p, (refl, refl, refl), rw r.0 (sym (append-nil text)))
-script-push h mid h' s source s' (first ∷ before) output line text r p =
-    (r.0, r.1, r.2, r.3 ++ text, r.4, script-push r.0 mid h' r.1 source s' before r.3 line text r.5 p, rw r.6 (append_assoc r.2 r.3 text))
+script-push h mid h' s source s' [] output line text failed more r p =
+    let p = subst (λ (x : History). LineGoes x source line text more h' s') r.2 p in
+    let p = subst (λ (x : Stream). LineGoes h x line text more h' s') r.3 p in
+    (h', s', text, [], more, [], p, (refl, refl, refl, refl), rw r.0 (sym (append-nil text)), rw r.1 (sym (append-nil more)))
+script-push h mid h' s source s' (first ∷ before) output line text failed more r p = (
+  r.0,
+  r.1,
+  r.2,
+  r.3 ++ text,
+  r.4,
+  r.5 ++ more,
+  r.6,
+  script-push r.0 mid h' r.1 source s' before r.3 line text r.5 more r.7 p,
+  rw r.8 (append_assoc r.2 r.3 text),
+  rw r.9 (append_assoc r.4 r.5 more),
+)
 
 line_after : (all : List (List ℕ)) (done : ℕ) (line : List ℕ) (later : List (List ℕ)) → drop done all ≡ line ∷ later
     → (suc done ≤ length all) × (drop (suc done) all ≡ later) × (take (suc done) all ≡ take done all ++ line ∷ [])
@@ -76,24 +70,26 @@ all_done all done h e =
     (omega (arith, none, length-drop done all), sym (append-nil (take done all)) ∙ (ap (λ (ls : List (List ℕ)). take done all ++ ls) (sym e) ∙ take-append-drop done all))
 
 -- a line more goes, and what is written grows by some of its answer
-pub rows_more : (a b c : Rows) (s t u : Stream) (all : List (List ℕ)) (done : ℕ) (line : List ℕ) (later : List (List ℕ)) (P wrote Q : List ℕ → Type 0)
-    → RowsGo a s (take done all) P b t → drop done all ≡ line ∷ later → LineIsAnswered b t line wrote c u
-    → ((output text : List ℕ) → P output → wrote text → Q (output ++ text)) → RowsGo a s (take (done + 1) all) Q c u
-rows_more a b c s t u all done line later P wrote Q go e step written = λ h stands.
+pub rows_more : (a b c : Rows) (s t u : Stream) (all : List (List ℕ)) (done : ℕ) (line : List ℕ) (later : List (List ℕ)) (P wrote Q : List ℕ → Type 0) (never_fails : Type 0) (x y z : ℕ)
+    → RowsGo a s (take done all) P (AreCounted never_fails x y) b t → drop done all ≡ line ∷ later → LineIsAnswered b t line wrote (AreCounted never_fails y z) c u
+    → ((output text : List ℕ) → P output → wrote text → Q (output ++ text)) → y ≤ z → RowsGo a s (take (done + 1) all) Q (AreCounted never_fails x z) c u
+rows_more a b c s t u all done line later P wrote Q never_fails x y z go e step written grown = λ h stands.
     let p = go h stands in
-    let q = step p.1 p.2 in
+    let q = step p.2 p.3 in
     let whole = sym (next_line all done line later e).2 in (
       p.0 ++ q.0,
-      q.1,
+      p.1 ++ q.1,
       q.2,
-      subst (λ (ls : List (List ℕ)). ScriptGoes h s ls (p.0 ++ q.0) q.1 u) whole (script-push h p.1 q.1 s t u (take done all) p.0 line q.0 p.3 q.3),
-      written p.0 q.0 p.4 q.4,
+      q.3,
+      subst (λ (ls : List (List ℕ)). ScriptGoes h s ls (p.0 ++ q.0) (p.1 ++ q.1) q.2 u) whole (script-push h p.2 q.2 s t u (take done all) p.0 line q.0 p.1 q.1 p.4 q.4),
+      written p.0 q.0 p.5 q.5,
+      counted_join never_fails x y z p.1 q.1 grown p.6 q.6,
     )
 
 -- no line went yet
-pub rows_begin : (a : Rows) (s : Stream) (known : Option (List ℕ)) → RowsGo a s [] (Appends known known) a s
+pub rows_begin : (a : Rows) (s : Stream) (known : Option (List ℕ)) (never_fails : Type 0) (x : ℕ) → RowsGo a s [] (Appends known known) (AreCounted never_fails x x) a s
 unfolding ScriptGoes
-rows_begin a s known = λ h stands. ([], h, stands, (refl, refl, refl), Appends-nil known)
+rows_begin a s known never_fails x = λ h stands. ([], [], h, stands, (refl, refl, refl, refl), Appends-nil known, none_counted never_fails x x (omega arith))
 
 -- bytes, and then a front of some more
 pub appends_front : (a b c : Option (List ℕ)) (output text : List ℕ) → AppendsFront b c text → Appends a b output → AppendsFront a c (output ++ text)
@@ -112,6 +108,6 @@ answered_more text later line cut e w h =
     k ∙ ap (λ (x : List ℕ). x ∷ answered_lines later) (sym w)
 
 -- what is assured holds of the history after the lines
-pub goes_safely : (a : Rows) (s : Stream) (lines : List (List ℕ)) (P : List ℕ → Type 0) (b : Rows) (t : Stream) → RowsGo a s lines P b t → RowsGoSafely a s lines P b t
+pub goes_safely : (a : Rows) (s : Stream) (lines : List (List ℕ)) (P : List ℕ → Type 0) (counted : List Refusal → Type 0) (b : Rows) (t : Stream) → RowsGo a s lines P counted b t → RowsGoSafely a s lines P counted b t
 unfolding RowsGoSafely
-goes_safely a s lines P b t go = λ h stands. let r = go h stands in (r.0, r.1, r.2, r.3, r.4, assured r.1 r.2.0)
+goes_safely a s lines P counted b t go = λ h stands. let r = go h stands in (r.0, r.1, r.2, r.3, r.4, r.5, r.6, assured r.2 r.3.0)

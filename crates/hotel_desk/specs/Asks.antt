@@ -1,6 +1,7 @@
 -- What a script's line asks for.
-use Rattle.std.specs.Prelude.{◌≡◌, ℕ, zero, suc, List, [], ◌∷◌, if◌then◌else◌, Option, Some, None, IsSome, Result, Ok, Err}
+use Rattle.std.specs.Prelude.{◌≡◌, ℕ, zero, suc, Bool, true, false, List, [], ◌∷◌, if◌then◌else◌, Option, Some, None, Result, Ok, Err}
 use Rattle.hotel_core.specs.declared.command.Command.{Command}
+use Rattle.hotel_core.specs.Stepping.{copies}
 use Rattle.hotel_desk.specs.declared.asks.Ask.{Ask}
 use Rattle.hotel_desk.specs.declared.asks.Ask.TheVariants as ask
 use Rattle.hotel_desk.specs.declared.asks.LineFault.{LineFault}
@@ -64,8 +65,18 @@ ask_from (Some p) = ask_after (read_list_verb p.0) p.0 p.1
 abbrev pub ask_in : List ℕ → Option Ask
 ask_in line = if is_readable line then ask_from (next_word line) else None
 
--- A line is read as wanted: what it asks for, or that it is unread, or that there was no memory for what it asks for.
-abbrev pub IsLineRead : {A : Type 0} → Option A → Result A LineFault → Type 0
-IsLineRead wanted (Ok given) = Some given ≡ wanted
-IsLineRead wanted (Err Unread) = None ≡ wanted
-IsLineRead wanted (Err Memory) = IsSome wanted
+-- What a line asks for copies a text of it: a reservation does, its guest.
+abbrev pub ask_copies : Ask → Bool
+ask_copies (ask.Command command) = copies command
+ask_copies (ask.List its_list) = false
+
+-- Something is asked, and it copies a text.
+abbrev pub AsksCopy : {A : Type 0} → (A → Bool) → Option A → Type 0
+AsksCopy copied None = ⊥
+AsksCopy copied (Some given) = copied given ≡ true
+
+-- A line is read as wanted: what it asks for, or that it is unread, or that there was no memory to copy a text of what it asks for.
+abbrev pub IsLineRead : {A : Type 0} → (A → Bool) → Option A → Result A LineFault → Type 0
+IsLineRead copied wanted (Ok given) = Some given ≡ wanted
+IsLineRead copied wanted (Err Unread) = None ≡ wanted
+IsLineRead copied wanted (Err Memory) = AsksCopy copied wanted

@@ -1,6 +1,7 @@
 -- A script: its answered lines, one after the other.
 use Rattle.std.specs.Prelude.{◌≡◌, ◌≤◌, ℕ, length, List, [], ◌∷◌, ◌++◌, Option, Some, None, IfSome}
 use Rattle.rand_core.specs.Stream.{Stream}
+use Rattle.hotel_core.specs.declared.reply.Refusal.{Refusal}
 use Rattle.hotel_core.specs.Rows.{Rows}
 use Rattle.hotel_core.specs.History.{History}
 use Rattle.hotel_core.specs.Headline.{Assured}
@@ -11,22 +12,24 @@ use Rattle.hotel_desk.specs.declared.script.ScriptFault.TheVariants.{Read, TooLa
 use Rattle.hotel_lists.specs.declared.bytes.WholeFault.{WholeFault}
 use Rattle.hotel_lists.specs.declared.bytes.WholeFault.TheVariants as whole
 
--- The lines go in their order, and the output is their answers joined.
-unfoldable pub ScriptGoes : History → Stream → List (List ℕ) → List ℕ → History → Stream → Type 0
-ScriptGoes h s [] output h' s' = (output ≡ []) × (h' ≡ h) × (s' ≡ s)
-ScriptGoes h s (line ∷ later) output h' s' =
-    (mid : History) × (source : Stream) × (text : List ℕ) × (rest : List ℕ)
-    × LineGoes h s line text mid source × ScriptGoes mid source later rest h' s' × (output ≡ text ++ rest)
+-- The lines go in their order; the output is their answers joined, and the failures are theirs, in order.
+unfoldable pub ScriptGoes : History → Stream → List (List ℕ) → List ℕ → List Refusal → History → Stream → Type 0
+ScriptGoes h s [] output failed h' s' = (output ≡ []) × (failed ≡ []) × (h' ≡ h) × (s' ≡ s)
+ScriptGoes h s (line ∷ later) output failed h' s' =
+    (mid : History) × (source : Stream) × (text : List ℕ) × (rest : List ℕ) × (first : List Refusal) × (more : List Refusal)
+    × LineGoes h s line text first mid source × ScriptGoes mid source later rest more h' s' × (output ≡ text ++ rest) × (failed ≡ first ++ more)
 
--- From rows that stand for a history the lines go, with an output of which something was written, to rows that stand for the history after them.
-abbrev pub RowsGo : Rows → Stream → List (List ℕ) → (List ℕ → Type 0) → Rows → Stream → Type 0
-RowsGo rows s lines written rows' s' =
-    (h : History) → StandsFor h rows → (output : List ℕ) × (h' : History) × StandsFor h' rows' × ScriptGoes h s lines output h' s' × written output
+-- From rows that stand for a history the lines go, with an output of which something was written and failures that were counted, to rows that stand for the history after them.
+abbrev pub RowsGo : Rows → Stream → List (List ℕ) → (List ℕ → Type 0) → (List Refusal → Type 0) → Rows → Stream → Type 0
+RowsGo rows s lines written counted rows' s' =
+    (h : History) → StandsFor h rows
+    → (output : List ℕ) × (failed : List Refusal) × (h' : History) × StandsFor h' rows' × ScriptGoes h s lines output failed h' s' × written output × counted failed
 
 -- And what is assured holds of the history after them.
-unfoldable pub RowsGoSafely : Rows → Stream → List (List ℕ) → (List ℕ → Type 0) → Rows → Stream → Type 0
-RowsGoSafely rows s lines written rows' s' =
-    (h : History) → StandsFor h rows → (output : List ℕ) × (h' : History) × StandsFor h' rows' × ScriptGoes h s lines output h' s' × written output × Assured h'
+unfoldable pub RowsGoSafely : Rows → Stream → List (List ℕ) → (List ℕ → Type 0) → (List Refusal → Type 0) → Rows → Stream → Type 0
+RowsGoSafely rows s lines written counted rows' s' =
+    (h : History) → StandsFor h rows
+    → (output : List ℕ) × (failed : List Refusal) × (h' : History) × StandsFor h' rows' × ScriptGoes h s lines output failed h' s' × written output × counted failed × Assured h'
 
 -- The script is what the reader had, where its bytes are known, and no longer than the limit.
 abbrev pub IsInput : ℕ → Option (List ℕ) → List ℕ → Type 0

@@ -3,13 +3,18 @@ use Rattle.std.specs.Prelude.{◌≡◌, ℕ, List, [], ◌∷◌, ◌++◌, map
 use Rattle.rand_core.specs.Stream.{Stream}
 use Rattle.hotel_core.specs.declared.command.Command.{Command}
 use Rattle.hotel_core.specs.declared.reply.Reply.{Reply}
+use Rattle.hotel_core.specs.declared.reply.Refusal.{Refusal}
 use Rattle.hotel_core.specs.History.{History}
 use Rattle.hotel_core.specs.Run.{Runs}
+use Rattle.hotel_core.specs.Failures.{failure_in}
+use Rattle.hotel_core.specs.Stepping.{copies}
 use Rattle.hotel_core.specs.Texts.{reply_text}
 use Rattle.hotel_desk.specs.Asks.{ask_in}
 use Rattle.hotel_desk.specs.declared.asks.Ask.{Ask}
 use Rattle.hotel_desk.specs.declared.asks.Ask.TheVariants as ask
+use Rattle.hotel_desk.specs.declared.list_asks.ListAsk.{ListAsk}
 use Rattle.hotel_desk.specs.LineAnswers.{unread_text}
+use Rattle.hotel_desk.specs.ListAnswers.{AnswersList}
 use Rattle.hotel_desk.specs.Script.{ScriptGoes}
 
 -- The commands among what lines ask for.
@@ -20,15 +25,38 @@ commands_of (Some (ask.Command command) ∷ later) = command ∷ commands_of lat
 commands_of (Some (ask.List its_list) ∷ later) = commands_of later
 
 -- The output of lines whose commands are given these replies, and whose lists these answers, in order.
-abbrev pub output_of : List (Option Ask) → List Reply → List (List ℕ) → List ℕ
+abbrev pub output_of : List (Option Ask) → List Reply → List (List ℕ × List Refusal) → List ℕ
 output_of [] replies lists = []
 output_of (None ∷ later) replies lists = unread_text ++ output_of later replies lists
 output_of (Some (ask.Command command) ∷ later) [] lists = []
 output_of (Some (ask.Command command) ∷ later) (reply ∷ replies) lists = reply_text reply ++ output_of later replies lists
 output_of (Some (ask.List its_list) ∷ later) replies [] = []
-output_of (Some (ask.List its_list) ∷ later) replies (text ∷ lists) = text ++ output_of later replies lists
+output_of (Some (ask.List its_list) ∷ later) replies (answer ∷ lists) = answer.0 ++ output_of later replies lists
 
--- The commands of a script's lines are a run, and the output is that of its replies and of the lists' answers.
+-- The failures that the books counted where these are the replies and the lists' answers, in order.
+abbrev pub failed_of : List (Option Ask) → List Reply → List (List ℕ × List Refusal) → List Refusal
+failed_of [] replies lists = []
+failed_of (None ∷ later) replies lists = failed_of later replies lists
+failed_of (Some (ask.Command command) ∷ later) [] lists = []
+failed_of (Some (ask.Command command) ∷ later) (reply ∷ replies) lists = failure_in reply (copies command) ++ failed_of later replies lists
+failed_of (Some (ask.List its_list) ∷ later) replies [] = []
+failed_of (Some (ask.List its_list) ∷ later) replies (answer ∷ lists) = answer.1 ++ failed_of later replies lists
+
+-- The commands of lines are a run, and the output and the failures are those of its replies and of the lists' answers.
+abbrev pub LinesRun : History → Stream → List (List ℕ) → List ℕ → List Refusal → History → Stream → Type 0
+LinesRun h s lines output failed h' s' =
+    (replies : List Reply) × (lists : List (List ℕ × List Refusal)) × Runs h s (commands_of (map ask_in lines)) replies h' s'
+    × (output ≡ output_of (map ask_in lines) replies lists) × (failed ≡ failed_of (map ask_in lines) replies lists)
+
+-- The lines of a script are a run of their commands.
 abbrev pub ScriptsRun : Type 0
-ScriptsRun = (h h' : History) (s s' : Stream) (lines : List (List ℕ)) (output : List ℕ) → ScriptGoes h s lines output h' s'
-    → (replies : List Reply) × (lists : List (List ℕ)) × Runs h s (commands_of (map ask_in lines)) replies h' s' × (output ≡ output_of (map ask_in lines) replies lists)
+ScriptsRun = (h h' : History) (s s' : Stream) (lines : List (List ℕ)) (output : List ℕ) (failed : List Refusal)
+    → ScriptGoes h s lines output failed h' s' → LinesRun h s lines output failed h' s'
+
+-- Where a line asks for a list, the lines before it are a run to some history, the list is answered over that history, and the lines after it are a run from there.
+abbrev pub ListsBetween : Type 0
+ListsBetween = (h h' : History) (s s' : Stream) (before later : List (List ℕ)) (line : List ℕ) (its_list : ListAsk) (output : List ℕ) (failed : List Refusal)
+    → ScriptGoes h s (before ++ line ∷ later) output failed h' s' → ask_in line ≡ Some (ask.List its_list)
+    → (mid : History) × (source : Stream) × (first text rest : List ℕ) × (failed_first failed_text failed_rest : List Refusal)
+    × LinesRun h s before first failed_first mid source × AnswersList mid its_list text failed_text × LinesRun mid source later rest failed_rest h' s'
+    × (output ≡ first ++ text ++ rest) × (failed ≡ failed_first ++ failed_text ++ failed_rest)

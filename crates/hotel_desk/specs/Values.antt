@@ -1,5 +1,5 @@
 -- The values of commands: each is what its reader makes of a text, or refused by its name.
-use Rattle.std.specs.Prelude.{◌≡◌, ℕ, ◌&&◌, IsOk, List, if◌then◌else◌, Result, Ok, Err}
+use Rattle.std.specs.Prelude.{◌≡◌, ℕ, ◌&&◌, Bool, true, List, if◌then◌else◌, Result, Ok, Err}
 use Rattle.std.specs.Option.{ok_or}
 use Rattle.std.specs.Str.{is_utf8}
 use Rattle.keycard_rules.specs.Numerals.{number_up_to, read_code}
@@ -51,8 +51,13 @@ abbrev pub ◌>>=◌ : {A B : Type 0} → Result A ValueFault → (A → Result 
 (Ok a) >>= f = f a
 (Err e) >>= f = Err e
 
--- A reading is as wanted, or there was no memory for what is wanted.
-abbrev pub IsReading : {A : Type 0} → Result A ValueFault → Result A AskFault → Type 0
-IsReading wanted (Ok a) = Ok a ≡ wanted
-IsReading wanted (Err (Values fault)) = Err fault ≡ wanted
-IsReading wanted (Err Memory) = IsOk wanted
+-- A value is given, and it is one whose reading copies a text.
+abbrev pub IsCopy : {A : Type 0} → (A → Bool) → Result A ValueFault → Type 0
+IsCopy copied (Ok a) = copied a ≡ true
+IsCopy copied (Err _) = ⊥
+
+-- A reading is as wanted, or there was no memory to copy what is wanted.
+abbrev pub IsReading : {A : Type 0} → (A → Bool) → Result A ValueFault → Result A AskFault → Type 0
+IsReading copied wanted (Ok a) = Ok a ≡ wanted
+IsReading copied wanted (Err (Values fault)) = Err fault ≡ wanted
+IsReading copied wanted (Err Memory) = IsCopy copied wanted

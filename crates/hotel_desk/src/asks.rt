@@ -1,8 +1,9 @@
 //! What a script's line asks for.
 
 ghost use Rattle.std.specs.Prelude.{◌≡◌, ◌≤◌, ◌<◌, Option, None, Some, IfSome, MatchOption, Result, length, map, take};
-ghost use Rattle.hotel_desk.specs.Asks.{words_and_rest, command_given, command_after, command_asked, list_given, ask_after, ask_in, IsLineRead};
+ghost use Rattle.hotel_desk.specs.Asks.{words_and_rest, command_given, command_after, command_asked, list_given, ask_after, ask_in, ask_copies, IsLineRead};
 ghost use Rattle.hotel_core.specs.declared.command.Command.{Command};
+ghost use Rattle.hotel_core.specs.Stepping.{copies};
 ghost use Rattle.hotel_desk.specs.declared.values.ValueFault.{ValueFault};
 ghost use Rattle.hotel_desk.specs.Values.{IsReading};
 ghost use Rattle.hotel_desk.specs.ListAsks.{list_of, read_list_verb};
@@ -70,7 +71,7 @@ fn split_reservation(text: &[u8]) -> Option<LineValues<'_>>
 
 /// The command of a line whose values were read.
 fn command_read(read: Result<Command, AskFault>) -> Result<Command, LineFault>
-    ensures { (wanted : Result Command ValueFault) → IsReading wanted read → IsLineRead (command_given wanted) result }
+    ensures { (wanted : Result Command ValueFault) → IsReading copies wanted read → IsLineRead copies (command_given wanted) result }
 {
     match read {
         Ok(command) => Ok(command),
@@ -81,7 +82,7 @@ fn command_read(read: Result<Command, AskFault>) -> Result<Command, LineFault>
 
 /// Reads the command that the verb and the text after it ask for.
 fn read_values(alloc: Global, verb: Verb, text: &[u8]) -> Result<Command, LineFault>
-    ensures { IsLineRead (command_after (Some verb) text.now) result }
+    ensures { IsLineRead copies (command_after (Some verb) text.now) result }
 {
     match verb {
         Verb::Reserve => {
@@ -101,7 +102,7 @@ fn read_values(alloc: Global, verb: Verb, text: &[u8]) -> Result<Command, LineFa
 
 /// What a line asks for whose command was read.
 fn command_asked(read: Result<Command, LineFault>) -> Result<Ask, LineFault>
-    ensures { (wanted : Option Command) → IsLineRead wanted read → IsLineRead (command_asked wanted) result }
+    ensures { (wanted : Option Command) → IsLineRead copies wanted read → IsLineRead ask_copies (command_asked wanted) result }
 {
     match read {
         Ok(command) => Ok(Ask::Command(command)),
@@ -111,7 +112,7 @@ fn command_asked(read: Result<Command, LineFault>) -> Result<Ask, LineFault>
 
 /// Reads the list that the verb and the text after it ask for.
 fn list_asked(verb: ListVerb, text: &[u8]) -> Result<Ask, LineFault>
-    ensures { IsLineRead (list_given (list_of verb (words text.now))) result }
+    ensures { IsLineRead ask_copies (list_given (list_of verb (words text.now))) result }
 {
     let Some(values) = split_words(text) else {
         return Err(LineFault::Unread);
@@ -125,7 +126,7 @@ fn list_asked(verb: ListVerb, text: &[u8]) -> Result<Ask, LineFault>
 /// Reads what a line's first word and the text after it ask for: a list where the word is the verb of
 /// one, else a command.
 fn read_ask(alloc: Global, word: &[u8], text: &[u8]) -> Result<Ask, LineFault>
-    ensures { IsLineRead (ask_after (read_list_verb word.now) word.now text.now) result }
+    ensures { IsLineRead ask_copies (ask_after (read_list_verb word.now) word.now text.now) result }
 {
     if let Some(verb) = read_list_verb(word) {
         return list_asked(verb, text);
@@ -139,7 +140,7 @@ fn read_ask(alloc: Global, word: &[u8], text: &[u8]) -> Result<Ask, LineFault>
 /// Reads what a script's line asks for. The line is without its end. A guest is the rest of its line;
 /// a moment has a `T`, since a space would make two words of it.
 pub fn read_line(alloc: Global, line: &[u8]) -> Result<Ask, LineFault>
-    ensures { IsLineRead (ask_in line.now) result }
+    ensures { IsLineRead ask_copies (ask_in line.now) result }
 {
     if !is_readable(line) {
         return Err(LineFault::Unread);

@@ -2,6 +2,7 @@
 
 ghost use Rattle.std.specs.Prelude.{◌≡◌, map};
 ghost use Rattle.hotel_desk.specs.Commands.{only_party, party_and_room, party_with_room, begin_of, add_kind_of, room_of_kind, add_room_of, booking_of, reserve_of, cancel_of, check_in_of, spare_of, transfer_of, check_out_of, next_day_of, entered_of, left_of, report_of, link_in, card_note_of, card_note, recoding_of, recoded_of};
+ghost use Rattle.hotel_core.specs.Stepping.{copies};
 ghost use Rattle.hotel_desk.specs.Values.{IsReading};
 ghost use Rattle.hotel_desk.specs.Verbs.{command_of};
 
@@ -85,7 +86,7 @@ fn read_booking(
     nights: &[u8],
     guest: &[u8],
 ) -> Result<Command, AskFault>
-    ensures { IsReading (booking_of kind.now arrive.now nights.now guest.now) result }
+    ensures { IsReading copies (booking_of kind.now arrive.now nights.now guest.now) result }
 {
     let kind = read_kind(kind)?;
     let arrive = read_day(ValueName::Arrive, arrive)?;
@@ -100,7 +101,7 @@ fn read_booking(
 }
 
 fn read_reserve(alloc: Global, values: &[&[u8]]) -> Result<Command, AskFault>
-    ensures { IsReading (reserve_of (map (λ v. v.now) values.now)) result }
+    ensures { IsReading copies (reserve_of (map (λ v. v.now) values.now)) result }
 {
     if values.len() != 4 {
         return Err(AskFault::Values(ValueFault::Number));
@@ -261,7 +262,7 @@ fn read_left(values: &[&[u8]]) -> Result<Command, ValueFault>
 /// Reads the command that the verb and the texts of its values ask for, the values from left to
 /// right. Each value is one text, also the guest.
 pub fn read_command(alloc: Global, verb: Verb, values: &[&[u8]]) -> Result<Command, AskFault>
-    ensures { IsReading (command_of verb (map (λ v. v.now) values.now)) result }
+    ensures { IsReading copies (command_of verb (map (λ v. v.now) values.now)) result }
 {
     let read = match verb {
         Verb::Reserve => return read_reserve(alloc, values),

@@ -1,6 +1,6 @@
 //! The values of commands: each read from a text, or refused by its name.
 
-ghost use Rattle.std.specs.Prelude.{◌≡◌};
+ghost use Rattle.std.specs.Prelude.{◌≡◌, true};
 ghost use Rattle.hotel_desk.specs.Values.{day_in, code_in, kind_in, nights_in, guest_in, room_in, party_in, card_in, count_in, moment_in, IsReading};
 ghost use Rattle.hotel_desk.specs.declared.values.AskFault.TheVariants.{Values};
 
@@ -108,7 +108,7 @@ pub fn read_moment(text: &[u8]) -> Result<Moment, ValueFault>
 
 /// Reads the name of a guest.
 pub fn read_guest(alloc: Global, text: &[u8]) -> Result<Guest, AskFault>
-    ensures { IsReading (guest_in text.now) result }
+    ensures { IsReading (λ guest. true) (guest_in text.now) result }
 {
     let Ok(text) = std::str::from_utf8(text) else {
         return Err(AskFault::Values(ValueFault::Value(ValueName::Guest)));

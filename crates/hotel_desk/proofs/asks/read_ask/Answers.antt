@@ -3,16 +3,16 @@ use Rattle.hotel_desk.specs.declared.asks.Ask.{Ask}
 use Rattle.hotel_desk.specs.declared.asks.LineFault.{LineFault}
 use Rattle.hotel_desk.specs.declared.list_asks.ListVerb.{ListVerb}
 use Rattle.hotel_desk.specs.declared.verb.Verb.{Verb}
-use Rattle.hotel_desk.specs.Asks.{command_after, command_asked, ask_after, IsLineRead}
+use Rattle.hotel_desk.specs.Asks.{command_after, command_asked, ask_after, ask_copies, IsLineRead}
 use Rattle.hotel_desk.specs.Verbs.{read_verb}
 use Rattle.hotel_desk.proofs.asks.read_ask.Goals as goal
 
 -- a word that is no list's verb asks for a command
 after_command : (its_list : Option ListVerb) (verb : Option Verb) (word text : List ℕ) (result : Result Ask LineFault) → None ≡ its_list → verb ≡ read_verb word
-    → IsLineRead (command_asked (command_after verb text)) result → IsLineRead (ask_after its_list word text) result
+    → IsLineRead ask_copies (command_asked (command_after verb text)) result → IsLineRead ask_copies (ask_after its_list word text) result
 after_command its_list verb word text result none is p =
-    let q = subst (λ (v : Option Verb). IsLineRead (command_asked (command_after v text)) result) is p in
-    subst (λ (l : Option ListVerb). IsLineRead (ask_after l word text) result) none q
+    let q = subst (λ (v : Option Verb). IsLineRead ask_copies (command_asked (command_after v text)) result) is p in
+    subst (λ (l : Option ListVerb). IsLineRead ask_copies (ask_after l word text) result) none q
 
 pub returns : goal.returns
 returns c =

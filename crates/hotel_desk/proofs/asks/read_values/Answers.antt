@@ -1,5 +1,6 @@
 -- The values that were found are those of the verb.
 use Rattle.std.proofs.Common.{◌≡◌, ◌≢◌, ℕ, List, refl, subst, ◌∙◌}
+use Rattle.hotel_core.specs.Stepping.{copies}
 use Rattle.hotel_desk.specs.Asks.{values_after, words_and_rest, command_given, IsLineRead}
 use Rattle.hotel_desk.specs.Verbs.{command_of}
 use Rattle.hotel_desk.specs.Words.{words}
@@ -27,12 +28,12 @@ after_other Recoded text other = refl
 
 pub returns-in-Some : goal.returns-in-Some
 returns-in-Some c =
-    let P : List (List ℕ) → Type 0 = λ values. IsLineRead (command_given (command_of c.args.verb values)) c.command_read.result in
+    let P : List (List ℕ) → Type 0 = λ values. IsLineRead copies (command_given (command_of c.args.verb values)) c.command_read.result in
     let values = c.as_slice.ensures ∙ c.in-Some.ensures ∙ after_reserve c.args.verb c.args.text.now c.in-Reserve.is in
     subst P values (c.command_read.ensures _ c.read_command.ensures)
 
 pub returns-in-Some-split_words : goal.returns-in-Some-split_words
 returns-in-Some-split_words c =
-    let P : List (List ℕ) → Type 0 = λ values. IsLineRead (command_given (command_of c.args.verb values)) c.command_read-in_default.result in
+    let P : List (List ℕ) → Type 0 = λ values. IsLineRead copies (command_given (command_of c.args.verb values)) c.command_read-in_default.result in
     let values = c.as_slice-in_default.ensures ∙ c.in-Some-split_words.ensures.found ∙ after_other c.args.verb c.args.text.now c.in_default.not-Reserve in
     subst P values (c.command_read-in_default.ensures _ c.read_command-in_default.ensures)

@@ -1,6 +1,7 @@
 -- Four values are those of a booking, and other numbers of values are none.
 use Rattle.std.proofs.Common.{◌≡◌, ◌≢◌, ℕ, List, [], ◌∷◌, length, map, get_or, refl, arith, Err, Bor, Result, subst}
 use Rattle.hotel_core.specs.declared.command.Command.{Command}
+use Rattle.hotel_core.specs.Stepping.{copies}
 use Rattle.hotel_desk.specs.declared.values.ValueFault.{ValueFault}
 use Rattle.hotel_desk.specs.declared.values.ValueFault.TheVariants.{Number}
 use Rattle.hotel_desk.specs.Commands.{reserve_of, booking_of}
@@ -29,5 +30,5 @@ returns-then-values-ne4 c = not_four c.args.values.now c.if-values-ne4.true
 
 pub returns : goal.returns
 returns c =
-    let P : Result Command ValueFault → Type 0 = λ w. IsReading w c.read_booking.result in
+    let P : Result Command ValueFault → Type 0 = λ w. IsReading copies w c.read_booking.result in
     subst P (four c.args.values.now (record { ref_ptr = (0, 0); now = [] }) c.if-values-ne4.false) c.read_booking.ensures

@@ -1,6 +1,7 @@
 -- the lines that are done went, and the others are left
 use Rattle.std.proofs.Common.{◌≡◌, ◌+◌, ◌≤◌, length, take, drop}
 use Rattle.std.specs.Io.KnownBytes.{Appends}
+use Rattle.hotel_core.specs.Failures.{AreCounted}
 use Rattle.hotel_desk.specs.Lines.{answered_lines}
 use Rattle.hotel_desk.specs.Script.{RowsGo}
 use Rattle.hotel_desk.proofs.script.answer_lines.Given as goal
@@ -12,7 +13,9 @@ invariant-loop-line g l = record {
   left : drop l.done (answered_lines l.script) ≡ answered_lines l.rest;
   clean : g.B.Issued.is_clean l.books → g.B.Issued.is_clean l.initial.books;
   went : g.B.Issued.is_clean l.books → RowsGo (g.B.Books.rows l.initial.books) (g.R.Rng.stream l.initial.source) (take l.done (answered_lines l.script))
-      (Appends (g.W.Write.contents l.initial.writer) (g.W.Write.contents l.writer)) (g.B.Books.rows l.books) (g.R.Rng.stream l.source);
+      (Appends (g.W.Write.contents l.initial.writer) (g.W.Write.contents l.writer))
+      (AreCounted g.B.Issued.never_fails (g.B.Issued.failures l.initial.books) (g.B.Issued.failures l.books)) (g.B.Books.rows l.books) (g.R.Rng.stream l.source);
+  counted : g.B.Issued.failures l.initial.books ≤ g.B.Issued.failures l.books;
 }
 
 abbrev pub decreases-loop-line : goal.decreases-loop-line

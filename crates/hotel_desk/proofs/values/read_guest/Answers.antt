@@ -1,6 +1,6 @@
 -- A guest's text is UTF-8 and its reader takes it.
 use Rattle.std.proofs.Common.{◌≡◌, ℕ, List, Bool, IsUtf8, true, false, ◌&&◌, refl, sym, ap, ap₂, subst, inl, inr, Result, Ok, Err, ◌∙◌}
-use Rattle.std.specs.Prelude.{IsOk, if◌then◌else◌}
+use Rattle.std.specs.Prelude.{if◌then◌else◌}
 use Rattle.std.proofs.lemmas.Bool.{cases_Bool}
 use Rattle.std.proofs.lemmas.Str.{IsUtf8-from_is_utf8, is_utf8-from_IsUtf8}
 use Rattle.std.specs.Str.{is_utf8}
@@ -10,7 +10,7 @@ use Rattle.hotel_nights.specs.declared.guest.GuestFault.TheVariants.{Unread, Mem
 use Rattle.hotel_desk.specs.declared.values.ValueFault.{ValueFault}
 use Rattle.hotel_desk.specs.declared.values.ValueFault.TheVariants.{Value}
 use Rattle.hotel_desk.specs.declared.values.ValueName.TheVariants.{Guest}
-use Rattle.hotel_desk.specs.Values.{guest_in}
+use Rattle.hotel_desk.specs.Values.{guest_in, IsCopy}
 use Rattle.hotel_desk.proofs.values.read_guest.Goals as goal
 
 -- a text that is not UTF-8 is no guest
@@ -30,8 +30,8 @@ taken text u h = elim (cases_Bool (is_guest text)) [
   | inr not ↦ absurd (h not)
 ]
 
-is_ok_of : (text : List ℕ) → Ok text ≡ guest_in text → IsOk (guest_in text)
-is_ok_of text e = let P : Result (List ℕ) ValueFault → Type 0 = λ r. IsOk r in subst P e refl
+is_copy : (text : List ℕ) → Ok text ≡ guest_in text → IsCopy (λ guest. true) (guest_in text)
+is_copy text e = let P : Result (List ℕ) ValueFault → Type 0 = λ r. IsCopy (λ guest. true) r in subst P e refl
 
 abbrev refused : GuestFault → Result (List ℕ) GuestFault
 refused fault = Err fault
@@ -54,5 +54,5 @@ pub returns-in-Err-Memory : goal.returns-in-Err-Memory
 returns-in-Err-Memory c =
     let same = c.in-Ok.ensures.cases.0 in
     let reads : is_guest c.in-Ok.text.now ≡ false → ⊥ = λ no_guest. apart c.in-Err-Memory.field-0 c.in-Err-Memory.field-0-is (c.in-Err-Memory.ensures.unread.1 no_guest) in
-    is_ok_of c.args.text.now
+    is_copy c.args.text.now
     (taken c.args.text.now c.in-Ok.ensures.cases.1 (λ no_guest. reads (let Q : List ℕ → Type 0 = λ t. is_guest t ≡ false in subst Q (sym same) no_guest)))
