@@ -132,3 +132,5 @@ mod command_scenarios;
 mod scenarios;
 #[cfg(test)]
 mod tests;
+#[cfg(test)]
+mod three_hundred_rooms;
