@@ -11,6 +11,10 @@ use std::marker::Model;
 struct Faults {
     calls: u32,
     interrupted: u32,
+    /// How many interruptions come before each call that goes through.
+    before_each: u32,
+    /// How many of these came since the last such call.
+    came: u32,
     failing: Option<u32>,
 }
 
@@ -19,6 +23,8 @@ impl Faults {
         Faults {
             calls: 0,
             interrupted: 0,
+            before_each: 0,
+            came: 0,
             failing: None,
         }
     }
@@ -29,6 +35,11 @@ impl Faults {
         if self.calls <= self.interrupted {
             return Some(ErrorKind::Interrupted);
         }
+        if self.came < self.before_each {
+            self.came = self.came.saturating_add(1);
+            return Some(ErrorKind::Interrupted);
+        }
+        self.came = 0;
         if self.failing == Some(self.calls) {
             return Some(ErrorKind::Other);
         }
@@ -167,6 +178,14 @@ impl FakeWriter {
         ensures { result ≡ self }
     {
         self.faults.interrupted = times;
+        self
+    }
+
+    /// Each of its calls is interrupted so many times before it goes through.
+    pub fn interrupted_before_each(mut self, times: u32) -> FakeWriter
+        ensures { result ≡ self }
+    {
+        self.faults.before_each = times;
         self
     }
 

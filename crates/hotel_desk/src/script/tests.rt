@@ -324,3 +324,28 @@ fn interruptions_of_one_call_are_counted_together(rt: HostRuntime) -> Result<(),
     interrupted_end(&rt, 399, Ok(ScriptEnd { lines: 1 }))?;
     interrupted_end(&rt, 400, Err(ScriptFault::Write { done: 1 }))
 }
+
+/// A script of two lists, each a header alone, ends so, where each write is interrupted so many times.
+fn two_lists_end(
+    rt: &(impl Abort + AllocGlobal),
+    times: u32,
+    outcome: Result<ScriptEnd, ScriptFault>,
+    answers: &[u8],
+) -> Result<(), Fail> {
+    let mut desk = desk_of(rt.alloc(), &[0xa0])?;
+    let mut reader = FakeReader::new(b"left-behind\nleft-behind\n");
+    let mut writer = FakeWriter::new(rt.alloc()).interrupted_before_each(times);
+    let ran = desk.answer(rt.alloc(), &mut reader, &mut writer);
+    assert_eq!(rt; ran, outcome, "{times} times");
+    assert_eq!(rt; writer.written(), answers, "{times} times");
+    Ok(())
+}
+
+#[test]
+fn interruptions_of_lists_are_counted_together(rt: HostRuntime) -> Result<(), Fail> {
+    let one = b"room,held,current,awaited\n";
+    let two = b"room,held,current,awaited\nroom,held,current,awaited\n";
+    two_lists_end(&rt, 499, Ok(ScriptEnd { lines: 2 }), two)?;
+    two_lists_end(&rt, 500, Err(ScriptFault::Write { done: 2 }), one)?;
+    two_lists_end(&rt, 600, Err(ScriptFault::Write { done: 2 }), one)
+}

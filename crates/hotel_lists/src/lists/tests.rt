@@ -6,6 +6,7 @@ use hotel_core::{ChainRow, Command, ListBooks, Reply, Sink, Stop, WalkFault, Wal
 use hotel_nights::{Day, Guest, KindCode, Nights};
 use keycard_rules::{Act, CardNo, Code, Count, Link, ListedWords, LockNote, PartyNo, RoomNo};
 use std::alloc::Global;
+use std::process::Abort;
 use std::test::Fail;
 
 /// 2031-05-01.
@@ -161,34 +162,6 @@ fn two_entries_chain(rt: HostRuntime) -> Result<(), Fail> {
 }
 
 #[test]
-fn left_behind_recoded(rt: HostRuntime) -> Result<(), Fail> {
-    let alloc = rt.alloc();
-    let mut desk = left_behind_desk(alloc)?;
-    let mut writer = FakeWriter::new(alloc);
-    left_behind(alloc, &mut desk.books, &mut writer)?;
-    assert_eq!(rt;
-        writer.written(),
-        b"room,held,current,awaited\n101,0000000000a0,0000000000a2,2\n".as_slice()
-    );
-    let recoding = Act::Recoded {
-        from: code(0xa0)?,
-        to: code(0xa2)?,
-    };
-    desk.does(note(101, 1, recoding, AFTERNOON)?)?;
-    desk.does(entered(101, 2, 2, 0xa1, 0xa2)?)?;
-    let mut writer = FakeWriter::new(alloc);
-    chain_of(alloc, &mut desk.books, room(101)?, &mut writer)?;
-    assert_eq!(rt;
-        writer.written(),
-        b"place,code,state\n0,0000000000a0,passed\n1,0000000000a1,passed\n2,0000000000a2,held\n".as_slice()
-    );
-    let mut writer = FakeWriter::new(alloc);
-    left_behind(alloc, &mut desk.books, &mut writer)?;
-    assert_eq!(rt; writer.written(), b"room,held,current,awaited\n".as_slice());
-    Ok(())
-}
-
-#[test]
 fn away_and_back_in_house(rt: HostRuntime) -> Result<(), Fail> {
     let alloc = rt.alloc();
     let codes = [0xa0, 0xb0, 0xa1, 0xb1, 0xa2, 0xa3];
@@ -272,24 +245,6 @@ fn no_room_before_anything_is_written(rt: HostRuntime) -> Result<(), Fail> {
     Ok(())
 }
 
-/// Each write fails in turn: the header's, and then those of the rows.
-#[test]
-fn a_failed_write_leaves_the_lines_before_it(rt: HostRuntime) -> Result<(), Fail> {
-    let alloc = rt.alloc();
-    let mut desk = two_entries(alloc)?;
-    for (call, expected) in [
-        (1, b"".as_slice()),
-        (2, b"place,code,state\n"),
-        (3, b"place,code,state\n0,0000000000a0,passed\n"),
-    ] {
-        let mut writer = FakeWriter::new(alloc).failing_at(call);
-        let chain = chain_of(alloc, &mut desk.books, room(101)?, &mut writer);
-        assert!(rt; matches!(chain, Err(ListFault::Write)));
-        assert_eq!(rt; writer.written(), expected);
-    }
-    Ok(())
-}
-
 /// Takes so many rows, and stops at the next one.
 #[derive(Drop)]
 struct Taker {
@@ -332,4 +287,182 @@ fn a_walk_ends_where_its_sink_stops(rt: HostRuntime) -> Result<(), Fail> {
     assert!(rt; end.is_ok());
     assert_eq!(rt; all.places.as_slice(), [0, 1, 2].as_slice());
     Ok(())
+}
+
+/// Of scenario `desk-day`, the second day's arrivals.
+const DAY_ARRIVALS: &[u8] = b"party,guest,kind,arrive,depart\n2,Bo,DBL,2031-05-02,2031-05-03\n";
+
+/// Of scenario `left-behind-recoded`, the rooms left behind before the recoding.
+const BEHIND: &[u8] = b"room,held,current,awaited\n101,0000000000a0,0000000000a2,2\n";
+
+/// The same list after the recoding.
+const NONE_BEHIND: &[u8] = b"room,held,current,awaited\n";
+
+/// The codes of room 101 after the recoding.
+const CHAIN: &[u8] =
+    b"place,code,state\n0,0000000000a0,passed\n1,0000000000a1,passed\n2,0000000000a2,held\n";
+
+/// A list of a scenario.
+#[derive(Clone, Copy, Debug)]
+enum Scene {
+    DayArrivals,
+    Behind,
+    NoneBehind,
+    Chain,
+}
+
+/// Scenario `desk-day` on its second day.
+fn desk_day(alloc: Global) -> Result<Desk, Fail> {
+    let single = KindCode::read(b"SGL").ok_or("a kind")?;
+    let mut desk = Desk::begun(alloc, &[0xa0, 0xb0, 0xc0, 0xa1], &[101, 102])?;
+    desk.does(Command::AddKind(single))?;
+    desk.does(Command::AddRoom {
+        room: room(201)?,
+        kind: single,
+    })?;
+    desk.reserve("Ann", FIRST_DAY, 2)?;
+    desk.reserve("Bo", FIRST_DAY + 1, 1)?;
+    desk.check_in(1, 101)?;
+    desk.does(Command::NextDay)?;
+    Ok(desk)
+}
+
+/// Scenario `left-behind-recoded` at its end.
+fn recoded_desk(alloc: Global) -> Result<Desk, Fail> {
+    let mut desk = left_behind_desk(alloc)?;
+    let recoding = Act::Recoded {
+        from: code(0xa0)?,
+        to: code(0xa2)?,
+    };
+    desk.does(note(101, 1, recoding, AFTERNOON)?)?;
+    desk.does(entered(101, 2, 2, 0xa1, 0xa2)?)?;
+    Ok(desk)
+}
+
+impl Scene {
+    /// The desk whose list it is.
+    fn desk(self, alloc: Global) -> Result<Desk, Fail> {
+        match self {
+            Scene::DayArrivals => desk_day(alloc),
+            Scene::Behind => left_behind_desk(alloc),
+            Scene::NoneBehind | Scene::Chain => recoded_desk(alloc),
+        }
+    }
+
+    /// The list's text.
+    fn text(self) -> &'static [u8] {
+        match self {
+            Scene::DayArrivals => DAY_ARRIVALS,
+            Scene::Behind => BEHIND,
+            Scene::NoneBehind => NONE_BEHIND,
+            Scene::Chain => CHAIN,
+        }
+    }
+
+    /// Writes the list.
+    fn write(self, desk: &mut Desk, writer: &mut FakeWriter) -> Result<(), ListFault> {
+        let room = RoomNo::new(101).ok_or(ListFault::NoRoom)?;
+        let day = Day::new(FIRST_DAY + 1).ok_or(ListFault::NoRoom)?;
+        match self {
+            Scene::DayArrivals => arrivals(desk.alloc, &mut desk.books, day, writer),
+            Scene::Behind | Scene::NoneBehind => left_behind(desk.alloc, &mut desk.books, writer),
+            Scene::Chain => chain_of(desk.alloc, &mut desk.books, room, writer),
+        }
+    }
+}
+
+const SCENES: [Scene; 4] = [
+    Scene::DayArrivals,
+    Scene::Behind,
+    Scene::NoneBehind,
+    Scene::Chain,
+];
+
+/// The list is written whole.
+fn is_whole(rt: &(impl Abort + AllocGlobal), scene: Scene, desk: &mut Desk) {
+    let mut writer = FakeWriter::new(rt.alloc());
+    let written = scene.write(desk, &mut writer);
+    assert_eq!(rt; written, Ok(()), "{scene:?}");
+    assert_eq!(rt; writer.written(), scene.text(), "{scene:?}");
+}
+
+/// The write of each byte fails in turn: the bytes before it were written, and the list after it is whole.
+fn fails_by_bytes(rt: &(impl Abort + AllocGlobal), scene: Scene) -> Result<(), Fail> {
+    let mut desk = scene.desk(rt.alloc())?;
+    let text = scene.text();
+    let mut call = 0u32;
+    for before in 0..text.len() {
+        let front = &text[..before];
+        call = call.saturating_add(1);
+        let mut writer = FakeWriter::new(rt.alloc()).in_pieces(1).failing_at(call);
+        let written = scene.write(&mut desk, &mut writer);
+        assert_eq!(rt; written, Err(ListFault::Write), "{scene:?}, {call}");
+        assert_eq!(rt; writer.written(), front, "{scene:?}, {call}");
+        is_whole(rt, scene, &mut desk);
+    }
+    Ok(())
+}
+
+#[test]
+fn each_byte_whose_write_fails_ends_a_front(rt: HostRuntime) -> Result<(), Fail> {
+    for scene in SCENES {
+        fails_by_bytes(&rt, scene)?;
+    }
+    Ok(())
+}
+
+/// Each growth refused in turn: `rt try --test --fail-alloc N`, for N from 1 on. A list that found no memory has written
+/// whole rows, and the next one is whole; the fake writer's own growth is a failed write. No assertion fails; a desk that
+/// found no memory ends the test.
+#[test]
+fn a_list_is_whole_or_in_whole_rows(rt: HostRuntime) -> Result<(), Fail> {
+    for scene in SCENES {
+        let mut desk = scene.desk(rt.alloc())?;
+        let mut writer = FakeWriter::new(rt.alloc());
+        let written = scene.write(&mut desk, &mut writer);
+        let taken = writer.written();
+        assert!(rt; scene.text().starts_with(taken), "{scene:?}");
+        match written {
+            Ok(()) => assert_eq!(rt; taken.len(), scene.text().len(), "{scene:?}"),
+            Err(fault) => {
+                assert!(rt;
+                    matches!(fault, ListFault::Memory | ListFault::Write),
+                    "{scene:?}"
+                );
+                assert!(rt; taken.is_empty() || taken.ends_with(b"\n"), "{scene:?}");
+                is_whole(&rt, scene, &mut desk);
+            }
+        }
+    }
+    Ok(())
+}
+
+/// The list of room 101's codes ends so, on this writer.
+fn chain_ends(
+    rt: &(impl Abort + AllocGlobal),
+    mut writer: FakeWriter,
+    outcome: Result<(), ListFault>,
+    text: &[u8],
+) -> Result<(), Fail> {
+    let mut desk = Scene::Chain.desk(rt.alloc())?;
+    let written = Scene::Chain.write(&mut desk, &mut writer);
+    assert_eq!(rt; written, outcome);
+    assert_eq!(rt; writer.written(), text);
+    Ok(())
+}
+
+#[test]
+fn slow_interrupted_and_stuck_writers(rt: HostRuntime) -> Result<(), Fail> {
+    let alloc = rt.alloc();
+    let failed = Err(ListFault::Write);
+    let two_rows = b"place,code,state\n0,0000000000a0,passed\n1,0000000000a1,passed\n";
+    chain_ends(&rt, FakeWriter::new(alloc).in_pieces(1), Ok(()), CHAIN)?;
+    chain_ends(&rt, FakeWriter::new(alloc).interrupted(999), Ok(()), CHAIN)?;
+    chain_ends(&rt, FakeWriter::new(alloc).interrupted(1000), failed, b"")?;
+    let slow = FakeWriter::new(alloc).interrupted_before_each(249);
+    chain_ends(&rt, slow, Ok(()), CHAIN)?;
+    let slow = FakeWriter::new(alloc).interrupted_before_each(250);
+    chain_ends(&rt, slow, failed, two_rows)?;
+    chain_ends(&rt, FakeWriter::new(alloc).stuck_at(1), failed, b"")?;
+    chain_ends(&rt, FakeWriter::new(alloc).stuck_at(4), failed, two_rows)
 }
