@@ -119,4 +119,8 @@ pub fn import<B: Books>(
 #[cfg(test)]
 mod desks;
 #[cfg(test)]
+mod stopping;
+#[cfg(test)]
+mod stops;
+#[cfg(test)]
 mod tests;
