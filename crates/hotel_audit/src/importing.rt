@@ -112,4 +112,8 @@ pub fn import<B: Books>(
 #[cfg(test)]
 mod desks;
 #[cfg(test)]
+mod stopping;
+#[cfg(test)]
+mod stops;
+#[cfg(test)]
 mod tests;
