@@ -12,6 +12,8 @@ mod list_answers;
 mod list_asks;
 mod list_runs;
 mod program;
+#[cfg(test)]
+mod run_tests;
 mod scenes;
 mod script;
 mod script_run;
