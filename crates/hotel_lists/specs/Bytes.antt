@@ -3,6 +3,10 @@ use Rattle.std.specs.Prelude.{◌≡◌, ℕ, ◌≤◌, ◌++◌, List, length,
 use Rattle.std.specs.Borrow.{Bor}
 use Rattle.std.specs.List.{flat_map}
 use Rattle.std.specs.Io.KnownBytes.{Appends, Consumes}
+use Rattle.hotel_lists.specs.declared.bytes.ReadFault.{ReadFault}
+use Rattle.hotel_lists.specs.declared.bytes.ReadFault.TheVariants as more
+use Rattle.hotel_lists.specs.declared.bytes.WholeFault.{WholeFault}
+use Rattle.hotel_lists.specs.declared.bytes.WholeFault.TheVariants as whole
 
 -- A writer took a front of the bytes: all of them, some or none.
 abbrev pub AppendsFront : Option (List ℕ) → Option (List ℕ) → List ℕ → Type 0
@@ -19,3 +23,8 @@ ReadsOnto old new before after n = (bytes : List ℕ) × (length bytes ≡ n) ×
 -- The bytes of parts, one part after the other.
 abbrev pub joined : List (Bor (List ℕ)) → List ℕ
 joined parts = flat_map (λ part. part.now) parts
+
+-- Why an input was not read whole, where no more of it was read for this fault.
+abbrev pub whole_fault : ReadFault → WholeFault
+whole_fault more.Read = whole.Read
+whole_fault more.Memory = whole.Memory

@@ -1,10 +1,9 @@
 //! Loops over one reader or one writer. An interrupted call is made again, up to a limit of such calls.
 
-ghost use Rattle.std.specs.Prelude.{◌≡◌, ◌≢◌, ◌+◌, ◌↔◌, false, IsTrue, IfSome, IsErrOf, ◌<◌, ◌≤◌, ℕ, length, take, IfOk, OnOk, OnErr};
+ghost use Rattle.std.specs.Prelude.{◌≡◌, ◌+◌, ◌↔◌, false, IsTrue, IfSome, IsErrOf, ◌<◌, ◌≤◌, ℕ, length, take, IfOk, OnOk, OnErr};
 ghost use Rattle.std.specs.Io.KnownBytes.{Appends, Consumes, IsAtEnd, Keeps};
-ghost use Rattle.hotel_lists.specs.Bytes.{AppendsFront, joined, ReadsOnto, ConsumesAtMost};
+ghost use Rattle.hotel_lists.specs.Bytes.{AppendsFront, joined, ReadsOnto, ConsumesAtMost, whole_fault};
 ghost use Rattle.hotel_lists.specs.declared.bytes.ReadFault.TheVariants.{Read, Memory};
-ghost use Rattle.hotel_lists.specs.declared.bytes.WholeFault.TheVariants.{TooLarge};
 
 use std::alloc::{AllocError, Global};
 use std::io::{ErrorKind, Read, Write};
@@ -196,7 +195,7 @@ pub enum WholeFault {
 }
 
 impl From<ReadFault> for WholeFault {
-    ghost from_gives = { λ _ e. e ≢ TooLarge };
+    ghost from_gives = { λ fault e. e ≡ whole_fault fault };
 
     fn from(fault: ReadFault) -> WholeFault {
         match fault {
