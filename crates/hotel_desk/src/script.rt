@@ -127,8 +127,6 @@ pub fn run_script<I: Read, W: Write, B: Walks, R: Rng>(
 #[cfg(test)]
 mod chains_beside;
 #[cfg(test)]
-mod command_scenarios;
-#[cfg(test)]
 mod scenarios;
 #[cfg(test)]
 mod tests;

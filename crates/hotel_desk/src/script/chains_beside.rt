@@ -1,22 +1,15 @@
-//! Each room of the books beside a chain of codes that is told the same: they agree after each command. And runs of
+//! Each room of the books beside a chain of codes that is told the same: they agree after each line. And runs of
 //! commands in one call.
-use super::command_scenarios;
-use super::scenarios::Scenario;
+use super::scenarios::{self, Scenario};
 use crate::asks::{Ask, read_line};
 use crate::lines::first_line;
+use crate::list_answers::answer_list;
 use hotel_core::{Books, CodeRow, Command, ListBooks, Refusal, Reply, reply_text, run, step};
+use hotel_lists::{FakeWriter, Interruptions, write_bytes};
 use keycard_rules::{Act, Chain, Code, Link, ListedWords, LockNote, RoomNo};
 use std::alloc::Global;
 use std::process::Abort;
 use std::test::Fail;
-
-/// The command that a line asks for.
-fn command_in(alloc: Global, line: &[u8]) -> Result<Command, Fail> {
-    match read_line(alloc, line)? {
-        Ask::Command(command) => Ok(command),
-        Ask::List(_) => Err("a list".into()),
-    }
-}
 
 /// A room's codes, kept by its chain alone.
 #[derive(Drop)]
@@ -117,18 +110,48 @@ fn desk_of(alloc: Global, codes: &[u64]) -> Result<Desk, Fail> {
 }
 
 impl Desk {
-    /// Carries out the line's command over the books, and tells the chains.
-    fn answer(&mut self, rt: &(impl Abort + AllocGlobal), line: &[u8]) -> Result<Reply, Fail> {
-        let command = command_in(rt.alloc(), line)?;
-        let reply = step(&mut self.books, &mut self.source, &command);
+    /// Carries out the command over the books, and tells the chains.
+    fn carry_out(
+        &mut self,
+        rt: &(impl Abort + AllocGlobal),
+        command: &Command,
+    ) -> Result<Reply, Fail> {
+        let reply = step(&mut self.books, &mut self.source, command);
         for beside in self.rooms.iter_mut() {
-            beside.follow(rt, &command, &reply);
+            beside.follow(rt, command, &reply);
         }
-        if let (Command::AddRoom { room, .. }, Reply::RoomAdded { code }) = (&command, &reply) {
+        if let (Command::AddRoom { room, .. }, Reply::RoomAdded { code }) = (command, &reply) {
             let chain = Chain::install(rt.alloc(), *code)?;
             self.rooms.push(RoomChain { room: *room, chain })?;
         }
         Ok(reply)
+    }
+
+    /// Writes the answer to the line: the reply to its command, or its list.
+    fn answer(
+        &mut self,
+        rt: &(impl Abort + AllocGlobal),
+        line: &[u8],
+        writer: &mut FakeWriter,
+    ) -> Result<(), Fail> {
+        let mut interruptions = Interruptions::none();
+        match read_line(rt.alloc(), line)? {
+            Ask::Command(command) => {
+                let reply = self.carry_out(rt, &command)?;
+                let text = reply_text(&reply);
+                write_bytes(writer, text.as_bytes(), &mut interruptions)?;
+            }
+            Ask::List(list) => {
+                answer_list(
+                    rt.alloc(),
+                    &list,
+                    writer,
+                    &mut self.books,
+                    &mut interruptions,
+                )?;
+            }
+        }
+        Ok(())
     }
 
     /// Each room agrees with its chain.
@@ -140,7 +163,7 @@ impl Desk {
     }
 }
 
-/// The scenario is answered as it says, and after each command its rooms agree with their chains.
+/// The scenario is answered as it says, and after each line its rooms agree with their chains.
 fn holds_beside(
     rt: &(impl Abort + AllocGlobal),
     codes: &[u64],
@@ -148,18 +171,14 @@ fn holds_beside(
     rooms: usize,
 ) -> Result<(), Fail> {
     let mut desk = desk_of(rt.alloc(), codes)?;
+    let mut writer = FakeWriter::new(rt.alloc());
     let mut script = scenario.script;
-    let mut answers = scenario.answers;
     while let Some((line, later)) = first_line(script) {
         script = later;
-        let reply = desk.answer(rt, line)?;
-        let text = reply_text(&reply);
-        answers = answers
-            .strip_prefix(text.as_bytes())
-            .ok_or("another answer")?;
+        desk.answer(rt, line, &mut writer)?;
         desk.agrees(rt)?;
     }
-    assert!(rt; answers.is_empty(), "each answer was given");
+    assert_eq!(rt; writer.written(), scenario.answers);
     assert_eq!(rt; desk.rooms.len(), rooms);
     Ok(())
 }
@@ -167,28 +186,30 @@ fn holds_beside(
 #[test]
 fn left_behind_recoded_beside_chains(rt: HostRuntime) -> Result<(), Fail> {
     let codes = [0xa0, 0xa1, 0xa2];
-    holds_beside(&rt, &codes, &command_scenarios::LEFT_BEHIND_RECODED, 1)
+    holds_beside(&rt, &codes, &scenarios::LEFT_BEHIND_RECODED, 1)
 }
 
 #[test]
 fn away_and_back_beside_chains(rt: HostRuntime) -> Result<(), Fail> {
     let codes = [0xa0, 0xb0, 0xa1, 0xb1, 0xa2, 0xa3];
-    holds_beside(&rt, &codes, &command_scenarios::AWAY_AND_BACK, 2)
+    holds_beside(&rt, &codes, &scenarios::AWAY_AND_BACK, 2)
 }
 
 #[test]
 fn spare_keeps_room_open_beside_chains(rt: HostRuntime) -> Result<(), Fail> {
     let codes = [0xa0, 0xa1, 0xa2];
-    holds_beside(&rt, &codes, &command_scenarios::SPARE_KEEPS_ROOM_OPEN, 1)
+    holds_beside(&rt, &codes, &scenarios::SPARE_KEEPS_ROOM_OPEN, 1)
 }
 
-/// The commands of a script's lines.
+/// The commands of a script's lines, without its lists.
 fn commands_of(alloc: Global, script: &[u8]) -> Result<Vec<Command>, Fail> {
     let mut commands = Vec::new(alloc);
     let mut rest = script;
     while let Some((line, later)) = first_line(rest) {
         rest = later;
-        commands.push(command_in(alloc, line)?)?;
+        if let Ask::Command(command) = read_line(alloc, line)? {
+            commands.push(command)?;
+        }
     }
     Ok(commands)
 }
@@ -202,13 +223,14 @@ fn words_and_empties_runs(rt: HostRuntime) -> Result<(), Fail> {
     } = desk_of(rt.alloc(), &[0xa0, 0xa1, 0xa2])?;
     let replies = run(rt.alloc(), &mut books, &mut source, &[])?;
     assert!(rt; replies.is_empty());
-    let commands = commands_of(rt.alloc(), command_scenarios::TWO_ENTRIES.script)?;
+    let Scenario { script, answers } = &scenarios::TWO_ENTRIES;
+    let commands = commands_of(rt.alloc(), script)?;
     let replies = run(rt.alloc(), &mut books, &mut source, commands.as_slice())?;
     assert_eq!(rt; replies.len(), 7);
     let mut texts = Vec::new(rt.alloc());
     for reply in &replies {
         texts.extend_from_slice(reply_text(reply).as_bytes())?;
     }
-    assert_eq!(rt; texts.as_slice(), command_scenarios::TWO_ENTRIES.answers);
+    assert!(rt; answers.starts_with(texts.as_slice()));
     Ok(())
 }

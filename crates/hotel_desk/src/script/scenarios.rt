@@ -426,8 +426,8 @@ pub static WORDS_AND_EMPTIES: Scenario = Scenario {
     answers: b"",
 };
 
-/// Recodings to a passed code, another room's, the held one; from another.
-pub static RECODING_REFUSED: Scenario = Scenario {
+/// A late note of the earlier card moves the lock to its code. A line stands for the file of that note.
+pub static LATE_AUDIT: Scenario = Scenario {
     script: b"\
 begin 2031-05-01
 add-kind DBL
@@ -438,12 +438,8 @@ check-out 1
 reserve DBL 2031-05-01 2 Bo
 check-in 2 101
 entered 101 1 1 0000000000a0 0000000000a1 2031-05-01T15:00:00
-add-room 102 DBL
-recoded 101 2 0000000000a1 0000000000a0 2031-05-01T15:00:00
-recoded 101 2 0000000000a1 0000000000b0 2031-05-01T15:00:00
-recoded 101 2 0000000000a1 0000000000a1 2031-05-01T15:00:00
-recoded 101 2 0000000000a0 0000000000a2 2031-05-01T15:00:00
-recoded 101 2 0000000000a1 0000000000a2 2031-05-01T15:00:00
+chain 101
+in-house
 ",
     answers: b"\
 begun
@@ -455,12 +451,42 @@ checked out
 party 2
 card 2 party 2 old 0000000000a1 new 0000000000a2
 taken
+place,code,state
+0,0000000000a0,passed
+1,0000000000a1,held
+2,0000000000a2,awaited
+room,party,guest,kind,depart,secured
+101,2,Bo,DBL,2031-05-03,no
+",
+};
+
+/// After the late note: recodings to a passed code, another room's, the held one; from another. Then
+/// one that is taken, which the room's lists show.
+pub static RECODING_REFUSED: Scenario = Scenario {
+    script: b"\
+add-room 102 DBL
+recoded 101 2 0000000000a1 0000000000a0 2031-05-01T15:00:00
+recoded 101 2 0000000000a1 0000000000b0 2031-05-01T15:00:00
+recoded 101 2 0000000000a1 0000000000a1 2031-05-01T15:00:00
+recoded 101 2 0000000000a0 0000000000a2 2031-05-01T15:00:00
+recoded 101 2 0000000000a1 0000000000a2 2031-05-01T15:00:00
+chain 101
+audit-of 101
+",
+    answers: b"\
 room code 0000000000b0
 refused 28 NotAwaited
 refused 28 NotAwaited
 refused 28 NotAwaited
 refused 27 HeldDiffers
 taken
+place,code,state
+0,0000000000a0,passed
+1,0000000000a1,passed
+2,0000000000a2,held
+room,count,kind,card,old,new,at
+101,1,in,1,0000000000a0,0000000000a1,2031-05-01T15:00:00
+101,2,recode,,0000000000a1,0000000000a2,2031-05-01T15:00:00
 ",
 };
 

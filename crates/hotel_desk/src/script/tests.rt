@@ -74,6 +74,27 @@ fn holds(rt: &(impl Abort + AllocGlobal), codes: &[u64], scenario: &Scenario) ->
     is_answered(rt, codes, script, answers, line_count(script))
 }
 
+/// The scenarios' scripts are answered as they say, one after the other over the same books.
+fn hold_in_turn(
+    rt: &(impl Abort + AllocGlobal),
+    codes: &[u64],
+    scenarios: &[&Scenario],
+) -> Result<(), Fail> {
+    let mut desk = desk_of(rt.alloc(), codes)?;
+    for Scenario { script, answers } in scenarios {
+        let mut writer = FakeWriter::new(rt.alloc());
+        let ran = desk.answer(rt.alloc(), &mut FakeReader::new(script), &mut writer);
+        assert_eq!(rt; writer.written(), *answers);
+        assert_eq!(rt;
+            ran,
+            Ok(ScriptEnd {
+                lines: line_count(script)
+            })
+        );
+    }
+    Ok(())
+}
+
 #[test]
 fn first_run(rt: HostRuntime) {
     let Scenario { script, answers } = &scenarios::FIRST_RUN;
@@ -193,8 +214,10 @@ fn note_refusals(rt: HostRuntime) -> Result<(), Fail> {
 }
 
 #[test]
-fn recoding_refused(rt: HostRuntime) -> Result<(), Fail> {
-    holds(&rt, &[0xa0, 0xa1, 0xa2, 0xb0], &scenarios::RECODING_REFUSED)
+fn late_audit_and_recoding_refused(rt: HostRuntime) -> Result<(), Fail> {
+    let codes = [0xa0, 0xa1, 0xa2, 0xb0];
+    let in_turn = [&scenarios::LATE_AUDIT, &scenarios::RECODING_REFUSED];
+    hold_in_turn(&rt, &codes, &in_turn)
 }
 
 #[test]
