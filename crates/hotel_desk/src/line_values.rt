@@ -25,6 +25,7 @@ impl<'a> Model for LineValues<'a> {
 }
 
 impl<'a> LineValues<'a> {
+    /// No values.
     pub fn new() -> LineValues<'a>
         ensures { result ≡ [] }
     {
@@ -32,12 +33,14 @@ impl<'a> LineValues<'a> {
         LineValues { texts, count: 0 }
     }
 
+    /// Whether there is room for no further value.
     pub fn is_full(&self) -> bool
         ensures { result ≡ false ↔ (length self.now < 6) }
     {
         self.count == MOST_VALUES
     }
 
+    /// Adds a value after the others.
     pub fn push(&mut self, text: &'a [u8])
         requires { length self.old < 6 }
         ensures { self.new ≡ self.old ++ text.now ∷ [] }
@@ -46,6 +49,7 @@ impl<'a> LineValues<'a> {
         self.count += 1;
     }
 
+    /// The values, in order.
     pub fn as_slice(&self) -> &[&'a [u8]]
         ensures { map (λ t. t.now) result.now ≡ self.now }
     {

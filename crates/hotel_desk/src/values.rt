@@ -52,61 +52,71 @@ impl From<ValueFault> for AskFault {
     }
 }
 
+/// Reads a day, `YYYY-MM-DD` from 2000 to 2099, as the value of that name.
 pub fn read_day(name: ValueName, text: &[u8]) -> Result<Day, ValueFault>
     ensures { result ≡ day_in name text.now }
 {
     Day::read(text).ok_or(ValueFault::Value(name))
 }
 
+/// Reads a code of 1 to 12 hexadecimal digits, as the value of that name.
 pub fn read_code(name: ValueName, text: &[u8]) -> Result<Code, ValueFault>
     ensures { result ≡ code_in name text.now }
 {
     Code::read(text).ok_or(ValueFault::Value(name))
 }
 
+/// Reads the code of a kind of rooms: 1 to 8 capital letters and digits.
 pub fn read_kind(text: &[u8]) -> Result<KindCode, ValueFault>
     ensures { result ≡ kind_in text.now }
 {
     KindCode::read(text).ok_or(ValueFault::Value(ValueName::Kind))
 }
 
+/// Reads a number of nights, 1 to 90.
 pub fn read_nights(text: &[u8]) -> Result<Nights, ValueFault>
     ensures { result ≡ nights_in text.now }
 {
     Nights::read(text).ok_or(ValueFault::Value(ValueName::Nights))
 }
 
+/// Reads a room's number, 1 to 9,999.
 pub fn read_room(text: &[u8]) -> Result<RoomNo, ValueFault>
     ensures { result ≡ room_in text.now }
 {
     RoomNo::read(text).ok_or(ValueFault::Value(ValueName::Room))
 }
 
+/// Reads a party's number, 1 to 9,999,999.
 pub fn read_party(text: &[u8]) -> Result<PartyNo, ValueFault>
     ensures { result ≡ party_in text.now }
 {
     PartyNo::read(text).ok_or(ValueFault::Value(ValueName::Party))
 }
 
+/// Reads a card's number, 1 to 9,999,999.
 pub fn read_card(text: &[u8]) -> Result<CardNo, ValueFault>
     ensures { result ≡ card_in text.now }
 {
     CardNo::read(text).ok_or(ValueFault::Value(ValueName::Card))
 }
 
+/// Reads a lock's count, 1 to 9,999,999.
 pub fn read_count(text: &[u8]) -> Result<Count, ValueFault>
     ensures { result ≡ count_in text.now }
 {
     Count::read(text).ok_or(ValueFault::Value(ValueName::Count))
 }
 
+/// Reads a moment, `YYYY-MM-DDTHH:MM:SS` with `T` or one space.
 pub fn read_moment(text: &[u8]) -> Result<Moment, ValueFault>
     ensures { result ≡ moment_in text.now }
 {
     Moment::read(text).ok_or(ValueFault::Value(ValueName::Moment))
 }
 
-/// Reads the name of a guest.
+/// Reads the name of a guest: 1 to 60 bytes of UTF-8 without control characters, and without a space at either end.
+/// `Memory` where there was none for its copy.
 pub fn read_guest(alloc: Global, text: &[u8]) -> Result<Guest, AskFault>
     ensures { IsReading (λ guest. true) (guest_in text.now) result }
 {
