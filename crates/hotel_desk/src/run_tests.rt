@@ -196,13 +196,16 @@ fn notes_stand_after_each_write_that_fails(rt: HostRuntime) -> Result<(), Fail> 
     Ok(())
 }
 
+/// The codes of room 101 where party 1 is checked in.
+const CHAIN: &[u8] = b"\
+place,code,state
+0,0000000000a0,held
+1,0000000000a1,awaited
+";
+
 #[test]
 fn each_write_of_a_list_fails(rt: HostRuntime) -> Result<(), Fail> {
-    let chain = Step::List(
-        b"chain 101",
-        b"place,code,state\n0,0000000000a0,held\n1,0000000000a1,awaited\n",
-        0,
-    );
+    let chain = Step::List(b"chain 101", CHAIN, 0);
     let no_room = Step::List(b"audit-of 102", b"refused 6 NoRoom\n", 3);
     let mut desk = checked_in(rt.alloc())?;
     for call in 1..=3 {
@@ -293,6 +296,28 @@ fn statuses_of_replies(rt: HostRuntime) -> Result<(), Fail> {
         (Reply::Refused(Refusal::Store), 4),
     ] {
         assert_eq!(rt; status_of(&reply), status, "{reply:?}");
+    }
+    Ok(())
+}
+
+/// Where a growth of memory is refused, whole rows of the list are written, and it is said.
+#[test]
+fn a_list_without_memory_says_so(rt: HostRuntime) -> Result<(), Fail> {
+    let alloc = rt.alloc();
+    let mut desk = checked_in(alloc)?;
+    let mut writer = FakeWriter::new(alloc);
+    let mut faults = FakeWriter::new(alloc);
+    let status = desk.list(alloc, b"chain 101", &mut writer, &mut faults)?;
+    let told: &[u8] = match status {
+        0 => b"",
+        4 => b"memory\n",
+        _ => b"write\n",
+    };
+    assert_eq!(rt; faults.written(), told);
+    assert!(rt; CHAIN.starts_with(writer.written()));
+    assert!(rt; matches!(writer.written().last(), None | Some(b'\n')));
+    if status == 0 {
+        assert_eq!(rt; writer.written(), CHAIN);
     }
     Ok(())
 }
