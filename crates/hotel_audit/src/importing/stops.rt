@@ -94,16 +94,16 @@ fn refused_growths(rt: HostRuntime) -> Result<(), Fail> {
 #[test]
 fn failed_calls_of_the_books(rt: HostRuntime) -> Result<(), Fail> {
     let alloc = rt.alloc();
-    for (sent, fault, calls) in [
-        (TWICE, LookFault::Memory, 20),
-        (TWICE, LookFault::Store, 20),
-        (CUT, LookFault::Memory, 20),
-        (CUT, LookFault::Store, 20),
+    for (sent, fault) in [
+        (TWICE, LookFault::Memory),
+        (TWICE, LookFault::Store),
+        (CUT, LookFault::Memory),
+        (CUT, LookFault::Store),
     ] {
         let mut whole = Desk::of_one_guest(alloc)?;
         answers_to(alloc, &mut whole.books, sent.file)?;
         let once = RoomNow::of(alloc, &mut whole.books)?;
-        for left in 0..calls {
+        for left in 0..20 {
             let desk = Desk::of_one_guest(alloc)?;
             let mut books = StoppingBooks {
                 books: desk.books,
@@ -113,6 +113,7 @@ fn failed_calls_of_the_books(rt: HostRuntime) -> Result<(), Fail> {
             };
             let end = import(alloc, &mut books, sent.file);
             assert_eq!(rt; end.is_ok(), books.failures == 0, "call {left}");
+            assert!(rt; end.is_ok() || left < 19, "fewer than 20 calls are made");
             match (fault, &end) {
                 (LookFault::Memory, Err(ImportFault::Memory { .. }))
                 | (LookFault::Store, Err(ImportFault::Store { .. }))
