@@ -83,10 +83,10 @@ StopsImport is_clean rows bytes old new (File why) = (new ≡ old) × ((why ≡ 
 StopsImport is_clean rows bytes old new (Memory answered taken) = (lines : List Line) × (audit_lines bytes ≡ Ok lines) × ImportsSome is_clean rows lines old new answered taken
 StopsImport is_clean rows bytes old new (Store answered taken) = (lines : List Line) × (audit_lines bytes ≡ Ok lines) × ImportsSome is_clean rows lines old new answered taken
 
--- The failure that stopped the import, where the books counted it: the store's, and want of memory after the first line. That there was no memory for the file or for its answers isn't counted.
+-- The failure that stopped the import, which the books counted. That there was no memory to read the file or for its answers isn't counted.
 abbrev pub failures_of : ImportFault → List Refusal
 failures_of (Store answered taken) = refusal.Store ∷ []
-failures_of (Memory answered taken) = if nat_lt 0 answered then refusal.Memory ∷ [] else []
+failures_of (Memory answered taken) = refusal.Memory ∷ []
 failures_of (File why) = []
 
 -- the refusal that says which of the two failed

@@ -2,6 +2,7 @@
 ghost use Rattle.std.specs.Prelude.{◌≡◌, ◌≤◌, ℕ, [], ◌∷◌, true, IfOk, IfErr, OnErr, Err, Bool};
 ghost use Rattle.hotel_core.specs.Failures.{AreCounted};
 ghost use Rattle.hotel_audit.specs.declared.audit_file.AuditFault.{AuditFault};
+ghost use Rattle.hotel_audit.specs.declared.audit_file.AuditFault.TheVariants as audit_fault;
 ghost use Rattle.hotel_audit.specs.Import.{answer_of, Imports, ImportsFile, ImportsSome, StopsImport, failures_of, refusal_by};
 
 use crate::answer::LineAnswer;
@@ -14,9 +15,9 @@ use std::alloc::Global;
 /// Why an import has no answers.
 #[derive(Clone, Copy, Debug, PartialEq, Eq)]
 pub enum ImportFault {
-    /// The bytes are no audit file, or there was no memory to read it. Nothing was begun.
+    /// The bytes are no audit file, or there was no memory to read it or for its answers. Nothing was begun.
     File(AuditFault),
-    /// A growth of memory was refused. So many lines were answered, which stand, and `taken` says whether one of them was
+    /// A growth of the books' memory was refused. So many lines were answered, which stand, and `taken` says whether one of them was
     /// Taken; the next one changed nothing.
     Memory { answered: usize, taken: bool },
     /// A call of the store failed. So many lines were answered, which stand, and `taken` says whether one of them was
@@ -61,16 +62,13 @@ fn import_lines<B: Books>(
     ensures imported { IfOk result (λ answers. Imports B.is_clean B.rows books.old books.new lines.now answers.items) }
     ensures memory { (answered : ℕ) (taken : Bool) → result ≡ Err (ImportFault.Memory answered taken) → ImportsSome B.is_clean B.rows lines.now books.old books.new answered taken }
     ensures store { (answered : ℕ) (taken : Bool) → result ≡ Err (ImportFault.Store answered taken) → ImportsSome B.is_clean B.rows lines.now books.old books.new answered taken }
-    ensures file { (why : AuditFault) → result ≡ Err (ImportFault.File why) → ⊥ }
+    ensures file { (why : AuditFault) → result ≡ Err (ImportFault.File why) → (why ≡ audit_fault.Memory) × (books.new ≡ books.old) }
     ensures failed { IfErr result (λ f. B.is_clean books.new → AreCounted B.never_fails (B.failures books.old) (B.failures books.new) (failures_of f)) }
     ensures was_clean { B.is_clean books.new → B.is_clean books.old }
     ensures counted { B.failures books.old ≤ B.failures books.new }
 {
     let Ok(mut answers) = Vec::with_capacity(alloc, lines.len()) else {
-        return Err(ImportFault::Memory {
-            answered: 0,
-            taken: false,
-        });
+        return Err(ImportFault::File(AuditFault::Memory));
     };
     let mut taken = false;
     for line in lines {

@@ -1,7 +1,7 @@
-use Rattle.std.proofs.Common.{◌≡◌, ◌∙◌, ◌+◌, nat_lt, subst, false, [], ◌∷◌, ◌++◌, take, length, arith, sym, refl, ap}
+use Rattle.std.proofs.Common.{◌≡◌, ◌∙◌, ◌+◌, subst, false, [], ◌∷◌, ◌++◌, take, length, arith, sym, refl, ap}
 use Rattle.std.specs.Prelude.{◌||◌}
 use Rattle.hotel_core.specs.Failures.{AreCounted}
-use Rattle.hotel_core.proofs.FailuresCounted.{counted_after, counted_or_none}
+use Rattle.hotel_core.proofs.FailuresCounted.{counted_after}
 use Rattle.std.proofs.lemmas.List.{take_more}
 use Rattle.hotel_audit.specs.declared.answer.LineAnswer.{LineAnswer}
 use Rattle.hotel_audit.specs.declared.answer.LineAnswer.TheVariants.{Taken}
@@ -14,12 +14,6 @@ use Rattle.hotel_audit.proofs.importing.import_lines.Goals.{then-taken, else-tak
 has_taken-other : (a : LineAnswer) → (a ≡ Taken → ⊥) → has_taken (a ∷ []) ≡ false
 has_taken-other Taken other = absurd (other refl)
 has_taken-other _ other = refl
-
-pub returns-in_default-clause-memory : goal.returns-in_default-clause-memory
-returns-in_default-clause-memory g c = λ answered taken e.
-    let n : 0 ≡ answered = cc e in
-    let t : false ≡ taken = cc e in
-    ([], n, t, rw (sym n) (Imports-none g.B.Issued.is_clean g.B.Books.rows c.args.books.now))
 
 pub loop-line-init : goal.loop-line-init
 loop-line-init g c = record {
@@ -57,7 +51,7 @@ pub returns-in-Err-Memory-clause-failed : goal.returns-in-Err-Memory-clause-fail
 returns-in-Err-Memory-clause-failed g c = λ clean.
     let inv = c.loop-line.invariant in
     let f = c.in-Err-Memory.ensures in
-    counted_or_none _ _ _ (nat_lt 0 c.len-answered.result) _ (omega (arith, inv.counted, f.counted)) (counted_after _ _ _ _ _ inv.counted (subst (λ why. AreCounted g.B.Issued.never_fails (g.B.Issued.failures c.loop-line.books) (g.B.Issued.failures c.answer_line.new.books) (refusal_by why ∷ [])) c.in-Err-Memory.field-0-is (f.failed clean)))
+    counted_after _ _ _ _ _ inv.counted (subst (λ why. AreCounted g.B.Issued.never_fails (g.B.Issued.failures c.loop-line.books) (g.B.Issued.failures c.answer_line.new.books) (refusal_by why ∷ [])) c.in-Err-Memory.field-0-is (f.failed clean))
 
 pub returns-in-Err-Store-clause-failed : goal.returns-in-Err-Store-clause-failed
 returns-in-Err-Store-clause-failed g c = λ clean.
