@@ -9,10 +9,11 @@ use Rattle.hotel_core.specs.Run.{Reached, StandsFor, Steps}
 use Rattle.hotel_core.specs.Lift.{RunsTo, RunsSafely}
 use Rattle.hotel_core.specs.Headline.{Assured}
 use Rattle.hotel_core.proofs.AllSound.{headline}
+use Rattle.hotel_core.proofs.NotesMoved.{notes_move}
 use Rattle.hotel_core.proofs.RoomsLeft.{none_oversold}
 
 pub assured : (h : History) → Reached h → Assured h
-assured h ok = record { headline = headline h ok; none_oversold = none_oversold h ok }
+assured h ok = record { headline = headline h ok; notes_move = notes_move h ok; none_oversold = none_oversold h ok }
 
 -- after a step
 pub assured_too : (h : History) (s s' : Stream) (command : Command) (reply : Reply) (rows : Rows)

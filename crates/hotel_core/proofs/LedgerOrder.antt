@@ -43,7 +43,7 @@ issue_case : (b : Bool) (h : History) (code r : ℕ) → InOrder h r → passed 
 issue_case true h code r same = sym (append_assoc (passed h r) (held h r ∷ awaited h r) (code ∷ [])) ∙ ap (λ zs. zs ++ code ∷ []) same
 issue_case false h code r same = same
 
-holds_new : (a b : Bool) (new : ℕ) → b ≡ false → is_some (cond (a || b) (Some new) None) ≡ true → a ≡ true
+pub holds_new : (a b : Bool) (new : ℕ) → b ≡ false → is_some (cond (a || b) (Some new) None) ≡ true → a ≡ true
 holds_new true b new n e = refl
 holds_new false true new n e = not_both true refl n
 holds_new false false new n e = not_both false e refl

@@ -24,6 +24,7 @@ use Rattle.hotel_core.specs.Change.{made}
 use Rattle.hotel_core.specs.ChangeOf.{change_of}
 use Rattle.hotel_core.specs.Fits.{Fits}
 use Rattle.hotel_core.specs.Run.{Reached}
+use Rattle.hotel_core.specs.Moved.{NotesMove}
 
 -- No code stands at two places, of one room or of two.
 abbrev pub NoCodeTwice : History → Type 0
@@ -68,9 +69,10 @@ pub record Headline (h : History) : Type 0 where
 abbrev pub HeadlineHolds : Type 0
 HeadlineHolds = (h : History) → Reached h → Headline h
 
--- What is assured after each step: the headline, and that on no night more stays of a kind are booked and in house than the kind has rooms.
+-- What is assured after each step: the headline; that each note moved exactly the codes that it records; and that on no night more stays of a kind are booked and in house than the kind has rooms.
 pub record Assured (h : History) : Type 0 where
   pub headline : Headline h
+  pub notes_move : NotesMove h
   pub none_oversold : (kind : List ℕ) (d : ℕ) → nights h kind d ≤ rooms_of h kind
 
 -- The rows of a history that can be reached are sound.

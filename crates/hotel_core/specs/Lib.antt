@@ -31,6 +31,7 @@ pub mod Reads
 pub mod Finds
 pub mod Issuing
 pub mod Noting
+pub mod Moved
 pub mod Headline
 pub mod Lists
 pub mod ListsOnRows
