@@ -1,11 +1,13 @@
 //! Imports that are stopped, by a growth that is refused or by a call of the books that fails, and the same file sent again.
 
-use super::desks::{CUT_LAST_LINE, Desk, RoomNow, TWO_NOTES, answers_to, texts_of};
+use super::desks::{CUT_LAST_LINE, Desk, RoomNow, TWO_NOTES, answers_to};
 use super::stopping::StoppingBooks;
 use super::{ImportFault, import};
 use crate::answer::LineAnswer;
 use crate::audit_file::AuditFault;
+use hotel_core::Books;
 use keycard_rules::LookFault;
+use std::alloc::Global;
 use std::process::Abort;
 use std::test::Fail;
 
@@ -61,74 +63,100 @@ fn lines_answered<A: Abort>(rt: &A, end: Result<Vec<LineAnswer>, ImportFault>) -
     }
 }
 
+/// What the books say after the whole file, sent once.
+fn once(alloc: Global, sent: &Sent) -> Result<RoomNow, Fail> {
+    let mut desk = Desk::of_one_guest(alloc)?;
+    answers_to(alloc, &mut desk.books, sent.file)?;
+    RoomNow::of(alloc, &mut desk.books)
+}
+
+/// So many notes of the room stand.
+fn stands<B: Books>(
+    rt: &(impl Abort + AllocGlobal),
+    books: &mut B,
+    notes: usize,
+) -> Result<(), Fail> {
+    let stopped = RoomNow::of(rt.alloc(), books)?;
+    assert_eq!(rt; stopped.notes.len(), notes, "the answered lines stand");
+    Ok(())
+}
+
+/// After so many answered lines the file comes again: the answered lines stand, it is answered for the others, and the
+/// tables are those of the whole file.
+fn is_sent_again<B: Books>(
+    rt: &(impl Abort + AllocGlobal),
+    books: &mut B,
+    sent: &Sent,
+    answered: usize,
+) -> Result<(), Fail> {
+    let (notes, again) = sent.after(answered).ok_or("more than two lines")?;
+    stands(rt, books, notes)?;
+    let answers = answers_to(rt.alloc(), books, sent.file)?;
+    assert_eq!(rt; answers.as_slice(), again);
+    let whole = once(rt.alloc(), sent)?;
+    RoomNow::of(rt.alloc(), books)?.assert_same(rt, &whole, "stopped and sent again");
+    Ok(())
+}
+
+/// Imports the file, and sends it again where it was stopped.
+fn stops_by_a_growth(rt: &(impl Abort + AllocGlobal), sent: &Sent) -> Result<(), Fail> {
+    let mut desk = Desk::of_one_guest(rt.alloc())?;
+    let answered = lines_answered(rt, import(rt.alloc(), &mut desk.books, sent.file));
+    is_sent_again(rt, &mut desk.books, sent, answered)
+}
+
 /// Each growth refused in turn: `rt try --test --fail-alloc N`, for N from 1 on. Where the test lacks the memory for its
-/// own desks it ends by that, and a comparison never fails.
+/// own desks, or for the file sent again, it ends by that, and a comparison never fails.
 #[test]
 fn refused_growths(rt: HostRuntime) -> Result<(), Fail> {
-    let alloc = rt.alloc();
-    for sent in [TWICE, CUT] {
-        let mut whole = Desk::of_one_guest(alloc)?;
-        let mut desk = Desk::of_one_guest(alloc)?;
-        answers_to(alloc, &mut whole.books, sent.file)?;
-        let once = RoomNow::of(alloc, &mut whole.books)?;
-        let first = import(alloc, &mut desk.books, sent.file);
-        let answered = lines_answered(&rt, first);
-        let (notes, again) = sent.after(answered).ok_or("more than two lines")?;
-        let stopped = RoomNow::of(alloc, &mut desk.books)?;
-        assert_eq!(rt; stopped.notes.len(), notes, "the answered lines stand");
-        let answers = match import(alloc, &mut desk.books, sent.file) {
-            Ok(answers) => answers,
-            Err(_) => import(alloc, &mut desk.books, sent.file)
-                .ok()
-                .ok_or("stopped twice")?,
-        };
-        let texts = texts_of(alloc, answers.as_slice())?;
-        assert_eq!(rt; texts.as_slice(), again);
-        RoomNow::of(alloc, &mut desk.books)?.assert_same(&rt, &once, "stopped and sent again");
+    stops_by_a_growth(&rt, &TWICE)?;
+    stops_by_a_growth(&rt, &CUT)
+}
+
+/// The import ended by this fault.
+fn ended_by(fault: LookFault, why: &ImportFault) -> bool {
+    match fault {
+        LookFault::Memory => matches!(why, ImportFault::Memory { .. }),
+        LookFault::Store => matches!(why, ImportFault::Store { .. }),
     }
-    Ok(())
+}
+
+/// Imports the file into books of which the calls after so many fail, and sends it again where it was stopped.
+fn stops_at_call(
+    rt: &(impl Abort + AllocGlobal),
+    sent: &Sent,
+    fault: LookFault,
+    left: u32,
+) -> Result<(), Fail> {
+    let books = Desk::of_one_guest(rt.alloc())?.books;
+    let mut books = StoppingBooks {
+        books,
+        left,
+        fault,
+        failures: 0,
+    };
+    let end = import(rt.alloc(), &mut books, sent.file);
+    assert_eq!(rt; end.is_ok(), books.failures == 0, "call {left}");
+    if let Err(why) = &end {
+        assert!(rt;
+            ended_by(fault, why) && left < 19,
+            "call {left}, and fewer than 20 are made"
+        );
+    }
+    let answered = lines_answered(rt, end);
+    books.left = 1_000;
+    is_sent_again(rt, &mut books, sent, answered)
 }
 
 /// Each call of the books fails in turn, for want of memory or by the store; the answered lines stand. Then the file is
 /// sent again.
 #[test]
 fn failed_calls_of_the_books(rt: HostRuntime) -> Result<(), Fail> {
-    let alloc = rt.alloc();
-    for (sent, fault) in [
-        (TWICE, LookFault::Memory),
-        (TWICE, LookFault::Store),
-        (CUT, LookFault::Memory),
-        (CUT, LookFault::Store),
-    ] {
-        let mut whole = Desk::of_one_guest(alloc)?;
-        answers_to(alloc, &mut whole.books, sent.file)?;
-        let once = RoomNow::of(alloc, &mut whole.books)?;
-        for left in 0..20 {
-            let desk = Desk::of_one_guest(alloc)?;
-            let mut books = StoppingBooks {
-                books: desk.books,
-                left,
-                fault,
-                failures: 0,
-            };
-            let end = import(alloc, &mut books, sent.file);
-            assert_eq!(rt; end.is_ok(), books.failures == 0, "call {left}");
-            assert!(rt; end.is_ok() || left < 19, "fewer than 20 calls are made");
-            match (fault, &end) {
-                (LookFault::Memory, Err(ImportFault::Memory { .. }))
-                | (LookFault::Store, Err(ImportFault::Store { .. }))
-                | (_, Ok(_)) => {}
-                _ => return Err(Fail::from("another fault")),
-            }
-            let answered = lines_answered(&rt, end);
-            let (notes, again) = sent.after(answered).ok_or("more than two lines")?;
-            books.left = 1_000;
-            let stopped = RoomNow::of(alloc, &mut books)?;
-            assert_eq!(rt; stopped.notes.len(), notes, "call {left}");
-            let answers = answers_to(alloc, &mut books, sent.file)?;
-            assert_eq!(rt; answers.as_slice(), again, "call {left}");
-            RoomNow::of(alloc, &mut books)?.assert_same(&rt, &once, "stopped and sent again");
-        }
+    for left in 0..20 {
+        stops_at_call(&rt, &TWICE, LookFault::Memory, left)?;
+        stops_at_call(&rt, &TWICE, LookFault::Store, left)?;
+        stops_at_call(&rt, &CUT, LookFault::Memory, left)?;
+        stops_at_call(&rt, &CUT, LookFault::Store, left)?;
     }
     Ok(())
 }

@@ -4,19 +4,12 @@ use super::desks::{CUT_LAST_LINE, Desk, RoomNow, TWO_NOTES, answers_to};
 use super::{ImportFault, import};
 use crate::answer::LineAnswer;
 use crate::audit_file::AuditFault;
+use hotel_core::ListBooks;
 use keycard_rules::PartyNo;
+use std::alloc::Global;
+use std::ops::Range;
+use std::process::Abort;
 use std::test::Fail;
-
-/// Which desk a file comes to.
-#[derive(Clone, Copy)]
-enum Opening {
-    /// Party 1 checked in.
-    OneGuest,
-    /// Party 2 checked in after party 1 had checked out.
-    NextGuest,
-    /// That of the file before it.
-    SameDesk,
-}
 
 const TWO_TAKEN: &[u8] = b"1 taken\n2 taken\n";
 
@@ -73,191 +66,314 @@ const RECODINGS_ANSWERED: &[u8] = b"1 refused 28 NotAwaited
 5 taken
 ";
 
-/// Each file's answers, and afterwards the number of the room's notes, the lock's place and whether the room is secured.
-/// A file of which no note is taken changes nothing.
+/// A file, its answers, and afterwards the number of the room's notes, the lock's place and whether the room is secured.
+#[derive(Clone, Copy)]
+struct Step {
+    name: &'static str,
+    file: &'static [u8],
+    answers: &'static [u8],
+    after: (usize, u32, bool),
+}
+
+/// `audit-twice`, `audit-round-trip` and `audit-gap-conflict`, in order at one desk.
+const AUDIT_TWICE: &[Step] = &[
+    Step {
+        name: "audit-twice",
+        file: TWO_NOTES,
+        answers: TWO_TAKEN,
+        after: (2, 1, true),
+    },
+    Step {
+        name: "audit-twice again",
+        file: TWO_NOTES,
+        answers: b"1 seen\n2 seen\n",
+        after: (2, 1, true),
+    },
+    Step {
+        name: "audit-round-trip",
+        file: LISTED_NOTES,
+        answers: b"1 seen\n2 seen\n",
+        after: (2, 1, true),
+    },
+    Step {
+        name: "audit-gap",
+        file: WITH_A_GAP,
+        answers: b"1 taken\n2 refused 22 Gap 4\n",
+        after: (3, 1, true),
+    },
+    Step {
+        name: "audit-conflict",
+        file: OTHER_CONTENT,
+        answers: b"1 refused 21 Conflict\n",
+        after: (3, 1, true),
+    },
+];
+
+/// `audit-causes`, after the two notes.
+const AUDIT_CAUSES: &[Step] = &[
+    Step {
+        name: "audit-causes",
+        file: TWO_NOTES,
+        answers: TWO_TAKEN,
+        after: (2, 1, true),
+    },
+    Step {
+        name: "audit-causes listed",
+        file: EACH_CAUSE,
+        answers: CAUSES_NAMED,
+        after: (3, 1, true),
+    },
+];
+
+/// `audit-bytes`, and then a header alone.
+const AUDIT_BYTES: &[Step] = &[
+    Step {
+        name: "audit-bytes",
+        file: CUT_LAST_LINE,
+        answers: b"1 taken\n2 unread FieldCount\n",
+        after: (1, 1, true),
+    },
+    Step {
+        name: "a header alone",
+        file: b"room,count,kind,card,old,new,at\n",
+        answers: b"",
+        after: (1, 1, true),
+    },
+];
+
+/// `late-audit`.
+const LATE_AUDIT: &[Step] = &[Step {
+    name: "late-audit",
+    file: FIRST_ENTRY,
+    answers: b"1 taken\n",
+    after: (1, 1, false),
+}];
+
+/// The file is answered so, and comes to this. A file of which no note is taken changes nothing.
+fn goes(
+    rt: &(impl Abort + AllocGlobal),
+    books: &mut ListBooks,
+    before: &RoomNow,
+    step: &Step,
+) -> Result<RoomNow, Fail> {
+    let given = answers_to(rt.alloc(), books, step.file)?;
+    assert_eq!(rt; given.as_slice(), step.answers, "{}", step.name);
+    let room = RoomNow::of(rt.alloc(), books)?;
+    let after = (room.notes.len(), room.lock_place, room.secured);
+    assert_eq!(rt; after, step.after, "{}", step.name);
+    if room.notes.len() == before.notes.len() {
+        room.assert_same(rt, before, step.name);
+    }
+    Ok(room)
+}
+
+/// The files come to one desk, in order.
+fn go(rt: &(impl Abort + AllocGlobal), books: &mut ListBooks, steps: &[Step]) -> Result<(), Fail> {
+    let mut room = RoomNow::of(rt.alloc(), books)?;
+    for step in steps {
+        room = goes(rt, books, &room, step)?;
+    }
+    Ok(())
+}
+
+/// The files come to a desk of one guest, in order.
+fn go_at_one_guest(rt: &(impl Abort + AllocGlobal), steps: &[Step]) -> Result<(), Fail> {
+    let mut desk = Desk::of_one_guest(rt.alloc())?;
+    go(rt, &mut desk.books, steps)
+}
+
 #[test]
 fn scenarios_of_files(rt: HostRuntime) -> Result<(), Fail> {
-    let mut desk = Desk::of_one_guest(rt.alloc())?;
-    for (name, opening, file, answers, after) in [
-        (
-            "audit-twice",
-            Opening::OneGuest,
-            TWO_NOTES,
-            TWO_TAKEN,
-            (2, 1, true),
-        ),
-        (
-            "audit-twice again",
-            Opening::SameDesk,
-            TWO_NOTES,
-            b"1 seen\n2 seen\n",
-            (2, 1, true),
-        ),
-        (
-            "audit-round-trip",
-            Opening::SameDesk,
-            LISTED_NOTES,
-            b"1 seen\n2 seen\n",
-            (2, 1, true),
-        ),
-        (
-            "audit-gap",
-            Opening::SameDesk,
-            WITH_A_GAP,
-            b"1 taken\n2 refused 22 Gap 4\n",
-            (3, 1, true),
-        ),
-        (
-            "audit-conflict",
-            Opening::SameDesk,
-            OTHER_CONTENT,
-            b"1 refused 21 Conflict\n",
-            (3, 1, true),
-        ),
-        (
-            "audit-causes",
-            Opening::OneGuest,
-            TWO_NOTES,
-            TWO_TAKEN,
-            (2, 1, true),
-        ),
-        (
-            "audit-causes listed",
-            Opening::SameDesk,
-            EACH_CAUSE,
-            CAUSES_NAMED,
-            (3, 1, true),
-        ),
-        (
-            "audit-bytes",
-            Opening::OneGuest,
-            CUT_LAST_LINE,
-            b"1 taken\n2 unread FieldCount\n",
-            (1, 1, true),
-        ),
-        (
-            "a header alone",
-            Opening::SameDesk,
-            b"room,count,kind,card,old,new,at\n",
-            b"",
-            (1, 1, true),
-        ),
-        (
-            "late-audit",
-            Opening::NextGuest,
-            FIRST_ENTRY,
-            b"1 taken\n",
-            (1, 1, false),
-        ),
-    ] {
-        match opening {
-            Opening::OneGuest => desk = Desk::of_one_guest(rt.alloc())?,
-            Opening::NextGuest => desk = Desk::of_next_guest(rt.alloc())?,
-            Opening::SameDesk => {}
-        }
-        let before = RoomNow::of(rt.alloc(), &mut desk.books)?;
-        let given = answers_to(rt.alloc(), &mut desk.books, file)?;
-        assert_eq!(rt; given.as_slice(), answers, "{name}");
-        let room = RoomNow::of(rt.alloc(), &mut desk.books)?;
-        assert_eq!(rt;
-            (room.notes.len(), room.lock_place, room.secured),
-            after,
-            "{name}"
-        );
-        if room.notes.len() == before.notes.len() {
-            room.assert_same(&rt, &before, name);
-        }
-    }
+    go_at_one_guest(&rt, AUDIT_TWICE)?;
+    go_at_one_guest(&rt, AUDIT_CAUSES)?;
+    go_at_one_guest(&rt, AUDIT_BYTES)
+}
+
+/// So many codes, the lock at this place, the room not secured, and so many notes.
+fn is_so(
+    rt: &(impl Abort + AllocGlobal),
+    books: &mut ListBooks,
+    codes: usize,
+    lock_place: u32,
+    notes: usize,
+) -> Result<(), Fail> {
+    let room = RoomNow::of(rt.alloc(), books)?;
+    assert_eq!(rt;
+        (room.codes.len(), room.lock_place, room.secured),
+        (codes, lock_place, false)
+    );
+    assert_eq!(rt; (room.notes.len(), room.party), (notes, PartyNo::new(2)));
     Ok(())
 }
 
 /// After a late note of the first guest's card the second guest is registered, and the lock is one code behind. Then it
 /// is recoded by the last of five lines, of which the others don't fit.
-#[test]
-fn late_audit_and_recodings(rt: HostRuntime) -> Result<(), Fail> {
+fn late_and_recoded(rt: &(impl Abort + AllocGlobal)) -> Result<(), Fail> {
     let mut desk = Desk::of_next_guest(rt.alloc())?;
-    answers_to(rt.alloc(), &mut desk.books, FIRST_ENTRY)?;
-    let late = RoomNow::of(rt.alloc(), &mut desk.books)?;
-    assert_eq!(rt;
-        (late.codes.len(), late.lock_place, late.secured),
-        (3, 1, false)
-    );
-    assert_eq!(rt; late.party, PartyNo::new(2));
+    go(rt, &mut desk.books, LATE_AUDIT)?;
+    is_so(rt, &mut desk.books, 3, 1, 1)?;
     desk.adds_room(102)?;
     let answers = answers_to(rt.alloc(), &mut desk.books, RECODINGS)?;
     assert_eq!(rt; answers.as_slice(), RECODINGS_ANSWERED);
-    let recoded = RoomNow::of(rt.alloc(), &mut desk.books)?;
-    assert_eq!(rt;
-        (recoded.codes.len(), recoded.lock_place, recoded.secured),
-        (3, 2, false)
-    );
-    assert_eq!(rt; recoded.notes.len(), 2);
+    is_so(rt, &mut desk.books, 3, 2, 2)
+}
+
+#[test]
+fn late_audit_and_recodings(rt: HostRuntime) -> Result<(), Fail> {
+    late_and_recoded(&rt)
+}
+
+/// The bytes are no audit file, and nothing changes.
+fn is_none(
+    rt: &(impl Abort + AllocGlobal),
+    books: &mut ListBooks,
+    before: &RoomNow,
+    file: &[u8],
+    why: AuditFault,
+) -> Result<(), Fail> {
+    let bytes = file.len();
+    match &import(rt.alloc(), books, file) {
+        Ok(_) => return Err(Fail::from("a file")),
+        Err(fault) => assert_eq!(rt; *fault, ImportFault::File(why), "{bytes} bytes"),
+    }
+    RoomNow::of(rt.alloc(), books)?.assert_same(rt, before, "no file");
     Ok(())
+}
+
+/// The bytes are no audit file at a desk of one guest.
+fn is_no_file(rt: &(impl Abort + AllocGlobal), file: &[u8], why: AuditFault) -> Result<(), Fail> {
+    let mut desk = Desk::of_one_guest(rt.alloc())?;
+    let before = RoomNow::of(rt.alloc(), &mut desk.books)?;
+    is_none(rt, &mut desk.books, &before, file, why)
+}
+
+/// The two notes, and so many bytes in all.
+fn file_of(alloc: Global, bytes: usize) -> Result<Vec<u8>, Fail> {
+    let mut file = TWO_NOTES.to_vec(alloc)?;
+    file.resize(bytes, b'x')?;
+    Ok(file)
 }
 
 /// A file without a record and one of another header change nothing, nor does one that is too large by a byte.
 #[test]
 fn files_that_are_none(rt: HostRuntime) -> Result<(), Fail> {
+    is_no_file(&rt, b"", AuditFault::NoHeader)?;
+    is_no_file(&rt, b"\xef\xbb\xbf\r\n", AuditFault::NoHeader)?;
+    is_no_file(
+        &rt,
+        b"room,count,kind,card,old,new\n",
+        AuditFault::WrongHeader,
+    )?;
+    let large = file_of(rt.alloc(), 262_145)?;
+    is_no_file(&rt, large.as_slice(), AuditFault::TooLarge)
+}
+
+/// The file is answered so at a desk of one guest.
+fn is_answered(rt: &(impl Abort + AllocGlobal), file: &[u8], answers: &[u8]) -> Result<(), Fail> {
     let mut desk = Desk::of_one_guest(rt.alloc())?;
-    let before = RoomNow::of(rt.alloc(), &mut desk.books)?;
-    let mut large = TWO_NOTES.to_vec(rt.alloc())?;
-    large.resize(262_145, b'x')?;
-    for (file, why) in [
-        (b"".as_slice(), AuditFault::NoHeader),
-        (b"\xef\xbb\xbf\r\n", AuditFault::NoHeader),
-        (b"room,count,kind,card,old,new\n", AuditFault::WrongHeader),
-        (large.as_slice(), AuditFault::TooLarge),
-    ] {
-        match import(rt.alloc(), &mut desk.books, file) {
-            Ok(_) => return Err(Fail::from("a file")),
-            Err(fault) => assert_eq!(rt; fault, ImportFault::File(why)),
-        }
-        RoomNow::of(rt.alloc(), &mut desk.books)?.assert_same(&rt, &before, "no file");
-    }
+    let given = answers_to(rt.alloc(), &mut desk.books, file)?;
+    assert_eq!(rt; given.as_slice(), answers);
     Ok(())
 }
 
 /// 262,144 bytes are an audit file.
 #[test]
 fn largest_file(rt: HostRuntime) -> Result<(), Fail> {
-    let mut desk = Desk::of_one_guest(rt.alloc())?;
-    let mut file = TWO_NOTES.to_vec(rt.alloc())?;
-    file.resize(262_144, b'x')?;
-    let answers = answers_to(rt.alloc(), &mut desk.books, file.as_slice())?;
-    assert_eq!(rt;
-        answers.as_slice(),
-        b"1 taken\n2 taken\n3 unread FieldCount\n".as_slice()
-    );
-    Ok(())
+    let file = file_of(rt.alloc(), 262_144)?;
+    is_answered(
+        &rt,
+        file.as_slice(),
+        b"1 taken\n2 taken\n3 unread FieldCount\n",
+    )
+}
+
+/// A file of 4,000 notes: a card in and out by turns.
+fn four_thousand_notes(alloc: Global) -> Result<Vec<u8>, Fail> {
+    let mut file = b"room,count,kind,card,old,new,at\n".to_vec(alloc)?;
+    for count in 1..4_001u32 {
+        let kind = if count % 2 == 1 { "in" } else { "out" };
+        let line = format!(in alloc; "101,{count},{kind},1,a0,a1,2031-05-01T15:00:00\n")?;
+        file.extend_from_slice(line.as_bytes())?;
+    }
+    Ok(file)
+}
+
+/// The answers are 4,000, each Seen or each Taken.
+fn are_all(rt: &(impl Abort + AllocGlobal), answers: &[LineAnswer], seen: bool) {
+    assert_eq!(rt; answers.len(), 4_000);
+    for answer in answers {
+        let is_so = match answer {
+            LineAnswer::Taken => !seen,
+            LineAnswer::Seen => seen,
+            _ => false,
+        };
+        assert!(rt; is_so);
+    }
+}
+
+/// Each line of the file is Seen, or each Taken, after which the room has 4,000 notes.
+fn each_is(
+    rt: &(impl Abort + AllocGlobal),
+    books: &mut ListBooks,
+    file: &[u8],
+    seen: bool,
+) -> Result<RoomNow, Fail> {
+    match &import(rt.alloc(), books, file) {
+        Ok(answers) => are_all(rt, answers.as_slice(), seen),
+        Err(_) => return Err(Fail::from("stopped")),
+    }
+    let room = RoomNow::of(rt.alloc(), books)?;
+    assert_eq!(rt; room.notes.len(), 4_000);
+    Ok(room)
 }
 
 /// A file of some 4,000 lines, sent twice.
+fn sent_twice(rt: &(impl Abort + AllocGlobal), file: &[u8]) -> Result<(), Fail> {
+    let mut desk = Desk::of_one_guest(rt.alloc())?;
+    let once = each_is(rt, &mut desk.books, file, false)?;
+    let twice = each_is(rt, &mut desk.books, file, true)?;
+    twice.assert_same(rt, &once, "sent twice");
+    Ok(())
+}
+
 #[test]
 fn four_thousand_lines(rt: HostRuntime) -> Result<(), Fail> {
+    let file = four_thousand_notes(rt.alloc())?;
+    sent_twice(&rt, file.as_slice())
+}
+
+/// The file of `audit-bytes` cut before this byte is answered so, and then the whole file so. The room is then as it is
+/// where the whole file is sent once.
+fn is_cut(
+    rt: &(impl Abort + AllocGlobal),
+    once: &RoomNow,
+    cut: usize,
+    answers: &[u8],
+    whole: &[u8],
+) -> Result<(), Fail> {
     let mut desk = Desk::of_one_guest(rt.alloc())?;
-    let mut file = b"room,count,kind,card,old,new,at\n".to_vec(rt.alloc())?;
-    for count in 1..4_001u32 {
-        let kind = if count % 2 == 1 { "in" } else { "out" };
-        let line = format!(in rt.alloc(); "101,{count},{kind},1,a0,a1,2031-05-01T15:00:00\n")?;
-        file.extend_from_slice(line.as_bytes())?;
-    }
-    let Ok(first) = import(rt.alloc(), &mut desk.books, file.as_slice()) else {
-        return Err(Fail::from("stopped"));
-    };
-    assert_eq!(rt; first.len(), 4_000);
-    for answer in first.as_slice() {
-        assert!(rt; matches!(answer, LineAnswer::Taken));
-    }
+    let front = CUT_LAST_LINE.get(..cut).ok_or("cut behind its end")?;
+    let first = answers_to(rt.alloc(), &mut desk.books, front)?;
+    assert_eq!(rt; first.as_slice(), answers, "cut before byte {cut}");
+    let second = answers_to(rt.alloc(), &mut desk.books, CUT_LAST_LINE)?;
+    assert_eq!(rt; second.as_slice(), whole, "cut before byte {cut}");
+    RoomNow::of(rt.alloc(), &mut desk.books)?.assert_same(rt, once, "then whole");
+    Ok(())
+}
+
+/// The file cut before each of these bytes.
+fn are_cut(
+    rt: &(impl Abort + AllocGlobal),
+    cuts: Range<usize>,
+    answers: &[u8],
+    whole: &[u8],
+) -> Result<(), Fail> {
+    let mut desk = Desk::of_one_guest(rt.alloc())?;
+    answers_to(rt.alloc(), &mut desk.books, CUT_LAST_LINE)?;
     let once = RoomNow::of(rt.alloc(), &mut desk.books)?;
-    assert_eq!(rt; once.notes.len(), 4_000);
-    let Ok(second) = import(rt.alloc(), &mut desk.books, file.as_slice()) else {
-        return Err(Fail::from("stopped"));
-    };
-    assert_eq!(rt; second.len(), 4_000);
-    for answer in second.as_slice() {
-        assert!(rt; matches!(answer, LineAnswer::Seen));
+    for cut in cuts {
+        is_cut(rt, &once, cut, answers, whole)?;
     }
-    RoomNow::of(rt.alloc(), &mut desk.books)?.assert_same(&rt, &once, "sent twice");
     Ok(())
 }
 
@@ -267,51 +383,26 @@ fn four_thousand_lines(rt: HostRuntime) -> Result<(), Fail> {
 /// first line at 36 and the second at 88. Of the first line six commas stand in its first 31 bytes.
 #[test]
 fn cut_after_each_byte(rt: HostRuntime) -> Result<(), Fail> {
-    let mut desk = Desk::of_one_guest(rt.alloc())?;
-    answers_to(rt.alloc(), &mut desk.books, CUT_LAST_LINE)?;
-    let once = RoomNow::of(rt.alloc(), &mut desk.books)?;
     assert_eq!(rt; CUT_LAST_LINE.len(), 97);
-    for (from, to, answers) in [
-        (34, 37, b"".as_slice()),
-        (37, 67, b"1 unread FieldCount\n"),
-        (67, 86, b"1 unread BadMoment\n"),
-        (86, 89, b"1 taken\n"),
-        (89, 98, b"1 taken\n2 unread FieldCount\n"),
-    ] {
-        for cut in from..to {
-            let mut desk = Desk::of_one_guest(rt.alloc())?;
-            let first = &CUT_LAST_LINE[..cut];
-            let given = answers_to(rt.alloc(), &mut desk.books, first)?;
-            assert_eq!(rt; given.as_slice(), answers, "cut before byte {cut}");
-            let whole = answers_to(rt.alloc(), &mut desk.books, CUT_LAST_LINE)?;
-            let expected = if cut < 86 {
-                b"1 taken\n2 unread FieldCount\n".as_slice()
-            } else {
-                b"1 seen\n2 unread FieldCount\n"
-            };
-            assert_eq!(rt; whole.as_slice(), expected, "cut before byte {cut}");
-            RoomNow::of(rt.alloc(), &mut desk.books)?.assert_same(&rt, &once, "then whole");
-        }
-    }
-    Ok(())
+    let taken = b"1 taken\n2 unread FieldCount\n";
+    let seen = b"1 seen\n2 unread FieldCount\n";
+    are_cut(&rt, 34..37, b"", taken)?;
+    are_cut(&rt, 37..67, b"1 unread FieldCount\n", taken)?;
+    are_cut(&rt, 67..86, b"1 unread BadMoment\n", taken)?;
+    are_cut(&rt, 86..89, b"1 taken\n", seen)?;
+    are_cut(&rt, 89..98, taken, seen)
 }
 
 /// Cut within its byte order mark or its header, the file is none, and nothing is done.
 #[test]
 fn cut_within_the_header(rt: HostRuntime) -> Result<(), Fail> {
-    let mut desk = Desk::of_one_guest(rt.alloc())?;
-    let before = RoomNow::of(rt.alloc(), &mut desk.books)?;
     for cut in 0..34 {
         let why = if cut == 0 || cut == 3 {
             AuditFault::NoHeader
         } else {
             AuditFault::WrongHeader
         };
-        match import(rt.alloc(), &mut desk.books, &CUT_LAST_LINE[..cut]) {
-            Ok(_) => return Err(Fail::from("a file")),
-            Err(fault) => assert_eq!(rt; fault, ImportFault::File(why), "cut before byte {cut}"),
-        }
-        RoomNow::of(rt.alloc(), &mut desk.books)?.assert_same(&rt, &before, "cut in the header");
+        is_no_file(&rt, &CUT_LAST_LINE[..cut], why)?;
     }
     Ok(())
 }
