@@ -214,13 +214,9 @@ fn left_behind_desk(alloc: Global) -> Result<Desk, Fail> {
     Ok(desk)
 }
 
-/// The list of a room's codes reads so.
-fn chain_reads(
-    rt: &(impl Abort + AllocGlobal),
-    desk: &mut Desk,
-    room: RoomNo,
-    text: &[u8],
-) -> Result<(), Fail> {
+/// The list of room 101's codes reads so.
+fn chain_reads(rt: &(impl Abort + AllocGlobal), desk: &mut Desk, text: &[u8]) -> Result<(), Fail> {
+    let room = room(101)?;
     let mut writer = FakeWriter::new(rt.alloc());
     chain_of(rt.alloc(), &mut desk.books, room, &mut writer)?;
     assert_eq!(rt; writer.written(), text);
@@ -232,7 +228,6 @@ fn two_entries_chain(rt: HostRuntime) -> Result<(), Fail> {
     chain_reads(
         &rt,
         &mut two_entries(rt.alloc())?,
-        room(101)?,
         b"place,code,state\n0,0000000000a0,passed\n1,0000000000a1,held\n",
     )
 }
@@ -296,13 +291,9 @@ fn quoted_guest_arrives(rt: HostRuntime) -> Result<(), Fail> {
     quoted_guest(&rt, &mut Desk::begun(rt.alloc(), &[0xa0], &[101])?)
 }
 
-/// The list of a room's notes reads so.
-fn audit_reads(
-    rt: &(impl Abort + AllocGlobal),
-    desk: &mut Desk,
-    room: RoomNo,
-    text: &[u8],
-) -> Result<(), Fail> {
+/// The list of room 101's notes reads so.
+fn audit_reads(rt: &(impl Abort + AllocGlobal), desk: &mut Desk, text: &[u8]) -> Result<(), Fail> {
+    let room = room(101)?;
     let mut writer = FakeWriter::new(rt.alloc());
     audit_of(rt.alloc(), &mut desk.books, room, &mut writer)?;
     assert_eq!(rt; writer.written(), text);
@@ -315,7 +306,6 @@ fn round_trip(rt: &(impl Abort + AllocGlobal), desk: &mut Desk) -> Result<(), Fa
     audit_reads(
         rt,
         desk,
-        room(101)?,
         b"room,count,kind,card,old,new,at\n101,1,in,1,0000000000a0,0000000000a1,2031-05-01T15:00:00\n101,2,out,1,0000000000a0,0000000000a1,2031-05-01T16:00:00\n",
     )
 }
@@ -326,19 +316,20 @@ fn audit_round_trip_notes(rt: HostRuntime) -> Result<(), Fail> {
 }
 
 /// The lists of a room that isn't there write nothing.
-fn no_room(rt: &(impl Abort + AllocGlobal), desk: &mut Desk, absent: RoomNo) {
+fn no_room(rt: &(impl Abort + AllocGlobal), desk: &mut Desk) -> Result<(), Fail> {
+    let absent = room(102)?;
     let mut writer = FakeWriter::new(rt.alloc());
     let chain = chain_of(rt.alloc(), &mut desk.books, absent, &mut writer);
     assert_eq!(rt; chain, Err(ListFault::NoRoom));
     let audit = audit_of(rt.alloc(), &mut desk.books, absent, &mut writer);
     assert_eq!(rt; audit, Err(ListFault::NoRoom));
     assert!(rt; writer.written().is_empty());
+    Ok(())
 }
 
 #[test]
 fn no_room_before_anything_is_written(rt: HostRuntime) -> Result<(), Fail> {
-    no_room(&rt, &mut two_entries(rt.alloc())?, room(102)?);
-    Ok(())
+    no_room(&rt, &mut two_entries(rt.alloc())?)
 }
 
 /// Takes so many rows, and stops at the next one.
@@ -364,7 +355,7 @@ impl Sink<ChainRow> for Taker {
     }
 }
 
-/// A walk over the codes of a room, of which its sink takes so many, ends so.
+/// A walk over the codes of room 101, of which its sink takes so many, ends so.
 fn walk_ends(
     rt: &(impl Abort + AllocGlobal),
     desk: &mut Desk,
