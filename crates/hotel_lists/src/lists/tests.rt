@@ -44,10 +44,9 @@ fn code(value: u64) -> Result<Code, Fail> {
 }
 
 /// The note of a count at a room, on the first day.
-fn note(number: u32, count: u32, act: Act, second: u32) -> Result<Command, Fail> {
+fn note(number: u32, count: u32, act: Act, second: u32) -> Result<LockNote, Fail> {
     let count = Count::new(count).ok_or("a count")?;
-    let note = LockNote::new(room(number)?, count, act, FIRST_DAY, second).ok_or("a note")?;
-    Ok(Command::Reported(note))
+    Ok(LockNote::new(room(number)?, count, act, FIRST_DAY, second).ok_or("a note")?)
 }
 
 fn link(old: u64, new: u64) -> Result<Link, Fail> {
@@ -57,192 +56,280 @@ fn link(old: u64, new: u64) -> Result<Link, Fail> {
     })
 }
 
-fn entered(number: u32, count: u32, card: u32, old: u64, new: u64) -> Result<Command, Fail> {
+fn entered(number: u32, count: u32, card: u32, old: u64, new: u64) -> Result<LockNote, Fail> {
     let card = CardNo::new(card).ok_or("a card")?;
     let link = link(old, new)?;
     note(number, count, Act::Entered { card, link }, AFTERNOON)
 }
 
-fn left(number: u32, count: u32, card: u32, old: u64, new: u64) -> Result<Command, Fail> {
+fn left(number: u32, count: u32, card: u32, old: u64, new: u64) -> Result<LockNote, Fail> {
     let card = CardNo::new(card).ok_or("a card")?;
     let link = link(old, new)?;
     note(number, count, Act::Left { card, link }, AFTERNOON + 3_600)
 }
 
+/// Words by which a source gives these codes.
+fn words_of(alloc: Global, codes: &[u64]) -> Result<Vec<u64>, Fail> {
+    let mut words = Vec::new(alloc);
+    for code in codes {
+        words.push(code.wrapping_mul(65_536))?;
+    }
+    Ok(words)
+}
+
 impl Desk {
+    /// A desk whose source gives these codes.
+    fn of_codes(alloc: Global, codes: &[u64]) -> Result<Desk, Fail> {
+        let source = ListedWords::new(words_of(alloc, codes)?).ok_or("no words")?;
+        Ok(Desk {
+            alloc,
+            books: ListBooks::empty(alloc),
+            source,
+        })
+    }
+
     /// A desk that has begun, with rooms of one kind, whose source gives these codes.
     fn begun(alloc: Global, codes: &[u64], rooms: &[u32]) -> Result<Desk, Fail> {
-        let mut words = Vec::new(alloc);
-        for code in codes {
-            words.push(code.wrapping_mul(65_536))?;
-        }
-        let source = ListedWords::new(words).ok_or("no words")?;
-        let books = ListBooks::empty(alloc);
-        let mut desk = Desk {
-            alloc,
-            books,
-            source,
-        };
-        desk.does(Command::Begin(day(FIRST_DAY)?))?;
-        desk.does(Command::AddKind(kind()?))?;
-        for number in rooms {
-            desk.does(Command::AddRoom {
-                room: room(*number)?,
-                kind: kind()?,
-            })?;
-        }
+        let mut desk = Desk::of_codes(alloc, codes)?;
+        desk.begins(rooms)?;
         Ok(desk)
     }
 
+    /// Begins, with rooms of one kind.
+    fn begins(&mut self, rooms: &[u32]) -> Result<(), Fail> {
+        self.does(&Command::Begin(day(FIRST_DAY)?))?;
+        self.does(&Command::AddKind(kind()?))?;
+        for number in rooms {
+            self.add_room(*number, kind()?)?;
+        }
+        Ok(())
+    }
+
     /// A command that is accepted.
-    fn does(&mut self, command: Command) -> Result<(), Fail> {
-        match step(&mut self.books, &mut self.source, &command) {
+    fn does(&mut self, command: &Command) -> Result<(), Fail> {
+        match step(&mut self.books, &mut self.source, command) {
             Reply::Refused(_) => Err(Fail::from("refused")),
             _ => Ok(()),
         }
     }
 
+    /// A note that is taken.
+    fn takes(&mut self, note: LockNote) -> Result<(), Fail> {
+        self.does(&Command::Reported(note))
+    }
+
+    fn add_room(&mut self, number: u32, kind: KindCode) -> Result<(), Fail> {
+        let room = room(number)?;
+        self.does(&Command::AddRoom { room, kind })
+    }
+
     fn reserve(&mut self, name: &str, arrive: u16, nights: u8) -> Result<(), Fail> {
+        let kind = kind()?;
+        let arrive = day(arrive)?;
+        let nights = Nights::new(nights).ok_or("nights")?;
         let guest = Guest::read(self.alloc, name)?;
-        self.does(Command::Reserve {
+        self.does(&Command::Reserve {
             guest,
-            kind: kind()?,
-            arrive: day(arrive)?,
-            nights: Nights::new(nights).ok_or("nights")?,
+            kind,
+            arrive,
+            nights,
         })
     }
 
     fn check_in(&mut self, number: u32, to: u32) -> Result<(), Fail> {
-        self.does(Command::CheckIn {
-            party: party(number)?,
-            room: room(to)?,
-        })
+        let party = party(number)?;
+        let room = room(to)?;
+        self.does(&Command::CheckIn { party, room })
+    }
+
+    fn check_out(&mut self, number: u32) -> Result<(), Fail> {
+        self.does(&Command::CheckOut(party(number)?))
     }
 
     fn transfer(&mut self, number: u32, to: u32) -> Result<(), Fail> {
-        self.does(Command::Transfer {
-            party: party(number)?,
-            room: room(to)?,
-        })
+        let party = party(number)?;
+        let room = room(to)?;
+        self.does(&Command::Transfer { party, room })
+    }
+
+    /// The first card enters room 101 twice.
+    fn enters_twice(&mut self) -> Result<(), Fail> {
+        self.reserve("Ann Lee", FIRST_DAY, 2)?;
+        self.check_in(1, 101)?;
+        self.takes(entered(101, 1, 1, 0xa0, 0xa1)?)?;
+        self.takes(entered(101, 2, 1, 0xa0, 0xa1)?)
+    }
+
+    /// A guest leaves who never entered room 101, and the next one checks in.
+    fn leaves_behind(&mut self) -> Result<(), Fail> {
+        self.reserve("Ann Lee", FIRST_DAY, 2)?;
+        self.check_in(1, 101)?;
+        self.check_out(1)?;
+        self.reserve("Bo", FIRST_DAY, 2)?;
+        self.check_in(2, 101)
+    }
+
+    /// A party goes to another room, and comes back to room 101, where another one was.
+    fn goes_away_and_back(&mut self) -> Result<(), Fail> {
+        self.reserve("Ann Lee", FIRST_DAY, 2)?;
+        self.reserve("Bo", FIRST_DAY, 2)?;
+        self.check_in(1, 101)?;
+        self.takes(entered(101, 1, 1, 0xa0, 0xa1)?)?;
+        self.takes(left(101, 2, 1, 0xa0, 0xa1)?)?;
+        self.transfer(1, 102)?;
+        self.check_in(2, 101)?;
+        self.check_out(2)?;
+        self.transfer(1, 101)?;
+        self.takes(entered(101, 3, 1, 0xa0, 0xa1)?)
+    }
+
+    /// Then it leaves, and enters by its later cards.
+    fn enters_by_later_cards(&mut self) -> Result<(), Fail> {
+        self.takes(left(101, 4, 1, 0xa0, 0xa1)?)?;
+        self.takes(entered(101, 5, 3, 0xa1, 0xa2)?)?;
+        self.takes(left(101, 6, 3, 0xa1, 0xa2)?)?;
+        self.takes(entered(101, 7, 4, 0xa2, 0xa3)?)
+    }
+
+    /// The first card enters room 101 and leaves it.
+    fn enters_and_leaves(&mut self) -> Result<(), Fail> {
+        self.reserve("Ann Lee", FIRST_DAY, 2)?;
+        self.check_in(1, 101)?;
+        self.takes(entered(101, 1, 1, 0xa0, 0xa1)?)?;
+        self.takes(left(101, 2, 1, 0xa0, 0xa1)?)
     }
 }
 
 /// Room 101 after two entries of its first card.
 fn two_entries(alloc: Global) -> Result<Desk, Fail> {
     let mut desk = Desk::begun(alloc, &[0xa0, 0xa1, 0xa2], &[101])?;
-    desk.reserve("Ann Lee", FIRST_DAY, 2)?;
-    desk.check_in(1, 101)?;
-    desk.does(entered(101, 1, 1, 0xa0, 0xa1)?)?;
-    desk.does(entered(101, 2, 1, 0xa0, 0xa1)?)?;
+    desk.enters_twice()?;
     Ok(desk)
 }
 
 /// Room 101 after a guest who never entered it, and the next one.
 fn left_behind_desk(alloc: Global) -> Result<Desk, Fail> {
     let mut desk = Desk::begun(alloc, &[0xa0, 0xa1, 0xa2], &[101])?;
-    desk.reserve("Ann Lee", FIRST_DAY, 2)?;
-    desk.check_in(1, 101)?;
-    desk.does(Command::CheckOut(party(1)?))?;
-    desk.reserve("Bo", FIRST_DAY, 2)?;
-    desk.check_in(2, 101)?;
+    desk.leaves_behind()?;
     Ok(desk)
+}
+
+/// The list of room 101's codes reads so.
+fn chain_reads(rt: &(impl Abort + AllocGlobal), desk: &mut Desk, text: &[u8]) -> Result<(), Fail> {
+    let room = room(101)?;
+    let mut writer = FakeWriter::new(rt.alloc());
+    chain_of(rt.alloc(), &mut desk.books, room, &mut writer)?;
+    assert_eq!(rt; writer.written(), text);
+    Ok(())
 }
 
 #[test]
 fn two_entries_chain(rt: HostRuntime) -> Result<(), Fail> {
-    let alloc = rt.alloc();
-    let mut desk = two_entries(alloc)?;
-    let mut writer = FakeWriter::new(alloc);
-    chain_of(alloc, &mut desk.books, room(101)?, &mut writer)?;
-    assert_eq!(rt;
-        writer.written(),
-        b"place,code,state\n0,0000000000a0,passed\n1,0000000000a1,held\n".as_slice()
-    );
+    chain_reads(
+        &rt,
+        &mut two_entries(rt.alloc())?,
+        b"place,code,state\n0,0000000000a0,passed\n1,0000000000a1,held\n",
+    )
+}
+
+/// The list of the rooms in house reads so.
+fn house_reads(rt: &(impl Abort + AllocGlobal), desk: &mut Desk, text: &[u8]) -> Result<(), Fail> {
+    let mut writer = FakeWriter::new(rt.alloc());
+    in_house(rt.alloc(), &mut desk.books, &mut writer)?;
+    assert_eq!(rt; writer.written(), text);
     Ok(())
+}
+
+/// The list of the rooms in house, as a party comes back and as it enters by its later cards.
+fn away_and_back(rt: &(impl Abort + AllocGlobal), desk: &mut Desk) -> Result<(), Fail> {
+    desk.goes_away_and_back()?;
+    house_reads(
+        rt,
+        desk,
+        b"room,party,guest,kind,depart,secured\n101,1,Ann Lee,DBL,2031-05-03,no\n",
+    )?;
+    desk.enters_by_later_cards()?;
+    house_reads(
+        rt,
+        desk,
+        b"room,party,guest,kind,depart,secured\n101,1,Ann Lee,DBL,2031-05-03,yes\n",
+    )
 }
 
 #[test]
 fn away_and_back_in_house(rt: HostRuntime) -> Result<(), Fail> {
-    let alloc = rt.alloc();
     let codes = [0xa0, 0xb0, 0xa1, 0xb1, 0xa2, 0xa3];
-    let mut desk = Desk::begun(alloc, &codes, &[101, 102])?;
-    desk.reserve("Ann Lee", FIRST_DAY, 2)?;
-    desk.reserve("Bo", FIRST_DAY, 2)?;
-    desk.check_in(1, 101)?;
-    desk.does(entered(101, 1, 1, 0xa0, 0xa1)?)?;
-    desk.does(left(101, 2, 1, 0xa0, 0xa1)?)?;
-    desk.transfer(1, 102)?;
-    desk.check_in(2, 101)?;
-    desk.does(Command::CheckOut(party(2)?))?;
-    desk.transfer(1, 101)?;
-    desk.does(entered(101, 3, 1, 0xa0, 0xa1)?)?;
-    let mut writer = FakeWriter::new(alloc);
-    in_house(alloc, &mut desk.books, &mut writer)?;
-    assert_eq!(rt;
-        writer.written(),
-        b"room,party,guest,kind,depart,secured\n101,1,Ann Lee,DBL,2031-05-03,no\n".as_slice()
-    );
-    desk.does(left(101, 4, 1, 0xa0, 0xa1)?)?;
-    desk.does(entered(101, 5, 3, 0xa1, 0xa2)?)?;
-    desk.does(left(101, 6, 3, 0xa1, 0xa2)?)?;
-    desk.does(entered(101, 7, 4, 0xa2, 0xa3)?)?;
-    let mut writer = FakeWriter::new(alloc);
-    in_house(alloc, &mut desk.books, &mut writer)?;
-    assert_eq!(rt;
-        writer.written(),
-        b"room,party,guest,kind,depart,secured\n101,1,Ann Lee,DBL,2031-05-03,yes\n".as_slice()
-    );
+    away_and_back(&rt, &mut Desk::begun(rt.alloc(), &codes, &[101, 102])?)
+}
+
+/// The list of a day's arrivals reads so.
+fn arrivals_read(
+    rt: &(impl Abort + AllocGlobal),
+    desk: &mut Desk,
+    day: Day,
+    text: &[u8],
+) -> Result<(), Fail> {
+    let mut writer = FakeWriter::new(rt.alloc());
+    arrivals(rt.alloc(), &mut desk.books, day, &mut writer)?;
+    assert_eq!(rt; writer.written(), text);
     Ok(())
+}
+
+/// A quoted guest is in the list of each day of the stay.
+fn quoted_guest(rt: &(impl Abort + AllocGlobal), desk: &mut Desk) -> Result<(), Fail> {
+    desk.reserve("Lee, Ann", FIRST_DAY, 2)?;
+    let row = b"party,guest,kind,arrive,depart\n1,\"Lee, Ann\",DBL,2031-05-01,2031-05-03\n";
+    let none = b"party,guest,kind,arrive,depart\n";
+    arrivals_read(rt, desk, day(FIRST_DAY - 1)?, none)?;
+    arrivals_read(rt, desk, day(FIRST_DAY)?, row)?;
+    arrivals_read(rt, desk, day(FIRST_DAY + 1)?, row)?;
+    arrivals_read(rt, desk, day(FIRST_DAY + 2)?, none)
 }
 
 #[test]
 fn quoted_guest_arrives(rt: HostRuntime) -> Result<(), Fail> {
-    let alloc = rt.alloc();
-    let mut desk = Desk::begun(alloc, &[0xa0], &[101])?;
-    desk.reserve("Lee, Ann", FIRST_DAY, 2)?;
-    let row = b"party,guest,kind,arrive,depart\n1,\"Lee, Ann\",DBL,2031-05-01,2031-05-03\n";
-    let none = b"party,guest,kind,arrive,depart\n";
-    for (number, expected) in [
-        (FIRST_DAY - 1, none.as_slice()),
-        (FIRST_DAY, row),
-        (FIRST_DAY + 1, row),
-        (FIRST_DAY + 2, none),
-    ] {
-        let mut writer = FakeWriter::new(alloc);
-        arrivals(alloc, &mut desk.books, day(number)?, &mut writer)?;
-        assert_eq!(rt; writer.written(), expected);
-    }
+    quoted_guest(&rt, &mut Desk::begun(rt.alloc(), &[0xa0], &[101])?)
+}
+
+/// The list of room 101's notes reads so.
+fn audit_reads(rt: &(impl Abort + AllocGlobal), desk: &mut Desk, text: &[u8]) -> Result<(), Fail> {
+    let room = room(101)?;
+    let mut writer = FakeWriter::new(rt.alloc());
+    audit_of(rt.alloc(), &mut desk.books, room, &mut writer)?;
+    assert_eq!(rt; writer.written(), text);
     Ok(())
+}
+
+/// The list of the notes of an entry and a leave.
+fn round_trip(rt: &(impl Abort + AllocGlobal), desk: &mut Desk) -> Result<(), Fail> {
+    desk.enters_and_leaves()?;
+    audit_reads(
+        rt,
+        desk,
+        b"room,count,kind,card,old,new,at\n101,1,in,1,0000000000a0,0000000000a1,2031-05-01T15:00:00\n101,2,out,1,0000000000a0,0000000000a1,2031-05-01T16:00:00\n",
+    )
 }
 
 #[test]
 fn audit_round_trip_notes(rt: HostRuntime) -> Result<(), Fail> {
-    let alloc = rt.alloc();
-    let mut desk = Desk::begun(alloc, &[0xa0, 0xa1], &[101])?;
-    desk.reserve("Ann Lee", FIRST_DAY, 2)?;
-    desk.check_in(1, 101)?;
-    desk.does(entered(101, 1, 1, 0xa0, 0xa1)?)?;
-    desk.does(left(101, 2, 1, 0xa0, 0xa1)?)?;
-    let mut writer = FakeWriter::new(alloc);
-    audit_of(alloc, &mut desk.books, room(101)?, &mut writer)?;
-    assert_eq!(rt;
-        writer.written(),
-        b"room,count,kind,card,old,new,at\n101,1,in,1,0000000000a0,0000000000a1,2031-05-01T15:00:00\n101,2,out,1,0000000000a0,0000000000a1,2031-05-01T16:00:00\n".as_slice()
-    );
+    round_trip(&rt, &mut Desk::begun(rt.alloc(), &[0xa0, 0xa1], &[101])?)
+}
+
+/// The lists of a room that isn't there write nothing.
+fn no_room(rt: &(impl Abort + AllocGlobal), desk: &mut Desk) -> Result<(), Fail> {
+    let absent = room(102)?;
+    let mut writer = FakeWriter::new(rt.alloc());
+    let chain = chain_of(rt.alloc(), &mut desk.books, absent, &mut writer);
+    assert_eq!(rt; chain, Err(ListFault::NoRoom));
+    let audit = audit_of(rt.alloc(), &mut desk.books, absent, &mut writer);
+    assert_eq!(rt; audit, Err(ListFault::NoRoom));
+    assert!(rt; writer.written().is_empty());
     Ok(())
 }
 
 #[test]
 fn no_room_before_anything_is_written(rt: HostRuntime) -> Result<(), Fail> {
-    let alloc = rt.alloc();
-    let mut desk = two_entries(alloc)?;
-    let mut writer = FakeWriter::new(alloc);
-    let chain = chain_of(alloc, &mut desk.books, room(102)?, &mut writer);
-    assert!(rt; matches!(chain, Err(ListFault::NoRoom)));
-    let audit = audit_of(alloc, &mut desk.books, room(102)?, &mut writer);
-    assert!(rt; matches!(audit, Err(ListFault::NoRoom)));
-    assert!(rt; writer.written().is_empty());
-    Ok(())
+    no_room(&rt, &mut two_entries(rt.alloc())?)
 }
 
 /// Takes so many rows, and stops at the next one.
@@ -268,25 +355,34 @@ impl Sink<ChainRow> for Taker {
     }
 }
 
+/// A walk over the codes of room 101, of which its sink takes so many, ends so.
+fn walk_ends(
+    rt: &(impl Abort + AllocGlobal),
+    desk: &mut Desk,
+    most: usize,
+    end: Result<(), WalkFault>,
+    places: &[u32],
+) -> Result<(), Fail> {
+    let room = room(101)?;
+    let mut taker = Taker {
+        places: Vec::new(rt.alloc()),
+        most,
+    };
+    let ended = desk.books.walk_chain(room, &mut taker);
+    assert_eq!(rt; ended, end);
+    assert_eq!(rt; taker.places.as_slice(), places);
+    Ok(())
+}
+
+/// Walks over three codes, by a sink that takes two and by one that takes three.
+fn walks_end(rt: &(impl Abort + AllocGlobal), desk: &mut Desk) -> Result<(), Fail> {
+    walk_ends(rt, desk, 2, Err(WalkFault::Stopped), &[0, 1])?;
+    walk_ends(rt, desk, 3, Ok(()), &[0, 1, 2])
+}
+
 #[test]
 fn a_walk_ends_where_its_sink_stops(rt: HostRuntime) -> Result<(), Fail> {
-    let alloc = rt.alloc();
-    let mut desk = left_behind_desk(alloc)?;
-    let mut two = Taker {
-        places: Vec::new(alloc),
-        most: 2,
-    };
-    let end = desk.books.walk_chain(room(101)?, &mut two);
-    assert!(rt; matches!(end, Err(WalkFault::Stopped)));
-    assert_eq!(rt; two.places.as_slice(), [0, 1].as_slice());
-    let mut all = Taker {
-        places: Vec::new(alloc),
-        most: 3,
-    };
-    let end = desk.books.walk_chain(room(101)?, &mut all);
-    assert!(rt; end.is_ok());
-    assert_eq!(rt; all.places.as_slice(), [0, 1, 2].as_slice());
-    Ok(())
+    walks_end(&rt, &mut left_behind_desk(rt.alloc())?)
 }
 
 /// Of scenario `desk-day`, the second day's arrivals.
@@ -311,31 +407,38 @@ enum Scene {
     Chain,
 }
 
+impl Desk {
+    /// Scenario `desk-day` after its first commands.
+    fn has_a_day(&mut self) -> Result<(), Fail> {
+        let single = KindCode::read(b"SGL").ok_or("a kind")?;
+        self.does(&Command::AddKind(single))?;
+        self.add_room(201, single)?;
+        self.reserve("Ann", FIRST_DAY, 2)?;
+        self.reserve("Bo", FIRST_DAY + 1, 1)?;
+        self.check_in(1, 101)?;
+        self.does(&Command::NextDay)
+    }
+
+    /// The recoding of scenario `left-behind-recoded`, and the entry after it.
+    fn is_recoded(&mut self) -> Result<(), Fail> {
+        let from = code(0xa0)?;
+        let to = code(0xa2)?;
+        self.takes(note(101, 1, Act::Recoded { from, to }, AFTERNOON)?)?;
+        self.takes(entered(101, 2, 2, 0xa1, 0xa2)?)
+    }
+}
+
 /// Scenario `desk-day` on its second day.
 fn desk_day(alloc: Global) -> Result<Desk, Fail> {
-    let single = KindCode::read(b"SGL").ok_or("a kind")?;
     let mut desk = Desk::begun(alloc, &[0xa0, 0xb0, 0xc0, 0xa1], &[101, 102])?;
-    desk.does(Command::AddKind(single))?;
-    desk.does(Command::AddRoom {
-        room: room(201)?,
-        kind: single,
-    })?;
-    desk.reserve("Ann", FIRST_DAY, 2)?;
-    desk.reserve("Bo", FIRST_DAY + 1, 1)?;
-    desk.check_in(1, 101)?;
-    desk.does(Command::NextDay)?;
+    desk.has_a_day()?;
     Ok(desk)
 }
 
 /// Scenario `left-behind-recoded` at its end.
 fn recoded_desk(alloc: Global) -> Result<Desk, Fail> {
     let mut desk = left_behind_desk(alloc)?;
-    let recoding = Act::Recoded {
-        from: code(0xa0)?,
-        to: code(0xa2)?,
-    };
-    desk.does(note(101, 1, recoding, AFTERNOON)?)?;
-    desk.does(entered(101, 2, 2, 0xa1, 0xa2)?)?;
+    desk.is_recoded()?;
     Ok(desk)
 }
 
@@ -386,27 +489,80 @@ fn is_whole(rt: &(impl Abort + AllocGlobal), scene: Scene, desk: &mut Desk) {
     assert_eq!(rt; writer.written(), scene.text(), "{scene:?}");
 }
 
+/// The write of the byte behind this front fails, and the front was written.
+fn fails_behind(
+    rt: &(impl Abort + AllocGlobal),
+    scene: Scene,
+    desk: &mut Desk,
+    call: u32,
+    front: &[u8],
+) {
+    let mut writer = FakeWriter::new(rt.alloc()).in_pieces(1).failing_at(call);
+    let written = scene.write(desk, &mut writer);
+    assert_eq!(rt; written, Err(ListFault::Write), "{scene:?}, {call}");
+    assert_eq!(rt; writer.written(), front, "{scene:?}, {call}");
+}
+
 /// The write of each byte fails in turn: the bytes before it were written, and the list after it is whole.
-fn fails_by_bytes(rt: &(impl Abort + AllocGlobal), scene: Scene) -> Result<(), Fail> {
-    let mut desk = scene.desk(rt.alloc())?;
+fn fails_by_bytes(rt: &(impl Abort + AllocGlobal), scene: Scene, desk: &mut Desk) {
     let text = scene.text();
     let mut call = 0u32;
     for before in 0..text.len() {
-        let front = &text[..before];
         call = call.saturating_add(1);
-        let mut writer = FakeWriter::new(rt.alloc()).in_pieces(1).failing_at(call);
-        let written = scene.write(&mut desk, &mut writer);
-        assert_eq!(rt; written, Err(ListFault::Write), "{scene:?}, {call}");
-        assert_eq!(rt; writer.written(), front, "{scene:?}, {call}");
-        is_whole(rt, scene, &mut desk);
+        fails_behind(rt, scene, desk, call, &text[..before]);
+        is_whole(rt, scene, desk);
+    }
+}
+
+/// Each byte of each list.
+fn each_fails_by_bytes(rt: &(impl Abort + AllocGlobal)) -> Result<(), Fail> {
+    for scene in SCENES {
+        fails_by_bytes(rt, scene, &mut scene.desk(rt.alloc())?);
     }
     Ok(())
 }
 
 #[test]
 fn each_byte_whose_write_fails_ends_a_front(rt: HostRuntime) -> Result<(), Fail> {
+    each_fails_by_bytes(&rt)
+}
+
+/// These bytes of a list are whole rows.
+fn are_rows(taken: &[u8]) -> bool {
+    taken.is_empty() || taken.ends_with(b"\n")
+}
+
+/// Writes a list, of which whole rows are written where it ends by a fault.
+fn writes_rows(
+    rt: &(impl Abort + AllocGlobal),
+    scene: Scene,
+    desk: &mut Desk,
+) -> Result<(), ListFault> {
+    let mut writer = FakeWriter::new(rt.alloc());
+    let written = scene.write(desk, &mut writer);
+    let taken = writer.written();
+    assert!(rt; scene.text().starts_with(taken), "{scene:?}");
+    let is_right = match written {
+        Ok(()) => taken.len() == scene.text().len(),
+        Err(_) => are_rows(taken),
+    };
+    assert!(rt; is_right, "{scene:?}");
+    written
+}
+
+/// A list that found no memory has written whole rows, and the next one is whole.
+fn is_whole_or_in_rows(rt: &(impl Abort + AllocGlobal), scene: Scene, desk: &mut Desk) {
+    match writes_rows(rt, scene, desk) {
+        Ok(()) => {}
+        Err(ListFault::Memory | ListFault::Write) => is_whole(rt, scene, desk),
+        Err(fault) => assert_eq!(rt; fault, ListFault::Memory, "{scene:?}"),
+    }
+}
+
+/// Each list.
+fn each_is_whole_or_in_rows(rt: &(impl Abort + AllocGlobal)) -> Result<(), Fail> {
     for scene in SCENES {
-        fails_by_bytes(&rt, scene)?;
+        is_whole_or_in_rows(rt, scene, &mut scene.desk(rt.alloc())?);
     }
     Ok(())
 }
@@ -416,53 +572,58 @@ fn each_byte_whose_write_fails_ends_a_front(rt: HostRuntime) -> Result<(), Fail>
 /// found no memory ends the test.
 #[test]
 fn a_list_is_whole_or_in_whole_rows(rt: HostRuntime) -> Result<(), Fail> {
-    for scene in SCENES {
-        let mut desk = scene.desk(rt.alloc())?;
-        let mut writer = FakeWriter::new(rt.alloc());
-        let written = scene.write(&mut desk, &mut writer);
-        let taken = writer.written();
-        assert!(rt; scene.text().starts_with(taken), "{scene:?}");
-        match written {
-            Ok(()) => assert_eq!(rt; taken.len(), scene.text().len(), "{scene:?}"),
-            Err(fault) => {
-                assert!(rt;
-                    matches!(fault, ListFault::Memory | ListFault::Write),
-                    "{scene:?}"
-                );
-                assert!(rt; taken.is_empty() || taken.ends_with(b"\n"), "{scene:?}");
-                is_whole(&rt, scene, &mut desk);
-            }
-        }
-    }
-    Ok(())
+    each_is_whole_or_in_rows(&rt)
 }
 
 /// The list of room 101's codes ends so, on this writer.
 fn chain_ends(
     rt: &(impl Abort + AllocGlobal),
+    desk: &mut Desk,
     mut writer: FakeWriter,
     outcome: Result<(), ListFault>,
     text: &[u8],
-) -> Result<(), Fail> {
-    let mut desk = Scene::Chain.desk(rt.alloc())?;
-    let written = Scene::Chain.write(&mut desk, &mut writer);
+) {
+    let written = Scene::Chain.write(desk, &mut writer);
     assert_eq!(rt; written, outcome);
     assert_eq!(rt; writer.written(), text);
-    Ok(())
+}
+
+/// The same list on slow, interrupted and stuck writers.
+fn chains_end(rt: &(impl Abort + AllocGlobal), desk: &mut Desk) {
+    let alloc = rt.alloc();
+    let failed = Err(ListFault::Write);
+    let two_rows = b"place,code,state\n0,0000000000a0,passed\n1,0000000000a1,passed\n";
+    chain_ends(rt, desk, FakeWriter::new(alloc).in_pieces(1), Ok(()), CHAIN);
+    chain_ends(
+        rt,
+        desk,
+        FakeWriter::new(alloc).interrupted(999),
+        Ok(()),
+        CHAIN,
+    );
+    chain_ends(
+        rt,
+        desk,
+        FakeWriter::new(alloc).interrupted(1000),
+        failed,
+        b"",
+    );
+    let slow = FakeWriter::new(alloc).interrupted_before_each(249);
+    chain_ends(rt, desk, slow, Ok(()), CHAIN);
+    let slow = FakeWriter::new(alloc).interrupted_before_each(250);
+    chain_ends(rt, desk, slow, failed, two_rows);
+    chain_ends(rt, desk, FakeWriter::new(alloc).stuck_at(1), failed, b"");
+    chain_ends(
+        rt,
+        desk,
+        FakeWriter::new(alloc).stuck_at(4),
+        failed,
+        two_rows,
+    );
 }
 
 #[test]
 fn slow_interrupted_and_stuck_writers(rt: HostRuntime) -> Result<(), Fail> {
-    let alloc = rt.alloc();
-    let failed = Err(ListFault::Write);
-    let two_rows = b"place,code,state\n0,0000000000a0,passed\n1,0000000000a1,passed\n";
-    chain_ends(&rt, FakeWriter::new(alloc).in_pieces(1), Ok(()), CHAIN)?;
-    chain_ends(&rt, FakeWriter::new(alloc).interrupted(999), Ok(()), CHAIN)?;
-    chain_ends(&rt, FakeWriter::new(alloc).interrupted(1000), failed, b"")?;
-    let slow = FakeWriter::new(alloc).interrupted_before_each(249);
-    chain_ends(&rt, slow, Ok(()), CHAIN)?;
-    let slow = FakeWriter::new(alloc).interrupted_before_each(250);
-    chain_ends(&rt, slow, failed, two_rows)?;
-    chain_ends(&rt, FakeWriter::new(alloc).stuck_at(1), failed, b"")?;
-    chain_ends(&rt, FakeWriter::new(alloc).stuck_at(4), failed, two_rows)
+    chains_end(&rt, &mut Scene::Chain.desk(rt.alloc())?);
+    Ok(())
 }
