@@ -78,37 +78,24 @@ impl Desk {
     }
 }
 
-/// What a step writes on the two writers, and its status.
-#[derive(Drop)]
-struct Outcome {
-    writer: FakeWriter,
-    faults: FakeWriter,
-    status: u8,
-}
-
-/// Carries out a step on the desk, with these writers.
+/// Carries out a step on the desk, with these writers, and answers its status.
 fn carry_out(
     alloc: Global,
     desk: &mut Desk,
     step: &Step,
-    mut writer: FakeWriter,
-    mut faults: FakeWriter,
-) -> Result<Outcome, Fail> {
-    let status = match step {
+    writer: &mut FakeWriter,
+    faults: &mut FakeWriter,
+) -> Result<u8, Fail> {
+    match step {
         Step::Script(lines, _) => {
-            desk.script(alloc, lines, &mut writer)?;
-            0
+            desk.script(alloc, lines, writer)?;
+            Ok(0)
         }
         Step::Audit(file, _, _) | Step::NoAudit(file, _) => {
-            desk.audit(alloc, file, &mut writer, &mut faults)
+            Ok(desk.audit(alloc, file, writer, faults))
         }
-        Step::List(line, _, _) => desk.list(alloc, line, &mut writer, &mut faults)?,
-    };
-    Ok(Outcome {
-        writer,
-        faults,
-        status,
-    })
+        Step::List(line, _, _) => desk.list(alloc, line, writer, faults),
+    }
 }
 
 /// What the step says that it writes on the two writers, and its status.
@@ -128,38 +115,46 @@ fn step_holds(
     step: &Step,
     name: &str,
 ) -> Result<(), Fail> {
-    let writer = FakeWriter::new(rt.alloc()).in_pieces(9);
-    let faults = FakeWriter::new(rt.alloc()).in_pieces(4);
-    let outcome = carry_out(rt.alloc(), desk, step, writer, faults)?;
+    let mut writer = FakeWriter::new(rt.alloc()).in_pieces(9);
+    let mut faults = FakeWriter::new(rt.alloc()).in_pieces(4);
+    let came_to = carry_out(rt.alloc(), desk, step, &mut writer, &mut faults)?;
     let (output, told, status) = expected(step);
-    assert_eq!(rt; outcome.writer.written(), output, "{name}");
-    assert_eq!(rt; outcome.faults.written(), told, "{name}");
-    assert_eq!(rt; outcome.status, status, "{name}");
+    assert_eq!(rt; writer.written(), output, "{name}");
+    assert_eq!(rt; faults.written(), told, "{name}");
+    assert_eq!(rt; came_to, status, "{name}");
+    Ok(())
+}
+
+/// The scenario's steps hold in turn.
+fn scenario_holds(rt: &(impl Abort + AllocGlobal), scenario: &Scenario) -> Result<(), Fail> {
+    let mut desk = Desk::new(rt.alloc(), scenario.codes)?;
+    for step in scenario.steps {
+        step_holds(rt, &mut desk, step, scenario.name)?;
+    }
     Ok(())
 }
 
 #[test]
 fn scenarios_hold(rt: HostRuntime) -> Result<(), Fail> {
-    for Scenario { name, codes, steps } in &SCENARIOS {
-        let mut desk = Desk::new(rt.alloc(), codes)?;
-        for step in *steps {
-            step_holds(&rt, &mut desk, step, name)?;
-        }
+    for scenario in &SCENARIOS {
+        scenario_holds(&rt, scenario)?;
     }
     Ok(())
+}
+
+/// Checks party 1 in at room 101.
+fn check_in(alloc: Global, desk: &mut Desk) -> Result<(), Fail> {
+    let mut writer = FakeWriter::new(alloc);
+    match &CHECKED_IN {
+        Step::Script(lines, _) => desk.script(alloc, lines, &mut writer),
+        _ => Err(Fail::from("no script")),
+    }
 }
 
 /// A desk on which party 1 is checked in at room 101.
 fn checked_in(alloc: Global) -> Result<Desk, Fail> {
     let mut desk = Desk::new(alloc, &[0xa0, 0xa1])?;
-    let writer = FakeWriter::new(alloc);
-    carry_out(
-        alloc,
-        &mut desk,
-        &CHECKED_IN,
-        writer,
-        FakeWriter::new(alloc),
-    )?;
+    check_in(alloc, &mut desk)?;
     Ok(desk)
 }
 
@@ -168,30 +163,35 @@ fn write_fails(
     rt: &(impl Abort + AllocGlobal),
     desk: &mut Desk,
     step: &Step,
-    writer: FakeWriter,
+    mut writer: FakeWriter,
 ) -> Result<(), Fail> {
-    let faults = FakeWriter::new(rt.alloc());
-    let outcome = carry_out(rt.alloc(), desk, step, writer, faults)?;
+    let mut faults = FakeWriter::new(rt.alloc());
+    let status = carry_out(rt.alloc(), desk, step, &mut writer, &mut faults)?;
     let (output, _, _) = expected(step);
-    assert!(rt; output.starts_with(outcome.writer.written()));
-    assert_eq!(rt; outcome.faults.written(), b"write\n".as_slice());
-    assert_eq!(rt; outcome.status, 5);
+    assert!(rt; output.starts_with(writer.written()));
+    assert_eq!(rt; faults.written(), b"write\n".as_slice());
+    assert_eq!(rt; status, 5);
     Ok(())
+}
+
+const TAKEN: Step = Step::Audit(TWO_NOTES, b"1 taken\n2 taken\n", 0);
+
+const SEEN: Step = Step::Audit(TWO_NOTES, b"1 seen\n2 seen\n", 0);
+
+/// The notes stand after the write of this number fails.
+fn notes_stand_after_write(rt: &(impl Abort + AllocGlobal), call: u32) -> Result<(), Fail> {
+    let mut desk = checked_in(rt.alloc())?;
+    let writer = FakeWriter::new(rt.alloc()).in_pieces(3);
+    write_fails(rt, &mut desk, &TAKEN, writer.failing_at(call))?;
+    step_holds(rt, &mut desk, &SEEN, "sent again")?;
+    let writer = FakeWriter::new(rt.alloc()).in_pieces(3);
+    write_fails(rt, &mut desk, &SEEN, writer.stuck_at(call.min(4)))
 }
 
 #[test]
 fn notes_stand_after_each_write_that_fails(rt: HostRuntime) -> Result<(), Fail> {
-    let taken = Step::Audit(TWO_NOTES, b"1 taken\n2 taken\n", 0);
-    let seen = Step::Audit(TWO_NOTES, b"1 seen\n2 seen\n", 0);
     for call in 1..=6 {
-        let mut desk = checked_in(rt.alloc())?;
-        let writer = FakeWriter::new(rt.alloc()).in_pieces(3).failing_at(call);
-        write_fails(&rt, &mut desk, &taken, writer)?;
-        step_holds(&rt, &mut desk, &seen, "sent again")?;
-        let stuck = FakeWriter::new(rt.alloc())
-            .in_pieces(3)
-            .stuck_at(call.min(4));
-        write_fails(&rt, &mut desk, &seen, stuck)?;
+        notes_stand_after_write(&rt, call)?;
     }
     Ok(())
 }
@@ -203,149 +203,250 @@ place,code,state
 1,0000000000a1,awaited
 ";
 
-#[test]
-fn each_write_of_a_list_fails(rt: HostRuntime) -> Result<(), Fail> {
-    let chain = Step::List(b"chain 101", CHAIN, 0);
-    let no_room = Step::List(b"audit-of 102", b"refused 6 NoRoom\n", 3);
+const CHAIN_LISTED: Step = Step::List(b"chain 101", CHAIN, 0);
+
+const NO_ROOM: Step = Step::List(b"audit-of 102", b"refused 6 NoRoom\n", 3);
+
+/// The write of this number fails within a list, and within the line that says that its room isn't there.
+fn list_write_fails(
+    rt: &(impl Abort + AllocGlobal),
+    desk: &mut Desk,
+    call: u32,
+) -> Result<(), Fail> {
+    let writer = FakeWriter::new(rt.alloc());
+    write_fails(rt, desk, &CHAIN_LISTED, writer.failing_at(call))?;
+    let writer = FakeWriter::new(rt.alloc()).in_pieces(6);
+    write_fails(rt, desk, &NO_ROOM, writer.failing_at(call))
+}
+
+/// Each of the first writes of a list fails in turn; then it is written.
+fn list_writes_fail(rt: &(impl Abort + AllocGlobal)) -> Result<(), Fail> {
     let mut desk = checked_in(rt.alloc())?;
     for call in 1..=3 {
-        let writer = FakeWriter::new(rt.alloc()).failing_at(call);
-        write_fails(&rt, &mut desk, &chain, writer)?;
-        let writer = FakeWriter::new(rt.alloc()).in_pieces(6).failing_at(call);
-        write_fails(&rt, &mut desk, &no_room, writer)?;
+        list_write_fails(rt, &mut desk, call)?;
     }
-    step_holds(&rt, &mut desk, &chain, "at last")
+    step_holds(rt, &mut desk, &CHAIN_LISTED, "at last")
+}
+
+#[test]
+fn each_write_of_a_list_fails(rt: HostRuntime) -> Result<(), Fail> {
+    list_writes_fail(&rt)
+}
+
+/// The file comes to a fault, with a write that fails or without, which is not told.
+fn nobody_hears(
+    rt: &(impl Abort + AllocGlobal),
+    desk: &mut Desk,
+    file: &[u8],
+    call: u32,
+) -> Result<(), Fail> {
+    let mut writer = FakeWriter::new(rt.alloc()).failing_at(call);
+    let mut faults = FakeWriter::new(rt.alloc()).failing_at(1);
+    let status = desk.audit(rt.alloc(), file, &mut writer, &mut faults);
+    assert_eq!(rt; status, 5);
+    assert!(rt; writer.written().is_empty());
+    assert!(rt; faults.written().is_empty());
+    Ok(())
+}
+
+/// Nobody hears of either fault.
+fn faults_unheard(rt: &(impl Abort + AllocGlobal)) -> Result<(), Fail> {
+    let mut desk = checked_in(rt.alloc())?;
+    nobody_hears(rt, &mut desk, b"", 9)?;
+    nobody_hears(rt, &mut desk, TWO_NOTES, 1)
 }
 
 #[test]
 fn nobody_hears_of_a_fault_that_is_not_written(rt: HostRuntime) -> Result<(), Fail> {
-    let alloc = rt.alloc();
-    let mut desk = checked_in(alloc)?;
-    for (file, call) in [(b"".as_slice(), 9), (TWO_NOTES, 1)] {
-        let mut writer = FakeWriter::new(alloc).failing_at(call);
-        let mut faults = FakeWriter::new(alloc).failing_at(1);
-        let status = desk.audit(alloc, file, &mut writer, &mut faults);
-        assert_eq!(rt; status, 5);
-        assert!(rt; writer.written().is_empty());
-        assert!(rt; faults.written().is_empty());
-    }
+    faults_unheard(&rt)
+}
+
+/// After 600 interruptions on its writer and so many on the other, a list tells so.
+fn interrupted_list(
+    rt: &(impl Abort + AllocGlobal),
+    desk: &mut Desk,
+    times: u32,
+    told: &[u8],
+) -> Result<(), Fail> {
+    let writer = FakeWriter::new(rt.alloc()).interrupted(600);
+    let mut writer = writer.failing_at(601);
+    let mut faults = FakeWriter::new(rt.alloc()).interrupted(times);
+    let status = desk.list(rt.alloc(), b"in-house", &mut writer, &mut faults)?;
+    assert_eq!(rt; status, 5);
+    assert_eq!(rt; faults.written(), told, "{times} interruptions");
     Ok(())
+}
+
+/// The thousandth interruption of a call is a fault.
+fn interruptions_counted(rt: &(impl Abort + AllocGlobal)) -> Result<(), Fail> {
+    let mut desk = checked_in(rt.alloc())?;
+    interrupted_list(rt, &mut desk, 399, b"write\n")?;
+    interrupted_list(rt, &mut desk, 400, b"")
 }
 
 #[test]
 fn interruptions_on_both_writers_are_counted_together(rt: HostRuntime) -> Result<(), Fail> {
-    let alloc = rt.alloc();
-    let mut desk = checked_in(alloc)?;
-    for (times, told) in [(399, b"write\n".as_slice()), (400, b"".as_slice())] {
-        let mut writer = FakeWriter::new(alloc).interrupted(600).failing_at(601);
-        let mut faults = FakeWriter::new(alloc).interrupted(times);
-        let status = desk.list(alloc, b"in-house", &mut writer, &mut faults)?;
-        assert_eq!(rt; status, 5);
-        assert_eq!(rt; faults.written(), told, "{times} interruptions");
-    }
+    interruptions_counted(&rt)
+}
+
+/// The file is no audit file, and so it is told.
+fn is_no_audit<R: Abort + AllocGlobal>(rt: &R, desk: &mut Desk, file: &[u8], told: &[u8]) {
+    let mut writer = FakeWriter::new(rt.alloc());
+    let mut faults = FakeWriter::new(rt.alloc());
+    let status = desk.audit(rt.alloc(), file, &mut writer, &mut faults);
+    assert_eq!(rt; status, 5);
+    assert_eq!(rt; faults.written(), told, "{} bytes", file.len());
+    assert!(rt; writer.written().is_empty());
+}
+
+/// A file of so many spaces is no audit file, and so it is told.
+fn spaces_are_no_audit(
+    rt: &(impl Abort + AllocGlobal),
+    len: usize,
+    told: &[u8],
+) -> Result<(), Fail> {
+    let file = vec![in rt.alloc(); b' '; len]?;
+    let mut desk = checked_in(rt.alloc())?;
+    is_no_audit(rt, &mut desk, file.as_slice(), told);
     Ok(())
 }
 
 #[test]
 fn a_file_over_the_limit_is_too_large(rt: HostRuntime) -> Result<(), Fail> {
-    let alloc = rt.alloc();
-    let mut desk = checked_in(alloc)?;
-    for (len, told) in [
-        (262_144, b"wrong header\n".as_slice()),
-        (262_145, b"too large\n".as_slice()),
-    ] {
-        let file = vec![in alloc; b' '; len]?;
-        let mut writer = FakeWriter::new(alloc);
-        let mut faults = FakeWriter::new(alloc);
-        let status = desk.audit(alloc, file.as_slice(), &mut writer, &mut faults);
-        assert_eq!(rt; status, 5);
-        assert_eq!(rt; faults.written(), told, "{len} bytes");
-        assert!(rt; writer.written().is_empty());
-    }
+    spaces_are_no_audit(&rt, 262_144, b"wrong header\n")?;
+    spaces_are_no_audit(&rt, 262_145, b"too large\n")
+}
+
+/// The file is answered so, and no fault is told.
+fn audit_answers<R: Abort + AllocGlobal>(rt: &R, desk: &mut Desk, file: &[u8], answers: &[u8]) {
+    let mut writer = FakeWriter::new(rt.alloc());
+    let mut faults = FakeWriter::new(rt.alloc());
+    desk.audit(rt.alloc(), file, &mut writer, &mut faults);
+    assert_eq!(rt; writer.written(), answers);
+    assert!(rt; faults.written().is_empty());
+}
+
+/// Writes the list of the notes of room 101, and no fault is told.
+fn list_notes(
+    rt: &(impl Abort + AllocGlobal),
+    desk: &mut Desk,
+    writer: &mut FakeWriter,
+) -> Result<(), Fail> {
+    let mut faults = FakeWriter::new(rt.alloc());
+    desk.list(rt.alloc(), b"audit-of 101", writer, &mut faults)?;
+    assert!(rt; faults.written().is_empty());
+    Ok(())
+}
+
+/// The notes are taken, and seen when their list comes as an audit file.
+fn notes_come_again(rt: &(impl Abort + AllocGlobal)) -> Result<(), Fail> {
+    let mut desk = checked_in(rt.alloc())?;
+    let mut listed = FakeWriter::new(rt.alloc());
+    audit_answers(rt, &mut desk, TWO_NOTES, b"1 taken\n2 taken\n");
+    list_notes(rt, &mut desk, &mut listed)?;
+    audit_answers(rt, &mut desk, listed.written(), b"1 seen\n2 seen\n");
     Ok(())
 }
 
 #[test]
 fn a_list_of_notes_is_an_audit_file(rt: HostRuntime) -> Result<(), Fail> {
-    let alloc = rt.alloc();
-    let mut desk = checked_in(alloc)?;
-    let mut faults = FakeWriter::new(alloc);
-    let mut answers = FakeWriter::new(alloc);
-    desk.audit(alloc, TWO_NOTES, &mut answers, &mut faults);
-    let mut listed = FakeWriter::new(alloc);
-    desk.list(alloc, b"audit-of 101", &mut listed, &mut faults)?;
-    desk.audit(alloc, listed.written(), &mut answers, &mut faults);
-    assert_eq!(rt;
-        answers.written(),
-        b"1 taken\n2 taken\n1 seen\n2 seen\n".as_slice()
-    );
-    assert!(rt; faults.written().is_empty());
-    Ok(())
+    notes_come_again(&rt)
+}
+
+/// The reply goes with this exit status.
+fn has_status<A: Abort>(rt: &A, reply: &Reply, status: u8) {
+    assert_eq!(rt; status_of(reply), status, "{reply:?}");
 }
 
 #[test]
-fn statuses_of_replies(rt: HostRuntime) -> Result<(), Fail> {
-    for (reply, status) in [
-        (Reply::Begun, 0),
-        (Reply::Taken, 0),
-        (Reply::Seen, 0),
-        (Reply::Refused(Refusal::NotBegun), 3),
-        (Reply::Refused(Refusal::Gap(4)), 3),
-        (Reply::Refused(Refusal::NotAwaited), 3),
-        (Reply::Refused(Refusal::Memory), 4),
-        (Reply::Refused(Refusal::Store), 4),
-    ] {
-        assert_eq!(rt; status_of(&reply), status, "{reply:?}");
+fn statuses_of_replies(rt: HostRuntime) {
+    has_status(&rt, &Reply::Begun, 0);
+    has_status(&rt, &Reply::Taken, 0);
+    has_status(&rt, &Reply::Seen, 0);
+    has_status(&rt, &Reply::Refused(Refusal::NotBegun), 3);
+    has_status(&rt, &Reply::Refused(Refusal::Gap(4)), 3);
+    has_status(&rt, &Reply::Refused(Refusal::NotAwaited), 3);
+    has_status(&rt, &Reply::Refused(Refusal::Memory), 4);
+    has_status(&rt, &Reply::Refused(Refusal::Store), 4);
+}
+
+/// What is written is whole rows of the chain's list, and the whole list where all went well.
+fn is_whole_rows<A: Abort>(rt: &A, written: &[u8], status: u8) {
+    assert!(rt; CHAIN.starts_with(written));
+    assert!(rt; matches!(written.last(), None | Some(b'\n')));
+    if status == 0 {
+        assert_eq!(rt; written, CHAIN);
     }
-    Ok(())
 }
 
-/// Where a growth of memory is refused, whole rows of the list are written, and it is said.
-#[test]
-fn a_list_without_memory_says_so(rt: HostRuntime) -> Result<(), Fail> {
-    let alloc = rt.alloc();
-    let mut desk = checked_in(alloc)?;
-    let mut writer = FakeWriter::new(alloc);
-    let mut faults = FakeWriter::new(alloc);
-    let status = desk.list(alloc, b"chain 101", &mut writer, &mut faults)?;
+/// Writes the chain's list, or says that there was no memory.
+fn chain_or_fault(rt: &(impl Abort + AllocGlobal), desk: &mut Desk) -> Result<(), Fail> {
+    let mut writer = FakeWriter::new(rt.alloc());
+    let mut faults = FakeWriter::new(rt.alloc());
+    let status = desk.list(rt.alloc(), b"chain 101", &mut writer, &mut faults)?;
     let told: &[u8] = match status {
         0 => b"",
         4 => b"memory\n",
         _ => b"write\n",
     };
     assert_eq!(rt; faults.written(), told);
-    assert!(rt; CHAIN.starts_with(writer.written()));
-    assert!(rt; matches!(writer.written().last(), None | Some(b'\n')));
-    if status == 0 {
-        assert_eq!(rt; writer.written(), CHAIN);
-    }
+    is_whole_rows(rt, writer.written(), status);
     Ok(())
+}
+
+/// Where a growth of memory is refused, whole rows of the list are written, and it is said.
+#[test]
+fn a_list_without_memory_says_so(rt: HostRuntime) -> Result<(), Fail> {
+    let mut desk = checked_in(rt.alloc())?;
+    chain_or_fault(&rt, &mut desk)
+}
+
+/// What the two notes are answered again, after this was told of their first import.
+fn answers_after(told: &[u8]) -> &'static [u8] {
+    let both = b"stopped after 2: Memory\n".as_slice();
+    if told.is_empty() || told == b"write\n".as_slice() || told == both {
+        b"1 seen\n2 seen\n"
+    } else if told == b"stopped after 1: Memory\n".as_slice() {
+        b"1 seen\n2 taken\n"
+    } else {
+        b"1 taken\n2 taken\n"
+    }
+}
+
+/// An import of the two notes that ended by this status wrote and told so.
+fn import_says_so<A: Abort>(rt: &A, status: u8, written: &[u8], told: &[u8]) {
+    match status {
+        0 => assert_eq!(rt; written, b"1 taken\n2 taken\n".as_slice()),
+        4 => assert!(rt; written.is_empty() && !told.is_empty()),
+        _ => assert_eq!(rt; told, b"write\n".as_slice()),
+    }
+}
+
+/// Imports the two notes, and answers what they are answered again.
+fn import_or_fault<R: Abort + AllocGlobal>(rt: &R, desk: &mut Desk) -> &'static [u8] {
+    let mut writer = FakeWriter::new(rt.alloc());
+    let mut faults = FakeWriter::new(rt.alloc());
+    let status = desk.audit(rt.alloc(), TWO_NOTES, &mut writer, &mut faults);
+    import_says_so(rt, status, writer.written(), faults.written());
+    answers_after(faults.written())
+}
+
+/// Where the two notes are answered again, they are answered so.
+fn import_again<R: Abort + AllocGlobal>(rt: &R, desk: &mut Desk, again: &[u8]) {
+    let mut writer = FakeWriter::new(rt.alloc());
+    let mut faults = FakeWriter::new(rt.alloc());
+    let status = desk.audit(rt.alloc(), TWO_NOTES, &mut writer, &mut faults);
+    if status == 0 {
+        assert_eq!(rt; writer.written(), again);
+    }
 }
 
 /// Where a growth of memory is refused, the import says after how many lines, or that there was
 /// none for the file; the file sent again is answered for the lines that stood before.
 #[test]
 fn an_import_without_memory_says_so(rt: HostRuntime) -> Result<(), Fail> {
-    let alloc = rt.alloc();
-    let mut desk = checked_in(alloc)?;
-    let mut writer = FakeWriter::new(alloc);
-    let mut faults = FakeWriter::new(alloc);
-    let status = desk.audit(alloc, TWO_NOTES, &mut writer, &mut faults);
-    let again: &[u8] = match faults.written() {
-        b"" | b"write\n" | b"stopped after 2: Memory\n" => b"1 seen\n2 seen\n",
-        b"stopped after 1: Memory\n" => b"1 seen\n2 taken\n",
-        _ => b"1 taken\n2 taken\n",
-    };
-    match status {
-        0 => assert_eq!(rt; writer.written(), b"1 taken\n2 taken\n".as_slice()),
-        4 => assert!(rt; writer.written().is_empty() && !faults.written().is_empty()),
-        _ => assert_eq!(rt; faults.written(), b"write\n".as_slice()),
-    }
-    let mut writer = FakeWriter::new(alloc);
-    let mut more_faults = FakeWriter::new(alloc);
-    let status_again = desk.audit(alloc, TWO_NOTES, &mut writer, &mut more_faults);
-    if status_again == 0 {
-        assert_eq!(rt; writer.written(), again);
-    }
+    let mut desk = checked_in(rt.alloc())?;
+    let again = import_or_fault(&rt, &mut desk);
+    import_again(&rt, &mut desk, again);
     Ok(())
 }

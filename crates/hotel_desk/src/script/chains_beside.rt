@@ -4,7 +4,10 @@ use super::scenarios::{self, Scenario};
 use crate::asks::{Ask, read_line};
 use crate::lines::first_line;
 use crate::list_answers::answer_list;
-use hotel_core::{Books, CodeRow, Command, ListBooks, Refusal, Reply, reply_text, run, step};
+use crate::list_asks::ListAsk;
+use hotel_core::{
+    Books, CodeRow, Command, ListBooks, Refusal, Reply, RoomRow, reply_text, run, step,
+};
 use hotel_lists::{FakeWriter, Interruptions, write_bytes};
 use keycard_rules::{Act, Chain, Code, Link, ListedWords, LockNote, RoomNo};
 use std::alloc::Global;
@@ -72,6 +75,23 @@ impl RoomChain {
         Ok(code)
     }
 
+    /// The code at a place of this room is the held one and the current one where the room's row says so.
+    fn place_agrees<A: Abort>(
+        &self,
+        rt: &A,
+        books: &mut ListBooks,
+        row: &RoomRow,
+        place: u32,
+    ) -> Result<(), Fail> {
+        let code = self.has_code(rt, books, place)?;
+        assert_eq!(rt; code == self.chain.held(), place == row.lock_place);
+        assert_eq!(rt;
+            code == self.chain.current(),
+            row.codes.checked_sub(1) == Some(place)
+        );
+        Ok(())
+    }
+
     /// The books say of this room what its chain says.
     fn agrees<A: Abort>(&self, rt: &A, books: &mut ListBooks) -> Result<(), Fail> {
         let row = books.room(self.room)?.ok_or("no room")?;
@@ -79,9 +99,7 @@ impl RoomChain {
         let awaited = row.codes - 1 - row.lock_place;
         assert_eq!(rt; self.chain.awaited_len(), awaited as usize);
         for place in 0..row.codes {
-            let code = self.has_code(rt, books, place)?;
-            assert_eq!(rt; code == self.chain.held(), place == row.lock_place);
-            assert_eq!(rt; code == self.chain.current(), place == row.codes - 1);
+            self.place_agrees(rt, books, &row, place)?;
         }
         assert_eq!(rt; books.code_at(self.room, row.codes)?, None);
         Ok(())
@@ -110,6 +128,20 @@ fn desk_of(alloc: Global, codes: &[u64]) -> Result<Desk, Fail> {
 }
 
 impl Desk {
+    /// Tells each chain what the command did.
+    fn tell<A: Abort>(&mut self, rt: &A, command: &Command, reply: &Reply) {
+        for beside in self.rooms.iter_mut() {
+            beside.follow(rt, command, reply);
+        }
+    }
+
+    /// A chain for a new room.
+    fn add_chain(&mut self, alloc: Global, room: RoomNo, code: Code) -> Result<(), Fail> {
+        let chain = Chain::install(alloc, code)?;
+        self.rooms.push(RoomChain { room, chain })?;
+        Ok(())
+    }
+
     /// Carries out the command over the books, and tells the chains.
     fn carry_out(
         &mut self,
@@ -117,14 +149,36 @@ impl Desk {
         command: &Command,
     ) -> Result<Reply, Fail> {
         let reply = step(&mut self.books, &mut self.source, command);
-        for beside in self.rooms.iter_mut() {
-            beside.follow(rt, command, &reply);
-        }
+        self.tell(rt, command, &reply);
         if let (Command::AddRoom { room, .. }, Reply::RoomAdded { code }) = (command, &reply) {
-            let chain = Chain::install(rt.alloc(), *code)?;
-            self.rooms.push(RoomChain { room: *room, chain })?;
+            self.add_chain(rt.alloc(), *room, *code)?;
         }
         Ok(reply)
+    }
+
+    /// Writes the reply to a command.
+    fn answer_command(
+        &mut self,
+        rt: &(impl Abort + AllocGlobal),
+        command: &Command,
+        writer: &mut FakeWriter,
+    ) -> Result<(), Fail> {
+        let reply = self.carry_out(rt, command)?;
+        let text = reply_text(&reply);
+        write_bytes(writer, text.as_bytes(), &mut Interruptions::none())?;
+        Ok(())
+    }
+
+    /// Writes a list.
+    fn write_list(
+        &mut self,
+        alloc: Global,
+        list: &ListAsk,
+        writer: &mut FakeWriter,
+    ) -> Result<(), Fail> {
+        let mut interruptions = Interruptions::none();
+        answer_list(alloc, list, writer, &mut self.books, &mut interruptions)?;
+        Ok(())
     }
 
     /// Writes the answer to the line: the reply to its command, or its list.
@@ -134,24 +188,10 @@ impl Desk {
         line: &[u8],
         writer: &mut FakeWriter,
     ) -> Result<(), Fail> {
-        let mut interruptions = Interruptions::none();
-        match read_line(rt.alloc(), line)? {
-            Ask::Command(command) => {
-                let reply = self.carry_out(rt, &command)?;
-                let text = reply_text(&reply);
-                write_bytes(writer, text.as_bytes(), &mut interruptions)?;
-            }
-            Ask::List(list) => {
-                answer_list(
-                    rt.alloc(),
-                    &list,
-                    writer,
-                    &mut self.books,
-                    &mut interruptions,
-                )?;
-            }
+        match &read_line(rt.alloc(), line)? {
+            Ask::Command(command) => self.answer_command(rt, command, writer),
+            Ask::List(list) => self.write_list(rt.alloc(), list, writer),
         }
-        Ok(())
     }
 
     /// Each room agrees with its chain.
@@ -163,6 +203,22 @@ impl Desk {
     }
 }
 
+/// Answers the lines of the script; after each line the rooms agree with their chains.
+fn answer_lines(
+    rt: &(impl Abort + AllocGlobal),
+    desk: &mut Desk,
+    script: &[u8],
+    writer: &mut FakeWriter,
+) -> Result<(), Fail> {
+    let mut rest = script;
+    while let Some((line, later)) = first_line(rest) {
+        rest = later;
+        desk.answer(rt, line, writer)?;
+        desk.agrees(rt)?;
+    }
+    Ok(())
+}
+
 /// The scenario is answered as it says, and after each line its rooms agree with their chains.
 fn holds_beside(
     rt: &(impl Abort + AllocGlobal),
@@ -172,12 +228,7 @@ fn holds_beside(
 ) -> Result<(), Fail> {
     let mut desk = desk_of(rt.alloc(), codes)?;
     let mut writer = FakeWriter::new(rt.alloc());
-    let mut script = scenario.script;
-    while let Some((line, later)) = first_line(script) {
-        script = later;
-        desk.answer(rt, line, &mut writer)?;
-        desk.agrees(rt)?;
-    }
+    answer_lines(rt, &mut desk, scenario.script, &mut writer)?;
     assert_eq!(rt; writer.written(), scenario.answers);
     assert_eq!(rt; desk.rooms.len(), rooms);
     Ok(())
@@ -214,23 +265,43 @@ fn commands_of(alloc: Global, script: &[u8]) -> Result<Vec<Command>, Fail> {
     Ok(commands)
 }
 
-#[test]
-fn words_and_empties_runs(rt: HostRuntime) -> Result<(), Fail> {
-    let Desk {
-        mut books,
-        mut source,
-        ..
-    } = desk_of(rt.alloc(), &[0xa0, 0xa1, 0xa2])?;
-    let replies = run(rt.alloc(), &mut books, &mut source, &[])?;
-    assert!(rt; replies.is_empty());
-    let Scenario { script, answers } = &scenarios::TWO_ENTRIES;
-    let commands = commands_of(rt.alloc(), script)?;
-    let replies = run(rt.alloc(), &mut books, &mut source, commands.as_slice())?;
-    assert_eq!(rt; replies.len(), 7);
-    let mut texts = Vec::new(rt.alloc());
-    for reply in &replies {
+/// The texts of replies, one after the other.
+fn texts_of(alloc: Global, replies: &[Reply]) -> Result<Vec<u8>, Fail> {
+    let mut texts = Vec::new(alloc);
+    for reply in replies {
         texts.extend_from_slice(reply_text(reply).as_bytes())?;
     }
+    Ok(texts)
+}
+
+/// A run of these commands has so many replies, with whose texts the answers start.
+fn run_is_answered(
+    rt: &(impl Abort + AllocGlobal),
+    desk: &mut Desk,
+    commands: &[Command],
+    count: usize,
+    answers: &[u8],
+) -> Result<(), Fail> {
+    let replies = run(rt.alloc(), &mut desk.books, &mut desk.source, commands)?;
+    assert_eq!(rt; replies.len(), count);
+    let texts = texts_of(rt.alloc(), replies.as_slice())?;
     assert!(rt; answers.starts_with(texts.as_slice()));
     Ok(())
+}
+
+/// A run of no command has no reply; then the scenario's commands have so many in one run.
+fn runs_at_once(
+    rt: &(impl Abort + AllocGlobal),
+    scenario: &Scenario,
+    count: usize,
+) -> Result<(), Fail> {
+    let mut desk = desk_of(rt.alloc(), &[0xa0, 0xa1, 0xa2])?;
+    run_is_answered(rt, &mut desk, &[], 0, b"")?;
+    let commands = commands_of(rt.alloc(), scenario.script)?;
+    run_is_answered(rt, &mut desk, commands.as_slice(), count, scenario.answers)
+}
+
+#[test]
+fn words_and_empties_runs(rt: HostRuntime) -> Result<(), Fail> {
+    runs_at_once(&rt, &scenarios::TWO_ENTRIES, 7)
 }

@@ -74,6 +74,20 @@ fn holds(rt: &(impl Abort + AllocGlobal), codes: &[u64], scenario: &Scenario) ->
     is_answered(rt, codes, script, answers, line_count(script))
 }
 
+/// The desk answers so many lines of the script so.
+fn answers_so<S: Rng, R: Abort + AllocGlobal>(
+    rt: &R,
+    desk: &mut Desk<S>,
+    script: &[u8],
+    answers: &[u8],
+    lines: u32,
+) {
+    let mut writer = FakeWriter::new(rt.alloc()).in_pieces(1);
+    let ran = desk.answer(rt.alloc(), &mut FakeReader::new(script), &mut writer);
+    assert_eq!(rt; writer.written(), answers);
+    assert_eq!(rt; ran, Ok(ScriptEnd { lines }));
+}
+
 /// The scenarios' scripts are answered as they say, one after the other over the same books.
 fn hold_in_turn(
     rt: &(impl Abort + AllocGlobal),
@@ -82,29 +96,22 @@ fn hold_in_turn(
 ) -> Result<(), Fail> {
     let mut desk = desk_of(rt.alloc(), codes)?;
     for Scenario { script, answers } in scenarios {
-        let mut writer = FakeWriter::new(rt.alloc());
-        let ran = desk.answer(rt.alloc(), &mut FakeReader::new(script), &mut writer);
-        assert_eq!(rt; writer.written(), *answers);
-        assert_eq!(rt;
-            ran,
-            Ok(ScriptEnd {
-                lines: line_count(script)
-            })
-        );
+        answers_so(rt, &mut desk, script, answers, line_count(script));
     }
     Ok(())
 }
 
-#[test]
-fn first_run(rt: HostRuntime) {
-    let Scenario { script, answers } = &scenarios::FIRST_RUN;
+/// The scenario's script is answered as it says, its 6 lines, with codes from a seed of zeros.
+fn holds_from_seed<R: Abort + AllocGlobal>(rt: &R, scenario: &Scenario) {
     let books = ListBooks::empty(rt.alloc());
     let source = ChaCha20Rng::from_seed([0; 32]);
     let mut desk = Desk { books, source };
-    let mut writer = FakeWriter::new(rt.alloc()).in_pieces(1);
-    let ran = desk.answer(rt.alloc(), &mut FakeReader::new(script), &mut writer);
-    assert_eq!(rt; writer.written(), *answers);
-    assert_eq!(rt; ran, Ok(ScriptEnd { lines: 6 }));
+    answers_so(rt, &mut desk, scenario.script, scenario.answers, 6);
+}
+
+#[test]
+fn first_run(rt: HostRuntime) {
+    holds_from_seed(&rt, &scenarios::FIRST_RUN);
 }
 
 #[test]
@@ -232,31 +239,45 @@ fn ends_of_lines_and_silent_lines(rt: HostRuntime) -> Result<(), Fail> {
     is_answered(&rt, &[0xa0], script, b"begun\nunread\nday 2031-05-02\n", 3)
 }
 
+/// A line of so many spaces and 16 bytes more is answered so.
+fn spaces_answered(
+    rt: &(impl Abort + AllocGlobal),
+    spaces: usize,
+    answer: &[u8],
+) -> Result<(), Fail> {
+    let mut script = vec![in rt.alloc(); b' '; spaces]?;
+    script.extend_from_slice(b"begin 2031-05-01\r\n")?;
+    is_answered(rt, &[0xa0], script.as_slice(), answer, 1)
+}
+
 #[test]
 fn a_line_of_1025_bytes_is_unread(rt: HostRuntime) -> Result<(), Fail> {
-    let mut script = vec![in rt.alloc(); b' '; 1008]?;
-    script.extend_from_slice(b"begin 2031-05-01\r\n")?;
-    is_answered(&rt, &[0xa0], script.as_slice(), b"begun\n", 1)?;
-    let mut script = vec![in rt.alloc(); b' '; 1009]?;
-    script.extend_from_slice(b"begin 2031-05-01\r\n")?;
-    is_answered(&rt, &[0xa0], script.as_slice(), b"unread\n", 1)
+    spaces_answered(&rt, 1008, b"begun\n")?;
+    spaces_answered(&rt, 1009, b"unread\n")
+}
+
+/// The read of this number fails, and nothing is written.
+fn fails_by_read<R: Abort + AllocGlobal>(
+    rt: &R,
+    desk: &mut Desk<ListedWords>,
+    script: &[u8],
+    call: u32,
+) {
+    let reader = FakeReader::new(script).in_pieces(60);
+    let mut writer = FakeWriter::new(rt.alloc());
+    let ran = desk.answer(rt.alloc(), &mut reader.failing_at(call), &mut writer);
+    assert_eq!(rt; ran, Err(ScriptFault::Read), "call {call}");
+    assert!(rt; writer.written().is_empty());
 }
 
 /// Each read of the script fails in turn; then the script is answered over the same books.
 fn fails_by_reads(rt: &(impl Abort + AllocGlobal), scenario: &Scenario) -> Result<(), Fail> {
+    let Scenario { script, answers } = scenario;
     let mut desk = desk_of(rt.alloc(), &[0xa0, 0xa1, 0xa2])?;
-    let mut writer = FakeWriter::new(rt.alloc());
     for call in 1..=5 {
-        let mut reader = FakeReader::new(scenario.script)
-            .in_pieces(60)
-            .failing_at(call);
-        let ran = desk.answer(rt.alloc(), &mut reader, &mut writer);
-        assert_eq!(rt; ran, Err(ScriptFault::Read), "call {call}");
+        fails_by_read(rt, &mut desk, script, call);
     }
-    let mut reader = FakeReader::new(scenario.script);
-    let ran = desk.answer(rt.alloc(), &mut reader, &mut writer);
-    assert!(rt; ran.is_ok());
-    assert_eq!(rt; writer.written(), scenario.answers);
+    answers_so(rt, &mut desk, script, answers, line_count(script));
     Ok(())
 }
 
@@ -289,21 +310,28 @@ fn each_write_that_fails_leaves_whole_answers(rt: HostRuntime) -> Result<(), Fai
     Ok(())
 }
 
-#[test]
-fn lines_stand_after_a_write_that_took_no_byte(rt: HostRuntime) -> Result<(), Fail> {
-    let mut desk = desk_of(rt.alloc(), &[0xa0])?;
+/// The second write of four bytes takes none: the first line was carried out.
+fn is_stuck<R: Abort + AllocGlobal>(rt: &R, desk: &mut Desk<ListedWords>) {
     let mut reader = FakeReader::new(b"begin 2031-05-01\nadd-kind DBL\n");
     let mut writer = FakeWriter::new(rt.alloc()).in_pieces(4).stuck_at(2);
     let ran = desk.answer(rt.alloc(), &mut reader, &mut writer);
     assert_eq!(rt; ran, Err(ScriptFault::Write { done: 1 }));
     assert_eq!(rt; writer.written(), b"begu".as_slice());
-    let mut reader = FakeReader::new(b"begin 2031-05-02\nadd-kind DBL\n");
-    let mut writer = FakeWriter::new(rt.alloc());
-    let ran = desk.answer(rt.alloc(), &mut reader, &mut writer);
-    assert_eq!(rt; ran, Ok(ScriptEnd { lines: 2 }));
-    let answers = b"refused 2 AlreadyBegun\nkind added\n".as_slice();
-    assert_eq!(rt; writer.written(), answers);
+}
+
+/// A write takes no byte; then the next script finds the line that stood.
+fn stands_after_stuck(rt: &(impl Abort + AllocGlobal)) -> Result<(), Fail> {
+    let mut desk = desk_of(rt.alloc(), &[0xa0])?;
+    is_stuck(rt, &mut desk);
+    let script = b"begin 2031-05-02\nadd-kind DBL\n";
+    let answers = b"refused 2 AlreadyBegun\nkind added\n";
+    answers_so(rt, &mut desk, script, answers, 2);
     Ok(())
+}
+
+#[test]
+fn lines_stand_after_a_write_that_took_no_byte(rt: HostRuntime) -> Result<(), Fail> {
+    stands_after_stuck(&rt)
 }
 
 /// A script of spaces ends so.
