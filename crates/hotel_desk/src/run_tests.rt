@@ -142,13 +142,17 @@ fn scenarios_hold(rt: HostRuntime) -> Result<(), Fail> {
     Ok(())
 }
 
-/// Checks party 1 in at room 101.
+/// Checks party 1 in at room 101, with the answers that are to come.
 fn check_in(alloc: Global, desk: &mut Desk) -> Result<(), Fail> {
+    let Step::Script(lines, answers) = &CHECKED_IN else {
+        return Err(Fail::from("no script"));
+    };
     let mut writer = FakeWriter::new(alloc);
-    match &CHECKED_IN {
-        Step::Script(lines, _) => desk.script(alloc, lines, &mut writer),
-        _ => Err(Fail::from("no script")),
+    desk.script(alloc, lines, &mut writer)?;
+    if writer.written() != *answers {
+        return Err(Fail::from("not checked in"));
     }
+    Ok(())
 }
 
 /// A desk on which party 1 is checked in at room 101.
