@@ -1,6 +1,6 @@
 -- A failed part of a step over sound rows was counted.
 use Rattle.std.proofs.Common.{ℕ, ◌≡◌, ◌≤◌, ◌+◌, ◌-◌, ◌^◌, Bool, true, false, List, [], ◌∷◌, ◌++◌, length, inl, inr, arith, refl, sym, length-append, append_assoc, append-nil, ap, take, ◌<◌, ◌∙◌}
-use Rattle.std.specs.Prelude.{◌⊎◌, if◌then◌else◌}
+use Rattle.std.specs.Prelude.{◌⊎◌}
 use Rattle.std.proofs.lemmas.List.{length-take}
 use Rattle.rand_core.specs.Stream.{Stream}
 use Rattle.keycard_rules.specs.Rise.{HasRisen}
@@ -106,16 +106,3 @@ counted_after never_fails a b c failed k later = record { risen = by later.risen
     by : HasRisenBy (length failed) b c → HasRisenBy (length failed) a c
     by (inl p) = inl (omega (arith, p, k))
     by (inr p) = inr p
-
--- failures that were counted before some more
-pub counted_before : (never_fails : Type 0) (a b c : ℕ) (failed : List Refusal) → b ≤ c → AreCounted never_fails a b failed → AreCounted never_fails a c failed
-counted_before never_fails a b c failed k first = record { risen = by first.risen; no_store = first.no_store }
-  where
-    by : HasRisenBy (length failed) a b → HasRisenBy (length failed) a c
-    by (inl p) = inl (omega (arith, p, k))
-    by (inr p) = inr (omega (arith, p, k))
-
--- where they are left out, they were counted too
-pub counted_or_none : (never_fails : Type 0) (a b : ℕ) (left : Bool) (failed : List Refusal) → a ≤ b → AreCounted never_fails a b failed → AreCounted never_fails a b (if left then failed else [])
-counted_or_none never_fails a b true failed k h = h
-counted_or_none never_fails a b false failed k h = none_counted never_fails a b k
