@@ -9,18 +9,18 @@ use Rattle.keycard_rules.specs.Note.{Note}
 use Rattle.hotel_core.specs.declared.command.Command.TheVariants as command
 use Rattle.hotel_core.specs.declared.reply.Reply.{Reply}
 use Rattle.hotel_core.specs.declared.reply.Reply.TheVariants as reply
-use Rattle.hotel_core.specs.Event.{Event}
-use Rattle.hotel_core.specs.History.{History, ◌▷◌}
-use Rattle.hotel_core.specs.Notes.{notes}
-use Rattle.hotel_core.specs.Outcome.{grown}
-use Rattle.hotel_core.specs.Ranges.{IsReply}
-use Rattle.hotel_core.specs.Run.{Reached, Runs, StepsIf}
-use Rattle.hotel_core.specs.SoundCards.{counts_at}
-use Rattle.hotel_core.specs.SoundRooms.{count_up}
-use Rattle.hotel_core.proofs.NotesKept.{note_found}
-use Rattle.hotel_core.proofs.NotesListed.{notes_count}
-use Rattle.hotel_core.proofs.Runs.{runs_reach}
-use Rattle.hotel_core.proofs.Tests.{and_true, eq_from}
+use Rattle.hotel_core.specs.Model.Event.{Event}
+use Rattle.hotel_core.specs.Model.History.{History, ◌▷◌}
+use Rattle.hotel_core.specs.Model.Notes.{notes}
+use Rattle.hotel_core.specs.Model.Outcome.{grown}
+use Rattle.hotel_core.specs.Model.Ranges.{IsReply}
+use Rattle.hotel_core.specs.Model.Run.{Reached, Runs, StepsIf}
+use Rattle.hotel_core.specs.Model.SoundCards.{counts_at}
+use Rattle.hotel_core.specs.Model.SoundRooms.{count_up}
+use Rattle.hotel_core.proofs.OfTables.NotesKept.{note_found}
+use Rattle.hotel_core.proofs.OfTables.NotesListed.{notes_count}
+use Rattle.hotel_core.proofs.Lifted.Runs.{runs_reach}
+use Rattle.hotel_core.proofs.OfTables.Tests.{and_true, eq_from}
 use Rattle.hotel_audit.specs.declared.answer.LineAnswer.{LineAnswer}
 use Rattle.hotel_audit.specs.declared.answer.LineAnswer.TheVariants.{Taken, Seen, Unread, Refused}
 use Rattle.hotel_audit.specs.declared.line.Line.{Line}

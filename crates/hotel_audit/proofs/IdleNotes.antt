@@ -10,15 +10,15 @@ use Rattle.hotel_core.specs.declared.command.Command.TheVariants as command
 use Rattle.hotel_core.specs.declared.reply.Reply.{Reply}
 use Rattle.hotel_core.specs.declared.reply.Reply.TheVariants as reply
 use Rattle.hotel_core.specs.declared.reply.Refusal.TheVariants.{NotBegun, NoRoom}
-use Rattle.hotel_core.specs.Answer.{answer_to, reported}
-use Rattle.hotel_core.specs.Cases.{is_begun, is_room}
-use Rattle.hotel_core.specs.Event.{Event, note_of}
-use Rattle.hotel_core.specs.History.{History, ◌▷◌}
-use Rattle.hotel_core.specs.Notes.{notes, same_note, standing_among, with_note}
-use Rattle.hotel_core.specs.Outcome.{Outcome, grown, needs}
-use Rattle.hotel_core.specs.Run.{Runs, StepsIf}
-use Rattle.hotel_core.specs.Words.{and_last, when}
-use Rattle.hotel_core.proofs.Tests.{eq_from, eq_self}
+use Rattle.hotel_core.specs.Model.Answer.{answer_to, reported}
+use Rattle.hotel_core.specs.Model.Cases.{is_begun, is_room}
+use Rattle.hotel_core.specs.Model.Event.{Event, note_of}
+use Rattle.hotel_core.specs.Model.History.{History, ◌▷◌}
+use Rattle.hotel_core.specs.Model.Notes.{notes, same_note, standing_among, with_note}
+use Rattle.hotel_core.specs.Model.Outcome.{Outcome, grown, needs}
+use Rattle.hotel_core.specs.Model.Run.{Runs, StepsIf}
+use Rattle.hotel_core.specs.Model.Words.{and_last, when}
+use Rattle.hotel_core.proofs.OfTables.Tests.{eq_from, eq_self}
 use Rattle.hotel_audit.specs.declared.answer.LineAnswer.{LineAnswer}
 use Rattle.hotel_audit.specs.declared.answer.LineAnswer.TheVariants.{Taken, Seen, Unread, Refused}
 use Rattle.hotel_audit.specs.declared.line.Line.{Line}

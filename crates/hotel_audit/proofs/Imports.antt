@@ -6,11 +6,11 @@ use Rattle.keycard_rules.specs.Note.{Note}
 use Rattle.hotel_core.specs.declared.command.Command.TheVariants as command
 use Rattle.hotel_core.specs.declared.reply.Reply.{Reply}
 use Rattle.hotel_core.specs.declared.reply.Reply.TheVariants as reply
-use Rattle.hotel_core.specs.History.{History}
-use Rattle.hotel_core.specs.Rows.{Rows}
-use Rattle.hotel_core.specs.Run.{StandsFor, Steps}
-use Rattle.hotel_core.proofs.Assurance.{assured}
-use Rattle.hotel_core.proofs.Runs.{runs_join}
+use Rattle.hotel_core.specs.Model.History.{History}
+use Rattle.hotel_core.specs.Model.Rows.{Rows}
+use Rattle.hotel_core.specs.Model.Run.{StandsFor, Steps}
+use Rattle.hotel_core.proofs.Invariants.Assurance.{assured}
+use Rattle.hotel_core.proofs.Lifted.Runs.{runs_join}
 use Rattle.hotel_audit.specs.declared.answer.LineAnswer.{LineAnswer}
 use Rattle.hotel_audit.specs.declared.answer.LineAnswer.TheVariants as answer
 use Rattle.hotel_audit.specs.declared.line.Cause.{Cause}

@@ -9,15 +9,15 @@ use Rattle.hotel_core.specs.declared.command.Command.TheVariants as command
 use Rattle.hotel_core.specs.declared.reply.Reply.TheVariants as reply
 use Rattle.hotel_core.specs.declared.reply.Refusal.{Refusal}
 use Rattle.hotel_core.specs.declared.reply.Refusal.TheVariants.{NotBegun, NoRoom, NoCard, CardDiffers, LockShut, NotInside, HeldDiffers, NotAwaited}
-use Rattle.hotel_core.specs.Answer.{answer_to, told, reported}
-use Rattle.hotel_core.specs.Cases.{is_begun, is_card, is_room, has_link, holds, opens}
-use Rattle.hotel_core.specs.Event.{Event}
-use Rattle.hotel_core.specs.Guests.{inside}
-use Rattle.hotel_core.specs.History.{History}
-use Rattle.hotel_core.specs.Ledger.{awaited}
-use Rattle.hotel_core.specs.Notes.{Copy, Conflicting, Next, After, notes, same_note, standing_among}
-use Rattle.hotel_core.specs.Outcome.{Outcome, accepted, needs, unless}
-use Rattle.hotel_core.specs.Words.{is_one_of}
+use Rattle.hotel_core.specs.Model.Answer.{answer_to, told, reported}
+use Rattle.hotel_core.specs.Model.Cases.{is_begun, is_card, is_room, has_link, holds, opens}
+use Rattle.hotel_core.specs.Model.Event.{Event}
+use Rattle.hotel_core.specs.Model.Guests.{inside}
+use Rattle.hotel_core.specs.Model.History.{History}
+use Rattle.hotel_core.specs.Model.Ledger.{awaited}
+use Rattle.hotel_core.specs.Model.Notes.{Copy, Conflicting, Next, After, notes, same_note, standing_among}
+use Rattle.hotel_core.specs.Model.Outcome.{Outcome, accepted, needs, unless}
+use Rattle.hotel_core.specs.Model.Words.{is_one_of}
 use Rattle.hotel_audit.specs.FilesCounted.{event_by, event_of}
 
 -- the note is taken

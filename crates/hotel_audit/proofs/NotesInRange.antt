@@ -12,8 +12,8 @@ use Rattle.hotel_nights.specs.Days.{Ymd, day_of_date, is_date, is_in_range, numb
 use Rattle.hotel_nights.specs.Moments.{read_moment, read_time}
 use Rattle.hotel_nights.proofs.DayLemmas.{count-high, first_count}
 use Rattle.hotel_core.specs.declared.command.Command.TheVariants as command
-use Rattle.hotel_core.specs.Ranges.{IsCommand, IsCount}
-use Rattle.hotel_core.proofs.Tests.{and_true}
+use Rattle.hotel_core.specs.Model.Ranges.{IsCommand, IsCount}
+use Rattle.hotel_core.proofs.OfTables.Tests.{and_true}
 use Rattle.hotel_audit.specs.declared.audit_file.AuditFault.TheVariants.{TooLarge, WrongHeader}
 use Rattle.hotel_audit.specs.declared.line.Cause.{Cause}
 use Rattle.hotel_audit.specs.declared.line.Cause.TheVariants.{BadRoom, BadCount, BadOld, BadNew, BadMoment}

@@ -15,19 +15,19 @@ use Rattle.hotel_core.specs.declared.reply.Reply.{Reply}
 use Rattle.hotel_core.specs.declared.reply.Reply.TheVariants as reply
 use Rattle.hotel_core.specs.declared.reply.Refusal.{Refusal}
 use Rattle.hotel_core.specs.declared.reply.Refusal.TheVariants.{NotBegun, NoRoom, NoCard, CardDiffers, LockShut, NotInside, HeldDiffers, NotAwaited}
-use Rattle.hotel_core.specs.Answer.{answer_to, moment_of, told, reported}
-use Rattle.hotel_core.specs.Cases.{is_begun, is_card, is_room, has_link, holds, opens}
-use Rattle.hotel_core.specs.Event as event
-use Rattle.hotel_core.specs.Guests.{inside}
-use Rattle.hotel_core.specs.Ledger.{awaited}
-use Rattle.hotel_core.specs.Event.{Event, Begun, NextDay, Install, note_of}
-use Rattle.hotel_core.specs.History.{History, ◌▷◌}
-use Rattle.hotel_core.specs.Notes.{Copy, Conflicting, Next, After, notes, with_note, same_note, same_act, same_link, standing, standing_among}
-use Rattle.hotel_core.specs.Outcome.{Outcome, accepted, grown, needs, said, unless}
-use Rattle.hotel_core.specs.Run.{Runs, Steps, StepsIf, is_failed}
-use Rattle.hotel_core.specs.Stays.{day}
-use Rattle.hotel_core.specs.Words.{and_last, is_one_of, when}
-use Rattle.hotel_core.proofs.NoRooms.{not_added}
+use Rattle.hotel_core.specs.Model.Answer.{answer_to, moment_of, told, reported}
+use Rattle.hotel_core.specs.Model.Cases.{is_begun, is_card, is_room, has_link, holds, opens}
+use Rattle.hotel_core.specs.Model.Event as event
+use Rattle.hotel_core.specs.Model.Guests.{inside}
+use Rattle.hotel_core.specs.Model.Ledger.{awaited}
+use Rattle.hotel_core.specs.Model.Event.{Event, Begun, NextDay, Install, note_of}
+use Rattle.hotel_core.specs.Model.History.{History, ◌▷◌}
+use Rattle.hotel_core.specs.Model.Notes.{Copy, Conflicting, Next, After, notes, with_note, same_note, same_act, same_link, standing, standing_among}
+use Rattle.hotel_core.specs.Model.Outcome.{Outcome, accepted, grown, needs, said, unless}
+use Rattle.hotel_core.specs.Model.Run.{Runs, Steps, StepsIf, is_failed}
+use Rattle.hotel_core.specs.Model.Stays.{day}
+use Rattle.hotel_core.specs.Model.Words.{and_last, is_one_of, when}
+use Rattle.hotel_core.proofs.Invariants.NoRooms.{not_added}
 
 -- the first of these notes is the note
 abbrev pub BeginsWith : List Note → Note → Type 0

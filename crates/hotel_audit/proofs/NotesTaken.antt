@@ -8,17 +8,17 @@ use Rattle.hotel_core.specs.declared.command.Command.{Command}
 use Rattle.hotel_core.specs.declared.command.Command.TheVariants as command
 use Rattle.hotel_core.specs.declared.reply.Reply.{Reply}
 use Rattle.hotel_core.specs.declared.reply.Reply.TheVariants as reply
-use Rattle.hotel_core.specs.Answer.{answer_to, checks, effect}
-use Rattle.hotel_core.specs.Cases.{next_card}
-use Rattle.hotel_core.specs.Event as event
-use Rattle.hotel_core.specs.Event.{Event, note_of}
-use Rattle.hotel_core.specs.History.{History}
-use Rattle.hotel_core.specs.Issued.{issued_codes}
-use Rattle.hotel_core.specs.Notes.{notes, with_note}
-use Rattle.hotel_core.specs.Outcome.{grown}
-use Rattle.hotel_core.specs.Run.{Steps, StepsIf, answered, is_failed}
-use Rattle.hotel_core.specs.Words.{and_last, when}
-use Rattle.hotel_core.proofs.Following.{from_draw, passed_all, same_event}
+use Rattle.hotel_core.specs.Model.Answer.{answer_to, checks, effect}
+use Rattle.hotel_core.specs.Model.Cases.{next_card}
+use Rattle.hotel_core.specs.Model.Event as event
+use Rattle.hotel_core.specs.Model.Event.{Event, note_of}
+use Rattle.hotel_core.specs.Model.History.{History}
+use Rattle.hotel_core.specs.Model.Issued.{issued_codes}
+use Rattle.hotel_core.specs.Model.Notes.{notes, with_note}
+use Rattle.hotel_core.specs.Model.Outcome.{grown}
+use Rattle.hotel_core.specs.Model.Run.{Steps, StepsIf, answered, is_failed}
+use Rattle.hotel_core.specs.Model.Words.{and_last, when}
+use Rattle.hotel_core.proofs.Invariants.Following.{from_draw, passed_all, same_event}
 use Rattle.hotel_audit.specs.FilesCounted.{RunsTake, and_before, note_taken, notes_taken}
 use Rattle.hotel_audit.proofs.IdleNotes.{noted}
 use Rattle.hotel_audit.proofs.NoteOutcomes.{note_outcome}

@@ -9,17 +9,17 @@ use Rattle.keycard_rules.specs.declared.note.Act.{Act}
 use Rattle.keycard_rules.specs.declared.note.Act.TheVariants as act
 use Rattle.keycard_rules.specs.Note.{Note}
 use Rattle.hotel_core.specs.declared.command.Command.TheVariants as command
-use Rattle.hotel_core.specs.Answer.{answer_to, told, reported}
-use Rattle.hotel_core.specs.Cards.{cards}
-use Rattle.hotel_core.specs.Cases.{is_begun, is_room}
-use Rattle.hotel_core.specs.Guests.{insiders, inside, those_in}
-use Rattle.hotel_core.specs.History.{History, ◌▷◌}
-use Rattle.hotel_core.specs.Ledger.{awaited, turns}
-use Rattle.hotel_core.specs.Lock.{held}
-use Rattle.hotel_core.specs.Notes.{Standing, Copy, Conflicting, Next, After, notes, standing}
-use Rattle.hotel_core.specs.Words.{and_last, pair_cmp, remove_key, when, without, after}
-use Rattle.hotel_core.proofs.Pairs.{pair_is}
-use Rattle.hotel_core.proofs.Tests.{and_true, eq_from}
+use Rattle.hotel_core.specs.Model.Answer.{answer_to, told, reported}
+use Rattle.hotel_core.specs.Model.Cards.{cards}
+use Rattle.hotel_core.specs.Model.Cases.{is_begun, is_room}
+use Rattle.hotel_core.specs.Model.Guests.{insiders, inside, those_in}
+use Rattle.hotel_core.specs.Model.History.{History, ◌▷◌}
+use Rattle.hotel_core.specs.Model.Ledger.{awaited, turns}
+use Rattle.hotel_core.specs.Model.Lock.{held}
+use Rattle.hotel_core.specs.Model.Notes.{Standing, Copy, Conflicting, Next, After, notes, standing}
+use Rattle.hotel_core.specs.Model.Words.{and_last, pair_cmp, remove_key, when, without, after}
+use Rattle.hotel_core.proofs.OfTables.Pairs.{pair_is}
+use Rattle.hotel_core.proofs.OfTables.Tests.{and_true, eq_from}
 use Rattle.hotel_audit.specs.FilesCounted.{event_by, event_of}
 
 -- two histories agree on all that the notes of a room turn on

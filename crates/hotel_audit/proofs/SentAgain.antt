@@ -9,10 +9,10 @@ use Rattle.hotel_core.specs.declared.command.Command.{Command}
 use Rattle.hotel_core.specs.declared.command.Command.TheVariants as command
 use Rattle.hotel_core.specs.declared.reply.Reply.{Reply}
 use Rattle.hotel_core.specs.declared.reply.Reply.TheVariants as reply
-use Rattle.hotel_core.specs.Event.{Event}
-use Rattle.hotel_core.specs.History.{History}
-use Rattle.hotel_core.specs.Outcome.{Outcome, grown}
-use Rattle.hotel_core.specs.Run.{Runs, StepsIf}
+use Rattle.hotel_core.specs.Model.Event.{Event}
+use Rattle.hotel_core.specs.Model.History.{History}
+use Rattle.hotel_core.specs.Model.Outcome.{Outcome, grown}
+use Rattle.hotel_core.specs.Model.Run.{Runs, StepsIf}
 use Rattle.hotel_audit.specs.declared.answer.LineAnswer.{LineAnswer}
 use Rattle.hotel_audit.specs.declared.answer.LineAnswer.TheVariants.{Taken, Seen, Unread, Refused}
 use Rattle.hotel_audit.specs.declared.line.Line.{Line}

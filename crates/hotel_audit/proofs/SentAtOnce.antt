@@ -1,6 +1,6 @@
 -- Lines in which no room's counts fall change nothing when they come again at once.
 use Rattle.std.proofs.Common.{◌≡◌, ◌∙◌, List, [], ◌∷◌, ◌++◌, ap, sym}
-use Rattle.hotel_core.specs.History.{History}
+use Rattle.hotel_core.specs.Model.History.{History}
 use Rattle.keycard_rules.specs.Note.{Note}
 use Rattle.hotel_audit.specs.declared.line.Line.{Line}
 use Rattle.hotel_audit.specs.declared.line.Line.TheVariants as line

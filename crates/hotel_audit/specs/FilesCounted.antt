@@ -9,14 +9,14 @@ use Rattle.hotel_core.specs.declared.command.Command.{Command}
 use Rattle.hotel_core.specs.declared.command.Command.TheVariants as command
 use Rattle.hotel_core.specs.declared.reply.Reply.{Reply}
 use Rattle.hotel_core.specs.declared.reply.Reply.TheVariants as reply
-use Rattle.hotel_core.specs.Answer.{moment_of}
-use Rattle.hotel_core.specs.Event.{Event, Entered, Left, Recoded}
-use Rattle.hotel_core.specs.History.{History, ◌▷◌}
-use Rattle.hotel_core.specs.Lookups.{note_at}
-use Rattle.hotel_core.specs.Notes.{notes}
-use Rattle.hotel_core.specs.RowsOf.{rows_of}
-use Rattle.hotel_core.specs.Run.{Reached, Runs}
-use Rattle.hotel_core.specs.Words.{when}
+use Rattle.hotel_core.specs.Model.Answer.{moment_of}
+use Rattle.hotel_core.specs.Model.Event.{Event, Entered, Left, Recoded}
+use Rattle.hotel_core.specs.Model.History.{History, ◌▷◌}
+use Rattle.hotel_core.specs.Books.Lookups.{note_at}
+use Rattle.hotel_core.specs.Model.Notes.{notes}
+use Rattle.hotel_core.specs.Model.RowsOf.{rows_of}
+use Rattle.hotel_core.specs.Model.Run.{Reached, Runs}
+use Rattle.hotel_core.specs.Model.Words.{when}
 use Rattle.hotel_audit.specs.declared.answer.LineAnswer.{LineAnswer}
 use Rattle.hotel_audit.specs.declared.answer.LineAnswer.TheVariants.{Taken}
 use Rattle.hotel_audit.specs.declared.line.Line.{Line}

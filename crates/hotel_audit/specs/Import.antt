@@ -9,10 +9,10 @@ use Rattle.hotel_core.specs.declared.reply.Reply.{Reply}
 use Rattle.hotel_core.specs.declared.reply.Reply.TheVariants as reply
 use Rattle.hotel_core.specs.declared.reply.Refusal.{Refusal}
 use Rattle.hotel_core.specs.declared.reply.Refusal.TheVariants as refusal
-use Rattle.hotel_core.specs.History.{History}
-use Rattle.hotel_core.specs.Lift.{RunsSafely}
-use Rattle.hotel_core.specs.Rows.{Rows}
-use Rattle.hotel_core.specs.Run.{StandsFor, is_failed}
+use Rattle.hotel_core.specs.Model.History.{History}
+use Rattle.hotel_core.specs.Refinement.Lift.{RunsSafely}
+use Rattle.hotel_core.specs.Model.Rows.{Rows}
+use Rattle.hotel_core.specs.Model.Run.{StandsFor, is_failed}
 use Rattle.hotel_audit.specs.declared.answer.LineAnswer.{LineAnswer}
 use Rattle.hotel_audit.specs.declared.answer.LineAnswer.TheVariants.{Taken, Seen, Unread, Refused}
 use Rattle.hotel_audit.specs.declared.audit_file.AuditFault.TheVariants as fault

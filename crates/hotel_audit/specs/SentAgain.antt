@@ -3,8 +3,8 @@ use Rattle.std.specs.Prelude.{◌≡◌, List, All, map}
 use Rattle.rand_core.specs.Stream.{Stream}
 use Rattle.hotel_core.specs.declared.command.Command.{Command}
 use Rattle.hotel_core.specs.declared.reply.Reply.{Reply}
-use Rattle.hotel_core.specs.History.{History}
-use Rattle.hotel_core.specs.Run.{Runs}
+use Rattle.hotel_core.specs.Model.History.{History}
+use Rattle.hotel_core.specs.Model.Run.{Runs}
 use Rattle.hotel_audit.specs.declared.answer.LineAnswer.{LineAnswer}
 use Rattle.hotel_audit.specs.declared.answer.LineAnswer.TheVariants.{Taken, Seen}
 use Rattle.hotel_audit.specs.declared.line.Line.{Line}

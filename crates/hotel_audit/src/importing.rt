@@ -1,6 +1,7 @@
 //! The import of an audit file into any books.
-ghost use Rattle.std.specs.Prelude.{◌≡◌, ◌≤◌, ℕ, [], ◌∷◌, true, IfOk, IfErr, OnErr, Err, Bool};
-ghost use Rattle.hotel_core.specs.Failures.{AreCounted};
+ghost use Rattle.std.specs.Prelude.{◌≡◌, ℕ, [], ◌∷◌, true, IfOk, IfErr, OnErr, Err, Bool};
+ghost use Rattle.keycard_rules.specs.Rise.{NoFewer};
+ghost use Rattle.hotel_core.specs.Books.Failures.{AreCounted};
 ghost use Rattle.hotel_audit.specs.declared.audit_file.AuditFault.{AuditFault};
 ghost use Rattle.hotel_audit.specs.declared.audit_file.AuditFault.TheVariants as audit_fault;
 ghost use Rattle.hotel_audit.specs.Import.{answer_of, Imports, ImportsFile, ImportsSome, StopsImport, failures_of, refusal_by};
@@ -43,9 +44,9 @@ const fn answer_of(reply: &Reply) -> Result<LineAnswer, LookFault>
 fn answer_line<B: Books>(books: &mut B, line: &Line) -> Result<LineAnswer, LookFault>
     ensures answer { IfOk result (λ answer. Imports B.is_clean B.rows books.old books.new (line.now ∷ []) (answer ∷ [])) }
     ensures unchanged { OnErr result (B.is_clean books.new → B.rows books.new ≡ B.rows books.old) }
-    ensures failed { IfErr result (λ why. B.is_clean books.new → AreCounted B.never_fails (B.failures books.old) (B.failures books.new) (refusal_by why ∷ [])) }
+    ensures failed { IfErr result (λ why. B.is_clean books.new → AreCounted (B.failures books.old) (B.failures books.new) (refusal_by why ∷ [])) }
     ensures was_clean { B.is_clean books.new → B.is_clean books.old }
-    ensures counted { B.failures books.old ≤ B.failures books.new }
+    ensures counted { NoFewer (B.failures books.old) (B.failures books.new) }
 {
     match line {
         Line::Unread(cause) => Ok(LineAnswer::Unread(*cause)),
@@ -63,9 +64,9 @@ fn import_lines<B: Books>(
     ensures memory { (answered : ℕ) (taken : Bool) → result ≡ Err (ImportFault.Memory answered taken) → ImportsSome B.is_clean B.rows lines.now books.old books.new answered taken }
     ensures store { (answered : ℕ) (taken : Bool) → result ≡ Err (ImportFault.Store answered taken) → ImportsSome B.is_clean B.rows lines.now books.old books.new answered taken }
     ensures file { (why : AuditFault) → result ≡ Err (ImportFault.File why) → (why ≡ audit_fault.Memory) × (books.new ≡ books.old) }
-    ensures failed { IfErr result (λ f. B.is_clean books.new → AreCounted B.never_fails (B.failures books.old) (B.failures books.new) (failures_of f)) }
+    ensures failed { IfErr result (λ f. B.is_clean books.new → AreCounted (B.failures books.old) (B.failures books.new) (failures_of f)) }
     ensures was_clean { B.is_clean books.new → B.is_clean books.old }
-    ensures counted { B.failures books.old ≤ B.failures books.new }
+    ensures counted { NoFewer (B.failures books.old) (B.failures books.new) }
 {
     let Ok(mut answers) = Vec::with_capacity(alloc, lines.len()) else {
         return Err(ImportFault::File(AuditFault::Memory));
@@ -97,9 +98,9 @@ pub fn import<B: Books>(
 ) -> Result<Vec<LineAnswer>, ImportFault>
     ensures imported { IfOk result (λ answers. ImportsFile B.is_clean B.rows bytes.now books.old books.new answers.items) }
     ensures stopped { IfErr result (λ f. StopsImport B.is_clean B.rows bytes.now books.old books.new f) }
-    ensures failed { IfErr result (λ f. B.is_clean books.new → AreCounted B.never_fails (B.failures books.old) (B.failures books.new) (failures_of f)) }
+    ensures failed { IfErr result (λ f. B.is_clean books.new → AreCounted (B.failures books.old) (B.failures books.new) (failures_of f)) }
     ensures was_clean { B.is_clean books.new → B.is_clean books.old }
-    ensures counted { B.failures books.old ≤ B.failures books.new }
+    ensures counted { NoFewer (B.failures books.old) (B.failures books.new) }
 {
     match read_notes(alloc, bytes) {
         Ok(lines) => import_lines(alloc, books, lines.as_slice()),

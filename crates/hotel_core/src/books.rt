@@ -1,72 +1,77 @@
 //! The books of the desk, however they are kept.
-ghost use Rattle.std.specs.Prelude.{◌≡◌, ℕ, ◌≤◌, List, Option, Some, None, Bool, true, false, OnOk, OnErr, IsOk, Err, length};
-ghost use Rattle.keycard_rules.specs.Rise.{HasRisen};
+ghost use Rattle.std.specs.Prelude.{◌≡◌, List, Option, Some, None, Bool, true, false, OnOk, OnErr, IfErr, IsOk, Err, length};
+ghost use Rattle.keycard_rules.specs.Rise.{HasRisen, NoFewer};
 ghost use Rattle.keycard_rules.specs.declared.issued.LookFault.TheVariants.{Memory};
-ghost use Rattle.hotel_core.specs.Rows.{Rows};
-ghost use Rattle.hotel_core.specs.Lookups.{has_kind, room_at, codes_in, code_place, code_at, stay_at, stays_of_kind, card_at, inside_at, note_at, rooms_of_kind, number_after};
-ghost use Rattle.hotel_core.specs.Reads.{LooksUp};
-ghost use Rattle.hotel_core.specs.Change.{made};
-ghost use Rattle.hotel_core.specs.Fits.{Fits, takes_memory};
-ghost use Rattle.hotel_core.specs.Sound.{IsSound};
+ghost use Rattle.hotel_core.specs.Model.Rows.{Rows, has_kind};
+ghost use Rattle.hotel_core.specs.Books.Lookups.{room_at, codes_in, code_place, code_at, stay_at, stays_of_kind, card_at, inside_at, note_at, rooms_of_kind, number_after};
+ghost use Rattle.hotel_core.specs.Books.Reads.{LooksUp};
+ghost use Rattle.hotel_core.specs.Books.Change.{made};
+ghost use Rattle.hotel_core.specs.Books.Fits.{Fits, takes_memory};
+ghost use Rattle.hotel_core.specs.Model.Sound.{IsSound};
 
-use crate::change::Change;
-use crate::rows::{CodeRow, NextNumbers, RoomRow};
+pub mod change;
+pub mod list_rows;
+pub mod rows;
+pub mod walks;
+
+use crate::books::change::Change;
+use crate::books::rows::{CodeRow, NextNumbers, RoomRow};
 use hotel_nights::{Day, KindCode, Stay};
 use keycard_rules::{Card, CardNo, Code, Count, Issued, LockNote, LookFault, PartyNo, RoomNo};
 
 /// The books of the desk: eight tables, each seen as the list of its rows in the order of their keys.
 ///
-/// A look-up changes nothing but the count of failures. Each clause stands where the test of the state holds as the
+/// A look-up changes nothing but the counts of failures. Each clause stands where the test of the state holds as the
 /// call ends, and then it held as the call began. What is answered for want of memory or by the store's failure is
-/// counted.
+/// counted, each by its cause.
 pub trait Books: Issued {
     /// The rows of the eight tables.
     ghost rows: { Self → Rows };
 
     /// The business day, once it is set.
     fn day(&mut self) -> Result<Option<Day>, LookFault>
-        ensures { LooksUp Self.is_clean Self.is_kept Self.failures Self.never_fails false (λ a. a) (rows self.old).day self.old self.new result };
+        ensures { LooksUp Self.Issued false (λ a. a) (rows self.old).day self.old self.new result };
 
     /// Whether the kind is there.
     fn kind(&mut self, kind: &KindCode) -> Result<bool, LookFault>
-        ensures { LooksUp Self.is_clean Self.is_kept Self.failures Self.never_fails false (λ a. a) (has_kind (rows self.old) kind.now) self.old self.new result };
+        ensures { LooksUp Self.Issued false (λ a. a) (has_kind (rows self.old) kind.now) self.old self.new result };
 
     fn room(&mut self, room: RoomNo) -> Result<Option<RoomRow>, LookFault>
-        ensures { LooksUp Self.is_clean Self.is_kept Self.failures Self.never_fails false (λ a. a) (room_at (rows self.old) room) self.old self.new result };
+        ensures { LooksUp Self.Issued false (λ a. a) (room_at (rows self.old) room) self.old self.new result };
 
     /// The room and the place at which a code stands.
     fn code_place(&mut self, code: Code) -> Result<Option<CodeRow>, LookFault>
-        ensures { LooksUp Self.is_clean Self.is_kept Self.failures Self.never_fails false (λ a. a) (code_place (rows self.old) code) self.old self.new result };
+        ensures { LooksUp Self.Issued false (λ a. a) (code_place (rows self.old) code) self.old self.new result };
 
     /// The code at a place of a room.
     fn code_at(&mut self, room: RoomNo, place: u32) -> Result<Option<Code>, LookFault>
-        ensures { LooksUp Self.is_clean Self.is_kept Self.failures Self.never_fails false (λ a. a) (code_at (rows self.old) room place) self.old self.new result };
+        ensures { LooksUp Self.Issued false (λ a. a) (code_at (rows self.old) room place) self.old self.new result };
 
     /// A party's stay; its guest's name is copied.
     fn stay(&mut self, party: PartyNo) -> Result<Option<Stay>, LookFault>
-        ensures { LooksUp Self.is_clean Self.is_kept Self.failures Self.never_fails true (λ a. a) (stay_at (rows self.old) party) self.old self.new result };
+        ensures { LooksUp Self.Issued true (λ a. a) (stay_at (rows self.old) party) self.old self.new result };
 
     /// The stays of a kind, by the party's number.
     fn stays_of_kind(&mut self, kind: &KindCode) -> Result<Vec<Stay>, LookFault>
-        ensures { LooksUp Self.is_clean Self.is_kept Self.failures Self.never_fails true (λ v. v.items) (stays_of_kind (rows self.old) kind.now) self.old self.new result };
+        ensures { LooksUp Self.Issued true (λ v. v.items) (stays_of_kind (rows self.old) kind.now) self.old self.new result };
 
     fn card(&mut self, number: CardNo) -> Result<Option<Card>, LookFault>
-        ensures { LooksUp Self.is_clean Self.is_kept Self.failures Self.never_fails false (λ a. a) (card_at (rows self.old) number) self.old self.new result };
+        ensures { LooksUp Self.Issued false (λ a. a) (card_at (rows self.old) number) self.old self.new result };
 
     /// The numbers of the cards inside a room, in order.
     fn inside(&mut self, room: RoomNo) -> Result<Vec<CardNo>, LookFault>
-        ensures { LooksUp Self.is_clean Self.is_kept Self.failures Self.never_fails true (λ v. v.items) (inside_at (rows self.old) room) self.old self.new result };
+        ensures { LooksUp Self.Issued true (λ v. v.items) (inside_at (rows self.old) room) self.old self.new result };
 
     /// The note of a count that was taken.
     fn note(&mut self, room: RoomNo, count: Count) -> Result<Option<LockNote>, LookFault>
-        ensures { LooksUp Self.is_clean Self.is_kept Self.failures Self.never_fails false (λ a. a) (note_at (rows self.old) room count) self.old self.new result };
+        ensures { LooksUp Self.Issued false (λ a. a) (note_at (rows self.old) room count) self.old self.new result };
 
     fn rooms_of_kind(&mut self, kind: &KindCode) -> Result<u32, LookFault>
-        ensures { LooksUp Self.is_clean Self.is_kept Self.failures Self.never_fails false (λ a. a) (rooms_of_kind (rows self.old) kind.now) self.old self.new result };
+        ensures { LooksUp Self.Issued false (λ a. a) (rooms_of_kind (rows self.old) kind.now) self.old self.new result };
 
     /// The numbers that the next party and the next card are given, up to 9,999,999.
     fn next_numbers(&mut self) -> Result<NextNumbers, LookFault>
-        ensures { LooksUp Self.is_clean Self.is_kept Self.failures Self.never_fails false (λ a. a) (record { party = number_after (length (rows self.old).stays); card = number_after (length (rows self.old).cards) }) self.old self.new result };
+        ensures { LooksUp Self.Issued false (λ a. a) (record { party = number_after (length (rows self.old).stays); card = number_after (length (rows self.old).cards) }) self.old self.new result };
 
     /// The rows are sound. The call does nothing.
     fn known_sound(&self)
@@ -78,9 +83,8 @@ pub trait Books: Issued {
         ensures ok { Self.is_clean self.new → OnOk result (rows self.new ≡ made change (rows self.old)) }
         ensures err { Self.is_clean self.new → OnErr result (rows self.new ≡ rows self.old) }
         ensures was_clean { Self.is_clean self.new → Self.is_clean self.old }
-        ensures counted { Self.failures self.old ≤ Self.failures self.new }
-        ensures fault { OnErr result (HasRisen (Self.failures self.old) (Self.failures self.new)) }
-        ensures no_store { Self.never_fails → OnErr result (result ≡ Err Memory) }
+        ensures counted { NoFewer (Self.failures self.old) (Self.failures self.new) }
+        ensures fault { IfErr result (λ why. HasRisen (Self.failures self.old why) (Self.failures self.new why)) }
         ensures sure { Self.never_fails → takes_memory change ≡ false → IsOk result };
 
     // What a look-up leaves has the same rows, and the issued codes are those of the rows.

@@ -1,8 +1,8 @@
 // Laws of codes, cards and locks along each history that can be reached.
-ghost use Rattle.hotel_core.specs.CodeLaws.{CardsCount, CardsFit, CardsHaveLinks, CardsOneParty, CodesAreFound, CodesFit, CodesHavePlaces, GuestsHaveCards, NewestAreLast, NextAreNew, OthersHaveNone, PartiesHaveCards, PartiesHaveLinks, PlacesHaveCodes, RoomsHaveCodes, SecuredRoomsFit, StaysCount, StaysFit};
-ghost use Rattle.hotel_core.specs.Headline.{LedgerHolds, NewestOpens, NoCodeTwice, NoOversell, OpensOwnRoom, SafeRoom, TakesTheFirst};
-ghost use Rattle.hotel_core.specs.History.{History};
-ghost use Rattle.hotel_core.specs.Run.{Reached};
+ghost use Rattle.hotel_core.specs.Refinement.CodeLaws.{CardsCount, CardsFit, CardsHaveLinks, CardsOneParty, CodesAreFound, CodesFit, CodesHavePlaces, GuestsHaveCards, NewestAreLast, NextAreNew, OthersHaveNone, PartiesHaveCards, PartiesHaveLinks, PlacesHaveCodes, RoomsHaveCodes, SecuredRoomsFit, StaysCount, StaysFit};
+ghost use Rattle.hotel_core.specs.Model.Headline.{LedgerHolds, NewestOpens, NoCodeTwice, NoOversell, OpensOwnRoom, SafeRoom, TakesTheFirst};
+ghost use Rattle.hotel_core.specs.Model.History.{History};
+ghost use Rattle.hotel_core.specs.Model.Run.{Reached};
 
 /// Cards and stays are numbered from 1 on.
 pub fn numbers()

@@ -1,6 +1,6 @@
 // Laws of the model that were proved.
-ghost use Rattle.hotel_core.specs.Follow.{AnswersFollow};
-ghost use Rattle.hotel_core.specs.Headline.{StepKeeps};
+ghost use Rattle.hotel_core.specs.Refinement.Follow.{AnswersFollow};
+ghost use Rattle.hotel_core.specs.Model.Headline.{StepKeeps};
 
 /// A step makes a history that can be reached.
 pub fn step_keeps()
@@ -12,15 +12,15 @@ pub fn answers_follow()
     ensures { AnswersFollow }
 {}
 
-ghost use Rattle.hotel_core.specs.Rows.{no_rows};
-ghost use Rattle.hotel_core.specs.Sound.{IsSound};
+ghost use Rattle.hotel_core.specs.Model.Rows.{no_rows};
+ghost use Rattle.hotel_core.specs.Model.Sound.{IsSound};
 
 /// Empty books are sound.
 pub fn empty_is_sound()
     ensures { IsSound no_rows }
 {}
 
-ghost use Rattle.hotel_core.specs.Follow.{EasyRowsFollow, LeftFollows};
+ghost use Rattle.hotel_core.specs.Refinement.Follow.{EasyRowsFollow, LeftFollows};
 
 /// The rows after events that touch no room.
 pub fn easy_rows_follow()

@@ -1,7 +1,7 @@
 // Laws of the lists along each history that can be reached.
-ghost use Rattle.hotel_core.specs.History.{History};
-ghost use Rattle.hotel_core.specs.ListsLift.{ListsLift};
-ghost use Rattle.hotel_core.specs.Run.{Reached};
+ghost use Rattle.hotel_core.specs.Model.History.{History};
+ghost use Rattle.hotel_core.specs.Refinement.ListsLift.{ListsLift};
+ghost use Rattle.hotel_core.specs.Model.Run.{Reached};
 
 /// The rows of the lists, computed on the rows of a history, are those of the history.
 pub fn lists_lift()

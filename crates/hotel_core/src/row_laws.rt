@@ -2,20 +2,20 @@
 ghost use Rattle.std.specs.Prelude.{ℕ, ◌≡◌, ◌-◌, ◌≤◌, List, Some, option_map};
 ghost use Rattle.std.specs.List.{slice_get};
 ghost use Rattle.hotel_nights.specs.FullNight.{first_day, is_full};
-ghost use Rattle.hotel_core.specs.Cases.{room_of};
-ghost use Rattle.hotel_core.specs.ChangeOf.{change_of};
-ghost use Rattle.hotel_core.specs.Event.{Event};
-ghost use Rattle.hotel_core.specs.Fits.{HasItsRows};
-ghost use Rattle.hotel_core.specs.Follow.{FollowsBy, RoomsOnce};
-ghost use Rattle.hotel_core.specs.Guests.{registered};
-ghost use Rattle.hotel_core.specs.History.{History, start, ◌▷◌};
-ghost use Rattle.hotel_core.specs.Lookups.{note_at, rooms_of_kind, stays_of_kind};
-ghost use Rattle.hotel_core.specs.Notes.{notes};
-ghost use Rattle.hotel_core.specs.Rows.{Rows, at_number};
-ghost use Rattle.hotel_core.specs.RowsOf.{room_row, rows_of};
-ghost use Rattle.hotel_core.specs.Run.{Reached};
-ghost use Rattle.hotel_core.specs.Sound.{IsSound};
-ghost use Rattle.hotel_core.specs.Stays.{first_full, rooms, rooms_of};
+ghost use Rattle.hotel_core.specs.Model.Cases.{room_of};
+ghost use Rattle.hotel_core.specs.Refinement.ChangeOf.{change_of};
+ghost use Rattle.hotel_core.specs.Model.Event.{Event};
+ghost use Rattle.hotel_core.specs.Books.Fits.{HasItsRows};
+ghost use Rattle.hotel_core.specs.Refinement.Follow.{FollowsBy, RoomsOnce};
+ghost use Rattle.hotel_core.specs.Model.Guests.{registered};
+ghost use Rattle.hotel_core.specs.Model.History.{History, start, ◌▷◌};
+ghost use Rattle.hotel_core.specs.Books.Lookups.{note_at, rooms_of_kind, stays_of_kind};
+ghost use Rattle.hotel_core.specs.Model.Notes.{notes};
+ghost use Rattle.hotel_core.specs.Model.Rows.{Rows, at_number};
+ghost use Rattle.hotel_core.specs.Model.RowsOf.{room_row, rows_of};
+ghost use Rattle.hotel_core.specs.Model.Run.{Reached};
+ghost use Rattle.hotel_core.specs.Model.Sound.{IsSound};
+ghost use Rattle.hotel_core.specs.Model.Stays.{first_full, rooms, rooms_of};
 
 /// The rows after one more event are those that its change makes, and the change has its rows.
 pub fn rows_follow()

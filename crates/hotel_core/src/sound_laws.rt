@@ -1,11 +1,12 @@
 //! The headline: what holds of each history that can be reached, and that its rows are sound.
-ghost use Rattle.hotel_core.specs.Answered.{IsAnswered};
-ghost use Rattle.hotel_core.specs.Fits.{Fits};
-ghost use Rattle.hotel_core.specs.Headline.{HeadlineHolds, RowsFollow, RowsSound};
-ghost use Rattle.hotel_core.specs.Ranges.{IsReply};
-ghost use Rattle.hotel_core.specs.Rows.{Rows};
-ghost use Rattle.hotel_core.specs.Sound.{IsSound, RulesAreTested};
-ghost use Rattle.hotel_core.specs.declared.change.Change.{Change};
+ghost use Rattle.hotel_core.specs.Refinement.Answered.{IsAnswered};
+ghost use Rattle.hotel_core.specs.Books.Fits.{Fits};
+ghost use Rattle.hotel_core.specs.Model.Headline.{HeadlineHolds, RowsSound};
+ghost use Rattle.hotel_core.specs.Refinement.Follow.{RowsFollow};
+ghost use Rattle.hotel_core.specs.Model.Ranges.{IsReply};
+ghost use Rattle.hotel_core.specs.Model.Rows.{Rows};
+ghost use Rattle.hotel_core.specs.Model.Sound.{IsSound, RulesAreTested};
+ghost use Rattle.hotel_core.specs.declared.books.change.Change.{Change};
 ghost use Rattle.hotel_core.specs.declared.reply.Reply.{Reply};
 
 /// The rows of a history that can be reached are sound.

@@ -2,25 +2,27 @@
 ghost use Rattle.std.specs.Prelude.{◌≡◌, true, false};
 ghost use Rattle.rand_core.specs.Stream.{Stream};
 ghost use Rattle.keycard_rules.specs.Draw.{words};
-ghost use Rattle.hotel_core.specs.History.{History};
-ghost use Rattle.hotel_core.specs.Headline.{Assured};
-ghost use Rattle.hotel_core.specs.Run.{StandsFor, Steps, is_failed};
-ghost use Rattle.hotel_core.specs.Ranges.{IsCommand, IsReply};
-ghost use Rattle.hotel_core.specs.Finds.{reply_of};
-ghost use Rattle.hotel_core.specs.OnRows.{outcome_on};
-ghost use Rattle.hotel_core.specs.StepOnRows.{StepsAs, StepsOver};
-ghost use Rattle.hotel_core.specs.Stepping.{copies, takes_none};
+ghost use Rattle.keycard_rules.specs.Rise.{NoFewer};
+ghost use Rattle.hotel_core.specs.Books.Failures.{AreCounted, failure_in};
+ghost use Rattle.hotel_core.specs.Model.Leads.{Leads};
+ghost use Rattle.hotel_core.specs.Model.NoteReplies.{IsNoteReply};
+ghost use Rattle.hotel_core.specs.Model.Run.{Steps, is_failed};
+ghost use Rattle.hotel_core.specs.Model.Ranges.{IsCommand, IsReply};
+ghost use Rattle.hotel_core.specs.Refinement.Finds.{reply_of};
+ghost use Rattle.hotel_core.specs.Refinement.OnRows.{outcome_on};
+ghost use Rattle.hotel_core.specs.Refinement.StepOnRows.{StepsAs};
+ghost use Rattle.hotel_core.specs.Refinement.Stepping.{copies, takes_none};
 ghost use Rattle.hotel_core.specs.declared.command.Command.TheVariants as command;
 
-use crate::booking::{cancel, reserve};
 use crate::books::Books;
-use crate::calendar::{begin, next_day};
 use crate::command::Command;
-use crate::inventory::{add_kind, add_room};
-use crate::noting::take_note;
-use crate::ranges::{known_command, known_note, known_reply};
+use crate::commands::bookings::{cancel, reserve};
+use crate::commands::calendar::{begin, next_day};
+use crate::commands::guest_moves::{check_in, check_out, spare, transfer};
+use crate::commands::kinds_and_rooms::{add_kind, add_room};
+use crate::commands::notes::take_note;
+use crate::commands::ranges::{known_command, known_note, known_reply};
 use crate::reply::{Refusal, Reply};
-use crate::stays::{check_in, check_out, spare, transfer};
 use keycard_rules::LockNote;
 use rand_core::Rng;
 
@@ -40,7 +42,7 @@ fn carry_out<B: Books, R: Rng>(
     command: &Command,
 ) -> Result<Reply, Refusal>
     requires { IsCommand command.now }
-    ensures steps { StepsAs B.is_clean B.rows B.failures B.never_fails (copies command.now) (λ rows. outcome_on rows (words 64 (R.stream source.old)) command.now)
+    ensures steps { StepsAs B.Issued B.Books.own (copies command.now) (λ rows. outcome_on rows (words 64 (R.stream source.old)) command.now)
         books.old books.new (R.stream source.old) (R.stream source.new) (reply_of result) }
     ensures sure { B.never_fails → takes_none command.now ≡ true → is_failed (reply_of result) ≡ false }
 {
@@ -69,10 +71,10 @@ fn carry_out<B: Books, R: Rng>(
 /// `Memory` and `Store` may stand in place of any answer; the books count these failures, but for want of memory to copy
 /// a guest's name.
 pub fn step<B: Books, R: Rng>(books: &mut B, source: &mut R, command: &Command) -> Reply
-    ensures step { (h : History) → StandsFor h (B.rows books.old) → B.is_clean books.new →
-        (h' : History) × StandsFor h' (B.rows books.new) × Steps h (R.stream source.old) command.now result h' (R.stream source.new) × Assured h' }
-    ensures rows { StepsOver B.is_clean B.rows B.failures B.never_fails (copies command.now) (λ rows. outcome_on rows (words 64 (R.stream source.old)) command.now)
-        books.old books.new (R.stream source.old) (R.stream source.new) result }
+    ensures step { B.is_clean books.new → Leads (B.rows books.old) (λ h h'. Steps h (R.stream source.old) command.now result h' (R.stream source.new)) (B.rows books.new) }
+    ensures failed { B.is_clean books.new → AreCounted (B.failures books.old) (B.failures books.new) (failure_in result (copies command.now)) }
+    ensures was_clean { B.is_clean books.new → B.is_clean books.old }
+    ensures counted { NoFewer (B.failures books.old) (B.failures books.new) }
     ensures range { IsReply result }
     ensures sure { B.never_fails → takes_none command.now ≡ true → is_failed result ≡ false }
 {
@@ -86,10 +88,12 @@ pub fn step<B: Books, R: Rng>(books: &mut B, source: &mut R, command: &Command) 
 
 /// Takes a note of a lock: `step` of [`Command::Reported`], which draws nothing.
 pub fn report<B: Books>(books: &mut B, note: &LockNote) -> Reply
-    ensures step { (h : History) → StandsFor h (B.rows books.old) → B.is_clean books.new → (source : Stream) →
-        (h' : History) × StandsFor h' (B.rows books.new) × Steps h source (command.Reported note.now) result h' source × Assured h' }
-    ensures rows { (source : Stream) → StepsOver B.is_clean B.rows B.failures B.never_fails false (λ rows. outcome_on rows (words 64 source) (command.Reported note.now))
-        books.old books.new source source result }
+    ensures step { B.is_clean books.new → (source : Stream) → Leads (B.rows books.old) (λ h h'. Steps h source (command.Reported note.now) result h' source) (B.rows books.new) }
+    ensures note { B.is_clean books.new → IsNoteReply result }
+    ensures unchanged { B.is_clean books.new → is_failed result ≡ true → B.rows books.new ≡ B.rows books.old }
+    ensures failed { B.is_clean books.new → AreCounted (B.failures books.old) (B.failures books.new) (failure_in result false) }
+    ensures was_clean { B.is_clean books.new → B.is_clean books.old }
+    ensures counted { NoFewer (B.failures books.old) (B.failures books.new) }
 {
     known_note(note);
     books.known_sound();

@@ -4,22 +4,25 @@ use Rattle.std.specs.Prelude.{OnOk, OnErr, is_some}
 use Rattle.std.proofs.lemmas.Bool.{cases_Bool}
 use Rattle.std.specs.Io.KnownBytes.{Appends, Keeps}
 use Rattle.std.proofs.KnownBytes.{Appends-nil, Appends-kept, Appends-trans}
-use Rattle.hotel_core.proofs.ListRows.{lists_lift}
-use Rattle.hotel_core.proofs.RoomNumbers.{room_there, room_not_there}
+use Rattle.keycard_rules.specs.declared.issued.LookFault.TheVariants as look
+use Rattle.keycard_rules.specs.declared.issued.LookFault.{LookFault}
+use Rattle.keycard_rules.specs.Rise.{NoFewer}
+use Rattle.hotel_core.proofs.Lifted.ListRows.{lists_lift}
+use Rattle.hotel_core.proofs.OfTables.RoomNumbers.{room_there, room_not_there}
 use Rattle.hotel_core.specs.declared.reply.Reply.TheVariants.{Refused}
 use Rattle.hotel_core.specs.declared.reply.Refusal.{Refusal}
 use Rattle.hotel_core.specs.declared.reply.Refusal.TheVariants as refusal
-use Rattle.hotel_core.specs.declared.rows.RoomRow.{RoomRow}
-use Rattle.hotel_core.specs.Rows.{Rows}
-use Rattle.hotel_core.specs.RowsOf.{rows_of}
-use Rattle.hotel_core.specs.History.{History}
-use Rattle.hotel_core.specs.Cases.{is_room}
-use Rattle.hotel_core.specs.Lookups.{room_at}
-use Rattle.hotel_core.specs.Lists.{chain, audit_of}
-use Rattle.hotel_core.specs.ListsOnRows.{chain_on, audit_on}
-use Rattle.hotel_core.specs.Run.{Reached, StandsFor, is_failed}
-use Rattle.hotel_core.specs.Failures.{AreCounted}
-use Rattle.hotel_core.proofs.FailuresCounted.{none_counted, one_counted}
+use Rattle.hotel_core.specs.declared.books.rows.RoomRow.{RoomRow}
+use Rattle.hotel_core.specs.Model.Rows.{Rows}
+use Rattle.hotel_core.specs.Model.RowsOf.{rows_of}
+use Rattle.hotel_core.specs.Model.History.{History}
+use Rattle.hotel_core.specs.Model.Cases.{is_room}
+use Rattle.hotel_core.specs.Books.Lookups.{room_at}
+use Rattle.hotel_core.specs.Model.Lists.{chain, audit_of}
+use Rattle.hotel_core.specs.Refinement.ListsOnRows.{chain_on, audit_on}
+use Rattle.hotel_core.specs.Model.Run.{Reached, StandsFor, is_failed}
+use Rattle.hotel_core.specs.Books.Failures.{AreCounted}
+use Rattle.hotel_core.proofs.OfCode.FailuresCounted.{none_counted, one_counted}
 use Rattle.hotel_lists.specs.Bytes.{AppendsFront}
 use Rattle.hotel_lists.specs.Lines.{Lists, ListsRoom, LooksAt, AppendsRows, list_text, arrivals_header, in_house_header, chain_header, left_behind_header, audit_header, arrival_line, house_line, chain_line, behind_line, note_line}
 use Rattle.hotel_lists.specs.declared.fault.ListFault.{ListFault}
@@ -99,29 +102,29 @@ refused_front rows LeftBehind old new why_not why e p = list_front old new left_
 refused_front rows (AuditOf room) old new why_not why e p = room_front (room_at rows room) old new audit_header note_line _ why_not why e p
 
 -- the failures of a list were counted
-counted_by : {B : Type 0} {is_clean : B → Type 0} {is_kept : B → B → Type 0} {failures : B → ℕ} {never_fails : Type 0} {old new : B} (why_not : ListFault)
-    → LooksAt is_clean is_kept failures never_fails old new (Err why_not) → AreCounted never_fails (failures old) (failures new) (failed_by why_not)
+counted_by : {B : Type 0} {is_clean : B → Type 0} {is_kept : B → B → Type 0} {failures : B → LookFault → ℕ} {never_fails : Type 0} {old new : B} (why_not : ListFault)
+    → LooksAt is_clean is_kept failures never_fails old new (Err why_not) → AreCounted (failures old) (failures new) (failed_by why_not)
 unfolding failed_by
-counted_by {failures = failures} {never_fails = never_fails} {old = old} {new = new} fault.NoRoom looks = none_counted never_fails (failures old) (failures new) looks.counted
-counted_by {failures = failures} {never_fails = never_fails} {old = old} {new = new} fault.Memory looks = none_counted never_fails (failures old) (failures new) looks.counted
-counted_by {failures = failures} {never_fails = never_fails} {old = old} {new = new} fault.Write looks = none_counted never_fails (failures old) (failures new) looks.counted
+counted_by {failures = failures} {never_fails = never_fails} {old = old} {new = new} fault.NoRoom looks = none_counted (failures old) (failures new) looks.counted
+counted_by {failures = failures} {never_fails = never_fails} {old = old} {new = new} fault.Memory looks = none_counted (failures old) (failures new) looks.counted
+counted_by {failures = failures} {never_fails = never_fails} {old = old} {new = new} fault.Write looks = none_counted (failures old) (failures new) looks.counted
 counted_by {failures = failures} {never_fails = never_fails} {old = old} {new = new} fault.Store looks =
-    one_counted never_fails (failures old) (failures new) refusal.Store looks.counted (looks.store refl) (λ never. absurd (looks.no_store never refl))
+    one_counted (failures old) (failures new) look.Store looks.counted (looks.store refl)
 
 -- the whole answer of a list that was refused
-pub refused_whole : {B : Type 0} {is_clean : B → Type 0} {is_kept : B → B → Type 0} {failures : B → ℕ} {never_fails : Type 0} {b c : B}
+pub refused_whole : {B : Type 0} {is_clean : B → Type 0} {is_kept : B → B → Type 0} {failures : B → LookFault → ℕ} {never_fails : Type 0} {b c : B}
     (rows : Rows) (its_list : ListAsk) (old mid new : Option (List ℕ)) (why_not : ListFault) (why : Refusal) → refusal_of why_not ≡ Some why
     → WritesList rows its_list old mid (Err why_not) → LooksAt is_clean is_kept failures never_fails b c (Err why_not) → Appends mid new (refusal_text why)
-    → WritesAnswer rows its_list (Appends old new) (AreCounted never_fails (failures b) (failures c))
+    → WritesAnswer rows its_list (Appends old new) (AreCounted (failures b) (failures c))
 refused_whole rows its_list old mid new why_not why e p looks written =
     let r = refused_front rows its_list old mid why_not why e p in
     (r.0 ++ refusal_text why, failed_by why_not, r.1, Appends-trans old mid new r.0 (refusal_text why) r.2 written, counted_by why_not looks)
 
 -- a front of the answer of a list that was refused
-pub refused_cut : {B : Type 0} {is_clean : B → Type 0} {is_kept : B → B → Type 0} {failures : B → ℕ} {never_fails : Type 0} {b c : B}
+pub refused_cut : {B : Type 0} {is_clean : B → Type 0} {is_kept : B → B → Type 0} {failures : B → LookFault → ℕ} {never_fails : Type 0} {b c : B}
     (rows : Rows) (its_list : ListAsk) (old mid new : Option (List ℕ)) (why_not : ListFault) (why : Refusal) → refusal_of why_not ≡ Some why
     → WritesList rows its_list old mid (Err why_not) → LooksAt is_clean is_kept failures never_fails b c (Err why_not) → AppendsFront mid new (refusal_text why)
-    → WritesAnswer rows its_list (AppendsFront old new) (AreCounted never_fails (failures b) (failures c))
+    → WritesAnswer rows its_list (AppendsFront old new) (AreCounted (failures b) (failures c))
 refused_cut rows its_list old mid new why_not why e p looks written =
     let r = refused_front rows its_list old mid why_not why e p in
     (r.0 ++ refusal_text why, failed_by why_not, r.1, appends_front old mid new r.0 (refusal_text why) written r.2, counted_by why_not looks)
@@ -155,17 +158,17 @@ list_cut rows LeftBehind old new p = (_, inl (refl, refl), p.1)
 list_cut rows (AuditOf room) old new p = room_cut (room_at rows room) old new audit_header note_line _ p
 
 -- a list that was written whole
-pub whole_answered : {never_fails : Type 0} {a b : ℕ} (rows : Rows) (its_list : ListAsk) (old new : Option (List ℕ)) → WritesList rows its_list old new (Ok tt) → a ≤ b
-    → WritesAnswer rows its_list (Appends old new) (AreCounted never_fails a b)
-whole_answered {never_fails} {a} {b} rows its_list old new p grown = let r = list_whole rows its_list old new p in (r.0, [], r.1, r.2, none_counted never_fails a b grown)
+pub whole_answered : {a b : LookFault → ℕ} (rows : Rows) (its_list : ListAsk) (old new : Option (List ℕ)) → WritesList rows its_list old new (Ok tt) → NoFewer a b
+    → WritesAnswer rows its_list (Appends old new) (AreCounted a b)
+whole_answered {a} {b} rows its_list old new p grown = let r = list_whole rows its_list old new p in (r.0, [], r.1, r.2, none_counted a b grown)
 
 -- a list whose write failed, which no refusal answers
-pub cut_answered : {never_fails : Type 0} {a b : ℕ} (rows : Rows) (its_list : ListAsk) (old new : Option (List ℕ)) (why_not : ListFault) → refusal_of why_not ≡ None
-    → WritesList rows its_list old new (Err why_not) → a ≤ b → WritesAnswer rows its_list (AppendsFront old new) (AreCounted never_fails a b)
+pub cut_answered : {a b : LookFault → ℕ} (rows : Rows) (its_list : ListAsk) (old new : Option (List ℕ)) (why_not : ListFault) → refusal_of why_not ≡ None
+    → WritesList rows its_list old new (Err why_not) → NoFewer a b → WritesAnswer rows its_list (AppendsFront old new) (AreCounted a b)
 cut_answered rows its_list old new fault.NoRoom e p grown = cc e
 cut_answered rows its_list old new fault.Memory e p grown = cc e
 cut_answered rows its_list old new fault.Store e p grown = cc e
-cut_answered {never_fails} {a} {b} rows its_list old new fault.Write e p grown = let r = list_cut rows its_list old new p in (r.0, [], r.1, r.2, none_counted never_fails a b grown)
+cut_answered {a} {b} rows its_list old new fault.Write e p grown = let r = list_cut rows its_list old new p in (r.0, [], r.1, r.2, none_counted a b grown)
 
 pub when_ok : {T E : Type 0} (r : Result T E) (P Q : Type 0) → (P → Q) → OnOk r P → OnOk r Q
 when_ok (Ok t) P Q f p = f p

@@ -2,16 +2,16 @@
 use Rattle.std.proofs.Common.{◌≡◌, ℕ, List, Bool, true, false, sym, ap, subst, Option, Result, inl, inr}
 use Rattle.std.specs.Prelude.{is_some}
 use Rattle.std.proofs.lemmas.Bool.{cases_Bool}
-use Rattle.hotel_core.proofs.ListRows.{lists_lift}
-use Rattle.hotel_core.proofs.RoomNumbers.{room_there, room_not_there}
-use Rattle.hotel_core.specs.Rows.{Rows}
-use Rattle.hotel_core.specs.RowsOf.{rows_of}
-use Rattle.hotel_core.specs.History.{History}
-use Rattle.hotel_core.specs.Cases.{is_room}
-use Rattle.hotel_core.specs.Lookups.{room_at}
-use Rattle.hotel_core.specs.Lists.{chain, audit_of}
-use Rattle.hotel_core.specs.ListsOnRows.{chain_on, audit_on}
-use Rattle.hotel_core.specs.Run.{Reached}
+use Rattle.hotel_core.proofs.Lifted.ListRows.{lists_lift}
+use Rattle.hotel_core.proofs.OfTables.RoomNumbers.{room_there, room_not_there}
+use Rattle.hotel_core.specs.Model.Rows.{Rows}
+use Rattle.hotel_core.specs.Model.RowsOf.{rows_of}
+use Rattle.hotel_core.specs.Model.History.{History}
+use Rattle.hotel_core.specs.Model.Cases.{is_room}
+use Rattle.hotel_core.specs.Books.Lookups.{room_at}
+use Rattle.hotel_core.specs.Model.Lists.{chain, audit_of}
+use Rattle.hotel_core.specs.Refinement.ListsOnRows.{chain_on, audit_on}
+use Rattle.hotel_core.specs.Model.Run.{Reached}
 use Rattle.hotel_lists.specs.Lines.{arrivals_header, in_house_header, chain_header, left_behind_header, audit_header, arrival_line, house_line, chain_line, behind_line, note_line}
 use Rattle.hotel_lists.specs.declared.fault.ListFault.{ListFault}
 use Rattle.hotel_desk.specs.declared.list_asks.ListAsk.{ListAsk}

@@ -4,19 +4,21 @@ use Rattle.std.proofs.Math.Seq.{take-append-add}
 use Rattle.std.proofs.lemmas.List.{length-drop}
 use Rattle.std.specs.Io.KnownBytes.{Appends}
 use Rattle.std.proofs.KnownBytes.{Appends-trans, Appends-nil}
+use Rattle.keycard_rules.specs.declared.issued.LookFault.{LookFault}
+use Rattle.keycard_rules.specs.Rise.{NoFewer}
 use Rattle.rand_core.specs.Stream.{Stream}
 use Rattle.keycard_rules.proofs.Drawing.{past-zero}
-use Rattle.hotel_core.proofs.Assurance.{assured}
-use Rattle.hotel_core.proofs.FailuresCounted.{none_counted, counted_join}
-use Rattle.hotel_core.specs.Failures.{AreCounted}
+use Rattle.hotel_core.proofs.Invariants.Assurance.{assured}
+use Rattle.hotel_core.proofs.OfCode.FailuresCounted.{none_counted, counted_join}
+use Rattle.hotel_core.specs.Books.Failures.{AreCounted}
 use Rattle.hotel_desk.specs.declared.asks.Ask.{Ask}
 use Rattle.hotel_desk.specs.declared.asks.Ask.TheVariants as ask
 use Rattle.hotel_core.specs.declared.reply.Reply.TheVariants.{Refused}
 use Rattle.hotel_core.specs.declared.reply.Refusal.{Refusal}
 use Rattle.hotel_core.specs.declared.reply.Refusal.TheVariants.{Memory}
 use Rattle.hotel_desk.specs.Asks.{ask_copies, AsksCopy}
-use Rattle.hotel_core.specs.Rows.{Rows}
-use Rattle.hotel_core.specs.History.{History}
+use Rattle.hotel_core.specs.Model.Rows.{Rows}
+use Rattle.hotel_core.specs.Model.History.{History}
 use Rattle.hotel_core.specs.Texts.{reply_text}
 use Rattle.hotel_lists.specs.Bytes.{AppendsFront}
 use Rattle.hotel_desk.specs.Lines.{lines, without_return, is_silent, answered_lines}
@@ -70,10 +72,10 @@ all_done all done h e =
     (omega (arith, none, length-drop done all), sym (append-nil (take done all)) ∙ (ap (λ (ls : List (List ℕ)). take done all ++ ls) (sym e) ∙ take-append-drop done all))
 
 -- a line more goes, and what is written grows by some of its answer
-pub rows_more : (a b c : Rows) (s t u : Stream) (all : List (List ℕ)) (done : ℕ) (line : List ℕ) (later : List (List ℕ)) (P wrote Q : List ℕ → Type 0) (never_fails : Type 0) (x y z : ℕ)
-    → RowsGo a s (take done all) P (AreCounted never_fails x y) b t → drop done all ≡ line ∷ later → LineIsAnswered b t line wrote (AreCounted never_fails y z) c u
-    → ((output text : List ℕ) → P output → wrote text → Q (output ++ text)) → y ≤ z → RowsGo a s (take (done + 1) all) Q (AreCounted never_fails x z) c u
-rows_more a b c s t u all done line later P wrote Q never_fails x y z go e step written grown = λ h stands.
+pub rows_more : (a b c : Rows) (s t u : Stream) (all : List (List ℕ)) (done : ℕ) (line : List ℕ) (later : List (List ℕ)) (P wrote Q : List ℕ → Type 0) (x y z : LookFault → ℕ)
+    → RowsGo a s (take done all) P (AreCounted x y) b t → drop done all ≡ line ∷ later → LineIsAnswered b t line wrote (AreCounted y z) c u
+    → ((output text : List ℕ) → P output → wrote text → Q (output ++ text)) → NoFewer y z → RowsGo a s (take (done + 1) all) Q (AreCounted x z) c u
+rows_more a b c s t u all done line later P wrote Q x y z go e step written grown = λ h stands.
     let p = go h stands in
     let q = step p.2 p.3 in
     let whole = sym (next_line all done line later e).2 in (
@@ -83,13 +85,13 @@ rows_more a b c s t u all done line later P wrote Q never_fails x y z go e step 
       q.3,
       subst (λ (ls : List (List ℕ)). ScriptGoes h s ls (p.0 ++ q.0) (p.1 ++ q.1) q.2 u) whole (script-push h p.2 q.2 s t u (take done all) p.0 line q.0 p.1 q.1 p.4 q.4),
       written p.0 q.0 p.5 q.5,
-      counted_join never_fails x y z p.1 q.1 grown p.6 q.6,
+      counted_join x y z p.1 q.1 grown p.6 q.6,
     )
 
 -- no line went yet
-pub rows_begin : (a : Rows) (s : Stream) (known : Option (List ℕ)) (never_fails : Type 0) (x : ℕ) → RowsGo a s [] (Appends known known) (AreCounted never_fails x x) a s
+pub rows_begin : (a : Rows) (s : Stream) (known : Option (List ℕ)) (x : LookFault → ℕ) → RowsGo a s [] (Appends known known) (AreCounted x x) a s
 unfolding ScriptGoes
-rows_begin a s known never_fails x = λ h stands. ([], [], h, stands, (refl, refl, refl, refl), Appends-nil known, none_counted never_fails x x (omega arith))
+rows_begin a s known x = λ h stands. ([], [], h, stands, (refl, refl, refl, refl), Appends-nil known, none_counted x x (λ cause. omega arith))
 
 -- bytes, and then a front of some more
 pub appends_front : (a b c : Option (List ℕ)) (output text : List ℕ) → AppendsFront b c text → Appends a b output → AppendsFront a c (output ++ text)

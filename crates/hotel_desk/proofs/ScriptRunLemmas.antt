@@ -3,10 +3,10 @@ use Rattle.std.proofs.Common.{◌≡◌, ℕ, List, [], ◌∷◌, ◌++◌, map
 use Rattle.rand_core.specs.Stream.{Stream}
 use Rattle.hotel_core.specs.declared.reply.Reply.{Reply}
 use Rattle.hotel_core.specs.declared.reply.Refusal.{Refusal}
-use Rattle.hotel_core.specs.History.{History}
-use Rattle.hotel_core.specs.Failures.{failure_in}
-use Rattle.hotel_core.specs.Run.{Runs}
-use Rattle.hotel_core.specs.Stepping.{copies}
+use Rattle.hotel_core.specs.Model.History.{History}
+use Rattle.hotel_core.specs.Books.Failures.{failure_in}
+use Rattle.hotel_core.specs.Model.Run.{Runs}
+use Rattle.hotel_core.specs.Refinement.Stepping.{copies}
 use Rattle.hotel_core.specs.Texts.{reply_text}
 use Rattle.hotel_desk.specs.Asks.{ask_in}
 use Rattle.hotel_desk.specs.declared.asks.Ask.{Ask}

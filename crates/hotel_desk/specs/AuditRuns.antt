@@ -1,9 +1,11 @@
 -- What an audit file that is imported alone comes to.
 use Rattle.std.specs.Prelude.{◌≡◌, ◌≤◌, ℕ, Bool, true, false, List, [], ◌∷◌, Option, Result, Ok, Err, IfErr}
 use Rattle.std.specs.Io.KnownBytes.{Appends}
+use Rattle.keycard_rules.specs.declared.issued.LookFault.{LookFault}
+use Rattle.keycard_rules.specs.Rise.{NoFewer}
 use Rattle.keycard_rules.specs.declared.issued.LookFault.TheVariants as look
-use Rattle.hotel_core.specs.Rows.{Rows}
-use Rattle.hotel_core.specs.Failures.{AreCounted}
+use Rattle.hotel_core.specs.Model.Rows.{Rows}
+use Rattle.hotel_core.specs.Books.Failures.{AreCounted}
 use Rattle.hotel_lists.specs.Bytes.{AppendsFront}
 use Rattle.hotel_audit.specs.Answers.{answers_text}
 use Rattle.hotel_audit.specs.Import.{ImportsFile, StopsImport, failures_of}
@@ -55,8 +57,8 @@ GoesBy is_clean rows bytes old new (Ok answers) = ImportsFile is_clean rows byte
 GoesBy is_clean rows bytes old new (Err why) = StopsImport is_clean rows bytes old new why
 
 -- An import of the file ended so: the books went by it; a failure of the store, or of memory after the first line, was counted; and in memory the store never fails.
-pub record ImportEnds {B : Type 0} (is_clean : B → Type 0) (rows : B → Rows) (failures : B → ℕ) (never_fails : Type 0) (bytes : List ℕ) (old new : B) (outcome : Result (List LineAnswer) ImportFault) : Type 0 where
+pub record ImportEnds {B : Type 0} (is_clean : B → Type 0) (rows : B → Rows) (failures : B → LookFault → ℕ) (bytes : List ℕ) (old new : B) (outcome : Result (List LineAnswer) ImportFault) : Type 0 where
   pub went : GoesBy is_clean rows bytes old new outcome
   pub was_clean : is_clean new → is_clean old
-  pub counted : failures old ≤ failures new
-  pub failed : IfErr outcome (λ why. is_clean new → AreCounted never_fails (failures old) (failures new) (failures_of why))
+  pub counted : NoFewer (failures old) (failures new)
+  pub failed : IfErr outcome (λ why. is_clean new → AreCounted (failures old) (failures new) (failures_of why))

@@ -3,11 +3,11 @@ use Rattle.std.specs.Prelude.{◌≡◌, ℕ, List, [], ◌∷◌, ◌++◌, Opt
 use Rattle.rand_core.specs.Stream.{Stream}
 use Rattle.hotel_core.specs.declared.reply.Reply.{Reply}
 use Rattle.hotel_core.specs.declared.reply.Refusal.{Refusal}
-use Rattle.hotel_core.specs.History.{History}
-use Rattle.hotel_core.specs.Rows.{Rows}
-use Rattle.hotel_core.specs.Run.{StandsFor, Steps}
-use Rattle.hotel_core.specs.Failures.{failure_in}
-use Rattle.hotel_core.specs.Stepping.{copies}
+use Rattle.hotel_core.specs.Model.History.{History}
+use Rattle.hotel_core.specs.Model.Rows.{Rows}
+use Rattle.hotel_core.specs.Model.Run.{StandsFor, Steps}
+use Rattle.hotel_core.specs.Books.Failures.{failure_in}
+use Rattle.hotel_core.specs.Refinement.Stepping.{copies}
 use Rattle.hotel_core.specs.Texts.{reply_text}
 use Rattle.hotel_desk.specs.Asks.{ask_in}
 use Rattle.hotel_desk.specs.ListAnswers.{AnswersList}

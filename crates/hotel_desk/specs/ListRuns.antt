@@ -2,13 +2,13 @@
 use Rattle.std.specs.Prelude.{◌≡◌, ℕ, Bool, true, false, List, Option, Result, Ok, Err, is_some}
 use Rattle.std.specs.Io.KnownBytes.{Appends, Keeps}
 use Rattle.hotel_core.specs.declared.reply.Refusal.TheVariants as refusal
-use Rattle.hotel_core.specs.Rows.{Rows}
-use Rattle.hotel_core.specs.Lookups.{room_at}
-use Rattle.hotel_core.specs.History.{History}
-use Rattle.hotel_core.specs.Run.{StandsFor}
-use Rattle.hotel_core.specs.Cases.{is_room}
-use Rattle.hotel_core.specs.Lists.{arrivals, in_house, chain, left_behind, audit_of}
-use Rattle.hotel_core.specs.ListsOnRows.{arrivals_on, in_house_on, chain_on, left_behind_on, audit_on}
+use Rattle.hotel_core.specs.Model.Rows.{Rows}
+use Rattle.hotel_core.specs.Books.Lookups.{room_at}
+use Rattle.hotel_core.specs.Model.History.{History}
+use Rattle.hotel_core.specs.Model.Run.{StandsFor}
+use Rattle.hotel_core.specs.Model.Cases.{is_room}
+use Rattle.hotel_core.specs.Model.Lists.{arrivals, in_house, chain, left_behind, audit_of}
+use Rattle.hotel_core.specs.Refinement.ListsOnRows.{arrivals_on, in_house_on, chain_on, left_behind_on, audit_on}
 use Rattle.hotel_lists.specs.Bytes.{AppendsFront}
 use Rattle.hotel_lists.specs.Lines.{Lists, arrivals_header, in_house_header, chain_header, left_behind_header, audit_header, arrival_line, house_line, chain_line, behind_line, note_line}
 use Rattle.hotel_lists.specs.declared.fault.ListFault.{ListFault}

@@ -1,13 +1,13 @@
 -- Rows of which a rule fails: those at the end of the scenario "two-entries" with one thing altered.
 use Rattle.std.specs.Prelude.{◌≡◌, true, false, [], ◌∷◌}
 use Rattle.hotel_nights.specs.declared.stay.StayState.TheVariants as state
-use Rattle.hotel_core.specs.Rows.{Rows}
-use Rattle.hotel_core.specs.Stays.{in_state}
-use Rattle.hotel_core.specs.Change.{room_changed}
-use Rattle.hotel_core.specs.Sound.{passes_rules}
-use Rattle.hotel_core.specs.SoundRooms.{secured_hold_last, stay_rooms, parties_in_house}
-use Rattle.hotel_core.specs.SoundCards.{places_once, insides_fit, notes_counted, last_cards_newest}
-use Rattle.hotel_core.specs.RowsOf.{rows_of}
+use Rattle.hotel_core.specs.Model.Rows.{Rows}
+use Rattle.hotel_core.specs.Model.Stays.{in_state}
+use Rattle.hotel_core.specs.Books.Change.{room_changed}
+use Rattle.hotel_core.specs.Model.Sound.{passes_rules}
+use Rattle.hotel_core.specs.Model.SoundRooms.{secured_hold_last, stay_rooms, parties_in_house}
+use Rattle.hotel_core.specs.Model.SoundCards.{places_once, insides_fit, notes_counted, last_cards_newest}
+use Rattle.hotel_core.specs.Model.RowsOf.{rows_of}
 use Rattle.hotel_desk.specs.SceneTwoEntries.{ran_1}
 
 abbrev pub rows : Rows

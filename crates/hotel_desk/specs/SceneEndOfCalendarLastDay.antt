@@ -5,10 +5,10 @@ use Rattle.hotel_core.specs.declared.command.Command.TheVariants as command
 use Rattle.hotel_core.specs.declared.reply.Reply.{Reply}
 use Rattle.hotel_core.specs.declared.reply.Reply.TheVariants as reply
 use Rattle.hotel_core.specs.declared.reply.Refusal.TheVariants as refusal
-use Rattle.hotel_core.specs.Rows.{no_rows}
-use Rattle.hotel_core.specs.History.{start}
+use Rattle.hotel_core.specs.Model.Rows.{no_rows}
+use Rattle.hotel_core.specs.Model.History.{start}
 use Rattle.hotel_desk.specs.Tests.{rows_made, rows_read, always_kept}
-use Rattle.hotel_core.specs.Run.{Ran, run_on}
+use Rattle.hotel_core.specs.Model.Run.{Ran, run_on}
 use Rattle.hotel_desk.specs.Scenes.{as_words}
 
 -- the codes of the source's words

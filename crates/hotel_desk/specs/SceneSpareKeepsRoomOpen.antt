@@ -5,11 +5,11 @@ use Rattle.hotel_core.specs.declared.command.Command.TheVariants as command
 use Rattle.hotel_core.specs.declared.reply.Reply.{Reply}
 use Rattle.hotel_core.specs.declared.reply.Reply.TheVariants as reply
 use Rattle.keycard_rules.specs.declared.note.Act.TheVariants as act
-use Rattle.hotel_core.specs.Rows.{no_rows}
-use Rattle.hotel_core.specs.History.{start}
+use Rattle.hotel_core.specs.Model.Rows.{no_rows}
+use Rattle.hotel_core.specs.Model.History.{start}
 use Rattle.hotel_desk.specs.Tests.{rows_made, rows_read, always_kept}
-use Rattle.hotel_core.specs.Run.{Ran, run_on}
-use Rattle.hotel_core.specs.Lists.{in_house}
+use Rattle.hotel_core.specs.Model.Run.{Ran, run_on}
+use Rattle.hotel_core.specs.Model.Lists.{in_house}
 use Rattle.hotel_desk.specs.Scenes.{as_words, link, card, note}
 
 -- the codes of the source's words

@@ -2,10 +2,10 @@
 use Rattle.std.specs.Prelude.{◌≡◌, ◌≤◌, ℕ, length, List, [], ◌∷◌, ◌++◌, Option, Some, None, IfSome}
 use Rattle.rand_core.specs.Stream.{Stream}
 use Rattle.hotel_core.specs.declared.reply.Refusal.{Refusal}
-use Rattle.hotel_core.specs.Rows.{Rows}
-use Rattle.hotel_core.specs.History.{History}
-use Rattle.hotel_core.specs.Headline.{Assured}
-use Rattle.hotel_core.specs.Run.{StandsFor}
+use Rattle.hotel_core.specs.Model.Rows.{Rows}
+use Rattle.hotel_core.specs.Model.History.{History}
+use Rattle.hotel_core.specs.Model.Headline.{Assured}
+use Rattle.hotel_core.specs.Model.Run.{StandsFor}
 use Rattle.hotel_desk.specs.LineAnswers.{LineGoes}
 use Rattle.hotel_desk.specs.declared.script.ScriptFault.{ScriptFault}
 use Rattle.hotel_desk.specs.declared.script.ScriptFault.TheVariants.{Read, TooLarge, Memory, Write}

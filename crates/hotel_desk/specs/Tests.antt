@@ -3,21 +3,21 @@ use Rattle.std.specs.Prelude.{ℕ, Bool, true, false, List, [], ◌∷◌, ◌++
 use Rattle.std.specs.List.{list_all}
 use Rattle.std.specs.Map.{keys_of}
 use Rattle.keycard_rules.specs.declared.card.Card.{Card}
-use Rattle.hotel_core.specs.Words.{said_of, is_one_of}
-use Rattle.hotel_core.specs.Rows.{Rows, at_number}
-use Rattle.hotel_core.specs.Sound.{passes_rules}
-use Rattle.hotel_core.specs.History.{History, start, ◌▷◌}
-use Rattle.hotel_core.specs.RowsOf.{rows_of}
-use Rattle.hotel_core.specs.Issued.{issued, current}
-use Rattle.hotel_core.specs.Cards.{cards, newest_link}
+use Rattle.hotel_core.specs.Model.Words.{said_of, is_one_of}
+use Rattle.hotel_core.specs.Model.Rows.{Rows, at_number}
+use Rattle.hotel_core.specs.Model.Sound.{passes_rules}
+use Rattle.hotel_core.specs.Model.History.{History, start, ◌▷◌}
+use Rattle.hotel_core.specs.Model.RowsOf.{rows_of}
+use Rattle.hotel_core.specs.Model.Issued.{issued, current}
+use Rattle.hotel_core.specs.Model.Cards.{cards, newest_link}
 use Rattle.keycard_rules.specs.Lock.{turn}
-use Rattle.hotel_core.specs.Lock.{held}
-use Rattle.hotel_core.specs.Ledger.{passed, awaited}
-use Rattle.hotel_core.specs.Guests.{registered, inside, secured}
-use Rattle.hotel_core.specs.Stays.{rooms}
-use Rattle.hotel_core.specs.Notes.{same_link}
-use Rattle.hotel_core.specs.Change.{made}
-use Rattle.hotel_core.specs.ChangeOf.{change_of}
+use Rattle.hotel_core.specs.Model.Lock.{held}
+use Rattle.hotel_core.specs.Model.Ledger.{passed, awaited}
+use Rattle.hotel_core.specs.Model.Guests.{registered, inside, secured}
+use Rattle.hotel_core.specs.Model.Stays.{rooms}
+use Rattle.hotel_core.specs.Model.Notes.{same_link}
+use Rattle.hotel_core.specs.Books.Change.{made}
+use Rattle.hotel_core.specs.Refinement.ChangeOf.{change_of}
 
 -- the rows that each event's change makes, and those of each grown history, the newest first
 abbrev pub rows_made : History → List Rows

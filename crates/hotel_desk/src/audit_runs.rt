@@ -87,7 +87,7 @@ fn import_and_write<B: Books, W: Write>(
 ) -> Result<u8, Fault>
     ensures { (outcome : Result (List LineAnswer) ImportFault) × (write_failed : Bool) × (result ≡ audit_end outcome write_failed)
         × WritesAnswers W.contents writer.old writer.new outcome write_failed
-        × ImportEnds B.is_clean B.rows B.failures B.never_fails bytes.now books.old books.new outcome }
+        × ImportEnds B.is_clean B.rows B.failures bytes.now books.old books.new outcome }
 {
     let answers = match import(alloc, books, bytes) {
         Ok(answers) => answers,
@@ -111,7 +111,7 @@ pub fn run_audit<B: Books, W: Write, F: FaultSink>(
 ) -> u8
     ensures { (outcome : Result (List LineAnswer) ImportFault) × (write_failed : Bool) × (result ≡ end_status (audit_end outcome write_failed))
         × Tells F.told faults.old (audit_end outcome write_failed) faults.new × WritesAnswers W.contents writer.old writer.new outcome write_failed
-        × ImportEnds B.is_clean B.rows B.failures B.never_fails bytes.now books.old books.new outcome }
+        × ImportEnds B.is_clean B.rows B.failures bytes.now books.old books.new outcome }
 {
     let mut interruptions = Interruptions::none();
     let end = import_and_write(alloc, bytes, books, writer, &mut interruptions);

@@ -3,7 +3,8 @@
 ghost use Rattle.std.specs.Prelude.{◌≤◌, Some, OnOk, OnErr};
 ghost use Rattle.hotel_desk.specs.declared.asks.Ask.TheVariants as ask;
 ghost use Rattle.std.specs.Io.KnownBytes.{Appends};
-ghost use Rattle.hotel_core.specs.Failures.{AreCounted};
+ghost use Rattle.keycard_rules.specs.Rise.{NoFewer};
+ghost use Rattle.hotel_core.specs.Books.Failures.{AreCounted};
 ghost use Rattle.hotel_lists.specs.Bytes.{AppendsFront};
 ghost use Rattle.hotel_desk.specs.LineAnswers.{LineIsAnswered, AskIsAnswered, answer_text};
 
@@ -50,11 +51,11 @@ fn answer_command<W: Write, B: Walks, R: Rng>(
     interruptions: &mut Interruptions,
 ) -> Result<(), WriteFailed>
     ensures ok { B.is_clean books.new → OnOk result (AskIsAnswered (Some (ask.Command command.now)) (B.rows books.old) (R.stream source.old) (Appends (W.contents writer.old) (W.contents writer.new))
-        (AreCounted B.never_fails (B.failures books.old) (B.failures books.new)) (B.rows books.new) (R.stream source.new)) }
+        (AreCounted (B.failures books.old) (B.failures books.new)) (B.rows books.new) (R.stream source.new)) }
     ensures err { B.is_clean books.new → OnErr result (AskIsAnswered (Some (ask.Command command.now)) (B.rows books.old) (R.stream source.old) (AppendsFront (W.contents writer.old) (W.contents writer.new))
-        (AreCounted B.never_fails (B.failures books.old) (B.failures books.new)) (B.rows books.new) (R.stream source.new)) }
+        (AreCounted (B.failures books.old) (B.failures books.new)) (B.rows books.new) (R.stream source.new)) }
     ensures was_clean { B.is_clean books.new → B.is_clean books.old }
-    ensures counted { B.failures books.old ≤ B.failures books.new }
+    ensures counted { NoFewer (B.failures books.old) (B.failures books.new) }
 {
     let answer = LineAnswer::Replied(step(books, source, command));
     write_answer(writer, &answer, interruptions)
@@ -72,11 +73,11 @@ pub fn answer_line<W: Write, B: Walks, R: Rng>(
     interruptions: &mut Interruptions,
 ) -> Result<(), WriteFailed>
     ensures ok { B.is_clean books.new → OnOk result (LineIsAnswered (B.rows books.old) (R.stream source.old) line.now (Appends (W.contents writer.old) (W.contents writer.new))
-        (AreCounted B.never_fails (B.failures books.old) (B.failures books.new)) (B.rows books.new) (R.stream source.new)) }
+        (AreCounted (B.failures books.old) (B.failures books.new)) (B.rows books.new) (R.stream source.new)) }
     ensures err { B.is_clean books.new → OnErr result (LineIsAnswered (B.rows books.old) (R.stream source.old) line.now (AppendsFront (W.contents writer.old) (W.contents writer.new))
-        (AreCounted B.never_fails (B.failures books.old) (B.failures books.new)) (B.rows books.new) (R.stream source.new)) }
+        (AreCounted (B.failures books.old) (B.failures books.new)) (B.rows books.new) (R.stream source.new)) }
     ensures was_clean { B.is_clean books.new → B.is_clean books.old }
-    ensures counted { B.failures books.old ≤ B.failures books.new }
+    ensures counted { NoFewer (B.failures books.old) (B.failures books.new) }
 {
     match read_line(alloc, line) {
         Ok(Ask::Command(command)) => {

@@ -2,7 +2,8 @@
 
 ghost use Rattle.std.specs.Prelude.{◌≡◌, ◌≤◌, OnOk, OnErr};
 ghost use Rattle.std.specs.Io.KnownBytes.{Appends};
-ghost use Rattle.hotel_core.specs.Failures.{AreCounted};
+ghost use Rattle.keycard_rules.specs.Rise.{NoFewer};
+ghost use Rattle.hotel_core.specs.Books.Failures.{AreCounted};
 ghost use Rattle.hotel_lists.specs.Bytes.{AppendsFront};
 ghost use Rattle.hotel_lists.specs.Lines.{LooksAt};
 ghost use Rattle.hotel_desk.specs.ListAnswers.{WritesAnswer, WritesList, refusal_of};
@@ -59,12 +60,12 @@ pub fn answer_list<W: Write, B: Walks>(
     interruptions: &mut Interruptions,
 ) -> Result<(), WriteFailed>
     ensures ok { B.is_clean books.new → OnOk result (WritesAnswer (B.rows books.old) list.now (Appends (W.contents writer.old) (W.contents writer.new))
-        (AreCounted B.never_fails (B.failures books.old) (B.failures books.new))) }
+        (AreCounted (B.failures books.old) (B.failures books.new))) }
     ensures err { B.is_clean books.new → OnErr result (WritesAnswer (B.rows books.old) list.now (AppendsFront (W.contents writer.old) (W.contents writer.new))
-        (AreCounted B.never_fails (B.failures books.old) (B.failures books.new))) }
+        (AreCounted (B.failures books.old) (B.failures books.new))) }
     ensures kept { B.is_clean books.new → B.is_kept books.old books.new }
     ensures was_clean { B.is_clean books.new → B.is_clean books.old }
-    ensures counted { B.failures books.old ≤ B.failures books.new }
+    ensures counted { NoFewer (B.failures books.old) (B.failures books.new) }
 {
     let Err(fault) = write_list(alloc, list, writer, books, interruptions) else {
         return Ok(());

@@ -2,7 +2,8 @@
 
 ghost use Rattle.std.specs.Prelude.{◌≡◌, ◌≢◌, ℕ, List, ◌≤◌, ◌<◌, length, take, Option, None, Some, IfSome, IfOk, IfErr, IsErrOf};
 ghost use Rattle.std.specs.Io.KnownBytes.{Appends};
-ghost use Rattle.hotel_core.specs.Failures.{AreCounted};
+ghost use Rattle.keycard_rules.specs.Rise.{NoFewer};
+ghost use Rattle.hotel_core.specs.Books.Failures.{AreCounted};
 ghost use Rattle.hotel_lists.specs.Bytes.{AppendsFront};
 ghost use Rattle.hotel_desk.specs.declared.script.ScriptFault.TheVariants.{TooLarge};
 ghost use Rattle.hotel_desk.specs.Lines.{answered_lines};
@@ -66,13 +67,13 @@ fn answer_lines<W: Write, B: Walks, R: Rng>(
     requires { length script.now ≤ SCRIPT_LIMIT }
     ensures count { IfOk result (λ script_end. script_end.lines ≡ length (answered_lines script.now)) }
     ensures ok { B.is_clean books.new → IfOk result (λ script_end. RowsGoSafely (B.rows books.old) (R.stream source.old) (answered_lines script.now)
-        (Appends (W.contents writer.old) (W.contents writer.new)) (AreCounted B.never_fails (B.failures books.old) (B.failures books.new)) (B.rows books.new) (R.stream source.new)) }
+        (Appends (W.contents writer.old) (W.contents writer.new)) (AreCounted (B.failures books.old) (B.failures books.new)) (B.rows books.new) (R.stream source.new)) }
     ensures begun { IfErr result (λ fault. IfSome (lines_done fault) (λ done. done ≤ length (answered_lines script.now))) }
     ensures cut { B.is_clean books.new → IfErr result (λ fault. IfSome (lines_done fault) (λ done. RowsGoSafely (B.rows books.old) (R.stream source.old) (take done (answered_lines script.now))
-        (AppendsFront (W.contents writer.old) (W.contents writer.new)) (AreCounted B.never_fails (B.failures books.old) (B.failures books.new)) (B.rows books.new) (R.stream source.new))) }
+        (AppendsFront (W.contents writer.old) (W.contents writer.new)) (AreCounted (B.failures books.old) (B.failures books.new)) (B.rows books.new) (R.stream source.new))) }
     ensures written { IfErr result (λ fault. lines_done fault ≢ None) }
     ensures was_clean { B.is_clean books.new → B.is_clean books.old }
-    ensures counted { B.failures books.old ≤ B.failures books.new }
+    ensures counted { NoFewer (B.failures books.old) (B.failures books.new) }
 {
     let mut rest = script;
     let mut done = 0;
@@ -103,14 +104,14 @@ pub fn run_script<I: Read, W: Write, B: Walks, R: Rng>(
 ) -> Result<ScriptEnd, ScriptFault>
     ensures ok { IfOk result (λ script_end. (script : List ℕ) × IsInput SCRIPT_LIMIT (I.remaining reader.old) script × (script_end.lines ≡ length (answered_lines script))
         × (B.is_clean books.new → RowsGoSafely (B.rows books.old) (R.stream source.old) (answered_lines script)
-        (Appends (W.contents writer.old) (W.contents writer.new)) (AreCounted B.never_fails (B.failures books.old) (B.failures books.new)) (B.rows books.new) (R.stream source.new))) }
+        (Appends (W.contents writer.old) (W.contents writer.new)) (AreCounted (B.failures books.old) (B.failures books.new)) (B.rows books.new) (R.stream source.new))) }
     ensures cut { IfErr result (λ fault. IfSome (lines_done fault) (λ done. (script : List ℕ) × IsInput SCRIPT_LIMIT (I.remaining reader.old) script × (done ≤ length (answered_lines script))
         × (B.is_clean books.new → RowsGoSafely (B.rows books.old) (R.stream source.old) (take done (answered_lines script))
-        (AppendsFront (W.contents writer.old) (W.contents writer.new)) (AreCounted B.never_fails (B.failures books.old) (B.failures books.new)) (B.rows books.new) (R.stream source.new)))) }
+        (AppendsFront (W.contents writer.old) (W.contents writer.new)) (AreCounted (B.failures books.old) (B.failures books.new)) (B.rows books.new) (R.stream source.new)))) }
     ensures unbegun { IfErr result (λ fault. lines_done fault ≡ None → (books.new ≡ books.old) × (source.new ≡ source.old) × (writer.new ≡ writer.old)) }
     ensures large { IsErrOf result TooLarge → IfSome (I.remaining reader.old) (λ input. SCRIPT_LIMIT < length input) }
     ensures was_clean { B.is_clean books.new → B.is_clean books.old }
-    ensures counted { B.failures books.old ≤ B.failures books.new }
+    ensures counted { NoFewer (B.failures books.old) (B.failures books.new) }
 {
     let mut interruptions = Interruptions::none();
     let script = read_whole(alloc, reader, SCRIPT_LIMIT, &mut interruptions)?;

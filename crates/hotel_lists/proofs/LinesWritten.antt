@@ -6,11 +6,11 @@ use Rattle.std.proofs.lemmas.List.{take-append-le}
 use Rattle.std.proofs.lemmas.List.Concat.{flat_map-append}
 use Rattle.std.specs.Io.KnownBytes.{Appends}
 use Rattle.std.proofs.KnownBytes.{Appends-nil, Appends-trans, Appends-kept}
-use Rattle.hotel_core.specs.declared.walks.WalkFault.{WalkFault}
-use Rattle.hotel_core.specs.declared.walks.WalkFault.TheVariants as walk
-use Rattle.hotel_core.specs.Walks.{Takes, Hands}
+use Rattle.hotel_core.specs.declared.books.walks.WalkFault.{WalkFault}
+use Rattle.hotel_core.specs.declared.books.walks.WalkFault.TheVariants as walk
+use Rattle.hotel_core.specs.Books.Walks.{Takes, Hands}
 use Rattle.hotel_lists.specs.Bytes.{AppendsFront}
-use Rattle.hotel_core.specs.declared.rows.RoomRow.{RoomRow}
+use Rattle.hotel_core.specs.declared.books.rows.RoomRow.{RoomRow}
 use Rattle.hotel_lists.specs.declared.fault.ListFault.{ListFault}
 use Rattle.hotel_lists.specs.declared.fault.ListFault.TheVariants as fault
 use Rattle.hotel_lists.specs.Lines.{list_text, Lists, ListsRoom, FindsRoom, StopsBy, listed}

@@ -4,7 +4,9 @@ use Rattle.std.specs.List.{flat_map}
 use Rattle.std.specs.Fmt.{decimal}
 use Rattle.std.specs.Io.KnownBytes.{Appends, Keeps}
 use Rattle.csv.specs.Writing.{default_writer, row_text}
-use Rattle.keycard_rules.specs.Rise.{HasRisen}
+use Rattle.keycard_rules.specs.Rise.{HasRisen, NoFewer}
+use Rattle.keycard_rules.specs.declared.issued.LookFault.{LookFault}
+use Rattle.keycard_rules.specs.declared.issued.LookFault.TheVariants as look
 use Rattle.keycard_rules.specs.Numerals.{code_text}
 use Rattle.keycard_rules.specs.Note.{Note}
 use Rattle.keycard_rules.specs.declared.note.Act.{Act}
@@ -12,14 +14,14 @@ use Rattle.keycard_rules.specs.declared.note.Act.TheVariants.{Entered, Left, Rec
 use Rattle.hotel_nights.specs.Days.{day_text}
 use Rattle.hotel_nights.specs.Moments.{moment_text}
 use Rattle.hotel_nights.specs.declared.stay.Stay.{Stay}
-use Rattle.hotel_core.specs.declared.rows.RoomRow.{RoomRow}
-use Rattle.hotel_core.specs.declared.list_rows.HouseRow.{HouseRow}
-use Rattle.hotel_core.specs.declared.list_rows.ChainRow.{ChainRow}
-use Rattle.hotel_core.specs.declared.list_rows.BehindRow.{BehindRow}
-use Rattle.hotel_core.specs.declared.list_rows.CodeState.{CodeState}
-use Rattle.hotel_core.specs.declared.list_rows.CodeState.TheVariants as state
-use Rattle.hotel_core.specs.declared.walks.WalkFault.{WalkFault}
-use Rattle.hotel_core.specs.declared.walks.WalkFault.TheVariants as walk
+use Rattle.hotel_core.specs.declared.books.rows.RoomRow.{RoomRow}
+use Rattle.hotel_core.specs.declared.books.list_rows.HouseRow.{HouseRow}
+use Rattle.hotel_core.specs.declared.books.list_rows.ChainRow.{ChainRow}
+use Rattle.hotel_core.specs.declared.books.list_rows.BehindRow.{BehindRow}
+use Rattle.hotel_core.specs.declared.books.list_rows.CodeState.{CodeState}
+use Rattle.hotel_core.specs.declared.books.list_rows.CodeState.TheVariants as state
+use Rattle.hotel_core.specs.declared.books.walks.WalkFault.{WalkFault}
+use Rattle.hotel_core.specs.declared.books.walks.WalkFault.TheVariants as walk
 use Rattle.hotel_lists.specs.Bytes.{AppendsFront}
 use Rattle.hotel_lists.specs.declared.fault.ListFault.{ListFault}
 use Rattle.hotel_lists.specs.declared.fault.ListFault.TheVariants as fault
@@ -107,13 +109,12 @@ listed (Err walk.Memory) write_failed = Err fault.Memory
 listed (Err walk.Store) write_failed = Err fault.Store
 listed (Err walk.Stopped) write_failed = if write_failed then Err fault.Write else Err fault.Memory
 
--- A list left of the books what a look-up may leave; the store fails only where a failure was counted, and in memory it never does.
-pub record LooksAt {B : Type 0} (is_clean : B → Type 0) (is_kept : B → B → Type 0) (failures : B → ℕ) (never_fails : Type 0) (old new : B) (result : Result (Unit {0}) ListFault) : Type 0 where
+-- A list left of the books what a look-up may leave; the store fails only where a failure of the store was counted, and in memory it never does.
+pub record LooksAt {B : Type 0} (is_clean : B → Type 0) (is_kept : B → B → Type 0) (failures : B → LookFault → ℕ) (never_fails : Type 0) (old new : B) (result : Result (Unit {0}) ListFault) : Type 0 where
   pub kept : is_clean new → is_kept old new
   pub was_clean : is_clean new → is_clean old
-  pub counted : failures old ≤ failures new
-  pub store : result ≡ Err fault.Store → HasRisen (failures old) (failures new)
-  pub no_store : never_fails → result ≡ Err fault.Store → ⊥
+  pub counted : NoFewer (failures old) (failures new)
+  pub store : result ≡ Err fault.Store → HasRisen (failures old look.Store) (failures new look.Store)
 
 -- no row and no header can have been written
 abbrev pub is_early : Result (Unit {0}) ListFault → Bool

@@ -1,8 +1,8 @@
 //! The five lists as text, within a call that has begun a count of its interrupted reads and writes. Those of a list are
 //! added to it.
 ghost use Rattle.std.specs.Prelude.{◌≡◌, Err};
-ghost use Rattle.hotel_core.specs.Lookups.{room_at};
-ghost use Rattle.hotel_core.specs.ListsOnRows.{arrivals_on, in_house_on, chain_on, left_behind_on, audit_on};
+ghost use Rattle.hotel_core.specs.Books.Lookups.{room_at};
+ghost use Rattle.hotel_core.specs.Refinement.ListsOnRows.{arrivals_on, in_house_on, chain_on, left_behind_on, audit_on};
 ghost use Rattle.hotel_lists.specs.Lines.{Lists, ListsRoom, LooksAt, FindsRoom, arrivals_header, in_house_header, chain_header, left_behind_header, audit_header, arrival_line, house_line, chain_line, behind_line, note_line};
 ghost use Rattle.hotel_lists.specs.declared.fault.ListFault.TheVariants.{NoRoom};
 

@@ -4,6 +4,8 @@ use Rattle.std.specs.List.{list_any}
 use Rattle.rand_core.specs.Stream.{Stream, next_u64}
 use Rattle.keycard_rules.specs.declared.draw.DrawFault.{DrawFault}
 use Rattle.keycard_rules.specs.declared.draw.DrawFault.TheVariants.{NoFreshCode, Memory, Store}
+use Rattle.keycard_rules.specs.declared.issued.LookFault.{LookFault}
+use Rattle.keycard_rules.specs.declared.issued.LookFault.TheVariants as look
 
 -- the code is among these
 abbrev pub is_among : List ℕ → ℕ → Bool
@@ -57,9 +59,9 @@ Draws issued source (Err Store) later = MovedAtMost (drawn issued source).examin
 abbrev pub AllIssued : List ℕ → List ℕ → Type 0
 AllIssued issued given = All (λ word. is_among issued (code_of word) ≡ true) given
 
--- memory or the store failed
-abbrev pub IsFailed : Result ℕ DrawFault → Type 0
-IsFailed (Ok code) = ⊥
-IsFailed (Err NoFreshCode) = ⊥
-IsFailed (Err Memory) = Unit {0}
-IsFailed (Err Store) = Unit {0}
+-- the look-up's fault that a draw answers, where it answers one
+abbrev pub fault_in : Result ℕ DrawFault → Option LookFault
+fault_in (Ok code) = None
+fault_in (Err NoFreshCode) = None
+fault_in (Err Memory) = Some look.Memory
+fault_in (Err Store) = Some look.Store

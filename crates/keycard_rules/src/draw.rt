@@ -1,7 +1,7 @@
 //! Drawing a code that was never issued.
-ghost use Rattle.std.specs.Prelude.{◌≡◌, ◌≤◌, false, Err, IfOk};
-ghost use Rattle.keycard_rules.specs.Draw.{is_among, words, past, MovedAtMost, Draws, AllIssued, IsFailed};
-ghost use Rattle.keycard_rules.specs.Rise.{HasRisen};
+ghost use Rattle.std.specs.Prelude.{◌≡◌, false, Err, IfOk, IfSome, None};
+ghost use Rattle.keycard_rules.specs.Draw.{is_among, words, past, MovedAtMost, Draws, AllIssued, fault_in};
+ghost use Rattle.keycard_rules.specs.Rise.{HasRisen, NoFewer};
 
 use crate::code::Code;
 use crate::issued::{Issued, LookFault};
@@ -32,9 +32,9 @@ pub fn draw_fresh<R: Rng, I: Issued>(source: &mut R, issued: &mut I) -> Result<C
 
     ensures kept { I.is_clean issued.new → I.is_kept issued.old issued.new }
     ensures was_clean { I.is_clean issued.new → I.is_clean issued.old }
-    ensures counted { I.failures issued.old ≤ I.failures issued.new }
-    ensures fault { IsFailed result → HasRisen (I.failures issued.old) (I.failures issued.new) }
-    ensures sure { I.never_fails → IsFailed result → ⊥ }
+    ensures counted { NoFewer (I.failures issued.old) (I.failures issued.new) }
+    ensures fault { IfSome (fault_in result) (λ why. HasRisen (I.failures issued.old why) (I.failures issued.new why)) }
+    ensures sure { I.never_fails → fault_in result ≡ None }
 {
     for _ in 0..64u32 {
         let code = Code::of_word(source.next_u64());

@@ -1,8 +1,10 @@
 //! What knows the codes that were issued, asked before a new one is given out.
-ghost use Rattle.std.specs.Prelude.{◌≡◌, ℕ, ◌≤◌, List, IfOk, OnErr, IsOk, refl};
+ghost use Rattle.std.specs.Prelude.{◌≡◌, ℕ, List, IfOk, IfErr, IsOk, refl};
 ghost use Rattle.std.proofs.Common.{◌∙◌};
 ghost use Rattle.keycard_rules.specs.Draw.{is_among};
-ghost use Rattle.keycard_rules.specs.Rise.{HasRisen};
+ghost use Rattle.keycard_rules.specs.Rise.{HasRisen, NoFewer};
+ghost use Rattle.keycard_rules.specs.declared.issued.LookFault.{LookFault};
+ghost use Rattle.keycard_rules.specs.declared.issued.LookFault.TheVariants.{Store};
 
 use crate::code::Code;
 use std::marker::Model;
@@ -18,7 +20,7 @@ pub enum LookFault {
 
 /// What knows the codes that were issued: a list in memory, or tables in a store.
 ///
-/// An implementation counts its failures: a look-up answers a fault only where the count rose, or was at its greatest value.
+/// An implementation counts its failures by their cause: a look-up answers a fault only where that cause's count rose, or was at its greatest value.
 pub trait Issued {
     /// The codes that were issued.
     ghost issued: { Self → List ℕ };
@@ -29,20 +31,23 @@ pub trait Issued {
     /// The second state has what the first one has: all that a look-up may leave.
     ghost is_kept: { Self → Self → Type 0 };
 
-    /// How often memory or the store failed, at most the greatest `u64`.
-    ghost failures: { Self → ℕ };
+    /// How often memory failed, and how often the store, each at most the greatest `u64`.
+    ghost failures: { Self → LookFault → ℕ };
 
     /// The look-ups never fail.
     ghost never_fails: { Type 0 };
 
-    /// Whether a code was issued. It changes nothing but the count of failures.
+    /// Whether a code was issued. It changes nothing but the counts of failures.
     fn is_issued(&mut self, code: Code) -> Result<bool, LookFault>
         ensures answer { is_clean self.new → IfOk result (λ yes. yes ≡ is_among (issued self.old) code) }
         ensures kept { is_clean self.new → is_kept self.old self.new }
         ensures was_clean { is_clean self.new → is_clean self.old }
-        ensures counted { failures self.old ≤ failures self.new }
-        ensures fault { OnErr result (HasRisen (failures self.old) (failures self.new)) }
+        ensures counted { NoFewer (failures self.old) (failures self.new) }
+        ensures fault { IfErr result (λ why. HasRisen (failures self.old why) (failures self.new why)) }
         ensures sure { never_fails → IsOk result };
+
+    // What never fails has no failure of the store.
+    ghost never_store: { (a : Self) → never_fails → failures a Store ≡ 0 };
 
     ghost kept_refl: { (a : Self) → is_kept a a };
 
@@ -81,13 +86,15 @@ impl Issued for ListedCodes {
 
     ghost is_kept = { λ before after. after ≡ before };
 
-    ghost failures = { λ _. 0 };
+    ghost failures = { λ _ _. 0 };
 
     ghost never_fails = { Unit {0} };
 
     fn is_issued(&mut self, code: Code) -> Result<bool, LookFault> {
         Ok(self.codes.as_slice().contains(&code))
     }
+
+    ghost never_store = { λ a never. refl };
 
     ghost kept_refl = { λ a. refl };
 

@@ -182,7 +182,7 @@ impl Issued for FailingCodes {
 
     ghost is_kept = { λ _ _. Unit {0} };
 
-    ghost failures = { λ codes. codes.failures };
+    ghost failures = { λ codes _. codes.failures };
 
     ghost never_fails = { ⊥ };
 
@@ -194,6 +194,8 @@ impl Issued for FailingCodes {
         self.left -= 1;
         Ok(true)
     }
+
+    ghost never_store = { λ a never. absurd never };
 
     ghost kept_refl = { λ a. tt };
 

@@ -2,7 +2,7 @@
 ghost use Rattle.std.specs.Prelude.{◌≡◌, ◌≤◌, OnErr, refl};
 ghost use Rattle.std.proofs.Common.{ap, ◌∙◌};
 ghost use Rattle.keycard_rules.specs.Rise.{HasRisen};
-ghost use Rattle.hotel_core.specs.Lookups.{codes_in};
+ghost use Rattle.hotel_core.specs.Books.Lookups.{codes_in};
 
 use hotel_core::{Books, Change, CodeRow, ListBooks, NextNumbers, RoomRow};
 use hotel_nights::{Day, KindCode, Stay};
@@ -62,7 +62,7 @@ impl Issued for StoppingBooks {
 
     ghost is_kept = { λ a b. b.books.rows ≡ a.books.rows };
 
-    ghost failures = { λ b. b.failures };
+    ghost failures = { λ b _. b.failures };
 
     ghost never_fails = { ⊥ };
 
@@ -71,6 +71,8 @@ impl Issued for StoppingBooks {
         let found = self.books.is_issued(code);
         self.given(found)
     }
+
+    ghost never_store = { λ a never. absurd never };
 
     ghost kept_refl = { λ a. refl };
 

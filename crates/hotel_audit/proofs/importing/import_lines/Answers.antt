@@ -1,7 +1,7 @@
 use Rattle.std.proofs.Common.{◌≡◌, ◌∙◌, ◌+◌, subst, false, [], ◌∷◌, ◌++◌, take, length, arith, sym, refl, ap}
 use Rattle.std.specs.Prelude.{◌||◌}
-use Rattle.hotel_core.specs.Failures.{AreCounted}
-use Rattle.hotel_core.proofs.FailuresCounted.{counted_after}
+use Rattle.hotel_core.specs.Books.Failures.{AreCounted}
+use Rattle.hotel_core.proofs.OfCode.FailuresCounted.{counted_after}
 use Rattle.std.proofs.lemmas.List.{take_more}
 use Rattle.hotel_audit.specs.declared.answer.LineAnswer.{LineAnswer}
 use Rattle.hotel_audit.specs.declared.answer.LineAnswer.TheVariants.{Taken}
@@ -18,7 +18,7 @@ has_taken-other _ other = refl
 pub loop-line-init : goal.loop-line-init
 loop-line-init g c = record {
   was_clean = λ clean. clean;
-  counted = omega arith;
+  counted = λ cause. omega arith;
   room = omega (arith, c.in-Ok.ensures.capacity);
   number = c.in-Ok.ensures.len;
   taken = rw (c.in-Ok.ensures.items) refl;
@@ -51,13 +51,13 @@ pub returns-in-Err-Memory-clause-failed : goal.returns-in-Err-Memory-clause-fail
 returns-in-Err-Memory-clause-failed g c = λ clean.
     let inv = c.loop-line.invariant in
     let f = c.in-Err-Memory.ensures in
-    counted_after _ _ _ _ _ inv.counted (subst (λ why. AreCounted g.B.Issued.never_fails (g.B.Issued.failures c.loop-line.books) (g.B.Issued.failures c.answer_line.new.books) (refusal_by why ∷ [])) c.in-Err-Memory.field-0-is (f.failed clean))
+    counted_after _ _ _ _ inv.counted (subst (λ why. AreCounted (g.B.Issued.failures c.loop-line.books) (g.B.Issued.failures c.answer_line.new.books) (refusal_by why ∷ [])) c.in-Err-Memory.field-0-is (f.failed clean))
 
 pub returns-in-Err-Store-clause-failed : goal.returns-in-Err-Store-clause-failed
 returns-in-Err-Store-clause-failed g c = λ clean.
     let inv = c.loop-line.invariant in
     let f = c.in-Err-Store.ensures in
-    counted_after _ _ _ _ _ inv.counted (subst (λ why. AreCounted g.B.Issued.never_fails (g.B.Issued.failures c.loop-line.books) (g.B.Issued.failures c.answer_line.new.books) (refusal_by why ∷ [])) c.in-Err-Store.field-0-is (f.failed clean))
+    counted_after _ _ _ _ inv.counted (subst (λ why. AreCounted (g.B.Issued.failures c.loop-line.books) (g.B.Issued.failures c.answer_line.new.books) (refusal_by why ∷ [])) c.in-Err-Store.field-0-is (f.failed clean))
 
 pub loop-line-preserved : goal.loop-line-preserved
 loop-line-preserved g c =
@@ -74,7 +74,7 @@ loop-line-preserved g c =
     ] in
     record {
       was_clean = λ clean. inv.was_clean (f.was_clean clean);
-      counted = omega (arith, f.counted, inv.counted);
+      counted = λ cause. omega (arith, f.counted cause, inv.counted cause);
       room = omega (arith, c.in-Ok-push.ensures.capacity, inv.room);
       number = omega (arith, c.in-Ok-push.ensures.len, inv.number);
       taken = rw c.in-Ok-push.ensures.items (now ∙ sym (has_taken-push c.loop-line.answers.items c.in-Ok-answer_line.answer));

@@ -1,11 +1,12 @@
 use Rattle.std.proofs.Common.{◌≡◌, ◌≤◌, take, length, vec_len, vec_capacity}
+use Rattle.keycard_rules.specs.Rise.{NoFewer}
 use Rattle.hotel_audit.specs.Import.{Imports, has_taken}
 use Rattle.hotel_audit.proofs.importing.import_lines.Given as goal
 
 abbrev pub invariant-loop-line : goal.invariant-loop-line
 invariant-loop-line g l = record {
   was_clean : g.B.Issued.is_clean l.books → g.B.Issued.is_clean l.fn.books;
-  counted : g.B.Issued.failures l.fn.books ≤ g.B.Issued.failures l.books;
+  counted : NoFewer (g.B.Issued.failures l.fn.books) (g.B.Issued.failures l.books);
   room : length l.lines ≤ vec_capacity l.answers;
   number : vec_len l.answers ≡ l.line-index;
   taken : l.taken ≡ has_taken l.answers.items;

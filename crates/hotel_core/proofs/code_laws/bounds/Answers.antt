@@ -1,4 +1,4 @@
-use Rattle.hotel_core.proofs.NumbersLeft.{cards_fit, stays_fit, codes_fit}
+use Rattle.hotel_core.proofs.Invariants.NumbersLeft.{cards_fit, stays_fit, codes_fit}
 use Rattle.hotel_core.proofs.code_laws.bounds.Goals as goal
 
 pub returns-clause-of_cards : goal.returns-clause-of_cards

@@ -1,4 +1,4 @@
-use Rattle.hotel_core.proofs.LedgerOrder.{ledger_holds, takes_the_first}
+use Rattle.hotel_core.proofs.Invariants.LedgerOrder.{ledger_holds, takes_the_first}
 use Rattle.hotel_core.proofs.code_laws.conservation.Goals as goal
 
 pub returns-clause-ledger_holds : goal.returns-clause-ledger_holds

@@ -1,4 +1,4 @@
-use Rattle.hotel_core.proofs.RoomLinks.{cards_have_links, parties_have_links, newest_are_last}
+use Rattle.hotel_core.proofs.Invariants.RoomLinks.{cards_have_links, parties_have_links, newest_are_last}
 use Rattle.hotel_core.proofs.code_laws.links.Goals as goal
 
 pub returns-clause-of_cards : goal.returns-clause-of_cards

@@ -1,4 +1,4 @@
-use Rattle.hotel_core.proofs.Numbering.{cards_count, stays_count, next_card_free, next_party_free}
+use Rattle.hotel_core.proofs.Invariants.Numbering.{cards_count, stays_count, next_card_free, next_party_free}
 use Rattle.hotel_core.proofs.code_laws.numbers.Goals as goal
 
 pub returns-clause-of_cards : goal.returns-clause-of_cards

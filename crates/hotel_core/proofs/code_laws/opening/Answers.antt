@@ -1,4 +1,4 @@
-use Rattle.hotel_core.proofs.OpenLocks.{opens_own_room, newest_opens}
+use Rattle.hotel_core.proofs.Invariants.OpenLocks.{opens_own_room, newest_opens}
 use Rattle.hotel_core.proofs.code_laws.opening.Goals as goal
 
 pub returns-clause-opens_own_room : goal.returns-clause-opens_own_room

@@ -1,4 +1,4 @@
-use Rattle.hotel_core.proofs.CardParties.{parties_have_cards, cards_one_party, guests_have_cards}
+use Rattle.hotel_core.proofs.Invariants.CardParties.{parties_have_cards, cards_one_party, guests_have_cards}
 use Rattle.hotel_core.proofs.code_laws.owners.Goals as goal
 
 pub returns-clause-of_links : goal.returns-clause-of_links

@@ -1,4 +1,4 @@
-use Rattle.hotel_core.proofs.CodePlaces.{codes_have_places, places_have_codes, no_code_twice}
+use Rattle.hotel_core.proofs.Invariants.CodePlaces.{codes_have_places, places_have_codes, no_code_twice}
 use Rattle.hotel_core.proofs.code_laws.places.Goals as goal
 
 pub returns-clause-of_codes : goal.returns-clause-of_codes

@@ -1,4 +1,4 @@
-use Rattle.hotel_core.proofs.RoomCodes.{rooms_have_codes, others_have_none}
+use Rattle.hotel_core.proofs.Invariants.RoomCodes.{rooms_have_codes, others_have_none}
 use Rattle.hotel_core.proofs.code_laws.rooms_and_codes.Goals as goal
 
 pub returns-clause-there : goal.returns-clause-there

@@ -1,4 +1,4 @@
-use Rattle.hotel_core.proofs.SecuredRooms.{secured_rooms_fit, safe_room}
+use Rattle.hotel_core.proofs.Invariants.SecuredRooms.{secured_rooms_fit, safe_room}
 use Rattle.hotel_core.proofs.code_laws.safety.Goals as goal
 
 pub returns-clause-secured : goal.returns-clause-secured

@@ -1,4 +1,4 @@
-use Rattle.hotel_core.proofs.Following.{answers_follow}
+use Rattle.hotel_core.proofs.Invariants.Following.{answers_follow}
 use Rattle.hotel_core.proofs.laws.answers_follow.Goals as goal
 
 pub returns : goal.returns

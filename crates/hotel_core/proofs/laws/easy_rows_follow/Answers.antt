@@ -1,5 +1,5 @@
 use Rattle.std.proofs.Common.{refl}
-use Rattle.hotel_core.proofs.RowsEasy.{next_day_follows, spare_follows}
+use Rattle.hotel_core.proofs.RowsAfter.RowsEasy.{next_day_follows, spare_follows}
 use Rattle.hotel_core.proofs.laws.easy_rows_follow.Goals as goal
 
 pub returns : goal.returns

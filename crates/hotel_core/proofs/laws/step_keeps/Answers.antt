@@ -1,4 +1,4 @@
-use Rattle.hotel_core.proofs.EventRanges.{step_keeps}
+use Rattle.hotel_core.proofs.Invariants.EventRanges.{step_keeps}
 use Rattle.hotel_core.proofs.laws.step_keeps.Goals as goal
 
 pub returns : goal.returns

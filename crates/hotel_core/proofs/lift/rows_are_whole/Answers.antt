@@ -1,4 +1,4 @@
-use Rattle.hotel_core.proofs.Whole.{rows_are_whole}
+use Rattle.hotel_core.proofs.Lifted.Whole.{rows_are_whole}
 use Rattle.hotel_core.proofs.lift.rows_are_whole.Goals as goal
 
 pub returns : goal.returns

@@ -1,4 +1,4 @@
-use Rattle.hotel_core.proofs.Runs.{runs_join, runs_begin, runs_go_on, runs_part, runs_reach}
+use Rattle.hotel_core.proofs.Lifted.Runs.{runs_join, runs_begin, runs_go_on, runs_part, runs_reach}
 use Rattle.hotel_core.proofs.lift.runs_join.Goals as goal
 
 pub returns-clause-join : goal.returns-clause-join

@@ -1,4 +1,4 @@
-use Rattle.hotel_core.proofs.Runs.{steps_lift}
+use Rattle.hotel_core.proofs.Lifted.Runs.{steps_lift}
 use Rattle.hotel_core.proofs.lift.steps_lift.Goals as goal
 
 pub returns : goal.returns

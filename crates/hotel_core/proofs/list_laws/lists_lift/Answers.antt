@@ -1,4 +1,4 @@
-use Rattle.hotel_core.proofs.ListRows.{lists_lift}
+use Rattle.hotel_core.proofs.Lifted.ListRows.{lists_lift}
 use Rattle.hotel_core.proofs.list_laws.lists_lift.Goals as goal
 
 pub returns : goal.returns

@@ -1,4 +1,4 @@
-use Rattle.hotel_core.proofs.KindCounts.{rooms_counted, first_full_on}
+use Rattle.hotel_core.proofs.Invariants.KindCounts.{rooms_counted, first_full_on}
 use Rattle.hotel_core.proofs.row_laws.rows_counted.Goals as goal
 
 pub returns-clause-rooms_counted : goal.returns-clause-rooms_counted

@@ -1,5 +1,5 @@
-use Rattle.hotel_core.proofs.RowsFollow.{made_follow}
-use Rattle.hotel_core.proofs.HasRows.{changes_have_rows}
+use Rattle.hotel_core.proofs.RowsAfter.RowsFollow.{made_follow}
+use Rattle.hotel_core.proofs.RowsAfter.HasRows.{changes_have_rows}
 use Rattle.hotel_core.proofs.row_laws.rows_follow.Goals as goal
 
 pub returns-clause-made : goal.returns-clause-made

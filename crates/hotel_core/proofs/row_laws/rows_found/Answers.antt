@@ -1,5 +1,5 @@
-use Rattle.hotel_core.proofs.RoomNumbers.{rooms_once, room_found}
-use Rattle.hotel_core.proofs.NotesKept.{note_found}
+use Rattle.hotel_core.proofs.OfTables.RoomNumbers.{rooms_once, room_found}
+use Rattle.hotel_core.proofs.OfTables.NotesKept.{note_found}
 use Rattle.hotel_core.proofs.row_laws.rows_found.Goals as goal
 
 pub returns-clause-rooms_once : goal.returns-clause-rooms_once

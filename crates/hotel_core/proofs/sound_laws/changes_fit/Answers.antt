@@ -1,4 +1,4 @@
-use Rattle.hotel_core.proofs.AllSound.{rows_follow}
+use Rattle.hotel_core.proofs.SoundRows.AllSound.{rows_follow}
 use Rattle.hotel_core.proofs.sound_laws.changes_fit.Goals as goal
 
 pub returns : goal.returns

@@ -1,4 +1,4 @@
-use Rattle.hotel_core.proofs.AllSound.{headline}
+use Rattle.hotel_core.proofs.SoundRows.AllSound.{headline}
 use Rattle.hotel_core.proofs.sound_laws.headline.Goals as goal
 
 pub returns : goal.returns

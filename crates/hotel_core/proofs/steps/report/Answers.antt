@@ -1,12 +1,31 @@
 use Rattle.hotel_core.specs.declared.command.Command.TheVariants as command
-use Rattle.hotel_core.proofs.Runs.{steps_lift}
-use Rattle.hotel_core.proofs.Assurance.{assured_too}
-use Rattle.hotel_core.proofs.FailuresCounted.{steps_over}
+use Rattle.hotel_core.proofs.Lifted.Runs.{steps_lift}
+use Rattle.hotel_core.proofs.Invariants.Assurance.{assured_too}
+use Rattle.hotel_core.proofs.OfCode.FailuresCounted.{step_counted, failed_same}
+use Rattle.std.proofs.Common.{[]}
+use Rattle.rand_core.specs.Stream.{Stream}
+use Rattle.hotel_core.proofs.OfCode.NoteReplies.{note_reply}
 use Rattle.hotel_core.proofs.steps.report.Goals as goal
 
 pub returns-clause-step : goal.returns-clause-step
-returns-clause-step g c = λ h stands clean source.
+returns-clause-step g c = λ clean source h stands.
     assured_too _ _ _ _ _ _ (steps_lift h (g.B.Books.rows c.args.books.now) source (command.Reported c.args.note.now) c.reply_of-reply.result (g.B.Books.rows c.take_note-taken.new.books) source stands c.known_note.ensures c.known_reply.ensures (rw c.reply_of-reply.ensures ((c.take_note-taken.ensures source).goes clean)))
 
-pub returns-clause-rows : goal.returns-clause-rows
-returns-clause-rows g c = λ source. rw c.reply_of-reply.ensures (steps_over c.known_sound.ensures (c.take_note-taken.ensures source))
+-- any source will do
+silent : Stream
+silent = record { u32_after = λ calls. 0; u64_after = λ calls. 0; bytes_after = λ calls n. [] }
+
+pub returns-clause-failed : goal.returns-clause-failed
+returns-clause-failed g c = λ clean. rw c.reply_of-reply.ensures (step_counted c.known_sound.ensures (c.take_note-taken.ensures silent) clean)
+
+pub returns-clause-note : goal.returns-clause-note
+returns-clause-note g c = λ clean. rw c.reply_of-reply.ensures (note_reply _ _ _ _ _ _ _ ((c.take_note-taken.ensures silent).goes clean))
+
+pub returns-clause-unchanged : goal.returns-clause-unchanged
+returns-clause-unchanged g c = λ clean failed. failed_same _ _ _ _ _ _ (rw c.reply_of-reply.ensures at failed) ((c.take_note-taken.ensures silent).goes clean)
+
+pub returns-clause-was_clean : goal.returns-clause-was_clean
+returns-clause-was_clean g c = (c.take_note-taken.ensures silent).was_clean
+
+pub returns-clause-counted : goal.returns-clause-counted
+returns-clause-counted g c = (c.take_note-taken.ensures silent).counted

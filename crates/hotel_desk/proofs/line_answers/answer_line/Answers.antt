@@ -1,5 +1,5 @@
 use Rattle.std.proofs.Common.{◌∙◌, Ok, Err, ap, subst, arith}
-use Rattle.hotel_core.proofs.FailuresCounted.{none_counted}
+use Rattle.hotel_core.proofs.OfCode.FailuresCounted.{none_counted}
 use Rattle.hotel_desk.specs.declared.asks.Ask.{Ask}
 use Rattle.hotel_desk.specs.declared.asks.LineFault.{LineFault}
 use Rattle.hotel_desk.specs.Asks.{ask_in, ask_copies, IsLineRead}
@@ -17,13 +17,13 @@ pub returns-in-Err-Unread-clause-ok : goal.returns-in-Err-Unread-clause-ok
 returns-in-Err-Unread-clause-ok g c = λ clean.
     let read = c.in-Err-Unread.is ∙ ap (λ (f : LineFault). Err f) c.in-Err-Unread.field-0-is in
     let wanted = subst (IsLineRead ask_copies (ask_in c.args.line.now)) read c.read_line.ensures in
-    when_ok _ _ _ (unread_answered (ask_in c.args.line.now) _ _ _ _ wanted (none_counted _ _ _ (omega arith))) c.write_answer.ensures.ok
+    when_ok _ _ _ (unread_answered (ask_in c.args.line.now) _ _ _ _ wanted (none_counted _ _ (omega arith))) c.write_answer.ensures.ok
 
 pub returns-in-Err-Memory-clause-ok : goal.returns-in-Err-Memory-clause-ok
 returns-in-Err-Memory-clause-ok g c = λ clean.
     let read = c.in-Err-Memory.is ∙ ap (λ (f : LineFault). Err f) c.in-Err-Memory.field-0-is in
     let some = subst (IsLineRead ask_copies (ask_in c.args.line.now)) read c.read_line.ensures in
-    when_ok _ _ _ (memory_answered (ask_in c.args.line.now) _ _ _ _ some (none_counted _ _ _ (omega arith))) c.write_answer-in-Err-Memory.ensures.ok
+    when_ok _ _ _ (memory_answered (ask_in c.args.line.now) _ _ _ _ some (none_counted _ _ (omega arith))) c.write_answer-in-Err-Memory.ensures.ok
 
 pub returns-in-Ok-List-clause-err : goal.returns-in-Ok-List-clause-err
 returns-in-Ok-List-clause-err g c = λ clean.
@@ -36,10 +36,10 @@ pub returns-in-Err-Unread-clause-err : goal.returns-in-Err-Unread-clause-err
 returns-in-Err-Unread-clause-err g c = λ clean.
     let read = c.in-Err-Unread.is ∙ ap (λ (f : LineFault). Err f) c.in-Err-Unread.field-0-is in
     let wanted = subst (IsLineRead ask_copies (ask_in c.args.line.now)) read c.read_line.ensures in
-    when_err _ _ _ (unread_answered (ask_in c.args.line.now) _ _ _ _ wanted (none_counted _ _ _ (omega arith))) c.write_answer.ensures.err
+    when_err _ _ _ (unread_answered (ask_in c.args.line.now) _ _ _ _ wanted (none_counted _ _ (omega arith))) c.write_answer.ensures.err
 
 pub returns-in-Err-Memory-clause-err : goal.returns-in-Err-Memory-clause-err
 returns-in-Err-Memory-clause-err g c = λ clean.
     let read = c.in-Err-Memory.is ∙ ap (λ (f : LineFault). Err f) c.in-Err-Memory.field-0-is in
     let some = subst (IsLineRead ask_copies (ask_in c.args.line.now)) read c.read_line.ensures in
-    when_err _ _ _ (memory_answered (ask_in c.args.line.now) _ _ _ _ some (none_counted _ _ _ (omega arith))) c.write_answer-in-Err-Memory.ensures.err
+    when_err _ _ _ (memory_answered (ask_in c.args.line.now) _ _ _ _ some (none_counted _ _ (omega arith))) c.write_answer-in-Err-Memory.ensures.err

@@ -2,7 +2,7 @@ use Rattle.std.proofs.Common.{◌≡◌, ◌∙◌, [], arith, false, refl, subs
 use Rattle.std.specs.Prelude.{OnOk, OnErr}
 use Rattle.std.specs.Io.KnownBytes.{Appends}
 use Rattle.std.proofs.KnownBytes.{Appends-trans}
-use Rattle.hotel_core.specs.Failures.{AreCounted}
+use Rattle.hotel_core.specs.Books.Failures.{AreCounted}
 use Rattle.hotel_desk.specs.Lines.{answered_lines, is_silent}
 use Rattle.hotel_desk.specs.Script.{RowsGo}
 use Rattle.hotel_desk.proofs.ScriptLemmas.{goes_safely, rows_begin, rows_more, next_line, all_done, answered_more, appends_front}
@@ -20,8 +20,8 @@ loop-line-init g c = record {
   within = omega arith;
   left = refl;
   clean = λ clean. clean;
-  went = λ clean. rows_begin (g.B.Books.rows c.args.books.now) (g.R.Rng.stream c.args.source.now) (g.W.Write.contents c.args.writer.now) _ _;
-  counted = omega arith;
+  went = λ clean. rows_begin (g.B.Books.rows c.args.books.now) (g.R.Rng.stream c.args.source.now) (g.W.Write.contents c.args.writer.now) _;
+  counted = λ cause. omega arith;
 }
 
 pub loop-line-preserved-in-Ok-1 : goal.loop-line-preserved-in-Ok-1
@@ -37,10 +37,10 @@ loop-line-preserved-in-Ok-1 g c =
       within = next.0;
       left = next.1;
       clean = λ clean. c.loop-line.invariant.clean (answered.was_clean clean);
-      went = λ clean. rows_more _ _ _ _ _ _ all c.loop-line.done line _ _ _ _ _ _ _ _
+      went = λ clean. rows_more _ _ _ _ _ _ all c.loop-line.done line _ _ _ _ _ _ _
           (c.loop-line.invariant.went (answered.was_clean clean)) left (got_ok c.in-Ok.is (answered.ok clean))
           (λ output text written more. Appends-trans _ _ _ output text written more) answered.counted;
-      counted = omega (arith, c.loop-line.invariant.counted, answered.counted);
+      counted = λ cause. omega (arith, c.loop-line.invariant.counted cause, answered.counted cause);
     }
 
 pub returns-in_default-answered-clause-cut : goal.returns-in_default-answered-clause-cut
@@ -51,7 +51,7 @@ returns-in_default-answered-clause-cut g c = λ clean.
     let left = c.loop-line.invariant.left ∙ answered_more c.loop-line.rest.now c.in-Some.later.now c.in-Some.line.now line c.in-Some.ensures.some c.without_return-line.ensures silent in
     let answered = c.answer_line-answered.ensures in
     goes_safely _ _ _ _ _ _ _
-    (rows_more _ _ _ _ _ _ all c.loop-line.done line _ _ _ _ _ _ _ _
+    (rows_more _ _ _ _ _ _ all c.loop-line.done line _ _ _ _ _ _ _
     (c.loop-line.invariant.went (answered.was_clean clean)) left (got_err c.in_default-answered.is (answered.err clean))
     (λ output text written more. appends_front _ _ _ output text more written) answered.counted)
 
@@ -66,5 +66,5 @@ returns-clause-ok g c = λ clean.
     let whole = (all_done (answered_lines c.args.script.now) c.loop-line.done c.loop-line.invariant.within (c.loop-line.invariant.left ∙ none)).1 in
     goes_safely _ _ _ _ _ _ _ (subst (λ (ls : List (List ℕ)). RowsGo (g.B.Books.rows c.args.books.now) (g.R.Rng.stream c.args.source.now) ls
     (Appends (g.W.Write.contents c.args.writer.now) (g.W.Write.contents c.loop-line.writer))
-    (AreCounted g.B.Issued.never_fails (g.B.Issued.failures c.args.books.now) (g.B.Issued.failures c.loop-line.books)) (g.B.Books.rows c.loop-line.books) (g.R.Rng.stream c.loop-line.source))
+    (AreCounted (g.B.Issued.failures c.args.books.now) (g.B.Issued.failures c.loop-line.books)) (g.B.Books.rows c.loop-line.books) (g.R.Rng.stream c.loop-line.source))
     whole (c.loop-line.invariant.went clean))

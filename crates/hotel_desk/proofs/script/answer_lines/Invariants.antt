@@ -1,7 +1,8 @@
 -- the lines that are done went, and the others are left
 use Rattle.std.proofs.Common.{◌≡◌, ◌+◌, ◌≤◌, length, take, drop}
 use Rattle.std.specs.Io.KnownBytes.{Appends}
-use Rattle.hotel_core.specs.Failures.{AreCounted}
+use Rattle.keycard_rules.specs.Rise.{NoFewer}
+use Rattle.hotel_core.specs.Books.Failures.{AreCounted}
 use Rattle.hotel_desk.specs.Lines.{answered_lines}
 use Rattle.hotel_desk.specs.Script.{RowsGo}
 use Rattle.hotel_desk.proofs.script.answer_lines.Given as goal
@@ -14,8 +15,8 @@ invariant-loop-line g l = record {
   clean : g.B.Issued.is_clean l.books → g.B.Issued.is_clean l.initial.books;
   went : g.B.Issued.is_clean l.books → RowsGo (g.B.Books.rows l.initial.books) (g.R.Rng.stream l.initial.source) (take l.done (answered_lines l.script))
       (Appends (g.W.Write.contents l.initial.writer) (g.W.Write.contents l.writer))
-      (AreCounted g.B.Issued.never_fails (g.B.Issued.failures l.initial.books) (g.B.Issued.failures l.books)) (g.B.Books.rows l.books) (g.R.Rng.stream l.source);
-  counted : g.B.Issued.failures l.initial.books ≤ g.B.Issued.failures l.books;
+      (AreCounted (g.B.Issued.failures l.initial.books) (g.B.Issued.failures l.books)) (g.B.Books.rows l.books) (g.R.Rng.stream l.source);
+  counted : NoFewer (g.B.Issued.failures l.initial.books) (g.B.Issued.failures l.books);
 }
 
 abbrev pub decreases-loop-line : goal.decreases-loop-line

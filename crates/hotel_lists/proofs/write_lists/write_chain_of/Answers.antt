@@ -1,6 +1,6 @@
 use Rattle.std.proofs.Common.{Err, rules, ap, sym, ◌∙◌}
-use Rattle.hotel_core.specs.Lookups.{room_at}
-use Rattle.hotel_core.specs.ListsOnRows.{chain_on}
+use Rattle.hotel_core.specs.Books.Lookups.{room_at}
+use Rattle.hotel_core.specs.Refinement.ListsOnRows.{chain_on}
 use Rattle.hotel_lists.specs.Lines.{ListsRoom, chain_header, chain_line}
 use Rattle.hotel_lists.specs.declared.lines.Lines.{Lines}
 use Rattle.hotel_lists.specs.declared.fault.ListFault.TheVariants.{Write}

@@ -1,5 +1,5 @@
 use Rattle.std.proofs.Common.{Err, rules, sym, ◌∙◌}
-use Rattle.hotel_core.specs.ListsOnRows.{in_house_on}
+use Rattle.hotel_core.specs.Refinement.ListsOnRows.{in_house_on}
 use Rattle.hotel_lists.specs.Lines.{Lists, in_house_header, house_line}
 use Rattle.hotel_lists.specs.declared.lines.Lines.{Lines}
 use Rattle.hotel_lists.specs.declared.fault.ListFault.TheVariants.{Write}

@@ -1,5 +1,5 @@
 use Rattle.std.proofs.Common.{Err, rules, sym, ◌∙◌}
-use Rattle.hotel_core.specs.ListsOnRows.{left_behind_on}
+use Rattle.hotel_core.specs.Refinement.ListsOnRows.{left_behind_on}
 use Rattle.hotel_lists.specs.Lines.{Lists, left_behind_header, behind_line}
 use Rattle.hotel_lists.specs.declared.lines.Lines.{Lines}
 use Rattle.hotel_lists.specs.declared.fault.ListFault.TheVariants.{Write}

@@ -6,7 +6,7 @@ use Rattle.keycard_rules.proofs.draw.draw_fresh.Goals as goal
 pub loop-init : goal.loop-init
 loop-init g c = record {
   moved = sym (past-zero _);
-  counted = omega arith;
+  counted = λ why. omega arith;
   was_clean = λ h. h;
   kept = λ h. g.met.I.Issued.kept_refl _;
   so_far = λ h. so_far_none _ _;
@@ -33,7 +33,7 @@ returns-in-Err-Store-clause-drawn g c = λ clean.
 pub loop-preserved : goal.loop-preserved
 loop-preserved g c = record {
   moved = past-next _ _ _ _ _ c.loop.invariant.moved c.next_u64.ensures;
-  counted = omega arith;
+  counted = λ why. omega (arith, c.loop.invariant.counted why, c.is_issued.ensures.counted why);
   was_clean = λ clean. c.loop.invariant.was_clean (c.is_issued.ensures.was_clean clean);
   kept = λ clean.
       g.met.I.Issued.kept_trans _ _ _ (c.loop.invariant.kept (c.is_issued.ensures.was_clean clean)) (c.is_issued.ensures.kept clean);

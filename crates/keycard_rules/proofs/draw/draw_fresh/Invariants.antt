@@ -1,4 +1,5 @@
-use Rattle.std.proofs.Common.{◌≡◌, ◌≤◌}
+use Rattle.std.proofs.Common.{◌≡◌}
+use Rattle.keycard_rules.specs.Rise.{NoFewer}
 use Rattle.keycard_rules.specs.Draw.{past}
 use Rattle.keycard_rules.proofs.Drawing.{SoFar}
 use Rattle.keycard_rules.proofs.draw.draw_fresh.Given as goal
@@ -11,7 +12,7 @@ invariant-loop g l =
     let failures = g.I.Issued.failures in
     record {
       moved : stream l.source ≡ past l.counter (stream l.fn.source);
-      counted : failures l.fn.issued ≤ failures l.issued;
+      counted : NoFewer (failures l.fn.issued) (failures l.issued);
       was_clean : is_clean l.issued → is_clean l.fn.issued;
       kept : is_clean l.issued → g.I.Issued.is_kept l.fn.issued l.issued;
       so_far : is_clean l.issued → SoFar (issued l.fn.issued) (stream l.fn.source) l.counter (stream l.source);

@@ -1,0 +1,25 @@
+-- What is assured of each history that books stand for.
+use Rattle.std.proofs.Common.{List}
+use Rattle.rand_core.specs.Stream.{Stream}
+use Rattle.hotel_core.specs.declared.command.Command.{Command}
+use Rattle.hotel_core.specs.declared.reply.Reply.{Reply}
+use Rattle.hotel_core.specs.Model.Rows.{Rows}
+use Rattle.hotel_core.specs.Model.History.{History}
+use Rattle.hotel_core.specs.Model.Run.{Reached, StandsFor, Steps}
+use Rattle.hotel_core.specs.Refinement.Lift.{RunsTo, RunsSafely}
+use Rattle.hotel_core.specs.Model.Headline.{Assured}
+use Rattle.hotel_core.proofs.SoundRows.AllSound.{headline}
+use Rattle.hotel_core.proofs.Invariants.NotesMoved.{notes_move}
+use Rattle.hotel_core.proofs.Invariants.RoomsLeft.{none_oversold}
+
+pub assured : (h : History) → Reached h → Assured h
+assured h ok = record { headline = headline h ok; notes_move = notes_move h ok; none_oversold = none_oversold h ok }
+
+-- after a step
+pub assured_too : (h : History) (s s' : Stream) (command : Command) (reply : Reply) (rows : Rows)
+    → ((h' : History) × StandsFor h' rows × Steps h s command reply h' s') → (h' : History) × StandsFor h' rows × Steps h s command reply h' s' × Assured h'
+assured_too h s s' command reply rows r = (r.0, r.1, r.2, assured r.0 r.1.0)
+
+-- after a run
+pub runs_safely : (h : History) (s s' : Stream) (commands : List Command) (replies : List Reply) (rows : Rows) → RunsTo h s commands replies rows s' → RunsSafely h s commands replies rows s'
+runs_safely h s s' commands replies rows r = (r.0, r.1, r.2, assured r.0 r.1.0)

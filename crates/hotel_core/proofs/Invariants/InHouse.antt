@@ -1,0 +1,80 @@
+-- A party is registered at a room exactly where it is in house there.
+use Rattle.std.proofs.Common.{ℕ, ◌≡◌, Bool, true, false, cond, Option, Some, None, refl, ap, sym, ◌∙◌, subst}
+use Rattle.std.specs.Prelude.{◌==◌, is_some}
+use Rattle.hotel_nights.specs.declared.stay.StayState.TheVariants as state
+use Rattle.hotel_core.specs.Model.Words.{when}
+use Rattle.hotel_core.specs.Model.Rows.{at_number}
+use Rattle.hotel_core.specs.Model.Event.{Reserved, Cancelled, CheckIn, Transfer, CheckOut}
+use Rattle.hotel_core.specs.Model.History.{History, start, ◌▷◌}
+use Rattle.hotel_core.specs.Model.Guests.{registered, leaves}
+use Rattle.hotel_core.specs.Model.Stays.{stays}
+use Rattle.hotel_core.specs.Model.Cases.{room_of, is_party, is_booked}
+use Rattle.hotel_core.specs.Model.Run.{Reached}
+use Rattle.hotel_core.proofs.OfTables.Numbered.{is_there}
+use Rattle.hotel_core.proofs.Invariants.Numbering.{next_party_free}
+use Rattle.hotel_core.proofs.OfTables.StayStates.{home_of, home_changed, home_added, booked_has_no_home}
+use Rattle.hotel_core.proofs.Invariants.Homes.{Match, match_left, match_came, match_same, not_leaving}
+use Rattle.hotel_core.proofs.OfTables.Tests.{eq_from}
+use Rattle.hotel_core.proofs.OfTables.Grown.{may_follow}
+use Rattle.hotel_core.proofs.Starts.StartGuests.{homes_match_at_start}
+
+pub none_is : (o : Option ℕ) → is_some o ≡ false → o ≡ None
+none_is (Some x) h = cc
+none_is None h = refl
+
+not_some : {p : ℕ} {o : Option ℕ} → o ≡ None → o ≡ Some p → ⊥
+not_some n s = cc
+
+none_either : (b : Bool) (o : Option ℕ) → (b ≡ true → o ≡ None) → cond b None o ≡ o
+none_either true o f = sym (f refl)
+none_either false o f = refl
+
+-- a party that is there has a stay
+pub has_stay : (h : History) (party : ℕ) → is_party h party ≡ true → is_some (at_number (stays h) party) ≡ true
+has_stay h party t = is_there (stays h) party ∙ t
+
+-- a booked party is in no room
+pub booked_nowhere : (h : History) (party : ℕ) → is_booked h party ≡ true → room_of h party ≡ None
+booked_nowhere h party b = booked_has_no_home (at_number (stays h) party) b
+
+-- who is registered at each room, and in which room each party is
+abbrev pub HomesMatch : History → Type 0
+HomesMatch h = Match (registered h) (room_of h)
+
+check_in_matches : (h : History) (party room number code : ℕ) → Reached (h ▷ CheckIn party room number code) → HomesMatch h → HomesMatch (h ▷ CheckIn party room number code)
+check_in_matches h party room number code ok m =
+    let n = may_follow h (CheckIn party room number code) ok in
+    let nowhere : room_of h party ≡ None = booked_nowhere h party n.2 in
+    match_same (λ r. when (room == r) (λ _. Some party) (leaves party (registered h r))) (registered (h ▷ CheckIn party room number code)) _ _
+    (match_came party room (registered h) (room_of h) (room_of (h ▷ CheckIn party room number code)) m (none_is (registered h room) n.4)
+    (λ p. home_changed party (state.InHouse room) (stays h) p (has_stay h party n.1)))
+    (λ r. ap (when (room == r) (λ _. Some party)) (sym (not_leaving party (registered h r) (λ s. not_some nowhere (m.forth r party s)))))
+    (λ p. refl)
+
+-- A party is registered at a room exactly where it is in house there.
+pub homes_match : (h : History) → Reached h → HomesMatch h
+homes_match (start t) ok = homes_match_at_start t ok
+homes_match (h ▷ Reserved party guest kind arrive depart) ok =
+    let free : at_number (stays h) party ≡ None = subst (λ z. at_number (stays h) z ≡ None) (sym (may_follow h (Reserved party guest kind arrive depart) ok).1) (next_party_free h ok.0) in
+    match_same (registered h) (registered h) (room_of h) (room_of (h ▷ Reserved party guest kind arrive depart)) (homes_match h ok.0) (λ r. refl)
+    (λ p. home_added party (record { party = party; guest = guest; kind = kind; arrive = arrive; depart = depart; state = state.Booked }) (stays h) p
+    ∙ none_either (party == p) (room_of h p) (λ t. ap home_of (ap (at_number (stays h)) (sym (eq_from party p t)) ∙ free)))
+homes_match (h ▷ Cancelled party) ok =
+    let n = may_follow h (Cancelled party) ok in
+    match_same (registered h) (registered h) (room_of h) (room_of (h ▷ Cancelled party)) (homes_match h ok.0) (λ r. refl)
+    (λ p. home_changed party state.Cancelled (stays h) p (has_stay h party n.0)
+    ∙ none_either (party == p) (room_of h p) (λ t. ap (room_of h) (sym (eq_from party p t)) ∙ booked_nowhere h party n.1))
+homes_match (h ▷ CheckIn party room number code) ok = check_in_matches h party room number code ok (homes_match h ok.0)
+homes_match (h ▷ Transfer party room number code) ok =
+    let n = may_follow h (Transfer party room number code) ok in
+    match_came party room (registered h) (room_of h) (room_of (h ▷ Transfer party room number code)) (homes_match h ok.0) (none_is (registered h room) n.4)
+    (λ p. home_changed party (state.InHouse room) (stays h) p (has_stay h party n.1))
+homes_match (h ▷ CheckOut party) ok =
+    let n = may_follow h (CheckOut party) ok in
+    match_left party (registered h) (room_of h) (room_of (h ▷ CheckOut party)) (homes_match h ok.0)
+    (λ p. home_changed party state.Done (stays h) p (has_stay h party n.0))
+homes_match (h ▷ _) ok = homes_match h ok.0
+
+-- in two directions
+pub registered_in_house : (h : History) → Reached h → (r p : ℕ) → (registered h r ≡ Some p → room_of h p ≡ Some r) × (room_of h p ≡ Some r → registered h r ≡ Some p)
+registered_in_house h ok r p = let m = homes_match h ok in (m.forth r p, m.back r p)

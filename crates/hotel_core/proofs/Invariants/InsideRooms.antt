@@ -1,0 +1,86 @@
+-- Who is inside a room after a card came in or left.
+use Rattle.std.proofs.Common.{ℕ, zero, suc, ◌≡◌, ◌<◌, Bool, true, false, cond, List, [], ◌∷◌, length, ◌⊎◌, inl, inr, refl, ap, ◌∙◌, arith}
+use Rattle.std.specs.Prelude.{◌==◌, ◌||◌, Contains}
+use Rattle.std.specs.List.{slice_index_or}
+use Rattle.std.specs.Ordering.{is_eq, match_ordering}
+use Rattle.std.specs.declared.cmp.Ordering.{Ordering}
+use Rattle.std.specs.declared.cmp.Ordering.TheVariants.{Less, Equal, Greater}
+use Rattle.std.specs.BTreeSet.{insert_key}
+use Rattle.hotel_core.specs.Model.Words.{when, is_one_of, pair_cmp, remove_key}
+use Rattle.hotel_core.specs.Model.Guests.{those_in, are_none}
+use Rattle.hotel_core.proofs.OfTables.Tests.{eq_from, eq_self, or_true, not_both}
+
+pub one_of_when : (b : Bool) (m x : ℕ) (ns : List ℕ) → is_one_of m (when b (λ numbers. x ∷ numbers) ns) ≡ true → ((b ≡ true) × (x ≡ m)) ⊎ (is_one_of m ns ≡ true)
+one_of_when true m x ns e =
+    elim (or_true (x == m) (is_one_of m ns) e) [
+      | inl t ↦ inl (refl, eq_from x m t)
+      | inr t ↦ inr t
+    ]
+one_of_when false m x ns e = inr e
+
+or_one : (a b : Bool) → (a ≡ true) ⊎ (b ≡ true) → (a || b) ≡ true
+or_one true b e = refl
+or_one false b (inl e) = not_both false e refl
+or_one false b (inr e) = e
+
+when_one_of : (b : Bool) (m x : ℕ) (ns : List ℕ) → ((b ≡ true) × (x ≡ m)) ⊎ (is_one_of m ns ≡ true) → is_one_of m (when b (λ numbers. x ∷ numbers) ns) ≡ true
+when_one_of true m x ns (inl p) = or_one (x == m) (is_one_of m ns) (inl (ap (λ z. z == m) p.1 ∙ eq_self m))
+when_one_of true m x ns (inr p) = or_one (x == m) (is_one_of m ns) (inr p)
+when_one_of false m x ns (inl p) = not_both false p.0 refl
+when_one_of false m x ns (inr p) = p
+
+came_by : (o : Ordering) (e : ℕ × ℕ) (es : List (ℕ × ℕ)) (room number r m : ℕ)
+    → (is_one_of m (those_in (insert_key pair_cmp es (room, number)) r) ≡ true → ((room ≡ r) × (number ≡ m)) ⊎ (is_one_of m (those_in es r) ≡ true))
+    → is_one_of m (those_in (match_ordering o ((room, number) ∷ e ∷ es) (e ∷ es) (e ∷ insert_key pair_cmp es (room, number))) r) ≡ true
+    → ((room ≡ r) × (number ≡ m)) ⊎ (is_one_of m (those_in (e ∷ es) r) ≡ true)
+came_by Less e es room number r m ih t =
+    elim (one_of_when (room == r) m number (those_in (e ∷ es) r) t) [
+      | inl p ↦ inl (eq_from room r p.0, p.1)
+      | inr p ↦ inr p
+    ]
+came_by Equal e es room number r m ih t = inr t
+came_by Greater e es room number r m ih t =
+    elim (one_of_when (e.0 == r) m e.1 (those_in (insert_key pair_cmp es (room, number)) r) t) [
+      | inl p ↦ inr (when_one_of (e.0 == r) m e.1 (those_in es r) (inl p))
+      | inr p ↦ elim (ih p) [
+        | inl q ↦ inl q
+        | inr q ↦ inr (when_one_of (e.0 == r) m e.1 (those_in es r) (inr q))
+      ]
+    ]
+
+-- who is inside after a card came in: this card, or who was inside before
+pub came_in : (es : List (ℕ × ℕ)) (room number r m : ℕ) → is_one_of m (those_in (insert_key pair_cmp es (room, number)) r) ≡ true → ((room ≡ r) × (number ≡ m)) ⊎ (is_one_of m (those_in es r) ≡ true)
+came_in [] room number r m t =
+    elim (one_of_when (room == r) m number [] t) [
+      | inl p ↦ inl (eq_from room r p.0, p.1)
+      | inr p ↦ inr p
+    ]
+came_in (e ∷ es) room number r m t = came_by (pair_cmp (room, number) e) e es room number r m (came_in es room number r m) t
+
+left_by : (b : Bool) (e : ℕ × ℕ) (later es : List (ℕ × ℕ)) (r m : ℕ) → (is_one_of m (those_in later r) ≡ true → is_one_of m (those_in es r) ≡ true)
+    → is_one_of m (those_in (cond b es (e ∷ later)) r) ≡ true → is_one_of m (those_in (e ∷ es) r) ≡ true
+left_by true e later es r m ih t = when_one_of (e.0 == r) m e.1 (those_in es r) (inr t)
+left_by false e later es r m ih t =
+    elim (one_of_when (e.0 == r) m e.1 (those_in later r) t) [
+      | inl p ↦ when_one_of (e.0 == r) m e.1 (those_in es r) (inl p)
+      | inr p ↦ when_one_of (e.0 == r) m e.1 (those_in es r) (inr (ih p))
+    ]
+
+-- who is inside after a card left was inside before
+pub left_out : (es : List (ℕ × ℕ)) (k : ℕ × ℕ) (r m : ℕ) → is_one_of m (those_in (remove_key pair_cmp es k) r) ≡ true → is_one_of m (those_in es r) ≡ true
+left_out [] k r m t = t
+left_out (e ∷ es) k r m t = left_by (is_eq (pair_cmp k e)) e (remove_key pair_cmp es k) es r m (left_out es k r m) t
+
+-- in an empty room is nobody
+pub nobody_in : (ns : List ℕ) (m : ℕ) → are_none ns ≡ true → is_one_of m ns ≡ false
+nobody_in [] m e = refl
+nobody_in (n ∷ ns) m e = not_both false e refl
+
+at_place : (n : ℕ) (ns : List ℕ) (m k : ℕ) → (Contains ns m → is_one_of m ns ≡ true) → k < length (n ∷ ns) → slice_index_or (n ∷ ns) k m ≡ m → is_one_of m (n ∷ ns) ≡ true
+at_place n ns m zero ih lt e = or_one (n == m) (is_one_of m ns) (inl (ap (λ z. z == m) e ∙ eq_self m))
+at_place n ns m (suc k) ih lt e = or_one (n == m) (is_one_of m ns) (inr (ih (k, omega arith, e)))
+
+-- an element of a list passes its test
+pub one_of_these : (ns : List ℕ) (m : ℕ) → Contains ns m → is_one_of m ns ≡ true
+one_of_these [] m c = absurd (let lt = c.1 in omega arith)
+one_of_these (n ∷ ns) m c = at_place n ns m c.0 (one_of_these ns m) c.1 c.2

@@ -1,0 +1,189 @@
+-- Who is inside a secured room.
+use Rattle.std.proofs.Common.{ℕ, ◌≡◌, Bool, true, false, Some, List, [], ◌∷◌, ◌++◌, ◌⊎◌, inl, inr, refl, ap, sym, ◌∙◌, subst, append_assoc}
+use Rattle.std.specs.Prelude.{◌==◌, ◌&&◌, ◌||◌, ◌+◌, length}
+use Rattle.std.specs.Ordering.{nat_cmp}
+use Rattle.std.specs.BTreeMap.{insert_entry}
+use Rattle.keycard_rules.specs.declared.card.Card.{Card}
+use Rattle.keycard_rules.specs.declared.card.Link.{Link}
+use Rattle.hotel_core.specs.Model.Words.{when, and_last, is_one_of, after, without, last_of}
+use Rattle.hotel_core.specs.Model.Rows.{at_number}
+use Rattle.hotel_core.specs.Model.Event.{Moment, Install, CheckIn, Transfer, Spare, Entered, Left, Recoded}
+use Rattle.hotel_core.specs.Model.History.{History, start, ◌▷◌}
+use Rattle.hotel_core.specs.Model.Issued.{issued, current}
+use Rattle.hotel_core.specs.Model.Cards.{cards, card_of, link_to, newest_link, link_of_party}
+use Rattle.hotel_core.specs.Model.Lock.{held}
+use Rattle.hotel_core.specs.Model.Ledger.{passed, awaited, turns}
+use Rattle.hotel_core.specs.Model.Guests.{insiders, inside, secured, are_none}
+use Rattle.hotel_core.specs.Model.Stays.{rooms}
+use Rattle.hotel_core.specs.Model.Cases.{is_room}
+use Rattle.hotel_core.specs.Model.Run.{Reached}
+use Rattle.hotel_core.specs.Refinement.Follow.{MayFollow}
+use Rattle.hotel_core.specs.Model.Headline.{SafeRoom}
+use Rattle.hotel_core.specs.Refinement.CodeLaws.{SecuredRoomsFit}
+use Rattle.hotel_core.proofs.OfTables.Tests.{eq_from, eq_self, and_true, either_way, not_both}
+use Rattle.hotel_core.proofs.OfTables.TableKeys.{key_inserted}
+use Rattle.hotel_core.proofs.OfTables.CodeLists.{last_more}
+use Rattle.hotel_core.proofs.OfTables.Grown.{may_follow}
+use Rattle.hotel_core.proofs.Invariants.RoomCodes.{rooms_have_codes}
+use Rattle.hotel_core.proofs.Invariants.CodePlaces.{same_place}
+use Rattle.hotel_core.proofs.Invariants.RoomLinks.{ends_with_current, newest_are_last}
+use Rattle.hotel_core.proofs.Invariants.LedgerOrder.{ledger_holds, link_seen, card_seen}
+use Rattle.hotel_core.proofs.Invariants.OpenLocks.{opened_by, link_of_room}
+use Rattle.hotel_core.proofs.Invariants.CodesFound.{entered_in_order}
+use Rattle.hotel_core.proofs.Invariants.NewestLinks.{newest_is}
+use Rattle.hotel_core.proofs.Invariants.InsideRooms.{came_in, left_out, nobody_in, one_of_these}
+use Rattle.hotel_core.proofs.Invariants.CardParties.{card_kept, card_kept_spare, cards_one_party, guests_have_cards}
+use Rattle.hotel_core.proofs.Starts.StartSecured.{secured_rooms_fit_at_start}
+
+-- a room that is there awaits nothing, and the cards inside have its newest link
+abbrev pub IsFit : History → ℕ → Type 0
+IsFit h r = (is_room h r ≡ true) × (awaited h r ≡ [])
+    × ((number : ℕ) → is_one_of number (inside h r) ≡ true → (card : Card) × (at_number (cards h) number ≡ Some card) × (newest_link h r ≡ Some card.link))
+
+was_secured : (b c : Bool) → when b (λ _. false) c ≡ true → (b ≡ false) × (c ≡ true)
+was_secured true c e = not_both false e refl
+was_secured false c e = (refl, e)
+
+-- a room is secured by an entry, or was so
+pub secured_by : (b c : Bool) → when b (λ _. true) c ≡ true → (b ≡ true) ⊎ (c ≡ true)
+secured_by true c e = inl refl
+secured_by false c e = inr e
+
+or_there : (a b : Bool) → b ≡ true → (a || b) ≡ true
+or_there true b e = refl
+or_there false b e = e
+
+-- the link is that of the room's last two codes, if nothing is awaited
+newest_if_none : (h : History) → Reached h → (room number : ℕ) (link : Link) (count : ℕ) (at : Moment) → MayFollow h (Entered room count number link at) → awaited h room ≡ [] → newest_link h room ≡ Some link
+newest_if_none h ok room number link count at needs none =
+    let same = ledger_holds h ok room needs.1 in
+    let l = link_of_room h ok room link needs.1 (link_seen h number link ok needs.2 needs.3) needs.4 in
+    elim (opened_by (held h room) link needs.4) [
+      | inl q ↦
+          let e : issued h room ≡ passed h room ++ link.new_code ∷ awaited h room = sym same ∙ ap (λ z. passed h room ++ z ∷ awaited h room) q in
+          let f = l.2 ∙ sym (append_assoc l.0 (link.old_code ∷ []) (link.new_code ∷ l.1)) in
+          let p = (same_place h ok room room link.new_code (passed h room) (awaited h room) (l.0 ++ link.old_code ∷ []) l.1 e f).2 in
+          newest_is h ok room l.0 link (l.2 ∙ ap (λ zs. l.0 ++ link.old_code ∷ link.new_code ∷ zs) (sym p ∙ none))
+      | inr q ↦
+          let e : issued h room ≡ passed h room ++ link.old_code ∷ awaited h room = sym same ∙ ap (λ z. passed h room ++ z ∷ awaited h room) q in
+          let p = (same_place h ok room room link.old_code (passed h room) (awaited h room) l.0 (link.new_code ∷ l.1) e l.2).2 in
+          absurd (let w : ◌≡◌ {A = List ℕ} [] (link.new_code ∷ l.1) = sym none ∙ p in cc)
+    ]
+
+-- so it is if its new code is the current one
+newest_if_current : (h : History) → Reached h → (room number : ℕ) (link : Link) (count : ℕ) (at : Moment) → MayFollow h (Entered room count number link at) → link.new_code ≡ current h room → newest_link h room ≡ Some link
+newest_if_current h ok room number link count at needs cur =
+    let l = link_of_room h ok room link needs.1 (link_seen h number link ok needs.2 needs.3) needs.4 in
+    let f = l.2 ∙ sym (append_assoc l.0 (link.old_code ∷ []) (link.new_code ∷ l.1)) in
+    let c = ends_with_current h room (rooms_have_codes h ok room needs.1) in
+    let p = (same_place h ok room room link.new_code (l.0 ++ link.old_code ∷ []) l.1 c.0 [] f (c.1 ∙ ap (λ z. c.0 ++ z ∷ []) (sym cur))).2 in
+    newest_is h ok room l.0 link (l.2 ∙ ap (λ zs. l.0 ++ link.old_code ∷ link.new_code ∷ zs) p)
+
+-- an entry by the newest link leaves nothing awaited
+none_awaited : (h : History) → Reached h → (room count number : ℕ) (link : Link) (at : Moment) → MayFollow h (Entered room count number link at)
+    → (front : List ℕ) → issued h room ≡ front ++ link.new_code ∷ [] → awaited (h ▷ Entered room count number link at) room ≡ []
+none_awaited h ok room count number link at needs front e =
+    let h' : History = h ▷ Entered room count number link at in
+    (same_place h ok room room link.new_code (passed h' room) (awaited h' room) front [] (entered_in_order h ok room count number link at needs) e).2
+
+-- the newest link's new code is the room's last
+ends_with_new : (h : History) → Reached h → (r : ℕ) (link : Link) → newest_link h r ≡ Some link → (front : List ℕ) × (issued h r ≡ front ++ link.new_code ∷ [])
+ends_with_new h ok r link e = let l = newest_are_last h ok r link e in (l.0 ++ link.old_code ∷ [], l.1 ∙ sym (append_assoc l.0 (link.old_code ∷ []) (link.new_code ∷ [])))
+
+-- an entry by the newest link
+fit_entry : (h : History) → Reached h → (room count number : ℕ) (link : Link) (at : Moment) → MayFollow h (Entered room count number link at) → newest_link h room ≡ Some link
+    → ((n : ℕ) → is_one_of n (inside h room) ≡ true → (card : Card) × (at_number (cards h) n ≡ Some card) × (newest_link h room ≡ Some card.link)) → IsFit (h ▷ Entered room count number link at) room
+fit_entry h ok room count number link at needs newest those =
+    let last = ends_with_new h ok room link newest in (
+      needs.1,
+      none_awaited h ok room count number link at needs last.0 last.1,
+      λ n t. elim (came_in (insiders h) room number room n t) [
+        | inl p ↦ let c = card_seen h number link needs.2 needs.3 in (c.0, ap (at_number (cards h)) (sym p.1) ∙ c.1, newest ∙ ap (λ z. Some z) (sym c.2))
+        | inr q ↦ those n q
+      ],
+    )
+
+-- an entry at the room
+fit_here : (h : History) → Reached h → (room count number : ℕ) (link : Link) (at : Moment) → MayFollow h (Entered room count number link at) → (secured h room ≡ true → IsFit h room)
+    → secured (h ▷ Entered room count number link at) room ≡ true → IsFit (h ▷ Entered room count number link at) room
+fit_here h ok room count number link at needs ih e =
+    elim (secured_by ((room == room) && (link.new_code == current h room) && are_none (inside h room)) (secured h room) e) [
+      | inl t ↦
+          let p = and_true (link.new_code == current h room) (are_none (inside h room))
+          (sym (ap (λ b. b && (link.new_code == current h room) && are_none (inside h room)) (eq_self room)) ∙ t) in
+          fit_entry h ok room count number link at needs (newest_if_current h ok room number link count at needs (eq_from link.new_code (current h room) p.0))
+          (λ n q. not_both (is_one_of n (inside h room)) q (nobody_in (inside h room) n p.1))
+      | inr s ↦
+          let fit = ih s in
+          fit_entry h ok room count number link at needs (newest_if_none h ok room number link count at needs fit.1) fit.2
+    ]
+
+-- an entry at another room
+fit_elsewhere : (h : History) (room count number : ℕ) (link : Link) (at : Moment) (r : ℕ) → (room == r) ≡ false → (secured h r ≡ true → IsFit h r)
+    → secured (h ▷ Entered room count number link at) r ≡ true → IsFit (h ▷ Entered room count number link at) r
+fit_elsewhere h room count number link at r f ih e =
+    let fit = ih (sym (ap (λ b. when (b && (link.new_code == current h room) && are_none (inside h room)) (λ _. true) (secured h r)) f) ∙ e) in (
+      fit.0,
+      ap (λ b. when (b && turns h room link) (without link.new_code) (awaited h r)) f ∙ fit.1,
+      λ n t. elim (came_in (insiders h) room number r n t) [
+        | inl p ↦ not_both (room == r) (ap (λ z. z == r) p.0 ∙ eq_self r) f
+        | inr q ↦ fit.2 n q
+      ],
+    )
+
+none_after : (b : Bool) (to : ℕ) (codes : List ℕ) → codes ≡ [] → when b (after to) codes ≡ []
+none_after true to codes e = ap (after to) e
+none_after false to codes e = e
+
+-- a new code at a room
+fit_issue : (b : Bool) (h : History) (party room number code r : ℕ) → Reached h → number ≡ length (cards h) + 1 → when b (λ _. false) (secured h r) ≡ true → (secured h r ≡ true → IsFit h r)
+    → (is_room h r ≡ true) × (when b (and_last code) (awaited h r) ≡ [])
+    × ((n : ℕ) → is_one_of n (inside h r) ≡ true → (card : Card) × (at_number (insert_entry nat_cmp (cards h) number (card_of number party (link_to h room code))) n ≡ Some card)
+    × (when b (λ _. Some (link_to h room code)) (newest_link h r) ≡ Some card.link))
+fit_issue true h party room number code r ok next e ih = not_both false e refl
+fit_issue false h party room number code r ok next e ih =
+    let fit = ih e in
+    (fit.0, fit.1, λ n t. let c = fit.2 n t in (c.0, card_kept h number (card_of number party (link_to h room code)) n c.0 ok next c.1, c.2))
+
+-- A secured room awaits no code, and each card inside has its newest link.
+pub secured_rooms_fit : (h : History) → Reached h → SecuredRoomsFit h
+secured_rooms_fit (start t) ok r e = secured_rooms_fit_at_start t ok r e
+secured_rooms_fit (h ▷ Install room kind code) ok r e =
+    let fit = secured_rooms_fit h ok.0 r (was_secured (room == r) (secured h r) e).1 in
+    (key_inserted (rooms h) room kind r ∙ or_there (room == r) (is_room h r) fit.0, fit.1, fit.2)
+secured_rooms_fit (h ▷ CheckIn party room number code) ok r e =
+    fit_issue (room == r) h party room number code r ok.0 (may_follow h (CheckIn party room number code) ok).5 e (secured_rooms_fit h ok.0 r)
+secured_rooms_fit (h ▷ Transfer party room number code) ok r e =
+    fit_issue (room == r) h party room number code r ok.0 (may_follow h (Transfer party room number code) ok).5 e (secured_rooms_fit h ok.0 r)
+secured_rooms_fit (h ▷ Spare party number) ok r e =
+    let fit = secured_rooms_fit h ok.0 r e in
+    (fit.0, fit.1, λ n t. let c = fit.2 n t in (c.0, card_kept_spare (link_of_party h party) h party number n c.0 ok.0 (may_follow h (Spare party number) ok).2 c.1, c.2))
+secured_rooms_fit (h ▷ Entered room count number link at) ok r e =
+    let needs = may_follow h (Entered room count number link at) ok in
+    let h' : History = h ▷ Entered room count number link at in
+    elim (either_way (room == r)) [
+      | inl t ↦
+          subst (λ z. (secured h z ≡ true → IsFit h z) → secured h' z ≡ true → IsFit h' z) (eq_from room r t) (fit_here h ok.0 room count number link at needs) (secured_rooms_fit h ok.0 r) e
+      | inr f ↦ fit_elsewhere h room count number link at r f (secured_rooms_fit h ok.0 r) e
+    ]
+secured_rooms_fit (h ▷ Left room count number link at) ok r e =
+    let fit = secured_rooms_fit h ok.0 r e in
+    (fit.0, fit.1, λ n t. fit.2 n (left_out (insiders h) (room, number) r n t))
+secured_rooms_fit (h ▷ Recoded room count from to at) ok r e =
+    let fit = secured_rooms_fit h ok.0 r e in
+    (fit.0, none_after (room == r) to (awaited h r) fit.1, fit.2)
+secured_rooms_fit (h ▷ _) ok r e = secured_rooms_fit h ok.0 r e
+
+-- In a secured room with a registered party the lock holds the current code, and each card inside has the newest link and is that party's.
+pub safe_room : (h : History) → Reached h → SafeRoom h
+safe_room h ok r party s g =
+    let fit = secured_rooms_fit h ok r s in
+    let guest = guests_have_cards h ok r party g in (
+      sym (ap last_of (sym (ledger_holds h ok r fit.0) ∙ ap (λ zs. passed h r ++ held h r ∷ zs) fit.1) ∙ last_more (passed h r) (held h r)),
+      λ number c.
+          let k = fit.2 number (one_of_these (inside h r) number c) in
+          let same : Some k.0.link ≡ Some guest.0 = sym k.2 ∙ guest.1 in
+          let link : k.0.link ≡ guest.0 = cc in
+          let new : k.0.link.new_code ≡ guest.2.1.link.new_code = ap (λ (z : Link). z.new_code) (link ∙ sym guest.2.3) in
+          (k.0, k.1, k.2, cards_one_party h ok number guest.2.0 k.0 guest.2.1 k.1 guest.2.2 new ∙ guest.2.4),
+    )

@@ -1,0 +1,13 @@
+pub mod LiftTools
+pub mod LiftFacts
+pub mod LiftFound
+pub mod LiftEasy
+pub mod LiftRooms
+pub mod LiftGuests
+pub mod LiftNotes
+pub mod LiftAll
+pub mod Runs
+pub mod RunParts
+pub mod Whole
+pub mod WholeRows
+pub mod ListRows

@@ -1,0 +1,63 @@
+-- The commands that read no room's row, lifted.
+use Rattle.std.proofs.Common.{ℕ, ◌≡◌, Option, Some, None, List, refl, ap, ◌∙◌, length}
+use Rattle.std.specs.Prelude.{option_map, is_some}
+use Rattle.keycard_rules.specs.Draw.{draw_from}
+use Rattle.hotel_core.specs.declared.command.Command.TheVariants as command
+use Rattle.hotel_core.specs.declared.reply.Reply.TheVariants as reply
+use Rattle.hotel_core.specs.declared.reply.Refusal.TheVariants.{NoParty, RoomExists, KindFull, NumbersUsedUp}
+use Rattle.hotel_core.specs.Model.Rows.{at_number}
+use Rattle.hotel_core.specs.Model.Event as event
+use Rattle.hotel_core.specs.Model.History.{History}
+use Rattle.hotel_core.specs.Model.Issued.{issued_codes}
+use Rattle.hotel_core.specs.Model.Stays.{stays, rooms}
+use Rattle.hotel_core.specs.Model.RowsOf.{room_row, rows_of}
+use Rattle.hotel_core.specs.Model.Cases.{is_room}
+use Rattle.hotel_core.specs.Model.Outcome.{needs, bars}
+use Rattle.hotel_core.specs.Books.Lookups.{room_at}
+use Rattle.hotel_core.specs.Refinement.Lift.{Lifts}
+use Rattle.hotel_core.proofs.Lifted.LiftTools.{lifts_by, draw_lifts}
+use Rattle.hotel_core.proofs.OfTables.Numbered.{is_there}
+use Rattle.hotel_core.proofs.Invariants.KindCounts.{first_full_on}
+use Rattle.hotel_core.proofs.Lifted.LiftRooms.{last_number}
+use Rattle.hotel_core.proofs.OfTables.RoomNumbers.{room_found}
+
+pub begin_lifts : (h : History) (day : ℕ) → Lifts h (command.Begin day)
+begin_lifts h day ahead = lifts_by h ahead (command.Begin day) (refl, λ _. refl)
+
+pub add_kind_lifts : (h : History) (kind : List ℕ) → Lifts h (command.AddKind kind)
+add_kind_lifts h kind ahead = lifts_by h ahead (command.AddKind kind) (refl, λ _. (refl, λ _. refl))
+
+pub next_day_lifts : (h : History) → Lifts h command.NextDay
+next_day_lifts h ahead = lifts_by h ahead command.NextDay (refl, λ _. (refl, λ _. refl))
+
+pub cancel_lifts : (h : History) (party : ℕ) → Lifts h (command.Cancel party)
+cancel_lifts h party ahead = lifts_by h ahead (command.Cancel party) (refl, λ _. (ap (λ b. needs b NoParty) (is_there (stays h) party), λ _. (refl, λ _. refl)))
+
+pub check_out_lifts : (h : History) (party : ℕ) → Lifts h (command.CheckOut party)
+check_out_lifts h party ahead = lifts_by h ahead (command.CheckOut party) (refl, λ _. (ap (λ b. needs b NoParty) (is_there (stays h) party), λ _. (refl, λ _. refl)))
+
+some_mapped : {X Y : Type 0} (f : X → Y) (o : Option X) → is_some (option_map f o) ≡ is_some o
+some_mapped f None = refl
+some_mapped f (Some x) = refl
+
+-- a room is there where a look-up finds it
+pub room_is_there : (h : History) (room : ℕ) → is_some (room_at (rows_of h) room) ≡ is_room h room
+room_is_there h room = ap is_some (room_found h room) ∙ some_mapped (λ kind. room_row h room kind) (at_number (rooms h) room) ∙ is_there (rooms h) room
+
+pub add_room_lifts : (h : History) (room : ℕ) (kind : List ℕ) → Lifts h (command.AddRoom room kind)
+add_room_lifts h room kind ahead =
+    lifts_by h ahead (command.AddRoom room kind) (
+      refl,
+      λ _. (
+        refl,
+        λ _. (
+          ap (λ b. bars b RoomExists) (room_is_there h room),
+          λ _. draw_lifts h (draw_from (issued_codes h) ahead) (λ code. reply.RoomAdded code) (λ code. event.Install room kind code),
+        ),
+      ),
+    )
+
+pub reserve_lifts : (h : History) (guest kind : List ℕ) (arrive nights : ℕ) → Lifts h (command.Reserve guest kind arrive nights)
+reserve_lifts h guest kind arrive nights ahead =
+    lifts_by h ahead (command.Reserve guest kind arrive nights)
+    (refl, λ _. (refl, λ _. (refl, λ _. (refl, λ _. (ap (option_map KindFull) (first_full_on h kind arrive nights), λ _. (ap (λ b. bars b NumbersUsedUp) (last_number (length (stays h))), λ _. refl))))))

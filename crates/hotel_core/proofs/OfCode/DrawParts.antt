@@ -1,0 +1,125 @@
+-- A draw as a part of a step.
+use Rattle.std.proofs.Common.{ℕ, ◌≡◌, ◌≤◌, Bool, true, false, Some, None, Result, Ok, Err, IsErrAnd, List, refl, ap, sym, ◌∙◌, arith, subst, inl, inr, option_map}
+use Rattle.std.specs.Prelude.{IfSome}
+use Rattle.keycard_rules.specs.declared.issued.LookFault.TheVariants as look
+use Rattle.std.proofs.lemmas.Bool.{false≢true}
+use Rattle.keycard_rules.specs.declared.issued.LookFault.{LookFault}
+use Rattle.rand_core.specs.Stream.{Stream}
+use Rattle.keycard_rules.specs.Rise.{HasRisen, NoFewer}
+use Rattle.keycard_rules.specs.Draw.{Draw, Draws, fault_in, draw_from, drawn, words, past}
+use Rattle.keycard_rules.specs.declared.draw.DrawFault.{DrawFault}
+use Rattle.keycard_rules.specs.declared.draw.DrawFault.TheVariants as fault
+use Rattle.hotel_core.specs.declared.books.change.Change.{Change}
+use Rattle.hotel_core.specs.declared.reply.Reply.{Reply}
+use Rattle.hotel_core.specs.declared.reply.Reply.TheVariants.{Refused}
+use Rattle.hotel_core.specs.declared.reply.Refusal.{Refusal}
+use Rattle.hotel_core.specs.declared.reply.Refusal.TheVariants.{NoFreshCode}
+use Rattle.hotel_core.specs.Model.Words.{said_of}
+use Rattle.hotel_core.specs.Model.Rows.{Rows}
+use Rattle.hotel_core.specs.Books.Lookups.{codes_in}
+use Rattle.hotel_core.specs.Model.Run.{is_failed}
+use Rattle.hotel_core.specs.Model.Outcome.{Outcome, accepted, by_draw}
+use Rattle.hotel_core.specs.Books.Change.{made}
+use Rattle.hotel_core.specs.Refinement.StepOnRows.{GoesIf, made_by, AreWhole, StepsAs}
+use Rattle.hotel_core.specs.Refinement.Finds.{DrawsCode, Drew, DrewNone, drawn_or, has_failed, refusal_of, reply_of}
+use Rattle.hotel_core.proofs.OfCode.Parts.{SoFar, passed_on, risen_later}
+use Rattle.keycard_rules.specs.declared.issued.Issued.{Ghosts as IssuedOf}
+use Rattle.hotel_core.specs.declared.books.Books.{Ghosts as BooksOf}
+
+drew : (found : Result ℕ DrawFault) (issued : List ℕ) (source rest : Stream) → Draws issued source found rest → Drew (draw_from issued (words 64 source)) source rest (drawn_or found)
+unfolding drawn
+drew (Ok code) issued source rest d = d
+drew (Err fault.NoFreshCode) issued source rest d = (refl, d.0, d.1)
+drew (Err fault.Memory) issued source rest d = d
+drew (Err fault.Store) issued source rest d = d
+
+risen_of : (P : LookFault → Type 0) (found : Result ℕ DrawFault) (cause : LookFault) → IfSome (fault_in found) P → drawn_or found ≡ Err (refusal_of cause) → P cause
+risen_of P (Ok code) cause p e = cc
+risen_of P (Err fault.NoFreshCode) look.Memory p e = cc
+risen_of P (Err fault.NoFreshCode) look.Store p e = cc
+risen_of P (Err fault.Memory) look.Memory p e = p
+risen_of P (Err fault.Memory) look.Store p e = cc
+risen_of P (Err fault.Store) look.Memory p e = cc
+risen_of P (Err fault.Store) look.Store p e = p
+
+unfailed : (found : Result ℕ DrawFault) → fault_in found ≡ None → has_failed (drawn_or found) ≡ false
+unfailed (Ok code) e = refl
+unfailed (Err fault.NoFreshCode) e = refl
+unfailed (Err fault.Memory) e = cc
+unfailed (Err fault.Store) e = cc
+
+-- a draw over books
+pub draws : {S : Type 0} {I : IssuedOf S} {B : BooksOf S} {is_kept : S → S → Type 0} {issued : S → List ℕ} {old new : S} {source rest : Stream} (found : Result ℕ DrawFault) (result : Result ℕ Refusal) → result ≡ drawn_or found
+    → ((a b : S) → is_kept a b → B.rows b ≡ B.rows a) → ((a : S) → issued a ≡ codes_in (B.rows a))
+    → (I.is_clean new → Draws (issued old) source found rest) → (I.is_clean new → is_kept old new) → (I.is_clean new → I.is_clean old) → NoFewer (I.failures old) (I.failures new)
+    → IfSome (fault_in found) (λ cause. HasRisen (I.failures old cause) (I.failures new cause)) → (I.never_fails → fault_in found ≡ None)
+    → DrawsCode I B old new source rest result
+draws {I = I} {B = B} {old = old} {new = new} {source = source} {rest = rest} found result e kept_rows issued_are d k w counted risen sure = subst (λ r. DrawsCode I B old new source rest r) (sym e) (record {
+  answer = λ clean. drew found _ source rest (subst (λ codes. Draws codes source found rest) (issued_are old) (d clean));
+  same = λ clean. kept_rows old new (k clean);
+  was_clean = w;
+  counted = counted;
+  fault = λ cause e. risen_of (λ x. HasRisen (I.failures old x) (I.failures new x)) found cause risen e;
+  sure = λ n e. absurd (false≢true (sym (unfailed found (sure n)) ∙ e));
+})
+
+undrawn_at : (b : Bool) (o : Outcome Change) (draw : Draw) (rows later : Rows) (source rest : Stream) (why : Refusal) (reply_with : ℕ → Reply) (change_with : ℕ → Change)
+    → o ≡ by_draw draw reply_with change_with → later ≡ rows → DrewNone b draw source rest why → GoesIf b o rows source (Refused why) later rest
+undrawn_at true o draw rows later source rest why reply_with change_with e same d =
+    (same, (d.0, (let h : draw.examined ≡ o.examined = ap (λ x. x.examined) (sym e) in omega (arith, h, d.1)), d.2))
+undrawn_at false o draw rows later source rest why reply_with change_with e same d = (
+  ap Refused d.0 ∙ (ap (λ c. said_of c (Refused NoFreshCode) reply_with) (sym d.1) ∙ ap (λ x. x.reply) (sym e)),
+  same ∙ (ap (λ c. made_by (option_map change_with c) rows) (sym d.1) ∙ ap (λ x. made_by x.happens rows) (sym e)),
+  d.2 ∙ ap (λ x. past x.examined source) (sym e),
+)
+
+-- no code was drawn
+pub undrawn : {S : Type 0} {I : IssuedOf S} {B : BooksOf S} {facts : Rows → Type 0} {start old new : S} {source rest : Stream} {e : Refusal} {copies : Bool} {outcome : Rows → Outcome Change} (r : Result Reply Refusal) (reply_with : ℕ → Reply) (change_with : ℕ → Change)
+    → IsErrAnd r (λ x. x ≡ e) → SoFar I B facts start old → DrawsCode I B old new source rest (Err e)
+    → (facts (B.rows start) → outcome (B.rows start) ≡ by_draw (draw_from (codes_in (B.rows start)) (words 64 source)) reply_with change_with)
+    → StepsAs I B copies outcome start new source rest (reply_of r)
+undrawn {I = I} {B = B} {start = start} {old = old} {new = new} {source = source} {rest = rest} {e = e} {copies = copies} {outcome = outcome} r reply_with change_with p s d h =
+    subst (λ answer. StepsAs I B copies outcome start new source rest answer) (sym (passed_on r e p)) (record {
+      goes = λ clean.
+          let before = d.was_clean clean in
+          undrawn_at (is_failed (Refused e)) (outcome (B.rows start)) (draw_from (codes_in (B.rows start)) (words 64 source)) (B.rows start) (B.rows new) source rest e reply_with change_with
+          (h (s.facts_hold before)) (d.same clean ∙ s.same before)
+          (subst (λ rs. DrewNone (is_failed (Refused e)) (draw_from (codes_in rs) (words 64 source)) source rest e) (s.same before) (d.answer clean));
+      was_clean = λ clean. s.was_clean (d.was_clean clean);
+      counted = λ cause. omega (arith, s.counted cause, d.counted cause);
+      fault = λ clean w cause k. inl (risen_later (I.failures start cause) (I.failures old cause) (I.failures new cause) (s.counted cause) (d.fault cause (cc)) (d.counted cause));
+    })
+
+made_after : (b : Bool) (o : Outcome Change) (draw : Draw) (code : ℕ) (reply_with : ℕ → Reply) (change_with : ℕ → Change) (rows mid later : Rows) (source rest : Stream) (answer : Reply)
+    → o ≡ by_draw draw reply_with change_with → draw.code ≡ Some code → rest ≡ past draw.examined source → mid ≡ rows
+    → GoesIf b (accepted (reply_with code) (change_with code)) mid rest answer later rest → GoesIf b o rows source answer later rest
+made_after true o draw code reply_with change_with rows mid later source rest answer e c moved same g =
+    (g.0 ∙ same, (draw.examined, (let h : draw.examined ≡ o.examined = ap (λ x. x.examined) (sym e) in omega (arith, h)), moved))
+made_after false o draw code reply_with change_with rows mid later source rest answer e c moved same g = (
+  g.0 ∙ (ap (λ x. said_of x (Refused NoFreshCode) reply_with) (sym c) ∙ ap (λ x. x.reply) (sym e)),
+  g.1 ∙ (ap (made (change_with code)) same ∙ (ap (λ x. made_by (option_map change_with x) rows) (sym c) ∙ ap (λ x. made_by x.happens rows) (sym e))),
+  moved ∙ ap (λ x. past x.examined source) (sym e),
+)
+
+-- a code was drawn, and the change with it ended the step
+pub drawn_ends : {S : Type 0} {I : IssuedOf S} {B : BooksOf S} {facts : Rows → Type 0} {start old mid new : S} {source rest : Stream} {code : ℕ} {copies : Bool} {outcome : Rows → Outcome Change} {answer : Reply} (reply_with : ℕ → Reply) (change_with : ℕ → Change)
+    → SoFar I B facts start old → DrawsCode I B old mid source rest (Ok code)
+    → StepsAs I B copies (λ _. accepted (reply_with code) (change_with code)) mid new rest rest answer
+    → (facts (B.rows start) → outcome (B.rows start) ≡ by_draw (draw_from (codes_in (B.rows start)) (words 64 source)) reply_with change_with)
+    → StepsAs I B copies outcome start new source rest answer
+drawn_ends {I = I} {B = B} {start = start} {old = old} {mid = mid} {new = new} {source = source} {rest = rest} {code = code} {outcome = outcome} {answer = answer} reply_with change_with s d t h = record {
+  goes = λ clean.
+      let then = t.was_clean clean in
+      let before = d.was_clean then in
+      let drawn = d.answer then in
+      made_after (is_failed answer) (outcome (B.rows start)) (draw_from (codes_in (B.rows start)) (words 64 source)) code reply_with change_with (B.rows start) (B.rows mid) (B.rows new) source rest answer
+      (h (s.facts_hold before)) (ap (λ rs. (draw_from (codes_in rs) (words 64 source)).code) (sym (s.same before)) ∙ drawn.0)
+      (drawn.1 ∙ ap (λ rs. past (draw_from (codes_in rs) (words 64 source)).examined source) (s.same before))
+      (d.same then ∙ s.same before) (t.goes clean);
+  was_clean = λ clean. s.was_clean (d.was_clean (t.was_clean clean));
+  counted = λ cause. omega (arith, s.counted cause, d.counted cause, t.counted cause);
+  fault = λ clean w cause e.
+      let then = t.was_clean clean in
+      let here = subst AreWhole (sym (d.same then ∙ s.same (d.was_clean then))) w in
+      elim (t.fault clean here cause e) [ inl r ↦ inl (risen_later (I.failures start cause) (I.failures mid cause) (I.failures new cause) (omega (arith, s.counted cause, d.counted cause)) r (t.counted cause)) | inr m ↦ inr m ];
+}

@@ -1,0 +1,119 @@
+-- A failed part of a step over sound rows was counted.
+use Rattle.std.proofs.Common.{ℕ, ◌≡◌, ◌≤◌, ◌+◌, ◌-◌, ◌^◌, Bool, true, false, List, [], ◌∷◌, ◌++◌, length, inl, inr, arith, refl, sym, length-append, append_assoc, append-nil, ap, take, ◌<◌, ◌∙◌}
+use Rattle.std.specs.Prelude.{◌⊎◌}
+use Rattle.std.proofs.lemmas.Bool.{false≢true}
+use Rattle.std.proofs.lemmas.List.{length-take}
+use Rattle.keycard_rules.specs.declared.issued.LookFault.{LookFault}
+use Rattle.rand_core.specs.Stream.{Stream}
+use Rattle.keycard_rules.specs.declared.issued.LookFault.TheVariants as look
+use Rattle.keycard_rules.specs.Rise.{HasRisen, NoFewer}
+use Rattle.hotel_core.specs.declared.books.change.Change.{Change}
+use Rattle.hotel_core.specs.declared.command.Command.{Command}
+use Rattle.hotel_core.specs.declared.reply.Reply.{Reply}
+use Rattle.hotel_core.specs.declared.reply.Reply.TheVariants.{Refused}
+use Rattle.hotel_core.specs.declared.reply.Refusal.{Refusal}
+use Rattle.hotel_core.specs.declared.reply.Refusal.TheVariants.{Memory, Store}
+use Rattle.hotel_core.specs.Model.Rows.{Rows}
+use Rattle.hotel_core.specs.Model.Sound.{IsSound}
+use Rattle.hotel_core.specs.Model.History.{start}
+use Rattle.hotel_core.specs.Model.Outcome.{Outcome}
+use Rattle.hotel_core.specs.Model.Run.{is_failed}
+use Rattle.hotel_core.specs.Refinement.Stepping.{copies}
+use Rattle.hotel_core.specs.Refinement.StepOnRows.{AreWhole, MayLack, GoesIf, Goes, StepsAs}
+use Rattle.hotel_core.specs.Books.Failures.{HasRisenBy, failure_in, failures_in, times, AreCounted}
+use Rattle.hotel_core.specs.Refinement.Finds.{refusal_of}
+use Rattle.hotel_core.proofs.Starts.StartRows.{rows_of_start}
+use Rattle.hotel_core.proofs.Lifted.Whole.{rows_are_whole}
+use Rattle.keycard_rules.specs.declared.issued.Issued.{Ghosts as IssuedOf}
+use Rattle.hotel_core.specs.declared.books.Books.{Ghosts as BooksOf}
+
+-- sound rows are whole, since a desk can start with them
+sound_whole : (rows : Rows) → IsSound rows → AreWhole rows
+sound_whole rows sound = rows_are_whole (start rows) rows (sound, sym (rows_of_start rows sound))
+
+pub none_counted : (a b : LookFault → ℕ) → NoFewer a b → AreCounted a b []
+none_counted a b k = record { risen = λ cause. inl (omega (arith, k cause)) }
+
+pub one_counted : (a b : LookFault → ℕ) (why : LookFault) → NoFewer a b → HasRisen (a why) (b why) → AreCounted a b (refusal_of why ∷ [])
+one_counted a b why k risen = record {
+  risen = λ cause. by why cause risen;
+}
+  where
+    rose : (x : LookFault) → HasRisen (a x) (b x) → HasRisenBy 1 (a x) (b x)
+    rose x (inl less) = inl (omega (arith, less))
+    rose x (inr most) = inr (omega (arith, most, k x))
+
+    by : (why cause : LookFault) → HasRisen (a why) (b why) → HasRisenBy (times cause (refusal_of why ∷ [])) (a cause) (b cause)
+    by look.Memory look.Memory r = rose look.Memory r
+    by look.Memory look.Store r = inl (omega (arith, k look.Store))
+    by look.Store look.Memory r = inl (omega (arith, k look.Memory))
+    by look.Store look.Store r = rose look.Store r
+
+counted_reply : (copied : Bool) (answer : Reply) (a b : LookFault → ℕ) → NoFewer a b
+    → ((cause : LookFault) → answer ≡ Refused (refusal_of cause) → HasRisen (a cause) (b cause) ⊎ MayLack copied answer)
+    → AreCounted a b (failure_in answer copied)
+counted_reply true (Refused Memory) a b k fault = none_counted a b k
+counted_reply false (Refused Memory) a b k fault = by (fault look.Memory refl)
+  where
+    by : HasRisen (a look.Memory) (b look.Memory) ⊎ ⊥ → AreCounted a b (Memory ∷ [])
+    by (inl risen) = one_counted a b look.Memory k risen
+    by (inr none) = absurd none
+counted_reply copied (Refused Store) a b k fault = by copied (fault look.Store refl)
+  where
+    by : (c : Bool) → HasRisen (a look.Store) (b look.Store) ⊎ MayLack c (Refused Store) → AreCounted a b (Store ∷ [])
+    by c (inl risen) = one_counted a b look.Store k risen
+    by true (inr lack) = cc lack
+    by false (inr lack) = absurd lack
+counted_reply copied _ a b k fault = none_counted a b k
+
+-- a failure of a step by parts over rows that are sound was counted
+pub step_counted : {S : Type 0} {I : IssuedOf S} {B : BooksOf S} {copied : Bool} {outcome : Rows → Outcome Change} {old new : S} {source rest : Stream} {answer : Reply}
+    → (I.is_clean old → IsSound (B.rows old)) → StepsAs I B copied outcome old new source rest answer
+    → I.is_clean new → AreCounted (I.failures old) (I.failures new) (failure_in answer copied)
+step_counted {I = I} {B = B} {copied = copied} {old = old} {new = new} {answer = answer} sound step clean =
+    let whole = sound_whole (B.rows old) (sound (step.was_clean clean)) in
+    counted_reply copied answer (I.failures old) (I.failures new) step.counted (step.fault clean whole)
+
+-- a failed step changed no row
+pub failed_same : (given : Reply) (o : Outcome Change) (rows later : Rows) (source rest : Stream) → is_failed given ≡ true → Goes o rows source given later rest → later ≡ rows
+failed_same given o rows later source rest e g = by (is_failed given) e g
+  where
+    by : (b : Bool) → b ≡ true → GoesIf b o rows source given later rest → later ≡ rows
+    by true k went = went.0
+    by false k went = absurd (false≢true k)
+
+times-append : (cause : LookFault) (failed more : List Refusal) → times cause (failed ++ more) ≡ times cause failed + times cause more
+times-append cause [] more = omega arith
+times-append cause (why ∷ failed) more = omega (arith, times-append cause failed more)
+
+-- failures that were counted one after the other
+pub counted_join : (a b c : LookFault → ℕ) (failed more : List Refusal) → NoFewer b c → AreCounted a b failed → AreCounted b c more → AreCounted a c (failed ++ more)
+counted_join a b c failed more k first second = record {
+  risen = λ cause. by cause (first.risen cause) (second.risen cause);
+}
+  where
+    by : (x : LookFault) → HasRisenBy (times x failed) (a x) (b x) → HasRisenBy (times x more) (b x) (c x) → HasRisenBy (times x (failed ++ more)) (a x) (c x)
+    by x (inl p) (inl q) = inl (omega (arith, times-append x failed more, p, q))
+    by x (inr p) q = inr (omega (arith, p, k x))
+    by x (inl p) (inr q) = inr q
+
+-- one more command and its reply
+pub failures_in-push : (commands : List Command) (replies : List Reply) (command : Command) (reply : Reply) → length commands ≡ length replies
+    → failures_in (commands ++ command ∷ []) (replies ++ reply ∷ []) ≡ failures_in commands replies ++ failure_in reply (copies command)
+failures_in-push [] [] command reply e = append-nil (failure_in reply (copies command))
+failures_in-push [] (first ∷ replies) command reply e = cc e
+failures_in-push (c ∷ commands) [] command reply e = cc e
+failures_in-push (c ∷ commands) (first ∷ replies) command reply e =
+    ap (λ failed. failure_in first (copies c) ++ failed) (failures_in-push commands replies command reply (omega (arith, e)))
+    ∙ sym (append_assoc (failure_in first (copies c)) (failures_in commands replies) (failure_in reply (copies command)))
+
+pub same_lengths : (commands : List Command) (n : ℕ) (replies : List Reply) → n < length commands → length replies ≡ n → length (take n commands) ≡ length replies
+same_lengths commands n replies l e = omega (arith, length-take n commands, l, e)
+
+-- failures that were counted after a while
+pub counted_after : (a b c : LookFault → ℕ) (failed : List Refusal) → NoFewer a b → AreCounted b c failed → AreCounted a c failed
+counted_after a b c failed k later = record { risen = λ cause. by cause (later.risen cause) }
+  where
+    by : (x : LookFault) → HasRisenBy (times x failed) (b x) (c x) → HasRisenBy (times x failed) (a x) (c x)
+    by x (inl p) = inl (omega (arith, p, k x))
+    by x (inr p) = inr p

@@ -1,0 +1,99 @@
+-- Parts of a step that takes a note of a lock.
+use Rattle.std.proofs.Common.{ℕ, ◌≡◌, ◌==◌, ◌<◌, Bool, true, false, not, ◌&&◌, Option, Some, None, is_some, List, [], ◌∷◌, ◌+◌, if◌then◌else◌, refl, ap, sym, ◌∙◌, subst, arith}
+use Rattle.std.specs.Prelude.{IsSome}
+use Rattle.std.proofs.lemmas.Bool.{false≢true}
+use Rattle.std.proofs.lemmas.Bool.Decides.{nat_tests}
+use Rattle.keycard_rules.specs.declared.issued.LookFault.{LookFault}
+use Rattle.rand_core.specs.Stream.{Stream}
+use Rattle.keycard_rules.specs.Draw.{past}
+use Rattle.keycard_rules.proofs.Drawing.{past-zero}
+use Rattle.keycard_rules.specs.declared.card.Card.{Card}
+use Rattle.keycard_rules.specs.declared.card.Link.{Link}
+use Rattle.keycard_rules.specs.declared.note.Act.{Act}
+use Rattle.keycard_rules.specs.Note.{Note}
+use Rattle.hotel_core.specs.declared.books.change.Change.{Change}
+use Rattle.hotel_core.specs.declared.reply.Reply.{Reply}
+use Rattle.hotel_core.specs.declared.reply.Reply.TheVariants.{Refused}
+use Rattle.hotel_core.specs.declared.reply.Refusal.TheVariants.{NotBegun, NoRoom, Gap, Store}
+use Rattle.hotel_core.specs.declared.command.Command.TheVariants as command
+use Rattle.hotel_core.specs.declared.books.rows.RoomRow.{RoomRow}
+use Rattle.hotel_core.specs.Model.Words.{said_of}
+use Rattle.hotel_core.specs.Model.Rows.{Rows}
+use Rattle.hotel_core.specs.Books.Lookups.{room_at, card_at, code_place, note_at}
+use Rattle.hotel_core.specs.Model.Notes.{same_link}
+use Rattle.hotel_core.specs.Refinement.OnRows.{has_link_on, told_on, reported_on, outcome_on}
+use Rattle.hotel_core.specs.Refinement.StepOnRows.{AreWhole, GoesIf, made_by, StepsAs}
+use Rattle.hotel_core.specs.Model.Outcome.{Outcome, said, refused, needs, unless}
+use Rattle.hotel_core.specs.Model.Run.{is_failed}
+use Rattle.hotel_core.proofs.OfCode.Parts.{SoFar, faults}
+use Rattle.keycard_rules.specs.declared.issued.Issued.{Ghosts as IssuedOf}
+use Rattle.hotel_core.specs.declared.books.Books.{Ghosts as BooksOf}
+
+pub not_true : (b : Bool) → not b ≡ true → b ≡ false
+not_true true e = sym e
+not_true false e = refl
+
+pub not_false : (b : Bool) → not b ≡ false → b ≡ true
+not_false true e = refl
+not_false false e = sym e
+
+and_second : (a b : Bool) → (a && b) ≡ true → b ≡ true
+and_second true b e = e
+and_second false b e = absurd (false≢true e)
+
+there_at : (rows : Rows) (number : ℕ) (link : Link) (o : Option Card) → card_at rows number ≡ o → AreWhole rows → said_of o false (λ card. same_link card.link link) ≡ true → IsSome (code_place rows link.new_code)
+there_at rows number link None e w h = absurd (false≢true h)
+there_at rows number link (Some card) e w h =
+    let same : card.link.new_code ≡ link.new_code = grind (arith, nat_tests, and_second (card.link.old_code == link.old_code) (card.link.new_code == link.new_code) h) in
+    subst (λ code. IsSome (code_place rows code)) same (w.cards number card e)
+
+-- in whole rows the new code of a card's link is there
+pub link_is_there : (rows : Rows) (number : ℕ) (link : Link) → AreWhole rows → has_link_on rows number link ≡ true → IsSome (code_place rows link.new_code)
+link_is_there rows number link w h = there_at rows number link (card_at rows number) refl w h
+
+-- a failure that whole rows exclude
+pub excluded : {S : Type 0} {I : IssuedOf S} {B : BooksOf S} {facts : Rows → Type 0} {start now : S} {copies : Bool} {outcome : Rows → Outcome Change} {source : Stream}
+    → SoFar I B facts start now → (AreWhole (B.rows start) → facts (B.rows start) → ⊥)
+    → StepsAs I B copies outcome start now source source (Refused Store)
+excluded {source = source} s h = record {
+  goes = λ clean. (s.same clean, (0, omega arith, sym (past-zero source)));
+  was_clean = s.was_clean;
+  counted = s.counted;
+  fault = λ clean w cause e. absurd (h w (s.facts_hold clean));
+}
+
+-- an answer that changes nothing, where the checks come to it
+pub says : {S : Type 0} {I : IssuedOf S} {B : BooksOf S} {facts : Rows → Type 0} {start now : S} {copies : Bool} {outcome : Rows → Outcome Change} {source : Stream} (answer : Reply)
+    → is_failed answer ≡ false → SoFar I B facts start now → (facts (B.rows start) → outcome (B.rows start) ≡ said answer)
+    → StepsAs I B copies outcome start now source source answer
+says {B = B} {start = start} {now = now} {outcome = outcome} {source = source} answer k s h = record {
+  goes = λ clean. said_at (is_failed answer) answer (outcome (B.rows start)) (B.rows start) (B.rows now) source k (h (s.facts_hold clean)) (s.same clean);
+  was_clean = s.was_clean;
+  counted = s.counted;
+  fault = λ clean w cause e. absurd (false≢true (sym k ∙ (ap is_failed e ∙ faults cause)));
+}
+  where
+    said_at : (b : Bool) (answer : Reply) (o : Outcome Change) (rows later : Rows) (source : Stream) → b ≡ false → o ≡ said answer → later ≡ rows → GoesIf b o rows source answer later source
+    said_at true answer o rows later source k e same = absurd (false≢true (sym k))
+    said_at false answer o rows later source k e same =
+        (sym (ap (λ x. x.reply) e), same ∙ ap (λ x. made_by x.happens rows) (sym e), sym (past-zero source) ∙ ap (λ x. past x.examined source) (sym e))
+
+pub equal : (m n : ℕ) → m ≡ n → (m == n) ≡ true
+equal m n e = grind (arith, nat_tests)
+
+pub not_equal : (m n : ℕ) → n < m → (m == n) ≡ false
+not_equal m n e = grind (arith, nat_tests)
+
+-- a note of a room that is there, once a day is set
+pub reported_there : (rows : Rows) (ahead : List ℕ) (note : Note) (day : ℕ) (row : RoomRow) (kept : Option Note)
+    → rows.day ≡ Some day → room_at rows note.room ≡ Some row → note_at rows note.room note.count ≡ kept → outcome_on rows ahead (command.Reported note) ≡ reported_on rows note kept
+unfolding outcome_on
+reported_there rows ahead note day row kept d r n =
+    ap (λ x. unless (needs (is_some x) NotBegun ∷ needs (is_some (room_at rows note.room)) NoRoom ∷ []) (reported_on rows note (note_at rows note.room note.count))) d
+    ∙ ap (λ x. unless (needs (is_some x) NoRoom ∷ []) (reported_on rows note (note_at rows note.room note.count))) r ∙ ap (λ x. reported_on rows note x) n
+
+-- the next note of a room
+pub next_told : (rows : Rows) (note : Note) (row : RoomRow) (what : Act) → room_at rows note.room ≡ Some row → note.count ≡ row.notes + 1 → what ≡ note.act → reported_on rows note None ≡ told_on rows note what
+next_told rows note row what r n a =
+    ap (λ o. said_of o (refused NoRoom) (λ (x : RoomRow). if note.count == x.notes + 1 then told_on rows note note.act else refused (Gap (x.notes + 1)))) r
+    ∙ ap (λ b. if b then told_on rows note note.act else refused (Gap (row.notes + 1))) (equal note.count (row.notes + 1) n) ∙ ap (λ x. told_on rows note x) (sym a)

@@ -1,0 +1,219 @@
+-- The parts of a step, one after the other.
+use Rattle.std.proofs.Common.{ℕ, ◌≡◌, ◌≤◌, Bool, true, false, Option, Some, None, Result, Ok, Err, refl, ap, sym, ◌∙◌, arith, subst, IsErrAnd, inl, inr, is_some, List, [], ◌∷◌, ◌++◌, ◌+◌, nat_lt, cond}
+use Rattle.std.proofs.lemmas.Bool.{false≢true}
+use Rattle.rand_core.specs.Stream.{Stream}
+use Rattle.keycard_rules.specs.Draw.{past}
+use Rattle.keycard_rules.specs.Rise.{HasRisen, NoFewer}
+use Rattle.keycard_rules.proofs.Drawing.{past-zero}
+use Rattle.keycard_rules.specs.declared.issued.LookFault.{LookFault}
+use Rattle.keycard_rules.specs.declared.issued.LookFault.TheVariants as look
+use Rattle.hotel_core.specs.declared.books.change.Change.{Change}
+use Rattle.hotel_core.specs.declared.reply.Reply.{Reply}
+use Rattle.hotel_core.specs.declared.reply.Reply.TheVariants.{Refused}
+use Rattle.hotel_core.specs.declared.reply.Refusal.{Refusal}
+use Rattle.hotel_core.specs.declared.reply.Refusal.TheVariants.{Store, Memory}
+use Rattle.hotel_core.specs.Model.Rows.{Rows}
+use Rattle.hotel_core.specs.Books.Lookups.{number_after}
+use Rattle.hotel_core.specs.Model.Run.{is_failed}
+use Rattle.hotel_core.specs.Model.Outcome.{Outcome, refused, accepted, unless}
+use Rattle.hotel_core.specs.Books.Change.{made}
+use Rattle.hotel_core.specs.Refinement.StepOnRows.{GoesIf, Goes, made_by, AreWhole, StepsAs}
+use Rattle.hotel_core.specs.Refinement.Finds.{Finds, AnyRows, reply_of, refusal_of, first_refusal}
+use Rattle.keycard_rules.specs.declared.issued.Issued.{Ghosts as IssuedOf}
+use Rattle.hotel_core.specs.declared.books.Books.{Ghosts as BooksOf}
+
+-- From the state start to now no row changed, and this is known of the rows at the start, if the state is clean now.
+pub record SoFar {S : Type 0} (I : IssuedOf S) (B : BooksOf S) (facts : Rows → Type 0) (start now : S) : Type 0 where
+  pub facts_hold : I.is_clean now → facts (B.rows start)
+  pub same : I.is_clean now → B.rows now ≡ B.rows start
+  pub was_clean : I.is_clean now → I.is_clean start
+  pub counted : NoFewer (I.failures start) (I.failures now)
+
+-- a fault's refusal is a failure
+pub faults : (fault : LookFault) → is_failed (Refused (refusal_of fault)) ≡ true
+faults look.Memory = refl
+faults look.Store = refl
+
+-- at the start nothing is known
+pub begun : {S : Type 0} {I : IssuedOf S} {B : BooksOf S} {start : S} → SoFar I B AnyRows start start
+begun = record { facts_hold = λ _. tt; same = λ _. refl; was_clean = λ clean. clean; counted = λ cause. omega arith }
+
+-- at the start this is known
+pub given : {S : Type 0} {I : IssuedOf S} {B : BooksOf S} (facts : Rows → Type 0) {start : S} → (I.is_clean start → facts (B.rows start)) → SoFar I B facts start start
+given facts h = record { facts_hold = h; same = λ _. refl; was_clean = λ clean. clean; counted = λ cause. omega arith }
+
+-- the facts, in the rows as they are now
+pub at_now : {S : Type 0} {I : IssuedOf S} {B : BooksOf S} {facts : Rows → Type 0} {start now : S}
+    → SoFar I B facts start now → I.is_clean now → facts (B.rows now)
+at_now {facts = facts} s clean = subst facts (sym (s.same clean)) (s.facts_hold clean)
+
+-- something was found
+pub then_found : {S A : Type 0} {I : IssuedOf S} {B : BooksOf S} {facts : Rows → Type 0} {are_whole : Rows → Type 0} {why : Refusal} {wanted : Rows → Option A} {start old new : S} {a : A}
+    → SoFar I B facts start old → Finds I B are_whole why wanted old new (Ok a)
+    → SoFar I B (λ rs. facts rs × (wanted rs ≡ Some a)) start new
+then_found {wanted = wanted} s f = record {
+  facts_hold = λ clean. (s.facts_hold (f.was_clean clean), ap wanted (sym (s.same (f.was_clean clean))) ∙ f.answer clean);
+  same = λ clean. f.same clean ∙ s.same (f.was_clean clean);
+  was_clean = λ clean. s.was_clean (f.was_clean clean);
+  counted = λ cause. omega (arith, s.counted cause, f.counted cause);
+}
+
+-- a count that rose later has risen
+pub risen_later : (a b c : ℕ) → a ≤ b → HasRisen b c → b ≤ c → HasRisen a c
+risen_later a b c h r k = grind arith
+
+goes_at : (b : Bool) (o : Outcome Change) (rows later : Rows) (source : Stream) (why : Refusal)
+    → (b ≡ false → o ≡ refused why) → later ≡ rows → GoesIf b o rows source (Refused why) later source
+goes_at true o rows later source why h same = (same, (0, omega arith, sym (past-zero source)))
+goes_at false o rows later source why h same =
+    let e = h refl in
+    (sym (ap (λ x. x.reply) e), same ∙ ap (λ x. made_by x.happens rows) (sym e), sym (past-zero source) ∙ ap (λ x. past x.examined source) (sym e))
+
+-- nothing was found, or the search failed
+pub stopped_where : {S A : Type 0} {I : IssuedOf S} {B : BooksOf S} {facts : Rows → Type 0} {are_whole : Rows → Type 0} {why : Refusal} {wanted : Rows → Option A} {start old new : S} {e : Refusal} {copies : Bool} {outcome : Rows → Outcome Change} {source : Stream}
+    → SoFar I B facts start old → Finds I B are_whole why wanted old new (Err e)
+    → (AreWhole (B.rows start) → facts (B.rows start) → are_whole (B.rows start))
+    → (facts (B.rows start) → wanted (B.rows start) ≡ None → is_failed (Refused why) ≡ false → outcome (B.rows start) ≡ refused why)
+    → StepsAs I B copies outcome start new source source (Refused e)
+stopped_where {I = I} {B = B} {are_whole = are_whole} {wanted = wanted} {start = start} {old = old} {new = new} {e = e} {outcome = outcome} {source = source} s f whole h = record {
+  goes = λ clean. goes_at (is_failed (Refused e)) (outcome (B.rows start)) (B.rows start) (B.rows new) source e
+      (λ k. let a = f.answer clean k in
+      h (s.facts_hold (f.was_clean clean)) (ap wanted (sym (s.same (f.was_clean clean))) ∙ a.0) (ap (λ x. is_failed (Refused x)) (sym a.1) ∙ k) ∙ ap refused (sym a.1))
+      (f.same clean ∙ s.same (f.was_clean clean));
+  was_clean = λ clean. s.was_clean (f.was_clean clean);
+  counted = λ cause. omega (arith, s.counted cause, f.counted cause);
+  fault = λ clean w cause k. inl (risen_later (I.failures start cause) (I.failures old cause) (I.failures new cause) (s.counted cause)
+      (f.fault clean (subst are_whole (sym (s.same (f.was_clean clean))) (whole w (s.facts_hold (f.was_clean clean)))) cause (cc)) (f.counted cause));
+}
+
+-- the reply of a refusal that was passed on
+pub passed_on : (r : Result Reply Refusal) (why : Refusal) → IsErrAnd r (λ e. e ≡ why) → reply_of r ≡ Refused why
+passed_on (Ok answer) why h = absurd h
+passed_on (Err e) why h = ap Refused h
+
+pub stopped_whole : {S A : Type 0} {I : IssuedOf S} {B : BooksOf S} {facts : Rows → Type 0} {are_whole : Rows → Type 0} {why : Refusal} {wanted : Rows → Option A} {start old new : S} {e : Refusal} {copies : Bool} {outcome : Rows → Outcome Change} {source : Stream} (r : Result Reply Refusal)
+    → IsErrAnd r (λ x. x ≡ e) → SoFar I B facts start old → Finds I B are_whole why wanted old new (Err e)
+    → (AreWhole (B.rows start) → facts (B.rows start) → are_whole (B.rows start))
+    → (facts (B.rows start) → wanted (B.rows start) ≡ None → is_failed (Refused why) ≡ false → outcome (B.rows start) ≡ refused why)
+    → StepsAs I B copies outcome start new source source (reply_of r)
+stopped_whole {I = I} {B = B} {start = start} {new = new} {e = e} {copies = copies} {outcome = outcome} {source = source} r p s f whole h =
+    subst (λ answer. StepsAs I B copies outcome start new source source answer) (sym (passed_on r e p)) (stopped_where s f whole h)
+
+-- what sound books have wasn't there, or the search failed
+pub halted : {S A : Type 0} {I : IssuedOf S} {B : BooksOf S} {facts : Rows → Type 0} {are_whole : Rows → Type 0} {wanted : Rows → Option A} {start old new : S} {e : Refusal} {copies : Bool} {outcome : Rows → Outcome Change} {source : Stream} (r : Result Reply Refusal)
+    → IsErrAnd r (λ x. x ≡ e) → SoFar I B facts start old → Finds I B are_whole Store wanted old new (Err e)
+    → (AreWhole (B.rows start) → facts (B.rows start) → are_whole (B.rows start))
+    → StepsAs I B copies outcome start new source source (reply_of r)
+halted r p s f whole = stopped_whole r p s f whole (λ k n x. absurd (false≢true (sym x)))
+
+pub stopped : {S A : Type 0} {I : IssuedOf S} {B : BooksOf S} {facts : Rows → Type 0} {why : Refusal} {wanted : Rows → Option A} {start old new : S} {e : Refusal} {copies : Bool} {outcome : Rows → Outcome Change} {source : Stream} (r : Result Reply Refusal)
+    → IsErrAnd r (λ x. x ≡ e) → SoFar I B facts start old → Finds I B AnyRows why wanted old new (Err e)
+    → (facts (B.rows start) → wanted (B.rows start) ≡ None → outcome (B.rows start) ≡ refused why)
+    → StepsAs I B copies outcome start new source source (reply_of r)
+stopped r p s f h = stopped_whole r p s f (λ w k. tt) (λ k n x. h k n)
+
+-- a refusal, where the checks come to it
+pub refuses : {S : Type 0} {I : IssuedOf S} {B : BooksOf S} {facts : Rows → Type 0} {start now : S} {copies : Bool} {outcome : Rows → Outcome Change} {source : Stream} (why : Refusal)
+    → is_failed (Refused why) ≡ false → SoFar I B facts start now
+    → (facts (B.rows start) → outcome (B.rows start) ≡ refused why)
+    → StepsAs I B copies outcome start now source source (Refused why)
+refuses {B = B} {start = start} {now = now} {outcome = outcome} {source = source} why k s h = record {
+  goes = λ clean. goes_at (is_failed (Refused why)) (outcome (B.rows start)) (B.rows start) (B.rows now) source why (λ _. h (s.facts_hold clean)) (s.same clean);
+  was_clean = s.was_clean;
+  counted = s.counted;
+  fault = λ clean w cause e. absurd (false≢true (sym k ∙ (ap is_failed e ∙ faults cause)));
+}
+
+-- the step goes on as one that ends it
+pub ends : {S : Type 0} {I : IssuedOf S} {B : BooksOf S} {facts : Rows → Type 0} {start old new : S} {copies : Bool} {outcome last : Rows → Outcome Change} {source rest : Stream} {answer : Reply}
+    → SoFar I B facts start old → StepsAs I B false last old new source rest answer
+    → (facts (B.rows start) → outcome (B.rows start) ≡ last (B.rows start))
+    → StepsAs I B copies outcome start new source rest answer
+ends {I = I} {B = B} {start = start} {old = old} {new = new} {copies = copies} {outcome = outcome} {last = last} {source = source} {rest = rest} {answer = answer} s t h = record {
+  goes = λ clean.
+      let before = t.was_clean clean in
+      let g : Goes (last (B.rows start)) (B.rows start) source answer (B.rows new) rest = subst (λ rs. Goes (last rs) rs source answer (B.rows new) rest) (s.same before) (t.goes clean) in
+      subst (λ o. Goes o (B.rows start) source answer (B.rows new) rest) (sym (h (s.facts_hold before))) g;
+  was_clean = λ clean. s.was_clean (t.was_clean clean);
+  counted = λ cause. omega (arith, s.counted cause, t.counted cause);
+  fault = λ clean w cause e.
+      elim (t.fault clean (subst AreWhole (sym (s.same (t.was_clean clean))) w) cause e) [ inl r ↦ inl (risen_later (I.failures start cause) (I.failures old cause) (I.failures new cause) (s.counted cause) r (t.counted cause)) | inr m ↦ absurd m ];
+}
+
+pub only : {A : Type 0} {x y : A} → Some x ≡ Some y → x ≡ y
+only e = cc
+
+made_at : (b : Bool) (answer : Reply) (change : Change) (rows later : Rows) (source : Stream) → b ≡ false → later ≡ made change rows → GoesIf b (accepted answer change) rows source answer later source
+made_at true answer change rows later source k same = cc
+made_at false answer change rows later source k same = (refl, same, sym (past-zero source))
+
+-- the change was made
+pub makes : {S : Type 0} {I : IssuedOf S} {B : BooksOf S} {old new : S} (answer : Reply) (change : Change) (source : Stream)
+    → is_failed answer ≡ false → (I.is_clean new → B.rows new ≡ made change (B.rows old)) → (I.is_clean new → I.is_clean old) → NoFewer (I.failures old) (I.failures new)
+    → StepsAs I B false (λ _. accepted answer change) old new source source answer
+makes {B = B} {old = old} {new = new} answer change source k m w counted = record {
+  goes = λ clean. made_at (is_failed answer) answer change (B.rows old) (B.rows new) source k (m clean);
+  was_clean = w;
+  counted = counted;
+  fault = λ clean whole cause e. absurd (false≢true (sym k ∙ (ap is_failed e ∙ faults cause)));
+}
+
+same_fault : (fault other : LookFault) → Refused (refusal_of fault) ≡ Refused (refusal_of other) → fault ≡ other
+same_fault look.Memory look.Memory e = refl
+same_fault look.Memory look.Store e = cc
+same_fault look.Store look.Memory e = cc
+same_fault look.Store look.Store e = refl
+
+-- a change that was not made
+pub fails : {S : Type 0} {I : IssuedOf S} {B : BooksOf S} {old new : S} (o : Outcome Change) (fault : LookFault) (why : Refusal) (source : Stream)
+    → why ≡ refusal_of fault → (I.is_clean new → B.rows new ≡ B.rows old) → (I.is_clean new → I.is_clean old) → NoFewer (I.failures old) (I.failures new) → HasRisen (I.failures old fault) (I.failures new fault)
+    → StepsAs I B false (λ _. o) old new source source (Refused why)
+fails {I = I} {B = B} {old = old} {new = new} o fault why source e m w counted risen =
+    subst (λ r. StepsAs I B false (λ _. o) old new source source (Refused r)) (sym e) (record {
+      goes = λ clean. goes_at (is_failed (Refused (refusal_of fault))) o (B.rows old) (B.rows new) source (refusal_of fault) (λ k. absurd (false≢true (sym k ∙ faults fault))) (m clean);
+      was_clean = w;
+      counted = counted;
+      fault = λ clean whole cause k. inl (subst (λ x. HasRisen (I.failures old x) (I.failures new x)) (same_fault fault cause k) risen);
+    })
+
+pub none : {A : Type 0} (o : Option A) → is_some o ≡ false → o ≡ None
+none None e = refl
+none (Some a) e = absurd (false≢true (sym e))
+
+-- a refusal of the checks, passed on
+pub barred : {S : Type 0} {I : IssuedOf S} {B : BooksOf S} {facts : Rows → Type 0} {start now : S} {e : Refusal} {copies : Bool} {outcome : Rows → Outcome Change} {source : Stream} (r : Result Reply Refusal)
+    → IsErrAnd r (λ x. x ≡ e) → is_failed (Refused e) ≡ false → SoFar I B facts start now
+    → (facts (B.rows start) → outcome (B.rows start) ≡ refused e)
+    → StepsAs I B copies outcome start now source source (reply_of r)
+barred {I = I} {B = B} {start = start} {now = now} {e = e} {copies = copies} {outcome = outcome} {source = source} r p k s h =
+    subst (λ answer. StepsAs I B copies outcome start now source source answer) (sym (passed_on r e p)) (refuses e k s h)
+
+-- the first of these checks that refuses, and others after them
+pub bars_refuse : {X : Type 0} (checks later : List (Option Refusal)) (o : Outcome X) (why : Refusal) → first_refusal checks ≡ Some why → unless (checks ++ later) o ≡ refused why
+bars_refuse [] later o why e = cc
+bars_refuse (Some other ∷ checks) later o why e = ap refused (only e)
+bars_refuse (None ∷ checks) later o why e = bars_refuse checks later o why e
+
+-- these checks pass
+pub bars_pass : {X : Type 0} (checks later : List (Option Refusal)) (o : Outcome X) → first_refusal checks ≡ None → unless (checks ++ later) o ≡ unless later o
+bars_pass [] later o e = refl
+bars_pass (Some other ∷ checks) later o e = cc
+bars_pass (None ∷ checks) later o e = bars_pass checks later o e
+
+-- the number after so many
+pub number_is : (n m : ℕ) → number_after n ≡ Some m → n + 1 ≡ m
+number_is n m e = at (nat_lt n 9999999) n m e
+  where
+    at : (b : Bool) (n m : ℕ) → cond b (Some (n + 1)) None ≡ Some m → n + 1 ≡ m
+    at true n m e = only e
+    at false n m e = cc
+
+-- there is no memory for a copy
+pub lacks : {S : Type 0} {I : IssuedOf S} {B : BooksOf S} {facts : Rows → Type 0} {start now : S} {outcome : Rows → Outcome Change} {source : Stream}
+    → SoFar I B facts start now → StepsAs I B true outcome start now source source (Refused Memory)
+lacks {B = B} {start = start} {now = now} {outcome = outcome} {source = source} s = record {
+  goes = λ clean. goes_at true (outcome (B.rows start)) (B.rows start) (B.rows now) source Memory (λ k. absurd (false≢true (sym k))) (s.same clean);
+  was_clean = s.was_clean;
+  counted = s.counted;
+  fault = λ clean w cause e. inr refl;
+}

@@ -1,0 +1,73 @@
+-- The cards inside a room, as a part of the pairs in order.
+use Rattle.std.proofs.Common.{ℕ, ◌≡◌, ◌≤◌, ◌<◌, Bool, true, false, cond, List, [], ◌∷◌, map, filter, refl, ap, sym, ◌∙◌, arith}
+use Rattle.std.specs.Prelude.{◌==◌, ◌&&◌, not}
+use Rattle.std.specs.Ordering.{nat_cmp, is_le, is_lt, is_eq, ordering_then, match_ordering, MatchOrdering}
+use Rattle.std.specs.declared.cmp.Ordering.{Ordering}
+use Rattle.std.specs.declared.cmp.Ordering.TheVariants.{Less, Equal, Greater}
+use Rattle.std.specs.declared.ops.Bound.TheVariants.{Included}
+use Rattle.std.specs.BTreeMap.{is_at}
+use Rattle.std.specs.BTreeMap.Range.{range_contains}
+use Rattle.std.specs.BTreeSet.{insert_key}
+use Rattle.std.specs.Cmp.{ranks}
+use Rattle.std.specs.Set as set
+use Rattle.keycard_rules.specs.Numbers.{IsNumberUpTo}
+use Rattle.hotel_core.specs.Model.Words.{pair_cmp, when, remove_key}
+use Rattle.hotel_core.specs.Model.Guests.{those_in}
+use Rattle.hotel_core.specs.Memory.{HaveCardNumbers}
+use Rattle.hotel_core.proofs.OfTables.MapEntries.{at_is}
+
+-- ---- changes keep the numbers
+
+pub numbers_removed : (pairs : List (ℕ × ℕ)) (pair : ℕ × ℕ) → HaveCardNumbers pairs → HaveCardNumbers (set.remove_key (is_at (pair_cmp pair)) pairs)
+numbers_removed [] pair h = tt
+numbers_removed (x ∷ xs) pair h = removed_by (is_at (pair_cmp pair) x) h.0 h.1 (numbers_removed xs pair h.1)
+  where
+    removed_by : (b : Bool) → IsNumberUpTo 9999999 x.1 → HaveCardNumbers xs → HaveCardNumbers (set.remove_key (is_at (pair_cmp pair)) xs) → HaveCardNumbers (cond b xs (x ∷ set.remove_key (is_at (pair_cmp pair)) xs))
+    removed_by true i all ih = all
+    removed_by false i all ih = (i, ih)
+
+pub numbers_added : (pairs : List (ℕ × ℕ)) (pair : ℕ × ℕ) → HaveCardNumbers pairs → IsNumberUpTo 9999999 pair.1 → HaveCardNumbers (insert_key pair_cmp pairs pair)
+numbers_added [] pair h n = (n, tt)
+numbers_added (x ∷ xs) pair h n = added_by (pair_cmp pair x) h (numbers_added xs pair h.1 n)
+  where
+    added_by : (o : Ordering) → HaveCardNumbers (x ∷ xs) → HaveCardNumbers (insert_key pair_cmp xs pair) → HaveCardNumbers (match_ordering o (pair ∷ x ∷ xs) (x ∷ xs) (x ∷ insert_key pair_cmp xs pair))
+    added_by Less h ih = (n, h)
+    added_by Equal h ih = h
+    added_by Greater h ih = (h.0, ih)
+
+pub removed_keys : (pairs : List (ℕ × ℕ)) (pair : ℕ × ℕ) → set.remove_key (is_at (pair_cmp pair)) pairs ≡ remove_key pair_cmp pairs pair
+removed_keys [] pair = refl
+removed_keys (x ∷ xs) pair = ap (λ rest. cond (is_at (pair_cmp pair) x) xs (x ∷ rest)) (removed_keys xs pair)
+
+-- ---- the part of a room
+
+least_first : (o : Ordering) (n : ℕ) → MatchOrdering o (1 < n) (1 ≡ n) (n < 1) → 1 ≤ n → is_le o ≡ true
+least_first Less n m h = refl
+least_first Equal n m h = refl
+least_first Greater n m h = absurd (omega (arith, m, h))
+
+most_last : (o : Ordering) (n : ℕ) → MatchOrdering o (9999999 < n) (9999999 ≡ n) (n < 9999999) → n ≤ 9999999 → not (is_lt o) ≡ true
+most_last Less n m h = absurd (omega (arith, m, h))
+most_last Equal n m h = refl
+most_last Greater n m h = refl
+
+part_by : (o low high : Ordering) → is_le low ≡ true → not (is_lt high) ≡ true → (is_le (ordering_then o low) && not (is_lt (ordering_then o high))) ≡ is_eq o
+part_by Less low high l h = refl
+part_by Equal low high l h = ap (λ b. b && not (is_lt high)) l ∙ h
+part_by Greater low high l h = refl
+
+-- what lies between a room's least and greatest card is of the room
+pub in_part : (room : ℕ) (e : ℕ × ℕ) → IsNumberUpTo 9999999 e.1 → range_contains pair_cmp (Included (room, 1)) (Included (room, 9999999)) e ≡ (e.0 == room)
+in_part room e i =
+    part_by (nat_cmp room e.0) (nat_cmp 1 e.1) (nat_cmp 9999999 e.1) (least_first (nat_cmp 1 e.1) e.1 (ranks 1 e.1) i.0) (most_last (nat_cmp 9999999 e.1) e.1 (ranks 9999999 e.1) i.1)
+    ∙ at_is room e.0
+
+part_more : (b : Bool) (e : ℕ × ℕ) (es : List (ℕ × ℕ)) (ns : List ℕ) → ns ≡ map (λ (p : ℕ × ℕ). p.1) es → when b (λ numbers. e.1 ∷ numbers) ns ≡ map (λ (p : ℕ × ℕ). p.1) (cond b (e ∷ es) es)
+part_more true e es ns h = ap (λ rest. e.1 ∷ rest) h
+part_more false e es ns h = h
+
+pub part_of_room : (room : ℕ) (pairs : List (ℕ × ℕ)) → HaveCardNumbers pairs → those_in pairs room ≡ map (λ (p : ℕ × ℕ). p.1) (filter (range_contains pair_cmp (Included (room, 1)) (Included (room, 9999999))) pairs)
+part_of_room room [] h = refl
+part_of_room room (e ∷ es) h =
+    part_more (e.0 == room) e (filter (range_contains pair_cmp (Included (room, 1)) (Included (room, 9999999))) es) (those_in es room) (part_of_room room es h.1)
+    ∙ ap (λ b. map (λ (p : ℕ × ℕ). p.1) (cond b (e ∷ filter (range_contains pair_cmp (Included (room, 1)) (Included (room, 9999999))) es) (filter (range_contains pair_cmp (Included (room, 1)) (Included (room, 9999999))) es))) (sym (in_part room e h.0))

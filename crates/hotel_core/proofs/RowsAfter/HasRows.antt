@@ -1,0 +1,88 @@
+-- The change of an event has its rows.
+use Rattle.std.proofs.Common.{ℕ, ◌≡◌, ◌<◌, ◌≤◌, ◌+◌, ◌-◌, ◌^◌, Bool, true, false, Option, Some, None, length, refl, ap, sym, ◌∙◌, arith}
+use Rattle.std.specs.Prelude.{not, is_some}
+use Rattle.hotel_core.specs.Model.Words.{is_one_of}
+use Rattle.hotel_core.specs.Model.Event.{Event, Begun, Kind, Install, Reserved, Cancelled, CheckIn, Transfer, Spare, CheckOut, NextDay, Entered, Left, Recoded}
+use Rattle.hotel_core.specs.Model.History.{History, ◌▷◌}
+use Rattle.hotel_core.specs.Model.Issued.{issued, all_issued, issued_codes, is_fresh}
+use Rattle.hotel_core.specs.Model.Cards.{cards}
+use Rattle.hotel_core.specs.Model.Stays.{day}
+use Rattle.hotel_core.specs.Model.Cases.{is_room, room_of, is_in_house, cards_used_up}
+use Rattle.hotel_core.specs.Model.RowsOf.{rows_of}
+use Rattle.hotel_core.specs.Books.Lookups.{room_at, code_place, note_at}
+use Rattle.hotel_core.specs.Books.Change.{codes_of}
+use Rattle.hotel_core.specs.Refinement.ChangeOf.{change_of}
+use Rattle.hotel_core.specs.Books.Fits.{HasItsRows}
+use Rattle.hotel_core.specs.Model.Run.{Reached}
+use Rattle.hotel_core.specs.Refinement.Follow.{MayFollow}
+use Rattle.hotel_core.specs.Model.Words.{said_of}
+use Rattle.hotel_core.specs.Model.Notes.{notes}
+use Rattle.hotel_core.proofs.OfTables.RoomNumbers.{room_there, room_not_there}
+use Rattle.hotel_core.proofs.RowsAfter.RowsIssue.{codes_said}
+use Rattle.hotel_core.proofs.RowsAfter.RowsLeft.{home_there}
+use Rattle.hotel_core.proofs.Invariants.NoRooms.{nobody_registered}
+use Rattle.hotel_core.proofs.Invariants.InHouse.{homes_match, has_stay}
+use Rattle.hotel_core.proofs.OfTables.NotesKept.{next_not_found}
+use Rattle.hotel_core.proofs.Invariants.NumbersLeft.{HasNumber, has_number, codes_fit}
+use Rattle.std.proofs.lemmas.Bool.{leb-false}
+use Rattle.hotel_core.proofs.OfTables.Grown.{may_follow}
+use Rattle.hotel_core.proofs.OfTables.TableKeys.{no_key}
+
+no_day : (o : Option ℕ) → is_some o ≡ false → o ≡ None
+no_day (Some d) h = cc
+no_day None h = refl
+
+not_among : (b : Bool) → not b ≡ true → b ≡ false
+not_among true h = cc
+not_among false h = refl
+
+-- a fresh code has no row
+pub fresh_has_no_row : (h : History) (code : ℕ) → is_fresh h code ≡ true → code_place (rows_of h) code ≡ None
+fresh_has_no_row h code f = no_key (all_issued h) code (not_among (is_one_of code (issued_codes h)) f)
+
+-- a room that is there has a row
+pub room_has_row : (h : History) (room : ℕ) → is_room h room ≡ true → is_some (room_at (rows_of h) room) ≡ true
+room_has_row h room t = ap is_some (room_there h room t).2
+
+-- The room of a party in house is there.
+pub home_is_room : (h : History) (party room : ℕ) → Reached h → room_of h party ≡ Some room → is_room h room ≡ true
+home_is_room h party room ok e = by (is_room h room) refl
+  where
+    by : (b : Bool) → is_room h room ≡ b → is_room h room ≡ true
+    by true t = t
+    by false f = let w : ◌≡◌ {A = Option ℕ} (Some party) None = sym ((homes_match h ok).back room party e) ∙ nobody_registered h ok room f in cc
+
+-- A room can have one more code, as long as a card's number is left.
+codes_left : (h : History) (room : ℕ) → Reached h → is_room h room ≡ true → cards_used_up h ≡ false → codes_of (rows_of h) room < 2 ^ 32 - 1
+codes_left h room ok t n =
+    let said : codes_of (rows_of h) room ≡ length (issued h room) = codes_said h room t in
+    let few : length (issued h room) ≤ length (cards h) + 1 = codes_fit h ok room in
+    let left : length (cards h) < 9999999 = leb-false 9999999 (length (cards h)) n in
+    omega arith
+
+home_has_row : (h : History) (party : ℕ) → Reached h → is_in_house h party ≡ true → is_some (room_at (rows_of h) (said_of (room_of h party) 0 (λ room. room))) ≡ true
+home_has_row h party ok t =
+    let home = home_there h party t in
+    ap (λ o. is_some (room_at (rows_of h) (said_of o 0 (λ room. room)))) home.1 ∙ room_has_row h home.0 (home_is_room h party home.0 ok home.1)
+
+next_is_new : (h : History) (room count : ℕ) → Reached h → count ≡ length (notes h room) + 1 → note_at (rows_of h) room count ≡ None
+next_is_new h room count ok n = next_not_found h ok room count (omega arith)
+
+has_rows_where : (h : History) (event : Event) → Reached h → MayFollow h event → HasNumber h event → HasItsRows (change_of h event) (rows_of h)
+has_rows_where h (Begun day) ok n l = no_day _ n
+has_rows_where h (Kind kind) ok n l = n.1
+has_rows_where h (Install room kind code) ok n l = (n.0, room_not_there h room n.1, fresh_has_no_row h code n.2)
+has_rows_where h (Reserved party guest kind arrive depart) ok n l = (n.1, refl)
+has_rows_where h (Cancelled party) ok n l = has_stay h party n.0
+has_rows_where h (CheckIn party room number code) ok n l = (room_has_row h room n.0, codes_left h room ok n.0 l, fresh_has_no_row h code n.6, n.5, has_stay h party n.1)
+has_rows_where h (Transfer party room number code) ok n l = (room_has_row h room n.0, codes_left h room ok n.0 l, fresh_has_no_row h code n.6, n.5, has_stay h party n.1)
+has_rows_where h (Spare party number) ok n l = n.2
+has_rows_where h (CheckOut party) ok n l = (has_stay h party n.0, home_has_row h party ok n.1)
+has_rows_where h NextDay ok n l = n.0
+has_rows_where h (Entered room count number link at) ok n l = (room_has_row h room n.1, next_is_new h room count ok n.0)
+has_rows_where h (Left room count number link at) ok n l = (room_has_row h room n.1, next_is_new h room count ok n.0)
+has_rows_where h (Recoded room count from to at) ok n l = (room_has_row h room n.1, next_is_new h room count ok n.0)
+
+-- The change of an event of a reached history has its rows.
+pub changes_have_rows : (h : History) (event : Event) → Reached (h ▷ event) → HasItsRows (change_of h event) (rows_of h)
+changes_have_rows h event ok = has_rows_where h event ok.0 (may_follow h event ok) (has_number h event ok)

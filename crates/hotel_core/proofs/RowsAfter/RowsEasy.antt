@@ -1,0 +1,29 @@
+-- The rows after events that touch no room.
+use Rattle.std.proofs.Common.{ℕ, ◌≡◌, ◌+◌, List, true, Option, Some, None, refl, ap}
+use Rattle.std.specs.Prelude.{option_map, is_some}
+use Rattle.keycard_rules.specs.declared.card.Link.{Link}
+use Rattle.keycard_rules.specs.declared.card.Card.{Card}
+use Rattle.hotel_core.specs.Model.Words.{said_of}
+use Rattle.hotel_core.specs.Model.Event.{NextDay, Spare}
+use Rattle.hotel_core.specs.Model.History.{History}
+use Rattle.hotel_core.specs.Model.RowsOf.{rows_of}
+use Rattle.hotel_core.specs.Model.Cards.{cards, with_spare, link_of_party, card_of}
+use Rattle.hotel_core.specs.Model.Cases.{is_begun, no_link}
+use Rattle.hotel_core.specs.Model.Stays.{day}
+use Rattle.std.specs.Ordering.{nat_cmp}
+use Rattle.std.specs.BTreeMap.{insert_entry}
+use Rattle.hotel_core.specs.Refinement.Follow.{FollowsBy}
+
+next_day : (o : Option ℕ) → is_some o ≡ true → option_map (λ d. d + 1) o ≡ Some (said_of o 0 (λ d. d) + 1)
+next_day (Some d) h = refl
+next_day None h = cc
+
+pub next_day_follows : (h : History) → is_begun h ≡ true → FollowsBy h NextDay
+next_day_follows h b = ap (λ d. record (rows_of h) { day = d }) (next_day (day h) b)
+
+spare_card : (o : Option Link) (number party : ℕ) (all : List (ℕ × Card)) → is_some o ≡ true → with_spare number party o all ≡ insert_entry nat_cmp all number (card_of number party (said_of o no_link (λ link. link)))
+spare_card (Some link) number party all h = refl
+spare_card None number party all h = cc
+
+pub spare_follows : (h : History) (party number : ℕ) → is_some (link_of_party h party) ≡ true → FollowsBy h (Spare party number)
+spare_follows h party number s = ap (λ cs. record (rows_of h) { cards = cs }) (spare_card (link_of_party h party) number party (cards h) s)

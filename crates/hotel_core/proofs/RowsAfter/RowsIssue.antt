@@ -1,0 +1,105 @@
+-- The rows after a room was added, and after a party came to a room.
+use Rattle.std.proofs.Common.{ℕ, ◌≡◌, ◌+◌, Bool, true, false, Option, Some, None, List, [], ◌∷◌, refl, ap, sym, ◌∙◌, length}
+use Rattle.std.specs.Prelude.{◌==◌}
+use Rattle.std.specs.Ordering.{nat_cmp, match_ordering}
+use Rattle.std.specs.declared.cmp.Ordering.{Ordering}
+use Rattle.std.specs.declared.cmp.Ordering.TheVariants.{Less, Equal, Greater}
+use Rattle.std.specs.BTreeMap.{insert_entry}
+use Rattle.std.proofs.lemmas.Map.Lookups.{exact_unsigned}
+use Rattle.hotel_core.specs.declared.books.rows.RoomRow.{RoomRow}
+use Rattle.hotel_core.specs.Model.Words.{when, and_last, said_of}
+use Rattle.hotel_core.specs.Model.Event.{Install, CheckIn}
+use Rattle.hotel_core.specs.Model.History.{History, ◌▷◌}
+use Rattle.hotel_core.specs.Model.Issued.{issued, all_issued}
+use Rattle.hotel_core.specs.Model.Guests.{registered, secured}
+use Rattle.hotel_core.specs.Model.Stays.{rooms}
+use Rattle.hotel_core.specs.Model.RowsOf.{room_row, rows_of}
+use Rattle.hotel_core.specs.Model.Cases.{is_room}
+use Rattle.hotel_core.specs.Model.Run.{Reached}
+use Rattle.hotel_core.specs.Books.Change.{codes_of, room_changed}
+use Rattle.hotel_core.specs.Refinement.Follow.{FollowsBy, ApartFrom}
+use Rattle.hotel_core.proofs.RowsAfter.RowsRooms.{eq_flip, rows_by, others, one_changed, length_more}
+use Rattle.hotel_core.proofs.OfTables.Numbered.{true_is_not_false}
+use Rattle.hotel_core.proofs.OfTables.RoomNumbers.{apart_from, rooms_once, room_there}
+use Rattle.hotel_core.proofs.Invariants.NoRooms.{nothing_issued, nothing_passed, nobody_registered, nothing_noted}
+use Rattle.hotel_core.proofs.OfTables.Tests.{eq_self}
+
+new_room_by : (o : Ordering) (f g : ℕ → List ℕ → RoomRow) (room : ℕ) (kind : List ℕ) (e : ℕ × List ℕ) (es : List (ℕ × List ℕ))
+    → nat_cmp room e.0 ≡ o → (e.0 == room) ≡ false → f e.0 e.1 ≡ g e.0 e.1 → rows_by f es ≡ rows_by g es
+    → rows_by f (insert_entry nat_cmp es room kind) ≡ insert_entry nat_cmp (rows_by g es) room (f room kind)
+    → rows_by f (match_ordering o ((room, kind) ∷ e ∷ es) ((e.0, kind) ∷ es) (e ∷ insert_entry nat_cmp es room kind))
+    ≡ match_ordering o ((room, f room kind) ∷ (e.0, g e.0 e.1) ∷ rows_by g es) ((e.0, f room kind) ∷ rows_by g es) ((e.0, g e.0 e.1) ∷ insert_entry nat_cmp (rows_by g es) room (f room kind))
+new_room_by Less f g room kind e es c n here rest ih =
+    ap (λ row. (room, f room kind) ∷ (e.0, row) ∷ rows_by f es) here ∙ ap (λ zs. (room, f room kind) ∷ (e.0, g e.0 e.1) ∷ zs) rest
+new_room_by Equal f g room kind e es c n here rest ih =
+    absurd (true_is_not_false (ap (λ z. e.0 == z) (exact_unsigned room e.0 c) ∙ eq_self e.0) n)
+new_room_by Greater f g room kind e es c n here rest ih =
+    ap (λ row. (e.0, row) ∷ rows_by f (insert_entry nat_cmp es room kind)) here ∙ ap (λ zs. (e.0, g e.0 e.1) ∷ zs) ih
+
+-- All other rooms' rows stay and this one's is new.
+pub new_room : (f g : ℕ → List ℕ → RoomRow) (room : ℕ) (kind : List ℕ) → ((r : ℕ) (k : List ℕ) → (room == r) ≡ false → f r k ≡ g r k)
+    → (rs : List (ℕ × List ℕ)) → ApartFrom room rs → rows_by f (insert_entry nat_cmp rs room kind) ≡ insert_entry nat_cmp (rows_by g rs) room (f room kind)
+new_room f g room kind a [] n = refl
+new_room f g room kind a (e ∷ es) n =
+    new_room_by (nat_cmp room e.0) f g room kind e es refl n.0 (a e.0 e.1 (eq_flip e.0 room n.0)) (others f g room a es n.1) (new_room f g room kind a es n.1)
+
+-- rows of a room that agree
+row_is : (room : ℕ) (kind : List ℕ) (place place' codes codes' : ℕ) (s s' : Bool) (p p' : Option ℕ) (n n' : ℕ) → place ≡ place' → codes ≡ codes' → s ≡ s' → p ≡ p' → n ≡ n'
+    → (let x : RoomRow = record { room = room; kind = kind; lock_place = place; codes = codes; secured = s; party = p; notes = n } in x)
+    ≡ record { room = room; kind = kind; lock_place = place'; codes = codes'; secured = s'; party = p'; notes = n' }
+row_is room kind place place' codes codes' s s' p p' n n' a b c d e = cc
+
+-- the row of a room that was just added
+added_row : (h : History) (room code : ℕ) (kind : List ℕ) → Reached h → is_room h room ≡ false
+    → room_row (h ▷ Install room kind code) room kind ≡ record { room = room; kind = kind; lock_place = 0; codes = 1; secured = false; party = None; notes = 0 }
+added_row h room code kind ok none =
+    row_is room kind _ _ _ _ _ _ _ _ _ _
+    (ap (λ (xs : List ℕ). length xs) (nothing_passed h ok room none))
+    (ap (λ b. length (when b (and_last code) (issued h room))) (eq_self room) ∙ ap (λ (xs : List ℕ). length (and_last code xs)) (nothing_issued h ok room none))
+    (ap (λ b. when b (λ _. false) (secured h room)) (eq_self room))
+    (nobody_registered h ok room none)
+    (ap length (nothing_noted h ok room none))
+
+-- a room is added
+pub install_follows : (h : History) (room code : ℕ) (kind : List ℕ) → Reached h → is_room h room ≡ false → FollowsBy h (Install room kind code)
+install_follows h room code kind ok none =
+    let h' : History = h ▷ Install room kind code in
+    ap (λ rs. record (rows_of h') { rooms = rs })
+    (new_room (room_row h') (room_row h) room kind
+    (λ r k t. ap (λ b. record (room_row h r k) { codes = length (when b (and_last code) (issued h r)); secured = when b (λ _. false) (secured h r) }) t)
+    (rooms h) (apart_from room (rooms h) none)
+    ∙ ap (λ row. insert_entry nat_cmp (rows_of h).rooms room row) (added_row h room code kind ok none))
+    ∙ ap (λ (xs : List ℕ). record (rows_of h) {
+      rooms = insert_entry nat_cmp (rows_of h).rooms room (record { room = room; kind = kind; lock_place = 0; codes = 1; secured = false; party = None; notes = 0 });
+      codes = insert_entry nat_cmp (all_issued h) code (record { room = room; place = length xs });
+    }) (nothing_issued h ok room none)
+
+-- how many codes the row of a room that is there says
+pub codes_said : (h : History) (room : ℕ) → is_room h room ≡ true → codes_of (rows_of h) room ≡ length (issued h room)
+codes_said h room e = ap (λ o. said_of o 0 (λ row. row.codes)) (room_there h room e).2
+
+-- the row of a room to which a party came
+abbrev pub came_to : ℕ → RoomRow → RoomRow
+came_to party row = record row { codes = row.codes + 1; secured = false; party = Some party }
+
+-- a party comes to a room
+pub check_in_follows : (h : History) (party room number code : ℕ) → Reached h → is_room h room ≡ true → FollowsBy h (CheckIn party room number code)
+check_in_follows h party room number code ok there =
+    let h' : History = h ▷ CheckIn party room number code in
+    ap (λ rs. record (rows_of h') { rooms = rs })
+    (one_changed (room_row h') (room_row h) (came_to party) room
+    (λ r k t. ap (λ b. record (room_row h r k) {
+      codes = length (when b (and_last code) (issued h r));
+      secured = when b (λ _. false) (secured h r);
+      party = when b (λ _. Some party) (registered h r);
+    }) t)
+    (λ k. ap (λ b. record (room_row h room k) {
+      codes = length (when b (and_last code) (issued h room));
+      secured = when b (λ _. false) (secured h room);
+      party = when b (λ _. Some party) (registered h room);
+    }) (eq_self room) ∙ ap (λ n. record (room_row h room k) { codes = n; secured = false; party = Some party }) (length_more (issued h room) code))
+    (rooms h) (rooms_once h ok))
+    ∙ ap (λ place. record (rows_of h') {
+      rooms = room_changed room (came_to party) (rows_of h).rooms;
+      codes = insert_entry nat_cmp (all_issued h) code (record { room = room; place = place });
+    }) (sym (codes_said h room there))

@@ -1,0 +1,83 @@
+-- The rows after a party left for good, and after it went to another room.
+use Rattle.std.proofs.Common.{ℕ, ◌≡◌, true, false, Option, Some, None, List, refl, ap, sym, ◌∙◌, length}
+use Rattle.std.specs.Prelude.{◌==◌, is_some}
+use Rattle.std.specs.Ordering.{nat_cmp}
+use Rattle.std.specs.BTreeMap.{insert_entry}
+use Rattle.hotel_core.specs.declared.books.rows.RoomRow.{RoomRow}
+use Rattle.hotel_core.specs.Model.Words.{when, and_last, said_of}
+use Rattle.hotel_core.specs.Model.Event.{Transfer, CheckOut}
+use Rattle.hotel_core.specs.Model.History.{History, ◌▷◌}
+use Rattle.hotel_core.specs.Model.Issued.{issued, all_issued}
+use Rattle.hotel_core.specs.Model.Guests.{registered, secured, leaves}
+use Rattle.hotel_core.specs.Model.Stays.{rooms}
+use Rattle.hotel_core.specs.Model.RowsOf.{room_row, rows_of}
+use Rattle.hotel_core.specs.Model.Cases.{is_room, is_in_house, room_of}
+use Rattle.hotel_core.specs.Model.Run.{Reached}
+use Rattle.hotel_core.specs.Books.Change.{room_changed, without_party, left_by}
+use Rattle.hotel_core.specs.Refinement.Follow.{FollowsBy}
+use Rattle.hotel_core.proofs.RowsAfter.RowsRooms.{rows_by, one_changed, length_more}
+use Rattle.hotel_core.proofs.OfTables.Numbered.{true_is_not_false}
+use Rattle.hotel_core.proofs.OfTables.RoomNumbers.{rooms_once}
+use Rattle.hotel_core.proofs.RowsAfter.RowsIssue.{came_to, codes_said}
+use Rattle.hotel_core.proofs.Invariants.Homes.{not_leaving}
+use Rattle.hotel_core.proofs.Invariants.InHouse.{homes_match}
+use Rattle.hotel_core.proofs.OfTables.Tests.{eq_self}
+
+some_home : (o : Option ℕ) → is_some o ≡ true → (room : ℕ) × (o ≡ Some room)
+some_home (Some room) h = (room, refl)
+some_home None h = cc
+
+-- the room of a party in house
+pub home_there : (h : History) (party : ℕ) → is_in_house h party ≡ true → (room : ℕ) × (room_of h party ≡ Some room)
+home_there h party t = some_home (room_of h party) t
+
+two_homes : {a b : ℕ} {o : Option ℕ} → o ≡ Some a → o ≡ Some b → a ≡ b
+two_homes e f = cc
+
+itself_leaves : (party : ℕ) → leaves party (Some party) ≡ None
+itself_leaves party = ap (λ b. when b (λ _. None) (Some party)) (eq_self party)
+
+-- a room's row without a party that leaves
+abbrev pub row_without : History → ℕ → ℕ → List ℕ → RoomRow
+row_without h party r kind = record (room_row h r kind) { party = leaves party (registered h r) }
+
+-- The rows of rooms without a party that leaves its room.
+pub left_room : (h : History) (party home : ℕ) → Reached h → room_of h party ≡ Some home → rows_by (row_without h party) (rooms h) ≡ without_party home (rows_of h).rooms
+left_room h party home ok e =
+    let m = homes_match h ok in
+    one_changed (row_without h party) (room_row h) (λ row. record row { party = None }) home
+    (λ r k t. ap (λ p. record (room_row h r k) { party = p })
+    (not_leaving party (registered h r) (λ s. true_is_not_false (ap (λ z. home == z) (sym (two_homes e (m.forth r party s))) ∙ eq_self home) t)))
+    (λ k. ap (λ p. record (room_row h home k) { party = p }) (ap (leaves party) (m.back home party e) ∙ itself_leaves party))
+    (rooms h) (rooms_once h ok)
+
+-- a party leaves for good
+pub check_out_follows : (h : History) (party : ℕ) → Reached h → is_in_house h party ≡ true → FollowsBy h (CheckOut party)
+check_out_follows h party ok t =
+    let home = home_there h party t in
+    ap (λ rs. record (rows_of (h ▷ CheckOut party)) { rooms = rs })
+    (left_room h party home.0 ok home.1 ∙ ap (λ o. without_party (said_of o 0 (λ room. room)) (rows_of h).rooms) (sym home.1))
+
+-- a party goes to another room
+pub transfer_follows : (h : History) (party room number code : ℕ) → Reached h → is_room h room ≡ true → is_in_house h party ≡ true → FollowsBy h (Transfer party room number code)
+transfer_follows h party room number code ok there t =
+    let h' : History = h ▷ Transfer party room number code in
+    let home = home_there h party t in
+    ap (λ rs. record (rows_of h') { rooms = rs })
+    (one_changed (room_row h') (row_without h party) (came_to party) room
+    (λ r k t. ap (λ b. record (room_row h r k) {
+      codes = length (when b (and_last code) (issued h r));
+      secured = when b (λ _. false) (secured h r);
+      party = when b (λ _. Some party) (leaves party (registered h r));
+    }) t)
+    (λ k. ap (λ b. record (room_row h room k) {
+      codes = length (when b (and_last code) (issued h room));
+      secured = when b (λ _. false) (secured h room);
+      party = when b (λ _. Some party) (leaves party (registered h room));
+    }) (eq_self room) ∙ ap (λ n. record (room_row h room k) { codes = n; secured = false; party = Some party }) (length_more (issued h room) code))
+    (rooms h) (rooms_once h ok)
+    ∙ ap (λ rs. room_changed room (came_to party) rs) (left_room h party home.0 ok home.1 ∙ ap (λ o. left_by o (rows_of h).rooms) (sym home.1)))
+    ∙ ap (λ place. record (rows_of h') {
+      rooms = room_changed room (came_to party) (left_by (room_of h party) (rows_of h).rooms);
+      codes = insert_entry nat_cmp (all_issued h) code (record { room = room; place = place });
+    }) (sym (codes_said h room there))

@@ -1,0 +1,59 @@
+-- The rows after a card entered a room, and after staff recoded a lock.
+use Rattle.std.proofs.Common.{ℕ, ◌≡◌, ◌+◌, ◌++◌, ◌∷◌, ap, sym, ◌∙◌, length}
+use Rattle.std.specs.Prelude.{◌==◌, ◌&&◌, Bool, true}
+use Rattle.keycard_rules.specs.declared.card.Link.{Link}
+use Rattle.keycard_rules.specs.Note.{Note}
+use Rattle.keycard_rules.specs.declared.note.Act.TheVariants as act
+use Rattle.hotel_core.specs.declared.books.rows.RoomRow.{RoomRow}
+use Rattle.hotel_core.specs.Model.Words.{when, and_last, before}
+use Rattle.hotel_core.specs.Model.Event.{Moment, Entered, Recoded}
+use Rattle.hotel_core.specs.Model.History.{History, ◌▷◌}
+use Rattle.hotel_core.specs.Model.Issued.{current}
+use Rattle.hotel_core.specs.Model.Ledger.{passed, turns, awaited}
+use Rattle.hotel_core.specs.Model.Guests.{inside, secured, are_none}
+use Rattle.hotel_core.specs.Model.Notes.{notes}
+use Rattle.hotel_core.specs.Model.Stays.{rooms}
+use Rattle.hotel_core.specs.Model.RowsOf.{room_row, rows_of}
+use Rattle.hotel_core.specs.Model.Run.{Reached}
+use Rattle.hotel_core.specs.Books.Change.{room_changed}
+use Rattle.hotel_core.specs.Refinement.Follow.{FollowsBy}
+use Rattle.hotel_core.proofs.RowsAfter.RowsRooms.{one_changed, length_more}
+use Rattle.hotel_core.proofs.OfTables.RoomNumbers.{rooms_once}
+use Rattle.hotel_core.proofs.OfTables.Insiders.{card_came}
+use Rattle.hotel_core.proofs.OfTables.Tests.{eq_self}
+
+-- the row of a room after a note
+abbrev pub noted_row : ℕ → Bool → ℕ → RoomRow → RoomRow
+noted_row place s count row = record row { lock_place = place; secured = s; notes = count }
+
+-- a card enters
+pub entered_follows : (h : History) (room count number : ℕ) (link : Link) (at : Moment) → Reached h → count ≡ length (notes h room) + 1 → FollowsBy h (Entered room count number link at)
+entered_follows h room count number link at ok n =
+    let h' : History = h ▷ Entered room count number link at in
+    let note : Note = record { room = room; count = count; act = act.Entered number link; day = at.day; second = at.second } in
+    let c : RoomRow → RoomRow = noted_row (length (passed h' room)) (secured h' room) count in
+    ap (λ rs. record (rows_of h') { rooms = rs })
+    (one_changed (room_row h') (room_row h) c room
+    (λ r k t. ap (λ b. record (room_row h r k) {
+      lock_place = length (when (b && turns h room link) (and_last link.old_code) (passed h r));
+      secured = when (b && (link.new_code == current h room) && are_none (inside h room)) (λ _. true) (secured h r);
+      notes = length (when b (and_last note) (notes h r));
+    }) t)
+    (λ k. ap (λ m. record (room_row h' room k) { notes = m }) (ap (λ b. length (when b (and_last note) (notes h room))) (eq_self room) ∙ length_more (notes h room) note ∙ sym n))
+    (rooms h) (rooms_once h ok))
+    ∙ ap (λ pairs. record (rows_of h') { rooms = room_changed room c (rows_of h).rooms; inside = pairs }) (card_came h room number ok)
+
+-- staff recode a lock
+pub recoded_follows : (h : History) (room count from to : ℕ) (at : Moment) → Reached h → count ≡ length (notes h room) + 1 → FollowsBy h (Recoded room count from to at)
+recoded_follows h room count from to at ok n =
+    let h' : History = h ▷ Recoded room count from to at in
+    let note : Note = record { room = room; count = count; act = act.Recoded from to; day = at.day; second = at.second } in
+    let c : RoomRow → RoomRow = noted_row (length (passed h' room)) (secured h' room) count in
+    ap (λ rs. record (rows_of h') { rooms = rs })
+    (one_changed (room_row h') (room_row h) c room
+    (λ r k t. ap (λ b. record (room_row h r k) {
+      lock_place = length (when b (λ codes. codes ++ from ∷ before to (awaited h r)) (passed h r));
+      notes = length (when b (and_last note) (notes h r));
+    }) t)
+    (λ k. ap (λ m. record (room_row h' room k) { notes = m }) (ap (λ b. length (when b (and_last note) (notes h room))) (eq_self room) ∙ length_more (notes h room) note ∙ sym n))
+    (rooms h) (rooms_once h ok))

@@ -1,0 +1,59 @@
+-- The rows after an event that touches one room.
+use Rattle.std.proofs.Common.{ℕ, ◌≡◌, ◌+◌, List, [], ◌∷◌, ◌++◌, Bool, true, false, cond, refl, ap, sym, ◌∙◌, subst, length, arith}
+use Rattle.std.specs.Prelude.{◌==◌, map}
+use Rattle.std.proofs.lemmas.Bool.Decides.{nat_tests}
+use Rattle.keycard_rules.specs.declared.card.Link.{Link}
+use Rattle.keycard_rules.specs.Note.{Note}
+use Rattle.keycard_rules.specs.declared.note.Act.TheVariants as act
+use Rattle.hotel_core.specs.declared.books.rows.RoomRow.{RoomRow}
+use Rattle.hotel_core.specs.Model.Words.{when, and_last}
+use Rattle.hotel_core.specs.Model.Event.{Moment, Left}
+use Rattle.hotel_core.specs.Model.History.{History, ◌▷◌}
+use Rattle.hotel_core.specs.Model.Notes.{notes}
+use Rattle.hotel_core.specs.Model.Stays.{rooms}
+use Rattle.hotel_core.specs.Model.RowsOf.{room_row, rows_of}
+use Rattle.hotel_core.specs.Books.Change.{room_changed}
+use Rattle.hotel_core.specs.Refinement.Follow.{FollowsBy, ApartFrom, RoomsOnce}
+use Rattle.hotel_core.proofs.OfTables.Tests.{eq_from, eq_self}
+
+pub eq_flip : (a b : ℕ) → (a == b) ≡ false → (b == a) ≡ false
+eq_flip a b h = grind (arith, nat_tests)
+
+-- the rows of these rooms
+abbrev pub rows_by : (ℕ → List ℕ → RoomRow) → List (ℕ × List ℕ) → List (ℕ × RoomRow)
+rows_by f rs = map (λ e. (e.0, f e.0 e.1)) rs
+
+pub others : (f g : ℕ → List ℕ → RoomRow) (room : ℕ) → ((r : ℕ) (k : List ℕ) → (room == r) ≡ false → f r k ≡ g r k) → (rs : List (ℕ × List ℕ)) → ApartFrom room rs → rows_by f rs ≡ rows_by g rs
+others f g room a [] n = refl
+others f g room a (e ∷ es) n = ap (λ row. (e.0, row) ∷ rows_by f es) (a e.0 e.1 (eq_flip e.0 room n.0)) ∙ ap (λ zs. (e.0, g e.0 e.1) ∷ zs) (others f g room a es n.1)
+
+here_or_later : (b : Bool) (f g : ℕ → List ℕ → RoomRow) (c : RoomRow → RoomRow) (room : ℕ) (e : ℕ × List ℕ) (es : List (ℕ × List ℕ))
+    → (b ≡ true → (f e.0 e.1 ≡ c (g e.0 e.1)) × (rows_by f es ≡ rows_by g es))
+    → (b ≡ false → (f e.0 e.1 ≡ g e.0 e.1) × (rows_by f es ≡ room_changed room c (rows_by g es)))
+    → (e.0, f e.0 e.1) ∷ rows_by f es ≡ cond b ((e.0, c (g e.0 e.1)) ∷ rows_by g es) ((e.0, g e.0 e.1) ∷ room_changed room c (rows_by g es))
+here_or_later true f g c room e es yes_ no_ = let y = yes_ refl in ap (λ row. (e.0, row) ∷ rows_by f es) y.0 ∙ ap (λ zs. (e.0, c (g e.0 e.1)) ∷ zs) y.1
+here_or_later false f g c room e es yes_ no_ = let y = no_ refl in ap (λ row. (e.0, row) ∷ rows_by f es) y.0 ∙ ap (λ zs. (e.0, g e.0 e.1) ∷ zs) y.1
+
+-- All other rooms' rows stay and this one's is changed.
+pub one_changed : (f g : ℕ → List ℕ → RoomRow) (c : RoomRow → RoomRow) (room : ℕ) → ((r : ℕ) (k : List ℕ) → (room == r) ≡ false → f r k ≡ g r k) → ((k : List ℕ) → f room k ≡ c (g room k))
+    → (rs : List (ℕ × List ℕ)) → RoomsOnce rs → rows_by f rs ≡ room_changed room c (rows_by g rs)
+one_changed f g c room a s [] n = refl
+one_changed f g c room a s (e ∷ es) n =
+    here_or_later (e.0 == room) f g c room e es
+    (λ t. (subst (λ z. f z e.1 ≡ c (g z e.1)) (sym (eq_from e.0 room t)) (s e.1), others f g room a es (subst (λ z. ApartFrom z es) (eq_from e.0 room t) n.0)))
+    (λ t. (a e.0 e.1 (eq_flip e.0 room t), one_changed f g c room a s es n.1))
+
+pub length_more : {X : Type 0} (xs : List X) (x : X) → length (xs ++ x ∷ []) ≡ length xs + 1
+length_more [] x = refl
+length_more (y ∷ ys) x = let p = length_more ys x in omega arith
+
+-- a card leaves
+pub left_follows : (h : History) (room count number : ℕ) (link : Link) (at : Moment) → RoomsOnce (rooms h) → count ≡ length (notes h room) + 1 → FollowsBy h (Left room count number link at)
+left_follows h room count number link at once n =
+    let h' : History = h ▷ Left room count number link at in
+    let note : Note = record { room = room; count = count; act = act.Left number link; day = at.day; second = at.second } in
+    ap (λ rs. record (rows_of h') { rooms = rs })
+    (one_changed (room_row h') (room_row h) _ room
+    (λ r k t. ap (λ b. record (room_row h r k) { notes = length (when b (and_last note) (notes h r)) }) t)
+    (λ k. ap (λ m. record (room_row h room k) { notes = m }) (ap (λ b. length (when b (and_last note) (notes h room))) (eq_self room) ∙ length_more (notes h room) note ∙ sym n))
+    (rooms h) once)

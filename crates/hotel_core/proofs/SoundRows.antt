@@ -1,0 +1,14 @@
+pub mod SoundKeys
+pub mod RowsPass
+pub mod SoundDay
+pub mod SoundKinds
+pub mod SoundRoomRows
+pub mod SoundHomes
+pub mod SoundStays
+pub mod SoundCodes
+pub mod SoundLinks
+pub mod SoundCardRows
+pub mod SoundInside
+pub mod SoundNotes
+pub mod AllSound
+pub mod TestsSound

@@ -1,0 +1,81 @@
+-- The rows of each history that can be reached are sound; the headline.
+use Rattle.std.proofs.Common.{◌≡◌, subst}
+use Rattle.hotel_core.specs.Model.Event.{Event}
+use Rattle.hotel_core.specs.Model.History.{History, ◌▷◌}
+use Rattle.hotel_core.specs.Model.RowsOf.{rows_of}
+use Rattle.hotel_core.specs.Books.Change.{made}
+use Rattle.hotel_core.specs.Refinement.ChangeOf.{change_of}
+use Rattle.hotel_core.specs.Model.Sound.{IsSound}
+use Rattle.hotel_core.specs.Books.Fits.{Fits}
+use Rattle.hotel_core.specs.Model.Headline.{Headline}
+use Rattle.hotel_core.specs.Model.Run.{Reached}
+use Rattle.hotel_core.proofs.Invariants.CodePlaces.{no_code_twice}
+use Rattle.hotel_core.proofs.Invariants.LedgerOrder.{ledger_holds, takes_the_first}
+use Rattle.hotel_core.proofs.Invariants.OpenLocks.{opens_own_room, newest_opens}
+use Rattle.hotel_core.proofs.Invariants.SecuredRooms.{safe_room}
+use Rattle.hotel_core.proofs.RowsAfter.RowsFollow.{made_follow}
+use Rattle.hotel_core.proofs.RowsAfter.HasRows.{changes_have_rows}
+use Rattle.hotel_core.proofs.SoundRows.SoundKeys.{rows_in_order}
+use Rattle.hotel_core.proofs.SoundRows.SoundDay.{day_fits, day_before}
+use Rattle.hotel_core.proofs.SoundRows.SoundKinds.{kinds_are_read, room_kinds, stay_kinds}
+use Rattle.hotel_core.proofs.SoundRows.SoundRoomRows.{rooms_numbered, locks_placed, few_codes, notes_numbered, secured_locks}
+use Rattle.hotel_core.proofs.SoundRows.SoundHomes.{parties_at_home}
+use Rattle.hotel_core.proofs.SoundRows.SoundStays.{stays_numbered, guests_are_read, days_fit, rooms_of_stays}
+use Rattle.hotel_core.proofs.Invariants.RoomsLeft.{rows_not_oversold}
+use Rattle.hotel_core.proofs.SoundRows.SoundCodes.{codes_fit, code_rooms, codes_once}
+use Rattle.hotel_core.proofs.SoundRows.SoundCardRows.{cards_numbered, card_parties, card_links, card_owners, codes_are_brought, newest_owned, last_are_newest}
+use Rattle.hotel_core.proofs.SoundRows.SoundInside.{all_inside_fit}
+use Rattle.hotel_core.proofs.SoundRows.SoundNotes.{notes_are_counted, notes_all_fit}
+
+-- The rows of a history that can be reached are sound.
+pub rows_sound : (h : History) → Reached h → IsSound (rows_of h)
+rows_sound h ok = record {
+  keys = rows_in_order h ok;
+  meta_day = day_fits h ok;
+  meta_kinds = day_before h ok;
+  kind_reads = kinds_are_read h ok;
+  room_number = rooms_numbered h ok;
+  room_lock_place = locks_placed h ok;
+  room_kind = room_kinds h ok;
+  room_codes = few_codes h ok;
+  room_notes = notes_numbered h ok;
+  room_party = parties_at_home h ok;
+  room_secured = secured_locks h ok;
+  stay_number = stays_numbered h ok;
+  stay_guest = guests_are_read h ok;
+  stay_kind = stay_kinds h ok;
+  stay_day = days_fit h ok;
+  stay_room = rooms_of_stays h ok;
+  stay_nights = rows_not_oversold h ok;
+  code_range = codes_fit h ok;
+  code_room = code_rooms h ok;
+  code_places = codes_once h ok;
+  card_number = cards_numbered h ok;
+  card_party = card_parties h ok;
+  card_link = card_links h ok;
+  card_one_party = card_owners h ok;
+  card_neighbours = codes_are_brought h ok;
+  card_newest = newest_owned h ok;
+  card_last = last_are_newest h ok;
+  inside_fits = all_inside_fit h ok;
+  note_counted = notes_are_counted h ok;
+  note_fits = notes_all_fit h ok;
+}
+
+-- The change of an event makes the rows of the grown history, and fits.
+pub rows_follow : (h : History) (event : Event) → Reached (h ▷ event) → (rows_of (h ▷ event) ≡ made (change_of h event) (rows_of h)) × Fits (change_of h event) (rows_of h)
+rows_follow h event ok =
+    let same = made_follow h event ok in
+    (same, (changes_have_rows h event ok, subst IsSound same (rows_sound (h ▷ event) ok)))
+
+-- The seven parts of the headline hold.
+pub headline : (h : History) → Reached h → Headline h
+headline h ok = record {
+  no_code_twice = no_code_twice h ok;
+  ledger = ledger_holds h ok;
+  takes_the_first = takes_the_first h ok;
+  opens_own_room = opens_own_room h ok;
+  newest_opens = newest_opens h ok;
+  safe_room = safe_room h ok;
+  rows_sound = rows_sound h ok;
+}

@@ -1,0 +1,102 @@
+-- Each table of a history's rows is in the order of its keys, and no key stands twice.
+use Rattle.std.proofs.Common.{ℕ, ◌≡◌, true, List, [], ◌∷◌, Option, Some, None, refl, ap, sym, ◌∙◌, subst}
+use Rattle.std.specs.Prelude.{map}
+use Rattle.std.specs.Ordering.{nat_cmp}
+use Rattle.std.specs.Cmp.Lexicographic.{slice_cmp}
+use Rattle.std.specs.Map.{keys_of}
+use Rattle.std.proofs.lemmas.Cmp.{nat_list_cmp_total}
+use Rattle.keycard_rules.specs.declared.card.Card.{Card}
+use Rattle.keycard_rules.specs.declared.card.Link.{Link}
+use Rattle.keycard_rules.specs.Note.{Note}
+use Rattle.hotel_nights.specs.declared.stay.Stay.{Stay}
+use Rattle.hotel_nights.specs.declared.stay.StayState.{StayState}
+use Rattle.hotel_nights.specs.declared.stay.StayState.TheVariants as state
+use Rattle.hotel_core.specs.Model.Words.{pair_cmp}
+use Rattle.hotel_core.specs.Model.Event.{Kind, Install, Reserved, Cancelled, CheckIn, Transfer, Spare, CheckOut, note_of}
+use Rattle.hotel_core.specs.Model.History.{History, start, ◌▷◌}
+use Rattle.hotel_core.specs.Model.Issued.{all_issued}
+use Rattle.hotel_core.specs.Model.Cards.{cards, card_of, with_spare, link_of_party, link_to}
+use Rattle.hotel_core.specs.Model.Guests.{insiders}
+use Rattle.hotel_core.specs.Model.Stays.{kinds, rooms, stays, in_state}
+use Rattle.hotel_core.specs.Model.Notes.{all_notes, and_note}
+use Rattle.hotel_core.specs.Model.RowsOf.{room_row, rows_of}
+use Rattle.hotel_core.specs.Model.Run.{Reached}
+use Rattle.hotel_core.specs.Model.SoundRooms.{are_in_order}
+use Rattle.hotel_core.specs.Model.Sound.{keys_in_order}
+use Rattle.hotel_core.proofs.OfTables.KeysInOrder.{InOrder, in_order_inserted, keys_inserted, in_order_tested}
+use Rattle.hotel_core.proofs.OfTables.Insiders.{insiders_in_order}
+use Rattle.hotel_core.proofs.OfTables.Pairs.{pair_cmp_total}
+use Rattle.hotel_core.proofs.Invariants.Numbering.{same_keys}
+use Rattle.hotel_core.proofs.OfTables.RowTests.{both}
+use Rattle.hotel_core.proofs.OfTables.SameTables.{in_order_with}
+use Rattle.hotel_core.proofs.Starts.StartCodes.{orders, same_room_keys}
+
+-- a table's keys stand in order
+abbrev pub AreInOrder : {X : Type 0} → List (ℕ × X) → Type 0
+AreInOrder es = InOrder nat_cmp (keys_of es)
+
+pub kinds_in_order : (h : History) → Reached h → InOrder (slice_cmp nat_cmp) (kinds h)
+kinds_in_order (start t) ok = (orders t ok).kinds
+kinds_in_order (h ▷ Kind kind) ok = in_order_inserted (slice_cmp nat_cmp) nat_list_cmp_total kind (kinds h) (kinds_in_order h ok.0)
+kinds_in_order (h ▷ _) ok = kinds_in_order h ok.0
+
+pub rooms_in_order : (h : History) → Reached h → AreInOrder (rooms h)
+rooms_in_order (start t) ok = subst (InOrder nat_cmp) (sym (same_room_keys t.rooms)) (orders t ok).rooms
+rooms_in_order (h ▷ Install room kind code) ok = in_order_with (rooms h) room kind (rooms_in_order h ok.0)
+rooms_in_order (h ▷ _) ok = rooms_in_order h ok.0
+
+pub codes_in_order : (h : History) → Reached h → AreInOrder (all_issued h)
+codes_in_order (start t) ok = (orders t ok).codes
+codes_in_order (h ▷ Install room kind code) ok = in_order_with (all_issued h) code _ (codes_in_order h ok.0)
+codes_in_order (h ▷ CheckIn party room number code) ok = in_order_with (all_issued h) code _ (codes_in_order h ok.0)
+codes_in_order (h ▷ Transfer party room number code) ok = in_order_with (all_issued h) code _ (codes_in_order h ok.0)
+codes_in_order (h ▷ _) ok = codes_in_order h ok.0
+
+still_in_order : (party : ℕ) (s : StayState) (es : List (ℕ × Stay)) → AreInOrder es → AreInOrder (in_state party s es)
+still_in_order party s es i = subst (InOrder nat_cmp) (sym (same_keys party s es)) i
+
+pub stays_in_order : (h : History) → Reached h → AreInOrder (stays h)
+stays_in_order (start t) ok = (orders t ok).stays
+stays_in_order (h ▷ Reserved party guest kind arrive depart) ok = in_order_with (stays h) party _ (stays_in_order h ok.0)
+stays_in_order (h ▷ Cancelled party) ok = still_in_order party state.Cancelled (stays h) (stays_in_order h ok.0)
+stays_in_order (h ▷ CheckIn party room number code) ok = still_in_order party (state.InHouse room) (stays h) (stays_in_order h ok.0)
+stays_in_order (h ▷ Transfer party room number code) ok = still_in_order party (state.InHouse room) (stays h) (stays_in_order h ok.0)
+stays_in_order (h ▷ CheckOut party) ok = still_in_order party state.Done (stays h) (stays_in_order h ok.0)
+stays_in_order (h ▷ _) ok = stays_in_order h ok.0
+
+spare_in_order : (o : Option Link) (number party : ℕ) (all : List (ℕ × Card)) → AreInOrder all → AreInOrder (with_spare number party o all)
+spare_in_order (Some link) number party all i = in_order_with all number (card_of number party link) i
+spare_in_order None number party all i = i
+
+pub cards_in_order : (h : History) → Reached h → AreInOrder (cards h)
+cards_in_order (start t) ok = (orders t ok).cards
+cards_in_order (h ▷ CheckIn party room number code) ok = in_order_with (cards h) number (card_of number party (link_to h room code)) (cards_in_order h ok.0)
+cards_in_order (h ▷ Transfer party room number code) ok = in_order_with (cards h) number (card_of number party (link_to h room code)) (cards_in_order h ok.0)
+cards_in_order (h ▷ Spare party number) ok = spare_in_order (link_of_party h party) number party (cards h) (cards_in_order h ok.0)
+cards_in_order (h ▷ _) ok = cards_in_order h ok.0
+
+noted_in_order : (o : Option Note) (all : List ((ℕ × ℕ) × Note)) → InOrder pair_cmp (keys_of all) → InOrder pair_cmp (keys_of (and_note o all))
+noted_in_order (Some note) all i =
+    subst (InOrder pair_cmp) (sym (keys_inserted pair_cmp (note.room, note.count) note all)) (in_order_inserted pair_cmp pair_cmp_total (note.room, note.count) (keys_of all) i)
+noted_in_order None all i = i
+
+pub notes_in_order : (h : History) → Reached h → InOrder pair_cmp (keys_of (all_notes h))
+notes_in_order (start t) ok = (orders t ok).notes
+notes_in_order (h ▷ event) ok = noted_in_order (note_of event) (all_notes h) (notes_in_order h ok.0)
+
+-- the numbers of a table whose rows were computed
+pub keys_mapped : {X Y : Type 0} (f : ℕ → X → Y) (es : List (ℕ × X)) → keys_of (map (λ e. (e.0, f e.0 e.1)) es) ≡ keys_of es
+keys_mapped f [] = refl
+keys_mapped f (e ∷ es) = ap (λ ks. e.0 ∷ ks) (keys_mapped f es)
+
+-- Each table of the rows is in the order of its keys.
+pub rows_in_order : (h : History) → Reached h → keys_in_order (rows_of h) ≡ true
+rows_in_order h ok =
+    both _ _ (both _ _ (both _ _ (both _ _ (both _ _ (both _ _
+    (in_order_tested (slice_cmp nat_cmp) (kinds h) (kinds_in_order h ok))
+    (ap (are_in_order nat_cmp) (keys_mapped (room_row h) (rooms h)) ∙ in_order_tested nat_cmp (keys_of (rooms h)) (rooms_in_order h ok)))
+    (in_order_tested nat_cmp (keys_of (all_issued h)) (codes_in_order h ok)))
+    (in_order_tested nat_cmp (keys_of (stays h)) (stays_in_order h ok)))
+    (in_order_tested nat_cmp (keys_of (cards h)) (cards_in_order h ok)))
+    (in_order_tested pair_cmp (insiders h) (insiders_in_order h ok)))
+    (in_order_tested pair_cmp (keys_of (all_notes h)) (notes_in_order h ok))

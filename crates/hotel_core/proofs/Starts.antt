@@ -1,0 +1,14 @@
+pub mod StartRules
+pub mod StartOrder
+pub mod StartPlaces
+pub mod StartSplits
+pub mod StartCodes
+pub mod StartLedger
+pub mod StartNumbers
+pub mod StartSearch
+pub mod StartLinks
+pub mod StartGuests
+pub mod StartSecured
+pub mod StartNotes
+pub mod StartRows
+pub mod StartInside

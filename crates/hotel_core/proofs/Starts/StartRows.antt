@@ -1,0 +1,124 @@
+-- The rows that stand for a start are the start's rows.
+use Rattle.std.proofs.Common.{ℕ, ◌≡◌, ◌≤◌, ◌<◌, ◌+◌, Bool, true, false, cond, Option, Some, None, List, [], ◌∷◌, length, take, refl, ap, sym, ◌∙◌, arith}
+use Rattle.std.specs.Prelude.{◌==◌, ◌&&◌, map, bytes_eq, nat_le, is_some}
+use Rattle.std.specs.Ordering.{nat_cmp, is_eq}
+use Rattle.std.specs.List.{count_by, list_all}
+use Rattle.std.specs.Map.{keys_of, values_of}
+use Rattle.std.proofs.lemmas.List.{length-take-le}
+use Rattle.hotel_core.specs.declared.books.rows.RoomRow.{RoomRow}
+use Rattle.keycard_rules.specs.Note.{Note}
+use Rattle.hotel_core.specs.Model.Words.{said_of}
+use Rattle.hotel_core.specs.Model.Rows.{Rows, at_number, codes_at, lock_place_of, notes_at}
+use Rattle.hotel_core.specs.Model.History.{start}
+use Rattle.hotel_core.specs.Model.RowsOf.{room_row, rows_of}
+use Rattle.hotel_core.specs.Model.Stays.{rooms, rooms_of}
+use Rattle.hotel_core.specs.Model.SoundRooms.{count_up, rooms_with}
+use Rattle.hotel_core.specs.Model.SoundCards.{counts_at}
+use Rattle.hotel_core.specs.Model.Sound.{IsSound}
+use Rattle.hotel_core.specs.Refinement.Follow.{ApartFrom, RoomsOnce}
+use Rattle.hotel_core.proofs.OfTables.KeysInOrder.{AllAfter, InOrder}
+use Rattle.hotel_core.proofs.OfTables.StayCounts.{count_first}
+use Rattle.hotel_core.proofs.OfTables.Tests.{eq_from, eq_self, and_true}
+use Rattle.hotel_core.proofs.OfTables.TableKeys.{at_is, is_at_self}
+use Rattle.hotel_core.proofs.OfTables.RowTests.{found_passes, all_weaker, both}
+use Rattle.hotel_core.proofs.Starts.StartOrder.{found_later}
+use Rattle.hotel_core.proofs.Starts.StartCodes.{orders, room_is, counted, lock_within, room_there_is}
+use Rattle.hotel_core.proofs.Starts.StartRules.{le_from, some_of}
+use Rattle.hotel_core.proofs.Starts.StartNotes.{nothing_noted_at_start}
+
+-- a room and its kind
+abbrev with_kind : List (ℕ × RoomRow) → List (ℕ × List ℕ)
+with_kind es = map (λ e. (e.0, e.1.kind)) es
+
+apart_from : (k : ℕ) (es : List (ℕ × RoomRow)) → AllAfter nat_cmp k (keys_of es) → ApartFrom k (with_kind es)
+apart_from k [] a = tt
+apart_from k (e ∷ es) a = (sym (at_is k e.0) ∙ ap is_eq a.0, apart_from k es a.1)
+
+once_from : (es : List (ℕ × RoomRow)) → InOrder nat_cmp (keys_of es) → RoomsOnce (with_kind es)
+once_from [] s = tt
+once_from (e ∷ es) s = (apart_from e.0 es s.0, once_from es s.1)
+
+-- No room's number stands twice.
+pub rooms_once_at_start : (t : Rows) → IsSound t → RoomsOnce (rooms (start t))
+rooms_once_at_start t s = once_from t.rooms (orders t s).rooms
+
+-- a row of these columns
+abbrev row_by : ℕ → List ℕ → ℕ → ℕ → Bool → Option ℕ → ℕ → RoomRow
+row_by r k l c s p n = record { room = r; kind = k; lock_place = l; codes = c; secured = s; party = p; notes = n }
+
+notes_counted : (t : Rows) → IsSound t → (r : ℕ) (row : RoomRow) → at_number t.rooms r ≡ Some row → length (notes_at t.notes r) ≡ row.notes
+notes_counted t s r row e =
+    let a = found_passes (λ (e : ℕ × RoomRow). count_up 1 (counts_at (notes_at t.notes e.1.room)) && (length (notes_at t.notes e.1.room) == e.1.notes)) t.rooms r row s.note_counted e in
+    let b = and_true (count_up 1 (counts_at (notes_at t.notes row.room))) (length (notes_at t.notes row.room) == row.notes) a in
+    ap (λ z. length (notes_at t.notes z)) (sym (room_is t s r row e)) ∙ eq_from _ _ b.1
+
+-- A room has at most 9,999,999 notes.
+pub few_notes_at_start : (t : Rows) → IsSound t → (r : ℕ) → length (notes_at t.notes r) ≤ 9999999
+few_notes_at_start t s r = by (is_some (at_number t.rooms r)) refl
+  where
+    by : (b : Bool) → is_some (at_number t.rooms r) ≡ b → length (notes_at t.notes r) ≤ 9999999
+    by true q =
+        let row = some_of (at_number t.rooms r) q in
+        let few = le_from row.0.notes 9999999 (found_passes (λ (e : ℕ × RoomRow). nat_le e.1.notes 9999999) t.rooms r row.0 s.room_notes row.1) in
+        let many = notes_counted t s r row.0 row.1 in
+        omega arith
+    by false q =
+        let none = ap (λ (zs : List Note). length zs) (nothing_noted_at_start t s r (room_there_is t r ∙ q)) in
+        omega arith
+
+weaker : (e : ℕ × RoomRow) → ((e.1.room == e.0) && nat_le 1 e.0 && nat_le e.0 9999) ≡ true → ((e.0 == e.0) && nat_le 1 e.0 && nat_le e.0 9999) ≡ true
+weaker e t =
+    let p = and_true ((e.1.room == e.0) && nat_le 1 e.0) (nat_le e.0 9999) t in
+    let q = and_true (e.1.room == e.0) (nat_le 1 e.0) p.0 in
+    both ((e.0 == e.0) && nat_le 1 e.0) _ (both (e.0 == e.0) _ (eq_self e.0) q.1) p.1
+
+-- The rooms' numbers are 1 to 9999.
+pub rooms_numbered_at_start : (t : Rows) → IsSound t → list_all (λ (e : ℕ × RoomRow). (e.0 == e.0) && nat_le 1 e.0 && nat_le e.0 9999) t.rooms ≡ true
+rooms_numbered_at_start t s =
+    all_weaker (λ (e : ℕ × RoomRow). (e.1.room == e.0) && nat_le 1 e.0 && nat_le e.0 9999) (λ (e : ℕ × RoomRow). (e.0 == e.0) && nat_le 1 e.0 && nat_le e.0 9999) weaker t.rooms s.room_number
+
+-- as many codes are passed as the lock's place says
+pub lock_is : (t : Rows) → IsSound t → (r : ℕ) (row : RoomRow) → at_number t.rooms r ≡ Some row → length (take (lock_place_of t r) (codes_at t r)) ≡ row.lock_place
+lock_is t s r row e =
+    let l = lock_within t s r row e in
+    ap (λ z. length (take z (codes_at t r))) l.0 ∙ length-take-le row.lock_place (codes_at t r) (below l.1)
+  where
+    below : {a b : ℕ} → a < b → a ≤ b
+    below l = omega arith
+
+-- a room's row, read off the start, is its row
+row_back : (t : Rows) → IsSound t → (r : ℕ) (row : RoomRow) → at_number t.rooms r ≡ Some row → room_row (start t) r row.kind ≡ row
+row_back t s r row e =
+    let c = length (codes_at t r) in
+    let l = length (take (lock_place_of t r) (codes_at t r)) in
+    let b = said_of (at_number t.rooms r) false (λ row. row.secured) in
+    let p : Option ℕ = said_of (at_number t.rooms r) None (λ row. row.party) in
+    let n = length (notes_at t.notes r) in
+    ap (λ z. row_by z row.kind l c b p n) (sym (room_is t s r row e))
+    ∙ ap (λ z. row_by row.room row.kind z c b p n) (lock_is t s r row e)
+    ∙ ap (λ z. row_by row.room row.kind row.lock_place z b p n) (counted t s r row e).many
+    ∙ ap (λ z. row_by row.room row.kind row.lock_place row.codes z p n) (ap (λ o. said_of o false (λ row. row.secured)) e)
+    ∙ ap (λ z. row_by row.room row.kind row.lock_place row.codes row.secured z n) (ap (λ o. said_of o None (λ row. row.party)) e)
+    ∙ ap (λ z. row_by row.room row.kind row.lock_place row.codes row.secured row.party z) (notes_counted t s r row e)
+
+all_back : (f : ℕ → List ℕ → RoomRow) (es : List (ℕ × RoomRow)) → InOrder nat_cmp (keys_of es) → ((r : ℕ) (row : RoomRow) → at_number es r ≡ Some row → f r row.kind ≡ row)
+    → map (λ e. (e.0, f e.0 e.1)) (with_kind es) ≡ es
+all_back f [] s back = refl
+all_back f (e ∷ es) s back =
+    let first : at_number (e ∷ es) e.0 ≡ Some e.1 = ap (λ t. cond t (Some e.1) (at_number es e.0)) (is_at_self e.0) in
+    ap (λ row. (e.0, row) ∷ map (λ e. (e.0, f e.0 e.1)) (with_kind es)) (back e.0 e.1 first)
+    ∙ ap (λ zs. e ∷ zs) (all_back f es s.1 (λ r row g. back r row (found_later e es r row s.0 g)))
+
+-- The rows that stand for a start are the start's rows.
+pub rows_of_start : (t : Rows) → IsSound t → rows_of (start t) ≡ t
+rows_of_start t s = ap (λ rs. record t { rooms = rs }) (all_back (room_row (start t)) t.rooms (orders t s).rooms (row_back t s))
+
+kinds_counted : (kind : List ℕ) (es : List (ℕ × RoomRow)) → count_by (λ (row : RoomRow). bytes_eq row.kind kind) (values_of es) ≡ count_by (λ k. bytes_eq k kind) (values_of (with_kind es))
+kinds_counted kind [] = refl
+kinds_counted kind (e ∷ es) =
+    count_first (λ (row : RoomRow). bytes_eq row.kind kind) e.1 (values_of es) ∙ ap (λ n. cond (bytes_eq e.1.kind kind) 1 0 + n) (kinds_counted kind es)
+    ∙ sym (count_first (λ k. bytes_eq k kind) e.1.kind (values_of (with_kind es)))
+
+-- A start has as many rooms of a kind as its rows.
+pub rooms_of_start : (t : Rows) (kind : List ℕ) → rooms_with t kind ≡ rooms_of (start t) kind
+rooms_of_start t kind = kinds_counted kind t.rooms

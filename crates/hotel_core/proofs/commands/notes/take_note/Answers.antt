@@ -1,0 +1,50 @@
+use Rattle.std.proofs.Common.{None, refl, sym, ◌∙◌}
+use Rattle.hotel_core.specs.declared.reply.Refusal.TheVariants as refusal
+use Rattle.hotel_core.specs.declared.reply.Reply.TheVariants as reply
+use Rattle.hotel_core.specs.Refinement.OnRows.{outcome_on, reported_on}
+use Rattle.hotel_core.specs.Model.Outcome.{refused}
+use Rattle.hotel_core.proofs.OfCode.Parts.{begun, then_found, stopped, refuses, ends, only}
+use Rattle.hotel_core.proofs.OfCode.NoteParts.{reported_there, says}
+use Rattle.std.specs.Prelude.{[]}
+use Rattle.hotel_core.proofs.OfCode.AnswerParts.{comes_now}
+use Rattle.hotel_core.specs.declared.command.Command.TheVariants as command
+use Rattle.hotel_core.proofs.commands.notes.take_note.Goals as goal
+
+pub returns-in_err-today : goal.returns-in_err-today
+unfolding outcome_on
+returns-in_err-today g c = λ source.
+    stopped c.from_residual.result c.from_residual.ensures.1 begun c.in_err-today.ensures.finds (λ k e. rw e refl)
+
+pub returns-in_err-row : goal.returns-in_err-row
+unfolding outcome_on
+returns-in_err-row g c = λ source.
+    stopped c.from_residual-in_err-row.result c.from_residual-in_err-row.ensures.1 (then_found begun c.in_ok-today.ensures.finds)
+    (rw c.room.ensures at c.in_err-row.ensures) (λ k e. rw (k.1, e) refl)
+
+pub returns-in_err-kept : goal.returns-in_err-kept
+unfolding outcome_on
+returns-in_err-kept g c = λ source.
+    stopped c.from_residual-in_err-kept.result c.from_residual-in_err-kept.ensures.1 (then_found (then_found begun c.in_ok-today.ensures.finds) (rw c.room.ensures at c.in_ok-row.ensures))
+    c.in_err-kept.ensures (λ k e. cc)
+
+pub returns-in-Some : goal.returns-in-Some
+unfolding outcome_on
+returns-in-Some g c = λ source.
+    says reply.Seen refl (then_found (then_found (then_found begun c.in_ok-today.ensures.finds) (rw c.room.ensures at c.in_ok-row.ensures)) c.in_ok-kept.ensures)
+    (λ k. rw (k.0.0.1, k.0.1, only k.1 ∙ c.in-Some.is, sym c.if-same_note.ensures) refl)
+
+pub returns-in-Some-2 : goal.returns-in-Some-2
+unfolding outcome_on
+returns-in-Some-2 g c = λ source.
+    refuses refusal.Conflict refl (then_found (then_found (then_found begun c.in_ok-today.ensures.finds) (rw c.room.ensures at c.in_ok-row.ensures)) c.in_ok-kept.ensures)
+    (λ k. rw (k.0.0.1, k.0.1, only k.1 ∙ c.in-Some.is, sym c.if-same_note.ensures) (refl {a = refused refusal.Conflict}))
+
+pub take_new-requires-clause-outcome : goal.take_new-requires-clause-outcome
+take_new-requires-clause-outcome g c =
+    comes_now (λ rs. reported_on rs c.args.note.now None) (then_found (then_found (then_found begun c.in_ok-today.ensures.finds) (rw c.room.ensures at c.in_ok-row.ensures)) c.in_ok-kept.ensures)
+    (λ clean k. ([], command.Reported c.args.note.now, c.requires, reported_there _ _ _ _ _ None k.0.0.1 k.0.1 (only k.1 ∙ c.in-None.is)))
+
+pub returns-in-None : goal.returns-in-None
+returns-in-None g c = λ source.
+    ends (then_found (then_found (then_found begun c.in_ok-today.ensures.finds) (rw c.room.ensures at c.in_ok-row.ensures)) c.in_ok-kept.ensures)
+    (c.take_new.ensures source) (λ k. reported_there _ _ _ _ _ None k.0.0.1 k.0.1 (only k.1 ∙ c.in-None.is))

@@ -1,0 +1,10 @@
+use Rattle.std.proofs.Common.{refl, rules}
+use Rattle.hotel_core.specs.Books.Walks.{Hands}
+use Rattle.hotel_core.specs.Refinement.ListsOnRows.{arrivals_on}
+use Rattle.hotel_core.proofs.memory.list_books.ListBooksWalks.walk_arrivals.Goals as goal
+
+pub returns : goal.returns
+returns g c =
+    let rows = arrivals_on c.args.self.now.rows c.args.day in
+    let hands : Hands g.S.Sink.after g.S.Sink.after_stop rows c.args.sink.now c.walk_arrivals.new.sink c.walk_arrivals.result = search rules in
+    record { hands = (rows, hands, λ _. refl); kept = search rules; was_clean = search rules; counted = search rules; fault = search rules; sure = search rules }

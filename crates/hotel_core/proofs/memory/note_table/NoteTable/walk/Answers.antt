@@ -1,0 +1,32 @@
+use Rattle.std.proofs.Common.{rules, ℕ, ◌≡◌, List, map, ap, sym, ◌∙◌}
+use Rattle.std.specs.Map.Iter.{deref_pair}
+use Rattle.std.specs.declared.ops.Bound.TheVariants.{Included}
+use Rattle.std.specs.BTreeMap.Range.{entries_between}
+use Rattle.std.proofs.lemmas.Map.Iter.{rest_more}
+use Rattle.keycard_rules.specs.Note.{Note}
+use Rattle.hotel_core.specs.Model.Words.{pair_cmp}
+use Rattle.hotel_core.specs.Model.Rows.{notes_at}
+use Rattle.hotel_core.proofs.OfCode.Walking.{begun, one_more, as_rest}
+use Rattle.hotel_core.proofs.OfTables.RoomNotes.{part_of_room}
+use Rattle.hotel_core.proofs.memory.note_table.NoteTable.walk.Goals as goal
+
+pub loop-note-init : goal.loop-note-init
+loop-note-init g c =
+    let least : c.unwrap-least.result ≡ 1 = search rules in
+    let most : c.unwrap-most.result ≡ 9999999 = search rules in
+    let notes : List ((ℕ × ℕ) × Note) → List Note = λ es. map (λ (p : (ℕ × ℕ) × Note). p.1) es in
+    let part : ℕ × ℕ → ℕ × ℕ → List Note = λ low high. notes (entries_between pair_cmp (Included low) (Included high) c.self.inside.notes.entries) in
+    let rows : notes_at c.args.self.now c.args.room ≡ notes c.into_iter-note-iterator.result =
+    sym (ap notes (c.into_iter-note-iterator.ensures.into_iter_gives ∙ c.range-note-items.ensures.between c.new-3.ensures.exhausted)
+    ∙ (λ i. part (c.new-3.ensures.start i) (c.new-3.ensures.end i))
+    ∙ (λ i. part (c.args.room, least i) (c.args.room, most i))
+    ∙ sym (part_of_room c.args.room c.self.inside.notes.entries c.self.invariant)
+    ∙ ap (λ es. notes_at es c.args.room) c.self.view_is) in
+    as_rest g.S.Sink.after _ _ _ _ _ rows (begun g.S.Sink.after (notes_at c.args.self.now c.args.room) c.args.sink.now)
+
+pub loop-note-preserved : goal.loop-note-preserved
+loop-note-preserved g c =
+    let e = rest_more deref_pair c.loop-note.note-iterator c.next.new.self c.next.result (c.in-Some.field-0-0, c.in-Some.note) c.in-Some.is c.next.ensures.steps in
+    one_more g.S.Sink.after _ c.in-Some.note.now _ _ _ _
+    (as_rest g.S.Sink.after _ _ _ _ _ (ap (λ (es : List ((ℕ × ℕ) × Note)). map (λ (p : (ℕ × ℕ) × Note). p.1) es) e) c.loop-note.invariant)
+    c.in_ok-take.ensures.taken

@@ -1,7 +1,0 @@
-use Rattle.std.specs.Prelude.{filter_map}
-use Rattle.hotel_core.specs.ListsOnRows.{in_house_on, house_row_on}
-use Rattle.hotel_core.proofs.Walking.{SoFar}
-use Rattle.hotel_core.proofs.tables.Tables.walk_in_house.Given as goal
-
-abbrev pub invariant-loop-row : goal.invariant-loop-row
-invariant-loop-row g l = SoFar g.S.Sink.after (in_house_on l.self) (filter_map (house_row_on l.self) l.row-iterator) l.initial.sink l.sink

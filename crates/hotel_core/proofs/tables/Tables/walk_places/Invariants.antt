@@ -1,9 +1,0 @@
-use Rattle.std.specs.Prelude.{◌-◌, filter_map}
-use Rattle.std.specs.List.{range_with_len}
-use Rattle.hotel_core.specs.ListsOnRows.{chain_row_on}
-use Rattle.hotel_core.proofs.Walking.{SoFar}
-use Rattle.hotel_core.proofs.tables.Tables.walk_places.Given as goal
-
-abbrev pub invariant-loop-place : goal.invariant-loop-place
-invariant-loop-place g l =
-    SoFar g.S.Sink.after (filter_map (chain_row_on l.self l.row) (range_with_len 0 l.row.codes)) (filter_map (chain_row_on l.self l.row) (range_with_len l.place (l.row.codes - l.place))) l.initial.sink l.sink

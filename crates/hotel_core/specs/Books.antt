@@ -1,0 +1,7 @@
+-- What books promise.
+pub mod Lookups
+pub mod Reads
+pub mod Change
+pub mod Fits
+pub mod Failures
+pub mod Walks

@@ -1,0 +1,68 @@
+-- What a change of the books makes of the rows.
+use Rattle.std.specs.Prelude.{ℕ, false, List, [], ◌∷◌, Option, Some, None, ◌+◌, ◌==◌, if◌then◌else◌}
+use Rattle.std.specs.Ordering.{nat_cmp}
+use Rattle.std.specs.Cmp.Lexicographic.{slice_cmp}
+use Rattle.std.specs.BTreeMap.{insert_entry}
+use Rattle.std.specs.BTreeSet.{insert_key}
+use Rattle.hotel_nights.specs.declared.stay.StayState.TheVariants as state
+use Rattle.hotel_core.specs.declared.books.rows.RoomRow.{RoomRow}
+use Rattle.hotel_core.specs.declared.books.change.InsideMove.{InsideMove}
+use Rattle.hotel_core.specs.declared.books.change.InsideMove.TheVariants.{Same, Goes, Comes}
+use Rattle.hotel_core.specs.declared.books.change.Change.{Change}
+use Rattle.hotel_core.specs.declared.books.change.Change.TheVariants.{Begin, DayTo, Kind, Room, Reserved, Cancelled, Issue, Spare, CheckedOut, Noted}
+use Rattle.hotel_core.specs.Model.Words.{said_of, pair_cmp, remove_key}
+use Rattle.hotel_core.specs.Model.Rows.{Rows, at_number}
+use Rattle.hotel_core.specs.Model.Stays.{in_state}
+
+-- the rooms, with f done to the row of a number
+abbrev pub room_changed : ℕ → (RoomRow → RoomRow) → List (ℕ × RoomRow) → List (ℕ × RoomRow)
+room_changed room f [] = []
+room_changed room f (e ∷ es) = if e.0 == room then (e.0, f e.1) ∷ es else e ∷ room_changed room f es
+
+-- the rooms, the one of the number without a party
+abbrev pub without_party : ℕ → List (ℕ × RoomRow) → List (ℕ × RoomRow)
+without_party room rooms = room_changed room (λ row. record row { party = None }) rooms
+
+-- the rooms, the one that a party leaves without a party
+abbrev pub left_by : Option ℕ → List (ℕ × RoomRow) → List (ℕ × RoomRow)
+left_by (Some room) rooms = without_party room rooms
+left_by None rooms = rooms
+
+-- the cards inside rooms, after a move at a room
+abbrev pub moved : InsideMove → ℕ → List (ℕ × ℕ) → List (ℕ × ℕ)
+moved Same room pairs = pairs
+moved (Goes number) room pairs = remove_key pair_cmp pairs (room, number)
+moved (Comes number) room pairs = insert_key pair_cmp pairs (room, number)
+
+-- how many codes a room has (0 where it isn't there)
+abbrev pub codes_of : Rows → ℕ → ℕ
+codes_of rows room = said_of (at_number rows.rooms room) 0 (λ row. row.codes)
+
+-- The rows with those of the change added or altered, and no others.
+abbrev pub made : Change → Rows → Rows
+made (Begin day) rows = record rows { day = Some day }
+made (DayTo day) rows = record rows { day = Some day }
+made (Kind kind) rows = record rows { kinds = insert_key (slice_cmp nat_cmp) rows.kinds kind }
+made (Room room kind code) rows = record rows {
+  rooms = insert_entry nat_cmp rows.rooms room
+      (record { room = room; kind = kind; lock_place = 0; codes = 1; secured = false; party = None; notes = 0 });
+  codes = insert_entry nat_cmp rows.codes code (record { room = room; place = 0 });
+}
+made (Reserved stay) rows = record rows { stays = insert_entry nat_cmp rows.stays stay.party stay }
+made (Cancelled party) rows = record rows { stays = in_state party state.Cancelled rows.stays }
+made (Issue card room leaves) rows = record rows {
+  rooms = room_changed room (λ row. record row { codes = row.codes + 1; secured = false; party = Some card.party }) (left_by leaves rows.rooms);
+  codes = insert_entry nat_cmp rows.codes card.link.new_code (record { room = room; place = codes_of rows room });
+  stays = in_state card.party (state.InHouse room) rows.stays;
+  cards = insert_entry nat_cmp rows.cards card.number card;
+}
+made (Spare card) rows = record rows { cards = insert_entry nat_cmp rows.cards card.number card }
+made (CheckedOut party room) rows = record rows {
+  rooms = without_party room rows.rooms;
+  stays = in_state party state.Done rows.stays;
+}
+made (Noted note lock_place secured insides) rows = record rows {
+  rooms = room_changed note.room (λ row. record row { lock_place = lock_place; secured = secured; notes = note.count }) rows.rooms;
+  inside = moved insides note.room rows.inside;
+  notes = insert_entry pair_cmp rows.notes (note.room, note.count) note;
+}

@@ -1,0 +1,35 @@
+-- When a change fits the rows.
+use Rattle.std.specs.Prelude.{◌≡◌, ◌<◌, ◌-◌, ◌^◌, ◌+◌, Bool, true, false, None, IsSome, length}
+use Rattle.hotel_core.specs.declared.books.change.Change.{Change}
+use Rattle.hotel_core.specs.declared.books.change.Change.TheVariants as change
+use Rattle.hotel_nights.specs.declared.stay.StayState.TheVariants as state
+use Rattle.hotel_core.specs.Model.Rows.{Rows, has_kind}
+use Rattle.hotel_core.specs.Books.Lookups.{room_at, code_place, stay_at, note_at}
+use Rattle.hotel_core.specs.Books.Change.{made, codes_of}
+use Rattle.hotel_core.specs.Model.Sound.{IsSound}
+
+-- The rows that the change names are there, and those that it adds are new; parties and cards are numbered on.
+abbrev pub HasItsRows : Change → Rows → Type 0
+HasItsRows (change.Begin day) rows = rows.day ≡ None
+HasItsRows (change.DayTo day) rows = IsSome rows.day
+HasItsRows (change.Kind kind) rows = has_kind rows kind ≡ false
+HasItsRows (change.Room room kind code) rows = (has_kind rows kind ≡ true) × (room_at rows room ≡ None) × (code_place rows code ≡ None)
+HasItsRows (change.Reserved stay) rows = (stay.party ≡ length rows.stays + 1) × (stay.state ≡ state.Booked)
+HasItsRows (change.Cancelled party) rows = IsSome (stay_at rows party)
+HasItsRows (change.Issue card room leaves) rows =
+    IsSome (room_at rows room) × (codes_of rows room < 2 ^ 32 - 1) × (code_place rows card.link.new_code ≡ None) × (card.number ≡ length rows.cards + 1) × IsSome (stay_at rows card.party)
+HasItsRows (change.Spare card) rows = card.number ≡ length rows.cards + 1
+HasItsRows (change.CheckedOut party room) rows = IsSome (stay_at rows party) × IsSome (room_at rows room)
+HasItsRows (change.Noted note lock_place secured insides) rows = IsSome (room_at rows note.room) × (note_at rows note.room note.count ≡ None)
+
+-- A change fits where it has its rows and what it makes is sound.
+abbrev pub Fits : Change → Rows → Type 0
+Fits change rows = HasItsRows change rows × IsSound (made change rows)
+
+-- The change adds a row in memory: the first and the next day, a booking given up and a stay that ends add none.
+abbrev pub takes_memory : Change → Bool
+takes_memory (change.Begin day) = false
+takes_memory (change.DayTo day) = false
+takes_memory (change.Cancelled party) = false
+takes_memory (change.CheckedOut party room) = false
+takes_memory _ = true

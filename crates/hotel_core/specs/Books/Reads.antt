@@ -1,0 +1,15 @@
+-- What a look-up of the books promises.
+use Rattle.std.specs.Prelude.{ℕ, ◌≡◌, Bool, false, Result, Err, IfOk, IfErr, OnErr, IsOk}
+use Rattle.keycard_rules.specs.Rise.{HasRisen, NoFewer}
+use Rattle.keycard_rules.specs.declared.issued.LookFault.{LookFault}
+use Rattle.keycard_rules.specs.declared.issued.LookFault.TheVariants.{Memory}
+use Rattle.keycard_rules.specs.declared.issued.Issued.{Ghosts as IssuedOf}
+
+-- A look-up from the state old to new: where the test of the state holds at its end, its answer says what is wanted and it leaves what a look-up may leave; it fails only where a failure of that cause was counted. In memory no store fails, and a look-up that takes no memory doesn't fail at all.
+pub record LooksUp {S A R : Type 0} (I : IssuedOf S) (takes_memory : Bool) (said : R → A) (wanted : A) (old new : S) (result : Result R LookFault) : Type 0 where
+  pub answer : I.is_clean new → IfOk result (λ a. said a ≡ wanted)
+  pub kept : I.is_clean new → I.is_kept old new
+  pub was_clean : I.is_clean new → I.is_clean old
+  pub counted : NoFewer (I.failures old) (I.failures new)
+  pub fault : IfErr result (λ why. HasRisen (I.failures old why) (I.failures new why))
+  pub sure : I.never_fails → takes_memory ≡ false → IsOk result

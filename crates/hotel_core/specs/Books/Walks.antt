@@ -1,0 +1,44 @@
+-- What a walk over the rows of a list hands to a sink.
+use Rattle.std.specs.Prelude.{ℕ, ◌≡◌, ◌≤◌, Bool, true, false, List, [], ◌∷◌, ◌++◌, Result, Ok, Err, Option, Some, None, IfSome}
+use Rattle.keycard_rules.specs.declared.issued.LookFault.{LookFault}
+use Rattle.keycard_rules.specs.declared.issued.LookFault.TheVariants as look
+use Rattle.keycard_rules.specs.Rise.{HasRisen, NoFewer}
+use Rattle.hotel_core.specs.declared.books.walks.WalkFault.{WalkFault}
+use Rattle.hotel_core.specs.declared.books.walks.WalkFault.TheVariants as why
+use Rattle.keycard_rules.specs.declared.issued.Issued.{Ghosts as IssuedOf}
+
+-- The sink took the rows one after the other, and went from one meaning to another along them.
+abbrev pub Takes : {S R : Type 0} → (S → R → S → Type 0) → List R → S → S → Type 0
+Takes after [] sink end = end ≡ sink
+Takes after (row ∷ rows) sink end = (next : _) × after sink row next × Takes after rows next end
+
+-- The sink took a front of the rows.
+abbrev pub TakesFront : {S R : Type 0} → (S → R → S → Type 0) → List R → S → S → Type 0
+TakesFront {R = R} after rows sink end = (taken : List R) × (rest : List R) × (rows ≡ taken ++ rest) × Takes after taken sink end
+
+-- The sink took a front of the rows, and stopped at the row after them.
+abbrev pub StopsAt : {S R : Type 0} → (S → R → S → Type 0) → (S → R → S → Type 0) → List R → S → S → Type 0
+StopsAt {S = S} {R = R} after after_stop rows sink end = (taken : List R) × (row : R) × (rest : List R) × (rows ≡ taken ++ row ∷ rest) × (last : S) × Takes after taken sink last × after_stop last row end
+
+-- What the sink took: all rows, or those before the one at which it stopped; or a front of them, where memory or the store failed.
+abbrev pub Hands : {S R : Type 0} → (S → R → S → Type 0) → (S → R → S → Type 0) → List R → S → S → Result (Unit {0}) WalkFault → Type 0
+Hands after after_stop rows sink end (Ok done) = Takes after rows sink end
+Hands after after_stop rows sink end (Err why.Stopped) = StopsAt after after_stop rows sink end
+Hands after after_stop rows sink end (Err why.Memory) = TakesFront after rows sink end
+Hands after after_stop rows sink end (Err why.Store) = TakesFront after rows sink end
+
+-- what failed, where memory or the store did
+abbrev pub failure_of : Result (Unit {0}) WalkFault → Option LookFault
+failure_of (Ok done) = None
+failure_of (Err why.Stopped) = None
+failure_of (Err why.Memory) = Some look.Memory
+failure_of (Err why.Store) = Some look.Store
+
+-- A walk over these rows, of books from old to new and a sink from its meaning to that at the end: it hands over some rows, which are these and leave what a look-up may leave where the test of the state holds at its end; memory or the store fails only where a failure of that cause was counted. In memory no store fails, and a walk that takes no memory doesn't fail at all.
+pub record WalksOver {B S R : Type 0} (I : IssuedOf B) (takes_memory : Bool) (after after_stop : S → R → S → Type 0) (rows : List R) (old new : B) (sink end : S) (result : Result (Unit {0}) WalkFault) : Type 0 where
+  pub hands : (handed : List R) × Hands after after_stop handed sink end result × (I.is_clean new → handed ≡ rows)
+  pub kept : I.is_clean new → I.is_kept old new
+  pub was_clean : I.is_clean new → I.is_clean old
+  pub counted : NoFewer (I.failures old) (I.failures new)
+  pub fault : IfSome (failure_of result) (λ cause. HasRisen (I.failures old cause) (I.failures new cause))
+  pub sure : I.never_fails → takes_memory ≡ false → failure_of result ≡ None

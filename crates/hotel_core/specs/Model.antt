@@ -1,0 +1,26 @@
+-- The model, in its reading order.
+pub mod Words
+pub mod Rows
+pub mod Event
+pub mod History
+pub mod Issued
+pub mod Cards
+pub mod Lock
+pub mod Ledger
+pub mod Guests
+pub mod Stays
+pub mod Notes
+pub mod RowsOf
+pub mod SoundRooms
+pub mod SoundCards
+pub mod Sound
+pub mod Cases
+pub mod Outcome
+pub mod Answer
+pub mod NoteReplies
+pub mod Run
+pub mod Leads
+pub mod Lists
+pub mod Moved
+pub mod Headline
+pub mod Ranges

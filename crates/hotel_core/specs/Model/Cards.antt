@@ -1,0 +1,46 @@
+-- Which cards there are, and the newest link of a room and of a party.
+use Rattle.std.specs.Prelude.{ℕ, List, Option, Some, None, ◌==◌}
+use Rattle.std.specs.Ordering.{nat_cmp}
+use Rattle.std.specs.BTreeMap.{insert_entry}
+use Rattle.keycard_rules.specs.declared.card.Card.{Card}
+use Rattle.keycard_rules.specs.declared.card.Link.{Link}
+use Rattle.hotel_core.specs.Model.Words.{when}
+use Rattle.hotel_core.specs.Model.Rows.{codes_at, last_link_of, link_of_last_card}
+use Rattle.hotel_core.specs.Model.Event.{CheckIn, Transfer, Spare}
+use Rattle.hotel_core.specs.Model.History.{History, start, ◌▷◌}
+use Rattle.hotel_core.specs.Model.Issued.{current}
+
+-- The link that a code makes where it is issued at a room: the room's current code, and the new one.
+abbrev pub link_to : History → ℕ → ℕ → Link
+link_to h room code = record { old_code = current h room; new_code = code }
+
+-- The newest link of a room is that of the last check-in or transfer to it.
+abbrev pub newest_link : History → ℕ → Option Link
+newest_link (start t) r = last_link_of (codes_at t r)
+newest_link (h ▷ CheckIn party room number code) r = when (room == r) (λ _. Some (link_to h room code)) (newest_link h r)
+newest_link (h ▷ Transfer party room number code) r = when (room == r) (λ _. Some (link_to h room code)) (newest_link h r)
+newest_link (h ▷ _) r = newest_link h r
+
+-- The link of the card that a party was given last (a spare card has the same one again).
+abbrev pub link_of_party : History → ℕ → Option Link
+link_of_party (start t) p = link_of_last_card t.cards p
+link_of_party (h ▷ CheckIn party room number code) p = when (party == p) (λ _. Some (link_to h room code)) (link_of_party h p)
+link_of_party (h ▷ Transfer party room number code) p = when (party == p) (λ _. Some (link_to h room code)) (link_of_party h p)
+link_of_party (h ▷ _) p = link_of_party h p
+
+-- the card of a number that is made for a party
+abbrev pub card_of : ℕ → ℕ → Link → Card
+card_of number party link = record { number = number; party = party; link = link }
+
+-- the cards, with a spare one of the party's last link, where it has one
+abbrev pub with_spare : ℕ → ℕ → Option Link → List (ℕ × Card) → List (ℕ × Card)
+with_spare number party (Some link) all = insert_entry nat_cmp all number (card_of number party link)
+with_spare number party None all = all
+
+-- All cards, by number: a check-in and a transfer make one of a new link, a spare card has the link of the party's last one.
+abbrev pub cards : History → List (ℕ × Card)
+cards (start t) = t.cards
+cards (h ▷ CheckIn party room number code) = insert_entry nat_cmp (cards h) number (card_of number party (link_to h room code))
+cards (h ▷ Transfer party room number code) = insert_entry nat_cmp (cards h) number (card_of number party (link_to h room code))
+cards (h ▷ Spare party number) = with_spare number party (link_of_party h party) (cards h)
+cards (h ▷ _) = cards h

@@ -1,0 +1,54 @@
+-- The ranges of the values in commands, replies and events: those that their types hold.
+use Rattle.std.specs.Prelude.{ℕ, ◌≡◌, ◌≤◌, ◌<◌, ◌^◌, ◌+◌, true}
+use Rattle.keycard_rules.specs.Numbers.{IsNumberUpTo}
+use Rattle.keycard_rules.specs.Note.{IsTimed}
+use Rattle.hotel_nights.specs.Kinds.{is_kind}
+use Rattle.hotel_nights.specs.Guests.{is_guest}
+use Rattle.hotel_core.specs.declared.command.Command.{Command}
+use Rattle.hotel_core.specs.declared.command.Command.TheVariants as command
+use Rattle.hotel_core.specs.declared.reply.Reply.{Reply}
+use Rattle.hotel_core.specs.declared.reply.Reply.TheVariants as reply
+use Rattle.hotel_core.specs.Model.Event.{Event, Begun, Kind, Install, Reserved, CheckIn, Transfer, Entered, Left, Recoded}
+
+-- a day of the calendar
+abbrev pub IsDay : ℕ → Type 0
+IsDay day = day ≤ 36524
+
+-- a code has 48 bits
+abbrev pub IsCode : ℕ → Type 0
+IsCode code = code < 2 ^ 48
+
+abbrev pub IsRoomNumber : ℕ → Type 0
+IsRoomNumber room = IsNumberUpTo 9999 room
+
+-- a count or a number of a party or card
+abbrev pub IsCount : ℕ → Type 0
+IsCount count = IsNumberUpTo 9999999 count
+
+-- the command's values are in their ranges
+abbrev pub IsCommand : Command → Type 0
+IsCommand (command.Begin day) = IsDay day
+IsCommand (command.AddKind kind) = is_kind kind ≡ true
+IsCommand (command.AddRoom room kind) = IsRoomNumber room
+IsCommand (command.Reserve guest kind arrive nights) = (is_guest guest ≡ true) × IsDay arrive × IsNumberUpTo 90 nights
+IsCommand (command.Reported note) = IsCount note.count × IsTimed note.day note.second
+IsCommand _ = Unit {0}
+
+-- the codes that a reply gives are in their range
+abbrev pub IsReply : Reply → Type 0
+IsReply (reply.RoomAdded code) = IsCode code
+IsReply (reply.Issued card) = IsCode card.link.new_code
+IsReply _ = Unit {0}
+
+-- the event's values are in their ranges
+abbrev pub InRange : Event → Type 0
+InRange (Begun day) = IsDay day
+InRange (Kind kind) = is_kind kind ≡ true
+InRange (Install room kind code) = IsRoomNumber room × IsCode code
+InRange (Reserved party guest kind arrive depart) = (is_guest guest ≡ true) × (arrive < depart) × (depart ≤ arrive + 90) × IsDay depart
+InRange (CheckIn party room number code) = IsCode code
+InRange (Transfer party room number code) = IsCode code
+InRange (Entered room count number link at) = IsCount count × IsTimed at.day at.second
+InRange (Left room count number link at) = IsCount count × IsTimed at.day at.second
+InRange (Recoded room count from to at) = IsCount count × IsTimed at.day at.second
+InRange _ = Unit {0}

@@ -1,0 +1,14 @@
+-- The code's own terms, between the books and the model.
+pub mod ChangeOf
+pub mod Answered
+pub mod OnRows
+pub mod ListsOnRows
+pub mod ListsLift
+pub mod Lift
+pub mod StepOnRows
+pub mod Finds
+pub mod Stepping
+pub mod Issuing
+pub mod Noting
+pub mod Follow
+pub mod CodeLaws

@@ -1,0 +1,46 @@
+-- The change that an event makes of the books.
+use Rattle.std.specs.Prelude.{ℕ, Bool, true, false, None, ◌+◌, length}
+use Rattle.keycard_rules.specs.Note.{Note}
+use Rattle.keycard_rules.specs.declared.note.Act.TheVariants as act
+use Rattle.hotel_nights.specs.declared.stay.StayState.TheVariants as state
+use Rattle.hotel_core.specs.declared.books.change.InsideMove.{InsideMove}
+use Rattle.hotel_core.specs.declared.books.change.InsideMove.TheVariants.{Same, Goes, Comes}
+use Rattle.hotel_core.specs.declared.books.change.Change.{Change}
+use Rattle.hotel_core.specs.declared.books.change.Change.TheVariants as change
+use Rattle.hotel_core.specs.Model.Words.{said_of, is_one_of}
+use Rattle.hotel_core.specs.Model.Event.{Event, Begun, Kind, Install, Reserved, Cancelled, CheckIn, Transfer, Spare, CheckOut, NextDay, Entered, Left, Recoded}
+use Rattle.hotel_core.specs.Model.History.{History, ◌▷◌}
+use Rattle.hotel_core.specs.Model.Cards.{card_of, link_to}
+use Rattle.hotel_core.specs.Model.Ledger.{passed}
+use Rattle.hotel_core.specs.Model.Guests.{inside, secured}
+use Rattle.hotel_core.specs.Model.Cases.{today, room_of, last_card_of}
+
+-- what a note leaves of its room's row, and who moves
+abbrev pub noted : History → Event → Note → InsideMove → Change
+noted h event note insides = change.Noted note (length (passed (h ▷ event) note.room)) (secured (h ▷ event) note.room) insides
+
+-- a card comes in, unless it is inside
+abbrev pub comes : Bool → ℕ → InsideMove
+comes true number = Same
+comes false number = Comes number
+
+-- The change of the books that stands for an event after a history.
+abbrev pub change_of : History → Event → Change
+change_of h (Begun day) = change.Begin day
+change_of h (Kind kind) = change.Kind kind
+change_of h (Install room kind code) = change.Room room kind code
+change_of h (Reserved party guest kind arrive depart) =
+    change.Reserved (record { party = party; guest = guest; kind = kind; arrive = arrive; depart = depart; state = state.Booked })
+change_of h (Cancelled party) = change.Cancelled party
+change_of h (CheckIn party room number code) = change.Issue (card_of number party (link_to h room code)) room None
+change_of h (Transfer party room number code) = change.Issue (card_of number party (link_to h room code)) room (room_of h party)
+change_of h (Spare party number) = change.Spare (card_of number party (last_card_of h party))
+change_of h (CheckOut party) = change.CheckedOut party (said_of (room_of h party) 0 (λ room. room))
+change_of h NextDay = change.DayTo (today h + 1)
+change_of h (Entered room count number link at) =
+    noted h (Entered room count number link at) (record { room = room; count = count; act = act.Entered number link; day = at.day; second = at.second })
+    (comes (is_one_of number (inside h room)) number)
+change_of h (Left room count number link at) =
+    noted h (Left room count number link at) (record { room = room; count = count; act = act.Left number link; day = at.day; second = at.second }) (Goes number)
+change_of h (Recoded room count from to at) =
+    noted h (Recoded room count from to at) (record { room = room; count = count; act = act.Recoded from to; day = at.day; second = at.second }) Same

@@ -1,0 +1,74 @@
+-- What an accepted event needs of the history before it. A consequence of the answers, for proofs.
+use Rattle.std.specs.Prelude.{ℕ, ◌≡◌, true, false, List, Some, None, ◌+◌, is_some, nat_lt, [], ◌∷◌, ◌==◌, length}
+use Rattle.hotel_core.specs.declared.command.Command.{Command}
+use Rattle.hotel_core.specs.Model.Words.{is_one_of}
+use Rattle.hotel_core.specs.Model.Answer.{answer_to}
+use Rattle.keycard_rules.specs.declared.card.Link.{Link}
+use Rattle.hotel_core.specs.Model.Notes.{notes}
+use Rattle.hotel_core.specs.Model.Event.{Event, Moment, Begun, Kind, Install, Reserved, Cancelled, CheckIn, Transfer, Spare, CheckOut, NextDay, Entered, Left, Recoded}
+use Rattle.hotel_core.specs.Model.History.{History, ◌▷◌}
+use Rattle.hotel_core.specs.Model.RowsOf.{rows_of}
+use Rattle.hotel_core.specs.Model.Run.{Reached}
+use Rattle.hotel_core.specs.Books.Change.{made}
+use Rattle.hotel_core.specs.Books.Fits.{Fits}
+use Rattle.hotel_core.specs.Refinement.ChangeOf.{change_of}
+use Rattle.hotel_core.specs.Model.Cards.{link_of_party}
+use Rattle.hotel_core.specs.Model.Issued.{is_fresh}
+use Rattle.hotel_core.specs.Model.Ledger.{awaited}
+use Rattle.hotel_core.specs.Model.Guests.{inside}
+use Rattle.hotel_core.specs.Model.Stays.{first_full, rooms}
+use Rattle.hotel_core.specs.Model.Cases.{is_begun, today, is_kind, is_room, is_party, is_booked, is_in_house, is_of_kind, is_taken, is_card, has_link, opens, holds, next_card, next_party}
+
+abbrev pub MayFollow : History → Event → Type 0
+MayFollow h (Begun day) = is_begun h ≡ false
+MayFollow h (Kind kind) = (is_begun h ≡ true) × (is_kind h kind ≡ false)
+MayFollow h (Install room kind code) = (is_kind h kind ≡ true) × (is_room h room ≡ false) × (is_fresh h code ≡ true)
+MayFollow h (Reserved party guest kind arrive depart) = (is_kind h kind ≡ true) × (party ≡ next_party h) × (nights : ℕ) × (depart ≡ arrive + nights) × (first_full h kind arrive nights ≡ None)
+MayFollow h (Cancelled party) = (is_party h party ≡ true) × (is_booked h party ≡ true)
+MayFollow h (CheckIn party room number code) =
+    (is_room h room ≡ true) × (is_party h party ≡ true) × (is_booked h party ≡ true) × (is_of_kind h room party ≡ true) × (is_taken h room ≡ false) × (number ≡ next_card h) × (is_fresh h code ≡ true)
+MayFollow h (Transfer party room number code) =
+    (is_room h room ≡ true) × (is_party h party ≡ true) × (is_in_house h party ≡ true) × (is_of_kind h room party ≡ true) × (is_taken h room ≡ false) × (number ≡ next_card h) × (is_fresh h code ≡ true)
+MayFollow h (Spare party number) = (is_party h party ≡ true) × (is_in_house h party ≡ true) × (number ≡ next_card h)
+MayFollow h (CheckOut party) = (is_party h party ≡ true) × (is_in_house h party ≡ true)
+MayFollow h NextDay = (is_begun h ≡ true) × (nat_lt (today h) 36524 ≡ true)
+MayFollow h (Entered room count number link at) = (count ≡ length (notes h room) + 1) × (is_room h room ≡ true) × (is_card h number ≡ true) × (has_link h number link ≡ true) × (opens h room link ≡ true)
+MayFollow h (Left room count number link at) = (count ≡ length (notes h room) + 1) × (is_room h room ≡ true) × (is_card h number ≡ true) × (has_link h number link ≡ true) × (is_one_of number (inside h room) ≡ true)
+MayFollow h (Recoded room count from to at) = (count ≡ length (notes h room) + 1) × (is_room h room ≡ true) × (holds h room from ≡ true) × (is_one_of to (awaited h room) ≡ true)
+
+-- Each event that an answer accepts may follow.
+abbrev pub AnswersFollow : Type 0
+AnswersFollow = (h : History) (ahead : List ℕ) (command : Command) (event : Event) → (answer_to h ahead command).happens ≡ Some event → MayFollow h event
+
+-- The event's change makes the rows of the grown history.
+abbrev pub FollowsBy : History → Event → Type 0
+FollowsBy h event = rows_of (h ▷ event) ≡ made (change_of h event) (rows_of h)
+
+-- The rows after events that touch no room.
+abbrev pub EasyRowsFollow : Type 0
+EasyRowsFollow =
+    ((h : History) (day : ℕ) → FollowsBy h (Begun day))
+    × ((h : History) → is_begun h ≡ true → FollowsBy h NextDay)
+    × ((h : History) (kind : List ℕ) → FollowsBy h (Kind kind))
+    × ((h : History) (party : ℕ) (guest kind : List ℕ) (arrive depart : ℕ) → FollowsBy h (Reserved party guest kind arrive depart))
+    × ((h : History) (party : ℕ) → FollowsBy h (Cancelled party))
+    × ((h : History) (party number : ℕ) → is_some (link_of_party h party) ≡ true → FollowsBy h (Spare party number))
+
+-- the number is none of these rooms
+abbrev pub ApartFrom : ℕ → List (ℕ × List ℕ) → Type 0
+ApartFrom room [] = Unit {0}
+ApartFrom room (e ∷ es) = ((e.0 == room) ≡ false) × ApartFrom room es
+
+-- no room stands twice
+abbrev pub RoomsOnce : List (ℕ × List ℕ) → Type 0
+RoomsOnce [] = Unit {0}
+RoomsOnce (e ∷ es) = ApartFrom e.0 es × RoomsOnce es
+
+-- The rows after a card left a room.
+abbrev pub LeftFollows : Type 0
+LeftFollows = (h : History) (room count number : ℕ) (link : Link) (at : Moment) → RoomsOnce (rooms h) → count ≡ length (notes h room) + 1 → FollowsBy h (Left room count number link at)
+
+-- The rows after one more event are those that its change makes, and the change fits.
+abbrev pub RowsFollow : Type 0
+RowsFollow = (h : History) (event : Event) → Reached (h ▷ event) →
+    (rows_of (h ▷ event) ≡ made (change_of h event) (rows_of h)) × Fits (change_of h event) (rows_of h)

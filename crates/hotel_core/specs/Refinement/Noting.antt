@@ -1,0 +1,28 @@
+-- A note of a lock that is the next one of its room.
+use Rattle.std.specs.Prelude.{ℕ, ◌≡◌, Bool, true, Some, None, ◌+◌, ◌==◌, ◌&&◌, List, if◌then◌else◌}
+use Rattle.keycard_rules.specs.declared.card.Link.{Link}
+use Rattle.keycard_rules.specs.Note.{Note}
+use Rattle.hotel_core.specs.declared.books.change.Change.{Change}
+use Rattle.hotel_core.specs.declared.books.change.Change.TheVariants as change
+use Rattle.hotel_core.specs.declared.reply.Reply.TheVariants as reply
+use Rattle.hotel_core.specs.declared.books.rows.RoomRow.{RoomRow}
+use Rattle.hotel_core.specs.Model.Words.{is_one_of}
+use Rattle.hotel_core.specs.Model.Rows.{Rows}
+use Rattle.hotel_core.specs.Model.Guests.{are_none}
+use Rattle.hotel_core.specs.Refinement.ChangeOf.{comes}
+use Rattle.hotel_core.specs.Books.Lookups.{room_at, inside_at, note_at}
+use Rattle.hotel_core.specs.Refinement.OnRows.{place_on, secured_after_on}
+use Rattle.hotel_core.specs.Model.Outcome.{Outcome, accepted}
+
+-- the note's room is there with this row, and no note of its count was taken
+abbrev pub IsUntaken : Note → RoomRow → Rows → Type 0
+IsUntaken note row rows = (room_at rows note.room ≡ Some row) × (note_at rows note.room note.count ≡ None)
+
+-- a card of this link opened the door: it is inside from now on, and the lock holds the link's new code
+abbrev pub opened_on : Rows → Note → ℕ → Link → Outcome Change
+opened_on rows note number link =
+    accepted reply.Taken (change.Noted note (place_on rows link.new_code) (secured_after_on rows note.room link) (comes (is_one_of number (inside_at rows note.room)) number))
+
+-- an entry by the code at a place secures a room of this row in which these cards are
+abbrev pub secured_by : RoomRow → ℕ → List ℕ → Bool
+secured_by row place cards = if are_none cards && (place + 1 == row.codes) then true else row.secured

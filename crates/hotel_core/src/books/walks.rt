@@ -1,0 +1,82 @@
+//! Walks over the rows of the lists, which are handed to a sink one after the other.
+ghost use Rattle.std.specs.Prelude.{◌≡◌, true, false, OnOk, OnErr};
+ghost use Rattle.hotel_core.specs.Refinement.ListsOnRows.{arrivals_on, in_house_on, chain_on, left_behind_on, audit_on};
+ghost use Rattle.hotel_core.specs.Books.Walks.{WalksOver};
+ghost use Rattle.hotel_core.specs.declared.books.walks.WalkFault.TheVariants.{Memory, Stopped};
+
+use crate::books::Books;
+use crate::books::list_rows::{BehindRow, ChainRow, HouseRow};
+use hotel_nights::{Day, Stay};
+use keycard_rules::{LockNote, RoomNo};
+use std::alloc::AllocError;
+
+/// A sink takes no further row.
+#[derive(Clone, Copy, PartialEq, Eq, Debug)]
+pub struct Stop;
+
+/// Why a walk ended before its last row.
+#[derive(Clone, Copy, PartialEq, Eq, Debug)]
+pub enum WalkFault {
+    /// Memory for a row was refused.
+    Memory,
+    /// A call of the store failed.
+    Store,
+    /// The sink stopped.
+    Stopped,
+}
+
+impl From<Stop> for WalkFault {
+    ghost from_gives = { λ _ fault. fault ≡ Stopped };
+
+    fn from(_: Stop) -> WalkFault {
+        WalkFault::Stopped
+    }
+}
+
+impl From<AllocError> for WalkFault {
+    ghost from_gives = { λ _ fault. fault ≡ Memory };
+
+    fn from(_: AllocError) -> WalkFault {
+        WalkFault::Memory
+    }
+}
+
+/// Takes rows one after the other, until it stops.
+pub trait Sink<Row> {
+    /// The meanings that may follow one after a row that was taken.
+    ghost after: { Self → Row → Self → Type 0 };
+
+    /// The meanings that may follow one after a row at which the sink stopped.
+    ghost after_stop: { Self → Row → Self → Type 0 };
+
+    /// Takes a row, or stops at it.
+    fn take(&mut self, row: &Row) -> Result<(), Stop>
+        ensures taken { OnOk result (after self.old row.now self.new) }
+        ensures stopped { OnErr result (after_stop self.old row.now self.new) };
+}
+
+/// Books whose lists can be walked.
+///
+/// A walk hands the rows of a list to a sink in their order, and ends at the first row at which the sink stops. The rows
+/// that it handed over are a front of the list's rows, and all of them on `Ok`. It leaves of the books what a look-up does.
+pub trait Walks: Books {
+    /// The booked stays that take the night of a day, by party.
+    fn walk_arrivals<S: Sink<Stay>>(&mut self, day: Day, sink: &mut S) -> Result<(), WalkFault>
+        ensures { WalksOver Self.Issued false S.after S.after_stop (arrivals_on (Self.rows self.old) day) self.old self.new sink.old sink.new result };
+
+    /// The rooms with a registered party, by room.
+    fn walk_in_house<S: Sink<HouseRow>>(&mut self, sink: &mut S) -> Result<(), WalkFault>
+        ensures { WalksOver Self.Issued true S.after S.after_stop (in_house_on (Self.rows self.old)) self.old self.new sink.old sink.new result };
+
+    /// The codes of a room in order of issue; none where the room isn't there.
+    fn walk_chain<S: Sink<ChainRow>>(&mut self, room: RoomNo, sink: &mut S) -> Result<(), WalkFault>
+        ensures { WalksOver Self.Issued false S.after S.after_stop (chain_on (Self.rows self.old) room) self.old self.new sink.old sink.new result };
+
+    /// The rooms with two awaited codes or more, by room.
+    fn walk_left_behind<S: Sink<BehindRow>>(&mut self, sink: &mut S) -> Result<(), WalkFault>
+        ensures { WalksOver Self.Issued false S.after S.after_stop (left_behind_on (Self.rows self.old)) self.old self.new sink.old sink.new result };
+
+    /// The notes of a room, by count; none where the room isn't there.
+    fn walk_audit<S: Sink<LockNote>>(&mut self, room: RoomNo, sink: &mut S) -> Result<(), WalkFault>
+        ensures { WalksOver Self.Issued false S.after S.after_stop (audit_on (Self.rows self.old) room) self.old self.new sink.old sink.new result };
+}

@@ -1,0 +1,99 @@
+//! Bookings.
+ghost use Rattle.std.specs.Prelude.{◌≡◌, ◌-◌, false, true, Option, Some, IfOk};
+ghost use Rattle.rand_core.specs.Stream.{Stream};
+ghost use Rattle.hotel_nights.specs.FullNight.{is_full, first_day};
+ghost use Rattle.keycard_rules.specs.Draw.{words};
+ghost use Rattle.hotel_core.specs.Books.Lookups.{stays_of_kind, rooms_of_kind};
+ghost use Rattle.hotel_core.specs.Refinement.Finds.{Finds, AnyRows, reply_of};
+ghost use Rattle.hotel_core.specs.Refinement.OnRows.{outcome_on};
+ghost use Rattle.hotel_core.specs.Model.Ranges.{IsCommand};
+ghost use Rattle.hotel_core.specs.Refinement.StepOnRows.{StepsAs};
+ghost use Rattle.hotel_core.specs.declared.command.Command.TheVariants as command;
+ghost use Rattle.hotel_core.specs.declared.reply.Refusal.TheVariants.{Store};
+
+use crate::books::Books;
+use crate::books::change::Change;
+use crate::commands::changes::make;
+use crate::commands::guest_moves::is_booked;
+use crate::commands::look_ups::{is_kind, known, next_party, stay_there, today};
+use crate::reply::{Refusal, Reply};
+use hotel_nights::{Day, Guest, KindCode, Nights, Stay, StayState, first_full_night};
+use keycard_rules::PartyNo;
+use std::alloc::AllocError;
+
+/// The first night of a stay on which each room of the kind is taken.
+fn first_full<B: Books>(
+    books: &mut B,
+    kind: &KindCode,
+    arrive: Day,
+    depart: Day,
+) -> Result<Option<Day>, Refusal>
+    ensures { Finds B.Issued B.Books.own AnyRows Store
+        (λ rows. Some (first_day (is_full (stays_of_kind rows kind.now) kind.now (rooms_of_kind rows kind.now)) arrive (depart - arrive))) books.old books.new result }
+{
+    let stays = books.stays_of_kind(kind);
+    let stays = known(stays)?;
+    let rooms = books.rooms_of_kind(kind);
+    let rooms = known(rooms)?;
+    Ok(first_full_night(&stays, kind, rooms, arrive, depart))
+}
+
+/// Gives up a booking.
+pub(crate) fn cancel<B: Books>(books: &mut B, party: PartyNo) -> Result<Reply, Refusal>
+    ensures { (source : Stream) → StepsAs B.Issued B.Books.own false (λ rows. outcome_on rows (words 64 source) (command.Cancel party)) books.old books.new source source (reply_of result) }
+{
+    today(books)?;
+    let stay = stay_there(books, party)?;
+    if !is_booked(&stay) {
+        return Err(Refusal::NotBooked);
+    }
+    make(books, Change::Cancelled(party), Reply::Cancelled)
+}
+
+fn again(guest: &Guest) -> Result<Guest, AllocError>
+    ensures { IfOk result (λ g. g ≡ guest.now) }
+{
+    guest.clone()
+}
+
+/// Books a room of a kind; the guest's name is copied.
+pub(crate) fn reserve<B: Books>(
+    books: &mut B,
+    guest: &Guest,
+    kind: &KindCode,
+    arrive: Day,
+    nights: Nights,
+) -> Result<Reply, Refusal>
+    requires { IsCommand (command.Reserve guest.now kind.now arrive nights) }
+    ensures { (source : Stream) → StepsAs B.Issued B.Books.own true
+        (λ rows. outcome_on rows (words 64 source) (command.Reserve guest.now kind.now arrive nights)) books.old books.new source source (reply_of result) }
+{
+    let today = today(books)?;
+    if !is_kind(books, kind)? {
+        return Err(Refusal::NoKind);
+    }
+    if arrive < today {
+        return Err(Refusal::PastArrival);
+    }
+    let Some(depart) = arrive.plus(u16::from(nights.value())) else {
+        return Err(Refusal::PastEnd);
+    };
+    if let Some(night) = first_full(books, kind, arrive, depart)? {
+        return Err(Refusal::KindFull(night));
+    }
+    let party = next_party(books)?;
+    let Ok(guest) = again(guest) else {
+        return Err(Refusal::Memory);
+    };
+    let kind = *kind;
+    let state = StayState::Booked;
+    let stay = Stay {
+        party,
+        guest,
+        kind,
+        arrive,
+        depart,
+        state,
+    };
+    make(books, Change::Reserved(stay), Reply::Reserved { party })
+}

@@ -1,0 +1,41 @@
+//! The business day.
+ghost use Rattle.std.specs.Prelude.{◌≡◌, false};
+ghost use Rattle.rand_core.specs.Stream.{Stream};
+ghost use Rattle.keycard_rules.specs.Draw.{words};
+ghost use Rattle.hotel_core.specs.Refinement.Finds.{reply_of};
+ghost use Rattle.hotel_core.specs.Model.Run.{is_failed};
+ghost use Rattle.hotel_core.specs.Refinement.OnRows.{outcome_on};
+ghost use Rattle.hotel_core.specs.Model.Ranges.{IsCommand};
+ghost use Rattle.hotel_core.specs.Refinement.StepOnRows.{StepsAs};
+ghost use Rattle.hotel_core.specs.declared.command.Command.TheVariants as command;
+
+use crate::books::Books;
+use crate::books::change::Change;
+use crate::commands::changes::make;
+use crate::commands::look_ups::{day_if_set, today};
+use crate::reply::{Refusal, Reply};
+use hotel_nights::Day;
+
+/// Sets the first business day.
+pub(crate) fn begin<B: Books>(books: &mut B, day: Day) -> Result<Reply, Refusal>
+    requires { IsCommand (command.Begin day) }
+    ensures steps { (source : Stream) → StepsAs B.Issued B.Books.own false (λ rows. outcome_on rows (words 64 source) (command.Begin day)) books.old books.new source source (reply_of result) }
+    ensures sure { B.never_fails → is_failed (reply_of result) ≡ false }
+{
+    if day_if_set(books)?.is_some() {
+        return Err(Refusal::AlreadyBegun);
+    }
+    make(books, Change::Begin(day), Reply::Begun)
+}
+
+/// Moves the business day on by one.
+pub(crate) fn next_day<B: Books>(books: &mut B) -> Result<Reply, Refusal>
+    ensures steps { (source : Stream) → StepsAs B.Issued B.Books.own false (λ rows. outcome_on rows (words 64 source) command.NextDay) books.old books.new source source (reply_of result) }
+    ensures sure { B.never_fails → is_failed (reply_of result) ≡ false }
+{
+    let day = today(books)?;
+    let Some(next) = day.plus(1) else {
+        return Err(Refusal::LastDay);
+    };
+    make(books, Change::DayTo(next), Reply::DayIs(next))
+}

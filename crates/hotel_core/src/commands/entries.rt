@@ -1,0 +1,100 @@
+//! Cards that open a door from outside.
+ghost use Rattle.std.specs.Prelude.{◌≡◌, ◌+◌, true, false, is_some};
+ghost use Rattle.rand_core.specs.Stream.{Stream};
+ghost use Rattle.keycard_rules.specs.Lock.{turn};
+ghost use Rattle.keycard_rules.specs.declared.note.Act.TheVariants as act;
+ghost use Rattle.hotel_core.specs.Refinement.Answered.{IsOutcome};
+ghost use Rattle.hotel_core.specs.Refinement.Finds.{reply_of};
+ghost use Rattle.hotel_core.specs.Refinement.Noting.{IsUntaken, opened_on, secured_by};
+ghost use Rattle.hotel_core.specs.Refinement.ChangeOf.{comes};
+ghost use Rattle.hotel_core.specs.Refinement.OnRows.{told_on, has_link_on};
+ghost use Rattle.hotel_core.specs.Refinement.StepOnRows.{StepsAs};
+ghost use Rattle.hotel_core.specs.Model.Words.{is_one_of};
+
+use crate::books::Books;
+use crate::books::change::{Change, InsideMove};
+use crate::books::rows::RoomRow;
+use crate::commands::changes::make;
+use crate::commands::lock_codes::{cards_inside, is_inside, issued_place, same_link};
+use crate::commands::look_ups::card_there;
+use crate::commands::room_cards::code_in;
+use crate::reply::{Refusal, Reply};
+use keycard_rules::{CardNo, Code, Link, LockNote, turn};
+
+/// Whether a lock that holds a code opens to a card of the link.
+fn opens(held: Code, link: &Link) -> bool
+    ensures { result ≡ is_some (turn held link.now) }
+{
+    turn(held, link).is_some()
+}
+
+/// Whether a room is secured after an entry by the code at a place, where these cards are inside.
+fn is_secured_by(row: &RoomRow, place: u32, cards: &[CardNo]) -> bool
+    ensures { result ≡ secured_by row.now place cards.now }
+{
+    let is_current = u64::from(place) + 1 == u64::from(row.codes);
+    (cards.is_empty() && is_current) || row.secured
+}
+
+/// How a card comes in.
+fn comes(number: CardNo, is_inside: bool) -> InsideMove
+    ensures { result ≡ comes is_inside number }
+{
+    if is_inside {
+        InsideMove::Same
+    } else {
+        InsideMove::Comes(number)
+    }
+}
+
+/// Takes the note of a card whose link opens the lock.
+fn open<B: Books>(
+    books: &mut B,
+    note: &LockNote,
+    row: &RoomRow,
+    number: CardNo,
+    link: &Link,
+) -> Result<Reply, Refusal>
+    requires known { B.is_clean books.old → IsUntaken note.now row.now (B.rows books.old) × (has_link_on (B.rows books.old) number link.now ≡ true) }
+    requires outcome { B.is_clean books.old → IsOutcome (B.rows books.old) (opened_on (B.rows books.old) note.now number link.now) }
+    ensures { (source : Stream) → StepsAs B.Issued B.Books.own false (λ rows. opened_on rows note.now number link.now) books.old books.new source source (reply_of result) }
+{
+    let lock_place = issued_place(books, link.new_code)?.place;
+    let cards = cards_inside(books, note.room())?;
+    let secured = is_secured_by(row, lock_place, &cards);
+    let insides = comes(number, is_inside(number, &cards));
+    let note = *note;
+    make(
+        books,
+        Change::Noted {
+            note,
+            lock_place,
+            secured,
+            insides,
+        },
+        Reply::Taken,
+    )
+}
+
+/// Takes the next note of a room: a card entered.
+pub(crate) fn enter<B: Books>(
+    books: &mut B,
+    note: &LockNote,
+    row: &RoomRow,
+    number: CardNo,
+    link: &Link,
+) -> Result<Reply, Refusal>
+    requires untaken { B.is_clean books.old → IsUntaken note.now row.now (B.rows books.old) }
+    requires outcome { B.is_clean books.old → IsOutcome (B.rows books.old) (told_on (B.rows books.old) note.now (act.Entered number link.now)) }
+    ensures { (source : Stream) → StepsAs B.Issued B.Books.own false (λ rows. told_on rows note.now (act.Entered number link.now)) books.old books.new source source (reply_of result) }
+{
+    let card = card_there(books, number)?;
+    if !same_link(&card.link, link) {
+        return Err(Refusal::CardDiffers);
+    }
+    let held = code_in(books, note.room(), row.lock_place)?;
+    if !opens(held, link) {
+        return Err(Refusal::LockShut);
+    }
+    open(books, note, row, number, link)
+}

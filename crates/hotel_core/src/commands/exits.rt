@@ -1,0 +1,47 @@
+//! Cards that were shown on the way out.
+ghost use Rattle.std.specs.Prelude.{◌≡◌, false};
+ghost use Rattle.rand_core.specs.Stream.{Stream};
+ghost use Rattle.keycard_rules.specs.declared.note.Act.TheVariants as act;
+ghost use Rattle.hotel_core.specs.Refinement.Answered.{IsOutcome};
+ghost use Rattle.hotel_core.specs.Refinement.Finds.{reply_of};
+ghost use Rattle.hotel_core.specs.Refinement.Noting.{IsUntaken};
+ghost use Rattle.hotel_core.specs.Refinement.OnRows.{told_on};
+ghost use Rattle.hotel_core.specs.Refinement.StepOnRows.{StepsAs};
+
+use crate::books::Books;
+use crate::books::change::{Change, InsideMove};
+use crate::books::rows::RoomRow;
+use crate::commands::changes::make;
+use crate::commands::lock_codes::{cards_inside, is_inside, same_link};
+use crate::commands::look_ups::card_there;
+use crate::reply::{Refusal, Reply};
+use keycard_rules::{CardNo, Link, LockNote};
+
+/// Takes the next note of a room: a card left.
+pub(crate) fn leave<B: Books>(
+    books: &mut B,
+    note: &LockNote,
+    row: &RoomRow,
+    number: CardNo,
+    link: &Link,
+) -> Result<Reply, Refusal>
+    requires untaken { B.is_clean books.old → IsUntaken note.now row.now (B.rows books.old) }
+    requires outcome { B.is_clean books.old → IsOutcome (B.rows books.old) (told_on (B.rows books.old) note.now (act.Left number link.now)) }
+    ensures { (source : Stream) → StepsAs B.Issued B.Books.own false (λ rows. told_on rows note.now (act.Left number link.now)) books.old books.new source source (reply_of result) }
+{
+    let card = card_there(books, number)?;
+    if !same_link(&card.link, link) {
+        return Err(Refusal::CardDiffers);
+    }
+    let cards = cards_inside(books, note.room())?;
+    if !is_inside(number, &cards) {
+        return Err(Refusal::NotInside);
+    }
+    let change = Change::Noted {
+        note: *note,
+        lock_place: row.lock_place,
+        secured: row.secured,
+        insides: InsideMove::Goes(number),
+    };
+    make(books, change, Reply::Taken)
+}

@@ -1,0 +1,64 @@
+//! Notes of locks.
+ghost use Rattle.std.specs.Prelude.{◌≡◌, false, None};
+ghost use Rattle.rand_core.specs.Stream.{Stream};
+ghost use Rattle.keycard_rules.specs.Draw.{words};
+ghost use Rattle.hotel_core.specs.Refinement.Answered.{IsOutcome};
+ghost use Rattle.hotel_core.specs.Refinement.Finds.{reply_of};
+ghost use Rattle.hotel_core.specs.Refinement.Noting.{IsUntaken};
+ghost use Rattle.hotel_core.specs.Model.Notes.{same_link, same_act, same_note};
+ghost use Rattle.hotel_core.specs.Refinement.OnRows.{outcome_on, reported_on};
+ghost use Rattle.hotel_core.specs.Model.Ranges.{IsCommand};
+ghost use Rattle.hotel_core.specs.Refinement.StepOnRows.{StepsAs};
+ghost use Rattle.hotel_core.specs.declared.command.Command.TheVariants as command;
+
+use crate::books::Books;
+use crate::books::rows::RoomRow;
+use crate::commands::entries::enter;
+use crate::commands::exits::leave;
+use crate::commands::lock_codes::kept_note;
+use crate::commands::look_ups::{room_there, today};
+use crate::commands::recodings::recode;
+use crate::reply::{Refusal, Reply};
+use keycard_rules::{Act, LockNote};
+
+fn same_note(kept: &LockNote, note: &LockNote) -> bool
+    ensures { result ≡ same_note kept.now note.now }
+{
+    kept == note
+}
+
+/// Takes a note whose count wasn't taken.
+fn take_new<B: Books>(books: &mut B, note: &LockNote, row: &RoomRow) -> Result<Reply, Refusal>
+    requires untaken { B.is_clean books.old → IsUntaken note.now row.now (B.rows books.old) }
+    requires outcome { B.is_clean books.old → IsOutcome (B.rows books.old) (reported_on (B.rows books.old) note.now None) }
+    ensures { (source : Stream) → StepsAs B.Issued B.Books.own false (λ rows. reported_on rows note.now None) books.old books.new source source (reply_of result) }
+{
+    let count = note.count().value();
+    if count <= row.notes {
+        // Sound books have each note up to this count.
+        return Err(Refusal::Store);
+    }
+    let next = row.notes + 1;
+    if next < count {
+        return Err(Refusal::Gap(next));
+    }
+    match note.act() {
+        Act::Entered { card, link } => enter(books, note, row, card, &link),
+        Act::Left { card, link } => leave(books, note, row, card, &link),
+        Act::Recoded { from, to } => recode(books, note, row, from, to),
+    }
+}
+
+/// Takes a note of a lock.
+pub(crate) fn take_note<B: Books>(books: &mut B, note: &LockNote) -> Result<Reply, Refusal>
+    requires { IsCommand (command.Reported note.now) }
+    ensures { (source : Stream) → StepsAs B.Issued B.Books.own false (λ rows. outcome_on rows (words 64 source) (command.Reported note.now)) books.old books.new source source (reply_of result) }
+{
+    today(books)?;
+    let row = room_there(books, note.room())?;
+    match kept_note(books, note)? {
+        Some(kept) if same_note(&kept, note) => Ok(Reply::Seen),
+        Some(_) => Err(Refusal::Conflict),
+        None => take_new(books, note, &row),
+    }
+}

@@ -1,0 +1,12 @@
+//! Books in memory: a table for each kind of rows, found by key.
+
+mod code_table;
+mod inside_table;
+pub mod list_books;
+mod note_table;
+mod row_changes;
+mod table_changes;
+#[cfg(test)]
+mod table_tests;
+mod table_walks;
+mod tables;

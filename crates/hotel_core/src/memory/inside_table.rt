@@ -1,0 +1,71 @@
+//! The cards inside rooms, found by room.
+ghost use Rattle.std.specs.Prelude.{◌≡◌, ℕ, [], IfOk, OnOk, OnErr};
+ghost use Rattle.hotel_core.specs.Model.Guests.{those_in};
+ghost use Rattle.hotel_core.specs.Books.Change.{moved};
+
+use crate::books::change::InsideMove;
+use keycard_rules::{CardNo, Memory, RoomNo};
+use std::alloc::{AllocError, Global};
+use std::collections::BTreeSet;
+use std::marker::Model;
+
+/// The rooms and cards, by room and then by card.
+#[derive(Drop)]
+pub(crate) struct InsideTable {
+    pairs: BTreeSet<(RoomNo, CardNo)>,
+}
+
+impl Model for InsideTable {
+    ghost use Rattle.std.specs.Prelude.{ℕ, List};
+    ghost use Rattle.hotel_core.specs.Memory.{HaveCardNumbers};
+
+    ghost Value = { List (ℕ × ℕ) };
+
+    ghost view = { λ t. t.pairs.keys };
+
+    ghost invariant = { λ t. HaveCardNumbers t.pairs.keys };
+}
+
+impl InsideTable {
+    pub(crate) fn empty(alloc: Global) -> InsideTable
+        ensures { result ≡ [] }
+    {
+        InsideTable {
+            pairs: BTreeSet::new(alloc),
+        }
+    }
+
+    /// The numbers of the cards inside a room, in order.
+    pub(crate) fn at(&self, alloc: Global, room: RoomNo) -> Result<Vec<CardNo>, AllocError>
+        ensures { IfOk result (λ numbers. numbers.items ≡ those_in self.now room) }
+    {
+        let mut found = Vec::new(alloc);
+        let least = CardNo::new(1).unwrap();
+        let most = CardNo::new(9_999_999).unwrap();
+        for pair in self.pairs.range((room, least)..=(room, most)) {
+            found.push(pair.1)?;
+        }
+        Ok(found)
+    }
+
+    /// A card comes to a room, goes from it, or neither; a refusal changes nothing.
+    pub(crate) fn change(&mut self, room: RoomNo, insides: InsideMove) -> Result<(), Memory>
+        ensures ok { OnOk result (self.new ≡ moved insides room self.old) }
+        ensures err { OnErr result (self.new ≡ self.old) }
+    {
+        match insides {
+            InsideMove::Same => Ok(()),
+            InsideMove::Goes(number) => {
+                self.pairs.remove(&(room, number));
+                Ok(())
+            }
+            InsideMove::Comes(number) => {
+                let _in_range = number.value();
+                let Ok(_) = self.pairs.insert((room, number)) else {
+                    return Err(Memory);
+                };
+                Ok(())
+            }
+        }
+    }
+}

@@ -1,0 +1,209 @@
+//! Books in memory.
+ghost use Rattle.std.specs.Prelude.{◌≡◌, Err, IfSome, refl};
+ghost use Rattle.std.proofs.Common.{ap, ◌∙◌};
+ghost use Rattle.keycard_rules.specs.Rise.{HasRisen, NoFewer, of_memory};
+ghost use Rattle.keycard_rules.specs.declared.issued.LookFault.TheVariants.{Memory};
+ghost use Rattle.hotel_core.specs.Model.Rows.{no_rows};
+ghost use Rattle.hotel_core.specs.Books.Lookups.{codes_in};
+ghost use Rattle.hotel_core.specs.Books.Walks.{failure_of};
+ghost use Rattle.hotel_core.specs.declared.books.walks.WalkFault.TheVariants.{Store};
+
+use crate::books::Books;
+use crate::books::change::Change;
+use crate::books::list_rows::{BehindRow, ChainRow, HouseRow};
+use crate::books::rows::{CodeRow, NextNumbers, RoomRow};
+use crate::books::walks::{Sink, WalkFault, Walks};
+use crate::memory::tables::Tables;
+use hotel_nights::{Day, KindCode, Stay};
+use keycard_rules::{Card, CardNo, Code, Count, Issued, LockNote, LookFault, PartyNo, RoomNo};
+use std::alloc::Global;
+use std::marker::Model;
+
+/// Books in memory.
+///
+/// Only memory fails: a call that finds none answers so, changes no row, and is counted.
+#[derive(Drop)]
+pub struct ListBooks {
+    tables: Tables,
+    failures: u64,
+}
+
+impl Model for ListBooks {
+    ghost use Rattle.hotel_core.specs.Memory.{Listed};
+    ghost use Rattle.hotel_core.specs.Model.Sound.{IsSound};
+
+    ghost Value = { Listed };
+
+    ghost view = { λ b. record { rows = b.tables; failures = b.failures } };
+
+    ghost invariant = { λ b. IsSound b.tables };
+}
+
+impl ListBooks {
+    /// Books with no rows, which take no memory yet.
+    pub fn empty(alloc: Global) -> ListBooks
+        ensures { result ≡ record { rows = no_rows; failures = 0 } }
+    {
+        ListBooks {
+            tables: Tables::empty(alloc),
+            failures: 0,
+        }
+    }
+
+    /// Counts that memory was wanting; the count stays at its greatest value.
+    fn wanting(&mut self) -> LookFault
+        ensures fault { result ≡ Memory }
+        ensures rows { self.new.rows ≡ self.old.rows }
+        ensures counted { NoFewer (of_memory self.old.failures) (of_memory self.new.failures) }
+        ensures risen { HasRisen self.old.failures self.new.failures }
+    {
+        self.failures = self.failures.saturating_add(1);
+        LookFault::Memory
+    }
+
+    /// How a walk ended, which is counted where it found no memory.
+    fn ended(&mut self, end: Result<(), WalkFault>) -> Result<(), WalkFault>
+        requires { end ≡ Err Store → ⊥ }
+        ensures same { result ≡ end }
+        ensures rows { self.new.rows ≡ self.old.rows }
+        ensures counted { NoFewer (of_memory self.old.failures) (of_memory self.new.failures) }
+        ensures risen { IfSome (failure_of end) (λ cause. HasRisen (of_memory self.old.failures cause) (of_memory self.new.failures cause)) }
+    {
+        if matches!(end, Err(WalkFault::Memory)) {
+            self.wanting();
+        }
+        end
+    }
+}
+
+impl Issued for ListBooks {
+    ghost issued = { λ b. codes_in b.rows };
+
+    ghost is_clean = { λ _. Unit {0} };
+
+    ghost is_kept = { λ a b. b.rows ≡ a.rows };
+
+    ghost failures = { λ b. of_memory b.failures };
+
+    ghost never_fails = { Unit {0} };
+
+    fn is_issued(&mut self, code: Code) -> Result<bool, LookFault> {
+        Ok(self.tables.is_issued(code))
+    }
+
+    ghost never_store = { λ a never. refl };
+
+    ghost kept_refl = { λ a. refl };
+
+    ghost kept_trans = { λ a b c h k. k ∙ h };
+
+    ghost kept_issued = { λ a b h. ap (λ rows. codes_in rows) h };
+}
+
+impl Books for ListBooks {
+    ghost rows = { λ b. b.rows };
+
+    fn day(&mut self) -> Result<Option<Day>, LookFault> {
+        Ok(self.tables.day())
+    }
+
+    fn kind(&mut self, kind: &KindCode) -> Result<bool, LookFault> {
+        Ok(self.tables.has_kind(kind))
+    }
+
+    fn room(&mut self, room: RoomNo) -> Result<Option<RoomRow>, LookFault> {
+        Ok(self.tables.room(room))
+    }
+
+    fn code_place(&mut self, code: Code) -> Result<Option<CodeRow>, LookFault> {
+        Ok(self.tables.code_place(code))
+    }
+
+    fn code_at(&mut self, room: RoomNo, place: u32) -> Result<Option<Code>, LookFault> {
+        Ok(self.tables.code_at(room, place))
+    }
+
+    fn stay(&mut self, party: PartyNo) -> Result<Option<Stay>, LookFault> {
+        match self.tables.stay(party) {
+            Ok(stay) => Ok(stay),
+            Err(_) => Err(self.wanting()),
+        }
+    }
+
+    fn stays_of_kind(&mut self, kind: &KindCode) -> Result<Vec<Stay>, LookFault> {
+        match self.tables.stays_of_kind(kind) {
+            Ok(stays) => Ok(stays),
+            Err(_) => Err(self.wanting()),
+        }
+    }
+
+    fn card(&mut self, number: CardNo) -> Result<Option<Card>, LookFault> {
+        Ok(self.tables.card(number))
+    }
+
+    fn inside(&mut self, room: RoomNo) -> Result<Vec<CardNo>, LookFault> {
+        match self.tables.inside(room) {
+            Ok(numbers) => Ok(numbers),
+            Err(_) => Err(self.wanting()),
+        }
+    }
+
+    fn note(&mut self, room: RoomNo, count: Count) -> Result<Option<LockNote>, LookFault> {
+        Ok(self.tables.note(room, count))
+    }
+
+    fn rooms_of_kind(&mut self, kind: &KindCode) -> Result<u32, LookFault> {
+        Ok(self.tables.rooms_of_kind(kind))
+    }
+
+    fn next_numbers(&mut self) -> Result<NextNumbers, LookFault> {
+        Ok(self.tables.next_numbers())
+    }
+
+    fn known_sound(&self) {
+        // The type's invariant is known where a field is read.
+        let _ = &self.failures;
+    }
+
+    fn apply(&mut self, change: Change) -> Result<(), LookFault> {
+        match self.tables.apply(change) {
+            Ok(()) => Ok(()),
+            Err(_) => Err(self.wanting()),
+        }
+    }
+
+    ghost kept_rows = { λ a b h. h };
+
+    ghost issued_are = { λ a. refl };
+}
+
+impl Walks for ListBooks {
+    fn walk_arrivals<S: Sink<Stay>>(&mut self, day: Day, sink: &mut S) -> Result<(), WalkFault> {
+        self.tables.walk_arrivals(day, sink)
+    }
+
+    fn walk_in_house<S: Sink<HouseRow>>(&mut self, sink: &mut S) -> Result<(), WalkFault> {
+        let end = self.tables.walk_in_house(sink);
+        self.ended(end)
+    }
+
+    fn walk_chain<S: Sink<ChainRow>>(
+        &mut self,
+        room: RoomNo,
+        sink: &mut S,
+    ) -> Result<(), WalkFault> {
+        self.tables.walk_chain(room, sink)
+    }
+
+    fn walk_left_behind<S: Sink<BehindRow>>(&mut self, sink: &mut S) -> Result<(), WalkFault> {
+        self.tables.walk_left_behind(sink)
+    }
+
+    fn walk_audit<S: Sink<LockNote>>(
+        &mut self,
+        room: RoomNo,
+        sink: &mut S,
+    ) -> Result<(), WalkFault> {
+        self.tables.walk_audit(room, sink)
+    }
+}

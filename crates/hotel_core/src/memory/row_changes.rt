@@ -1,0 +1,77 @@
+//! Changes of rows that are there: they take no memory.
+ghost use Rattle.std.specs.Prelude.{◌≡◌, ℕ, ◌+◌, ◌-◌, ◌^◌, ◌<◌, Some, None, false};
+ghost use Rattle.hotel_core.specs.Model.Words.{said_of};
+ghost use Rattle.hotel_core.specs.Model.Rows.{at_number};
+ghost use Rattle.hotel_core.specs.Books.Change.{room_changed, without_party, left_by};
+ghost use Rattle.hotel_core.specs.Model.Stays.{in_state};
+
+use crate::books::rows::RoomRow;
+use hotel_nights::{Stay, StayState};
+use keycard_rules::{PartyNo, RoomNo};
+use std::collections::BTreeMap;
+
+/// How many codes were issued at a room; 0 where it isn't there.
+pub(crate) fn codes_issued(rooms: &BTreeMap<RoomNo, RoomRow>, room: RoomNo) -> u32
+    ensures { result ≡ said_of (at_number rooms.now.entries room) 0 (λ row. row.codes) }
+{
+    match rooms.get(&room) {
+        Some(row) => row.codes,
+        None => 0,
+    }
+}
+
+/// One more code was issued at the room, to the party that is registered there from now on.
+pub(crate) fn issue_at(rooms: &mut BTreeMap<RoomNo, RoomRow>, room: RoomNo, party: PartyNo)
+    requires { said_of (at_number rooms.old.entries room) 0 (λ row. row.codes) < 2 ^ 32 - 1 }
+    ensures { rooms.new.entries ≡ room_changed room (λ row. record row { codes = row.codes + 1; secured = false; party = Some party }) rooms.old.entries }
+{
+    if let Some(row) = rooms.get_mut(&room) {
+        row.codes += 1;
+        row.secured = false;
+        row.party = Some(party);
+    }
+}
+
+/// The party has left the room.
+pub(crate) fn leave(rooms: &mut BTreeMap<RoomNo, RoomRow>, room: RoomNo)
+    ensures { rooms.new.entries ≡ without_party room rooms.old.entries }
+{
+    if let Some(row) = rooms.get_mut(&room) {
+        row.party = None;
+    }
+}
+
+/// The party has left the room that is named, if one is.
+pub(crate) fn leave_any(rooms: &mut BTreeMap<RoomNo, RoomRow>, leaves: Option<RoomNo>)
+    ensures { rooms.new.entries ≡ left_by leaves rooms.old.entries }
+{
+    if let Some(room) = leaves {
+        leave(rooms, room);
+    }
+}
+
+/// The room after a note of its lock.
+pub(crate) fn note_at(
+    rooms: &mut BTreeMap<RoomNo, RoomRow>,
+    room: RoomNo,
+    lock_place: u32,
+    secured: bool,
+    count: u32,
+)
+    ensures { rooms.new.entries ≡ room_changed room (λ row. record row { lock_place = lock_place; secured = secured; notes = count }) rooms.old.entries }
+{
+    if let Some(row) = rooms.get_mut(&room) {
+        row.lock_place = lock_place;
+        row.secured = secured;
+        row.notes = count;
+    }
+}
+
+/// The stay of a party stands so from now on.
+pub(crate) fn set_state(stays: &mut BTreeMap<PartyNo, Stay>, party: PartyNo, state: StayState)
+    ensures { stays.new.entries ≡ in_state party state stays.old.entries }
+{
+    if let Some(stay) = stays.get_mut(&party) {
+        stay.state = state;
+    }
+}

@@ -1,0 +1,189 @@
+//! Changes of the tables in memory, each made whole or not at all.
+//!
+//! New rows come first, since they may want memory; what was put in is taken out again where a later one finds none.
+//! Rows that are there are changed last, which takes no memory.
+ghost use Rattle.std.specs.Prelude.{◌≡◌, ℕ, ◌-◌, ◌^◌, ◌<◌, Some, None, false, IsSome, OnOk, OnErr, IsOk};
+ghost use Rattle.hotel_core.specs.declared.books.change.Change.TheVariants as change;
+ghost use Rattle.hotel_core.specs.Books.Lookups.{room_at, code_place, note_at};
+ghost use Rattle.hotel_core.specs.Books.Change.{made, codes_of};
+ghost use Rattle.hotel_core.specs.Books.Fits.{HasItsRows, takes_memory};
+
+use crate::books::change::{Change, InsideMove};
+use crate::books::rows::{CodeRow, RoomRow};
+use crate::memory::row_changes::{codes_issued, issue_at, leave, leave_any, note_at, set_state};
+use crate::memory::tables::Tables;
+use hotel_nights::{Day, KindCode, Stay, StayState};
+use keycard_rules::{Card, Code, LockNote, Memory, PartyNo, RoomNo};
+
+impl Tables {
+    /// Makes all of a change, or nothing.
+    pub(crate) fn apply(&mut self, change: Change) -> Result<(), Memory>
+        requires { HasItsRows change self.old }
+        ensures ok { OnOk result (self.new ≡ made change self.old) }
+        ensures err { OnErr result (self.new ≡ self.old) }
+        ensures sure { takes_memory change ≡ false → IsOk result }
+    {
+        match change {
+            Change::Begin(day) => {
+                self.set_day(day);
+                Ok(())
+            }
+            Change::DayTo(day) => {
+                self.set_day(day);
+                Ok(())
+            }
+            Change::Kind(kind) => self.add_kind(kind),
+            Change::Room { room, kind, code } => self.add_room(room, kind, code),
+            Change::Reserved(stay) => self.add_stay(stay),
+            Change::Cancelled(party) => {
+                self.cancel(party);
+                Ok(())
+            }
+            Change::Issue { card, room, leaves } => self.issue(&card, room, leaves),
+            Change::Spare(card) => self.add_card(&card),
+            Change::CheckedOut { party, room } => {
+                self.check_out(party, room);
+                Ok(())
+            }
+            Change::Noted {
+                note,
+                lock_place,
+                secured,
+                insides,
+            } => self.add_note(&note, lock_place, secured, insides),
+        }
+    }
+
+    fn set_day(&mut self, day: Day)
+        ensures { self.new ≡ made (change.DayTo day) self.old }
+    {
+        self.day = Some(day);
+    }
+
+    pub(crate) fn add_kind(&mut self, kind: KindCode) -> Result<(), Memory>
+        ensures ok { OnOk result (self.new ≡ made (change.Kind kind) self.old) }
+        ensures err { OnErr result (self.new ≡ self.old) }
+    {
+        match self.kinds.insert(kind) {
+            Ok(_) => Ok(()),
+            Err(_) => Err(Memory),
+        }
+    }
+
+    /// Adds a room and its first code.
+    pub(crate) fn add_room(
+        &mut self,
+        room: RoomNo,
+        kind: KindCode,
+        code: Code,
+    ) -> Result<(), Memory>
+        requires new_room { room_at self.old room ≡ None }
+        requires new_code { code_place self.old code ≡ None }
+        ensures ok { OnOk result (self.new ≡ made (change.Room room kind code) self.old) }
+        ensures err { OnErr result (self.new ≡ self.old) }
+    {
+        let row = RoomRow {
+            room,
+            kind,
+            lock_place: 0,
+            codes: 1,
+            secured: false,
+            party: None,
+            notes: 0,
+        };
+        let Ok(_) = self.rooms.insert(room, row) else {
+            return Err(Memory);
+        };
+        let Ok(()) = self.codes.insert(code, CodeRow { room, place: 0 }) else {
+            self.rooms.remove(&room);
+            return Err(Memory);
+        };
+        Ok(())
+    }
+
+    pub(crate) fn add_stay(&mut self, stay: Stay) -> Result<(), Memory>
+        ensures ok { OnOk result (self.new ≡ made (change.Reserved stay) self.old) }
+        ensures err { OnErr result (self.new ≡ self.old) }
+    {
+        let party = stay.party;
+        match self.stays.insert(party, stay) {
+            Ok(_) => Ok(()),
+            Err(_) => Err(Memory),
+        }
+    }
+
+    fn cancel(&mut self, party: PartyNo)
+        ensures { self.new ≡ made (change.Cancelled party) self.old }
+    {
+        set_state(&mut self.stays, party, StayState::Cancelled);
+    }
+
+    /// Adds a new code and a card with it; the card's party comes to the room, and leaves another one where that is named.
+    pub(crate) fn issue(
+        &mut self,
+        card: &Card,
+        room: RoomNo,
+        leaves: Option<RoomNo>,
+    ) -> Result<(), Memory>
+        requires there { IsSome (room_at self.old room) }
+        requires few { codes_of self.old room < 2 ^ 32 - 1 }
+        requires new_code { code_place self.old card.now.link.new_code ≡ None }
+        ensures ok { OnOk result (self.new ≡ made (change.Issue card.now room leaves) self.old) }
+        ensures err { OnErr result (self.new ≡ self.old) }
+    {
+        let code = card.link.new_code;
+        let place = codes_issued(&self.rooms, room);
+        let Ok(()) = self.codes.insert(code, CodeRow { room, place }) else {
+            return Err(Memory);
+        };
+        let Ok(_) = self.cards.insert(card.number, *card) else {
+            self.codes.remove(code, CodeRow { room, place });
+            return Err(Memory);
+        };
+        leave_any(&mut self.rooms, leaves);
+        issue_at(&mut self.rooms, room, card.party);
+        set_state(&mut self.stays, card.party, StayState::InHouse(room));
+        Ok(())
+    }
+
+    pub(crate) fn add_card(&mut self, card: &Card) -> Result<(), Memory>
+        ensures ok { OnOk result (self.new ≡ made (change.Spare card.now) self.old) }
+        ensures err { OnErr result (self.new ≡ self.old) }
+    {
+        match self.cards.insert(card.number, *card) {
+            Ok(_) => Ok(()),
+            Err(_) => Err(Memory),
+        }
+    }
+
+    fn check_out(&mut self, party: PartyNo, room: RoomNo)
+        ensures { self.new ≡ made (change.CheckedOut party room) self.old }
+    {
+        leave(&mut self.rooms, room);
+        set_state(&mut self.stays, party, StayState::Done);
+    }
+
+    pub(crate) fn add_note(
+        &mut self,
+        note: &LockNote,
+        lock_place: u32,
+        secured: bool,
+        insides: InsideMove,
+    ) -> Result<(), Memory>
+        requires { note_at self.old note.now.room note.now.count ≡ None }
+        ensures ok { OnOk result (self.new ≡ made (change.Noted note.now lock_place secured insides) self.old) }
+        ensures err { OnErr result (self.new ≡ self.old) }
+    {
+        let room = note.room();
+        let count = note.count();
+        let Ok(()) = self.notes.insert(note) else {
+            return Err(Memory);
+        };
+        let Ok(()) = self.inside.change(room, insides) else {
+            self.notes.remove(room, count);
+            return Err(Memory);
+        };
+        note_at(&mut self.rooms, room, lock_place, secured, count.value());
+        Ok(())
+    }
+}

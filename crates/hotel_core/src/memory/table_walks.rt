@@ -1,0 +1,161 @@
+//! Walks over the tables in memory.
+ghost use Rattle.std.specs.Prelude.{◌≡◌, IfOk, Err, None, filter_map};
+ghost use Rattle.std.specs.List.{range_with_len};
+ghost use Rattle.hotel_core.specs.Refinement.ListsOnRows.{arrivals_on, arrives_on, in_house_on, chain_on, left_behind_on, audit_on, house_row_on, chain_row_on, behind_row_on, state_at};
+ghost use Rattle.hotel_core.specs.Books.Walks.{Hands, failure_of};
+ghost use Rattle.hotel_core.specs.declared.books.walks.WalkFault.TheVariants.{Store};
+
+use crate::books::list_rows::{BehindRow, ChainRow, CodeState, HouseRow};
+use crate::books::rows::RoomRow;
+use crate::books::walks::{Sink, WalkFault};
+use crate::memory::tables::Tables;
+use hotel_nights::{Day, Stay, StayState};
+use keycard_rules::{LockNote, RoomNo};
+use std::alloc::AllocError;
+
+/// How the code at a place stands, where the lock stands at another.
+fn state_at(lock_place: u32, place: u32) -> CodeState
+    ensures { result ≡ state_at lock_place place }
+{
+    if place < lock_place {
+        CodeState::Passed
+    } else if place == lock_place {
+        CodeState::Held
+    } else {
+        CodeState::Awaited
+    }
+}
+
+/// Whether a stay is booked and takes the night of a day.
+fn arrives(stay: &Stay, day: Day) -> bool
+    ensures { result ≡ arrives_on day stay.now }
+{
+    let is_booked = matches!(stay.state, StayState::Booked);
+    is_booked && stay.arrive <= day && day < stay.depart
+}
+
+impl Tables {
+    /// The row of the room's party, where one is registered; the guest's name is copied.
+    fn house_row(&self, row: &RoomRow) -> Result<Option<HouseRow>, AllocError>
+        ensures { IfOk result (λ house. house ≡ house_row_on self.now row.now) }
+    {
+        let Some(party) = row.party else {
+            return Ok(None);
+        };
+        let Some(stay) = self.stays.get(&party) else {
+            return Ok(None);
+        };
+        Ok(Some(HouseRow {
+            room: row.room,
+            party: stay.party,
+            guest: stay.guest.clone()?,
+            kind: stay.kind,
+            depart: stay.depart,
+            secured: row.secured,
+        }))
+    }
+
+    fn chain_row(&self, row: &RoomRow, place: u32) -> Option<ChainRow>
+        ensures { result ≡ chain_row_on self.now row.now place }
+    {
+        let code = self.codes.code_at(row.room, place)?;
+        let state = state_at(row.lock_place, place);
+        Some(ChainRow { place, code, state })
+    }
+
+    /// The room's row, where its lock awaits two codes or more.
+    fn behind_row(&self, row: &RoomRow) -> Option<BehindRow>
+        ensures { result ≡ behind_row_on self.now row.now }
+    {
+        let awaited = row.codes.saturating_sub(row.lock_place).saturating_sub(1);
+        if awaited < 2 {
+            return None;
+        }
+        let held = self.codes.code_at(row.room, row.lock_place)?;
+        let current = self.codes.code_at(row.room, row.codes - 1)?;
+        Some(BehindRow {
+            room: row.room,
+            held,
+            current,
+            awaited,
+        })
+    }
+
+    pub(crate) fn walk_arrivals<S: Sink<Stay>>(
+        &self,
+        day: Day,
+        sink: &mut S,
+    ) -> Result<(), WalkFault>
+        ensures hands { Hands S.after S.after_stop (arrivals_on self.now day) sink.old sink.new result }
+        ensures sure { failure_of result ≡ None }
+    {
+        for stay in self.stays.values() {
+            if arrives(stay, day) {
+                sink.take(stay)?;
+            }
+        }
+        Ok(())
+    }
+
+    pub(crate) fn walk_in_house<S: Sink<HouseRow>>(&self, sink: &mut S) -> Result<(), WalkFault>
+        ensures hands { Hands S.after S.after_stop (in_house_on self.now) sink.old sink.new result }
+        ensures no_store { result ≡ Err Store → ⊥ }
+    {
+        for row in self.rooms.values() {
+            if let Some(house) = self.house_row(row)? {
+                sink.take(&house)?;
+            }
+        }
+        Ok(())
+    }
+
+    /// Walks the codes of a room that is there.
+    fn walk_places<S: Sink<ChainRow>>(&self, row: &RoomRow, sink: &mut S) -> Result<(), WalkFault>
+        ensures hands { Hands S.after S.after_stop (filter_map (chain_row_on self.now row.now) (range_with_len 0 row.now.codes)) sink.old sink.new result }
+        ensures sure { failure_of result ≡ None }
+    {
+        for place in 0..row.codes {
+            if let Some(link) = self.chain_row(row, place) {
+                sink.take(&link)?;
+            }
+        }
+        Ok(())
+    }
+
+    pub(crate) fn walk_chain<S: Sink<ChainRow>>(
+        &self,
+        room: RoomNo,
+        sink: &mut S,
+    ) -> Result<(), WalkFault>
+        ensures hands { Hands S.after S.after_stop (chain_on self.now room) sink.old sink.new result }
+        ensures sure { failure_of result ≡ None }
+    {
+        match self.room(room) {
+            Some(row) => self.walk_places(&row, sink),
+            None => Ok(()),
+        }
+    }
+
+    pub(crate) fn walk_left_behind<S: Sink<BehindRow>>(&self, sink: &mut S) -> Result<(), WalkFault>
+        ensures hands { Hands S.after S.after_stop (left_behind_on self.now) sink.old sink.new result }
+        ensures sure { failure_of result ≡ None }
+    {
+        for row in self.rooms.values() {
+            if let Some(behind) = self.behind_row(row) {
+                sink.take(&behind)?;
+            }
+        }
+        Ok(())
+    }
+
+    pub(crate) fn walk_audit<S: Sink<LockNote>>(
+        &self,
+        room: RoomNo,
+        sink: &mut S,
+    ) -> Result<(), WalkFault>
+        ensures hands { Hands S.after S.after_stop (audit_on self.now room) sink.old sink.new result }
+        ensures sure { failure_of result ≡ None }
+    {
+        self.notes.walk(room, sink)
+    }
+}

@@ -1,0 +1,170 @@
+//! The tables of books in memory, and what look-ups find there.
+ghost use Rattle.std.specs.Prelude.{◌≡◌, ℕ, ◌^◌, ◌<◌, length, IfOk};
+ghost use Rattle.std.specs.Map.{keys_of};
+ghost use Rattle.keycard_rules.specs.Draw.{is_among};
+ghost use Rattle.hotel_core.specs.Model.Rows.{Rows, no_rows, at_number, has_kind};
+ghost use Rattle.hotel_core.specs.Books.Lookups.{room_at, codes_in, code_place, code_at, stay_at, stays_of_kind, card_at, inside_at, note_at, rooms_of_kind, number_after};
+
+use crate::books::rows::{CodeRow, NextNumbers, RoomRow};
+use crate::memory::code_table::CodeTable;
+use crate::memory::inside_table::InsideTable;
+use crate::memory::note_table::NoteTable;
+use hotel_nights::{Day, KindCode, Stay};
+use keycard_rules::{Card, CardNo, Code, Count, LockNote, Number, PartyNo, RoomNo};
+use std::alloc::{AllocError, Global};
+use std::collections::{BTreeMap, BTreeSet};
+use std::marker::Model;
+
+/// The eight tables.
+#[derive(Drop)]
+pub(crate) struct Tables {
+    pub(crate) alloc: Global,
+    pub(crate) day: Option<Day>,
+    pub(crate) kinds: BTreeSet<KindCode>,
+    pub(crate) rooms: BTreeMap<RoomNo, RoomRow>,
+    pub(crate) codes: CodeTable,
+    pub(crate) stays: BTreeMap<PartyNo, Stay>,
+    pub(crate) cards: BTreeMap<CardNo, Card>,
+    pub(crate) inside: InsideTable,
+    pub(crate) notes: NoteTable,
+}
+
+impl Model for Tables {
+    ghost use Rattle.hotel_core.specs.Model.Rows.{Rows};
+    ghost use Rattle.hotel_core.specs.Memory.{LaterPlacesFree};
+
+    ghost Value = { Rows };
+
+    ghost view = { λ t. record { day = t.day; kinds = t.kinds.keys; rooms = t.rooms.entries; codes = t.codes; stays = t.stays.entries; cards = t.cards.entries; inside = t.inside; notes = t.notes } };
+
+    ghost invariant = { λ t. LaterPlacesFree t.rooms.entries t.codes };
+}
+
+/// The number after so many that were given, up to 9,999,999.
+fn number_after<K>(given: usize) -> Option<Number<K, 9_999_999>>
+    ensures { result ≡ number_after given }
+{
+    if given >= 9_999_999 {
+        return None;
+    }
+    Number::new(given as u32 + 1)
+}
+
+impl Tables {
+    pub(crate) fn empty(alloc: Global) -> Tables
+        ensures { result ≡ no_rows }
+    {
+        Tables {
+            alloc,
+            day: None,
+            kinds: BTreeSet::new(alloc),
+            rooms: BTreeMap::new(alloc),
+            codes: CodeTable::empty(alloc),
+            stays: BTreeMap::new(alloc),
+            cards: BTreeMap::new(alloc),
+            inside: InsideTable::empty(alloc),
+            notes: NoteTable::empty(alloc),
+        }
+    }
+
+    pub(crate) fn day(&self) -> Option<Day>
+        ensures { result ≡ self.now.day }
+    {
+        self.day
+    }
+
+    pub(crate) fn has_kind(&self, kind: &KindCode) -> bool
+        ensures { result ≡ has_kind self.now kind.now }
+    {
+        self.kinds.contains(kind)
+    }
+
+    pub(crate) fn room(&self, room: RoomNo) -> Option<RoomRow>
+        ensures { result ≡ room_at self.now room }
+    {
+        self.rooms.get(&room).copied()
+    }
+
+    pub(crate) fn is_issued(&self, code: Code) -> bool
+        ensures { result ≡ is_among (codes_in self.now) code }
+    {
+        self.codes.has(code)
+    }
+
+    pub(crate) fn code_place(&self, code: Code) -> Option<CodeRow>
+        ensures { result ≡ code_place self.now code }
+    {
+        self.codes.place_of(code)
+    }
+
+    pub(crate) fn code_at(&self, room: RoomNo, place: u32) -> Option<Code>
+        ensures { result ≡ code_at self.now room place }
+    {
+        self.codes.code_at(room, place)
+    }
+
+    /// A copy of a party's stay.
+    pub(crate) fn stay(&self, party: PartyNo) -> Result<Option<Stay>, AllocError>
+        ensures { IfOk result (λ stay. stay ≡ stay_at self.now party) }
+    {
+        let Some(stay) = self.stays.get(&party) else {
+            return Ok(None);
+        };
+        Ok(Some(stay.clone()?))
+    }
+
+    /// Copies of the stays of a kind, by the party's number.
+    pub(crate) fn stays_of_kind(&self, kind: &KindCode) -> Result<Vec<Stay>, AllocError>
+        ensures { IfOk result (λ stays. stays.items ≡ stays_of_kind self.now kind.now) }
+    {
+        let mut found = Vec::new(self.alloc);
+        for stay in self.stays.values() {
+            if stay.kind == *kind {
+                found.push(stay.clone()?)?;
+            }
+        }
+        Ok(found)
+    }
+
+    pub(crate) fn card(&self, number: CardNo) -> Option<Card>
+        ensures { result ≡ card_at self.now number }
+    {
+        self.cards.get(&number).copied()
+    }
+
+    /// The numbers of the cards inside a room, in order.
+    pub(crate) fn inside(&self, room: RoomNo) -> Result<Vec<CardNo>, AllocError>
+        ensures { IfOk result (λ numbers. numbers.items ≡ inside_at self.now room) }
+    {
+        self.inside.at(self.alloc, room)
+    }
+
+    pub(crate) fn note(&self, room: RoomNo, count: Count) -> Option<LockNote>
+        ensures { result ≡ note_at self.now room count }
+    {
+        self.notes.note(room, count)
+    }
+
+    pub(crate) fn rooms_of_kind(&self, kind: &KindCode) -> u32
+        ensures { result ≡ rooms_of_kind self.now kind.now }
+    {
+        let mut count = 0u32;
+        for (room, row) in &self.rooms {
+            // The rooms before this one are fewer than its number, so the count fits.
+            let _most = room.value();
+            if row.kind == *kind {
+                count += 1;
+            }
+        }
+        count
+    }
+
+    pub(crate) fn next_numbers(&self) -> NextNumbers
+        ensures { result ≡ record { party = number_after (length self.now.stays); card = number_after (length self.now.cards) } }
+    {
+        NextNumbers {
+            party: number_after(self.stays.len()),
+            card: number_after(self.cards.len()),
+        }
+    }
+}

@@ -1,0 +1,49 @@
+//! Commands one after the other, over any books.
+ghost use Rattle.std.specs.Prelude.{List, IfOk, IfErr, take};
+ghost use Rattle.keycard_rules.specs.Rise.{NoFewer};
+ghost use Rattle.hotel_core.specs.declared.reply.Reply.{Reply};
+ghost use Rattle.hotel_core.specs.Books.Failures.{AreCounted, failures_in};
+ghost use Rattle.hotel_core.specs.Model.Leads.{Leads};
+ghost use Rattle.hotel_core.specs.Model.Run.{Runs};
+
+use crate::books::Books;
+use crate::command::Command;
+use crate::reply::Reply;
+use crate::steps::step;
+use rand_core::Rng;
+use std::alloc::Global;
+
+/// Want of memory for a reply, with how many commands were answered; the later ones weren't begun.
+#[derive(Clone, Copy, Debug, PartialEq, Eq)]
+pub struct RunFault {
+    pub answered: usize,
+}
+
+/// Carries out commands in order. The memory for all replies is taken before the first command.
+pub fn run<B: Books, R: Rng>(
+    alloc: Global,
+    books: &mut B,
+    source: &mut R,
+    commands: &[Command],
+) -> Result<Vec<Reply>, RunFault>
+    ensures run { IfOk result (λ replies. B.is_clean books.new →
+        Leads (B.rows books.old) (λ h h'. Runs h (R.stream source.old) commands.now replies.items h' (R.stream source.new)) (B.rows books.new)) }
+    ensures fault { IfErr result (λ fault. B.is_clean books.new →
+        Leads (B.rows books.old) (λ h h'. (replies : List Reply) × Runs h (R.stream source.old) (take fault.answered commands.now) replies h' (R.stream source.new)) (B.rows books.new)) }
+    ensures failed { IfOk result (λ replies. B.is_clean books.new → AreCounted (B.failures books.old) (B.failures books.new) (failures_in commands.now replies.items)) }
+    ensures was_clean { B.is_clean books.new → B.is_clean books.old }
+    ensures counted { NoFewer (B.failures books.old) (B.failures books.new) }
+{
+    let Ok(mut replies) = Vec::with_capacity(alloc, commands.len()) else {
+        return Err(RunFault { answered: 0 });
+    };
+    for command in commands {
+        let reply = step(books, source, command);
+        let Ok(()) = replies.push(reply) else {
+            return Err(RunFault {
+                answered: replies.len(),
+            });
+        };
+    }
+    Ok(replies)
+}
