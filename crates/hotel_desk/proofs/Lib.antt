@@ -2,6 +2,8 @@ pub mod ReturnLemmas
 pub mod WordLemmas
 pub mod ScriptLemmas
 pub mod ListAnswerLemmas
+pub mod ListingLemmas
+pub mod LineAnswerLemmas
 pub mod ListRunLemmas
 pub mod AuditRunLemmas
 pub mod ScriptRunLemmas

@@ -4,6 +4,7 @@ pub mod Values
 pub mod Commands
 pub mod Verbs
 pub mod ListAsks
+pub mod Listings
 pub mod ListAnswers
 pub mod Asks
 pub mod LineAnswers

@@ -6,7 +6,8 @@ ghost use Rattle.std.specs.Io.KnownBytes.{Appends};
 ghost use Rattle.keycard_rules.specs.Rise.{NoFewer};
 ghost use Rattle.hotel_core.specs.Books.Failures.{AreCounted};
 ghost use Rattle.hotel_lists.specs.Bytes.{AppendsFront};
-ghost use Rattle.hotel_desk.specs.LineAnswers.{LineIsAnswered, AskIsAnswered, answer_text};
+ghost use Rattle.hotel_core.specs.Model.Leads.{Leads};
+ghost use Rattle.hotel_desk.specs.LineAnswers.{LineAnswered, AskAnswered, answer_text};
 
 use crate::asks::{Ask, LineFault, read_line};
 use crate::list_answers::answer_list;
@@ -50,10 +51,12 @@ fn answer_command<W: Write, B: Walks, R: Rng>(
     source: &mut R,
     interruptions: &mut Interruptions,
 ) -> Result<(), WriteFailed>
-    ensures ok { B.is_clean books.new → OnOk result (AskIsAnswered (Some (ask.Command command.now)) (B.rows books.old) (R.stream source.old) (Appends (W.contents writer.old) (W.contents writer.new))
-        (AreCounted (B.failures books.old) (B.failures books.new)) (B.rows books.new) (R.stream source.new)) }
-    ensures err { B.is_clean books.new → OnErr result (AskIsAnswered (Some (ask.Command command.now)) (B.rows books.old) (R.stream source.old) (AppendsFront (W.contents writer.old) (W.contents writer.new))
-        (AreCounted (B.failures books.old) (B.failures books.new)) (B.rows books.new) (R.stream source.new)) }
+    ensures ok { B.is_clean books.new → OnOk result (Leads (B.rows books.old)
+        (AskAnswered (Some (ask.Command command.now)) (R.stream source.old) (R.stream source.new)
+        (Appends (W.contents writer.old) (W.contents writer.new)) (AreCounted (B.failures books.old) (B.failures books.new))) (B.rows books.new)) }
+    ensures err { B.is_clean books.new → OnErr result (Leads (B.rows books.old)
+        (AskAnswered (Some (ask.Command command.now)) (R.stream source.old) (R.stream source.new)
+        (AppendsFront (W.contents writer.old) (W.contents writer.new)) (AreCounted (B.failures books.old) (B.failures books.new))) (B.rows books.new)) }
     ensures was_clean { B.is_clean books.new → B.is_clean books.old }
     ensures counted { NoFewer (B.failures books.old) (B.failures books.new) }
 {
@@ -72,10 +75,12 @@ pub fn answer_line<W: Write, B: Walks, R: Rng>(
     source: &mut R,
     interruptions: &mut Interruptions,
 ) -> Result<(), WriteFailed>
-    ensures ok { B.is_clean books.new → OnOk result (LineIsAnswered (B.rows books.old) (R.stream source.old) line.now (Appends (W.contents writer.old) (W.contents writer.new))
-        (AreCounted (B.failures books.old) (B.failures books.new)) (B.rows books.new) (R.stream source.new)) }
-    ensures err { B.is_clean books.new → OnErr result (LineIsAnswered (B.rows books.old) (R.stream source.old) line.now (AppendsFront (W.contents writer.old) (W.contents writer.new))
-        (AreCounted (B.failures books.old) (B.failures books.new)) (B.rows books.new) (R.stream source.new)) }
+    ensures ok { B.is_clean books.new → OnOk result (Leads (B.rows books.old)
+        (LineAnswered line.now (R.stream source.old) (R.stream source.new)
+        (Appends (W.contents writer.old) (W.contents writer.new)) (AreCounted (B.failures books.old) (B.failures books.new))) (B.rows books.new)) }
+    ensures err { B.is_clean books.new → OnErr result (Leads (B.rows books.old)
+        (LineAnswered line.now (R.stream source.old) (R.stream source.new)
+        (AppendsFront (W.contents writer.old) (W.contents writer.new)) (AreCounted (B.failures books.old) (B.failures books.new))) (B.rows books.new)) }
     ensures was_clean { B.is_clean books.new → B.is_clean books.old }
     ensures counted { NoFewer (B.failures books.old) (B.failures books.new) }
 {

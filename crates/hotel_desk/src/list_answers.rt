@@ -1,12 +1,13 @@
 //! The answer to a line that asks for a list.
 
-ghost use Rattle.std.specs.Prelude.{◌≡◌, ◌≤◌, OnOk, OnErr};
+ghost use Rattle.std.specs.Prelude.{◌≡◌, [], OnOk, OnErr};
 ghost use Rattle.std.specs.Io.KnownBytes.{Appends};
 ghost use Rattle.keycard_rules.specs.Rise.{NoFewer};
 ghost use Rattle.hotel_core.specs.Books.Failures.{AreCounted};
 ghost use Rattle.hotel_lists.specs.Bytes.{AppendsFront};
 ghost use Rattle.hotel_lists.specs.Lines.{LooksAt};
-ghost use Rattle.hotel_desk.specs.ListAnswers.{WritesAnswer, WritesList, refusal_of};
+ghost use Rattle.hotel_desk.specs.ListAnswers.{ListAnswered, ListEnds, refusal_of};
+ghost use Rattle.hotel_desk.specs.Listings.{listing_on};
 
 use crate::list_asks::ListAsk;
 use hotel_core::{Refusal, Reply, Walks, reply_text};
@@ -25,7 +26,7 @@ pub(crate) fn write_list<W: Write, B: Walks>(
     books: &mut B,
     interruptions: &mut Interruptions,
 ) -> Result<(), ListFault>
-    ensures text { B.is_clean books.new → WritesList (B.rows books.old) list.now (W.contents writer.old) (W.contents writer.new) result }
+    ensures text { B.is_clean books.new → ListEnds [] (listing_on (B.rows books.old) list.now) (W.contents writer.old) (W.contents writer.new) result }
     ensures books { LooksAt B.is_clean B.is_kept B.failures B.never_fails books.old books.new result }
 {
     match list {
@@ -59,9 +60,9 @@ pub fn answer_list<W: Write, B: Walks>(
     books: &mut B,
     interruptions: &mut Interruptions,
 ) -> Result<(), WriteFailed>
-    ensures ok { B.is_clean books.new → OnOk result (WritesAnswer (B.rows books.old) list.now (Appends (W.contents writer.old) (W.contents writer.new))
+    ensures ok { B.is_clean books.new → OnOk result (ListAnswered (listing_on (B.rows books.old) list.now) (Appends (W.contents writer.old) (W.contents writer.new))
         (AreCounted (B.failures books.old) (B.failures books.new))) }
-    ensures err { B.is_clean books.new → OnErr result (WritesAnswer (B.rows books.old) list.now (AppendsFront (W.contents writer.old) (W.contents writer.new))
+    ensures err { B.is_clean books.new → OnErr result (ListAnswered (listing_on (B.rows books.old) list.now) (AppendsFront (W.contents writer.old) (W.contents writer.new))
         (AreCounted (B.failures books.old) (B.failures books.new))) }
     ensures kept { B.is_clean books.new → B.is_kept books.old books.new }
     ensures was_clean { B.is_clean books.new → B.is_clean books.old }

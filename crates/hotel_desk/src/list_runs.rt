@@ -4,7 +4,8 @@ ghost use Rattle.std.specs.Prelude.{◌≡◌, Result};
 ghost use Rattle.hotel_lists.specs.Lines.{LooksAt};
 ghost use Rattle.hotel_lists.specs.declared.fault.ListFault.{ListFault};
 ghost use Rattle.hotel_desk.specs.Faults.{end_status, Tells};
-ghost use Rattle.hotel_desk.specs.ListRuns.{AnswerEndsOn, AnswerEndsFor, list_end};
+ghost use Rattle.hotel_desk.specs.ListRuns.{AnswerEnds, AnswerEndsFor, list_end};
+ghost use Rattle.hotel_desk.specs.Listings.{listing_on};
 
 use crate::faults::{Fault, FaultSink, finish};
 use crate::list_answers::write_list;
@@ -23,7 +24,7 @@ fn write_list_or_refusal<W: Write, B: Walks>(
     books: &mut B,
     interruptions: &mut Interruptions,
 ) -> Result<(), ListFault>
-    ensures text { B.is_clean books.new → AnswerEndsOn (B.rows books.old) list.now (W.contents writer.old) (W.contents writer.new) result }
+    ensures text { B.is_clean books.new → AnswerEnds (listing_on (B.rows books.old) list.now) (W.contents writer.old) (W.contents writer.new) result }
     ensures books { LooksAt B.is_clean B.is_kept B.failures B.never_fails books.old books.new result }
 {
     match write_list(alloc, list, writer, books, interruptions) {

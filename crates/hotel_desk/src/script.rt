@@ -1,13 +1,11 @@
 //! Scripts: lines of commands and lists, each answered before the next.
 
-ghost use Rattle.std.specs.Prelude.{◌≡◌, ◌≢◌, ℕ, List, ◌≤◌, ◌<◌, length, take, Option, None, Some, IfSome, IfOk, IfErr, IsErrOf};
-ghost use Rattle.std.specs.Io.KnownBytes.{Appends};
+ghost use Rattle.std.specs.Prelude.{◌≡◌, ℕ, List, ◌≤◌, ◌<◌, length, take, IfSome, IfOk, IsErrOf, OnOk};
 ghost use Rattle.keycard_rules.specs.Rise.{NoFewer};
-ghost use Rattle.hotel_core.specs.Books.Failures.{AreCounted};
-ghost use Rattle.hotel_lists.specs.Bytes.{AppendsFront};
+ghost use Rattle.hotel_core.specs.Model.Leads.{Leads};
 ghost use Rattle.hotel_desk.specs.declared.script.ScriptFault.TheVariants.{TooLarge};
 ghost use Rattle.hotel_desk.specs.Lines.{answered_lines};
-ghost use Rattle.hotel_desk.specs.Script.{RowsGoSafely, IsInput, lines_done, fault_of};
+ghost use Rattle.hotel_desk.specs.Script.{ScriptAnswered, ScriptCut, IsInput, IfCut, IfUnbegun, NothingBegun, fault_of};
 
 use crate::line_answers::answer_line;
 use crate::lines::{first_line, is_silent, without_return};
@@ -64,14 +62,16 @@ fn answer_lines<W: Write, B: Walks, R: Rng>(
     source: &mut R,
     interruptions: &mut Interruptions,
 ) -> Result<ScriptEnd, ScriptFault>
-    requires { length script.now ≤ SCRIPT_LIMIT }
+    requires { length script.now ≤ 1048576 }
     ensures count { IfOk result (λ script_end. script_end.lines ≡ length (answered_lines script.now)) }
-    ensures ok { B.is_clean books.new → IfOk result (λ script_end. RowsGoSafely (B.rows books.old) (R.stream source.old) (answered_lines script.now)
-        (Appends (W.contents writer.old) (W.contents writer.new)) (AreCounted (B.failures books.old) (B.failures books.new)) (B.rows books.new) (R.stream source.new)) }
-    ensures begun { IfErr result (λ fault. IfSome (lines_done fault) (λ done. done ≤ length (answered_lines script.now))) }
-    ensures cut { B.is_clean books.new → IfErr result (λ fault. IfSome (lines_done fault) (λ done. RowsGoSafely (B.rows books.old) (R.stream source.old) (take done (answered_lines script.now))
-        (AppendsFront (W.contents writer.old) (W.contents writer.new)) (AreCounted (B.failures books.old) (B.failures books.new)) (B.rows books.new) (R.stream source.new))) }
-    ensures written { IfErr result (λ fault. lines_done fault ≢ None) }
+    ensures ok { B.is_clean books.new → OnOk result (Leads (B.rows books.old)
+        (ScriptAnswered (answered_lines script.now) (R.stream source.old) (R.stream source.new) (W.contents writer.old)
+        (W.contents writer.new) (B.failures books.old) (B.failures books.new)) (B.rows books.new)) }
+    ensures cut { IfCut result (λ done. (1 ≤ done) × (done ≤ length (answered_lines script.now))
+        × (B.is_clean books.new → Leads (B.rows books.old) (ScriptCut
+        (take done (answered_lines script.now)) (R.stream source.old) (R.stream source.new) (W.contents writer.old)
+        (W.contents writer.new) (B.failures books.old) (B.failures books.new)) (B.rows books.new))) }
+    ensures sure { IfUnbegun result ⊥ }
     ensures was_clean { B.is_clean books.new → B.is_clean books.old }
     ensures counted { NoFewer (B.failures books.old) (B.failures books.new) }
 {
@@ -102,31 +102,28 @@ pub fn run_script<I: Read, W: Write, B: Walks, R: Rng>(
     books: &mut B,
     source: &mut R,
 ) -> Result<ScriptEnd, ScriptFault>
-    ensures ok { IfOk result (λ script_end. (script : List ℕ) × IsInput SCRIPT_LIMIT (I.remaining reader.old) script × (script_end.lines ≡ length (answered_lines script))
-        × (B.is_clean books.new → RowsGoSafely (B.rows books.old) (R.stream source.old) (answered_lines script)
-        (Appends (W.contents writer.old) (W.contents writer.new)) (AreCounted (B.failures books.old) (B.failures books.new)) (B.rows books.new) (R.stream source.new))) }
-    ensures cut { IfErr result (λ fault. IfSome (lines_done fault) (λ done. (script : List ℕ) × IsInput SCRIPT_LIMIT (I.remaining reader.old) script × (done ≤ length (answered_lines script))
-        × (B.is_clean books.new → RowsGoSafely (B.rows books.old) (R.stream source.old) (take done (answered_lines script))
-        (AppendsFront (W.contents writer.old) (W.contents writer.new)) (AreCounted (B.failures books.old) (B.failures books.new)) (B.rows books.new) (R.stream source.new)))) }
-    ensures unbegun { IfErr result (λ fault. lines_done fault ≡ None → (books.new ≡ books.old) × (source.new ≡ source.old) × (writer.new ≡ writer.old)) }
-    ensures large { IsErrOf result TooLarge → IfSome (I.remaining reader.old) (λ input. SCRIPT_LIMIT < length input) }
+    ensures ok { IfOk result (λ script_end. (script : List ℕ) × IsInput (I.remaining reader.old) script
+        × (script_end.lines ≡ length (answered_lines script)) × (B.is_clean books.new → Leads (B.rows books.old)
+        (ScriptAnswered (answered_lines script) (R.stream source.old) (R.stream source.new) (W.contents writer.old)
+        (W.contents writer.new) (B.failures books.old) (B.failures books.new)) (B.rows books.new))) }
+    ensures cut { IfCut result (λ done. (script : List ℕ) × IsInput (I.remaining reader.old) script × (1 ≤ done)
+        × (done ≤ length (answered_lines script)) × (B.is_clean books.new → Leads (B.rows books.old) (ScriptCut
+        (take done (answered_lines script)) (R.stream source.old) (R.stream source.new) (W.contents writer.old)
+        (W.contents writer.new) (B.failures books.old) (B.failures books.new)) (B.rows books.new))) }
+    ensures unbegun { IfUnbegun result (NothingBegun books.old books.new source.old source.new writer.old writer.new) }
+    ensures large { IsErrOf result TooLarge → IfSome (I.remaining reader.old) (λ input. 1048576 < length input) }
     ensures was_clean { B.is_clean books.new → B.is_clean books.old }
     ensures counted { NoFewer (B.failures books.old) (B.failures books.new) }
 {
     let mut interruptions = Interruptions::none();
     let script = read_whole(alloc, reader, SCRIPT_LIMIT, &mut interruptions)?;
-    answer_lines(
-        alloc,
-        script.as_slice(),
-        writer,
-        books,
-        source,
-        &mut interruptions,
-    )
+    answer_lines(alloc, &script, writer, books, source, &mut interruptions)
 }
 
 #[cfg(test)]
 mod chains_beside;
+#[cfg(test)]
+mod greatest_sizes;
 #[cfg(test)]
 mod scenarios;
 #[cfg(test)]

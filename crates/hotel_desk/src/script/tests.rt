@@ -1,6 +1,6 @@
 //! Scripts from bytes to bytes, and readers and writers that go wrong.
 use super::scenarios::{self, Scenario};
-use super::{SCRIPT_LIMIT, ScriptEnd, ScriptFault, run_script};
+use super::{ScriptEnd, ScriptFault, run_script};
 use hotel_core::ListBooks;
 use hotel_lists::{FakeReader, FakeWriter};
 use keycard_rules::ListedWords;
@@ -352,8 +352,8 @@ fn spaces_end(
 
 #[test]
 fn a_script_over_the_limit_is_too_large(rt: HostRuntime) -> Result<(), Fail> {
-    spaces_end(&rt, SCRIPT_LIMIT, Ok(ScriptEnd { lines: 0 }))?;
-    spaces_end(&rt, SCRIPT_LIMIT + 1, Err(ScriptFault::TooLarge))
+    spaces_end(&rt, 1_048_576, Ok(ScriptEnd { lines: 0 }))?;
+    spaces_end(&rt, 1_048_577, Err(ScriptFault::TooLarge))
 }
 
 /// A script of one line ends so, after 600 interrupted reads and some interrupted writes.
