@@ -1,0 +1,6 @@
+//! One HTTP request, one answer.
+#![tactic(auto)]
+
+pub mod fields;
+pub mod head;
+pub mod rejection;
