@@ -1,0 +1,14 @@
+-- the bytes so far are those that were read, and they are few
+use Rattle.std.proofs.Common.{◌≡◌, ◌-◌, ◌≤◌, length, vec_len}
+use Rattle.std.specs.Io.KnownBytes.{Consumes}
+use Rattle.hotel_http.proofs.head.read_head.Given as goal
+
+abbrev pub invariant-pieces : goal.invariant-pieces
+invariant-pieces g l = record {
+  taken : Consumes (g.R.Read.remaining l.initial.reader) (g.R.Read.remaining l.reader) l.bytes.items;
+  few : vec_len l.bytes ≤ 16384;
+  room : length l.headers ≡ 64;
+}
+
+abbrev pub decreases-pieces : goal.decreases-pieces
+decreases-pieces g l = 16385 - vec_len l.bytes

@@ -1,0 +1,5 @@
+pub mod Head
+pub mod Fields
+pub mod Form
+pub mod Status
+pub mod Answer

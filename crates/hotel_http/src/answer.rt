@@ -1,0 +1,166 @@
+//! The bytes of answers, from buffers of fixed size.
+
+ghost use Rattle.std.specs.Prelude.{◌≡◌, ◌≤◌, ◌++◌, None, length, OnOk, OnErr};
+ghost use Rattle.std.specs.Io.KnownBytes.{Appends};
+ghost use Rattle.hotel_lists.specs.Bytes.{AppendsFront};
+ghost use Rattle.hotel_http.specs.declared.answer.Media.TheVariants.{Plain};
+ghost use Rattle.hotel_http.specs.Answer as spec;
+ghost use Rattle.hotel_http.specs.Answer.{media_type, allow_field, status_line, head_text, answer_text, rejection_status, rejection_body, allowed_by, rejection_answer, reply_status, reply_answer};
+
+use crate::buffer::ShortText;
+use crate::rejection::{Method, Rejection};
+use crate::status::Status;
+use hotel_core::{Refusal, Reply, reply_text};
+use hotel_lists::{Interruptions, WriteFailed, write_bytes};
+use std::io::Write;
+
+/// What the body of an answer is.
+#[derive(Clone, Copy, Debug, PartialEq, Eq)]
+pub enum Media {
+    Plain,
+    Csv,
+}
+
+fn media_type(media: Media) -> &'static [u8]
+    ensures same { result.now ≡ media_type media }
+    ensures short { length result.now ≤ 25 }
+{
+    match media {
+        Media::Plain => b"text/plain; charset=utf-8",
+        Media::Csv => b"text/csv; charset=utf-8",
+    }
+}
+
+fn allow_field(allow: Option<Method>) -> &'static [u8]
+    ensures same { result.now ≡ allow_field allow }
+    ensures short { length result.now ≤ 13 }
+{
+    match allow {
+        None => b"",
+        Some(Method::Get) => b"Allow: GET\r\n",
+        Some(Method::Post) => b"Allow: POST\r\n",
+    }
+}
+
+fn status_line(status: Status) -> ShortText
+    ensures same { result ≡ status_line status }
+    ensures short { length result ≤ 63 }
+{
+    let mut text = ShortText::new();
+    text.push(b"HTTP/1.1 ");
+    text.push_number(status.number() as usize);
+    text.push(b" ");
+    text.push(status.phrase());
+    text.push(b"\r\n");
+    text
+}
+
+/// The head of an answer whose body has so many bytes.
+fn head_text(status: Status, media: Media, allow: Option<Method>, size: usize) -> ShortText
+    ensures same { result ≡ head_text status media allow size }
+    ensures short { length result ≤ 180 }
+{
+    let mut text = status_line(status);
+    text.push(b"Content-Type: ");
+    text.push(media_type(media));
+    text.push(b"\r\n");
+    text.push(b"Content-Length: ");
+    text.push_number(size);
+    text.push(b"\r\n");
+    text.push(allow_field(allow));
+    text.push(b"Connection: close\r\n\r\n");
+    text
+}
+
+/// Writes an answer of few bytes by one write, if the writer takes them all.
+fn write_short<W: Write>(
+    writer: &mut W,
+    status: Status,
+    allow: Option<Method>,
+    body: &[u8],
+    interruptions: &mut Interruptions,
+) -> Result<(), WriteFailed>
+    requires { length body.now ≤ 64 }
+    ensures ok { OnOk result (Appends (W.contents writer.old) (W.contents writer.new) (answer_text status Plain allow body.now)) }
+    ensures err { OnErr result (AppendsFront (W.contents writer.old) (W.contents writer.new) (answer_text status Plain allow body.now)) }
+{
+    let mut text = head_text(status, Media::Plain, allow, body.len());
+    text.push(body);
+    write_bytes(writer, text.as_bytes(), interruptions)
+}
+
+/// The status of a rejection.
+pub fn rejection_status(why: Rejection) -> Status
+    ensures { result ≡ rejection_status why }
+{
+    match why {
+        Rejection::BadRequest | Rejection::Unread => Status::BadRequest,
+        Rejection::HeadTooLarge => Status::HeadTooLarge,
+        Rejection::NotImplemented => Status::NotImplemented,
+        Rejection::BodyTooLarge => Status::ContentTooLarge,
+        Rejection::NotFound => Status::NotFound,
+        Rejection::WrongMethod(_) => Status::MethodNotAllowed,
+        Rejection::Memory => Status::Unavailable,
+    }
+}
+
+fn rejection_body(why: Rejection) -> &'static [u8]
+    ensures same { result.now ≡ rejection_body why }
+    ensures short { length result.now ≤ 64 }
+{
+    match why {
+        Rejection::BadRequest => b"bad request\n",
+        Rejection::HeadTooLarge => b"head too large\n",
+        Rejection::NotImplemented => b"not implemented\n",
+        Rejection::BodyTooLarge => b"too large\n",
+        Rejection::NotFound => b"not found\n",
+        Rejection::WrongMethod(_) => b"method not allowed\n",
+        Rejection::Unread => b"unread\n",
+        Rejection::Memory => b"refused 29 Memory\n",
+    }
+}
+
+fn allowed_by(why: Rejection) -> Option<Method>
+    ensures { result ≡ allowed_by why }
+{
+    match why {
+        Rejection::WrongMethod(allowed) => Some(allowed),
+        _ => None,
+    }
+}
+
+/// Writes the answer to a request that is rejected. After a fault the writer took a front of it.
+pub fn write_rejection<W: Write>(
+    writer: &mut W,
+    why: Rejection,
+    interruptions: &mut Interruptions,
+) -> Result<(), WriteFailed>
+    ensures ok { OnOk result (Appends (W.contents writer.old) (W.contents writer.new) (rejection_answer why)) }
+    ensures err { OnErr result (AppendsFront (W.contents writer.old) (W.contents writer.new) (rejection_answer why)) }
+{
+    write_short(writer, rejection_status(why), allowed_by(why), rejection_body(why), interruptions)
+}
+
+/// The status of the answer to a command with this reply.
+pub fn reply_status(reply: &Reply) -> Status
+    ensures { result ≡ reply_status reply.now }
+{
+    match reply {
+        Reply::Refused(Refusal::Memory | Refusal::Store) => Status::Unavailable,
+        Reply::Refused(_) => Status::Conflict,
+        _ => Status::Success,
+    }
+}
+
+/// Writes the answer to a command with this reply. After a fault the writer took a front of it.
+pub fn write_reply<W: Write>(
+    writer: &mut W,
+    reply: &Reply,
+    interruptions: &mut Interruptions,
+) -> Result<(), WriteFailed>
+    ensures ok { OnOk result (Appends (W.contents writer.old) (W.contents writer.new) (reply_answer reply.now)) }
+    ensures err { OnErr result (AppendsFront (W.contents writer.old) (W.contents writer.new) (reply_answer reply.now)) }
+{
+    let text = reply_text(reply);
+    write_short(writer, reply_status(reply), None, text.as_bytes(), interruptions)
+}

@@ -1,0 +1,120 @@
+//! The head of a request.
+
+ghost use Rattle.std.specs.Prelude.{◌≡◌, ◌≢◌, ◌<◌, ◌≤◌, ℕ, List, [], ◌++◌, take, length, IfOk, OnOk, IfSome, true};
+ghost use Rattle.std.specs.Io.KnownBytes.{Consumes};
+ghost use Rattle.httparse.specs.Grammar.{HasNoRequest};
+ghost use Rattle.httparse.specs.declared.spans.HeaderSpan.{HeaderSpan};
+ghost use Rattle.hotel_http.specs.Head.{IsParsed, IsJudged, LiesWithin, IsOpen};
+
+use hotel_lists::{Interruptions, ReadFault, read_more};
+use httparse::spans::{HeaderSpan, RequestSpans, parse_request};
+use httparse::{Error, Status};
+use std::io::Read;
+
+/// The most bytes of a head.
+const MOST_BYTES: usize = 16_384;
+
+/// The most field lines of a head.
+pub const MOST_FIELDS: usize = 64;
+
+/// What is known of the head of an input.
+#[derive(Clone, Copy, Debug)]
+pub enum Judged {
+    /// It goes on.
+    More,
+    /// The input has no byte.
+    Closed,
+    /// It is there.
+    Whole(RequestSpans),
+    /// It is no head, or the input ends inside it.
+    Malformed,
+    /// It has too many bytes or fields.
+    TooLarge,
+}
+
+/// The bytes that may be those of a head: the first 16,384.
+pub fn head_part(bytes: &[u8]) -> &[u8]
+    ensures { result.now ≡ take 16384 bytes.now }
+{
+    if bytes.len() <= MOST_BYTES {
+        bytes
+    } else {
+        &bytes[..MOST_BYTES]
+    }
+}
+
+/// What the parser answers of some bytes.
+enum Parsed {
+    Whole(RequestSpans),
+    Part,
+    TooMany,
+    Bad,
+}
+
+fn parse(bytes: &[u8], headers: &mut [HeaderSpan]) -> Parsed
+    requires { length headers.old ≡ 64 }
+    ensures { IsParsed bytes.now headers.new result }
+{
+    match parse_request(bytes, headers) {
+        Ok(Status::Complete(spans)) => Parsed::Whole(spans),
+        Ok(Status::Partial) => Parsed::Part,
+        Err(Error::TooManyHeaders) => Parsed::TooMany,
+        Err(_) => Parsed::Bad,
+    }
+}
+
+/// Judges a head that the parser answers is not whole.
+fn judge_part(bytes: &[u8], at_end: bool) -> Judged
+    ensures open { IsOpen result → (length bytes.now ≤ 16384) × (at_end ≢ true) }
+    ensures within { (headers : List HeaderSpan) → LiesWithin (take 16384 bytes.now) headers result }
+    ensures judged { (more : List ℕ) (headers : List HeaderSpan) → (at_end ≡ true → more ≡ []) → HasNoRequest (take 16384 bytes.now)
+        → IsJudged (bytes.now ++ more) (take 16384 bytes.now) headers result }
+{
+    if bytes.len() > MOST_BYTES {
+        Judged::TooLarge
+    } else if !at_end {
+        Judged::More
+    } else if bytes.is_empty() {
+        Judged::Closed
+    } else {
+        Judged::Malformed
+    }
+}
+
+/// Judges the head by the bytes so far, which are all where the input is at its end.
+fn judge(bytes: &[u8], at_end: bool, headers: &mut [HeaderSpan]) -> Judged
+    requires { length headers.old ≡ 64 }
+    ensures open { IsOpen result → (length bytes.now ≤ 16384) × (at_end ≢ true) }
+    ensures within { LiesWithin (take 16384 bytes.now) headers.new result }
+    ensures judged { (more : List ℕ) → (at_end ≡ true → more ≡ []) → IsJudged (bytes.now ++ more) (take 16384 bytes.now) headers.new result }
+{
+    match parse(head_part(bytes), headers) {
+        Parsed::Whole(spans) => Judged::Whole(spans),
+        Parsed::Part => judge_part(bytes, at_end),
+        Parsed::TooMany => Judged::TooLarge,
+        Parsed::Bad => Judged::Malformed,
+    }
+}
+
+/// Reads until the head is judged. Bytes after the head may be read with it.
+pub fn read_head<R: Read>(
+    reader: &mut R,
+    bytes: &mut Vec<u8>,
+    headers: &mut [HeaderSpan],
+    interruptions: &mut Interruptions,
+) -> Result<Judged, ReadFault>
+    requires room { length headers.old ≡ 64 }
+    requires empty { bytes.old.items ≡ [] }
+    ensures taken { OnOk result (Consumes (R.remaining reader.old) (R.remaining reader.new) bytes.new.items) }
+    ensures judged { IfOk result (λ judged. IfSome (R.remaining reader.old) (λ input. IsJudged input (take 16384 bytes.new.items) headers.new judged)) }
+    ensures within { IfOk result (LiesWithin (take 16384 bytes.new.items) headers.new) }
+    ensures done { IfOk result (λ judged. ¬ (IsOpen judged)) }
+{
+    'pieces: loop {
+        let got = read_more(reader, bytes, interruptions)?;
+        match judge(bytes, got == 0, headers) {
+            Judged::More => {}
+            judged => return Ok(judged),
+        }
+    }
+}

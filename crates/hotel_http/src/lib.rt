@@ -1,0 +1,10 @@
+//! One HTTP request, one answer.
+#![tactic(auto)]
+
+pub mod answer;
+mod buffer;
+pub mod fields;
+pub mod form;
+pub mod head;
+pub mod rejection;
+pub mod status;
