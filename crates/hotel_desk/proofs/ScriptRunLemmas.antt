@@ -4,9 +4,8 @@ use Rattle.rand_core.specs.Stream.{Stream}
 use Rattle.hotel_core.specs.declared.reply.Reply.{Reply}
 use Rattle.hotel_core.specs.declared.reply.Refusal.{Refusal}
 use Rattle.hotel_core.specs.Model.History.{History}
-use Rattle.hotel_core.specs.Books.Failures.{failure_in}
 use Rattle.hotel_core.specs.Model.Run.{Runs}
-use Rattle.hotel_core.specs.Refinement.Stepping.{copies}
+use Rattle.hotel_desk.specs.Copies.{copies, counted_in}
 use Rattle.hotel_desk.specs.Asks.{ask_in}
 use Rattle.hotel_desk.specs.declared.asks.Ask.{Ask}
 use Rattle.hotel_desk.specs.declared.asks.Ask.TheVariants as ask
@@ -35,7 +34,7 @@ asks_more (Some (ask.Command command)) asks h mid h' s source s' text texts fail
   ran.1,
   (mid, source, g.1, ran.2),
   with_text g.2 ran.3,
-  f ∙ ap (λ (t : List Refusal). t ++ more) g.3 ∙ ap (λ (l : List Refusal). failure_in g.0 (copies command) ++ l) ran.4,
+  f ∙ ap (λ (t : List Refusal). t ++ more) g.3 ∙ ap (λ (l : List Refusal). counted_in g.0 (copies command) ++ l) ran.4,
 )
 asks_more (Some (ask.List its_list)) asks h mid h' s source s' text texts failed first more g ran f =
     let run = subst (λ (x : History). Runs x source (commands_of asks) ran.0 h' s') g.1 ran.2 in

@@ -6,6 +6,7 @@ pub mod Verbs
 pub mod ListAsks
 pub mod Listings
 pub mod ListAnswers
+pub mod Copies
 pub mod Asks
 pub mod LineAnswers
 pub mod Script

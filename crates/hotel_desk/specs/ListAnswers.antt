@@ -6,7 +6,7 @@ use Rattle.hotel_core.specs.declared.reply.Reply.TheVariants.{Refused}
 use Rattle.hotel_core.specs.declared.reply.Refusal.{Refusal}
 use Rattle.hotel_core.specs.declared.reply.Refusal.TheVariants as refusal
 use Rattle.hotel_core.specs.Model.Run.{is_failed}
-use Rattle.hotel_core.specs.Books.Failures.{failure_in}
+use Rattle.hotel_desk.specs.Copies.{counted_in}
 use Rattle.hotel_core.specs.Texts.{reply_text}
 use Rattle.hotel_lists.specs.Bytes.{AppendsFront}
 use Rattle.hotel_lists.specs.declared.fault.ListFault.{ListFault}
@@ -29,7 +29,7 @@ IsFront (Some listing) text = (text ≡ []) ⊎ ((taken : List (List ℕ)) × (r
 
 -- The failures that the books counted where a list failed so. The memory of a row's text is the list's own: want of it isn't counted.
 abbrev pub failure_of : Refusal → List Refusal
-failure_of why = failure_in (Refused why) true
+failure_of why = counted_in (Refused why) true
 
 -- Whole lines of a list and then the line that memory or the store failed, with the failures that the books counted.
 abbrev pub IsCutShort : Option Listing → List ℕ → List Refusal → Type 0

@@ -5,7 +5,7 @@ ghost use Rattle.keycard_rules.specs.Rise.{HasRisen};
 ghost use Rattle.hotel_core.specs.Books.Lookups.{codes_in};
 
 use hotel_core::{Books, Change, CodeRow, ListBooks, NextNumbers, RoomRow};
-use hotel_nights::{Day, KindCode, Stay};
+use hotel_nights::{Day, Guest, KindCode, Stay};
 use keycard_rules::{Card, CardNo, Code, Count, Issued, LockNote, LookFault, PartyNo, RoomNo};
 
 /// Books in memory. So many calls are carried out, and each later one fails by the fault.
@@ -126,6 +126,23 @@ impl Books for StoppingBooks {
         self.given(found)
     }
 
+    fn full_night(
+        &mut self,
+        kind: &KindCode,
+        arrive: Day,
+        depart: Day,
+    ) -> Result<Option<Day>, LookFault> {
+        self.begin()?;
+        let found = self.books.full_night(kind, arrive, depart);
+        self.given(found)
+    }
+
+    fn copy_guest(&mut self, guest: &Guest) -> Result<Guest, LookFault> {
+        self.begin()?;
+        let copy = self.books.copy_guest(guest);
+        self.given(copy)
+    }
+
     fn card(&mut self, number: CardNo) -> Result<Option<Card>, LookFault> {
         self.begin()?;
         let found = self.books.card(number);
@@ -135,6 +152,18 @@ impl Books for StoppingBooks {
     fn inside(&mut self, room: RoomNo) -> Result<Vec<CardNo>, LookFault> {
         self.begin()?;
         let found = self.books.inside(room);
+        self.given(found)
+    }
+
+    fn is_inside(&mut self, room: RoomNo, number: CardNo) -> Result<bool, LookFault> {
+        self.begin()?;
+        let found = self.books.is_inside(room, number);
+        self.given(found)
+    }
+
+    fn has_inside(&mut self, room: RoomNo) -> Result<bool, LookFault> {
+        self.begin()?;
+        let found = self.books.has_inside(room);
         self.given(found)
     }
 
