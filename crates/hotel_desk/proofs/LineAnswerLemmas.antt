@@ -10,11 +10,11 @@ use Rattle.hotel_core.specs.Books.Failures.{failure_in}
 use Rattle.hotel_core.specs.Model.Leads.{Leads}
 use Rattle.hotel_core.specs.Model.Rows.{Rows}
 use Rattle.hotel_core.specs.Model.Run.{StandsFor, Steps}
-use Rattle.hotel_core.specs.Refinement.Stepping.{copies}
+use Rattle.hotel_asks.specs.Asks.{copies}
 use Rattle.hotel_core.specs.Texts.{reply_text}
-use Rattle.hotel_desk.specs.declared.asks.Ask.{Ask}
-use Rattle.hotel_desk.specs.declared.asks.Ask.TheVariants as ask
-use Rattle.hotel_desk.specs.declared.list_asks.ListAsk.{ListAsk}
+use Rattle.hotel_asks.specs.declared.asks.Ask.{Ask}
+use Rattle.hotel_asks.specs.declared.asks.Ask.TheVariants as ask
+use Rattle.hotel_asks.specs.declared.lists.ListAsk.{ListAsk}
 use Rattle.hotel_desk.specs.Asks.{ask_copies, AsksCopy}
 use Rattle.hotel_desk.specs.LineAnswers.{AskGoes, AskAnswered, unread_text}
 use Rattle.hotel_desk.specs.ListAnswers.{refusal_text, AnswersList, ListAnswered}

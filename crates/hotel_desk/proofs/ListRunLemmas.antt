@@ -8,7 +8,7 @@ use Rattle.hotel_core.specs.Model.Rows.{Rows}
 use Rattle.hotel_lists.specs.Bytes.{AppendsFront}
 use Rattle.hotel_lists.specs.declared.fault.ListFault.{ListFault}
 use Rattle.hotel_lists.specs.declared.fault.ListFault.TheVariants as fault
-use Rattle.hotel_desk.specs.declared.list_asks.ListAsk.{ListAsk}
+use Rattle.hotel_asks.specs.declared.lists.ListAsk.{ListAsk}
 use Rattle.hotel_desk.specs.ListAnswers.{refusal_text, ListEnds}
 use Rattle.hotel_desk.specs.ListRuns.{AnswerEnds, AnswerEndsFor}
 use Rattle.hotel_desk.specs.Listings.{Listing, listing_on}

@@ -5,10 +5,11 @@ use Rattle.hotel_core.specs.declared.reply.Reply.{Reply}
 use Rattle.hotel_core.specs.declared.reply.Refusal.{Refusal}
 use Rattle.hotel_core.specs.Model.History.{History}
 use Rattle.hotel_core.specs.Model.Run.{Runs}
-use Rattle.hotel_desk.specs.Copies.{copies, counted_in}
+use Rattle.hotel_asks.specs.Asks.{copies}
+use Rattle.hotel_desk.specs.Copies.{counted_in}
 use Rattle.hotel_desk.specs.Asks.{ask_in}
-use Rattle.hotel_desk.specs.declared.asks.Ask.{Ask}
-use Rattle.hotel_desk.specs.declared.asks.Ask.TheVariants as ask
+use Rattle.hotel_asks.specs.declared.asks.Ask.{Ask}
+use Rattle.hotel_asks.specs.declared.asks.Ask.TheVariants as ask
 use Rattle.hotel_desk.specs.LineAnswers.{AskGoes, LineGoes}
 use Rattle.hotel_desk.specs.Script.{ScriptGoes}
 use Rattle.hotel_desk.specs.ScriptRun.{commands_of, texts_of, failed_of, ScriptsRun, ListsBetween}

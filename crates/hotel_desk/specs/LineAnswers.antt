@@ -5,13 +5,14 @@ use Rattle.hotel_core.specs.declared.reply.Reply.{Reply}
 use Rattle.hotel_core.specs.declared.reply.Refusal.{Refusal}
 use Rattle.hotel_core.specs.Model.History.{History}
 use Rattle.hotel_core.specs.Model.Run.{Steps}
-use Rattle.hotel_desk.specs.Copies.{copies, counted_in}
+use Rattle.hotel_asks.specs.Asks.{copies}
+use Rattle.hotel_desk.specs.Copies.{counted_in}
 use Rattle.hotel_core.specs.Texts.{reply_text}
 use Rattle.hotel_desk.specs.Asks.{ask_in}
 use Rattle.hotel_desk.specs.ListAnswers.{AnswersList}
 use Rattle.hotel_desk.specs.Listings.{listing_over}
-use Rattle.hotel_desk.specs.declared.asks.Ask.{Ask}
-use Rattle.hotel_desk.specs.declared.asks.Ask.TheVariants as ask
+use Rattle.hotel_asks.specs.declared.asks.Ask.{Ask}
+use Rattle.hotel_asks.specs.declared.asks.Ask.TheVariants as ask
 use Rattle.hotel_desk.specs.declared.line_answers.LineAnswer.{LineAnswer}
 use Rattle.hotel_desk.specs.declared.line_answers.LineAnswer.TheVariants.{Replied, Unread}
 

@@ -1,6 +1,6 @@
 use Rattle.std.proofs.Common.{[], sym, subst}
 use Rattle.hotel_lists.specs.Lines.{arrivals_header, in_house_header, chain_header, left_behind_header, audit_header, arrival_line, house_line, chain_line, behind_line, note_line}
-use Rattle.hotel_desk.specs.declared.list_asks.ListAsk.{ListAsk}
+use Rattle.hotel_asks.specs.declared.lists.ListAsk.{ListAsk}
 use Rattle.hotel_desk.specs.ListAnswers.{ListEnds}
 use Rattle.hotel_desk.specs.Listings.{listing_on}
 use Rattle.hotel_desk.proofs.ListAnswerLemmas.{list_ends, room_ends}
