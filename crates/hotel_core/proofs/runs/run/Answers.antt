@@ -1,6 +1,6 @@
 use Rattle.std.proofs.Common.{◌≡◌, ◌+◌, take, length, length-append, ◌++◌, ◌∷◌, [], sym, ap, ◌∙◌, arith, subst}
 use Rattle.std.proofs.lemmas.List.{take_more, take_all}
-use Rattle.hotel_core.specs.Refinement.Lift.{RunsTo}
+use Rattle.hotel_core.specs.Model.Laws.{RunsTo}
 use Rattle.hotel_core.specs.Books.Failures.{AreCounted, failures_in}
 use Rattle.hotel_core.proofs.OfCode.FailuresCounted.{counted_join, failures_in-push, same_lengths}
 use Rattle.hotel_core.proofs.Lifted.RunParts.{runs_step}
