@@ -14,7 +14,7 @@ use Rattle.hotel_desk.specs.Scenes.{as_words}
 
 -- the codes of the source's words
 abbrev pub source : List ℕ
-source = 160 ∷ [] ++ replicate 64 160
+source = 160 ∷ [] ++ replicate 128 160
 
 abbrev pub commands_1 : List Command
 commands_1 =

@@ -26,13 +26,6 @@ pub record Counted (kind : List ℕ) (count total : ℕ) (left : List (ℕ × Ro
   pub ordered : IsStrictlySortedBy nat_cmp (keys_of left)
   pub fewer : AllByRecursion (λ n. count ≤ n) (keys_of left)
 
-all_from_zero : (ks : List ℕ) → AllByRecursion (λ n. 0 ≤ n) ks
-all_from_zero [] = tt
-all_from_zero (k ∷ ks) = (omega arith, all_from_zero ks)
-
-pub counted_none : (kind : List ℕ) (all : List (ℕ × RoomRow)) → IsStrictlySortedBy nat_cmp (keys_of all) → Counted kind 0 (count_by (λ (row : RoomRow). bytes_eq row.kind kind) (values_of all)) all
-counted_none kind all s = record { sum = omega arith; ordered = s; fewer = all_from_zero (keys_of all) }
-
 pub counted_head : (kind : List ℕ) (count total : ℕ) (e : ℕ × RoomRow) (left : List (ℕ × RoomRow)) → Counted kind count total (e ∷ left) → count ≤ e.0
 counted_head kind count total e left c = c.fewer.0
 

@@ -1,12 +1,12 @@
 -- A failed part of a step over sound rows was counted.
-use Rattle.std.proofs.Common.{ℕ, ◌≡◌, ◌≤◌, ◌+◌, ◌-◌, ◌^◌, Bool, true, false, List, [], ◌∷◌, ◌++◌, length, inl, inr, arith, refl, sym, length-append, append_assoc, append-nil, ap, take, ◌<◌, ◌∙◌}
+use Rattle.std.proofs.Common.{ℕ, ◌≡◌, ◌+◌, Bool, true, false, List, [], ◌∷◌, ◌++◌, length, inl, inr, arith, refl, sym, append_assoc, append-nil, ap, take, ◌<◌, ◌∙◌}
 use Rattle.std.specs.Prelude.{◌⊎◌}
 use Rattle.std.proofs.lemmas.Bool.{false≢true}
 use Rattle.std.proofs.lemmas.List.{length-take}
 use Rattle.keycard_rules.specs.declared.issued.LookFault.{LookFault}
 use Rattle.rand_core.specs.Stream.{Stream}
 use Rattle.keycard_rules.specs.declared.issued.LookFault.TheVariants as look
-use Rattle.keycard_rules.specs.Rise.{HasRisen, NoFewer}
+use Rattle.keycard_rules.specs.Rise.{HasRisen, HasRisenBy, NoFewer}
 use Rattle.hotel_core.specs.declared.books.change.Change.{Change}
 use Rattle.hotel_core.specs.declared.command.Command.{Command}
 use Rattle.hotel_core.specs.declared.reply.Reply.{Reply}
@@ -19,7 +19,7 @@ use Rattle.hotel_core.specs.Model.History.{start}
 use Rattle.hotel_core.specs.Model.Outcome.{Outcome}
 use Rattle.hotel_core.specs.Model.Run.{is_failed}
 use Rattle.hotel_core.specs.Refinement.StepOnRows.{AreWhole, GoesIf, Goes, StepsAs}
-use Rattle.hotel_core.specs.Books.Failures.{HasRisenBy, failure_in, failures_in, times, AreCounted}
+use Rattle.hotel_core.specs.Books.Failures.{failure_in, failures_in, times, AreCounted}
 use Rattle.hotel_core.specs.Refinement.Finds.{refusal_of}
 use Rattle.hotel_core.proofs.Starts.StartRows.{rows_of_start}
 use Rattle.hotel_core.proofs.Lifted.Whole.{rows_are_whole}
@@ -38,15 +38,11 @@ one_counted a b why k risen = record {
   risen = λ cause. by why cause risen;
 }
   where
-    rose : (x : LookFault) → HasRisen (a x) (b x) → HasRisenBy 1 (a x) (b x)
-    rose x (inl less) = inl (omega (arith, less))
-    rose x (inr most) = inr (omega (arith, most, k x))
-
     by : (why cause : LookFault) → HasRisen (a why) (b why) → HasRisenBy (times cause (refusal_of why ∷ [])) (a cause) (b cause)
-    by look.Memory look.Memory r = rose look.Memory r
+    by look.Memory look.Memory r = r
     by look.Memory look.Store r = inl (omega (arith, k look.Store))
     by look.Store look.Memory r = inl (omega (arith, k look.Memory))
-    by look.Store look.Store r = rose look.Store r
+    by look.Store look.Store r = r
 
 counted_reply : (answer : Reply) (a b : LookFault → ℕ) → NoFewer a b
     → ((cause : LookFault) → answer ≡ Refused (refusal_of cause) → HasRisen (a cause) (b cause))

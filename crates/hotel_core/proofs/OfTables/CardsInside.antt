@@ -9,22 +9,23 @@ use Rattle.std.specs.BTreeMap.{is_at}
 use Rattle.std.specs.BTreeMap.Range.{range_contains}
 use Rattle.std.specs.BTreeSet.{insert_key}
 use Rattle.std.specs.Cmp.{ranks}
-use Rattle.std.specs.Set as set
+use Rattle.std.specs.Set.{remove_key}
 use Rattle.keycard_rules.specs.Numbers.{IsNumberUpTo}
 use Rattle.std.specs.List.{list_any}
 use Rattle.std.specs.Map.Iter.{TakesFirst}
-use Rattle.hotel_core.specs.Model.Words.{pair_cmp, when, remove_key, is_one_of}
+use Rattle.keycard_rules.specs.Draw.{is_one_of}
+use Rattle.hotel_core.specs.Model.Words.{pair_cmp, when}
 use Rattle.hotel_core.specs.Model.Guests.{those_in, are_none}
 use Rattle.hotel_core.specs.Memory.{HaveCardNumbers}
 use Rattle.hotel_core.proofs.OfTables.MapEntries.{at_is, pair_is}
 
 -- ---- changes keep the numbers
 
-pub numbers_removed : (pairs : List (ℕ × ℕ)) (pair : ℕ × ℕ) → HaveCardNumbers pairs → HaveCardNumbers (set.remove_key (is_at (pair_cmp pair)) pairs)
+pub numbers_removed : (pairs : List (ℕ × ℕ)) (pair : ℕ × ℕ) → HaveCardNumbers pairs → HaveCardNumbers (remove_key (is_at (pair_cmp pair)) pairs)
 numbers_removed [] pair h = tt
 numbers_removed (x ∷ xs) pair h = removed_by (is_at (pair_cmp pair) x) h.0 h.1 (numbers_removed xs pair h.1)
   where
-    removed_by : (b : Bool) → IsNumberUpTo 9999999 x.1 → HaveCardNumbers xs → HaveCardNumbers (set.remove_key (is_at (pair_cmp pair)) xs) → HaveCardNumbers (cond b xs (x ∷ set.remove_key (is_at (pair_cmp pair)) xs))
+    removed_by : (b : Bool) → IsNumberUpTo 9999999 x.1 → HaveCardNumbers xs → HaveCardNumbers (remove_key (is_at (pair_cmp pair)) xs) → HaveCardNumbers (cond b xs (x ∷ remove_key (is_at (pair_cmp pair)) xs))
     removed_by true i all ih = all
     removed_by false i all ih = (i, ih)
 
@@ -36,10 +37,6 @@ numbers_added (x ∷ xs) pair h n = added_by (pair_cmp pair x) h (numbers_added 
     added_by Less h ih = (n, h)
     added_by Equal h ih = h
     added_by Greater h ih = (h.0, ih)
-
-pub removed_keys : (pairs : List (ℕ × ℕ)) (pair : ℕ × ℕ) → set.remove_key (is_at (pair_cmp pair)) pairs ≡ remove_key pair_cmp pairs pair
-removed_keys [] pair = refl
-removed_keys (x ∷ xs) pair = ap (λ rest. cond (is_at (pair_cmp pair) x) xs (x ∷ rest)) (removed_keys xs pair)
 
 -- ---- the part of a room
 

@@ -19,7 +19,7 @@ use Rattle.hotel_core.specs.Books.Change.{codes_of}
 use Rattle.hotel_core.specs.Refinement.ChangeOf.{change_of}
 use Rattle.hotel_core.specs.Books.Fits.{HasItsRows}
 use Rattle.hotel_core.specs.Model.Run.{Reached}
-use Rattle.hotel_core.specs.Refinement.Follow.{MayFollow}
+use Rattle.hotel_core.proofs.Facts.Follow.{MayFollow}
 use Rattle.hotel_core.specs.Model.Words.{said_of}
 use Rattle.hotel_core.specs.Model.Notes.{notes}
 use Rattle.hotel_core.proofs.OfTables.RoomNumbers.{room_there, room_not_there}

@@ -1,15 +1,12 @@
 -- Failures of memory and of the store: those that stand in replies, and how the books counted them.
-use Rattle.std.specs.Prelude.{ℕ, ◌≡◌, ◌≤◌, ◌+◌, ◌-◌, ◌^◌, ◌⊎◌, List, [], ◌∷◌, ◌++◌}
+use Rattle.std.specs.Prelude.{ℕ, ◌+◌, List, [], ◌∷◌, ◌++◌}
+use Rattle.keycard_rules.specs.Rise.{HasRisenBy}
 use Rattle.keycard_rules.specs.declared.issued.LookFault.{LookFault}
 use Rattle.keycard_rules.specs.declared.issued.LookFault.TheVariants as look
 use Rattle.hotel_core.specs.declared.reply.Reply.{Reply}
 use Rattle.hotel_core.specs.declared.reply.Reply.TheVariants.{Refused}
 use Rattle.hotel_core.specs.declared.reply.Refusal.{Refusal}
 use Rattle.hotel_core.specs.declared.reply.Refusal.TheVariants.{Memory, Store}
-
--- The count of failures rose by so many or more, or is at its greatest value, where it stays.
-abbrev pub HasRisenBy : ℕ → ℕ → ℕ → Type 0
-HasRisenBy n old new = (old + n ≤ new) ⊎ (2 ^ 64 - 1 ≤ new)
 
 -- The failure that a reply tells, if it tells one.
 abbrev pub failure_in : Reply → List Refusal

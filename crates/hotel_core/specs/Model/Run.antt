@@ -1,5 +1,5 @@
 -- Runs: commands one after the other, with their replies and the history that they make.
-use Rattle.std.specs.Prelude.{ℕ, ◌≡◌, Bool, true, false, List, [], ◌∷◌, Some, drop}
+use Rattle.std.specs.Prelude.{ℕ, ◌≡◌, Bool, true, false, List, [], ◌∷◌, Some, take, drop}
 use Rattle.rand_core.specs.Stream.{Stream}
 use Rattle.hotel_core.specs.declared.command.Command.{Command}
 use Rattle.hotel_core.specs.declared.reply.Reply.{Reply}
@@ -71,8 +71,8 @@ first_reply reply ran = record ran { replies = reply ∷ ran.replies }
 abbrev pub go_on : Outcome Event → (Outcome Event → Ran) → Ran
 go_on outcome later = first_reply outcome.reply (later outcome)
 
--- The run of commands in which nothing fails, where these are the source's words.
+-- The run of commands in which nothing fails, where these are the source's words; each command is given the next 64.
 abbrev pub run_on : History → List ℕ → List Command → Ran
 run_on h ahead [] = record { history = h; ahead = ahead; replies = [] }
 run_on h ahead (command ∷ commands) =
-    go_on (answer_to h ahead command) (λ outcome. run_on (grown h outcome.happens) (drop outcome.examined ahead) commands)
+    go_on (answer_to h (take 64 ahead) command) (λ outcome. run_on (grown h outcome.happens) (drop outcome.examined ahead) commands)

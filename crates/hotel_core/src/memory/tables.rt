@@ -1,8 +1,7 @@
 //! The tables of books in memory, and what look-ups find there.
 ghost use Rattle.std.specs.Prelude.{◌≡◌, ◌-◌, ℕ, ◌^◌, ◌<◌, length, IfOk, not};
 ghost use Rattle.std.specs.Map.{keys_of};
-ghost use Rattle.keycard_rules.specs.Draw.{is_among};
-ghost use Rattle.hotel_core.specs.Model.Words.{is_one_of};
+ghost use Rattle.keycard_rules.specs.Draw.{is_one_of};
 ghost use Rattle.hotel_core.specs.Model.Guests.{are_none};
 ghost use Rattle.hotel_core.specs.Model.Rows.{Rows, no_rows, at_number, has_kind};
 ghost use Rattle.hotel_core.specs.Books.Lookups.{room_at, codes_in, code_place, code_at, stay_at, stays_of_kind, card_at, inside_at, note_at, rooms_of_kind, first_full_on, number_after};
@@ -89,7 +88,7 @@ impl Tables {
     }
 
     pub(crate) fn is_issued(&self, code: Code) -> bool
-        ensures { result ≡ is_among (codes_in self.now) code }
+        ensures { result ≡ is_one_of code (codes_in self.now) }
     {
         self.codes.has(code)
     }

@@ -1,9 +1,8 @@
 use Rattle.std.proofs.Common.{◌≡◌, ◌+◌, take, length, length-append, ◌++◌, ◌∷◌, [], sym, ap, ◌∙◌, arith, subst}
 use Rattle.std.proofs.lemmas.List.{take_more, take_all}
-use Rattle.hotel_core.specs.Refinement.Lift.{RunsTo}
+use Rattle.hotel_core.specs.Model.Laws.{RunsTo}
 use Rattle.hotel_core.specs.Books.Failures.{AreCounted, failures_in}
 use Rattle.hotel_core.proofs.OfCode.FailuresCounted.{counted_join, failures_in-push}
-use Rattle.hotel_core.proofs.Lifted.Runs.{runs_begin}
 use Rattle.hotel_core.proofs.Lifted.RunParts.{runs_step}
 use Rattle.hotel_core.proofs.Invariants.Assurance.{runs_safely}
 use Rattle.hotel_core.proofs.runs.run.Goals as goal
@@ -32,9 +31,3 @@ returns-clause-run g c = λ clean h stands.
     let all : take c.loop-command.command-index c.args.commands.now ≡ c.args.commands.now = take_all _ _ c.loop-command-test.false in
     runs_safely h _ _ _ _ _ (subst (λ xs. RunsTo h (g.R.Rng.stream c.args.source.now) xs c.loop-command.replies.items (g.B.Books.rows c.loop-command.books) (g.R.Rng.stream c.loop-command.source))
     all (c.loop-command.invariant.ran clean h stands))
-
-pub returns-in_default-clause-fault : goal.returns-in_default-clause-fault
-returns-in_default-clause-fault g c = λ clean h stands.
-    let s = g.R.Rng.stream c.args.source.now in
-    let r = runs_safely h s s [] [] (g.B.Books.rows c.args.books.now) (runs_begin h s (g.B.Books.rows c.args.books.now) stands) in
-    (r.0, r.1, ([], r.2), r.3)
