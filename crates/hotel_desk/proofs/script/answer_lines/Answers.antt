@@ -3,6 +3,7 @@ use Rattle.std.specs.Prelude.{OnOk, OnErr}
 use Rattle.std.specs.Io.KnownBytes.{Appends}
 use Rattle.std.proofs.KnownBytes.{Appends-trans}
 use Rattle.hotel_core.specs.Books.Failures.{AreCounted}
+use Rattle.hotel_lists.proofs.CallsLemmas.{none_forgotten, then_none_forgotten}
 use Rattle.hotel_desk.specs.Lines.{answered_lines, is_silent}
 use Rattle.hotel_desk.specs.Script.{RowsGo}
 use Rattle.hotel_desk.proofs.ScriptLemmas.{goes_safely, rows_begin, rows_more, next_line, all_done, answered_more, appends_front}
@@ -22,6 +23,7 @@ loop-line-init g c = record {
   clean = λ clean. clean;
   went = λ clean. rows_begin (g.B.Books.rows c.args.books.now) (g.R.Rng.stream c.args.source.now) (g.W.Write.contents c.args.writer.now) _;
   counted = λ cause. omega arith;
+  calls = none_forgotten _;
 }
 
 pub loop-line-preserved-in-Ok-1 : goal.loop-line-preserved-in-Ok-1
@@ -41,6 +43,7 @@ loop-line-preserved-in-Ok-1 g c =
           (c.loop-line.invariant.went (answered.was_clean clean)) left (got_ok c.in-Ok.is (answered.ok clean))
           (λ output text written more. Appends-trans _ _ _ output text written more) answered.counted;
       counted = λ cause. omega (arith, c.loop-line.invariant.counted cause, answered.counted cause);
+      calls = then_none_forgotten _ _ _ c.loop-line.invariant.calls answered.calls;
     }
 
 pub returns-in_default-answered-clause-cut : goal.returns-in_default-answered-clause-cut

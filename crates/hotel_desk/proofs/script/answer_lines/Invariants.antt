@@ -3,6 +3,7 @@ use Rattle.std.proofs.Common.{◌≡◌, ◌+◌, ◌≤◌, length, take, drop}
 use Rattle.std.specs.Io.KnownBytes.{Appends}
 use Rattle.keycard_rules.specs.Rise.{NoFewer}
 use Rattle.hotel_core.specs.Books.Failures.{AreCounted}
+use Rattle.hotel_lists.specs.Calls.{NoneForgotten}
 use Rattle.hotel_desk.specs.Lines.{answered_lines}
 use Rattle.hotel_desk.specs.Script.{RowsGo}
 use Rattle.hotel_desk.proofs.script.answer_lines.Given as goal
@@ -17,6 +18,7 @@ invariant-loop-line g l = record {
       (Appends (g.W.Write.contents l.initial.writer) (g.W.Write.contents l.writer))
       (AreCounted (g.B.Issued.failures l.initial.books) (g.B.Issued.failures l.books)) (g.B.Books.rows l.books) (g.R.Rng.stream l.source);
   counted : NoFewer (g.B.Issued.failures l.initial.books) (g.B.Issued.failures l.books);
+  calls : NoneForgotten l.initial.calls l.calls;
 }
 
 abbrev pub decreases-loop-line : goal.decreases-loop-line
