@@ -1,8 +1,9 @@
 //! Scripts: lines of commands and lists, each answered before the next.
 
-ghost use Rattle.std.specs.Prelude.{◌≡◌, ℕ, List, ◌≤◌, ◌<◌, length, take, IfSome, IfOk, IsErrOf, OnOk};
+ghost use Rattle.std.specs.Prelude.{◌≡◌, ℕ, true, List, ◌≤◌, ◌<◌, length, take, IfSome, IfOk, IsErrOf, OnOk, OnErr};
 ghost use Rattle.keycard_rules.specs.Rise.{NoFewer};
 ghost use Rattle.hotel_core.specs.Model.Leads.{Leads};
+ghost use Rattle.hotel_lists.specs.Calls.{NoneForgotten};
 ghost use Rattle.hotel_desk.specs.declared.script.ScriptFault.TheVariants.{TooLarge};
 ghost use Rattle.hotel_desk.specs.Lines.{answered_lines};
 ghost use Rattle.hotel_desk.specs.Script.{ScriptAnswered, ScriptCut, IsInput, IfCut, IfUnbegun, NothingBegun, fault_of};
@@ -10,7 +11,7 @@ ghost use Rattle.hotel_desk.specs.Script.{ScriptAnswered, ScriptCut, IsInput, If
 use crate::line_answers::answer_line;
 use crate::lines::{first_line, is_silent, without_return};
 use hotel_core::Walks;
-use hotel_lists::{Interruptions, WholeFault, read_whole};
+use hotel_lists::{IoCalls, WholeFault, read_whole};
 use rand_core::Rng;
 use std::alloc::Global;
 use std::io::{Read, Write};
@@ -60,7 +61,7 @@ fn answer_lines<W: Write, B: Walks, R: Rng>(
     writer: &mut W,
     books: &mut B,
     source: &mut R,
-    interruptions: &mut Interruptions,
+    calls: &mut IoCalls,
 ) -> Result<ScriptEnd, ScriptFault>
     requires { length script.now ≤ 1048576 }
     ensures count { IfOk result (λ script_end. script_end.lines ≡ length (answered_lines script.now)) }
@@ -74,6 +75,8 @@ fn answer_lines<W: Write, B: Walks, R: Rng>(
     ensures sure { IfUnbegun result ⊥ }
     ensures was_clean { B.is_clean books.new → B.is_clean books.old }
     ensures counted { NoFewer (B.failures books.old) (B.failures books.new) }
+    ensures failed { OnErr result (calls.new.write_failed ≡ true) }
+    ensures calls { NoneForgotten calls.old calls.new }
 {
     let mut rest = script;
     let mut done = 0;
@@ -81,7 +84,7 @@ fn answer_lines<W: Write, B: Walks, R: Rng>(
         rest = later;
         let line = without_return(line);
         if !is_silent(line) {
-            let answered = answer_line(alloc, line, writer, books, source, interruptions);
+            let answered = answer_line(alloc, line, writer, books, source, calls);
             done += 1;
             let Ok(()) = answered else {
                 return Err(ScriptFault::Write { done });
@@ -115,9 +118,9 @@ pub fn run_script<I: Read, W: Write, B: Walks, R: Rng>(
     ensures was_clean { B.is_clean books.new → B.is_clean books.old }
     ensures counted { NoFewer (B.failures books.old) (B.failures books.new) }
 {
-    let mut interruptions = Interruptions::none();
-    let script = read_whole(alloc, reader, SCRIPT_LIMIT, &mut interruptions)?;
-    answer_lines(alloc, &script, writer, books, source, &mut interruptions)
+    let mut calls = IoCalls::none();
+    let script = read_whole(alloc, reader, SCRIPT_LIMIT, &mut calls)?;
+    answer_lines(alloc, &script, writer, books, source, &mut calls)
 }
 
 #[cfg(test)]

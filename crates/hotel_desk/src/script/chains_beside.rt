@@ -8,7 +8,7 @@ use hotel_asks::{Ask, ListAsk};
 use hotel_core::{
     Books, CodeRow, Command, ListBooks, Refusal, Reply, RoomRow, reply_text, run, step,
 };
-use hotel_lists::{FakeWriter, Interruptions, write_bytes};
+use hotel_lists::{FakeWriter, IoCalls, write_bytes};
 use keycard_rules::{Act, Chain, Code, Link, ListedWords, LockNote, RoomNo};
 use std::alloc::Global;
 use std::process::Abort;
@@ -165,7 +165,7 @@ impl Desk {
     ) -> Result<(), Fail> {
         let reply = self.carry_out(rt, command)?;
         let text = reply_text(&reply);
-        write_bytes(writer, text.as_bytes(), &mut Interruptions::none())?;
+        write_bytes(writer, text.as_bytes(), &mut IoCalls::none())?;
         Ok(())
     }
 
@@ -176,8 +176,8 @@ impl Desk {
         list: &ListAsk,
         writer: &mut FakeWriter,
     ) -> Result<(), Fail> {
-        let mut interruptions = Interruptions::none();
-        answer_list(alloc, list, writer, &mut self.books, &mut interruptions)?;
+        let mut calls = IoCalls::none();
+        answer_list(alloc, list, writer, &mut self.books, &mut calls)?;
         Ok(())
     }
 

@@ -1,6 +1,7 @@
 use Rattle.std.proofs.Common.{◌≡◌, ◌∙◌, [], arith, false, refl, subst, sym, List, ℕ, Result, Ok, Err}
 use Rattle.std.specs.Prelude.{OnOk, OnErr}
 use Rattle.hotel_core.specs.Model.Leads.{Leads}
+use Rattle.hotel_lists.proofs.CallsLemmas.{none_forgotten, then_none_forgotten}
 use Rattle.hotel_desk.specs.Lines.{answered_lines, is_silent}
 use Rattle.hotel_desk.specs.Script.{ScriptAnswered}
 use Rattle.hotel_desk.proofs.ScriptLemmas.{none_answered, answered_next, cut_next, next_line, all_done, answered_more}
@@ -20,6 +21,7 @@ loop-line-init g c = record {
   clean = λ clean. clean;
   went = λ clean. none_answered (g.B.Books.rows c.args.books.now) (g.R.Rng.stream c.args.source.now) (g.W.Write.contents c.args.writer.now) _;
   counted = λ cause. omega arith;
+  calls = none_forgotten _;
 }
 
 pub loop-line-preserved-in-Ok-1 : goal.loop-line-preserved-in-Ok-1
@@ -38,6 +40,7 @@ loop-line-preserved-in-Ok-1 g c =
       went = λ clean. answered_next _ _ _ _ _ _ all c.loop-line.done line _ _ _ _ _ _ _
           (c.loop-line.invariant.went (answered.was_clean clean)) left (got_ok c.in-Ok.is (answered.ok clean)) answered.counted;
       counted = λ cause. omega (arith, c.loop-line.invariant.counted cause, answered.counted cause);
+      calls = then_none_forgotten _ _ _ c.loop-line.invariant.calls answered.calls;
     }
 
 pub returns-in_default-answered-clause-cut : goal.returns-in_default-answered-clause-cut

@@ -2,6 +2,7 @@
 use Rattle.std.proofs.Common.{◌≡◌, ◌+◌, ◌≤◌, length, take, drop}
 use Rattle.keycard_rules.specs.Rise.{NoFewer}
 use Rattle.hotel_core.specs.Model.Leads.{Leads}
+use Rattle.hotel_lists.specs.Calls.{NoneForgotten}
 use Rattle.hotel_desk.specs.Lines.{answered_lines}
 use Rattle.hotel_desk.specs.Script.{ScriptAnswered}
 use Rattle.hotel_desk.proofs.script.answer_lines.Given as goal
@@ -15,6 +16,7 @@ invariant-loop-line g l = record {
   went : g.B.Issued.is_clean l.books → Leads (g.B.Books.rows l.initial.books) (ScriptAnswered (take l.done (answered_lines l.script)) (g.R.Rng.stream l.initial.source) (g.R.Rng.stream l.source)
       (g.W.Write.contents l.initial.writer) (g.W.Write.contents l.writer) (g.B.Issued.failures l.initial.books) (g.B.Issued.failures l.books)) (g.B.Books.rows l.books);
   counted : NoFewer (g.B.Issued.failures l.initial.books) (g.B.Issued.failures l.books);
+  calls : NoneForgotten l.initial.calls l.calls;
 }
 
 abbrev pub decreases-loop-line : goal.decreases-loop-line
