@@ -2,4 +2,5 @@ pub mod Model
 pub mod Books
 pub mod Refinement
 pub mod Memory
+pub mod Stopping
 pub mod Texts
