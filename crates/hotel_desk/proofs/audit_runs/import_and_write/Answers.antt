@@ -14,7 +14,8 @@ returns-in-Err g c =
       ap (λ f. Err f) c.import_fault.ensures,
       refl,
       record {
-        went = e.stopped;
+        went = e.imported;
+        no_file = e.no_file;
         was_clean = e.was_clean;
         counted = e.counted;
         failed = e.failed;
@@ -33,6 +34,7 @@ returns-in-Ok-write_answers g c =
       subst (λ (l : List LineAnswer). Appends old new (answers_text 1 l)) items c.in-Ok-write_answers.ensures.ok,
       record {
         went = e.imported;
+        no_file = tt;
         was_clean = e.was_clean;
         counted = e.counted;
         failed = tt;
@@ -51,6 +53,7 @@ returns g c =
       subst (λ (l : List LineAnswer). AppendsFront old new (answers_text 1 l)) items c.in-Err-write_answers.ensures.err,
       record {
         went = e.imported;
+        no_file = tt;
         was_clean = e.was_clean;
         counted = e.counted;
         failed = tt;
