@@ -55,7 +55,7 @@ failed_reply (reply.Refused r) why e n = by (is_failed (reply.Refused r)) refl
 failed_reply _ why e n = absurd n
 
 -- the failure that is told is the one that the reply tells
-pub failure_told : (given : Reply) (why : LookFault) → Err why ≡ answer_of given → is_failed given ≡ true → failure_in given false ≡ refusal_by why ∷ []
+pub failure_told : (given : Reply) (why : LookFault) → Err why ≡ answer_of given → is_failed given ≡ true → failure_in given ≡ refusal_by why ∷ []
 failure_told (reply.Refused refusal.Memory) why e f = let same : why ≡ look.Memory = cc e in rw same refl
 failure_told (reply.Refused refusal.Store) why e f = let same : why ≡ look.Store = cc e in rw same refl
 failure_told _ why e f = cc f

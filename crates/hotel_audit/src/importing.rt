@@ -1,5 +1,5 @@
 //! The import of an audit file into any books.
-ghost use Rattle.std.specs.Prelude.{◌≡◌, List, [], ◌∷◌, IfOk, IfErr, OnErr, Ok, Err};
+ghost use Rattle.std.specs.Prelude.{◌≡◌, ◌<◌, List, [], ◌∷◌, length, IfOk, IfErr, OnErr, Ok, Err};
 ghost use Rattle.rand_core.specs.Stream.{Stream};
 ghost use Rattle.keycard_rules.specs.Rise.{NoFewer};
 ghost use Rattle.hotel_core.specs.Books.Failures.{AreCounted};
@@ -106,6 +106,7 @@ pub fn import<B: Books>(
         × EndsAfter (audit_lines bytes.now) (outcome_of (λ v. v.items) result) lines answers
         × (B.is_clean books.new → (source : Stream) → Leads (B.rows books.old)
         (λ h h'. Runs h source (commands_of lines) (replies_in answers) h' source) (B.rows books.new)) }
+    ensures large { 262144 < length bytes.now → result ≡ Err (ImportFault.File AuditFault.TooLarge) }
     ensures no_file { IfErr result (λ f. (why : AuditFault) → f ≡ ImportFault.File why → books.new ≡ books.old) }
     ensures failed { IfErr result (λ fault. B.is_clean books.new →
         AreCounted (B.failures books.old) (B.failures books.new) (failures_of fault)) }

@@ -1,7 +1,6 @@
 // Laws of the rows along each history that can be reached.
 ghost use Rattle.std.specs.Prelude.{ℕ, ◌≡◌, ◌-◌, ◌≤◌, List, Some, option_map};
 ghost use Rattle.std.specs.List.{slice_get};
-ghost use Rattle.hotel_nights.specs.FullNight.{first_day, is_full};
 ghost use Rattle.hotel_core.specs.Model.Cases.{room_of};
 ghost use Rattle.hotel_core.specs.Refinement.ChangeOf.{change_of};
 ghost use Rattle.hotel_core.specs.Model.Event.{Event};
@@ -9,7 +8,7 @@ ghost use Rattle.hotel_core.specs.Books.Fits.{HasItsRows};
 ghost use Rattle.hotel_core.specs.Refinement.Follow.{FollowsBy, RoomsOnce};
 ghost use Rattle.hotel_core.specs.Model.Guests.{registered};
 ghost use Rattle.hotel_core.specs.Model.History.{History, start, ◌▷◌};
-ghost use Rattle.hotel_core.specs.Books.Lookups.{note_at, rooms_of_kind, stays_of_kind};
+ghost use Rattle.hotel_core.specs.Books.Lookups.{note_at, rooms_of_kind, first_full_on};
 ghost use Rattle.hotel_core.specs.Model.Notes.{notes};
 ghost use Rattle.hotel_core.specs.Model.Rows.{Rows, at_number};
 ghost use Rattle.hotel_core.specs.Model.RowsOf.{room_row, rows_of};
@@ -38,7 +37,7 @@ pub fn registered_in_house()
 /// The rows' counts are the history's: the rooms of a kind, and the first night on which they are all taken.
 pub fn rows_counted()
     ensures rooms_counted { (h : History) (kind : List ℕ) → rooms_of_kind (rows_of h) kind ≡ rooms_of h kind }
-    ensures first_full { (h : History) (kind : List ℕ) (d k : ℕ) → first_day (is_full (stays_of_kind (rows_of h) kind) kind (rooms_of_kind (rows_of h) kind)) d k ≡ first_full h kind d k }
+    ensures first_full { (h : History) (kind : List ℕ) (d k : ℕ) → first_full_on (rows_of h) kind d k ≡ first_full h kind d k }
 {}
 
 /// The rows that stand for a start are the start's rows.

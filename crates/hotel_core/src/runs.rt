@@ -30,7 +30,7 @@ pub fn run<B: Books, R: Rng>(
         Leads (B.rows books.old) (λ h h'. Runs h (R.stream source.old) commands.now replies.items h' (R.stream source.new)) (B.rows books.new)) }
     ensures fault { IfErr result (λ fault. B.is_clean books.new →
         Leads (B.rows books.old) (λ h h'. (replies : List Reply) × Runs h (R.stream source.old) (take fault.answered commands.now) replies h' (R.stream source.new)) (B.rows books.new)) }
-    ensures failed { IfOk result (λ replies. B.is_clean books.new → AreCounted (B.failures books.old) (B.failures books.new) (failures_in commands.now replies.items)) }
+    ensures failed { IfOk result (λ replies. B.is_clean books.new → AreCounted (B.failures books.old) (B.failures books.new) (failures_in replies.items)) }
     ensures was_clean { B.is_clean books.new → B.is_clean books.old }
     ensures counted { NoFewer (B.failures books.old) (B.failures books.new) }
 {

@@ -4,9 +4,9 @@ use Rattle.rand_core.specs.Stream.{Stream}
 use Rattle.hotel_core.specs.declared.reply.Reply.{Reply}
 use Rattle.hotel_core.specs.declared.reply.Refusal.{Refusal}
 use Rattle.hotel_core.specs.Model.History.{History}
-use Rattle.hotel_core.specs.Books.Failures.{failure_in}
+use Rattle.hotel_desk.specs.Copies.{counted_in}
 use Rattle.hotel_core.specs.Model.Run.{Runs}
-use Rattle.hotel_core.specs.Refinement.Stepping.{copies}
+use Rattle.hotel_desk.specs.Copies.{copies}
 use Rattle.hotel_core.specs.Texts.{reply_text}
 use Rattle.hotel_desk.specs.Asks.{ask_in}
 use Rattle.hotel_desk.specs.declared.asks.Ask.{Ask}
@@ -32,7 +32,7 @@ asks_more (Some (ask.Command command)) asks h mid h' s source s' output text res
   ran.1,
   (mid, source, g.1, ran.2),
   e ∙ ap (λ (t : List ℕ). t ++ rest) g.2 ∙ ap (λ (l : List ℕ). reply_text g.0 ++ l) ran.3,
-  f ∙ ap (λ (t : List Refusal). t ++ more) g.3 ∙ ap (λ (l : List Refusal). failure_in g.0 (copies command) ++ l) ran.4,
+  f ∙ ap (λ (t : List Refusal). t ++ more) g.3 ∙ ap (λ (l : List Refusal). counted_in g.0 (copies command) ++ l) ran.4,
 )
 asks_more (Some (ask.List its_list)) asks h mid h' s source s' output text rest failed first more g ran e f =
     let run = subst (λ (x : History). Runs x source (commands_of asks) ran.0 h' s') g.1 ran.2 in

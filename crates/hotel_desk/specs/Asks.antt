@@ -1,7 +1,7 @@
 -- What a script's line asks for.
 use Rattle.std.specs.Prelude.{◌≡◌, ℕ, zero, suc, Bool, true, false, List, [], ◌∷◌, if◌then◌else◌, Option, Some, None, Result, Ok, Err}
 use Rattle.hotel_core.specs.declared.command.Command.{Command}
-use Rattle.hotel_core.specs.Refinement.Stepping.{copies}
+use Rattle.hotel_desk.specs.Copies.{copies}
 use Rattle.hotel_desk.specs.declared.asks.Ask.{Ask}
 use Rattle.hotel_desk.specs.declared.asks.Ask.TheVariants as ask
 use Rattle.hotel_desk.specs.declared.asks.LineFault.{LineFault}

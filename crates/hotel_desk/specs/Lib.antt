@@ -5,6 +5,7 @@ pub mod Commands
 pub mod Verbs
 pub mod ListAsks
 pub mod ListAnswers
+pub mod Copies
 pub mod Asks
 pub mod LineAnswers
 pub mod Script

@@ -6,8 +6,7 @@ use Rattle.hotel_core.specs.declared.reply.Refusal.{Refusal}
 use Rattle.hotel_core.specs.Model.History.{History}
 use Rattle.hotel_core.specs.Model.Rows.{Rows}
 use Rattle.hotel_core.specs.Model.Run.{StandsFor, Steps}
-use Rattle.hotel_core.specs.Books.Failures.{failure_in}
-use Rattle.hotel_core.specs.Refinement.Stepping.{copies}
+use Rattle.hotel_desk.specs.Copies.{copies, counted_in}
 use Rattle.hotel_core.specs.Texts.{reply_text}
 use Rattle.hotel_desk.specs.Asks.{ask_in}
 use Rattle.hotel_desk.specs.ListAnswers.{AnswersList}
@@ -27,7 +26,7 @@ answer_text Unread = unread_text
 
 -- What is asked goes with this answer and these failures, which the books counted: a command is a step that gives the reply of that text; a list is answered, and where nothing is asked the line is unread, and then nothing happens.
 abbrev pub AskGoes : Option Ask → History → Stream → List ℕ → List Refusal → History → Stream → Type 0
-AskGoes (Some (ask.Command command)) h s text failed h' s' = (reply : Reply) × Steps h s command reply h' s' × (text ≡ reply_text reply) × (failed ≡ failure_in reply (copies command))
+AskGoes (Some (ask.Command command)) h s text failed h' s' = (reply : Reply) × Steps h s command reply h' s' × (text ≡ reply_text reply) × (failed ≡ counted_in reply (copies command))
 AskGoes (Some (ask.List its_list)) h s text failed h' s' = AnswersList h its_list text failed × (h' ≡ h) × (s' ≡ s)
 AskGoes None h s text failed h' s' = (text ≡ unread_text) × (failed ≡ []) × (h' ≡ h) × (s' ≡ s)
 

@@ -8,7 +8,7 @@ use Rattle.hotel_core.specs.Books.Lookups.{room_at}
 use Rattle.hotel_core.specs.Model.History.{History}
 use Rattle.hotel_core.specs.Model.Cases.{is_room}
 use Rattle.hotel_core.specs.Model.Run.{is_failed}
-use Rattle.hotel_core.specs.Books.Failures.{failure_in}
+use Rattle.hotel_desk.specs.Copies.{counted_in}
 use Rattle.hotel_core.specs.Texts.{reply_text}
 use Rattle.hotel_core.specs.Model.Lists.{arrivals, in_house, chain, left_behind, audit_of}
 use Rattle.hotel_core.specs.Refinement.ListsOnRows.{arrivals_on, in_house_on, chain_on, left_behind_on, audit_on}
@@ -28,7 +28,7 @@ IsWholeRows {R = R} header line rows text = (text ≡ []) ⊎ ((taken : List R) 
 
 -- The failures that the books counted where a list failed so. The memory of a row's text is the list's own: want of it isn't counted.
 abbrev pub failure_of : Refusal → List Refusal
-failure_of why = failure_in (Refused why) true
+failure_of why = counted_in (Refused why) true
 
 -- Whole rows of a list and then the line that memory or the store failed, with the failures that the books counted.
 abbrev pub IsCutShort : {R : Type 0} → List ℕ → (R → List ℕ) → List R → List ℕ → List Refusal → Type 0

@@ -6,8 +6,7 @@ use Rattle.hotel_core.specs.declared.reply.Reply.{Reply}
 use Rattle.hotel_core.specs.declared.reply.Refusal.{Refusal}
 use Rattle.hotel_core.specs.Model.History.{History}
 use Rattle.hotel_core.specs.Model.Run.{Runs}
-use Rattle.hotel_core.specs.Books.Failures.{failure_in}
-use Rattle.hotel_core.specs.Refinement.Stepping.{copies}
+use Rattle.hotel_desk.specs.Copies.{copies, counted_in}
 use Rattle.hotel_core.specs.Texts.{reply_text}
 use Rattle.hotel_desk.specs.Asks.{ask_in}
 use Rattle.hotel_desk.specs.declared.asks.Ask.{Ask}
@@ -38,7 +37,7 @@ abbrev pub failed_of : List (Option Ask) → List Reply → List (List ℕ × Li
 failed_of [] replies lists = []
 failed_of (None ∷ later) replies lists = failed_of later replies lists
 failed_of (Some (ask.Command command) ∷ later) [] lists = []
-failed_of (Some (ask.Command command) ∷ later) (reply ∷ replies) lists = failure_in reply (copies command) ++ failed_of later replies lists
+failed_of (Some (ask.Command command) ∷ later) (reply ∷ replies) lists = counted_in reply (copies command) ++ failed_of later replies lists
 failed_of (Some (ask.List its_list) ∷ later) replies [] = []
 failed_of (Some (ask.List its_list) ∷ later) replies (answer ∷ lists) = answer.1 ++ failed_of later replies lists
 

@@ -3,7 +3,7 @@
 ghost use Rattle.std.specs.Prelude.{◌≡◌, ◌≤◌, ◌<◌, Option, None, Some, IfSome, MatchOption, Result, length, map, take};
 ghost use Rattle.hotel_desk.specs.Asks.{words_and_rest, command_given, command_after, command_asked, list_given, ask_after, ask_in, ask_copies, IsLineRead};
 ghost use Rattle.hotel_core.specs.declared.command.Command.{Command};
-ghost use Rattle.hotel_core.specs.Refinement.Stepping.{copies};
+ghost use Rattle.hotel_desk.specs.Copies.{copies};
 ghost use Rattle.hotel_desk.specs.declared.values.ValueFault.{ValueFault};
 ghost use Rattle.hotel_desk.specs.Values.{IsReading};
 ghost use Rattle.hotel_desk.specs.ListAsks.{list_of, read_list_verb};

@@ -2,7 +2,7 @@
 
 ghost use Rattle.std.specs.Prelude.{◌≡◌, map};
 ghost use Rattle.hotel_desk.specs.Commands.{only_party, party_and_room, party_with_room, begin_of, add_kind_of, room_of_kind, add_room_of, booking_of, reserve_of, cancel_of, check_in_of, spare_of, transfer_of, check_out_of, next_day_of, entered_of, left_of, report_of, link_in, card_note_of, card_note, recoding_of, recoded_of};
-ghost use Rattle.hotel_core.specs.Refinement.Stepping.{copies};
+ghost use Rattle.hotel_desk.specs.Copies.{copies};
 ghost use Rattle.hotel_desk.specs.Values.{IsReading};
 ghost use Rattle.hotel_desk.specs.Verbs.{command_of};
 

@@ -1,6 +1,6 @@
 -- The cards inside a room, as a part of the pairs in order.
-use Rattle.std.proofs.Common.{ℕ, ◌≡◌, ◌≤◌, ◌<◌, Bool, true, false, cond, List, [], ◌∷◌, map, filter, refl, ap, sym, ◌∙◌, arith}
-use Rattle.std.specs.Prelude.{◌==◌, ◌&&◌, not}
+use Rattle.std.proofs.Common.{ℕ, ◌≡◌, ◌≤◌, ◌<◌, Bool, true, false, cond, Option, Some, None, is_some, List, [], ◌∷◌, map, filter, refl, ap, sym, ◌∙◌, arith}
+use Rattle.std.specs.Prelude.{◌==◌, ◌&&◌, ◌||◌, not}
 use Rattle.std.specs.Ordering.{nat_cmp, is_le, is_lt, is_eq, ordering_then, match_ordering, MatchOrdering}
 use Rattle.std.specs.declared.cmp.Ordering.{Ordering}
 use Rattle.std.specs.declared.cmp.Ordering.TheVariants.{Less, Equal, Greater}
@@ -11,10 +11,12 @@ use Rattle.std.specs.BTreeSet.{insert_key}
 use Rattle.std.specs.Cmp.{ranks}
 use Rattle.std.specs.Set as set
 use Rattle.keycard_rules.specs.Numbers.{IsNumberUpTo}
-use Rattle.hotel_core.specs.Model.Words.{pair_cmp, when, remove_key}
-use Rattle.hotel_core.specs.Model.Guests.{those_in}
+use Rattle.std.specs.List.{list_any}
+use Rattle.std.specs.Map.Iter.{TakesFirst}
+use Rattle.hotel_core.specs.Model.Words.{pair_cmp, when, remove_key, is_one_of}
+use Rattle.hotel_core.specs.Model.Guests.{those_in, are_none}
 use Rattle.hotel_core.specs.Memory.{HaveCardNumbers}
-use Rattle.hotel_core.proofs.OfTables.MapEntries.{at_is}
+use Rattle.hotel_core.proofs.OfTables.MapEntries.{at_is, pair_is}
 
 -- ---- changes keep the numbers
 
@@ -71,3 +73,24 @@ part_of_room room [] h = refl
 part_of_room room (e ∷ es) h =
     part_more (e.0 == room) e (filter (range_contains pair_cmp (Included (room, 1)) (Included (room, 9999999))) es) (those_in es room) (part_of_room room es h.1)
     ∙ ap (λ b. map (λ (p : ℕ × ℕ). p.1) (cond b (e ∷ filter (range_contains pair_cmp (Included (room, 1)) (Included (room, 9999999))) es) (filter (range_contains pair_cmp (Included (room, 1)) (Included (room, 9999999))) es))) (sym (in_part room e h.0))
+
+-- ---- one card
+
+when_has : (b : Bool) (n m : ℕ) (ns : List ℕ) → ((b && (m == n)) || list_any (λ k. k == n) ns) ≡ list_any (λ k. k == n) (when b (λ numbers. m ∷ numbers) ns)
+when_has true n m ns = refl
+when_has false n m ns = refl
+
+-- a card is inside a room where the pair of both is among the pairs
+pub known_inside : (pairs : List (ℕ × ℕ)) (room number : ℕ) → list_any (is_at (pair_cmp (room, number))) pairs ≡ is_one_of number (those_in pairs room)
+known_inside [] room number = refl
+known_inside (e ∷ es) room number =
+    ap (λ b. b || list_any (is_at (pair_cmp (room, number))) es) (pair_is room number e)
+    ∙ ap (λ b. ((e.0 == room) && (e.1 == number)) || b) (known_inside es room number)
+    ∙ when_has (e.0 == room) number e.1 (those_in es room)
+
+-- ---- any card
+
+-- of a front of pairs there is a first one where there is any card
+pub any_first : {A : Type 0} (shows : A → ℕ × ℕ) (pairs rest : List (ℕ × ℕ)) (first : Option A) → TakesFirst shows pairs first rest → is_some first ≡ not (are_none (map (λ (p : ℕ × ℕ). p.1) pairs))
+any_first shows pairs rest (Some e) h = ap (λ (es : List (ℕ × ℕ)). not (are_none (map (λ (p : ℕ × ℕ). p.1) es))) (sym h)
+any_first shows pairs rest None h = ap (λ (es : List (ℕ × ℕ)). not (are_none (map (λ (p : ℕ × ℕ). p.1) es))) (sym h.0)

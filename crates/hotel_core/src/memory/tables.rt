@@ -1,14 +1,17 @@
 //! The tables of books in memory, and what look-ups find there.
-ghost use Rattle.std.specs.Prelude.{◌≡◌, ℕ, ◌^◌, ◌<◌, length, IfOk};
+ghost use Rattle.std.specs.Prelude.{◌≡◌, ◌-◌, ℕ, ◌^◌, ◌<◌, length, IfOk, not};
 ghost use Rattle.std.specs.Map.{keys_of};
 ghost use Rattle.keycard_rules.specs.Draw.{is_among};
+ghost use Rattle.hotel_core.specs.Model.Words.{is_one_of};
+ghost use Rattle.hotel_core.specs.Model.Guests.{are_none};
 ghost use Rattle.hotel_core.specs.Model.Rows.{Rows, no_rows, at_number, has_kind};
-ghost use Rattle.hotel_core.specs.Books.Lookups.{room_at, codes_in, code_place, code_at, stay_at, stays_of_kind, card_at, inside_at, note_at, rooms_of_kind, number_after};
+ghost use Rattle.hotel_core.specs.Books.Lookups.{room_at, codes_in, code_place, code_at, stay_at, stays_of_kind, card_at, inside_at, note_at, rooms_of_kind, first_full_on, number_after};
 
 use crate::books::rows::{CodeRow, NextNumbers, RoomRow};
 use crate::memory::code_table::CodeTable;
 use crate::memory::inside_table::InsideTable;
 use crate::memory::note_table::NoteTable;
+use crate::memory::stay_table::StayTable;
 use hotel_nights::{Day, KindCode, Stay};
 use keycard_rules::{Card, CardNo, Code, Count, LockNote, Number, PartyNo, RoomNo};
 use std::alloc::{AllocError, Global};
@@ -23,7 +26,7 @@ pub(crate) struct Tables {
     pub(crate) kinds: BTreeSet<KindCode>,
     pub(crate) rooms: BTreeMap<RoomNo, RoomRow>,
     pub(crate) codes: CodeTable,
-    pub(crate) stays: BTreeMap<PartyNo, Stay>,
+    pub(crate) stays: StayTable,
     pub(crate) cards: BTreeMap<CardNo, Card>,
     pub(crate) inside: InsideTable,
     pub(crate) notes: NoteTable,
@@ -35,7 +38,7 @@ impl Model for Tables {
 
     ghost Value = { Rows };
 
-    ghost view = { λ t. record { day = t.day; kinds = t.kinds.keys; rooms = t.rooms.entries; codes = t.codes; stays = t.stays.entries; cards = t.cards.entries; inside = t.inside; notes = t.notes } };
+    ghost view = { λ t. record { day = t.day; kinds = t.kinds.keys; rooms = t.rooms.entries; codes = t.codes; stays = t.stays; cards = t.cards.entries; inside = t.inside; notes = t.notes } };
 
     ghost invariant = { λ t. LaterPlacesFree t.rooms.entries t.codes };
 }
@@ -60,7 +63,7 @@ impl Tables {
             kinds: BTreeSet::new(alloc),
             rooms: BTreeMap::new(alloc),
             codes: CodeTable::empty(alloc),
-            stays: BTreeMap::new(alloc),
+            stays: StayTable::empty(alloc),
             cards: BTreeMap::new(alloc),
             inside: InsideTable::empty(alloc),
             notes: NoteTable::empty(alloc),
@@ -107,7 +110,7 @@ impl Tables {
     pub(crate) fn stay(&self, party: PartyNo) -> Result<Option<Stay>, AllocError>
         ensures { IfOk result (λ stay. stay ≡ stay_at self.now party) }
     {
-        let Some(stay) = self.stays.get(&party) else {
+        let Some(stay) = self.stays.map().get(&party) else {
             return Ok(None);
         };
         Ok(Some(stay.clone()?))
@@ -118,12 +121,20 @@ impl Tables {
         ensures { IfOk result (λ stays. stays.items ≡ stays_of_kind self.now kind.now) }
     {
         let mut found = Vec::new(self.alloc);
-        for stay in self.stays.values() {
+        for stay in self.stays.map().values() {
             if stay.kind == *kind {
                 found.push(stay.clone()?)?;
             }
         }
         Ok(found)
+    }
+
+    /// The first night from `arrive` on and before `depart` on which the kind's rooms are all taken. It takes no memory.
+    pub(crate) fn full_night(&self, kind: &KindCode, arrive: Day, depart: Day) -> Option<Day>
+        ensures { result ≡ first_full_on self.now kind.now arrive (depart - arrive) }
+    {
+        let rooms = self.rooms_of_kind(kind);
+        self.stays.full_night(kind, rooms, arrive, depart)
     }
 
     pub(crate) fn card(&self, number: CardNo) -> Option<Card>
@@ -137,6 +148,18 @@ impl Tables {
         ensures { IfOk result (λ numbers. numbers.items ≡ inside_at self.now room) }
     {
         self.inside.at(self.alloc, room)
+    }
+
+    pub(crate) fn is_inside(&self, room: RoomNo, number: CardNo) -> bool
+        ensures { result ≡ is_one_of number (inside_at self.now room) }
+    {
+        self.inside.has(room, number)
+    }
+
+    pub(crate) fn has_inside(&self, room: RoomNo) -> bool
+        ensures { result ≡ not (are_none (inside_at self.now room)) }
+    {
+        self.inside.has_any(room)
     }
 
     pub(crate) fn note(&self, room: RoomNo, count: Count) -> Option<LockNote>
@@ -163,7 +186,7 @@ impl Tables {
         ensures { result ≡ record { party = number_after (length self.now.stays); card = number_after (length self.now.cards) } }
     {
         NextNumbers {
-            party: number_after(self.stays.len()),
+            party: number_after(self.stays.map().len()),
             card: number_after(self.cards.len()),
         }
     }

@@ -10,7 +10,7 @@ use crate::books::change::Change;
 use crate::books::rows::{CodeRow, NextNumbers, RoomRow};
 use crate::memory::list_books::ListBooks;
 use crate::stopping::calls::Calls;
-use hotel_nights::{Day, KindCode, Stay};
+use hotel_nights::{Day, Guest, KindCode, Stay};
 use keycard_rules::{Card, CardNo, Code, Count, Issued, LockNote, LookFault, PartyNo, RoomNo};
 use std::marker::Model;
 
@@ -185,6 +185,23 @@ impl Books for StoppingBooks {
         self.found(found)
     }
 
+    fn full_night(
+        &mut self,
+        kind: &KindCode,
+        arrive: Day,
+        depart: Day,
+    ) -> Result<Option<Day>, LookFault> {
+        self.begin()?;
+        let found = self.books.full_night(kind, arrive, depart);
+        self.found(found)
+    }
+
+    fn copy_guest(&mut self, guest: &Guest) -> Result<Guest, LookFault> {
+        self.begin()?;
+        let copy = self.books.copy_guest(guest);
+        self.found(copy)
+    }
+
     fn card(&mut self, number: CardNo) -> Result<Option<Card>, LookFault> {
         self.begin()?;
         let found = self.books.card(number);
@@ -194,6 +211,18 @@ impl Books for StoppingBooks {
     fn inside(&mut self, room: RoomNo) -> Result<Vec<CardNo>, LookFault> {
         self.begin()?;
         let found = self.books.inside(room);
+        self.found(found)
+    }
+
+    fn is_inside(&mut self, room: RoomNo, number: CardNo) -> Result<bool, LookFault> {
+        self.begin()?;
+        let found = self.books.is_inside(room, number);
+        self.found(found)
+    }
+
+    fn has_inside(&mut self, room: RoomNo) -> Result<bool, LookFault> {
+        self.begin()?;
+        let found = self.books.has_inside(room);
         self.found(found)
     }
 

@@ -14,8 +14,7 @@ invariant-loop-command g l =
     record {
       was_clean : is_clean l.books → is_clean l.fn.books;
       counted : NoFewer (g.B.Issued.failures l.fn.books) (g.B.Issued.failures l.books);
-      failed : is_clean l.books → AreCounted (g.B.Issued.failures l.fn.books) (g.B.Issued.failures l.books) (failures_in (take l.command-index l.commands) l.replies.items);
-      as_many : length l.replies.items ≡ l.command-index;
+      failed : is_clean l.books → AreCounted (g.B.Issued.failures l.fn.books) (g.B.Issued.failures l.books) (failures_in l.replies.items);
       room : length l.commands ≤ vec_capacity l.replies;
       answered : vec_len l.replies ≡ l.command-index;
       ran : is_clean l.books → (h : History) → StandsFor h (rows l.fn.books) →

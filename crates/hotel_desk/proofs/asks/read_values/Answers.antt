@@ -1,6 +1,6 @@
 -- The values that were found are those of the verb.
 use Rattle.std.proofs.Common.{◌≡◌, ◌≢◌, ℕ, List, refl, subst, ◌∙◌}
-use Rattle.hotel_core.specs.Refinement.Stepping.{copies}
+use Rattle.hotel_desk.specs.Copies.{copies}
 use Rattle.hotel_desk.specs.Asks.{values_after, words_and_rest, command_given, IsLineRead}
 use Rattle.hotel_desk.specs.Verbs.{command_of}
 use Rattle.hotel_desk.specs.Words.{words}

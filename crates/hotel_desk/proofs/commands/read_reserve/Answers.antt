@@ -1,7 +1,7 @@
 -- Four values are those of a booking, and other numbers of values are none.
 use Rattle.std.proofs.Common.{◌≡◌, ◌≢◌, ℕ, List, [], ◌∷◌, length, map, get_or, refl, arith, Err, Bor, Result, subst}
 use Rattle.hotel_core.specs.declared.command.Command.{Command}
-use Rattle.hotel_core.specs.Refinement.Stepping.{copies}
+use Rattle.hotel_desk.specs.Copies.{copies}
 use Rattle.hotel_desk.specs.declared.values.ValueFault.{ValueFault}
 use Rattle.hotel_desk.specs.declared.values.ValueFault.TheVariants.{Number}
 use Rattle.hotel_desk.specs.Commands.{reserve_of, booking_of}

@@ -37,10 +37,10 @@ pub returns-in_default-insert-clause-err : goal.returns-in_default-insert-clause
 returns-in_default-insert-clause-err c =
     let absent = ap (λ rows. code_place rows c.args.card.now.link.new_code) c.self.view_is ∙ c.requires.new_code in
     let t = c.self.inside in
-    let before : List (ℕ × CodeRow) → Rows = λ codes. record { day = t.day; kinds = t.kinds.keys; rooms = t.rooms.entries; codes = codes; stays = t.stays.entries; cards = c.insert-2.new.self.entries; inside = t.inside; notes = t.notes } in
+    let before : List (ℕ × CodeRow) → Rows = λ codes. record { day = t.day; kinds = t.kinds.keys; rooms = t.rooms.entries; codes = codes; stays = t.stays; cards = c.insert-2.new.self.entries; inside = t.inside; notes = t.notes } in
     ap before (c.remove.ensures ∙ ap (remove_entry (is_at (nat_cmp c.args.card.now.link.new_code))) c.in-Ok.ensures.ok
     ∙ taken_back nat_cmp nat_cmp_total c.args.card.now.link.new_code (record { room = c.args.room; place = c.codes_issued-place.result }) c.self.inside.codes absent)
-    ∙ ap (λ cards. let rows : Rows = record { day = t.day; kinds = t.kinds.keys; rooms = t.rooms.entries; codes = t.codes; stays = t.stays.entries; cards = cards; inside = t.inside; notes = t.notes } in rows) c.in_default-insert.ensures.err
+    ∙ ap (λ cards. let rows : Rows = record { day = t.day; kinds = t.kinds.keys; rooms = t.rooms.entries; codes = t.codes; stays = t.stays; cards = cards; inside = t.inside; notes = t.notes } in rows) c.in_default-insert.ensures.err
     ∙ c.self.view_is
 
 pub issue_at-requires : goal.issue_at-requires

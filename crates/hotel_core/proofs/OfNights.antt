@@ -1,0 +1,3 @@
+pub mod NightCounts
+pub mod NightsInOrder
+pub mod NightsStanding
