@@ -2,5 +2,6 @@ pub mod Model
 pub mod Books
 pub mod Refinement
 pub mod Memory
+pub mod Stopping
 pub mod NightIndex
 pub mod Texts

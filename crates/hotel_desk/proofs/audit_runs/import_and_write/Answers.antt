@@ -16,7 +16,8 @@ returns-in-Err-clause-ends g c =
       ap (λ f. Err f) c.import_fault.ensures,
       refl,
       record {
-        went = e.stopped;
+        went = e.imported;
+        no_file = e.no_file;
         was_clean = e.was_clean;
         counted = e.counted;
         failed = e.failed;
@@ -35,6 +36,7 @@ returns-in-Ok-write_answers-clause-ends g c =
       subst (λ (l : List LineAnswer). Appends old new (answers_text 1 l)) items c.in-Ok-write_answers.ensures.ok,
       record {
         went = e.imported;
+        no_file = tt;
         was_clean = e.was_clean;
         counted = e.counted;
         failed = tt;
@@ -53,6 +55,7 @@ returns-clause-ends g c =
       subst (λ (l : List LineAnswer). AppendsFront old new (answers_text 1 l)) items c.in-Err-write_answers.ensures.err,
       record {
         went = e.imported;
+        no_file = tt;
         was_clean = e.was_clean;
         counted = e.counted;
         failed = tt;
