@@ -128,8 +128,6 @@ pub fn run_script<I: Read, W: Write, B: Walks, R: Rng>(
 #[cfg(test)]
 mod chains_beside;
 #[cfg(test)]
-mod scenarios;
-#[cfg(test)]
 mod tests;
 #[cfg(test)]
 mod three_hundred_rooms;
