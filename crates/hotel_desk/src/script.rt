@@ -128,8 +128,6 @@ mod chains_beside;
 #[cfg(test)]
 mod greatest_sizes;
 #[cfg(test)]
-mod scenarios;
-#[cfg(test)]
 mod tests;
 #[cfg(test)]
 mod three_hundred_rooms;
