@@ -5,3 +5,4 @@ pub mod ListAnswerLemmas
 pub mod ListRunLemmas
 pub mod AuditRunLemmas
 pub mod ScriptRunLemmas
+pub mod ProgramLemmas
