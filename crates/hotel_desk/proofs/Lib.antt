@@ -7,3 +7,4 @@ pub mod LineAnswerLemmas
 pub mod ListRunLemmas
 pub mod AuditRunLemmas
 pub mod ScriptRunLemmas
+pub mod ProgramLemmas

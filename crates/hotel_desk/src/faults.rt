@@ -1,4 +1,4 @@
-//! Faults of the desk's calls: what is said of each, and where it is said.
+//! Faults of the program and of its calls: what is said of each, where it is said, and its exit status.
 
 ghost use Rattle.std.specs.Prelude.{◌≡◌, true, OnOk, OnErr};
 ghost use Rattle.std.specs.Io.KnownBytes.{Appends};
@@ -6,21 +6,25 @@ ghost use Rattle.hotel_lists.specs.Calls.{NoneForgotten};
 ghost use Rattle.hotel_lists.specs.Bytes.{AppendsFront};
 ghost use Rattle.hotel_desk.specs.Faults.{cause_text, fault_text, fault_status, end_status, Tells};
 
-use crate::statuses::{BROKEN, FAILED};
+use crate::statuses::{BROKEN, FAILED, USAGE};
 use hotel_lists::{IoCalls, WriteFailed, write_bytes, write_parts};
 use keycard_rules::LookFault;
 use std::io::Write;
 
-/// Why a call didn't do its work to the end.
+/// Why the program or a call of it didn't do its work to the end.
 #[derive(Clone, Copy, Debug, PartialEq, Eq)]
 pub enum Fault {
+    /// The program was given words that it doesn't take.
+    Usage,
     /// A growth of memory was refused.
     Memory,
     /// A call of the store failed.
     Store,
+    /// A read failed.
+    Read,
     /// A write failed.
     Write,
-    /// An audit file has too many bytes.
+    /// A script or an audit file has too many bytes.
     TooLarge,
     /// An audit file has no record.
     NoHeader,
@@ -36,6 +40,7 @@ impl Fault {
         ensures { result ≡ fault_status self.now }
     {
         match self {
+            Fault::Usage => USAGE,
             Fault::Memory | Fault::Store | Fault::Stopped { .. } => FAILED,
             _ => BROKEN,
         }
@@ -82,8 +87,10 @@ fn write_fault<W: Write>(
     ensures calls { NoneForgotten calls.old calls.new }
 {
     match fault {
+        Fault::Usage => write_bytes(writer, b"usage\n", calls),
         Fault::Memory => write_bytes(writer, b"memory\n", calls),
         Fault::Store => write_bytes(writer, b"store\n", calls),
+        Fault::Read => write_bytes(writer, b"read\n", calls),
         Fault::Write => write_bytes(writer, b"write\n", calls),
         Fault::TooLarge => write_bytes(writer, b"too large\n", calls),
         Fault::NoHeader => write_bytes(writer, b"no header\n", calls),
