@@ -1,5 +1,5 @@
 use Rattle.hotel_nights.specs.FullNight.{nights_taken, first_day}
-use Rattle.std.proofs.Common.{refl, ◌≡◌, ℕ, true, List, [], ◌∷◌, ap, ◌∙◌, Bool, Option, Some, None}
+use Rattle.std.proofs.Common.{refl, ◌≡◌, ℕ, List, [], ◌∷◌, ap, ◌∙◌, Bool, Option, Some, None}
 use Rattle.std.specs.Prelude.{option_map, length, nat_le}
 use Rattle.hotel_nights.specs.declared.stay.Stay.{Stay}
 use Rattle.hotel_core.specs.Model.Event.{Event}
