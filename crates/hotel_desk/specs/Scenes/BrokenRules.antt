@@ -1,7 +1,7 @@
 -- Rows of which one rule fails: sound rows with one thing changed, and the rules that fail of them, by their names in `IsSound`.
 -- Three rules fail with another one: a room has more codes than the cards allow only where its places or its neighbours fail; so many notes aren't kept here; and cards of a
 -- newest link with another party than the room's have two parties. That parties or cards are more than 9,999,999 isn't computed.
-use Rattle.std.specs.Prelude.{ℕ, ◌≡◌, Bool, true, false, not, List, [], ◌∷◌, ◌++◌, ◌+◌, ◌==◌, ◌&&◌, ◌^◌, Option, Some, None, codes, map, filter, replicate}
+use Rattle.std.specs.Prelude.{ℕ, ◌≡◌, Bool, true, false, not, List, [], ◌∷◌, ◌++◌, ◌+◌, ◌==◌, ◌^◌, Option, Some, None, codes, map, filter, replicate}
 use Rattle.std.specs.List.{list_all}
 use Rattle.keycard_rules.specs.declared.card.Card.{Card}
 use Rattle.keycard_rules.specs.Note.{Note}

@@ -1,7 +1,7 @@
 -- Two refusals at once. Two reasons to be refused hold of each line: the first in the order of the command's checks is the reply, and the other stands beside it.
 -- Of two neighbours in that order these can't hold together: a kind is there only once a day is set (AddKind); today isn't before a stay and after it (CheckIn: TooEarly, StayOver);
 -- a party is in a room of its kind alone (Transfer: WrongKind, SameRoom); without a day today isn't the last one (NextDay); a count isn't both taken and after the next one (Conflict, Gap).
-use Rattle.std.specs.Prelude.{ℕ, ◌≡◌, true, List, [], ◌∷◌, Some, None}
+use Rattle.std.specs.Prelude.{ℕ, ◌≡◌, List, [], ◌∷◌, Some, None, length}
 use Rattle.keycard_rules.specs.declared.card.Card.{Card}
 use Rattle.hotel_nights.specs.declared.stay.Stay.{Stay}
 use Rattle.hotel_core.specs.declared.reply.Refusal.TheVariants.{NotBegun, AlreadyBegun, KindExists, NoKind, RoomExists, NoRoom, NoParty, NotBooked, NotInHouse, TooEarly, StayOver, WrongKind, SameRoom, RoomTaken, PastArrival, PastEnd, KindFull, NumbersUsedUp, NoFreshCode, LastDay, Conflict, Gap, NoCard, CardDiffers, LockShut, NotInside, HeldDiffers, NotAwaited}
@@ -10,7 +10,6 @@ use Rattle.hotel_core.specs.declared.command.Command.{Command}
 use Rattle.hotel_core.specs.Model.Rows.{no_rows}
 use Rattle.hotel_core.specs.Model.History.{History, start}
 use Rattle.hotel_core.specs.Model.Stays.{first_full}
-use Rattle.hotel_core.specs.Model.Cases.{cards_used_up, parties_used_up}
 use Rattle.hotel_core.specs.Model.Outcome as outcome
 use Rattle.hotel_core.specs.Model.Answer.{answer_to}
 use Rattle.hotel_core.specs.Model.RowsOf.{rows_of}
@@ -150,7 +149,7 @@ IsRefused h command refusal = answer_to h busy.ahead command ≡ outcome.refused
 -- Where 9,999,999 cards were given: the reasons that come before, and then NumbersUsedUp, before NoFreshCode.
 abbrev pub CardsEnd : Type 0
 CardsEnd =
-    (cards : List (ℕ × Card)) → cards_used_up (with_cards cards) ≡ true
+    (cards : List (ℕ × Card)) → length cards ≡ 9999999
     → IsRefused (with_cards cards) (check_in 6 101) RoomTaken × IsRefused (with_cards cards) (check_in 6 102) NumbersUsedUp
     × IsRefused (with_cards cards) (spare 6) NotInHouse × IsRefused (with_cards cards) (spare 1) NumbersUsedUp
     × IsRefused (with_cards cards) (transfer 1 103) RoomTaken × IsRefused (with_cards cards) (transfer 1 102) NumbersUsedUp
@@ -158,7 +157,7 @@ CardsEnd =
 -- Where 9,999,999 parties were given: KindFull comes before.
 abbrev pub PartiesEnd : Type 0
 PartiesEnd =
-    (stays : List (ℕ × Stay)) → parties_used_up (with_stays stays) ≡ true
+    (stays : List (ℕ × Stay)) → length stays ≡ 9999999
     → (first_full (with_stays stays) DBL (may 2) 1 ≡ Some (may 2) → IsRefused (with_stays stays) (reserve DBL (may 2) 1 guest) (KindFull (may 2)))
     × (first_full (with_stays stays) DBL (may 2) 1 ≡ None → IsRefused (with_stays stays) (reserve DBL (may 2) 1 guest) NumbersUsedUp)
 

@@ -2,8 +2,6 @@ use Rattle.hotel_nights.specs.FullNight.{nights_taken, first_day}
 use Rattle.std.proofs.Common.{refl}
 use Rattle.std.specs.Str.{is_utf8, chars}
 use lib.Utf8.{encode}
-use Rattle.hotel_core.specs.Model.Answer.{answer_to}
-use Rattle.keycard_rules.specs.Draw.{draw_from}
 use Rattle.hotel_desk.proofs.scenes.broken_rules.Goals as goal
 
 pub returns-clause-by_name : goal.returns-clause-by_name

@@ -1,6 +1,6 @@
 use Rattle.hotel_nights.specs.FullNight.{nights_taken, first_day}
-use Rattle.std.proofs.Common.{refl, ◌≡◌, ℕ, true, List, [], ◌∷◌, ap, ◌∙◌, Bool, Option, Some, None}
-use Rattle.std.specs.Prelude.{option_map}
+use Rattle.std.proofs.Common.{refl, ◌≡◌, ℕ, List, [], ◌∷◌, ap, ◌∙◌, Bool, Option, Some, None}
+use Rattle.std.specs.Prelude.{option_map, length, nat_le}
 use Rattle.hotel_nights.specs.declared.stay.Stay.{Stay}
 use Rattle.hotel_core.specs.Model.Event.{Event}
 use Rattle.hotel_core.specs.Model.History.{History}
@@ -24,9 +24,9 @@ unfolding answer_to draw_from nights_taken first_day is_utf8 chars encode
 returns-clause-at_once c = ((refl, refl, refl), refl, refl, refl, refl, refl, refl, refl, refl)
 
 -- Where the numbers of cards are all that is left to check, and are used up.
-cards_end : (command : Command) (cards : List (ℕ × Card)) → cards_used_up (with_cards cards) ≡ true
+cards_end : (command : Command) (cards : List (ℕ × Card)) → length cards ≡ 9999999
     → unless (bars (cards_used_up (with_cards cards)) NumbersUsedUp ∷ []) (effect (with_cards cards) busy.ahead command) ≡ refused NumbersUsedUp
-cards_end command cards full = ap (λ b. unless (bars b NumbersUsedUp ∷ []) (effect (with_cards cards) busy.ahead command)) full
+cards_end command cards full = ap (λ b. unless (bars b NumbersUsedUp ∷ []) (effect (with_cards cards) busy.ahead command)) (ap (λ n. nat_le 9999999 n) full)
 
 pub returns-clause-cards_used_up : goal.returns-clause-cards_used_up
 unfolding answer_to draw_from nights_taken first_day is_utf8 chars encode
@@ -45,9 +45,9 @@ night_full : (stays : List (ℕ × Stay)) → first_full (with_stays stays) DBL 
     → answer_to (with_stays stays) busy.ahead (reserve DBL (may 2) 1 guest) ≡ refused (KindFull (may 2))
 night_full stays night = is_left stays ∙ ap (λ o. left (with_stays stays) o (parties_used_up (with_stays stays))) night
 
-parties_end : (stays : List (ℕ × Stay)) → parties_used_up (with_stays stays) ≡ true → first_full (with_stays stays) DBL (may 2) 1 ≡ None
+parties_end : (stays : List (ℕ × Stay)) → length stays ≡ 9999999 → first_full (with_stays stays) DBL (may 2) 1 ≡ None
     → answer_to (with_stays stays) busy.ahead (reserve DBL (may 2) 1 guest) ≡ refused NumbersUsedUp
-parties_end stays full free = is_left stays ∙ ap (λ o. left (with_stays stays) o (parties_used_up (with_stays stays))) free ∙ ap (λ b. left (with_stays stays) None b) full
+parties_end stays full free = is_left stays ∙ ap (λ o. left (with_stays stays) o (parties_used_up (with_stays stays))) free ∙ ap (λ n. left (with_stays stays) None (nat_le 9999999 n)) full
 
 pub returns-clause-parties_used_up : goal.returns-clause-parties_used_up
 returns-clause-parties_used_up c = λ stays full. (night_full stays, parties_end stays full)
