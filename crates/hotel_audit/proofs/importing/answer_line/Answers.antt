@@ -1,8 +1,5 @@
 use Rattle.std.proofs.Common.{◌≡◌, ◌∙◌, refl, subst}
 use Rattle.std.specs.Prelude.{Result, Ok, Err, IfOk, IfErr, OnErr}
-use Rattle.keycard_rules.specs.Draw.{words}
-use Rattle.hotel_core.specs.declared.command.Command.TheVariants as command
-use Rattle.hotel_core.specs.Refinement.OnRows.{outcome_on}
 use Rattle.hotel_core.specs.Books.Failures.{AreCounted}
 use Rattle.hotel_audit.proofs.Imports.{lead-note, lead-unread}
 use Rattle.hotel_audit.proofs.NoteReplies.{answered_reply, failed_reply, failure_told}
