@@ -4,4 +4,5 @@ pub mod Refinement
 pub mod Memory
 pub mod Stopping
 pub mod NightIndex
+pub mod KindRooms
 pub mod Texts
