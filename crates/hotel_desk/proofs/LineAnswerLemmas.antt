@@ -6,16 +6,16 @@ use Rattle.hotel_core.specs.declared.command.Command.{Command}
 use Rattle.hotel_core.specs.declared.reply.Reply.{Reply}
 use Rattle.hotel_core.specs.declared.reply.Refusal.{Refusal}
 use Rattle.hotel_core.specs.declared.reply.Refusal.TheVariants as refusal
-use Rattle.hotel_core.specs.Books.Failures.{failure_in}
+use Rattle.hotel_desk.specs.Copies.{counted_in}
 use Rattle.hotel_core.specs.Model.Leads.{Leads}
 use Rattle.hotel_core.specs.Model.Rows.{Rows}
 use Rattle.hotel_core.specs.Model.Run.{StandsFor, Steps}
-use Rattle.hotel_asks.specs.Asks.{copies}
+use Rattle.hotel_asks.specs.Asks.{copies, ask_copies}
 use Rattle.hotel_core.specs.Texts.{reply_text}
 use Rattle.hotel_asks.specs.declared.asks.Ask.{Ask}
 use Rattle.hotel_asks.specs.declared.asks.Ask.TheVariants as ask
 use Rattle.hotel_asks.specs.declared.lists.ListAsk.{ListAsk}
-use Rattle.hotel_desk.specs.Asks.{ask_copies, AsksCopy}
+use Rattle.hotel_desk.specs.Asks.{AsksCopy}
 use Rattle.hotel_desk.specs.LineAnswers.{AskGoes, AskAnswered, unread_text}
 use Rattle.hotel_desk.specs.ListAnswers.{refusal_text, AnswersList, ListAnswered}
 use Rattle.hotel_desk.specs.Listings.{Listing, listing_on}
@@ -24,11 +24,11 @@ use Rattle.hotel_desk.proofs.ScriptLemmas.{ask_without_memory}
 
 -- a command is carried out
 pub command_answered : (rows after : Rows) (s t : Stream) (command : Command) (reply : Reply) (wrote : List ℕ → Type 0) (counted : List Refusal → Type 0)
-    → Leads rows (λ h h'. Steps h s command reply h' t) after → counted (failure_in reply (copies command)) → wrote (reply_text reply)
+    → Leads rows (λ h h'. Steps h s command reply h' t) after → counted (counted_in reply (copies command)) → wrote (reply_text reply)
     → Leads rows (AskAnswered (Some (ask.Command command)) s t wrote counted) after
 command_answered rows after s t command reply wrote counted step failed written = λ h stands.
     let p = step h stands in
-    (p.0, p.1, (reply_text reply, failure_in reply (copies command), (reply, p.2, refl, refl), written, failed), p.3)
+    (p.0, p.1, (reply_text reply, counted_in reply (copies command), (reply, p.2, refl, refl), written, failed), p.3)
 
 -- a list is answered, and nothing happens
 pub list_answered : (wanted : Option Ask) (rows after : Rows) (s : Stream) (its_list : ListAsk) (wrote : List ℕ → Type 0) (counted : List Refusal → Type 0)
