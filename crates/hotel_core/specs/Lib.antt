@@ -3,4 +3,5 @@ pub mod Books
 pub mod Refinement
 pub mod Memory
 pub mod NightIndex
+pub mod KindRooms
 pub mod Texts

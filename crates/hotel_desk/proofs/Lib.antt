@@ -1,5 +1,6 @@
 pub mod ReturnLemmas
 pub mod WordLemmas
+pub mod CountedLemmas
 pub mod ScriptLemmas
 pub mod ListAnswerLemmas
 pub mod ListRunLemmas

@@ -16,4 +16,4 @@ copies _ = false
 -- The failure that a reply tells, where it is known that the books counted it: a line that copies may itself lack the memory.
 abbrev pub counted_in : Reply → Bool → List Refusal
 counted_in (Refused Memory) true = []
-counted_in reply copied = failure_in reply
+counted_in answer copied = failure_in answer

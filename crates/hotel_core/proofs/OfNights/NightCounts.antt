@@ -33,7 +33,7 @@ same_night counts kind n k d h =
 abbrev pub Sets : List ((List ℕ × ℕ) × ℕ) → List ((List ℕ × ℕ) × ℕ) → List ℕ → ℕ → Option ℕ → Type 0
 Sets before after kind n w = (q : List ℕ × ℕ) → lookup (is_at (night_cmp q)) after ≡ cond (is_at (night_cmp (kind, n)) q) w (lookup (is_at (night_cmp q)) before)
 
-taken_in : (b : Bool) (w o : Option ℕ) → unwrap_or (cond b w o) 0 ≡ cond b (unwrap_or w 0) (unwrap_or o 0)
+pub taken_in : (b : Bool) (w o : Option ℕ) → unwrap_or (cond b w o) 0 ≡ cond b (unwrap_or w 0) (unwrap_or o 0)
 taken_in true w o = refl
 taken_in false w o = refl
 
@@ -43,7 +43,7 @@ set_at before after kind n w u k d =
     ap (λ o. unwrap_or o 0) (u (k, d)) ∙ taken_in (is_at (night_cmp (kind, n)) (k, d)) w (lookup (is_at (night_cmp (k, d))) before)
     ∙ ap (λ b. cond b (unwrap_or w 0) (counted before k d)) (night_is kind n k d)
 
-more_by : (b : Bool) (x y : ℕ) → (b ≡ true → x ≡ y) → cond b (x + 1) y ≡ y + one_if b
+pub more_by : (b : Bool) (x y : ℕ) → (b ≡ true → x ≡ y) → cond b (x + 1) y ≡ y + one_if b
 more_by true x y e = ap (λ z. z + 1) (e refl)
 more_by false x y e = omega arith
 

@@ -83,7 +83,7 @@ module _ {K X : Type 0} (cmp : K → K → Ordering) (total : IsTotalOrder cmp) 
   found [] = ap (λ b. cond b (Some v) None) (at_self total k)
   found (x ∷ xs) = found_by (cmp k x.0) x xs refl (found xs)
 
-known_by : {X : Type 0} (b : Bool) (x : X) (rest : Option X) (any : Bool) → is_some rest ≡ any → is_some (cond b (Some x) rest) ≡ (b || any)
+pub known_by : {X : Type 0} (b : Bool) (x : X) (rest : Option X) (any : Bool) → is_some rest ≡ any → is_some (cond b (Some x) rest) ≡ (b || any)
 known_by true x rest any e = refl
 known_by false x rest any e = e
 

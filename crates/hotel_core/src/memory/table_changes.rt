@@ -9,6 +9,7 @@ ghost use Rattle.hotel_core.specs.Books.Change.{made, codes_of};
 ghost use Rattle.hotel_nights.specs.FullNight.{is_standing};
 ghost use Rattle.hotel_nights.specs.declared.stay.StayState.TheVariants as state;
 ghost use Rattle.hotel_core.specs.Model.Words.{said_of};
+ghost use Rattle.hotel_core.specs.Model.Rows.{has_kind};
 ghost use Rattle.hotel_core.specs.Books.Fits.{HasItsRows, takes_memory};
 
 use crate::books::change::{Change, InsideMove};
@@ -64,13 +65,14 @@ impl Tables {
     }
 
     pub(crate) fn add_kind(&mut self, kind: KindCode) -> Result<(), Memory>
+        requires { has_kind self.old kind ≡ false }
         ensures ok { OnOk result (self.new ≡ made (change.Kind kind) self.old) }
         ensures err { OnErr result (self.new ≡ self.old) }
     {
-        match self.kinds.insert(kind) {
-            Ok(_) => Ok(()),
-            Err(_) => Err(Memory),
-        }
+        let Ok(()) = self.kinds.add_kind(kind) else {
+            return Err(Memory);
+        };
+        Ok(())
     }
 
     /// Adds a room and its first code.
@@ -80,6 +82,7 @@ impl Tables {
         kind: KindCode,
         code: Code,
     ) -> Result<(), Memory>
+        requires there { has_kind self.old kind ≡ true }
         requires new_room { room_at self.old room ≡ None }
         requires new_code { code_place self.old code ≡ None }
         ensures ok { OnOk result (self.new ≡ made (change.Room room kind code) self.old) }
@@ -101,6 +104,8 @@ impl Tables {
             self.rooms.remove(&room);
             return Err(Memory);
         };
+        let _in_range = room.value();
+        self.kinds.add_room(&kind);
         Ok(())
     }
 

@@ -8,6 +8,7 @@ ghost use Rattle.hotel_core.specs.Model.Rows.{Rows, no_rows, at_number, has_kind
 ghost use Rattle.hotel_core.specs.Books.Lookups.{room_at, codes_in, code_place, code_at, stay_at, stays_of_kind, card_at, inside_at, note_at, rooms_of_kind, first_full_on, number_after};
 
 use crate::books::rows::{CodeRow, NextNumbers, RoomRow};
+use crate::kind_rooms::KindRooms;
 use crate::memory::code_table::CodeTable;
 use crate::memory::inside_table::InsideTable;
 use crate::memory::note_table::NoteTable;
@@ -15,7 +16,7 @@ use crate::memory::stay_table::StayTable;
 use hotel_nights::{Day, KindCode, Stay};
 use keycard_rules::{Card, CardNo, Code, Count, LockNote, Number, PartyNo, RoomNo};
 use std::alloc::{AllocError, Global};
-use std::collections::{BTreeMap, BTreeSet};
+use std::collections::BTreeMap;
 use std::marker::Model;
 
 /// The eight tables.
@@ -23,7 +24,7 @@ use std::marker::Model;
 pub(crate) struct Tables {
     pub(crate) alloc: Global,
     pub(crate) day: Option<Day>,
-    pub(crate) kinds: BTreeSet<KindCode>,
+    pub(crate) kinds: KindRooms,
     pub(crate) rooms: BTreeMap<RoomNo, RoomRow>,
     pub(crate) codes: CodeTable,
     pub(crate) stays: StayTable,
@@ -34,13 +35,14 @@ pub(crate) struct Tables {
 
 impl Model for Tables {
     ghost use Rattle.hotel_core.specs.Model.Rows.{Rows};
-    ghost use Rattle.hotel_core.specs.Memory.{LaterPlacesFree};
+    ghost use Rattle.std.specs.Map.{keys_of};
+    ghost use Rattle.hotel_core.specs.Memory.{TablesAgree};
 
     ghost Value = { Rows };
 
-    ghost view = { λ t. record { day = t.day; kinds = t.kinds.keys; rooms = t.rooms.entries; codes = t.codes; stays = t.stays; cards = t.cards.entries; inside = t.inside; notes = t.notes } };
+    ghost view = { λ t. record { day = t.day; kinds = keys_of t.kinds; rooms = t.rooms.entries; codes = t.codes; stays = t.stays; cards = t.cards.entries; inside = t.inside; notes = t.notes } };
 
-    ghost invariant = { λ t. LaterPlacesFree t.rooms.entries t.codes };
+    ghost invariant = { λ t. TablesAgree t.kinds t.rooms.entries t.codes };
 }
 
 /// The number after so many that were given, up to 9,999,999.
@@ -60,7 +62,7 @@ impl Tables {
         Tables {
             alloc,
             day: None,
-            kinds: BTreeSet::new(alloc),
+            kinds: KindRooms::empty(alloc),
             rooms: BTreeMap::new(alloc),
             codes: CodeTable::empty(alloc),
             stays: StayTable::empty(alloc),
@@ -79,7 +81,7 @@ impl Tables {
     pub(crate) fn has_kind(&self, kind: &KindCode) -> bool
         ensures { result ≡ has_kind self.now kind.now }
     {
-        self.kinds.contains(kind)
+        self.kinds.has(kind)
     }
 
     pub(crate) fn room(&self, room: RoomNo) -> Option<RoomRow>
@@ -171,15 +173,7 @@ impl Tables {
     pub(crate) fn rooms_of_kind(&self, kind: &KindCode) -> u32
         ensures { result ≡ rooms_of_kind self.now kind.now }
     {
-        let mut count = 0u32;
-        for (room, row) in &self.rooms {
-            // The rooms before this one are fewer than its number, so the count fits.
-            let _most = room.value();
-            if row.kind == *kind {
-                count += 1;
-            }
-        }
-        count
+        self.kinds.rooms(kind)
     }
 
     pub(crate) fn next_numbers(&self) -> NextNumbers
