@@ -31,13 +31,14 @@ pub struct ScriptEnd {
 pub enum ScriptFault {
     /// A read failed; no line was begun.
     Read,
-    /// It has more than `SCRIPT_LIMIT` bytes; no line was begun.
+    /// It has more than 1,048,576 bytes; no line was begun.
     TooLarge,
     /// A growth of memory for its bytes was refused; no line was begun.
     Memory,
     /// A write failed.
     Write {
-        /// How many lines were carried out. The answer of the last of them was not written to its end.
+        /// How many lines were carried out, at least one. The answers of those before the last one were
+        /// written whole; of the last one's answer a front was.
         done: u32,
     },
 }
