@@ -1,6 +1,6 @@
 -- The answer to a list, as it is written.
-use Rattle.std.proofs.Common.{◌≡◌, ℕ, zero, suc, List, [], ◌∷◌, ◌++◌, map, true, refl, sym, ap, subst, ◌∙◌, arith, Option, Some, None, Result, Ok, Err, inl, inr}
-use Rattle.std.specs.Prelude.{OnOk, OnErr, is_some}
+use Rattle.std.proofs.Common.{◌≡◌, ℕ, List, [], ◌∷◌, ◌++◌, map, true, refl, sym, ap, subst, ◌∙◌, arith, Option, Some, None, Result, Ok, Err, inl, inr}
+use Rattle.std.specs.Prelude.{◌≢◌, Bool, false, OnOk, OnErr, is_some}
 use Rattle.std.specs.List.{concat, flat_map}
 use Rattle.std.proofs.lemmas.List.{map-append}
 use Rattle.std.specs.Io.KnownBytes.{Appends, Keeps}
@@ -44,14 +44,27 @@ rows_front old new header line rows (inr p) = (
   subst (Appends old new) (lines_text header line p.0) p.3,
 )
 
+-- a text has a byte
+abbrev pub has_byte : List ℕ → Bool
+has_byte [] = false
+has_byte (b ∷ text) = true
+
+pub is_text : (text : List ℕ) → has_byte text ≡ true → text ≢ []
+is_text [] h = cc h
+is_text (b ∷ text) h = λ e. cc e
+
+more_text : (text more : List ℕ) → has_byte text ≡ true → has_byte (text ++ more) ≡ true
+more_text [] more h = cc h
+more_text (b ∷ text) more h = refl
+
 -- a list that is there
 pub list_ends : {R : Type 0} (old new : Option (List ℕ)) (header : List ℕ) (line : R → List ℕ) (rows : List R) (result : Result (Unit {0}) ListFault)
-    → (result ≡ Err fault.NoRoom → ⊥) → Lists old new header line rows result → ListEnds [] (Some (listing header line rows)) old new result
-list_ends old new header line rows (Ok done) there p = (refl, subst (Appends old new) (lines_text header line rows) p)
-list_ends old new header line rows (Err fault.NoRoom) there p = absurd (there refl)
-list_ends old new header line rows (Err fault.Write) there p = subst (AppendsFront old new) (lines_text header line rows) p
-list_ends old new header line rows (Err fault.Memory) there p = rows_front old new header line rows p
-list_ends old new header line rows (Err fault.Store) there p = rows_front old new header line rows p
+    → has_byte header ≡ true → (result ≡ Err fault.NoRoom → ⊥) → Lists old new header line rows result → ListEnds [] (Some (listing header line rows)) old new result
+list_ends old new header line rows (Ok done) some there p = (refl, subst (Appends old new) (lines_text header line rows) p)
+list_ends old new header line rows (Err fault.NoRoom) some there p = absurd (there refl)
+list_ends old new header line rows (Err fault.Write) some there p = (is_text _ (more_text header (concat (map line rows)) some), subst (AppendsFront old new) (lines_text header line rows) p)
+list_ends old new header line rows (Err fault.Memory) some there p = rows_front old new header line rows p
+list_ends old new header line rows (Err fault.Store) some there p = rows_front old new header line rows p
 
 no_room_ends : (old new : Option (List ℕ)) (result : Result (Unit {0}) ListFault) → is_early result ≡ true → Appends old new [] → ListEnds [] None old new result
 no_room_ends old new (Ok done) early p = cc early
@@ -62,9 +75,9 @@ no_room_ends old new (Err fault.Store) early p = ([], refl, p)
 
 -- a list of a room, which is there or not
 pub room_ends : {R : Type 0} (row : Option RoomRow) (old new : Option (List ℕ)) (header : List ℕ) (line : R → List ℕ) (rows : List R) (result : Result (Unit {0}) ListFault)
-    → ListsRoom row old new header line rows result → ListEnds [] (of_room (is_some row) (listing header line rows)) old new result
-room_ends (Some row) old new header line rows result p = list_ends old new header line rows result p.0 p.1
-room_ends None old new header line rows result p = no_room_ends old new result p.0 (nothing_more old new p.1)
+    → has_byte header ≡ true → ListsRoom row old new header line rows result → ListEnds [] (of_room (is_some row) (listing header line rows)) old new result
+room_ends (Some row) old new header line rows result some p = list_ends old new header line rows result some p.0 p.1
+room_ends None old new header line rows result some p = no_room_ends old new result p.0 (nothing_more old new p.1)
 
 -- the failures that the books counted where a list ended by a fault
 failed_by : ListFault → List Refusal
@@ -125,11 +138,6 @@ refused_cut listing old mid new why_not why e p looks written =
     let r = refused_front listing old mid why_not why e p in
     (r.0 ++ refusal_text why, failed_by why_not, r.1, appends_front old mid new r.0 (refusal_text why) written r.2, counted_by why_not looks)
 
--- a front of nothing is one of any text
-no_front : (old new : Option (List ℕ)) (text : List ℕ) → AppendsFront old new [] → AppendsFront old new text
-no_front old new text (zero, within, written) = (0, omega arith, written)
-no_front old new text (suc n, within, written) = absurd (omega (arith, within))
-
 -- a list that was written whole
 pub whole_answered : {a b : LookFault → ℕ} (listing : Option Listing) (old new : Option (List ℕ)) → ListEnds [] listing old new (Ok tt) → NoFewer a b
     → ListAnswered listing (Appends old new) (AreCounted a b)
@@ -138,8 +146,8 @@ whole_answered {a} {b} (Some listing) old new p grown = (_, [], inl (refl, refl)
 
 write_failed : {a b : LookFault → ℕ} (listing : Option Listing) (old new : Option (List ℕ)) → ListEnds [] listing old new (Err fault.Write) → NoFewer a b
     → ListAnswered listing (AppendsFront old new) (AreCounted a b)
-write_failed {a} {b} None old new p grown = (refusal_text refusal.NoRoom, [], inl (refl, refl), no_front old new (refusal_text refusal.NoRoom) p, none_counted a b grown)
-write_failed {a} {b} (Some listing) old new p grown = (_, [], inl (refl, refl), p, none_counted a b grown)
+write_failed {a} {b} None old new p grown = absurd (p.0 refl)
+write_failed {a} {b} (Some listing) old new p grown = (_, [], inl (refl, refl), p.1, none_counted a b grown)
 
 -- a list whose write failed, which no refusal answers
 pub cut_answered : {a b : LookFault → ℕ} (listing : Option Listing) (old new : Option (List ℕ)) (why_not : ListFault) → refusal_of why_not ≡ None

@@ -12,6 +12,7 @@ use Rattle.hotel_desk.specs.declared.list_asks.ListAsk.{ListAsk}
 use Rattle.hotel_desk.specs.ListAnswers.{refusal_text, ListEnds}
 use Rattle.hotel_desk.specs.ListRuns.{AnswerEnds, AnswerEndsFor}
 use Rattle.hotel_desk.specs.Listings.{Listing, listing_on}
+use Rattle.hotel_desk.proofs.ListAnswerLemmas.{is_text}
 use Rattle.hotel_desk.proofs.ListingLemmas.{listing_stands}
 
 -- the line that the room isn't there was written
@@ -28,7 +29,7 @@ is_write (Err e) p = ap (λ (f : ListFault). Err f) p
 -- a front of it was written
 pub cut_no_room : (listing : Option Listing) (old mid new : Option (List ℕ)) → ListEnds [] listing old mid (Err fault.NoRoom) → AppendsFront mid new (refusal_text refusal.NoRoom)
     → AnswerEnds listing old new (Err fault.Write)
-cut_no_room None old mid new p front = (front.0, front.1, Appends-trans old mid new [] (take front.0 (refusal_text refusal.NoRoom)) p.1 front.2)
+cut_no_room None old mid new p front = (is_text (refusal_text refusal.NoRoom) refl, (front.0, front.1, Appends-trans old mid new [] (take front.0 (refusal_text refusal.NoRoom)) p.1 front.2))
 cut_no_room (Some listing) old mid new p front = cc p.0
 
 pub answer_ends : (rows : Rows) (its_list : ListAsk) (old new : Option (List ℕ)) (end : Result (Unit {0}) ListFault) → AnswerEnds (listing_on rows its_list) old new end → AnswerEndsFor rows its_list old new end

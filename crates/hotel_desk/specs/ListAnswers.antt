@@ -1,5 +1,5 @@
 -- The answer to a line that asks for a list.
-use Rattle.std.specs.Prelude.{◌≡◌, ◌⊎◌, ℕ, true, false, List, [], ◌++◌, Option, Some, None, Result, Ok, Err, is_some}
+use Rattle.std.specs.Prelude.{◌≡◌, ◌≢◌, ◌⊎◌, ℕ, true, false, List, [], ◌++◌, Option, Some, None, Result, Ok, Err, is_some}
 use Rattle.std.specs.List.{concat}
 use Rattle.std.specs.Io.KnownBytes.{Appends}
 use Rattle.hotel_core.specs.declared.reply.Reply.TheVariants.{Refused}
@@ -44,11 +44,11 @@ AnswersList listing text failed = ((text ≡ in_full (refusal_text refusal.NoRoo
 abbrev pub ListAnswered : Option Listing → (List ℕ → Type 0) → (List Refusal → Type 0) → Type 0
 ListAnswered listing written counted = (text : List ℕ) × (failed : List Refusal) × AnswersList listing text failed × written text × counted failed
 
--- What a writer took of a list that ended so, where this is said if its room isn't there: all; a front after a failed write; whole lines where memory or the store failed.
+-- What a writer took of a list that ended so, where this is said if its room isn't there: all; a front after a write of it failed; whole lines where memory or the store failed.
 abbrev pub ListEnds : List ℕ → Option Listing → Option (List ℕ) → Option (List ℕ) → Result (Unit {0}) ListFault → Type 0
 ListEnds no_room listing old new (Ok done) = (is_some listing ≡ true) × Appends old new (in_full no_room listing)
 ListEnds no_room listing old new (Err fault.NoRoom) = (is_some listing ≡ false) × Appends old new (in_full no_room listing)
-ListEnds no_room listing old new (Err fault.Write) = AppendsFront old new (in_full no_room listing)
+ListEnds no_room listing old new (Err fault.Write) = (in_full no_room listing ≢ []) × AppendsFront old new (in_full no_room listing)
 ListEnds no_room listing old new (Err fault.Memory) = (front : List ℕ) × IsFront listing front × Appends old new front
 ListEnds no_room listing old new (Err fault.Store) = (front : List ℕ) × IsFront listing front × Appends old new front
 
