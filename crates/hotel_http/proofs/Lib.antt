@@ -1,3 +1,4 @@
 pub mod HeadLemmas
 pub mod FieldLemmas
 pub mod FormLemmas
+pub mod AuditAnswerLemmas

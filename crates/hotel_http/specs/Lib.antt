@@ -3,3 +3,4 @@ pub mod Fields
 pub mod Form
 pub mod Status
 pub mod Answer
+pub mod AuditAnswer

@@ -2,6 +2,7 @@
 #![tactic(auto)]
 
 pub mod answer;
+pub mod audit_answer;
 mod buffer;
 pub mod fields;
 pub mod form;
