@@ -27,13 +27,14 @@ use Rattle.hotel_lists.specs.Bytes.{AppendsFront}
 use Rattle.hotel_lists.specs.Lines.{Lists, ListsRoom, LooksAt, AppendsRows, list_text, arrivals_header, in_house_header, chain_header, left_behind_header, audit_header, arrival_line, house_line, chain_line, behind_line, note_line}
 use Rattle.hotel_lists.specs.declared.fault.ListFault.{ListFault}
 use Rattle.hotel_lists.specs.declared.fault.ListFault.TheVariants as fault
-use Rattle.hotel_desk.specs.declared.list_asks.ListAsk.{ListAsk}
-use Rattle.hotel_desk.specs.declared.list_asks.ListAsk.TheVariants.{Arrivals, InHouse, ChainOf, LeftBehind, AuditOf}
+use Rattle.hotel_asks.specs.declared.lists.ListAsk.{ListAsk}
+use Rattle.hotel_asks.specs.declared.lists.ListAsk.TheVariants.{Arrivals, InHouse, ChainOf, LeftBehind, AuditOf}
 use Rattle.hotel_desk.specs.ListAnswers.{refusal_text, refusal_of, failure_of, IsWholeRows, IsListAnswer, IsNoRoomAnswer, IsRoomAnswer, AnswersList, AnswersListOn, WritesAnswer, WritesList}
 use Rattle.rand_core.specs.Stream.{Stream}
-use Rattle.hotel_desk.specs.declared.asks.Ask.{Ask}
-use Rattle.hotel_desk.specs.declared.asks.Ask.TheVariants as ask
-use Rattle.hotel_desk.specs.Asks.{ask_copies, AsksCopy}
+use Rattle.hotel_asks.specs.declared.asks.Ask.{Ask}
+use Rattle.hotel_asks.specs.declared.asks.Ask.TheVariants as ask
+use Rattle.hotel_asks.specs.Asks.{ask_copies}
+use Rattle.hotel_desk.specs.Asks.{AsksCopy}
 use Rattle.hotel_desk.specs.LineAnswers.{AskGoes, AskIsAnswered, unread_text}
 use Rattle.hotel_desk.proofs.ScriptLemmas.{appends_front, ask_without_memory}
 

@@ -14,8 +14,8 @@ use Rattle.hotel_core.specs.Refinement.ListsOnRows.{chain_on, audit_on}
 use Rattle.hotel_core.specs.Model.Run.{Reached}
 use Rattle.hotel_lists.specs.Lines.{arrivals_header, in_house_header, chain_header, left_behind_header, audit_header, arrival_line, house_line, chain_line, behind_line, note_line}
 use Rattle.hotel_lists.specs.declared.fault.ListFault.{ListFault}
-use Rattle.hotel_desk.specs.declared.list_asks.ListAsk.{ListAsk}
-use Rattle.hotel_desk.specs.declared.list_asks.ListAsk.TheVariants.{Arrivals, InHouse, ChainOf, LeftBehind, AuditOf}
+use Rattle.hotel_asks.specs.declared.lists.ListAsk.{ListAsk}
+use Rattle.hotel_asks.specs.declared.lists.ListAsk.TheVariants.{Arrivals, InHouse, ChainOf, LeftBehind, AuditOf}
 use Rattle.hotel_desk.specs.ListRuns.{ListEnds, NoRoomEnds, RoomEnds, AnswerEnds, AnswerEndsOn, AnswerEndsFor}
 
 room_ends : {R : Type 0} (h : History) (room : ℕ) (old new : Option (List ℕ)) (header : List ℕ) (line : R → List ℕ) (on_rows on_history : List R) (end : Result (Unit {0}) ListFault)

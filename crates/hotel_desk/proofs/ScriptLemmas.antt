@@ -11,12 +11,13 @@ use Rattle.keycard_rules.proofs.Drawing.{past-zero}
 use Rattle.hotel_core.proofs.Invariants.Assurance.{assured}
 use Rattle.hotel_core.proofs.OfCode.FailuresCounted.{none_counted, counted_join}
 use Rattle.hotel_core.specs.Books.Failures.{AreCounted}
-use Rattle.hotel_desk.specs.declared.asks.Ask.{Ask}
-use Rattle.hotel_desk.specs.declared.asks.Ask.TheVariants as ask
+use Rattle.hotel_asks.specs.declared.asks.Ask.{Ask}
+use Rattle.hotel_asks.specs.declared.asks.Ask.TheVariants as ask
 use Rattle.hotel_core.specs.declared.reply.Reply.TheVariants.{Refused}
 use Rattle.hotel_core.specs.declared.reply.Refusal.{Refusal}
 use Rattle.hotel_core.specs.declared.reply.Refusal.TheVariants.{Memory}
-use Rattle.hotel_desk.specs.Asks.{ask_copies, AsksCopy}
+use Rattle.hotel_asks.specs.Asks.{ask_copies}
+use Rattle.hotel_desk.specs.Asks.{AsksCopy}
 use Rattle.hotel_core.specs.Model.Rows.{Rows}
 use Rattle.hotel_core.specs.Model.History.{History}
 use Rattle.hotel_core.specs.Texts.{reply_text}

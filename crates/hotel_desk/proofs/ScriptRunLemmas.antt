@@ -9,8 +9,8 @@ use Rattle.hotel_core.specs.Model.Run.{Runs}
 use Rattle.hotel_core.specs.Refinement.Stepping.{copies}
 use Rattle.hotel_core.specs.Texts.{reply_text}
 use Rattle.hotel_desk.specs.Asks.{ask_in}
-use Rattle.hotel_desk.specs.declared.asks.Ask.{Ask}
-use Rattle.hotel_desk.specs.declared.asks.Ask.TheVariants as ask
+use Rattle.hotel_asks.specs.declared.asks.Ask.{Ask}
+use Rattle.hotel_asks.specs.declared.asks.Ask.TheVariants as ask
 use Rattle.hotel_desk.specs.LineAnswers.{unread_text, AskGoes, LineGoes}
 use Rattle.hotel_desk.specs.Script.{ScriptGoes}
 use Rattle.hotel_desk.specs.ScriptRun.{commands_of, output_of, failed_of, ScriptsRun, ListsBetween}

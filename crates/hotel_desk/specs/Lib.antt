@@ -1,9 +1,5 @@
 pub mod Words
 pub mod Lines
-pub mod Values
-pub mod Commands
-pub mod Verbs
-pub mod ListAsks
 pub mod ListAnswers
 pub mod Asks
 pub mod LineAnswers

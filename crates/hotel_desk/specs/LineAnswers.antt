@@ -11,8 +11,8 @@ use Rattle.hotel_core.specs.Refinement.Stepping.{copies}
 use Rattle.hotel_core.specs.Texts.{reply_text}
 use Rattle.hotel_desk.specs.Asks.{ask_in}
 use Rattle.hotel_desk.specs.ListAnswers.{AnswersList}
-use Rattle.hotel_desk.specs.declared.asks.Ask.{Ask}
-use Rattle.hotel_desk.specs.declared.asks.Ask.TheVariants as ask
+use Rattle.hotel_asks.specs.declared.asks.Ask.{Ask}
+use Rattle.hotel_asks.specs.declared.asks.Ask.TheVariants as ask
 use Rattle.hotel_desk.specs.declared.line_answers.LineAnswer.{LineAnswer}
 use Rattle.hotel_desk.specs.declared.line_answers.LineAnswer.TheVariants.{Replied, Unread}
 

@@ -15,8 +15,8 @@ use Rattle.hotel_core.specs.Refinement.ListsOnRows.{arrivals_on, in_house_on, ch
 use Rattle.hotel_lists.specs.Lines.{Lists, ListsRoom, list_text, arrivals_header, in_house_header, chain_header, left_behind_header, audit_header, arrival_line, house_line, chain_line, behind_line, note_line}
 use Rattle.hotel_lists.specs.declared.fault.ListFault.{ListFault}
 use Rattle.hotel_lists.specs.declared.fault.ListFault.TheVariants as fault
-use Rattle.hotel_desk.specs.declared.list_asks.ListAsk.{ListAsk}
-use Rattle.hotel_desk.specs.declared.list_asks.ListAsk.TheVariants.{Arrivals, InHouse, ChainOf, LeftBehind, AuditOf}
+use Rattle.hotel_asks.specs.declared.lists.ListAsk.{ListAsk}
+use Rattle.hotel_asks.specs.declared.lists.ListAsk.TheVariants.{Arrivals, InHouse, ChainOf, LeftBehind, AuditOf}
 
 -- The line of a refusal.
 abbrev pub refusal_text : Refusal → List ℕ

@@ -10,9 +10,9 @@ use Rattle.hotel_core.specs.Books.Failures.{failure_in}
 use Rattle.hotel_core.specs.Refinement.Stepping.{copies}
 use Rattle.hotel_core.specs.Texts.{reply_text}
 use Rattle.hotel_desk.specs.Asks.{ask_in}
-use Rattle.hotel_desk.specs.declared.asks.Ask.{Ask}
-use Rattle.hotel_desk.specs.declared.asks.Ask.TheVariants as ask
-use Rattle.hotel_desk.specs.declared.list_asks.ListAsk.{ListAsk}
+use Rattle.hotel_asks.specs.declared.asks.Ask.{Ask}
+use Rattle.hotel_asks.specs.declared.asks.Ask.TheVariants as ask
+use Rattle.hotel_asks.specs.declared.lists.ListAsk.{ListAsk}
 use Rattle.hotel_desk.specs.LineAnswers.{unread_text}
 use Rattle.hotel_desk.specs.ListAnswers.{AnswersList}
 use Rattle.hotel_desk.specs.Script.{ScriptGoes}

@@ -1,30 +1,18 @@
 //! What a script's line asks for.
 
-ghost use Rattle.std.specs.Prelude.{◌≡◌, ◌≤◌, ◌<◌, Option, None, Some, IfSome, MatchOption, Result, length, map, take};
-ghost use Rattle.hotel_desk.specs.Asks.{words_and_rest, command_given, command_after, command_asked, list_given, ask_after, ask_in, ask_copies, IsLineRead};
-ghost use Rattle.hotel_core.specs.declared.command.Command.{Command};
-ghost use Rattle.hotel_core.specs.Refinement.Stepping.{copies};
-ghost use Rattle.hotel_desk.specs.declared.values.ValueFault.{ValueFault};
-ghost use Rattle.hotel_desk.specs.Values.{IsReading};
-ghost use Rattle.hotel_desk.specs.ListAsks.{list_of, read_list_verb};
+ghost use Rattle.std.specs.Prelude.{◌≡◌, ◌≤◌, ◌<◌, None, Some, IfSome, MatchOption, Result, length};
+ghost use Rattle.hotel_asks.specs.declared.asks.Ask.{Ask};
+ghost use Rattle.hotel_asks.specs.declared.values.ValueFault.{ValueFault};
+ghost use Rattle.hotel_asks.specs.Values.{IsReading};
+ghost use Rattle.hotel_asks.specs.Asks.{ask_of, ask_copies};
+ghost use Rattle.hotel_desk.specs.Asks.{words_and_rest, values_after, asked, ask_after, ask_in, IsLineRead};
 ghost use Rattle.hotel_desk.specs.Words.{words};
 
-use crate::commands::read_command;
 use crate::line_values::LineValues;
 use crate::lines::is_readable;
-use crate::list_asks::{ListAsk, ListVerb, read_list, read_list_verb};
-use crate::values::AskFault;
-use crate::verb::{Verb, read_verb};
 use crate::words::{first_of_words, next_word, trimmed};
-use hotel_core::Command;
+use hotel_asks::{Ask, AskFault, Verb, read_ask, read_verb};
 use std::alloc::Global;
-
-/// What a line asks for.
-#[derive(Drop)]
-pub enum Ask {
-    Command(Command),
-    List(ListAsk),
-}
 
 /// Why a line asks for nothing.
 #[derive(Clone, Copy, Debug, PartialEq, Eq)]
@@ -69,72 +57,36 @@ fn split_reservation(text: &[u8]) -> Option<LineValues<'_>>
     Some(values)
 }
 
-/// The command of a line whose values were read.
-fn command_read(read: Result<Command, AskFault>) -> Result<Command, LineFault>
-    ensures { (wanted : Result Command ValueFault) → IsReading copies wanted read → IsLineRead copies (command_given wanted) result }
-{
-    match read {
-        Ok(command) => Ok(command),
-        Err(AskFault::Values(_)) => Err(LineFault::Unread),
-        Err(AskFault::Memory) => Err(LineFault::Memory),
-    }
-}
-
-/// Reads the command that the verb and the text after it ask for.
-fn read_values(alloc: Global, verb: Verb, text: &[u8]) -> Result<Command, LineFault>
-    ensures { IsLineRead copies (command_after (Some verb) text.now) result }
+/// The values that a line has after its verb. None where they are too few or too many for it.
+fn split_values(verb: Verb, text: &[u8]) -> Option<LineValues<'_>>
+    ensures found { IfSome result (λ values. values ≡ values_after verb text.now) }
+    ensures none { result ≡ None → asked (ask_of verb (values_after verb text.now)) ≡ None }
 {
     match verb {
-        Verb::Reserve => {
-            let Some(values) = split_reservation(text) else {
-                return Err(LineFault::Unread);
-            };
-            command_read(read_command(alloc, verb, values.as_slice()))
-        }
-        _ => {
-            let Some(values) = split_words(text) else {
-                return Err(LineFault::Unread);
-            };
-            command_read(read_command(alloc, verb, values.as_slice()))
-        }
+        Verb::Reserve => split_reservation(text),
+        _ => split_words(text),
     }
 }
 
-/// What a line asks for whose command was read.
-fn command_asked(read: Result<Command, LineFault>) -> Result<Ask, LineFault>
-    ensures { (wanted : Option Command) → IsLineRead copies wanted read → IsLineRead ask_copies (command_asked wanted) result }
+/// What a line asks for whose values were read.
+fn line_read(read: Result<Ask, AskFault>) -> Result<Ask, LineFault>
+    ensures { (wanted : Result Ask ValueFault) → IsReading ask_copies wanted read → IsLineRead ask_copies (asked wanted) result }
 {
     match read {
-        Ok(command) => Ok(Ask::Command(command)),
-        Err(fault) => Err(fault),
+        Ok(ask) => Ok(ask),
+        Err(AskFault::Memory) => Err(LineFault::Memory),
+        Err(AskFault::Values(_)) => Err(LineFault::Unread),
     }
 }
 
-/// Reads the list that the verb and the text after it ask for.
-fn list_asked(verb: ListVerb, text: &[u8]) -> Result<Ask, LineFault>
-    ensures { IsLineRead ask_copies (list_given (list_of verb (words text.now))) result }
+/// Reads what the verb and the text after it ask for.
+fn read_values(alloc: Global, verb: Verb, text: &[u8]) -> Result<Ask, LineFault>
+    ensures { IsLineRead ask_copies (ask_after (Some verb) text.now) result }
 {
-    let Some(values) = split_words(text) else {
+    let Some(values) = split_values(verb, text) else {
         return Err(LineFault::Unread);
     };
-    match read_list(verb, values.as_slice()) {
-        Ok(list) => Ok(Ask::List(list)),
-        Err(_) => Err(LineFault::Unread),
-    }
-}
-
-/// Reads what a line's first word and the text after it ask for: a list where the word is the verb of
-/// one, else a command.
-fn read_ask(alloc: Global, word: &[u8], text: &[u8]) -> Result<Ask, LineFault>
-    ensures { IsLineRead ask_copies (ask_after (read_list_verb word.now) word.now text.now) result }
-{
-    if let Some(verb) = read_list_verb(word) {
-        return list_asked(verb, text);
-    }
-    let Some(verb) = read_verb(word) else {
-        return Err(LineFault::Unread);
-    };
-    command_asked(read_values(alloc, verb, text))
+    line_read(read_ask(alloc, verb, values.as_slice()))
 }
 
 /// Reads what a script's line asks for. The line is without its end. A guest is the rest of its line;
@@ -148,7 +100,10 @@ pub fn read_line(alloc: Global, line: &[u8]) -> Result<Ask, LineFault>
     let Some((word, text)) = next_word(line) else {
         return Err(LineFault::Unread);
     };
-    read_ask(alloc, word, text)
+    let Some(verb) = read_verb(word) else {
+        return Err(LineFault::Unread);
+    };
+    read_values(alloc, verb, text)
 }
 
 #[cfg(test)]

@@ -1,15 +1,16 @@
 //! The answer to a line of a script.
 
 ghost use Rattle.std.specs.Prelude.{◌≤◌, Some, OnOk, OnErr};
-ghost use Rattle.hotel_desk.specs.declared.asks.Ask.TheVariants as ask;
+ghost use Rattle.hotel_asks.specs.declared.asks.Ask.TheVariants as ask;
 ghost use Rattle.std.specs.Io.KnownBytes.{Appends};
 ghost use Rattle.keycard_rules.specs.Rise.{NoFewer};
 ghost use Rattle.hotel_core.specs.Books.Failures.{AreCounted};
 ghost use Rattle.hotel_lists.specs.Bytes.{AppendsFront};
 ghost use Rattle.hotel_desk.specs.LineAnswers.{LineIsAnswered, AskIsAnswered, answer_text};
 
-use crate::asks::{Ask, LineFault, read_line};
+use crate::asks::{LineFault, read_line};
 use crate::list_answers::answer_list;
+use hotel_asks::Ask;
 use hotel_core::{Command, Refusal, Reply, Walks, reply_text, step};
 use hotel_lists::{Interruptions, WriteFailed, write_bytes};
 use rand_core::Rng;

@@ -8,7 +8,7 @@ ghost use Rattle.hotel_lists.specs.Bytes.{AppendsFront};
 ghost use Rattle.hotel_lists.specs.Lines.{LooksAt};
 ghost use Rattle.hotel_desk.specs.ListAnswers.{WritesAnswer, WritesList, refusal_of};
 
-use crate::list_asks::ListAsk;
+use hotel_asks::ListAsk;
 use hotel_core::{Refusal, Reply, Walks, reply_text};
 use hotel_lists::{
     Interruptions, ListFault, WriteFailed, write_arrivals, write_audit_of, write_bytes,

@@ -8,8 +8,8 @@ ghost use Rattle.hotel_desk.specs.ListRuns.{AnswerEndsOn, AnswerEndsFor, list_en
 
 use crate::faults::{Fault, FaultSink, finish};
 use crate::list_answers::write_list;
-use crate::list_asks::ListAsk;
 use crate::statuses::{DONE, REFUSED};
+use hotel_asks::ListAsk;
 use hotel_core::{Refusal, Reply, Walks, reply_text};
 use hotel_lists::{Interruptions, ListFault, write_bytes};
 use std::alloc::Global;

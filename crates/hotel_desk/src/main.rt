@@ -3,13 +3,11 @@
 
 mod asks;
 mod audit_runs;
-mod commands;
 mod faults;
 mod line_answers;
 mod line_values;
 mod lines;
 mod list_answers;
-mod list_asks;
 mod list_runs;
 mod program;
 #[cfg(test)]
@@ -18,8 +16,6 @@ mod scenes;
 mod script;
 mod script_run;
 mod statuses;
-mod values;
-mod verb;
 mod words;
 
 use program::run_standard;

@@ -3,11 +3,12 @@
 
 mod scenarios;
 
-use crate::asks::{Ask, read_line};
+use crate::asks::read_line;
 use crate::audit_runs::run_audit;
 use crate::list_runs::run_list;
 use crate::script::run_script;
 use crate::statuses::status_of;
+use hotel_asks::Ask;
 use hotel_core::{ListBooks, Refusal, Reply};
 use hotel_lists::{FakeReader, FakeWriter};
 use keycard_rules::ListedWords;

@@ -1,5 +1,6 @@
 //! What lines of scripts ask for.
-use super::{Ask, LineFault, read_line};
+use super::{LineFault, read_line};
+use hotel_asks::Ask;
 use hotel_core::Command;
 use keycard_rules::Act;
 use std::test::Fail;

@@ -1,10 +1,10 @@
 //! Each room of the books beside a chain of codes that is told the same: they agree after each line. And runs of
 //! commands in one call.
 use super::scenarios::{self, Scenario};
-use crate::asks::{Ask, read_line};
+use crate::asks::read_line;
 use crate::lines::first_line;
 use crate::list_answers::answer_list;
-use crate::list_asks::ListAsk;
+use hotel_asks::{Ask, ListAsk};
 use hotel_core::{
     Books, CodeRow, Command, ListBooks, Refusal, Reply, RoomRow, reply_text, run, step,
 };

@@ -1,8 +1,9 @@
 use Rattle.std.proofs.Common.{◌∙◌, Ok, Err, ap, subst, arith}
 use Rattle.hotel_core.proofs.OfCode.FailuresCounted.{none_counted}
-use Rattle.hotel_desk.specs.declared.asks.Ask.{Ask}
+use Rattle.hotel_asks.specs.declared.asks.Ask.{Ask}
 use Rattle.hotel_desk.specs.declared.asks.LineFault.{LineFault}
-use Rattle.hotel_desk.specs.Asks.{ask_in, ask_copies, IsLineRead}
+use Rattle.hotel_asks.specs.Asks.{ask_copies}
+use Rattle.hotel_desk.specs.Asks.{ask_in, IsLineRead}
 use Rattle.hotel_desk.proofs.ListAnswerLemmas.{list_answered, unread_answered, memory_answered, when_ok, when_err}
 use Rattle.hotel_desk.proofs.line_answers.answer_line.Goals as goal
 

@@ -7,11 +7,11 @@ use Rattle.std.specs.Str.{is_utf8}
 use Rattle.hotel_nights.specs.Guests.{is_guest}
 use Rattle.hotel_nights.specs.declared.guest.GuestFault.{GuestFault}
 use Rattle.hotel_nights.specs.declared.guest.GuestFault.TheVariants.{Unread, Memory}
-use Rattle.hotel_desk.specs.declared.values.ValueFault.{ValueFault}
-use Rattle.hotel_desk.specs.declared.values.ValueFault.TheVariants.{Value}
-use Rattle.hotel_desk.specs.declared.values.ValueName.TheVariants.{Guest}
-use Rattle.hotel_desk.specs.Values.{guest_in, IsCopy}
-use Rattle.hotel_desk.proofs.values.read_guest.Goals as goal
+use Rattle.hotel_asks.specs.declared.values.ValueFault.{ValueFault}
+use Rattle.hotel_asks.specs.declared.values.ValueFault.TheVariants.{Value}
+use Rattle.hotel_asks.specs.declared.values.ValueName.TheVariants.{Guest}
+use Rattle.hotel_asks.specs.Values.{guest_in, IsCopy}
+use Rattle.hotel_asks.proofs.values.read_guest.Goals as goal
 
 -- a text that is not UTF-8 is no guest
 not_text : (text : List ℕ) → (IsUtf8 text → ⊥) → Err (Value Guest) ≡ guest_in text

@@ -1,4 +1,4 @@
--- The values of commands: each is what its reader makes of a text, or refused by its name.
+-- The values of verbs: each is what its reader makes of a text, or refused by its name.
 use Rattle.std.specs.Prelude.{◌≡◌, ℕ, ◌&&◌, Bool, true, List, if◌then◌else◌, Result, Ok, Err}
 use Rattle.std.specs.Option.{ok_or}
 use Rattle.std.specs.Str.{is_utf8}
@@ -7,12 +7,12 @@ use Rattle.hotel_nights.specs.Days.{read_day}
 use Rattle.hotel_nights.specs.Guests.{is_guest}
 use Rattle.hotel_nights.specs.Kinds.{read_kind}
 use Rattle.hotel_nights.specs.Moments.{read_moment}
-use Rattle.hotel_desk.specs.declared.values.ValueFault.{ValueFault}
-use Rattle.hotel_desk.specs.declared.values.ValueFault.TheVariants.{Value}
-use Rattle.hotel_desk.specs.declared.values.AskFault.{AskFault}
-use Rattle.hotel_desk.specs.declared.values.AskFault.TheVariants.{Values, Memory}
-use Rattle.hotel_desk.specs.declared.values.ValueName.{ValueName}
-use Rattle.hotel_desk.specs.declared.values.ValueName.TheVariants.{Kind, Nights, Guest, Room, Party, Card, Count, Moment}
+use Rattle.hotel_asks.specs.declared.values.ValueFault.{ValueFault}
+use Rattle.hotel_asks.specs.declared.values.ValueFault.TheVariants.{Value}
+use Rattle.hotel_asks.specs.declared.values.AskFault.{AskFault}
+use Rattle.hotel_asks.specs.declared.values.AskFault.TheVariants.{Values, Memory}
+use Rattle.hotel_asks.specs.declared.values.ValueName.{ValueName}
+use Rattle.hotel_asks.specs.declared.values.ValueName.TheVariants.{Kind, Nights, Guest, Room, Party, Card, Count, Moment}
 
 -- A day, as the value of that name.
 abbrev pub day_in : ValueName → List ℕ → Result ℕ ValueFault
@@ -51,7 +51,7 @@ abbrev pub ◌>>=◌ : {A B : Type 0} → Result A ValueFault → (A → Result 
 (Ok a) >>= f = f a
 (Err e) >>= f = Err e
 
--- A value is given, and it is one whose reading copies a text.
+-- A value is wanted, and it is one whose reading copies a text.
 abbrev pub IsCopy : {A : Type 0} → (A → Bool) → Result A ValueFault → Type 0
 IsCopy copied (Ok a) = copied a ≡ true
 IsCopy copied (Err _) = ⊥

@@ -1,9 +1,9 @@
-//! The verbs of commands.
+//! The verbs of commands and lists.
 
 ghost use Rattle.std.specs.Prelude.{◌≡◌};
-ghost use Rattle.hotel_desk.specs.Verbs.{read_verb};
+ghost use Rattle.hotel_asks.specs.Verbs.{read_verb};
 
-/// What is to be done; the values of the command follow it.
+/// What is to be done, or which list is wanted; the values follow it.
 #[derive(Clone, Copy, Debug, PartialEq, Eq)]
 pub enum Verb {
     Begin,
@@ -19,9 +19,14 @@ pub enum Verb {
     Entered,
     Left,
     Recoded,
+    Arrivals,
+    InHouse,
+    ChainOf,
+    LeftBehind,
+    AuditOf,
 }
 
-/// The verb that the word is, as `check-in`.
+/// The verb that the word is, as `check-in`. None where it is another word.
 #[tactic(auto, unfolding(crate::specs::Verbs::read_verb))]
 pub fn read_verb(word: &[u8]) -> Option<Verb>
     ensures { result ≡ read_verb word.now }
@@ -52,6 +57,16 @@ pub fn read_verb(word: &[u8]) -> Option<Verb>
         Some(Verb::Left)
     } else if word == b"recoded".as_slice() {
         Some(Verb::Recoded)
+    } else if word == b"arrivals".as_slice() {
+        Some(Verb::Arrivals)
+    } else if word == b"in-house".as_slice() {
+        Some(Verb::InHouse)
+    } else if word == b"chain".as_slice() {
+        Some(Verb::ChainOf)
+    } else if word == b"left-behind".as_slice() {
+        Some(Verb::LeftBehind)
+    } else if word == b"audit-of".as_slice() {
+        Some(Verb::AuditOf)
     } else {
         None
     }

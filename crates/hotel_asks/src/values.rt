@@ -1,8 +1,8 @@
-//! The values of commands: each read from a text, or refused by its name.
+//! The values of verbs: each read from a text, or refused by its name.
 
 ghost use Rattle.std.specs.Prelude.{◌≡◌, true};
-ghost use Rattle.hotel_desk.specs.Values.{day_in, code_in, kind_in, nights_in, guest_in, room_in, party_in, card_in, count_in, moment_in, IsReading};
-ghost use Rattle.hotel_desk.specs.declared.values.AskFault.TheVariants.{Values};
+ghost use Rattle.hotel_asks.specs.Values.{day_in, code_in, kind_in, nights_in, guest_in, room_in, party_in, card_in, count_in, moment_in, IsReading};
+ghost use Rattle.hotel_asks.specs.declared.values.AskFault.TheVariants.{Values};
 
 use hotel_nights::{Day, Guest, GuestFault, KindCode, Moment, Nights};
 use keycard_rules::{CardNo, Code, Count, PartyNo, RoomNo};
@@ -27,7 +27,7 @@ pub enum ValueName {
     Moment,
 }
 
-/// Why the texts are no values of a command.
+/// Why the texts are no values of a verb.
 #[derive(Clone, Copy, Debug, PartialEq, Eq)]
 pub enum ValueFault {
     /// There are too few or too many of them.
@@ -36,7 +36,7 @@ pub enum ValueFault {
     Value(ValueName),
 }
 
-/// Why a verb's values gave no command.
+/// Why a verb and the texts of its values were not read.
 #[derive(Clone, Copy, Debug, PartialEq, Eq)]
 pub enum AskFault {
     Values(ValueFault),

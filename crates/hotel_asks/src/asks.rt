@@ -1,0 +1,176 @@
+//! What a verb and the texts of its values ask for.
+
+ghost use Rattle.std.specs.Prelude.{◌≡◌, map};
+ghost use Rattle.hotel_asks.specs.Values.{IsReading};
+ghost use Rattle.hotel_asks.specs.Asks.{ask_copies, of_none, of_one, of_two, of_four, of_five, of_six, ask_of};
+
+use crate::lists::ListAsk;
+use crate::notes::{read_card_note, report_of};
+use crate::values::{
+    AskFault, ValueFault, ValueName, read_code, read_count, read_day, read_guest, read_kind,
+    read_moment, read_nights, read_party, read_room,
+};
+use crate::verbs::Verb;
+use hotel_core::Command;
+use keycard_rules::Act;
+use std::alloc::Global;
+
+/// What is asked of the desk.
+#[derive(Drop)]
+pub enum Ask {
+    Command(Command),
+    List(ListAsk),
+}
+
+/// What a verb without values asks for.
+fn read_none(verb: Verb) -> Result<Ask, AskFault>
+    ensures { IsReading ask_copies (of_none verb) result }
+{
+    match verb {
+        Verb::NextDay => Ok(Ask::Command(Command::NextDay)),
+        Verb::InHouse => Ok(Ask::List(ListAsk::InHouse)),
+        Verb::LeftBehind => Ok(Ask::List(ListAsk::LeftBehind)),
+        _ => Err(AskFault::Values(ValueFault::Number)),
+    }
+}
+
+/// What a verb with one value asks for.
+fn read_one(verb: Verb, value: &[u8]) -> Result<Ask, AskFault>
+    ensures { IsReading ask_copies (of_one verb value.now) result }
+{
+    let asked = match verb {
+        Verb::Begin => Ask::Command(Command::Begin(read_day(ValueName::Day, value)?)),
+        Verb::AddKind => Ask::Command(Command::AddKind(read_kind(value)?)),
+        Verb::Cancel => Ask::Command(Command::Cancel(read_party(value)?)),
+        Verb::Spare => Ask::Command(Command::Spare(read_party(value)?)),
+        Verb::CheckOut => Ask::Command(Command::CheckOut(read_party(value)?)),
+        Verb::Arrivals => Ask::List(ListAsk::Arrivals(read_day(ValueName::Day, value)?)),
+        Verb::ChainOf => Ask::List(ListAsk::ChainOf(read_room(value)?)),
+        Verb::AuditOf => Ask::List(ListAsk::AuditOf(read_room(value)?)),
+        _ => return Err(AskFault::Values(ValueFault::Number)),
+    };
+    Ok(asked)
+}
+
+/// What a verb with two values asks for.
+fn read_two(verb: Verb, first: &[u8], second: &[u8]) -> Result<Ask, AskFault>
+    ensures { IsReading ask_copies (of_two verb first.now second.now) result }
+{
+    let command = match verb {
+        Verb::AddRoom => {
+            let room = read_room(first)?;
+            let kind = read_kind(second)?;
+            Command::AddRoom { room, kind }
+        }
+        Verb::CheckIn => {
+            let party = read_party(first)?;
+            let room = read_room(second)?;
+            Command::CheckIn { party, room }
+        }
+        Verb::Transfer => {
+            let party = read_party(first)?;
+            let room = read_room(second)?;
+            Command::Transfer { party, room }
+        }
+        _ => return Err(AskFault::Values(ValueFault::Number)),
+    };
+    Ok(Ask::Command(command))
+}
+
+/// What a verb with four values asks for.
+fn read_four(
+    alloc: Global,
+    verb: Verb,
+    kind: &[u8],
+    arrive: &[u8],
+    nights: &[u8],
+    guest: &[u8],
+) -> Result<Ask, AskFault>
+    ensures { IsReading ask_copies (of_four verb kind.now arrive.now nights.now guest.now) result }
+{
+    match verb {
+        Verb::Reserve => {
+            let kind = read_kind(kind)?;
+            let arrive = read_day(ValueName::Arrive, arrive)?;
+            let nights = read_nights(nights)?;
+            let guest = read_guest(alloc, guest)?;
+            Ok(Ask::Command(Command::Reserve {
+                guest,
+                kind,
+                arrive,
+                nights,
+            }))
+        }
+        _ => Err(AskFault::Values(ValueFault::Number)),
+    }
+}
+
+/// What a verb with five values asks for.
+fn read_five(
+    verb: Verb,
+    room: &[u8],
+    count: &[u8],
+    from: &[u8],
+    to: &[u8],
+    moment: &[u8],
+) -> Result<Ask, AskFault>
+    ensures { IsReading ask_copies (of_five verb room.now count.now from.now to.now moment.now) result }
+{
+    match verb {
+        Verb::Recoded => {
+            let room = read_room(room)?;
+            let count = read_count(count)?;
+            let from = read_code(ValueName::From, from)?;
+            let to = read_code(ValueName::To, to)?;
+            let at = read_moment(moment)?;
+            Ok(report_of(room, count, Act::Recoded { from, to }, at))
+        }
+        _ => Err(AskFault::Values(ValueFault::Number)),
+    }
+}
+
+/// What a verb with six values asks for.
+fn read_six(
+    verb: Verb,
+    room: &[u8],
+    count: &[u8],
+    card: &[u8],
+    old: &[u8],
+    new: &[u8],
+    moment: &[u8],
+) -> Result<Ask, AskFault>
+    ensures { IsReading ask_copies (of_six verb room.now count.now card.now old.now new.now moment.now) result }
+{
+    match verb {
+        Verb::Entered => {
+            let note = read_card_note(room, count, card, old, new, moment)?;
+            let (card, link) = (note.card, note.link);
+            Ok(report_of(note.room, note.count, Act::Entered { card, link }, note.at))
+        }
+        Verb::Left => {
+            let note = read_card_note(room, count, card, old, new, moment)?;
+            let (card, link) = (note.card, note.link);
+            Ok(report_of(note.room, note.count, Act::Left { card, link }, note.at))
+        }
+        _ => Err(AskFault::Values(ValueFault::Number)),
+    }
+}
+
+/// Reads what the verb and the texts of its values ask for, the values from left to right. Each value
+/// is one text, also the guest. `Memory` where there was none to copy the guest's name.
+pub fn read_ask(alloc: Global, verb: Verb, values: &[&[u8]]) -> Result<Ask, AskFault>
+    ensures { IsReading ask_copies (ask_of verb (map (λ v. v.now) values.now)) result }
+{
+    match values {
+        [] => read_none(verb),
+        [value] => read_one(verb, value),
+        [first, second] => read_two(verb, first, second),
+        [_, _, _] => Err(AskFault::Values(ValueFault::Number)),
+        [kind, arrive, nights, guest] => read_four(alloc, verb, kind, arrive, nights, guest),
+        [room, count, from, to, moment] => read_five(verb, room, count, from, to, moment),
+        [room, count, card, old, new, moment] => {
+            read_six(verb, room, count, card, old, new, moment)
+        }
+        _ => Err(AskFault::Values(ValueFault::Number)),
+    }
+}

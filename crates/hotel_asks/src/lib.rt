@@ -1,0 +1,16 @@
+//! What a verb and the texts of its values ask of the desk, however they came: as a line, as words or as a form.
+#![tactic(auto)]
+
+mod asks;
+mod lists;
+mod notes;
+mod values;
+mod verbs;
+
+pub use asks::{Ask, read_ask};
+pub use lists::ListAsk;
+pub use values::{
+    AskFault, ValueFault, ValueName, read_card, read_code, read_count, read_day, read_guest,
+    read_kind, read_moment, read_nights, read_party, read_room,
+};
+pub use verbs::{Verb, read_verb};

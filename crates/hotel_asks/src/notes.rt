@@ -1,0 +1,65 @@
+//! What a lock notes, as verbs and values say it.
+
+ghost use Rattle.std.specs.Prelude.{◌≡◌};
+ghost use Rattle.hotel_asks.specs.Asks.{report_of, link_in, card_note_of};
+
+use crate::asks::Ask;
+use crate::values::{
+    ValueFault, ValueName, read_card, read_code, read_count, read_moment, read_room,
+};
+use hotel_core::Command;
+use hotel_nights::Moment;
+use keycard_rules::{Act, CardNo, Count, Link, LockNote, RoomNo};
+
+/// What a lock notes of a card that was shown to it.
+#[derive(Clone, Copy, Debug)]
+pub struct CardNote {
+    pub room: RoomNo,
+    pub count: Count,
+    pub card: CardNo,
+    pub link: Link,
+    pub at: Moment,
+}
+
+/// The report of a lock's note.
+pub fn report_of(room: RoomNo, count: Count, act: Act, at: Moment) -> Ask
+    ensures { result ≡ report_of room count act at }
+{
+    match LockNote::new(room, count, act, at.day().number(), at.second()) {
+        Some(note) => Ask::Command(Command::Reported(note)),
+        None => unreachable!(),
+    }
+}
+
+fn read_link(old: &[u8], new: &[u8]) -> Result<Link, ValueFault>
+    ensures { result ≡ link_in old.now new.now }
+{
+    let old_code = read_code(ValueName::Old, old)?;
+    let new_code = read_code(ValueName::New, new)?;
+    Ok(Link { old_code, new_code })
+}
+
+/// Reads what a lock noted of a card.
+pub fn read_card_note(
+    room: &[u8],
+    count: &[u8],
+    card: &[u8],
+    old: &[u8],
+    new: &[u8],
+    moment: &[u8],
+) -> Result<CardNote, ValueFault>
+    ensures { result ≡ card_note_of room.now count.now card.now old.now new.now moment.now }
+{
+    let room = read_room(room)?;
+    let count = read_count(count)?;
+    let card = read_card(card)?;
+    let link = read_link(old, new)?;
+    let at = read_moment(moment)?;
+    Ok(CardNote {
+        room,
+        count,
+        card,
+        link,
+        at,
+    })
+}
