@@ -1,6 +1,7 @@
 -- The texts of answers, one after the other.
-use Rattle.std.proofs.Common.{◌≡◌, ℕ, ◌+◌, ◌<◌, ◌≤◌, List, [], ◌∷◌, ◌++◌, length, take, drop, get_or, arith, refl, sym, ap, subst, ◌∙◌, append_assoc, append-nil, take-append-drop, add-zero, length-take-le, length-append, Option}
+use Rattle.std.proofs.Common.{◌≡◌, ℕ, ◌+◌, ◌<◌, List, [], ◌∷◌, ◌++◌, length, take, drop, get_or, arith, refl, sym, ap, subst, ◌∙◌, append_assoc, append-nil, take-append-drop, add-zero, length-take-le, length-append, Option}
 use Rattle.std.proofs.lemmas.List.{take_more, take-append-le}
+use Rattle.std.specs.Prelude.{Result, Ok, Err, OnOk, OnErr}
 use Rattle.std.specs.Io.KnownBytes.{Appends}
 use Rattle.std.proofs.KnownBytes.{Appends-trans}
 use Rattle.hotel_lists.specs.Bytes.{AppendsFront}
@@ -49,14 +50,21 @@ answers_longer i answers a text h e said =
     ap length (answers_more i answers a h e) ∙ length-append (answers_text 1 (take i answers)) (answer_text (i + 1) a)
     ∙ ap (λ (l : List ℕ). length (answers_text 1 (take i answers)) + length l) (sym said)
 
--- A front of the head of an answer, or the head and then its body or a front of it.
-pub front_of_head : (old new : Option (List ℕ)) (head body : List ℕ) → AppendsFront old new head → AppendsFront old new (head ++ body)
-front_of_head old new head body (n, within, written) =
-    (n, rw length-append (omega arith), subst (Appends old new) (sym (take-append-le n head body within)) written)
+-- A front of the head of an answer, where its text is the head.
+pub front_of_head : (old new : Option (List ℕ)) (head body : List ℕ) {text : List ℕ} → text ≡ head → AppendsFront old new text → AppendsFront old new (head ++ body)
+front_of_head old new head body is written =
+    let (n, within, took) = subst (AppendsFront old new) is written in
+    (n, rw length-append (omega arith), subst (Appends old new) (sym (take-append-le n head body within)) took)
 
-pub head_and_body : (old mid new : Option (List ℕ)) (head body : List ℕ) → Appends old mid head → Appends mid new body → Appends old new (head ++ body)
-head_and_body old mid new head body = Appends-trans old mid new head body
+-- The head, and then its body.
+pub then_ok : {A E : Type 0} (r : Result A E) (old mid new : Option (List ℕ)) (text head body : List ℕ) → text ≡ head
+    → Appends old mid text → OnOk r (Appends mid new body) → OnOk r (Appends old new (head ++ body))
+then_ok (Ok a) old mid new text head body is first next = Appends-trans old mid new head body (subst (Appends old mid) is first) next
+then_ok (Err e) old mid new text head body is first next = tt
 
-pub head_and_front : (old mid new : Option (List ℕ)) (head body : List ℕ) → Appends old mid head → AppendsFront mid new body → AppendsFront old new (head ++ body)
-head_and_front old mid new head body first next =
-    subst (AppendsFront old new) (append-nil (head ++ body)) (front_next old mid new head body [] first next)
+-- The head, and then a front of its body.
+pub then_err : {A E : Type 0} (r : Result A E) (old mid new : Option (List ℕ)) (text head body : List ℕ) → text ≡ head
+    → Appends old mid text → OnErr r (AppendsFront mid new body) → OnErr r (AppendsFront old new (head ++ body))
+then_err (Ok a) old mid new text head body is first next = tt
+then_err (Err e) old mid new text head body is first next =
+    subst (AppendsFront old new) (append-nil (head ++ body)) (front_next old mid new head body [] (subst (Appends old mid) is first) next)

@@ -1,5 +1,5 @@
 -- The bytes of answers.
-use Rattle.std.specs.Prelude.{ℕ, List, [], ◌∷◌, ◌++◌, length, codes, Option, Some, None}
+use Rattle.std.specs.Prelude.{ℕ, List, [], ◌++◌, length, codes, Option, Some, None}
 use Rattle.std.specs.Fmt.{decimal}
 use Rattle.hotel_core.specs.declared.reply.Reply.{Reply}
 use Rattle.hotel_core.specs.declared.reply.Reply.TheVariants as reply

@@ -1,12 +1,8 @@
 -- The answer to an audit file.
-use Rattle.std.specs.Prelude.{ℕ, List, ◌++◌, codes, None, Result, Ok, Err}
+use Rattle.std.specs.Prelude.{ℕ, List, ◌++◌, codes, None}
 use Rattle.std.specs.Fmt.{decimal}
-use Rattle.hotel_core.specs.declared.reply.Reply.TheVariants as reply
-use Rattle.hotel_core.specs.declared.reply.Refusal.TheVariants as refusal
-use Rattle.hotel_core.specs.Texts.{reply_text}
 use Rattle.hotel_audit.specs.Answers.{answers_text}
 use Rattle.hotel_audit.specs.declared.answer.LineAnswer.{LineAnswer}
-use Rattle.hotel_audit.specs.declared.audit_file.AuditFault.{AuditFault}
 use Rattle.hotel_audit.specs.declared.audit_file.AuditFault.TheVariants as file
 use Rattle.hotel_audit.specs.declared.importing.ImportFault.{ImportFault}
 use Rattle.hotel_audit.specs.declared.importing.ImportFault.TheVariants as fault

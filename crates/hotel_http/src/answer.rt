@@ -140,7 +140,13 @@ pub fn write_rejection<W: Write>(
     ensures ok { OnOk result (Appends (W.contents writer.old) (W.contents writer.new) (rejection_answer why)) }
     ensures err { OnErr result (AppendsFront (W.contents writer.old) (W.contents writer.new) (rejection_answer why)) }
 {
-    write_short(writer, rejection_status(why), allowed_by(why), rejection_body(why), interruptions)
+    write_short(
+        writer,
+        rejection_status(why),
+        allowed_by(why),
+        rejection_body(why),
+        interruptions,
+    )
 }
 
 /// The status of the answer to a command with this reply.
@@ -164,7 +170,13 @@ pub fn write_reply<W: Write>(
     ensures err { OnErr result (AppendsFront (W.contents writer.old) (W.contents writer.new) (reply_answer reply.now)) }
 {
     let text = reply_text(reply);
-    write_short(writer, reply_status(reply), None, text.as_bytes(), interruptions)
+    write_short(
+        writer,
+        reply_status(reply),
+        None,
+        text.as_bytes(),
+        interruptions,
+    )
 }
 
 /// Writes a list. After a fault the writer took a front of the answer.

@@ -116,5 +116,11 @@ pub fn write_fault<W: Write>(
     ensures err { OnErr result (AppendsFront (W.contents writer.old) (W.contents writer.new) (fault_answer why.now)) }
 {
     let body = fault_body(why);
-    write_short(writer, fault_status(why), None, body.as_bytes(), interruptions)
+    write_short(
+        writer,
+        fault_status(why),
+        None,
+        body.as_bytes(),
+        interruptions,
+    )
 }

@@ -7,5 +7,7 @@ mod buffer;
 pub mod fields;
 pub mod form;
 pub mod head;
+pub mod plan;
 pub mod rejection;
+pub mod routes;
 pub mod status;

@@ -1,4 +1,4 @@
-use Rattle.std.proofs.Common.{◌∙◌, ap, ◌+◌, arith, sym}
+use Rattle.std.proofs.Common.{◌∙◌, arith}
 use Rattle.hotel_http.proofs.AuditAnswerLemmas.{answers_longer}
 use Rattle.hotel_http.proofs.audit_answer.answers_size.Goals as goal
 
