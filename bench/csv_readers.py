@@ -12,7 +12,7 @@ import pathlib
 import subprocess
 import sys
 
-from script import codes
+from scripts import codes
 
 PROGRAM = pathlib.Path(__file__).resolve().parent.parent / "crates" / "hotel_desk" / "out" / "hotel_desk"
 QUOTED = 'Lee, "Ann"'

@@ -3,8 +3,8 @@ use Rattle.std.specs.Prelude.{ℕ, Bool, true, false, List, [], ◌∷◌, Resul
 use Rattle.keycard_rules.specs.declared.card.Link.{Link}
 use Rattle.keycard_rules.specs.declared.note.Act.{Act}
 use Rattle.keycard_rules.specs.declared.note.Act.TheVariants as act
+use Rattle.hotel_core.specs.declared.command.Command.{Command}
 use Rattle.hotel_core.specs.declared.command.Command.TheVariants as command
-use Rattle.hotel_core.specs.Refinement.Stepping.{copies}
 use Rattle.hotel_asks.specs.declared.asks.Ask.{Ask}
 use Rattle.hotel_asks.specs.declared.asks.Ask.TheVariants as ask
 use Rattle.hotel_asks.specs.declared.lists.ListAsk.TheVariants as list
@@ -128,6 +128,11 @@ ask_of verb (kind ∷ arrive ∷ nights ∷ guest ∷ []) = of_four verb kind ar
 ask_of verb (room ∷ count ∷ from ∷ to ∷ moment ∷ []) = of_five verb room count from to moment
 ask_of verb (room ∷ count ∷ card ∷ old ∷ new ∷ moment ∷ []) = of_six verb room count card old new moment
 ask_of verb _ = Err Number
+
+-- the command copies its guest's name
+abbrev pub copies : Command → Bool
+copies (command.Reserve guest kind arrive nights) = true
+copies _ = false
 
 -- What is asked copies a text: a booking does, its guest.
 abbrev pub ask_copies : Ask → Bool

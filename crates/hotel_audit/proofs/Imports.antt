@@ -6,9 +6,9 @@ use Rattle.keycard_rules.specs.Note.{Note}
 use Rattle.hotel_core.specs.declared.command.Command.TheVariants as command
 use Rattle.hotel_core.specs.declared.reply.Reply.{Reply}
 use Rattle.hotel_core.specs.declared.reply.Reply.TheVariants as reply
-use Rattle.hotel_core.specs.Model.History.{History}
 use Rattle.hotel_core.specs.Model.Rows.{Rows}
-use Rattle.hotel_core.specs.Model.Run.{StandsFor, Steps}
+use Rattle.hotel_core.specs.Model.Leads.{Leads}
+use Rattle.hotel_core.specs.Model.Run.{Steps}
 use Rattle.hotel_core.proofs.Invariants.Assurance.{assured}
 use Rattle.hotel_core.proofs.Lifted.Runs.{runs_join}
 use Rattle.hotel_audit.specs.declared.answer.LineAnswer.{LineAnswer}
@@ -16,7 +16,7 @@ use Rattle.hotel_audit.specs.declared.answer.LineAnswer.TheVariants as answer
 use Rattle.hotel_audit.specs.declared.line.Cause.{Cause}
 use Rattle.hotel_audit.specs.declared.line.Line.{Line}
 use Rattle.hotel_audit.specs.declared.line.Line.TheVariants as line
-use Rattle.hotel_audit.specs.Import.{AreAnswered, Imports, LinesRun, answer_of, commands_of, has_taken, replies_in}
+use Rattle.hotel_audit.specs.Import.{AreAnswered, LinesLeadTo, answer_of, commands_of, has_taken, replies_in}
 use Rattle.hotel_audit.proofs.NoteReplies.{answered_reply}
 
 commands_of-append : (lines more : List Line) → commands_of (lines ++ more) ≡ commands_of lines ++ commands_of more
@@ -31,7 +31,8 @@ replies_in-append (answer.Seen ∷ answers) more = ap (λ rs. reply.Seen ∷ rs)
 replies_in-append (answer.Unread cause ∷ answers) more = replies_in-append answers more
 replies_in-append (answer.Refused why ∷ answers) more = ap (λ rs. reply.Refused why ∷ rs) (replies_in-append answers more)
 
-AreAnswered-append : (lines more : List Line) (answers others : List LineAnswer) → AreAnswered lines answers → AreAnswered more others → AreAnswered (lines ++ more) (answers ++ others)
+-- the answers to lines and to further lines
+pub AreAnswered-append : (lines more : List Line) (answers others : List LineAnswer) → AreAnswered lines answers → AreAnswered more others → AreAnswered (lines ++ more) (answers ++ others)
 AreAnswered-append [] more [] others h k = k
 AreAnswered-append (l ∷ lines) more (a ∷ answers) others h k = (h.0, AreAnswered-append lines more answers others h.1 k)
 AreAnswered-append [] more (a ∷ answers) others h k = absurd h
@@ -45,57 +46,26 @@ has_taken-push (answer.Seen ∷ answers) a = has_taken-push answers a
 has_taken-push (answer.Unread cause ∷ answers) a = has_taken-push answers a
 has_taken-push (answer.Refused why ∷ answers) a = has_taken-push answers a
 
-LinesRun-join : (h : History) (lines more : List Line) (answers others : List LineAnswer) (rows later : Rows) → LinesRun h lines answers rows
-    → ((mid : History) → StandsFor mid rows → LinesRun mid more others later) → LinesRun h (lines ++ more) (answers ++ others) later
-LinesRun-join h lines more answers others rows later first second source =
-    let r = first source in
-    let k = second r.0 r.1 source in
-    rw (commands_of-append lines more, replies_in-append answers others)
-    (k.0, k.1, runs_join h r.0 k.0 source source source (commands_of lines) (commands_of more) (replies_in answers) (replies_in others) r.2 k.2, k.3)
-
 -- no lines change nothing
-pub Imports-none : {S : Type 0} (is_clean : S → Type 0) (rows : S → Rows) (old : S) → Imports is_clean rows old old [] []
-Imports-none is_clean rows old = record {
-  each = tt;
-  run = λ h stands clean source. (h, stands, (refl, refl), assured h stands.0);
-}
+pub lead-none : (rows : Rows) → LinesLeadTo rows [] [] rows
+lead-none rows source h stands = (h, stands, (refl, refl), assured h stands.0)
 
 -- an unread line changes nothing
-pub Imports-unread : {S : Type 0} (is_clean : S → Type 0) (rows : S → Rows) (old : S) (cause : Cause) → Imports is_clean rows old old (line.Unread cause ∷ []) (answer.Unread cause ∷ [])
-Imports-unread is_clean rows old cause = record {
-  each = (refl, tt);
-  run = λ h stands clean source. (h, stands, (refl, refl), assured h stands.0);
-}
+pub lead-unread : (rows : Rows) (cause : Cause) → LinesLeadTo rows (line.Unread cause ∷ []) (answer.Unread cause ∷ []) rows
+lead-unread rows cause source h stands = (h, stands, (refl, refl), assured h stands.0)
 
 -- a note's line is one step
-pub Imports-note : {S : Type 0} (is_clean : S → Type 0) (rows : S → Rows) (old new : S) (note : Note) (given : Reply) (a : LineAnswer) → Ok a ≡ answer_of given
-    → ((h : History) → StandsFor h (rows old) → is_clean new → (source : Stream) → (h' : History) × StandsFor h' (rows new) × Steps h source (command.Reported note) given h' source)
-    → Imports is_clean rows old new (line.Note note ∷ []) (a ∷ [])
-Imports-note is_clean rows old new note given a e step =
-    let answered = answered_reply note given a e in
-    record {
-      each = (answered.0, tt);
-      run = λ h stands clean source.
-          let s = step h stands clean source in
-          rw (answered.1) (s.0, s.1, (s.0, source, s.2, (refl, refl)), assured s.0 s.1.0);
-    }
+pub lead-note : (rows later : Rows) (note : Note) (given : Reply) (a : LineAnswer) → Ok a ≡ answer_of given
+    → ((source : Stream) → Leads rows (λ h h'. Steps h source (command.Reported note) given h' source) later) → LinesLeadTo rows (line.Note note ∷ []) (a ∷ []) later
+lead-note rows later note given a e step source h stands =
+    let s = step source h stands in
+    rw ((answered_reply note given a e).1) (s.0, s.1, (s.0, source, s.2, (refl, refl)), s.3)
 
 -- further lines after some
-pub Imports-join : {S : Type 0} (is_clean : S → Type 0) (rows : S → Rows) (old mid new : S) (lines more : List Line) (answers others : List LineAnswer) → (is_clean new → is_clean mid)
-    → Imports is_clean rows old mid lines answers → Imports is_clean rows mid new more others → Imports is_clean rows old new (lines ++ more) (answers ++ others)
-Imports-join is_clean rows old mid new lines more answers others back first second = record {
-  each = AreAnswered-append lines more answers others first.each second.each;
-  run = λ h stands clean. LinesRun-join h lines more answers others (rows mid) (rows new) (first.run h stands (back clean)) (λ k stood. second.run k stood clean);
-}
-
--- what changes no row is no line
-pub Imports-stay : {S : Type 0} (is_clean : S → Type 0) (rows : S → Rows) (old mid new : S) (lines : List Line) (answers : List LineAnswer) → (is_clean new → is_clean mid)
-    → (is_clean new → rows new ≡ rows mid) → Imports is_clean rows old mid lines answers → Imports is_clean rows old new lines answers
-Imports-stay is_clean rows old mid new lines answers back same first = record {
-  each = first.each;
-  run = λ h stands clean. rw (same clean) (first.run h stands (back clean));
-}
-
--- a source that answers 0 always
-pub silent : Stream
-silent = record { u32_after = λ calls. 0; u64_after = λ calls. 0; bytes_after = λ calls n. [] }
+pub lead-join : (rows mid later : Rows) (lines more : List Line) (answers others : List LineAnswer) → LinesLeadTo rows lines answers mid → LinesLeadTo mid more others later
+    → LinesLeadTo rows (lines ++ more) (answers ++ others) later
+lead-join rows mid later lines more answers others first second source h stands =
+    let r = first source h stands in
+    let k = second source r.0 r.1 in
+    rw (commands_of-append lines more, replies_in-append answers others)
+    (k.0, k.1, runs_join h r.0 k.0 source source source (commands_of lines) (commands_of more) (replies_in answers) (replies_in others) r.2 k.2, k.3)

@@ -5,6 +5,8 @@ use Rattle.std.specs.BTreeSet.{insert_key}
 use Rattle.std.specs.Ordering.{is_eq, match_ordering}
 use Rattle.std.specs.declared.cmp.Ordering.{Ordering}
 use Rattle.std.specs.declared.cmp.Ordering.TheVariants.{Less, Equal, Greater}
+use Rattle.std.specs.BTreeMap.{is_at}
+use Rattle.std.specs.Set.{remove_key}
 use Rattle.keycard_rules.specs.declared.note.Act.{Act}
 use Rattle.keycard_rules.specs.declared.note.Act.TheVariants as act
 use Rattle.keycard_rules.specs.Note.{Note}
@@ -17,7 +19,7 @@ use Rattle.hotel_core.specs.Model.History.{History, ◌▷◌}
 use Rattle.hotel_core.specs.Model.Ledger.{awaited, turns}
 use Rattle.hotel_core.specs.Model.Lock.{held}
 use Rattle.hotel_core.specs.Model.Notes.{Standing, Copy, Conflicting, Next, After, notes, standing}
-use Rattle.hotel_core.specs.Model.Words.{and_last, pair_cmp, remove_key, when, without, after}
+use Rattle.hotel_core.specs.Model.Words.{and_last, pair_cmp, when, without, after}
 use Rattle.hotel_core.proofs.OfTables.Pairs.{pair_is}
 use Rattle.hotel_core.proofs.OfTables.Tests.{and_true, eq_from}
 use Rattle.hotel_audit.specs.FilesCounted.{event_by, event_of}
@@ -44,12 +46,12 @@ other_came [] room number r f = ap (λ b. when b (λ numbers. number ∷ numbers
 other_came (e ∷ es) room number r f = other_by (pair_cmp (room, number) e) room number r e es f (other_came es room number r f)
 
 -- who is inside a room, after a card left another one
-other_left : (es : List (ℕ × ℕ)) (room number r : ℕ) → (room == r) ≡ false → those_in (remove_key pair_cmp es (room, number)) r ≡ those_in es r
+other_left : (es : List (ℕ × ℕ)) (room number r : ℕ) → (room == r) ≡ false → those_in (remove_key (is_at (pair_cmp (room, number))) es) r ≡ those_in es r
 other_left [] room number r f = refl
-other_left (e ∷ es) room number r f = by (is_eq (pair_cmp (room, number) e)) refl (other_left es room number r f)
+other_left (e ∷ es) room number r f = by (is_at (pair_cmp (room, number)) e) refl (other_left es room number r f)
   where
-    by : (b : Bool) → is_eq (pair_cmp (room, number) e) ≡ b → those_in (remove_key pair_cmp es (room, number)) r ≡ those_in es r
-        → those_in (if b then es else e ∷ remove_key pair_cmp es (room, number)) r ≡ those_in (e ∷ es) r
+    by : (b : Bool) → is_at (pair_cmp (room, number)) e ≡ b → those_in (remove_key (is_at (pair_cmp (room, number))) es) r ≡ those_in es r
+        → those_in (if b then es else e ∷ remove_key (is_at (pair_cmp (room, number))) es) r ≡ those_in (e ∷ es) r
     by true q ih =
         let its_room : e.0 ≡ room = eq_from e.0 room (and_true (e.0 == room) (e.1 == number) (sym (pair_is room number e) ∙ q)).0 in
         let other : (e.0 == r) ≡ false = ap (λ z. z == r) its_room ∙ f in

@@ -1,5 +1,5 @@
 -- The import of an audit file: its notes are reported in order, and its unread lines do nothing.
-use Rattle.std.specs.Prelude.{ℕ, ◌≡◌, ◌⊎◌, Bool, true, false, List, [], ◌∷◌, take, length, nat_lt, if◌then◌else◌, Result, Ok, Err}
+use Rattle.std.specs.Prelude.{ℕ, ◌≡◌, ◌⊎◌, Bool, true, false, List, [], ◌∷◌, ◌++◌, length, if◌then◌else◌, Result, Ok, Err}
 use Rattle.rand_core.specs.Stream.{Stream}
 use Rattle.keycard_rules.specs.declared.issued.LookFault.{LookFault}
 use Rattle.keycard_rules.specs.declared.issued.LookFault.TheVariants as look
@@ -9,18 +9,17 @@ use Rattle.hotel_core.specs.declared.reply.Reply.{Reply}
 use Rattle.hotel_core.specs.declared.reply.Reply.TheVariants as reply
 use Rattle.hotel_core.specs.declared.reply.Refusal.{Refusal}
 use Rattle.hotel_core.specs.declared.reply.Refusal.TheVariants as refusal
-use Rattle.hotel_core.specs.Model.History.{History}
-use Rattle.hotel_core.specs.Refinement.Lift.{RunsSafely}
+use Rattle.hotel_core.specs.Model.Leads.{Leads}
 use Rattle.hotel_core.specs.Model.Rows.{Rows}
-use Rattle.hotel_core.specs.Model.Run.{StandsFor, is_failed}
+use Rattle.hotel_core.specs.Model.Run.{Runs, is_failed}
 use Rattle.hotel_audit.specs.declared.answer.LineAnswer.{LineAnswer}
 use Rattle.hotel_audit.specs.declared.answer.LineAnswer.TheVariants.{Taken, Seen, Unread, Refused}
+use Rattle.hotel_audit.specs.declared.audit_file.AuditFault.{AuditFault}
 use Rattle.hotel_audit.specs.declared.audit_file.AuditFault.TheVariants as fault
 use Rattle.hotel_audit.specs.declared.importing.ImportFault.{ImportFault}
 use Rattle.hotel_audit.specs.declared.importing.ImportFault.TheVariants.{File, Memory, Store}
 use Rattle.hotel_audit.specs.declared.line.Line.{Line}
 use Rattle.hotel_audit.specs.declared.line.Line.TheVariants as line
-use Rattle.hotel_audit.specs.AuditFile.{audit_lines}
 
 -- the commands that the lines are: each note is reported
 abbrev pub commands_of : List Line → List Command
@@ -51,14 +50,9 @@ AreAnswered (line ∷ lines) (answer ∷ answers) = IsAnswerTo line answer × Ar
 AreAnswered [] (answer ∷ answers) = ⊥
 AreAnswered (line ∷ lines) [] = ⊥
 
--- The lines with these answers lead from the history to the rows: their notes ran, with these replies, and what is assured holds then. No word of a source is taken.
-abbrev pub LinesRun : History → List Line → List LineAnswer → Rows → Type 0
-LinesRun h lines answers rows = (source : Stream) → RunsSafely h source (commands_of lines) (replies_in answers) rows source
-
--- The books went from the state old to new by these lines, which have these answers.
-pub record Imports {S : Type 0} (is_clean : S → Type 0) (rows : S → Rows) (old new : S) (lines : List Line) (answers : List LineAnswer) : Type 0 where
-  pub each : AreAnswered lines answers
-  pub run : (h : History) → StandsFor h (rows old) → is_clean new → LinesRun h lines answers (rows new)
+-- The lines with these answers lead from rows to later ones: their notes ran, with these replies, and no word of a source was taken.
+abbrev pub LinesLeadTo : Rows → List Line → List LineAnswer → Rows → Type 0
+LinesLeadTo rows lines answers later = (source : Stream) → Leads rows (λ h h'. Runs h source (commands_of lines) (replies_in answers) h' source) later
 
 -- one of the answers is Taken
 abbrev pub has_taken : List LineAnswer → Bool
@@ -68,20 +62,21 @@ has_taken (Seen ∷ answers) = has_taken answers
 has_taken (Unread cause ∷ answers) = has_taken answers
 has_taken (Refused refusal ∷ answers) = has_taken answers
 
--- The books went from the state old to new by all lines of the file.
-abbrev pub ImportsFile : {S : Type 0} → (S → Type 0) → (S → Rows) → List ℕ → S → S → List LineAnswer → Type 0
-ImportsFile is_clean rows bytes old new answers = (lines : List Line) × (audit_lines bytes ≡ Ok lines) × Imports is_clean rows old new lines answers
+-- the answers, or the fault that came in place of them
+abbrev pub outcome_of : {A : Type 0} → (A → List LineAnswer) → Result A ImportFault → Result (List LineAnswer) ImportFault
+outcome_of answers (Ok given) = Ok (answers given)
+outcome_of answers (Err why) = Err why
 
--- The books went from the state old to new by so many of the lines, with answers of which one is Taken or none.
-abbrev pub ImportsSome : {S : Type 0} → (S → Type 0) → (S → Rows) → List Line → S → S → ℕ → Bool → Type 0
-ImportsSome is_clean rows lines old new answered taken =
-    (answers : List LineAnswer) × (length answers ≡ answered) × (has_taken answers ≡ taken) × Imports is_clean rows old new (take answered lines) answers
+-- These lines are a front of the file's. Their answers are so many, and one of them is Taken or none.
+abbrev pub IsFrontOf : Result (List Line) AuditFault → List Line → List LineAnswer → ℕ → Bool → Type 0
+IsFrontOf file lines answers answered taken = (rest : List Line) × (file ≡ Ok (lines ++ rest)) × (length answers ≡ answered) × (has_taken answers ≡ taken)
 
--- The file is none, or there was no memory to read it, and nothing was begun; or the import was stopped after some of its lines.
-abbrev pub StopsImport : {S : Type 0} → (S → Type 0) → (S → Rows) → List ℕ → S → S → ImportFault → Type 0
-StopsImport is_clean rows bytes old new (File why) = (new ≡ old) × ((why ≡ fault.Memory) ⊎ (audit_lines bytes ≡ Err why))
-StopsImport is_clean rows bytes old new (Memory answered taken) = (lines : List Line) × (audit_lines bytes ≡ Ok lines) × ImportsSome is_clean rows lines old new answered taken
-StopsImport is_clean rows bytes old new (Store answered taken) = (lines : List Line) × (audit_lines bytes ≡ Ok lines) × ImportsSome is_clean rows lines old new answered taken
+-- An import of a file ended so after these lines with these answers: with all of its lines; with none, where it is no file or there was no memory to read it; or it was stopped after some.
+abbrev pub EndsAfter : Result (List Line) AuditFault → Result (List LineAnswer) ImportFault → List Line → List LineAnswer → Type 0
+EndsAfter file (Ok given) lines answers = (file ≡ Ok lines) × (answers ≡ given)
+EndsAfter file (Err (File why)) lines answers = (lines ≡ []) × (answers ≡ []) × ((why ≡ fault.Memory) ⊎ (file ≡ Err why))
+EndsAfter file (Err (Memory answered taken)) lines answers = IsFrontOf file lines answers answered taken
+EndsAfter file (Err (Store answered taken)) lines answers = IsFrontOf file lines answers answered taken
 
 -- The failure that stopped the import, which the books counted. That there was no memory to read the file or for its answers isn't counted.
 abbrev pub failures_of : ImportFault → List Refusal

@@ -1,10 +1,15 @@
 //! The import of an audit file into any books.
-ghost use Rattle.std.specs.Prelude.{◌≡◌, ℕ, [], ◌∷◌, true, IfOk, IfErr, OnErr, Err, Bool};
+ghost use Rattle.std.specs.Prelude.{◌≡◌, ◌<◌, List, [], ◌∷◌, length, IfOk, IfErr, OnErr, Ok, Err};
+ghost use Rattle.rand_core.specs.Stream.{Stream};
 ghost use Rattle.keycard_rules.specs.Rise.{NoFewer};
 ghost use Rattle.hotel_core.specs.Books.Failures.{AreCounted};
+ghost use Rattle.hotel_core.specs.Model.Leads.{Leads};
+ghost use Rattle.hotel_core.specs.Model.Run.{Runs};
+ghost use Rattle.hotel_audit.specs.declared.answer.LineAnswer.{LineAnswer};
 ghost use Rattle.hotel_audit.specs.declared.audit_file.AuditFault.{AuditFault};
-ghost use Rattle.hotel_audit.specs.declared.audit_file.AuditFault.TheVariants as audit_fault;
-ghost use Rattle.hotel_audit.specs.Import.{answer_of, Imports, ImportsFile, ImportsSome, StopsImport, failures_of, refusal_by};
+ghost use Rattle.hotel_audit.specs.declared.line.Line.{Line};
+ghost use Rattle.hotel_audit.specs.AuditFile.{audit_lines};
+ghost use Rattle.hotel_audit.specs.Import.{AreAnswered, EndsAfter, IsAnswerTo, LinesLeadTo, answer_of, commands_of, failures_of, outcome_of, refusal_by, replies_in};
 
 use crate::answer::LineAnswer;
 use crate::audit_file::{AuditFault, read_notes};
@@ -42,7 +47,8 @@ const fn answer_of(reply: &Reply) -> Result<LineAnswer, LookFault>
 
 /// Carries out one line.
 fn answer_line<B: Books>(books: &mut B, line: &Line) -> Result<LineAnswer, LookFault>
-    ensures answer { IfOk result (λ answer. Imports B.is_clean B.rows books.old books.new (line.now ∷ []) (answer ∷ [])) }
+    ensures answer { IfOk result (λ answer. IsAnswerTo line.now answer) }
+    ensures step { IfOk result (λ answer. B.is_clean books.new → LinesLeadTo (B.rows books.old) (line.now ∷ []) (answer ∷ []) (B.rows books.new)) }
     ensures unchanged { OnErr result (B.is_clean books.new → B.rows books.new ≡ B.rows books.old) }
     ensures failed { IfErr result (λ why. B.is_clean books.new → AreCounted (B.failures books.old) (B.failures books.new) (refusal_by why ∷ [])) }
     ensures was_clean { B.is_clean books.new → B.is_clean books.old }
@@ -60,10 +66,10 @@ fn import_lines<B: Books>(
     books: &mut B,
     lines: &[Line],
 ) -> Result<Vec<LineAnswer>, ImportFault>
-    ensures imported { IfOk result (λ answers. Imports B.is_clean B.rows books.old books.new lines.now answers.items) }
-    ensures memory { (answered : ℕ) (taken : Bool) → result ≡ Err (ImportFault.Memory answered taken) → ImportsSome B.is_clean B.rows lines.now books.old books.new answered taken }
-    ensures store { (answered : ℕ) (taken : Bool) → result ≡ Err (ImportFault.Store answered taken) → ImportsSome B.is_clean B.rows lines.now books.old books.new answered taken }
-    ensures file { (why : AuditFault) → result ≡ Err (ImportFault.File why) → (why ≡ audit_fault.Memory) × (books.new ≡ books.old) }
+    ensures imported { (done : List Line) × (answers : List LineAnswer) × AreAnswered done answers
+        × EndsAfter (Ok lines.now) (outcome_of (λ v. v.items) result) done answers
+        × (B.is_clean books.new → LinesLeadTo (B.rows books.old) done answers (B.rows books.new)) }
+    ensures no_file { IfErr result (λ f. (why : AuditFault) → f ≡ ImportFault.File why → books.new ≡ books.old) }
     ensures failed { IfErr result (λ f. B.is_clean books.new → AreCounted (B.failures books.old) (B.failures books.new) (failures_of f)) }
     ensures was_clean { B.is_clean books.new → B.is_clean books.old }
     ensures counted { NoFewer (B.failures books.old) (B.failures books.new) }
@@ -96,9 +102,14 @@ pub fn import<B: Books>(
     books: &mut B,
     bytes: &[u8],
 ) -> Result<Vec<LineAnswer>, ImportFault>
-    ensures imported { IfOk result (λ answers. ImportsFile B.is_clean B.rows bytes.now books.old books.new answers.items) }
-    ensures stopped { IfErr result (λ f. StopsImport B.is_clean B.rows bytes.now books.old books.new f) }
-    ensures failed { IfErr result (λ f. B.is_clean books.new → AreCounted (B.failures books.old) (B.failures books.new) (failures_of f)) }
+    ensures imported { (lines : List Line) × (answers : List LineAnswer) × AreAnswered lines answers
+        × EndsAfter (audit_lines bytes.now) (outcome_of (λ v. v.items) result) lines answers
+        × (B.is_clean books.new → (source : Stream) → Leads (B.rows books.old)
+        (λ h h'. Runs h source (commands_of lines) (replies_in answers) h' source) (B.rows books.new)) }
+    ensures large { 262144 < length bytes.now → result ≡ Err (ImportFault.File AuditFault.TooLarge) }
+    ensures no_file { IfErr result (λ f. (why : AuditFault) → f ≡ ImportFault.File why → books.new ≡ books.old) }
+    ensures failed { IfErr result (λ fault. B.is_clean books.new →
+        AreCounted (B.failures books.old) (B.failures books.new) (failures_of fault)) }
     ensures was_clean { B.is_clean books.new → B.is_clean books.old }
     ensures counted { NoFewer (B.failures books.old) (B.failures books.new) }
 {
@@ -110,8 +121,6 @@ pub fn import<B: Books>(
 
 #[cfg(test)]
 mod desks;
-#[cfg(test)]
-mod stopping;
 #[cfg(test)]
 mod stops;
 #[cfg(test)]

@@ -19,7 +19,6 @@ pub mod Homes
 pub mod InHouse
 pub mod InHouseLinks
 pub mod KindCounts
-pub mod RoomCount
 pub mod Kept
 pub mod NotesMoved
 pub mod Assurance

@@ -7,6 +7,8 @@ pub mod LiftGuests
 pub mod LiftNotes
 pub mod LiftAll
 pub mod Runs
+pub mod AnswersTell
+pub mod Computed
 pub mod RunParts
 pub mod Whole
 pub mod WholeRows

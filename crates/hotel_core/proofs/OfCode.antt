@@ -5,3 +5,4 @@ pub mod DrawParts
 pub mod FailuresCounted
 pub mod Walking
 pub mod AnswerParts
+pub mod HandedOn

@@ -15,7 +15,6 @@ pub mod NotesKept
 pub mod StayStates
 pub mod MapEntries
 pub mod RowsChanged
-pub mod KindKeys
 pub mod LaterPlaces
 pub mod PlacedCodes
 pub mod DayNumbers

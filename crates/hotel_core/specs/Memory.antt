@@ -1,14 +1,18 @@
 -- How books in memory keep their tables.
-use Rattle.std.specs.Prelude.{ℕ, ◌≡◌, ◌≤◌, List, [], ◌∷◌, None}
-use Rattle.std.specs.Map.{lookup}
+use Rattle.std.specs.Prelude.{ℕ, ◌≡◌, ◌≤◌, List, [], ◌∷◌, None, bytes_eq}
+use Rattle.std.specs.List.{count_by}
+use Rattle.std.specs.Map.{lookup, values_of}
 use Rattle.std.specs.BTreeMap.{is_at}
 use Rattle.keycard_rules.specs.Note.{Note}
 use Rattle.keycard_rules.specs.Numbers.{IsNumberUpTo}
+use Rattle.hotel_nights.specs.declared.stay.Stay.{Stay}
 use Rattle.hotel_core.specs.declared.books.rows.RoomRow.{RoomRow}
 use Rattle.hotel_core.specs.declared.books.rows.CodeRow.{CodeRow}
 use Rattle.hotel_core.specs.Model.Words.{said_of, pair_cmp}
 use Rattle.hotel_core.specs.Model.Rows.{Rows, at_number}
 use Rattle.hotel_core.specs.Books.Lookups.{first_code_at}
+use Rattle.hotel_core.specs.NightIndex.{StandsFor}
+use Rattle.hotel_core.specs.KindRooms.{rooms_in}
 
 -- the rows, and how many calls found no memory
 pub record Listed : Type 0 where
@@ -22,6 +26,25 @@ PlacesAgree codes places = (room place : ℕ) → lookup (is_at (pair_cmp (room,
 -- At each room, the places from its number of codes on are free (all places, where the room isn't there).
 abbrev pub LaterPlacesFree : List (ℕ × RoomRow) → List (ℕ × CodeRow) → Type 0
 LaterPlacesFree rooms codes = (room place : ℕ) → said_of (at_number rooms room) 0 (λ row. row.codes) ≤ place → first_code_at codes room place ≡ None
+
+-- Each room is kept under a room's number.
+abbrev pub HaveRoomNumbers : List (ℕ × RoomRow) → Type 0
+HaveRoomNumbers [] = Unit {0}
+HaveRoomNumbers (e ∷ es) = IsNumberUpTo 9999 e.0 × HaveRoomNumbers es
+
+-- As many rooms of each kind are counted as there are, and each has a room's number.
+pub record RoomsKnown (kinds : List (List ℕ × ℕ)) (rooms : List (ℕ × RoomRow)) : Type 0 where
+  pub counts : (kind : List ℕ) → rooms_in kinds kind ≡ count_by (λ (row : RoomRow). bytes_eq row.kind kind) (values_of rooms)
+  pub numbers : HaveRoomNumbers rooms
+
+-- The tables of kinds, rooms and codes agree.
+pub record TablesAgree (kinds : List (List ℕ × ℕ)) (rooms : List (ℕ × RoomRow)) (codes : List (ℕ × CodeRow)) : Type 0 where
+  pub places : LaterPlacesFree rooms codes
+  pub rooms_known : RoomsKnown kinds rooms
+
+-- The index has what the stays take.
+abbrev pub StandsForAll : List ((List ℕ × ℕ) × ℕ) → List (ℕ × Stay) → Type 0
+StandsForAll counts stays = StandsFor counts (values_of stays)
 
 -- Each pair's second number is a card's.
 abbrev pub HaveCardNumbers : List (ℕ × ℕ) → Type 0

@@ -10,5 +10,3 @@ pub mod Finds
 pub mod Stepping
 pub mod Issuing
 pub mod Noting
-pub mod Follow
-pub mod CodeLaws

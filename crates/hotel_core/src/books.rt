@@ -1,9 +1,11 @@
 //! The books of the desk, however they are kept.
-ghost use Rattle.std.specs.Prelude.{◌≡◌, List, Option, Some, None, Bool, true, false, OnOk, OnErr, IfErr, IsOk, Err, length};
+ghost use Rattle.std.specs.Prelude.{◌≡◌, ◌-◌, List, Option, Some, None, Bool, true, false, OnOk, OnErr, IfErr, IsOk, Err, length, not};
 ghost use Rattle.keycard_rules.specs.Rise.{HasRisen, NoFewer};
 ghost use Rattle.keycard_rules.specs.declared.issued.LookFault.TheVariants.{Memory};
+ghost use Rattle.hotel_core.specs.Model.Words.{is_one_of};
 ghost use Rattle.hotel_core.specs.Model.Rows.{Rows, has_kind};
-ghost use Rattle.hotel_core.specs.Books.Lookups.{room_at, codes_in, code_place, code_at, stay_at, stays_of_kind, card_at, inside_at, note_at, rooms_of_kind, number_after};
+ghost use Rattle.hotel_core.specs.Model.Guests.{are_none};
+ghost use Rattle.hotel_core.specs.Books.Lookups.{room_at, codes_in, code_place, code_at, stay_at, stays_of_kind, card_at, inside_at, note_at, rooms_of_kind, first_full_on, number_after};
 ghost use Rattle.hotel_core.specs.Books.Reads.{LooksUp};
 ghost use Rattle.hotel_core.specs.Books.Change.{made};
 ghost use Rattle.hotel_core.specs.Books.Fits.{Fits, takes_memory};
@@ -16,7 +18,7 @@ pub mod walks;
 
 use crate::books::change::Change;
 use crate::books::rows::{CodeRow, NextNumbers, RoomRow};
-use hotel_nights::{Day, KindCode, Stay};
+use hotel_nights::{Day, Guest, KindCode, Stay};
 use keycard_rules::{Card, CardNo, Code, Count, Issued, LockNote, LookFault, PartyNo, RoomNo};
 
 /// The books of the desk: eight tables, each seen as the list of its rows in the order of their keys.
@@ -55,12 +57,33 @@ pub trait Books: Issued {
     fn stays_of_kind(&mut self, kind: &KindCode) -> Result<Vec<Stay>, LookFault>
         ensures { LooksUp Self.Issued true (λ v. v.items) (stays_of_kind (rows self.old) kind.now) self.old self.new result };
 
+    /// The first night from `arrive` on and before `depart` on which the kind's booked and in-house stays take all its rooms.
+    fn full_night(
+        &mut self,
+        kind: &KindCode,
+        arrive: Day,
+        depart: Day,
+    ) -> Result<Option<Day>, LookFault>
+        ensures { LooksUp Self.Issued false (λ a. a) (first_full_on (rows self.old) kind.now arrive (depart - arrive)) self.old self.new result };
+
+    /// A copy of a guest's name, which takes memory of the books' own.
+    fn copy_guest(&mut self, guest: &Guest) -> Result<Guest, LookFault>
+        ensures { LooksUp Self.Issued true (λ a. a) guest.now self.old self.new result };
+
     fn card(&mut self, number: CardNo) -> Result<Option<Card>, LookFault>
         ensures { LooksUp Self.Issued false (λ a. a) (card_at (rows self.old) number) self.old self.new result };
 
     /// The numbers of the cards inside a room, in order.
     fn inside(&mut self, room: RoomNo) -> Result<Vec<CardNo>, LookFault>
         ensures { LooksUp Self.Issued true (λ v. v.items) (inside_at (rows self.old) room) self.old self.new result };
+
+    /// Whether a card is inside a room.
+    fn is_inside(&mut self, room: RoomNo, number: CardNo) -> Result<bool, LookFault>
+        ensures { LooksUp Self.Issued false (λ a. a) (is_one_of number (inside_at (rows self.old) room)) self.old self.new result };
+
+    /// Whether any card is inside a room.
+    fn has_inside(&mut self, room: RoomNo) -> Result<bool, LookFault>
+        ensures { LooksUp Self.Issued false (λ a. a) (not (are_none (inside_at (rows self.old) room))) self.old self.new result };
 
     /// The note of a count that was taken.
     fn note(&mut self, room: RoomNo, count: Count) -> Result<Option<LockNote>, LookFault>

@@ -1,33 +1,48 @@
-// Laws of the model that were proved.
-ghost use Rattle.hotel_core.specs.Refinement.Follow.{AnswersFollow};
-ghost use Rattle.hotel_core.specs.Model.Headline.{StepKeeps};
+//! Laws of the model, which make no call: what a caller may rest on beside the contracts of the calls.
+ghost use Rattle.hotel_core.specs.Model.Headline.{Assured};
+ghost use Rattle.hotel_core.specs.Model.History.{History};
+ghost use Rattle.hotel_core.specs.Model.Laws.{RunsAgree, RunsCompute, RunsJoin, RunsReach, StartsStand};
+ghost use Rattle.hotel_core.specs.Model.Run.{Reached};
+ghost use Rattle.hotel_core.specs.Model.Sound.{RulesAreTested};
+ghost use Rattle.hotel_core.specs.Refinement.Lift.{AnswersLift, ChangesFit};
+ghost use Rattle.hotel_core.specs.Refinement.ListsLift.{ListsLift};
 
-/// A step makes a history that can be reached.
-pub fn step_keeps()
-    ensures { StepKeeps }
+/// The headline, and what is assured beside it, hold of each history that can be reached.
+pub fn assured()
+    ensures { (h : History) → Reached h → Assured h }
 {}
 
-/// Each event that an answer accepts may follow.
-pub fn answers_follow()
-    ensures { AnswersFollow }
+/// What comes of a command on the rows of a history, and the rows of the lists computed on them, are those of the
+/// history.
+pub fn answers_lift()
+    ensures answers { AnswersLift }
+    ensures lists { (h : History) → Reached h → ListsLift h }
 {}
 
-ghost use Rattle.hotel_core.specs.Model.Rows.{no_rows};
-ghost use Rattle.hotel_core.specs.Model.Sound.{IsSound};
-
-/// Empty books are sound.
-pub fn empty_is_sound()
-    ensures { IsSound no_rows }
+/// The rows after one more event are those that its change makes, and the change fits.
+pub fn changes_fit()
+    ensures { ChangesFit }
 {}
 
-ghost use Rattle.hotel_core.specs.Refinement.Follow.{EasyRowsFollow, LeftFollows};
-
-/// The rows after events that touch no room.
-pub fn easy_rows_follow()
-    ensures { EasyRowsFollow }
+/// A run after a run is a run; runs in which nothing failed are determined by the commands and the source; a run ends
+/// in a history that can be reached.
+pub fn runs_join()
+    ensures join { RunsJoin }
+    ensures agree { RunsAgree }
+    ensures reach { RunsReach }
 {}
 
-/// The rows after a card left a room.
-pub fn left_follows()
-    ensures { LeftFollows }
+/// A run as it is computed from a source's words is a run, in which nothing failed.
+pub fn runs_compute()
+    ensures { RunsCompute }
+{}
+
+/// The rules of sound rows hold exactly where their test passes.
+pub fn rules_are_tested()
+    ensures { RulesAreTested }
+{}
+
+/// Sound rows stand for a history.
+pub fn starts_stand()
+    ensures { StartsStand }
 {}

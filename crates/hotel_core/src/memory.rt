@@ -5,6 +5,7 @@ mod inside_table;
 pub mod list_books;
 mod note_table;
 mod row_changes;
+mod stay_table;
 mod table_changes;
 #[cfg(test)]
 mod table_tests;

@@ -1,7 +1,6 @@
 //! Commands one after the other, over any books.
-ghost use Rattle.std.specs.Prelude.{List, IfOk, IfErr, take};
+ghost use Rattle.std.specs.Prelude.{◌≡◌, IfOk, IfErr};
 ghost use Rattle.keycard_rules.specs.Rise.{NoFewer};
-ghost use Rattle.hotel_core.specs.declared.reply.Reply.{Reply};
 ghost use Rattle.hotel_core.specs.Books.Failures.{AreCounted, failures_in};
 ghost use Rattle.hotel_core.specs.Model.Leads.{Leads};
 ghost use Rattle.hotel_core.specs.Model.Run.{Runs};
@@ -13,7 +12,7 @@ use crate::steps::step;
 use rand_core::Rng;
 use std::alloc::Global;
 
-/// Want of memory for a reply, with how many commands were answered; the later ones weren't begun.
+/// Want of memory for the replies: no command was begun, and so 0 were answered.
 #[derive(Clone, Copy, Debug, PartialEq, Eq)]
 pub struct RunFault {
     pub answered: usize,
@@ -28,9 +27,8 @@ pub fn run<B: Books, R: Rng>(
 ) -> Result<Vec<Reply>, RunFault>
     ensures run { IfOk result (λ replies. B.is_clean books.new →
         Leads (B.rows books.old) (λ h h'. Runs h (R.stream source.old) commands.now replies.items h' (R.stream source.new)) (B.rows books.new)) }
-    ensures fault { IfErr result (λ fault. B.is_clean books.new →
-        Leads (B.rows books.old) (λ h h'. (replies : List Reply) × Runs h (R.stream source.old) (take fault.answered commands.now) replies h' (R.stream source.new)) (B.rows books.new)) }
-    ensures failed { IfOk result (λ replies. B.is_clean books.new → AreCounted (B.failures books.old) (B.failures books.new) (failures_in commands.now replies.items)) }
+    ensures fault { IfErr result (λ fault. (fault.answered ≡ 0) × (books.new ≡ books.old) × (source.new ≡ source.old)) }
+    ensures failed { IfOk result (λ replies. B.is_clean books.new → AreCounted (B.failures books.old) (B.failures books.new) (failures_in replies.items)) }
     ensures was_clean { B.is_clean books.new → B.is_clean books.old }
     ensures counted { NoFewer (B.failures books.old) (B.failures books.new) }
 {
@@ -40,9 +38,7 @@ pub fn run<B: Books, R: Rng>(
     for command in commands {
         let reply = step(books, source, command);
         let Ok(()) = replies.push(reply) else {
-            return Err(RunFault {
-                answered: replies.len(),
-            });
+            unreachable!()
         };
     }
     Ok(replies)

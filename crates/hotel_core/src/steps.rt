@@ -11,7 +11,7 @@ ghost use Rattle.hotel_core.specs.Model.Ranges.{IsCommand, IsReply};
 ghost use Rattle.hotel_core.specs.Refinement.Finds.{reply_of};
 ghost use Rattle.hotel_core.specs.Refinement.OnRows.{outcome_on};
 ghost use Rattle.hotel_core.specs.Refinement.StepOnRows.{StepsAs};
-ghost use Rattle.hotel_core.specs.Refinement.Stepping.{copies, takes_none};
+ghost use Rattle.hotel_core.specs.Refinement.Stepping.{takes_none};
 ghost use Rattle.hotel_core.specs.declared.command.Command.TheVariants as command;
 
 use crate::books::Books;
@@ -42,7 +42,7 @@ fn carry_out<B: Books, R: Rng>(
     command: &Command,
 ) -> Result<Reply, Refusal>
     requires { IsCommand command.now }
-    ensures steps { StepsAs B.Issued B.Books.own (copies command.now) (λ rows. outcome_on rows (words 64 (R.stream source.old)) command.now)
+    ensures steps { StepsAs B.Issued B.Books.own (λ rows. outcome_on rows (words 64 (R.stream source.old)) command.now)
         books.old books.new (R.stream source.old) (R.stream source.new) (reply_of result) }
     ensures sure { B.never_fails → takes_none command.now ≡ true → is_failed (reply_of result) ≡ false }
 {
@@ -68,11 +68,10 @@ fn carry_out<B: Books, R: Rng>(
 
 /// Carries out one command, or refuses it and changes nothing.
 ///
-/// `Memory` and `Store` may stand in place of any answer; the books count these failures, but for want of memory to copy
-/// a guest's name.
+/// `Memory` and `Store` may stand in place of any answer; the books count these failures.
 pub fn step<B: Books, R: Rng>(books: &mut B, source: &mut R, command: &Command) -> Reply
     ensures step { B.is_clean books.new → Leads (B.rows books.old) (λ h h'. Steps h (R.stream source.old) command.now result h' (R.stream source.new)) (B.rows books.new) }
-    ensures failed { B.is_clean books.new → AreCounted (B.failures books.old) (B.failures books.new) (failure_in result (copies command.now)) }
+    ensures failed { B.is_clean books.new → AreCounted (B.failures books.old) (B.failures books.new) (failure_in result) }
     ensures was_clean { B.is_clean books.new → B.is_clean books.old }
     ensures counted { NoFewer (B.failures books.old) (B.failures books.new) }
     ensures range { IsReply result }
@@ -91,7 +90,7 @@ pub fn report<B: Books>(books: &mut B, note: &LockNote) -> Reply
     ensures step { B.is_clean books.new → (source : Stream) → Leads (B.rows books.old) (λ h h'. Steps h source (command.Reported note.now) result h' source) (B.rows books.new) }
     ensures note { B.is_clean books.new → IsNoteReply result }
     ensures unchanged { B.is_clean books.new → is_failed result ≡ true → B.rows books.new ≡ B.rows books.old }
-    ensures failed { B.is_clean books.new → AreCounted (B.failures books.old) (B.failures books.new) (failure_in result false) }
+    ensures failed { B.is_clean books.new → AreCounted (B.failures books.old) (B.failures books.new) (failure_in result) }
     ensures was_clean { B.is_clean books.new → B.is_clean books.old }
     ensures counted { NoFewer (B.failures books.old) (B.failures books.new) }
 {

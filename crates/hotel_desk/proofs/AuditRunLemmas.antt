@@ -7,6 +7,11 @@ use Rattle.hotel_lists.specs.Bytes.{AppendsFront}
 use Rattle.hotel_lists.proofs.BytesLemmas.{front_next}
 use Rattle.hotel_audit.specs.Answers.{answer_text, answers_text}
 use Rattle.hotel_audit.specs.declared.answer.LineAnswer.{LineAnswer}
+use Rattle.hotel_audit.specs.declared.audit_file.AuditFault.TheVariants as file
+use Rattle.hotel_audit.specs.declared.importing.ImportFault.{ImportFault}
+use Rattle.hotel_audit.specs.declared.importing.ImportFault.TheVariants.{File, Memory, Store}
+use Rattle.hotel_desk.specs.AuditRuns.{import_fault}
+use Rattle.hotel_desk.specs.declared.faults.Fault.TheVariants as fault
 
 answers_text-append : (number : ℕ) (answers more : List LineAnswer) → answers_text number (answers ++ more) ≡ answers_text number answers ++ answers_text (number + length answers) more
 answers_text-append number [] more = rw add-zero refl
@@ -41,3 +46,12 @@ answers_front old mid new i answers a text h e said first next =
     let whole : answers_text 1 answers ≡ (answers_text 1 (take i answers) ++ answer_text (i + 1) a) ++ rest =
     ap (answers_text 1) (sym (take-append-drop (i + 1) answers)) ∙ answers_text-append 1 (take (i + 1) answers) (drop (i + 1) answers) ∙ ap (λ l. l ++ rest) (answers_more i answers a h e) in
     subst (AppendsFront old new) (sym whole) (front_next old mid new _ _ rest first (subst (AppendsFront mid new) said next))
+
+-- no import ends by a failed write
+pub no_failed_write : (why : ImportFault) → import_fault why ≡ fault.Write → ⊥
+no_failed_write (File file.TooLarge) e = cc
+no_failed_write (File file.NoHeader) e = cc
+no_failed_write (File file.WrongHeader) e = cc
+no_failed_write (File file.Memory) e = cc
+no_failed_write (Memory answered taken) e = cc
+no_failed_write (Store answered taken) e = cc

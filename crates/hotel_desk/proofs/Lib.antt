@@ -1,7 +1,11 @@
 pub mod ReturnLemmas
 pub mod WordLemmas
+pub mod CountedLemmas
 pub mod ScriptLemmas
 pub mod ListAnswerLemmas
+pub mod ListingLemmas
+pub mod LineAnswerLemmas
 pub mod ListRunLemmas
 pub mod AuditRunLemmas
 pub mod ScriptRunLemmas
+pub mod ProgramLemmas

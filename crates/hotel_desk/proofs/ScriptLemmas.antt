@@ -1,7 +1,8 @@
 -- Lines of a script, answered one after the other.
-use Rattle.std.proofs.Common.{◌≡◌, ℕ, zero, suc, ◌+◌, ◌≤◌, List, [], ◌∷◌, ◌++◌, length, take, drop, arith, refl, sym, ap, subst, ◌∙◌, append_assoc, append-nil, length-append, take-append-drop, add-one, Option, Some, None, Bool, true, false}
+use Rattle.std.proofs.Common.{◌≡◌, ℕ, zero, suc, ◌+◌, ◌≤◌, List, [], ◌∷◌, ◌++◌, length, take, drop, arith, refl, sym, ap, subst, ◌∙◌, append_assoc, append-nil, length-append, take-append-drop, add-one, Option, Some, None, true, false, Result, Ok, Err}
 use Rattle.std.proofs.Math.Seq.{take-append-add}
 use Rattle.std.proofs.lemmas.List.{length-drop}
+use Rattle.std.specs.List.{concat}
 use Rattle.std.specs.Io.KnownBytes.{Appends}
 use Rattle.std.proofs.KnownBytes.{Appends-trans, Appends-nil}
 use Rattle.keycard_rules.specs.declared.issued.LookFault.{LookFault}
@@ -20,11 +21,16 @@ use Rattle.hotel_asks.specs.Asks.{ask_copies}
 use Rattle.hotel_desk.specs.Asks.{AsksCopy}
 use Rattle.hotel_core.specs.Model.Rows.{Rows}
 use Rattle.hotel_core.specs.Model.History.{History}
+use Rattle.hotel_core.specs.Model.Leads.{Leads}
 use Rattle.hotel_core.specs.Texts.{reply_text}
 use Rattle.hotel_lists.specs.Bytes.{AppendsFront}
 use Rattle.hotel_desk.specs.Lines.{lines, without_return, is_silent, answered_lines}
-use Rattle.hotel_desk.specs.LineAnswers.{AskGoes, LineGoes, LineIsAnswered}
-use Rattle.hotel_desk.specs.Script.{ScriptGoes, RowsGoSafely, RowsGo}
+use Rattle.hotel_desk.specs.LineAnswers.{AskGoes, LineGoes, LineAnswered}
+use Rattle.hotel_desk.specs.Script.{ScriptGoes, ScriptAnswered, ScriptCut, IfCut}
+use Rattle.hotel_desk.specs.declared.script.ScriptEnd.{ScriptEnd}
+use Rattle.hotel_desk.specs.declared.script.ScriptFault.{ScriptFault}
+use Rattle.hotel_desk.specs.declared.script.ScriptFault.TheVariants.{Read, TooLarge, Write}
+use Rattle.hotel_desk.specs.declared.script.ScriptFault.TheVariants as no
 
 -- where there is no memory to copy a text of what is asked, nothing is moved
 pub ask_without_memory : (wanted : Option Ask) (h : History) (s : Stream) → AsksCopy ask_copies wanted → AskGoes wanted h s (reply_text (Refused Memory)) [] h s
@@ -33,25 +39,28 @@ ask_without_memory (Some (ask.Command command)) h s p = (Refused Memory, (refl, 
 ask_without_memory (Some (ask.List its_list)) h s p = cc p
 
 -- one line more at the end
-pub script-push : (h mid h' : History) (s source s' : Stream) (before : List (List ℕ)) (output line text : List ℕ) (failed more : List Refusal)
-    → ScriptGoes h s before output failed mid source → LineGoes mid source line text more h' s' → ScriptGoes h s (before ++ line ∷ []) (output ++ text) (failed ++ more) h' s'
+script-push : (h mid h' : History) (s source s' : Stream) (before texts : List (List ℕ)) (line text : List ℕ) (failed more : List Refusal)
+    → ScriptGoes h s before texts failed mid source → LineGoes mid source line text more h' s' → ScriptGoes h s (before ++ line ∷ []) (texts ++ text ∷ []) (failed ++ more) h' s'
 unfolding ScriptGoes
-script-push h mid h' s source s' [] output line text failed more r p =
-    let p = subst (λ (x : History). LineGoes x source line text more h' s') r.2 p in
-    let p = subst (λ (x : Stream). LineGoes h x line text more h' s') r.3 p in
-    (h', s', text, [], more, [], p, (refl, refl, refl, refl), rw r.0 (sym (append-nil text)), rw r.1 (sym (append-nil more)))
-script-push h mid h' s source s' (first ∷ before) output line text failed more r p = (
+script-push h mid h' s source s' [] [] line text failed more r p =
+    let p = subst (λ (x : History). LineGoes x source line text more h' s') r.1 p in
+    let p = subst (λ (x : Stream). LineGoes h x line text more h' s') r.2 p in
+    (h', s', more, [], p, (refl, refl, refl), rw r.0 (sym (append-nil more)))
+script-push h mid h' s source s' (first ∷ before) (one ∷ texts) line text failed more r p = (
   r.0,
   r.1,
   r.2,
-  r.3 ++ text,
+  r.3 ++ more,
   r.4,
-  r.5 ++ more,
-  r.6,
-  script-push r.0 mid h' r.1 source s' before r.3 line text r.5 more r.7 p,
-  rw r.8 (append_assoc r.2 r.3 text),
-  rw r.9 (append_assoc r.4 r.5 more),
+  script-push r.0 mid h' r.1 source s' before texts line text r.3 more r.5 p,
+  rw r.6 (append_assoc r.2 r.3 more),
 )
+script-push h mid h' s source s' [] (one ∷ texts) line text failed more r p = absurd r
+script-push h mid h' s source s' (first ∷ before) [] line text failed more r p = absurd r
+
+concat-push : (texts : List (List ℕ)) (text : List ℕ) → concat (texts ++ text ∷ []) ≡ concat texts ++ text
+concat-push [] text = append-nil text
+concat-push (one ∷ texts) text = ap (λ (l : List ℕ). one ++ l) (concat-push texts text) ∙ sym (append_assoc one (concat texts) text)
 
 line_after : (all : List (List ℕ)) (done : ℕ) (line : List ℕ) (later : List (List ℕ)) → drop done all ≡ line ∷ later
     → (suc done ≤ length all) × (drop (suc done) all ≡ later) × (take (suc done) all ≡ take done all ++ line ∷ [])
@@ -72,27 +81,64 @@ all_done all done h e =
     let none : length (drop done all) ≡ 0 = rw e refl in
     (omega (arith, none, length-drop done all), sym (append-nil (take done all)) ∙ (ap (λ (ls : List (List ℕ)). take done all ++ ls) (sym e) ∙ take-append-drop done all))
 
--- a line more goes, and what is written grows by some of its answer
-pub rows_more : (a b c : Rows) (s t u : Stream) (all : List (List ℕ)) (done : ℕ) (line : List ℕ) (later : List (List ℕ)) (P wrote Q : List ℕ → Type 0) (x y z : LookFault → ℕ)
-    → RowsGo a s (take done all) P (AreCounted x y) b t → drop done all ≡ line ∷ later → LineIsAnswered b t line wrote (AreCounted y z) c u
-    → ((output text : List ℕ) → P output → wrote text → Q (output ++ text)) → NoFewer y z → RowsGo a s (take (done + 1) all) Q (AreCounted x z) c u
-rows_more a b c s t u all done line later P wrote Q x y z go e step written grown = λ h stands.
-    let p = go h stands in
-    let q = step p.2 p.3 in
-    let whole = sym (next_line all done line later e).2 in (
-      p.0 ++ q.0,
-      p.1 ++ q.1,
-      q.2,
+-- the lines so far and the next one, with their answers
+went_next : (h mid h' : History) (s t u : Stream) (all : List (List ℕ)) (done : ℕ) (line : List ℕ) (later texts : List (List ℕ)) (text : List ℕ) (failed more : List Refusal)
+    → drop done all ≡ line ∷ later → ScriptGoes h s (take done all) texts failed mid t → LineGoes mid t line text more h' u
+    → ScriptGoes h s (take (done + 1) all) (texts ++ text ∷ []) (failed ++ more) h' u
+went_next h mid h' s t u all done line later texts text failed more e first next =
+    subst (λ (ls : List (List ℕ)). ScriptGoes h s ls (texts ++ text ∷ []) (failed ++ more) h' u) (sym (next_line all done line later e).2)
+    (script-push h mid h' s t u (take done all) texts line text failed more first next)
+
+-- one more line is answered
+pub answered_next : (a b c : Rows) (s t u : Stream) (all : List (List ℕ)) (done : ℕ) (line : List ℕ) (later : List (List ℕ)) (old mid new : Option (List ℕ)) (x y z : LookFault → ℕ)
+    → Leads a (ScriptAnswered (take done all) s t old mid x y) b → drop done all ≡ line ∷ later → Leads b (LineAnswered line t u (Appends mid new) (AreCounted y z)) c → NoFewer y z
+    → Leads a (ScriptAnswered (take (done + 1) all) s u old new x z) c
+answered_next a b c s t u all done line later old mid new x y z first e next grown = λ h stands.
+    let p = first h stands in
+    let q = next p.0 p.1 in
+    let f = p.2 in
+    let n = q.2 in (
+      q.0,
+      q.1,
+      (
+        f.0 ++ n.0 ∷ [],
+        f.1 ++ n.1,
+        went_next h p.0 q.0 s t u all done line later f.0 n.0 f.1 n.1 e f.2 n.2,
+        subst (Appends old new) (sym (concat-push f.0 n.0)) (Appends-trans old mid new (concat f.0) n.0 f.3 n.3),
+        counted_join x y z f.1 n.1 grown f.4 n.4,
+      ),
       q.3,
-      subst (λ (ls : List (List ℕ)). ScriptGoes h s ls (p.0 ++ q.0) (p.1 ++ q.1) q.2 u) whole (script-push h p.2 q.2 s t u (take done all) p.0 line q.0 p.1 q.1 p.4 q.4),
-      written p.0 q.0 p.5 q.5,
-      counted_join x y z p.1 q.1 grown p.6 q.6,
     )
 
--- no line went yet
-pub rows_begin : (a : Rows) (s : Stream) (known : Option (List ℕ)) (x : LookFault → ℕ) → RowsGo a s [] (Appends known known) (AreCounted x x) a s
+-- the next line is cut short
+pub cut_next : (a b c : Rows) (s t u : Stream) (all : List (List ℕ)) (done : ℕ) (line : List ℕ) (later : List (List ℕ)) (old mid new : Option (List ℕ)) (x y z : LookFault → ℕ)
+    → Leads a (ScriptAnswered (take done all) s t old mid x y) b → drop done all ≡ line ∷ later → Leads b (LineAnswered line t u (AppendsFront mid new) (AreCounted y z)) c → NoFewer y z
+    → Leads a (ScriptCut (take (done + 1) all) s u old new x z) c
+cut_next a b c s t u all done line later old mid new x y z first e next grown = λ h stands.
+    let p = first h stands in
+    let q = next p.0 p.1 in
+    let f = p.2 in
+    let n = q.2 in
+    let front = n.3 in (
+      q.0,
+      q.1,
+      (
+        f.0,
+        n.0,
+        f.1 ++ n.1,
+        went_next h p.0 q.0 s t u all done line later f.0 n.0 f.1 n.1 e f.2 n.2,
+        front.0,
+        front.1,
+        Appends-trans old mid new (concat f.0) (take front.0 n.0) f.3 front.2,
+        counted_join x y z f.1 n.1 grown f.4 n.4,
+      ),
+      q.3,
+    )
+
+-- no line is answered yet
+pub none_answered : (a : Rows) (s : Stream) (known : Option (List ℕ)) (x : LookFault → ℕ) → Leads a (ScriptAnswered [] s s known known x x) a
 unfolding ScriptGoes
-rows_begin a s known x = λ h stands. ([], [], h, stands, (refl, refl, refl, refl), Appends-nil known, none_counted x x (λ cause. omega arith))
+none_answered a s known x = λ h stands. (h, stands, ([], [], (refl, refl, refl), Appends-nil known, none_counted x x (λ cause. omega arith)), assured h stands.0)
 
 -- bytes, and then a front of some more
 pub appends_front : (a b c : Option (List ℕ)) (output text : List ℕ) → AppendsFront b c text → Appends a b output → AppendsFront a c (output ++ text)
@@ -110,7 +156,10 @@ answered_more text later line cut e w h =
     let k : answered_lines text ≡ without_return line ∷ answered_lines later = rw (e, s) refl in
     k ∙ ap (λ (x : List ℕ). x ∷ answered_lines later) (sym w)
 
--- what is assured holds of the history after the lines
-pub goes_safely : (a : Rows) (s : Stream) (lines : List (List ℕ)) (P : List ℕ → Type 0) (counted : List Refusal → Type 0) (b : Rows) (t : Stream) → RowsGo a s lines P counted b t → RowsGoSafely a s lines P counted b t
-unfolding RowsGoSafely
-goes_safely a s lines P counted b t go = λ h stands. let r = go h stands in (r.0, r.1, r.2, r.3, r.4, r.5, r.6, assured r.2 r.3.0)
+-- where a write failed, what follows of the number of lines
+pub if_cut : (r : Result ScriptEnd ScriptFault) (P Q : ℕ → Type 0) → ((done : ℕ) → P done → Q done) → IfCut r P → IfCut r Q
+if_cut (Ok end) P Q f p = tt
+if_cut (Err (Write done)) P Q f p = f done p
+if_cut (Err Read) P Q f p = tt
+if_cut (Err TooLarge) P Q f p = tt
+if_cut (Err no.Memory) P Q f p = tt

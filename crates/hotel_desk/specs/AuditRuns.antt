@@ -8,7 +8,9 @@ use Rattle.hotel_core.specs.Model.Rows.{Rows}
 use Rattle.hotel_core.specs.Books.Failures.{AreCounted}
 use Rattle.hotel_lists.specs.Bytes.{AppendsFront}
 use Rattle.hotel_audit.specs.Answers.{answers_text}
-use Rattle.hotel_audit.specs.Import.{ImportsFile, StopsImport, failures_of}
+use Rattle.hotel_audit.specs.AuditFile.{audit_lines}
+use Rattle.hotel_audit.specs.Import.{AreAnswered, EndsAfter, LinesLeadTo, failures_of}
+use Rattle.hotel_audit.specs.declared.line.Line.{Line}
 use Rattle.hotel_audit.specs.declared.answer.LineAnswer.{LineAnswer}
 use Rattle.hotel_audit.specs.declared.answer.LineAnswer.TheVariants.{Taken, Seen, Unread, Refused}
 use Rattle.hotel_audit.specs.declared.audit_file.AuditFault.{AuditFault}
@@ -51,14 +53,15 @@ WritesAnswers contents old new (Ok answers) false = Appends (contents old) (cont
 WritesAnswers contents old new (Ok answers) true = AppendsFront (contents old) (contents new) (answers_text 1 answers)
 WritesAnswers contents old new (Err why) write_failed = new ≡ old
 
--- The books went by the file's lines, which have these answers; or by none or some of them, where it came to a fault.
+-- The books went by lines of the file, which have these answers: by all of them, or by those before a fault.
 abbrev pub GoesBy : {S : Type 0} → (S → Type 0) → (S → Rows) → List ℕ → S → S → Result (List LineAnswer) ImportFault → Type 0
-GoesBy is_clean rows bytes old new (Ok answers) = ImportsFile is_clean rows bytes old new answers
-GoesBy is_clean rows bytes old new (Err why) = StopsImport is_clean rows bytes old new why
+GoesBy is_clean rows bytes old new outcome = (lines : List Line) × (answers : List LineAnswer) × AreAnswered lines answers × EndsAfter (audit_lines bytes) outcome lines answers
+    × (is_clean new → LinesLeadTo (rows old) lines answers (rows new))
 
--- An import of the file ended so: the books went by it; a failure of the store, or of memory after the first line, was counted; and in memory the store never fails.
+-- An import of the file ended so: the books went by it, or are as they were where it is none; a failure of the store, or of memory after the first line, was counted.
 pub record ImportEnds {B : Type 0} (is_clean : B → Type 0) (rows : B → Rows) (failures : B → LookFault → ℕ) (bytes : List ℕ) (old new : B) (outcome : Result (List LineAnswer) ImportFault) : Type 0 where
   pub went : GoesBy is_clean rows bytes old new outcome
+  pub no_file : IfErr outcome (λ fault. (why : AuditFault) → fault ≡ File why → new ≡ old)
   pub was_clean : is_clean new → is_clean old
   pub counted : NoFewer (failures old) (failures new)
   pub failed : IfErr outcome (λ why. is_clean new → AreCounted (failures old) (failures new) (failures_of why))

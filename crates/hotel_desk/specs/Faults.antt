@@ -4,7 +4,7 @@ use Rattle.std.specs.Fmt.{decimal}
 use Rattle.keycard_rules.specs.declared.issued.LookFault.{LookFault}
 use Rattle.keycard_rules.specs.declared.issued.LookFault.TheVariants as look
 use Rattle.hotel_desk.specs.declared.faults.Fault.{Fault}
-use Rattle.hotel_desk.specs.declared.faults.Fault.TheVariants.{Memory, Store, Write, TooLarge, NoHeader, WrongHeader, Stopped}
+use Rattle.hotel_desk.specs.declared.faults.Fault.TheVariants.{Usage, Memory, Store, Read, Write, TooLarge, NoHeader, WrongHeader, Stopped}
 
 -- What stopped an import, and the end of the line.
 abbrev pub cause_text : LookFault → List ℕ
@@ -13,16 +13,19 @@ cause_text look.Store = codes ": Store\n"
 
 -- The line that is said of a fault.
 abbrev pub fault_text : Fault → List ℕ
+fault_text Usage = codes "usage\n"
 fault_text Memory = codes "memory\n"
 fault_text Store = codes "store\n"
+fault_text Read = codes "read\n"
 fault_text Write = codes "write\n"
 fault_text TooLarge = codes "too large\n"
 fault_text NoHeader = codes "no header\n"
 fault_text WrongHeader = codes "wrong header\n"
 fault_text (Stopped answered by) = codes "stopped after " ++ decimal answered ++ cause_text by
 
--- The exit status: 4 where memory or the store failed, else 5.
+-- The exit status: 2 where the program was given words that it doesn't take, 4 where memory or the store failed, else 5.
 abbrev pub fault_status : Fault → ℕ
+fault_status Usage = 2
 fault_status Memory = 4
 fault_status Store = 4
 fault_status (Stopped answered by) = 4

@@ -1,8 +1,9 @@
 //! An audit file that is imported alone: its answers on one writer, and what went wrong on another.
 
-ghost use Rattle.std.specs.Prelude.{◌≡◌, OnOk, OnErr, List, Bool, Result};
+ghost use Rattle.std.specs.Prelude.{◌≡◌, true, OnOk, OnErr, IsErrOf, List, Bool, Result};
 ghost use Rattle.std.specs.Io.KnownBytes.{Appends};
 ghost use Rattle.hotel_lists.specs.Bytes.{AppendsFront};
+ghost use Rattle.hotel_lists.specs.Calls.{NoneForgotten};
 ghost use Rattle.hotel_audit.specs.Answers.{answers_text};
 ghost use Rattle.hotel_audit.specs.declared.answer.LineAnswer.{LineAnswer};
 ghost use Rattle.hotel_audit.specs.declared.importing.ImportFault.{ImportFault};
@@ -13,7 +14,7 @@ use crate::faults::{Fault, FaultSink, finish};
 use crate::statuses::{DONE, REFUSED};
 use hotel_audit::{AuditFault, ImportFault, LineAnswer, answer_text, import};
 use hotel_core::Books;
-use hotel_lists::{Interruptions, WriteFailed, write_bytes};
+use hotel_lists::{IoCalls, WriteFailed, write_bytes};
 use keycard_rules::LookFault;
 use std::alloc::Global;
 use std::io::Write;
@@ -23,14 +24,16 @@ use std::io::Write;
 fn write_answers<W: Write>(
     writer: &mut W,
     answers: &[LineAnswer],
-    interruptions: &mut Interruptions,
+    calls: &mut IoCalls,
 ) -> Result<(), WriteFailed>
     ensures ok { OnOk result (Appends (W.contents writer.old) (W.contents writer.new) (answers_text 1 answers.now)) }
     ensures err { OnErr result (AppendsFront (W.contents writer.old) (W.contents writer.new) (answers_text 1 answers.now)) }
+    ensures failed { OnErr result (calls.new.write_failed ≡ true) }
+    ensures calls { NoneForgotten calls.old calls.new }
 {
     for (index, answer) in answers.iter().enumerate() {
         let text = answer_text(index + 1, answer);
-        write_bytes(writer, text.as_bytes(), interruptions)?;
+        write_bytes(writer, text.as_bytes(), calls)?;
     }
     Ok(())
 }
@@ -83,18 +86,20 @@ fn import_and_write<B: Books, W: Write>(
     bytes: &[u8],
     books: &mut B,
     writer: &mut W,
-    interruptions: &mut Interruptions,
+    calls: &mut IoCalls,
 ) -> Result<u8, Fault>
-    ensures { (outcome : Result (List LineAnswer) ImportFault) × (write_failed : Bool) × (result ≡ audit_end outcome write_failed)
+    ensures ends { (outcome : Result (List LineAnswer) ImportFault) × (write_failed : Bool) × (result ≡ audit_end outcome write_failed)
         × WritesAnswers W.contents writer.old writer.new outcome write_failed
         × ImportEnds B.is_clean B.rows B.failures bytes.now books.old books.new outcome }
+    ensures failed { IsErrOf result Fault.Write → calls.new.write_failed ≡ true }
+    ensures calls { NoneForgotten calls.old calls.new }
 {
     let answers = match import(alloc, books, bytes) {
         Ok(answers) => answers,
         Err(fault) => return Err(import_fault(fault)),
     };
     let answers = answers.as_slice();
-    match write_answers(writer, answers, interruptions) {
+    match write_answers(writer, answers, calls) {
         Ok(()) => Ok(answers_status(answers)),
         Err(WriteFailed) => Err(Fault::Write),
     }
@@ -113,7 +118,7 @@ pub fn run_audit<B: Books, W: Write, F: FaultSink>(
         × Tells F.told faults.old (audit_end outcome write_failed) faults.new × WritesAnswers W.contents writer.old writer.new outcome write_failed
         × ImportEnds B.is_clean B.rows B.failures bytes.now books.old books.new outcome }
 {
-    let mut interruptions = Interruptions::none();
-    let end = import_and_write(alloc, bytes, books, writer, &mut interruptions);
-    finish(end, faults, &mut interruptions)
+    let mut calls = IoCalls::none();
+    let end = import_and_write(alloc, bytes, books, writer, &mut calls);
+    finish(end, faults, &mut calls)
 }

@@ -1,25 +1,30 @@
-//! Faults of the desk's calls: what is said of each, and where it is said.
+//! Faults of the program and of its calls: what is said of each, where it is said, and its exit status.
 
-ghost use Rattle.std.specs.Prelude.{◌≡◌, OnOk, OnErr};
+ghost use Rattle.std.specs.Prelude.{◌≡◌, true, OnOk, OnErr};
 ghost use Rattle.std.specs.Io.KnownBytes.{Appends};
+ghost use Rattle.hotel_lists.specs.Calls.{NoneForgotten};
 ghost use Rattle.hotel_lists.specs.Bytes.{AppendsFront};
 ghost use Rattle.hotel_desk.specs.Faults.{cause_text, fault_text, fault_status, end_status, Tells};
 
-use crate::statuses::{BROKEN, FAILED};
-use hotel_lists::{Interruptions, WriteFailed, write_bytes, write_parts};
+use crate::statuses::{BROKEN, FAILED, USAGE};
+use hotel_lists::{IoCalls, WriteFailed, write_bytes, write_parts};
 use keycard_rules::LookFault;
 use std::io::Write;
 
-/// Why a call didn't do its work to the end.
+/// Why the program or a call of it didn't do its work to the end.
 #[derive(Clone, Copy, Debug, PartialEq, Eq)]
 pub enum Fault {
+    /// The program was given words that it doesn't take.
+    Usage,
     /// A growth of memory was refused.
     Memory,
     /// A call of the store failed.
     Store,
+    /// A read failed.
+    Read,
     /// A write failed.
     Write,
-    /// An audit file has too many bytes.
+    /// A script or an audit file has too many bytes.
     TooLarge,
     /// An audit file has no record.
     NoHeader,
@@ -35,6 +40,7 @@ impl Fault {
         ensures { result ≡ fault_status self.now }
     {
         match self {
+            Fault::Usage => USAGE,
             Fault::Memory | Fault::Store | Fault::Stopped { .. } => FAILED,
             _ => BROKEN,
         }
@@ -56,47 +62,55 @@ fn write_stopped<W: Write>(
     writer: &mut W,
     answered: usize,
     by: LookFault,
-    interruptions: &mut Interruptions,
+    calls: &mut IoCalls,
 ) -> Result<(), WriteFailed>
     ensures ok { OnOk result (Appends (W.contents writer.old) (W.contents writer.new) (fault_text (Fault.Stopped answered by))) }
     ensures err { OnErr result (AppendsFront (W.contents writer.old) (W.contents writer.new) (fault_text (Fault.Stopped answered by))) }
+    ensures failed { OnErr result (calls.new.write_failed ≡ true) }
+    ensures calls { NoneForgotten calls.old calls.new }
 {
     let mut buffer = itoa::Buffer::new();
     let number = buffer.format(answered).as_bytes();
     let parts = [b"stopped after ".as_slice(), number, cause_text(by)];
-    write_parts(writer, &parts, interruptions)
+    write_parts(writer, &parts, calls)
 }
 
 /// Writes the line of a fault.
 fn write_fault<W: Write>(
     writer: &mut W,
     fault: &Fault,
-    interruptions: &mut Interruptions,
+    calls: &mut IoCalls,
 ) -> Result<(), WriteFailed>
     ensures ok { OnOk result (Appends (W.contents writer.old) (W.contents writer.new) (fault_text fault.now)) }
     ensures err { OnErr result (AppendsFront (W.contents writer.old) (W.contents writer.new) (fault_text fault.now)) }
+    ensures failed { OnErr result (calls.new.write_failed ≡ true) }
+    ensures calls { NoneForgotten calls.old calls.new }
 {
     match fault {
-        Fault::Memory => write_bytes(writer, b"memory\n", interruptions),
-        Fault::Store => write_bytes(writer, b"store\n", interruptions),
-        Fault::Write => write_bytes(writer, b"write\n", interruptions),
-        Fault::TooLarge => write_bytes(writer, b"too large\n", interruptions),
-        Fault::NoHeader => write_bytes(writer, b"no header\n", interruptions),
-        Fault::WrongHeader => write_bytes(writer, b"wrong header\n", interruptions),
-        Fault::Stopped { answered, by } => write_stopped(writer, *answered, *by, interruptions),
+        Fault::Usage => write_bytes(writer, b"usage\n", calls),
+        Fault::Memory => write_bytes(writer, b"memory\n", calls),
+        Fault::Store => write_bytes(writer, b"store\n", calls),
+        Fault::Read => write_bytes(writer, b"read\n", calls),
+        Fault::Write => write_bytes(writer, b"write\n", calls),
+        Fault::TooLarge => write_bytes(writer, b"too large\n", calls),
+        Fault::NoHeader => write_bytes(writer, b"no header\n", calls),
+        Fault::WrongHeader => write_bytes(writer, b"wrong header\n", calls),
+        Fault::Stopped { answered, by } => write_stopped(writer, *answered, *by, calls),
     }
 }
 
 /// Takes the faults that calls tell. Each writer is one.
 pub trait FaultSink {
+    ghost use Rattle.hotel_lists.specs.Calls.{NoneForgotten};
     ghost use Rattle.hotel_desk.specs.declared.faults.Fault.{Fault};
 
     /// The meanings that may follow one after a fault was told.
     ghost told: { Self → Fault → Self → Type 0 };
 
     /// Takes a fault. Where that goes wrong, nobody hears of it.
-    fn tell(&mut self, fault: &Fault, interruptions: &mut Interruptions)
-        ensures { told self.old fault.now self.new };
+    fn tell(&mut self, fault: &Fault, calls: &mut IoCalls)
+        ensures told { told self.old fault.now self.new }
+        ensures calls { NoneForgotten calls.old calls.new };
 }
 
 impl<W: Write> FaultSink for W {
@@ -105,24 +119,21 @@ impl<W: Write> FaultSink for W {
 
     ghost told = { λ old fault new. AppendsFront (W.contents old) (W.contents new) (fault_text fault) };
 
-    fn tell(&mut self, fault: &Fault, interruptions: &mut Interruptions) {
-        let _ = write_fault(self, fault, interruptions);
+    fn tell(&mut self, fault: &Fault, calls: &mut IoCalls) {
+        let _ = write_fault(self, fault, calls);
     }
 }
 
 /// The exit status of a call that came to this end. A fault is told first.
-pub fn finish<F: FaultSink>(
-    end: Result<u8, Fault>,
-    faults: &mut F,
-    interruptions: &mut Interruptions,
-) -> u8
+pub fn finish<F: FaultSink>(end: Result<u8, Fault>, faults: &mut F, calls: &mut IoCalls) -> u8
     ensures status { result ≡ end_status end }
     ensures told { Tells F.told faults.old end faults.new }
+    ensures calls { NoneForgotten calls.old calls.new }
 {
     match end {
         Ok(status) => status,
         Err(fault) => {
-            faults.tell(&fault, interruptions);
+            faults.tell(&fault, calls);
             fault.status()
         }
     }

@@ -1,39 +1,43 @@
 //! The answer to a line that asks for a list.
 
-ghost use Rattle.std.specs.Prelude.{◌≡◌, ◌≤◌, OnOk, OnErr};
+ghost use Rattle.std.specs.Prelude.{◌≡◌, [], ◌≤◌, true, OnOk, OnErr, IsErrOf};
 ghost use Rattle.std.specs.Io.KnownBytes.{Appends};
 ghost use Rattle.keycard_rules.specs.Rise.{NoFewer};
 ghost use Rattle.hotel_core.specs.Books.Failures.{AreCounted};
 ghost use Rattle.hotel_lists.specs.Bytes.{AppendsFront};
+ghost use Rattle.hotel_lists.specs.Calls.{NoneForgotten};
 ghost use Rattle.hotel_lists.specs.Lines.{LooksAt};
-ghost use Rattle.hotel_desk.specs.ListAnswers.{WritesAnswer, WritesList, refusal_of};
+ghost use Rattle.hotel_desk.specs.ListAnswers.{ListAnswered, ListEnds, refusal_of};
+ghost use Rattle.hotel_desk.specs.Listings.{listing_on};
 
 use hotel_asks::ListAsk;
 use hotel_core::{Refusal, Reply, Walks, reply_text};
 use hotel_lists::{
-    Interruptions, ListFault, WriteFailed, write_arrivals, write_audit_of, write_bytes,
-    write_chain_of, write_in_house, write_left_behind,
+    IoCalls, ListFault, WriteFailed, write_arrivals, write_audit_of, write_bytes, write_chain_of,
+    write_in_house, write_left_behind,
 };
 use std::alloc::Global;
 use std::io::Write;
 
-/// Writes the text of a list. Its interrupted writes are added to the count of the call.
+/// Writes the text of a list. Its writes are added to the calls.
 pub(crate) fn write_list<W: Write, B: Walks>(
     alloc: Global,
     list: &ListAsk,
     writer: &mut W,
     books: &mut B,
-    interruptions: &mut Interruptions,
+    calls: &mut IoCalls,
 ) -> Result<(), ListFault>
-    ensures text { B.is_clean books.new → WritesList (B.rows books.old) list.now (W.contents writer.old) (W.contents writer.new) result }
+    ensures text { B.is_clean books.new → ListEnds [] (listing_on (B.rows books.old) list.now) (W.contents writer.old) (W.contents writer.new) result }
     ensures books { LooksAt B.is_clean B.is_kept B.failures B.never_fails books.old books.new result }
+    ensures failed { IsErrOf result ListFault.Write → calls.new.write_failed ≡ true }
+    ensures calls { NoneForgotten calls.old calls.new }
 {
     match list {
-        ListAsk::Arrivals(day) => write_arrivals(alloc, books, *day, writer, interruptions),
-        ListAsk::InHouse => write_in_house(alloc, books, writer, interruptions),
-        ListAsk::ChainOf(room) => write_chain_of(alloc, books, *room, writer, interruptions),
-        ListAsk::LeftBehind => write_left_behind(alloc, books, writer, interruptions),
-        ListAsk::AuditOf(room) => write_audit_of(alloc, books, *room, writer, interruptions),
+        ListAsk::Arrivals(day) => write_arrivals(alloc, books, *day, writer, calls),
+        ListAsk::InHouse => write_in_house(alloc, books, writer, calls),
+        ListAsk::ChainOf(room) => write_chain_of(alloc, books, *room, writer, calls),
+        ListAsk::LeftBehind => write_left_behind(alloc, books, writer, calls),
+        ListAsk::AuditOf(room) => write_audit_of(alloc, books, *room, writer, calls),
     }
 }
 
@@ -50,29 +54,31 @@ fn refusal_of(fault: ListFault) -> Option<Refusal>
 }
 
 /// Writes the answer to a list: its text; or, where the room isn't there, the line that says so; or,
-/// where memory or the store failed, whole rows of it and then the line that says so. The interrupted
-/// writes of the list and of such a line are added to the count of the script.
+/// where memory or the store failed, whole rows of it and then the line that says so. The writes of the
+/// list and of such a line are added to those of the script.
 pub fn answer_list<W: Write, B: Walks>(
     alloc: Global,
     list: &ListAsk,
     writer: &mut W,
     books: &mut B,
-    interruptions: &mut Interruptions,
+    calls: &mut IoCalls,
 ) -> Result<(), WriteFailed>
-    ensures ok { B.is_clean books.new → OnOk result (WritesAnswer (B.rows books.old) list.now (Appends (W.contents writer.old) (W.contents writer.new))
+    ensures ok { B.is_clean books.new → OnOk result (ListAnswered (listing_on (B.rows books.old) list.now) (Appends (W.contents writer.old) (W.contents writer.new))
         (AreCounted (B.failures books.old) (B.failures books.new))) }
-    ensures err { B.is_clean books.new → OnErr result (WritesAnswer (B.rows books.old) list.now (AppendsFront (W.contents writer.old) (W.contents writer.new))
+    ensures err { B.is_clean books.new → OnErr result (ListAnswered (listing_on (B.rows books.old) list.now) (AppendsFront (W.contents writer.old) (W.contents writer.new))
         (AreCounted (B.failures books.old) (B.failures books.new))) }
     ensures kept { B.is_clean books.new → B.is_kept books.old books.new }
     ensures was_clean { B.is_clean books.new → B.is_clean books.old }
     ensures counted { NoFewer (B.failures books.old) (B.failures books.new) }
+    ensures failed { OnErr result (calls.new.write_failed ≡ true) }
+    ensures calls { NoneForgotten calls.old calls.new }
 {
-    let Err(fault) = write_list(alloc, list, writer, books, interruptions) else {
+    let Err(fault) = write_list(alloc, list, writer, books, calls) else {
         return Ok(());
     };
     let Some(refusal) = refusal_of(fault) else {
         return Err(WriteFailed);
     };
     let text = reply_text(&Reply::Refused(refusal));
-    write_bytes(writer, text.as_bytes(), interruptions)
+    write_bytes(writer, text.as_bytes(), calls)
 }

@@ -1,17 +1,19 @@
 //! A list that is asked for alone: its text on one writer, and what went wrong on another.
 
-ghost use Rattle.std.specs.Prelude.{◌≡◌, Result};
+ghost use Rattle.std.specs.Prelude.{◌≡◌, true, IsErrOf, Result};
+ghost use Rattle.hotel_lists.specs.Calls.{NoneForgotten};
 ghost use Rattle.hotel_lists.specs.Lines.{LooksAt};
 ghost use Rattle.hotel_lists.specs.declared.fault.ListFault.{ListFault};
 ghost use Rattle.hotel_desk.specs.Faults.{end_status, Tells};
-ghost use Rattle.hotel_desk.specs.ListRuns.{AnswerEndsOn, AnswerEndsFor, list_end};
+ghost use Rattle.hotel_desk.specs.ListRuns.{AnswerEnds, AnswerEndsFor, list_end};
+ghost use Rattle.hotel_desk.specs.Listings.{listing_on};
 
 use crate::faults::{Fault, FaultSink, finish};
 use crate::list_answers::write_list;
 use crate::statuses::{DONE, REFUSED};
 use hotel_asks::ListAsk;
 use hotel_core::{Refusal, Reply, Walks, reply_text};
-use hotel_lists::{Interruptions, ListFault, write_bytes};
+use hotel_lists::{IoCalls, ListFault, write_bytes};
 use std::alloc::Global;
 use std::io::Write;
 
@@ -21,15 +23,17 @@ fn write_list_or_refusal<W: Write, B: Walks>(
     list: &ListAsk,
     writer: &mut W,
     books: &mut B,
-    interruptions: &mut Interruptions,
+    calls: &mut IoCalls,
 ) -> Result<(), ListFault>
-    ensures text { B.is_clean books.new → AnswerEndsOn (B.rows books.old) list.now (W.contents writer.old) (W.contents writer.new) result }
+    ensures text { B.is_clean books.new → AnswerEnds (listing_on (B.rows books.old) list.now) (W.contents writer.old) (W.contents writer.new) result }
     ensures books { LooksAt B.is_clean B.is_kept B.failures B.never_fails books.old books.new result }
+    ensures failed { IsErrOf result ListFault.Write → calls.new.write_failed ≡ true }
+    ensures calls { NoneForgotten calls.old calls.new }
 {
-    match write_list(alloc, list, writer, books, interruptions) {
+    match write_list(alloc, list, writer, books, calls) {
         Err(ListFault::NoRoom) => {
             let refused = reply_text(&Reply::Refused(Refusal::NoRoom));
-            write_bytes(writer, refused.as_bytes(), interruptions)?;
+            write_bytes(writer, refused.as_bytes(), calls)?;
             Err(ListFault::NoRoom)
         }
         end => end,
@@ -63,7 +67,7 @@ pub fn run_list<B: Walks, W: Write, F: FaultSink>(
         × (B.is_clean books.new → AnswerEndsFor (B.rows books.old) list.now (W.contents writer.old) (W.contents writer.new) end)
         × LooksAt B.is_clean B.is_kept B.failures B.never_fails books.old books.new end }
 {
-    let mut interruptions = Interruptions::none();
-    let end = write_list_or_refusal(alloc, list, writer, books, &mut interruptions);
-    finish(end_of_list(end), faults, &mut interruptions)
+    let mut calls = IoCalls::none();
+    let end = write_list_or_refusal(alloc, list, writer, books, &mut calls);
+    finish(end_of_list(end), faults, &mut calls)
 }

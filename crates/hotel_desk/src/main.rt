@@ -18,15 +18,15 @@ mod script_run;
 mod statuses;
 mod words;
 
-use program::run_standard;
+use program::run_program;
+use std::env;
 use std::process::ExitCode;
 
 fn main(rt: HostRuntime) -> ExitCode {
-    match run_standard(&rt) {
-        Ok(_) => ExitCode::SUCCESS,
-        Err(fault) => {
-            let _ = rt.eprintln(fault.text());
-            ExitCode::from(fault.status())
-        }
-    }
+    let words = env::args(&rt).map(|words| words.len());
+    let mut reader = rt.stdin().lock();
+    let mut writer = rt.stdout().lock();
+    let mut faults = rt.stderr().lock();
+    let status = run_program(rt.alloc(), words, &mut reader, &mut writer, &mut faults);
+    ExitCode::from(status)
 }

@@ -1,44 +1,47 @@
-//! Lists and audit files that are asked for alone, from bytes to bytes and exit status, and writers
-//! that go wrong.
+//! The worked scenarios over books, from bytes to bytes and exit status; and writers that go wrong under lists and
+//! audit files.
 
-mod scenarios;
+pub mod scenarios;
 
 use crate::asks::read_line;
 use crate::audit_runs::run_audit;
 use crate::list_runs::run_list;
-use crate::script::run_script;
+use crate::script::{ScriptEnd, run_script};
 use crate::statuses::status_of;
 use hotel_asks::Ask;
-use hotel_core::{ListBooks, Refusal, Reply};
+use hotel_core::{ListBooks, Refusal, Reply, Walks};
 use hotel_lists::{FakeReader, FakeWriter};
 use keycard_rules::ListedWords;
-use scenarios::{CHECKED_IN, SCENARIOS, Scenario, Step, TWO_NOTES};
+use scenarios::{CHECKED_IN, OF_FILES, OF_LOCKS, OF_THE_DESK, OPENED, Scenario, Step, TWO_NOTES};
 use std::alloc::Global;
 use std::process::Abort;
 use std::test::Fail;
 
-/// Books in memory, and a source.
+/// Books, and a source.
 #[derive(Drop)]
-struct Desk {
-    books: ListBooks,
-    source: ListedWords,
+pub struct Desk<B> {
+    pub books: B,
+    pub source: ListedWords,
 }
 
-impl Desk {
-    /// A desk with empty books, and a source of words that give these codes, the last one for ever.
-    fn new(alloc: Global, codes: &[u64]) -> Result<Desk, Fail> {
+impl<B: Walks> Desk<B> {
+    /// A desk with these books, and a source of words that give these codes, and then the last one for ever.
+    pub fn new(alloc: Global, books: B, codes: &[u64], last: u64) -> Result<Desk<B>, Fail>
+    where
+        B: Drop,
+    {
         let mut words = Vec::new(alloc);
         for code in codes {
             words.push(*code << 16)?;
         }
+        words.push(last << 16)?;
         let source = ListedWords::new(words).ok_or("no words")?;
-        let books = ListBooks::empty(alloc);
         Ok(Desk { books, source })
     }
 
-    /// Answers a script.
-    fn script(&mut self, alloc: Global, lines: &[u8], writer: &mut FakeWriter) -> Result<(), Fail> {
-        let mut reader = FakeReader::new(lines);
+    /// Answers a line of a script.
+    fn line(&mut self, alloc: Global, line: &[u8], writer: &mut FakeWriter) -> Result<(), Fail> {
+        let mut reader = FakeReader::new(line);
         match run_script(
             alloc,
             &mut reader,
@@ -46,8 +49,8 @@ impl Desk {
             &mut self.books,
             &mut self.source,
         ) {
-            Ok(_) => Ok(()),
-            Err(_) => Err(Fail::from("no script")),
+            Ok(ScriptEnd { lines: 1 }) => Ok(()),
+            _ => Err(Fail::from("no line")),
         }
     }
 
@@ -77,32 +80,32 @@ impl Desk {
     ) -> u8 {
         run_audit(alloc, file, &mut self.books, writer, faults)
     }
-}
 
-/// Carries out a step on the desk, with these writers, and answers its status.
-fn carry_out(
-    alloc: Global,
-    desk: &mut Desk,
-    step: &Step,
-    writer: &mut FakeWriter,
-    faults: &mut FakeWriter,
-) -> Result<u8, Fail> {
-    match step {
-        Step::Script(lines, _) => {
-            desk.script(alloc, lines, writer)?;
-            Ok(0)
+    /// Carries out a step with these writers, and answers its status.
+    fn carry_out(
+        &mut self,
+        alloc: Global,
+        step: &Step,
+        writer: &mut FakeWriter,
+        faults: &mut FakeWriter,
+    ) -> Result<u8, Fail> {
+        match step {
+            Step::Line(line, _) => {
+                self.line(alloc, line, writer)?;
+                Ok(0)
+            }
+            Step::Audit(file, _, _) | Step::NoAudit(file, _) => {
+                Ok(self.audit(alloc, file, writer, faults))
+            }
+            Step::List(line, _, _) => self.list(alloc, line, writer, faults),
         }
-        Step::Audit(file, _, _) | Step::NoAudit(file, _) => {
-            Ok(desk.audit(alloc, file, writer, faults))
-        }
-        Step::List(line, _, _) => desk.list(alloc, line, writer, faults),
     }
 }
 
 /// What the step says that it writes on the two writers, and its status.
 fn expected(step: &Step) -> (&'static [u8], &'static [u8], u8) {
     match step {
-        Step::Script(_, answers) => (*answers, b"", 0),
+        Step::Line(_, answer) => (*answer, b"", 0),
         Step::Audit(_, answers, status) => (*answers, b"", *status),
         Step::NoAudit(_, fault) => (b"", *fault, 5),
         Step::List(_, answer, status) => (*answer, b"", *status),
@@ -110,15 +113,15 @@ fn expected(step: &Step) -> (&'static [u8], &'static [u8], u8) {
 }
 
 /// The step comes to what it says.
-fn step_holds(
+fn step_holds<B: Walks>(
     rt: &(impl Abort + AllocGlobal),
-    desk: &mut Desk,
+    desk: &mut Desk<B>,
     step: &Step,
     name: &str,
 ) -> Result<(), Fail> {
     let mut writer = FakeWriter::new(rt.alloc()).in_pieces(9);
     let mut faults = FakeWriter::new(rt.alloc()).in_pieces(4);
-    let came_to = carry_out(rt.alloc(), desk, step, &mut writer, &mut faults)?;
+    let came_to = desk.carry_out(rt.alloc(), step, &mut writer, &mut faults)?;
     let (output, told, status) = expected(step);
     assert_eq!(rt; writer.written(), output, "{name}");
     assert_eq!(rt; faults.written(), told, "{name}");
@@ -126,52 +129,86 @@ fn step_holds(
     Ok(())
 }
 
-/// The scenario's steps hold in turn.
-fn scenario_holds(rt: &(impl Abort + AllocGlobal), scenario: &Scenario) -> Result<(), Fail> {
-    let mut desk = Desk::new(rt.alloc(), scenario.codes)?;
-    for step in scenario.steps {
-        step_holds(rt, &mut desk, step, scenario.name)?;
+/// The steps of a part of a scenario hold in turn.
+fn part_holds<B: Walks>(
+    rt: &(impl Abort + AllocGlobal),
+    desk: &mut Desk<B>,
+    part: &[Step],
+    name: &str,
+) -> Result<(), Fail> {
+    for step in part {
+        step_holds(rt, desk, step, name)?;
+    }
+    Ok(())
+}
+
+/// The scenario holds over these empty books.
+pub fn scenario_holds<B: Walks + Drop>(
+    rt: &(impl Abort + AllocGlobal),
+    books: B,
+    scenario: &Scenario,
+) -> Result<(), Fail> {
+    let mut desk = Desk::new(rt.alloc(), books, scenario.codes, scenario.last)?;
+    for part in scenario.parts {
+        part_holds(rt, &mut desk, part, scenario.name)?;
     }
     Ok(())
 }
 
 #[test]
-fn scenarios_hold(rt: HostRuntime) -> Result<(), Fail> {
-    for scenario in &SCENARIOS {
-        scenario_holds(&rt, scenario)?;
+fn scenarios_of_locks(rt: HostRuntime) -> Result<(), Fail> {
+    for scenario in &OF_LOCKS {
+        scenario_holds(&rt, ListBooks::empty(rt.alloc()), scenario)?;
     }
     Ok(())
 }
 
-/// Checks party 1 in at room 101, with the answers that are to come.
-fn check_in(alloc: Global, desk: &mut Desk) -> Result<(), Fail> {
-    let Step::Script(lines, answers) = &CHECKED_IN else {
-        return Err(Fail::from("no script"));
-    };
-    let mut writer = FakeWriter::new(alloc);
-    desk.script(alloc, lines, &mut writer)?;
-    if writer.written() != *answers {
-        return Err(Fail::from("not checked in"));
+#[test]
+fn scenarios_of_files(rt: HostRuntime) -> Result<(), Fail> {
+    for scenario in &OF_FILES {
+        scenario_holds(&rt, ListBooks::empty(rt.alloc()), scenario)?;
     }
     Ok(())
 }
 
-/// A desk on which party 1 is checked in at room 101.
-fn checked_in(alloc: Global) -> Result<Desk, Fail> {
-    let mut desk = Desk::new(alloc, &[0xa0, 0xa1])?;
-    check_in(alloc, &mut desk)?;
+#[test]
+fn scenarios_of_the_desk(rt: HostRuntime) -> Result<(), Fail> {
+    for scenario in &OF_THE_DESK {
+        scenario_holds(&rt, ListBooks::empty(rt.alloc()), scenario)?;
+    }
+    Ok(())
+}
+
+/// Carries out the steps of a part, each of which answers what it says, or the test ends.
+fn carry_out_part(alloc: Global, desk: &mut Desk<ListBooks>, part: &[Step]) -> Result<(), Fail> {
+    for step in part {
+        let mut writer = FakeWriter::new(alloc);
+        let mut faults = FakeWriter::new(alloc);
+        desk.carry_out(alloc, step, &mut writer, &mut faults)?;
+        if writer.written() != expected(step).0 {
+            return Err(Fail::from("another answer"));
+        }
+    }
+    Ok(())
+}
+
+/// A desk in memory on which party 1 is checked in at room 101.
+fn checked_in(alloc: Global) -> Result<Desk<ListBooks>, Fail> {
+    let mut desk = Desk::new(alloc, ListBooks::empty(alloc), &[0xa0], 0xa1)?;
+    carry_out_part(alloc, &mut desk, OPENED)?;
+    carry_out_part(alloc, &mut desk, CHECKED_IN)?;
     Ok(desk)
 }
 
 /// The step writes a front of its output on a writer that fails, and says so.
 fn write_fails(
     rt: &(impl Abort + AllocGlobal),
-    desk: &mut Desk,
+    desk: &mut Desk<ListBooks>,
     step: &Step,
     mut writer: FakeWriter,
 ) -> Result<(), Fail> {
     let mut faults = FakeWriter::new(rt.alloc());
-    let status = carry_out(rt.alloc(), desk, step, &mut writer, &mut faults)?;
+    let status = desk.carry_out(rt.alloc(), step, &mut writer, &mut faults)?;
     let (output, _, _) = expected(step);
     assert!(rt; output.starts_with(writer.written()));
     assert_eq!(rt; faults.written(), b"write\n".as_slice());
@@ -215,7 +252,7 @@ const NO_ROOM: Step = Step::List(b"audit-of 102", b"refused 6 NoRoom\n", 3);
 /// The write of this number fails within a list, and within the line that says that its room isn't there.
 fn list_write_fails(
     rt: &(impl Abort + AllocGlobal),
-    desk: &mut Desk,
+    desk: &mut Desk<ListBooks>,
     call: u32,
 ) -> Result<(), Fail> {
     let writer = FakeWriter::new(rt.alloc());
@@ -241,7 +278,7 @@ fn each_write_of_a_list_fails(rt: HostRuntime) -> Result<(), Fail> {
 /// The file comes to a fault, with a write that fails or without, which is not told.
 fn nobody_hears(
     rt: &(impl Abort + AllocGlobal),
-    desk: &mut Desk,
+    desk: &mut Desk<ListBooks>,
     file: &[u8],
     call: u32,
 ) -> Result<(), Fail> {
@@ -269,7 +306,7 @@ fn nobody_hears_of_a_fault_that_is_not_written(rt: HostRuntime) -> Result<(), Fa
 /// After 600 interruptions on its writer and so many on the other, a list tells so.
 fn interrupted_list(
     rt: &(impl Abort + AllocGlobal),
-    desk: &mut Desk,
+    desk: &mut Desk<ListBooks>,
     times: u32,
     told: &[u8],
 ) -> Result<(), Fail> {
@@ -295,7 +332,12 @@ fn interruptions_on_both_writers_are_counted_together(rt: HostRuntime) -> Result
 }
 
 /// The file is no audit file, and so it is told.
-fn is_no_audit<R: Abort + AllocGlobal>(rt: &R, desk: &mut Desk, file: &[u8], told: &[u8]) {
+fn is_no_audit<R: Abort + AllocGlobal>(
+    rt: &R,
+    desk: &mut Desk<ListBooks>,
+    file: &[u8],
+    told: &[u8],
+) {
     let mut writer = FakeWriter::new(rt.alloc());
     let mut faults = FakeWriter::new(rt.alloc());
     let status = desk.audit(rt.alloc(), file, &mut writer, &mut faults);
@@ -320,42 +362,6 @@ fn spaces_are_no_audit(
 fn a_file_over_the_limit_is_too_large(rt: HostRuntime) -> Result<(), Fail> {
     spaces_are_no_audit(&rt, 262_144, b"wrong header\n")?;
     spaces_are_no_audit(&rt, 262_145, b"too large\n")
-}
-
-/// The file is answered so, and no fault is told.
-fn audit_answers<R: Abort + AllocGlobal>(rt: &R, desk: &mut Desk, file: &[u8], answers: &[u8]) {
-    let mut writer = FakeWriter::new(rt.alloc());
-    let mut faults = FakeWriter::new(rt.alloc());
-    desk.audit(rt.alloc(), file, &mut writer, &mut faults);
-    assert_eq!(rt; writer.written(), answers);
-    assert!(rt; faults.written().is_empty());
-}
-
-/// Writes the list of the notes of room 101, and no fault is told.
-fn list_notes(
-    rt: &(impl Abort + AllocGlobal),
-    desk: &mut Desk,
-    writer: &mut FakeWriter,
-) -> Result<(), Fail> {
-    let mut faults = FakeWriter::new(rt.alloc());
-    desk.list(rt.alloc(), b"audit-of 101", writer, &mut faults)?;
-    assert!(rt; faults.written().is_empty());
-    Ok(())
-}
-
-/// The notes are taken, and seen when their list comes as an audit file.
-fn notes_come_again(rt: &(impl Abort + AllocGlobal)) -> Result<(), Fail> {
-    let mut desk = checked_in(rt.alloc())?;
-    let mut listed = FakeWriter::new(rt.alloc());
-    audit_answers(rt, &mut desk, TWO_NOTES, b"1 taken\n2 taken\n");
-    list_notes(rt, &mut desk, &mut listed)?;
-    audit_answers(rt, &mut desk, listed.written(), b"1 seen\n2 seen\n");
-    Ok(())
-}
-
-#[test]
-fn a_list_of_notes_is_an_audit_file(rt: HostRuntime) -> Result<(), Fail> {
-    notes_come_again(&rt)
 }
 
 /// The reply goes with this exit status.
@@ -385,7 +391,7 @@ fn is_whole_rows<A: Abort>(rt: &A, written: &[u8], status: u8) {
 }
 
 /// Writes the chain's list, or says that there was no memory.
-fn chain_or_fault(rt: &(impl Abort + AllocGlobal), desk: &mut Desk) -> Result<(), Fail> {
+fn chain_or_fault(rt: &(impl Abort + AllocGlobal), desk: &mut Desk<ListBooks>) -> Result<(), Fail> {
     let mut writer = FakeWriter::new(rt.alloc());
     let mut faults = FakeWriter::new(rt.alloc());
     let status = desk.list(rt.alloc(), b"chain 101", &mut writer, &mut faults)?;
@@ -428,7 +434,7 @@ fn import_says_so<A: Abort>(rt: &A, status: u8, written: &[u8], told: &[u8]) {
 }
 
 /// Imports the two notes, and answers what they are answered again.
-fn import_or_fault<R: Abort + AllocGlobal>(rt: &R, desk: &mut Desk) -> &'static [u8] {
+fn import_or_fault<R: Abort + AllocGlobal>(rt: &R, desk: &mut Desk<ListBooks>) -> &'static [u8] {
     let mut writer = FakeWriter::new(rt.alloc());
     let mut faults = FakeWriter::new(rt.alloc());
     let status = desk.audit(rt.alloc(), TWO_NOTES, &mut writer, &mut faults);
@@ -437,7 +443,7 @@ fn import_or_fault<R: Abort + AllocGlobal>(rt: &R, desk: &mut Desk) -> &'static 
 }
 
 /// Where the two notes are answered again, they are answered so.
-fn import_again<R: Abort + AllocGlobal>(rt: &R, desk: &mut Desk, again: &[u8]) {
+fn import_again<R: Abort + AllocGlobal>(rt: &R, desk: &mut Desk<ListBooks>, again: &[u8]) {
     let mut writer = FakeWriter::new(rt.alloc());
     let mut faults = FakeWriter::new(rt.alloc());
     let status = desk.audit(rt.alloc(), TWO_NOTES, &mut writer, &mut faults);

@@ -1,18 +1,17 @@
 //! Scripts: lines of commands and lists, each answered before the next.
 
-ghost use Rattle.std.specs.Prelude.{◌≡◌, ◌≢◌, ℕ, List, ◌≤◌, ◌<◌, length, take, Option, None, Some, IfSome, IfOk, IfErr, IsErrOf};
-ghost use Rattle.std.specs.Io.KnownBytes.{Appends};
+ghost use Rattle.std.specs.Prelude.{◌≡◌, ℕ, true, List, ◌≤◌, ◌<◌, length, take, IfSome, IfOk, IsErrOf, OnOk, OnErr};
 ghost use Rattle.keycard_rules.specs.Rise.{NoFewer};
-ghost use Rattle.hotel_core.specs.Books.Failures.{AreCounted};
-ghost use Rattle.hotel_lists.specs.Bytes.{AppendsFront};
+ghost use Rattle.hotel_core.specs.Model.Leads.{Leads};
+ghost use Rattle.hotel_lists.specs.Calls.{NoneForgotten};
 ghost use Rattle.hotel_desk.specs.declared.script.ScriptFault.TheVariants.{TooLarge};
 ghost use Rattle.hotel_desk.specs.Lines.{answered_lines};
-ghost use Rattle.hotel_desk.specs.Script.{RowsGoSafely, IsInput, lines_done, fault_of};
+ghost use Rattle.hotel_desk.specs.Script.{ScriptAnswered, ScriptCut, IsInput, IfCut, IfUnbegun, NothingBegun, fault_of};
 
 use crate::line_answers::answer_line;
 use crate::lines::{first_line, is_silent, without_return};
 use hotel_core::Walks;
-use hotel_lists::{Interruptions, WholeFault, read_whole};
+use hotel_lists::{IoCalls, WholeFault, read_whole};
 use rand_core::Rng;
 use std::alloc::Global;
 use std::io::{Read, Write};
@@ -32,13 +31,14 @@ pub struct ScriptEnd {
 pub enum ScriptFault {
     /// A read failed; no line was begun.
     Read,
-    /// It has more than `SCRIPT_LIMIT` bytes; no line was begun.
+    /// It has more than 1,048,576 bytes; no line was begun.
     TooLarge,
     /// A growth of memory for its bytes was refused; no line was begun.
     Memory,
     /// A write failed.
     Write {
-        /// How many lines were carried out. The answer of the last of them was not written to its end.
+        /// How many lines were carried out, at least one. The answers of those before the last one were
+        /// written whole; of the last one's answer a front was.
         done: u32,
     },
 }
@@ -62,18 +62,22 @@ fn answer_lines<W: Write, B: Walks, R: Rng>(
     writer: &mut W,
     books: &mut B,
     source: &mut R,
-    interruptions: &mut Interruptions,
+    calls: &mut IoCalls,
 ) -> Result<ScriptEnd, ScriptFault>
-    requires { length script.now ≤ SCRIPT_LIMIT }
+    requires { length script.now ≤ 1048576 }
     ensures count { IfOk result (λ script_end. script_end.lines ≡ length (answered_lines script.now)) }
-    ensures ok { B.is_clean books.new → IfOk result (λ script_end. RowsGoSafely (B.rows books.old) (R.stream source.old) (answered_lines script.now)
-        (Appends (W.contents writer.old) (W.contents writer.new)) (AreCounted (B.failures books.old) (B.failures books.new)) (B.rows books.new) (R.stream source.new)) }
-    ensures begun { IfErr result (λ fault. IfSome (lines_done fault) (λ done. done ≤ length (answered_lines script.now))) }
-    ensures cut { B.is_clean books.new → IfErr result (λ fault. IfSome (lines_done fault) (λ done. RowsGoSafely (B.rows books.old) (R.stream source.old) (take done (answered_lines script.now))
-        (AppendsFront (W.contents writer.old) (W.contents writer.new)) (AreCounted (B.failures books.old) (B.failures books.new)) (B.rows books.new) (R.stream source.new))) }
-    ensures written { IfErr result (λ fault. lines_done fault ≢ None) }
+    ensures ok { B.is_clean books.new → OnOk result (Leads (B.rows books.old)
+        (ScriptAnswered (answered_lines script.now) (R.stream source.old) (R.stream source.new) (W.contents writer.old)
+        (W.contents writer.new) (B.failures books.old) (B.failures books.new)) (B.rows books.new)) }
+    ensures cut { IfCut result (λ done. (1 ≤ done) × (done ≤ length (answered_lines script.now))
+        × (B.is_clean books.new → Leads (B.rows books.old) (ScriptCut
+        (take done (answered_lines script.now)) (R.stream source.old) (R.stream source.new) (W.contents writer.old)
+        (W.contents writer.new) (B.failures books.old) (B.failures books.new)) (B.rows books.new))) }
+    ensures sure { IfUnbegun result ⊥ }
     ensures was_clean { B.is_clean books.new → B.is_clean books.old }
     ensures counted { NoFewer (B.failures books.old) (B.failures books.new) }
+    ensures failed { OnErr result (calls.new.write_failed ≡ true) }
+    ensures calls { NoneForgotten calls.old calls.new }
 {
     let mut rest = script;
     let mut done = 0;
@@ -81,7 +85,7 @@ fn answer_lines<W: Write, B: Walks, R: Rng>(
         rest = later;
         let line = without_return(line);
         if !is_silent(line) {
-            let answered = answer_line(alloc, line, writer, books, source, interruptions);
+            let answered = answer_line(alloc, line, writer, books, source, calls);
             done += 1;
             let Ok(()) = answered else {
                 return Err(ScriptFault::Write { done });
@@ -102,33 +106,28 @@ pub fn run_script<I: Read, W: Write, B: Walks, R: Rng>(
     books: &mut B,
     source: &mut R,
 ) -> Result<ScriptEnd, ScriptFault>
-    ensures ok { IfOk result (λ script_end. (script : List ℕ) × IsInput SCRIPT_LIMIT (I.remaining reader.old) script × (script_end.lines ≡ length (answered_lines script))
-        × (B.is_clean books.new → RowsGoSafely (B.rows books.old) (R.stream source.old) (answered_lines script)
-        (Appends (W.contents writer.old) (W.contents writer.new)) (AreCounted (B.failures books.old) (B.failures books.new)) (B.rows books.new) (R.stream source.new))) }
-    ensures cut { IfErr result (λ fault. IfSome (lines_done fault) (λ done. (script : List ℕ) × IsInput SCRIPT_LIMIT (I.remaining reader.old) script × (done ≤ length (answered_lines script))
-        × (B.is_clean books.new → RowsGoSafely (B.rows books.old) (R.stream source.old) (take done (answered_lines script))
-        (AppendsFront (W.contents writer.old) (W.contents writer.new)) (AreCounted (B.failures books.old) (B.failures books.new)) (B.rows books.new) (R.stream source.new)))) }
-    ensures unbegun { IfErr result (λ fault. lines_done fault ≡ None → (books.new ≡ books.old) × (source.new ≡ source.old) × (writer.new ≡ writer.old)) }
-    ensures large { IsErrOf result TooLarge → IfSome (I.remaining reader.old) (λ input. SCRIPT_LIMIT < length input) }
+    ensures ok { IfOk result (λ script_end. (script : List ℕ) × IsInput (I.remaining reader.old) script
+        × (script_end.lines ≡ length (answered_lines script)) × (B.is_clean books.new → Leads (B.rows books.old)
+        (ScriptAnswered (answered_lines script) (R.stream source.old) (R.stream source.new) (W.contents writer.old)
+        (W.contents writer.new) (B.failures books.old) (B.failures books.new)) (B.rows books.new))) }
+    ensures cut { IfCut result (λ done. (script : List ℕ) × IsInput (I.remaining reader.old) script × (1 ≤ done)
+        × (done ≤ length (answered_lines script)) × (B.is_clean books.new → Leads (B.rows books.old) (ScriptCut
+        (take done (answered_lines script)) (R.stream source.old) (R.stream source.new) (W.contents writer.old)
+        (W.contents writer.new) (B.failures books.old) (B.failures books.new)) (B.rows books.new))) }
+    ensures unbegun { IfUnbegun result (NothingBegun books.old books.new source.old source.new writer.old writer.new) }
+    ensures large { IsErrOf result TooLarge → IfSome (I.remaining reader.old) (λ input. 1048576 < length input) }
     ensures was_clean { B.is_clean books.new → B.is_clean books.old }
     ensures counted { NoFewer (B.failures books.old) (B.failures books.new) }
 {
-    let mut interruptions = Interruptions::none();
-    let script = read_whole(alloc, reader, SCRIPT_LIMIT, &mut interruptions)?;
-    answer_lines(
-        alloc,
-        script.as_slice(),
-        writer,
-        books,
-        source,
-        &mut interruptions,
-    )
+    let mut calls = IoCalls::none();
+    let script = read_whole(alloc, reader, SCRIPT_LIMIT, &mut calls)?;
+    answer_lines(alloc, &script, writer, books, source, &mut calls)
 }
 
 #[cfg(test)]
 mod chains_beside;
 #[cfg(test)]
-mod scenarios;
+mod greatest_sizes;
 #[cfg(test)]
 mod tests;
 #[cfg(test)]

@@ -1,4 +1,4 @@
-//! The exit status of a reply.
+//! The exit statuses, and that of a reply.
 
 ghost use Rattle.std.specs.Prelude.{◌≡◌};
 ghost use Rattle.hotel_desk.specs.Statuses.{reply_status};
@@ -7,6 +7,9 @@ use hotel_core::{Refusal, Reply};
 
 /// What was asked is done.
 pub const DONE: u8 = 0;
+
+/// The program was given words that it doesn't take.
+pub const USAGE: u8 = 2;
 
 /// The answer is a refusal, or an audit file has a line that is unread or refused.
 pub const REFUSED: u8 = 3;

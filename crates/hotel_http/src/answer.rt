@@ -11,7 +11,7 @@ use crate::buffer::ShortText;
 use crate::rejection::{Method, Rejection};
 use crate::status::Status;
 use hotel_core::{Refusal, Reply, reply_text};
-use hotel_lists::{Interruptions, WriteFailed, write_bytes, write_parts};
+use hotel_lists::{IoCalls, WriteFailed, write_bytes, write_parts};
 use std::io::Write;
 
 /// What the body of an answer is.
@@ -80,7 +80,7 @@ pub fn write_short<W: Write>(
     status: Status,
     allow: Option<Method>,
     body: &[u8],
-    interruptions: &mut Interruptions,
+    calls: &mut IoCalls,
 ) -> Result<(), WriteFailed>
     requires { length body.now ≤ 64 }
     ensures ok { OnOk result (Appends (W.contents writer.old) (W.contents writer.new) (answer_text status Plain allow body.now)) }
@@ -88,7 +88,7 @@ pub fn write_short<W: Write>(
 {
     let mut text = head_text(status, Media::Plain, allow, body.len() as u128);
     text.push(body);
-    write_bytes(writer, text.as_bytes(), interruptions)
+    write_bytes(writer, text.as_bytes(), calls)
 }
 
 /// The status of a rejection.
@@ -135,7 +135,7 @@ fn allowed_by(why: Rejection) -> Option<Method>
 pub fn write_rejection<W: Write>(
     writer: &mut W,
     why: Rejection,
-    interruptions: &mut Interruptions,
+    calls: &mut IoCalls,
 ) -> Result<(), WriteFailed>
     ensures ok { OnOk result (Appends (W.contents writer.old) (W.contents writer.new) (rejection_answer why)) }
     ensures err { OnErr result (AppendsFront (W.contents writer.old) (W.contents writer.new) (rejection_answer why)) }
@@ -145,7 +145,7 @@ pub fn write_rejection<W: Write>(
         rejection_status(why),
         allowed_by(why),
         rejection_body(why),
-        interruptions,
+        calls,
     )
 }
 
@@ -164,19 +164,13 @@ pub fn reply_status(reply: &Reply) -> Status
 pub fn write_reply<W: Write>(
     writer: &mut W,
     reply: &Reply,
-    interruptions: &mut Interruptions,
+    calls: &mut IoCalls,
 ) -> Result<(), WriteFailed>
     ensures ok { OnOk result (Appends (W.contents writer.old) (W.contents writer.new) (reply_answer reply.now)) }
     ensures err { OnErr result (AppendsFront (W.contents writer.old) (W.contents writer.new) (reply_answer reply.now)) }
 {
     let text = reply_text(reply);
-    write_short(
-        writer,
-        reply_status(reply),
-        None,
-        text.as_bytes(),
-        interruptions,
-    )
+    write_short(writer, reply_status(reply), None, text.as_bytes(), calls)
 }
 
 /// Writes a list. After a fault the writer took a front of the answer.
@@ -184,11 +178,11 @@ pub fn write_reply<W: Write>(
 pub fn write_list<W: Write>(
     writer: &mut W,
     list: &[u8],
-    interruptions: &mut Interruptions,
+    calls: &mut IoCalls,
 ) -> Result<(), WriteFailed>
     ensures ok { OnOk result (Appends (W.contents writer.old) (W.contents writer.new) (list_answer list.now)) }
     ensures err { OnErr result (AppendsFront (W.contents writer.old) (W.contents writer.new) (list_answer list.now)) }
 {
     let head = head_text(Status::Success, Media::Csv, None, list.len() as u128);
-    write_parts(writer, &[head.as_bytes(), list], interruptions)
+    write_parts(writer, &[head.as_bytes(), list], calls)
 }

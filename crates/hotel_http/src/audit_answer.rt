@@ -11,7 +11,7 @@ use crate::answer::{Media, head_text, write_short};
 use crate::buffer::ShortText;
 use crate::status::Status;
 use hotel_audit::{AuditFault, ImportFault, LineAnswer, answer_text};
-use hotel_lists::{Interruptions, WriteFailed, write_bytes};
+use hotel_lists::{IoCalls, WriteFailed, write_bytes};
 use std::io::Write;
 
 /// Whether a line was taken.
@@ -42,14 +42,14 @@ fn answers_size(answers: &[LineAnswer]) -> u128
 fn write_lines<W: Write>(
     writer: &mut W,
     answers: &[LineAnswer],
-    interruptions: &mut Interruptions,
+    calls: &mut IoCalls,
 ) -> Result<(), WriteFailed>
     ensures ok { OnOk result (Appends (W.contents writer.old) (W.contents writer.new) (answers_text 1 answers.now)) }
     ensures err { OnErr result (AppendsFront (W.contents writer.old) (W.contents writer.new) (answers_text 1 answers.now)) }
 {
     for (index, answer) in answers.iter().enumerate() {
         let text = answer_text(index + 1, answer);
-        write_bytes(writer, text.as_bytes(), interruptions)?;
+        write_bytes(writer, text.as_bytes(), calls)?;
     }
     Ok(())
 }
@@ -59,14 +59,14 @@ fn write_lines<W: Write>(
 pub fn write_answers<W: Write>(
     writer: &mut W,
     answers: &[LineAnswer],
-    interruptions: &mut Interruptions,
+    calls: &mut IoCalls,
 ) -> Result<(), WriteFailed>
     ensures ok { OnOk result (Appends (W.contents writer.old) (W.contents writer.new) (lines_answer answers.now)) }
     ensures err { OnErr result (AppendsFront (W.contents writer.old) (W.contents writer.new) (lines_answer answers.now)) }
 {
     let head = head_text(Status::Success, Media::Plain, None, answers_size(answers));
-    write_bytes(writer, head.as_bytes(), interruptions)?;
-    write_lines(writer, answers, interruptions)
+    write_bytes(writer, head.as_bytes(), calls)?;
+    write_lines(writer, answers, calls)
 }
 
 /// The status of an import that has no answers.
@@ -110,17 +110,11 @@ fn fault_body(why: &ImportFault) -> ShortText
 pub fn write_fault<W: Write>(
     writer: &mut W,
     why: &ImportFault,
-    interruptions: &mut Interruptions,
+    calls: &mut IoCalls,
 ) -> Result<(), WriteFailed>
     ensures ok { OnOk result (Appends (W.contents writer.old) (W.contents writer.new) (fault_answer why.now)) }
     ensures err { OnErr result (AppendsFront (W.contents writer.old) (W.contents writer.new) (fault_answer why.now)) }
 {
     let body = fault_body(why);
-    write_short(
-        writer,
-        fault_status(why),
-        None,
-        body.as_bytes(),
-        interruptions,
-    )
+    write_short(writer, fault_status(why), None, body.as_bytes(), calls)
 }

@@ -2,7 +2,7 @@
 ghost use Rattle.std.specs.Prelude.{◌≡◌};
 ghost use Rattle.hotel_lists.specs.declared.fault.ListFault.TheVariants.{Write};
 
-use crate::bytes::WriteFailed;
+use crate::calls::WriteFailed;
 
 /// Why a list was not written whole.
 #[derive(Clone, Copy, PartialEq, Eq, Debug)]

@@ -2,6 +2,7 @@
 #![tactic(auto)]
 
 mod bytes;
+mod calls;
 mod fakes;
 mod fault;
 mod line;
@@ -9,10 +10,8 @@ mod lines;
 mod lists;
 mod write_lists;
 
-pub use bytes::{
-    Interruptions, ReadFailed, ReadFault, WholeFault, WriteFailed, read_more, read_whole,
-    write_bytes, write_parts,
-};
+pub use bytes::{ReadFault, WholeFault, read_more, read_whole, write_bytes, write_parts};
+pub use calls::{IoCalls, ReadFailed, WriteFailed};
 pub use fakes::{FakeReader, FakeWriter};
 pub use fault::ListFault;
 pub use lists::{arrivals, audit_of, chain_of, in_house, left_behind};

@@ -5,7 +5,7 @@ ghost use Rattle.hotel_core.specs.Refinement.ListsOnRows.{arrivals_on, in_house_
 ghost use Rattle.hotel_lists.specs.Lines.{Lists, ListsRoom, LooksAt, arrivals_header, in_house_header, chain_header, left_behind_header, audit_header, arrival_line, house_line, chain_line, behind_line, note_line};
 ghost use Rattle.hotel_lists.specs.declared.fault.ListFault.TheVariants.{NoRoom};
 
-use crate::bytes::Interruptions;
+use crate::calls::IoCalls;
 use crate::fault::ListFault;
 use crate::write_lists::{
     write_arrivals, write_audit_of, write_chain_of, write_in_house, write_left_behind,
@@ -27,7 +27,7 @@ pub fn arrivals<B: Walks, W: Write>(
     ensures no_room { result ≡ Err NoRoom → ⊥ }
     ensures books { LooksAt B.is_clean B.is_kept B.failures B.never_fails books.old books.new result }
 {
-    write_arrivals(alloc, books, day, writer, &mut Interruptions::none())
+    write_arrivals(alloc, books, day, writer, &mut IoCalls::none())
 }
 
 /// Writes the rooms with a registered party, by room.
@@ -40,7 +40,7 @@ pub fn in_house<B: Walks, W: Write>(
     ensures no_room { result ≡ Err NoRoom → ⊥ }
     ensures books { LooksAt B.is_clean B.is_kept B.failures B.never_fails books.old books.new result }
 {
-    write_in_house(alloc, books, writer, &mut Interruptions::none())
+    write_in_house(alloc, books, writer, &mut IoCalls::none())
 }
 
 /// Writes the codes of a room in order of issue. `NoRoom` where it isn't there.
@@ -53,7 +53,7 @@ pub fn chain_of<B: Walks, W: Write>(
     ensures text { B.is_clean books.new → ListsRoom (room_at (B.rows books.old) room) (W.contents writer.old) (W.contents writer.new) chain_header chain_line (chain_on (B.rows books.old) room) result }
     ensures books { LooksAt B.is_clean B.is_kept B.failures B.never_fails books.old books.new result }
 {
-    write_chain_of(alloc, books, room, writer, &mut Interruptions::none())
+    write_chain_of(alloc, books, room, writer, &mut IoCalls::none())
 }
 
 /// Writes the rooms whose lock awaits two codes or more, by room.
@@ -66,7 +66,7 @@ pub fn left_behind<B: Walks, W: Write>(
     ensures no_room { result ≡ Err NoRoom → ⊥ }
     ensures books { LooksAt B.is_clean B.is_kept B.failures B.never_fails books.old books.new result }
 {
-    write_left_behind(alloc, books, writer, &mut Interruptions::none())
+    write_left_behind(alloc, books, writer, &mut IoCalls::none())
 }
 
 /// Writes the notes of a room, by count. `NoRoom` where it isn't there.
@@ -79,7 +79,7 @@ pub fn audit_of<B: Walks, W: Write>(
     ensures text { B.is_clean books.new → ListsRoom (room_at (B.rows books.old) room) (W.contents writer.old) (W.contents writer.new) audit_header note_line (audit_on (B.rows books.old) room) result }
     ensures books { LooksAt B.is_clean B.is_kept B.failures B.never_fails books.old books.new result }
 {
-    write_audit_of(alloc, books, room, writer, &mut Interruptions::none())
+    write_audit_of(alloc, books, room, writer, &mut IoCalls::none())
 }
 
 #[cfg(test)]

@@ -1,12 +1,12 @@
-//! The five lists as text, within a call that has begun a count of its interrupted reads and writes. Those of a list are
-//! added to it.
-ghost use Rattle.std.specs.Prelude.{◌≡◌, Err};
+//! The five lists as text, within a call whose reads and writes are counted. The writes of a list are added to them.
+ghost use Rattle.std.specs.Prelude.{◌≡◌, true, Err};
 ghost use Rattle.hotel_core.specs.Books.Lookups.{room_at};
 ghost use Rattle.hotel_core.specs.Refinement.ListsOnRows.{arrivals_on, in_house_on, chain_on, left_behind_on, audit_on};
+ghost use Rattle.hotel_lists.specs.Calls.{NoneForgotten};
 ghost use Rattle.hotel_lists.specs.Lines.{Lists, ListsRoom, LooksAt, FindsRoom, arrivals_header, in_house_header, chain_header, left_behind_header, audit_header, arrival_line, house_line, chain_line, behind_line, note_line};
-ghost use Rattle.hotel_lists.specs.declared.fault.ListFault.TheVariants.{NoRoom};
+ghost use Rattle.hotel_lists.specs.declared.fault.ListFault.TheVariants.{NoRoom, Write};
 
-use crate::bytes::Interruptions;
+use crate::calls::IoCalls;
 use crate::fault::ListFault;
 use crate::lines::{Lines, listed};
 use hotel_core::Walks;
@@ -18,6 +18,7 @@ use std::io::Write;
 /// Whether the room is there, or why no list of it is written.
 fn find_room<B: Walks>(books: &mut B, room: RoomNo) -> Result<(), ListFault>
     ensures room { B.is_clean books.new → FindsRoom (room_at (B.rows books.old) room) result }
+    ensures unwritten { result ≡ Err Write → ⊥ }
     ensures books { LooksAt B.is_clean B.is_kept B.failures B.never_fails books.old books.new result }
 {
     match books.room(room) {
@@ -34,13 +35,15 @@ pub fn write_arrivals<B: Walks, W: Write>(
     books: &mut B,
     day: Day,
     writer: &mut W,
-    interruptions: &mut Interruptions,
+    calls: &mut IoCalls,
 ) -> Result<(), ListFault>
     ensures text { B.is_clean books.new → Lists (W.contents writer.old) (W.contents writer.new) arrivals_header arrival_line (arrivals_on (B.rows books.old) day) result }
     ensures no_room { result ≡ Err NoRoom → ⊥ }
     ensures books { LooksAt B.is_clean B.is_kept B.failures B.never_fails books.old books.new result }
+    ensures failed { result ≡ Err Write → calls.new.write_failed ≡ true }
+    ensures calls { NoneForgotten calls.old calls.new }
 {
-    let mut lines = Lines::new(alloc, writer, interruptions);
+    let mut lines = Lines::new(alloc, writer, calls);
     lines.begin(b"party,guest,kind,arrive,depart\n")?;
     let end = books.walk_arrivals(day, &mut lines);
     listed(end, lines.write_failed)
@@ -51,13 +54,15 @@ pub fn write_in_house<B: Walks, W: Write>(
     alloc: Global,
     books: &mut B,
     writer: &mut W,
-    interruptions: &mut Interruptions,
+    calls: &mut IoCalls,
 ) -> Result<(), ListFault>
     ensures text { B.is_clean books.new → Lists (W.contents writer.old) (W.contents writer.new) in_house_header house_line (in_house_on (B.rows books.old)) result }
     ensures no_room { result ≡ Err NoRoom → ⊥ }
     ensures books { LooksAt B.is_clean B.is_kept B.failures B.never_fails books.old books.new result }
+    ensures failed { result ≡ Err Write → calls.new.write_failed ≡ true }
+    ensures calls { NoneForgotten calls.old calls.new }
 {
-    let mut lines = Lines::new(alloc, writer, interruptions);
+    let mut lines = Lines::new(alloc, writer, calls);
     lines.begin(b"room,party,guest,kind,depart,secured\n")?;
     let end = books.walk_in_house(&mut lines);
     listed(end, lines.write_failed)
@@ -69,13 +74,15 @@ pub fn write_chain_of<B: Walks, W: Write>(
     books: &mut B,
     room: RoomNo,
     writer: &mut W,
-    interruptions: &mut Interruptions,
+    calls: &mut IoCalls,
 ) -> Result<(), ListFault>
     ensures text { B.is_clean books.new → ListsRoom (room_at (B.rows books.old) room) (W.contents writer.old) (W.contents writer.new) chain_header chain_line (chain_on (B.rows books.old) room) result }
     ensures books { LooksAt B.is_clean B.is_kept B.failures B.never_fails books.old books.new result }
+    ensures failed { result ≡ Err Write → calls.new.write_failed ≡ true }
+    ensures calls { NoneForgotten calls.old calls.new }
 {
     find_room(books, room)?;
-    let mut lines = Lines::new(alloc, writer, interruptions);
+    let mut lines = Lines::new(alloc, writer, calls);
     lines.begin(b"place,code,state\n")?;
     let end = books.walk_chain(room, &mut lines);
     listed(end, lines.write_failed)
@@ -86,13 +93,15 @@ pub fn write_left_behind<B: Walks, W: Write>(
     alloc: Global,
     books: &mut B,
     writer: &mut W,
-    interruptions: &mut Interruptions,
+    calls: &mut IoCalls,
 ) -> Result<(), ListFault>
     ensures text { B.is_clean books.new → Lists (W.contents writer.old) (W.contents writer.new) left_behind_header behind_line (left_behind_on (B.rows books.old)) result }
     ensures no_room { result ≡ Err NoRoom → ⊥ }
     ensures books { LooksAt B.is_clean B.is_kept B.failures B.never_fails books.old books.new result }
+    ensures failed { result ≡ Err Write → calls.new.write_failed ≡ true }
+    ensures calls { NoneForgotten calls.old calls.new }
 {
-    let mut lines = Lines::new(alloc, writer, interruptions);
+    let mut lines = Lines::new(alloc, writer, calls);
     lines.begin(b"room,held,current,awaited\n")?;
     let end = books.walk_left_behind(&mut lines);
     listed(end, lines.write_failed)
@@ -104,13 +113,15 @@ pub fn write_audit_of<B: Walks, W: Write>(
     books: &mut B,
     room: RoomNo,
     writer: &mut W,
-    interruptions: &mut Interruptions,
+    calls: &mut IoCalls,
 ) -> Result<(), ListFault>
     ensures text { B.is_clean books.new → ListsRoom (room_at (B.rows books.old) room) (W.contents writer.old) (W.contents writer.new) audit_header note_line (audit_on (B.rows books.old) room) result }
     ensures books { LooksAt B.is_clean B.is_kept B.failures B.never_fails books.old books.new result }
+    ensures failed { result ≡ Err Write → calls.new.write_failed ≡ true }
+    ensures calls { NoneForgotten calls.old calls.new }
 {
     find_room(books, room)?;
-    let mut lines = Lines::new(alloc, writer, interruptions);
+    let mut lines = Lines::new(alloc, writer, calls);
     lines.begin(b"room,count,kind,card,old,new,at\n")?;
     let end = books.walk_audit(room, &mut lines);
     listed(end, lines.write_failed)

@@ -2,11 +2,11 @@
 
 ghost use Rattle.std.specs.Prelude.{◌≡◌, ℕ, ◌+◌, ◌-◌, ◌<◌, ◌≤◌, ◌^◌, slice_index};
 ghost use Rattle.std.specs.List.{count_by};
-ghost use Rattle.hotel_nights.specs.FullNight.{is_full, first_day, is_standing, is_of_kind};
+ghost use Rattle.hotel_nights.specs.FullNight.{is_full, first_day, is_of_kind};
 ghost use Rattle.hotel_nights.specs.Block.{begins, ends, one_if};
 
 use crate::kind::KindCode;
-use crate::stay::{Stay, StayState};
+use crate::stay::Stay;
 
 /// The most nights of a block.
 pub(crate) const BLOCK: u16 = 90;
@@ -18,21 +18,11 @@ struct Tally {
     pub ends: [usize; 90],
 }
 
-/// Whether a stay in this state holds its nights.
-const fn is_standing(state: &StayState) -> bool
-    ensures { result ≡ is_standing state.now }
-{
-    match state {
-        StayState::Booked | StayState::InHouse(_) => true,
-        StayState::Done | StayState::Cancelled => false,
-    }
-}
-
 /// Whether the stay holds its nights in rooms of the kind.
 fn is_of_kind(stay: &Stay, kind: &KindCode) -> bool
     ensures { result ≡ is_of_kind kind.now stay.now }
 {
-    is_standing(&stay.state) && stay.kind == *kind
+    stay.state.is_standing() && stay.kind == *kind
 }
 
 /// Counts the stay at its first night in the block, and at the night after its last.

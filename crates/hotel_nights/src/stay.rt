@@ -1,4 +1,6 @@
 //! Stays of parties.
+ghost use Rattle.std.specs.Prelude.{◌≡◌};
+ghost use Rattle.hotel_nights.specs.FullNight.{is_standing};
 
 use crate::day::Day;
 use crate::guest::Guest;
@@ -16,6 +18,18 @@ pub enum StayState {
     Done,
     /// Cancelled before it began.
     Cancelled,
+}
+
+impl StayState {
+    /// Whether a stay in this state holds its nights.
+    pub const fn is_standing(&self) -> bool
+        ensures { result ≡ is_standing self.now }
+    {
+        match self {
+            StayState::Booked | StayState::InHouse(_) => true,
+            StayState::Done | StayState::Cancelled => false,
+        }
+    }
 }
 
 /// The stay of a party in a room of a kind: it takes the nights from `arrive` up to, and not including, `depart`.

@@ -10,7 +10,7 @@ use Rattle.std.proofs.lemmas.Bool.Decides.{nat_tests}
 use Rattle.std.proofs.lemmas.Grind.{common_steps}
 use Rattle.std.specs.List.{IsDistinct, list_any, position_or_len}
 use Rattle.keycard_rules.specs.declared.card.Link.{Link}
-use Rattle.keycard_rules.specs.Draw.{is_among}
+use Rattle.keycard_rules.specs.Draw.{is_one_of}
 use Rattle.keycard_rules.specs.Lock.{turn}
 use Rattle.keycard_rules.specs.Chain.{Ledger, last_from, issued, current, IsLinkOf, recoded, place_in}
 
@@ -45,10 +45,10 @@ pub distinct-one : (code : ℕ) (items : List ℕ) → items ≡ code ∷ [] →
 unfolding IsDistinct
 distinct-one code items e = rw e (omega arith, (tt, tt))
 
-pub distinct-push : (items new : List ℕ) (p code : ℕ) → p < length items → IsDistinct nat_eq items → is_among (issued (ledger_of items p)) code ≡ false
+pub distinct-push : (items new : List ℕ) (p code : ℕ) → p < length items → IsDistinct nat_eq items → is_one_of code (issued (ledger_of items p)) ≡ false
     → new ≡ items ++ (code ∷ []) → (p < length new) × IsDistinct nat_eq new
 distinct-push items new p code h d f e =
-    let g : is_among items code ≡ false = rw (issued-is items p h) at f in
+    let g : is_one_of code items ≡ false = rw (issued-is items p h) at f in
     rw e (omega (arith, length-append items (code ∷ [])), IsDistinct-push nat_eq_equiv items code d (sym (flipped code items) ∙ g))
 
 same_place : (items : List ℕ) (i j : ℕ) → IsDistinct nat_eq items → i < length items → j < length items → get_or items i 0 ≡ get_or items j 0 → i ≡ j
@@ -119,13 +119,13 @@ among-yes p (x ∷ xs) h = elim (cases_Bool (p x)) [
   | inr n ↦ let e : position_or_len p (x ∷ xs) ≡ 1 + position_or_len p xs = rw n refl in rw n (among-yes p xs (omega arith))
 ]
 
-pub is_among-no : (xs : List ℕ) (to : ℕ) → length xs ≤ place_in xs to → is_among xs to ≡ false
+pub is_one_of-no : (xs : List ℕ) (to : ℕ) → length xs ≤ place_in xs to → is_one_of to xs ≡ false
 unfolding place_in
-is_among-no xs to h = among-no (λ c. c == to) xs h
+is_one_of-no xs to h = among-no (λ c. c == to) xs h
 
-pub is_among-yes : (xs : List ℕ) (to : ℕ) → place_in xs to < length xs → is_among xs to ≡ true
+pub is_one_of-yes : (xs : List ℕ) (to : ℕ) → place_in xs to < length xs → is_one_of to xs ≡ true
 unfolding place_in
-is_among-yes xs to h = among-yes (λ c. c == to) xs h
+is_one_of-yes xs to h = among-yes (λ c. c == to) xs h
 
 pub place_in-le : (xs : List ℕ) (to : ℕ) → place_in xs to ≤ length xs
 unfolding place_in

@@ -2,7 +2,7 @@
 use Rattle.std.proofs.Common.{ℕ, zero, suc, ◌≡◌, ◌+◌, ◌≤◌, ◌<◌, Bool, true, false, List, [], ◌∷◌, Option, Some, None, refl, ap, sym, ◌∙◌, arith, add-one, cond, length}
 use Rattle.std.proofs.lemmas.List.Elements.{All-cons, All-nil}
 use Rattle.rand_core.specs.Stream.{Stream, next_u64}
-use Rattle.keycard_rules.specs.Draw.{is_among, words, past, code_of, Draw, one_more, draw_from, drawn, AllIssued}
+use Rattle.keycard_rules.specs.Draw.{is_one_of, words, past, code_of, Draw, one_more, draw_from, drawn, AllIssued}
 
 abbrev pub more : ℕ → Draw → Draw
 more n draw = record { code = draw.code; examined = n + draw.examined }
@@ -47,17 +47,17 @@ so_far_none issued s = record {
 more_one : (n : ℕ) (d : Draw) → more n (one_more d) ≡ more (suc n) d
 more_one n d = ap (λ (k : ℕ). let e : Draw = record { code = d.code; examined = k } in e) (omega arith)
 
-issued_first : (issued later : List ℕ) (word : ℕ) → is_among issued (code_of word) ≡ true → draw_from issued (word ∷ later) ≡ one_more (draw_from issued later)
+issued_first : (issued later : List ℕ) (word : ℕ) → is_one_of (code_of word) issued ≡ true → draw_from issued (word ∷ later) ≡ one_more (draw_from issued later)
 unfolding draw_from
 issued_first issued later word h = rw h
 
-fresh_first : (issued later : List ℕ) (word : ℕ) → is_among issued (code_of word) ≡ false → draw_from issued (word ∷ later) ≡ record { code = Some (code_of word); examined = 1 }
+fresh_first : (issued later : List ℕ) (word : ℕ) → is_one_of (code_of word) issued ≡ false → draw_from issued (word ∷ later) ≡ record { code = Some (code_of word); examined = 1 }
 unfolding draw_from
 fresh_first issued later word h = rw h
 
 at_least_one : (issued later : List ℕ) (w : ℕ) → 1 ≤ (draw_from issued (w ∷ later)).examined
 unfolding draw_from
-at_least_one issued later w = at_least_one_by (is_among issued (code_of w)) (draw_from issued later) (code_of w)
+at_least_one issued later w = at_least_one_by (is_one_of (code_of w) issued) (draw_from issued later) (code_of w)
   where
     at_least_one_by : (b : Bool) (d : Draw) (c : ℕ) → 1 ≤ (let r : Draw = cond b (one_more d) (record { code = Some c; examined = 1 }) in r).examined
     at_least_one_by true d c = omega arith
@@ -78,7 +78,7 @@ module _ (issued : List ℕ) (s0 s1 s2 : Stream) (n word : ℕ) (h : SoFar issue
   pub moved_on : s2 ≡ past (n + 1) s0
   moved_on = rw add-one (sym is_later ∙ ap (λ s. (next_u64 s).1) h.moved ∙ sym (past-suc n s0))
 
-  pub so_far_more : is_among issued (code_of word) ≡ true → SoFar issued s0 (n + 1) s2
+  pub so_far_more : is_one_of (code_of word) issued ≡ true → SoFar issued s0 (n + 1) s2
   so_far_more hit =
       let t = at_next h.left h.all h.same in
       record {
@@ -88,7 +88,7 @@ module _ (issued : List ℕ) (s0 s1 s2 : Stream) (n word : ℕ) (h : SoFar issue
         same = rw add-one (t.2 ∙ ap (more n) (issued_first issued (words t.0 s2) word hit) ∙ more_one n (draw_from issued (words t.0 s2)));
       }
 
-  pub found : is_among issued (code_of word) ≡ false → drawn issued s0 ≡ record { code = Some (code_of word); examined = n + 1 }
+  pub found : is_one_of (code_of word) issued ≡ false → drawn issued s0 ≡ record { code = Some (code_of word); examined = n + 1 }
   found miss =
       let t = at_next h.left h.all h.same in
       t.2 ∙ ap (more n) (fresh_first issued (words t.0 s2) word miss)
@@ -110,38 +110,38 @@ pub no_more : (issued : List ℕ) (s0 s1 : Stream) (n : ℕ) → SoFar issued s0
 no_more issued s0 s1 n h e = no_more_at issued s0 s1 n h.left h.all e h.same
 
 -- an answer of a look-up, of the word's code and the codes at the start
-pub answer_at : (now then_ : List ℕ) (word code : ℕ) (was b : Bool) → was ≡ is_among now code → was ≡ b → now ≡ then_ → code ≡ code_of word → is_among then_ (code_of word) ≡ b
-answer_at now then_ word code was b a e s k = sym (ap (λ x. is_among now x) k ∙ ap (λ xs. is_among xs (code_of word)) s) ∙ sym a ∙ e
+pub answer_at : (now then_ : List ℕ) (word code : ℕ) (was b : Bool) → was ≡ is_one_of code now → was ≡ b → now ≡ then_ → code ≡ code_of word → is_one_of (code_of word) then_ ≡ b
+answer_at now then_ word code was b a e s k = sym (ap (λ x. is_one_of x now) k ∙ ap (λ xs. is_one_of (code_of word) xs) s) ∙ sym a ∙ e
 
 -- a draw that is known
 pub draw_is : (issued : List ℕ) (s0 s2 : Stream) (code : Option ℕ) (n : ℕ) → drawn issued s0 ≡ record { code = code; examined = n } → s2 ≡ past n s0 → ((drawn issued s0).code ≡ code) × (s2 ≡ past (drawn issued s0).examined s0)
 draw_is issued s0 s2 code n d m = (ap (λ x. x.code) d, m ∙ ap (λ k. past k s0) (sym (ap (λ x. x.examined) d)))
 
-draw_from-fresh_by : (b : Bool) (issued later : List ℕ) (word code : ℕ) → is_among issued (code_of word) ≡ b
+draw_from-fresh_by : (b : Bool) (issued later : List ℕ) (word code : ℕ) → is_one_of (code_of word) issued ≡ b
     → (let d : Draw = cond b (one_more (draw_from issued later)) (record { code = Some (code_of word); examined = 1 }) in d).code ≡ Some code
-    → ((draw_from issued later).code ≡ Some code → is_among issued code ≡ false) → is_among issued code ≡ false
+    → ((draw_from issued later).code ≡ Some code → is_one_of code issued ≡ false) → is_one_of code issued ≡ false
 draw_from-fresh_by true issued later word code e h rest = rest h
 draw_from-fresh_by false issued later word code e h rest = let k : code_of word ≡ code = cc in rw (← k) e
 
 -- the code that is drawn isn't issued
-pub draw_from-fresh : (issued given : List ℕ) (code : ℕ) → (draw_from issued given).code ≡ Some code → is_among issued code ≡ false
+pub draw_from-fresh : (issued given : List ℕ) (code : ℕ) → (draw_from issued given).code ≡ Some code → is_one_of code issued ≡ false
 unfolding draw_from
 draw_from-fresh issued [] code h = cc
-draw_from-fresh issued (word ∷ later) code h = draw_from-fresh_by (is_among issued (code_of word)) issued later word code refl h (draw_from-fresh issued later code)
+draw_from-fresh issued (word ∷ later) code h = draw_from-fresh_by (is_one_of (code_of word) issued) issued later word code refl h (draw_from-fresh issued later code)
 
-draw_from-none_by : (b : Bool) (issued later : List ℕ) (word : ℕ) → is_among issued (code_of word) ≡ b
+draw_from-none_by : (b : Bool) (issued later : List ℕ) (word : ℕ) → is_one_of (code_of word) issued ≡ b
     → (let d : Draw = cond b (one_more (draw_from issued later)) (record { code = Some (code_of word); examined = 1 }) in d).code ≡ None
     → ((draw_from issued later).code ≡ None → AllIssued issued later) → AllIssued issued (word ∷ later)
-draw_from-none_by true issued later word e h rest = All-cons (λ w. is_among issued (code_of w) ≡ true) word later e (rest h)
+draw_from-none_by true issued later word e h rest = All-cons (λ w. is_one_of (code_of w) issued ≡ true) word later e (rest h)
 draw_from-none_by false issued later word e h rest = cc
 
 -- where none is drawn, all words give issued codes
 pub draw_from-none : (issued given : List ℕ) → (draw_from issued given).code ≡ None → AllIssued issued given
 unfolding draw_from
-draw_from-none issued [] h = All-nil (λ w. is_among issued (code_of w) ≡ true)
-draw_from-none issued (word ∷ later) h = draw_from-none_by (is_among issued (code_of word)) issued later word refl h (draw_from-none issued later)
+draw_from-none issued [] h = All-nil (λ w. is_one_of (code_of w) issued ≡ true)
+draw_from-none issued (word ∷ later) h = draw_from-none_by (is_one_of (code_of word) issued) issued later word refl h (draw_from-none issued later)
 
-pub drawn-fresh : (issued : List ℕ) (s : Stream) (code : ℕ) → (drawn issued s).code ≡ Some code → is_among issued code ≡ false
+pub drawn-fresh : (issued : List ℕ) (s : Stream) (code : ℕ) → (drawn issued s).code ≡ Some code → is_one_of code issued ≡ false
 unfolding drawn
 drawn-fresh issued s code h = draw_from-fresh issued (words 64 s) code h
 
@@ -163,7 +163,7 @@ pub draw_from-examined : (issued given : List ℕ) → (draw_from issued given).
 unfolding draw_from
 draw_from-examined issued [] = omega arith
 draw_from-examined issued (word ∷ later) =
-    draw_from-examined_by (is_among issued (code_of word)) (draw_from issued later) (code_of word) (length later) (draw_from-examined issued later)
+    draw_from-examined_by (is_one_of (code_of word) issued) (draw_from issued later) (code_of word) (length later) (draw_from-examined issued later)
 
 pub drawn-examined : (issued : List ℕ) (s : Stream) → (drawn issued s).examined ≤ 64
 unfolding drawn

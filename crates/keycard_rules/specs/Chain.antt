@@ -1,7 +1,7 @@
 -- A room's codes in order of issue: those that the lock has left behind, the one that it holds, and those that it has not seen.
 use Rattle.std.specs.Prelude.{◌≡◌, ℕ, ◌==◌, ◌&&◌, ◌||◌, Bool, false, not, List, [], ◌∷◌, ◌++◌, Option, Some, None, Result, Ok, Err, if◌then◌else◌}
 use Rattle.std.specs.List.{before_first, after_first, position_or_len}
-use Rattle.keycard_rules.specs.Draw.{is_among}
+use Rattle.keycard_rules.specs.Draw.{is_one_of}
 use Rattle.keycard_rules.specs.declared.card.Link.{Link}
 use Rattle.keycard_rules.specs.declared.chain.Turned.{Turned}
 use Rattle.keycard_rules.specs.declared.chain.RecodeFault.{RecodeFault}
@@ -67,7 +67,7 @@ place_in codes code = position_or_len (λ c. c == code) codes
 -- what a recoding answers: the first code has to be held, the second one awaited
 abbrev pub recode_answer : Ledger → ℕ → ℕ → Result (Unit {0}) RecodeFault
 recode_answer ledger from to =
-    if not (ledger.held == from) then Err HeldDiffers else (if is_among ledger.awaited to then Ok tt else Err NotAwaited)
+    if not (ledger.held == from) then Err HeldDiffers else (if is_one_of to ledger.awaited then Ok tt else Err NotAwaited)
 
 -- the codes after a recoding: the held one and those awaited before the new one are passed
 abbrev pub recoded : Ledger → ℕ → Ledger

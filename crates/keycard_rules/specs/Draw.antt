@@ -7,9 +7,9 @@ use Rattle.keycard_rules.specs.declared.draw.DrawFault.TheVariants.{NoFreshCode,
 use Rattle.keycard_rules.specs.declared.issued.LookFault.{LookFault}
 use Rattle.keycard_rules.specs.declared.issued.LookFault.TheVariants as look
 
--- the code is among these
-abbrev pub is_among : List ℕ → ℕ → Bool
-is_among codes code = list_any (λ c. c == code) codes
+-- the number is one of these
+abbrev pub is_one_of : ℕ → List ℕ → Bool
+is_one_of n ns = list_any (λ m. m == n) ns
 
 -- the next n words of a source
 unfoldable pub words : ℕ → Stream → List ℕ
@@ -38,7 +38,7 @@ one_more draw = record { code = draw.code; examined = draw.examined + 1 }
 unfoldable pub draw_from : List ℕ → List ℕ → Draw
 draw_from issued [] = record { code = None; examined = 0 }
 draw_from issued (word ∷ later) =
-    if is_among issued (code_of word) then one_more (draw_from issued later) else record { code = Some (code_of word); examined = 1 }
+    if is_one_of (code_of word) issued then one_more (draw_from issued later) else record { code = Some (code_of word); examined = 1 }
 
 -- the same of the next 64 words of a source
 unfoldable pub drawn : List ℕ → Stream → Draw
@@ -57,7 +57,7 @@ Draws issued source (Err Store) later = MovedAtMost (drawn issued source).examin
 
 -- each of these words gives an issued code
 abbrev pub AllIssued : List ℕ → List ℕ → Type 0
-AllIssued issued given = All (λ word. is_among issued (code_of word) ≡ true) given
+AllIssued issued given = All (λ word. is_one_of (code_of word) issued ≡ true) given
 
 -- the look-up's fault that a draw answers, where it answers one
 abbrev pub fault_in : Result ℕ DrawFault → Option LookFault

@@ -2,7 +2,7 @@
 
 ghost use Rattle.std.specs.Prelude.{◌≡◌, [], ◌∷◌, ◌++◌, length, Ok, IfOk, OnOk, OnErr, option_map, false, nat_eq};
 ghost use Rattle.std.specs.List.{IsDistinct};
-ghost use Rattle.keycard_rules.specs.Draw.{is_among};
+ghost use Rattle.keycard_rules.specs.Draw.{is_one_of};
 ghost use Rattle.keycard_rules.specs.Lock.{turn};
 ghost use Rattle.keycard_rules.specs.Chain.{Ledger, IsLinkOf, issued, current, installed, with_issued, entered, turned, recode_answer, recoded, place_in};
 
@@ -79,7 +79,7 @@ impl Chain {
     ///
     /// The link is for the cards of this issue.
     pub fn issue(&mut self, code: Code) -> Result<Link, Memory>
-        requires fresh { is_among (issued self.old) code ≡ false }
+        requires fresh { is_one_of code (issued self.old) ≡ false }
         ensures ok { OnOk result (self.new ≡ with_issued self.old code) }
         ensures codes { OnOk result (issued self.new ≡ issued self.old ++ (code ∷ [])) }
         ensures link { IfOk result (λ l. l ≡ record { old_code = current self.old; new_code = code }) }
@@ -144,7 +144,7 @@ impl Chain {
 
     /// Whether the code was issued here: passed, held or awaited.
     pub fn holds(&self, code: Code) -> bool
-        ensures answer { result ≡ is_among (issued self.now) code }
+        ensures answer { result ≡ is_one_of code (issued self.now) }
         ensures distinct { IsDistinct nat_eq (issued self.now) }
     {
         self.codes.as_slice().contains(&code)

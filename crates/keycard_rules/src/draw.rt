@@ -1,6 +1,6 @@
 //! Drawing a code that was never issued.
 ghost use Rattle.std.specs.Prelude.{◌≡◌, false, Err, IfOk, IfSome, None};
-ghost use Rattle.keycard_rules.specs.Draw.{is_among, words, past, MovedAtMost, Draws, AllIssued, fault_in};
+ghost use Rattle.keycard_rules.specs.Draw.{is_one_of, words, past, MovedAtMost, Draws, AllIssued, fault_in};
 ghost use Rattle.keycard_rules.specs.Rise.{HasRisen, NoFewer};
 
 use crate::code::Code;
@@ -24,7 +24,7 @@ pub enum DrawFault {
 /// than without it. Takes no memory of its own.
 pub fn draw_fresh<R: Rng, I: Issued>(source: &mut R, issued: &mut I) -> Result<Code, DrawFault>
     ensures drawn { I.is_clean issued.new → Draws (I.issued issued.old) (R.stream source.old) result (R.stream source.new) }
-    ensures fresh { I.is_clean issued.new → IfOk result (λ code. is_among (I.issued issued.old) code ≡ false) }
+    ensures fresh { I.is_clean issued.new → IfOk result (λ code. is_one_of code (I.issued issued.old) ≡ false) }
     ensures none_fresh { I.is_clean issued.new → result ≡ Err DrawFault.NoFreshCode → AllIssued (I.issued issued.old) (words 64 (R.stream source.old)) }
 
     ensures moved { MovedAtMost 64 (R.stream source.old) (R.stream source.new) }

@@ -1,7 +1,7 @@
 //! What knows the codes that were issued, asked before a new one is given out.
 ghost use Rattle.std.specs.Prelude.{◌≡◌, ℕ, List, IfOk, IfErr, IsOk, refl};
 ghost use Rattle.std.proofs.Common.{◌∙◌};
-ghost use Rattle.keycard_rules.specs.Draw.{is_among};
+ghost use Rattle.keycard_rules.specs.Draw.{is_one_of};
 ghost use Rattle.keycard_rules.specs.Rise.{HasRisen, NoFewer};
 ghost use Rattle.keycard_rules.specs.declared.issued.LookFault.{LookFault};
 ghost use Rattle.keycard_rules.specs.declared.issued.LookFault.TheVariants.{Store};
@@ -39,7 +39,7 @@ pub trait Issued {
 
     /// Whether a code was issued. It changes nothing but the counts of failures.
     fn is_issued(&mut self, code: Code) -> Result<bool, LookFault>
-        ensures answer { is_clean self.new → IfOk result (λ yes. yes ≡ is_among (issued self.old) code) }
+        ensures answer { is_clean self.new → IfOk result (λ yes. yes ≡ is_one_of code (issued self.old)) }
         ensures kept { is_clean self.new → is_kept self.old self.new }
         ensures was_clean { is_clean self.new → is_clean self.old }
         ensures counted { NoFewer (failures self.old) (failures self.new) }

@@ -6,7 +6,8 @@ use Rattle.hotel_core.specs.declared.reply.Reply.{Reply}
 use Rattle.hotel_core.specs.Model.Rows.{Rows}
 use Rattle.hotel_core.specs.Model.History.{History}
 use Rattle.hotel_core.specs.Model.Run.{Reached, StandsFor, Steps}
-use Rattle.hotel_core.specs.Refinement.Lift.{RunsTo, RunsSafely}
+use Rattle.hotel_core.specs.Model.Laws.{RunsTo}
+use Rattle.hotel_core.specs.Refinement.Lift.{RunsSafely}
 use Rattle.hotel_core.specs.Model.Headline.{Assured}
 use Rattle.hotel_core.proofs.SoundRows.AllSound.{headline}
 use Rattle.hotel_core.proofs.Invariants.NotesMoved.{notes_move}

@@ -15,7 +15,7 @@ use Rattle.hotel_core.specs.Model.Cards.{cards, card_of, with_spare, link_of_par
 use Rattle.hotel_core.specs.Model.Guests.{registered, leaves}
 use Rattle.hotel_core.specs.Model.Cases.{next_card}
 use Rattle.hotel_core.specs.Model.Run.{Reached}
-use Rattle.hotel_core.specs.Refinement.CodeLaws.{IsLink, HasCard, PartiesHaveCards, CardsOneParty, GuestsHaveCards}
+use Rattle.hotel_core.proofs.Facts.CodeFacts.{IsLink, HasCard, PartiesHaveCards, CardsOneParty, GuestsHaveCards}
 use Rattle.hotel_core.proofs.OfTables.Tests.{eq_from}
 use Rattle.hotel_core.proofs.OfTables.TableKeys.{row_inserted, row_kept, row_added}
 use Rattle.hotel_core.proofs.OfTables.Grown.{may_follow}

@@ -9,10 +9,10 @@ use Rattle.hotel_core.specs.Model.Rows.{at_number}
 use Rattle.hotel_core.specs.Model.Event.{Install, CheckIn, Transfer}
 use Rattle.hotel_core.specs.Model.History.{History, start, ◌▷◌}
 use Rattle.hotel_core.specs.Model.Issued.{issued, all_issued, issued_codes, is_fresh}
-use Rattle.keycard_rules.specs.Draw.{is_among}
+use Rattle.keycard_rules.specs.Draw.{is_one_of}
 use Rattle.hotel_core.specs.Model.Run.{Reached}
 use Rattle.hotel_core.specs.Model.Headline.{NoCodeTwice}
-use Rattle.hotel_core.specs.Refinement.CodeLaws.{CodesHavePlaces, PlacesHaveCodes}
+use Rattle.hotel_core.proofs.Facts.CodeFacts.{CodesHavePlaces, PlacesHaveCodes}
 use Rattle.hotel_core.proofs.OfTables.Tests.{eq_from, eq_self, not_both}
 use Rattle.hotel_core.proofs.OfTables.TableKeys.{row_inserted, row_kept, row_added, no_key}
 use Rattle.hotel_core.proofs.OfTables.CodeLists.{snoc_split, cut_alike}
@@ -25,7 +25,7 @@ not_true false e = refl
 
 -- a fresh code has no row
 pub fresh_has_no_row : (h : History) (code : ℕ) → is_fresh h code ≡ true → at_number (all_issued h) code ≡ None
-fresh_has_no_row h code e = no_key (all_issued h) code (not_true (is_among (issued_codes h) code) e)
+fresh_has_no_row h code e = no_key (all_issued h) code (not_true (is_one_of code (issued_codes h)) e)
 
 -- where the next code of a room comes to stand
 abbrev pub next_place : History → ℕ → CodeRow
@@ -73,10 +73,6 @@ same_place h ok r s code before later before' later' e f =
 
 pub no_code_twice : (h : History) → Reached h → NoCodeTwice h
 no_code_twice h ok r s code before later before' later' e f = let p = same_place h ok r s code before later before' later' e f in (p.0, p.1)
-
--- a code stands at a place of its row's room
-abbrev pub StandsAt : History → ℕ → CodeRow → Type 0
-StandsAt h code row = (before : List ℕ) × (later : List ℕ) × (issued h row.room ≡ before ++ code ∷ later) × (length before ≡ row.place)
 
 still_there : (b : Bool) (new code : ℕ) (codes before later : List ℕ) → codes ≡ before ++ code ∷ later → (later' : List ℕ) × (when b (and_last new) codes ≡ before ++ code ∷ later')
 still_there true new code codes before later e = (later ++ new ∷ [], ap (λ zs. zs ++ new ∷ []) e ∙ append_assoc before (code ∷ later) (new ∷ []))

@@ -16,7 +16,7 @@ use Rattle.hotel_core.specs.Model.Lock.{held}
 use Rattle.hotel_core.specs.Model.Ledger.{passed, awaited}
 use Rattle.hotel_core.specs.Model.Cases.{is_room}
 use Rattle.hotel_core.specs.Model.Run.{Reached}
-use Rattle.hotel_core.specs.Refinement.Follow.{MayFollow}
+use Rattle.hotel_core.proofs.Facts.Follow.{MayFollow}
 use Rattle.hotel_core.proofs.OfTables.Tests.{eq_from, eq_self, and_true, not_both, same_bool}
 use Rattle.hotel_core.proofs.OfTables.CodeLists.{length_more, last_more, parted}
 use Rattle.hotel_core.proofs.Invariants.RoomCodes.{rooms_have_codes}

@@ -8,7 +8,6 @@ use Rattle.hotel_core.specs.declared.reply.Refusal.TheVariants.{KindFull, NoCard
 use Rattle.hotel_core.specs.declared.reply.Reply.TheVariants as reply
 use Rattle.keycard_rules.specs.declared.note.Act.{Act}
 use Rattle.keycard_rules.specs.declared.note.Act.TheVariants as act
-use Rattle.hotel_core.specs.Model.Words.{is_one_of}
 use Rattle.hotel_core.specs.Model.Guests.{inside}
 use Rattle.hotel_core.specs.Model.Ledger.{awaited}
 use Rattle.keycard_rules.specs.Note.{Note}
@@ -16,13 +15,13 @@ use Rattle.hotel_core.specs.Model.Event.{Event}
 use Rattle.hotel_core.specs.Model.Event as event
 use Rattle.hotel_core.specs.Model.History.{History}
 use Rattle.hotel_core.specs.Model.Issued.{is_fresh, issued_codes}
-use Rattle.keycard_rules.specs.Draw.{draw_from, one_more, is_among, code_of}
+use Rattle.keycard_rules.specs.Draw.{draw_from, one_more, is_one_of, code_of}
 use Rattle.hotel_core.specs.Model.Outcome.{Outcome, accepted, unless, needs, bars}
 use Rattle.hotel_core.specs.Model.Answer.{answer_to, checks, effect, reported, told, moment_of}
 use Rattle.hotel_core.specs.Model.Cases.{is_begun, today, is_kind, is_room, is_party, is_booked, is_in_house, is_of_kind, is_taken, is_card, has_link, opens, holds, next_card}
 use Rattle.hotel_core.specs.Model.Stays.{first_full}
 use Rattle.hotel_core.specs.Model.Notes.{Standing, Copy, Conflicting, Next, After, standing, standing_among, notes, same_note}
-use Rattle.hotel_core.specs.Refinement.Follow.{MayFollow}
+use Rattle.hotel_core.proofs.Facts.Follow.{MayFollow}
 use Rattle.hotel_core.proofs.OfTables.Tests.{eq_from}
 
 -- none of the checks refused
@@ -47,7 +46,7 @@ pub from_draw : (o : Option ℕ) (f : ℕ → Event) (e : Event) → option_map 
 from_draw (Some code) f e h = (code, refl, cc)
 from_draw None f e h = cc
 
-fresh_case : (h : History) (word : ℕ) (later : List ℕ) (c : ℕ) (b : Bool) → is_among (issued_codes h) (code_of word) ≡ b → ((draw_from (issued_codes h) later).code ≡ Some c → is_fresh h c ≡ true)
+fresh_case : (h : History) (word : ℕ) (later : List ℕ) (c : ℕ) (b : Bool) → is_one_of (code_of word) (issued_codes h) ≡ b → ((draw_from (issued_codes h) later).code ≡ Some c → is_fresh h c ≡ true)
     → (cond b (one_more (draw_from (issued_codes h) later)) (record { code = Some (code_of word); examined = 1 })).code ≡ Some c → is_fresh h c ≡ true
 fresh_case h word later c false f ih e = let q : code_of word ≡ c = cc in subst (λ x. is_fresh h x ≡ true) q (ap not f)
 fresh_case h word later c true f ih e = ih e
@@ -56,7 +55,7 @@ fresh_case h word later c true f ih e = ih e
 pub drawn_fresh : (h : History) (ahead : List ℕ) (c : ℕ) → (draw_from (issued_codes h) ahead).code ≡ Some c → is_fresh h c ≡ true
 unfolding draw_from
 drawn_fresh h [] c e = cc
-drawn_fresh h (word ∷ later) c e = fresh_case h word later c (is_among (issued_codes h) (code_of word)) refl (drawn_fresh h later c) e
+drawn_fresh h (word ∷ later) c e = fresh_case h word later c (is_one_of (code_of word) (issued_codes h)) refl (drawn_fresh h later c) e
 
 pub same_event : {a b : Event} → Some a ≡ Some b → a ≡ b
 same_event h = cc

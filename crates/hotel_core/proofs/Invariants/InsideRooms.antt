@@ -2,11 +2,13 @@
 use Rattle.std.proofs.Common.{ℕ, zero, suc, ◌≡◌, ◌<◌, Bool, true, false, cond, List, [], ◌∷◌, length, ◌⊎◌, inl, inr, refl, ap, ◌∙◌, arith}
 use Rattle.std.specs.Prelude.{◌==◌, ◌||◌, Contains}
 use Rattle.std.specs.List.{slice_index_or}
-use Rattle.std.specs.Ordering.{is_eq, match_ordering}
+use Rattle.std.specs.Ordering.{match_ordering}
 use Rattle.std.specs.declared.cmp.Ordering.{Ordering}
 use Rattle.std.specs.declared.cmp.Ordering.TheVariants.{Less, Equal, Greater}
 use Rattle.std.specs.BTreeSet.{insert_key}
-use Rattle.hotel_core.specs.Model.Words.{when, is_one_of, pair_cmp, remove_key}
+use Rattle.std.specs.BTreeMap.{is_at}
+use Rattle.std.specs.Set.{remove_key}
+use Rattle.hotel_core.specs.Model.Words.{when, is_one_of, pair_cmp}
 use Rattle.hotel_core.specs.Model.Guests.{those_in, are_none}
 use Rattle.hotel_core.proofs.OfTables.Tests.{eq_from, eq_self, or_true, not_both}
 
@@ -67,9 +69,9 @@ left_by false e later es r m ih t =
     ]
 
 -- who is inside after a card left was inside before
-pub left_out : (es : List (ℕ × ℕ)) (k : ℕ × ℕ) (r m : ℕ) → is_one_of m (those_in (remove_key pair_cmp es k) r) ≡ true → is_one_of m (those_in es r) ≡ true
+pub left_out : (es : List (ℕ × ℕ)) (k : ℕ × ℕ) (r m : ℕ) → is_one_of m (those_in (remove_key (is_at (pair_cmp k)) es) r) ≡ true → is_one_of m (those_in es r) ≡ true
 left_out [] k r m t = t
-left_out (e ∷ es) k r m t = left_by (is_eq (pair_cmp k e)) e (remove_key pair_cmp es k) es r m (left_out es k r m) t
+left_out (e ∷ es) k r m t = left_by (is_at (pair_cmp k) e) e (remove_key (is_at (pair_cmp k)) es) es r m (left_out es k r m) t
 
 -- in an empty room is nobody
 pub nobody_in : (ns : List ℕ) (m : ℕ) → are_none ns ≡ true → is_one_of m ns ≡ false

@@ -17,7 +17,7 @@ use Rattle.hotel_core.specs.Model.Notes.{same_link}
 use Rattle.hotel_core.specs.Model.Cases.{is_room, is_card, has_link, opens}
 use Rattle.hotel_core.specs.Model.Run.{Reached}
 use Rattle.hotel_core.specs.Model.Headline.{LedgerHolds, TakesTheFirst}
-use Rattle.hotel_core.specs.Refinement.CodeLaws.{IsLink}
+use Rattle.hotel_core.proofs.Facts.CodeFacts.{IsLink}
 use Rattle.hotel_core.proofs.OfTables.Tests.{eq_from, not_both, or_second}
 use Rattle.hotel_core.proofs.OfTables.TableKeys.{key_inserted, row_of_key}
 use Rattle.hotel_core.proofs.OfTables.CodeLists.{first_out, parted}

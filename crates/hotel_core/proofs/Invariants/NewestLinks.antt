@@ -20,10 +20,6 @@ use Rattle.hotel_core.proofs.Starts.StartLinks.{two_have_newest_at_start}
 abbrev pub TwoHaveNewest : History → Type 0
 TwoHaveNewest h = (r : ℕ) (front : List ℕ) (a b : ℕ) → issued h r ≡ front ++ a ∷ b ∷ [] → (link : Link) × (newest_link h r ≡ Some link)
 
-none_of_two : (front : List ℕ) (a b : ℕ) → [] ≡ front ++ a ∷ b ∷ [] → ⊥
-none_of_two [] a b e = cc
-none_of_two (x ∷ xs) a b e = cc
-
 one_of_two : (front : List ℕ) (a b c : ℕ) → c ∷ [] ≡ front ++ a ∷ b ∷ [] → ⊥
 one_of_two front a b c e = let n = ap (λ (zs : List ℕ). length zs) e in absurd (omega (arith, length-append front (a ∷ b ∷ [])))
 

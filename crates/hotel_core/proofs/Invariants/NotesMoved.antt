@@ -1,20 +1,21 @@
 -- Each note moved exactly the codes that it records.
-use Rattle.std.proofs.Common.{ℕ, ◌≡◌, Bool, true, false, List, [], ◌∷◌, ◌++◌, refl, ap, sym, ◌∙◌, eq-eqb}
+use Rattle.std.proofs.Common.{ℕ, ◌≡◌, true, List, refl, ap, sym, ◌∙◌, eq-eqb}
 use Rattle.std.specs.Prelude.{◌==◌}
+use Rattle.keycard_rules.specs.Chain.{Ledger}
 use Rattle.keycard_rules.specs.declared.card.Link.{Link}
 use Rattle.hotel_core.specs.Model.Words.{before, after, without}
 use Rattle.hotel_core.specs.Model.Event.{Event, Moment, Entered, Left, Recoded}
 use Rattle.hotel_core.specs.Model.History.{History, start, ◌▷◌}
 use Rattle.hotel_core.specs.Model.Lock.{held}
-use Rattle.hotel_core.specs.Model.Ledger.{passed, awaited, turns}
+use Rattle.hotel_core.specs.Model.Ledger.{awaited}
 use Rattle.hotel_core.specs.Model.Run.{Reached}
-use Rattle.hotel_core.specs.Model.Moved.{RoomCodes, EntryMoves, RecodingMoves, OthersStand, Moves, NotesMove}
+use Rattle.hotel_core.specs.Model.Moved.{EntryMoves, RecodingMoves, Moves, NotesMove}
 use Rattle.hotel_core.proofs.OfTables.Tests.{eq_from}
 use Rattle.hotel_core.proofs.OfTables.CodeLists.{first_out, parted}
 use Rattle.hotel_core.proofs.OfTables.Grown.{may_follow}
 use Rattle.hotel_core.proofs.Invariants.LedgerOrder.{first_awaited, holds_new, link_seen, ledger_holds}
 
-codes_same : (p q : List ℕ) (x y : ℕ) (a b : List ℕ) → p ≡ q → x ≡ y → a ≡ b → (let c : RoomCodes = record { passed = p; held = x; awaited = a } in c) ≡ record { passed = q; held = y; awaited = b }
+codes_same : (p q : List ℕ) (x y : ℕ) (a b : List ℕ) → p ≡ q → x ≡ y → a ≡ b → (let c : Ledger = record { passed = p; held = x; awaited = a } in c) ≡ record { passed = q; held = y; awaited = b }
 codes_same p q x y a b e f g = λ i. record { passed = e i; held = f i; awaited = g i }
 
 entry_moves : (h : History) (room count number : ℕ) (link : Link) (at : Moment) → Reached (h ▷ Entered room count number link at) → EntryMoves h (h ▷ Entered room count number link at) room link

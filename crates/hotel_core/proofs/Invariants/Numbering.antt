@@ -14,7 +14,7 @@ use Rattle.hotel_core.specs.Model.History.{History, start, ◌▷◌}
 use Rattle.hotel_core.specs.Model.Cards.{cards, card_of, with_spare, link_of_party, link_to}
 use Rattle.hotel_core.specs.Model.Stays.{stays, in_state, now_is}
 use Rattle.hotel_core.specs.Model.Run.{Reached}
-use Rattle.hotel_core.specs.Refinement.CodeLaws.{CardsCount, StaysCount}
+use Rattle.hotel_core.proofs.Facts.CodeFacts.{CardsCount, StaysCount}
 use Rattle.hotel_core.proofs.OfTables.Counting.{counts_more, next_is_free}
 use Rattle.hotel_core.proofs.OfTables.Grown.{may_follow}
 use Rattle.hotel_core.proofs.Starts.StartNumbers.{cards_count_at_start, stays_count_at_start}

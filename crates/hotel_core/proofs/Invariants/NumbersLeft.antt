@@ -30,7 +30,7 @@ use Rattle.hotel_core.specs.Model.Cases.{is_room, is_card, has_link, opens, hold
 use Rattle.hotel_core.specs.Model.Outcome.{accepted, needs, bars}
 use Rattle.hotel_core.specs.Model.Answer.{answer_to, checks, effect, reported, told, moment_of}
 use Rattle.hotel_core.specs.Model.Run.{Reached}
-use Rattle.hotel_core.specs.Refinement.CodeLaws.{CardsFit, StaysFit, CodesFit}
+use Rattle.hotel_core.proofs.Facts.CodeFacts.{CardsFit, StaysFit, CodesFit}
 use Rattle.hotel_core.proofs.OfTables.Tests.{eq_from}
 use Rattle.hotel_core.proofs.Invariants.Following.{AllPass, passed_all}
 use Rattle.hotel_core.proofs.OfTables.Counting.{counts_more}

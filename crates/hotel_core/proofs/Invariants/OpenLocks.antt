@@ -12,7 +12,7 @@ use Rattle.hotel_core.specs.Model.Ledger.{passed, awaited}
 use Rattle.hotel_core.specs.Model.Cases.{is_room}
 use Rattle.hotel_core.specs.Model.Run.{Reached}
 use Rattle.hotel_core.specs.Model.Headline.{OpensOwnRoom, NewestOpens}
-use Rattle.hotel_core.specs.Refinement.CodeLaws.{IsLink, IsLinkAt}
+use Rattle.hotel_core.proofs.Facts.CodeFacts.{IsLink, IsLinkOf}
 use Rattle.hotel_core.proofs.OfTables.Tests.{eq_from, eq_self, not_both, either_way}
 use Rattle.hotel_core.proofs.OfTables.CodeLists.{cut_alike}
 use Rattle.hotel_core.proofs.Invariants.RoomCodes.{others_have_none}
@@ -45,7 +45,7 @@ opens_old : (code : ℕ) (link : Link) → code ≡ link.old_code → is_some (t
 opens_old code link e = or_last (code == link.new_code) (code == link.old_code) link.new_code (ap (λ z. z == link.old_code) e ∙ eq_self link.old_code)
 
 -- The link of a card that opens a room's lock is two neighbours of this room's codes.
-pub link_of_room : (h : History) → Reached h → (r : ℕ) (link : Link) → is_room h r ≡ true → IsLink h link → is_some (turn (held h r) link) ≡ true → IsLinkAt (issued h r) link
+pub link_of_room : (h : History) → Reached h → (r : ℕ) (link : Link) → is_room h r ≡ true → IsLink h link → is_some (turn (held h r) link) ≡ true → IsLinkOf (issued h r) link
 link_of_room h ok r link there l opens =
     let same = ledger_holds h ok r there in
     elim (opened_by (held h r) link opens) [
@@ -53,11 +53,11 @@ link_of_room h ok r link there l opens =
           let e : issued h r ≡ passed h r ++ link.new_code ∷ awaited h r = sym same ∙ ap (λ z. passed h r ++ z ∷ awaited h r) q in
           let f = l.1.2 ∙ sym (append_assoc l.1.0 (link.old_code ∷ []) (link.new_code ∷ l.1.1)) in
           let p = same_place h ok r l.0 link.new_code (passed h r) (awaited h r) (l.1.0 ++ link.old_code ∷ []) l.1.1 e f in
-          subst (λ z. IsLinkAt (issued h z) link) (sym p.0) l.1
+          subst (λ z. IsLinkOf (issued h z) link) (sym p.0) l.1
       | inr q ↦
           let e : issued h r ≡ passed h r ++ link.old_code ∷ awaited h r = sym same ∙ ap (λ z. passed h r ++ z ∷ awaited h r) q in
           let p = same_place h ok r l.0 link.old_code (passed h r) (awaited h r) l.1.0 (link.new_code ∷ l.1.1) e l.1.2 in
-          subst (λ z. IsLinkAt (issued h z) link) (sym p.0) l.1
+          subst (λ z. IsLinkOf (issued h z) link) (sym p.0) l.1
     ]
 
 is_in : (front : List ℕ) (c : ℕ) (back : List ℕ) → Contains (front ++ c ∷ back) c

@@ -9,7 +9,7 @@ use Rattle.hotel_core.specs.Model.Ledger.{passed, awaited, turns}
 use Rattle.hotel_core.specs.Model.Stays.{rooms}
 use Rattle.hotel_core.specs.Model.Cases.{is_room}
 use Rattle.hotel_core.specs.Model.Run.{Reached}
-use Rattle.hotel_core.specs.Refinement.CodeLaws.{HasCodes, RoomsHaveCodes, OthersHaveNone}
+use Rattle.hotel_core.proofs.Facts.CodeFacts.{HasCodes, RoomsHaveCodes, OthersHaveNone}
 use Rattle.hotel_core.proofs.OfTables.Tests.{eq_from, or_true, or_false, not_both}
 use Rattle.hotel_core.proofs.OfTables.TableKeys.{key_inserted}
 use Rattle.hotel_core.proofs.OfTables.Grown.{may_follow, not_here}

@@ -13,7 +13,7 @@ use Rattle.hotel_core.specs.Model.Issued.{issued, current}
 use Rattle.hotel_core.specs.Model.Cards.{cards, card_of, with_spare, link_of_party, link_to, newest_link}
 use Rattle.hotel_core.specs.Model.Cases.{is_room}
 use Rattle.hotel_core.specs.Model.Run.{Reached}
-use Rattle.hotel_core.specs.Refinement.CodeLaws.{IsLinkAt, IsLink, CardsHaveLinks, PartiesHaveLinks, NewestAreLast, HasCodes}
+use Rattle.hotel_core.proofs.Facts.CodeFacts.{IsLinkOf, IsLink, CardsHaveLinks, PartiesHaveLinks, NewestAreLast, HasCodes}
 use Rattle.hotel_core.proofs.OfTables.Tests.{eq_from, eq_self}
 use Rattle.hotel_core.proofs.OfTables.TableKeys.{row_inserted}
 use Rattle.hotel_core.proofs.OfTables.CodeLists.{last_split}
@@ -22,12 +22,12 @@ use Rattle.hotel_core.proofs.Invariants.RoomCodes.{rooms_have_codes, others_have
 use Rattle.hotel_core.proofs.Starts.StartLinks.{cards_have_links_at_start, parties_have_links_at_start, newest_are_last_at_start}
 
 -- neighbours stay neighbours
-still_at : (b : Bool) (new : ℕ) (codes : List ℕ) (link : Link) → IsLinkAt codes link → IsLinkAt (when b (and_last new) codes) link
+still_at : (b : Bool) (new : ℕ) (codes : List ℕ) (link : Link) → IsLinkOf codes link → IsLinkOf (when b (and_last new) codes) link
 still_at true new codes link l = (l.0, l.1 ++ new ∷ [], ap (λ zs. zs ++ new ∷ []) l.2 ∙ append_assoc l.0 (link.old_code ∷ link.new_code ∷ l.1) (new ∷ []))
 still_at false new codes link l = l
 
 -- a link stays one when a code is issued
-still_link : (h : History) (room new : ℕ) (link : Link) → IsLink h link → (r : ℕ) × IsLinkAt (when (room == r) (and_last new) (issued h r)) link
+still_link : (h : History) (room new : ℕ) (link : Link) → IsLink h link → (r : ℕ) × IsLinkOf (when (room == r) (and_last new) (issued h r)) link
 still_link h room new link l = (l.0, still_at (room == l.0) new (issued h l.0) link l.1)
 
 -- the codes of a room that is there end with its current one
@@ -41,16 +41,16 @@ new_last_two h room new f =
     (l.0, ap (λ zs. zs ++ new ∷ []) l.1 ∙ append_assoc l.0 (current h room ∷ []) (new ∷ []))
 
 -- the link to a code is one after it was issued
-made_link : (h : History) (room new : ℕ) → HasCodes (issued h room) → (r : ℕ) × IsLinkAt (when (room == r) (and_last new) (issued h r)) (link_to h room new)
+made_link : (h : History) (room new : ℕ) → HasCodes (issued h room) → (r : ℕ) × IsLinkOf (when (room == r) (and_last new) (issued h r)) (link_to h room new)
 made_link h room new f =
     let l = new_last_two h room new f in
     (room, (l.0, [], ap (λ b. when b (and_last new) (issued h room)) (eq_self room) ∙ l.1))
 
 given_by : (b : Bool) (h : History) (room new : ℕ) (was : Option Link) (link : Link) → HasCodes (issued h room) → (was ≡ Some link → IsLink h link) → when b (λ _. Some (link_to h room new)) was ≡ Some link
-    → (r : ℕ) × IsLinkAt (when (room == r) (and_last new) (issued h r)) link
+    → (r : ℕ) × IsLinkOf (when (room == r) (and_last new) (issued h r)) link
 given_by true h room new was link f ih e =
     let same : link_to h room new ≡ link = cc in
-    subst (λ l. (r : ℕ) × IsLinkAt (when (room == r) (and_last new) (issued h r)) l) same (made_link h room new f)
+    subst (λ l. (r : ℕ) × IsLinkOf (when (room == r) (and_last new) (issued h r)) l) same (made_link h room new f)
 given_by false h room new was link f ih e = still_link h room new link (ih e)
 
 -- The link that a party was given last is one.
@@ -64,12 +64,12 @@ parties_have_links (h ▷ Transfer p room number code) ok party link e =
 parties_have_links (h ▷ _) ok party link e = parties_have_links h ok.0 party link e
 
 carded : (h : History) (party room number new n : ℕ) (card : Card) → HasCodes (issued h room) → CardsHaveLinks h
-    → at_number (insert_entry nat_cmp (cards h) number (card_of number party (link_to h room new))) n ≡ Some card → (r : ℕ) × IsLinkAt (when (room == r) (and_last new) (issued h r)) card.link
+    → at_number (insert_entry nat_cmp (cards h) number (card_of number party (link_to h room new))) n ≡ Some card → (r : ℕ) × IsLinkOf (when (room == r) (and_last new) (issued h r)) card.link
 carded h party room number new n card f ih e =
     elim (row_inserted (cards h) number (card_of number party (link_to h room new)) card n e) [
       | inl p ↦
           let same : link_to h room new ≡ card.link = ap (λ (k : Card). k.link) p.1 in
-          subst (λ l. (r : ℕ) × IsLinkAt (when (room == r) (and_last new) (issued h r)) l) same (made_link h room new f)
+          subst (λ l. (r : ℕ) × IsLinkOf (when (room == r) (and_last new) (issued h r)) l) same (made_link h room new f)
       | inr e' ↦ still_link h room new card.link (ih n card e')
     ]
 

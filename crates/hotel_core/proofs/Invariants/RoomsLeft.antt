@@ -13,10 +13,9 @@ use Rattle.hotel_core.specs.Model.Words.{said_of}
 use Rattle.hotel_core.specs.Model.Rows.{at_number}
 use Rattle.hotel_core.specs.Model.Event.{Install, Reserved, Cancelled, CheckIn, Transfer, CheckOut}
 use Rattle.hotel_core.specs.Model.History.{History, start, ◌▷◌}
-use Rattle.hotel_core.specs.Model.Stays.{stays, rooms, rooms_of, now_is, first_full}
+use Rattle.hotel_core.specs.Model.Stays.{stays, rooms, rooms_of, nights, now_is, first_full}
 use Rattle.hotel_core.specs.Model.Cases.{is_booked, is_in_house, is_booked_state, room_of_state}
 use Rattle.hotel_core.specs.Model.Run.{Reached}
-use Rattle.hotel_core.specs.Model.Headline.{NoOversell}
 use Rattle.hotel_core.proofs.OfTables.Tests.{and_true, not_both}
 use Rattle.hotel_core.proofs.OfTables.TableKeys.{no_key}
 use Rattle.hotel_core.proofs.OfTables.Grown.{may_follow}
@@ -107,7 +106,7 @@ rooms_suffice (h ▷ CheckOut party) ok kind d =
 rooms_suffice (h ▷ _) ok kind d = rooms_suffice h ok.0 kind d
 
 -- On no night are more stays of a kind booked and in house than the kind has rooms.
-pub none_oversold : NoOversell
+pub none_oversold : (h : History) → Reached h → (kind : List ℕ) (d : ℕ) → nights h kind d ≤ rooms_of h kind
 unfolding nights_taken
 none_oversold h ok kind d = rooms_suffice h ok kind d
 

@@ -17,9 +17,9 @@ use Rattle.hotel_core.specs.Model.Guests.{insiders, inside, secured, are_none}
 use Rattle.hotel_core.specs.Model.Stays.{rooms}
 use Rattle.hotel_core.specs.Model.Cases.{is_room}
 use Rattle.hotel_core.specs.Model.Run.{Reached}
-use Rattle.hotel_core.specs.Refinement.Follow.{MayFollow}
+use Rattle.hotel_core.proofs.Facts.Follow.{MayFollow}
 use Rattle.hotel_core.specs.Model.Headline.{SafeRoom}
-use Rattle.hotel_core.specs.Refinement.CodeLaws.{SecuredRoomsFit}
+use Rattle.hotel_core.proofs.Facts.CodeFacts.{SecuredRoomsFit}
 use Rattle.hotel_core.proofs.OfTables.Tests.{eq_from, eq_self, and_true, either_way, not_both}
 use Rattle.hotel_core.proofs.OfTables.TableKeys.{key_inserted}
 use Rattle.hotel_core.proofs.OfTables.CodeLists.{last_more}

@@ -17,7 +17,7 @@ use Rattle.hotel_core.specs.Books.Lookups.{room_at}
 use Rattle.hotel_core.specs.Refinement.Lift.{Lifts}
 use Rattle.hotel_core.proofs.Lifted.LiftTools.{lifts_by, draw_lifts}
 use Rattle.hotel_core.proofs.OfTables.Numbered.{is_there}
-use Rattle.hotel_core.proofs.Invariants.KindCounts.{first_full_on}
+use Rattle.hotel_core.proofs.Invariants.KindCounts.{full_night_counted}
 use Rattle.hotel_core.proofs.Lifted.LiftRooms.{last_number}
 use Rattle.hotel_core.proofs.OfTables.RoomNumbers.{room_found}
 
@@ -60,4 +60,4 @@ add_room_lifts h room kind ahead =
 pub reserve_lifts : (h : History) (guest kind : List ℕ) (arrive nights : ℕ) → Lifts h (command.Reserve guest kind arrive nights)
 reserve_lifts h guest kind arrive nights ahead =
     lifts_by h ahead (command.Reserve guest kind arrive nights)
-    (refl, λ _. (refl, λ _. (refl, λ _. (refl, λ _. (ap (option_map KindFull) (first_full_on h kind arrive nights), λ _. (ap (λ b. bars b NumbersUsedUp) (last_number (length (stays h))), λ _. refl))))))
+    (refl, λ _. (refl, λ _. (refl, λ _. (refl, λ _. (ap (option_map KindFull) (full_night_counted h kind arrive nights), λ _. (ap (λ b. bars b NumbersUsedUp) (last_number (length (stays h))), λ _. refl))))))

@@ -8,7 +8,7 @@ use Rattle.hotel_core.specs.declared.reply.Refusal.{Refusal}
 use Rattle.hotel_core.specs.Model.Event.{Event}
 use Rattle.hotel_core.specs.Model.History.{History}
 use Rattle.hotel_core.specs.Model.RowsOf.{rows_of}
-use Rattle.hotel_core.specs.Model.Outcome.{Outcome, needs, bars, unless, by_draw}
+use Rattle.hotel_core.specs.Model.Outcome.{Outcome, needs, unless, by_draw}
 use Rattle.hotel_core.specs.Model.Answer.{answer_to, checks, effect}
 use Rattle.hotel_core.specs.Refinement.ChangeOf.{change_of}
 use Rattle.hotel_core.specs.Refinement.OnRows.{outcome_on, checks_on, effect_on}
@@ -47,10 +47,6 @@ lifts_by h ahead command a =
 pub needed : (b : Bool) (r : Refusal) → needs b r ≡ None → b ≡ true
 needed true r h = refl
 needed false r h = cc
-
-pub barred : (b : Bool) (r : Refusal) → bars b r ≡ None → b ≡ false
-barred false r h = refl
-barred true r h = cc
 
 mapped_twice : {X Y Z : Type 0} (f : Y → Z) (g : X → Y) (o : Option X) → option_map (λ x. f (g x)) o ≡ option_map f (option_map g o)
 mapped_twice f g None = refl

@@ -6,7 +6,7 @@ use Rattle.hotel_core.specs.declared.reply.Reply.{Reply}
 use Rattle.hotel_core.specs.Model.Rows.{Rows}
 use Rattle.hotel_core.specs.Model.History.{History}
 use Rattle.hotel_core.specs.Model.Run.{StandsFor, Steps}
-use Rattle.hotel_core.specs.Refinement.Lift.{RunsTo}
+use Rattle.hotel_core.specs.Model.Laws.{RunsTo}
 use Rattle.hotel_core.proofs.Lifted.Runs.{runs_join}
 
 pub runs_step : (h : History) (s : Stream) (commands : List Command) (replies : List Reply) (rows : Rows) (source : Stream) (command : Command) (reply : Reply) (later : Rows) (rest : Stream)

@@ -16,7 +16,8 @@ use Rattle.hotel_core.specs.Refinement.OnRows.{outcome_on}
 use Rattle.hotel_core.specs.Refinement.StepOnRows.{made_by, GoesIf, Goes}
 use Rattle.hotel_core.specs.Model.Run.{Reached, StandsFor, answered, is_failed, StepsIf, Steps, Runs}
 use Rattle.hotel_core.specs.Model.Ranges.{IsCommand, IsReply}
-use Rattle.hotel_core.specs.Refinement.Lift.{as_change, RunsTo, NoneFailed}
+use Rattle.hotel_core.specs.Model.Laws.{RunsTo, NoneFailed}
+use Rattle.hotel_core.specs.Refinement.Lift.{as_change}
 use Rattle.hotel_core.proofs.Invariants.EventRanges.{step_keeps}
 use Rattle.hotel_core.proofs.RowsAfter.RowsFollow.{made_follow}
 use Rattle.hotel_core.proofs.Lifted.LiftAll.{answers_lift}
@@ -51,25 +52,6 @@ steps_lift h rows s command reply later rest stands n r g =
     subst (λ z. Goes (outcome_on z (words 64 s) command) z s reply later rest) stands.1 g in
     step_by (is_failed reply) h s command reply later rest stands.0 n r
     (subst (λ o. Goes o (rows_of h) s reply later rest) (answers_lift h command stands.0 n (words 64 s)) on_history)
-
-pub runs_go_on : (h : History) (s : Stream) (commands : List Command) (replies : List Reply) (rows : Rows) (source : Stream) (command : Command) (reply : Reply) (later : Rows) (rest : Stream)
-    → RunsTo h s commands replies rows source → IsCommand command → IsReply reply → Goes (outcome_on rows (words 64 source) command) rows source reply later rest
-    → RunsTo h s (commands ++ command ∷ []) (replies ++ reply ∷ []) later rest
-runs_go_on h s commands replies rows source command reply later rest r n answer g =
-    let step = steps_lift r.0 rows source command reply later rest r.1 n answer g in
-    (step.0, step.1, runs_join h r.0 step.0 s source rest commands (command ∷ []) replies (reply ∷ []) r.2 (step.0, rest, step.2, (refl, refl)))
-
-pub runs_begin : (h : History) (s : Stream) (rows : Rows) → StandsFor h rows → RunsTo h s [] [] rows s
-runs_begin h s rows stands = (h, stands, (refl, refl))
-
--- a run in two parts
-pub runs_part : (h h' : History) (s s' : Stream) (commands later : List Command) (replies : List Reply) → Runs h s (commands ++ later) replies h' s'
-    → (first : List Reply) × (more : List Reply) × (mid : History) × (source : Stream) × (replies ≡ first ++ more) × Runs h s commands first mid source × Runs mid source later more h' s'
-runs_part h h' s s' [] later replies r = ([], replies, h, s, refl, (refl, refl), r)
-runs_part h h' s s' (c ∷ commands) later (p ∷ replies) r =
-    let q = runs_part r.0 h' r.1 s' commands later replies r.3 in
-    (p ∷ q.0, q.1, q.2, q.3, ap (λ ps. p ∷ ps) q.4, (r.0, r.1, r.2, q.5), q.6)
-runs_part h h' s s' (c ∷ commands) later [] r = absurd r
 
 step_reaches : (b : Bool) (h : History) (s : Stream) (command : Command) (reply : Reply) (h' : History) (s' : Stream) → Reached h → IsCommand command → IsReply reply → StepsIf b h s command reply h' s' → Reached h'
 step_reaches true h s command reply h' s' ok n r d = subst (λ z. Reached z) (sym d.0) ok

@@ -1,9 +1,6 @@
 -- What whole rows have.
-use Rattle.std.proofs.Common.{ℕ, ◌≡◌, ◌-◌, true, arith, Option, Some, None, IsSome, refl}
+use Rattle.std.proofs.Common.{ℕ, ◌≡◌, ◌-◌, Option, Some, None, IsSome, refl}
 use Rattle.std.proofs.lemmas.Bool.{false≢true}
-use Rattle.std.proofs.lemmas.Bool.Decides.{nat_tests}
-use Rattle.keycard_rules.specs.declared.card.Link.{Link}
-use Rattle.hotel_core.specs.Model.Notes.{same_link}
 use Rattle.hotel_core.specs.declared.books.rows.RoomRow.{RoomRow}
 use Rattle.hotel_core.specs.Model.Words.{said_of}
 use Rattle.hotel_core.specs.Model.Rows.{Rows}
@@ -21,7 +18,3 @@ pub home_has_link : (rs : Rows) (party room : ℕ) → AreWhole rs → home_on r
 home_has_link rs party room w e =
     let there = w.homes party room e in
     (there.0, there.1, last_code_at rs room w (room_at rs room) refl there.0)
-
--- equal links have one new code
-pub same_new : (a b : Link) → same_link a b ≡ true → a.new_code ≡ b.new_code
-same_new a b e = grind (arith, nat_tests)

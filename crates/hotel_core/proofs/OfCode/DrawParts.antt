@@ -74,12 +74,12 @@ undrawn_at false o draw rows later source rest why reply_with change_with e same
 )
 
 -- no code was drawn
-pub undrawn : {S : Type 0} {I : IssuedOf S} {B : BooksOf S} {facts : Rows → Type 0} {start old new : S} {source rest : Stream} {e : Refusal} {copies : Bool} {outcome : Rows → Outcome Change} (r : Result Reply Refusal) (reply_with : ℕ → Reply) (change_with : ℕ → Change)
+pub undrawn : {S : Type 0} {I : IssuedOf S} {B : BooksOf S} {facts : Rows → Type 0} {start old new : S} {source rest : Stream} {e : Refusal} {outcome : Rows → Outcome Change} (r : Result Reply Refusal) (reply_with : ℕ → Reply) (change_with : ℕ → Change)
     → IsErrAnd r (λ x. x ≡ e) → SoFar I B facts start old → DrawsCode I B old new source rest (Err e)
     → (facts (B.rows start) → outcome (B.rows start) ≡ by_draw (draw_from (codes_in (B.rows start)) (words 64 source)) reply_with change_with)
-    → StepsAs I B copies outcome start new source rest (reply_of r)
-undrawn {I = I} {B = B} {start = start} {old = old} {new = new} {source = source} {rest = rest} {e = e} {copies = copies} {outcome = outcome} r reply_with change_with p s d h =
-    subst (λ answer. StepsAs I B copies outcome start new source rest answer) (sym (passed_on r e p)) (record {
+    → StepsAs I B outcome start new source rest (reply_of r)
+undrawn {I = I} {B = B} {start = start} {old = old} {new = new} {source = source} {rest = rest} {e = e} {outcome = outcome} r reply_with change_with p s d h =
+    subst (λ answer. StepsAs I B outcome start new source rest answer) (sym (passed_on r e p)) (record {
       goes = λ clean.
           let before = d.was_clean clean in
           undrawn_at (is_failed (Refused e)) (outcome (B.rows start)) (draw_from (codes_in (B.rows start)) (words 64 source)) (B.rows start) (B.rows new) source rest e reply_with change_with
@@ -87,7 +87,7 @@ undrawn {I = I} {B = B} {start = start} {old = old} {new = new} {source = source
           (subst (λ rs. DrewNone (is_failed (Refused e)) (draw_from (codes_in rs) (words 64 source)) source rest e) (s.same before) (d.answer clean));
       was_clean = λ clean. s.was_clean (d.was_clean clean);
       counted = λ cause. omega (arith, s.counted cause, d.counted cause);
-      fault = λ clean w cause k. inl (risen_later (I.failures start cause) (I.failures old cause) (I.failures new cause) (s.counted cause) (d.fault cause (cc)) (d.counted cause));
+      fault = λ clean w cause k. risen_later (I.failures start cause) (I.failures old cause) (I.failures new cause) (s.counted cause) (d.fault cause (cc)) (d.counted cause);
     })
 
 made_after : (b : Bool) (o : Outcome Change) (draw : Draw) (code : ℕ) (reply_with : ℕ → Reply) (change_with : ℕ → Change) (rows mid later : Rows) (source rest : Stream) (answer : Reply)
@@ -102,11 +102,11 @@ made_after false o draw code reply_with change_with rows mid later source rest a
 )
 
 -- a code was drawn, and the change with it ended the step
-pub drawn_ends : {S : Type 0} {I : IssuedOf S} {B : BooksOf S} {facts : Rows → Type 0} {start old mid new : S} {source rest : Stream} {code : ℕ} {copies : Bool} {outcome : Rows → Outcome Change} {answer : Reply} (reply_with : ℕ → Reply) (change_with : ℕ → Change)
+pub drawn_ends : {S : Type 0} {I : IssuedOf S} {B : BooksOf S} {facts : Rows → Type 0} {start old mid new : S} {source rest : Stream} {code : ℕ} {outcome : Rows → Outcome Change} {answer : Reply} (reply_with : ℕ → Reply) (change_with : ℕ → Change)
     → SoFar I B facts start old → DrawsCode I B old mid source rest (Ok code)
-    → StepsAs I B copies (λ _. accepted (reply_with code) (change_with code)) mid new rest rest answer
+    → StepsAs I B (λ _. accepted (reply_with code) (change_with code)) mid new rest rest answer
     → (facts (B.rows start) → outcome (B.rows start) ≡ by_draw (draw_from (codes_in (B.rows start)) (words 64 source)) reply_with change_with)
-    → StepsAs I B copies outcome start new source rest answer
+    → StepsAs I B outcome start new source rest answer
 drawn_ends {I = I} {B = B} {start = start} {old = old} {mid = mid} {new = new} {source = source} {rest = rest} {code = code} {outcome = outcome} {answer = answer} reply_with change_with s d t h = record {
   goes = λ clean.
       let then = t.was_clean clean in
@@ -121,5 +121,5 @@ drawn_ends {I = I} {B = B} {start = start} {old = old} {mid = mid} {new = new} {
   fault = λ clean w cause e.
       let then = t.was_clean clean in
       let here = subst AreWhole (sym (d.same then ∙ s.same (d.was_clean then))) w in
-      elim (t.fault clean here cause e) [ inl r ↦ inl (risen_later (I.failures start cause) (I.failures mid cause) (I.failures new cause) (omega (arith, s.counted cause, d.counted cause)) r (t.counted cause)) | inr m ↦ inr m ];
+      risen_later (I.failures start cause) (I.failures mid cause) (I.failures new cause) (omega (arith, s.counted cause, d.counted cause)) (t.fault clean here cause e) (t.counted cause);
 }

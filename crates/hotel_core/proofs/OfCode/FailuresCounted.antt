@@ -1,12 +1,12 @@
 -- A failed part of a step over sound rows was counted.
-use Rattle.std.proofs.Common.{ℕ, ◌≡◌, ◌≤◌, ◌+◌, ◌-◌, ◌^◌, Bool, true, false, List, [], ◌∷◌, ◌++◌, length, inl, inr, arith, refl, sym, length-append, append_assoc, append-nil, ap, take, ◌<◌, ◌∙◌}
+use Rattle.std.proofs.Common.{ℕ, ◌≡◌, ◌+◌, Bool, true, false, List, [], ◌∷◌, ◌++◌, length, inl, inr, arith, refl, sym, append_assoc, append-nil, ap, take, ◌<◌, ◌∙◌}
 use Rattle.std.specs.Prelude.{◌⊎◌}
 use Rattle.std.proofs.lemmas.Bool.{false≢true}
 use Rattle.std.proofs.lemmas.List.{length-take}
 use Rattle.keycard_rules.specs.declared.issued.LookFault.{LookFault}
 use Rattle.rand_core.specs.Stream.{Stream}
 use Rattle.keycard_rules.specs.declared.issued.LookFault.TheVariants as look
-use Rattle.keycard_rules.specs.Rise.{HasRisen, NoFewer}
+use Rattle.keycard_rules.specs.Rise.{HasRisen, HasRisenBy, NoFewer}
 use Rattle.hotel_core.specs.declared.books.change.Change.{Change}
 use Rattle.hotel_core.specs.declared.command.Command.{Command}
 use Rattle.hotel_core.specs.declared.reply.Reply.{Reply}
@@ -18,9 +18,8 @@ use Rattle.hotel_core.specs.Model.Sound.{IsSound}
 use Rattle.hotel_core.specs.Model.History.{start}
 use Rattle.hotel_core.specs.Model.Outcome.{Outcome}
 use Rattle.hotel_core.specs.Model.Run.{is_failed}
-use Rattle.hotel_core.specs.Refinement.Stepping.{copies}
-use Rattle.hotel_core.specs.Refinement.StepOnRows.{AreWhole, MayLack, GoesIf, Goes, StepsAs}
-use Rattle.hotel_core.specs.Books.Failures.{HasRisenBy, failure_in, failures_in, times, AreCounted}
+use Rattle.hotel_core.specs.Refinement.StepOnRows.{AreWhole, GoesIf, Goes, StepsAs}
+use Rattle.hotel_core.specs.Books.Failures.{failure_in, failures_in, times, AreCounted}
 use Rattle.hotel_core.specs.Refinement.Finds.{refusal_of}
 use Rattle.hotel_core.proofs.Starts.StartRows.{rows_of_start}
 use Rattle.hotel_core.proofs.Lifted.Whole.{rows_are_whole}
@@ -39,40 +38,26 @@ one_counted a b why k risen = record {
   risen = λ cause. by why cause risen;
 }
   where
-    rose : (x : LookFault) → HasRisen (a x) (b x) → HasRisenBy 1 (a x) (b x)
-    rose x (inl less) = inl (omega (arith, less))
-    rose x (inr most) = inr (omega (arith, most, k x))
-
     by : (why cause : LookFault) → HasRisen (a why) (b why) → HasRisenBy (times cause (refusal_of why ∷ [])) (a cause) (b cause)
-    by look.Memory look.Memory r = rose look.Memory r
+    by look.Memory look.Memory r = r
     by look.Memory look.Store r = inl (omega (arith, k look.Store))
     by look.Store look.Memory r = inl (omega (arith, k look.Memory))
-    by look.Store look.Store r = rose look.Store r
+    by look.Store look.Store r = r
 
-counted_reply : (copied : Bool) (answer : Reply) (a b : LookFault → ℕ) → NoFewer a b
-    → ((cause : LookFault) → answer ≡ Refused (refusal_of cause) → HasRisen (a cause) (b cause) ⊎ MayLack copied answer)
-    → AreCounted a b (failure_in answer copied)
-counted_reply true (Refused Memory) a b k fault = none_counted a b k
-counted_reply false (Refused Memory) a b k fault = by (fault look.Memory refl)
-  where
-    by : HasRisen (a look.Memory) (b look.Memory) ⊎ ⊥ → AreCounted a b (Memory ∷ [])
-    by (inl risen) = one_counted a b look.Memory k risen
-    by (inr none) = absurd none
-counted_reply copied (Refused Store) a b k fault = by copied (fault look.Store refl)
-  where
-    by : (c : Bool) → HasRisen (a look.Store) (b look.Store) ⊎ MayLack c (Refused Store) → AreCounted a b (Store ∷ [])
-    by c (inl risen) = one_counted a b look.Store k risen
-    by true (inr lack) = cc lack
-    by false (inr lack) = absurd lack
-counted_reply copied _ a b k fault = none_counted a b k
+counted_reply : (answer : Reply) (a b : LookFault → ℕ) → NoFewer a b
+    → ((cause : LookFault) → answer ≡ Refused (refusal_of cause) → HasRisen (a cause) (b cause))
+    → AreCounted a b (failure_in answer)
+counted_reply (Refused Memory) a b k fault = one_counted a b look.Memory k (fault look.Memory refl)
+counted_reply (Refused Store) a b k fault = one_counted a b look.Store k (fault look.Store refl)
+counted_reply _ a b k fault = none_counted a b k
 
 -- a failure of a step by parts over rows that are sound was counted
-pub step_counted : {S : Type 0} {I : IssuedOf S} {B : BooksOf S} {copied : Bool} {outcome : Rows → Outcome Change} {old new : S} {source rest : Stream} {answer : Reply}
-    → (I.is_clean old → IsSound (B.rows old)) → StepsAs I B copied outcome old new source rest answer
-    → I.is_clean new → AreCounted (I.failures old) (I.failures new) (failure_in answer copied)
-step_counted {I = I} {B = B} {copied = copied} {old = old} {new = new} {answer = answer} sound step clean =
+pub step_counted : {S : Type 0} {I : IssuedOf S} {B : BooksOf S} {outcome : Rows → Outcome Change} {old new : S} {source rest : Stream} {answer : Reply}
+    → (I.is_clean old → IsSound (B.rows old)) → StepsAs I B outcome old new source rest answer
+    → I.is_clean new → AreCounted (I.failures old) (I.failures new) (failure_in answer)
+step_counted {I = I} {B = B} {old = old} {new = new} {answer = answer} sound step clean =
     let whole = sound_whole (B.rows old) (sound (step.was_clean clean)) in
-    counted_reply copied answer (I.failures old) (I.failures new) step.counted (step.fault clean whole)
+    counted_reply answer (I.failures old) (I.failures new) step.counted (step.fault clean whole)
 
 -- a failed step changed no row
 pub failed_same : (given : Reply) (o : Outcome Change) (rows later : Rows) (source rest : Stream) → is_failed given ≡ true → Goes o rows source given later rest → later ≡ rows
@@ -97,15 +82,11 @@ counted_join a b c failed more k first second = record {
     by x (inr p) q = inr (omega (arith, p, k x))
     by x (inl p) (inr q) = inr q
 
--- one more command and its reply
-pub failures_in-push : (commands : List Command) (replies : List Reply) (command : Command) (reply : Reply) → length commands ≡ length replies
-    → failures_in (commands ++ command ∷ []) (replies ++ reply ∷ []) ≡ failures_in commands replies ++ failure_in reply (copies command)
-failures_in-push [] [] command reply e = append-nil (failure_in reply (copies command))
-failures_in-push [] (first ∷ replies) command reply e = cc e
-failures_in-push (c ∷ commands) [] command reply e = cc e
-failures_in-push (c ∷ commands) (first ∷ replies) command reply e =
-    ap (λ failed. failure_in first (copies c) ++ failed) (failures_in-push commands replies command reply (omega (arith, e)))
-    ∙ sym (append_assoc (failure_in first (copies c)) (failures_in commands replies) (failure_in reply (copies command)))
+-- one more reply
+pub failures_in-push : (replies : List Reply) (reply : Reply) → failures_in (replies ++ reply ∷ []) ≡ failures_in replies ++ failure_in reply
+failures_in-push [] reply = append-nil (failure_in reply)
+failures_in-push (first ∷ replies) reply =
+    ap (λ failed. failure_in first ++ failed) (failures_in-push replies reply) ∙ sym (append_assoc (failure_in first) (failures_in replies) (failure_in reply))
 
 pub same_lengths : (commands : List Command) (n : ℕ) (replies : List Reply) → n < length commands → length replies ≡ n → length (take n commands) ≡ length replies
 same_lengths commands n replies l e = omega (arith, length-take n commands, l, e)

@@ -52,9 +52,9 @@ pub link_is_there : (rows : Rows) (number : ℕ) (link : Link) → AreWhole rows
 link_is_there rows number link w h = there_at rows number link (card_at rows number) refl w h
 
 -- a failure that whole rows exclude
-pub excluded : {S : Type 0} {I : IssuedOf S} {B : BooksOf S} {facts : Rows → Type 0} {start now : S} {copies : Bool} {outcome : Rows → Outcome Change} {source : Stream}
+pub excluded : {S : Type 0} {I : IssuedOf S} {B : BooksOf S} {facts : Rows → Type 0} {start now : S} {outcome : Rows → Outcome Change} {source : Stream}
     → SoFar I B facts start now → (AreWhole (B.rows start) → facts (B.rows start) → ⊥)
-    → StepsAs I B copies outcome start now source source (Refused Store)
+    → StepsAs I B outcome start now source source (Refused Store)
 excluded {source = source} s h = record {
   goes = λ clean. (s.same clean, (0, omega arith, sym (past-zero source)));
   was_clean = s.was_clean;
@@ -63,9 +63,9 @@ excluded {source = source} s h = record {
 }
 
 -- an answer that changes nothing, where the checks come to it
-pub says : {S : Type 0} {I : IssuedOf S} {B : BooksOf S} {facts : Rows → Type 0} {start now : S} {copies : Bool} {outcome : Rows → Outcome Change} {source : Stream} (answer : Reply)
+pub says : {S : Type 0} {I : IssuedOf S} {B : BooksOf S} {facts : Rows → Type 0} {start now : S} {outcome : Rows → Outcome Change} {source : Stream} (answer : Reply)
     → is_failed answer ≡ false → SoFar I B facts start now → (facts (B.rows start) → outcome (B.rows start) ≡ said answer)
-    → StepsAs I B copies outcome start now source source answer
+    → StepsAs I B outcome start now source source answer
 says {B = B} {start = start} {now = now} {outcome = outcome} {source = source} answer k s h = record {
   goes = λ clean. said_at (is_failed answer) answer (outcome (B.rows start)) (B.rows start) (B.rows now) source k (h (s.facts_hold clean)) (s.same clean);
   was_clean = s.was_clean;

@@ -70,11 +70,11 @@ goes_at false o rows later source why h same =
     (sym (ap (λ x. x.reply) e), same ∙ ap (λ x. made_by x.happens rows) (sym e), sym (past-zero source) ∙ ap (λ x. past x.examined source) (sym e))
 
 -- nothing was found, or the search failed
-pub stopped_where : {S A : Type 0} {I : IssuedOf S} {B : BooksOf S} {facts : Rows → Type 0} {are_whole : Rows → Type 0} {why : Refusal} {wanted : Rows → Option A} {start old new : S} {e : Refusal} {copies : Bool} {outcome : Rows → Outcome Change} {source : Stream}
+pub stopped_where : {S A : Type 0} {I : IssuedOf S} {B : BooksOf S} {facts : Rows → Type 0} {are_whole : Rows → Type 0} {why : Refusal} {wanted : Rows → Option A} {start old new : S} {e : Refusal} {outcome : Rows → Outcome Change} {source : Stream}
     → SoFar I B facts start old → Finds I B are_whole why wanted old new (Err e)
     → (AreWhole (B.rows start) → facts (B.rows start) → are_whole (B.rows start))
     → (facts (B.rows start) → wanted (B.rows start) ≡ None → is_failed (Refused why) ≡ false → outcome (B.rows start) ≡ refused why)
-    → StepsAs I B copies outcome start new source source (Refused e)
+    → StepsAs I B outcome start new source source (Refused e)
 stopped_where {I = I} {B = B} {are_whole = are_whole} {wanted = wanted} {start = start} {old = old} {new = new} {e = e} {outcome = outcome} {source = source} s f whole h = record {
   goes = λ clean. goes_at (is_failed (Refused e)) (outcome (B.rows start)) (B.rows start) (B.rows new) source e
       (λ k. let a = f.answer clean k in
@@ -82,8 +82,8 @@ stopped_where {I = I} {B = B} {are_whole = are_whole} {wanted = wanted} {start =
       (f.same clean ∙ s.same (f.was_clean clean));
   was_clean = λ clean. s.was_clean (f.was_clean clean);
   counted = λ cause. omega (arith, s.counted cause, f.counted cause);
-  fault = λ clean w cause k. inl (risen_later (I.failures start cause) (I.failures old cause) (I.failures new cause) (s.counted cause)
-      (f.fault clean (subst are_whole (sym (s.same (f.was_clean clean))) (whole w (s.facts_hold (f.was_clean clean)))) cause (cc)) (f.counted cause));
+  fault = λ clean w cause k. risen_later (I.failures start cause) (I.failures old cause) (I.failures new cause) (s.counted cause)
+      (f.fault clean (subst are_whole (sym (s.same (f.was_clean clean))) (whole w (s.facts_hold (f.was_clean clean)))) cause (cc)) (f.counted cause);
 }
 
 -- the reply of a refusal that was passed on
@@ -91,32 +91,32 @@ pub passed_on : (r : Result Reply Refusal) (why : Refusal) → IsErrAnd r (λ e.
 passed_on (Ok answer) why h = absurd h
 passed_on (Err e) why h = ap Refused h
 
-pub stopped_whole : {S A : Type 0} {I : IssuedOf S} {B : BooksOf S} {facts : Rows → Type 0} {are_whole : Rows → Type 0} {why : Refusal} {wanted : Rows → Option A} {start old new : S} {e : Refusal} {copies : Bool} {outcome : Rows → Outcome Change} {source : Stream} (r : Result Reply Refusal)
+pub stopped_whole : {S A : Type 0} {I : IssuedOf S} {B : BooksOf S} {facts : Rows → Type 0} {are_whole : Rows → Type 0} {why : Refusal} {wanted : Rows → Option A} {start old new : S} {e : Refusal} {outcome : Rows → Outcome Change} {source : Stream} (r : Result Reply Refusal)
     → IsErrAnd r (λ x. x ≡ e) → SoFar I B facts start old → Finds I B are_whole why wanted old new (Err e)
     → (AreWhole (B.rows start) → facts (B.rows start) → are_whole (B.rows start))
     → (facts (B.rows start) → wanted (B.rows start) ≡ None → is_failed (Refused why) ≡ false → outcome (B.rows start) ≡ refused why)
-    → StepsAs I B copies outcome start new source source (reply_of r)
-stopped_whole {I = I} {B = B} {start = start} {new = new} {e = e} {copies = copies} {outcome = outcome} {source = source} r p s f whole h =
-    subst (λ answer. StepsAs I B copies outcome start new source source answer) (sym (passed_on r e p)) (stopped_where s f whole h)
+    → StepsAs I B outcome start new source source (reply_of r)
+stopped_whole {I = I} {B = B} {start = start} {new = new} {e = e} {outcome = outcome} {source = source} r p s f whole h =
+    subst (λ answer. StepsAs I B outcome start new source source answer) (sym (passed_on r e p)) (stopped_where s f whole h)
 
 -- what sound books have wasn't there, or the search failed
-pub halted : {S A : Type 0} {I : IssuedOf S} {B : BooksOf S} {facts : Rows → Type 0} {are_whole : Rows → Type 0} {wanted : Rows → Option A} {start old new : S} {e : Refusal} {copies : Bool} {outcome : Rows → Outcome Change} {source : Stream} (r : Result Reply Refusal)
+pub halted : {S A : Type 0} {I : IssuedOf S} {B : BooksOf S} {facts : Rows → Type 0} {are_whole : Rows → Type 0} {wanted : Rows → Option A} {start old new : S} {e : Refusal} {outcome : Rows → Outcome Change} {source : Stream} (r : Result Reply Refusal)
     → IsErrAnd r (λ x. x ≡ e) → SoFar I B facts start old → Finds I B are_whole Store wanted old new (Err e)
     → (AreWhole (B.rows start) → facts (B.rows start) → are_whole (B.rows start))
-    → StepsAs I B copies outcome start new source source (reply_of r)
+    → StepsAs I B outcome start new source source (reply_of r)
 halted r p s f whole = stopped_whole r p s f whole (λ k n x. absurd (false≢true (sym x)))
 
-pub stopped : {S A : Type 0} {I : IssuedOf S} {B : BooksOf S} {facts : Rows → Type 0} {why : Refusal} {wanted : Rows → Option A} {start old new : S} {e : Refusal} {copies : Bool} {outcome : Rows → Outcome Change} {source : Stream} (r : Result Reply Refusal)
+pub stopped : {S A : Type 0} {I : IssuedOf S} {B : BooksOf S} {facts : Rows → Type 0} {why : Refusal} {wanted : Rows → Option A} {start old new : S} {e : Refusal} {outcome : Rows → Outcome Change} {source : Stream} (r : Result Reply Refusal)
     → IsErrAnd r (λ x. x ≡ e) → SoFar I B facts start old → Finds I B AnyRows why wanted old new (Err e)
     → (facts (B.rows start) → wanted (B.rows start) ≡ None → outcome (B.rows start) ≡ refused why)
-    → StepsAs I B copies outcome start new source source (reply_of r)
+    → StepsAs I B outcome start new source source (reply_of r)
 stopped r p s f h = stopped_whole r p s f (λ w k. tt) (λ k n x. h k n)
 
 -- a refusal, where the checks come to it
-pub refuses : {S : Type 0} {I : IssuedOf S} {B : BooksOf S} {facts : Rows → Type 0} {start now : S} {copies : Bool} {outcome : Rows → Outcome Change} {source : Stream} (why : Refusal)
+pub refuses : {S : Type 0} {I : IssuedOf S} {B : BooksOf S} {facts : Rows → Type 0} {start now : S} {outcome : Rows → Outcome Change} {source : Stream} (why : Refusal)
     → is_failed (Refused why) ≡ false → SoFar I B facts start now
     → (facts (B.rows start) → outcome (B.rows start) ≡ refused why)
-    → StepsAs I B copies outcome start now source source (Refused why)
+    → StepsAs I B outcome start now source source (Refused why)
 refuses {B = B} {start = start} {now = now} {outcome = outcome} {source = source} why k s h = record {
   goes = λ clean. goes_at (is_failed (Refused why)) (outcome (B.rows start)) (B.rows start) (B.rows now) source why (λ _. h (s.facts_hold clean)) (s.same clean);
   was_clean = s.was_clean;
@@ -125,11 +125,11 @@ refuses {B = B} {start = start} {now = now} {outcome = outcome} {source = source
 }
 
 -- the step goes on as one that ends it
-pub ends : {S : Type 0} {I : IssuedOf S} {B : BooksOf S} {facts : Rows → Type 0} {start old new : S} {copies : Bool} {outcome last : Rows → Outcome Change} {source rest : Stream} {answer : Reply}
-    → SoFar I B facts start old → StepsAs I B false last old new source rest answer
+pub ends : {S : Type 0} {I : IssuedOf S} {B : BooksOf S} {facts : Rows → Type 0} {start old new : S} {outcome last : Rows → Outcome Change} {source rest : Stream} {answer : Reply}
+    → SoFar I B facts start old → StepsAs I B last old new source rest answer
     → (facts (B.rows start) → outcome (B.rows start) ≡ last (B.rows start))
-    → StepsAs I B copies outcome start new source rest answer
-ends {I = I} {B = B} {start = start} {old = old} {new = new} {copies = copies} {outcome = outcome} {last = last} {source = source} {rest = rest} {answer = answer} s t h = record {
+    → StepsAs I B outcome start new source rest answer
+ends {I = I} {B = B} {start = start} {old = old} {new = new} {outcome = outcome} {last = last} {source = source} {rest = rest} {answer = answer} s t h = record {
   goes = λ clean.
       let before = t.was_clean clean in
       let g : Goes (last (B.rows start)) (B.rows start) source answer (B.rows new) rest = subst (λ rs. Goes (last rs) rs source answer (B.rows new) rest) (s.same before) (t.goes clean) in
@@ -137,7 +137,7 @@ ends {I = I} {B = B} {start = start} {old = old} {new = new} {copies = copies} {
   was_clean = λ clean. s.was_clean (t.was_clean clean);
   counted = λ cause. omega (arith, s.counted cause, t.counted cause);
   fault = λ clean w cause e.
-      elim (t.fault clean (subst AreWhole (sym (s.same (t.was_clean clean))) w) cause e) [ inl r ↦ inl (risen_later (I.failures start cause) (I.failures old cause) (I.failures new cause) (s.counted cause) r (t.counted cause)) | inr m ↦ absurd m ];
+      risen_later (I.failures start cause) (I.failures old cause) (I.failures new cause) (s.counted cause) (t.fault clean (subst AreWhole (sym (s.same (t.was_clean clean))) w) cause e) (t.counted cause);
 }
 
 pub only : {A : Type 0} {x y : A} → Some x ≡ Some y → x ≡ y
@@ -150,7 +150,7 @@ made_at false answer change rows later source k same = (refl, same, sym (past-ze
 -- the change was made
 pub makes : {S : Type 0} {I : IssuedOf S} {B : BooksOf S} {old new : S} (answer : Reply) (change : Change) (source : Stream)
     → is_failed answer ≡ false → (I.is_clean new → B.rows new ≡ made change (B.rows old)) → (I.is_clean new → I.is_clean old) → NoFewer (I.failures old) (I.failures new)
-    → StepsAs I B false (λ _. accepted answer change) old new source source answer
+    → StepsAs I B (λ _. accepted answer change) old new source source answer
 makes {B = B} {old = old} {new = new} answer change source k m w counted = record {
   goes = λ clean. made_at (is_failed answer) answer change (B.rows old) (B.rows new) source k (m clean);
   was_clean = w;
@@ -167,13 +167,13 @@ same_fault look.Store look.Store e = refl
 -- a change that was not made
 pub fails : {S : Type 0} {I : IssuedOf S} {B : BooksOf S} {old new : S} (o : Outcome Change) (fault : LookFault) (why : Refusal) (source : Stream)
     → why ≡ refusal_of fault → (I.is_clean new → B.rows new ≡ B.rows old) → (I.is_clean new → I.is_clean old) → NoFewer (I.failures old) (I.failures new) → HasRisen (I.failures old fault) (I.failures new fault)
-    → StepsAs I B false (λ _. o) old new source source (Refused why)
+    → StepsAs I B (λ _. o) old new source source (Refused why)
 fails {I = I} {B = B} {old = old} {new = new} o fault why source e m w counted risen =
-    subst (λ r. StepsAs I B false (λ _. o) old new source source (Refused r)) (sym e) (record {
+    subst (λ r. StepsAs I B (λ _. o) old new source source (Refused r)) (sym e) (record {
       goes = λ clean. goes_at (is_failed (Refused (refusal_of fault))) o (B.rows old) (B.rows new) source (refusal_of fault) (λ k. absurd (false≢true (sym k ∙ faults fault))) (m clean);
       was_clean = w;
       counted = counted;
-      fault = λ clean whole cause k. inl (subst (λ x. HasRisen (I.failures old x) (I.failures new x)) (same_fault fault cause k) risen);
+      fault = λ clean whole cause k. subst (λ x. HasRisen (I.failures old x) (I.failures new x)) (same_fault fault cause k) risen;
     })
 
 pub none : {A : Type 0} (o : Option A) → is_some o ≡ false → o ≡ None
@@ -181,12 +181,12 @@ none None e = refl
 none (Some a) e = absurd (false≢true (sym e))
 
 -- a refusal of the checks, passed on
-pub barred : {S : Type 0} {I : IssuedOf S} {B : BooksOf S} {facts : Rows → Type 0} {start now : S} {e : Refusal} {copies : Bool} {outcome : Rows → Outcome Change} {source : Stream} (r : Result Reply Refusal)
+pub barred : {S : Type 0} {I : IssuedOf S} {B : BooksOf S} {facts : Rows → Type 0} {start now : S} {e : Refusal} {outcome : Rows → Outcome Change} {source : Stream} (r : Result Reply Refusal)
     → IsErrAnd r (λ x. x ≡ e) → is_failed (Refused e) ≡ false → SoFar I B facts start now
     → (facts (B.rows start) → outcome (B.rows start) ≡ refused e)
-    → StepsAs I B copies outcome start now source source (reply_of r)
-barred {I = I} {B = B} {start = start} {now = now} {e = e} {copies = copies} {outcome = outcome} {source = source} r p k s h =
-    subst (λ answer. StepsAs I B copies outcome start now source source answer) (sym (passed_on r e p)) (refuses e k s h)
+    → StepsAs I B outcome start now source source (reply_of r)
+barred {I = I} {B = B} {start = start} {now = now} {e = e} {outcome = outcome} {source = source} r p k s h =
+    subst (λ answer. StepsAs I B outcome start now source source answer) (sym (passed_on r e p)) (refuses e k s h)
 
 -- the first of these checks that refuses, and others after them
 pub bars_refuse : {X : Type 0} (checks later : List (Option Refusal)) (o : Outcome X) (why : Refusal) → first_refusal checks ≡ Some why → unless (checks ++ later) o ≡ refused why
@@ -207,13 +207,3 @@ number_is n m e = at (nat_lt n 9999999) n m e
     at : (b : Bool) (n m : ℕ) → cond b (Some (n + 1)) None ≡ Some m → n + 1 ≡ m
     at true n m e = only e
     at false n m e = cc
-
--- there is no memory for a copy
-pub lacks : {S : Type 0} {I : IssuedOf S} {B : BooksOf S} {facts : Rows → Type 0} {start now : S} {outcome : Rows → Outcome Change} {source : Stream}
-    → SoFar I B facts start now → StepsAs I B true outcome start now source source (Refused Memory)
-lacks {B = B} {start = start} {now = now} {outcome = outcome} {source = source} s = record {
-  goes = λ clean. goes_at true (outcome (B.rows start)) (B.rows start) (B.rows now) source Memory (λ k. absurd (false≢true (sym k))) (s.same clean);
-  was_clean = s.was_clean;
-  counted = s.counted;
-  fault = λ clean w cause e. inr refl;
-}

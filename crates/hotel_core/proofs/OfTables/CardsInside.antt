@@ -1,6 +1,6 @@
 -- The cards inside a room, as a part of the pairs in order.
-use Rattle.std.proofs.Common.{ℕ, ◌≡◌, ◌≤◌, ◌<◌, Bool, true, false, cond, List, [], ◌∷◌, map, filter, refl, ap, sym, ◌∙◌, arith}
-use Rattle.std.specs.Prelude.{◌==◌, ◌&&◌, not}
+use Rattle.std.proofs.Common.{ℕ, ◌≡◌, ◌≤◌, ◌<◌, Bool, true, false, cond, Option, Some, None, is_some, List, [], ◌∷◌, map, filter, refl, ap, sym, ◌∙◌, arith}
+use Rattle.std.specs.Prelude.{◌==◌, ◌&&◌, ◌||◌, not}
 use Rattle.std.specs.Ordering.{nat_cmp, is_le, is_lt, is_eq, ordering_then, match_ordering, MatchOrdering}
 use Rattle.std.specs.declared.cmp.Ordering.{Ordering}
 use Rattle.std.specs.declared.cmp.Ordering.TheVariants.{Less, Equal, Greater}
@@ -9,20 +9,23 @@ use Rattle.std.specs.BTreeMap.{is_at}
 use Rattle.std.specs.BTreeMap.Range.{range_contains}
 use Rattle.std.specs.BTreeSet.{insert_key}
 use Rattle.std.specs.Cmp.{ranks}
-use Rattle.std.specs.Set as set
+use Rattle.std.specs.Set.{remove_key}
 use Rattle.keycard_rules.specs.Numbers.{IsNumberUpTo}
-use Rattle.hotel_core.specs.Model.Words.{pair_cmp, when, remove_key}
-use Rattle.hotel_core.specs.Model.Guests.{those_in}
+use Rattle.std.specs.List.{list_any}
+use Rattle.std.specs.Map.Iter.{TakesFirst}
+use Rattle.keycard_rules.specs.Draw.{is_one_of}
+use Rattle.hotel_core.specs.Model.Words.{pair_cmp, when}
+use Rattle.hotel_core.specs.Model.Guests.{those_in, are_none}
 use Rattle.hotel_core.specs.Memory.{HaveCardNumbers}
-use Rattle.hotel_core.proofs.OfTables.MapEntries.{at_is}
+use Rattle.hotel_core.proofs.OfTables.MapEntries.{at_is, pair_is}
 
 -- ---- changes keep the numbers
 
-pub numbers_removed : (pairs : List (ℕ × ℕ)) (pair : ℕ × ℕ) → HaveCardNumbers pairs → HaveCardNumbers (set.remove_key (is_at (pair_cmp pair)) pairs)
+pub numbers_removed : (pairs : List (ℕ × ℕ)) (pair : ℕ × ℕ) → HaveCardNumbers pairs → HaveCardNumbers (remove_key (is_at (pair_cmp pair)) pairs)
 numbers_removed [] pair h = tt
 numbers_removed (x ∷ xs) pair h = removed_by (is_at (pair_cmp pair) x) h.0 h.1 (numbers_removed xs pair h.1)
   where
-    removed_by : (b : Bool) → IsNumberUpTo 9999999 x.1 → HaveCardNumbers xs → HaveCardNumbers (set.remove_key (is_at (pair_cmp pair)) xs) → HaveCardNumbers (cond b xs (x ∷ set.remove_key (is_at (pair_cmp pair)) xs))
+    removed_by : (b : Bool) → IsNumberUpTo 9999999 x.1 → HaveCardNumbers xs → HaveCardNumbers (remove_key (is_at (pair_cmp pair)) xs) → HaveCardNumbers (cond b xs (x ∷ remove_key (is_at (pair_cmp pair)) xs))
     removed_by true i all ih = all
     removed_by false i all ih = (i, ih)
 
@@ -34,10 +37,6 @@ numbers_added (x ∷ xs) pair h n = added_by (pair_cmp pair x) h (numbers_added 
     added_by Less h ih = (n, h)
     added_by Equal h ih = h
     added_by Greater h ih = (h.0, ih)
-
-pub removed_keys : (pairs : List (ℕ × ℕ)) (pair : ℕ × ℕ) → set.remove_key (is_at (pair_cmp pair)) pairs ≡ remove_key pair_cmp pairs pair
-removed_keys [] pair = refl
-removed_keys (x ∷ xs) pair = ap (λ rest. cond (is_at (pair_cmp pair) x) xs (x ∷ rest)) (removed_keys xs pair)
 
 -- ---- the part of a room
 
@@ -71,3 +70,24 @@ part_of_room room [] h = refl
 part_of_room room (e ∷ es) h =
     part_more (e.0 == room) e (filter (range_contains pair_cmp (Included (room, 1)) (Included (room, 9999999))) es) (those_in es room) (part_of_room room es h.1)
     ∙ ap (λ b. map (λ (p : ℕ × ℕ). p.1) (cond b (e ∷ filter (range_contains pair_cmp (Included (room, 1)) (Included (room, 9999999))) es) (filter (range_contains pair_cmp (Included (room, 1)) (Included (room, 9999999))) es))) (sym (in_part room e h.0))
+
+-- ---- one card
+
+when_has : (b : Bool) (n m : ℕ) (ns : List ℕ) → ((b && (m == n)) || list_any (λ k. k == n) ns) ≡ list_any (λ k. k == n) (when b (λ numbers. m ∷ numbers) ns)
+when_has true n m ns = refl
+when_has false n m ns = refl
+
+-- a card is inside a room where the pair of both is among the pairs
+pub known_inside : (pairs : List (ℕ × ℕ)) (room number : ℕ) → list_any (is_at (pair_cmp (room, number))) pairs ≡ is_one_of number (those_in pairs room)
+known_inside [] room number = refl
+known_inside (e ∷ es) room number =
+    ap (λ b. b || list_any (is_at (pair_cmp (room, number))) es) (pair_is room number e)
+    ∙ ap (λ b. ((e.0 == room) && (e.1 == number)) || b) (known_inside es room number)
+    ∙ when_has (e.0 == room) number e.1 (those_in es room)
+
+-- ---- any card
+
+-- of a front of pairs there is a first one where there is any card
+pub any_first : {A : Type 0} (shows : A → ℕ × ℕ) (pairs rest : List (ℕ × ℕ)) (first : Option A) → TakesFirst shows pairs first rest → is_some first ≡ not (are_none (map (λ (p : ℕ × ℕ). p.1) pairs))
+any_first shows pairs rest (Some e) h = ap (λ (es : List (ℕ × ℕ)). not (are_none (map (λ (p : ℕ × ℕ). p.1) es))) (sym h)
+any_first shows pairs rest None h = ap (λ (es : List (ℕ × ℕ)). not (are_none (map (λ (p : ℕ × ℕ). p.1) es))) (sym h.0)

@@ -13,7 +13,7 @@ use Rattle.hotel_core.specs.Model.Event.{Install, CheckIn, Transfer}
 use Rattle.hotel_core.specs.Model.History.{History, start, ◌▷◌}
 use Rattle.hotel_core.specs.Model.Issued.{issued, all_issued}
 use Rattle.hotel_core.specs.Model.Run.{Reached}
-use Rattle.hotel_core.specs.Refinement.CodeLaws.{CodesAreFound}
+use Rattle.hotel_core.proofs.Facts.CodeFacts.{CodesAreFound}
 use Rattle.hotel_core.proofs.OfTables.Tests.{eq_from, eq_self, and_true, not_both}
 use Rattle.hotel_core.proofs.OfTables.TableKeys.{swap_tests}
 use Rattle.hotel_core.proofs.OfTables.CodeLists.{snoc_split, length_more}

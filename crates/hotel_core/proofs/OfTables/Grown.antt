@@ -1,14 +1,12 @@
 -- How what is read off a history changes with one more event.
-use Rattle.std.proofs.Common.{ℕ, ◌≡◌, Bool, true, false, refl, sym, ap, ◌∙◌, List, []}
-use Rattle.hotel_core.specs.Model.Words.{when, and_last}
+use Rattle.std.proofs.Common.{ℕ, ◌≡◌, Bool, true, false, refl, sym, ap, ◌∙◌}
 use Rattle.hotel_core.specs.Model.Event.{Event}
 use Rattle.hotel_core.specs.Model.History.{History, ◌▷◌}
 use Rattle.hotel_core.specs.Model.Cases.{is_room}
 use Rattle.hotel_core.specs.Model.Run.{Reached}
-use Rattle.hotel_core.specs.Refinement.Follow.{MayFollow}
+use Rattle.hotel_core.proofs.Facts.Follow.{MayFollow}
 use Rattle.hotel_core.proofs.Invariants.Following.{answers_follow}
 use Rattle.hotel_core.proofs.OfTables.Tests.{not_both}
-use Rattle.hotel_core.proofs.OfTables.CodeLists.{no_snoc}
 
 -- what the last event needed
 pub may_follow : (h : History) (event : Event) → Reached (h ▷ event) → MayFollow h event
@@ -18,7 +16,3 @@ may_follow h event ok = answers_follow h ok.1 ok.2 event ok.3
 pub not_here : (b : Bool) (h : History) (room r : ℕ) → (b ≡ true → room ≡ r) → is_room h room ≡ true → is_room h r ≡ false → b ≡ false
 not_here true h room r here t f = not_both (is_room h r) (ap (is_room h) (sym (here refl)) ∙ t) f
 not_here false h room r here t f = refl
-
-pub was_none : (b : Bool) (xs : List ℕ) (c : ℕ) → when b (and_last c) xs ≡ [] → (b ≡ false) × (xs ≡ [])
-was_none true xs c e = absurd (no_snoc xs c e)
-was_none false xs c e = (refl, e)

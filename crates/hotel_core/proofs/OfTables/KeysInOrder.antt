@@ -6,10 +6,10 @@ use Rattle.std.specs.List.{list_any}
 use Rattle.std.specs.Cmp.{IsTotalOrder}
 use Rattle.std.specs.declared.cmp.Ordering.{Ordering}
 use Rattle.std.specs.declared.cmp.Ordering.TheVariants.{Less, Equal, Greater}
-use Rattle.std.specs.BTreeMap.{insert_entry}
+use Rattle.std.specs.BTreeMap.{insert_entry, is_at}
+use Rattle.std.specs.Set.{remove_key}
 use Rattle.std.specs.BTreeSet.{insert_key}
 use Rattle.std.specs.Map.{keys_of}
-use Rattle.hotel_core.specs.Model.Words.{remove_key}
 use Rattle.hotel_core.specs.Model.SoundRooms.{are_in_order}
 
 -- each of these comes after the key
@@ -54,23 +54,23 @@ pub in_order_inserted : {K : Type 0} (cmp : K → K → Ordering) (total : IsTot
 in_order_inserted cmp total k [] s = (tt, tt)
 in_order_inserted cmp total k (x ∷ xs) s = inserted_by cmp total (cmp k x) k x xs refl s (in_order_inserted cmp total k xs s.1)
 
-after_removed_by : {K : Type 0} (cmp : K → K → Ordering) (b : Bool) (x k y : K) (ys : List K) → AllAfter cmp x (y ∷ ys) → AllAfter cmp x (remove_key cmp ys k)
-    → AllAfter cmp x (cond b ys (y ∷ remove_key cmp ys k))
+after_removed_by : {K : Type 0} (cmp : K → K → Ordering) (b : Bool) (x k y : K) (ys : List K) → AllAfter cmp x (y ∷ ys) → AllAfter cmp x (remove_key (is_at (cmp k)) ys)
+    → AllAfter cmp x (cond b ys (y ∷ remove_key (is_at (cmp k)) ys))
 after_removed_by cmp true x k y ys a ih = a.1
 after_removed_by cmp false x k y ys a ih = (a.0, ih)
 
-after_removed : {K : Type 0} (cmp : K → K → Ordering) (x k : K) (ys : List K) → AllAfter cmp x ys → AllAfter cmp x (remove_key cmp ys k)
+after_removed : {K : Type 0} (cmp : K → K → Ordering) (x k : K) (ys : List K) → AllAfter cmp x ys → AllAfter cmp x (remove_key (is_at (cmp k)) ys)
 after_removed cmp x k [] a = tt
-after_removed cmp x k (y ∷ ys) a = after_removed_by cmp (is_eq (cmp k y)) x k y ys a (after_removed cmp x k ys a.1)
+after_removed cmp x k (y ∷ ys) a = after_removed_by cmp (is_at (cmp k) y) x k y ys a (after_removed cmp x k ys a.1)
 
-removed_by : {K : Type 0} (cmp : K → K → Ordering) (b : Bool) (k x : K) (xs : List K) → InOrder cmp (x ∷ xs) → InOrder cmp (remove_key cmp xs k) → InOrder cmp (cond b xs (x ∷ remove_key cmp xs k))
+removed_by : {K : Type 0} (cmp : K → K → Ordering) (b : Bool) (k x : K) (xs : List K) → InOrder cmp (x ∷ xs) → InOrder cmp (remove_key (is_at (cmp k)) xs) → InOrder cmp (cond b xs (x ∷ remove_key (is_at (cmp k)) xs))
 removed_by cmp true k x xs s ih = s.1
 removed_by cmp false k x xs s ih = (after_removed cmp x k xs s.0, ih)
 
 -- keys in order, with one taken out
-pub in_order_removed : {K : Type 0} (cmp : K → K → Ordering) (k : K) (xs : List K) → InOrder cmp xs → InOrder cmp (remove_key cmp xs k)
+pub in_order_removed : {K : Type 0} (cmp : K → K → Ordering) (k : K) (xs : List K) → InOrder cmp xs → InOrder cmp (remove_key (is_at (cmp k)) xs)
 in_order_removed cmp k [] s = tt
-in_order_removed cmp k (x ∷ xs) s = removed_by cmp (is_eq (cmp k x)) k x xs s (in_order_removed cmp k xs s.1)
+in_order_removed cmp k (x ∷ xs) s = removed_by cmp (is_at (cmp k) x) k x xs s (in_order_removed cmp k xs s.1)
 
 not_after : {K : Type 0} (cmp : K → K → Ordering) (k : K) (xs : List K) → AllAfter cmp k xs → has_key cmp k xs ≡ false
 not_after cmp k [] a = refl

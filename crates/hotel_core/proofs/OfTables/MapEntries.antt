@@ -10,7 +10,7 @@ use Rattle.std.specs.BTreeMap.{is_at, insert_entry}
 use Rattle.std.specs.Map.{lookup, remove_entry, keys_of}
 use Rattle.std.proofs.lemmas.Cmp.{nat_cmp_total, on_total, then_total, tied_itself}
 use Rattle.std.proofs.lemmas.Map.Lookups.{exact_unsigned}
-use Rattle.keycard_rules.specs.Draw.{is_among}
+use Rattle.keycard_rules.specs.Draw.{is_one_of}
 use Rattle.hotel_core.specs.Model.Words.{pair_cmp}
 use Rattle.hotel_core.specs.Model.Rows.{at_number}
 
@@ -40,7 +40,7 @@ at_is q k =
 pub pair_total : IsTotalOrder pair_cmp
 pair_total = then_total (on_total (λ p. p.0) nat_cmp_total) (on_total (λ p. p.1) nat_cmp_total)
 
-both_equal : (a b : Ordering) → is_eq (ordering_then a b) ≡ (is_eq a && is_eq b)
+pub both_equal : (a b : Ordering) → is_eq (ordering_then a b) ≡ (is_eq a && is_eq b)
 both_equal Less b = refl
 both_equal Equal b = refl
 both_equal Greater b = refl
@@ -83,11 +83,11 @@ module _ {K X : Type 0} (cmp : K → K → Ordering) (total : IsTotalOrder cmp) 
   found [] = ap (λ b. cond b (Some v) None) (at_self total k)
   found (x ∷ xs) = found_by (cmp k x.0) x xs refl (found xs)
 
-known_by : {X : Type 0} (b : Bool) (x : X) (rest : Option X) (any : Bool) → is_some rest ≡ any → is_some (cond b (Some x) rest) ≡ (b || any)
+pub known_by : {X : Type 0} (b : Bool) (x : X) (rest : Option X) (any : Bool) → is_some rest ≡ any → is_some (cond b (Some x) rest) ≡ (b || any)
 known_by true x rest any e = refl
 known_by false x rest any e = e
 
 -- a number is among the keys where the map has it
-pub known_key : {X : Type 0} (es : List (ℕ × X)) (k : ℕ) → is_some (at_number es k) ≡ is_among (keys_of es) k
+pub known_key : {X : Type 0} (es : List (ℕ × X)) (k : ℕ) → is_some (at_number es k) ≡ is_one_of k (keys_of es)
 known_key [] k = refl
-known_key (e ∷ es) k = known_by (is_at (nat_cmp k) e.0) e.1 (at_number es k) (is_among (keys_of es) k) (known_key es k) ∙ ap (λ b. b || is_among (keys_of es) k) (at_is k e.0)
+known_key (e ∷ es) k = known_by (is_at (nat_cmp k) e.0) e.1 (at_number es k) (is_one_of k (keys_of es)) (known_key es k) ∙ ap (λ b. b || is_one_of k (keys_of es)) (at_is k e.0)

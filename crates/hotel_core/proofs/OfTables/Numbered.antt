@@ -1,5 +1,5 @@
 -- Tables by number: what a look-up finds, which numbers are there, and what an added row changes.
-use Rattle.std.proofs.Common.{ℕ, ◌≡◌, Bool, true, false, cond, Option, Some, None, List, [], ◌∷◌, refl, ap, sym, ◌∙◌}
+use Rattle.std.proofs.Common.{ℕ, ◌≡◌, Bool, true, false, cond, Option, Some, List, [], ◌∷◌, refl, ap, sym, ◌∙◌}
 use Rattle.std.specs.Prelude.{◌==◌, is_some, map, option_map}
 use Rattle.std.specs.Ordering.{nat_cmp}
 use Rattle.std.specs.BTreeMap.{is_at, insert_entry}
@@ -34,10 +34,6 @@ is_there es n = sym (is_key es n)
 -- a number is there where a look-up finds a row
 pub found_there : {X : Type 0} (es : List (ℕ × X)) (n : ℕ) (x : X) → at_number es n ≡ Some x → is_one_of n (keys_of es) ≡ true
 found_there es n x h = sym (is_there es n) ∙ ap is_some h
-
--- a number isn't there where a look-up finds nothing
-pub not_found_there : {X : Type 0} (es : List (ℕ × X)) (n : ℕ) → at_number es n ≡ None → is_one_of n (keys_of es) ≡ false
-not_found_there es n h = sym (is_there es n) ∙ ap is_some h
 
 mapped_by : {X Y : Type 0} (f : ℕ → X → Y) (b : Bool) (k n : ℕ) (x : X) (o : Option X) → (b ≡ true → k ≡ n) → cond b (Some (f k x)) (option_map (f n) o) ≡ option_map (f n) (cond b (Some x) o)
 mapped_by f true k n x o e = ap (λ z. Some (f z x)) (e refl)

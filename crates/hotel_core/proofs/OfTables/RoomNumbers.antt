@@ -14,7 +14,7 @@ use Rattle.hotel_core.specs.Model.Stays.{rooms}
 use Rattle.hotel_core.specs.Model.RowsOf.{room_row, rows_of}
 use Rattle.hotel_core.specs.Model.Run.{Reached}
 use Rattle.hotel_core.specs.Model.Cases.{is_room}
-use Rattle.hotel_core.specs.Refinement.Follow.{ApartFrom, RoomsOnce}
+use Rattle.hotel_core.proofs.Facts.Follow.{ApartFrom, RoomsOnce}
 use Rattle.hotel_core.proofs.RowsAfter.RowsRooms.{eq_flip}
 use Rattle.hotel_core.proofs.OfTables.Numbered.{at_mapped}
 use Rattle.hotel_core.proofs.OfTables.Grown.{may_follow}

@@ -5,7 +5,7 @@ use Rattle.std.specs.Ordering.{nat_cmp, is_eq, match_ordering, ordering_reverse}
 use Rattle.std.specs.Cmp.{IsTotalOrder}
 use Rattle.std.specs.declared.cmp.Ordering.{Ordering}
 use Rattle.std.specs.declared.cmp.Ordering.TheVariants.{Less, Equal, Greater}
-use Rattle.std.specs.List.{list_all, list_any}
+use Rattle.std.specs.List.{list_all}
 use Rattle.std.specs.BTreeMap.{is_at, insert_entry}
 use Rattle.std.specs.BTreeSet.{insert_key}
 use Rattle.std.specs.Map.{lookup, keys_of}
@@ -14,7 +14,7 @@ use Rattle.hotel_nights.specs.declared.stay.Stay.{Stay}
 use Rattle.hotel_nights.specs.declared.stay.StayState.{StayState}
 use Rattle.hotel_core.specs.Model.Rows.{at_number}
 use Rattle.hotel_core.specs.Model.Stays.{in_state, now_is}
-use Rattle.hotel_core.proofs.OfTables.Tests.{and_true, not_both}
+use Rattle.hotel_core.proofs.OfTables.Tests.{and_true}
 use Rattle.hotel_core.proofs.OfTables.TableKeys.{same_number}
 use Rattle.hotel_core.proofs.OfTables.KeysInOrder.{AllAfter, InOrder, has_key}
 
@@ -37,14 +37,6 @@ where_so false rule f = refl
 pub all_weaker : {X : Type 0} (t u : X → Bool) → ((x : X) → t x ≡ true → u x ≡ true) → (xs : List X) → list_all t xs ≡ true → list_all u xs ≡ true
 all_weaker t u w [] h = refl
 all_weaker t u w (x ∷ xs) h = let p = and_true (t x) (list_all t xs) h in both (u x) _ (w x p.0) (all_weaker t u w xs p.1)
-
-pub any_weaker : {X : Type 0} (t u : X → Bool) → ((x : X) → t x ≡ true → u x ≡ true) → (xs : List X) → list_any t xs ≡ true → list_any u xs ≡ true
-any_weaker t u w [] h = not_both false h refl
-any_weaker {X} t u w (x ∷ xs) h = by (t x) refl h (any_weaker t u w xs)
-  where
-    by : (b : Bool) → t x ≡ b → (b || list_any t xs) ≡ true → (list_any t xs ≡ true → list_any u xs ≡ true) → (u x || list_any u xs) ≡ true
-    by true e g ih = or_first (u x) _ (w x e)
-    by false e g ih = or_later (u x) _ (ih g)
 
 -- all rows of a table that was computed
 pub all_mapped : {X Y : Type 0} (t : Y → Bool) (f : X → Y) (xs : List X) → list_all t (map f xs) ≡ list_all (λ x. t (f x)) xs

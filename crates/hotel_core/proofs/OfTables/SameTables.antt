@@ -26,10 +26,6 @@ found_after {X} k q v (e ∷ es) a h = by (is_at (nat_cmp q) e.0) refl h (found_
     by true t g ih = ap (λ z. nat_cmp k z) (same_number q e.0 t) ∙ a.0
     by false t g ih = ih g
 
--- the later rows are found where the first isn't
-rest_found : {X : Type 0} (e : ℕ × X) (es : List (ℕ × X)) (q : ℕ) → InOrder nat_cmp (keys_of (e ∷ es)) → (v : X) → at_number es q ≡ Some v → at_number (e ∷ es) q ≡ Some v
-rest_found e es q s v h = ap (λ b. cond b (Some e.1) (at_number es q)) (after_not_same nat_cmp nat_cmp_total e.0 q v es s.0 h) ∙ h
-
 both_less : (a b : ℕ) → nat_cmp a b ≡ Less → nat_cmp b a ≡ Less → ⊥
 both_less a b p q = let w : ◌≡◌ {A = Ordering} Less Greater = sym q ∙ nat_cmp_total.antisymm b a ∙ ap ordering_reverse p in cc
 

@@ -12,7 +12,7 @@ use Rattle.hotel_core.specs.Model.Cases.{is_begun, no_link}
 use Rattle.hotel_core.specs.Model.Stays.{day}
 use Rattle.std.specs.Ordering.{nat_cmp}
 use Rattle.std.specs.BTreeMap.{insert_entry}
-use Rattle.hotel_core.specs.Refinement.Follow.{FollowsBy}
+use Rattle.hotel_core.proofs.Facts.Follow.{FollowsBy}
 
 next_day : (o : Option ℕ) → is_some o ≡ true → option_map (λ d. d + 1) o ≡ Some (said_of o 0 (λ d. d) + 1)
 next_day (Some d) h = refl

@@ -3,7 +3,7 @@ use Rattle.std.proofs.Common.{refl}
 use Rattle.hotel_core.specs.Model.Event.{Event, Begun, Kind, Install, Reserved, Cancelled, CheckIn, Transfer, Spare, CheckOut, NextDay, Entered, Left, Recoded}
 use Rattle.hotel_core.specs.Model.History.{History, ◌▷◌}
 use Rattle.hotel_core.specs.Model.Run.{Reached}
-use Rattle.hotel_core.specs.Refinement.Follow.{FollowsBy, MayFollow}
+use Rattle.hotel_core.proofs.Facts.Follow.{FollowsBy, MayFollow}
 use Rattle.hotel_core.proofs.OfTables.RoomNumbers.{rooms_once}
 use Rattle.hotel_core.proofs.RowsAfter.RowsEasy.{next_day_follows, spare_follows}
 use Rattle.hotel_core.proofs.RowsAfter.RowsIssue.{install_follows, check_in_follows}

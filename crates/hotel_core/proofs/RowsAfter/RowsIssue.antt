@@ -17,7 +17,7 @@ use Rattle.hotel_core.specs.Model.RowsOf.{room_row, rows_of}
 use Rattle.hotel_core.specs.Model.Cases.{is_room}
 use Rattle.hotel_core.specs.Model.Run.{Reached}
 use Rattle.hotel_core.specs.Books.Change.{codes_of, room_changed}
-use Rattle.hotel_core.specs.Refinement.Follow.{FollowsBy, ApartFrom}
+use Rattle.hotel_core.proofs.Facts.Follow.{FollowsBy, ApartFrom}
 use Rattle.hotel_core.proofs.RowsAfter.RowsRooms.{eq_flip, rows_by, others, one_changed, length_more}
 use Rattle.hotel_core.proofs.OfTables.Numbered.{true_is_not_false}
 use Rattle.hotel_core.proofs.OfTables.RoomNumbers.{apart_from, rooms_once, room_there}

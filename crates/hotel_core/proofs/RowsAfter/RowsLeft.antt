@@ -14,7 +14,7 @@ use Rattle.hotel_core.specs.Model.RowsOf.{room_row, rows_of}
 use Rattle.hotel_core.specs.Model.Cases.{is_room, is_in_house, room_of}
 use Rattle.hotel_core.specs.Model.Run.{Reached}
 use Rattle.hotel_core.specs.Books.Change.{room_changed, without_party, left_by}
-use Rattle.hotel_core.specs.Refinement.Follow.{FollowsBy}
+use Rattle.hotel_core.proofs.Facts.Follow.{FollowsBy}
 use Rattle.hotel_core.proofs.RowsAfter.RowsRooms.{rows_by, one_changed, length_more}
 use Rattle.hotel_core.proofs.OfTables.Numbered.{true_is_not_false}
 use Rattle.hotel_core.proofs.OfTables.RoomNumbers.{rooms_once}

@@ -16,7 +16,7 @@ use Rattle.hotel_core.specs.Model.Stays.{rooms}
 use Rattle.hotel_core.specs.Model.RowsOf.{room_row, rows_of}
 use Rattle.hotel_core.specs.Model.Run.{Reached}
 use Rattle.hotel_core.specs.Books.Change.{room_changed}
-use Rattle.hotel_core.specs.Refinement.Follow.{FollowsBy}
+use Rattle.hotel_core.proofs.Facts.Follow.{FollowsBy}
 use Rattle.hotel_core.proofs.RowsAfter.RowsRooms.{one_changed, length_more}
 use Rattle.hotel_core.proofs.OfTables.RoomNumbers.{rooms_once}
 use Rattle.hotel_core.proofs.OfTables.Insiders.{card_came}

@@ -13,7 +13,7 @@ use Rattle.hotel_core.specs.Model.Notes.{notes}
 use Rattle.hotel_core.specs.Model.Stays.{rooms}
 use Rattle.hotel_core.specs.Model.RowsOf.{room_row, rows_of}
 use Rattle.hotel_core.specs.Books.Change.{room_changed}
-use Rattle.hotel_core.specs.Refinement.Follow.{FollowsBy, ApartFrom, RoomsOnce}
+use Rattle.hotel_core.proofs.Facts.Follow.{FollowsBy, ApartFrom, RoomsOnce}
 use Rattle.hotel_core.proofs.OfTables.Tests.{eq_from, eq_self}
 
 pub eq_flip : (a b : ℕ) → (a == b) ≡ false → (b == a) ≡ false

@@ -15,8 +15,8 @@ use Rattle.hotel_core.specs.Model.Guests.{insiders, inside, secured}
 use Rattle.hotel_core.specs.Model.RowsOf.{room_row, rows_of}
 use Rattle.hotel_core.specs.Model.Cases.{is_room}
 use Rattle.hotel_core.specs.Model.Run.{Reached}
-use Rattle.hotel_core.specs.Refinement.Follow.{MayFollow}
-use Rattle.hotel_core.specs.Refinement.CodeLaws.{IsLinkAt}
+use Rattle.hotel_core.proofs.Facts.Follow.{MayFollow}
+use Rattle.hotel_core.proofs.Facts.CodeFacts.{IsLinkOf}
 use Rattle.hotel_core.specs.Model.SoundCards.{room_is, card_is, fits_inside, insides_fit}
 use Rattle.hotel_core.proofs.OfTables.Grown.{may_follow}
 use Rattle.hotel_core.proofs.OfTables.Pairs.{pair_cmp_total}
@@ -106,7 +106,7 @@ inside_fits h ok r n t =
     let c = insiders_seen h ok r n t in
     let room = room_there h r c.0 in
     let row = room_row h r room.0 in
-    let l : IsLinkAt (issued h r) c.1.link = (c.3.0, c.3.1, c.3.2) in
+    let l : IsLinkOf (issued h r) c.1.link = (c.3.0, c.3.1, c.3.2) in
     let place : length (c.3.0 ++ c.1.link.old_code ∷ []) ≤ length (passed h r) = let few = c.3.3 in omega (arith, length-append c.3.0 (c.1.link.old_code ∷ [])) in
     said_some (at_number (rows_of h).rooms r) row (λ x. card_is (rows_of h) n (fits_inside (rows_of h) r x)) room.2
     (said_some (at_number (cards h) n) c.1 (fits_inside (rows_of h) r row) c.2

@@ -16,7 +16,7 @@ use Rattle.hotel_core.specs.Model.RowsOf.{rows_of}
 use Rattle.hotel_core.specs.Model.Cases.{next_card}
 use Rattle.hotel_core.specs.Model.Notes.{same_link}
 use Rattle.hotel_core.specs.Model.Run.{Reached}
-use Rattle.hotel_core.specs.Refinement.CodeLaws.{IsLinkAt}
+use Rattle.hotel_core.proofs.Facts.CodeFacts.{IsLinkOf}
 use Rattle.hotel_core.specs.Model.SoundCards.{code_is, stands_at, are_neighbours, is_newest}
 use Rattle.hotel_core.proofs.OfTables.Tests.{eq_from, eq_self, not_both}
 use Rattle.hotel_core.proofs.OfTables.Grown.{may_follow}
@@ -34,11 +34,11 @@ pub said_some : {X : Type 0} (o : Option X) (x : X) (test : X → Bool) → o �
 said_some o x test e t = ap (λ z. said_of z false test) e ∙ t
 
 -- the row of a link's new code
-pub new_at : (h : History) → Reached h → (r : ℕ) (link : Link) → (l : IsLinkAt (issued h r) link) → at_number (all_issued h) link.new_code ≡ Some (record { room = r; place = length (l.0 ++ link.old_code ∷ []) })
+pub new_at : (h : History) → Reached h → (r : ℕ) (link : Link) → (l : IsLinkOf (issued h r) link) → at_number (all_issued h) link.new_code ≡ Some (record { room = r; place = length (l.0 ++ link.old_code ∷ []) })
 new_at h ok r link l = codes_have_places h ok r (l.0 ++ link.old_code ∷ []) link.new_code l.1 (l.2 ∙ sym (append_assoc l.0 (link.old_code ∷ []) (link.new_code ∷ l.1)))
 
 -- A link of a room stands there in the rows.
-pub link_stands : (h : History) → Reached h → (r : ℕ) (link : Link) → IsLinkAt (issued h r) link → stands_at (rows_of h) r link ≡ true
+pub link_stands : (h : History) → Reached h → (r : ℕ) (link : Link) → IsLinkOf (issued h r) link → stands_at (rows_of h) r link ≡ true
 link_stands h ok r link l =
     let old : CodeRow = record { room = r; place = length l.0 } in
     let new : CodeRow = record { room = r; place = length (l.0 ++ link.old_code ∷ []) } in

@@ -19,7 +19,7 @@ use Rattle.hotel_core.specs.Model.Notes.{same_link}
 use Rattle.hotel_core.specs.Model.RowsOf.{rows_of}
 use Rattle.hotel_core.specs.Model.Cases.{is_room}
 use Rattle.hotel_core.specs.Model.Run.{Reached}
-use Rattle.hotel_core.specs.Refinement.CodeLaws.{IsLinkAt}
+use Rattle.hotel_core.proofs.Facts.CodeFacts.{IsLinkOf}
 use Rattle.hotel_core.specs.Model.SoundRooms.{is_day, count_up}
 use Rattle.hotel_core.specs.Model.SoundCards.{code_is, are_neighbours, stands_at, comes_later, has_link_at, act_fits, note_fits, notes_fit, counts_at, notes_counted}
 use Rattle.hotel_core.proofs.OfTables.Tests.{eq_from, eq_self, and_true}
@@ -85,7 +85,7 @@ new_fits h note there fits timed =
     both _ _ (both _ _ (both _ _ (both _ _ (both _ _ (eq_self note.room) (eq_self note.count)) (room_has_row h note.room there)) fits) (le_tested note.day 36524 timed.0)) (lt_tested note.second 86400 second)
 
 -- a card with the link of a room
-link_fits : (h : History) → Reached h → (room number : ℕ) (link : Link) (card : Card) → at_number (cards h) number ≡ Some card → card.link ≡ link → IsLinkAt (issued h room) link → has_link_at (rows_of h) room number link ≡ true
+link_fits : (h : History) → Reached h → (room number : ℕ) (link : Link) (card : Card) → at_number (cards h) number ≡ Some card → card.link ≡ link → IsLinkOf (issued h room) link → has_link_at (rows_of h) room number link ≡ true
 link_fits h ok room number link card e same l =
     said_some (at_number (cards h) number) card (λ (x : Card). same_link x.link link && stands_at (rows_of h) room link) e
     (both _ _ (ap (λ z. same_link z link) same ∙ same_self link) (link_stands h ok room link l))
@@ -119,8 +119,8 @@ left_fits h room count number link at ok =
     let c = card_seen h number link n.2 n.3 in
     let s = insiders_seen h ok.0 room number n.4 in
     let same : s.1.link ≡ link = ap (λ (x : Card). x.link) (one_card (at_number (cards h) number) s.1 c.0 s.2 c.1) ∙ c.2 in
-    let l : IsLinkAt (issued h room) s.1.link = (s.3.0, s.3.1, s.3.2) in
-    link_fits h ok.0 room number link c.0 c.1 c.2 (subst (IsLinkAt (issued h room)) same l)
+    let l : IsLinkOf (issued h room) s.1.link = (s.3.0, s.3.1, s.3.2) in
+    link_fits h ok.0 room number link c.0 c.1 c.2 (subst (IsLinkOf (issued h room)) same l)
 
 one_fits : (h : History) (event : Event) (note : Note) → Reached (h ▷ event) → note_of event ≡ Some note → note_fits (rows_of (h ▷ event)) ((note.room, note.count), note) ≡ true
 one_fits h (Entered room count number link at) note ok e =

@@ -21,7 +21,7 @@ use Rattle.hotel_core.specs.Model.Notes.{notes}
 use Rattle.hotel_core.specs.Model.RowsOf.{room_row, rows_of}
 use Rattle.hotel_core.specs.Model.Cases.{is_room}
 use Rattle.hotel_core.specs.Model.Run.{Reached}
-use Rattle.hotel_core.specs.Refinement.CodeLaws.{IsLinkAt}
+use Rattle.hotel_core.proofs.Facts.CodeFacts.{IsLinkOf}
 use Rattle.hotel_core.specs.Model.SoundRooms.{each_room, room_numbers, lock_places, codes_few, note_counts, secured_hold_last}
 use Rattle.hotel_core.proofs.OfTables.Tests.{eq_from, eq_self, and_true, not_both}
 use Rattle.hotel_core.proofs.OfTables.Numbered.{found_there}
@@ -89,7 +89,7 @@ few_notes (h ▷ _) ok r = few_notes h ok.0 r
 pub notes_numbered : (h : History) → Reached h → note_counts (rows_of h) ≡ true
 notes_numbered h ok = each_room_is h ok _ (λ r kind e. le_tested _ _ (few_notes h ok r))
 
-two_of_link : (codes : List ℕ) (link : Link) → IsLinkAt codes link → 2 ≤ length codes
+two_of_link : (codes : List ℕ) (link : Link) → IsLinkOf codes link → 2 ≤ length codes
 two_of_link codes link l = let n = ap (λ (zs : List ℕ). length zs) l.2 in omega (arith, n, length-append l.0 (link.old_code ∷ link.new_code ∷ l.1))
 
 issued_to : (b c : Bool) (codes : List ℕ) (code : ℕ) → (c ≡ true → 2 ≤ length codes) → when b (λ _. false) c ≡ true → 2 ≤ length (when b (and_last code) codes)

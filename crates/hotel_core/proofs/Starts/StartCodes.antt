@@ -16,7 +16,7 @@ use Rattle.hotel_core.specs.Model.Cases.{is_room}
 use Rattle.hotel_core.specs.Model.SoundRooms.{count_up, are_in_order}
 use Rattle.hotel_core.specs.Model.SoundCards.{codes_listed}
 use Rattle.hotel_core.specs.Model.Sound.{IsSound}
-use Rattle.hotel_core.specs.Refinement.CodeLaws.{CodesHavePlaces, PlacesHaveCodes}
+use Rattle.hotel_core.proofs.Facts.CodeFacts.{CodesHavePlaces, PlacesHaveCodes}
 use Rattle.hotel_core.proofs.OfTables.KeysInOrder.{InOrder}
 use Rattle.hotel_core.proofs.OfTables.CodeLists.{nothing_in_nil}
 use Rattle.hotel_core.proofs.OfTables.Pairs.{pair_cmp_total}

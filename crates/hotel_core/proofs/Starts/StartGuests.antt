@@ -12,7 +12,7 @@ use Rattle.hotel_core.specs.Model.Cards.{newest_link, link_of_party}
 use Rattle.hotel_core.specs.Model.Cases.{is_room, room_of, room_of_state, is_in_house}
 use Rattle.hotel_core.specs.Model.SoundCards.{is_newest}
 use Rattle.hotel_core.specs.Model.Sound.{IsSound}
-use Rattle.hotel_core.specs.Refinement.CodeLaws.{GuestsHaveCards}
+use Rattle.hotel_core.proofs.Facts.CodeFacts.{GuestsHaveCards}
 use Rattle.hotel_core.proofs.OfTables.Tests.{and_true}
 use Rattle.hotel_core.proofs.Invariants.Homes.{Match}
 use Rattle.hotel_core.proofs.OfTables.RowTests.{found_passes}

@@ -12,7 +12,7 @@ use Rattle.hotel_core.specs.Model.Guests.{those_in}
 use Rattle.hotel_core.specs.Model.Cases.{is_room}
 use Rattle.hotel_core.specs.Model.SoundCards.{room_is, card_is, code_is, stands_at, is_newest, fits_inside}
 use Rattle.hotel_core.specs.Model.Sound.{IsSound}
-use Rattle.hotel_core.specs.Refinement.CodeLaws.{IsLinkAt}
+use Rattle.hotel_core.proofs.Facts.CodeFacts.{IsLinkOf}
 use Rattle.hotel_core.proofs.OfTables.Tests.{and_true}
 use Rattle.hotel_core.proofs.Starts.StartRules.{said_true, le_from}
 use Rattle.hotel_core.proofs.Starts.StartCodes.{room_there_is, place_is_row}
@@ -24,7 +24,7 @@ use Rattle.hotel_core.proofs.Starts.StartRows.{lock_is}
 abbrev HasSeen : Rows → ℕ → Link → Type 0
 HasSeen t r link = (front : List ℕ) × (later : List ℕ) × (codes_at t r ≡ front ++ link.old_code ∷ link.new_code ∷ later) × (length front + 1 ≤ length (take (lock_place_of t r) (codes_at t r)))
 
-place_of : (t : Rows) → IsSound t → (r : ℕ) (link : Link) (l : IsLinkAt (codes_at t r) link) (row : CodeRow) → at_number t.codes link.new_code ≡ Some row → row.place ≡ length l.0 + 1
+place_of : (t : Rows) → IsSound t → (r : ℕ) (link : Link) (l : IsLinkOf (codes_at t r) link) (row : CodeRow) → at_number t.codes link.new_code ≡ Some row → row.place ≡ length l.0 + 1
 place_of t s r link l row e =
     let there = place_is_row t s r (l.0 ++ link.old_code ∷ []) link.new_code l.1 (l.2 ∙ sym (append_assoc l.0 (link.old_code ∷ []) (link.new_code ∷ l.1))) in
     let same : Some row ≡ Some (record { room = r; place = length (l.0 ++ link.old_code ∷ []) }) = sym e ∙ there in

@@ -7,7 +7,7 @@ use Rattle.hotel_core.specs.Model.History.{start}
 use Rattle.hotel_core.specs.Model.Cases.{is_room}
 use Rattle.hotel_core.specs.Model.Sound.{IsSound}
 use Rattle.hotel_core.specs.Model.Headline.{LedgerHolds}
-use Rattle.hotel_core.specs.Refinement.CodeLaws.{HasCodes, RoomsHaveCodes, OthersHaveNone, CodesFit}
+use Rattle.hotel_core.proofs.Facts.CodeFacts.{HasCodes, RoomsHaveCodes, OthersHaveNone, CodesFit}
 use Rattle.hotel_core.proofs.OfTables.RowTests.{found_passes}
 use Rattle.hotel_core.proofs.Starts.StartRules.{le_from, some_of}
 use Rattle.hotel_core.proofs.Starts.StartCodes.{counted, lock_within, no_codes_at, has_row, has_no_row, room_there_is}

@@ -13,7 +13,7 @@ use Rattle.hotel_core.specs.Model.History.{start}
 use Rattle.hotel_core.specs.Model.Notes.{same_link}
 use Rattle.hotel_core.specs.Model.SoundCards.{stands_at, is_newest}
 use Rattle.hotel_core.specs.Model.Sound.{IsSound}
-use Rattle.hotel_core.specs.Refinement.CodeLaws.{IsLinkAt, CardsHaveLinks, PartiesHaveLinks, PartiesHaveCards, CardsOneParty, NewestAreLast}
+use Rattle.hotel_core.proofs.Facts.CodeFacts.{IsLinkOf, CardsHaveLinks, PartiesHaveLinks, PartiesHaveCards, CardsOneParty, NewestAreLast}
 use Rattle.hotel_core.proofs.OfTables.KeysInOrder.{InOrder}
 use Rattle.hotel_core.proofs.OfTables.CodeLists.{cut_alike, last_more}
 use Rattle.hotel_core.proofs.OfTables.Tests.{eq_from, eq_self, and_true, or_second}
@@ -33,7 +33,7 @@ neighbours xs a b p q s t e =
     (s.0, t.1, s.2 ∙ ap (λ zs. s.0 ++ a ∷ zs) c.1)
 
 -- a link that stands at a room is two neighbours of its codes
-pub stands_is : (t : Rows) → IsSound t → (room : ℕ) (link : Link) → stands_at t room link ≡ true → IsLinkAt (codes_at t room) link
+pub stands_is : (t : Rows) → IsSound t → (room : ℕ) (link : Link) → stands_at t room link ≡ true → IsLinkOf (codes_at t room) link
 stands_is t s room link e =
     let old = said_true (at_number t.codes link.old_code) (λ old. said_of (at_number t.codes link.new_code) false (λ new. (old.room == room) && (new.room == room) && (new.place == old.place + 1))) e in
     let new = said_true (at_number t.codes link.new_code) (λ new. (old.0.room == room) && (new.room == room) && (new.place == old.0.place + 1)) old.2 in
@@ -79,7 +79,7 @@ pub parties_have_links_at_start : (t : Rows) → IsSound t → PartiesHaveLinks 
 parties_have_links_at_start t s party link e =
     let c = last_is_card t.cards party link (orders t s).cards e in
     let l = cards_have_links_at_start t s c.0 c.1 c.2 in
-    (l.0, subst (λ z. IsLinkAt (codes_at t l.0) z) c.3 l.1)
+    (l.0, subst (λ z. IsLinkOf (codes_at t l.0) z) c.3 l.1)
 
 last_two : (xs : List ℕ) (link : Link) → last_link_of xs ≡ Some link → (front : List ℕ) × (xs ≡ front ++ link.old_code ∷ link.new_code ∷ [])
 last_two [] link e = absurd (let w : ◌≡◌ {A = Option Link} None (Some link) = e in cc)
@@ -108,7 +108,7 @@ link_self : (link : Link) → same_link link link ≡ true
 link_self link = ap (λ z. z && (link.new_code == link.new_code)) (eq_self link.old_code) ∙ eq_self link.new_code
 
 -- links with one new code have one old code
-same_old : (t : Rows) → IsSound t → (r q : ℕ) (a b : Link) → IsLinkAt (codes_at t r) a → IsLinkAt (codes_at t q) b → a.new_code ≡ b.new_code → a ≡ b
+same_old : (t : Rows) → IsSound t → (r q : ℕ) (a b : Link) → IsLinkOf (codes_at t r) a → IsLinkOf (codes_at t q) b → a.new_code ≡ b.new_code → a ≡ b
 same_old t s r q a b l m n =
     let e = l.2 ∙ sym (append_assoc l.0 (a.old_code ∷ []) (a.new_code ∷ l.1)) in
     let f = m.2 ∙ sym (append_assoc m.0 (b.old_code ∷ []) (b.new_code ∷ m.1)) in

@@ -9,7 +9,7 @@ use Rattle.hotel_core.specs.Model.Rows.{Rows, at_number}
 use Rattle.hotel_core.specs.Model.History.{start}
 use Rattle.hotel_core.specs.Model.SoundRooms.{count_up}
 use Rattle.hotel_core.specs.Model.Sound.{IsSound}
-use Rattle.hotel_core.specs.Refinement.CodeLaws.{CardsCount, StaysCount, CardsFit, StaysFit}
+use Rattle.hotel_core.proofs.Facts.CodeFacts.{CardsCount, StaysCount, CardsFit, StaysFit}
 use Rattle.hotel_core.proofs.OfTables.Tests.{and_true, eq_from}
 use Rattle.hotel_core.proofs.OfTables.RowTests.{found_passes}
 use Rattle.hotel_core.proofs.Starts.StartRules.{le_from}

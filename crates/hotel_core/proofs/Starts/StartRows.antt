@@ -15,7 +15,7 @@ use Rattle.hotel_core.specs.Model.Stays.{rooms, rooms_of}
 use Rattle.hotel_core.specs.Model.SoundRooms.{count_up, rooms_with}
 use Rattle.hotel_core.specs.Model.SoundCards.{counts_at}
 use Rattle.hotel_core.specs.Model.Sound.{IsSound}
-use Rattle.hotel_core.specs.Refinement.Follow.{ApartFrom, RoomsOnce}
+use Rattle.hotel_core.proofs.Facts.Follow.{ApartFrom, RoomsOnce}
 use Rattle.hotel_core.proofs.OfTables.KeysInOrder.{AllAfter, InOrder}
 use Rattle.hotel_core.proofs.OfTables.StayCounts.{count_first}
 use Rattle.hotel_core.proofs.OfTables.Tests.{eq_from, eq_self, and_true}

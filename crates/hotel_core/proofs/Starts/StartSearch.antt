@@ -9,7 +9,7 @@ use Rattle.hotel_core.specs.Model.Rows.{Rows, at_number, codes_at}
 use Rattle.hotel_core.specs.Books.Lookups.{first_code_at}
 use Rattle.hotel_core.specs.Model.History.{start}
 use Rattle.hotel_core.specs.Model.Sound.{IsSound}
-use Rattle.hotel_core.specs.Refinement.CodeLaws.{CodesAreFound}
+use Rattle.hotel_core.proofs.Facts.CodeFacts.{CodesAreFound}
 use Rattle.hotel_core.proofs.OfTables.KeysInOrder.{InOrder}
 use Rattle.hotel_core.proofs.OfTables.CodeLists.{cut_alike}
 use Rattle.hotel_core.proofs.OfTables.Tests.{eq_from, eq_self, and_true}

@@ -11,7 +11,7 @@ use Rattle.hotel_core.specs.Model.History.{start}
 use Rattle.hotel_core.specs.Model.Guests.{those_in, secured}
 use Rattle.hotel_core.specs.Model.SoundCards.{room_is, card_is, code_is, stands_at, is_newest, fits_inside}
 use Rattle.hotel_core.specs.Model.Sound.{IsSound}
-use Rattle.hotel_core.specs.Refinement.CodeLaws.{SecuredRoomsFit}
+use Rattle.hotel_core.proofs.Facts.CodeFacts.{SecuredRoomsFit}
 use Rattle.hotel_core.proofs.OfTables.Tests.{eq_from, and_true, or_second, not_both}
 use Rattle.hotel_core.proofs.Invariants.InsideRooms.{one_of_when}
 use Rattle.hotel_core.proofs.OfTables.RowTests.{found_passes}

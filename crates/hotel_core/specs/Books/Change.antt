@@ -2,15 +2,16 @@
 use Rattle.std.specs.Prelude.{ℕ, false, List, [], ◌∷◌, Option, Some, None, ◌+◌, ◌==◌, if◌then◌else◌}
 use Rattle.std.specs.Ordering.{nat_cmp}
 use Rattle.std.specs.Cmp.Lexicographic.{slice_cmp}
-use Rattle.std.specs.BTreeMap.{insert_entry}
+use Rattle.std.specs.BTreeMap.{insert_entry, is_at}
 use Rattle.std.specs.BTreeSet.{insert_key}
+use Rattle.std.specs.Set.{remove_key}
 use Rattle.hotel_nights.specs.declared.stay.StayState.TheVariants as state
 use Rattle.hotel_core.specs.declared.books.rows.RoomRow.{RoomRow}
 use Rattle.hotel_core.specs.declared.books.change.InsideMove.{InsideMove}
 use Rattle.hotel_core.specs.declared.books.change.InsideMove.TheVariants.{Same, Goes, Comes}
 use Rattle.hotel_core.specs.declared.books.change.Change.{Change}
 use Rattle.hotel_core.specs.declared.books.change.Change.TheVariants.{Begin, DayTo, Kind, Room, Reserved, Cancelled, Issue, Spare, CheckedOut, Noted}
-use Rattle.hotel_core.specs.Model.Words.{said_of, pair_cmp, remove_key}
+use Rattle.hotel_core.specs.Model.Words.{said_of, pair_cmp}
 use Rattle.hotel_core.specs.Model.Rows.{Rows, at_number}
 use Rattle.hotel_core.specs.Model.Stays.{in_state}
 
@@ -31,7 +32,7 @@ left_by None rooms = rooms
 -- the cards inside rooms, after a move at a room
 abbrev pub moved : InsideMove → ℕ → List (ℕ × ℕ) → List (ℕ × ℕ)
 moved Same room pairs = pairs
-moved (Goes number) room pairs = remove_key pair_cmp pairs (room, number)
+moved (Goes number) room pairs = remove_key (is_at (pair_cmp (room, number))) pairs
 moved (Comes number) room pairs = insert_key pair_cmp pairs (room, number)
 
 -- how many codes a room has (0 where it isn't there)

@@ -1,30 +1,23 @@
 -- Failures of memory and of the store: those that stand in replies, and how the books counted them.
-use Rattle.std.specs.Prelude.{ℕ, ◌≡◌, ◌≤◌, ◌+◌, ◌-◌, ◌^◌, ◌⊎◌, Bool, true, false, List, [], ◌∷◌, ◌++◌}
+use Rattle.std.specs.Prelude.{ℕ, ◌+◌, List, [], ◌∷◌, ◌++◌}
+use Rattle.keycard_rules.specs.Rise.{HasRisenBy}
 use Rattle.keycard_rules.specs.declared.issued.LookFault.{LookFault}
 use Rattle.keycard_rules.specs.declared.issued.LookFault.TheVariants as look
-use Rattle.hotel_core.specs.declared.command.Command.{Command}
 use Rattle.hotel_core.specs.declared.reply.Reply.{Reply}
 use Rattle.hotel_core.specs.declared.reply.Reply.TheVariants.{Refused}
 use Rattle.hotel_core.specs.declared.reply.Refusal.{Refusal}
 use Rattle.hotel_core.specs.declared.reply.Refusal.TheVariants.{Memory, Store}
-use Rattle.hotel_core.specs.Refinement.Stepping.{copies}
 
--- The count of failures rose by so many or more, or is at its greatest value, where it stays.
-abbrev pub HasRisenBy : ℕ → ℕ → ℕ → Type 0
-HasRisenBy n old new = (old + n ≤ new) ⊎ (2 ^ 64 - 1 ≤ new)
+-- The failure that a reply tells, if it tells one.
+abbrev pub failure_in : Reply → List Refusal
+failure_in (Refused Memory) = Memory ∷ []
+failure_in (Refused Store) = Store ∷ []
+failure_in _ = []
 
--- The failure that a reply tells, where the books counted it. Of a command that copies what it is given, want of memory isn't counted.
-abbrev pub failure_in : Reply → Bool → List Refusal
-failure_in (Refused Memory) true = []
-failure_in (Refused Memory) false = Memory ∷ []
-failure_in (Refused Store) copies = Store ∷ []
-failure_in _ copies = []
-
--- The failures that the replies to commands tell, in order, where the books counted them.
-abbrev pub failures_in : List Command → List Reply → List Refusal
-failures_in (command ∷ commands) (reply ∷ replies) = failure_in reply (copies command) ++ failures_in commands replies
-failures_in [] replies = []
-failures_in (command ∷ commands) [] = []
+-- The failures that replies tell, in order.
+abbrev pub failures_in : List Reply → List Refusal
+failures_in [] = []
+failures_in (reply ∷ replies) = failure_in reply ++ failures_in replies
 
 -- one where the refusal tells this cause
 abbrev pub one_of : LookFault → Refusal → ℕ

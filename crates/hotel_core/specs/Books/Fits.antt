@@ -3,6 +3,8 @@ use Rattle.std.specs.Prelude.{◌≡◌, ◌<◌, ◌-◌, ◌^◌, ◌+◌, Boo
 use Rattle.hotel_core.specs.declared.books.change.Change.{Change}
 use Rattle.hotel_core.specs.declared.books.change.Change.TheVariants as change
 use Rattle.hotel_nights.specs.declared.stay.StayState.TheVariants as state
+use Rattle.hotel_nights.specs.FullNight.{is_standing}
+use Rattle.hotel_core.specs.Model.Words.{said_of}
 use Rattle.hotel_core.specs.Model.Rows.{Rows, has_kind}
 use Rattle.hotel_core.specs.Books.Lookups.{room_at, code_place, stay_at, note_at}
 use Rattle.hotel_core.specs.Books.Change.{made, codes_of}
@@ -14,10 +16,11 @@ HasItsRows (change.Begin day) rows = rows.day ≡ None
 HasItsRows (change.DayTo day) rows = IsSome rows.day
 HasItsRows (change.Kind kind) rows = has_kind rows kind ≡ false
 HasItsRows (change.Room room kind code) rows = (has_kind rows kind ≡ true) × (room_at rows room ≡ None) × (code_place rows code ≡ None)
-HasItsRows (change.Reserved stay) rows = (stay.party ≡ length rows.stays + 1) × (stay.state ≡ state.Booked)
+HasItsRows (change.Reserved stay) rows = (stay.party ≡ length rows.stays + 1) × (stay.state ≡ state.Booked) × (stay_at rows stay.party ≡ None)
 HasItsRows (change.Cancelled party) rows = IsSome (stay_at rows party)
 HasItsRows (change.Issue card room leaves) rows =
     IsSome (room_at rows room) × (codes_of rows room < 2 ^ 32 - 1) × (code_place rows card.link.new_code ≡ None) × (card.number ≡ length rows.cards + 1) × IsSome (stay_at rows card.party)
+    × (said_of (stay_at rows card.party) true (λ stay. is_standing stay.state) ≡ true)
 HasItsRows (change.Spare card) rows = card.number ≡ length rows.cards + 1
 HasItsRows (change.CheckedOut party room) rows = IsSome (stay_at rows party) × IsSome (room_at rows room)
 HasItsRows (change.Noted note lock_place secured insides) rows = IsSome (room_at rows note.room) × (note_at rows note.room note.count ≡ None)

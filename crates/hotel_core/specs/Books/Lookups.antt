@@ -6,6 +6,7 @@ use Rattle.std.specs.BTreeMap.{is_at}
 use Rattle.keycard_rules.specs.declared.card.Card.{Card}
 use Rattle.keycard_rules.specs.Note.{Note}
 use Rattle.hotel_nights.specs.declared.stay.Stay.{Stay}
+use Rattle.hotel_nights.specs.FullNight.{is_full, first_day}
 use Rattle.hotel_core.specs.declared.books.rows.RoomRow.{RoomRow}
 use Rattle.hotel_core.specs.declared.books.rows.CodeRow.{CodeRow}
 use Rattle.hotel_core.specs.Model.Words.{pair_cmp}
@@ -53,6 +54,10 @@ note_at rows room count = lookup (is_at (pair_cmp (room, count))) rows.notes
 -- how many rooms a kind has
 abbrev pub rooms_of_kind : Rows → List ℕ → ℕ
 rooms_of_kind rows kind = count_by (λ row. bytes_eq row.kind kind) (values_of rows.rooms)
+
+-- the first night, of so many from a day on, on which the standing stays of a kind take all its rooms
+abbrev pub first_full_on : Rows → List ℕ → ℕ → ℕ → Option ℕ
+first_full_on rows kind d n = first_day (is_full (values_of rows.stays) kind (rooms_of_kind rows kind)) d n
 
 -- the number after so many, up to 9,999,999
 abbrev pub number_after : ℕ → Option ℕ

@@ -24,12 +24,15 @@ is_begun h = is_some (day h)
 abbrev pub today : History → ℕ
 today h = said_of (day h) 0 (λ d. d)
 
+-- the kind is there
 abbrev pub is_kind : History → List ℕ → Bool
 is_kind h kind = list_any (λ k. bytes_eq k kind) (kinds h)
 
+-- the room is there
 abbrev pub is_room : History → ℕ → Bool
 is_room h room = is_one_of room (keys_of (rooms h))
 
+-- the party has booked, at some time
 abbrev pub is_party : History → ℕ → Bool
 is_party h party = is_one_of party (keys_of (stays h))
 
@@ -37,6 +40,7 @@ is_party h party = is_one_of party (keys_of (stays h))
 abbrev pub stay_is : History → ℕ → (Stay → Bool) → Bool
 stay_is h party test = said_of (at_number (stays h) party) false test
 
+-- the stay is booked, and not yet in house, done or cancelled
 abbrev pub is_booked_state : StayState → Bool
 is_booked_state state.Booked = true
 is_booked_state (state.InHouse room) = false
@@ -54,9 +58,11 @@ room_of_state state.Cancelled = None
 abbrev pub room_of : History → ℕ → Option ℕ
 room_of h party = said_of (at_number (stays h) party) None (λ stay. room_of_state stay.state)
 
+-- the party is booked, and has not yet come
 abbrev pub is_booked : History → ℕ → Bool
 is_booked h party = stay_is h party (λ stay. is_booked_state stay.state)
 
+-- the party is in house
 abbrev pub is_in_house : History → ℕ → Bool
 is_in_house h party = is_some (room_of h party)
 
@@ -80,19 +86,23 @@ is_home h room party = is_that (registered h room) party
 abbrev pub is_taken : History → ℕ → Bool
 is_taken h room = is_some (registered h room)
 
--- Parties and cards are numbered from 1 on, up to 9,999,999.
+-- Parties and cards are numbered from 1 on, up to 9,999,999: there are as many parties as there are numbers
 abbrev pub parties_used_up : History → Bool
 parties_used_up h = nat_le 9999999 (length (stays h))
 
+-- the number that the next party is given
 abbrev pub next_party : History → ℕ
 next_party h = length (stays h) + 1
 
+-- there are as many cards as there are numbers
 abbrev pub cards_used_up : History → Bool
 cards_used_up h = nat_le 9999999 (length (cards h))
 
+-- the number that the next card is given
 abbrev pub next_card : History → ℕ
 next_card h = length (cards h) + 1
 
+-- the link that is said of a party without a card
 abbrev pub no_link : Link
 no_link = record { old_code = 0; new_code = 0 }
 
@@ -100,6 +110,7 @@ no_link = record { old_code = 0; new_code = 0 }
 abbrev pub last_card_of : History → ℕ → Link
 last_card_of h party = said_of (link_of_party h party) no_link (λ link. link)
 
+-- a card of the number was given
 abbrev pub is_card : History → ℕ → Bool
 is_card h number = is_one_of number (keys_of (cards h))
 

@@ -9,6 +9,7 @@ pub record Moment : Type 0 where
   pub day : ℕ
   pub second : ℕ
 
+-- What happened.
 pub data Event : Type 0 where
   -- the first business day is set
   Begun : (day : ℕ) → Event

@@ -1,7 +1,9 @@
 -- Who is registered at a room, which cards are inside, and whether the room is secured.
 use Rattle.std.specs.Prelude.{ℕ, Bool, true, false, List, [], ◌∷◌, Option, Some, None, ◌==◌, ◌&&◌}
+use Rattle.std.specs.BTreeMap.{is_at}
 use Rattle.std.specs.BTreeSet.{insert_key}
-use Rattle.hotel_core.specs.Model.Words.{when, is_that, said_of, pair_cmp, remove_key}
+use Rattle.std.specs.Set.{remove_key}
+use Rattle.hotel_core.specs.Model.Words.{when, is_that, said_of, pair_cmp}
 use Rattle.hotel_core.specs.Model.Rows.{at_number}
 use Rattle.hotel_core.specs.Model.Event.{Install, CheckIn, Transfer, CheckOut, Entered, Left}
 use Rattle.hotel_core.specs.Model.History.{History, start, ◌▷◌}
@@ -23,7 +25,7 @@ registered (h ▷ _) r = registered h r
 abbrev pub insiders : History → List (ℕ × ℕ)
 insiders (start t) = t.inside
 insiders (h ▷ Entered room count number link at) = insert_key pair_cmp (insiders h) (room, number)
-insiders (h ▷ Left room count number link at) = remove_key pair_cmp (insiders h) (room, number)
+insiders (h ▷ Left room count number link at) = remove_key (is_at (pair_cmp (room, number))) (insiders h)
 insiders (h ▷ _) = insiders h
 
 -- the cards of these pairs that are at a room

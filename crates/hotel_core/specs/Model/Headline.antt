@@ -1,13 +1,10 @@
--- What is to be proved of each history that can be reached.
+-- What is proved of each history that can be reached: the headline, and what is assured beside it.
 use Rattle.std.specs.Prelude.{ℕ, ◌≡◌, ◌≤◌, ◌↔◌, true, List, ◌∷◌, ◌++◌, Some, IsSome, Contains, length}
 use Rattle.keycard_rules.specs.declared.card.Card.{Card}
 use Rattle.keycard_rules.specs.declared.card.Link.{Link}
-use Rattle.hotel_core.specs.declared.command.Command.{Command}
-use Rattle.hotel_core.specs.declared.reply.Reply.{Reply}
-use Rattle.hotel_core.specs.Model.Ranges.{IsCommand, IsReply}
 use Rattle.hotel_core.specs.Model.Rows.{at_number}
 use Rattle.hotel_core.specs.Model.Sound.{IsSound}
-use Rattle.hotel_core.specs.Model.Event.{Event, Entered}
+use Rattle.hotel_core.specs.Model.Event.{Entered}
 use Rattle.hotel_core.specs.Model.History.{History, start, ◌▷◌}
 use Rattle.hotel_core.specs.Model.RowsOf.{rows_of}
 use Rattle.hotel_core.specs.Model.Issued.{issued, current}
@@ -18,9 +15,6 @@ use Rattle.hotel_core.specs.Model.Ledger.{passed, awaited, turns}
 use Rattle.hotel_core.specs.Model.Guests.{registered, inside, secured}
 use Rattle.hotel_core.specs.Model.Stays.{nights, rooms_of}
 use Rattle.hotel_core.specs.Model.Cases.{is_room}
-use Rattle.hotel_core.specs.Model.Outcome.{grown}
-use Rattle.hotel_core.specs.Model.Answer.{answer_to}
-use Rattle.hotel_core.specs.Model.Run.{Reached}
 use Rattle.hotel_core.specs.Model.Moved.{NotesMove}
 
 -- No code stands at two places, of one room or of two.
@@ -62,25 +56,8 @@ pub record Headline (h : History) : Type 0 where
   pub safe_room : SafeRoom h
   pub rows_sound : IsSound (rows_of h)
 
--- The headline holds of each history that can be reached.
-abbrev pub HeadlineHolds : Type 0
-HeadlineHolds = (h : History) → Reached h → Headline h
-
 -- What is assured after each step: the headline; that each note moved exactly the codes that it records; and that on no night more stays of a kind are booked and in house than the kind has rooms.
 pub record Assured (h : History) : Type 0 where
   pub headline : Headline h
   pub notes_move : NotesMove h
   pub none_oversold : (kind : List ℕ) (d : ℕ) → nights h kind d ≤ rooms_of h kind
-
--- The rows of a history that can be reached are sound.
-abbrev pub RowsSound : Type 0
-RowsSound = (h : History) → Reached h → IsSound (rows_of h)
-
--- On no night are more stays of a kind booked and in house than the kind has rooms.
-abbrev pub NoOversell : Type 0
-NoOversell = (h : History) → Reached h → (kind : List ℕ) (d : ℕ) → nights h kind d ≤ rooms_of h kind
-
--- A step after a history that can be reached makes one that can be reached.
-abbrev pub StepKeeps : Type 0
-StepKeeps = (h : History) (ahead : List ℕ) (command : Command) (reply : Reply) → IsCommand command → (answer_to h ahead command).reply ≡ reply → IsReply reply → Reached h
-    → Reached (grown h (answer_to h ahead command).happens)

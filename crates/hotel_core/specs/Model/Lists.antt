@@ -23,6 +23,7 @@ use Rattle.hotel_core.specs.Model.Notes.{notes}
 abbrev pub arrivals : History → ℕ → List Stay
 arrivals h day = filter (λ stay. is_booked_state stay.state && nat_le stay.arrive day && nat_lt day stay.depart) (values_of (stays h))
 
+-- the row of a stay at a room
 abbrev pub house_row_of : History → ℕ → Stay → HouseRow
 house_row_of h room stay = record { room = room; party = stay.party; guest = stay.guest; kind = stay.kind; depart = stay.depart; secured = secured h room }
 
@@ -43,6 +44,7 @@ in_places place state (code ∷ codes) = record { place = place; code = code; st
 abbrev pub chain : History → ℕ → List ChainRow
 chain h room = in_places 0 Passed (passed h room) ++ in_places (length (passed h room)) Held (held h room ∷ []) ++ in_places (length (passed h room) + 1) Awaited (awaited h room)
 
+-- the row of a room, where two codes or more are awaited
 abbrev pub behind_row : History → ℕ → Option BehindRow
 behind_row h room = if nat_le 2 (length (awaited h room)) then Some (record { room = room; held = held h room; current = current h room; awaited = length (awaited h room) }) else None
 

@@ -1,24 +1,19 @@
 -- What a note moved: exactly the codes that it records.
 use Rattle.std.specs.Prelude.{ℕ, ◌≡◌, ◌==◌, true, false, List, [], ◌∷◌, ◌++◌}
+use Rattle.keycard_rules.specs.Chain.{Ledger}
 use Rattle.keycard_rules.specs.declared.card.Link.{Link}
 use Rattle.hotel_core.specs.Model.Event.{Event, Entered, Left, Recoded}
 use Rattle.hotel_core.specs.Model.History.{History, start, ◌▷◌}
 use Rattle.hotel_core.specs.Model.Lock.{held}
 use Rattle.hotel_core.specs.Model.Ledger.{passed, awaited, turns}
 
--- A room's codes: those that its lock passed, the one that it holds, and those that it awaits.
-pub record RoomCodes : Type 0 where
-  pub passed : List ℕ
-  pub held : ℕ
-  pub awaited : List ℕ
-
--- the codes of a room after a history
-abbrev pub room_codes : History → ℕ → RoomCodes
-room_codes h r = record { passed = passed h r; held = held h r; awaited = awaited h r }
+-- A room's codes after a history: those that its lock passed, the one that it holds, and those that it awaits.
+abbrev pub ledger : History → ℕ → Ledger
+ledger h r = record { passed = passed h r; held = held h r; awaited = awaited h r }
 
 -- No code of a room moved.
 abbrev pub Stands : History → History → ℕ → Type 0
-Stands h h' r = room_codes h' r ≡ room_codes h r
+Stands h h' r = ledger h' r ≡ ledger h r
 
 -- No code moved at other rooms than this one.
 abbrev pub OthersStand : History → History → ℕ → Type 0
@@ -28,15 +23,15 @@ OthersStand h h' room = (r : ℕ) → (room == r) ≡ false → Stands h h' r
 abbrev pub EntryMoves : History → History → ℕ → Link → Type 0
 EntryMoves h h' room link =
     (turns h room link ≡ true → (later : List ℕ)
-    × (room_codes h room ≡ record { passed = passed h room; held = link.old_code; awaited = link.new_code ∷ later })
-    × (room_codes h' room ≡ record { passed = passed h room ++ link.old_code ∷ []; held = link.new_code; awaited = later }))
+    × (ledger h room ≡ record { passed = passed h room; held = link.old_code; awaited = link.new_code ∷ later })
+    × (ledger h' room ≡ record { passed = passed h room ++ link.old_code ∷ []; held = link.new_code; awaited = later }))
     × (turns h room link ≡ false → (held h room ≡ link.new_code) × Stands h h' room)
 
 -- A recoding moved the codes from the one up to the other: the one, which was held, and those awaited between them passed, and the other is held.
 abbrev pub RecodingMoves : History → History → ℕ → ℕ → ℕ → Type 0
 RecodingMoves h h' room from to = (between : List ℕ) × (later : List ℕ)
-    × (room_codes h room ≡ record { passed = passed h room; held = from; awaited = between ++ to ∷ later })
-    × (room_codes h' room ≡ record { passed = passed h room ++ from ∷ between; held = to; awaited = later })
+    × (ledger h room ≡ record { passed = passed h room; held = from; awaited = between ++ to ∷ later })
+    × (ledger h' room ≡ record { passed = passed h room ++ from ∷ between; held = to; awaited = later })
 
 -- What the event of a note moved between the history before it and the one after it; of a card that left, nothing.
 abbrev pub Moves : Event → History → History → Type 0

@@ -30,9 +30,11 @@ abbrev pub all_notes : History → List ((ℕ × ℕ) × Note)
 all_notes (start t) = t.notes
 all_notes (h ▷ event) = and_note (note_of event) (all_notes h)
 
+-- Both codes of two links are equal.
 abbrev pub same_link : Link → Link → Bool
 same_link a b = (a.old_code == b.old_code) && (a.new_code == b.new_code)
 
+-- Two notes say the same act, with equal numbers.
 abbrev pub same_act : Act → Act → Bool
 same_act (act.Entered n a) (act.Entered m b) = (n == m) && same_link a b
 same_act (act.Left n a) (act.Left m b) = (n == m) && same_link a b

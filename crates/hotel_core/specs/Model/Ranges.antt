@@ -18,6 +18,7 @@ IsDay day = day ≤ 36524
 abbrev pub IsCode : ℕ → Type 0
 IsCode code = code < 2 ^ 48
 
+-- a room has a number from 1 to 9999
 abbrev pub IsRoomNumber : ℕ → Type 0
 IsRoomNumber room = IsNumberUpTo 9999 room
 

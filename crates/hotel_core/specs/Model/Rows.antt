@@ -12,6 +12,7 @@ use Rattle.hotel_core.specs.declared.books.rows.RoomRow.{RoomRow}
 use Rattle.hotel_core.specs.declared.books.rows.CodeRow.{CodeRow}
 use Rattle.hotel_core.specs.Model.Words.{when, said_of}
 
+-- The eight lists.
 pub record Rows : Type 0 where
   -- the business day, once it is set
   pub day : Option ℕ
@@ -30,6 +31,7 @@ pub record Rows : Type 0 where
   -- the notes that were taken, by room and count
   pub notes : List ((ℕ × ℕ) × Note)
 
+-- the rows of an empty desk
 abbrev pub no_rows : Rows
 no_rows = record { day = None; kinds = []; rooms = []; codes = []; stays = []; cards = []; inside = []; notes = [] }
 

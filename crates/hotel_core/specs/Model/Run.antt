@@ -1,5 +1,5 @@
 -- Runs: commands one after the other, with their replies and the history that they make.
-use Rattle.std.specs.Prelude.{ℕ, ◌≡◌, Bool, true, false, List, [], ◌∷◌, Some, drop}
+use Rattle.std.specs.Prelude.{ℕ, ◌≡◌, Bool, true, false, List, [], ◌∷◌, Some, take, drop}
 use Rattle.rand_core.specs.Stream.{Stream}
 use Rattle.hotel_core.specs.declared.command.Command.{Command}
 use Rattle.hotel_core.specs.declared.reply.Reply.{Reply}
@@ -15,13 +15,9 @@ use Rattle.keycard_rules.specs.Draw.{words, past, MovedAtMost}
 use Rattle.hotel_core.specs.Model.Outcome.{Outcome, grown}
 use Rattle.hotel_core.specs.Model.Answer.{answer_to}
 
--- A desk starts with sound rows.
-abbrev pub IsStart : Rows → Type 0
-IsStart t = IsSound t
-
--- The history can be reached: the desk can start so, each event was accepted after those before it, and its values are in their ranges.
+-- The history can be reached: it starts with sound rows, each event was accepted after those before it, and the event's values are in their ranges.
 abbrev pub Reached : History → Type 0
-Reached (start t) = IsStart t
+Reached (start t) = IsSound t
 Reached (h ▷ event) = Reached h × (ahead : List ℕ) × (command : Command) × ((answer_to h ahead command).happens ≡ Some event) × InRange event
 
 -- The rows stand for a history that can be reached.
@@ -65,14 +61,16 @@ pub record Ran : Type 0 where
   -- its replies, in order
   pub replies : List Reply
 
+-- the run, with one more reply before its own
 abbrev pub first_reply : Reply → Ran → Ran
 first_reply reply ran = record ran { replies = reply ∷ ran.replies }
 
+-- the reply of an outcome, and then the run that comes of it
 abbrev pub go_on : Outcome Event → (Outcome Event → Ran) → Ran
 go_on outcome later = first_reply outcome.reply (later outcome)
 
--- The run of commands in which nothing fails, where these are the source's words.
+-- The run of commands in which nothing fails, where these are the source's words; each command is given the next 64.
 abbrev pub run_on : History → List ℕ → List Command → Ran
 run_on h ahead [] = record { history = h; ahead = ahead; replies = [] }
 run_on h ahead (command ∷ commands) =
-    go_on (answer_to h ahead command) (λ outcome. run_on (grown h outcome.happens) (drop outcome.examined ahead) commands)
+    go_on (answer_to h (take 64 ahead) command) (λ outcome. run_on (grown h outcome.happens) (drop outcome.examined ahead) commands)

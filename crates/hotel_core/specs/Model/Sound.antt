@@ -13,6 +13,7 @@ abbrev pub keys_in_order : Rows → Bool
 keys_in_order rows = are_in_order (slice_cmp nat_cmp) rows.kinds && are_in_order nat_cmp (keys_of rows.rooms) && are_in_order nat_cmp (keys_of rows.codes)
     && are_in_order nat_cmp (keys_of rows.stays) && are_in_order nat_cmp (keys_of rows.cards) && are_in_order pair_cmp rows.inside && are_in_order pair_cmp (keys_of rows.notes)
 
+-- Rows are sound where each rule holds.
 pub record IsSound (rows : Rows) : Type 0 where
   -- each table in the order of its keys, no key twice
   pub keys : keys_in_order rows ≡ true

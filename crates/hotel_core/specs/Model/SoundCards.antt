@@ -48,6 +48,7 @@ places_once rows = each_room rows (λ row. count_up 0 (keys_of (codes_by_place r
 
 -- ---- card
 
+-- the rule holds of each card
 abbrev pub each_card : Rows → (Card → Bool) → Bool
 each_card rows rule = list_all (λ (e : ℕ × Card). rule e.1) rows.cards
 
@@ -131,6 +132,7 @@ abbrev pub note_fits : Rows → (ℕ × ℕ) × Note → Bool
 note_fits rows e =
     (e.1.room == e.0.0) && (e.1.count == e.0.1) && is_some (at_number rows.rooms e.0.0) && act_fits rows e.0.0 e.1.act && is_day e.1.day && nat_lt e.1.second 86400
 
+-- each note fits
 abbrev pub notes_fit : Rows → Bool
 notes_fit rows = list_all (note_fits rows) rows.notes
 

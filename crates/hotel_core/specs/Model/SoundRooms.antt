@@ -26,6 +26,7 @@ count_up n (x ∷ xs) = (x == n) && count_up (n + 1) xs
 
 -- ---- meta and kind
 
+-- a day of the calendar
 abbrev pub is_day : ℕ → Bool
 is_day d = nat_le d 36524
 
@@ -43,6 +44,7 @@ kinds_read rows = list_all is_kind rows.kinds
 
 -- ---- room: rules of all rooms
 
+-- the rule holds of each room's row
 abbrev pub each_room : Rows → (RoomRow → Bool) → Bool
 each_room rows rule = list_all (λ (e : ℕ × RoomRow). rule e.1) rows.rooms
 
@@ -54,6 +56,7 @@ room_numbers rows = list_all (λ (e : ℕ × RoomRow). (e.1.room == e.0) && nat_
 abbrev pub lock_places : Rows → Bool
 lock_places rows = each_room rows (λ row. nat_lt row.lock_place row.codes)
 
+-- each room's kind is there
 abbrev pub room_kinds_there : Rows → Bool
 room_kinds_there rows = each_room rows (λ row. has_kind rows row.kind)
 
@@ -61,6 +64,7 @@ room_kinds_there rows = each_room rows (λ row. has_kind rows row.kind)
 abbrev pub codes_few : Rows → Bool
 codes_few rows = each_room rows (λ row. nat_le row.codes (length rows.cards + 1))
 
+-- a room has at most 9,999,999 notes
 abbrev pub note_counts : Rows → Bool
 note_counts rows = each_room rows (λ row. nat_le row.notes 9999999)
 
@@ -78,6 +82,7 @@ secured_hold_last rows = each_room rows (λ row. not row.secured || ((row.lock_p
 
 -- ---- stay: rules of all stays
 
+-- the rule holds of each stay
 abbrev pub each_stay : Rows → (Stay → Bool) → Bool
 each_stay rows rule = list_all (λ (e : ℕ × Stay). rule e.1) rows.stays
 
@@ -89,6 +94,7 @@ stay_numbers rows = list_all (λ (e : ℕ × Stay). e.1.party == e.0) rows.stays
 abbrev pub guests_read : Rows → Bool
 guests_read rows = each_stay rows (λ stay. is_guest stay.guest)
 
+-- each stay's kind is there
 abbrev pub stay_kinds_there : Rows → Bool
 stay_kinds_there rows = each_stay rows (λ stay. has_kind rows stay.kind)
 
@@ -104,10 +110,11 @@ has_party rows party room = said_of (at_number rows.rooms room) false (λ row. i
 abbrev pub stay_rooms : Rows → Bool
 stay_rooms rows = each_stay rows (λ stay. said_of (room_of_state stay.state) true (has_party rows stay.party))
 
--- how many open stays of a kind take the night of a day, and how many rooms the kind has
+-- how many open stays of a kind take the night of a day
 abbrev pub stays_on : Rows → List ℕ → ℕ → ℕ
 stays_on rows kind d = count_by (takes kind d) (values_of rows.stays)
 
+-- how many rooms a kind has
 abbrev pub rooms_with : Rows → List ℕ → ℕ
 rooms_with rows kind = count_by (λ (row : RoomRow). bytes_eq row.kind kind) (values_of rows.rooms)
 

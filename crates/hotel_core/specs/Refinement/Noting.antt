@@ -8,7 +8,6 @@ use Rattle.hotel_core.specs.declared.reply.Reply.TheVariants as reply
 use Rattle.hotel_core.specs.declared.books.rows.RoomRow.{RoomRow}
 use Rattle.hotel_core.specs.Model.Words.{is_one_of}
 use Rattle.hotel_core.specs.Model.Rows.{Rows}
-use Rattle.hotel_core.specs.Model.Guests.{are_none}
 use Rattle.hotel_core.specs.Refinement.ChangeOf.{comes}
 use Rattle.hotel_core.specs.Books.Lookups.{room_at, inside_at, note_at}
 use Rattle.hotel_core.specs.Refinement.OnRows.{place_on, secured_after_on}
@@ -23,6 +22,6 @@ abbrev pub opened_on : Rows → Note → ℕ → Link → Outcome Change
 opened_on rows note number link =
     accepted reply.Taken (change.Noted note (place_on rows link.new_code) (secured_after_on rows note.room link) (comes (is_one_of number (inside_at rows note.room)) number))
 
--- an entry by the code at a place secures a room of this row in which these cards are
-abbrev pub secured_by : RoomRow → ℕ → List ℕ → Bool
-secured_by row place cards = if are_none cards && (place + 1 == row.codes) then true else row.secured
+-- after an entry by the code at a place, a room of this row is secured, where no card was inside or some were
+abbrev pub secured_by : RoomRow → ℕ → Bool → Bool
+secured_by row place was_empty = if was_empty && (place + 1 == row.codes) then true else row.secured

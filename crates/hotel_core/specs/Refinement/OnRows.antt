@@ -8,7 +8,6 @@ use Rattle.keycard_rules.specs.Lock.{turn}
 use Rattle.keycard_rules.specs.Draw.{draw_from}
 use Rattle.hotel_nights.specs.declared.stay.Stay.{Stay}
 use Rattle.hotel_nights.specs.declared.stay.StayState.TheVariants as state
-use Rattle.hotel_nights.specs.FullNight.{is_full, first_day}
 use Rattle.hotel_core.specs.declared.books.change.Change.{Change}
 use Rattle.hotel_core.specs.declared.books.change.Change.TheVariants as change
 use Rattle.hotel_core.specs.declared.books.change.InsideMove.TheVariants.{Same, Goes}
@@ -27,7 +26,7 @@ use Rattle.hotel_core.specs.Model.Cards.{card_of}
 use Rattle.hotel_core.specs.Model.Cases.{is_booked_state, room_of_state, no_link}
 use Rattle.hotel_core.specs.Books.Change.{codes_of}
 use Rattle.hotel_core.specs.Refinement.ChangeOf.{comes}
-use Rattle.hotel_core.specs.Books.Lookups.{room_at, codes_in, code_place, code_at, stay_at, stays_of_kind, card_at, inside_at, note_at, rooms_of_kind, number_after}
+use Rattle.hotel_core.specs.Books.Lookups.{room_at, codes_in, code_place, code_at, stay_at, card_at, inside_at, note_at, first_full_on, number_after}
 use Rattle.hotel_core.specs.Model.Outcome.{Outcome, needs, bars, unless, accepted, said, refused, by_draw}
 
 -- the business day (0 where none is set)
@@ -121,7 +120,7 @@ checks_on rows (command.AddRoom room kind) =
     needs (is_some rows.day) NotBegun ∷ needs (has_kind rows kind) NoKind ∷ bars (is_some (room_at rows room)) RoomExists ∷ []
 checks_on rows (command.Reserve guest kind arrive nights) =
     needs (is_some rows.day) NotBegun ∷ needs (has_kind rows kind) NoKind ∷ bars (nat_lt arrive (day_on rows)) PastArrival
-    ∷ bars (nat_lt 36524 (arrive + nights)) PastEnd ∷ option_map KindFull (first_day (is_full (stays_of_kind rows kind) kind (rooms_of_kind rows kind)) arrive nights)
+    ∷ bars (nat_lt 36524 (arrive + nights)) PastEnd ∷ option_map KindFull (first_full_on rows kind arrive nights)
     ∷ bars (is_none (number_after (length rows.stays))) NumbersUsedUp ∷ []
 checks_on rows (command.Cancel party) =
     needs (is_some rows.day) NotBegun ∷ needs (is_some (stay_at rows party)) NoParty ∷ needs (stay_is_on rows party (λ stay. is_booked_state stay.state)) NotBooked ∷ []

@@ -1,5 +1,5 @@
 -- One step over books: it goes as the outcome says, or it fails and changes nothing.
-use Rattle.std.specs.Prelude.{ℕ, ◌≡◌, ◌≤◌, ◌<◌, ◌-◌, ◌^◌, ◌⊎◌, Bool, true, false, Option, Some, None, IsSome}
+use Rattle.std.specs.Prelude.{ℕ, ◌≡◌, ◌≤◌, ◌<◌, ◌-◌, ◌^◌, Bool, true, false, Option, Some, None, IsSome}
 use Rattle.keycard_rules.specs.declared.issued.LookFault.{LookFault}
 use Rattle.rand_core.specs.Stream.{Stream}
 use Rattle.keycard_rules.specs.Draw.{past, MovedAtMost}
@@ -8,7 +8,6 @@ use Rattle.keycard_rules.specs.declared.card.Card.{Card}
 use Rattle.hotel_core.specs.declared.books.change.Change.{Change}
 use Rattle.hotel_core.specs.declared.reply.Reply.{Reply}
 use Rattle.hotel_core.specs.declared.reply.Reply.TheVariants as reply
-use Rattle.hotel_core.specs.declared.reply.Refusal.TheVariants.{Memory, Store}
 use Rattle.hotel_core.specs.declared.books.rows.RoomRow.{RoomRow}
 use Rattle.hotel_core.specs.Model.Rows.{Rows}
 use Rattle.hotel_core.specs.Books.Lookups.{room_at, code_at, code_place, card_at, note_at}
@@ -42,14 +41,9 @@ pub record AreWhole (rows : Rows) : Type 0 where
   pub homes : (party room : ℕ) → home_on rows party ≡ Some room → IsSome (room_at rows room) × IsSome (code_at rows room (codes_of rows room - 2))
   pub cards : (number : ℕ) (card : Card) → card_at rows number ≡ Some card → IsSome (code_place rows card.link.new_code)
 
--- the step copies what it was given, and may lack the memory for that
-abbrev pub MayLack : Bool → Reply → Type 0
-MayLack true answer = answer ≡ reply.Refused Memory
-MayLack false answer = ⊥
-
 -- A part of a step from the state old to new, with the source moved to rest, where the outcome says what comes of it.
-pub record StepsAs {S : Type 0} (I : IssuedOf S) (B : BooksOf S) (copies : Bool) (outcome : Rows → Outcome Change) (old new : S) (source rest : Stream) (answer : Reply) : Type 0 where
+pub record StepsAs {S : Type 0} (I : IssuedOf S) (B : BooksOf S) (outcome : Rows → Outcome Change) (old new : S) (source rest : Stream) (answer : Reply) : Type 0 where
   pub goes : I.is_clean new → Goes (outcome (B.rows old)) (B.rows old) source answer (B.rows new) rest
   pub was_clean : I.is_clean new → I.is_clean old
   pub counted : NoFewer (I.failures old) (I.failures new)
-  pub fault : I.is_clean new → AreWhole (B.rows old) → (cause : LookFault) → answer ≡ reply.Refused (refusal_of cause) → HasRisen (I.failures old cause) (I.failures new cause) ⊎ MayLack copies answer
+  pub fault : I.is_clean new → AreWhole (B.rows old) → (cause : LookFault) → answer ≡ reply.Refused (refusal_of cause) → HasRisen (I.failures old cause) (I.failures new cause)

@@ -1,12 +1,7 @@
--- Which commands copy, and which take no memory.
+-- Which commands take no memory.
 use Rattle.std.specs.Prelude.{Bool, true, false}
 use Rattle.hotel_core.specs.declared.command.Command.{Command}
 use Rattle.hotel_core.specs.declared.command.Command.TheVariants as command
-
--- a booking copies its guest's name
-abbrev pub copies : Command → Bool
-copies (command.Reserve guest kind arrive nights) = true
-copies _ = false
 
 -- the first business day and the next one take no memory
 abbrev pub takes_none : Command → Bool

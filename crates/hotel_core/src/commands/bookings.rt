@@ -1,9 +1,8 @@
 //! Bookings.
-ghost use Rattle.std.specs.Prelude.{◌≡◌, ◌-◌, false, true, Option, Some, IfOk};
+ghost use Rattle.std.specs.Prelude.{◌≡◌, ◌-◌, false, true, Option, Some};
 ghost use Rattle.rand_core.specs.Stream.{Stream};
-ghost use Rattle.hotel_nights.specs.FullNight.{is_full, first_day};
 ghost use Rattle.keycard_rules.specs.Draw.{words};
-ghost use Rattle.hotel_core.specs.Books.Lookups.{stays_of_kind, rooms_of_kind};
+ghost use Rattle.hotel_core.specs.Books.Lookups.{first_full_on};
 ghost use Rattle.hotel_core.specs.Refinement.Finds.{Finds, AnyRows, reply_of};
 ghost use Rattle.hotel_core.specs.Refinement.OnRows.{outcome_on};
 ghost use Rattle.hotel_core.specs.Model.Ranges.{IsCommand};
@@ -17,9 +16,8 @@ use crate::commands::changes::make;
 use crate::commands::guest_moves::is_booked;
 use crate::commands::look_ups::{is_kind, known, next_party, stay_there, today};
 use crate::reply::{Refusal, Reply};
-use hotel_nights::{Day, Guest, KindCode, Nights, Stay, StayState, first_full_night};
+use hotel_nights::{Day, Guest, KindCode, Nights, Stay, StayState};
 use keycard_rules::PartyNo;
-use std::alloc::AllocError;
 
 /// The first night of a stay on which each room of the kind is taken.
 fn first_full<B: Books>(
@@ -29,18 +27,15 @@ fn first_full<B: Books>(
     depart: Day,
 ) -> Result<Option<Day>, Refusal>
     ensures { Finds B.Issued B.Books.own AnyRows Store
-        (λ rows. Some (first_day (is_full (stays_of_kind rows kind.now) kind.now (rooms_of_kind rows kind.now)) arrive (depart - arrive))) books.old books.new result }
+        (λ rows. Some (first_full_on rows kind.now arrive (depart - arrive))) books.old books.new result }
 {
-    let stays = books.stays_of_kind(kind);
-    let stays = known(stays)?;
-    let rooms = books.rooms_of_kind(kind);
-    let rooms = known(rooms)?;
-    Ok(first_full_night(&stays, kind, rooms, arrive, depart))
+    let night = books.full_night(kind, arrive, depart);
+    known(night)
 }
 
 /// Gives up a booking.
 pub(crate) fn cancel<B: Books>(books: &mut B, party: PartyNo) -> Result<Reply, Refusal>
-    ensures { (source : Stream) → StepsAs B.Issued B.Books.own false (λ rows. outcome_on rows (words 64 source) (command.Cancel party)) books.old books.new source source (reply_of result) }
+    ensures { (source : Stream) → StepsAs B.Issued B.Books.own (λ rows. outcome_on rows (words 64 source) (command.Cancel party)) books.old books.new source source (reply_of result) }
 {
     today(books)?;
     let stay = stay_there(books, party)?;
@@ -50,10 +45,12 @@ pub(crate) fn cancel<B: Books>(books: &mut B, party: PartyNo) -> Result<Reply, R
     make(books, Change::Cancelled(party), Reply::Cancelled)
 }
 
-fn again(guest: &Guest) -> Result<Guest, AllocError>
-    ensures { IfOk result (λ g. g ≡ guest.now) }
+/// A copy of a guest's name.
+fn copied<B: Books>(books: &mut B, guest: &Guest) -> Result<Guest, Refusal>
+    ensures { Finds B.Issued B.Books.own AnyRows Store (λ _. Some guest.now) books.old books.new result }
 {
-    guest.clone()
+    let copy = books.copy_guest(guest);
+    known(copy)
 }
 
 /// Books a room of a kind; the guest's name is copied.
@@ -65,7 +62,7 @@ pub(crate) fn reserve<B: Books>(
     nights: Nights,
 ) -> Result<Reply, Refusal>
     requires { IsCommand (command.Reserve guest.now kind.now arrive nights) }
-    ensures { (source : Stream) → StepsAs B.Issued B.Books.own true
+    ensures { (source : Stream) → StepsAs B.Issued B.Books.own
         (λ rows. outcome_on rows (words 64 source) (command.Reserve guest.now kind.now arrive nights)) books.old books.new source source (reply_of result) }
 {
     let today = today(books)?;
@@ -82,9 +79,7 @@ pub(crate) fn reserve<B: Books>(
         return Err(Refusal::KindFull(night));
     }
     let party = next_party(books)?;
-    let Ok(guest) = again(guest) else {
-        return Err(Refusal::Memory);
-    };
+    let guest = copied(books, guest)?;
     let kind = *kind;
     let state = StayState::Booked;
     let stay = Stay {

@@ -1,5 +1,5 @@
 //! Cards that open a door from outside.
-ghost use Rattle.std.specs.Prelude.{◌≡◌, ◌+◌, true, false, is_some};
+ghost use Rattle.std.specs.Prelude.{◌≡◌, ◌+◌, true, false, is_some, not};
 ghost use Rattle.rand_core.specs.Stream.{Stream};
 ghost use Rattle.keycard_rules.specs.Lock.{turn};
 ghost use Rattle.keycard_rules.specs.declared.note.Act.TheVariants as act;
@@ -15,7 +15,7 @@ use crate::books::Books;
 use crate::books::change::{Change, InsideMove};
 use crate::books::rows::RoomRow;
 use crate::commands::changes::make;
-use crate::commands::lock_codes::{cards_inside, is_inside, issued_place, same_link};
+use crate::commands::lock_codes::{has_inside, is_inside, issued_place, same_link};
 use crate::commands::look_ups::card_there;
 use crate::commands::room_cards::code_in;
 use crate::reply::{Refusal, Reply};
@@ -28,12 +28,12 @@ fn opens(held: Code, link: &Link) -> bool
     turn(held, link).is_some()
 }
 
-/// Whether a room is secured after an entry by the code at a place, where these cards are inside.
-fn is_secured_by(row: &RoomRow, place: u32, cards: &[CardNo]) -> bool
-    ensures { result ≡ secured_by row.now place cards.now }
+/// Whether a room is secured after an entry by the code at a place, where cards are inside or none is.
+fn is_secured_by(row: &RoomRow, place: u32, has_inside: bool) -> bool
+    ensures { result ≡ secured_by row.now place (not has_inside) }
 {
     let is_current = u64::from(place) + 1 == u64::from(row.codes);
-    (cards.is_empty() && is_current) || row.secured
+    (!has_inside && is_current) || row.secured
 }
 
 /// How a card comes in.
@@ -57,12 +57,13 @@ fn open<B: Books>(
 ) -> Result<Reply, Refusal>
     requires known { B.is_clean books.old → IsUntaken note.now row.now (B.rows books.old) × (has_link_on (B.rows books.old) number link.now ≡ true) }
     requires outcome { B.is_clean books.old → IsOutcome (B.rows books.old) (opened_on (B.rows books.old) note.now number link.now) }
-    ensures { (source : Stream) → StepsAs B.Issued B.Books.own false (λ rows. opened_on rows note.now number link.now) books.old books.new source source (reply_of result) }
+    ensures { (source : Stream) → StepsAs B.Issued B.Books.own (λ rows. opened_on rows note.now number link.now) books.old books.new source source (reply_of result) }
 {
     let lock_place = issued_place(books, link.new_code)?.place;
-    let cards = cards_inside(books, note.room())?;
-    let secured = is_secured_by(row, lock_place, &cards);
-    let insides = comes(number, is_inside(number, &cards));
+    let has_inside = has_inside(books, note.room())?;
+    let is_inside = is_inside(books, note.room(), number)?;
+    let secured = is_secured_by(row, lock_place, has_inside);
+    let insides = comes(number, is_inside);
     let note = *note;
     make(
         books,
@@ -86,7 +87,7 @@ pub(crate) fn enter<B: Books>(
 ) -> Result<Reply, Refusal>
     requires untaken { B.is_clean books.old → IsUntaken note.now row.now (B.rows books.old) }
     requires outcome { B.is_clean books.old → IsOutcome (B.rows books.old) (told_on (B.rows books.old) note.now (act.Entered number link.now)) }
-    ensures { (source : Stream) → StepsAs B.Issued B.Books.own false (λ rows. told_on rows note.now (act.Entered number link.now)) books.old books.new source source (reply_of result) }
+    ensures { (source : Stream) → StepsAs B.Issued B.Books.own (λ rows. told_on rows note.now (act.Entered number link.now)) books.old books.new source source (reply_of result) }
 {
     let card = card_there(books, number)?;
     if !same_link(&card.link, link) {

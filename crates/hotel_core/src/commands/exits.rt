@@ -12,7 +12,7 @@ use crate::books::Books;
 use crate::books::change::{Change, InsideMove};
 use crate::books::rows::RoomRow;
 use crate::commands::changes::make;
-use crate::commands::lock_codes::{cards_inside, is_inside, same_link};
+use crate::commands::lock_codes::{is_inside, same_link};
 use crate::commands::look_ups::card_there;
 use crate::reply::{Refusal, Reply};
 use keycard_rules::{CardNo, Link, LockNote};
@@ -27,14 +27,13 @@ pub(crate) fn leave<B: Books>(
 ) -> Result<Reply, Refusal>
     requires untaken { B.is_clean books.old → IsUntaken note.now row.now (B.rows books.old) }
     requires outcome { B.is_clean books.old → IsOutcome (B.rows books.old) (told_on (B.rows books.old) note.now (act.Left number link.now)) }
-    ensures { (source : Stream) → StepsAs B.Issued B.Books.own false (λ rows. told_on rows note.now (act.Left number link.now)) books.old books.new source source (reply_of result) }
+    ensures { (source : Stream) → StepsAs B.Issued B.Books.own (λ rows. told_on rows note.now (act.Left number link.now)) books.old books.new source source (reply_of result) }
 {
     let card = card_there(books, number)?;
     if !same_link(&card.link, link) {
         return Err(Refusal::CardDiffers);
     }
-    let cards = cards_inside(books, note.room())?;
-    if !is_inside(number, &cards) {
+    if !is_inside(books, note.room(), number)? {
         return Err(Refusal::NotInside);
     }
     let change = Change::Noted {

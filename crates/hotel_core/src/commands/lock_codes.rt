@@ -1,8 +1,8 @@
 //! What a note of a lock is compared with in the books.
-ghost use Rattle.std.specs.Prelude.{◌≡◌, Option, Some, None, IsSome};
-ghost use Rattle.std.specs.Result.{result_map_both};
+ghost use Rattle.std.specs.Prelude.{◌≡◌, Option, Some, None, IsSome, not};
 ghost use Rattle.hotel_core.specs.Refinement.Finds.{Finds, AnyRows};
 ghost use Rattle.hotel_core.specs.Books.Lookups.{code_place, inside_at, note_at};
+ghost use Rattle.hotel_core.specs.Model.Guests.{are_none};
 ghost use Rattle.hotel_core.specs.Model.Notes.{same_link};
 ghost use Rattle.hotel_core.specs.Model.Words.{is_one_of};
 ghost use Rattle.hotel_core.specs.declared.reply.Refusal.TheVariants.{NotAwaited, Store};
@@ -40,18 +40,24 @@ pub(crate) fn awaited_place<B: Books>(books: &mut B, code: Code) -> Result<CodeR
     there_or(row, Refusal::NotAwaited)
 }
 
-/// The numbers of the cards inside a room.
-pub(crate) fn cards_inside<B: Books>(books: &mut B, room: RoomNo) -> Result<Vec<CardNo>, Refusal>
-    ensures { Finds B.Issued B.Books.own AnyRows Store (λ rows. Some (inside_at rows room)) books.old books.new (result_map_both (λ v. v.items) (λ why. why) result) }
+/// Whether a card is inside a room.
+pub(crate) fn is_inside<B: Books>(
+    books: &mut B,
+    room: RoomNo,
+    number: CardNo,
+) -> Result<bool, Refusal>
+    ensures { Finds B.Issued B.Books.own AnyRows Store (λ rows. Some (is_one_of number (inside_at rows room))) books.old books.new result }
 {
-    let cards = books.inside(room);
-    known(cards)
+    let answer = books.is_inside(room, number);
+    known(answer)
 }
 
-pub(crate) fn is_inside(number: CardNo, cards: &[CardNo]) -> bool
-    ensures { result ≡ is_one_of number cards.now }
+/// Whether any card is inside a room.
+pub(crate) fn has_inside<B: Books>(books: &mut B, room: RoomNo) -> Result<bool, Refusal>
+    ensures { Finds B.Issued B.Books.own AnyRows Store (λ rows. Some (not (are_none (inside_at rows room)))) books.old books.new result }
 {
-    cards.contains(&number)
+    let answer = books.has_inside(room);
+    known(answer)
 }
 
 pub(crate) fn same_link(a: &Link, b: &Link) -> bool

@@ -31,7 +31,7 @@ fn same_note(kept: &LockNote, note: &LockNote) -> bool
 fn take_new<B: Books>(books: &mut B, note: &LockNote, row: &RoomRow) -> Result<Reply, Refusal>
     requires untaken { B.is_clean books.old → IsUntaken note.now row.now (B.rows books.old) }
     requires outcome { B.is_clean books.old → IsOutcome (B.rows books.old) (reported_on (B.rows books.old) note.now None) }
-    ensures { (source : Stream) → StepsAs B.Issued B.Books.own false (λ rows. reported_on rows note.now None) books.old books.new source source (reply_of result) }
+    ensures { (source : Stream) → StepsAs B.Issued B.Books.own (λ rows. reported_on rows note.now None) books.old books.new source source (reply_of result) }
 {
     let count = note.count().value();
     if count <= row.notes {
@@ -52,7 +52,7 @@ fn take_new<B: Books>(books: &mut B, note: &LockNote, row: &RoomRow) -> Result<R
 /// Takes a note of a lock.
 pub(crate) fn take_note<B: Books>(books: &mut B, note: &LockNote) -> Result<Reply, Refusal>
     requires { IsCommand (command.Reported note.now) }
-    ensures { (source : Stream) → StepsAs B.Issued B.Books.own false (λ rows. outcome_on rows (words 64 source) (command.Reported note.now)) books.old books.new source source (reply_of result) }
+    ensures { (source : Stream) → StepsAs B.Issued B.Books.own (λ rows. outcome_on rows (words 64 source) (command.Reported note.now)) books.old books.new source source (reply_of result) }
 {
     today(books)?;
     let row = room_there(books, note.room())?;

@@ -58,7 +58,7 @@ pub(crate) fn issue<B: Books, R: Rng>(
 ) -> Result<Reply, Refusal>
     requires there { B.is_clean books.old → room_at (B.rows books.old) room ≡ Some row.now }
     requires outcome { B.is_clean books.old → IsOutcome (B.rows books.old) (issued_on (B.rows books.old) (words 64 (R.stream source.old)) party room leaves) }
-    ensures { StepsAs B.Issued B.Books.own false (λ rows. issued_on rows (words 64 (R.stream source.old)) party room leaves) books.old books.new (R.stream source.old) (R.stream source.new) (reply_of result) }
+    ensures { StepsAs B.Issued B.Books.own (λ rows. issued_on rows (words 64 (R.stream source.old)) party room leaves) books.old books.new (R.stream source.old) (R.stream source.new) (reply_of result) }
 {
     let number = next_card(books)?;
     let old_code = current_code(books, room, row)?;

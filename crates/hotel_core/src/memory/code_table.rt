@@ -3,7 +3,7 @@ ghost use Rattle.std.specs.Prelude.{◌≡◌, ℕ, Some, None, [], OnOk, OnErr}
 ghost use Rattle.std.specs.Ordering.{nat_cmp};
 ghost use Rattle.std.specs.BTreeMap.{is_at, insert_entry};
 ghost use Rattle.std.specs.Map.{remove_entry, keys_of};
-ghost use Rattle.keycard_rules.specs.Draw.{is_among};
+ghost use Rattle.keycard_rules.specs.Draw.{is_one_of};
 ghost use Rattle.hotel_core.specs.Model.Rows.{at_number};
 ghost use Rattle.hotel_core.specs.Books.Lookups.{first_code_at};
 
@@ -50,7 +50,7 @@ impl CodeTable {
     }
 
     pub(crate) fn has(&self, code: Code) -> bool
-        ensures { result ≡ is_among (keys_of self.now) code }
+        ensures { result ≡ is_one_of code (keys_of self.now) }
     {
         self.codes.contains_key(&code)
     }

@@ -1,6 +1,7 @@
 //! The cards inside rooms, found by room.
-ghost use Rattle.std.specs.Prelude.{◌≡◌, ℕ, [], IfOk, OnOk, OnErr};
-ghost use Rattle.hotel_core.specs.Model.Guests.{those_in};
+ghost use Rattle.std.specs.Prelude.{◌≡◌, ℕ, [], not, IfOk, OnOk, OnErr};
+ghost use Rattle.hotel_core.specs.Model.Words.{is_one_of};
+ghost use Rattle.hotel_core.specs.Model.Guests.{those_in, are_none};
 ghost use Rattle.hotel_core.specs.Books.Change.{moved};
 
 use crate::books::change::InsideMove;
@@ -46,6 +47,23 @@ impl InsideTable {
             found.push(pair.1)?;
         }
         Ok(found)
+    }
+
+    /// Whether a card is inside a room.
+    pub(crate) fn has(&self, room: RoomNo, number: CardNo) -> bool
+        ensures { result ≡ is_one_of number (those_in self.now room) }
+    {
+        self.pairs.contains(&(room, number))
+    }
+
+    /// Whether any card is inside a room.
+    pub(crate) fn has_any(&self, room: RoomNo) -> bool
+        ensures { result ≡ not (are_none (those_in self.now room)) }
+    {
+        let least = CardNo::new(1).unwrap();
+        let most = CardNo::new(9_999_999).unwrap();
+        let mut pairs = self.pairs.range((room, least)..=(room, most));
+        pairs.next().is_some()
     }
 
     /// A card comes to a room, goes from it, or neither; a refusal changes nothing.

@@ -14,7 +14,7 @@ use crate::books::list_rows::{BehindRow, ChainRow, HouseRow};
 use crate::books::rows::{CodeRow, NextNumbers, RoomRow};
 use crate::books::walks::{Sink, WalkFault, Walks};
 use crate::memory::tables::Tables;
-use hotel_nights::{Day, KindCode, Stay};
+use hotel_nights::{Day, Guest, KindCode, Stay};
 use keycard_rules::{Card, CardNo, Code, Count, Issued, LockNote, LookFault, PartyNo, RoomNo};
 use std::alloc::Global;
 use std::marker::Model;
@@ -137,6 +137,22 @@ impl Books for ListBooks {
         }
     }
 
+    fn full_night(
+        &mut self,
+        kind: &KindCode,
+        arrive: Day,
+        depart: Day,
+    ) -> Result<Option<Day>, LookFault> {
+        Ok(self.tables.full_night(kind, arrive, depart))
+    }
+
+    fn copy_guest(&mut self, guest: &Guest) -> Result<Guest, LookFault> {
+        match guest.clone() {
+            Ok(copy) => Ok(copy),
+            Err(_) => Err(self.wanting()),
+        }
+    }
+
     fn card(&mut self, number: CardNo) -> Result<Option<Card>, LookFault> {
         Ok(self.tables.card(number))
     }
@@ -146,6 +162,14 @@ impl Books for ListBooks {
             Ok(numbers) => Ok(numbers),
             Err(_) => Err(self.wanting()),
         }
+    }
+
+    fn is_inside(&mut self, room: RoomNo, number: CardNo) -> Result<bool, LookFault> {
+        Ok(self.tables.is_inside(room, number))
+    }
+
+    fn has_inside(&mut self, room: RoomNo) -> Result<bool, LookFault> {
+        Ok(self.tables.has_inside(room))
     }
 
     fn note(&mut self, room: RoomNo, count: Count) -> Result<Option<LockNote>, LookFault> {

@@ -2,15 +2,19 @@
 //!
 //! New rows come first, since they may want memory; what was put in is taken out again where a later one finds none.
 //! Rows that are there are changed last, which takes no memory.
-ghost use Rattle.std.specs.Prelude.{◌≡◌, ℕ, ◌-◌, ◌^◌, ◌<◌, Some, None, false, IsSome, OnOk, OnErr, IsOk};
+ghost use Rattle.std.specs.Prelude.{◌≡◌, ℕ, ◌-◌, ◌^◌, ◌<◌, Some, None, true, false, IsSome, OnOk, OnErr, IsOk};
 ghost use Rattle.hotel_core.specs.declared.books.change.Change.TheVariants as change;
-ghost use Rattle.hotel_core.specs.Books.Lookups.{room_at, code_place, note_at};
+ghost use Rattle.hotel_core.specs.Books.Lookups.{room_at, code_place, stay_at, note_at};
 ghost use Rattle.hotel_core.specs.Books.Change.{made, codes_of};
+ghost use Rattle.hotel_nights.specs.FullNight.{is_standing};
+ghost use Rattle.hotel_nights.specs.declared.stay.StayState.TheVariants as state;
+ghost use Rattle.hotel_core.specs.Model.Words.{said_of};
+ghost use Rattle.hotel_core.specs.Model.Rows.{has_kind};
 ghost use Rattle.hotel_core.specs.Books.Fits.{HasItsRows, takes_memory};
 
 use crate::books::change::{Change, InsideMove};
 use crate::books::rows::{CodeRow, RoomRow};
-use crate::memory::row_changes::{codes_issued, issue_at, leave, leave_any, note_at, set_state};
+use crate::memory::row_changes::{codes_issued, issue_at, leave, leave_any, note_at};
 use crate::memory::tables::Tables;
 use hotel_nights::{Day, KindCode, Stay, StayState};
 use keycard_rules::{Card, Code, LockNote, Memory, PartyNo, RoomNo};
@@ -61,13 +65,14 @@ impl Tables {
     }
 
     pub(crate) fn add_kind(&mut self, kind: KindCode) -> Result<(), Memory>
+        requires { has_kind self.old kind ≡ false }
         ensures ok { OnOk result (self.new ≡ made (change.Kind kind) self.old) }
         ensures err { OnErr result (self.new ≡ self.old) }
     {
-        match self.kinds.insert(kind) {
-            Ok(_) => Ok(()),
-            Err(_) => Err(Memory),
-        }
+        let Ok(()) = self.kinds.add_kind(kind) else {
+            return Err(Memory);
+        };
+        Ok(())
     }
 
     /// Adds a room and its first code.
@@ -77,6 +82,7 @@ impl Tables {
         kind: KindCode,
         code: Code,
     ) -> Result<(), Memory>
+        requires there { has_kind self.old kind ≡ true }
         requires new_room { room_at self.old room ≡ None }
         requires new_code { code_place self.old code ≡ None }
         ensures ok { OnOk result (self.new ≡ made (change.Room room kind code) self.old) }
@@ -98,24 +104,23 @@ impl Tables {
             self.rooms.remove(&room);
             return Err(Memory);
         };
+        let _in_range = room.value();
+        self.kinds.add_room(&kind);
         Ok(())
     }
 
     pub(crate) fn add_stay(&mut self, stay: Stay) -> Result<(), Memory>
+        requires { stay_at self.old stay.party ≡ None }
         ensures ok { OnOk result (self.new ≡ made (change.Reserved stay) self.old) }
         ensures err { OnErr result (self.new ≡ self.old) }
     {
-        let party = stay.party;
-        match self.stays.insert(party, stay) {
-            Ok(_) => Ok(()),
-            Err(_) => Err(Memory),
-        }
+        self.stays.insert(stay)
     }
 
     fn cancel(&mut self, party: PartyNo)
         ensures { self.new ≡ made (change.Cancelled party) self.old }
     {
-        set_state(&mut self.stays, party, StayState::Cancelled);
+        self.stays.end(party, StayState::Cancelled);
     }
 
     /// Adds a new code and a card with it; the card's party comes to the room, and leaves another one where that is named.
@@ -128,6 +133,7 @@ impl Tables {
         requires there { IsSome (room_at self.old room) }
         requires few { codes_of self.old room < 2 ^ 32 - 1 }
         requires new_code { code_place self.old card.now.link.new_code ≡ None }
+        requires stands { said_of (stay_at self.old card.now.party) true (λ stay. is_standing stay.state) ≡ true }
         ensures ok { OnOk result (self.new ≡ made (change.Issue card.now room leaves) self.old) }
         ensures err { OnErr result (self.new ≡ self.old) }
     {
@@ -142,7 +148,7 @@ impl Tables {
         };
         leave_any(&mut self.rooms, leaves);
         issue_at(&mut self.rooms, room, card.party);
-        set_state(&mut self.stays, card.party, StayState::InHouse(room));
+        self.stays.stand_on(card.party, room);
         Ok(())
     }
 
@@ -160,7 +166,7 @@ impl Tables {
         ensures { self.new ≡ made (change.CheckedOut party room) self.old }
     {
         leave(&mut self.rooms, room);
-        set_state(&mut self.stays, party, StayState::Done);
+        self.stays.end(party, StayState::Done);
     }
 
     pub(crate) fn add_note(

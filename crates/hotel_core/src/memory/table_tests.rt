@@ -34,13 +34,16 @@ fn first_card<A: Abort>(rt: &A) -> Card {
 /// Rooms 1 to 15, each with the code of its number, so that the next code wants memory: 15 fill a node of the maps.
 fn rooms<A: Abort>(rt: &A, alloc: Global) -> Result<Tables, Memory> {
     let mut tables = Tables::empty(alloc);
-    tables.add_kind(kind(rt))?;
+    let double = kind(rt);
+    assert!(rt; !tables.has_kind(&double), "the kind is new");
+    tables.add_kind(double)?;
     for number in 1..16u32 {
         let room = room_no(rt, number);
         let first = code(rt, u64::from(number));
         assert!(rt; tables.room(room).is_none(), "the room is new");
         assert!(rt; tables.code_place(first).is_none(), "the code is new");
-        tables.add_room(room, kind(rt), first)?;
+        assert!(rt; tables.has_kind(&double), "the kind is there");
+        tables.add_room(room, double, first)?;
     }
     Ok(tables)
 }
@@ -65,6 +68,10 @@ fn is_issued<A: Abort>(rt: &A, tables: &mut Tables, card: &Card, room: RoomNo) -
     );
     let row = tables.room(room).expect(rt, "the room is there");
     assert_eq!(rt; row.codes, 1);
+    let Ok(Some(stay)) = tables.stay(card.party) else {
+        return false;
+    };
+    assert!(rt; stay.state.is_standing(), "the stay stands");
     tables.issue(card, room, None).is_ok()
 }
 
@@ -87,6 +94,9 @@ fn an_issue_is_whole_or_nothing(rt: HostRuntime) {
         return;
     };
     let Ok(booked) = stay(&rt, rt.alloc()) else {
+        return;
+    };
+    let Ok(None) = tables.stay(booked.party) else {
         return;
     };
     if tables.add_stay(booked).is_err() {

@@ -42,7 +42,7 @@ impl Tables {
         let Some(party) = row.party else {
             return Ok(None);
         };
-        let Some(stay) = self.stays.get(&party) else {
+        let Some(stay) = self.stays.map().get(&party) else {
             return Ok(None);
         };
         Ok(Some(HouseRow {
@@ -89,7 +89,7 @@ impl Tables {
         ensures hands { Hands S.after S.after_stop (arrivals_on self.now day) sink.old sink.new result }
         ensures sure { failure_of result ≡ None }
     {
-        for stay in self.stays.values() {
+        for stay in self.stays.map().values() {
             if arrives(stay, day) {
                 sink.take(stay)?;
             }

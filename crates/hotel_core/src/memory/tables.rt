@@ -1,18 +1,21 @@
 //! The tables of books in memory, and what look-ups find there.
-ghost use Rattle.std.specs.Prelude.{◌≡◌, ℕ, ◌^◌, ◌<◌, length, IfOk};
+ghost use Rattle.std.specs.Prelude.{◌≡◌, ◌-◌, ℕ, ◌^◌, ◌<◌, length, IfOk, not};
 ghost use Rattle.std.specs.Map.{keys_of};
-ghost use Rattle.keycard_rules.specs.Draw.{is_among};
+ghost use Rattle.keycard_rules.specs.Draw.{is_one_of};
+ghost use Rattle.hotel_core.specs.Model.Guests.{are_none};
 ghost use Rattle.hotel_core.specs.Model.Rows.{Rows, no_rows, at_number, has_kind};
-ghost use Rattle.hotel_core.specs.Books.Lookups.{room_at, codes_in, code_place, code_at, stay_at, stays_of_kind, card_at, inside_at, note_at, rooms_of_kind, number_after};
+ghost use Rattle.hotel_core.specs.Books.Lookups.{room_at, codes_in, code_place, code_at, stay_at, stays_of_kind, card_at, inside_at, note_at, rooms_of_kind, first_full_on, number_after};
 
 use crate::books::rows::{CodeRow, NextNumbers, RoomRow};
+use crate::kind_rooms::KindRooms;
 use crate::memory::code_table::CodeTable;
 use crate::memory::inside_table::InsideTable;
 use crate::memory::note_table::NoteTable;
+use crate::memory::stay_table::StayTable;
 use hotel_nights::{Day, KindCode, Stay};
 use keycard_rules::{Card, CardNo, Code, Count, LockNote, Number, PartyNo, RoomNo};
 use std::alloc::{AllocError, Global};
-use std::collections::{BTreeMap, BTreeSet};
+use std::collections::BTreeMap;
 use std::marker::Model;
 
 /// The eight tables.
@@ -20,10 +23,10 @@ use std::marker::Model;
 pub(crate) struct Tables {
     pub(crate) alloc: Global,
     pub(crate) day: Option<Day>,
-    pub(crate) kinds: BTreeSet<KindCode>,
+    pub(crate) kinds: KindRooms,
     pub(crate) rooms: BTreeMap<RoomNo, RoomRow>,
     pub(crate) codes: CodeTable,
-    pub(crate) stays: BTreeMap<PartyNo, Stay>,
+    pub(crate) stays: StayTable,
     pub(crate) cards: BTreeMap<CardNo, Card>,
     pub(crate) inside: InsideTable,
     pub(crate) notes: NoteTable,
@@ -31,13 +34,14 @@ pub(crate) struct Tables {
 
 impl Model for Tables {
     ghost use Rattle.hotel_core.specs.Model.Rows.{Rows};
-    ghost use Rattle.hotel_core.specs.Memory.{LaterPlacesFree};
+    ghost use Rattle.std.specs.Map.{keys_of};
+    ghost use Rattle.hotel_core.specs.Memory.{TablesAgree};
 
     ghost Value = { Rows };
 
-    ghost view = { λ t. record { day = t.day; kinds = t.kinds.keys; rooms = t.rooms.entries; codes = t.codes; stays = t.stays.entries; cards = t.cards.entries; inside = t.inside; notes = t.notes } };
+    ghost view = { λ t. record { day = t.day; kinds = keys_of t.kinds; rooms = t.rooms.entries; codes = t.codes; stays = t.stays; cards = t.cards.entries; inside = t.inside; notes = t.notes } };
 
-    ghost invariant = { λ t. LaterPlacesFree t.rooms.entries t.codes };
+    ghost invariant = { λ t. TablesAgree t.kinds t.rooms.entries t.codes };
 }
 
 /// The number after so many that were given, up to 9,999,999.
@@ -57,10 +61,10 @@ impl Tables {
         Tables {
             alloc,
             day: None,
-            kinds: BTreeSet::new(alloc),
+            kinds: KindRooms::empty(alloc),
             rooms: BTreeMap::new(alloc),
             codes: CodeTable::empty(alloc),
-            stays: BTreeMap::new(alloc),
+            stays: StayTable::empty(alloc),
             cards: BTreeMap::new(alloc),
             inside: InsideTable::empty(alloc),
             notes: NoteTable::empty(alloc),
@@ -76,7 +80,7 @@ impl Tables {
     pub(crate) fn has_kind(&self, kind: &KindCode) -> bool
         ensures { result ≡ has_kind self.now kind.now }
     {
-        self.kinds.contains(kind)
+        self.kinds.has(kind)
     }
 
     pub(crate) fn room(&self, room: RoomNo) -> Option<RoomRow>
@@ -86,7 +90,7 @@ impl Tables {
     }
 
     pub(crate) fn is_issued(&self, code: Code) -> bool
-        ensures { result ≡ is_among (codes_in self.now) code }
+        ensures { result ≡ is_one_of code (codes_in self.now) }
     {
         self.codes.has(code)
     }
@@ -107,7 +111,7 @@ impl Tables {
     pub(crate) fn stay(&self, party: PartyNo) -> Result<Option<Stay>, AllocError>
         ensures { IfOk result (λ stay. stay ≡ stay_at self.now party) }
     {
-        let Some(stay) = self.stays.get(&party) else {
+        let Some(stay) = self.stays.map().get(&party) else {
             return Ok(None);
         };
         Ok(Some(stay.clone()?))
@@ -118,12 +122,20 @@ impl Tables {
         ensures { IfOk result (λ stays. stays.items ≡ stays_of_kind self.now kind.now) }
     {
         let mut found = Vec::new(self.alloc);
-        for stay in self.stays.values() {
+        for stay in self.stays.map().values() {
             if stay.kind == *kind {
                 found.push(stay.clone()?)?;
             }
         }
         Ok(found)
+    }
+
+    /// The first night from `arrive` on and before `depart` on which the kind's rooms are all taken. It takes no memory.
+    pub(crate) fn full_night(&self, kind: &KindCode, arrive: Day, depart: Day) -> Option<Day>
+        ensures { result ≡ first_full_on self.now kind.now arrive (depart - arrive) }
+    {
+        let rooms = self.rooms_of_kind(kind);
+        self.stays.full_night(kind, rooms, arrive, depart)
     }
 
     pub(crate) fn card(&self, number: CardNo) -> Option<Card>
@@ -139,6 +151,18 @@ impl Tables {
         self.inside.at(self.alloc, room)
     }
 
+    pub(crate) fn is_inside(&self, room: RoomNo, number: CardNo) -> bool
+        ensures { result ≡ is_one_of number (inside_at self.now room) }
+    {
+        self.inside.has(room, number)
+    }
+
+    pub(crate) fn has_inside(&self, room: RoomNo) -> bool
+        ensures { result ≡ not (are_none (inside_at self.now room)) }
+    {
+        self.inside.has_any(room)
+    }
+
     pub(crate) fn note(&self, room: RoomNo, count: Count) -> Option<LockNote>
         ensures { result ≡ note_at self.now room count }
     {
@@ -148,22 +172,14 @@ impl Tables {
     pub(crate) fn rooms_of_kind(&self, kind: &KindCode) -> u32
         ensures { result ≡ rooms_of_kind self.now kind.now }
     {
-        let mut count = 0u32;
-        for (room, row) in &self.rooms {
-            // The rooms before this one are fewer than its number, so the count fits.
-            let _most = room.value();
-            if row.kind == *kind {
-                count += 1;
-            }
-        }
-        count
+        self.kinds.rooms(kind)
     }
 
     pub(crate) fn next_numbers(&self) -> NextNumbers
         ensures { result ≡ record { party = number_after (length self.now.stays); card = number_after (length self.now.cards) } }
     {
         NextNumbers {
-            party: number_after(self.stays.len()),
+            party: number_after(self.stays.map().len()),
             card: number_after(self.cards.len()),
         }
     }

@@ -2,7 +2,6 @@
 use super::{LineFault, read_line};
 use hotel_asks::Ask;
 use hotel_core::Command;
-use keycard_rules::Act;
 use std::test::Fail;
 
 #[test]
@@ -28,61 +27,8 @@ fn a_reservation_takes_the_rest_of_its_line(rt: HostRuntime) -> Result<(), Fail>
 }
 
 #[test]
-fn a_note_of_an_entry(rt: HostRuntime) -> Result<(), Fail> {
-    let line = b"entered 101 2 1 A0 00000000000a1 2031-05-01T15:00:00";
-    assert!(rt; matches!(read_line(rt.alloc(), line), Err(LineFault::Unread)));
-    let line = b"entered 101 2 1 A0 0000000000a1 2031-05-01T15:00:00";
-    let Ok(Ask::Command(command)) = read_line(rt.alloc(), line) else {
-        return Err(Fail::from("unread"));
-    };
-    let Command::Reported(note) = &command else {
-        return Err(Fail::from("no note"));
-    };
-    let Act::Entered { card, link } = note.act() else {
-        return Err(Fail::from("no entry"));
-    };
-    assert_eq!(rt;
-        (note.room().value(), note.count().value(), card.value()),
-        (101, 2, 1)
-    );
-    assert_eq!(rt;
-        (link.old_code.value(), link.new_code.value()),
-        (0xa0, 0xa1)
-    );
-    assert_eq!(rt; note.second(), 54_000);
-    Ok(())
-}
-
-#[test]
-fn each_verb_is_read(rt: HostRuntime) {
-    let lines: [&[u8]; 18] = [
-        b"begin 2031-05-01",
-        b"add-kind DBL",
-        b"add-room 101 DBL",
-        b"reserve DBL 2031-05-01 2 Ann Lee",
-        b"cancel 1",
-        b"check-in 1 101",
-        b"spare 1",
-        b"transfer 1 102",
-        b"check-out 1",
-        b"next-day",
-        b"entered 101 1 1 a0 a1 2031-05-01T15:00:00",
-        b"left 101 1 1 a0 a1 2031-05-01T15:00:00",
-        b"recoded 101 1 a0 a1 2031-05-01T15:00:00",
-        b"arrivals 2031-05-01",
-        b"in-house",
-        b"chain 101",
-        b"left-behind",
-        b"audit-of 101",
-    ];
-    for line in lines {
-        assert!(rt; read_line(rt.alloc(), line).is_ok());
-    }
-}
-
-#[test]
 fn lines_that_are_unread(rt: HostRuntime) {
-    let lines: [&[u8]; 12] = [
+    let lines: [&[u8]; 13] = [
         b"Begin 2031-05-01",
         b"begin",
         b"begin 2031-02-29",
@@ -94,6 +40,7 @@ fn lines_that_are_unread(rt: HostRuntime) {
         b"check-in 1 101 1",
         b"next-day 1",
         b"entered 101 1 1 a0 a1 2031-05-01 15:00:00",
+        b"entered 101 2 1 A0 00000000000a1 2031-05-01T15:00:00",
         b"recoded 101 1 a0 a1 a2 2031-05-01T15:00:00",
     ];
     for line in lines {

@@ -1,58 +1,52 @@
-//! The worked scenarios of audit files and of lists that are asked for alone, step by step, with what each step
-//! writes.
+//! The worked scenarios: what is asked of a desk with empty books, step by step, and what each step answers. The
+//! computed scenes of the model have the same names and the same lines in the same order.
 
-/// A call on a desk, and what comes of it.
+/// What is asked of a desk, and what it answers.
 #[derive(Clone, Copy)]
 pub enum Step {
-    /// A script, and its answers.
-    Script(&'static [u8], &'static [u8]),
+    /// A line of a script, and its answer.
+    Line(&'static [u8], &'static [u8]),
     /// An audit file, the answers to its lines, and the exit status.
     Audit(&'static [u8], &'static [u8], u8),
     /// Bytes that are no audit file, and the fault that is told.
     NoAudit(&'static [u8], &'static [u8]),
-    /// A list as a script's line says it, its answer, and the exit status.
+    /// A list that is asked for alone, as a script's line says it, its answer, and the exit status.
     List(&'static [u8], &'static [u8], u8),
 }
 
-/// Steps on one desk, whose books are empty at first, with a source of these codes, the last one for ever.
+/// Steps on one desk whose books are empty at first, in parts of which other scenarios share some. The words of its
+/// source give these codes, and then the last one for ever.
 #[derive(Clone, Copy)]
 pub struct Scenario {
     pub name: &'static str,
     pub codes: &'static [u64],
-    pub steps: &'static [Step],
+    pub last: u64,
+    pub parts: &'static [&'static [Step]],
 }
 
-/// Party 1 is checked in at room 101.
-pub const CHECKED_IN: Step = Step::Script(
-    b"\
-begin 2031-05-01
-add-kind DBL
-add-room 101 DBL
-reserve DBL 2031-05-01 2 Ann Lee
-check-in 1 101
-",
-    b"\
-begun
-kind added
-room code 0000000000a0
-party 1
-card 1 party 1 old 0000000000a0 new 0000000000a1
-",
-);
+/// One room of the kind DBL, and a booking of Ann Lee.
+pub const OPENED: &[Step] = &[
+    Step::Line(b"begin 2031-05-01", b"begun\n"),
+    Step::Line(b"add-kind DBL", b"kind added\n"),
+    Step::Line(b"add-room 101 DBL", b"room code 0000000000a0\n"),
+    Step::Line(b"reserve DBL 2031-05-01 2 Ann Lee", b"party 1\n"),
+];
 
-/// Party 2 is checked in after it.
-pub const NEXT_CHECKED_IN: Step = Step::Script(
-    b"\
-check-out 1
-reserve DBL 2031-05-01 2 Bo
-check-in 2 101
-",
-    b"\
-checked out
-party 2
-card 2 party 2 old 0000000000a1 new 0000000000a2
-",
-);
+/// Her party is checked in.
+pub const CHECKED_IN: &[Step] = &[Step::Line(
+    b"check-in 1 101",
+    b"card 1 party 1 old 0000000000a0 new 0000000000a1\n",
+)];
+
+/// It is checked out, and Bo's party is checked in.
+pub const NEXT_CHECKED_IN: &[Step] = &[
+    Step::Line(b"check-out 1", b"checked out\n"),
+    Step::Line(b"reserve DBL 2031-05-01 2 Bo", b"party 2\n"),
+    Step::Line(
+        b"check-in 2 101",
+        b"card 2 party 2 old 0000000000a1 new 0000000000a2\n",
+    ),
+];
 
 /// The notes of an entry and of an exit.
 pub const TWO_NOTES: &[u8] = b"\
@@ -61,85 +55,183 @@ room,count,kind,card,old,new,at
 101,2,out,1,0000000000a0,0000000000a1,2031-05-01 16:00:00
 ";
 
-const TAKEN_TWICE: Step = Step::Audit(TWO_NOTES, b"1 taken\n2 taken\n", 0);
+/// They are taken.
+pub const TAKEN_TWICE: &[Step] = &[Step::Audit(TWO_NOTES, b"1 taken\n2 taken\n", 0)];
 
-const LATE_NOTE: Step = Step::Audit(
-    b"\
+/// Two entries of the first card.
+pub const TWO_ENTRIES: &[Step] = &[
+    Step::Line(b"entered 101 1 1 a0 a1 2031-05-01T15:00:00", b"taken\n"),
+    Step::Line(b"entered 101 2 1 a0 a1 2031-05-01T15:00:00", b"taken\n"),
+];
+
+/// A late note of the first card's entry moves the lock to its code.
+pub const LATE_NOTE: &[Step] = &[
+    Step::Audit(
+        b"room,count,kind,card,old,new,at\n101,1,in,1,0000000000a0,0000000000a1,2031-05-01T15:00:00\n",
+        b"1 taken\n",
+        0,
+    ),
+    Step::Line(
+        b"chain 101",
+        b"place,code,state\n0,0000000000a0,passed\n1,0000000000a1,held\n2,0000000000a2,awaited\n",
+    ),
+    Step::Line(
+        b"in-house",
+        b"room,party,guest,kind,depart,secured\n101,2,Bo,DBL,2031-05-03,no\n",
+    ),
+];
+
+/// The two notes as the desk lists them.
+const LISTED_NOTES: &[u8] = b"\
 room,count,kind,card,old,new,at
 101,1,in,1,0000000000a0,0000000000a1,2031-05-01T15:00:00
-",
-    b"1 taken\n",
-    0,
-);
+101,2,out,1,0000000000a0,0000000000a1,2031-05-01T16:00:00
+";
 
-const LATE_CHAIN: Step = Step::List(
+/// The second entry moved nothing.
+pub const AFTER_TWO_ENTRIES: &[Step] = &[Step::Line(
     b"chain 101",
-    b"\
-place,code,state
-0,0000000000a0,passed
-1,0000000000a1,held
-2,0000000000a2,awaited
-",
-    0,
-);
+    b"place,code,state\n0,0000000000a0,passed\n1,0000000000a1,held\n",
+)];
 
-const LATE_HOUSE: Step = Step::List(
-    b"in-house",
-    b"\
-room,party,guest,kind,depart,secured
-101,2,Bo,DBL,2031-05-03,no
-",
-    0,
-);
+/// The first card leaves.
+pub const LEFT: &[Step] = &[Step::Line(b"left 101 3 1 a0 a1 2031-05-01T15:00:00", b"taken\n")];
 
-const AUDIT_TWICE: &[Step] = &[
-    CHECKED_IN,
-    TAKEN_TWICE,
-    Step::Audit(TWO_NOTES, b"1 seen\n2 seen\n", 0),
-];
-
-const AUDIT_BYTES: &[Step] = &[
-    CHECKED_IN,
-    Step::Audit(
-        b"\xef\xbb\xbfroom,count,kind,card,old,new,at\r\n\"101\",1,in,1,\"A0\",0000000000A1,2031-05-01T15:00:00\r\n101,2,out",
-        b"1 taken\n2 unread FieldCount\n",
-        3,
-    ),
-    Step::Audit(b"room,count,kind,card,old,new,at\n", b"", 0),
-    Step::NoAudit(b"", b"no header\n"),
-    Step::NoAudit(b"room,count,kind,card,old,new,on\n", b"wrong header\n"),
-];
-
-const AUDIT_CAUSES: &[Step] = &[
-    CHECKED_IN,
-    TAKEN_TWICE,
-    Step::Audit(
-        b"\
-room,count,kind,card,old,new,at
-0,3,in,1,0000000000a0,0000000000a1,2031-05-01T15:00:00
-101,10000000,in,1,0000000000a0,0000000000a1,2031-05-01T15:00:00
-101,3,IN,1,0000000000a0,0000000000a1,2031-05-01T15:00:00
-101,3,recode,1,0000000000a0,0000000000a1,2031-05-01T15:00:00
-101,3,in,1,0000000000a0,xyz,2031-05-01T15:00:00
-101,3,in,1,0000000000a0,0000000000a1,2031-02-29T15:00:00
-101,3,in,1,0000000000a0,0000000000a1,2031-05-01T15:00:00
-",
-        b"\
-1 unread BadRoom
-2 unread BadCount
-3 unread BadKind
-4 unread BadCard
-5 unread BadNew
-6 unread BadMoment
-7 taken
-",
-        3,
+/// After the next guest's entry the earlier card opens nothing.
+pub const NEXT_GUEST: &[Step] = &[
+    Step::Line(b"entered 101 4 2 a1 a2 2031-05-01T15:00:00", b"taken\n"),
+    Step::Line(
+        b"entered 101 5 1 a0 a1 2031-05-01T15:00:00",
+        b"refused 25 LockShut\n",
     ),
 ];
 
-const AUDIT_GAP_CONFLICT: &[Step] = &[
-    CHECKED_IN,
-    TAKEN_TWICE,
+/// A guest who never entered leaves the lock behind; staff recode it.
+pub const LEFT_BEHIND_RECODED: &[Step] = &[
+    Step::Line(
+        b"entered 101 1 2 a1 a2 2031-05-01T15:00:00",
+        b"refused 25 LockShut\n",
+    ),
+    Step::Line(
+        b"left-behind",
+        b"room,held,current,awaited\n101,0000000000a0,0000000000a2,2\n",
+    ),
+    Step::Line(b"recoded 101 1 a0 a2 2031-05-01T15:00:00", b"taken\n"),
+    Step::Line(b"entered 101 2 2 a1 a2 2031-05-01T15:00:00", b"taken\n"),
+    Step::Line(
+        b"chain 101",
+        b"place,code,state\n0,0000000000a0,passed\n1,0000000000a1,passed\n2,0000000000a2,held\n",
+    ),
+    Step::Line(b"left-behind", b"room,held,current,awaited\n"),
+];
+
+/// A party moves away and back: its first card doesn't secure the room.
+pub const AWAY_AND_BACK: &[Step] = &[
+    Step::Line(b"begin 2031-05-01", b"begun\n"),
+    Step::Line(b"add-kind DBL", b"kind added\n"),
+    Step::Line(b"add-room 101 DBL", b"room code 0000000000a0\n"),
+    Step::Line(b"add-room 102 DBL", b"room code 0000000000b0\n"),
+    Step::Line(b"reserve DBL 2031-05-01 2 Ann Lee", b"party 1\n"),
+    Step::Line(b"reserve DBL 2031-05-01 2 Bo", b"party 2\n"),
+    Step::Line(
+        b"check-in 1 101",
+        b"card 1 party 1 old 0000000000a0 new 0000000000a1\n",
+    ),
+    Step::Line(b"entered 101 1 1 a0 a1 2031-05-01T15:00:00", b"taken\n"),
+    Step::Line(b"left 101 2 1 a0 a1 2031-05-01T15:00:00", b"taken\n"),
+    Step::Line(
+        b"transfer 1 102",
+        b"card 2 party 1 old 0000000000b0 new 0000000000b1\n",
+    ),
+    Step::Line(
+        b"check-in 2 101",
+        b"card 3 party 2 old 0000000000a1 new 0000000000a2\n",
+    ),
+    Step::Line(b"check-out 2", b"checked out\n"),
+    Step::Line(
+        b"transfer 1 101",
+        b"card 4 party 1 old 0000000000a2 new 0000000000a3\n",
+    ),
+    Step::Line(
+        b"entered 101 3 4 a2 a3 2031-05-01T15:00:00",
+        b"refused 25 LockShut\n",
+    ),
+    Step::Line(b"entered 101 3 1 a0 a1 2031-05-01T15:00:00", b"taken\n"),
+    Step::Line(
+        b"in-house",
+        b"room,party,guest,kind,depart,secured\n101,1,Ann Lee,DBL,2031-05-03,no\n",
+    ),
+    Step::Line(b"left 101 4 1 a0 a1 2031-05-01T15:00:00", b"taken\n"),
+    Step::Line(b"entered 101 5 3 a1 a2 2031-05-01T15:00:00", b"taken\n"),
+    Step::Line(b"left 101 6 3 a1 a2 2031-05-01T15:00:00", b"taken\n"),
+    Step::Line(b"entered 101 7 4 a2 a3 2031-05-01T15:00:00", b"taken\n"),
+    Step::Line(
+        b"in-house",
+        b"room,party,guest,kind,depart,secured\n101,1,Ann Lee,DBL,2031-05-03,yes\n",
+    ),
+];
+
+/// A word that gives another room's code is passed over.
+pub const CODE_DRAWN_TWICE: &[Step] = &[
+    Step::Line(b"begin 2031-05-01", b"begun\n"),
+    Step::Line(b"add-kind DBL", b"kind added\n"),
+    Step::Line(b"add-room 101 DBL", b"room code 0000000000a0\n"),
+    Step::Line(b"add-room 102 DBL", b"room code 0000000000b0\n"),
+];
+
+/// 64 words give issued codes.
+pub const NO_FRESH_CODE: &[Step] = &[
+    Step::Line(b"begin 2031-05-01", b"begun\n"),
+    Step::Line(b"add-kind DBL", b"kind added\n"),
+    Step::Line(b"add-room 101 DBL", b"room code 0000000000a0\n"),
+    Step::Line(b"add-room 102 DBL", b"refused 19 NoFreshCode\n"),
+    Step::Line(b"chain 102", b"refused 6 NoRoom\n"),
+];
+
+/// The refusal moves the source by 64 words, twice.
+pub const NO_FRESH_CODE_TWICE: &[Step] = &[
+    Step::Line(b"begin 2031-05-01", b"begun\n"),
+    Step::Line(b"add-kind DBL", b"kind added\n"),
+    Step::Line(b"add-room 101 DBL", b"room code 0000000000a0\n"),
+    Step::Line(b"add-room 102 DBL", b"refused 19 NoFreshCode\n"),
+    Step::Line(b"add-room 102 DBL", b"refused 19 NoFreshCode\n"),
+    Step::Line(b"add-room 102 DBL", b"room code 0000000000b0\n"),
+];
+
+/// One card's leaving doesn't empty a room where another stays.
+pub const SPARE_KEEPS_ROOM_OPEN: &[Step] = &[
+    Step::Line(
+        b"spare 1",
+        b"card 2 party 1 old 0000000000a0 new 0000000000a1\n",
+    ),
+    Step::Line(b"entered 101 1 1 a0 a1 2031-05-01T15:00:00", b"taken\n"),
+    Step::Line(b"entered 101 2 2 a0 a1 2031-05-01T15:00:00", b"taken\n"),
+    Step::Line(b"left 101 3 1 a0 a1 2031-05-01T15:00:00", b"taken\n"),
+    Step::Line(b"check-out 1", b"checked out\n"),
+    Step::Line(b"reserve DBL 2031-05-01 2 Bo", b"party 2\n"),
+    Step::Line(
+        b"check-in 2 101",
+        b"card 3 party 2 old 0000000000a1 new 0000000000a2\n",
+    ),
+    Step::Line(b"entered 101 4 3 a1 a2 2031-05-01T15:00:00", b"taken\n"),
+    Step::Line(
+        b"in-house",
+        b"room,party,guest,kind,depart,secured\n101,2,Bo,DBL,2031-05-03,no\n",
+    ),
+    Step::Line(b"left 101 5 2 a0 a1 2031-05-01T15:00:00", b"taken\n"),
+    Step::Line(b"left 101 6 3 a1 a2 2031-05-01T15:00:00", b"taken\n"),
+    Step::Line(b"entered 101 7 3 a1 a2 2031-05-01T15:00:00", b"taken\n"),
+    Step::Line(
+        b"in-house",
+        b"room,party,guest,kind,depart,secured\n101,2,Bo,DBL,2031-05-03,yes\n",
+    ),
+];
+
+/// The same notes again are seen.
+pub const AUDIT_TWICE: &[Step] = &[Step::Audit(TWO_NOTES, b"1 seen\n2 seen\n", 0)];
+
+/// A later count leaves a gap; another content of a taken count is a conflict.
+pub const AUDIT_GAP_CONFLICT: &[Step] = &[
     Step::Audit(
         b"\
 room,count,kind,card,old,new,at
@@ -150,261 +242,357 @@ room,count,kind,card,old,new,at
         3,
     ),
     Step::Audit(
-        b"\
-room,count,kind,card,old,new,at
-101,3,in,1,0000000000a0,0000000000a1,2031-05-01T15:00:01
-",
+        b"room,count,kind,card,old,new,at\n101,3,in,1,0000000000a0,0000000000a1,2031-05-01T15:00:01\n",
         b"1 refused 21 Conflict\n",
         3,
     ),
 ];
 
-const RECODING_REFUSED: &[Step] = &[
-    CHECKED_IN,
-    NEXT_CHECKED_IN,
-    LATE_NOTE,
-    LATE_CHAIN,
-    LATE_HOUSE,
-    Step::Script(
-        b"\
-add-room 102 DBL
-recoded 101 2 0000000000a1 0000000000a0 2031-05-01T15:00:00
-recoded 101 2 0000000000a1 0000000000b0 2031-05-01T15:00:00
-recoded 101 2 0000000000a1 0000000000a1 2031-05-01T15:00:00
-recoded 101 2 0000000000a0 0000000000a2 2031-05-01T15:00:00
-recoded 101 2 0000000000a1 0000000000a2 2031-05-01T15:00:00
-",
-        b"\
-room code 0000000000b0
-refused 28 NotAwaited
-refused 28 NotAwaited
-refused 28 NotAwaited
-refused 27 HeldDiffers
-taken
-",
+/// Recodings to a passed code, another room's, the held one; from another. Then one that is taken, which the lists show.
+pub const RECODING_REFUSED: &[Step] = &[
+    Step::Line(b"add-room 102 DBL", b"room code 0000000000b0\n"),
+    Step::Line(
+        b"recoded 101 2 a1 a0 2031-05-01T15:00:00",
+        b"refused 28 NotAwaited\n",
+    ),
+    Step::Line(
+        b"recoded 101 2 a1 b0 2031-05-01T15:00:00",
+        b"refused 28 NotAwaited\n",
+    ),
+    Step::Line(
+        b"recoded 101 2 a1 a1 2031-05-01T15:00:00",
+        b"refused 28 NotAwaited\n",
+    ),
+    Step::Line(
+        b"recoded 101 2 a0 a2 2031-05-01T15:00:00",
+        b"refused 27 HeldDiffers\n",
+    ),
+    Step::Line(b"recoded 101 2 a1 a2 2031-05-01T15:00:00", b"taken\n"),
+    Step::Line(
+        b"chain 101",
+        b"place,code,state\n0,0000000000a0,passed\n1,0000000000a1,passed\n2,0000000000a2,held\n",
+    ),
+    Step::Line(
+        b"audit-of 101",
+        b"room,count,kind,card,old,new,at\n101,1,in,1,0000000000a0,0000000000a1,2031-05-01T15:00:00\n101,2,recode,,0000000000a1,0000000000a2,2031-05-01T15:00:00\n",
     ),
 ];
 
-const AUDIT_ROUND_TRIP: &[Step] = &[
-    CHECKED_IN,
-    TAKEN_TWICE,
-    Step::List(b"audit-of 101", LISTED_NOTES, 0),
+/// A stay that ends on a night doesn't take it; the first full night is named.
+pub const KIND_FULL: &[Step] = &[
+    Step::Line(b"begin 2031-05-01", b"begun\n"),
+    Step::Line(b"add-kind DBL", b"kind added\n"),
+    Step::Line(b"add-room 101 DBL", b"room code 0000000000a0\n"),
+    Step::Line(b"reserve DBL 2031-05-01 2 A", b"party 1\n"),
+    Step::Line(b"reserve DBL 2031-05-03 2 B", b"party 2\n"),
+    Step::Line(
+        b"reserve DBL 2031-05-04 2 C",
+        b"refused 17 KindFull 2031-05-04\n",
+    ),
+    Step::Line(b"reserve DBL 2031-04-30 2 D", b"refused 15 PastArrival\n"),
+];
+
+/// Stays up to the last day.
+pub const END_OF_CALENDAR: &[Step] = &[
+    Step::Line(b"begin 2099-10-02", b"begun\n"),
+    Step::Line(b"add-kind DBL", b"kind added\n"),
+    Step::Line(b"add-room 101 DBL", b"room code 0000000000a0\n"),
+    Step::Line(b"add-room 102 DBL", b"room code 0000000000b0\n"),
+    Step::Line(b"reserve DBL 2099-10-02 90 A", b"party 1\n"),
+    Step::Line(b"reserve DBL 2099-10-03 90 B", b"refused 16 PastEnd\n"),
+    Step::Line(b"reserve DBL 2099-10-02 91 B", b"unread\n"),
+];
+
+/// No day after the last one.
+pub const END_OF_CALENDAR_LAST_DAY: &[Step] = &[
+    Step::Line(b"begin 2099-12-31", b"begun\n"),
+    Step::Line(b"next-day", b"refused 20 LastDay\n"),
+];
+
+/// A byte order mark, quotes, other ends of lines; no lines, no header, a wrong one.
+pub const AUDIT_BYTES: &[Step] = &[
+    Step::Audit(
+        b"\xef\xbb\xbfroom,count,kind,card,old,new,at\r\n\"101\",1,in,1,\"A0\",0000000000A1,2031-05-01T15:00:00\r\n101,2,out",
+        b"1 taken\n2 unread FieldCount\n",
+        3,
+    ),
+    Step::Audit(b"room,count,kind,card,old,new,at\n", b"", 0),
+    Step::NoAudit(b"", b"no header\n"),
+    Step::NoAudit(b"room,count,kind,card,old,new,on\n", b"wrong header\n"),
+];
+
+/// Each cause for which a line is unread.
+pub const AUDIT_CAUSES: &[Step] = &[Step::Audit(
+    b"\
+room,count,kind,card,old,new,at
+0,3,in,1,0000000000a0,0000000000a1,2031-05-01T15:00:00
+101,10000000,in,1,0000000000a0,0000000000a1,2031-05-01T15:00:00
+101,3,IN,1,0000000000a0,0000000000a1,2031-05-01T15:00:00
+101,3,recode,1,0000000000a0,0000000000a1,2031-05-01T15:00:00
+101,3,in,1,0000000000a0,xyz,2031-05-01T15:00:00
+101,3,in,1,0000000000a0,0000000000a1,2031-02-29T15:00:00
+101,3,in,1,0000000000a0,0000000000a1,2031-05-01T15:00:00
+",
+    b"\
+1 unread BadRoom
+2 unread BadCount
+3 unread BadKind
+4 unread BadCard
+5 unread BadNew
+6 unread BadMoment
+7 taken
+",
+    3,
+)];
+
+/// Days, kinds, states: each refusal of check-in and its neighbours.
+pub const DESK_DAY: &[Step] = &[
+    Step::Line(b"begin 2031-05-01", b"begun\n"),
+    Step::Line(b"add-kind DBL", b"kind added\n"),
+    Step::Line(b"add-kind SGL", b"kind added\n"),
+    Step::Line(b"add-room 101 DBL", b"room code 0000000000a0\n"),
+    Step::Line(b"add-room 102 DBL", b"room code 0000000000b0\n"),
+    Step::Line(b"add-room 201 SGL", b"room code 0000000000c0\n"),
+    Step::Line(b"reserve DBL 2031-05-01 2 Ann", b"party 1\n"),
+    Step::Line(b"reserve DBL 2031-05-02 1 Bo", b"party 2\n"),
+    Step::Line(b"check-in 2 101", b"refused 10 TooEarly\n"),
+    Step::Line(b"check-in 1 201", b"refused 12 WrongKind\n"),
+    Step::Line(
+        b"check-in 1 101",
+        b"card 1 party 1 old 0000000000a0 new 0000000000a1\n",
+    ),
+    Step::Line(b"check-in 1 102", b"refused 8 NotBooked\n"),
+    Step::Line(b"transfer 1 101", b"refused 13 SameRoom\n"),
+    Step::Line(b"spare 2", b"refused 9 NotInHouse\n"),
+    Step::Line(b"next-day", b"day 2031-05-02\n"),
+    Step::Line(b"check-in 2 101", b"refused 14 RoomTaken\n"),
+    Step::Line(
+        b"arrivals 2031-05-02",
+        b"party,guest,kind,arrive,depart\n2,Bo,DBL,2031-05-02,2031-05-03\n",
+    ),
+    Step::Line(b"next-day", b"day 2031-05-03\n"),
+    Step::Line(b"check-in 2 102", b"refused 11 StayOver\n"),
+    Step::Line(b"cancel 2", b"cancelled\n"),
+    Step::Line(b"cancel 2", b"refused 8 NotBooked\n"),
+    Step::Line(b"check-out 9", b"refused 7 NoParty\n"),
+];
+
+/// The list of the notes is an audit file.
+pub const AUDIT_ROUND_TRIP: &[Step] = &[
+    Step::Line(b"audit-of 101", LISTED_NOTES),
     Step::Audit(LISTED_NOTES, b"1 seen\n2 seen\n", 0),
 ];
 
-/// The two notes as the desk lists them.
-const LISTED_NOTES: &[u8] = b"\
-room,count,kind,card,old,new,at
-101,1,in,1,0000000000a0,0000000000a1,2031-05-01T15:00:00
-101,2,out,1,0000000000a0,0000000000a1,2031-05-01T16:00:00
-";
-
-const TWO_ENTRIES: &[Step] = &[
-    CHECKED_IN,
-    Step::Script(
-        b"\
-entered 101 1 1 0000000000a0 0000000000a1 2031-05-01T15:00:00
-entered 101 2 1 0000000000a0 0000000000a1 2031-05-01T15:00:00
-",
-        b"taken\ntaken\n",
+/// Conflict, no such card, another link, leaving twice.
+pub const NOTE_REFUSALS: &[Step] = &[
+    Step::Line(
+        b"entered 101 1 9 a0 a1 2031-05-01T15:00:00",
+        b"refused 21 Conflict\n",
     ),
-    Step::List(
-        b"chain 101",
-        b"\
-place,code,state
-0,0000000000a0,passed
-1,0000000000a1,held
-",
-        0,
+    Step::Line(
+        b"entered 101 3 9 a0 a1 2031-05-01T15:00:00",
+        b"refused 23 NoCard\n",
+    ),
+    Step::Line(
+        b"entered 101 3 1 a0 a2 2031-05-01T15:00:00",
+        b"refused 24 CardDiffers\n",
+    ),
+    Step::Line(b"left 101 3 1 a0 a1 2031-05-01T15:00:00", b"taken\n"),
+    Step::Line(
+        b"left 101 4 1 a0 a1 2031-05-01T15:00:00",
+        b"refused 26 NotInside\n",
     ),
 ];
 
-const LEFT_BEHIND_RECODED: &[Step] = &[
-    CHECKED_IN,
-    NEXT_CHECKED_IN,
-    Step::Script(
-        b"entered 101 1 2 0000000000a1 0000000000a2 2031-05-01T15:00:00\n",
-        b"refused 25 LockShut\n",
-    ),
-    Step::List(
-        b"left-behind",
-        b"\
-room,held,current,awaited
-101,0000000000a0,0000000000a2,2
-",
-        0,
-    ),
-    Step::Script(
-        b"\
-recoded 101 1 0000000000a0 0000000000a2 2031-05-01T15:00:00
-entered 101 2 2 0000000000a1 0000000000a2 2031-05-01T15:00:00
-",
-        b"taken\ntaken\n",
-    ),
-    Step::List(
-        b"chain 101",
-        b"\
-place,code,state
-0,0000000000a0,passed
-1,0000000000a1,passed
-2,0000000000a2,held
-",
-        0,
-    ),
-    Step::List(b"left-behind", b"room,held,current,awaited\n", 0),
-];
-
-const AWAY_AND_BACK: &[Step] = &[
-    Step::Script(
-        b"\
-begin 2031-05-01
-add-kind DBL
-add-room 101 DBL
-add-room 102 DBL
-reserve DBL 2031-05-01 2 Ann Lee
-reserve DBL 2031-05-01 2 Bo
-check-in 1 101
-entered 101 1 1 0000000000a0 0000000000a1 2031-05-01T15:00:00
-left 101 2 1 0000000000a0 0000000000a1 2031-05-01T15:00:00
-transfer 1 102
-check-in 2 101
-check-out 2
-transfer 1 101
-entered 101 3 4 0000000000a2 0000000000a3 2031-05-01T15:00:00
-entered 101 3 1 0000000000a0 0000000000a1 2031-05-01T15:00:00
-",
-        b"\
-begun
-kind added
-room code 0000000000a0
-room code 0000000000b0
-party 1
-party 2
-card 1 party 1 old 0000000000a0 new 0000000000a1
-taken
-taken
-card 2 party 1 old 0000000000b0 new 0000000000b1
-card 3 party 2 old 0000000000a1 new 0000000000a2
-checked out
-card 4 party 1 old 0000000000a2 new 0000000000a3
-refused 25 LockShut
-taken
-",
-    ),
-    Step::List(
-        b"in-house",
-        b"\
-room,party,guest,kind,depart,secured
-101,1,Ann Lee,DBL,2031-05-03,no
-",
-        0,
-    ),
-    Step::Script(
-        b"\
-left 101 4 1 0000000000a0 0000000000a1 2031-05-01T15:00:00
-entered 101 5 3 0000000000a1 0000000000a2 2031-05-01T15:00:00
-left 101 6 3 0000000000a1 0000000000a2 2031-05-01T15:00:00
-entered 101 7 4 0000000000a2 0000000000a3 2031-05-01T15:00:00
-",
-        b"taken\ntaken\ntaken\ntaken\n",
-    ),
-    Step::List(
-        b"in-house",
-        b"\
-room,party,guest,kind,depart,secured
-101,1,Ann Lee,DBL,2031-05-03,yes
-",
-        0,
-    ),
-];
-
-const QUOTED_GUEST: &[Step] = &[
-    Step::Script(
-        b"\
-begin 2031-05-01
-add-kind DBL
-add-room 101 DBL
-reserve DBL 2031-05-01 2 Lee, Ann
-",
-        b"\
-begun
-kind added
-room code 0000000000a0
-party 1
-",
-    ),
-    Step::List(
+/// A guest with a comma is quoted.
+pub const QUOTED_GUEST: &[Step] = &[
+    Step::Line(b"begin 2031-05-01", b"begun\n"),
+    Step::Line(b"add-kind DBL", b"kind added\n"),
+    Step::Line(b"add-room 101 DBL", b"room code 0000000000a0\n"),
+    Step::Line(b"reserve DBL 2031-05-01 2 Lee, Ann", b"party 1\n"),
+    Step::Line(
         b"arrivals 2031-05-01",
-        b"\
-party,guest,kind,arrive,depart
-1,\"Lee, Ann\",DBL,2031-05-01,2031-05-03
-",
-        0,
+        b"party,guest,kind,arrive,depart\n1,\"Lee, Ann\",DBL,2031-05-01,2031-05-03\n",
     ),
 ];
 
-const WORDS_AND_EMPTIES: &[Step] = &[
+/// The notes of a room, by count.
+pub const NOTES_OF_A_ROOM: &[Step] = &[
+    Step::Line(b"recoded 101 1 a0 a1 2031-05-01T14:59:59", b"taken\n"),
+    Step::Line(b"entered 101 2 1 a0 a1 2031-05-01T15:00:00", b"taken\n"),
+    Step::Line(b"left 101 3 1 a0 a1 2031-05-02T09:00:00", b"taken\n"),
+    Step::Line(
+        b"audit-of 101",
+        b"room,count,kind,card,old,new,at\n101,1,recode,,0000000000a0,0000000000a1,2031-05-01T14:59:59\n101,2,in,1,0000000000a0,0000000000a1,2031-05-01T15:00:00\n101,3,out,1,0000000000a0,0000000000a1,2031-05-02T09:00:00\n",
+    ),
+];
+
+/// Lists of empty books, asked for alone.
+pub const WORDS_AND_EMPTIES: &[Step] = &[
     Step::List(b"in-house", b"room,party,guest,kind,depart,secured\n", 0),
     Step::List(b"chain 101", b"refused 6 NoRoom\n", 3),
     Step::List(b"audit-of 101", b"refused 6 NoRoom\n", 3),
-    Step::Script(b"", b""),
 ];
 
-/// Each scenario.
-pub static SCENARIOS: [Scenario; 11] = [
-    Scenario {
-        name: "audit-twice",
-        codes: &[0xa0, 0xa1],
-        steps: AUDIT_TWICE,
-    },
-    Scenario {
-        name: "audit-bytes",
-        codes: &[0xa0, 0xa1],
-        steps: AUDIT_BYTES,
-    },
-    Scenario {
-        name: "audit-causes",
-        codes: &[0xa0, 0xa1],
-        steps: AUDIT_CAUSES,
-    },
-    Scenario {
-        name: "audit-gap-conflict",
-        codes: &[0xa0, 0xa1],
-        steps: AUDIT_GAP_CONFLICT,
-    },
-    Scenario {
-        name: "recoding-refused",
-        codes: &[0xa0, 0xa1, 0xa2, 0xb0],
-        steps: RECODING_REFUSED,
-    },
-    Scenario {
-        name: "audit-round-trip",
-        codes: &[0xa0, 0xa1],
-        steps: AUDIT_ROUND_TRIP,
-    },
+/// What locks do.
+pub static OF_LOCKS: [Scenario; 6] = [
     Scenario {
         name: "two-entries",
-        codes: &[0xa0, 0xa1, 0xa2],
-        steps: TWO_ENTRIES,
+        codes: &[0xa0, 0xa1],
+        last: 0xa2,
+        parts: &[OPENED, CHECKED_IN, TWO_ENTRIES, AFTER_TWO_ENTRIES],
+    },
+    Scenario {
+        name: "next-guest",
+        codes: &[0xa0, 0xa1],
+        last: 0xa2,
+        parts: &[
+            OPENED,
+            CHECKED_IN,
+            TWO_ENTRIES,
+            LEFT,
+            NEXT_CHECKED_IN,
+            NEXT_GUEST,
+        ],
     },
     Scenario {
         name: "left-behind-recoded",
-        codes: &[0xa0, 0xa1, 0xa2],
-        steps: LEFT_BEHIND_RECODED,
+        codes: &[0xa0, 0xa1],
+        last: 0xa2,
+        parts: &[OPENED, CHECKED_IN, NEXT_CHECKED_IN, LEFT_BEHIND_RECODED],
     },
     Scenario {
         name: "away-and-back",
-        codes: &[0xa0, 0xb0, 0xa1, 0xb1, 0xa2, 0xa3],
-        steps: AWAY_AND_BACK,
+        codes: &[0xa0, 0xb0, 0xa1, 0xb1, 0xa2],
+        last: 0xa3,
+        parts: &[AWAY_AND_BACK],
+    },
+    Scenario {
+        name: "spare-keeps-room-open",
+        codes: &[0xa0, 0xa1],
+        last: 0xa2,
+        parts: &[OPENED, CHECKED_IN, SPARE_KEEPS_ROOM_OPEN],
+    },
+    Scenario {
+        name: "note-refusals",
+        codes: &[0xa0, 0xa1],
+        last: 0xa2,
+        parts: &[OPENED, CHECKED_IN, TWO_ENTRIES, NOTE_REFUSALS],
+    },
+];
+
+/// Audit files.
+pub static OF_FILES: [Scenario; 7] = [
+    Scenario {
+        name: "audit-twice",
+        codes: &[0xa0],
+        last: 0xa1,
+        parts: &[OPENED, CHECKED_IN, TAKEN_TWICE, AUDIT_TWICE],
+    },
+    Scenario {
+        name: "audit-gap-conflict",
+        codes: &[0xa0],
+        last: 0xa1,
+        parts: &[OPENED, CHECKED_IN, TAKEN_TWICE, AUDIT_GAP_CONFLICT],
+    },
+    Scenario {
+        name: "late-audit",
+        codes: &[0xa0, 0xa1, 0xa2],
+        last: 0xb0,
+        parts: &[OPENED, CHECKED_IN, NEXT_CHECKED_IN, LATE_NOTE],
+    },
+    Scenario {
+        name: "recoding-refused",
+        codes: &[0xa0, 0xa1, 0xa2],
+        last: 0xb0,
+        parts: &[
+            OPENED,
+            CHECKED_IN,
+            NEXT_CHECKED_IN,
+            LATE_NOTE,
+            RECODING_REFUSED,
+        ],
+    },
+    Scenario {
+        name: "audit-bytes",
+        codes: &[0xa0],
+        last: 0xa1,
+        parts: &[OPENED, CHECKED_IN, AUDIT_BYTES],
+    },
+    Scenario {
+        name: "audit-causes",
+        codes: &[0xa0],
+        last: 0xa1,
+        parts: &[OPENED, CHECKED_IN, TAKEN_TWICE, AUDIT_CAUSES],
+    },
+    Scenario {
+        name: "audit-round-trip",
+        codes: &[0xa0],
+        last: 0xa1,
+        parts: &[OPENED, CHECKED_IN, TAKEN_TWICE, AUDIT_ROUND_TRIP],
+    },
+];
+
+/// Codes, kinds, days and lists.
+pub static OF_THE_DESK: [Scenario; 10] = [
+    Scenario {
+        name: "code-drawn-twice",
+        codes: &[0xa0, 0xa0],
+        last: 0xb0,
+        parts: &[CODE_DRAWN_TWICE],
+    },
+    Scenario {
+        name: "no-fresh-code",
+        codes: &[],
+        last: 0xa0,
+        parts: &[NO_FRESH_CODE],
+    },
+    Scenario {
+        name: "no-fresh-code-twice",
+        codes: &[0xa0; 129],
+        last: 0xb0,
+        parts: &[NO_FRESH_CODE_TWICE],
+    },
+    Scenario {
+        name: "kind-full",
+        codes: &[],
+        last: 0xa0,
+        parts: &[KIND_FULL],
+    },
+    Scenario {
+        name: "end-of-calendar",
+        codes: &[0xa0],
+        last: 0xb0,
+        parts: &[END_OF_CALENDAR],
+    },
+    Scenario {
+        name: "end-of-calendar-last-day",
+        codes: &[],
+        last: 0xa0,
+        parts: &[END_OF_CALENDAR_LAST_DAY],
+    },
+    Scenario {
+        name: "desk-day",
+        codes: &[0xa0, 0xb0, 0xc0],
+        last: 0xa1,
+        parts: &[DESK_DAY],
     },
     Scenario {
         name: "quoted-guest",
+        codes: &[],
+        last: 0xa0,
+        parts: &[QUOTED_GUEST],
+    },
+    Scenario {
+        name: "notes-of-a-room",
         codes: &[0xa0],
-        steps: QUOTED_GUEST,
+        last: 0xa1,
+        parts: &[OPENED, CHECKED_IN, NOTES_OF_A_ROOM],
     },
     Scenario {
         name: "words-and-empties",
-        codes: &[0xa0],
-        steps: WORDS_AND_EMPTIES,
+        codes: &[],
+        last: 0xa0,
+        parts: &[WORDS_AND_EMPTIES],
     },
 ];

@@ -1,14 +1,16 @@
 //! Each room of the books beside a chain of codes that is told the same: they agree after each line. And runs of
 //! commands in one call.
-use super::scenarios::{self, Scenario};
 use crate::asks::read_line;
-use crate::lines::first_line;
 use crate::list_answers::answer_list;
+use crate::run_tests::scenarios::{
+    AWAY_AND_BACK, CHECKED_IN, LEFT_BEHIND_RECODED, NEXT_CHECKED_IN, OPENED, SPARE_KEEPS_ROOM_OPEN,
+    Step, TWO_ENTRIES,
+};
 use hotel_asks::{Ask, ListAsk};
 use hotel_core::{
     Books, CodeRow, Command, ListBooks, Refusal, Reply, RoomRow, reply_text, run, step,
 };
-use hotel_lists::{FakeWriter, Interruptions, write_bytes};
+use hotel_lists::{FakeWriter, IoCalls, write_bytes};
 use keycard_rules::{Act, Chain, Code, Link, ListedWords, LockNote, RoomNo};
 use std::alloc::Global;
 use std::process::Abort;
@@ -165,7 +167,7 @@ impl Desk {
     ) -> Result<(), Fail> {
         let reply = self.carry_out(rt, command)?;
         let text = reply_text(&reply);
-        write_bytes(writer, text.as_bytes(), &mut Interruptions::none())?;
+        write_bytes(writer, text.as_bytes(), &mut IoCalls::none())?;
         Ok(())
     }
 
@@ -176,8 +178,8 @@ impl Desk {
         list: &ListAsk,
         writer: &mut FakeWriter,
     ) -> Result<(), Fail> {
-        let mut interruptions = Interruptions::none();
-        answer_list(alloc, list, writer, &mut self.books, &mut interruptions)?;
+        let mut calls = IoCalls::none();
+        answer_list(alloc, list, writer, &mut self.books, &mut calls)?;
         Ok(())
     }
 
@@ -203,66 +205,74 @@ impl Desk {
     }
 }
 
-/// Answers the lines of the script; after each line the rooms agree with their chains.
-fn answer_lines(
-    rt: &(impl Abort + AllocGlobal),
-    desk: &mut Desk,
-    script: &[u8],
-    writer: &mut FakeWriter,
-) -> Result<(), Fail> {
-    let mut rest = script;
-    while let Some((line, later)) = first_line(rest) {
-        rest = later;
-        desk.answer(rt, line, writer)?;
-        desk.agrees(rt)?;
+/// A step of a scenario is a line: it is answered so, and after it the rooms agree with their chains.
+fn step_holds(rt: &(impl Abort + AllocGlobal), desk: &mut Desk, step: &Step) -> Result<(), Fail> {
+    let Step::Line(line, answer) = step else {
+        return Err(Fail::from("no line"));
+    };
+    let mut writer = FakeWriter::new(rt.alloc());
+    desk.answer(rt, line, &mut writer)?;
+    assert_eq!(rt; writer.written(), *answer);
+    desk.agrees(rt)
+}
+
+/// The lines of a part of a scenario hold.
+fn part_holds(rt: &(impl Abort + AllocGlobal), desk: &mut Desk, part: &[Step]) -> Result<(), Fail> {
+    for step in part {
+        step_holds(rt, desk, step)?;
     }
     Ok(())
 }
 
-/// The scenario is answered as it says, and after each line its rooms agree with their chains.
-fn holds_beside(
+/// The parts of a scenario hold, and after each line its rooms agree with their chains.
+fn hold_beside(
     rt: &(impl Abort + AllocGlobal),
     codes: &[u64],
-    scenario: &Scenario,
+    parts: &[&[Step]],
     rooms: usize,
 ) -> Result<(), Fail> {
     let mut desk = desk_of(rt.alloc(), codes)?;
-    let mut writer = FakeWriter::new(rt.alloc());
-    answer_lines(rt, &mut desk, scenario.script, &mut writer)?;
-    assert_eq!(rt; writer.written(), scenario.answers);
+    for part in parts {
+        part_holds(rt, &mut desk, part)?;
+    }
     assert_eq!(rt; desk.rooms.len(), rooms);
     Ok(())
 }
 
 #[test]
 fn left_behind_recoded_beside_chains(rt: HostRuntime) -> Result<(), Fail> {
-    let codes = [0xa0, 0xa1, 0xa2];
-    holds_beside(&rt, &codes, &scenarios::LEFT_BEHIND_RECODED, 1)
+    let parts = [OPENED, CHECKED_IN, NEXT_CHECKED_IN, LEFT_BEHIND_RECODED];
+    hold_beside(&rt, &[0xa0, 0xa1, 0xa2], &parts, 1)
 }
 
 #[test]
 fn away_and_back_beside_chains(rt: HostRuntime) -> Result<(), Fail> {
     let codes = [0xa0, 0xb0, 0xa1, 0xb1, 0xa2, 0xa3];
-    holds_beside(&rt, &codes, &scenarios::AWAY_AND_BACK, 2)
+    hold_beside(&rt, &codes, &[AWAY_AND_BACK], 2)
 }
 
 #[test]
 fn spare_keeps_room_open_beside_chains(rt: HostRuntime) -> Result<(), Fail> {
-    let codes = [0xa0, 0xa1, 0xa2];
-    holds_beside(&rt, &codes, &scenarios::SPARE_KEEPS_ROOM_OPEN, 1)
+    let parts = [OPENED, CHECKED_IN, SPARE_KEEPS_ROOM_OPEN];
+    hold_beside(&rt, &[0xa0, 0xa1, 0xa2], &parts, 1)
 }
 
-/// The commands of a script's lines, without its lists.
-fn commands_of(alloc: Global, script: &[u8]) -> Result<Vec<Command>, Fail> {
-    let mut commands = Vec::new(alloc);
-    let mut rest = script;
-    while let Some((line, later)) = first_line(rest) {
-        rest = later;
-        if let Ask::Command(command) = read_line(alloc, line)? {
+/// Appends the command of each line of a part, and its answer.
+fn push_part(
+    alloc: Global,
+    part: &[Step],
+    commands: &mut Vec<Command>,
+    answers: &mut Vec<u8>,
+) -> Result<(), Fail> {
+    for step in part {
+        if let Step::Line(line, answer) = step
+            && let Ask::Command(command) = read_line(alloc, line)?
+        {
             commands.push(command)?;
+            answers.extend_from_slice(answer)?;
         }
     }
-    Ok(commands)
+    Ok(())
 }
 
 /// The texts of replies, one after the other.
@@ -274,7 +284,7 @@ fn texts_of(alloc: Global, replies: &[Reply]) -> Result<Vec<u8>, Fail> {
     Ok(texts)
 }
 
-/// A run of these commands has so many replies, with whose texts the answers start.
+/// A run of these commands has so many replies, whose texts are the answers.
 fn run_is_answered(
     rt: &(impl Abort + AllocGlobal),
     desk: &mut Desk,
@@ -285,23 +295,23 @@ fn run_is_answered(
     let replies = run(rt.alloc(), &mut desk.books, &mut desk.source, commands)?;
     assert_eq!(rt; replies.len(), count);
     let texts = texts_of(rt.alloc(), replies.as_slice())?;
-    assert!(rt; answers.starts_with(texts.as_slice()));
+    assert_eq!(rt; texts.as_slice(), answers);
     Ok(())
 }
 
-/// A run of no command has no reply; then the scenario's commands have so many in one run.
-fn runs_at_once(
-    rt: &(impl Abort + AllocGlobal),
-    scenario: &Scenario,
-    count: usize,
-) -> Result<(), Fail> {
+/// The commands of the scenario "two-entries" have their seven replies in one run, after a run of no command.
+fn runs_at_once(rt: &(impl Abort + AllocGlobal)) -> Result<(), Fail> {
+    let mut commands = Vec::new(rt.alloc());
+    let mut answers = Vec::new(rt.alloc());
+    for part in [OPENED, CHECKED_IN, TWO_ENTRIES] {
+        push_part(rt.alloc(), part, &mut commands, &mut answers)?;
+    }
     let mut desk = desk_of(rt.alloc(), &[0xa0, 0xa1, 0xa2])?;
     run_is_answered(rt, &mut desk, &[], 0, b"")?;
-    let commands = commands_of(rt.alloc(), scenario.script)?;
-    run_is_answered(rt, &mut desk, commands.as_slice(), count, scenario.answers)
+    run_is_answered(rt, &mut desk, commands.as_slice(), 7, answers.as_slice())
 }
 
 #[test]
 fn words_and_empties_runs(rt: HostRuntime) -> Result<(), Fail> {
-    runs_at_once(&rt, &scenarios::TWO_ENTRIES, 7)
+    runs_at_once(&rt)
 }

@@ -1,23 +1,26 @@
 //! Scripts from bytes to bytes, and readers and writers that go wrong.
-use super::scenarios::{self, Scenario};
-use super::{SCRIPT_LIMIT, ScriptEnd, ScriptFault, run_script};
+use super::{ScriptEnd, ScriptFault, run_script};
 use hotel_core::ListBooks;
 use hotel_lists::{FakeReader, FakeWriter};
 use keycard_rules::ListedWords;
-use rand_chacha::ChaCha20Rng;
-use rand_core::{Rng, SeedableRng};
 use std::alloc::Global;
 use std::process::Abort;
 use std::test::Fail;
 
+/// Three commands and a list, which has two writes: its header and its row.
+const SCRIPT: &[u8] = b"begin 2031-05-01\nadd-kind DBL\nadd-room 101 DBL\nchain 101\n";
+
+const ANSWERS: &[u8] =
+    b"begun\nkind added\nroom code 0000000000a0\nplace,code,state\n0,0000000000a0,held\n";
+
 /// Books in memory, and a source.
 #[derive(Drop)]
-struct Desk<R> {
+struct Desk {
     books: ListBooks,
-    source: R,
+    source: ListedWords,
 }
 
-impl<R: Rng> Desk<R> {
+impl Desk {
     /// Answers the reader's script to the writer.
     fn answer(
         &mut self,
@@ -30,7 +33,7 @@ impl<R: Rng> Desk<R> {
 }
 
 /// A desk with empty books, and a source of words that give these codes, the last one for ever.
-fn desk_of(alloc: Global, codes: &[u64]) -> Result<Desk<ListedWords>, Fail> {
+fn desk_of(alloc: Global, codes: &[u64]) -> Result<Desk, Fail> {
     let mut words = Vec::new(alloc);
     for code in codes {
         words.push(*code << 16)?;
@@ -68,16 +71,10 @@ fn is_answered(
     Ok(())
 }
 
-/// The scenario's script is answered as it says, each of its lines.
-fn holds(rt: &(impl Abort + AllocGlobal), codes: &[u64], scenario: &Scenario) -> Result<(), Fail> {
-    let Scenario { script, answers } = scenario;
-    is_answered(rt, codes, script, answers, line_count(script))
-}
-
 /// The desk answers so many lines of the script so.
-fn answers_so<S: Rng, R: Abort + AllocGlobal>(
+fn answers_so<R: Abort + AllocGlobal>(
     rt: &R,
-    desk: &mut Desk<S>,
+    desk: &mut Desk,
     script: &[u8],
     answers: &[u8],
     lines: u32,
@@ -86,151 +83,6 @@ fn answers_so<S: Rng, R: Abort + AllocGlobal>(
     let ran = desk.answer(rt.alloc(), &mut FakeReader::new(script), &mut writer);
     assert_eq!(rt; writer.written(), answers);
     assert_eq!(rt; ran, Ok(ScriptEnd { lines }));
-}
-
-/// The scenarios' scripts are answered as they say, one after the other over the same books.
-fn hold_in_turn(
-    rt: &(impl Abort + AllocGlobal),
-    codes: &[u64],
-    scenarios: &[&Scenario],
-) -> Result<(), Fail> {
-    let mut desk = desk_of(rt.alloc(), codes)?;
-    for Scenario { script, answers } in scenarios {
-        answers_so(rt, &mut desk, script, answers, line_count(script));
-    }
-    Ok(())
-}
-
-/// The scenario's script is answered as it says, its 6 lines, with codes from a seed of zeros.
-fn holds_from_seed<R: Abort + AllocGlobal>(rt: &R, scenario: &Scenario) {
-    let books = ListBooks::empty(rt.alloc());
-    let source = ChaCha20Rng::from_seed([0; 32]);
-    let mut desk = Desk { books, source };
-    answers_so(rt, &mut desk, scenario.script, scenario.answers, 6);
-}
-
-#[test]
-fn first_run(rt: HostRuntime) {
-    holds_from_seed(&rt, &scenarios::FIRST_RUN);
-}
-
-#[test]
-fn two_entries(rt: HostRuntime) -> Result<(), Fail> {
-    holds(&rt, &[0xa0, 0xa1, 0xa2], &scenarios::TWO_ENTRIES)
-}
-
-#[test]
-fn next_guest(rt: HostRuntime) -> Result<(), Fail> {
-    holds(&rt, &[0xa0, 0xa1, 0xa2], &scenarios::NEXT_GUEST)
-}
-
-#[test]
-fn left_behind_recoded(rt: HostRuntime) -> Result<(), Fail> {
-    holds(&rt, &[0xa0, 0xa1, 0xa2], &scenarios::LEFT_BEHIND_RECODED)
-}
-
-#[test]
-fn away_and_back(rt: HostRuntime) -> Result<(), Fail> {
-    holds(
-        &rt,
-        &[0xa0, 0xb0, 0xa1, 0xb1, 0xa2, 0xa3],
-        &scenarios::AWAY_AND_BACK,
-    )
-}
-
-#[test]
-fn code_drawn_twice(rt: HostRuntime) -> Result<(), Fail> {
-    holds(&rt, &[0xa0, 0xa0, 0xb0], &scenarios::CODE_DRAWN_TWICE)
-}
-
-#[test]
-fn no_fresh_code(rt: HostRuntime) -> Result<(), Fail> {
-    holds(&rt, &[0xa0], &scenarios::NO_FRESH_CODE)
-}
-
-#[test]
-fn no_fresh_code_twice(rt: HostRuntime) -> Result<(), Fail> {
-    let mut codes = vec![in rt.alloc(); 0xa0; 129]?;
-    codes.push(0xb0)?;
-    holds(&rt, codes.as_slice(), &scenarios::NO_FRESH_CODE_TWICE)
-}
-
-#[test]
-fn spare_keeps_room_open(rt: HostRuntime) -> Result<(), Fail> {
-    holds(&rt, &[0xa0, 0xa1, 0xa2], &scenarios::SPARE_KEEPS_ROOM_OPEN)
-}
-
-#[test]
-fn quoted_guest(rt: HostRuntime) -> Result<(), Fail> {
-    holds(&rt, &[0xa0], &scenarios::QUOTED_GUEST)
-}
-
-#[test]
-fn notes_of_a_room(rt: HostRuntime) -> Result<(), Fail> {
-    holds(&rt, &[0xa0, 0xa1], &scenarios::NOTES_OF_A_ROOM)
-}
-
-#[test]
-fn lists_of_a_room_that_is_not_there(rt: HostRuntime) -> Result<(), Fail> {
-    let script = b"chain 101\naudit-of 101\nin-house 1\nchain\nin-house\n";
-    let answers =
-        b"refused 6 NoRoom\nrefused 6 NoRoom\nunread\nunread\nroom,party,guest,kind,depart,secured\n";
-    is_answered(&rt, &[0xa0], script, answers, 5)
-}
-
-/// The write of this number fails within the last line, a list.
-fn fails_in_list(rt: &(impl Abort + AllocGlobal), call: u32) -> Result<(), Fail> {
-    let Scenario { script, answers } = &scenarios::TWO_ENTRIES;
-    let mut desk = desk_of(rt.alloc(), &[0xa0, 0xa1, 0xa2])?;
-    let mut writer = FakeWriter::new(rt.alloc()).failing_at(call);
-    let ran = desk.answer(rt.alloc(), &mut FakeReader::new(script), &mut writer);
-    assert_eq!(rt; ran, Err(ScriptFault::Write { done: 8 }));
-    assert!(rt; answers.starts_with(writer.written()));
-    Ok(())
-}
-
-#[test]
-fn a_write_that_fails_within_a_list(rt: HostRuntime) -> Result<(), Fail> {
-    fails_in_list(&rt, 8)?;
-    fails_in_list(&rt, 9)
-}
-
-#[test]
-fn kind_full(rt: HostRuntime) -> Result<(), Fail> {
-    holds(&rt, &[0xa0], &scenarios::KIND_FULL)
-}
-
-#[test]
-fn end_of_calendar(rt: HostRuntime) -> Result<(), Fail> {
-    holds(&rt, &[0xa0, 0xb0], &scenarios::END_OF_CALENDAR)
-}
-
-#[test]
-fn end_of_calendar_last_day(rt: HostRuntime) -> Result<(), Fail> {
-    holds(&rt, &[0xa0], &scenarios::END_OF_CALENDAR_LAST_DAY)
-}
-
-#[test]
-fn desk_day(rt: HostRuntime) -> Result<(), Fail> {
-    holds(&rt, &[0xa0, 0xb0, 0xc0, 0xa1], &scenarios::DESK_DAY)
-}
-
-#[test]
-fn note_refusals(rt: HostRuntime) -> Result<(), Fail> {
-    holds(&rt, &[0xa0, 0xa1, 0xa2], &scenarios::NOTE_REFUSALS)
-}
-
-#[test]
-fn late_audit_and_recoding_refused(rt: HostRuntime) -> Result<(), Fail> {
-    let codes = [0xa0, 0xa1, 0xa2, 0xb0];
-    let in_turn = [&scenarios::LATE_AUDIT, &scenarios::RECODING_REFUSED];
-    hold_in_turn(&rt, &codes, &in_turn)
-}
-
-#[test]
-fn words_and_empties(rt: HostRuntime) -> Result<(), Fail> {
-    let Scenario { script, answers } = &scenarios::WORDS_AND_EMPTIES;
-    is_answered(&rt, &[0xa0], script, answers, line_count(answers))
 }
 
 #[test]
@@ -257,13 +109,8 @@ fn a_line_of_1025_bytes_is_unread(rt: HostRuntime) -> Result<(), Fail> {
 }
 
 /// The read of this number fails, and nothing is written.
-fn fails_by_read<R: Abort + AllocGlobal>(
-    rt: &R,
-    desk: &mut Desk<ListedWords>,
-    script: &[u8],
-    call: u32,
-) {
-    let reader = FakeReader::new(script).in_pieces(60);
+fn fails_by_read<R: Abort + AllocGlobal>(rt: &R, desk: &mut Desk, script: &[u8], call: u32) {
+    let reader = FakeReader::new(script).in_pieces(30);
     let mut writer = FakeWriter::new(rt.alloc());
     let ran = desk.answer(rt.alloc(), &mut reader.failing_at(call), &mut writer);
     assert_eq!(rt; ran, Err(ScriptFault::Read), "call {call}");
@@ -271,47 +118,43 @@ fn fails_by_read<R: Abort + AllocGlobal>(
 }
 
 /// Each read of the script fails in turn; then the script is answered over the same books.
-fn fails_by_reads(rt: &(impl Abort + AllocGlobal), scenario: &Scenario) -> Result<(), Fail> {
-    let Scenario { script, answers } = scenario;
-    let mut desk = desk_of(rt.alloc(), &[0xa0, 0xa1, 0xa2])?;
-    for call in 1..=5 {
-        fails_by_read(rt, &mut desk, script, call);
+fn fails_by_reads(rt: &(impl Abort + AllocGlobal)) -> Result<(), Fail> {
+    let mut desk = desk_of(rt.alloc(), &[0xa0])?;
+    for call in 1..=3 {
+        fails_by_read(rt, &mut desk, SCRIPT, call);
     }
-    answers_so(rt, &mut desk, script, answers, line_count(script));
+    answers_so(rt, &mut desk, SCRIPT, ANSWERS, 4);
     Ok(())
 }
 
 #[test]
 fn a_read_that_fails_begins_nothing(rt: HostRuntime) -> Result<(), Fail> {
-    fails_by_reads(&rt, &scenarios::TWO_ENTRIES)
+    fails_by_reads(&rt)
 }
 
-/// The write of this number fails: the answers before it were written.
-fn fails_by_write(
-    rt: &(impl Abort + AllocGlobal),
-    scenario: &Scenario,
-    done: u32,
-) -> Result<(), Fail> {
-    let mut desk = desk_of(rt.alloc(), &[0xa0, 0xa1, 0xa2])?;
-    let mut reader = FakeReader::new(scenario.script);
-    let mut writer = FakeWriter::new(rt.alloc()).failing_at(done);
+/// The write of this number fails: the answers before it were written, and those of so many lines were begun.
+fn fails_by_write(rt: &(impl Abort + AllocGlobal), call: u32, done: u32) -> Result<(), Fail> {
+    let mut desk = desk_of(rt.alloc(), &[0xa0])?;
+    let mut reader = FakeReader::new(SCRIPT);
+    let mut writer = FakeWriter::new(rt.alloc()).failing_at(call);
     let ran = desk.answer(rt.alloc(), &mut reader, &mut writer);
     assert_eq!(rt; ran, Err(ScriptFault::Write { done }));
-    assert!(rt; scenario.answers.starts_with(writer.written()));
-    assert_eq!(rt; line_count(writer.written()), done.saturating_sub(1));
+    assert!(rt; ANSWERS.starts_with(writer.written()));
+    assert_eq!(rt; line_count(writer.written()), call.saturating_sub(1));
     Ok(())
 }
 
+/// The last two writes are those of one line, a list.
 #[test]
 fn each_write_that_fails_leaves_whole_answers(rt: HostRuntime) -> Result<(), Fail> {
-    for done in 1..=7 {
-        fails_by_write(&rt, &scenarios::TWO_ENTRIES, done)?;
+    for (call, done) in [(1, 1), (2, 2), (3, 3), (4, 4), (5, 4)] {
+        fails_by_write(&rt, call, done)?;
     }
     Ok(())
 }
 
 /// The second write of four bytes takes none: the first line was carried out.
-fn is_stuck<R: Abort + AllocGlobal>(rt: &R, desk: &mut Desk<ListedWords>) {
+fn is_stuck<R: Abort + AllocGlobal>(rt: &R, desk: &mut Desk) {
     let mut reader = FakeReader::new(b"begin 2031-05-01\nadd-kind DBL\n");
     let mut writer = FakeWriter::new(rt.alloc()).in_pieces(4).stuck_at(2);
     let ran = desk.answer(rt.alloc(), &mut reader, &mut writer);
@@ -352,8 +195,9 @@ fn spaces_end(
 
 #[test]
 fn a_script_over_the_limit_is_too_large(rt: HostRuntime) -> Result<(), Fail> {
-    spaces_end(&rt, SCRIPT_LIMIT, Ok(ScriptEnd { lines: 0 }))?;
-    spaces_end(&rt, SCRIPT_LIMIT + 1, Err(ScriptFault::TooLarge))
+    spaces_end(&rt, 0, Ok(ScriptEnd { lines: 0 }))?;
+    spaces_end(&rt, 1_048_576, Ok(ScriptEnd { lines: 0 }))?;
+    spaces_end(&rt, 1_048_577, Err(ScriptFault::TooLarge))
 }
 
 /// A script of one line ends so, after 600 interrupted reads and some interrupted writes.

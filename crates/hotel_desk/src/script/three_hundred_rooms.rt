@@ -1,6 +1,6 @@
 //! Three hundred rooms, each booked and entered into the books by a script.
 use super::{ScriptEnd, run_script};
-use hotel_core::ListBooks;
+use hotel_core::{ListBooks, Walks};
 use hotel_lists::{FakeReader, FakeWriter};
 use keycard_rules::ListedWords;
 use std::alloc::Global;
@@ -86,19 +86,17 @@ fn words(alloc: Global) -> Result<Vec<u64>, Fail> {
     Ok(words)
 }
 
-/// The script is answered so over empty books, each of its 902 lines.
-fn is_answered(rt: &(impl Abort + AllocGlobal), script: &[u8], answers: &[u8]) -> Result<(), Fail> {
+/// The script is answered so over these empty books, each of its 902 lines.
+fn is_answered<B: Walks>(
+    rt: &(impl Abort + AllocGlobal),
+    books: &mut B,
+    script: &[u8],
+    answers: &[u8],
+) -> Result<(), Fail> {
     let mut source = ListedWords::new(words(rt.alloc())?).ok_or("no words")?;
-    let mut books = ListBooks::empty(rt.alloc());
     let mut reader = FakeReader::new(script);
     let mut writer = FakeWriter::new(rt.alloc());
-    let ran = run_script(
-        rt.alloc(),
-        &mut reader,
-        &mut writer,
-        &mut books,
-        &mut source,
-    );
+    let ran = run_script(rt.alloc(), &mut reader, &mut writer, books, &mut source);
     assert_eq!(rt; writer.written(), answers);
     assert_eq!(rt; ran, Ok(ScriptEnd { lines: 902 }));
     Ok(())
@@ -108,7 +106,8 @@ fn is_answered(rt: &(impl Abort + AllocGlobal), script: &[u8], answers: &[u8]) -
 fn rooms_are_answered(rt: &(impl Abort + AllocGlobal)) -> Result<(), Fail> {
     let script = script(rt.alloc())?;
     let answers = answers(rt.alloc())?;
-    is_answered(rt, script.as_slice(), answers.as_slice())
+    let mut books = ListBooks::empty(rt.alloc());
+    is_answered(rt, &mut books, script.as_slice(), answers.as_slice())
 }
 
 #[test]

@@ -1,11 +1,8 @@
 use Rattle.std.proofs.Common.{◌≡◌, ◌∙◌, refl, subst}
 use Rattle.std.specs.Prelude.{Result, Ok, Err, IfOk, IfErr, OnErr}
-use Rattle.keycard_rules.specs.Draw.{words}
-use Rattle.hotel_core.specs.declared.command.Command.TheVariants as command
-use Rattle.hotel_core.specs.Refinement.OnRows.{outcome_on}
 use Rattle.hotel_core.specs.Books.Failures.{AreCounted}
-use Rattle.hotel_audit.proofs.Imports.{Imports-note, Imports-unread}
-use Rattle.hotel_audit.proofs.NoteReplies.{failed_reply, failure_told}
+use Rattle.hotel_audit.proofs.Imports.{lead-note, lead-unread}
+use Rattle.hotel_audit.proofs.NoteReplies.{answered_reply, failed_reply, failure_told}
 use Rattle.hotel_audit.proofs.importing.answer_line.Goals as goal
 
 if_ok : {A E : Type 0} (r : Result A E) (P : A → Type 0) → ((a : A) → Ok a ≡ r → P a) → IfOk r P
@@ -21,12 +18,18 @@ if_err (Ok a) P h = tt
 if_err (Err e) P h = h e refl
 
 pub returns-in-Unread-clause-answer : goal.returns-in-Unread-clause-answer
-returns-in-Unread-clause-answer g c = rw (c.in-Unread.is) (Imports-unread g.B.Issued.is_clean g.B.Books.rows c.args.books.now c.in-Unread.cause)
+returns-in-Unread-clause-answer g c = rw c.in-Unread.is refl
+
+pub returns-in-Unread-clause-step : goal.returns-in-Unread-clause-step
+returns-in-Unread-clause-step g c = λ clean. rw c.in-Unread.is (lead-unread (g.B.Books.rows c.args.books.now) c.in-Unread.cause)
 
 pub returns-in-Note-clause-answer : goal.returns-in-Note-clause-answer
-returns-in-Note-clause-answer g c =
+returns-in-Note-clause-answer g c = rw c.in-Note.is (if_ok c.answer_of.result _ (λ a e. (answered_reply c.in-Note.note c.report.result a (e ∙ c.answer_of.ensures)).0))
+
+pub returns-in-Note-clause-step : goal.returns-in-Note-clause-step
+returns-in-Note-clause-step g c =
     rw c.in-Note.is
-    (if_ok c.answer_of.result _ (λ a e. Imports-note g.B.Issued.is_clean g.B.Books.rows c.args.books.now c.report.new.books c.in-Note.note c.report.result a (e ∙ c.answer_of.ensures) (λ h stands clean source. let r = c.report.ensures.step clean source h stands in (r.0, r.1, r.2))))
+    (if_ok c.answer_of.result _ (λ a e clean. lead-note (g.B.Books.rows c.args.books.now) (g.B.Books.rows c.report.new.books) c.in-Note.note c.report.result a (e ∙ c.answer_of.ensures) (c.report.ensures.step clean)))
 
 pub returns-in-Note-clause-unchanged : goal.returns-in-Note-clause-unchanged
 returns-in-Note-clause-unchanged g c =

@@ -1,12 +1,12 @@
-use Rattle.std.proofs.Common.{◌≡◌, ◌∙◌, ◌+◌, subst, false, [], ◌∷◌, ◌++◌, take, length, arith, sym, refl, ap}
+use Rattle.std.proofs.Common.{◌≡◌, ◌∙◌, ◌+◌, subst, false, Ok, [], ◌∷◌, ◌++◌, take, drop, length, arith, sym, refl, ap, inl}
 use Rattle.std.specs.Prelude.{◌||◌}
 use Rattle.hotel_core.specs.Books.Failures.{AreCounted}
 use Rattle.hotel_core.proofs.OfCode.FailuresCounted.{counted_after}
-use Rattle.std.proofs.lemmas.List.{take_more}
+use Rattle.std.proofs.lemmas.List.{take_more, take-append-drop}
 use Rattle.hotel_audit.specs.declared.answer.LineAnswer.{LineAnswer}
 use Rattle.hotel_audit.specs.declared.answer.LineAnswer.TheVariants.{Taken}
-use Rattle.hotel_audit.specs.Import.{has_taken, refusal_by}
-use Rattle.hotel_audit.proofs.Imports.{Imports-join, Imports-none, Imports-stay, has_taken-push}
+use Rattle.hotel_audit.specs.Import.{LinesLeadTo, has_taken, refusal_by}
+use Rattle.hotel_audit.proofs.Imports.{AreAnswered-append, has_taken-push, lead-join, lead-none}
 use Rattle.hotel_audit.proofs.importing.import_lines.Goals as goal
 use Rattle.hotel_audit.proofs.importing.import_lines.Goals.{then-taken, else-taken+in-Taken, else-taken+in_default-matches}
 
@@ -22,30 +22,38 @@ loop-line-init g c = record {
   room = omega (arith, c.in-Ok.ensures.capacity);
   number = c.in-Ok.ensures.len;
   taken = rw (c.in-Ok.ensures.items) refl;
-  imported = rw (c.in-Ok.ensures.items) (Imports-none g.B.Issued.is_clean g.B.Books.rows c.args.books.now);
+  each = rw (c.in-Ok.ensures.items) tt;
+  lead = λ clean. rw (c.in-Ok.ensures.items) (lead-none (g.B.Books.rows c.args.books.now));
 }
 
-pub returns-in-Err-Memory-clause-memory : goal.returns-in-Err-Memory-clause-memory
-returns-in-Err-Memory-clause-memory g c = λ answered taken e.
+pub returns-in_default-clause-imported : goal.returns-in_default-clause-imported
+returns-in_default-clause-imported g c = ([], [], tt, (refl, refl, inl refl), λ clean. lead-none (g.B.Books.rows c.args.books.now))
+
+pub returns-in-Err-Memory-clause-imported : goal.returns-in-Err-Memory-clause-imported
+returns-in-Err-Memory-clause-imported g c =
     let inv = c.loop-line.invariant in
     let f = c.in-Err-Memory.ensures in
-    let stay = Imports-stay g.B.Issued.is_clean g.B.Books.rows c.args.books.now c.loop-line.books c.answer_line.new.books _ _ f.was_clean f.unchanged inv.imported in
-    let n : c.len-answered.result ≡ answered = cc e in
-    let t : c.loop-line.taken ≡ taken = cc e in
-    let at : c.loop-line.line-index ≡ answered = omega (arith, n, inv.number, c.len-answered.ensures) in
-    let count : length c.loop-line.answers.items ≡ answered = omega (arith, n, c.len-answered.ensures) in
-    (c.loop-line.answers.items, count, sym inv.taken ∙ t, rw (sym at) stay)
+    let i = c.loop-line.line-index in
+    let count : length c.loop-line.answers.items ≡ c.len-answered.result = omega (arith, c.len-answered.ensures) in (
+      take i c.args.lines.now,
+      c.loop-line.answers.items,
+      inv.each,
+      (drop i c.args.lines.now, ap (λ ls. Ok ls) (sym (take-append-drop i c.args.lines.now)), count, sym inv.taken),
+      λ clean. subst (λ rows. LinesLeadTo (g.B.Books.rows c.args.books.now) (take i c.args.lines.now) c.loop-line.answers.items rows) (sym (f.unchanged clean)) (inv.lead (f.was_clean clean)),
+    )
 
-pub returns-in-Err-Store-clause-store : goal.returns-in-Err-Store-clause-store
-returns-in-Err-Store-clause-store g c = λ answered taken e.
+pub returns-in-Err-Store-clause-imported : goal.returns-in-Err-Store-clause-imported
+returns-in-Err-Store-clause-imported g c =
     let inv = c.loop-line.invariant in
     let f = c.in-Err-Store.ensures in
-    let stay = Imports-stay g.B.Issued.is_clean g.B.Books.rows c.args.books.now c.loop-line.books c.answer_line.new.books _ _ f.was_clean f.unchanged inv.imported in
-    let n : c.len-answered.result ≡ answered = cc e in
-    let t : c.loop-line.taken ≡ taken = cc e in
-    let at : c.loop-line.line-index ≡ answered = omega (arith, n, inv.number, c.len-answered.ensures) in
-    let count : length c.loop-line.answers.items ≡ answered = omega (arith, n, c.len-answered.ensures) in
-    (c.loop-line.answers.items, count, sym inv.taken ∙ t, rw (sym at) stay)
+    let i = c.loop-line.line-index in
+    let count : length c.loop-line.answers.items ≡ c.len-answered.result = omega (arith, c.len-answered.ensures) in (
+      take i c.args.lines.now,
+      c.loop-line.answers.items,
+      inv.each,
+      (drop i c.args.lines.now, ap (λ ls. Ok ls) (sym (take-append-drop i c.args.lines.now)), count, sym inv.taken),
+      λ clean. subst (λ rows. LinesLeadTo (g.B.Books.rows c.args.books.now) (take i c.args.lines.now) c.loop-line.answers.items rows) (sym (f.unchanged clean)) (inv.lead (f.was_clean clean)),
+    )
 
 pub returns-in-Err-Memory-clause-failed : goal.returns-in-Err-Memory-clause-failed
 returns-in-Err-Memory-clause-failed g c = λ clean.
@@ -78,5 +86,10 @@ loop-line-preserved g c =
       room = omega (arith, c.in-Ok-push.ensures.capacity, inv.room);
       number = omega (arith, c.in-Ok-push.ensures.len, inv.number);
       taken = rw c.in-Ok-push.ensures.items (now ∙ sym (has_taken-push c.loop-line.answers.items c.in-Ok-answer_line.answer));
-      imported = rw (e, c.in-Ok-push.ensures.items) (Imports-join g.B.Issued.is_clean g.B.Books.rows c.args.books.now c.loop-line.books c.answer_line.new.books _ _ _ _ f.was_clean inv.imported f.answer);
+      each = rw (e, c.in-Ok-push.ensures.items) (AreAnswered-append (take i xs) (c.line-item.result ∷ []) c.loop-line.answers.items (c.in-Ok-answer_line.answer ∷ []) inv.each (f.answer, tt));
+      lead = λ clean. rw (e, c.in-Ok-push.ensures.items)
+          (
+          lead-join (g.B.Books.rows c.args.books.now) (g.B.Books.rows c.loop-line.books) (g.B.Books.rows c.answer_line.new.books) (take i xs) (c.line-item.result ∷ []) c.loop-line.answers.items
+          (c.in-Ok-answer_line.answer ∷ []) (inv.lead (f.was_clean clean)) (f.step clean)
+          );
     }

@@ -1,9 +1,8 @@
 use Rattle.std.proofs.Common.{◌≡◌, ◌+◌, take, length, length-append, ◌++◌, ◌∷◌, [], sym, ap, ◌∙◌, arith, subst}
 use Rattle.std.proofs.lemmas.List.{take_more, take_all}
-use Rattle.hotel_core.specs.Refinement.Lift.{RunsTo}
+use Rattle.hotel_core.specs.Model.Laws.{RunsTo}
 use Rattle.hotel_core.specs.Books.Failures.{AreCounted, failures_in}
-use Rattle.hotel_core.proofs.OfCode.FailuresCounted.{counted_join, failures_in-push, same_lengths}
-use Rattle.hotel_core.proofs.Lifted.Runs.{runs_begin}
+use Rattle.hotel_core.proofs.OfCode.FailuresCounted.{counted_join, failures_in-push}
 use Rattle.hotel_core.proofs.Lifted.RunParts.{runs_step}
 use Rattle.hotel_core.proofs.Invariants.Assurance.{runs_safely}
 use Rattle.hotel_core.proofs.runs.run.Goals as goal
@@ -15,13 +14,8 @@ loop-command-preserved g c =
       was_clean = λ clean. c.loop-command.invariant.was_clean (before clean);
       counted = λ cause. omega (arith, c.step-reply.ensures.counted cause, c.loop-command.invariant.counted cause);
       failed = λ clean.
-          let xs = c.args.commands.now in
-          let i = c.loop-command.command-index in
-          let e : take (i + 1) xs ≡ take i xs ++ c.command-item.result ∷ [] = take_more xs i c.command-item.result c.loop-command-test.true ∙ ap (λ x. take i xs ++ x ∷ []) (sym c.command-item.is) in
-          let n : length (take i xs) ≡ length c.loop-command.replies.items = same_lengths xs i c.loop-command.replies.items c.loop-command-test.true c.loop-command.invariant.as_many in
-          rw (e, c.in-Ok-push.ensures.items, failures_in-push (take i xs) c.loop-command.replies.items c.command-item.result c.step-reply.result n)
+          rw (c.in-Ok-push.ensures.items, failures_in-push c.loop-command.replies.items c.step-reply.result)
           (counted_join _ _ _ _ _ c.step-reply.ensures.counted (c.loop-command.invariant.failed (before clean)) (c.step-reply.ensures.failed clean));
-      as_many = rw c.in-Ok-push.ensures.items (omega (arith, length-append c.loop-command.replies.items (c.step-reply.result ∷ []), c.loop-command.invariant.as_many));
       room = omega (arith, c.in-Ok-push.ensures.capacity, c.loop-command.invariant.room);
       answered = omega (arith, c.in-Ok-push.ensures.len, c.loop-command.invariant.answered);
       ran = λ clean h stands.
@@ -32,19 +26,8 @@ loop-command-preserved g c =
           rw (e, c.in-Ok-push.ensures.items) r;
     }
 
-pub returns-clause-failed : goal.returns-clause-failed
-returns-clause-failed g c = λ clean.
-    let all : take c.loop-command.command-index c.args.commands.now ≡ c.args.commands.now = take_all _ _ c.loop-command-test.false in
-    subst (λ xs. AreCounted (g.B.Issued.failures c.args.books.now) (g.B.Issued.failures c.loop-command.books) (failures_in xs c.loop-command.replies.items)) all (c.loop-command.invariant.failed clean)
-
 pub returns-clause-run : goal.returns-clause-run
 returns-clause-run g c = λ clean h stands.
     let all : take c.loop-command.command-index c.args.commands.now ≡ c.args.commands.now = take_all _ _ c.loop-command-test.false in
     runs_safely h _ _ _ _ _ (subst (λ xs. RunsTo h (g.R.Rng.stream c.args.source.now) xs c.loop-command.replies.items (g.B.Books.rows c.loop-command.books) (g.R.Rng.stream c.loop-command.source))
     all (c.loop-command.invariant.ran clean h stands))
-
-pub returns-in_default-clause-fault : goal.returns-in_default-clause-fault
-returns-in_default-clause-fault g c = λ clean h stands.
-    let s = g.R.Rng.stream c.args.source.now in
-    let r = runs_safely h s s [] [] (g.B.Books.rows c.args.books.now) (runs_begin h s (g.B.Books.rows c.args.books.now) stands) in
-    (r.0, r.1, ([], r.2), r.3)

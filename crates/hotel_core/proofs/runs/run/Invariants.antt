@@ -2,7 +2,7 @@ use Rattle.std.proofs.Common.{◌≡◌, ◌≤◌, take, length, vec_len, vec_c
 use Rattle.keycard_rules.specs.Rise.{NoFewer}
 use Rattle.hotel_core.specs.Model.History.{History}
 use Rattle.hotel_core.specs.Model.Run.{StandsFor}
-use Rattle.hotel_core.specs.Refinement.Lift.{RunsTo}
+use Rattle.hotel_core.specs.Model.Laws.{RunsTo}
 use Rattle.hotel_core.specs.Books.Failures.{AreCounted, failures_in}
 use Rattle.hotel_core.proofs.runs.run.Given as goal
 
@@ -14,8 +14,7 @@ invariant-loop-command g l =
     record {
       was_clean : is_clean l.books → is_clean l.fn.books;
       counted : NoFewer (g.B.Issued.failures l.fn.books) (g.B.Issued.failures l.books);
-      failed : is_clean l.books → AreCounted (g.B.Issued.failures l.fn.books) (g.B.Issued.failures l.books) (failures_in (take l.command-index l.commands) l.replies.items);
-      as_many : length l.replies.items ≡ l.command-index;
+      failed : is_clean l.books → AreCounted (g.B.Issued.failures l.fn.books) (g.B.Issued.failures l.books) (failures_in l.replies.items);
       room : length l.commands ≤ vec_capacity l.replies;
       answered : vec_len l.replies ≡ l.command-index;
       ran : is_clean l.books → (h : History) → StandsFor h (rows l.fn.books) →

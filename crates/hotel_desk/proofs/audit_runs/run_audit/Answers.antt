@@ -5,7 +5,7 @@ use Rattle.hotel_desk.proofs.audit_runs.run_audit.Goals as goal
 
 pub returns : goal.returns
 returns g c =
-    let e = c.import_and_write-end.ensures in (
+    let e = c.import_and_write-end.ensures.ends in (
       e.0,
       e.1,
       c.finish.ensures.status ∙ ap end_status e.2,

@@ -4,7 +4,8 @@ use Rattle.hotel_asks.specs.declared.asks.Ask.{Ask}
 use Rattle.hotel_desk.specs.declared.asks.LineFault.{LineFault}
 use Rattle.hotel_asks.specs.Asks.{ask_copies}
 use Rattle.hotel_desk.specs.Asks.{ask_in, IsLineRead}
-use Rattle.hotel_desk.proofs.ListAnswerLemmas.{list_answered, unread_answered, memory_answered, when_ok, when_err}
+use Rattle.hotel_desk.proofs.LineAnswerLemmas.{list_answered, unread_answered, memory_answered}
+use Rattle.hotel_desk.proofs.ListAnswerLemmas.{when_ok, when_err}
 use Rattle.hotel_desk.proofs.line_answers.answer_line.Goals as goal
 
 pub returns-in-Ok-List-clause-ok : goal.returns-in-Ok-List-clause-ok

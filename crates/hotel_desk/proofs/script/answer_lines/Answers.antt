@@ -1,11 +1,10 @@
 use Rattle.std.proofs.Common.{◌≡◌, ◌∙◌, [], arith, false, refl, subst, sym, List, ℕ, Result, Ok, Err}
 use Rattle.std.specs.Prelude.{OnOk, OnErr}
-use Rattle.std.specs.Io.KnownBytes.{Appends}
-use Rattle.std.proofs.KnownBytes.{Appends-trans}
-use Rattle.hotel_core.specs.Books.Failures.{AreCounted}
+use Rattle.hotel_core.specs.Model.Leads.{Leads}
+use Rattle.hotel_lists.proofs.CallsLemmas.{none_forgotten, then_none_forgotten}
 use Rattle.hotel_desk.specs.Lines.{answered_lines, is_silent}
-use Rattle.hotel_desk.specs.Script.{RowsGo}
-use Rattle.hotel_desk.proofs.ScriptLemmas.{goes_safely, rows_begin, rows_more, next_line, all_done, answered_more, appends_front}
+use Rattle.hotel_desk.specs.Script.{ScriptAnswered}
+use Rattle.hotel_desk.proofs.ScriptLemmas.{none_answered, answered_next, cut_next, next_line, all_done, answered_more}
 use Rattle.hotel_desk.proofs.script.answer_lines.Goals as goal
 
 got_ok : {T E : Type 0} {r : Result T E} {t : T} {P : Type 0} → r ≡ Ok t → OnOk r P → P
@@ -20,8 +19,9 @@ loop-line-init g c = record {
   within = omega arith;
   left = refl;
   clean = λ clean. clean;
-  went = λ clean. rows_begin (g.B.Books.rows c.args.books.now) (g.R.Rng.stream c.args.source.now) (g.W.Write.contents c.args.writer.now) _;
+  went = λ clean. none_answered (g.B.Books.rows c.args.books.now) (g.R.Rng.stream c.args.source.now) (g.W.Write.contents c.args.writer.now) _;
   counted = λ cause. omega arith;
+  calls = none_forgotten _;
 }
 
 pub loop-line-preserved-in-Ok-1 : goal.loop-line-preserved-in-Ok-1
@@ -37,23 +37,24 @@ loop-line-preserved-in-Ok-1 g c =
       within = next.0;
       left = next.1;
       clean = λ clean. c.loop-line.invariant.clean (answered.was_clean clean);
-      went = λ clean. rows_more _ _ _ _ _ _ all c.loop-line.done line _ _ _ _ _ _ _
-          (c.loop-line.invariant.went (answered.was_clean clean)) left (got_ok c.in-Ok.is (answered.ok clean))
-          (λ output text written more. Appends-trans _ _ _ output text written more) answered.counted;
+      went = λ clean. answered_next _ _ _ _ _ _ all c.loop-line.done line _ _ _ _ _ _ _
+          (c.loop-line.invariant.went (answered.was_clean clean)) left (got_ok c.in-Ok.is (answered.ok clean)) answered.counted;
       counted = λ cause. omega (arith, c.loop-line.invariant.counted cause, answered.counted cause);
+      calls = then_none_forgotten _ _ _ c.loop-line.invariant.calls answered.calls;
     }
 
 pub returns-in_default-answered-clause-cut : goal.returns-in_default-answered-clause-cut
-returns-in_default-answered-clause-cut g c = λ clean.
+returns-in_default-answered-clause-cut g c =
     let all = answered_lines c.args.script.now in
     let line = c.without_return-line.result.now in
     let silent : is_silent line ≡ false = sym c.is_silent.ensures ∙ c.if-not-is_silent.true in
     let left = c.loop-line.invariant.left ∙ answered_more c.loop-line.rest.now c.in-Some.later.now c.in-Some.line.now line c.in-Some.ensures.some c.without_return-line.ensures silent in
-    let answered = c.answer_line-answered.ensures in
-    goes_safely _ _ _ _ _ _ _
-    (rows_more _ _ _ _ _ _ all c.loop-line.done line _ _ _ _ _ _ _
-    (c.loop-line.invariant.went (answered.was_clean clean)) left (got_err c.in_default-answered.is (answered.err clean))
-    (λ output text written more. appends_front _ _ _ output text more written) answered.counted)
+    let answered = c.answer_line-answered.ensures in (
+      omega arith,
+      (next_line all c.loop-line.done line _ left).0,
+      λ clean. cut_next _ _ _ _ _ _ all c.loop-line.done line _ _ _ _ _ _ _
+          (c.loop-line.invariant.went (answered.was_clean clean)) left (got_err c.in_default-answered.is (answered.err clean)) answered.counted,
+    )
 
 pub returns-clause-count : goal.returns-clause-count
 returns-clause-count g c =
@@ -64,7 +65,7 @@ pub returns-clause-ok : goal.returns-clause-ok
 returns-clause-ok g c = λ clean.
     let none : answered_lines c.loop-line.rest.now ≡ [] = rw (c.first_line.ensures.none c.in_default.is) refl in
     let whole = (all_done (answered_lines c.args.script.now) c.loop-line.done c.loop-line.invariant.within (c.loop-line.invariant.left ∙ none)).1 in
-    goes_safely _ _ _ _ _ _ _ (subst (λ (ls : List (List ℕ)). RowsGo (g.B.Books.rows c.args.books.now) (g.R.Rng.stream c.args.source.now) ls
-    (Appends (g.W.Write.contents c.args.writer.now) (g.W.Write.contents c.loop-line.writer))
-    (AreCounted (g.B.Issued.failures c.args.books.now) (g.B.Issued.failures c.loop-line.books)) (g.B.Books.rows c.loop-line.books) (g.R.Rng.stream c.loop-line.source))
-    whole (c.loop-line.invariant.went clean))
+    subst (λ (ls : List (List ℕ)). Leads (g.B.Books.rows c.args.books.now) (ScriptAnswered ls (g.R.Rng.stream c.args.source.now) (g.R.Rng.stream c.loop-line.source)
+    (g.W.Write.contents c.args.writer.now) (g.W.Write.contents c.loop-line.writer)
+    (g.B.Issued.failures c.args.books.now) (g.B.Issued.failures c.loop-line.books)) (g.B.Books.rows c.loop-line.books))
+    whole (c.loop-line.invariant.went clean)

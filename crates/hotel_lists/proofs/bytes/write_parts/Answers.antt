@@ -3,4 +3,4 @@ use Rattle.hotel_lists.proofs.bytes.write_parts.Goals as goal
 
 pub returns-in_err-write_bytes-clause-err : goal.returns-in_err-write_bytes-clause-err
 returns-in_err-write_bytes-clause-err g c =
-    on_err c.from_residual.result (parts_front _ _ _ c.args.parts.now c.loop-part.part-index _ c.loop-part-test.true c.loop-part.invariant c.in_err-write_bytes.ensures.err)
+    on_err c.from_residual.result (parts_front _ _ _ c.args.parts.now c.loop-part.part-index _ c.loop-part-test.true c.loop-part.invariant.0 c.in_err-write_bytes.ensures.err)

@@ -7,7 +7,7 @@ use Rattle.hotel_core.proofs.OfTables.DayNumbers.{is_day, no_day}
 use Rattle.hotel_core.proofs.OfCode.Parts.{begun, then_found, stopped, refuses, ends, only}
 use Rattle.std.specs.Prelude.{nat_lt, ◌+◌, ◌-◌}
 use Rattle.std.proofs.lemmas.Bool.Decides.{nat_tests}
-use Rattle.hotel_core.proofs.OfCode.Parts.{number_is, lacks}
+use Rattle.hotel_core.proofs.OfCode.Parts.{number_is}
 use Rattle.hotel_nights.specs.declared.stay.StayState.TheVariants as state
 use Rattle.hotel_core.specs.declared.books.change.Change.{Change}
 use Rattle.hotel_core.specs.Model.Outcome.{Outcome, accepted}
@@ -73,10 +73,10 @@ returns-in_err-party g c = λ source.
     let free : c.in_ok-night.field-0 ≡ None = cc in
     stopped c.from_residual-in_err-party.result c.from_residual-in_err-party.ensures.1 (then_found (then_found (then_found begun c.in_ok-today.ensures.finds) c.in_ok-is_kind.ensures) c.in_ok-night.ensures) c.in_err-party.ensures (λ k e. let full = rw span at (only k.1) in rw (k.0.0.1, only k.0.1, c.if-not-branch.false, past, late, full, free, e) refl)
 
-pub returns-in_default-again : goal.returns-in_default-again
+pub returns-in_err-guest : goal.returns-in_err-guest
 unfolding outcome_on
-returns-in_default-again g c = λ source.
-    lacks (then_found (then_found (then_found (then_found begun c.in_ok-today.ensures.finds) c.in_ok-is_kind.ensures) c.in_ok-night.ensures) c.in_ok-party.ensures)
+returns-in_err-guest g c = λ source.
+    stopped c.from_residual-in_err-guest.result c.from_residual-in_err-guest.ensures.1 (then_found (then_found (then_found (then_found begun c.in_ok-today.ensures.finds) c.in_ok-is_kind.ensures) c.in_ok-night.ensures) c.in_ok-party.ensures) c.in_err-guest.ensures (λ k e. cc)
 
 pub make-requires-clause-answered : goal.make-requires-clause-answered
 unfolding outcome_on
@@ -87,12 +87,12 @@ make-requires-clause-answered g c =
     let span : c.in-Some.depart - c.args.arrive ≡ c.args.nights = omega (arith, leaving.0) in
     let free : c.in_ok-night.field-0 ≡ None = cc in
     let last : c.in-Some.depart ≡ c.args.arrive + c.args.nights = omega (arith, leaving.0) in
-    answers (then_found (then_found (then_found (then_found begun c.in_ok-today.ensures.finds) c.in_ok-is_kind.ensures) c.in_ok-night.ensures) c.in_ok-party.ensures) (λ clean k. let full = rw span at (only k.0.1) in (
+    answers (then_found (then_found (then_found (then_found (then_found begun c.in_ok-today.ensures.finds) c.in_ok-is_kind.ensures) c.in_ok-night.ensures) c.in_ok-party.ensures) c.in_ok-guest.ensures) (λ clean k. let full = rw span at (only k.0.0.1) in (
       [],
       command.Reserve c.args.guest.now c.args.kind.now c.args.arrive c.args.nights,
       c.requires,
-      rw (k.0.0.0.1, only k.0.0.1, c.if-not-branch.false, past, late, full, free, k.1, number_is _ _ k.1) (ap (λ (d : ℕ). booked_as c.in_ok-party.party c.args.guest.now c.args.kind.now c.args.arrive d) (sym last)
-          ∙ ap (λ (g : List ℕ). booked_as c.in_ok-party.party g c.args.kind.now c.args.arrive c.in-Some.depart) (sym c.in-Ok.ensures)),
+      rw (k.0.0.0.0.1, only k.0.0.0.1, c.if-not-branch.false, past, late, full, free, k.0.1, number_is _ _ k.0.1) (ap (λ (d : ℕ). booked_as c.in_ok-party.party c.args.guest.now c.args.kind.now c.args.arrive d) (sym last)
+          ∙ ap (λ (g : List ℕ). booked_as c.in_ok-party.party g c.args.kind.now c.args.arrive c.in-Some.depart) (only k.1)),
     ))
 
 pub returns : goal.returns
@@ -104,5 +104,5 @@ returns g c = λ source.
     let span : c.in-Some.depart - c.args.arrive ≡ c.args.nights = omega (arith, leaving.0) in
     let free : c.in_ok-night.field-0 ≡ None = cc in
     let last : c.in-Some.depart ≡ c.args.arrive + c.args.nights = omega (arith, leaving.0) in
-    ends (then_found (then_found (then_found (then_found begun c.in_ok-today.ensures.finds) c.in_ok-is_kind.ensures) c.in_ok-night.ensures) c.in_ok-party.ensures) (c.make.ensures.steps source) (λ k. let full = rw span at (only k.0.1) in rw (k.0.0.0.1, only k.0.0.1, c.if-not-branch.false, past, late, full, free, k.1, number_is _ _ k.1) (ap (λ (d : ℕ). booked_as c.in_ok-party.party c.args.guest.now c.args.kind.now c.args.arrive d) (sym last)
-    ∙ ap (λ (g : List ℕ). booked_as c.in_ok-party.party g c.args.kind.now c.args.arrive c.in-Some.depart) (sym c.in-Ok.ensures)))
+    ends (then_found (then_found (then_found (then_found (then_found begun c.in_ok-today.ensures.finds) c.in_ok-is_kind.ensures) c.in_ok-night.ensures) c.in_ok-party.ensures) c.in_ok-guest.ensures) (c.make.ensures.steps source) (λ k. let full = rw span at (only k.0.0.1) in rw (k.0.0.0.0.1, only k.0.0.0.1, c.if-not-branch.false, past, late, full, free, k.0.1, number_is _ _ k.0.1) (ap (λ (d : ℕ). booked_as c.in_ok-party.party c.args.guest.now c.args.kind.now c.args.arrive d) (sym last)
+    ∙ ap (λ (g : List ℕ). booked_as c.in_ok-party.party g c.args.kind.now c.args.arrive c.in-Some.depart) (only k.1)))

@@ -3,7 +3,7 @@ use Rattle.keycard_rules.specs.Numbers.{IsNumberUpTo}
 use Rattle.hotel_core.specs.declared.books.change.InsideMove.{InsideMove}
 use Rattle.hotel_core.specs.Books.Change.{moved}
 use Rattle.hotel_core.specs.Memory.{HaveCardNumbers}
-use Rattle.hotel_core.proofs.OfTables.CardsInside.{numbers_removed, numbers_added, removed_keys}
+use Rattle.hotel_core.proofs.OfTables.CardsInside.{numbers_removed, numbers_added}
 use Rattle.hotel_core.proofs.memory.inside_table.InsideTable.change.Goals as goal
 
 pub invariant_of-self : goal.invariant_of-self
@@ -11,8 +11,7 @@ invariant_of-self c = subst (λ keys. HaveCardNumbers keys) (sym c.remove.ensure
 
 pub returns-in-Goes-clause-ok : goal.returns-in-Goes-clause-ok
 returns-in-Goes-clause-ok c =
-    c.remove.ensures.keys ∙ removed_keys c.self.inside.pairs.keys (c.args.room, c.in-Goes.number)
-    ∙ ap (λ (m : InsideMove). moved m c.args.room c.self.inside.pairs.keys) (sym c.in-Goes.is)
+    c.remove.ensures.keys ∙ ap (λ (m : InsideMove). moved m c.args.room c.self.inside.pairs.keys) (sym c.in-Goes.is)
     ∙ ap (λ keys. moved c.args.insides c.args.room keys) c.self.view_is
 
 pub invariant_of-self-in-Comes : goal.invariant_of-self-in-Comes

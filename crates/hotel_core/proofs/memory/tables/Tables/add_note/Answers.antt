@@ -1,21 +1,25 @@
-use Rattle.std.proofs.Common.{◌≡◌, ◌≤◌, ℕ, List, ap, sym, ◌∙◌, subst, arith}
+use Rattle.std.proofs.Common.{◌≡◌, ◌≤◌, ℕ, List, refl, ap, sym, ◌∙◌, subst, arith}
 use Rattle.std.specs.BTreeMap.{is_at}
-use Rattle.std.specs.Map.{remove_entry}
+use Rattle.std.specs.Map.{remove_entry, keys_of}
 use Rattle.keycard_rules.specs.Note.{Note}
 use Rattle.hotel_core.specs.declared.books.rows.RoomRow.{RoomRow}
 use Rattle.hotel_core.specs.Model.Words.{pair_cmp}
 use Rattle.hotel_core.specs.Model.Rows.{Rows}
 use Rattle.hotel_core.specs.Books.Lookups.{note_at}
-use Rattle.hotel_core.specs.Memory.{LaterPlacesFree}
+use Rattle.hotel_core.specs.Memory.{LaterPlacesFree, RoomsKnown, TablesAgree}
 use Rattle.hotel_core.proofs.OfTables.MapEntries.{taken_back, pair_total}
 use Rattle.hotel_core.proofs.OfTables.LaterPlaces.{free_on, codes_changed}
+use Rattle.hotel_core.proofs.OfNights.RoomsByKind.{known_changed}
 use Rattle.hotel_core.proofs.memory.tables.Tables.add_note.Goals as goal
 
 pub invariant_of-self-2 : goal.invariant_of-self-2
 invariant_of-self-2 c =
     let f : RoomRow → RoomRow = λ row. record row { lock_place = c.args.lock_place; secured = c.args.secured; notes = c.value.result } in
-    subst (λ rooms. LaterPlacesFree rooms c.self.inside.codes) (sym c.note_at.ensures)
-    (free_on c.self.inside.rooms.entries _ c.self.inside.codes c.self.invariant (λ r. codes_changed (λ m n. m ≤ n) (λ n. omega arith) f (λ row. omega arith) c.room-room.result r c.self.inside.rooms.entries))
+    let rooms = c.self.inside.rooms.entries in
+    record {
+      places = subst (λ later. LaterPlacesFree later c.self.inside.codes) (sym c.note_at.ensures) (free_on rooms _ c.self.inside.codes c.self.invariant.places (λ r. codes_changed (λ m n. m ≤ n) (λ n. omega arith) f (λ row. omega arith) c.room-room.result r rooms));
+      rooms_known = subst (λ later. RoomsKnown c.self.inside.kinds later) (sym c.note_at.ensures) (known_changed f (λ row. refl) c.self.inside.kinds c.room-room.result rooms c.self.invariant.rooms_known);
+    }
 
 pub returns-in_default-change-clause-err : goal.returns-in_default-change-clause-err
 returns-in_default-change-clause-err c =
@@ -23,7 +27,7 @@ returns-in_default-change-clause-err c =
     let key : ℕ × ℕ = (c.args.note.now.room, c.args.note.now.count) in
     let own : (c.room-room.result, c.count-count.result) ≡ key = (λ i. (c.room-room.ensures i, c.count-count.ensures i)) in
     let absent = ap (λ rows. note_at rows key.0 key.1) c.self.view_is ∙ c.requires in
-    let before : List ((ℕ × ℕ) × Note) → Rows = λ notes. record { day = t.day; kinds = t.kinds.keys; rooms = t.rooms.entries; codes = t.codes; stays = t.stays.entries; cards = t.cards.entries; inside = c.change.new.self; notes = notes } in
+    let before : List ((ℕ × ℕ) × Note) → Rows = λ notes. record { day = t.day; kinds = keys_of t.kinds; rooms = t.rooms.entries; codes = t.codes; stays = t.stays; cards = t.cards.entries; inside = c.change.new.self; notes = notes } in
     ap before (c.remove.ensures ∙ ap (λ k. remove_entry (is_at (pair_cmp k)) c.insert.new.self) own ∙ ap (remove_entry (is_at (pair_cmp key))) c.in-Ok.ensures.ok ∙ taken_back pair_cmp pair_total key c.args.note.now t.notes absent)
-    ∙ ap (λ inside. let rows : Rows = record { day = t.day; kinds = t.kinds.keys; rooms = t.rooms.entries; codes = t.codes; stays = t.stays.entries; cards = t.cards.entries; inside = inside; notes = t.notes } in rows) c.in_default-change.ensures.err
+    ∙ ap (λ inside. let rows : Rows = record { day = t.day; kinds = keys_of t.kinds; rooms = t.rooms.entries; codes = t.codes; stays = t.stays; cards = t.cards.entries; inside = inside; notes = t.notes } in rows) c.in_default-change.ensures.err
     ∙ c.self.view_is

@@ -1,9 +1,15 @@
-use Rattle.std.proofs.Common.{◌≤◌, None, sym, subst, arith}
-use Rattle.hotel_core.specs.Memory.{LaterPlacesFree}
+use Rattle.std.proofs.Common.{◌≤◌, None, refl, sym, subst, arith}
+use Rattle.hotel_core.specs.declared.books.rows.RoomRow.{RoomRow}
+use Rattle.hotel_core.specs.Memory.{LaterPlacesFree, RoomsKnown}
 use Rattle.hotel_core.proofs.OfTables.LaterPlaces.{free_on, codes_changed}
+use Rattle.hotel_core.proofs.OfNights.RoomsByKind.{known_changed}
 use Rattle.hotel_core.proofs.memory.tables.Tables.check_out.Goals as goal
 
 pub invariant_of-self : goal.invariant_of-self
 invariant_of-self c =
-    subst (λ rooms. LaterPlacesFree rooms c.self.inside.codes) (sym c.leave.ensures)
-    (free_on c.self.inside.rooms.entries _ c.self.inside.codes c.self.invariant (λ r. codes_changed (λ m n. m ≤ n) (λ n. omega arith) (λ row. record row { party = None }) (λ row. omega arith) c.args.room r c.self.inside.rooms.entries))
+    let f : RoomRow → RoomRow = λ row. record row { party = None } in
+    let rooms = c.self.inside.rooms.entries in
+    record {
+      places = subst (λ later. LaterPlacesFree later c.self.inside.codes) (sym c.leave.ensures) (free_on rooms _ c.self.inside.codes c.self.invariant.places (λ r. codes_changed (λ m n. m ≤ n) (λ n. omega arith) f (λ row. omega arith) c.args.room r rooms));
+      rooms_known = subst (λ later. RoomsKnown c.self.inside.kinds later) (sym c.leave.ensures) (known_changed f (λ row. refl) c.self.inside.kinds c.args.room rooms c.self.invariant.rooms_known);
+    }

@@ -1,16 +1,17 @@
 use Rattle.std.proofs.Common.{◌≤◌, ◌<◌, ◌+◌, ◌-◌, ◌^◌, ℕ, List, Some, false, IsSome, refl, ap, sym, ◌∙◌, subst, arith}
 use Rattle.std.specs.Ordering.{nat_cmp}
 use Rattle.std.specs.BTreeMap.{is_at}
-use Rattle.std.specs.Map.{remove_entry}
+use Rattle.std.specs.Map.{remove_entry, keys_of}
 use Rattle.std.proofs.lemmas.Cmp.{nat_cmp_total}
 use Rattle.hotel_core.specs.declared.books.rows.RoomRow.{RoomRow}
 use Rattle.hotel_core.specs.declared.books.rows.CodeRow.{CodeRow}
 use Rattle.hotel_core.specs.Model.Rows.{Rows, at_number}
 use Rattle.hotel_core.specs.Books.Lookups.{room_at, code_place, first_code_at}
 use Rattle.hotel_core.specs.Books.Change.{codes_of, left_by, room_changed}
-use Rattle.hotel_core.specs.Memory.{LaterPlacesFree}
+use Rattle.hotel_core.specs.Memory.{LaterPlacesFree, RoomsKnown, TablesAgree}
 use Rattle.hotel_core.proofs.OfTables.MapEntries.{taken_back, found}
 use Rattle.hotel_core.proofs.OfTables.LaterPlaces.{free_after, codes_left, codes_changed, codes_there, one_more_code, there_left}
+use Rattle.hotel_core.proofs.OfNights.RoomsByKind.{known_changed, known_left}
 use Rattle.hotel_core.proofs.memory.tables.Tables.issue.Goals as goal
 
 pub remove-requires-clause-there : goal.remove-requires-clause-there
@@ -23,12 +24,12 @@ remove-requires-clause-alone c =
     let absent = ap (λ rows. code_place rows c.args.card.now.link.new_code) c.self.view_is ∙ c.requires.new_code in
     ap (λ es. first_code_at (remove_entry (is_at (nat_cmp c.args.card.now.link.new_code)) es) c.args.room c.codes_issued-place.result) c.in-Ok.ensures.ok
     ∙ ap (λ es. first_code_at es c.args.room c.codes_issued-place.result) (taken_back nat_cmp nat_cmp_total c.args.card.now.link.new_code (record { room = c.args.room; place = c.codes_issued-place.result }) c.self.inside.codes absent)
-    ∙ c.self.invariant c.args.room c.codes_issued-place.result (omega (arith, c.codes_issued-place.ensures))
+    ∙ c.self.invariant.places c.args.room c.codes_issued-place.result (omega (arith, c.codes_issued-place.ensures))
 
 pub invariant_of-self-in_default-insert : goal.invariant_of-self-in_default-insert
 invariant_of-self-in_default-insert c =
     let absent = ap (λ rows. code_place rows c.args.card.now.link.new_code) c.self.view_is ∙ c.requires.new_code in
-    subst (λ codes. LaterPlacesFree c.self.inside.rooms.entries codes)
+    subst (λ codes. TablesAgree c.self.inside.kinds c.self.inside.rooms.entries codes)
     (sym (c.remove.ensures ∙ ap (remove_entry (is_at (nat_cmp c.args.card.now.link.new_code))) c.in-Ok.ensures.ok
     ∙ taken_back nat_cmp nat_cmp_total c.args.card.now.link.new_code (record { room = c.args.room; place = c.codes_issued-place.result }) c.self.inside.codes absent))
     c.self.invariant
@@ -37,10 +38,10 @@ pub returns-in_default-insert-clause-err : goal.returns-in_default-insert-clause
 returns-in_default-insert-clause-err c =
     let absent = ap (λ rows. code_place rows c.args.card.now.link.new_code) c.self.view_is ∙ c.requires.new_code in
     let t = c.self.inside in
-    let before : List (ℕ × CodeRow) → Rows = λ codes. record { day = t.day; kinds = t.kinds.keys; rooms = t.rooms.entries; codes = codes; stays = t.stays.entries; cards = c.insert-2.new.self.entries; inside = t.inside; notes = t.notes } in
+    let before : List (ℕ × CodeRow) → Rows = λ codes. record { day = t.day; kinds = keys_of t.kinds; rooms = t.rooms.entries; codes = codes; stays = t.stays; cards = c.insert-2.new.self.entries; inside = t.inside; notes = t.notes } in
     ap before (c.remove.ensures ∙ ap (remove_entry (is_at (nat_cmp c.args.card.now.link.new_code))) c.in-Ok.ensures.ok
     ∙ taken_back nat_cmp nat_cmp_total c.args.card.now.link.new_code (record { room = c.args.room; place = c.codes_issued-place.result }) c.self.inside.codes absent)
-    ∙ ap (λ cards. let rows : Rows = record { day = t.day; kinds = t.kinds.keys; rooms = t.rooms.entries; codes = t.codes; stays = t.stays.entries; cards = cards; inside = t.inside; notes = t.notes } in rows) c.in_default-insert.ensures.err
+    ∙ ap (λ cards. let rows : Rows = record { day = t.day; kinds = keys_of t.kinds; rooms = t.rooms.entries; codes = t.codes; stays = t.stays; cards = cards; inside = t.inside; notes = t.notes } in rows) c.in_default-insert.ensures.err
     ∙ c.self.view_is
 
 pub issue_at-requires : goal.issue_at-requires
@@ -59,10 +60,15 @@ invariant_of-self-2 c =
     λ r. let a = codes_left c.args.leaves c.self.inside.rooms.entries r in
     let b = codes_changed (λ m n. m ≤ n) (λ n. omega arith) f (λ row. omega arith) c.args.room r left in
     subst (λ rooms. codes_there c.self.inside.rooms.entries r ≤ codes_there rooms r) (sym (c.issue_at.ensures ∙ ap (λ rooms. room_changed c.args.room f rooms) c.leave_any.ensures)) (omega (arith, a, b)) in
-    subst (λ codes. LaterPlacesFree c.issue_at.new.rooms.entries codes) (sym c.in-Ok.ensures.ok)
-    (free_after c.self.inside.rooms.entries c.issue_at.new.rooms.entries c.self.inside.codes c.args.card.now.link.new_code (record { room = c.args.room; place = c.codes_issued-place.result }) c.self.invariant up
+    let places : LaterPlacesFree c.issue_at.new.rooms.entries c.insert.new.self = subst (λ codes. LaterPlacesFree c.issue_at.new.rooms.entries codes) (sym c.in-Ok.ensures.ok)
+    (free_after c.self.inside.rooms.entries c.issue_at.new.rooms.entries c.self.inside.codes c.args.card.now.link.new_code (record { room = c.args.room; place = c.codes_issued-place.result }) c.self.invariant.places up
     (omega (arith, c.codes_issued-place.ensures))
     (let a = codes_left c.args.leaves c.self.inside.rooms.entries c.args.room in
     let b = one_more_code c.args.room f left (λ row. refl) (there_left c.args.leaves c.self.inside.rooms.entries c.args.room there) in
     subst (λ rooms. c.codes_issued-place.result < codes_there rooms c.args.room) (sym (c.issue_at.ensures ∙ ap (λ rooms. room_changed c.args.room f rooms) c.leave_any.ensures)) (omega (arith, a, b, c.codes_issued-place.ensures)))
-    absent)
+    absent) in
+    record {
+      places = places;
+      rooms_known = subst (λ rooms. RoomsKnown c.self.inside.kinds rooms) (sym (c.issue_at.ensures ∙ ap (λ rooms. room_changed c.args.room f rooms) c.leave_any.ensures))
+          (known_changed f (λ row. refl) c.self.inside.kinds c.args.room left (known_left c.args.leaves c.self.inside.kinds c.self.inside.rooms.entries c.self.invariant.rooms_known));
+    }

@@ -1,0 +1,45 @@
+-- What an accepted event needs of the history before it. A consequence of the answers, for proofs.
+use Rattle.std.specs.Prelude.{ℕ, ◌≡◌, true, false, List, None, ◌+◌, nat_lt, [], ◌∷◌, ◌==◌, length}
+use Rattle.hotel_core.specs.Model.Words.{is_one_of}
+use Rattle.hotel_core.specs.Model.Notes.{notes}
+use Rattle.hotel_core.specs.Model.Event.{Event, Begun, Kind, Install, Reserved, Cancelled, CheckIn, Transfer, Spare, CheckOut, NextDay, Entered, Left, Recoded}
+use Rattle.hotel_core.specs.Model.History.{History, ◌▷◌}
+use Rattle.hotel_core.specs.Model.RowsOf.{rows_of}
+use Rattle.hotel_core.specs.Books.Change.{made}
+use Rattle.hotel_core.specs.Refinement.ChangeOf.{change_of}
+use Rattle.hotel_core.specs.Model.Issued.{is_fresh}
+use Rattle.hotel_core.specs.Model.Ledger.{awaited}
+use Rattle.hotel_core.specs.Model.Guests.{inside}
+use Rattle.hotel_core.specs.Model.Stays.{first_full}
+use Rattle.hotel_core.specs.Model.Cases.{is_begun, today, is_kind, is_room, is_party, is_booked, is_in_house, is_of_kind, is_taken, is_card, has_link, opens, holds, next_card, next_party}
+
+abbrev pub MayFollow : History → Event → Type 0
+MayFollow h (Begun day) = is_begun h ≡ false
+MayFollow h (Kind kind) = (is_begun h ≡ true) × (is_kind h kind ≡ false)
+MayFollow h (Install room kind code) = (is_kind h kind ≡ true) × (is_room h room ≡ false) × (is_fresh h code ≡ true)
+MayFollow h (Reserved party guest kind arrive depart) = (is_kind h kind ≡ true) × (party ≡ next_party h) × (nights : ℕ) × (depart ≡ arrive + nights) × (first_full h kind arrive nights ≡ None)
+MayFollow h (Cancelled party) = (is_party h party ≡ true) × (is_booked h party ≡ true)
+MayFollow h (CheckIn party room number code) =
+    (is_room h room ≡ true) × (is_party h party ≡ true) × (is_booked h party ≡ true) × (is_of_kind h room party ≡ true) × (is_taken h room ≡ false) × (number ≡ next_card h) × (is_fresh h code ≡ true)
+MayFollow h (Transfer party room number code) =
+    (is_room h room ≡ true) × (is_party h party ≡ true) × (is_in_house h party ≡ true) × (is_of_kind h room party ≡ true) × (is_taken h room ≡ false) × (number ≡ next_card h) × (is_fresh h code ≡ true)
+MayFollow h (Spare party number) = (is_party h party ≡ true) × (is_in_house h party ≡ true) × (number ≡ next_card h)
+MayFollow h (CheckOut party) = (is_party h party ≡ true) × (is_in_house h party ≡ true)
+MayFollow h NextDay = (is_begun h ≡ true) × (nat_lt (today h) 36524 ≡ true)
+MayFollow h (Entered room count number link at) = (count ≡ length (notes h room) + 1) × (is_room h room ≡ true) × (is_card h number ≡ true) × (has_link h number link ≡ true) × (opens h room link ≡ true)
+MayFollow h (Left room count number link at) = (count ≡ length (notes h room) + 1) × (is_room h room ≡ true) × (is_card h number ≡ true) × (has_link h number link ≡ true) × (is_one_of number (inside h room) ≡ true)
+MayFollow h (Recoded room count from to at) = (count ≡ length (notes h room) + 1) × (is_room h room ≡ true) × (holds h room from ≡ true) × (is_one_of to (awaited h room) ≡ true)
+
+-- The event's change makes the rows of the grown history.
+abbrev pub FollowsBy : History → Event → Type 0
+FollowsBy h event = rows_of (h ▷ event) ≡ made (change_of h event) (rows_of h)
+
+-- the number is none of these rooms
+abbrev pub ApartFrom : ℕ → List (ℕ × List ℕ) → Type 0
+ApartFrom room [] = Unit {0}
+ApartFrom room (e ∷ es) = ((e.0 == room) ≡ false) × ApartFrom room es
+
+-- no room stands twice
+abbrev pub RoomsOnce : List (ℕ × List ℕ) → Type 0
+RoomsOnce [] = Unit {0}
+RoomsOnce (e ∷ es) = ApartFrom e.0 es × RoomsOnce es

@@ -1,0 +1,5 @@
+pub mod NightCounts
+pub mod NightsInOrder
+pub mod NightsStanding
+pub mod KindKeys
+pub mod RoomsByKind

@@ -1,0 +1,18 @@
+use Rattle.std.proofs.Common.{ap, sym, ◌∙◌, subst, length, ◌^◌, ◌<◌}
+use Rattle.hotel_core.specs.Model.Rows.{at_number}
+use Rattle.hotel_core.specs.Memory.{StandsForAll}
+use Rattle.hotel_core.proofs.OfNights.NightsStanding.{counts_fit, stands_more}
+use Rattle.hotel_core.proofs.memory.stay_table.StayTable.insert.Goals as goal
+
+pub add-requires : goal.add-requires
+add-requires c =
+    let t = c.self.inside in
+    let few : length t.stays.entries < 2 ^ 63 = subst (λ n. n < 2 ^ 63) c.len-few.ensures.len c.len-few.ensures.small in
+    λ d. counts_fit t.nights t.stays.entries c.args.stay.kind d c.self.invariant few
+
+pub invariant_of-self-in-Ok : goal.invariant_of-self-in-Ok
+invariant_of-self-in-Ok c =
+    let t = c.self.inside in
+    let absent = ap (λ es. at_number es c.args.stay.party) c.self.view_is ∙ c.requires in
+    subst (λ es. StandsForAll c.add.new.self es) (sym c.in-Ok.ensures.entries)
+    (stands_more t.nights c.add.new.self t.stays.entries c.args.stay.party c.args.stay c.self.invariant absent c.in_ok-add.ensures.ok)

@@ -1,0 +1,81 @@
+//! The kinds, each with how many rooms it has.
+ghost use Rattle.std.specs.Prelude.{◌≡◌, ℕ, ◌+◌, ◌-◌, ◌^◌, ◌<◌, List, [], true, false, OnOk, OnErr, bytes_eq};
+ghost use Rattle.std.specs.Ordering.{nat_cmp};
+ghost use Rattle.std.specs.Cmp.Lexicographic.{slice_cmp};
+ghost use Rattle.std.specs.BTreeSet.{insert_key};
+ghost use Rattle.std.specs.Map.{keys_of};
+ghost use Rattle.hotel_nights.specs.Block.{one_if};
+ghost use Rattle.hotel_core.specs.KindRooms.{is_there, rooms_in};
+
+use hotel_nights::KindCode;
+use keycard_rules::Memory;
+use std::alloc::Global;
+use std::collections::BTreeMap;
+use std::marker::Model;
+
+/// The kinds, and how many rooms each of them has.
+///
+/// It keeps counts alone, so that books of any form can keep it beside their rooms.
+#[derive(Drop)]
+pub struct KindRooms {
+    counts: BTreeMap<KindCode, u32>,
+}
+
+impl Model for KindRooms {
+    ghost use Rattle.std.specs.Prelude.{ℕ, List};
+
+    ghost Value = { List (List ℕ × ℕ) };
+
+    ghost view = { λ t. t.counts.entries };
+}
+
+impl KindRooms {
+    /// No kinds.
+    pub fn empty(alloc: Global) -> KindRooms
+        ensures { result ≡ [] }
+    {
+        KindRooms {
+            counts: BTreeMap::new(alloc),
+        }
+    }
+
+    /// Whether a kind is there.
+    pub fn has(&self, kind: &KindCode) -> bool
+        ensures { result ≡ is_there self.now kind.now }
+    {
+        self.counts.contains_key(kind)
+    }
+
+    /// How many rooms a kind has; 0 where it isn't there.
+    pub fn rooms(&self, kind: &KindCode) -> u32
+        ensures { result ≡ rooms_in self.now kind.now }
+    {
+        self.counts.get(kind).copied().unwrap_or(0)
+    }
+
+    /// Adds a kind, which has no rooms yet; a refusal changes nothing.
+    pub fn add_kind(&mut self, kind: KindCode) -> Result<(), Memory>
+        requires { is_there self.old kind ≡ false }
+        ensures kinds { OnOk result (keys_of self.new ≡ insert_key (slice_cmp nat_cmp) (keys_of self.old) kind) }
+        ensures rooms { OnOk result ((k : List ℕ) → rooms_in self.new k ≡ rooms_in self.old k) }
+        ensures err { OnErr result (self.new ≡ self.old) }
+    {
+        let Ok(_) = self.counts.insert(kind, 0) else {
+            return Err(Memory);
+        };
+        Ok(())
+    }
+
+    /// A kind that is there has one more room. It takes no memory.
+    pub fn add_room(&mut self, kind: &KindCode)
+        requires there { is_there self.old kind.now ≡ true }
+        requires few { rooms_in self.old kind.now < 2 ^ 32 - 1 }
+        ensures kinds { keys_of self.new ≡ keys_of self.old }
+        ensures rooms { (k : List ℕ) → rooms_in self.new k ≡ rooms_in self.old k + one_if (bytes_eq kind.now k) }
+    {
+        let Some(rooms) = self.counts.get_mut(kind) else {
+            return;
+        };
+        *rooms += 1;
+    }
+}

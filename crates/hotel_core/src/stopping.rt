@@ -1,0 +1,7 @@
+//! Books in memory of which a call fails, for tests.
+
+mod calls;
+pub mod stopping_books;
+mod stopping_walks;
+#[cfg(test)]
+mod tests;

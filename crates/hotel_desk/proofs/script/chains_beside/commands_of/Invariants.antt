@@ -1,6 +1,0 @@
--- each line makes the rest shorter
-use Rattle.std.proofs.Common.{length}
-use Rattle.hotel_desk.proofs.script.chains_beside.commands_of.Given as goal
-
-abbrev pub decreases-loop-line : goal.decreases-loop-line
-decreases-loop-line l = length l.rest

@@ -1,0 +1,41 @@
+-- What a list that is asked for has: its header and its lines, or nothing where its room isn't there.
+use Rattle.std.specs.Prelude.{ℕ, Bool, true, false, List, map, Option, Some, None, is_some}
+use Rattle.hotel_core.specs.Model.Rows.{Rows}
+use Rattle.hotel_core.specs.Books.Lookups.{room_at}
+use Rattle.hotel_core.specs.Model.History.{History}
+use Rattle.hotel_core.specs.Model.Cases.{is_room}
+use Rattle.hotel_core.specs.Model.Lists.{arrivals, in_house, chain, left_behind, audit_of}
+use Rattle.hotel_core.specs.Refinement.ListsOnRows.{arrivals_on, in_house_on, chain_on, left_behind_on, audit_on}
+use Rattle.hotel_lists.specs.Lines.{arrivals_header, in_house_header, chain_header, left_behind_header, audit_header, arrival_line, house_line, chain_line, behind_line, note_line}
+use Rattle.hotel_asks.specs.declared.lists.ListAsk.{ListAsk}
+use Rattle.hotel_asks.specs.declared.lists.ListAsk.TheVariants.{Arrivals, InHouse, ChainOf, LeftBehind, AuditOf}
+
+-- A list's header and its lines.
+pub record Listing : Type 0 where
+  pub header : List ℕ
+  pub lines : List (List ℕ)
+
+-- The listing with this header and a line for each row.
+abbrev pub listing : {R : Type 0} → List ℕ → (R → List ℕ) → List R → Listing
+listing header line rows = record { header = header; lines = map line rows }
+
+-- The listing of a room, which is there or not.
+abbrev pub of_room : Bool → Listing → Option Listing
+of_room true its_listing = Some its_listing
+of_room false its_listing = None
+
+-- The listing of a list over a history.
+abbrev pub listing_over : History → ListAsk → Option Listing
+listing_over h (Arrivals day) = Some (listing arrivals_header arrival_line (arrivals h day))
+listing_over h InHouse = Some (listing in_house_header house_line (in_house h))
+listing_over h (ChainOf room) = of_room (is_room h room) (listing chain_header chain_line (chain h room))
+listing_over h LeftBehind = Some (listing left_behind_header behind_line (left_behind h))
+listing_over h (AuditOf room) = of_room (is_room h room) (listing audit_header note_line (audit_of h room))
+
+-- The same over the rows of the books.
+abbrev pub listing_on : Rows → ListAsk → Option Listing
+listing_on rows (Arrivals day) = Some (listing arrivals_header arrival_line (arrivals_on rows day))
+listing_on rows InHouse = Some (listing in_house_header house_line (in_house_on rows))
+listing_on rows (ChainOf room) = of_room (is_some (room_at rows room)) (listing chain_header chain_line (chain_on rows room))
+listing_on rows LeftBehind = Some (listing left_behind_header behind_line (left_behind_on rows))
+listing_on rows (AuditOf room) = of_room (is_some (room_at rows room)) (listing audit_header note_line (audit_on rows room))
