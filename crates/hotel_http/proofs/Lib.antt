@@ -1,3 +1,5 @@
 pub mod HeadLemmas
 pub mod FieldLemmas
 pub mod FormLemmas
+pub mod RouteLemmas
+pub mod AuditAnswerLemmas

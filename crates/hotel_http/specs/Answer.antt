@@ -1,5 +1,5 @@
 -- The bytes of answers.
-use Rattle.std.specs.Prelude.{ℕ, List, [], ◌∷◌, ◌++◌, length, codes, Option, Some, None}
+use Rattle.std.specs.Prelude.{ℕ, List, [], ◌++◌, length, codes, Option, Some, None}
 use Rattle.std.specs.Fmt.{decimal}
 use Rattle.hotel_core.specs.declared.reply.Reply.{Reply}
 use Rattle.hotel_core.specs.declared.reply.Reply.TheVariants as reply
@@ -31,7 +31,7 @@ abbrev pub status_line : Status → List ℕ
 status_line status = codes "HTTP/1.1 " ++ decimal (number_of status) ++ codes " " ++ phrase_of status ++ codes "\r\n"
 
 -- the head of an answer whose body has so many bytes
-abbrev pub head_text : Status → Media → Option Method → ℕ → List ℕ
+unfoldable pub head_text : Status → Media → Option Method → ℕ → List ℕ
 head_text status media allow size =
     status_line status
     ++ codes "Content-Type: " ++ media_type media ++ codes "\r\n"
@@ -40,7 +40,7 @@ head_text status media allow size =
     ++ codes "Connection: close\r\n\r\n"
 
 -- an answer
-abbrev pub answer_text : Status → Media → Option Method → List ℕ → List ℕ
+unfoldable pub answer_text : Status → Media → Option Method → List ℕ → List ℕ
 answer_text status media allow body = head_text status media allow (length body) ++ body
 
 -- the status of a rejection
@@ -84,3 +84,7 @@ reply_status _ = Success
 -- the answer to a command with this reply
 abbrev pub reply_answer : Reply → List ℕ
 reply_answer given = answer_text (reply_status given) Plain None (reply_text given)
+
+-- the answer that is a list of this text
+abbrev pub list_answer : List ℕ → List ℕ
+list_answer text = answer_text Success Csv None text

@@ -5,13 +5,13 @@ ghost use Rattle.std.specs.Io.KnownBytes.{Appends};
 ghost use Rattle.hotel_lists.specs.Bytes.{AppendsFront};
 ghost use Rattle.hotel_http.specs.declared.answer.Media.TheVariants.{Plain};
 ghost use Rattle.hotel_http.specs.Answer as spec;
-ghost use Rattle.hotel_http.specs.Answer.{media_type, allow_field, status_line, head_text, answer_text, rejection_status, rejection_body, allowed_by, rejection_answer, reply_status, reply_answer};
+ghost use Rattle.hotel_http.specs.Answer.{media_type, allow_field, status_line, head_text, answer_text, rejection_status, rejection_body, allowed_by, rejection_answer, reply_status, reply_answer, list_answer};
 
 use crate::buffer::ShortText;
 use crate::rejection::{Method, Rejection};
 use crate::status::Status;
 use hotel_core::{Refusal, Reply, reply_text};
-use hotel_lists::{Interruptions, WriteFailed, write_bytes};
+use hotel_lists::{IoCalls, WriteFailed, write_bytes, write_parts};
 use std::io::Write;
 
 /// What the body of an answer is.
@@ -44,11 +44,11 @@ fn allow_field(allow: Option<Method>) -> &'static [u8]
 
 fn status_line(status: Status) -> ShortText
     ensures same { result ≡ status_line status }
-    ensures short { length result ≤ 63 }
+    ensures short { length result ≤ 83 }
 {
     let mut text = ShortText::new();
     text.push(b"HTTP/1.1 ");
-    text.push_number(status.number() as usize);
+    text.push_number(u128::from(status.number()));
     text.push(b" ");
     text.push(status.phrase());
     text.push(b"\r\n");
@@ -56,9 +56,10 @@ fn status_line(status: Status) -> ShortText
 }
 
 /// The head of an answer whose body has so many bytes.
-fn head_text(status: Status, media: Media, allow: Option<Method>, size: usize) -> ShortText
+#[tactic(auto, unfolding(crate::specs::Answer::head_text))]
+pub fn head_text(status: Status, media: Media, allow: Option<Method>, size: u128) -> ShortText
     ensures same { result ≡ head_text status media allow size }
-    ensures short { length result ≤ 180 }
+    ensures short { length result ≤ 220 }
 {
     let mut text = status_line(status);
     text.push(b"Content-Type: ");
@@ -73,20 +74,21 @@ fn head_text(status: Status, media: Media, allow: Option<Method>, size: usize) -
 }
 
 /// Writes an answer of few bytes by one write, if the writer takes them all.
-fn write_short<W: Write>(
+#[tactic(auto, unfolding(crate::specs::Answer::answer_text))]
+pub fn write_short<W: Write>(
     writer: &mut W,
     status: Status,
     allow: Option<Method>,
     body: &[u8],
-    interruptions: &mut Interruptions,
+    calls: &mut IoCalls,
 ) -> Result<(), WriteFailed>
     requires { length body.now ≤ 64 }
     ensures ok { OnOk result (Appends (W.contents writer.old) (W.contents writer.new) (answer_text status Plain allow body.now)) }
     ensures err { OnErr result (AppendsFront (W.contents writer.old) (W.contents writer.new) (answer_text status Plain allow body.now)) }
 {
-    let mut text = head_text(status, Media::Plain, allow, body.len());
+    let mut text = head_text(status, Media::Plain, allow, body.len() as u128);
     text.push(body);
-    write_bytes(writer, text.as_bytes(), interruptions)
+    write_bytes(writer, text.as_bytes(), calls)
 }
 
 /// The status of a rejection.
@@ -133,12 +135,18 @@ fn allowed_by(why: Rejection) -> Option<Method>
 pub fn write_rejection<W: Write>(
     writer: &mut W,
     why: Rejection,
-    interruptions: &mut Interruptions,
+    calls: &mut IoCalls,
 ) -> Result<(), WriteFailed>
     ensures ok { OnOk result (Appends (W.contents writer.old) (W.contents writer.new) (rejection_answer why)) }
     ensures err { OnErr result (AppendsFront (W.contents writer.old) (W.contents writer.new) (rejection_answer why)) }
 {
-    write_short(writer, rejection_status(why), allowed_by(why), rejection_body(why), interruptions)
+    write_short(
+        writer,
+        rejection_status(why),
+        allowed_by(why),
+        rejection_body(why),
+        calls,
+    )
 }
 
 /// The status of the answer to a command with this reply.
@@ -156,11 +164,25 @@ pub fn reply_status(reply: &Reply) -> Status
 pub fn write_reply<W: Write>(
     writer: &mut W,
     reply: &Reply,
-    interruptions: &mut Interruptions,
+    calls: &mut IoCalls,
 ) -> Result<(), WriteFailed>
     ensures ok { OnOk result (Appends (W.contents writer.old) (W.contents writer.new) (reply_answer reply.now)) }
     ensures err { OnErr result (AppendsFront (W.contents writer.old) (W.contents writer.new) (reply_answer reply.now)) }
 {
     let text = reply_text(reply);
-    write_short(writer, reply_status(reply), None, text.as_bytes(), interruptions)
+    write_short(writer, reply_status(reply), None, text.as_bytes(), calls)
+}
+
+/// Writes a list. After a fault the writer took a front of the answer.
+#[tactic(auto, unfolding(crate::specs::Answer::answer_text))]
+pub fn write_list<W: Write>(
+    writer: &mut W,
+    list: &[u8],
+    calls: &mut IoCalls,
+) -> Result<(), WriteFailed>
+    ensures ok { OnOk result (Appends (W.contents writer.old) (W.contents writer.new) (list_answer list.now)) }
+    ensures err { OnErr result (AppendsFront (W.contents writer.old) (W.contents writer.new) (list_answer list.now)) }
+{
+    let head = head_text(Status::Success, Media::Csv, None, list.len() as u128);
+    write_parts(writer, &[head.as_bytes(), list], calls)
 }

@@ -5,10 +5,10 @@ ghost use Rattle.std.specs.Fmt.{decimal};
 
 use std::marker::Model;
 
-/// A text of at most 256 bytes. Contracts see its bytes.
+/// A text of at most 320 bytes. Contracts see its bytes.
 #[derive(Drop)]
 pub struct ShortText {
-    bytes: [u8; 256],
+    bytes: [u8; 320],
     len: usize,
 }
 
@@ -17,7 +17,7 @@ impl Model for ShortText {
 
     ghost view = { λ t. take t.len t.bytes };
 
-    ghost invariant = { λ t. t.len ≤ 256 };
+    ghost invariant = { λ t. t.len ≤ 320 };
 }
 
 impl ShortText {
@@ -26,7 +26,7 @@ impl ShortText {
         ensures { result ≡ [] }
     {
         ShortText {
-            bytes: [0; 256],
+            bytes: [0; 320],
             len: 0,
         }
     }
@@ -40,7 +40,7 @@ impl ShortText {
 
     /// Puts a text behind the others.
     pub fn push(&mut self, text: &[u8])
-        requires { length self.old + length text.now ≤ 256 }
+        requires { length self.old + length text.now ≤ 320 }
         ensures text { self.new ≡ self.old ++ text.now }
         ensures len { length self.new ≡ length self.old + length text.now }
     {
@@ -50,10 +50,10 @@ impl ShortText {
     }
 
     /// Puts a number behind the others, in decimal digits.
-    pub fn push_number(&mut self, number: usize)
-        requires { length self.old + 20 ≤ 256 }
+    pub fn push_number(&mut self, number: u128)
+        requires { length self.old + 40 ≤ 320 }
         ensures text { self.new ≡ self.old ++ decimal number }
-        ensures len { length self.new ≤ length self.old + 20 }
+        ensures len { length self.new ≤ length self.old + 40 }
     {
         let mut digits = itoa::Buffer::new();
         self.push(digits.format(number).as_bytes());

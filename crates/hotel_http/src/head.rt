@@ -6,7 +6,7 @@ ghost use Rattle.httparse.specs.Grammar.{HasNoRequest};
 ghost use Rattle.httparse.specs.declared.spans.HeaderSpan.{HeaderSpan};
 ghost use Rattle.hotel_http.specs.Head.{IsParsed, IsJudged, LiesWithin, IsOpen};
 
-use hotel_lists::{Interruptions, ReadFault, read_more};
+use hotel_lists::{IoCalls, ReadFault, read_more};
 use httparse::spans::{HeaderSpan, RequestSpans, parse_request};
 use httparse::{Error, Status};
 use std::io::Read;
@@ -101,7 +101,7 @@ pub fn read_head<R: Read>(
     reader: &mut R,
     bytes: &mut Vec<u8>,
     headers: &mut [HeaderSpan],
-    interruptions: &mut Interruptions,
+    calls: &mut IoCalls,
 ) -> Result<Judged, ReadFault>
     requires room { length headers.old ≡ 64 }
     requires empty { bytes.old.items ≡ [] }
@@ -111,7 +111,7 @@ pub fn read_head<R: Read>(
     ensures done { IfOk result (λ judged. ¬ (IsOpen judged)) }
 {
     'pieces: loop {
-        let got = read_more(reader, bytes, interruptions)?;
+        let got = read_more(reader, bytes, calls)?;
         match judge(bytes, got == 0, headers) {
             Judged::More => {}
             judged => return Ok(judged),

@@ -1,0 +1,15 @@
+use Rattle.std.proofs.Common.{◌∙◌}
+use Rattle.hotel_lists.proofs.BytesLemmas.{on_err}
+use Rattle.hotel_http.proofs.AuditAnswerLemmas.{answers_written, answers_front}
+use Rattle.hotel_http.proofs.audit_answer.write_lines.Goals as goal
+
+pub returns-in_err-write_bytes-clause-err : goal.returns-in_err-write_bytes-clause-err
+returns-in_err-write_bytes-clause-err g c =
+    on_err c.from_residual.result
+    (answers_front _ _ _ c.loop-index.index c.args.answers.now c.index-answers-index.result _ c.loop-index-test.true c.index-answers-index.is (c.as_bytes.ensures.same ∙ c.answer_text-text.ensures)
+    c.loop-index.invariant c.in_err-write_bytes.ensures.err)
+
+pub loop-index-preserved : goal.loop-index-preserved
+loop-index-preserved g c =
+    answers_written _ _ _ c.loop-index.index c.args.answers.now c.index-answers-index.result _ c.loop-index-test.true c.index-answers-index.is (c.as_bytes.ensures.same ∙ c.answer_text-text.ensures)
+    c.loop-index.invariant c.in_ok-write_bytes.ensures.ok

@@ -1,0 +1,38 @@
+-- The answer to an audit file.
+use Rattle.std.specs.Prelude.{ℕ, List, ◌++◌, codes, None}
+use Rattle.std.specs.Fmt.{decimal}
+use Rattle.hotel_audit.specs.Answers.{answers_text}
+use Rattle.hotel_audit.specs.declared.answer.LineAnswer.{LineAnswer}
+use Rattle.hotel_audit.specs.declared.audit_file.AuditFault.TheVariants as file
+use Rattle.hotel_audit.specs.declared.importing.ImportFault.{ImportFault}
+use Rattle.hotel_audit.specs.declared.importing.ImportFault.TheVariants as fault
+use Rattle.hotel_http.specs.declared.answer.Media.TheVariants.{Plain}
+use Rattle.hotel_http.specs.declared.status.Status.{Status}
+use Rattle.hotel_http.specs.declared.status.Status.TheVariants.{Success, BadRequest, ContentTooLarge, Unavailable}
+use Rattle.hotel_http.specs.Answer.{answer_text}
+
+-- the answer to an audit file whose lines were all answered
+abbrev pub lines_answer : List LineAnswer → List ℕ
+lines_answer answers = answer_text Success Plain None (answers_text 1 answers)
+
+-- the status of an import that has no answers
+abbrev pub fault_status : ImportFault → Status
+fault_status (fault.File file.TooLarge) = ContentTooLarge
+fault_status (fault.File file.NoHeader) = BadRequest
+fault_status (fault.File file.WrongHeader) = BadRequest
+fault_status (fault.File file.Memory) = Unavailable
+fault_status (fault.Memory answered taken) = Unavailable
+fault_status (fault.Store answered taken) = Unavailable
+
+-- its text
+abbrev pub fault_body : ImportFault → List ℕ
+fault_body (fault.File file.TooLarge) = codes "too large\n"
+fault_body (fault.File file.NoHeader) = codes "no header\n"
+fault_body (fault.File file.WrongHeader) = codes "wrong header\n"
+fault_body (fault.File file.Memory) = codes "refused 29 Memory\n"
+fault_body (fault.Memory answered taken) = codes "stopped after " ++ decimal answered ++ codes ": Memory\n"
+fault_body (fault.Store answered taken) = codes "stopped after " ++ decimal answered ++ codes ": Store\n"
+
+-- the answer to an audit file whose import has no answers
+abbrev pub fault_answer : ImportFault → List ℕ
+fault_answer why = answer_text (fault_status why) Plain None (fault_body why)

@@ -1,0 +1,120 @@
+//! The answer to an audit file, from buffers of fixed size.
+
+ghost use Rattle.std.specs.Prelude.{◌≡◌, ◌≤◌, length, OnOk, OnErr};
+ghost use Rattle.std.specs.Io.KnownBytes.{Appends};
+ghost use Rattle.hotel_lists.specs.Bytes.{AppendsFront};
+ghost use Rattle.hotel_audit.specs.Answers.{answers_text};
+ghost use Rattle.hotel_audit.specs.Import.{has_taken};
+ghost use Rattle.hotel_http.specs.AuditAnswer.{lines_answer, fault_status, fault_body, fault_answer};
+
+use crate::answer::{Media, head_text, write_short};
+use crate::buffer::ShortText;
+use crate::status::Status;
+use hotel_audit::{AuditFault, ImportFault, LineAnswer, answer_text};
+use hotel_lists::{IoCalls, WriteFailed, write_bytes};
+use std::io::Write;
+
+/// Whether a line was taken.
+pub fn has_taken(answers: &[LineAnswer]) -> bool
+    ensures { result ≡ has_taken answers.now }
+{
+    for answer in answers {
+        if matches!(answer, LineAnswer::Taken) {
+            return true;
+        }
+    }
+    false
+}
+
+/// The number of bytes of the texts of answers. No sum of them overflows a `u128`.
+fn answers_size(answers: &[LineAnswer]) -> u128
+    ensures { result ≡ length (answers_text 1 answers.now) }
+{
+    let mut size = 0;
+    for (index, answer) in answers.iter().enumerate() {
+        size += answer_text(index + 1, answer).as_bytes().len() as u128;
+    }
+    size
+}
+
+/// Writes the texts of answers, a line each, numbered from 1. After a fault the writer took a front
+/// of them.
+fn write_lines<W: Write>(
+    writer: &mut W,
+    answers: &[LineAnswer],
+    calls: &mut IoCalls,
+) -> Result<(), WriteFailed>
+    ensures ok { OnOk result (Appends (W.contents writer.old) (W.contents writer.new) (answers_text 1 answers.now)) }
+    ensures err { OnErr result (AppendsFront (W.contents writer.old) (W.contents writer.new) (answers_text 1 answers.now)) }
+{
+    for (index, answer) in answers.iter().enumerate() {
+        let text = answer_text(index + 1, answer);
+        write_bytes(writer, text.as_bytes(), calls)?;
+    }
+    Ok(())
+}
+
+/// Writes the answer to an audit file whose lines were all answered. After a fault the writer took a
+/// front of it.
+pub fn write_answers<W: Write>(
+    writer: &mut W,
+    answers: &[LineAnswer],
+    calls: &mut IoCalls,
+) -> Result<(), WriteFailed>
+    ensures ok { OnOk result (Appends (W.contents writer.old) (W.contents writer.new) (lines_answer answers.now)) }
+    ensures err { OnErr result (AppendsFront (W.contents writer.old) (W.contents writer.new) (lines_answer answers.now)) }
+{
+    let head = head_text(Status::Success, Media::Plain, None, answers_size(answers));
+    write_bytes(writer, head.as_bytes(), calls)?;
+    write_lines(writer, answers, calls)
+}
+
+/// The status of an import that has no answers.
+pub fn fault_status(why: &ImportFault) -> Status
+    ensures { result ≡ fault_status why.now }
+{
+    match why {
+        ImportFault::File(AuditFault::TooLarge) => Status::ContentTooLarge,
+        ImportFault::File(AuditFault::NoHeader | AuditFault::WrongHeader) => Status::BadRequest,
+        ImportFault::File(AuditFault::Memory) => Status::Unavailable,
+        ImportFault::Memory { .. } | ImportFault::Store { .. } => Status::Unavailable,
+    }
+}
+
+fn fault_body(why: &ImportFault) -> ShortText
+    ensures same { result ≡ fault_body why.now }
+    ensures short { length result ≤ 64 }
+{
+    let mut text = ShortText::new();
+    match why {
+        ImportFault::File(AuditFault::TooLarge) => text.push(b"too large\n"),
+        ImportFault::File(AuditFault::NoHeader) => text.push(b"no header\n"),
+        ImportFault::File(AuditFault::WrongHeader) => text.push(b"wrong header\n"),
+        ImportFault::File(AuditFault::Memory) => text.push(b"refused 29 Memory\n"),
+        ImportFault::Memory { answered, .. } => {
+            text.push(b"stopped after ");
+            text.push_number(*answered as u128);
+            text.push(b": Memory\n");
+        }
+        ImportFault::Store { answered, .. } => {
+            text.push(b"stopped after ");
+            text.push_number(*answered as u128);
+            text.push(b": Store\n");
+        }
+    }
+    text
+}
+
+/// Writes the answer to an audit file whose import has no answers. After a fault the writer took a
+/// front of it.
+pub fn write_fault<W: Write>(
+    writer: &mut W,
+    why: &ImportFault,
+    calls: &mut IoCalls,
+) -> Result<(), WriteFailed>
+    ensures ok { OnOk result (Appends (W.contents writer.old) (W.contents writer.new) (fault_answer why.now)) }
+    ensures err { OnErr result (AppendsFront (W.contents writer.old) (W.contents writer.new) (fault_answer why.now)) }
+{
+    let body = fault_body(why);
+    write_short(writer, fault_status(why), None, body.as_bytes(), calls)
+}

@@ -1,0 +1,98 @@
+//! The routes: which paths there are, and what each asks for.
+
+ghost use Rattle.std.specs.Prelude.{◌≡◌, IfOk, OnOk};
+ghost use Rattle.hotel_http.specs.Routes.{hotel_routes, texts, with_route, with_routes, target_of, method_of};
+
+use crate::rejection::Method;
+use hotel_asks::Verb;
+use matchit::{InsertError, Router};
+use std::alloc::Global;
+
+/// What a path asks for.
+#[derive(Clone, Copy, Debug, PartialEq, Eq)]
+pub enum Target {
+    /// A command or a list.
+    Asks(Verb),
+    /// The import of an audit file.
+    Audit,
+}
+
+fn add(router: &mut Router<Target>, route: &str, target: Target) -> Result<(), InsertError>
+    ensures { OnOk result (router.new ≡ with_route route.now target router.old) }
+{
+    router.insert(route, target)
+}
+
+/// Adds routes, one after the other.
+fn add_all(router: &mut Router<Target>, routes: &[(&str, Target)]) -> Result<(), InsertError>
+    ensures { OnOk result (router.new ≡ with_routes (texts routes.now) router.old) }
+{
+    for route in routes {
+        add(router, route.0, route.1)?;
+    }
+    Ok(())
+}
+
+/// Makes the table of routes.
+#[tactic(auto, unfolding(crate::specs::Routes::hotel_routes))]
+pub fn make_routes(alloc: Global) -> Result<Router<Target>, InsertError>
+    ensures { IfOk result (λ router. router ≡ hotel_routes) }
+{
+    let mut router = Router::new(alloc);
+    add_all(
+        &mut router,
+        &[
+            ("/begin", Target::Asks(Verb::Begin)),
+            ("/kinds", Target::Asks(Verb::AddKind)),
+            ("/rooms", Target::Asks(Verb::AddRoom)),
+            ("/reservations", Target::Asks(Verb::Reserve)),
+            ("/reservations/{party}/cancel", Target::Asks(Verb::Cancel)),
+            (
+                "/reservations/{party}/check-in",
+                Target::Asks(Verb::CheckIn),
+            ),
+            ("/reservations/{party}/spare", Target::Asks(Verb::Spare)),
+            (
+                "/reservations/{party}/transfer",
+                Target::Asks(Verb::Transfer),
+            ),
+            (
+                "/reservations/{party}/check-out",
+                Target::Asks(Verb::CheckOut),
+            ),
+            ("/next-day", Target::Asks(Verb::NextDay)),
+            ("/audit", Target::Audit),
+            ("/arrivals/{day}", Target::Asks(Verb::Arrivals)),
+            ("/in-house", Target::Asks(Verb::InHouse)),
+            ("/rooms/{room}/chain", Target::Asks(Verb::ChainOf)),
+            ("/left-behind", Target::Asks(Verb::LeftBehind)),
+            ("/rooms/{room}/audit", Target::Asks(Verb::AuditOf)),
+        ],
+    )?;
+    Ok(router)
+}
+
+/// What a path asks for.
+#[tactic(auto, unfolding(crate::specs::Routes::target_of))]
+pub fn find_target(router: &Router<Target>, path: &str) -> Option<Target>
+    requires { router.now ≡ hotel_routes }
+    ensures { result ≡ target_of path.now }
+{
+    match router.at(path) {
+        Ok(found) => Some(*found.value),
+        Err(_) => None,
+    }
+}
+
+/// The method of what a path asks for.
+pub fn method_of(target: Target) -> Method
+    ensures { result ≡ method_of target }
+{
+    match target {
+        Target::Asks(
+            Verb::Arrivals | Verb::InHouse | Verb::ChainOf | Verb::LeftBehind | Verb::AuditOf,
+        ) => Method::Get,
+        Target::Asks(_) => Method::Post,
+        Target::Audit => Method::Post,
+    }
+}
