@@ -15,6 +15,7 @@ use Rattle.hotel_core.specs.declared.books.rows.RoomRow.{RoomRow}
 use Rattle.hotel_core.specs.Model.Run.{is_failed}
 use Rattle.hotel_core.specs.Books.Failures.{AreCounted}
 use Rattle.hotel_core.proofs.OfCode.FailuresCounted.{none_counted, one_counted}
+use Rattle.keycard_rules.specs.declared.issued.Issued.{Ghosts as IssuedOf}
 use Rattle.hotel_lists.specs.Bytes.{AppendsFront}
 use Rattle.hotel_lists.specs.Lines.{Lists, ListsRoom, LooksAt, AppendsRows, is_early}
 use Rattle.hotel_lists.specs.declared.fault.ListFault.{ListFault}
@@ -111,32 +112,32 @@ refused_front listing old new fault.Store why e p = let so = by_store why e in (
 refused_front listing old new fault.Write why e p = cc e
 
 -- the failures of a list were counted
-counted_by : {B : Type 0} {is_clean : B → Type 0} {is_kept : B → B → Type 0} {failures : B → LookFault → ℕ} {never_fails : Type 0} {old new : B} (why_not : ListFault)
-    → LooksAt is_clean is_kept failures never_fails old new (Err why_not) → AreCounted (failures old) (failures new) (failed_by why_not)
+counted_by : {B : Type 0} (I : IssuedOf B) {old new : B} (why_not : ListFault)
+    → LooksAt I old new (Err why_not) → AreCounted (I.failures old) (I.failures new) (failed_by why_not)
 unfolding failed_by
-counted_by {failures = failures} {never_fails = never_fails} {old = old} {new = new} fault.NoRoom looks = none_counted (failures old) (failures new) looks.counted
-counted_by {failures = failures} {never_fails = never_fails} {old = old} {new = new} fault.Memory looks = none_counted (failures old) (failures new) looks.counted
-counted_by {failures = failures} {never_fails = never_fails} {old = old} {new = new} fault.Write looks = none_counted (failures old) (failures new) looks.counted
-counted_by {failures = failures} {never_fails = never_fails} {old = old} {new = new} fault.Store looks =
-    one_counted (failures old) (failures new) look.Store looks.counted (looks.store refl)
+counted_by I {old = old} {new = new} fault.NoRoom looks = none_counted (I.failures old) (I.failures new) looks.counted
+counted_by I {old = old} {new = new} fault.Memory looks = none_counted (I.failures old) (I.failures new) looks.counted
+counted_by I {old = old} {new = new} fault.Write looks = none_counted (I.failures old) (I.failures new) looks.counted
+counted_by I {old = old} {new = new} fault.Store looks =
+    one_counted (I.failures old) (I.failures new) look.Store looks.counted (looks.store refl)
 
 -- the whole answer of a list that was refused
-pub refused_whole : {B : Type 0} {is_clean : B → Type 0} {is_kept : B → B → Type 0} {failures : B → LookFault → ℕ} {never_fails : Type 0} {b c : B}
+pub refused_whole : {B : Type 0} (I : IssuedOf B) {b c : B}
     (listing : Option Listing) (old mid new : Option (List ℕ)) (why_not : ListFault) (why : Refusal) → refusal_of why_not ≡ Some why
-    → ListEnds [] listing old mid (Err why_not) → LooksAt is_clean is_kept failures never_fails b c (Err why_not) → Appends mid new (refusal_text why)
-    → ListAnswered listing (Appends old new) (AreCounted (failures b) (failures c))
-refused_whole listing old mid new why_not why e p looks written =
+    → ListEnds [] listing old mid (Err why_not) → LooksAt I b c (Err why_not) → Appends mid new (refusal_text why)
+    → ListAnswered listing (Appends old new) (AreCounted (I.failures b) (I.failures c))
+refused_whole I listing old mid new why_not why e p looks written =
     let r = refused_front listing old mid why_not why e p in
-    (r.0 ++ refusal_text why, failed_by why_not, r.1, Appends-trans old mid new r.0 (refusal_text why) r.2 written, counted_by why_not looks)
+    (r.0 ++ refusal_text why, failed_by why_not, r.1, Appends-trans old mid new r.0 (refusal_text why) r.2 written, counted_by I why_not looks)
 
 -- a front of the answer of a list that was refused
-pub refused_cut : {B : Type 0} {is_clean : B → Type 0} {is_kept : B → B → Type 0} {failures : B → LookFault → ℕ} {never_fails : Type 0} {b c : B}
+pub refused_cut : {B : Type 0} (I : IssuedOf B) {b c : B}
     (listing : Option Listing) (old mid new : Option (List ℕ)) (why_not : ListFault) (why : Refusal) → refusal_of why_not ≡ Some why
-    → ListEnds [] listing old mid (Err why_not) → LooksAt is_clean is_kept failures never_fails b c (Err why_not) → AppendsFront mid new (refusal_text why)
-    → ListAnswered listing (AppendsFront old new) (AreCounted (failures b) (failures c))
-refused_cut listing old mid new why_not why e p looks written =
+    → ListEnds [] listing old mid (Err why_not) → LooksAt I b c (Err why_not) → AppendsFront mid new (refusal_text why)
+    → ListAnswered listing (AppendsFront old new) (AreCounted (I.failures b) (I.failures c))
+refused_cut I listing old mid new why_not why e p looks written =
     let r = refused_front listing old mid why_not why e p in
-    (r.0 ++ refusal_text why, failed_by why_not, r.1, appends_front old mid new r.0 (refusal_text why) written r.2, counted_by why_not looks)
+    (r.0 ++ refusal_text why, failed_by why_not, r.1, appends_front old mid new r.0 (refusal_text why) written r.2, counted_by I why_not looks)
 
 -- a list that was written whole
 pub whole_answered : {a b : LookFault → ℕ} (listing : Option Listing) (old new : Option (List ℕ)) → ListEnds [] listing old new (Ok tt) → NoFewer a b

@@ -28,7 +28,7 @@ pub(crate) fn write_list<W: Write, B: Walks>(
     calls: &mut IoCalls,
 ) -> Result<(), ListFault>
     ensures text { B.is_clean books.new → ListEnds [] (listing_on (B.rows books.old) list.now) (W.contents writer.old) (W.contents writer.new) result }
-    ensures books { LooksAt B.is_clean B.is_kept B.failures B.never_fails books.old books.new result }
+    ensures books { LooksAt B.Issued books.old books.new result }
     ensures failed { IsErrOf result ListFault.Write → calls.new.write_failed ≡ true }
     ensures calls { NoneForgotten calls.old calls.new }
 {

@@ -26,7 +26,7 @@ fn write_list_or_refusal<W: Write, B: Walks>(
     calls: &mut IoCalls,
 ) -> Result<(), ListFault>
     ensures text { B.is_clean books.new → AnswerEnds (listing_on (B.rows books.old) list.now) (W.contents writer.old) (W.contents writer.new) result }
-    ensures books { LooksAt B.is_clean B.is_kept B.failures B.never_fails books.old books.new result }
+    ensures books { LooksAt B.Issued books.old books.new result }
     ensures failed { IsErrOf result ListFault.Write → calls.new.write_failed ≡ true }
     ensures calls { NoneForgotten calls.old calls.new }
 {
@@ -65,7 +65,7 @@ pub fn run_list<B: Walks, W: Write, F: FaultSink>(
 ) -> u8
     ensures { (end : Result (Unit {0}) ListFault) × (result ≡ end_status (list_end end)) × Tells F.told faults.old (list_end end) faults.new
         × (B.is_clean books.new → AnswerEndsFor (B.rows books.old) list.now (W.contents writer.old) (W.contents writer.new) end)
-        × LooksAt B.is_clean B.is_kept B.failures B.never_fails books.old books.new end }
+        × LooksAt B.Issued books.old books.new end }
 {
     let mut calls = IoCalls::none();
     let end = write_list_or_refusal(alloc, list, writer, books, &mut calls);

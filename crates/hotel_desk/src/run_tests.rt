@@ -255,7 +255,7 @@ fn list_write_fails(
     desk: &mut Desk<ListBooks>,
     call: u32,
 ) -> Result<(), Fail> {
-    let writer = FakeWriter::new(rt.alloc());
+    let writer = FakeWriter::new(rt.alloc()).in_pieces(9);
     write_fails(rt, desk, &CHAIN_LISTED, writer.failing_at(call))?;
     let writer = FakeWriter::new(rt.alloc()).in_pieces(6);
     write_fails(rt, desk, &NO_ROOM, writer.failing_at(call))

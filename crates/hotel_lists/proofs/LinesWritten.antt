@@ -1,16 +1,16 @@
 -- The lines that a sink wrote along a walk.
-use Rattle.std.proofs.Common.{ℕ, ◌≡◌, Bool, true, false, List, [], ◌∷◌, ◌++◌, Option, Some, None, Result, Ok, Err, append_assoc, length-append, ap, refl, sym, ◌∙◌, subst, arith, inr}
+use Rattle.std.proofs.Common.{ℕ, ◌≡◌, Bool, true, false, List, [], ◌∷◌, ◌++◌, Option, Some, None, Result, Ok, Err, append_assoc, append-nil, length-append, ap, refl, sym, ◌∙◌, subst, arith, inl, inr}
 use Rattle.std.specs.List.{flat_map}
 use Rattle.std.proofs.lemmas.Bool.{false≢true}
 use Rattle.std.proofs.lemmas.List.{take-append-le}
 use Rattle.std.proofs.lemmas.List.Concat.{flat_map-append}
 use Rattle.std.specs.Io.KnownBytes.{Appends}
-use Rattle.std.proofs.KnownBytes.{Appends-nil, Appends-trans, Appends-kept}
+use Rattle.std.proofs.KnownBytes.{Appends-trans, Appends-kept}
 use Rattle.hotel_core.specs.declared.books.walks.WalkFault.{WalkFault}
 use Rattle.hotel_core.specs.declared.books.walks.WalkFault.TheVariants as walk
 use Rattle.hotel_core.specs.Books.Walks.{Takes, Hands}
 use Rattle.hotel_lists.specs.Bytes.{AppendsFront}
-use Rattle.hotel_lists.specs.Calls.{Calls, NoneForgotten}
+use Rattle.hotel_lists.specs.LineSink.{SameEnds, Gathers, StopsAtWrite, Finishes}
 use Rattle.hotel_core.specs.declared.books.rows.RoomRow.{RoomRow}
 use Rattle.hotel_lists.specs.declared.lines.Lines.{Lines}
 use Rattle.hotel_lists.specs.declared.fault.ListFault.{ListFault}
@@ -28,65 +28,146 @@ stopped_for_write : (failed : Bool) → listed (Err walk.Stopped) failed ≡ Err
 stopped_for_write true e = refl
 stopped_for_write false e = cc
 
+same_sink : {W : Type 0} (s : Lines W) → SameEnds s s
+same_sink s = record { writer = refl; calls = refl; none_forgotten = none_forgotten s.calls.now }
+
+pub then_same : {W : Type 0} (a b c : Lines W) → SameEnds a b → SameEnds b c → SameEnds a c
+then_same a b c h k = record {
+  writer = k.writer ∙ h.writer;
+  calls = k.calls ∙ h.calls;
+  none_forgotten = then_none_forgotten a.calls.now b.calls.now c.calls.now h.none_forgotten k.none_forgotten;
+}
+
+err_is_ok : {A E : Type 0} {e : E} {a : A} → Err e ≡ Ok a → ⊥
+err_is_ok h = cc
+
+store_is_memory : {A : Type 0} → (the : Result A WalkFault) → the ≡ Err walk.Store → the ≡ Err walk.Memory → ⊥
+store_is_memory the h k = cc
+
+-- of rows in two parts, and of one more row
+regroup : {R : Type 0} (sent held : List R) (row : R) (rest : List R) → (sent ++ held) ++ row ∷ rest ≡ (sent ++ (held ++ row ∷ [])) ++ rest
+regroup sent held row rest =
+    append_assoc sent held (row ∷ rest) ∙ sym (append_assoc sent (held ++ row ∷ []) rest ∙ ap (λ l. sent ++ l) (append_assoc held (row ∷ []) rest))
+
 module _ {W R : Type 0} (contents : W → Option (List ℕ)) (line : R → List ℕ) where
-  -- the sink wrote the row's line
   abbrev pub Wrote : Lines W → R → Lines W → Type 0
-  Wrote old row new = (new.writer.ghost_name ≡ old.writer.ghost_name) × Appends (contents old.writer.now) (contents new.writer.now) (line row)
-      × (new.calls.ghost_name ≡ old.calls.ghost_name) × NoneForgotten old.calls.now new.calls.now
+  Wrote old row new = SameEnds old new × Gathers contents old new (line row)
 
-  -- the sink stopped at the row's line
   abbrev pub Stopped : Lines W → R → Lines W → Type 0
-  Stopped old row new = (new.writer.ghost_name ≡ old.writer.ghost_name) × StopsBy new.write_failed (contents old.writer.now) (contents new.writer.now) (line row)
-      × (new.calls.ghost_name ≡ old.calls.ghost_name) × NoneForgotten old.calls.now new.calls.now × (new.write_failed ≡ true → new.calls.now.write_failed ≡ true)
+  Stopped old row new = SameEnds old new × StopsAtWrite contents old new (old.gathered.now ++ line row)
 
-  pub took : (rows : List R) (a b : Lines W) → Takes Wrote rows a b → (b.writer.ghost_name ≡ a.writer.ghost_name) × Appends (contents a.writer.now) (contents b.writer.now) (flat_map line rows) × (b.calls.ghost_name ≡ a.calls.ghost_name) × NoneForgotten a.calls.now b.calls.now
-  took [] a b t = (ap (λ (s : Lines W). s.writer.ghost_name) t, subst (λ (s : Lines W). Appends (contents a.writer.now) (contents s.writer.now) []) (sym t) (Appends-nil (contents a.writer.now)), ap (λ (s : Lines W). s.calls.ghost_name) t, subst (λ (s : Lines W). NoneForgotten a.calls.now s.calls.now) (sym t) (none_forgotten a.calls.now))
-  took (row ∷ rows) a b t =
-      let later = took rows t.0 b t.2 in (
-        later.0 ∙ t.1.0,
-        Appends-trans (contents a.writer.now) (contents t.0.writer.now) (contents b.writer.now) (line row) (flat_map line rows) t.1.1 later.1,
-        later.2 ∙ t.1.2,
-        then_none_forgotten _ _ _ t.1.3 later.3,
+  -- of the list of these rows a front of whole rows is written, and the lines of the others are gathered
+  abbrev pub Stands : Option (List ℕ) → List ℕ → List R → Lines W → Type 0
+  Stands w header rows s = (sent : List R) × (held : List R) × (rows ≡ sent ++ held) × Appends w (contents s.writer.now) (list_text header line sent) × (s.gathered.now ≡ flat_map line held)
+
+  one_more : (held : List R) (row : R) → flat_map line held ++ line row ≡ flat_map line (held ++ row ∷ [])
+  one_more held row = sym (flat_map-append line held (row ∷ []) ∙ ap (λ l. flat_map line held ++ l) (append-nil (line row)))
+
+  text_of_both : (header : List ℕ) (sent held : List R) → list_text header line sent ++ flat_map line held ≡ list_text header line (sent ++ held)
+  text_of_both header sent held = append_assoc header (flat_map line sent) (flat_map line held) ∙ ap (λ l. header ++ l) (sym (flat_map-append line sent held))
+
+  step : (w : Option (List ℕ)) (header : List ℕ) (rows : List R) (row : R) (old new : Lines W) → Stands w header rows old → Gathers contents old new (line row) → Stands w header (rows ++ row ∷ []) new
+  step w header rows row old new (sent, held, all, written, gathered) (inl (kept, more)) = (
+    sent,
+    held ++ row ∷ [],
+    ap (λ l. l ++ row ∷ []) all ∙ append_assoc sent held (row ∷ []),
+    Appends-kept w (contents old.writer.now) (contents new.writer.now) _ written kept,
+    more ∙ ap (λ l. l ++ line row) gathered ∙ one_more held row,
+  )
+  step w header rows row old new (sent, held, all, written, gathered) (inr (wrote, none)) =
+      let text : list_text header line sent ++ (old.gathered.now ++ line row) ≡ list_text header line (rows ++ row ∷ []) =
+      ap (λ l. list_text header line sent ++ l) (ap (λ l. l ++ line row) gathered ∙ one_more held row) ∙ text_of_both header sent (held ++ row ∷ [])
+      ∙ ap (λ l. list_text header line l) (sym (ap (λ l. l ++ row ∷ []) all ∙ append_assoc sent held (row ∷ []))) in (
+        rows ++ row ∷ [],
+        [],
+        sym (append-nil (rows ++ row ∷ [])),
+        subst (Appends w (contents new.writer.now)) text (Appends-trans w (contents old.writer.now) (contents new.writer.now) _ _ written wrote),
+        none,
       )
 
+  took_same : (rows : List R) (a b : Lines W) → Takes Wrote rows a b → SameEnds a b
+  took_same [] a b t = subst (λ (s : Lines W). SameEnds a s) (sym t) (same_sink a)
+  took_same (row ∷ rows) a b t = then_same a t.0 b t.1.0 (took_same rows t.0 b t.2)
+
+  took : (w : Option (List ℕ)) (header : List ℕ) (before rows : List R) (a b : Lines W) → Stands w header before a → Takes Wrote rows a b → Stands w header (before ++ rows) b
+  took w header before [] a b s t = subst (λ (c : Lines W). Stands w header (before ++ []) c) (sym t) (subst (λ rs. Stands w header rs a) (sym (append-nil before)) s)
+  took w header before (row ∷ rows) a b s t =
+      subst (λ rs. Stands w header rs b) (append_assoc before (row ∷ []) rows) (took w header (before ++ row ∷ []) rows t.0 b (step w header before row a t.0 s t.1.1) t.2)
+
+  -- after the header, and rows that the sink took
+  from_header : (w : Option (List ℕ)) (header : List ℕ) (rows : List R) (a b : Lines W) → Appends w (contents a.writer.now) header → a.gathered.now ≡ [] → Takes Wrote rows a b → Stands w header rows b
+  from_header w header rows a b first none t = took w header [] rows a b ([], [], refl, subst (Appends w (contents a.writer.now)) (sym (append-nil header)) first, none) t
+
   -- the sink's writer and calls are the same ones at the end of the walk
-  pub same_ends : (rows : List R) (a b : Lines W) (end : Result (Unit {0}) WalkFault) → Hands Wrote Stopped rows a b end → (b.writer.ghost_name ≡ a.writer.ghost_name) × (b.calls.ghost_name ≡ a.calls.ghost_name) × NoneForgotten a.calls.now b.calls.now
-  same_ends rows a b (Ok done) h = let t = took rows a b h in (t.0, t.2, t.3)
-  same_ends rows a b (Err walk.Stopped) h = let t = took h.0 a h.4 h.5 in (h.6.0 ∙ t.0, h.6.2 ∙ t.2, then_none_forgotten _ _ _ t.3 h.6.3)
-  same_ends rows a b (Err walk.Memory) h = let t = took h.0 a b h.3 in (t.0, t.2, t.3)
-  same_ends rows a b (Err walk.Store) h = let t = took h.0 a b h.3 in (t.0, t.2, t.3)
+  pub same_ends : (rows : List R) (a b : Lines W) (end : Result (Unit {0}) WalkFault) → Hands Wrote Stopped rows a b end → SameEnds a b
+  same_ends rows a b (Ok done) h = took_same rows a b h
+  same_ends rows a b (Err walk.Stopped) h = then_same a h.4 b (took_same h.0 a h.4 h.5) h.6.0
+  same_ends rows a b (Err walk.Memory) h = took_same h.0 a b h.3
+  same_ends rows a b (Err walk.Store) h = took_same h.0 a b h.3
 
   -- a list ends with Write only after a write that failed
-  pub write_had_failed : (rows : List R) (a b : Lines W) (end : Result (Unit {0}) WalkFault) → Hands Wrote Stopped rows a b end → listed end b.write_failed ≡ Err fault.Write → b.calls.now.write_failed ≡ true
-  write_had_failed rows a b (Ok done) h e = cc
-  write_had_failed rows a b (Err walk.Memory) h e = cc
-  write_had_failed rows a b (Err walk.Store) h e = cc
-  write_had_failed rows a b (Err walk.Stopped) h e = h.6.4 (stopped_for_write b.write_failed e)
+  pub write_had_failed : (rows : List R) (a b c : Lines W) (end result : Result (Unit {0}) WalkFault) → Hands Wrote Stopped rows a b end → Finishes contents b c end result
+      → listed result c.write_failed ≡ Err fault.Write → c.calls.now.write_failed ≡ true
+  write_had_failed rows a b c (Err walk.Stopped) result h f e =
+      let here : listed (Err walk.Stopped) b.write_failed ≡ Err fault.Write = subst (λ (s : Lines W). listed (Err walk.Stopped) s.write_failed ≡ Err fault.Write) f.1 (subst (λ r. listed r c.write_failed ≡ Err fault.Write) f.0 e) in
+      subst (λ (s : Lines W). s.calls.now.write_failed ≡ true) (sym f.1) (h.6.1.1 (stopped_for_write b.write_failed here))
+  write_had_failed rows a b c (Ok done) (Err walk.Stopped) h f e = f.1 (stopped_for_write c.write_failed e)
+  write_had_failed rows a b c (Err walk.Memory) (Err walk.Stopped) h f e = f.1 (stopped_for_write c.write_failed e)
+  write_had_failed rows a b c (Err walk.Store) (Err walk.Stopped) h f e = f.1 (stopped_for_write c.write_failed e)
+  write_had_failed rows a b c end (Ok done) h f e = cc
+  write_had_failed rows a b c end (Err walk.Memory) h f e = cc
+  write_had_failed rows a b c end (Err walk.Store) h f e = cc
 
-  stopped_at : (b : Bool) (w : Option (List ℕ)) (header : List ℕ) (rows taken : List R) (row : R) (rest : List R) (a last new : Lines W) → rows ≡ taken ++ row ∷ rest → Appends w (contents a.writer.now) header
-      → Appends (contents a.writer.now) (contents last.writer.now) (flat_map line taken) → StopsBy b (contents last.writer.now) (contents new.writer.now) (line row)
-      → Lists w (contents new.writer.now) header line rows (listed (Err walk.Stopped) b)
-  stopped_at true w header rows taken row rest a last new e first took_them stop =
-      let before = Appends-trans w (contents a.writer.now) (contents last.writer.now) header (flat_map line taken) first took_them in
-      let front = front_next w (contents last.writer.now) (contents new.writer.now) (header ++ flat_map line taken) (line row) (flat_map line rest) before stop in
-      let whole : list_text header line rows ≡ ((header ++ flat_map line taken) ++ line row) ++ flat_map line rest =
-      ap (λ rs. header ++ flat_map line rs) e ∙ ap (λ l. header ++ l) (flat_map-append line taken (row ∷ rest))
-      ∙ sym (append_assoc header (flat_map line taken) (line row ++ flat_map line rest)) ∙ sym (append_assoc (header ++ flat_map line taken) (line row) (flat_map line rest)) in
-      subst (AppendsFront w (contents new.writer.now)) (sym whole) front
-  stopped_at false w header rows taken row rest a last new e first took_them stop =
-      inr (taken, row ∷ rest, e, Appends-kept w (contents last.writer.now) (contents new.writer.now) _ (Appends-trans w (contents a.writer.now) (contents last.writer.now) header (flat_map line taken) first took_them) stop)
+  -- the sink stopped as it was to write the lines of rows
+  stopped : (failed : Bool) (w old new : Option (List ℕ)) (header : List ℕ) (rows sent more rest : List R) (bytes : List ℕ) → rows ≡ (sent ++ more) ++ rest → bytes ≡ flat_map line more
+      → Appends w old (list_text header line sent) → StopsBy failed old new bytes → Lists w new header line rows (listed (Err walk.Stopped) failed)
+  stopped true w old new header rows sent more rest bytes e same first stop =
+      let whole : list_text header line rows ≡ (list_text header line sent ++ bytes) ++ flat_map line rest =
+      ap (λ l. list_text header line l) e ∙ sym (text_of_both header (sent ++ more) rest) ∙ ap (λ l. l ++ flat_map line rest) (sym (text_of_both header sent more))
+      ∙ ap (λ l. (list_text header line sent ++ l) ++ flat_map line rest) (sym same) in
+      subst (AppendsFront w new) (sym whole) (front_next w old new (list_text header line sent) bytes (flat_map line rest) first stop)
+  stopped false w old new header rows sent more rest bytes e same first stop = inr (sent, more ++ rest, e ∙ append_assoc sent more rest, Appends-kept w old new _ first stop)
 
-  -- after the header and the walk, the list is written as its end says
-  pub list_written : (w : Option (List ℕ)) (header : List ℕ) (rows handed : List R) (a new : Lines W) (end : Result (Unit {0}) WalkFault) → Appends w (contents a.writer.now) header → handed ≡ rows
-      → Hands Wrote Stopped handed a new end → Lists w (contents new.writer.now) header line rows (listed end new.write_failed)
-  list_written w header rows handed a new (Ok done) first e h =
-      subst (λ rs. Appends w (contents new.writer.now) (list_text header line rs)) e (Appends-trans w (contents a.writer.now) (contents new.writer.now) header (flat_map line handed) first (took handed a new h).1)
-  list_written w header rows handed a new (Err walk.Stopped) first e h =
-      stopped_at new.write_failed w header rows h.0 h.1 h.2 a h.4 new (sym e ∙ h.3) first (took h.0 a h.4 h.5).1 h.6.1
-  list_written w header rows handed a new (Err walk.Memory) first e h =
-      inr (h.0, h.1, sym e ∙ h.2, Appends-trans w (contents a.writer.now) (contents new.writer.now) header (flat_map line h.0) first (took h.0 a new h.3).1)
-  list_written w header rows handed a new (Err walk.Store) first e h =
-      inr (h.0, h.1, sym e ∙ h.2, Appends-trans w (contents a.writer.now) (contents new.writer.now) header (flat_map line h.0) first (took h.0 a new h.3).1)
+  -- the rest of the rows wasn't written, or the rest of them was
+  rest_stopped : (w : Option (List ℕ)) (header : List ℕ) (rows taken rest : List R) (b c : Lines W) → rows ≡ taken ++ rest → Stands w header taken b → StopsAtWrite contents b c b.gathered.now
+      → Lists w (contents c.writer.now) header line rows (listed (Err walk.Stopped) c.write_failed)
+  rest_stopped w header rows taken rest b c e (sent, held, all, written, gathered) f =
+      stopped c.write_failed w (contents b.writer.now) (contents c.writer.now) header rows sent held rest b.gathered.now (e ∙ ap (λ l. l ++ rest) all) gathered written f.0
+
+  rest_written : (w : Option (List ℕ)) (header : List ℕ) (rows : List R) (b c : Lines W) → Stands w header rows b → Appends (contents b.writer.now) (contents c.writer.now) b.gathered.now
+      → Appends w (contents c.writer.now) (list_text header line rows)
+  rest_written w header rows b c (sent, held, all, written, gathered) f =
+      let text : list_text header line sent ++ b.gathered.now ≡ list_text header line rows =
+      ap (λ l. list_text header line sent ++ l) gathered ∙ text_of_both header sent held ∙ ap (λ l. list_text header line l) (sym all) in
+      subst (Appends w (contents c.writer.now)) text (Appends-trans w (contents b.writer.now) (contents c.writer.now) _ _ written f)
+
+  -- the sink stopped at a row of the walk
+  walk_stopped : (w : Option (List ℕ)) (header : List ℕ) (rows taken : List R) (row : R) (rest : List R) (last b : Lines W) → rows ≡ taken ++ row ∷ rest → Stands w header taken last
+      → StopsAtWrite contents last b (last.gathered.now ++ line row) → Lists w (contents b.writer.now) header line rows (listed (Err walk.Stopped) b.write_failed)
+  walk_stopped w header rows taken row rest last b e (sent, held, all, written, gathered) f =
+      stopped b.write_failed w (contents last.writer.now) (contents b.writer.now) header rows sent (held ++ row ∷ []) rest (last.gathered.now ++ line row)
+      (e ∙ ap (λ l. l ++ row ∷ rest) all ∙ regroup sent held row rest) (ap (λ l. l ++ line row) gathered ∙ one_more held row) written f.0
+
+  -- after the header, the walk and its end, the list is written as its end says
+  pub list_written : (w : Option (List ℕ)) (header : List ℕ) (rows handed : List R) (a b c : Lines W) (end result : Result (Unit {0}) WalkFault) → Appends w (contents a.writer.now) header → a.gathered.now ≡ []
+      → handed ≡ rows → Hands Wrote Stopped handed a b end → Finishes contents b c end result → Lists w (contents c.writer.now) header line rows (listed result c.write_failed)
+  list_written w header rows handed a b c (Err walk.Stopped) result first none e h f =
+      let here = walk_stopped w header rows h.0 h.1 h.2 h.4 b (sym e ∙ h.3) (from_header w header h.0 a h.4 first none h.5) h.6.1 in
+      subst (λ r. Lists w (contents c.writer.now) header line rows (listed r c.write_failed)) (sym f.0)
+      (subst (λ (s : Lines W). Lists w (contents s.writer.now) header line rows (listed (Err walk.Stopped) s.write_failed)) (sym f.1) here)
+  list_written w header rows handed a b c (Ok done) (Err walk.Stopped) first none e h f = rest_stopped w header rows handed [] b c (sym e ∙ sym (append-nil handed)) (from_header w header handed a b first none h) f
+  list_written w header rows handed a b c (Ok done) (Ok ended) first none e h f =
+      subst (λ rs. Appends w (contents c.writer.now) (list_text header line rs)) e (rest_written w header handed b c (from_header w header handed a b first none h) f.1)
+  list_written w header rows handed a b c (Ok done) (Err walk.Memory) first none e h f = absurd (err_is_ok f.0)
+  list_written w header rows handed a b c (Ok done) (Err walk.Store) first none e h f = absurd (err_is_ok f.0)
+  list_written w header rows handed a b c (Err walk.Memory) (Err walk.Stopped) first none e h f = rest_stopped w header rows h.0 h.1 b c (sym e ∙ h.2) (from_header w header h.0 a b first none h.3) f
+  list_written w header rows handed a b c (Err walk.Memory) (Err walk.Memory) first none e h f = inr (h.0, h.1, sym e ∙ h.2, rest_written w header h.0 b c (from_header w header h.0 a b first none h.3) f.1)
+  list_written w header rows handed a b c (Err walk.Memory) (Err walk.Store) first none e h f = absurd (store_is_memory (Err walk.Store) refl f.0)
+  list_written w header rows handed a b c (Err walk.Memory) (Ok done) first none e h f = absurd (err_is_ok (sym f.0))
+  list_written w header rows handed a b c (Err walk.Store) (Err walk.Stopped) first none e h f = rest_stopped w header rows h.0 h.1 b c (sym e ∙ h.2) (from_header w header h.0 a b first none h.3) f
+  list_written w header rows handed a b c (Err walk.Store) (Err walk.Store) first none e h f = inr (h.0, h.1, sym e ∙ h.2, rest_written w header h.0 b c (from_header w header h.0 a b first none h.3) f.1)
+  list_written w header rows handed a b c (Err walk.Store) (Err walk.Memory) first none e h f = absurd (store_is_memory (Err walk.Store) refl (sym f.0))
+  list_written w header rows handed a b c (Err walk.Store) (Ok done) first none e h f = absurd (err_is_ok (sym f.0))
 
 -- a list that was begun doesn't end with NoRoom
 pub listed_there : (end : Result (Unit {0}) WalkFault) (failed : Bool) → listed end failed ≡ Err fault.NoRoom → ⊥

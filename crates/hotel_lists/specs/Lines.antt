@@ -5,7 +5,7 @@ use Rattle.std.specs.Fmt.{decimal}
 use Rattle.std.specs.Io.KnownBytes.{Appends, Keeps}
 use Rattle.csv.specs.Writing.{default_writer, row_text}
 use Rattle.keycard_rules.specs.Rise.{HasRisen, NoFewer}
-use Rattle.keycard_rules.specs.declared.issued.LookFault.{LookFault}
+use Rattle.keycard_rules.specs.declared.issued.Issued.{Ghosts as IssuedOf}
 use Rattle.keycard_rules.specs.declared.issued.LookFault.TheVariants as look
 use Rattle.keycard_rules.specs.Numerals.{code_text}
 use Rattle.keycard_rules.specs.Note.{Note}
@@ -109,12 +109,12 @@ listed (Err walk.Memory) write_failed = Err fault.Memory
 listed (Err walk.Store) write_failed = Err fault.Store
 listed (Err walk.Stopped) write_failed = if write_failed then Err fault.Write else Err fault.Memory
 
--- A list left of the books what a look-up may leave; the store fails only where a failure of the store was counted, and in memory it never does.
-pub record LooksAt {B : Type 0} (is_clean : B → Type 0) (is_kept : B → B → Type 0) (failures : B → LookFault → ℕ) (never_fails : Type 0) (old new : B) (result : Result (Unit {0}) ListFault) : Type 0 where
-  pub kept : is_clean new → is_kept old new
-  pub was_clean : is_clean new → is_clean old
-  pub counted : NoFewer (failures old) (failures new)
-  pub store : result ≡ Err fault.Store → HasRisen (failures old look.Store) (failures new look.Store)
+-- A list left of the books what a look-up may leave; the store fails only where a failure of the store was counted.
+pub record LooksAt {B : Type 0} (I : IssuedOf B) (old new : B) (result : Result (Unit {0}) ListFault) : Type 0 where
+  pub kept : I.is_clean new → I.is_kept old new
+  pub was_clean : I.is_clean new → I.is_clean old
+  pub counted : NoFewer (I.failures old) (I.failures new)
+  pub store : result ≡ Err fault.Store → HasRisen (I.failures old look.Store) (I.failures new look.Store)
 
 -- no row and no header can have been written
 abbrev pub is_early : Result (Unit {0}) ListFault → Bool

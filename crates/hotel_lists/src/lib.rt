@@ -5,6 +5,7 @@ mod bytes;
 mod calls;
 mod fakes;
 mod fault;
+mod gathered;
 mod line;
 mod lines;
 mod lists;

@@ -25,7 +25,7 @@ pub fn arrivals<B: Walks, W: Write>(
 ) -> Result<(), ListFault>
     ensures text { B.is_clean books.new → Lists (W.contents writer.old) (W.contents writer.new) arrivals_header arrival_line (arrivals_on (B.rows books.old) day) result }
     ensures no_room { result ≡ Err NoRoom → ⊥ }
-    ensures books { LooksAt B.is_clean B.is_kept B.failures B.never_fails books.old books.new result }
+    ensures books { LooksAt B.Issued books.old books.new result }
 {
     write_arrivals(alloc, books, day, writer, &mut IoCalls::none())
 }
@@ -38,7 +38,7 @@ pub fn in_house<B: Walks, W: Write>(
 ) -> Result<(), ListFault>
     ensures text { B.is_clean books.new → Lists (W.contents writer.old) (W.contents writer.new) in_house_header house_line (in_house_on (B.rows books.old)) result }
     ensures no_room { result ≡ Err NoRoom → ⊥ }
-    ensures books { LooksAt B.is_clean B.is_kept B.failures B.never_fails books.old books.new result }
+    ensures books { LooksAt B.Issued books.old books.new result }
 {
     write_in_house(alloc, books, writer, &mut IoCalls::none())
 }
@@ -51,7 +51,7 @@ pub fn chain_of<B: Walks, W: Write>(
     writer: &mut W,
 ) -> Result<(), ListFault>
     ensures text { B.is_clean books.new → ListsRoom (room_at (B.rows books.old) room) (W.contents writer.old) (W.contents writer.new) chain_header chain_line (chain_on (B.rows books.old) room) result }
-    ensures books { LooksAt B.is_clean B.is_kept B.failures B.never_fails books.old books.new result }
+    ensures books { LooksAt B.Issued books.old books.new result }
 {
     write_chain_of(alloc, books, room, writer, &mut IoCalls::none())
 }
@@ -64,7 +64,7 @@ pub fn left_behind<B: Walks, W: Write>(
 ) -> Result<(), ListFault>
     ensures text { B.is_clean books.new → Lists (W.contents writer.old) (W.contents writer.new) left_behind_header behind_line (left_behind_on (B.rows books.old)) result }
     ensures no_room { result ≡ Err NoRoom → ⊥ }
-    ensures books { LooksAt B.is_clean B.is_kept B.failures B.never_fails books.old books.new result }
+    ensures books { LooksAt B.Issued books.old books.new result }
 {
     write_left_behind(alloc, books, writer, &mut IoCalls::none())
 }
@@ -77,7 +77,7 @@ pub fn audit_of<B: Walks, W: Write>(
     writer: &mut W,
 ) -> Result<(), ListFault>
     ensures text { B.is_clean books.new → ListsRoom (room_at (B.rows books.old) room) (W.contents writer.old) (W.contents writer.new) audit_header note_line (audit_on (B.rows books.old) room) result }
-    ensures books { LooksAt B.is_clean B.is_kept B.failures B.never_fails books.old books.new result }
+    ensures books { LooksAt B.Issued books.old books.new result }
 {
     write_audit_of(alloc, books, room, writer, &mut IoCalls::none())
 }

@@ -8,6 +8,7 @@ ghost use Rattle.hotel_lists.specs.declared.fault.ListFault.TheVariants.{NoRoom,
 
 use crate::calls::IoCalls;
 use crate::fault::ListFault;
+use crate::gathered::Gathered;
 use crate::lines::{Lines, listed};
 use hotel_core::Walks;
 use hotel_nights::Day;
@@ -19,7 +20,7 @@ use std::io::Write;
 fn find_room<B: Walks>(books: &mut B, room: RoomNo) -> Result<(), ListFault>
     ensures room { B.is_clean books.new → FindsRoom (room_at (B.rows books.old) room) result }
     ensures unwritten { result ≡ Err Write → ⊥ }
-    ensures books { LooksAt B.is_clean B.is_kept B.failures B.never_fails books.old books.new result }
+    ensures books { LooksAt B.Issued books.old books.new result }
 {
     match books.room(room) {
         Ok(Some(_)) => Ok(()),
@@ -39,13 +40,15 @@ pub fn write_arrivals<B: Walks, W: Write>(
 ) -> Result<(), ListFault>
     ensures text { B.is_clean books.new → Lists (W.contents writer.old) (W.contents writer.new) arrivals_header arrival_line (arrivals_on (B.rows books.old) day) result }
     ensures no_room { result ≡ Err NoRoom → ⊥ }
-    ensures books { LooksAt B.is_clean B.is_kept B.failures B.never_fails books.old books.new result }
+    ensures books { LooksAt B.Issued books.old books.new result }
     ensures failed { result ≡ Err Write → calls.new.write_failed ≡ true }
     ensures calls { NoneForgotten calls.old calls.new }
 {
-    let mut lines = Lines::new(alloc, writer, calls);
+    let mut gathered = Gathered::none(alloc);
+    let mut lines = Lines::new(writer, calls, &mut gathered);
     lines.begin(b"party,guest,kind,arrive,depart\n")?;
-    let end = books.walk_arrivals(day, &mut lines);
+    let walked = books.walk_arrivals(day, &mut lines);
+    let end = lines.finish(walked);
     listed(end, lines.write_failed)
 }
 
@@ -58,13 +61,15 @@ pub fn write_in_house<B: Walks, W: Write>(
 ) -> Result<(), ListFault>
     ensures text { B.is_clean books.new → Lists (W.contents writer.old) (W.contents writer.new) in_house_header house_line (in_house_on (B.rows books.old)) result }
     ensures no_room { result ≡ Err NoRoom → ⊥ }
-    ensures books { LooksAt B.is_clean B.is_kept B.failures B.never_fails books.old books.new result }
+    ensures books { LooksAt B.Issued books.old books.new result }
     ensures failed { result ≡ Err Write → calls.new.write_failed ≡ true }
     ensures calls { NoneForgotten calls.old calls.new }
 {
-    let mut lines = Lines::new(alloc, writer, calls);
+    let mut gathered = Gathered::none(alloc);
+    let mut lines = Lines::new(writer, calls, &mut gathered);
     lines.begin(b"room,party,guest,kind,depart,secured\n")?;
-    let end = books.walk_in_house(&mut lines);
+    let walked = books.walk_in_house(&mut lines);
+    let end = lines.finish(walked);
     listed(end, lines.write_failed)
 }
 
@@ -77,14 +82,16 @@ pub fn write_chain_of<B: Walks, W: Write>(
     calls: &mut IoCalls,
 ) -> Result<(), ListFault>
     ensures text { B.is_clean books.new → ListsRoom (room_at (B.rows books.old) room) (W.contents writer.old) (W.contents writer.new) chain_header chain_line (chain_on (B.rows books.old) room) result }
-    ensures books { LooksAt B.is_clean B.is_kept B.failures B.never_fails books.old books.new result }
+    ensures books { LooksAt B.Issued books.old books.new result }
     ensures failed { result ≡ Err Write → calls.new.write_failed ≡ true }
     ensures calls { NoneForgotten calls.old calls.new }
 {
     find_room(books, room)?;
-    let mut lines = Lines::new(alloc, writer, calls);
+    let mut gathered = Gathered::none(alloc);
+    let mut lines = Lines::new(writer, calls, &mut gathered);
     lines.begin(b"place,code,state\n")?;
-    let end = books.walk_chain(room, &mut lines);
+    let walked = books.walk_chain(room, &mut lines);
+    let end = lines.finish(walked);
     listed(end, lines.write_failed)
 }
 
@@ -97,13 +104,15 @@ pub fn write_left_behind<B: Walks, W: Write>(
 ) -> Result<(), ListFault>
     ensures text { B.is_clean books.new → Lists (W.contents writer.old) (W.contents writer.new) left_behind_header behind_line (left_behind_on (B.rows books.old)) result }
     ensures no_room { result ≡ Err NoRoom → ⊥ }
-    ensures books { LooksAt B.is_clean B.is_kept B.failures B.never_fails books.old books.new result }
+    ensures books { LooksAt B.Issued books.old books.new result }
     ensures failed { result ≡ Err Write → calls.new.write_failed ≡ true }
     ensures calls { NoneForgotten calls.old calls.new }
 {
-    let mut lines = Lines::new(alloc, writer, calls);
+    let mut gathered = Gathered::none(alloc);
+    let mut lines = Lines::new(writer, calls, &mut gathered);
     lines.begin(b"room,held,current,awaited\n")?;
-    let end = books.walk_left_behind(&mut lines);
+    let walked = books.walk_left_behind(&mut lines);
+    let end = lines.finish(walked);
     listed(end, lines.write_failed)
 }
 
@@ -116,13 +125,15 @@ pub fn write_audit_of<B: Walks, W: Write>(
     calls: &mut IoCalls,
 ) -> Result<(), ListFault>
     ensures text { B.is_clean books.new → ListsRoom (room_at (B.rows books.old) room) (W.contents writer.old) (W.contents writer.new) audit_header note_line (audit_on (B.rows books.old) room) result }
-    ensures books { LooksAt B.is_clean B.is_kept B.failures B.never_fails books.old books.new result }
+    ensures books { LooksAt B.Issued books.old books.new result }
     ensures failed { result ≡ Err Write → calls.new.write_failed ≡ true }
     ensures calls { NoneForgotten calls.old calls.new }
 {
     find_room(books, room)?;
-    let mut lines = Lines::new(alloc, writer, calls);
+    let mut gathered = Gathered::none(alloc);
+    let mut lines = Lines::new(writer, calls, &mut gathered);
     lines.begin(b"room,count,kind,card,old,new,at\n")?;
-    let end = books.walk_audit(room, &mut lines);
+    let walked = books.walk_audit(room, &mut lines);
+    let end = lines.finish(walked);
     listed(end, lines.write_failed)
 }

@@ -16,9 +16,9 @@ returns-clause-ok g c = λ clean.
     let new = g.W.Write.contents c.write_bytes.new.writer in
     let refused = sym c.refusal_of.ensures ∙ c.in-Some.is in
     let written = subst (λ (r : Result (Unit {0}) ListFault). ListEnds [] listing old mid r) c.in-Err.is (c.write_list.ensures.text clean) in
-    let looks = subst (λ (r : Result (Unit {0}) ListFault). LooksAt g.B.Issued.is_clean g.B.Issued.is_kept g.B.Issued.failures g.B.Issued.never_fails c.args.books.now c.write_list.new.books r) c.in-Err.is c.write_list.ensures.books in
+    let looks = subst (λ (r : Result (Unit {0}) ListFault). LooksAt g.B.Issued c.args.books.now c.write_list.new.books r) c.in-Err.is c.write_list.ensures.books in
     let said : c.as_bytes.result.now ≡ refusal_text c.in-Some.refusal = c.as_bytes.ensures.same ∙ c.reply_text-text.ensures in
-    when_ok _ _ _ (λ p. refused_whole listing old mid new _ _ refused written looks (subst (λ (t : List ℕ). Appends mid new t) said p)) c.write_bytes.ensures.ok
+    when_ok _ _ _ (λ p. refused_whole g.B.Issued listing old mid new _ _ refused written looks (subst (λ (t : List ℕ). Appends mid new t) said p)) c.write_bytes.ensures.ok
 
 pub returns-clause-err : goal.returns-clause-err
 returns-clause-err g c = λ clean.
@@ -28,9 +28,9 @@ returns-clause-err g c = λ clean.
     let new = g.W.Write.contents c.write_bytes.new.writer in
     let refused = sym c.refusal_of.ensures ∙ c.in-Some.is in
     let written = subst (λ (r : Result (Unit {0}) ListFault). ListEnds [] listing old mid r) c.in-Err.is (c.write_list.ensures.text clean) in
-    let looks = subst (λ (r : Result (Unit {0}) ListFault). LooksAt g.B.Issued.is_clean g.B.Issued.is_kept g.B.Issued.failures g.B.Issued.never_fails c.args.books.now c.write_list.new.books r) c.in-Err.is c.write_list.ensures.books in
+    let looks = subst (λ (r : Result (Unit {0}) ListFault). LooksAt g.B.Issued c.args.books.now c.write_list.new.books r) c.in-Err.is c.write_list.ensures.books in
     let said : c.as_bytes.result.now ≡ refusal_text c.in-Some.refusal = c.as_bytes.ensures.same ∙ c.reply_text-text.ensures in
-    when_err _ _ _ (λ p. refused_cut listing old mid new _ _ refused written looks (subst (λ (t : List ℕ). AppendsFront mid new t) said p)) c.write_bytes.ensures.err
+    when_err _ _ _ (λ p. refused_cut g.B.Issued listing old mid new _ _ refused written looks (subst (λ (t : List ℕ). AppendsFront mid new t) said p)) c.write_bytes.ensures.err
 
 pub returns-in_default-clause-ok : goal.returns-in_default-clause-ok
 returns-in_default-clause-ok g c = λ clean.
