@@ -39,26 +39,46 @@ fn does(books: &mut ListBooks, source: &mut ListedWords, command: &Command) -> R
     }
 }
 
+/// The first day, a kind, and room 101: code a0.
+fn opens(books: &mut ListBooks, source: &mut ListedWords) -> Result<(), Fail> {
+    let day = Day::read(b"2031-05-01").ok_or("no day")?;
+    let kind = KindCode::read(b"DBL").ok_or("no kind")?;
+    let room = RoomNo::new(101).ok_or("no room")?;
+    does(books, source, &Command::Begin(day))?;
+    does(books, source, &Command::AddKind(kind))?;
+    does(books, source, &Command::AddRoom { room, kind })
+}
+
+/// A booking of two nights.
+fn booking(alloc: Global) -> Result<Command, Fail> {
+    let kind = KindCode::read(b"DBL").ok_or("no kind")?;
+    let arrive = Day::read(b"2031-05-01").ok_or("no day")?;
+    let nights = Nights::new(2).ok_or("no nights")?;
+    let guest = Guest::read(alloc, "Ann Lee")?;
+    Ok(Command::Reserve {
+        guest,
+        kind,
+        arrive,
+        nights,
+    })
+}
+
+/// Party 1 books and checks in at room 101: code a1.
+fn checks_in(alloc: Global, books: &mut ListBooks, source: &mut ListedWords) -> Result<(), Fail> {
+    let party = PartyNo::new(1).ok_or("no party")?;
+    let room = RoomNo::new(101).ok_or("no room")?;
+    let reserve = booking(alloc)?;
+    does(books, source, &reserve)?;
+    does(books, source, &Command::CheckIn { party, room })
+}
+
 /// Room 101, where party 1 checked in: code a0, then a1.
 fn one_guest(alloc: Global) -> Result<ListBooks, Fail> {
     let words = [0xa0 << 16, 0xa1 << 16];
     let mut source = ListedWords::new(words.to_vec(alloc)?).ok_or("no words")?;
     let mut books = ListBooks::empty(alloc);
-    let day = Day::read(b"2031-05-01").ok_or("no day")?;
-    let kind = KindCode::read(b"DBL").ok_or("no kind")?;
-    let room = RoomNo::new(101).ok_or("no room")?;
-    let party = PartyNo::new(1).ok_or("no party")?;
-    let booking = Command::Reserve {
-        guest: Guest::read(alloc, "Ann Lee")?,
-        kind,
-        arrive: day,
-        nights: Nights::new(2).ok_or("no nights")?,
-    };
-    does(&mut books, &mut source, &Command::Begin(day))?;
-    does(&mut books, &mut source, &Command::AddKind(kind))?;
-    does(&mut books, &mut source, &Command::AddRoom { room, kind })?;
-    does(&mut books, &mut source, &booking)?;
-    does(&mut books, &mut source, &Command::CheckIn { party, room })?;
+    opens(&mut books, &mut source)?;
+    checks_in(alloc, &mut books, &mut source)?;
     Ok(books)
 }
 

@@ -17,5 +17,5 @@ returns g c =
       c.run_script-end.result,
       c.end_of_script.ensures,
       script_ends g.W.Write.contents (g.I.Read.remaining c.args.reader.now) c.args.writer.now c.run_script-end.new.writer _ _ _ _ _ _ _ _ _ _ c.run_script-end.result tt
-      rows zero source (subst IsSound rows (c.known_sound.ensures tt)) e.ok e.cut e.unbegun e.large,
+          rows zero source (subst IsSound rows (c.known_sound.ensures tt)) e.ok e.cut e.unbegun e.large,
     )
