@@ -146,6 +146,22 @@ fn is_counted<A: Abort>(
     }
 }
 
+/// Imports the file into books of which this call fails for this cause: how many lines were answered, where it was stopped.
+fn stopped_at(
+    rt: &(impl Abort + AllocGlobal),
+    books: &mut StoppingBooks,
+    file: &[u8],
+    cause: LookFault,
+    call: u64,
+) -> Option<usize> {
+    let end = import(rt.alloc(), books, file);
+    is_counted(rt, books, &end, cause, call);
+    if end.is_ok() {
+        return None;
+    }
+    Some(lines_answered(rt, end))
+}
+
 /// Imports the file into books of which this call fails, and sends it again where it was stopped.
 fn stops_at_call(
     rt: &(impl Abort + AllocGlobal),
@@ -155,13 +171,10 @@ fn stops_at_call(
 ) -> Result<(), Fail> {
     let books = Desk::of_one_guest(rt.alloc())?.books;
     let mut books = StoppingBooks::new(books, call, cause);
-    let end = import(rt.alloc(), &mut books, sent.file);
-    is_counted(rt, &books, &end, cause, call);
-    if end.is_ok() {
-        return Ok(());
+    match stopped_at(rt, &mut books, sent.file, cause, call) {
+        Some(answered) => is_sent_again(rt, &mut books, sent, answered),
+        None => Ok(()),
     }
-    let answered = lines_answered(rt, end);
-    is_sent_again(rt, &mut books, sent, answered)
 }
 
 /// Each call of the books fails in turn, for want of memory or by the store; the answered lines stand. Then the file is
