@@ -48,16 +48,38 @@ fn rooms<A: Abort>(rt: &A, alloc: Global) -> Result<Tables, Memory> {
     Ok(tables)
 }
 
-/// A booked stay of party 1.
-fn stay<A: Abort>(rt: &A, alloc: Global) -> Result<Stay, GuestFault> {
+/// The day of a number up to 36,524.
+fn day<A: Abort>(rt: &A, number: u16) -> Day {
+    Day::new(number).expect(rt, "a day")
+}
+
+/// A booked stay of the days from `arrive` on and before `depart`.
+fn stay<A: Abort>(
+    rt: &A,
+    alloc: Global,
+    party: u32,
+    arrive: u16,
+    depart: u16,
+) -> Result<Stay, GuestFault> {
     Ok(Stay {
-        party: PartyNo::new(1).expect(rt, "a party's number"),
+        party: PartyNo::new(party).expect(rt, "a party's number"),
         guest: Guest::read(alloc, "Ada")?,
         kind: kind(rt),
-        arrive: Day::new(1).expect(rt, "a day"),
-        depart: Day::new(2).expect(rt, "a day"),
+        arrive: day(rt, arrive),
+        depart: day(rt, depart),
         state: StayState::Booked,
     })
+}
+
+/// Books a stay of a party that has none; whether there was memory.
+fn is_booked<A: Abort>(rt: &A, tables: &mut Tables, party: u32, arrive: u16, depart: u16) -> bool {
+    let Ok(booked) = stay(rt, tables.alloc, party, arrive, depart) else {
+        return false;
+    };
+    let Ok(None) = tables.stay(booked.party) else {
+        return false;
+    };
+    tables.add_stay(booked).is_ok()
 }
 
 /// Issues a card at a room that has one code; whether there was memory.
@@ -93,17 +115,42 @@ fn an_issue_is_whole_or_nothing(rt: HostRuntime) {
     let Ok(mut tables) = rooms(&rt, rt.alloc()) else {
         return;
     };
-    let Ok(booked) = stay(&rt, rt.alloc()) else {
-        return;
-    };
-    let Ok(None) = tables.stay(booked.party) else {
-        return;
-    };
-    if tables.add_stay(booked).is_err() {
+    if !is_booked(&rt, &mut tables, 1, 1, 2) {
         return;
     }
     let issued = is_issued(&rt, &mut tables, &card, room);
     has_issue(&rt, &tables, &card, room, issued);
+}
+
+/// A hotel of one room, whose kind has a stay in each of the first 13 blocks of 32 nights.
+fn thirteen_blocks<A: Abort>(rt: &A, alloc: Global) -> Result<Tables, Memory> {
+    let mut tables = Tables::empty(alloc);
+    let double = kind(rt);
+    assert!(rt; !tables.has_kind(&double), "the kind is new");
+    tables.add_kind(double)?;
+    let first = code(rt, 1);
+    assert!(rt; tables.room(room_no(rt, 1)).is_none(), "the room is new");
+    assert!(rt; tables.code_place(first).is_none(), "the code is new");
+    assert!(rt; tables.has_kind(&double), "the kind is there");
+    tables.add_room(room_no(rt, 1), double, first)?;
+    for block in 0..13u16 {
+        let night = block * 32;
+        if !is_booked(rt, &mut tables, u32::from(block) + 1, night, night + 1) {
+            return Err(Memory);
+        }
+    }
+    Ok(tables)
+}
+
+/// The stay's nights are of four blocks, and the third of these is the sixteenth of the map, which wants memory: 15 fill a node.
+#[test]
+fn a_stay_takes_all_its_nights_or_none(rt: HostRuntime) {
+    let Ok(mut tables) = thirteen_blocks(&rt, rt.alloc()) else {
+        return;
+    };
+    let taken = is_booked(&rt, &mut tables, 14, 436, 526);
+    let night = tables.full_night(&kind(&rt), day(&rt, 436), day(&rt, 526));
+    assert_eq!(rt; night.is_some(), taken);
 }
 
 #[test]
