@@ -1,3 +1,4 @@
 pub mod Values
 pub mod Verbs
 pub mod Asks
+pub mod Listings
