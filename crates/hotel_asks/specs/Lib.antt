@@ -2,3 +2,4 @@ pub mod Values
 pub mod Verbs
 pub mod Asks
 pub mod Names
+pub mod Listings

@@ -1,13 +1,16 @@
-//! What a verb and the texts of its values ask of the desk, however they came: as a line, as words or as a form.
+//! What a verb and the texts of its values ask of the desk, however they came: as a line, as words or as a form. A list that is asked
+//! for is written here.
 #![tactic(auto)]
 
 mod asks;
+mod listings;
 mod lists;
 mod notes;
 mod values;
 mod verbs;
 
 pub use asks::{Ask, read_ask};
+pub use listings::write_list;
 pub use lists::ListAsk;
 pub use values::{
     AskFault, ValueFault, ValueName, read_card, read_code, read_count, read_day, read_guest,

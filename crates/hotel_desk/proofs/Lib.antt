@@ -3,7 +3,6 @@ pub mod WordLemmas
 pub mod CountedLemmas
 pub mod ScriptLemmas
 pub mod ListAnswerLemmas
-pub mod ListingLemmas
 pub mod LineAnswerLemmas
 pub mod ListRunLemmas
 pub mod AuditRunLemmas

@@ -18,8 +18,8 @@ use Rattle.hotel_asks.specs.declared.lists.ListAsk.{ListAsk}
 use Rattle.hotel_desk.specs.Asks.{AsksCopy}
 use Rattle.hotel_desk.specs.LineAnswers.{AskGoes, AskAnswered, unread_text}
 use Rattle.hotel_desk.specs.ListAnswers.{refusal_text, AnswersList, ListAnswered}
-use Rattle.hotel_desk.specs.Listings.{Listing, listing_on}
-use Rattle.hotel_desk.proofs.ListingLemmas.{listing_stands}
+use Rattle.hotel_asks.specs.Listings.{Listing, listing_on}
+use Rattle.hotel_asks.proofs.ListingLemmas.{listing_stands}
 use Rattle.hotel_desk.proofs.ScriptLemmas.{ask_without_memory}
 
 -- a command is carried out

@@ -9,11 +9,11 @@ use Rattle.hotel_lists.specs.Bytes.{AppendsFront}
 use Rattle.hotel_lists.specs.declared.fault.ListFault.{ListFault}
 use Rattle.hotel_lists.specs.declared.fault.ListFault.TheVariants as fault
 use Rattle.hotel_asks.specs.declared.lists.ListAsk.{ListAsk}
-use Rattle.hotel_desk.specs.ListAnswers.{refusal_text, ListEnds}
+use Rattle.hotel_desk.specs.ListAnswers.{refusal_text}
 use Rattle.hotel_desk.specs.ListRuns.{AnswerEnds, AnswerEndsFor}
-use Rattle.hotel_desk.specs.Listings.{Listing, listing_on}
-use Rattle.hotel_desk.proofs.ListAnswerLemmas.{is_text}
-use Rattle.hotel_desk.proofs.ListingLemmas.{listing_stands}
+use Rattle.hotel_asks.specs.Listings.{ListEnds, Listing, listing_on}
+use Rattle.hotel_asks.proofs.ListEndLemmas.{is_text}
+use Rattle.hotel_asks.proofs.ListingLemmas.{listing_stands}
 
 -- the line that the room isn't there was written
 pub told_no_room : (listing : Option Listing) (old mid new : Option (List ℕ)) → ListEnds [] listing old mid (Err fault.NoRoom) → Appends mid new (refusal_text refusal.NoRoom)

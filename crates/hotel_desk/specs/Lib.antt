@@ -1,6 +1,5 @@
 pub mod Words
 pub mod Lines
-pub mod Listings
 pub mod ListAnswers
 pub mod Copies
 pub mod Asks

@@ -10,7 +10,7 @@ use Rattle.hotel_desk.specs.Copies.{counted_in}
 use Rattle.hotel_core.specs.Texts.{reply_text}
 use Rattle.hotel_desk.specs.Asks.{ask_in}
 use Rattle.hotel_desk.specs.ListAnswers.{AnswersList}
-use Rattle.hotel_desk.specs.Listings.{listing_over}
+use Rattle.hotel_asks.specs.Listings.{listing_over}
 use Rattle.hotel_asks.specs.declared.asks.Ask.{Ask}
 use Rattle.hotel_asks.specs.declared.asks.Ask.TheVariants as ask
 use Rattle.hotel_desk.specs.declared.line_answers.LineAnswer.{LineAnswer}

@@ -9,8 +9,8 @@ use Rattle.hotel_lists.specs.declared.fault.ListFault.TheVariants as fault
 use Rattle.hotel_asks.specs.declared.lists.ListAsk.{ListAsk}
 use Rattle.hotel_desk.specs.declared.faults.Fault.{Fault}
 use Rattle.hotel_desk.specs.declared.faults.Fault.TheVariants.{Memory, Store, Write}
-use Rattle.hotel_desk.specs.ListAnswers.{refusal_text, ListEnds}
-use Rattle.hotel_desk.specs.Listings.{Listing, listing_over}
+use Rattle.hotel_desk.specs.ListAnswers.{refusal_text}
+use Rattle.hotel_asks.specs.Listings.{ListEnds, Listing, listing_over}
 
 -- What a writer took of a list that ended so; where its room isn't there, of the line that says so.
 abbrev pub AnswerEnds : Option Listing → Option (List ℕ) → Option (List ℕ) → Result (Unit {0}) ListFault → Type 0

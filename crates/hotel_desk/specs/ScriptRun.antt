@@ -15,7 +15,7 @@ use Rattle.hotel_asks.specs.declared.asks.Ask.TheVariants as ask
 use Rattle.hotel_asks.specs.declared.lists.ListAsk.{ListAsk}
 use Rattle.hotel_desk.specs.LineAnswers.{unread_text}
 use Rattle.hotel_desk.specs.ListAnswers.{AnswersList}
-use Rattle.hotel_desk.specs.Listings.{listing_over}
+use Rattle.hotel_asks.specs.Listings.{listing_over}
 use Rattle.hotel_desk.specs.Script.{ScriptGoes}
 
 -- The commands among what lines ask for.

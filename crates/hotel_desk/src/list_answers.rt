@@ -1,45 +1,19 @@
 //! The answer to a line that asks for a list.
 
-ghost use Rattle.std.specs.Prelude.{◌≡◌, [], ◌≤◌, true, OnOk, OnErr, IsErrOf};
+ghost use Rattle.std.specs.Prelude.{◌≡◌, ◌≤◌, true, OnOk, OnErr};
 ghost use Rattle.std.specs.Io.KnownBytes.{Appends};
 ghost use Rattle.keycard_rules.specs.Rise.{NoFewer};
 ghost use Rattle.hotel_core.specs.Books.Failures.{AreCounted};
 ghost use Rattle.hotel_lists.specs.Bytes.{AppendsFront};
 ghost use Rattle.hotel_lists.specs.Calls.{NoneForgotten};
-ghost use Rattle.hotel_lists.specs.Lines.{LooksAt};
-ghost use Rattle.hotel_desk.specs.ListAnswers.{ListAnswered, ListEnds, refusal_of};
-ghost use Rattle.hotel_desk.specs.Listings.{listing_on};
+ghost use Rattle.hotel_desk.specs.ListAnswers.{ListAnswered, refusal_of};
+ghost use Rattle.hotel_asks.specs.Listings.{listing_on};
 
-use hotel_asks::ListAsk;
+use hotel_asks::{ListAsk, write_list};
 use hotel_core::{Refusal, Reply, Walks, reply_text};
-use hotel_lists::{
-    IoCalls, ListFault, WriteFailed, write_arrivals, write_audit_of, write_bytes, write_chain_of,
-    write_in_house, write_left_behind,
-};
+use hotel_lists::{IoCalls, ListFault, WriteFailed, write_bytes};
 use std::alloc::Global;
 use std::io::Write;
-
-/// Writes the text of a list. Its writes are added to the calls.
-pub(crate) fn write_list<W: Write, B: Walks>(
-    alloc: Global,
-    list: &ListAsk,
-    writer: &mut W,
-    books: &mut B,
-    calls: &mut IoCalls,
-) -> Result<(), ListFault>
-    ensures text { B.is_clean books.new → ListEnds [] (listing_on (B.rows books.old) list.now) (W.contents writer.old) (W.contents writer.new) result }
-    ensures books { LooksAt B.Issued books.old books.new result }
-    ensures failed { IsErrOf result ListFault.Write → calls.new.write_failed ≡ true }
-    ensures calls { NoneForgotten calls.old calls.new }
-{
-    match list {
-        ListAsk::Arrivals(day) => write_arrivals(alloc, books, *day, writer, calls),
-        ListAsk::InHouse => write_in_house(alloc, books, writer, calls),
-        ListAsk::ChainOf(room) => write_chain_of(alloc, books, *room, writer, calls),
-        ListAsk::LeftBehind => write_left_behind(alloc, books, writer, calls),
-        ListAsk::AuditOf(room) => write_audit_of(alloc, books, *room, writer, calls),
-    }
-}
 
 /// The refusal that a list's fault is answered by. None where the writer itself failed.
 fn refusal_of(fault: ListFault) -> Option<Refusal>

@@ -6,12 +6,11 @@ ghost use Rattle.hotel_lists.specs.Lines.{LooksAt};
 ghost use Rattle.hotel_lists.specs.declared.fault.ListFault.{ListFault};
 ghost use Rattle.hotel_desk.specs.Faults.{end_status, Tells};
 ghost use Rattle.hotel_desk.specs.ListRuns.{AnswerEnds, AnswerEndsFor, list_end};
-ghost use Rattle.hotel_desk.specs.Listings.{listing_on};
+ghost use Rattle.hotel_asks.specs.Listings.{listing_on};
 
 use crate::faults::{Fault, FaultSink, finish};
-use crate::list_answers::write_list;
 use crate::statuses::{DONE, REFUSED};
-use hotel_asks::ListAsk;
+use hotel_asks::{ListAsk, write_list};
 use hotel_core::{Refusal, Reply, Walks, reply_text};
 use hotel_lists::{IoCalls, ListFault, write_bytes};
 use std::alloc::Global;

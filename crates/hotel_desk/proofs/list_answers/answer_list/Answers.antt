@@ -3,8 +3,8 @@ use Rattle.std.specs.Io.KnownBytes.{Appends}
 use Rattle.hotel_lists.specs.Bytes.{AppendsFront}
 use Rattle.hotel_lists.specs.Lines.{LooksAt}
 use Rattle.hotel_lists.specs.declared.fault.ListFault.{ListFault}
-use Rattle.hotel_desk.specs.ListAnswers.{ListEnds, refusal_text}
-use Rattle.hotel_desk.specs.Listings.{listing_on}
+use Rattle.hotel_desk.specs.ListAnswers.{refusal_text}
+use Rattle.hotel_asks.specs.Listings.{ListEnds, listing_on}
 use Rattle.hotel_desk.proofs.ListAnswerLemmas.{refused_whole, refused_cut, whole_answered, cut_answered, when_ok, when_err}
 use Rattle.hotel_desk.proofs.list_answers.answer_list.Goals as goal
 

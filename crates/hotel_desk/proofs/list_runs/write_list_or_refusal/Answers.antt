@@ -3,9 +3,9 @@ use Rattle.std.specs.Io.KnownBytes.{Appends}
 use Rattle.hotel_core.specs.declared.reply.Refusal.TheVariants as refusal
 use Rattle.hotel_lists.specs.Bytes.{AppendsFront}
 use Rattle.hotel_lists.specs.declared.fault.ListFault.{ListFault}
-use Rattle.hotel_desk.specs.ListAnswers.{ListEnds, refusal_text}
+use Rattle.hotel_desk.specs.ListAnswers.{refusal_text}
 use Rattle.hotel_desk.specs.ListRuns.{AnswerEnds}
-use Rattle.hotel_desk.specs.Listings.{listing_on}
+use Rattle.hotel_asks.specs.Listings.{ListEnds, listing_on}
 use Rattle.hotel_desk.proofs.ListRunLemmas.{told_no_room, cut_no_room, is_write}
 use Rattle.hotel_desk.proofs.list_runs.write_list_or_refusal.Goals as goal
 

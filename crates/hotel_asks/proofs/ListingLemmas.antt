@@ -15,7 +15,7 @@ use Rattle.hotel_core.specs.Refinement.ListsOnRows.{chain_on, audit_on}
 use Rattle.hotel_lists.specs.Lines.{arrivals_header, in_house_header, chain_header, left_behind_header, audit_header, arrival_line, house_line, chain_line, behind_line, note_line}
 use Rattle.hotel_asks.specs.declared.lists.ListAsk.{ListAsk}
 use Rattle.hotel_asks.specs.declared.lists.ListAsk.TheVariants.{Arrivals, InHouse, ChainOf, LeftBehind, AuditOf}
-use Rattle.hotel_desk.specs.Listings.{listing, of_room, listing_on, listing_over}
+use Rattle.hotel_asks.specs.Listings.{listing, of_room, listing_on, listing_over}
 
 room_lifts : {R : Type 0} (h : History) (room : ℕ) (header : List ℕ) (line : R → List ℕ) (on_rows on_history : List R) → (is_room h room ≡ true → on_rows ≡ on_history)
     → of_room (is_some (room_at (rows_of h) room)) (listing header line on_rows) ≡ of_room (is_room h room) (listing header line on_history)

@@ -1,10 +1,9 @@
 use Rattle.std.proofs.Common.{[], refl, sym, subst}
 use Rattle.hotel_lists.specs.Lines.{arrivals_header, in_house_header, chain_header, left_behind_header, audit_header, arrival_line, house_line, chain_line, behind_line, note_line}
 use Rattle.hotel_asks.specs.declared.lists.ListAsk.{ListAsk}
-use Rattle.hotel_desk.specs.ListAnswers.{ListEnds}
-use Rattle.hotel_desk.specs.Listings.{listing_on}
-use Rattle.hotel_desk.proofs.ListAnswerLemmas.{list_ends, room_ends}
-use Rattle.hotel_desk.proofs.list_answers.write_list.Goals as goal
+use Rattle.hotel_asks.specs.Listings.{ListEnds, listing_on}
+use Rattle.hotel_asks.proofs.ListEndLemmas.{list_ends, room_ends}
+use Rattle.hotel_asks.proofs.listings.write_list.Goals as goal
 
 pub returns-in-Arrivals-clause-text : goal.returns-in-Arrivals-clause-text
 returns-in-Arrivals-clause-text g c = λ clean.

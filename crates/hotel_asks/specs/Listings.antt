@@ -1,11 +1,16 @@
 -- What a list that is asked for has: its header and its lines, or nothing where its room isn't there.
-use Rattle.std.specs.Prelude.{ℕ, Bool, true, false, List, map, Option, Some, None, is_some}
+use Rattle.std.specs.Prelude.{◌≡◌, ◌≢◌, ◌⊎◌, ℕ, Bool, true, false, List, [], ◌++◌, map, Option, Some, None, is_some, Result, Ok, Err}
+use Rattle.std.specs.List.{concat}
+use Rattle.std.specs.Io.KnownBytes.{Appends}
 use Rattle.hotel_core.specs.Model.Rows.{Rows}
 use Rattle.hotel_core.specs.Books.Lookups.{room_at}
 use Rattle.hotel_core.specs.Model.History.{History}
 use Rattle.hotel_core.specs.Model.Cases.{is_room}
 use Rattle.hotel_core.specs.Model.Lists.{arrivals, in_house, chain, left_behind, audit_of}
 use Rattle.hotel_core.specs.Refinement.ListsOnRows.{arrivals_on, in_house_on, chain_on, left_behind_on, audit_on}
+use Rattle.hotel_lists.specs.Bytes.{AppendsFront}
+use Rattle.hotel_lists.specs.declared.fault.ListFault.{ListFault}
+use Rattle.hotel_lists.specs.declared.fault.ListFault.TheVariants as fault
 use Rattle.hotel_lists.specs.Lines.{arrivals_header, in_house_header, chain_header, left_behind_header, audit_header, arrival_line, house_line, chain_line, behind_line, note_line}
 use Rattle.hotel_asks.specs.declared.lists.ListAsk.{ListAsk}
 use Rattle.hotel_asks.specs.declared.lists.ListAsk.TheVariants.{Arrivals, InHouse, ChainOf, LeftBehind, AuditOf}
@@ -39,3 +44,21 @@ listing_on rows InHouse = Some (listing in_house_header house_line (in_house_on 
 listing_on rows (ChainOf room) = of_room (is_some (room_at rows room)) (listing chain_header chain_line (chain_on rows room))
 listing_on rows LeftBehind = Some (listing left_behind_header behind_line (left_behind_on rows))
 listing_on rows (AuditOf room) = of_room (is_some (room_at rows room)) (listing audit_header note_line (audit_on rows room))
+
+-- A list in full: its header and its lines; where its room isn't there, what is said then.
+abbrev pub in_full : List ℕ → Option Listing → List ℕ
+in_full no_room None = no_room
+in_full no_room (Some listing) = listing.header ++ concat listing.lines
+
+-- The header of a list and some whole lines from the first on; or nothing.
+abbrev pub IsFront : Option Listing → List ℕ → Type 0
+IsFront None text = text ≡ []
+IsFront (Some listing) text = (text ≡ []) ⊎ ((taken : List (List ℕ)) × (rest : List (List ℕ)) × (listing.lines ≡ taken ++ rest) × (text ≡ listing.header ++ concat taken))
+
+-- What a writer took of a list that ended so, where this is said if its room isn't there: all; a front after a write of it failed; whole lines where memory or the store failed.
+abbrev pub ListEnds : List ℕ → Option Listing → Option (List ℕ) → Option (List ℕ) → Result (Unit {0}) ListFault → Type 0
+ListEnds no_room listing old new (Ok done) = (is_some listing ≡ true) × Appends old new (in_full no_room listing)
+ListEnds no_room listing old new (Err fault.NoRoom) = (is_some listing ≡ false) × Appends old new (in_full no_room listing)
+ListEnds no_room listing old new (Err fault.Write) = (in_full no_room listing ≢ []) × AppendsFront old new (in_full no_room listing)
+ListEnds no_room listing old new (Err fault.Memory) = (front : List ℕ) × IsFront listing front × Appends old new front
+ListEnds no_room listing old new (Err fault.Store) = (front : List ℕ) × IsFront listing front × Appends old new front

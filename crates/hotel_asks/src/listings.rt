@@ -1,0 +1,37 @@
+//! The list that is asked for, written.
+
+ghost use Rattle.std.specs.Prelude.{◌≡◌, [], true, IsErrOf};
+ghost use Rattle.hotel_lists.specs.Calls.{NoneForgotten};
+ghost use Rattle.hotel_lists.specs.Lines.{LooksAt};
+ghost use Rattle.hotel_asks.specs.Listings.{ListEnds, listing_on};
+
+use crate::lists::ListAsk;
+use hotel_core::Walks;
+use hotel_lists::{
+    IoCalls, ListFault, write_arrivals, write_audit_of, write_chain_of, write_in_house,
+    write_left_behind,
+};
+use std::alloc::Global;
+use std::io::Write;
+
+/// Writes the text of a list. Its writes are added to the calls.
+pub fn write_list<W: Write, B: Walks>(
+    alloc: Global,
+    list: &ListAsk,
+    writer: &mut W,
+    books: &mut B,
+    calls: &mut IoCalls,
+) -> Result<(), ListFault>
+    ensures text { B.is_clean books.new → ListEnds [] (listing_on (B.rows books.old) list.now) (W.contents writer.old) (W.contents writer.new) result }
+    ensures books { LooksAt B.Issued books.old books.new result }
+    ensures failed { IsErrOf result ListFault.Write → calls.new.write_failed ≡ true }
+    ensures calls { NoneForgotten calls.old calls.new }
+{
+    match list {
+        ListAsk::Arrivals(day) => write_arrivals(alloc, books, *day, writer, calls),
+        ListAsk::InHouse => write_in_house(alloc, books, writer, calls),
+        ListAsk::ChainOf(room) => write_chain_of(alloc, books, *room, writer, calls),
+        ListAsk::LeftBehind => write_left_behind(alloc, books, writer, calls),
+        ListAsk::AuditOf(room) => write_audit_of(alloc, books, *room, writer, calls),
+    }
+}
