@@ -1,7 +1,7 @@
-//! The crate's part of each scenario, and what no clause says.
+//! Codes, locks, chains, draws and lock notes: their part of each scenario, and what no clause says.
 ghost use Rattle.std.specs.Prelude.{[], refl};
 
-use crate::{
+use keycard_rules::{
     Act, CardNo, Chain, Code, Count, DrawFault, Issued, Link, ListedCodes, ListedWords, LockNote,
     LookFault, Memory, RecodeFault, RoomNo, Turned, draw_fresh, turn,
 };

@@ -1,4 +1,4 @@
-//! The scenarios of this crate, and callers that show what its contracts give.
+//! Days, moments, kinds, guests and stays: their scenarios, and callers that show what their contracts give.
 
 ghost use Rattle.std.specs.Prelude.{◌≡◌, IfOk, OnOk, nat_lt};
 ghost use Rattle.std.specs.BTreeSet.{insert_key, contains};
@@ -6,7 +6,9 @@ ghost use Rattle.std.specs.Cmp.Lexicographic.{slice_cmp};
 ghost use Rattle.std.specs.Ordering.{nat_cmp};
 ghost use Rattle.std.specs.Str.{bytes_eq};
 
-use crate::{Day, Guest, GuestFault, KindCode, Moment, Nights, Stay, StayState, first_full_night};
+use hotel_nights::{
+    Day, Guest, GuestFault, KindCode, Moment, Nights, Stay, StayState, first_full_night,
+};
 use keycard_rules::{PartyNo, RoomNo};
 use std::alloc::{AllocError, AllocFailed, Global};
 use std::collections::BTreeSet;

@@ -1,7 +1,7 @@
 //! Reads and writes that come in pieces, are interrupted or fail.
-use super::{WholeFault, read_more, read_whole, write_bytes, write_parts};
-use crate::calls::IoCalls;
-use crate::fakes::{FakeReader, FakeWriter};
+use hotel_lists::{
+    FakeReader, FakeWriter, IoCalls, WholeFault, read_more, read_whole, write_bytes, write_parts,
+};
 use std::test::Fail;
 
 #[test]

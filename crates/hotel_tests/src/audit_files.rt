@@ -1,6 +1,6 @@
 //! The scenarios of audit files.
 
-use crate::{AuditFault, Cause, Line, LineAnswer, answer_text, read_notes};
+use hotel_audit::{AuditFault, Cause, Line, LineAnswer, answer_text, read_notes};
 use hotel_core::Refusal;
 use keycard_rules::{Act, CardNo, Code, Count, Link, LockNote, RoomNo};
 use std::test::Fail;

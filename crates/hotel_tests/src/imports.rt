@@ -1,10 +1,8 @@
 //! The scenarios of imports, over books in memory.
 
-use super::desks::{CUT_LAST_LINE, Desk, RoomNow, TWO_NOTES, answers_to};
-use super::{ImportFault, import};
-use crate::answer::LineAnswer;
-use crate::audit_file::AuditFault;
-use crate::line::Cause;
+use crate::desks::{Desk, kind};
+use crate::rooms_now::{CUT_LAST_LINE, RoomNow, TWO_NOTES, answers_are, answers_to, room_is};
+use hotel_audit::{AuditFault, Cause, ImportFault, LineAnswer, import};
 use hotel_core::ListBooks;
 use keycard_rules::PartyNo;
 use std::alloc::Global;
@@ -150,21 +148,25 @@ const LATE_AUDIT: &[Step] = &[Step {
     after: (1, 1, false),
 }];
 
-/// The file is answered so, and comes to this. A file of which no note is taken changes nothing.
+/// After the file the room is so. A file of which no note is taken changes nothing.
+fn is_after<A: Abort>(rt: &A, room: &RoomNow, before: &RoomNow, step: &Step) {
+    let after = (room.notes.len(), room.lock_place, room.secured);
+    assert_eq!(rt; after, step.after, "{}", step.name);
+    if room.notes.len() == before.notes.len() {
+        room.assert_same(rt, before, step.name);
+    }
+}
+
+/// The file is answered so, and comes to this.
 fn goes(
     rt: &(impl Abort + AllocGlobal),
     books: &mut ListBooks,
     before: &RoomNow,
     step: &Step,
 ) -> Result<RoomNow, Fail> {
-    let given = answers_to(rt.alloc(), books, step.file)?;
-    assert_eq!(rt; given.as_slice(), step.answers, "{}", step.name);
+    answers_are(rt, books, step.file, step.answers, step.name)?;
     let room = RoomNow::of(rt.alloc(), books)?;
-    let after = (room.notes.len(), room.lock_place, room.secured);
-    assert_eq!(rt; after, step.after, "{}", step.name);
-    if room.notes.len() == before.notes.len() {
-        room.assert_same(rt, before, step.name);
-    }
+    is_after(rt, &room, before, step);
     Ok(room)
 }
 
@@ -191,6 +193,13 @@ fn scenarios_of_files(rt: HostRuntime) -> Result<(), Fail> {
 }
 
 /// So many codes, the lock at this place, the room not secured, and so many notes.
+fn room_has<A: Abort>(rt: &A, room: &RoomNow, codes: usize, lock_place: u32, notes: usize) {
+    assert_eq!(rt; (room.codes.len(), room.lock_place), (codes, lock_place));
+    assert_eq!(rt; (room.secured, room.notes.len()), (false, notes));
+    assert_eq!(rt; room.party, PartyNo::new(2));
+}
+
+/// The books say so.
 fn is_so(
     rt: &(impl Abort + AllocGlobal),
     books: &mut ListBooks,
@@ -199,53 +208,64 @@ fn is_so(
     notes: usize,
 ) -> Result<(), Fail> {
     let room = RoomNow::of(rt.alloc(), books)?;
-    assert_eq!(rt;
-        (room.codes.len(), room.lock_place, room.secured),
-        (codes, lock_place, false)
-    );
-    assert_eq!(rt; (room.notes.len(), room.party), (notes, PartyNo::new(2)));
+    room_has(rt, &room, codes, lock_place, notes);
     Ok(())
 }
 
 /// After a late note of the first guest's card the second guest is registered, and the lock is one code behind. Then it
 /// is recoded by the last of five lines, of which the others don't fit.
-fn late_and_recoded(rt: &(impl Abort + AllocGlobal)) -> Result<(), Fail> {
-    let mut desk = Desk::of_next_guest(rt.alloc())?;
+fn late_and_recoded(rt: &(impl Abort + AllocGlobal), desk: &mut Desk) -> Result<(), Fail> {
     go(rt, &mut desk.books, LATE_AUDIT)?;
     is_so(rt, &mut desk.books, 3, 1, 1)?;
-    desk.adds_room(102)?;
-    let answers = answers_to(rt.alloc(), &mut desk.books, RECODINGS)?;
-    assert_eq!(rt; answers.as_slice(), RECODINGS_ANSWERED);
+    desk.add_room(102, kind()?)?;
+    answers_are(
+        rt,
+        &mut desk.books,
+        RECODINGS,
+        RECODINGS_ANSWERED,
+        "recodings",
+    )?;
     is_so(rt, &mut desk.books, 3, 2, 2)
 }
 
 #[test]
 fn late_audit_and_recodings(rt: HostRuntime) -> Result<(), Fail> {
-    late_and_recoded(&rt)
+    let mut desk = Desk::of_next_guest(rt.alloc())?;
+    late_and_recoded(&rt, &mut desk)
 }
 
-/// The bytes are no audit file, and nothing changes.
-fn is_none(
-    rt: &(impl Abort + AllocGlobal),
+/// The bytes are no audit file.
+fn is_none<A: Abort>(
+    rt: &A,
+    alloc: Global,
     books: &mut ListBooks,
-    before: &RoomNow,
     file: &[u8],
     why: AuditFault,
 ) -> Result<(), Fail> {
     let bytes = file.len();
-    match &import(rt.alloc(), books, file) {
+    match &import(alloc, books, file) {
         Ok(_) => return Err(Fail::from("a file")),
         Err(fault) => assert_eq!(rt; *fault, ImportFault::File(why), "{bytes} bytes"),
     }
-    RoomNow::of(rt.alloc(), books)?.assert_same(rt, before, "no file");
     Ok(())
+}
+
+/// The bytes are no audit file, and nothing changes.
+fn is_none_and_nothing(
+    rt: &(impl Abort + AllocGlobal),
+    books: &mut ListBooks,
+    file: &[u8],
+    why: AuditFault,
+) -> Result<(), Fail> {
+    let before = RoomNow::of(rt.alloc(), books)?;
+    is_none(rt, rt.alloc(), books, file, why)?;
+    room_is(rt, books, &before, "no file")
 }
 
 /// The bytes are no audit file at a desk of one guest.
 fn is_no_file(rt: &(impl Abort + AllocGlobal), file: &[u8], why: AuditFault) -> Result<(), Fail> {
     let mut desk = Desk::of_one_guest(rt.alloc())?;
-    let before = RoomNow::of(rt.alloc(), &mut desk.books)?;
-    is_none(rt, &mut desk.books, &before, file, why)
+    is_none_and_nothing(rt, &mut desk.books, file, why)
 }
 
 /// The header, which is 32 bytes, and then the shortest lines, of one byte and their end, up to so many bytes in all.
@@ -317,68 +337,74 @@ fn are_all(rt: &(impl Abort + AllocGlobal), answers: &[LineAnswer], seen: bool) 
     }
 }
 
-/// Each line of the file is Seen, or each Taken, after which the room has 4,000 notes.
+/// Each line of the file is Seen, or each Taken.
 fn each_is(
     rt: &(impl Abort + AllocGlobal),
     books: &mut ListBooks,
     file: &[u8],
     seen: bool,
-) -> Result<RoomNow, Fail> {
+) -> Result<(), Fail> {
     match &import(rt.alloc(), books, file) {
         Ok(answers) => are_all(rt, answers.as_slice(), seen),
         Err(_) => return Err(Fail::from("stopped")),
     }
-    let room = RoomNow::of(rt.alloc(), books)?;
-    assert_eq!(rt; room.notes.len(), 4_000);
-    Ok(room)
+    Ok(())
 }
 
-/// A file of some 4,000 lines, sent twice.
-fn sent_twice(rt: &(impl Abort + AllocGlobal), file: &[u8]) -> Result<(), Fail> {
-    let mut desk = Desk::of_one_guest(rt.alloc())?;
-    let once = each_is(rt, &mut desk.books, file, false)?;
-    let twice = each_is(rt, &mut desk.books, file, true)?;
-    twice.assert_same(rt, &once, "sent twice");
-    Ok(())
+/// A file of some 4,000 lines, sent twice, after which the room has 4,000 notes.
+fn sent_twice(
+    rt: &(impl Abort + AllocGlobal),
+    books: &mut ListBooks,
+    file: &[u8],
+) -> Result<(), Fail> {
+    each_is(rt, books, file, false)?;
+    let once = RoomNow::of(rt.alloc(), books)?;
+    assert_eq!(rt; once.notes.len(), 4_000);
+    each_is(rt, books, file, true)?;
+    room_is(rt, books, &once, "sent twice")
 }
 
 #[test]
 fn four_thousand_lines(rt: HostRuntime) -> Result<(), Fail> {
     let file = four_thousand_notes(rt.alloc())?;
-    sent_twice(&rt, file.as_slice())
+    let mut desk = Desk::of_one_guest(rt.alloc())?;
+    sent_twice(&rt, &mut desk.books, file.as_slice())
 }
 
-/// The file of `audit-bytes` cut before this byte is answered so, and then the whole file so. The room is then as it is
-/// where the whole file is sent once.
+/// What the books say of the room after the whole file of `audit-bytes`.
+fn after_the_whole(alloc: Global) -> Result<RoomNow, Fail> {
+    let mut desk = Desk::of_one_guest(alloc)?;
+    answers_to(alloc, &mut desk.books, CUT_LAST_LINE)?;
+    RoomNow::of(alloc, &mut desk.books)
+}
+
+/// A front of the file is answered so, and then the whole file so. The room is then as it is where the whole file is sent
+/// once.
 fn is_cut(
     rt: &(impl Abort + AllocGlobal),
+    books: &mut ListBooks,
     once: &RoomNow,
-    cut: usize,
+    front: &[u8],
     answers: &[u8],
     whole: &[u8],
 ) -> Result<(), Fail> {
-    let mut desk = Desk::of_one_guest(rt.alloc())?;
-    let front = CUT_LAST_LINE.get(..cut).ok_or("cut behind its end")?;
-    let first = answers_to(rt.alloc(), &mut desk.books, front)?;
-    assert_eq!(rt; first.as_slice(), answers, "cut before byte {cut}");
-    let second = answers_to(rt.alloc(), &mut desk.books, CUT_LAST_LINE)?;
-    assert_eq!(rt; second.as_slice(), whole, "cut before byte {cut}");
-    RoomNow::of(rt.alloc(), &mut desk.books)?.assert_same(rt, once, "then whole");
-    Ok(())
+    answers_are(rt, books, front, answers, "cut")?;
+    answers_are(rt, books, CUT_LAST_LINE, whole, "cut, then whole")?;
+    room_is(rt, books, once, "cut, then whole")
 }
 
-/// The file cut before each of these bytes.
+/// The file cut before each of these bytes, at a desk of its own.
 fn are_cut(
     rt: &(impl Abort + AllocGlobal),
+    once: &RoomNow,
     cuts: Range<usize>,
     answers: &[u8],
     whole: &[u8],
 ) -> Result<(), Fail> {
-    let mut desk = Desk::of_one_guest(rt.alloc())?;
-    answers_to(rt.alloc(), &mut desk.books, CUT_LAST_LINE)?;
-    let once = RoomNow::of(rt.alloc(), &mut desk.books)?;
     for cut in cuts {
-        is_cut(rt, &once, cut, answers, whole)?;
+        let mut desk = Desk::of_one_guest(rt.alloc())?;
+        let front = CUT_LAST_LINE.get(..cut).ok_or("cut behind its end")?;
+        is_cut(rt, &mut desk.books, once, front, answers, whole)?;
     }
     Ok(())
 }
@@ -392,11 +418,12 @@ fn cut_after_each_byte(rt: HostRuntime) -> Result<(), Fail> {
     assert_eq!(rt; CUT_LAST_LINE.len(), 97);
     let taken = b"1 taken\n2 unread FieldCount\n";
     let seen = b"1 seen\n2 unread FieldCount\n";
-    are_cut(&rt, 34..37, b"", taken)?;
-    are_cut(&rt, 37..67, b"1 unread FieldCount\n", taken)?;
-    are_cut(&rt, 67..86, b"1 unread BadMoment\n", taken)?;
-    are_cut(&rt, 86..89, b"1 taken\n", seen)?;
-    are_cut(&rt, 89..98, taken, seen)
+    let once = after_the_whole(rt.alloc())?;
+    are_cut(&rt, &once, 34..37, b"", taken)?;
+    are_cut(&rt, &once, 37..67, b"1 unread FieldCount\n", taken)?;
+    are_cut(&rt, &once, 67..86, b"1 unread BadMoment\n", taken)?;
+    are_cut(&rt, &once, 86..89, b"1 taken\n", seen)?;
+    are_cut(&rt, &once, 89..98, taken, seen)
 }
 
 /// Cut within its byte order mark or its header, the file is none, and nothing is done.

@@ -1,9 +1,10 @@
 //! Imports that are stopped, by a growth that is refused or by a call of the books that fails, and the same file sent again.
 
-use super::desks::{CUT_LAST_LINE, Desk, RoomNow, TWO_NOTES, answers_to};
-use super::{ImportFault, import};
-use crate::answer::LineAnswer;
-use crate::audit_file::AuditFault;
+use crate::desks::Desk;
+use crate::rooms_now::{
+    CUT_LAST_LINE, RoomNow, TWO_NOTES, answers_are, answers_to, note_count, room_is,
+};
+use hotel_audit::{AuditFault, ImportFault, LineAnswer, import};
 use hotel_core::{Books, StoppingBooks};
 use keycard_rules::LookFault;
 use std::alloc::Global;
@@ -15,7 +16,7 @@ use std::test::Fail;
 #[derive(Clone, Copy)]
 struct Sent {
     file: &'static [u8],
-    notes: &'static [usize],
+    notes: &'static [u32],
     again: &'static [&'static [u8]],
 }
 
@@ -41,7 +42,7 @@ const CUT: Sent = Sent {
 
 impl Sent {
     /// After so many answered lines: how many notes the room has, and the answers when the file comes again.
-    fn after(&self, answered: usize) -> Option<(usize, &'static [u8])> {
+    fn after(&self, answered: usize) -> Option<(u32, &'static [u8])> {
         Some((*self.notes.get(answered)?, *self.again.get(answered)?))
     }
 }
@@ -70,13 +71,9 @@ fn once(alloc: Global, sent: &Sent) -> Result<RoomNow, Fail> {
 }
 
 /// So many notes of the room stand.
-fn stands<B: Books>(
-    rt: &(impl Abort + AllocGlobal),
-    books: &mut B,
-    notes: usize,
-) -> Result<(), Fail> {
-    let stopped = RoomNow::of(rt.alloc(), books)?;
-    assert_eq!(rt; stopped.notes.len(), notes, "the answered lines stand");
+fn stands<A: Abort, B: Books>(rt: &A, books: &mut B, notes: u32) -> Result<(), Fail> {
+    let stopped = note_count(books)?;
+    assert_eq!(rt; stopped, notes, "the answered lines stand");
     Ok(())
 }
 
@@ -90,11 +87,9 @@ fn is_sent_again<B: Books>(
 ) -> Result<(), Fail> {
     let (notes, again) = sent.after(answered).ok_or("more than two lines")?;
     stands(rt, books, notes)?;
-    let answers = answers_to(rt.alloc(), books, sent.file)?;
-    assert_eq!(rt; answers.as_slice(), again);
+    answers_are(rt, books, sent.file, again, "sent again")?;
     let whole = once(rt.alloc(), sent)?;
-    RoomNow::of(rt.alloc(), books)?.assert_same(rt, &whole, "stopped and sent again");
-    Ok(())
+    room_is(rt, books, &whole, "stopped and sent again")
 }
 
 /// Imports the file, and sends it again where it was stopped.
@@ -112,41 +107,41 @@ fn refused_growths(rt: HostRuntime) -> Result<(), Fail> {
     stops_by_a_growth(&rt, &CUT)
 }
 
-/// The import ended by this fault.
-fn ended_by(fault: LookFault, why: &ImportFault) -> bool {
-    match fault {
-        LookFault::Memory => matches!(why, ImportFault::Memory { .. }),
-        LookFault::Store => matches!(why, ImportFault::Store { .. }),
-    }
-}
-
-/// The import that ended so answered a fault where a call of the books failed, which they counted by its cause alone. Fewer
-/// than 20 calls are made.
-fn is_counted<A: Abort>(
-    rt: &A,
-    books: &StoppingBooks,
-    end: &Result<Vec<LineAnswer>, ImportFault>,
-    cause: LookFault,
-    call: u64,
-) {
-    let memory = cause == LookFault::Memory;
-    let failed = if end.is_err() { 1 } else { 0 };
-    assert_eq!(rt;
+/// Which failures were counted: of memory, of the store.
+fn counts(books: &StoppingBooks) -> (u64, u64) {
+    (
         books.failures(LookFault::Memory),
-        if memory { failed } else { 0 },
-        "call {call}"
-    );
-    assert_eq!(rt;
         books.failures(LookFault::Store),
-        if memory { 0 } else { failed },
-        "call {call}"
-    );
-    if let Err(why) = end {
-        assert!(rt; ended_by(cause, why) && call < 20, "call {call}");
+    )
+}
+
+/// Which failures are counted where the import ended by this cause, or by none.
+fn counts_of(ended: Option<LookFault>) -> (u64, u64) {
+    match ended {
+        None => (0, 0),
+        Some(LookFault::Memory) => (1, 0),
+        Some(LookFault::Store) => (0, 1),
     }
 }
 
-/// Imports the file into books of which this call fails for this cause: how many lines were answered, where it was stopped.
+/// By which cause the import ended, where a call of the books failed.
+fn cause_of(end: &Result<Vec<LineAnswer>, ImportFault>) -> Option<LookFault> {
+    match end {
+        Err(ImportFault::Memory { .. }) => Some(LookFault::Memory),
+        Err(ImportFault::Store { .. }) => Some(LookFault::Store),
+        _ => None,
+    }
+}
+
+/// The import ended well, or by this cause; fewer than 20 calls are made.
+fn ended_by<A: Abort>(rt: &A, ended: Option<LookFault>, cause: LookFault, call: u64) {
+    if let Some(why) = ended {
+        assert!(rt; why == cause && call < 20, "call {call}");
+    }
+}
+
+/// Imports the file into books of which this call fails for this cause, which they count by that cause alone: how many lines
+/// were answered, where it was stopped.
 fn stopped_at(
     rt: &(impl Abort + AllocGlobal),
     books: &mut StoppingBooks,
@@ -155,10 +150,13 @@ fn stopped_at(
     call: u64,
 ) -> Option<usize> {
     let end = import(rt.alloc(), books, file);
-    is_counted(rt, books, &end, cause, call);
+    let ended = cause_of(&end);
+    assert_eq!(rt; counts(books), counts_of(ended));
+    ended_by(rt, ended, cause, call);
     if end.is_ok() {
         return None;
     }
+    assert!(rt; ended.is_some());
     Some(lines_answered(rt, end))
 }
 
