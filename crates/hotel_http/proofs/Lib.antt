@@ -3,3 +3,5 @@ pub mod FieldLemmas
 pub mod FormLemmas
 pub mod RouteLemmas
 pub mod AuditAnswerLemmas
+pub mod ServeLemmas
+pub mod RequestLemmas

@@ -62,9 +62,9 @@ IsJudged input bytes headers TooLarge = IsTooLarge input
 IsJudged input bytes headers (Whole spans) =
     (head : RequestHead) × BeginsWith input head (drop spans.len input) × IsRequestAt bytes headers spans head
 
--- The parts of a whole head lie within the bytes.
+-- The parts of a whole head lie within the bytes, and are those of one.
 abbrev pub LiesWithin : List ℕ → List HeaderSpan → Judged → Type 0
-LiesWithin bytes headers (Whole spans) = IsRequestWithin bytes headers spans
+LiesWithin bytes headers (Whole spans) = IsRequestWithin bytes headers spans × IsRequestOf bytes headers spans
 LiesWithin bytes headers More = Unit {0}
 LiesWithin bytes headers Closed = Unit {0}
 LiesWithin bytes headers Malformed = Unit {0}

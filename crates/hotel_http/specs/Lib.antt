@@ -6,3 +6,7 @@ pub mod Plan
 pub mod Status
 pub mod Answer
 pub mod AuditAnswer
+pub mod Body
+pub mod Tasks
+pub mod Request
+pub mod Serve

@@ -1,8 +1,9 @@
 //! The bytes of answers, from buffers of fixed size.
 
-ghost use Rattle.std.specs.Prelude.{◌≡◌, ◌≤◌, ◌++◌, None, length, OnOk, OnErr};
+ghost use Rattle.std.specs.Prelude.{◌≡◌, ◌≤◌, true, ◌++◌, None, length, OnOk, OnErr};
 ghost use Rattle.std.specs.Io.KnownBytes.{Appends};
 ghost use Rattle.hotel_lists.specs.Bytes.{AppendsFront};
+ghost use Rattle.hotel_lists.specs.Calls.{NoneForgotten};
 ghost use Rattle.hotel_http.specs.declared.answer.Media.TheVariants.{Plain};
 ghost use Rattle.hotel_http.specs.Answer as spec;
 ghost use Rattle.hotel_http.specs.Answer.{media_type, allow_field, status_line, head_text, answer_text, rejection_status, rejection_body, allowed_by, rejection_answer, reply_status, reply_answer, list_answer};
@@ -85,6 +86,8 @@ pub fn write_short<W: Write>(
     requires { length body.now ≤ 64 }
     ensures ok { OnOk result (Appends (W.contents writer.old) (W.contents writer.new) (answer_text status Plain allow body.now)) }
     ensures err { OnErr result (AppendsFront (W.contents writer.old) (W.contents writer.new) (answer_text status Plain allow body.now)) }
+    ensures failed { OnErr result (calls.new.write_failed ≡ true) }
+    ensures calls { NoneForgotten calls.old calls.new }
 {
     let mut text = head_text(status, Media::Plain, allow, body.len() as u128);
     text.push(body);
@@ -139,6 +142,8 @@ pub fn write_rejection<W: Write>(
 ) -> Result<(), WriteFailed>
     ensures ok { OnOk result (Appends (W.contents writer.old) (W.contents writer.new) (rejection_answer why)) }
     ensures err { OnErr result (AppendsFront (W.contents writer.old) (W.contents writer.new) (rejection_answer why)) }
+    ensures failed { OnErr result (calls.new.write_failed ≡ true) }
+    ensures calls { NoneForgotten calls.old calls.new }
 {
     write_short(
         writer,
@@ -168,6 +173,8 @@ pub fn write_reply<W: Write>(
 ) -> Result<(), WriteFailed>
     ensures ok { OnOk result (Appends (W.contents writer.old) (W.contents writer.new) (reply_answer reply.now)) }
     ensures err { OnErr result (AppendsFront (W.contents writer.old) (W.contents writer.new) (reply_answer reply.now)) }
+    ensures failed { OnErr result (calls.new.write_failed ≡ true) }
+    ensures calls { NoneForgotten calls.old calls.new }
 {
     let text = reply_text(reply);
     write_short(writer, reply_status(reply), None, text.as_bytes(), calls)
@@ -175,13 +182,15 @@ pub fn write_reply<W: Write>(
 
 /// Writes a list. After a fault the writer took a front of the answer.
 #[tactic(auto, unfolding(crate::specs::Answer::answer_text))]
-pub fn write_list<W: Write>(
+pub fn write_csv<W: Write>(
     writer: &mut W,
     list: &[u8],
     calls: &mut IoCalls,
 ) -> Result<(), WriteFailed>
     ensures ok { OnOk result (Appends (W.contents writer.old) (W.contents writer.new) (list_answer list.now)) }
     ensures err { OnErr result (AppendsFront (W.contents writer.old) (W.contents writer.new) (list_answer list.now)) }
+    ensures failed { OnErr result (calls.new.write_failed ≡ true) }
+    ensures calls { NoneForgotten calls.old calls.new }
 {
     let head = head_text(Status::Success, Media::Csv, None, list.len() as u128);
     write_parts(writer, &[head.as_bytes(), list], calls)

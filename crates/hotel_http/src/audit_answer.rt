@@ -1,8 +1,9 @@
 //! The answer to an audit file, from buffers of fixed size.
 
-ghost use Rattle.std.specs.Prelude.{◌≡◌, ◌≤◌, length, OnOk, OnErr};
+ghost use Rattle.std.specs.Prelude.{◌≡◌, ◌≤◌, true, length, OnOk, OnErr};
 ghost use Rattle.std.specs.Io.KnownBytes.{Appends};
 ghost use Rattle.hotel_lists.specs.Bytes.{AppendsFront};
+ghost use Rattle.hotel_lists.specs.Calls.{NoneForgotten};
 ghost use Rattle.hotel_audit.specs.Answers.{answers_text};
 ghost use Rattle.hotel_audit.specs.Import.{has_taken};
 ghost use Rattle.hotel_http.specs.AuditAnswer.{lines_answer, fault_status, fault_body, fault_answer};
@@ -46,6 +47,8 @@ fn write_lines<W: Write>(
 ) -> Result<(), WriteFailed>
     ensures ok { OnOk result (Appends (W.contents writer.old) (W.contents writer.new) (answers_text 1 answers.now)) }
     ensures err { OnErr result (AppendsFront (W.contents writer.old) (W.contents writer.new) (answers_text 1 answers.now)) }
+    ensures failed { OnErr result (calls.new.write_failed ≡ true) }
+    ensures calls { NoneForgotten calls.old calls.new }
 {
     for (index, answer) in answers.iter().enumerate() {
         let text = answer_text(index + 1, answer);
@@ -63,6 +66,8 @@ pub fn write_answers<W: Write>(
 ) -> Result<(), WriteFailed>
     ensures ok { OnOk result (Appends (W.contents writer.old) (W.contents writer.new) (lines_answer answers.now)) }
     ensures err { OnErr result (AppendsFront (W.contents writer.old) (W.contents writer.new) (lines_answer answers.now)) }
+    ensures failed { OnErr result (calls.new.write_failed ≡ true) }
+    ensures calls { NoneForgotten calls.old calls.new }
 {
     let head = head_text(Status::Success, Media::Plain, None, answers_size(answers));
     write_bytes(writer, head.as_bytes(), calls)?;
@@ -114,6 +119,8 @@ pub fn write_fault<W: Write>(
 ) -> Result<(), WriteFailed>
     ensures ok { OnOk result (Appends (W.contents writer.old) (W.contents writer.new) (fault_answer why.now)) }
     ensures err { OnErr result (AppendsFront (W.contents writer.old) (W.contents writer.new) (fault_answer why.now)) }
+    ensures failed { OnErr result (calls.new.write_failed ≡ true) }
+    ensures calls { NoneForgotten calls.old calls.new }
 {
     let body = fault_body(why);
     write_short(writer, fault_status(why), None, body.as_bytes(), calls)

@@ -1,7 +1,9 @@
 //! The head of a request.
 
-ghost use Rattle.std.specs.Prelude.{◌≡◌, ◌≢◌, ◌<◌, ◌≤◌, ℕ, List, [], ◌++◌, take, length, IfOk, OnOk, IfSome, true};
+ghost use Rattle.std.specs.Prelude.{◌≡◌, ◌≢◌, ◌<◌, ◌≤◌, ℕ, List, [], ◌++◌, take, length, IfOk, OnOk, IfSome, IsErrOf, true};
 ghost use Rattle.std.specs.Io.KnownBytes.{Consumes};
+ghost use Rattle.hotel_lists.specs.Calls.{NoneForgotten};
+ghost use Rattle.hotel_lists.specs.declared.bytes.ReadFault.TheVariants.{Read};
 ghost use Rattle.httparse.specs.Grammar.{HasNoRequest};
 ghost use Rattle.httparse.specs.declared.spans.HeaderSpan.{HeaderSpan};
 ghost use Rattle.hotel_http.specs.Head.{IsParsed, IsJudged, LiesWithin, IsOpen};
@@ -109,6 +111,8 @@ pub fn read_head<R: Read>(
     ensures judged { IfOk result (λ judged. IfSome (R.remaining reader.old) (λ input. IsJudged input (take 16384 bytes.new.items) headers.new judged)) }
     ensures within { IfOk result (LiesWithin (take 16384 bytes.new.items) headers.new) }
     ensures done { IfOk result (λ judged. ¬ (IsOpen judged)) }
+    ensures failed { IsErrOf result Read → calls.new.read_failed ≡ true }
+    ensures calls { NoneForgotten calls.old calls.new }
 {
     'pieces: loop {
         let got = read_more(reader, bytes, calls)?;

@@ -1,5 +1,6 @@
 use Rattle.std.proofs.Common.{◌∙◌}
 use Rattle.hotel_lists.proofs.BytesLemmas.{on_err}
+use Rattle.hotel_lists.proofs.CallsLemmas.{then_none_forgotten}
 use Rattle.hotel_http.proofs.AuditAnswerLemmas.{answers_written, answers_front}
 use Rattle.hotel_http.proofs.audit_answer.write_lines.Goals as goal
 
@@ -7,9 +8,11 @@ pub returns-in_err-write_bytes-clause-err : goal.returns-in_err-write_bytes-clau
 returns-in_err-write_bytes-clause-err g c =
     on_err c.from_residual.result
     (answers_front _ _ _ c.loop-index.index c.args.answers.now c.index-answers-index.result _ c.loop-index-test.true c.index-answers-index.is (c.as_bytes.ensures.same ∙ c.answer_text-text.ensures)
-    c.loop-index.invariant c.in_err-write_bytes.ensures.err)
+    c.loop-index.invariant.0 c.in_err-write_bytes.ensures.err)
 
 pub loop-index-preserved : goal.loop-index-preserved
-loop-index-preserved g c =
-    answers_written _ _ _ c.loop-index.index c.args.answers.now c.index-answers-index.result _ c.loop-index-test.true c.index-answers-index.is (c.as_bytes.ensures.same ∙ c.answer_text-text.ensures)
-    c.loop-index.invariant c.in_ok-write_bytes.ensures.ok
+loop-index-preserved g c = (
+  answers_written _ _ _ c.loop-index.index c.args.answers.now c.index-answers-index.result _ c.loop-index-test.true c.index-answers-index.is (c.as_bytes.ensures.same ∙ c.answer_text-text.ensures)
+      c.loop-index.invariant.0 c.in_ok-write_bytes.ensures.ok,
+  then_none_forgotten _ _ _ c.loop-index.invariant.1 c.write_bytes.ensures.calls,
+)

@@ -1,6 +1,7 @@
 -- the bytes so far are those that were read, and they are few
 use Rattle.std.proofs.Common.{◌≡◌, ◌-◌, ◌≤◌, length, vec_len}
 use Rattle.std.specs.Io.KnownBytes.{Consumes}
+use Rattle.hotel_lists.specs.Calls.{NoneForgotten}
 use Rattle.hotel_http.proofs.head.read_head.Given as goal
 
 abbrev pub invariant-pieces : goal.invariant-pieces
@@ -8,6 +9,7 @@ invariant-pieces g l = record {
   taken : Consumes (g.R.Read.remaining l.initial.reader) (g.R.Read.remaining l.reader) l.bytes.items;
   few : vec_len l.bytes ≤ 16384;
   room : length l.headers ≡ 64;
+  calls : NoneForgotten l.initial.calls l.calls;
 }
 
 abbrev pub decreases-pieces : goal.decreases-pieces

@@ -1,0 +1,32 @@
+use Rattle.std.proofs.Common.{sym, subst, take, drop, ◌++◌, ℕ, List}
+use Rattle.std.specs.Prelude.{IfSome}
+use Rattle.httparse.specs.Grammar.{RequestHead}
+use Rattle.httparse.specs.Spans.{IsRequestWithin, IsRequestAt}
+use Rattle.hotel_http.specs.Head.{LiesWithin, IsJudged}
+use Rattle.hotel_http.specs.Request.{EndsHead}
+use Rattle.hotel_http.specs.declared.head.Judged.{Judged}
+use Rattle.hotel_http.proofs.RequestLemmas.{request_ends}
+use Rattle.hotel_http.proofs.requests.read_request.Goals as goal
+
+pub read_behind_head-requires-clause-within : goal.read_behind_head-requires-clause-within
+read_behind_head-requires-clause-within g c =
+    let front = take 16384 c.read_head.new.bytes.items in
+    let (within, of) = subst (λ (j : Judged). LiesWithin front c.read_head.new.headers j) c.in-Whole.is c.in_ok-read_head.ensures.within in
+    subst (λ (l : List ℕ). IsRequestWithin (take 16384 l) c.read_head.new.headers c.in-Whole.spans) (sym c.deref.ensures.value) within
+
+pub returns-clause-ends : goal.returns-clause-ends
+returns-clause-ends g c =
+    let items = c.read_head.new.bytes.items in
+    let front = take 16384 items in
+    let headers = c.read_head.new.headers in
+    let spans = c.in-Whole.spans in
+    let known = g.R.Read.remaining c.args.reader.now in
+    let mid = g.R.Read.remaining c.read_head.new.reader in
+    let old = g.W.Write.contents c.args.writer.now in
+    let new = g.W.Write.contents c.read_behind_head.new.writer in
+    let result = c.read_behind_head.result in
+    let (within, of) = subst (λ (j : Judged). LiesWithin front headers j) c.in-Whole.is c.in_ok-read_head.ensures.within in
+    let found = subst (λ (j : Judged). IfSome known (λ input. IsJudged input front headers j)) c.in-Whole.is c.in_ok-read_head.ensures.judged in
+    let ends = subst (λ (l : List ℕ). (head : RequestHead) → IsRequestAt (take 16384 l) headers spans head → EndsHead head (λ left. drop spans.len (l ++ left)) mid old new result)
+    c.deref.ensures.value c.read_behind_head.ensures.ends in
+    request_ends known mid old new items front headers spans result c.in_ok-read_head.ensures.taken found of ends

@@ -1,0 +1,36 @@
+use Rattle.std.proofs.Common.{◌≡◌, [], subst, List, Ok, Err}
+use Rattle.std.specs.Prelude.{Bool}
+use Rattle.hotel_core.proofs.OfCode.FailuresCounted.{none_counted}
+use Rattle.hotel_audit.specs.Import.{has_taken}
+use Rattle.hotel_audit.specs.declared.answer.LineAnswer.{LineAnswer}
+use Rattle.hotel_http.specs.AuditAnswer.{lines_answer, fault_answer, fault_status}
+use Rattle.hotel_http.specs.Serve.{imported, ended, taken_by, EndsAs}
+use Rattle.hotel_http.specs.declared.status.Status.{Status}
+use Rattle.hotel_http.specs.declared.status.Status.TheVariants.{Success}
+use Rattle.hotel_http.proofs.ServeLemmas.{ends_as, file_came}
+use Rattle.hotel_http.proofs.serve.answer_audit.Goals as goal
+
+pub returns-in-Ok-clause-went : goal.returns-in-Ok-clause-went
+returns-in-Ok-clause-went g c = λ clean.
+    let old = g.W.Write.contents c.args.writer.now in
+    let new = g.W.Write.contents c.write_answers-written.new.writer in
+    let i = c.in-Ok.ensures.imported in
+    let slice = c.as_slice-answers.result.now in
+    let written = c.write_answers-written.result in
+    let ends = ends_as (lines_answer slice) Success (has_taken slice) written old new c.ended.result (subst (λ (b : Bool). c.ended.result ≡ ended written Success b) c.has_taken.ensures c.ended.ensures)
+    c.write_answers-written.ensures.ok c.write_answers-written.ensures.err in
+    file_came _ _ c.args.file.now (Ok c.in-Ok.answers.items) i.0 i.1 old new _ _ c.ended.result i.2 i.3 (i.4 clean)
+    (subst (λ (l : List LineAnswer). EndsAs (imported (Ok l)) [] old new c.ended.result) c.as_slice-answers.ensures.value ends) (none_counted _ _ c.in-Ok.ensures.counted)
+
+pub returns-in-Err-clause-went : goal.returns-in-Err-clause-went
+returns-in-Err-clause-went g c = λ clean.
+    let old = g.W.Write.contents c.args.writer.now in
+    let new = g.W.Write.contents c.write_fault-written.new.writer in
+    let i = c.in-Err.ensures.imported in
+    let why = c.in-Err.why in
+    let written = c.write_fault-written.result in
+    let ends = ends_as (fault_answer why) (fault_status why) (taken_by why) written old new c.ended-in-Err.result
+    (subst (λ (b : Bool). c.ended-in-Err.result ≡ ended written (fault_status why) b) c.taken_by.ensures
+    (subst (λ (s : Status). c.ended-in-Err.result ≡ ended written s c.taken_by.result) c.fault_status.ensures c.ended-in-Err.ensures))
+    c.write_fault-written.ensures.ok c.write_fault-written.ensures.err in
+    file_came _ _ c.args.file.now (Err why) i.0 i.1 old new _ _ c.ended-in-Err.result i.2 i.3 (i.4 clean) ends (c.in-Err.ensures.failed clean)

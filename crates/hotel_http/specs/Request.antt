@@ -1,0 +1,110 @@
+-- What a request asks for. All is said of the whole input, and nothing of the pieces in which it came.
+use Rattle.std.specs.Prelude.{◌≡◌, ◌⊎◌, ℕ, Bool, true, false, List, [], ◌++◌, length, take, if◌then◌else◌, nat_lt, Option, Some, None, IfSome, Result, Ok, Err}
+use Rattle.std.specs.Io.KnownBytes.{Appends}
+use Rattle.httparse.specs.Grammar.{RequestHead}
+use Rattle.hotel_lists.specs.Bytes.{AppendsFront}
+use Rattle.hotel_lists.specs.declared.bytes.ReadFault.{ReadFault}
+use Rattle.hotel_lists.specs.declared.bytes.ReadFault.TheVariants as more
+use Rattle.hotel_http.specs.declared.plan.Plan.{Plan}
+use Rattle.hotel_http.specs.declared.rejection.Rejection.{Rejection}
+use Rattle.hotel_http.specs.declared.rejection.Rejection.TheVariants as rejection
+use Rattle.hotel_http.specs.declared.requests.Request.{Request}
+use Rattle.hotel_http.specs.declared.requests.RequestFault.{RequestFault}
+use Rattle.hotel_http.specs.declared.requests.RequestFault.TheVariants.{Closed, Read, Memory, Write}
+use Rattle.hotel_http.specs.declared.tasks.Task.{Task}
+use Rattle.hotel_http.specs.Body.{interim_text, interim_where}
+use Rattle.hotel_http.specs.Head.{BeginsWith, IsBad, IsTooLarge}
+use Rattle.hotel_http.specs.Plan.{plan_in, path_of, ◌>>=◌}
+use Rattle.hotel_http.specs.Tasks.{task_in, reads_form}
+
+-- What a request comes to: a task with the body that came with it, or why nothing is asked.
+abbrev pub Wanted : Type 0
+Wanted = Result (Task × List ℕ) Rejection
+
+-- The body behind a head, where all of it came.
+abbrev pub body_in : ℕ → List ℕ → Result (List ℕ) Rejection
+body_in size rest = if nat_lt (length rest) size then Err rejection.BadRequest else Ok (take size rest)
+
+-- The task with its body, where its values were read.
+abbrev pub or_unread : Option Task → List ℕ → Wanted
+or_unread None body = Err rejection.Unread
+or_unread (Some given) body = Ok (given, body)
+
+-- What a plan asks for with the bytes behind the head: first all of the body, then the values.
+abbrev pub meant : Plan → List ℕ → List ℕ → Wanted
+meant plan path rest = do
+  body ← body_in plan.size rest
+  or_unread (task_in plan.target path body) body
+
+-- The body came, and a form of it is read: there may be no memory for that.
+abbrev pub MayLackMemory : Plan → List ℕ → Type 0
+MayLackMemory plan rest = (nat_lt (length rest) plan.size ≡ false) × (reads_form plan.target ≡ true)
+
+-- It is what the plan asks for, or there was no memory to read the form.
+abbrev pub IsMeant : Plan → List ℕ → List ℕ → Wanted → Type 0
+IsMeant plan path rest wanted = (wanted ≡ meant plan path rest) ⊎ ((wanted ≡ Err rejection.Memory) × MayLackMemory plan rest)
+
+-- It is what a head asks for: the first rejection by the head, or what its plan asks for.
+abbrev pub IsAsked : Result Plan Rejection → List ℕ → List ℕ → Wanted → Type 0
+IsAsked (Err why) path rest wanted = wanted ≡ Err why
+IsAsked (Ok plan) path rest wanted = IsMeant plan path rest wanted
+
+-- The client awaits an interim answer before it sends the body.
+abbrev pub awaits : Result Plan Rejection → Bool
+awaits (Err why) = false
+awaits (Ok plan) = plan.awaited
+
+-- The input has no head, and this is why.
+abbrev pub IsHeadless : List ℕ → Wanted → Type 0
+IsHeadless input wanted = (IsBad input × (wanted ≡ Err rejection.BadRequest)) ⊎ (IsTooLarge input × (wanted ≡ Err rejection.HeadTooLarge))
+
+-- The input asks for this, with an interim answer before it or not: by its head and what stands behind that; or it has no head.
+abbrev pub Requests : List ℕ → Bool → Wanted → Type 0
+Requests input awaited wanted =
+    ((head : RequestHead) × (rest : List ℕ) × BeginsWith input head rest × (awaited ≡ awaits (plan_in head)) × IsAsked (plan_in head) (path_of head.target) rest wanted)
+    ⊎ ((awaited ≡ false) × IsHeadless input wanted)
+
+-- The client of this input awaits an interim answer.
+abbrev pub IsAwaited : List ℕ → Type 0
+IsAwaited input = (head : RequestHead) × (rest : List ℕ) × BeginsWith input head rest × (awaits (plan_in head) ≡ true)
+
+-- Nothing was written, or the interim answer where the client awaits it.
+abbrev pub AtMostInterim : Option (List ℕ) → Option (List ℕ) → Option (List ℕ) → Type 0
+AtMostInterim known old new = (awaited : Bool) × Appends old new (interim_where awaited) × (awaited ≡ true → IfSome known IsAwaited)
+
+-- What a request that was read comes to.
+abbrev pub wanted_of : Result Request Rejection → Wanted
+wanted_of (Ok request) = Ok (request.task, request.body.items)
+wanted_of (Err why) = Err why
+
+abbrev pub fault_of : ReadFault → RequestFault
+fault_of more.Read = Read
+fault_of more.Memory = Memory
+
+-- The body of a plan was read behind these bytes, or not.
+abbrev pub EndsBody : Plan → List ℕ → List ℕ → Option (List ℕ) → Option (List ℕ) → Option (List ℕ) → Result (Result Request Rejection) RequestFault → Type 0
+EndsBody plan path begun known old new (Ok got) =
+    Appends old new (interim_where plan.awaited) × IfSome known (λ left. IsMeant plan path (begun ++ left) (wanted_of got))
+EndsBody plan path begun known old new (Err Closed) = ⊥
+EndsBody plan path begun known old new (Err Write) = (plan.awaited ≡ true) × AppendsFront old new interim_text
+EndsBody plan path begun known old new (Err Read) = Appends old new (interim_where plan.awaited)
+EndsBody plan path begun known old new (Err Memory) = Appends old new (interim_where plan.awaited)
+
+-- What a head asks for was read, or not; what stands behind the head is said by the bytes that the reader still had.
+abbrev pub EndsHead : RequestHead → (List ℕ → List ℕ) → Option (List ℕ) → Option (List ℕ) → Option (List ℕ) → Result (Result Request Rejection) RequestFault → Type 0
+EndsHead head behind known old new (Ok got) =
+    Appends old new (interim_where (awaits (plan_in head)))
+    × IfSome known (λ left. IsAsked (plan_in head) (path_of head.target) (behind left) (wanted_of got))
+EndsHead head behind known old new (Err Closed) = ⊥
+EndsHead head behind known old new (Err Write) = (awaits (plan_in head) ≡ true) × AppendsFront old new interim_text
+EndsHead head behind known old new (Err Read) = Appends old new (interim_where (awaits (plan_in head)))
+EndsHead head behind known old new (Err Memory) = Appends old new (interim_where (awaits (plan_in head)))
+
+-- A request was read, or not.
+abbrev pub EndsRequest : Option (List ℕ) → Option (List ℕ) → Option (List ℕ) → Result (Result Request Rejection) RequestFault → Type 0
+EndsRequest known old new (Ok got) =
+    (awaited : Bool) × Appends old new (interim_where awaited) × IfSome known (λ input. Requests input awaited (wanted_of got))
+EndsRequest known old new (Err Closed) = Appends old new [] × IfSome known (λ input. input ≡ [])
+EndsRequest known old new (Err Write) = AppendsFront old new interim_text × IfSome known IsAwaited
+EndsRequest known old new (Err Read) = AtMostInterim known old new
+EndsRequest known old new (Err Memory) = AtMostInterim known old new

@@ -1,0 +1,183 @@
+-- What comes of a request: its answer, and the history of the books after it.
+use Rattle.std.specs.Prelude.{◌≡◌, ◌⊎◌, ℕ, Bool, true, false, List, [], ◌∷◌, ◌++◌, Option, Some, None, IfSome, Result, Ok, Err}
+use Rattle.std.specs.Io.KnownBytes.{Appends}
+use Rattle.rand_core.specs.Stream.{Stream}
+use Rattle.keycard_rules.specs.declared.issued.LookFault.{LookFault}
+use Rattle.hotel_core.specs.declared.reply.Reply.{Reply}
+use Rattle.hotel_core.specs.declared.reply.Reply.TheVariants as reply
+use Rattle.hotel_core.specs.declared.reply.Refusal.{Refusal}
+use Rattle.hotel_core.specs.declared.reply.Refusal.TheVariants as refusal
+use Rattle.hotel_core.specs.Books.Failures.{AreCounted, failure_in}
+use Rattle.hotel_core.specs.Model.History.{History}
+use Rattle.hotel_core.specs.Model.Run.{Steps, Runs}
+use Rattle.hotel_lists.specs.Bytes.{AppendsFront}
+use Rattle.hotel_lists.specs.declared.calls.WriteFailed.{WriteFailed}
+use Rattle.hotel_lists.specs.declared.fault.ListFault.{ListFault}
+use Rattle.hotel_lists.specs.declared.fault.ListFault.TheVariants as list
+use Rattle.hotel_asks.specs.declared.asks.Ask.{Ask}
+use Rattle.hotel_asks.specs.declared.asks.Ask.TheVariants as ask
+use Rattle.hotel_asks.specs.Listings.{Listing, listing_over, in_full}
+use Rattle.hotel_audit.specs.AuditFile.{audit_lines}
+use Rattle.hotel_audit.specs.Import.{AreAnswered, EndsAfter, commands_of, replies_in, has_taken, failures_of}
+use Rattle.hotel_audit.specs.declared.answer.LineAnswer.{LineAnswer}
+use Rattle.hotel_audit.specs.declared.importing.ImportFault.{ImportFault}
+use Rattle.hotel_audit.specs.declared.importing.ImportFault.TheVariants as import
+use Rattle.hotel_audit.specs.declared.line.Line.{Line}
+use Rattle.hotel_http.specs.declared.rejection.Rejection.{Rejection}
+use Rattle.hotel_http.specs.declared.serve.Cut.{Cut}
+use Rattle.hotel_http.specs.declared.serve.Served.{Served}
+use Rattle.hotel_http.specs.declared.serve.ServeFault.{ServeFault}
+use Rattle.hotel_http.specs.declared.serve.ServeFault.TheVariants.{Closed, Read, Memory, Write}
+use Rattle.hotel_http.specs.declared.requests.RequestFault.{RequestFault}
+use Rattle.hotel_http.specs.declared.requests.RequestFault.TheVariants as unread
+use Rattle.hotel_http.specs.declared.status.Status.{Status}
+use Rattle.hotel_http.specs.declared.status.Status.TheVariants.{Success}
+use Rattle.hotel_http.specs.declared.tasks.Task.{Task}
+use Rattle.hotel_http.specs.declared.tasks.Task.TheVariants as task
+use Rattle.hotel_http.specs.Answer.{rejection_answer, rejection_status, reply_answer, reply_status, list_answer}
+use Rattle.hotel_http.specs.AuditAnswer.{lines_answer, fault_answer, fault_status}
+use Rattle.hotel_http.specs.Body.{interim_text}
+use Rattle.hotel_http.specs.Request.{Wanted, Requests, IsAwaited, AtMostInterim}
+use Rattle.hotel_http.specs.Status.{number_of}
+
+-- An answer: its bytes, its status, and whether the books took something of the request.
+pub record Outcome : Type 0 where
+  pub text : List ℕ
+  pub status : ℕ
+  pub acted : Bool
+
+-- an answer of this status
+abbrev pub outcome : List ℕ → Status → Bool → Outcome
+outcome text status acted = record { text = text; status = number_of status; acted = acted }
+
+abbrev pub rejected : Rejection → Outcome
+rejected why = outcome (rejection_answer why) (rejection_status why) false
+
+-- a command with this reply was accepted
+abbrev pub is_accepted : Reply → Bool
+is_accepted (reply.Refused why) = false
+is_accepted _ = true
+
+abbrev pub replied : Reply → Outcome
+replied given = outcome (reply_answer given) (reply_status given) (is_accepted given)
+
+-- A list in full, or that its room isn't there.
+abbrev pub listed : Option Listing → Outcome
+listed None = replied (reply.Refused refusal.NoRoom)
+listed (Some listing) = outcome (list_answer (in_full [] (Some listing))) Success false
+
+-- a line was taken before an import ended without answers
+abbrev pub taken_by : ImportFault → Bool
+taken_by (import.File why) = false
+taken_by (import.Memory answered taken) = taken
+taken_by (import.Store answered taken) = taken
+
+abbrev pub imported : Result (List LineAnswer) ImportFault → Outcome
+imported (Ok answers) = outcome (lines_answer answers) Success (has_taken answers)
+imported (Err why) = outcome (fault_answer why) (fault_status why) (taken_by why)
+
+-- the failures that the books counted in an import that ended so
+abbrev pub import_failures : Result (List LineAnswer) ImportFault → List Refusal
+import_failures (Ok answers) = []
+import_failures (Err why) = failures_of why
+
+-- The answer to a list, with the failures that the books counted: it in full or that its room isn't there, or that memory or the store failed. The memory of the list's text is
+-- its own: want of it isn't counted.
+abbrev pub ListComes : Option Listing → Outcome → List Refusal → Type 0
+ListComes listing out failed =
+    ((out ≡ listed listing) × (failed ≡ []))
+    ⊎ (((out ≡ replied (reply.Refused refusal.Memory)) × (failed ≡ []))
+    ⊎ ((out ≡ replied (reply.Refused refusal.Store)) × (failed ≡ refusal.Store ∷ [])))
+
+-- What comes of a command, which is a step, or of a list, which changes nothing.
+abbrev pub AskComes : Ask → History → Stream → Outcome → List Refusal → History → Stream → Type 0
+AskComes (ask.Command command) h s out failed h' s' = (given : Reply) × Steps h s command given h' s' × (out ≡ replied given) × (failed ≡ failure_in given)
+AskComes (ask.List its_list) h s out failed h' s' = ListComes (listing_over h its_list) out failed × (h' ≡ h) × (s' ≡ s)
+
+-- What comes of an audit file: the run of the notes of its answered lines.
+abbrev pub FileComes : List ℕ → History → Stream → Outcome → List Refusal → History → Stream → Type 0
+FileComes file h s out failed h' s' =
+    (end : Result (List LineAnswer) ImportFault) × (lines : List Line) × (answers : List LineAnswer) × AreAnswered lines answers
+    × EndsAfter (audit_lines file) end lines answers × Runs h s (commands_of lines) (replies_in answers) h' s
+    × (out ≡ imported end) × (failed ≡ import_failures end) × (s' ≡ s)
+
+-- What comes of a task with its body.
+abbrev pub TaskComes : Task → List ℕ → History → Stream → Outcome → List Refusal → History → Stream → Type 0
+TaskComes (task.Asks given) body = AskComes given
+TaskComes task.Audit body = FileComes body
+
+-- What comes of what a request asks for: a rejection changes nothing.
+abbrev pub Comes : Wanted → History → Stream → Outcome → List Refusal → History → Stream → Type 0
+Comes (Ok given) h s out failed h' s' = TaskComes given.0 given.1 h s out failed h' s'
+Comes (Err why) h s out failed h' s' = (out ≡ rejected why) × (failed ≡ []) × (h' ≡ h) × (s' ≡ s)
+
+-- The answer was written behind this text, whole; or a front of both.
+abbrev pub EndsAs : Outcome → List ℕ → Option (List ℕ) → Option (List ℕ) → Result Served Cut → Type 0
+EndsAs out before old new (Ok served) = (served.status ≡ out.status) × (served.acted ≡ out.acted) × Appends old new (before ++ out.text)
+EndsAs out before old new (Err cut) = (cut.acted ≡ out.acted) × AppendsFront old new (before ++ out.text)
+
+-- This came, its answer was written so behind this text, and its failures were counted.
+abbrev pub Answered : (History → Stream → Outcome → List Refusal → History → Stream → Type 0) → Stream → Stream → List ℕ → Option (List ℕ) → Option (List ℕ)
+    → (LookFault → ℕ) → (LookFault → ℕ) → Result Served Cut → History → History → Type 0
+Answered came s s' before old new counts counts' end h h' =
+    (out : Outcome) × (failed : List Refusal) × came h s out failed h' s' × EndsAs out before old new end × AreCounted counts counts' failed
+
+-- How an answer ends that was written or not.
+abbrev pub ended : Result (Unit {0}) WriteFailed → Status → Bool → Result Served Cut
+ended (Ok done) status acted = Ok (record { status = number_of status; acted = acted })
+ended (Err failed) status acted = Err (record { acted = acted })
+
+-- A list's text as it was made in memory, or why it wasn't.
+abbrev pub IsListText : Option Listing → Result (List ℕ) Refusal → Type 0
+IsListText (Some listing) (Ok text) = text ≡ in_full [] (Some listing)
+IsListText (Some listing) (Err refusal.Memory) = Unit {0}
+IsListText (Some listing) (Err refusal.Store) = Unit {0}
+IsListText (Some listing) (Err _) = ⊥
+IsListText None (Ok text) = ⊥
+IsListText None (Err refusal.NoRoom) = Unit {0}
+IsListText None (Err refusal.Memory) = Unit {0}
+IsListText None (Err refusal.Store) = Unit {0}
+IsListText None (Err _) = ⊥
+
+-- the refusal that a list's fault is answered by: a writer in memory fails for want of it
+abbrev pub refusal_of : ListFault → Refusal
+refusal_of list.NoRoom = refusal.NoRoom
+refusal_of list.Memory = refusal.Memory
+refusal_of list.Write = refusal.Memory
+refusal_of list.Store = refusal.Store
+
+-- the failures that the books counted of a list's text
+abbrev pub list_failures : Result (List ℕ) Refusal → List Refusal
+list_failures (Err refusal.Store) = refusal.Store ∷ []
+list_failures _ = []
+
+-- the text, where there is one
+abbrev pub text_in : {A : Type 0} → (A → List ℕ) → Result A Refusal → Result (List ℕ) Refusal
+text_in items (Ok text) = Ok (items text)
+text_in items (Err why) = Err why
+
+-- A request was read and answered: this holds of what it asks for, whether there was an interim answer, and how its answer ended.
+abbrev pub WasAnswered : Option (List ℕ) → (Wanted → Bool → Result Served Cut → Type 0) → Result Served Cut → Type 0
+WasAnswered known went end = (wanted : Wanted) × (awaited : Bool) × IfSome known (λ input. Requests input awaited wanted) × went wanted awaited end
+
+-- How a request was served: it was answered; or its answer or the interim one was cut short; or no request was read. Where it wasn't begun, this is the same as before.
+abbrev pub Serves : Option (List ℕ) → Option (List ℕ) → Option (List ℕ) → Type 0 → (Wanted → Bool → Result Served Cut → Type 0) → Result Served ServeFault → Type 0
+Serves known old new same went (Ok served) = WasAnswered known went (Ok served)
+Serves known old new same went (Err (Write acted)) =
+    WasAnswered known went (Err (record { acted = acted }))
+    ⊎ (same × (acted ≡ false) × AppendsFront old new interim_text × IfSome known IsAwaited)
+Serves known old new same went (Err Closed) = same × Appends old new [] × IfSome known (λ input. input ≡ [])
+Serves known old new same went (Err Read) = same × AtMostInterim known old new
+Serves known old new same went (Err Memory) = same × AtMostInterim known old new
+
+-- Where a write failed, this holds.
+abbrev pub IfUnwritten : Result Served ServeFault → Type 0 → Type 0
+IfUnwritten (Err (Write acted)) P = P
+IfUnwritten _ P = Unit {0}
+
+-- The fault of a request that wasn't read.
+abbrev pub fault_of : RequestFault → ServeFault
+fault_of unread.Closed = Closed
+fault_of unread.Read = Read
+fault_of unread.Memory = Memory
+fault_of unread.Write = Write false

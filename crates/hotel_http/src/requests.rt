@@ -1,0 +1,193 @@
+//! What a request asks for: its head, then its body, each checked in turn.
+
+ghost use Rattle.std.specs.Prelude.{◌≡◌, ◌≢◌, ◌++◌, ◌≤◌, true, List, ℕ, length, take, drop, IfOk, OnOk, OnErr, IfSome, IsErrOf, IsUtf8};
+ghost use Rattle.std.specs.Io.KnownBytes.{Appends, Keeps};
+ghost use Rattle.httparse.specs.Grammar.{RequestHead};
+ghost use Rattle.httparse.specs.Spans.{IsRequestWithin, IsRequestAt, span_bytes};
+ghost use Rattle.hotel_lists.specs.Calls.{NoneForgotten};
+ghost use Rattle.hotel_http.specs.Plan.{plan_in};
+ghost use Rattle.hotel_http.specs.Request.{fault_of, IsMeant, EndsBody, wanted_of, EndsHead, EndsRequest};
+ghost use Rattle.hotel_http.specs.Routes.{hotel_routes};
+ghost use Rattle.hotel_http.specs.declared.requests.RequestFault.TheVariants.{Write, Read, Memory};
+
+use crate::body::{read_body, write_interim};
+use crate::head::{Judged, MOST_FIELDS, head_part, read_head};
+use crate::plan::{Plan, make_plan, path_part};
+use crate::rejection::Rejection;
+use crate::routes::Target;
+use crate::tasks::{Task, read_task};
+use hotel_lists::{IoCalls, ReadFault, WriteFailed};
+use httparse::spans::{EMPTY_HEADER_SPAN, HeaderSpan, RequestSpans};
+use matchit::Router;
+use std::alloc::{AllocError, Global};
+use std::io::{Read, Write};
+
+/// A request that was read whole, and no check rejected it.
+#[derive(Drop)]
+pub struct Request {
+    pub task: Task,
+    /// The bytes behind the head, as many as the head says; none of a list.
+    pub body: Vec<u8>,
+}
+
+/// Why no request was read.
+#[derive(Debug, Drop)]
+pub enum RequestFault {
+    /// The input had no byte.
+    Closed,
+    /// A read failed.
+    Read,
+    /// A growth of memory was refused.
+    Memory,
+    /// The interim answer could not be written.
+    Write,
+}
+
+impl From<ReadFault> for RequestFault {
+    ghost from_gives = { λ fault e. e ≡ fault_of fault };
+
+    fn from(fault: ReadFault) -> RequestFault {
+        match fault {
+            ReadFault::Read => RequestFault::Read,
+            ReadFault::Memory => RequestFault::Memory,
+        }
+    }
+}
+
+impl From<WriteFailed> for RequestFault {
+    ghost from_gives = { λ _ e. e ≡ Write };
+
+    fn from(_: WriteFailed) -> RequestFault {
+        RequestFault::Write
+    }
+}
+
+/// The target of a head; no text where it isn't UTF-8, as no head's is.
+fn target_text<'b>(front: &'b [u8], spans: &RequestSpans) -> &'b str
+    requires ordered { spans.now.path.start ≤ spans.now.path.end }
+    requires within { spans.now.path.end ≤ length front.now }
+    ensures { IsUtf8 (span_bytes front.now spans.now.path) → result.now ≡ span_bytes front.now spans.now.path }
+{
+    match std::str::from_utf8(spans.path.of(front)) {
+        Ok(text) => text,
+        Err(_) => "",
+    }
+}
+
+/// What a head asks for, or the first rejection.
+fn plan_head(
+    router: &Router<Target>,
+    front: &[u8],
+    headers: &[HeaderSpan],
+    spans: &RequestSpans,
+) -> Result<Plan, Rejection>
+    requires routes { router.now ≡ hotel_routes }
+    requires within { IsRequestWithin front.now headers.now spans.now }
+    ensures { (head : RequestHead) → IsRequestAt front.now headers.now spans.now head → result ≡ plan_in head }
+{
+    let method = spans.method.of(front);
+    let target = target_text(front, spans);
+    let fields = &headers[..spans.headers];
+    make_plan(router, spans.version, method, target, front, fields)
+}
+
+/// What a plan asks for with the body that was read, which may be too short.
+fn read_meaning(alloc: Global, plan: Plan, path: &str, body: Vec<u8>) -> Result<Request, Rejection>
+    ensures { IsMeant plan path.now body.items (wanted_of result) }
+{
+    if body.len() < plan.size {
+        return Err(Rejection::BadRequest);
+    }
+    let mut body = body;
+    body.truncate(plan.size);
+    match read_task(alloc, plan.target, path, &body) {
+        Ok(Some(task)) => Ok(Request { task, body }),
+        Ok(None) => Err(Rejection::Unread),
+        Err(AllocError) => Err(Rejection::Memory),
+    }
+}
+
+/// Reads the body of a plan, after the interim answer where the client awaits it. The bytes that are begun came with the head.
+fn read_planned<R: Read, W: Write>(
+    alloc: Global,
+    reader: &mut R,
+    writer: &mut W,
+    begun: &[u8],
+    plan: Plan,
+    path: &str,
+    calls: &mut IoCalls,
+) -> Result<Result<Request, Rejection>, RequestFault>
+    ensures ends { EndsBody plan path.now begun.now (R.remaining reader.old) (W.contents writer.old) (W.contents writer.new) result }
+    ensures read_failed { IsErrOf result Read → calls.new.read_failed ≡ true }
+    ensures write_failed { IsErrOf result Write → calls.new.write_failed ≡ true }
+    ensures calls { NoneForgotten calls.old calls.new }
+{
+    write_interim(writer, plan.awaited, calls)?;
+    let body = read_body(alloc, reader, begun, plan.size, calls)?;
+    Ok(read_meaning(alloc, plan, path, body))
+}
+
+/// What stands behind the head.
+fn behind(bytes: &[u8], len: usize) -> &[u8]
+    requires { len ≤ length bytes.now }
+    ensures { result.now ≡ drop len bytes.now }
+{
+    &bytes[len..]
+}
+
+/// Reads what a head and the bytes behind it ask for. The bytes begin with the head.
+fn read_behind_head<R: Read, W: Write>(
+    alloc: Global,
+    router: &Router<Target>,
+    reader: &mut R,
+    writer: &mut W,
+    bytes: &[u8],
+    headers: &[HeaderSpan],
+    spans: &RequestSpans,
+    calls: &mut IoCalls,
+) -> Result<Result<Request, Rejection>, RequestFault>
+    requires routes { router.now ≡ hotel_routes }
+    requires within { IsRequestWithin (take 16384 bytes.now) headers.now spans.now }
+    ensures ends { (head : RequestHead) → IsRequestAt (take 16384 bytes.now) headers.now spans.now head
+        → EndsHead head (λ left. drop spans.now.len (bytes.now ++ left)) (R.remaining reader.old) (W.contents writer.old) (W.contents writer.new) result }
+    ensures read_failed { IsErrOf result Read → calls.new.read_failed ≡ true }
+    ensures write_failed { IsErrOf result Write → calls.new.write_failed ≡ true }
+    ensures calls { NoneForgotten calls.old calls.new }
+{
+    let front = head_part(bytes);
+    match plan_head(router, front, headers, spans) {
+        Err(why) => Ok(Err(why)),
+        Ok(plan) => {
+            let path = path_part(target_text(front, spans));
+            let begun = behind(bytes, spans.len);
+            read_planned(alloc, reader, writer, begun, plan, path, calls)
+        }
+    }
+}
+
+/// Reads a request, and writes the interim answer where the client awaits it before it sends the body.
+pub fn read_request<R: Read, W: Write>(
+    alloc: Global,
+    router: &Router<Target>,
+    reader: &mut R,
+    writer: &mut W,
+    calls: &mut IoCalls,
+) -> Result<Result<Request, Rejection>, RequestFault>
+    requires { router.now ≡ hotel_routes }
+    ensures ends { EndsRequest (R.remaining reader.old) (W.contents writer.old) (W.contents writer.new) result }
+    ensures read_failed { IsErrOf result Read → calls.new.read_failed ≡ true }
+    ensures write_failed { IsErrOf result Write → calls.new.write_failed ≡ true }
+    ensures calls { NoneForgotten calls.old calls.new }
+{
+    let mut bytes = Vec::new(alloc);
+    let mut headers = [EMPTY_HEADER_SPAN; MOST_FIELDS];
+    match read_head(reader, &mut bytes, &mut headers, calls)? {
+        Judged::More => unreachable!(),
+        Judged::Closed => Err(RequestFault::Closed),
+        Judged::Malformed => Ok(Err(Rejection::BadRequest)),
+        Judged::TooLarge => Ok(Err(Rejection::HeadTooLarge)),
+        Judged::Whole(spans) => read_behind_head(
+            alloc, router, reader, writer, &bytes, &headers, &spans, calls,
+        ),
+    }
+}

@@ -1,0 +1,331 @@
+//! One request, one answer.
+
+ghost use Rattle.std.specs.Prelude.{◌≡◌, [], true, Ok, Err, Option, IsErrOf, OnErr};
+ghost use Rattle.std.specs.Io.KnownBytes.{Appends};
+ghost use Rattle.rand_core.specs.Stream.{Stream};
+ghost use Rattle.keycard_rules.specs.Rise.{NoFewer};
+ghost use Rattle.hotel_core.specs.Books.Failures.{AreCounted};
+ghost use Rattle.hotel_core.specs.Model.Leads.{Leads};
+ghost use Rattle.hotel_lists.specs.Calls.{NoneForgotten};
+ghost use Rattle.hotel_asks.specs.Listings.{listing_on};
+ghost use Rattle.hotel_asks.specs.declared.asks.Ask.TheVariants as ask;
+ghost use Rattle.hotel_http.specs.Body.{interim_where};
+ghost use Rattle.hotel_http.specs.Routes.{hotel_routes};
+ghost use Rattle.hotel_http.specs.Serve.{rejected, replied, is_accepted, taken_by, outcome, AskComes, FileComes, TaskComes, Comes, EndsAs, Answered, ended, IsListText, refusal_of, list_failures, text_in, Serves, IfUnwritten, fault_of};
+ghost use Rattle.hotel_http.specs.declared.serve.ServeFault.TheVariants.{Read, Write};
+
+use crate::answer::{rejection_status, reply_status, write_csv, write_rejection, write_reply};
+use crate::audit_answer::{fault_status, has_taken, write_answers, write_fault};
+use crate::rejection::Rejection;
+use crate::requests::{Request, RequestFault, read_request};
+use crate::routes::{Target, make_routes};
+use crate::status::Status;
+use crate::tasks::Task;
+use hotel_asks::{Ask, ListAsk, write_list};
+use hotel_audit::{ImportFault, import};
+use hotel_core::{Command, Refusal, Reply, Walks, step};
+use hotel_lists::{IoCalls, ListFault, WriteFailed};
+use matchit::Router;
+use rand_core::Rng;
+use std::alloc::Global;
+use std::io::{Read, Write};
+
+/// A request that was answered.
+#[derive(Clone, Copy, Debug, PartialEq, Eq)]
+pub struct Served {
+    /// The number of the answer's status.
+    pub status: u16,
+    /// Its command was accepted, or its audit file had a line that was Taken.
+    pub acted: bool,
+}
+
+/// Why a request was not answered.
+#[derive(Clone, Copy, Debug, PartialEq, Eq)]
+pub enum ServeFault {
+    /// The input ended before its first byte; nothing was begun or written.
+    Closed,
+    /// A read failed; nothing was begun, and nothing but an interim answer was written.
+    Read,
+    /// A growth of memory was refused; nothing was begun, and nothing but an interim answer was written.
+    Memory,
+    /// A write failed. The writer took a front of the answer, or of the interim answer, after which nothing was begun.
+    Write {
+        /// What the request asked for stands: its command was accepted, or its audit file had a line that was Taken.
+        acted: bool,
+    },
+}
+
+/// An answer that was not written whole.
+#[derive(Clone, Copy, Debug)]
+struct Cut {
+    acted: bool,
+}
+
+impl From<Cut> for ServeFault {
+    ghost from_gives = { λ cut e. e ≡ Write cut.acted };
+
+    ghost use Rattle.hotel_http.specs.declared.serve.ServeFault.TheVariants.{Write};
+
+    fn from(cut: Cut) -> ServeFault {
+        ServeFault::Write { acted: cut.acted }
+    }
+}
+
+impl From<RequestFault> for ServeFault {
+    ghost from_gives = { λ fault e. e ≡ fault_of fault };
+
+    fn from(fault: RequestFault) -> ServeFault {
+        match fault {
+            RequestFault::Closed => ServeFault::Closed,
+            RequestFault::Read => ServeFault::Read,
+            RequestFault::Memory => ServeFault::Memory,
+            RequestFault::Write => ServeFault::Write { acted: false },
+        }
+    }
+}
+
+/// How an answer ends that was written or not.
+fn ended(written: Result<(), WriteFailed>, status: Status, acted: bool) -> Result<Served, Cut>
+    ensures { result ≡ ended written status acted }
+{
+    match written {
+        Ok(()) => Ok(Served {
+            status: status.number(),
+            acted,
+        }),
+        Err(WriteFailed) => Err(Cut { acted }),
+    }
+}
+
+fn answer_rejection<W: Write>(
+    why: Rejection,
+    writer: &mut W,
+    calls: &mut IoCalls,
+) -> Result<Served, Cut>
+    ensures ends { EndsAs (rejected why) [] (W.contents writer.old) (W.contents writer.new) result }
+    ensures failed { OnErr result (calls.new.write_failed ≡ true) }
+    ensures calls { NoneForgotten calls.old calls.new }
+{
+    let written = write_rejection(writer, why, calls);
+    ended(written, rejection_status(why), false)
+}
+
+/// Whether a command with this reply was accepted.
+fn is_accepted(reply: &Reply) -> bool
+    ensures { result ≡ is_accepted reply.now }
+{
+    !matches!(reply, Reply::Refused(_))
+}
+
+fn answer_reply<W: Write>(reply: &Reply, writer: &mut W, calls: &mut IoCalls) -> Result<Served, Cut>
+    ensures ends { EndsAs (replied reply.now) [] (W.contents writer.old) (W.contents writer.new) result }
+    ensures failed { OnErr result (calls.new.write_failed ≡ true) }
+    ensures calls { NoneForgotten calls.old calls.new }
+{
+    let written = write_reply(writer, reply, calls);
+    ended(written, reply_status(reply), is_accepted(reply))
+}
+
+/// Carries out a command and answers its reply. No memory but the command's own is taken.
+fn answer_command<W: Write, B: Walks, R: Rng>(
+    command: &Command,
+    writer: &mut W,
+    books: &mut B,
+    source: &mut R,
+    calls: &mut IoCalls,
+) -> Result<Served, Cut>
+    ensures went { B.is_clean books.new → Leads (B.rows books.old) (Answered (AskComes (ask.Command command.now)) (R.stream source.old) (R.stream source.new) []
+        (W.contents writer.old) (W.contents writer.new) (B.failures books.old) (B.failures books.new) result) (B.rows books.new) }
+    ensures was_clean { B.is_clean books.new → B.is_clean books.old }
+    ensures counted { NoFewer (B.failures books.old) (B.failures books.new) }
+    ensures failed { OnErr result (calls.new.write_failed ≡ true) }
+    ensures calls { NoneForgotten calls.old calls.new }
+{
+    let reply = step(books, source, command);
+    answer_reply(&reply, writer, calls)
+}
+
+/// The refusal that a list's fault is answered by. Its text is written in memory, where a write fails for want of memory alone.
+fn refusal_of(fault: ListFault) -> Refusal
+    ensures { result ≡ refusal_of fault }
+{
+    match fault {
+        ListFault::NoRoom => Refusal::NoRoom,
+        ListFault::Memory | ListFault::Write => Refusal::Memory,
+        ListFault::Store => Refusal::Store,
+    }
+}
+
+/// The text of a list, made whole in memory; or why it is refused.
+fn list_text<B: Walks>(alloc: Global, list: &ListAsk, books: &mut B) -> Result<Vec<u8>, Refusal>
+    ensures text { B.is_clean books.new → IsListText (listing_on (B.rows books.old) list.now) (text_in (λ t. t.items) result) }
+    ensures kept { B.is_clean books.new → B.is_kept books.old books.new }
+    ensures was_clean { B.is_clean books.new → B.is_clean books.old }
+    ensures counted { NoFewer (B.failures books.old) (B.failures books.new) }
+    ensures failures { AreCounted (B.failures books.old) (B.failures books.new) (list_failures (text_in (λ t. t.items) result)) }
+{
+    let mut text = Vec::new(alloc);
+    match write_list(alloc, list, &mut text, books, &mut IoCalls::none()) {
+        Ok(()) => Ok(text),
+        Err(fault) => Err(refusal_of(fault)),
+    }
+}
+
+fn answer_list<W: Write, B: Walks>(
+    alloc: Global,
+    list: &ListAsk,
+    writer: &mut W,
+    books: &mut B,
+    calls: &mut IoCalls,
+) -> Result<Served, Cut>
+    ensures went { B.is_clean books.new → (s : Stream) → Leads (B.rows books.old) (Answered (AskComes (ask.List list.now)) s s []
+        (W.contents writer.old) (W.contents writer.new) (B.failures books.old) (B.failures books.new) result) (B.rows books.new) }
+    ensures was_clean { B.is_clean books.new → B.is_clean books.old }
+    ensures counted { NoFewer (B.failures books.old) (B.failures books.new) }
+    ensures failed { OnErr result (calls.new.write_failed ≡ true) }
+    ensures calls { NoneForgotten calls.old calls.new }
+{
+    match list_text(alloc, list, books) {
+        Ok(text) => {
+            let written = write_csv(writer, &text, calls);
+            ended(written, Status::Success, false)
+        }
+        Err(refusal) => answer_reply(&Reply::Refused(refusal), writer, calls),
+    }
+}
+
+/// Whether a line was taken before an import ended without answers.
+fn taken_by(why: &ImportFault) -> bool
+    ensures { result ≡ taken_by why.now }
+{
+    match why {
+        ImportFault::File(_) => false,
+        ImportFault::Memory { taken, .. } | ImportFault::Store { taken, .. } => *taken,
+    }
+}
+
+/// Imports an audit file and answers. No memory but the import's own is taken.
+fn answer_audit<W: Write, B: Walks>(
+    alloc: Global,
+    file: &[u8],
+    writer: &mut W,
+    books: &mut B,
+    calls: &mut IoCalls,
+) -> Result<Served, Cut>
+    ensures went { B.is_clean books.new → (s : Stream) → Leads (B.rows books.old) (Answered (FileComes file.now) s s []
+        (W.contents writer.old) (W.contents writer.new) (B.failures books.old) (B.failures books.new) result) (B.rows books.new) }
+    ensures was_clean { B.is_clean books.new → B.is_clean books.old }
+    ensures counted { NoFewer (B.failures books.old) (B.failures books.new) }
+    ensures failed { OnErr result (calls.new.write_failed ≡ true) }
+    ensures calls { NoneForgotten calls.old calls.new }
+{
+    match import(alloc, books, file) {
+        Ok(answers) => {
+            let answers = answers.as_slice();
+            let written = write_answers(writer, answers, calls);
+            ended(written, Status::Success, has_taken(answers))
+        }
+        Err(why) => {
+            let written = write_fault(writer, &why, calls);
+            ended(written, fault_status(&why), taken_by(&why))
+        }
+    }
+}
+
+/// Carries out a command, or makes a list, and answers.
+fn answer_ask<W: Write, B: Walks, R: Rng>(
+    alloc: Global,
+    asked: &Ask,
+    writer: &mut W,
+    books: &mut B,
+    source: &mut R,
+    calls: &mut IoCalls,
+) -> Result<Served, Cut>
+    ensures went { B.is_clean books.new → Leads (B.rows books.old) (Answered (AskComes asked.now) (R.stream source.old) (R.stream source.new) []
+        (W.contents writer.old) (W.contents writer.new) (B.failures books.old) (B.failures books.new) result) (B.rows books.new) }
+    ensures was_clean { B.is_clean books.new → B.is_clean books.old }
+    ensures counted { NoFewer (B.failures books.old) (B.failures books.new) }
+    ensures failed { OnErr result (calls.new.write_failed ≡ true) }
+    ensures calls { NoneForgotten calls.old calls.new }
+{
+    match asked {
+        Ask::Command(command) => answer_command(command, writer, books, source, calls),
+        Ask::List(list) => answer_list(alloc, list, writer, books, calls),
+    }
+}
+
+/// Carries out what a request asks for, and answers.
+fn answer_request<W: Write, B: Walks, R: Rng>(
+    alloc: Global,
+    request: &Request,
+    writer: &mut W,
+    books: &mut B,
+    source: &mut R,
+    calls: &mut IoCalls,
+) -> Result<Served, Cut>
+    ensures went { B.is_clean books.new → Leads (B.rows books.old) (Answered (TaskComes request.now.task request.now.body.items) (R.stream source.old) (R.stream source.new) []
+        (W.contents writer.old) (W.contents writer.new) (B.failures books.old) (B.failures books.new) result) (B.rows books.new) }
+    ensures was_clean { B.is_clean books.new → B.is_clean books.old }
+    ensures counted { NoFewer (B.failures books.old) (B.failures books.new) }
+    ensures failed { OnErr result (calls.new.write_failed ≡ true) }
+    ensures calls { NoneForgotten calls.old calls.new }
+{
+    match &request.task {
+        Task::Asks(asked) => answer_ask(alloc, asked, writer, books, source, calls),
+        Task::Audit => answer_audit(alloc, &request.body, writer, books, calls),
+    }
+}
+
+/// Reads one request, carries out what it asks for, and answers, by these routes. Its reads and writes are added to the calls.
+fn serve_by<I: Read, W: Write, B: Walks, R: Rng>(
+    alloc: Global,
+    router: &Router<Target>,
+    reader: &mut I,
+    writer: &mut W,
+    books: &mut B,
+    source: &mut R,
+    calls: &mut IoCalls,
+) -> Result<Served, ServeFault>
+    requires { router.now ≡ hotel_routes }
+    ensures serves { Serves (I.remaining reader.old) (W.contents writer.old) (W.contents writer.new) ((books.new ≡ books.old) × (source.new ≡ source.old))
+        (λ wanted awaited end. B.is_clean books.new → Leads (B.rows books.old) (Answered (Comes wanted) (R.stream source.old) (R.stream source.new) (interim_where awaited)
+        (W.contents writer.old) (W.contents writer.new) (B.failures books.old) (B.failures books.new) end) (B.rows books.new)) result }
+    ensures was_clean { B.is_clean books.new → B.is_clean books.old }
+    ensures counted { NoFewer (B.failures books.old) (B.failures books.new) }
+    ensures read_failed { IsErrOf result Read → calls.new.read_failed ≡ true }
+    ensures write_failed { IfUnwritten result (calls.new.write_failed ≡ true) }
+    ensures calls { NoneForgotten calls.old calls.new }
+{
+    match read_request(alloc, router, reader, writer, calls)? {
+        Ok(request) => Ok(answer_request(alloc, &request, writer, books, source, calls)?),
+        Err(why) => Ok(answer_rejection(why, writer, calls)?),
+    }
+}
+
+/// Reads one request, carries out what it asks for, and answers.
+///
+/// The body is read whole before a command or an import begins. All memory but theirs is taken before it; their answers are written from
+/// buffers of fixed size, and a list's text is made whole before its answer begins. The interrupted reads and writes of the call are
+/// counted together; the thousandth is a fault. The writer is not flushed.
+pub fn serve_one<I: Read, W: Write, B: Walks, R: Rng>(
+    alloc: Global,
+    reader: &mut I,
+    writer: &mut W,
+    books: &mut B,
+    source: &mut R,
+) -> Result<Served, ServeFault>
+    ensures serves { Serves (I.remaining reader.old) (W.contents writer.old) (W.contents writer.new) ((books.new ≡ books.old) × (source.new ≡ source.old))
+        (λ wanted awaited end. B.is_clean books.new → Leads (B.rows books.old) (Answered (Comes wanted) (R.stream source.old) (R.stream source.new) (interim_where awaited)
+        (W.contents writer.old) (W.contents writer.new) (B.failures books.old) (B.failures books.new) end) (B.rows books.new)) result }
+    ensures was_clean { B.is_clean books.new → B.is_clean books.old }
+    ensures counted { NoFewer (B.failures books.old) (B.failures books.new) }
+{
+    let Ok(router) = make_routes(alloc) else {
+        return Err(ServeFault::Memory);
+    };
+    let mut calls = IoCalls::none();
+    serve_by(alloc, &router, reader, writer, books, source, &mut calls)
+}
+
+#[cfg(test)]
+mod tests;

@@ -1,0 +1,494 @@
+//! Requests from bytes to bytes, over books in memory.
+
+ghost use Rattle.std.specs.Prelude.{◌<◌};
+
+use super::{ServeFault, Served, serve_one};
+use hotel_core::ListBooks;
+use hotel_lists::{FakeReader, FakeWriter};
+use keycard_rules::ListedWords;
+use std::alloc::Global;
+use std::process::Abort;
+use std::test::Fail;
+
+/// Books in memory, and a source.
+#[derive(Drop)]
+struct Desk {
+    books: ListBooks,
+    source: ListedWords,
+}
+
+impl Desk {
+    /// Answers the reader's request to the writer.
+    fn answer(
+        &mut self,
+        alloc: Global,
+        reader: &mut FakeReader<'_>,
+        writer: &mut FakeWriter,
+    ) -> Result<Served, ServeFault> {
+        serve_one(alloc, reader, writer, &mut self.books, &mut self.source)
+    }
+}
+
+/// A desk with empty books, and a source of words that give the codes a0, a1 and a2, the last one for ever.
+fn empty_desk(alloc: Global) -> Result<Desk, Fail> {
+    let mut words = Vec::new(alloc);
+    for code in [0xa0u64, 0xa1, 0xa2] {
+        words.push(code << 16)?;
+    }
+    let source = ListedWords::new(words).ok_or("no words")?;
+    let books = ListBooks::empty(alloc);
+    Ok(Desk { books, source })
+}
+
+/// A request by the route's path, and the answer's status line and body.
+struct Exchange {
+    /// The method and the target.
+    request: &'static str,
+    form: &'static str,
+    status: &'static str,
+    body: &'static str,
+}
+
+const DONE: &str = "200 OK";
+
+const REFUSED: &str = "409 Conflict";
+
+/// The commands that the scenarios begin with.
+const OPENING: &[Exchange] = &[
+    Exchange {
+        request: "POST /begin",
+        form: "day=2031-05-01",
+        status: DONE,
+        body: "begun\n",
+    },
+    Exchange {
+        request: "POST /kinds",
+        form: "kind=DBL",
+        status: DONE,
+        body: "kind added\n",
+    },
+    Exchange {
+        request: "POST /rooms",
+        form: "room=101&kind=DBL",
+        status: DONE,
+        body: "room code 0000000000a0\n",
+    },
+    Exchange {
+        request: "POST /reservations",
+        form: "kind=DBL&arrive=2031-05-01&nights=2&guest=Ann+Lee",
+        status: DONE,
+        body: "party 1\n",
+    },
+];
+
+/// Two notes of the room, as an audit file and as the list of its notes.
+const NOTES: &str = "room,count,kind,card,old,new,at\n\
+101,1,in,1,0000000000a0,0000000000a1,2031-05-01T15:00:00\n\
+101,2,out,1,0000000000a0,0000000000a1,2031-05-01T16:00:00\n";
+
+/// Each further route, accepted and refused.
+const DAY: &[Exchange] = &[
+    Exchange {
+        request: "GET /arrivals/2031-05-01",
+        form: "",
+        status: DONE,
+        body: "party,guest,kind,arrive,depart\n1,Ann Lee,DBL,2031-05-01,2031-05-03\n",
+    },
+    Exchange {
+        request: "POST /reservations/1/check-in",
+        form: "room=101",
+        status: DONE,
+        body: "card 1 party 1 old 0000000000a0 new 0000000000a1\n",
+    },
+    Exchange {
+        request: "POST /reservations/1/spare",
+        form: "",
+        status: DONE,
+        body: "card 2 party 1 old 0000000000a0 new 0000000000a1\n",
+    },
+    Exchange {
+        request: "POST /audit",
+        form: NOTES,
+        status: DONE,
+        body: "1 taken\n2 taken\n",
+    },
+    Exchange {
+        request: "POST /audit",
+        form: NOTES,
+        status: DONE,
+        body: "1 seen\n2 seen\n",
+    },
+    Exchange {
+        request: "POST /audit",
+        form: "",
+        status: "400 Bad Request",
+        body: "no header\n",
+    },
+    Exchange {
+        request: "POST /audit",
+        form: "room\n",
+        status: "400 Bad Request",
+        body: "wrong header\n",
+    },
+    Exchange {
+        request: "GET /rooms/101/audit",
+        form: "",
+        status: DONE,
+        body: NOTES,
+    },
+    Exchange {
+        request: "GET /rooms/101/chain?all=yes",
+        form: "",
+        status: DONE,
+        body: "place,code,state\n0,0000000000a0,passed\n1,0000000000a1,held\n",
+    },
+    Exchange {
+        request: "GET /in-house",
+        form: "",
+        status: DONE,
+        body: "room,party,guest,kind,depart,secured\n101,1,Ann Lee,DBL,2031-05-03,yes\n",
+    },
+    Exchange {
+        request: "GET /left-behind",
+        form: "",
+        status: DONE,
+        body: "room,held,current,awaited\n",
+    },
+    Exchange {
+        request: "POST /reservations/1/transfer",
+        form: "room=101",
+        status: REFUSED,
+        body: "refused 13 SameRoom\n",
+    },
+    Exchange {
+        request: "POST /reservations/1/cancel",
+        form: "",
+        status: REFUSED,
+        body: "refused 8 NotBooked\n",
+    },
+    Exchange {
+        request: "POST /reservations/1/check-out",
+        form: "",
+        status: DONE,
+        body: "checked out\n",
+    },
+    Exchange {
+        request: "POST /next-day",
+        form: "",
+        status: DONE,
+        body: "day 2031-05-02\n",
+    },
+    Exchange {
+        request: "GET /rooms/102/chain",
+        form: "",
+        status: REFUSED,
+        body: "refused 6 NoRoom\n",
+    },
+    Exchange {
+        request: "GET /rooms/102/audit",
+        form: "",
+        status: REFUSED,
+        body: "refused 6 NoRoom\n",
+    },
+];
+
+/// Values that are missing, stand twice or are refused.
+const UNREAD: &[Exchange] = &[
+    Exchange {
+        request: "POST /begin",
+        form: "",
+        status: "400 Bad Request",
+        body: "unread\n",
+    },
+    Exchange {
+        request: "POST /begin",
+        form: "day=2031-02-29",
+        status: "400 Bad Request",
+        body: "unread\n",
+    },
+    Exchange {
+        request: "POST /reservations/1/check-in",
+        form: "room=101&room=101",
+        status: "400 Bad Request",
+        body: "unread\n",
+    },
+    Exchange {
+        request: "POST /reservations/0/spare",
+        form: "",
+        status: "400 Bad Request",
+        body: "unread\n",
+    },
+    Exchange {
+        request: "GET /rooms/%31/chain",
+        form: "",
+        status: "400 Bad Request",
+        body: "unread\n",
+    },
+    Exchange {
+        request: "GET /nowhere",
+        form: "",
+        status: "404 Not Found",
+        body: "not found\n",
+    },
+    Exchange {
+        request: "GET /rooms/101",
+        form: "",
+        status: "404 Not Found",
+        body: "not found\n",
+    },
+];
+
+/// The type of a body: lists are CSV.
+fn media_of(exchange: &Exchange) -> &'static str {
+    if exchange.request.starts_with("GET ") && exchange.status == DONE {
+        "text/csv"
+    } else {
+        "text/plain"
+    }
+}
+
+/// The bytes of the request.
+fn request_of(alloc: Global, exchange: &Exchange) -> Result<String, Fail> {
+    let (request, form) = (exchange.request, exchange.form);
+    let size = form.len();
+    Ok(format!(in alloc;
+        "{request} HTTP/1.1\r\nHost: desk\r\nContent-Length: {size}\r\n\r\n{form}"
+    )?)
+}
+
+/// The bytes of the answer.
+fn answer_of(alloc: Global, exchange: &Exchange) -> Result<String, Fail> {
+    let (status, media, body) = (exchange.status, media_of(exchange), exchange.body);
+    let size = body.len();
+    Ok(format!(in alloc;
+        "HTTP/1.1 {status}\r\nContent-Type: {media}; charset=utf-8\r\nContent-Length: {size}\r\nConnection: close\r\n\r\n{body}"
+    )?)
+}
+
+/// The desk answers these bytes so, read in pieces.
+fn answers_so<R: Abort + AllocGlobal>(
+    rt: &R,
+    desk: &mut Desk,
+    piece: usize,
+    request: &[u8],
+    answer: &[u8],
+)
+    requires { 0 < piece }
+{
+    let mut writer = FakeWriter::new(rt.alloc()).in_pieces(100);
+    let mut reader = FakeReader::new(request).in_pieces(piece);
+    let ended = desk.answer(rt.alloc(), &mut reader, &mut writer);
+    assert_eq!(rt; writer.written(), answer);
+    assert!(rt; ended.is_ok());
+}
+
+/// The desk answers the exchange, read in pieces.
+fn exchange_goes<R: Abort + AllocGlobal>(
+    rt: &R,
+    desk: &mut Desk,
+    piece: usize,
+    exchange: &Exchange,
+) -> Result<(), Fail>
+    requires { 0 < piece }
+{
+    let request = request_of(rt.alloc(), exchange)?;
+    let answer = answer_of(rt.alloc(), exchange)?;
+    answers_so(rt, desk, piece, request.as_bytes(), answer.as_bytes());
+    Ok(())
+}
+
+/// The desk answers the exchanges, one after the other.
+fn exchanges_go<R: Abort + AllocGlobal>(
+    rt: &R,
+    desk: &mut Desk,
+    piece: usize,
+    exchanges: &[Exchange],
+) -> Result<(), Fail>
+    requires { 0 < piece }
+{
+    for exchange in exchanges {
+        exchange_goes(rt, desk, piece, exchange)?;
+    }
+    Ok(())
+}
+
+#[test]
+fn each_route(rt: HostRuntime) -> Result<(), Fail> {
+    let mut desk = empty_desk(rt.alloc())?;
+    exchanges_go(&rt, &mut desk, 4096, OPENING)?;
+    exchanges_go(&rt, &mut desk, 4096, UNREAD)?;
+    exchanges_go(&rt, &mut desk, 4096, DAY)
+}
+
+#[test]
+fn each_route_byte_by_byte(rt: HostRuntime) -> Result<(), Fail> {
+    let mut desk = empty_desk(rt.alloc())?;
+    exchanges_go(&rt, &mut desk, 1, OPENING)?;
+    exchanges_go(&rt, &mut desk, 1, UNREAD)?;
+    exchanges_go(&rt, &mut desk, 1, DAY)
+}
+
+/// A request of the scenarios, and its answer; both byte for byte.
+struct Scene {
+    request: &'static [u8],
+    answer: &'static [u8],
+}
+
+/// Requests that begin nothing, and then a check-in whose client awaits an interim answer.
+const SCENES: &[Scene] = &[
+    Scene {
+        request: b"POST /reservations/1/check-in HTTP/1.1\r\nHost: localhost\r\nContent-Length: 8\r\n\r\nroom",
+        answer: b"HTTP/1.1 400 Bad Request\r\nContent-Type: text/plain; charset=utf-8\r\nContent-Length: 12\r\nConnection: close\r\n\r\nbad request\n",
+    },
+    Scene {
+        request: b"GET /next-day HTTP/1.1\r\nHost: localhost\r\n\r\n",
+        answer: b"HTTP/1.1 405 Method Not Allowed\r\nContent-Type: text/plain; charset=utf-8\r\nContent-Length: 19\r\nAllow: POST\r\nConnection: close\r\n\r\nmethod not allowed\n",
+    },
+    Scene {
+        request: b"POST /reservations/1/check-in HTTP/1.1\r\nHost: localhost\r\nHost: localhost\r\nContent-Length: 8\r\n\r\nroom=101",
+        answer: b"HTTP/1.1 400 Bad Request\r\nContent-Type: text/plain; charset=utf-8\r\nContent-Length: 12\r\nConnection: close\r\n\r\nbad request\n",
+    },
+    Scene {
+        request: b"POST http://localhost/next-day HTTP/1.1\r\nHost: localhost\r\n\r\n",
+        answer: b"HTTP/1.1 400 Bad Request\r\nContent-Type: text/plain; charset=utf-8\r\nContent-Length: 12\r\nConnection: close\r\n\r\nbad request\n",
+    },
+    Scene {
+        request: b"POST /next-day HTTP/1.1\r\nHost: localhost\r\nTransfer-Encoding: chunked\r\n\r\n",
+        answer: b"HTTP/1.1 501 Not Implemented\r\nContent-Type: text/plain; charset=utf-8\r\nContent-Length: 16\r\nConnection: close\r\n\r\nnot implemented\n",
+    },
+    Scene {
+        request: b"POST /reservations/1/check-in HTTP/1.1\r\nHost: localhost\r\nContent-Length: 17\r\n\r\nroom=101&room=101",
+        answer: b"HTTP/1.1 400 Bad Request\r\nContent-Type: text/plain; charset=utf-8\r\nContent-Length: 7\r\nConnection: close\r\n\r\nunread\n",
+    },
+    Scene {
+        request: b"POST /next-day HTTP/1.1\r\nHost: localhost\r\nContent-Length: 262145\r\n\r\n",
+        answer: b"HTTP/1.1 413 Content Too Large\r\nContent-Type: text/plain; charset=utf-8\r\nContent-Length: 10\r\nConnection: close\r\n\r\ntoo large\n",
+    },
+    Scene {
+        request: b"POST /next-day HTTP/1.1\r\nHost: localhost\r\nContent-Length: 0\r\nContent-Length: 0\r\n\r\n",
+        answer: b"HTTP/1.1 400 Bad Request\r\nContent-Type: text/plain; charset=utf-8\r\nContent-Length: 12\r\nConnection: close\r\n\r\nbad request\n",
+    },
+    Scene {
+        request: b"POST /reservations/1/check-in HTTP/1.1\r\nHost: localhost\r\nContent-Length: 8\r\nExpect: 100-continue\r\n\r\nroom=101",
+        answer: b"HTTP/1.1 100 Continue\r\n\r\nHTTP/1.1 200 OK\r\nContent-Type: text/plain; charset=utf-8\r\nContent-Length: 49\r\nConnection: close\r\n\r\ncard 1 party 1 old 0000000000a0 new 0000000000a1\n",
+    },
+];
+
+/// The desk answers the scenes, one after the other.
+fn scenes_go<R: Abort + AllocGlobal>(rt: &R, desk: &mut Desk, piece: usize)
+    requires { 0 < piece }
+{
+    for scene in SCENES {
+        answers_so(rt, desk, piece, scene.request, scene.answer);
+    }
+}
+
+#[test]
+fn scenes_at_once(rt: HostRuntime) -> Result<(), Fail> {
+    let mut desk = empty_desk(rt.alloc())?;
+    exchanges_go(&rt, &mut desk, 4096, OPENING)?;
+    scenes_go(&rt, &mut desk, 4096);
+    Ok(())
+}
+
+#[test]
+fn scenes_byte_by_byte(rt: HostRuntime) -> Result<(), Fail> {
+    let mut desk = empty_desk(rt.alloc())?;
+    exchanges_go(&rt, &mut desk, 1, OPENING)?;
+    scenes_go(&rt, &mut desk, 1);
+    Ok(())
+}
+
+/// The answer where the head is too large.
+const HEAD_TOO_LARGE: &[u8] =
+    b"HTTP/1.1 431 Request Header Fields Too Large\r\nContent-Type: text/plain; charset=utf-8\r\nContent-Length: 15\r\nConnection: close\r\n\r\nhead too large\n";
+
+/// A head of so many fields, the last one of so many bytes more.
+fn head_of(alloc: Global, fields: u32, more: usize) -> Result<Vec<u8>, Fail> {
+    let mut head = Vec::new(alloc);
+    head.extend_from_slice(b"POST /next-day HTTP/1.1\r\nHost: a\r\n")?;
+    for _ in 1..fields {
+        head.extend_from_slice(b"X: 1\r\n")?;
+    }
+    for _ in 0..more {
+        head.push(b'x')?;
+    }
+    Ok(head)
+}
+
+#[test]
+fn too_many_fields(rt: HostRuntime) -> Result<(), Fail> {
+    let mut desk = empty_desk(rt.alloc())?;
+    let mut head = head_of(rt.alloc(), 65, 0)?;
+    head.extend_from_slice(b"\r\n")?;
+    answers_so(&rt, &mut desk, 4096, &head, HEAD_TOO_LARGE);
+    answers_so(&rt, &mut desk, 1, &head, HEAD_TOO_LARGE);
+    Ok(())
+}
+
+#[test]
+fn head_without_end(rt: HostRuntime) -> Result<(), Fail> {
+    let mut desk = empty_desk(rt.alloc())?;
+    let head = head_of(rt.alloc(), 1, 16_385 - 34)?;
+    answers_so(&rt, &mut desk, 4096, &head, HEAD_TOO_LARGE);
+    Ok(())
+}
+
+/// The request ends by a fault, and nothing is written.
+fn faults_so<R: Abort + AllocGlobal>(
+    rt: &R,
+    desk: &mut Desk,
+    reader: &mut FakeReader<'_>,
+    fault: ServeFault,
+) {
+    let mut writer = FakeWriter::new(rt.alloc());
+    let ended = desk.answer(rt.alloc(), reader, &mut writer);
+    assert_eq!(rt; ended, Err(fault));
+    assert!(rt; writer.written().is_empty());
+}
+
+#[test]
+fn no_byte_and_failed_reads(rt: HostRuntime) -> Result<(), Fail> {
+    let mut desk = empty_desk(rt.alloc())?;
+    let next_day = b"POST /next-day HTTP/1.1\r\nHost: a\r\nContent-Length: 2\r\n\r\nab";
+    faults_so(
+        &rt,
+        &mut desk,
+        &mut FakeReader::new(b""),
+        ServeFault::Closed,
+    );
+    for call in 1..7u32 {
+        let mut reader = FakeReader::new(next_day).in_pieces(10).failing_at(call);
+        faults_so(&rt, &mut desk, &mut reader, ServeFault::Read);
+    }
+    let mut reader = FakeReader::new(next_day).interrupted(1000);
+    faults_so(&rt, &mut desk, &mut reader, ServeFault::Read);
+    Ok(())
+}
+
+/// The write of this number fails, and then so much was written, and the request acted or not.
+fn cut_so<R: Abort + AllocGlobal>(
+    rt: &R,
+    desk: &mut Desk,
+    call: u32,
+    request: &[u8],
+    written: &[u8],
+    acted: bool,
+) {
+    let mut writer = FakeWriter::new(rt.alloc()).in_pieces(25).failing_at(call);
+    let ended = desk.answer(rt.alloc(), &mut FakeReader::new(request), &mut writer);
+    assert_eq!(rt; ended, Err(ServeFault::Write { acted }));
+    assert_eq!(rt; writer.written(), written);
+}
+
+#[test]
+fn failed_writes(rt: HostRuntime) -> Result<(), Fail> {
+    let mut desk = empty_desk(rt.alloc())?;
+    let begin =
+        b"POST /begin HTTP/1.1\r\nHost: a\r\nExpect: 100-Continue\r\nContent-Length: 14\r\n\r\nday=2031-05-01";
+    let interim = b"HTTP/1.1 100 Continue\r\n\r\n";
+    cut_so(&rt, &mut desk, 1, begin, b"", false);
+    cut_so(&rt, &mut desk, 2, begin, interim, true);
+    cut_so(&rt, &mut desk, 2, begin, interim, false);
+    Ok(())
+}
