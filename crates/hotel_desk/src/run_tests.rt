@@ -391,6 +391,13 @@ fn is_no_audit(
     is_told(rt, status, writer.written(), faults.written(), told);
 }
 
+/// So many spaces.
+pub fn spaces(alloc: Global, len: usize) -> Result<Vec<u8>, Fail> {
+    let mut text = Vec::new(alloc);
+    text.resize(len, b' ')?;
+    Ok(text)
+}
+
 /// A file of so many spaces is no audit file, and so it is told.
 fn spaces_are_no_audit(
     rt: &(impl Abort + AllocGlobal),
@@ -398,7 +405,7 @@ fn spaces_are_no_audit(
     len: usize,
     told: &[u8],
 ) -> Result<(), Fail> {
-    let file = vec![in rt.alloc(); b' '; len]?;
+    let file = spaces(rt.alloc(), len)?;
     is_no_audit(rt, desk, file.as_slice(), told);
     Ok(())
 }

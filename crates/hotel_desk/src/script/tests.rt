@@ -1,5 +1,6 @@
 //! Scripts from bytes to bytes, and readers and writers that go wrong.
 use super::{ScriptEnd, ScriptFault, run_script};
+use crate::run_tests::spaces;
 use hotel_core::ListBooks;
 use hotel_lists::{FakeReader, FakeWriter};
 use keycard_rules::ListedWords;
@@ -111,8 +112,8 @@ fn ends_of_lines_and_silent_lines(rt: HostRuntime) -> Result<(), Fail> {
 }
 
 /// A line of so many spaces and 16 bytes more.
-fn spaced_line(alloc: Global, spaces: usize) -> Result<Vec<u8>, Fail> {
-    let mut script = vec![in alloc; b' '; spaces]?;
+fn spaced_line(alloc: Global, count: usize) -> Result<Vec<u8>, Fail> {
+    let mut script = spaces(alloc, count)?;
     script.extend_from_slice(b"begin 2031-05-01\r\n")?;
     Ok(script)
 }
@@ -121,10 +122,10 @@ fn spaced_line(alloc: Global, spaces: usize) -> Result<Vec<u8>, Fail> {
 fn spaces_answered(
     rt: &(impl Abort + AllocGlobal),
     desk: &mut Desk,
-    spaces: usize,
+    count: usize,
     answer: &[u8],
 ) -> Result<(), Fail> {
-    let script = spaced_line(rt.alloc(), spaces)?;
+    let script = spaced_line(rt.alloc(), count)?;
     answers_in_pieces(rt, desk, script.as_slice(), answer, 1);
     Ok(())
 }
@@ -216,7 +217,7 @@ fn spaces_end(
     len: usize,
     outcome: Result<ScriptEnd, ScriptFault>,
 ) -> Result<(), Fail> {
-    let text = vec![in rt.alloc(); b' '; len]?;
+    let text = spaces(rt.alloc(), len)?;
     let mut reader = FakeReader::new(text.as_slice());
     let mut writer = FakeWriter::new(rt.alloc());
     ends_so(rt, desk, &mut reader, &mut writer, outcome, b"");
