@@ -90,7 +90,7 @@ fn is_issued<A: Abort>(rt: &A, tables: &mut Tables, card: &Card, room: RoomNo) -
     );
     let row = tables.room(room).expect(rt, "the room is there");
     assert_eq!(rt; row.codes, 1);
-    assert_eq!(rt; card.number.value() as usize, tables.cards.len() + 1);
+    assert_eq!(rt; tables.cards.len(), card.number.value() as usize - 1);
     let Ok(Some(stay)) = tables.stay(card.party) else {
         return false;
     };
