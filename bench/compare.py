@@ -3,7 +3,7 @@
 
 usage: compare.py [PROGRAM [NAME ..]]      (the built hotel_desk and all scripts, where they aren't given)
 
-A line a script: the user and system time of both, the best of seven runs; their ratio; the greatest memory of both; and
+A line a script: the user and system time of both, the best of 15 runs that take turns; their ratio; the greatest memory of both; and
 whether the answers are equal. At the end, how long bookings take: the last thousand of 20,000 beside the first thousand.
 """
 import hashlib
@@ -33,8 +33,7 @@ def run(program, script, answers):
     return used.ru_utime + used.ru_stime, used.ru_maxrss / 1024, digest.digest()
 
 
-def best(program, script, answers):
-    runs = [run(program, script, answers) for _ in range(7)]
+def best(runs):
     return min(time for time, _, _ in runs), max(memory for _, memory, _ in runs), runs[0][2]
 
 
@@ -42,11 +41,12 @@ def first_and_last(program, folder):
     """The times of the first and of the last thousand of 20,000 bookings that stand, each as a difference of two scripts."""
     lines = scripts.SCRIPTS["one_kind"]()
     opening = len(lines) - 20000
-    times = []
+    fronts = []
     for count in (0, 1000, 19000, 20000):
-        script = folder / "front.txt"
-        script.write_text("\n".join(lines[: opening + count]) + "\n")
-        times.append(min(run(program, script, folder / "answers")[0] for _ in range(15)))
+        fronts.append(folder / f"front{count}.txt")
+        fronts[-1].write_text("\n".join(lines[: opening + count]) + "\n")
+    rounds = [[run(program, front, folder / "answers")[0] for front in fronts] for _ in range(40)]
+    times = [min(times) for times in zip(*rounds)]
     return times[1] - times[0], times[3] - times[2]
 
 
@@ -60,8 +60,10 @@ def main():
         for name in names:
             script = folder / f"{name}.txt"
             script.write_text("\n".join(scripts.SCRIPTS[name]()) + "\n")
-            time, memory, answers = best(program, script, folder / "answers")
-            plain_time, plain_memory, plain_answers = best(plain, script, folder / "answers")
+            # In turn, so that what else the machine does meets both.
+            runs = [[run(each, script, folder / "answers") for each in (program, plain)] for _ in range(15)]
+            time, memory, answers = best([ours for ours, _ in runs])
+            plain_time, plain_memory, plain_answers = best([theirs for _, theirs in runs])
             equal = "equal" if answers == plain_answers else "DIFFERENT ANSWERS"
             print(f"{name:12} {time * 1000:7.1f} and {plain_time * 1000:7.1f} ms: {time / max(plain_time, 1e-6):5.2f}"
                   f"   {memory:5.1f} and {plain_memory:5.1f} MB: {memory / plain_memory:5.2f}   {equal}", flush=True)

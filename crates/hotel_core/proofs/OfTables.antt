@@ -3,6 +3,7 @@ pub mod TableKeys
 pub mod CodeLists
 pub mod Grown
 pub mod Counting
+pub mod RowsByPlace
 pub mod CodeSearch
 pub mod StayCounts
 pub mod Numbered

@@ -1,5 +1,6 @@
 //! Books in memory: a table for each kind of rows, found by key.
 
+mod card_table;
 mod code_table;
 mod inside_table;
 pub mod list_books;

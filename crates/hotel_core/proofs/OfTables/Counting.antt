@@ -12,7 +12,7 @@ use Rattle.hotel_core.specs.Model.SoundRooms.{count_up}
 use Rattle.hotel_core.proofs.OfTables.Tests.{eq_from, eq_self, and_true}
 use Rattle.hotel_core.proofs.OfTables.TableKeys.{no_key}
 
-greater_is : (k n : ℕ) → n < k → nat_cmp k n ≡ Greater
+pub greater_is : (k n : ℕ) → n < k → nat_cmp k n ≡ Greater
 greater_is k n lt = grind (arith, nat_tests)
 
 -- A row with the next number comes at the end.

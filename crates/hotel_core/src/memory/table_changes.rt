@@ -2,7 +2,7 @@
 //!
 //! New rows come first, since they may want memory; what was put in is taken out again where a later one finds none.
 //! Rows that are there are changed last, which takes no memory.
-ghost use Rattle.std.specs.Prelude.{◌≡◌, ℕ, ◌-◌, ◌^◌, ◌<◌, Some, None, true, false, IsSome, OnOk, OnErr, IsOk};
+ghost use Rattle.std.specs.Prelude.{◌≡◌, ℕ, ◌+◌, ◌-◌, ◌^◌, ◌<◌, length, Some, None, true, false, IsSome, OnOk, OnErr, IsOk};
 ghost use Rattle.hotel_core.specs.declared.books.change.Change.TheVariants as change;
 ghost use Rattle.hotel_core.specs.Books.Lookups.{room_at, code_place, stay_at, note_at};
 ghost use Rattle.hotel_core.specs.Books.Change.{made, codes_of};
@@ -133,6 +133,7 @@ impl Tables {
         requires there { IsSome (room_at self.old room) }
         requires few { codes_of self.old room < 2 ^ 32 - 1 }
         requires new_code { code_place self.old card.now.link.new_code ≡ None }
+        requires next { card.now.number ≡ length self.old.cards + 1 }
         requires stands { said_of (stay_at self.old card.now.party) true (λ stay. is_standing stay.state) ≡ true }
         ensures ok { OnOk result (self.new ≡ made (change.Issue card.now room leaves) self.old) }
         ensures err { OnErr result (self.new ≡ self.old) }
@@ -142,7 +143,7 @@ impl Tables {
         let Ok(()) = self.codes.insert(code, CodeRow { room, place }) else {
             return Err(Memory);
         };
-        let Ok(_) = self.cards.insert(card.number, *card) else {
+        let Ok(()) = self.cards.push(card) else {
             self.codes.remove(code, CodeRow { room, place });
             return Err(Memory);
         };
@@ -153,13 +154,11 @@ impl Tables {
     }
 
     pub(crate) fn add_card(&mut self, card: &Card) -> Result<(), Memory>
+        requires { card.now.number ≡ length self.old.cards + 1 }
         ensures ok { OnOk result (self.new ≡ made (change.Spare card.now) self.old) }
         ensures err { OnErr result (self.new ≡ self.old) }
     {
-        match self.cards.insert(card.number, *card) {
-            Ok(_) => Ok(()),
-            Err(_) => Err(Memory),
-        }
+        self.cards.push(card)
     }
 
     fn check_out(&mut self, party: PartyNo, room: RoomNo)

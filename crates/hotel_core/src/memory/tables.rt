@@ -8,6 +8,7 @@ ghost use Rattle.hotel_core.specs.Books.Lookups.{room_at, codes_in, code_place, 
 
 use crate::books::rows::{CodeRow, NextNumbers, RoomRow};
 use crate::kind_rooms::KindRooms;
+use crate::memory::card_table::CardTable;
 use crate::memory::code_table::CodeTable;
 use crate::memory::inside_table::InsideTable;
 use crate::memory::note_table::NoteTable;
@@ -27,7 +28,7 @@ pub(crate) struct Tables {
     pub(crate) rooms: BTreeMap<RoomNo, RoomRow>,
     pub(crate) codes: CodeTable,
     pub(crate) stays: StayTable,
-    pub(crate) cards: BTreeMap<CardNo, Card>,
+    pub(crate) cards: CardTable,
     pub(crate) inside: InsideTable,
     pub(crate) notes: NoteTable,
 }
@@ -39,7 +40,7 @@ impl Model for Tables {
 
     ghost Value = { Rows };
 
-    ghost view = { λ t. record { day = t.day; kinds = keys_of t.kinds; rooms = t.rooms.entries; codes = t.codes; stays = t.stays; cards = t.cards.entries; inside = t.inside; notes = t.notes } };
+    ghost view = { λ t. record { day = t.day; kinds = keys_of t.kinds; rooms = t.rooms.entries; codes = t.codes; stays = t.stays; cards = t.cards; inside = t.inside; notes = t.notes } };
 
     ghost invariant = { λ t. TablesAgree t.kinds t.rooms.entries t.codes };
 }
@@ -65,7 +66,7 @@ impl Tables {
             rooms: BTreeMap::new(alloc),
             codes: CodeTable::empty(alloc),
             stays: StayTable::empty(alloc),
-            cards: BTreeMap::new(alloc),
+            cards: CardTable::empty(alloc),
             inside: InsideTable::empty(alloc),
             notes: NoteTable::empty(alloc),
         }
@@ -141,7 +142,7 @@ impl Tables {
     pub(crate) fn card(&self, number: CardNo) -> Option<Card>
         ensures { result ≡ card_at self.now number }
     {
-        self.cards.get(&number).copied()
+        self.cards.get(number)
     }
 
     /// The numbers of the cards inside a room, in order.

@@ -27,7 +27,7 @@ returns-in_default-change-clause-err c =
     let key : ℕ × ℕ = (c.args.note.now.room, c.args.note.now.count) in
     let own : (c.room-room.result, c.count-count.result) ≡ key = (λ i. (c.room-room.ensures i, c.count-count.ensures i)) in
     let absent = ap (λ rows. note_at rows key.0 key.1) c.self.view_is ∙ c.requires in
-    let before : List ((ℕ × ℕ) × Note) → Rows = λ notes. record { day = t.day; kinds = keys_of t.kinds; rooms = t.rooms.entries; codes = t.codes; stays = t.stays; cards = t.cards.entries; inside = c.change.new.self; notes = notes } in
+    let before : List ((ℕ × ℕ) × Note) → Rows = λ notes. record { day = t.day; kinds = keys_of t.kinds; rooms = t.rooms.entries; codes = t.codes; stays = t.stays; cards = t.cards; inside = c.change.new.self; notes = notes } in
     ap before (c.remove.ensures ∙ ap (λ k. remove_entry (is_at (pair_cmp k)) c.insert.new.self) own ∙ ap (remove_entry (is_at (pair_cmp key))) c.in-Ok.ensures.ok ∙ taken_back pair_cmp pair_total key c.args.note.now t.notes absent)
-    ∙ ap (λ inside. let rows : Rows = record { day = t.day; kinds = keys_of t.kinds; rooms = t.rooms.entries; codes = t.codes; stays = t.stays; cards = t.cards.entries; inside = inside; notes = t.notes } in rows) c.in_default-change.ensures.err
+    ∙ ap (λ inside. let rows : Rows = record { day = t.day; kinds = keys_of t.kinds; rooms = t.rooms.entries; codes = t.codes; stays = t.stays; cards = t.cards; inside = inside; notes = t.notes } in rows) c.in_default-change.ensures.err
     ∙ c.self.view_is

@@ -43,9 +43,9 @@ returns-in_default-insert-clause-err c =
     let absent = ap (λ rows. room_at rows c.args.room) c.self.view_is ∙ c.requires.new_room in
     let row : RoomRow = record { room = c.args.room; kind = c.args.kind; lock_place = 0; codes = 1; secured = false; party = None; notes = 0 } in
     let t = c.self.inside in
-    let before : List (ℕ × RoomRow) → Rows = λ rooms. record { day = t.day; kinds = keys_of t.kinds; rooms = rooms; codes = c.insert-2.new.self; stays = t.stays; cards = t.cards.entries; inside = t.inside; notes = t.notes } in
+    let before : List (ℕ × RoomRow) → Rows = λ rooms. record { day = t.day; kinds = keys_of t.kinds; rooms = rooms; codes = c.insert-2.new.self; stays = t.stays; cards = t.cards; inside = t.inside; notes = t.notes } in
     ap before (c.remove.ensures.entries ∙ ap (remove_entry (is_at (nat_cmp c.args.room))) c.in-Ok.ensures.entries ∙ taken_back nat_cmp nat_cmp_total c.args.room row t.rooms.entries absent)
-    ∙ ap (λ codes. let rows : Rows = record { day = t.day; kinds = keys_of t.kinds; rooms = t.rooms.entries; codes = codes; stays = t.stays; cards = t.cards.entries; inside = t.inside; notes = t.notes } in rows) c.in_default-insert.ensures.err
+    ∙ ap (λ codes. let rows : Rows = record { day = t.day; kinds = keys_of t.kinds; rooms = t.rooms.entries; codes = codes; stays = t.stays; cards = t.cards; inside = t.inside; notes = t.notes } in rows) c.in_default-insert.ensures.err
     ∙ c.self.view_is
 
 pub invariant_of-self-in_default-insert : goal.invariant_of-self-in_default-insert

@@ -26,22 +26,22 @@ remove-requires-clause-alone c =
     ∙ ap (λ es. first_code_at es c.args.room c.codes_issued-place.result) (taken_back nat_cmp nat_cmp_total c.args.card.now.link.new_code (record { room = c.args.room; place = c.codes_issued-place.result }) c.self.inside.codes absent)
     ∙ c.self.invariant.places c.args.room c.codes_issued-place.result (omega (arith, c.codes_issued-place.ensures))
 
-pub invariant_of-self-in_default-insert : goal.invariant_of-self-in_default-insert
-invariant_of-self-in_default-insert c =
+pub invariant_of-self-in_default-push : goal.invariant_of-self-in_default-push
+invariant_of-self-in_default-push c =
     let absent = ap (λ rows. code_place rows c.args.card.now.link.new_code) c.self.view_is ∙ c.requires.new_code in
     subst (λ codes. TablesAgree c.self.inside.kinds c.self.inside.rooms.entries codes)
     (sym (c.remove.ensures ∙ ap (remove_entry (is_at (nat_cmp c.args.card.now.link.new_code))) c.in-Ok.ensures.ok
     ∙ taken_back nat_cmp nat_cmp_total c.args.card.now.link.new_code (record { room = c.args.room; place = c.codes_issued-place.result }) c.self.inside.codes absent))
     c.self.invariant
 
-pub returns-in_default-insert-clause-err : goal.returns-in_default-insert-clause-err
-returns-in_default-insert-clause-err c =
+pub returns-in_default-push-clause-err : goal.returns-in_default-push-clause-err
+returns-in_default-push-clause-err c =
     let absent = ap (λ rows. code_place rows c.args.card.now.link.new_code) c.self.view_is ∙ c.requires.new_code in
     let t = c.self.inside in
-    let before : List (ℕ × CodeRow) → Rows = λ codes. record { day = t.day; kinds = keys_of t.kinds; rooms = t.rooms.entries; codes = codes; stays = t.stays; cards = c.insert-2.new.self.entries; inside = t.inside; notes = t.notes } in
+    let before : List (ℕ × CodeRow) → Rows = λ codes. record { day = t.day; kinds = keys_of t.kinds; rooms = t.rooms.entries; codes = codes; stays = t.stays; cards = c.push.new.self; inside = t.inside; notes = t.notes } in
     ap before (c.remove.ensures ∙ ap (remove_entry (is_at (nat_cmp c.args.card.now.link.new_code))) c.in-Ok.ensures.ok
     ∙ taken_back nat_cmp nat_cmp_total c.args.card.now.link.new_code (record { room = c.args.room; place = c.codes_issued-place.result }) c.self.inside.codes absent)
-    ∙ ap (λ cards. let rows : Rows = record { day = t.day; kinds = keys_of t.kinds; rooms = t.rooms.entries; codes = t.codes; stays = t.stays; cards = cards; inside = t.inside; notes = t.notes } in rows) c.in_default-insert.ensures.err
+    ∙ ap (λ cards. let rows : Rows = record { day = t.day; kinds = keys_of t.kinds; rooms = t.rooms.entries; codes = t.codes; stays = t.stays; cards = cards; inside = t.inside; notes = t.notes } in rows) c.in_default-push.ensures.err
     ∙ c.self.view_is
 
 pub issue_at-requires : goal.issue_at-requires

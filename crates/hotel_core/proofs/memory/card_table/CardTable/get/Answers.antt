@@ -1,0 +1,21 @@
+use Rattle.std.proofs.Common.{◌≡◌, ◌-◌, ◌≤◌, ◌<◌, Some, length, ap, sym, ◌∙◌, arith}
+use Rattle.std.specs.List.{slice_get}
+use Rattle.std.proofs.lemmas.Option.{slice_get_past, slice_get-get_or}
+use Rattle.hotel_core.specs.Model.Rows.{at_number}
+use Rattle.hotel_core.proofs.OfTables.RowsByPlace.{at_place}
+use Rattle.hotel_core.proofs.memory.card_table.CardTable.get.Goals as goal
+
+pub returns-then-place-len : goal.returns-then-place-len
+returns-then-place-len c =
+    let cards = c.self.inside.cards.items in
+    let place = ap (λ n. n - 1) c.value.ensures.same in
+    let past : length cards ≤ c.value.result - 1 = omega (arith, c.len.ensures, c.if-place-len.true) in
+    sym (slice_get_past cards (c.value.result - 1) past) ∙ ap (slice_get cards) place ∙ sym (at_place 1 cards c.args.number (omega (arith, c.value.ensures))) ∙ ap (λ es. at_number es c.args.number) c.self.view_is
+
+pub returns : goal.returns
+returns c =
+    let cards = c.self.inside.cards.items in
+    let place = ap (λ n. n - 1) c.value.ensures.same in
+    let within : c.value.result - 1 < length cards = omega (arith, c.len.ensures, c.if-place-len.false) in
+    ap Some c.index.ensures ∙ sym (slice_get-get_or cards (c.value.result - 1) c.index.result.now within) ∙ ap (slice_get cards) place
+    ∙ sym (at_place 1 cards c.args.number (omega (arith, c.value.ensures))) ∙ ap (λ es. at_number es c.args.number) c.self.view_is
