@@ -6,6 +6,7 @@ use keycard_rules::{
     LookFault, Memory, RecodeFault, RoomNo, Turned, draw_fresh, turn,
 };
 use rand_core::Rng;
+use std::alloc::Global;
 use std::process::Abort;
 use std::test::Fail;
 
@@ -25,43 +26,38 @@ fn source<A: Abort>(rt: &A, words: Vec<u64>) -> ListedWords {
     ListedWords::new(words).expect(rt, "a list that isn't empty")
 }
 
+const NO_CODES: &[&[u8]] = &[b"", b"1234567890123", b"xyz", b" ab", b"a b", b"0x1", b"-1"];
+
+const NO_NUMBERS: &[&[u8]] = &[b"", b"0", b"10000000", b"0000000001", b"a", b"+1", b" 1"];
+
+/// Codes are read and printed.
+fn codes_read<A: Abort>(rt: &A) {
+    let read = Code::read(b"ABC").expect(rt, "hexadecimal digits");
+    assert_eq!(rt; read.print(), *b"000000000abc");
+    assert!(rt; Code::read(b"aBc") == Some(read));
+    assert!(rt; Code::read(b"ffffffffffff") == Code::new(281_474_976_710_655));
+    assert!(rt; Code::new(281_474_976_710_656).is_none());
+}
+
+/// Numbers are read and counted on.
+fn numbers_read<A: Abort>(rt: &A) {
+    let greatest = CardNo::new(9_999_999).expect(rt, "a number in range");
+    assert!(rt; greatest.next().is_none() && CardNo::read(b"009999999") == Some(greatest));
+    let first = RoomNo::new(1).expect(rt, "a number in range");
+    assert!(rt; first.next() == RoomNo::new(2) && first.value() == 1);
+    assert!(rt; RoomNo::new(10_000).is_none());
+}
+
 #[test]
 fn value_readers(rt: HostRuntime) {
-    let read = Code::read(b"ABC").expect(&rt, "hexadecimal digits");
-    assert_eq!(rt; read.print(), *b"000000000abc");
-    assert_eq!(rt; Code::read(b"aBc"), Some(read));
-    for text in [
-        b"".as_slice(),
-        b"1234567890123",
-        b"xyz",
-        b" ab",
-        b"a b",
-        b"0x1",
-        b"-1",
-    ] {
-        assert_eq!(rt; Code::read(text), None, "{text:?}");
+    codes_read(&rt);
+    numbers_read(&rt);
+    for text in NO_CODES {
+        assert!(rt; Code::read(text).is_none(), "{text:?}");
     }
-    assert_eq!(rt; Code::read(b"ffffffffffff"), Code::new(281_474_976_710_655));
-    assert_eq!(rt; Code::new(281_474_976_710_656), None);
-
-    let greatest = CardNo::new(9_999_999).expect(&rt, "a number in range");
-    assert_eq!(rt; greatest.next(), None);
-    assert_eq!(rt; CardNo::read(b"009999999"), Some(greatest));
-    for text in [
-        b"".as_slice(),
-        b"0",
-        b"10000000",
-        b"0000000001",
-        b"a",
-        b"+1",
-        b" 1",
-    ] {
-        assert_eq!(rt; CardNo::read(text), None, "{text:?}");
+    for text in NO_NUMBERS {
+        assert!(rt; CardNo::read(text).is_none(), "{text:?}");
     }
-    assert_eq!(rt; RoomNo::new(10_000), None);
-    let first = RoomNo::new(1).expect(&rt, "a number in range");
-    assert_eq!(rt; first.next(), RoomNo::new(2));
-    assert_eq!(rt; first.value(), 1);
 }
 
 #[test]
@@ -89,49 +85,59 @@ fn lock_rule(rt: HostRuntime) {
     assert_eq!(rt; turn(code(&rt, 0xa2), &link), None);
 }
 
-#[test]
-fn left_behind_recoded(rt: HostRuntime) -> Result<(), Fail> {
-    let first = code(&rt, 0xa0);
-    let third = code(&rt, 0xa2);
-    let mut chain = Chain::install(rt.alloc(), first)?;
-    issued(&rt, &mut chain, 0xa1);
-    let newest = issued(&rt, &mut chain, 0xa2);
-    assert_eq!(rt; chain.enter(&newest), None);
-    assert_eq!(rt; chain.held(), first);
-    assert_eq!(rt; chain.current(), third);
-    assert_eq!(rt; chain.awaited_len(), 2);
-    assert_eq!(rt; chain.recode(first, third), Ok(()));
+/// The lock holds this code, the last one issued is that, and so many are awaited.
+fn stands<A: Abort>(rt: &A, chain: &Chain, held: Code, current: Code, awaited: usize) {
+    assert!(rt; chain.held() == held && chain.current() == current);
+    assert_eq!(rt; chain.awaited_len(), awaited);
+}
+
+/// The newest card stays outside until the lock is recoded.
+fn is_recoded<A: Abort>(rt: &A, chain: &mut Chain, newest: &Link) {
+    let first = code(rt, 0xa0);
+    let third = code(rt, 0xa2);
+    assert!(rt; chain.enter(newest).is_none());
+    stands(rt, chain, first, third, 2);
+    assert!(rt; chain.recode(first, third).is_ok());
     let kept = Turned {
         before: third,
         after: third,
     };
-    assert_eq!(rt; chain.enter(&newest), Some(kept));
-    assert_eq!(rt; chain.held(), third);
-    assert_eq!(rt; chain.awaited_len(), 0);
-    assert!(rt; chain.holds(code(&rt, 0xa1)));
+    assert_eq!(rt; chain.enter(newest), Some(kept));
+    stands(rt, chain, third, third, 0);
+    assert!(rt; chain.holds(code(rt, 0xa1)));
+}
+
+#[test]
+fn left_behind_recoded(rt: HostRuntime) -> Result<(), Fail> {
+    let mut chain = Chain::install(rt.alloc(), code(&rt, 0xa0))?;
+    issued(&rt, &mut chain, 0xa1);
+    let newest = issued(&rt, &mut chain, 0xa2);
+    is_recoded(&rt, &mut chain, &newest);
     Ok(())
+}
+
+/// The lock holds the second code: it is recoded to no code but the third.
+fn is_refused<A: Abort>(rt: &A, chain: &mut Chain) {
+    let second = code(rt, 0xa1);
+    let third = code(rt, 0xa2);
+    for to in [0xa0, 0xb0, 0xa1] {
+        let recoded = chain.recode(second, code(rt, to));
+        assert_eq!(rt; recoded, Err(RecodeFault::NotAwaited), "to {to:x}");
+    }
+    let differs = chain.recode(code(rt, 0xa0), third);
+    assert_eq!(rt; differs, Err(RecodeFault::HeldDiffers));
+    stands(rt, chain, second, third, 1);
+    assert!(rt; chain.recode(second, third).is_ok());
+    stands(rt, chain, third, third, 0);
 }
 
 #[test]
 fn recoding_refused(rt: HostRuntime) -> Result<(), Fail> {
-    let first = code(&rt, 0xa0);
-    let second = code(&rt, 0xa1);
-    let third = code(&rt, 0xa2);
-    let mut chain = Chain::install(rt.alloc(), first)?;
+    let mut chain = Chain::install(rt.alloc(), code(&rt, 0xa0))?;
     let link = issued(&rt, &mut chain, 0xa1);
     issued(&rt, &mut chain, 0xa2);
     assert!(rt; chain.enter(&link).is_some());
-    for to in [first, code(&rt, 0xb0), second] {
-        assert_eq!(rt;
-            chain.recode(second, to),
-            Err(RecodeFault::NotAwaited),
-            "to {to:?}"
-        );
-    }
-    assert_eq!(rt; chain.recode(first, third), Err(RecodeFault::HeldDiffers));
-    assert_eq!(rt; chain.held(), second);
-    assert_eq!(rt; chain.recode(second, third), Ok(()));
-    assert_eq!(rt; chain.held(), third);
+    is_refused(&rt, &mut chain);
     Ok(())
 }
 
@@ -145,25 +151,29 @@ fn code_drawn_twice(rt: HostRuntime) -> Result<(), Fail> {
     Ok(())
 }
 
-#[test]
-fn no_fresh_code(rt: HostRuntime) -> Result<(), Fail> {
-    let mut list = Vec::new(rt.alloc());
+/// The word of code a0 for two draws, and then that of b0.
+fn words_of_two_draws(alloc: Global) -> Result<Vec<u64>, Fail> {
+    let mut list = Vec::new(alloc);
     for _ in 0..128u32 {
         list.push(0xa0_0000)?;
     }
     list.push(0xb0_0000)?;
-    let mut words = source(&rt, list);
+    Ok(list)
+}
+
+/// Two draws have examined 64 words each, and the third one finds the code b0.
+fn draws_at_last<A: Abort>(rt: &A, words: &mut ListedWords, taken: &mut ListedCodes) {
+    for _ in 0..2u32 {
+        assert_eq!(rt; draw_fresh(words, taken), Err(DrawFault::NoFreshCode));
+    }
+    assert_eq!(rt; draw_fresh(words, taken), Ok(code(rt, 0xb0)));
+}
+
+#[test]
+fn no_fresh_code(rt: HostRuntime) -> Result<(), Fail> {
+    let mut words = source(&rt, words_of_two_draws(rt.alloc())?);
     let mut taken = ListedCodes::new([code(&rt, 0xa0)].to_vec(rt.alloc())?);
-    assert_eq!(rt;
-        draw_fresh(&mut words, &mut taken),
-        Err(DrawFault::NoFreshCode)
-    );
-    assert_eq!(rt;
-        draw_fresh(&mut words, &mut taken),
-        Err(DrawFault::NoFreshCode)
-    );
-    // The two draws have examined 64 words each.
-    assert_eq!(rt; draw_fresh(&mut words, &mut taken), Ok(code(&rt, 0xb0)));
+    draws_at_last(&rt, &mut words, &mut taken);
     Ok(())
 }
 
@@ -223,6 +233,12 @@ fn failed_look_ups(rt: HostRuntime) -> Result<(), Fail> {
     Ok(())
 }
 
+/// The note has these values.
+fn is_note<A: Abort>(rt: &A, note: &LockNote, room: RoomNo, count: Count, act: Act) {
+    assert!(rt; note.room() == room && note.count() == count && note.act() == act);
+    assert!(rt; note.day() == 36_524 && note.second() == 86_399);
+}
+
 #[test]
 fn notes_of_a_lock(rt: HostRuntime) {
     let room = RoomNo::new(101).expect(&rt, "a number in range");
@@ -231,17 +247,11 @@ fn notes_of_a_lock(rt: HostRuntime) {
         from: code(&rt, 0xa0),
         to: code(&rt, 0xa1),
     };
-    assert_eq!(rt; LockNote::new(room, count, recoded, 36_525, 0), None);
-    assert_eq!(rt; LockNote::new(room, count, recoded, 0, 86_400), None);
+    assert!(rt; LockNote::new(room, count, recoded, 36_525, 0).is_none());
+    assert!(rt; LockNote::new(room, count, recoded, 0, 86_400).is_none());
     let note = LockNote::new(room, count, recoded, 36_524, 86_399).expect(&rt, "the last second");
-    assert_eq!(rt; note.room(), room);
-    assert_eq!(rt; note.count(), count);
-    assert_eq!(rt; note.act(), recoded);
-    assert_eq!(rt; (note.day(), note.second()), (36_524, 86_399));
-    assert_ne!(rt;
-        LockNote::new(room, count, recoded, 36_524, 86_398),
-        Some(note)
-    );
+    is_note(&rt, &note, room, count, recoded);
+    assert!(rt; LockNote::new(room, count, recoded, 36_524, 86_398) != Some(note));
 }
 
 #[test]
@@ -256,6 +266,26 @@ fn listed_words(rt: HostRuntime) -> Result<(), Fail> {
     Ok(())
 }
 
+/// Issues a code that isn't there; where memory is refused the chain stays, and it is issued the next time.
+fn issues_at_last<A: Abort>(rt: &A, chain: &mut Chain, next: Code) -> Result<(), Fail> {
+    assert!(rt; !chain.holds(next));
+    if chain.issue(next) == Err(Memory) {
+        assert!(rt; !chain.holds(next), "a refusal changes nothing");
+        chain.issue(next)?;
+    }
+    assert!(rt; chain.current() == next && chain.held() == code(rt, 0));
+    Ok(())
+}
+
+/// A chain of 40 codes.
+fn issues_all<A: Abort>(rt: &A, chain: &mut Chain) -> Result<(), Fail> {
+    for value in 1..40u64 {
+        issues_at_last(rt, chain, code(rt, value))?;
+    }
+    assert_eq!(rt; chain.awaited_len(), 39);
+    Ok(())
+}
+
 /// Where a growth is refused, the fault is want of memory, and the same call finds memory the next time.
 #[test]
 fn refused_growth(rt: HostRuntime) -> Result<(), Fail> {
@@ -263,16 +293,5 @@ fn refused_growth(rt: HostRuntime) -> Result<(), Fail> {
         Ok(chain) => chain,
         Err(Memory) => Chain::install(rt.alloc(), code(&rt, 0))?,
     };
-    for value in 1..40u64 {
-        let next = code(&rt, value);
-        assert!(rt; !chain.holds(next));
-        if chain.issue(next) == Err(Memory) {
-            assert!(rt; !chain.holds(next), "a refusal changes nothing");
-            assert_eq!(rt; chain.issue(next)?.new_code, next);
-        }
-        assert_eq!(rt; chain.current(), next);
-        assert_eq!(rt; chain.held(), code(&rt, 0));
-    }
-    assert_eq!(rt; chain.awaited_len(), 39);
-    Ok(())
+    issues_all(&rt, &mut chain)
 }

@@ -31,7 +31,7 @@ const FIRST_ENTRY: &[u8] = b"room,count,kind,card,old,new,at
 101,1,in,1,0000000000a0,0000000000a1,2031-05-01T15:00:00
 ";
 
-const EACH_CAUSE: &[u8] = b"room,count,kind,card,old,new,at
+pub(crate) const EACH_CAUSE: &[u8] = b"room,count,kind,card,old,new,at
 0,3,in,1,0000000000a0,0000000000a1,2031-05-01T15:00:00
 101,10000000,in,1,0000000000a0,0000000000a1,2031-05-01T15:00:00
 101,3,IN,1,0000000000a0,0000000000a1,2031-05-01T15:00:00

@@ -24,21 +24,41 @@ impl Sink<ChainRow> for Counted {
 }
 
 /// The second call fails, and no other one.
-fn second_fails(rt: &(impl Abort + AllocGlobal), cause: LookFault, other: LookFault) {
+fn second_fails<A: Abort>(rt: &A, books: &mut StoppingBooks, cause: LookFault, other: LookFault) {
+    assert!(rt; books.day() == Ok(None));
+    assert!(rt; books.day() == Err(cause));
+    assert!(rt; books.day() == Ok(None));
+    assert!(rt; books.calls() == 3);
+    assert!(rt; books.failures(cause) == 1 && books.failures(other) == 0);
+}
+
+/// Empty books of which the second call fails.
+fn fails_second(rt: &(impl Abort + AllocGlobal), cause: LookFault, other: LookFault) {
     let mut books = StoppingBooks::new(ListBooks::empty(rt.alloc()), 2, cause);
-    assert_eq!(rt; books.day(), Ok(None));
-    assert_eq!(rt; books.day(), Err(cause));
-    assert_eq!(rt; books.day(), Ok(None));
-    assert_eq!(rt;
-        (books.calls(), books.failures(cause), books.failures(other)),
-        (3, 1, 0)
-    );
+    second_fails(rt, &mut books, cause, other);
 }
 
 #[test]
 fn one_call_fails(rt: HostRuntime) {
-    second_fails(&rt, LookFault::Memory, LookFault::Store);
-    second_fails(&rt, LookFault::Store, LookFault::Memory);
+    fails_second(&rt, LookFault::Memory, LookFault::Store);
+    fails_second(&rt, LookFault::Store, LookFault::Memory);
+}
+
+/// A walk over the two codes of the room ends so, after so many rows.
+fn walk_ends<A: Abort>(
+    rt: &A,
+    books: &mut StoppingBooks,
+    end: Result<(), WalkFault>,
+    rows: u32,
+) -> Result<(), Fail> {
+    let room = room(101)?;
+    let mut counted = Counted { rows: 0 };
+    let ended = books.walk_chain(room, &mut counted);
+    assert_eq!(rt; ended, end);
+    assert_eq!(rt; counted.rows, rows);
+    let failed = if end.is_err() { 1 } else { 0 };
+    assert_eq!(rt; books.failures(LookFault::Store), failed);
+    Ok(())
 }
 
 /// A walk over the two codes of the room, of which this call fails: so it ends, after so many rows.
@@ -48,18 +68,9 @@ fn walks(
     end: Result<(), WalkFault>,
     rows: u32,
 ) -> Result<(), Fail> {
-    let room = room(101)?;
-    let mut books = StoppingBooks::new(
-        Desk::of_one_guest(rt.alloc())?.books,
-        failing,
-        LookFault::Store,
-    );
-    let mut counted = Counted { rows: 0 };
-    assert_eq!(rt; books.walk_chain(room, &mut counted), end, "call {failing}");
-    assert_eq!(rt; counted.rows, rows, "call {failing}");
-    let failed = if end.is_err() { 1 } else { 0 };
-    assert_eq!(rt; books.failures(LookFault::Store), failed, "call {failing}");
-    Ok(())
+    let books = Desk::of_one_guest(rt.alloc())?.books;
+    let mut books = StoppingBooks::new(books, failing, LookFault::Store);
+    walk_ends(rt, &mut books, end, rows)
 }
 
 /// The walk fails before its first row, after it, after the last one, or not at all.
@@ -71,12 +82,18 @@ fn walks_fail(rt: HostRuntime) -> Result<(), Fail> {
     walks(&rt, 4, Ok(()), 2)
 }
 
+/// The second code of the room is not found, and then it is.
+fn code_is_found_at_last<A: Abort>(rt: &A, books: &mut StoppingBooks) -> Result<(), Fail> {
+    let room = room(101)?;
+    assert!(rt; books.code_at(room, 1).is_err());
+    assert_eq!(rt; books.code_at(room, 1), Ok(Code::new(0xa1)));
+    Ok(())
+}
+
 /// After the call that failed the books are as they were, and the next calls are carried out.
 #[test]
 fn rows_stay(rt: HostRuntime) -> Result<(), Fail> {
-    let room = room(101)?;
-    let mut books = StoppingBooks::new(Desk::of_one_guest(rt.alloc())?.books, 1, LookFault::Memory);
-    assert!(&rt; books.code_at(room, 1).is_err());
-    assert_eq!(&rt; books.code_at(room, 1), Ok(Code::new(0xa1)));
-    Ok(())
+    let books = Desk::of_one_guest(rt.alloc())?.books;
+    let mut books = StoppingBooks::new(books, 1, LookFault::Memory);
+    code_is_found_at_last(&rt, &mut books)
 }
