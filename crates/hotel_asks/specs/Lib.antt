@@ -1,4 +1,5 @@
 pub mod Values
 pub mod Verbs
 pub mod Asks
+pub mod Names
 pub mod Listings

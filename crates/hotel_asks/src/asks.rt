@@ -1,7 +1,10 @@
 //! What a verb and the texts of its values ask for.
 
-ghost use Rattle.std.specs.Prelude.{◌≡◌, map};
+ghost use Rattle.std.specs.Prelude.{◌≡◌, Err, length, map};
 ghost use Rattle.hotel_asks.specs.Values.{IsReading};
+ghost use Rattle.hotel_asks.specs.Names.{names_of};
+ghost use Rattle.hotel_asks.specs.declared.values.AskFault.TheVariants.{Values};
+ghost use Rattle.hotel_asks.specs.declared.values.ValueFault.TheVariants.{Number};
 ghost use Rattle.hotel_asks.specs.Asks.{ask_copies, of_none, of_one, of_two, of_four, of_five, of_six, ask_of};
 
 use crate::lists::ListAsk;
@@ -156,9 +159,7 @@ fn read_six(
     }
 }
 
-/// Reads what the verb and the texts of its values ask for, the values from left to right. Each value
-/// is one text, also the guest. `Memory` where there was none to copy the guest's name.
-pub fn read_ask(alloc: Global, verb: Verb, values: &[&[u8]]) -> Result<Ask, AskFault>
+fn read_values(alloc: Global, verb: Verb, values: &[&[u8]]) -> Result<Ask, AskFault>
     ensures { IsReading ask_copies (ask_of verb (map (λ v. v.now) values.now)) result }
 {
     match values {
@@ -173,4 +174,13 @@ pub fn read_ask(alloc: Global, verb: Verb, values: &[&[u8]]) -> Result<Ask, AskF
         }
         _ => Err(AskFault::Values(ValueFault::Number)),
     }
+}
+
+/// Reads what the verb and the texts of its values ask for, the values from left to right. Each value
+/// is one text, also the guest. `Memory` where there was none to copy the guest's name.
+pub fn read_ask(alloc: Global, verb: Verb, values: &[&[u8]]) -> Result<Ask, AskFault>
+    ensures reading { IsReading ask_copies (ask_of verb (map (λ v. v.now) values.now)) result }
+    ensures number { result ≡ Err (Values Number) → length values.now ≡ length (names_of verb) → ⊥ }
+{
+    read_values(alloc, verb, values)
 }

@@ -1,6 +1,7 @@
 //! The values of verbs: each read from a text, or refused by its name.
 
 ghost use Rattle.std.specs.Prelude.{◌≡◌, true};
+ghost use Rattle.hotel_asks.specs.Names.{name_text};
 ghost use Rattle.hotel_asks.specs.Values.{day_in, code_in, kind_in, nights_in, guest_in, room_in, party_in, card_in, count_in, moment_in, IsReading};
 ghost use Rattle.hotel_asks.specs.declared.values.AskFault.TheVariants.{Values};
 
@@ -8,7 +9,7 @@ use hotel_nights::{Day, Guest, GuestFault, KindCode, Moment, Nights};
 use keycard_rules::{CardNo, Code, Count, PartyNo, RoomNo};
 use std::alloc::Global;
 
-/// The names of the values.
+/// The names of the values of verbs, and of those that the program takes beside them.
 #[derive(Clone, Copy, Debug, PartialEq, Eq)]
 pub enum ValueName {
     Day,
@@ -25,6 +26,34 @@ pub enum ValueName {
     From,
     To,
     Moment,
+    File,
+    Port,
+}
+
+impl ValueName {
+    /// The name as users read it: `ROOM`.
+    pub fn text<'a>(self) -> &'a str
+        ensures { result.now ≡ name_text self }
+    {
+        match self {
+            ValueName::Day => "DAY",
+            ValueName::Kind => "KIND",
+            ValueName::Arrive => "ARRIVE",
+            ValueName::Nights => "NIGHTS",
+            ValueName::Guest => "GUEST",
+            ValueName::Room => "ROOM",
+            ValueName::Party => "PARTY",
+            ValueName::Card => "CARD",
+            ValueName::Count => "COUNT",
+            ValueName::Old => "OLD",
+            ValueName::New => "NEW",
+            ValueName::From => "FROM",
+            ValueName::To => "TO",
+            ValueName::Moment => "MOMENT",
+            ValueName::File => "FILE",
+            ValueName::Port => "PORT",
+        }
+    }
 }
 
 /// Why the texts are no values of a verb.

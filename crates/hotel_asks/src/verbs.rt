@@ -1,7 +1,10 @@
 //! The verbs of commands and lists.
 
 ghost use Rattle.std.specs.Prelude.{◌≡◌};
+ghost use Rattle.hotel_asks.specs.Names.{names_of, word_of};
 ghost use Rattle.hotel_asks.specs.Verbs.{read_verb};
+
+use crate::values::ValueName;
 
 /// What is to be done, or which list is wanted; the values follow it.
 #[derive(Clone, Copy, Debug, PartialEq, Eq)]
@@ -24,6 +27,70 @@ pub enum Verb {
     ChainOf,
     LeftBehind,
     AuditOf,
+}
+
+impl Verb {
+    /// The word that it is written as.
+    pub fn word<'a>(self) -> &'a str
+        ensures { result.now ≡ word_of self }
+    {
+        match self {
+            Verb::Begin => "begin",
+            Verb::AddKind => "add-kind",
+            Verb::AddRoom => "add-room",
+            Verb::Reserve => "reserve",
+            Verb::Cancel => "cancel",
+            Verb::CheckIn => "check-in",
+            Verb::Spare => "spare",
+            Verb::Transfer => "transfer",
+            Verb::CheckOut => "check-out",
+            Verb::NextDay => "next-day",
+            Verb::Entered => "entered",
+            Verb::Left => "left",
+            Verb::Recoded => "recoded",
+            Verb::Arrivals => "arrivals",
+            Verb::InHouse => "in-house",
+            Verb::ChainOf => "chain",
+            Verb::LeftBehind => "left-behind",
+            Verb::AuditOf => "audit-of",
+        }
+    }
+
+    /// The names of its values, in their order.
+    pub fn values<'a>(self) -> &'a [ValueName]
+        ensures { result.now ≡ names_of self }
+    {
+        match self {
+            Verb::NextDay | Verb::InHouse | Verb::LeftBehind => &[],
+            Verb::Begin | Verb::Arrivals => &[ValueName::Day],
+            Verb::AddKind => &[ValueName::Kind],
+            Verb::Cancel | Verb::Spare | Verb::CheckOut => &[ValueName::Party],
+            Verb::ChainOf | Verb::AuditOf => &[ValueName::Room],
+            Verb::AddRoom => &[ValueName::Room, ValueName::Kind],
+            Verb::CheckIn | Verb::Transfer => &[ValueName::Party, ValueName::Room],
+            Verb::Reserve => &[
+                ValueName::Kind,
+                ValueName::Arrive,
+                ValueName::Nights,
+                ValueName::Guest,
+            ],
+            Verb::Recoded => &[
+                ValueName::Room,
+                ValueName::Count,
+                ValueName::From,
+                ValueName::To,
+                ValueName::Moment,
+            ],
+            Verb::Entered | Verb::Left => &[
+                ValueName::Room,
+                ValueName::Count,
+                ValueName::Card,
+                ValueName::Old,
+                ValueName::New,
+                ValueName::Moment,
+            ],
+        }
+    }
 }
 
 /// The verb that the word is, as `check-in`. None where it is another word.

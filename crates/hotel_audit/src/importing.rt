@@ -118,10 +118,3 @@ pub fn import<B: Books>(
         Err(fault) => Err(ImportFault::File(fault)),
     }
 }
-
-#[cfg(test)]
-mod desks;
-#[cfg(test)]
-mod stops;
-#[cfg(test)]
-mod tests;

@@ -18,6 +18,3 @@ pub use laws::{
 };
 pub use line::{Cause, Line};
 pub use texts::{AnswerText, answer_text};
-
-#[cfg(test)]
-mod tests;

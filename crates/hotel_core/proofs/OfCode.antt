@@ -1,3 +1,4 @@
+pub mod LaterNotes
 pub mod NoteParts
 pub mod NoteReplies
 pub mod Parts

@@ -43,8 +43,8 @@ pub record TablesAgree (kinds : List (List ℕ × ℕ)) (rooms : List (ℕ × Ro
   pub rooms_known : RoomsKnown kinds rooms
 
 -- The index has what the stays take.
-abbrev pub StandsForAll : List ((List ℕ × ℕ) × ℕ) → List (ℕ × Stay) → Type 0
-StandsForAll counts stays = StandsFor counts (values_of stays)
+abbrev pub StandsForAll : List ((List ℕ × ℕ) × List ℕ) → List (ℕ × Stay) → Type 0
+StandsForAll blocks stays = StandsFor blocks (values_of stays)
 
 -- Each pair's second number is a card's.
 abbrev pub HaveCardNumbers : List (ℕ × ℕ) → Type 0

@@ -7,7 +7,5 @@ mod note_table;
 mod row_changes;
 mod stay_table;
 mod table_changes;
-#[cfg(test)]
-mod table_tests;
 mod table_walks;
 mod tables;

@@ -1,10 +1,11 @@
 //! How many stays take each night, found by kind and night.
-ghost use Rattle.std.specs.Prelude.{◌≡◌, ℕ, ◌+◌, ◌-◌, ◌^◌, ◌<◌, ◌≤◌, List, [], nat_le, OnOk, OnErr};
+ghost use Rattle.std.specs.Prelude.{◌≡◌, ℕ, ◌+◌, ◌-◌, ◌*◌, ◌/◌, ◌^◌, ◌<◌, ◌≤◌, List, [], nat_le, OnOk, OnErr};
 ghost use Rattle.hotel_nights.specs.Block.{one_if};
 ghost use Rattle.hotel_nights.specs.FullNight.{first_day, is_full, takes};
 ghost use Rattle.hotel_nights.specs.declared.stay.Stay.{Stay};
-ghost use Rattle.hotel_core.specs.NightIndex.{counted, is_night, holds, StandsFor};
+ghost use Rattle.hotel_core.specs.NightIndex.{counted, holds, StandsFor};
 
+use crate::night_counts::{less, more};
 use hotel_nights::{Day, KindCode, Stay};
 use keycard_rules::Memory;
 use std::alloc::Global;
@@ -13,19 +14,29 @@ use std::marker::Model;
 
 /// How many booked and in-house stays of each kind take each night.
 ///
-/// It keeps counts alone, and none that is 0, so that books of any form can keep it beside their stays. A night is named by
-/// its day's number.
+/// It keeps counts alone, so that books of any form can keep it beside their stays: of each kind those of 32 nights together, and none
+/// of 32 that no stay takes. A night is named by its day's number.
 #[derive(Drop)]
 pub struct NightIndex {
-    counts: BTreeMap<(KindCode, u16), usize>,
+    blocks: BTreeMap<(KindCode, u16), [usize; 32]>,
 }
 
 impl Model for NightIndex {
     ghost use Rattle.std.specs.Prelude.{ℕ, List};
 
-    ghost Value = { List ((List ℕ × ℕ) × ℕ) };
+    ghost Value = { List ((List ℕ × ℕ) × List ℕ) };
 
-    ghost view = { λ t. t.counts.entries };
+    ghost view = { λ t. t.blocks.entries };
+}
+
+/// The first night that isn't of the block of `from`, or `to` where that comes before it.
+fn end_of_part(from: u16, to: u16) -> u16
+    requires { from < to }
+    ensures later { from < result }
+    ensures within { result ≤ to }
+    ensures one_block { result ≤ from / 32 * 32 + 32 }
+{
+    from + (to - from).min(32 - from % 32)
 }
 
 impl NightIndex {
@@ -34,38 +45,48 @@ impl NightIndex {
         ensures { result ≡ [] }
     {
         NightIndex {
-            counts: BTreeMap::new(alloc),
+            blocks: BTreeMap::new(alloc),
         }
     }
 
-    fn count(&self, kind: &KindCode, night: u16) -> usize
-        ensures { result ≡ counted self.now kind.now night }
-    {
-        self.counts.get(&(*kind, night)).copied().unwrap_or(0)
-    }
-
-    /// One more stay takes the night; a refusal changes nothing.
-    fn count_one(&mut self, kind: &KindCode, night: u16) -> Result<(), Memory>
-        requires { counted self.old kind.now night < 2 ^ 63 }
-        ensures ok { OnOk result ((k : List ℕ) (d : ℕ) → counted self.new k d ≡ counted self.old k d + one_if (is_night kind.now night k d)) }
+    /// One more stay takes each night from `from` on and before `to`, all of one block; a refusal changes nothing.
+    fn count_part(&mut self, kind: &KindCode, from: u16, to: u16) -> Result<(), Memory>
+        requires order { from < to }
+        requires one_block { to ≤ from / 32 * 32 + 32 }
+        requires few { (d : ℕ) → from ≤ d → d < to → counted self.old kind.now d < 2 ^ 63 }
+        ensures ok { OnOk result ((k : List ℕ) (d : ℕ) → counted self.new k d ≡ counted self.old k d + one_if (holds kind.now from to k d)) }
         ensures err { OnErr result ((k : List ℕ) (d : ℕ) → counted self.new k d ≡ counted self.old k d) }
     {
-        let count = self.count(kind, night);
-        let Ok(_) = self.counts.insert((*kind, night), count + 1) else {
+        let block = from / 32;
+        let first = usize::from(from % 32);
+        let after = first + usize::from(to - from);
+        if let Some(counts) = self.blocks.get_mut(&(*kind, block)) {
+            more(counts, first, after);
+            return Ok(());
+        }
+        let mut counts = [0; 32];
+        more(&mut counts, first, after);
+        let Ok(_) = self.blocks.insert((*kind, block), counts) else {
             return Err(Memory);
         };
         Ok(())
     }
 
-    /// One stay less takes the night, where any does.
-    fn uncount_one(&mut self, kind: &KindCode, night: u16)
-        ensures { (k : List ℕ) (d : ℕ) → counted self.new k d ≡ counted self.old k d - one_if (is_night kind.now night k d) }
+    /// One stay less takes each night from `from` on and before `to`, all of one block, where any does.
+    fn uncount_part(&mut self, kind: &KindCode, from: u16, to: u16)
+        requires order { from < to }
+        requires one_block { to ≤ from / 32 * 32 + 32 }
+        ensures { (k : List ℕ) (d : ℕ) → counted self.new k d ≡ counted self.old k d - one_if (holds kind.now from to k d) }
     {
-        let count = self.count(kind, night);
-        if count <= 1 {
-            self.counts.remove(&(*kind, night));
-        } else if let Some(place) = self.counts.get_mut(&(*kind, night)) {
-            *place = count - 1;
+        let block = from / 32;
+        let first = usize::from(from % 32);
+        let after = first + usize::from(to - from);
+        let Some(counts) = self.blocks.get_mut(&(*kind, block)) else {
+            return;
+        };
+        let is_taken = less(counts, first, after);
+        if !is_taken {
+            self.blocks.remove(&(*kind, block));
         }
     }
 
@@ -73,8 +94,11 @@ impl NightIndex {
     fn uncount(&mut self, kind: &KindCode, from: u16, to: u16)
         ensures { (k : List ℕ) (d : ℕ) → counted self.new k d ≡ counted self.old k d - one_if (holds kind.now from to k d) }
     {
-        for night in from..to {
-            self.uncount_one(kind, night);
+        let mut night = from;
+        while night < to {
+            let end = end_of_part(night, to);
+            self.uncount_part(kind, night, end);
+            night = end;
         }
     }
 
@@ -84,11 +108,14 @@ impl NightIndex {
         ensures ok { OnOk result ((k : List ℕ) (d : ℕ) → counted self.new k d ≡ counted self.old k d + one_if (holds kind.now from to k d)) }
         ensures err { OnErr result ((k : List ℕ) (d : ℕ) → counted self.new k d ≡ counted self.old k d) }
     {
-        for night in from..to {
-            let Ok(()) = self.count_one(kind, night) else {
+        let mut night = from;
+        while night < to {
+            let end = end_of_part(night, to);
+            let Ok(()) = self.count_part(kind, night, end) else {
                 self.uncount(kind, from, night);
                 return Err(Memory);
             };
+            night = end;
         }
         Ok(())
     }
@@ -118,21 +145,36 @@ impl NightIndex {
         }
     }
 
+    /// The first night from `from` on and before `to`, all of one block, that so many stays take.
+    fn first_in_part(&self, kind: &KindCode, rooms: u32, from: u16, to: u16) -> Option<u16>
+        requires order { from < to }
+        requires one_block { to ≤ from / 32 * 32 + 32 }
+        ensures { result ≡ first_day (λ d. nat_le rooms (counted self.now kind.now d)) from (to - from) }
+    {
+        let counts = self
+            .blocks
+            .get(&(*kind, from / 32))
+            .copied()
+            .unwrap_or([0; 32]);
+        for night in from..to {
+            if counts[usize::from(night % 32)] >= rooms as usize {
+                return Some(night);
+            }
+        }
+        None
+    }
+
     fn first_full(&self, kind: &KindCode, rooms: u32, arrive: Day, depart: Day) -> Option<Day>
         ensures { result ≡ first_day (λ d. nat_le rooms (counted self.now kind.now d)) arrive (depart - arrive) }
     {
-        let first = arrive.number();
         let last = depart.number();
-        if last <= first {
-            return None;
-        }
-        if rooms == 0 {
-            return Some(arrive);
-        }
-        for (key, count) in self.counts.range((*kind, first)..(*kind, last)) {
-            if *count >= rooms as usize {
-                return Day::new(key.1);
+        let mut first = arrive.number();
+        while first < last {
+            let end = end_of_part(first, last);
+            if let Some(night) = self.first_in_part(kind, rooms, first, end) {
+                return Day::new(night);
             }
+            first = end;
         }
         None
     }

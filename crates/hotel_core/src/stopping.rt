@@ -3,5 +3,3 @@
 mod calls;
 pub mod stopping_books;
 mod stopping_walks;
-#[cfg(test)]
-mod tests;

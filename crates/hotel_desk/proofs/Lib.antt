@@ -8,3 +8,5 @@ pub mod ListRunLemmas
 pub mod AuditRunLemmas
 pub mod ScriptRunLemmas
 pub mod ProgramLemmas
+pub mod CommandLineLemmas
+pub mod PlanLemmas

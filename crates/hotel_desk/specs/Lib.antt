@@ -12,3 +12,5 @@ pub mod Faults
 pub mod ListRuns
 pub mod AuditRuns
 pub mod Scenes
+pub mod CommandLine
+pub mod Plans

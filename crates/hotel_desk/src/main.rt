@@ -3,6 +3,7 @@
 
 mod asks;
 mod audit_runs;
+mod command_line;
 mod faults;
 mod line_answers;
 mod line_values;

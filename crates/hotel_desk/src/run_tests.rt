@@ -112,6 +112,14 @@ fn expected(step: &Step) -> (&'static [u8], &'static [u8], u8) {
     }
 }
 
+/// The step came to what it says.
+fn came_to<A: Abort>(rt: &A, step: &Step, written: &[u8], told: &[u8], status: u8, name: &str) {
+    let (output, fault, wanted) = expected(step);
+    assert_eq!(rt; written, output, "{name}");
+    assert_eq!(rt; told, fault, "{name}");
+    assert_eq!(rt; status, wanted, "{name}");
+}
+
 /// The step comes to what it says.
 fn step_holds<B: Walks>(
     rt: &(impl Abort + AllocGlobal),
@@ -121,11 +129,8 @@ fn step_holds<B: Walks>(
 ) -> Result<(), Fail> {
     let mut writer = FakeWriter::new(rt.alloc()).in_pieces(9);
     let mut faults = FakeWriter::new(rt.alloc()).in_pieces(4);
-    let came_to = desk.carry_out(rt.alloc(), step, &mut writer, &mut faults)?;
-    let (output, told, status) = expected(step);
-    assert_eq!(rt; writer.written(), output, "{name}");
-    assert_eq!(rt; faults.written(), told, "{name}");
-    assert_eq!(rt; came_to, status, "{name}");
+    let status = desk.carry_out(rt.alloc(), step, &mut writer, &mut faults)?;
+    came_to(rt, step, writer.written(), faults.written(), status, name);
     Ok(())
 }
 
@@ -142,6 +147,18 @@ fn part_holds<B: Walks>(
     Ok(())
 }
 
+/// The parts of a scenario hold in turn.
+fn parts_hold<B: Walks>(
+    rt: &(impl Abort + AllocGlobal),
+    desk: &mut Desk<B>,
+    scenario: &Scenario,
+) -> Result<(), Fail> {
+    for part in scenario.parts {
+        part_holds(rt, desk, part, scenario.name)?;
+    }
+    Ok(())
+}
+
 /// The scenario holds over these empty books.
 pub fn scenario_holds<B: Walks + Drop>(
     rt: &(impl Abort + AllocGlobal),
@@ -149,34 +166,30 @@ pub fn scenario_holds<B: Walks + Drop>(
     scenario: &Scenario,
 ) -> Result<(), Fail> {
     let mut desk = Desk::new(rt.alloc(), books, scenario.codes, scenario.last)?;
-    for part in scenario.parts {
-        part_holds(rt, &mut desk, part, scenario.name)?;
+    parts_hold(rt, &mut desk, scenario)
+}
+
+/// Each of the scenarios holds over empty books in memory.
+fn scenarios_hold(rt: &(impl Abort + AllocGlobal), scenarios: &[Scenario]) -> Result<(), Fail> {
+    for scenario in scenarios {
+        scenario_holds(rt, ListBooks::empty(rt.alloc()), scenario)?;
     }
     Ok(())
 }
 
 #[test]
 fn scenarios_of_locks(rt: HostRuntime) -> Result<(), Fail> {
-    for scenario in &OF_LOCKS {
-        scenario_holds(&rt, ListBooks::empty(rt.alloc()), scenario)?;
-    }
-    Ok(())
+    scenarios_hold(&rt, &OF_LOCKS)
 }
 
 #[test]
 fn scenarios_of_files(rt: HostRuntime) -> Result<(), Fail> {
-    for scenario in &OF_FILES {
-        scenario_holds(&rt, ListBooks::empty(rt.alloc()), scenario)?;
-    }
-    Ok(())
+    scenarios_hold(&rt, &OF_FILES)
 }
 
 #[test]
 fn scenarios_of_the_desk(rt: HostRuntime) -> Result<(), Fail> {
-    for scenario in &OF_THE_DESK {
-        scenario_holds(&rt, ListBooks::empty(rt.alloc()), scenario)?;
-    }
-    Ok(())
+    scenarios_hold(&rt, &OF_THE_DESK)
 }
 
 /// Carries out the steps of a part, each of which answers what it says, or the test ends.
@@ -192,27 +205,53 @@ fn carry_out_part(alloc: Global, desk: &mut Desk<ListBooks>, part: &[Step]) -> R
     Ok(())
 }
 
+/// Party 1 is checked in at room 101.
+fn checks_in(alloc: Global, desk: &mut Desk<ListBooks>) -> Result<(), Fail> {
+    carry_out_part(alloc, desk, OPENED)?;
+    carry_out_part(alloc, desk, CHECKED_IN)
+}
+
 /// A desk in memory on which party 1 is checked in at room 101.
 fn checked_in(alloc: Global) -> Result<Desk<ListBooks>, Fail> {
     let mut desk = Desk::new(alloc, ListBooks::empty(alloc), &[0xa0], 0xa1)?;
-    carry_out_part(alloc, &mut desk, OPENED)?;
-    carry_out_part(alloc, &mut desk, CHECKED_IN)?;
+    checks_in(alloc, &mut desk)?;
     Ok(desk)
 }
 
-/// The step writes a front of its output on a writer that fails, and says so.
+/// How a writer goes wrong: it takes so many bytes a call, and the call of this number fails or takes none.
+#[derive(Clone, Copy)]
+enum Wrong {
+    Failing(usize, u32),
+    Stuck(usize, u32),
+}
+
+/// A writer that goes wrong so.
+fn wrong_writer(alloc: Global, wrong: Wrong) -> FakeWriter {
+    match wrong {
+        Wrong::Failing(piece, call) => FakeWriter::new(alloc).in_pieces(piece).failing_at(call),
+        Wrong::Stuck(piece, call) => FakeWriter::new(alloc).in_pieces(piece).stuck_at(call),
+    }
+}
+
+/// A front of the step's output is written, and the fault is told.
+fn write_failed<A: Abort>(rt: &A, step: &Step, written: &[u8], told: &[u8], status: u8) {
+    let (output, _, _) = expected(step);
+    assert!(rt; output.starts_with(written));
+    assert_eq!(rt; told, b"write\n".as_slice());
+    assert_eq!(rt; status, 5);
+}
+
+/// The step writes a front of its output on a writer that goes wrong, and says so.
 fn write_fails(
     rt: &(impl Abort + AllocGlobal),
     desk: &mut Desk<ListBooks>,
     step: &Step,
-    mut writer: FakeWriter,
+    wrong: Wrong,
 ) -> Result<(), Fail> {
+    let mut writer = wrong_writer(rt.alloc(), wrong);
     let mut faults = FakeWriter::new(rt.alloc());
     let status = desk.carry_out(rt.alloc(), step, &mut writer, &mut faults)?;
-    let (output, _, _) = expected(step);
-    assert!(rt; output.starts_with(writer.written()));
-    assert_eq!(rt; faults.written(), b"write\n".as_slice());
-    assert_eq!(rt; status, 5);
+    write_failed(rt, step, writer.written(), faults.written(), status);
     Ok(())
 }
 
@@ -221,19 +260,21 @@ const TAKEN: Step = Step::Audit(TWO_NOTES, b"1 taken\n2 taken\n", 0);
 const SEEN: Step = Step::Audit(TWO_NOTES, b"1 seen\n2 seen\n", 0);
 
 /// The notes stand after the write of this number fails.
-fn notes_stand_after_write(rt: &(impl Abort + AllocGlobal), call: u32) -> Result<(), Fail> {
-    let mut desk = checked_in(rt.alloc())?;
-    let writer = FakeWriter::new(rt.alloc()).in_pieces(3);
-    write_fails(rt, &mut desk, &TAKEN, writer.failing_at(call))?;
-    step_holds(rt, &mut desk, &SEEN, "sent again")?;
-    let writer = FakeWriter::new(rt.alloc()).in_pieces(3);
-    write_fails(rt, &mut desk, &SEEN, writer.stuck_at(call.min(4)))
+fn notes_stand_after_write(
+    rt: &(impl Abort + AllocGlobal),
+    desk: &mut Desk<ListBooks>,
+    call: u32,
+) -> Result<(), Fail> {
+    write_fails(rt, desk, &TAKEN, Wrong::Failing(3, call))?;
+    step_holds(rt, desk, &SEEN, "sent again")?;
+    write_fails(rt, desk, &SEEN, Wrong::Stuck(3, call.min(4)))
 }
 
 #[test]
 fn notes_stand_after_each_write_that_fails(rt: HostRuntime) -> Result<(), Fail> {
     for call in 1..=6 {
-        notes_stand_after_write(&rt, call)?;
+        let mut desk = checked_in(rt.alloc())?;
+        notes_stand_after_write(&rt, &mut desk, call)?;
     }
     Ok(())
 }
@@ -255,24 +296,32 @@ fn list_write_fails(
     desk: &mut Desk<ListBooks>,
     call: u32,
 ) -> Result<(), Fail> {
-    let writer = FakeWriter::new(rt.alloc()).in_pieces(9);
-    write_fails(rt, desk, &CHAIN_LISTED, writer.failing_at(call))?;
-    let writer = FakeWriter::new(rt.alloc()).in_pieces(6);
-    write_fails(rt, desk, &NO_ROOM, writer.failing_at(call))
+    write_fails(rt, desk, &CHAIN_LISTED, Wrong::Failing(9, call))?;
+    write_fails(rt, desk, &NO_ROOM, Wrong::Failing(6, call))
 }
 
 /// Each of the first writes of a list fails in turn; then it is written.
-fn list_writes_fail(rt: &(impl Abort + AllocGlobal)) -> Result<(), Fail> {
-    let mut desk = checked_in(rt.alloc())?;
+fn list_writes_fail(
+    rt: &(impl Abort + AllocGlobal),
+    desk: &mut Desk<ListBooks>,
+) -> Result<(), Fail> {
     for call in 1..=3 {
-        list_write_fails(rt, &mut desk, call)?;
+        list_write_fails(rt, desk, call)?;
     }
-    step_holds(rt, &mut desk, &CHAIN_LISTED, "at last")
+    step_holds(rt, desk, &CHAIN_LISTED, "at last")
 }
 
 #[test]
 fn each_write_of_a_list_fails(rt: HostRuntime) -> Result<(), Fail> {
-    list_writes_fail(&rt)
+    let mut desk = checked_in(rt.alloc())?;
+    list_writes_fail(&rt, &mut desk)
+}
+
+/// Nothing was written, and nothing told.
+fn are_silent<A: Abort>(rt: &A, status: u8, written: &[u8], told: &[u8]) {
+    assert_eq!(rt; status, 5);
+    assert!(rt; written.is_empty());
+    assert!(rt; told.is_empty());
 }
 
 /// The file comes to a fault, with a write that fails or without, which is not told.
@@ -281,26 +330,19 @@ fn nobody_hears(
     desk: &mut Desk<ListBooks>,
     file: &[u8],
     call: u32,
-) -> Result<(), Fail> {
+) {
     let mut writer = FakeWriter::new(rt.alloc()).failing_at(call);
     let mut faults = FakeWriter::new(rt.alloc()).failing_at(1);
     let status = desk.audit(rt.alloc(), file, &mut writer, &mut faults);
-    assert_eq!(rt; status, 5);
-    assert!(rt; writer.written().is_empty());
-    assert!(rt; faults.written().is_empty());
-    Ok(())
-}
-
-/// Nobody hears of either fault.
-fn faults_unheard(rt: &(impl Abort + AllocGlobal)) -> Result<(), Fail> {
-    let mut desk = checked_in(rt.alloc())?;
-    nobody_hears(rt, &mut desk, b"", 9)?;
-    nobody_hears(rt, &mut desk, TWO_NOTES, 1)
+    are_silent(rt, status, writer.written(), faults.written());
 }
 
 #[test]
 fn nobody_hears_of_a_fault_that_is_not_written(rt: HostRuntime) -> Result<(), Fail> {
-    faults_unheard(&rt)
+    let mut desk = checked_in(rt.alloc())?;
+    nobody_hears(&rt, &mut desk, b"", 9);
+    nobody_hears(&rt, &mut desk, TWO_NOTES, 1);
+    Ok(())
 }
 
 /// After 600 interruptions on its writer and so many on the other, a list tells so.
@@ -310,30 +352,35 @@ fn interrupted_list(
     times: u32,
     told: &[u8],
 ) -> Result<(), Fail> {
-    let writer = FakeWriter::new(rt.alloc()).interrupted(600);
-    let mut writer = writer.failing_at(601);
+    let mut writer = FakeWriter::new(rt.alloc()).interrupted(600).failing_at(601);
     let mut faults = FakeWriter::new(rt.alloc()).interrupted(times);
     let status = desk.list(rt.alloc(), b"in-house", &mut writer, &mut faults)?;
-    assert_eq!(rt; status, 5);
-    assert_eq!(rt; faults.written(), told, "{times} interruptions");
+    assert_eq!(rt;
+        (status, faults.written()),
+        (5, told),
+        "{times} interruptions"
+    );
     Ok(())
 }
 
 /// The thousandth interruption of a call is a fault.
-fn interruptions_counted(rt: &(impl Abort + AllocGlobal)) -> Result<(), Fail> {
-    let mut desk = checked_in(rt.alloc())?;
-    interrupted_list(rt, &mut desk, 399, b"write\n")?;
-    interrupted_list(rt, &mut desk, 400, b"")
-}
-
 #[test]
 fn interruptions_on_both_writers_are_counted_together(rt: HostRuntime) -> Result<(), Fail> {
-    interruptions_counted(&rt)
+    let mut desk = checked_in(rt.alloc())?;
+    interrupted_list(&rt, &mut desk, 399, b"write\n")?;
+    interrupted_list(&rt, &mut desk, 400, b"")
+}
+
+/// It is told so that the file is none, and nothing is written.
+fn is_told<A: Abort>(rt: &A, status: u8, written: &[u8], told: &[u8], wanted: &[u8]) {
+    assert_eq!(rt; status, 5);
+    assert_eq!(rt; told, wanted);
+    assert!(rt; written.is_empty());
 }
 
 /// The file is no audit file, and so it is told.
-fn is_no_audit<R: Abort + AllocGlobal>(
-    rt: &R,
+fn is_no_audit(
+    rt: &(impl Abort + AllocGlobal),
     desk: &mut Desk<ListBooks>,
     file: &[u8],
     told: &[u8],
@@ -341,27 +388,26 @@ fn is_no_audit<R: Abort + AllocGlobal>(
     let mut writer = FakeWriter::new(rt.alloc());
     let mut faults = FakeWriter::new(rt.alloc());
     let status = desk.audit(rt.alloc(), file, &mut writer, &mut faults);
-    assert_eq!(rt; status, 5);
-    assert_eq!(rt; faults.written(), told, "{} bytes", file.len());
-    assert!(rt; writer.written().is_empty());
+    is_told(rt, status, writer.written(), faults.written(), told);
 }
 
 /// A file of so many spaces is no audit file, and so it is told.
 fn spaces_are_no_audit(
     rt: &(impl Abort + AllocGlobal),
+    desk: &mut Desk<ListBooks>,
     len: usize,
     told: &[u8],
 ) -> Result<(), Fail> {
     let file = vec![in rt.alloc(); b' '; len]?;
-    let mut desk = checked_in(rt.alloc())?;
-    is_no_audit(rt, &mut desk, file.as_slice(), told);
+    is_no_audit(rt, desk, file.as_slice(), told);
     Ok(())
 }
 
 #[test]
 fn a_file_over_the_limit_is_too_large(rt: HostRuntime) -> Result<(), Fail> {
-    spaces_are_no_audit(&rt, 262_144, b"wrong header\n")?;
-    spaces_are_no_audit(&rt, 262_145, b"too large\n")
+    let mut desk = checked_in(rt.alloc())?;
+    spaces_are_no_audit(&rt, &mut desk, 262_144, b"wrong header\n")?;
+    spaces_are_no_audit(&rt, &mut desk, 262_145, b"too large\n")
 }
 
 /// The reply goes with this exit status.

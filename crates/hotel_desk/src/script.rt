@@ -127,6 +127,8 @@ pub fn run_script<I: Read, W: Write, B: Walks, R: Rng>(
 #[cfg(test)]
 mod chains_beside;
 #[cfg(test)]
+mod failing_walks;
+#[cfg(test)]
 mod greatest_sizes;
 #[cfg(test)]
 mod tests;

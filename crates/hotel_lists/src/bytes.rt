@@ -139,6 +139,3 @@ pub fn read_whole<R: Read>(
     }
     Err(WholeFault::TooLarge)
 }
-
-#[cfg(test)]
-mod tests;

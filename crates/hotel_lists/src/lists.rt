@@ -81,6 +81,3 @@ pub fn audit_of<B: Walks, W: Write>(
 {
     write_audit_of(alloc, books, room, writer, &mut IoCalls::none())
 }
-
-#[cfg(test)]
-mod tests;

@@ -13,8 +13,6 @@ mod kind;
 mod moment;
 mod nights;
 mod stay;
-#[cfg(test)]
-mod tests;
 
 pub use day::Day;
 pub use full_night::first_full_night;

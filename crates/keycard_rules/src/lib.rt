@@ -11,8 +11,6 @@ mod lock;
 mod note;
 mod numbers;
 mod numerals;
-#[cfg(test)]
-mod tests;
 
 pub use card::{Card, Link};
 pub use chain::{Chain, Memory, RecodeFault, Turned};

@@ -32,7 +32,7 @@ there : (h : History) (room : ℕ) (row : RoomRow) → room_at (rows_of h) room 
 there h room row e = sym (room_is_there h room) ∙ ap is_some e
 
 -- what a room's row is
-its_row : (h : History) (room : ℕ) (row : RoomRow) → room_at (rows_of h) room ≡ Some row → (kind : List ℕ) × (row ≡ room_row h room kind)
+pub its_row : (h : History) (room : ℕ) (row : RoomRow) → room_at (rows_of h) room ≡ Some row → (kind : List ℕ) × (row ≡ room_row h room kind)
 its_row h room row e =
     let r = room_there h room (there h room row e) in
     let same : Some row ≡ Some (room_row h room r.0) = sym e ∙ r.2 in

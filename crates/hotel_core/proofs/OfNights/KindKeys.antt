@@ -1,5 +1,5 @@
 -- Kinds as keys, and the counts at them.
-use Rattle.std.proofs.Common.{ℕ, ◌≡◌, ◌+◌, Bool, true, false, cond, Option, Some, None, List, [], ◌∷◌, refl, ap, sym, ◌∙◌, subst}
+use Rattle.std.proofs.Common.{ℕ, ◌≡◌, ◌+◌, Bool, true, false, cond, Option, Some, None, List, [], ◌∷◌, refl, ap, sym, ◌∙◌}
 use Rattle.std.specs.Prelude.{◌||◌, bytes_eq, is_some}
 use Rattle.std.specs.Option.{unwrap_or}
 use Rattle.std.specs.Ordering.{nat_cmp, match_ordering}
@@ -45,7 +45,7 @@ SetsKind before after kind n = (q : List ℕ) → lookup (is_at (slice_cmp nat_c
 
 set_at : (before after : List (List ℕ × ℕ)) (kind : List ℕ) (n : ℕ) → SetsKind before after kind n → (k : List ℕ) → rooms_in after k ≡ cond (bytes_eq kind k) n (rooms_in before k)
 set_at before after kind n u k =
-    ap (λ o. unwrap_or o 0) (u k) ∙ taken_in (is_at (slice_cmp nat_cmp kind) k) (Some n) (lookup (is_at (slice_cmp nat_cmp k)) before)
+    ap (λ o. unwrap_or o 0) (u k) ∙ taken_in 0 (is_at (slice_cmp nat_cmp kind) k) (Some n) (lookup (is_at (slice_cmp nat_cmp k)) before)
     ∙ ap (λ b. cond b n (rooms_in before k)) (is_eq-slice_cmp kind k)
 
 same_kind : (counts : List (List ℕ × ℕ)) (kind k : List ℕ) → bytes_eq kind k ≡ true → rooms_in counts kind ≡ rooms_in counts k

@@ -1,62 +1,130 @@
--- Counts at nights, after one was changed.
-use Rattle.std.proofs.Common.{ℕ, ◌≡◌, ◌+◌, ◌-◌, ◌≤◌, ◌<◌, Bool, true, false, cond, Option, Some, List, refl, ap, sym, ◌∙◌, arith, nat_le, nat_lt}
-use Rattle.std.specs.Prelude.{◌==◌, ◌&&◌, bytes_eq}
+-- Counts at nights, after those of one block were changed.
+use Rattle.std.proofs.Common.{ℕ, ◌≡◌, ◌+◌, ◌-◌, ◌*◌, ◌/◌, ◌%◌, ◌≤◌, ◌<◌, ◌^◌, Bool, true, false, cond, Option, Some, None, List, [], zero, suc, get_or, replicate, refl, ap, sym, ◌∙◌, arith, nat_le, nat_lt, subst}
+use Rattle.std.specs.Prelude.{◌==◌, ◌&&◌, bytes_eq, slice_index}
 use Rattle.std.specs.Option.{unwrap_or}
 use Rattle.std.specs.Ordering.{nat_cmp, is_eq}
 use Rattle.std.specs.Cmp.Lexicographic.{slice_cmp}
 use Rattle.std.specs.BTreeMap.{is_at}
 use Rattle.std.specs.Map.{lookup}
+use Rattle.std.proofs.lemmas.Bool.Decides.{nat_tests}
 use Rattle.std.proofs.lemmas.Map.Text.{is_eq-slice_cmp}
 use Rattle.std.proofs.lemmas.Slice.Eq.{bytes_eq-Decides}
 use Rattle.hotel_nights.specs.Block.{one_if}
 use Rattle.hotel_core.proofs.OfTables.MapEntries.{both_equal, at_is, eq_from}
 use Rattle.hotel_core.proofs.OfTables.PlacedCodes.{both_true}
-use Rattle.hotel_core.specs.NightIndex.{night_cmp, counted, is_night, holds}
+use Rattle.hotel_core.specs.NightIndex.{block_cmp, block_at, counted, holds}
 
 -- ---- the test of a key
 
-pub night_is : (kind : List ℕ) (n : ℕ) (k : List ℕ) (d : ℕ) → is_at (night_cmp (kind, n)) (k, d) ≡ is_night kind n k d
-night_is kind n k d =
-    both_equal (slice_cmp nat_cmp kind k) (nat_cmp n d) ∙ ap (λ b. b && is_eq (nat_cmp n d)) (is_eq-slice_cmp kind k) ∙ ap (λ b. bytes_eq kind k && b) (at_is n d)
+block_is : (kind : List ℕ) (b : ℕ) (k : List ℕ) (c : ℕ) → is_at (block_cmp (kind, b)) (k, c) ≡ (bytes_eq kind k && (c == b))
+block_is kind b k c =
+    both_equal (slice_cmp nat_cmp kind k) (nat_cmp b c) ∙ ap (λ z. z && is_eq (nat_cmp b c)) (is_eq-slice_cmp kind k) ∙ ap (λ z. bytes_eq kind k && z) (at_is b c)
 
--- what is counted at a night is counted at that night
-same_night : (counts : List ((List ℕ × ℕ) × ℕ)) (kind : List ℕ) (n : ℕ) (k : List ℕ) (d : ℕ) → is_night kind n k d ≡ true → counted counts kind n ≡ counted counts k d
-same_night counts kind n k d h =
-    let b = both_true (bytes_eq kind k) (d == n) h in
-    let e : kind ≡ k = (bytes_eq-Decides kind k).0 b.0 in
-    let f : n ≡ d = sym (eq_from d n b.1) in
-    (λ i. counted counts (e i) (f i))
+-- ---- one block changed
 
--- ---- one night changed
+-- the list has these counts, or none, at a block of a kind, and at each other what was there
+abbrev pub Sets : List ((List ℕ × ℕ) × List ℕ) → List ((List ℕ × ℕ) × List ℕ) → List ℕ → ℕ → Option (List ℕ) → Type 0
+Sets before after kind b w = (q : List ℕ × ℕ) → lookup (is_at (block_cmp q)) after ≡ cond (is_at (block_cmp (kind, b)) q) w (lookup (is_at (block_cmp q)) before)
 
--- the list has the value, or none, at a night of a kind, and at each other what was there
-abbrev pub Sets : List ((List ℕ × ℕ) × ℕ) → List ((List ℕ × ℕ) × ℕ) → List ℕ → ℕ → Option ℕ → Type 0
-Sets before after kind n w = (q : List ℕ × ℕ) → lookup (is_at (night_cmp q)) after ≡ cond (is_at (night_cmp (kind, n)) q) w (lookup (is_at (night_cmp q)) before)
+pub taken_in : {A : Type 0} (none : A) (b : Bool) (w o : Option A) → unwrap_or (cond b w o) none ≡ cond b (unwrap_or w none) (unwrap_or o none)
+taken_in none true w o = refl
+taken_in none false w o = refl
 
-pub taken_in : (b : Bool) (w o : Option ℕ) → unwrap_or (cond b w o) 0 ≡ cond b (unwrap_or w 0) (unwrap_or o 0)
-taken_in true w o = refl
-taken_in false w o = refl
+set_at : (before after : List ((List ℕ × ℕ) × List ℕ)) (kind : List ℕ) (b : ℕ) (w : Option (List ℕ)) → Sets before after kind b w → (k : List ℕ) (c : ℕ)
+    → block_at after k c ≡ cond (bytes_eq kind k && (c == b)) (unwrap_or w []) (block_at before k c)
+set_at before after kind b w u k c =
+    ap (λ o. unwrap_or o []) (u (k, c)) ∙ taken_in [] (is_at (block_cmp (kind, b)) (k, c)) w (lookup (is_at (block_cmp (k, c))) before)
+    ∙ ap (λ z. cond z (unwrap_or w []) (block_at before k c)) (block_is kind b k c)
 
-set_at : (before after : List ((List ℕ × ℕ) × ℕ)) (kind : List ℕ) (n : ℕ) (w : Option ℕ) → Sets before after kind n w → (k : List ℕ) (d : ℕ)
-    → counted after k d ≡ cond (is_night kind n k d) (unwrap_or w 0) (counted before k d)
-set_at before after kind n w u k d =
-    ap (λ o. unwrap_or o 0) (u (k, d)) ∙ taken_in (is_at (night_cmp (kind, n)) (k, d)) w (lookup (is_at (night_cmp (k, d))) before)
-    ∙ ap (λ b. cond b (unwrap_or w 0) (counted before k d)) (night_is kind n k d)
+-- within a block, nights are in order as their places are
+place_same : (from to d : ℕ) → from < to → to ≤ from / 32 * 32 + 32 → d / 32 ≡ from / 32 → (nat_le (from % 32) (d % 32) && nat_lt (d % 32) (from % 32 + (to - from))) ≡ (nat_le from d && nat_lt d to)
+place_same from to d lt one same =
+    let low : nat_le (from % 32) (d % 32) ≡ nat_le from d = grind (arith, nat_tests) in
+    let high : nat_lt (d % 32) (from % 32 + (to - from)) ≡ nat_lt d to = grind (arith, nat_tests) in
+    (λ i. low i && high i)
+
+both_false : (x y : Bool) → (x ≡ true → y ≡ false) → (x && y) ≡ false
+both_false true y h = h refl
+both_false false y h = refl
+
+place_other : (from to d : ℕ) → from < to → to ≤ from / 32 * 32 + 32 → (d / 32 == from / 32) ≡ false → (nat_le from d && nat_lt d to) ≡ false
+place_other from to d lt one other = both_false (nat_le from d) (nat_lt d to) (λ low. grind (arith, nat_tests))
+
+-- the counts of some nights of one block are changed, by `f`, and each other is as it was
+pub part_changed : (f : ℕ → ℕ → ℕ) → ((x : ℕ) → f x 0 ≡ x) → (before after : List ((List ℕ × ℕ) × List ℕ)) (kind : List ℕ) (from to : ℕ) (w : Option (List ℕ)) → from < to → to ≤ from / 32 * 32 + 32
+    → Sets before after kind (from / 32) w
+    → ((j : ℕ) → slice_index (unwrap_or w []) j ≡ f (slice_index (block_at before kind (from / 32)) j) (one_if (nat_le (from % 32) j && nat_lt j (from % 32 + (to - from)))))
+    → (k : List ℕ) (d : ℕ) → counted after k d ≡ f (counted before k d) (one_if (holds kind from to k d))
+part_changed f none before after kind from to w lt one u g k d = here ∙ by (bytes_eq kind k) (d / 32 == from / 32) refl refl
+  where
+    here : counted after k d ≡ slice_index (cond (bytes_eq kind k && (d / 32 == from / 32)) (unwrap_or w []) (block_at before k (d / 32))) (d % 32)
+    here = ap (λ xs. slice_index xs (d % 32)) (set_at before after kind (from / 32) w u k (d / 32))
+
+    by : (x y : Bool) → bytes_eq kind k ≡ x → (d / 32 == from / 32) ≡ y
+        → slice_index (cond (bytes_eq kind k && (d / 32 == from / 32)) (unwrap_or w []) (block_at before k (d / 32))) (d % 32) ≡ f (counted before k d) (one_if (holds kind from to k d))
+    by false y e h = (λ i. slice_index (cond (e i && (d / 32 == from / 32)) (unwrap_or w []) (block_at before k (d / 32))) (d % 32)) ∙ sym (none (counted before k d)) ∙ ap (λ z. f (counted before k d) (one_if (z && (nat_le from d && nat_lt d to)))) (sym e)
+    by true false e h =
+        (λ i. slice_index (cond (e i && h i) (unwrap_or w []) (block_at before k (d / 32))) (d % 32)) ∙ sym (none (counted before k d))
+        ∙ (λ i. f (counted before k d) (one_if (sym e i && sym (place_other from to d lt one h) i)))
+    by true true e h =
+        let q : kind ≡ k = (bytes_eq-Decides kind k).0 e in
+        let b : d / 32 ≡ from / 32 = eq_from (d / 32) (from / 32) h in
+        (λ i. slice_index (cond (e i && h i) (unwrap_or w []) (block_at before k (d / 32))) (d % 32)) ∙ g (d % 32)
+        ∙ (λ i. f (slice_index (block_at before (q i) (sym b i)) (d % 32)) (one_if (sym e i && place_same from to d lt one b i)))
+
+-- as many in place of none: two changes of one block are the second
+pub sets_twice : (before mid after : List ((List ℕ × ℕ) × List ℕ)) (kind : List ℕ) (b : ℕ) (v w : Option (List ℕ)) → Sets before mid kind b v → Sets mid after kind b w → Sets before after kind b w
+sets_twice before mid after kind b v w first second q = second q ∙ by (is_at (block_cmp (kind, b)) q) (first q)
+  where
+    by : (t : Bool) → lookup (is_at (block_cmp q)) mid ≡ cond t v (lookup (is_at (block_cmp q)) before) → cond t w (lookup (is_at (block_cmp q)) mid) ≡ cond t w (lookup (is_at (block_cmp q)) before)
+    by true h = refl
+    by false h = h
+
+-- of a block that isn't there, no night is taken
+pub part_absent : (blocks : List ((List ℕ × ℕ) × List ℕ)) (kind : List ℕ) (from to : ℕ) → from < to → to ≤ from / 32 * 32 + 32 → block_at blocks kind (from / 32) ≡ []
+    → (k : List ℕ) (d : ℕ) → counted blocks k d ≡ counted blocks k d - one_if (holds kind from to k d)
+part_absent blocks kind from to lt one none k d = by (holds kind from to k d) refl
+  where
+    by : (t : Bool) → holds kind from to k d ≡ t → counted blocks k d ≡ counted blocks k d - one_if t
+    by false h = omega arith
+    by true h =
+        let two = both_true (bytes_eq kind k) (nat_le from d && nat_lt d to) h in
+        let in_part = both_true (nat_le from d) (nat_lt d to) two.1 in
+        let q : kind ≡ k = (bytes_eq-Decides kind k).0 two.0 in
+        let b : from / 32 ≡ d / 32 = grind (arith, nat_tests) in
+        let zero : counted blocks k d ≡ 0 = (λ i. slice_index (block_at blocks (sym q i) (sym b i)) (d % 32)) ∙ ap (λ xs. slice_index xs (d % 32)) none in
+        omega (arith, zero)
+
+-- the count at a place of a block is that of its night
+pub few_at : (blocks : List ((List ℕ × ℕ) × List ℕ)) (kind : List ℕ) (from to : ℕ) → to ≤ from / 32 * 32 + 32 → ((d : ℕ) → from ≤ d → d < to → counted blocks kind d < 2 ^ 63)
+    → (j : ℕ) → from % 32 ≤ j → j < from % 32 + (to - from) → slice_index (block_at blocks kind (from / 32)) j < 2 ^ 63
+few_at blocks kind from to one few j low high =
+    let q : (from / 32 * 32 + j) / 32 ≡ from / 32 = omega (arith, one, low, high) in
+    let r : (from / 32 * 32 + j) % 32 ≡ j = omega (arith, one, low, high) in
+    subst (λ n. slice_index (block_at blocks kind (from / 32)) n < 2 ^ 63) r
+    (subst (λ b. slice_index (block_at blocks kind b) ((from / 32 * 32 + j) % 32) < 2 ^ 63) q (few (from / 32 * 32 + j) (omega (arith, low)) (omega (arith, one, low, high))))
 
 pub more_by : (b : Bool) (x y : ℕ) → (b ≡ true → x ≡ y) → cond b (x + 1) y ≡ y + one_if b
 more_by true x y e = ap (λ z. z + 1) (e refl)
 more_by false x y e = omega arith
 
-less_by : (b : Bool) (v x y : ℕ) → v ≡ x - 1 → (b ≡ true → x ≡ y) → cond b v y ≡ y - one_if b
-less_by true v x y h e = h ∙ ap (λ z. z - 1) (e refl)
-less_by false v x y h e = omega arith
+-- ---- no counts
 
-pub one_more : (before after : List ((List ℕ × ℕ) × ℕ)) (kind : List ℕ) (n : ℕ) → Sets before after kind n (Some (counted before kind n + 1)) → (k : List ℕ) (d : ℕ)
-    → counted after k d ≡ counted before k d + one_if (is_night kind n k d)
-one_more before after kind n u k d =
-    set_at before after kind n (Some (counted before kind n + 1)) u k d ∙ more_by (is_night kind n k d) (counted before kind n) (counted before k d) (same_night before kind n k d)
+zeros_of : (n j : ℕ) → get_or {A = ℕ} (replicate {A = ℕ} n 0) j 0 ≡ 0
+zeros_of zero j = refl
+zeros_of (suc n) zero = refl
+zeros_of (suc n) (suc j) = zeros_of n j
 
-pub one_less : (before after : List ((List ℕ × ℕ) × ℕ)) (kind : List ℕ) (n : ℕ) (w : Option ℕ) → Sets before after kind n w → unwrap_or w 0 ≡ counted before kind n - 1 → (k : List ℕ) (d : ℕ)
-    → counted after k d ≡ counted before k d - one_if (is_night kind n k d)
-one_less before after kind n w u h k d =
-    set_at before after kind n w u k d ∙ less_by (is_night kind n k d) (unwrap_or w 0) (counted before kind n) (counted before k d) h (same_night before kind n k d)
+pub zeros : (j : ℕ) → slice_index (replicate {A = ℕ} 32 0) j ≡ 0
+zeros j = zeros_of 32 j
+
+-- 32 zeros in place of no counts
+pub none_or_zeros : (o : Option (List ℕ)) (j : ℕ) → slice_index (unwrap_or o (replicate {A = ℕ} 32 0)) j ≡ slice_index (unwrap_or o []) j
+none_or_zeros None j = zeros j
+none_or_zeros (Some xs) j = refl
+
+-- the count at a night, read from the counts of its block
+pub read_part : (before blocks : List ((List ℕ × ℕ) × List ℕ)) (kind : List ℕ) (from d : ℕ) (counts : List ℕ) → before ≡ blocks
+    → counts ≡ unwrap_or (lookup (is_at (block_cmp (kind, from / 32))) before) (replicate {A = ℕ} 32 0) → d / 32 ≡ from / 32 → counted blocks kind d ≡ slice_index counts (d % 32)
+read_part before blocks kind from d counts same is b =
+    (λ i. slice_index (block_at (sym same i) kind (b i)) (d % 32)) ∙ sym (none_or_zeros (lookup (is_at (block_cmp (kind, from / 32))) before) (d % 32)) ∙ ap (λ xs. slice_index xs (d % 32)) (sym is)

@@ -27,7 +27,7 @@ pub takes_none : (stay : Stay) (kind : List ℕ) (d : ℕ) → is_standing stay.
 takes_none stay kind d h = ap (λ b. (b && bytes_eq stay.kind kind) && (nat_le stay.arrive d && nat_lt d stay.depart)) h
 
 -- no more are counted than there are stays
-pub counts_fit : (counts : List ((List ℕ × ℕ) × ℕ)) (es : List (ℕ × Stay)) (kind : List ℕ) (d : ℕ) → StandsForAll counts es → length es < 2 ^ 63 → counted counts kind d < 2 ^ 63
+pub counts_fit : (counts : List ((List ℕ × ℕ) × List ℕ)) (es : List (ℕ × Stay)) (kind : List ℕ) (d : ℕ) → StandsForAll counts es → length es < 2 ^ 63 → counted counts kind d < 2 ^ 63
 unfolding nights_taken
 counts_fit counts es kind d h few =
     let e : counted counts kind d ≡ count_by (takes kind d) (values_of es) = h kind d in
@@ -36,7 +36,7 @@ counts_fit counts es kind d h few =
     omega (arith, e, le, same, few)
 
 -- one more stay
-pub stands_more : (before after : List ((List ℕ × ℕ) × ℕ)) (es : List (ℕ × Stay)) (party : ℕ) (stay : Stay) → StandsForAll before es → at_number es party ≡ None
+pub stands_more : (before after : List ((List ℕ × ℕ) × List ℕ)) (es : List (ℕ × Stay)) (party : ℕ) (stay : Stay) → StandsForAll before es → at_number es party ≡ None
     → ((k : List ℕ) (d : ℕ) → counted after k d ≡ counted before k d + one_if (takes k d stay))
     → StandsForAll after (insert_entry nat_cmp es party stay)
 unfolding nights_taken
@@ -84,7 +84,7 @@ counts_changed p party s (e ∷ es) stay h =
     (λ f. counts_changed p party s es stay (tail_is (e.0 == party) e.1 stay (at_number es party) turned f))
 
 -- a stay is done or cancelled
-pub stands_less : (before after : List ((List ℕ × ℕ) × ℕ)) (es : List (ℕ × Stay)) (party : ℕ) (s : StayState) (stay : Stay) → StandsForAll before es → at_number es party ≡ Some stay → is_standing s ≡ false
+pub stands_less : (before after : List ((List ℕ × ℕ) × List ℕ)) (es : List (ℕ × Stay)) (party : ℕ) (s : StayState) (stay : Stay) → StandsForAll before es → at_number es party ≡ Some stay → is_standing s ≡ false
     → ((k : List ℕ) (d : ℕ) → counted after k d ≡ counted before k d - one_if (takes k d stay))
     → StandsForAll after (in_state party s es)
 unfolding nights_taken
@@ -96,7 +96,7 @@ stands_less before after es party s stay h at ends u k d =
     omega (arith, moved, new, was, is)
 
 -- a stay that stands as it stood, or as little as it did
-pub stands_same : (counts : List ((List ℕ × ℕ) × ℕ)) (es : List (ℕ × Stay)) (party : ℕ) (s : StayState) (stay : Stay) → StandsForAll counts es → at_number es party ≡ Some stay
+pub stands_same : (counts : List ((List ℕ × ℕ) × List ℕ)) (es : List (ℕ × Stay)) (party : ℕ) (s : StayState) (stay : Stay) → StandsForAll counts es → at_number es party ≡ Some stay
     → is_standing s ≡ is_standing stay.state → StandsForAll counts (in_state party s es)
 unfolding nights_taken
 stands_same counts es party s stay h at same k d =
@@ -110,7 +110,7 @@ unfolding nights_taken
 none_stand k d = refl
 
 -- a stay that stood, if there is one, stands on
-pub stands_on : (counts : List ((List ℕ × ℕ) × ℕ)) (es : List (ℕ × Stay)) (party : ℕ) (s : StayState) → StandsForAll counts es → said_of (at_number es party) true (λ x. is_standing x.state) ≡ true
+pub stands_on : (counts : List ((List ℕ × ℕ) × List ℕ)) (es : List (ℕ × Stay)) (party : ℕ) (s : StayState) → StandsForAll counts es → said_of (at_number es party) true (λ x. is_standing x.state) ≡ true
     → is_standing s ≡ true → StandsForAll counts (in_state party s es)
 stands_on counts es party s h stood stands = by (at_number es party) refl stood
   where

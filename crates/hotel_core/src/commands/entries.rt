@@ -1,10 +1,13 @@
 //! Cards that open a door from outside.
-ghost use Rattle.std.specs.Prelude.{◌≡◌, ◌+◌, true, false, is_some, not};
+ghost use Rattle.std.specs.Prelude.{◌≡◌, ◌+◌, true, false, is_some, Some};
 ghost use Rattle.rand_core.specs.Stream.{Stream};
 ghost use Rattle.keycard_rules.specs.Lock.{turn};
 ghost use Rattle.keycard_rules.specs.declared.note.Act.TheVariants as act;
 ghost use Rattle.hotel_core.specs.Refinement.Answered.{IsOutcome};
-ghost use Rattle.hotel_core.specs.Refinement.Finds.{reply_of};
+ghost use Rattle.hotel_core.specs.Refinement.Finds.{Finds, AnyRows, reply_of};
+ghost use Rattle.hotel_core.specs.Books.Lookups.{inside_at};
+ghost use Rattle.hotel_core.specs.Model.Guests.{are_none};
+ghost use Rattle.hotel_core.specs.declared.reply.Refusal.TheVariants.{Store};
 ghost use Rattle.hotel_core.specs.Refinement.Noting.{IsUntaken, opened_on, secured_by};
 ghost use Rattle.hotel_core.specs.Refinement.ChangeOf.{comes};
 ghost use Rattle.hotel_core.specs.Refinement.OnRows.{told_on, has_link_on};
@@ -19,7 +22,7 @@ use crate::commands::lock_codes::{has_inside, is_inside, issued_place, same_link
 use crate::commands::look_ups::card_there;
 use crate::commands::room_cards::code_in;
 use crate::reply::{Refusal, Reply};
-use keycard_rules::{CardNo, Code, Link, LockNote, turn};
+use keycard_rules::{CardNo, Code, Link, LockNote, RoomNo, turn};
 
 /// Whether a lock that holds a code opens to a card of the link.
 fn opens(held: Code, link: &Link) -> bool
@@ -28,12 +31,21 @@ fn opens(held: Code, link: &Link) -> bool
     turn(held, link).is_some()
 }
 
-/// Whether a room is secured after an entry by the code at a place, where cards are inside or none is.
-fn is_secured_by(row: &RoomRow, place: u32, has_inside: bool) -> bool
-    ensures { result ≡ secured_by row.now place (not has_inside) }
+/// Whether a room is secured after an entry by the code at a place. The cards inside are asked for only where they decide it.
+fn secured_after<B: Books>(
+    books: &mut B,
+    room: RoomNo,
+    row: &RoomRow,
+    place: u32,
+) -> Result<bool, Refusal>
+    ensures { Finds B.Issued B.Books.own AnyRows Store (λ rows. Some (secured_by row.now place (are_none (inside_at rows room)))) books.old books.new result }
 {
     let is_current = u64::from(place) + 1 == u64::from(row.codes);
-    (!has_inside && is_current) || row.secured
+    if row.secured || !is_current {
+        return Ok(row.secured);
+    }
+    let has_inside = has_inside(books, room)?;
+    Ok(!has_inside)
 }
 
 /// How a card comes in.
@@ -60,9 +72,8 @@ fn open<B: Books>(
     ensures { (source : Stream) → StepsAs B.Issued B.Books.own (λ rows. opened_on rows note.now number link.now) books.old books.new source source (reply_of result) }
 {
     let lock_place = issued_place(books, link.new_code)?.place;
-    let has_inside = has_inside(books, note.room())?;
+    let secured = secured_after(books, note.room(), row, lock_place)?;
     let is_inside = is_inside(books, note.room(), number)?;
-    let secured = is_secured_by(row, lock_place, has_inside);
     let insides = comes(number, is_inside);
     let note = *note;
     make(

@@ -1,25 +1,32 @@
 //! What a note of a lock is compared with in the books.
 ghost use Rattle.std.specs.Prelude.{◌≡◌, Option, Some, None, IsSome, not};
 ghost use Rattle.hotel_core.specs.Refinement.Finds.{Finds, AnyRows};
-ghost use Rattle.hotel_core.specs.Books.Lookups.{code_place, inside_at, note_at};
+ghost use Rattle.hotel_core.specs.Books.Lookups.{room_at, code_place, inside_at, note_at};
 ghost use Rattle.hotel_core.specs.Model.Guests.{are_none};
 ghost use Rattle.hotel_core.specs.Model.Notes.{same_link};
 ghost use Rattle.hotel_core.specs.Model.Words.{is_one_of};
 ghost use Rattle.hotel_core.specs.declared.reply.Refusal.TheVariants.{NotAwaited, Store};
 
 use crate::books::Books;
-use crate::books::rows::CodeRow;
+use crate::books::rows::{CodeRow, RoomRow};
 use crate::commands::look_ups::{known, there_or};
 use crate::reply::Refusal;
 use keycard_rules::{CardNo, Code, Link, LockNote, RoomNo};
 
-/// The note of the same room and count, where one was taken.
+/// The note of the same room and count, where one was taken; none is asked for that comes after all that the room's row counts.
 pub(crate) fn kept_note<B: Books>(
     books: &mut B,
     note: &LockNote,
+    row: &RoomRow,
 ) -> Result<Option<LockNote>, Refusal>
+    requires { B.is_clean books.old → room_at (B.rows books.old) note.now.room ≡ Some row.now }
     ensures { Finds B.Issued B.Books.own AnyRows Store (λ rows. Some (note_at rows note.now.room note.now.count)) books.old books.new result }
 {
+    books.known_sound();
+    let count = note.count().value();
+    if count > row.notes {
+        return Ok(None);
+    }
     let kept = books.note(note.room(), note.count());
     known(kept)
 }

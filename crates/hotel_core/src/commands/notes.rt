@@ -56,7 +56,7 @@ pub(crate) fn take_note<B: Books>(books: &mut B, note: &LockNote) -> Result<Repl
 {
     today(books)?;
     let row = room_there(books, note.room())?;
-    match kept_note(books, note)? {
+    match kept_note(books, note, &row)? {
         Some(kept) if same_note(&kept, note) => Ok(Reply::Seen),
         Some(_) => Err(Refusal::Conflict),
         None => take_new(books, note, &row),

@@ -205,14 +205,25 @@ impl Desk {
     }
 }
 
-/// A step of a scenario is a line: it is answered so, and after it the rooms agree with their chains.
-fn step_holds(rt: &(impl Abort + AllocGlobal), desk: &mut Desk, step: &Step) -> Result<(), Fail> {
-    let Step::Line(line, answer) = step else {
-        return Err(Fail::from("no line"));
-    };
+/// The line is answered so.
+fn line_is_answered(
+    rt: &(impl Abort + AllocGlobal),
+    desk: &mut Desk,
+    line: &[u8],
+    answer: &[u8],
+) -> Result<(), Fail> {
     let mut writer = FakeWriter::new(rt.alloc());
     desk.answer(rt, line, &mut writer)?;
-    assert_eq!(rt; writer.written(), *answer);
+    assert_eq!(rt; writer.written(), answer);
+    Ok(())
+}
+
+/// A step of a scenario is a line: it is answered so, and after it the rooms agree with their chains.
+fn step_holds(rt: &(impl Abort + AllocGlobal), desk: &mut Desk, step: &Step) -> Result<(), Fail> {
+    match step {
+        Step::Line(line, answer) => line_is_answered(rt, desk, line, answer)?,
+        _ => return Err(Fail::from("no line")),
+    }
     desk.agrees(rt)
 }
 
@@ -299,19 +310,28 @@ fn run_is_answered(
     Ok(())
 }
 
+/// The commands of the scenario "two-entries", and their answers.
+fn push_two_entries(
+    alloc: Global,
+    commands: &mut Vec<Command>,
+    answers: &mut Vec<u8>,
+) -> Result<(), Fail> {
+    push_part(alloc, OPENED, commands, answers)?;
+    push_part(alloc, CHECKED_IN, commands, answers)?;
+    push_part(alloc, TWO_ENTRIES, commands, answers)
+}
+
 /// The commands of the scenario "two-entries" have their seven replies in one run, after a run of no command.
-fn runs_at_once(rt: &(impl Abort + AllocGlobal)) -> Result<(), Fail> {
+fn runs_at_once(rt: &(impl Abort + AllocGlobal), desk: &mut Desk) -> Result<(), Fail> {
     let mut commands = Vec::new(rt.alloc());
     let mut answers = Vec::new(rt.alloc());
-    for part in [OPENED, CHECKED_IN, TWO_ENTRIES] {
-        push_part(rt.alloc(), part, &mut commands, &mut answers)?;
-    }
-    let mut desk = desk_of(rt.alloc(), &[0xa0, 0xa1, 0xa2])?;
-    run_is_answered(rt, &mut desk, &[], 0, b"")?;
-    run_is_answered(rt, &mut desk, commands.as_slice(), 7, answers.as_slice())
+    push_two_entries(rt.alloc(), &mut commands, &mut answers)?;
+    run_is_answered(rt, desk, &[], 0, b"")?;
+    run_is_answered(rt, desk, commands.as_slice(), 7, answers.as_slice())
 }
 
 #[test]
 fn words_and_empties_runs(rt: HostRuntime) -> Result<(), Fail> {
-    runs_at_once(&rt)
+    let mut desk = desk_of(rt.alloc(), &[0xa0, 0xa1, 0xa2])?;
+    runs_at_once(&rt, &mut desk)
 }

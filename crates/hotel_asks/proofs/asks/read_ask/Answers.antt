@@ -1,48 +1,8 @@
--- Six values are those of a note, and no verb has three, or more than six.
-use Rattle.std.proofs.Common.{◌≡◌, ◌≤◌, ◌<◌, ℕ, List, [], ◌∷◌, length, map, get_or, refl, arith, Err, Bor, Result, subst}
-use Rattle.hotel_asks.specs.declared.asks.Ask.{Ask}
-use Rattle.hotel_asks.specs.declared.values.ValueFault.{ValueFault}
-use Rattle.hotel_asks.specs.declared.values.ValueFault.TheVariants.{Number}
-use Rattle.hotel_asks.specs.declared.verbs.Verb.{Verb}
-use Rattle.hotel_asks.specs.Asks.{ask_of, of_six, ask_copies}
-use Rattle.hotel_asks.specs.Values.{IsReading}
+use Rattle.std.proofs.Common.{◌≡◌, ◌∙◌, map, sym}
+use Rattle.std.proofs.lemmas.List.{length-map}
+use Rattle.hotel_asks.specs.Asks.{ask_copies}
+use Rattle.hotel_asks.proofs.Numbered.{misnumbered}
 use Rattle.hotel_asks.proofs.asks.read_ask.Goals as goal
 
-six : (verb : Verb) (values : List (Bor (List ℕ))) (z : Bor (List ℕ)) → 6 ≤ length values → length values < 7
-    → of_six verb (get_or values 0 z).now (get_or values 1 z).now (get_or values 2 z).now (get_or values 3 z).now (get_or values 4 z).now (get_or values 5 z).now ≡ ask_of verb (map (λ v. v.now) values)
-six verb [] z least below = absurd (omega arith)
-six verb (a ∷ []) z least below = absurd (omega arith)
-six verb (a ∷ b ∷ []) z least below = absurd (omega arith)
-six verb (a ∷ b ∷ c ∷ []) z least below = absurd (omega arith)
-six verb (a ∷ b ∷ c ∷ d ∷ []) z least below = absurd (omega arith)
-six verb (a ∷ b ∷ c ∷ d ∷ e ∷ []) z least below = absurd (omega arith)
-six verb (a ∷ b ∷ c ∷ d ∷ e ∷ f ∷ []) z least below = refl
-six verb (a ∷ b ∷ c ∷ d ∷ e ∷ f ∷ g ∷ rest) z least below = absurd (omega arith)
-
-pub returns-in-len6 : goal.returns-in-len6
-returns-in-len6 c =
-    let P : Result Ask ValueFault → Type 0 = λ wanted. IsReading ask_copies wanted c.read_six.result in
-    subst P (six c.args.verb c.args.values.now (record { ref_ptr = (0, 0); now = [] }) c.in-len6.len_at_least c.in-len6.len_below) c.read_six.ensures
-
-three : (verb : Verb) (values : List (Bor (List ℕ))) → 3 ≤ length values → length values < 4 → Err Number ≡ ask_of verb (map (λ v. v.now) values)
-three verb [] least below = absurd (omega arith)
-three verb (a ∷ []) least below = absurd (omega arith)
-three verb (a ∷ b ∷ []) least below = absurd (omega arith)
-three verb (a ∷ b ∷ c ∷ []) least below = refl
-three verb (a ∷ b ∷ c ∷ d ∷ rest) least below = absurd (omega arith)
-
-seven : (verb : Verb) (values : List (Bor (List ℕ))) → 7 ≤ length values → Err Number ≡ ask_of verb (map (λ v. v.now) values)
-seven verb [] least = absurd (omega arith)
-seven verb (a ∷ []) least = absurd (omega arith)
-seven verb (a ∷ b ∷ []) least = absurd (omega arith)
-seven verb (a ∷ b ∷ c ∷ []) least = absurd (omega arith)
-seven verb (a ∷ b ∷ c ∷ d ∷ []) least = absurd (omega arith)
-seven verb (a ∷ b ∷ c ∷ d ∷ e ∷ []) least = absurd (omega arith)
-seven verb (a ∷ b ∷ c ∷ d ∷ e ∷ f ∷ []) least = absurd (omega arith)
-seven verb (a ∷ b ∷ c ∷ d ∷ e ∷ f ∷ g ∷ rest) least = refl
-
-pub returns-in_default : goal.returns-in_default
-returns-in_default c = seven c.args.verb c.args.values.now (omega arith)
-
-pub returns-in-len3 : goal.returns-in-len3
-returns-in-len3 c = three c.args.verb c.args.values.now c.in-len3.len_at_least c.in-len3.len_below
+pub returns-clause-number : goal.returns-clause-number
+returns-clause-number c = λ is same. misnumbered c.args.verb (map (λ v. v.now) c.args.values.now) ask_copies c.read_values.result c.read_values.ensures is (length-map c.args.values.now (λ v. v.now) ∙ same)

@@ -7,4 +7,4 @@ use Rattle.hotel_desk.proofs.asks.read_values.Goals as goal
 pub returns : goal.returns
 returns c =
     let P : List (List ℕ) → Type 0 = λ values. IsLineRead ask_copies (asked (ask_of c.args.verb values)) c.line_read.result in
-    subst P (c.as_slice.ensures ∙ c.in-Some.ensures.found) (c.line_read.ensures _ c.read_ask.ensures)
+    subst P (c.as_slice.ensures ∙ c.in-Some.ensures.found) (c.line_read.ensures _ c.read_ask.ensures.reading)

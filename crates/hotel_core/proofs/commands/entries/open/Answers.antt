@@ -14,36 +14,29 @@ use Rattle.hotel_core.proofs.commands.entries.open.Goals as goal
 abbrev Known : Note → RoomRow → ℕ → Link → Rows → Type 0
 Known note row number link rows = IsUntaken note row rows × (has_link_on rows number link ≡ true)
 
--- none is inside where it isn't so that any is
-empty_by : {none has : Bool} → not none ≡ has → not has ≡ none
-empty_by {none = true} e = ap not (sym e)
-empty_by {none = false} e = ap not (sym e)
-
 pub returns-in_err-lock_place : goal.returns-in_err-lock_place
 returns-in_err-lock_place g c = λ source.
     halted c.from_residual.result c.from_residual.ensures.1 (given (Known c.args.note.now c.args.row.now c.args.number c.args.link.now) c.requires.known) c.in_err-lock_place.ensures (λ w k. link_is_there _ _ _ w k.1)
 
-pub returns-in_err-has_inside : goal.returns-in_err-has_inside
-returns-in_err-has_inside g c = λ source.
-    stopped c.from_residual-in_err-has_inside.result c.from_residual-in_err-has_inside.ensures.1 (then_found (given (Known c.args.note.now c.args.row.now c.args.number c.args.link.now) c.requires.known) c.in_ok-lock_place.ensures)
-    c.in_err-has_inside.ensures (λ k e. cc)
+pub returns-in_err-secured : goal.returns-in_err-secured
+returns-in_err-secured g c = λ source.
+    stopped c.from_residual-in_err-secured.result c.from_residual-in_err-secured.ensures.1 (then_found (given (Known c.args.note.now c.args.row.now c.args.number c.args.link.now) c.requires.known) c.in_ok-lock_place.ensures)
+    c.in_err-secured.ensures (λ k e. cc)
 
 pub returns-in_err-is_inside : goal.returns-in_err-is_inside
 returns-in_err-is_inside g c = λ source.
     stopped c.from_residual-in_err-is_inside.result c.from_residual-in_err-is_inside.ensures.1
-    (then_found (then_found (given (Known c.args.note.now c.args.row.now c.args.number c.args.link.now) c.requires.known) c.in_ok-lock_place.ensures) (rw c.room.ensures at c.in_ok-has_inside.ensures))
+    (then_found (then_found (given (Known c.args.note.now c.args.row.now c.args.number c.args.link.now) c.requires.known) c.in_ok-lock_place.ensures) (rw c.room.ensures at c.in_ok-secured.ensures))
     c.in_err-is_inside.ensures (λ k e. cc)
 
 pub make-requires-clause-answered : goal.make-requires-clause-answered
 make-requires-clause-answered g c =
-    let secured = c.is_secured_by-secured.ensures in
     let insides = c.comes-insides.ensures in
-    answers (then_found (then_found (then_found (given (Known c.args.note.now c.args.row.now c.args.number c.args.link.now) c.requires.known) c.in_ok-lock_place.ensures) (rw c.room.ensures at c.in_ok-has_inside.ensures)) (rw c.room-2.ensures at c.in_ok-is_inside.ensures))
-    (λ clean k. comes_of _ _ _ (c.requires.outcome clean) (rw (k.0.0.0.0.0, k.0.0.1, secured, empty_by (only k.0.1), insides, only k.1) refl))
+    answers (then_found (then_found (then_found (given (Known c.args.note.now c.args.row.now c.args.number c.args.link.now) c.requires.known) c.in_ok-lock_place.ensures) (rw c.room.ensures at c.in_ok-secured.ensures)) (rw c.room-2.ensures at c.in_ok-is_inside.ensures))
+    (λ clean k. comes_of _ _ _ (c.requires.outcome clean) (rw (k.0.0.0.0.0, k.0.0.1, ← only k.0.1, insides, only k.1) refl))
 
 pub returns : goal.returns
 returns g c = λ source.
-    let secured = c.is_secured_by-secured.ensures in
     let insides = c.comes-insides.ensures in
-    ends (then_found (then_found (then_found (given (Known c.args.note.now c.args.row.now c.args.number c.args.link.now) c.requires.known) c.in_ok-lock_place.ensures) (rw c.room.ensures at c.in_ok-has_inside.ensures)) (rw c.room-2.ensures at c.in_ok-is_inside.ensures))
-    (c.make.ensures.steps source) (λ k. rw (k.0.0.0.0.0, k.0.0.1, secured, empty_by (only k.0.1), insides, only k.1) refl)
+    ends (then_found (then_found (then_found (given (Known c.args.note.now c.args.row.now c.args.number c.args.link.now) c.requires.known) c.in_ok-lock_place.ensures) (rw c.room.ensures at c.in_ok-secured.ensures)) (rw c.room-2.ensures at c.in_ok-is_inside.ensures))
+    (c.make.ensures.steps source) (λ k. rw (k.0.0.0.0.0, k.0.0.1, ← only k.0.1, insides, only k.1) refl)

@@ -3,7 +3,7 @@ use Rattle.hotel_core.specs.declared.reply.Refusal.TheVariants as refusal
 use Rattle.hotel_core.specs.declared.reply.Reply.TheVariants as reply
 use Rattle.hotel_core.specs.Refinement.OnRows.{outcome_on, reported_on}
 use Rattle.hotel_core.specs.Model.Outcome.{refused}
-use Rattle.hotel_core.proofs.OfCode.Parts.{begun, then_found, stopped, refuses, ends, only}
+use Rattle.hotel_core.proofs.OfCode.Parts.{begun, at_now, then_found, stopped, refuses, ends, only}
 use Rattle.hotel_core.proofs.OfCode.NoteParts.{reported_there, says}
 use Rattle.std.specs.Prelude.{[]}
 use Rattle.hotel_core.proofs.OfCode.AnswerParts.{comes_now}
@@ -48,3 +48,6 @@ pub returns-in-None : goal.returns-in-None
 returns-in-None g c = λ source.
     ends (then_found (then_found (then_found begun c.in_ok-today.ensures.finds) (rw c.room.ensures at c.in_ok-row.ensures)) c.in_ok-kept.ensures)
     (c.take_new.ensures source) (λ k. reported_there _ _ _ _ _ None k.0.0.1 k.0.1 (only k.1 ∙ c.in-None.is))
+
+pub kept_note-requires : goal.kept_note-requires
+kept_note-requires g c = λ clean. (at_now (then_found (then_found begun c.in_ok-today.ensures.finds) (rw c.room.ensures at c.in_ok-row.ensures)) clean).1

@@ -1,4 +1,4 @@
-use Rattle.std.proofs.Common.{ℕ, ◌≡◌, ◌+◌, List, Result, Ok, Err, true, false, ap, sym, ◌∙◌, arith}
+use Rattle.std.proofs.Common.{ℕ, ◌≡◌, ◌+◌, List, Result, Ok, Err, ap, sym, ◌∙◌, arith}
 use Rattle.std.specs.Prelude.{OnOk}
 use Rattle.hotel_nights.specs.Block.{one_if}
 use Rattle.hotel_nights.specs.FullNight.{takes}

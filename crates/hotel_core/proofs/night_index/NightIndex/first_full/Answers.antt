@@ -1,44 +1,25 @@
-use Rattle.std.proofs.Common.{◌≡◌, ℕ, ◌-◌, ◌<◌, Bool, true, Some, arith, ap, sym, ◌∙◌, nat_le}
-use Rattle.std.specs.Prelude.{if◌then◌else◌}
-use Rattle.std.specs.Map.Iter.{deref_pair}
-use Rattle.std.proofs.lemmas.Map.Iter.{rest_more}
-use Rattle.std.proofs.lemmas.Bool.Decides.{nat_tests}
+use Rattle.std.proofs.Common.{◌≡◌, ℕ, ◌-◌, Bool, arith, sym, ◌∙◌, Some, None, nat_le}
 use Rattle.hotel_nights.specs.FullNight.{first_day}
-use Rattle.hotel_nights.proofs.FirstDay.{first_day-found, first_day-end, first_day-lt, day_of_number-le}
+use Rattle.hotel_nights.proofs.FirstDay.{block-some, block-none, first_day-lt, first_day-end, day_of_number-le}
 use Rattle.hotel_core.specs.NightIndex.{counted}
-use Rattle.hotel_core.proofs.OfNights.NightsInOrder.{first_at, forward, first_in_range}
 use Rattle.hotel_core.proofs.night_index.NightIndex.first_full.Goals as goal
 
-pub returns-then-last-first : goal.returns-then-last-first
-returns-then-last-first c =
+pub returns-in-Some : goal.returns-in-Some
+returns-in-Some c =
     let test : ℕ → Bool = λ d. nat_le c.args.rooms (counted c.args.self.now c.args.kind.now d) in
-    first_day-end test c.args.arrive c.args.depart (omega arith)
+    let here : Some c.in-Some.night ≡ first_day test c.loop-first.first (c.end_of_part-end.result - c.loop-first.first) = sym c.in-Some.is ∙ c.first_in_part.ensures in
+    let lt = first_day-lt test c.loop-first.first c.end_of_part-end.result c.in-Some.night (omega arith) here in
+    let new : c.new.result ≡ Some c.in-Some.night = c.new.ensures ∙ day_of_number-le c.in-Some.night (omega arith) in
+    new ∙ (block-some test c.loop-first.first c.end_of_part-end.result c.number-last.result c.in-Some.night (omega arith) (omega arith) here ∙ (sym c.loop-first.invariant.rest))
 
-pub returns-then-rooms-eq0 : goal.returns-then-rooms-eq0
-returns-then-rooms-eq0 c =
+pub loop-first-preserved : goal.loop-first-preserved
+loop-first-preserved c =
     let test : ℕ → Bool = λ d. nat_le c.args.rooms (counted c.args.self.now c.args.kind.now d) in
-    let none : c.args.rooms ≡ 0 = omega arith in
-    let full : test c.args.arrive ≡ true = ap (λ n. nat_le n (counted c.args.self.now c.args.kind.now c.args.arrive)) none ∙ grind (arith, nat_tests) in
-    first_day-found test c.args.arrive c.args.depart (omega arith) full
+    let here : None ≡ first_day test c.loop-first.first (c.end_of_part-end.result - c.loop-first.first) = sym c.in_default.is ∙ c.first_in_part.ensures in
+    record {
+      small = omega arith;
+      rest = c.loop-first.invariant.rest ∙ block-none test c.loop-first.first c.end_of_part-end.result c.number-last.result (omega arith) (omega arith) here;
+    }
 
-pub range-key-items-requires : goal.range-key-items-requires
-range-key-items-requires c = forward c.args.kind.now c.number-first.result c.number-last.result (omega arith)
-
-pub loop-key-init : goal.loop-key-init
-loop-key-init c =
-    let some : 0 < c.args.rooms = omega arith in
-    let es = c.self.inside.counts.entries in
-    ap (first_at c.args.rooms) (c.into_iter-key-iterator.ensures.into_iter_gives ∙ c.range-key-items.ensures.between tt)
-    ∙ first_in_range c.args.kind.now c.args.rooms c.number-first.result c.number-last.result es some c.range-key-items.ensures.ordered
-    ∙ (λ i. first_day (λ d. nat_le c.args.rooms (counted (c.self.view_is i) c.args.kind.now d)) (c.number-first.ensures.same i) (c.number-last.ensures.same i - c.number-first.ensures.same i))
-
-pub returns-then-count-rooms : goal.returns-then-count-rooms
-returns-then-count-rooms c =
-    let test : ℕ → Bool = λ d. nat_le c.args.rooms (counted c.args.self.now c.args.kind.now d) in
-    let e = rest_more deref_pair c.loop-key.key-iterator c.next.new.self c.next.result (c.in-Some.key, c.in-Some.count) c.in-Some.is c.next.ensures.steps in
-    let night = c.in-Some.key.now.1 in
-    let full : nat_le c.args.rooms c.in-Some.count.now ≡ true = grind (arith, nat_tests, c.if-count-rooms.true) in
-    let here : first_at c.args.rooms c.loop-key.key-iterator ≡ Some night = ap (first_at c.args.rooms) e ∙ ap (λ b. if b then Some night else first_at c.args.rooms c.next.new.self) full in
-    let found : Some night ≡ first_day test c.args.arrive (c.args.depart - c.args.arrive) = sym here ∙ c.loop-key.invariant in
-    let lt = first_day-lt test c.args.arrive c.args.depart night (omega arith) found in
-    c.new.ensures ∙ day_of_number-le night (omega (arith, lt, c.number-last.ensures.same, c.number-last.ensures.known)) ∙ found
+pub returns : goal.returns
+returns c = first_day-end (λ d. nat_le c.args.rooms (counted c.args.self.now c.args.kind.now d)) c.loop-first.first c.number-last.result (omega arith) ∙ sym c.loop-first.invariant.rest

@@ -1,4 +1,4 @@
-use Rattle.std.proofs.Common.{◌≡◌, ◌-◌, true, false, ap, sym, ◌∙◌, arith}
+use Rattle.std.proofs.Common.{◌-◌, ap, sym, ◌∙◌, arith}
 use Rattle.hotel_nights.specs.Block.{one_if}
 use Rattle.hotel_core.specs.NightIndex.{counted, holds}
 use Rattle.hotel_core.proofs.OfNights.NightsStanding.{takes_by, takes_none}

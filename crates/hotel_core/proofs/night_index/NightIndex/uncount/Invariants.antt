@@ -9,3 +9,6 @@ invariant-loop-night l = record {
   short : l.night - l.from ≤ l.to - l.from;
   counts : (k : List ℕ) (d : ℕ) → counted l.self k d ≡ counted l.initial.self k d - one_if (holds l.kind l.from l.night k d);
 }
+
+abbrev pub decreases-loop-night : goal.decreases-loop-night
+decreases-loop-night l = l.to - l.night

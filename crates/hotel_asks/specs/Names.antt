@@ -1,0 +1,67 @@
+-- The words of verbs, and the names of their values, as users read them.
+use Rattle.std.specs.Prelude.{ℕ, List, [], ◌∷◌, codes}
+use Rattle.hotel_asks.specs.declared.values.ValueName.{ValueName}
+use Rattle.hotel_asks.specs.declared.values.ValueName.TheVariants.{Day, Kind, Arrive, Nights, Guest, Room, Party, Card, Count, Old, New, From, To, Moment, File, Port}
+use Rattle.hotel_asks.specs.declared.verbs.Verb.{Verb}
+use Rattle.hotel_asks.specs.declared.verbs.Verb.TheVariants as verb
+
+-- The name of a value, in capital letters.
+abbrev pub name_text : ValueName → List ℕ
+name_text Day = codes "DAY"
+name_text Kind = codes "KIND"
+name_text Arrive = codes "ARRIVE"
+name_text Nights = codes "NIGHTS"
+name_text Guest = codes "GUEST"
+name_text Room = codes "ROOM"
+name_text Party = codes "PARTY"
+name_text Card = codes "CARD"
+name_text Count = codes "COUNT"
+name_text Old = codes "OLD"
+name_text New = codes "NEW"
+name_text From = codes "FROM"
+name_text To = codes "TO"
+name_text Moment = codes "MOMENT"
+name_text File = codes "FILE"
+name_text Port = codes "PORT"
+
+-- The word of a verb.
+abbrev pub word_of : Verb → List ℕ
+word_of verb.Begin = codes "begin"
+word_of verb.AddKind = codes "add-kind"
+word_of verb.AddRoom = codes "add-room"
+word_of verb.Reserve = codes "reserve"
+word_of verb.Cancel = codes "cancel"
+word_of verb.CheckIn = codes "check-in"
+word_of verb.Spare = codes "spare"
+word_of verb.Transfer = codes "transfer"
+word_of verb.CheckOut = codes "check-out"
+word_of verb.NextDay = codes "next-day"
+word_of verb.Entered = codes "entered"
+word_of verb.Left = codes "left"
+word_of verb.Recoded = codes "recoded"
+word_of verb.Arrivals = codes "arrivals"
+word_of verb.InHouse = codes "in-house"
+word_of verb.ChainOf = codes "chain"
+word_of verb.LeftBehind = codes "left-behind"
+word_of verb.AuditOf = codes "audit-of"
+
+-- The values of a verb, in their order.
+abbrev pub names_of : Verb → List ValueName
+names_of verb.Begin = Day ∷ []
+names_of verb.AddKind = Kind ∷ []
+names_of verb.AddRoom = Room ∷ Kind ∷ []
+names_of verb.Reserve = Kind ∷ Arrive ∷ Nights ∷ Guest ∷ []
+names_of verb.Cancel = Party ∷ []
+names_of verb.CheckIn = Party ∷ Room ∷ []
+names_of verb.Spare = Party ∷ []
+names_of verb.Transfer = Party ∷ Room ∷ []
+names_of verb.CheckOut = Party ∷ []
+names_of verb.NextDay = []
+names_of verb.Entered = Room ∷ Count ∷ Card ∷ Old ∷ New ∷ Moment ∷ []
+names_of verb.Left = Room ∷ Count ∷ Card ∷ Old ∷ New ∷ Moment ∷ []
+names_of verb.Recoded = Room ∷ Count ∷ From ∷ To ∷ Moment ∷ []
+names_of verb.Arrivals = Day ∷ []
+names_of verb.InHouse = []
+names_of verb.ChainOf = Room ∷ []
+names_of verb.LeftBehind = []
+names_of verb.AuditOf = Room ∷ []

@@ -1,0 +1,23 @@
+-- Notes after all that a room's row counts.
+use Rattle.std.proofs.Common.{ℕ, ◌≡◌, ◌+◌, ◌≤◌, ◌<◌, Some, None, length, ap, subst, arith}
+use Rattle.hotel_core.specs.declared.books.rows.RoomRow.{RoomRow}
+use Rattle.hotel_core.specs.Model.Rows.{Rows}
+use Rattle.hotel_core.specs.Model.History.{History, start}
+use Rattle.hotel_core.specs.Model.Notes.{notes}
+use Rattle.hotel_core.specs.Model.RowsOf.{rows_of}
+use Rattle.hotel_core.specs.Model.Run.{Reached}
+use Rattle.hotel_core.specs.Model.Sound.{IsSound}
+use Rattle.hotel_core.specs.Books.Lookups.{room_at, note_at}
+use Rattle.hotel_core.proofs.OfTables.NotesKept.{next_not_found}
+use Rattle.hotel_core.proofs.Starts.StartRows.{rows_of_start}
+use Rattle.hotel_core.proofs.Lifted.Whole.{its_row}
+
+none_later : (h : History) → Reached h → (room count : ℕ) (row : RoomRow) → row.notes < count → room_at (rows_of h) room ≡ Some row → note_at (rows_of h) room count ≡ None
+none_later h ok room count row later e =
+    let n : row.notes ≡ length (notes h room) = ap (λ (r : RoomRow). r.notes) (its_row h room row e).1 in
+    next_not_found h ok room count (omega (arith, n, later))
+
+-- in sound rows no note of the room is there
+pub no_later_note : (rows : Rows) → IsSound rows → (room count : ℕ) (row : RoomRow) → row.notes < count → room_at rows room ≡ Some row → note_at rows room count ≡ None
+no_later_note rows sound room count row later =
+    subst (λ rs. room_at rs room ≡ Some row → note_at rs room count ≡ None) (rows_of_start rows sound) (none_later (start rows) sound room count row later)

@@ -1,0 +1,14 @@
+use Rattle.std.proofs.Common.{◌≡◌, ℕ, Bool, true, false, replicate, refl, sym, ap, ◌∙◌}
+use Rattle.std.specs.Prelude.{not, slice_index, bytes_eq}
+use Rattle.std.proofs.lemmas.Slice.Eq.{bytes_eq-Decides}
+use Rattle.hotel_core.proofs.OfNights.NightCounts.{zeros}
+use Rattle.hotel_core.proofs.night_counts.less.Goals as goal
+
+not_false : (b : Bool) → not b ≡ false → b ≡ true
+not_false true h = refl
+not_false false h = sym h
+
+pub returns-clause-none : goal.returns-clause-none
+returns-clause-none c = λ none j.
+    let zeros_left = (bytes_eq-Decides c.loop-place.counts (replicate {A = ℕ} 32 0)).0 (not_false (bytes_eq c.loop-place.counts (replicate {A = ℕ} 32 0)) (sym c.ne.ensures ∙ none)) in
+    ap (λ xs. slice_index xs j) zeros_left ∙ zeros j

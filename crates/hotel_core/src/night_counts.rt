@@ -1,0 +1,26 @@
+//! The counts of 32 nights.
+ghost use Rattle.std.specs.Prelude.{◌≡◌, ℕ, ◌+◌, ◌-◌, ◌^◌, ◌<◌, ◌≤◌, ◌&&◌, false, nat_le, nat_lt, slice_index};
+ghost use Rattle.hotel_nights.specs.Block.{one_if};
+
+/// One more stay takes each night from the place `from` on and before `to`.
+pub(crate) fn more(counts: &mut [usize; 32], from: usize, to: usize)
+    requires within { to ≤ 32 }
+    requires few { (j : ℕ) → from ≤ j → j < to → slice_index counts.old j < 2 ^ 63 }
+    ensures { (j : ℕ) → slice_index counts.new j ≡ slice_index counts.old j + one_if (nat_le from j && nat_lt j to) }
+{
+    for place in from..to {
+        counts[place] += 1;
+    }
+}
+
+/// One stay less takes each night from the place `from` on and before `to`, where any does. Whether a stay takes any night.
+pub(crate) fn less(counts: &mut [usize; 32], from: usize, to: usize) -> bool
+    requires { to ≤ 32 }
+    ensures counts { (j : ℕ) → slice_index counts.new j ≡ slice_index counts.old j - one_if (nat_le from j && nat_lt j to) }
+    ensures none { result ≡ false → (j : ℕ) → slice_index counts.new j ≡ 0 }
+{
+    for place in from..to {
+        counts[place] = counts[place].saturating_sub(1);
+    }
+    *counts != [0; 32]
+}

@@ -1,0 +1,49 @@
+-- The command line: its subcommands, each with the values that it takes.
+use Rattle.std.specs.Prelude.{ℕ, List, [], ◌∷◌, ◌++◌, map, codes, true, false, Some}
+use Rattle.clap.specs.Words.{App, Rule, Shape, Text, new_rule}
+use Rattle.clap.specs.Simple.{new_shape}
+use Rattle.hotel_asks.specs.Names.{name_text, names_of, word_of}
+use Rattle.hotel_asks.specs.declared.values.ValueName.{ValueName}
+use Rattle.hotel_asks.specs.declared.values.ValueName.TheVariants.{File, Port, Count}
+use Rattle.hotel_asks.specs.declared.verbs.Verb.{Verb}
+use Rattle.hotel_asks.specs.declared.verbs.Verb.TheVariants.{Begin, AddKind, AddRoom, Reserve, Cancel, CheckIn, Spare, Transfer, CheckOut, NextDay, Entered, Left, Recoded, Arrivals, InHouse, ChainOf, LeftBehind, AuditOf}
+
+-- A value that is always given.
+abbrev pub value_rule : ValueName → Rule
+value_rule name = record (new_rule (name_text name)) { required = true }
+
+-- A subcommand with its values.
+abbrev pub leaf : Text → List ValueName → Shape
+leaf name values = record (new_shape name) { rules = map value_rule values }
+
+-- The subcommand of a verb.
+abbrev pub verb_leaf : Verb → Shape
+verb_leaf verb = leaf (word_of verb) (names_of verb)
+
+-- The verbs, in the order in which help lists them.
+abbrev pub verbs : List Verb
+verbs = Begin ∷ AddKind ∷ AddRoom ∷ Reserve ∷ Cancel ∷ CheckIn ∷ Spare ∷ Transfer ∷ CheckOut ∷ NextDay ∷ Entered ∷ Left ∷ Recoded
+    ∷ Arrivals ∷ InHouse ∷ ChainOf ∷ LeftBehind ∷ AuditOf ∷ []
+
+-- An option that names a file, before the subcommand.
+abbrev pub option_rule : Text → Rule
+option_rule name = record (new_rule name) { long = Some name }
+
+-- The words before the subcommand, and that there must be one.
+abbrev pub options : App
+options = record {
+  top = record (new_shape (codes "hotel_desk")) {
+    rules = option_rule (codes "db") ∷ option_rule (codes "seed-file") ∷ [];
+    no_binary_name = true;
+    subcommand_required = true;
+  };
+  subs = [];
+}
+
+-- What the program does beside verbs: an audit file, a script, and serving.
+abbrev pub own_leaves : List Shape
+own_leaves = leaf (codes "audit") (File ∷ []) ∷ leaf (codes "script") [] ∷ leaf (codes "serve") (Port ∷ Count ∷ []) ∷ []
+
+-- The whole command line.
+unfoldable pub desk : App
+desk = record { top = record options.top { is_leaf = false }; subs = map verb_leaf verbs ++ own_leaves }

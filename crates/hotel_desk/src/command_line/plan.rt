@@ -1,0 +1,78 @@
+//! What the words of a call ask for, and why they don't.
+
+ghost use Rattle.std.specs.Prelude.{◌≡◌, IfOk};
+
+use hotel_asks::{ListAsk, ValueName};
+use hotel_core::Command;
+use std::alloc::{AllocError, Global};
+use std::marker::Model;
+
+/// The name of a file. Contracts see its bytes.
+#[derive(Drop)]
+pub struct FileName {
+    text: String,
+}
+
+impl Model for FileName {
+    ghost use Rattle.std.specs.Prelude.{ℕ, List, string_bytes};
+
+    ghost Value = { List ℕ };
+
+    ghost view = { λ name. string_bytes name.text };
+}
+
+impl FileName {
+    /// A copy of the text.
+    pub fn of(alloc: Global, text: &str) -> Result<FileName, AllocError>
+        ensures { IfOk result (λ name. name ≡ text.now) }
+    {
+        Ok(FileName {
+            text: String::from_str(alloc, text)?,
+        })
+    }
+
+    /// The name as text.
+    pub fn as_str(&self) -> &str
+        ensures { result.now ≡ self.now }
+    {
+        self.text.as_str()
+    }
+}
+
+/// What the program is to do.
+#[derive(Drop)]
+pub enum DeskAct {
+    /// Carry out one command and print its reply.
+    One(Command),
+    /// Print a list.
+    List(ListAsk),
+    /// Import the audit file of that name.
+    Audit(FileName),
+    /// Carry out the script on standard input.
+    Script,
+    /// Answer so many connections on the port of the loopback address.
+    Serve { port: u16, count: u32 },
+}
+
+/// What the words ask for.
+#[derive(Drop)]
+pub struct Plan {
+    /// The file that has the books; in memory where there is none.
+    pub db: Option<FileName>,
+    /// The file whose first 32 bytes are the seed; the system's source where none was named.
+    pub seed_file: Option<FileName>,
+    pub act: DeskAct,
+}
+
+/// Why the words give no plan.
+#[derive(Drop)]
+pub enum UsageFault {
+    /// Help was asked for: its text.
+    Shown(String),
+    /// The words aren't those of the command line: what is said of them.
+    Usage(String),
+    /// The first value that its reader refuses.
+    Value(ValueName),
+    /// A growth of memory was refused.
+    Memory,
+}

@@ -1,0 +1,278 @@
+//! Codes, locks, chains, draws and lock notes: their part of each scenario, and what no clause says.
+ghost use Rattle.std.specs.Prelude.{[], refl};
+
+use keycard_rules::{
+    Act, CardNo, Chain, Code, Count, DrawFault, Issued, Link, ListedCodes, ListedWords, LockNote,
+    LookFault, Memory, RecodeFault, RoomNo, Turned, draw_fresh, turn,
+};
+use rand_core::Rng;
+use std::process::Abort;
+use std::test::Fail;
+
+fn code<A: Abort>(rt: &A, value: u64) -> Code {
+    Code::new(value).expect(rt, "a value below 2^48")
+}
+
+/// Issues a code that the chain doesn't hold.
+fn issued<A: Abort>(rt: &A, chain: &mut Chain, value: u64) -> Link {
+    let next = code(rt, value);
+    assert!(rt; !chain.holds(next), "the code stands already");
+    chain.issue(next).expect(rt, "ample memory")
+}
+
+/// The words of these codes, the last one repeated for ever.
+fn source<A: Abort>(rt: &A, words: Vec<u64>) -> ListedWords {
+    ListedWords::new(words).expect(rt, "a list that isn't empty")
+}
+
+#[test]
+fn value_readers(rt: HostRuntime) {
+    let read = Code::read(b"ABC").expect(&rt, "hexadecimal digits");
+    assert_eq!(rt; read.print(), *b"000000000abc");
+    assert_eq!(rt; Code::read(b"aBc"), Some(read));
+    for text in [
+        b"".as_slice(),
+        b"1234567890123",
+        b"xyz",
+        b" ab",
+        b"a b",
+        b"0x1",
+        b"-1",
+    ] {
+        assert_eq!(rt; Code::read(text), None, "{text:?}");
+    }
+    assert_eq!(rt; Code::read(b"ffffffffffff"), Code::new(281_474_976_710_655));
+    assert_eq!(rt; Code::new(281_474_976_710_656), None);
+
+    let greatest = CardNo::new(9_999_999).expect(&rt, "a number in range");
+    assert_eq!(rt; greatest.next(), None);
+    assert_eq!(rt; CardNo::read(b"009999999"), Some(greatest));
+    for text in [
+        b"".as_slice(),
+        b"0",
+        b"10000000",
+        b"0000000001",
+        b"a",
+        b"+1",
+        b" 1",
+    ] {
+        assert_eq!(rt; CardNo::read(text), None, "{text:?}");
+    }
+    assert_eq!(rt; RoomNo::new(10_000), None);
+    let first = RoomNo::new(1).expect(&rt, "a number in range");
+    assert_eq!(rt; first.next(), RoomNo::new(2));
+    assert_eq!(rt; first.value(), 1);
+}
+
+#[test]
+fn value_readers_of_a_chain(rt: HostRuntime) -> Result<(), Fail> {
+    let old_code = code(&rt, 0xa0);
+    let new_code = code(&rt, 0xa1);
+    let mut chain = Chain::install(rt.alloc(), old_code)?;
+    let link = issued(&rt, &mut chain, 0xa1);
+    assert_eq!(rt; link, Link { old_code, new_code });
+    let turned = Turned {
+        before: old_code,
+        after: new_code,
+    };
+    assert_eq!(rt; chain.enter(&link), Some(turned));
+    Ok(())
+}
+
+#[test]
+fn lock_rule(rt: HostRuntime) {
+    let old_code = code(&rt, 0xa0);
+    let new_code = code(&rt, 0xa1);
+    let link = Link { old_code, new_code };
+    assert_eq!(rt; turn(old_code, &link), Some(new_code));
+    assert_eq!(rt; turn(new_code, &link), Some(new_code));
+    assert_eq!(rt; turn(code(&rt, 0xa2), &link), None);
+}
+
+#[test]
+fn left_behind_recoded(rt: HostRuntime) -> Result<(), Fail> {
+    let first = code(&rt, 0xa0);
+    let third = code(&rt, 0xa2);
+    let mut chain = Chain::install(rt.alloc(), first)?;
+    issued(&rt, &mut chain, 0xa1);
+    let newest = issued(&rt, &mut chain, 0xa2);
+    assert_eq!(rt; chain.enter(&newest), None);
+    assert_eq!(rt; chain.held(), first);
+    assert_eq!(rt; chain.current(), third);
+    assert_eq!(rt; chain.awaited_len(), 2);
+    assert_eq!(rt; chain.recode(first, third), Ok(()));
+    let kept = Turned {
+        before: third,
+        after: third,
+    };
+    assert_eq!(rt; chain.enter(&newest), Some(kept));
+    assert_eq!(rt; chain.held(), third);
+    assert_eq!(rt; chain.awaited_len(), 0);
+    assert!(rt; chain.holds(code(&rt, 0xa1)));
+    Ok(())
+}
+
+#[test]
+fn recoding_refused(rt: HostRuntime) -> Result<(), Fail> {
+    let first = code(&rt, 0xa0);
+    let second = code(&rt, 0xa1);
+    let third = code(&rt, 0xa2);
+    let mut chain = Chain::install(rt.alloc(), first)?;
+    let link = issued(&rt, &mut chain, 0xa1);
+    issued(&rt, &mut chain, 0xa2);
+    assert!(rt; chain.enter(&link).is_some());
+    for to in [first, code(&rt, 0xb0), second] {
+        assert_eq!(rt;
+            chain.recode(second, to),
+            Err(RecodeFault::NotAwaited),
+            "to {to:?}"
+        );
+    }
+    assert_eq!(rt; chain.recode(first, third), Err(RecodeFault::HeldDiffers));
+    assert_eq!(rt; chain.held(), second);
+    assert_eq!(rt; chain.recode(second, third), Ok(()));
+    assert_eq!(rt; chain.held(), third);
+    Ok(())
+}
+
+#[test]
+fn code_drawn_twice(rt: HostRuntime) -> Result<(), Fail> {
+    let mut words = source(&rt, [0xa0_0000, 0xa0_0000, 0xb0_0000].to_vec(rt.alloc())?);
+    let first = draw_fresh(&mut words, &mut ListedCodes::new(Vec::new(rt.alloc())));
+    assert_eq!(rt; first, Ok(code(&rt, 0xa0)));
+    let mut taken = ListedCodes::new([code(&rt, 0xa0)].to_vec(rt.alloc())?);
+    assert_eq!(rt; draw_fresh(&mut words, &mut taken), Ok(code(&rt, 0xb0)));
+    Ok(())
+}
+
+#[test]
+fn no_fresh_code(rt: HostRuntime) -> Result<(), Fail> {
+    let mut list = Vec::new(rt.alloc());
+    for _ in 0..128u32 {
+        list.push(0xa0_0000)?;
+    }
+    list.push(0xb0_0000)?;
+    let mut words = source(&rt, list);
+    let mut taken = ListedCodes::new([code(&rt, 0xa0)].to_vec(rt.alloc())?);
+    assert_eq!(rt;
+        draw_fresh(&mut words, &mut taken),
+        Err(DrawFault::NoFreshCode)
+    );
+    assert_eq!(rt;
+        draw_fresh(&mut words, &mut taken),
+        Err(DrawFault::NoFreshCode)
+    );
+    // The two draws have examined 64 words each.
+    assert_eq!(rt; draw_fresh(&mut words, &mut taken), Ok(code(&rt, 0xb0)));
+    Ok(())
+}
+
+/// Look-ups that say that every code was issued, and fail once some were made.
+#[derive(Drop)]
+struct FailingCodes {
+    left: u32,
+    fault: LookFault,
+    failures: u64,
+}
+
+impl Issued for FailingCodes {
+    ghost issued = { λ _. [] };
+
+    ghost is_clean = { λ _. ⊥ };
+
+    ghost is_kept = { λ _ _. Unit {0} };
+
+    ghost failures = { λ codes _. codes.failures };
+
+    ghost never_fails = { ⊥ };
+
+    fn is_issued(&mut self, _code: Code) -> Result<bool, LookFault> {
+        if self.left == 0 {
+            self.failures = self.failures.saturating_add(1);
+            return Err(self.fault);
+        }
+        self.left -= 1;
+        Ok(true)
+    }
+
+    ghost never_store = { λ a never. absurd never };
+
+    ghost kept_refl = { λ a. tt };
+
+    ghost kept_trans = { λ a b c first second. tt };
+
+    ghost kept_issued = { λ a b kept. refl };
+}
+
+#[test]
+fn failed_look_ups(rt: HostRuntime) -> Result<(), Fail> {
+    for (fault, want) in [
+        (LookFault::Memory, DrawFault::Memory),
+        (LookFault::Store, DrawFault::Store),
+    ] {
+        let mut words = source(&rt, [1, 2, 3, 4].to_vec(rt.alloc())?);
+        let mut codes = FailingCodes {
+            left: 2,
+            fault,
+            failures: 0,
+        };
+        assert_eq!(rt; draw_fresh(&mut words, &mut codes), Err(want));
+        assert_eq!(rt; codes.failures, 1);
+        assert_eq!(rt; words.next_u64(), 4, "three words were examined");
+    }
+    Ok(())
+}
+
+#[test]
+fn notes_of_a_lock(rt: HostRuntime) {
+    let room = RoomNo::new(101).expect(&rt, "a number in range");
+    let count = Count::new(1).expect(&rt, "a number in range");
+    let recoded = Act::Recoded {
+        from: code(&rt, 0xa0),
+        to: code(&rt, 0xa1),
+    };
+    assert_eq!(rt; LockNote::new(room, count, recoded, 36_525, 0), None);
+    assert_eq!(rt; LockNote::new(room, count, recoded, 0, 86_400), None);
+    let note = LockNote::new(room, count, recoded, 36_524, 86_399).expect(&rt, "the last second");
+    assert_eq!(rt; note.room(), room);
+    assert_eq!(rt; note.count(), count);
+    assert_eq!(rt; note.act(), recoded);
+    assert_eq!(rt; (note.day(), note.second()), (36_524, 86_399));
+    assert_ne!(rt;
+        LockNote::new(room, count, recoded, 36_524, 86_398),
+        Some(note)
+    );
+}
+
+#[test]
+fn listed_words(rt: HostRuntime) -> Result<(), Fail> {
+    assert!(rt; ListedWords::new(Vec::new(rt.alloc())).is_none());
+    let mut words = source(&rt, [0x1_0000_0002, 3].to_vec(rt.alloc())?);
+    assert_eq!(rt; words.next_u32(), 2);
+    assert_eq!(rt; words.next_u64(), 3);
+    let mut bytes = [0; 9];
+    words.fill_bytes(&mut bytes);
+    assert_eq!(rt; bytes, [3, 0, 0, 0, 0, 0, 0, 0, 3]);
+    Ok(())
+}
+
+/// Where a growth is refused, the fault is want of memory, and the same call finds memory the next time.
+#[test]
+fn refused_growth(rt: HostRuntime) -> Result<(), Fail> {
+    let mut chain = match Chain::install(rt.alloc(), code(&rt, 0)) {
+        Ok(chain) => chain,
+        Err(Memory) => Chain::install(rt.alloc(), code(&rt, 0))?,
+    };
+    for value in 1..40u64 {
+        let next = code(&rt, value);
+        assert!(rt; !chain.holds(next));
+        if chain.issue(next) == Err(Memory) {
+            assert!(rt; !chain.holds(next), "a refusal changes nothing");
+            assert_eq!(rt; chain.issue(next)?.new_code, next);
+        }
+        assert_eq!(rt; chain.current(), next);
+        assert_eq!(rt; chain.held(), code(&rt, 0));
+    }
+    assert_eq!(rt; chain.awaited_len(), 39);
+    Ok(())
+}

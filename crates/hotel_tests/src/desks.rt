@@ -1,0 +1,231 @@
+//! A desk over books in memory, for the tests of books, lists and imports.
+use hotel_core::{Command, ListBooks, Reply, step};
+use hotel_nights::{Day, Guest, KindCode, Nights};
+use keycard_rules::{Act, CardNo, Code, Count, Link, ListedWords, LockNote, PartyNo, RoomNo};
+use std::alloc::Global;
+use std::test::Fail;
+
+/// 2031-05-01.
+pub(crate) const FIRST_DAY: u16 = 11_443;
+
+/// 15:00:00.
+pub(crate) const AFTERNOON: u32 = 54_000;
+
+/// A desk over books in memory.
+#[derive(Drop)]
+pub(crate) struct Desk {
+    pub alloc: Global,
+    pub books: ListBooks,
+    pub source: ListedWords,
+}
+
+pub(crate) fn day(number: u16) -> Result<Day, Fail> {
+    Ok(Day::new(number).ok_or("a day")?)
+}
+
+pub(crate) fn kind() -> Result<KindCode, Fail> {
+    Ok(KindCode::read(b"DBL").ok_or("a kind")?)
+}
+
+pub(crate) fn room(number: u32) -> Result<RoomNo, Fail> {
+    Ok(RoomNo::new(number).ok_or("a room")?)
+}
+
+pub(crate) fn party(number: u32) -> Result<PartyNo, Fail> {
+    Ok(PartyNo::new(number).ok_or("a party")?)
+}
+
+pub(crate) fn code(value: u64) -> Result<Code, Fail> {
+    Ok(Code::new(value).ok_or("a code")?)
+}
+
+/// The note of a count at a room, on the first day.
+pub(crate) fn note(number: u32, count: u32, act: Act, second: u32) -> Result<LockNote, Fail> {
+    let count = Count::new(count).ok_or("a count")?;
+    Ok(LockNote::new(room(number)?, count, act, FIRST_DAY, second).ok_or("a note")?)
+}
+
+pub(crate) fn link(old: u64, new: u64) -> Result<Link, Fail> {
+    Ok(Link {
+        old_code: code(old)?,
+        new_code: code(new)?,
+    })
+}
+
+pub(crate) fn entered(
+    number: u32,
+    count: u32,
+    card: u32,
+    old: u64,
+    new: u64,
+) -> Result<LockNote, Fail> {
+    let card = CardNo::new(card).ok_or("a card")?;
+    let link = link(old, new)?;
+    note(number, count, Act::Entered { card, link }, AFTERNOON)
+}
+
+pub(crate) fn left(
+    number: u32,
+    count: u32,
+    card: u32,
+    old: u64,
+    new: u64,
+) -> Result<LockNote, Fail> {
+    let card = CardNo::new(card).ok_or("a card")?;
+    let link = link(old, new)?;
+    note(number, count, Act::Left { card, link }, AFTERNOON + 3_600)
+}
+
+/// Words by which a source gives these codes.
+pub(crate) fn words_of(alloc: Global, codes: &[u64]) -> Result<Vec<u64>, Fail> {
+    let mut words = Vec::new(alloc);
+    for code in codes {
+        words.push(code.wrapping_mul(65_536))?;
+    }
+    Ok(words)
+}
+
+impl Desk {
+    /// A desk whose source gives these codes.
+    pub fn of_codes(alloc: Global, codes: &[u64]) -> Result<Desk, Fail> {
+        let source = ListedWords::new(words_of(alloc, codes)?).ok_or("no words")?;
+        Ok(Desk {
+            alloc,
+            books: ListBooks::empty(alloc),
+            source,
+        })
+    }
+
+    /// A desk that has begun, with rooms of one kind, whose source gives these codes.
+    pub fn begun(alloc: Global, codes: &[u64], rooms: &[u32]) -> Result<Desk, Fail> {
+        let mut desk = Desk::of_codes(alloc, codes)?;
+        desk.begins(rooms)?;
+        Ok(desk)
+    }
+
+    /// Room 101, where party 1 checked in: code a0, then a1. The source gives a2 and b0 next.
+    pub fn of_one_guest(alloc: Global) -> Result<Desk, Fail> {
+        let mut desk = Desk::begun(alloc, &[0xa0, 0xa1, 0xa2, 0xb0], &[101])?;
+        desk.has_a_guest()?;
+        Ok(desk)
+    }
+
+    /// The same desk, after party 1 checked out and party 2 checked in there: code a2.
+    pub fn of_next_guest(alloc: Global) -> Result<Desk, Fail> {
+        let mut desk = Desk::of_one_guest(alloc)?;
+        desk.has_a_next_guest()?;
+        Ok(desk)
+    }
+
+    /// Begins, with rooms of one kind.
+    pub fn begins(&mut self, rooms: &[u32]) -> Result<(), Fail> {
+        self.does(&Command::Begin(day(FIRST_DAY)?))?;
+        self.does(&Command::AddKind(kind()?))?;
+        for number in rooms {
+            self.add_room(*number, kind()?)?;
+        }
+        Ok(())
+    }
+
+    /// A command that is accepted.
+    pub fn does(&mut self, command: &Command) -> Result<(), Fail> {
+        match step(&mut self.books, &mut self.source, command) {
+            Reply::Refused(_) => Err(Fail::from("refused")),
+            _ => Ok(()),
+        }
+    }
+
+    /// A note that is taken.
+    pub fn takes(&mut self, note: LockNote) -> Result<(), Fail> {
+        self.does(&Command::Reported(note))
+    }
+
+    pub fn add_room(&mut self, number: u32, kind: KindCode) -> Result<(), Fail> {
+        let room = room(number)?;
+        self.does(&Command::AddRoom { room, kind })
+    }
+
+    pub fn reserve(&mut self, name: &str, arrive: u16, nights: u8) -> Result<(), Fail> {
+        let kind = kind()?;
+        let arrive = day(arrive)?;
+        let nights = Nights::new(nights).ok_or("nights")?;
+        let guest = Guest::read(self.alloc, name)?;
+        self.does(&Command::Reserve {
+            guest,
+            kind,
+            arrive,
+            nights,
+        })
+    }
+
+    pub fn check_in(&mut self, number: u32, to: u32) -> Result<(), Fail> {
+        let party = party(number)?;
+        let room = room(to)?;
+        self.does(&Command::CheckIn { party, room })
+    }
+
+    pub fn check_out(&mut self, number: u32) -> Result<(), Fail> {
+        self.does(&Command::CheckOut(party(number)?))
+    }
+
+    pub fn transfer(&mut self, number: u32, to: u32) -> Result<(), Fail> {
+        let party = party(number)?;
+        let room = room(to)?;
+        self.does(&Command::Transfer { party, room })
+    }
+
+    /// Party 1 checks in at room 101.
+    fn has_a_guest(&mut self) -> Result<(), Fail> {
+        self.reserve("Ann Lee", FIRST_DAY, 2)?;
+        self.check_in(1, 101)
+    }
+
+    /// Party 1 leaves, and party 2 checks in there.
+    fn has_a_next_guest(&mut self) -> Result<(), Fail> {
+        self.check_out(1)?;
+        self.reserve("Bo", FIRST_DAY, 2)?;
+        self.check_in(2, 101)
+    }
+
+    /// The first card enters room 101 twice.
+    pub fn enters_twice(&mut self) -> Result<(), Fail> {
+        self.has_a_guest()?;
+        self.takes(entered(101, 1, 1, 0xa0, 0xa1)?)?;
+        self.takes(entered(101, 2, 1, 0xa0, 0xa1)?)
+    }
+
+    /// A guest leaves who never entered room 101, and the next one checks in.
+    pub fn leaves_behind(&mut self) -> Result<(), Fail> {
+        self.has_a_guest()?;
+        self.has_a_next_guest()
+    }
+
+    /// A party goes to another room, and comes back to room 101, where another one was.
+    pub fn goes_away_and_back(&mut self) -> Result<(), Fail> {
+        self.reserve("Ann Lee", FIRST_DAY, 2)?;
+        self.reserve("Bo", FIRST_DAY, 2)?;
+        self.check_in(1, 101)?;
+        self.takes(entered(101, 1, 1, 0xa0, 0xa1)?)?;
+        self.takes(left(101, 2, 1, 0xa0, 0xa1)?)?;
+        self.transfer(1, 102)?;
+        self.check_in(2, 101)?;
+        self.check_out(2)?;
+        self.transfer(1, 101)?;
+        self.takes(entered(101, 3, 1, 0xa0, 0xa1)?)
+    }
+
+    /// Then it leaves, and enters by its later cards.
+    pub fn enters_by_later_cards(&mut self) -> Result<(), Fail> {
+        self.takes(left(101, 4, 1, 0xa0, 0xa1)?)?;
+        self.takes(entered(101, 5, 3, 0xa1, 0xa2)?)?;
+        self.takes(left(101, 6, 3, 0xa1, 0xa2)?)?;
+        self.takes(entered(101, 7, 4, 0xa2, 0xa3)?)
+    }
+
+    /// The first card enters room 101 and leaves it.
+    pub fn enters_and_leaves(&mut self) -> Result<(), Fail> {
+        self.has_a_guest()?;
+        self.takes(entered(101, 1, 1, 0xa0, 0xa1)?)?;
+        self.takes(left(101, 2, 1, 0xa0, 0xa1)?)
+    }
+}

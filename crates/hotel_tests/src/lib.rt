@@ -1,0 +1,29 @@
+//! Tests of the crates below the desk, in a crate of their own: so none of those is proved a second time with its tests.
+#![tactic(auto)]
+
+#[cfg(test)]
+mod audit_files;
+#[cfg(test)]
+mod codes;
+#[cfg(test)]
+mod desks;
+#[cfg(test)]
+mod failing_walks;
+#[cfg(test)]
+mod imports;
+#[cfg(test)]
+mod lists;
+#[cfg(test)]
+mod long_lists;
+#[cfg(test)]
+mod reads_and_writes;
+#[cfg(test)]
+mod rooms_now;
+#[cfg(test)]
+mod stopped_imports;
+#[cfg(test)]
+mod stopping;
+#[cfg(test)]
+mod values;
+#[cfg(test)]
+mod whole_or_nothing;

@@ -1,0 +1,169 @@
+//! Lists longer than what is gathered for one write, some 8 KB, of guests of the greatest length with quotes and commas.
+use crate::desks::{Desk, FIRST_DAY, day, kind};
+use hotel_core::{StoppingBooks, Walks};
+use hotel_lists::{FakeWriter, ListFault, arrivals, in_house};
+use keycard_rules::LookFault;
+use std::alloc::Global;
+use std::process::Abort;
+use std::test::Fail;
+
+/// A guest of 60 bytes.
+const GUEST: &str = "Lee, Ann \"Annie\" of the house, at the end of the long \"road\"";
+
+/// The same guest's field.
+const FIELD: &str = "\"Lee, Ann \"\"Annie\"\" of the house, at the end of the long \"\"road\"\"\"";
+
+const ROOMS: u32 = 120;
+
+/// A desk whose source gives the codes 1, 2, and so on.
+fn desk_of_many_codes(alloc: Global) -> Result<Desk, Fail> {
+    let mut codes = Vec::new(alloc);
+    for code in 1..241u64 {
+        codes.push(code)?;
+    }
+    Desk::begun(alloc, codes.as_slice(), &[])
+}
+
+impl Desk {
+    fn has_many_rooms(&mut self) -> Result<(), Fail> {
+        for number in 1..ROOMS + 1 {
+            self.add_room(number, kind()?)?;
+        }
+        Ok(())
+    }
+
+    fn has_many_bookings(&mut self) -> Result<(), Fail> {
+        for _ in 0..ROOMS {
+            self.reserve(GUEST, FIRST_DAY, 2)?;
+        }
+        Ok(())
+    }
+
+    /// The party of each number goes to the room of this number.
+    fn has_many_guests(&mut self) -> Result<(), Fail> {
+        for number in 1..ROOMS + 1 {
+            self.check_in(number, number)?;
+        }
+        Ok(())
+    }
+}
+
+/// A desk of as many bookings as rooms.
+fn booked_desk(alloc: Global) -> Result<Desk, Fail> {
+    let mut desk = desk_of_many_codes(alloc)?;
+    desk.has_many_rooms()?;
+    desk.has_many_bookings()?;
+    Ok(desk)
+}
+
+/// The list of so many arrivals.
+fn arrival_rows(alloc: Global, rows: u32) -> Result<Vec<u8>, Fail> {
+    let mut text = b"party,guest,kind,arrive,depart\n".to_vec(alloc)?;
+    for number in 1..rows.saturating_add(1) {
+        let line = format!(in alloc; "{number},{FIELD},DBL,2031-05-01,2031-05-03\n")?;
+        text.extend_from_slice(line.as_bytes())?;
+    }
+    Ok(text)
+}
+
+/// The list of all guests in house.
+fn house_rows(alloc: Global) -> Result<Vec<u8>, Fail> {
+    let mut text = b"room,party,guest,kind,depart,secured\n".to_vec(alloc)?;
+    for number in 1..ROOMS + 1 {
+        let line = format!(in alloc; "{number},{number},{FIELD},DBL,2031-05-03,no\n")?;
+        text.extend_from_slice(line.as_bytes())?;
+    }
+    Ok(text)
+}
+
+/// The first day's arrivals are written so.
+fn arrivals_end<B: Walks>(
+    rt: &(impl Abort + AllocGlobal),
+    books: &mut B,
+    writer: &mut FakeWriter,
+    outcome: Result<(), ListFault>,
+    text: &[u8],
+) -> Result<(), Fail> {
+    let first = day(FIRST_DAY)?;
+    let written = arrivals(rt.alloc(), books, first, writer);
+    assert_eq!(rt; written, outcome);
+    assert!(rt; writer.written() == text);
+    Ok(())
+}
+
+/// All arrivals are listed.
+fn arrivals_are_whole(rt: &(impl Abort + AllocGlobal), desk: &mut Desk) -> Result<(), Fail> {
+    let text = arrival_rows(rt.alloc(), ROOMS)?;
+    assert!(rt; text.len() > 10_000);
+    let mut writer = FakeWriter::new(rt.alloc());
+    arrivals_end(rt, &mut desk.books, &mut writer, Ok(()), text.as_slice())
+}
+
+/// All guests in house are listed.
+fn house_is_whole(rt: &(impl Abort + AllocGlobal), desk: &mut Desk) -> Result<(), Fail> {
+    let text = house_rows(rt.alloc())?;
+    let mut writer = FakeWriter::new(rt.alloc());
+    in_house(rt.alloc(), &mut desk.books, &mut writer)?;
+    assert!(rt; writer.written() == text.as_slice());
+    Ok(())
+}
+
+#[test]
+fn long_lists_of_quoted_guests(rt: HostRuntime) -> Result<(), Fail> {
+    assert_eq!(rt; GUEST.len(), 60);
+    let mut desk = booked_desk(rt.alloc())?;
+    arrivals_are_whole(&rt, &mut desk)?;
+    desk.has_many_guests()?;
+    house_is_whole(&rt, &mut desk)
+}
+
+/// The call of the books before the 101st row fails: a hundred rows are written, and the cause is told.
+fn fails_behind_100(
+    rt: &(impl Abort + AllocGlobal),
+    books: &mut StoppingBooks,
+    fault: ListFault,
+) -> Result<(), Fail> {
+    let text = arrival_rows(rt.alloc(), 100)?;
+    let mut writer = FakeWriter::new(rt.alloc());
+    arrivals_end(rt, books, &mut writer, Err(fault), text.as_slice())
+}
+
+#[test]
+fn a_long_list_stops_behind_its_hundredth_row(rt: HostRuntime) -> Result<(), Fail> {
+    let books = booked_desk(rt.alloc())?.books;
+    let mut books = StoppingBooks::new(books, 101, LookFault::Store);
+    fails_behind_100(&rt, &mut books, ListFault::Store)
+}
+
+/// The write of this number fails: a front of the list is written, and it is whole rows.
+fn fails_at_write(
+    rt: &(impl Abort + AllocGlobal),
+    desk: &mut Desk,
+    call: u32,
+    text: &[u8],
+) -> Result<usize, Fail> {
+    let first = day(FIRST_DAY)?;
+    let mut writer = FakeWriter::new(rt.alloc()).failing_at(call);
+    let written = arrivals(rt.alloc(), &mut desk.books, first, &mut writer);
+    assert_eq!(rt; written, Err(ListFault::Write), "{call}");
+    let taken = writer.written();
+    assert!(rt; text.starts_with(taken));
+    assert!(rt; matches!(taken.last(), None | Some(b'\n')));
+    Ok(taken.len())
+}
+
+/// The header is one write; the rows are a write in mid-walk, of more than 8,000 bytes, and one behind the last row.
+fn writes_fail(rt: &(impl Abort + AllocGlobal), desk: &mut Desk) -> Result<(), Fail> {
+    let text = arrival_rows(rt.alloc(), ROOMS)?;
+    assert_eq!(rt; fails_at_write(rt, desk, 1, text.as_slice())?, 0);
+    assert_eq!(rt; fails_at_write(rt, desk, 2, text.as_slice())?, 31);
+    let third = fails_at_write(rt, desk, 3, text.as_slice())?;
+    assert!(rt; 8_000 < third && third < text.len());
+    Ok(())
+}
+
+#[test]
+fn a_write_within_a_long_list_fails(rt: HostRuntime) -> Result<(), Fail> {
+    let mut desk = booked_desk(rt.alloc())?;
+    writes_fail(&rt, &mut desk)
+}

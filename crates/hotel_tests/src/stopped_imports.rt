@@ -1,0 +1,189 @@
+//! Imports that are stopped, by a growth that is refused or by a call of the books that fails, and the same file sent again.
+
+use crate::desks::Desk;
+use crate::rooms_now::{
+    CUT_LAST_LINE, RoomNow, TWO_NOTES, answers_are, answers_to, note_count, room_is,
+};
+use hotel_audit::{AuditFault, ImportFault, LineAnswer, import};
+use hotel_core::{Books, StoppingBooks};
+use keycard_rules::LookFault;
+use std::alloc::Global;
+use std::process::Abort;
+use std::test::Fail;
+
+/// A file of two lines. By how many lines were answered: how many notes the room has then, and what the file is answered
+/// when it comes again.
+#[derive(Clone, Copy)]
+struct Sent {
+    file: &'static [u8],
+    notes: &'static [u32],
+    again: &'static [&'static [u8]],
+}
+
+const TWICE: Sent = Sent {
+    file: TWO_NOTES,
+    notes: &[0, 1, 2],
+    again: &[
+        b"1 taken\n2 taken\n",
+        b"1 seen\n2 taken\n",
+        b"1 seen\n2 seen\n",
+    ],
+};
+
+const CUT: Sent = Sent {
+    file: CUT_LAST_LINE,
+    notes: &[0, 1, 1],
+    again: &[
+        b"1 taken\n2 unread FieldCount\n",
+        b"1 seen\n2 unread FieldCount\n",
+        b"1 seen\n2 unread FieldCount\n",
+    ],
+};
+
+impl Sent {
+    /// After so many answered lines: how many notes the room has, and the answers when the file comes again.
+    fn after(&self, answered: usize) -> Option<(u32, &'static [u8])> {
+        Some((*self.notes.get(answered)?, *self.again.get(answered)?))
+    }
+}
+
+/// How many lines were answered, where an import ended so; by the first of the two a note was taken.
+fn lines_answered<A: Abort>(rt: &A, end: Result<Vec<LineAnswer>, ImportFault>) -> usize {
+    match end {
+        Ok(answers) => answers.len(),
+        Err(ImportFault::File(why)) => {
+            assert_eq!(rt; why, AuditFault::Memory);
+            0
+        }
+        Err(ImportFault::Memory { answered, taken } | ImportFault::Store { answered, taken }) => {
+            assert!(rt; answered < 2, "a stop comes before the last answer");
+            assert_eq!(rt; taken, answered > 0);
+            answered
+        }
+    }
+}
+
+/// What the books say after the whole file, sent once.
+fn once(alloc: Global, sent: &Sent) -> Result<RoomNow, Fail> {
+    let mut desk = Desk::of_one_guest(alloc)?;
+    answers_to(alloc, &mut desk.books, sent.file)?;
+    RoomNow::of(alloc, &mut desk.books)
+}
+
+/// So many notes of the room stand.
+fn stands<A: Abort, B: Books>(rt: &A, books: &mut B, notes: u32) -> Result<(), Fail> {
+    let stopped = note_count(books)?;
+    assert_eq!(rt; stopped, notes, "the answered lines stand");
+    Ok(())
+}
+
+/// After so many answered lines the file comes again: the answered lines stand, it is answered for the others, and the
+/// tables are those of the whole file.
+fn is_sent_again<B: Books>(
+    rt: &(impl Abort + AllocGlobal),
+    books: &mut B,
+    sent: &Sent,
+    answered: usize,
+) -> Result<(), Fail> {
+    let (notes, again) = sent.after(answered).ok_or("more than two lines")?;
+    stands(rt, books, notes)?;
+    answers_are(rt, books, sent.file, again, "sent again")?;
+    let whole = once(rt.alloc(), sent)?;
+    room_is(rt, books, &whole, "stopped and sent again")
+}
+
+/// Imports the file, and sends it again where it was stopped.
+fn stops_by_a_growth(rt: &(impl Abort + AllocGlobal), sent: &Sent) -> Result<(), Fail> {
+    let mut desk = Desk::of_one_guest(rt.alloc())?;
+    let answered = lines_answered(rt, import(rt.alloc(), &mut desk.books, sent.file));
+    is_sent_again(rt, &mut desk.books, sent, answered)
+}
+
+/// Each growth refused in turn: `rt try --test --fail-alloc N`, for N from 1 on. Where the test lacks the memory for its
+/// own desks, or for the file sent again, it ends by that, and a comparison never fails.
+#[test]
+fn refused_growths(rt: HostRuntime) -> Result<(), Fail> {
+    stops_by_a_growth(&rt, &TWICE)?;
+    stops_by_a_growth(&rt, &CUT)
+}
+
+/// Which failures were counted: of memory, of the store.
+fn counts(books: &StoppingBooks) -> (u64, u64) {
+    (
+        books.failures(LookFault::Memory),
+        books.failures(LookFault::Store),
+    )
+}
+
+/// Which failures are counted where the import ended by this cause, or by none.
+fn counts_of(ended: Option<LookFault>) -> (u64, u64) {
+    match ended {
+        None => (0, 0),
+        Some(LookFault::Memory) => (1, 0),
+        Some(LookFault::Store) => (0, 1),
+    }
+}
+
+/// By which cause the import ended, where a call of the books failed.
+fn cause_of(end: &Result<Vec<LineAnswer>, ImportFault>) -> Option<LookFault> {
+    match end {
+        Err(ImportFault::Memory { .. }) => Some(LookFault::Memory),
+        Err(ImportFault::Store { .. }) => Some(LookFault::Store),
+        _ => None,
+    }
+}
+
+/// The import ended well, or by this cause; fewer than 20 calls are made.
+fn ended_by<A: Abort>(rt: &A, ended: Option<LookFault>, cause: LookFault, call: u64) {
+    if let Some(why) = ended {
+        assert!(rt; why == cause && call < 20, "call {call}");
+    }
+}
+
+/// Imports the file into books of which this call fails for this cause, which they count by that cause alone: how many lines
+/// were answered, where it was stopped.
+fn stopped_at(
+    rt: &(impl Abort + AllocGlobal),
+    books: &mut StoppingBooks,
+    file: &[u8],
+    cause: LookFault,
+    call: u64,
+) -> Option<usize> {
+    let end = import(rt.alloc(), books, file);
+    let ended = cause_of(&end);
+    assert_eq!(rt; counts(books), counts_of(ended));
+    ended_by(rt, ended, cause, call);
+    if end.is_ok() {
+        return None;
+    }
+    assert!(rt; ended.is_some());
+    Some(lines_answered(rt, end))
+}
+
+/// Imports the file into books of which this call fails, and sends it again where it was stopped.
+fn stops_at_call(
+    rt: &(impl Abort + AllocGlobal),
+    sent: &Sent,
+    cause: LookFault,
+    call: u64,
+) -> Result<(), Fail> {
+    let books = Desk::of_one_guest(rt.alloc())?.books;
+    let mut books = StoppingBooks::new(books, call, cause);
+    match stopped_at(rt, &mut books, sent.file, cause, call) {
+        Some(answered) => is_sent_again(rt, &mut books, sent, answered),
+        None => Ok(()),
+    }
+}
+
+/// Each call of the books fails in turn, for want of memory or by the store; the answered lines stand. Then the file is
+/// sent again.
+#[test]
+fn failed_calls_of_the_books(rt: HostRuntime) -> Result<(), Fail> {
+    for call in 1..21u64 {
+        stops_at_call(&rt, &TWICE, LookFault::Memory, call)?;
+        stops_at_call(&rt, &TWICE, LookFault::Store, call)?;
+        stops_at_call(&rt, &CUT, LookFault::Memory, call)?;
+        stops_at_call(&rt, &CUT, LookFault::Store, call)?;
+    }
+    Ok(())
+}
