@@ -13,4 +13,5 @@ pub mod ListRuns
 pub mod AuditRuns
 pub mod Scenes
 pub mod CommandLine
+pub mod CommandRuns
 pub mod Plans

@@ -4,6 +4,7 @@
 mod asks;
 mod audit_runs;
 mod command_line;
+mod command_runs;
 mod faults;
 mod line_answers;
 mod line_values;
