@@ -15,3 +15,4 @@ pub mod Scenes
 pub mod CommandLine
 pub mod CommandRuns
 pub mod Plans
+pub mod Serving

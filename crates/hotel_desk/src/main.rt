@@ -17,6 +17,7 @@ mod run_tests;
 mod scenes;
 mod script;
 mod script_run;
+mod serving;
 mod statuses;
 mod words;
 
