@@ -7,8 +7,7 @@ use Rattle.hotel_core.specs.Model.History.{History}
 use Rattle.hotel_core.specs.Model.Leads.{Leads}
 use Rattle.hotel_core.specs.Model.Rows.{Rows}
 use Rattle.hotel_http.specs.Request.{Wanted}
-use Rattle.hotel_http.specs.Serve.{Answered, Comes, Serves}
-use Rattle.hotel_http.specs.declared.serve.Cut.{Cut}
+use Rattle.hotel_http.specs.Serve.{AnswerEnd, Answered, Comes, Serves}
 use Rattle.hotel_http.specs.declared.serve.Served.{Served}
 use Rattle.hotel_http.specs.declared.serve.ServeFault.{ServeFault}
 use Rattle.hotel_http.specs.declared.serve.ServeFault.TheVariants.{Closed, Read, Memory, Write}
@@ -27,15 +26,15 @@ idle_served {B} {R} rows stream old new source later e f =
     (subst (λ (r : R). Leads (rows old) (ServesAll (stream source) (stream r)) (rows old)) (sym f) (none_served (rows old) (stream source)))
 
 -- One request was answered.
-pub one_served : (a b : Rows) (s s' : Stream) (wanted : Wanted) (before : List ℕ) (old new : Option (List ℕ)) (x y : LookFault → ℕ) (end : Result Served Cut)
+pub one_served : (a b : Rows) (s s' : Stream) (wanted : Wanted) (before : List ℕ) (old new : Option (List ℕ)) (x y : LookFault → ℕ) (end : AnswerEnd)
     → Leads a (Answered (Comes wanted) s s' before old new x y end) b → Leads a (ServesAll s s') b
 one_served a b s s' wanted before old new x y end leads = λ h stands.
     let p = leads h stands in
     (p.0, p.1, (wanted ∷ [], p.0, s', p.2.0, p.2.1, p.2.2, refl, refl), p.3)
 
 -- However a request was served, this holds that holds where nothing was begun and where it was answered.
-pub by_serving : {X : Type 0} (known old new : Option (List ℕ)) (same : Type 0) (went : Wanted → Bool → Result Served Cut → Type 0) (result : Result Served ServeFault)
-    → Serves known old new same went result → (same → X) → ((wanted : Wanted) (awaited : Bool) (end : Result Served Cut) → went wanted awaited end → X) → X
+pub by_serving : {X : Type 0} (known old new : Option (List ℕ)) (same : Type 0) (went : Wanted → Bool → AnswerEnd → Type 0) (result : Result Served ServeFault)
+    → Serves known old new same went result → (same → X) → ((wanted : Wanted) (awaited : Bool) (end : AnswerEnd) → went wanted awaited end → X) → X
 by_serving known old new same went (Ok served) h idle busy = busy h.0 h.1 (Ok served) h.3
 by_serving known old new same went (Err (Write acted)) (inl h) idle busy = busy h.0 h.1 (Err (record { acted = acted })) h.3
 by_serving known old new same went (Err (Write acted)) (inr h) idle busy = idle h.0

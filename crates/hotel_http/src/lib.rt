@@ -1,19 +1,19 @@
 //! One HTTP request, one answer.
 #![tactic(auto)]
 
-pub mod answer;
-pub mod audit_answer;
+mod answer;
+mod audit_answer;
 mod body;
 mod buffer;
-pub mod fields;
-pub mod form;
-pub mod head;
-pub mod plan;
-pub mod rejection;
-pub mod requests;
-pub mod routes;
+mod fields;
+mod form;
+mod head;
+mod plan;
+mod rejection;
+mod requests;
+mod routes;
 mod serve;
-pub mod status;
-pub mod tasks;
+mod status;
+mod tasks;
 
 pub use serve::{ServeFault, Served, serve_one};

@@ -326,6 +326,3 @@ pub fn serve_one<I: Read, W: Write, B: Walks, R: Rng>(
     let mut calls = IoCalls::none();
     serve_by(alloc, &router, reader, writer, books, source, &mut calls)
 }
-
-#[cfg(test)]
-mod tests;

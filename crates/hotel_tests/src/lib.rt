@@ -18,6 +18,8 @@ mod long_lists;
 #[cfg(test)]
 mod reads_and_writes;
 #[cfg(test)]
+mod requests;
+#[cfg(test)]
 mod rooms_now;
 #[cfg(test)]
 mod stopped_imports;

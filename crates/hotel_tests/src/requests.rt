@@ -2,45 +2,35 @@
 
 ghost use Rattle.std.specs.Prelude.{◌<◌};
 
-use super::{ServeFault, Served, serve_one};
-use hotel_core::ListBooks;
+use crate::desks::Desk;
+use hotel_http::{ServeFault, Served, serve_one};
 use hotel_lists::{FakeReader, FakeWriter};
-use keycard_rules::ListedWords;
 use std::alloc::Global;
 use std::process::Abort;
 use std::test::Fail;
 
-/// Books in memory, and a source.
-#[derive(Drop)]
-struct Desk {
-    books: ListBooks,
-    source: ListedWords,
+/// The desk answers the reader's request to the writer.
+fn serve(
+    desk: &mut Desk,
+    reader: &mut FakeReader<'_>,
+    writer: &mut FakeWriter,
+) -> Result<Served, ServeFault> {
+    serve_one(
+        desk.alloc,
+        reader,
+        writer,
+        &mut desk.books,
+        &mut desk.source,
+    )
 }
 
-impl Desk {
-    /// Answers the reader's request to the writer.
-    fn answer(
-        &mut self,
-        alloc: Global,
-        reader: &mut FakeReader<'_>,
-        writer: &mut FakeWriter,
-    ) -> Result<Served, ServeFault> {
-        serve_one(alloc, reader, writer, &mut self.books, &mut self.source)
-    }
-}
-
-/// A desk with empty books, and a source of words that give the codes a0, a1 and a2, the last one for ever.
+/// A desk with empty books, whose source gives the codes a0, a1 and a2.
 fn empty_desk(alloc: Global) -> Result<Desk, Fail> {
-    let mut words = Vec::new(alloc);
-    for code in [0xa0u64, 0xa1, 0xa2] {
-        words.push(code << 16)?;
-    }
-    let source = ListedWords::new(words).ok_or("no words")?;
-    let books = ListBooks::empty(alloc);
-    Ok(Desk { books, source })
+    Desk::of_codes(alloc, &[0xa0, 0xa1, 0xa2])
 }
 
 /// A request by the route's path, and the answer's status line and body.
+#[derive(Clone, Copy)]
 struct Exchange {
     /// The method and the target.
     request: &'static str,
@@ -277,7 +267,7 @@ fn answers_so<R: Abort + AllocGlobal>(
 {
     let mut writer = FakeWriter::new(rt.alloc()).in_pieces(100);
     let mut reader = FakeReader::new(request).in_pieces(piece);
-    let ended = desk.answer(rt.alloc(), &mut reader, &mut writer);
+    let ended = serve(desk, &mut reader, &mut writer);
     assert_eq!(rt; writer.written(), answer);
     assert!(rt; ended.is_ok());
 }
@@ -329,10 +319,17 @@ fn each_route_byte_by_byte(rt: HostRuntime) -> Result<(), Fail> {
 }
 
 /// A request of the scenarios, and its answer; both byte for byte.
+#[derive(Clone, Copy)]
 struct Scene {
     request: &'static [u8],
     answer: &'static [u8],
 }
+
+/// A check-in, and its answer.
+const CHECK_IN: Scene = Scene {
+    request: b"POST /reservations/1/check-in HTTP/1.1\r\nHost: localhost\r\nContent-Length: 8\r\n\r\nroom=101",
+    answer: b"HTTP/1.1 200 OK\r\nContent-Type: text/plain; charset=utf-8\r\nContent-Length: 49\r\nConnection: close\r\n\r\ncard 1 party 1 old 0000000000a0 new 0000000000a1\n",
+};
 
 /// Requests that begin nothing, and then a check-in whose client awaits an interim answer.
 const SCENES: &[Scene] = &[
@@ -383,12 +380,34 @@ fn scenes_go<R: Abort + AllocGlobal>(rt: &R, desk: &mut Desk, piece: usize)
     }
 }
 
+/// No scene began the next day.
+const NEXT_DAY: Exchange = Exchange {
+    request: "POST /next-day",
+    form: "",
+    status: DONE,
+    body: "day 2031-05-02\n",
+};
+
+/// The check-in, its status and that it acted.
+#[test]
+fn check_in_is_served(rt: HostRuntime) -> Result<(), Fail> {
+    let mut desk = empty_desk(rt.alloc())?;
+    exchanges_go(&rt, &mut desk, 4096, OPENING)?;
+    let mut writer = FakeWriter::new(rt.alloc());
+    let mut reader = FakeReader::new(CHECK_IN.request).in_pieces(1);
+    let ended = serve(&mut desk, &mut reader, &mut writer);
+    assert_eq!(rt; writer.written(), CHECK_IN.answer);
+    let acted = true;
+    assert_eq!(rt; ended, Ok(Served { status: 200, acted }));
+    Ok(())
+}
+
 #[test]
 fn scenes_at_once(rt: HostRuntime) -> Result<(), Fail> {
     let mut desk = empty_desk(rt.alloc())?;
     exchanges_go(&rt, &mut desk, 4096, OPENING)?;
     scenes_go(&rt, &mut desk, 4096);
-    Ok(())
+    exchange_goes(&rt, &mut desk, 4096, &NEXT_DAY)
 }
 
 #[test]
@@ -396,7 +415,7 @@ fn scenes_byte_by_byte(rt: HostRuntime) -> Result<(), Fail> {
     let mut desk = empty_desk(rt.alloc())?;
     exchanges_go(&rt, &mut desk, 1, OPENING)?;
     scenes_go(&rt, &mut desk, 1);
-    Ok(())
+    exchange_goes(&rt, &mut desk, 1, &NEXT_DAY)
 }
 
 /// The answer where the head is too large.
@@ -442,7 +461,7 @@ fn faults_so<R: Abort + AllocGlobal>(
     fault: ServeFault,
 ) {
     let mut writer = FakeWriter::new(rt.alloc());
-    let ended = desk.answer(rt.alloc(), reader, &mut writer);
+    let ended = serve(desk, reader, &mut writer);
     assert_eq!(rt; ended, Err(fault));
     assert!(rt; writer.written().is_empty());
 }
@@ -476,7 +495,7 @@ fn cut_so<R: Abort + AllocGlobal>(
     acted: bool,
 ) {
     let mut writer = FakeWriter::new(rt.alloc()).in_pieces(25).failing_at(call);
-    let ended = desk.answer(rt.alloc(), &mut FakeReader::new(request), &mut writer);
+    let ended = serve(desk, &mut FakeReader::new(request), &mut writer);
     assert_eq!(rt; ended, Err(ServeFault::Write { acted }));
     assert_eq!(rt; writer.written(), written);
 }
