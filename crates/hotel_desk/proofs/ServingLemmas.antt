@@ -17,7 +17,7 @@ use Rattle.hotel_desk.specs.declared.faults.Fault.{Fault}
 
 -- No connection was served.
 pub none_served : (a : Rows) (s : Stream) → Leads a (ServesAll s s) a
-none_served a s = λ h stands. (h, stands, ([], refl, refl), assured h stands.0)
+none_served a s = λ h stands. (h, stands, ([], (refl, refl)), assured h stands.0)
 
 -- Where nothing was begun, no connection was served.
 pub idle_served : {B R : Type 0} (rows : B → Rows) (stream : R → Stream) (old new : B) (source later : R) → new ≡ old → later ≡ source → Leads (rows old) (ServesAll (stream source) (stream later)) (rows new)
@@ -30,7 +30,7 @@ pub one_served : (a b : Rows) (s s' : Stream) (wanted : Wanted) (before : List �
     → Leads a (Answered (Comes wanted) s s' before old new x y end) b → Leads a (ServesAll s s') b
 one_served a b s s' wanted before old new x y end leads = λ h stands.
     let p = leads h stands in
-    (p.0, p.1, (wanted ∷ [], p.0, s', p.2.0, p.2.1, p.2.2, refl, refl), p.3)
+    (p.0, p.1, (wanted ∷ [], (p.0, s', p.2.0, p.2.1, p.2.2, (refl, refl))), p.3)
 
 -- However a request was served, this holds that holds where nothing was begun and where it was answered.
 pub by_serving : {X : Type 0} (known old new : Option (List ℕ)) (same : Type 0) (went : Wanted → Bool → AnswerEnd → Type 0) (result : Result Served ServeFault)
@@ -41,6 +41,13 @@ by_serving known old new same went (Err (Write acted)) (inr h) idle busy = idle 
 by_serving known old new same went (Err Closed) h idle busy = idle h.0
 by_serving known old new same went (Err Read) h idle busy = idle h.0
 by_serving known old new same went (Err Memory) h idle busy = idle h.0
+
+-- However a request was served, its connection was.
+pub books_served : (C : Type 0) (a b : Rows) (s s' : Stream) (before : Bool → List ℕ) (known old new : Option (List ℕ)) (same : Type 0) (x y : LookFault → ℕ) (result : Result Served ServeFault)
+    → Serves known old new same (λ wanted awaited end. C → Leads a (Answered (Comes wanted) s s' (before awaited) old new x y end) b) result → (same → Leads a (ServesAll s s') b) → C → Leads a (ServesAll s s') b
+books_served C a b s s' before known old new same x y result h idle clean =
+    by_serving known old new same (λ wanted awaited end. C → Leads a (Answered (Comes wanted) s s' (before awaited) old new x y end) b) result h idle
+    (λ wanted awaited end went. one_served a b s s' wanted (before awaited) old new x y end (went clean))
 
 -- requests and then others
 all_come : (first more : List Wanted) (h mid h' : History) (s t s' : Stream) → AllCome first h s mid t → AllCome more mid t h' s' → AllCome (first ++ more) h s h' s'

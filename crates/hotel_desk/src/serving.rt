@@ -15,6 +15,7 @@ use hotel_http::{ServeFault, Served, serve_one};
 use hotel_lists::IoCalls;
 use rand_core::Rng;
 use std::alloc::Global;
+use std::io::{Read, Write};
 use std::net::{TcpListener, TcpStream};
 use std::time::Duration;
 
@@ -41,9 +42,10 @@ fn connection_end(end: Result<Served, ServeFault>) -> Result<(), Fault>
 }
 
 /// Answers the request of a connection.
-fn serve_stream<B: Walks, R: Rng>(
+fn serve_stream<I: Read, W: Write, B: Walks, R: Rng>(
     alloc: Global,
-    stream: &TcpStream,
+    reader: &mut I,
+    writer: &mut W,
     books: &mut B,
     source: &mut R,
 ) -> Result<(), Fault>
@@ -51,9 +53,7 @@ fn serve_stream<B: Walks, R: Rng>(
     ensures was_clean { B.is_clean books.new → B.is_clean books.old }
     ensures counted { NoFewer (B.failures books.old) (B.failures books.new) }
 {
-    let mut reader = stream;
-    let mut writer = stream;
-    let end = serve_one(alloc, &mut reader, &mut writer, books, source);
+    let end = serve_one(alloc, reader, writer, books, source);
     connection_end(end)
 }
 
@@ -74,7 +74,7 @@ fn serve_connection<B: Walks, R: Rng>(
     if !is_patient(&stream) {
         return Err(Fault::Closed);
     }
-    serve_stream(alloc, &stream, books, source)
+    serve_stream(alloc, &mut &stream, &mut &stream, books, source)
 }
 
 /// Takes a connection, answers its request, and tells the fault that came instead.

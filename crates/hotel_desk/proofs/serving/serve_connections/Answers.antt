@@ -19,6 +19,6 @@ loop-preserved g c =
     record {
       books = λ clean. then_served _ _ _ _ _ _ (was.books (now.was_clean clean)) (now.books clean);
       was_clean = λ clean. was.was_clean (now.was_clean clean);
-      counted = ?;
+      counted = λ cause. omega (arith, was.counted cause, now.counted cause);
       told = (first.0 ++ next.0, simp length-append (omega (arith, first.1, next.1)), then_told g.F.FaultSink.told first.0 next.0 _ _ _ first.2 next.2);
     }
