@@ -10,3 +10,4 @@ pub mod ScriptRunLemmas
 pub mod ProgramLemmas
 pub mod CommandLineLemmas
 pub mod PlanLemmas
+pub mod ServingLemmas

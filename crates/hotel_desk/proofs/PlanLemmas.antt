@@ -50,7 +50,7 @@ pub refused_in_pass : {A B : Type 0} (of : A → Text) (to : B → List Text) (r
     → texts_in rows (take i names) ≡ Ok given → IsRead of (text_in rows (get_or names i d)) (Err why) → IsRead to (texts_in rows names) (Err why)
 refused_in_pass of to rows names i d given (Value name) below e h =
     let whole : take i names ++ get_or names i d ∷ drop (i + 1) names ≡ names =
-        sym (append_assoc (take i names) (get_or names i d ∷ []) (drop (i + 1) names)) ∙ ap (λ l. l ++ drop (i + 1) names) (sym (take_at_read names i d below).1) ∙ take-append-drop (i + 1) names in
+    sym (append_assoc (take i names) (get_or names i d ∷ []) (drop (i + 1) names)) ∙ ap (λ l. l ++ drop (i + 1) names) (sym (take_at_read names i d below).1) ∙ take-append-drop (i + 1) names in
     ap (texts_in rows) (sym whole) ∙ first_refused rows (take i names) (get_or names i d) (drop (i + 1) names) given _ e h
 refused_in_pass of to rows names i d given Memory below e h = tt
 refused_in_pass of to rows names i d given (Shown text) below e h = h

@@ -74,3 +74,4 @@ two_is_usage (Err fault.TooLarge) zero two = cc
 two_is_usage (Err fault.NoHeader) zero two = cc
 two_is_usage (Err fault.WrongHeader) zero two = cc
 two_is_usage (Err (fault.Stopped answered by)) zero two = cc
+two_is_usage (Err fault.Closed) zero two = cc

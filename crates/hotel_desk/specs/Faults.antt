@@ -1,10 +1,10 @@
 -- What is said of a fault, and the exit status that goes with it.
-use Rattle.std.specs.Prelude.{ℕ, ◌≡◌, List, ◌++◌, codes, Result, Ok, Err}
+use Rattle.std.specs.Prelude.{ℕ, ◌≡◌, List, [], ◌∷◌, ◌++◌, codes, Result, Ok, Err}
 use Rattle.std.specs.Fmt.{decimal}
 use Rattle.keycard_rules.specs.declared.issued.LookFault.{LookFault}
 use Rattle.keycard_rules.specs.declared.issued.LookFault.TheVariants as look
 use Rattle.hotel_desk.specs.declared.faults.Fault.{Fault}
-use Rattle.hotel_desk.specs.declared.faults.Fault.TheVariants.{Usage, Memory, Store, Read, Write, TooLarge, NoHeader, WrongHeader, Stopped}
+use Rattle.hotel_desk.specs.declared.faults.Fault.TheVariants.{Usage, Memory, Store, Read, Write, TooLarge, NoHeader, WrongHeader, Stopped, Closed}
 
 -- What stopped an import, and the end of the line.
 abbrev pub cause_text : LookFault → List ℕ
@@ -22,6 +22,7 @@ fault_text TooLarge = codes "too large\n"
 fault_text NoHeader = codes "no header\n"
 fault_text WrongHeader = codes "wrong header\n"
 fault_text (Stopped answered by) = codes "stopped after " ++ decimal answered ++ cause_text by
+fault_text Closed = codes "closed\n"
 
 -- The exit status: 2 where the program was given words that it doesn't take, 4 where memory or the store failed, else 5.
 abbrev pub fault_status : Fault → ℕ
@@ -40,3 +41,8 @@ end_status (Err fault) = fault_status fault
 abbrev pub Tells : {F : Type 0} → (F → Fault → F → Type 0) → F → Result ℕ Fault → F → Type 0
 Tells told old (Ok status) new = new ≡ old
 Tells told old (Err fault) new = told old fault new
+
+-- Faults were told, one after the other.
+abbrev pub TellsAll : {F : Type 0} → (F → Fault → F → Type 0) → F → List Fault → F → Type 0
+TellsAll {F} told old [] new = new ≡ old
+TellsAll {F} told old (fault ∷ faults) new = (mid : F) × told old fault mid × TellsAll told mid faults new

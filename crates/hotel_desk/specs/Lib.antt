@@ -13,4 +13,6 @@ pub mod ListRuns
 pub mod AuditRuns
 pub mod Scenes
 pub mod CommandLine
+pub mod CommandRuns
 pub mod Plans
+pub mod Serving

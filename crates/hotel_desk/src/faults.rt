@@ -32,6 +32,8 @@ pub enum Fault {
     WrongHeader,
     /// An import was stopped after so many lines.
     Stopped { answered: usize, by: LookFault },
+    /// A connection couldn't be taken, or ended before its request's first byte.
+    Closed,
 }
 
 impl Fault {
@@ -96,6 +98,7 @@ fn write_fault<W: Write>(
         Fault::NoHeader => write_bytes(writer, b"no header\n", calls),
         Fault::WrongHeader => write_bytes(writer, b"wrong header\n", calls),
         Fault::Stopped { answered, by } => write_stopped(writer, *answered, *by, calls),
+        Fault::Closed => write_bytes(writer, b"closed\n", calls),
     }
 }
 

@@ -4,6 +4,7 @@
 mod asks;
 mod audit_runs;
 mod command_line;
+mod command_runs;
 mod faults;
 mod line_answers;
 mod line_values;
@@ -16,6 +17,7 @@ mod run_tests;
 mod scenes;
 mod script;
 mod script_run;
+mod serving;
 mod statuses;
 mod words;
 

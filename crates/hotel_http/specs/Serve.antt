@@ -111,14 +111,18 @@ abbrev pub Comes : Wanted → History → Stream → Outcome → List Refusal �
 Comes (Ok given) h s out failed h' s' = TaskComes given.0 given.1 h s out failed h' s'
 Comes (Err why) h s out failed h' s' = (out ≡ rejected why) × (failed ≡ []) × (h' ≡ h) × (s' ≡ s)
 
+-- How an answer ended: it was written whole, or cut short.
+abbrev pub AnswerEnd : Type 0
+AnswerEnd = Result Served Cut
+
 -- The answer was written behind this text, whole; or a front of both.
-abbrev pub EndsAs : Outcome → List ℕ → Option (List ℕ) → Option (List ℕ) → Result Served Cut → Type 0
+abbrev pub EndsAs : Outcome → List ℕ → Option (List ℕ) → Option (List ℕ) → AnswerEnd → Type 0
 EndsAs out before old new (Ok served) = (served.status ≡ out.status) × (served.acted ≡ out.acted) × Appends old new (before ++ out.text)
 EndsAs out before old new (Err cut) = (cut.acted ≡ out.acted) × AppendsFront old new (before ++ out.text)
 
 -- This came, its answer was written so behind this text, and its failures were counted.
 abbrev pub Answered : (History → Stream → Outcome → List Refusal → History → Stream → Type 0) → Stream → Stream → List ℕ → Option (List ℕ) → Option (List ℕ)
-    → (LookFault → ℕ) → (LookFault → ℕ) → Result Served Cut → History → History → Type 0
+    → (LookFault → ℕ) → (LookFault → ℕ) → AnswerEnd → History → History → Type 0
 Answered came s s' before old new counts counts' end h h' =
     (out : Outcome) × (failed : List Refusal) × came h s out failed h' s' × EndsAs out before old new end × AreCounted counts counts' failed
 
@@ -157,11 +161,11 @@ text_in items (Ok text) = Ok (items text)
 text_in items (Err why) = Err why
 
 -- A request was read and answered: this holds of what it asks for, whether there was an interim answer, and how its answer ended.
-abbrev pub WasAnswered : Option (List ℕ) → (Wanted → Bool → Result Served Cut → Type 0) → Result Served Cut → Type 0
+abbrev pub WasAnswered : Option (List ℕ) → (Wanted → Bool → AnswerEnd → Type 0) → AnswerEnd → Type 0
 WasAnswered known went end = (wanted : Wanted) × (awaited : Bool) × IfSome known (λ input. Requests input awaited wanted) × went wanted awaited end
 
 -- How a request was served: it was answered; or its answer or the interim one was cut short; or no request was read. Where it wasn't begun, this is the same as before.
-abbrev pub Serves : Option (List ℕ) → Option (List ℕ) → Option (List ℕ) → Type 0 → (Wanted → Bool → Result Served Cut → Type 0) → Result Served ServeFault → Type 0
+abbrev pub Serves : Option (List ℕ) → Option (List ℕ) → Option (List ℕ) → Type 0 → (Wanted → Bool → AnswerEnd → Type 0) → Result Served ServeFault → Type 0
 Serves known old new same went (Ok served) = WasAnswered known went (Ok served)
 Serves known old new same went (Err (Write acted)) =
     WasAnswered known went (Err (record { acted = acted }))

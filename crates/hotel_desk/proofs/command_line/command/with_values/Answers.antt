@@ -29,5 +29,5 @@ loop-value-preserved c =
           ∙ ap (λ (r : Rule). with_rule (record { top = leaf c.args.name.now (take c.loop-value.value-index c.args.values.now); subs = [] }) r) rule
           ∙ ap (λ (t : Text). with_rule (record { top = leaf c.args.name.now (take c.loop-value.value-index c.args.values.now); subs = [] }) (record (new_rule t) { required = true })) c.text.ensures
           ∙ leaf-more c.args.name.now c.args.values.now c.loop-value.value-index _ (omega arith);
-      globals = c.in_ok-command.ensures.globals ∙ ap₂ ◌||◌ c.loop-value.invariant.globals global
+      globals = c.in_ok-command.ensures.globals ∙ ap₂ ◌||◌ c.loop-value.invariant.globals global;
     }

@@ -18,5 +18,5 @@ loop-verb-preserved c =
     let added = c.in_ok-command-2.ensures in
     record {
       shape = added.shape sub.globals ∙ ap₂ with_subcommand c.loop-verb.invariant.shape (ap (λ (a : App). a.top) sub.shape ∙ ap₂ leaf c.word.ensures c.values.ensures) ∙ fold-more c.args.verbs.now c.loop-verb.verb-index _ (omega arith);
-      globals = added.globals ∙ ap₂ ◌||◌ c.loop-verb.invariant.globals sub.globals
+      globals = added.globals ∙ ap₂ ◌||◌ c.loop-verb.invariant.globals sub.globals;
     }

@@ -7,5 +7,5 @@ use Rattle.hotel_desk.proofs.command_line.command.with_verbs.Given as goal
 abbrev pub invariant-loop-verb : goal.invariant-loop-verb
 invariant-loop-verb l = record {
   shape : app_of l.command ≡ fold with_subcommand options (map verb_leaf (take l.verb-index l.verbs));
-  globals : (out-Command l.command).has_globals ≡ false
+  globals : (out-Command l.command).has_globals ≡ false;
 }

@@ -1,0 +1,122 @@
+//! Connections that are answered one after the other.
+
+ghost use Rattle.std.specs.Prelude.{◌≡◌, ◌≤◌, List, length};
+ghost use Rattle.keycard_rules.specs.Rise.{NoFewer};
+ghost use Rattle.hotel_core.specs.Model.Leads.{Leads};
+ghost use Rattle.hotel_lists.specs.Calls.{NoneForgotten};
+ghost use Rattle.hotel_desk.specs.Faults.{TellsAll};
+ghost use Rattle.hotel_desk.specs.Serving.{ServesAll, connection_end};
+ghost use Rattle.hotel_desk.specs.declared.faults.Fault.{Fault};
+
+use crate::faults::{Fault, FaultSink};
+use crate::statuses::DONE;
+use hotel_core::Walks;
+use hotel_http::{ServeFault, Served, serve_one};
+use hotel_lists::IoCalls;
+use rand_core::Rng;
+use std::alloc::Global;
+use std::io::{Read, Write};
+use std::net::{TcpListener, TcpStream};
+use std::time::Duration;
+
+/// How many seconds a read or a write of a connection may take.
+const PATIENCE: u64 = 10;
+
+/// Gives up a connection whose peer neither sends nor takes bytes.
+fn is_patient(stream: &TcpStream) -> bool {
+    let limit = Some(Duration::from_secs(PATIENCE));
+    stream.set_read_timeout(limit).is_ok() && stream.set_write_timeout(limit).is_ok()
+}
+
+/// The fault of a connection that ended so.
+fn connection_end(end: Result<Served, ServeFault>) -> Result<(), Fault>
+    ensures { result ≡ connection_end end }
+{
+    match end {
+        Ok(_) => Ok(()),
+        Err(ServeFault::Closed) => Err(Fault::Closed),
+        Err(ServeFault::Read) => Err(Fault::Read),
+        Err(ServeFault::Memory) => Err(Fault::Memory),
+        Err(ServeFault::Write { .. }) => Err(Fault::Write),
+    }
+}
+
+/// Answers the request of a connection.
+fn serve_stream<I: Read, W: Write, B: Walks, R: Rng>(
+    alloc: Global,
+    reader: &mut I,
+    writer: &mut W,
+    books: &mut B,
+    source: &mut R,
+) -> Result<(), Fault>
+    ensures books { B.is_clean books.new → Leads (B.rows books.old) (ServesAll (R.stream source.old) (R.stream source.new)) (B.rows books.new) }
+    ensures was_clean { B.is_clean books.new → B.is_clean books.old }
+    ensures counted { NoFewer (B.failures books.old) (B.failures books.new) }
+{
+    let end = serve_one(alloc, reader, writer, books, source);
+    connection_end(end)
+}
+
+/// Takes a connection and answers its request.
+fn serve_connection<B: Walks, R: Rng>(
+    alloc: Global,
+    listener: &TcpListener,
+    books: &mut B,
+    source: &mut R,
+) -> Result<(), Fault>
+    ensures books { B.is_clean books.new → Leads (B.rows books.old) (ServesAll (R.stream source.old) (R.stream source.new)) (B.rows books.new) }
+    ensures was_clean { B.is_clean books.new → B.is_clean books.old }
+    ensures counted { NoFewer (B.failures books.old) (B.failures books.new) }
+{
+    let Ok((stream, _)) = listener.accept() else {
+        return Err(Fault::Closed);
+    };
+    if !is_patient(&stream) {
+        return Err(Fault::Closed);
+    }
+    serve_stream(alloc, &mut &stream, &mut &stream, books, source)
+}
+
+/// Takes a connection, answers its request, and tells the fault that came instead.
+fn serve_and_tell<B: Walks, R: Rng, F: FaultSink>(
+    alloc: Global,
+    listener: &TcpListener,
+    books: &mut B,
+    source: &mut R,
+    faults: &mut F,
+    calls: &mut IoCalls,
+)
+    ensures books { B.is_clean books.new → Leads (B.rows books.old) (ServesAll (R.stream source.old) (R.stream source.new)) (B.rows books.new) }
+    ensures was_clean { B.is_clean books.new → B.is_clean books.old }
+    ensures counted { NoFewer (B.failures books.old) (B.failures books.new) }
+    ensures told { (told : List Fault) × (length told ≤ 1) × TellsAll F.told faults.old told faults.new }
+    ensures calls { NoneForgotten calls.old calls.new }
+{
+    if let Err(fault) = serve_connection(alloc, listener, books, source) {
+        faults.tell(&fault, calls);
+    }
+}
+
+/// Takes so many connections, one after the other, and answers the request of each. A connection that
+/// fails is told as a fault, and the next one is taken. A peer that sends or takes nothing for ten
+/// seconds is given up. It answers 0.
+pub fn serve_connections<B: Walks, R: Rng, F: FaultSink>(
+    alloc: Global,
+    listener: &TcpListener,
+    count: u32,
+    books: &mut B,
+    source: &mut R,
+    faults: &mut F,
+) -> u8
+    ensures status { result ≡ 0 }
+    ensures books { B.is_clean books.new → Leads (B.rows books.old) (ServesAll (R.stream source.old) (R.stream source.new)) (B.rows books.new) }
+    ensures was_clean { B.is_clean books.new → B.is_clean books.old }
+    ensures counted { NoFewer (B.failures books.old) (B.failures books.new) }
+    ensures told { (told : List Fault) × (length told ≤ count) × TellsAll F.told faults.old told faults.new }
+{
+    let mut calls = IoCalls::none();
+    for _ in 0..count {
+        serve_and_tell(alloc, listener, books, source, faults, &mut calls);
+    }
+    DONE
+}
