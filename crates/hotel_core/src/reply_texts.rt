@@ -1,117 +1,75 @@
-//! The text of a reply, in a buffer of fixed size.
-ghost use Rattle.std.specs.Prelude.{◌≡◌, ℕ, List, [], ◌∷◌, ◌++◌, ◌+◌, ◌≤◌, take, length};
+//! The text of a reply.
+ghost use Rattle.std.specs.Prelude.{◌≡◌, [], ◌∷◌, ◌++◌, ◌+◌, ◌≤◌, length};
 ghost use Rattle.std.specs.Fmt.{decimal};
 ghost use Rattle.keycard_rules.specs.Numerals.{code_text};
 ghost use Rattle.hotel_core.specs.declared.reply.Reply.TheVariants as reply;
 ghost use Rattle.hotel_core.specs.Texts.{refusal_name, reply_line, reply_text};
 
 use crate::reply::{Refusal, Reply};
-use keycard_rules::{Card, Code};
-use std::marker::Model;
+use keycard_rules::{Card, Code, ShortText};
 
-/// The text of a reply: at most 64 bytes.
-#[derive(Drop)]
-pub struct ReplyText {
-    bytes: [u8; 64],
-    len: usize,
+/// The text of a reply: at most 64 bytes, the line feed included.
+pub type ReplyText = ShortText<64>;
+
+fn push_number(text: &mut ReplyText, number: u32)
+    requires known { number ≤ 9999999 }
+    requires room { length text.old + 7 ≤ 64 }
+    ensures text { text.new ≡ text.old ++ decimal number }
+    ensures len { length text.new ≤ length text.old + 7 }
+{
+    let mut buffer = itoa::Buffer::new();
+    text.push(buffer.format(number).as_bytes());
 }
 
-impl Model for ReplyText {
-    ghost Value = { List ℕ };
-
-    ghost view = { λ t. take t.len t.bytes };
-
-    ghost invariant = { λ t. t.len ≤ 64 };
+fn push_count(text: &mut ReplyText, count: u32)
+    requires { length text.old + 10 ≤ 64 }
+    ensures text { text.new ≡ text.old ++ decimal count }
+    ensures len { length text.new ≤ length text.old + 10 }
+{
+    let mut buffer = itoa::Buffer::new();
+    text.push(buffer.format(count).as_bytes());
 }
 
-impl ReplyText {
-    fn new() -> ReplyText
-        ensures { result ≡ [] }
-    {
-        ReplyText {
-            bytes: [0; 64],
-            len: 0,
+fn push_code(text: &mut ReplyText, code: &Code)
+    requires { length text.old + 12 ≤ 64 }
+    ensures text { text.new ≡ text.old ++ code_text code.now }
+    ensures len { length text.new ≡ length text.old + 12 }
+{
+    text.push(&code.print());
+}
+
+fn push_card(text: &mut ReplyText, card: &Card)
+    requires { text.old ≡ [] }
+    ensures text { text.new ≡ reply_line (reply.Issued card.now) }
+    ensures len { length text.new ≤ 60 }
+{
+    text.push(b"card ");
+    push_number(text, card.number.value());
+    text.push(b" party ");
+    push_number(text, card.party.value());
+    text.push(b" old ");
+    push_code(text, &card.link.old_code);
+    text.push(b" new ");
+    push_code(text, &card.link.new_code);
+}
+
+fn push_refusal(text: &mut ReplyText, refusal: &Refusal)
+    requires { text.old ≡ [] }
+    ensures text { text.new ≡ reply_line (reply.Refused refusal.now) }
+    ensures len { length text.new ≤ 60 }
+{
+    text.push(b"refused ");
+    text.push(name_of(refusal));
+    match refusal {
+        Refusal::KindFull(day) => {
+            text.push(b" ");
+            text.push(&day.print());
         }
-    }
-
-    /// The bytes of the text, the line feed included.
-    pub fn as_bytes(&self) -> &[u8]
-        ensures same { result.now ≡ self.now }
-        ensures short { length result.now ≤ 64 }
-    {
-        &self.bytes[..self.len]
-    }
-
-    fn push(&mut self, text: &[u8])
-        requires { length self.old + length text.now ≤ 64 }
-        ensures text { self.new ≡ self.old ++ text.now }
-        ensures len { length self.new ≡ length self.old + length text.now }
-    {
-        let end = self.len + text.len();
-        self.bytes[self.len..end].copy_from_slice(text);
-        self.len = end;
-    }
-
-    fn push_number(&mut self, number: u32)
-        requires known { number ≤ 9999999 }
-        requires room { length self.old + 7 ≤ 64 }
-        ensures text { self.new ≡ self.old ++ decimal number }
-        ensures len { length self.new ≤ length self.old + 7 }
-    {
-        let mut buffer = itoa::Buffer::new();
-        self.push(buffer.format(number).as_bytes());
-    }
-
-    fn push_count(&mut self, count: u32)
-        requires { length self.old + 10 ≤ 64 }
-        ensures text { self.new ≡ self.old ++ decimal count }
-        ensures len { length self.new ≤ length self.old + 10 }
-    {
-        let mut buffer = itoa::Buffer::new();
-        self.push(buffer.format(count).as_bytes());
-    }
-
-    fn push_code(&mut self, code: &Code)
-        requires { length self.old + 12 ≤ 64 }
-        ensures text { self.new ≡ self.old ++ code_text code.now }
-        ensures len { length self.new ≡ length self.old + 12 }
-    {
-        self.push(&code.print());
-    }
-
-    fn push_card(&mut self, card: &Card)
-        requires { self.old ≡ [] }
-        ensures text { self.new ≡ reply_line (reply.Issued card.now) }
-        ensures len { length self.new ≤ 60 }
-    {
-        self.push(b"card ");
-        self.push_number(card.number.value());
-        self.push(b" party ");
-        self.push_number(card.party.value());
-        self.push(b" old ");
-        self.push_code(&card.link.old_code);
-        self.push(b" new ");
-        self.push_code(&card.link.new_code);
-    }
-
-    fn push_refusal(&mut self, refusal: &Refusal)
-        requires { self.old ≡ [] }
-        ensures text { self.new ≡ reply_line (reply.Refused refusal.now) }
-        ensures len { length self.new ≤ 60 }
-    {
-        self.push(b"refused ");
-        self.push(name_of(refusal));
-        match refusal {
-            Refusal::KindFull(day) => {
-                self.push(b" ");
-                self.push(&day.print());
-            }
-            Refusal::Gap(expected) => {
-                self.push(b" ");
-                self.push_count(*expected);
-            }
-            _ => {}
+        Refusal::Gap(expected) => {
+            text.push(b" ");
+            push_count(text, *expected);
         }
+        _ => {}
     }
 }
 
@@ -164,14 +122,14 @@ pub fn reply_text(reply: &Reply) -> ReplyText
         Reply::KindAdded => text.push(b"kind added"),
         Reply::RoomAdded { code } => {
             text.push(b"room code ");
-            text.push_code(code);
+            push_code(&mut text, code);
         }
         Reply::Reserved { party } => {
             text.push(b"party ");
-            text.push_number(party.value());
+            push_number(&mut text, party.value());
         }
         Reply::Cancelled => text.push(b"cancelled"),
-        Reply::Issued(card) => text.push_card(card),
+        Reply::Issued(card) => push_card(&mut text, card),
         Reply::CheckedOut => text.push(b"checked out"),
         Reply::DayIs(day) => {
             text.push(b"day ");
@@ -179,7 +137,7 @@ pub fn reply_text(reply: &Reply) -> ReplyText
         }
         Reply::Taken => text.push(b"taken"),
         Reply::Seen => text.push(b"seen"),
-        Reply::Refused(refusal) => text.push_refusal(refusal),
+        Reply::Refused(refusal) => push_refusal(&mut text, refusal),
     }
     text.push(b"\n");
     text

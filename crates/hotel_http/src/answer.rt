@@ -8,7 +8,7 @@ ghost use Rattle.hotel_http.specs.declared.answer.Media.TheVariants.{Plain};
 ghost use Rattle.hotel_http.specs.Answer as spec;
 ghost use Rattle.hotel_http.specs.Answer.{media_type, allow_field, status_line, head_text, answer_text, rejection_status, rejection_body, allowed_by, rejection_answer, reply_status, reply_answer, list_answer};
 
-use crate::buffer::ShortText;
+use crate::buffer::{HeadText, push_number};
 use crate::rejection::{Method, Rejection};
 use crate::status::Status;
 use hotel_core::{Refusal, Reply, reply_text};
@@ -43,13 +43,13 @@ fn allow_field(allow: Option<Method>) -> &'static [u8]
     }
 }
 
-fn status_line(status: Status) -> ShortText
+fn status_line(status: Status) -> HeadText
     ensures same { result ≡ status_line status }
     ensures short { length result ≤ 83 }
 {
-    let mut text = ShortText::new();
+    let mut text = HeadText::new();
     text.push(b"HTTP/1.1 ");
-    text.push_number(u128::from(status.number()));
+    push_number(&mut text, u128::from(status.number()));
     text.push(b" ");
     text.push(status.phrase());
     text.push(b"\r\n");
@@ -58,7 +58,7 @@ fn status_line(status: Status) -> ShortText
 
 /// The head of an answer whose body has so many bytes.
 #[tactic(auto, unfolding(crate::specs::Answer::head_text))]
-pub fn head_text(status: Status, media: Media, allow: Option<Method>, size: u128) -> ShortText
+pub fn head_text(status: Status, media: Media, allow: Option<Method>, size: u128) -> HeadText
     ensures same { result ≡ head_text status media allow size }
     ensures short { length result ≤ 220 }
 {
@@ -67,7 +67,7 @@ pub fn head_text(status: Status, media: Media, allow: Option<Method>, size: u128
     text.push(media_type(media));
     text.push(b"\r\n");
     text.push(b"Content-Length: ");
-    text.push_number(size);
+    push_number(&mut text, size);
     text.push(b"\r\n");
     text.push(allow_field(allow));
     text.push(b"Connection: close\r\n\r\n");

@@ -9,7 +9,7 @@ ghost use Rattle.hotel_audit.specs.Import.{has_taken};
 ghost use Rattle.hotel_http.specs.AuditAnswer.{lines_answer, fault_status, fault_body, fault_answer};
 
 use crate::answer::{Media, head_text, write_short};
-use crate::buffer::ShortText;
+use crate::buffer::{HeadText, push_number};
 use crate::status::Status;
 use hotel_audit::{AuditFault, ImportFault, LineAnswer, answer_text};
 use hotel_lists::{IoCalls, WriteFailed, write_bytes};
@@ -86,11 +86,11 @@ pub fn fault_status(why: &ImportFault) -> Status
     }
 }
 
-fn fault_body(why: &ImportFault) -> ShortText
+fn fault_body(why: &ImportFault) -> HeadText
     ensures same { result ≡ fault_body why.now }
     ensures short { length result ≤ 64 }
 {
-    let mut text = ShortText::new();
+    let mut text = HeadText::new();
     match why {
         ImportFault::File(AuditFault::TooLarge) => text.push(b"too large\n"),
         ImportFault::File(AuditFault::NoHeader) => text.push(b"no header\n"),
@@ -98,12 +98,12 @@ fn fault_body(why: &ImportFault) -> ShortText
         ImportFault::File(AuditFault::Memory) => text.push(b"refused 29 Memory\n"),
         ImportFault::Memory { answered, .. } => {
             text.push(b"stopped after ");
-            text.push_number(*answered as u128);
+            push_number(&mut text, *answered as u128);
             text.push(b": Memory\n");
         }
         ImportFault::Store { answered, .. } => {
             text.push(b"stopped after ");
-            text.push_number(*answered as u128);
+            push_number(&mut text, *answered as u128);
             text.push(b": Store\n");
         }
     }

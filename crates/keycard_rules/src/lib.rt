@@ -11,6 +11,7 @@ mod lock;
 mod note;
 mod numbers;
 mod numerals;
+mod short_text;
 
 pub use card::{Card, Link};
 pub use chain::{Chain, Memory, RecodeFault, Turned};
@@ -22,3 +23,4 @@ pub use lock::turn;
 pub use note::{Act, LockNote};
 pub use numbers::{CardNo, Count, Number, PartyNo, RoomNo};
 pub use numerals::{read_numeral, write_fixed};
+pub use short_text::ShortText;

@@ -1,7 +1,7 @@
 use Rattle.std.proofs.Common.{◌≡◌, arith, rules, ap, length}
 use Rattle.std.specs.Fmt.{decimal}
 use Rattle.std.proofs.lemmas.Fmt.{length-decimal-le}
-use Rattle.hotel_core.proofs.reply_texts.ReplyText.push_count.Goals as goal
+use Rattle.hotel_core.proofs.reply_texts.push_count.Goals as goal
 
 pub push-requires : goal.push-requires
 push-requires c =
