@@ -10,3 +10,4 @@ mod SentAtOnce
 mod NotesInRange
 mod FilesCounted
 mod NotesTaken
+pub mod AnswersWritten

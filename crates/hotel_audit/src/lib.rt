@@ -9,6 +9,7 @@ mod importing;
 mod laws;
 mod line;
 mod texts;
+mod written;
 
 pub use answer::LineAnswer;
 pub use audit_file::{AuditFault, read_notes};
@@ -18,3 +19,4 @@ pub use laws::{
 };
 pub use line::{Cause, Line};
 pub use texts::{AnswerText, answer_text};
+pub use written::write_answers;

@@ -1,10 +1,7 @@
 //! An audit file that is imported alone: its answers on one writer, and what went wrong on another.
 
-ghost use Rattle.std.specs.Prelude.{◌≡◌, true, OnOk, OnErr, IsErrOf, List, Bool, Result};
-ghost use Rattle.std.specs.Io.KnownBytes.{Appends};
-ghost use Rattle.hotel_lists.specs.Bytes.{AppendsFront};
+ghost use Rattle.std.specs.Prelude.{◌≡◌, true, IsErrOf, List, Bool, Result};
 ghost use Rattle.hotel_lists.specs.Calls.{NoneForgotten};
-ghost use Rattle.hotel_audit.specs.Answers.{answers_text};
 ghost use Rattle.hotel_audit.specs.declared.answer.LineAnswer.{LineAnswer};
 ghost use Rattle.hotel_audit.specs.declared.importing.ImportFault.{ImportFault};
 ghost use Rattle.hotel_desk.specs.Faults.{end_status, Tells};
@@ -12,31 +9,12 @@ ghost use Rattle.hotel_desk.specs.AuditRuns.{answers_status, file_fault, import_
 
 use crate::faults::{Fault, FaultSink, finish};
 use crate::statuses::{DONE, REFUSED};
-use hotel_audit::{AuditFault, ImportFault, LineAnswer, answer_text, import};
+use hotel_audit::{AuditFault, ImportFault, LineAnswer, import, write_answers};
 use hotel_core::Books;
-use hotel_lists::{IoCalls, WriteFailed, write_bytes};
+use hotel_lists::{IoCalls, WriteFailed};
 use keycard_rules::LookFault;
 use std::alloc::Global;
 use std::io::Write;
-
-/// Writes the texts of answers, a line each, numbered from 1. After a fault the writer took a front
-/// of them.
-fn write_answers<W: Write>(
-    writer: &mut W,
-    answers: &[LineAnswer],
-    calls: &mut IoCalls,
-) -> Result<(), WriteFailed>
-    ensures ok { OnOk result (Appends (W.contents writer.old) (W.contents writer.new) (answers_text 1 answers.now)) }
-    ensures err { OnErr result (AppendsFront (W.contents writer.old) (W.contents writer.new) (answers_text 1 answers.now)) }
-    ensures failed { OnErr result (calls.new.write_failed ≡ true) }
-    ensures calls { NoneForgotten calls.old calls.new }
-{
-    for (index, answer) in answers.iter().enumerate() {
-        let text = answer_text(index + 1, answer);
-        write_bytes(writer, text.as_bytes(), calls)?;
-    }
-    Ok(())
-}
 
 /// The exit status that goes with answers.
 fn answers_status(answers: &[LineAnswer]) -> u8

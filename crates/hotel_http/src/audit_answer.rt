@@ -11,7 +11,7 @@ ghost use Rattle.hotel_http.specs.AuditAnswer.{lines_answer, fault_status, fault
 use crate::answer::{Media, head_text, write_short};
 use crate::buffer::{HeadText, push_number};
 use crate::status::Status;
-use hotel_audit::{AuditFault, ImportFault, LineAnswer, answer_text};
+use hotel_audit::{AuditFault, ImportFault, LineAnswer, answer_text, write_answers};
 use hotel_lists::{IoCalls, WriteFailed, write_bytes};
 use std::io::Write;
 
@@ -38,28 +38,9 @@ fn answers_size(answers: &[LineAnswer]) -> u128
     size
 }
 
-/// Writes the texts of answers, a line each, numbered from 1. After a fault the writer took a front
-/// of them.
-fn write_lines<W: Write>(
-    writer: &mut W,
-    answers: &[LineAnswer],
-    calls: &mut IoCalls,
-) -> Result<(), WriteFailed>
-    ensures ok { OnOk result (Appends (W.contents writer.old) (W.contents writer.new) (answers_text 1 answers.now)) }
-    ensures err { OnErr result (AppendsFront (W.contents writer.old) (W.contents writer.new) (answers_text 1 answers.now)) }
-    ensures failed { OnErr result (calls.new.write_failed ≡ true) }
-    ensures calls { NoneForgotten calls.old calls.new }
-{
-    for (index, answer) in answers.iter().enumerate() {
-        let text = answer_text(index + 1, answer);
-        write_bytes(writer, text.as_bytes(), calls)?;
-    }
-    Ok(())
-}
-
 /// Writes the answer to an audit file whose lines were all answered. After a fault the writer took a
 /// front of it.
-pub fn write_answers<W: Write>(
+pub fn write_audit<W: Write>(
     writer: &mut W,
     answers: &[LineAnswer],
     calls: &mut IoCalls,
@@ -71,7 +52,7 @@ pub fn write_answers<W: Write>(
 {
     let head = head_text(Status::Success, Media::Plain, None, answers_size(answers));
     write_bytes(writer, head.as_bytes(), calls)?;
-    write_lines(writer, answers, calls)
+    write_answers(writer, answers, calls)
 }
 
 /// The status of an import that has no answers.

@@ -15,7 +15,7 @@ ghost use Rattle.hotel_http.specs.Serve.{rejected, replied, is_accepted, taken_b
 ghost use Rattle.hotel_http.specs.declared.serve.ServeFault.TheVariants.{Read, Write};
 
 use crate::answer::{rejection_status, reply_status, write_csv, write_rejection, write_reply};
-use crate::audit_answer::{fault_status, has_taken, write_answers, write_fault};
+use crate::audit_answer::{fault_status, has_taken, write_audit, write_fault};
 use crate::rejection::Rejection;
 use crate::requests::{Request, RequestFault, read_request};
 use crate::routes::{Target, make_routes};
@@ -222,7 +222,7 @@ fn answer_audit<W: Write, B: Walks>(
     match import(alloc, books, file) {
         Ok(answers) => {
             let answers = answers.as_slice();
-            let written = write_answers(writer, answers, calls);
+            let written = write_audit(writer, answers, calls);
             ended(written, Status::Success, has_taken(answers))
         }
         Err(why) => {

@@ -1,8 +1,8 @@
 use Rattle.std.proofs.Common.{◌∙◌}
 use Rattle.hotel_lists.proofs.BytesLemmas.{on_err}
 use Rattle.hotel_lists.proofs.CallsLemmas.{then_none_forgotten}
-use Rattle.hotel_http.proofs.AuditAnswerLemmas.{answers_written, answers_front}
-use Rattle.hotel_http.proofs.audit_answer.write_lines.Goals as goal
+use Rattle.hotel_audit.proofs.AnswersWritten.{answers_written, answers_front}
+use Rattle.hotel_audit.proofs.written.write_answers.Goals as goal
 
 pub returns-in_err-write_bytes-clause-err : goal.returns-in_err-write_bytes-clause-err
 returns-in_err-write_bytes-clause-err g c =

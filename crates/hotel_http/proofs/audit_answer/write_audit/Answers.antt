@@ -6,22 +6,22 @@ use Rattle.hotel_http.specs.Answer.{answer_text, head_text}
 use Rattle.hotel_http.specs.declared.answer.Media.TheVariants.{Plain}
 use Rattle.hotel_http.specs.declared.status.Status.TheVariants.{Success}
 use Rattle.hotel_http.proofs.AuditAnswerLemmas.{front_of_head, then_ok, then_err}
-use Rattle.hotel_http.proofs.audit_answer.write_answers.Goals as goal
+use Rattle.hotel_http.proofs.audit_answer.write_audit.Goals as goal
 
 pub returns-in_err-write_bytes-clause-err : goal.returns-in_err-write_bytes-clause-err
 unfolding answer_text
 returns-in_err-write_bytes-clause-err g c =
-    let head = c.as_bytes.ensures ∙ c.head_text-head.ensures.same ∙ ap (head_text Success Plain None) c.answers_size.ensures in
+    let head = c.as_bytes.ensures.same ∙ c.head_text-head.ensures.same ∙ ap (head_text Success Plain None) c.answers_size.ensures in
     on_err c.from_residual.result (front_of_head _ _ _ (answers_text 1 c.args.answers.now) head c.in_err-write_bytes.ensures.err)
 
 pub returns-clause-ok : goal.returns-clause-ok
 unfolding answer_text
 returns-clause-ok g c =
-    let head = c.as_bytes.ensures ∙ c.head_text-head.ensures.same ∙ ap (head_text Success Plain None) c.answers_size.ensures in
-    then_ok c.write_lines.result _ _ _ _ _ _ head c.in_ok-write_bytes.ensures.ok c.write_lines.ensures.ok
+    let head = c.as_bytes.ensures.same ∙ c.head_text-head.ensures.same ∙ ap (head_text Success Plain None) c.answers_size.ensures in
+    then_ok c.write_answers.result _ _ _ _ _ _ head c.in_ok-write_bytes.ensures.ok c.write_answers.ensures.ok
 
 pub returns-clause-err : goal.returns-clause-err
 unfolding answer_text
 returns-clause-err g c =
-    let head = c.as_bytes.ensures ∙ c.head_text-head.ensures.same ∙ ap (head_text Success Plain None) c.answers_size.ensures in
-    then_err c.write_lines.result _ _ _ _ _ _ head c.in_ok-write_bytes.ensures.ok c.write_lines.ensures.err
+    let head = c.as_bytes.ensures.same ∙ c.head_text-head.ensures.same ∙ ap (head_text Success Plain None) c.answers_size.ensures in
+    then_err c.write_answers.result _ _ _ _ _ _ head c.in_ok-write_bytes.ensures.ok c.write_answers.ensures.err

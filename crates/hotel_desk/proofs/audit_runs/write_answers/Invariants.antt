@@ -1,9 +1,0 @@
--- the answers so far were written
-use Rattle.std.proofs.Common.{take}
-use Rattle.std.specs.Io.KnownBytes.{Appends}
-use Rattle.hotel_lists.specs.Calls.{NoneForgotten}
-use Rattle.hotel_audit.specs.Answers.{answers_text}
-use Rattle.hotel_desk.proofs.audit_runs.write_answers.Given as goal
-
-abbrev pub invariant-loop-index : goal.invariant-loop-index
-invariant-loop-index g l = Appends (g.W.Write.contents l.initial.writer) (g.W.Write.contents l.writer) (answers_text 1 (take l.index l.answers)) × NoneForgotten l.initial.calls l.calls
