@@ -234,7 +234,7 @@ fn failed_look_ups(rt: HostRuntime) -> Result<(), Fail> {
 }
 
 /// The note has these values.
-fn is_note<A: Abort>(rt: &A, note: &LockNote, room: RoomNo, count: Count, act: Act) {
+fn is_note<A: Abort>(rt: &A, note: LockNote, room: RoomNo, count: Count, act: Act) {
     assert!(rt; note.room() == room && note.count() == count && note.act() == act);
     assert!(rt; note.day() == 36_524 && note.second() == 86_399);
 }
@@ -250,8 +250,12 @@ fn notes_of_a_lock(rt: HostRuntime) {
     assert!(rt; LockNote::new(room, count, recoded, 36_525, 0).is_none());
     assert!(rt; LockNote::new(room, count, recoded, 0, 86_400).is_none());
     let note = LockNote::new(room, count, recoded, 36_524, 86_399).expect(&rt, "the last second");
-    is_note(&rt, &note, room, count, recoded);
-    assert!(rt; LockNote::new(room, count, recoded, 36_524, 86_398) != Some(note));
+    is_note(&rt, note, room, count, recoded);
+    let earlier = LockNote::new(room, count, recoded, 36_524, 86_398).expect(
+        &rt,
+        "a second before",
+    );
+    assert!(rt; earlier != note);
 }
 
 #[test]
