@@ -247,8 +247,8 @@ fn notes_of_a_lock(rt: HostRuntime) {
         from: code(&rt, 0xa0),
         to: code(&rt, 0xa1),
     };
-    assert!(rt; LockNote::new(room, count, recoded, 36_525, 0).is_none());
-    assert!(rt; LockNote::new(room, count, recoded, 0, 86_400).is_none());
+    assert_eq!(rt; LockNote::new(room, count, recoded, 36_525, 0), None);
+    assert_eq!(rt; LockNote::new(room, count, recoded, 0, 86_400), None);
     let note = LockNote::new(room, count, recoded, 36_524, 86_399).expect(&rt, "the last second");
     is_note(&rt, note, room, count, recoded);
     let earlier = LockNote::new(room, count, recoded, 36_524, 86_398).expect(
