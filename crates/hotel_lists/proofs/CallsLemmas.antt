@@ -1,5 +1,5 @@
 -- Calls that are made one after the other.
-use Rattle.std.proofs.Common.{◌≤◌, arith}
+use Rattle.std.proofs.Common.{arith}
 use Rattle.hotel_lists.specs.Calls.{Calls, NoneForgotten}
 
 pub none_forgotten : (c : Calls) → NoneForgotten c c

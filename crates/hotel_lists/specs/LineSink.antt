@@ -1,5 +1,5 @@
 -- A sink that gathers the lines of rows and writes many of them by one write.
-use Rattle.std.specs.Prelude.{◌≡◌, ℕ, ◌⊎◌, true, List, [], ◌++◌, Option, Result, Ok, Err}
+use Rattle.std.specs.Prelude.{◌≡◌, ℕ, ◌⊎◌, true, List, [], ◌++◌, Option, Result, Err}
 use Rattle.std.specs.Io.KnownBytes.{Appends, Keeps}
 use Rattle.hotel_core.specs.declared.books.walks.WalkFault.{WalkFault}
 use Rattle.hotel_core.specs.declared.books.walks.WalkFault.TheVariants as walk

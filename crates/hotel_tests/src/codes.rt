@@ -233,12 +233,6 @@ fn failed_look_ups(rt: HostRuntime) -> Result<(), Fail> {
     Ok(())
 }
 
-/// The note has these values.
-fn is_note<A: Abort>(rt: &A, note: &LockNote, room: RoomNo, count: Count, act: Act) {
-    assert!(rt; note.room() == room && note.count() == count && note.act() == act);
-    assert!(rt; note.day() == 36_524 && note.second() == 86_399);
-}
-
 #[test]
 fn notes_of_a_lock(rt: HostRuntime) {
     let room = RoomNo::new(101).expect(&rt, "a number in range");
@@ -247,11 +241,17 @@ fn notes_of_a_lock(rt: HostRuntime) {
         from: code(&rt, 0xa0),
         to: code(&rt, 0xa1),
     };
-    assert!(rt; LockNote::new(room, count, recoded, 36_525, 0).is_none());
-    assert!(rt; LockNote::new(room, count, recoded, 0, 86_400).is_none());
+    assert_eq!(rt; LockNote::new(room, count, recoded, 36_525, 0), None);
+    assert_eq!(rt; LockNote::new(room, count, recoded, 0, 86_400), None);
     let note = LockNote::new(room, count, recoded, 36_524, 86_399).expect(&rt, "the last second");
-    is_note(&rt, &note, room, count, recoded);
-    assert!(rt; LockNote::new(room, count, recoded, 36_524, 86_398) != Some(note));
+    assert_eq!(rt; note.room(), room);
+    assert_eq!(rt; note.count(), count);
+    assert_eq!(rt; note.act(), recoded);
+    assert_eq!(rt; (note.day(), note.second()), (36_524, 86_399));
+    assert_ne!(rt;
+        LockNote::new(room, count, recoded, 36_524, 86_398),
+        Some(note)
+    );
 }
 
 #[test]
