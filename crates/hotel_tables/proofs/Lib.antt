@@ -1,0 +1,10 @@
+mod Answers
+mod Perm
+mod Refused
+mod Keys
+mod Keeps
+mod Looked
+mod Writing
+mod Makers
+mod NewDesk
+mod Statements

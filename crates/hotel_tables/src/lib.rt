@@ -1,0 +1,7 @@
+//! The desk's books over SQL tables: each look-up is one keyed statement, and no rows are kept in memory.
+#![tactic(auto)]
+
+mod from_row;
+mod look;
+mod number;
+mod texts;

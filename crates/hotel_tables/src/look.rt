@@ -1,0 +1,35 @@
+//! One keyed statement, and the row that it finds.
+ghost use Rattle.std.specs.Prelude.{IfOk};
+ghost use Rattle.sqlite.specs.Held.{state};
+ghost use Rattle.sqlite.specs.State.{Survives};
+ghost use Rattle.sqlite.specs.Query.{Query};
+ghost use Rattle.sqlite.specs.Values.{bound};
+ghost use Rattle.hotel_tables.specs.Books.{IsBooks, IsKept, KeepsRows};
+ghost use Rattle.hotel_tables.specs.LookUps.{Asks, AnswersFirst};
+
+use crate::from_row::{FromRow, fault_of};
+use keycard_rules::LookFault;
+use sqlite::types::ValueRef;
+use sqlite::{Alter, Connection, Error};
+use std::alloc::Global;
+
+/// What the first row says that a statement shows, or none where it shows none.
+pub(crate) fn look<S: Alter, R: FromRow>(
+    alloc: Global,
+    conn: &mut Connection<S>,
+    text: &str,
+    params: &[ValueRef<'_>],
+) -> Result<Option<R>, LookFault>
+    requires books { IsBooks (state S.Store conn.old) }
+    requires asks { (q : Query) × Asks text.now q }
+    ensures books { IsBooks (state S.Store conn.new) }
+    ensures keeps { KeepsRows (state S.Store conn.old) (state S.Store conn.new) }
+    ensures found { IsKept (state S.Store conn.new) → (q : Query) → Asks text.now q → IfOk result (AnswersFirst R.FromRow.of q (bound params.now) (state S.Store conn.old).now.trees) }
+    ensures crash { IsKept (state S.Store conn.old) → Survives (state S.Store conn.old) (state S.Store conn.new) (λ _. ⊥) }
+{
+    match conn.query_row(text, params) {
+        Ok(row) => Ok(Some(R::from_row(alloc, &row)?)),
+        Err(Error::QueryReturnedNoRows) => Ok(None),
+        Err(error) => Err(fault_of(error)),
+    }
+}
