@@ -2,9 +2,12 @@ mod Answers
 mod Perm
 mod Refused
 mod Keys
+mod Found
 mod Keeps
 mod Looked
 mod Writing
 mod Makers
+mod Keyed
+mod Finds
 mod NewDesk
 mod Statements

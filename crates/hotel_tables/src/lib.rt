@@ -1,7 +1,9 @@
 //! The desk's books over SQL tables: each look-up is one keyed statement, and no rows are kept in memory.
 #![tactic(auto)]
 
+mod create;
 mod from_row;
 mod look;
+mod look_ups;
 mod number;
 mod texts;

@@ -1,0 +1,133 @@
+//! The look-ups of the books, each over the connection: one keyed statement, but for the next numbers, which are two.
+ghost use Rattle.std.specs.Prelude.{not};
+ghost use Rattle.sqlite.specs.Held.{state};
+ghost use Rattle.hotel_core.specs.Model.Rows.{has_kind};
+ghost use Rattle.hotel_core.specs.Model.Words.{is_one_of};
+ghost use Rattle.hotel_core.specs.Model.Guests.{are_none};
+ghost use Rattle.hotel_core.specs.Books.Lookups.{room_at, code_place, stay_at, card_at, inside_at, note_at};
+ghost use Rattle.hotel_tables.specs.Books.{IsBooks};
+ghost use Rattle.hotel_tables.specs.LookUps.{Looks};
+
+use crate::look::look;
+use crate::number::{number, small, text};
+use crate::texts::{
+    SELECT_ANY_INSIDE, SELECT_CARD, SELECT_CODE, SELECT_DAY, SELECT_INSIDE, SELECT_KIND,
+    SELECT_NOTE, SELECT_ROOM, SELECT_STAY,
+};
+use hotel_core::{CodeRow, RoomRow};
+use hotel_nights::{Day, KindCode, Stay};
+use keycard_rules::{Card, CardNo, Code, Count, LockNote, LookFault, PartyNo, RoomNo};
+use sqlite::{Alter, Connection};
+use std::alloc::Global;
+
+pub(crate) fn day<S: Alter>(
+    alloc: Global,
+    conn: &mut Connection<S>,
+) -> Result<Option<Day>, LookFault>
+    requires { IsBooks (state S.Store conn.old) }
+    ensures { Looks (λ a. a) (λ rows. rows.day) (state S.Store conn.old) (state S.Store conn.new) result }
+{
+    let day: Option<Option<Day>> = look(alloc, conn, SELECT_DAY, &[small(1)])?;
+    Ok(day.unwrap_or(None))
+}
+
+pub(crate) fn kind<S: Alter>(
+    alloc: Global,
+    conn: &mut Connection<S>,
+    kind: &KindCode,
+) -> Result<bool, LookFault>
+    requires { IsBooks (state S.Store conn.old) }
+    ensures { Looks (λ a. a) (λ rows. has_kind rows kind.now) (state S.Store conn.old) (state S.Store conn.new) result }
+{
+    let kind: Option<KindCode> = look(alloc, conn, SELECT_KIND, &[text(kind.as_bytes())])?;
+    Ok(kind.is_some())
+}
+
+pub(crate) fn room<S: Alter>(
+    alloc: Global,
+    conn: &mut Connection<S>,
+    room: RoomNo,
+) -> Result<Option<RoomRow>, LookFault>
+    requires { IsBooks (state S.Store conn.old) }
+    ensures { Looks (λ a. a) (λ rows. room_at rows room) (state S.Store conn.old) (state S.Store conn.new) result }
+{
+    look(alloc, conn, SELECT_ROOM, &[small(room.value())])
+}
+
+pub(crate) fn stay<S: Alter>(
+    alloc: Global,
+    conn: &mut Connection<S>,
+    party: PartyNo,
+) -> Result<Option<Stay>, LookFault>
+    requires { IsBooks (state S.Store conn.old) }
+    ensures { Looks (λ a. a) (λ rows. stay_at rows party) (state S.Store conn.old) (state S.Store conn.new) result }
+{
+    look(alloc, conn, SELECT_STAY, &[small(party.value())])
+}
+
+/// The room and the place at which a code stands.
+pub(crate) fn code<S: Alter>(
+    alloc: Global,
+    conn: &mut Connection<S>,
+    code: Code,
+) -> Result<Option<CodeRow>, LookFault>
+    requires { IsBooks (state S.Store conn.old) }
+    ensures { Looks (λ a. a) (λ rows. code_place rows code) (state S.Store conn.old) (state S.Store conn.new) result }
+{
+    look(alloc, conn, SELECT_CODE, &[number(code.value())])
+}
+
+pub(crate) fn card<S: Alter>(
+    alloc: Global,
+    conn: &mut Connection<S>,
+    number: CardNo,
+) -> Result<Option<Card>, LookFault>
+    requires { IsBooks (state S.Store conn.old) }
+    ensures { Looks (λ a. a) (λ rows. card_at rows number) (state S.Store conn.old) (state S.Store conn.new) result }
+{
+    look(alloc, conn, SELECT_CARD, &[small(number.value())])
+}
+
+pub(crate) fn note<S: Alter>(
+    alloc: Global,
+    conn: &mut Connection<S>,
+    room: RoomNo,
+    count: Count,
+) -> Result<Option<LockNote>, LookFault>
+    requires { IsBooks (state S.Store conn.old) }
+    ensures { Looks (λ a. a) (λ rows. note_at rows room count) (state S.Store conn.old) (state S.Store conn.new) result }
+{
+    look(alloc, conn, SELECT_NOTE, &[small(room.value()), small(count.value())])
+}
+
+/// Whether a card is inside a room.
+pub(crate) fn is_inside<S: Alter>(
+    alloc: Global,
+    conn: &mut Connection<S>,
+    room: RoomNo,
+    number: CardNo,
+) -> Result<bool, LookFault>
+    requires { IsBooks (state S.Store conn.old) }
+    ensures { Looks (λ a. a) (λ rows. is_one_of number (inside_at rows room)) (state S.Store conn.old) (state S.Store conn.new) result }
+{
+    let card: Option<CardNo> = look(
+        alloc,
+        conn,
+        SELECT_INSIDE,
+        &[small(room.value()), small(number.value())],
+    )?;
+    Ok(card.is_some())
+}
+
+/// Whether any card is inside a room.
+pub(crate) fn has_inside<S: Alter>(
+    alloc: Global,
+    conn: &mut Connection<S>,
+    room: RoomNo,
+) -> Result<bool, LookFault>
+    requires { IsBooks (state S.Store conn.old) }
+    ensures { Looks (λ a. a) (λ rows. not (are_none (inside_at rows room))) (state S.Store conn.old) (state S.Store conn.new) result }
+{
+    let card: Option<CardNo> = look(alloc, conn, SELECT_ANY_INSIDE, &[small(room.value())])?;
+    Ok(card.is_some())
+}
