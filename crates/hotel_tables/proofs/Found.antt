@@ -28,7 +28,7 @@ either : {A : Type 0} (b : Bool) (x : A) → unwrap_or (cond b None None) x ≡ 
 either true x = refl
 either false x = refl
 
-same_tree : (db : Trees) (tree : ℕ) → overlay db [] tree ≡ db tree
+pub same_tree : (db : Trees) (tree : ℕ) → overlay db [] tree ≡ db tree
 same_tree db tree = either _ (db tree)
 
 pub map_same : {A B : Type 0} (f g : A → B) → ((x : A) → f x ≡ g x) → (xs : List A) → map f xs ≡ map g xs

@@ -15,7 +15,7 @@ use Rattle.hotel_tables.specs.Tables.{AreTables}
 abbrev pub Stays : State → State → Type 0
 Stays old new = IsUnchanged old new ⊎ IsRolledBack old new
 
-fails_stay : (sql : List ℕ) (params : Row) (old new : State) (e : Error) → IsPlain (understood old.now.schema sql) → FailsToQuery sql params old new e → Stays old new
+pub fails_stay : (sql : List ℕ) (params : Row) (old new : State) (e : Error) → IsPlain (understood old.now.schema sql) → FailsToQuery sql params old new e → Stays old new
 unfolding FailsToQuery IsNotRun
 fails_stay sql params old new e plain (inl (inl refused)) = inl refused.1
 fails_stay sql params old new e plain (inl (inr failed)) = inr failed.3
@@ -87,3 +87,9 @@ module _ (old new : State) (P : Trees → Type 0) (books : IsBooks old) (mode : 
 pub shown_opened : (sql : List ℕ) (params : Row) (old new : State) (rows : List Row) → Shown sql params old new rows → IsTrue old.is_open
 unfolding Shown
 shown_opened sql params old new rows h = show_opened sql h.0 _ old new rows h.0.returning h.2
+
+pub shown_stay : (sql : List ℕ) (params : Row) (old new : State) (rows : List Row) → IsPlain (understood old.now.schema sql) → Shown sql params old new rows → Stays old new
+unfolding Shown
+shown_stay sql params old new rows plain h =
+    let none = (subst IsPlain h.1.is plain).0 in
+    inl (subst (ShowsRows old new sql h.0 _ rows) none h.2).3

@@ -7,7 +7,9 @@ mod Keeps
 mod Looked
 mod Writing
 mod Makers
+mod Ordered
 mod Keyed
 mod Finds
+mod Lists
 mod NewDesk
 mod Statements

@@ -1,5 +1,5 @@
 -- One keyed statement, and the row that it finds.
-use Rattle.std.proofs.Common.{◌≡◌, ◌⊎◌, inl, inr, refl, sym, ap, subst, ◌∙◌, List, [], ◌∷◌, ℕ, None, Some, Option, Ok, Err, Result, IsTrue, false, arith}
+use Rattle.std.proofs.Common.{◌≡◌, ◌⊎◌, inl, inr, refl, sym, ap, subst, ◌∙◌, List, [], ◌∷◌, ℕ, None, Some, Option, Ok, Err, Result, IsTrue, false, arith, map}
 use Rattle.sqlite_value.specs.declared.value.Value.TheVariants.{Null}
 use Rattle.sqlite.specs.Order.{Row}
 use Rattle.sqlite.specs.Tree.{Trees}
@@ -11,7 +11,7 @@ use Rattle.sqlite.specs.Command.TheVariants.{Select, Rows}
 use Rattle.sqlite.specs.Listing.{understood}
 use Rattle.sqlite_trees.specs.declared.error.StoreError.{StoreError}
 use Rattle.sqlite_trees.specs.declared.error.StoreError.TheVariants.{OutOfMemory, Io, Corrupt, Full, Broken, Unstorable}
-use Rattle.sqlite.specs.State.{State, HasCleanDisk, QueriesRow, Survives, CommitsShowing, FailsToQuery, IsNotRun, FailsToShow, store_error}
+use Rattle.sqlite.specs.State.{State, HasCleanDisk, QueriesRow, Shown, Survives, CommitsShowing, FailsToQuery, IsNotRun, FailsToShow, store_error}
 use Rattle.sqlite.specs.declared.error.Error.{Error}
 use Rattle.sqlite.specs.declared.error.Error.TheVariants.{QueryReturnedNoRows}
 use Rattle.sqlite_resolve.specs.declared.compiled.Compiled.{Compiled}
@@ -20,8 +20,8 @@ use Rattle.sqlite.proofs.Callers.{IsPlain, command_of, first_as, reads_as, never
 use Rattle.sqlite.proofs.StateLemmas.{survives_weaker}
 use Rattle.hotel_tables.specs.Schema.{desk_schema}
 use Rattle.hotel_tables.specs.Books.{IsDesk, IsKept, IsBooks, KeepsRows}
-use Rattle.hotel_tables.specs.LookUps.{Asks, IsQuery, AnswersFirst}
-use Rattle.hotel_tables.proofs.Keeps.{Stays, query_stays, query_opened, was_kept, keeps_books, keeps_rows}
+use Rattle.hotel_tables.specs.LookUps.{Asks, IsQuery, AnswersFirst, AnswersAll}
+use Rattle.hotel_tables.proofs.Keeps.{Stays, query_stays, query_opened, keeps_books, keeps_rows, shown_stay, shown_opened, fails_stay, fail_opened}
 
 -- no other failure is that no row was found
 not_read : (command : Command) (limit : Option ℕ) (db : Database) (params : Row) → RefusesToRead limit command db params QueryReturnedNoRows → ⊥
@@ -87,3 +87,40 @@ module _ (text : List ℕ) (params : Row) (old new : State) (r : Result Row Erro
       go : IsDesk old → QueriesRow text params old new (Err QueryReturnedNoRows) → AnswersFirst out q params old.now.trees None
       go desk (inl h) = absurd (not_failed text params old new (plain_in text q old asks desk) h)
       go desk (inr h) = (reads_as text params old new desk_schema desk.schema _ (command_is q _ asks.query).1 asks.plain asks.listing [] h.1).answer Null
+
+-- ---- all rows of an answer
+
+module _ (text : List ℕ) (params : Row) (old new : State) (books : IsBooks old) (asked : (q : Query) × Asks text q) (mode : old.in_transaction ≡ false → new.in_transaction ≡ false) (survives : Survives old new (CommitsShowing text params old)) where
+  pub all_crash : IsKept old → Survives old new (λ _. ⊥)
+  all_crash kept = survives_weaker old new _ _ (λ _ db. never_commits text params old db (plain_in text asked.0 old asked.1 (books.desk kept))) survives
+
+  module _ (rows : List Row) (shown : HasCleanDisk new → Shown text params old new rows) where
+    all_stays : HasCleanDisk new → IsDesk old → Stays old new
+    all_stays clean desk = shown_stay text params old new rows (plain_in text asked.0 old asked.1 desk) (shown clean)
+
+    all_opened : HasCleanDisk new → IsTrue new.is_open → IsTrue old.is_open
+    all_opened clean is_open = shown_opened text params old new rows (shown clean)
+
+    pub all_books : IsBooks new
+    all_books = keeps_books old new _ books mode survives all_stays all_opened
+
+    pub all_keeps : KeepsRows old new
+    all_keeps = keeps_rows old new _ books mode survives all_stays all_opened
+
+    pub all_found : {A : Type 0} (out : Row → A) (all : List A) → all ≡ map out rows → IsKept new → (q : Query) → Asks text q → AnswersAll out q params old.now.trees all
+    all_found out all reads kept q asks =
+        let desk = books.desk (all_keeps kept).0 in
+        (rows, (reads_as text params old new desk_schema desk.schema _ (command_is q _ asks.query).1 asks.plain asks.listing rows (shown kept.0)).answer Null, reads)
+
+  module _ (e : Error) (fails : HasCleanDisk new → FailsToQuery text params old new e) where
+    fault_stays : HasCleanDisk new → IsDesk old → Stays old new
+    fault_stays clean desk = fails_stay text params old new e (plain_in text asked.0 old asked.1 desk) (fails clean)
+
+    fault_opened : HasCleanDisk new → IsTrue new.is_open → IsTrue old.is_open
+    fault_opened clean = fail_opened text params old new e (fails clean)
+
+    pub fault_books : IsBooks new
+    fault_books = keeps_books old new _ books mode survives fault_stays fault_opened
+
+    pub fault_keeps : KeepsRows old new
+    fault_keeps = keeps_rows old new _ books mode survives fault_stays fault_opened

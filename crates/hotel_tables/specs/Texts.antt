@@ -45,7 +45,7 @@ abbrev pub select_code : List ℕ
 select_code = codes "SELECT code, room, place FROM code WHERE code = ?1"
 
 abbrev pub select_code_at : List ℕ
-select_code_at = codes "SELECT code FROM code WHERE room = ?1 AND place = ?2"
+select_code_at = codes "SELECT code FROM code WHERE room = ?1 AND place = ?2 ORDER BY code"
 
 abbrev pub select_card : List ℕ
 select_card = codes "SELECT number, party, old_code, new_code FROM card WHERE number = ?1"
@@ -60,10 +60,10 @@ abbrev pub select_note : List ℕ
 select_note = codes "SELECT room, n, act, card, first_code, second_code, day, second FROM note WHERE room = ?1 AND n = ?2"
 
 abbrev pub select_last_party : List ℕ
-select_last_party = codes "SELECT party FROM stay ORDER BY party DESC LIMIT 1"
+select_last_party = codes "SELECT party FROM stay ORDER BY party DESC"
 
 abbrev pub select_last_card : List ℕ
-select_last_card = codes "SELECT number FROM card ORDER BY number DESC LIMIT 1"
+select_last_card = codes "SELECT number FROM card ORDER BY number DESC"
 
 -- ---- some rows in order
 

@@ -4,15 +4,15 @@ ghost use Rattle.sqlite.specs.Held.{state};
 ghost use Rattle.hotel_core.specs.Model.Rows.{has_kind};
 ghost use Rattle.hotel_core.specs.Model.Words.{is_one_of};
 ghost use Rattle.hotel_core.specs.Model.Guests.{are_none};
-ghost use Rattle.hotel_core.specs.Books.Lookups.{room_at, code_place, stay_at, card_at, inside_at, note_at};
+ghost use Rattle.hotel_core.specs.Books.Lookups.{room_at, code_place, code_at, stay_at, stays_of_kind, card_at, inside_at, note_at};
 ghost use Rattle.hotel_tables.specs.Books.{IsBooks};
 ghost use Rattle.hotel_tables.specs.LookUps.{Looks};
 
-use crate::look::look;
+use crate::look::{look, look_all};
 use crate::number::{number, small, text};
 use crate::texts::{
-    SELECT_ANY_INSIDE, SELECT_CARD, SELECT_CODE, SELECT_DAY, SELECT_INSIDE, SELECT_KIND,
-    SELECT_NOTE, SELECT_ROOM, SELECT_STAY,
+    SELECT_ANY_INSIDE, SELECT_CARD, SELECT_CARDS_INSIDE, SELECT_CODE, SELECT_CODE_AT, SELECT_DAY,
+    SELECT_INSIDE, SELECT_KIND, SELECT_NOTE, SELECT_ROOM, SELECT_STAY, SELECT_STAYS_OF_KIND,
 };
 use hotel_core::{CodeRow, RoomRow};
 use hotel_nights::{Day, KindCode, Stay};
@@ -130,4 +130,41 @@ pub(crate) fn has_inside<S: Alter>(
 {
     let card: Option<CardNo> = look(alloc, conn, SELECT_ANY_INSIDE, &[small(room.value())])?;
     Ok(card.is_some())
+}
+
+/// The code at a place of a room.
+pub(crate) fn code_at<S: Alter>(
+    alloc: Global,
+    conn: &mut Connection<S>,
+    room: RoomNo,
+    place: u32,
+) -> Result<Option<Code>, LookFault>
+    requires { IsBooks (state S.Store conn.old) }
+    ensures { Looks (λ a. a) (λ rows. code_at rows room place) (state S.Store conn.old) (state S.Store conn.new) result }
+{
+    look(alloc, conn, SELECT_CODE_AT, &[small(room.value()), small(place)])
+}
+
+/// The stays of a kind, by the party's number.
+pub(crate) fn stays_of_kind<S: Alter>(
+    alloc: Global,
+    conn: &mut Connection<S>,
+    kind: &KindCode,
+) -> Result<Vec<Stay>, LookFault>
+    requires { IsBooks (state S.Store conn.old) }
+    ensures { Looks (λ v. v.items) (λ rows. stays_of_kind rows kind.now) (state S.Store conn.old) (state S.Store conn.new) result }
+{
+    look_all(alloc, conn, SELECT_STAYS_OF_KIND, &[text(kind.as_bytes())])
+}
+
+/// The numbers of the cards inside a room, in order.
+pub(crate) fn inside<S: Alter>(
+    alloc: Global,
+    conn: &mut Connection<S>,
+    room: RoomNo,
+) -> Result<Vec<CardNo>, LookFault>
+    requires { IsBooks (state S.Store conn.old) }
+    ensures { Looks (λ v. v.items) (λ rows. inside_at rows room) (state S.Store conn.old) (state S.Store conn.new) result }
+{
+    look_all(alloc, conn, SELECT_CARDS_INSIDE, &[small(room.value())])
 }

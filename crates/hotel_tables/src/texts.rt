@@ -30,7 +30,7 @@ pub(crate) const SELECT_STAY: &str = "SELECT party, guest, kind, arrive, depart,
 
 pub(crate) const SELECT_CODE: &str = "SELECT code, room, place FROM code WHERE code = ?1";
 
-pub(crate) const SELECT_CODE_AT: &str = "SELECT code FROM code WHERE room = ?1 AND place = ?2";
+pub(crate) const SELECT_CODE_AT: &str = "SELECT code FROM code WHERE room = ?1 AND place = ?2 ORDER BY code";
 
 pub(crate) const SELECT_CARD: &str = "SELECT number, party, old_code, new_code FROM card WHERE number = ?1";
 
@@ -40,9 +40,9 @@ pub(crate) const SELECT_ANY_INSIDE: &str = "SELECT card FROM inside WHERE room =
 
 pub(crate) const SELECT_NOTE: &str = "SELECT room, n, act, card, first_code, second_code, day, second FROM note WHERE room = ?1 AND n = ?2";
 
-pub(crate) const SELECT_LAST_PARTY: &str = "SELECT party FROM stay ORDER BY party DESC LIMIT 1";
+pub(crate) const SELECT_LAST_PARTY: &str = "SELECT party FROM stay ORDER BY party DESC";
 
-pub(crate) const SELECT_LAST_CARD: &str = "SELECT number FROM card ORDER BY number DESC LIMIT 1";
+pub(crate) const SELECT_LAST_CARD: &str = "SELECT number FROM card ORDER BY number DESC";
 
 // Some rows in order.
 

@@ -31,7 +31,7 @@ pub select_code : Asks text.select_code (single 6 by_rowid (columns (0 ∷ 2 ∷
 unfolding understood everything
 select_code = record { query = (_, refl); plain = (refl, refl); listing = refl }
 
-pub select_code_at : Asks text.select_code_at (single 6 (by_pair 2 3) (columns (0 ∷ [])) [])
+pub select_code_at : Asks text.select_code_at (single 6 (by_pair 2 3) (columns (0 ∷ [])) ((col 1 0, ascending Binary) ∷ []))
 unfolding understood everything
 select_code_at = record { query = (_, refl); plain = (refl, refl); listing = refl }
 
@@ -51,11 +51,11 @@ pub select_note : Asks text.select_note (single 11 (by_pair 1 2) all_eight [])
 unfolding understood everything
 select_note = record { query = (_, refl); plain = (refl, refl); listing = refl }
 
-pub select_last_party : Asks text.select_last_party (record (single 5 [] (columns (0 ∷ [])) ((col 1 0, record { collation = Binary; descending = true }) ∷ [])) { limit = lit (Int (pos 1)) })
+pub select_last_party : Asks text.select_last_party (single 5 [] (columns (0 ∷ [])) ((col 1 0, record { collation = Binary; descending = true }) ∷ []))
 unfolding understood everything
 select_last_party = record { query = (_, refl); plain = (refl, refl); listing = refl }
 
-pub select_last_card : Asks text.select_last_card (record (single 8 [] (columns (0 ∷ [])) ((col 1 0, record { collation = Binary; descending = true }) ∷ [])) { limit = lit (Int (pos 1)) })
+pub select_last_card : Asks text.select_last_card (single 8 [] (columns (0 ∷ [])) ((col 1 0, record { collation = Binary; descending = true }) ∷ []))
 unfolding understood everything
 select_last_card = record { query = (_, refl); plain = (refl, refl); listing = refl }
 
