@@ -1,8 +1,10 @@
 -- What each look-up of the books finds in its table.
-use Rattle.std.proofs.Common.{◌≡◌, ◌&&◌, ◌==◌, refl, sym, ap, ap₂, subst, ◌∙◌, List, [], ◌∷◌, ℕ, true, false, Bool, None, Some, Option, map, filter, not, eqb, is_eq, nat_cmp, inl, inr}
+use Rattle.std.proofs.Common.{◌≡◌, ◌&&◌, ◌||◌, ◌==◌, refl, sym, ap, ap₂, subst, ◌∙◌, List, [], ◌∷◌, ℕ, true, false, Bool, None, Some, Option, map, filter, not, eqb, is_eq, nat_cmp, inl, inr}
 use Rattle.std.specs.Prelude.{is_some, unwrap_or, option_map, bytes_eq}
 use Rattle.std.specs.List.{list_any}
 use Rattle.std.specs.Cmp.Lexicographic.{slice_cmp}
+use Rattle.std.specs.BTreeMap.{is_at}
+use Rattle.std.proofs.lemmas.Map.Made.{is_some-lookup}
 use Rattle.std.proofs.lemmas.Bool.{cases_Bool}
 use Rattle.std.proofs.lemmas.Cmp.{nat_cmp_total, nat_list_cmp_total}
 use Rattle.sqlite_value.specs.declared.value.Value.{Value}
@@ -20,8 +22,8 @@ use Rattle.hotel_core.specs.declared.books.rows.RoomRow.{RoomRow}
 use Rattle.hotel_core.specs.declared.books.rows.CodeRow.{CodeRow}
 use Rattle.hotel_core.specs.Model.Words.{pair_cmp, is_one_of, said_of}
 use Rattle.hotel_core.specs.Model.Guests.{those_in, are_none}
-use Rattle.hotel_core.specs.Model.Rows.{has_kind, at_number}
-use Rattle.hotel_core.specs.Books.Lookups.{room_at, code_place, stay_at, card_at, note_at, inside_at}
+use Rattle.hotel_core.specs.Model.Rows.{Rows, has_kind, at_number}
+use Rattle.hotel_core.specs.Books.Lookups.{room_at, codes_in, code_place, stay_at, card_at, note_at, inside_at}
 use Rattle.hotel_core.proofs.OfTables.Pairs.{pair_cmp_total}
 use Rattle.hotel_tables.specs.Values.{number_of, option_of, text_of, int}
 use Rattle.hotel_tables.specs.Columns.{meta_columns, meta_written, kind_columns, kind_of, kind_written, room_columns, room_row_of, room_written, stay_columns, stay_row_of, stay_written, code_columns, code_row_of, code_written, card_columns, card_row_of, card_written, inside_columns, inside_of, inside_written, note_columns, note_row_of, note_written}
@@ -29,9 +31,20 @@ use Rattle.hotel_tables.specs.Tables.{AreTables, IsWrittenAs, rows_in, metas_in}
 use Rattle.hotel_tables.specs.LookUps.{AnswersFirst}
 use Rattle.hotel_tables.proofs.Answers.{single, env, passes}
 use Rattle.hotel_tables.proofs.Statements.Terms.{by_rowid, by_pair, column_is, columns, all_seven, all_eight}
-use Rattle.hotel_tables.proofs.Keys.{equals_text, and_true}
+use Rattle.hotel_tables.proofs.Keys.{equals_text, and_true, is_key}
 use Rattle.hotel_tables.proofs.Found.{found_rows, some_found}
 use Rattle.hotel_tables.proofs.Keyed.{by_number, by_two, same_option, column_equals}
+
+-- a code was issued where it is found
+same_any : (p q : ℕ → Bool) → ((n : ℕ) → p n ≡ q n) → (ns : List ℕ) → list_any p ns ≡ list_any q ns
+same_any p q same [] = refl
+same_any p q same (n ∷ ns) = ap₂ (λ x y. x || y) (same n) (same_any p q same ns)
+
+turned : (k n : ℕ) → is_eq (nat_cmp k n) ≡ eqb n k
+turned k n = is_key k n
+
+pub issued_where_found : (k : ℕ) (rows : Rows) → is_some (code_place rows k) ≡ is_one_of k (codes_in rows)
+issued_where_found k rows = is_some-lookup (is_at (nat_cmp k)) rows.codes ∙ same_any (is_at (nat_cmp k)) (λ m. eqb m k) (turned k) (codes_in rows)
 
 module _ (db : Trees) (t : AreTables db) where
   pub room_finds : (k : ℕ) (o : Option RoomRow) → AnswersFirst room_row_of (single 3 by_rowid all_seven []) (int k ∷ []) db o → o ≡ room_at (rows_in db) k

@@ -11,5 +11,6 @@ mod Ordered
 mod Keyed
 mod Finds
 mod Lists
+mod Last
 mod NewDesk
 mod Statements

@@ -44,7 +44,7 @@ use Rattle.hotel_tables.proofs.Keyed.{key_total, column_equals}
 use Rattle.hotel_tables.proofs.Ordered.{ordered_rows, all_listed, int_order, then_nothing, map_all}
 use Rattle.hotel_tables.proofs.Finds.{room_tests}
 
-map_rises : {X Y : Type 0} (f : X → Y) (R : Y → Y → Type 0) (xs : List X) → IsAscending (λ a b. R (f a) (f b)) xs → IsAscending R (map f xs)
+pub map_rises : {X Y : Type 0} (f : X → Y) (R : Y → Y → Type 0) (xs : List X) → IsAscending (λ a b. R (f a) (f b)) xs → IsAscending R (map f xs)
 map_rises f R [] up = tt
 map_rises f R (x ∷ xs) up = (all_mapped xs up.0, map_rises f R xs up.1)
   where

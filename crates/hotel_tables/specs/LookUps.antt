@@ -1,5 +1,5 @@
 -- What a look-up promises.
-use Rattle.std.specs.Prelude.{◌≡◌, ℕ, false, List, [], ◌∷◌, map, Option, Some, None, Result, IfOk}
+use Rattle.std.specs.Prelude.{◌≡◌, ℕ, false, length, List, [], ◌∷◌, map, Option, Some, None, Result, IfOk}
 use Rattle.sqlite.specs.Order.{Row}
 use Rattle.sqlite.specs.Query.{Query, IsAnswer}
 use Rattle.sqlite.specs.Program.{overlay}
@@ -11,6 +11,8 @@ use Rattle.sqlite.specs.State.{State, Survives}
 use Rattle.sqlite_resolve.specs.declared.compiled.Compiled.{Compiled}
 use Rattle.sqlite_resolve.specs.declared.error.CompileError.{CompileError}
 use Rattle.keycard_rules.specs.declared.issued.LookFault.{LookFault}
+use Rattle.hotel_core.specs.declared.books.rows.NextNumbers.{NextNumbers}
+use Rattle.hotel_core.specs.Books.Lookups.{number_after}
 use Rattle.hotel_core.specs.Model.Rows.{Rows}
 use Rattle.hotel_tables.specs.Schema.{desk_schema}
 use Rattle.hotel_tables.specs.Tables.{rows_in}
@@ -43,3 +45,7 @@ pub record Looks {A R : Type 0} (said : R → A) (wanted : Rows → A) (old new 
   pub keeps : KeepsRows old new
   pub found : IsKept new → IfOk result (λ a. said a ≡ wanted (rows_in old.now.trees))
   pub crash : IsKept old → Survives old new (λ _. ⊥)
+
+-- the numbers after the last party and the last card
+abbrev pub next_numbers_of : Rows → NextNumbers
+next_numbers_of rows = record { party = number_after (length rows.stays); card = number_after (length rows.cards) }

@@ -1,22 +1,25 @@
 //! The look-ups of the books, each over the connection: one keyed statement, but for the next numbers, which are two.
-ghost use Rattle.std.specs.Prelude.{not};
+ghost use Rattle.std.specs.Prelude.{◌≡◌, IfOk, not, length, true, unwrap_or};
+ghost use Rattle.std.specs.Map.{keys_of};
+ghost use Rattle.hotel_core.specs.Model.SoundRooms.{count_up};
+ghost use Rattle.hotel_tables.specs.Tables.{rows_in};
 ghost use Rattle.sqlite.specs.Held.{state};
 ghost use Rattle.hotel_core.specs.Model.Rows.{has_kind};
 ghost use Rattle.hotel_core.specs.Model.Words.{is_one_of};
 ghost use Rattle.hotel_core.specs.Model.Guests.{are_none};
-ghost use Rattle.hotel_core.specs.Books.Lookups.{room_at, code_place, code_at, stay_at, stays_of_kind, card_at, inside_at, note_at};
-ghost use Rattle.hotel_tables.specs.Books.{IsBooks};
-ghost use Rattle.hotel_tables.specs.LookUps.{Looks};
+ghost use Rattle.hotel_core.specs.Books.Lookups.{room_at, codes_in, code_place, code_at, stay_at, stays_of_kind, card_at, inside_at, note_at, number_after};
+ghost use Rattle.hotel_tables.specs.Books.{IsBooks, IsKept, KeepsRows};
+ghost use Rattle.hotel_tables.specs.LookUps.{Looks, next_numbers_of};
 
 use crate::look::{look, look_all};
 use crate::number::{number, small, text};
 use crate::texts::{
     SELECT_ANY_INSIDE, SELECT_CARD, SELECT_CARDS_INSIDE, SELECT_CODE, SELECT_CODE_AT, SELECT_DAY,
-    SELECT_INSIDE, SELECT_KIND, SELECT_NOTE, SELECT_ROOM, SELECT_STAY, SELECT_STAYS_OF_KIND,
+    SELECT_INSIDE, SELECT_KIND, SELECT_LAST_CARD, SELECT_LAST_PARTY, SELECT_NOTE, SELECT_ROOM, SELECT_STAY, SELECT_STAYS_OF_KIND,
 };
-use hotel_core::{CodeRow, RoomRow};
+use hotel_core::{CodeRow, NextNumbers, RoomRow};
 use hotel_nights::{Day, KindCode, Stay};
-use keycard_rules::{Card, CardNo, Code, Count, LockNote, LookFault, PartyNo, RoomNo};
+use keycard_rules::{Card, CardNo, Code, Count, LockNote, LookFault, Number, PartyNo, RoomNo};
 use sqlite::{Alter, Connection};
 use std::alloc::Global;
 
@@ -167,4 +170,71 @@ pub(crate) fn inside<S: Alter>(
     ensures { Looks (λ v. v.items) (λ rows. inside_at rows room) (state S.Store conn.old) (state S.Store conn.new) result }
 {
     look_all(alloc, conn, SELECT_CARDS_INSIDE, &[small(room.value())])
+}
+
+/// Whether a code was issued.
+pub(crate) fn is_issued<S: Alter>(
+    alloc: Global,
+    conn: &mut Connection<S>,
+    number: Code,
+) -> Result<bool, LookFault>
+    requires { IsBooks (state S.Store conn.old) }
+    ensures { Looks (λ a. a) (λ rows. is_one_of number (codes_in rows)) (state S.Store conn.old) (state S.Store conn.new) result }
+{
+    let place = code(alloc, conn, number)?;
+    Ok(place.is_some())
+}
+
+/// The number of the last party, where there is one.
+fn last_party<S: Alter>(
+    alloc: Global,
+    conn: &mut Connection<S>,
+) -> Result<Option<PartyNo>, LookFault>
+    requires books { IsBooks (state S.Store conn.old) }
+    requires numbered { IsKept (state S.Store conn.old) → count_up 1 (keys_of (rows_in (state S.Store conn.old).now.trees).stays) ≡ true }
+    ensures { Looks (λ o. unwrap_or o 0) (λ rows. length rows.stays) (state S.Store conn.old) (state S.Store conn.new) result }
+{
+    look(alloc, conn, SELECT_LAST_PARTY, &[])
+}
+
+/// The number of the last card, where there is one.
+fn last_card<S: Alter>(
+    alloc: Global,
+    conn: &mut Connection<S>,
+) -> Result<Option<CardNo>, LookFault>
+    requires books { IsBooks (state S.Store conn.old) }
+    requires numbered { IsKept (state S.Store conn.old) → count_up 1 (keys_of (rows_in (state S.Store conn.old).now.trees).cards) ≡ true }
+    ensures { Looks (λ o. unwrap_or o 0) (λ rows. length rows.cards) (state S.Store conn.old) (state S.Store conn.new) result }
+{
+    look(alloc, conn, SELECT_LAST_CARD, &[])
+}
+
+/// The number after the last one, up to 9,999,999.
+fn number_after<K>(last: Option<Number<K, 9_999_999>>) -> Option<Number<K, 9_999_999>>
+    ensures { result ≡ number_after (unwrap_or last 0) }
+{
+    match last {
+        Some(number) => number.next(),
+        None => Number::new(1),
+    }
+}
+
+/// The numbers that the next party and the next card are given.
+pub(crate) fn next_numbers<S: Alter>(
+    alloc: Global,
+    conn: &mut Connection<S>,
+) -> Result<NextNumbers, LookFault>
+    requires books { IsBooks (state S.Store conn.old) }
+    requires parties { IsKept (state S.Store conn.old) → count_up 1 (keys_of (rows_in (state S.Store conn.old).now.trees).stays) ≡ true }
+    requires cards { IsKept (state S.Store conn.old) → count_up 1 (keys_of (rows_in (state S.Store conn.old).now.trees).cards) ≡ true }
+    ensures books { IsBooks (state S.Store conn.new) }
+    ensures keeps { KeepsRows (state S.Store conn.old) (state S.Store conn.new) }
+    ensures found { IsKept (state S.Store conn.new) → IfOk result (λ numbers. numbers ≡ next_numbers_of (rows_in (state S.Store conn.old).now.trees)) }
+{
+    let party = last_party(alloc, conn)?;
+    let card = last_card(alloc, conn)?;
+    Ok(NextNumbers {
+        party: number_after(party),
+        card: number_after(card),
+    })
 }
