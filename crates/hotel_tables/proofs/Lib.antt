@@ -13,4 +13,5 @@ mod Finds
 mod Lists
 mod Last
 mod NewDesk
+mod EmptyDesk
 mod Statements

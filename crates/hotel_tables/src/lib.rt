@@ -6,4 +6,9 @@ mod from_row;
 mod look;
 mod look_ups;
 mod number;
+mod open_fault;
+mod table_books;
 mod texts;
+
+pub use open_fault::OpenFault;
+pub use table_books::TableBooks;
