@@ -42,10 +42,11 @@ module _ {X : Type 0} (cmp : X → X → Ordering) (total : IsTotalOrder cmp) (G
   kept_rows p q rows was test =
       let all = all_weaker Good (λ r. p r ≡ q (of r)) test rows was.good in
       subst (λ xs. IsPermutation xs (filter q (listed cmp of rows))) (sym (filter_mapped cmp total Good of p q rows all))
-        (IsPermutation-filter q _ _ (IsPermutation-sym _ _ (IsPermutation-sort_by cmp total (map of rows))))
+      (IsPermutation-filter q _ _ (IsPermutation-sym _ _ (IsPermutation-sort_by cmp total (map of rows))))
 
   -- what a query of one table answers
-  pub found_rows : {A : Type 0} (tree : ℕ) (test project : List Term) (order : List (Term × Key)) (params : Row) (q : X → Bool) (out : Row → A) (value : X → A) (db : Trees) (rows : List Row)
+  pub found_rows : {A : Type 0} (tree : ℕ) (test project : List Term) (order : List (Term × Key)) (params : Row) (q : X → Bool) (out : Row → A) (value : X → A) (db : Trees)
+      (rows : List Row)
       → IsTableOf cmp Good of (db tree) → ((r : Row) → Good r → passes test params r ≡ q (of r)) → ((r : Row) → out (eval_all project (env params r)) ≡ value (of r))
       → IsAnswer (single tree test project order) (overlay db []) params rows → IsPermutation (map out rows) (map value (filter q (listed cmp of (db tree))))
   found_rows tree test project order params q out value db rows was tests shows a =
@@ -53,12 +54,13 @@ module _ {X : Type 0} (cmp : X → X → Ordering) (total : IsTotalOrder cmp) (G
       let o : Row → Output = λ r. output (single tree test project order) (env params r) in
       let some = filter (passes test params) (db tree) in
       let first : IsPermutation (map o some) it.ordered = subst (λ rs. IsPermutation (map o (filter (passes test params) rs)) it.ordered) (same_tree db tree) it.same in
-      let mapped : IsPermutation (map (λ (x : Output). out x.1) (map o some)) (map (λ (x : Output). out x.1) it.ordered) = IsPermutation-map (λ (x : Output). out x.1) _ _ first in
+      let mapped : IsPermutation (map (λ (x : Output). out x.1) (map o some)) (map (λ (x : Output). out x.1) it.ordered) =
+      IsPermutation-map (λ (x : Output). out x.1) _ _ first in
       let left : map (λ (x : Output). out x.1) (map o some) ≡ map value (map of some) =
-          fused (λ (x : Output). out x.1) o some ∙ map_same _ _ shows some ∙ sym (fused value of some) in
+      fused (λ (x : Output). out x.1) o some ∙ map_same _ _ shows some ∙ sym (fused value of some) in
       let right : map (λ (x : Output). out x.1) it.ordered ≡ map out rows = sym (fused out (λ (x : Output). x.1) it.ordered) ∙ ap (map out) (sym it.shown) in
       let here : IsPermutation (map value (map of some)) (map out rows) =
-          subst (λ ys. IsPermutation (map value (map of some)) ys) right (subst (λ xs. IsPermutation xs (map (λ (x : Output). out x.1) it.ordered)) left mapped) in
+      subst (λ ys. IsPermutation (map value (map of some)) ys) right (subst (λ xs. IsPermutation xs (map (λ (x : Output). out x.1) it.ordered)) left mapped) in
       IsPermutation-trans _ _ _ (IsPermutation-sym _ _ here) (IsPermutation-map value _ _ (kept_rows (passes test params) q (db tree) was tests))
 
 -- ---- the first row of an answer
@@ -71,7 +73,8 @@ one_left : {A : Type 0} (a : A) (more : List A) (w : Option A) → IsPermutation
 one_left a more None same = absurd (omega (arith, length_permutation _ _ same))
 one_left a more (Some b) same = let e = one_permutation b (a ∷ more) (IsPermutation-sym _ _ same) in cc
 
-pub first_found : {A : Type 0} (out : Row → A) (q : Query) (params : Row) (db : Trees) (w : Option A) → ((rows : List Row) → IsAnswer q (overlay db []) params rows → IsPermutation (map out rows) (option_to_list w))
+pub first_found : {A : Type 0} (out : Row → A) (q : Query) (params : Row) (db : Trees) (w : Option A)
+    → ((rows : List Row) → IsAnswer q (overlay db []) params rows → IsPermutation (map out rows) (option_to_list w))
     → (o : Option A) → AnswersFirst out q params db o → o ≡ w
 first_found out q params db w all None a = none_left w (all [] a)
 first_found out q params db w all (Some x) a = ap Some a.3 ∙ one_left (out a.0) (map out a.1) w (all (a.0 ∷ a.1) a.2)
@@ -79,16 +82,16 @@ first_found out q params db w all (Some x) a = ap Some a.3 ∙ one_left (out a.0
 any_left : {X : Type 0} (q : X → Bool) (xs : List X) → (filter q xs ≡ []) → list_any q xs ≡ false
 any_left q [] none = refl
 any_left q (x ∷ xs) none = elim (cases_Bool (q x)) [
-    | inl is ↦ absurd (let e = rw is at none in cc)
-    | inr other ↦ rw other (any_left q xs (rw other at none))
-  ]
+  | inl is ↦ absurd (let e = rw is at none in cc)
+  | inr other ↦ rw other (any_left q xs (rw other at none))
+]
 
 some_left : {X : Type 0} (q : X → Bool) (xs : List X) (n : ℕ) → length (filter q xs) ≡ n + 1 → list_any q xs ≡ true
 some_left q [] n long = absurd (omega (arith, long))
 some_left q (x ∷ xs) n long = elim (cases_Bool (q x)) [
-    | inl is ↦ rw is refl
-    | inr other ↦ rw other (some_left q xs n (rw other at long))
-  ]
+  | inl is ↦ rw is refl
+  | inr other ↦ rw other (some_left q xs n (rw other at long))
+]
 
 empty_list : {A : Type 0} (xs : List A) → length xs ≡ 0 → xs ≡ []
 empty_list [] none = refl
@@ -116,15 +119,17 @@ equal_of Equal is = refl
 equal_of Greater is = absurd (true≢false (sym is))
 
 module _ {K V : Type 0} (cmp : K → K → Ordering) (total : IsTotalOrder cmp) where
-  none_above : (k : K) (e : K × V) (es : List (K × V)) → is_eq (cmp k e.0) ≡ true → AllByRecursion (λ b. by_key cmp e b ≡ Less) es → filter (λ (x : K × V). is_at (cmp k) x.0) es ≡ []
+  none_above : (k : K) (e : K × V) (es : List (K × V)) → is_eq (cmp k e.0) ≡ true → AllByRecursion (λ b. by_key cmp e b ≡ Less) es
+      → filter (λ (x : K × V). is_at (cmp k) x.0) es ≡ []
   none_above k e [] is up = refl
   none_above k e (x ∷ es) is up =
       let differs : is_eq (cmp k x.0) ≡ false = ap is_eq (total.congr k e.0 x.0 (equal_of _ is) ∙ up.0) in
       rw differs (none_above k e es is up.1)
 
-  pub one_entry : (k : K) (es : List (K × V)) → IsAscending (λ a b. by_key cmp a b ≡ Less) es → map (λ (e : K × V). e.1) (filter (λ (e : K × V). is_at (cmp k) e.0) es) ≡ option_to_list (lookup (is_at (cmp k)) es)
+  pub one_entry : (k : K) (es : List (K × V)) → IsAscending (λ a b. by_key cmp a b ≡ Less) es
+      → map (λ (e : K × V). e.1) (filter (λ (e : K × V). is_at (cmp k) e.0) es) ≡ option_to_list (lookup (is_at (cmp k)) es)
   one_entry k [] up = refl
   one_entry k (e ∷ es) up = elim (cases_Bool (is_eq (cmp k e.0))) [
-      | inl is ↦ rw is (ap (λ xs. e.1 ∷ map (λ (x : K × V). x.1) xs) (none_above k e es is up.0))
-      | inr other ↦ rw other (one_entry k es up.1)
-    ]
+    | inl is ↦ rw is (ap (λ xs. e.1 ∷ map (λ (x : K × V). x.1) xs) (none_above k e es is up.0))
+    | inr other ↦ rw other (one_entry k es up.1)
+  ]

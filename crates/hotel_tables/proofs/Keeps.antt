@@ -23,7 +23,8 @@ fails_stay sql params old new e plain (inr h) =
     let none = (subst IsPlain h.1.is plain).0 in
     inl (subst (FailsToShow old new sql h.0 _ e) none h.2).3
 
-pub query_stays : (sql : List ℕ) (params : Row) (old new : State) (r : Result Row Error) → IsPlain (understood old.now.schema sql) → QueriesRow sql params old new r → Stays old new
+pub query_stays : (sql : List ℕ) (params : Row) (old new : State) (r : Result Row Error) → IsPlain (understood old.now.schema sql) → QueriesRow sql params old new r
+    → Stays old new
 unfolding QueriesRow Shown
 query_stays sql params old new (Ok row) plain (inl h) = inl h.1
 query_stays sql params old new (Ok row) plain (inr h) =
@@ -36,27 +37,33 @@ query_stays sql params old new (Err e) plain (inr h) =
 
 desk_stays : (old new : State) → Stays old new → IsDesk old → IsTrue new.is_open → IsDesk new × (new.now ≡ old.now)
 desk_stays old new (inl same) desk is_open =
-    let now = same.0.now_is in
-    (record {
-      schema = ap (λ (d : Database). d.schema) now ∙ desk.schema;
-      settled = now ∙ desk.settled ∙ sym same.0.committed_is;
-      tables = subst (λ (d : Database). AreTables d.trees) (sym now) desk.tables;
-    }, now)
+    let now = same.0.now_is in (
+      record {
+        schema = ap (λ (d : Database). d.schema) now ∙ desk.schema;
+        settled = now ∙ desk.settled ∙ sym same.0.committed_is;
+        tables = subst (λ (d : Database). AreTables d.trees) (sym now) desk.tables;
+      },
+      now,
+    )
 desk_stays old new (inr back) desk is_open =
     let undone = back.undone is_open in
-    let now : new.now ≡ old.now = undone.0 ∙ sym desk.settled in
-    (record {
-      schema = ap (λ (d : Database). d.schema) now ∙ desk.schema;
-      settled = undone.0 ∙ sym undone.1;
-      tables = subst (λ (d : Database). AreTables d.trees) (sym now) desk.tables;
-    }, now)
+    let now : new.now ≡ old.now = undone.0 ∙ sym desk.settled in (
+      record {
+        schema = ap (λ (d : Database). d.schema) now ∙ desk.schema;
+        settled = undone.0 ∙ sym undone.1;
+        tables = subst (λ (d : Database). AreTables d.trees) (sym now) desk.tables;
+      },
+      now,
+    )
 
 -- Whatever the text is, a connection that is open now was open.
-show_opened : (sql : List ℕ) (c : Compiled) (params : Row) (old new : State) (rows : List Row) (how : Option Returning) → ShowsRows old new sql c params rows how → IsTrue old.is_open
+show_opened : (sql : List ℕ) (c : Compiled) (params : Row) (old new : State) (rows : List Row) (how : Option Returning) → ShowsRows old new sql c params rows how
+    → IsTrue old.is_open
 show_opened sql c params old new rows None h = h.3.0.was_open
 show_opened sql c params old new rows (Some what) h = h.1.shown.was_open
 
-failed_opened : (sql : List ℕ) (c : Compiled) (params : Row) (old new : State) (e : Error) (how : Option Returning) → FailsToShow old new sql c params e how → IsTrue new.is_open → IsTrue old.is_open
+failed_opened : (sql : List ℕ) (c : Compiled) (params : Row) (old new : State) (e : Error) (how : Option Returning) → FailsToShow old new sql c params e how → IsTrue new.is_open
+    → IsTrue old.is_open
 failed_opened sql c params old new e None h is_open = h.3.0.was_open
 failed_opened sql c params old new e (Some what) (inl h) is_open = h.1.0.was_open
 failed_opened sql c params old new e (Some what) (inr h) is_open = h.3.was_open is_open
@@ -74,7 +81,8 @@ query_opened sql params old new (Ok row) (inr h) is_open = show_opened sql h.1.0
 query_opened sql params old new (Err e) (inl h) is_open = fail_opened sql params old new e h is_open
 query_opened sql params old new (Err e) (inr h) is_open = show_opened sql h.1.0 _ old new [] h.1.0.returning h.1.2
 
-module _ (old new : State) (P : Trees → Type 0) (books : IsBooks old) (mode : old.in_transaction ≡ false → new.in_transaction ≡ false) (survives : Survives old new P) (stays : HasCleanDisk new → IsDesk old → Stays old new) (opened : HasCleanDisk new → IsTrue new.is_open → IsTrue old.is_open) where
+module _ (old new : State) (P : Trees → Type 0) (books : IsBooks old) (mode : old.in_transaction ≡ false → new.in_transaction ≡ false) (survives : Survives old new P)
+    (stays : HasCleanDisk new → IsDesk old → Stays old new) (opened : HasCleanDisk new → IsTrue new.is_open → IsTrue old.is_open) where
   pub was_kept : IsKept new → IsKept old
   was_kept kept = (omega (arith, survives.clean, kept.0), opened kept.0 kept.1)
 

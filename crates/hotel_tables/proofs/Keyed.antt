@@ -48,7 +48,8 @@ column_equals v n k is = ap (λ x. is_true (binary (Compare Eq Binary) x (int k)
 -- ---- by a number, the row's own
 
 module _ {V A : Type 0} (tree : ℕ) (project : List Term) (columns : Row → Row) (value : Row → V) (written : ℕ × V → Row) (k : ℕ) (db : Trees) (out : Row → A) (shown : V → A)
-    (first : (r : Row) → column (columns r) 0 ≡ column r 0) (keyed : (e : ℕ × V) → column (written e) 0 ≡ int e.0) (shows : (r : Row) → out (eval_all project (env (int k ∷ []) r)) ≡ shown (value (columns r))) where
+    (first : (r : Row) → column (columns r) 0 ≡ column r 0) (keyed : (e : ℕ × V) → column (written e) 0 ≡ int e.0)
+    (shows : (r : Row) → out (eval_all project (env (int k ∷ []) r)) ≡ shown (value (columns r))) where
   abbrev of : Row → ℕ × V
   of v = (number_of (column v 0), value v)
 
@@ -63,10 +64,11 @@ module _ {V A : Type 0} (tree : ℕ) (project : List Term) (columns : Row → Ro
       let es = listed (by_key nat_cmp) (λ r. of (columns r)) (db tree) in
       let rises : IsAscending (λ x y. by_key nat_cmp x y ≡ Less) es = sort_rises (by_key nat_cmp) (key_total nat_cmp_total) _ table.apart in
       let one : map (λ (e : ℕ × V). shown e.1) (filter (λ (e : ℕ × V). is_at (nat_cmp k) e.0) es) ≡ option_to_list (option_map shown (at_number es k)) =
-          sym (fused shown (λ (e : ℕ × V). e.1) _) ∙ ap (map shown) (one_entry nat_cmp nat_cmp_total k es rises) ∙ mapped (at_number es k) in
+      sym (fused shown (λ (e : ℕ × V). e.1) _) ∙ ap (map shown) (one_entry nat_cmp nat_cmp_total k es rises) ∙ mapped (at_number es k) in
       first_found out (single tree by_rowid project []) (int k ∷ []) db (option_map shown (at_number es k))
-        (λ rows answer. subst (IsPermutation (map out rows)) one
-          (found_rows (by_key nat_cmp) (key_total nat_cmp_total) (IsWrittenAs columns of written) (λ r. of (columns r)) tree by_rowid project [] (int k ∷ []) (λ e. is_at (nat_cmp k) e.0) out (λ e. shown e.1) db rows table tests shows answer)) o a
+      (λ rows answer. subst (IsPermutation (map out rows)) one
+      (found_rows (by_key nat_cmp) (key_total nat_cmp_total) (IsWrittenAs columns of written) (λ r. of (columns r)) tree by_rowid project [] (int k ∷ [])
+      (λ e. is_at (nat_cmp k) e.0) out (λ e. shown e.1) db rows table tests shows answer)) o a
     where
       mapped : (w : Option V) → map shown (option_to_list w) ≡ option_to_list (option_map shown w)
       mapped None = refl
@@ -80,7 +82,8 @@ same_option (Some a) = refl
 
 module _ {V : Type 0} (tree : ℕ) (project : List Term) (columns : Row → Row) (value : Row → V) (written : (ℕ × ℕ) × V → Row) (a b : ℕ) (db : Trees)
     (one : (r : Row) → column (columns r) 0 ≡ column r 1) (two : (r : Row) → column (columns r) 1 ≡ column r 2)
-    (keyed : (e : (ℕ × ℕ) × V) → (column (written e) 0 ≡ int e.0.0) × (column (written e) 1 ≡ int e.0.1)) (shows : (r : Row) → eval_all project (env (int a ∷ int b ∷ []) r) ≡ columns r) where
+    (keyed : (e : (ℕ × ℕ) × V) → (column (written e) 0 ≡ int e.0.0) × (column (written e) 1 ≡ int e.0.1))
+    (shows : (r : Row) → eval_all project (env (int a ∷ int b ∷ []) r) ≡ columns r) where
   abbrev of_two : Row → (ℕ × ℕ) × V
   of_two v = ((number_of (column v 0), number_of (column v 1)), value v)
 
@@ -92,7 +95,8 @@ module _ {V : Type 0} (tree : ℕ) (project : List Term) (columns : Row → Row)
       go Equal p = refl
       go Greater p = refl
 
-  tests_two : (r : Row) → IsWrittenAs columns of_two written r → passes (by_pair 1 2) (int a ∷ int b ∷ []) r ≡ is_at (pair_cmp (a, b)) (number_of (column (columns r) 0), number_of (column (columns r) 1))
+  tests_two : (r : Row) → IsWrittenAs columns of_two written r
+      → passes (by_pair 1 2) (int a ∷ int b ∷ []) r ≡ is_at (pair_cmp (a, b)) (number_of (column (columns r) 0), number_of (column (columns r) 1))
   tests_two r good =
       let m = number_of (column (columns r) 0) in
       let n = number_of (column (columns r) 1) in
@@ -106,15 +110,19 @@ module _ {V : Type 0} (tree : ℕ) (project : List Term) (columns : Row → Row)
       let es = listed (by_key pair_cmp) (λ r. of_two (columns r)) (db tree) in
       let rises : IsAscending (λ x y. by_key pair_cmp x y ≡ Less) es = sort_rises (by_key pair_cmp) (key_total pair_cmp_total) _ table.apart in
       first_found value (single tree (by_pair 1 2) project []) (int a ∷ int b ∷ []) db (lookup (is_at (pair_cmp (a, b))) es)
-        (λ rows answer. subst (IsPermutation (map value rows)) (one_entry pair_cmp pair_cmp_total (a, b) es rises)
-          (found_rows (by_key pair_cmp) (key_total pair_cmp_total) (IsWrittenAs columns of_two written) (λ r. of_two (columns r)) tree (by_pair 1 2) project [] (int a ∷ int b ∷ []) (λ e. is_at (pair_cmp (a, b)) e.0) value (λ e. e.1) db rows table tests_two
-            (λ r. ap value (shows r)) answer)) o answers
+      (λ rows answer. subst (IsPermutation (map value rows)) (one_entry pair_cmp pair_cmp_total (a, b) es rises)
+      (found_rows (by_key pair_cmp) (key_total pair_cmp_total) (IsWrittenAs columns of_two written) (λ r. of_two (columns r)) tree (by_pair 1 2) project [] (int a ∷ int b ∷ [])
+      (λ e. is_at (pair_cmp (a, b)) e.0) value (λ e. e.1) db rows table tests_two
+      (λ r. ap value (shows r)) answer)) o answers
 
 -- ---- a look-up whose statement finds what is wanted
 
-pub looks_to : {A B R : Type 0} (text : List ℕ) (params : Row) (old new : State) (out : Row → A) (q : Query) (found : Result (Option A) LookFault) (result : Result R LookFault) (said : R → B) (wanted : Rows → B)
-    → IsBooks old → IsBooks new → KeepsRows old new → (IsKept new → (p : Query) → Asks text p → IfOk found (AnswersFirst out p params old.now.trees)) → (IsKept old → Survives old new (λ _. ⊥)) → Asks text q
-    → (IsKept old → AreTables old.now.trees → IfOk found (AnswersFirst out q params old.now.trees) → IfOk result (λ a. said a ≡ wanted (rows_in old.now.trees))) → Looks said wanted old new result
+pub looks_to : {A B R : Type 0} (text : List ℕ) (params : Row) (old new : State) (out : Row → A) (q : Query) (found : Result (Option A) LookFault) (result : Result R LookFault)
+    (said : R → B) (wanted : Rows → B)
+    → IsBooks old → IsBooks new → KeepsRows old new → (IsKept new → (p : Query) → Asks text p → IfOk found (AnswersFirst out p params old.now.trees))
+    → (IsKept old → Survives old new (λ _. ⊥)) → Asks text q
+    → (IsKept old → AreTables old.now.trees → IfOk found (AnswersFirst out q params old.now.trees) → IfOk result (λ a. said a ≡ wanted (rows_in old.now.trees)))
+    → Looks said wanted old new result
 looks_to text params old new out q found result said wanted was books keeps finds crash asks is = record {
   books = books;
   keeps = keeps;

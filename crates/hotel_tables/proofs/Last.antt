@@ -85,13 +85,16 @@ module _ (V : Type 0) where
     mine = sort_by flipped said
 
     same : IsPermutation es mine
-    same = IsPermutation-trans _ _ _ (IsPermutation-sort_by (by_key nat_cmp) (key_total nat_cmp_total) said) (IsPermutation-sym _ _ (IsPermutation-sort_by flipped (back_total (key_total nat_cmp_total)) said))
+    same = IsPermutation-trans _ _ _ (IsPermutation-sort_by (by_key nat_cmp) (key_total nat_cmp_total) said)
+        (IsPermutation-sym _ _ (IsPermutation-sort_by flipped (back_total (key_total nat_cmp_total)) said))
 
     falls : IsAscending (λ x y. flipped x y ≡ Less) mine
-    falls = sort_rises flipped (back_total (key_total nat_cmp_total)) said (ascending_weaker _ _ (λ x y h. same_tie (by_key nat_cmp) (key_total nat_cmp_total) y x ∙ h) said table.apart)
+    falls = sort_rises flipped (back_total (key_total nat_cmp_total)) said
+        (ascending_weaker _ _ (λ x y h. same_tie (by_key nat_cmp) (key_total nat_cmp_total) y x ∙ h) said table.apart)
 
     rows_are : (rows : List Row) → IsAnswer query (overlay db []) [] rows → rows ≡ map (λ e. (shown e).1) mine
-    rows_are rows answer = ordered_rows (by_key nat_cmp) (key_total nat_cmp_total) (IsWrittenAs project of written) (λ r. of (project r)) tree [] (columns (0 ∷ [])) down [] (λ _. true) shown db rows mine
+    rows_are rows answer = ordered_rows (by_key nat_cmp) (key_total nat_cmp_total) (IsWrittenAs project of written) (λ r. of (project r)) tree [] (columns (0 ∷ [])) down []
+        (λ _. true) shown db rows mine
         table (λ r good. refl) (λ r good. ap (λ v. (v ∷ [], v ∷ [])) (sym (first r) ∙ ap (λ v. column v 0) good ∙ keyed (of (project r))))
         (subst (λ xs. IsPermutation xs mine) (sym (all_pass es)) same)
         (map_rises shown _ mine (ascending_weaker _ _ (λ x y less. then_nothing _ ∙ int_order y.0 x.0 ∙ less) mine falls)) answer
@@ -102,9 +105,11 @@ module _ (V : Type 0) where
         go : (ms : List Entry) → [] ≡ map (λ e. (shown e).1) ms → length ms ≡ length es → 0 ≡ length es
         go [] is long = long
         go (m ∷ ms) is long = absurd (let e = is in cc)
-    last_finds up (Some x) answer = answer.3 ∙ go mine (rows_are _ answer.2) falls (length_permutation _ _ same) (every_shuffled _ es mine same (within 1 es up)) (λ m. every_shuffled (λ (e : Entry). e.0 ≤ m) mine es (IsPermutation-sym _ _ same))
+    last_finds up (Some x) answer = answer.3 ∙ go mine (rows_are _ answer.2) falls (length_permutation _ _ same) (every_shuffled _ es mine same (within 1 es up))
+        (λ m. every_shuffled (λ (e : Entry). e.0 ≤ m) mine es (IsPermutation-sym _ _ same))
       where
-        go : (ms : List Entry) → answer.0 ∷ answer.1 ≡ map (λ e. (shown e).1) ms → IsAscending (λ x y. flipped x y ≡ Less) ms → length ms ≡ length es → AllByRecursion (λ (e : Entry). e.0 + 1 ≤ 1 + length es) ms
+        go : (ms : List Entry) → answer.0 ∷ answer.1 ≡ map (λ e. (shown e).1) ms → IsAscending (λ x y. flipped x y ≡ Less) ms → length ms ≡ length es
+            → AllByRecursion (λ (e : Entry). e.0 + 1 ≤ 1 + length es) ms
             → ((m : ℕ) → AllByRecursion (λ (e : Entry). e.0 ≤ m) ms → AllByRecursion (λ (e : Entry). e.0 ≤ m) es) → number_of (column answer.0 0) ≡ length es
         go [] is fall long low high = absurd (let e = is in cc)
         go (m ∷ ms) is fall long low high =

@@ -58,7 +58,8 @@ pub plain_in : (text : List ℕ) (q : Query) (s : State) → Asks text q → IsD
 plain_in text q s asks desk = subst (λ m. IsPlain (understood m text)) (sym desk.schema) asks.plain
 
 module _ (text : List ℕ) (params : Row) (old new : State) (r : Result Row Error) (books : IsBooks old) (asked : (q : Query) × Asks text q)
-    (runs : HasCleanDisk new → QueriesRow text params old new r) (mode : old.in_transaction ≡ false → new.in_transaction ≡ false) (survives : Survives old new (CommitsShowing text params old)) where
+    (runs : HasCleanDisk new → QueriesRow text params old new r) (mode : old.in_transaction ≡ false → new.in_transaction ≡ false)
+    (survives : Survives old new (CommitsShowing text params old)) where
   stays : HasCleanDisk new → IsDesk old → Stays old new
   stays clean desk = query_stays text params old new r (plain_in text asked.0 old asked.1 desk) (runs clean)
 
@@ -74,10 +75,12 @@ module _ (text : List ℕ) (params : Row) (old new : State) (r : Result Row Erro
   pub look_crash : IsKept old → Survives old new (λ _. ⊥)
   look_crash kept = survives_weaker old new _ _ (λ _ db. never_commits text params old db (plain_in text asked.0 old asked.1 (books.desk kept))) survives
 
-  pub look_found : {A : Type 0} (out : Row → A) (row : Row) (x : A) → r ≡ Ok row → x ≡ out row → IsKept new → (q : Query) → Asks text q → AnswersFirst out q params old.now.trees (Some x)
+  pub look_found : {A : Type 0} (out : Row → A) (row : Row) (x : A) → r ≡ Ok row → x ≡ out row → IsKept new → (q : Query) → Asks text q
+      → AnswersFirst out q params old.now.trees (Some x)
   look_found out row x is reads kept q asks =
       let desk = books.desk (look_keeps kept).0 in
-      let got = (first_as text params old new desk_schema desk.schema _ (command_is q _ asks.query).1 asks.plain asks.listing row (subst (QueriesRow text params old new) is (runs kept.0))).1 in
+      let got = (first_as text params old new desk_schema desk.schema _ (command_is q _ asks.query).1 asks.plain asks.listing row
+      (subst (QueriesRow text params old new) is (runs kept.0))).1 in
       (row, got.0, got.1 Null, reads)
 
   pub look_lost : {A : Type 0} (out : Row → A) → r ≡ Err QueryReturnedNoRows → IsKept new → (q : Query) → Asks text q → AnswersFirst out q params old.now.trees None
@@ -90,7 +93,8 @@ module _ (text : List ℕ) (params : Row) (old new : State) (r : Result Row Erro
 
 -- ---- all rows of an answer
 
-module _ (text : List ℕ) (params : Row) (old new : State) (books : IsBooks old) (asked : (q : Query) × Asks text q) (mode : old.in_transaction ≡ false → new.in_transaction ≡ false) (survives : Survives old new (CommitsShowing text params old)) where
+module _ (text : List ℕ) (params : Row) (old new : State) (books : IsBooks old) (asked : (q : Query) × Asks text q)
+    (mode : old.in_transaction ≡ false → new.in_transaction ≡ false) (survives : Survives old new (CommitsShowing text params old)) where
   pub all_crash : IsKept old → Survives old new (λ _. ⊥)
   all_crash kept = survives_weaker old new _ _ (λ _ db. never_commits text params old db (plain_in text asked.0 old asked.1 (books.desk kept))) survives
 

@@ -105,6 +105,7 @@ enters_meta old new count h bare =
     record {
       inside = subst IsTrue (sym h.1.mode) refl;
       schema_is = did.schema;
-      empty = empty_desk new.now.trees (did.meta ∙ ap (put_row meta_row) none.0) (did.kind ∙ none.1.0) (did.room ∙ none.1.1.0) (did.stay ∙ none.1.1.1.0) (did.code ∙ none.1.1.1.1.0)
+      empty = empty_desk new.now.trees (did.meta ∙ ap (put_row meta_row) none.0) (did.kind ∙ none.1.0) (did.room ∙ none.1.1.0) (did.stay ∙ none.1.1.1.0)
+          (did.code ∙ none.1.1.1.1.0)
           (did.card ∙ none.1.1.1.1.1.0) (did.inside ∙ none.1.1.1.1.1.1.0) (did.note ∙ none.1.1.1.1.1.1.1.0);
     }

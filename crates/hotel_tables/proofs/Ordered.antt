@@ -43,8 +43,10 @@ module _ {X : Type 0} (cmp : X → X → Ordering) (total : IsTotalOrder cmp) (G
   all_listed P rows all = every_shuffled P (map of rows) (listed cmp of rows) (IsPermutation-sym _ _ (IsPermutation-sort_by cmp total (map of rows))) all
 
   -- the answer, where these are what the query sorts by and shows, in an order that rises
-  pub ordered_rows : (tree : ℕ) (test project : List Term) (order : List (Term × Key)) (params : Row) (q : X → Bool) (outs : X → Output) (db : Trees) (rows : List Row) (mine : List X)
-      → IsTableOf cmp Good of (db tree) → ((r : Row) → Good r → passes test params r ≡ q (of r)) → ((r : Row) → Good r → output (single tree test project order) (env params r) ≡ outs (of r))
+  pub ordered_rows : (tree : ℕ) (test project : List Term) (order : List (Term × Key)) (params : Row) (q : X → Bool) (outs : X → Output) (db : Trees) (rows : List Row)
+      (mine : List X)
+      → IsTableOf cmp Good of (db tree) → ((r : Row) → Good r → passes test params r ≡ q (of r))
+      → ((r : Row) → Good r → output (single tree test project order) (env params r) ≡ outs (of r))
       → IsPermutation (filter q (listed cmp of (db tree))) mine → IsAscending (λ a b. output_cmp (single tree test project order) a b ≡ Less) (map outs mine)
       → IsAnswer (single tree test project order) (overlay db []) params rows → rows ≡ map (λ x. (outs x).1) mine
   ordered_rows tree test project order params q outs db rows mine was tests shows same up a =
@@ -56,5 +58,6 @@ module _ {X : Type 0} (cmp : X → X → Ordering) (total : IsTotalOrder cmp) (G
       let left : map o some ≡ map outs (map of some) = map_all o (λ r. outs (of r)) some good ∙ sym (fused outs of some) in
       let kept = IsPermutation-map outs _ _ (IsPermutation-trans _ _ _ (kept_rows cmp total Good of (passes test params) q (db tree) was tests) same) in
       let all : IsPermutation (map outs mine) it.ordered = IsPermutation-trans _ _ _ (IsPermutation-sym _ _ kept) (subst (λ xs. IsPermutation xs it.ordered) left first) in
-      let sorted : it.ordered ≡ map outs mine = sorted_unique (output_cmp (single tree test project order)) (output_cmp_total (single tree test project order)) (map outs mine) it.ordered up all it.sorted in
+      let sorted : it.ordered ≡ map outs mine =
+      sorted_unique (output_cmp (single tree test project order)) (output_cmp_total (single tree test project order)) (map outs mine) it.ordered up all it.sorted in
       it.shown ∙ ap (map (λ (x : Output). x.1)) sorted ∙ fused (λ (x : Output). x.1) outs mine

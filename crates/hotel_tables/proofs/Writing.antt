@@ -56,6 +56,7 @@ ran_inside true r count e Same ran ended = refl
 ran_inside false r count e Same ran ended = let no = sym ran ∙ (ended refl).0 in absurd cc
 
 -- whether or not the transaction had ended
-pub kept_inside : (b : Bool) (sql : List ℕ) (params : Row) (old new : State) (r : Result ℕ Error) → (IsTrue b → ExecutesInside 0 sql params old new r) → (b ≡ false → new ≡ old) → KeepsCommit old new
+pub kept_inside : (b : Bool) (sql : List ℕ) (params : Row) (old new : State) (r : Result ℕ Error) → (IsTrue b → ExecutesInside 0 sql params old new r) → (b ≡ false → new ≡ old)
+    → KeepsCommit old new
 kept_inside true sql params old new r ran ended = commit_kept sql params old new r (ran refl)
 kept_inside false sql params old new r ran ended = subst (KeepsCommit old) (sym (ended refl)) (record { was_open = λ is_open. is_open; committed = λ _. refl })

@@ -39,6 +39,13 @@ AnswersFirst of q params db (Some a) = (row : Row) × (rows : List Row) × IsAns
 abbrev pub AnswersAll : {A : Type 0} → (Row → A) → Query → Row → Trees → List A → Type 0
 AnswersAll of q params db all = (rows : List Row) × IsAnswer q (overlay db []) params rows × (all ≡ map of rows)
 
+-- What a statement finds that a desk understands, whatever it is: the first row, or all rows.
+abbrev pub FindsFirst : {A : Type 0} → (Row → A) → List ℕ → Row → State → Result (Option A) LookFault → Type 0
+FindsFirst of text params old result = (q : Query) → Asks text q → IfOk result (AnswersFirst of q params old.now.trees)
+
+abbrev pub FindsAll : {A R : Type 0} → (R → List A) → (Row → A) → List ℕ → Row → State → Result R LookFault → Type 0
+FindsAll said of text params old result = (q : Query) → Asks text q → IfOk result (λ all. AnswersAll of q params old.now.trees (said all))
+
 -- A look-up of the books, of a connection from old to new: where the test holds at its end, its answer says what is wanted of the rows. It changes no row, and a crash in it leaves nothing new.
 pub record Looks {A R : Type 0} (said : R → A) (wanted : Rows → A) (old new : State) (result : Result R LookFault) : Type 0 where
   pub books : IsBooks new

@@ -26,7 +26,8 @@ pub record Tabled (S : Type 0) : Type 0 where
 abbrev pub tabled_code : {S : Type 0} → Coded S → Coded (Tabled S)
 tabled_code {S} store =
     code_by (Held S × (List (List ℕ × ℕ) × (List ((List ℕ × ℕ) × ℕ) × (ℕ × ℕ))))
-    (coded× (held_code store) (coded× (coded_list (coded× (coded_list coded_ℕ) coded_ℕ)) (coded× (coded_list (coded× (coded× (coded_list coded_ℕ) coded_ℕ) coded_ℕ)) (coded× coded_ℕ coded_ℕ))))
+    (coded× (held_code store) (coded× (coded_list (coded× (coded_list coded_ℕ) coded_ℕ))
+    (coded× (coded_list (coded× (coded× (coded_list coded_ℕ) coded_ℕ) coded_ℕ)) (coded× coded_ℕ coded_ℕ))))
     (λ b. (b.conn, (b.kinds, (b.nights, (b.memory, b.store)))))
     (λ p. record { conn = p.0; kinds = p.1.0; nights = p.1.1.0; memory = p.1.1.1.0; store = p.1.1.1.1 })
     (λ _. refl)

@@ -1,13 +1,10 @@
 //! A new desk: eight tables and the one row of meta, in one transaction.
 ghost use Rattle.std.specs.Prelude.{◌≡◌, IsTrue, OnOk, false};
 ghost use Rattle.sqlite.specs.Held.{state};
-ghost use Rattle.sqlite.specs.Schema.{Schema};
-ghost use Rattle.sqlite.specs.Table.{Table};
-ghost use Rattle.sqlite_catalog.specs.Change.{created};
 ghost use Rattle.sqlite.specs.State.{HasCleanDisk, KeepsCommit, Survives};
 ghost use Rattle.hotel_tables.specs.Schema.{no_schema, desk_schema};
 ghost use Rattle.hotel_tables.specs.Books.{IsKept, IsBooks};
-ghost use Rattle.hotel_tables.specs.Making.{IsMaker, IsBare, IsMade, IsEmptyDesk, with_stay};
+ghost use Rattle.hotel_tables.specs.Making.{Leads, Makes, IsBare, IsMade, IsEmptyDesk, with_stay};
 
 use crate::texts::{
     CREATE_CARD, CREATE_CODE, CREATE_INSIDE, CREATE_KIND, CREATE_META, CREATE_NOTE, CREATE_ROOM,
@@ -18,7 +15,7 @@ use sqlite::{Alter, Connection, Error, Transaction};
 /// Makes a table.
 fn make<S: Alter>(tx: &mut Transaction<'_, S>, text: &str) -> Result<(), Error>
     ensures same_reference { tx.new.conn.ghost_name ≡ tx.old.conn.ghost_name }
-    ensures made { HasCleanDisk (state S.Store tx.new.conn.now) → OnOk result ((schema : Schema) (t : Table) → IsMaker schema text.now t → (IsTrue (state S.Store tx.old.conn.now).is_open → IsBare schema (state S.Store tx.old.conn.now)) → IsTrue (state S.Store tx.old.conn.now).is_open × IsBare (created schema t) (state S.Store tx.new.conn.now)) }
+    ensures made { HasCleanDisk (state S.Store tx.new.conn.now) → OnOk result (Makes text.now (state S.Store tx.old.conn.now) (state S.Store tx.new.conn.now)) }
     ensures kept { HasCleanDisk (state S.Store tx.new.conn.now) → KeepsCommit (state S.Store tx.old.conn.now) (state S.Store tx.new.conn.now) }
     ensures survives { Survives (state S.Store tx.old.conn.now) (state S.Store tx.new.conn.now) (λ _. ⊥) }
 {
@@ -29,7 +26,7 @@ fn make<S: Alter>(tx: &mut Transaction<'_, S>, text: &str) -> Result<(), Error>
 /// Makes the tables of the desk, its kinds, rooms and stays.
 fn make_first<S: Alter>(tx: &mut Transaction<'_, S>) -> Result<(), Error>
     ensures same_reference { tx.new.conn.ghost_name ≡ tx.old.conn.ghost_name }
-    ensures made { HasCleanDisk (state S.Store tx.new.conn.now) → OnOk result ((IsTrue (state S.Store tx.old.conn.now).is_open → IsBare no_schema (state S.Store tx.old.conn.now)) → IsBare with_stay (state S.Store tx.new.conn.now)) }
+    ensures made { HasCleanDisk (state S.Store tx.new.conn.now) → OnOk result (Leads (IsBare no_schema) (IsBare with_stay) (state S.Store tx.old.conn.now) (state S.Store tx.new.conn.now)) }
     ensures kept { HasCleanDisk (state S.Store tx.new.conn.now) → KeepsCommit (state S.Store tx.old.conn.now) (state S.Store tx.new.conn.now) }
     ensures survives { Survives (state S.Store tx.old.conn.now) (state S.Store tx.new.conn.now) (λ _. ⊥) }
 {
@@ -42,7 +39,7 @@ fn make_first<S: Alter>(tx: &mut Transaction<'_, S>) -> Result<(), Error>
 /// Makes the tables of codes, cards, insides and notes.
 fn make_last<S: Alter>(tx: &mut Transaction<'_, S>) -> Result<(), Error>
     ensures same_reference { tx.new.conn.ghost_name ≡ tx.old.conn.ghost_name }
-    ensures made { HasCleanDisk (state S.Store tx.new.conn.now) → OnOk result ((IsTrue (state S.Store tx.old.conn.now).is_open → IsBare with_stay (state S.Store tx.old.conn.now)) → IsBare desk_schema (state S.Store tx.new.conn.now)) }
+    ensures made { HasCleanDisk (state S.Store tx.new.conn.now) → OnOk result (Leads (IsBare with_stay) (IsBare desk_schema) (state S.Store tx.old.conn.now) (state S.Store tx.new.conn.now)) }
     ensures kept { HasCleanDisk (state S.Store tx.new.conn.now) → KeepsCommit (state S.Store tx.old.conn.now) (state S.Store tx.new.conn.now) }
     ensures survives { Survives (state S.Store tx.old.conn.now) (state S.Store tx.new.conn.now) (λ _. ⊥) }
 {
@@ -55,7 +52,7 @@ fn make_last<S: Alter>(tx: &mut Transaction<'_, S>) -> Result<(), Error>
 /// Adds the row of meta, with no day.
 fn enter_meta<S: Alter>(tx: &mut Transaction<'_, S>) -> Result<(), Error>
     ensures same_reference { tx.new.conn.ghost_name ≡ tx.old.conn.ghost_name }
-    ensures made { HasCleanDisk (state S.Store tx.new.conn.now) → OnOk result ((IsTrue (state S.Store tx.old.conn.now).is_open → IsBare desk_schema (state S.Store tx.old.conn.now)) → IsMade (state S.Store tx.new.conn.now)) }
+    ensures made { HasCleanDisk (state S.Store tx.new.conn.now) → OnOk result (Leads (IsBare desk_schema) IsMade (state S.Store tx.old.conn.now) (state S.Store tx.new.conn.now)) }
     ensures kept { HasCleanDisk (state S.Store tx.new.conn.now) → KeepsCommit (state S.Store tx.old.conn.now) (state S.Store tx.new.conn.now) }
     ensures survives { Survives (state S.Store tx.old.conn.now) (state S.Store tx.new.conn.now) (λ _. ⊥) }
 {

@@ -5,7 +5,7 @@ ghost use Rattle.sqlite.specs.State.{Survives};
 ghost use Rattle.sqlite.specs.Query.{Query};
 ghost use Rattle.sqlite.specs.Values.{bound};
 ghost use Rattle.hotel_tables.specs.Books.{IsBooks, IsKept, KeepsRows};
-ghost use Rattle.hotel_tables.specs.LookUps.{Asks, AnswersFirst, AnswersAll};
+ghost use Rattle.hotel_tables.specs.LookUps.{Asks, FindsFirst, FindsAll};
 
 use crate::from_row::{FromRow, fault_of};
 use keycard_rules::LookFault;
@@ -24,7 +24,7 @@ pub(crate) fn look<S: Alter, R: FromRow>(
     requires asks { (q : Query) × Asks text.now q }
     ensures books { IsBooks (state S.Store conn.new) }
     ensures keeps { KeepsRows (state S.Store conn.old) (state S.Store conn.new) }
-    ensures found { IsKept (state S.Store conn.new) → (q : Query) → Asks text.now q → IfOk result (AnswersFirst R.FromRow.of q (bound params.now) (state S.Store conn.old).now.trees) }
+    ensures found { IsKept (state S.Store conn.new) → FindsFirst R.FromRow.of text.now (bound params.now) (state S.Store conn.old) result }
     ensures crash { IsKept (state S.Store conn.old) → Survives (state S.Store conn.old) (state S.Store conn.new) (λ _. ⊥) }
 {
     match conn.query_row(text, params) {
@@ -59,7 +59,7 @@ pub(crate) fn look_all<S: Alter, R: FromRow + Drop>(
     requires asks { (q : Query) × Asks text.now q }
     ensures books { IsBooks (state S.Store conn.new) }
     ensures keeps { KeepsRows (state S.Store conn.old) (state S.Store conn.new) }
-    ensures found { IsKept (state S.Store conn.new) → (q : Query) → Asks text.now q → IfOk result (λ all. AnswersAll R.FromRow.of q (bound params.now) (state S.Store conn.old).now.trees all.items) }
+    ensures found { IsKept (state S.Store conn.new) → FindsAll (λ all. all.items) R.FromRow.of text.now (bound params.now) (state S.Store conn.old) result }
     ensures crash { IsKept (state S.Store conn.old) → Survives (state S.Store conn.old) (state S.Store conn.new) (λ _. ⊥) }
 {
     match conn.query_all(text, params) {

@@ -15,7 +15,8 @@ use crate::look::{look, look_all};
 use crate::number::{number, small, text};
 use crate::texts::{
     SELECT_ANY_INSIDE, SELECT_CARD, SELECT_CARDS_INSIDE, SELECT_CODE, SELECT_CODE_AT, SELECT_DAY,
-    SELECT_INSIDE, SELECT_KIND, SELECT_LAST_CARD, SELECT_LAST_PARTY, SELECT_NOTE, SELECT_ROOM, SELECT_STAY, SELECT_STAYS_OF_KIND,
+    SELECT_INSIDE, SELECT_KIND, SELECT_LAST_CARD, SELECT_LAST_PARTY, SELECT_NOTE, SELECT_ROOM,
+    SELECT_STAY, SELECT_STAYS_OF_KIND,
 };
 use hotel_core::{CodeRow, NextNumbers, RoomRow};
 use hotel_nights::{Day, KindCode, Stay};
@@ -100,7 +101,12 @@ pub(crate) fn note<S: Alter>(
     requires { IsBooks (state S.Store conn.old) }
     ensures { Looks (λ a. a) (λ rows. note_at rows room count) (state S.Store conn.old) (state S.Store conn.new) result }
 {
-    look(alloc, conn, SELECT_NOTE, &[small(room.value()), small(count.value())])
+    look(
+        alloc,
+        conn,
+        SELECT_NOTE,
+        &[small(room.value()), small(count.value())],
+    )
 }
 
 /// Whether a card is inside a room.
@@ -145,7 +151,12 @@ pub(crate) fn code_at<S: Alter>(
     requires { IsBooks (state S.Store conn.old) }
     ensures { Looks (λ a. a) (λ rows. code_at rows room place) (state S.Store conn.old) (state S.Store conn.new) result }
 {
-    look(alloc, conn, SELECT_CODE_AT, &[small(room.value()), small(place)])
+    look(
+        alloc,
+        conn,
+        SELECT_CODE_AT,
+        &[small(room.value()), small(place)],
+    )
 }
 
 /// The stays of a kind, by the party's number.
@@ -198,10 +209,7 @@ fn last_party<S: Alter>(
 }
 
 /// The number of the last card, where there is one.
-fn last_card<S: Alter>(
-    alloc: Global,
-    conn: &mut Connection<S>,
-) -> Result<Option<CardNo>, LookFault>
+fn last_card<S: Alter>(alloc: Global, conn: &mut Connection<S>) -> Result<Option<CardNo>, LookFault>
     requires books { IsBooks (state S.Store conn.old) }
     requires numbered { IsKept (state S.Store conn.old) → count_up 1 (keys_of (rows_in (state S.Store conn.old).now.trees).cards) ≡ true }
     ensures { Looks (λ o. unwrap_or o 0) (λ rows. length rows.cards) (state S.Store conn.old) (state S.Store conn.new) result }

@@ -1,5 +1,5 @@
 //! Books over tables.
-ghost use Rattle.std.specs.Prelude.{◌≡◌, ◌↔◌, IfOk, Err, IsTrue, false, refl};
+ghost use Rattle.std.specs.Prelude.{◌≡◌, ◌↔◌, IfOk, IfErr, Err, IsTrue, false, refl};
 ghost use Rattle.std.proofs.Common.{ap, ◌∙◌};
 ghost use Rattle.keycard_rules.specs.Rise.{HasRisen, NoFewer};
 ghost use Rattle.hotel_core.specs.Books.Lookups.{codes_in};
@@ -90,7 +90,7 @@ impl<S: Alter + Drop> TableBooks<S> {
 
 impl<S: Alter> TableBooks<S> {
     /// Counts a failure by its cause; a count stays at its greatest value.
-    fn count(&mut self, why: LookFault)
+    pub(crate) fn count(&mut self, why: LookFault)
         ensures conn { self.new.conn ≡ self.old.conn }
         ensures counted { NoFewer (failed self.old) (failed self.new) }
         ensures risen { HasRisen (failed self.old why) (failed self.new why) }
@@ -99,6 +99,19 @@ impl<S: Alter> TableBooks<S> {
             LookFault::Memory => self.memory = self.memory.saturating_add(1),
             LookFault::Store => self.store = self.store.saturating_add(1),
         }
+    }
+
+    /// What a call answered; a failure is counted by its cause.
+    pub(crate) fn counting<T>(&mut self, found: Result<T, LookFault>) -> Result<T, LookFault>
+        ensures same { result ≡ found }
+        ensures conn { self.new.conn ≡ self.old.conn }
+        ensures counted { NoFewer (failed self.old) (failed self.new) }
+        ensures risen { IfErr found (λ why. HasRisen (failed self.old why) (failed self.new why)) }
+    {
+        if let Err(why) = &found {
+            self.count(*why);
+        }
+        found
     }
 }
 
@@ -114,13 +127,8 @@ impl<S: Alter> Issued for TableBooks<S> {
     ghost never_fails = { ⊥ };
 
     fn is_issued(&mut self, code: Code) -> Result<bool, LookFault> {
-        match look_ups::is_issued(self.alloc, &mut self.conn, code) {
-            Ok(yes) => Ok(yes),
-            Err(why) => {
-                self.count(why);
-                Err(why)
-            }
-        }
+        let issued = look_ups::is_issued(self.alloc, &mut self.conn, code);
+        self.counting(issued)
     }
 
     ghost never_store = { λ a never. absurd never };

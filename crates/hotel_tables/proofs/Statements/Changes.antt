@@ -49,19 +49,23 @@ pub update_day : Does text.update_day (Update 0 (record { lets = []; body = sing
 unfolding understood everything
 update_day = record { is = refl; plain = (refl, refl) }
 
-pub update_issued : Does text.update_issued (Update 2 (record { lets = []; body = single 3 by_rowid (col 1 0 ∷ col 1 0 ∷ lit Null ∷ col 1 2 ∷ col 1 3 ∷ col 0 1 ∷ lit (Int (pos 0)) ∷ col 0 2 ∷ col 1 7 ∷ []) [] }))
+pub update_issued : Does text.update_issued
+    (Update 2 (record { lets = []; body = single 3 by_rowid (col 1 0 ∷ col 1 0 ∷ lit Null ∷ col 1 2 ∷ col 1 3 ∷ col 0 1 ∷ lit (Int (pos 0)) ∷ col 0 2 ∷ col 1 7 ∷ []) [] }))
 unfolding understood everything
 update_issued = record { is = refl; plain = (refl, refl) }
 
-pub update_party : Does text.update_party (Update 2 (record { lets = []; body = single 3 by_rowid (col 1 0 ∷ col 1 0 ∷ lit Null ∷ col 1 2 ∷ col 1 3 ∷ col 1 4 ∷ col 1 5 ∷ lit Null ∷ col 1 7 ∷ []) [] }))
+pub update_party : Does text.update_party
+    (Update 2 (record { lets = []; body = single 3 by_rowid (col 1 0 ∷ col 1 0 ∷ lit Null ∷ col 1 2 ∷ col 1 3 ∷ col 1 4 ∷ col 1 5 ∷ lit Null ∷ col 1 7 ∷ []) [] }))
 unfolding understood everything
 update_party = record { is = refl; plain = (refl, refl) }
 
-pub update_noted : Does text.update_noted (Update 2 (record { lets = []; body = single 3 by_rowid (col 1 0 ∷ col 1 0 ∷ lit Null ∷ col 1 2 ∷ col 0 1 ∷ col 1 4 ∷ col 0 2 ∷ col 1 6 ∷ col 0 3 ∷ []) [] }))
+pub update_noted : Does text.update_noted
+    (Update 2 (record { lets = []; body = single 3 by_rowid (col 1 0 ∷ col 1 0 ∷ lit Null ∷ col 1 2 ∷ col 0 1 ∷ col 1 4 ∷ col 0 2 ∷ col 1 6 ∷ col 0 3 ∷ []) [] }))
 unfolding understood everything
 update_noted = record { is = refl; plain = (refl, refl) }
 
-pub update_state : Does text.update_state (Update 3 (record { lets = []; body = single 5 by_rowid (col 1 0 ∷ col 1 0 ∷ lit Null ∷ col 1 2 ∷ col 1 3 ∷ col 1 4 ∷ col 1 5 ∷ col 0 1 ∷ col 0 2 ∷ []) [] }))
+pub update_state : Does text.update_state
+    (Update 3 (record { lets = []; body = single 5 by_rowid (col 1 0 ∷ col 1 0 ∷ lit Null ∷ col 1 2 ∷ col 1 3 ∷ col 1 4 ∷ col 1 5 ∷ col 0 1 ∷ col 0 2 ∷ []) [] }))
 unfolding understood everything
 update_state = record { is = refl; plain = (refl, refl) }
 

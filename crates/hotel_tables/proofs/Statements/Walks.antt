@@ -17,7 +17,8 @@ use Rattle.sqlite.specs.Query.{Query, inner, end}
 use Rattle.sqlite_sql.specs.declared.ops.CompareOp.TheVariants.{Eq, Lt, Le}
 use Rattle.hotel_tables.specs.Schema.{compare}
 
-pub walk_arrivals : Asks text.walk_arrivals (single 5 (compare Eq (col 1 6) (lit (Int (pos 0))) ∷ compare Le (col 1 4) (col 0 0) ∷ compare Lt (col 0 0) (col 1 5) ∷ []) all_seven ((col 1 0, ascending Binary) ∷ []))
+pub walk_arrivals : Asks text.walk_arrivals
+    (single 5 (compare Eq (col 1 6) (lit (Int (pos 0))) ∷ compare Le (col 1 4) (col 0 0) ∷ compare Lt (col 0 0) (col 1 5) ∷ []) all_seven ((col 1 0, ascending Binary) ∷ []))
 unfolding understood everything
 walk_arrivals = record { query = (_, refl); plain = (refl, refl); listing = refl }
 
@@ -29,12 +30,15 @@ pub walk_audit : Asks text.walk_audit (single 11 (column_is 1 0 ∷ []) all_eigh
 unfolding understood everything
 walk_audit = record { query = (_, refl); plain = (refl, refl); listing = refl }
 
-pub walk_in_house : Asks text.walk_in_house (record (single 3 (compare Eq (col 2 0) (col 1 6) ∷ []) (col 1 0 ∷ col 1 6 ∷ col 2 2 ∷ col 2 3 ∷ col 2 5 ∷ col 1 5 ∷ []) ((col 1 0, ascending Binary) ∷ [])) { from = inner 3 (inner 5 end) })
+pub walk_in_house : Asks text.walk_in_house
+    (record (single 3 (compare Eq (col 2 0) (col 1 6) ∷ []) (col 1 0 ∷ col 1 6 ∷ col 2 2 ∷ col 2 3 ∷ col 2 5 ∷ col 1 5 ∷ []) ((col 1 0, ascending Binary) ∷ []))
+    { from = inner 3 (inner 5 end) })
 unfolding understood everything
 walk_in_house = record { query = (_, refl); plain = (refl, refl); listing = refl }
 
 pub walk_left_behind : Asks text.walk_left_behind (record (single 3
-    (compare Eq (col 2 2) (col 1 0) ∷ compare Eq (col 2 3) (col 1 3) ∷ compare Eq (col 3 2) (col 1 0) ∷ compare Eq (col 3 3) (op2 (Arith Sub) (col 1 4) (lit (Int (pos 1)))) ∷ compare Lt (op2 (Arith Add) (col 1 3) (lit (Int (pos 2)))) (col 1 4) ∷ [])
+    (compare Eq (col 2 2) (col 1 0) ∷ compare Eq (col 2 3) (col 1 3) ∷ compare Eq (col 3 2) (col 1 0) ∷ compare Eq (col 3 3)
+    (op2 (Arith Sub) (col 1 4) (lit (Int (pos 1)))) ∷ compare Lt (op2 (Arith Add) (col 1 3) (lit (Int (pos 2)))) (col 1 4) ∷ [])
     (col 1 0 ∷ col 2 0 ∷ col 3 0 ∷ col 1 3 ∷ col 1 4 ∷ []) ((col 1 0, ascending Binary) ∷ [])) { from = inner 3 (inner 6 (inner 6 end)) })
 unfolding understood everything
 walk_left_behind = record { query = (_, refl); plain = (refl, refl); listing = refl }

@@ -12,4 +12,4 @@ returns-clause-made g c = λ clean schema t maker bare.
     let is : c.execute.result ≡ Ok c.in_ok-execute.field-0 = search rules in
     let inside = ran_inside old.in_transaction _ _ _ _ is c.execute.ensures.ended in
     let runs : ExecutesInside 0 c.args.text.now [] old new (Ok c.in_ok-execute.field-0) = c.in_ok-execute.ensures.runs clean inside in
-    (runs.1.was_open, makes schema c.args.text.now t old new c.in_ok-execute.field-0 maker (bare runs.1.was_open) runs)
+    makes schema c.args.text.now t old new c.in_ok-execute.field-0 maker (bare runs.1.was_open) runs

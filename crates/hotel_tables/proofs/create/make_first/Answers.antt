@@ -15,7 +15,7 @@ returns-clause-made g c = λ clean.
     let k2 : HasCleanDisk s2 = omega (arith, c.make-3.ensures.survives.clean, k3) in
     let k1 : HasCleanDisk s1 = omega (arith, c.make-2.ensures.survives.clean, k2) in
     on_ok_weaker c.make-4.result (λ made bare.
-        let b1 : IsBare with_meta s1 = (c.in_ok-make.ensures.made k1 _ _ make_meta bare).1 in
-        let b2 : IsBare with_kind s2 = (c.in_ok-make-2.ensures.made k2 _ _ make_kind (λ _. b1)).1 in
-        let b3 : IsBare with_room s3 = (c.in_ok-make-3.ensures.made k3 _ _ make_room (λ _. b2)).1 in
-        (made _ _ make_stay (λ _. b3)).1) (c.make-4.ensures.made clean)
+    let b1 : IsBare with_meta s1 = c.in_ok-make.ensures.made k1 _ _ make_meta bare in
+    let b2 : IsBare with_kind s2 = c.in_ok-make-2.ensures.made k2 _ _ make_kind (λ _. b1) in
+    let b3 : IsBare with_room s3 = c.in_ok-make-3.ensures.made k3 _ _ make_room (λ _. b2) in
+    made _ _ make_stay (λ _. b3)) (c.make-4.ensures.made clean)

@@ -18,10 +18,12 @@ pub returns : goal.returns
 returns g c =
     let old = state g.S.Store c.args.conn.now in
     let new = state g.S.Store c.look.new.conn in
-    let shown : IsKept new → (p : Query) → Asks text.select_any_inside p → AnswersFirst (λ v. number_of (column v 0)) p (int c.args.room ∷ []) old.now.trees c.in_ok-card.card = rw (c.small.ensures, c.value.ensures.same) at c.in_ok-card.ensures.found in
+    let shown : IsKept new → (p : Query) → Asks text.select_any_inside p → AnswersFirst (λ v. number_of (column v 0)) p (int c.args.room ∷ []) old.now.trees c.in_ok-card.card =
+    rw (c.small.ensures, c.value.ensures.same) at c.in_ok-card.ensures.found in
     record {
       books = c.look.ensures.books;
       keeps = c.look.ensures.keeps;
-      found = λ kept. c.is_some.ensures ∙ any_inside_finds old.now.trees (c.requires.desk (c.look.ensures.keeps kept).0).tables c.args.room c.in_ok-card.card (shown kept _ selects.select_any_inside);
+      found = λ kept. c.is_some.ensures ∙ any_inside_finds old.now.trees (c.requires.desk (c.look.ensures.keeps kept).0).tables c.args.room c.in_ok-card.card
+          (shown kept _ selects.select_any_inside);
       crash = c.look.ensures.crash;
     }

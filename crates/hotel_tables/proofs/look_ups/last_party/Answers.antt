@@ -19,8 +19,9 @@ returns g c =
       books = c.look.ensures.books;
       keeps = c.look.ensures.keeps;
       found = λ kept.
-        let was = (c.look.ensures.keeps kept).0 in
-        IfOk-weaker c.look.result _ _ (λ o a. last_finds Stay 5 stay_columns stay_of stay_written old.now.trees (c.requires.books.desk was).tables.stay (λ r. refl) (λ e. refl) (c.requires.numbered was) o a)
+          let was = (c.look.ensures.keeps kept).0 in
+          IfOk-weaker c.look.result _ _ (λ o a. last_finds Stay 5 stay_columns stay_of stay_written old.now.trees (c.requires.books.desk was).tables.stay (λ r. refl) (λ e. refl)
+          (c.requires.numbered was) o a)
           (c.look.ensures.found kept _ selects.select_last_party);
       crash = c.look.ensures.crash;
     }

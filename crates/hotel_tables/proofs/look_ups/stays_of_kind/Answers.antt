@@ -20,10 +20,13 @@ pub returns : goal.returns
 returns g c =
     let old = state g.S.Store c.args.conn.now in
     let new = state g.S.Store c.look_all.new.conn in
-    let shown : IsKept new → (p : Query) → Asks text.select_stays_of_kind p → IfOk c.look_all.result (λ all. AnswersAll (stay_row_of) p (Text c.args.kind.now ∷ []) old.now.trees all.items) = rw (c.text.ensures, c.as_bytes.ensures.same) at c.look_all.ensures.found in
+    let shown : IsKept new → (p : Query) → Asks text.select_stays_of_kind p
+    → IfOk c.look_all.result (λ all. AnswersAll (stay_row_of) p (Text c.args.kind.now ∷ []) old.now.trees all.items) =
+    rw (c.text.ensures, c.as_bytes.ensures.same) at c.look_all.ensures.found in
     record {
       books = c.look_all.ensures.books;
       keeps = c.look_all.ensures.keeps;
-      found = λ kept. IfOk-weaker c.look_all.result _ _ (λ all a. stays_find old.now.trees (c.requires.desk (c.look_all.ensures.keeps kept).0).tables c.args.kind.now all.items a) (shown kept _ selects.select_stays_of_kind);
+      found = λ kept. IfOk-weaker c.look_all.result _ _
+          (λ all a. stays_find old.now.trees (c.requires.desk (c.look_all.ensures.keeps kept).0).tables c.args.kind.now all.items a) (shown kept _ selects.select_stays_of_kind);
       crash = c.look_all.ensures.crash;
     }
