@@ -1,5 +1,5 @@
 -- An empty desk is sound, and nothing is counted there.
-use Rattle.std.proofs.Common.{◌≡◌, refl, sym, subst, List, [], ℕ, arith}
+use Rattle.std.proofs.Common.{◌≡◌, refl, sym, subst, [], arith}
 use Rattle.hotel_core.specs.Model.Rows.{Rows, no_rows}
 use Rattle.hotel_core.specs.Model.Sound.{IsSound}
 use Rattle.hotel_core.proofs.OfNights.NightsStanding.{none_stand}

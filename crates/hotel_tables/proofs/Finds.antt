@@ -1,14 +1,13 @@
 -- What each look-up of the books finds in its table.
-use Rattle.std.proofs.Common.{◌≡◌, ◌&&◌, ◌||◌, ◌==◌, refl, sym, ap, ap₂, subst, ◌∙◌, List, [], ◌∷◌, ℕ, true, false, Bool, None, Some, Option, map, filter, not, eqb, is_eq, nat_cmp, inl, inr}
+use Rattle.std.proofs.Common.{◌≡◌, ◌&&◌, ◌||◌, refl, ap, ap₂, ◌∙◌, List, [], ◌∷◌, ℕ, Bool, None, Some, Option, not, eqb, is_eq, nat_cmp, inl, inr}
 use Rattle.std.specs.Prelude.{is_some, unwrap_or, option_map, bytes_eq}
 use Rattle.std.specs.List.{list_any}
 use Rattle.std.specs.Cmp.Lexicographic.{slice_cmp}
 use Rattle.std.specs.BTreeMap.{is_at}
 use Rattle.std.proofs.lemmas.Map.Made.{is_some-lookup}
 use Rattle.std.proofs.lemmas.Bool.{cases_Bool}
-use Rattle.std.proofs.lemmas.Cmp.{nat_cmp_total, nat_list_cmp_total}
-use Rattle.sqlite_value.specs.declared.value.Value.{Value}
-use Rattle.sqlite_value.specs.declared.value.Value.TheVariants.{Int, Text}
+use Rattle.std.proofs.lemmas.Cmp.{nat_list_cmp_total}
+use Rattle.sqlite_value.specs.declared.value.Value.TheVariants.{Text}
 use Rattle.sqlite_value.specs.declared.keys.Collation.TheVariants.{Binary}
 use Rattle.sqlite_sql.specs.declared.ops.BinaryOp.TheVariants.{Compare}
 use Rattle.sqlite_sql.specs.declared.ops.CompareOp.TheVariants.{Eq}
@@ -29,7 +28,7 @@ use Rattle.hotel_tables.specs.Values.{number_of, option_of, text_of, int}
 use Rattle.hotel_tables.specs.Columns.{meta_columns, meta_written, kind_columns, kind_of, kind_written, room_columns, room_row_of, room_written, stay_columns, stay_row_of, stay_written, code_columns, code_row_of, code_written, card_columns, card_row_of, card_written, inside_columns, inside_of, inside_written, note_columns, note_row_of, note_written}
 use Rattle.hotel_tables.specs.Tables.{AreTables, IsWrittenAs, rows_in, metas_in}
 use Rattle.hotel_tables.specs.LookUps.{AnswersFirst}
-use Rattle.hotel_tables.proofs.Answers.{single, env, passes}
+use Rattle.hotel_tables.proofs.Answers.{single, passes}
 use Rattle.hotel_tables.proofs.Statements.Terms.{by_rowid, by_pair, column_is, columns, all_seven, all_eight}
 use Rattle.hotel_tables.proofs.Keys.{equals_text, and_true, is_key}
 use Rattle.hotel_tables.proofs.Found.{found_rows, some_found}

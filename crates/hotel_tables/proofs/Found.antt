@@ -1,5 +1,5 @@
 -- What a look-up finds in a table, whatever the order of its tree.
-use Rattle.std.proofs.Common.{if◌then◌else◌, ◌≡◌, ◌⊎◌, ◌<◌, ◌+◌, ◌&&◌, inl, inr, refl, sym, ap, ap₂, subst, ◌∙◌, List, [], ◌∷◌, length, ℕ, true, false, Bool, None, Some, Option, map, filter, arith, Less, Equal, Greater, Ordering, is_eq, true≢false, ◌||◌}
+use Rattle.std.proofs.Common.{◌≡◌, ◌+◌, inl, inr, refl, sym, ap, ap₂, subst, ◌∙◌, List, [], ◌∷◌, length, ℕ, true, false, Bool, None, Some, Option, map, filter, arith, Less, Equal, Greater, Ordering, is_eq, true≢false}
 use Rattle.std.specs.List.{AllByRecursion, list_any}
 use Rattle.std.specs.Option.{option_to_list}
 use Rattle.std.specs.Prelude.{is_some, unwrap_or, cond}
@@ -9,8 +9,7 @@ use Rattle.std.specs.List.Sorted.{IsPermutation}
 use Rattle.std.specs.Cmp.{IsTotalOrder}
 use Rattle.std.proofs.lemmas.Bool.{cases_Bool}
 use Rattle.std.proofs.lemmas.List.Sorted.{length_permutation, IsPermutation-map, IsPermutation-sym, IsPermutation-trans}
-use Rattle.sqlite_keyed.specs.Lists.{sort_by}
-use Rattle.sqlite_keyed.proofs.ListLemmas.{all_weaker, ascending_weaker, IsPermutation-filter}
+use Rattle.sqlite_keyed.proofs.ListLemmas.{all_weaker, IsPermutation-filter}
 use Rattle.sqlite_keyed.proofs.SortLemmas.{IsPermutation-sort_by}
 use Rattle.sqlite_value.specs.declared.keys.Key.{Key}
 use Rattle.sqlite.specs.Order.{Row}
@@ -22,7 +21,7 @@ use Rattle.sqlite.proofs.Callers.{one_permutation}
 use Rattle.hotel_tables.specs.Tables.{IsTableOf, listed, by_key}
 use Rattle.hotel_tables.specs.LookUps.{AnswersFirst}
 use Rattle.hotel_tables.proofs.Answers.{answered, single, env, passes, fused}
-use Rattle.hotel_tables.proofs.Perm.{filter_mapped, sort_rises}
+use Rattle.hotel_tables.proofs.Perm.{filter_mapped}
 
 either : {A : Type 0} (b : Bool) (x : A) → unwrap_or (cond b None None) x ≡ x
 either true x = refl

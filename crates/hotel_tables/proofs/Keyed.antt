@@ -1,26 +1,20 @@
 -- What the look-ups by a key find.
-use Rattle.std.proofs.Common.{◌≡◌, ◌&&◌, ◌==◌, refl, sym, ap, ap₂, subst, ◌∙◌, List, [], ◌∷◌, ℕ, pos, true, Bool, None, Some, Option, map, filter, Ordering, Less, Equal, Greater, nat_cmp, is_eq, eqb, Result, IfOk}
-use Rattle.std.specs.Prelude.{is_some, option_map}
+use Rattle.std.proofs.Common.{◌≡◌, ◌&&◌, refl, sym, ap, ap₂, subst, ◌∙◌, List, [], ◌∷◌, ℕ, None, Some, Option, map, filter, Ordering, Less, Equal, Greater, nat_cmp, is_eq, eqb, Result, IfOk}
+use Rattle.std.specs.Prelude.{option_map}
 use Rattle.std.specs.Ordering.{ordering_then}
-use Rattle.std.specs.List.{AllByRecursion, list_any}
 use Rattle.std.specs.Map.{lookup}
 use Rattle.std.specs.BTreeMap.{is_at}
 use Rattle.std.specs.Option.{option_to_list}
 use Rattle.std.specs.List.Sorted.{IsPermutation}
 use Rattle.std.specs.Cmp.{IsTotalOrder}
-use Rattle.std.specs.Cmp.Lexicographic.{slice_cmp}
-use Rattle.std.specs.Str.{bytes_eq}
-use Rattle.std.proofs.lemmas.Cmp.{on_total, nat_cmp_total, nat_list_cmp_total}
-use Rattle.std.proofs.lemmas.Result.{IfOk-weaker}
+use Rattle.std.proofs.lemmas.Cmp.{on_total, nat_cmp_total}
 use Rattle.sqlite_value.specs.declared.value.Value.{Value}
-use Rattle.sqlite_value.specs.declared.value.Value.TheVariants.{Int, Text}
 use Rattle.sqlite_value.specs.declared.keys.Collation.TheVariants.{Binary}
 use Rattle.sqlite_sql.specs.declared.ops.BinaryOp.TheVariants.{Compare}
 use Rattle.sqlite_sql.specs.declared.ops.CompareOp.TheVariants.{Eq}
 use Rattle.sqlite.specs.Ops.{binary, is_true}
 use Rattle.sqlite.specs.Order.{Row, column}
-use Rattle.sqlite.specs.Query.{Query, IsAnswer}
-use Rattle.sqlite.specs.Program.{overlay}
+use Rattle.sqlite.specs.Query.{Query}
 use Rattle.sqlite.specs.Term.{Term, eval_all}
 use Rattle.sqlite.specs.Tree.{Trees, IsAscending}
 use Rattle.sqlite.specs.State.{State, Survives}
@@ -28,15 +22,15 @@ use Rattle.keycard_rules.specs.declared.issued.LookFault.{LookFault}
 use Rattle.hotel_core.specs.Model.Words.{pair_cmp}
 use Rattle.hotel_core.specs.Model.Rows.{Rows, at_number}
 use Rattle.hotel_core.proofs.OfTables.Pairs.{pair_cmp_total}
-use Rattle.hotel_tables.specs.Values.{number_of, text_of, int}
+use Rattle.hotel_tables.specs.Values.{number_of, int}
 use Rattle.hotel_tables.specs.Tables.{IsTable, IsWrittenAs, listed, by_key, rows_in, AreTables}
 use Rattle.hotel_tables.specs.Books.{IsKept, IsBooks, KeepsRows}
 use Rattle.hotel_tables.specs.LookUps.{Asks, AnswersFirst, Looks}
 use Rattle.hotel_tables.proofs.Answers.{single, env, passes, fused}
-use Rattle.hotel_tables.proofs.Statements.Terms.{by_rowid, by_pair, column_is}
-use Rattle.hotel_tables.proofs.Keys.{equals, equals_text, is_key, and_true}
+use Rattle.hotel_tables.proofs.Statements.Terms.{by_rowid, by_pair}
+use Rattle.hotel_tables.proofs.Keys.{equals, is_key, and_true}
 use Rattle.hotel_tables.proofs.Perm.{sort_rises}
-use Rattle.hotel_tables.proofs.Found.{found_rows, first_found, one_entry, map_same}
+use Rattle.hotel_tables.proofs.Found.{found_rows, first_found, one_entry}
 
 pub key_total : {K V : Type 0} {cmp : K → K → Ordering} → IsTotalOrder cmp → IsTotalOrder (by_key {K = K} {V = V} cmp)
 key_total total = on_total (λ e. e.0) total

@@ -1,12 +1,10 @@
 -- The last number of a table whose rows are numbered from 1 on.
-use Rattle.std.proofs.Common.{if◌then◌else◌, ◌≡◌, ◌⊎◌, ◌<◌, ◌≤◌, ◌+◌, ◌&&◌, ◌==◌, inl, inr, refl, sym, ap, subst, ◌∙◌, List, [], ◌∷◌, length, ℕ, pos, true, false, Bool, None, Some, Option, map, filter, arith, Less, Equal, Greater, Ordering, is_eq, nat_cmp, eqb, true≢false}
+use Rattle.std.proofs.Common.{◌≡◌, ◌≤◌, ◌+◌, ◌&&◌, ◌==◌, refl, sym, ap, subst, ◌∙◌, List, [], ◌∷◌, length, ℕ, true, Bool, None, Some, Option, map, filter, arith, Less, Ordering, nat_cmp}
 use Rattle.std.specs.Prelude.{unwrap_or}
 use Rattle.std.specs.Map.{keys_of}
 use Rattle.std.specs.List.{AllByRecursion}
 use Rattle.std.specs.Ordering.{flip_args}
 use Rattle.std.specs.List.Sorted.{IsPermutation}
-use Rattle.std.specs.Cmp.{IsTotalOrder}
-use Rattle.std.proofs.lemmas.Bool.{cases_Bool}
 use Rattle.std.proofs.lemmas.Bool.Decides.{nat_tests}
 use Rattle.std.proofs.lemmas.Cmp.{nat_cmp_total, back_total}
 use Rattle.std.proofs.lemmas.List.Sorted.{length_permutation, IsPermutation-sym, IsPermutation-trans}
@@ -17,13 +15,13 @@ use Rattle.sqlite_keyed.proofs.SortLemmas.{IsPermutation-sort_by}
 use Rattle.sqlite_value.specs.declared.keys.Collation.TheVariants.{Binary}
 use Rattle.sqlite_value.specs.declared.keys.Key.{Key}
 use Rattle.sqlite.specs.Order.{Row, column}
-use Rattle.sqlite.specs.Query.{Query, IsAnswer, Output, output_cmp}
+use Rattle.sqlite.specs.Query.{Query, IsAnswer, Output}
 use Rattle.sqlite.specs.Program.{overlay}
 use Rattle.sqlite.specs.Term.{Term, col}
 use Rattle.sqlite.specs.Tree.{Trees, IsAscending}
 use Rattle.hotel_core.specs.Model.SoundRooms.{count_up}
 use Rattle.hotel_tables.specs.Values.{number_of, int}
-use Rattle.hotel_tables.specs.Tables.{IsTable, IsWrittenAs, listed, by_key, AreApart}
+use Rattle.hotel_tables.specs.Tables.{IsTable, IsWrittenAs, listed, by_key}
 use Rattle.hotel_tables.specs.LookUps.{AnswersFirst}
 use Rattle.hotel_tables.proofs.Answers.{single}
 use Rattle.hotel_tables.proofs.Statements.Terms.{columns}

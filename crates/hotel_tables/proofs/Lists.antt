@@ -1,20 +1,15 @@
 -- What the look-ups of some rows in order find: a code at a place, the stays of a kind, the cards inside a room, and the last number.
-use Rattle.std.proofs.Common.{if◌then◌else◌, ◌≡◌, ◌⊎◌, ◌<◌, ◌≤◌, ◌+◌, ◌&&◌, ◌==◌, inl, inr, refl, sym, ap, ap₂, subst, ◌∙◌, List, [], ◌∷◌, length, ℕ, pos, true, false, Bool, None, Some, Option, map, filter, arith, Less, Equal, Greater, Ordering, is_eq, nat_cmp, eqb, nat_le, nat_lt}
-use Rattle.std.specs.Prelude.{is_some, unwrap_or, option_map, bytes_eq}
-use Rattle.std.specs.Map.{keys_of, values_of}
-use Rattle.std.specs.List.{AllByRecursion, list_any, list_all}
-use Rattle.std.specs.Ordering.{ordering_then, flip_args}
-use Rattle.std.specs.List.Sorted.{IsPermutation}
-use Rattle.std.specs.Cmp.{IsTotalOrder}
+use Rattle.std.proofs.Common.{◌≡◌, ◌&&◌, inl, inr, refl, sym, ap, ap₂, subst, ◌∙◌, List, [], ◌∷◌, ℕ, true, Bool, None, Some, Option, map, filter, arith, Less, Equal, nat_cmp, eqb}
+use Rattle.std.specs.Prelude.{option_map, bytes_eq}
+use Rattle.std.specs.Map.{values_of}
+use Rattle.std.specs.List.{AllByRecursion}
+use Rattle.std.specs.Ordering.{ordering_then}
 use Rattle.std.proofs.lemmas.Bool.{cases_Bool}
 use Rattle.std.proofs.lemmas.Bool.Decides.{nat_tests}
-use Rattle.std.proofs.lemmas.Cmp.{nat_cmp_total, back_total}
-use Rattle.std.proofs.lemmas.List.Sorted.{IsPermutation-refl, IsPermutation-sym, IsPermutation-trans}
-use Rattle.sqlite_keyed.specs.Lists.{sort_by}
-use Rattle.sqlite_keyed.proofs.ListLemmas.{all-filter, all_weaker, ascending-filter, ascending_weaker}
-use Rattle.sqlite_keyed.proofs.SortLemmas.{IsPermutation-sort_by}
-use Rattle.sqlite_value.specs.declared.value.Value.{Value}
-use Rattle.sqlite_value.specs.declared.value.Value.TheVariants.{Int, Text}
+use Rattle.std.proofs.lemmas.Cmp.{nat_cmp_total}
+use Rattle.std.proofs.lemmas.List.Sorted.{IsPermutation-refl}
+use Rattle.sqlite_keyed.proofs.ListLemmas.{all-filter, ascending-filter, ascending_weaker}
+use Rattle.sqlite_value.specs.declared.value.Value.TheVariants.{Text}
 use Rattle.sqlite_value.specs.declared.keys.Collation.TheVariants.{Binary}
 use Rattle.sqlite_value.specs.declared.keys.Key.{Key}
 use Rattle.sqlite_value.specs.Keys.{ascending}
@@ -22,7 +17,7 @@ use Rattle.sqlite_sql.specs.declared.ops.BinaryOp.TheVariants.{Compare}
 use Rattle.sqlite_sql.specs.declared.ops.CompareOp.TheVariants.{Eq}
 use Rattle.sqlite.specs.Ops.{binary, is_true}
 use Rattle.sqlite.specs.Order.{Row, column}
-use Rattle.sqlite.specs.Query.{Query, IsAnswer, Output, output, output_cmp}
+use Rattle.sqlite.specs.Query.{Query, IsAnswer, Output, output_cmp}
 use Rattle.sqlite.specs.Program.{overlay}
 use Rattle.sqlite.specs.Term.{Term, col}
 use Rattle.sqlite.specs.Tree.{Trees, IsAscending}
@@ -32,11 +27,11 @@ use Rattle.hotel_core.specs.Model.Words.{pair_cmp}
 use Rattle.hotel_core.specs.Model.Guests.{those_in}
 use Rattle.hotel_core.specs.Books.Lookups.{code_at, first_code_at, stays_of_kind, inside_at}
 use Rattle.hotel_core.proofs.OfTables.Pairs.{pair_cmp_total}
-use Rattle.hotel_tables.specs.Values.{number_of, text_of, int}
+use Rattle.hotel_tables.specs.Values.{number_of, int}
 use Rattle.hotel_tables.specs.Columns.{stay_columns, stay_row_of, stay_of, stay_written, code_columns, code_of, code_written, inside_columns, inside_of, inside_written}
-use Rattle.hotel_tables.specs.Tables.{AreTables, IsTable, IsWrittenAs, listed, by_key, rows_in}
+use Rattle.hotel_tables.specs.Tables.{AreTables, IsWrittenAs, by_key, rows_in}
 use Rattle.hotel_tables.specs.LookUps.{AnswersFirst, AnswersAll}
-use Rattle.hotel_tables.proofs.Answers.{single, env, passes, fused}
+use Rattle.hotel_tables.proofs.Answers.{single, passes, fused}
 use Rattle.hotel_tables.proofs.Statements.Terms.{by_pair, column_is, columns, all_seven}
 use Rattle.hotel_tables.proofs.Keys.{equals_text, and_true}
 use Rattle.hotel_tables.proofs.Perm.{sort_rises}

@@ -1,8 +1,7 @@
 -- What CREATE TABLE does.
-use Rattle.std.proofs.Common.{◌≡◌, ◌⊎◌, inl, inr, refl, sym, ap, subst, ◌∙◌, List, [], ◌∷◌, ◌++◌, ℕ, Bool, true, false, Some, None, Ok, Err, Result, IsTrue}
+use Rattle.std.proofs.Common.{◌≡◌, refl, sym, ap, subst, ◌∙◌, List, [], ◌∷◌, ◌++◌, ℕ, false, None, Ok, IsTrue}
 use Rattle.std.specs.List.{AllByRecursion}
 use Rattle.sqlite_tied.specs.Compute.{everything}
-use Rattle.sqlite.specs.Compile.{table_defined_by}
 use Rattle.sqlite.specs.Command.TheVariants.{CreateTable}
 use Rattle.sqlite.specs.Table.{Table}
 use Rattle.sqlite.specs.Schema.{Schema}
@@ -12,7 +11,7 @@ use Rattle.sqlite.specs.Does.{Tally, lacks_sequence}
 use Rattle.sqlite.specs.Listing.{understood}
 use Rattle.sqlite.specs.Effect.{Database}
 use Rattle.sqlite.specs.State.{State, Writes, ExecutesIn, ExecutesInside}
-use Rattle.sqlite.proofs.Callers.{IsPlain, command_of, statement_of, runs_as}
+use Rattle.sqlite.proofs.Callers.{runs_as}
 use Rattle.hotel_tables.specs.Texts.{create_meta, create_kind, create_room, create_stay, create_code, create_card, create_inside, create_note}
 use Rattle.hotel_tables.specs.Schema.{no_schema, meta_table, kind_table, room_table, stay_table, code_table, card_table, inside_table, note_table}
 use Rattle.hotel_tables.specs.Making.{IsMaker, IsBare, with_meta, with_kind, with_room, with_stay, with_code, with_card, with_inside}

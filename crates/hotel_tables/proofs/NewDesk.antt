@@ -1,15 +1,13 @@
 -- The row of meta is added to eight empty tables.
-use Rattle.std.proofs.Common.{◌≡◌, ◌⊎◌, inl, inr, refl, sym, ap, subst, ◌∙◌, List, [], ◌∷◌, ℕ, pos, None, Some, Ok, Err, Result, IsTrue, true, false, arith, Bool}
-use Rattle.std.specs.List.{AllByRecursion}
+use Rattle.std.proofs.Common.{◌≡◌, refl, sym, ap, subst, ◌∙◌, List, [], ◌∷◌, ℕ, pos, None, Ok, IsTrue, false, arith}
 use Rattle.std.specs.Ordering.{nat_cmp}
-use Rattle.std.specs.Cmp.Lexicographic.{slice_cmp}
 use Rattle.sqlite_value.specs.declared.value.Value.TheVariants.{Null, Int}
 use Rattle.sqlite.specs.Order.{Row}
 use Rattle.sqlite.specs.Term.{Term, lit}
 use Rattle.sqlite.specs.Table.{Table}
 use Rattle.sqlite.specs.Source.TheVariants.{Values}
 use Rattle.sqlite.specs.Command.TheVariants.{Insert}
-use Rattle.sqlite.specs.Edit.{Edit, edit_of, edited}
+use Rattle.sqlite.specs.Edit.{edit_of, edited}
 use Rattle.sqlite.specs.Rowids.TheVariants.{Chosen}
 use Rattle.sqlite.specs.Does.{Tally, Does}
 use Rattle.sqlite.specs.Rows.{Written, Edited}
@@ -17,16 +15,12 @@ use Rattle.sqlite.specs.Tree.{Trees, put_row}
 use Rattle.sqlite.specs.Listing.{understood}
 use Rattle.sqlite.specs.Effect.{Database}
 use Rattle.sqlite.specs.State.{State, mode_of, ExecutesIn, ExecutesInside}
-use Rattle.sqlite.specs.declared.error.Error.{Error}
-use Rattle.sqlite.specs.declared.error.Error.TheVariants.{SqliteFailure}
 use Rattle.sqlite.proofs.Callers.{runs_as, one_step, statement_of}
-use Rattle.hotel_core.specs.Model.Words.{pair_cmp}
-use Rattle.hotel_core.specs.Model.Rows.{no_rows}
 use Rattle.hotel_tables.specs.Schema.{desk_schema, meta_table, at_tree}
 use Rattle.hotel_tables.specs.Texts.{insert_meta}
 use Rattle.hotel_tables.specs.Values.{int}
 use Rattle.hotel_tables.specs.Columns.{meta_columns, meta_of, meta_written}
-use Rattle.hotel_tables.specs.Tables.{IsTable, by_key, AreTables, rows_in}
+use Rattle.hotel_tables.specs.Tables.{IsTable, by_key}
 use Rattle.hotel_tables.specs.Making.{IsBare, IsMade, IsEmptyDesk}
 use Rattle.hotel_tables.proofs.Statements.Changes as changes
 use Rattle.hotel_tables.proofs.Writing.{went, same_value, cast_null, cast_int}

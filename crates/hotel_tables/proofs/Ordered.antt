@@ -1,10 +1,9 @@
 -- The rows of a query in the order that it asks for.
-use Rattle.std.proofs.Common.{if◌then◌else◌, ◌≡◌, ◌⊎◌, ◌<◌, ◌+◌, ◌&&◌, inl, inr, refl, sym, ap, ap₂, subst, ◌∙◌, List, [], ◌∷◌, length, ℕ, pos, true, false, Bool, None, Some, Option, map, filter, arith, Less, Equal, Greater, Ordering, is_eq, is_lt, nat_cmp, int_cmp, eqb}
+use Rattle.std.proofs.Common.{◌≡◌, refl, sym, ap, ap₂, subst, ◌∙◌, List, [], ◌∷◌, ℕ, pos, Bool, map, filter, arith, Less, Equal, Greater, Ordering, nat_cmp}
 use Rattle.std.specs.List.{AllByRecursion}
 use Rattle.std.specs.Ordering.{ordering_then}
-use Rattle.std.specs.List.Sorted.{IsPermutation, IsSorted}
+use Rattle.std.specs.List.Sorted.{IsPermutation}
 use Rattle.std.specs.Cmp.{IsTotalOrder}
-use Rattle.std.proofs.lemmas.Bool.{cases_Bool}
 use Rattle.std.proofs.lemmas.Bool.Decides.{nat_tests}
 use Rattle.std.proofs.lemmas.List.Sorted.{IsPermutation-map, IsPermutation-sym, IsPermutation-trans}
 use Rattle.sqlite_sql.proofs.QueryLemmas.{output_cmp_total}
@@ -12,9 +11,8 @@ use Rattle.sqlite_keyed.proofs.ListLemmas.{all_weaker, all-filter}
 use Rattle.sqlite_keyed.proofs.SortLemmas.{sorted_unique, IsPermutation-sort_by}
 use Rattle.sqlite_value.proofs.OrderLemmas.{value_cmp-Int}
 use Rattle.sqlite_value.specs.declared.keys.Key.{Key}
-use Rattle.sqlite_value.specs.declared.value.Value.TheVariants.{Int}
 use Rattle.sqlite.specs.Order.{Row, value_cmp}
-use Rattle.sqlite.specs.Query.{Query, IsAnswer, Output, output, output_cmp}
+use Rattle.sqlite.specs.Query.{IsAnswer, Output, output, output_cmp}
 use Rattle.sqlite.specs.Program.{overlay}
 use Rattle.sqlite.specs.Term.{Term}
 use Rattle.sqlite.specs.Tree.{Trees, IsAscending}

@@ -1,5 +1,5 @@
 -- The making of tables, and an empty desk.
-use Rattle.std.specs.Prelude.{◌≡◌, List, [], ℕ, IsTrue, false, Ok, Option}
+use Rattle.std.specs.Prelude.{◌≡◌, List, [], ℕ, IsTrue, false, Ok}
 use Rattle.std.specs.List.{AllByRecursion}
 use Rattle.sqlite.specs.Table.{Table}
 use Rattle.sqlite.specs.Compile.{table_defined_by}
@@ -14,7 +14,7 @@ use Rattle.sqlite.specs.State.{State}
 use Rattle.sqlite_catalog.specs.Change.{created}
 use Rattle.hotel_core.specs.Model.Rows.{no_rows}
 use Rattle.hotel_tables.specs.Tables.{AreTables, rows_in}
-use Rattle.hotel_tables.specs.Schema.{desk_schema, no_schema, meta_table, kind_table, room_table, stay_table, code_table, card_table, inside_table, note_table}
+use Rattle.hotel_tables.specs.Schema.{desk_schema, no_schema, meta_table, kind_table, room_table, stay_table, code_table, card_table, inside_table}
 
 abbrev pub AreEmpty : Schema → Trees → Type 0
 AreEmpty schema db = AllByRecursion (λ (t : Table). db t.tree ≡ []) schema.tables

@@ -1,5 +1,5 @@
 -- Numbers and texts as the values of columns.
-use Rattle.std.specs.Prelude.{ℕ, ℤ, pos, negsuc, Bool, List, [], Option, Some, None}
+use Rattle.std.specs.Prelude.{ℕ, pos, negsuc, List, [], Option, Some, None}
 use Rattle.sqlite_value.specs.declared.value.Value.{Value}
 use Rattle.sqlite_value.specs.declared.value.Value.TheVariants.{Null, Int, Real, Text, Blob}
 

@@ -1,17 +1,14 @@
 -- The changes, as a desk understands them.
-use Rattle.std.proofs.Common.{◌≡◌, refl, List, [], ◌∷◌, ℕ, pos, negsuc, None, Some}
+use Rattle.std.proofs.Common.{refl, [], ◌∷◌, pos}
 use Rattle.sqlite_tied.specs.Compute.{everything}
 use Rattle.sqlite.specs.Listing.{understood}
 use Rattle.sqlite_value.specs.declared.value.Value.TheVariants.{Null, Int}
-use Rattle.sqlite_value.specs.declared.keys.Collation.TheVariants.{Binary}
-use Rattle.sqlite_value.specs.Keys.{ascending}
-use Rattle.sqlite.specs.Term.{Term, lit, col}
+use Rattle.sqlite.specs.Term.{lit, col}
 use Rattle.hotel_tables.specs.Texts as text
 use Rattle.hotel_tables.proofs.Answers.{single}
-use Rattle.hotel_tables.proofs.Statements.Terms.{Does, by_rowid, column_is, by_pair, columns, all_seven, all_eight}
+use Rattle.hotel_tables.proofs.Statements.Terms.{Does, by_rowid, by_pair}
 use Rattle.sqlite.specs.Command.TheVariants.{Insert, Update, Delete}
 use Rattle.sqlite.specs.Source.TheVariants.{Values}
-use Rattle.hotel_tables.specs.Schema.{compare}
 
 pub insert_meta : Does text.insert_meta (Insert 0 (Values (lit (Int (pos 1)) ∷ lit Null ∷ lit (Int (pos 1)) ∷ lit Null ∷ []) 4))
 unfolding understood everything

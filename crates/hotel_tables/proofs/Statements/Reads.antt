@@ -1,15 +1,14 @@
 -- The readings of whole tables, as a desk understands them.
-use Rattle.std.proofs.Common.{◌≡◌, refl, List, [], ◌∷◌, ℕ, pos, negsuc, None, Some}
+use Rattle.std.proofs.Common.{refl, [], ◌∷◌}
 use Rattle.sqlite_tied.specs.Compute.{everything}
 use Rattle.sqlite.specs.Listing.{understood}
-use Rattle.sqlite_value.specs.declared.value.Value.TheVariants.{Null, Int}
 use Rattle.sqlite_value.specs.declared.keys.Collation.TheVariants.{Binary}
 use Rattle.sqlite_value.specs.Keys.{ascending}
-use Rattle.sqlite.specs.Term.{Term, lit, col}
+use Rattle.sqlite.specs.Term.{col}
 use Rattle.hotel_tables.specs.LookUps.{Asks}
 use Rattle.hotel_tables.specs.Texts as text
 use Rattle.hotel_tables.proofs.Answers.{single}
-use Rattle.hotel_tables.proofs.Statements.Terms.{by_rowid, column_is, by_pair, columns, all_seven, all_eight}
+use Rattle.hotel_tables.proofs.Statements.Terms.{columns, all_seven, all_eight}
 
 pub read_meta : Asks text.read_meta (single 0 [] (columns (0 ∷ 2 ∷ 3 ∷ [])) ((col 1 0, ascending Binary) ∷ []))
 unfolding understood everything

@@ -1,11 +1,10 @@
 -- The look-ups, as a desk understands them.
-use Rattle.std.proofs.Common.{◌≡◌, refl, List, [], ◌∷◌, ℕ, pos, negsuc, None, Some, true}
+use Rattle.std.proofs.Common.{refl, [], ◌∷◌, true}
 use Rattle.sqlite_tied.specs.Compute.{everything}
 use Rattle.sqlite.specs.Listing.{understood}
-use Rattle.sqlite_value.specs.declared.value.Value.TheVariants.{Null, Int}
 use Rattle.sqlite_value.specs.declared.keys.Collation.TheVariants.{Binary}
 use Rattle.sqlite_value.specs.Keys.{ascending}
-use Rattle.sqlite.specs.Term.{Term, lit, col}
+use Rattle.sqlite.specs.Term.{col}
 use Rattle.hotel_tables.specs.LookUps.{Asks}
 use Rattle.hotel_tables.specs.Texts as text
 use Rattle.hotel_tables.proofs.Answers.{single}

@@ -1,10 +1,9 @@
 -- The parts of which the statements are put together.
-use Rattle.std.proofs.Common.{◌≡◌, List, [], ◌∷◌, ℕ, pos, None}
-use Rattle.sqlite_value.specs.declared.value.Value.TheVariants.{Null, Int}
+use Rattle.std.proofs.Common.{◌≡◌, List, [], ◌∷◌, ℕ}
 use Rattle.sqlite_sql.specs.declared.ops.CompareOp.TheVariants.{Eq}
 use Rattle.sqlite.specs.Command.{Command}
 use Rattle.sqlite.specs.Listing.{understood}
-use Rattle.sqlite.specs.Term.{Term, lit, col}
+use Rattle.sqlite.specs.Term.{Term, col}
 use Rattle.sqlite.proofs.Callers.{IsPlain, command_of}
 use Rattle.hotel_tables.specs.Schema.{desk_schema, compare}
 

@@ -1,19 +1,19 @@
 -- The walks, as a desk understands them.
-use Rattle.std.proofs.Common.{◌≡◌, refl, List, [], ◌∷◌, ℕ, pos, negsuc, None, Some}
+use Rattle.std.proofs.Common.{refl, [], ◌∷◌, pos}
 use Rattle.sqlite_tied.specs.Compute.{everything}
 use Rattle.sqlite.specs.Listing.{understood}
-use Rattle.sqlite_value.specs.declared.value.Value.TheVariants.{Null, Int}
+use Rattle.sqlite_value.specs.declared.value.Value.TheVariants.{Int}
 use Rattle.sqlite_value.specs.declared.keys.Collation.TheVariants.{Binary}
 use Rattle.sqlite_value.specs.Keys.{ascending}
-use Rattle.sqlite.specs.Term.{Term, lit, col}
+use Rattle.sqlite.specs.Term.{lit, col}
 use Rattle.sqlite_sql.specs.Term.{op2}
 use Rattle.sqlite_sql.specs.declared.ops.BinaryOp.TheVariants.{Arith}
 use Rattle.sqlite_sql.specs.declared.ops.ArithOp.TheVariants.{Add, Sub}
 use Rattle.hotel_tables.specs.LookUps.{Asks}
 use Rattle.hotel_tables.specs.Texts as text
 use Rattle.hotel_tables.proofs.Answers.{single}
-use Rattle.hotel_tables.proofs.Statements.Terms.{by_rowid, column_is, by_pair, columns, all_seven, all_eight}
-use Rattle.sqlite.specs.Query.{Query, inner, end}
+use Rattle.hotel_tables.proofs.Statements.Terms.{column_is, columns, all_seven, all_eight}
+use Rattle.sqlite.specs.Query.{inner, end}
 use Rattle.sqlite_sql.specs.declared.ops.CompareOp.TheVariants.{Eq, Lt, Le}
 use Rattle.hotel_tables.specs.Schema.{compare}
 

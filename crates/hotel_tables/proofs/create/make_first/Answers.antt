@@ -1,8 +1,8 @@
-use Rattle.std.proofs.Common.{◌≡◌, arith, OnOk, rules}
+use Rattle.std.proofs.Common.{arith}
 use Rattle.std.proofs.lemmas.Result.{on_ok_weaker}
 use Rattle.sqlite.specs.Held.{state}
 use Rattle.sqlite.specs.State.{HasCleanDisk}
-use Rattle.hotel_tables.specs.Making.{IsBare, with_meta, with_kind, with_room, with_stay}
+use Rattle.hotel_tables.specs.Making.{IsBare, with_meta, with_kind, with_room}
 use Rattle.hotel_tables.proofs.Makers.{make_meta, make_kind, make_room, make_stay}
 use Rattle.hotel_tables.proofs.create.make_first.Goals as goal
 

@@ -1,8 +1,6 @@
-use Rattle.std.proofs.Common.{◌≡◌, ◌∙◌, ap, Err, IfOk, rules}
-use Rattle.std.proofs.lemmas.Result.{IfOk-weaker}
+use Rattle.std.proofs.Common.{◌∙◌, ap, Err, rules}
 use Rattle.sqlite.specs.Held.{state}
 use Rattle.sqlite.specs.Values.{bound}
-use Rattle.hotel_tables.specs.LookUps.{AnswersFirst}
 use Rattle.hotel_tables.proofs.Looked.{look_books, look_keeps, look_crash, look_found, look_lost}
 use Rattle.hotel_tables.proofs.look.look.Goals as goal
 

@@ -1,11 +1,9 @@
-use Rattle.std.proofs.Common.{◌≡◌, ◌∙◌, sym, [], ◌∷◌, IfOk, Some, None, ap, rules}
+use Rattle.std.proofs.Common.{[], ◌∷◌, IfOk}
 use Rattle.std.proofs.lemmas.Result.{IfOk-weaker}
-use Rattle.sqlite_value.specs.declared.value.Value.TheVariants.{Text}
-use Rattle.sqlite.specs.Order.{column}
 use Rattle.sqlite.specs.Query.{Query}
 use Rattle.sqlite.specs.Held.{state}
-use Rattle.hotel_tables.specs.Values.{int, number_of, option_of, text_of}
-use Rattle.hotel_tables.specs.Columns.{room_row_of, stay_row_of, code_row_of, card_row_of, note_row_of}
+use Rattle.hotel_tables.specs.Values.{int}
+use Rattle.hotel_tables.specs.Columns.{code_row_of}
 use Rattle.hotel_tables.specs.Books.{IsKept}
 use Rattle.hotel_tables.specs.LookUps.{Asks, AnswersFirst}
 use Rattle.hotel_tables.specs.Texts as text

@@ -1,9 +1,8 @@
-use Rattle.std.proofs.Common.{◌≡◌, ◌∙◌, [], ◌∷◌}
-use Rattle.sqlite_value.specs.declared.value.Value.TheVariants.{Text}
+use Rattle.std.proofs.Common.{◌∙◌, [], ◌∷◌}
 use Rattle.sqlite.specs.Order.{column}
 use Rattle.sqlite.specs.Query.{Query}
 use Rattle.sqlite.specs.Held.{state}
-use Rattle.hotel_tables.specs.Values.{int, number_of, option_of, text_of}
+use Rattle.hotel_tables.specs.Values.{int, option_of}
 use Rattle.hotel_tables.specs.Books.{IsKept}
 use Rattle.hotel_tables.specs.LookUps.{Asks, AnswersFirst}
 use Rattle.hotel_tables.specs.Texts as text

@@ -1,11 +1,9 @@
-use Rattle.std.proofs.Common.{◌≡◌, ◌∙◌, [], ◌∷◌, IfOk}
+use Rattle.std.proofs.Common.{[], ◌∷◌, IfOk}
 use Rattle.std.proofs.lemmas.Result.{IfOk-weaker}
-use Rattle.sqlite_value.specs.declared.value.Value.TheVariants.{Text}
 use Rattle.sqlite.specs.Order.{column}
 use Rattle.sqlite.specs.Query.{Query}
 use Rattle.sqlite.specs.Held.{state}
 use Rattle.hotel_tables.specs.Values.{int, number_of}
-use Rattle.hotel_tables.specs.Columns.{stay_row_of}
 use Rattle.hotel_tables.specs.Books.{IsKept}
 use Rattle.hotel_tables.specs.LookUps.{Asks, AnswersAll}
 use Rattle.hotel_tables.specs.Texts as text

@@ -1,9 +1,7 @@
-use Rattle.std.proofs.Common.{◌≡◌, [], IfOk, refl}
+use Rattle.std.proofs.Common.{refl}
 use Rattle.std.proofs.lemmas.Result.{IfOk-weaker}
-use Rattle.sqlite.specs.Order.{column}
 use Rattle.keycard_rules.specs.declared.card.Card.{Card}
 use Rattle.sqlite.specs.Held.{state}
-use Rattle.hotel_tables.specs.Values.{number_of}
 use Rattle.hotel_tables.specs.Columns.{card_columns, card_of, card_written}
 use Rattle.hotel_tables.proofs.Statements.Selects as selects
 use Rattle.hotel_tables.proofs.Last.{last_finds}

@@ -1,11 +1,8 @@
-use Rattle.std.proofs.Common.{◌≡◌, ◌∙◌, ap, ap₂, sym}
+use Rattle.std.proofs.Common.{◌∙◌, ap, ap₂}
 use Rattle.std.specs.Prelude.{length}
-use Rattle.sqlite.specs.Held.{state}
 use Rattle.sqlite.specs.Effect.{Database}
-use Rattle.hotel_core.specs.declared.books.rows.NextNumbers.{NextNumbers}
 use Rattle.hotel_core.specs.Books.Lookups.{number_after}
 use Rattle.hotel_tables.specs.Tables.{rows_in}
-use Rattle.hotel_tables.specs.Books.{IsKept}
 use Rattle.hotel_tables.proofs.look_ups.next_numbers.Goals as goal
 
 pub returns-clause-keeps : goal.returns-clause-keeps

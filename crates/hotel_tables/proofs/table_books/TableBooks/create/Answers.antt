@@ -1,4 +1,4 @@
-use Rattle.std.proofs.Common.{◌≡◌, sym, subst, []}
+use Rattle.std.proofs.Common.{sym, subst, []}
 use Rattle.sqlite.specs.Held.{state}
 use Rattle.hotel_core.specs.Model.Rows.{Rows}
 use Rattle.hotel_tables.specs.Tables.{rows_in}
