@@ -1,0 +1,17 @@
+mod Answers
+mod Perm
+mod Refused
+mod Keys
+mod Found
+mod Keeps
+mod Looked
+mod Writing
+mod Makers
+mod Ordered
+mod Keyed
+mod Finds
+mod Lists
+mod Last
+mod NewDesk
+mod EmptyDesk
+mod Statements

@@ -1,0 +1,16 @@
+use Rattle.std.proofs.Common.{sym, subst, []}
+use Rattle.sqlite.specs.Held.{state}
+use Rattle.hotel_core.specs.Model.Rows.{Rows}
+use Rattle.hotel_tables.specs.Tables.{rows_in}
+use Rattle.hotel_tables.specs.TableBooks.{IsCounted}
+use Rattle.hotel_tables.proofs.EmptyDesk.{empty_counted}
+use Rattle.hotel_tables.proofs.table_books.TableBooks.create.Goals as goal
+
+pub invariant_of-result : goal.invariant_of-result
+invariant_of-result g c = record {
+  books = c.in_default.ensures.books;
+  counted = λ kept.
+      let rows : Rows = rows_in (state g.S.Store c.make_desk.new.conn).now.trees in
+      let none = empty_counted rows (c.in_default.ensures.made kept).no_rows_are in
+      subst (λ kinds. IsCounted kinds c.empty-2.result rows) (sym c.empty.ensures) (subst (λ nights. IsCounted [] nights rows) (sym c.empty-2.ensures) none);
+}

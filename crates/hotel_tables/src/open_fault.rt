@@ -1,0 +1,11 @@
+//! Why books can't be had over a connection.
+/// Why a connection gives no books.
+#[derive(Clone, Copy, Debug, PartialEq, Eq)]
+pub enum OpenFault {
+    /// Memory was wanting.
+    Memory,
+    /// A call of the store failed.
+    Store,
+    /// The database isn't a desk's; or, for a new desk, it isn't empty.
+    NotADesk,
+}

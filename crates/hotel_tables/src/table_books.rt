@@ -1,0 +1,141 @@
+//! Books over tables.
+ghost use Rattle.std.specs.Prelude.{◌≡◌, ◌↔◌, IfOk, IfErr, Err, IsTrue, false, refl};
+ghost use Rattle.std.proofs.Common.{ap, ◌∙◌};
+ghost use Rattle.keycard_rules.specs.Rise.{HasRisen, NoFewer};
+ghost use Rattle.hotel_core.specs.Books.Lookups.{codes_in};
+ghost use Rattle.sqlite.specs.Held.{state};
+ghost use Rattle.sqlite.specs.State.{Survives};
+ghost use Rattle.hotel_core.specs.Model.Rows.{no_rows};
+ghost use Rattle.hotel_tables.specs.Schema.{no_schema};
+ghost use Rattle.hotel_tables.specs.Making.{IsEmptyDesk};
+ghost use Rattle.hotel_tables.specs.declared.open_fault.OpenFault.TheVariants.{NotADesk};
+ghost use Rattle.hotel_tables.specs.Books.{IsKept};
+ghost use Rattle.hotel_tables.specs.Tables.{rows_in};
+ghost use Rattle.hotel_tables.specs.TableBooks.{failed};
+
+use crate::create::make_desk;
+use crate::from_row::fault_of;
+use crate::look_ups;
+use crate::open_fault::OpenFault;
+use hotel_core::{KindRooms, NightIndex};
+use keycard_rules::{Code, Issued, LookFault};
+use sqlite::{Alter, Connection};
+use std::alloc::Global;
+use std::marker::Model;
+
+/// Books over the eight tables of a desk.
+///
+/// No rows are kept in memory: beside the connection stand only how many rooms each kind has and how many stays take each night.
+#[derive(Drop)]
+pub struct TableBooks<S: Alter> {
+    pub(crate) alloc: Global,
+    pub(crate) conn: Connection<S>,
+    pub(crate) kinds: KindRooms,
+    pub(crate) nights: NightIndex,
+    pub(crate) memory: u64,
+    pub(crate) store: u64,
+}
+
+impl<S: Alter> Model for TableBooks<S> {
+    ghost use Rattle.sqlite.specs.Held.{state};
+    ghost use Rattle.hotel_tables.specs.TableBooks.{Tabled, tabled_code, IsTabled};
+
+    ghost Value = { Tabled S };
+
+    ghost coded = { tabled_code S.code };
+
+    ghost view = { λ b. record { conn = b.conn; kinds = b.kinds; nights = b.nights; memory = b.memory; store = b.store } };
+
+    ghost invariant = { λ b. IsTabled (state S.Store b.conn) b.kinds b.nights };
+}
+
+/// Whether the database has no tables, indexes or views.
+fn is_bare<S: Alter>(conn: &Connection<S>) -> bool
+    ensures { IsTrue result ↔ ((state S.Store conn.now).now.schema ≡ no_schema) }
+{
+    let schema = conn.schema();
+    schema.tables.len() == 0 && schema.indexes.len() == 0 && schema.views.len() == 0
+}
+
+impl<S: Alter + Drop> TableBooks<S> {
+    /// Makes an empty desk of a database that has nothing, in one transaction.
+    ///
+    /// On a fault the connection is dropped, and the store holds what it held.
+    pub fn create(alloc: Global, mut conn: Connection<S>) -> Result<TableBooks<S>, OpenFault>
+        requires { (state S.Store conn).in_transaction ≡ false }
+        ensures empty { IfOk result (λ b. IsKept (state S.Store b.conn) → rows_in (state S.Store b.conn).now.trees ≡ no_rows) }
+        ensures unfailed { IfOk result (λ b. (b.memory ≡ 0) × (b.store ≡ 0)) }
+        ensures crash { IfOk result (λ b. Survives (state S.Store conn) (state S.Store b.conn) IsEmptyDesk) }
+        ensures not_bare { result ≡ Err NotADesk → ¬ ((state S.Store conn).now.schema ≡ no_schema) }
+    {
+        if !is_bare(&conn) {
+            return Err(OpenFault::NotADesk);
+        }
+        if let Err(error) = make_desk(&mut conn) {
+            return Err(match fault_of(error) {
+                LookFault::Memory => OpenFault::Memory,
+                LookFault::Store => OpenFault::Store,
+            });
+        }
+        Ok(TableBooks {
+            alloc,
+            conn,
+            kinds: KindRooms::empty(alloc),
+            nights: NightIndex::empty(alloc),
+            memory: 0,
+            store: 0,
+        })
+    }
+}
+
+impl<S: Alter> TableBooks<S> {
+    /// Counts a failure by its cause; a count stays at its greatest value.
+    pub(crate) fn count(&mut self, why: LookFault)
+        ensures conn { self.new.conn ≡ self.old.conn }
+        ensures counted { NoFewer (failed self.old) (failed self.new) }
+        ensures risen { HasRisen (failed self.old why) (failed self.new why) }
+    {
+        match why {
+            LookFault::Memory => self.memory = self.memory.saturating_add(1),
+            LookFault::Store => self.store = self.store.saturating_add(1),
+        }
+    }
+
+    /// What a call answered; a failure is counted by its cause.
+    pub(crate) fn counting<T>(&mut self, found: Result<T, LookFault>) -> Result<T, LookFault>
+        ensures same { result ≡ found }
+        ensures conn { self.new.conn ≡ self.old.conn }
+        ensures counted { NoFewer (failed self.old) (failed self.new) }
+        ensures risen { IfErr found (λ why. HasRisen (failed self.old why) (failed self.new why)) }
+    {
+        if let Err(why) = &found {
+            self.count(*why);
+        }
+        found
+    }
+}
+
+impl<S: Alter> Issued for TableBooks<S> {
+    ghost issued = { λ b. codes_in (rows_in (state S.Store b.conn).now.trees) };
+
+    ghost is_clean = { λ b. IsKept (state S.Store b.conn) };
+
+    ghost is_kept = { λ a b. rows_in (state S.Store b.conn).now.trees ≡ rows_in (state S.Store a.conn).now.trees };
+
+    ghost failures = { failed };
+
+    ghost never_fails = { ⊥ };
+
+    fn is_issued(&mut self, code: Code) -> Result<bool, LookFault> {
+        let issued = look_ups::is_issued(self.alloc, &mut self.conn, code);
+        self.counting(issued)
+    }
+
+    ghost never_store = { λ a never. absurd never };
+
+    ghost kept_refl = { λ a. refl };
+
+    ghost kept_trans = { λ a b c h k. k ∙ h };
+
+    ghost kept_issued = { λ a b h. ap codes_in h };
+}
