@@ -8,3 +8,4 @@ mod Writing
 mod Makers
 mod NewDesk
 mod Statements
+mod Stored

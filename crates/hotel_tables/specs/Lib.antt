@@ -6,3 +6,4 @@ pub mod Tables
 pub mod Books
 pub mod Making
 pub mod LookUps
+pub mod Steps

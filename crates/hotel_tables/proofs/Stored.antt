@@ -1,0 +1,5 @@
+-- What the writing statements make of the lists that the trees hold.
+pub mod Entries
+pub mod Desk
+pub mod Reads
+pub mod Inserts
