@@ -9,3 +9,4 @@ mod Makers
 mod NewDesk
 mod Statements
 mod Stored
+mod Ends

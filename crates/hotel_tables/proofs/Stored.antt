@@ -3,3 +3,4 @@ pub mod Entries
 pub mod Desk
 pub mod Reads
 pub mod Inserts
+pub mod Effects
