@@ -39,12 +39,14 @@ start_kept old start b clean is_open = (subst (λ (s : State). HasCleanDisk s) b
 -- the desk as it was, where a state has its committed rows
 restored : (old new : State) → IsDesk old → new.now ≡ old.committed → new.committed ≡ old.committed → IsDesk new × (new.now ≡ old.now)
 restored old new desk now committed =
-    let same : new.now ≡ old.now = now ∙ sym desk.settled in
-    (record {
-      schema = ap (λ (d : Database). d.schema) same ∙ desk.schema;
-      settled = now ∙ sym committed;
-      tables = subst (λ (d : Database). AreTables d.trees) (sym same) desk.tables;
-    }, same)
+    let same : new.now ≡ old.now = now ∙ sym desk.settled in (
+      record {
+        schema = ap (λ (d : Database). d.schema) same ∙ desk.schema;
+        settled = now ∙ sym committed;
+        tables = subst (λ (d : Database). AreTables d.trees) (sym same) desk.tables;
+      },
+      same,
+    )
 
 module _ (old start mid new : State) (make : Rows → Rows) (b : Begins old start) (did : Does start mid make) (one : Survives start mid (λ _. ⊥)) where
   mid_clean : Survives mid new (λ db. db ≡ mid.now.trees) → HasCleanDisk new → HasCleanDisk mid
@@ -73,17 +75,21 @@ module _ (old start mid new : State) (make : Rows → Rows) (b : Begins old star
       where
         start_rows : rows_in start.now.trees ≡ rows_in old.now.trees
         start_rows = ap (λ (s : State). rows_in s.now.trees) b.begun
+
         back : IsRolledBack mid new → IsDesk new × (new.now ≡ old.now)
         back undone =
             let done = undone.undone kept.1 in
             let same = committed_is (clean_mid kept) in
             restored old new (b.books.desk (was_kept (clean_mid kept))) (done.0 ∙ same) (done.1 ∙ same)
+
         go : (r : Result (Unit {0}) Error) → OnOk r (IsTrue mid.in_transaction × Shows mid new mid.now mid.now false × KeepsCounts mid new × (new.marks ≡ [])) → IfErr r (FailsToCommit mid new) → Ended r
         go (Ok u) h k =
             let did = all_steps (clean_mid kept) in
-            let now = h.1.now_is in
-            (record { schema = ap (λ (d : Database). d.schema) now ∙ did.mid.schema; settled = now ∙ sym h.1.committed_is; tables = subst (λ (d : Database). AreTables d.trees) (sym now) did.mid.tables },
-            ap (λ (d : Database). rows_in d.trees) now ∙ did.rows_are ∙ ap make start_rows, tt)
+            let now = h.1.now_is in (
+              record { schema = ap (λ (d : Database). d.schema) now ∙ did.mid.schema; settled = now ∙ sym h.1.committed_is; tables = subst (λ (d : Database). AreTables d.trees) (sym now) did.mid.tables },
+              ap (λ (d : Database). rows_in d.trees) now ∙ did.rows_are ∙ ap make start_rows,
+              tt,
+            )
         go (Err e) h (inl fails) = let it = back fails.3 in (it.0, tt, it.1)
         go (Err e) h (inr late) = absurd (true≢false (sym (all_steps (clean_mid kept)).mid.inside ∙ late.1))
 
@@ -104,5 +110,5 @@ module _ (old start mid new : State) (make : Rows → Rows) (b : Begins old star
         let start_rows : rows_in start.now.trees ≡ rows_in old.now.trees = ap (λ (s : State). rows_in s.now.trees) b.begun in
         let begin = survives_then old start mid (λ _. ⊥) (λ _. ⊥) (λ _. ⊥) (λ _ db none. none) (λ _ db none. none) zero one in
         survives_then old mid new (λ _. ⊥) (λ db. db ≡ mid.now.trees) (IsMadeOf make old.now.trees) (λ _ db none. absurd none) (λ clean db is.
-          let did = all_steps (mid_clean two clean) in
-          record { tables = subst AreTables (sym is) did.mid.tables; rows_are = ap rows_in is ∙ did.rows_are ∙ ap make start_rows }) begin two
+        let did = all_steps (mid_clean two clean) in
+        record { tables = subst AreTables (sym is) did.mid.tables; rows_are = ap rows_in is ∙ did.rows_are ∙ ap make start_rows }) begin two

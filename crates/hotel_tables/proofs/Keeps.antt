@@ -36,20 +36,24 @@ query_stays sql params old new (Err e) plain (inr h) =
 
 desk_stays : (old new : State) → Stays old new → IsDesk old → IsTrue new.is_open → IsDesk new × (new.now ≡ old.now)
 desk_stays old new (inl same) desk is_open =
-    let now = same.0.now_is in
-    (record {
-      schema = ap (λ (d : Database). d.schema) now ∙ desk.schema;
-      settled = now ∙ desk.settled ∙ sym same.0.committed_is;
-      tables = subst (λ (d : Database). AreTables d.trees) (sym now) desk.tables;
-    }, now)
+    let now = same.0.now_is in (
+      record {
+        schema = ap (λ (d : Database). d.schema) now ∙ desk.schema;
+        settled = now ∙ desk.settled ∙ sym same.0.committed_is;
+        tables = subst (λ (d : Database). AreTables d.trees) (sym now) desk.tables;
+      },
+      now,
+    )
 desk_stays old new (inr back) desk is_open =
     let undone = back.undone is_open in
-    let now : new.now ≡ old.now = undone.0 ∙ sym desk.settled in
-    (record {
-      schema = ap (λ (d : Database). d.schema) now ∙ desk.schema;
-      settled = undone.0 ∙ sym undone.1;
-      tables = subst (λ (d : Database). AreTables d.trees) (sym now) desk.tables;
-    }, now)
+    let now : new.now ≡ old.now = undone.0 ∙ sym desk.settled in (
+      record {
+        schema = ap (λ (d : Database). d.schema) now ∙ desk.schema;
+        settled = undone.0 ∙ sym undone.1;
+        tables = subst (λ (d : Database). AreTables d.trees) (sym now) desk.tables;
+      },
+      now,
+    )
 
 -- Whatever the text is, a connection that is open now was open.
 show_opened : (sql : List ℕ) (c : Compiled) (params : Row) (old new : State) (rows : List Row) (how : Option Returning) → ShowsRows old new sql c params rows how → IsTrue old.is_open

@@ -28,10 +28,11 @@ creates schema text t old new count maker has h =
     let same : made.table ≡ t = same_value (sym made.defined ∙ maker.defines) in
     let after : first.0.schema ≡ created schema t = made.is ∙ ap (λ s. created s made.table) has ∙ ap (created schema) same in
     let plain : lacks_sequence first.0.schema ≡ false = ap lacks_sequence after ∙ maker.uncounted in
-    let now : new.now ≡ first.0 = ap (λ (p : Tally × Database). p.1) (same_value all.2) ∙ same_value (rw plain at first.2) in
-    (ap (λ (d : Database). d.schema) now ∙ after,
-    ap (λ (d : Database). d.trees (next_tree schema)) now ∙ subst (λ s. first.0.trees (next_tree s) ≡ []) has made.empty,
-    subst (λ (d : Database). KeepsRows schema.tables old.now.trees d.trees) (sym now) (subst (λ (s : Schema). KeepsRows s.tables old.now.trees first.0.trees) has made.others))
+    let now : new.now ≡ first.0 = ap (λ (p : Tally × Database). p.1) (same_value all.2) ∙ same_value (rw plain at first.2) in (
+      ap (λ (d : Database). d.schema) now ∙ after,
+      ap (λ (d : Database). d.trees (next_tree schema)) now ∙ subst (λ s. first.0.trees (next_tree s) ≡ []) has made.empty,
+      subst (λ (d : Database). KeepsRows schema.tables old.now.trees d.trees) (sym now) (subst (λ (s : Schema). KeepsRows s.tables old.now.trees first.0.trees) has made.others),
+    )
 
 still_empty : (old new : Trees) (ts : List Table) (t : Table) → KeepsRows ts old new → AllByRecursion (λ (x : Table). old x.tree ≡ []) ts → new t.tree ≡ [] → AllByRecursion (λ (x : Table). new x.tree ≡ []) (ts ++ t ∷ [])
 still_empty old new [] t kept all none = (none, tt)

@@ -28,6 +28,7 @@ put_fresh new (r ∷ rs) fresh = go (λ rest. put_fresh new rs rest) (value_cmp 
   where
     more : is_eq (value_cmp (rowid r) (rowid new)) ≡ false → is_taken rs new ≡ false
     more other = rw other at fresh
+
     go : (is_taken rs new ≡ false → IsPermutation (put_row new rs) (new ∷ rs)) → (o : Ordering) → value_cmp (rowid r) (rowid new) ≡ o → IsPermutation (match_ordering o (r ∷ put_row new rs) (new ∷ rs) (new ∷ r ∷ rs)) (new ∷ r ∷ rs)
     go rest Less e = IsPermutation-trans _ _ _ (IsPermutation-cons r _ _ (rest (more (ap is_eq e)))) (IsPermutation-middle (r ∷ []) new rs)
     go rest Equal e = absurd (true≢false (let t = rw e at fresh in t))
@@ -53,9 +54,9 @@ module _ {X : Type 0} (cmp : X → X → Ordering) (total : IsTotalOrder cmp) wh
   all_inserted : (P : X → Type 0) (new : X) (xs : List X) → P new → AllByRecursion P xs → AllByRecursion P (insert_sorted cmp new xs)
   all_inserted P new [] h all = (h, tt)
   all_inserted P new (x ∷ xs) h all = elim (cases_Bool (is_gt (cmp new x))) [
-      | inl above ↦ rw above (all.0, all_inserted P new xs h all.1)
-      | inr other ↦ rw other (h, all)
-    ]
+    | inl above ↦ rw above (all.0, all_inserted P new xs h all.1)
+    | inr other ↦ rw other (h, all)
+  ]
 
   all_sorted : (P : X → Type 0) (xs : List X) → AllByRecursion P xs → AllByRecursion P (sort_by cmp xs)
   all_sorted P [] all = tt
@@ -89,10 +90,10 @@ module _ {X : Type 0} (cmp : X → X → Ordering) (total : IsTotalOrder cmp) wh
   pub apart_permuted : (xs ys : List X) → IsPermutation xs ys → HasNoTies cmp total xs → HasNoTies cmp total ys
   apart_permuted xs ys same =
       let all : Moves xs ys = along_permutation Moves
-        (λ zs. (IsPermutation-refl zs, λ h. h))
-        (λ z a b h. (IsPermutation-cons z a b h.0, λ apart. (every_shuffled (λ y. is_eq (cmp z y) ≡ false) a b h.0 apart.0, h.1 apart.1)))
-        (λ x y zs. (IsPermutation-middle (x ∷ []) y zs, λ apart. ((same_tie y x ∙ apart.0.0, apart.1.0), (apart.0.1, apart.1.1))))
-        (λ a b c p q. (IsPermutation-trans a b c p.0 q.0, λ apart. q.1 (p.1 apart))) xs ys same in
+      (λ zs. (IsPermutation-refl zs, λ h. h))
+      (λ z a b h. (IsPermutation-cons z a b h.0, λ apart. (every_shuffled (λ y. is_eq (cmp z y) ≡ false) a b h.0 apart.0, h.1 apart.1)))
+      (λ x y zs. (IsPermutation-middle (x ∷ []) y zs, λ apart. ((same_tie y x ∙ apart.0.0, apart.1.0), (apart.0.1, apart.1.1))))
+      (λ a b c p q. (IsPermutation-trans a b c p.0 q.0, λ apart. q.1 (p.1 apart))) xs ys same in
       all.1
 
   -- the sorted list does not either
@@ -103,8 +104,8 @@ module _ {X : Type 0} (cmp : X → X → Ordering) (total : IsTotalOrder cmp) wh
   pub sort_filtered : (q : X → Bool) (xs : List X) → HasNoTies cmp total xs → HasNoTies cmp total (filter q xs) → sort_by cmp (filter q xs) ≡ filter q (sort_by cmp xs)
   sort_filtered q xs apart left =
       sym (sorted_unique cmp total (sort_by cmp (filter q xs)) (filter q (sort_by cmp xs)) (sort_rises _ left)
-        (IsPermutation-trans _ _ _ (IsPermutation-sort_by cmp total (filter q xs)) (IsPermutation-filter q _ _ (IsPermutation-sym _ _ (IsPermutation-sort_by cmp total xs))))
-        (sorted_rises _ (ascending-filter _ q _ (sort_rises xs apart))))
+      (IsPermutation-trans _ _ _ (IsPermutation-sort_by cmp total (filter q xs)) (IsPermutation-filter q _ _ (IsPermutation-sym _ _ (IsPermutation-sort_by cmp total xs))))
+      (sorted_rises _ (ascending-filter _ q _ (sort_rises xs apart))))
 
   module _ (Good : Row → Type 0) (of : Row → X) where
     pub put_makes : (new : Row) (rows : List Row) → IsTableOf cmp Good of rows → Good new → is_taken rows new ≡ false → AllByRecursion (λ y. is_eq (cmp (of new) y) ≡ false) (map of rows)
@@ -118,9 +119,9 @@ module _ {X : Type 0} (cmp : X → X → Ordering) (total : IsTotalOrder cmp) wh
     pub filter_mapped : (p : Row → Bool) (q : X → Bool) (rows : List Row) → AllByRecursion (λ r. p r ≡ q (of r)) rows → map of (filter p rows) ≡ filter q (map of rows)
     filter_mapped p q [] all = refl
     filter_mapped p q (r ∷ rows) all = elim (cases_Bool (q (of r))) [
-        | inl is ↦ rw (all.0, is, filter_mapped p q rows all.1) refl
-        | inr other ↦ rw (all.0, other, filter_mapped p q rows all.1) refl
-      ]
+      | inl is ↦ rw (all.0, is, filter_mapped p q rows all.1) refl
+      | inr other ↦ rw (all.0, other, filter_mapped p q rows all.1) refl
+    ]
 
     pub filter_makes : (p : Row → Bool) (q : X → Bool) (rows : List Row) → IsTableOf cmp Good of rows → AllByRecursion (λ r. p r ≡ q (of r)) rows
         → IsTableOf cmp Good of (filter p rows) × (listed cmp of (filter p rows) ≡ filter q (listed cmp of rows))
@@ -138,32 +139,32 @@ others_stay : (p : Row → Bool) (r0 : Row) (rows : List Row) → AllByRecursion
     → filter (λ r. not (has_rowid (id_in (rowid r0)) r)) rows ≡ filter (λ r. not (p r)) rows
 others_stay p r0 [] apart keyed none = refl
 others_stay p r0 (r ∷ rows) apart keyed none = elim (cases_Bool (p r)) [
-    | inl is ↦ absurd (let e = rw is at none in cc)
-    | inr other ↦
+  | inl is ↦ absurd (let e = rw is at none in cc)
+  | inr other ↦
       let rest : filter p rows ≡ [] = rw other at none in
       let differs : is_eq (value_cmp (rowid r) (rowid r0)) ≡ false = same_tie value_cmp value_cmp_total (rowid r) (rowid r0) ∙ apart.0 in
       let id : has_rowid (id_in (rowid r0)) r ≡ false = ap (λ v. is_eq (value_cmp (rowid r) v)) (sym keyed) ∙ differs in
       rw (id, other) (ap (λ rs. r ∷ rs) (others_stay p r0 rows apart.1 keyed rest))
-  ]
+]
 
 pub gone_one : (p : Row → Bool) (r0 : Row) (rows : List Row) → AreApartIds rows → AllByRecursion HasId rows → filter p rows ≡ r0 ∷ []
     → without_rowid (id_in (rowid r0)) rows ≡ filter (λ r. not (p r)) rows
 gone_one p r0 [] apart keyed one = absurd cc
 gone_one p r0 (r ∷ rows) apart keyed one = elim (cases_Bool (p r)) [
-    | inl is ↦
+  | inl is ↦
       let both : r ∷ filter p rows ≡ r0 ∷ [] = rw is at one in
       let same : r ≡ r0 = cc in
       let none : filter p rows ≡ [] = cc in
       let mine : has_rowid (id_in (rowid r0)) r ≡ true = ap (λ v. is_eq (value_cmp (rowid r) v)) (subst (λ x. Int (id_in (rowid x)) ≡ rowid r) same (sym keyed.0)) ∙ ap is_eq (tied_itself value_cmp_total (rowid r)) in
       let first = subst (λ x. AllByRecursion (λ b. is_eq (value_cmp (rowid x) (rowid b)) ≡ false) rows) same apart.0 in
       rw (mine, is) (others_stay p r0 rows first (subst HasId same keyed.0) none)
-    | inr other ↦
+  | inr other ↦
       let rest : filter p rows ≡ r0 ∷ [] = rw other at one in
       let differs : is_eq (value_cmp (rowid r) (rowid r0)) ≡ false = found_of (λ b. is_eq (value_cmp (rowid r) (rowid b)) ≡ false) p rows r0 apart.0 rest in
       let key : HasId r0 = found_of HasId p rows r0 keyed.1 rest in
       let id : has_rowid (id_in (rowid r0)) r ≡ false = ap (λ v. is_eq (value_cmp (rowid r) v)) (sym key) ∙ differs in
       rw (id, other) (ap (λ rs. r ∷ rs) (gone_one p r0 rows apart.1 keyed.1 rest))
-  ]
+]
 
 pub apart_filtered : (p : Row → Bool) (rows : List Row) → AreApartIds rows → AreApartIds (filter p rows)
 apart_filtered p rows apart = ascending-filter _ p rows apart

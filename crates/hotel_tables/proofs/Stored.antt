@@ -4,3 +4,5 @@ pub mod Desk
 pub mod Reads
 pub mod Inserts
 pub mod Effects
+pub mod Sources
+pub mod Updates

@@ -11,10 +11,7 @@ use keycard_rules::Code;
 use sqlite::{Alter, Error, Transaction};
 
 /// Adds a room.
-pub(crate) fn insert_room<S: Alter>(
-    tx: &mut Transaction<'_, S>,
-    row: RoomRow,
-) -> Result<(), Error>
+pub(crate) fn insert_room<S: Alter>(tx: &mut Transaction<'_, S>, row: RoomRow) -> Result<(), Error>
     ensures same_reference { tx.new.conn.ghost_name ≡ tx.old.conn.ghost_name }
     ensures made { HasCleanDisk (state S.Store tx.new.conn.now) → OnOk result ((IsTrue (state S.Store tx.old.conn.now).is_open → IsMid (state S.Store tx.old.conn.now)) → Steps (state S.Store tx.old.conn.now) (state S.Store tx.new.conn.now) (room_added row)) }
     ensures kept { HasCleanDisk (state S.Store tx.new.conn.now) → KeepsCommit (state S.Store tx.old.conn.now) (state S.Store tx.new.conn.now) }

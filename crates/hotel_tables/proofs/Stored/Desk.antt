@@ -55,20 +55,22 @@ same_desk a b same was =
     let code : b 6 ≡ a 6 = same.1.1.1.1.0 in
     let card : b 8 ≡ a 8 = same.1.1.1.1.1.0 in
     let inside : b 9 ≡ a 9 = same.1.1.1.1.1.1.0 in
-    let note : b 11 ≡ a 11 = same.1.1.1.1.1.1.1.0 in
-    (record {
-      meta = subst AreMetas (sym meta) was.meta;
-      meta_row = (was.meta_row.0, ap (listed (by_key nat_cmp) (λ r. meta_of (meta_columns r))) meta ∙ was.meta_row.1);
-      kind = subst AreKinds (sym kind) was.kind;
-      room = subst AreRooms (sym room) was.room;
-      stay = subst AreStays (sym stay) was.stay;
-      code = subst AreCodes (sym code) was.code;
-      card = subst AreCards (sym card) was.card;
-      inside = subst AreInside (sym inside) was.inside;
-      inside_numbered = subst (AllByRecursion HasId) (sym inside) was.inside_numbered;
-      inside_ids = subst AreApartIds (sym inside) was.inside_ids;
-      note = subst AreNotes (sym note) was.note;
-    }, rw (meta, kind, room, stay, code, card, inside, note) refl)
+    let note : b 11 ≡ a 11 = same.1.1.1.1.1.1.1.0 in (
+      record {
+        meta = subst AreMetas (sym meta) was.meta;
+        meta_row = (was.meta_row.0, ap (listed (by_key nat_cmp) (λ r. meta_of (meta_columns r))) meta ∙ was.meta_row.1);
+        kind = subst AreKinds (sym kind) was.kind;
+        room = subst AreRooms (sym room) was.room;
+        stay = subst AreStays (sym stay) was.stay;
+        code = subst AreCodes (sym code) was.code;
+        card = subst AreCards (sym card) was.card;
+        inside = subst AreInside (sym inside) was.inside;
+        inside_numbered = subst (AllByRecursion HasId) (sym inside) was.inside_numbered;
+        inside_ids = subst AreApartIds (sym inside) was.inside_ids;
+        note = subst AreNotes (sym note) was.note;
+      },
+      rw (meta, kind, room, stay, code, card, inside, note) refl,
+    )
 
 -- ---- one table written
 

@@ -51,12 +51,12 @@ abbrev pub changed_at : {X : Type 0} → ℕ → (X → X) → List (ℕ × X) �
 changed_at k f [] = []
 changed_at k f (e ∷ es) = if e.0 == k then (e.0, f e.1) ∷ es else e ∷ changed_at k f es
 
-filter_passes : {A : Type 0} (p : A → Bool) (xs : List A) (x : A) → filter p xs ≡ x ∷ [] → p x ≡ true
+pub filter_passes : {A : Type 0} (p : A → Bool) (xs : List A) (x : A) → filter p xs ≡ x ∷ [] → p x ≡ true
 filter_passes p [] x is = absurd cc
 filter_passes p (y ∷ xs) x is = elim (cases_Bool (p y)) [
-    | inl at ↦ let same : y ≡ x = (let e = rw at at is in cc) in ap p (sym same) ∙ at
-    | inr other ↦ filter_passes p xs x (rw other at is)
-  ]
+  | inl at ↦ let same : y ≡ x = (let e = rw at at is in cc) in ap p (sym same) ∙ at
+  | inr other ↦ filter_passes p xs x (rw other at is)
+]
 
 none_left : {X : Type 0} (xs ys : List (ℕ × X)) (k : ℕ) → IsPermutation xs ys → filter (λ (e : ℕ × X). eqb e.0 k) ys ≡ [] → filter (λ (e : ℕ × X). eqb e.0 k) xs ≡ []
 none_left xs ys k same none = empty _ (subst (IsPermutation (filter (λ e. eqb e.0 k) xs)) none (IsPermutation-filter (λ e. eqb e.0 k) xs ys same))
@@ -71,9 +71,9 @@ one_left xs ys k e same one = one_permutation e _ (IsPermutation-sym _ _ (subst 
 none_changed : {X : Type 0} (k : ℕ) (f : X → X) (es : List (ℕ × X)) → filter (λ (e : ℕ × X). eqb e.0 k) es ≡ [] → changed_at k f es ≡ es
 none_changed k f [] none = refl
 none_changed k f (e ∷ es) none = elim (cases_Bool (eqb e.0 k)) [
-    | inl at ↦ absurd (let z = rw at at none in cc)
-    | inr other ↦ rw other (ap (λ rest. e ∷ rest) (none_changed k f es (rw other at none)))
-  ]
+  | inl at ↦ absurd (let z = rw at at none in cc)
+  | inr other ↦ rw other (ap (λ rest. e ∷ rest) (none_changed k f es (rw other at none)))
+]
 
 below_found : {X : Type 0} (low k : ℕ) (e : ℕ × X) (es : List (ℕ × X)) → AllByRecursion (λ (b : ℕ × X). low < b.0) es → filter (λ (e : ℕ × X). eqb e.0 k) es ≡ e ∷ [] → low < k
 below_found low k e es up one =
@@ -99,17 +99,17 @@ put_back : {X : Type 0} (k : ℕ) (f : X → X) (e : ℕ × X) (es : List (ℕ �
     → insert_entry nat_cmp (filter (λ (e : ℕ × X). not (eqb e.0 k)) es) k (f e.1) ≡ changed_at k f es
 put_back k f e [] up one = absurd cc
 put_back {X} k f e (a ∷ es) up one = elim (cases_Bool (eqb a.0 k)) [
-    | inl at ↦
+  | inl at ↦
       let same : a ≡ e = (let z = rw at at one in cc) in
       let number : a.0 ≡ k = grind (arith, nat_tests, at) in
       let over : AllByRecursion (λ (b : ℕ × X). k < b.0) es = subst (λ n. AllByRecursion (λ (b : ℕ × X). n < b.0) es) number up.0 in
       rw at (ap (λ rest. insert_entry nat_cmp rest k (f e.1)) (others_kept k es over) ∙ put_first k (f e.1) es over ∙ ap₂ (λ (n : ℕ) (b : ℕ × X). (n, f b.1) ∷ es) (sym number) (sym same))
-    | inr other ↦
+  | inr other ↦
       let later : filter (λ (e : ℕ × X). eqb e.0 k) es ≡ e ∷ [] = rw other at one in
       let low : a.0 < k = below_found a.0 k e es up.0 later in
       let over : nat_cmp k a.0 ≡ Greater = grind (arith, nat_tests, low) in
       rw (other, over) (ap (λ rest. a ∷ rest) (put_back k f e es up.1 later))
-  ]
+]
 
 -- ---- tables whose key is the number of the row
 
@@ -146,9 +146,9 @@ module _ {X : Type 0} (columns : Row → Row) (of : Row → ℕ × X) (written :
   not_kept : (k : ℕ) (new : Row) (rows : List Row) → rowid new ≡ int k → AllByRecursion (λ r. is_eq (value_cmp (rowid r) (rowid new)) ≡ false) (without_rowid (pos k) rows)
   not_kept k new [] is = tt
   not_kept k new (r ∷ rows) is = elim (cases_Bool (has_rowid (pos k) r)) [
-      | inl at ↦ rw at (not_kept k new rows is)
-      | inr other ↦ rw other (ap (λ v. is_eq (value_cmp (rowid r) v)) is ∙ other, not_kept k new rows is)
-    ]
+    | inl at ↦ rw at (not_kept k new rows is)
+    | inr other ↦ rw other (ap (λ v. is_eq (value_cmp (rowid r) v)) is ∙ other, not_kept k new rows is)
+  ]
 
   -- at most one row has the number
   none_after : (k : ℕ) (a : Row) (rows : List Row) → (read a).0 ≡ k → AllByRecursion (λ (y : ℕ × X). is_eq (nat_cmp (read a).0 y.0) ≡ false) (map read rows) → filter (λ r. eqb (read r).0 k) rows ≡ []
@@ -160,11 +160,11 @@ module _ {X : Type 0} (columns : Row → Row) (of : Row → ℕ × X) (written :
   pub few : (k : ℕ) (rows : List Row) → IsAscending (λ (a b : ℕ × X). is_eq (nat_cmp a.0 b.0) ≡ false) (map read rows) → (filter (λ r. eqb (read r).0 k) rows ≡ []) ⊎ ((r : Row) × (filter (λ r. eqb (read r).0 k) rows ≡ r ∷ []))
   few k [] apart = inl refl
   few k (r ∷ rows) apart = elim (cases_Bool (eqb (read r).0 k)) [
-      | inl is ↦
+    | inl is ↦
         let number : (read r).0 ≡ k = grind (arith, nat_tests, is) in
         inr (r, rw is (ap (λ rs. r ∷ rs) (none_after k r rows number apart.0)))
-      | inr other ↦ rw other (few k rows apart.1)
-    ]
+    | inr other ↦ rw other (few k rows apart.1)
+  ]
 
   rises : (rows : List Row) → IsTable cmp columns of written rows → IsAscending (λ (a b : ℕ × X). a.0 < b.0) (listed cmp read rows)
   rises rows was = ascending_weaker _ _ (λ a b less. above a.0 b.0 less) (listed cmp read rows) (sort_rises cmp total (map read rows) was.apart)
@@ -194,6 +194,7 @@ module _ {X : Type 0} (columns : Row → Row) (of : Row → ℕ × X) (written :
       let free : is_taken (without_rowid (pos k) rows) did.new ≡ false = any_from_none _ _ (not_kept k did.new rows did.id) in
       let put = insert_makes did.new k (f (read r).1) (without_rowid (pos k) rows) cut.0 did.good did.reads did.id free in
       let one : filter (λ (e : ℕ × X). eqb e.0 k) (map read rows) ≡ read r ∷ [] = sym (filter_mapped cmp total Good read (λ r. eqb (read r).0 k) (λ e. eqb e.0 k) rows (all_weaker Good _ (λ r h. refl) rows was.good)) ∙ ap (map read) did.found in
-      let sorted : filter (λ (e : ℕ × X). eqb e.0 k) (listed cmp read rows) ≡ read r ∷ [] = one_left (listed cmp read rows) (map read rows) k (read r) (IsPermutation-sort_by cmp total (map read rows)) one in
-      (subst (IsTable cmp columns of written) (sym did.after_is) put.0,
-      ap (listed cmp read) did.after_is ∙ put.1 ∙ ap (λ es. insert_entry nat_cmp es k (f (read r).1)) cut.1 ∙ put_back k f (read r) (listed cmp read rows) (rises rows was) sorted)
+      let sorted : filter (λ (e : ℕ × X). eqb e.0 k) (listed cmp read rows) ≡ read r ∷ [] = one_left (listed cmp read rows) (map read rows) k (read r) (IsPermutation-sort_by cmp total (map read rows)) one in (
+        subst (IsTable cmp columns of written) (sym did.after_is) put.0,
+        ap (listed cmp read) did.after_is ∙ put.1 ∙ ap (λ es. insert_entry nat_cmp es k (f (read r).1)) cut.1 ∙ put_back k f (read r) (listed cmp read rows) (rises rows was) sorted,
+      )

@@ -2,6 +2,7 @@
 use Rattle.std.proofs.Common.{◌≡◌, ◌==◌, refl, sym, ap, ap₂, ◌∙◌, List, [], ◌∷◌, ℕ, ℤ, true, false, Bool, Option, None, Some}
 use Rattle.sqlite_value.specs.declared.value.Value.TheVariants.{Null, Int, Text}
 use Rattle.sqlite.specs.Order.{Row, column}
+use Rattle.sqlite.specs.Values.{bound_value}
 use Rattle.keycard_rules.specs.declared.card.Card.{Card}
 use Rattle.keycard_rules.specs.declared.note.Act.{Act}
 use Rattle.keycard_rules.specs.declared.note.Act.TheVariants.{Entered, Left, Recoded}
@@ -19,6 +20,11 @@ use Rattle.hotel_tables.specs.Tables.{IsWrittenAs}
 maybe_reads : (o : Option ℕ) → option_of (maybe_int o) ≡ o
 maybe_reads None = refl
 maybe_reads (Some n) = refl
+
+-- a number that may be null is bound as it is
+pub bound_maybe : (o : Option ℕ) → bound_value (maybe_int o) ≡ maybe_int o
+bound_maybe None = refl
+bound_maybe (Some n) = refl
 
 bit_reads : (b : Bool) → (bit_of b == 1) ≡ b
 bit_reads true = refl
