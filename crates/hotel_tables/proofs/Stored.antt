@@ -6,3 +6,4 @@ pub mod Inserts
 pub mod Effects
 pub mod Sources
 pub mod Updates
+pub mod Moves

@@ -198,3 +198,12 @@ module _ {X : Type 0} (columns : Row → Row) (of : Row → ℕ × X) (written :
         subst (IsTable cmp columns of written) (sym did.after_is) put.0,
         ap (listed cmp read) did.after_is ∙ put.1 ∙ ap (λ es. insert_entry nat_cmp es k (f (read r).1)) cut.1 ∙ put_back k f (read r) (listed cmp read rows) (rises rows was) sorted,
       )
+
+-- ---- a table whose rows have a number of their own
+
+pub put_keyed : {X : Type 0} (cmp : X → X → Ordering) (total : IsTotalOrder cmp) (Good : Row → Type 0) (of : Row → X) (new : Row) (x : X) (rows : List Row) → IsTableOf cmp Good of rows → Good new → of new ≡ x → is_taken rows new ≡ false
+    → AllByRecursion (λ y. is_eq (cmp x y) ≡ false) (listed cmp of rows) → IsTableOf cmp Good of (put_row new rows) × (listed cmp of (put_row new rows) ≡ insert_sorted cmp x (listed cmp of rows))
+put_keyed cmp total Good of new x rows was good is fresh apart =
+    let keys = every_shuffled (λ y. is_eq (cmp x y) ≡ false) _ _ (IsPermutation-sort_by cmp total (map of rows)) apart in
+    let put = put_makes cmp total Good of new rows was good fresh (subst (λ z. AllByRecursion (λ y. is_eq (cmp z y) ≡ false) (map of rows)) (sym is) keys) in
+    (put.0, put.1 ∙ ap (λ z. insert_sorted cmp z (listed cmp of rows)) is)
