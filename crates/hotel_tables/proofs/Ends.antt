@@ -112,3 +112,7 @@ module _ (old start mid new : State) (make : Rows → Rows) (b : Begins old star
         survives_then old mid new (λ _. ⊥) (λ db. db ≡ mid.now.trees) (IsMadeOf make old.now.trees) (λ _ db none. absurd none) (λ clean db is.
         let did = all_steps (mid_clean two clean) in
         record { tables = subst AreTables (sym is) did.mid.tables; rows_are = ap rows_in is ∙ did.rows_are ∙ ap make start_rows }) begin two
+
+-- what was true of the rows as the change began is true as its transaction does
+pub fits_start : (old start : State) (P : Rows → Type 0) → Begins old start → (IsKept old → P (rows_in old.now.trees)) → HasCleanDisk start → IsTrue start.is_open → P (rows_in start.now.trees)
+fits_start old start P b fits clean is_open = subst (λ (s : State). P (rows_in s.now.trees)) (sym b.begun) (fits (start_kept old start b clean is_open))

@@ -65,10 +65,10 @@ pub(crate) fn dated<'a>(day: Day) -> ValueRef<'a>
 }
 
 /// The number of how a stay stands, as a parameter.
-pub(crate) fn standing<'a>(state: StayState) -> ValueRef<'a>
-    ensures { owned result ≡ int (state_number state) }
+pub(crate) fn standing<'a>(state: &StayState) -> ValueRef<'a>
+    ensures { owned result ≡ int (state_number state.now) }
 {
-    match state {
+    match *state {
         StayState::Booked => small(0),
         StayState::InHouse(_) => small(1),
         StayState::Done => small(2),
@@ -77,20 +77,20 @@ pub(crate) fn standing<'a>(state: StayState) -> ValueRef<'a>
 }
 
 /// The room of a stay in house as a parameter, or null.
-pub(crate) fn room_of<'a>(state: StayState) -> ValueRef<'a>
-    ensures { owned result ≡ maybe_int (room_of_state state) }
+pub(crate) fn room_of<'a>(state: &StayState) -> ValueRef<'a>
+    ensures { owned result ≡ maybe_int (room_of_state state.now) }
 {
-    match state {
+    match *state {
         StayState::InHouse(room) => numbered(room),
         _ => ValueRef::Null,
     }
 }
 
 /// The number of what happened, as a parameter.
-pub(crate) fn act_number<'a>(act: Act) -> ValueRef<'a>
-    ensures { owned result ≡ int (columns.act_number act) }
+pub(crate) fn act_number<'a>(act: &Act) -> ValueRef<'a>
+    ensures { owned result ≡ int (columns.act_number act.now) }
 {
-    match act {
+    match *act {
         Act::Entered { .. } => small(0),
         Act::Left { .. } => small(1),
         Act::Recoded { .. } => small(2),
@@ -98,10 +98,10 @@ pub(crate) fn act_number<'a>(act: Act) -> ValueRef<'a>
 }
 
 /// The card of what happened as a parameter, or null where staff recoded the lock.
-pub(crate) fn act_card<'a>(act: Act) -> ValueRef<'a>
-    ensures { owned result ≡ maybe_int (columns.act_card act) }
+pub(crate) fn act_card<'a>(act: &Act) -> ValueRef<'a>
+    ensures { owned result ≡ maybe_int (columns.act_card act.now) }
 {
-    match act {
+    match *act {
         Act::Entered { card, .. } => numbered(card),
         Act::Left { card, .. } => numbered(card),
         Act::Recoded { .. } => ValueRef::Null,
@@ -109,10 +109,10 @@ pub(crate) fn act_card<'a>(act: Act) -> ValueRef<'a>
 }
 
 /// The first code of what happened, as a parameter.
-pub(crate) fn act_first<'a>(act: Act) -> ValueRef<'a>
-    ensures { owned result ≡ int (columns.act_first act) }
+pub(crate) fn act_first<'a>(act: &Act) -> ValueRef<'a>
+    ensures { owned result ≡ int (columns.act_first act.now) }
 {
-    match act {
+    match *act {
         Act::Entered { link, .. } => coded(link.old_code),
         Act::Left { link, .. } => coded(link.old_code),
         Act::Recoded { from, .. } => coded(from),
@@ -120,10 +120,10 @@ pub(crate) fn act_first<'a>(act: Act) -> ValueRef<'a>
 }
 
 /// The second code of what happened, as a parameter.
-pub(crate) fn act_second<'a>(act: Act) -> ValueRef<'a>
-    ensures { owned result ≡ int (columns.act_second act) }
+pub(crate) fn act_second<'a>(act: &Act) -> ValueRef<'a>
+    ensures { owned result ≡ int (columns.act_second act.now) }
 {
-    match act {
+    match *act {
         Act::Entered { link, .. } => coded(link.new_code),
         Act::Left { link, .. } => coded(link.new_code),
         Act::Recoded { to, .. } => coded(to),

@@ -101,8 +101,8 @@ pub(crate) fn insert_stay<S: Alter>(tx: &mut Transaction<'_, S>, stay: &Stay) ->
             text(stay.kind.as_bytes()),
             dated(stay.arrive),
             dated(stay.depart),
-            standing(stay.state),
-            room_of(stay.state),
+            standing(&stay.state),
+            room_of(&stay.state),
         ],
     )?;
     Ok(())
@@ -143,10 +143,10 @@ pub(crate) fn insert_note<S: Alter>(
         &[
             numbered(note.room()),
             numbered(note.count()),
-            act_number(act),
-            act_card(act),
-            act_first(act),
-            act_second(act),
+            act_number(&act),
+            act_card(&act),
+            act_first(&act),
+            act_second(&act),
             small(u32::from(note.day())),
             small(note.second()),
         ],
@@ -222,7 +222,7 @@ pub(crate) fn set_state<S: Alter>(
 {
     tx.execute(
         UPDATE_STATE,
-        &[numbered(party), standing(state_now), room_of(state_now)],
+        &[numbered(party), standing(&state_now), room_of(&state_now)],
     )?;
     Ok(())
 }

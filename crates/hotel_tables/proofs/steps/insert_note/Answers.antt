@@ -19,6 +19,6 @@ returns-clause-made g c = λ clean mid.
     let new = state g.S.Store c.execute.new.self.conn.now in
     let is : c.execute.result ≡ Ok c.in_ok-execute.field-0 = search rules in
     let inside = ran_inside old.in_transaction _ _ _ _ is c.execute.ensures.ended in
-    let same : bound (c.numbered.result ∷ c.numbered-2.result ∷ c.act_number.result ∷ c.act_card.result ∷ c.act_first.result ∷ c.act_second.result ∷ c.small.result ∷ c.small-2.result ∷ []) ≡ note_params c.args.note.now = rw (c.numbered.ensures, c.numbered-2.ensures, c.act_number.ensures, c.act_card.ensures, c.act_first.ensures, c.act_second.ensures, c.small.ensures, c.small-2.ensures, c.room.ensures, c.count.ensures, c.act.ensures, c.from.ensures, c.day.ensures.same, c.second.ensures.same, bound_maybe (columns.act_card c.args.note.now.act)) refl in
+    let same : bound (c.numbered.result ∷ c.numbered-2.result ∷ c.act_number.result ∷ c.act_card.result ∷ c.act_first.result ∷ c.act_second.result ∷ c.small.result ∷ c.small-2.result ∷ []) ≡ note_params c.args.note.now = rw (c.numbered.ensures, c.numbered-2.ensures, c.act_number.ensures, c.act_card.ensures, c.act_first.ensures, c.act_second.ensures, c.small.ensures, c.small-2.ensures, c.room.ensures, c.count.ensures, c.act-act.ensures, c.from.ensures, c.day.ensures.same, c.second.ensures.same, bound_maybe (columns.act_card c.args.note.now.act)) refl in
     let runs : ExecutesInside 0 texts.insert_note (note_params c.args.note.now) old new (Ok c.in_ok-execute.field-0) = subst (λ ps. ExecutesInside 0 texts.insert_note ps old new (Ok c.in_ok-execute.field-0)) same (c.in_ok-execute.ensures.runs clean inside) in
     note_step old new c.args.note.now c.in_ok-execute.field-0 runs mid
