@@ -7,3 +7,4 @@ pub mod Effects
 pub mod Sources
 pub mod Updates
 pub mod Moves
+pub mod Issued

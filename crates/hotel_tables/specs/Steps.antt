@@ -9,11 +9,12 @@ use Rattle.keycard_rules.specs.declared.card.Card.{Card}
 use Rattle.keycard_rules.specs.Note.{Note}
 use Rattle.hotel_nights.specs.declared.stay.Stay.{Stay}
 use Rattle.hotel_nights.specs.declared.stay.StayState.{StayState}
+use Rattle.hotel_nights.specs.declared.stay.StayState.TheVariants as state
 use Rattle.hotel_core.specs.declared.books.rows.RoomRow.{RoomRow}
 use Rattle.hotel_core.specs.declared.books.rows.CodeRow.{CodeRow}
 use Rattle.hotel_core.specs.Model.Words.{pair_cmp}
 use Rattle.hotel_core.specs.Model.Stays.{in_state}
-use Rattle.hotel_core.specs.Books.Change.{room_changed, without_party}
+use Rattle.hotel_core.specs.Books.Change.{room_changed, without_party, left_by}
 use Rattle.sqlite.specs.Tree.{Trees}
 use Rattle.sqlite.specs.State.{State}
 use Rattle.hotel_core.specs.Model.Rows.{Rows}
@@ -81,3 +82,13 @@ stay_set party state rows = record rows { stays = in_state party state rows.stay
 
 abbrev pub inside_gone : ℕ → ℕ → Rows → Rows
 inside_gone room number rows = record rows { inside = remove_key (is_at (pair_cmp (room, number))) rows.inside }
+
+-- ---- the two halves of an issue
+
+-- a party leaves its room, if it has one, and a code is added
+abbrev pub code_given : Option ℕ → ℕ → CodeRow → Rows → Rows
+code_given leaves code at rows = code_added code at (record rows { rooms = left_by leaves rows.rooms })
+
+-- the room has so many codes and the card's party, whose stay is in that room
+abbrev pub card_given : Card → ℕ → ℕ → Rows → Rows
+card_given card room codes rows = stay_set card.party (state.InHouse room) (card_added card (room_issued room codes card.party rows))

@@ -3,6 +3,7 @@
 
 mod changes;
 mod from_row;
+mod issue;
 mod look;
 mod number;
 mod steps;
