@@ -15,3 +15,5 @@ mod Last
 mod NewDesk
 mod EmptyDesk
 mod Statements
+mod Stored
+mod Ends

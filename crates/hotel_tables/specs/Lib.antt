@@ -7,3 +7,4 @@ pub mod Books
 pub mod Making
 pub mod LookUps
 pub mod TableBooks
+pub mod Steps

@@ -1,12 +1,15 @@
 //! The desk's books over SQL tables: each look-up is one keyed statement, and no rows are kept in memory.
 #![tactic(auto)]
 
+mod changes;
 mod create;
 mod from_row;
+mod issue;
 mod look;
 mod look_ups;
 mod number;
 mod open_fault;
+mod steps;
 mod table_books;
 mod texts;
 

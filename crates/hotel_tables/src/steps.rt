@@ -1,0 +1,228 @@
+//! The statements of a transaction: each adds or changes one row.
+ghost use Rattle.std.specs.Prelude.{◌≡◌, IsTrue, OnOk, None, false};
+ghost use Rattle.sqlite.specs.Held.{state};
+ghost use Rattle.sqlite.specs.State.{HasCleanDisk, KeepsCommit, Survives};
+ghost use Rattle.hotel_core.specs.Model.Rows.{has_kind};
+ghost use Rattle.hotel_core.specs.Books.Lookups.{note_at};
+ghost use Rattle.hotel_tables.specs.Tables.{rows_in};
+ghost use Rattle.hotel_tables.specs.Steps.{IsMid, Steps, day_set, kind_added, room_added, code_added, stay_added, card_added, note_added, room_issued, room_left, room_noted, stay_set};
+
+use crate::number::{
+    act_card, act_first, act_number, act_second, bit, coded, dated, maybe, numbered, room_of,
+    small, standing, text,
+};
+use crate::texts::{
+    INSERT_CARD, INSERT_CODE, INSERT_KIND, INSERT_NOTE, INSERT_ROOM, INSERT_STAY, UPDATE_DAY,
+    UPDATE_ISSUED, UPDATE_NOTED, UPDATE_PARTY, UPDATE_STATE,
+};
+use hotel_core::{CodeRow, RoomRow};
+use hotel_nights::{Day, KindCode, Stay, StayState};
+use keycard_rules::{Card, Code, Count, LockNote, PartyNo, RoomNo};
+use sqlite::{Alter, Error, Transaction};
+
+/// Sets the day.
+pub(crate) fn set_day<S: Alter>(tx: &mut Transaction<'_, S>, day: Day) -> Result<(), Error>
+    ensures same_reference { tx.new.conn.ghost_name ≡ tx.old.conn.ghost_name }
+    ensures made { HasCleanDisk (state S.Store tx.new.conn.now) → OnOk result ((IsTrue (state S.Store tx.old.conn.now).is_open → IsMid (state S.Store tx.old.conn.now)) → Steps (state S.Store tx.old.conn.now) (state S.Store tx.new.conn.now) (day_set day)) }
+    ensures kept { HasCleanDisk (state S.Store tx.new.conn.now) → KeepsCommit (state S.Store tx.old.conn.now) (state S.Store tx.new.conn.now) }
+    ensures survives { Survives (state S.Store tx.old.conn.now) (state S.Store tx.new.conn.now) (λ _. ⊥) }
+{
+    tx.execute(UPDATE_DAY, &[small(1), dated(day)])?;
+    Ok(())
+}
+
+/// Adds a kind that isn't there.
+pub(crate) fn insert_kind<S: Alter>(
+    tx: &mut Transaction<'_, S>,
+    kind: &KindCode,
+) -> Result<(), Error>
+    ensures same_reference { tx.new.conn.ghost_name ≡ tx.old.conn.ghost_name }
+    ensures made { HasCleanDisk (state S.Store tx.new.conn.now) → OnOk result ((IsTrue (state S.Store tx.old.conn.now).is_open → IsMid (state S.Store tx.old.conn.now) × (has_kind (rows_in (state S.Store tx.old.conn.now).now.trees) kind.now ≡ false)) → Steps (state S.Store tx.old.conn.now) (state S.Store tx.new.conn.now) (kind_added kind.now)) }
+    ensures kept { HasCleanDisk (state S.Store tx.new.conn.now) → KeepsCommit (state S.Store tx.old.conn.now) (state S.Store tx.new.conn.now) }
+    ensures survives { Survives (state S.Store tx.old.conn.now) (state S.Store tx.new.conn.now) (λ _. ⊥) }
+{
+    tx.execute(INSERT_KIND, &[text(kind.as_bytes())])?;
+    Ok(())
+}
+
+/// Adds a room.
+pub(crate) fn insert_room<S: Alter>(tx: &mut Transaction<'_, S>, row: RoomRow) -> Result<(), Error>
+    ensures same_reference { tx.new.conn.ghost_name ≡ tx.old.conn.ghost_name }
+    ensures made { HasCleanDisk (state S.Store tx.new.conn.now) → OnOk result ((IsTrue (state S.Store tx.old.conn.now).is_open → IsMid (state S.Store tx.old.conn.now)) → Steps (state S.Store tx.old.conn.now) (state S.Store tx.new.conn.now) (room_added row)) }
+    ensures kept { HasCleanDisk (state S.Store tx.new.conn.now) → KeepsCommit (state S.Store tx.old.conn.now) (state S.Store tx.new.conn.now) }
+    ensures survives { Survives (state S.Store tx.old.conn.now) (state S.Store tx.new.conn.now) (λ _. ⊥) }
+{
+    let party = row.party;
+    tx.execute(
+        INSERT_ROOM,
+        &[
+            numbered(row.room),
+            text(row.kind.as_bytes()),
+            small(row.lock_place),
+            small(row.codes),
+            bit(row.secured),
+            maybe(party),
+            small(row.notes),
+        ],
+    )?;
+    Ok(())
+}
+
+/// Adds a code.
+pub(crate) fn insert_code<S: Alter>(
+    tx: &mut Transaction<'_, S>,
+    code: Code,
+    at: CodeRow,
+) -> Result<(), Error>
+    ensures same_reference { tx.new.conn.ghost_name ≡ tx.old.conn.ghost_name }
+    ensures made { HasCleanDisk (state S.Store tx.new.conn.now) → OnOk result ((IsTrue (state S.Store tx.old.conn.now).is_open → IsMid (state S.Store tx.old.conn.now)) → Steps (state S.Store tx.old.conn.now) (state S.Store tx.new.conn.now) (code_added code at)) }
+    ensures kept { HasCleanDisk (state S.Store tx.new.conn.now) → KeepsCommit (state S.Store tx.old.conn.now) (state S.Store tx.new.conn.now) }
+    ensures survives { Survives (state S.Store tx.old.conn.now) (state S.Store tx.new.conn.now) (λ _. ⊥) }
+{
+    tx.execute(
+        INSERT_CODE,
+        &[coded(code), numbered(at.room), small(at.place)],
+    )?;
+    Ok(())
+}
+
+/// Adds a stay.
+pub(crate) fn insert_stay<S: Alter>(tx: &mut Transaction<'_, S>, stay: &Stay) -> Result<(), Error>
+    ensures same_reference { tx.new.conn.ghost_name ≡ tx.old.conn.ghost_name }
+    ensures made { HasCleanDisk (state S.Store tx.new.conn.now) → OnOk result ((IsTrue (state S.Store tx.old.conn.now).is_open → IsMid (state S.Store tx.old.conn.now)) → Steps (state S.Store tx.old.conn.now) (state S.Store tx.new.conn.now) (stay_added stay.now)) }
+    ensures kept { HasCleanDisk (state S.Store tx.new.conn.now) → KeepsCommit (state S.Store tx.old.conn.now) (state S.Store tx.new.conn.now) }
+    ensures survives { Survives (state S.Store tx.old.conn.now) (state S.Store tx.new.conn.now) (λ _. ⊥) }
+{
+    tx.execute(
+        INSERT_STAY,
+        &[
+            numbered(stay.party),
+            text(stay.guest.text().as_bytes()),
+            text(stay.kind.as_bytes()),
+            dated(stay.arrive),
+            dated(stay.depart),
+            standing(&stay.state),
+            room_of(&stay.state),
+        ],
+    )?;
+    Ok(())
+}
+
+/// Adds a card.
+pub(crate) fn insert_card<S: Alter>(tx: &mut Transaction<'_, S>, card: Card) -> Result<(), Error>
+    ensures same_reference { tx.new.conn.ghost_name ≡ tx.old.conn.ghost_name }
+    ensures made { HasCleanDisk (state S.Store tx.new.conn.now) → OnOk result ((IsTrue (state S.Store tx.old.conn.now).is_open → IsMid (state S.Store tx.old.conn.now)) → Steps (state S.Store tx.old.conn.now) (state S.Store tx.new.conn.now) (card_added card)) }
+    ensures kept { HasCleanDisk (state S.Store tx.new.conn.now) → KeepsCommit (state S.Store tx.old.conn.now) (state S.Store tx.new.conn.now) }
+    ensures survives { Survives (state S.Store tx.old.conn.now) (state S.Store tx.new.conn.now) (λ _. ⊥) }
+{
+    tx.execute(
+        INSERT_CARD,
+        &[
+            numbered(card.number),
+            numbered(card.party),
+            coded(card.link.old_code),
+            coded(card.link.new_code),
+        ],
+    )?;
+    Ok(())
+}
+
+/// Adds a note of a count that isn't there.
+pub(crate) fn insert_note<S: Alter>(
+    tx: &mut Transaction<'_, S>,
+    note: &LockNote,
+) -> Result<(), Error>
+    ensures same_reference { tx.new.conn.ghost_name ≡ tx.old.conn.ghost_name }
+    ensures made { HasCleanDisk (state S.Store tx.new.conn.now) → OnOk result ((IsTrue (state S.Store tx.old.conn.now).is_open → IsMid (state S.Store tx.old.conn.now) × (note_at (rows_in (state S.Store tx.old.conn.now).now.trees) note.now.room note.now.count ≡ None)) → Steps (state S.Store tx.old.conn.now) (state S.Store tx.new.conn.now) (note_added note.now)) }
+    ensures kept { HasCleanDisk (state S.Store tx.new.conn.now) → KeepsCommit (state S.Store tx.old.conn.now) (state S.Store tx.new.conn.now) }
+    ensures survives { Survives (state S.Store tx.old.conn.now) (state S.Store tx.new.conn.now) (λ _. ⊥) }
+{
+    let act = note.act();
+    tx.execute(
+        INSERT_NOTE,
+        &[
+            numbered(note.room()),
+            numbered(note.count()),
+            act_number(&act),
+            act_card(&act),
+            act_first(&act),
+            act_second(&act),
+            small(u32::from(note.day())),
+            small(note.second()),
+        ],
+    )?;
+    Ok(())
+}
+
+/// Sets how many codes a room has, and its party; it is not secured.
+pub(crate) fn set_issued<S: Alter>(
+    tx: &mut Transaction<'_, S>,
+    room: RoomNo,
+    codes: u32,
+    party: PartyNo,
+) -> Result<(), Error>
+    ensures same_reference { tx.new.conn.ghost_name ≡ tx.old.conn.ghost_name }
+    ensures made { HasCleanDisk (state S.Store tx.new.conn.now) → OnOk result ((IsTrue (state S.Store tx.old.conn.now).is_open → IsMid (state S.Store tx.old.conn.now)) → Steps (state S.Store tx.old.conn.now) (state S.Store tx.new.conn.now) (room_issued room codes party)) }
+    ensures kept { HasCleanDisk (state S.Store tx.new.conn.now) → KeepsCommit (state S.Store tx.old.conn.now) (state S.Store tx.new.conn.now) }
+    ensures survives { Survives (state S.Store tx.old.conn.now) (state S.Store tx.new.conn.now) (λ _. ⊥) }
+{
+    tx.execute(
+        UPDATE_ISSUED,
+        &[numbered(room), small(codes), numbered(party)],
+    )?;
+    Ok(())
+}
+
+/// Leaves a room without a party.
+pub(crate) fn set_left<S: Alter>(tx: &mut Transaction<'_, S>, room: RoomNo) -> Result<(), Error>
+    ensures same_reference { tx.new.conn.ghost_name ≡ tx.old.conn.ghost_name }
+    ensures made { HasCleanDisk (state S.Store tx.new.conn.now) → OnOk result ((IsTrue (state S.Store tx.old.conn.now).is_open → IsMid (state S.Store tx.old.conn.now)) → Steps (state S.Store tx.old.conn.now) (state S.Store tx.new.conn.now) (room_left room)) }
+    ensures kept { HasCleanDisk (state S.Store tx.new.conn.now) → KeepsCommit (state S.Store tx.old.conn.now) (state S.Store tx.new.conn.now) }
+    ensures survives { Survives (state S.Store tx.old.conn.now) (state S.Store tx.new.conn.now) (λ _. ⊥) }
+{
+    tx.execute(UPDATE_PARTY, &[numbered(room)])?;
+    Ok(())
+}
+
+/// Sets the place of a room's lock, whether it is secured, and how many notes were taken.
+pub(crate) fn set_noted<S: Alter>(
+    tx: &mut Transaction<'_, S>,
+    room: RoomNo,
+    lock_place: u32,
+    secured: bool,
+    notes: Count,
+) -> Result<(), Error>
+    ensures same_reference { tx.new.conn.ghost_name ≡ tx.old.conn.ghost_name }
+    ensures made { HasCleanDisk (state S.Store tx.new.conn.now) → OnOk result ((IsTrue (state S.Store tx.old.conn.now).is_open → IsMid (state S.Store tx.old.conn.now)) → Steps (state S.Store tx.old.conn.now) (state S.Store tx.new.conn.now) (room_noted room lock_place secured notes)) }
+    ensures kept { HasCleanDisk (state S.Store tx.new.conn.now) → KeepsCommit (state S.Store tx.old.conn.now) (state S.Store tx.new.conn.now) }
+    ensures survives { Survives (state S.Store tx.old.conn.now) (state S.Store tx.new.conn.now) (λ _. ⊥) }
+{
+    tx.execute(
+        UPDATE_NOTED,
+        &[
+            numbered(room),
+            small(lock_place),
+            bit(secured),
+            numbered(notes),
+        ],
+    )?;
+    Ok(())
+}
+
+/// Sets how a stay stands.
+pub(crate) fn set_state<S: Alter>(
+    tx: &mut Transaction<'_, S>,
+    party: PartyNo,
+    state_now: StayState,
+) -> Result<(), Error>
+    ensures same_reference { tx.new.conn.ghost_name ≡ tx.old.conn.ghost_name }
+    ensures made { HasCleanDisk (state S.Store tx.new.conn.now) → OnOk result ((IsTrue (state S.Store tx.old.conn.now).is_open → IsMid (state S.Store tx.old.conn.now)) → Steps (state S.Store tx.old.conn.now) (state S.Store tx.new.conn.now) (stay_set party state_now)) }
+    ensures kept { HasCleanDisk (state S.Store tx.new.conn.now) → KeepsCommit (state S.Store tx.old.conn.now) (state S.Store tx.new.conn.now) }
+    ensures survives { Survives (state S.Store tx.old.conn.now) (state S.Store tx.new.conn.now) (λ _. ⊥) }
+{
+    tx.execute(
+        UPDATE_STATE,
+        &[numbered(party), standing(&state_now), room_of(&state_now)],
+    )?;
+    Ok(())
+}
