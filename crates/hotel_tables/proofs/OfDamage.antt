@@ -1,0 +1,4 @@
+pub mod Rising
+pub mod FoundKeys
+pub mod KindTexts
+pub mod RowsTogether

@@ -1,0 +1,5 @@
+pub mod Stored
+pub mod Keys
+pub mod Places
+pub mod Damage
+pub mod RowTests
