@@ -3,3 +3,5 @@ pub mod Keys
 pub mod Places
 pub mod Damage
 pub mod RowTests
+pub mod Placed
+pub mod NoteRuns

@@ -44,7 +44,7 @@ pub all_alike : {L : Type 0} (t u : L → Bool) (ls : List L) → ((l : L) → t
 all_alike t u [] e = refl
 all_alike t u (l ∷ ls) e = ap (λ b. b && list_all t ls) (e l) ∙ ap (λ b. u l && b) (all_alike t u ls e)
 
-and_more : (o a b : Bool) → ((o && a) && b) ≡ (o && (a && b))
+pub and_more : (o a b : Bool) → ((o && a) && b) ≡ (o && (a && b))
 and_more true a b = refl
 and_more false a b = refl
 

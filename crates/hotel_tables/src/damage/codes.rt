@@ -1,16 +1,22 @@
 //! The rules of the table of codes, and where links stand.
-ghost use Rattle.std.specs.Prelude.{◌≡◌, List, ℕ, map, is_some, ◌^◌, nat_lt};
+ghost use Rattle.std.specs.Prelude.{◌≡◌, List, ℕ, IfOk, map, is_some, ◌^◌, nat_lt};
 ghost use Rattle.std.specs.List.{list_all};
 ghost use Rattle.keycard_rules.specs.declared.card.Link.{Link};
 ghost use Rattle.hotel_core.specs.Model.Rows.{at_number};
 ghost use Rattle.hotel_core.specs.Model.SoundCards.{stands_at};
 ghost use Rattle.hotel_tables.specs.Stored.{number_of, rows_of, link_row, code_row};
+ghost use Rattle.hotel_tables.specs.Damage.{code_holds};
+ghost use Rattle.hotel_tables.specs.Placed.{PlacesOf};
 ghost use Rattle.hotel_tables.specs.Places.{AreOf};
 ghost use Rattle.hotel_tables.specs.RowTests.{code_fits, are_apart, comes_after, recoding_fits};
 
-use crate::damage::found::{Places, code_at, room_at};
-use crate::damage::numbers::number;
+use crate::damage::found::{Places, code_at, code_keys, room_at};
+use crate::damage::numbers::{number, rise};
+use crate::damage::placed::{Placed, rooms_have_places};
 use crate::stored::{CodeLine, Stored};
+use keycard_rules::Memory;
+use std::alloc::Global;
+use std::collections::BTreeMap;
 
 /// The codes end below this number.
 const CODES: u64 = 281_474_976_710_656;
@@ -87,4 +93,25 @@ pub(crate) fn stands_later(places: &Places, stored: &Stored, room: u64, from: u6
         return false;
     };
     comes_later(room, first, second)
+}
+
+/// Whether the rules of the table of codes hold, where the map has the codes by their places.
+pub(crate) fn codes_hold(
+    alloc: Global,
+    places: &Places,
+    stored: &Stored,
+    placed: &BTreeMap<u64, Placed>,
+) -> Result<bool, Memory>
+    requires places { AreOf places.now stored.now }
+    requires placed { PlacesOf placed.now.entries stored.now.codes.items }
+    ensures { IfOk result (λ hold. hold ≡ code_holds stored.now) }
+{
+    let keys = code_keys(alloc, &stored.codes)?;
+    if !rise(&keys) {
+        return Ok(false);
+    }
+    if !codes_fit(places, stored) {
+        return Ok(false);
+    }
+    Ok(rooms_have_places(placed, stored))
 }

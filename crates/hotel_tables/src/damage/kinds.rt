@@ -4,9 +4,9 @@ ghost use Rattle.std.specs.List.{list_all, list_any};
 ghost use Rattle.std.specs.Ordering.{nat_cmp, is_lt};
 ghost use Rattle.std.specs.Cmp.Lexicographic.{slice_cmp};
 ghost use Rattle.hotel_nights.specs.Kinds.{is_kind};
-ghost use Rattle.hotel_core.specs.Model.SoundRooms.{are_in_order};
-ghost use Rattle.hotel_tables.specs.Stored.{kind_text};
-ghost use Rattle.hotel_tables.specs.Damage.{meta_holds};
+ghost use Rattle.hotel_core.specs.Model.SoundRooms.{are_in_order, kinds_read};
+ghost use Rattle.hotel_tables.specs.Stored.{kind_text, rows_of};
+ghost use Rattle.hotel_tables.specs.Damage.{kind_holds, meta_holds};
 ghost use Rattle.hotel_tables.specs.RowTests.{KnowsKinds};
 
 use crate::damage::numbers::number_if;
@@ -72,4 +72,18 @@ pub(crate) fn has_kind(known: &BTreeMap<KindCode, u32>, text: &str) -> bool
         return false;
     };
     known.contains_key(&kind)
+}
+
+/// The kinds, where the rules of their table hold.
+pub(crate) fn kinds_hold(
+    alloc: Global,
+    stored: &Stored,
+) -> Result<Option<BTreeMap<KindCode, u32>>, Memory>
+    ensures { IfOk result (λ read. MatchOption read (kind_holds stored.now ≡ false)
+        (λ known. (kind_holds stored.now ≡ true) × (kinds_read (rows_of stored.now) ≡ true) × KnowsKinds known.entries (rows_of stored.now).kinds)) }
+{
+    if !kinds_rise(&stored.kinds) {
+        return Ok(None);
+    }
+    read_kinds(alloc, &stored.kinds)
 }
