@@ -4,3 +4,6 @@ pub mod KindTexts
 pub mod RowsTogether
 pub mod Placing
 pub mod NoteCounts
+pub mod Newest
+pub mod Links
+pub mod StaysTogether

@@ -5,3 +5,4 @@ pub mod Damage
 pub mod RowTests
 pub mod Placed
 pub mod NoteRuns
+pub mod Lasts

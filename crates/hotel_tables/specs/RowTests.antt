@@ -1,6 +1,7 @@
 -- What is tested of each row by itself.
 use Rattle.std.specs.Prelude.{ℕ, ◌≡◌, ◌+◌, ◌-◌, ◌^◌, Bool, true, false, List, Option, Some, None, ◌==◌, ◌&&◌, ◌||◌, not, nat_le, nat_lt, is_some, length, bytes_eq, string_bytes, option_map}
-use Rattle.std.specs.List.{list_any}
+use Rattle.std.specs.List.{list_all, list_any, count_by}
+use Rattle.hotel_nights.specs.FullNight.{takes}
 use Rattle.std.specs.Ordering.{nat_cmp}
 use Rattle.std.specs.Cmp.Lexicographic.{slice_cmp}
 use Rattle.std.specs.BTreeMap.{is_at}
@@ -14,13 +15,15 @@ use Rattle.hotel_core.specs.Model.Words.{said_of, is_that}
 use Rattle.hotel_core.specs.Model.Rows.{Rows, has_kind, at_number}
 use Rattle.hotel_core.specs.Model.Cases.{room_of_state}
 use Rattle.hotel_core.specs.Model.SoundRooms.{is_home_of, is_day, has_party}
-use Rattle.hotel_core.specs.Model.SoundCards.{are_neighbours, comes_later, code_is, room_is, card_is, stands_at, act_fits}
+use Rattle.hotel_core.specs.Model.SoundCards.{are_neighbours, comes_later, code_is, room_is, card_is, stands_at, act_fits, fits_inside, is_newest, has_newest}
 use Rattle.hotel_tables.specs.declared.stored.RoomLine.{RoomLine}
 use Rattle.hotel_tables.specs.declared.stored.StayLine.{StayLine}
 use Rattle.hotel_tables.specs.declared.stored.CodeLine.{CodeLine}
+use Rattle.hotel_tables.specs.declared.stored.CardLine.{CardLine}
+use Rattle.hotel_core.specs.Model.Notes.{same_link}
 use Rattle.hotel_tables.specs.declared.stored.NoteLine.{NoteLine}
 use Rattle.hotel_tables.specs.declared.stored.Stored.{Stored}
-use Rattle.hotel_tables.specs.Stored.{number_of, room_row, stay_row, note_row, rows_of}
+use Rattle.hotel_tables.specs.Stored.{number_of, room_row, stay_row, note_row, link_row, rows_of}
 use Rattle.hotel_tables.specs.Damage.{room_columns, stay_columns, note_columns}
 
 -- the map has the kinds
@@ -56,10 +59,22 @@ are_stay_days line =
 abbrev pub has_home : Rows → Stay → Bool
 has_home rows stay = said_of (room_of_state stay.state) true (has_party rows stay.party)
 
+abbrev pub has_line_home : Stored → StayLine → Bool
+has_line_home s line = has_home (rows_of s) (stay_row line)
+
 abbrev pub stay_fits : Stored → StayLine → Bool
 stay_fits s line =
     stay_columns line && is_guest (string_bytes line.guest) && has_kind (rows_of s) (string_bytes line.kind) && are_stay_days line
     && has_home (rows_of s) (stay_row line)
+
+abbrev pub is_line_of_kind : List ℕ → RoomLine → Bool
+is_line_of_kind kind line = bytes_eq (string_bytes line.kind) kind
+
+-- on the stay's first night, its kind isn't taken by more stays than it has rooms
+abbrev pub has_night : Stored → StayLine → Bool
+has_night s line =
+    nat_le (count_by (λ (stay : StayLine). takes (string_bytes line.kind) (number_of line.arrive) (stay_row stay)) s.stays.items)
+        (count_by (is_line_of_kind (string_bytes line.kind)) s.rooms.items)
 
 -- ---- code
 
@@ -81,17 +96,33 @@ recoding_fits rows room from to = code_is rows from (λ first. code_is rows to (
 abbrev pub card_fits : Rows → Card → Bool
 card_fits rows card = is_some (at_number rows.stays card.party) && code_is rows card.link.new_code (λ new. stands_at rows new.room card.link)
 
+-- the card and each other one of the same link have one party
+abbrev pub agree : CardLine → CardLine → Bool
+agree a b = not (same_link (link_row a) (link_row b)) || (number_of a.party == number_of b.party)
+
+abbrev pub agrees : Stored → CardLine → Bool
+agrees s line = list_all (agree line) s.cards.items
+
+-- the code is the first of its room, or a card brought it
+abbrev pub is_brought : Stored → CodeLine → Bool
+is_brought s line = (number_of line.place == 0) || list_any (λ (card : CardLine). number_of card.new_code == number_of line.code) s.cards.items
+
+-- a card of the room's newest link is of the party
+abbrev pub is_owned : Stored → RoomLine → ℕ → CardLine → Bool
+is_owned s line party card = not (is_newest (rows_of s) (number_of line.room) (link_row card)) || (number_of card.party == party)
+
+-- all cards of the room's newest link are of its party, where it has one
+abbrev pub has_owner : Stored → RoomLine → Bool
+has_owner s line = said_of (option_map number_of line.party) true (λ party. list_all (is_owned s line party) s.cards.items)
+
+-- the last card of a party in house has the newest link of its room
+abbrev pub has_last : Stored → StayLine → Bool
+has_last s line = said_of (room_of_state (stay_row line).state) true (has_newest (rows_of s) (number_of line.party))
+
 -- ---- inside
 
--- a card fits its room; the place of its new code tells whether its link is the newest
-abbrev pub is_passed_by : ℕ → RoomRow → Bool
-is_passed_by place row = nat_le place row.lock_place && (not row.secured || (place + 1 == row.codes))
-
-abbrev pub fits_by_place : Rows → ℕ → RoomRow → Card → Bool
-fits_by_place rows room row card = stands_at rows room card.link && code_is rows card.link.new_code (λ new. is_passed_by new.place row)
-
 abbrev pub inside_fits : Rows → ℕ × ℕ → Bool
-inside_fits rows e = room_is rows e.0 (λ row. card_is rows e.1 (fits_by_place rows e.0 row))
+inside_fits rows e = room_is rows e.0 (λ row. card_is rows e.1 (fits_inside rows e.0 row))
 
 -- ---- note
 

@@ -4,6 +4,8 @@ mod codes;
 mod found;
 mod insides;
 mod kinds;
+mod links;
+mod nights;
 mod note_runs;
 mod notes;
 mod numbers;

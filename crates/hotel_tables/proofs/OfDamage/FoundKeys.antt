@@ -1,8 +1,9 @@
 -- Where keys stand.
-use Rattle.std.proofs.Common.{◌≡◌, ◌≢◌, ℕ, suc, zero, ◌+◌, ◌-◌, ◌<◌, ◌≤◌, Bool, true, false, cond, ◌==◌, ◌++◌, List, [], ◌∷◌, map, length, take, drop, get_or, Option, Some, None, refl, sym, ap, subst, ◌∙◌, arith}
+use Rattle.std.proofs.Common.{◌≡◌, ◌≢◌, ℕ, suc, zero, ◌+◌, ◌-◌, ◌<◌, ◌≤◌, Bool, true, false, cond, ◌==◌, ◌&&◌, ◌++◌, List, [], ◌∷◌, map, length, take, drop, get_or, Option, Some, None, refl, sym, ap, subst, ◌∙◌, arith}
 use Rattle.std.specs.Prelude.{option_map, is_some}
 use Rattle.std.specs.Ordering.{nat_cmp}
 use Rattle.std.specs.BTreeMap.{insert_entry, is_at}
+use Rattle.std.specs.List.{list_all}
 use Rattle.std.proofs.lemmas.List.{take_more}
 use Rattle.hotel_core.specs.Model.Rows.{at_number}
 use Rattle.hotel_core.proofs.OfTables.Numbered.{at_inserted}
@@ -118,3 +119,35 @@ module _ {L X : Type 0} (key : L → ℕ) (row : L → X) where
   pub known_found : (places : List (ℕ × ℕ)) (ls : List L) (q : ℕ) → Finds places (map key ls) → is_some (at_number (map (λ l. (key l, row l)) ls) q) ≡ is_some (at_number places q)
   known_found places [] q is = sym (ap is_some (is q))
   known_found places (l ∷ ls) q is = ap is_some (row_found key row l (l ∷ ls) q) ∙ is_some_map (λ i. row (get_or (l ∷ ls) i l)) (place_in (map key (l ∷ ls)) q) ∙ sym (ap is_some (is q))
+
+key_by : (b : Bool) (ks : List ℕ) (k q i : ℕ) → (k == q) ≡ b → cond b (Some 0) (option_map suc (place_in ks q)) ≡ Some i → ((j : ℕ) → place_in ks q ≡ Some j → get_or ks j 0 ≡ q) → get_or (k ∷ ks) i 0 ≡ q
+key_by true ks k q i e f ih = let z : 0 ≡ i = cc in subst (λ n. get_or (k ∷ ks) n 0 ≡ q) z (eq_from k q e)
+key_by false ks k q i e f ih = later_key (place_in ks q) refl f
+  where
+    later_key : (o : Option ℕ) → place_in ks q ≡ o → option_map suc o ≡ Some i → get_or (k ∷ ks) i 0 ≡ q
+    later_key (Some j) g h = let z : suc j ≡ i = cc in subst (λ n. get_or (k ∷ ks) n 0 ≡ q) z (ih j g)
+    later_key None g h = absurd (let w : ◌≡◌ {A = Option ℕ} None (Some i) = h in cc)
+
+-- the key that is looked for stands there
+key_there : (ks : List ℕ) (q i : ℕ) → place_in ks q ≡ Some i → get_or ks i 0 ≡ q
+key_there [] q i e = absurd (let w : ◌≡◌ {A = Option ℕ} None (Some i) = e in cc)
+key_there (k ∷ ks) q i e = key_by (k == q) ks k q i refl e (λ j f. key_there ks q j f)
+
+key_of_line : {L : Type 0} (key : L → ℕ) (ls : List L) (i : ℕ) (d : L) → i < length ls → get_or (map key ls) i 0 ≡ key (get_or ls i d)
+key_of_line key [] i d low = absurd (omega (arith, low))
+key_of_line key (l ∷ ls) zero d low = refl
+key_of_line key (l ∷ ls) (suc i) d low = key_of_line key ls i d (omega (arith, low))
+
+module _ {L X : Type 0} (key : L → ℕ) (row : L → X) where
+  pub line_found : (places : List (ℕ × ℕ)) (ls : List L) (q i : ℕ) (d : L) → Finds places (map key ls) → at_number places q ≡ Some i → key (get_or ls i d) ≡ q
+  line_found places ls q i d is e = sym (key_of_line key ls i d (one_bound key row places ls q i is e)) ∙ key_there (map key ls) q i (sym (is q) ∙ e)
+
+both_parts : (a b : Bool) → (a && b) ≡ true → (a ≡ true) × (b ≡ true)
+both_parts true b h = (refl, h)
+both_parts false b h = absurd (let w : ◌≡◌ {A = Bool} false true = h in cc)
+
+-- what all lines pass, the line at an index passes
+pub passes_at : {L : Type 0} (t : L → Bool) (ls : List L) (i : ℕ) (d : L) → i < length ls → list_all t ls ≡ true → t (get_or ls i d) ≡ true
+passes_at t [] i d low all = absurd (omega (arith, low))
+passes_at t (l ∷ ls) zero d low all = (both_parts (t l) (list_all t ls) all).0
+passes_at t (l ∷ ls) (suc i) d low all = passes_at t ls i d (omega (arith, low)) (both_parts (t l) (list_all t ls) all).1

@@ -16,8 +16,11 @@ use Rattle.hotel_tables.specs.declared.stored.NoteLine.{NoteLine}
 use Rattle.hotel_tables.specs.declared.stored.RoomLine.{RoomLine}
 use Rattle.hotel_tables.specs.declared.stored.Stored.{Stored}
 use Rattle.hotel_tables.specs.Stored.{number_of, note_row, note_entry, room_entry, rows_of}
+use Rattle.hotel_tables.specs.Keys.{note_key}
+use Rattle.hotel_tables.specs.Damage.{note_columns, note_holds}
+use Rattle.hotel_tables.specs.RowTests.{note_line_fits}
 use Rattle.hotel_tables.specs.NoteRuns.{run_of, RunsOf, counted_as_due}
-use Rattle.hotel_tables.proofs.OfDamage.RowsTogether.{all_alike}
+use Rattle.hotel_tables.proofs.OfDamage.RowsTogether.{all_and, all_alike}
 
 -- what stands past the end of a list of notes
 abbrev pub no_note : NoteLine
@@ -82,3 +85,37 @@ counts_as_due s runs is =
         ap (λ n. count_up 1 (counts_at here) && (n == number_of line.notes)) (sym (length_counts here))
         ∙ due_as_counted (counts_at here) (number_of line.notes)
         ∙ ap (λ o. said_of o (number_of line.notes == 0) (λ run. run.counted && (run.first == 1) && (run.last == number_of line.notes))) (sym (is (number_of line.room))))
+
+swap_last : (o c n f t : Bool) → (c && f) ≡ t → (((o && c) && n) && f) ≡ ((o && t) && n)
+swap_last true true n true t e = let g : n && true ≡ n && true = refl in and_true_last n ∙ ap (λ z. z && n) e
+  where
+    and_true_last : (n : Bool) → (n && true) ≡ n
+    and_true_last true = refl
+    and_true_last false = refl
+swap_last true true n false t e = and_false_last n ∙ ap (λ z. z && n) e
+  where
+    and_false_last : (n : Bool) → (n && false) ≡ false
+    and_false_last true = refl
+    and_false_last false = refl
+swap_last true false n f t e = ap (λ z. z && n) e
+swap_last false c n f t e = refl
+
+line_fits : (c a b t x d s : Bool) → a ≡ true → b ≡ true → (c && (((((a && b) && t) && x) && d) && s)) ≡ ((((c && t) && x) && d) && s)
+line_fits true a b t x d s e f = ap (λ z. ((((z && b) && t) && x) && d) && s) e ∙ ap (λ z. (((z && t) && x) && d) && s) f
+line_fits false a b t x d s e f = refl
+
+-- the rules of notes are a test of each note, and one of each room
+pub notes_together : (s : Stored) → note_holds s ≡ (are_in_order pair_cmp (map note_key s.notes.items) && list_all (note_line_fits (rows_of s)) s.notes.items && notes_counted (rows_of s))
+notes_together s =
+    let lines = s.notes.items in
+    let rows = rows_of s in
+    ap (λ ks. are_in_order pair_cmp ks && list_all note_columns lines && notes_counted rows && notes_fit rows) (pair_keys_mapped lines)
+    ∙ swap_last (are_in_order pair_cmp (map note_key lines)) (list_all note_columns lines) (notes_counted rows) (notes_fit rows) (list_all (note_line_fits rows) lines)
+      (all_and note_columns (λ line. note_fits rows (note_entry line)) lines (notes_fit rows) (all_mapped (note_fits rows) note_entry lines)
+       ∙ all_alike _ (note_line_fits rows) lines (λ line.
+           line_fits (note_columns line) (number_of line.room == number_of line.room) (number_of line.n == number_of line.n) (is_some (at_number rows.rooms (number_of line.room)))
+               (act_fits rows (number_of line.room) (note_row line).act) (is_day (number_of line.day)) (nat_lt (number_of line.second) 86400) (eq_self (number_of line.room)) (eq_self (number_of line.n))))
+  where
+    pair_keys_mapped : (ls : List NoteLine) → keys_of (map note_entry ls) ≡ map note_key ls
+    pair_keys_mapped [] = refl
+    pair_keys_mapped (l ∷ ls) = ap (λ ks. note_key l ∷ ks) (pair_keys_mapped ls)

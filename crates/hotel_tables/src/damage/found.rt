@@ -1,13 +1,15 @@
 //! Rows found by their keys.
-ghost use Rattle.std.specs.Prelude.{◌≡◌, List, ℕ, IfOk, map, option_map, is_some};
+ghost use Rattle.std.specs.Prelude.{◌≡◌, List, ℕ, Bool, true, IfOk, IfSome, map, option_map, is_some};
+ghost use Rattle.std.specs.List.{list_all};
 ghost use Rattle.std.specs.Option.{option_copied};
 ghost use Rattle.hotel_core.specs.Model.Rows.{at_number};
-ghost use Rattle.hotel_tables.specs.Stored.{rows_of, room_row, stay_row, code_row, card_row};
-ghost use Rattle.hotel_tables.specs.Keys.{Finds, room_key, stay_key, code_key, card_key};
+ghost use Rattle.hotel_tables.specs.Stored.{number_of, rows_of, room_row, stay_row, code_row, card_row, inside_pair};
+ghost use Rattle.hotel_tables.specs.Keys.{Finds, room_key, stay_key, code_key, card_key, note_key};
 ghost use Rattle.hotel_tables.specs.Places.{AreOf};
+ghost use Rattle.hotel_tables.specs.declared.stored.RoomLine.{RoomLine};
 
 use crate::damage::numbers;
-use crate::stored::{CardLine, CodeLine, RoomLine, StayLine, Stored};
+use crate::stored::{CardLine, CodeLine, InsideLine, NoteLine, RoomLine, StayLine, Stored};
 use keycard_rules::Memory;
 use std::alloc::Global;
 use std::collections::BTreeMap;
@@ -80,6 +82,32 @@ pub(crate) fn card_keys(alloc: Global, cards: &[CardLine]) -> Result<Vec<u64>, M
     Ok(keys)
 }
 
+/// The rooms and cards of what is inside.
+pub(crate) fn inside_keys(alloc: Global, inside: &[InsideLine]) -> Result<Vec<(u64, u64)>, Memory>
+    ensures { IfOk result (λ keys. keys.items ≡ map inside_pair inside.now) }
+{
+    let mut keys = Vec::new(alloc);
+    for i in 0..inside.len() {
+        let Ok(()) = keys.push((numbers::number(inside[i].room), numbers::number(inside[i].card))) else {
+            return Err(Memory);
+        };
+    }
+    Ok(keys)
+}
+
+/// The rooms and counts of the notes.
+pub(crate) fn note_keys(alloc: Global, notes: &[NoteLine]) -> Result<Vec<(u64, u64)>, Memory>
+    ensures { IfOk result (λ keys. keys.items ≡ map note_key notes.now) }
+{
+    let mut keys = Vec::new(alloc);
+    for i in 0..notes.len() {
+        let Ok(()) = keys.push((numbers::number(notes[i].room), numbers::number(notes[i].n))) else {
+            return Err(Memory);
+        };
+    }
+    Ok(keys)
+}
+
 /// Where the rows with a number for a key stand.
 #[derive(Drop)]
 pub(crate) struct Places {
@@ -118,7 +146,9 @@ fn place_at(places: &BTreeMap<u64, usize>, key: u64) -> Option<usize>
 /// The room of a number.
 pub(crate) fn room_at<'a>(places: &Places, stored: &'a Stored, room: u64) -> Option<&'a RoomLine>
     requires { AreOf places.now stored.now }
-    ensures { option_map room_row (option_copied result) ≡ at_number (rows_of stored.now).rooms room }
+    ensures row { option_map room_row (option_copied result) ≡ at_number (rows_of stored.now).rooms room }
+    ensures key { IfSome result (λ line. number_of line.now.room ≡ room) }
+    ensures rules { IfSome result (λ line. (t : RoomLine → Bool) → list_all t stored.now.rooms.items ≡ true → t line.now ≡ true) }
 {
     let Some(place) = place_at(&places.rooms, room) else {
         return None;

@@ -1,18 +1,21 @@
 //! The rules of the table of lock notes.
-ghost use Rattle.std.specs.Prelude.{◌≡◌, ℕ, List, ◌&&◌, nat_lt};
+ghost use Rattle.std.specs.Prelude.{◌≡◌, ℕ, List, ◌&&◌, nat_lt, IfOk};
 ghost use Rattle.std.specs.List.{list_all};
 ghost use Rattle.keycard_rules.specs.declared.card.Link.{Link};
 ghost use Rattle.hotel_core.specs.Model.SoundCards.{act_fits, has_link_at};
 ghost use Rattle.hotel_core.specs.Model.SoundRooms.{is_day};
-ghost use Rattle.hotel_tables.specs.Damage.{note_columns};
+ghost use Rattle.hotel_tables.specs.Damage.{note_columns, note_holds};
 ghost use Rattle.hotel_tables.specs.Stored.{rows_of, number_of, note_row};
 ghost use Rattle.hotel_tables.specs.Places.{AreOf};
 ghost use Rattle.hotel_tables.specs.RowTests.{note_line_fits};
 
 use crate::damage::codes::{stands_at, stands_later};
-use crate::damage::found::{Places, card_at, room_at};
-use crate::damage::numbers::{number, number_if};
+use crate::damage::found::{Places, card_at, note_keys, room_at};
+use crate::damage::note_runs::{rooms_have_counts, runs_of};
+use crate::damage::numbers::{number, number_if, rise_in_pairs};
 use crate::stored::{NoteLine, Stored};
+use keycard_rules::Memory;
+use std::alloc::Global;
 
 /// Whether the card of the number has this link, which stands at the room.
 fn has_link_at(places: &Places, stored: &Stored, room: u64, named: u64, old: u64, new: u64) -> bool
@@ -91,4 +94,20 @@ pub(crate) fn notes_fit(places: &Places, stored: &Stored) -> bool
         }
     }
     true
+}
+
+/// Whether the rules of the table of notes hold.
+pub(crate) fn notes_hold(alloc: Global, places: &Places, stored: &Stored) -> Result<bool, Memory>
+    requires { AreOf places.now stored.now }
+    ensures { IfOk result (λ hold. hold ≡ note_holds stored.now) }
+{
+    let keys = note_keys(alloc, &stored.notes)?;
+    if !rise_in_pairs(&keys) {
+        return Ok(false);
+    }
+    let runs = runs_of(alloc, &stored.notes)?;
+    if !notes_fit(places, stored) {
+        return Ok(false);
+    }
+    Ok(rooms_have_counts(&runs, stored))
 }

@@ -3,6 +3,7 @@ ghost use Rattle.std.specs.Prelude.{◌≡◌, option_map, List, ℕ};
 ghost use Rattle.std.specs.Ordering.{nat_cmp, is_lt};
 ghost use Rattle.hotel_core.specs.Model.Words.{pair_cmp};
 ghost use Rattle.hotel_core.specs.Model.SoundRooms.{are_in_order, count_up};
+ghost use Rattle.hotel_tables.specs.Keys.{are_numbered};
 ghost use Rattle.hotel_tables.specs.Stored.{number_of};
 
 /// A stored number; one below 0 is read as the greatest number, which no rule takes.
@@ -65,4 +66,17 @@ pub(crate) fn count_from_one(keys: &[u64]) -> bool
         }
     }
     true
+}
+
+/// Whether the keys are 1 and on, in order, at most 9,999,999.
+pub(crate) fn are_numbered(keys: &[u64]) -> bool
+    ensures { result ≡ are_numbered keys.now }
+{
+    if !rise(keys) {
+        return false;
+    }
+    if !count_from_one(keys) {
+        return false;
+    }
+    keys.len() <= 9_999_999
 }

@@ -1,16 +1,18 @@
 //! The codes of each room by their places.
-ghost use Rattle.std.specs.Prelude.{◌≡◌, ℕ, List, ◌&&◌, ◌==◌, ◌+◌, ◌-◌, ◌<◌, ◌^◌, IfOk, OnOk, None, length};
+ghost use Rattle.std.specs.Prelude.{◌≡◌, ℕ, List, ◌&&◌, ◌==◌, ◌+◌, ◌-◌, ◌<◌, ◌^◌, IfOk, OnOk, None, true, length};
 ghost use Rattle.std.specs.List.{list_all};
 ghost use Rattle.std.specs.Prelude.{if◌then◌else◌};
 ghost use Rattle.std.specs.Ordering.{nat_cmp};
 ghost use Rattle.std.specs.BTreeMap.{insert_entry};
 ghost use Rattle.std.specs.Map.{keys_of, values_of};
 ghost use Rattle.hotel_nights.specs.Block.{one_if};
-ghost use Rattle.hotel_core.specs.Model.Words.{when};
+ghost use Rattle.hotel_core.specs.Model.Words.{when, is_that};
 ghost use Rattle.hotel_core.specs.Model.Rows.{at_number};
+ghost use Rattle.keycard_rules.specs.declared.card.Link.{Link};
+ghost use Rattle.hotel_core.specs.Model.SoundCards.{is_newest};
 ghost use Rattle.hotel_core.specs.Model.SoundRooms.{count_up};
-ghost use Rattle.hotel_tables.specs.Stored.{number_of};
-ghost use Rattle.hotel_tables.specs.Placed.{places_in, listed_in, PlacesOf, placed_as_due};
+ghost use Rattle.hotel_tables.specs.Stored.{number_of, rows_of};
+ghost use Rattle.hotel_tables.specs.Placed.{places_in, listed_in, PlacesOf, placed_as_due, are_due_at, is_last_link};
 
 use crate::damage::numbers::number;
 use crate::stored::{CodeLine, RoomLine, Stored};
@@ -132,4 +134,53 @@ pub(crate) fn rooms_have_places(placed: &BTreeMap<u64, Placed>, stored: &Stored)
         }
     }
     true
+}
+
+fn is_at_place(placed: &BTreeMap<u64, Placed>, room: u64, place: u64, code: u64) -> bool
+    ensures { result ≡ is_that (at_number (places_in placed.now.entries room) place) code }
+{
+    let Some(found) = placed.get(&room) else {
+        return false;
+    };
+    let Some(there) = found.by_place.get(&place).copied() else {
+        return false;
+    };
+    there == code
+}
+
+/// Whether a link is the newest of a room with so many codes.
+fn is_newest_in(
+    placed: &BTreeMap<u64, Placed>,
+    room: u64,
+    codes: u64,
+    old: u64,
+    new: u64,
+) -> bool
+    requires { are_due_at placed.now.entries room codes ≡ true }
+    ensures { result ≡ is_last_link placed.now.entries room (record { old_code = old; new_code = new }) }
+{
+    if codes < 2 {
+        return false;
+    }
+    if !is_at_place(placed, room, codes - 2, old) {
+        return false;
+    }
+    is_at_place(placed, room, codes - 1, new)
+}
+
+/// Whether a link is the newest of a room, whose codes are at the places that its row says.
+pub(crate) fn is_newest(
+    placed: &BTreeMap<u64, Placed>,
+    stored: &Stored,
+    room: &RoomLine,
+    old: u64,
+    new: u64,
+) -> bool
+    requires placed { PlacesOf placed.now.entries stored.now.codes.items }
+    requires due { placed_as_due placed.now.entries room.now ≡ true }
+    ensures { result ≡ is_newest (rows_of stored.now) (number_of room.now.room) (record { old_code = old; new_code = new }) }
+{
+    let named = number(room.room);
+    let codes = number(room.codes);
+    is_newest_in(placed, named, codes, old, new)
 }

@@ -4,13 +4,14 @@ ghost use Rattle.std.specs.List.{list_all};
 ghost use Rattle.hotel_nights.specs.Guests.{is_guest};
 ghost use Rattle.hotel_core.specs.Model.SoundRooms.{kinds_read};
 ghost use Rattle.hotel_tables.specs.Stored.{number_of, rows_of, stay_row};
-ghost use Rattle.hotel_tables.specs.Damage.{stay_columns};
+ghost use Rattle.hotel_tables.specs.Damage.{stay_columns, stay_holds};
 ghost use Rattle.hotel_tables.specs.Places.{AreOf};
 ghost use Rattle.hotel_tables.specs.RowTests.{are_stay_days, has_home, stay_fits, KnowsKinds};
 
-use crate::damage::found::{Places, room_at};
+use crate::damage::found::{Places, room_at, stay_keys};
 use crate::damage::kinds::has_kind;
-use crate::damage::numbers::{number, number_if};
+use crate::damage::nights::nights_fit;
+use crate::damage::numbers::{are_numbered, number, number_if};
 use crate::damage::rooms::home_of;
 use crate::stored::{StayLine, Stored};
 use hotel_nights::{Guest, GuestFault, KindCode};
@@ -113,4 +114,27 @@ pub(crate) fn stays_fit(
         }
     }
     Ok(true)
+}
+
+/// Whether the rules of the table of stays hold, where those of the kinds do.
+pub(crate) fn stays_hold(
+    alloc: Global,
+    places: &Places,
+    stored: &Stored,
+    known: &BTreeMap<KindCode, u32>,
+) -> Result<bool, Memory>
+    requires places { AreOf places.now stored.now }
+    requires read { kinds_read (rows_of stored.now) ≡ true }
+    requires known { KnowsKinds known.now.entries (rows_of stored.now).kinds }
+    ensures { IfOk result (λ hold. hold ≡ stay_holds stored.now) }
+{
+    let keys = stay_keys(alloc, &stored.stays)?;
+    if !are_numbered(&keys) {
+        return Ok(false);
+    }
+    let fit = stays_fit(alloc, places, stored, known)?;
+    if !fit {
+        return Ok(false);
+    }
+    Ok(nights_fit(stored))
 }
