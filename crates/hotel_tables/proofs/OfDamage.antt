@@ -7,3 +7,5 @@ pub mod NoteCounts
 pub mod Newest
 pub mod Links
 pub mod StaysTogether
+pub mod CardsTogether
+pub mod Undamaged

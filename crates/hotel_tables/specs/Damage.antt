@@ -1,5 +1,5 @@
 -- The rules of each table, and the first table of which one fails.
-use Rattle.std.specs.Prelude.{ℕ, Bool, true, false, List, [], ◌∷◌, Option, Some, None, ◌==◌, ◌&&◌, not, nat_le, is_some, option_map, if◌then◌else◌}
+use Rattle.std.specs.Prelude.{ℕ, ◌≡◌, ◌↔◌, Bool, true, false, List, [], ◌∷◌, Option, Some, None, ◌==◌, ◌&&◌, not, nat_le, is_some, option_map, if◌then◌else◌}
 use Rattle.std.specs.List.{list_all}
 use Rattle.std.specs.Map.{keys_of}
 use Rattle.std.specs.Ordering.{nat_cmp}
@@ -7,6 +7,7 @@ use Rattle.std.specs.Cmp.Lexicographic.{slice_cmp}
 use Rattle.hotel_core.specs.Model.Words.{pair_cmp}
 use Rattle.hotel_core.specs.Model.SoundRooms.{are_in_order, day_in_range, day_before_kinds, kinds_read, room_numbers, lock_places, room_kinds_there, codes_few, note_counts, parties_in_house, secured_hold_last, stay_numbers, guests_read, stay_kinds_there, stay_days, stay_rooms, nights_fit}
 use Rattle.hotel_core.specs.Model.SoundCards.{codes_in_range, code_rooms_there, places_once, card_numbers, card_parties_there, links_are_neighbours, links_of_one_party, neighbours_are_links, newest_of_party, last_cards_newest, insides_fit, notes_fit, notes_counted}
+use Rattle.hotel_core.specs.Model.Sound.{IsSound}
 use Rattle.hotel_tables.specs.declared.stored.RoomLine.{RoomLine}
 use Rattle.hotel_tables.specs.declared.stored.StayLine.{StayLine}
 use Rattle.hotel_tables.specs.declared.stored.NoteLine.{NoteLine}
@@ -76,3 +77,11 @@ first_of_tables (t ∷ ts) s = if holds t s then first_of_tables ts s else Some 
 -- The first damaged table.
 abbrev pub first_damaged_of : Stored → Option TableName
 first_damaged_of = first_of_tables (table.Meta ∷ table.Kind ∷ table.Room ∷ table.Stay ∷ table.Code ∷ table.Card ∷ table.Inside ∷ table.Note ∷ [])
+
+-- what the rows of the books don't show: each column is of its range
+abbrev pub columns_fit : Stored → Bool
+columns_fit s = list_all room_columns s.rooms.items && list_all stay_columns s.stays.items && list_all note_columns s.notes.items
+
+-- No table is damaged exactly where the rows are sound and each column is of its range.
+abbrev pub UndamagedIsSound : Type 0
+UndamagedIsSound = (s : Stored) → (first_damaged_of s ≡ None) ↔ (IsSound (rows_of s) × (columns_fit s ≡ true))

@@ -119,6 +119,11 @@ has_owner s line = said_of (option_map number_of line.party) true (λ party. lis
 abbrev pub has_last : Stored → StayLine → Bool
 has_last s line = said_of (room_of_state (stay_row line).state) true (has_newest (rows_of s) (number_of line.party))
 
+-- the rules on links, each a test of each row
+abbrev pub links_hold : Stored → Bool
+links_hold s =
+    list_all (agrees s) s.cards.items && list_all (is_brought s) s.codes.items && list_all (has_owner s) s.rooms.items && list_all (has_last s) s.stays.items
+
 -- ---- inside
 
 abbrev pub inside_fits : Rows → ℕ × ℕ → Bool

@@ -73,3 +73,11 @@ codes_together s =
        ∙ ap (λ b. o && b) (
            ap (λ b. b && code_rooms_there rows) (all_mapped (λ code. nat_lt code (2 ^ 48)) code_key lines)
            ∙ all_and (λ line. nat_lt (number_of line.code) (2 ^ 48)) _ lines _ (all_mapped (λ (e : ℕ × CodeRow). is_some (at_number rows.rooms e.1.room)) code_entry lines)))
+
+parts : (a b : Bool) → (a && b) ≡ true → (a ≡ true) × (b ≡ true)
+parts true b h = (refl, h)
+parts false b h = absurd (let w : ◌≡◌ {A = Bool} false true = h in cc)
+
+-- where the rules of codes hold, the places of each room's codes are as due
+pub due_of_codes : (s : Stored) (placed : List (ℕ × Placed)) → PlacesOf placed s.codes.items → code_holds s ≡ true → list_all (placed_as_due placed) s.rooms.items ≡ true
+due_of_codes s placed is h = sym (places_as_due s placed is) ∙ (parts _ (places_once (rows_of s)) h).1
