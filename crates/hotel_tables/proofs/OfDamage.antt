@@ -9,3 +9,4 @@ pub mod Links
 pub mod StaysTogether
 pub mod CardsTogether
 pub mod Undamaged
+pub mod Owned

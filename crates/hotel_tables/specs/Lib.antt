@@ -6,3 +6,4 @@ pub mod RowTests
 pub mod Placed
 pub mod NoteRuns
 pub mod Lasts
+pub mod Owners

@@ -14,6 +14,7 @@ mod nights;
 mod note_runs;
 mod notes;
 mod numbers;
+mod owners;
 mod placed;
 mod rooms;
 mod stays;

@@ -10,9 +10,10 @@ ghost use Rattle.hotel_tables.specs.Placed.{PlacesOf, placed_as_due};
 use crate::damage::codes::stands_at;
 use crate::damage::found::{Places, card_keys, code_at, index_of, stay_at};
 use crate::damage::links::{
-    all_agree, all_brought, all_have_lasts, all_have_owners, brought_codes, lasts_of,
+    all_brought, all_have_lasts, all_have_owners, brought_codes, lasts_of,
 };
 use crate::damage::numbers::{are_numbered, number};
+use crate::damage::owners::{all_agree, owners_of};
 use crate::damage::placed::Placed;
 use crate::stored::{CardLine, Stored};
 use keycard_rules::Memory;
@@ -69,7 +70,8 @@ fn links_hold(
     let codes = brought_codes(alloc, &stored.cards)?;
     let brought = index_of(alloc, &codes)?;
     let lasts = lasts_of(alloc, &stored.cards)?;
-    if !all_agree(stored) {
+    let owners = owners_of(alloc, &stored.cards)?;
+    if !all_agree(&owners, stored) {
         return Ok(false);
     }
     if !all_brought(&brought, stored) {

@@ -9,7 +9,7 @@ ghost use Rattle.hotel_tables.specs.Lasts.{link_pair, LastsOf};
 ghost use Rattle.hotel_tables.specs.Keys.{Finds, new_code_of};
 ghost use Rattle.hotel_tables.specs.Places.{AreOf};
 ghost use Rattle.hotel_tables.specs.Placed.{PlacesOf, placed_as_due};
-ghost use Rattle.hotel_tables.specs.RowTests.{agree, agrees, is_brought, is_owned, has_owner, has_last, has_line_home};
+ghost use Rattle.hotel_tables.specs.RowTests.{is_brought, is_owned, has_owner, has_last, has_line_home};
 
 use crate::damage::found::{Places, room_at};
 use crate::damage::numbers::{number, number_if};
@@ -19,39 +19,6 @@ use crate::stored::{CardLine, CodeLine, RoomLine, StayLine, Stored};
 use keycard_rules::Memory;
 use std::alloc::Global;
 use std::collections::BTreeMap;
-
-/// Whether two cards have one party, if they have one link.
-fn agree(a: &CardLine, b: &CardLine) -> bool
-    ensures { result ≡ agree a.now b.now }
-{
-    if number(a.old_code) != number(b.old_code) || number(a.new_code) != number(b.new_code) {
-        return true;
-    }
-    number(a.party) == number(b.party)
-}
-
-fn agrees(stored: &Stored, card: &CardLine) -> bool
-    ensures { result ≡ agrees stored.now card.now }
-{
-    for i in 0..stored.cards.len() {
-        if !agree(card, &stored.cards[i]) {
-            return false;
-        }
-    }
-    true
-}
-
-/// Whether the cards of one link have one party.
-pub(crate) fn all_agree(stored: &Stored) -> bool
-    ensures { result ≡ list_all (agrees stored.now) stored.now.cards.items }
-{
-    for i in 0..stored.cards.len() {
-        if !agrees(stored, &stored.cards[i]) {
-            return false;
-        }
-    }
-    true
-}
 
 /// The codes that the cards brought.
 pub(crate) fn brought_codes(alloc: Global, cards: &[CardLine]) -> Result<Vec<u64>, Memory>
