@@ -17,3 +17,4 @@ mod EmptyDesk
 mod Statements
 mod Stored
 mod Ends
+pub mod OfDamage

@@ -8,3 +8,12 @@ pub mod Making
 pub mod LookUps
 pub mod TableBooks
 pub mod Steps
+pub mod Stored
+pub mod Keys
+pub mod Places
+pub mod Damage
+pub mod RowTests
+pub mod Placed
+pub mod NoteRuns
+pub mod Lasts
+pub mod Owners

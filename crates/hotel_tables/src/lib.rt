@@ -3,6 +3,7 @@
 
 mod changes;
 mod create;
+mod damage;
 mod from_row;
 mod issue;
 mod look;
@@ -10,8 +11,13 @@ mod look_ups;
 mod number;
 mod open_fault;
 mod steps;
+mod stored;
 mod table_books;
 mod texts;
 
+pub use damage::{first_damaged, undamaged_is_sound};
 pub use open_fault::OpenFault;
+pub use stored::{
+    CardLine, CodeLine, InsideLine, KindLine, NoteLine, RoomLine, StayLine, Stored, TableName,
+};
 pub use table_books::TableBooks;

@@ -1,0 +1,12 @@
+pub mod Rising
+pub mod FoundKeys
+pub mod KindTexts
+pub mod RowsTogether
+pub mod Placing
+pub mod NoteCounts
+pub mod Newest
+pub mod Links
+pub mod StaysTogether
+pub mod CardsTogether
+pub mod Undamaged
+pub mod Owned

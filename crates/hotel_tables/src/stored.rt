@@ -1,0 +1,99 @@
+//! The rows of the tables as plain data.
+
+/// The tables.
+#[derive(Clone, Copy, PartialEq, Eq, Debug)]
+pub enum TableName {
+    Meta,
+    Kind,
+    Room,
+    Stay,
+    Code,
+    Card,
+    Inside,
+    Note,
+}
+
+/// A row of the table of kinds.
+#[derive(Debug, Drop)]
+pub struct KindLine {
+    pub kind: String,
+}
+
+/// A row of the table of rooms.
+#[derive(Debug, Drop)]
+pub struct RoomLine {
+    pub room: i64,
+    pub kind: String,
+    pub lock_place: i64,
+    pub codes: i64,
+    pub secured: i64,
+    pub party: Option<i64>,
+    pub notes: i64,
+}
+
+/// A row of the table of stays.
+#[derive(Debug, Drop)]
+pub struct StayLine {
+    pub party: i64,
+    pub guest: String,
+    pub kind: String,
+    pub arrive: i64,
+    pub depart: i64,
+    /// 0 booked, 1 in house, 2 done, 3 cancelled.
+    pub state: i64,
+    pub room: Option<i64>,
+}
+
+/// A row of the table of codes.
+#[derive(Clone, Copy, Debug)]
+pub struct CodeLine {
+    pub code: i64,
+    pub room: i64,
+    pub place: i64,
+}
+
+/// A row of the table of cards.
+#[derive(Clone, Copy, Debug)]
+pub struct CardLine {
+    pub number: i64,
+    pub party: i64,
+    pub old_code: i64,
+    pub new_code: i64,
+}
+
+/// A row of the table of cards that are inside.
+#[derive(Clone, Copy, Debug)]
+pub struct InsideLine {
+    pub room: i64,
+    pub card: i64,
+}
+
+/// A row of the table of lock notes.
+#[derive(Clone, Copy, Debug)]
+pub struct NoteLine {
+    pub room: i64,
+    pub n: i64,
+    /// 0 entered, 1 left, 2 recoded.
+    pub act: i64,
+    pub card: Option<i64>,
+    pub first_code: i64,
+    pub second_code: i64,
+    pub day: i64,
+    pub second: i64,
+}
+
+/// The rows of the tables, each table in the order of its key.
+#[derive(Debug, Drop)]
+pub struct Stored {
+    /// The version of the tables, from meta's row.
+    pub version: i64,
+    /// The business day, from meta's row.
+    pub day: Option<i64>,
+    pub kinds: Vec<KindLine>,
+    pub rooms: Vec<RoomLine>,
+    pub stays: Vec<StayLine>,
+    pub codes: Vec<CodeLine>,
+    pub cards: Vec<CardLine>,
+    pub inside: Vec<InsideLine>,
+    pub notes: Vec<NoteLine>,
+}
