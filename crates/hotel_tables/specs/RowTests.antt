@@ -74,7 +74,7 @@ is_line_of_kind kind line = bytes_eq (string_bytes line.kind) kind
 abbrev pub has_night : Stored → StayLine → Bool
 has_night s line =
     nat_le (count_by (λ (stay : StayLine). takes (string_bytes line.kind) (number_of line.arrive) (stay_row stay)) s.stays.items)
-        (count_by (is_line_of_kind (string_bytes line.kind)) s.rooms.items)
+    (count_by (is_line_of_kind (string_bytes line.kind)) s.rooms.items)
 
 -- ---- code
 

@@ -49,8 +49,8 @@ owners_together : (s : Stored) → newest_of_party (rows_of s) ≡ list_all (has
 owners_together s =
     all_mapped (λ (e : ℕ × RoomRow). said_of e.1.party true (owns_newest (rows_of s) e.1.room)) room_entry s.rooms.items
     ∙ all_alike _ (has_owner s) s.rooms.items (λ line.
-        said_alike (option_map number_of line.party) true (owns_newest (rows_of s) (number_of line.room)) (λ party. list_all (is_owned s line party) s.cards.items)
-        (λ party. all_mapped (λ (e : ℕ × Card). not (is_newest (rows_of s) (number_of line.room) e.1.link) || (e.1.party == party)) card_entry s.cards.items))
+    said_alike (option_map number_of line.party) true (owns_newest (rows_of s) (number_of line.room)) (λ party. list_all (is_owned s line party) s.cards.items)
+    (λ party. all_mapped (λ (e : ℕ × Card). not (is_newest (rows_of s) (number_of line.room) e.1.link) || (e.1.party == party)) card_entry s.cards.items))
 
 lasts_together : (s : Stored) → last_cards_newest (rows_of s) ≡ list_all (has_last s) s.stays.items
 lasts_together s = all_mapped (λ (e : ℕ × Stay). said_of (room_of_state e.1.state) true (has_newest (rows_of s) e.1.party)) stay_entry s.stays.items
@@ -69,14 +69,14 @@ cards_together s =
     let o = are_numbered ks in
     let own = list_all (λ (e : ℕ × Card). e.1.number == e.0) rows.cards in
     ap (λ keys. are_in_order nat_cmp keys && (own && count_up 1 keys && nat_le (length rows.cards) 9999999) && card_parties_there rows && links_are_neighbours rows && links_of_one_party rows && neighbours_are_links rows && newest_of_party rows && last_cards_newest rows)
-        (keys_mapped card_key card_row lines)
+    (keys_mapped card_key card_row lines)
     ∙ ap (λ n. are_in_order nat_cmp ks && (own && count_up 1 ks && nat_le n 9999999) && card_parties_there rows && links_are_neighbours rows && links_of_one_party rows && neighbours_are_links rows && newest_of_party rows && last_cards_newest rows)
-        (length_mapped card_entry lines ∙ sym (length_mapped card_key lines))
+    (length_mapped card_entry lines ∙ sym (length_mapped card_key lines))
     ∙ ap (λ b. b && card_parties_there rows && links_are_neighbours rows && links_of_one_party rows && neighbours_are_links rows && newest_of_party rows && last_cards_newest rows)
-        (numbers_joined (are_in_order nat_cmp ks) own (count_up 1 ks) (nat_le (length ks) 9999999) (own_keys card_key card_row (λ (card : Card). card.number) (λ line. refl) lines))
+    (numbers_joined (are_in_order nat_cmp ks) own (count_up 1 ks) (nat_le (length ks) 9999999) (own_keys card_key card_row (λ (card : Card). card.number) (λ line. refl) lines))
     ∙ ap (λ b. b && links_of_one_party rows && neighbours_are_links rows && newest_of_party rows && last_cards_newest rows)
-        (left_and o card_entry (λ (e : ℕ × Card). code_is rows e.1.link.new_code (λ new. stands_at rows new.room e.1.link)) _ lines _
-        (ap (λ b. o && b) (all_mapped (λ (e : ℕ × Card). is_some (at_number rows.stays e.1.party)) card_entry lines)))
+    (left_and o card_entry (λ (e : ℕ × Card). code_is rows e.1.link.new_code (λ new. stands_at rows new.room e.1.link)) _ lines _
+    (ap (λ b. o && b) (all_mapped (λ (e : ℕ × Card). is_some (at_number rows.stays e.1.party)) card_entry lines)))
     ∙ ap (λ b. o && list_all (λ card. card_fits rows (card_row card)) lines && b && neighbours_are_links rows && newest_of_party rows && last_cards_newest rows) (agree_together s)
     ∙ ap (λ b. o && list_all (λ card. card_fits rows (card_row card)) lines && list_all (agrees s) lines && b && newest_of_party rows && last_cards_newest rows) (brought_together s)
     ∙ ap (λ b. o && list_all (λ card. card_fits rows (card_row card)) lines && list_all (agrees s) lines && list_all (is_brought s) s.codes.items && b && last_cards_newest rows) (owners_together s)

@@ -81,10 +81,10 @@ pub counts_as_due : (s : Stored) (runs : List (ℕ × NoteRun)) → RunsOf runs 
 counts_as_due s runs is =
     all_mapped (λ (e : ℕ × RoomRow). count_up 1 (counts_at (notes_at (map note_entry s.notes.items) e.1.room)) && (length (notes_at (map note_entry s.notes.items) e.1.room) == e.1.notes)) room_entry s.rooms.items
     ∙ all_alike _ (counted_as_due runs) s.rooms.items (λ line.
-        let here = notes_at (map note_entry s.notes.items) (number_of line.room) in
-        ap (λ n. count_up 1 (counts_at here) && (n == number_of line.notes)) (sym (length_counts here))
-        ∙ due_as_counted (counts_at here) (number_of line.notes)
-        ∙ ap (λ o. said_of o (number_of line.notes == 0) (λ run. run.counted && (run.first == 1) && (run.last == number_of line.notes))) (sym (is (number_of line.room))))
+    let here = notes_at (map note_entry s.notes.items) (number_of line.room) in
+    ap (λ n. count_up 1 (counts_at here) && (n == number_of line.notes)) (sym (length_counts here))
+    ∙ due_as_counted (counts_at here) (number_of line.notes)
+    ∙ ap (λ o. said_of o (number_of line.notes == 0) (λ run. run.counted && (run.first == 1) && (run.last == number_of line.notes))) (sym (is (number_of line.room))))
 
 swap_last : (o c n f t : Bool) → (c && f) ≡ t → (((o && c) && n) && f) ≡ ((o && t) && n)
 swap_last true true n true t e = let g : n && true ≡ n && true = refl in and_true_last n ∙ ap (λ z. z && n) e
@@ -111,10 +111,10 @@ notes_together s =
     let rows = rows_of s in
     ap (λ ks. are_in_order pair_cmp ks && list_all note_columns lines && notes_counted rows && notes_fit rows) (pair_keys_mapped lines)
     ∙ swap_last (are_in_order pair_cmp (map note_key lines)) (list_all note_columns lines) (notes_counted rows) (notes_fit rows) (list_all (note_line_fits rows) lines)
-      (all_and note_columns (λ line. note_fits rows (note_entry line)) lines (notes_fit rows) (all_mapped (note_fits rows) note_entry lines)
-       ∙ all_alike _ (note_line_fits rows) lines (λ line.
-           line_fits (note_columns line) (number_of line.room == number_of line.room) (number_of line.n == number_of line.n) (is_some (at_number rows.rooms (number_of line.room)))
-               (act_fits rows (number_of line.room) (note_row line).act) (is_day (number_of line.day)) (nat_lt (number_of line.second) 86400) (eq_self (number_of line.room)) (eq_self (number_of line.n))))
+    (all_and note_columns (λ line. note_fits rows (note_entry line)) lines (notes_fit rows) (all_mapped (note_fits rows) note_entry lines)
+    ∙ all_alike _ (note_line_fits rows) lines (λ line.
+    line_fits (note_columns line) (number_of line.room == number_of line.room) (number_of line.n == number_of line.n) (is_some (at_number rows.rooms (number_of line.room)))
+    (act_fits rows (number_of line.room) (note_row line).act) (is_day (number_of line.day)) (nat_lt (number_of line.second) 86400) (eq_self (number_of line.room)) (eq_self (number_of line.n))))
   where
     pair_keys_mapped : (ls : List NoteLine) → keys_of (map note_entry ls) ≡ map note_key ls
     pair_keys_mapped [] = refl

@@ -26,8 +26,8 @@ pub owners_more : (before after : List ((ℕ × ℕ) × ℕ)) (line : CardLine) 
 owners_more before after line lines is put old new =
     put (old, new)
     ∙ ap (λ b. cond b (Some (number_of line.party)) (lookup (is_at (pair_cmp (old, new))) before))
-        (pair_is (number_of line.old_code) (number_of line.new_code) (old, new)
-        ∙ ap₂ (λ a b. a && b) (eq_turned old (number_of line.old_code)) (eq_turned new (number_of line.new_code)))
+    (pair_is (number_of line.old_code) (number_of line.new_code) (old, new)
+    ∙ ap₂ (λ a b. a && b) (eq_turned old (number_of line.old_code)) (eq_turned new (number_of line.new_code)))
     ∙ ap (λ o. cond (same_link (link_row line) (record { old_code = old; new_code = new })) (Some (number_of line.party)) o) (is old new)
 
 links_equal : (a b : Link) → same_link a b ≡ true → a ≡ b
@@ -59,7 +59,7 @@ known [] = refl
 known (l ∷ ls) =
     let head : is_some (owner_in (l ∷ ls) (link_row l)) ≡ true = ap (λ b. is_some (cond b (Some (number_of l.party)) (owner_in ls (link_row l)))) (same_self (link_row l)) in
     let rest = all_weaker (λ c. is_some (owner_in ls (link_row c))) (λ c. is_some (owner_in (l ∷ ls) (link_row c)))
-        (λ c h. known_by (same_link (link_row l) (link_row c)) (number_of l.party) (owner_in ls (link_row c)) h) ls (known ls) in
+    (λ c h. known_by (same_link (link_row l) (link_row c)) (number_of l.party) (owner_in ls (link_row c)) h) ls (known ls) in
     ap (λ b. b && list_all (λ c. is_some (owner_in (l ∷ ls) (link_row c))) ls) head ∙ rest
 
 turned_link : (a b : Link) → same_link a b ≡ same_link b a
@@ -81,7 +81,7 @@ found_own c (l ∷ ls) all h =
 agree_own : (lines : List CardLine) → list_all (λ c. list_all (agree c) lines) lines ≡ true → list_all (is_own lines) lines ≡ true
 agree_own lines all =
     let both_all = sym (all_and (λ c. list_all (agree c) lines) (λ c. is_some (owner_in lines (link_row c))) lines (list_all (λ c. is_some (owner_in lines (link_row c))) lines) refl)
-        ∙ ap (λ b. b && list_all (λ c. is_some (owner_in lines (link_row c))) lines) all ∙ known lines in
+    ∙ ap (λ b. b && list_all (λ c. is_some (owner_in lines (link_row c))) lines) all ∙ known lines in
     all_weaker (λ c. list_all (agree c) lines && is_some (owner_in lines (link_row c))) (is_own lines)
     (λ c h. let p = and_true (list_all (agree c) lines) (is_some (owner_in lines (link_row c))) h in found_own c lines p.0 p.1) lines both_all
 

@@ -39,8 +39,8 @@ pub placed_first : (before after : List (ℕ × Placed)) (line : CodeLine) (line
 placed_first before after line lines is places listed r = (
   places r ∙ ap (λ es. when (number_of line.room == r) (λ es. insert_entry nat_cmp es (number_of line.place) (number_of line.code)) es) (is r).0,
   listed r ∙ ap (λ n. n + one_if (number_of line.room == r)) (is r).1
-  ∙ turned (count_by (λ (row : CodeRow). row.room == r) (values_of (map code_entry lines))) (one_if (number_of line.room == r))
-  ∙ sym (count_first (λ (row : CodeRow). row.room == r) (code_row line) (values_of (map code_entry lines))),
+      ∙ turned (count_by (λ (row : CodeRow). row.room == r) (values_of (map code_entry lines))) (one_if (number_of line.room == r))
+      ∙ sym (count_first (λ (row : CodeRow). row.room == r) (code_row line) (values_of (map code_entry lines))),
 )
 
 -- one element more of a list's end
@@ -55,11 +55,11 @@ at_back xs k d low =
 pub places_as_due : (s : Stored) (placed : List (ℕ × Placed)) → PlacesOf placed s.codes.items → places_once (rows_of s) ≡ list_all (placed_as_due placed) s.rooms.items
 places_as_due s placed is =
     all_mapped (λ (e : ℕ × RoomRow). count_up 0 (keys_of (codes_by_place (map code_entry s.codes.items) e.1.room)) && (length (values_of (codes_by_place (map code_entry s.codes.items) e.1.room)) == e.1.codes)
-        && (count_by (λ (row : CodeRow). row.room == e.1.room) (values_of (map code_entry s.codes.items)) == e.1.codes)) room_entry s.rooms.items
+    && (count_by (λ (row : CodeRow). row.room == e.1.room) (values_of (map code_entry s.codes.items)) == e.1.codes)) room_entry s.rooms.items
     ∙ all_alike _ (placed_as_due placed) s.rooms.items (λ line.
-        let r = number_of line.room in
-        ap (λ es. count_up 0 (keys_of es) && (length (values_of es) == number_of line.codes) && (count_by (λ (row : CodeRow). row.room == r) (values_of (map code_entry s.codes.items)) == number_of line.codes)) (sym (is r).0)
-        ∙ ap (λ n. count_up 0 (keys_of (places_in placed r)) && (length (values_of (places_in placed r)) == number_of line.codes) && (n == number_of line.codes)) (sym (is r).1))
+    let r = number_of line.room in
+    ap (λ es. count_up 0 (keys_of es) && (length (values_of es) == number_of line.codes) && (count_by (λ (row : CodeRow). row.room == r) (values_of (map code_entry s.codes.items)) == number_of line.codes)) (sym (is r).0)
+    ∙ ap (λ n. count_up 0 (keys_of (places_in placed r)) && (length (values_of (places_in placed r)) == number_of line.codes) && (n == number_of line.codes)) (sym (is r).1))
 
 -- the rules of codes are a test of each code, and one of each room
 pub codes_together : (s : Stored) → code_holds s ≡ (are_in_order nat_cmp (map code_key s.codes.items) && list_all (code_fits (rows_of s)) s.codes.items && places_once (rows_of s))
@@ -69,10 +69,10 @@ codes_together s =
     let o = are_in_order nat_cmp (map code_key lines) in
     ap (λ ks. are_in_order nat_cmp ks && list_all (λ code. nat_lt code (2 ^ 48)) ks && code_rooms_there rows && places_once rows) (keys_mapped code_key code_row lines)
     ∙ ap (λ b. b && places_once rows)
-      (and_more o (list_all (λ code. nat_lt code (2 ^ 48)) (map code_key lines)) (code_rooms_there rows)
-       ∙ ap (λ b. o && b) (
-           ap (λ b. b && code_rooms_there rows) (all_mapped (λ code. nat_lt code (2 ^ 48)) code_key lines)
-           ∙ all_and (λ line. nat_lt (number_of line.code) (2 ^ 48)) _ lines _ (all_mapped (λ (e : ℕ × CodeRow). is_some (at_number rows.rooms e.1.room)) code_entry lines)))
+    (and_more o (list_all (λ code. nat_lt code (2 ^ 48)) (map code_key lines)) (code_rooms_there rows)
+    ∙ ap (λ b. o && b) (
+    ap (λ b. b && code_rooms_there rows) (all_mapped (λ code. nat_lt code (2 ^ 48)) code_key lines)
+    ∙ all_and (λ line. nat_lt (number_of line.code) (2 ^ 48)) _ lines _ (all_mapped (λ (e : ℕ × CodeRow). is_some (at_number rows.rooms e.1.room)) code_entry lines)))
 
 parts : (a b : Bool) → (a && b) ≡ true → (a ≡ true) × (b ≡ true)
 parts true b h = (refl, h)

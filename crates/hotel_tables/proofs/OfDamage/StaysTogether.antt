@@ -54,9 +54,9 @@ nights_together : (s : Stored) → nights_fit (rows_of s) ≡ list_all (has_nigh
 nights_together s =
     all_mapped (λ (e : ℕ × Stay). nat_le (stays_on (rows_of s) e.1.kind e.1.arrive) (rooms_with (rows_of s) e.1.kind)) stay_entry s.stays.items
     ∙ all_alike _ (has_night s) s.stays.items (λ line.
-        ap (λ n. nat_le n (rooms_with (rows_of s) (string_bytes line.kind))) (counted (takes (string_bytes line.kind) (number_of line.arrive)) stay_key stay_row s.stays.items)
-        ∙ ap (λ n. nat_le (count_by (λ (stay : StayLine). takes (string_bytes line.kind) (number_of line.arrive) (stay_row stay)) s.stays.items) n)
-            (counted (λ (row : RoomRow). bytes_eq row.kind (string_bytes line.kind)) room_key room_row s.rooms.items))
+    ap (λ n. nat_le n (rooms_with (rows_of s) (string_bytes line.kind))) (counted (takes (string_bytes line.kind) (number_of line.arrive)) stay_key stay_row s.stays.items)
+    ∙ ap (λ n. nat_le (count_by (λ (stay : StayLine). takes (string_bytes line.kind) (number_of line.arrive) (stay_row stay)) s.stays.items) n)
+    (counted (λ (row : RoomRow). bytes_eq row.kind (string_bytes line.kind)) room_key room_row s.rooms.items))
 
 -- the rules of stays are tests of the keys and of each stay
 pub stays_together : (s : Stored) → stay_holds s ≡ (are_numbered (map stay_key s.stays.items) && list_all (stay_fits s) s.stays.items && list_all (has_night s) s.stays.items)
@@ -67,16 +67,16 @@ stays_together s =
     let o = are_numbered ks in
     let own = list_all (λ (e : ℕ × Stay). e.1.party == e.0) rows.stays in
     ap (λ keys. are_in_order nat_cmp keys && list_all stay_columns lines && (own && count_up 1 keys && nat_le (length rows.stays) 9999999) && guests_read rows && stay_kinds_there rows && stay_days rows && stay_rooms rows && nights_fit rows)
-        (keys_mapped stay_key stay_row lines)
+    (keys_mapped stay_key stay_row lines)
     ∙ ap (λ n. are_in_order nat_cmp ks && list_all stay_columns lines && (own && count_up 1 ks && nat_le n 9999999) && guests_read rows && stay_kinds_there rows && stay_days rows && stay_rooms rows && nights_fit rows)
-        (length_mapped stay_entry lines ∙ sym (length_mapped stay_key lines))
+    (length_mapped stay_entry lines ∙ sym (length_mapped stay_key lines))
     ∙ ap (λ b. b && guests_read rows && stay_kinds_there rows && stay_days rows && stay_rooms rows && nights_fit rows)
-        (numbers_first (are_in_order nat_cmp ks) (list_all stay_columns lines) own (count_up 1 ks) (nat_le (length ks) 9999999) (own_keys stay_key stay_row (λ (stay : Stay). stay.party) (λ line. refl) lines))
+    (numbers_first (are_in_order nat_cmp ks) (list_all stay_columns lines) own (count_up 1 ks) (nat_le (length ks) 9999999) (own_keys stay_key stay_row (λ (stay : Stay). stay.party) (λ line. refl) lines))
     ∙ ap (λ b. b && nights_fit rows)
-        (left_and o stay_entry (λ (e : ℕ × Stay). has_home rows e.1) _ lines _
-        (left_and o stay_entry (λ (e : ℕ × Stay). is_day e.1.depart && nat_lt e.1.arrive e.1.depart && nat_le e.1.depart (e.1.arrive + 90)) _ lines _
-        (left_and o stay_entry (λ (e : ℕ × Stay). has_kind rows e.1.kind) _ lines _
-        (left_and o stay_entry (λ (e : ℕ × Stay). is_guest e.1.guest) stay_columns lines _ refl))))
+    (left_and o stay_entry (λ (e : ℕ × Stay). has_home rows e.1) _ lines _
+    (left_and o stay_entry (λ (e : ℕ × Stay). is_day e.1.depart && nat_lt e.1.arrive e.1.depart && nat_le e.1.depart (e.1.arrive + 90)) _ lines _
+    (left_and o stay_entry (λ (e : ℕ × Stay). has_kind rows e.1.kind) _ lines _
+    (left_and o stay_entry (λ (e : ℕ × Stay). is_guest e.1.guest) stay_columns lines _ refl))))
     ∙ ap (λ b. o && list_all (stay_fits s) lines && b) (nights_together s)
 
 parts : (a b : Bool) → (a && b) ≡ true → (a ≡ true) × (b ≡ true)

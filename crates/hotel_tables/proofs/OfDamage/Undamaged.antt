@@ -128,14 +128,14 @@ rules_hold s t columns =
     let c2 = and_true _ (list_all note_columns s.notes.items) columns in
     let c1 = and_true _ (list_all stay_columns s.stays.items) c2.0 in
     record {
-  meta = (both _ _ p1.1 p2.1);
-  kind = (both _ _ q1.0 p3.1);
-  room = (both _ _ (both _ _ (both _ _ (both _ _ (both _ _ (both _ _ (both _ _ (both _ _ q1.1 c1.0) p4.1) p5.1) p6.1) p7.1) p8.1) p9.1) p10.1);
-  stay = (both _ _ (both _ _ (both _ _ (both _ _ (both _ _ (both _ _ (both _ _ q3.1 c1.1) p11.1) p12.1) p13.1) p14.1) p15.1) p16.1);
-  code = (both _ _ (both _ _ (both _ _ q2.1 p17.1) p18.1) p19.1);
-  card = (both _ _ (both _ _ (both _ _ (both _ _ (both _ _ (both _ _ (both _ _ q4.1 p20.1) p21.1) p22.1) p23.1) p24.1) p25.1) p26.1);
-  inside = (both _ _ q5.1 p27.1);
-  note = (both _ _ (both _ _ (both _ _ q6.1 c2.1) p28.1) p29.1);
+      meta = (both _ _ p1.1 p2.1);
+      kind = (both _ _ q1.0 p3.1);
+      room = (both _ _ (both _ _ (both _ _ (both _ _ (both _ _ (both _ _ (both _ _ (both _ _ q1.1 c1.0) p4.1) p5.1) p6.1) p7.1) p8.1) p9.1) p10.1);
+      stay = (both _ _ (both _ _ (both _ _ (both _ _ (both _ _ (both _ _ (both _ _ q3.1 c1.1) p11.1) p12.1) p13.1) p14.1) p15.1) p16.1);
+      code = (both _ _ (both _ _ (both _ _ q2.1 p17.1) p18.1) p19.1);
+      card = (both _ _ (both _ _ (both _ _ (both _ _ (both _ _ (both _ _ (both _ _ q4.1 p20.1) p21.1) p22.1) p23.1) p24.1) p25.1) p26.1);
+      inside = (both _ _ q5.1 p27.1);
+      note = (both _ _ (both _ _ (both _ _ q6.1 c2.1) p28.1) p29.1);
     }
 
 pub undamaged_is_sound : UndamagedIsSound

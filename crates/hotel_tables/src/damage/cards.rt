@@ -9,9 +9,7 @@ ghost use Rattle.hotel_tables.specs.Placed.{PlacesOf, placed_as_due};
 
 use crate::damage::codes::stands_at;
 use crate::damage::found::{Places, card_keys, code_at, index_of, stay_at};
-use crate::damage::links::{
-    all_brought, all_have_lasts, all_have_owners, brought_codes, lasts_of,
-};
+use crate::damage::links::{all_brought, all_have_lasts, all_have_owners, brought_codes, lasts_of};
 use crate::damage::numbers::{are_numbered, number};
 use crate::damage::owners::{all_agree, owners_of};
 use crate::damage::placed::Placed;

@@ -88,7 +88,10 @@ pub(crate) fn inside_keys(alloc: Global, inside: &[InsideLine]) -> Result<Vec<(u
 {
     let mut keys = Vec::new(alloc);
     for i in 0..inside.len() {
-        let Ok(()) = keys.push((numbers::number(inside[i].room), numbers::number(inside[i].card))) else {
+        let Ok(()) = keys.push((
+            numbers::number(inside[i].room),
+            numbers::number(inside[i].card),
+        )) else {
             return Err(Memory);
         };
     }

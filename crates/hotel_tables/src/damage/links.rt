@@ -80,18 +80,19 @@ fn is_owned(
     requires due { placed_as_due placed.now.entries room.now ≡ true }
     ensures { result ≡ is_owned stored.now room.now party card.now }
 {
-    if !is_newest(placed, stored, room, number(card.old_code), number(card.new_code)) {
+    if !is_newest(
+        placed,
+        stored,
+        room,
+        number(card.old_code),
+        number(card.new_code),
+    ) {
         return true;
     }
     number(card.party) == party
 }
 
-fn all_owned(
-    placed: &BTreeMap<u64, Placed>,
-    stored: &Stored,
-    room: &RoomLine,
-    party: u64,
-) -> bool
+fn all_owned(placed: &BTreeMap<u64, Placed>, stored: &Stored, room: &RoomLine, party: u64) -> bool
     requires placed { PlacesOf placed.now.entries stored.now.codes.items }
     requires due { placed_as_due placed.now.entries room.now ≡ true }
     ensures { result ≡ list_all (is_owned stored.now room.now party) stored.now.cards.items }

@@ -43,11 +43,7 @@ pub(crate) fn owners_of(
 }
 
 /// The party of a link.
-pub(crate) fn owner_of(
-    owners: &BTreeMap<(u64, u64), u64>,
-    old: u64,
-    new: u64,
-) -> Option<u64>
+pub(crate) fn owner_of(owners: &BTreeMap<(u64, u64), u64>, old: u64, new: u64) -> Option<u64>
     ensures { result ≡ lookup (is_at (pair_cmp (old, new))) owners.now.entries }
 {
     owners.get(&(old, new)).copied()

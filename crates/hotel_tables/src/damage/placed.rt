@@ -149,13 +149,7 @@ fn is_at_place(placed: &BTreeMap<u64, Placed>, room: u64, place: u64, code: u64)
 }
 
 /// Whether a link is the newest of a room with so many codes.
-fn is_newest_in(
-    placed: &BTreeMap<u64, Placed>,
-    room: u64,
-    codes: u64,
-    old: u64,
-    new: u64,
-) -> bool
+fn is_newest_in(placed: &BTreeMap<u64, Placed>, room: u64, codes: u64, old: u64, new: u64) -> bool
     requires { are_due_at placed.now.entries room codes ≡ true }
     ensures { result ≡ is_last_link placed.now.entries room (record { old_code = old; new_code = new }) }
 {

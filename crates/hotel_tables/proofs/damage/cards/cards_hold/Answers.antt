@@ -25,5 +25,5 @@ returns c =
     let s = c.args.stored.now in
     let order = c.are_numbered.ensures ∙ ap are_numbered (c.deref-2.ensures.value ∙ c.in_ok-keys.ensures ∙ ap (map card_key) c.deref.ensures.value) in
     let same = cards_together s ∙ ap (λ b. b && list_all (λ card. card_fits (rows_of s) (card_row card)) s.cards.items && links_hold s) (sym order ∙ c.if-not-are_numbered.false)
-        ∙ ap (λ b. b && links_hold s) (sym c.cards_fit.ensures ∙ c.if-not-cards_fit.false) in
+    ∙ ap (λ b. b && links_hold s) (sym c.cards_fit.ensures ∙ c.if-not-cards_fit.false) in
     IfOk-weaker c.links_hold.result _ _ (λ hold is. is ∙ sym same) c.links_hold.ensures

@@ -10,4 +10,4 @@ loop-k-preserved c =
     let line = get_or xs (length xs - 1 - k) no_code in
     subst (PlacesOf c.place_line.new.placed.entries) (at_back xs k no_code c.loop-k-test.true)
     (placed_first c.loop-k.placed.entries c.place_line.new.placed.entries line (drop (length xs - k) xs) c.loop-k.invariant
-        c.in_ok-place_line.ensures.places c.in_ok-place_line.ensures.listed)
+    c.in_ok-place_line.ensures.places c.in_ok-place_line.ensures.listed)
