@@ -15,6 +15,6 @@ mod Last
 mod NewDesk
 mod EmptyDesk
 mod Statements
-mod Stored
+mod Made
 mod Ends
 pub mod OfDamage

@@ -4,8 +4,8 @@ use Rattle.sqlite.specs.Values.{bound}
 use Rattle.sqlite.specs.State.{HasCleanDisk, ExecutesInside}
 use Rattle.hotel_tables.specs.Texts as texts
 use Rattle.hotel_tables.proofs.Writing.{ran_inside, kept_inside}
-use Rattle.hotel_tables.proofs.Stored.Inserts.{card_params}
-use Rattle.hotel_tables.proofs.Stored.Effects.{card_step}
+use Rattle.hotel_tables.proofs.Made.Inserts.{card_params}
+use Rattle.hotel_tables.proofs.Made.Effects.{card_step}
 use Rattle.hotel_tables.proofs.steps.insert_card.Goals as goal
 
 pub returns-in_err-execute-clause-kept : goal.returns-in_err-execute-clause-kept

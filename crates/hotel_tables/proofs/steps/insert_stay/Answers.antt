@@ -4,10 +4,10 @@ use Rattle.sqlite.specs.Values.{bound}
 use Rattle.sqlite.specs.State.{HasCleanDisk, ExecutesInside}
 use Rattle.hotel_tables.specs.Texts as texts
 use Rattle.hotel_tables.proofs.Writing.{ran_inside, kept_inside}
-use Rattle.hotel_tables.proofs.Stored.Reads.{bound_maybe}
+use Rattle.hotel_tables.proofs.Made.Reads.{bound_maybe}
 use Rattle.hotel_core.specs.Model.Cases.{room_of_state}
-use Rattle.hotel_tables.proofs.Stored.Inserts.{stay_params}
-use Rattle.hotel_tables.proofs.Stored.Effects.{stay_step}
+use Rattle.hotel_tables.proofs.Made.Inserts.{stay_params}
+use Rattle.hotel_tables.proofs.Made.Effects.{stay_step}
 use Rattle.hotel_tables.proofs.steps.insert_stay.Goals as goal
 
 pub returns-in_err-execute-clause-kept : goal.returns-in_err-execute-clause-kept

@@ -4,8 +4,8 @@ use Rattle.sqlite.specs.Values.{bound}
 use Rattle.sqlite.specs.State.{HasCleanDisk, ExecutesInside}
 use Rattle.hotel_tables.specs.Texts as texts
 use Rattle.hotel_tables.proofs.Writing.{ran_inside, kept_inside}
-use Rattle.hotel_tables.proofs.Stored.Updates.{day_params}
-use Rattle.hotel_tables.proofs.Stored.Moves.{day_step}
+use Rattle.hotel_tables.proofs.Made.Updates.{day_params}
+use Rattle.hotel_tables.proofs.Made.Moves.{day_step}
 use Rattle.hotel_tables.proofs.steps.set_day.Goals as goal
 
 pub returns-in_err-execute-clause-kept : goal.returns-in_err-execute-clause-kept

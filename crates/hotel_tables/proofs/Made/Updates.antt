@@ -30,10 +30,10 @@ use Rattle.hotel_tables.proofs.Answers.{single, env}
 use Rattle.hotel_tables.proofs.Statements.Terms.{by_rowid}
 use Rattle.hotel_tables.proofs.Statements.Changes as changes
 use Rattle.hotel_tables.proofs.Writing.{went, same_value, cast_null, cast_int, cast_maybe, cast_text}
-use Rattle.hotel_tables.proofs.Stored.Desk.{Changed, changed}
-use Rattle.hotel_tables.proofs.Stored.Entries.{Updated, update_makes, changed_at}
-use Rattle.hotel_tables.proofs.Stored.Sources.{Sourced, sourced}
-use Rattle.hotel_tables.proofs.Stored.Reads.{meta_stored, meta_good, meta_reads, meta_numbered, room_stored, room_good, room_reads, room_numbered, stay_stored, stay_good, stay_reads, stay_numbered}
+use Rattle.hotel_tables.proofs.Made.Desk.{Changed, changed}
+use Rattle.hotel_tables.proofs.Made.Entries.{Updated, update_makes, changed_at}
+use Rattle.hotel_tables.proofs.Made.Sources.{Sourced, sourced}
+use Rattle.hotel_tables.proofs.Made.Reads.{meta_stored, meta_good, meta_reads, meta_numbered, room_stored, room_good, room_reads, room_numbered, stay_stored, stay_good, stay_reads, stay_numbered}
 
 -- a table of rows is written with some rows, of which f was done to that of a number
 pub record Set {X : Type 0} (tree : ℕ) (columns : Row → Row) (of : Row → ℕ × X) (written : ℕ × X → Row) (numbered : _) (k : ℕ) (f : X → X) (old new : State) (rows : List Row) : Type 0 where
@@ -75,7 +75,7 @@ day_put old new id day count has was h =
           let e = meta_of (meta_columns one.0) in
           let source : Row = int e.0 ∷ int e.0 ∷ Null ∷ int e.1.0 ∷ int day ∷ [] in
           let rows : given.0 ≡ source ∷ [] = one.1.given_is ∙ ap (λ (v : Row). (column v 0 ∷ column v 0 ∷ Null ∷ column v 1 ∷ int day ∷ []) ∷ []) one.1.good in
-          let number : e.0 ≡ id = (let t = Rattle.hotel_tables.proofs.Stored.Entries.filter_passes (λ r. eqb (meta_of (meta_columns r)).0 id) (db 0) one.0 one.1.found in grind (arith, nat_tests, t)) in
+          let number : e.0 ≡ id = (let t = Rattle.hotel_tables.proofs.Made.Entries.filter_passes (λ r. eqb (meta_of (meta_columns r)).0 id) (db 0) one.0 one.1.found in grind (arith, nat_tests, t)) in
           let went_in = subst (λ all. Edited desk_schema (mode_of old).keys db (edit_of db table (ids_of all) Given 1 all) (Ok put.0)) rows put.1 in
           let applied = one_step desk_schema (mode_of old).keys db put.0 (edit_of db table (ids_of (source ∷ [])) Given 1 (source ∷ [])) refl went_in in
           let row : Row = meta_stored (e.0, day_done day e.1) in
@@ -120,7 +120,7 @@ issued_put old new room codes party count has was h =
           let e = room_of (room_columns one.0) in
           let source : Row = int e.0 ∷ int e.0 ∷ Null ∷ Text e.1.kind ∷ int e.1.lock_place ∷ int codes ∷ int 0 ∷ int party ∷ int e.1.notes ∷ [] in
           let rows : given.0 ≡ source ∷ [] = one.1.given_is ∙ ap (λ (v : Row). (column v 0 ∷ column v 0 ∷ Null ∷ column v 1 ∷ column v 2 ∷ int codes ∷ int 0 ∷ int party ∷ column v 6 ∷ []) ∷ []) one.1.good in
-          let number : e.0 ≡ room = (let t = Rattle.hotel_tables.proofs.Stored.Entries.filter_passes (λ r. eqb (room_of (room_columns r)).0 room) (db 3) one.0 one.1.found in grind (arith, nat_tests, t)) in
+          let number : e.0 ≡ room = (let t = Rattle.hotel_tables.proofs.Made.Entries.filter_passes (λ r. eqb (room_of (room_columns r)).0 room) (db 3) one.0 one.1.found in grind (arith, nat_tests, t)) in
           let went_in = subst (λ all. Edited desk_schema (mode_of old).keys db (edit_of db table (ids_of all) Given 1 all) (Ok put.0)) rows put.1 in
           let applied = one_step desk_schema (mode_of old).keys db put.0 (edit_of db table (ids_of (source ∷ [])) Given 1 (source ∷ [])) refl went_in in
           let row : Row = room_stored (issued_done codes party e.1) in
@@ -165,7 +165,7 @@ left_put old new room count has was h =
           let e = room_of (room_columns one.0) in
           let source : Row = int e.0 ∷ int e.0 ∷ Null ∷ Text e.1.kind ∷ int e.1.lock_place ∷ int e.1.codes ∷ int (bit_of e.1.secured) ∷ Null ∷ int e.1.notes ∷ [] in
           let rows : given.0 ≡ source ∷ [] = one.1.given_is ∙ ap (λ (v : Row). (column v 0 ∷ column v 0 ∷ Null ∷ column v 1 ∷ column v 2 ∷ column v 3 ∷ column v 4 ∷ Null ∷ column v 6 ∷ []) ∷ []) one.1.good in
-          let number : e.0 ≡ room = (let t = Rattle.hotel_tables.proofs.Stored.Entries.filter_passes (λ r. eqb (room_of (room_columns r)).0 room) (db 3) one.0 one.1.found in grind (arith, nat_tests, t)) in
+          let number : e.0 ≡ room = (let t = Rattle.hotel_tables.proofs.Made.Entries.filter_passes (λ r. eqb (room_of (room_columns r)).0 room) (db 3) one.0 one.1.found in grind (arith, nat_tests, t)) in
           let went_in = subst (λ all. Edited desk_schema (mode_of old).keys db (edit_of db table (ids_of all) Given 1 all) (Ok put.0)) rows put.1 in
           let applied = one_step desk_schema (mode_of old).keys db put.0 (edit_of db table (ids_of (source ∷ [])) Given 1 (source ∷ [])) refl went_in in
           let row : Row = room_stored (left_done e.1) in
@@ -210,7 +210,7 @@ noted_put old new room lock_place secured notes count has was h =
           let e = room_of (room_columns one.0) in
           let source : Row = int e.0 ∷ int e.0 ∷ Null ∷ Text e.1.kind ∷ int lock_place ∷ int e.1.codes ∷ int (bit_of secured) ∷ maybe_int e.1.party ∷ int notes ∷ [] in
           let rows : given.0 ≡ source ∷ [] = one.1.given_is ∙ ap (λ (v : Row). (column v 0 ∷ column v 0 ∷ Null ∷ column v 1 ∷ int lock_place ∷ column v 3 ∷ int (bit_of secured) ∷ column v 5 ∷ int notes ∷ []) ∷ []) one.1.good in
-          let number : e.0 ≡ room = (let t = Rattle.hotel_tables.proofs.Stored.Entries.filter_passes (λ r. eqb (room_of (room_columns r)).0 room) (db 3) one.0 one.1.found in grind (arith, nat_tests, t)) in
+          let number : e.0 ≡ room = (let t = Rattle.hotel_tables.proofs.Made.Entries.filter_passes (λ r. eqb (room_of (room_columns r)).0 room) (db 3) one.0 one.1.found in grind (arith, nat_tests, t)) in
           let went_in = subst (λ all. Edited desk_schema (mode_of old).keys db (edit_of db table (ids_of all) Given 1 all) (Ok put.0)) rows put.1 in
           let applied = one_step desk_schema (mode_of old).keys db put.0 (edit_of db table (ids_of (source ∷ [])) Given 1 (source ∷ [])) refl went_in in
           let row : Row = room_stored (noted_done lock_place secured notes e.1) in
@@ -255,7 +255,7 @@ state_put old new party state count has was h =
           let e = stay_of (stay_columns one.0) in
           let source : Row = int e.0 ∷ int e.0 ∷ Null ∷ Text e.1.guest ∷ Text e.1.kind ∷ int e.1.arrive ∷ int e.1.depart ∷ int (state_number state) ∷ maybe_int (room_of_state state) ∷ [] in
           let rows : given.0 ≡ source ∷ [] = one.1.given_is ∙ ap (λ (v : Row). (column v 0 ∷ column v 0 ∷ Null ∷ column v 1 ∷ column v 2 ∷ column v 3 ∷ column v 4 ∷ int (state_number state) ∷ maybe_int (room_of_state state) ∷ []) ∷ []) one.1.good in
-          let number : e.0 ≡ party = (let t = Rattle.hotel_tables.proofs.Stored.Entries.filter_passes (λ r. eqb (stay_of (stay_columns r)).0 party) (db 5) one.0 one.1.found in grind (arith, nat_tests, t)) in
+          let number : e.0 ≡ party = (let t = Rattle.hotel_tables.proofs.Made.Entries.filter_passes (λ r. eqb (stay_of (stay_columns r)).0 party) (db 5) one.0 one.1.found in grind (arith, nat_tests, t)) in
           let went_in = subst (λ all. Edited desk_schema (mode_of old).keys db (edit_of db table (ids_of all) Given 1 all) (Ok put.0)) rows put.1 in
           let applied = one_step desk_schema (mode_of old).keys db put.0 (edit_of db table (ids_of (source ∷ [])) Given 1 (source ∷ [])) refl went_in in
           let row : Row = stay_stored (state_done state e.1) in

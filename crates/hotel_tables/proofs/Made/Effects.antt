@@ -13,10 +13,10 @@ use Rattle.hotel_tables.specs.Texts.{insert_room, insert_stay, insert_code, inse
 use Rattle.hotel_tables.specs.Columns.{room_columns, room_of, room_written, stay_columns, stay_of, stay_written, code_columns, code_of, code_written, card_columns, card_of, card_written}
 use Rattle.hotel_tables.specs.Tables.{rows_in}
 use Rattle.hotel_tables.specs.Steps.{IsMid, Steps, room_added, code_added, stay_added, card_added}
-use Rattle.hotel_tables.proofs.Stored.Desk.{steps, rooms_set, stays_set, codes_set, cards_set}
-use Rattle.hotel_tables.proofs.Stored.Entries.{insert_makes}
-use Rattle.hotel_tables.proofs.Stored.Inserts.{code_params, code_put, room_params, room_put, stay_params, stay_put, card_params, card_put}
-use Rattle.hotel_tables.proofs.Stored.Reads.{room_stored, room_good, room_reads, room_numbered, stay_stored, stay_good, stay_reads, stay_numbered, code_stored, code_numbered, card_stored, card_numbered}
+use Rattle.hotel_tables.proofs.Made.Desk.{steps, rooms_set, stays_set, codes_set, cards_set}
+use Rattle.hotel_tables.proofs.Made.Entries.{insert_makes}
+use Rattle.hotel_tables.proofs.Made.Inserts.{code_params, code_put, room_params, room_put, stay_params, stay_put, card_params, card_put}
+use Rattle.hotel_tables.proofs.Made.Reads.{room_stored, room_good, room_reads, room_numbered, stay_stored, stay_good, stay_reads, stay_numbered, code_stored, code_numbered, card_stored, card_numbered}
 
 pub code_step : (old new : State) (code : ℕ) (at : CodeRow) (count : ℕ) → ExecutesInside 0 insert_code (code_params code at) old new (Ok count) → (IsTrue old.is_open → IsMid old) → Steps old new (code_added code at)
 code_step old new code at count h mid =

@@ -28,8 +28,8 @@ use Rattle.hotel_tables.specs.Values.{int, maybe_int}
 use Rattle.hotel_tables.specs.Columns.{bit_of, state_number, act_number, act_card, act_first, act_second}
 use Rattle.hotel_tables.proofs.Statements.Changes as changes
 use Rattle.hotel_tables.proofs.Writing.{went, same_value, fresh_one, cast_null, cast_int, cast_maybe, cast_text}
-use Rattle.hotel_tables.proofs.Stored.Desk.{Changed, changed}
-use Rattle.hotel_tables.proofs.Stored.Reads.{room_stored, stay_stored, code_stored, card_stored, kind_stored, inside_stored, note_stored}
+use Rattle.hotel_tables.proofs.Made.Desk.{Changed, changed}
+use Rattle.hotel_tables.proofs.Made.Reads.{room_stored, stay_stored, code_stored, card_stored, kind_stored, inside_stored, note_stored}
 
 -- a row was put whose number no row had
 pub record Put (tree : ℕ) (row : Row) (old new : State) : Type 0 where

@@ -28,12 +28,12 @@ use Rattle.hotel_tables.specs.Columns.{meta_columns, meta_of, meta_written, kind
 use Rattle.hotel_tables.specs.Tables.{IsWrittenAs, by_key, rows_in}
 use Rattle.hotel_tables.specs.Steps.{IsMid, Steps, day_set, kind_added, note_added, room_issued, room_left, room_noted, stay_set}
 use Rattle.hotel_tables.proofs.Perm.{same_tie}
-use Rattle.hotel_tables.proofs.Stored.Desk as desk
-use Rattle.hotel_tables.proofs.Stored.Desk.{steps, rooms_set, stays_set, kinds_set, notes_set}
-use Rattle.hotel_tables.proofs.Stored.Entries.{changed_at, update_makes, put_keyed, entry_put, key_put, key_total}
-use Rattle.hotel_tables.proofs.Stored.Inserts.{kind_params, kind_put, note_params, note_put}
-use Rattle.hotel_tables.proofs.Stored.Reads.{meta_numbered, room_numbered, stay_numbered, kind_stored, note_stored, note_good, note_reads}
-use Rattle.hotel_tables.proofs.Stored.Updates.{day_params, day_done, day_put, issued_params, issued_done, issued_put, left_params, left_done, left_put, noted_params, noted_done, noted_put, state_params, state_done, state_put}
+use Rattle.hotel_tables.proofs.Made.Desk as desk
+use Rattle.hotel_tables.proofs.Made.Desk.{steps, rooms_set, stays_set, kinds_set, notes_set}
+use Rattle.hotel_tables.proofs.Made.Entries.{changed_at, update_makes, put_keyed, entry_put, key_put, key_total}
+use Rattle.hotel_tables.proofs.Made.Inserts.{kind_params, kind_put, note_params, note_put}
+use Rattle.hotel_tables.proofs.Made.Reads.{meta_numbered, room_numbered, stay_numbered, kind_stored, note_stored, note_good, note_reads}
+use Rattle.hotel_tables.proofs.Made.Updates.{day_params, day_done, day_put, issued_params, issued_done, issued_put, left_params, left_done, left_put, noted_params, noted_done, noted_put, state_params, state_done, state_put}
 
 rooms_same : (k : ℕ) (f : RoomRow → RoomRow) (es : List (ℕ × RoomRow)) → changed_at k f es ≡ room_changed k f es
 rooms_same k f [] = refl

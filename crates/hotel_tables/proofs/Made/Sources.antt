@@ -21,7 +21,7 @@ use Rattle.hotel_tables.proofs.Keys.{equals, and_true}
 use Rattle.hotel_tables.proofs.Answers.{answered, single, env, passes}
 use Rattle.hotel_tables.proofs.Perm.{found_of}
 use Rattle.hotel_tables.proofs.Statements.Terms.{by_rowid}
-use Rattle.hotel_tables.proofs.Stored.Entries.{few}
+use Rattle.hotel_tables.proofs.Made.Entries.{few}
 
 module _ {X : Type 0} (columns : Row → Row) (of : Row → ℕ × X) (written : ℕ × X → Row) (numbered : (r : Row) → IsWrittenAs columns of written r → column r 0 ≡ int (of (columns r)).0) where
   tested : (k : ℕ) (more r : Row) → IsWrittenAs columns of written r → passes by_rowid (int k ∷ more) r ≡ eqb (of (columns r)).0 k
