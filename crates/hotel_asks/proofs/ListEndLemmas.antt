@@ -51,7 +51,8 @@ pub list_ends : {R : Type 0} (old new : Option (List ℕ)) (header : List ℕ) (
     → has_byte header ≡ true → (result ≡ Err fault.NoRoom → ⊥) → Lists old new header line rows result → ListEnds [] (Some (listing header line rows)) old new result
 list_ends old new header line rows (Ok done) some there p = (refl, subst (Appends old new) (lines_text header line rows) p)
 list_ends old new header line rows (Err fault.NoRoom) some there p = absurd (there refl)
-list_ends old new header line rows (Err fault.Write) some there p = (is_text _ (more_text header (concat (map line rows)) some), subst (AppendsFront old new) (lines_text header line rows) p)
+list_ends old new header line rows (Err fault.Write) some there p =
+    (is_text _ (more_text header (concat (map line rows)) some), subst (AppendsFront old new) (lines_text header line rows) p)
 list_ends old new header line rows (Err fault.Memory) some there p = rows_front old new header line rows p
 list_ends old new header line rows (Err fault.Store) some there p = rows_front old new header line rows p
 

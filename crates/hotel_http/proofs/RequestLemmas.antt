@@ -36,29 +36,36 @@ pub if_some : (P Q : List ℕ → Type 0) (o : Option (List ℕ)) → ((l : List
 if_some P Q None f p = tt
 if_some P Q (Some l) f p = f l p
 
-pub body_read : (plan : Plan) (path begun body : List ℕ) (wanted : Wanted) (known : Option (List ℕ)) → IfSome known (λ left. HoldsBody (begun ++ left) plan.size body) → IsMeant plan path body wanted
+pub body_read : (plan : Plan) (path begun body : List ℕ) (wanted : Wanted) (known : Option (List ℕ)) → IfSome known (λ left. HoldsBody (begun ++ left) plan.size body)
+    → IsMeant plan path body wanted
     → IfSome known (λ left. IsMeant plan path (begun ++ left) wanted)
 body_read plan path begun body wanted known holds meant =
-    if_some (λ left. HoldsBody (begun ++ left) plan.size body) (λ left. IsMeant plan path (begun ++ left) wanted) known (λ left h. same_body plan path (begun ++ left) body wanted h meant) holds
+    if_some (λ left. HoldsBody (begun ++ left) plan.size body) (λ left. IsMeant plan path (begun ++ left) wanted) known
+    (λ left h. same_body plan path (begun ++ left) body wanted h meant) holds
 
 -- the body of a head's plan
-pub head_ends : (head : RequestHead) (plan : Plan) (path bytes : List ℕ) (len : ℕ) (begun : List ℕ) (known old new : Option (List ℕ)) (result : Result (Result Request Rejection) RequestFault) → len ≤ length bytes
+pub head_ends : (head : RequestHead) (plan : Plan) (path bytes : List ℕ) (len : ℕ) (begun : List ℕ) (known old new : Option (List ℕ))
+    (result : Result (Result Request Rejection) RequestFault) → len ≤ length bytes
     → plan_in head ≡ Ok plan → path ≡ path_of head.target → begun ≡ drop len bytes → EndsBody plan path begun known old new result
     → EndsHead head (λ left. drop len (bytes ++ left)) known old new result
 head_ends head plan path bytes len begun known old new (Ok got) fits e p b ends =
-    let P : Result Plan Rejection → List ℕ → Type 0 = λ planned its_path. Appends old new (interim_where (awaits planned)) × IfSome known (λ left. IsAsked planned its_path (drop len (bytes ++ left)) (wanted_of got)) in
+    let P : Result Plan Rejection → List ℕ → Type 0 = λ planned its_path. Appends old new (interim_where (awaits planned)) × IfSome known
+    (λ left. IsAsked planned its_path (drop len (bytes ++ left)) (wanted_of got)) in
     let behind = if_some (λ left. IsMeant plan path (begun ++ left) (wanted_of got)) (λ left. IsMeant plan path (drop len (bytes ++ left)) (wanted_of got)) known
     (λ left m. subst (λ (l : List ℕ). IsMeant plan path l (wanted_of got)) (ap (λ (l : List ℕ). l ++ left) b ∙ sym (drop-append-le len bytes left fits)) m) ends.1 in
     subst (λ (r : Result Plan Rejection). P r (path_of head.target)) (sym e) (subst (λ (l : List ℕ). P (Ok plan) l) p (ends.0, behind))
 head_ends head plan path bytes len begun known old new (Err Closed) fits e p b ends = absurd ends
 head_ends head plan path bytes len begun known old new (Err Write) fits e p b ends = (ap awaits e ∙ ends.0, ends.1)
 head_ends head plan path bytes len begun known old new (Err Read) fits e p b ends = subst (λ (r : Result Plan Rejection). Appends old new (interim_where (awaits r))) (sym e) ends
-head_ends head plan path bytes len begun known old new (Err Memory) fits e p b ends = subst (λ (r : Result Plan Rejection). Appends old new (interim_where (awaits r))) (sym e) ends
+head_ends head plan path bytes len begun known old new (Err Memory) fits e p b ends =
+    subst (λ (r : Result Plan Rejection). Appends old new (interim_where (awaits r))) (sym e) ends
 
 -- a head that is rejected
-pub head_rejected : (head : RequestHead) (why : Rejection) (behind : List ℕ → List ℕ) (known old : Option (List ℕ)) → plan_in head ≡ Err why → EndsHead head behind known old old (Ok (Err why))
+pub head_rejected : (head : RequestHead) (why : Rejection) (behind : List ℕ → List ℕ) (known old : Option (List ℕ)) → plan_in head ≡ Err why
+    → EndsHead head behind known old old (Ok (Err why))
 head_rejected head why behind known old e =
-    let P : Result Plan Rejection → Type 0 = λ planned. Appends old old (interim_where (awaits planned)) × IfSome known (λ left. IsAsked planned (path_of head.target) (behind left) (Err why)) in
+    let P : Result Plan Rejection → Type 0 = λ planned. Appends old old (interim_where (awaits planned)) × IfSome known
+    (λ left. IsAsked planned (path_of head.target) (behind left) (Err why)) in
     subst P (sym e) (Appends-nil old, for_all known)
   where
     wanted : Wanted
@@ -69,36 +76,52 @@ head_rejected head why behind known old e =
     for_all (Some l) = refl
 
 -- of an input that isn't known
-unknown_ends : (head : RequestHead) (behind : List ℕ → List ℕ) (mid old new : Option (List ℕ)) (result : Result (Result Request Rejection) RequestFault) → EndsHead head behind mid old new result → EndsRequest None old new result
+unknown_ends : (head : RequestHead) (behind : List ℕ → List ℕ) (mid old new : Option (List ℕ)) (result : Result (Result Request Rejection) RequestFault)
+    → EndsHead head behind mid old new result → EndsRequest None old new result
 unknown_ends head behind mid old new (Ok got) ends = (awaits (plan_in head), ends.0, tt)
 unknown_ends head behind mid old new (Err Closed) ends = absurd ends
 unknown_ends head behind mid old new (Err Write) ends = (ends.1, tt)
 unknown_ends head behind mid old new (Err Read) ends = (awaits (plan_in head), ends, λ t. tt)
 unknown_ends head behind mid old new (Err Memory) ends = (awaits (plan_in head), ends, λ t. tt)
 
-known_ends : (head : RequestHead) (len : ℕ) (input items left : List ℕ) (old new : Option (List ℕ)) (result : Result (Result Request Rejection) RequestFault) → input ≡ items ++ left → BeginsWith input head (drop len input)
+known_ends : (head : RequestHead) (len : ℕ) (input items left : List ℕ) (old new : Option (List ℕ)) (result : Result (Result Request Rejection) RequestFault)
+    → input ≡ items ++ left → BeginsWith input head (drop len input)
     → EndsHead head (λ l. drop len (items ++ l)) (Some left) old new result → EndsRequest (Some input) old new result
-known_ends head len input items left old new (Ok got) taken begins ends =
-    (awaits (plan_in head), ends.0, inl (head, drop len input, begins, refl, subst (λ (l : List ℕ). IsAsked (plan_in head) (path_of head.target) (drop len l) (wanted_of got)) (sym taken) ends.1))
+known_ends head len input items left old new (Ok got) taken begins ends = (
+  awaits (plan_in head),
+  ends.0,
+  inl (
+    head,
+    drop len input,
+    begins,
+    refl,
+    subst
+        (λ (l : List ℕ). IsAsked (plan_in head) (path_of head.target) (drop len l) (wanted_of got)) (sym taken) ends.1,
+  ),
+)
 known_ends head len input items left old new (Err Closed) taken begins ends = absurd ends
 known_ends head len input items left old new (Err Write) taken begins ends = (ends.1, (head, drop len input, begins, ends.0))
 known_ends head len input items left old new (Err Read) taken begins ends = (awaits (plan_in head), ends, λ t. (head, drop len input, begins, t))
 known_ends head len input items left old new (Err Memory) taken begins ends = (awaits (plan_in head), ends, λ t. (head, drop len input, begins, t))
 
 -- a whole head, and what was read behind it
-pub request_ends : (known mid old new : Option (List ℕ)) (items front : List ℕ) (headers : List HeaderSpan) (spans : RequestSpans) (result : Result (Result Request Rejection) RequestFault) → Consumes known mid items
+pub request_ends : (known mid old new : Option (List ℕ)) (items front : List ℕ) (headers : List HeaderSpan) (spans : RequestSpans)
+    (result : Result (Result Request Rejection) RequestFault) → Consumes known mid items
     → IfSome known (λ input. IsJudged input front headers (judged.Whole spans)) → IsRequestOf front headers spans
     → ((head : RequestHead) → IsRequestAt front headers spans head → EndsHead head (λ left. drop spans.len (items ++ left)) mid old new result) → EndsRequest known old new result
-request_ends None mid old new items front headers spans result taken found (head, at) ends = unknown_ends head (λ left. drop spans.len (items ++ left)) mid old new result (ends head at)
+request_ends None mid old new items front headers spans result taken found (head, at) ends =
+    unknown_ends head (λ left. drop spans.len (items ++ left)) mid old new result (ends head at)
 request_ends (Some input) None old new items front headers spans result taken found of ends = absurd taken
-request_ends (Some input) (Some left) old new items front headers spans result taken (head, begins, at) of ends = known_ends head spans.len input items left old new result taken begins (ends head at)
+request_ends (Some input) (Some left) old new items front headers spans result taken (head, begins, at) of ends =
+    known_ends head spans.len input items left old new result taken begins (ends head at)
 
 -- an input without a head
 pub bad_ends : (known old : Option (List ℕ)) → IfSome known IsBad → EndsRequest known old old (Ok (Err rejection.BadRequest))
 bad_ends known old bad = (false, Appends-nil old, if_some IsBad (λ input. Requests input false (Err rejection.BadRequest)) known (λ input b. inr (refl, inl (b, refl))) bad)
 
 pub large_ends : (known old : Option (List ℕ)) → IfSome known IsTooLarge → EndsRequest known old old (Ok (Err rejection.HeadTooLarge))
-large_ends known old large = (false, Appends-nil old, if_some IsTooLarge (λ input. Requests input false (Err rejection.HeadTooLarge)) known (λ input l. inr (refl, inr (l, refl))) large)
+large_ends known old large =
+    (false, Appends-nil old, if_some IsTooLarge (λ input. Requests input false (Err rejection.HeadTooLarge)) known (λ input l. inr (refl, inr (l, refl))) large)
 
 pub none_yet : (known old : Option (List ℕ)) → AtMostInterim known old old
 none_yet known old = (false, Appends-nil old, λ t. absurd (false≢true t))

@@ -57,7 +57,8 @@ command_came rows after s t command given old new counts counts' end step ends c
     (p.0, p.1, (replied given, failure_in given, (given, p.2, refl, refl), ends, counted), p.3)
 
 -- a list is answered, and nothing changes
-pub list_came : (rows after : Rows) (its_list : ListAsk) (out : Outcome) (failed : List Refusal) (old new : Option (List ℕ)) (counts counts' : LookFault → ℕ) (end : Result Served Cut)
+pub list_came : (rows after : Rows) (its_list : ListAsk) (out : Outcome) (failed : List Refusal) (old new : Option (List ℕ)) (counts counts' : LookFault → ℕ)
+    (end : Result Served Cut)
     → after ≡ rows → ListComes (listing_on rows its_list) out failed → EndsAs out [] old new end → AreCounted counts counts' failed
     → (s : Stream) → Leads rows (Answered (AskComes (ask.List its_list)) s s [] old new counts counts' end) after
 list_came rows after its_list out failed old new counts counts' end same comes ends counted = λ s h stands.
@@ -70,7 +71,8 @@ list_there (Some listing) text is = inl (ap (λ (t : List ℕ). outcome (list_an
 list_there None text is = absurd is
 
 -- an audit file is imported
-pub file_came : (rows after : Rows) (file : List ℕ) (import_end : Result (List LineAnswer) ImportFault) (lines : List Line) (answers : List LineAnswer) (old new : Option (List ℕ)) (counts counts' : LookFault → ℕ)
+pub file_came : (rows after : Rows) (file : List ℕ) (import_end : Result (List LineAnswer) ImportFault) (lines : List Line) (answers : List LineAnswer)
+    (old new : Option (List ℕ)) (counts counts' : LookFault → ℕ)
     (end : Result Served Cut) → AreAnswered lines answers → EndsAfter (audit_lines file) import_end lines answers
     → ((source : Stream) → Leads rows (λ h h'. Runs h source (commands_of lines) (replies_in answers) h' source) after)
     → EndsAs (imported import_end) [] old new end → AreCounted counts counts' (import_failures import_end)
@@ -85,13 +87,16 @@ pub rejection_came : (rows : Rows) (s : Stream) (why : Rejection) (old new : Opt
 rejection_came rows s why old new counts counts' end ends counted = λ h stands. (h, stands, (rejected why, [], (refl, refl, refl, refl), ends, counted), assured h stands.0)
 
 -- the answer stands behind an interim one
-after_interim : (before : List ℕ) (out : Outcome) (old mid new : Option (List ℕ)) (end : Result Served Cut) → Appends old mid before → EndsAs out [] mid new end → EndsAs out before old new end
+after_interim : (before : List ℕ) (out : Outcome) (old mid new : Option (List ℕ)) (end : Result Served Cut) → Appends old mid before → EndsAs out [] mid new end
+    → EndsAs out before old new end
 after_interim before out old mid new (Ok served) first ends = (ends.0, ends.1, Appends-trans old mid new before out.text first ends.2)
 after_interim before out old mid new (Err cut) first ends =
     (ends.0, subst (AppendsFront old new) (append-nil (before ++ out.text)) (front_next old mid new before out.text [] first ends.1))
 
-pub behind_interim : (rows after : Rows) (came : History → Stream → Outcome → List Refusal → History → Stream → Type 0) (s t : Stream) (before : List ℕ) (old mid new : Option (List ℕ)) (counts counts' : LookFault → ℕ)
-    (end : Result Served Cut) → Appends old mid before → Leads rows (Answered came s t [] mid new counts counts' end) after → Leads rows (Answered came s t before old new counts counts' end) after
+pub behind_interim : (rows after : Rows) (came : History → Stream → Outcome → List Refusal → History → Stream → Type 0) (s t : Stream) (before : List ℕ)
+    (old mid new : Option (List ℕ)) (counts counts' : LookFault → ℕ)
+    (end : Result Served Cut) → Appends old mid before → Leads rows (Answered came s t [] mid new counts counts' end) after → Leads rows
+    (Answered came s t before old new counts counts' end) after
 behind_interim rows after came s t before old mid new counts counts' end first leads = λ h stands.
     let p = leads h stands in
     let a = p.2 in
@@ -108,18 +113,29 @@ list_refused None refusal.Store is = inr (inr (refl, refl))
 list_refused None _ is = absurd is
 
 -- a request that was read is answered
-pub request_served : (rows after : Rows) (s t : Stream) (known old mid new : Option (List ℕ)) (counts counts' : LookFault → ℕ) (request : Request) (end : Result Served Cut) (Clean : Type 0)
+pub request_served : (rows after : Rows) (s t : Stream) (known old mid new : Option (List ℕ)) (counts counts' : LookFault → ℕ) (request : Request) (end : Result Served Cut)
+    (Clean : Type 0)
     → EndsRequest known old mid (Ok (Ok request)) → (Clean → Leads rows (Answered (TaskComes request.task request.body.items) s t [] mid new counts counts' end) after)
     → WasAnswered known (λ wanted awaited ends. Clean → Leads rows (Answered (Comes wanted) s t (interim_where awaited) old new counts counts' ends) after) end
-request_served rows after s t known old mid new counts counts' request end Clean (awaited, first, requests) went =
-    (Ok (request.task, request.body.items), awaited, requests, λ clean. behind_interim rows after (TaskComes request.task request.body.items) s t (interim_where awaited) old mid new counts counts' end first (went clean))
+request_served rows after s t known old mid new counts counts' request end Clean (awaited, first, requests) went = (
+  Ok (request.task, request.body.items),
+  awaited,
+  requests,
+  λ clean. behind_interim rows after (TaskComes request.task request.body.items) s t
+      (interim_where awaited) old mid new counts counts' end first (went clean),
+)
 
 -- a rejection is answered
 pub rejection_served : (rows : Rows) (s : Stream) (known old mid new : Option (List ℕ)) (counts : LookFault → ℕ) (why : Rejection) (end : Result Served Cut) (Clean : Type 0)
     → EndsRequest known old mid (Ok (Err why)) → EndsAs (rejected why) [] mid new end → AreCounted counts counts []
     → WasAnswered known (λ wanted awaited ends. Clean → Leads rows (Answered (Comes wanted) s s (interim_where awaited) old new counts counts ends) rows) end
-rejection_served rows s known old mid new counts why end Clean (awaited, first, requests) ends counted =
-    (Err why, awaited, requests, λ clean. behind_interim rows rows (Comes (Err why)) s s (interim_where awaited) old mid new counts counts end first (rejection_came rows s why mid new counts counts end ends counted))
+rejection_served rows s known old mid new counts why end Clean (awaited, first, requests) ends counted = (
+  Err why,
+  awaited,
+  requests,
+  λ clean. behind_interim rows rows (Comes (Err why)) s s (interim_where awaited) old mid new counts counts end first
+      (rejection_came rows s why mid new counts counts end ends counted),
+)
 
 -- the fault of an answer that was cut
 pub is_cut : (r : Result Served ServeFault) (acted : Bool) → IsErrAnd r (λ e. e ≡ Write acted) → r ≡ Err (Write acted)

@@ -6,7 +6,8 @@ use Rattle.hotel_http.proofs.body.fill_body.Given as goal
 
 abbrev pub invariant-loop-reader : goal.invariant-loop-reader
 invariant-loop-reader g l =
-    ((taken : List ℕ) × Consumes (g.R.Read.remaining l.initial.reader) (g.R.Read.remaining l.reader) taken × (l.body.items ≡ l.initial.body.items ++ taken)) × NoneForgotten l.initial.calls l.calls
+    ((taken : List ℕ) × Consumes (g.R.Read.remaining l.initial.reader) (g.R.Read.remaining l.reader) taken × (l.body.items ≡ l.initial.body.items ++ taken))
+    × NoneForgotten l.initial.calls l.calls
 
 abbrev pub decreases-loop-reader : goal.decreases-loop-reader
 decreases-loop-reader g l = l.size - vec_len l.body

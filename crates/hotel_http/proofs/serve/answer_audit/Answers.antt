@@ -17,7 +17,8 @@ returns-in-Ok-clause-went g c = λ clean.
     let i = c.in-Ok.ensures.imported in
     let slice = c.as_slice-answers.result.now in
     let written = c.write_audit-written.result in
-    let ends = ends_as (lines_answer slice) Success (has_taken slice) written old new c.ended.result (subst (λ (b : Bool). c.ended.result ≡ ended written Success b) c.has_taken.ensures c.ended.ensures)
+    let ends = ends_as (lines_answer slice) Success (has_taken slice) written old new c.ended.result
+    (subst (λ (b : Bool). c.ended.result ≡ ended written Success b) c.has_taken.ensures c.ended.ensures)
     c.write_audit-written.ensures.ok c.write_audit-written.ensures.err in
     file_came _ _ c.args.file.now (Ok c.in-Ok.answers.items) i.0 i.1 old new _ _ c.ended.result i.2 i.3 (i.4 clean)
     (subst (λ (l : List LineAnswer). EndsAs (imported (Ok l)) [] old new c.ended.result) c.as_slice-answers.ensures.value ends) (none_counted _ _ c.in-Ok.ensures.counted)

@@ -13,5 +13,6 @@ returns-in-Audit-clause-went g c = λ clean.
     let after = g.B.Books.rows c.answer_audit.new.books in
     let counts = g.B.Issued.failures c.args.books.now in
     let counts' = g.B.Issued.failures c.answer_audit.new.books in
-    let went = subst (λ (l : List ℕ). Leads rows (Answered (FileComes l) s s [] old new counts counts' c.answer_audit.result) after) c.deref.ensures.value (c.answer_audit.ensures.went clean s) in
+    let went = subst (λ (l : List ℕ). Leads rows (Answered (FileComes l) s s [] old new counts counts' c.answer_audit.result) after) c.deref.ensures.value
+    (c.answer_audit.ensures.went clean s) in
     subst (λ (t : Task). Leads rows (Answered (TaskComes t c.args.request.now.body.items) s s [] old new counts counts' c.answer_audit.result) after) (sym c.in-Audit.is) went

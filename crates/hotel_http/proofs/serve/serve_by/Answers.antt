@@ -32,7 +32,8 @@ returns-in_err-answer_request-in-Ok-clause-serves g c =
     (Answered (Comes wanted) (g.R.Rng.stream c.args.source.now) (g.R.Rng.stream c.answer_request.new.source) (interim_where awaited) old new
     (g.B.Issued.failures c.args.books.now) (g.B.Issued.failures c.answer_request.new.books) end) (g.B.Books.rows c.answer_request.new.books) in
     let read = subst (λ (got : Result Request Rejection). EndsRequest known old mid (Ok got)) c.in-Ok.is c.in_ok-request.ensures.ends in
-    subst (λ (r : Result Served ServeFault). Serves known old new same went r) (sym (is_cut c.from_residual-in_err-answer_request-in-Ok.result _ c.from_residual-in_err-answer_request-in-Ok.ensures.1))
+    subst (λ (r : Result Served ServeFault). Serves known old new same went r) (sym
+    (is_cut c.from_residual-in_err-answer_request-in-Ok.result _ c.from_residual-in_err-answer_request-in-Ok.ensures.1))
     (inl (request_served _ _ _ _ known old mid new _ _ c.in-Ok.request (Err c.in_err-answer_request-in-Ok.field-0.0) _ read c.in_err-answer_request-in-Ok.ensures.went))
 
 pub returns-in_ok-answer_rejection-in-Err-clause-serves : goal.returns-in_ok-answer_rejection-in-Err-clause-serves
@@ -41,7 +42,8 @@ returns-in_ok-answer_rejection-in-Err-clause-serves g c =
     let old = g.W.Write.contents c.args.writer.now in
     let mid = g.W.Write.contents c.read_request.new.writer in
     let read = subst (λ (got : Result Request Rejection). EndsRequest known old mid (Ok got)) c.in-Err.is c.in_ok-request.ensures.ends in
-    rejection_served _ _ known old mid _ _ c.in-Err.why (Ok c.in_ok-answer_rejection-in-Err.field-0) _ read c.in_ok-answer_rejection-in-Err.ensures.ends (none_counted _ _ (omega arith))
+    rejection_served _ _ known old mid _ _ c.in-Err.why (Ok c.in_ok-answer_rejection-in-Err.field-0) _ read c.in_ok-answer_rejection-in-Err.ensures.ends
+    (none_counted _ _ (omega arith))
 
 pub returns-in_err-answer_rejection-in-Err-clause-serves : goal.returns-in_err-answer_rejection-in-Err-clause-serves
 returns-in_err-answer_rejection-in-Err-clause-serves g c =
@@ -53,7 +55,10 @@ returns-in_err-answer_rejection-in-Err-clause-serves g c =
     let rows = g.B.Books.rows c.args.books.now in
     let counts = g.B.Issued.failures c.args.books.now in
     let same = (c.args.books.now ≡ c.args.books.now) × (c.args.source.now ≡ c.args.source.now) in
-    let went : Wanted → Bool → Result Served Cut → Type 0 = λ wanted awaited end. g.B.Issued.is_clean c.args.books.now → Leads rows (Answered (Comes wanted) s s (interim_where awaited) old new counts counts end) rows in
+    let went : Wanted → Bool → Result Served Cut → Type 0 = λ wanted awaited end. g.B.Issued.is_clean c.args.books.now → Leads rows
+    (Answered (Comes wanted) s s (interim_where awaited) old new counts counts end) rows in
     let read = subst (λ (got : Result Request Rejection). EndsRequest known old mid (Ok got)) c.in-Err.is c.in_ok-request.ensures.ends in
-    subst (λ (r : Result Served ServeFault). Serves known old new same went r) (sym (is_cut c.from_residual-in_err-answer_rejection-in-Err.result _ c.from_residual-in_err-answer_rejection-in-Err.ensures.1))
-    (inl (rejection_served rows s known old mid new counts c.in-Err.why (Err c.in_err-answer_rejection-in-Err.field-0.0) _ read c.in_err-answer_rejection-in-Err.ensures.ends (none_counted _ _ (omega arith))))
+    subst (λ (r : Result Served ServeFault). Serves known old new same went r) (sym
+    (is_cut c.from_residual-in_err-answer_rejection-in-Err.result _ c.from_residual-in_err-answer_rejection-in-Err.ensures.1))
+    (inl (rejection_served rows s known old mid new counts c.in-Err.why (Err c.in_err-answer_rejection-in-Err.field-0.0) _ read c.in_err-answer_rejection-in-Err.ensures.ends
+    (none_counted _ _ (omega arith))))
