@@ -1,5 +1,5 @@
 -- What a look-up promises.
-use Rattle.std.specs.Prelude.{◌≡◌, ℕ, false, length, List, [], ◌∷◌, map, Option, Some, None, Result, IfOk}
+use Rattle.std.specs.Prelude.{◌≡◌, ℕ, false, length, List, [], ◌∷◌, map, Option, Some, None, Result, IfOk, OnOk, IsTrue}
 use Rattle.sqlite.specs.Order.{Row}
 use Rattle.sqlite.specs.Query.{Query, IsAnswer}
 use Rattle.sqlite.specs.Program.{overlay}
@@ -7,7 +7,7 @@ use Rattle.sqlite.specs.Tree.{Trees}
 use Rattle.sqlite.specs.Command.TheVariants.{Select}
 use Rattle.sqlite.specs.Listing.{understood, reads_listing}
 use Rattle.sqlite.specs.Given.{IsPlain}
-use Rattle.sqlite.specs.State.{State, Survives}
+use Rattle.sqlite.specs.State.{State, HasCleanDisk, Survives}
 use Rattle.sqlite_resolve.specs.declared.compiled.Compiled.{Compiled}
 use Rattle.sqlite_resolve.specs.declared.error.CompileError.{CompileError}
 use Rattle.keycard_rules.specs.declared.issued.LookFault.{LookFault}
@@ -51,7 +51,8 @@ pub record Looks {A R : Type 0} (said : R → A) (wanted : Rows → A) (old new 
   pub books : IsBooks new
   pub keeps : KeepsRows old new
   pub found : IsKept new → IfOk result (λ a. said a ≡ wanted (rows_in old.now.trees))
-  pub crash : IsKept old → Survives old new (λ _. ⊥)
+  pub open_on : IsKept old → HasCleanDisk new → OnOk result (IsTrue new.is_open)
+  pub crash : Survives old new (λ _. IsKept old → ⊥)
 
 -- the numbers after the last party and the last card
 abbrev pub next_numbers_of : Rows → NextNumbers
