@@ -8,6 +8,8 @@ mod look_ups;
 mod number;
 mod open_fault;
 mod table_books;
+#[cfg(test)]
+mod tests;
 mod texts;
 
 pub use open_fault::OpenFault;
