@@ -1,5 +1,6 @@
 -- What the look-ups by a key find.
-use Rattle.std.proofs.Common.{OnOk, IsTrue, ◌≡◌, ◌&&◌, refl, sym, ap, ap₂, subst, ◌∙◌, List, [], ◌∷◌, ℕ, None, Some, Option, map, filter, Ordering, Less, Equal, Greater, nat_cmp, is_eq, eqb, Result, IfOk}
+use Rattle.std.proofs.Common.{OnOk, IsTrue, ◌≡◌, ◌&&◌, refl, sym, ap, ap₂, subst, ◌∙◌, List, [], ◌∷◌, ℕ}
+use Rattle.std.proofs.Common.{None, Some, Option, map, filter, Ordering, Less, Equal, Greater, nat_cmp, is_eq, eqb, Result, IfOk}
 use Rattle.std.specs.Prelude.{option_map}
 use Rattle.std.specs.Ordering.{ordering_then}
 use Rattle.std.specs.Map.{lookup}

@@ -46,7 +46,8 @@ FindsFirst of text params old result = (q : Query) → Asks text q → IfOk resu
 abbrev pub FindsAll : {A R : Type 0} → (R → List A) → (Row → A) → List ℕ → Row → State → Result R LookFault → Type 0
 FindsAll said of text params old result = (q : Query) → Asks text q → IfOk result (λ all. AnswersAll of q params old.now.trees (said all))
 
--- A look-up of the books, of a connection from old to new: where the test holds at its end, its answer says what is wanted of the rows. It changes no row, and a crash in it leaves nothing new.
+-- A look-up of the books, of a connection from old to new: where the test holds at its end, its answer says what is wanted of the rows.
+-- It changes no row, and a crash in it leaves nothing new.
 pub record Looks {A R : Type 0} (said : R → A) (wanted : Rows → A) (old new : State) (result : Result R LookFault) : Type 0 where
   pub books : IsBooks new
   pub keeps : KeepsRows old new
