@@ -25,7 +25,8 @@ use Rattle.hotel_core.specs.Model.Rows.{Rows, has_kind, at_number}
 use Rattle.hotel_core.specs.Books.Lookups.{room_at, codes_in, code_place, stay_at, card_at, note_at, inside_at}
 use Rattle.hotel_core.proofs.OfTables.Pairs.{pair_cmp_total}
 use Rattle.hotel_tables.specs.Values.{number_of, option_of, text_of, int}
-use Rattle.hotel_tables.specs.Columns.{meta_columns, meta_written, kind_columns, kind_of, kind_written, room_columns, room_row_of, room_written, stay_columns, stay_row_of, stay_written, code_columns, code_row_of, code_written, card_columns, card_row_of, card_written, inside_columns, inside_of, inside_written, note_columns, note_row_of, note_written}
+use Rattle.hotel_tables.specs.Columns.{meta_columns, meta_written, kind_columns, kind_of, kind_written, room_columns, room_row_of, room_written, stay_columns, stay_row_of, stay_written}
+use Rattle.hotel_tables.specs.Columns.{code_columns, code_row_of, code_written, card_columns, card_row_of, card_written, inside_columns, inside_of, inside_written, note_columns, note_row_of, note_written}
 use Rattle.hotel_tables.specs.Tables.{AreTables, IsWrittenAs, rows_in, metas_in}
 use Rattle.hotel_tables.specs.LookUps.{AnswersFirst}
 use Rattle.hotel_tables.proofs.Answers.{single, passes}

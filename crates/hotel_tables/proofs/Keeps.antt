@@ -9,6 +9,7 @@ use Rattle.sqlite.specs.declared.error.Error.{Error}
 use Rattle.sqlite.proofs.Callers.{IsPlain}
 use Rattle.sqlite_schema.specs.declared.command.Returning.{Returning}
 use Rattle.sqlite_resolve.specs.declared.compiled.Compiled.{Compiled}
+use Rattle.sqlite.proofs.StateLemmas.{survives_then}
 use Rattle.hotel_tables.specs.Books.{IsDesk, IsKept, IsBooks, KeepsRows}
 use Rattle.hotel_tables.specs.Tables.{AreTables}
 
@@ -101,3 +102,33 @@ unfolding Shown
 shown_stay sql params old new rows plain h =
     let none = (subst IsPlain h.1.is plain).0 in
     inl (subst (ShowsRows old new sql h.0 _ rows) none h.2).3
+
+-- ---- a statement that showed rows left the connection open
+
+pub shown_is_open : (sql : List ℕ) (params : Row) (old new : State) (rows : List Row) → IsPlain (understood old.now.schema sql) → Shown sql params old new rows
+    → IsTrue new.is_open
+unfolding Shown
+shown_is_open sql params old new rows plain h =
+    let none = (subst IsPlain h.1.is plain).0 in
+    (subst (ShowsRows old new sql h.0 _ rows) none h.2).3.0.is_open
+
+pub first_is_open : (sql : List ℕ) (params : Row) (old new : State) (row : Row) → IsPlain (understood old.now.schema sql) → QueriesRow sql params old new (Ok row)
+    → IsTrue new.is_open
+unfolding QueriesRow
+first_is_open sql params old new row plain (inl h) = h.1.0.is_open
+first_is_open sql params old new row plain (inr h) = shown_is_open sql params old new h.0 plain h.1
+
+-- ---- two look-ups, the first of which was answered
+
+pub then_keeps : (old mid new : State) → KeepsRows old mid → KeepsRows mid new → KeepsRows old new
+then_keeps old mid new first then kept =
+    let after = then kept in
+    let before = first after.0 in
+    (before.0, after.1 ∙ before.1)
+
+pub then_survives : (old mid new : State) → (IsKept old → HasCleanDisk mid → IsTrue mid.is_open) → Survives old mid (λ _. IsKept old → ⊥)
+    → Survives mid new (λ _. IsKept mid → ⊥) → Survives old new (λ _. IsKept old → ⊥)
+then_survives old mid new open_on first then =
+    survives_then old mid new _ _ _ (λ _ db none. none) (λ clean db none kept.
+    let before : HasCleanDisk mid = omega (arith, then.clean, clean) in
+    none (before, open_on kept before)) first then

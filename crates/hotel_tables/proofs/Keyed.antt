@@ -1,5 +1,6 @@
 -- What the look-ups by a key find.
-use Rattle.std.proofs.Common.{◌≡◌, ◌&&◌, refl, sym, ap, ap₂, subst, ◌∙◌, List, [], ◌∷◌, ℕ, None, Some, Option, map, filter, Ordering, Less, Equal, Greater, nat_cmp, is_eq, eqb, Result, IfOk}
+use Rattle.std.proofs.Common.{OnOk, IsTrue, ◌≡◌, ◌&&◌, refl, sym, ap, ap₂, subst, ◌∙◌, List, [], ◌∷◌, ℕ}
+use Rattle.std.proofs.Common.{None, Some, Option, map, filter, Ordering, Less, Equal, Greater, nat_cmp, is_eq, eqb, Result, IfOk}
 use Rattle.std.specs.Prelude.{option_map}
 use Rattle.std.specs.Ordering.{ordering_then}
 use Rattle.std.specs.Map.{lookup}
@@ -17,7 +18,7 @@ use Rattle.sqlite.specs.Order.{Row, column}
 use Rattle.sqlite.specs.Query.{Query}
 use Rattle.sqlite.specs.Term.{Term, eval_all}
 use Rattle.sqlite.specs.Tree.{Trees, IsAscending}
-use Rattle.sqlite.specs.State.{State, Survives}
+use Rattle.sqlite.specs.State.{State, HasCleanDisk, Survives}
 use Rattle.keycard_rules.specs.declared.issued.LookFault.{LookFault}
 use Rattle.hotel_core.specs.Model.Words.{pair_cmp}
 use Rattle.hotel_core.specs.Model.Rows.{Rows, at_number}
@@ -114,12 +115,13 @@ module _ {V : Type 0} (tree : ℕ) (project : List Term) (columns : Row → Row)
 pub looks_to : {A B R : Type 0} (text : List ℕ) (params : Row) (old new : State) (out : Row → A) (q : Query) (found : Result (Option A) LookFault) (result : Result R LookFault)
     (said : R → B) (wanted : Rows → B)
     → IsBooks old → IsBooks new → KeepsRows old new → (IsKept new → (p : Query) → Asks text p → IfOk found (AnswersFirst out p params old.now.trees))
-    → (IsKept old → Survives old new (λ _. ⊥)) → Asks text q
+    → (IsKept old → HasCleanDisk new → OnOk result (IsTrue new.is_open)) → Survives old new (λ _. IsKept old → ⊥) → Asks text q
     → (IsKept old → AreTables old.now.trees → IfOk found (AnswersFirst out q params old.now.trees) → IfOk result (λ a. said a ≡ wanted (rows_in old.now.trees)))
     → Looks said wanted old new result
-looks_to text params old new out q found result said wanted was books keeps finds crash asks is = record {
+looks_to text params old new out q found result said wanted was books keeps finds open_on crash asks is = record {
   books = books;
   keeps = keeps;
   found = λ kept. let before = (keeps kept).0 in is before (was.desk before).tables (finds kept q asks);
+  open_on = open_on;
   crash = crash;
 }

@@ -1,5 +1,5 @@
 -- One keyed statement, and the row that it finds.
-use Rattle.std.proofs.Common.{◌≡◌, inl, inr, sym, subst, List, [], ℕ, None, Some, Option, Ok, Err, Result, IsTrue, false, map}
+use Rattle.std.proofs.Common.{OnOk, ◌≡◌, inl, inr, sym, subst, List, [], ℕ, None, Some, Option, Ok, Err, Result, IsTrue, false, map}
 use Rattle.sqlite_value.specs.declared.value.Value.TheVariants.{Null}
 use Rattle.sqlite.specs.Order.{Row}
 use Rattle.sqlite.specs.Query.{Query}
@@ -19,7 +19,7 @@ use Rattle.sqlite.proofs.StateLemmas.{survives_weaker}
 use Rattle.hotel_tables.specs.Schema.{desk_schema}
 use Rattle.hotel_tables.specs.Books.{IsDesk, IsKept, IsBooks, KeepsRows}
 use Rattle.hotel_tables.specs.LookUps.{Asks, IsQuery, AnswersFirst, AnswersAll}
-use Rattle.hotel_tables.proofs.Keeps.{Stays, query_stays, query_opened, keeps_books, keeps_rows, shown_stay, shown_opened, fails_stay, fail_opened}
+use Rattle.hotel_tables.proofs.Keeps.{Stays, query_stays, query_opened, keeps_books, keeps_rows, shown_stay, shown_opened, shown_is_open, first_is_open, fails_stay, fail_opened}
 
 -- no other failure is that no row was found
 not_read : (command : Command) (limit : Option ℕ) (db : Database) (params : Row) → RefusesToRead limit command db params QueryReturnedNoRows → ⊥
@@ -70,8 +70,8 @@ module _ (text : List ℕ) (params : Row) (old new : State) (r : Result Row Erro
   pub look_keeps : KeepsRows old new
   look_keeps = keeps_rows old new _ books mode survives stays opened
 
-  pub look_crash : IsKept old → Survives old new (λ _. ⊥)
-  look_crash kept = survives_weaker old new _ _ (λ _ db. never_commits text params old db (plain_in text asked.0 old asked.1 (books.desk kept))) survives
+  pub look_crash : Survives old new (λ _. IsKept old → ⊥)
+  look_crash = survives_weaker old new _ _ (λ _ db commits kept. never_commits text params old db (plain_in text asked.0 old asked.1 (books.desk kept)) commits) survives
 
   pub look_found : {A : Type 0} (out : Row → A) (row : Row) (x : A) → r ≡ Ok row → x ≡ out row → IsKept new → (q : Query) → Asks text q
       → AnswersFirst out q params old.now.trees (Some x)
@@ -89,12 +89,24 @@ module _ (text : List ℕ) (params : Row) (old new : State) (r : Result Row Erro
       go desk (inl h) = absurd (not_failed text params old new (plain_in text q old asks desk) h)
       go desk (inr h) = (reads_as text params old new desk_schema desk.schema _ (command_is q _ asks.query).1 asks.plain asks.listing [] h.1).answer Null
 
+  pub look_open : (row : Row) → r ≡ Ok row → IsKept old → HasCleanDisk new → IsTrue new.is_open
+  look_open row is kept clean = first_is_open text params old new row (plain_in text asked.0 old asked.1 (books.desk kept))
+      (subst (QueriesRow text params old new) is (runs clean))
+
+  pub none_open : r ≡ Err QueryReturnedNoRows → IsKept old → HasCleanDisk new → IsTrue new.is_open
+  unfolding QueriesRow
+  none_open is kept clean = go (plain_in text asked.0 old asked.1 (books.desk kept)) (subst (QueriesRow text params old new) is (runs clean))
+    where
+      go : IsPlain (understood old.now.schema text) → QueriesRow text params old new (Err QueryReturnedNoRows) → IsTrue new.is_open
+      go plain (inl h) = absurd (not_failed text params old new plain h)
+      go plain (inr h) = shown_is_open text params old new [] plain h.1
+
 -- ---- all rows of an answer
 
 module _ (text : List ℕ) (params : Row) (old new : State) (books : IsBooks old) (asked : (q : Query) × Asks text q)
     (mode : old.in_transaction ≡ false → new.in_transaction ≡ false) (survives : Survives old new (CommitsShowing text params old)) where
-  pub all_crash : IsKept old → Survives old new (λ _. ⊥)
-  all_crash kept = survives_weaker old new _ _ (λ _ db. never_commits text params old db (plain_in text asked.0 old asked.1 (books.desk kept))) survives
+  pub all_crash : Survives old new (λ _. IsKept old → ⊥)
+  all_crash = survives_weaker old new _ _ (λ _ db commits kept. never_commits text params old db (plain_in text asked.0 old asked.1 (books.desk kept)) commits) survives
 
   module _ (rows : List Row) (shown : HasCleanDisk new → Shown text params old new rows) where
     all_stays : HasCleanDisk new → IsDesk old → Stays old new
@@ -114,6 +126,9 @@ module _ (text : List ℕ) (params : Row) (old new : State) (books : IsBooks old
         let desk = books.desk (all_keeps kept).0 in
         (rows, (reads_as text params old new desk_schema desk.schema _ (command_is q _ asks.query).1 asks.plain asks.listing rows (shown kept.0)).answer Null, reads)
 
+    pub all_open : IsKept old → HasCleanDisk new → IsTrue new.is_open
+    all_open kept clean = shown_is_open text params old new rows (plain_in text asked.0 old asked.1 (books.desk kept)) (shown clean)
+
   module _ (e : Error) (fails : HasCleanDisk new → FailsToQuery text params old new e) where
     fault_stays : HasCleanDisk new → IsDesk old → Stays old new
     fault_stays clean desk = fails_stay text params old new e (plain_in text asked.0 old asked.1 desk) (fails clean)
@@ -126,3 +141,7 @@ module _ (text : List ℕ) (params : Row) (old new : State) (books : IsBooks old
 
     pub fault_keeps : KeepsRows old new
     fault_keeps = keeps_rows old new _ books mode survives fault_stays fault_opened
+
+pub on_ok_always : {A E P : Type 0} (r : Result A E) → P → OnOk r P
+on_ok_always (Ok a) p = p
+on_ok_always (Err e) p = tt

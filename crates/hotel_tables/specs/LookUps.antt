@@ -1,5 +1,5 @@
 -- What a look-up promises.
-use Rattle.std.specs.Prelude.{◌≡◌, ℕ, false, length, List, [], ◌∷◌, map, Option, Some, None, Result, IfOk}
+use Rattle.std.specs.Prelude.{◌≡◌, ℕ, false, length, List, [], ◌∷◌, map, Option, Some, None, Result, IfOk, OnOk, IsTrue}
 use Rattle.sqlite.specs.Order.{Row}
 use Rattle.sqlite.specs.Query.{Query, IsAnswer}
 use Rattle.sqlite.specs.Program.{overlay}
@@ -7,7 +7,7 @@ use Rattle.sqlite.specs.Tree.{Trees}
 use Rattle.sqlite.specs.Command.TheVariants.{Select}
 use Rattle.sqlite.specs.Listing.{understood, reads_listing}
 use Rattle.sqlite.specs.Given.{IsPlain}
-use Rattle.sqlite.specs.State.{State, Survives}
+use Rattle.sqlite.specs.State.{State, HasCleanDisk, Survives}
 use Rattle.sqlite_resolve.specs.declared.compiled.Compiled.{Compiled}
 use Rattle.sqlite_resolve.specs.declared.error.CompileError.{CompileError}
 use Rattle.keycard_rules.specs.declared.issued.LookFault.{LookFault}
@@ -46,12 +46,14 @@ FindsFirst of text params old result = (q : Query) → Asks text q → IfOk resu
 abbrev pub FindsAll : {A R : Type 0} → (R → List A) → (Row → A) → List ℕ → Row → State → Result R LookFault → Type 0
 FindsAll said of text params old result = (q : Query) → Asks text q → IfOk result (λ all. AnswersAll of q params old.now.trees (said all))
 
--- A look-up of the books, of a connection from old to new: where the test holds at its end, its answer says what is wanted of the rows. It changes no row, and a crash in it leaves nothing new.
+-- A look-up of the books, of a connection from old to new: where the test holds at its end, its answer says what is wanted of the rows.
+-- It changes no row, and a crash in it leaves nothing new.
 pub record Looks {A R : Type 0} (said : R → A) (wanted : Rows → A) (old new : State) (result : Result R LookFault) : Type 0 where
   pub books : IsBooks new
   pub keeps : KeepsRows old new
   pub found : IsKept new → IfOk result (λ a. said a ≡ wanted (rows_in old.now.trees))
-  pub crash : IsKept old → Survives old new (λ _. ⊥)
+  pub open_on : IsKept old → HasCleanDisk new → OnOk result (IsTrue new.is_open)
+  pub crash : Survives old new (λ _. IsKept old → ⊥)
 
 -- the numbers after the last party and the last card
 abbrev pub next_numbers_of : Rows → NextNumbers

@@ -58,6 +58,10 @@ with_inside = created with_card inside_table
 abbrev pub Leads : (State → Type 0) → (State → Type 0) → State → State → Type 0
 Leads Before After old new = (IsTrue old.is_open → Before old) → After new
 
+-- the tables are made of those that were there
+abbrev pub LeadsBare : Schema → Schema → State → State → Type 0
+LeadsBare before after = Leads (IsBare before) (IsBare after)
+
 -- whatever tables are there, the text's table is made
 abbrev pub Makes : List ℕ → State → State → Type 0
 Makes text old new = (schema : Schema) (t : Table) → IsMaker schema text t → Leads (IsBare schema) (IsBare (created schema t)) old new

@@ -4,7 +4,7 @@ ghost use Rattle.sqlite.specs.Held.{state};
 ghost use Rattle.sqlite.specs.State.{HasCleanDisk, KeepsCommit, Survives};
 ghost use Rattle.hotel_tables.specs.Schema.{no_schema, desk_schema};
 ghost use Rattle.hotel_tables.specs.Books.{IsKept, IsBooks};
-ghost use Rattle.hotel_tables.specs.Making.{Leads, Makes, IsBare, IsMade, IsEmptyDesk, with_stay};
+ghost use Rattle.hotel_tables.specs.Making.{Leads, LeadsBare, Makes, IsBare, IsMade, IsEmptyDesk, with_stay};
 
 use crate::texts::{
     CREATE_CARD, CREATE_CODE, CREATE_INSIDE, CREATE_KIND, CREATE_META, CREATE_NOTE, CREATE_ROOM,
@@ -26,7 +26,7 @@ fn make<S: Alter>(tx: &mut Transaction<'_, S>, text: &str) -> Result<(), Error>
 /// Makes the tables of the desk, its kinds, rooms and stays.
 fn make_first<S: Alter>(tx: &mut Transaction<'_, S>) -> Result<(), Error>
     ensures same_reference { tx.new.conn.ghost_name ≡ tx.old.conn.ghost_name }
-    ensures made { HasCleanDisk (state S.Store tx.new.conn.now) → OnOk result (Leads (IsBare no_schema) (IsBare with_stay) (state S.Store tx.old.conn.now) (state S.Store tx.new.conn.now)) }
+    ensures made { HasCleanDisk (state S.Store tx.new.conn.now) → OnOk result (LeadsBare no_schema with_stay (state S.Store tx.old.conn.now) (state S.Store tx.new.conn.now)) }
     ensures kept { HasCleanDisk (state S.Store tx.new.conn.now) → KeepsCommit (state S.Store tx.old.conn.now) (state S.Store tx.new.conn.now) }
     ensures survives { Survives (state S.Store tx.old.conn.now) (state S.Store tx.new.conn.now) (λ _. ⊥) }
 {
@@ -39,7 +39,7 @@ fn make_first<S: Alter>(tx: &mut Transaction<'_, S>) -> Result<(), Error>
 /// Makes the tables of codes, cards, insides and notes.
 fn make_last<S: Alter>(tx: &mut Transaction<'_, S>) -> Result<(), Error>
     ensures same_reference { tx.new.conn.ghost_name ≡ tx.old.conn.ghost_name }
-    ensures made { HasCleanDisk (state S.Store tx.new.conn.now) → OnOk result (Leads (IsBare with_stay) (IsBare desk_schema) (state S.Store tx.old.conn.now) (state S.Store tx.new.conn.now)) }
+    ensures made { HasCleanDisk (state S.Store tx.new.conn.now) → OnOk result (LeadsBare with_stay desk_schema (state S.Store tx.old.conn.now) (state S.Store tx.new.conn.now)) }
     ensures kept { HasCleanDisk (state S.Store tx.new.conn.now) → KeepsCommit (state S.Store tx.old.conn.now) (state S.Store tx.new.conn.now) }
     ensures survives { Survives (state S.Store tx.old.conn.now) (state S.Store tx.new.conn.now) (λ _. ⊥) }
 {

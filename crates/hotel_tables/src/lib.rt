@@ -13,6 +13,8 @@ mod open_fault;
 mod steps;
 mod stored;
 mod table_books;
+#[cfg(test)]
+mod tests;
 mod texts;
 
 pub use damage::{first_damaged, undamaged_is_sound};

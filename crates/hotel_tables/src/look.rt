@@ -1,7 +1,7 @@
 //! One keyed statement, and the row that it finds.
-ghost use Rattle.std.specs.Prelude.{◌≡◌, IfOk, map};
+ghost use Rattle.std.specs.Prelude.{◌≡◌, IfOk, OnOk, IsTrue, map};
 ghost use Rattle.sqlite.specs.Held.{state};
-ghost use Rattle.sqlite.specs.State.{Survives};
+ghost use Rattle.sqlite.specs.State.{HasCleanDisk, Survives};
 ghost use Rattle.sqlite.specs.Query.{Query};
 ghost use Rattle.sqlite.specs.Values.{bound};
 ghost use Rattle.hotel_tables.specs.Books.{IsBooks, IsKept, KeepsRows};
@@ -25,7 +25,8 @@ pub(crate) fn look<S: Alter, R: FromRow>(
     ensures books { IsBooks (state S.Store conn.new) }
     ensures keeps { KeepsRows (state S.Store conn.old) (state S.Store conn.new) }
     ensures found { IsKept (state S.Store conn.new) → FindsFirst R.FromRow.of text.now (bound params.now) (state S.Store conn.old) result }
-    ensures crash { IsKept (state S.Store conn.old) → Survives (state S.Store conn.old) (state S.Store conn.new) (λ _. ⊥) }
+    ensures open_on { IsKept (state S.Store conn.old) → HasCleanDisk (state S.Store conn.new) → OnOk result (IsTrue (state S.Store conn.new).is_open) }
+    ensures crash { Survives (state S.Store conn.old) (state S.Store conn.new) (λ _. IsKept (state S.Store conn.old) → ⊥) }
 {
     match conn.query_row(text, params) {
         Ok(row) => Ok(Some(R::from_row(alloc, &row)?)),
@@ -60,7 +61,8 @@ pub(crate) fn look_all<S: Alter, R: FromRow + Drop>(
     ensures books { IsBooks (state S.Store conn.new) }
     ensures keeps { KeepsRows (state S.Store conn.old) (state S.Store conn.new) }
     ensures found { IsKept (state S.Store conn.new) → FindsAll (λ all. all.items) R.FromRow.of text.now (bound params.now) (state S.Store conn.old) result }
-    ensures crash { IsKept (state S.Store conn.old) → Survives (state S.Store conn.old) (state S.Store conn.new) (λ _. ⊥) }
+    ensures open_on { IsKept (state S.Store conn.old) → HasCleanDisk (state S.Store conn.new) → OnOk result (IsTrue (state S.Store conn.new).is_open) }
+    ensures crash { Survives (state S.Store conn.old) (state S.Store conn.new) (λ _. IsKept (state S.Store conn.old) → ⊥) }
 {
     match conn.query_all(text, params) {
         Ok(rows) => read_all(alloc, &rows),

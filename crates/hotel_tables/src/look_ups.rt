@@ -1,5 +1,5 @@
 //! The look-ups of the books, each over the connection: one keyed statement, but for the next numbers, which are two.
-ghost use Rattle.std.specs.Prelude.{◌≡◌, IfOk, not, length, true, unwrap_or};
+ghost use Rattle.std.specs.Prelude.{◌≡◌, not, length, true, unwrap_or};
 ghost use Rattle.std.specs.Map.{keys_of};
 ghost use Rattle.hotel_core.specs.Model.SoundRooms.{count_up};
 ghost use Rattle.hotel_tables.specs.Tables.{rows_in};
@@ -8,7 +8,7 @@ ghost use Rattle.hotel_core.specs.Model.Rows.{has_kind};
 ghost use Rattle.hotel_core.specs.Model.Words.{is_one_of};
 ghost use Rattle.hotel_core.specs.Model.Guests.{are_none};
 ghost use Rattle.hotel_core.specs.Books.Lookups.{room_at, codes_in, code_place, code_at, stay_at, stays_of_kind, card_at, inside_at, note_at, number_after};
-ghost use Rattle.hotel_tables.specs.Books.{IsBooks, IsKept, KeepsRows};
+ghost use Rattle.hotel_tables.specs.Books.{IsBooks, IsKept};
 ghost use Rattle.hotel_tables.specs.LookUps.{Looks, next_numbers_of};
 
 use crate::look::{look, look_all};
@@ -235,9 +235,7 @@ pub(crate) fn next_numbers<S: Alter>(
     requires books { IsBooks (state S.Store conn.old) }
     requires parties { IsKept (state S.Store conn.old) → count_up 1 (keys_of (rows_in (state S.Store conn.old).now.trees).stays) ≡ true }
     requires cards { IsKept (state S.Store conn.old) → count_up 1 (keys_of (rows_in (state S.Store conn.old).now.trees).cards) ≡ true }
-    ensures books { IsBooks (state S.Store conn.new) }
-    ensures keeps { KeepsRows (state S.Store conn.old) (state S.Store conn.new) }
-    ensures found { IsKept (state S.Store conn.new) → IfOk result (λ numbers. numbers ≡ next_numbers_of (rows_in (state S.Store conn.old).now.trees)) }
+    ensures { Looks (λ a. a) next_numbers_of (state S.Store conn.old) (state S.Store conn.new) result }
 {
     let party = last_party(alloc, conn)?;
     let card = last_card(alloc, conn)?;

@@ -1,7 +1,7 @@
 use Rattle.std.proofs.Common.{◌∙◌, ap, Err, rules}
 use Rattle.sqlite.specs.Held.{state}
 use Rattle.sqlite.specs.Values.{bound}
-use Rattle.hotel_tables.proofs.Looked.{look_books, look_keeps, look_crash, look_found, look_lost}
+use Rattle.hotel_tables.proofs.Looked.{look_books, look_keeps, look_crash, look_found, look_lost, look_open, none_open}
 use Rattle.hotel_tables.proofs.look.look.Goals as goal
 
 pub returns-in_err-from_row-in-Ok-clause-books : goal.returns-in_err-from_row-in-Ok-clause-books
@@ -68,6 +68,17 @@ returns-in-Err g c = record {
   keeps = look_keeps c.args.text.now (bound c.args.params.now) (state g.S.Store c.args.conn.now)
       (state g.S.Store c.query_row.new.self) c.query_row.result c.requires.books c.requires.asks c.query_row.ensures.row c.query_row.ensures.mode c.query_row.ensures.survives;
   found = λ _ _ _. tt;
+  open_on = λ _ _. tt;
   crash = look_crash c.args.text.now (bound c.args.params.now) (state g.S.Store c.args.conn.now)
       (state g.S.Store c.query_row.new.self) c.query_row.result c.requires.books c.requires.asks c.query_row.ensures.row c.query_row.ensures.mode c.query_row.ensures.survives;
 }
+
+pub returns-in_ok-from_row-in-Ok-clause-open_on : goal.returns-in_ok-from_row-in-Ok-clause-open_on
+returns-in_ok-from_row-in-Ok-clause-open_on g c = look_open c.args.text.now (bound c.args.params.now) (state g.S.Store c.args.conn.now)
+    (state g.S.Store c.query_row.new.self) c.query_row.result c.requires.books c.requires.asks c.query_row.ensures.row c.query_row.ensures.mode c.query_row.ensures.survives
+    c.in-Ok.row c.in-Ok.is
+
+pub returns-in-Err-QueryReturnedNoRows-clause-open_on : goal.returns-in-Err-QueryReturnedNoRows-clause-open_on
+returns-in-Err-QueryReturnedNoRows-clause-open_on g c = none_open c.args.text.now (bound c.args.params.now) (state g.S.Store c.args.conn.now)
+    (state g.S.Store c.query_row.new.self) c.query_row.result c.requires.books c.requires.asks c.query_row.ensures.row c.query_row.ensures.mode c.query_row.ensures.survives
+    (c.in-Err-QueryReturnedNoRows.is ∙ ap Err c.in-Err-QueryReturnedNoRows.field-0-is)

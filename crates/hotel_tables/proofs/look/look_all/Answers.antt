@@ -2,7 +2,7 @@ use Rattle.std.proofs.Common.{◌∙◌, ap, map}
 use Rattle.std.proofs.lemmas.Result.{IfOk-weaker}
 use Rattle.sqlite.specs.Held.{state}
 use Rattle.sqlite.specs.Values.{bound}
-use Rattle.hotel_tables.proofs.Looked.{all_crash, all_books, all_keeps, all_found, fault_books, fault_keeps}
+use Rattle.hotel_tables.proofs.Looked.{on_ok_always, all_crash, all_books, all_keeps, all_found, all_open, fault_books, fault_keeps}
 use Rattle.hotel_tables.proofs.look.look_all.Goals as goal
 
 pub returns-in-Ok-clause-books : goal.returns-in-Ok-clause-books
@@ -34,3 +34,8 @@ returns-in-Err-clause-keeps g c = fault_keeps c.args.text.now (bound c.args.para
 pub returns-in-Err-clause-crash : goal.returns-in-Err-clause-crash
 returns-in-Err-clause-crash g c = all_crash c.args.text.now (bound c.args.params.now) (state g.S.Store c.args.conn.now)
     (state g.S.Store c.query_all.new.self) c.requires.books c.requires.asks c.query_all.ensures.mode c.query_all.ensures.survives
+
+pub returns-in-Ok-clause-open_on : goal.returns-in-Ok-clause-open_on
+returns-in-Ok-clause-open_on g c = λ kept clean. on_ok_always c.read_all.result (all_open c.args.text.now (bound c.args.params.now) (state g.S.Store c.args.conn.now)
+    (state g.S.Store c.query_all.new.self) c.requires.books c.requires.asks c.query_all.ensures.mode c.query_all.ensures.survives c.in-Ok.rows.items c.in-Ok.ensures.ok kept
+    clean)

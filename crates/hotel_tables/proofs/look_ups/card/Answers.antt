@@ -22,5 +22,5 @@ returns g c =
     let finds : IsKept new → (p : Query) → Asks text.select_card p → IfOk c.look.result (AnswersFirst (card_row_of) p (int c.args.number ∷ []) old.now.trees) =
     rw (c.small.ensures, c.value.ensures.same) at c.look.ensures.found in
     looks_to text.select_card (int c.args.number ∷ []) old new (card_row_of) _ c.look.result c.look.result
-    (λ a. a) _ c.requires c.look.ensures.books c.look.ensures.keeps finds c.look.ensures.crash selects.select_card
+    (λ a. a) _ c.requires c.look.ensures.books c.look.ensures.keeps finds c.look.ensures.open_on c.look.ensures.crash selects.select_card
     (λ kept tables. IfOk-weaker c.look.result _ _ (λ o a. card_finds old.now.trees tables c.args.number o a))

@@ -22,5 +22,5 @@ returns g c =
     let finds : IsKept new → (p : Query) → Asks text.select_code p → IfOk c.look.result (AnswersFirst (code_row_of) p (int c.args.code ∷ []) old.now.trees) =
     rw (c.number.ensures, c.value.ensures.same) at c.look.ensures.found in
     looks_to text.select_code (int c.args.code ∷ []) old new (code_row_of) _ c.look.result c.look.result
-    (λ a. a) _ c.requires c.look.ensures.books c.look.ensures.keeps finds c.look.ensures.crash selects.select_code
+    (λ a. a) _ c.requires c.look.ensures.books c.look.ensures.keeps finds c.look.ensures.open_on c.look.ensures.crash selects.select_code
     (λ kept tables. IfOk-weaker c.look.result _ _ (λ o a. code_finds old.now.trees tables c.args.code o a))

@@ -22,5 +22,5 @@ returns g c =
     let finds : IsKept new → (p : Query) → Asks text.select_note p → IfOk c.look.result (AnswersFirst (note_row_of) p (int c.args.room ∷ int c.args.count ∷ []) old.now.trees) =
     rw (c.small.ensures, c.small-2.ensures, c.value.ensures.same, c.value-2.ensures.same) at c.look.ensures.found in
     looks_to text.select_note (int c.args.room ∷ int c.args.count ∷ []) old new (note_row_of) _ c.look.result c.look.result
-    (λ a. a) _ c.requires c.look.ensures.books c.look.ensures.keeps finds c.look.ensures.crash selects.select_note
+    (λ a. a) _ c.requires c.look.ensures.books c.look.ensures.keeps finds c.look.ensures.open_on c.look.ensures.crash selects.select_note
     (λ kept tables. IfOk-weaker c.look.result _ _ (λ o a. note_finds old.now.trees tables c.args.room c.args.count o a))

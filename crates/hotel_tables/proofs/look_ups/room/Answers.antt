@@ -22,5 +22,5 @@ returns g c =
     let finds : IsKept new → (p : Query) → Asks text.select_room p → IfOk c.look.result (AnswersFirst (room_row_of) p (int c.args.room ∷ []) old.now.trees) =
     rw (c.small.ensures, c.value.ensures.same) at c.look.ensures.found in
     looks_to text.select_room (int c.args.room ∷ []) old new (room_row_of) _ c.look.result c.look.result
-    (λ a. a) _ c.requires c.look.ensures.books c.look.ensures.keeps finds c.look.ensures.crash selects.select_room
+    (λ a. a) _ c.requires c.look.ensures.books c.look.ensures.keeps finds c.look.ensures.open_on c.look.ensures.crash selects.select_room
     (λ kept tables. IfOk-weaker c.look.result _ _ (λ o a. room_finds old.now.trees tables c.args.room o a))
