@@ -1,8 +1,7 @@
 -- How the transaction of a change ends, and what that leaves of the books.
-use Rattle.std.proofs.Common.{◌≡◌, ◌⊎◌, inl, inr, refl, sym, ap, subst, ◌∙◌, List, [], ◌∷◌, ℕ, true, false, Ok, Err, Result, OnOk, OnErr, IfErr, IsTrue, true≢false, arith}
-use Rattle.sqlite.specs.Tree.{Trees}
+use Rattle.std.proofs.Common.{◌≡◌, inl, inr, refl, sym, ap, subst, ◌∙◌, [], true, false, Ok, Err, Result, OnOk, OnErr, IfErr, IsTrue, true≢false, arith}
 use Rattle.sqlite.specs.Effect.{Database}
-use Rattle.sqlite.specs.State.{State, HasCleanDisk, KeepsCommit, IsRolledBack, Survives, Shows, KeepsCounts}
+use Rattle.sqlite.specs.State.{State, HasCleanDisk, IsRolledBack, Survives, Shows, KeepsCounts}
 use Rattle.sqlite.specs.Steps.{FailsToCommit}
 use Rattle.sqlite.specs.declared.error.Error.{Error}
 use Rattle.sqlite.proofs.StateLemmas.{survives_then}

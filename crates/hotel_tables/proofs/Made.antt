@@ -8,3 +8,6 @@ pub mod Sources
 pub mod Updates
 pub mod Moves
 pub mod Issued
+pub mod Insides
+pub mod Deletes
+pub mod Noted

@@ -6,8 +6,8 @@ pub mod Tables
 pub mod Books
 pub mod Making
 pub mod LookUps
-pub mod TableBooks
 pub mod Steps
+pub mod TableBooks
 pub mod Stored
 pub mod Keys
 pub mod Places

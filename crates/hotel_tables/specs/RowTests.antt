@@ -108,12 +108,12 @@ abbrev pub is_brought : Stored → CodeLine → Bool
 is_brought s line = (number_of line.place == 0) || list_any (λ (card : CardLine). number_of card.new_code == number_of line.code) s.cards.items
 
 -- a card of the room's newest link is of the party
-abbrev pub is_owned : Stored → RoomLine → ℕ → CardLine → Bool
-is_owned s line party card = not (is_newest (rows_of s) (number_of line.room) (link_row card)) || (number_of card.party == party)
+abbrev pub is_owned : Stored → ℕ → ℕ → CardLine → Bool
+is_owned s room party card = not (is_newest (rows_of s) room (link_row card)) || (number_of card.party == party)
 
 -- all cards of the room's newest link are of its party, where it has one
 abbrev pub has_owner : Stored → RoomLine → Bool
-has_owner s line = said_of (option_map number_of line.party) true (λ party. list_all (is_owned s line party) s.cards.items)
+has_owner s line = said_of (option_map number_of line.party) true (λ party. list_all (is_owned s (number_of line.room) party) s.cards.items)
 
 -- the last card of a party in house has the newest link of its room
 abbrev pub has_last : Stored → StayLine → Bool

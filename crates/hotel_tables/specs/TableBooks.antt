@@ -18,15 +18,15 @@ use Rattle.hotel_tables.specs.Books.{IsKept, IsBooks}
 pub record Tabled (S : Type 0) : Type 0 where
   pub conn : Held S
   pub kinds : List (List ℕ × ℕ)
-  pub nights : List ((List ℕ × ℕ) × ℕ)
+  pub nights : List ((List ℕ × ℕ) × List ℕ)
   pub memory : ℕ
   pub store : ℕ
 
 abbrev pub tabled_code : {S : Type 0} → Coded S → Coded (Tabled S)
 tabled_code {S} store =
-    code_by (Held S × (List (List ℕ × ℕ) × (List ((List ℕ × ℕ) × ℕ) × (ℕ × ℕ))))
+    code_by (Held S × (List (List ℕ × ℕ) × (List ((List ℕ × ℕ) × List ℕ) × (ℕ × ℕ))))
     (coded× (held_code store) (coded× (coded_list (coded× (coded_list coded_ℕ) coded_ℕ))
-    (coded× (coded_list (coded× (coded× (coded_list coded_ℕ) coded_ℕ) coded_ℕ)) (coded× coded_ℕ coded_ℕ))))
+    (coded× (coded_list (coded× (coded× (coded_list coded_ℕ) coded_ℕ) (coded_list coded_ℕ))) (coded× coded_ℕ coded_ℕ))))
     (λ b. (b.conn, (b.kinds, (b.nights, (b.memory, b.store)))))
     (λ p. record { conn = p.0; kinds = p.1.0; nights = p.1.1.0; memory = p.1.1.1.0; store = p.1.1.1.1 })
     (λ _. refl)
@@ -37,12 +37,12 @@ failed b Memory = b.memory
 failed b Store = b.store
 
 -- The counts are those of the rows, and the rows are sound.
-pub record IsCounted (kinds : List (List ℕ × ℕ)) (nights : List ((List ℕ × ℕ) × ℕ)) (rows : Rows) : Type 0 where
+pub record IsCounted (kinds : List (List ℕ × ℕ)) (nights : List ((List ℕ × ℕ) × List ℕ)) (rows : Rows) : Type 0 where
   pub sound : IsSound rows
   pub rooms : (kind : List ℕ) → rooms_in kinds kind ≡ rooms_of_kind rows kind
   pub stays : StandsFor nights (values_of rows.stays)
 
 -- What books over tables keep true, whatever has failed.
-pub record IsTabled (s : State) (kinds : List (List ℕ × ℕ)) (nights : List ((List ℕ × ℕ) × ℕ)) : Type 0 where
+pub record IsTabled (s : State) (kinds : List (List ℕ × ℕ)) (nights : List ((List ℕ × ℕ) × List ℕ)) : Type 0 where
   pub books : IsBooks s
   pub counted : IsKept s → IsCounted kinds nights (rows_in s.now.trees)

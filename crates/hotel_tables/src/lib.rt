@@ -8,13 +8,12 @@ mod from_row;
 mod issue;
 mod look;
 mod look_ups;
+mod noting;
 mod number;
 mod open_fault;
 mod steps;
 mod stored;
 mod table_books;
-#[cfg(test)]
-mod tests;
 mod texts;
 
 pub use damage::{first_damaged, undamaged_is_sound};

@@ -2,22 +2,25 @@
 ghost use Rattle.std.specs.Prelude.{◌≡◌, IsTrue, OnOk, None, false};
 ghost use Rattle.sqlite.specs.Held.{state};
 ghost use Rattle.sqlite.specs.State.{HasCleanDisk, KeepsCommit, Survives};
+ghost use Rattle.std.specs.List.{AllByRecursion};
+ghost use Rattle.std.specs.Ordering.{is_eq};
+ghost use Rattle.hotel_core.specs.Model.Words.{pair_cmp};
 ghost use Rattle.hotel_core.specs.Model.Rows.{has_kind};
 ghost use Rattle.hotel_core.specs.Books.Lookups.{note_at};
 ghost use Rattle.hotel_tables.specs.Tables.{rows_in};
-ghost use Rattle.hotel_tables.specs.Steps.{IsMid, Steps, day_set, kind_added, room_added, code_added, stay_added, card_added, note_added, room_issued, room_left, room_noted, stay_set};
+ghost use Rattle.hotel_tables.specs.Steps.{IsMid, Steps, day_set, kind_added, room_added, code_added, stay_added, card_added, note_added, inside_added, inside_gone, room_issued, room_left, room_noted, stay_set};
 
 use crate::number::{
     act_card, act_first, act_number, act_second, bit, coded, dated, maybe, numbered, room_of,
     small, standing, text,
 };
 use crate::texts::{
-    INSERT_CARD, INSERT_CODE, INSERT_KIND, INSERT_NOTE, INSERT_ROOM, INSERT_STAY, UPDATE_DAY,
-    UPDATE_ISSUED, UPDATE_NOTED, UPDATE_PARTY, UPDATE_STATE,
+    DELETE_INSIDE, INSERT_CARD, INSERT_CODE, INSERT_INSIDE, INSERT_KIND, INSERT_NOTE, INSERT_ROOM,
+    INSERT_STAY, UPDATE_DAY, UPDATE_ISSUED, UPDATE_NOTED, UPDATE_PARTY, UPDATE_STATE,
 };
 use hotel_core::{CodeRow, RoomRow};
 use hotel_nights::{Day, KindCode, Stay, StayState};
-use keycard_rules::{Card, Code, Count, LockNote, PartyNo, RoomNo};
+use keycard_rules::{Card, CardNo, Code, Count, LockNote, PartyNo, RoomNo};
 use sqlite::{Alter, Error, Transaction};
 
 /// Sets the day.
@@ -151,6 +154,36 @@ pub(crate) fn insert_note<S: Alter>(
             small(note.second()),
         ],
     )?;
+    Ok(())
+}
+
+/// Adds a card that isn't inside the room.
+pub(crate) fn insert_inside<S: Alter>(
+    tx: &mut Transaction<'_, S>,
+    room: RoomNo,
+    card: CardNo,
+) -> Result<(), Error>
+    ensures same_reference { tx.new.conn.ghost_name ≡ tx.old.conn.ghost_name }
+    ensures made { HasCleanDisk (state S.Store tx.new.conn.now) → OnOk result ((IsTrue (state S.Store tx.old.conn.now).is_open → IsMid (state S.Store tx.old.conn.now) × AllByRecursion (λ e. is_eq (pair_cmp (room, card) e) ≡ false) (rows_in (state S.Store tx.old.conn.now).now.trees).inside) → Steps (state S.Store tx.old.conn.now) (state S.Store tx.new.conn.now) (inside_added room card)) }
+    ensures kept { HasCleanDisk (state S.Store tx.new.conn.now) → KeepsCommit (state S.Store tx.old.conn.now) (state S.Store tx.new.conn.now) }
+    ensures survives { Survives (state S.Store tx.old.conn.now) (state S.Store tx.new.conn.now) (λ _. ⊥) }
+{
+    tx.execute(INSERT_INSIDE, &[numbered(room), numbered(card)])?;
+    Ok(())
+}
+
+/// Takes a card out of those inside the room.
+pub(crate) fn delete_inside<S: Alter>(
+    tx: &mut Transaction<'_, S>,
+    room: RoomNo,
+    card: CardNo,
+) -> Result<(), Error>
+    ensures same_reference { tx.new.conn.ghost_name ≡ tx.old.conn.ghost_name }
+    ensures made { HasCleanDisk (state S.Store tx.new.conn.now) → OnOk result ((IsTrue (state S.Store tx.old.conn.now).is_open → IsMid (state S.Store tx.old.conn.now)) → Steps (state S.Store tx.old.conn.now) (state S.Store tx.new.conn.now) (inside_gone room card)) }
+    ensures kept { HasCleanDisk (state S.Store tx.new.conn.now) → KeepsCommit (state S.Store tx.old.conn.now) (state S.Store tx.new.conn.now) }
+    ensures survives { Survives (state S.Store tx.old.conn.now) (state S.Store tx.new.conn.now) (λ _. ⊥) }
+{
+    tx.execute(DELETE_INSIDE, &[numbered(room), numbered(card)])?;
     Ok(())
 }
 

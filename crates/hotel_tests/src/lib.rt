@@ -6,6 +6,8 @@ mod audit_files;
 #[cfg(test)]
 mod codes;
 #[cfg(test)]
+mod damaged_rows;
+#[cfg(test)]
 mod desks;
 #[cfg(test)]
 mod failing_walks;
@@ -15,6 +17,8 @@ mod imports;
 mod lists;
 #[cfg(test)]
 mod long_lists;
+#[cfg(test)]
+mod new_desk;
 #[cfg(test)]
 mod reads_and_writes;
 #[cfg(test)]

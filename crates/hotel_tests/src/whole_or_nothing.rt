@@ -1,7 +1,8 @@
 //! Each growth refused in turn: `rt try --test --fail-alloc N`, for N from 1 on, over these tests. A command that found no
 //! memory has left the books as they were.
-use crate::desks::{Desk, FIRST_DAY, code, entered, party, room};
+use crate::desks::{Desk, FIRST_DAY, code, day, entered, kind, party, room};
 use hotel_core::{Books, Command, ListBooks, Refusal, Reply, RoomRow, step};
+use hotel_nights::{Guest, Nights};
 use keycard_rules::{CardNo, Count, RoomNo};
 use std::alloc::Global;
 use std::process::Abort;
@@ -97,4 +98,38 @@ fn enters<A: Abort>(rt: &A, desk: &mut Desk) -> Result<(), Fail> {
 fn a_note_is_whole_or_nothing(rt: HostRuntime) -> Result<(), Fail> {
     let mut desk = booked(rt.alloc())?;
     enters(&rt, &mut desk)
+}
+
+/// A desk of one room, with a booking of one night in each of 13 spans of 32 nights.
+fn thirteen_spans(alloc: Global) -> Result<Desk, Fail> {
+    let mut desk = Desk::begun(alloc, &[1], &[1])?;
+    for span in 0..13u16 {
+        desk.reserve("Ada", FIRST_DAY + span * 32, 1)?;
+    }
+    Ok(desk)
+}
+
+/// Whether any of the 90 nights from a day on is taken in the one room.
+fn is_any_taken(books: &mut ListBooks, from: u16) -> Result<bool, Fail> {
+    Ok(
+        books
+            .full_night(&kind()?, day(from)?, day(from + 90)?)?
+            .is_some(),
+    )
+}
+
+/// The stay's nights are of four spans, and one of these is the sixteenth of the counts, which wants memory: 15 fill a node.
+#[test]
+fn a_stay_takes_all_its_nights_or_none(rt: HostRuntime) -> Result<(), Fail> {
+    let mut desk = thirteen_spans(rt.alloc())?;
+    let from = FIRST_DAY + 425;
+    let reserve = Command::Reserve {
+        guest: Guest::read(rt.alloc(), "Ann Lee")?,
+        kind: kind()?,
+        arrive: day(from)?,
+        nights: Nights::new(90).ok_or("nights")?,
+    };
+    let taken = is_done(&rt, &mut desk, &reserve);
+    assert_eq!(rt; is_any_taken(&mut desk.books, from)?, taken);
+    Ok(())
 }

@@ -1,5 +1,5 @@
 -- A desk of whose tables one is written: of the eight lists one moves.
-use Rattle.std.proofs.Common.{if◌then◌else◌, ◌≡◌, ◌≢◌, true, inl, inr, refl, sym, ap, subst, ◌∙◌, List, [], ◌∷◌, ℕ, Option, None, Some, Ok, IsTrue, arith, eqb}
+use Rattle.std.proofs.Common.{◌≡◌, ◌≢◌, true, inl, inr, refl, sym, ap, subst, ◌∙◌, List, [], ◌∷◌, ℕ, Option, Ok, IsTrue, arith, eqb}
 use Rattle.std.specs.Cmp.Lexicographic.{slice_cmp}
 use Rattle.std.specs.Ordering.{nat_cmp}
 use Rattle.std.specs.List.{AllByRecursion}
@@ -15,8 +15,8 @@ use Rattle.hotel_core.specs.Model.Words.{pair_cmp}
 use Rattle.hotel_core.specs.Model.Rows.{Rows}
 use Rattle.hotel_tables.specs.Schema.{desk_schema}
 use Rattle.hotel_tables.specs.Columns.{meta_columns, meta_of, meta_written, kind_columns, kind_of, kind_written, room_columns, room_of, room_written, stay_columns, stay_of, stay_written, code_columns, code_of, code_written, card_columns, card_of, card_written, inside_columns, inside_of, inside_written, note_columns, note_of, note_written}
-use Rattle.hotel_tables.specs.Tables.{IsTable, AreTables, AreApartIds, HasId, rows_in, metas_in, listed, by_key}
-use Rattle.hotel_tables.specs.Steps.{IsMid, Steps}
+use Rattle.hotel_tables.specs.Tables.{IsTable, AreTables, AreApartIds, HasId, rows_in, listed, by_key}
+use Rattle.hotel_tables.specs.Steps.{Steps}
 
 abbrev pub AreMetas : List Row → Type 0
 AreMetas rows = IsTable (by_key nat_cmp) meta_columns meta_of meta_written rows

@@ -1,8 +1,5 @@
 -- What each statement of a transaction makes of the rows of a desk.
-use Rattle.std.proofs.Common.{◌≡◌, refl, sym, ap, subst, ◌∙◌, List, [], ◌∷◌, ℕ, Ok, IsTrue}
-use Rattle.std.specs.Ordering.{nat_cmp}
-use Rattle.std.specs.BTreeMap.{insert_entry}
-use Rattle.sqlite.specs.Order.{Row}
+use Rattle.std.proofs.Common.{refl, ap, ◌∙◌, ℕ, Ok, IsTrue}
 use Rattle.sqlite.specs.Tree.{put_row}
 use Rattle.sqlite.specs.State.{State, ExecutesInside}
 use Rattle.keycard_rules.specs.declared.card.Card.{Card}

@@ -1,5 +1,5 @@
 -- A row that is added to a table, and a row that is changed in its place.
-use Rattle.std.proofs.Common.{if◌then◌else◌, ◌==◌, ◌≡◌, ◌⊎◌, ◌<◌, ◌≤◌, not, inl, inr, refl, sym, ap, ap₂, subst, ◌∙◌, List, [], ◌∷◌, ℕ, pos, true, false, Bool, cond, Option, None, Some, map, filter, arith, eqb, Ordering, Less, Equal, Greater, nat_cmp, is_eq, is_gt, true≢false}
+use Rattle.std.proofs.Common.{if◌then◌else◌, ◌==◌, ◌≡◌, ◌⊎◌, ◌<◌, not, inl, inr, refl, sym, ap, ap₂, subst, ◌∙◌, List, [], ◌∷◌, ℕ, pos, true, false, Bool, map, filter, arith, eqb, Ordering, Less, Equal, Greater, nat_cmp, is_eq, is_gt, true≢false}
 use Rattle.std.specs.Ordering.{match_ordering}
 use Rattle.std.specs.Cmp.{IsTotalOrder}
 use Rattle.std.specs.List.{AllByRecursion}
@@ -14,13 +14,13 @@ use Rattle.sqlite.proofs.Callers.{one_permutation}
 use Rattle.sqlite_value.specs.Order.{Row, column, value_cmp}
 use Rattle.sqlite_trees.specs.Tree.{IsAscending, rowid, put_row, without_rowid, has_rowid}
 use Rattle.sqlite_rules.specs.Edit.{is_taken}
-use Rattle.sqlite_keyed.specs.Lists.{insert_sorted, sort_by}
+use Rattle.sqlite_keyed.specs.Lists.{insert_sorted}
 use Rattle.sqlite_keyed.proofs.ListLemmas.{all_weaker, all_both, all_map, none_from_any, any_from_none, ascending_weaker, all-filter, IsPermutation-filter}
 use Rattle.sqlite_keyed.proofs.SortLemmas.{IsPermutation-sort_by}
 use Rattle.hotel_tables.specs.Values.{int}
 use Rattle.hotel_tables.specs.Tables.{IsTableOf, IsTable, IsWrittenAs, listed, by_key}
 use Rattle.hotel_tables.proofs.Keys.{same_number, is_key}
-use Rattle.hotel_tables.proofs.Perm.{every_shuffled, put_makes, filter_makes, filter_mapped, found_of, sort_rises}
+use Rattle.hotel_tables.proofs.Perm.{every_shuffled, put_makes, filter_makes, filter_mapped, sort_rises}
 
 pub key_total : {K V : Type 0} (cmp : K → K → Ordering) → IsTotalOrder cmp → IsTotalOrder (by_key {V = V} cmp)
 key_total cmp total = on_total (λ e. e.0) total

@@ -1,7 +1,6 @@
 -- The steps of an issue make the change.
-use Rattle.std.proofs.Common.{if◌then◌else◌, ◌≡◌, ◌==◌, ◌+◌, inl, inr, refl, sym, ap, ap₂, subst, ◌∙◌, List, [], ◌∷◌, ℕ, true, false, Bool, Option, None, Some, IsTrue, arith, eqb, is_eq, nat_cmp}
+use Rattle.std.proofs.Common.{◌≡◌, ◌+◌, inl, inr, refl, sym, ap, ap₂, ◌∙◌, List, [], ◌∷◌, ℕ, true, false, Option, None, Some, eqb, is_eq, nat_cmp}
 use Rattle.std.proofs.lemmas.Bool.{cases_Bool}
-use Rattle.std.proofs.lemmas.Bool.Decides.{nat_tests}
 use Rattle.sqlite.specs.State.{State, HasCleanDisk}
 use Rattle.keycard_rules.specs.declared.card.Card.{Card}
 use Rattle.hotel_core.specs.declared.books.rows.RoomRow.{RoomRow}
@@ -11,7 +10,7 @@ use Rattle.hotel_core.specs.Model.Rows.{Rows, at_number}
 use Rattle.hotel_core.specs.Books.Change.{made, codes_of, room_changed, without_party, left_by}
 use Rattle.hotel_tables.specs.Tables.{rows_in}
 use Rattle.hotel_tables.specs.Books.{IsKept}
-use Rattle.hotel_tables.specs.Steps.{IsMid, Steps, code_given, card_given}
+use Rattle.hotel_tables.specs.Steps.{code_given, card_given}
 use Rattle.hotel_tables.proofs.Keys.{is_key}
 use Rattle.hotel_tables.proofs.Ends.{Begins, Does, fits_start}
 

@@ -1,5 +1,5 @@
 -- What each UPDATE of a transaction makes of the rows of a desk, and each INSERT into a table whose rows have a number of their own.
-use Rattle.std.proofs.Common.{if◌then◌else◌, ◌==◌, ◌≡◌, inl, inr, refl, sym, ap, subst, ◌∙◌, List, [], ◌∷◌, ℕ, true, false, Bool, Option, None, Some, Ok, IsTrue, is_eq, nat_cmp, true≢false}
+use Rattle.std.proofs.Common.{if◌then◌else◌, ◌==◌, ◌≡◌, inl, inr, refl, ap, ◌∙◌, List, [], ◌∷◌, ℕ, false, Bool, None, Some, Ok, IsTrue, is_eq, nat_cmp}
 use Rattle.std.specs.Cmp.Lexicographic.{slice_cmp}
 use Rattle.std.specs.List.{AllByRecursion}
 use Rattle.std.specs.Map.{lookup}
@@ -11,7 +11,6 @@ use Rattle.std.proofs.lemmas.Cmp.{on_total, then_total, nat_cmp_total, nat_list_
 use Rattle.std.proofs.lemmas.Map.Text.{is_eq-slice_cmp}
 use Rattle.sqlite_keyed.proofs.ListLemmas.{all_weaker, none_from_any}
 use Rattle.sqlite_rules.specs.Edit.{next_rowid}
-use Rattle.sqlite.specs.Order.{Row}
 use Rattle.sqlite.specs.Tree.{put_row}
 use Rattle.sqlite.specs.State.{State, ExecutesInside}
 use Rattle.keycard_rules.specs.Note.{Note}

@@ -13,8 +13,8 @@ use Rattle.hotel_nights.specs.declared.stay.StayState.TheVariants.{Booked, InHou
 use Rattle.hotel_core.specs.declared.books.rows.RoomRow.{RoomRow}
 use Rattle.hotel_core.specs.declared.books.rows.CodeRow.{CodeRow}
 use Rattle.hotel_core.specs.Model.Cases.{room_of_state}
-use Rattle.hotel_tables.specs.Values.{number_of, option_of, text_of, int, maybe_int}
-use Rattle.hotel_tables.specs.Columns.{meta_columns, meta_of, meta_written, kind_columns, kind_of, kind_written, bit_of, room_columns, room_of, room_written, state_of, state_number, stay_columns, stay_of, stay_written, code_columns, code_of, code_written, card_columns, card_of, card_written, inside_columns, inside_of, inside_written, act_of, act_number, act_card, act_first, act_second, note_columns, note_of, note_written}
+use Rattle.hotel_tables.specs.Values.{option_of, int, maybe_int}
+use Rattle.hotel_tables.specs.Columns.{meta_columns, meta_of, meta_written, bit_of, room_columns, room_of, room_written, state_of, state_number, stay_columns, stay_of, stay_written, code_columns, code_of, code_written, card_columns, card_of, card_written, act_of, act_number, act_card, act_first, act_second, note_columns, note_of, note_written}
 use Rattle.hotel_tables.specs.Tables.{IsWrittenAs}
 
 maybe_reads : (o : Option ℕ) → option_of (maybe_int o) ≡ o

@@ -1,12 +1,11 @@
 -- What each UPDATE makes of its table.
-use Rattle.std.proofs.Common.{◌≡◌, ◌⊎◌, inl, inr, refl, sym, ap, subst, ◌∙◌, List, [], ◌∷◌, ℕ, ℤ, pos, None, Some, Option, Ok, true, false, Bool, filter, arith, eqb, nat_cmp}
+use Rattle.std.proofs.Common.{◌≡◌, ◌⊎◌, inl, inr, refl, ap, subst, ◌∙◌, List, [], ◌∷◌, ℕ, pos, None, Some, Option, Ok, false, Bool, filter, arith, eqb, nat_cmp}
 use Rattle.std.proofs.lemmas.Bool.Decides.{nat_tests}
 use Rattle.sqlite_value.specs.declared.value.Value.TheVariants.{Null, Int, Text}
 use Rattle.sqlite.specs.Order.{Row, column}
-use Rattle.sqlite.specs.Term.{Term, lit, col, eval_all}
-use Rattle.sqlite.specs.Table.{Table}
+use Rattle.sqlite.specs.Term.{Term, lit, col}
 use Rattle.sqlite.specs.Command.TheVariants.{Update}
-use Rattle.sqlite.specs.Edit.{Edit, edit_of, edited}
+use Rattle.sqlite.specs.Edit.{edit_of, edited}
 use Rattle.sqlite.specs.Rowids.TheVariants.{Given}
 use Rattle.sqlite_rules.specs.Calls.{ids_of}
 use Rattle.sqlite.specs.Does.{Tally, Does}
@@ -26,13 +25,13 @@ use Rattle.hotel_tables.specs.Texts.{update_day, update_issued, update_party, up
 use Rattle.hotel_tables.specs.Values.{int, maybe_int}
 use Rattle.hotel_tables.specs.Columns.{bit_of, state_number, meta_columns, meta_of, meta_written, room_columns, room_of, room_written, stay_columns, stay_of, stay_written}
 use Rattle.hotel_tables.specs.Tables.{IsTable, by_key}
-use Rattle.hotel_tables.proofs.Answers.{single, env}
+use Rattle.hotel_tables.proofs.Answers.{single}
 use Rattle.hotel_tables.proofs.Statements.Terms.{by_rowid}
 use Rattle.hotel_tables.proofs.Statements.Changes as changes
-use Rattle.hotel_tables.proofs.Writing.{went, same_value, cast_null, cast_int, cast_maybe, cast_text}
+use Rattle.hotel_tables.proofs.Writing.{went, same_value, cast_null, cast_int, cast_maybe}
 use Rattle.hotel_tables.proofs.Made.Desk.{Changed, changed}
 use Rattle.hotel_tables.proofs.Made.Entries.{Updated, update_makes, changed_at}
-use Rattle.hotel_tables.proofs.Made.Sources.{Sourced, sourced}
+use Rattle.hotel_tables.proofs.Made.Sources.{sourced}
 use Rattle.hotel_tables.proofs.Made.Reads.{meta_stored, meta_good, meta_reads, meta_numbered, room_stored, room_good, room_reads, room_numbered, stay_stored, stay_good, stay_reads, stay_numbered}
 
 -- a table of rows is written with some rows, of which f was done to that of a number

@@ -49,7 +49,7 @@ owners_together : (s : Stored) → newest_of_party (rows_of s) ≡ list_all (has
 owners_together s =
     all_mapped (λ (e : ℕ × RoomRow). said_of e.1.party true (owns_newest (rows_of s) e.1.room)) room_entry s.rooms.items
     ∙ all_alike _ (has_owner s) s.rooms.items (λ line.
-    said_alike (option_map number_of line.party) true (owns_newest (rows_of s) (number_of line.room)) (λ party. list_all (is_owned s line party) s.cards.items)
+    said_alike (option_map number_of line.party) true (owns_newest (rows_of s) (number_of line.room)) (λ party. list_all (is_owned s (number_of line.room) party) s.cards.items)
     (λ party. all_mapped (λ (e : ℕ × Card). not (is_newest (rows_of s) (number_of line.room) e.1.link) || (e.1.party == party)) card_entry s.cards.items))
 
 lasts_together : (s : Stored) → last_cards_newest (rows_of s) ≡ list_all (has_last s) s.stays.items

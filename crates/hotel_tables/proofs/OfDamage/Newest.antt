@@ -8,6 +8,7 @@ use Rattle.hotel_core.specs.Model.Rows.{at_number, last_link_of}
 use Rattle.hotel_core.specs.Model.Notes.{same_link}
 use Rattle.hotel_core.specs.Model.SoundRooms.{count_up}
 use Rattle.hotel_core.proofs.OfTables.MapEntries.{at_is, eq_from}
+use Rattle.hotel_tables.specs.Lasts.{link_of_both}
 use Rattle.hotel_core.proofs.OfTables.Numbered.{apart_by}
 use Rattle.hotel_core.proofs.SoundRows.SoundRoomRows.{eq_tested}
 
@@ -58,3 +59,29 @@ due_parts es n listed h =
     let p = both_parts (count_up 0 (keys_of es) && (length (values_of es) == n)) (listed == n) h in
     let q = both_parts (count_up 0 (keys_of es)) (length (values_of es) == n) p.0 in
     (q.0, sym (length_values es) ∙ eq_from (length (values_of es)) n q.1)
+
+-- the last two of codes whose places count up
+pub last_two : (k : ℕ) (es : List (ℕ × ℕ)) (i j : ℕ) → count_up k (keys_of es) ≡ true → 2 ≤ length es → i + 2 ≡ k + length es → j + 1 ≡ k + length es
+    → last_link_of (values_of es) ≡ link_of_both (at_number es i) (at_number es j)
+last_two k [] i j h two ei ej = absurd (omega (arith, two))
+last_two k (e ∷ []) i j h two ei ej = absurd (omega (arith, two))
+last_two k (e ∷ g ∷ []) i j h two ei ej =
+    let p = both_parts (e.0 == k) (count_up (k + 1) (g.0 ∷ [])) h in
+    let q = both_parts (g.0 == k + 1) true p.1 in
+    let ek : e.0 ≡ k = eq_from e.0 k p.0 in
+    let gk : g.0 ≡ k + 1 = eq_from g.0 (k + 1) q.0 in
+    let at_i : at_number (e ∷ g ∷ []) i ≡ Some e.1 = at_first e (g ∷ []) i (omega (arith, ek, ei)) in
+    let at_j : at_number (e ∷ g ∷ []) j ≡ Some g.1 = at_next e (g ∷ []) j (λ same. omega (arith, ek, ej, same)) ∙ at_first g [] j (omega (arith, gk, ej)) in
+    sym (ap (λ o. link_of_both o (at_number (e ∷ g ∷ []) j)) at_i ∙ ap (λ o. link_of_both (Some e.1) o) at_j)
+last_two k (e ∷ g ∷ m ∷ es) i j h two ei ej =
+    let p = both_parts (e.0 == k) (count_up (k + 1) (g.0 ∷ m.0 ∷ keys_of es)) h in
+    let ek : e.0 ≡ k = eq_from e.0 k p.0 in
+    let ih = last_two (k + 1) (g ∷ m ∷ es) i j p.1 (omega arith) (omega (arith, ei)) (omega (arith, ej)) in
+    let at_i = at_next e (g ∷ m ∷ es) i (λ same. omega (arith, ek, ei, same)) in
+    let at_j = at_next e (g ∷ m ∷ es) j (λ same. omega (arith, ek, ej, same)) in
+    ih ∙ sym (ap (λ o. link_of_both o (at_number (e ∷ g ∷ m ∷ es) j)) at_i ∙ ap (λ o. link_of_both (at_number (g ∷ m ∷ es) i) o) at_j)
+
+pub no_link : (es : List (ℕ × ℕ)) → length es < 2 → last_link_of (values_of es) ≡ None
+no_link [] few = refl
+no_link (e ∷ []) few = refl
+no_link (e ∷ g ∷ es) few = absurd (omega (arith, few))

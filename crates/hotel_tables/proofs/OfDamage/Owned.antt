@@ -5,7 +5,7 @@ use Rattle.std.specs.List.{list_all}
 use Rattle.std.specs.BTreeMap.{is_at}
 use Rattle.std.specs.Map.{lookup}
 use Rattle.keycard_rules.specs.declared.card.Link.{Link}
-use Rattle.hotel_core.specs.Model.Words.{is_that, pair_cmp}
+use Rattle.hotel_core.specs.Model.Words.{is_that, pair_cmp, said_of}
 use Rattle.hotel_core.specs.Model.Notes.{same_link}
 use Rattle.hotel_core.proofs.OfTables.MapEntries.{eq_from, eq_self, eq_turned, pair_is, same_bool}
 use Rattle.hotel_core.proofs.OfTables.RowTests.{all_weaker}
@@ -87,3 +87,57 @@ agree_own lines all =
 
 pub own_and_agree : (s : Stored) → list_all (is_own s.cards.items) s.cards.items ≡ list_all (agrees s) s.cards.items
 own_and_agree s = same_bool _ _ (own_agree s.cards.items) (agree_own s.cards.items)
+
+-- ---- the cards of a newest link
+
+-- all cards of a link are of a party
+abbrev are_of : Link → ℕ → CardLine → Bool
+are_of newest p c = not (same_link newest (link_row c)) || (number_of c.party == p)
+
+own_in : (lines cs : List CardLine) (newest : Link) (q : ℕ) → list_all (is_own lines) cs ≡ true → owner_in cs newest ≡ Some q → is_that (owner_in lines newest) q ≡ true
+own_in lines [] newest q all e = absurd (let w : ◌≡◌ {A = Option ℕ} None (Some q) = e in cc)
+own_in lines (c ∷ cs) newest q all e =
+    let p = and_true (is_own lines c) (list_all (is_own lines) cs) all in
+    own_by (same_link (link_row c) newest) refl e p.0 (own_in lines cs newest q p.1)
+  where
+    own_by : (b : Bool) → same_link (link_row c) newest ≡ b → cond b (Some (number_of c.party)) (owner_in cs newest) ≡ Some q → is_own lines c ≡ true
+        → (owner_in cs newest ≡ Some q → is_that (owner_in lines newest) q ≡ true) → is_that (owner_in lines newest) q ≡ true
+    own_by true g f own ih =
+        let is : number_of c.party ≡ q = let w : ◌≡◌ {A = Option ℕ} (Some (number_of c.party)) (Some q) = f in cc in
+        subst (λ n. is_that (owner_in lines newest) n ≡ true) is (subst (λ link. is_that (owner_in lines link) (number_of c.party) ≡ true) (links_equal (link_row c) newest g) own)
+    own_by false g f own ih = ih f
+
+rest_by : (o : Option ℕ) (m p : ℕ) (b : Bool) → ((q : ℕ) → o ≡ Some q → (q == m) ≡ true) → (m == p) ≡ b → (b && said_of o true (λ q. q == p)) ≡ b
+rest_by (Some q) m p true f e = ap (λ n. n == p) (eq_from q m (f q refl)) ∙ e
+rest_by None m p true f e = refl
+rest_by o m p false f e = refl
+
+owned_in : (lines cs : List CardLine) (newest : Link) (p : ℕ) → list_all (is_own lines) cs ≡ true → list_all (are_of newest p) cs ≡ said_of (owner_in cs newest) true (λ q. q == p)
+owned_in lines [] newest p all = refl
+owned_in lines (c ∷ cs) newest p all =
+    let h = and_true (is_own lines c) (list_all (is_own lines) cs) all in
+    ap (λ b. (not b || (number_of c.party == p)) && list_all (are_of newest p) cs) (turned_link newest (link_row c))
+    ∙ owned_by (same_link (link_row c) newest) refl h.0 (owned_in lines cs newest p h.1) (λ q e. own_in lines cs newest q h.1 e)
+  where
+    owned_by : (b : Bool) → same_link (link_row c) newest ≡ b → is_own lines c ≡ true → list_all (are_of newest p) cs ≡ said_of (owner_in cs newest) true (λ q. q == p)
+        → ((q : ℕ) → owner_in cs newest ≡ Some q → is_that (owner_in lines newest) q ≡ true)
+        → ((not b || (number_of c.party == p)) && list_all (are_of newest p) cs) ≡ said_of (cond b (Some (number_of c.party)) (owner_in cs newest)) true (λ q. q == p)
+    owned_by true g own ih known_own =
+        ap (λ z. (number_of c.party == p) && z) ih
+        ∙ rest_by (owner_in cs newest) (number_of c.party) p (number_of c.party == p)
+        (λ q e. one_that (owner_in lines newest) q (number_of c.party) (known_own q e) (subst (λ link. is_that (owner_in lines link) (number_of c.party) ≡ true) (links_equal (link_row c) newest g) own)) refl
+    owned_by false g own ih known_own = ih
+
+all_free : (cs : List CardLine) → list_all (λ (c : CardLine). true) cs ≡ true
+all_free [] = refl
+all_free (c ∷ cs) = all_free cs
+
+-- the cards of the newest of links are of a party exactly where its first card is
+pub owned_newest : (lines : List CardLine) (last : Option Link) (p : ℕ) → list_all (is_own lines) lines ≡ true
+    → list_all (λ c. not (said_of last false (λ newest. same_link newest (link_row c))) || (number_of c.party == p)) lines
+    ≡ said_of last true (λ newest. said_of (owner_in lines newest) true (λ q. q == p))
+owned_newest lines (Some newest) p all = owned_in lines lines newest p all
+owned_newest lines None p all = all_free lines
+
+pub agreeing_own : (s : Stored) → list_all (agrees s) s.cards.items ≡ true → list_all (is_own s.cards.items) s.cards.items ≡ true
+agreeing_own s h = own_and_agree s ∙ h

@@ -75,7 +75,7 @@ fn links_hold(
     if !all_brought(&brought, stored) {
         return Ok(false);
     }
-    if !all_have_owners(placed, stored) {
+    if !all_have_owners(&owners, placed, stored) {
         return Ok(false);
     }
     Ok(all_have_lasts(places, placed, stored, &lasts))

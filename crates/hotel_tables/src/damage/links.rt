@@ -5,15 +5,18 @@ ghost use Rattle.keycard_rules.specs.declared.card.Link.{Link};
 ghost use Rattle.hotel_core.specs.Model.Rows.{at_number};
 ghost use Rattle.hotel_core.specs.Model.SoundCards.{has_newest, is_newest};
 ghost use Rattle.hotel_tables.specs.Stored.{number_of, rows_of, link_row};
-ghost use Rattle.hotel_tables.specs.Lasts.{link_pair, LastsOf};
+ghost use Rattle.hotel_tables.specs.Lasts.{link_of_pair, link_pair, LastsOf};
+ghost use Rattle.hotel_tables.specs.Owners.{OwnersOf, owner_in};
+ghost use Rattle.hotel_core.specs.Model.Words.{said_of};
 ghost use Rattle.hotel_tables.specs.Keys.{Finds, new_code_of};
 ghost use Rattle.hotel_tables.specs.Places.{AreOf};
-ghost use Rattle.hotel_tables.specs.Placed.{PlacesOf, placed_as_due};
-ghost use Rattle.hotel_tables.specs.RowTests.{is_brought, is_owned, has_owner, has_last, has_line_home};
+ghost use Rattle.hotel_tables.specs.Placed.{PlacesOf, are_due_at, placed_as_due};
+ghost use Rattle.hotel_tables.specs.RowTests.{agrees, is_brought, is_owned, has_owner, has_last, has_line_home};
 
 use crate::damage::found::{Places, room_at};
 use crate::damage::numbers::{number, number_if};
-use crate::damage::placed::{Placed, is_newest};
+use crate::damage::owners::owner_of;
+use crate::damage::placed::{Placed, is_newest, newest_of};
 use crate::damage::rooms::home_of;
 use crate::stored::{CardLine, CodeLine, RoomLine, StayLine, Stored};
 use keycard_rules::Memory;
@@ -69,43 +72,51 @@ pub(crate) fn all_brought(brought: &BTreeMap<u64, usize>, stored: &Stored) -> bo
     true
 }
 
-fn is_owned(
+/// Whether a link's cards are of a party, where it has any.
+fn is_link_of(
+    owners: &BTreeMap<(u64, u64), u64>,
+    stored: &Stored,
+    link: (u64, u64),
+    party: u64,
+) -> bool
+    requires { OwnersOf owners.now.entries stored.now.cards.items }
+    ensures { result ≡ said_of (owner_in stored.now.cards.items (link_of_pair link)) true (λ owner. owner == party) }
+{
+    let Some(owner) = owner_of(owners, link.0, link.1) else {
+        return true;
+    };
+    owner == party
+}
+
+/// Whether the cards of the newest link of a room with so many codes are of a party.
+fn all_owned(
+    owners: &BTreeMap<(u64, u64), u64>,
+    placed: &BTreeMap<u64, Placed>,
+    stored: &Stored,
+    room: u64,
+    codes: u64,
+    party: u64,
+) -> bool
+    requires owners { OwnersOf owners.now.entries stored.now.cards.items }
+    requires own { list_all (agrees stored.now) stored.now.cards.items ≡ true }
+    requires placed { PlacesOf placed.now.entries stored.now.codes.items }
+    requires due { are_due_at placed.now.entries room codes ≡ true }
+    ensures { result ≡ list_all (is_owned stored.now room party) stored.now.cards.items }
+{
+    let Some(link) = newest_of(placed, room, codes) else {
+        return true;
+    };
+    is_link_of(owners, stored, link, party)
+}
+
+fn has_owner(
+    owners: &BTreeMap<(u64, u64), u64>,
     placed: &BTreeMap<u64, Placed>,
     stored: &Stored,
     room: &RoomLine,
-    party: u64,
-    card: &CardLine,
 ) -> bool
-    requires placed { PlacesOf placed.now.entries stored.now.codes.items }
-    requires due { placed_as_due placed.now.entries room.now ≡ true }
-    ensures { result ≡ is_owned stored.now room.now party card.now }
-{
-    if !is_newest(
-        placed,
-        stored,
-        room,
-        number(card.old_code),
-        number(card.new_code),
-    ) {
-        return true;
-    }
-    number(card.party) == party
-}
-
-fn all_owned(placed: &BTreeMap<u64, Placed>, stored: &Stored, room: &RoomLine, party: u64) -> bool
-    requires placed { PlacesOf placed.now.entries stored.now.codes.items }
-    requires due { placed_as_due placed.now.entries room.now ≡ true }
-    ensures { result ≡ list_all (is_owned stored.now room.now party) stored.now.cards.items }
-{
-    for i in 0..stored.cards.len() {
-        if !is_owned(placed, stored, room, party, &stored.cards[i]) {
-            return false;
-        }
-    }
-    true
-}
-
-fn has_owner(placed: &BTreeMap<u64, Placed>, stored: &Stored, room: &RoomLine) -> bool
+    requires owners { OwnersOf owners.now.entries stored.now.cards.items }
+    requires own { list_all (agrees stored.now) stored.now.cards.items ≡ true }
     requires placed { PlacesOf placed.now.entries stored.now.codes.items }
     requires due { placed_as_due placed.now.entries room.now ≡ true }
     ensures { result ≡ has_owner stored.now room.now }
@@ -113,17 +124,25 @@ fn has_owner(placed: &BTreeMap<u64, Placed>, stored: &Stored, room: &RoomLine) -
     let Some(party) = number_if(room.party) else {
         return true;
     };
-    all_owned(placed, stored, room, party)
+    let named = number(room.room);
+    let codes = number(room.codes);
+    all_owned(owners, placed, stored, named, codes, party)
 }
 
 /// Whether the cards of each room's newest link are of its party, where it has one.
-pub(crate) fn all_have_owners(placed: &BTreeMap<u64, Placed>, stored: &Stored) -> bool
+pub(crate) fn all_have_owners(
+    owners: &BTreeMap<(u64, u64), u64>,
+    placed: &BTreeMap<u64, Placed>,
+    stored: &Stored,
+) -> bool
+    requires owners { OwnersOf owners.now.entries stored.now.cards.items }
+    requires own { list_all (agrees stored.now) stored.now.cards.items ≡ true }
     requires placed { PlacesOf placed.now.entries stored.now.codes.items }
     requires due { list_all (placed_as_due placed.now.entries) stored.now.rooms.items ≡ true }
     ensures { result ≡ list_all (has_owner stored.now) stored.now.rooms.items }
 {
     for i in 0..stored.rooms.len() {
-        if !has_owner(placed, stored, &stored.rooms[i]) {
+        if !has_owner(owners, placed, stored, &stored.rooms[i]) {
             return false;
         }
     }

@@ -1,5 +1,5 @@
 //! The codes of each room by their places.
-ghost use Rattle.std.specs.Prelude.{◌≡◌, ℕ, List, ◌&&◌, ◌==◌, ◌+◌, ◌-◌, ◌<◌, ◌^◌, IfOk, OnOk, None, true, length};
+ghost use Rattle.std.specs.Prelude.{◌≡◌, ℕ, List, ◌&&◌, ◌==◌, ◌+◌, ◌-◌, ◌<◌, ◌^◌, IfOk, OnOk, None, true, length, option_map};
 ghost use Rattle.std.specs.List.{list_all};
 ghost use Rattle.std.specs.Prelude.{if◌then◌else◌};
 ghost use Rattle.std.specs.Ordering.{nat_cmp};
@@ -7,11 +7,12 @@ ghost use Rattle.std.specs.BTreeMap.{insert_entry};
 ghost use Rattle.std.specs.Map.{keys_of, values_of};
 ghost use Rattle.hotel_nights.specs.Block.{one_if};
 ghost use Rattle.hotel_core.specs.Model.Words.{when, is_that};
-ghost use Rattle.hotel_core.specs.Model.Rows.{at_number};
+ghost use Rattle.hotel_core.specs.Model.Rows.{at_number, last_link_of};
 ghost use Rattle.keycard_rules.specs.declared.card.Link.{Link};
 ghost use Rattle.hotel_core.specs.Model.SoundCards.{is_newest};
 ghost use Rattle.hotel_core.specs.Model.SoundRooms.{count_up};
 ghost use Rattle.hotel_tables.specs.Stored.{number_of, rows_of};
+ghost use Rattle.hotel_tables.specs.Lasts.{link_of_pair, link_of_both};
 ghost use Rattle.hotel_tables.specs.Placed.{places_in, listed_in, PlacesOf, placed_as_due, are_due_at, is_last_link};
 
 use crate::damage::numbers::number;
@@ -177,4 +178,38 @@ pub(crate) fn is_newest(
     let named = number(room.room);
     let codes = number(room.codes);
     is_newest_in(placed, named, codes, old, new)
+}
+
+fn code_of(placed: &BTreeMap<u64, Placed>, room: u64, place: u64) -> Option<u64>
+    ensures { result ≡ at_number (places_in placed.now.entries room) place }
+{
+    let Some(found) = placed.get(&room) else {
+        return None;
+    };
+    found.by_place.get(&place).copied()
+}
+
+/// The newest link of a room with so many codes.
+pub(crate) fn newest_of(placed: &BTreeMap<u64, Placed>, room: u64, codes: u64) -> Option<(u64, u64)>
+    requires { are_due_at placed.now.entries room codes ≡ true }
+    ensures { option_map link_of_pair result ≡ last_link_of (values_of (places_in placed.now.entries room)) }
+{
+    if codes < 2 {
+        return None;
+    }
+    let old = code_of(placed, room, codes - 2);
+    let new = code_of(placed, room, codes - 1);
+    both_of(old, new)
+}
+
+fn both_of(old: Option<u64>, new: Option<u64>) -> Option<(u64, u64)>
+    ensures { option_map link_of_pair result ≡ link_of_both old new }
+{
+    let Some(old) = old else {
+        return None;
+    };
+    let Some(new) = new else {
+        return None;
+    };
+    Some((old, new))
 }

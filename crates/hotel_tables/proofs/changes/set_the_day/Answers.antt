@@ -1,11 +1,9 @@
-use Rattle.std.proofs.Common.{◌≡◌, false, ap, rules, arith}
+use Rattle.std.proofs.Common.{ap, rules}
 use Rattle.sqlite.specs.Held.{state}
 use Rattle.sqlite.specs.State.{Survives}
-use Rattle.sqlite.proofs.StateLemmas.{survives_then}
-use Rattle.hotel_core.specs.Model.Rows.{has_kind}
 use Rattle.hotel_tables.specs.Steps.{day_set}
 use Rattle.hotel_tables.specs.Books.{IsBooks}
-use Rattle.hotel_tables.proofs.Ends.{Begins, Does, then_does, fits_start, end_books}
+use Rattle.hotel_tables.proofs.Ends.{Begins, Does, end_books}
 use Rattle.hotel_tables.proofs.changes.set_the_day.Goals as goal
 
 pub returns-clause-books : goal.returns-clause-books

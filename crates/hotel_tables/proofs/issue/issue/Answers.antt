@@ -7,7 +7,7 @@ use Rattle.hotel_core.specs.declared.books.change.Change.TheVariants as change
 use Rattle.hotel_tables.specs.Tables.{rows_in}
 use Rattle.hotel_tables.specs.Steps.{IsMadeOf, code_given, card_given}
 use Rattle.hotel_tables.specs.Books.{IsBooks, IsKept}
-use Rattle.hotel_tables.proofs.Ends.{Begins, Does, then_does, end_books, end_was, end_made, end_same, end_crash}
+use Rattle.hotel_tables.proofs.Ends.{Begins, then_does, end_books, end_was, end_made, end_same, end_crash}
 use Rattle.hotel_tables.proofs.Made.Issued.{does_issue}
 use Rattle.hotel_tables.proofs.issue.issue.Goals as goal
 

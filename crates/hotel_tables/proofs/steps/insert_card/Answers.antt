@@ -1,7 +1,7 @@
-use Rattle.std.proofs.Common.{◌≡◌, List, [], ◌∷◌, Ok, ap, subst, refl, rules}
+use Rattle.std.proofs.Common.{◌≡◌, [], ◌∷◌, Ok, ap, subst, refl, rules}
 use Rattle.sqlite.specs.Held.{state}
 use Rattle.sqlite.specs.Values.{bound}
-use Rattle.sqlite.specs.State.{HasCleanDisk, ExecutesInside}
+use Rattle.sqlite.specs.State.{ExecutesInside}
 use Rattle.hotel_tables.specs.Texts as texts
 use Rattle.hotel_tables.proofs.Writing.{ran_inside, kept_inside}
 use Rattle.hotel_tables.proofs.Made.Inserts.{card_params}

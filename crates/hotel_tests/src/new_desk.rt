@@ -1,5 +1,5 @@
 //! A new desk in memory.
-use crate::table_books::TableBooks;
+use hotel_tables::TableBooks;
 use keycard_rules::{Code, Issued};
 use sqlite::Connection;
 
