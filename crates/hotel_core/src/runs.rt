@@ -25,10 +25,13 @@ pub fn run<B: Books, R: Rng>(
     source: &mut R,
     commands: &[Command],
 ) -> Result<Vec<Reply>, RunFault>
-    ensures run { IfOk result (λ replies. B.is_clean books.new →
-        Leads (B.rows books.old) (λ h h'. Runs h (R.stream source.old) commands.now replies.items h' (R.stream source.new)) (B.rows books.new)) }
-    ensures fault { IfErr result (λ fault. (fault.answered ≡ 0) × (books.new ≡ books.old) × (source.new ≡ source.old)) }
-    ensures failed { IfOk result (λ replies. B.is_clean books.new → AreCounted (B.failures books.old) (B.failures books.new) (failures_in replies.items)) }
+    ensures run { IfOk result (λ replies. B.is_clean books.new → Leads (B.rows books.old)
+        (λ h h'. Runs h (R.stream source.old) commands.now replies.items h' (R.stream source.new))
+        (B.rows books.new)) }
+    ensures fault { IfErr result (λ fault. (fault.answered ≡ 0)
+        × (books.new ≡ books.old) × (source.new ≡ source.old)) }
+    ensures failed { IfOk result (λ replies. B.is_clean books.new →
+        AreCounted (B.failures books.old) (B.failures books.new) (failures_in replies.items)) }
     ensures was_clean { B.is_clean books.new → B.is_clean books.old }
     ensures counted { NoFewer (B.failures books.old) (B.failures books.new) }
 {

@@ -70,8 +70,10 @@ fn carry_out<B: Books, R: Rng>(
 ///
 /// `Memory` and `Store` may stand in place of any answer; the books count these failures.
 pub fn step<B: Books, R: Rng>(books: &mut B, source: &mut R, command: &Command) -> Reply
-    ensures step { B.is_clean books.new → Leads (B.rows books.old) (λ h h'. Steps h (R.stream source.old) command.now result h' (R.stream source.new)) (B.rows books.new) }
-    ensures failed { B.is_clean books.new → AreCounted (B.failures books.old) (B.failures books.new) (failure_in result) }
+    ensures step { B.is_clean books.new → Leads (B.rows books.old)
+        (λ h h'. Steps h (R.stream source.old) command.now result h' (R.stream source.new)) (B.rows books.new) }
+    ensures failed { B.is_clean books.new →
+        AreCounted (B.failures books.old) (B.failures books.new) (failure_in result) }
     ensures was_clean { B.is_clean books.new → B.is_clean books.old }
     ensures counted { NoFewer (B.failures books.old) (B.failures books.new) }
     ensures range { IsReply result }
@@ -87,10 +89,12 @@ pub fn step<B: Books, R: Rng>(books: &mut B, source: &mut R, command: &Command) 
 
 /// Takes a note of a lock: `step` of [`Command::Reported`], which draws nothing.
 pub fn report<B: Books>(books: &mut B, note: &LockNote) -> Reply
-    ensures step { B.is_clean books.new → (source : Stream) → Leads (B.rows books.old) (λ h h'. Steps h source (command.Reported note.now) result h' source) (B.rows books.new) }
+    ensures step { B.is_clean books.new → (source : Stream) → Leads (B.rows books.old)
+        (λ h h'. Steps h source (command.Reported note.now) result h' source) (B.rows books.new) }
     ensures note { B.is_clean books.new → IsNoteReply result }
     ensures unchanged { B.is_clean books.new → is_failed result ≡ true → B.rows books.new ≡ B.rows books.old }
-    ensures failed { B.is_clean books.new → AreCounted (B.failures books.old) (B.failures books.new) (failure_in result) }
+    ensures failed { B.is_clean books.new →
+        AreCounted (B.failures books.old) (B.failures books.new) (failure_in result) }
     ensures was_clean { B.is_clean books.new → B.is_clean books.old }
     ensures counted { NoFewer (B.failures books.old) (B.failures books.new) }
 {
