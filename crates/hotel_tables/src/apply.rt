@@ -5,7 +5,7 @@ ghost use Rattle.hotel_core.specs.Books.Change.{made};
 ghost use Rattle.hotel_core.specs.Books.Fits.{HasItsRows};
 ghost use Rattle.hotel_tables.specs.Tables.{rows_in};
 ghost use Rattle.hotel_tables.specs.Books.{IsBooks, IsKept, KeepsRows};
-ghost use Rattle.hotel_tables.specs.Applied.{HasCodes, HasFree};
+ghost use Rattle.hotel_tables.specs.Applied.{HasCodes};
 
 use crate::changes::{add_kind, add_room, add_spare, add_stay, cancel_stay, end_stay, set_the_day};
 use crate::from_row::fault_of;
@@ -27,7 +27,6 @@ fn make_change<S: Alter>(
     requires more { codes < 2 ^ 32 - 1 }
     requires counted { IsKept (state S.Store conn.old) → HasCodes change.now codes (rows_in (state S.Store conn.old).now.trees) }
     requires fits { IsKept (state S.Store conn.old) → HasItsRows change.now (rows_in (state S.Store conn.old).now.trees) }
-    requires free { IsKept (state S.Store conn.old) → HasFree change.now (rows_in (state S.Store conn.old).now.trees) }
     ensures books { IsBooks (state S.Store conn.new) }
     ensures was { IsKept (state S.Store conn.new) → IsKept (state S.Store conn.old) }
     ensures made { IsKept (state S.Store conn.new) → OnOk result (rows_in (state S.Store conn.new).now.trees ≡ made change.now (rows_in (state S.Store conn.old).now.trees)) }
@@ -81,7 +80,6 @@ pub(crate) fn apply_change<S: Alter>(
 ) -> Result<(), LookFault>
     requires books { IsBooks (state S.Store conn.old) }
     requires fits { IsKept (state S.Store conn.old) → HasItsRows change.now (rows_in (state S.Store conn.old).now.trees) }
-    requires free { IsKept (state S.Store conn.old) → HasFree change.now (rows_in (state S.Store conn.old).now.trees) }
     ensures books { IsBooks (state S.Store conn.new) }
     ensures was { IsKept (state S.Store conn.new) → IsKept (state S.Store conn.old) }
     ensures made { IsKept (state S.Store conn.new) → OnOk result (rows_in (state S.Store conn.new).now.trees ≡ made change.now (rows_in (state S.Store conn.old).now.trees)) }
