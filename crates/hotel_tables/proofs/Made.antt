@@ -10,4 +10,5 @@ pub mod Moves
 pub mod Issued
 pub mod Insides
 pub mod Deletes
+pub mod Alone
 pub mod Noted

@@ -7,6 +7,7 @@ pub mod Books
 pub mod Making
 pub mod LookUps
 pub mod Steps
+pub mod Applied
 pub mod TableBooks
 pub mod Stored
 pub mod Keys

@@ -1,6 +1,6 @@
 -- The statements of one transaction, each a step of it, and the change that they make together.
 use Rattle.std.specs.Prelude.{ℕ, ◌≡◌, Bool, false, List, Option, Some, IsTrue}
-use Rattle.std.specs.Ordering.{nat_cmp, is_eq}
+use Rattle.std.specs.Ordering.{nat_cmp}
 use Rattle.std.specs.Cmp.Lexicographic.{slice_cmp}
 use Rattle.std.specs.BTreeMap.{insert_entry, is_at}
 use Rattle.std.specs.BTreeSet.{insert_key}
@@ -12,9 +12,6 @@ use Rattle.hotel_nights.specs.declared.stay.StayState.{StayState}
 use Rattle.hotel_nights.specs.declared.stay.StayState.TheVariants as state
 use Rattle.hotel_core.specs.declared.books.rows.RoomRow.{RoomRow}
 use Rattle.hotel_core.specs.declared.books.rows.CodeRow.{CodeRow}
-use Rattle.std.specs.List.{AllByRecursion}
-use Rattle.hotel_core.specs.declared.books.change.InsideMove.{InsideMove}
-use Rattle.hotel_core.specs.declared.books.change.InsideMove.TheVariants as move
 use Rattle.hotel_core.specs.Model.Words.{pair_cmp}
 use Rattle.hotel_core.specs.Model.Stays.{in_state}
 use Rattle.hotel_core.specs.Books.Change.{room_changed, without_party, left_by}
@@ -101,9 +98,3 @@ card_given card room codes rows = stay_set card.party (state.InHouse room) (card
 -- the note is added, and its room has what follows of it
 abbrev pub note_given : Note → ℕ → Bool → Rows → Rows
 note_given note lock_place secured rows = room_noted note.room lock_place secured note.count (note_added note rows)
-
--- a card that comes in isn't inside the room
-abbrev pub IsFree : InsideMove → ℕ → Rows → Type 0
-IsFree move.Same room rows = Unit {0}
-IsFree (move.Goes number) room rows = Unit {0}
-IsFree (move.Comes number) room rows = AllByRecursion (λ e. is_eq (pair_cmp (room, number) e) ≡ false) rows.inside

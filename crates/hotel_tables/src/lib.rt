@@ -1,6 +1,7 @@
 //! The desk's books over SQL tables: each look-up is one keyed statement, and no rows are kept in memory.
 #![tactic(auto)]
 
+mod apply;
 mod changes;
 mod create;
 mod damage;

@@ -7,7 +7,7 @@ ghost use Rattle.hotel_core.specs.Books.Change.{made};
 ghost use Rattle.hotel_core.specs.declared.books.change.Change.TheVariants as change;
 ghost use Rattle.hotel_tables.specs.Tables.{rows_in};
 ghost use Rattle.hotel_tables.specs.Books.{IsBooks, IsKept};
-ghost use Rattle.hotel_tables.specs.Steps.{IsMid, Steps, IsMadeOf, IsFree, note_given};
+ghost use Rattle.hotel_tables.specs.Steps.{IsMid, Steps, IsMadeOf, note_given};
 
 use crate::steps::{delete_inside, insert_inside, insert_note, set_noted};
 use hotel_core::InsideMove;
@@ -39,7 +39,7 @@ fn give_note_and_move<S: Alter>(
     insides: InsideMove,
 ) -> Result<(), Error>
     ensures same_reference { tx.new.conn.ghost_name ≡ tx.old.conn.ghost_name }
-    ensures made { HasCleanDisk (state S.Store tx.new.conn.now) → OnOk result ((IsTrue (state S.Store tx.old.conn.now).is_open → IsMid (state S.Store tx.old.conn.now) × (note_at (rows_in (state S.Store tx.old.conn.now).now.trees) note.now.room note.now.count ≡ None) × IsFree insides note.now.room (rows_in (state S.Store tx.old.conn.now).now.trees)) → Steps (state S.Store tx.old.conn.now) (state S.Store tx.new.conn.now) (made (change.Noted note.now lock_place secured insides))) }
+    ensures made { HasCleanDisk (state S.Store tx.new.conn.now) → OnOk result ((IsTrue (state S.Store tx.old.conn.now).is_open → IsMid (state S.Store tx.old.conn.now) × (note_at (rows_in (state S.Store tx.old.conn.now).now.trees) note.now.room note.now.count ≡ None)) → Steps (state S.Store tx.old.conn.now) (state S.Store tx.new.conn.now) (made (change.Noted note.now lock_place secured insides))) }
     ensures kept { HasCleanDisk (state S.Store tx.new.conn.now) → KeepsCommit (state S.Store tx.old.conn.now) (state S.Store tx.new.conn.now) }
     ensures survives { Survives (state S.Store tx.old.conn.now) (state S.Store tx.new.conn.now) (λ _. ⊥) }
 {
@@ -56,7 +56,7 @@ fn give_note_and_move<S: Alter>(
     }
 }
 
-/// Takes a note whose count isn't there, and of which a card that comes in isn't inside.
+/// Takes a note whose count isn't there.
 pub(crate) fn take_note<S: Alter>(
     conn: &mut Connection<S>,
     note: &LockNote,
@@ -66,7 +66,6 @@ pub(crate) fn take_note<S: Alter>(
 ) -> Result<(), Error>
     requires books { IsBooks (state S.Store conn.old) }
     requires fresh { IsKept (state S.Store conn.old) → note_at (rows_in (state S.Store conn.old).now.trees) note.now.room note.now.count ≡ None }
-    requires free { IsKept (state S.Store conn.old) → IsFree insides note.now.room (rows_in (state S.Store conn.old).now.trees) }
     ensures books { IsBooks (state S.Store conn.new) }
     ensures was { IsKept (state S.Store conn.new) → IsKept (state S.Store conn.old) }
     ensures made { IsKept (state S.Store conn.new) → OnOk result (rows_in (state S.Store conn.new).now.trees ≡ made (change.Noted note.now lock_place secured insides) (rows_in (state S.Store conn.old).now.trees)) }

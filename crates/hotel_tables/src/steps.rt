@@ -2,9 +2,6 @@
 ghost use Rattle.std.specs.Prelude.{◌≡◌, IsTrue, OnOk, None, false};
 ghost use Rattle.sqlite.specs.Held.{state};
 ghost use Rattle.sqlite.specs.State.{HasCleanDisk, KeepsCommit, Survives};
-ghost use Rattle.std.specs.List.{AllByRecursion};
-ghost use Rattle.std.specs.Ordering.{is_eq};
-ghost use Rattle.hotel_core.specs.Model.Words.{pair_cmp};
 ghost use Rattle.hotel_core.specs.Model.Rows.{has_kind};
 ghost use Rattle.hotel_core.specs.Books.Lookups.{note_at};
 ghost use Rattle.hotel_tables.specs.Tables.{rows_in};
@@ -157,14 +154,14 @@ pub(crate) fn insert_note<S: Alter>(
     Ok(())
 }
 
-/// Adds a card that isn't inside the room.
+/// Adds a card inside a room; one that is there already is refused.
 pub(crate) fn insert_inside<S: Alter>(
     tx: &mut Transaction<'_, S>,
     room: RoomNo,
     card: CardNo,
 ) -> Result<(), Error>
     ensures same_reference { tx.new.conn.ghost_name ≡ tx.old.conn.ghost_name }
-    ensures made { HasCleanDisk (state S.Store tx.new.conn.now) → OnOk result ((IsTrue (state S.Store tx.old.conn.now).is_open → IsMid (state S.Store tx.old.conn.now) × AllByRecursion (λ e. is_eq (pair_cmp (room, card) e) ≡ false) (rows_in (state S.Store tx.old.conn.now).now.trees).inside) → Steps (state S.Store tx.old.conn.now) (state S.Store tx.new.conn.now) (inside_added room card)) }
+    ensures made { HasCleanDisk (state S.Store tx.new.conn.now) → OnOk result ((IsTrue (state S.Store tx.old.conn.now).is_open → IsMid (state S.Store tx.old.conn.now)) → Steps (state S.Store tx.old.conn.now) (state S.Store tx.new.conn.now) (inside_added room card)) }
     ensures kept { HasCleanDisk (state S.Store tx.new.conn.now) → KeepsCommit (state S.Store tx.old.conn.now) (state S.Store tx.new.conn.now) }
     ensures survives { Survives (state S.Store tx.old.conn.now) (state S.Store tx.new.conn.now) (λ _. ⊥) }
 {

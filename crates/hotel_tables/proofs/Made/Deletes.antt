@@ -52,19 +52,19 @@ use Rattle.hotel_tables.proofs.Made.Moves.{pair_total}
 use Rattle.sqlite_keyed.proofs.SortLemmas.{IsPermutation-sort_by}
 use Rattle.std.proofs.lemmas.List.Sorted.{IsPermutation-sym}
 
-abbrev Good : Row → Type 0
+abbrev pub Good : Row → Type 0
 Good = IsWrittenAs inside_columns inside_of inside_written
 
-abbrev read : Row → ℕ × ℕ
+abbrev pub read : Row → ℕ × ℕ
 read r = inside_of (inside_columns r)
 
-abbrev is_pair : ℕ → ℕ → ℕ × ℕ → Bool
+abbrev pub is_pair : ℕ → ℕ → ℕ × ℕ → Bool
 is_pair room card e = eqb e.0 room && eqb e.1 card
 
-abbrev test : ℕ → ℕ → Row → Bool
+abbrev pub test : ℕ → ℕ → Row → Bool
 test room card r = passes (by_pair 1 2) (int room ∷ int card ∷ []) r
 
-tested : (room card : ℕ) (r : Row) → Good r → test room card r ≡ is_pair room card (read r)
+pub tested : (room card : ℕ) (r : Row) → Good r → test room card r ≡ is_pair room card (read r)
 tested room card r good =
     let a : is_true (binary (Compare Eq Binary) (column r 1) (int room)) ≡ eqb (read r).0 room = ap (λ (v : Row). is_true (binary (Compare Eq Binary) (column v 0) (int room))) good ∙ equals (read r).0 room in
     let b : is_true (binary (Compare Eq Binary) (column r 2) (int card)) ≡ eqb (read r).1 card = ap (λ (v : Row). is_true (binary (Compare Eq Binary) (column v 1) (int card))) good ∙ equals (read r).1 card in
@@ -139,7 +139,7 @@ pair_is Less b = refl
 pair_is Equal b = refl
 pair_is Greater b = refl
 
-at_pair : (room card : ℕ) (e : ℕ × ℕ) → is_at (pair_cmp (room, card)) e ≡ is_pair room card e
+pub at_pair : (room card : ℕ) (e : ℕ × ℕ) → is_at (pair_cmp (room, card)) e ≡ is_pair room card e
 at_pair room card e = pair_is (nat_cmp room e.0) (nat_cmp card e.1) ∙ ap₂ (λ a b. a && b) (is_key room e.0) (is_key card e.1)
 
 all_stay : (room card : ℕ) (a : ℕ × ℕ) (es : List (ℕ × ℕ)) → is_pair room card a ≡ true → AllByRecursion (λ b. is_eq (pair_cmp a b) ≡ false) es → filter (λ e. not (is_pair room card e)) es ≡ es

@@ -7,6 +7,7 @@ use Rattle.sqlite.specs.Source.TheVariants.{Values}
 use Rattle.sqlite.specs.Command.TheVariants.{Insert}
 use Rattle.sqlite.specs.Edit.{edit_of}
 use Rattle.sqlite.specs.Rowids.TheVariants.{Chosen}
+use Rattle.sqlite_schema.specs.Rules.{Fits}
 use Rattle.sqlite_rules.specs.Edit.{is_taken, are_fresh, next_rowid, put_all}
 use Rattle.sqlite.specs.Does.{Tally, Does}
 use Rattle.sqlite.specs.Rows.{Written, Edited}
@@ -190,7 +191,7 @@ kind_put old new kind count has h =
 abbrev pub inside_params : ℕ × ℕ → Row
 inside_params e = int e.0 ∷ int e.1 ∷ []
 
-pub inside_put : (old new : State) (e : ℕ × ℕ) (count : ℕ) → old.now.schema ≡ desk_schema → ExecutesIn false insert_inside (inside_params e) old new (Ok count) → Put 9 (inside_stored (next_rowid (old.now.trees 9)) e) old new
+pub inside_put : (old new : State) (e : ℕ × ℕ) (count : ℕ) → old.now.schema ≡ desk_schema → ExecutesIn false insert_inside (inside_params e) old new (Ok count) → Put 9 (inside_stored (next_rowid (old.now.trees 9)) e) old new × ((next : Trees) × Fits desk_schema next × (next 9 ≡ put_row (inside_stored (next_rowid (old.now.trees 9)) e) (old.now.trees 9)))
 inside_put old new e count has h =
     let params = inside_params e in
     let db = old.now.trees in
@@ -210,10 +211,11 @@ inside_put old new e count has h =
     let applied = one_step desk_schema (mode_of old).keys db written.0 edit refl went_in in
     let row : Row = inside_stored (next_rowid (old.now.trees 9)) e in
     let news : edit.news ≡ row ∷ [] = rw (cast_null, cast_int (pos e.0), cast_int (pos e.1)) refl in
-    record {
+    let put : Put 9 row old new = record {
       fresh = fresh_one _ _ (subst (λ rows. are_fresh (db 9) rows ≡ true) news applied.fresh);
       changes = changed old new written.0 9 (put_row row (db 9)) (now ∙ ap (λ (s : Trees). record { schema = desk_schema; trees = s }) trees) (applied.rows ∙ ap (put_all (db 9)) news) applied.tables;
-    }
+    } in
+    (put, (written.0, applied.fits, applied.rows ∙ ap (put_all (db 9)) news))
 
 -- ---- a note
 

@@ -19,6 +19,7 @@ use Rattle.hotel_tables.proofs.Perm.{same_tie, put_fresh, apart_permuted, every_
 use Rattle.hotel_tables.proofs.Made.Desk.{steps, insides_set}
 use Rattle.hotel_tables.proofs.Made.Entries.{put_keyed, key_put}
 use Rattle.hotel_tables.proofs.Made.Moves.{pair_total}
+use Rattle.hotel_tables.proofs.Made.Alone.{alone}
 use Rattle.hotel_tables.proofs.Made.Inserts.{inside_params, inside_put}
 use Rattle.hotel_tables.proofs.Made.Reads.{inside_stored}
 
@@ -27,18 +28,18 @@ put_ids new rows fresh apart =
     let flipped = all_weaker _ (λ r. is_eq (value_cmp (rowid new) (rowid r)) ≡ false) (λ r h. same_tie value_cmp value_cmp_total (rowid new) (rowid r) ∙ h) rows (none_from_any (λ r. is_eq (value_cmp (rowid r) (rowid new))) rows fresh) in
     apart_permuted (λ a b. value_cmp (rowid a) (rowid b)) (on_total rowid value_cmp_total) (new ∷ rows) (put_row new rows) (IsPermutation-sym _ _ (put_fresh new rows fresh)) (flipped, apart)
 
--- the card isn't inside the room yet
 pub inside_step : (old new : State) (room number count : ℕ) → ExecutesInside 0 insert_inside (inside_params (room, number)) old new (Ok count)
-    → (IsTrue old.is_open → IsMid old × AllByRecursion (λ e. is_eq (pair_cmp (room, number) e) ≡ false) (rows_in old.now.trees).inside) → Steps old new (inside_added room number)
+    → (IsTrue old.is_open → IsMid old) → Steps old new (inside_added room number)
 inside_step old new room number count h mid =
-    let both = mid h.1.was_open in
-    let was = both.0 in
+    let was = mid h.1.was_open in
     let e : ℕ × ℕ = (room, number) in
-    let did = inside_put old new e count was.schema h.0 in
+    let went = inside_put old new e count was.schema h.0 in
+    let did = went.0 in
     let rows = old.now.trees 9 in
+    let out = alone went.1.0 room number (next_rowid rows) rows was.tables.inside.good was.tables.inside_numbered went.1.1 went.1.2 did.fresh in
     let row = inside_stored (next_rowid rows) e in
-    let made = put_keyed pair_cmp pair_total (IsWrittenAs inside_columns inside_of inside_written) (λ r. inside_of (inside_columns r)) row e rows was.tables.inside refl refl did.fresh both.1 in
+    let made = put_keyed pair_cmp pair_total (IsWrittenAs inside_columns inside_of inside_written) (λ r. inside_of (inside_columns r)) row e rows was.tables.inside refl refl did.fresh out in
     let ids = every_shuffled HasId (row ∷ rows) (put_row row rows) (IsPermutation-sym _ _ (put_fresh row rows did.fresh)) (refl, was.tables.inside_numbered) in
     let now = insides_set old.now.trees (put_row row rows) was.tables made.0 ids (put_ids row rows did.fresh was.tables.inside_ids) in
-    let list = made.1 ∙ key_put pair_cmp e (rows_in old.now.trees).inside both.1 in
+    let list = made.1 ∙ key_put pair_cmp e (rows_in old.now.trees).inside out in
     steps insert_inside (inside_params e) old new count 9 (put_row row rows) (inside_added room number) h did.changes (now.0, now.1 ∙ ap (λ inside. record (rows_in old.now.trees) { inside = inside }) list)

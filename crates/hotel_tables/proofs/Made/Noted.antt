@@ -12,24 +12,18 @@ use Rattle.hotel_core.specs.Model.Rows.{Rows}
 use Rattle.hotel_core.specs.Books.Lookups.{note_at}
 use Rattle.hotel_core.specs.Books.Change.{made}
 use Rattle.hotel_tables.specs.Tables.{rows_in}
-use Rattle.hotel_tables.specs.Steps.{IsMid, Steps, IsFree, note_given, inside_added}
-
--- the card isn't inside
-abbrev IsOut : ℕ → ℕ → Rows → Type 0
-IsOut room card rows = AllByRecursion (λ e. is_eq (pair_cmp (room, card) e) ≡ false) rows.inside
+use Rattle.hotel_tables.specs.Steps.{IsMid, Steps, note_given, inside_added}
 
 abbrev Comes : State → State → ℕ → ℕ → Result (Unit {0}) Error → Type 0
-Comes b c card room r = OnOk r ((IsTrue b.is_open → IsMid b × IsOut room card (rows_in b.now.trees)) → Steps b c (inside_added room card))
+Comes b c card room r = OnOk r ((IsTrue b.is_open → IsMid b) → Steps b c (inside_added room card))
 
 pub then_comes : (a b c : State) (note : Note) (lock_place : ℕ) (secured : Bool) (insides : InsideMove) (card room : ℕ) (r : Result (Unit {0}) Error) → insides ≡ move.Comes card → room ≡ note.room
     → ((IsTrue a.is_open → IsMid a × (note_at (rows_in a.now.trees) note.room note.count ≡ None)) → Steps a b (note_given note lock_place secured)) → Comes b c card room r
-    → OnOk r ((IsTrue a.is_open → IsMid a × (note_at (rows_in a.now.trees) note.room note.count ≡ None) × IsFree insides note.room (rows_in a.now.trees)) → Steps a c (made (change.Noted note lock_place secured insides)))
+    → OnOk r ((IsTrue a.is_open → IsMid a × (note_at (rows_in a.now.trees) note.room note.count ≡ None)) → Steps a c (made (change.Noted note lock_place secured insides)))
 then_comes a b c note lock_place secured insides card room (Err e) is same first next = tt
 then_comes a b c note lock_place secured insides card room (Ok u) is same first next = λ mid.
-    let one = first (λ is_open. ((mid is_open).0, (mid is_open).1)) in
-    let free : IsOut note.room card (rows_in a.now.trees) = subst (λ i. IsFree i note.room (rows_in a.now.trees)) is (mid one.was_open).2 in
-    let there : IsOut room card (note_given note lock_place secured (rows_in a.now.trees)) = subst (λ n. IsOut n card (rows_in a.now.trees)) (sym same) free in
-    let two = next (λ _. (one.mid, subst (IsOut room card) (sym one.rows_are) there)) in
+    let one = first mid in
+    let two = next (λ _. one.mid) in
     let rows : rows_in c.now.trees ≡ made (change.Noted note lock_place secured (move.Comes card)) (rows_in a.now.trees) =
     two.rows_are ∙ ap (inside_added room card) one.rows_are ∙ ap (λ n. inside_added n card (note_given note lock_place secured (rows_in a.now.trees))) same in
     record {

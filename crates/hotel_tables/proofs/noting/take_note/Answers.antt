@@ -5,7 +5,7 @@ use Rattle.hotel_core.specs.Books.Change.{made}
 use Rattle.hotel_core.specs.Books.Lookups.{note_at}
 use Rattle.hotel_core.specs.declared.books.change.Change.TheVariants as change
 use Rattle.hotel_tables.specs.Tables.{rows_in}
-use Rattle.hotel_tables.specs.Steps.{IsMadeOf, IsFree}
+use Rattle.hotel_tables.specs.Steps.{IsMadeOf}
 use Rattle.hotel_tables.specs.Books.{IsBooks, IsKept}
 use Rattle.hotel_tables.proofs.Ends.{Begins, Does, fits_start, end_books, end_was, end_made, end_same, end_crash}
 use Rattle.hotel_tables.proofs.noting.take_note.Goals as goal
@@ -20,7 +20,6 @@ returns-clause-books g c =
     let does : Does s0 s1 (made (change.Noted c.args.note.now c.args.lock_place c.args.secured c.args.insides)) = (λ clean mid. c.in_ok-give_note_and_move.ensures.made clean (λ is_open. (
       mid is_open,
       fits_start old s0 (λ rows. note_at rows c.args.note.now.room c.args.note.now.count ≡ None) begins c.requires.fresh (omega (arith, survives.clean, clean)) is_open,
-      fits_start old s0 (λ rows. IsFree c.args.insides c.args.note.now.room rows) begins c.requires.free (omega (arith, survives.clean, clean)) is_open,
     ))) in
     let books-is : IsBooks (state g.S.Store c.commit.new.self.0) = end_books old s0 s1 _ _ begins does survives c.commit.result c.commit.ensures.ended c.commit.ensures.ok c.commit.ensures.err c.commit.ensures.survives in
     search (rules, books-is)
@@ -35,7 +34,6 @@ returns-clause-was g c =
     let does : Does s0 s1 (made (change.Noted c.args.note.now c.args.lock_place c.args.secured c.args.insides)) = (λ clean mid. c.in_ok-give_note_and_move.ensures.made clean (λ is_open. (
       mid is_open,
       fits_start old s0 (λ rows. note_at rows c.args.note.now.room c.args.note.now.count ≡ None) begins c.requires.fresh (omega (arith, survives.clean, clean)) is_open,
-      fits_start old s0 (λ rows. IsFree c.args.insides c.args.note.now.room rows) begins c.requires.free (omega (arith, survives.clean, clean)) is_open,
     ))) in
     let was-is : IsKept (state g.S.Store c.commit.new.self.0) → IsKept old = end_was old s0 s1 _ _ begins does survives c.commit.result c.commit.ensures.ended c.commit.ensures.ok c.commit.ensures.err c.commit.ensures.survives in
     search (rules, was-is)
@@ -50,7 +48,6 @@ returns-clause-made g c =
     let does : Does s0 s1 (made (change.Noted c.args.note.now c.args.lock_place c.args.secured c.args.insides)) = (λ clean mid. c.in_ok-give_note_and_move.ensures.made clean (λ is_open. (
       mid is_open,
       fits_start old s0 (λ rows. note_at rows c.args.note.now.room c.args.note.now.count ≡ None) begins c.requires.fresh (omega (arith, survives.clean, clean)) is_open,
-      fits_start old s0 (λ rows. IsFree c.args.insides c.args.note.now.room rows) begins c.requires.free (omega (arith, survives.clean, clean)) is_open,
     ))) in
     let made-is : IsKept (state g.S.Store c.commit.new.self.0) → OnOk c.commit.result (rows_in (state g.S.Store c.commit.new.self.0).now.trees ≡ made (change.Noted c.args.note.now c.args.lock_place c.args.secured c.args.insides) (rows_in old.now.trees)) = end_made old s0 s1 _ _ begins does survives c.commit.result c.commit.ensures.ended c.commit.ensures.ok c.commit.ensures.err c.commit.ensures.survives in
     search (rules, made-is)
@@ -65,7 +62,6 @@ returns-clause-same g c =
     let does : Does s0 s1 (made (change.Noted c.args.note.now c.args.lock_place c.args.secured c.args.insides)) = (λ clean mid. c.in_ok-give_note_and_move.ensures.made clean (λ is_open. (
       mid is_open,
       fits_start old s0 (λ rows. note_at rows c.args.note.now.room c.args.note.now.count ≡ None) begins c.requires.fresh (omega (arith, survives.clean, clean)) is_open,
-      fits_start old s0 (λ rows. IsFree c.args.insides c.args.note.now.room rows) begins c.requires.free (omega (arith, survives.clean, clean)) is_open,
     ))) in
     let same-is : IsKept (state g.S.Store c.commit.new.self.0) → OnErr c.commit.result ((state g.S.Store c.commit.new.self.0).now ≡ old.now) = end_same old s0 s1 _ _ begins does survives c.commit.result c.commit.ensures.ended c.commit.ensures.ok c.commit.ensures.err c.commit.ensures.survives in
     search (rules, same-is)
@@ -80,7 +76,6 @@ returns-clause-crash g c =
     let does : Does s0 s1 (made (change.Noted c.args.note.now c.args.lock_place c.args.secured c.args.insides)) = (λ clean mid. c.in_ok-give_note_and_move.ensures.made clean (λ is_open. (
       mid is_open,
       fits_start old s0 (λ rows. note_at rows c.args.note.now.room c.args.note.now.count ≡ None) begins c.requires.fresh (omega (arith, survives.clean, clean)) is_open,
-      fits_start old s0 (λ rows. IsFree c.args.insides c.args.note.now.room rows) begins c.requires.free (omega (arith, survives.clean, clean)) is_open,
     ))) in
     let zero : Survives old s0 (λ _. ⊥) = search rules in
     let crash-is : Survives old (state g.S.Store c.commit.new.self.0) (IsMadeOf (made (change.Noted c.args.note.now c.args.lock_place c.args.secured c.args.insides)) old.now.trees) = end_crash old s0 s1 _ _ begins does survives c.commit.result c.commit.ensures.ended c.commit.ensures.ok c.commit.ensures.err c.commit.ensures.survives zero in

@@ -1,0 +1,93 @@
+//! A change of the books over the connection, one transaction.
+ghost use Rattle.std.specs.Prelude.{◌≡◌, ◌<◌, ◌-◌, ◌^◌, OnOk, OnErr, IfOk};
+ghost use Rattle.sqlite.specs.Held.{state};
+ghost use Rattle.hotel_core.specs.Books.Change.{made};
+ghost use Rattle.hotel_core.specs.Books.Fits.{HasItsRows};
+ghost use Rattle.hotel_tables.specs.Tables.{rows_in};
+ghost use Rattle.hotel_tables.specs.Books.{IsBooks, IsKept, KeepsRows};
+ghost use Rattle.hotel_tables.specs.Applied.{HasCodes};
+
+use crate::changes::{add_kind, add_room, add_spare, add_stay, cancel_stay, end_stay, set_the_day};
+use crate::from_row::fault_of;
+use crate::issue::issue;
+use crate::look_ups;
+use crate::noting::take_note;
+use hotel_core::Change;
+use keycard_rules::LookFault;
+use sqlite::{Alter, Connection, Error};
+use std::alloc::Global;
+
+/// Makes all of a change, or nothing; `codes` is how many codes stand at the room of an issue.
+fn make_change<S: Alter>(
+    conn: &mut Connection<S>,
+    change: &Change,
+    codes: u32,
+) -> Result<(), Error>
+    requires books { IsBooks (state S.Store conn.old) }
+    requires more { codes < 2 ^ 32 - 1 }
+    requires counted { IsKept (state S.Store conn.old) → HasCodes change.now codes (rows_in (state S.Store conn.old).now.trees) }
+    requires fits { IsKept (state S.Store conn.old) → HasItsRows change.now (rows_in (state S.Store conn.old).now.trees) }
+    ensures books { IsBooks (state S.Store conn.new) }
+    ensures was { IsKept (state S.Store conn.new) → IsKept (state S.Store conn.old) }
+    ensures made { IsKept (state S.Store conn.new) → OnOk result (rows_in (state S.Store conn.new).now.trees ≡ made change.now (rows_in (state S.Store conn.old).now.trees)) }
+    ensures same { IsKept (state S.Store conn.new) → OnErr result ((state S.Store conn.new).now ≡ (state S.Store conn.old).now) }
+{
+    match change {
+        Change::Begin(day) => set_the_day(conn, *day),
+        Change::DayTo(day) => set_the_day(conn, *day),
+        Change::Kind(kind) => add_kind(conn, kind),
+        Change::Room { room, kind, code } => add_room(conn, *room, *kind, *code),
+        Change::Reserved(stay) => add_stay(conn, stay),
+        Change::Cancelled(party) => cancel_stay(conn, *party),
+        Change::Issue { card, room, leaves } => issue(conn, card, *room, *leaves, codes),
+        Change::Spare(card) => add_spare(conn, *card),
+        Change::CheckedOut { party, room } => end_stay(conn, *party, *room),
+        Change::Noted {
+            note,
+            lock_place,
+            secured,
+            insides,
+        } => take_note(conn, note, *lock_place, *secured, *insides),
+    }
+}
+
+/// How many codes stand at the room of an issue; 0 for another change.
+fn codes_for<S: Alter>(
+    alloc: Global,
+    conn: &mut Connection<S>,
+    change: &Change,
+) -> Result<u32, LookFault>
+    requires books { IsBooks (state S.Store conn.old) }
+    ensures books { IsBooks (state S.Store conn.new) }
+    ensures keeps { KeepsRows (state S.Store conn.old) (state S.Store conn.new) }
+    ensures more { IfOk result (λ codes. codes < 2 ^ 32 - 1) }
+    ensures counted { IsKept (state S.Store conn.new) → IfOk result (λ codes. HasCodes change.now codes (rows_in (state S.Store conn.old).now.trees)) }
+{
+    let Change::Issue { room, .. } = change else {
+        return Ok(0);
+    };
+    match look_ups::room(alloc, conn, *room)? {
+        Some(row) if row.codes < u32::MAX => Ok(row.codes),
+        _ => Err(LookFault::Store),
+    }
+}
+
+/// Makes all of a change, or nothing.
+pub(crate) fn apply_change<S: Alter>(
+    alloc: Global,
+    conn: &mut Connection<S>,
+    change: &Change,
+) -> Result<(), LookFault>
+    requires books { IsBooks (state S.Store conn.old) }
+    requires fits { IsKept (state S.Store conn.old) → HasItsRows change.now (rows_in (state S.Store conn.old).now.trees) }
+    ensures books { IsBooks (state S.Store conn.new) }
+    ensures was { IsKept (state S.Store conn.new) → IsKept (state S.Store conn.old) }
+    ensures made { IsKept (state S.Store conn.new) → OnOk result (rows_in (state S.Store conn.new).now.trees ≡ made change.now (rows_in (state S.Store conn.old).now.trees)) }
+    ensures same { IsKept (state S.Store conn.new) → OnErr result ((state S.Store conn.new).now ≡ (state S.Store conn.old).now) }
+{
+    let codes = codes_for(alloc, conn, change)?;
+    match make_change(conn, change, codes) {
+        Ok(()) => Ok(()),
+        Err(error) => Err(fault_of(error)),
+    }
+}
