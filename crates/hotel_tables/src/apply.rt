@@ -18,11 +18,7 @@ use sqlite::{Alter, Connection, Error};
 use std::alloc::Global;
 
 /// Makes all of a change, or nothing; `codes` is how many codes stand at the room of an issue.
-fn make_change<S: Alter>(
-    conn: &mut Connection<S>,
-    change: &Change,
-    codes: u32,
-) -> Result<(), Error>
+fn make_change<S: Alter>(conn: &mut Connection<S>, change: &Change, codes: u32) -> Result<(), Error>
     requires books { IsBooks (state S.Store conn.old) }
     requires more { codes < 2 ^ 32 - 1 }
     requires counted { IsKept (state S.Store conn.old) → HasCodes change.now codes (rows_in (state S.Store conn.old).now.trees) }
