@@ -109,11 +109,16 @@ fn thirteen_spans(alloc: Global) -> Result<Desk, Fail> {
     Ok(desk)
 }
 
-/// Whether any of the 90 nights from a day on is taken in the one room.
-fn is_any_taken(books: &mut ListBooks, from: u16) -> Result<bool, Fail> {
+/// The first and the last day of a stay of 90 nights in four spans of 32.
+const ARRIVE: u16 = FIRST_DAY + 425;
+
+const DEPART: u16 = FIRST_DAY + 515;
+
+/// Whether any of the 90 nights is taken in the one room.
+fn is_any_taken(books: &mut ListBooks) -> Result<bool, Fail> {
     Ok(
         books
-            .full_night(&kind()?, day(from)?, day(from + 90)?)?
+            .full_night(&kind()?, day(ARRIVE)?, day(DEPART)?)?
             .is_some(),
     )
 }
@@ -122,14 +127,13 @@ fn is_any_taken(books: &mut ListBooks, from: u16) -> Result<bool, Fail> {
 #[test]
 fn a_stay_takes_all_its_nights_or_none(rt: HostRuntime) -> Result<(), Fail> {
     let mut desk = thirteen_spans(rt.alloc())?;
-    let from = FIRST_DAY + 425;
     let reserve = Command::Reserve {
         guest: Guest::read(rt.alloc(), "Ann Lee")?,
         kind: kind()?,
-        arrive: day(from)?,
+        arrive: day(ARRIVE)?,
         nights: Nights::new(90).ok_or("nights")?,
     };
     let taken = is_done(&rt, &mut desk, &reserve);
-    assert_eq!(rt; is_any_taken(&mut desk.books, from)?, taken);
+    assert_eq!(rt; is_any_taken(&mut desk.books)?, taken);
     Ok(())
 }
