@@ -1,14 +1,11 @@
 -- A list as it was written: whole, whole lines of it, or nothing where its room isn't there.
-use Rattle.std.proofs.Common.{◌≡◌, ℕ, List, [], ◌∷◌, ◌++◌, map, true, refl, sym, ap, subst, ◌∙◌, Option, Some, None, Result, Ok, Err, inl, inr}
-use Rattle.std.specs.Prelude.{◌≢◌, Bool, false, is_some}
-use Rattle.std.specs.List.{concat, flat_map}
+use Rattle.std.proofs.Common.{◌≡◌, ℕ, List, [], ◌∷◌, ◌++◌, map, true, refl, ap, subst, ◌∙◌, Option, Some, None, Result, Ok, Err, inl, inr, ◌≢◌, Bool, false, is_some, flat_map}
+use Rattle.std.specs.List.{concat}
 use Rattle.std.proofs.lemmas.List.{map-append}
 use Rattle.std.specs.Io.KnownBytes.{Appends, Keeps}
 use Rattle.std.proofs.KnownBytes.{Appends-nil, Appends-kept}
 use Rattle.hotel_core.specs.declared.books.rows.RoomRow.{RoomRow}
-use Rattle.hotel_lists.specs.Bytes.{AppendsFront}
-use Rattle.hotel_lists.specs.Lines.{Lists, ListsRoom, AppendsRows, is_early}
-use Rattle.hotel_lists.specs.declared.fault.ListFault.{ListFault}
+use Rattle.hotel_lists.specs.{Bytes.AppendsFront, Lines.Lists, Lines.ListsRoom, Lines.AppendsRows, Lines.is_early, declared.fault.ListFault.ListFault}
 use Rattle.hotel_lists.specs.declared.fault.ListFault.TheVariants as fault
 use Rattle.hotel_asks.specs.Listings.{listing, of_room, IsFront, ListEnds}
 

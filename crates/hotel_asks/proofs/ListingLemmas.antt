@@ -1,21 +1,12 @@
 -- The listing of a list over rows is that over a history for which they stand.
-use Rattle.std.proofs.Common.{◌≡◌, ℕ, List, Bool, true, false, sym, ap, ◌∙◌, Some, inl, inr}
-use Rattle.std.specs.Prelude.{is_some}
+use Rattle.std.proofs.Common.{◌≡◌, ℕ, List, Bool, true, false, sym, ap, ◌∙◌, Some, inl, inr, is_some}
+use Rattle.hotel_core.proofs.Names.{Rows, rows_of, History, is_room, Reached, StandsFor, room_at, chain_on, audit_on}
 use Rattle.std.proofs.lemmas.Bool.{cases_Bool}
-use Rattle.hotel_core.proofs.Lifted.ListRows.{lists_lift}
-use Rattle.hotel_core.proofs.OfTables.RoomNumbers.{room_there, room_not_there}
-use Rattle.hotel_core.specs.Model.Rows.{Rows}
-use Rattle.hotel_core.specs.Model.RowsOf.{rows_of}
-use Rattle.hotel_core.specs.Model.History.{History}
-use Rattle.hotel_core.specs.Model.Cases.{is_room}
+use Rattle.hotel_core.proofs.{Lifted.ListRows.lists_lift, OfTables.RoomNumbers.room_there, OfTables.RoomNumbers.room_not_there}
 use Rattle.hotel_core.specs.Model.Lists.{chain, audit_of}
-use Rattle.hotel_core.specs.Model.Run.{Reached, StandsFor}
-use Rattle.hotel_core.specs.Books.Lookups.{room_at}
-use Rattle.hotel_core.specs.Refinement.ListsOnRows.{chain_on, audit_on}
 use Rattle.hotel_lists.specs.Lines.{arrivals_header, in_house_header, chain_header, left_behind_header, audit_header, arrival_line, house_line, chain_line, behind_line, note_line}
-use Rattle.hotel_asks.specs.declared.lists.ListAsk.{ListAsk}
+use Rattle.hotel_asks.specs.{declared.lists.ListAsk.ListAsk, Listings.listing, Listings.of_room, Listings.listing_on, Listings.listing_over}
 use Rattle.hotel_asks.specs.declared.lists.ListAsk.TheVariants.{Arrivals, InHouse, ChainOf, LeftBehind, AuditOf}
-use Rattle.hotel_asks.specs.Listings.{listing, of_room, listing_on, listing_over}
 
 room_lifts : {R : Type 0} (h : History) (room : ℕ) (header : List ℕ) (line : R → List ℕ) (on_rows on_history : List R) → (is_room h room ≡ true → on_rows ≡ on_history)
     → of_room (is_some (room_at (rows_of h) room)) (listing header line on_rows) ≡ of_room (is_room h room) (listing header line on_history)

@@ -2,21 +2,12 @@
 use Rattle.std.proofs.Common.{◌≡◌, ℕ, ◌&&◌, Bool, true, false, if◌then◌else◌, List, [], ◌∷◌, length, arith, Option, Some, None, Result, Ok, Err, subst, sym}
 use Rattle.std.specs.Option.{ok_or}
 use Rattle.std.specs.Str.{is_utf8}
-use Rattle.hotel_nights.specs.Days.{read_day}
-use Rattle.hotel_nights.specs.Guests.{is_guest}
-use Rattle.hotel_nights.specs.Kinds.{read_kind}
-use Rattle.hotel_nights.specs.Moments.{read_moment}
-use Rattle.hotel_asks.specs.Asks.{ask_of, link_in, card_note_of}
-use Rattle.hotel_asks.specs.Names.{names_of}
+use Rattle.hotel_nights.specs.{Days.read_day, Guests.is_guest, Kinds.read_kind, Moments.read_moment}
+use Rattle.hotel_asks.specs.{Asks.ask_of, Asks.link_in, Asks.card_note_of, Names.names_of, Values.IsReading, Values.guest_in, Values.◌>>=◌, declared.asks.Ask.Ask}
 use Rattle.keycard_rules.specs.Numerals.{number_up_to, read_code}
 use Rattle.hotel_asks.specs.declared.values.ValueName.TheVariants.{Day, Kind, Arrive, Nights, Guest, Room, Party, Card, Count, Old, New, From, To, Moment}
-use Rattle.hotel_asks.specs.Values.{IsReading, guest_in, ◌>>=◌}
-use Rattle.hotel_asks.specs.declared.asks.Ask.{Ask}
-use Rattle.hotel_asks.specs.declared.values.AskFault.{AskFault}
-use Rattle.hotel_asks.specs.declared.values.AskFault.TheVariants.{Values}
-use Rattle.hotel_asks.specs.declared.values.ValueFault.{ValueFault}
-use Rattle.hotel_asks.specs.declared.values.ValueFault.TheVariants.{Number, Value}
-use Rattle.hotel_asks.specs.declared.values.ValueName.{ValueName}
+use Rattle.hotel_asks.specs.{declared.values.AskFault.AskFault, declared.values.AskFault.TheVariants.Values, declared.values.ValueFault.ValueFault}
+use Rattle.hotel_asks.specs.{declared.values.ValueFault.TheVariants.Number, declared.values.ValueFault.TheVariants.Value, declared.values.ValueName.ValueName}
 use Rattle.hotel_asks.specs.declared.verbs.Verb.{Verb}
 use Rattle.hotel_asks.specs.declared.verbs.Verb.TheVariants.{Begin, AddKind, AddRoom, Reserve, Cancel, CheckIn, Spare, Transfer, CheckOut, NextDay, Entered, Left, Recoded, Arrivals, InHouse, ChainOf, LeftBehind, AuditOf}
 
@@ -45,37 +36,20 @@ one_texts P held (a ∷ []) n = held a
 one_texts P held (a ∷ b ∷ rest) n = absurd (omega arith)
 
 two_texts : (P : List (List ℕ) → Type 0) → ((a b : List ℕ) → P (a ∷ b ∷ [])) → (texts : List (List ℕ)) → length texts ≡ 2 → P texts
-two_texts P held ([]) n = absurd (omega arith)
-two_texts P held (a ∷ []) n = absurd (omega arith)
 two_texts P held (a ∷ b ∷ []) n = held a b
-two_texts P held (a ∷ b ∷ c ∷ rest) n = absurd (omega arith)
+two_texts P held _ n = absurd (omega arith)
 
 four_texts : (P : List (List ℕ) → Type 0) → ((a b c d : List ℕ) → P (a ∷ b ∷ c ∷ d ∷ [])) → (texts : List (List ℕ)) → length texts ≡ 4 → P texts
-four_texts P held ([]) n = absurd (omega arith)
-four_texts P held (a ∷ []) n = absurd (omega arith)
-four_texts P held (a ∷ b ∷ []) n = absurd (omega arith)
-four_texts P held (a ∷ b ∷ c ∷ []) n = absurd (omega arith)
 four_texts P held (a ∷ b ∷ c ∷ d ∷ []) n = held a b c d
-four_texts P held (a ∷ b ∷ c ∷ d ∷ e ∷ rest) n = absurd (omega arith)
+four_texts P held _ n = absurd (omega arith)
 
 five_texts : (P : List (List ℕ) → Type 0) → ((a b c d e : List ℕ) → P (a ∷ b ∷ c ∷ d ∷ e ∷ [])) → (texts : List (List ℕ)) → length texts ≡ 5 → P texts
-five_texts P held ([]) n = absurd (omega arith)
-five_texts P held (a ∷ []) n = absurd (omega arith)
-five_texts P held (a ∷ b ∷ []) n = absurd (omega arith)
-five_texts P held (a ∷ b ∷ c ∷ []) n = absurd (omega arith)
-five_texts P held (a ∷ b ∷ c ∷ d ∷ []) n = absurd (omega arith)
 five_texts P held (a ∷ b ∷ c ∷ d ∷ e ∷ []) n = held a b c d e
-five_texts P held (a ∷ b ∷ c ∷ d ∷ e ∷ f ∷ rest) n = absurd (omega arith)
+five_texts P held _ n = absurd (omega arith)
 
 six_texts : (P : List (List ℕ) → Type 0) → ((a b c d e f : List ℕ) → P (a ∷ b ∷ c ∷ d ∷ e ∷ f ∷ [])) → (texts : List (List ℕ)) → length texts ≡ 6 → P texts
-six_texts P held ([]) n = absurd (omega arith)
-six_texts P held (a ∷ []) n = absurd (omega arith)
-six_texts P held (a ∷ b ∷ []) n = absurd (omega arith)
-six_texts P held (a ∷ b ∷ c ∷ []) n = absurd (omega arith)
-six_texts P held (a ∷ b ∷ c ∷ d ∷ []) n = absurd (omega arith)
-six_texts P held (a ∷ b ∷ c ∷ d ∷ e ∷ []) n = absurd (omega arith)
 six_texts P held (a ∷ b ∷ c ∷ d ∷ e ∷ f ∷ []) n = held a b c d e f
-six_texts P held (a ∷ b ∷ c ∷ d ∷ e ∷ f ∷ g ∷ rest) n = absurd (omega arith)
+six_texts P held _ n = absurd (omega arith)
 
 either : {A : Type 0} (b : Bool) (r q : Result A ValueFault) → IsNumbered r → IsNumbered q → IsNumbered (if b then r else q)
 either true r q held other = held

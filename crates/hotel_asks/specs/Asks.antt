@@ -1,16 +1,12 @@
 -- What a verb and the texts of its values ask for. The values are read from left to right.
 use Rattle.std.specs.Prelude.{ℕ, Bool, true, false, List, [], ◌∷◌, Result, Ok, Err}
-use Rattle.keycard_rules.specs.declared.card.Link.{Link}
-use Rattle.keycard_rules.specs.declared.note.Act.{Act}
+use Rattle.keycard_rules.specs.{declared.card.Link.Link, declared.note.Act.Act}
 use Rattle.keycard_rules.specs.declared.note.Act.TheVariants as act
 use Rattle.hotel_core.specs.declared.command.Command.{Command}
 use Rattle.hotel_core.specs.declared.command.Command.TheVariants as command
-use Rattle.hotel_asks.specs.declared.asks.Ask.{Ask}
+use Rattle.hotel_asks.specs.{declared.asks.Ask.Ask, declared.notes.CardNote.CardNote, declared.values.ValueFault.ValueFault, declared.values.ValueFault.TheVariants.Number}
 use Rattle.hotel_asks.specs.declared.asks.Ask.TheVariants as ask
 use Rattle.hotel_asks.specs.declared.lists.ListAsk.TheVariants as list
-use Rattle.hotel_asks.specs.declared.notes.CardNote.{CardNote}
-use Rattle.hotel_asks.specs.declared.values.ValueFault.{ValueFault}
-use Rattle.hotel_asks.specs.declared.values.ValueFault.TheVariants.{Number}
 use Rattle.hotel_asks.specs.declared.values.ValueName.TheVariants.{Day, Arrive, Old, New, From, To}
 use Rattle.hotel_asks.specs.declared.verbs.Verb.{Verb}
 use Rattle.hotel_asks.specs.declared.verbs.Verb.TheVariants.{Begin, AddKind, AddRoom, Reserve, Cancel, CheckIn, Spare, Transfer, CheckOut, NextDay, Entered, Left, Recoded, Arrivals, InHouse, ChainOf, LeftBehind, AuditOf}

@@ -3,15 +3,9 @@ use Rattle.std.specs.Prelude.{◌≡◌, ℕ, ◌&&◌, Bool, true, List, if◌t
 use Rattle.std.specs.Option.{ok_or}
 use Rattle.std.specs.Str.{is_utf8}
 use Rattle.keycard_rules.specs.Numerals.{number_up_to, read_code}
-use Rattle.hotel_nights.specs.Days.{read_day}
-use Rattle.hotel_nights.specs.Guests.{is_guest}
-use Rattle.hotel_nights.specs.Kinds.{read_kind}
-use Rattle.hotel_nights.specs.Moments.{read_moment}
-use Rattle.hotel_asks.specs.declared.values.ValueFault.{ValueFault}
-use Rattle.hotel_asks.specs.declared.values.ValueFault.TheVariants.{Value}
-use Rattle.hotel_asks.specs.declared.values.AskFault.{AskFault}
-use Rattle.hotel_asks.specs.declared.values.AskFault.TheVariants.{Values, Memory}
-use Rattle.hotel_asks.specs.declared.values.ValueName.{ValueName}
+use Rattle.hotel_nights.specs.{Days.read_day, Guests.is_guest, Kinds.read_kind, Moments.read_moment}
+use Rattle.hotel_asks.specs.{declared.values.ValueFault.ValueFault, declared.values.ValueFault.TheVariants.Value, declared.values.AskFault.AskFault}
+use Rattle.hotel_asks.specs.{declared.values.AskFault.TheVariants.Values, declared.values.AskFault.TheVariants.Memory, declared.values.ValueName.ValueName}
 use Rattle.hotel_asks.specs.declared.values.ValueName.TheVariants.{Kind, Nights, Guest, Room, Party, Card, Count, Moment}
 
 -- A day, as the value of that name.

@@ -1,8 +1,7 @@
 //! The list that is asked for, written.
 
 ghost use Rattle.std.specs.Prelude.{◌≡◌, [], true, IsErrOf};
-ghost use Rattle.hotel_lists.specs.Calls.{NoneForgotten};
-ghost use Rattle.hotel_lists.specs.Lines.{LooksAt};
+ghost use Rattle.hotel_lists.specs.{Calls.NoneForgotten, Lines.LooksAt};
 ghost use Rattle.hotel_asks.specs.Listings.{ListEnds, listing_on};
 
 use crate::lists::ListAsk;

@@ -1,9 +1,8 @@
 //! The values of verbs: each read from a text, or refused by its name.
 
 ghost use Rattle.std.specs.Prelude.{◌≡◌, true};
-ghost use Rattle.hotel_asks.specs.Names.{name_text};
+ghost use Rattle.hotel_asks.specs.{Names.name_text, declared.values.AskFault.TheVariants.Values};
 ghost use Rattle.hotel_asks.specs.Values.{day_in, code_in, kind_in, nights_in, guest_in, room_in, party_in, card_in, count_in, moment_in, IsReading};
-ghost use Rattle.hotel_asks.specs.declared.values.AskFault.TheVariants.{Values};
 
 use hotel_nights::{Day, Guest, GuestFault, KindCode, Moment, Nights};
 use keycard_rules::{CardNo, Code, Count, PartyNo, RoomNo};

@@ -1,8 +1,7 @@
 //! The verbs of commands and lists.
 
 ghost use Rattle.std.specs.Prelude.{◌≡◌};
-ghost use Rattle.hotel_asks.specs.Names.{names_of, word_of};
-ghost use Rattle.hotel_asks.specs.Verbs.{read_verb};
+ghost use Rattle.hotel_asks.specs.{Names.names_of, Names.word_of, Verbs.read_verb};
 
 use crate::values::ValueName;
 

@@ -5,8 +5,7 @@ use Rattle.std.specs.Io.KnownBytes.{Appends}
 use Rattle.std.proofs.KnownBytes.{Appends-trans}
 use Rattle.hotel_lists.specs.Bytes.{AppendsFront}
 use Rattle.hotel_lists.proofs.BytesLemmas.{front_next}
-use Rattle.hotel_audit.specs.Answers.{answer_text, answers_text}
-use Rattle.hotel_audit.specs.declared.answer.LineAnswer.{LineAnswer}
+use Rattle.hotel_audit.specs.{Answers.answer_text, Answers.answers_text, declared.answer.LineAnswer.LineAnswer}
 
 answers_text-append : (number : ℕ) (answers more : List LineAnswer) → answers_text number (answers ++ more) ≡ answers_text number answers ++ answers_text (number + length answers) more
 answers_text-append number [] more = rw add-zero refl

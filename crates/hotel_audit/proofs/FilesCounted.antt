@@ -1,34 +1,16 @@
 -- Files lead to the events of the notes that were taken, and each room's notes are counted.
-use Rattle.std.proofs.Common.{◌≡◌, ◌∙◌, ◌+◌, ℕ, true, false, List, [], ◌∷◌, ◌++◌, inl, inr, length, map, refl, ap, sym, subst}
-use Rattle.std.specs.Prelude.{All, ◌==◌}
-use Rattle.std.specs.List.{range_with_len}
+use Rattle.std.proofs.Common.{◌≡◌, ◌∙◌, ◌+◌, ℕ, true, false, List, [], ◌∷◌, ◌++◌, inl, inr, length, map, refl, ap, sym, subst, All, ◌==◌}
+use Rattle.hotel_core.proofs.Names.{range_with_len, Stream, words, Note, Event, History, ◌▷◌, notes, grown, IsReply, Reached, Runs, StepsIf, counts_at, count_up}
 use Rattle.std.proofs.lemmas.List.Elements.{All-cons, All-nil}
-use Rattle.rand_core.specs.Stream.{Stream}
-use Rattle.keycard_rules.specs.Draw.{words}
-use Rattle.keycard_rules.specs.Note.{Note}
 use Rattle.hotel_core.specs.declared.command.Command.TheVariants as command
 use Rattle.hotel_core.specs.declared.reply.Reply.{Reply}
 use Rattle.hotel_core.specs.declared.reply.Reply.TheVariants as reply
-use Rattle.hotel_core.specs.Model.Event.{Event}
-use Rattle.hotel_core.specs.Model.History.{History, ◌▷◌}
-use Rattle.hotel_core.specs.Model.Notes.{notes}
-use Rattle.hotel_core.specs.Model.Outcome.{grown}
-use Rattle.hotel_core.specs.Model.Ranges.{IsReply}
-use Rattle.hotel_core.specs.Model.Run.{Reached, Runs, StepsIf}
-use Rattle.hotel_core.specs.Model.SoundCards.{counts_at}
-use Rattle.hotel_core.specs.Model.SoundRooms.{count_up}
-use Rattle.hotel_core.proofs.OfTables.NotesKept.{note_found}
-use Rattle.hotel_core.proofs.OfTables.NotesListed.{notes_count}
-use Rattle.hotel_core.proofs.Lifted.Runs.{runs_reach}
-use Rattle.hotel_core.proofs.OfTables.Tests.{and_true, eq_from}
-use Rattle.hotel_audit.specs.declared.answer.LineAnswer.{LineAnswer}
+use Rattle.hotel_core.proofs.{OfTables.NotesKept.note_found, OfTables.NotesListed.notes_count, Lifted.Runs.runs_reach, OfTables.Tests.and_true, OfTables.Tests.eq_from}
+use Rattle.hotel_audit.specs.{declared.answer.LineAnswer.LineAnswer, declared.line.Line.Line, Import.AreAnswered, Import.commands_of, Import.replies_in}
 use Rattle.hotel_audit.specs.declared.answer.LineAnswer.TheVariants.{Taken, Seen, Unread, Refused}
-use Rattle.hotel_audit.specs.declared.line.Line.{Line}
 use Rattle.hotel_audit.specs.declared.line.Line.TheVariants as line
 use Rattle.hotel_audit.specs.FilesCounted.{AnsweredFile, FilesCounted, FilesLead, NotesCounted, all_events_taken, event_of, events_taken, followed_by}
-use Rattle.hotel_audit.specs.Import.{AreAnswered, commands_of, replies_in}
-use Rattle.hotel_audit.proofs.NoteOutcomes.{note_outcome}
-use Rattle.hotel_audit.proofs.NotesInRange.{commands_in_range, file_in_range, front_in_range}
+use Rattle.hotel_audit.proofs.{NoteOutcomes.note_outcome, NotesInRange.commands_in_range, NotesInRange.file_in_range, NotesInRange.front_in_range}
 
 -- a note that was answered Taken happened
 taken_step : (h : History) (s : Stream) (note : Note) (h' : History) (s' : Stream) → StepsIf false h s (command.Reported note) reply.Taken h' s' → h' ≡ h ▷ event_of note

@@ -1,31 +1,16 @@
 -- Notes that would not be taken, and that they stay so.
-use Rattle.std.proofs.Common.{◌≡◌, ◌∙◌, ◌<◌, ◌≤◌, ℕ, zero, suc, Bool, true, false, List, [], ◌∷◌, ◌++◌, Some, None, inl, inr, length, drop, refl, ap, sym, subst, arith, length-append}
-use Rattle.std.specs.Prelude.{◌==◌, ◌+◌, ◌-◌}
-use Rattle.rand_core.specs.Stream.{Stream}
-use Rattle.keycard_rules.specs.Draw.{words}
+use Rattle.std.proofs.Common.{◌≡◌, ◌∙◌, ◌<◌, ◌≤◌, ℕ, zero, suc, Bool, true, false, List, [], ◌∷◌, ◌++◌, Some, None, inl, inr, length, drop, refl, ap, sym, subst, arith, length-append, ◌==◌, ◌+◌, ◌-◌}
+use Rattle.hotel_core.proofs.Names.{Stream, words, Note, answer_to, reported, is_begun, is_room, Event, note_of, History, ◌▷◌, notes, same_note, standing_among, with_note, Outcome, grown, needs, Runs, StepsIf, and_last, when}
 use Rattle.keycard_rules.specs.declared.note.Act.{Act}
 use Rattle.keycard_rules.specs.declared.note.Act.TheVariants as act
-use Rattle.keycard_rules.specs.Note.{Note}
 use Rattle.hotel_core.specs.declared.command.Command.TheVariants as command
-use Rattle.hotel_core.specs.declared.reply.Reply.{Reply}
+use Rattle.hotel_core.specs.{declared.reply.Reply.Reply, declared.reply.Refusal.TheVariants.NotBegun, declared.reply.Refusal.TheVariants.NoRoom}
 use Rattle.hotel_core.specs.declared.reply.Reply.TheVariants as reply
-use Rattle.hotel_core.specs.declared.reply.Refusal.TheVariants.{NotBegun, NoRoom}
-use Rattle.hotel_core.specs.Model.Answer.{answer_to, reported}
-use Rattle.hotel_core.specs.Model.Cases.{is_begun, is_room}
-use Rattle.hotel_core.specs.Model.Event.{Event, note_of}
-use Rattle.hotel_core.specs.Model.History.{History, ◌▷◌}
-use Rattle.hotel_core.specs.Model.Notes.{notes, same_note, standing_among, with_note}
-use Rattle.hotel_core.specs.Model.Outcome.{Outcome, grown, needs}
-use Rattle.hotel_core.specs.Model.Run.{Runs, StepsIf}
-use Rattle.hotel_core.specs.Model.Words.{and_last, when}
 use Rattle.hotel_core.proofs.OfTables.Tests.{eq_from, eq_self}
-use Rattle.hotel_audit.specs.declared.answer.LineAnswer.{LineAnswer}
+use Rattle.hotel_audit.specs.{declared.answer.LineAnswer.LineAnswer, declared.line.Line.Line, FilesCounted.event_by, FilesCounted.event_of}
 use Rattle.hotel_audit.specs.declared.answer.LineAnswer.TheVariants.{Taken, Seen, Unread, Refused}
-use Rattle.hotel_audit.specs.declared.line.Line.{Line}
 use Rattle.hotel_audit.specs.declared.line.Line.TheVariants as line
-use Rattle.hotel_audit.specs.FilesCounted.{event_by, event_of}
-use Rattle.hotel_audit.specs.Import.{AreAnswered, commands_of, replies_in}
-use Rattle.hotel_audit.specs.SentAtOnce.{CountsDoNotFall, NoneLower}
+use Rattle.hotel_audit.specs.{Import.AreAnswered, Import.commands_of, Import.replies_in, SentAtOnce.CountsDoNotFall, SentAtOnce.NoneLower}
 use Rattle.hotel_audit.proofs.NoteOutcomes.{IsIdle, idle_beside, idle_checked, note_outcome, same_words}
 use Rattle.hotel_audit.proofs.OtherRooms.{answered_same, other_room}
 

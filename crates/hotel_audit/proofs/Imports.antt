@@ -1,20 +1,11 @@
 -- The lines of a file, one after the other.
-use Rattle.std.proofs.Common.{◌≡◌, List, [], ◌∷◌, ◌++◌, refl, ap}
-use Rattle.std.specs.Prelude.{Ok, ◌||◌}
-use Rattle.rand_core.specs.Stream.{Stream}
-use Rattle.keycard_rules.specs.Note.{Note}
+use Rattle.std.proofs.Common.{◌≡◌, List, [], ◌∷◌, ◌++◌, refl, ap, Ok, ◌||◌}
+use Rattle.hotel_core.proofs.{Names.Stream, Names.Note, Names.Rows, Names.Steps, Invariants.Assurance.assured, Lifted.Runs.runs_join}
 use Rattle.hotel_core.specs.declared.command.Command.TheVariants as command
-use Rattle.hotel_core.specs.declared.reply.Reply.{Reply}
+use Rattle.hotel_core.specs.{declared.reply.Reply.Reply, Model.Leads.Leads}
 use Rattle.hotel_core.specs.declared.reply.Reply.TheVariants as reply
-use Rattle.hotel_core.specs.Model.Rows.{Rows}
-use Rattle.hotel_core.specs.Model.Leads.{Leads}
-use Rattle.hotel_core.specs.Model.Run.{Steps}
-use Rattle.hotel_core.proofs.Invariants.Assurance.{assured}
-use Rattle.hotel_core.proofs.Lifted.Runs.{runs_join}
-use Rattle.hotel_audit.specs.declared.answer.LineAnswer.{LineAnswer}
+use Rattle.hotel_audit.specs.{declared.answer.LineAnswer.LineAnswer, declared.line.Cause.Cause, declared.line.Line.Line}
 use Rattle.hotel_audit.specs.declared.answer.LineAnswer.TheVariants as answer
-use Rattle.hotel_audit.specs.declared.line.Cause.{Cause}
-use Rattle.hotel_audit.specs.declared.line.Line.{Line}
 use Rattle.hotel_audit.specs.declared.line.Line.TheVariants as line
 use Rattle.hotel_audit.specs.Import.{AreAnswered, LinesLeadTo, answer_of, commands_of, has_taken, replies_in}
 use Rattle.hotel_audit.proofs.NoteReplies.{answered_reply}
@@ -42,9 +33,7 @@ AreAnswered-append (l ∷ lines) more [] others h k = absurd h
 pub has_taken-push : (answers : List LineAnswer) (a : LineAnswer) → has_taken (answers ++ a ∷ []) ≡ (has_taken answers || has_taken (a ∷ []))
 has_taken-push [] a = refl
 has_taken-push (answer.Taken ∷ answers) a = refl
-has_taken-push (answer.Seen ∷ answers) a = has_taken-push answers a
-has_taken-push (answer.Unread cause ∷ answers) a = has_taken-push answers a
-has_taken-push (answer.Refused why ∷ answers) a = has_taken-push answers a
+has_taken-push (_ ∷ answers) a = has_taken-push answers a
 
 -- no lines change nothing
 pub lead-none : (rows : Rows) → LinesLeadTo rows [] [] rows

@@ -1,23 +1,13 @@
 -- A note is taken as the next one of its room, or nothing happens.
-use Rattle.std.proofs.Common.{◌≡◌, ℕ, Bool, true, false, List, [], ◌∷◌, Option, Some, None, ◌⊎◌, inl, inr, length, drop, refl, ap}
+use Rattle.std.proofs.Common.{◌≡◌, ℕ, Bool, true, false, List, [], ◌∷◌, Option, Some, None, ◌⊎◌, inl, inr, length, drop, refl, ap, ◌==◌, ◌+◌, ◌-◌, if◌then◌else◌}
+use Rattle.hotel_core.proofs.Names.{Note, answer_to, told, reported, is_begun, is_card, is_room, has_link, opens, Event, inside, History, awaited, Copy, Conflicting, Next, After, notes, same_note, standing_among, Outcome, accepted, needs, unless, is_one_of}
 use Rattle.std.proofs.lemmas.Bool.{eqb-true}
-use Rattle.std.specs.Prelude.{◌==◌, ◌+◌, ◌-◌, if◌then◌else◌}
 use Rattle.keycard_rules.specs.declared.note.Act.{Act}
 use Rattle.keycard_rules.specs.declared.note.Act.TheVariants as act
-use Rattle.keycard_rules.specs.Note.{Note}
 use Rattle.hotel_core.specs.declared.command.Command.TheVariants as command
 use Rattle.hotel_core.specs.declared.reply.Reply.TheVariants as reply
-use Rattle.hotel_core.specs.declared.reply.Refusal.{Refusal}
+use Rattle.hotel_core.specs.{declared.reply.Refusal.Refusal, Model.Cases.holds}
 use Rattle.hotel_core.specs.declared.reply.Refusal.TheVariants.{NotBegun, NoRoom, NoCard, CardDiffers, LockShut, NotInside, HeldDiffers, NotAwaited}
-use Rattle.hotel_core.specs.Model.Answer.{answer_to, told, reported}
-use Rattle.hotel_core.specs.Model.Cases.{is_begun, is_card, is_room, has_link, holds, opens}
-use Rattle.hotel_core.specs.Model.Event.{Event}
-use Rattle.hotel_core.specs.Model.Guests.{inside}
-use Rattle.hotel_core.specs.Model.History.{History}
-use Rattle.hotel_core.specs.Model.Ledger.{awaited}
-use Rattle.hotel_core.specs.Model.Notes.{Copy, Conflicting, Next, After, notes, same_note, standing_among}
-use Rattle.hotel_core.specs.Model.Outcome.{Outcome, accepted, needs, unless}
-use Rattle.hotel_core.specs.Model.Words.{is_one_of}
 use Rattle.hotel_audit.specs.FilesCounted.{event_by, event_of}
 
 -- the note is taken

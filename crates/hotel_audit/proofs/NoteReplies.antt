@@ -1,15 +1,11 @@
 -- What a note is answered: Taken, Seen or a refusal.
-use Rattle.std.proofs.Common.{◌≡◌, Bool, true, false, [], ◌∷◌, refl}
-use Rattle.std.specs.Prelude.{Ok, Err}
-use Rattle.keycard_rules.specs.Note.{Note}
+use Rattle.std.proofs.Common.{◌≡◌, Bool, true, false, [], ◌∷◌, refl, Ok, Err}
+use Rattle.hotel_core.proofs.Names.{Note, is_failed, failure_in}
 use Rattle.keycard_rules.specs.declared.issued.LookFault.{LookFault}
 use Rattle.keycard_rules.specs.declared.issued.LookFault.TheVariants as look
-use Rattle.hotel_core.specs.declared.reply.Reply.{Reply}
+use Rattle.hotel_core.specs.{declared.reply.Reply.Reply, Model.NoteReplies.IsNoteReply}
 use Rattle.hotel_core.specs.declared.reply.Reply.TheVariants as reply
 use Rattle.hotel_core.specs.declared.reply.Refusal.TheVariants as refusal
-use Rattle.hotel_core.specs.Model.Run.{is_failed}
-use Rattle.hotel_core.specs.Books.Failures.{failure_in}
-use Rattle.hotel_core.specs.Model.NoteReplies.{IsNoteReply}
 use Rattle.hotel_audit.specs.declared.answer.LineAnswer.{LineAnswer}
 use Rattle.hotel_audit.specs.declared.answer.LineAnswer.TheVariants.{Taken, Seen, Refused}
 use Rattle.hotel_audit.specs.declared.line.Line.TheVariants as line

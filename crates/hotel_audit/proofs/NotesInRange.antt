@@ -1,29 +1,21 @@
 -- The notes that a file's lines are have their values in range.
-use Rattle.std.proofs.Common.{◌≡◌, ◌≤◌, ℕ, Bool, true, false, List, [], ◌∷◌, ◌++◌, Option, Some, None, Result, Ok, Err, refl, subst, arith, map}
-use Rattle.std.specs.Prelude.{option_and_then, ◌&&◌, ◌+◌, ◌*◌, ◌==◌, ◌||◌, nat_le, nat_lt, if◌then◌else◌, slice_index, slice_range, length, All}
+use Rattle.std.proofs.Common.{◌≡◌, ◌≤◌, ℕ, Bool, true, false, List, [], ◌∷◌, ◌++◌, Option, Some, None, Result, Ok, Err, refl, subst, arith, map, option_and_then, ◌&&◌, ◌+◌, ◌*◌, ◌==◌, ◌||◌, nat_le, nat_lt, if◌then◌else◌, slice_index, slice_range, length, All}
+use Rattle.hotel_core.proofs.{Names.IsTimed, Names.IsNumberUpTo, Names.IsCommand, OfTables.Tests.and_true}
 use Rattle.std.specs.Option.{ok_or}
 use Rattle.std.proofs.lemmas.Bool.{leb-true}
 use Rattle.std.proofs.lemmas.List.Elements.{All-cons, All-nil}
 use Rattle.std.proofs.lemmas.Int.{ints}
-use Rattle.keycard_rules.specs.Note.{IsTimed}
-use Rattle.keycard_rules.specs.Numbers.{IsNumberUpTo}
 use Rattle.keycard_rules.specs.Numerals.{is_numeral, number_of, number_up_to, numeral, read_code}
 use Rattle.hotel_nights.specs.Days.{Ymd, day_of_date, is_date, is_in_range, number_of_date, read_day, read_ymd}
 use Rattle.hotel_nights.specs.Moments.{read_moment, read_time}
 use Rattle.hotel_nights.proofs.DayLemmas.{count-high, first_count}
 use Rattle.hotel_core.specs.declared.command.Command.TheVariants as command
-use Rattle.hotel_core.specs.Model.Ranges.{IsCommand, IsCount}
-use Rattle.hotel_core.proofs.OfTables.Tests.{and_true}
-use Rattle.hotel_audit.specs.declared.audit_file.AuditFault.TheVariants.{TooLarge, WrongHeader}
-use Rattle.hotel_audit.specs.declared.line.Cause.{Cause}
+use Rattle.hotel_core.specs.Model.Ranges.{IsCount}
+use Rattle.hotel_audit.specs.{declared.audit_file.AuditFault.TheVariants.TooLarge, declared.audit_file.AuditFault.TheVariants.WrongHeader, declared.line.Cause.Cause}
 use Rattle.hotel_audit.specs.declared.line.Cause.TheVariants.{BadRoom, BadCount, BadOld, BadNew, BadMoment}
-use Rattle.hotel_audit.specs.declared.line.Happening.{Happening}
-use Rattle.hotel_audit.specs.declared.line.Line.{Line}
+use Rattle.hotel_audit.specs.{declared.line.Happening.Happening, declared.line.Line.Line, AuditFile.audit_lines, AuditFile.file_records, AuditFile.lines_of}
 use Rattle.hotel_audit.specs.declared.line.Line.TheVariants as line
-use Rattle.hotel_audit.specs.AuditFile.{audit_lines, file_records, lines_of}
-use Rattle.hotel_audit.specs.Fields.{FieldTexts, seven_fields}
-use Rattle.hotel_audit.specs.Header.{is_header}
-use Rattle.hotel_audit.specs.Import.{commands_of}
+use Rattle.hotel_audit.specs.{Fields.FieldTexts, Fields.seven_fields, Header.is_header, Import.commands_of}
 use Rattle.hotel_audit.specs.Line.{act_of, happening, line_of, line_with, read_line, ◌>>=◌}
 
 -- where there is a value, the test held, and it is this value
@@ -74,9 +66,7 @@ parts_in_range h m s t e =
 
 three_by : (h m s : Option ℕ) (t : ℕ) → option_and_then (λ x. option_and_then (λ y. option_and_then (λ z. second_of x y z) s) m) h ≡ Some t → t ≤ 86399
 three_by (Some h) (Some m) (Some s) t e = parts_in_range h m s t e
-three_by (Some h) (Some m) None t e = cc e
-three_by (Some h) None s t e = cc e
-three_by None m s t e = cc e
+three_by _ _ _ t e = cc e
 
 time_by : (b : Bool) (h m s : Option ℕ) (t : ℕ) → (if b then option_and_then (λ x. option_and_then (λ y. option_and_then (λ z. second_of x y z) s) m) h else None) ≡ Some t → t ≤ 86399
 time_by true h m s t e = three_by h m s t e
@@ -122,13 +112,8 @@ line_by room count what old new moment =
 
 line_ranges : (room count : Option ℕ) (what : Result Happening Cause) (old new : Option ℕ) (moment : Option (ℕ × ℕ)) → ((c : ℕ) → count ≡ Some c → IsCount c) → ((m : ℕ × ℕ) → moment ≡ Some m → IsTimed m.0 m.1)
     → IsLineInRange (line_by room count what old new moment)
-line_ranges None count what old new moment f g = tt
-line_ranges (Some r) None what old new moment f g = tt
-line_ranges (Some r) (Some c) (Err cause) old new moment f g = tt
-line_ranges (Some r) (Some c) (Ok w) None new moment f g = tt
-line_ranges (Some r) (Some c) (Ok w) (Some o) None moment f g = tt
-line_ranges (Some r) (Some c) (Ok w) (Some o) (Some n) None f g = tt
 line_ranges (Some r) (Some c) (Ok w) (Some o) (Some n) (Some m) f g = (f c refl, g m refl)
+line_ranges _ _ _ _ _ _ f g = tt
 
 fields_in_range : (fields : Option FieldTexts) → IsLineInRange (line_with fields)
 fields_in_range None = tt

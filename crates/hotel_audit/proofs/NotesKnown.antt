@@ -1,32 +1,15 @@
 -- A note that was taken stays so, and is seen when it comes again.
-use Rattle.std.proofs.Common.{◌≡◌, ℕ, zero, suc, Bool, true, false, List, [], ◌∷◌, ◌++◌, Option, Some, None, length, drop, sym, refl, subst, ap, arith, eq-eqb}
+use Rattle.std.proofs.Common.{◌≡◌, ℕ, zero, suc, Bool, true, false, List, [], ◌∷◌, ◌++◌, Option, Some, None, length, drop, sym, refl, subst, ap, arith, eq-eqb, ◌==◌, ◌+◌, ◌-◌, is_some, option_map, if◌then◌else◌}
+use Rattle.hotel_core.proofs.Names.{Stream, Note, words, answer_to, moment_of, told, reported, is_begun, is_card, is_room, has_link, opens, inside, awaited, Event, Begun, NextDay, Install, note_of, History, ◌▷◌, Copy, Conflicting, Next, After, notes, with_note, same_note, same_link, standing, standing_among, Outcome, accepted, grown, needs, said, unless, Runs, Steps, StepsIf, is_failed, day, and_last, is_one_of, when}
 use Rattle.std.proofs.lemmas.Bool.{eqb-true}
-use Rattle.std.specs.Prelude.{◌==◌, ◌+◌, ◌-◌, is_some, option_map, if◌then◌else◌}
 use Rattle.std.proofs.Math.Seq.{drop-append_seam}
-use Rattle.rand_core.specs.Stream.{Stream}
-use Rattle.keycard_rules.specs.declared.card.Link.{Link}
-use Rattle.keycard_rules.specs.declared.note.Act.{Act}
+use Rattle.keycard_rules.specs.{declared.card.Link.Link, declared.note.Act.Act}
 use Rattle.keycard_rules.specs.declared.note.Act.TheVariants as act
-use Rattle.keycard_rules.specs.Note.{Note}
-use Rattle.keycard_rules.specs.Draw.{words}
-use Rattle.hotel_core.specs.declared.command.Command.{Command}
+use Rattle.hotel_core.specs.{declared.command.Command.Command, declared.reply.Reply.Reply, declared.reply.Refusal.Refusal, Model.Cases.holds, Model.Notes.same_act}
 use Rattle.hotel_core.specs.declared.command.Command.TheVariants as command
-use Rattle.hotel_core.specs.declared.reply.Reply.{Reply}
 use Rattle.hotel_core.specs.declared.reply.Reply.TheVariants as reply
-use Rattle.hotel_core.specs.declared.reply.Refusal.{Refusal}
 use Rattle.hotel_core.specs.declared.reply.Refusal.TheVariants.{NotBegun, NoRoom, NoCard, CardDiffers, LockShut, NotInside, HeldDiffers, NotAwaited}
-use Rattle.hotel_core.specs.Model.Answer.{answer_to, moment_of, told, reported}
-use Rattle.hotel_core.specs.Model.Cases.{is_begun, is_card, is_room, has_link, holds, opens}
 use Rattle.hotel_core.specs.Model.Event as event
-use Rattle.hotel_core.specs.Model.Guests.{inside}
-use Rattle.hotel_core.specs.Model.Ledger.{awaited}
-use Rattle.hotel_core.specs.Model.Event.{Event, Begun, NextDay, Install, note_of}
-use Rattle.hotel_core.specs.Model.History.{History, ◌▷◌}
-use Rattle.hotel_core.specs.Model.Notes.{Copy, Conflicting, Next, After, notes, with_note, same_note, same_act, same_link, standing, standing_among}
-use Rattle.hotel_core.specs.Model.Outcome.{Outcome, accepted, grown, needs, said, unless}
-use Rattle.hotel_core.specs.Model.Run.{Runs, Steps, StepsIf, is_failed}
-use Rattle.hotel_core.specs.Model.Stays.{day}
-use Rattle.hotel_core.specs.Model.Words.{and_last, is_one_of, when}
 use Rattle.hotel_core.proofs.Invariants.NoRooms.{not_added}
 
 -- the first of these notes is the note

@@ -1,27 +1,13 @@
 -- In a run a room's notes grow by those that were answered Taken.
-use Rattle.std.proofs.Common.{◌≡◌, ◌∙◌, ℕ, Bool, true, false, List, [], ◌∷◌, ◌++◌, Option, Some, None, inl, inr, refl, ap, sym, subst, append_assoc, append-nil}
-use Rattle.std.specs.Prelude.{◌==◌}
-use Rattle.rand_core.specs.Stream.{Stream}
-use Rattle.keycard_rules.specs.Draw.{draw_from, words}
-use Rattle.keycard_rules.specs.Note.{Note}
-use Rattle.hotel_core.specs.declared.command.Command.{Command}
+use Rattle.std.proofs.Common.{◌≡◌, ◌∙◌, ℕ, Bool, true, false, List, [], ◌∷◌, ◌++◌, Option, Some, None, inl, inr, refl, ap, sym, subst, append_assoc, append-nil, ◌==◌}
+use Rattle.hotel_core.proofs.Names.{Stream, draw_from, words, Note, answer_to, checks, effect, next_card, Event, note_of, History, issued_codes, notes, with_note, grown, Steps, StepsIf, answered, is_failed, and_last, when}
+use Rattle.hotel_core.specs.{declared.command.Command.Command, declared.reply.Reply.Reply}
 use Rattle.hotel_core.specs.declared.command.Command.TheVariants as command
-use Rattle.hotel_core.specs.declared.reply.Reply.{Reply}
 use Rattle.hotel_core.specs.declared.reply.Reply.TheVariants as reply
-use Rattle.hotel_core.specs.Model.Answer.{answer_to, checks, effect}
-use Rattle.hotel_core.specs.Model.Cases.{next_card}
 use Rattle.hotel_core.specs.Model.Event as event
-use Rattle.hotel_core.specs.Model.Event.{Event, note_of}
-use Rattle.hotel_core.specs.Model.History.{History}
-use Rattle.hotel_core.specs.Model.Issued.{issued_codes}
-use Rattle.hotel_core.specs.Model.Notes.{notes, with_note}
-use Rattle.hotel_core.specs.Model.Outcome.{grown}
-use Rattle.hotel_core.specs.Model.Run.{Steps, StepsIf, answered, is_failed}
-use Rattle.hotel_core.specs.Model.Words.{and_last, when}
 use Rattle.hotel_core.proofs.Invariants.Following.{from_draw, passed_all, same_event}
 use Rattle.hotel_audit.specs.FilesCounted.{RunsTake, and_before, note_taken, notes_taken}
-use Rattle.hotel_audit.proofs.IdleNotes.{noted}
-use Rattle.hotel_audit.proofs.NoteOutcomes.{note_outcome}
+use Rattle.hotel_audit.proofs.{IdleNotes.noted, NoteOutcomes.note_outcome}
 
 -- the command reports no note
 abbrev IsOther : Command → Type 0

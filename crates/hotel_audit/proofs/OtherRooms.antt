@@ -1,27 +1,10 @@
 -- A note of a room changes nothing that the notes of another one turn on.
-use Rattle.std.proofs.Common.{◌≡◌, ℕ, Bool, true, false, List, [], ◌∷◌, refl, ap, sym, ◌∙◌}
-use Rattle.std.specs.Prelude.{◌==◌, ◌&&◌, if◌then◌else◌}
-use Rattle.std.specs.BTreeSet.{insert_key}
-use Rattle.std.specs.Ordering.{match_ordering}
-use Rattle.std.specs.declared.cmp.Ordering.{Ordering}
-use Rattle.std.specs.declared.cmp.Ordering.TheVariants.{Less, Equal, Greater}
-use Rattle.std.specs.BTreeMap.{is_at}
-use Rattle.std.specs.Set.{remove_key}
+use Rattle.std.proofs.Common.{◌≡◌, ℕ, Bool, true, false, List, [], ◌∷◌, refl, ap, sym, ◌∙◌, ◌==◌, ◌&&◌, if◌then◌else◌, Ordering, Less, Equal, Greater}
+use Rattle.hotel_core.proofs.Names.{insert_key, match_ordering, is_at, remove_key, Note, answer_to, told, reported, cards, is_begun, is_room, insiders, inside, those_in, History, ◌▷◌, awaited, turns, held, Standing, Copy, Conflicting, Next, After, notes, standing, and_last, pair_cmp, when, without, after}
 use Rattle.keycard_rules.specs.declared.note.Act.{Act}
 use Rattle.keycard_rules.specs.declared.note.Act.TheVariants as act
-use Rattle.keycard_rules.specs.Note.{Note}
 use Rattle.hotel_core.specs.declared.command.Command.TheVariants as command
-use Rattle.hotel_core.specs.Model.Answer.{answer_to, told, reported}
-use Rattle.hotel_core.specs.Model.Cards.{cards}
-use Rattle.hotel_core.specs.Model.Cases.{is_begun, is_room}
-use Rattle.hotel_core.specs.Model.Guests.{insiders, inside, those_in}
-use Rattle.hotel_core.specs.Model.History.{History, ◌▷◌}
-use Rattle.hotel_core.specs.Model.Ledger.{awaited, turns}
-use Rattle.hotel_core.specs.Model.Lock.{held}
-use Rattle.hotel_core.specs.Model.Notes.{Standing, Copy, Conflicting, Next, After, notes, standing}
-use Rattle.hotel_core.specs.Model.Words.{and_last, pair_cmp, when, without, after}
-use Rattle.hotel_core.proofs.OfTables.Pairs.{pair_is}
-use Rattle.hotel_core.proofs.OfTables.Tests.{and_true, eq_from}
+use Rattle.hotel_core.proofs.{OfTables.Pairs.pair_is, OfTables.Tests.and_true, OfTables.Tests.eq_from}
 use Rattle.hotel_audit.specs.FilesCounted.{event_by, event_of}
 
 -- two histories agree on all that the notes of a room turn on

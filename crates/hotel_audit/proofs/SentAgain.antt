@@ -1,23 +1,12 @@
 -- Lines that were all Taken or Seen are seen when they come again.
-use Rattle.std.proofs.Common.{◌≡◌, ◌∙◌, List, [], ◌∷◌, map, false, sym, refl, subst, ap}
-use Rattle.std.specs.Prelude.{All}
-use Rattle.std.proofs.lemmas.List.Elements.{All-head, All-tail}
-use Rattle.rand_core.specs.Stream.{Stream}
-use Rattle.keycard_rules.specs.Note.{Note}
-use Rattle.keycard_rules.specs.Draw.{words}
-use Rattle.hotel_core.specs.declared.command.Command.{Command}
+use Rattle.std.proofs.Common.{◌≡◌, ◌∙◌, List, [], ◌∷◌, map, false, sym, refl, subst, ap, All}
+use Rattle.hotel_core.proofs.Names.{All-head, All-tail, Stream, Note, words, Event, History, Outcome, grown, Runs, StepsIf}
+use Rattle.hotel_core.specs.{declared.command.Command.Command, declared.reply.Reply.Reply}
 use Rattle.hotel_core.specs.declared.command.Command.TheVariants as command
-use Rattle.hotel_core.specs.declared.reply.Reply.{Reply}
 use Rattle.hotel_core.specs.declared.reply.Reply.TheVariants as reply
-use Rattle.hotel_core.specs.Model.Event.{Event}
-use Rattle.hotel_core.specs.Model.History.{History}
-use Rattle.hotel_core.specs.Model.Outcome.{Outcome, grown}
-use Rattle.hotel_core.specs.Model.Run.{Runs, StepsIf}
-use Rattle.hotel_audit.specs.declared.answer.LineAnswer.{LineAnswer}
+use Rattle.hotel_audit.specs.{declared.answer.LineAnswer.LineAnswer, declared.line.Line.Line, Import.AreAnswered, Import.commands_of, Import.replies_in}
 use Rattle.hotel_audit.specs.declared.answer.LineAnswer.TheVariants.{Taken, Seen, Unread, Refused}
-use Rattle.hotel_audit.specs.declared.line.Line.{Line}
 use Rattle.hotel_audit.specs.declared.line.Line.TheVariants as line
-use Rattle.hotel_audit.specs.Import.{AreAnswered, commands_of, replies_in}
 use Rattle.hotel_audit.specs.SentAgain.{IsTakenOrSeen, SeenAgain}
 use Rattle.hotel_audit.proofs.NotesKnown.{Knows, known_seen, knows_along, knows_step}
 

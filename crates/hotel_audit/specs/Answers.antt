@@ -3,9 +3,8 @@ use Rattle.std.specs.Prelude.{ℕ, List, [], ◌∷◌, ◌++◌, ◌+◌, codes
 use Rattle.std.specs.Fmt.{decimal}
 use Rattle.hotel_core.specs.declared.reply.Reply.TheVariants as reply
 use Rattle.hotel_core.specs.Texts.{reply_text}
-use Rattle.hotel_audit.specs.declared.answer.LineAnswer.{LineAnswer}
+use Rattle.hotel_audit.specs.{declared.answer.LineAnswer.LineAnswer, declared.line.Cause.Cause}
 use Rattle.hotel_audit.specs.declared.answer.LineAnswer.TheVariants.{Taken, Seen, Unread, Refused}
-use Rattle.hotel_audit.specs.declared.line.Cause.{Cause}
 use Rattle.hotel_audit.specs.declared.line.Cause.TheVariants.{FieldCount, BadRoom, BadCount, BadKind, BadCard, BadOld, BadNew, BadMoment}
 
 -- the name of a cause

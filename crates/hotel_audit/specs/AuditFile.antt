@@ -1,11 +1,8 @@
 -- An audit file: its records are those of `csv`, the first is the header, each later one is a line.
 use Rattle.std.specs.Prelude.{ℕ, List, [], ◌∷◌, length, map, nat_lt, if◌then◌else◌, Result, Ok, Err}
 use Rattle.csv.specs.Reading.{default_config, records, strip_bom}
-use Rattle.hotel_audit.specs.declared.audit_file.AuditFault.{AuditFault}
+use Rattle.hotel_audit.specs.{declared.audit_file.AuditFault.AuditFault, declared.line.Line.Line, Header.is_header, Line.read_line}
 use Rattle.hotel_audit.specs.declared.audit_file.AuditFault.TheVariants.{TooLarge, NoHeader, WrongHeader}
-use Rattle.hotel_audit.specs.declared.line.Line.{Line}
-use Rattle.hotel_audit.specs.Header.{is_header}
-use Rattle.hotel_audit.specs.Line.{read_line}
 
 -- the records of the bytes, without a byte order mark at their start
 abbrev pub file_records : List ℕ → List (List (List ℕ))

@@ -2,26 +2,15 @@
 use Rattle.std.specs.Prelude.{ℕ, ◌≡◌, ◌≤◌, ◌-◌, List, [], ◌∷◌, ◌++◌, length, map, Ok, Option, Some, None, ◌==◌}
 use Rattle.std.specs.List.{range_with_len, slice_get}
 use Rattle.rand_core.specs.Stream.{Stream}
-use Rattle.keycard_rules.specs.Note.{Note}
-use Rattle.keycard_rules.specs.declared.note.Act.{Act}
+use Rattle.keycard_rules.specs.{Note.Note, declared.note.Act.Act}
 use Rattle.keycard_rules.specs.declared.note.Act.TheVariants as act
-use Rattle.hotel_core.specs.declared.command.Command.{Command}
+use Rattle.hotel_core.specs.{declared.command.Command.Command, declared.reply.Reply.Reply, Model.Answer.moment_of}
 use Rattle.hotel_core.specs.declared.command.Command.TheVariants as command
-use Rattle.hotel_core.specs.declared.reply.Reply.{Reply}
 use Rattle.hotel_core.specs.declared.reply.Reply.TheVariants as reply
-use Rattle.hotel_core.specs.Model.Answer.{moment_of}
-use Rattle.hotel_core.specs.Model.Event.{Event, Entered, Left, Recoded}
-use Rattle.hotel_core.specs.Model.History.{History, ◌▷◌}
-use Rattle.hotel_core.specs.Books.Lookups.{note_at}
-use Rattle.hotel_core.specs.Model.Notes.{notes}
-use Rattle.hotel_core.specs.Model.RowsOf.{rows_of}
-use Rattle.hotel_core.specs.Model.Run.{Reached, Runs}
-use Rattle.hotel_core.specs.Model.Words.{when}
-use Rattle.hotel_audit.specs.declared.answer.LineAnswer.{LineAnswer}
-use Rattle.hotel_audit.specs.declared.answer.LineAnswer.TheVariants.{Taken}
-use Rattle.hotel_audit.specs.declared.line.Line.{Line}
+use Rattle.hotel_core.specs.{Model.Event.Event, Model.Event.Entered, Model.Event.Left, Model.Event.Recoded, Model.History.History, Model.History.◌▷◌, Books.Lookups.note_at}
+use Rattle.hotel_core.specs.{Model.Notes.notes, Model.RowsOf.rows_of, Model.Run.Reached, Model.Run.Runs, Model.Words.when}
+use Rattle.hotel_audit.specs.{declared.answer.LineAnswer.LineAnswer, declared.answer.LineAnswer.TheVariants.Taken, declared.line.Line.Line, AuditFile.audit_lines}
 use Rattle.hotel_audit.specs.declared.line.Line.TheVariants as line
-use Rattle.hotel_audit.specs.AuditFile.{audit_lines}
 use Rattle.hotel_audit.specs.SentAgain.{LinesLead}
 
 -- what happened by a note with this act

@@ -2,17 +2,12 @@
 use Rattle.std.specs.Prelude.{ℕ, List, ◌==◌, length, codes, if◌then◌else◌, Option, Some, None, Result, Ok, Err}
 use Rattle.std.specs.Option.{ok_or}
 use Rattle.std.specs.Str.{bytes_eq}
-use Rattle.keycard_rules.specs.Note.{Note}
-use Rattle.keycard_rules.specs.Numerals.{number_up_to, read_code}
-use Rattle.keycard_rules.specs.declared.card.Link.{Link}
-use Rattle.keycard_rules.specs.declared.note.Act.{Act}
+use Rattle.keycard_rules.specs.{Note.Note, Numerals.number_up_to, Numerals.read_code, declared.card.Link.Link, declared.note.Act.Act}
 use Rattle.keycard_rules.specs.declared.note.Act.TheVariants.{Entered, Left, Recoded}
 use Rattle.hotel_nights.specs.Moments.{read_moment}
-use Rattle.hotel_audit.specs.declared.line.Cause.{Cause}
+use Rattle.hotel_audit.specs.{declared.line.Cause.Cause, declared.line.Happening.Happening}
 use Rattle.hotel_audit.specs.declared.line.Cause.TheVariants.{FieldCount, BadRoom, BadCount, BadKind, BadCard, BadOld, BadNew, BadMoment}
-use Rattle.hotel_audit.specs.declared.line.Happening.{Happening}
-use Rattle.hotel_audit.specs.declared.line.Happening.TheVariants.{In, Out, Recode}
-use Rattle.hotel_audit.specs.declared.line.Line.{Line}
+use Rattle.hotel_audit.specs.{declared.line.Happening.TheVariants.In, declared.line.Happening.TheVariants.Out, declared.line.Happening.TheVariants.Recode, declared.line.Line.Line}
 use Rattle.hotel_audit.specs.declared.line.Line.TheVariants as line
 use Rattle.hotel_audit.specs.Fields.{FieldTexts, seven_fields}
 

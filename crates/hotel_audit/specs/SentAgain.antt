@@ -1,14 +1,9 @@
 -- What a file does that is sent again.
 use Rattle.std.specs.Prelude.{◌≡◌, List, All, map}
 use Rattle.rand_core.specs.Stream.{Stream}
-use Rattle.hotel_core.specs.declared.command.Command.{Command}
-use Rattle.hotel_core.specs.declared.reply.Reply.{Reply}
-use Rattle.hotel_core.specs.Model.History.{History}
-use Rattle.hotel_core.specs.Model.Run.{Runs}
-use Rattle.hotel_audit.specs.declared.answer.LineAnswer.{LineAnswer}
-use Rattle.hotel_audit.specs.declared.answer.LineAnswer.TheVariants.{Taken, Seen}
-use Rattle.hotel_audit.specs.declared.line.Line.{Line}
-use Rattle.hotel_audit.specs.Import.{AreAnswered, commands_of, replies_in}
+use Rattle.hotel_core.specs.{declared.command.Command.Command, declared.reply.Reply.Reply, Model.History.History, Model.Run.Runs}
+use Rattle.hotel_audit.specs.{declared.answer.LineAnswer.LineAnswer, declared.answer.LineAnswer.TheVariants.Taken, declared.answer.LineAnswer.TheVariants.Seen}
+use Rattle.hotel_audit.specs.{declared.line.Line.Line, Import.AreAnswered, Import.commands_of, Import.replies_in}
 
 -- the answer is Taken or Seen
 abbrev pub IsTakenOrSeen : LineAnswer → Type 0

@@ -3,10 +3,8 @@ use Rattle.std.specs.Prelude.{◌≡◌, ◌≤◌, List, [], ◌∷◌, ◌++�
 use Rattle.rand_core.specs.Stream.{Stream}
 use Rattle.keycard_rules.specs.Note.{Note}
 use Rattle.hotel_core.specs.Model.History.{History}
-use Rattle.hotel_audit.specs.declared.answer.LineAnswer.{LineAnswer}
-use Rattle.hotel_audit.specs.declared.line.Line.{Line}
+use Rattle.hotel_audit.specs.{declared.answer.LineAnswer.LineAnswer, declared.line.Line.Line, SentAgain.LinesLead}
 use Rattle.hotel_audit.specs.declared.line.Line.TheVariants as line
-use Rattle.hotel_audit.specs.SentAgain.{LinesLead}
 
 -- none of the lines has a lower count of the note's room
 abbrev pub NoneLower : Note → List Line → Type 0

@@ -2,13 +2,8 @@
 ghost use Rattle.std.specs.Prelude.{◌≡◌, ◌<◌, List, [], ◌∷◌, length, IfOk, IfErr, OnErr, Ok, Err};
 ghost use Rattle.rand_core.specs.Stream.{Stream};
 ghost use Rattle.keycard_rules.specs.Rise.{NoFewer};
-ghost use Rattle.hotel_core.specs.Books.Failures.{AreCounted};
-ghost use Rattle.hotel_core.specs.Model.Leads.{Leads};
-ghost use Rattle.hotel_core.specs.Model.Run.{Runs};
-ghost use Rattle.hotel_audit.specs.declared.answer.LineAnswer.{LineAnswer};
-ghost use Rattle.hotel_audit.specs.declared.audit_file.AuditFault.{AuditFault};
-ghost use Rattle.hotel_audit.specs.declared.line.Line.{Line};
-ghost use Rattle.hotel_audit.specs.AuditFile.{audit_lines};
+ghost use Rattle.hotel_core.specs.{Books.Failures.AreCounted, Model.Leads.Leads, Model.Run.Runs};
+ghost use Rattle.hotel_audit.specs.{declared.answer.LineAnswer.LineAnswer, declared.audit_file.AuditFault.AuditFault, declared.line.Line.Line, AuditFile.audit_lines};
 ghost use Rattle.hotel_audit.specs.Import.{AreAnswered, EndsAfter, IsAnswerTo, LinesLeadTo, answer_of, commands_of, failures_of, outcome_of, refusal_by, replies_in};
 
 use crate::answer::LineAnswer;

@@ -1,8 +1,6 @@
 //! Laws of audit files, which make no call.
-ghost use Rattle.hotel_audit.specs.FilesCounted.{FilesCounted, NotesCounted, RunsTake};
-ghost use Rattle.hotel_audit.specs.Readings.{GivesFileRecords, HasOneReading};
-ghost use Rattle.hotel_audit.specs.SentAgain.{SeenAgain};
-ghost use Rattle.hotel_audit.specs.SentAtOnce.{SentAtOnce, StoppedAndSent};
+ghost use Rattle.hotel_audit.specs.{FilesCounted.FilesCounted, FilesCounted.NotesCounted, FilesCounted.RunsTake, Readings.GivesFileRecords, Readings.HasOneReading};
+ghost use Rattle.hotel_audit.specs.{SentAgain.SeenAgain, SentAtOnce.SentAtOnce, SentAtOnce.StoppedAndSent};
 
 /// A reading of bytes as CSV gives the file's records, so that two readings of the same bytes are the same.
 pub fn records_of_bytes()

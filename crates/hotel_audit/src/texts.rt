@@ -1,6 +1,5 @@
 //! The text of a line's answer.
 ghost use Rattle.std.specs.Prelude.{◌≡◌, ℕ, List, [], ◌∷◌, ◌++◌, ◌+◌, ◌≤◌, take, length, codes};
-ghost use Rattle.std.specs.Fmt.{decimal};
 ghost use Rattle.hotel_core.specs.Texts.{reply_text};
 ghost use Rattle.hotel_audit.specs.Answers.{answer_text, cause_name};
 
@@ -11,15 +10,6 @@ use keycard_rules::ShortText;
 
 /// The text of an answer: at most 85 bytes, the line feed included.
 pub type AnswerText = ShortText<85>;
-
-fn push_number(text: &mut AnswerText, number: usize)
-    requires { length text.old + 20 ≤ 85 }
-    ensures text { text.new ≡ text.old ++ decimal number }
-    ensures len { length text.new ≤ length text.old + 20 }
-{
-    let mut buffer = itoa::Buffer::new();
-    text.push(buffer.format(number).as_bytes());
-}
 
 fn push_reply(text: &mut AnswerText, reply: &Reply)
     requires { length text.old + 64 ≤ 85 }
@@ -51,7 +41,7 @@ pub fn answer_text(number: usize, answer: &LineAnswer) -> AnswerText
     ensures { result ≡ answer_text number answer.now }
 {
     let mut text = AnswerText::new();
-    push_number(&mut text, number);
+    text.push_number::<20>(number as u128);
     text.push(b" ");
     match answer {
         LineAnswer::Taken => push_reply(&mut text, &Reply::Taken),

@@ -2,8 +2,7 @@
 
 ghost use Rattle.std.specs.Prelude.{◌≡◌, true, OnOk, OnErr};
 ghost use Rattle.std.specs.Io.KnownBytes.{Appends};
-ghost use Rattle.hotel_lists.specs.Bytes.{AppendsFront};
-ghost use Rattle.hotel_lists.specs.Calls.{NoneForgotten};
+ghost use Rattle.hotel_lists.specs.{Bytes.AppendsFront, Calls.NoneForgotten};
 ghost use Rattle.hotel_audit.specs.Answers.{answers_text};
 
 use crate::answer::LineAnswer;

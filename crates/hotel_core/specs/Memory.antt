@@ -3,16 +3,10 @@ use Rattle.std.specs.Prelude.{ℕ, ◌≡◌, ◌≤◌, List, [], ◌∷◌, No
 use Rattle.std.specs.List.{count_by}
 use Rattle.std.specs.Map.{lookup, values_of}
 use Rattle.std.specs.BTreeMap.{is_at}
-use Rattle.keycard_rules.specs.Note.{Note}
-use Rattle.keycard_rules.specs.Numbers.{IsNumberUpTo}
+use Rattle.keycard_rules.specs.{Note.Note, Numbers.IsNumberUpTo}
 use Rattle.hotel_nights.specs.declared.stay.Stay.{Stay}
-use Rattle.hotel_core.specs.declared.books.rows.RoomRow.{RoomRow}
-use Rattle.hotel_core.specs.declared.books.rows.CodeRow.{CodeRow}
-use Rattle.hotel_core.specs.Model.Words.{said_of, pair_cmp}
-use Rattle.hotel_core.specs.Model.Rows.{Rows, at_number}
-use Rattle.hotel_core.specs.Books.Lookups.{first_code_at}
-use Rattle.hotel_core.specs.NightIndex.{StandsFor}
-use Rattle.hotel_core.specs.KindRooms.{rooms_in}
+use Rattle.hotel_core.specs.{declared.books.rows.RoomRow.RoomRow, declared.books.rows.CodeRow.CodeRow, Model.Words.said_of, Model.Words.pair_cmp}
+use Rattle.hotel_core.specs.{Model.Rows.Rows, Model.Rows.at_number, Books.Lookups.first_code_at, NightIndex.StandsFor, KindRooms.rooms_in}
 
 -- the rows, and how many calls found no memory
 pub record Listed : Type 0 where

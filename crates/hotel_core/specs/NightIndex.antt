@@ -6,8 +6,7 @@ use Rattle.std.specs.Cmp.Lexicographic.{slice_cmp}
 use Rattle.std.specs.declared.cmp.Ordering.{Ordering}
 use Rattle.std.specs.BTreeMap.{is_at}
 use Rattle.std.specs.Map.{lookup}
-use Rattle.hotel_nights.specs.declared.stay.Stay.{Stay}
-use Rattle.hotel_nights.specs.FullNight.{nights_taken}
+use Rattle.hotel_nights.specs.{declared.stay.Stay.Stay, FullNight.nights_taken}
 
 -- by the kind, and then by the block
 abbrev pub block_cmp : List ℕ × ℕ → List ℕ × ℕ → Ordering

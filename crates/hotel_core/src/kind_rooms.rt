@@ -66,16 +66,27 @@ impl KindRooms {
         Ok(())
     }
 
-    /// A kind that is there has one more room. It takes no memory.
+    /// A kind is there from now on: one that wasn't has no rooms yet. A refusal changes nothing.
+    pub fn know_kind(&mut self, kind: KindCode) -> Result<(), Memory>
+        ensures there { OnOk result (is_there self.new kind ≡ true) }
+        ensures others { (k : List ℕ) → is_there self.old k ≡ true → is_there self.new k ≡ true }
+        ensures rooms { (k : List ℕ) → rooms_in self.new k ≡ rooms_in self.old k }
+        ensures err { OnErr result (self.new ≡ self.old) }
+    {
+        if self.has(&kind) {
+            return Ok(());
+        }
+        self.add_kind(kind)
+    }
+
+    /// A kind that is there has one more room, up to the greatest count. It takes no memory.
     pub fn add_room(&mut self, kind: &KindCode)
-        requires there { is_there self.old kind.now ≡ true }
-        requires few { rooms_in self.old kind.now < 2 ^ 32 - 1 }
         ensures kinds { keys_of self.new ≡ keys_of self.old }
-        ensures rooms { (k : List ℕ) → rooms_in self.new k ≡ rooms_in self.old k + one_if (bytes_eq kind.now k) }
+        ensures rooms { is_there self.old kind.now ≡ true → rooms_in self.old kind.now < 2 ^ 32 - 1 → (k : List ℕ) → rooms_in self.new k ≡ rooms_in self.old k + one_if (bytes_eq kind.now k) }
     {
         let Some(rooms) = self.counts.get_mut(kind) else {
             return;
         };
-        *rooms += 1;
+        *rooms = rooms.saturating_add(1);
     }
 }

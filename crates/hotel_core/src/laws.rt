@@ -1,11 +1,7 @@
 //! Laws of the model, which make no call: what a caller may rest on beside the contracts of the calls.
-ghost use Rattle.hotel_core.specs.Model.Headline.{Assured};
-ghost use Rattle.hotel_core.specs.Model.History.{History};
-ghost use Rattle.hotel_core.specs.Model.Laws.{RunsAgree, RunsCompute, RunsJoin, RunsReach, StartsStand};
-ghost use Rattle.hotel_core.specs.Model.Run.{Reached};
-ghost use Rattle.hotel_core.specs.Model.Sound.{RulesAreTested};
-ghost use Rattle.hotel_core.specs.Refinement.Lift.{AnswersLift, ChangesFit};
-ghost use Rattle.hotel_core.specs.Refinement.ListsLift.{ListsLift};
+ghost use Rattle.hotel_core.specs.{Model.Headline.Assured, Model.History.History};
+ghost use Rattle.hotel_core.specs.{Model.Laws.RunsAgree, Model.Laws.RunsCompute, Model.Laws.RunsJoin, Model.Laws.RunsReach, Model.Laws.StartsStand, Model.Run.Reached};
+ghost use Rattle.hotel_core.specs.{Model.Sound.RulesAreTested, Refinement.Lift.AnswersLift, Refinement.Lift.ChangesFit, Refinement.ListsLift.ListsLift};
 
 /// The headline, and what is assured beside it, hold of each history that can be reached.
 pub fn assured()

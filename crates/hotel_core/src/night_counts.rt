@@ -2,14 +2,13 @@
 ghost use Rattle.std.specs.Prelude.{◌≡◌, ℕ, ◌+◌, ◌-◌, ◌^◌, ◌<◌, ◌≤◌, ◌&&◌, false, nat_le, nat_lt, slice_index};
 ghost use Rattle.hotel_nights.specs.Block.{one_if};
 
-/// One more stay takes each night from the place `from` on and before `to`.
+/// One more stay takes each night from the place `from` on and before `to`; a count stays at its greatest value.
 pub(crate) fn more(counts: &mut [usize; 32], from: usize, to: usize)
-    requires within { to ≤ 32 }
-    requires few { (j : ℕ) → from ≤ j → j < to → slice_index counts.old j < 2 ^ 63 }
-    ensures { (j : ℕ) → slice_index counts.new j ≡ slice_index counts.old j + one_if (nat_le from j && nat_lt j to) }
+    requires { to ≤ 32 }
+    ensures { (j : ℕ) → slice_index counts.old j < 2 ^ 64 - 1 → slice_index counts.new j ≡ slice_index counts.old j + one_if (nat_le from j && nat_lt j to) }
 {
     for place in from..to {
-        counts[place] += 1;
+        counts[place] = counts[place].saturating_add(1);
     }
 }
 

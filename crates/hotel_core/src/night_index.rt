@@ -1,8 +1,6 @@
 //! How many stays take each night, found by kind and night.
 ghost use Rattle.std.specs.Prelude.{◌≡◌, ℕ, ◌+◌, ◌-◌, ◌*◌, ◌/◌, ◌^◌, ◌<◌, ◌≤◌, List, [], nat_le, OnOk, OnErr};
-ghost use Rattle.hotel_nights.specs.Block.{one_if};
-ghost use Rattle.hotel_nights.specs.FullNight.{first_day, is_full, takes};
-ghost use Rattle.hotel_nights.specs.declared.stay.Stay.{Stay};
+ghost use Rattle.hotel_nights.specs.{Block.one_if, FullNight.first_day, FullNight.is_full, FullNight.takes, declared.stay.Stay.Stay};
 ghost use Rattle.hotel_core.specs.NightIndex.{counted, holds, StandsFor};
 
 use crate::night_counts::{less, more};
@@ -53,8 +51,7 @@ impl NightIndex {
     fn count_part(&mut self, kind: &KindCode, from: u16, to: u16) -> Result<(), Memory>
         requires order { from < to }
         requires one_block { to ≤ from / 32 * 32 + 32 }
-        requires few { (d : ℕ) → from ≤ d → d < to → counted self.old kind.now d < 2 ^ 63 }
-        ensures ok { OnOk result ((k : List ℕ) (d : ℕ) → counted self.new k d ≡ counted self.old k d + one_if (holds kind.now from to k d)) }
+        ensures ok { OnOk result ((k : List ℕ) (d : ℕ) → counted self.old k d < 2 ^ 64 - 1 → counted self.new k d ≡ counted self.old k d + one_if (holds kind.now from to k d)) }
         ensures err { OnErr result ((k : List ℕ) (d : ℕ) → counted self.new k d ≡ counted self.old k d) }
     {
         let block = from / 32;
@@ -104,9 +101,8 @@ impl NightIndex {
 
     /// One stay more takes each night from `from` on and before `to`, or where memory is refused none does.
     fn add_nights(&mut self, kind: &KindCode, from: u16, to: u16) -> Result<(), Memory>
-        requires { (d : ℕ) → counted self.old kind.now d < 2 ^ 63 }
-        ensures ok { OnOk result ((k : List ℕ) (d : ℕ) → counted self.new k d ≡ counted self.old k d + one_if (holds kind.now from to k d)) }
-        ensures err { OnErr result ((k : List ℕ) (d : ℕ) → counted self.new k d ≡ counted self.old k d) }
+        ensures ok { OnOk result ((k : List ℕ) (d : ℕ) → counted self.old k d < 2 ^ 63 → counted self.new k d ≡ counted self.old k d + one_if (holds kind.now from to k d)) }
+        ensures err { OnErr result ((k : List ℕ) (d : ℕ) → counted self.old k d < 2 ^ 63 → counted self.new k d ≡ counted self.old k d) }
     {
         let mut night = from;
         while night < to {
@@ -121,10 +117,11 @@ impl NightIndex {
     }
 
     /// Counts a stay at each night that it takes: none, where it doesn't stand. Where memory is refused, no count changes.
+    ///
+    /// A count that has reached its greatest value stays there, so what is said holds of counts below 2^63.
     pub fn add(&mut self, stay: &Stay) -> Result<(), Memory>
-        requires { (d : ℕ) → counted self.old stay.now.kind d < 2 ^ 63 }
-        ensures ok { OnOk result ((kind : List ℕ) (d : ℕ) → counted self.new kind d ≡ counted self.old kind d + one_if (takes kind d stay.now)) }
-        ensures err { OnErr result ((kind : List ℕ) (d : ℕ) → counted self.new kind d ≡ counted self.old kind d) }
+        ensures ok { OnOk result ((kind : List ℕ) (d : ℕ) → counted self.old kind d < 2 ^ 63 → counted self.new kind d ≡ counted self.old kind d + one_if (takes kind d stay.now)) }
+        ensures err { OnErr result ((kind : List ℕ) (d : ℕ) → counted self.old kind d < 2 ^ 63 → counted self.new kind d ≡ counted self.old kind d) }
     {
         if !stay.state.is_standing() {
             return Ok(());

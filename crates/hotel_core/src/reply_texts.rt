@@ -1,6 +1,5 @@
 //! The text of a reply.
 ghost use Rattle.std.specs.Prelude.{◌≡◌, [], ◌∷◌, ◌++◌, ◌+◌, ◌≤◌, length};
-ghost use Rattle.std.specs.Fmt.{decimal};
 ghost use Rattle.keycard_rules.specs.Numerals.{code_text};
 ghost use Rattle.hotel_core.specs.declared.reply.Reply.TheVariants as reply;
 ghost use Rattle.hotel_core.specs.Texts.{refusal_name, reply_line, reply_text};
@@ -10,25 +9,6 @@ use keycard_rules::{Card, Code, ShortText};
 
 /// The text of a reply: at most 64 bytes, the line feed included.
 pub type ReplyText = ShortText<64>;
-
-fn push_number(text: &mut ReplyText, number: u32)
-    requires known { number ≤ 9999999 }
-    requires room { length text.old + 7 ≤ 64 }
-    ensures text { text.new ≡ text.old ++ decimal number }
-    ensures len { length text.new ≤ length text.old + 7 }
-{
-    let mut buffer = itoa::Buffer::new();
-    text.push(buffer.format(number).as_bytes());
-}
-
-fn push_count(text: &mut ReplyText, count: u32)
-    requires { length text.old + 10 ≤ 64 }
-    ensures text { text.new ≡ text.old ++ decimal count }
-    ensures len { length text.new ≤ length text.old + 10 }
-{
-    let mut buffer = itoa::Buffer::new();
-    text.push(buffer.format(count).as_bytes());
-}
 
 fn push_code(text: &mut ReplyText, code: &Code)
     requires { length text.old + 12 ≤ 64 }
@@ -44,9 +24,9 @@ fn push_card(text: &mut ReplyText, card: &Card)
     ensures len { length text.new ≤ 60 }
 {
     text.push(b"card ");
-    push_number(text, card.number.value());
+    text.push_number::<7>(u128::from(card.number.value()));
     text.push(b" party ");
-    push_number(text, card.party.value());
+    text.push_number::<7>(u128::from(card.party.value()));
     text.push(b" old ");
     push_code(text, &card.link.old_code);
     text.push(b" new ");
@@ -67,7 +47,7 @@ fn push_refusal(text: &mut ReplyText, refusal: &Refusal)
         }
         Refusal::Gap(expected) => {
             text.push(b" ");
-            push_count(text, *expected);
+            text.push_number::<10>(u128::from(*expected));
         }
         _ => {}
     }
@@ -126,7 +106,7 @@ pub fn reply_text(reply: &Reply) -> ReplyText
         }
         Reply::Reserved { party } => {
             text.push(b"party ");
-            push_number(&mut text, party.value());
+            text.push_number::<7>(u128::from(party.value()));
         }
         Reply::Cancelled => text.push(b"cancelled"),
         Reply::Issued(card) => push_card(&mut text, card),

@@ -1,9 +1,7 @@
 //! Commands one after the other, over any books.
 ghost use Rattle.std.specs.Prelude.{◌≡◌, IfOk, IfErr};
 ghost use Rattle.keycard_rules.specs.Rise.{NoFewer};
-ghost use Rattle.hotel_core.specs.Books.Failures.{AreCounted, failures_in};
-ghost use Rattle.hotel_core.specs.Model.Leads.{Leads};
-ghost use Rattle.hotel_core.specs.Model.Run.{Runs};
+ghost use Rattle.hotel_core.specs.{Books.Failures.AreCounted, Books.Failures.failures_in, Model.Leads.Leads, Model.Run.Runs};
 
 use crate::books::Books;
 use crate::command::Command;

@@ -1,16 +1,9 @@
 //! One command, over any books.
 ghost use Rattle.std.specs.Prelude.{◌≡◌, true, false};
 ghost use Rattle.rand_core.specs.Stream.{Stream};
-ghost use Rattle.keycard_rules.specs.Draw.{words};
-ghost use Rattle.keycard_rules.specs.Rise.{NoFewer};
-ghost use Rattle.hotel_core.specs.Books.Failures.{AreCounted, failure_in};
-ghost use Rattle.hotel_core.specs.Model.Leads.{Leads};
-ghost use Rattle.hotel_core.specs.Model.NoteReplies.{IsNoteReply};
-ghost use Rattle.hotel_core.specs.Model.Run.{Steps, is_failed};
-ghost use Rattle.hotel_core.specs.Model.Ranges.{IsCommand, IsReply};
-ghost use Rattle.hotel_core.specs.Refinement.Finds.{reply_of};
-ghost use Rattle.hotel_core.specs.Refinement.OnRows.{outcome_on};
-ghost use Rattle.hotel_core.specs.Refinement.StepOnRows.{StepsAs};
+ghost use Rattle.keycard_rules.specs.{Draw.words, Rise.NoFewer};
+ghost use Rattle.hotel_core.specs.{Books.Failures.AreCounted, Books.Failures.failure_in, Model.Leads.Leads, Model.NoteReplies.IsNoteReply, Model.Run.Steps, Model.Run.is_failed};
+ghost use Rattle.hotel_core.specs.{Model.Ranges.IsCommand, Model.Ranges.IsReply, Refinement.Finds.reply_of, Refinement.OnRows.outcome_on, Refinement.StepOnRows.StepsAs};
 ghost use Rattle.hotel_core.specs.Refinement.Stepping.{takes_none};
 ghost use Rattle.hotel_core.specs.declared.command.Command.TheVariants as command;
 

@@ -11,3 +11,5 @@ pub mod ProgramLemmas
 pub mod CommandLineLemmas
 pub mod PlanLemmas
 pub mod ServingLemmas
+pub mod FaultLemmas
+pub mod FileLemmas

@@ -45,33 +45,3 @@ script_ends contents known old new books books' source source' rows rows' s s' n
 script_ends contents known old new books books' source source' rows rows' s s' n m (Err TooLarge) clean at_rows at_zero at_source sound ok cut unbegun large = (large refl, unbegun.2)
 script_ends contents known old new books books' source source' rows rows' s s' n m (Err Read) clean at_rows at_zero at_source sound ok cut unbegun large = unbegun.2
 script_ends contents known old new books books' source source' rows rows' s s' n m (Err Memory) clean at_rows at_zero at_source sound ok cut unbegun large = unbegun.2
-
--- a script's fault is none of words
-pub script_is_no_usage : (end : Result ScriptEnd ScriptFault) (r : Result ℕ Fault) → r ≡ script_end end → r ≡ Err fault.Usage → ⊥
-script_is_no_usage (Ok end) r e u = cc
-script_is_no_usage (Err (Write done)) r e u = cc
-script_is_no_usage (Err TooLarge) r e u = cc
-script_is_no_usage (Err Read) r e u = cc
-script_is_no_usage (Err Memory) r e u = cc
-
--- a script that is done has the status 0
-pub script_is_done : (end : Result ScriptEnd ScriptFault) (r : Result ℕ Fault) → r ≡ script_end end → IfOk r (λ status. status ≡ 0)
-script_is_done (Ok end) r e = rw e refl
-script_is_done (Err (Write done)) r e = rw e tt
-script_is_done (Err TooLarge) r e = rw e tt
-script_is_done (Err Read) r e = rw e tt
-script_is_done (Err Memory) r e = rw e tt
-
--- only a fault of words has the status 2
-pub two_is_usage : (r : Result ℕ Fault) → IfOk r (λ status. status ≡ 0) → end_status r ≡ 2 → r ≡ Err fault.Usage
-two_is_usage (Ok status) zero two = cc
-two_is_usage (Err fault.Usage) zero two = refl
-two_is_usage (Err fault.Memory) zero two = cc
-two_is_usage (Err fault.Store) zero two = cc
-two_is_usage (Err fault.Read) zero two = cc
-two_is_usage (Err fault.Write) zero two = cc
-two_is_usage (Err fault.TooLarge) zero two = cc
-two_is_usage (Err fault.NoHeader) zero two = cc
-two_is_usage (Err fault.WrongHeader) zero two = cc
-two_is_usage (Err (fault.Stopped answered by)) zero two = cc
-two_is_usage (Err fault.Closed) zero two = cc

@@ -1,5 +1,6 @@
 -- Connections, one more at a time.
-use Rattle.std.proofs.Common.{◌≡◌, ◌∙◌, ℕ, Bool, List, [], ◌∷◌, ◌++◌, refl, sym, subst, Option, Some, None, IfSome, Result, Ok, Err, ◌⊎◌, inl, inr}
+use Rattle.std.proofs.Common.{◌≡◌, ℕ, Bool, List, [], ◌∷◌, ◌++◌, refl, sym, subst, Option, Some, None, Result, Ok, Err, inl, inr}
+use Rattle.std.proofs.lemmas.Grind.{flat_map-append}
 use Rattle.rand_core.specs.Stream.{Stream}
 use Rattle.keycard_rules.specs.declared.issued.LookFault.{LookFault}
 use Rattle.hotel_core.proofs.Invariants.Assurance.{assured}
@@ -12,57 +13,67 @@ use Rattle.hotel_http.specs.declared.serve.Served.{Served}
 use Rattle.hotel_http.specs.declared.serve.ServeFault.{ServeFault}
 use Rattle.hotel_http.specs.declared.serve.ServeFault.TheVariants.{Closed, Read, Memory, Write}
 use Rattle.hotel_desk.specs.Faults.{TellsAll}
-use Rattle.hotel_desk.specs.Serving.{AllCome, ServesAll}
+use Rattle.hotel_desk.specs.Serving.{AllCame, ConnectionCame, ConnectionEnd, NothingCame, ServesAll, connection_end, fault_in, faults_of}
 use Rattle.hotel_desk.specs.declared.faults.Fault.{Fault}
 
+-- Nothing was begun.
+pub nothing_came : (a : Rows) (s : Stream) → Leads a (λ h h'. NothingCame h s h' s) a
+nothing_came a s = λ h stands. (h, stands, (refl, refl), assured h stands.0)
+
 -- No connection was served.
-pub none_served : (a : Rows) (s : Stream) → Leads a (ServesAll s s) a
-none_served a s = λ h stands. (h, stands, ([], (refl, refl)), assured h stands.0)
+pub none_served : (a : Rows) (s : Stream) → Leads a (ServesAll [] s s) a
+none_served a s = nothing_came a s
 
--- Where nothing was begun, no connection was served.
-pub idle_served : {B R : Type 0} (rows : B → Rows) (stream : R → Stream) (old new : B) (source later : R) → new ≡ old → later ≡ source → Leads (rows old) (ServesAll (stream source) (stream later)) (rows new)
-idle_served {B} {R} rows stream old new source later e f =
-    subst (λ (b : B). Leads (rows old) (ServesAll (stream source) (stream later)) (rows b)) (sym e)
-    (subst (λ (r : R). Leads (rows old) (ServesAll (stream source) (stream r)) (rows old)) (sym f) (none_served (rows old) (stream source)))
+-- Where books and source are as they were, nothing was begun.
+pub idle_came : {B R : Type 0} (rows : B → Rows) (stream : R → Stream) (old new : B) (source later : R) → new ≡ old → later ≡ source
+    → Leads (rows old) (λ h h'. NothingCame h (stream source) h' (stream later)) (rows new)
+idle_came {B} {R} rows stream old new source later e f =
+    subst (λ (b : B). Leads (rows old) (λ h h'. NothingCame h (stream source) h' (stream later)) (rows b)) (sym e)
+    (subst (λ (r : R). Leads (rows old) (λ h h'. NothingCame h (stream source) h' (stream r)) (rows old)) (sym f) (nothing_came (rows old) (stream source)))
 
--- One request was answered.
-pub one_served : (a b : Rows) (s s' : Stream) (wanted : Wanted) (before : List ℕ) (old new : Option (List ℕ)) (x y : LookFault → ℕ) (end : AnswerEnd)
-    → Leads a (Answered (Comes wanted) s s' before old new x y end) b → Leads a (ServesAll s s') b
-one_served a b s s' wanted before old new x y end leads = λ h stands.
+-- Of one connection this came.
+pub one_served : (a b : Rows) (s s' : Stream) (end : ConnectionEnd) → Leads a (λ h h'. ConnectionCame end h s h' s') b → Leads a (ServesAll (end ∷ []) s s') b
+one_served a b s s' end leads = λ h stands.
     let p = leads h stands in
-    (p.0, p.1, (wanted ∷ [], (p.0, s', p.2.0, p.2.1, p.2.2, (refl, refl))), p.3)
+    (p.0, p.1, (p.0, s', p.2, (refl, refl)), p.3)
 
--- However a request was served, this holds that holds where nothing was begun and where it was answered.
-pub by_serving : {X : Type 0} (known old new : Option (List ℕ)) (same : Type 0) (went : Wanted → Bool → AnswerEnd → Type 0) (result : Result Served ServeFault)
-    → Serves known old new same went result → (same → X) → ((wanted : Wanted) (awaited : Bool) (end : AnswerEnd) → went wanted awaited end → X) → X
-by_serving known old new same went (Ok served) h idle busy = busy h.0 h.1 (Ok served) h.3
-by_serving known old new same went (Err (Write acted)) (inl h) idle busy = busy h.0 h.1 (Err (record { acted = acted })) h.3
-by_serving known old new same went (Err (Write acted)) (inr h) idle busy = idle h.0
-by_serving known old new same went (Err Closed) h idle busy = idle h.0
-by_serving known old new same went (Err Read) h idle busy = idle h.0
-by_serving known old new same went (Err Memory) h idle busy = idle h.0
+-- What came of a request, however it was served.
+pub request_came : (C : Type 0) (a b : Rows) (s s' : Stream) (before : Bool → List ℕ) (known old new : Option (List ℕ)) (same : Type 0) (x y : LookFault → ℕ) (result : Result Served ServeFault)
+    → Serves known old new same (λ wanted awaited end. C → Leads a (Answered (Comes wanted) s s' (before awaited) old new x y end) b) result
+    → (same → Leads a (λ h h'. NothingCame h s h' s') b) → C → Leads a (λ h h'. ConnectionCame (Some result) h s h' s') b
+request_came C a b s s' before known old new same x y (Ok served) went idle clean = λ h stands.
+    let p = went.3 clean h stands in
+    (p.0, p.1, (went.0, p.2.0, p.2.1, p.2.2, (p.2.3.0, p.2.3.1)), p.3)
+request_came C a b s s' before known old new same x y (Err (Write acted)) (inl went) idle clean = λ h stands.
+    let p = went.3 clean h stands in
+    (p.0, p.1, inl (went.0, p.2.0, p.2.1, p.2.2, p.2.3.0), p.3)
+request_came C a b s s' before known old new same x y (Err (Write acted)) (inr went) idle clean = λ h stands.
+    let p = idle went.0 h stands in
+    (p.0, p.1, inr (went.1, p.2), p.3)
+request_came C a b s s' before known old new same x y (Err Closed) went idle clean = idle went.0
+request_came C a b s s' before known old new same x y (Err Read) went idle clean = idle went.0
+request_came C a b s s' before known old new same x y (Err Memory) went idle clean = idle went.0
 
--- However a request was served, its connection was.
-pub books_served : (C : Type 0) (a b : Rows) (s s' : Stream) (before : Bool → List ℕ) (known old new : Option (List ℕ)) (same : Type 0) (x y : LookFault → ℕ) (result : Result Served ServeFault)
-    → Serves known old new same (λ wanted awaited end. C → Leads a (Answered (Comes wanted) s s' (before awaited) old new x y end) b) result → (same → Leads a (ServesAll s s') b) → C → Leads a (ServesAll s s') b
-books_served C a b s s' before known old new same x y result h idle clean =
-    by_serving known old new same (λ wanted awaited end. C → Leads a (Answered (Comes wanted) s s' (before awaited) old new x y end) b) result h idle
-    (λ wanted awaited end went. one_served a b s s' wanted (before awaited) old new x y end (went clean))
-
--- requests and then others
-all_come : (first more : List Wanted) (h mid h' : History) (s t s' : Stream) → AllCome first h s mid t → AllCome more mid t h' s' → AllCome (first ++ more) h s h' s'
-all_come [] more h mid h' s t s' came next = subst (λ (x : History). AllCome more x s h' s') came.0 (subst (λ (x : Stream). AllCome more mid x h' s') came.1 next)
-all_come (wanted ∷ first) more h mid h' s t s' came next =
-    (came.0, came.1, came.2, came.3, came.4, all_come first more came.0 mid h' came.1 t s' came.5 next)
+-- connections and then others
+all_came : (first more : List ConnectionEnd) (h mid h' : History) (s t s' : Stream) → AllCame first h s mid t → AllCame more mid t h' s' → AllCame (first ++ more) h s h' s'
+all_came [] more h mid h' s t s' came next = subst (λ (x : History). AllCame more x s h' s') came.0 (subst (λ (x : Stream). AllCame more mid x h' s') came.1 next)
+all_came (end ∷ first) more h mid h' s t s' came next = (came.0, came.1, came.2, all_came first more came.0 mid h' came.1 t s' came.3 next)
 
 -- Connections and then others.
-pub then_served : (a b c : Rows) (s t s' : Stream) → Leads a (ServesAll s t) b → Leads b (ServesAll t s') c → Leads a (ServesAll s s') c
-then_served a b c s t s' first next = λ h stands.
-    let p = first h stands in
+pub then_served : (first more : List ConnectionEnd) (a b c : Rows) (s t s' : Stream) → Leads a (ServesAll first s t) b → Leads b (ServesAll more t s') c → Leads a (ServesAll (first ++ more) s s') c
+then_served first more a b c s t s' went next = λ h stands.
+    let p = went h stands in
     let q = next p.0 p.1 in
-    (q.0, q.1, (p.2.0 ++ q.2.0, all_come p.2.0 q.2.0 h p.0 q.0 s t s' p.2.1 q.2.1), q.3)
+    (q.0, q.1, all_came first more h p.0 q.0 s t s' p.2 q.2, q.3)
 
--- Faults and then others.
-pub then_told : {F : Type 0} (told : F → Fault → F → Type 0) (first more : List Fault) (old mid new : F) → TellsAll told old first mid → TellsAll told mid more new → TellsAll told old (first ++ more) new
-then_told {F} told [] more old mid new came next = subst (λ (x : F). TellsAll told x more new) came next
-then_told told (fault ∷ first) more old mid new came next = (came.0, came.1, then_told told first more came.0 mid new came.2 next)
+-- faults and then others
+told_both : {F : Type 0} (told : F → Fault → F → Type 0) (first more : List Fault) (old mid new : F) → TellsAll told old first mid → TellsAll told mid more new → TellsAll told old (first ++ more) new
+told_both {F} told [] more old mid new came next = subst (λ (x : F). TellsAll told x more new) came next
+told_both told (fault ∷ first) more old mid new came next = (came.0, came.1, told_both told first more came.0 mid new came.2 next)
+
+-- The faults of connections and then of others.
+pub then_told : {F : Type 0} (told : F → Fault → F → Type 0) (first more : List ConnectionEnd) (old mid new : F)
+    → TellsAll told old (faults_of first) mid → TellsAll told mid (faults_of more) new → TellsAll told old (faults_of (first ++ more)) new
+then_told told first more old mid new came next =
+    subst (λ (faults : List Fault). TellsAll told old faults new) (sym (flat_map-append (λ (end : ConnectionEnd). fault_in (connection_end end)) first more))
+    (told_both told (faults_of first) (faults_of more) old mid new came next)

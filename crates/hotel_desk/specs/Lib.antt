@@ -16,3 +16,6 @@ pub mod CommandLine
 pub mod CommandRuns
 pub mod Plans
 pub mod Serving
+pub mod Files
+pub mod Acts
+pub mod Plan

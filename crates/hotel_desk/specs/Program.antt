@@ -1,5 +1,6 @@
--- What the program does: nothing where it is given words, else a script over a new desk.
-use Rattle.std.specs.Prelude.{◌≡◌, ◌≢◌, ◌≤◌, ◌<◌, ℕ, length, take, replicate, List, Option, IfSome, Result, Ok, Err}
+-- What the program does without words: a script over a new desk.
+use Rattle.std.specs.Prelude.{◌≡◌, ◌≢◌, ◌≤◌, ◌<◌, ℕ, length, take, map, replicate, List, [], Option, IfSome, Result, Ok, Err, ⊤, Vec, String, string_bytes}
+use Rattle.std.specs.Global.{Global}
 use Rattle.std.specs.IoError.{error_kind}
 use Rattle.std.specs.declared.io.Error.{Error}
 use Rattle.std.specs.declared.io.ErrorKind.TheVariants.{OutOfMemory}
@@ -19,20 +20,25 @@ use Rattle.hotel_desk.specs.declared.script.ScriptFault.TheVariants.{Read, TooLa
 use Rattle.hotel_desk.specs.Lines.{answered_lines}
 use Rattle.hotel_desk.specs.Script.{ScriptAnswered, ScriptCut, IsInput}
 
--- There are words after the program's name, where so many words were read, the name among them. Where one could not be read, there is one.
-abbrev pub HasWords : Result ℕ Error → Type 0
-HasWords (Ok count) = 1 < count
-HasWords (Err why) = error_kind why ≢ OutOfMemory
+-- There are no words after the program's name.
+abbrev pub HasNoWords : Result (Vec (String Global) Global) Error → Type 0
+HasNoWords (Ok words) = words.items ≡ []
+HasNoWords (Err why) = ⊥
+
+-- There are words, and of their texts this holds.
+abbrev pub IfWords : Result (Vec (String Global) Global) Error → (List (List ℕ) → Type 0) → Type 0
+IfWords (Ok words) P = words.items ≢ [] → P (map string_bytes words.items)
+IfWords (Err why) P = ⊤
 
 -- There was no memory to read the words.
-abbrev pub LacksMemory : Result ℕ Error → Type 0
-LacksMemory (Ok count) = ⊥
+abbrev pub LacksMemory : Result (Vec (String Global) Global) Error → Type 0
+LacksMemory (Ok words) = ⊥
 LacksMemory (Err why) = error_kind why ≡ OutOfMemory
 
--- There are no words after the program's name.
-abbrev pub HasNoWords : Result ℕ Error → Type 0
-HasNoWords (Ok count) = count ≤ 1
-HasNoWords (Err why) = ⊥
+-- A word isn't text.
+abbrev pub IsNoText : Result (Vec (String Global) Global) Error → Type 0
+IsNoText (Ok words) = ⊥
+IsNoText (Err why) = error_kind why ≢ OutOfMemory
 
 -- The words of the source whose seed is 32 zero bytes.
 abbrev pub zero_seeded : Stream

@@ -1,10 +1,10 @@
 //! An audit file that is imported alone: its answers on one writer, and what went wrong on another.
 
-ghost use Rattle.std.specs.Prelude.{◌≡◌, true, IsErrOf, List, Bool, Result};
+ghost use Rattle.std.specs.Prelude.{◌≡◌, ◌≢◌, true, IsErrOf, List, Bool, Result};
 ghost use Rattle.hotel_lists.specs.Calls.{NoneForgotten};
 ghost use Rattle.hotel_audit.specs.declared.answer.LineAnswer.{LineAnswer};
 ghost use Rattle.hotel_audit.specs.declared.importing.ImportFault.{ImportFault};
-ghost use Rattle.hotel_desk.specs.Faults.{end_status, Tells};
+ghost use Rattle.hotel_desk.specs.Faults.{end_status, IsOfFiles, Tells};
 ghost use Rattle.hotel_desk.specs.AuditRuns.{answers_status, file_fault, import_fault, audit_end, WritesAnswers, ImportEnds};
 
 use crate::faults::{Fault, FaultSink, finish};
@@ -18,7 +18,8 @@ use std::io::Write;
 
 /// The exit status that goes with answers.
 fn answers_status(answers: &[LineAnswer]) -> u8
-    ensures { result ≡ answers_status answers.now }
+    ensures status { result ≡ answers_status answers.now }
+    ensures no_usage { result ≢ 2 }
 {
     for answer in answers {
         if let LineAnswer::Unread(_) | LineAnswer::Refused(_) = answer {
@@ -30,7 +31,8 @@ fn answers_status(answers: &[LineAnswer]) -> u8
 
 /// The fault of bytes that give no lines.
 fn file_fault(fault: AuditFault) -> Fault
-    ensures { result ≡ file_fault fault }
+    ensures fault { result ≡ file_fault fault }
+    ensures no_usage { IsOfFiles result }
 {
     match fault {
         AuditFault::TooLarge => Fault::TooLarge,
@@ -42,7 +44,8 @@ fn file_fault(fault: AuditFault) -> Fault
 
 /// The fault of an import that has no answers.
 fn import_fault(fault: ImportFault) -> Fault
-    ensures { result ≡ import_fault fault }
+    ensures fault { result ≡ import_fault fault }
+    ensures no_usage { IsOfFiles result }
 {
     match fault {
         ImportFault::File(why) => file_fault(why),
@@ -69,6 +72,7 @@ fn import_and_write<B: Books, W: Write>(
     ensures ends { (outcome : Result (List LineAnswer) ImportFault) × (write_failed : Bool) × (result ≡ audit_end outcome write_failed)
         × WritesAnswers W.contents writer.old writer.new outcome write_failed
         × ImportEnds B.is_clean B.rows B.failures bytes.now books.old books.new outcome }
+    ensures no_usage { end_status result ≢ 2 }
     ensures failed { IsErrOf result Fault.Write → calls.new.write_failed ≡ true }
     ensures calls { NoneForgotten calls.old calls.new }
 {
@@ -92,9 +96,10 @@ pub fn run_audit<B: Books, W: Write, F: FaultSink>(
     writer: &mut W,
     faults: &mut F,
 ) -> u8
-    ensures { (outcome : Result (List LineAnswer) ImportFault) × (write_failed : Bool) × (result ≡ end_status (audit_end outcome write_failed))
+    ensures ends { (outcome : Result (List LineAnswer) ImportFault) × (write_failed : Bool) × (result ≡ end_status (audit_end outcome write_failed))
         × Tells F.told faults.old (audit_end outcome write_failed) faults.new × WritesAnswers W.contents writer.old writer.new outcome write_failed
         × ImportEnds B.is_clean B.rows B.failures bytes.now books.old books.new outcome }
+    ensures no_usage { result ≢ 2 }
 {
     let mut calls = IoCalls::none();
     let end = import_and_write(alloc, bytes, books, writer, &mut calls);

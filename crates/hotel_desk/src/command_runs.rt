@@ -1,6 +1,6 @@
 //! One command that is carried out alone: its reply on one writer, and what went wrong on another.
 
-ghost use Rattle.std.specs.Prelude.{◌≡◌, ℕ, Bool, true, IsErrOf, Result};
+ghost use Rattle.std.specs.Prelude.{◌≡◌, ◌≢◌, ℕ, Bool, true, IsErrOf, Result};
 ghost use Rattle.hotel_core.specs.declared.reply.Reply.{Reply};
 ghost use Rattle.hotel_lists.specs.Calls.{NoneForgotten};
 ghost use Rattle.hotel_desk.specs.CommandRuns.{command_end, CommandEnds, WritesReply};
@@ -26,6 +26,7 @@ fn step_and_write<B: Books, R: Rng, W: Write>(
     ensures ends { (reply : Reply) × (write_failed : Bool) × (result ≡ command_end reply write_failed)
         × WritesReply (W.contents writer.old) (W.contents writer.new) reply write_failed
         × CommandEnds B.is_clean B.rows B.failures command.now reply books.old books.new (R.stream source.old) (R.stream source.new) }
+    ensures no_usage { end_status result ≢ 2 }
     ensures failed { IsErrOf result Fault.Write → calls.new.write_failed ≡ true }
     ensures calls { NoneForgotten calls.old calls.new }
 {
@@ -46,9 +47,10 @@ pub fn run_one<B: Books, R: Rng, W: Write, F: FaultSink>(
     writer: &mut W,
     faults: &mut F,
 ) -> u8
-    ensures { (reply : Reply) × (write_failed : Bool) × (result ≡ end_status (command_end reply write_failed)) × Tells F.told faults.old (command_end reply write_failed) faults.new
+    ensures ends { (reply : Reply) × (write_failed : Bool) × (result ≡ end_status (command_end reply write_failed)) × Tells F.told faults.old (command_end reply write_failed) faults.new
         × WritesReply (W.contents writer.old) (W.contents writer.new) reply write_failed
         × CommandEnds B.is_clean B.rows B.failures command.now reply books.old books.new (R.stream source.old) (R.stream source.new) }
+    ensures no_usage { result ≢ 2 }
 {
     let mut calls = IoCalls::none();
     let end = step_and_write(command, books, source, writer, &mut calls);

@@ -1,6 +1,6 @@
 //! A list that is asked for alone: its text on one writer, and what went wrong on another.
 
-ghost use Rattle.std.specs.Prelude.{◌≡◌, true, IsErrOf, Result};
+ghost use Rattle.std.specs.Prelude.{◌≡◌, ◌≢◌, true, IsErrOf, Result};
 ghost use Rattle.hotel_lists.specs.Calls.{NoneForgotten};
 ghost use Rattle.hotel_lists.specs.Lines.{LooksAt};
 ghost use Rattle.hotel_lists.specs.declared.fault.ListFault.{ListFault};
@@ -41,7 +41,8 @@ fn write_list_or_refusal<W: Write, B: Walks>(
 
 /// The exit status of a list that ended so, or the fault that is told.
 fn end_of_list(end: Result<(), ListFault>) -> Result<u8, Fault>
-    ensures { result ≡ list_end end }
+    ensures end { result ≡ list_end end }
+    ensures no_usage { end_status result ≢ 2 }
 {
     match end {
         Ok(()) => Ok(DONE),
@@ -62,9 +63,10 @@ pub fn run_list<B: Walks, W: Write, F: FaultSink>(
     writer: &mut W,
     faults: &mut F,
 ) -> u8
-    ensures { (end : Result (Unit {0}) ListFault) × (result ≡ end_status (list_end end)) × Tells F.told faults.old (list_end end) faults.new
+    ensures ends { (end : Result (Unit {0}) ListFault) × (result ≡ end_status (list_end end)) × Tells F.told faults.old (list_end end) faults.new
         × (B.is_clean books.new → AnswerEndsFor (B.rows books.old) list.now (W.contents writer.old) (W.contents writer.new) end)
         × LooksAt B.Issued books.old books.new end }
+    ensures no_usage { result ≢ 2 }
 {
     let mut calls = IoCalls::none();
     let end = write_list_or_refusal(alloc, list, writer, books, &mut calls);

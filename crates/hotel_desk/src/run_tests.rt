@@ -1,6 +1,8 @@
 //! The worked scenarios over books, from bytes to bytes and exit status; and writers that go wrong under lists and
 //! audit files.
 
+mod commands_alone;
+mod refused_memory;
 pub mod scenarios;
 
 use crate::asks::read_line;
@@ -11,8 +13,10 @@ use crate::statuses::status_of;
 use hotel_asks::Ask;
 use hotel_core::{ListBooks, Refusal, Reply, Walks};
 use hotel_lists::{FakeReader, FakeWriter};
+use hotel_tables::TableBooks;
 use keycard_rules::ListedWords;
 use scenarios::{CHECKED_IN, OF_FILES, OF_LOCKS, OF_THE_DESK, OPENED, Scenario, Step, TWO_NOTES};
+use sqlite::{Connection, MemStore};
 use std::alloc::Global;
 use std::process::Abort;
 use std::test::Fail;
@@ -169,10 +173,22 @@ pub fn scenario_holds<B: Walks + Drop>(
     parts_hold(rt, &mut desk, scenario)
 }
 
-/// Each of the scenarios holds over empty books in memory.
+/// A new desk over tables in memory.
+pub fn new_tables(alloc: Global) -> Result<TableBooks<MemStore>, Fail> {
+    let Ok(conn) = Connection::open_in_memory(alloc) else {
+        return Err(Fail::from("no store"));
+    };
+    match TableBooks::create(alloc, conn) {
+        Ok(books) => Ok(books),
+        Err(_) => Err(Fail::from("no desk")),
+    }
+}
+
+/// Each of the scenarios holds over empty books in memory, and over the tables of a new desk.
 fn scenarios_hold(rt: &(impl Abort + AllocGlobal), scenarios: &[Scenario]) -> Result<(), Fail> {
     for scenario in scenarios {
         scenario_holds(rt, ListBooks::empty(rt.alloc()), scenario)?;
+        scenario_holds(rt, new_tables(rt.alloc())?, scenario)?;
     }
     Ok(())
 }

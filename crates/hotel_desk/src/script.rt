@@ -127,7 +127,11 @@ pub fn run_script<I: Read, W: Write, B: Walks, R: Rng>(
 #[cfg(test)]
 mod chains_beside;
 #[cfg(test)]
+mod damaged_scripts;
+#[cfg(test)]
 mod failing_walks;
+#[cfg(test)]
+mod failing_writes;
 #[cfg(test)]
 mod greatest_sizes;
 #[cfg(test)]

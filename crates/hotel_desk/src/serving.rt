@@ -1,12 +1,13 @@
 //! Connections that are answered one after the other.
 
-ghost use Rattle.std.specs.Prelude.{◌≡◌, ◌≤◌, List, length};
+ghost use Rattle.std.specs.Prelude.{◌≡◌, ◌∷◌, [], List, Result, Some, length};
 ghost use Rattle.keycard_rules.specs.Rise.{NoFewer};
 ghost use Rattle.hotel_core.specs.Model.Leads.{Leads};
 ghost use Rattle.hotel_lists.specs.Calls.{NoneForgotten};
+ghost use Rattle.hotel_http.specs.declared.serve.Served.{Served};
+ghost use Rattle.hotel_http.specs.declared.serve.ServeFault.{ServeFault};
 ghost use Rattle.hotel_desk.specs.Faults.{TellsAll};
-ghost use Rattle.hotel_desk.specs.Serving.{ServesAll, connection_end};
-ghost use Rattle.hotel_desk.specs.declared.faults.Fault.{Fault};
+ghost use Rattle.hotel_desk.specs.Serving.{ConnectionEnd, ServesAll, connection_end, faults_of, serve_end};
 
 use crate::faults::{Fault, FaultSink};
 use crate::statuses::DONE;
@@ -28,9 +29,9 @@ fn is_patient(stream: &TcpStream) -> bool {
     stream.set_read_timeout(limit).is_ok() && stream.set_write_timeout(limit).is_ok()
 }
 
-/// The fault of a connection that ended so.
-fn connection_end(end: Result<Served, ServeFault>) -> Result<(), Fault>
-    ensures { result ≡ connection_end end }
+/// The fault of a request that was served so.
+fn serve_end(end: Result<Served, ServeFault>) -> Result<(), Fault>
+    ensures { result ≡ serve_end end }
 {
     match end {
         Ok(_) => Ok(()),
@@ -49,12 +50,13 @@ fn serve_stream<I: Read, W: Write, B: Walks, R: Rng>(
     books: &mut B,
     source: &mut R,
 ) -> Result<(), Fault>
-    ensures books { B.is_clean books.new → Leads (B.rows books.old) (ServesAll (R.stream source.old) (R.stream source.new)) (B.rows books.new) }
+    ensures ends { (end : Result Served ServeFault) × (result ≡ serve_end end)
+        × (B.is_clean books.new → Leads (B.rows books.old) (ServesAll (Some end ∷ []) (R.stream source.old) (R.stream source.new)) (B.rows books.new)) }
     ensures was_clean { B.is_clean books.new → B.is_clean books.old }
     ensures counted { NoFewer (B.failures books.old) (B.failures books.new) }
 {
     let end = serve_one(alloc, reader, writer, books, source);
-    connection_end(end)
+    serve_end(end)
 }
 
 /// Takes a connection and answers its request.
@@ -64,7 +66,8 @@ fn serve_connection<B: Walks, R: Rng>(
     books: &mut B,
     source: &mut R,
 ) -> Result<(), Fault>
-    ensures books { B.is_clean books.new → Leads (B.rows books.old) (ServesAll (R.stream source.old) (R.stream source.new)) (B.rows books.new) }
+    ensures ends { (end : ConnectionEnd) × (result ≡ connection_end end)
+        × (B.is_clean books.new → Leads (B.rows books.old) (ServesAll (end ∷ []) (R.stream source.old) (R.stream source.new)) (B.rows books.new)) }
     ensures was_clean { B.is_clean books.new → B.is_clean books.old }
     ensures counted { NoFewer (B.failures books.old) (B.failures books.new) }
 {
@@ -86,10 +89,10 @@ fn serve_and_tell<B: Walks, R: Rng, F: FaultSink>(
     faults: &mut F,
     calls: &mut IoCalls,
 )
-    ensures books { B.is_clean books.new → Leads (B.rows books.old) (ServesAll (R.stream source.old) (R.stream source.new)) (B.rows books.new) }
+    ensures ends { (end : ConnectionEnd) × TellsAll F.told faults.old (faults_of (end ∷ [])) faults.new
+        × (B.is_clean books.new → Leads (B.rows books.old) (ServesAll (end ∷ []) (R.stream source.old) (R.stream source.new)) (B.rows books.new)) }
     ensures was_clean { B.is_clean books.new → B.is_clean books.old }
     ensures counted { NoFewer (B.failures books.old) (B.failures books.new) }
-    ensures told { (told : List Fault) × (length told ≤ 1) × TellsAll F.told faults.old told faults.new }
     ensures calls { NoneForgotten calls.old calls.new }
 {
     if let Err(fault) = serve_connection(alloc, listener, books, source) {
@@ -109,10 +112,10 @@ pub fn serve_connections<B: Walks, R: Rng, F: FaultSink>(
     faults: &mut F,
 ) -> u8
     ensures status { result ≡ 0 }
-    ensures books { B.is_clean books.new → Leads (B.rows books.old) (ServesAll (R.stream source.old) (R.stream source.new)) (B.rows books.new) }
+    ensures ends { (ends : List ConnectionEnd) × (length ends ≡ count) × TellsAll F.told faults.old (faults_of ends) faults.new
+        × (B.is_clean books.new → Leads (B.rows books.old) (ServesAll ends (R.stream source.old) (R.stream source.new)) (B.rows books.new)) }
     ensures was_clean { B.is_clean books.new → B.is_clean books.old }
     ensures counted { NoFewer (B.failures books.old) (B.failures books.new) }
-    ensures told { (told : List Fault) × (length told ≤ count) × TellsAll F.told faults.old told faults.new }
 {
     let mut calls = IoCalls::none();
     for _ in 0..count {
@@ -120,3 +123,6 @@ pub fn serve_connections<B: Walks, R: Rng, F: FaultSink>(
     }
     DONE
 }
+
+#[cfg(test)]
+pub(crate) mod tests;

@@ -1,6 +1,6 @@
 //! The exit statuses, and that of a reply.
 
-ghost use Rattle.std.specs.Prelude.{◌≡◌};
+ghost use Rattle.std.specs.Prelude.{◌≡◌, ◌≢◌};
 ghost use Rattle.hotel_desk.specs.Statuses.{reply_status};
 
 use hotel_core::{Refusal, Reply};
@@ -22,7 +22,8 @@ pub const BROKEN: u8 = 5;
 
 /// The exit status of a reply.
 pub fn status_of(reply: &Reply) -> u8
-    ensures { result ≡ reply_status reply.now }
+    ensures status { result ≡ reply_status reply.now }
+    ensures no_usage { result ≢ 2 }
 {
     match reply {
         Reply::Refused(Refusal::Memory | Refusal::Store) => FAILED,

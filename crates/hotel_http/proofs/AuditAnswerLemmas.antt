@@ -1,14 +1,13 @@
 -- The answer to an audit file: its head, and then the texts of its lines.
-use Rattle.std.proofs.Common.{◌≡◌, ℕ, ◌+◌, ◌<◌, List, [], ◌∷◌, ◌++◌, length, take, drop, get_or, arith, refl, sym, ap, subst, ◌∙◌, append_assoc, append-nil, take-append-drop, add-zero, length-take-le, length-append, Option}
-use Rattle.std.proofs.lemmas.List.{take_more, take-append-le}
+use Rattle.std.proofs.Common.{◌≡◌, ℕ, ◌+◌, ◌<◌, List, [], ◌++◌, length, take, get_or, arith, sym, ap, subst, ◌∙◌, append-nil, length-append, Option}
+use Rattle.std.proofs.lemmas.List.{take-append-le}
 use Rattle.std.specs.Prelude.{Result, Ok, Err, OnOk, OnErr}
 use Rattle.std.specs.Io.KnownBytes.{Appends}
 use Rattle.std.proofs.KnownBytes.{Appends-trans}
 use Rattle.hotel_lists.specs.Bytes.{AppendsFront}
 use Rattle.hotel_lists.proofs.BytesLemmas.{front_next}
 use Rattle.hotel_audit.proofs.AnswersWritten.{answers_more}
-use Rattle.hotel_audit.specs.Answers.{answer_text, answers_text}
-use Rattle.hotel_audit.specs.declared.answer.LineAnswer.{LineAnswer}
+use Rattle.hotel_audit.specs.{Answers.answer_text, Answers.answers_text, declared.answer.LineAnswer.LineAnswer}
 
 -- One more text, and its length.
 pub answers_longer : (i : ℕ) (answers : List LineAnswer) (a : LineAnswer) (text : List ℕ) → i < length answers → a ≡ get_or answers i a → text ≡ answer_text (i + 1) a

@@ -1,47 +1,18 @@
 -- A request that is read in pieces is what the whole input asks for.
-use Rattle.std.proofs.Common.{◌≡◌, ℕ, ◌≤◌, List, ◌++◌, length, take, drop, cond, refl, sym, ap, ◌∙◌, subst, inl, inr, Option}
-use Rattle.std.specs.Prelude.{Some, None, IfSome, Bool, false, Result, Ok, Err, nat_lt}
+use Rattle.std.proofs.Common.{◌≡◌, ℕ, ◌≤◌, List, ◌++◌, length, drop, refl, sym, ap, ◌∙◌, subst, inl, Option, Some, None, IfSome, Result, Ok, Err}
 use Rattle.std.specs.Io.KnownBytes.{Consumes, Appends}
 use Rattle.std.proofs.KnownBytes.{Appends-nil}
-use Rattle.std.proofs.lemmas.Bool.{false≢true}
 use Rattle.std.proofs.lemmas.List.{drop-append-le}
-use Rattle.httparse.specs.Grammar.{RequestHead}
-use Rattle.httparse.specs.Spans.{IsRequestAt, IsRequestOf}
-use Rattle.httparse.specs.declared.spans.HeaderSpan.{HeaderSpan}
-use Rattle.httparse.specs.declared.spans.RequestSpans.{RequestSpans}
-use Rattle.hotel_http.specs.Body.{HoldsBody, interim_where}
-use Rattle.hotel_http.specs.Head.{BeginsWith, IsJudged, IsBad, IsTooLarge}
-use Rattle.hotel_http.specs.Plan.{plan_in, path_of, ◌>>=◌}
-use Rattle.hotel_http.specs.Request.{Wanted, meant, or_unread, IsMeant, IsAsked, awaits, Requests, AtMostInterim, wanted_of, EndsBody, EndsHead, EndsRequest}
-use Rattle.hotel_http.specs.Tasks.{task_in}
+use Rattle.httparse.specs.{Grammar.RequestHead, Spans.IsRequestAt, Spans.IsRequestOf, declared.spans.HeaderSpan.HeaderSpan, declared.spans.RequestSpans.RequestSpans}
+use Rattle.hotel_http.specs.{Body.interim_where, Head.BeginsWith, Head.IsJudged, Plan.plan_in, Plan.path_of}
+use Rattle.hotel_http.specs.Request.{Wanted, IsMeant, IsAsked, awaits, wanted_of, EndsBody, EndsHead, EndsRequest}
 use Rattle.hotel_http.specs.declared.head.Judged.TheVariants as judged
-use Rattle.hotel_http.specs.declared.plan.Plan.{Plan}
-use Rattle.hotel_http.specs.declared.rejection.Rejection.{Rejection}
-use Rattle.hotel_http.specs.declared.rejection.Rejection.TheVariants as rejection
-use Rattle.hotel_http.specs.declared.requests.Request.{Request}
-use Rattle.hotel_http.specs.declared.requests.RequestFault.{RequestFault}
+use Rattle.hotel_http.specs.{declared.plan.Plan.Plan, declared.rejection.Rejection.Rejection, declared.requests.Request.Request, declared.requests.RequestFault.RequestFault}
 use Rattle.hotel_http.specs.declared.requests.RequestFault.TheVariants.{Closed, Read, Memory, Write}
-
--- a body that is as good as all that follows the head
-same_meant : (plan : Plan) (path all body : List ℕ) → HoldsBody all plan.size body → meant plan path body ≡ meant plan path all
-same_meant plan path all body holds =
-    let of : Bool → List ℕ → Wanted = λ short read. (cond short (Err rejection.BadRequest) (Ok read)) >>= (λ its_body. or_unread (task_in plan.target path its_body) its_body) in
-    ap (λ (b : Bool). of b (take plan.size body)) holds.short ∙ ap (λ (l : List ℕ). of (nat_lt (length all) plan.size) l) holds.same
-
-pub same_body : (plan : Plan) (path all body : List ℕ) (wanted : Wanted) → HoldsBody all plan.size body → IsMeant plan path body wanted → IsMeant plan path all wanted
-same_body plan path all body wanted holds (inl is) = inl (is ∙ same_meant plan path all body holds)
-same_body plan path all body wanted holds (inr (is, lacks)) = inr (is, (sym holds.short ∙ lacks.0, lacks.1))
 
 pub if_some : (P Q : List ℕ → Type 0) (o : Option (List ℕ)) → ((l : List ℕ) → P l → Q l) → IfSome o P → IfSome o Q
 if_some P Q None f p = tt
 if_some P Q (Some l) f p = f l p
-
-pub body_read : (plan : Plan) (path begun body : List ℕ) (wanted : Wanted) (known : Option (List ℕ)) → IfSome known (λ left. HoldsBody (begun ++ left) plan.size body)
-    → IsMeant plan path body wanted
-    → IfSome known (λ left. IsMeant plan path (begun ++ left) wanted)
-body_read plan path begun body wanted known holds meant =
-    if_some (λ left. HoldsBody (begun ++ left) plan.size body) (λ left. IsMeant plan path (begun ++ left) wanted) known
-    (λ left h. same_body plan path (begun ++ left) body wanted h meant) holds
 
 -- the body of a head's plan
 pub head_ends : (head : RequestHead) (plan : Plan) (path bytes : List ℕ) (len : ℕ) (begun : List ℕ) (known old new : Option (List ℕ))
@@ -114,14 +85,3 @@ request_ends None mid old new items front headers spans result taken found (head
 request_ends (Some input) None old new items front headers spans result taken found of ends = absurd taken
 request_ends (Some input) (Some left) old new items front headers spans result taken (head, begins, at) of ends =
     known_ends head spans.len input items left old new result taken begins (ends head at)
-
--- an input without a head
-pub bad_ends : (known old : Option (List ℕ)) → IfSome known IsBad → EndsRequest known old old (Ok (Err rejection.BadRequest))
-bad_ends known old bad = (false, Appends-nil old, if_some IsBad (λ input. Requests input false (Err rejection.BadRequest)) known (λ input b. inr (refl, inl (b, refl))) bad)
-
-pub large_ends : (known old : Option (List ℕ)) → IfSome known IsTooLarge → EndsRequest known old old (Ok (Err rejection.HeadTooLarge))
-large_ends known old large =
-    (false, Appends-nil old, if_some IsTooLarge (λ input. Requests input false (Err rejection.HeadTooLarge)) known (λ input l. inr (refl, inr (l, refl))) large)
-
-pub none_yet : (known old : Option (List ℕ)) → AtMostInterim known old old
-none_yet known old = (false, Appends-nil old, λ t. absurd (false≢true t))

@@ -1,45 +1,23 @@
 -- What comes of a request, as it is answered.
-use Rattle.std.proofs.Common.{◌≡◌, ℕ, List, [], ◌++◌, refl, sym, ap, subst, inl, inr, append-nil, Option, Some, None, Result, Ok, Err}
-use Rattle.std.specs.Prelude.{Bool, false, OnOk, OnErr}
+use Rattle.std.proofs.Common.{◌≡◌, ℕ, List, [], ◌++◌, refl, sym, ap, subst, inl, inr, append-nil, Option, Some, None, Result, Ok, Err, Bool, false, OnOk, OnErr}
+use Rattle.hotel_core.proofs.{Names.Stream, Names.AreCounted, Names.failure_in, Names.History, Names.Rows, Names.StandsFor, Names.Steps, Names.Runs, Invariants.Assurance.assured}
 use Rattle.std.specs.Result.{IsErrAnd}
 use Rattle.std.specs.Io.KnownBytes.{Appends}
 use Rattle.std.proofs.KnownBytes.{Appends-trans}
-use Rattle.rand_core.specs.Stream.{Stream}
 use Rattle.keycard_rules.specs.declared.issued.LookFault.{LookFault}
-use Rattle.hotel_core.proofs.Invariants.Assurance.{assured}
-use Rattle.hotel_core.specs.declared.command.Command.{Command}
-use Rattle.hotel_core.specs.declared.reply.Reply.{Reply}
+use Rattle.hotel_core.specs.{declared.command.Command.Command, declared.reply.Reply.Reply, declared.reply.Refusal.Refusal, Model.Leads.Leads}
 use Rattle.hotel_core.specs.declared.reply.Reply.TheVariants as reply
-use Rattle.hotel_core.specs.declared.reply.Refusal.{Refusal}
 use Rattle.hotel_core.specs.declared.reply.Refusal.TheVariants as refusal
-use Rattle.hotel_core.specs.Books.Failures.{AreCounted, failure_in}
-use Rattle.hotel_core.specs.Model.History.{History}
-use Rattle.hotel_core.specs.Model.Leads.{Leads}
-use Rattle.hotel_core.specs.Model.Rows.{Rows}
-use Rattle.hotel_core.specs.Model.Run.{StandsFor, Steps, Runs}
-use Rattle.hotel_lists.specs.Bytes.{AppendsFront}
-use Rattle.hotel_lists.specs.declared.calls.WriteFailed.{WriteFailed}
+use Rattle.hotel_lists.specs.{Bytes.AppendsFront, declared.calls.WriteFailed.WriteFailed}
 use Rattle.hotel_lists.proofs.BytesLemmas.{front_next}
 use Rattle.hotel_asks.specs.declared.asks.Ask.TheVariants as ask
-use Rattle.hotel_asks.specs.declared.lists.ListAsk.{ListAsk}
-use Rattle.hotel_asks.specs.Listings.{Listing, listing_on}
+use Rattle.hotel_asks.specs.{declared.lists.ListAsk.ListAsk, Listings.Listing, Listings.listing_on}
 use Rattle.hotel_asks.proofs.ListingLemmas.{listing_stands}
-use Rattle.hotel_audit.specs.AuditFile.{audit_lines}
-use Rattle.hotel_audit.specs.Import.{AreAnswered, EndsAfter, commands_of, replies_in}
-use Rattle.hotel_audit.specs.declared.answer.LineAnswer.{LineAnswer}
-use Rattle.hotel_audit.specs.declared.importing.ImportFault.{ImportFault}
-use Rattle.hotel_audit.specs.declared.line.Line.{Line}
-use Rattle.hotel_http.specs.declared.rejection.Rejection.{Rejection}
-use Rattle.hotel_http.specs.declared.serve.Cut.{Cut}
-use Rattle.hotel_http.specs.declared.serve.Served.{Served}
-use Rattle.hotel_http.specs.declared.status.Status.{Status}
-use Rattle.hotel_http.specs.declared.status.Status.TheVariants.{Success}
-use Rattle.hotel_http.specs.declared.requests.Request.{Request}
-use Rattle.hotel_http.specs.declared.serve.ServeFault.{ServeFault}
-use Rattle.hotel_http.specs.declared.serve.ServeFault.TheVariants.{Write}
-use Rattle.hotel_http.specs.Answer.{list_answer}
-use Rattle.hotel_http.specs.Body.{interim_where}
-use Rattle.hotel_http.specs.Request.{EndsRequest}
+use Rattle.hotel_audit.specs.{AuditFile.audit_lines, Import.AreAnswered, Import.EndsAfter, Import.commands_of, Import.replies_in, declared.answer.LineAnswer.LineAnswer}
+use Rattle.hotel_audit.specs.{declared.importing.ImportFault.ImportFault, declared.line.Line.Line}
+use Rattle.hotel_http.specs.{declared.rejection.Rejection.Rejection, declared.serve.Cut.Cut, declared.serve.Served.Served, declared.status.Status.Status}
+use Rattle.hotel_http.specs.{declared.status.Status.TheVariants.Success, declared.requests.Request.Request, declared.serve.ServeFault.ServeFault}
+use Rattle.hotel_http.specs.{declared.serve.ServeFault.TheVariants.Write, Answer.list_answer, Body.interim_where, Request.EndsRequest}
 use Rattle.hotel_http.specs.Serve.{Outcome, outcome, rejected, replied, imported, import_failures, ListComes, AskComes, FileComes, TaskComes, Comes, EndsAs, Answered, ended, IsListText, list_failures, WasAnswered}
 
 -- an answer that was written or not

@@ -1,19 +1,14 @@
 -- The bytes of answers.
 use Rattle.std.specs.Prelude.{ℕ, List, [], ◌++◌, length, codes, Option, Some, None}
 use Rattle.std.specs.Fmt.{decimal}
-use Rattle.hotel_core.specs.declared.reply.Reply.{Reply}
+use Rattle.hotel_core.specs.{declared.reply.Reply.Reply, Texts.reply_text}
 use Rattle.hotel_core.specs.declared.reply.Reply.TheVariants as reply
 use Rattle.hotel_core.specs.declared.reply.Refusal.TheVariants as refusal
-use Rattle.hotel_core.specs.Texts.{reply_text}
-use Rattle.hotel_http.specs.declared.rejection.Method.{Method}
-use Rattle.hotel_http.specs.declared.rejection.Method.TheVariants.{Get, Post}
-use Rattle.hotel_http.specs.declared.rejection.Rejection.{Rejection}
+use Rattle.hotel_http.specs.{declared.rejection.Method.Method, declared.rejection.Method.TheVariants.Get, declared.rejection.Method.TheVariants.Post}
+use Rattle.hotel_http.specs.{declared.rejection.Rejection.Rejection, declared.status.Status.Status, declared.answer.Media.Media}
 use Rattle.hotel_http.specs.declared.rejection.Rejection.TheVariants as rejection
-use Rattle.hotel_http.specs.declared.status.Status.{Status}
 use Rattle.hotel_http.specs.declared.status.Status.TheVariants.{Success, BadRequest, NotFound, MethodNotAllowed, Conflict, ContentTooLarge, HeadTooLarge, NotImplemented, Unavailable}
-use Rattle.hotel_http.specs.declared.answer.Media.{Media}
-use Rattle.hotel_http.specs.declared.answer.Media.TheVariants.{Plain, Csv}
-use Rattle.hotel_http.specs.Status.{number_of, phrase_of}
+use Rattle.hotel_http.specs.{declared.answer.Media.TheVariants.Plain, declared.answer.Media.TheVariants.Csv, Status.number_of, Status.phrase_of}
 
 -- the type of a body
 abbrev pub media_type : Media → List ℕ

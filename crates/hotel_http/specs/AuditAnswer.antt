@@ -1,15 +1,11 @@
 -- The answer to an audit file.
 use Rattle.std.specs.Prelude.{ℕ, List, ◌++◌, codes, None}
 use Rattle.std.specs.Fmt.{decimal}
-use Rattle.hotel_audit.specs.Answers.{answers_text}
-use Rattle.hotel_audit.specs.declared.answer.LineAnswer.{LineAnswer}
+use Rattle.hotel_audit.specs.{Answers.answers_text, declared.answer.LineAnswer.LineAnswer, declared.importing.ImportFault.ImportFault}
 use Rattle.hotel_audit.specs.declared.audit_file.AuditFault.TheVariants as file
-use Rattle.hotel_audit.specs.declared.importing.ImportFault.{ImportFault}
 use Rattle.hotel_audit.specs.declared.importing.ImportFault.TheVariants as fault
-use Rattle.hotel_http.specs.declared.answer.Media.TheVariants.{Plain}
-use Rattle.hotel_http.specs.declared.status.Status.{Status}
+use Rattle.hotel_http.specs.{declared.answer.Media.TheVariants.Plain, declared.status.Status.Status, Answer.answer_text}
 use Rattle.hotel_http.specs.declared.status.Status.TheVariants.{Success, BadRequest, ContentTooLarge, Unavailable}
-use Rattle.hotel_http.specs.Answer.{answer_text}
 
 -- the answer to an audit file whose lines were all answered
 abbrev pub lines_answer : List LineAnswer → List ℕ

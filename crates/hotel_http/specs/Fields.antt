@@ -4,9 +4,8 @@ use Rattle.std.specs.List.{list_all, list_any}
 use Rattle.std.specs.Char.{is_ascii_digit}
 use Rattle.std.specs.Str.{str_eq_ignore_ascii_case}
 use Rattle.std.specs.Str.Parse.{digits_value}
-use Rattle.hotel_http.specs.declared.rejection.Rejection.{Rejection}
+use Rattle.hotel_http.specs.{declared.rejection.Rejection.Rejection, declared.fields.Named.Named}
 use Rattle.hotel_http.specs.declared.rejection.Rejection.TheVariants.{BadRequest, BodyTooLarge, NotImplemented}
-use Rattle.hotel_http.specs.declared.fields.Named.{Named}
 use Rattle.hotel_http.specs.declared.fields.Named.TheVariants.{Absent, Once, Often}
 
 -- a name and a value

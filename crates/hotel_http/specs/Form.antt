@@ -4,8 +4,7 @@ use Rattle.std.specs.Cow.{cow_str_bytes}
 use Rattle.std.specs.Str.{bytes_eq}
 use Rattle.std.specs.Str.Lossy.{utf8_lossy}
 use Rattle.form_urlencoded.specs.Form.{raw_pairs, decode}
-use Rattle.hotel_http.specs.Fields.{Pair}
-use Rattle.hotel_http.specs.declared.form.Texts.{Texts}
+use Rattle.hotel_http.specs.{Fields.Pair, declared.form.Texts.Texts}
 use Rattle.hotel_http.specs.declared.form.Texts.TheVariants.{Absent, Once, Often}
 
 -- the text that a name or a value of a form stands for

@@ -2,19 +2,12 @@
 use Rattle.std.specs.Prelude.{◌≡◌, ◌⊎◌, ℕ, Bool, true, false, List, [], ◌++◌, length, take, if◌then◌else◌, nat_lt, Option, Some, None, IfSome, Result, Ok, Err}
 use Rattle.std.specs.Io.KnownBytes.{Appends}
 use Rattle.httparse.specs.Grammar.{RequestHead}
-use Rattle.hotel_lists.specs.Bytes.{AppendsFront}
-use Rattle.hotel_lists.specs.declared.bytes.ReadFault.{ReadFault}
+use Rattle.hotel_lists.specs.{Bytes.AppendsFront, declared.bytes.ReadFault.ReadFault}
 use Rattle.hotel_lists.specs.declared.bytes.ReadFault.TheVariants as more
-use Rattle.hotel_http.specs.declared.plan.Plan.{Plan}
-use Rattle.hotel_http.specs.declared.rejection.Rejection.{Rejection}
+use Rattle.hotel_http.specs.{declared.plan.Plan.Plan, declared.rejection.Rejection.Rejection, declared.requests.Request.Request, declared.requests.RequestFault.RequestFault}
 use Rattle.hotel_http.specs.declared.rejection.Rejection.TheVariants as rejection
-use Rattle.hotel_http.specs.declared.requests.Request.{Request}
-use Rattle.hotel_http.specs.declared.requests.RequestFault.{RequestFault}
 use Rattle.hotel_http.specs.declared.requests.RequestFault.TheVariants.{Closed, Read, Memory, Write}
-use Rattle.hotel_http.specs.declared.tasks.Task.{Task}
-use Rattle.hotel_http.specs.Body.{interim_text, interim_where}
-use Rattle.hotel_http.specs.Head.{BeginsWith, IsBad, IsTooLarge}
-use Rattle.hotel_http.specs.Plan.{plan_in, path_of, ◌>>=◌}
+use Rattle.hotel_http.specs.{declared.tasks.Task.Task, Body.interim_text, Body.interim_where, Head.BeginsWith, Head.IsBad, Head.IsTooLarge, Plan.plan_in, Plan.path_of, Plan.◌>>=◌}
 use Rattle.hotel_http.specs.Tasks.{task_in, reads_form}
 
 -- What a request comes to: a task with the body that came with it, or why nothing is asked.

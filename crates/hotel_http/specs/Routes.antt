@@ -1,16 +1,9 @@
 -- The routes: which paths there are, and what each asks for.
-use Rattle.std.specs.Prelude.{ℕ, List, [], ◌∷◌, Option, Some, None, Result, Ok, Err, codes, map}
+use Rattle.std.specs.Prelude.{ℕ, List, [], ◌∷◌, Bool, true, false, ◌&&◌, is_none, Option, Some, None, Result, Ok, Err, codes, map}
 use Rattle.std.specs.Borrow.{Bor}
-use Rattle.matchit.specs.Rows.{RowsOf}
-use Rattle.matchit.specs.Order.{placed}
-use Rattle.matchit.specs.Route.{parse_route, Scan}
-use Rattle.matchit.specs.Router.{RouteOf, route_from}
-use Rattle.matchit.specs.Seek.{first}
-use Rattle.matchit.specs.declared.error.InsertError.{InsertError}
+use Rattle.matchit.specs.{Rows.RowsOf, Order.placed, Route.parse_route, Route.Scan, Router.RouteOf, Router.nearest, Router.route_from, Seek.first, declared.error.InsertError.InsertError}
 use Rattle.hotel_asks.specs.declared.verbs.Verb.TheVariants as verb
-use Rattle.hotel_http.specs.declared.rejection.Method.{Method}
-use Rattle.hotel_http.specs.declared.rejection.Method.TheVariants.{Get, Post}
-use Rattle.hotel_http.specs.declared.routes.Target.{Target}
+use Rattle.hotel_http.specs.{declared.rejection.Method.Method, declared.rejection.Method.TheVariants.Get, declared.rejection.Method.TheVariants.Post, declared.routes.Target.Target}
 use Rattle.hotel_http.specs.declared.routes.Target.TheVariants.{Asks, Audit}
 
 -- each path and what it asks for
@@ -56,6 +49,19 @@ with_route text target rows = added (parse_route text) target rows
 abbrev pub with_routes : List (List ℕ × Target) → RowsOf (RouteOf Target) → RowsOf (RouteOf Target)
 with_routes [] rows = rows
 with_routes (route ∷ routes) rows = with_routes routes (with_route route.0 route.1 rows)
+
+-- whether a text is a route that conflicts with none of the rows
+abbrev pub is_free_in : Result Scan InsertError → RowsOf (RouteOf Target) → Bool
+is_free_in (Ok scan) rows = is_none (nearest scan.pattern rows)
+is_free_in (Err e) rows = false
+
+unfoldable pub is_free : List ℕ → RowsOf (RouteOf Target) → Bool
+is_free text rows = is_free_in (parse_route text) rows
+
+-- whether each of the routes conflicts neither with the rows nor with a route before it
+abbrev pub are_free : List (List ℕ × Target) → RowsOf (RouteOf Target) → Bool
+are_free [] rows = true
+are_free (route ∷ routes) rows = is_free route.0 rows && are_free routes (with_route route.0 route.1 rows)
 
 -- routes as they lie in memory
 abbrev pub texts : List (Bor (List ℕ) × Target) → List (List ℕ × Target)

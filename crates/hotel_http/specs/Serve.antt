@@ -3,42 +3,25 @@ use Rattle.std.specs.Prelude.{◌≡◌, ◌⊎◌, ℕ, Bool, true, false, List
 use Rattle.std.specs.Io.KnownBytes.{Appends}
 use Rattle.rand_core.specs.Stream.{Stream}
 use Rattle.keycard_rules.specs.declared.issued.LookFault.{LookFault}
-use Rattle.hotel_core.specs.declared.reply.Reply.{Reply}
+use Rattle.hotel_core.specs.{declared.reply.Reply.Reply, declared.reply.Refusal.Refusal, Books.Failures.AreCounted, Books.Failures.failure_in, Model.History.History}
 use Rattle.hotel_core.specs.declared.reply.Reply.TheVariants as reply
-use Rattle.hotel_core.specs.declared.reply.Refusal.{Refusal}
 use Rattle.hotel_core.specs.declared.reply.Refusal.TheVariants as refusal
-use Rattle.hotel_core.specs.Books.Failures.{AreCounted, failure_in}
-use Rattle.hotel_core.specs.Model.History.{History}
 use Rattle.hotel_core.specs.Model.Run.{Steps, Runs}
-use Rattle.hotel_lists.specs.Bytes.{AppendsFront}
-use Rattle.hotel_lists.specs.declared.calls.WriteFailed.{WriteFailed}
-use Rattle.hotel_lists.specs.declared.fault.ListFault.{ListFault}
+use Rattle.hotel_lists.specs.{Bytes.AppendsFront, declared.calls.WriteFailed.WriteFailed, declared.fault.ListFault.ListFault}
 use Rattle.hotel_lists.specs.declared.fault.ListFault.TheVariants as list
-use Rattle.hotel_asks.specs.declared.asks.Ask.{Ask}
+use Rattle.hotel_asks.specs.{declared.asks.Ask.Ask, Listings.Listing, Listings.listing_over, Listings.in_full}
 use Rattle.hotel_asks.specs.declared.asks.Ask.TheVariants as ask
-use Rattle.hotel_asks.specs.Listings.{Listing, listing_over, in_full}
-use Rattle.hotel_audit.specs.AuditFile.{audit_lines}
-use Rattle.hotel_audit.specs.Import.{AreAnswered, EndsAfter, commands_of, replies_in, has_taken, failures_of}
-use Rattle.hotel_audit.specs.declared.answer.LineAnswer.{LineAnswer}
-use Rattle.hotel_audit.specs.declared.importing.ImportFault.{ImportFault}
+use Rattle.hotel_audit.specs.{AuditFile.audit_lines, Import.AreAnswered, Import.EndsAfter, Import.commands_of, Import.replies_in, Import.has_taken, Import.failures_of}
+use Rattle.hotel_audit.specs.{declared.answer.LineAnswer.LineAnswer, declared.importing.ImportFault.ImportFault, declared.line.Line.Line}
 use Rattle.hotel_audit.specs.declared.importing.ImportFault.TheVariants as import
-use Rattle.hotel_audit.specs.declared.line.Line.{Line}
-use Rattle.hotel_http.specs.declared.rejection.Rejection.{Rejection}
-use Rattle.hotel_http.specs.declared.serve.Cut.{Cut}
-use Rattle.hotel_http.specs.declared.serve.Served.{Served}
-use Rattle.hotel_http.specs.declared.serve.ServeFault.{ServeFault}
+use Rattle.hotel_http.specs.{declared.rejection.Rejection.Rejection, declared.serve.Cut.Cut, declared.serve.Served.Served, declared.serve.ServeFault.ServeFault}
 use Rattle.hotel_http.specs.declared.serve.ServeFault.TheVariants.{Closed, Read, Memory, Write}
-use Rattle.hotel_http.specs.declared.requests.RequestFault.{RequestFault}
+use Rattle.hotel_http.specs.{declared.requests.RequestFault.RequestFault, declared.status.Status.Status, declared.status.Status.TheVariants.Success, declared.tasks.Task.Task}
 use Rattle.hotel_http.specs.declared.requests.RequestFault.TheVariants as unread
-use Rattle.hotel_http.specs.declared.status.Status.{Status}
-use Rattle.hotel_http.specs.declared.status.Status.TheVariants.{Success}
-use Rattle.hotel_http.specs.declared.tasks.Task.{Task}
 use Rattle.hotel_http.specs.declared.tasks.Task.TheVariants as task
 use Rattle.hotel_http.specs.Answer.{rejection_answer, rejection_status, reply_answer, reply_status, list_answer}
-use Rattle.hotel_http.specs.AuditAnswer.{lines_answer, fault_answer, fault_status}
-use Rattle.hotel_http.specs.Body.{interim_text}
-use Rattle.hotel_http.specs.Request.{Wanted, Requests, IsAwaited, AtMostInterim}
-use Rattle.hotel_http.specs.Status.{number_of}
+use Rattle.hotel_http.specs.{AuditAnswer.lines_answer, AuditAnswer.fault_answer, AuditAnswer.fault_status, Body.interim_text}
+use Rattle.hotel_http.specs.{Request.Wanted, Request.Requests, Request.IsAwaited, Request.AtMostInterim, Status.number_of}
 
 -- An answer: its bytes, its status, and whether the books took something of the request.
 pub record Outcome : Type 0 where

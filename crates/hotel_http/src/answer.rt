@@ -2,13 +2,12 @@
 
 ghost use Rattle.std.specs.Prelude.{◌≡◌, ◌≤◌, true, ◌++◌, None, length, OnOk, OnErr};
 ghost use Rattle.std.specs.Io.KnownBytes.{Appends};
-ghost use Rattle.hotel_lists.specs.Bytes.{AppendsFront};
-ghost use Rattle.hotel_lists.specs.Calls.{NoneForgotten};
+ghost use Rattle.hotel_lists.specs.{Bytes.AppendsFront, Calls.NoneForgotten};
 ghost use Rattle.hotel_http.specs.declared.answer.Media.TheVariants.{Plain};
 ghost use Rattle.hotel_http.specs.Answer as spec;
 ghost use Rattle.hotel_http.specs.Answer.{media_type, allow_field, status_line, head_text, answer_text, rejection_status, rejection_body, allowed_by, rejection_answer, reply_status, reply_answer, list_answer};
 
-use crate::buffer::{HeadText, push_number};
+use crate::buffer::HeadText;
 use crate::rejection::{Method, Rejection};
 use crate::status::Status;
 use hotel_core::{Refusal, Reply, reply_text};
@@ -49,7 +48,7 @@ fn status_line(status: Status) -> HeadText
 {
     let mut text = HeadText::new();
     text.push(b"HTTP/1.1 ");
-    push_number(&mut text, u128::from(status.number()));
+    text.push_number::<40>(u128::from(status.number()));
     text.push(b" ");
     text.push(status.phrase());
     text.push(b"\r\n");
@@ -67,7 +66,7 @@ pub fn head_text(status: Status, media: Media, allow: Option<Method>, size: u128
     text.push(media_type(media));
     text.push(b"\r\n");
     text.push(b"Content-Length: ");
-    push_number(&mut text, size);
+    text.push_number::<40>(size);
     text.push(b"\r\n");
     text.push(allow_field(allow));
     text.push(b"Connection: close\r\n\r\n");

@@ -2,14 +2,12 @@
 
 ghost use Rattle.std.specs.Prelude.{◌≡◌, ◌≤◌, true, length, OnOk, OnErr};
 ghost use Rattle.std.specs.Io.KnownBytes.{Appends};
-ghost use Rattle.hotel_lists.specs.Bytes.{AppendsFront};
-ghost use Rattle.hotel_lists.specs.Calls.{NoneForgotten};
-ghost use Rattle.hotel_audit.specs.Answers.{answers_text};
-ghost use Rattle.hotel_audit.specs.Import.{has_taken};
+ghost use Rattle.hotel_lists.specs.{Bytes.AppendsFront, Calls.NoneForgotten};
+ghost use Rattle.hotel_audit.specs.{Answers.answers_text, Import.has_taken};
 ghost use Rattle.hotel_http.specs.AuditAnswer.{lines_answer, fault_status, fault_body, fault_answer};
 
 use crate::answer::{Media, head_text, write_short};
-use crate::buffer::{HeadText, push_number};
+use crate::buffer::HeadText;
 use crate::status::Status;
 use hotel_audit::{AuditFault, ImportFault, LineAnswer, answer_text, write_answers};
 use hotel_lists::{IoCalls, WriteFailed, write_bytes};
@@ -79,12 +77,12 @@ fn fault_body(why: &ImportFault) -> HeadText
         ImportFault::File(AuditFault::Memory) => text.push(b"refused 29 Memory\n"),
         ImportFault::Memory { answered, .. } => {
             text.push(b"stopped after ");
-            push_number(&mut text, *answered as u128);
+            text.push_number::<40>(*answered as u128);
             text.push(b": Memory\n");
         }
         ImportFault::Store { answered, .. } => {
             text.push(b"stopped after ");
-            push_number(&mut text, *answered as u128);
+            text.push_number::<40>(*answered as u128);
             text.push(b": Store\n");
         }
     }

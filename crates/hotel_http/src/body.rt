@@ -2,9 +2,7 @@
 
 ghost use Rattle.std.specs.Prelude.{◌≡◌, ◌++◌, true, IfOk, OnOk, OnErr, IfSome, IsErrOf};
 ghost use Rattle.std.specs.Io.KnownBytes.{Appends, Keeps};
-ghost use Rattle.hotel_lists.specs.Bytes.{AppendsFront};
-ghost use Rattle.hotel_lists.specs.Calls.{NoneForgotten};
-ghost use Rattle.hotel_lists.specs.declared.bytes.ReadFault.TheVariants.{Read};
+ghost use Rattle.hotel_lists.specs.{Bytes.AppendsFront, Calls.NoneForgotten, declared.bytes.ReadFault.TheVariants.Read};
 ghost use Rattle.hotel_http.specs.Body.{HoldsBody, interim_text, interim_where};
 
 use hotel_lists::{IoCalls, ReadFault, WriteFailed, read_more, write_bytes};

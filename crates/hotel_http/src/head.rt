@@ -2,10 +2,8 @@
 
 ghost use Rattle.std.specs.Prelude.{◌≡◌, ◌≢◌, ◌<◌, ◌≤◌, ℕ, List, [], ◌++◌, take, length, IfOk, OnOk, IfSome, IsErrOf, true};
 ghost use Rattle.std.specs.Io.KnownBytes.{Consumes};
-ghost use Rattle.hotel_lists.specs.Calls.{NoneForgotten};
-ghost use Rattle.hotel_lists.specs.declared.bytes.ReadFault.TheVariants.{Read};
-ghost use Rattle.httparse.specs.Grammar.{HasNoRequest};
-ghost use Rattle.httparse.specs.declared.spans.HeaderSpan.{HeaderSpan};
+ghost use Rattle.hotel_lists.specs.{Calls.NoneForgotten, declared.bytes.ReadFault.TheVariants.Read};
+ghost use Rattle.httparse.specs.{Grammar.HasNoRequest, declared.spans.HeaderSpan.HeaderSpan};
 ghost use Rattle.hotel_http.specs.Head.{IsParsed, IsJudged, LiesWithin, IsOpen};
 
 use hotel_lists::{IoCalls, ReadFault, read_more};

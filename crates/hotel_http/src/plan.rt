@@ -2,8 +2,7 @@
 
 ghost use Rattle.std.specs.Prelude.{◌≡◌, length, map, All};
 ghost use Rattle.httparse.specs.Spans.{IsHeaderWithin, header_bytes};
-ghost use Rattle.hotel_http.specs.Routes.{hotel_routes};
-ghost use Rattle.hotel_http.specs.Plan.{path_of, method_name, planned, routed, allowed, size_read, is_awaited};
+ghost use Rattle.hotel_http.specs.{Routes.hotel_routes, Plan.path_of, Plan.method_name, Plan.planned, Plan.routed, Plan.allowed, Plan.size_read, Plan.is_awaited};
 
 use crate::fields::{expects_continue, read_framing};
 use crate::rejection::{Method, Rejection};

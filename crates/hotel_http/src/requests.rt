@@ -2,11 +2,9 @@
 
 ghost use Rattle.std.specs.Prelude.{◌≡◌, ◌≢◌, ◌++◌, ◌≤◌, true, List, ℕ, length, take, drop, IfOk, OnOk, OnErr, IfSome, IsErrOf, IsUtf8};
 ghost use Rattle.std.specs.Io.KnownBytes.{Appends, Keeps};
-ghost use Rattle.httparse.specs.Grammar.{RequestHead};
-ghost use Rattle.httparse.specs.Spans.{IsRequestWithin, IsRequestAt, span_bytes};
+ghost use Rattle.httparse.specs.{Grammar.RequestHead, Spans.IsRequestWithin, Spans.IsRequestAt, Spans.span_bytes};
 ghost use Rattle.hotel_lists.specs.Calls.{NoneForgotten};
-ghost use Rattle.hotel_http.specs.Plan.{plan_in};
-ghost use Rattle.hotel_http.specs.Request.{fault_of, IsMeant, EndsBody, wanted_of, EndsHead, EndsRequest};
+ghost use Rattle.hotel_http.specs.{Plan.plan_in, Request.fault_of, Request.IsMeant, Request.EndsBody, Request.wanted_of, Request.EndsHead, Request.EndsRequest};
 ghost use Rattle.hotel_http.specs.Routes.{hotel_routes};
 ghost use Rattle.hotel_http.specs.declared.requests.RequestFault.TheVariants.{Write, Read, Memory};
 

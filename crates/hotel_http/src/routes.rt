@@ -1,7 +1,8 @@
 //! The routes: which paths there are, and what each asks for.
 
-ghost use Rattle.std.specs.Prelude.{◌≡◌, IfOk, OnOk};
-ghost use Rattle.hotel_http.specs.Routes.{hotel_routes, texts, with_route, with_routes, target_of, method_of};
+ghost use Rattle.std.specs.Prelude.{◌≡◌, true, IfOk, IfErr, OnOk};
+ghost use Rattle.matchit.specs.declared.error.InsertError.TheVariants.{OutOfMemory};
+ghost use Rattle.hotel_http.specs.Routes.{hotel_routes, texts, is_free, are_free, with_route, with_routes, target_of, method_of};
 
 use crate::rejection::Method;
 use hotel_asks::Verb;
@@ -18,14 +19,16 @@ pub enum Target {
 }
 
 fn add(router: &mut Router<Target>, route: &str, target: Target) -> Result<(), InsertError>
-    ensures { OnOk result (router.new ≡ with_route route.now target router.old) }
+    ensures ok { OnOk result (router.new ≡ with_route route.now target router.old) }
+    ensures err { IfErr result (λ fault. is_free route.now router.old ≡ true → fault ≡ OutOfMemory) }
 {
     router.insert(route, target)
 }
 
 /// Adds routes, one after the other.
 fn add_all(router: &mut Router<Target>, routes: &[(&str, Target)]) -> Result<(), InsertError>
-    ensures { OnOk result (router.new ≡ with_routes (texts routes.now) router.old) }
+    ensures ok { OnOk result (router.new ≡ with_routes (texts routes.now) router.old) }
+    ensures err { IfErr result (λ fault. are_free (texts routes.now) router.old ≡ true → fault ≡ OutOfMemory) }
 {
     for route in routes {
         add(router, route.0, route.1)?;
@@ -33,10 +36,11 @@ fn add_all(router: &mut Router<Target>, routes: &[(&str, Target)]) -> Result<(),
     Ok(())
 }
 
-/// Makes the table of routes.
+/// Makes the table of routes. No two of them conflict, so it fails only by want of memory.
 #[tactic(auto, unfolding(crate::specs::Routes::hotel_routes))]
 pub fn make_routes(alloc: Global) -> Result<Router<Target>, InsertError>
-    ensures { IfOk result (λ router. router ≡ hotel_routes) }
+    ensures ok { IfOk result (λ router. router ≡ hotel_routes) }
+    ensures err { IfErr result (λ fault. fault ≡ OutOfMemory) }
 {
     let mut router = Router::new(alloc);
     add_all(

@@ -4,15 +4,12 @@ ghost use Rattle.std.specs.Prelude.{◌≡◌, [], true, Ok, Err, Option, IsErrO
 ghost use Rattle.std.specs.Io.KnownBytes.{Appends};
 ghost use Rattle.rand_core.specs.Stream.{Stream};
 ghost use Rattle.keycard_rules.specs.Rise.{NoFewer};
-ghost use Rattle.hotel_core.specs.Books.Failures.{AreCounted};
-ghost use Rattle.hotel_core.specs.Model.Leads.{Leads};
+ghost use Rattle.hotel_core.specs.{Books.Failures.AreCounted, Model.Leads.Leads};
 ghost use Rattle.hotel_lists.specs.Calls.{NoneForgotten};
 ghost use Rattle.hotel_asks.specs.Listings.{listing_on};
 ghost use Rattle.hotel_asks.specs.declared.asks.Ask.TheVariants as ask;
-ghost use Rattle.hotel_http.specs.Body.{interim_where};
-ghost use Rattle.hotel_http.specs.Routes.{hotel_routes};
+ghost use Rattle.hotel_http.specs.{Body.interim_where, Routes.hotel_routes, declared.serve.ServeFault.TheVariants.Read, declared.serve.ServeFault.TheVariants.Write};
 ghost use Rattle.hotel_http.specs.Serve.{rejected, replied, is_accepted, taken_by, outcome, AskComes, FileComes, TaskComes, Comes, EndsAs, Answered, ended, IsListText, refusal_of, list_failures, text_in, Serves, IfUnwritten, fault_of};
-ghost use Rattle.hotel_http.specs.declared.serve.ServeFault.TheVariants.{Read, Write};
 
 use crate::answer::{rejection_status, reply_status, write_csv, write_rejection, write_reply};
 use crate::audit_answer::{fault_status, has_taken, write_audit, write_fault};

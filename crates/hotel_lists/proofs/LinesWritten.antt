@@ -1,23 +1,16 @@
 -- The lines that a sink wrote along a walk.
-use Rattle.std.proofs.Common.{ℕ, ◌≡◌, Bool, true, false, List, [], ◌∷◌, ◌++◌, Option, Some, None, Result, Ok, Err, append_assoc, append-nil, length-append, ap, refl, sym, ◌∙◌, subst, arith, inl, inr}
-use Rattle.std.specs.List.{flat_map}
-use Rattle.std.proofs.lemmas.Bool.{false≢true}
+use Rattle.std.proofs.Common.{ℕ, ◌≡◌, Bool, true, false, List, [], ◌∷◌, ◌++◌, Option, Some, None, Result, Ok, Err, append_assoc, append-nil, length-append, ap, refl, sym, ◌∙◌, subst, arith, inl, inr, flat_map}
+use Rattle.hotel_core.proofs.Names.{false≢true, Takes, Hands}
 use Rattle.std.proofs.lemmas.List.{take-append-le}
 use Rattle.std.proofs.lemmas.List.Concat.{flat_map-append}
 use Rattle.std.specs.Io.KnownBytes.{Appends}
 use Rattle.std.proofs.KnownBytes.{Appends-trans, Appends-kept}
-use Rattle.hotel_core.specs.declared.books.walks.WalkFault.{WalkFault}
+use Rattle.hotel_core.specs.{declared.books.walks.WalkFault.WalkFault, declared.books.rows.RoomRow.RoomRow}
 use Rattle.hotel_core.specs.declared.books.walks.WalkFault.TheVariants as walk
-use Rattle.hotel_core.specs.Books.Walks.{Takes, Hands}
-use Rattle.hotel_lists.specs.Bytes.{AppendsFront}
-use Rattle.hotel_lists.specs.LineSink.{SameEnds, Gathers, StopsAtWrite, Finishes}
-use Rattle.hotel_core.specs.declared.books.rows.RoomRow.{RoomRow}
-use Rattle.hotel_lists.specs.declared.lines.Lines.{Lines}
-use Rattle.hotel_lists.specs.declared.fault.ListFault.{ListFault}
+use Rattle.hotel_lists.specs.{Bytes.AppendsFront, LineSink.SameEnds, LineSink.Gathers, LineSink.StopsAtWrite, LineSink.Finishes, declared.lines.Lines.Lines}
+use Rattle.hotel_lists.specs.{declared.fault.ListFault.ListFault, Lines.list_text, Lines.Lists, Lines.ListsRoom, Lines.FindsRoom, Lines.StopsBy, Lines.listed}
 use Rattle.hotel_lists.specs.declared.fault.ListFault.TheVariants as fault
-use Rattle.hotel_lists.specs.Lines.{list_text, Lists, ListsRoom, FindsRoom, StopsBy, listed}
-use Rattle.hotel_lists.proofs.BytesLemmas.{front_next}
-use Rattle.hotel_lists.proofs.CallsLemmas.{none_forgotten, then_none_forgotten}
+use Rattle.hotel_lists.proofs.{BytesLemmas.front_next, CallsLemmas.none_forgotten, CallsLemmas.then_none_forgotten}
 
 -- a front of the first of two texts is a front of both
 pub front_of_first : (a b : Option (List ℕ)) (bs cs : List ℕ) → AppendsFront a b bs → AppendsFront a b (bs ++ cs)
@@ -31,7 +24,7 @@ stopped_for_write false e = cc
 same_sink : {W : Type 0} (s : Lines W) → SameEnds s s
 same_sink s = record { writer = refl; calls = refl; none_forgotten = none_forgotten s.calls.now }
 
-pub then_same : {W : Type 0} (a b c : Lines W) → SameEnds a b → SameEnds b c → SameEnds a c
+then_same : {W : Type 0} (a b c : Lines W) → SameEnds a b → SameEnds b c → SameEnds a c
 then_same a b c h k = record {
   writer = k.writer ∙ h.writer;
   calls = k.calls ∙ h.calls;
@@ -99,14 +92,14 @@ module _ {W R : Type 0} (contents : W → Option (List ℕ)) (line : R → List 
   from_header w header rows a b first none t = took w header [] rows a b ([], [], refl, subst (Appends w (contents a.writer.now)) (sym (append-nil header)) first, none) t
 
   -- the sink's writer and calls are the same ones at the end of the walk
-  pub same_ends : (rows : List R) (a b : Lines W) (end : Result (Unit {0}) WalkFault) → Hands Wrote Stopped rows a b end → SameEnds a b
+  same_ends : (rows : List R) (a b : Lines W) (end : Result (Unit {0}) WalkFault) → Hands Wrote Stopped rows a b end → SameEnds a b
   same_ends rows a b (Ok done) h = took_same rows a b h
   same_ends rows a b (Err walk.Stopped) h = then_same a h.4 b (took_same h.0 a h.4 h.5) h.6.0
   same_ends rows a b (Err walk.Memory) h = took_same h.0 a b h.3
   same_ends rows a b (Err walk.Store) h = took_same h.0 a b h.3
 
   -- a list ends with Write only after a write that failed
-  pub write_had_failed : (rows : List R) (a b c : Lines W) (end result : Result (Unit {0}) WalkFault) → Hands Wrote Stopped rows a b end → Finishes contents b c end result
+  write_had_failed : (rows : List R) (a b c : Lines W) (end result : Result (Unit {0}) WalkFault) → Hands Wrote Stopped rows a b end → Finishes contents b c end result
       → listed result c.write_failed ≡ Err fault.Write → c.calls.now.write_failed ≡ true
   write_had_failed rows a b c (Err walk.Stopped) result h f e =
       let here : listed (Err walk.Stopped) b.write_failed ≡ Err fault.Write = subst (λ (s : Lines W). listed (Err walk.Stopped) s.write_failed ≡ Err fault.Write) f.1 (subst (λ r. listed r c.write_failed ≡ Err fault.Write) f.0 e) in
@@ -114,9 +107,12 @@ module _ {W R : Type 0} (contents : W → Option (List ℕ)) (line : R → List 
   write_had_failed rows a b c (Ok done) (Err walk.Stopped) h f e = f.1 (stopped_for_write c.write_failed e)
   write_had_failed rows a b c (Err walk.Memory) (Err walk.Stopped) h f e = f.1 (stopped_for_write c.write_failed e)
   write_had_failed rows a b c (Err walk.Store) (Err walk.Stopped) h f e = f.1 (stopped_for_write c.write_failed e)
-  write_had_failed rows a b c end (Ok done) h f e = cc
-  write_had_failed rows a b c end (Err walk.Memory) h f e = cc
-  write_had_failed rows a b c end (Err walk.Store) h f e = cc
+  write_had_failed rows a b c _ _ h f e = cc
+
+  -- a list was written at the same writer and calls, and ends with Write only after a write that failed
+  pub list_ended : (rows : List R) (a b c : Lines W) (end result : Result (Unit {0}) WalkFault) (last : Result (Unit {0}) ListFault) → Hands Wrote Stopped rows a b end → SameEnds b c → Finishes contents b c end result
+      → last ≡ listed result c.write_failed → SameEnds a c × (last ≡ Err fault.Write → c.calls.now.write_failed ≡ true)
+  list_ended rows a b c end result last h same f e = (then_same a b c (same_ends rows a b end h) same, λ failed. write_had_failed rows a b c end result h f (sym e ∙ failed))
 
   -- the sink stopped as it was to write the lines of rows
   stopped : (failed : Bool) (w old new : Option (List ℕ)) (header : List ℕ) (rows sent more rest : List R) (bytes : List ℕ) → rows ≡ (sent ++ more) ++ rest → bytes ≡ flat_map line more
@@ -171,11 +167,9 @@ module _ {W R : Type 0} (contents : W → Option (List ℕ)) (line : R → List 
 
 -- a list that was begun doesn't end with NoRoom
 pub listed_there : (end : Result (Unit {0}) WalkFault) (failed : Bool) → listed end failed ≡ Err fault.NoRoom → ⊥
-listed_there (Ok done) failed e = cc
-listed_there (Err walk.Memory) failed e = cc
-listed_there (Err walk.Store) failed e = cc
 listed_there (Err walk.Stopped) true e = cc
 listed_there (Err walk.Stopped) false e = cc
+listed_there _ failed e = cc
 
 -- the list of a room that was found
 pub room_listed : {R : Type 0} (o : Option RoomRow) (a b : Option (List ℕ)) (header : List ℕ) (line : R → List ℕ) (rows : List R) (done : Unit {0}) (result : Result (Unit {0}) ListFault)

@@ -3,9 +3,8 @@ use Rattle.std.specs.Prelude.{◌≡◌, ℕ, ◌≤◌, ◌++◌, List, length,
 use Rattle.std.specs.Borrow.{Bor}
 use Rattle.std.specs.List.{flat_map}
 use Rattle.std.specs.Io.KnownBytes.{Appends, Consumes}
-use Rattle.hotel_lists.specs.declared.bytes.ReadFault.{ReadFault}
+use Rattle.hotel_lists.specs.{declared.bytes.ReadFault.ReadFault, declared.bytes.WholeFault.WholeFault}
 use Rattle.hotel_lists.specs.declared.bytes.ReadFault.TheVariants as more
-use Rattle.hotel_lists.specs.declared.bytes.WholeFault.{WholeFault}
 use Rattle.hotel_lists.specs.declared.bytes.WholeFault.TheVariants as whole
 
 -- A writer took a front of the bytes: all of them, some or none.

@@ -3,9 +3,7 @@ use Rattle.std.specs.Prelude.{◌≡◌, ℕ, ◌⊎◌, true, List, [], ◌++�
 use Rattle.std.specs.Io.KnownBytes.{Appends, Keeps}
 use Rattle.hotel_core.specs.declared.books.walks.WalkFault.{WalkFault}
 use Rattle.hotel_core.specs.declared.books.walks.WalkFault.TheVariants as walk
-use Rattle.hotel_lists.specs.Calls.{NoneForgotten}
-use Rattle.hotel_lists.specs.Lines.{StopsBy}
-use Rattle.hotel_lists.specs.declared.lines.Lines.{Lines}
+use Rattle.hotel_lists.specs.{Calls.NoneForgotten, Lines.StopsBy, declared.lines.Lines.Lines}
 
 -- It has the same writer and the same calls, of which none was forgotten.
 pub record SameEnds {W : Type 0} (old new : Lines W) : Type 0 where

@@ -1,12 +1,10 @@
 //! A sink that writes the lines of a list.
 ghost use Rattle.std.specs.Prelude.{◌≡◌, true, [], OnOk, OnErr};
 ghost use Rattle.std.specs.Io.KnownBytes.{Appends};
-ghost use Rattle.hotel_lists.specs.Bytes.{AppendsFront};
-ghost use Rattle.hotel_lists.specs.LineSink.{SameEnds, StopsAtWrite, Finishes};
-ghost use Rattle.hotel_lists.specs.Lines.{listed};
+ghost use Rattle.hotel_lists.specs.{LineSink.SameEnds, LineSink.StopsAtWrite, LineSink.Finishes, Lines.listed};
 
 use crate::bytes::write_bytes;
-use crate::calls::{IoCalls, WriteFailed};
+use crate::calls::IoCalls;
 use crate::fault::ListFault;
 use crate::gathered::Gathered;
 use crate::line::Line;
@@ -44,17 +42,6 @@ impl<'a, W: Write> Lines<'a, W> {
             gathered,
             write_failed: false,
         }
-    }
-
-    /// Writes the header, which stands before the lines.
-    pub(crate) fn begin(&mut self, header: &[u8]) -> Result<(), WriteFailed>
-        ensures same { SameEnds self.old self.new }
-        ensures ok { OnOk result (Appends (W.contents self.old.writer.now) (W.contents self.new.writer.now) header.now) }
-        ensures err { OnErr result (AppendsFront (W.contents self.old.writer.now) (W.contents self.new.writer.now) header.now) }
-        ensures failed { OnErr result (self.new.calls.now.write_failed ≡ true) }
-        ensures gathered { self.new.gathered.now ≡ self.old.gathered.now }
-    {
-        write_bytes(self.writer, header, self.calls)
     }
 
     /// Writes the lines that are gathered.

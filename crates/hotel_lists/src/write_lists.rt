@@ -2,10 +2,10 @@
 ghost use Rattle.std.specs.Prelude.{◌≡◌, true, Err};
 ghost use Rattle.hotel_core.specs.Books.Lookups.{room_at};
 ghost use Rattle.hotel_core.specs.Refinement.ListsOnRows.{arrivals_on, in_house_on, chain_on, left_behind_on, audit_on};
-ghost use Rattle.hotel_lists.specs.Calls.{NoneForgotten};
+ghost use Rattle.hotel_lists.specs.{Calls.NoneForgotten, declared.fault.ListFault.TheVariants.NoRoom, declared.fault.ListFault.TheVariants.Write};
 ghost use Rattle.hotel_lists.specs.Lines.{Lists, ListsRoom, LooksAt, FindsRoom, arrivals_header, in_house_header, chain_header, left_behind_header, audit_header, arrival_line, house_line, chain_line, behind_line, note_line};
-ghost use Rattle.hotel_lists.specs.declared.fault.ListFault.TheVariants.{NoRoom, Write};
 
+use crate::bytes::write_bytes;
 use crate::calls::IoCalls;
 use crate::fault::ListFault;
 use crate::gathered::Gathered;
@@ -44,9 +44,9 @@ pub fn write_arrivals<B: Walks, W: Write>(
     ensures failed { result ≡ Err Write → calls.new.write_failed ≡ true }
     ensures calls { NoneForgotten calls.old calls.new }
 {
+    write_bytes(writer, b"party,guest,kind,arrive,depart\n", calls)?;
     let mut gathered = Gathered::none(alloc);
     let mut lines = Lines::new(writer, calls, &mut gathered);
-    lines.begin(b"party,guest,kind,arrive,depart\n")?;
     let walked = books.walk_arrivals(day, &mut lines);
     let end = lines.finish(walked);
     listed(end, lines.write_failed)
@@ -65,9 +65,9 @@ pub fn write_in_house<B: Walks, W: Write>(
     ensures failed { result ≡ Err Write → calls.new.write_failed ≡ true }
     ensures calls { NoneForgotten calls.old calls.new }
 {
+    write_bytes(writer, b"room,party,guest,kind,depart,secured\n", calls)?;
     let mut gathered = Gathered::none(alloc);
     let mut lines = Lines::new(writer, calls, &mut gathered);
-    lines.begin(b"room,party,guest,kind,depart,secured\n")?;
     let walked = books.walk_in_house(&mut lines);
     let end = lines.finish(walked);
     listed(end, lines.write_failed)
@@ -87,9 +87,9 @@ pub fn write_chain_of<B: Walks, W: Write>(
     ensures calls { NoneForgotten calls.old calls.new }
 {
     find_room(books, room)?;
+    write_bytes(writer, b"place,code,state\n", calls)?;
     let mut gathered = Gathered::none(alloc);
     let mut lines = Lines::new(writer, calls, &mut gathered);
-    lines.begin(b"place,code,state\n")?;
     let walked = books.walk_chain(room, &mut lines);
     let end = lines.finish(walked);
     listed(end, lines.write_failed)
@@ -108,9 +108,9 @@ pub fn write_left_behind<B: Walks, W: Write>(
     ensures failed { result ≡ Err Write → calls.new.write_failed ≡ true }
     ensures calls { NoneForgotten calls.old calls.new }
 {
+    write_bytes(writer, b"room,held,current,awaited\n", calls)?;
     let mut gathered = Gathered::none(alloc);
     let mut lines = Lines::new(writer, calls, &mut gathered);
-    lines.begin(b"room,held,current,awaited\n")?;
     let walked = books.walk_left_behind(&mut lines);
     let end = lines.finish(walked);
     listed(end, lines.write_failed)
@@ -130,9 +130,9 @@ pub fn write_audit_of<B: Walks, W: Write>(
     ensures calls { NoneForgotten calls.old calls.new }
 {
     find_room(books, room)?;
+    write_bytes(writer, b"room,count,kind,card,old,new,at\n", calls)?;
     let mut gathered = Gathered::none(alloc);
     let mut lines = Lines::new(writer, calls, &mut gathered);
-    lines.begin(b"room,count,kind,card,old,new,at\n")?;
     let walked = books.walk_audit(room, &mut lines);
     let end = lines.finish(walked);
     listed(end, lines.write_failed)

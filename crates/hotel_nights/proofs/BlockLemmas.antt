@@ -1,10 +1,8 @@
 -- Counts of stays that begin and end at a night.
-use Rattle.std.proofs.Common.{◌≡◌, ℕ, zero, suc, ◌+◌, ◌-◌, ◌<◌, ◌≤◌, ◌&&◌, not, Bool, true, false, List, [], ◌∷◌, length, take, get_or, arith, refl, sym, ap, ◌∙◌, count_by, nat_lt, nat_le, replicate}
+use Rattle.std.proofs.Common.{◌≡◌, ℕ, zero, suc, ◌+◌, ◌-◌, ◌<◌, ◌≤◌, ◌&&◌, not, Bool, true, false, List, [], ◌∷◌, get_or, arith, refl, count_by, nat_lt, nat_le, replicate}
 use Rattle.std.proofs.lemmas.Bool.Decides.{nat_tests}
-use Rattle.std.proofs.lemmas.List.Sums.{sum_by-cons, sum_by_more}
-use Rattle.hotel_nights.specs.declared.stay.Stay.{Stay}
-use Rattle.hotel_nights.specs.FullNight.{takes, is_full, nights_taken}
-use Rattle.hotel_nights.specs.Block.{was_taken, begins, ends, one_if}
+use Rattle.std.proofs.lemmas.List.Sums.{sum_by-cons}
+use Rattle.hotel_nights.specs.{declared.stay.Stay.Stay, FullNight.takes, FullNight.is_full, FullNight.nights_taken, Block.was_taken, Block.begins, Block.ends, Block.one_if}
 
 -- what pass `p` and what pass `q` alone are what pass `q` and what pass `p` alone
 both_ways : (p q : Bool) → one_if p + one_if (q && not p) ≡ one_if q + one_if (p && not q)
@@ -23,7 +21,7 @@ count-both {X} p q (x ∷ xs) =
     (four (one_if (p x)) (one_if (q x && not (p x))) (one_if (q x)) (one_if (p x && not (q x))) _ _ _ _ (both_ways (p x) (q x)) (count-both p q xs))
 
 -- one night further: those that end and those that begin
-pub taken-next : (stays : List Stay) (kind : List ℕ) (first after d : ℕ) → d < after
+taken-next : (stays : List Stay) (kind : List ℕ) (first after d : ℕ) → d < after
     → count_by (takes kind d) stays + count_by (ends kind first after d) stays ≡ count_by (was_taken kind first d) stays + count_by (begins kind first after d) stays
 taken-next stays kind first after d h =
     let e : nat_lt d after ≡ true = grind (arith, nat_tests) in
@@ -41,10 +39,21 @@ ends-le-all {X} p q (x ∷ xs) =
     rw (sum_by-cons (λ y. one_if (q y && not (p y))) x xs, sum_by-cons (λ y. one_if (q y)) x xs)
     (let k = ends-le-all p q xs in let m = small (p x) (q x) in omega arith)
 
-pub ends-le : (stays : List Stay) (kind : List ℕ) (first after d : ℕ) → d < after → count_by (ends kind first after d) stays ≤ count_by (was_taken kind first d) stays
+ends-le : (stays : List Stay) (kind : List ℕ) (first after d : ℕ) → d < after → count_by (ends kind first after d) stays ≤ count_by (was_taken kind first d) stays
 ends-le stays kind first after d h =
     let e : nat_lt d after ≡ true = grind (arith, nat_tests) in
     rw e (ends-le-all (takes kind d) (was_taken kind first d) stays)
+
+-- what was taken before a night, less those that end and with those that begin, is what is taken on it
+pub taken_on : (stays : List Stay) (kind : List ℕ) (first after d place taken : ℕ) (ended begun : List ℕ) → d < after → first + place ≡ d → taken ≡ count_by (was_taken kind first d) stays
+    → get_or ended place 0 ≡ count_by (ends kind first after (first + place)) stays → get_or begun place 0 ≡ count_by (begins kind first after (first + place)) stays
+    → (get_or ended place 0 ≤ taken) × (taken - get_or ended place 0 + get_or begun place 0 ≡ count_by (takes kind d) stays)
+taken_on stays kind first after d place taken ended begun lt here was e b =
+    let e' : get_or ended place 0 ≡ count_by (ends kind first after d) stays = rw here at e in
+    let b' : get_or begun place 0 ≡ count_by (begins kind first after d) stays = rw here at b in
+    let le = ends-le stays kind first after d lt in
+    let n = taken-next stays kind first after d lt in
+    (omega arith, omega arith)
 
 -- at the first night of the block nothing was taken
 pub was_taken-first : (stays : List Stay) (kind : List ℕ) (first : ℕ) → count_by (was_taken kind first first) stays ≡ 0
@@ -59,10 +68,6 @@ was_taken-next stays kind first d h =
     let e : nat_lt first (d + 1) ≡ true = grind (arith, nat_tests) in
     let k : d + 1 - 1 ≡ d = omega arith in
     rw (e, k) refl
-
--- a count of one stay more
-pub count-more : (p : Stay → Bool) (stays : List Stay) (i : ℕ) (s : Stay) → i < length stays → s ≡ get_or stays i s → count_by p (take (i + 1) stays) ≡ count_by p (take i stays) + one_if (p s)
-count-more p stays i s h e = sum_by_more (λ y. one_if (p y)) stays i s h ∙ ap (λ x. count_by p (take i stays) + one_if (p x)) (sym e)
 
 zeros-of : (n j : ℕ) → get_or {A = ℕ} (replicate {A = ℕ} n 0) j 0 ≡ 0
 zeros-of zero j = refl

@@ -58,9 +58,6 @@ count-high y m d high civil = rw end_count at (day_count-lt_year (pos y) m d (po
 pub leb-of : {a b : ℕ} → a ≤ b → nat_le a b ≡ true
 leb-of {a} {b} h = grind (arith, nat_tests)
 
-le-of : (a b : ℕ) → nat_le a b ≡ true → a ≤ b
-le-of a b h = grind (arith, nat_tests)
-
 pub is_date-true : (y m d : ℕ) → IsInRange 1 12 m → IsInRange 1 (days_in_month (pos y) m) d → is_date (ymd y m d) ≡ true
 is_date-true y m d hm hd = rw (leb-of hm.0, leb-of hm.1, leb-of hd.0, leb-of hd.1) refl
 

@@ -2,8 +2,7 @@
 use Rattle.std.proofs.Common.{◌≡◌, ℕ, zero, suc, ◌+◌, ◌-◌, ◌<◌, ◌≤◌, Bool, true, false, arith, refl, sym, subst, ◌⊎◌, ◌∙◌, Option, Some, None, nat_lt, nat_le, add-one, inl, inr}
 use Rattle.std.proofs.lemmas.Bool.{cases_Bool}
 use Rattle.std.proofs.lemmas.Bool.Decides.{nat_tests}
-use Rattle.hotel_nights.specs.Days.{day_of_number}
-use Rattle.hotel_nights.specs.FullNight.{first_day, IsFirst}
+use Rattle.hotel_nights.specs.{Days.day_of_number, FullNight.first_day, FullNight.IsFirst}
 
 -- a day that the test refuses is passed over
 pub first_day-more : (test : ℕ → Bool) (d after : ℕ) → d < after → test d ≡ false → first_day test d (after - d) ≡ first_day test (d + 1) (after - (d + 1))

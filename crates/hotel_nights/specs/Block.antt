@@ -1,7 +1,6 @@
 -- Stays that begin or end within a block of nights: those from `first` on and before `after`.
 use Rattle.std.specs.Prelude.{ℕ, Bool, ◌-◌, ◌&&◌, not, cond, List, nat_lt}
-use Rattle.hotel_nights.specs.declared.stay.Stay.{Stay}
-use Rattle.hotel_nights.specs.FullNight.{takes}
+use Rattle.hotel_nights.specs.{declared.stay.Stay.Stay, FullNight.takes}
 
 -- the stay takes the night before `d`, and that night is of the block
 abbrev pub was_taken : List ℕ → ℕ → ℕ → Stay → Bool

@@ -2,8 +2,7 @@
 
 ghost use Rattle.std.specs.Prelude.{◌≡◌, ℕ, ◌≤◌};
 ghost use Rattle.std.specs.Option.{SomeIff};
-ghost use Rattle.keycard_rules.specs.Numerals.{number_up_to};
-ghost use Rattle.keycard_rules.specs.Numbers.{IsNumberUpTo};
+ghost use Rattle.keycard_rules.specs.{Numerals.number_up_to, Numbers.IsNumberUpTo};
 
 use keycard_rules::read_numeral;
 use std::marker::Model;

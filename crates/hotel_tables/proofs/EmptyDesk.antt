@@ -1,5 +1,6 @@
 -- An empty desk is sound, and nothing is counted there.
 use Rattle.std.proofs.Common.{◌≡◌, refl, sym, subst, [], arith}
+use Rattle.std.proofs.lemmas.Bool.{false≢true}
 use Rattle.hotel_core.specs.Model.Rows.{Rows, no_rows}
 use Rattle.hotel_core.specs.Model.Sound.{IsSound}
 use Rattle.hotel_core.proofs.OfNights.NightsStanding.{none_stand}
@@ -40,7 +41,7 @@ none_sound = record {
 }
 
 none_counted : IsCounted [] [] no_rows
-none_counted = record { sound = none_sound; rooms = λ kind. refl; stays = none_stand }
+none_counted = record { sound = none_sound; known = λ kind there. absurd (false≢true there); rooms = λ kind. refl; stays = none_stand }
 
 pub empty_counted : (rows : Rows) → rows ≡ no_rows → IsCounted [] [] rows
 empty_counted rows is = subst (IsCounted [] []) (sym is) none_counted

@@ -1,6 +1,5 @@
 mod Answers
 mod Perm
-mod Refused
 mod Keys
 mod Found
 mod Keeps
@@ -15,6 +14,19 @@ mod Last
 mod NewDesk
 mod EmptyDesk
 mod Statements
+mod Whole
+mod Readings
+mod ReadBack
+mod Naturals
+mod Opened
 mod Made
 mod Ends
+mod Walked
+mod OfWalks
+mod KeptCounts
+mod Applied
 pub mod OfDamage
+mod SameSchema
+mod MemoryDesk
+mod Reread
+mod Reopened

@@ -53,7 +53,8 @@ abbrev head_of : {X : Type 0} → List X → Option X
 head_of [] = None
 head_of (x ∷ xs) = Some x
 
-abbrev stands_at : ℕ → ℕ → ℕ × CodeRow → Bool
+-- the code stands at the place of the room
+abbrev pub stands_at : ℕ → ℕ → ℕ × CodeRow → Bool
 stands_at room place e = eqb e.1.room room && eqb e.1.place place
 
 first_standing : (room place : ℕ) (es : List (ℕ × CodeRow)) → option_map (λ (e : ℕ × CodeRow). e.0) (head_of (filter (stands_at room place) es)) ≡ first_code_at es room place

@@ -8,7 +8,7 @@ use Rattle.sqlite.specs.Command.{Command}
 use Rattle.sqlite.specs.Command.TheVariants.{Select, Rows}
 use Rattle.sqlite.specs.Listing.{understood}
 use Rattle.sqlite_trees.specs.declared.error.StoreError.{StoreError}
-use Rattle.sqlite_trees.specs.declared.error.StoreError.TheVariants.{OutOfMemory, Io, Corrupt, Full, Broken, Unstorable}
+use Rattle.sqlite_trees.specs.declared.error.StoreError.TheVariants.{OutOfMemory}
 use Rattle.sqlite.specs.State.{State, HasCleanDisk, QueriesRow, Shown, Survives, CommitsShowing, FailsToQuery, IsNotRun, FailsToShow, store_error}
 use Rattle.sqlite.specs.declared.error.Error.{Error}
 use Rattle.sqlite.specs.declared.error.Error.TheVariants.{QueryReturnedNoRows}
@@ -31,11 +31,7 @@ not_read command limit db params h = absurd cc
 
 not_store : (cause : StoreError) → QueryReturnedNoRows ≡ store_error cause → ⊥
 not_store OutOfMemory e = absurd cc
-not_store Io e = absurd cc
-not_store Corrupt e = absurd cc
-not_store Full e = absurd cc
-not_store Broken e = absurd cc
-not_store Unstorable e = absurd cc
+not_store _ e = absurd cc
 
 not_failed : (sql : List ℕ) (params : Row) (old new : State) → IsPlain (understood old.now.schema sql) → FailsToQuery sql params old new QueryReturnedNoRows → ⊥
 unfolding FailsToQuery IsNotRun
@@ -64,14 +60,15 @@ module _ (text : List ℕ) (params : Row) (old new : State) (r : Result Row Erro
   opened : HasCleanDisk new → IsTrue new.is_open → IsTrue old.is_open
   opened clean = query_opened text params old new r (runs clean)
 
-  pub look_books : IsBooks new
-  look_books = keeps_books old new _ books mode survives stays opened
-
-  pub look_keeps : KeepsRows old new
+  look_keeps : KeepsRows old new
   look_keeps = keeps_rows old new _ books mode survives stays opened
 
-  pub look_crash : Survives old new (λ _. IsKept old → ⊥)
-  look_crash = survives_weaker old new _ _ (λ _ db commits kept. never_commits text params old db (plain_in text asked.0 old asked.1 (books.desk kept)) commits) survives
+  pub looked : IsBooks new × KeepsRows old new × Survives old new (λ _. IsKept old → ⊥)
+  looked = (
+    keeps_books old new _ books mode survives stays opened,
+    look_keeps,
+    survives_weaker old new _ _ (λ _ db commits kept. never_commits text params old db (plain_in text asked.0 old asked.1 (books.desk kept)) commits) survives,
+  )
 
   pub look_found : {A : Type 0} (out : Row → A) (row : Row) (x : A) → r ≡ Ok row → x ≡ out row → IsKept new → (q : Query) → Asks text q
       → AnswersFirst out q params old.now.trees (Some x)

@@ -8,7 +8,9 @@ pub mod Making
 pub mod LookUps
 pub mod Steps
 pub mod Applied
+pub mod Counted
 pub mod TableBooks
+pub mod Walks
 pub mod Stored
 pub mod Keys
 pub mod Places
@@ -18,3 +20,7 @@ pub mod Placed
 pub mod NoteRuns
 pub mod Lasts
 pub mod Owners
+pub mod Lines
+pub mod Opening
+pub mod SameSchema
+pub mod Reopening

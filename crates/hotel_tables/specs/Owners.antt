@@ -1,12 +1,11 @@
 -- Whose the cards of a link are.
-use Rattle.std.specs.Prelude.{ℕ, ◌≡◌, ◌==◌, Bool, List, [], ◌∷◌, Option, Some, None, if◌then◌else◌}
+use Rattle.std.specs.Prelude.{ℕ, ◌≡◌, Bool, List, [], ◌∷◌, Option, Some, None, if◌then◌else◌}
 use Rattle.std.specs.BTreeMap.{is_at}
 use Rattle.std.specs.Map.{lookup}
 use Rattle.keycard_rules.specs.declared.card.Link.{Link}
 use Rattle.hotel_core.specs.Model.Words.{pair_cmp, is_that}
 use Rattle.hotel_core.specs.Model.Notes.{same_link}
 use Rattle.hotel_tables.specs.declared.stored.CardLine.{CardLine}
-use Rattle.hotel_tables.specs.declared.stored.Stored.{Stored}
 use Rattle.hotel_tables.specs.Stored.{number_of, link_row}
 
 -- the party of the first card of a link

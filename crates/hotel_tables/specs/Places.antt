@@ -1,5 +1,5 @@
 -- Where stored rows stand.
-use Rattle.std.specs.Prelude.{List, map}
+use Rattle.std.specs.Prelude.{map}
 use Rattle.hotel_tables.specs.declared.stored.Stored.{Stored}
 use Rattle.hotel_tables.specs.declared.damage.found.Places.{Places}
 use Rattle.hotel_tables.specs.Keys.{Finds, room_key, stay_key, code_key, card_key}

@@ -1,5 +1,5 @@
 -- What is tested of each row by itself.
-use Rattle.std.specs.Prelude.{ℕ, ◌≡◌, ◌+◌, ◌-◌, ◌^◌, Bool, true, false, List, Option, Some, None, ◌==◌, ◌&&◌, ◌||◌, not, nat_le, nat_lt, is_some, length, bytes_eq, string_bytes, option_map}
+use Rattle.std.specs.Prelude.{ℕ, ◌≡◌, ◌+◌, ◌-◌, ◌^◌, Bool, true, List, ◌==◌, ◌&&◌, ◌||◌, not, nat_le, nat_lt, is_some, length, bytes_eq, string_bytes, option_map}
 use Rattle.std.specs.List.{list_all, list_any, count_by}
 use Rattle.hotel_nights.specs.FullNight.{takes}
 use Rattle.std.specs.Ordering.{nat_cmp}
@@ -11,7 +11,7 @@ use Rattle.hotel_nights.specs.declared.stay.Stay.{Stay}
 use Rattle.hotel_nights.specs.Guests.{is_guest}
 use Rattle.hotel_core.specs.declared.books.rows.RoomRow.{RoomRow}
 use Rattle.hotel_core.specs.declared.books.rows.CodeRow.{CodeRow}
-use Rattle.hotel_core.specs.Model.Words.{said_of, is_that}
+use Rattle.hotel_core.specs.Model.Words.{said_of}
 use Rattle.hotel_core.specs.Model.Rows.{Rows, has_kind, at_number}
 use Rattle.hotel_core.specs.Model.Cases.{room_of_state}
 use Rattle.hotel_core.specs.Model.SoundRooms.{is_home_of, is_day, has_party}

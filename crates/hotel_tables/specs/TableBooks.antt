@@ -1,16 +1,16 @@
 -- What books over tables are for their contracts, and what they keep true.
-use Rattle.std.specs.Prelude.{◌≡◌, ℕ, List, refl}
+use Rattle.std.specs.Prelude.{◌≡◌, ℕ, true, List, refl}
 use Rattle.std.specs.Coded.{Coded, code_by, coded×, coded_ℕ, coded_list}
 use Rattle.std.specs.Map.{values_of}
 use Rattle.sqlite.specs.Held.{Held, held_code}
 use Rattle.sqlite.specs.State.{State}
 use Rattle.keycard_rules.specs.declared.issued.LookFault.{LookFault}
 use Rattle.keycard_rules.specs.declared.issued.LookFault.TheVariants.{Memory, Store}
-use Rattle.hotel_core.specs.Model.Rows.{Rows}
+use Rattle.hotel_core.specs.Model.Rows.{Rows, has_kind}
 use Rattle.hotel_core.specs.Model.Sound.{IsSound}
 use Rattle.hotel_core.specs.Books.Lookups.{rooms_of_kind}
 use Rattle.hotel_core.specs.NightIndex.{StandsFor}
-use Rattle.hotel_core.specs.KindRooms.{rooms_in}
+use Rattle.hotel_core.specs.KindRooms.{is_there, rooms_in}
 use Rattle.hotel_tables.specs.Tables.{rows_in}
 use Rattle.hotel_tables.specs.Books.{IsKept, IsBooks}
 
@@ -36,9 +36,10 @@ abbrev pub failed : {S : Type 0} → Tabled S → LookFault → ℕ
 failed b Memory = b.memory
 failed b Store = b.store
 
--- The counts are those of the rows, and the rows are sound.
+-- The counts are those of the rows, and the rows are sound. A kind that could not be added may be known with no rooms.
 pub record IsCounted (kinds : List (List ℕ × ℕ)) (nights : List ((List ℕ × ℕ) × List ℕ)) (rows : Rows) : Type 0 where
   pub sound : IsSound rows
+  pub known : (kind : List ℕ) → has_kind rows kind ≡ true → is_there kinds kind ≡ true
   pub rooms : (kind : List ℕ) → rooms_in kinds kind ≡ rooms_of_kind rows kind
   pub stays : StandsFor nights (values_of rows.stays)
 

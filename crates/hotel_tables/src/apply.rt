@@ -1,11 +1,14 @@
 //! A change of the books over the connection, one transaction.
-ghost use Rattle.std.specs.Prelude.{◌≡◌, ◌<◌, ◌-◌, ◌^◌, OnOk, OnErr, IfOk};
+ghost use Rattle.std.specs.Prelude.{◌≡◌, ◌<◌, ◌-◌, ◌^◌, OnOk, OnErr, IfOk, IfSome, IsSome};
 ghost use Rattle.sqlite.specs.Held.{state};
+ghost use Rattle.sqlite.specs.State.{Survives};
 ghost use Rattle.hotel_core.specs.Books.Change.{made};
 ghost use Rattle.hotel_core.specs.Books.Fits.{HasItsRows};
 ghost use Rattle.hotel_tables.specs.Tables.{rows_in};
-ghost use Rattle.hotel_tables.specs.Books.{IsBooks, IsKept, KeepsRows};
-ghost use Rattle.hotel_tables.specs.Applied.{HasCodes};
+ghost use Rattle.hotel_tables.specs.Books.{IsBooks, IsKept};
+ghost use Rattle.hotel_tables.specs.Steps.{IsMadeOf};
+ghost use Rattle.hotel_tables.specs.LookUps.{Looks};
+ghost use Rattle.hotel_tables.specs.Applied.{HasCodes, codes_for, Applies};
 
 use crate::changes::{add_kind, add_room, add_spare, add_stay, cancel_stay, end_stay, set_the_day};
 use crate::from_row::fault_of;
@@ -27,6 +30,7 @@ fn make_change<S: Alter>(conn: &mut Connection<S>, change: &Change, codes: u32) 
     ensures was { IsKept (state S.Store conn.new) → IsKept (state S.Store conn.old) }
     ensures made { IsKept (state S.Store conn.new) → OnOk result (rows_in (state S.Store conn.new).now.trees ≡ made change.now (rows_in (state S.Store conn.old).now.trees)) }
     ensures same { IsKept (state S.Store conn.new) → OnErr result ((state S.Store conn.new).now ≡ (state S.Store conn.old).now) }
+    ensures crash { Survives (state S.Store conn.old) (state S.Store conn.new) (IsMadeOf (made change.now) (state S.Store conn.old).now.trees) }
 {
     match change {
         Change::Begin(day) => set_the_day(conn, *day),
@@ -48,27 +52,31 @@ fn make_change<S: Alter>(conn: &mut Connection<S>, change: &Change, codes: u32) 
 }
 
 /// How many codes stand at the room of an issue; 0 for another change.
+///
+/// None where the room isn't there or no more codes can be counted, which is so of no issue that fits.
 fn codes_for<S: Alter>(
     alloc: Global,
     conn: &mut Connection<S>,
     change: &Change,
-) -> Result<u32, LookFault>
+) -> Result<Option<u32>, LookFault>
     requires books { IsBooks (state S.Store conn.old) }
-    ensures books { IsBooks (state S.Store conn.new) }
-    ensures keeps { KeepsRows (state S.Store conn.old) (state S.Store conn.new) }
-    ensures more { IfOk result (λ codes. codes < 2 ^ 32 - 1) }
-    ensures counted { IsKept (state S.Store conn.new) → IfOk result (λ codes. HasCodes change.now codes (rows_in (state S.Store conn.old).now.trees)) }
+    requires fits { IsKept (state S.Store conn.old) → HasItsRows change.now (rows_in (state S.Store conn.old).now.trees) }
+    ensures looks { Looks (λ a. a) (codes_for change.now) (state S.Store conn.old) (state S.Store conn.new) result }
+    ensures more { IfOk result (λ codes. IfSome codes (λ n. n < 2 ^ 32 - 1)) }
+    ensures there { IsKept (state S.Store conn.new) → IfOk result IsSome }
 {
     let Change::Issue { room, .. } = change else {
-        return Ok(0);
+        return Ok(Some(0));
     };
     match look_ups::room(alloc, conn, *room)? {
-        Some(row) if row.codes < u32::MAX => Ok(row.codes),
-        _ => Err(LookFault::Store),
+        Some(row) if row.codes < u32::MAX => Ok(Some(row.codes)),
+        _ => Ok(None),
     }
 }
 
-/// Makes all of a change, or nothing.
+/// Makes all of a change, or nothing, also where a crash comes in it.
+///
+/// A change that fits has its codes; Store is answered where they can't be had, which only a failure of the store can bring about.
 pub(crate) fn apply_change<S: Alter>(
     alloc: Global,
     conn: &mut Connection<S>,
@@ -76,12 +84,11 @@ pub(crate) fn apply_change<S: Alter>(
 ) -> Result<(), LookFault>
     requires books { IsBooks (state S.Store conn.old) }
     requires fits { IsKept (state S.Store conn.old) → HasItsRows change.now (rows_in (state S.Store conn.old).now.trees) }
-    ensures books { IsBooks (state S.Store conn.new) }
-    ensures was { IsKept (state S.Store conn.new) → IsKept (state S.Store conn.old) }
-    ensures made { IsKept (state S.Store conn.new) → OnOk result (rows_in (state S.Store conn.new).now.trees ≡ made change.now (rows_in (state S.Store conn.old).now.trees)) }
-    ensures same { IsKept (state S.Store conn.new) → OnErr result ((state S.Store conn.new).now ≡ (state S.Store conn.old).now) }
+    ensures { Applies change.now (state S.Store conn.old) (state S.Store conn.new) result }
 {
-    let codes = codes_for(alloc, conn, change)?;
+    let Some(codes) = codes_for(alloc, conn, change)? else {
+        return Err(LookFault::Store);
+    };
     match make_change(conn, change, codes) {
         Ok(()) => Ok(()),
         Err(error) => Err(fault_of(error)),

@@ -13,7 +13,7 @@ mod links;
 mod nights;
 mod note_runs;
 mod notes;
-mod numbers;
+pub(crate) mod numbers;
 mod owners;
 mod placed;
 mod rooms;

@@ -4,6 +4,8 @@ ghost use Rattle.sqlite.specs.Order.{Row as SqlRow, column};
 ghost use Rattle.hotel_tables.specs.Values.{number_of, option_of, text_of};
 ghost use Rattle.hotel_tables.specs.Columns.{room_row_of, stay_row_of, code_row_of, card_row_of, note_row_of, state_of, act_of};
 
+pub(crate) mod list_rows;
+
 use hotel_core::{CodeRow, RoomRow};
 use hotel_nights::{Day, Guest, GuestFault, KindCode, Stay, StayState};
 use keycard_rules::{Act, Card, Code, Link, LockNote, LookFault, Number};

@@ -3,21 +3,33 @@
 
 mod apply;
 mod changes;
+mod counted;
+mod counting;
 mod create;
 mod damage;
+mod desk_schema;
 mod from_row;
 mod issue;
+mod laws;
+mod lines;
 mod look;
 mod look_ups;
 mod noting;
 mod number;
+mod open_books;
 mod open_fault;
+mod opening;
+mod reading;
+mod same_schema;
 mod steps;
 mod stored;
 mod table_books;
 mod texts;
+mod walk;
+mod walks;
 
 pub use damage::{first_damaged, undamaged_is_sound};
+pub use laws::{files_are_clean, files_keep_books, memory_is_clean, read_undamaged};
 pub use open_fault::OpenFault;
 pub use stored::{
     CardLine, CodeLine, InsideLine, KindLine, NoteLine, RoomLine, StayLine, Stored, TableName,

@@ -1,4 +1,6 @@
 //! Why books can't be had over a connection.
+use crate::stored::TableName;
+
 /// Why a connection gives no books.
 #[derive(Clone, Copy, Debug, PartialEq, Eq)]
 pub enum OpenFault {
@@ -8,4 +10,6 @@ pub enum OpenFault {
     Store,
     /// The database isn't a desk's; or, for a new desk, it isn't empty.
     NotADesk,
+    /// A rule fails of this table, and of none before it.
+    Damaged(TableName),
 }

@@ -13,6 +13,10 @@ ghost use Rattle.hotel_tables.specs.Books.{IsKept};
 ghost use Rattle.hotel_tables.specs.Tables.{rows_in};
 ghost use Rattle.hotel_tables.specs.TableBooks.{failed};
 
+mod books;
+mod changing;
+mod walks;
+
 use crate::create::make_desk;
 use crate::from_row::fault_of;
 use crate::look_ups;

@@ -195,7 +195,7 @@ fn first_cause_of_several(rt: HostRuntime) -> Result<(), Fail> {
 }
 
 /// A header and one line, of so many bytes in all.
-fn long_line(alloc: Global, bytes: usize) -> Result<Vec<u8>, Fail> {
+pub(crate) fn long_line(alloc: Global, bytes: usize) -> Result<Vec<u8>, Fail> {
     let mut text = b"room,count,kind,card,old,new,at\n".to_vec(alloc)?;
     text.resize(bytes, b'x')?;
     Ok(text)

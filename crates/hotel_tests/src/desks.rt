@@ -1,5 +1,5 @@
-//! A desk over books in memory, for the tests of books, lists and imports.
-use hotel_core::{Command, ListBooks, Reply, step};
+//! A desk over books, for the tests of books, lists, imports and tables.
+use hotel_core::{Books, Command, ListBooks, Reply, step};
 use hotel_nights::{Day, Guest, KindCode, Nights};
 use keycard_rules::{Act, CardNo, Code, Count, Link, ListedWords, LockNote, PartyNo, RoomNo};
 use std::alloc::Global;
@@ -11,11 +11,11 @@ pub(crate) const FIRST_DAY: u16 = 11_443;
 /// 15:00:00.
 pub(crate) const AFTERNOON: u32 = 54_000;
 
-/// A desk over books in memory.
+/// A desk over books, which are in memory where nothing else is said.
 #[derive(Drop)]
-pub(crate) struct Desk {
+pub(crate) struct Desk<B = ListBooks> {
     pub alloc: Global,
-    pub books: ListBooks,
+    pub books: B,
     pub source: ListedWords,
 }
 
@@ -88,12 +88,7 @@ pub(crate) fn words_of(alloc: Global, codes: &[u64]) -> Result<Vec<u64>, Fail> {
 impl Desk {
     /// A desk whose source gives these codes.
     pub fn of_codes(alloc: Global, codes: &[u64]) -> Result<Desk, Fail> {
-        let source = ListedWords::new(words_of(alloc, codes)?).ok_or("no words")?;
-        Ok(Desk {
-            alloc,
-            books: ListBooks::empty(alloc),
-            source,
-        })
+        Desk::over(alloc, ListBooks::empty(alloc), codes)
     }
 
     /// A desk that has begun, with rooms of one kind, whose source gives these codes.
@@ -115,6 +110,21 @@ impl Desk {
         let mut desk = Desk::of_one_guest(alloc)?;
         desk.has_a_next_guest()?;
         Ok(desk)
+    }
+}
+
+impl<B: Books> Desk<B> {
+    /// A desk over empty books, whose source gives these codes.
+    pub fn over(alloc: Global, books: B, codes: &[u64]) -> Result<Desk<B>, Fail>
+    where
+        B: Drop,
+    {
+        let source = ListedWords::new(words_of(alloc, codes)?).ok_or("no words")?;
+        Ok(Desk {
+            alloc,
+            books,
+            source,
+        })
     }
 
     /// Begins, with rooms of one kind.
@@ -175,7 +185,7 @@ impl Desk {
     }
 
     /// Party 1 checks in at room 101.
-    fn has_a_guest(&mut self) -> Result<(), Fail> {
+    pub fn has_a_guest(&mut self) -> Result<(), Fail> {
         self.reserve("Ann Lee", FIRST_DAY, 2)?;
         self.check_in(1, 101)
     }
@@ -194,10 +204,26 @@ impl Desk {
         self.takes(entered(101, 2, 1, 0xa0, 0xa1)?)
     }
 
+    /// Then it leaves, and the next guest's card enters.
+    pub fn is_entered_by_the_next(&mut self) -> Result<(), Fail> {
+        self.enters_twice()?;
+        self.takes(left(101, 3, 1, 0xa0, 0xa1)?)?;
+        self.has_a_next_guest()?;
+        self.takes(entered(101, 4, 2, 0xa1, 0xa2)?)
+    }
+
     /// A guest leaves who never entered room 101, and the next one checks in.
     pub fn leaves_behind(&mut self) -> Result<(), Fail> {
         self.has_a_guest()?;
         self.has_a_next_guest()
+    }
+
+    /// Then staff recode the lock to the newest code, and its card enters.
+    pub fn is_recoded(&mut self) -> Result<(), Fail> {
+        let from = code(0xa0)?;
+        let to = code(0xa2)?;
+        self.takes(note(101, 1, Act::Recoded { from, to }, AFTERNOON)?)?;
+        self.takes(entered(101, 2, 2, 0xa1, 0xa2)?)
     }
 
     /// A party goes to another room, and comes back to room 101, where another one was.

@@ -27,7 +27,7 @@ const OTHER_CONTENT: &[u8] = b"room,count,kind,card,old,new,at
 101,3,in,1,0000000000a0,0000000000a1,2031-05-01T15:00:01
 ";
 
-const FIRST_ENTRY: &[u8] = b"room,count,kind,card,old,new,at
+pub(crate) const FIRST_ENTRY: &[u8] = b"room,count,kind,card,old,new,at
 101,1,in,1,0000000000a0,0000000000a1,2031-05-01T15:00:00
 ";
 
@@ -263,7 +263,11 @@ fn is_none_and_nothing(
 }
 
 /// The bytes are no audit file at a desk of one guest.
-fn is_no_file(rt: &(impl Abort + AllocGlobal), file: &[u8], why: AuditFault) -> Result<(), Fail> {
+pub(crate) fn is_no_file(
+    rt: &(impl Abort + AllocGlobal),
+    file: &[u8],
+    why: AuditFault,
+) -> Result<(), Fail> {
     let mut desk = Desk::of_one_guest(rt.alloc())?;
     is_none_and_nothing(rt, &mut desk.books, file, why)
 }
@@ -372,25 +376,25 @@ fn four_thousand_lines(rt: HostRuntime) -> Result<(), Fail> {
 }
 
 /// What the books say of the room after the whole file of `audit-bytes`.
-fn after_the_whole(alloc: Global) -> Result<RoomNow, Fail> {
+pub(crate) fn after_the_whole(alloc: Global) -> Result<RoomNow, Fail> {
     let mut desk = Desk::of_one_guest(alloc)?;
     answers_to(alloc, &mut desk.books, CUT_LAST_LINE)?;
     RoomNow::of(alloc, &mut desk.books)
 }
 
-/// A front of the file is answered so, and then the whole file so. The room is then as it is where the whole file is sent
+/// A cut or damaged file is answered so, and then the whole file so. The room is then as it is where the whole file is sent
 /// once.
-fn is_cut(
+pub(crate) fn before_the_whole(
     rt: &(impl Abort + AllocGlobal),
     books: &mut ListBooks,
     once: &RoomNow,
-    front: &[u8],
+    file: &[u8],
     answers: &[u8],
     whole: &[u8],
 ) -> Result<(), Fail> {
-    answers_are(rt, books, front, answers, "cut")?;
-    answers_are(rt, books, CUT_LAST_LINE, whole, "cut, then whole")?;
-    room_is(rt, books, once, "cut, then whole")
+    answers_are(rt, books, file, answers, "cut or damaged")?;
+    answers_are(rt, books, CUT_LAST_LINE, whole, "then whole")?;
+    room_is(rt, books, once, "then whole")
 }
 
 /// The file cut before each of these bytes, at a desk of its own.
@@ -404,7 +408,7 @@ fn are_cut(
     for cut in cuts {
         let mut desk = Desk::of_one_guest(rt.alloc())?;
         let front = CUT_LAST_LINE.get(..cut).ok_or("cut behind its end")?;
-        is_cut(rt, &mut desk.books, once, front, answers, whole)?;
+        before_the_whole(rt, &mut desk.books, once, front, answers, whole)?;
     }
     Ok(())
 }

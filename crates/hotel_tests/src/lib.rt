@@ -6,9 +6,17 @@ mod audit_files;
 #[cfg(test)]
 mod codes;
 #[cfg(test)]
+mod damage;
+#[cfg(test)]
+mod damaged_files;
+#[cfg(test)]
+mod damaged_requests;
+#[cfg(test)]
 mod damaged_rows;
 #[cfg(test)]
 mod desks;
+#[cfg(test)]
+mod failing_requests;
 #[cfg(test)]
 mod failing_walks;
 #[cfg(test)]
@@ -22,13 +30,27 @@ mod new_desk;
 #[cfg(test)]
 mod reads_and_writes;
 #[cfg(test)]
+mod request_limits;
+#[cfg(test)]
 mod requests;
 #[cfg(test)]
 mod rooms_now;
 #[cfg(test)]
+mod stopped_disks;
+#[cfg(test)]
 mod stopped_imports;
 #[cfg(test)]
+mod stopped_scripts;
+#[cfg(test)]
+mod stopped_stores;
+#[cfg(test)]
 mod stopping;
+#[cfg(test)]
+mod store_stops;
+#[cfg(test)]
+mod stored_rows;
+#[cfg(test)]
+mod tables;
 #[cfg(test)]
 mod values;
 #[cfg(test)]

@@ -1,9 +1,9 @@
 //! The lists of the scenarios, over books in memory.
-use crate::desks::{AFTERNOON, Desk, FIRST_DAY, code, day, entered, note, room};
+use crate::desks::{Desk, FIRST_DAY, day, room};
 use hotel_core::{ChainRow, Command, Sink, Stop, WalkFault, Walks};
 use hotel_lists::{FakeWriter, ListFault, arrivals, audit_of, chain_of, in_house, left_behind};
 use hotel_nights::{Day, KindCode};
-use keycard_rules::{Act, RoomNo};
+use keycard_rules::RoomNo;
 use std::alloc::Global;
 use std::io::{Cursor, Write};
 use std::process::Abort;
@@ -24,21 +24,25 @@ fn left_behind_desk(alloc: Global) -> Result<Desk, Fail> {
 }
 
 /// The list of room 101's codes reads so.
-fn chain_reads(rt: &(impl Abort + AllocGlobal), desk: &mut Desk, text: &[u8]) -> Result<(), Fail> {
+pub(crate) fn chain_reads<B: Walks>(
+    rt: &(impl Abort + AllocGlobal),
+    books: &mut B,
+    text: &[u8],
+) -> Result<(), Fail> {
     let room = room(101)?;
     let mut writer = FakeWriter::new(rt.alloc());
-    chain_of(rt.alloc(), &mut desk.books, room, &mut writer)?;
+    chain_of(rt.alloc(), books, room, &mut writer)?;
     assert_eq!(rt; writer.written(), text);
     Ok(())
 }
 
+/// Of scenario `two-entries`, the codes of room 101.
+pub(crate) const TWO_CODES: &[u8] =
+    b"place,code,state\n0,0000000000a0,passed\n1,0000000000a1,held\n";
+
 #[test]
 fn two_entries_chain(rt: HostRuntime) -> Result<(), Fail> {
-    chain_reads(
-        &rt,
-        &mut two_entries(rt.alloc())?,
-        b"place,code,state\n0,0000000000a0,passed\n1,0000000000a1,held\n",
-    )
+    chain_reads(&rt, &mut two_entries(rt.alloc())?.books, TWO_CODES)
 }
 
 /// The list of the rooms in house reads so.
@@ -165,9 +169,9 @@ impl Sink<ChainRow> for Taker {
 }
 
 /// A walk over the codes of room 101, of which its sink takes so many, ends so.
-fn walk_ends(
+fn walk_ends<B: Walks>(
     rt: &(impl Abort + AllocGlobal),
-    desk: &mut Desk,
+    books: &mut B,
     most: usize,
     end: Result<(), WalkFault>,
     places: &[u32],
@@ -177,21 +181,24 @@ fn walk_ends(
         places: Vec::new(rt.alloc()),
         most,
     };
-    let ended = desk.books.walk_chain(room, &mut taker);
+    let ended = books.walk_chain(room, &mut taker);
     assert_eq!(rt; ended, end);
     assert_eq!(rt; taker.places.as_slice(), places);
     Ok(())
 }
 
 /// Walks over three codes, by a sink that takes two and by one that takes three.
-fn walks_end(rt: &(impl Abort + AllocGlobal), desk: &mut Desk) -> Result<(), Fail> {
-    walk_ends(rt, desk, 2, Err(WalkFault::Stopped), &[0, 1])?;
-    walk_ends(rt, desk, 3, Ok(()), &[0, 1, 2])
+pub(crate) fn walks_end<B: Walks>(
+    rt: &(impl Abort + AllocGlobal),
+    books: &mut B,
+) -> Result<(), Fail> {
+    walk_ends(rt, books, 2, Err(WalkFault::Stopped), &[0, 1])?;
+    walk_ends(rt, books, 3, Ok(()), &[0, 1, 2])
 }
 
 #[test]
 fn a_walk_ends_where_its_sink_stops(rt: HostRuntime) -> Result<(), Fail> {
-    walks_end(&rt, &mut left_behind_desk(rt.alloc())?)
+    walks_end(&rt, &mut left_behind_desk(rt.alloc())?.books)
 }
 
 /// Of scenario `desk-day`, the second day's arrivals.
@@ -226,14 +233,6 @@ impl Desk {
         self.reserve("Bo", FIRST_DAY + 1, 1)?;
         self.check_in(1, 101)?;
         self.does(&Command::NextDay)
-    }
-
-    /// The recoding of scenario `left-behind-recoded`, and the entry after it.
-    fn is_recoded(&mut self) -> Result<(), Fail> {
-        let from = code(0xa0)?;
-        let to = code(0xa2)?;
-        self.takes(note(101, 1, Act::Recoded { from, to }, AFTERNOON)?)?;
-        self.takes(entered(101, 2, 2, 0xa1, 0xa2)?)
     }
 }
 

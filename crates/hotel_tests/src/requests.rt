@@ -10,7 +10,7 @@ use std::process::Abort;
 use std::test::Fail;
 
 /// The desk answers the reader's request to the writer.
-fn serve(
+pub(crate) fn serve(
     desk: &mut Desk,
     reader: &mut FakeReader<'_>,
     writer: &mut FakeWriter,
@@ -25,26 +25,26 @@ fn serve(
 }
 
 /// A desk with empty books, whose source gives the codes a0, a1 and a2.
-fn empty_desk(alloc: Global) -> Result<Desk, Fail> {
+pub(crate) fn empty_desk(alloc: Global) -> Result<Desk, Fail> {
     Desk::of_codes(alloc, &[0xa0, 0xa1, 0xa2])
 }
 
 /// A request by the route's path, and the answer's status line and body.
 #[derive(Clone, Copy)]
-struct Exchange {
+pub(crate) struct Exchange {
     /// The method and the target.
-    request: &'static str,
-    form: &'static str,
-    status: &'static str,
-    body: &'static str,
+    pub request: &'static str,
+    pub form: &'static str,
+    pub status: &'static str,
+    pub body: &'static str,
 }
 
-const DONE: &str = "200 OK";
+pub(crate) const DONE: &str = "200 OK";
 
-const REFUSED: &str = "409 Conflict";
+pub(crate) const REFUSED: &str = "409 Conflict";
 
 /// The commands that the scenarios begin with.
-const OPENING: &[Exchange] = &[
+pub(crate) const OPENING: &[Exchange] = &[
     Exchange {
         request: "POST /begin",
         form: "day=2031-05-01",
@@ -72,9 +72,41 @@ const OPENING: &[Exchange] = &[
 ];
 
 /// Two notes of the room, as an audit file and as the list of its notes.
-const NOTES: &str = "room,count,kind,card,old,new,at\n\
+pub(crate) const NOTES: &str = "room,count,kind,card,old,new,at\n\
 101,1,in,1,0000000000a0,0000000000a1,2031-05-01T15:00:00\n\
 101,2,out,1,0000000000a0,0000000000a1,2031-05-01T16:00:00\n";
+
+/// A spare card.
+pub(crate) const SPARE: Exchange = Exchange {
+    request: "POST /reservations/1/spare",
+    form: "",
+    status: DONE,
+    body: "card 2 party 1 old 0000000000a0 new 0000000000a1\n",
+};
+
+/// The notes, which are new.
+pub(crate) const TAKEN: Exchange = Exchange {
+    request: "POST /audit",
+    form: NOTES,
+    status: DONE,
+    body: "1 taken\n2 taken\n",
+};
+
+/// The same notes again.
+pub(crate) const SEEN: Exchange = Exchange {
+    request: "POST /audit",
+    form: NOTES,
+    status: DONE,
+    body: "1 seen\n2 seen\n",
+};
+
+/// The list of the guests in house, after these notes.
+pub(crate) const IN_HOUSE: Exchange = Exchange {
+    request: "GET /in-house",
+    form: "",
+    status: DONE,
+    body: "room,party,guest,kind,depart,secured\n101,1,Ann Lee,DBL,2031-05-03,yes\n",
+};
 
 /// Each further route, accepted and refused.
 const DAY: &[Exchange] = &[
@@ -90,24 +122,9 @@ const DAY: &[Exchange] = &[
         status: DONE,
         body: "card 1 party 1 old 0000000000a0 new 0000000000a1\n",
     },
-    Exchange {
-        request: "POST /reservations/1/spare",
-        form: "",
-        status: DONE,
-        body: "card 2 party 1 old 0000000000a0 new 0000000000a1\n",
-    },
-    Exchange {
-        request: "POST /audit",
-        form: NOTES,
-        status: DONE,
-        body: "1 taken\n2 taken\n",
-    },
-    Exchange {
-        request: "POST /audit",
-        form: NOTES,
-        status: DONE,
-        body: "1 seen\n2 seen\n",
-    },
+    SPARE,
+    TAKEN,
+    SEEN,
     Exchange {
         request: "POST /audit",
         form: "",
@@ -132,12 +149,7 @@ const DAY: &[Exchange] = &[
         status: DONE,
         body: "place,code,state\n0,0000000000a0,passed\n1,0000000000a1,held\n",
     },
-    Exchange {
-        request: "GET /in-house",
-        form: "",
-        status: DONE,
-        body: "room,party,guest,kind,depart,secured\n101,1,Ann Lee,DBL,2031-05-03,yes\n",
-    },
+    IN_HOUSE,
     Exchange {
         request: "GET /left-behind",
         form: "",
@@ -238,7 +250,7 @@ fn media_of(exchange: &Exchange) -> &'static str {
 }
 
 /// The bytes of the request.
-fn request_of(alloc: Global, exchange: &Exchange) -> Result<String, Fail> {
+pub(crate) fn request_of(alloc: Global, exchange: &Exchange) -> Result<String, Fail> {
     let (request, form) = (exchange.request, exchange.form);
     let size = form.len();
     Ok(format!(in alloc;
@@ -247,7 +259,7 @@ fn request_of(alloc: Global, exchange: &Exchange) -> Result<String, Fail> {
 }
 
 /// The bytes of the answer.
-fn answer_of(alloc: Global, exchange: &Exchange) -> Result<String, Fail> {
+pub(crate) fn answer_of(alloc: Global, exchange: &Exchange) -> Result<String, Fail> {
     let (status, media, body) = (exchange.status, media_of(exchange), exchange.body);
     let size = body.len();
     Ok(format!(in alloc;
@@ -256,7 +268,7 @@ fn answer_of(alloc: Global, exchange: &Exchange) -> Result<String, Fail> {
 }
 
 /// The desk answers these bytes so, read in pieces.
-fn answers_so<R: Abort + AllocGlobal>(
+pub(crate) fn answers_so<R: Abort + AllocGlobal>(
     rt: &R,
     desk: &mut Desk,
     piece: usize,
@@ -273,7 +285,7 @@ fn answers_so<R: Abort + AllocGlobal>(
 }
 
 /// The desk answers the exchange, read in pieces.
-fn exchange_goes<R: Abort + AllocGlobal>(
+pub(crate) fn exchange_goes<R: Abort + AllocGlobal>(
     rt: &R,
     desk: &mut Desk,
     piece: usize,
@@ -288,7 +300,7 @@ fn exchange_goes<R: Abort + AllocGlobal>(
 }
 
 /// The desk answers the exchanges, one after the other.
-fn exchanges_go<R: Abort + AllocGlobal>(
+pub(crate) fn exchanges_go<R: Abort + AllocGlobal>(
     rt: &R,
     desk: &mut Desk,
     piece: usize,
@@ -320,13 +332,21 @@ fn each_route_byte_by_byte(rt: HostRuntime) -> Result<(), Fail> {
 
 /// A request of the scenarios, and its answer; both byte for byte.
 #[derive(Clone, Copy)]
-struct Scene {
-    request: &'static [u8],
-    answer: &'static [u8],
+pub(crate) struct Scene {
+    pub request: &'static [u8],
+    pub answer: &'static [u8],
 }
 
+/// The answer to a head or a body that is malformed or cut.
+pub(crate) const BAD_REQUEST: &[u8] =
+    b"HTTP/1.1 400 Bad Request\r\nContent-Type: text/plain; charset=utf-8\r\nContent-Length: 12\r\nConnection: close\r\n\r\nbad request\n";
+
+/// The answer where a value isn't read.
+pub(crate) const UNREAD_VALUE: &[u8] =
+    b"HTTP/1.1 400 Bad Request\r\nContent-Type: text/plain; charset=utf-8\r\nContent-Length: 7\r\nConnection: close\r\n\r\nunread\n";
+
 /// A check-in, and its answer.
-const CHECK_IN: Scene = Scene {
+pub(crate) const CHECK_IN: Scene = Scene {
     request: b"POST /reservations/1/check-in HTTP/1.1\r\nHost: localhost\r\nContent-Length: 8\r\n\r\nroom=101",
     answer: b"HTTP/1.1 200 OK\r\nContent-Type: text/plain; charset=utf-8\r\nContent-Length: 49\r\nConnection: close\r\n\r\ncard 1 party 1 old 0000000000a0 new 0000000000a1\n",
 };
@@ -335,7 +355,7 @@ const CHECK_IN: Scene = Scene {
 const SCENES: &[Scene] = &[
     Scene {
         request: b"POST /reservations/1/check-in HTTP/1.1\r\nHost: localhost\r\nContent-Length: 8\r\n\r\nroom",
-        answer: b"HTTP/1.1 400 Bad Request\r\nContent-Type: text/plain; charset=utf-8\r\nContent-Length: 12\r\nConnection: close\r\n\r\nbad request\n",
+        answer: BAD_REQUEST,
     },
     Scene {
         request: b"GET /next-day HTTP/1.1\r\nHost: localhost\r\n\r\n",
@@ -343,11 +363,11 @@ const SCENES: &[Scene] = &[
     },
     Scene {
         request: b"POST /reservations/1/check-in HTTP/1.1\r\nHost: localhost\r\nHost: localhost\r\nContent-Length: 8\r\n\r\nroom=101",
-        answer: b"HTTP/1.1 400 Bad Request\r\nContent-Type: text/plain; charset=utf-8\r\nContent-Length: 12\r\nConnection: close\r\n\r\nbad request\n",
+        answer: BAD_REQUEST,
     },
     Scene {
         request: b"POST http://localhost/next-day HTTP/1.1\r\nHost: localhost\r\n\r\n",
-        answer: b"HTTP/1.1 400 Bad Request\r\nContent-Type: text/plain; charset=utf-8\r\nContent-Length: 12\r\nConnection: close\r\n\r\nbad request\n",
+        answer: BAD_REQUEST,
     },
     Scene {
         request: b"POST /next-day HTTP/1.1\r\nHost: localhost\r\nTransfer-Encoding: chunked\r\n\r\n",
@@ -355,7 +375,7 @@ const SCENES: &[Scene] = &[
     },
     Scene {
         request: b"POST /reservations/1/check-in HTTP/1.1\r\nHost: localhost\r\nContent-Length: 17\r\n\r\nroom=101&room=101",
-        answer: b"HTTP/1.1 400 Bad Request\r\nContent-Type: text/plain; charset=utf-8\r\nContent-Length: 7\r\nConnection: close\r\n\r\nunread\n",
+        answer: UNREAD_VALUE,
     },
     Scene {
         request: b"POST /next-day HTTP/1.1\r\nHost: localhost\r\nContent-Length: 262145\r\n\r\n",
@@ -363,7 +383,7 @@ const SCENES: &[Scene] = &[
     },
     Scene {
         request: b"POST /next-day HTTP/1.1\r\nHost: localhost\r\nContent-Length: 0\r\nContent-Length: 0\r\n\r\n",
-        answer: b"HTTP/1.1 400 Bad Request\r\nContent-Type: text/plain; charset=utf-8\r\nContent-Length: 12\r\nConnection: close\r\n\r\nbad request\n",
+        answer: BAD_REQUEST,
     },
     Scene {
         request: b"POST /reservations/1/check-in HTTP/1.1\r\nHost: localhost\r\nContent-Length: 8\r\nExpect: 100-continue\r\n\r\nroom=101",
@@ -381,7 +401,7 @@ fn scenes_go<R: Abort + AllocGlobal>(rt: &R, desk: &mut Desk, piece: usize)
 }
 
 /// No scene began the next day.
-const NEXT_DAY: Exchange = Exchange {
+pub(crate) const NEXT_DAY: Exchange = Exchange {
     request: "POST /next-day",
     form: "",
     status: DONE,
@@ -416,98 +436,4 @@ fn scenes_byte_by_byte(rt: HostRuntime) -> Result<(), Fail> {
     exchanges_go(&rt, &mut desk, 1, OPENING)?;
     scenes_go(&rt, &mut desk, 1);
     exchange_goes(&rt, &mut desk, 1, &NEXT_DAY)
-}
-
-/// The answer where the head is too large.
-const HEAD_TOO_LARGE: &[u8] =
-    b"HTTP/1.1 431 Request Header Fields Too Large\r\nContent-Type: text/plain; charset=utf-8\r\nContent-Length: 15\r\nConnection: close\r\n\r\nhead too large\n";
-
-/// A head of so many fields, the last one of so many bytes more.
-fn head_of(alloc: Global, fields: u32, more: usize) -> Result<Vec<u8>, Fail> {
-    let mut head = Vec::new(alloc);
-    head.extend_from_slice(b"POST /next-day HTTP/1.1\r\nHost: a\r\n")?;
-    for _ in 1..fields {
-        head.extend_from_slice(b"X: 1\r\n")?;
-    }
-    for _ in 0..more {
-        head.push(b'x')?;
-    }
-    Ok(head)
-}
-
-#[test]
-fn too_many_fields(rt: HostRuntime) -> Result<(), Fail> {
-    let mut desk = empty_desk(rt.alloc())?;
-    let mut head = head_of(rt.alloc(), 65, 0)?;
-    head.extend_from_slice(b"\r\n")?;
-    answers_so(&rt, &mut desk, 4096, &head, HEAD_TOO_LARGE);
-    answers_so(&rt, &mut desk, 1, &head, HEAD_TOO_LARGE);
-    Ok(())
-}
-
-#[test]
-fn head_without_end(rt: HostRuntime) -> Result<(), Fail> {
-    let mut desk = empty_desk(rt.alloc())?;
-    let head = head_of(rt.alloc(), 1, 16_385 - 34)?;
-    answers_so(&rt, &mut desk, 4096, &head, HEAD_TOO_LARGE);
-    Ok(())
-}
-
-/// The request ends by a fault, and nothing is written.
-fn faults_so<R: Abort + AllocGlobal>(
-    rt: &R,
-    desk: &mut Desk,
-    reader: &mut FakeReader<'_>,
-    fault: ServeFault,
-) {
-    let mut writer = FakeWriter::new(rt.alloc());
-    let ended = serve(desk, reader, &mut writer);
-    assert_eq!(rt; ended, Err(fault));
-    assert!(rt; writer.written().is_empty());
-}
-
-#[test]
-fn no_byte_and_failed_reads(rt: HostRuntime) -> Result<(), Fail> {
-    let mut desk = empty_desk(rt.alloc())?;
-    let next_day = b"POST /next-day HTTP/1.1\r\nHost: a\r\nContent-Length: 2\r\n\r\nab";
-    faults_so(
-        &rt,
-        &mut desk,
-        &mut FakeReader::new(b""),
-        ServeFault::Closed,
-    );
-    for call in 1..7u32 {
-        let mut reader = FakeReader::new(next_day).in_pieces(10).failing_at(call);
-        faults_so(&rt, &mut desk, &mut reader, ServeFault::Read);
-    }
-    let mut reader = FakeReader::new(next_day).interrupted(1000);
-    faults_so(&rt, &mut desk, &mut reader, ServeFault::Read);
-    Ok(())
-}
-
-/// The write of this number fails, and then so much was written, and the request acted or not.
-fn cut_so<R: Abort + AllocGlobal>(
-    rt: &R,
-    desk: &mut Desk,
-    call: u32,
-    request: &[u8],
-    written: &[u8],
-    acted: bool,
-) {
-    let mut writer = FakeWriter::new(rt.alloc()).in_pieces(25).failing_at(call);
-    let ended = serve(desk, &mut FakeReader::new(request), &mut writer);
-    assert_eq!(rt; ended, Err(ServeFault::Write { acted }));
-    assert_eq!(rt; writer.written(), written);
-}
-
-#[test]
-fn failed_writes(rt: HostRuntime) -> Result<(), Fail> {
-    let mut desk = empty_desk(rt.alloc())?;
-    let begin =
-        b"POST /begin HTTP/1.1\r\nHost: a\r\nExpect: 100-Continue\r\nContent-Length: 14\r\n\r\nday=2031-05-01";
-    let interim = b"HTTP/1.1 100 Continue\r\n\r\n";
-    cut_so(&rt, &mut desk, 1, begin, b"", false);
-    cut_so(&rt, &mut desk, 2, begin, interim, true);
-    cut_so(&rt, &mut desk, 2, begin, interim, false);
-    Ok(())
 }

@@ -14,13 +14,13 @@ use std::test::Fail;
 /// A file of two lines. By how many lines were answered: how many notes the room has then, and what the file is answered
 /// when it comes again.
 #[derive(Clone, Copy)]
-struct Sent {
-    file: &'static [u8],
+pub(crate) struct Sent {
+    pub file: &'static [u8],
     notes: &'static [u32],
     again: &'static [&'static [u8]],
 }
 
-const TWICE: Sent = Sent {
+pub(crate) const TWICE: Sent = Sent {
     file: TWO_NOTES,
     notes: &[0, 1, 2],
     again: &[
@@ -79,7 +79,7 @@ fn stands<A: Abort, B: Books>(rt: &A, books: &mut B, notes: u32) -> Result<(), F
 
 /// After so many answered lines the file comes again: the answered lines stand, it is answered for the others, and the
 /// tables are those of the whole file.
-fn is_sent_again<B: Books>(
+pub(crate) fn is_sent_again<B: Books>(
     rt: &(impl Abort + AllocGlobal),
     books: &mut B,
     sent: &Sent,

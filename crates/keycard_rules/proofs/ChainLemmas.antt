@@ -9,9 +9,7 @@ use Rattle.std.proofs.lemmas.Bool.{cases_Bool, ne_eqb}
 use Rattle.std.proofs.lemmas.Bool.Decides.{nat_tests}
 use Rattle.std.proofs.lemmas.Grind.{common_steps}
 use Rattle.std.specs.List.{IsDistinct, list_any, position_or_len}
-use Rattle.keycard_rules.specs.declared.card.Link.{Link}
-use Rattle.keycard_rules.specs.Draw.{is_one_of}
-use Rattle.keycard_rules.specs.Lock.{turn}
+use Rattle.keycard_rules.specs.{declared.card.Link.Link, Draw.is_one_of, Lock.turn}
 use Rattle.keycard_rules.specs.Chain.{Ledger, last_from, issued, current, IsLinkOf, recoded, place_in}
 
 last_from-at : (x : ℕ) (xs : List ℕ) → last_from x xs ≡ get_or (x ∷ xs) (length xs) 0
@@ -59,10 +57,6 @@ same_place items i j d hi hj e = elim (cases_Bool (nat_lt i j)) [
     | inr le ↦ grind (arith, nat_tests)
   ]
 ]
-
--- a move of the place keeps the codes
-pub issued-same : (items : List ℕ) (p q : ℕ) → p < length items → q < length items → issued (ledger_of items p) ≡ issued (ledger_of items q)
-issued-same items p q h k = issued-is items p h ∙ sym (issued-is items q k)
 
 -- all but the last of a list that begins with a code
 front : ℕ → List ℕ → List ℕ

@@ -1,5 +1,5 @@
 -- A draw, as far as it has come.
-use Rattle.std.proofs.Common.{ℕ, zero, suc, ◌≡◌, ◌+◌, ◌≤◌, ◌<◌, Bool, true, false, List, [], ◌∷◌, Option, Some, None, refl, ap, sym, ◌∙◌, arith, add-one, cond, length}
+use Rattle.std.proofs.Common.{ℕ, zero, suc, ◌≡◌, ◌+◌, ◌≤◌, ◌<◌, Bool, true, false, List, [], ◌∷◌, Option, Some, None, refl, ap, sym, ◌∙◌, arith, add-one, cond}
 use Rattle.std.proofs.lemmas.List.Elements.{All-cons, All-nil}
 use Rattle.rand_core.specs.Stream.{Stream, next_u64}
 use Rattle.keycard_rules.specs.Draw.{is_one_of, words, past, code_of, Draw, one_more, draw_from, drawn, AllIssued}
@@ -65,9 +65,6 @@ at_least_one issued later w = at_least_one_by (is_one_of (code_of w) issued) (dr
 
 -- at one more word
 module _ (issued : List ℕ) (s0 s1 s2 : Stream) (n word : ℕ) (h : SoFar issued s0 n s1) (low : n < 64) (next : (word, s2) ≡ next_u64 s1) where
-  is_word : (next_u64 s1).0 ≡ word
-  is_word = ap (λ p. p.0) (sym next)
-
   is_later : (next_u64 s1).1 ≡ s2
   is_later = ap (λ p. p.1) (sym next)
 
@@ -117,18 +114,6 @@ answer_at now then_ word code was b a e s k = sym (ap (λ x. is_one_of x now) k 
 pub draw_is : (issued : List ℕ) (s0 s2 : Stream) (code : Option ℕ) (n : ℕ) → drawn issued s0 ≡ record { code = code; examined = n } → s2 ≡ past n s0 → ((drawn issued s0).code ≡ code) × (s2 ≡ past (drawn issued s0).examined s0)
 draw_is issued s0 s2 code n d m = (ap (λ x. x.code) d, m ∙ ap (λ k. past k s0) (sym (ap (λ x. x.examined) d)))
 
-draw_from-fresh_by : (b : Bool) (issued later : List ℕ) (word code : ℕ) → is_one_of (code_of word) issued ≡ b
-    → (let d : Draw = cond b (one_more (draw_from issued later)) (record { code = Some (code_of word); examined = 1 }) in d).code ≡ Some code
-    → ((draw_from issued later).code ≡ Some code → is_one_of code issued ≡ false) → is_one_of code issued ≡ false
-draw_from-fresh_by true issued later word code e h rest = rest h
-draw_from-fresh_by false issued later word code e h rest = let k : code_of word ≡ code = cc in rw (← k) e
-
--- the code that is drawn isn't issued
-pub draw_from-fresh : (issued given : List ℕ) (code : ℕ) → (draw_from issued given).code ≡ Some code → is_one_of code issued ≡ false
-unfolding draw_from
-draw_from-fresh issued [] code h = cc
-draw_from-fresh issued (word ∷ later) code h = draw_from-fresh_by (is_one_of (code_of word) issued) issued later word code refl h (draw_from-fresh issued later code)
-
 draw_from-none_by : (b : Bool) (issued later : List ℕ) (word : ℕ) → is_one_of (code_of word) issued ≡ b
     → (let d : Draw = cond b (one_more (draw_from issued later)) (record { code = Some (code_of word); examined = 1 }) in d).code ≡ None
     → ((draw_from issued later).code ≡ None → AllIssued issued later) → AllIssued issued (word ∷ later)
@@ -141,31 +126,6 @@ unfolding draw_from
 draw_from-none issued [] h = All-nil (λ w. is_one_of (code_of w) issued ≡ true)
 draw_from-none issued (word ∷ later) h = draw_from-none_by (is_one_of (code_of word) issued) issued later word refl h (draw_from-none issued later)
 
-pub drawn-fresh : (issued : List ℕ) (s : Stream) (code : ℕ) → (drawn issued s).code ≡ Some code → is_one_of code issued ≡ false
-unfolding drawn
-drawn-fresh issued s code h = draw_from-fresh issued (words 64 s) code h
-
 pub drawn-none : (issued : List ℕ) (s : Stream) → (drawn issued s).code ≡ None → AllIssued issued (words 64 s)
 unfolding drawn
 drawn-none issued s h = draw_from-none issued (words 64 s) h
-
-pub length-words : (n : ℕ) (s : Stream) → length (words n s) ≡ n
-unfolding words
-length-words zero s = refl
-length-words (suc n) s = ap suc (length-words n (next_u64 s).1)
-
-draw_from-examined_by : (b : Bool) (d : Draw) (code n : ℕ) → d.examined ≤ n → (let r : Draw = cond b (one_more d) (record { code = Some code; examined = 1 }) in r).examined ≤ suc n
-draw_from-examined_by true d code n h = omega arith
-draw_from-examined_by false d code n h = omega arith
-
--- no more words are examined than are given
-pub draw_from-examined : (issued given : List ℕ) → (draw_from issued given).examined ≤ length given
-unfolding draw_from
-draw_from-examined issued [] = omega arith
-draw_from-examined issued (word ∷ later) =
-    draw_from-examined_by (is_one_of (code_of word) issued) (draw_from issued later) (code_of word) (length later) (draw_from-examined issued later)
-
-pub drawn-examined : (issued : List ℕ) (s : Stream) → (drawn issued s).examined ≤ 64
-unfolding drawn
-drawn-examined issued s =
-    let h : (draw_from issued (words 64 s)).examined ≤ 64 = rw length-words at (draw_from-examined issued (words 64 s)) in h

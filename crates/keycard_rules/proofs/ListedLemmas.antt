@@ -1,25 +1,9 @@
 -- The words of a list, one after the other.
-use Rattle.std.proofs.Common.{◌≡◌, ℕ, zero, suc, ◌-◌, ◌<◌, ◌≤◌, List, [], ◌∷◌, ◌++◌, length, take, drop, replicate, get_or, arith, refl, sym, ap, ◌∙◌}
-use Rattle.rand_core.specs.Stream.{Stream}
-use Rattle.rand_core.specs.Steps.{steps_u64_low}
+use Rattle.std.proofs.Common.{◌≡◌, ℕ, zero, suc, ◌-◌, ◌<◌, ◌≤◌, List, [], ◌∷◌, ◌++◌, length, take, replicate, arith, refl, sym, ap, ◌∙◌}
+use Rattle.rand_core.specs.{Stream.Stream, Steps.steps_u64_low}
 use Rattle.rand_core.proofs.StepsLemmas.{next_u64-stream_of}
-use Rattle.keycard_rules.specs.Draw.{words}
-use Rattle.keycard_rules.specs.ListedWords.{next_listed, listed_stream, last_listed, first_listed}
+use Rattle.keycard_rules.specs.{Draw.words, ListedWords.next_listed, ListedWords.listed_stream, ListedWords.last_listed, ListedWords.first_listed}
 use Rattle.keycard_rules.proofs.Drawing.{words-zero, words-suc}
-
--- at a place that isn't the last
-pub next_listed-more : (items : List ℕ) (place : ℕ) → suc place < length items → next_listed (drop place items) ≡ (get_or items place 0, drop (suc place) items)
-next_listed-more [] place h = absurd (omega arith)
-next_listed-more (x ∷ []) zero h = absurd (omega arith)
-next_listed-more (x ∷ y ∷ ys) zero h = refl
-next_listed-more (x ∷ xs) (suc place) h = next_listed-more xs place (omega arith)
-
--- at the last place
-pub next_listed-last : (items : List ℕ) (place : ℕ) → suc place ≡ length items → next_listed (drop place items) ≡ (get_or items place 0, drop place items)
-next_listed-last [] place h = absurd (omega arith)
-next_listed-last (x ∷ []) zero h = refl
-next_listed-last (x ∷ y ∷ ys) zero h = absurd (omega arith)
-next_listed-last (x ∷ xs) (suc place) h = next_listed-last xs place (omega arith)
 
 -- more at the end than is taken
 take-replicate : (n m : ℕ) (xs : List ℕ) (x : ℕ) → n ≤ m → take n (xs ++ replicate m x) ≡ take n (xs ++ replicate n x)

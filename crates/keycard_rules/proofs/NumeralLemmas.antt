@@ -7,8 +7,7 @@ use Rattle.std.proofs.lemmas.List.{length-take-le, length-set}
 use Rattle.std.proofs.lemmas.List.Elements.{All-head, All-tail, All-nil, All-push}
 use Rattle.std.proofs.lemmas.Grind.{common_steps}
 use Rattle.std.specs.List.{All}
-use Rattle.keycard_rules.specs.Numerals.{digit_value, number_of, fixed_text, digit_byte, is_numeral, numeral}
-use Rattle.keycard_rules.specs.Numerals.{IsNumeral}
+use Rattle.keycard_rules.specs.{Numerals.digit_value, Numerals.number_of, Numerals.fixed_text, Numerals.digit_byte, Numerals.is_numeral, Numerals.numeral, Numerals.IsNumeral}
 use Rattle.std.specs.Option.{SomeIff}
 use Rattle.std.proofs.lemmas.List.Sums.{AllPass-from_list_all, list_all-from_AllPass}
 use Rattle.std.proofs.lemmas.List.Elements.{All-weaker}

@@ -1,10 +1,7 @@
 -- A room's codes in order of issue: those that the lock has left behind, the one that it holds, and those that it has not seen.
 use Rattle.std.specs.Prelude.{◌≡◌, ℕ, ◌==◌, ◌&&◌, ◌||◌, Bool, false, not, List, [], ◌∷◌, ◌++◌, Option, Some, None, Result, Ok, Err, if◌then◌else◌}
 use Rattle.std.specs.List.{before_first, after_first, position_or_len}
-use Rattle.keycard_rules.specs.Draw.{is_one_of}
-use Rattle.keycard_rules.specs.declared.card.Link.{Link}
-use Rattle.keycard_rules.specs.declared.chain.Turned.{Turned}
-use Rattle.keycard_rules.specs.declared.chain.RecodeFault.{RecodeFault}
+use Rattle.keycard_rules.specs.{Draw.is_one_of, declared.card.Link.Link, declared.chain.Turned.Turned, declared.chain.RecodeFault.RecodeFault}
 use Rattle.keycard_rules.specs.declared.chain.RecodeFault.TheVariants.{HeldDiffers, NotAwaited}
 
 -- passed, held and awaited codes

@@ -1,7 +1,6 @@
 -- A generator that gives the words of a list.
 use Rattle.std.specs.Prelude.{ℕ, ◌-◌, List, [], ◌∷◌, ◌++◌, length, take, replicate, slice_index}
-use Rattle.rand_core.specs.Stream.{Stream}
-use Rattle.rand_core.specs.Steps.{stream_of, steps_u64_low}
+use Rattle.rand_core.specs.{Stream.Stream, Steps.stream_of, Steps.steps_u64_low}
 
 -- the next word, and the words that are left; the last one stays
 abbrev pub next_listed : List ℕ → ℕ × List ℕ

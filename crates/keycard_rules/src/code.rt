@@ -1,8 +1,7 @@
 //! The codes of cards and locks.
 
 ghost use Rattle.std.specs.Prelude.{◌≡◌, ℕ, ◌^◌, ◌<◌, Some, None, if◌then◌else◌, nat_lt};
-ghost use Rattle.keycard_rules.specs.Draw.{code_of};
-ghost use Rattle.keycard_rules.specs.Numerals.{read_code, code_text};
+ghost use Rattle.keycard_rules.specs.{Draw.code_of, Numerals.read_code, Numerals.code_text};
 
 use crate::numerals::{read_numeral, write_fixed};
 use std::marker::Model;

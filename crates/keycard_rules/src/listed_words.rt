@@ -1,8 +1,7 @@
 //! A source of words for tests.
 ghost use Rattle.std.specs.Prelude.{◌≡◌, ℕ, ◌<◌, length, IfSome};
 ghost use Rattle.std.specs.Option.{SomeIff};
-ghost use Rattle.keycard_rules.specs.Draw.{words};
-ghost use Rattle.keycard_rules.specs.ListedWords.{next_listed, listed_stream, first_listed};
+ghost use Rattle.keycard_rules.specs.{Draw.words, ListedWords.next_listed, ListedWords.listed_stream, ListedWords.first_listed};
 
 use rand_core::utils::NextWord;
 use rand_core::{Rng, utils};

@@ -2,8 +2,7 @@
 
 ghost use Rattle.std.specs.Prelude.{◌≡◌, ℕ, ◌+◌, ◌<◌};
 ghost use Rattle.std.specs.Option.{SomeIff};
-ghost use Rattle.keycard_rules.specs.Numerals.{number_up_to};
-ghost use Rattle.keycard_rules.specs.Numbers.{IsNumberUpTo};
+ghost use Rattle.keycard_rules.specs.{Numerals.number_up_to, Numbers.IsNumberUpTo};
 ghost use Rattle.std.specs.Ordering.{nat_cmp, as_partial_cmp};
 ghost use Rattle.std.specs.Cmp.{partial_order_from_own_ties};
 ghost use Rattle.std.specs.Cmp.Rules.{comparing};

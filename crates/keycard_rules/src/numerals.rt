@@ -2,8 +2,7 @@
 
 ghost use Rattle.std.specs.Prelude.{◌≡◌, ◌^◌, ◌<◌, ◌≤◌, length};
 ghost use Rattle.std.specs.Option.{SomeIff};
-ghost use Rattle.keycard_rules.specs.Numerals.{digit_value, digit_byte, number_of, numeral, fixed_text};
-ghost use Rattle.keycard_rules.specs.Numerals.{IsNumeral};
+ghost use Rattle.keycard_rules.specs.{Numerals.digit_value, Numerals.digit_byte, Numerals.number_of, Numerals.numeral, Numerals.fixed_text, Numerals.IsNumeral};
 
 /// What a digit of either case stands for, and 255 at any other byte.
 #[tactic(auto, unfolding(crate::specs::Numerals::digit_value))]

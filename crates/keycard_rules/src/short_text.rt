@@ -1,6 +1,7 @@
 //! A short text in a buffer of fixed size, for answers that take no memory.
 
-ghost use Rattle.std.specs.Prelude.{◌≡◌, ◌++◌, ◌+◌, ◌≤◌, ℕ, List, [], length, take};
+ghost use Rattle.std.specs.Prelude.{◌≡◌, ◌++◌, ◌+◌, ◌^◌, ◌<◌, ◌≤◌, ℕ, List, [], length, take};
+ghost use Rattle.std.specs.Fmt.{decimal};
 
 use std::marker::Model;
 
@@ -49,5 +50,16 @@ impl<const MOST: usize> ShortText<MOST> {
         let bytes = &mut self.bytes[..];
         bytes[begin..end].copy_from_slice(text);
         self.len = end;
+    }
+
+    /// Puts a number of at most `DIGITS` digits behind the others, in decimal digits.
+    pub fn push_number<const DIGITS: usize>(&mut self, number: u128)
+        requires few { (0 < DIGITS) × (number < 10 ^ DIGITS) }
+        requires room { length self.old + DIGITS ≤ MOST }
+        ensures text { self.new ≡ self.old ++ decimal number }
+        ensures len { length self.new ≤ length self.old + DIGITS }
+    {
+        let mut digits = itoa::Buffer::new();
+        self.push(digits.format(number).as_bytes());
     }
 }

@@ -1,22 +1,7 @@
 -- What holds of the codes, cards and rooms of each history that can be reached: the steps to the headline.
-use Rattle.std.specs.Prelude.{ℕ, ◌≡◌, ◌≤◌, ◌+◌, true, false, List, [], ◌∷◌, ◌++◌, Some, length}
-use Rattle.std.specs.Map.{keys_of}
+use Rattle.std.proofs.Common.{ℕ, ◌≡◌, ◌≤◌, ◌+◌, true, false, List, [], ◌∷◌, ◌++◌, Some, length}
+use Rattle.hotel_core.proofs.Names.{keys_of, Card, Link, CodeRow, is_one_of, at_number, History, issued, all_issued, passed, awaited, cards, newest_link, link_of_party, registered, inside, secured, stays, count_up, rows_of, code_at, is_room}
 pub use Rattle.keycard_rules.specs.Chain.{IsLinkOf}
-use Rattle.keycard_rules.specs.declared.card.Card.{Card}
-use Rattle.keycard_rules.specs.declared.card.Link.{Link}
-use Rattle.hotel_core.specs.declared.books.rows.CodeRow.{CodeRow}
-use Rattle.hotel_core.specs.Model.Words.{is_one_of}
-use Rattle.hotel_core.specs.Model.Rows.{at_number}
-use Rattle.hotel_core.specs.Model.History.{History}
-use Rattle.hotel_core.specs.Model.Issued.{issued, all_issued}
-use Rattle.hotel_core.specs.Model.Ledger.{passed, awaited}
-use Rattle.hotel_core.specs.Model.Cards.{cards, newest_link, link_of_party}
-use Rattle.hotel_core.specs.Model.Guests.{registered, inside, secured}
-use Rattle.hotel_core.specs.Model.Stays.{stays}
-use Rattle.hotel_core.specs.Model.SoundRooms.{count_up}
-use Rattle.hotel_core.specs.Model.RowsOf.{rows_of}
-use Rattle.hotel_core.specs.Books.Lookups.{code_at}
-use Rattle.hotel_core.specs.Model.Cases.{is_room}
 
 -- The cards' numbers are 1, 2 and so on.
 abbrev pub CardsCount : History → Type 0

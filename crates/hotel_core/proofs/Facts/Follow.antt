@@ -1,17 +1,7 @@
 -- What an accepted event needs of the history before it. A consequence of the answers, for proofs.
-use Rattle.std.specs.Prelude.{ℕ, ◌≡◌, true, false, List, None, ◌+◌, nat_lt, [], ◌∷◌, ◌==◌, length}
-use Rattle.hotel_core.specs.Model.Words.{is_one_of}
-use Rattle.hotel_core.specs.Model.Notes.{notes}
-use Rattle.hotel_core.specs.Model.Event.{Event, Begun, Kind, Install, Reserved, Cancelled, CheckIn, Transfer, Spare, CheckOut, NextDay, Entered, Left, Recoded}
-use Rattle.hotel_core.specs.Model.History.{History, ◌▷◌}
-use Rattle.hotel_core.specs.Model.RowsOf.{rows_of}
-use Rattle.hotel_core.specs.Books.Change.{made}
-use Rattle.hotel_core.specs.Refinement.ChangeOf.{change_of}
-use Rattle.hotel_core.specs.Model.Issued.{is_fresh}
-use Rattle.hotel_core.specs.Model.Ledger.{awaited}
-use Rattle.hotel_core.specs.Model.Guests.{inside}
-use Rattle.hotel_core.specs.Model.Stays.{first_full}
-use Rattle.hotel_core.specs.Model.Cases.{is_begun, today, is_kind, is_room, is_party, is_booked, is_in_house, is_of_kind, is_taken, is_card, has_link, opens, holds, next_card, next_party}
+use Rattle.std.proofs.Common.{ℕ, ◌≡◌, true, false, List, None, ◌+◌, nat_lt, [], ◌∷◌, ◌==◌, length}
+use Rattle.hotel_core.proofs.Names.{is_one_of, notes, Event, Begun, Kind, Install, Reserved, Cancelled, CheckIn, Transfer, Spare, CheckOut, NextDay, Entered, Left, Recoded, History, ◌▷◌, rows_of, made, change_of, is_fresh, awaited, inside, first_full, is_begun, today, is_kind, is_room, is_party, is_booked, is_in_house, is_of_kind, is_taken, is_card, has_link, opens, next_card, next_party}
+use Rattle.hotel_core.specs.Model.Cases.{holds}
 
 abbrev pub MayFollow : History → Event → Type 0
 MayFollow h (Begun day) = is_begun h ≡ false

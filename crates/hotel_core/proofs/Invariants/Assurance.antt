@@ -1,17 +1,7 @@
 -- What is assured of each history that books stand for.
 use Rattle.std.proofs.Common.{List}
-use Rattle.rand_core.specs.Stream.{Stream}
-use Rattle.hotel_core.specs.declared.command.Command.{Command}
-use Rattle.hotel_core.specs.declared.reply.Reply.{Reply}
-use Rattle.hotel_core.specs.Model.Rows.{Rows}
-use Rattle.hotel_core.specs.Model.History.{History}
-use Rattle.hotel_core.specs.Model.Run.{Reached, StandsFor, Steps}
-use Rattle.hotel_core.specs.Model.Laws.{RunsTo}
-use Rattle.hotel_core.specs.Refinement.Lift.{RunsSafely}
-use Rattle.hotel_core.specs.Model.Headline.{Assured}
-use Rattle.hotel_core.proofs.SoundRows.AllSound.{headline}
-use Rattle.hotel_core.proofs.Invariants.NotesMoved.{notes_move}
-use Rattle.hotel_core.proofs.Invariants.RoomsLeft.{none_oversold}
+use Rattle.hotel_core.proofs.Names.{Stream, Command, Reply, Rows, History, Reached, StandsFor, Steps, RunsTo, RunsSafely, Assured}
+use Rattle.hotel_core.proofs.{SoundRows.AllSound.headline, Invariants.NotesMoved.notes_move, Invariants.RoomsLeft.none_oversold}
 
 pub assured : (h : History) → Reached h → Assured h
 assured h ok = record { headline = headline h ok; notes_move = notes_move h ok; none_oversold = none_oversold h ok }

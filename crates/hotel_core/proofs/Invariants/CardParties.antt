@@ -1,28 +1,10 @@
 -- All cards of a link are one party's: that of the check-in or transfer that made the link.
-use Rattle.std.proofs.Common.{ℕ, ◌≡◌, Bool, true, false, Option, Some, None, List, [], ◌∷◌, ◌++◌, length, inl, inr, refl, ap, sym, ◌∙◌, subst, append_assoc}
-use Rattle.std.specs.Prelude.{◌==◌}
-use Rattle.std.specs.Ordering.{nat_cmp}
-use Rattle.std.specs.BTreeMap.{insert_entry}
-use Rattle.keycard_rules.specs.declared.card.Card.{Card}
-use Rattle.keycard_rules.specs.declared.card.Link.{Link}
-use Rattle.hotel_core.specs.declared.books.rows.CodeRow.{CodeRow}
-use Rattle.hotel_core.specs.Model.Words.{when, is_that}
-use Rattle.hotel_core.specs.Model.Rows.{at_number}
-use Rattle.hotel_core.specs.Model.Event.{CheckIn, Transfer, Spare, CheckOut}
-use Rattle.hotel_core.specs.Model.History.{History, start, ◌▷◌}
-use Rattle.hotel_core.specs.Model.Issued.{is_fresh}
-use Rattle.hotel_core.specs.Model.Cards.{cards, card_of, with_spare, link_of_party, link_to, newest_link}
-use Rattle.hotel_core.specs.Model.Guests.{registered, leaves}
-use Rattle.hotel_core.specs.Model.Cases.{next_card}
-use Rattle.hotel_core.specs.Model.Run.{Reached}
+use Rattle.std.proofs.Common.{ℕ, ◌≡◌, Bool, true, false, Option, Some, None, List, [], ◌∷◌, ◌++◌, length, inl, inr, refl, ap, sym, ◌∙◌, subst, append_assoc, ◌==◌, nat_cmp}
+use Rattle.hotel_core.proofs.Names.{insert_entry, Card, Link, CodeRow, when, is_that, at_number, CheckIn, Transfer, Spare, CheckOut, History, start, ◌▷◌, is_fresh, cards, card_of, with_spare, link_of_party, link_to, newest_link, registered, leaves, next_card, Reached}
 use Rattle.hotel_core.proofs.Facts.CodeFacts.{IsLink, HasCard, PartiesHaveCards, CardsOneParty, GuestsHaveCards}
-use Rattle.hotel_core.proofs.OfTables.Tests.{eq_from}
-use Rattle.hotel_core.proofs.OfTables.TableKeys.{row_inserted, row_kept, row_added}
-use Rattle.hotel_core.proofs.OfTables.Grown.{may_follow}
-use Rattle.hotel_core.proofs.Invariants.Numbering.{next_card_free}
-use Rattle.hotel_core.proofs.Invariants.CodePlaces.{codes_have_places, fresh_has_no_row}
-use Rattle.hotel_core.proofs.Invariants.RoomLinks.{cards_have_links}
-use Rattle.hotel_core.proofs.Starts.StartLinks.{parties_have_cards_at_start, cards_one_party_at_start}
+use Rattle.hotel_core.proofs.{OfTables.Tests.eq_from, OfTables.TableKeys.row_inserted, OfTables.TableKeys.row_kept, OfTables.TableKeys.row_added, OfTables.Grown.may_follow}
+use Rattle.hotel_core.proofs.{Invariants.Numbering.next_card_free, Invariants.CodePlaces.codes_have_places, Invariants.CodePlaces.fresh_has_no_row}
+use Rattle.hotel_core.proofs.{Invariants.RoomLinks.cards_have_links, Starts.StartLinks.parties_have_cards_at_start, Starts.StartLinks.cards_one_party_at_start}
 use Rattle.hotel_core.proofs.Starts.StartGuests.{guests_have_cards_at_start}
 
 -- a card that was there is there when one more is made

@@ -1,22 +1,10 @@
 -- Each code stands at one place of one room.
-use Rattle.std.proofs.Common.{ℕ, ◌≡◌, Bool, true, false, Some, None, List, [], ◌∷◌, ◌++◌, length, inl, inr, refl, ap, sym, ◌∙◌, append_assoc}
-use Rattle.std.specs.Prelude.{◌==◌, not}
-use Rattle.std.specs.Ordering.{nat_cmp}
-use Rattle.std.specs.BTreeMap.{insert_entry}
-use Rattle.hotel_core.specs.declared.books.rows.CodeRow.{CodeRow}
-use Rattle.hotel_core.specs.Model.Words.{when, and_last}
-use Rattle.hotel_core.specs.Model.Rows.{at_number}
-use Rattle.hotel_core.specs.Model.Event.{Install, CheckIn, Transfer}
-use Rattle.hotel_core.specs.Model.History.{History, start, ◌▷◌}
-use Rattle.hotel_core.specs.Model.Issued.{issued, all_issued, issued_codes, is_fresh}
+use Rattle.std.proofs.Common.{ℕ, ◌≡◌, Bool, true, false, Some, None, List, [], ◌∷◌, ◌++◌, length, inl, inr, refl, ap, sym, ◌∙◌, append_assoc, ◌==◌, not, nat_cmp}
+use Rattle.hotel_core.proofs.Names.{insert_entry, CodeRow, when, and_last, at_number, Install, CheckIn, Transfer, History, start, ◌▷◌, issued, all_issued, issued_codes, is_fresh, Reached, NoCodeTwice}
 use Rattle.keycard_rules.specs.Draw.{is_one_of}
-use Rattle.hotel_core.specs.Model.Run.{Reached}
-use Rattle.hotel_core.specs.Model.Headline.{NoCodeTwice}
-use Rattle.hotel_core.proofs.Facts.CodeFacts.{CodesHavePlaces, PlacesHaveCodes}
-use Rattle.hotel_core.proofs.OfTables.Tests.{eq_from, eq_self, not_both}
+use Rattle.hotel_core.proofs.{Facts.CodeFacts.CodesHavePlaces, Facts.CodeFacts.PlacesHaveCodes, OfTables.Tests.eq_from, OfTables.Tests.eq_self, OfTables.Tests.not_both}
 use Rattle.hotel_core.proofs.OfTables.TableKeys.{row_inserted, row_kept, row_added, no_key}
-use Rattle.hotel_core.proofs.OfTables.CodeLists.{snoc_split, cut_alike}
-use Rattle.hotel_core.proofs.OfTables.Grown.{may_follow}
+use Rattle.hotel_core.proofs.{OfTables.CodeLists.snoc_split, OfTables.CodeLists.cut_alike, OfTables.Grown.may_follow}
 use Rattle.hotel_core.proofs.Starts.StartCodes.{places_at_start, rows_at_start}
 
 not_true : (b : Bool) → not b ≡ true → b ≡ false

@@ -1,28 +1,10 @@
 -- The held code, the current one and an awaited one, by their places.
-use Rattle.std.proofs.Common.{ℕ, ◌≡◌, ◌+◌, ◌-◌, ◌<◌, Bool, true, false, Option, Some, None, List, [], ◌∷◌, ◌++◌, length, refl, ap, sym, ◌∙◌, arith, append_assoc, length-append}
-use Rattle.std.specs.Prelude.{◌==◌, ◌&&◌, ◌||◌, nat_lt}
-use Rattle.std.proofs.lemmas.Bool.Decides.{nat_tests}
-use Rattle.keycard_rules.specs.declared.card.Link.{Link}
-use Rattle.hotel_core.specs.declared.books.rows.CodeRow.{CodeRow}
-use Rattle.hotel_core.specs.Model.Words.{when, is_one_of, before, after, said_of, last_of}
-use Rattle.hotel_core.specs.Model.Rows.{at_number}
-use Rattle.hotel_core.specs.Model.RowsOf.{rows_of}
-use Rattle.hotel_core.specs.Books.Lookups.{code_at}
-use Rattle.hotel_core.specs.Model.Event.{Moment, Entered, Recoded}
-use Rattle.hotel_core.specs.Model.History.{History, ◌▷◌}
-use Rattle.hotel_core.specs.Model.Issued.{issued, all_issued, current}
-use Rattle.hotel_core.specs.Model.Cards.{newest_link}
-use Rattle.hotel_core.specs.Model.Lock.{held}
-use Rattle.hotel_core.specs.Model.Ledger.{passed, awaited}
-use Rattle.hotel_core.specs.Model.Cases.{is_room}
-use Rattle.hotel_core.specs.Model.Run.{Reached}
-use Rattle.hotel_core.proofs.Facts.Follow.{MayFollow}
-use Rattle.hotel_core.proofs.OfTables.Tests.{eq_from, eq_self, and_true, not_both, same_bool}
-use Rattle.hotel_core.proofs.OfTables.CodeLists.{length_more, last_more, parted}
-use Rattle.hotel_core.proofs.Invariants.RoomCodes.{rooms_have_codes}
+use Rattle.std.proofs.Common.{ℕ, ◌≡◌, ◌+◌, ◌-◌, ◌<◌, Bool, true, false, Option, Some, None, List, [], ◌∷◌, ◌++◌, length, refl, ap, sym, ◌∙◌, arith, append_assoc, length-append, ◌==◌, ◌&&◌, ◌||◌, nat_lt}
+use Rattle.hotel_core.proofs.Names.{nat_tests, Link, CodeRow, when, is_one_of, before, after, said_of, last_of, at_number, rows_of, code_at, Moment, Entered, Recoded, History, ◌▷◌, issued, all_issued, current, newest_link, held, passed, awaited, is_room, Reached}
+use Rattle.hotel_core.proofs.{Facts.Follow.MayFollow, OfTables.Tests.eq_from, OfTables.Tests.eq_self, OfTables.Tests.and_true, OfTables.Tests.not_both, OfTables.Tests.same_bool}
+use Rattle.hotel_core.proofs.{OfTables.CodeLists.length_more, OfTables.CodeLists.last_more, OfTables.CodeLists.parted, Invariants.RoomCodes.rooms_have_codes}
 use Rattle.hotel_core.proofs.Invariants.CodePlaces.{codes_have_places, places_have_codes, same_place}
-use Rattle.hotel_core.proofs.OfTables.CodeSearch.{codes_are_found}
-use Rattle.hotel_core.proofs.Invariants.RoomLinks.{ends_with_current, newest_are_last}
+use Rattle.hotel_core.proofs.{OfTables.CodeSearch.codes_are_found, Invariants.RoomLinks.ends_with_current, Invariants.RoomLinks.newest_are_last}
 use Rattle.hotel_core.proofs.Invariants.LedgerOrder.{ledger_holds, entered_case, link_seen}
 
 -- the code that a room's lock holds

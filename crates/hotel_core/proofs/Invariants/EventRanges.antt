@@ -1,31 +1,12 @@
 -- The event of an answer to a command in range, with a reply in range, is in range.
-use Rattle.std.proofs.Common.{ℕ, ◌≡◌, ◌≤◌, ◌+◌, false, Option, Some, None, List, [], ◌∷◌, refl, sym, subst, arith}
-use Rattle.std.specs.Prelude.{nat_lt}
+use Rattle.std.proofs.Common.{ℕ, ◌≡◌, ◌≤◌, ◌+◌, false, Option, Some, None, List, [], ◌∷◌, refl, sym, subst, arith, nat_lt}
+use Rattle.hotel_core.proofs.Names.{Act, Note, draw_from, Command, Reply, Refusal, NoCard, CardDiffers, LockShut, NotInside, HeldDiffers, NotAwaited, is_one_of, Event, History, ◌▷◌, IsCommand, IsReply, InRange, issued_codes, card_of, link_to, inside, awaited, Standing, Next, standing, is_card, has_link, opens, next_card, Outcome, unless, needs, by_draw, accepted, grown, answer_to, checks, effect, reported, told, moment_of, Reached}
 use Rattle.std.proofs.lemmas.Bool.{ltb-false}
-use Rattle.keycard_rules.specs.declared.note.Act.{Act}
 use Rattle.keycard_rules.specs.declared.note.Act.TheVariants as act
-use Rattle.keycard_rules.specs.Note.{Note}
-use Rattle.keycard_rules.specs.Draw.{draw_from}
-use Rattle.hotel_core.specs.declared.command.Command.{Command}
 use Rattle.hotel_core.specs.declared.command.Command.TheVariants as command
-use Rattle.hotel_core.specs.declared.reply.Reply.{Reply}
 use Rattle.hotel_core.specs.declared.reply.Reply.TheVariants as reply
-use Rattle.hotel_core.specs.declared.reply.Refusal.{Refusal}
-use Rattle.hotel_core.specs.declared.reply.Refusal.TheVariants.{NoCard, CardDiffers, LockShut, NotInside, HeldDiffers, NotAwaited}
-use Rattle.hotel_core.specs.Model.Words.{is_one_of}
-use Rattle.hotel_core.specs.Model.Event.{Event}
 use Rattle.hotel_core.specs.Model.Event as event
-use Rattle.hotel_core.specs.Model.History.{History, ◌▷◌}
-use Rattle.hotel_core.specs.Model.Ranges.{IsCommand, IsReply, InRange}
-use Rattle.hotel_core.specs.Model.Issued.{issued_codes}
-use Rattle.hotel_core.specs.Model.Cards.{card_of, link_to}
-use Rattle.hotel_core.specs.Model.Guests.{inside}
-use Rattle.hotel_core.specs.Model.Ledger.{awaited}
-use Rattle.hotel_core.specs.Model.Notes.{Standing, Copy, Conflicting, Next, After, standing}
-use Rattle.hotel_core.specs.Model.Cases.{is_card, has_link, opens, holds, next_card}
-use Rattle.hotel_core.specs.Model.Outcome.{Outcome, unless, needs, by_draw, accepted, grown}
-use Rattle.hotel_core.specs.Model.Answer.{answer_to, checks, effect, reported, told, moment_of}
-use Rattle.hotel_core.specs.Model.Run.{Reached}
+use Rattle.hotel_core.specs.Model.Cases.{holds}
 use Rattle.hotel_core.proofs.Invariants.Following.{AllPass, passed_all, same_event, barred}
 
 -- where something happens, the reply is that of what comes after the checks
@@ -55,10 +36,8 @@ by_act h note (act.Recoded from to) e n q =
     subst (λ x. InRange x) (same_event p.1) n
 
 by_standing : (h : History) (note : Note) (s : Standing) (e : Event) → IsCommand (command.Reported note) → (reported h note s).happens ≡ Some e → InRange e
-by_standing h note Copy e n q = cc
-by_standing h note Conflicting e n q = cc
-by_standing h note (After expected) e n q = cc
 by_standing h note Next e n q = by_act h note note.act e n q
+by_standing h note _ e n q = cc
 
 before_end : (depart : ℕ) → nat_lt 36524 depart ≡ false → depart ≤ 36524
 before_end depart f = ltb-false 36524 depart f

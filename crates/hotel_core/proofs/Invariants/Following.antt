@@ -1,28 +1,13 @@
 -- What an accepted event needs.
-use Rattle.std.proofs.Common.{ℕ, ◌≡◌, List, [], ◌∷◌, Bool, true, false, Option, Some, None, refl, ap, subst}
-use Rattle.std.specs.Prelude.{nat_lt, option_map, not, cond, length, drop, ◌+◌, ◌-◌, ◌==◌}
-use Rattle.hotel_core.specs.declared.command.Command.{Command}
+use Rattle.std.proofs.Common.{ℕ, ◌≡◌, List, [], ◌∷◌, Bool, true, false, Option, Some, None, refl, ap, subst, nat_lt, option_map, not, cond, length, drop, ◌+◌, ◌-◌, ◌==◌}
+use Rattle.hotel_core.proofs.Names.{Command, Refusal, KindFull, NoCard, CardDiffers, LockShut, NotInside, HeldDiffers, NotAwaited, Act, inside, awaited, Note, Event, History, is_fresh, issued_codes, draw_from, one_more, code_of, Outcome, accepted, unless, needs, bars, answer_to, checks, effect, reported, told, moment_of, is_begun, today, is_kind, is_room, is_party, is_booked, is_in_house, is_of_kind, is_taken, is_card, has_link, opens, next_card, first_full, Standing, Copy, Conflicting, Next, After, standing, standing_among, notes, same_note}
 use Rattle.hotel_core.specs.declared.command.Command.TheVariants as command
-use Rattle.hotel_core.specs.declared.reply.Refusal.{Refusal}
-use Rattle.hotel_core.specs.declared.reply.Refusal.TheVariants.{KindFull, NoCard, CardDiffers, LockShut, NotInside, HeldDiffers, NotAwaited}
 use Rattle.hotel_core.specs.declared.reply.Reply.TheVariants as reply
-use Rattle.keycard_rules.specs.declared.note.Act.{Act}
 use Rattle.keycard_rules.specs.declared.note.Act.TheVariants as act
-use Rattle.hotel_core.specs.Model.Guests.{inside}
-use Rattle.hotel_core.specs.Model.Ledger.{awaited}
-use Rattle.keycard_rules.specs.Note.{Note}
-use Rattle.hotel_core.specs.Model.Event.{Event}
 use Rattle.hotel_core.specs.Model.Event as event
-use Rattle.hotel_core.specs.Model.History.{History}
-use Rattle.hotel_core.specs.Model.Issued.{is_fresh, issued_codes}
-use Rattle.keycard_rules.specs.Draw.{draw_from, one_more, is_one_of, code_of}
-use Rattle.hotel_core.specs.Model.Outcome.{Outcome, accepted, unless, needs, bars}
-use Rattle.hotel_core.specs.Model.Answer.{answer_to, checks, effect, reported, told, moment_of}
-use Rattle.hotel_core.specs.Model.Cases.{is_begun, today, is_kind, is_room, is_party, is_booked, is_in_house, is_of_kind, is_taken, is_card, has_link, opens, holds, next_card}
-use Rattle.hotel_core.specs.Model.Stays.{first_full}
-use Rattle.hotel_core.specs.Model.Notes.{Standing, Copy, Conflicting, Next, After, standing, standing_among, notes, same_note}
-use Rattle.hotel_core.proofs.Facts.Follow.{MayFollow}
-use Rattle.hotel_core.proofs.OfTables.Tests.{eq_from}
+use Rattle.keycard_rules.specs.Draw.{is_one_of}
+use Rattle.hotel_core.specs.Model.Cases.{holds}
+use Rattle.hotel_core.proofs.{Facts.Follow.MayFollow, OfTables.Tests.eq_from}
 
 -- none of the checks refused
 abbrev pub AllPass : List (Option Refusal) → Type 0
@@ -91,10 +76,8 @@ by_act h note (act.Recoded from to) e n r q =
     subst (λ x. MayFollow h x) (same_event p.1) (n, r, needed (holds h note.room from) _ p.0.0, needed (is_one_of to (awaited h note.room)) _ p.0.1.0)
 
 by_standing : (h : History) (note : Note) (s : Standing) (e : Event) → standing h note ≡ s → is_room h note.room ≡ true → (reported h note s).happens ≡ Some e → MayFollow h e
-by_standing h note Copy e f r q = cc
-by_standing h note Conflicting e f r q = cc
-by_standing h note (After expected) e f r q = cc
 by_standing h note Next e f r q = by_act h note note.act e (next_count (length (notes h note.room)) note (drop (note.count - 1) (notes h note.room)) f) r q
+by_standing h note _ e f r q = cc
 
 follows_if : (h : History) (ahead : List ℕ) (command : Command) (e : Event) → AllPass (checks h command) → (effect h ahead command).happens ≡ Some e → MayFollow h e
 follows_if h ahead (command.Begin day) e p q = subst (λ x. MayFollow h x) (same_event q) (barred (is_begun h) _ p.0)

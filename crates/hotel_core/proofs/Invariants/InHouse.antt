@@ -1,22 +1,11 @@
 -- A party is registered at a room exactly where it is in house there.
-use Rattle.std.proofs.Common.{ℕ, ◌≡◌, Bool, true, false, cond, Option, Some, None, refl, ap, sym, ◌∙◌, subst}
-use Rattle.std.specs.Prelude.{◌==◌, is_some}
+use Rattle.std.proofs.Common.{ℕ, ◌≡◌, Bool, true, false, cond, Option, Some, None, refl, ap, sym, ◌∙◌, subst, ◌==◌, is_some}
+use Rattle.hotel_core.proofs.Names.{when, at_number, Reserved, Cancelled, CheckIn, Transfer, CheckOut, History, start, ◌▷◌, registered, leaves, stays, room_of, is_party, is_booked, Reached}
 use Rattle.hotel_nights.specs.declared.stay.StayState.TheVariants as state
-use Rattle.hotel_core.specs.Model.Words.{when}
-use Rattle.hotel_core.specs.Model.Rows.{at_number}
-use Rattle.hotel_core.specs.Model.Event.{Reserved, Cancelled, CheckIn, Transfer, CheckOut}
-use Rattle.hotel_core.specs.Model.History.{History, start, ◌▷◌}
-use Rattle.hotel_core.specs.Model.Guests.{registered, leaves}
-use Rattle.hotel_core.specs.Model.Stays.{stays}
-use Rattle.hotel_core.specs.Model.Cases.{room_of, is_party, is_booked}
-use Rattle.hotel_core.specs.Model.Run.{Reached}
-use Rattle.hotel_core.proofs.OfTables.Numbered.{is_there}
-use Rattle.hotel_core.proofs.Invariants.Numbering.{next_party_free}
+use Rattle.hotel_core.proofs.{OfTables.Numbered.is_there, Invariants.Numbering.next_party_free}
 use Rattle.hotel_core.proofs.OfTables.StayStates.{home_of, home_changed, home_added, booked_has_no_home}
 use Rattle.hotel_core.proofs.Invariants.Homes.{Match, match_left, match_came, match_same, not_leaving}
-use Rattle.hotel_core.proofs.OfTables.Tests.{eq_from}
-use Rattle.hotel_core.proofs.OfTables.Grown.{may_follow}
-use Rattle.hotel_core.proofs.Starts.StartGuests.{homes_match_at_start}
+use Rattle.hotel_core.proofs.{OfTables.Tests.eq_from, OfTables.Grown.may_follow, Starts.StartGuests.homes_match_at_start}
 
 pub none_is : (o : Option ℕ) → is_some o ≡ false → o ≡ None
 none_is (Some x) h = cc

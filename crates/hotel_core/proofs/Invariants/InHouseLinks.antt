@@ -1,18 +1,8 @@
 -- A party in house was given a card.
-use Rattle.std.proofs.Common.{ℕ, ◌≡◌, Bool, true, false, cond, Option, Some, None, refl, ap, sym, ◌∙◌}
-use Rattle.std.specs.Prelude.{◌==◌, is_some}
-use Rattle.keycard_rules.specs.declared.card.Link.{Link}
+use Rattle.std.proofs.Common.{ℕ, ◌≡◌, Bool, true, false, cond, Option, Some, None, refl, ap, sym, ◌∙◌, ◌==◌, is_some}
+use Rattle.hotel_core.proofs.Names.{Link, when, Reserved, Cancelled, CheckIn, Transfer, CheckOut, History, start, ◌▷◌, link_of_party, link_to, stays, room_of, is_in_house, Reached}
 use Rattle.hotel_nights.specs.declared.stay.StayState.TheVariants as state
-use Rattle.hotel_core.specs.Model.Words.{when}
-use Rattle.hotel_core.specs.Model.Event.{Reserved, Cancelled, CheckIn, Transfer, CheckOut}
-use Rattle.hotel_core.specs.Model.History.{History, start, ◌▷◌}
-use Rattle.hotel_core.specs.Model.Cards.{link_of_party, link_to}
-use Rattle.hotel_core.specs.Model.Stays.{stays}
-use Rattle.hotel_core.specs.Model.Cases.{room_of, is_in_house}
-use Rattle.hotel_core.specs.Model.Run.{Reached}
-use Rattle.hotel_core.proofs.OfTables.StayStates.{home_changed, home_added}
-use Rattle.hotel_core.proofs.Invariants.InHouse.{has_stay}
-use Rattle.hotel_core.proofs.OfTables.Grown.{may_follow}
+use Rattle.hotel_core.proofs.{OfTables.StayStates.home_changed, OfTables.StayStates.home_added, Invariants.InHouse.has_stay, OfTables.Grown.may_follow}
 use Rattle.hotel_core.proofs.Starts.StartGuests.{in_house_has_link_at_start}
 
 was_some : (b : Bool) (o : Option ℕ) → is_some (cond b None o) ≡ true → is_some o ≡ true

@@ -1,15 +1,6 @@
 -- Who is inside a room after a card came in or left.
-use Rattle.std.proofs.Common.{ℕ, zero, suc, ◌≡◌, ◌<◌, Bool, true, false, cond, List, [], ◌∷◌, length, ◌⊎◌, inl, inr, refl, ap, ◌∙◌, arith}
-use Rattle.std.specs.Prelude.{◌==◌, ◌||◌, Contains}
-use Rattle.std.specs.List.{slice_index_or}
-use Rattle.std.specs.Ordering.{match_ordering}
-use Rattle.std.specs.declared.cmp.Ordering.{Ordering}
-use Rattle.std.specs.declared.cmp.Ordering.TheVariants.{Less, Equal, Greater}
-use Rattle.std.specs.BTreeSet.{insert_key}
-use Rattle.std.specs.BTreeMap.{is_at}
-use Rattle.std.specs.Set.{remove_key}
-use Rattle.hotel_core.specs.Model.Words.{when, is_one_of, pair_cmp}
-use Rattle.hotel_core.specs.Model.Guests.{those_in, are_none}
+use Rattle.std.proofs.Common.{ℕ, zero, suc, ◌≡◌, ◌<◌, Bool, true, false, cond, List, [], ◌∷◌, length, ◌⊎◌, inl, inr, refl, ap, ◌∙◌, arith, ◌==◌, ◌||◌, Contains, slice_index_or, Ordering, Less, Equal, Greater}
+use Rattle.hotel_core.proofs.Names.{match_ordering, insert_key, is_at, remove_key, when, is_one_of, pair_cmp, those_in, are_none}
 use Rattle.hotel_core.proofs.OfTables.Tests.{eq_from, eq_self, or_true, not_both}
 
 pub one_of_when : (b : Bool) (m x : ℕ) (ns : List ℕ) → is_one_of m (when b (λ numbers. x ∷ numbers) ns) ≡ true → ((b ≡ true) × (x ≡ m)) ⊎ (is_one_of m ns ≡ true)

@@ -1,25 +1,8 @@
 -- What the rows have stays there: rooms, codes and cards.
-use Rattle.std.proofs.Common.{ℕ, ◌≡◌, Bool, true, false, Option, Some, None, List, [], ◌∷◌, ◌++◌, refl, ap, ◌∙◌, append_assoc}
-use Rattle.std.specs.Prelude.{◌==◌}
-use Rattle.keycard_rules.specs.declared.card.Card.{Card}
-use Rattle.hotel_core.specs.declared.books.rows.CodeRow.{CodeRow}
-use Rattle.hotel_core.specs.Model.Words.{when, and_last, said_of}
-use Rattle.hotel_core.specs.Model.Rows.{at_number}
-use Rattle.hotel_core.specs.Model.Event.{Event, Install, CheckIn, Transfer, Spare}
-use Rattle.hotel_core.specs.Model.History.{History, ◌▷◌}
-use Rattle.hotel_core.specs.Model.Issued.{issued, all_issued}
-use Rattle.hotel_core.specs.Model.Cards.{cards, card_of, link_of_party, link_to}
-use Rattle.hotel_core.specs.Model.Stays.{rooms}
-use Rattle.hotel_core.specs.Model.Cases.{is_room}
-use Rattle.hotel_core.specs.Model.RowsOf.{rows_of}
-use Rattle.hotel_core.specs.Model.Run.{Reached}
-use Rattle.hotel_core.specs.Model.SoundCards.{code_is, card_is}
-use Rattle.hotel_core.proofs.OfTables.Tests.{not_both}
-use Rattle.hotel_core.proofs.OfTables.TableKeys.{key_inserted, row_kept}
-use Rattle.hotel_core.proofs.OfTables.Grown.{may_follow}
-use Rattle.hotel_core.proofs.Invariants.CodePlaces.{fresh_has_no_row}
-use Rattle.hotel_core.proofs.Invariants.CardParties.{card_kept, card_kept_spare}
-use Rattle.hotel_core.proofs.OfTables.RowTests.{or_later}
+use Rattle.std.proofs.Common.{ℕ, ◌≡◌, Bool, true, false, Option, Some, None, List, [], ◌∷◌, ◌++◌, refl, ap, ◌∙◌, append_assoc, ◌==◌}
+use Rattle.hotel_core.proofs.Names.{Card, CodeRow, when, and_last, said_of, at_number, Event, Install, CheckIn, Transfer, Spare, History, ◌▷◌, issued, all_issued, cards, card_of, link_of_party, link_to, rooms, is_room, rows_of, Reached, code_is, card_is}
+use Rattle.hotel_core.proofs.{OfTables.Tests.not_both, OfTables.TableKeys.key_inserted, OfTables.TableKeys.row_kept, OfTables.Grown.may_follow}
+use Rattle.hotel_core.proofs.{Invariants.CodePlaces.fresh_has_no_row, Invariants.CardParties.card_kept, Invariants.CardParties.card_kept_spare, OfTables.RowTests.or_later}
 use Rattle.hotel_core.proofs.SoundRows.SoundLinks.{said_some}
 
 -- a room that is there stays

@@ -1,16 +1,6 @@
 -- Counts over the rows: how many rooms a kind has, and the nights that its stays take.
-use Rattle.std.proofs.Common.{ℕ, zero, suc, ◌≡◌, ◌+◌, Bool, true, false, cond, Some, List, [], ◌∷◌, refl, ap, sym, ◌∙◌, arith}
-use Rattle.std.specs.Prelude.{◌&&◌, if◌then◌else◌, map, filter, bytes_eq, nat_le, nat_lt}
-use Rattle.std.specs.List.{count_by}
-use Rattle.std.specs.Map.{values_of}
-use Rattle.std.proofs.lemmas.List.Sums.{sum_by-cons}
-use Rattle.hotel_nights.specs.declared.stay.Stay.{Stay}
-use Rattle.hotel_nights.specs.FullNight.{is_full, first_day}
-use Rattle.hotel_core.specs.declared.books.rows.RoomRow.{RoomRow}
-use Rattle.hotel_core.specs.Model.History.{History}
-use Rattle.hotel_core.specs.Model.Stays.{rooms, stays, rooms_of, first_full}
-use Rattle.hotel_core.specs.Model.RowsOf.{room_row, rows_of}
-use Rattle.hotel_core.specs.Books.Lookups.{rooms_of_kind, first_full_on}
+use Rattle.std.proofs.Common.{ℕ, ◌≡◌, ◌+◌, Bool, cond, List, [], ◌∷◌, refl, ap, sym, ◌∙◌, map, bytes_eq, count_by}
+use Rattle.hotel_core.proofs.Names.{values_of, sum_by-cons, is_full, first_day, RoomRow, History, rooms, stays, rooms_of, first_full, room_row, rows_of, rooms_of_kind, first_full_on}
 
 -- how many pass a test, with one more
 pub count_more : {X : Type 0} (p : X → Bool) (x : X) (xs : List X) → count_by p (x ∷ xs) ≡ cond (p x) 1 0 + count_by p xs

@@ -1,31 +1,9 @@
 -- The ledger of each room's codes.
-use Rattle.std.proofs.Common.{ℕ, ◌≡◌, Bool, true, false, cond, Option, Some, None, List, [], ◌∷◌, ◌++◌, refl, ap, sym, ◌∙◌, subst, append_assoc}
-use Rattle.std.specs.Prelude.{◌==◌, ◌&&◌, ◌||◌, is_some}
-use Rattle.keycard_rules.specs.declared.card.Card.{Card}
-use Rattle.keycard_rules.specs.declared.card.Link.{Link}
-use Rattle.keycard_rules.specs.Lock.{turn}
-use Rattle.hotel_core.specs.Model.Words.{when, and_last, is_one_of, before, after, without, said_of}
-use Rattle.hotel_core.specs.Model.Rows.{at_number}
-use Rattle.hotel_core.specs.Model.Event.{Install, CheckIn, Transfer, Entered, Recoded}
-use Rattle.hotel_core.specs.Model.History.{History, start, ◌▷◌}
-use Rattle.hotel_core.specs.Model.Issued.{issued}
-use Rattle.hotel_core.specs.Model.Cards.{cards}
-use Rattle.hotel_core.specs.Model.Lock.{held}
-use Rattle.hotel_core.specs.Model.Ledger.{passed, awaited, turns}
-use Rattle.hotel_core.specs.Model.Stays.{rooms}
-use Rattle.hotel_core.specs.Model.Notes.{same_link}
-use Rattle.hotel_core.specs.Model.Cases.{is_room, is_card, has_link, opens}
-use Rattle.hotel_core.specs.Model.Run.{Reached}
-use Rattle.hotel_core.specs.Model.Headline.{LedgerHolds, TakesTheFirst}
-use Rattle.hotel_core.proofs.Facts.CodeFacts.{IsLink}
-use Rattle.hotel_core.proofs.OfTables.Tests.{eq_from, not_both, or_second}
-use Rattle.hotel_core.proofs.OfTables.TableKeys.{key_inserted, row_of_key}
-use Rattle.hotel_core.proofs.OfTables.CodeLists.{first_out, parted}
-use Rattle.hotel_core.proofs.OfTables.Grown.{may_follow}
-use Rattle.hotel_core.proofs.Invariants.RoomCodes.{others_have_none}
-use Rattle.hotel_core.proofs.Invariants.CodePlaces.{same_place}
-use Rattle.hotel_core.proofs.Invariants.RoomLinks.{cards_have_links}
-use Rattle.hotel_core.proofs.Starts.StartLedger.{ledger_at_start}
+use Rattle.std.proofs.Common.{ℕ, ◌≡◌, Bool, true, false, cond, Option, Some, None, List, [], ◌∷◌, ◌++◌, refl, ap, sym, ◌∙◌, subst, append_assoc, ◌==◌, ◌&&◌, ◌||◌, is_some}
+use Rattle.hotel_core.proofs.Names.{Card, Link, turn, when, and_last, is_one_of, before, after, without, said_of, at_number, Install, CheckIn, Transfer, Entered, Recoded, History, start, ◌▷◌, issued, cards, held, passed, awaited, turns, rooms, same_link, is_room, is_card, has_link, opens, Reached, LedgerHolds, TakesTheFirst}
+use Rattle.hotel_core.proofs.{Facts.CodeFacts.IsLink, OfTables.Tests.eq_from, OfTables.Tests.not_both, OfTables.Tests.or_second}
+use Rattle.hotel_core.proofs.{OfTables.TableKeys.key_inserted, OfTables.TableKeys.row_of_key, OfTables.CodeLists.first_out, OfTables.CodeLists.parted, OfTables.Grown.may_follow}
+use Rattle.hotel_core.proofs.{Invariants.RoomCodes.others_have_none, Invariants.CodePlaces.same_place, Invariants.RoomLinks.cards_have_links, Starts.StartLedger.ledger_at_start}
 use Rattle.hotel_core.proofs.Starts.StartRules.{link_is}
 
 -- the ledger of one room

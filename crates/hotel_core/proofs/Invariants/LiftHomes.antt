@@ -1,28 +1,9 @@
 -- A registered party's last card has the newest link of its room.
-use Rattle.std.proofs.Common.{ℕ, ◌≡◌, ◌-◌, Bool, true, false, Option, Some, None, refl, ap, sym, ◌∙◌, subst, length}
-use Rattle.std.specs.Prelude.{◌==◌, is_some}
-use Rattle.keycard_rules.specs.declared.card.Link.{Link}
-use Rattle.hotel_core.specs.Model.Words.{when, said_of}
-use Rattle.hotel_core.specs.Model.Event.{CheckIn, Transfer, CheckOut}
-use Rattle.hotel_core.specs.Model.History.{History, start, ◌▷◌}
-use Rattle.hotel_core.specs.Model.Cards.{link_to, newest_link, link_of_party}
-use Rattle.hotel_core.specs.Model.Guests.{registered, leaves}
-use Rattle.hotel_core.specs.Model.Issued.{issued}
-use Rattle.hotel_core.specs.Model.RowsOf.{rows_of}
-use Rattle.hotel_core.specs.Model.Cases.{room_of, no_link}
-use Rattle.hotel_core.specs.Books.Change.{codes_of}
-use Rattle.hotel_core.specs.Refinement.OnRows.{said_code_at, home_link_on}
-use Rattle.hotel_core.specs.Model.Run.{Reached}
-use Rattle.hotel_core.proofs.OfTables.Tests.{eq_self}
-use Rattle.hotel_core.proofs.OfTables.Numbered.{apart_by}
-use Rattle.hotel_core.proofs.OfTables.Grown.{may_follow}
-use Rattle.hotel_core.proofs.Invariants.Homes.{stays_on}
-use Rattle.hotel_core.proofs.Invariants.InHouse.{booked_nowhere, registered_in_house}
-use Rattle.hotel_core.proofs.Invariants.InHouseLinks.{in_house_has_link}
-use Rattle.hotel_core.proofs.Invariants.OpenLocks.{there_by_link}
-use Rattle.hotel_core.proofs.Invariants.CodesFound.{newest_found}
-use Rattle.hotel_core.proofs.Lifted.LiftFacts.{HomeLink}
-use Rattle.hotel_core.proofs.Lifted.LiftRooms.{codes_said}
+use Rattle.std.proofs.Common.{ℕ, ◌≡◌, ◌-◌, Bool, true, false, Option, Some, None, refl, ap, sym, ◌∙◌, subst, length, ◌==◌, is_some}
+use Rattle.hotel_core.proofs.Names.{Link, when, said_of, CheckIn, Transfer, CheckOut, History, start, ◌▷◌, link_to, newest_link, link_of_party, registered, leaves, issued, rows_of, room_of, no_link, codes_of, said_code_at, home_link_on, Reached}
+use Rattle.hotel_core.proofs.{OfTables.Tests.eq_self, OfTables.Numbered.apart_by, OfTables.Grown.may_follow, Invariants.Homes.stays_on}
+use Rattle.hotel_core.proofs.{Invariants.InHouse.booked_nowhere, Invariants.InHouse.registered_in_house, Invariants.InHouseLinks.in_house_has_link}
+use Rattle.hotel_core.proofs.{Invariants.OpenLocks.there_by_link, Invariants.CodesFound.newest_found, Lifted.LiftFacts.HomeLink, Lifted.LiftRooms.codes_said}
 use Rattle.hotel_core.proofs.Starts.StartGuests.{has_newest_at_start}
 
 -- a registered party's last link is its room's newest

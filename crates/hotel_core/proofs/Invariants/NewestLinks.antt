@@ -1,20 +1,8 @@
 -- A room with two codes has a newest link.
-use Rattle.std.proofs.Common.{ℕ, ◌≡◌, Bool, true, false, Some, List, [], ◌∷◌, ◌++◌, length, refl, ap, sym, ◌∙◌, arith, length-append}
-use Rattle.std.specs.Prelude.{◌==◌}
-use Rattle.keycard_rules.specs.declared.card.Link.{Link}
-use Rattle.hotel_core.specs.Model.Words.{when, and_last}
-use Rattle.hotel_core.specs.Model.Event.{Install, CheckIn, Transfer}
-use Rattle.hotel_core.specs.Model.History.{History, start, ◌▷◌}
-use Rattle.hotel_core.specs.Model.Issued.{issued}
-use Rattle.hotel_core.specs.Model.Cards.{newest_link, link_to}
-use Rattle.hotel_core.specs.Model.Cases.{is_room}
-use Rattle.hotel_core.specs.Model.Run.{Reached}
-use Rattle.hotel_core.proofs.OfTables.Tests.{eq_from}
-use Rattle.hotel_core.proofs.OfTables.CodeLists.{cut_alike}
-use Rattle.hotel_core.proofs.Invariants.RoomCodes.{others_have_none}
-use Rattle.hotel_core.proofs.Invariants.RoomLinks.{newest_are_last}
-use Rattle.hotel_core.proofs.OfTables.Grown.{may_follow}
-use Rattle.hotel_core.proofs.Starts.StartLinks.{two_have_newest_at_start}
+use Rattle.std.proofs.Common.{ℕ, ◌≡◌, Bool, true, false, Some, List, [], ◌∷◌, ◌++◌, length, refl, ap, sym, ◌∙◌, arith, length-append, ◌==◌}
+use Rattle.hotel_core.proofs.Names.{Link, when, and_last, Install, CheckIn, Transfer, History, start, ◌▷◌, issued, newest_link, link_to, is_room, Reached}
+use Rattle.hotel_core.proofs.{OfTables.Tests.eq_from, OfTables.CodeLists.cut_alike, Invariants.RoomCodes.others_have_none, Invariants.RoomLinks.newest_are_last}
+use Rattle.hotel_core.proofs.{OfTables.Grown.may_follow, Starts.StartLinks.two_have_newest_at_start}
 
 -- there is a newest link of a room whose codes end with two
 abbrev pub TwoHaveNewest : History → Type 0

@@ -1,25 +1,9 @@
 -- Nothing happened at a number that is no room's.
-use Rattle.std.proofs.Common.{ℕ, ◌≡◌, true, false, Some, None, List, [], ap, sym, ◌∙◌, subst}
-use Rattle.std.specs.Prelude.{◌==◌}
-use Rattle.keycard_rules.specs.Note.{Note}
+use Rattle.std.proofs.Common.{ℕ, ◌≡◌, true, false, Some, None, List, [], ap, sym, ◌∙◌, subst, ◌==◌}
+use Rattle.hotel_core.proofs.Names.{Note, when, and_last, Install, CheckIn, Transfer, CheckOut, Entered, Left, Recoded, History, start, ◌▷◌, issued, passed, registered, leaves, notes, rooms, Reached, is_room}
 use Rattle.keycard_rules.specs.declared.note.Act.TheVariants as act
-use Rattle.hotel_core.specs.Model.Words.{when, and_last}
-use Rattle.hotel_core.specs.Model.Event.{Install, CheckIn, Transfer, CheckOut, Entered, Left, Recoded}
-use Rattle.hotel_core.specs.Model.History.{History, start, ◌▷◌}
-use Rattle.hotel_core.specs.Model.Issued.{issued}
-use Rattle.hotel_core.specs.Model.Ledger.{passed}
-use Rattle.hotel_core.specs.Model.Guests.{registered, leaves}
-use Rattle.hotel_core.specs.Model.Notes.{notes}
-use Rattle.hotel_core.specs.Model.Stays.{rooms}
-use Rattle.hotel_core.specs.Model.Run.{Reached}
-use Rattle.hotel_core.specs.Model.Cases.{is_room}
-use Rattle.hotel_core.proofs.OfTables.Numbered.{true_is_not_false, apart_by}
-use Rattle.hotel_core.proofs.OfTables.Grown.{may_follow}
-use Rattle.hotel_core.proofs.OfTables.Tests.{or_false}
-use Rattle.hotel_core.proofs.OfTables.TableKeys.{key_inserted}
-use Rattle.hotel_core.proofs.Invariants.RoomCodes.{others_have_none}
-use Rattle.hotel_core.proofs.Starts.StartGuests.{nobody_at_start}
-use Rattle.hotel_core.proofs.Starts.StartNotes.{nothing_noted_at_start}
+use Rattle.hotel_core.proofs.{OfTables.Numbered.true_is_not_false, OfTables.Numbered.apart_by, OfTables.Grown.may_follow, OfTables.Tests.or_false, OfTables.TableKeys.key_inserted}
+use Rattle.hotel_core.proofs.{Invariants.RoomCodes.others_have_none, Starts.StartGuests.nobody_at_start, Starts.StartNotes.nothing_noted_at_start}
 
 -- a room is apart from what is no room
 pub apart_rooms : (h : History) (room r : ℕ) → is_room h room ≡ true → is_room h r ≡ false → (room == r) ≡ false

@@ -1,18 +1,9 @@
 -- Each note moved exactly the codes that it records.
-use Rattle.std.proofs.Common.{ℕ, ◌≡◌, true, List, refl, ap, sym, ◌∙◌, eq-eqb}
-use Rattle.std.specs.Prelude.{◌==◌}
+use Rattle.std.proofs.Common.{ℕ, ◌≡◌, true, List, refl, ap, sym, ◌∙◌, eq-eqb, ◌==◌}
+use Rattle.hotel_core.proofs.Names.{Link, before, after, without, Event, Moment, Entered, Left, Recoded, History, start, ◌▷◌, held, awaited, Reached}
 use Rattle.keycard_rules.specs.Chain.{Ledger}
-use Rattle.keycard_rules.specs.declared.card.Link.{Link}
-use Rattle.hotel_core.specs.Model.Words.{before, after, without}
-use Rattle.hotel_core.specs.Model.Event.{Event, Moment, Entered, Left, Recoded}
-use Rattle.hotel_core.specs.Model.History.{History, start, ◌▷◌}
-use Rattle.hotel_core.specs.Model.Lock.{held}
-use Rattle.hotel_core.specs.Model.Ledger.{awaited}
-use Rattle.hotel_core.specs.Model.Run.{Reached}
 use Rattle.hotel_core.specs.Model.Moved.{EntryMoves, RecodingMoves, Moves, NotesMove}
-use Rattle.hotel_core.proofs.OfTables.Tests.{eq_from}
-use Rattle.hotel_core.proofs.OfTables.CodeLists.{first_out, parted}
-use Rattle.hotel_core.proofs.OfTables.Grown.{may_follow}
+use Rattle.hotel_core.proofs.{OfTables.Tests.eq_from, OfTables.CodeLists.first_out, OfTables.CodeLists.parted, OfTables.Grown.may_follow}
 use Rattle.hotel_core.proofs.Invariants.LedgerOrder.{first_awaited, holds_new, link_seen, ledger_holds}
 
 codes_same : (p q : List ℕ) (x y : ℕ) (a b : List ℕ) → p ≡ q → x ≡ y → a ≡ b → (let c : Ledger = record { passed = p; held = x; awaited = a } in c) ≡ record { passed = q; held = y; awaited = b }

@@ -1,22 +1,8 @@
 -- The cards and the stays are numbered 1, 2 and so on.
-use Rattle.std.proofs.Common.{ℕ, ◌≡◌, ◌+◌, Bool, true, false, cond, Option, Some, None, List, [], ◌∷◌, length, refl, ap, ◌∙◌, arith}
-use Rattle.std.specs.Prelude.{◌==◌}
-use Rattle.std.specs.Map.{keys_of}
-use Rattle.keycard_rules.specs.declared.card.Card.{Card}
-use Rattle.keycard_rules.specs.declared.card.Link.{Link}
-use Rattle.hotel_nights.specs.declared.stay.Stay.{Stay}
-use Rattle.hotel_nights.specs.declared.stay.StayState.{StayState}
+use Rattle.std.proofs.Common.{ℕ, ◌≡◌, ◌+◌, Bool, true, false, cond, Option, Some, None, List, [], ◌∷◌, length, refl, ap, ◌∙◌, arith, ◌==◌}
+use Rattle.hotel_core.proofs.Names.{keys_of, Card, Link, Stay, StayState, count_up, at_number, Reserved, Cancelled, CheckIn, Transfer, Spare, CheckOut, History, start, ◌▷◌, cards, card_of, with_spare, link_of_party, link_to, stays, in_state, now_is, Reached}
 use Rattle.hotel_nights.specs.declared.stay.StayState.TheVariants as state
-use Rattle.hotel_core.specs.Model.SoundRooms.{count_up}
-use Rattle.hotel_core.specs.Model.Rows.{at_number}
-use Rattle.hotel_core.specs.Model.Event.{Reserved, Cancelled, CheckIn, Transfer, Spare, CheckOut}
-use Rattle.hotel_core.specs.Model.History.{History, start, ◌▷◌}
-use Rattle.hotel_core.specs.Model.Cards.{cards, card_of, with_spare, link_of_party, link_to}
-use Rattle.hotel_core.specs.Model.Stays.{stays, in_state, now_is}
-use Rattle.hotel_core.specs.Model.Run.{Reached}
-use Rattle.hotel_core.proofs.Facts.CodeFacts.{CardsCount, StaysCount}
-use Rattle.hotel_core.proofs.OfTables.Counting.{counts_more, next_is_free}
-use Rattle.hotel_core.proofs.OfTables.Grown.{may_follow}
+use Rattle.hotel_core.proofs.{Facts.CodeFacts.CardsCount, Facts.CodeFacts.StaysCount, OfTables.Counting.counts_more, OfTables.Counting.next_is_free, OfTables.Grown.may_follow}
 use Rattle.hotel_core.proofs.Starts.StartNumbers.{cards_count_at_start, stays_count_at_start}
 
 keys_by : (b : Bool) (e : ℕ × Stay) (s : Stay) (es later : List (ℕ × Stay)) → keys_of later ≡ keys_of es → keys_of (cond b ((e.0, s) ∷ es) (e ∷ later)) ≡ e.0 ∷ keys_of es

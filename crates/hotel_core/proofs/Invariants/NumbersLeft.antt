@@ -1,45 +1,17 @@
 -- Cards and stays have numbers up to the greatest, and a room has few codes.
-use Rattle.std.proofs.Common.{ℕ, ◌≡◌, ◌+◌, ◌≤◌, ◌<◌, Bool, true, false, Option, Some, None, List, [], ◌∷◌, ◌++◌, length, refl, ap, sym, ◌∙◌, subst, arith}
-use Rattle.std.specs.Prelude.{◌==◌, nat_le, option_map}
+use Rattle.std.proofs.Common.{ℕ, ◌≡◌, ◌+◌, ◌≤◌, ◌<◌, Bool, true, false, Option, Some, None, List, [], ◌∷◌, ◌++◌, length, refl, ap, sym, ◌∙◌, subst, arith, ◌==◌, nat_le, option_map, nat_cmp}
+use Rattle.hotel_core.proofs.Names.{insert_entry, Card, Link, Act, Note, draw_from, Command, Refusal, NoCard, CardDiffers, LockShut, NotInside, HeldDiffers, NotAwaited, when, and_last, is_one_of, Event, History, start, ◌▷◌, issued, issued_codes, cards, card_of, with_spare, link_of_party, link_to, inside, awaited, stays, Standing, Next, standing, is_room, is_card, has_link, opens, next_card, parties_used_up, cards_used_up, accepted, needs, bars, answer_to, checks, effect, reported, told, moment_of, Reached}
 use Rattle.std.proofs.lemmas.Bool.{leb-false}
-use Rattle.std.specs.Ordering.{nat_cmp}
-use Rattle.std.specs.BTreeMap.{insert_entry}
-use Rattle.keycard_rules.specs.declared.card.Card.{Card}
-use Rattle.keycard_rules.specs.declared.card.Link.{Link}
-use Rattle.keycard_rules.specs.declared.note.Act.{Act}
 use Rattle.keycard_rules.specs.declared.note.Act.TheVariants as act
-use Rattle.keycard_rules.specs.Note.{Note}
-use Rattle.keycard_rules.specs.Draw.{draw_from}
 use Rattle.hotel_nights.specs.declared.stay.StayState.TheVariants as state
-use Rattle.hotel_core.specs.declared.command.Command.{Command}
 use Rattle.hotel_core.specs.declared.command.Command.TheVariants as command
-use Rattle.hotel_core.specs.declared.reply.Refusal.{Refusal}
-use Rattle.hotel_core.specs.declared.reply.Refusal.TheVariants.{NoCard, CardDiffers, LockShut, NotInside, HeldDiffers, NotAwaited}
 use Rattle.hotel_core.specs.declared.reply.Reply.TheVariants as reply
-use Rattle.hotel_core.specs.Model.Words.{when, and_last, is_one_of}
-use Rattle.hotel_core.specs.Model.Event.{Event}
 use Rattle.hotel_core.specs.Model.Event as event
-use Rattle.hotel_core.specs.Model.History.{History, start, ◌▷◌}
-use Rattle.hotel_core.specs.Model.Issued.{issued, issued_codes}
-use Rattle.hotel_core.specs.Model.Cards.{cards, card_of, with_spare, link_of_party, link_to}
-use Rattle.hotel_core.specs.Model.Guests.{inside}
-use Rattle.hotel_core.specs.Model.Ledger.{awaited}
-use Rattle.hotel_core.specs.Model.Stays.{stays}
-use Rattle.hotel_core.specs.Model.Notes.{Standing, Copy, Conflicting, Next, After, standing}
-use Rattle.hotel_core.specs.Model.Cases.{is_room, is_card, has_link, opens, holds, next_card, parties_used_up, cards_used_up}
-use Rattle.hotel_core.specs.Model.Outcome.{accepted, needs, bars}
-use Rattle.hotel_core.specs.Model.Answer.{answer_to, checks, effect, reported, told, moment_of}
-use Rattle.hotel_core.specs.Model.Run.{Reached}
-use Rattle.hotel_core.proofs.Facts.CodeFacts.{CardsFit, StaysFit, CodesFit}
-use Rattle.hotel_core.proofs.OfTables.Tests.{eq_from}
-use Rattle.hotel_core.proofs.Invariants.Following.{AllPass, passed_all}
-use Rattle.hotel_core.proofs.OfTables.Counting.{counts_more}
-use Rattle.hotel_core.proofs.OfTables.CodeLists.{length_more}
-use Rattle.hotel_core.proofs.Invariants.Numbering.{cards_count, stays_count, same_length}
-use Rattle.hotel_core.proofs.Invariants.RoomCodes.{others_have_none}
-use Rattle.hotel_core.proofs.OfTables.Grown.{may_follow}
-use Rattle.hotel_core.proofs.Starts.StartNumbers.{cards_fit_at_start, stays_fit_at_start}
-use Rattle.hotel_core.proofs.Starts.StartLedger.{codes_fit_at_start}
+use Rattle.hotel_core.specs.Model.Cases.{holds}
+use Rattle.hotel_core.proofs.{Facts.CodeFacts.CardsFit, Facts.CodeFacts.StaysFit, Facts.CodeFacts.CodesFit, OfTables.Tests.eq_from}
+use Rattle.hotel_core.proofs.{Invariants.Following.AllPass, Invariants.Following.passed_all, OfTables.Counting.counts_more, OfTables.CodeLists.length_more}
+use Rattle.hotel_core.proofs.{Invariants.Numbering.cards_count, Invariants.Numbering.stays_count, Invariants.Numbering.same_length, Invariants.RoomCodes.others_have_none}
+use Rattle.hotel_core.proofs.{OfTables.Grown.may_follow, Starts.StartNumbers.cards_fit_at_start, Starts.StartNumbers.stays_fit_at_start, Starts.StartLedger.codes_fit_at_start}
 
 -- an event that uses a number finds one left
 abbrev pub HasNumber : History → Event → Type 0
@@ -75,10 +47,8 @@ by_act h note (act.Recoded from to) e q =
     subst (λ x. HasNumber h x) (same_event p.1) tt
 
 by_standing : (h : History) (note : Note) (s : Standing) (e : Event) → (reported h note s).happens ≡ Some e → HasNumber h e
-by_standing h note Copy e q = cc
-by_standing h note Conflicting e q = cc
-by_standing h note (After expected) e q = cc
 by_standing h note Next e q = by_act h note note.act e q
+by_standing h note _ e q = cc
 
 number_if : (h : History) (ahead : List ℕ) (command : Command) (e : Event) → AllPass (checks h command) → (effect h ahead command).happens ≡ Some e → HasNumber h e
 number_if h ahead (command.Begin day) e p q = subst (λ x. HasNumber h x) (same_event q) tt

@@ -1,24 +1,9 @@
 -- Which cards open a lock.
-use Rattle.std.proofs.Common.{ℕ, ◌≡◌, ◌≤◌, Bool, true, false, cond, Some, None, List, [], ◌∷◌, ◌++◌, length, ◌⊎◌, inl, inr, refl, ap, sym, ◌∙◌, subst, append_assoc, arith, length-append}
-use Rattle.std.specs.Prelude.{◌==◌, ◌||◌, is_some, Contains}
-use Rattle.std.proofs.lemmas.List.Elements.{Contains-append_right}
-use Rattle.keycard_rules.specs.declared.card.Link.{Link}
-use Rattle.keycard_rules.specs.Lock.{turn}
-use Rattle.hotel_core.specs.Model.History.{History}
-use Rattle.hotel_core.specs.Model.Issued.{issued}
-use Rattle.hotel_core.specs.Model.Cards.{newest_link}
-use Rattle.hotel_core.specs.Model.Lock.{held}
-use Rattle.hotel_core.specs.Model.Ledger.{passed, awaited}
-use Rattle.hotel_core.specs.Model.Cases.{is_room}
-use Rattle.hotel_core.specs.Model.Run.{Reached}
-use Rattle.hotel_core.specs.Model.Headline.{OpensOwnRoom, NewestOpens}
-use Rattle.hotel_core.proofs.Facts.CodeFacts.{IsLink, IsLinkOf}
-use Rattle.hotel_core.proofs.OfTables.Tests.{eq_from, eq_self, not_both, either_way}
-use Rattle.hotel_core.proofs.OfTables.CodeLists.{cut_alike}
-use Rattle.hotel_core.proofs.Invariants.RoomCodes.{others_have_none}
-use Rattle.hotel_core.proofs.Invariants.CodePlaces.{same_place}
-use Rattle.hotel_core.proofs.Invariants.RoomLinks.{cards_have_links, newest_are_last}
-use Rattle.hotel_core.proofs.Invariants.LedgerOrder.{ledger_holds}
+use Rattle.std.proofs.Common.{ℕ, ◌≡◌, ◌≤◌, Bool, true, false, cond, Some, None, List, [], ◌∷◌, ◌++◌, length, ◌⊎◌, inl, inr, refl, ap, sym, ◌∙◌, subst, append_assoc, arith, length-append, ◌==◌, ◌||◌, is_some, Contains}
+use Rattle.hotel_core.proofs.Names.{Contains-append_right, Link, turn, History, issued, newest_link, held, passed, awaited, is_room, Reached, OpensOwnRoom, NewestOpens}
+use Rattle.hotel_core.proofs.{Facts.CodeFacts.IsLink, Facts.CodeFacts.IsLinkOf, OfTables.Tests.eq_from, OfTables.Tests.eq_self, OfTables.Tests.not_both, OfTables.Tests.either_way}
+use Rattle.hotel_core.proofs.{OfTables.CodeLists.cut_alike, Invariants.RoomCodes.others_have_none, Invariants.CodePlaces.same_place}
+use Rattle.hotel_core.proofs.{Invariants.RoomLinks.cards_have_links, Invariants.RoomLinks.newest_are_last, Invariants.LedgerOrder.ledger_holds}
 
 one_holds : (a b : Bool) (new : ℕ) → is_some (cond (a || b) (Some new) None) ≡ true → (a ≡ true) ⊎ (b ≡ true)
 one_holds true b new e = inl refl

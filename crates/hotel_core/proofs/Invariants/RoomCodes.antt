@@ -1,19 +1,9 @@
 -- A room has codes exactly where it is there.
-use Rattle.std.proofs.Common.{ℕ, ◌≡◌, Bool, true, false, List, [], ◌∷◌, ◌++◌, inl, inr, refl, ap, sym, ◌∙◌}
-use Rattle.std.specs.Prelude.{◌==◌, ◌&&◌}
-use Rattle.hotel_core.specs.Model.Words.{when, and_last, without, before, after}
-use Rattle.hotel_core.specs.Model.Event.{Install, CheckIn, Transfer, Entered, Recoded}
-use Rattle.hotel_core.specs.Model.History.{History, start, ◌▷◌}
-use Rattle.hotel_core.specs.Model.Issued.{issued}
-use Rattle.hotel_core.specs.Model.Ledger.{passed, awaited, turns}
-use Rattle.hotel_core.specs.Model.Stays.{rooms}
-use Rattle.hotel_core.specs.Model.Cases.{is_room}
-use Rattle.hotel_core.specs.Model.Run.{Reached}
+use Rattle.std.proofs.Common.{ℕ, ◌≡◌, Bool, true, false, List, [], ◌∷◌, ◌++◌, inl, inr, refl, ap, sym, ◌∙◌, ◌==◌, ◌&&◌}
+use Rattle.hotel_core.proofs.Names.{when, and_last, without, before, after, Install, CheckIn, Transfer, Entered, Recoded, History, start, ◌▷◌, issued, passed, awaited, turns, rooms, is_room, Reached}
 use Rattle.hotel_core.proofs.Facts.CodeFacts.{HasCodes, RoomsHaveCodes, OthersHaveNone}
-use Rattle.hotel_core.proofs.OfTables.Tests.{eq_from, or_true, or_false, not_both}
-use Rattle.hotel_core.proofs.OfTables.TableKeys.{key_inserted}
-use Rattle.hotel_core.proofs.OfTables.Grown.{may_follow, not_here}
-use Rattle.hotel_core.proofs.Starts.StartLedger.{rooms_have_codes_at_start, others_have_none_at_start}
+use Rattle.hotel_core.proofs.{OfTables.Tests.eq_from, OfTables.Tests.or_true, OfTables.Tests.or_false, OfTables.Tests.not_both, OfTables.TableKeys.key_inserted}
+use Rattle.hotel_core.proofs.{OfTables.Grown.may_follow, OfTables.Grown.not_here, Starts.StartLedger.rooms_have_codes_at_start, Starts.StartLedger.others_have_none_at_start}
 
 -- one more code at another room
 no_code_here : (b : Bool) (h : History) (code r : ℕ) → b ≡ false → issued h r ≡ [] → when b (and_last code) (issued h r) ≡ []

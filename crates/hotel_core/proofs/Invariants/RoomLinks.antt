@@ -1,23 +1,8 @@
 -- Links of cards are neighbours among a room's codes.
-use Rattle.std.proofs.Common.{ℕ, ◌≡◌, Bool, true, false, Option, Some, None, List, [], ◌∷◌, ◌++◌, inl, inr, refl, ap, sym, ◌∙◌, subst, append_assoc}
-use Rattle.std.specs.Prelude.{◌==◌}
-use Rattle.std.specs.Ordering.{nat_cmp}
-use Rattle.std.specs.BTreeMap.{insert_entry}
-use Rattle.keycard_rules.specs.declared.card.Card.{Card}
-use Rattle.keycard_rules.specs.declared.card.Link.{Link}
-use Rattle.hotel_core.specs.Model.Words.{when, and_last, last_of}
-use Rattle.hotel_core.specs.Model.Rows.{at_number}
-use Rattle.hotel_core.specs.Model.Event.{Install, CheckIn, Transfer, Spare}
-use Rattle.hotel_core.specs.Model.History.{History, start, ◌▷◌}
-use Rattle.hotel_core.specs.Model.Issued.{issued, current}
-use Rattle.hotel_core.specs.Model.Cards.{cards, card_of, with_spare, link_of_party, link_to, newest_link}
-use Rattle.hotel_core.specs.Model.Cases.{is_room}
-use Rattle.hotel_core.specs.Model.Run.{Reached}
+use Rattle.std.proofs.Common.{ℕ, ◌≡◌, Bool, true, false, Option, Some, None, List, [], ◌∷◌, ◌++◌, inl, inr, refl, ap, sym, ◌∙◌, subst, append_assoc, ◌==◌, nat_cmp}
+use Rattle.hotel_core.proofs.Names.{insert_entry, Card, Link, when, and_last, last_of, at_number, Install, CheckIn, Transfer, Spare, History, start, ◌▷◌, issued, current, cards, card_of, with_spare, link_of_party, link_to, newest_link, is_room, Reached}
 use Rattle.hotel_core.proofs.Facts.CodeFacts.{IsLinkOf, IsLink, CardsHaveLinks, PartiesHaveLinks, NewestAreLast, HasCodes}
-use Rattle.hotel_core.proofs.OfTables.Tests.{eq_from, eq_self}
-use Rattle.hotel_core.proofs.OfTables.TableKeys.{row_inserted}
-use Rattle.hotel_core.proofs.OfTables.CodeLists.{last_split}
-use Rattle.hotel_core.proofs.OfTables.Grown.{may_follow}
+use Rattle.hotel_core.proofs.{OfTables.Tests.eq_from, OfTables.Tests.eq_self, OfTables.TableKeys.row_inserted, OfTables.CodeLists.last_split, OfTables.Grown.may_follow}
 use Rattle.hotel_core.proofs.Invariants.RoomCodes.{rooms_have_codes, others_have_none}
 use Rattle.hotel_core.proofs.Starts.StartLinks.{cards_have_links_at_start, parties_have_links_at_start, newest_are_last_at_start}
 

@@ -1,31 +1,11 @@
 -- On no night are more stays of a kind than rooms.
-use Rattle.std.proofs.Common.{ℕ, ◌≡◌, ◌≤◌, ◌<◌, ◌+◌, Bool, true, false, cond, Some, None, List, refl, ap, sym, ◌∙◌, subst, arith}
-use Rattle.std.specs.Prelude.{◌&&◌, nat_le, nat_lt, is_some, bytes_eq}
-use Rattle.std.specs.List.{count_by}
-use Rattle.std.specs.Map.{values_of}
+use Rattle.std.proofs.Common.{ℕ, ◌≡◌, ◌≤◌, ◌<◌, ◌+◌, Bool, true, false, cond, Some, None, List, refl, ap, sym, ◌∙◌, subst, arith, ◌&&◌, nat_le, nat_lt, is_some, bytes_eq, count_by}
+use Rattle.hotel_core.proofs.Names.{values_of, bytes_eq-Decides, Stay, StayState, takes, is_standing, is_full, nights_taken, said_of, at_number, Install, Reserved, Cancelled, CheckIn, Transfer, CheckOut, History, start, ◌▷◌, stays, rooms, rooms_of, nights, now_is, first_full, is_booked, is_in_house, is_booked_state, room_of_state, Reached, rows_of, stays_on, rooms_with}
 use Rattle.std.proofs.lemmas.Bool.{leb-false}
-use Rattle.std.proofs.lemmas.Slice.Eq.{bytes_eq-Decides}
-use Rattle.hotel_nights.specs.declared.stay.Stay.{Stay}
-use Rattle.hotel_nights.specs.declared.stay.StayState.{StayState}
 use Rattle.hotel_nights.specs.declared.stay.StayState.TheVariants as state
-use Rattle.hotel_nights.specs.FullNight.{takes, is_standing, is_full, nights_taken}
-use Rattle.hotel_core.specs.Model.Words.{said_of}
-use Rattle.hotel_core.specs.Model.Rows.{at_number}
-use Rattle.hotel_core.specs.Model.Event.{Install, Reserved, Cancelled, CheckIn, Transfer, CheckOut}
-use Rattle.hotel_core.specs.Model.History.{History, start, ◌▷◌}
-use Rattle.hotel_core.specs.Model.Stays.{stays, rooms, rooms_of, nights, now_is, first_full}
-use Rattle.hotel_core.specs.Model.Cases.{is_booked, is_in_house, is_booked_state, room_of_state}
-use Rattle.hotel_core.specs.Model.Run.{Reached}
-use Rattle.hotel_core.proofs.OfTables.Tests.{and_true, not_both}
-use Rattle.hotel_core.proofs.OfTables.TableKeys.{no_key}
-use Rattle.hotel_core.proofs.OfTables.Grown.{may_follow}
-use Rattle.hotel_core.proofs.Invariants.Numbering.{next_party_free}
-use Rattle.hotel_core.proofs.OfTables.StayCounts.{count_inserted, count_changed, none_passes}
-use Rattle.hotel_core.proofs.Starts.StartRows.{rooms_of_start}
-use Rattle.hotel_core.proofs.Starts.StartRules.{le_from, lt_from}
-use Rattle.hotel_core.specs.Model.RowsOf.{rows_of}
-use Rattle.hotel_core.specs.Model.SoundRooms.{stays_on, rooms_with}
-use Rattle.hotel_core.proofs.Invariants.KindCounts.{rooms_counted}
+use Rattle.hotel_core.proofs.{OfTables.Tests.and_true, OfTables.Tests.not_both, OfTables.TableKeys.no_key, OfTables.Grown.may_follow, Invariants.Numbering.next_party_free}
+use Rattle.hotel_core.proofs.{OfTables.StayCounts.count_inserted, OfTables.StayCounts.count_changed, OfTables.StayCounts.none_passes, Starts.StartRows.rooms_of_start}
+use Rattle.hotel_core.proofs.{Starts.StartRules.le_from, Starts.StartRules.lt_from, Invariants.KindCounts.rooms_counted}
 
 -- on no night are more stays of a kind than rooms
 abbrev pub RoomsSuffice : History → Type 0

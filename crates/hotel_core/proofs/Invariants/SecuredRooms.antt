@@ -1,36 +1,12 @@
 -- Who is inside a secured room.
-use Rattle.std.proofs.Common.{ℕ, ◌≡◌, Bool, true, false, Some, List, [], ◌∷◌, ◌++◌, ◌⊎◌, inl, inr, refl, ap, sym, ◌∙◌, subst, append_assoc}
-use Rattle.std.specs.Prelude.{◌==◌, ◌&&◌, ◌||◌, ◌+◌, length}
-use Rattle.std.specs.Ordering.{nat_cmp}
-use Rattle.std.specs.BTreeMap.{insert_entry}
-use Rattle.keycard_rules.specs.declared.card.Card.{Card}
-use Rattle.keycard_rules.specs.declared.card.Link.{Link}
-use Rattle.hotel_core.specs.Model.Words.{when, and_last, is_one_of, after, without, last_of}
-use Rattle.hotel_core.specs.Model.Rows.{at_number}
-use Rattle.hotel_core.specs.Model.Event.{Moment, Install, CheckIn, Transfer, Spare, Entered, Left, Recoded}
-use Rattle.hotel_core.specs.Model.History.{History, start, ◌▷◌}
-use Rattle.hotel_core.specs.Model.Issued.{issued, current}
-use Rattle.hotel_core.specs.Model.Cards.{cards, card_of, link_to, newest_link, link_of_party}
-use Rattle.hotel_core.specs.Model.Lock.{held}
-use Rattle.hotel_core.specs.Model.Ledger.{passed, awaited, turns}
-use Rattle.hotel_core.specs.Model.Guests.{insiders, inside, secured, are_none}
-use Rattle.hotel_core.specs.Model.Stays.{rooms}
-use Rattle.hotel_core.specs.Model.Cases.{is_room}
-use Rattle.hotel_core.specs.Model.Run.{Reached}
-use Rattle.hotel_core.proofs.Facts.Follow.{MayFollow}
-use Rattle.hotel_core.specs.Model.Headline.{SafeRoom}
-use Rattle.hotel_core.proofs.Facts.CodeFacts.{SecuredRoomsFit}
+use Rattle.std.proofs.Common.{ℕ, ◌≡◌, Bool, true, false, Some, List, [], ◌∷◌, ◌++◌, ◌⊎◌, inl, inr, refl, ap, sym, ◌∙◌, subst, append_assoc, ◌==◌, ◌&&◌, ◌||◌, ◌+◌, length, nat_cmp}
+use Rattle.hotel_core.proofs.Names.{insert_entry, Card, Link, when, and_last, is_one_of, after, without, last_of, at_number, Moment, Install, CheckIn, Transfer, Spare, Entered, Left, Recoded, History, start, ◌▷◌, issued, current, cards, card_of, link_to, newest_link, link_of_party, held, passed, awaited, turns, insiders, inside, secured, are_none, rooms, is_room, Reached, SafeRoom}
+use Rattle.hotel_core.proofs.{Facts.Follow.MayFollow, Facts.CodeFacts.SecuredRoomsFit}
 use Rattle.hotel_core.proofs.OfTables.Tests.{eq_from, eq_self, and_true, either_way, not_both}
-use Rattle.hotel_core.proofs.OfTables.TableKeys.{key_inserted}
-use Rattle.hotel_core.proofs.OfTables.CodeLists.{last_more}
-use Rattle.hotel_core.proofs.OfTables.Grown.{may_follow}
-use Rattle.hotel_core.proofs.Invariants.RoomCodes.{rooms_have_codes}
-use Rattle.hotel_core.proofs.Invariants.CodePlaces.{same_place}
-use Rattle.hotel_core.proofs.Invariants.RoomLinks.{ends_with_current, newest_are_last}
+use Rattle.hotel_core.proofs.{OfTables.TableKeys.key_inserted, OfTables.CodeLists.last_more, OfTables.Grown.may_follow, Invariants.RoomCodes.rooms_have_codes}
+use Rattle.hotel_core.proofs.{Invariants.CodePlaces.same_place, Invariants.RoomLinks.ends_with_current, Invariants.RoomLinks.newest_are_last}
 use Rattle.hotel_core.proofs.Invariants.LedgerOrder.{ledger_holds, link_seen, card_seen}
-use Rattle.hotel_core.proofs.Invariants.OpenLocks.{opened_by, link_of_room}
-use Rattle.hotel_core.proofs.Invariants.CodesFound.{entered_in_order}
-use Rattle.hotel_core.proofs.Invariants.NewestLinks.{newest_is}
+use Rattle.hotel_core.proofs.{Invariants.OpenLocks.opened_by, Invariants.OpenLocks.link_of_room, Invariants.CodesFound.entered_in_order, Invariants.NewestLinks.newest_is}
 use Rattle.hotel_core.proofs.Invariants.InsideRooms.{came_in, left_out, nobody_in, one_of_these}
 use Rattle.hotel_core.proofs.Invariants.CardParties.{card_kept, card_kept_spare, cards_one_party, guests_have_cards}
 use Rattle.hotel_core.proofs.Starts.StartSecured.{secured_rooms_fit_at_start}

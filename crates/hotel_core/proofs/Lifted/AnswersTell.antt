@@ -1,29 +1,11 @@
 -- No answer of the model says that memory or the store failed.
-use Rattle.std.proofs.Common.{ℕ, ◌≡◌, Bool, true, false, Option, Some, None, List, [], ◌∷◌, refl}
-use Rattle.std.specs.Prelude.{option_map}
-use Rattle.keycard_rules.specs.declared.note.Act.{Act}
+use Rattle.std.proofs.Common.{ℕ, ◌≡◌, Bool, true, false, Option, Some, None, List, [], ◌∷◌, refl, option_map}
+use Rattle.hotel_core.proofs.Names.{Act, draw_from, Note, Command, Reply, Refusal, KindFull, NoFreshCode, NoCard, CardDiffers, LockShut, NotInside, HeldDiffers, NotAwaited, said_of, is_one_of, Event, History, issued_codes, awaited, inside, first_full, is_card, has_link, opens, Standing, Next, standing, Outcome, accepted, needs, bars, unless, answer_to, checks, effect, reported, told, moment_of, is_failed}
 use Rattle.keycard_rules.specs.declared.note.Act.TheVariants as act
-use Rattle.keycard_rules.specs.Draw.{draw_from}
-use Rattle.keycard_rules.specs.Note.{Note}
-use Rattle.hotel_core.specs.declared.command.Command.{Command}
 use Rattle.hotel_core.specs.declared.command.Command.TheVariants as command
-use Rattle.hotel_core.specs.declared.reply.Reply.{Reply}
 use Rattle.hotel_core.specs.declared.reply.Reply.TheVariants as reply
-use Rattle.hotel_core.specs.declared.reply.Refusal.{Refusal}
-use Rattle.hotel_core.specs.declared.reply.Refusal.TheVariants.{KindFull, NoFreshCode, NoCard, CardDiffers, LockShut, NotInside, HeldDiffers, NotAwaited}
-use Rattle.hotel_core.specs.Model.Words.{said_of, is_one_of}
-use Rattle.hotel_core.specs.Model.Event.{Event}
 use Rattle.hotel_core.specs.Model.Event as event
-use Rattle.hotel_core.specs.Model.History.{History}
-use Rattle.hotel_core.specs.Model.Issued.{issued_codes}
-use Rattle.hotel_core.specs.Model.Ledger.{awaited}
-use Rattle.hotel_core.specs.Model.Guests.{inside}
-use Rattle.hotel_core.specs.Model.Stays.{first_full}
-use Rattle.hotel_core.specs.Model.Cases.{is_card, has_link, opens, holds}
-use Rattle.hotel_core.specs.Model.Notes.{Standing, Copy, Conflicting, Next, After, standing}
-use Rattle.hotel_core.specs.Model.Outcome.{Outcome, accepted, needs, bars, unless}
-use Rattle.hotel_core.specs.Model.Answer.{answer_to, checks, effect, reported, told, moment_of}
-use Rattle.hotel_core.specs.Model.Run.{is_failed}
+use Rattle.hotel_core.specs.Model.Cases.{holds}
 
 -- a check tells no failure
 abbrev pub Tells : Option Refusal → Type 0
@@ -94,23 +76,15 @@ note_told h note (act.Recoded from to) =
     needs_told_two (holds h note.room from) (is_one_of to (awaited h note.room)) HeldDiffers NotAwaited (event.Recoded note.room note.count from to (moment_of note)) refl refl
 
 note_reported : (h : History) (note : Note) (s : Standing) → is_failed (reported h note s).reply ≡ false
-note_reported h note Copy = refl
-note_reported h note Conflicting = refl
-note_reported h note (After expected) = refl
 note_reported h note Next = note_told h note note.act
+note_reported h note _ = refl
 
 effect_tells : (h : History) (ahead : List ℕ) (command : Command) → is_failed (effect h ahead command).reply ≡ false
 effect_tells h ahead (command.AddRoom room kind) = draw_tells (draw_from (issued_codes h) ahead).code _ (λ code. refl)
 effect_tells h ahead (command.CheckIn party room) = draw_tells (draw_from (issued_codes h) ahead).code _ (λ code. refl)
 effect_tells h ahead (command.Transfer party room) = draw_tells (draw_from (issued_codes h) ahead).code _ (λ code. refl)
 effect_tells h ahead (command.Reported note) = note_reported h note (standing h note)
-effect_tells h ahead (command.Begin day) = refl
-effect_tells h ahead (command.AddKind kind) = refl
-effect_tells h ahead (command.Reserve guest kind arrive nights) = refl
-effect_tells h ahead (command.Cancel party) = refl
-effect_tells h ahead (command.Spare party) = refl
-effect_tells h ahead (command.CheckOut party) = refl
-effect_tells h ahead command.NextDay = refl
+effect_tells h ahead _ = refl
 
 pub answers_tell : (h : History) (ahead : List ℕ) (command : Command) → is_failed (answer_to h ahead command).reply ≡ false
 unfolding answer_to

@@ -1,15 +1,7 @@
 -- A run as it is computed from a source's words is a run.
 use Rattle.std.proofs.Common.{ℕ, zero, suc, ◌≡◌, ◌-◌, ◌≤◌, false, List, [], ◌∷◌, take, drop, length, refl, ap, sym, ◌∙◌, subst, arith}
+use Rattle.hotel_core.proofs.Names.{Stream, next_u64, words, past, Command, Event, History, Outcome, grown, answer_to, Ran, run_on, answered, is_failed, Steps, StepsIf, IsRun}
 use Rattle.std.proofs.lemmas.List.{length-drop}
-use Rattle.rand_core.specs.Stream.{Stream, next_u64}
-use Rattle.keycard_rules.specs.Draw.{words, past}
-use Rattle.hotel_core.specs.declared.command.Command.{Command}
-use Rattle.hotel_core.specs.Model.Event.{Event}
-use Rattle.hotel_core.specs.Model.History.{History}
-use Rattle.hotel_core.specs.Model.Outcome.{Outcome, grown}
-use Rattle.hotel_core.specs.Model.Answer.{answer_to}
-use Rattle.hotel_core.specs.Model.Run.{Ran, run_on, answered, is_failed, Steps, StepsIf}
-use Rattle.hotel_core.specs.Model.Laws.{IsRun}
 use Rattle.hotel_core.proofs.Lifted.AnswersTell.{answers_tell}
 
 -- ---- a source's next words

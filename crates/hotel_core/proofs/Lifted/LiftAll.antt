@@ -1,15 +1,8 @@
 -- Every command, lifted.
-use Rattle.hotel_core.specs.declared.command.Command.{Command}
+use Rattle.hotel_core.proofs.{Names.Command, Names.History, Names.Reached, Names.IsCommand, Names.Lifts, Lifted.LiftFacts.CodesFound, Lifted.LiftFound.codes_found}
 use Rattle.hotel_core.specs.declared.command.Command.TheVariants as command
-use Rattle.hotel_core.specs.Model.History.{History}
-use Rattle.hotel_core.specs.Model.Run.{Reached}
-use Rattle.hotel_core.specs.Model.Ranges.{IsCommand}
-use Rattle.hotel_core.specs.Refinement.Lift.{Lifts}
-use Rattle.hotel_core.proofs.Lifted.LiftFacts.{CodesFound}
-use Rattle.hotel_core.proofs.Lifted.LiftFound.{codes_found}
 use Rattle.hotel_core.proofs.Lifted.LiftEasy.{begin_lifts, add_kind_lifts, next_day_lifts, cancel_lifts, check_out_lifts, add_room_lifts, reserve_lifts}
-use Rattle.hotel_core.proofs.Lifted.LiftGuests.{check_in_lifts, transfer_lifts, spare_lifts}
-use Rattle.hotel_core.proofs.Lifted.LiftNotes.{note_lifts}
+use Rattle.hotel_core.proofs.{Lifted.LiftGuests.check_in_lifts, Lifted.LiftGuests.transfer_lifts, Lifted.LiftGuests.spare_lifts, Lifted.LiftNotes.note_lifts}
 
 answers_lift_where : (h : History) (command : Command) → Reached h → CodesFound h → IsCommand command → Lifts h command
 answers_lift_where h (command.Begin day) ok found n = begin_lifts h day

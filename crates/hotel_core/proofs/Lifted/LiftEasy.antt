@@ -1,25 +1,11 @@
 -- The commands that read no room's row, lifted.
-use Rattle.std.proofs.Common.{ℕ, ◌≡◌, Option, Some, None, List, refl, ap, ◌∙◌, length}
-use Rattle.std.specs.Prelude.{option_map, is_some}
-use Rattle.keycard_rules.specs.Draw.{draw_from}
+use Rattle.std.proofs.Common.{ℕ, ◌≡◌, Option, Some, None, List, refl, ap, ◌∙◌, length, option_map, is_some}
+use Rattle.hotel_core.proofs.Names.{draw_from, NoParty, RoomExists, KindFull, NumbersUsedUp, at_number, History, issued_codes, stays, rooms, room_row, rows_of, is_room, needs, bars, room_at, Lifts}
 use Rattle.hotel_core.specs.declared.command.Command.TheVariants as command
 use Rattle.hotel_core.specs.declared.reply.Reply.TheVariants as reply
-use Rattle.hotel_core.specs.declared.reply.Refusal.TheVariants.{NoParty, RoomExists, KindFull, NumbersUsedUp}
-use Rattle.hotel_core.specs.Model.Rows.{at_number}
 use Rattle.hotel_core.specs.Model.Event as event
-use Rattle.hotel_core.specs.Model.History.{History}
-use Rattle.hotel_core.specs.Model.Issued.{issued_codes}
-use Rattle.hotel_core.specs.Model.Stays.{stays, rooms}
-use Rattle.hotel_core.specs.Model.RowsOf.{room_row, rows_of}
-use Rattle.hotel_core.specs.Model.Cases.{is_room}
-use Rattle.hotel_core.specs.Model.Outcome.{needs, bars}
-use Rattle.hotel_core.specs.Books.Lookups.{room_at}
-use Rattle.hotel_core.specs.Refinement.Lift.{Lifts}
-use Rattle.hotel_core.proofs.Lifted.LiftTools.{lifts_by, draw_lifts}
-use Rattle.hotel_core.proofs.OfTables.Numbered.{is_there}
-use Rattle.hotel_core.proofs.Invariants.KindCounts.{full_night_counted}
-use Rattle.hotel_core.proofs.Lifted.LiftRooms.{last_number}
-use Rattle.hotel_core.proofs.OfTables.RoomNumbers.{room_found}
+use Rattle.hotel_core.proofs.{Lifted.LiftTools.lifts_by, Lifted.LiftTools.alike, Lifted.LiftTools.draw_lifts, OfTables.Numbered.is_there, Invariants.KindCounts.full_night_counted}
+use Rattle.hotel_core.proofs.{Lifted.LiftRooms.last_number, OfTables.RoomNumbers.room_found}
 
 pub begin_lifts : (h : History) (day : ℕ) → Lifts h (command.Begin day)
 begin_lifts h day ahead = lifts_by h ahead (command.Begin day) (refl, λ _. refl)
@@ -46,16 +32,8 @@ room_is_there h room = ap is_some (room_found h room) ∙ some_mapped (λ kind. 
 
 pub add_room_lifts : (h : History) (room : ℕ) (kind : List ℕ) → Lifts h (command.AddRoom room kind)
 add_room_lifts h room kind ahead =
-    lifts_by h ahead (command.AddRoom room kind) (
-      refl,
-      λ _. (
-        refl,
-        λ _. (
-          ap (λ b. bars b RoomExists) (room_is_there h room),
-          λ _. draw_lifts h (draw_from (issued_codes h) ahead) (λ code. reply.RoomAdded code) (λ code. event.Install room kind code),
-        ),
-      ),
-    )
+    lifts_by h ahead (command.AddRoom room kind) (alike refl λ _. alike refl λ _. alike (ap (λ b. bars b RoomExists) (room_is_there h room)) λ _.
+    draw_lifts h (draw_from (issued_codes h) ahead) (λ code. reply.RoomAdded code) (λ code. event.Install room kind code))
 
 pub reserve_lifts : (h : History) (guest kind : List ℕ) (arrive nights : ℕ) → Lifts h (command.Reserve guest kind arrive nights)
 reserve_lifts h guest kind arrive nights ahead =

@@ -1,17 +1,7 @@
 -- What the lifts of commands need: what look-ups of codes find in the rows of a history.
-use Rattle.std.specs.Prelude.{ℕ, ◌≡◌, ◌+◌, ◌-◌, ◌==◌, true, Some, length}
-use Rattle.keycard_rules.specs.declared.card.Link.{Link}
-use Rattle.hotel_core.specs.Model.Words.{is_one_of}
-use Rattle.hotel_core.specs.Model.Event.{Moment, Entered, Recoded}
-use Rattle.hotel_core.specs.Model.History.{History, ◌▷◌}
-use Rattle.hotel_core.specs.Model.Issued.{issued, current}
-use Rattle.hotel_core.specs.Model.Cards.{link_of_party}
-use Rattle.hotel_core.specs.Model.Lock.{held}
-use Rattle.hotel_core.specs.Model.Ledger.{passed, awaited}
-use Rattle.hotel_core.specs.Model.RowsOf.{rows_of}
-use Rattle.hotel_core.specs.Model.Cases.{is_room, room_of, is_card, has_link, opens, holds}
-use Rattle.hotel_core.specs.Books.Lookups.{code_at}
-use Rattle.hotel_core.specs.Refinement.OnRows.{place_on, is_awaited_on, home_link_on}
+use Rattle.std.proofs.Common.{ℕ, ◌≡◌, ◌+◌, ◌-◌, ◌==◌, true, Some, length}
+use Rattle.hotel_core.proofs.Names.{Link, is_one_of, Moment, Entered, Recoded, History, ◌▷◌, issued, current, link_of_party, held, passed, awaited, rows_of, is_room, room_of, is_card, has_link, opens, code_at, place_on, is_awaited_on, home_link_on}
+use Rattle.hotel_core.specs.Model.Cases.{holds}
 
 -- the code that a room's lock holds stands after those that it passed
 abbrev pub HeldFound : History → Type 0

@@ -1,18 +1,9 @@
 -- Look-ups of codes find what the lifts of commands need.
-use Rattle.std.proofs.Common.{◌+◌, false, Option, refl, ap, sym, ◌∙◌, length}
-use Rattle.std.specs.Prelude.{◌==◌, ◌&&◌, nat_lt}
-use Rattle.hotel_core.specs.declared.books.rows.CodeRow.{CodeRow}
-use Rattle.hotel_core.specs.Model.Words.{said_of}
-use Rattle.hotel_core.specs.Model.Rows.{at_number}
-use Rattle.hotel_core.specs.Model.Event.{Moment}
-use Rattle.hotel_core.specs.Model.History.{History}
-use Rattle.hotel_core.specs.Model.Issued.{issued, all_issued}
-use Rattle.hotel_core.specs.Model.Notes.{notes}
-use Rattle.hotel_core.specs.Model.Run.{Reached}
+use Rattle.std.proofs.Common.{◌+◌, false, Option, refl, ap, sym, ◌∙◌, length, ◌==◌, ◌&&◌, nat_lt}
+use Rattle.hotel_core.proofs.Names.{CodeRow, said_of, at_number, Moment, History, issued, all_issued, notes, Reached}
 use Rattle.hotel_core.proofs.Invariants.CodesFound as found
 use Rattle.hotel_core.proofs.Lifted.LiftFacts.{CodesFound, AwaitedFound, EnteredPlace, EnteredCurrent, RecodedPlace}
-use Rattle.hotel_core.proofs.Invariants.LiftHomes.{home_link_found}
-use Rattle.hotel_core.proofs.Lifted.LiftRooms.{place_said}
+use Rattle.hotel_core.proofs.{Invariants.LiftHomes.home_link_found, Lifted.LiftRooms.place_said}
 
 awaited_found : (h : History) → Reached h → AwaitedFound h
 awaited_found h ok room code there =

@@ -1,28 +1,11 @@
 -- The commands by which a party comes to a room, lifted.
-use Rattle.std.proofs.Common.{ℕ, ◌≡◌, true, Option, Some, None, refl, ap, sym, ◌∙◌, length}
-use Rattle.std.specs.Prelude.{is_some}
-use Rattle.hotel_core.specs.Model.Words.{said_of}
-use Rattle.keycard_rules.specs.Draw.{draw_from, Draw}
-use Rattle.keycard_rules.specs.declared.card.Link.{Link}
-use Rattle.hotel_core.specs.declared.books.change.Change.{Change}
+use Rattle.std.proofs.Common.{ℕ, ◌≡◌, true, Option, Some, None, refl, ap, sym, ◌∙◌, length, is_some}
+use Rattle.hotel_core.proofs.Names.{said_of, draw_from, Draw, Link, Change, NoRoom, NoParty, NotInHouse, WrongKind, SameRoom, RoomTaken, NumbersUsedUp, History, issued_codes, card_of, cards, link_to, stays, rows_of, is_room, next_card, room_of, last_card_of, no_link, Outcome, needs, bars, accepted, by_draw, link_on, home_link_on, Lifts}
 use Rattle.hotel_core.specs.declared.books.change.Change.TheVariants as change
 use Rattle.hotel_core.specs.declared.command.Command.TheVariants as command
 use Rattle.hotel_core.specs.declared.reply.Reply.TheVariants as reply
-use Rattle.hotel_core.specs.declared.reply.Refusal.TheVariants.{NoRoom, NoParty, NotInHouse, WrongKind, SameRoom, RoomTaken, NumbersUsedUp}
-use Rattle.hotel_core.specs.Model.Event.{Event}
 use Rattle.hotel_core.specs.Model.Event as event
-use Rattle.hotel_core.specs.Model.History.{History}
-use Rattle.hotel_core.specs.Model.Issued.{issued_codes}
-use Rattle.hotel_core.specs.Model.Cards.{card_of, cards, link_to}
-use Rattle.hotel_core.specs.Model.Stays.{stays}
-use Rattle.hotel_core.specs.Model.RowsOf.{rows_of}
-use Rattle.hotel_core.specs.Model.Cases.{is_room, next_card, room_of, last_card_of, no_link}
-use Rattle.hotel_core.specs.Model.Outcome.{Outcome, needs, bars, accepted, by_draw}
-use Rattle.hotel_core.specs.Refinement.OnRows.{link_on, home_link_on}
-use Rattle.hotel_core.specs.Refinement.Lift.{Lifts}
-use Rattle.hotel_core.proofs.OfTables.Numbered.{is_there}
-use Rattle.hotel_core.proofs.Lifted.LiftTools.{lifts_by, draw_lifts, needed}
-use Rattle.hotel_core.proofs.Lifted.LiftEasy.{room_is_there}
+use Rattle.hotel_core.proofs.{OfTables.Numbered.is_there, Lifted.LiftTools.lifts_by, Lifted.LiftTools.alike, Lifted.LiftTools.draw_lifts, Lifted.LiftTools.needed, Lifted.LiftEasy.room_is_there}
 use Rattle.hotel_core.proofs.Lifted.LiftRooms.{last_number, taken_said, home_said, kind_said, link_said}
 use Rattle.hotel_core.proofs.Lifted.LiftFacts.{CurrentFound, HomeLink}
 
@@ -42,66 +25,20 @@ pub check_in_lifts : (h : History) (party room : ℕ) → CurrentFound h → Lif
 check_in_lifts h party room found ahead =
     let there = needed (is_room h room) NoRoom in
     let draw : Draw = draw_from (issued_codes h) ahead in
-    lifts_by h ahead (command.CheckIn party room) (
-      refl,
-      λ _. (
-        ap (λ b. needs b NoRoom) (room_is_there h room),
-        λ r. (
-          ap (λ b. needs b NoParty) (is_there (stays h) party),
-          λ _. (
-            refl,
-            λ _. (
-              refl,
-              λ _. (
-                refl,
-                λ _. (
-                  ap (λ b. needs b WrongKind) (kind_said h room party),
-                  λ _. (
-                    ap (λ b. bars b RoomTaken) (taken_said h room (there r)),
-                    λ _. (
-                      ap (λ b. bars b NumbersUsedUp) (last_number (length (cards h))),
-                      λ _. issue_same h party room None draw found (there r)
-                          ∙ draw_lifts h draw (λ code. reply.Issued (card_of (next_card h) party (link_to h room code))) (λ code. event.CheckIn party room (next_card h) code),
-                    ),
-                  ),
-                ),
-              ),
-            ),
-          ),
-        ),
-      ),
-    )
+    lifts_by h ahead (command.CheckIn party room) (alike refl λ _. alike (ap (λ b. needs b NoRoom) (room_is_there h room)) λ r. alike (ap (λ b. needs b NoParty) (is_there (stays h) party)) λ _.
+    alike refl λ _. alike refl λ _. alike refl λ _. alike (ap (λ b. needs b WrongKind) (kind_said h room party)) λ _. alike (ap (λ b. bars b RoomTaken) (taken_said h room (there r))) λ _.
+    alike (ap (λ b. bars b NumbersUsedUp) (last_number (length (cards h)))) λ _. issue_same h party room None draw found (there r)
+    ∙ draw_lifts h draw (λ code. reply.Issued (card_of (next_card h) party (link_to h room code))) (λ code. event.CheckIn party room (next_card h) code))
 
 pub transfer_lifts : (h : History) (party room : ℕ) → CurrentFound h → Lifts h (command.Transfer party room)
 transfer_lifts h party room found ahead =
     let there = needed (is_room h room) NoRoom in
     let draw : Draw = draw_from (issued_codes h) ahead in
-    lifts_by h ahead (command.Transfer party room) (
-      refl,
-      λ _. (
-        ap (λ b. needs b NoRoom) (room_is_there h room),
-        λ r. (
-          ap (λ b. needs b NoParty) (is_there (stays h) party),
-          λ _. (
-            refl,
-            λ _. (
-              ap (λ b. needs b WrongKind) (kind_said h room party),
-              λ _. (
-                ap (λ b. bars b SameRoom) (home_said h room party (there r)),
-                λ _. (
-                  ap (λ b. bars b RoomTaken) (taken_said h room (there r)),
-                  λ _. (
-                    ap (λ b. bars b NumbersUsedUp) (last_number (length (cards h))),
-                    λ _. issue_same h party room (room_of h party) draw found (there r)
-                        ∙ draw_lifts h draw (λ code. reply.Issued (card_of (next_card h) party (link_to h room code))) (λ code. event.Transfer party room (next_card h) code),
-                  ),
-                ),
-              ),
-            ),
-          ),
-        ),
-      ),
-    )
+    lifts_by h ahead (command.Transfer party room) (alike refl λ _. alike (ap (λ b. needs b NoRoom) (room_is_there h room)) λ r. alike (ap (λ b. needs b NoParty) (is_there (stays h) party)) λ _.
+    alike refl λ _. alike (ap (λ b. needs b WrongKind) (kind_said h room party)) λ _. alike (ap (λ b. bars b SameRoom) (home_said h room party (there r))) λ _.
+    alike (ap (λ b. bars b RoomTaken) (taken_said h room (there r))) λ _. alike (ap (λ b. bars b NumbersUsedUp) (last_number (length (cards h)))) λ _.
+    issue_same h party room (room_of h party) draw found (there r)
+    ∙ draw_lifts h draw (λ code. reply.Issued (card_of (next_card h) party (link_to h room code))) (λ code. event.Transfer party room (next_card h) code))
 
 home_link : (h : History) (party room : ℕ) → HomeLink h → room_of h party ≡ Some room → home_link_on (rows_of h) party ≡ last_card_of h party
 home_link h party room found e = ap (λ o. said_of o no_link (λ link. link)) (sym (found party room e))
@@ -112,16 +49,6 @@ in_house_by h party None found e n = cc
 
 pub spare_lifts : (h : History) (party : ℕ) → HomeLink h → Lifts h (command.Spare party)
 spare_lifts h party found ahead =
-    lifts_by h ahead (command.Spare party) (
-      refl,
-      λ _. (
-        ap (λ b. needs b NoParty) (is_there (stays h) party),
-        λ _. (
-          refl,
-          λ n. (
-            ap (λ b. bars b NumbersUsedUp) (last_number (length (cards h))),
-            λ _. ap (λ link. accepted (reply.Issued (card_of (next_card h) party link)) (change.Spare (card_of (next_card h) party link))) (in_house_by h party (room_of h party) found refl n),
-          ),
-        ),
-      ),
-    )
+    lifts_by h ahead (command.Spare party) (alike refl λ _. alike (ap (λ b. needs b NoParty) (is_there (stays h) party)) λ _. alike refl λ n.
+    alike (ap (λ b. bars b NumbersUsedUp) (last_number (length (cards h)))) λ _.
+    ap (λ link. accepted (reply.Issued (card_of (next_card h) party link)) (change.Spare (card_of (next_card h) party link))) (in_house_by h party (room_of h party) found refl n))

@@ -1,42 +1,16 @@
 -- A note of a lock, lifted.
-use Rattle.std.proofs.Common.{ℕ, ◌≡◌, ◌+◌, ◌≤◌, Bool, true, false, cond, Option, Some, None, [], ◌∷◌, refl, ap, sym, ◌∙◌, length}
-use Rattle.std.specs.Prelude.{◌==◌, ◌&&◌, is_some}
-use Rattle.keycard_rules.specs.declared.card.Link.{Link}
-use Rattle.keycard_rules.specs.declared.note.Act.{Act}
+use Rattle.std.proofs.Common.{ℕ, ◌≡◌, ◌+◌, ◌≤◌, Bool, true, false, cond, Option, Some, None, [], ◌∷◌, refl, ap, sym, ◌∙◌, length, ◌==◌, ◌&&◌, is_some}
+use Rattle.hotel_core.proofs.Names.{Link, Act, Note, turn, NoRoom, NoCard, CardDiffers, LockShut, NotInside, HeldDiffers, NotAwaited, Conflict, Gap, when, said_of, is_one_of, History, ◌▷◌, current, cards, held, awaited, inside, secured, are_none, Copy, Conflicting, Next, After, notes, same_note, rows_of, is_room, is_card, has_link, opens, card_at, note_at, inside_at, needs, accepted, said, refused, told, reported, moment_of, comes, told_on, reported_on, held_on, said_code_at, place_on, lock_place_on, secured_on, secured_after_on, is_awaited_on, has_link_on, Reached, Lifts, as_change}
 use Rattle.keycard_rules.specs.declared.note.Act.TheVariants as act
-use Rattle.keycard_rules.specs.Note.{Note}
-use Rattle.keycard_rules.specs.Lock.{turn}
-use Rattle.hotel_core.specs.declared.books.change.InsideMove.{InsideMove}
-use Rattle.hotel_core.specs.declared.books.change.InsideMove.TheVariants.{Same, Goes}
+use Rattle.hotel_core.specs.{declared.books.change.InsideMove.InsideMove, declared.books.change.InsideMove.TheVariants.Same, declared.books.change.InsideMove.TheVariants.Goes}
 use Rattle.hotel_core.specs.declared.books.change.Change.TheVariants as change
 use Rattle.hotel_core.specs.declared.command.Command.TheVariants as command
 use Rattle.hotel_core.specs.declared.reply.Reply.TheVariants as reply
-use Rattle.hotel_core.specs.declared.reply.Refusal.TheVariants.{NoRoom, NoCard, CardDiffers, LockShut, NotInside, HeldDiffers, NotAwaited, Conflict, Gap}
-use Rattle.hotel_core.specs.Model.Words.{when, said_of, is_one_of}
 use Rattle.hotel_core.specs.Model.Event as event
-use Rattle.hotel_core.specs.Model.History.{History, ◌▷◌}
-use Rattle.hotel_core.specs.Model.Issued.{current}
-use Rattle.hotel_core.specs.Model.Cards.{cards}
-use Rattle.hotel_core.specs.Model.Lock.{held}
-use Rattle.hotel_core.specs.Model.Ledger.{awaited}
-use Rattle.hotel_core.specs.Model.Guests.{inside, secured, are_none}
-use Rattle.hotel_core.specs.Model.Notes.{Copy, Conflicting, Next, After, notes, same_note}
-use Rattle.hotel_core.specs.Model.RowsOf.{rows_of}
-use Rattle.hotel_core.specs.Model.Cases.{is_room, is_card, has_link, opens, holds}
-use Rattle.hotel_core.specs.Books.Lookups.{card_at, note_at, inside_at}
-use Rattle.hotel_core.specs.Model.Outcome.{needs, accepted, said, refused}
-use Rattle.hotel_core.specs.Model.Answer.{told, reported, moment_of}
-use Rattle.hotel_core.specs.Refinement.ChangeOf.{comes}
-use Rattle.hotel_core.specs.Refinement.OnRows.{told_on, reported_on, held_on, said_code_at, place_on, lock_place_on, secured_on, secured_after_on, is_awaited_on, has_link_on}
-use Rattle.hotel_core.specs.Model.Run.{Reached}
-use Rattle.hotel_core.specs.Refinement.Lift.{Lifts, as_change}
-use Rattle.hotel_core.proofs.Lifted.LiftFacts.{CodesFound}
-use Rattle.hotel_core.proofs.OfTables.Tests.{eq_self}
-use Rattle.hotel_core.proofs.OfTables.Numbered.{is_there}
-use Rattle.hotel_core.proofs.OfTables.RoomNumbers.{room_there}
+use Rattle.hotel_core.specs.Model.Cases.{holds}
+use Rattle.hotel_core.proofs.{Lifted.LiftFacts.CodesFound, OfTables.Tests.eq_self, OfTables.Numbered.is_there, OfTables.RoomNumbers.room_there}
 use Rattle.hotel_core.proofs.OfTables.NotesKept.{standing_on, standing_by_lookup}
-use Rattle.hotel_core.proofs.Lifted.LiftTools.{lifts_by, same_unless, after_checks, needed}
-use Rattle.hotel_core.proofs.Lifted.LiftEasy.{room_is_there}
+use Rattle.hotel_core.proofs.{Lifted.LiftTools.lifts_by, Lifted.LiftTools.alike, Lifted.LiftTools.same_unless, Lifted.LiftTools.after_checks, Lifted.LiftTools.needed, Lifted.LiftEasy.room_is_there}
 use Rattle.hotel_core.proofs.Lifted.LiftRooms.{codes_said, place_said, secured_said}
 
 -- the code that the row of a room says its lock holds
@@ -144,11 +118,5 @@ reported_lifts h note None found r =
 
 pub note_lifts : (h : History) (note : Note) → Reached h → CodesFound h → 1 ≤ note.count → Lifts h (command.Reported note)
 note_lifts h note ok found n ahead =
-    lifts_by h ahead (command.Reported note) (
-      refl,
-      λ _. (
-        ap (λ b. needs b NoRoom) (room_is_there h note.room),
-        λ r. reported_lifts h note (note_at (rows_of h) note.room note.count) found (needed (is_room h note.room) NoRoom r)
-            ∙ ap (λ s. as_change h (reported h note s)) (sym (standing_by_lookup h note ok n)),
-      ),
-    )
+    lifts_by h ahead (command.Reported note) (alike refl λ _. alike (ap (λ b. needs b NoRoom) (room_is_there h note.room)) λ r.
+    reported_lifts h note (note_at (rows_of h) note.room note.count) found (needed (is_room h note.room) NoRoom r) ∙ ap (λ s. as_change h (reported h note s)) (sym (standing_by_lookup h note ok n)))

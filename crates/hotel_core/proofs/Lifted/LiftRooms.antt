@@ -1,23 +1,7 @@
 -- What a room's row says, and the next numbers.
-use Rattle.std.proofs.Common.{ℕ, ◌≡◌, ◌+◌, ◌-◌, Bool, true, false, cond, Option, Some, None, List, refl, ap, sym, ◌∙◌, arith, length}
-use Rattle.std.specs.Prelude.{option_map, is_none, is_some, nat_lt, nat_le, bytes_eq}
-use Rattle.std.proofs.lemmas.Bool.Decides.{nat_tests}
-use Rattle.hotel_nights.specs.declared.stay.Stay.{Stay}
-use Rattle.hotel_core.specs.Model.Words.{said_of, is_that}
-use Rattle.hotel_core.specs.Model.Rows.{at_number}
-use Rattle.hotel_core.specs.Model.History.{History}
-use Rattle.hotel_core.specs.Model.Issued.{issued}
-use Rattle.hotel_core.specs.Model.Cards.{link_to}
-use Rattle.hotel_core.specs.Model.Ledger.{passed}
-use Rattle.hotel_core.specs.Model.Guests.{secured}
-use Rattle.hotel_core.specs.Model.Stays.{stays, rooms}
-use Rattle.hotel_core.specs.Model.RowsOf.{room_row, rows_of}
-use Rattle.hotel_core.specs.Model.Cases.{is_room, is_of_kind, is_taken, is_home}
-use Rattle.hotel_core.specs.Books.Lookups.{number_after}
-use Rattle.hotel_core.specs.Books.Change.{codes_of}
-use Rattle.hotel_core.specs.Refinement.OnRows.{room_is_on, kinds_agree_on, lock_place_on, secured_on, said_code_at, link_on}
-use Rattle.hotel_core.proofs.OfTables.RoomNumbers.{room_found, room_there}
-use Rattle.hotel_core.proofs.Lifted.LiftFacts.{CurrentFound}
+use Rattle.std.proofs.Common.{ℕ, ◌≡◌, ◌+◌, ◌-◌, Bool, true, false, cond, Option, Some, None, List, refl, ap, sym, ◌∙◌, arith, length, option_map, is_none, is_some, nat_lt, nat_le, bytes_eq}
+use Rattle.hotel_core.proofs.Names.{nat_tests, Stay, said_of, is_that, at_number, History, issued, link_to, passed, secured, stays, rooms, room_row, rows_of, is_room, is_of_kind, is_taken, is_home, number_after, codes_of, room_is_on, kinds_agree_on, lock_place_on, secured_on, said_code_at, link_on}
+use Rattle.hotel_core.proofs.{OfTables.RoomNumbers.room_found, OfTables.RoomNumbers.room_there, Lifted.LiftFacts.CurrentFound}
 
 none_after : (b c : Bool) (n : ℕ) → (b ≡ true → c ≡ false) → (b ≡ false → c ≡ true) → is_none (cond b (Some n) None) ≡ c
 none_after true c n f g = sym (f refl)

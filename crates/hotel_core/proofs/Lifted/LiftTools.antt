@@ -1,18 +1,6 @@
 -- Outcomes compared check by check, each where those before it passed.
-use Rattle.std.proofs.Common.{ℕ, ◌≡◌, Bool, true, false, Option, Some, None, List, [], ◌∷◌, refl, ap, ◌∙◌}
-use Rattle.std.specs.Prelude.{option_map}
-use Rattle.keycard_rules.specs.Draw.{Draw}
-use Rattle.hotel_core.specs.declared.command.Command.{Command}
-use Rattle.hotel_core.specs.declared.reply.Reply.{Reply}
-use Rattle.hotel_core.specs.declared.reply.Refusal.{Refusal}
-use Rattle.hotel_core.specs.Model.Event.{Event}
-use Rattle.hotel_core.specs.Model.History.{History}
-use Rattle.hotel_core.specs.Model.RowsOf.{rows_of}
-use Rattle.hotel_core.specs.Model.Outcome.{Outcome, needs, unless, by_draw}
-use Rattle.hotel_core.specs.Model.Answer.{answer_to, checks, effect}
-use Rattle.hotel_core.specs.Refinement.ChangeOf.{change_of}
-use Rattle.hotel_core.specs.Refinement.OnRows.{outcome_on, checks_on, effect_on}
-use Rattle.hotel_core.specs.Refinement.Lift.{as_change}
+use Rattle.std.proofs.Common.{ℕ, ◌≡◌, Bool, true, false, Option, Some, None, List, [], ◌∷◌, refl, ap, ◌∙◌, option_map}
+use Rattle.hotel_core.proofs.Names.{Draw, Command, Reply, Refusal, Event, History, rows_of, Outcome, needs, unless, by_draw, answer_to, checks, effect, change_of, outcome_on, checks_on, effect_on, as_change}
 
 -- Each check is as the other list's, where those before it passed, and so is what comes after them.
 abbrev pub Alike : {X : Type 0} → List (Option Refusal) → List (Option Refusal) → Outcome X → Outcome X → Type 0
@@ -20,6 +8,10 @@ Alike [] [] e f = e ≡ f
 Alike (c ∷ cs) (d ∷ ds) e f = (c ≡ d) × (d ≡ None → Alike cs ds e f)
 Alike [] (d ∷ ds) e f = ⊥
 Alike (c ∷ cs) [] e f = ⊥
+
+-- a check that is as the other one, and what comes after it
+pub alike : {C L : Type 0} → C → L → C × L
+alike check later = (check, later)
 
 first_alike : {X : Type 0} (d : Option Refusal) (cs ds : List (Option Refusal)) (e f : Outcome X) → (d ≡ None → unless cs e ≡ unless ds f) → unless (d ∷ cs) e ≡ unless (d ∷ ds) f
 first_alike None cs ds e f later = later refl

@@ -1,34 +1,11 @@
 -- The rows of the lists, on the rows of a history and on the history itself.
-use Rattle.std.proofs.Common.{ℕ, zero, suc, ◌≡◌, ◌≤◌, ◌<◌, ◌+◌, Bool, true, false, Option, Some, None, List, [], ◌∷◌, ◌++◌, length, map, refl, ap, sym, ◌∙◌, arith, append_assoc, append-nil, length-append}
-use Rattle.std.specs.Prelude.{◌==◌, ◌||◌, filter_map, option_map, nat_lt, nat_le, if◌then◌else◌}
-use Rattle.std.specs.List.{range_with_len, cons_option}
-use Rattle.std.specs.Map.{keys_of, values_of}
-use Rattle.std.proofs.lemmas.Bool.Decides.{nat_tests}
-use Rattle.std.proofs.lemmas.List.Elements.{filter_map-append}
-use Rattle.hotel_core.specs.declared.books.rows.RoomRow.{RoomRow}
-use Rattle.hotel_core.specs.declared.books.list_rows.BehindRow.{BehindRow}
-use Rattle.hotel_core.specs.declared.books.list_rows.CodeState.{CodeState}
+use Rattle.std.proofs.Common.{ℕ, zero, suc, ◌≡◌, ◌≤◌, ◌<◌, ◌+◌, Bool, true, false, Option, Some, None, List, [], ◌∷◌, ◌++◌, length, map, refl, ap, sym, ◌∙◌, arith, append_assoc, append-nil, length-append, ◌==◌, ◌||◌, filter_map, option_map, nat_lt, nat_le, if◌then◌else◌}
+use Rattle.hotel_core.proofs.Names.{range_with_len, cons_option, keys_of, values_of, nat_tests, filter_map-append, RoomRow, is_one_of, said_of, at_number, History, room_row, rows_of, issued, current, held, passed, awaited, registered, rooms, stays, is_room, Reached, housed, house_row_on, in_house_on, state_at, chain_row_on, chain_on, awaited_on, behind_row_on, left_behind_on}
+use Rattle.hotel_core.specs.{declared.books.list_rows.BehindRow.BehindRow, declared.books.list_rows.CodeState.CodeState, Refinement.ListsLift.ListsLift}
 use Rattle.hotel_core.specs.declared.books.list_rows.CodeState.TheVariants.{Passed, Held, Awaited}
-use Rattle.hotel_core.specs.Model.Words.{is_one_of, said_of}
-use Rattle.hotel_core.specs.Model.Rows.{at_number}
-use Rattle.hotel_core.specs.Model.History.{History}
-use Rattle.hotel_core.specs.Model.RowsOf.{room_row, rows_of}
-use Rattle.hotel_core.specs.Model.Issued.{issued, current}
-use Rattle.hotel_core.specs.Model.Lock.{held}
-use Rattle.hotel_core.specs.Model.Ledger.{passed, awaited}
-use Rattle.hotel_core.specs.Model.Guests.{registered}
-use Rattle.hotel_core.specs.Model.Stays.{rooms, stays}
-use Rattle.hotel_core.specs.Model.Cases.{is_room}
-use Rattle.hotel_core.specs.Model.Run.{Reached}
 use Rattle.hotel_core.specs.Model.Lists.{house_row, house_row_of, in_house, in_places, chain, behind_row, left_behind}
-use Rattle.hotel_core.specs.Refinement.ListsOnRows.{housed, house_row_on, in_house_on, state_at, chain_row_on, chain_on, awaited_on, behind_row_on, left_behind_on}
-use Rattle.hotel_core.specs.Refinement.ListsLift.{ListsLift}
-use Rattle.hotel_core.proofs.OfTables.Tests.{eq_self}
-use Rattle.hotel_core.proofs.OfTables.RoomNumbers.{room_there}
-use Rattle.hotel_core.proofs.Invariants.LedgerOrder.{ledger_holds}
-use Rattle.hotel_core.proofs.OfTables.CodeSearch.{codes_are_found}
-use Rattle.hotel_core.proofs.Invariants.CodesFound.{held_found, current_found}
-use Rattle.hotel_core.proofs.OfTables.NotesListed.{notes_are_listed}
+use Rattle.hotel_core.proofs.{OfTables.Tests.eq_self, OfTables.RoomNumbers.room_there, Invariants.LedgerOrder.ledger_holds, OfTables.CodeSearch.codes_are_found}
+use Rattle.hotel_core.proofs.{Invariants.CodesFound.held_found, Invariants.CodesFound.current_found, OfTables.NotesListed.notes_are_listed}
 
 or_right : (a b : Bool) → b ≡ true → (a || b) ≡ true
 or_right true b e = refl

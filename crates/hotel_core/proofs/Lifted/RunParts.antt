@@ -1,13 +1,6 @@
 -- A run goes on by a step over the books that it has come to.
 use Rattle.std.proofs.Common.{List, [], ◌∷◌, ◌++◌, refl}
-use Rattle.rand_core.specs.Stream.{Stream}
-use Rattle.hotel_core.specs.declared.command.Command.{Command}
-use Rattle.hotel_core.specs.declared.reply.Reply.{Reply}
-use Rattle.hotel_core.specs.Model.Rows.{Rows}
-use Rattle.hotel_core.specs.Model.History.{History}
-use Rattle.hotel_core.specs.Model.Run.{StandsFor, Steps}
-use Rattle.hotel_core.specs.Model.Laws.{RunsTo}
-use Rattle.hotel_core.proofs.Lifted.Runs.{runs_join}
+use Rattle.hotel_core.proofs.{Names.Stream, Names.Command, Names.Reply, Names.Rows, Names.History, Names.StandsFor, Names.Steps, Names.RunsTo, Lifted.Runs.runs_join}
 
 pub runs_step : (h : History) (s : Stream) (commands : List Command) (replies : List Reply) (rows : Rows) (source : Stream) (command : Command) (reply : Reply) (later : Rows) (rest : Stream)
     → RunsTo h s commands replies rows source → ((mid : History) → StandsFor mid rows → (h' : History) × StandsFor h' later × Steps mid source command reply h' rest)

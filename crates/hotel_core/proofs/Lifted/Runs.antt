@@ -1,26 +1,7 @@
 -- Runs: one after the other, one command more, and that they are determined where nothing failed.
-use Rattle.std.proofs.Common.{◌≡◌, Bool, true, false, Option, Some, None, List, [], ◌∷◌, ◌++◌, refl, ap, sym, ◌∙◌, subst}
-use Rattle.std.specs.Prelude.{All, option_map}
-use Rattle.std.proofs.lemmas.List.Elements.{All-head, All-tail}
-use Rattle.rand_core.specs.Stream.{Stream}
-use Rattle.keycard_rules.specs.Draw.{words, past}
-use Rattle.hotel_core.specs.declared.command.Command.{Command}
-use Rattle.hotel_core.specs.declared.reply.Reply.{Reply}
-use Rattle.hotel_core.specs.Model.Rows.{Rows}
-use Rattle.hotel_core.specs.Model.Event.{Event}
-use Rattle.hotel_core.specs.Model.History.{History}
-use Rattle.hotel_core.specs.Model.RowsOf.{rows_of}
-use Rattle.hotel_core.specs.Model.Outcome.{Outcome, grown}
-use Rattle.hotel_core.specs.Refinement.ChangeOf.{change_of}
-use Rattle.hotel_core.specs.Refinement.OnRows.{outcome_on}
-use Rattle.hotel_core.specs.Refinement.StepOnRows.{made_by, GoesIf, Goes}
-use Rattle.hotel_core.specs.Model.Run.{Reached, StandsFor, answered, is_failed, StepsIf, Steps, Runs}
-use Rattle.hotel_core.specs.Model.Ranges.{IsCommand, IsReply}
-use Rattle.hotel_core.specs.Model.Laws.{RunsTo, NoneFailed}
-use Rattle.hotel_core.specs.Refinement.Lift.{as_change}
-use Rattle.hotel_core.proofs.Invariants.EventRanges.{step_keeps}
-use Rattle.hotel_core.proofs.RowsAfter.RowsFollow.{made_follow}
-use Rattle.hotel_core.proofs.Lifted.LiftAll.{answers_lift}
+use Rattle.std.proofs.Common.{◌≡◌, Bool, true, false, Option, Some, None, List, [], ◌∷◌, ◌++◌, refl, ap, sym, ◌∙◌, subst, All, option_map}
+use Rattle.hotel_core.proofs.Names.{All-head, All-tail, Stream, words, past, Command, Reply, Rows, Event, History, rows_of, Outcome, grown, change_of, outcome_on, made_by, GoesIf, Goes, Reached, StandsFor, answered, is_failed, StepsIf, Steps, Runs, IsCommand, IsReply, RunsTo, NoneFailed, as_change}
+use Rattle.hotel_core.proofs.{Invariants.EventRanges.step_keeps, RowsAfter.RowsFollow.made_follow, Lifted.LiftAll.answers_lift}
 
 -- a run after a run
 pub runs_join : (h mid h' : History) (s source s' : Stream) (commands later : List Command) (replies more : List Reply) → Runs h s commands replies mid source

@@ -1,31 +1,10 @@
 -- The rows of a history are whole: what they point to is there.
-use Rattle.std.proofs.Common.{ℕ, ◌≡◌, ◌+◌, ◌-◌, ◌<◌, ◌≤◌, ◌^◌, true, Some, None, List, [], ◌∷◌, ◌++◌, ap, sym, ◌∙◌, subst, arith, length, append_assoc}
-use Rattle.std.specs.Prelude.{is_some, IsSome}
-use Rattle.std.specs.List.{slice_get}
+use Rattle.std.proofs.Common.{ℕ, ◌≡◌, ◌+◌, ◌-◌, ◌<◌, ◌≤◌, ◌^◌, true, Some, None, List, [], ◌∷◌, ◌++◌, ap, sym, ◌∙◌, subst, arith, length, append_assoc, is_some, IsSome, slice_get}
+use Rattle.hotel_core.proofs.Names.{Note, Card, RoomRow, Rows, at_number, History, issued, all_issued, cards, notes, room_row, rows_of, is_room, room_of, room_at, code_at, note_at, codes_of, AreWhole, Reached, StandsFor}
 use Rattle.std.proofs.lemmas.Option.{slice_get-get_or}
-use Rattle.keycard_rules.specs.Note.{Note}
-use Rattle.keycard_rules.specs.declared.card.Card.{Card}
-use Rattle.hotel_core.specs.declared.books.rows.RoomRow.{RoomRow}
-use Rattle.hotel_core.specs.Model.Rows.{Rows, at_number}
-use Rattle.hotel_core.specs.Model.History.{History}
-use Rattle.hotel_core.specs.Model.Issued.{issued, all_issued}
-use Rattle.hotel_core.specs.Model.Cards.{cards}
-use Rattle.hotel_core.specs.Model.Notes.{notes}
-use Rattle.hotel_core.specs.Model.RowsOf.{room_row, rows_of}
-use Rattle.hotel_core.specs.Model.Cases.{is_room, room_of}
-use Rattle.hotel_core.specs.Books.Lookups.{room_at, code_at, note_at}
-use Rattle.hotel_core.specs.Books.Change.{codes_of}
-use Rattle.hotel_core.specs.Refinement.StepOnRows.{AreWhole}
-use Rattle.hotel_core.specs.Model.Run.{Reached, StandsFor}
-use Rattle.hotel_core.proofs.OfTables.RoomNumbers.{room_there}
-use Rattle.hotel_core.proofs.OfTables.NotesKept.{note_found}
-use Rattle.hotel_core.proofs.Invariants.NumbersLeft.{cards_fit, codes_fit}
-use Rattle.hotel_core.proofs.Invariants.CodePlaces.{codes_have_places}
-use Rattle.hotel_core.proofs.Invariants.CodesFound.{held_found, current_found, newest_found}
-use Rattle.hotel_core.proofs.Invariants.OpenLocks.{there_by_link}
-use Rattle.hotel_core.proofs.Invariants.RoomLinks.{cards_have_links}
-use Rattle.hotel_core.proofs.Lifted.LiftEasy.{room_is_there}
-use Rattle.hotel_core.proofs.Lifted.LiftRooms.{codes_said}
+use Rattle.hotel_core.proofs.{OfTables.RoomNumbers.room_there, OfTables.NotesKept.note_found, Invariants.NumbersLeft.cards_fit, Invariants.NumbersLeft.codes_fit}
+use Rattle.hotel_core.proofs.{Invariants.CodePlaces.codes_have_places, Invariants.CodesFound.held_found, Invariants.CodesFound.current_found, Invariants.CodesFound.newest_found}
+use Rattle.hotel_core.proofs.{Invariants.OpenLocks.there_by_link, Invariants.RoomLinks.cards_have_links, Lifted.LiftEasy.room_is_there, Lifted.LiftRooms.codes_said}
 use Rattle.hotel_core.proofs.Invariants.LiftHomes.{home_has_newest}
 
 there : (h : History) (room : ℕ) (row : RoomRow) → room_at (rows_of h) room ≡ Some row → is_room h room ≡ true

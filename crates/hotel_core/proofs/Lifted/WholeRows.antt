@@ -1,13 +1,6 @@
 -- What whole rows have.
 use Rattle.std.proofs.Common.{ℕ, ◌≡◌, ◌-◌, Option, Some, None, IsSome, refl}
-use Rattle.std.proofs.lemmas.Bool.{false≢true}
-use Rattle.hotel_core.specs.declared.books.rows.RoomRow.{RoomRow}
-use Rattle.hotel_core.specs.Model.Words.{said_of}
-use Rattle.hotel_core.specs.Model.Rows.{Rows}
-use Rattle.hotel_core.specs.Books.Lookups.{room_at, code_at}
-use Rattle.hotel_core.specs.Refinement.OnRows.{home_on}
-use Rattle.hotel_core.specs.Refinement.StepOnRows.{AreWhole}
-use Rattle.hotel_core.specs.Refinement.Issuing.{HasLink}
+use Rattle.hotel_core.proofs.Names.{false≢true, RoomRow, said_of, Rows, room_at, code_at, home_on, AreWhole, HasLink}
 
 last_code_at : (rs : Rows) (room : ℕ) → AreWhole rs → (o : Option RoomRow) → room_at rs room ≡ o → IsSome o → IsSome (code_at rs room (said_of o 0 (λ row. row.codes) - 1))
 last_code_at rs room w (Some row) e s = w.current room row e

@@ -1,22 +1,9 @@
 -- What comes of a command on the books, as far as the command went.
-use Rattle.std.proofs.Common.{ℕ, ◌≡◌, Some, ap, sym, ◌∙◌, subst}
-use Rattle.rand_core.specs.Stream.{Stream}
-use Rattle.keycard_rules.specs.Draw.{draw_from, words}
-use Rattle.std.specs.Prelude.{Ok, option_map}
-use Rattle.keycard_rules.specs.declared.issued.LookFault.{LookFault}
-use Rattle.hotel_core.specs.declared.books.change.Change.{Change}
-use Rattle.hotel_core.specs.declared.reply.Reply.{Reply}
-use Rattle.hotel_core.specs.declared.reply.Reply.TheVariants.{Refused}
-use Rattle.hotel_core.specs.declared.reply.Refusal.TheVariants.{NoFreshCode}
-use Rattle.hotel_core.specs.Model.Words.{said_of}
-use Rattle.hotel_core.specs.Model.Rows.{Rows}
-use Rattle.hotel_core.specs.Books.Lookups.{codes_in}
-use Rattle.hotel_core.specs.Refinement.Finds.{DrawsCode}
-use Rattle.hotel_core.specs.Model.Outcome.{Outcome, accepted, by_draw}
+use Rattle.std.proofs.Common.{ℕ, ◌≡◌, Some, ap, sym, ◌∙◌, subst, Ok, option_map}
+use Rattle.hotel_core.proofs.Names.{Stream, draw_from, words, Change, Reply, Refused, NoFreshCode, said_of, Rows, codes_in, DrawsCode, Outcome, accepted, by_draw, Ghosts as BooksOf}
 use Rattle.hotel_core.specs.Refinement.Answered.{IsOutcome, IsAnswered}
 use Rattle.hotel_core.proofs.OfCode.Parts.{SoFar}
 use Rattle.keycard_rules.specs.declared.issued.Issued.{Ghosts as IssuedOf}
-use Rattle.hotel_core.specs.declared.books.Books.{Ghosts as BooksOf}
 
 -- An outcome that equals one that comes of a command comes of it too.
 pub comes_of : (rows : Rows) (a b : Outcome Change) → IsOutcome rows a → a ≡ b → IsOutcome rows b

@@ -1,30 +1,10 @@
 -- A draw as a part of a step.
-use Rattle.std.proofs.Common.{ℕ, ◌≡◌, ◌≤◌, Bool, true, false, Some, None, Result, Ok, Err, IsErrAnd, List, refl, ap, sym, ◌∙◌, arith, subst, inl, inr, option_map}
-use Rattle.std.specs.Prelude.{IfSome}
+use Rattle.std.proofs.Common.{ℕ, ◌≡◌, Bool, true, false, Some, None, Result, Ok, Err, IsErrAnd, List, refl, ap, sym, ◌∙◌, arith, subst, option_map, IfSome}
+use Rattle.hotel_core.proofs.Names.{false≢true, LookFault, Stream, HasRisen, NoFewer, Draw, Draws, fault_in, draw_from, drawn, words, past, Change, Reply, Refused, Refusal, NoFreshCode, said_of, Rows, codes_in, is_failed, Outcome, accepted, by_draw, made, GoesIf, made_by, AreWhole, StepsAs, DrawsCode, Drew, DrewNone, drawn_or, has_failed, refusal_of, reply_of, Ghosts as BooksOf}
 use Rattle.keycard_rules.specs.declared.issued.LookFault.TheVariants as look
-use Rattle.std.proofs.lemmas.Bool.{false≢true}
-use Rattle.keycard_rules.specs.declared.issued.LookFault.{LookFault}
-use Rattle.rand_core.specs.Stream.{Stream}
-use Rattle.keycard_rules.specs.Rise.{HasRisen, NoFewer}
-use Rattle.keycard_rules.specs.Draw.{Draw, Draws, fault_in, draw_from, drawn, words, past}
-use Rattle.keycard_rules.specs.declared.draw.DrawFault.{DrawFault}
+use Rattle.keycard_rules.specs.{declared.draw.DrawFault.DrawFault, declared.issued.Issued.Ghosts as IssuedOf}
 use Rattle.keycard_rules.specs.declared.draw.DrawFault.TheVariants as fault
-use Rattle.hotel_core.specs.declared.books.change.Change.{Change}
-use Rattle.hotel_core.specs.declared.reply.Reply.{Reply}
-use Rattle.hotel_core.specs.declared.reply.Reply.TheVariants.{Refused}
-use Rattle.hotel_core.specs.declared.reply.Refusal.{Refusal}
-use Rattle.hotel_core.specs.declared.reply.Refusal.TheVariants.{NoFreshCode}
-use Rattle.hotel_core.specs.Model.Words.{said_of}
-use Rattle.hotel_core.specs.Model.Rows.{Rows}
-use Rattle.hotel_core.specs.Books.Lookups.{codes_in}
-use Rattle.hotel_core.specs.Model.Run.{is_failed}
-use Rattle.hotel_core.specs.Model.Outcome.{Outcome, accepted, by_draw}
-use Rattle.hotel_core.specs.Books.Change.{made}
-use Rattle.hotel_core.specs.Refinement.StepOnRows.{GoesIf, made_by, AreWhole, StepsAs}
-use Rattle.hotel_core.specs.Refinement.Finds.{DrawsCode, Drew, DrewNone, drawn_or, has_failed, refusal_of, reply_of}
 use Rattle.hotel_core.proofs.OfCode.Parts.{SoFar, passed_on, risen_later}
-use Rattle.keycard_rules.specs.declared.issued.Issued.{Ghosts as IssuedOf}
-use Rattle.hotel_core.specs.declared.books.Books.{Ghosts as BooksOf}
 
 drew : (found : Result ℕ DrawFault) (issued : List ℕ) (source rest : Stream) → Draws issued source found rest → Drew (draw_from issued (words 64 source)) source rest (drawn_or found)
 unfolding drawn

@@ -1,30 +1,9 @@
 -- A failed part of a step over sound rows was counted.
-use Rattle.std.proofs.Common.{ℕ, ◌≡◌, ◌+◌, Bool, true, false, List, [], ◌∷◌, ◌++◌, length, inl, inr, arith, refl, sym, append_assoc, append-nil, ap, take, ◌<◌, ◌∙◌}
-use Rattle.std.specs.Prelude.{◌⊎◌}
-use Rattle.std.proofs.lemmas.Bool.{false≢true}
-use Rattle.std.proofs.lemmas.List.{length-take}
-use Rattle.keycard_rules.specs.declared.issued.LookFault.{LookFault}
-use Rattle.rand_core.specs.Stream.{Stream}
+use Rattle.std.proofs.Common.{ℕ, ◌≡◌, ◌+◌, Bool, true, false, List, [], ◌∷◌, ◌++◌, inl, inr, arith, refl, sym, append_assoc, append-nil, ap, ◌∙◌}
+use Rattle.hotel_core.proofs.Names.{false≢true, LookFault, Stream, HasRisen, HasRisenBy, NoFewer, Change, Reply, Refused, Refusal, Memory, Store, Rows, IsSound, start, Outcome, is_failed, AreWhole, GoesIf, Goes, StepsAs, failure_in, failures_in, times, AreCounted, refusal_of, Ghosts as BooksOf}
 use Rattle.keycard_rules.specs.declared.issued.LookFault.TheVariants as look
-use Rattle.keycard_rules.specs.Rise.{HasRisen, HasRisenBy, NoFewer}
-use Rattle.hotel_core.specs.declared.books.change.Change.{Change}
-use Rattle.hotel_core.specs.declared.command.Command.{Command}
-use Rattle.hotel_core.specs.declared.reply.Reply.{Reply}
-use Rattle.hotel_core.specs.declared.reply.Reply.TheVariants.{Refused}
-use Rattle.hotel_core.specs.declared.reply.Refusal.{Refusal}
-use Rattle.hotel_core.specs.declared.reply.Refusal.TheVariants.{Memory, Store}
-use Rattle.hotel_core.specs.Model.Rows.{Rows}
-use Rattle.hotel_core.specs.Model.Sound.{IsSound}
-use Rattle.hotel_core.specs.Model.History.{start}
-use Rattle.hotel_core.specs.Model.Outcome.{Outcome}
-use Rattle.hotel_core.specs.Model.Run.{is_failed}
-use Rattle.hotel_core.specs.Refinement.StepOnRows.{AreWhole, GoesIf, Goes, StepsAs}
-use Rattle.hotel_core.specs.Books.Failures.{failure_in, failures_in, times, AreCounted}
-use Rattle.hotel_core.specs.Refinement.Finds.{refusal_of}
-use Rattle.hotel_core.proofs.Starts.StartRows.{rows_of_start}
-use Rattle.hotel_core.proofs.Lifted.Whole.{rows_are_whole}
+use Rattle.hotel_core.proofs.{Starts.StartRows.rows_of_start, Lifted.Whole.rows_are_whole}
 use Rattle.keycard_rules.specs.declared.issued.Issued.{Ghosts as IssuedOf}
-use Rattle.hotel_core.specs.declared.books.Books.{Ghosts as BooksOf}
 
 -- sound rows are whole, since a desk can start with them
 sound_whole : (rows : Rows) → IsSound rows → AreWhole rows
@@ -87,9 +66,6 @@ pub failures_in-push : (replies : List Reply) (reply : Reply) → failures_in (r
 failures_in-push [] reply = append-nil (failure_in reply)
 failures_in-push (first ∷ replies) reply =
     ap (λ failed. failure_in first ++ failed) (failures_in-push replies reply) ∙ sym (append_assoc (failure_in first) (failures_in replies) (failure_in reply))
-
-pub same_lengths : (commands : List Command) (n : ℕ) (replies : List Reply) → n < length commands → length replies ≡ n → length (take n commands) ≡ length replies
-same_lengths commands n replies l e = omega (arith, length-take n commands, l, e)
 
 -- failures that were counted after a while
 pub counted_after : (a b c : LookFault → ℕ) (failed : List Refusal) → NoFewer a b → AreCounted b c failed → AreCounted a c failed

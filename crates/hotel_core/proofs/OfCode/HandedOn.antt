@@ -1,30 +1,27 @@
 -- What a sink is handed on by another one that stands before it, up to a call that fails.
-use Rattle.std.proofs.Common.{◌≡◌, Bool, true, false, List, [], ◌∷◌, ◌++◌, Result, Ok, Err, ap, sym, ◌∙◌, subst, inl, inr}
-use Rattle.std.specs.Prelude.{IsSome}
-use Rattle.std.proofs.lemmas.Bool.{false≢true}
+use Rattle.std.proofs.Common.{◌≡◌, Bool, true, false, List, [], ◌∷◌, ◌++◌, Result, Ok, Err, ap, sym, ◌∙◌, subst, inl, inr, IsSome}
+use Rattle.hotel_core.proofs.Names.{false≢true, Takes, TakesFront, Hands, failure_of, EndsAs, StopsEither}
 use Rattle.std.proofs.lemmas.List.{append-nil}
-use Rattle.hotel_core.specs.declared.books.walks.WalkFault.{WalkFault}
+use Rattle.hotel_core.specs.{declared.books.walks.WalkFault.WalkFault, declared.stopping.stopping_walks.Passing.Passing}
 use Rattle.hotel_core.specs.declared.books.walks.WalkFault.TheVariants as why
-use Rattle.hotel_core.specs.Books.Walks.{Takes, TakesFront, Hands, failure_of}
-use Rattle.hotel_core.specs.Stopping.{EndsAs, StopsEither}
 
-module _ {P S R N : Type 0} (name : P → N) (under : P → S) (failed : P → Bool) (after after_stop : S → R → S → Type 0) where
+module _ {S R : Type 0} (after after_stop : S → R → S → Type 0) where
   -- the row was handed on
-  abbrev pub Passed : P → R → P → Type 0
-  Passed old row new = (name new ≡ name old) × after (under old) row (under new)
+  abbrev pub Passed : Passing S → R → Passing S → Type 0
+  Passed old row new = (new.sink.ghost_name ≡ old.sink.ghost_name) × after old.sink.now row new.sink.now
 
   -- it stopped at the row
-  abbrev pub PassedNot : P → R → P → Type 0
-  PassedNot old row new = (name new ≡ name old) × StopsEither (failed new) (under new ≡ under old) (after_stop (under old) row (under new))
+  abbrev pub PassedNot : Passing S → R → Passing S → Type 0
+  PassedNot old row new = (new.sink.ghost_name ≡ old.sink.ghost_name) × StopsEither new.failed (new.sink.now ≡ old.sink.now) (after_stop old.sink.now row new.sink.now)
 
-  took : (rows : List R) (a b : P) → Takes Passed rows a b → (name b ≡ name a) × Takes after rows (under a) (under b)
-  took [] a b t = (ap name t, ap under t)
+  took : (rows : List R) (a b : Passing S) → Takes Passed rows a b → (b.sink.ghost_name ≡ a.sink.ghost_name) × Takes after rows a.sink.now b.sink.now
+  took [] a b t = (ap (λ (p : Passing S). p.sink.ghost_name) t, ap (λ (p : Passing S). p.sink.now) t)
   took (row ∷ rows) a b t =
       let later = took rows t.0 b t.2 in
-      (later.0 ∙ t.1.0, (under t.0, t.1.1, later.1))
+      (later.0 ∙ t.1.0, (t.0.sink.now, t.1.1, later.1))
 
   -- the sink behind is the same one at the end of the walk
-  pub same_sink : (rows : List R) (a b : P) (end : Result (Unit {0}) WalkFault) → Hands Passed PassedNot rows a b end → name b ≡ name a
+  pub same_sink : (rows : List R) (a b : Passing S) (end : Result (Unit {0}) WalkFault) → Hands Passed PassedNot rows a b end → b.sink.ghost_name ≡ a.sink.ghost_name
   same_sink rows a b (Ok done) h = (took rows a b h).0
   same_sink rows a b (Err why.Stopped) h = h.6.0 ∙ (took h.0 a h.4 h.5).0
   same_sink rows a b (Err why.Memory) h = (took h.0 a b h.3).0
@@ -43,10 +40,16 @@ module _ {P S R N : Type 0} (name : P → N) (under : P → S) (failed : P → B
   stopped_at false rows taken row rest x last y end e front stop ends = subst (Hands after after_stop rows x y) (sym ends) (taken, row, rest, e, last, front, stop)
 
   -- what the sink before took, the sink behind took as the walk's end says
-  pub handed_on : (rows : List R) (a b : P) (beneath end : Result (Unit {0}) WalkFault) → EndsAs beneath (failed b) end → Hands Passed PassedNot rows a b beneath
-      → Hands after after_stop rows (under a) (under b) end
-  handed_on rows a b (Ok done) end (inl e) h = subst (Hands after after_stop rows (under a) (under b)) (sym e) (took rows a b h).1
-  handed_on rows a b (Ok done) end (inr some) h = failed_after rows _ _ end some (rows, [], sym (append-nil rows), (took rows a b h).1)
-  handed_on rows a b (Err why.Stopped) end ends h = stopped_at (failed b) rows h.0 h.1 h.2 (under a) (under h.4) (under b) end h.3 (took h.0 a h.4 h.5).1 h.6.1 ends
-  handed_on rows a b (Err why.Memory) end ends h = failed_after rows _ _ end ends (h.0, h.1, h.2, (took h.0 a b h.3).1)
-  handed_on rows a b (Err why.Store) end ends h = failed_after rows _ _ end ends (h.0, h.1, h.2, (took h.0 a b h.3).1)
+  passed_on : (rows : List R) (a b : Passing S) (beneath end : Result (Unit {0}) WalkFault) → EndsAs beneath b.failed end → Hands Passed PassedNot rows a b beneath
+      → Hands after after_stop rows a.sink.now b.sink.now end
+  passed_on rows a b (Ok done) end (inl e) h = subst (Hands after after_stop rows a.sink.now b.sink.now) (sym e) (took rows a b h).1
+  passed_on rows a b (Ok done) end (inr some) h = failed_after rows _ _ end some (rows, [], sym (append-nil rows), (took rows a b h).1)
+  passed_on rows a b (Err why.Stopped) end ends h = stopped_at b.failed rows h.0 h.1 h.2 a.sink.now h.4.sink.now b.sink.now end h.3 (took h.0 a h.4 h.5).1 h.6.1 ends
+  passed_on rows a b (Err why.Memory) end ends h = failed_after rows _ _ end ends (h.0, h.1, h.2, (took h.0 a b h.3).1)
+  passed_on rows a b (Err why.Store) end ends h = failed_after rows _ _ end ends (h.0, h.1, h.2, (took h.0 a b h.3).1)
+
+  -- so a walk over the listed rows goes on from the sink behind as it was
+  pub handed_on : (rows listed : List R) (start : S) (a b : Passing S) (beneath end : Result (Unit {0}) WalkFault) → a.sink.now ≡ start → EndsAs beneath b.failed end
+      → Hands Passed PassedNot rows a b beneath → rows ≡ listed → (rs : List R) × Hands after after_stop rs start b.sink.now end × (Unit {0} → rs ≡ listed)
+  handed_on rows listed start a b beneath end begun ends h e =
+      (rows, subst (λ s. Hands after after_stop rows s b.sink.now end) begun (passed_on rows a b beneath end ends h), λ clean. e)

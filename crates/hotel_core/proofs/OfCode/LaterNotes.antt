@@ -1,16 +1,7 @@
 -- Notes after all that a room's row counts.
-use Rattle.std.proofs.Common.{ℕ, ◌≡◌, ◌+◌, ◌≤◌, ◌<◌, Some, None, length, ap, subst, arith}
-use Rattle.hotel_core.specs.declared.books.rows.RoomRow.{RoomRow}
-use Rattle.hotel_core.specs.Model.Rows.{Rows}
-use Rattle.hotel_core.specs.Model.History.{History, start}
-use Rattle.hotel_core.specs.Model.Notes.{notes}
-use Rattle.hotel_core.specs.Model.RowsOf.{rows_of}
-use Rattle.hotel_core.specs.Model.Run.{Reached}
-use Rattle.hotel_core.specs.Model.Sound.{IsSound}
-use Rattle.hotel_core.specs.Books.Lookups.{room_at, note_at}
-use Rattle.hotel_core.proofs.OfTables.NotesKept.{next_not_found}
-use Rattle.hotel_core.proofs.Starts.StartRows.{rows_of_start}
-use Rattle.hotel_core.proofs.Lifted.Whole.{its_row}
+use Rattle.std.proofs.Common.{ℕ, ◌≡◌, ◌<◌, Some, None, length, ap, subst, arith}
+use Rattle.hotel_core.proofs.Names.{RoomRow, Rows, History, start, notes, rows_of, Reached, IsSound, room_at, note_at}
+use Rattle.hotel_core.proofs.{OfTables.NotesKept.next_not_found, Starts.StartRows.rows_of_start, Lifted.Whole.its_row}
 
 none_later : (h : History) → Reached h → (room count : ℕ) (row : RoomRow) → row.notes < count → room_at (rows_of h) room ≡ Some row → note_at (rows_of h) room count ≡ None
 none_later h ok room count row later e =

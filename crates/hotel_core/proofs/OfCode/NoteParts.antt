@@ -1,33 +1,10 @@
 -- Parts of a step that takes a note of a lock.
-use Rattle.std.proofs.Common.{ℕ, ◌≡◌, ◌==◌, ◌<◌, Bool, true, false, not, ◌&&◌, Option, Some, None, is_some, List, [], ◌∷◌, ◌+◌, if◌then◌else◌, refl, ap, sym, ◌∙◌, subst, arith}
-use Rattle.std.specs.Prelude.{IsSome}
-use Rattle.std.proofs.lemmas.Bool.{false≢true}
-use Rattle.std.proofs.lemmas.Bool.Decides.{nat_tests}
-use Rattle.keycard_rules.specs.declared.issued.LookFault.{LookFault}
-use Rattle.rand_core.specs.Stream.{Stream}
-use Rattle.keycard_rules.specs.Draw.{past}
+use Rattle.std.proofs.Common.{ℕ, ◌≡◌, ◌==◌, ◌<◌, ◌≤◌, Bool, true, false, not, ◌&&◌, Option, Some, None, is_some, List, [], ◌∷◌, ◌+◌, if◌then◌else◌, refl, ap, sym, ◌∙◌, subst, arith, IsSome}
+use Rattle.hotel_core.proofs.Names.{false≢true, nat_tests, Stream, past, Card, Link, Act, Note, Change, Reply, Refused, NotBegun, NoRoom, Gap, Store, RoomRow, said_of, Rows, room_at, card_at, code_place, note_at, same_link, has_link_on, told_on, reported_on, outcome_on, AreWhole, GoesIf, made_by, StepsAs, Outcome, said, refused, needs, unless, is_failed, Ghosts as BooksOf}
 use Rattle.keycard_rules.proofs.Drawing.{past-zero}
-use Rattle.keycard_rules.specs.declared.card.Card.{Card}
-use Rattle.keycard_rules.specs.declared.card.Link.{Link}
-use Rattle.keycard_rules.specs.declared.note.Act.{Act}
-use Rattle.keycard_rules.specs.Note.{Note}
-use Rattle.hotel_core.specs.declared.books.change.Change.{Change}
-use Rattle.hotel_core.specs.declared.reply.Reply.{Reply}
-use Rattle.hotel_core.specs.declared.reply.Reply.TheVariants.{Refused}
-use Rattle.hotel_core.specs.declared.reply.Refusal.TheVariants.{NotBegun, NoRoom, Gap, Store}
 use Rattle.hotel_core.specs.declared.command.Command.TheVariants as command
-use Rattle.hotel_core.specs.declared.books.rows.RoomRow.{RoomRow}
-use Rattle.hotel_core.specs.Model.Words.{said_of}
-use Rattle.hotel_core.specs.Model.Rows.{Rows}
-use Rattle.hotel_core.specs.Books.Lookups.{room_at, card_at, code_place, note_at}
-use Rattle.hotel_core.specs.Model.Notes.{same_link}
-use Rattle.hotel_core.specs.Refinement.OnRows.{has_link_on, told_on, reported_on, outcome_on}
-use Rattle.hotel_core.specs.Refinement.StepOnRows.{AreWhole, GoesIf, made_by, StepsAs}
-use Rattle.hotel_core.specs.Model.Outcome.{Outcome, said, refused, needs, unless}
-use Rattle.hotel_core.specs.Model.Run.{is_failed}
 use Rattle.hotel_core.proofs.OfCode.Parts.{SoFar, faults}
 use Rattle.keycard_rules.specs.declared.issued.Issued.{Ghosts as IssuedOf}
-use Rattle.hotel_core.specs.declared.books.Books.{Ghosts as BooksOf}
 
 pub not_true : (b : Bool) → not b ≡ true → b ≡ false
 not_true true e = sym e
@@ -92,8 +69,10 @@ reported_there rows ahead note day row kept d r n =
     ap (λ x. unless (needs (is_some x) NotBegun ∷ needs (is_some (room_at rows note.room)) NoRoom ∷ []) (reported_on rows note (note_at rows note.room note.count))) d
     ∙ ap (λ x. unless (needs (is_some x) NoRoom ∷ []) (reported_on rows note (note_at rows note.room note.count))) r ∙ ap (λ x. reported_on rows note x) n
 
--- the next note of a room
-pub next_told : (rows : Rows) (note : Note) (row : RoomRow) (what : Act) → room_at rows note.room ≡ Some row → note.count ≡ row.notes + 1 → what ≡ note.act → reported_on rows note None ≡ told_on rows note what
-next_told rows note row what r n a =
+-- the next note of a room, by its count
+pub next_told : (rows : Rows) (note : Note) (row : RoomRow) (what : Act) (count : ℕ) → room_at rows note.room ≡ Some row → count ≡ note.count → row.notes < count → count ≤ row.notes + 1 → what ≡ note.act
+    → reported_on rows note None ≡ told_on rows note what
+next_told rows note row what count r same past next a =
+    let n : note.count ≡ row.notes + 1 = omega arith in
     ap (λ o. said_of o (refused NoRoom) (λ (x : RoomRow). if note.count == x.notes + 1 then told_on rows note note.act else refused (Gap (x.notes + 1)))) r
     ∙ ap (λ b. if b then told_on rows note note.act else refused (Gap (row.notes + 1))) (equal note.count (row.notes + 1) n) ∙ ap (λ x. told_on rows note x) (sym a)

@@ -1,33 +1,13 @@
 -- What comes of a note on rows is Taken, Seen or a refusal.
-use Rattle.std.proofs.Common.{◌≡◌, ℕ, Bool, true, false, List, [], ◌∷◌, Option, Some, None, sym, refl, subst}
-use Rattle.std.specs.Prelude.{Ok, Err, if◌then◌else◌, is_some, ◌==◌, ◌+◌}
-use Rattle.keycard_rules.specs.Lock.{turn}
-use Rattle.rand_core.specs.Stream.{Stream}
-use Rattle.keycard_rules.specs.Note.{Note}
-use Rattle.keycard_rules.specs.declared.note.Act.{Act}
+use Rattle.std.proofs.Common.{◌≡◌, ℕ, Bool, true, false, List, [], ◌∷◌, Option, Some, None, sym, refl, subst, if◌then◌else◌, is_some, ◌==◌, ◌+◌}
+use Rattle.hotel_core.proofs.Names.{turn, Stream, Note, Act, Change, Reply, Refusal, RoomRow, Rows, said_of, is_one_of, comes, card_at, inside_at, note_at, room_at, same_note, outcome_on, reported_on, told_on, checks_on, has_link_on, held_on, place_on, lock_place_on, secured_on, secured_after_on, is_awaited_on, Outcome, accepted, needs, refused, said, unless, false≢true, is_failed}
 use Rattle.keycard_rules.specs.declared.note.Act.TheVariants as act
-use Rattle.keycard_rules.specs.declared.issued.LookFault.{LookFault}
-use Rattle.keycard_rules.specs.declared.issued.LookFault.TheVariants as look
-use Rattle.hotel_core.specs.declared.books.change.Change.{Change}
 use Rattle.hotel_core.specs.declared.books.change.Change.TheVariants as change
-use Rattle.hotel_core.specs.declared.books.change.InsideMove.TheVariants.{Same, Goes}
+use Rattle.hotel_core.specs.{declared.books.change.InsideMove.TheVariants.Same, declared.books.change.InsideMove.TheVariants.Goes, Model.NoteReplies.IsNoteReply}
 use Rattle.hotel_core.specs.declared.command.Command.TheVariants as command
-use Rattle.hotel_core.specs.declared.reply.Reply.{Reply}
 use Rattle.hotel_core.specs.declared.reply.Reply.TheVariants as reply
-use Rattle.hotel_core.specs.declared.reply.Refusal.{Refusal}
 use Rattle.hotel_core.specs.declared.reply.Refusal.TheVariants as refusal
-use Rattle.hotel_core.specs.declared.books.rows.RoomRow.{RoomRow}
-use Rattle.hotel_core.specs.Model.Rows.{Rows}
-use Rattle.hotel_core.specs.Model.Words.{said_of, is_one_of}
-use Rattle.hotel_core.specs.Refinement.ChangeOf.{comes}
-use Rattle.hotel_core.specs.Books.Lookups.{card_at, inside_at, note_at, room_at}
-use Rattle.hotel_core.specs.Model.Notes.{same_note}
-use Rattle.hotel_core.specs.Refinement.OnRows.{outcome_on, reported_on, told_on, checks_on, has_link_on, held_on, place_on, lock_place_on, secured_on, secured_after_on, is_awaited_on}
-use Rattle.hotel_core.specs.Model.Outcome.{Outcome, accepted, needs, refused, said, unless}
-use Rattle.std.proofs.lemmas.Bool.{false≢true}
-use Rattle.hotel_core.specs.Model.Run.{is_failed}
 use Rattle.hotel_core.specs.Refinement.StepOnRows as step
-use Rattle.hotel_core.specs.Model.NoteReplies.{IsNoteReply}
 
 -- the first refusal of some checks is one, and so is what comes otherwise
 unless_reply : (checks : List (Option Refusal)) (o : Outcome Change) → IsNoteReply o.reply → IsNoteReply (unless checks o).reply

@@ -1,26 +1,9 @@
 -- The parts of a step, one after the other.
-use Rattle.std.proofs.Common.{ℕ, ◌≡◌, ◌≤◌, Bool, true, false, Option, Some, None, Result, Ok, Err, refl, ap, sym, ◌∙◌, arith, subst, IsErrAnd, inl, inr, is_some, List, [], ◌∷◌, ◌++◌, ◌+◌, nat_lt, cond}
-use Rattle.std.proofs.lemmas.Bool.{false≢true}
-use Rattle.rand_core.specs.Stream.{Stream}
-use Rattle.keycard_rules.specs.Draw.{past}
-use Rattle.keycard_rules.specs.Rise.{HasRisen, NoFewer}
+use Rattle.std.proofs.Common.{ℕ, ◌≡◌, ◌≤◌, Bool, true, false, Option, Some, None, Result, Ok, Err, refl, ap, sym, ◌∙◌, arith, subst, IsErrAnd, List, [], ◌∷◌, ◌++◌, ◌+◌, nat_lt, cond}
+use Rattle.hotel_core.proofs.Names.{false≢true, Stream, past, HasRisen, NoFewer, LookFault, Change, Reply, Refused, Refusal, Store, Rows, number_after, is_failed, Outcome, refused, accepted, unless, made, GoesIf, Goes, made_by, AreWhole, StepsAs, Finds, AnyRows, reply_of, refusal_of, first_refusal, Ghosts as BooksOf}
 use Rattle.keycard_rules.proofs.Drawing.{past-zero}
-use Rattle.keycard_rules.specs.declared.issued.LookFault.{LookFault}
 use Rattle.keycard_rules.specs.declared.issued.LookFault.TheVariants as look
-use Rattle.hotel_core.specs.declared.books.change.Change.{Change}
-use Rattle.hotel_core.specs.declared.reply.Reply.{Reply}
-use Rattle.hotel_core.specs.declared.reply.Reply.TheVariants.{Refused}
-use Rattle.hotel_core.specs.declared.reply.Refusal.{Refusal}
-use Rattle.hotel_core.specs.declared.reply.Refusal.TheVariants.{Store, Memory}
-use Rattle.hotel_core.specs.Model.Rows.{Rows}
-use Rattle.hotel_core.specs.Books.Lookups.{number_after}
-use Rattle.hotel_core.specs.Model.Run.{is_failed}
-use Rattle.hotel_core.specs.Model.Outcome.{Outcome, refused, accepted, unless}
-use Rattle.hotel_core.specs.Books.Change.{made}
-use Rattle.hotel_core.specs.Refinement.StepOnRows.{GoesIf, Goes, made_by, AreWhole, StepsAs}
-use Rattle.hotel_core.specs.Refinement.Finds.{Finds, AnyRows, reply_of, refusal_of, first_refusal}
 use Rattle.keycard_rules.specs.declared.issued.Issued.{Ghosts as IssuedOf}
-use Rattle.hotel_core.specs.declared.books.Books.{Ghosts as BooksOf}
 
 -- From the state start to now no row changed, and this is known of the rows at the start, if the state is clean now.
 pub record SoFar {S : Type 0} (I : IssuedOf S) (B : BooksOf S) (facts : Rows → Type 0) (start now : S) : Type 0 where
@@ -175,10 +158,6 @@ fails {I = I} {B = B} {old = old} {new = new} o fault why source e m w counted r
       counted = counted;
       fault = λ clean whole cause k. subst (λ x. HasRisen (I.failures old x) (I.failures new x)) (same_fault fault cause k) risen;
     })
-
-pub none : {A : Type 0} (o : Option A) → is_some o ≡ false → o ≡ None
-none None e = refl
-none (Some a) e = absurd (false≢true (sym e))
 
 -- a refusal of the checks, passed on
 pub barred : {S : Type 0} {I : IssuedOf S} {B : BooksOf S} {facts : Rows → Type 0} {start now : S} {e : Refusal} {outcome : Rows → Outcome Change} {source : Stream} (r : Result Reply Refusal)

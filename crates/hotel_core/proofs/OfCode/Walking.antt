@@ -1,9 +1,7 @@
 -- A walk part-way through the rows of a list: what the sink took, and the rows that are still to come.
-use Rattle.std.proofs.Common.{ℕ, suc, ◌≡◌, ◌<◌, ◌+◌, ◌-◌, ◌++◌, Bool, true, false, cond, Option, Some, None, List, [], ◌∷◌, filter, append_assoc, refl, ap, sym, ◌∙◌, subst, arith}
-use Rattle.std.specs.Prelude.{filter_map}
-use Rattle.std.specs.List.{range_with_len, cons_option}
+use Rattle.std.proofs.Common.{ℕ, suc, ◌≡◌, ◌<◌, ◌+◌, ◌-◌, ◌++◌, Bool, true, false, cond, Option, Some, None, List, [], ◌∷◌, filter, append_assoc, refl, ap, sym, ◌∙◌, subst, arith, filter_map}
+use Rattle.hotel_core.proofs.Names.{range_with_len, cons_option, Takes, TakesFront, StopsAt}
 use Rattle.std.proofs.lemmas.List.{append-nil}
-use Rattle.hotel_core.specs.Books.Walks.{Takes, TakesFront, StopsAt}
 
 -- The sink took some of the rows, and the rest is to come.
 abbrev pub SoFar : {S R : Type 0} → (S → R → S → Type 0) → List R → List R → S → S → Type 0

@@ -1,8 +1,9 @@
 -- Kinds as keys, and the counts at them.
-use Rattle.std.proofs.Common.{ℕ, ◌≡◌, ◌+◌, Bool, true, false, cond, Option, Some, None, List, [], ◌∷◌, refl, ap, sym, ◌∙◌}
-use Rattle.std.specs.Prelude.{◌||◌, bytes_eq, is_some}
+use Rattle.std.proofs.Common.{ℕ, ◌≡◌, ◌+◌, Bool, true, false, cond, Option, Some, None, List, [], ◌∷◌, refl, ap, sym, ◌∙◌, ◌||◌, bytes_eq, is_some, nat_cmp, Ordering, Less, Equal, Greater}
+use Rattle.hotel_core.proofs.Names.{match_ordering, slice_cmp, is_at, insert_entry, insert_key, lookup, keys_of, bytes_eq-Decides, one_if, is_there, rooms_in}
 use Rattle.std.specs.Option.{unwrap_or}
-use Rattle.std.specs.Ordering.{nat_cmp, match_ordering}
+use Rattle.std.specs.List.{list_any}
+use Rattle.std.specs.Ordering.{nat_cmp, match_ordering, is_eq}
 use Rattle.std.specs.declared.cmp.Ordering.{Ordering}
 use Rattle.std.specs.declared.cmp.Ordering.TheVariants.{Less, Equal, Greater}
 use Rattle.std.specs.Cmp.Lexicographic.{slice_cmp}
@@ -14,6 +15,7 @@ use Rattle.std.proofs.lemmas.Slice.Eq.{bytes_eq-Decides}
 use Rattle.hotel_nights.specs.Block.{one_if}
 use Rattle.hotel_core.specs.KindRooms.{is_there, rooms_in}
 use Rattle.hotel_core.proofs.OfTables.MapEntries.{same_bool, known_by}
+use Rattle.hotel_core.proofs.OfTables.RowTests.{or_later}
 use Rattle.hotel_core.proofs.OfNights.NightCounts.{taken_in, more_by}
 
 bytes_turned : (xs ys : List ℕ) → bytes_eq xs ys ≡ bytes_eq ys xs
@@ -36,6 +38,17 @@ keys_inserted cmp k v (e ∷ es) = by (cmp k e.0) (keys_inserted cmp k v es)
     by Less h = refl
     by Equal h = refl
     by Greater h = ap (λ ks. e.0 ∷ ks) h
+
+itself_by : (o : Ordering) (kind k : List ℕ) (ks : List (List ℕ)) → slice_cmp nat_cmp kind k ≡ o → list_any (λ x. bytes_eq x kind) (insert_key (slice_cmp nat_cmp) ks kind) ≡ true
+    → list_any (λ x. bytes_eq x kind) (match_ordering o (kind ∷ k ∷ ks) (k ∷ ks) (k ∷ insert_key (slice_cmp nat_cmp) ks kind)) ≡ true
+itself_by Less kind k ks e ih = ap (λ b. b || list_any (λ x. bytes_eq x kind) (k ∷ ks)) ((bytes_eq-Decides kind kind).1 refl)
+itself_by Equal kind k ks e ih = ap (λ b. b || list_any (λ x. bytes_eq x kind) ks) (bytes_turned k kind ∙ sym (is_eq-slice_cmp kind k) ∙ ap is_eq e)
+itself_by Greater kind k ks e ih = or_later (bytes_eq k kind) _ ih
+
+-- a kind that was added is there
+pub there_itself : (ks : List (List ℕ)) (kind : List ℕ) → list_any (λ x. bytes_eq x kind) (insert_key (slice_cmp nat_cmp) ks kind) ≡ true
+there_itself [] kind = ap (λ b. b || false) ((bytes_eq-Decides kind kind).1 refl)
+there_itself (k ∷ ks) kind = itself_by (slice_cmp nat_cmp kind k) kind k ks refl (there_itself ks kind)
 
 -- ---- the count of one kind changed
 

@@ -1,18 +1,9 @@
 -- Counts at nights, after those of one block were changed.
-use Rattle.std.proofs.Common.{ℕ, ◌≡◌, ◌+◌, ◌-◌, ◌*◌, ◌/◌, ◌%◌, ◌≤◌, ◌<◌, ◌^◌, Bool, true, false, cond, Option, Some, None, List, [], zero, suc, get_or, replicate, refl, ap, sym, ◌∙◌, arith, nat_le, nat_lt, subst}
-use Rattle.std.specs.Prelude.{◌==◌, ◌&&◌, bytes_eq, slice_index}
+use Rattle.std.proofs.Common.{ℕ, ◌≡◌, ◌+◌, ◌-◌, ◌*◌, ◌/◌, ◌%◌, ◌≤◌, ◌<◌, Bool, true, false, cond, Option, Some, None, List, [], zero, suc, get_or, replicate, refl, ap, sym, ◌∙◌, arith, nat_le, nat_lt, subst, ◌==◌, ◌&&◌, bytes_eq, slice_index, nat_cmp, is_eq}
+use Rattle.hotel_core.proofs.Names.{slice_cmp, is_at, lookup, nat_tests, bytes_eq-Decides, one_if, block_cmp, block_at, counted, holds}
 use Rattle.std.specs.Option.{unwrap_or}
-use Rattle.std.specs.Ordering.{nat_cmp, is_eq}
-use Rattle.std.specs.Cmp.Lexicographic.{slice_cmp}
-use Rattle.std.specs.BTreeMap.{is_at}
-use Rattle.std.specs.Map.{lookup}
-use Rattle.std.proofs.lemmas.Bool.Decides.{nat_tests}
 use Rattle.std.proofs.lemmas.Map.Text.{is_eq-slice_cmp}
-use Rattle.std.proofs.lemmas.Slice.Eq.{bytes_eq-Decides}
-use Rattle.hotel_nights.specs.Block.{one_if}
-use Rattle.hotel_core.proofs.OfTables.MapEntries.{both_equal, at_is, eq_from}
-use Rattle.hotel_core.proofs.OfTables.PlacedCodes.{both_true}
-use Rattle.hotel_core.specs.NightIndex.{block_cmp, block_at, counted, holds}
+use Rattle.hotel_core.proofs.{OfTables.MapEntries.both_equal, OfTables.MapEntries.at_is, OfTables.MapEntries.eq_from, OfTables.PlacedCodes.both_true}
 
 -- ---- the test of a key
 
@@ -50,27 +41,33 @@ both_false false y h = refl
 place_other : (from to d : ℕ) → from < to → to ≤ from / 32 * 32 + 32 → (d / 32 == from / 32) ≡ false → (nat_le from d && nat_lt d to) ≡ false
 place_other from to d lt one other = both_false (nat_le from d) (nat_lt d to) (λ low. grind (arith, nat_tests))
 
--- the counts of some nights of one block are changed, by `f`, and each other is as it was
-pub part_changed : (f : ℕ → ℕ → ℕ) → ((x : ℕ) → f x 0 ≡ x) → (before after : List ((List ℕ × ℕ) × List ℕ)) (kind : List ℕ) (from to : ℕ) (w : Option (List ℕ)) → from < to → to ≤ from / 32 * 32 + 32
+-- the counts of some nights of one block are changed, as `Turns` says of the count before, whether it is one of the nights, and the count after; each other is as it was
+pub part_changed : (Turns : ℕ → ℕ → ℕ → Type 0) → ((x : ℕ) → Turns x 0 x) → (before after : List ((List ℕ × ℕ) × List ℕ)) (kind : List ℕ) (from to : ℕ) (w : Option (List ℕ)) → from < to → to ≤ from / 32 * 32 + 32
     → Sets before after kind (from / 32) w
-    → ((j : ℕ) → slice_index (unwrap_or w []) j ≡ f (slice_index (block_at before kind (from / 32)) j) (one_if (nat_le (from % 32) j && nat_lt j (from % 32 + (to - from)))))
-    → (k : List ℕ) (d : ℕ) → counted after k d ≡ f (counted before k d) (one_if (holds kind from to k d))
-part_changed f none before after kind from to w lt one u g k d = here ∙ by (bytes_eq kind k) (d / 32 == from / 32) refl refl
+    → ((j : ℕ) → Turns (slice_index (block_at before kind (from / 32)) j) (one_if (nat_le (from % 32) j && nat_lt j (from % 32 + (to - from)))) (slice_index (unwrap_or w []) j))
+    → (k : List ℕ) (d : ℕ) → Turns (counted before k d) (one_if (holds kind from to k d)) (counted after k d)
+part_changed Turns none before after kind from to w lt one u g k d =
+    subst (λ n. Turns (counted before k d) (one_if (holds kind from to k d)) n) (sym here) (by (bytes_eq kind k) (d / 32 == from / 32) refl refl)
   where
     here : counted after k d ≡ slice_index (cond (bytes_eq kind k && (d / 32 == from / 32)) (unwrap_or w []) (block_at before k (d / 32))) (d % 32)
     here = ap (λ xs. slice_index xs (d % 32)) (set_at before after kind (from / 32) w u k (d / 32))
 
     by : (x y : Bool) → bytes_eq kind k ≡ x → (d / 32 == from / 32) ≡ y
-        → slice_index (cond (bytes_eq kind k && (d / 32 == from / 32)) (unwrap_or w []) (block_at before k (d / 32))) (d % 32) ≡ f (counted before k d) (one_if (holds kind from to k d))
-    by false y e h = (λ i. slice_index (cond (e i && (d / 32 == from / 32)) (unwrap_or w []) (block_at before k (d / 32))) (d % 32)) ∙ sym (none (counted before k d)) ∙ ap (λ z. f (counted before k d) (one_if (z && (nat_le from d && nat_lt d to)))) (sym e)
+        → Turns (counted before k d) (one_if (holds kind from to k d)) (slice_index (cond (bytes_eq kind k && (d / 32 == from / 32)) (unwrap_or w []) (block_at before k (d / 32))) (d % 32))
+    by false y e h =
+        subst (λ b. Turns (counted before k d) (one_if (b && (nat_le from d && nat_lt d to))) (slice_index (cond (b && (d / 32 == from / 32)) (unwrap_or w []) (block_at before k (d / 32))) (d % 32))) (sym e)
+        (none (counted before k d))
     by true false e h =
-        (λ i. slice_index (cond (e i && h i) (unwrap_or w []) (block_at before k (d / 32))) (d % 32)) ∙ sym (none (counted before k d))
-        ∙ (λ i. f (counted before k d) (one_if (sym e i && sym (place_other from to d lt one h) i)))
+        subst (λ b. Turns (counted before k d) (one_if (b && (nat_le from d && nat_lt d to))) (slice_index (cond (b && (d / 32 == from / 32)) (unwrap_or w []) (block_at before k (d / 32))) (d % 32))) (sym e)
+        (subst (λ b. Turns (counted before k d) (one_if (nat_le from d && nat_lt d to)) (slice_index (cond b (unwrap_or w []) (block_at before k (d / 32))) (d % 32))) (sym h)
+        (subst (λ b. Turns (counted before k d) (one_if b) (counted before k d)) (sym (place_other from to d lt one h)) (none (counted before k d))))
     by true true e h =
         let q : kind ≡ k = (bytes_eq-Decides kind k).0 e in
         let b : d / 32 ≡ from / 32 = eq_from (d / 32) (from / 32) h in
-        (λ i. slice_index (cond (e i && h i) (unwrap_or w []) (block_at before k (d / 32))) (d % 32)) ∙ g (d % 32)
-        ∙ (λ i. f (slice_index (block_at before (q i) (sym b i)) (d % 32)) (one_if (sym e i && place_same from to d lt one b i)))
+        subst (λ b. Turns (counted before k d) (one_if (b && (nat_le from d && nat_lt d to))) (slice_index (cond (b && (d / 32 == from / 32)) (unwrap_or w []) (block_at before k (d / 32))) (d % 32))) (sym e)
+        (subst (λ b. Turns (counted before k d) (one_if (nat_le from d && nat_lt d to)) (slice_index (cond b (unwrap_or w []) (block_at before k (d / 32))) (d % 32))) (sym h)
+        (subst (λ (p : List ℕ × ℕ). Turns (slice_index (block_at before p.0 p.1) (d % 32)) (one_if (nat_le from d && nat_lt d to)) (slice_index (unwrap_or w []) (d % 32))) (λ i. (q i, sym b i))
+        (subst (λ t. Turns (slice_index (block_at before kind (from / 32)) (d % 32)) (one_if t) (slice_index (unwrap_or w []) (d % 32))) (place_same from to d lt one b) (g (d % 32)))))
 
 -- as many in place of none: two changes of one block are the second
 pub sets_twice : (before mid after : List ((List ℕ × ℕ) × List ℕ)) (kind : List ℕ) (b : ℕ) (v w : Option (List ℕ)) → Sets before mid kind b v → Sets mid after kind b w → Sets before after kind b w
@@ -94,15 +91,6 @@ part_absent blocks kind from to lt one none k d = by (holds kind from to k d) re
         let b : from / 32 ≡ d / 32 = grind (arith, nat_tests) in
         let zero : counted blocks k d ≡ 0 = (λ i. slice_index (block_at blocks (sym q i) (sym b i)) (d % 32)) ∙ ap (λ xs. slice_index xs (d % 32)) none in
         omega (arith, zero)
-
--- the count at a place of a block is that of its night
-pub few_at : (blocks : List ((List ℕ × ℕ) × List ℕ)) (kind : List ℕ) (from to : ℕ) → to ≤ from / 32 * 32 + 32 → ((d : ℕ) → from ≤ d → d < to → counted blocks kind d < 2 ^ 63)
-    → (j : ℕ) → from % 32 ≤ j → j < from % 32 + (to - from) → slice_index (block_at blocks kind (from / 32)) j < 2 ^ 63
-few_at blocks kind from to one few j low high =
-    let q : (from / 32 * 32 + j) / 32 ≡ from / 32 = omega (arith, one, low, high) in
-    let r : (from / 32 * 32 + j) % 32 ≡ j = omega (arith, one, low, high) in
-    subst (λ n. slice_index (block_at blocks kind (from / 32)) n < 2 ^ 63) r
-    (subst (λ b. slice_index (block_at blocks kind b) ((from / 32 * 32 + j) % 32) < 2 ^ 63) q (few (from / 32 * 32 + j) (omega (arith, low)) (omega (arith, one, low, high))))
 
 pub more_by : (b : Bool) (x y : ℕ) → (b ≡ true → x ≡ y) → cond b (x + 1) y ≡ y + one_if b
 more_by true x y e = ap (λ z. z + 1) (e refl)

@@ -1,23 +1,7 @@
 -- The index after a stay was added or changed its state.
-use Rattle.std.proofs.Common.{ℕ, ◌≡◌, ◌+◌, ◌-◌, ◌<◌, ◌^◌, Bool, true, false, cond, Option, Some, None, List, [], ◌∷◌, length, refl, ap, sym, ◌∙◌, subst, arith, nat_le, nat_lt, count_by}
-use Rattle.std.specs.Prelude.{◌==◌, ◌&&◌, bytes_eq}
-use Rattle.std.specs.Ordering.{nat_cmp}
-use Rattle.std.specs.BTreeMap.{insert_entry}
-use Rattle.std.specs.Map.{values_of}
-use Rattle.std.proofs.lemmas.List.{length-map}
-use Rattle.std.proofs.lemmas.List.Sums.{count_by-le-length}
-use Rattle.hotel_nights.specs.declared.stay.Stay.{Stay}
-use Rattle.hotel_nights.specs.declared.stay.StayState.{StayState}
-use Rattle.hotel_nights.specs.Block.{one_if}
-use Rattle.hotel_nights.specs.FullNight.{takes, is_standing, nights_taken}
-use Rattle.hotel_core.specs.Model.Words.{said_of}
-use Rattle.hotel_core.specs.Model.Rows.{at_number}
-use Rattle.hotel_core.specs.Model.Stays.{in_state, now_is}
-use Rattle.hotel_core.proofs.OfTables.StayCounts.{count_first, count_inserted}
-use Rattle.hotel_core.proofs.OfTables.TableKeys.{at_is}
-use Rattle.hotel_core.proofs.OfTables.RowsChanged.{stay_absent}
-use Rattle.hotel_core.specs.NightIndex.{counted, holds}
-use Rattle.hotel_core.specs.Memory.{StandsForAll}
+use Rattle.std.proofs.Common.{ℕ, ◌≡◌, ◌+◌, ◌-◌, ◌<◌, ◌^◌, Bool, true, false, cond, Option, Some, None, List, [], ◌∷◌, length, refl, ap, sym, ◌∙◌, subst, arith, nat_le, nat_lt, count_by, ◌==◌, ◌&&◌, bytes_eq, nat_cmp}
+use Rattle.hotel_core.proofs.Names.{insert_entry, values_of, length-map, count_by-le-length, Stay, StayState, one_if, takes, is_standing, nights_taken, said_of, at_number, in_state, now_is, counted, holds, StandsForAll}
+use Rattle.hotel_core.proofs.{OfTables.StayCounts.count_first, OfTables.StayCounts.count_inserted, OfTables.TableKeys.at_is, OfTables.RowsChanged.stay_absent}
 
 -- a stay that stands takes the nights that it holds, and another none
 pub takes_by : (stay : Stay) (kind : List ℕ) (d : ℕ) → is_standing stay.state ≡ true → takes kind d stay ≡ holds stay.kind stay.arrive stay.depart kind d

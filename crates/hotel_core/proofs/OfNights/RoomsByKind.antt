@@ -1,23 +1,7 @@
 -- The rooms of each kind: as many as are counted, and fewer than a count holds.
-use Rattle.std.proofs.Common.{ℕ, ◌≡◌, ◌+◌, ◌-◌, ◌^◌, ◌≤◌, ◌<◌, Bool, true, false, cond, Option, Some, None, List, [], ◌∷◌, length, refl, ap, ◌∙◌, arith, subst, sym}
-use Rattle.std.specs.Prelude.{◌==◌, bytes_eq}
-use Rattle.std.specs.List.{AllByRecursion, count_by}
+use Rattle.std.proofs.Common.{ℕ, ◌≡◌, ◌+◌, ◌-◌, ◌^◌, ◌≤◌, ◌<◌, Bool, true, false, cond, Option, Some, None, List, [], ◌∷◌, length, refl, ap, ◌∙◌, arith, sym, ◌==◌, bytes_eq, count_by, nat_cmp, Ordering, Less, Equal, Greater}
+use Rattle.hotel_core.proofs.Names.{AllByRecursion, MatchOrdering, match_ordering, ranks, insert_entry, keys_of, values_of, length-map, count_by-le-length, IsNumberUpTo, one_if, RoomRow, at_number, room_changed, left_by, rooms_in, HaveRoomNumbers, RoomsKnown}
 use Rattle.std.specs.List.Sorted.{IsStrictlySortedBy}
-use Rattle.std.specs.Ordering.{nat_cmp, MatchOrdering, match_ordering}
-use Rattle.std.specs.declared.cmp.Ordering.{Ordering}
-use Rattle.std.specs.declared.cmp.Ordering.TheVariants.{Less, Equal, Greater}
-use Rattle.std.specs.Cmp.{ranks}
-use Rattle.std.specs.BTreeMap.{insert_entry}
-use Rattle.std.specs.Map.{keys_of, values_of}
-use Rattle.std.proofs.lemmas.List.{length-map}
-use Rattle.std.proofs.lemmas.List.Sums.{sum_by-cons, count_by-le-length}
-use Rattle.keycard_rules.specs.Numbers.{IsNumberUpTo}
-use Rattle.hotel_nights.specs.Block.{one_if}
-use Rattle.hotel_core.specs.declared.books.rows.RoomRow.{RoomRow}
-use Rattle.hotel_core.specs.Model.Rows.{at_number}
-use Rattle.hotel_core.specs.Books.Change.{room_changed, left_by}
-use Rattle.hotel_core.specs.KindRooms.{rooms_in}
-use Rattle.hotel_core.specs.Memory.{HaveRoomNumbers, RoomsKnown}
 use Rattle.hotel_core.proofs.OfTables.StayCounts.{count_first, count_inserted}
 
 -- ---- fewer than 10,000
@@ -110,6 +94,3 @@ module _ (f : RoomRow → RoomRow) (same : (row : RoomRow) → (f row).kind ≡ 
 pub known_left : (leaves : Option ℕ) (kinds : List (List ℕ × ℕ)) (es : List (ℕ × RoomRow)) → RoomsKnown kinds es → RoomsKnown kinds (left_by leaves es)
 known_left None kinds es known = known
 known_left (Some room) kinds es known = known_changed (λ row. record row { party = None }) (λ row. refl) kinds room es known
-
-pub none_known : RoomsKnown [] []
-none_known = record { counts = λ kind. refl; numbers = tt }

@@ -1,22 +1,8 @@
 -- The cards inside a room, as a part of the pairs in order.
-use Rattle.std.proofs.Common.{ℕ, ◌≡◌, ◌≤◌, ◌<◌, Bool, true, false, cond, Option, Some, None, is_some, List, [], ◌∷◌, map, filter, refl, ap, sym, ◌∙◌, arith}
-use Rattle.std.specs.Prelude.{◌==◌, ◌&&◌, ◌||◌, not}
-use Rattle.std.specs.Ordering.{nat_cmp, is_le, is_lt, is_eq, ordering_then, match_ordering, MatchOrdering}
-use Rattle.std.specs.declared.cmp.Ordering.{Ordering}
-use Rattle.std.specs.declared.cmp.Ordering.TheVariants.{Less, Equal, Greater}
-use Rattle.std.specs.declared.ops.Bound.TheVariants.{Included}
-use Rattle.std.specs.BTreeMap.{is_at}
-use Rattle.std.specs.BTreeMap.Range.{range_contains}
-use Rattle.std.specs.BTreeSet.{insert_key}
-use Rattle.std.specs.Cmp.{ranks}
-use Rattle.std.specs.Set.{remove_key}
-use Rattle.keycard_rules.specs.Numbers.{IsNumberUpTo}
-use Rattle.std.specs.List.{list_any}
+use Rattle.std.proofs.Common.{ℕ, ◌≡◌, ◌≤◌, ◌<◌, Bool, true, false, cond, Option, Some, None, is_some, List, [], ◌∷◌, map, filter, refl, ap, sym, ◌∙◌, arith, ◌==◌, ◌&&◌, ◌||◌, not, nat_cmp, is_le, is_lt, is_eq, Ordering, Less, Equal, Greater}
+use Rattle.hotel_core.proofs.Names.{ordering_then, match_ordering, MatchOrdering, Included, is_at, range_contains, insert_key, ranks, remove_key, IsNumberUpTo, list_any, pair_cmp, when, those_in, are_none, HaveCardNumbers}
 use Rattle.std.specs.Map.Iter.{TakesFirst}
 use Rattle.keycard_rules.specs.Draw.{is_one_of}
-use Rattle.hotel_core.specs.Model.Words.{pair_cmp, when}
-use Rattle.hotel_core.specs.Model.Guests.{those_in, are_none}
-use Rattle.hotel_core.specs.Memory.{HaveCardNumbers}
 use Rattle.hotel_core.proofs.OfTables.MapEntries.{at_is, pair_is}
 
 -- ---- changes keep the numbers

@@ -1,9 +1,6 @@
 -- A code at a place of a list.
-use Rattle.std.proofs.Common.{ℕ, suc, ◌≡◌, ◌+◌, Bool, true, false, cond, List, [], ◌∷◌, ◌++◌, length, ◌⊎◌, inl, inr, refl, ap, sym, ◌∙◌, subst, take, drop, arith}
-use Rattle.std.specs.Prelude.{◌==◌, not}
-use Rattle.std.specs.List.{position_or_len}
-use Rattle.std.proofs.lemmas.Bool.{false≢true}
-use Rattle.hotel_core.specs.Model.Words.{is_one_of, before, after, without, last_of}
+use Rattle.std.proofs.Common.{ℕ, suc, ◌≡◌, ◌+◌, Bool, true, false, cond, List, [], ◌∷◌, ◌++◌, length, ◌⊎◌, inl, inr, refl, ap, sym, ◌∙◌, subst, take, drop, arith, ◌==◌, not}
+use Rattle.hotel_core.proofs.Names.{position_or_len, false≢true, is_one_of, before, after, without, last_of}
 use Rattle.hotel_core.proofs.OfTables.Tests.{eq_from, eq_self, or_second}
 
 pub nothing_in_nil : (front : List ℕ) (c : ℕ) (back : List ℕ) → [] ≡ front ++ c ∷ back → ⊥

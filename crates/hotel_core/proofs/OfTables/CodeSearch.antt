@@ -1,24 +1,9 @@
 -- What a search for a place among the codes finds.
-use Rattle.std.proofs.Common.{ℕ, ◌≡◌, ◌+◌, ◌≤◌, Bool, true, false, cond, Option, Some, None, List, [], ◌∷◌, ◌++◌, length, inl, inr, refl, ap, sym, ◌∙◌, arith}
-use Rattle.std.specs.Prelude.{◌==◌, ◌&&◌}
-use Rattle.std.specs.Ordering.{nat_cmp, is_eq, match_ordering}
-use Rattle.std.specs.declared.cmp.Ordering.{Ordering}
-use Rattle.std.specs.declared.cmp.Ordering.TheVariants.{Less, Equal, Greater}
-use Rattle.std.specs.BTreeMap.{is_at, insert_entry}
-use Rattle.hotel_core.specs.declared.books.rows.CodeRow.{CodeRow}
-use Rattle.hotel_core.specs.Model.Words.{when, and_last}
-use Rattle.hotel_core.specs.Model.Rows.{at_number}
-use Rattle.hotel_core.specs.Books.Lookups.{first_code_at}
-use Rattle.hotel_core.specs.Model.Event.{Install, CheckIn, Transfer}
-use Rattle.hotel_core.specs.Model.History.{History, start, ◌▷◌}
-use Rattle.hotel_core.specs.Model.Issued.{issued, all_issued}
-use Rattle.hotel_core.specs.Model.Run.{Reached}
-use Rattle.hotel_core.proofs.Facts.CodeFacts.{CodesAreFound}
-use Rattle.hotel_core.proofs.OfTables.Tests.{eq_from, eq_self, and_true, not_both}
-use Rattle.hotel_core.proofs.OfTables.TableKeys.{swap_tests}
-use Rattle.hotel_core.proofs.OfTables.CodeLists.{snoc_split, length_more}
-use Rattle.hotel_core.proofs.Invariants.CodePlaces.{next_place, fresh_has_no_row}
-use Rattle.hotel_core.proofs.OfTables.Grown.{may_follow}
+use Rattle.std.proofs.Common.{ℕ, ◌≡◌, ◌+◌, ◌≤◌, Bool, true, false, cond, Option, Some, None, List, [], ◌∷◌, ◌++◌, length, inl, inr, refl, ap, sym, ◌∙◌, arith, ◌==◌, ◌&&◌, nat_cmp, is_eq, Ordering, Less, Equal, Greater}
+use Rattle.hotel_core.proofs.Names.{match_ordering, is_at, insert_entry, CodeRow, when, and_last, at_number, first_code_at, Install, CheckIn, Transfer, History, start, ◌▷◌, issued, all_issued, Reached}
+use Rattle.hotel_core.proofs.{Facts.CodeFacts.CodesAreFound, OfTables.Tests.eq_from, OfTables.Tests.eq_self, OfTables.Tests.and_true, OfTables.Tests.not_both}
+use Rattle.hotel_core.proofs.{OfTables.TableKeys.swap_tests, OfTables.CodeLists.snoc_split, OfTables.CodeLists.length_more}
+use Rattle.hotel_core.proofs.{Invariants.CodePlaces.next_place, Invariants.CodePlaces.fresh_has_no_row, OfTables.Grown.may_follow}
 use Rattle.hotel_core.proofs.Starts.StartSearch.{free_at_start, found_at_start}
 
 abbrev pub is_here : CodeRow → ℕ → ℕ → Bool

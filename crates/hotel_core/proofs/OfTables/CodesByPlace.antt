@@ -1,34 +1,11 @@
 -- The table of codes has each room's codes at the places 0 and on, in the order of issue.
-use Rattle.std.proofs.Common.{ℕ, ◌≡◌, ◌<◌, ◌+◌, Bool, true, false, cond, Some, None, List, [], ◌∷◌, ◌++◌, length, refl, ap, sym, ◌∙◌, subst, arith, length-append}
-use Rattle.std.specs.Prelude.{◌==◌, ◌&&◌, not}
-use Rattle.std.specs.Ordering.{nat_cmp, match_ordering}
-use Rattle.std.specs.declared.cmp.Ordering.{Ordering}
-use Rattle.std.specs.declared.cmp.Ordering.TheVariants.{Less, Equal, Greater}
-use Rattle.std.specs.BTreeMap.{is_at, insert_entry}
-use Rattle.std.specs.List.{list_all, count_by}
-use Rattle.std.specs.Map.{keys_of, values_of}
-use Rattle.std.proofs.lemmas.Bool.Decides.{nat_tests}
-use Rattle.std.proofs.lemmas.Cmp.{nat_cmp_total}
-use Rattle.std.proofs.lemmas.Map.Lookups.{exact_unsigned}
-use Rattle.hotel_core.specs.declared.books.rows.CodeRow.{CodeRow}
-use Rattle.hotel_core.specs.Model.Words.{when, and_last}
-use Rattle.hotel_core.specs.Model.Rows.{at_number, codes_by_place}
-use Rattle.hotel_core.specs.Model.Event.{Install, CheckIn, Transfer}
-use Rattle.hotel_core.specs.Model.History.{History, start, ◌▷◌}
-use Rattle.hotel_core.specs.Model.Issued.{issued, all_issued}
-use Rattle.hotel_core.specs.Model.Run.{Reached}
-use Rattle.hotel_core.specs.Model.SoundRooms.{count_up}
-use Rattle.hotel_core.proofs.OfTables.Tests.{eq_from, eq_self, and_true}
-use Rattle.hotel_core.proofs.OfTables.TableKeys.{is_at_self}
-use Rattle.hotel_core.proofs.OfTables.Grown.{may_follow}
-use Rattle.hotel_core.proofs.OfTables.Counting.{comes_last, counts_on}
-use Rattle.hotel_core.proofs.OfTables.CodeLists.{length_more}
+use Rattle.std.proofs.Common.{ℕ, ◌≡◌, ◌<◌, ◌+◌, Bool, true, false, cond, Some, None, List, [], ◌∷◌, ◌++◌, length, refl, ap, sym, ◌∙◌, subst, arith, length-append, ◌==◌, ◌&&◌, not, nat_cmp, Ordering, Less, Equal, Greater, count_by}
+use Rattle.hotel_core.proofs.Names.{match_ordering, is_at, insert_entry, list_all, keys_of, values_of, nat_tests, nat_cmp_total, exact_unsigned, CodeRow, when, and_last, at_number, codes_by_place, Install, CheckIn, Transfer, History, start, ◌▷◌, issued, all_issued, Reached, count_up}
+use Rattle.hotel_core.proofs.{OfTables.Tests.eq_from, OfTables.Tests.eq_self, OfTables.Tests.and_true, OfTables.TableKeys.is_at_self, OfTables.Grown.may_follow}
+use Rattle.hotel_core.proofs.{OfTables.Counting.comes_last, OfTables.Counting.counts_on, OfTables.CodeLists.length_more}
 use Rattle.hotel_core.proofs.Invariants.CodePlaces.{places_have_codes, fresh_has_no_row, next_place}
-use Rattle.hotel_core.proofs.OfTables.KeysInOrder.{InOrder, in_order_inserted, keys_inserted}
-use Rattle.hotel_core.proofs.OfTables.SameTables.{added_in_any_order}
-use Rattle.hotel_core.proofs.OfTables.RowTests.{all_found}
-use Rattle.hotel_core.proofs.SoundRows.SoundKeys.{codes_in_order}
-use Rattle.hotel_core.proofs.OfTables.StayCounts.{count_inserted}
+use Rattle.hotel_core.proofs.{OfTables.KeysInOrder.InOrder, OfTables.KeysInOrder.in_order_inserted, OfTables.KeysInOrder.keys_inserted, OfTables.SameTables.added_in_any_order}
+use Rattle.hotel_core.proofs.{OfTables.RowTests.all_found, SoundRows.SoundKeys.codes_in_order, OfTables.StayCounts.count_inserted}
 use Rattle.hotel_core.proofs.Starts.StartCodes.{places_count_up, listed_at_start}
 
 -- the row isn't at this place of the room

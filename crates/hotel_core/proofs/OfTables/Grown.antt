@@ -1,11 +1,6 @@
 -- How what is read off a history changes with one more event.
 use Rattle.std.proofs.Common.{ℕ, ◌≡◌, Bool, true, false, refl, sym, ap, ◌∙◌}
-use Rattle.hotel_core.specs.Model.Event.{Event}
-use Rattle.hotel_core.specs.Model.History.{History, ◌▷◌}
-use Rattle.hotel_core.specs.Model.Cases.{is_room}
-use Rattle.hotel_core.specs.Model.Run.{Reached}
-use Rattle.hotel_core.proofs.Facts.Follow.{MayFollow}
-use Rattle.hotel_core.proofs.Invariants.Following.{answers_follow}
+use Rattle.hotel_core.proofs.{Names.Event, Names.History, Names.◌▷◌, Names.is_room, Names.Reached, Facts.Follow.MayFollow, Invariants.Following.answers_follow}
 use Rattle.hotel_core.proofs.OfTables.Tests.{not_both}
 
 -- what the last event needed

@@ -1,12 +1,6 @@
 -- What a look-up finds in a table, in the order of its keys, after a row was added.
-use Rattle.std.proofs.Common.{◌≡◌, Bool, true, false, cond, Option, Some, List, [], ◌∷◌, refl, ap, sym, ◌∙◌}
-use Rattle.std.specs.Ordering.{is_eq, match_ordering}
-use Rattle.std.specs.Cmp.{IsTotalOrder}
-use Rattle.std.specs.declared.cmp.Ordering.{Ordering}
-use Rattle.std.specs.declared.cmp.Ordering.TheVariants.{Less, Equal, Greater}
-use Rattle.std.specs.BTreeMap.{is_at, insert_entry}
-use Rattle.std.specs.Map.{lookup}
-use Rattle.std.proofs.lemmas.Cmp.{alike_right}
+use Rattle.std.proofs.Common.{◌≡◌, Bool, true, false, cond, Option, Some, List, [], ◌∷◌, refl, ap, sym, ◌∙◌, is_eq, Ordering, Less, Equal, Greater}
+use Rattle.hotel_core.proofs.Names.{match_ordering, IsTotalOrder, is_at, insert_entry, lookup, alike_right}
 
 swap_tests : {X : Type 0} (a b : Bool) (x v rest : Option X) → (a ≡ true → b ≡ true → ⊥) → cond a x (cond b v rest) ≡ cond b v (cond a x rest)
 swap_tests true true x v rest h = absurd (h refl refl)

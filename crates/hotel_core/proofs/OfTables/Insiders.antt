@@ -1,17 +1,8 @@
 -- The cards inside rooms: they stand in order, and being inside is standing in the list.
-use Rattle.std.proofs.Common.{ℕ, ◌≡◌, Bool, true, false, List, [], ◌∷◌, refl, ap, sym, ◌∙◌}
-use Rattle.std.specs.Prelude.{◌==◌, ◌&&◌, ◌||◌}
-use Rattle.std.specs.BTreeSet.{insert_key}
-use Rattle.hotel_core.specs.Model.Words.{when, pair_cmp, is_one_of}
-use Rattle.hotel_core.specs.Model.Event.{Entered, Left}
-use Rattle.hotel_core.specs.Model.History.{History, start, ◌▷◌}
-use Rattle.hotel_core.specs.Model.Guests.{insiders, inside, those_in}
-use Rattle.hotel_core.specs.Model.Run.{Reached}
-use Rattle.hotel_core.specs.Books.Change.{moved}
-use Rattle.hotel_core.specs.Refinement.ChangeOf.{comes}
-use Rattle.hotel_core.proofs.OfTables.Pairs.{pair_cmp_total, pair_is}
+use Rattle.std.proofs.Common.{ℕ, ◌≡◌, Bool, true, false, List, [], ◌∷◌, refl, ap, sym, ◌∙◌, ◌==◌, ◌&&◌, ◌||◌}
+use Rattle.hotel_core.proofs.Names.{insert_key, when, pair_cmp, is_one_of, Entered, Left, History, start, ◌▷◌, insiders, inside, those_in, Reached, moved, comes}
+use Rattle.hotel_core.proofs.{OfTables.Pairs.pair_cmp_total, OfTables.Pairs.pair_is, Starts.StartCodes.orders}
 use Rattle.hotel_core.proofs.OfTables.KeysInOrder.{InOrder, has_key, in_order_inserted, in_order_removed, present_stays}
-use Rattle.hotel_core.proofs.Starts.StartCodes.{orders}
 
 -- The cards inside rooms stand in order, none twice.
 pub insiders_in_order : (h : History) → Reached h → InOrder pair_cmp (insiders h)

@@ -1,16 +1,6 @@
 -- Keys in order: what stays in order, and that a key that is there isn't added again.
-use Rattle.std.proofs.Common.{◌≡◌, Bool, true, false, cond, List, [], ◌∷◌, refl, ap, sym, ◌∙◌}
-use Rattle.std.specs.Prelude.{◌&&◌, ◌||◌}
-use Rattle.std.specs.Ordering.{is_eq, is_lt, match_ordering, ordering_reverse}
-use Rattle.std.specs.List.{list_any}
-use Rattle.std.specs.Cmp.{IsTotalOrder}
-use Rattle.std.specs.declared.cmp.Ordering.{Ordering}
-use Rattle.std.specs.declared.cmp.Ordering.TheVariants.{Less, Equal, Greater}
-use Rattle.std.specs.BTreeMap.{insert_entry, is_at}
-use Rattle.std.specs.Set.{remove_key}
-use Rattle.std.specs.BTreeSet.{insert_key}
-use Rattle.std.specs.Map.{keys_of}
-use Rattle.hotel_core.specs.Model.SoundRooms.{are_in_order}
+use Rattle.std.proofs.Common.{◌≡◌, Bool, true, false, cond, List, [], ◌∷◌, refl, ap, sym, ◌∙◌, ◌&&◌, ◌||◌, is_eq, is_lt, Ordering, Less, Equal, Greater}
+use Rattle.hotel_core.proofs.Names.{match_ordering, ordering_reverse, list_any, IsTotalOrder, insert_entry, is_at, remove_key, insert_key, keys_of, are_in_order}
 
 -- each of these comes after the key
 abbrev pub AllAfter : {K : Type 0} → (K → K → Ordering) → K → List K → Type 0

@@ -1,18 +1,8 @@
 -- The places from a room's number of codes on stay free.
-use Rattle.std.proofs.Common.{ℕ, ◌≡◌, ◌+◌, ◌≤◌, ◌<◌, Bool, true, false, cond, Option, Some, None, IsSome, List, [], ◌∷◌, refl, ap, sym, ◌∙◌, subst, arith}
-use Rattle.std.specs.Prelude.{◌==◌}
-use Rattle.std.specs.Ordering.{nat_cmp}
-use Rattle.std.specs.BTreeMap.{is_at, insert_entry}
-use Rattle.hotel_core.specs.declared.books.rows.RoomRow.{RoomRow}
-use Rattle.hotel_core.specs.declared.books.rows.CodeRow.{CodeRow}
-use Rattle.hotel_core.specs.Model.Words.{said_of}
-use Rattle.hotel_core.specs.Model.Rows.{at_number}
-use Rattle.hotel_core.specs.Books.Lookups.{first_code_at}
-use Rattle.hotel_core.specs.Books.Change.{room_changed, left_by}
-use Rattle.hotel_core.specs.Memory.{LaterPlacesFree}
+use Rattle.std.proofs.Common.{ℕ, ◌≡◌, ◌+◌, ◌≤◌, ◌<◌, Bool, true, false, cond, Option, Some, None, IsSome, List, [], ◌∷◌, refl, ap, sym, ◌∙◌, subst, arith, ◌==◌, nat_cmp}
+use Rattle.hotel_core.proofs.Names.{is_at, insert_entry, RoomRow, CodeRow, said_of, at_number, first_code_at, room_changed, left_by, LaterPlacesFree, nat_cmp_total}
 use Rattle.hotel_core.proofs.OfTables.MapEntries.{at_is, at_self, eq_from}
 use Rattle.hotel_core.proofs.OfTables.PlacedCodes.{placed, is_here, both_true}
-use Rattle.std.proofs.lemmas.Cmp.{nat_cmp_total}
 
 -- how many codes a room has
 abbrev pub codes_there : List (ℕ × RoomRow) → ℕ → ℕ

@@ -1,23 +1,8 @@
 -- A note is found by its room and its count.
-use Rattle.std.proofs.Common.{ℕ, zero, suc, ◌≡◌, ◌≤◌, ◌+◌, ◌-◌, ◌++◌, Bool, true, false, cond, Option, Some, None, List, [], ◌∷◌, length, drop, refl, ap, sym, ◌∙◌, subst, arith}
-use Rattle.std.specs.Prelude.{◌==◌, ◌&&◌, if◌then◌else◌}
-use Rattle.std.specs.BTreeMap.{is_at, insert_entry}
-use Rattle.std.specs.List.{slice_get}
-use Rattle.std.specs.Map.{lookup}
-use Rattle.std.proofs.lemmas.Bool.Decides.{nat_tests}
-use Rattle.keycard_rules.specs.Note.{Note}
+use Rattle.std.proofs.Common.{ℕ, zero, suc, ◌≡◌, ◌≤◌, ◌+◌, ◌-◌, ◌++◌, Bool, true, false, cond, Option, Some, None, List, [], ◌∷◌, length, drop, refl, ap, sym, ◌∙◌, subst, arith, ◌==◌, ◌&&◌, if◌then◌else◌, slice_get}
+use Rattle.hotel_core.proofs.Names.{is_at, insert_entry, lookup, nat_tests, Note, when, and_last, pair_cmp, Entered, Left, Recoded, History, start, ◌▷◌, Standing, Copy, Conflicting, Next, After, notes, all_notes, same_note, standing, standing_among, rows_of, note_at, Reached}
 use Rattle.keycard_rules.specs.declared.note.Act.TheVariants as act
-use Rattle.hotel_core.specs.Model.Words.{when, and_last, pair_cmp}
-use Rattle.hotel_core.specs.Model.Event.{Entered, Left, Recoded}
-use Rattle.hotel_core.specs.Model.History.{History, start, ◌▷◌}
-use Rattle.hotel_core.specs.Model.Notes.{Standing, Copy, Conflicting, Next, After, notes, all_notes, same_note, standing, standing_among}
-use Rattle.hotel_core.specs.Model.RowsOf.{rows_of}
-use Rattle.hotel_core.specs.Books.Lookups.{note_at}
-use Rattle.hotel_core.specs.Model.Run.{Reached}
-use Rattle.hotel_core.proofs.OfTables.Inserted.{found_inserted}
-use Rattle.hotel_core.proofs.OfTables.Pairs.{pair_cmp_total, pair_is}
-use Rattle.hotel_core.proofs.OfTables.Tests.{eq_from}
-use Rattle.hotel_core.proofs.OfTables.Grown.{may_follow}
+use Rattle.hotel_core.proofs.{OfTables.Inserted.found_inserted, OfTables.Pairs.pair_cmp_total, OfTables.Pairs.pair_is, OfTables.Tests.eq_from, OfTables.Grown.may_follow}
 use Rattle.hotel_core.proofs.Starts.StartNotes.{first_note, nothing_left, note_kept_at_start}
 
 -- how a note stands, by the one of its count

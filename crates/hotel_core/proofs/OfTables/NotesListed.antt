@@ -1,31 +1,10 @@
 -- The table of notes has each room's notes in order, and their counts are 1, 2 and so on.
-use Rattle.std.proofs.Common.{ℕ, ◌≡◌, ◌≤◌, ◌<◌, ◌+◌, Bool, true, false, Option, Some, None, List, [], ◌∷◌, ◌++◌, length, refl, ap, sym, ◌∙◌, subst, arith, length-append}
-use Rattle.std.specs.Prelude.{◌==◌, ◌||◌, not, nat_le, nat_lt}
-use Rattle.std.specs.Ordering.{nat_cmp, ordering_then, match_ordering}
-use Rattle.std.specs.declared.cmp.Ordering.{Ordering}
-use Rattle.std.specs.declared.cmp.Ordering.TheVariants.{Less, Equal, Greater}
-use Rattle.std.specs.BTreeMap.{insert_entry}
-use Rattle.std.specs.List.{list_all}
-use Rattle.std.specs.Map.{keys_of}
-use Rattle.std.proofs.lemmas.Bool.Decides.{nat_tests}
+use Rattle.std.proofs.Common.{ℕ, ◌≡◌, ◌≤◌, ◌<◌, ◌+◌, Bool, true, false, Option, Some, None, List, [], ◌∷◌, ◌++◌, length, refl, ap, sym, ◌∙◌, subst, arith, length-append, ◌==◌, ◌||◌, not, nat_le, nat_lt, nat_cmp, Ordering, Less, Equal, Greater}
+use Rattle.hotel_core.proofs.Names.{ordering_then, match_ordering, insert_entry, list_all, keys_of, nat_tests, Note, when, and_last, pair_cmp, notes_at, Event, Entered, Left, Recoded, note_of, History, start, ◌▷◌, notes, all_notes, with_note, and_note, Reached, count_up, counts_at}
 use Rattle.keycard_rules.specs.declared.note.Act.TheVariants as act
-use Rattle.keycard_rules.specs.Note.{Note}
-use Rattle.hotel_core.specs.Model.Words.{when, and_last, pair_cmp}
-use Rattle.hotel_core.specs.Model.Rows.{notes_at}
-use Rattle.hotel_core.specs.Model.Event.{Event, Begun, Kind, Install, Reserved, Cancelled, CheckIn, Transfer, Spare, CheckOut, NextDay, Entered, Left, Recoded, note_of}
-use Rattle.hotel_core.specs.Model.History.{History, start, ◌▷◌}
-use Rattle.hotel_core.specs.Model.Notes.{notes, all_notes, with_note, and_note}
-use Rattle.hotel_core.specs.Model.Run.{Reached}
-use Rattle.hotel_core.specs.Model.SoundRooms.{count_up}
-use Rattle.hotel_core.specs.Model.SoundCards.{counts_at}
-use Rattle.hotel_core.proofs.OfTables.Tests.{eq_from, eq_self, and_true}
-use Rattle.hotel_core.proofs.OfTables.Grown.{may_follow}
-use Rattle.hotel_core.proofs.OfTables.KeysInOrder.{AllAfter, InOrder}
-use Rattle.hotel_core.proofs.OfTables.Pairs.{pair_cmp_total, pair_exact}
-use Rattle.hotel_core.proofs.OfTables.RowTests.{both}
-use Rattle.hotel_core.proofs.SoundRows.RowsPass.{notes_pass}
-use Rattle.hotel_core.proofs.SoundRows.SoundKeys.{notes_in_order}
-use Rattle.hotel_core.proofs.Starts.StartNotes.{notes_count_at_start, counts_within_at_start}
+use Rattle.hotel_core.proofs.{OfTables.Tests.eq_from, OfTables.Tests.eq_self, OfTables.Tests.and_true, OfTables.Grown.may_follow}
+use Rattle.hotel_core.proofs.{OfTables.KeysInOrder.AllAfter, OfTables.KeysInOrder.InOrder, OfTables.Pairs.pair_cmp_total, OfTables.Pairs.pair_exact, OfTables.RowTests.both}
+use Rattle.hotel_core.proofs.{SoundRows.RowsPass.notes_pass, SoundRows.SoundKeys.notes_in_order, Starts.StartNotes.notes_count_at_start, Starts.StartNotes.counts_within_at_start}
 
 -- the note is of another room, or of a lower count
 abbrev pub is_before : ℕ → ℕ → (ℕ × ℕ) × Note → Bool
@@ -57,9 +36,7 @@ first_is_last false note taken f = refl
 
 last_stays_last : (a b : Bool) (first note : Note) (taken : List Note) → when a (λ ns. first ∷ ns) (when b (and_last note) taken) ≡ when b (and_last note) (when a (λ ns. first ∷ ns) taken)
 last_stays_last true true first note taken = refl
-last_stays_last true false first note taken = refl
-last_stays_last false true first note taken = refl
-last_stays_last false false first note taken = refl
+last_stays_last _ _ first note taken = refl
 
 same_key_not_before : (r c : ℕ) (e : (ℕ × ℕ) × Note) → (r, c) ≡ e.0 → is_before r c e ≡ true → ⊥
 same_key_not_before r c e k t =
@@ -107,16 +84,7 @@ noted_next h (Left room count number link at) note ok e =
 noted_next h (Recoded room count from to at) note ok e =
     let w : record { room = room; count = count; act = act.Recoded from to; day = at.day; second = at.second } ≡ note = cc in
     subst (λ (n : Note). n.count ≡ length (notes h n.room) + 1) w (may_follow h (Recoded room count from to at) ok).0
-noted_next h (Begun day) note ok e = cc
-noted_next h (Kind kind) note ok e = cc
-noted_next h (Install room kind code) note ok e = cc
-noted_next h (Reserved party guest kind arrive depart) note ok e = cc
-noted_next h (Cancelled party) note ok e = cc
-noted_next h (CheckIn party room number code) note ok e = cc
-noted_next h (Transfer party room number code) note ok e = cc
-noted_next h (Spare party number) note ok e = cc
-noted_next h (CheckOut party) note ok e = cc
-noted_next h NextDay note ok e = cc
+noted_next h _ note ok e = cc
 
 notes_grow : (o : Option Note) (r : ℕ) (taken : List Note) → length taken ≤ length (with_note r o taken)
 notes_grow (Some note) r taken = by (note.room == r)

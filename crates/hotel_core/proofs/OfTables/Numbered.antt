@@ -1,15 +1,7 @@
 -- Tables by number: what a look-up finds, which numbers are there, and what an added row changes.
-use Rattle.std.proofs.Common.{ℕ, ◌≡◌, Bool, true, false, cond, Option, Some, List, [], ◌∷◌, refl, ap, sym, ◌∙◌}
-use Rattle.std.specs.Prelude.{◌==◌, is_some, map, option_map}
-use Rattle.std.specs.Ordering.{nat_cmp}
-use Rattle.std.specs.BTreeMap.{is_at, insert_entry}
-use Rattle.std.specs.Map.{keys_of}
-use Rattle.hotel_core.specs.Model.Words.{is_one_of}
-use Rattle.hotel_core.specs.Model.Rows.{at_number}
-use Rattle.std.proofs.lemmas.Cmp.{nat_cmp_total}
-use Rattle.hotel_core.proofs.OfTables.Inserted.{found_inserted}
-use Rattle.hotel_core.proofs.OfTables.TableKeys.{at_is, is_key}
-use Rattle.hotel_core.proofs.OfTables.Tests.{eq_from, not_both}
+use Rattle.std.proofs.Common.{ℕ, ◌≡◌, Bool, true, false, cond, Option, Some, List, [], ◌∷◌, refl, ap, sym, ◌∙◌, ◌==◌, is_some, map, option_map, nat_cmp}
+use Rattle.hotel_core.proofs.{Names.is_at, Names.insert_entry, Names.keys_of, Names.is_one_of, Names.at_number, Names.nat_cmp_total, OfTables.Inserted.found_inserted}
+use Rattle.hotel_core.proofs.{OfTables.TableKeys.at_is, OfTables.TableKeys.is_key, OfTables.Tests.eq_from, OfTables.Tests.not_both}
 
 -- a test that holds and fails
 pub true_is_not_false : {b : Bool} → b ≡ true → b ≡ false → ⊥

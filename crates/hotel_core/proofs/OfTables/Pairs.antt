@@ -1,13 +1,6 @@
 -- Pairs of numbers as keys.
-use Rattle.std.proofs.Common.{ℕ, ◌≡◌, refl, ap, ◌∙◌}
-use Rattle.std.specs.Prelude.{◌==◌, ◌&&◌}
-use Rattle.std.specs.Ordering.{is_eq, nat_cmp, ordering_then}
-use Rattle.std.specs.Cmp.{IsTotalOrder}
-use Rattle.std.specs.declared.cmp.Ordering.{Ordering}
-use Rattle.std.specs.declared.cmp.Ordering.TheVariants.{Less, Equal, Greater}
-use Rattle.std.proofs.lemmas.Cmp.{nat_cmp_total, on_total, then_total}
-use Rattle.std.proofs.lemmas.Map.Lookups.{exact_unsigned}
-use Rattle.hotel_core.specs.Model.Words.{pair_cmp}
+use Rattle.std.proofs.Common.{ℕ, ◌≡◌, refl, ap, ◌∙◌, ◌==◌, ◌&&◌, is_eq, nat_cmp, Ordering, Less, Equal, Greater}
+use Rattle.hotel_core.proofs.Names.{ordering_then, IsTotalOrder, nat_cmp_total, on_total, then_total, exact_unsigned, pair_cmp}
 use Rattle.hotel_core.proofs.OfTables.TableKeys.{at_is}
 
 pub pair_cmp_total : IsTotalOrder pair_cmp

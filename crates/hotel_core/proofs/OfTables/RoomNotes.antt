@@ -1,18 +1,6 @@
 -- The notes of a room, as a part of all notes in order.
-use Rattle.std.proofs.Common.{ℕ, ◌≡◌, Bool, true, false, cond, List, [], ◌∷◌, map, refl, ap, sym, ◌∙◌}
-use Rattle.std.specs.Prelude.{◌==◌}
-use Rattle.std.specs.Ordering.{match_ordering}
-use Rattle.std.specs.declared.cmp.Ordering.{Ordering}
-use Rattle.std.specs.declared.cmp.Ordering.TheVariants.{Less, Equal, Greater}
-use Rattle.std.specs.declared.ops.Bound.TheVariants.{Included}
-use Rattle.std.specs.BTreeMap.{is_at, insert_entry}
-use Rattle.std.specs.BTreeMap.Range.{entries_between}
-use Rattle.std.specs.Map.{remove_entry}
-use Rattle.keycard_rules.specs.Note.{Note}
-use Rattle.keycard_rules.specs.Numbers.{IsNumberUpTo}
-use Rattle.hotel_core.specs.Model.Words.{pair_cmp, when}
-use Rattle.hotel_core.specs.Model.Rows.{notes_at}
-use Rattle.hotel_core.specs.Memory.{HaveCounts}
+use Rattle.std.proofs.Common.{ℕ, ◌≡◌, Bool, true, false, cond, List, [], ◌∷◌, map, refl, ap, sym, ◌∙◌, ◌==◌, Ordering, Less, Equal, Greater}
+use Rattle.hotel_core.proofs.Names.{match_ordering, Included, is_at, insert_entry, entries_between, remove_entry, Note, IsNumberUpTo, pair_cmp, when, notes_at, HaveCounts}
 use Rattle.hotel_core.proofs.OfTables.CardsInside.{in_part}
 
 pub counts_removed : (es : List ((ℕ × ℕ) × Note)) (key : ℕ × ℕ) → HaveCounts es → HaveCounts (remove_entry (is_at (pair_cmp key)) es)

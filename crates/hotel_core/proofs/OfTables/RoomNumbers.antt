@@ -1,26 +1,8 @@
 -- The numbers of rooms: none stands twice, and what a look-up of a room finds.
-use Rattle.std.proofs.Common.{ℕ, ◌≡◌, true, false, Some, None, List, [], ◌∷◌, ap, ◌∙◌}
-use Rattle.std.specs.Prelude.{◌==◌, option_map}
-use Rattle.std.specs.Ordering.{nat_cmp, match_ordering}
-use Rattle.std.specs.declared.cmp.Ordering.{Ordering}
-use Rattle.std.specs.declared.cmp.Ordering.TheVariants.{Less, Equal, Greater}
-use Rattle.std.specs.BTreeMap.{insert_entry}
-use Rattle.std.specs.Map.{keys_of}
-use Rattle.hotel_core.specs.Model.Words.{is_one_of}
-use Rattle.hotel_core.specs.Model.Rows.{at_number}
-use Rattle.hotel_core.specs.Model.Event.{Install}
-use Rattle.hotel_core.specs.Model.History.{History, start, ◌▷◌}
-use Rattle.hotel_core.specs.Model.Stays.{rooms}
-use Rattle.hotel_core.specs.Model.RowsOf.{room_row, rows_of}
-use Rattle.hotel_core.specs.Model.Run.{Reached}
-use Rattle.hotel_core.specs.Model.Cases.{is_room}
-use Rattle.hotel_core.proofs.Facts.Follow.{ApartFrom, RoomsOnce}
-use Rattle.hotel_core.proofs.RowsAfter.RowsRooms.{eq_flip}
-use Rattle.hotel_core.proofs.OfTables.Numbered.{at_mapped}
-use Rattle.hotel_core.proofs.OfTables.Grown.{may_follow}
-use Rattle.hotel_core.proofs.OfTables.Tests.{or_false}
-use Rattle.hotel_core.proofs.OfTables.TableKeys.{row_of_key, no_key}
-use Rattle.hotel_core.proofs.Starts.StartRows.{rooms_once_at_start}
+use Rattle.std.proofs.Common.{ℕ, ◌≡◌, true, false, Some, None, List, [], ◌∷◌, ap, ◌∙◌, ◌==◌, option_map, nat_cmp, Ordering, Less, Equal, Greater}
+use Rattle.hotel_core.proofs.Names.{match_ordering, insert_entry, keys_of, is_one_of, at_number, Install, History, start, ◌▷◌, rooms, room_row, rows_of, Reached, is_room}
+use Rattle.hotel_core.proofs.{Facts.Follow.ApartFrom, Facts.Follow.RoomsOnce, RowsAfter.RowsRooms.eq_flip, OfTables.Numbered.at_mapped, OfTables.Grown.may_follow}
+use Rattle.hotel_core.proofs.{OfTables.Tests.or_false, OfTables.TableKeys.row_of_key, OfTables.TableKeys.no_key, Starts.StartRows.rooms_once_at_start}
 
 pub apart_from : (n : ℕ) (es : List (ℕ × List ℕ)) → is_one_of n (keys_of es) ≡ false → ApartFrom n es
 apart_from n [] h = tt

@@ -1,22 +1,7 @@
 -- Tests that all rows of a table pass.
-use Rattle.std.proofs.Common.{ℕ, ◌≡◌, Bool, true, false, cond, Some, List, [], ◌∷◌, refl, ap, sym, ◌∙◌}
-use Rattle.std.specs.Prelude.{◌==◌, ◌&&◌, ◌||◌, not, map}
-use Rattle.std.specs.Ordering.{nat_cmp, is_eq, match_ordering, ordering_reverse}
-use Rattle.std.specs.Cmp.{IsTotalOrder}
-use Rattle.std.specs.declared.cmp.Ordering.{Ordering}
-use Rattle.std.specs.declared.cmp.Ordering.TheVariants.{Less, Equal, Greater}
-use Rattle.std.specs.List.{list_all}
-use Rattle.std.specs.BTreeMap.{is_at, insert_entry}
-use Rattle.std.specs.BTreeSet.{insert_key}
-use Rattle.std.specs.Map.{lookup, keys_of}
-use Rattle.std.proofs.lemmas.Map.Lookups.{exact_unsigned}
-use Rattle.hotel_nights.specs.declared.stay.Stay.{Stay}
-use Rattle.hotel_nights.specs.declared.stay.StayState.{StayState}
-use Rattle.hotel_core.specs.Model.Rows.{at_number}
-use Rattle.hotel_core.specs.Model.Stays.{in_state, now_is}
-use Rattle.hotel_core.proofs.OfTables.Tests.{and_true}
-use Rattle.hotel_core.proofs.OfTables.TableKeys.{same_number}
-use Rattle.hotel_core.proofs.OfTables.KeysInOrder.{AllAfter, InOrder, has_key}
+use Rattle.std.proofs.Common.{ℕ, ◌≡◌, Bool, true, false, cond, Some, List, [], ◌∷◌, refl, ap, sym, ◌∙◌, ◌==◌, ◌&&◌, ◌||◌, not, map, nat_cmp, is_eq, Ordering, Less, Equal, Greater}
+use Rattle.hotel_core.proofs.Names.{match_ordering, ordering_reverse, IsTotalOrder, list_all, is_at, insert_entry, insert_key, lookup, keys_of, exact_unsigned, Stay, StayState, at_number, in_state, now_is}
+use Rattle.hotel_core.proofs.{OfTables.Tests.and_true, OfTables.TableKeys.same_number, OfTables.KeysInOrder.AllAfter, OfTables.KeysInOrder.InOrder, OfTables.KeysInOrder.has_key}
 
 pub both : (a b : Bool) → a ≡ true → b ≡ true → (a && b) ≡ true
 both a b s t = ap (λ z. z && b) s ∙ t

@@ -1,13 +1,7 @@
 -- Rows whose places say their numbers.
-use Rattle.std.proofs.Common.{ℕ, zero, suc, ◌≡◌, ◌+◌, ◌-◌, ◌≤◌, ◌<◌, Bool, true, false, cond, Option, Some, None, List, [], ◌∷◌, ◌++◌, length, refl, ap, sym, ◌∙◌, arith}
-use Rattle.std.specs.Prelude.{◌==◌}
-use Rattle.std.specs.List.{slice_get, enumerate_from}
-use Rattle.std.specs.Ordering.{nat_cmp, match_ordering}
-use Rattle.std.specs.BTreeMap.{is_at, insert_entry}
-use Rattle.std.proofs.lemmas.Bool.Decides.{nat_tests}
-use Rattle.hotel_core.specs.Model.Rows.{at_number}
-use Rattle.hotel_core.proofs.OfTables.TableKeys.{at_is, is_at_self}
-use Rattle.hotel_core.proofs.OfTables.Counting.{greater_is}
+use Rattle.std.proofs.Common.{ℕ, zero, suc, ◌≡◌, ◌+◌, ◌-◌, ◌≤◌, ◌<◌, false, cond, Some, List, [], ◌∷◌, ◌++◌, length, refl, ap, sym, ◌∙◌, arith, ◌==◌, slice_get, nat_cmp}
+use Rattle.hotel_core.proofs.Names.{enumerate_from, match_ordering, is_at, insert_entry, nat_tests, at_number}
+use Rattle.hotel_core.proofs.{OfTables.TableKeys.at_is, OfTables.TableKeys.is_at_self, OfTables.Counting.greater_is}
 
 apart : (n q : ℕ) → n < q → (n == q) ≡ false
 apart n q h = grind (arith, nat_tests)

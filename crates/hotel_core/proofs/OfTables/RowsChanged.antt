@@ -1,15 +1,6 @@
 -- A row that is written over is the row changed.
-use Rattle.std.proofs.Common.{ℕ, ◌≡◌, Bool, true, false, cond, Option, Some, None, List, [], ◌∷◌, refl, ap, sym, ◌∙◌}
-use Rattle.std.specs.Prelude.{◌==◌}
-use Rattle.std.specs.Ordering.{nat_cmp}
-use Rattle.std.specs.BTreeMap.{is_at}
-use Rattle.std.specs.Map.{set_value}
-use Rattle.hotel_nights.specs.declared.stay.Stay.{Stay}
-use Rattle.hotel_nights.specs.declared.stay.StayState.{StayState}
-use Rattle.hotel_core.specs.declared.books.rows.RoomRow.{RoomRow}
-use Rattle.hotel_core.specs.Model.Rows.{at_number}
-use Rattle.hotel_core.specs.Books.Change.{room_changed}
-use Rattle.hotel_core.specs.Model.Stays.{in_state, now_is}
+use Rattle.std.proofs.Common.{ℕ, ◌≡◌, Bool, true, false, cond, Option, Some, None, List, [], ◌∷◌, refl, ap, sym, ◌∙◌, ◌==◌, nat_cmp}
+use Rattle.hotel_core.proofs.Names.{is_at, set_value, Stay, StayState, RoomRow, at_number, room_changed, in_state, now_is}
 use Rattle.hotel_core.proofs.OfTables.MapEntries.{missed, at_is}
 
 -- the values, with f done to that of a number

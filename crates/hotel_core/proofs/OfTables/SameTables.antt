@@ -1,12 +1,6 @@
 -- Tables in the order of their keys that have the same rows are the same, so rows can be added in any order.
-use Rattle.std.proofs.Common.{ℕ, ◌≡◌, Bool, true, false, cond, Option, Some, None, List, [], ◌∷◌, refl, ap, sym, ◌∙◌, subst}
-use Rattle.std.specs.Ordering.{nat_cmp, ordering_reverse}
-use Rattle.std.specs.declared.cmp.Ordering.{Ordering}
-use Rattle.std.specs.declared.cmp.Ordering.TheVariants.{Less, Greater}
-use Rattle.std.specs.BTreeMap.{is_at, insert_entry}
-use Rattle.std.specs.Map.{keys_of}
-use Rattle.std.proofs.lemmas.Cmp.{nat_cmp_total}
-use Rattle.hotel_core.specs.Model.Rows.{at_number}
+use Rattle.std.proofs.Common.{ℕ, ◌≡◌, Bool, true, false, cond, Option, Some, None, List, [], ◌∷◌, refl, ap, sym, ◌∙◌, subst, nat_cmp, Ordering, Less, Greater}
+use Rattle.hotel_core.proofs.Names.{ordering_reverse, is_at, insert_entry, keys_of, nat_cmp_total, at_number}
 use Rattle.hotel_core.proofs.OfTables.TableKeys.{at_inserted, is_at_self, same_number, swap_tests}
 use Rattle.hotel_core.proofs.OfTables.KeysInOrder.{AllAfter, InOrder, in_order_inserted, keys_inserted}
 use Rattle.hotel_core.proofs.OfTables.RowTests.{after_not_same}

@@ -1,18 +1,8 @@
 -- Look-ups of stays after one of them changed its state.
-use Rattle.std.proofs.Common.{ℕ, ◌≡◌, Bool, true, false, cond, Option, Some, None, List, [], ◌∷◌, refl, ap, sym, ◌∙◌}
-use Rattle.std.specs.Prelude.{◌==◌, option_map, is_some}
-use Rattle.std.specs.Ordering.{nat_cmp}
-use Rattle.std.specs.BTreeMap.{is_at, insert_entry}
-use Rattle.hotel_nights.specs.declared.stay.Stay.{Stay}
-use Rattle.hotel_nights.specs.declared.stay.StayState.{StayState}
+use Rattle.std.proofs.Common.{ℕ, ◌≡◌, Bool, true, false, cond, Option, Some, None, List, [], ◌∷◌, refl, ap, sym, ◌∙◌, ◌==◌, option_map, is_some, nat_cmp}
+use Rattle.hotel_core.proofs.Names.{is_at, insert_entry, Stay, StayState, said_of, at_number, in_state, now_is, room_of_state, is_booked_state}
 use Rattle.hotel_nights.specs.declared.stay.StayState.TheVariants as state
-use Rattle.hotel_core.specs.Model.Words.{said_of}
-use Rattle.hotel_core.specs.Model.Rows.{at_number}
-use Rattle.hotel_core.specs.Model.Stays.{in_state, now_is}
-use Rattle.hotel_core.specs.Model.Cases.{room_of_state, is_booked_state}
-use Rattle.hotel_core.proofs.OfTables.Numbered.{true_is_not_false, at_inserted}
-use Rattle.hotel_core.proofs.OfTables.Tests.{eq_from}
-use Rattle.hotel_core.proofs.OfTables.TableKeys.{at_is}
+use Rattle.hotel_core.proofs.{OfTables.Numbered.true_is_not_false, OfTables.Numbered.at_inserted, OfTables.Tests.eq_from, OfTables.TableKeys.at_is}
 
 -- the room of a stay in house
 abbrev pub home_of : Option Stay → Option ℕ
@@ -86,9 +76,7 @@ home_added party stay es p = ap home_of (at_inserted es party stay p) ∙ added_
 
 booked_by : (s : StayState) → is_booked_state s ≡ true → room_of_state s ≡ None
 booked_by state.Booked h = refl
-booked_by (state.InHouse room) h = cc
-booked_by state.Done h = cc
-booked_by state.Cancelled h = cc
+booked_by _ h = cc
 
 -- a booked party is in no room
 pub booked_has_no_home : (o : Option Stay) → said_of o false (λ stay. is_booked_state stay.state) ≡ true → home_of o ≡ None

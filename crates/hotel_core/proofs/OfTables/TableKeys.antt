@@ -1,15 +1,6 @@
 -- Look-ups in a table after a row was added.
-use Rattle.std.proofs.Common.{ℕ, ◌≡◌, Bool, true, false, cond, Option, Some, None, List, [], ◌∷◌, ◌⊎◌, inl, inr, refl, ap, sym, ◌∙◌, subst, arith}
-use Rattle.std.specs.Prelude.{◌==◌, ◌||◌, is_some}
-use Rattle.std.specs.Ordering.{nat_cmp, is_eq, match_ordering}
-use Rattle.std.specs.declared.cmp.Ordering.{Ordering}
-use Rattle.std.specs.declared.cmp.Ordering.TheVariants.{Less, Equal, Greater}
-use Rattle.std.specs.BTreeMap.{is_at, insert_entry}
-use Rattle.std.specs.Map.{keys_of}
-use Rattle.std.proofs.lemmas.Map.Lookups.{exact_unsigned}
-use Rattle.std.proofs.lemmas.Bool.Decides.{nat_tests}
-use Rattle.hotel_core.specs.Model.Words.{is_one_of}
-use Rattle.hotel_core.specs.Model.Rows.{at_number}
+use Rattle.std.proofs.Common.{ℕ, ◌≡◌, Bool, true, false, cond, Option, Some, None, List, [], ◌∷◌, ◌⊎◌, inl, inr, refl, ap, sym, ◌∙◌, subst, arith, ◌==◌, ◌||◌, is_some, nat_cmp, is_eq, Ordering, Less, Equal, Greater}
+use Rattle.hotel_core.proofs.Names.{match_ordering, is_at, insert_entry, keys_of, exact_unsigned, nat_tests, is_one_of, at_number}
 use Rattle.hotel_core.proofs.OfTables.Tests.{eq_from, eq_self, same_bool}
 
 is_eq_true : (o : Ordering) → is_eq o ≡ true → o ≡ Equal

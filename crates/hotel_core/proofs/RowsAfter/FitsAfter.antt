@@ -1,25 +1,8 @@
 -- The change that comes of a command on sound rows fits them.
-use Rattle.std.proofs.Common.{◌≡◌, Option, Some, None, refl, ap, sym, ◌∙◌, subst}
-use Rattle.std.specs.Prelude.{option_map}
-use Rattle.hotel_core.specs.declared.books.change.Change.{Change}
-use Rattle.hotel_core.specs.declared.reply.Reply.{Reply}
-use Rattle.hotel_core.specs.Model.Rows.{Rows}
-use Rattle.hotel_core.specs.Model.Sound.{IsSound}
-use Rattle.hotel_core.specs.Books.Fits.{Fits}
-use Rattle.hotel_core.specs.Model.Ranges.{IsReply}
-use Rattle.hotel_core.specs.Model.History.{start, ◌▷◌}
-use Rattle.hotel_core.specs.Model.RowsOf.{rows_of}
-use Rattle.hotel_core.specs.Model.Run.{Reached}
-use Rattle.hotel_core.specs.Model.Outcome.{Outcome}
-use Rattle.hotel_core.specs.Model.Answer.{answer_to}
-use Rattle.hotel_core.specs.Refinement.ChangeOf.{change_of}
-use Rattle.hotel_core.specs.Refinement.OnRows.{outcome_on}
-use Rattle.hotel_core.specs.Refinement.Lift.{as_change}
-use Rattle.hotel_core.specs.Refinement.Answered.{IsAnswered}
-use Rattle.hotel_core.proofs.SoundRows.AllSound.{rows_follow}
-use Rattle.hotel_core.proofs.Invariants.EventRanges.{event_in_range}
-use Rattle.hotel_core.proofs.Lifted.LiftAll.{answers_lift}
-use Rattle.hotel_core.proofs.Starts.StartRows.{rows_of_start}
+use Rattle.std.proofs.Common.{◌≡◌, Option, Some, None, refl, ap, sym, ◌∙◌, subst, option_map}
+use Rattle.hotel_core.proofs.Names.{Change, Reply, Rows, IsSound, IsReply, start, ◌▷◌, rows_of, Reached, Outcome, answer_to, change_of, outcome_on, as_change}
+use Rattle.hotel_core.specs.{Books.Fits.Fits, Refinement.Answered.IsAnswered}
+use Rattle.hotel_core.proofs.{SoundRows.AllSound.rows_follow, Invariants.EventRanges.event_in_range, Lifted.LiftAll.answers_lift, Starts.StartRows.rows_of_start}
 
 -- a change that comes of an event
 of_event : {X Y : Type 0} (f : X → Y) (o : Option X) (y : Y) → option_map f o ≡ Some y → (x : X) × (o ≡ Some x) × (f x ≡ y)

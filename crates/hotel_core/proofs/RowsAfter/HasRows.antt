@@ -1,38 +1,12 @@
 -- The change of an event has its rows.
-use Rattle.std.proofs.Common.{ℕ, ◌≡◌, ◌<◌, ◌≤◌, ◌+◌, ◌-◌, ◌^◌, Bool, true, false, Option, Some, None, length, refl, ap, sym, ◌∙◌, arith}
-use Rattle.std.specs.Prelude.{not, is_some}
-use Rattle.hotel_core.specs.Model.Words.{is_one_of}
-use Rattle.hotel_core.specs.Model.Event.{Event, Begun, Kind, Install, Reserved, Cancelled, CheckIn, Transfer, Spare, CheckOut, NextDay, Entered, Left, Recoded}
-use Rattle.hotel_core.specs.Model.History.{History, ◌▷◌}
-use Rattle.hotel_core.specs.Model.Issued.{issued, all_issued, issued_codes, is_fresh}
-use Rattle.hotel_core.specs.Model.Cards.{cards}
-use Rattle.hotel_core.specs.Model.Stays.{day, stays}
-use Rattle.hotel_core.specs.Model.Rows.{at_number}
-use Rattle.hotel_nights.specs.declared.stay.Stay.{Stay}
-use Rattle.hotel_nights.specs.declared.stay.StayState.{StayState}
+use Rattle.std.proofs.Common.{ℕ, ◌≡◌, ◌<◌, ◌≤◌, ◌+◌, ◌-◌, ◌^◌, Bool, true, false, Option, Some, None, length, refl, ap, sym, ◌∙◌, arith, not, is_some}
+use Rattle.hotel_core.proofs.Names.{is_one_of, Event, Begun, Kind, Install, Reserved, Cancelled, CheckIn, Transfer, Spare, CheckOut, NextDay, Entered, Left, Recoded, History, ◌▷◌, issued, all_issued, issued_codes, is_fresh, cards, day, stays, at_number, Stay, StayState, is_standing, is_room, room_of, is_in_house, cards_used_up, is_booked_state, room_of_state, rows_of, room_at, code_place, stay_at, note_at, codes_of, change_of, HasItsRows, Reached, said_of, notes}
 use Rattle.hotel_nights.specs.declared.stay.StayState.TheVariants as state
-use Rattle.hotel_nights.specs.FullNight.{is_standing}
-use Rattle.hotel_core.specs.Model.Cases.{is_room, room_of, is_in_house, cards_used_up, is_booked_state, room_of_state}
-use Rattle.hotel_core.specs.Model.RowsOf.{rows_of}
-use Rattle.hotel_core.specs.Books.Lookups.{room_at, code_place, stay_at, note_at}
-use Rattle.hotel_core.specs.Books.Change.{codes_of}
-use Rattle.hotel_core.specs.Refinement.ChangeOf.{change_of}
-use Rattle.hotel_core.specs.Books.Fits.{HasItsRows}
-use Rattle.hotel_core.specs.Model.Run.{Reached}
-use Rattle.hotel_core.proofs.Facts.Follow.{MayFollow}
-use Rattle.hotel_core.specs.Model.Words.{said_of}
-use Rattle.hotel_core.specs.Model.Notes.{notes}
-use Rattle.hotel_core.proofs.OfTables.RoomNumbers.{room_there, room_not_there}
-use Rattle.hotel_core.proofs.RowsAfter.RowsIssue.{codes_said}
-use Rattle.hotel_core.proofs.RowsAfter.RowsLeft.{home_there}
-use Rattle.hotel_core.proofs.Invariants.NoRooms.{nobody_registered}
-use Rattle.hotel_core.proofs.Invariants.InHouse.{homes_match, has_stay}
-use Rattle.hotel_core.proofs.OfTables.NotesKept.{next_not_found}
-use Rattle.hotel_core.proofs.Invariants.NumbersLeft.{HasNumber, has_number, codes_fit}
+use Rattle.hotel_core.proofs.{Facts.Follow.MayFollow, OfTables.RoomNumbers.room_there, OfTables.RoomNumbers.room_not_there, RowsAfter.RowsIssue.codes_said}
+use Rattle.hotel_core.proofs.{RowsAfter.RowsLeft.home_there, Invariants.NoRooms.nobody_registered, Invariants.InHouse.homes_match, Invariants.InHouse.has_stay}
+use Rattle.hotel_core.proofs.{OfTables.NotesKept.next_not_found, Invariants.NumbersLeft.HasNumber, Invariants.NumbersLeft.has_number, Invariants.NumbersLeft.codes_fit}
 use Rattle.std.proofs.lemmas.Bool.{leb-false}
-use Rattle.hotel_core.proofs.Invariants.Numbering.{next_party_free}
-use Rattle.hotel_core.proofs.OfTables.Grown.{may_follow}
-use Rattle.hotel_core.proofs.OfTables.TableKeys.{no_key}
+use Rattle.hotel_core.proofs.{Invariants.Numbering.next_party_free, OfTables.Grown.may_follow, OfTables.TableKeys.no_key}
 
 no_day : (o : Option ℕ) → is_some o ≡ false → o ≡ None
 no_day (Some d) h = cc

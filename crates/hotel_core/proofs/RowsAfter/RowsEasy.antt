@@ -1,17 +1,6 @@
 -- The rows after events that touch no room.
-use Rattle.std.proofs.Common.{ℕ, ◌≡◌, ◌+◌, List, true, Option, Some, None, refl, ap}
-use Rattle.std.specs.Prelude.{option_map, is_some}
-use Rattle.keycard_rules.specs.declared.card.Link.{Link}
-use Rattle.keycard_rules.specs.declared.card.Card.{Card}
-use Rattle.hotel_core.specs.Model.Words.{said_of}
-use Rattle.hotel_core.specs.Model.Event.{NextDay, Spare}
-use Rattle.hotel_core.specs.Model.History.{History}
-use Rattle.hotel_core.specs.Model.RowsOf.{rows_of}
-use Rattle.hotel_core.specs.Model.Cards.{cards, with_spare, link_of_party, card_of}
-use Rattle.hotel_core.specs.Model.Cases.{is_begun, no_link}
-use Rattle.hotel_core.specs.Model.Stays.{day}
-use Rattle.std.specs.Ordering.{nat_cmp}
-use Rattle.std.specs.BTreeMap.{insert_entry}
+use Rattle.std.proofs.Common.{ℕ, ◌≡◌, ◌+◌, List, true, Option, Some, None, refl, ap, option_map, is_some, nat_cmp}
+use Rattle.hotel_core.proofs.Names.{Link, Card, said_of, NextDay, Spare, History, rows_of, cards, with_spare, link_of_party, card_of, is_begun, no_link, day, insert_entry}
 use Rattle.hotel_core.proofs.Facts.Follow.{FollowsBy}
 
 next_day : (o : Option ℕ) → is_some o ≡ true → option_map (λ d. d + 1) o ≡ Some (said_of o 0 (λ d. d) + 1)

@@ -1,17 +1,10 @@
 -- The rows after one more event are those that its change makes.
 use Rattle.std.proofs.Common.{refl}
-use Rattle.hotel_core.specs.Model.Event.{Event, Begun, Kind, Install, Reserved, Cancelled, CheckIn, Transfer, Spare, CheckOut, NextDay, Entered, Left, Recoded}
-use Rattle.hotel_core.specs.Model.History.{History, ◌▷◌}
-use Rattle.hotel_core.specs.Model.Run.{Reached}
-use Rattle.hotel_core.proofs.Facts.Follow.{FollowsBy, MayFollow}
-use Rattle.hotel_core.proofs.OfTables.RoomNumbers.{rooms_once}
-use Rattle.hotel_core.proofs.RowsAfter.RowsEasy.{next_day_follows, spare_follows}
-use Rattle.hotel_core.proofs.RowsAfter.RowsIssue.{install_follows, check_in_follows}
-use Rattle.hotel_core.proofs.RowsAfter.RowsLeft.{check_out_follows, transfer_follows}
-use Rattle.hotel_core.proofs.RowsAfter.RowsNoted.{entered_follows, recoded_follows}
-use Rattle.hotel_core.proofs.RowsAfter.RowsRooms.{left_follows}
-use Rattle.hotel_core.proofs.Invariants.InHouseLinks.{in_house_has_link}
-use Rattle.hotel_core.proofs.OfTables.Grown.{may_follow}
+use Rattle.hotel_core.proofs.Names.{Event, Begun, Kind, Install, Reserved, Cancelled, CheckIn, Transfer, Spare, CheckOut, NextDay, Entered, Left, Recoded, History, ◌▷◌, Reached}
+use Rattle.hotel_core.proofs.{Facts.Follow.FollowsBy, Facts.Follow.MayFollow, OfTables.RoomNumbers.rooms_once}
+use Rattle.hotel_core.proofs.{RowsAfter.RowsEasy.next_day_follows, RowsAfter.RowsEasy.spare_follows, RowsAfter.RowsIssue.install_follows, RowsAfter.RowsIssue.check_in_follows}
+use Rattle.hotel_core.proofs.{RowsAfter.RowsLeft.check_out_follows, RowsAfter.RowsLeft.transfer_follows, RowsAfter.RowsNoted.entered_follows, RowsAfter.RowsNoted.recoded_follows}
+use Rattle.hotel_core.proofs.{RowsAfter.RowsRooms.left_follows, Invariants.InHouseLinks.in_house_has_link, OfTables.Grown.may_follow}
 
 follows_where : (h : History) (event : Event) → Reached h → MayFollow h event → FollowsBy h event
 follows_where h (Begun day) ok n = refl

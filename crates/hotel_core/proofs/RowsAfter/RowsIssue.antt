@@ -1,25 +1,8 @@
 -- The rows after a room was added, and after a party came to a room.
-use Rattle.std.proofs.Common.{ℕ, ◌≡◌, ◌+◌, Bool, true, false, Option, Some, None, List, [], ◌∷◌, refl, ap, sym, ◌∙◌, length}
-use Rattle.std.specs.Prelude.{◌==◌}
-use Rattle.std.specs.Ordering.{nat_cmp, match_ordering}
-use Rattle.std.specs.declared.cmp.Ordering.{Ordering}
-use Rattle.std.specs.declared.cmp.Ordering.TheVariants.{Less, Equal, Greater}
-use Rattle.std.specs.BTreeMap.{insert_entry}
-use Rattle.std.proofs.lemmas.Map.Lookups.{exact_unsigned}
-use Rattle.hotel_core.specs.declared.books.rows.RoomRow.{RoomRow}
-use Rattle.hotel_core.specs.Model.Words.{when, and_last, said_of}
-use Rattle.hotel_core.specs.Model.Event.{Install, CheckIn}
-use Rattle.hotel_core.specs.Model.History.{History, ◌▷◌}
-use Rattle.hotel_core.specs.Model.Issued.{issued, all_issued}
-use Rattle.hotel_core.specs.Model.Guests.{registered, secured}
-use Rattle.hotel_core.specs.Model.Stays.{rooms}
-use Rattle.hotel_core.specs.Model.RowsOf.{room_row, rows_of}
-use Rattle.hotel_core.specs.Model.Cases.{is_room}
-use Rattle.hotel_core.specs.Model.Run.{Reached}
-use Rattle.hotel_core.specs.Books.Change.{codes_of, room_changed}
-use Rattle.hotel_core.proofs.Facts.Follow.{FollowsBy, ApartFrom}
+use Rattle.std.proofs.Common.{ℕ, ◌≡◌, ◌+◌, Bool, true, false, Option, Some, None, List, [], ◌∷◌, refl, ap, sym, ◌∙◌, length, ◌==◌, nat_cmp, Ordering, Less, Equal, Greater}
+use Rattle.hotel_core.proofs.Names.{match_ordering, insert_entry, exact_unsigned, RoomRow, when, and_last, said_of, Install, CheckIn, History, ◌▷◌, issued, all_issued, registered, secured, rooms, room_row, rows_of, is_room, Reached, codes_of, room_changed}
+use Rattle.hotel_core.proofs.{Facts.Follow.FollowsBy, Facts.Follow.ApartFrom, OfTables.Numbered.true_is_not_false}
 use Rattle.hotel_core.proofs.RowsAfter.RowsRooms.{eq_flip, rows_by, others, one_changed, length_more}
-use Rattle.hotel_core.proofs.OfTables.Numbered.{true_is_not_false}
 use Rattle.hotel_core.proofs.OfTables.RoomNumbers.{apart_from, rooms_once, room_there}
 use Rattle.hotel_core.proofs.Invariants.NoRooms.{nothing_issued, nothing_passed, nobody_registered, nothing_noted}
 use Rattle.hotel_core.proofs.OfTables.Tests.{eq_self}

@@ -1,27 +1,9 @@
 -- The rows after a party left for good, and after it went to another room.
-use Rattle.std.proofs.Common.{ℕ, ◌≡◌, true, false, Option, Some, None, List, refl, ap, sym, ◌∙◌, length}
-use Rattle.std.specs.Prelude.{◌==◌, is_some}
-use Rattle.std.specs.Ordering.{nat_cmp}
-use Rattle.std.specs.BTreeMap.{insert_entry}
-use Rattle.hotel_core.specs.declared.books.rows.RoomRow.{RoomRow}
-use Rattle.hotel_core.specs.Model.Words.{when, and_last, said_of}
-use Rattle.hotel_core.specs.Model.Event.{Transfer, CheckOut}
-use Rattle.hotel_core.specs.Model.History.{History, ◌▷◌}
-use Rattle.hotel_core.specs.Model.Issued.{issued, all_issued}
-use Rattle.hotel_core.specs.Model.Guests.{registered, secured, leaves}
-use Rattle.hotel_core.specs.Model.Stays.{rooms}
-use Rattle.hotel_core.specs.Model.RowsOf.{room_row, rows_of}
-use Rattle.hotel_core.specs.Model.Cases.{is_room, is_in_house, room_of}
-use Rattle.hotel_core.specs.Model.Run.{Reached}
-use Rattle.hotel_core.specs.Books.Change.{room_changed, without_party, left_by}
-use Rattle.hotel_core.proofs.Facts.Follow.{FollowsBy}
-use Rattle.hotel_core.proofs.RowsAfter.RowsRooms.{rows_by, one_changed, length_more}
-use Rattle.hotel_core.proofs.OfTables.Numbered.{true_is_not_false}
-use Rattle.hotel_core.proofs.OfTables.RoomNumbers.{rooms_once}
-use Rattle.hotel_core.proofs.RowsAfter.RowsIssue.{came_to, codes_said}
-use Rattle.hotel_core.proofs.Invariants.Homes.{not_leaving}
-use Rattle.hotel_core.proofs.Invariants.InHouse.{homes_match}
-use Rattle.hotel_core.proofs.OfTables.Tests.{eq_self}
+use Rattle.std.proofs.Common.{ℕ, ◌≡◌, true, false, Option, Some, None, List, refl, ap, sym, ◌∙◌, length, ◌==◌, is_some, nat_cmp}
+use Rattle.hotel_core.proofs.Names.{insert_entry, RoomRow, when, and_last, said_of, Transfer, CheckOut, History, ◌▷◌, issued, all_issued, registered, secured, leaves, rooms, room_row, rows_of, is_room, is_in_house, room_of, Reached, room_changed, without_party, left_by}
+use Rattle.hotel_core.proofs.{Facts.Follow.FollowsBy, RowsAfter.RowsRooms.rows_by, RowsAfter.RowsRooms.one_changed, RowsAfter.RowsRooms.length_more}
+use Rattle.hotel_core.proofs.{OfTables.Numbered.true_is_not_false, OfTables.RoomNumbers.rooms_once, RowsAfter.RowsIssue.came_to, RowsAfter.RowsIssue.codes_said}
+use Rattle.hotel_core.proofs.{Invariants.Homes.not_leaving, Invariants.InHouse.homes_match, OfTables.Tests.eq_self}
 
 some_home : (o : Option ℕ) → is_some o ≡ true → (room : ℕ) × (o ≡ Some room)
 some_home (Some room) h = (room, refl)

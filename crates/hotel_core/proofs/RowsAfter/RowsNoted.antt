@@ -1,26 +1,9 @@
 -- The rows after a card entered a room, and after staff recoded a lock.
-use Rattle.std.proofs.Common.{ℕ, ◌≡◌, ◌+◌, ◌++◌, ◌∷◌, ap, sym, ◌∙◌, length}
-use Rattle.std.specs.Prelude.{◌==◌, ◌&&◌, Bool, true}
-use Rattle.keycard_rules.specs.declared.card.Link.{Link}
-use Rattle.keycard_rules.specs.Note.{Note}
+use Rattle.std.proofs.Common.{ℕ, ◌≡◌, ◌+◌, ◌++◌, ◌∷◌, ap, sym, ◌∙◌, length, ◌==◌, ◌&&◌, Bool, true}
+use Rattle.hotel_core.proofs.Names.{Link, Note, RoomRow, when, and_last, before, Moment, Entered, Recoded, History, ◌▷◌, current, passed, turns, awaited, inside, secured, are_none, notes, rooms, room_row, rows_of, Reached, room_changed}
 use Rattle.keycard_rules.specs.declared.note.Act.TheVariants as act
-use Rattle.hotel_core.specs.declared.books.rows.RoomRow.{RoomRow}
-use Rattle.hotel_core.specs.Model.Words.{when, and_last, before}
-use Rattle.hotel_core.specs.Model.Event.{Moment, Entered, Recoded}
-use Rattle.hotel_core.specs.Model.History.{History, ◌▷◌}
-use Rattle.hotel_core.specs.Model.Issued.{current}
-use Rattle.hotel_core.specs.Model.Ledger.{passed, turns, awaited}
-use Rattle.hotel_core.specs.Model.Guests.{inside, secured, are_none}
-use Rattle.hotel_core.specs.Model.Notes.{notes}
-use Rattle.hotel_core.specs.Model.Stays.{rooms}
-use Rattle.hotel_core.specs.Model.RowsOf.{room_row, rows_of}
-use Rattle.hotel_core.specs.Model.Run.{Reached}
-use Rattle.hotel_core.specs.Books.Change.{room_changed}
-use Rattle.hotel_core.proofs.Facts.Follow.{FollowsBy}
-use Rattle.hotel_core.proofs.RowsAfter.RowsRooms.{one_changed, length_more}
-use Rattle.hotel_core.proofs.OfTables.RoomNumbers.{rooms_once}
-use Rattle.hotel_core.proofs.OfTables.Insiders.{card_came}
-use Rattle.hotel_core.proofs.OfTables.Tests.{eq_self}
+use Rattle.hotel_core.proofs.{Facts.Follow.FollowsBy, RowsAfter.RowsRooms.one_changed, RowsAfter.RowsRooms.length_more, OfTables.RoomNumbers.rooms_once}
+use Rattle.hotel_core.proofs.{OfTables.Insiders.card_came, OfTables.Tests.eq_self}
 
 -- the row of a room after a note
 abbrev pub noted_row : ℕ → Bool → ℕ → RoomRow → RoomRow

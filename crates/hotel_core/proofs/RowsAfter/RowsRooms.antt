@@ -1,20 +1,8 @@
 -- The rows after an event that touches one room.
-use Rattle.std.proofs.Common.{ℕ, ◌≡◌, ◌+◌, List, [], ◌∷◌, ◌++◌, Bool, true, false, cond, refl, ap, sym, ◌∙◌, subst, length, arith}
-use Rattle.std.specs.Prelude.{◌==◌, map}
-use Rattle.std.proofs.lemmas.Bool.Decides.{nat_tests}
-use Rattle.keycard_rules.specs.declared.card.Link.{Link}
-use Rattle.keycard_rules.specs.Note.{Note}
+use Rattle.std.proofs.Common.{ℕ, ◌≡◌, ◌+◌, List, [], ◌∷◌, ◌++◌, Bool, true, false, cond, refl, ap, sym, ◌∙◌, subst, length, arith, ◌==◌, map}
+use Rattle.hotel_core.proofs.Names.{nat_tests, Link, Note, RoomRow, when, and_last, Moment, Left, History, ◌▷◌, notes, rooms, room_row, rows_of, room_changed}
 use Rattle.keycard_rules.specs.declared.note.Act.TheVariants as act
-use Rattle.hotel_core.specs.declared.books.rows.RoomRow.{RoomRow}
-use Rattle.hotel_core.specs.Model.Words.{when, and_last}
-use Rattle.hotel_core.specs.Model.Event.{Moment, Left}
-use Rattle.hotel_core.specs.Model.History.{History, ◌▷◌}
-use Rattle.hotel_core.specs.Model.Notes.{notes}
-use Rattle.hotel_core.specs.Model.Stays.{rooms}
-use Rattle.hotel_core.specs.Model.RowsOf.{room_row, rows_of}
-use Rattle.hotel_core.specs.Books.Change.{room_changed}
-use Rattle.hotel_core.proofs.Facts.Follow.{FollowsBy, ApartFrom, RoomsOnce}
-use Rattle.hotel_core.proofs.OfTables.Tests.{eq_from, eq_self}
+use Rattle.hotel_core.proofs.{Facts.Follow.FollowsBy, Facts.Follow.ApartFrom, Facts.Follow.RoomsOnce, OfTables.Tests.eq_from, OfTables.Tests.eq_self}
 
 pub eq_flip : (a b : ℕ) → (a == b) ≡ false → (b == a) ≡ false
 eq_flip a b h = grind (arith, nat_tests)

@@ -1,31 +1,16 @@
 -- The rows of each history that can be reached are sound; the headline.
 use Rattle.std.proofs.Common.{◌≡◌, subst}
-use Rattle.hotel_core.specs.Model.Event.{Event}
-use Rattle.hotel_core.specs.Model.History.{History, ◌▷◌}
-use Rattle.hotel_core.specs.Model.RowsOf.{rows_of}
-use Rattle.hotel_core.specs.Books.Change.{made}
-use Rattle.hotel_core.specs.Refinement.ChangeOf.{change_of}
-use Rattle.hotel_core.specs.Model.Sound.{IsSound}
+use Rattle.hotel_core.proofs.Names.{Event, History, ◌▷◌, rows_of, made, change_of, IsSound, Headline, Reached}
 use Rattle.hotel_core.specs.Books.Fits.{Fits}
-use Rattle.hotel_core.specs.Model.Headline.{Headline}
-use Rattle.hotel_core.specs.Model.Run.{Reached}
-use Rattle.hotel_core.proofs.Invariants.CodePlaces.{no_code_twice}
-use Rattle.hotel_core.proofs.Invariants.LedgerOrder.{ledger_holds, takes_the_first}
-use Rattle.hotel_core.proofs.Invariants.OpenLocks.{opens_own_room, newest_opens}
-use Rattle.hotel_core.proofs.Invariants.SecuredRooms.{safe_room}
-use Rattle.hotel_core.proofs.RowsAfter.RowsFollow.{made_follow}
-use Rattle.hotel_core.proofs.RowsAfter.HasRows.{changes_have_rows}
-use Rattle.hotel_core.proofs.SoundRows.SoundKeys.{rows_in_order}
-use Rattle.hotel_core.proofs.SoundRows.SoundDay.{day_fits, day_before}
-use Rattle.hotel_core.proofs.SoundRows.SoundKinds.{kinds_are_read, room_kinds, stay_kinds}
+use Rattle.hotel_core.proofs.{Invariants.CodePlaces.no_code_twice, Invariants.LedgerOrder.ledger_holds, Invariants.LedgerOrder.takes_the_first}
+use Rattle.hotel_core.proofs.{Invariants.OpenLocks.opens_own_room, Invariants.OpenLocks.newest_opens, Invariants.SecuredRooms.safe_room, RowsAfter.RowsFollow.made_follow}
+use Rattle.hotel_core.proofs.{RowsAfter.HasRows.changes_have_rows, SoundRows.SoundKeys.rows_in_order, SoundRows.SoundDay.day_fits, SoundRows.SoundDay.day_before}
+use Rattle.hotel_core.proofs.{SoundRows.SoundKinds.kinds_are_read, SoundRows.SoundKinds.room_kinds, SoundRows.SoundKinds.stay_kinds, SoundRows.SoundHomes.parties_at_home}
 use Rattle.hotel_core.proofs.SoundRows.SoundRoomRows.{rooms_numbered, locks_placed, few_codes, notes_numbered, secured_locks}
-use Rattle.hotel_core.proofs.SoundRows.SoundHomes.{parties_at_home}
 use Rattle.hotel_core.proofs.SoundRows.SoundStays.{stays_numbered, guests_are_read, days_fit, rooms_of_stays}
-use Rattle.hotel_core.proofs.Invariants.RoomsLeft.{rows_not_oversold}
-use Rattle.hotel_core.proofs.SoundRows.SoundCodes.{codes_fit, code_rooms, codes_once}
+use Rattle.hotel_core.proofs.{Invariants.RoomsLeft.rows_not_oversold, SoundRows.SoundCodes.codes_fit, SoundRows.SoundCodes.code_rooms, SoundRows.SoundCodes.codes_once}
 use Rattle.hotel_core.proofs.SoundRows.SoundCardRows.{cards_numbered, card_parties, card_links, card_owners, codes_are_brought, newest_owned, last_are_newest}
-use Rattle.hotel_core.proofs.SoundRows.SoundInside.{all_inside_fit}
-use Rattle.hotel_core.proofs.SoundRows.SoundNotes.{notes_are_counted, notes_all_fit}
+use Rattle.hotel_core.proofs.{SoundRows.SoundInside.all_inside_fit, SoundRows.SoundNotes.notes_are_counted, SoundRows.SoundNotes.notes_all_fit}
 
 -- The rows of a history that can be reached are sound.
 pub rows_sound : (h : History) → Reached h → IsSound (rows_of h)

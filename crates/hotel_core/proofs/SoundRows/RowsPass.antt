@@ -1,25 +1,9 @@
 -- Tests that the rows of a table pass along each history: where each new row passes, and what passed goes on to pass.
 use Rattle.std.proofs.Common.{ℕ, ◌≡◌, Bool, true, List, Option, Some, None, refl, length}
-use Rattle.std.specs.List.{list_all}
-use Rattle.keycard_rules.specs.declared.card.Card.{Card}
-use Rattle.keycard_rules.specs.declared.card.Link.{Link}
-use Rattle.keycard_rules.specs.Note.{Note}
-use Rattle.hotel_nights.specs.declared.stay.Stay.{Stay}
-use Rattle.hotel_nights.specs.declared.stay.StayState.{StayState}
+use Rattle.hotel_core.proofs.Names.{list_all, Card, Link, Note, Stay, StayState, CodeRow, Rows, Event, Install, Reserved, Cancelled, CheckIn, Transfer, Spare, CheckOut, note_of, History, start, ◌▷◌, issued, all_issued, cards, card_of, with_spare, link_of_party, link_to, rooms, stays, now_is, all_notes, and_note, pair_cmp, Reached, IsSound}
 use Rattle.hotel_nights.specs.declared.stay.StayState.TheVariants as state
-use Rattle.hotel_core.specs.declared.books.rows.CodeRow.{CodeRow}
-use Rattle.hotel_core.specs.Model.Rows.{Rows}
-use Rattle.hotel_core.specs.Model.Event.{Event, Install, Reserved, Cancelled, CheckIn, Transfer, Spare, CheckOut, note_of}
-use Rattle.hotel_core.specs.Model.History.{History, start, ◌▷◌}
-use Rattle.hotel_core.specs.Model.Issued.{issued, all_issued}
-use Rattle.hotel_core.specs.Model.Cards.{cards, card_of, with_spare, link_of_party, link_to}
-use Rattle.hotel_core.specs.Model.Stays.{rooms, stays, now_is}
-use Rattle.hotel_core.specs.Model.Notes.{all_notes, and_note}
-use Rattle.hotel_core.specs.Model.Words.{pair_cmp}
-use Rattle.hotel_core.specs.Model.Run.{Reached}
 use Rattle.hotel_core.proofs.OfTables.Pairs.{pair_exact}
 use Rattle.hotel_core.proofs.OfTables.RowTests.{all_weaker, all_inserted, all_added_by, all_in_state}
-use Rattle.hotel_core.specs.Model.Sound.{IsSound}
 
 -- what passes the test after a history passes it after one more event
 abbrev pub GoesOn : {X : Type 0} → (History → X → Bool) → Type 0

@@ -1,45 +1,15 @@
 -- Cards: their numbers, parties and links.
-use Rattle.std.proofs.Common.{ℕ, ◌≡◌, Bool, true, false, cond, Option, Some, None, List, [], ◌∷◌, ◌++◌, length, refl, ap, sym, ◌∙◌}
-use Rattle.std.specs.Prelude.{◌==◌, ◌||◌, is_some}
-use Rattle.std.specs.Ordering.{nat_cmp}
-use Rattle.std.specs.BTreeMap.{is_at, insert_entry}
-use Rattle.std.specs.List.{list_any}
-use Rattle.std.proofs.lemmas.Cmp.{nat_cmp_total}
-use Rattle.keycard_rules.specs.declared.card.Card.{Card}
-use Rattle.keycard_rules.specs.declared.card.Link.{Link}
-use Rattle.hotel_nights.specs.declared.stay.Stay.{Stay}
-use Rattle.hotel_nights.specs.declared.stay.StayState.{StayState}
+use Rattle.std.proofs.Common.{ℕ, ◌≡◌, Bool, true, false, cond, Option, Some, None, List, [], ◌∷◌, ◌++◌, length, refl, ap, sym, ◌∙◌, ◌==◌, ◌||◌, is_some, nat_cmp}
+use Rattle.hotel_core.proofs.Names.{is_at, insert_entry, list_any, nat_cmp_total, Card, Link, Stay, StayState, CodeRow, said_of, is_one_of, at_number, link_of_last_card, Event, Install, Reserved, Cancelled, CheckIn, Transfer, Spare, CheckOut, History, ◌▷◌, cards, card_of, with_spare, link_of_party, link_to, registered, stays, in_state, rows_of, room_of_state, room_of, next_card, same_link, Reached, each_card, card_numbers, card_parties_there, links_are_neighbours, links_of_one_party, neighbours_are_links, is_newest, owns_newest, newest_of_party, has_newest, last_cards_newest, stands_at}
 use Rattle.hotel_nights.specs.declared.stay.StayState.TheVariants as state
-use Rattle.hotel_core.specs.declared.books.rows.CodeRow.{CodeRow}
-use Rattle.hotel_core.specs.Model.Words.{said_of, is_one_of}
-use Rattle.hotel_core.specs.Model.Rows.{at_number, link_of_last_card}
-use Rattle.hotel_core.specs.Model.Event.{Event, Install, Reserved, Cancelled, CheckIn, Transfer, Spare, CheckOut}
-use Rattle.hotel_core.specs.Model.History.{History, ◌▷◌}
-use Rattle.hotel_core.specs.Model.Cards.{cards, card_of, with_spare, link_of_party, link_to}
-use Rattle.hotel_core.specs.Model.Guests.{registered}
-use Rattle.hotel_core.specs.Model.Stays.{stays, in_state}
-use Rattle.hotel_core.specs.Model.RowsOf.{rows_of}
-use Rattle.hotel_core.specs.Model.Cases.{room_of_state, room_of, next_card}
-use Rattle.hotel_core.specs.Model.Notes.{same_link}
-use Rattle.hotel_core.specs.Model.Run.{Reached}
-use Rattle.hotel_core.specs.Model.SoundCards.{each_card, card_numbers, card_parties_there, links_are_neighbours, links_of_one_party, neighbours_are_links, is_newest, owns_newest, newest_of_party, has_newest, last_cards_newest, stands_at}
-use Rattle.hotel_core.proofs.OfTables.Tests.{eq_self}
-use Rattle.hotel_core.proofs.OfTables.TableKeys.{at_inserted, is_key}
-use Rattle.hotel_core.proofs.OfTables.Grown.{may_follow}
-use Rattle.hotel_core.proofs.Invariants.RoomCodes.{others_have_none}
-use Rattle.hotel_core.proofs.Invariants.RoomLinks.{cards_have_links}
-use Rattle.hotel_core.proofs.Invariants.Numbering.{same_keys, cards_count}
-use Rattle.hotel_core.proofs.Invariants.NumbersLeft.{cards_fit}
-use Rattle.hotel_core.proofs.Invariants.InHouse.{has_stay, registered_in_house}
+use Rattle.hotel_core.proofs.{OfTables.Tests.eq_self, OfTables.TableKeys.at_inserted, OfTables.TableKeys.is_key, OfTables.Grown.may_follow, Invariants.RoomCodes.others_have_none}
+use Rattle.hotel_core.proofs.{Invariants.RoomLinks.cards_have_links, Invariants.Numbering.same_keys, Invariants.Numbering.cards_count, Invariants.NumbersLeft.cards_fit}
+use Rattle.hotel_core.proofs.{Invariants.InHouse.has_stay, Invariants.InHouse.registered_in_house, Starts.StartRules.link_is}
 use Rattle.hotel_core.proofs.Invariants.LiftHomes as homes
-use Rattle.hotel_core.proofs.Starts.StartRules.{link_is}
 use Rattle.hotel_core.proofs.Invariants.CardParties.{cards_one_party, guests_have_cards}
 use Rattle.hotel_core.proofs.OfTables.RowTests.{both, or_first, or_later, where_so, all_found}
-use Rattle.hotel_core.proofs.SoundRows.RowsPass.{cards_pass, codes_pass}
-use Rattle.hotel_core.proofs.SoundRows.SoundKeys.{cards_in_order, stays_in_order}
-use Rattle.hotel_core.proofs.SoundRows.SoundDay.{le_tested}
-use Rattle.hotel_core.proofs.SoundRows.SoundRoomRows.{each_room_is, eq_tested}
-use Rattle.hotel_core.proofs.SoundRows.SoundStays.{stay_has_number}
+use Rattle.hotel_core.proofs.{SoundRows.RowsPass.cards_pass, SoundRows.RowsPass.codes_pass, SoundRows.SoundKeys.cards_in_order, SoundRows.SoundKeys.stays_in_order}
+use Rattle.hotel_core.proofs.{SoundRows.SoundDay.le_tested, SoundRows.SoundRoomRows.each_room_is, SoundRows.SoundRoomRows.eq_tested, SoundRows.SoundStays.stay_has_number}
 use Rattle.hotel_core.proofs.SoundRows.SoundLinks.{said_some, new_at, link_stands, newest_tested, tested_newest, card_comes_last, last_cards}
 use Rattle.hotel_core.proofs.Starts.StartNumbers.{cards_numbered_at_start}
 

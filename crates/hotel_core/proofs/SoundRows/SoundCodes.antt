@@ -1,26 +1,9 @@
 -- Codes: their range, their rooms and their places.
-use Rattle.std.proofs.Common.{ℕ, ◌≡◌, ◌^◌, true, Some, List, length, ap, sym, ◌∙◌}
-use Rattle.std.specs.Prelude.{is_some, nat_lt}
-use Rattle.std.specs.Ordering.{nat_cmp}
-use Rattle.std.proofs.lemmas.Cmp.{nat_cmp_total}
-use Rattle.hotel_core.specs.declared.books.rows.CodeRow.{CodeRow}
-use Rattle.hotel_core.specs.Model.Rows.{at_number}
-use Rattle.hotel_core.specs.Model.Event.{Install, CheckIn, Transfer}
-use Rattle.hotel_core.specs.Model.History.{History}
-use Rattle.hotel_core.specs.Model.Issued.{all_issued}
-use Rattle.hotel_core.specs.Model.RowsOf.{rows_of}
-use Rattle.hotel_core.specs.Model.Run.{Reached}
-use Rattle.hotel_core.specs.Model.Cases.{is_room}
-use Rattle.hotel_core.specs.Model.SoundCards.{codes_in_range, code_rooms_there, places_once}
-use Rattle.hotel_core.proofs.Invariants.EventRanges.{last_in_range}
-use Rattle.hotel_core.proofs.Invariants.CodePlaces.{places_have_codes}
-use Rattle.hotel_core.proofs.Invariants.OpenLocks.{there_by_codes, not_empty}
-use Rattle.hotel_core.proofs.RowsAfter.HasRows.{room_has_row}
-use Rattle.hotel_core.proofs.OfTables.RowTests.{both, all_mapped, all_found}
-use Rattle.hotel_core.proofs.SoundRows.RowsPass.{codes_pass}
-use Rattle.hotel_core.proofs.SoundRows.SoundKeys.{codes_in_order}
-use Rattle.hotel_core.proofs.SoundRows.SoundDay.{lt_tested}
-use Rattle.hotel_core.proofs.SoundRows.SoundRoomRows.{each_room_is, eq_tested}
+use Rattle.std.proofs.Common.{ℕ, ◌≡◌, ◌^◌, true, Some, List, length, ap, sym, ◌∙◌, is_some, nat_lt, nat_cmp}
+use Rattle.hotel_core.proofs.Names.{nat_cmp_total, CodeRow, at_number, Install, CheckIn, Transfer, History, all_issued, rows_of, Reached, is_room, codes_in_range, code_rooms_there, places_once}
+use Rattle.hotel_core.proofs.{Invariants.EventRanges.last_in_range, Invariants.CodePlaces.places_have_codes, Invariants.OpenLocks.there_by_codes, Invariants.OpenLocks.not_empty}
+use Rattle.hotel_core.proofs.{RowsAfter.HasRows.room_has_row, OfTables.RowTests.both, OfTables.RowTests.all_mapped, OfTables.RowTests.all_found, SoundRows.RowsPass.codes_pass}
+use Rattle.hotel_core.proofs.{SoundRows.SoundKeys.codes_in_order, SoundRows.SoundDay.lt_tested, SoundRows.SoundRoomRows.each_room_is, SoundRows.SoundRoomRows.eq_tested}
 use Rattle.hotel_core.proofs.OfTables.CodesByPlace.{codes_are_placed, codes_are_listed}
 
 -- Each code has 48 bits.

@@ -1,17 +1,7 @@
 -- The day of a history's rows is in range, and is set before a kind is added.
-use Rattle.std.proofs.Common.{ℕ, ◌≡◌, ◌≤◌, ◌<◌, ◌+◌, true, Option, Some, None, refl, arith, length}
-use Rattle.std.specs.Prelude.{◌==◌, is_some, nat_le, nat_lt, option_map}
-use Rattle.std.proofs.lemmas.Bool.Decides.{nat_tests}
-use Rattle.hotel_core.specs.Model.Words.{said_of}
-use Rattle.hotel_core.specs.Model.Event.{Begun, Kind, NextDay}
-use Rattle.hotel_core.specs.Model.History.{History, start, ◌▷◌}
-use Rattle.hotel_core.specs.Model.Stays.{day, kinds}
-use Rattle.hotel_core.specs.Model.RowsOf.{rows_of}
-use Rattle.hotel_core.specs.Model.Run.{Reached}
-use Rattle.hotel_core.specs.Model.SoundRooms.{is_day, day_in_range, day_before_kinds}
-use Rattle.hotel_core.proofs.OfTables.Grown.{may_follow}
-use Rattle.hotel_core.proofs.Invariants.EventRanges.{last_in_range}
-use Rattle.hotel_core.proofs.OfTables.RowTests.{or_first}
+use Rattle.std.proofs.Common.{ℕ, ◌≡◌, ◌≤◌, ◌<◌, ◌+◌, true, Option, Some, None, refl, arith, length, ◌==◌, is_some, nat_le, nat_lt, option_map}
+use Rattle.hotel_core.proofs.Names.{nat_tests, said_of, Begun, Kind, NextDay, History, start, ◌▷◌, day, kinds, rows_of, Reached, is_day, day_in_range, day_before_kinds}
+use Rattle.hotel_core.proofs.{OfTables.Grown.may_follow, Invariants.EventRanges.last_in_range, OfTables.RowTests.or_first}
 
 pub le_tested : (a b : ℕ) → a ≤ b → nat_le a b ≡ true
 le_tested a b h = grind (arith, nat_tests)

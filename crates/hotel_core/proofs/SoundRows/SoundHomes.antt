@@ -1,29 +1,11 @@
 -- Rooms and the stays in house: each has the other, and they are of one kind.
-use Rattle.std.proofs.Common.{ℕ, ◌≡◌, Bool, true, false, cond, Option, Some, None, List, ◌⊎◌, inl, inr, refl, ap, sym, ◌∙◌, subst}
-use Rattle.std.specs.Prelude.{◌==◌, ◌&&◌, option_map, bytes_eq}
-use Rattle.std.specs.Ordering.{nat_cmp}
-use Rattle.std.specs.BTreeMap.{insert_entry}
-use Rattle.hotel_nights.specs.declared.stay.Stay.{Stay}
-use Rattle.hotel_nights.specs.declared.stay.StayState.{StayState}
+use Rattle.std.proofs.Common.{ℕ, ◌≡◌, Bool, true, false, cond, Option, Some, None, List, ◌⊎◌, inl, inr, refl, ap, sym, ◌∙◌, subst, ◌==◌, ◌&&◌, option_map, bytes_eq, nat_cmp}
+use Rattle.hotel_core.proofs.Names.{insert_entry, Stay, StayState, said_of, is_that, at_number, Install, Reserved, Cancelled, CheckIn, Transfer, CheckOut, History, start, ◌▷◌, registered, rooms, stays, in_state, now_is, room_row, rows_of, room_of_state, is_of_kind, Reached, is_home_of, parties_in_house}
 use Rattle.hotel_nights.specs.declared.stay.StayState.TheVariants as state
-use Rattle.hotel_core.specs.Model.Words.{said_of, is_that}
-use Rattle.hotel_core.specs.Model.Rows.{at_number}
-use Rattle.hotel_core.specs.Model.Event.{Install, Reserved, Cancelled, CheckIn, Transfer, CheckOut}
-use Rattle.hotel_core.specs.Model.History.{History, start, ◌▷◌}
-use Rattle.hotel_core.specs.Model.Guests.{registered}
-use Rattle.hotel_core.specs.Model.Stays.{rooms, stays, in_state, now_is}
-use Rattle.hotel_core.specs.Model.RowsOf.{room_row, rows_of}
-use Rattle.hotel_core.specs.Model.Cases.{room_of_state, is_of_kind}
-use Rattle.hotel_core.specs.Model.Run.{Reached}
-use Rattle.hotel_core.specs.Model.SoundRooms.{is_home_of, parties_in_house}
 use Rattle.hotel_core.proofs.OfTables.Tests.{eq_from, eq_self, not_both}
 use Rattle.hotel_core.proofs.OfTables.TableKeys.{row_inserted, row_kept, no_key}
-use Rattle.hotel_core.proofs.OfTables.StayStates.{stay_changed, home_of}
-use Rattle.hotel_core.proofs.OfTables.Grown.{may_follow}
-use Rattle.hotel_core.proofs.Invariants.InHouse.{registered_in_house}
-use Rattle.hotel_core.proofs.OfTables.RowTests.{both}
-use Rattle.hotel_core.proofs.SoundRows.SoundRoomRows.{each_room_is}
-use Rattle.hotel_core.proofs.Starts.StartGuests.{homes_of_kind_at_start}
+use Rattle.hotel_core.proofs.{OfTables.StayStates.stay_changed, OfTables.StayStates.home_of, OfTables.Grown.may_follow, Invariants.InHouse.registered_in_house}
+use Rattle.hotel_core.proofs.{OfTables.RowTests.both, SoundRows.SoundRoomRows.each_room_is, Starts.StartGuests.homes_of_kind_at_start}
 
 -- the room is there, and of this kind
 abbrev pub room_of_kind : List (ℕ × List ℕ) → ℕ → List ℕ → Bool

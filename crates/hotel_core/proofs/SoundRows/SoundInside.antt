@@ -1,38 +1,13 @@
 -- What is inside a room is a card of this room that the lock has seen.
-use Rattle.std.proofs.Common.{ℕ, ◌≡◌, ◌≤◌, ◌+◌, Bool, true, false, Option, Some, List, [], ◌∷◌, ◌++◌, length, inl, inr, ap, sym, ◌∙◌, subst, append_assoc, arith, length-append}
-use Rattle.std.specs.Prelude.{◌==◌, ◌&&◌, nat_le}
-use Rattle.keycard_rules.specs.declared.card.Card.{Card}
-use Rattle.keycard_rules.specs.declared.card.Link.{Link}
-use Rattle.hotel_core.specs.declared.books.rows.CodeRow.{CodeRow}
-use Rattle.hotel_core.specs.Model.Words.{when, and_last, is_one_of, before, pair_cmp}
-use Rattle.hotel_core.specs.Model.Rows.{at_number}
-use Rattle.hotel_core.specs.Model.Event.{Event, Moment, Entered, Left, Recoded}
-use Rattle.hotel_core.specs.Model.History.{History, start, ◌▷◌}
-use Rattle.hotel_core.specs.Model.Issued.{issued}
-use Rattle.hotel_core.specs.Model.Cards.{cards}
-use Rattle.hotel_core.specs.Model.Ledger.{passed, awaited, turns}
-use Rattle.hotel_core.specs.Model.Guests.{insiders, inside, secured}
-use Rattle.hotel_core.specs.Model.RowsOf.{room_row, rows_of}
-use Rattle.hotel_core.specs.Model.Cases.{is_room}
-use Rattle.hotel_core.specs.Model.Run.{Reached}
-use Rattle.hotel_core.proofs.Facts.Follow.{MayFollow}
-use Rattle.hotel_core.proofs.Facts.CodeFacts.{IsLinkOf}
-use Rattle.hotel_core.specs.Model.SoundCards.{room_is, card_is, fits_inside, insides_fit}
-use Rattle.hotel_core.proofs.OfTables.Grown.{may_follow}
-use Rattle.hotel_core.proofs.OfTables.Pairs.{pair_cmp_total}
-use Rattle.hotel_core.proofs.OfTables.Insiders.{inside_is}
-use Rattle.hotel_core.proofs.Invariants.InsideRooms.{came_in, left_out}
-use Rattle.hotel_core.proofs.Invariants.CodePlaces.{same_place}
-use Rattle.hotel_core.proofs.Invariants.CodesFound.{entered_in_order}
-use Rattle.hotel_core.proofs.Invariants.LedgerOrder.{card_seen, link_seen}
-use Rattle.hotel_core.proofs.Invariants.OpenLocks.{link_of_room}
-use Rattle.hotel_core.proofs.OfTables.RoomNumbers.{room_there}
-use Rattle.hotel_core.proofs.Invariants.SecuredRooms.{secured_rooms_fit}
-use Rattle.hotel_core.proofs.OfTables.RowTests.{both, where_so, all_there}
+use Rattle.std.proofs.Common.{ℕ, ◌≡◌, ◌≤◌, ◌+◌, Bool, true, false, Option, Some, List, [], ◌∷◌, ◌++◌, length, inl, inr, ap, sym, ◌∙◌, subst, append_assoc, arith, length-append, ◌==◌, ◌&&◌, nat_le}
+use Rattle.hotel_core.proofs.Names.{Card, Link, CodeRow, when, and_last, is_one_of, before, pair_cmp, at_number, Event, Moment, Entered, Left, Recoded, History, start, ◌▷◌, issued, cards, passed, awaited, turns, insiders, inside, secured, room_row, rows_of, is_room, Reached, room_is, card_is, fits_inside, insides_fit}
+use Rattle.hotel_core.proofs.{Facts.Follow.MayFollow, Facts.CodeFacts.IsLinkOf, OfTables.Grown.may_follow, OfTables.Pairs.pair_cmp_total, OfTables.Insiders.inside_is}
+use Rattle.hotel_core.proofs.{Invariants.InsideRooms.came_in, Invariants.InsideRooms.left_out, Invariants.CodePlaces.same_place, Invariants.CodesFound.entered_in_order}
+use Rattle.hotel_core.proofs.{Invariants.LedgerOrder.card_seen, Invariants.LedgerOrder.link_seen, Invariants.OpenLocks.link_of_room, OfTables.RoomNumbers.room_there}
+use Rattle.hotel_core.proofs.{Invariants.SecuredRooms.secured_rooms_fit, OfTables.RowTests.both, OfTables.RowTests.where_so, OfTables.RowTests.all_there}
 use Rattle.hotel_core.proofs.SoundRows.SoundDay.{le_tested}
 use Rattle.hotel_core.proofs.SoundRows.SoundLinks.{said_some, new_at, link_stands, newest_tested}
-use Rattle.hotel_core.proofs.Invariants.Kept.{room_goes_on, card_goes_on, link_goes_on}
-use Rattle.hotel_core.proofs.Starts.StartInside.{insiders_seen_at_start}
+use Rattle.hotel_core.proofs.{Invariants.Kept.room_goes_on, Invariants.Kept.card_goes_on, Invariants.Kept.link_goes_on, Starts.StartInside.insiders_seen_at_start}
 
 -- the link's codes are neighbours at the room, and its lock came to the new one
 abbrev pub HasSeen : History → ℕ → Link → Type 0

@@ -1,35 +1,10 @@
 -- Each table of a history's rows is in the order of its keys, and no key stands twice.
-use Rattle.std.proofs.Common.{ℕ, ◌≡◌, true, List, [], ◌∷◌, Option, Some, None, refl, ap, sym, ◌∙◌, subst}
-use Rattle.std.specs.Prelude.{map}
-use Rattle.std.specs.Ordering.{nat_cmp}
-use Rattle.std.specs.Cmp.Lexicographic.{slice_cmp}
-use Rattle.std.specs.Map.{keys_of}
-use Rattle.std.proofs.lemmas.Cmp.{nat_list_cmp_total}
-use Rattle.keycard_rules.specs.declared.card.Card.{Card}
-use Rattle.keycard_rules.specs.declared.card.Link.{Link}
-use Rattle.keycard_rules.specs.Note.{Note}
-use Rattle.hotel_nights.specs.declared.stay.Stay.{Stay}
-use Rattle.hotel_nights.specs.declared.stay.StayState.{StayState}
+use Rattle.std.proofs.Common.{ℕ, ◌≡◌, true, List, [], ◌∷◌, Option, Some, None, refl, ap, sym, ◌∙◌, subst, map, nat_cmp}
+use Rattle.hotel_core.proofs.Names.{slice_cmp, keys_of, nat_list_cmp_total, Card, Link, Note, Stay, StayState, pair_cmp, Kind, Install, Reserved, Cancelled, CheckIn, Transfer, Spare, CheckOut, note_of, History, start, ◌▷◌, all_issued, cards, card_of, with_spare, link_of_party, link_to, insiders, kinds, rooms, stays, in_state, all_notes, and_note, room_row, rows_of, Reached, are_in_order, keys_in_order}
 use Rattle.hotel_nights.specs.declared.stay.StayState.TheVariants as state
-use Rattle.hotel_core.specs.Model.Words.{pair_cmp}
-use Rattle.hotel_core.specs.Model.Event.{Kind, Install, Reserved, Cancelled, CheckIn, Transfer, Spare, CheckOut, note_of}
-use Rattle.hotel_core.specs.Model.History.{History, start, ◌▷◌}
-use Rattle.hotel_core.specs.Model.Issued.{all_issued}
-use Rattle.hotel_core.specs.Model.Cards.{cards, card_of, with_spare, link_of_party, link_to}
-use Rattle.hotel_core.specs.Model.Guests.{insiders}
-use Rattle.hotel_core.specs.Model.Stays.{kinds, rooms, stays, in_state}
-use Rattle.hotel_core.specs.Model.Notes.{all_notes, and_note}
-use Rattle.hotel_core.specs.Model.RowsOf.{room_row, rows_of}
-use Rattle.hotel_core.specs.Model.Run.{Reached}
-use Rattle.hotel_core.specs.Model.SoundRooms.{are_in_order}
-use Rattle.hotel_core.specs.Model.Sound.{keys_in_order}
 use Rattle.hotel_core.proofs.OfTables.KeysInOrder.{InOrder, in_order_inserted, keys_inserted, in_order_tested}
-use Rattle.hotel_core.proofs.OfTables.Insiders.{insiders_in_order}
-use Rattle.hotel_core.proofs.OfTables.Pairs.{pair_cmp_total}
-use Rattle.hotel_core.proofs.Invariants.Numbering.{same_keys}
-use Rattle.hotel_core.proofs.OfTables.RowTests.{both}
-use Rattle.hotel_core.proofs.OfTables.SameTables.{in_order_with}
-use Rattle.hotel_core.proofs.Starts.StartCodes.{orders, same_room_keys}
+use Rattle.hotel_core.proofs.{OfTables.Insiders.insiders_in_order, OfTables.Pairs.pair_cmp_total, Invariants.Numbering.same_keys, OfTables.RowTests.both}
+use Rattle.hotel_core.proofs.{OfTables.SameTables.in_order_with, Starts.StartCodes.orders, Starts.StartCodes.same_room_keys}
 
 -- a table's keys stand in order
 abbrev pub AreInOrder : {X : Type 0} → List (ℕ × X) → Type 0

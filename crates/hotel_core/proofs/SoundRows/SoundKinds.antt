@@ -1,22 +1,8 @@
 -- Kinds read as codes, and the kinds of rooms and stays are there.
-use Rattle.std.proofs.Common.{ℕ, ◌≡◌, Bool, true, false, List, [], ◌∷◌, refl, ◌∙◌}
-use Rattle.std.specs.Prelude.{◌||◌, bytes_eq}
-use Rattle.std.specs.Ordering.{nat_cmp, match_ordering}
-use Rattle.std.specs.declared.cmp.Ordering.{Ordering}
-use Rattle.std.specs.declared.cmp.Ordering.TheVariants.{Less, Equal, Greater}
-use Rattle.std.specs.Cmp.Lexicographic.{slice_cmp}
-use Rattle.std.specs.List.{list_any}
-use Rattle.std.specs.BTreeSet.{insert_key}
-use Rattle.hotel_core.specs.Model.Event.{Event, Kind, Install, Reserved}
-use Rattle.hotel_core.specs.Model.History.{History, start, ◌▷◌}
-use Rattle.hotel_core.specs.Model.Stays.{kinds, rooms}
-use Rattle.hotel_core.specs.Model.RowsOf.{room_row, rows_of}
-use Rattle.hotel_core.specs.Model.Cases.{is_kind}
-use Rattle.hotel_core.specs.Model.Run.{Reached}
-use Rattle.hotel_core.specs.Model.SoundRooms.{kinds_read, room_kinds_there, stay_kinds_there}
+use Rattle.std.proofs.Common.{ℕ, ◌≡◌, Bool, true, false, List, [], ◌∷◌, refl, ◌∙◌, ◌||◌, bytes_eq, nat_cmp, Ordering, Less, Equal, Greater}
+use Rattle.hotel_core.proofs.Names.{match_ordering, slice_cmp, list_any, insert_key, Event, Kind, Install, Reserved, History, start, ◌▷◌, kinds, rooms, room_row, rows_of, is_kind, Reached, kinds_read, room_kinds_there, stay_kinds_there}
 use Rattle.hotel_nights.specs.Kinds as nights
-use Rattle.hotel_core.proofs.OfTables.Grown.{may_follow}
-use Rattle.hotel_core.proofs.Invariants.EventRanges.{last_in_range}
+use Rattle.hotel_core.proofs.{OfTables.Grown.may_follow, Invariants.EventRanges.last_in_range}
 use Rattle.hotel_core.proofs.OfTables.RowTests.{or_later, all_mapped, all_keys_inserted}
 use Rattle.hotel_core.proofs.SoundRows.RowsPass.{rooms_pass, stays_pass}
 
@@ -37,7 +23,7 @@ any_by {K} cmp t Greater k x xs h ih = by (t x) h
     by false e = ih e
 
 -- what some key passed, some key passes where one more was added
-any_key_inserted : {K : Type 0} (cmp : K → K → Ordering) (t : K → Bool) (k : K) (xs : List K) → list_any t xs ≡ true → list_any t (insert_key cmp xs k) ≡ true
+pub any_key_inserted : {K : Type 0} (cmp : K → K → Ordering) (t : K → Bool) (k : K) (xs : List K) → list_any t xs ≡ true → list_any t (insert_key cmp xs k) ≡ true
 any_key_inserted cmp t k [] h = cc
 any_key_inserted cmp t k (x ∷ xs) h = any_by cmp t (cmp k x) k x xs h (any_key_inserted cmp t k xs)
 

@@ -1,33 +1,9 @@
 -- Links as the rows tell them: where they stand, and which is a room's newest and a party's last.
-use Rattle.std.proofs.Common.{ℕ, ◌≡◌, Bool, true, false, cond, Option, Some, None, List, [], ◌∷◌, ◌++◌, length, refl, ap, sym, ◌∙◌, append_assoc, arith, length-append}
-use Rattle.std.specs.Prelude.{◌==◌, if◌then◌else◌}
-use Rattle.std.specs.Ordering.{nat_cmp}
-use Rattle.std.specs.BTreeMap.{insert_entry}
-use Rattle.keycard_rules.specs.declared.card.Card.{Card}
-use Rattle.keycard_rules.specs.declared.card.Link.{Link}
-use Rattle.hotel_core.specs.declared.books.rows.CodeRow.{CodeRow}
-use Rattle.hotel_core.specs.Model.Words.{when, said_of}
-use Rattle.hotel_core.specs.Model.Rows.{at_number, codes_at, last_link_of, or_else, link_of_last_card}
-use Rattle.hotel_core.specs.Model.Event.{CheckIn, Transfer, Spare}
-use Rattle.hotel_core.specs.Model.History.{History, start, ◌▷◌}
-use Rattle.hotel_core.specs.Model.Issued.{issued, all_issued}
-use Rattle.hotel_core.specs.Model.Cards.{cards, card_of, with_spare, link_of_party, link_to, newest_link}
-use Rattle.hotel_core.specs.Model.RowsOf.{rows_of}
-use Rattle.hotel_core.specs.Model.Cases.{next_card}
-use Rattle.hotel_core.specs.Model.Notes.{same_link}
-use Rattle.hotel_core.specs.Model.Run.{Reached}
-use Rattle.hotel_core.proofs.Facts.CodeFacts.{IsLinkOf}
-use Rattle.hotel_core.specs.Model.SoundCards.{code_is, stands_at, are_neighbours, is_newest}
-use Rattle.hotel_core.proofs.OfTables.Tests.{eq_from, eq_self, not_both}
-use Rattle.hotel_core.proofs.OfTables.Grown.{may_follow}
-use Rattle.hotel_core.proofs.OfTables.Counting.{comes_last}
-use Rattle.hotel_core.proofs.Invariants.Numbering.{cards_count}
-use Rattle.hotel_core.proofs.Invariants.CodePlaces.{codes_have_places}
-use Rattle.hotel_core.proofs.Invariants.RoomLinks.{newest_are_last}
-use Rattle.hotel_core.proofs.Invariants.NewestLinks.{newest_is}
-use Rattle.hotel_core.proofs.Starts.StartRules.{link_is}
-use Rattle.hotel_core.proofs.OfTables.RowTests.{both}
-use Rattle.hotel_core.proofs.SoundRows.SoundRoomRows.{eq_tested}
+use Rattle.std.proofs.Common.{ℕ, ◌≡◌, Bool, true, false, cond, Option, Some, None, List, [], ◌∷◌, ◌++◌, length, refl, ap, sym, ◌∙◌, append_assoc, arith, length-append, ◌==◌, if◌then◌else◌, nat_cmp}
+use Rattle.hotel_core.proofs.Names.{insert_entry, Card, Link, CodeRow, when, said_of, at_number, codes_at, last_link_of, or_else, link_of_last_card, CheckIn, Transfer, Spare, History, start, ◌▷◌, issued, all_issued, cards, card_of, with_spare, link_of_party, link_to, newest_link, rows_of, next_card, same_link, Reached, code_is, stands_at, are_neighbours, is_newest}
+use Rattle.hotel_core.proofs.{Facts.CodeFacts.IsLinkOf, OfTables.Tests.eq_from, OfTables.Tests.eq_self, OfTables.Tests.not_both, OfTables.Grown.may_follow}
+use Rattle.hotel_core.proofs.{OfTables.Counting.comes_last, Invariants.Numbering.cards_count, Invariants.CodePlaces.codes_have_places, Invariants.RoomLinks.newest_are_last}
+use Rattle.hotel_core.proofs.{Invariants.NewestLinks.newest_is, Starts.StartRules.link_is, OfTables.RowTests.both, SoundRows.SoundRoomRows.eq_tested}
 use Rattle.hotel_core.proofs.OfTables.CodesByPlace.{codes_are_placed}
 
 pub said_some : {X : Type 0} (o : Option X) (x : X) (test : X → Bool) → o ≡ Some x → test x ≡ true → said_of o false test ≡ true

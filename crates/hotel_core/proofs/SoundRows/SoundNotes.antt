@@ -1,46 +1,16 @@
 -- Notes: their counts, and that what they say fits their rooms.
-use Rattle.std.proofs.Common.{ℕ, ◌≡◌, ◌<◌, true, Some, List, ◌∷◌, ◌++◌, length, ap, sym, ◌∙◌, subst, append_assoc, arith, length-append}
-use Rattle.std.specs.Prelude.{◌&&◌, is_some, nat_lt}
-use Rattle.keycard_rules.specs.declared.card.Card.{Card}
-use Rattle.keycard_rules.specs.declared.card.Link.{Link}
-use Rattle.keycard_rules.specs.declared.note.Act.{Act}
+use Rattle.std.proofs.Common.{ℕ, ◌≡◌, ◌<◌, true, Some, List, ◌∷◌, ◌++◌, length, ap, sym, ◌∙◌, subst, append_assoc, arith, length-append, ◌&&◌, is_some, nat_lt}
+use Rattle.hotel_core.proofs.Names.{Card, Link, Act, Note, IsTimed, CodeRow, is_one_of, before, after, at_number, Event, Moment, Entered, Left, Recoded, note_of, History, ◌▷◌, issued, all_issued, cards, held, passed, awaited, same_link, rows_of, is_room, Reached, is_day, count_up, code_is, are_neighbours, stands_at, comes_later, has_link_at, act_fits, note_fits, notes_fit, counts_at, notes_counted, list_all}
 use Rattle.keycard_rules.specs.declared.note.Act.TheVariants as act
-use Rattle.keycard_rules.specs.Note.{Note, IsTimed}
-use Rattle.hotel_core.specs.declared.books.rows.CodeRow.{CodeRow}
-use Rattle.hotel_core.specs.Model.Words.{is_one_of, before, after}
-use Rattle.hotel_core.specs.Model.Rows.{at_number}
-use Rattle.hotel_core.specs.Model.Event.{Event, Moment, Begun, Kind, Install, Reserved, Cancelled, CheckIn, Transfer, Spare, CheckOut, NextDay, Entered, Left, Recoded, note_of}
-use Rattle.hotel_core.specs.Model.History.{History, ◌▷◌}
-use Rattle.hotel_core.specs.Model.Issued.{issued, all_issued}
-use Rattle.hotel_core.specs.Model.Cards.{cards}
-use Rattle.hotel_core.specs.Model.Lock.{held}
-use Rattle.hotel_core.specs.Model.Ledger.{passed, awaited}
-use Rattle.hotel_core.specs.Model.Notes.{same_link}
-use Rattle.hotel_core.specs.Model.RowsOf.{rows_of}
-use Rattle.hotel_core.specs.Model.Cases.{is_room}
-use Rattle.hotel_core.specs.Model.Run.{Reached}
-use Rattle.hotel_core.proofs.Facts.CodeFacts.{IsLinkOf}
-use Rattle.hotel_core.specs.Model.SoundRooms.{is_day, count_up}
-use Rattle.hotel_core.specs.Model.SoundCards.{code_is, are_neighbours, stands_at, comes_later, has_link_at, act_fits, note_fits, notes_fit, counts_at, notes_counted}
-use Rattle.hotel_core.proofs.OfTables.Tests.{eq_from, eq_self, and_true}
-use Rattle.hotel_core.proofs.OfTables.Grown.{may_follow}
-use Rattle.hotel_core.proofs.Invariants.EventRanges.{last_in_range}
-use Rattle.hotel_core.proofs.OfTables.CodeLists.{parted}
-use Rattle.hotel_core.proofs.Invariants.CodePlaces.{codes_have_places}
-use Rattle.hotel_core.proofs.Invariants.LedgerOrder.{ledger_holds, card_seen, link_seen}
-use Rattle.hotel_core.proofs.Invariants.OpenLocks.{link_of_room}
-use Rattle.hotel_core.proofs.RowsAfter.HasRows.{room_has_row}
-use Rattle.hotel_core.proofs.Lifted.LiftEasy.{room_is_there}
-use Rattle.hotel_core.proofs.OfTables.RowTests.{both}
-use Rattle.hotel_core.proofs.SoundRows.RowsPass.{notes_pass}
-use Rattle.hotel_core.proofs.SoundRows.SoundDay.{le_tested, lt_tested}
-use Rattle.hotel_core.proofs.SoundRows.SoundRoomRows.{each_room_is, eq_tested}
+use Rattle.hotel_core.proofs.{Facts.CodeFacts.IsLinkOf, OfTables.Tests.eq_from, OfTables.Tests.eq_self, OfTables.Tests.and_true, OfTables.Grown.may_follow}
+use Rattle.hotel_core.proofs.{Invariants.EventRanges.last_in_range, OfTables.CodeLists.parted, Invariants.CodePlaces.codes_have_places}
+use Rattle.hotel_core.proofs.{Invariants.LedgerOrder.ledger_holds, Invariants.LedgerOrder.card_seen, Invariants.LedgerOrder.link_seen, Invariants.OpenLocks.link_of_room}
+use Rattle.hotel_core.proofs.{RowsAfter.HasRows.room_has_row, Lifted.LiftEasy.room_is_there, OfTables.RowTests.both, SoundRows.RowsPass.notes_pass}
+use Rattle.hotel_core.proofs.{SoundRows.SoundDay.le_tested, SoundRows.SoundDay.lt_tested, SoundRows.SoundRoomRows.each_room_is, SoundRows.SoundRoomRows.eq_tested}
 use Rattle.hotel_core.proofs.SoundRows.SoundLinks.{said_some, link_stands, same_self}
 use Rattle.hotel_core.proofs.SoundRows.SoundInside.{insiders_seen, one_card}
 use Rattle.hotel_core.proofs.Invariants.Kept.{room_goes_on, code_is_on, card_is_on}
-use Rattle.hotel_core.proofs.OfTables.NotesListed.{notes_are_listed, notes_count}
-use Rattle.hotel_core.proofs.Starts.StartRows.{rows_of_start}
-use Rattle.std.specs.List.{list_all}
+use Rattle.hotel_core.proofs.{OfTables.NotesListed.notes_are_listed, OfTables.NotesListed.notes_count, Starts.StartRows.rows_of_start}
 
 -- The counts of each room's notes are 1 to how many there are.
 pub notes_are_counted : (h : History) → Reached h → notes_counted (rows_of h) ≡ true
@@ -142,16 +112,7 @@ one_fits h (Recoded room count from to at) note ok e =
     let n = may_follow h event ok in
     subst (λ (n : Note). note_fits (rows_of (h ▷ event)) ((n.room, n.count), n) ≡ true) w
     (new_fits (h ▷ event) its n.1 (recoding_fits h ok.0 room from to n.1 (eq_from (held h room) from n.2) n.3) (last_in_range h event ok).1)
-one_fits h (Begun day) note ok e = cc
-one_fits h (Kind kind) note ok e = cc
-one_fits h (Install room kind code) note ok e = cc
-one_fits h (Reserved party guest kind arrive depart) note ok e = cc
-one_fits h (Cancelled party) note ok e = cc
-one_fits h (CheckIn party room number code) note ok e = cc
-one_fits h (Transfer party room number code) note ok e = cc
-one_fits h (Spare party number) note ok e = cc
-one_fits h (CheckOut party) note ok e = cc
-one_fits h NextDay note ok e = cc
+one_fits h _ note ok e = cc
 
 -- What each note says fits its room.
 pub notes_all_fit : (h : History) → Reached h → notes_fit (rows_of h) ≡ true

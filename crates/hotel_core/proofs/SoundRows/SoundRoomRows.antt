@@ -1,42 +1,14 @@
 -- Rooms: their numbers, locks, counts of codes and notes, and which are secured.
-use Rattle.std.proofs.Common.{ℕ, ◌≡◌, ◌≤◌, ◌<◌, ◌+◌, ◌-◌, Bool, true, false, Some, List, [], ◌∷◌, ◌++◌, length, inl, inr, refl, ap, ◌∙◌, subst, arith, length-append}
-use Rattle.std.specs.Prelude.{◌==◌, ◌&&◌, nat_le}
-use Rattle.std.specs.Ordering.{nat_cmp}
-use Rattle.std.proofs.lemmas.Cmp.{nat_cmp_total}
-use Rattle.std.proofs.lemmas.Bool.Decides.{nat_tests}
-use Rattle.keycard_rules.specs.declared.card.Link.{Link}
+use Rattle.std.proofs.Common.{ℕ, ◌≡◌, ◌≤◌, ◌<◌, ◌+◌, ◌-◌, Bool, true, false, Some, List, [], ◌∷◌, ◌++◌, length, inl, inr, refl, ap, ◌∙◌, subst, arith, length-append, ◌==◌, ◌&&◌, nat_le, nat_cmp}
+use Rattle.hotel_core.proofs.Names.{nat_cmp_total, nat_tests, Link, Note, RoomRow, when, and_last, at_number, Install, CheckIn, Transfer, Entered, Left, Recoded, History, start, ◌▷◌, issued, current, passed, awaited, held, secured, inside, are_none, rooms, notes, room_row, rows_of, is_room, Reached, each_room, room_numbers, lock_places, codes_few, note_counts, secured_hold_last}
 use Rattle.keycard_rules.specs.declared.note.Act.TheVariants as act
-use Rattle.keycard_rules.specs.Note.{Note}
-use Rattle.hotel_core.specs.declared.books.rows.RoomRow.{RoomRow}
-use Rattle.hotel_core.specs.Model.Words.{when, and_last}
-use Rattle.hotel_core.specs.Model.Rows.{at_number}
-use Rattle.hotel_core.specs.Model.Event.{Install, CheckIn, Transfer, Entered, Left, Recoded}
-use Rattle.hotel_core.specs.Model.History.{History, start, ◌▷◌}
-use Rattle.hotel_core.specs.Model.Issued.{issued, current}
-use Rattle.hotel_core.specs.Model.Ledger.{passed, awaited}
-use Rattle.hotel_core.specs.Model.Lock.{held}
-use Rattle.hotel_core.specs.Model.Guests.{secured, inside, are_none}
-use Rattle.hotel_core.specs.Model.Stays.{rooms}
-use Rattle.hotel_core.specs.Model.Notes.{notes}
-use Rattle.hotel_core.specs.Model.RowsOf.{room_row, rows_of}
-use Rattle.hotel_core.specs.Model.Cases.{is_room}
-use Rattle.hotel_core.specs.Model.Run.{Reached}
-use Rattle.hotel_core.proofs.Facts.CodeFacts.{IsLinkOf}
-use Rattle.hotel_core.specs.Model.SoundRooms.{each_room, room_numbers, lock_places, codes_few, note_counts, secured_hold_last}
-use Rattle.hotel_core.proofs.OfTables.Tests.{eq_from, eq_self, and_true, not_both}
-use Rattle.hotel_core.proofs.OfTables.Numbered.{found_there}
-use Rattle.hotel_core.proofs.OfTables.Grown.{may_follow}
-use Rattle.hotel_core.proofs.Invariants.EventRanges.{last_in_range}
-use Rattle.hotel_core.proofs.Invariants.NumbersLeft.{codes_fit}
-use Rattle.hotel_core.proofs.Invariants.LedgerOrder.{ledger_holds, link_seen}
-use Rattle.hotel_core.proofs.Invariants.OpenLocks.{link_of_room}
+use Rattle.hotel_core.proofs.{Facts.CodeFacts.IsLinkOf, OfTables.Tests.eq_from, OfTables.Tests.eq_self, OfTables.Tests.and_true, OfTables.Tests.not_both}
+use Rattle.hotel_core.proofs.{OfTables.Numbered.found_there, OfTables.Grown.may_follow, Invariants.EventRanges.last_in_range, Invariants.NumbersLeft.codes_fit}
+use Rattle.hotel_core.proofs.{Invariants.LedgerOrder.ledger_holds, Invariants.LedgerOrder.link_seen, Invariants.OpenLocks.link_of_room}
 use Rattle.hotel_core.proofs.Invariants.SecuredRooms.{secured_by, secured_rooms_fit}
-use Rattle.hotel_core.proofs.OfTables.RowTests.{both, where_so, all_mapped, all_found}
-use Rattle.hotel_core.proofs.SoundRows.RowsPass.{rooms_pass}
-use Rattle.hotel_core.proofs.SoundRows.SoundKeys.{rooms_in_order}
-use Rattle.hotel_core.proofs.SoundRows.SoundDay.{le_tested, lt_tested}
-use Rattle.hotel_core.proofs.Starts.StartRows.{rooms_numbered_at_start, few_notes_at_start}
-use Rattle.hotel_core.proofs.Starts.StartSecured.{secured_have_two_at_start}
+use Rattle.hotel_core.proofs.{OfTables.RowTests.both, OfTables.RowTests.where_so, OfTables.RowTests.all_mapped, OfTables.RowTests.all_found, SoundRows.RowsPass.rooms_pass}
+use Rattle.hotel_core.proofs.{SoundRows.SoundKeys.rooms_in_order, SoundRows.SoundDay.le_tested, SoundRows.SoundDay.lt_tested}
+use Rattle.hotel_core.proofs.{Starts.StartRows.rooms_numbered_at_start, Starts.StartRows.few_notes_at_start, Starts.StartSecured.secured_have_two_at_start}
 
 -- a rule of all rooms holds where it holds of each room's row
 pub each_room_is : (h : History) → Reached h → (rule : RoomRow → Bool) → ((r : ℕ) (kind : List ℕ) → at_number (rooms h) r ≡ Some kind → rule (room_row h r kind) ≡ true) → each_room (rows_of h) rule ≡ true

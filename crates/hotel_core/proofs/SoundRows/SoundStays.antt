@@ -1,32 +1,11 @@
 -- Stays: their numbers, guests, days and rooms.
-use Rattle.std.proofs.Common.{ℕ, ◌≡◌, ◌+◌, true, false, Option, Some, None, refl, ap, ◌∙◌}
-use Rattle.std.specs.Prelude.{◌==◌, ◌&&◌, nat_le, nat_lt}
-use Rattle.std.specs.Ordering.{nat_cmp}
-use Rattle.std.proofs.lemmas.Cmp.{nat_cmp_total}
+use Rattle.std.proofs.Common.{ℕ, ◌≡◌, ◌+◌, true, false, Option, Some, None, refl, ap, ◌∙◌, ◌==◌, ◌&&◌, nat_le, nat_lt, nat_cmp}
+use Rattle.hotel_core.proofs.Names.{nat_cmp_total, Stay, RoomRow, said_of, is_that, at_number, Reserved, History, stays, rows_of, room_of_state, room_of, Reached, is_day, stay_numbers, guests_read, stay_days, has_party, stay_rooms}
 use Rattle.hotel_nights.specs.Guests.{is_guest}
-use Rattle.hotel_nights.specs.declared.stay.Stay.{Stay}
-use Rattle.hotel_core.specs.declared.books.rows.RoomRow.{RoomRow}
-use Rattle.hotel_core.specs.Model.Words.{said_of, is_that}
-use Rattle.hotel_core.specs.Model.Rows.{at_number}
-use Rattle.hotel_core.specs.Model.Event.{Reserved}
-use Rattle.hotel_core.specs.Model.History.{History}
-use Rattle.hotel_core.specs.Model.Stays.{stays}
-use Rattle.hotel_core.specs.Model.RowsOf.{rows_of}
-use Rattle.hotel_core.specs.Model.Cases.{room_of_state, room_of}
-use Rattle.hotel_core.specs.Model.Run.{Reached}
-use Rattle.hotel_core.specs.Model.SoundRooms.{is_day, stay_numbers, guests_read, stay_days, has_party, stay_rooms}
-use Rattle.hotel_core.proofs.OfTables.Tests.{eq_from, eq_self}
-use Rattle.hotel_core.proofs.Invariants.EventRanges.{last_in_range}
-use Rattle.hotel_core.proofs.Invariants.Numbering.{stays_count}
-use Rattle.hotel_core.proofs.Invariants.NumbersLeft.{stays_fit}
-use Rattle.hotel_core.proofs.OfTables.RoomNumbers.{room_there}
-use Rattle.hotel_core.proofs.Invariants.InHouse.{registered_in_house}
-use Rattle.hotel_core.proofs.RowsAfter.HasRows.{home_is_room}
-use Rattle.hotel_core.proofs.OfTables.RowTests.{both, all_found, found_passes}
-use Rattle.hotel_core.proofs.SoundRows.RowsPass.{stays_pass}
-use Rattle.hotel_core.proofs.SoundRows.SoundKeys.{stays_in_order}
-use Rattle.hotel_core.proofs.SoundRows.SoundDay.{le_tested, lt_tested}
-use Rattle.hotel_core.proofs.Starts.StartNumbers.{stays_numbered_at_start}
+use Rattle.hotel_core.proofs.{OfTables.Tests.eq_from, OfTables.Tests.eq_self, Invariants.EventRanges.last_in_range, Invariants.Numbering.stays_count}
+use Rattle.hotel_core.proofs.{Invariants.NumbersLeft.stays_fit, OfTables.RoomNumbers.room_there, Invariants.InHouse.registered_in_house, RowsAfter.HasRows.home_is_room}
+use Rattle.hotel_core.proofs.{OfTables.RowTests.both, OfTables.RowTests.all_found, OfTables.RowTests.found_passes, SoundRows.RowsPass.stays_pass}
+use Rattle.hotel_core.proofs.{SoundRows.SoundKeys.stays_in_order, SoundRows.SoundDay.le_tested, SoundRows.SoundDay.lt_tested, Starts.StartNumbers.stays_numbered_at_start}
 
 -- the stay of a number has it
 pub stay_has_number : (h : History) → Reached h → (p : ℕ) (stay : Stay) → at_number (stays h) p ≡ Some stay → stay.party ≡ p

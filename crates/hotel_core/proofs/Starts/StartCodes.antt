@@ -1,30 +1,9 @@
 -- The codes of sound rows: each stands at one place of one room, and the places of a room are counted.
-use Rattle.std.proofs.Common.{ℕ, ◌≡◌, ◌<◌, ◌+◌, Bool, true, false, cond, Option, Some, None, List, [], ◌∷◌, ◌++◌, length, refl, ap, sym, ◌∙◌, subst, arith}
-use Rattle.std.specs.Prelude.{◌==◌, ◌&&◌, nat_le, nat_lt, is_some, map}
-use Rattle.std.specs.Ordering.{nat_cmp}
-use Rattle.std.specs.List.{list_all}
-use Rattle.std.specs.BTreeMap.{insert_entry}
-use Rattle.std.specs.Map.{keys_of, values_of}
-use Rattle.std.specs.Cmp.Lexicographic.{slice_cmp}
-use Rattle.std.proofs.lemmas.Cmp.{nat_cmp_total, nat_list_cmp_total}
-use Rattle.hotel_core.specs.declared.books.rows.CodeRow.{CodeRow}
-use Rattle.hotel_core.specs.declared.books.rows.RoomRow.{RoomRow}
-use Rattle.hotel_core.specs.Model.Words.{when, pair_cmp, is_one_of, said_of}
-use Rattle.hotel_core.specs.Model.Rows.{Rows, at_number, codes_by_place, codes_at, lock_place_of}
-use Rattle.hotel_core.specs.Model.History.{start}
-use Rattle.hotel_core.specs.Model.Cases.{is_room}
-use Rattle.hotel_core.specs.Model.SoundRooms.{count_up, are_in_order}
-use Rattle.hotel_core.specs.Model.SoundCards.{codes_listed}
-use Rattle.hotel_core.specs.Model.Sound.{IsSound}
-use Rattle.hotel_core.proofs.Facts.CodeFacts.{CodesHavePlaces, PlacesHaveCodes}
-use Rattle.hotel_core.proofs.OfTables.KeysInOrder.{InOrder}
-use Rattle.hotel_core.proofs.OfTables.CodeLists.{nothing_in_nil}
-use Rattle.hotel_core.proofs.OfTables.Pairs.{pair_cmp_total}
-use Rattle.hotel_core.proofs.OfTables.Tests.{eq_from, and_true, not_both}
-use Rattle.hotel_core.proofs.OfTables.TableKeys.{is_key}
-use Rattle.hotel_core.proofs.OfTables.RowTests.{found_passes}
-use Rattle.hotel_core.proofs.Starts.StartRules.{some_of, lt_from}
-use Rattle.hotel_core.proofs.Starts.StartOrder.{in_order_from}
+use Rattle.std.proofs.Common.{ℕ, ◌≡◌, ◌<◌, ◌+◌, Bool, true, false, cond, Option, Some, None, List, [], ◌∷◌, ◌++◌, length, refl, ap, sym, ◌∙◌, subst, arith, ◌==◌, ◌&&◌, nat_le, nat_lt, is_some, map, nat_cmp}
+use Rattle.hotel_core.proofs.Names.{list_all, insert_entry, keys_of, values_of, slice_cmp, nat_cmp_total, nat_list_cmp_total, CodeRow, RoomRow, when, pair_cmp, is_one_of, said_of, Rows, at_number, codes_by_place, codes_at, lock_place_of, start, is_room, count_up, are_in_order, codes_listed, IsSound}
+use Rattle.hotel_core.proofs.{Facts.CodeFacts.CodesHavePlaces, Facts.CodeFacts.PlacesHaveCodes, OfTables.KeysInOrder.InOrder, OfTables.CodeLists.nothing_in_nil}
+use Rattle.hotel_core.proofs.{OfTables.Pairs.pair_cmp_total, OfTables.Tests.eq_from, OfTables.Tests.and_true, OfTables.Tests.not_both, OfTables.TableKeys.is_key}
+use Rattle.hotel_core.proofs.{OfTables.RowTests.found_passes, Starts.StartRules.some_of, Starts.StartRules.lt_from, Starts.StartOrder.in_order_from}
 use Rattle.hotel_core.proofs.Starts.StartPlaces.{listed, one_listed, is_placed, placed_back}
 use Rattle.hotel_core.proofs.Starts.StartSplits.{SplitsAt, split_at, found_at, length_values}
 

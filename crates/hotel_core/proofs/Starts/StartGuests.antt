@@ -1,28 +1,9 @@
 -- The guests of sound rows: who is registered is in house there, and has a card of the room's newest link.
-use Rattle.std.proofs.Common.{ℕ, ◌≡◌, true, false, Option, Some, None, refl, ap, sym, ◌∙◌}
-use Rattle.std.specs.Prelude.{◌&&◌, is_some, bytes_eq, option_map}
-use Rattle.keycard_rules.specs.declared.card.Link.{Link}
-use Rattle.hotel_nights.specs.declared.stay.Stay.{Stay}
-use Rattle.hotel_core.specs.declared.books.rows.RoomRow.{RoomRow}
-use Rattle.hotel_core.specs.Model.Words.{said_of, is_that}
-use Rattle.hotel_core.specs.Model.Rows.{Rows, at_number, link_of_last_card}
-use Rattle.hotel_core.specs.Model.History.{start}
-use Rattle.hotel_core.specs.Model.Guests.{registered}
-use Rattle.hotel_core.specs.Model.Cards.{newest_link, link_of_party}
-use Rattle.hotel_core.specs.Model.Cases.{is_room, room_of, room_of_state, is_in_house}
-use Rattle.hotel_core.specs.Model.SoundCards.{is_newest}
-use Rattle.hotel_core.specs.Model.Sound.{IsSound}
-use Rattle.hotel_core.proofs.Facts.CodeFacts.{GuestsHaveCards}
-use Rattle.hotel_core.proofs.OfTables.Tests.{and_true}
-use Rattle.hotel_core.proofs.Invariants.Homes.{Match}
-use Rattle.hotel_core.proofs.OfTables.RowTests.{found_passes}
-use Rattle.hotel_core.proofs.Starts.StartRules.{said_true, said_at, some_of, that_is}
-use Rattle.hotel_core.proofs.Starts.StartCodes.{room_is}
-use Rattle.hotel_core.proofs.Starts.StartNumbers.{party_is}
-use Rattle.hotel_core.proofs.Starts.StartLedger.{not_there}
-use Rattle.hotel_core.proofs.Starts.StartLinks.{newest_by_rule, parties_have_cards_at_start}
-use Rattle.hotel_core.specs.Model.SoundRooms.{is_home_of}
-use Rattle.hotel_core.specs.Model.Stays.{rooms}
+use Rattle.std.proofs.Common.{ℕ, ◌≡◌, true, false, Option, Some, None, refl, ap, sym, ◌∙◌, ◌&&◌, is_some, bytes_eq, option_map}
+use Rattle.hotel_core.proofs.Names.{Link, Stay, RoomRow, said_of, is_that, Rows, at_number, link_of_last_card, start, registered, newest_link, link_of_party, is_room, room_of, room_of_state, is_in_house, is_newest, IsSound, is_home_of, rooms}
+use Rattle.hotel_core.proofs.{Facts.CodeFacts.GuestsHaveCards, OfTables.Tests.and_true, Invariants.Homes.Match, OfTables.RowTests.found_passes}
+use Rattle.hotel_core.proofs.{Starts.StartRules.said_true, Starts.StartRules.said_at, Starts.StartRules.some_of, Starts.StartRules.that_is, Starts.StartCodes.room_is}
+use Rattle.hotel_core.proofs.{Starts.StartNumbers.party_is, Starts.StartLedger.not_there, Starts.StartLinks.newest_by_rule, Starts.StartLinks.parties_have_cards_at_start}
 use Rattle.hotel_core.proofs.OfTables.Numbered.{at_mapped}
 
 said_some : {X : Type 0} (o : Option X) (f : X → Option ℕ) (n : ℕ) → said_of o None f ≡ Some n → (x : X) × (o ≡ Some x) × (f x ≡ Some n)

@@ -1,23 +1,8 @@
 -- The cards inside rooms of sound rows: the room's lock came to their new code.
-use Rattle.std.proofs.Common.{ℕ, ◌≡◌, ◌≤◌, ◌+◌, true, Some, None, List, [], ◌∷◌, ◌++◌, length, take, ap, sym, ◌∙◌, arith, append_assoc, length-append}
-use Rattle.std.specs.Prelude.{◌&&◌, ◌||◌, not, nat_le, is_some}
-use Rattle.keycard_rules.specs.declared.card.Card.{Card}
-use Rattle.keycard_rules.specs.declared.card.Link.{Link}
-use Rattle.hotel_core.specs.declared.books.rows.CodeRow.{CodeRow}
-use Rattle.hotel_core.specs.declared.books.rows.RoomRow.{RoomRow}
-use Rattle.hotel_core.specs.Model.Words.{is_one_of}
-use Rattle.hotel_core.specs.Model.Rows.{Rows, at_number, codes_at, lock_place_of}
-use Rattle.hotel_core.specs.Model.History.{start}
-use Rattle.hotel_core.specs.Model.Guests.{those_in}
-use Rattle.hotel_core.specs.Model.Cases.{is_room}
-use Rattle.hotel_core.specs.Model.SoundCards.{room_is, card_is, code_is, stands_at, is_newest, fits_inside}
-use Rattle.hotel_core.specs.Model.Sound.{IsSound}
-use Rattle.hotel_core.proofs.Facts.CodeFacts.{IsLinkOf}
-use Rattle.hotel_core.proofs.OfTables.Tests.{and_true}
-use Rattle.hotel_core.proofs.Starts.StartRules.{said_true, le_from}
-use Rattle.hotel_core.proofs.Starts.StartCodes.{room_there_is, place_is_row}
-use Rattle.hotel_core.proofs.Starts.StartLinks.{stands_is}
-use Rattle.hotel_core.proofs.Starts.StartSecured.{inside_passes}
+use Rattle.std.proofs.Common.{ℕ, ◌≡◌, ◌≤◌, ◌+◌, true, Some, None, List, [], ◌∷◌, ◌++◌, length, take, ap, sym, ◌∙◌, arith, append_assoc, length-append, ◌&&◌, ◌||◌, not, nat_le, is_some}
+use Rattle.hotel_core.proofs.Names.{Card, Link, CodeRow, RoomRow, is_one_of, Rows, at_number, codes_at, lock_place_of, start, those_in, is_room, room_is, card_is, code_is, stands_at, is_newest, fits_inside, IsSound}
+use Rattle.hotel_core.proofs.{Facts.CodeFacts.IsLinkOf, OfTables.Tests.and_true, Starts.StartRules.said_true, Starts.StartRules.le_from}
+use Rattle.hotel_core.proofs.{Starts.StartCodes.room_there_is, Starts.StartCodes.place_is_row, Starts.StartLinks.stands_is, Starts.StartSecured.inside_passes}
 use Rattle.hotel_core.proofs.Starts.StartRows.{lock_is}
 
 -- the link's codes are neighbours at the room, and its lock came to the new one

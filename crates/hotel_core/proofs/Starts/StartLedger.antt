@@ -1,14 +1,7 @@
 -- A start's ledger: the lock's place cuts a room's codes into passed, held and awaited ones.
-use Rattle.std.proofs.Common.{ℕ, zero, suc, ◌≡◌, ◌≤◌, ◌<◌, ◌+◌, Bool, true, false, None, List, [], ◌∷◌, ◌++◌, length, take, drop, refl, ap, sym, ◌∙◌, subst, arith}
-use Rattle.std.specs.Prelude.{nat_le, is_some}
-use Rattle.hotel_core.specs.declared.books.rows.RoomRow.{RoomRow}
-use Rattle.hotel_core.specs.Model.Rows.{Rows, at_number, codes_at, lock_place_of, first_of}
-use Rattle.hotel_core.specs.Model.History.{start}
-use Rattle.hotel_core.specs.Model.Cases.{is_room}
-use Rattle.hotel_core.specs.Model.Sound.{IsSound}
-use Rattle.hotel_core.specs.Model.Headline.{LedgerHolds}
-use Rattle.hotel_core.proofs.Facts.CodeFacts.{HasCodes, RoomsHaveCodes, OthersHaveNone, CodesFit}
-use Rattle.hotel_core.proofs.OfTables.RowTests.{found_passes}
+use Rattle.std.proofs.Common.{ℕ, zero, suc, ◌≡◌, ◌≤◌, ◌<◌, ◌+◌, Bool, true, false, None, List, [], ◌∷◌, ◌++◌, length, take, drop, refl, ap, sym, ◌∙◌, subst, arith, nat_le, is_some}
+use Rattle.hotel_core.proofs.Names.{RoomRow, Rows, at_number, codes_at, lock_place_of, first_of, start, is_room, IsSound, LedgerHolds}
+use Rattle.hotel_core.proofs.{Facts.CodeFacts.HasCodes, Facts.CodeFacts.RoomsHaveCodes, Facts.CodeFacts.OthersHaveNone, Facts.CodeFacts.CodesFit, OfTables.RowTests.found_passes}
 use Rattle.hotel_core.proofs.Starts.StartRules.{le_from, some_of}
 use Rattle.hotel_core.proofs.Starts.StartCodes.{counted, lock_within, no_codes_at, has_row, has_no_row, room_there_is}
 

@@ -1,27 +1,10 @@
 -- The links of sound rows: a card's codes are neighbours at a room, and a link is one party's.
-use Rattle.std.proofs.Common.{ℕ, ◌≡◌, ◌+◌, Bool, true, false, cond, Option, Some, None, List, [], ◌∷◌, ◌++◌, length, refl, ap, sym, ◌∙◌, subst, arith, append_assoc, length-append}
-use Rattle.std.specs.Prelude.{◌==◌, ◌&&◌, ◌||◌, not}
-use Rattle.std.specs.Ordering.{nat_cmp}
-use Rattle.std.specs.List.{list_all}
-use Rattle.std.specs.Map.{keys_of}
-use Rattle.keycard_rules.specs.declared.card.Card.{Card}
-use Rattle.keycard_rules.specs.declared.card.Link.{Link}
-use Rattle.hotel_core.specs.declared.books.rows.CodeRow.{CodeRow}
-use Rattle.hotel_core.specs.Model.Words.{said_of, last_of}
-use Rattle.hotel_core.specs.Model.Rows.{Rows, at_number, codes_at, last_link_of, link_of_last_card, or_else}
-use Rattle.hotel_core.specs.Model.History.{start}
-use Rattle.hotel_core.specs.Model.Notes.{same_link}
-use Rattle.hotel_core.specs.Model.SoundCards.{stands_at, is_newest}
-use Rattle.hotel_core.specs.Model.Sound.{IsSound}
+use Rattle.std.proofs.Common.{ℕ, ◌≡◌, ◌+◌, Bool, true, false, cond, Option, Some, None, List, [], ◌∷◌, ◌++◌, length, refl, ap, sym, ◌∙◌, subst, arith, append_assoc, length-append, ◌==◌, ◌&&◌, ◌||◌, not, nat_cmp}
+use Rattle.hotel_core.proofs.Names.{list_all, keys_of, Card, Link, CodeRow, said_of, last_of, Rows, at_number, codes_at, last_link_of, link_of_last_card, or_else, start, same_link, stands_at, is_newest, IsSound}
 use Rattle.hotel_core.proofs.Facts.CodeFacts.{IsLinkOf, CardsHaveLinks, PartiesHaveLinks, PartiesHaveCards, CardsOneParty, NewestAreLast}
-use Rattle.hotel_core.proofs.OfTables.KeysInOrder.{InOrder}
-use Rattle.hotel_core.proofs.OfTables.CodeLists.{cut_alike, last_more}
-use Rattle.hotel_core.proofs.OfTables.Tests.{eq_from, eq_self, and_true, or_second}
-use Rattle.hotel_core.proofs.OfTables.TableKeys.{is_at_self}
-use Rattle.hotel_core.proofs.OfTables.RowTests.{found_passes}
-use Rattle.hotel_core.proofs.Starts.StartRules.{said_true, link_is}
-use Rattle.hotel_core.proofs.Starts.StartOrder.{found_later}
-use Rattle.hotel_core.proofs.Starts.StartSplits.{SplitsAt}
+use Rattle.hotel_core.proofs.{OfTables.KeysInOrder.InOrder, OfTables.CodeLists.cut_alike, OfTables.CodeLists.last_more}
+use Rattle.hotel_core.proofs.{OfTables.Tests.eq_from, OfTables.Tests.eq_self, OfTables.Tests.and_true, OfTables.Tests.or_second, OfTables.TableKeys.is_at_self}
+use Rattle.hotel_core.proofs.{OfTables.RowTests.found_passes, Starts.StartRules.said_true, Starts.StartRules.link_is, Starts.StartOrder.found_later, Starts.StartSplits.SplitsAt}
 use Rattle.hotel_core.proofs.Starts.StartCodes.{orders, row_is_place, place_is_row}
 
 neighbours : (xs : List ℕ) (a b p q : ℕ) → SplitsAt xs a p → SplitsAt xs b q → q ≡ p + 1 → (before : List ℕ) × (later : List ℕ) × (xs ≡ before ++ a ∷ b ∷ later)

@@ -1,27 +1,10 @@
 -- The notes of sound rows: the note of a room's count is the one of that place.
-use Rattle.std.proofs.Common.{ℕ, zero, suc, ◌≡◌, ◌≤◌, ◌<◌, ◌+◌, Bool, true, false, cond, Option, Some, None, List, [], ◌∷◌, drop, refl, ap, sym, ◌∙◌, arith}
-use Rattle.std.specs.Prelude.{◌==◌, ◌&&◌, is_some, nat_le, nat_lt, length}
-use Rattle.std.specs.BTreeMap.{is_at}
-use Rattle.std.specs.List.{list_all}
-use Rattle.std.specs.Map.{lookup}
-use Rattle.std.proofs.lemmas.Bool.Decides.{nat_tests}
-use Rattle.keycard_rules.specs.Note.{Note}
-use Rattle.hotel_core.specs.declared.books.rows.RoomRow.{RoomRow}
-use Rattle.hotel_core.specs.Model.Words.{when, pair_cmp}
-use Rattle.hotel_core.specs.Model.Rows.{Rows, at_number, notes_at}
-use Rattle.hotel_core.specs.Model.History.{start}
-use Rattle.hotel_core.specs.Model.Notes.{notes}
-use Rattle.hotel_core.specs.Model.Cases.{is_room}
-use Rattle.hotel_core.specs.Model.SoundRooms.{count_up, is_day}
-use Rattle.hotel_core.specs.Model.SoundCards.{counts_at, act_fits, note_fits}
-use Rattle.hotel_core.specs.Model.Sound.{IsSound}
+use Rattle.std.proofs.Common.{ℕ, zero, suc, ◌≡◌, ◌≤◌, ◌<◌, ◌+◌, Bool, true, false, cond, Option, Some, None, List, [], ◌∷◌, drop, refl, ap, sym, ◌∙◌, arith, ◌==◌, ◌&&◌, is_some, nat_le, nat_lt, length}
+use Rattle.hotel_core.proofs.Names.{is_at, list_all, lookup, nat_tests, Note, RoomRow, when, pair_cmp, Rows, at_number, notes_at, start, notes, is_room, count_up, is_day, counts_at, act_fits, note_fits, IsSound}
 use Rattle.hotel_core.proofs.OfTables.Pairs.{pair_is, pair_cmp_total}
 use Rattle.hotel_core.proofs.OfTables.Tests.{eq_from, eq_self, and_true, not_both}
-use Rattle.hotel_core.proofs.OfTables.RowTests.{found_passes, all_found}
-use Rattle.hotel_core.proofs.Starts.StartRules.{some_of}
-use Rattle.hotel_core.proofs.Starts.StartCodes.{room_is, has_no_row, orders}
-use Rattle.hotel_core.proofs.Starts.StartLedger.{not_there}
-use Rattle.hotel_core.proofs.Starts.StartSplits.{past}
+use Rattle.hotel_core.proofs.{OfTables.RowTests.found_passes, OfTables.RowTests.all_found, Starts.StartRules.some_of}
+use Rattle.hotel_core.proofs.{Starts.StartCodes.room_is, Starts.StartCodes.has_no_row, Starts.StartCodes.orders, Starts.StartLedger.not_there, Starts.StartSplits.past}
 
 -- the first of some notes
 abbrev pub first_note : List Note → Option Note

@@ -1,18 +1,8 @@
 -- The cards and stays of a start are numbered from 1 on.
-use Rattle.std.proofs.Common.{ℕ, ◌≡◌, Bool, true, Some, length}
-use Rattle.std.specs.Prelude.{◌==◌, ◌&&◌, nat_le}
-use Rattle.std.specs.List.{list_all}
-use Rattle.std.specs.Map.{keys_of}
-use Rattle.keycard_rules.specs.declared.card.Card.{Card}
-use Rattle.hotel_nights.specs.declared.stay.Stay.{Stay}
-use Rattle.hotel_core.specs.Model.Rows.{Rows, at_number}
-use Rattle.hotel_core.specs.Model.History.{start}
-use Rattle.hotel_core.specs.Model.SoundRooms.{count_up}
-use Rattle.hotel_core.specs.Model.Sound.{IsSound}
+use Rattle.std.proofs.Common.{ℕ, ◌≡◌, Bool, true, Some, length, ◌==◌, ◌&&◌, nat_le}
+use Rattle.hotel_core.proofs.Names.{list_all, keys_of, Card, Stay, Rows, at_number, start, count_up, IsSound}
 use Rattle.hotel_core.proofs.Facts.CodeFacts.{CardsCount, StaysCount, CardsFit, StaysFit}
-use Rattle.hotel_core.proofs.OfTables.Tests.{and_true, eq_from}
-use Rattle.hotel_core.proofs.OfTables.RowTests.{found_passes}
-use Rattle.hotel_core.proofs.Starts.StartRules.{le_from}
+use Rattle.hotel_core.proofs.{OfTables.Tests.and_true, OfTables.Tests.eq_from, OfTables.RowTests.found_passes, Starts.StartRules.le_from}
 
 three_true : (a b c : Bool) → (a && b && c) ≡ true → (a ≡ true) × (b ≡ true) × (c ≡ true)
 three_true a b c t = let p = and_true (a && b) c t in let q = and_true a b p.0 in (q.0, q.1, p.1)

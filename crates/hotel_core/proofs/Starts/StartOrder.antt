@@ -1,15 +1,7 @@
 -- Tables whose keys pass the test of order: each row is the one that a look-up finds.
-use Rattle.std.proofs.Common.{ℕ, ◌≡◌, Bool, true, false, cond, Option, Some, None, List, [], ◌∷◌, refl, ap, sym, ◌∙◌}
-use Rattle.std.specs.Ordering.{nat_cmp, is_eq, is_lt}
-use Rattle.std.specs.Cmp.{IsTotalOrder}
-use Rattle.std.specs.declared.cmp.Ordering.{Ordering}
-use Rattle.std.specs.declared.cmp.Ordering.TheVariants.{Less, Equal, Greater}
-use Rattle.std.specs.BTreeMap.{is_at}
-use Rattle.std.specs.Map.{keys_of}
-use Rattle.hotel_core.specs.Model.Rows.{at_number}
-use Rattle.hotel_core.specs.Model.SoundRooms.{are_in_order}
-use Rattle.hotel_core.proofs.OfTables.KeysInOrder.{AllAfter, InOrder, all_after}
-use Rattle.hotel_core.proofs.OfTables.Tests.{and_true, not_both}
+use Rattle.std.proofs.Common.{ℕ, ◌≡◌, Bool, true, false, cond, Option, Some, None, List, [], ◌∷◌, refl, ap, sym, ◌∙◌, nat_cmp, is_eq, is_lt, Ordering, Less, Equal, Greater}
+use Rattle.hotel_core.proofs.Names.{IsTotalOrder, is_at, keys_of, at_number, are_in_order}
+use Rattle.hotel_core.proofs.{OfTables.KeysInOrder.AllAfter, OfTables.KeysInOrder.InOrder, OfTables.KeysInOrder.all_after, OfTables.Tests.and_true, OfTables.Tests.not_both}
 use Rattle.hotel_core.proofs.OfTables.TableKeys.{same_number}
 
 is_less : (o : Ordering) → is_lt o ≡ true → o ≡ Less

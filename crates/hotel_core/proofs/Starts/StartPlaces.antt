@@ -1,22 +1,9 @@
 -- The codes of a room in the order of their places: each code of the table at its place, and no other.
-use Rattle.std.proofs.Common.{ℕ, ◌≡◌, ◌≤◌, ◌+◌, Bool, true, false, cond, Option, Some, None, List, [], ◌∷◌, length, inl, inr, refl, ap, sym, ◌∙◌, subst, arith}
-use Rattle.std.specs.Prelude.{◌==◌, ◌||◌}
-use Rattle.std.specs.Ordering.{nat_cmp, match_ordering}
-use Rattle.std.specs.declared.cmp.Ordering.{Ordering}
-use Rattle.std.specs.declared.cmp.Ordering.TheVariants.{Less, Equal, Greater}
-use Rattle.std.specs.List.{count_by}
-use Rattle.std.specs.BTreeMap.{is_at, insert_entry}
-use Rattle.std.specs.BTreeSet.{insert_key}
-use Rattle.std.specs.Map.{keys_of, values_of}
-use Rattle.std.proofs.lemmas.Cmp.{nat_cmp_total}
-use Rattle.std.proofs.lemmas.List.Sums.{sum_by-cons}
-use Rattle.hotel_core.specs.declared.books.rows.CodeRow.{CodeRow}
-use Rattle.hotel_core.specs.Model.Words.{when}
-use Rattle.hotel_core.specs.Model.Rows.{at_number, codes_by_place}
+use Rattle.std.proofs.Common.{ℕ, ◌≡◌, ◌≤◌, ◌+◌, Bool, true, false, cond, Option, Some, None, List, [], ◌∷◌, length, inl, inr, refl, ap, sym, ◌∙◌, subst, arith, ◌==◌, ◌||◌, nat_cmp, Ordering, Less, Equal, Greater, count_by}
+use Rattle.hotel_core.proofs.Names.{match_ordering, is_at, insert_entry, insert_key, keys_of, values_of, nat_cmp_total, sum_by-cons, CodeRow, when, at_number, codes_by_place}
 use Rattle.hotel_core.proofs.OfTables.KeysInOrder.{InOrder, has_key, in_order_inserted, keys_inserted, present_stays}
-use Rattle.hotel_core.proofs.OfTables.Tests.{eq_from, eq_self, not_both}
+use Rattle.hotel_core.proofs.{OfTables.Tests.eq_from, OfTables.Tests.eq_self, OfTables.Tests.not_both, Starts.StartOrder.found_later}
 use Rattle.hotel_core.proofs.OfTables.TableKeys.{same_number, is_at_self, row_inserted, row_kept, row_added}
-use Rattle.hotel_core.proofs.Starts.StartOrder.{found_later}
 
 -- how many codes of a room stand in a table
 abbrev pub listed : List (ℕ × CodeRow) → ℕ → ℕ

@@ -1,30 +1,12 @@
 -- The rows that stand for a start are the start's rows.
-use Rattle.std.proofs.Common.{ℕ, ◌≡◌, ◌≤◌, ◌<◌, ◌+◌, Bool, true, false, cond, Option, Some, None, List, [], ◌∷◌, length, take, refl, ap, sym, ◌∙◌, arith}
-use Rattle.std.specs.Prelude.{◌==◌, ◌&&◌, map, bytes_eq, nat_le, is_some}
-use Rattle.std.specs.Ordering.{nat_cmp, is_eq}
-use Rattle.std.specs.List.{count_by, list_all}
-use Rattle.std.specs.Map.{keys_of, values_of}
+use Rattle.std.proofs.Common.{ℕ, ◌≡◌, ◌≤◌, ◌<◌, ◌+◌, Bool, true, false, cond, Option, Some, None, List, [], ◌∷◌, length, take, refl, ap, sym, ◌∙◌, arith, ◌==◌, ◌&&◌, map, bytes_eq, nat_le, is_some, nat_cmp, is_eq, count_by}
+use Rattle.hotel_core.proofs.Names.{list_all, keys_of, values_of, RoomRow, Note, said_of, Rows, at_number, codes_at, lock_place_of, notes_at, start, room_row, rows_of, rooms, rooms_of, count_up, rooms_with, counts_at, IsSound}
 use Rattle.std.proofs.lemmas.List.{length-take-le}
-use Rattle.hotel_core.specs.declared.books.rows.RoomRow.{RoomRow}
-use Rattle.keycard_rules.specs.Note.{Note}
-use Rattle.hotel_core.specs.Model.Words.{said_of}
-use Rattle.hotel_core.specs.Model.Rows.{Rows, at_number, codes_at, lock_place_of, notes_at}
-use Rattle.hotel_core.specs.Model.History.{start}
-use Rattle.hotel_core.specs.Model.RowsOf.{room_row, rows_of}
-use Rattle.hotel_core.specs.Model.Stays.{rooms, rooms_of}
-use Rattle.hotel_core.specs.Model.SoundRooms.{count_up, rooms_with}
-use Rattle.hotel_core.specs.Model.SoundCards.{counts_at}
-use Rattle.hotel_core.specs.Model.Sound.{IsSound}
-use Rattle.hotel_core.proofs.Facts.Follow.{ApartFrom, RoomsOnce}
-use Rattle.hotel_core.proofs.OfTables.KeysInOrder.{AllAfter, InOrder}
-use Rattle.hotel_core.proofs.OfTables.StayCounts.{count_first}
-use Rattle.hotel_core.proofs.OfTables.Tests.{eq_from, eq_self, and_true}
-use Rattle.hotel_core.proofs.OfTables.TableKeys.{at_is, is_at_self}
-use Rattle.hotel_core.proofs.OfTables.RowTests.{found_passes, all_weaker, both}
-use Rattle.hotel_core.proofs.Starts.StartOrder.{found_later}
+use Rattle.hotel_core.proofs.{Facts.Follow.ApartFrom, Facts.Follow.RoomsOnce, OfTables.KeysInOrder.AllAfter, OfTables.KeysInOrder.InOrder, OfTables.StayCounts.count_first}
+use Rattle.hotel_core.proofs.{OfTables.Tests.eq_from, OfTables.Tests.eq_self, OfTables.Tests.and_true, OfTables.TableKeys.at_is, OfTables.TableKeys.is_at_self}
+use Rattle.hotel_core.proofs.{OfTables.RowTests.found_passes, OfTables.RowTests.all_weaker, OfTables.RowTests.both, Starts.StartOrder.found_later}
 use Rattle.hotel_core.proofs.Starts.StartCodes.{orders, room_is, counted, lock_within, room_there_is}
-use Rattle.hotel_core.proofs.Starts.StartRules.{le_from, some_of}
-use Rattle.hotel_core.proofs.Starts.StartNotes.{nothing_noted_at_start}
+use Rattle.hotel_core.proofs.{Starts.StartRules.le_from, Starts.StartRules.some_of, Starts.StartNotes.nothing_noted_at_start}
 
 -- a room and its kind
 abbrev with_kind : List (ℕ × RoomRow) → List (ℕ × List ℕ)

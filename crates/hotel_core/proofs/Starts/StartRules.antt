@@ -1,11 +1,6 @@
 -- What a test of all rows of a table tells of a row that is found there.
-use Rattle.std.proofs.Common.{ℕ, ◌≡◌, ◌≤◌, ◌<◌, Bool, true, false, Option, Some, None, refl, ap, sym, ◌∙◌, arith}
-use Rattle.std.specs.Prelude.{◌==◌, nat_le, nat_lt, is_some}
-use Rattle.std.proofs.lemmas.Bool.Decides.{nat_tests}
-use Rattle.keycard_rules.specs.declared.card.Link.{Link}
-use Rattle.hotel_core.specs.Model.Words.{said_of, is_that}
-use Rattle.hotel_core.specs.Model.Notes.{same_link}
-use Rattle.hotel_core.proofs.OfTables.Tests.{eq_from, and_true, not_both}
+use Rattle.std.proofs.Common.{ℕ, ◌≡◌, ◌≤◌, ◌<◌, Bool, true, false, Option, Some, None, refl, ap, sym, ◌∙◌, arith, ◌==◌, nat_le, nat_lt, is_some}
+use Rattle.hotel_core.proofs.{Names.nat_tests, Names.Link, Names.said_of, Names.is_that, Names.same_link, OfTables.Tests.eq_from, OfTables.Tests.and_true, OfTables.Tests.not_both}
 
 pub le_from : (a b : ℕ) → nat_le a b ≡ true → a ≤ b
 le_from a b e = grind (arith, nat_tests)

@@ -1,22 +1,9 @@
 -- What a search for a place among the codes of sound rows finds.
-use Rattle.std.proofs.Common.{ℕ, ◌≡◌, ◌≤◌, Bool, true, false, cond, Option, Some, None, List, [], ◌∷◌, ◌++◌, length, refl, ap, sym, ◌∙◌, arith, length-append}
-use Rattle.std.specs.Prelude.{◌==◌, ◌&&◌}
-use Rattle.std.specs.Ordering.{nat_cmp}
-use Rattle.std.specs.BTreeMap.{is_at}
-use Rattle.std.specs.Map.{keys_of}
-use Rattle.hotel_core.specs.declared.books.rows.CodeRow.{CodeRow}
-use Rattle.hotel_core.specs.Model.Rows.{Rows, at_number, codes_at}
-use Rattle.hotel_core.specs.Books.Lookups.{first_code_at}
-use Rattle.hotel_core.specs.Model.History.{start}
-use Rattle.hotel_core.specs.Model.Sound.{IsSound}
-use Rattle.hotel_core.proofs.Facts.CodeFacts.{CodesAreFound}
-use Rattle.hotel_core.proofs.OfTables.KeysInOrder.{InOrder}
-use Rattle.hotel_core.proofs.OfTables.CodeLists.{cut_alike}
-use Rattle.hotel_core.proofs.OfTables.Tests.{eq_from, eq_self, and_true}
-use Rattle.hotel_core.proofs.OfTables.TableKeys.{is_at_self}
-use Rattle.hotel_core.proofs.Starts.StartOrder.{found_later}
-use Rattle.hotel_core.proofs.Starts.StartCodes.{orders, row_is_place, place_is_row}
-use Rattle.hotel_core.proofs.Starts.StartPlaces.{none_or}
+use Rattle.std.proofs.Common.{ℕ, ◌≡◌, ◌≤◌, Bool, true, false, cond, Option, Some, None, List, [], ◌∷◌, ◌++◌, length, refl, ap, sym, ◌∙◌, arith, length-append, ◌==◌, ◌&&◌, nat_cmp}
+use Rattle.hotel_core.proofs.Names.{is_at, keys_of, CodeRow, Rows, at_number, codes_at, first_code_at, start, IsSound}
+use Rattle.hotel_core.proofs.{Facts.CodeFacts.CodesAreFound, OfTables.KeysInOrder.InOrder, OfTables.CodeLists.cut_alike}
+use Rattle.hotel_core.proofs.{OfTables.Tests.eq_from, OfTables.Tests.eq_self, OfTables.Tests.and_true, OfTables.TableKeys.is_at_self, Starts.StartOrder.found_later}
+use Rattle.hotel_core.proofs.{Starts.StartCodes.orders, Starts.StartCodes.row_is_place, Starts.StartCodes.place_is_row, Starts.StartPlaces.none_or}
 
 here_by : (b : Bool) (e : ℕ × CodeRow) (es : List (ℕ × CodeRow)) (room place code : ℕ) → (b ≡ true → (e.1.room ≡ room) × (e.1.place ≡ place))
     → (first_code_at es room place ≡ Some code → at_number (e ∷ es) code ≡ Some (record { room = room; place = place })) → cond b (Some e.0) (first_code_at es room place) ≡ Some code

@@ -1,23 +1,10 @@
 -- Secured rooms of sound rows: nothing is awaited there, and the cards inside have the newest link.
-use Rattle.std.proofs.Common.{ℕ, ◌≡◌, ◌≤◌, ◌-◌, ◌+◌, Bool, true, false, Some, List, [], ◌∷◌, length, inl, inr, refl, ap, sym, ◌∙◌, arith}
-use Rattle.std.specs.Prelude.{◌==◌, ◌&&◌, ◌||◌, not, nat_le, is_some}
-use Rattle.std.specs.List.{list_all}
+use Rattle.std.proofs.Common.{ℕ, ◌≡◌, ◌≤◌, ◌-◌, ◌+◌, Bool, true, false, Some, List, [], ◌∷◌, length, inl, inr, refl, ap, sym, ◌∙◌, arith, ◌==◌, ◌&&◌, ◌||◌, not, nat_le, is_some}
+use Rattle.hotel_core.proofs.Names.{list_all, RoomRow, Card, is_one_of, Rows, at_number, codes_at, lock_place_of, last_link_of, start, those_in, secured, room_is, card_is, code_is, stands_at, is_newest, fits_inside, IsSound}
 use Rattle.std.proofs.Math.ListN.{drop_of_length-le}
-use Rattle.hotel_core.specs.declared.books.rows.RoomRow.{RoomRow}
-use Rattle.keycard_rules.specs.declared.card.Card.{Card}
-use Rattle.hotel_core.specs.Model.Words.{is_one_of}
-use Rattle.hotel_core.specs.Model.Rows.{Rows, at_number, codes_at, lock_place_of, last_link_of}
-use Rattle.hotel_core.specs.Model.History.{start}
-use Rattle.hotel_core.specs.Model.Guests.{those_in, secured}
-use Rattle.hotel_core.specs.Model.SoundCards.{room_is, card_is, code_is, stands_at, is_newest, fits_inside}
-use Rattle.hotel_core.specs.Model.Sound.{IsSound}
-use Rattle.hotel_core.proofs.Facts.CodeFacts.{SecuredRoomsFit}
-use Rattle.hotel_core.proofs.OfTables.Tests.{eq_from, and_true, or_second, not_both}
-use Rattle.hotel_core.proofs.Invariants.InsideRooms.{one_of_when}
-use Rattle.hotel_core.proofs.OfTables.RowTests.{found_passes}
-use Rattle.hotel_core.proofs.Starts.StartRules.{said_true, said_at, le_from}
-use Rattle.hotel_core.proofs.Starts.StartCodes.{room_there_is, counted, lock_within}
-use Rattle.hotel_core.proofs.Starts.StartLinks.{newest_by_rule}
+use Rattle.hotel_core.proofs.{Facts.CodeFacts.SecuredRoomsFit, OfTables.Tests.eq_from, OfTables.Tests.and_true, OfTables.Tests.or_second, OfTables.Tests.not_both}
+use Rattle.hotel_core.proofs.{Invariants.InsideRooms.one_of_when, OfTables.RowTests.found_passes, Starts.StartRules.said_true, Starts.StartRules.said_at, Starts.StartRules.le_from}
+use Rattle.hotel_core.proofs.{Starts.StartCodes.room_there_is, Starts.StartCodes.counted, Starts.StartCodes.lock_within, Starts.StartLinks.newest_by_rule}
 
 -- a card inside a room passes the test of all insides
 pub inside_passes : (test : ℕ × ℕ → Bool) (es : List (ℕ × ℕ)) (r n : ℕ) → list_all test es ≡ true → is_one_of n (those_in es r) ≡ true → test (r, n) ≡ true

@@ -1,12 +1,6 @@
 -- A list of pairs whose numbers count up: the pair of a number is the one of that place.
-use Rattle.std.proofs.Common.{ℕ, ◌≡◌, ◌<◌, ◌+◌, Bool, true, false, cond, Option, Some, None, List, [], ◌∷◌, ◌++◌, length, refl, ap, ◌∙◌, arith}
-use Rattle.std.specs.Prelude.{◌==◌}
-use Rattle.std.specs.Ordering.{nat_cmp}
-use Rattle.std.specs.BTreeMap.{is_at}
-use Rattle.std.specs.Map.{keys_of, values_of}
-use Rattle.hotel_core.specs.Model.Rows.{at_number}
-use Rattle.hotel_core.specs.Model.SoundRooms.{count_up}
-use Rattle.hotel_core.proofs.OfTables.Tests.{eq_from, eq_self, and_true}
+use Rattle.std.proofs.Common.{ℕ, ◌≡◌, ◌<◌, ◌+◌, Bool, true, false, cond, Option, Some, None, List, [], ◌∷◌, ◌++◌, length, refl, ap, ◌∙◌, arith, ◌==◌, nat_cmp}
+use Rattle.hotel_core.proofs.{Names.is_at, Names.keys_of, Names.values_of, Names.at_number, Names.count_up, OfTables.Tests.eq_from, OfTables.Tests.eq_self, OfTables.Tests.and_true}
 use Rattle.hotel_core.proofs.OfTables.TableKeys.{at_is, same_number}
 
 -- the value stands in the list, after so many others

@@ -6,14 +6,10 @@ use Rattle.std.specs.BTreeMap.{insert_entry, is_at}
 use Rattle.std.specs.BTreeSet.{insert_key}
 use Rattle.std.specs.Set.{remove_key}
 use Rattle.hotel_nights.specs.declared.stay.StayState.TheVariants as state
-use Rattle.hotel_core.specs.declared.books.rows.RoomRow.{RoomRow}
-use Rattle.hotel_core.specs.declared.books.change.InsideMove.{InsideMove}
+use Rattle.hotel_core.specs.{declared.books.rows.RoomRow.RoomRow, declared.books.change.InsideMove.InsideMove, declared.books.change.Change.Change}
 use Rattle.hotel_core.specs.declared.books.change.InsideMove.TheVariants.{Same, Goes, Comes}
-use Rattle.hotel_core.specs.declared.books.change.Change.{Change}
 use Rattle.hotel_core.specs.declared.books.change.Change.TheVariants.{Begin, DayTo, Kind, Room, Reserved, Cancelled, Issue, Spare, CheckedOut, Noted}
-use Rattle.hotel_core.specs.Model.Words.{said_of, pair_cmp}
-use Rattle.hotel_core.specs.Model.Rows.{Rows, at_number}
-use Rattle.hotel_core.specs.Model.Stays.{in_state}
+use Rattle.hotel_core.specs.{Model.Words.said_of, Model.Words.pair_cmp, Model.Rows.Rows, Model.Rows.at_number, Model.Stays.in_state}
 
 -- the rooms, with f done to the row of a number
 abbrev pub room_changed : ℕ → (RoomRow → RoomRow) → List (ℕ × RoomRow) → List (ℕ × RoomRow)

@@ -1,11 +1,8 @@
 -- Failures of memory and of the store: those that stand in replies, and how the books counted them.
 use Rattle.std.specs.Prelude.{ℕ, ◌+◌, List, [], ◌∷◌, ◌++◌}
-use Rattle.keycard_rules.specs.Rise.{HasRisenBy}
-use Rattle.keycard_rules.specs.declared.issued.LookFault.{LookFault}
+use Rattle.keycard_rules.specs.{Rise.HasRisenBy, declared.issued.LookFault.LookFault}
 use Rattle.keycard_rules.specs.declared.issued.LookFault.TheVariants as look
-use Rattle.hotel_core.specs.declared.reply.Reply.{Reply}
-use Rattle.hotel_core.specs.declared.reply.Reply.TheVariants.{Refused}
-use Rattle.hotel_core.specs.declared.reply.Refusal.{Refusal}
+use Rattle.hotel_core.specs.{declared.reply.Reply.Reply, declared.reply.Reply.TheVariants.Refused, declared.reply.Refusal.Refusal}
 use Rattle.hotel_core.specs.declared.reply.Refusal.TheVariants.{Memory, Store}
 
 -- The failure that a reply tells, if it tells one.

@@ -1,13 +1,10 @@
 -- When a change fits the rows.
 use Rattle.std.specs.Prelude.{◌≡◌, ◌<◌, ◌-◌, ◌^◌, ◌+◌, Bool, true, false, None, IsSome, length}
-use Rattle.hotel_core.specs.declared.books.change.Change.{Change}
+use Rattle.hotel_core.specs.{declared.books.change.Change.Change, Model.Words.said_of, Model.Rows.Rows, Model.Rows.has_kind}
 use Rattle.hotel_core.specs.declared.books.change.Change.TheVariants as change
 use Rattle.hotel_nights.specs.declared.stay.StayState.TheVariants as state
 use Rattle.hotel_nights.specs.FullNight.{is_standing}
-use Rattle.hotel_core.specs.Model.Words.{said_of}
-use Rattle.hotel_core.specs.Model.Rows.{Rows, has_kind}
-use Rattle.hotel_core.specs.Books.Lookups.{room_at, code_place, stay_at, note_at}
-use Rattle.hotel_core.specs.Books.Change.{made, codes_of}
+use Rattle.hotel_core.specs.{Books.Lookups.room_at, Books.Lookups.code_place, Books.Lookups.stay_at, Books.Lookups.note_at, Books.Change.made, Books.Change.codes_of}
 use Rattle.hotel_core.specs.Model.Sound.{IsSound}
 
 -- The rows that the change names are there, and those that it adds are new; parties and cards are numbered on.

@@ -1,16 +1,11 @@
 -- What the look-ups of the books answer, read off the rows.
-use Rattle.std.specs.Prelude.{ℕ, Bool, List, [], ◌∷◌, Option, Some, None, ◌+◌, ◌==◌, ◌&&◌, if◌then◌else◌, nat_lt, filter, bytes_eq}
+use Rattle.std.specs.Prelude.{ℕ, List, [], ◌∷◌, Option, Some, None, ◌+◌, ◌==◌, ◌&&◌, if◌then◌else◌, nat_lt, filter, bytes_eq}
 use Rattle.std.specs.List.{count_by}
 use Rattle.std.specs.Map.{lookup, keys_of, values_of}
 use Rattle.std.specs.BTreeMap.{is_at}
-use Rattle.keycard_rules.specs.declared.card.Card.{Card}
-use Rattle.keycard_rules.specs.Note.{Note}
-use Rattle.hotel_nights.specs.declared.stay.Stay.{Stay}
-use Rattle.hotel_nights.specs.FullNight.{is_full, first_day}
-use Rattle.hotel_core.specs.declared.books.rows.RoomRow.{RoomRow}
-use Rattle.hotel_core.specs.declared.books.rows.CodeRow.{CodeRow}
-use Rattle.hotel_core.specs.Model.Words.{pair_cmp}
-use Rattle.hotel_core.specs.Model.Rows.{Rows, at_number}
+use Rattle.keycard_rules.specs.{declared.card.Card.Card, Note.Note}
+use Rattle.hotel_nights.specs.{declared.stay.Stay.Stay, FullNight.is_full, FullNight.first_day}
+use Rattle.hotel_core.specs.{declared.books.rows.RoomRow.RoomRow, declared.books.rows.CodeRow.CodeRow, Model.Words.pair_cmp, Model.Rows.Rows, Model.Rows.at_number}
 use Rattle.hotel_core.specs.Model.Guests.{those_in}
 
 abbrev pub room_at : Rows → ℕ → Option RoomRow

@@ -1,8 +1,6 @@
 -- What a look-up of the books promises.
-use Rattle.std.specs.Prelude.{ℕ, ◌≡◌, Bool, false, Result, Err, IfOk, IfErr, OnErr, IsOk}
-use Rattle.keycard_rules.specs.Rise.{HasRisen, NoFewer}
-use Rattle.keycard_rules.specs.declared.issued.LookFault.{LookFault}
-use Rattle.keycard_rules.specs.declared.issued.LookFault.TheVariants.{Memory}
+use Rattle.std.specs.Prelude.{◌≡◌, Bool, false, Result, IfOk, IfErr, IsOk}
+use Rattle.keycard_rules.specs.{Rise.HasRisen, Rise.NoFewer, declared.issued.LookFault.LookFault}
 use Rattle.keycard_rules.specs.declared.issued.Issued.{Ghosts as IssuedOf}
 
 -- A look-up from the state old to new: where the test of the state holds at its end, its answer says what is wanted and it leaves what a look-up may leave; it fails only where a failure of that cause was counted. In memory no store fails, and a look-up that takes no memory doesn't fail at all.

@@ -1,11 +1,9 @@
 -- What a walk over the rows of a list hands to a sink.
-use Rattle.std.specs.Prelude.{ℕ, ◌≡◌, ◌≤◌, Bool, true, false, List, [], ◌∷◌, ◌++◌, Result, Ok, Err, Option, Some, None, IfSome}
-use Rattle.keycard_rules.specs.declared.issued.LookFault.{LookFault}
+use Rattle.std.specs.Prelude.{◌≡◌, Bool, false, List, [], ◌∷◌, ◌++◌, Result, Ok, Err, Option, Some, None, IfSome}
+use Rattle.keycard_rules.specs.{declared.issued.LookFault.LookFault, Rise.HasRisen, Rise.NoFewer, declared.issued.Issued.Ghosts as IssuedOf}
 use Rattle.keycard_rules.specs.declared.issued.LookFault.TheVariants as look
-use Rattle.keycard_rules.specs.Rise.{HasRisen, NoFewer}
 use Rattle.hotel_core.specs.declared.books.walks.WalkFault.{WalkFault}
 use Rattle.hotel_core.specs.declared.books.walks.WalkFault.TheVariants as why
-use Rattle.keycard_rules.specs.declared.issued.Issued.{Ghosts as IssuedOf}
 
 -- The sink took the rows one after the other, and went from one meaning to another along them.
 abbrev pub Takes : {S R : Type 0} → (S → R → S → Type 0) → List R → S → S → Type 0

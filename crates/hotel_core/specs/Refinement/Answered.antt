@@ -1,12 +1,7 @@
 -- What comes of a command on rows, whichever command it was.
 use Rattle.std.specs.Prelude.{ℕ, ◌≡◌, List, Some}
-use Rattle.hotel_core.specs.declared.books.change.Change.{Change}
-use Rattle.hotel_core.specs.declared.command.Command.{Command}
-use Rattle.hotel_core.specs.declared.reply.Reply.{Reply}
-use Rattle.hotel_core.specs.Model.Rows.{Rows}
-use Rattle.hotel_core.specs.Model.Ranges.{IsCommand}
-use Rattle.hotel_core.specs.Refinement.OnRows.{outcome_on}
-use Rattle.hotel_core.specs.Model.Outcome.{Outcome}
+use Rattle.hotel_core.specs.{declared.books.change.Change.Change, declared.command.Command.Command, declared.reply.Reply.Reply, Model.Rows.Rows, Model.Ranges.IsCommand}
+use Rattle.hotel_core.specs.{Refinement.OnRows.outcome_on, Model.Outcome.Outcome}
 
 -- This comes of some command on these rows, with some words ahead in the source.
 abbrev pub IsOutcome : Rows → Outcome Change → Type 0

@@ -3,16 +3,11 @@ use Rattle.std.specs.Prelude.{ℕ, Bool, true, false, None, ◌+◌, length}
 use Rattle.keycard_rules.specs.Note.{Note}
 use Rattle.keycard_rules.specs.declared.note.Act.TheVariants as act
 use Rattle.hotel_nights.specs.declared.stay.StayState.TheVariants as state
-use Rattle.hotel_core.specs.declared.books.change.InsideMove.{InsideMove}
+use Rattle.hotel_core.specs.{declared.books.change.InsideMove.InsideMove, declared.books.change.Change.Change, Model.Words.said_of, Model.Words.is_one_of}
 use Rattle.hotel_core.specs.declared.books.change.InsideMove.TheVariants.{Same, Goes, Comes}
-use Rattle.hotel_core.specs.declared.books.change.Change.{Change}
 use Rattle.hotel_core.specs.declared.books.change.Change.TheVariants as change
-use Rattle.hotel_core.specs.Model.Words.{said_of, is_one_of}
 use Rattle.hotel_core.specs.Model.Event.{Event, Begun, Kind, Install, Reserved, Cancelled, CheckIn, Transfer, Spare, CheckOut, NextDay, Entered, Left, Recoded}
-use Rattle.hotel_core.specs.Model.History.{History, ◌▷◌}
-use Rattle.hotel_core.specs.Model.Cards.{card_of, link_to}
-use Rattle.hotel_core.specs.Model.Ledger.{passed}
-use Rattle.hotel_core.specs.Model.Guests.{inside, secured}
+use Rattle.hotel_core.specs.{Model.History.History, Model.History.◌▷◌, Model.Cards.card_of, Model.Cards.link_to, Model.Ledger.passed, Model.Guests.inside, Model.Guests.secured}
 use Rattle.hotel_core.specs.Model.Cases.{today, room_of, last_card_of}
 
 -- what a note leaves of its room's row, and who moves

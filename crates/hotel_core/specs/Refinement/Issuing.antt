@@ -2,19 +2,12 @@
 use Rattle.std.specs.Prelude.{ℕ, ◌<◌, ◌+◌, ◌-◌, ◌^◌, List, [], ◌∷◌, Option, IsSome, is_some, is_none, nat_lt, nat_le, bytes_eq, length}
 use Rattle.keycard_rules.specs.declared.card.Link.{Link}
 use Rattle.hotel_nights.specs.declared.stay.Stay.{Stay}
-use Rattle.hotel_core.specs.declared.books.change.Change.{Change}
+use Rattle.hotel_core.specs.{declared.books.change.Change.Change, declared.reply.Refusal.Refusal, declared.books.rows.RoomRow.RoomRow, Model.Words.is_that}
 use Rattle.hotel_core.specs.declared.books.change.Change.TheVariants as change
 use Rattle.hotel_core.specs.declared.reply.Reply.TheVariants as reply
-use Rattle.hotel_core.specs.declared.reply.Refusal.{Refusal}
 use Rattle.hotel_core.specs.declared.reply.Refusal.TheVariants.{NotBooked, TooEarly, StayOver, WrongKind, SameRoom, RoomTaken, NumbersUsedUp}
-use Rattle.hotel_core.specs.declared.books.rows.RoomRow.{RoomRow}
-use Rattle.hotel_core.specs.Model.Words.{is_that}
-use Rattle.hotel_core.specs.Model.Cases.{is_booked_state}
-use Rattle.hotel_core.specs.Model.Rows.{Rows}
-use Rattle.hotel_core.specs.Books.Lookups.{room_at, code_at, number_after}
-use Rattle.hotel_core.specs.Model.Cards.{card_of}
-use Rattle.hotel_core.specs.Books.Change.{codes_of}
-use Rattle.hotel_core.specs.Model.Outcome.{Outcome, needs, bars, unless}
+use Rattle.hotel_core.specs.{Model.Cases.is_booked_state, Model.Rows.Rows, Books.Lookups.room_at, Books.Lookups.code_at, Books.Lookups.number_after, Model.Cards.card_of}
+use Rattle.hotel_core.specs.{Books.Change.codes_of, Model.Outcome.Outcome, Model.Outcome.needs, Model.Outcome.bars, Model.Outcome.unless}
 use Rattle.hotel_core.specs.Refinement.OnRows.{with_fresh_on, link_on, said_code_at}
 
 -- a card of a new code for a party at a room, where a number is left; the party may leave another room

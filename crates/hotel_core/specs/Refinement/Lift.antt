@@ -1,21 +1,9 @@
 -- What the books compute on rows, lifted to what the desk answers after a history.
 use Rattle.std.specs.Prelude.{ℕ, ◌≡◌, List, option_map}
 use Rattle.rand_core.specs.Stream.{Stream}
-use Rattle.hotel_core.specs.declared.books.change.Change.{Change}
-use Rattle.hotel_core.specs.declared.command.Command.{Command}
-use Rattle.hotel_core.specs.declared.reply.Reply.{Reply}
-use Rattle.hotel_core.specs.Model.Rows.{Rows}
-use Rattle.hotel_core.specs.Model.Event.{Event}
-use Rattle.hotel_core.specs.Model.Ranges.{IsCommand}
-use Rattle.hotel_core.specs.Model.History.{History, ◌▷◌}
-use Rattle.hotel_core.specs.Model.RowsOf.{rows_of}
-use Rattle.hotel_core.specs.Model.Outcome.{Outcome}
-use Rattle.hotel_core.specs.Model.Answer.{answer_to}
-use Rattle.hotel_core.specs.Model.Headline.{Assured}
-use Rattle.hotel_core.specs.Model.Run.{Reached, StandsFor, Runs}
-use Rattle.hotel_core.specs.Books.Change.{made}
-use Rattle.hotel_core.specs.Books.Fits.{Fits}
-use Rattle.hotel_core.specs.Refinement.ChangeOf.{change_of}
+use Rattle.hotel_core.specs.{declared.books.change.Change.Change, declared.command.Command.Command, declared.reply.Reply.Reply, Model.Rows.Rows, Model.Event.Event}
+use Rattle.hotel_core.specs.{Model.Ranges.IsCommand, Model.History.History, Model.History.◌▷◌, Model.RowsOf.rows_of, Model.Outcome.Outcome, Model.Answer.answer_to}
+use Rattle.hotel_core.specs.{Model.Headline.Assured, Model.Run.Reached, Model.Run.StandsFor, Model.Run.Runs, Books.Change.made, Books.Fits.Fits, Refinement.ChangeOf.change_of}
 use Rattle.hotel_core.specs.Refinement.OnRows.{outcome_on}
 
 -- The outcome, with the change of the books in place of the event.

@@ -1,8 +1,6 @@
 -- The rows of the lists that the books compute are those of the history.
 use Rattle.std.specs.Prelude.{ℕ, ◌≡◌, true}
-use Rattle.hotel_core.specs.Model.History.{History}
-use Rattle.hotel_core.specs.Model.RowsOf.{rows_of}
-use Rattle.hotel_core.specs.Model.Cases.{is_room}
+use Rattle.hotel_core.specs.{Model.History.History, Model.RowsOf.rows_of, Model.Cases.is_room}
 use Rattle.hotel_core.specs.Model.Lists.{arrivals, in_house, chain, left_behind, audit_of}
 use Rattle.hotel_core.specs.Refinement.ListsOnRows.{arrivals_on, in_house_on, chain_on, left_behind_on, audit_on}
 

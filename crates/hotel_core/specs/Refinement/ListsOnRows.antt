@@ -4,16 +4,10 @@ use Rattle.std.specs.List.{range_with_len}
 use Rattle.std.specs.Map.{values_of}
 use Rattle.keycard_rules.specs.Note.{Note}
 use Rattle.hotel_nights.specs.declared.stay.Stay.{Stay}
-use Rattle.hotel_core.specs.declared.books.rows.RoomRow.{RoomRow}
-use Rattle.hotel_core.specs.declared.books.list_rows.HouseRow.{HouseRow}
-use Rattle.hotel_core.specs.declared.books.list_rows.ChainRow.{ChainRow}
-use Rattle.hotel_core.specs.declared.books.list_rows.BehindRow.{BehindRow}
-use Rattle.hotel_core.specs.declared.books.list_rows.CodeState.{CodeState}
+use Rattle.hotel_core.specs.{declared.books.rows.RoomRow.RoomRow, declared.books.list_rows.HouseRow.HouseRow, declared.books.list_rows.ChainRow.ChainRow}
+use Rattle.hotel_core.specs.{declared.books.list_rows.BehindRow.BehindRow, declared.books.list_rows.CodeState.CodeState, Model.Words.said_of, Model.Cases.is_booked_state}
 use Rattle.hotel_core.specs.declared.books.list_rows.CodeState.TheVariants.{Passed, Held, Awaited}
-use Rattle.hotel_core.specs.Model.Words.{said_of}
-use Rattle.hotel_core.specs.Model.Cases.{is_booked_state}
-use Rattle.hotel_core.specs.Model.Rows.{Rows, notes_at}
-use Rattle.hotel_core.specs.Books.Lookups.{room_at, stay_at, code_at}
+use Rattle.hotel_core.specs.{Model.Rows.Rows, Model.Rows.notes_at, Books.Lookups.room_at, Books.Lookups.stay_at, Books.Lookups.code_at}
 
 -- a booked stay that takes the night of a day
 abbrev pub arrives_on : ℕ → Stay → Bool

@@ -1,16 +1,10 @@
 -- A note of a lock that is the next one of its room.
-use Rattle.std.specs.Prelude.{ℕ, ◌≡◌, Bool, true, Some, None, ◌+◌, ◌==◌, ◌&&◌, List, if◌then◌else◌}
-use Rattle.keycard_rules.specs.declared.card.Link.{Link}
-use Rattle.keycard_rules.specs.Note.{Note}
-use Rattle.hotel_core.specs.declared.books.change.Change.{Change}
+use Rattle.std.specs.Prelude.{ℕ, ◌≡◌, Bool, true, Some, None, ◌+◌, ◌==◌, ◌&&◌, if◌then◌else◌}
+use Rattle.keycard_rules.specs.{declared.card.Link.Link, Note.Note}
+use Rattle.hotel_core.specs.{declared.books.change.Change.Change, declared.books.rows.RoomRow.RoomRow, Model.Words.is_one_of, Model.Rows.Rows, Refinement.ChangeOf.comes}
 use Rattle.hotel_core.specs.declared.books.change.Change.TheVariants as change
 use Rattle.hotel_core.specs.declared.reply.Reply.TheVariants as reply
-use Rattle.hotel_core.specs.declared.books.rows.RoomRow.{RoomRow}
-use Rattle.hotel_core.specs.Model.Words.{is_one_of}
-use Rattle.hotel_core.specs.Model.Rows.{Rows}
-use Rattle.hotel_core.specs.Refinement.ChangeOf.{comes}
-use Rattle.hotel_core.specs.Books.Lookups.{room_at, inside_at, note_at}
-use Rattle.hotel_core.specs.Refinement.OnRows.{place_on, secured_after_on}
+use Rattle.hotel_core.specs.{Books.Lookups.room_at, Books.Lookups.inside_at, Books.Lookups.note_at, Refinement.OnRows.place_on, Refinement.OnRows.secured_after_on}
 use Rattle.hotel_core.specs.Model.Outcome.{Outcome, accepted}
 
 -- the note's room is there with this row, and no note of its count was taken

@@ -1,31 +1,18 @@
 -- What comes of each command, by the look-ups of the rows: the columns of the answers once more, in the terms in which the code asks.
 use Rattle.std.specs.Prelude.{ℕ, Bool, true, false, List, [], ◌∷◌, Option, Some, None, ◌+◌, ◌-◌, ◌==◌, ◌&&◌, if◌then◌else◌, nat_lt, nat_le, is_some, is_none, option_map, length, bytes_eq}
-use Rattle.keycard_rules.specs.declared.card.Link.{Link}
-use Rattle.keycard_rules.specs.declared.note.Act.{Act}
+use Rattle.keycard_rules.specs.{declared.card.Link.Link, declared.note.Act.Act, Note.Note, Lock.turn, Draw.draw_from}
 use Rattle.keycard_rules.specs.declared.note.Act.TheVariants as act
-use Rattle.keycard_rules.specs.Note.{Note}
-use Rattle.keycard_rules.specs.Lock.{turn}
-use Rattle.keycard_rules.specs.Draw.{draw_from}
 use Rattle.hotel_nights.specs.declared.stay.Stay.{Stay}
 use Rattle.hotel_nights.specs.declared.stay.StayState.TheVariants as state
-use Rattle.hotel_core.specs.declared.books.change.Change.{Change}
+use Rattle.hotel_core.specs.{declared.books.change.Change.Change, declared.books.change.InsideMove.TheVariants.Same, declared.books.change.InsideMove.TheVariants.Goes}
 use Rattle.hotel_core.specs.declared.books.change.Change.TheVariants as change
-use Rattle.hotel_core.specs.declared.books.change.InsideMove.TheVariants.{Same, Goes}
-use Rattle.hotel_core.specs.declared.command.Command.{Command}
+use Rattle.hotel_core.specs.{declared.command.Command.Command, declared.reply.Reply.Reply, declared.reply.Refusal.Refusal, declared.books.rows.RoomRow.RoomRow}
 use Rattle.hotel_core.specs.declared.command.Command.TheVariants as command
-use Rattle.hotel_core.specs.declared.reply.Reply.{Reply}
 use Rattle.hotel_core.specs.declared.reply.Reply.TheVariants as reply
-use Rattle.hotel_core.specs.declared.reply.Refusal.{Refusal}
 use Rattle.hotel_core.specs.declared.reply.Refusal.TheVariants.{NotBegun, AlreadyBegun, KindExists, NoKind, RoomExists, NoRoom, NoParty, NotBooked, NotInHouse, TooEarly, StayOver, WrongKind, SameRoom, RoomTaken, PastArrival, PastEnd, KindFull, NumbersUsedUp, LastDay, Conflict, Gap, NoCard, CardDiffers, LockShut, NotInside, HeldDiffers, NotAwaited}
-use Rattle.hotel_core.specs.declared.books.rows.RoomRow.{RoomRow}
-use Rattle.hotel_core.specs.Model.Words.{said_of, is_one_of, is_that}
-use Rattle.hotel_core.specs.Model.Rows.{Rows, has_kind}
-use Rattle.hotel_core.specs.Model.Guests.{are_none}
-use Rattle.hotel_core.specs.Model.Notes.{same_note, same_link}
-use Rattle.hotel_core.specs.Model.Cards.{card_of}
-use Rattle.hotel_core.specs.Model.Cases.{is_booked_state, room_of_state, no_link}
-use Rattle.hotel_core.specs.Books.Change.{codes_of}
-use Rattle.hotel_core.specs.Refinement.ChangeOf.{comes}
+use Rattle.hotel_core.specs.{Model.Words.said_of, Model.Words.is_one_of, Model.Words.is_that, Model.Rows.Rows, Model.Rows.has_kind, Model.Guests.are_none}
+use Rattle.hotel_core.specs.{Model.Notes.same_note, Model.Notes.same_link, Model.Cards.card_of, Model.Cases.is_booked_state, Model.Cases.room_of_state, Model.Cases.no_link}
+use Rattle.hotel_core.specs.{Books.Change.codes_of, Refinement.ChangeOf.comes}
 use Rattle.hotel_core.specs.Books.Lookups.{room_at, codes_in, code_place, code_at, stay_at, card_at, inside_at, note_at, first_full_on, number_after}
 use Rattle.hotel_core.specs.Model.Outcome.{Outcome, needs, bars, unless, accepted, said, refused, by_draw}
 

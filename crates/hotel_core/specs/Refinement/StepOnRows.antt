@@ -1,21 +1,11 @@
 -- One step over books: it goes as the outcome says, or it fails and changes nothing.
 use Rattle.std.specs.Prelude.{ℕ, ◌≡◌, ◌≤◌, ◌<◌, ◌-◌, ◌^◌, Bool, true, false, Option, Some, None, IsSome}
-use Rattle.keycard_rules.specs.declared.issued.LookFault.{LookFault}
+use Rattle.keycard_rules.specs.{declared.issued.LookFault.LookFault, Draw.past, Draw.MovedAtMost, Rise.HasRisen, Rise.NoFewer, declared.card.Card.Card}
 use Rattle.rand_core.specs.Stream.{Stream}
-use Rattle.keycard_rules.specs.Draw.{past, MovedAtMost}
-use Rattle.keycard_rules.specs.Rise.{HasRisen, NoFewer}
-use Rattle.keycard_rules.specs.declared.card.Card.{Card}
-use Rattle.hotel_core.specs.declared.books.change.Change.{Change}
-use Rattle.hotel_core.specs.declared.reply.Reply.{Reply}
+use Rattle.hotel_core.specs.{declared.books.change.Change.Change, declared.reply.Reply.Reply, declared.books.rows.RoomRow.RoomRow, Model.Rows.Rows}
 use Rattle.hotel_core.specs.declared.reply.Reply.TheVariants as reply
-use Rattle.hotel_core.specs.declared.books.rows.RoomRow.{RoomRow}
-use Rattle.hotel_core.specs.Model.Rows.{Rows}
 use Rattle.hotel_core.specs.Books.Lookups.{room_at, code_at, code_place, card_at, note_at}
-use Rattle.hotel_core.specs.Books.Change.{made, codes_of}
-use Rattle.hotel_core.specs.Refinement.OnRows.{home_on}
-use Rattle.hotel_core.specs.Model.Outcome.{Outcome}
-use Rattle.hotel_core.specs.Model.Run.{is_failed}
-use Rattle.hotel_core.specs.Refinement.Finds.{refusal_of}
+use Rattle.hotel_core.specs.{Books.Change.made, Books.Change.codes_of, Refinement.OnRows.home_on, Model.Outcome.Outcome, Model.Run.is_failed, Refinement.Finds.refusal_of}
 use Rattle.keycard_rules.specs.declared.issued.Issued.{Ghosts as IssuedOf}
 use Rattle.hotel_core.specs.declared.books.Books.{Ghosts as BooksOf}
 

@@ -1,4 +1,7 @@
 //! The rows of the lists.
+ghost use Rattle.std.specs.Prelude.{◌≡◌};
+ghost use Rattle.hotel_core.specs.Refinement.ListsOnRows.{state_at};
+
 use hotel_nights::{Day, Guest, KindCode};
 use keycard_rules::{Code, PartyNo, RoomNo};
 
@@ -23,6 +26,21 @@ pub enum CodeState {
     Held,
     /// The lock has not taken it yet.
     Awaited,
+}
+
+impl CodeState {
+    /// How the code at a place stands, where the lock stands at another.
+    pub fn at(lock_place: u32, place: u32) -> CodeState
+        ensures { result ≡ state_at lock_place place }
+    {
+        if place < lock_place {
+            CodeState::Passed
+        } else if place == lock_place {
+            CodeState::Held
+        } else {
+            CodeState::Awaited
+        }
+    }
 }
 
 /// A code of a room.

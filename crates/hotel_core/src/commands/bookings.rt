@@ -2,13 +2,9 @@
 ghost use Rattle.std.specs.Prelude.{◌≡◌, ◌-◌, false, true, Option, Some};
 ghost use Rattle.rand_core.specs.Stream.{Stream};
 ghost use Rattle.keycard_rules.specs.Draw.{words};
-ghost use Rattle.hotel_core.specs.Books.Lookups.{first_full_on};
-ghost use Rattle.hotel_core.specs.Refinement.Finds.{Finds, AnyRows, reply_of};
-ghost use Rattle.hotel_core.specs.Refinement.OnRows.{outcome_on};
-ghost use Rattle.hotel_core.specs.Model.Ranges.{IsCommand};
-ghost use Rattle.hotel_core.specs.Refinement.StepOnRows.{StepsAs};
+ghost use Rattle.hotel_core.specs.{Books.Lookups.first_full_on, Refinement.Finds.Finds, Refinement.Finds.AnyRows, Refinement.Finds.reply_of, Refinement.OnRows.outcome_on};
+ghost use Rattle.hotel_core.specs.{Model.Ranges.IsCommand, Refinement.StepOnRows.StepsAs, declared.reply.Refusal.TheVariants.Store};
 ghost use Rattle.hotel_core.specs.declared.command.Command.TheVariants as command;
-ghost use Rattle.hotel_core.specs.declared.reply.Refusal.TheVariants.{Store};
 
 use crate::books::Books;
 use crate::books::change::Change;

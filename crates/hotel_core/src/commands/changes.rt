@@ -1,11 +1,7 @@
 //! The end of a command: its change is made.
 ghost use Rattle.std.specs.Prelude.{◌≡◌, false};
 ghost use Rattle.rand_core.specs.Stream.{Stream};
-ghost use Rattle.hotel_core.specs.Refinement.Answered.{IsAnswered};
-ghost use Rattle.hotel_core.specs.Books.Fits.{takes_memory};
-ghost use Rattle.hotel_core.specs.Refinement.Finds.{reply_of};
-ghost use Rattle.hotel_core.specs.Model.Outcome.{accepted};
-ghost use Rattle.hotel_core.specs.Model.Run.{is_failed};
+ghost use Rattle.hotel_core.specs.{Refinement.Answered.IsAnswered, Books.Fits.takes_memory, Refinement.Finds.reply_of, Model.Outcome.accepted, Model.Run.is_failed};
 ghost use Rattle.hotel_core.specs.Refinement.StepOnRows.{StepsAs};
 
 use crate::books::Books;

@@ -3,16 +3,10 @@ ghost use Rattle.std.specs.Prelude.{◌≡◌, ◌+◌, true, false, is_some, So
 ghost use Rattle.rand_core.specs.Stream.{Stream};
 ghost use Rattle.keycard_rules.specs.Lock.{turn};
 ghost use Rattle.keycard_rules.specs.declared.note.Act.TheVariants as act;
-ghost use Rattle.hotel_core.specs.Refinement.Answered.{IsOutcome};
-ghost use Rattle.hotel_core.specs.Refinement.Finds.{Finds, AnyRows, reply_of};
-ghost use Rattle.hotel_core.specs.Books.Lookups.{inside_at};
-ghost use Rattle.hotel_core.specs.Model.Guests.{are_none};
-ghost use Rattle.hotel_core.specs.declared.reply.Refusal.TheVariants.{Store};
-ghost use Rattle.hotel_core.specs.Refinement.Noting.{IsUntaken, opened_on, secured_by};
-ghost use Rattle.hotel_core.specs.Refinement.ChangeOf.{comes};
-ghost use Rattle.hotel_core.specs.Refinement.OnRows.{told_on, has_link_on};
-ghost use Rattle.hotel_core.specs.Refinement.StepOnRows.{StepsAs};
-ghost use Rattle.hotel_core.specs.Model.Words.{is_one_of};
+ghost use Rattle.hotel_core.specs.{Refinement.Answered.IsOutcome, Refinement.Finds.Finds, Refinement.Finds.AnyRows, Refinement.Finds.reply_of, Books.Lookups.inside_at};
+ghost use Rattle.hotel_core.specs.{Model.Guests.are_none, declared.reply.Refusal.TheVariants.Store};
+ghost use Rattle.hotel_core.specs.{Refinement.Noting.IsUntaken, Refinement.Noting.opened_on, Refinement.Noting.secured_by, Refinement.ChangeOf.comes};
+ghost use Rattle.hotel_core.specs.{Refinement.OnRows.told_on, Refinement.OnRows.has_link_on, Refinement.StepOnRows.StepsAs, Model.Words.is_one_of};
 
 use crate::books::Books;
 use crate::books::change::{Change, InsideMove};

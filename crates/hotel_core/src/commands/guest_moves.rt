@@ -2,11 +2,8 @@
 ghost use Rattle.std.specs.Prelude.{◌≡◌, false, Option, Some, None, bytes_eq};
 ghost use Rattle.rand_core.specs.Stream.{Stream};
 ghost use Rattle.keycard_rules.specs.Draw.{words};
-ghost use Rattle.hotel_core.specs.Model.Cases.{is_booked_state, room_of_state};
-ghost use Rattle.hotel_core.specs.Refinement.Finds.{reply_of, Passes};
-ghost use Rattle.hotel_core.specs.Refinement.Issuing.{bars_to_check_in, bars_to_transfer};
-ghost use Rattle.hotel_core.specs.Refinement.OnRows.{outcome_on};
-ghost use Rattle.hotel_core.specs.Refinement.StepOnRows.{StepsAs};
+ghost use Rattle.hotel_core.specs.{Model.Cases.is_booked_state, Model.Cases.room_of_state, Refinement.Finds.reply_of, Refinement.Finds.Passes};
+ghost use Rattle.hotel_core.specs.{Refinement.Issuing.bars_to_check_in, Refinement.Issuing.bars_to_transfer, Refinement.OnRows.outcome_on, Refinement.StepOnRows.StepsAs};
 ghost use Rattle.hotel_core.specs.declared.command.Command.TheVariants as command;
 
 use crate::books::Books;

@@ -2,10 +2,7 @@
 ghost use Rattle.std.specs.Prelude.{false};
 ghost use Rattle.rand_core.specs.Stream.{Stream};
 ghost use Rattle.keycard_rules.specs.Draw.{words};
-ghost use Rattle.hotel_core.specs.Refinement.Finds.{reply_of};
-ghost use Rattle.hotel_core.specs.Refinement.OnRows.{outcome_on};
-ghost use Rattle.hotel_core.specs.Model.Ranges.{IsCommand};
-ghost use Rattle.hotel_core.specs.Refinement.StepOnRows.{StepsAs};
+ghost use Rattle.hotel_core.specs.{Refinement.Finds.reply_of, Refinement.OnRows.outcome_on, Model.Ranges.IsCommand, Refinement.StepOnRows.StepsAs};
 ghost use Rattle.hotel_core.specs.declared.command.Command.TheVariants as command;
 
 use crate::books::Books;

@@ -1,12 +1,9 @@
 //! Cards of new codes.
 ghost use Rattle.std.specs.Prelude.{◌≡◌, ◌<◌, ◌-◌, ◌^◌, false, Option, Some, IsSome, OnOk};
 ghost use Rattle.keycard_rules.specs.Draw.{words};
-ghost use Rattle.hotel_core.specs.Refinement.Answered.{IsOutcome};
-ghost use Rattle.hotel_core.specs.Refinement.Finds.{Finds, reply_of};
+ghost use Rattle.hotel_core.specs.{Refinement.Answered.IsOutcome, Refinement.Finds.Finds, Refinement.Finds.reply_of};
 ghost use Rattle.hotel_core.specs.Refinement.Issuing.{issued_on, HasCurrent, HasLink, last_link_on};
-ghost use Rattle.hotel_core.specs.Books.Lookups.{room_at, code_at};
-ghost use Rattle.hotel_core.specs.Refinement.StepOnRows.{StepsAs};
-ghost use Rattle.hotel_core.specs.declared.reply.Refusal.TheVariants.{Store};
+ghost use Rattle.hotel_core.specs.{Books.Lookups.room_at, Books.Lookups.code_at, Refinement.StepOnRows.StepsAs, declared.reply.Refusal.TheVariants.Store};
 
 use crate::books::Books;
 use crate::books::change::Change;

@@ -4,8 +4,7 @@ ghost use Rattle.std.specs.Ordering.{nat_cmp};
 ghost use Rattle.std.specs.BTreeMap.{is_at, insert_entry};
 ghost use Rattle.std.specs.Map.{remove_entry, keys_of};
 ghost use Rattle.keycard_rules.specs.Draw.{is_one_of};
-ghost use Rattle.hotel_core.specs.Model.Rows.{at_number};
-ghost use Rattle.hotel_core.specs.Books.Lookups.{first_code_at};
+ghost use Rattle.hotel_core.specs.{Model.Rows.at_number, Books.Lookups.first_code_at};
 
 use crate::books::rows::CodeRow;
 use keycard_rules::{Code, Memory, RoomNo};
@@ -22,8 +21,7 @@ pub(crate) struct CodeTable {
 
 impl Model for CodeTable {
     ghost use Rattle.std.specs.Prelude.{ℕ, List};
-    ghost use Rattle.hotel_core.specs.declared.books.rows.CodeRow.{CodeRow};
-    ghost use Rattle.hotel_core.specs.Memory.{PlacesAgree};
+    ghost use Rattle.hotel_core.specs.{declared.books.rows.CodeRow.CodeRow, Memory.PlacesAgree};
 
     ghost Value = { List (ℕ × CodeRow) };
 

@@ -1,8 +1,6 @@
 //! The cards inside rooms, found by room.
 ghost use Rattle.std.specs.Prelude.{◌≡◌, ℕ, [], not, IfOk, OnOk, OnErr};
-ghost use Rattle.hotel_core.specs.Model.Words.{is_one_of};
-ghost use Rattle.hotel_core.specs.Model.Guests.{those_in, are_none};
-ghost use Rattle.hotel_core.specs.Books.Change.{moved};
+ghost use Rattle.hotel_core.specs.{Model.Words.is_one_of, Model.Guests.those_in, Model.Guests.are_none, Books.Change.moved};
 
 use crate::books::change::InsideMove;
 use keycard_rules::{CardNo, Memory, RoomNo};

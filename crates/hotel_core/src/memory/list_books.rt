@@ -1,12 +1,8 @@
 //! Books in memory.
 ghost use Rattle.std.specs.Prelude.{◌≡◌, Err, IfSome, refl};
 ghost use Rattle.std.proofs.Common.{ap, ◌∙◌};
-ghost use Rattle.keycard_rules.specs.Rise.{HasRisen, NoFewer, of_memory};
-ghost use Rattle.keycard_rules.specs.declared.issued.LookFault.TheVariants.{Memory};
-ghost use Rattle.hotel_core.specs.Model.Rows.{no_rows};
-ghost use Rattle.hotel_core.specs.Books.Lookups.{codes_in};
-ghost use Rattle.hotel_core.specs.Books.Walks.{failure_of};
-ghost use Rattle.hotel_core.specs.declared.books.walks.WalkFault.TheVariants.{Store};
+ghost use Rattle.keycard_rules.specs.{Rise.HasRisen, Rise.NoFewer, Rise.of_memory, declared.issued.LookFault.TheVariants.Memory};
+ghost use Rattle.hotel_core.specs.{Model.Rows.no_rows, Books.Lookups.codes_in, Books.Walks.failure_of, declared.books.walks.WalkFault.TheVariants.Store};
 
 use crate::books::Books;
 use crate::books::change::Change;
@@ -29,8 +25,7 @@ pub struct ListBooks {
 }
 
 impl Model for ListBooks {
-    ghost use Rattle.hotel_core.specs.Memory.{Listed};
-    ghost use Rattle.hotel_core.specs.Model.Sound.{IsSound};
+    ghost use Rattle.hotel_core.specs.{Memory.Listed, Model.Sound.IsSound};
 
     ghost Value = { Listed };
 

@@ -1,9 +1,6 @@
 //! Changes of rows that are there: they take no memory.
 ghost use Rattle.std.specs.Prelude.{◌≡◌, ℕ, ◌+◌, ◌-◌, ◌^◌, ◌<◌, Some, None, false};
-ghost use Rattle.hotel_core.specs.Model.Words.{said_of};
-ghost use Rattle.hotel_core.specs.Model.Rows.{at_number};
-ghost use Rattle.hotel_core.specs.Books.Change.{room_changed, without_party, left_by};
-ghost use Rattle.hotel_core.specs.Model.Stays.{in_state};
+ghost use Rattle.hotel_core.specs.{Model.Words.said_of, Model.Rows.at_number, Books.Change.room_changed, Books.Change.without_party, Books.Change.left_by, Model.Stays.in_state};
 
 use crate::books::rows::RoomRow;
 use hotel_nights::{Stay, StayState};

@@ -4,13 +4,10 @@
 //! Rows that are there are changed last, which takes no memory.
 ghost use Rattle.std.specs.Prelude.{◌≡◌, ℕ, ◌+◌, ◌-◌, ◌^◌, ◌<◌, length, Some, None, true, false, IsSome, OnOk, OnErr, IsOk};
 ghost use Rattle.hotel_core.specs.declared.books.change.Change.TheVariants as change;
-ghost use Rattle.hotel_core.specs.Books.Lookups.{room_at, code_place, stay_at, note_at};
-ghost use Rattle.hotel_core.specs.Books.Change.{made, codes_of};
+ghost use Rattle.hotel_core.specs.{Books.Lookups.room_at, Books.Lookups.code_place, Books.Lookups.stay_at, Books.Lookups.note_at, Books.Change.made, Books.Change.codes_of};
 ghost use Rattle.hotel_nights.specs.FullNight.{is_standing};
 ghost use Rattle.hotel_nights.specs.declared.stay.StayState.TheVariants as state;
-ghost use Rattle.hotel_core.specs.Model.Words.{said_of};
-ghost use Rattle.hotel_core.specs.Model.Rows.{has_kind};
-ghost use Rattle.hotel_core.specs.Books.Fits.{HasItsRows, takes_memory};
+ghost use Rattle.hotel_core.specs.{Model.Words.said_of, Model.Rows.has_kind, Books.Fits.HasItsRows, Books.Fits.takes_memory};
 
 use crate::books::change::{Change, InsideMove};
 use crate::books::rows::{CodeRow, RoomRow};

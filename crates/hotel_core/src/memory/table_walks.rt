@@ -1,9 +1,8 @@
 //! Walks over the tables in memory.
 ghost use Rattle.std.specs.Prelude.{◌≡◌, IfOk, Err, None, filter_map};
 ghost use Rattle.std.specs.List.{range_with_len};
-ghost use Rattle.hotel_core.specs.Refinement.ListsOnRows.{arrivals_on, arrives_on, in_house_on, chain_on, left_behind_on, audit_on, house_row_on, chain_row_on, behind_row_on, state_at};
-ghost use Rattle.hotel_core.specs.Books.Walks.{Hands, failure_of};
-ghost use Rattle.hotel_core.specs.declared.books.walks.WalkFault.TheVariants.{Store};
+ghost use Rattle.hotel_core.specs.Refinement.ListsOnRows.{arrivals_on, arrives_on, in_house_on, chain_on, left_behind_on, audit_on, house_row_on, chain_row_on, behind_row_on};
+ghost use Rattle.hotel_core.specs.{Books.Walks.Hands, Books.Walks.failure_of, declared.books.walks.WalkFault.TheVariants.Store};
 
 use crate::books::list_rows::{BehindRow, ChainRow, CodeState, HouseRow};
 use crate::books::rows::RoomRow;
@@ -12,19 +11,6 @@ use crate::memory::tables::Tables;
 use hotel_nights::{Day, Stay, StayState};
 use keycard_rules::{LockNote, RoomNo};
 use std::alloc::AllocError;
-
-/// How the code at a place stands, where the lock stands at another.
-fn state_at(lock_place: u32, place: u32) -> CodeState
-    ensures { result ≡ state_at lock_place place }
-{
-    if place < lock_place {
-        CodeState::Passed
-    } else if place == lock_place {
-        CodeState::Held
-    } else {
-        CodeState::Awaited
-    }
-}
 
 /// Whether a stay is booked and takes the night of a day.
 fn arrives(stay: &Stay, day: Day) -> bool
@@ -59,7 +45,7 @@ impl Tables {
         ensures { result ≡ chain_row_on self.now row.now place }
     {
         let code = self.codes.code_at(row.room, place)?;
-        let state = state_at(row.lock_place, place);
+        let state = CodeState::at(row.lock_place, place);
         Some(ChainRow { place, code, state })
     }
 

@@ -2,8 +2,7 @@
 ghost use Rattle.std.specs.Prelude.{◌≡◌, IfErr, refl};
 ghost use Rattle.std.proofs.Common.{ap, ◌∙◌};
 ghost use Rattle.keycard_rules.specs.Rise.{HasRisen, NoFewer};
-ghost use Rattle.hotel_core.specs.Stopping.{counts};
-ghost use Rattle.hotel_core.specs.Books.Lookups.{codes_in};
+ghost use Rattle.hotel_core.specs.{Stopping.counts, Books.Lookups.codes_in};
 
 use crate::books::Books;
 use crate::books::change::Change;

@@ -1,8 +1,7 @@
 //! Walks over books in memory of which one call fails.
 ghost use Rattle.std.specs.Prelude.{◌≡◌, Err, IfSome, Some};
 ghost use Rattle.keycard_rules.specs.Rise.{HasRisen, NoFewer};
-ghost use Rattle.hotel_core.specs.Books.Walks.{failure_of};
-ghost use Rattle.hotel_core.specs.Stopping.{EndsAs, counts};
+ghost use Rattle.hotel_core.specs.{Books.Walks.failure_of, Stopping.EndsAs, Stopping.counts};
 
 use crate::books::list_rows::{BehindRow, ChainRow, HouseRow};
 use crate::books::walks::{Sink, Stop, WalkFault, Walks};

@@ -101,3 +101,74 @@ party,guest,kind,arrive,depart
     script_ends(&rt, &mut desk, script, Ok(ScriptEnd { lines: 5 }), answers);
     Ok(())
 }
+
+/// Lines of values at their last allowed and at their first refused one, and the answers.
+const AT_THE_LIMITS: &[(&[u8], &[u8])] = &[
+    (b"begin 1999-12-31", b"unread\n"),
+    (b"begin 2100-01-01", b"unread\n"),
+    (b"begin 2000-01-01", b"begun\n"),
+    (b"add-kind ABCDEFG9", b"kind added\n"),
+    (b"add-kind ABCDEFGH9", b"unread\n"),
+    (b"add-room 0 ABCDEFG9", b"unread\n"),
+    (b"add-room 9999 ABCDEFG9", b"room code ffffffffffff\n"),
+    (b"add-room 10000 ABCDEFG9", b"unread\n"),
+    (b"add-room 000009999 ABCDEFG9", b"refused 5 RoomExists\n"),
+    (b"add-room 0000009999 ABCDEFG9", b"unread\n"),
+    (b"reserve ABCDEFG9 2000-01-01 0 A", b"unread\n"),
+    (b"reserve ABCDEFG9 2000-01-01 91 A", b"unread\n"),
+    (b"reserve ABCDEFG9 2000-01-01 000000090 A", b"party 1\n"),
+    (b"reserve ABCDEFG9 2099-12-30 2 A", b"refused 16 PastEnd\n"),
+    (b"reserve ABCDEFG9 2099-12-30 1 A", b"party 2\n"),
+    (b"cancel 9999999", b"refused 7 NoParty\n"),
+    (b"cancel 10000000", b"unread\n"),
+    (b"cancel 0", b"unread\n"),
+    (
+        b"check-in 1 9999",
+        b"card 1 party 1 old ffffffffffff new 000000000000\n",
+    ),
+    (
+        b"entered 9999 0 1 ffffffffffff 0 2099-12-31T23:59:59",
+        b"unread\n",
+    ),
+    (
+        b"entered 9999 9999999 1 ffffffffffff 0 2099-12-31T23:59:59",
+        b"refused 22 Gap 1\n",
+    ),
+    (
+        b"entered 9999 10000000 1 ffffffffffff 0 2099-12-31T23:59:59",
+        b"unread\n",
+    ),
+    (
+        b"entered 9999 1 9999999 ffffffffffff 0 2099-12-31T23:59:59",
+        b"refused 23 NoCard\n",
+    ),
+    (
+        b"entered 9999 1 10000000 ffffffffffff 0 2099-12-31T23:59:59",
+        b"unread\n",
+    ),
+    (
+        b"entered 9999 1 1 1000000000000 0 2099-12-31T23:59:59",
+        b"unread\n",
+    ),
+    (
+        b"entered 9999 1 1 ffffffffffff 0 2099-12-31T24:00:00",
+        b"unread\n",
+    ),
+    (
+        b"entered 9999 1 1 ffffffffffff 0 2100-01-01T00:00:00",
+        b"unread\n",
+    ),
+    (
+        b"entered 9999 1 1 ffffffffffff 0 2099-12-31T23:59:59",
+        b"taken\n",
+    ),
+];
+
+#[test]
+fn values_at_their_limits(rt: HostRuntime) -> Result<(), Fail> {
+    let mut desk = desk_of(rt.alloc(), &[0xffff_ffff_ffff, 0])?;
+    for (line, answer) in AT_THE_LIMITS {
+        script_ends(&rt, &mut desk, *line, Ok(ScriptEnd { lines: 1 }), *answer);
+    }
+    Ok(())
+}

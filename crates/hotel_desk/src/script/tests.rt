@@ -9,9 +9,9 @@ use std::process::Abort;
 use std::test::Fail;
 
 /// Three commands and a list, which has two writes: its header and its row.
-const SCRIPT: &[u8] = b"begin 2031-05-01\nadd-kind DBL\nadd-room 101 DBL\nchain 101\n";
+pub(super) const SCRIPT: &[u8] = b"begin 2031-05-01\nadd-kind DBL\nadd-room 101 DBL\nchain 101\n";
 
-const ANSWERS: &[u8] =
+pub(super) const ANSWERS: &[u8] =
     b"begun\nkind added\nroom code 0000000000a0\nplace,code,state\n0,0000000000a0,held\n";
 
 /// Books in memory, and a source.
@@ -45,7 +45,7 @@ pub(super) fn desk_of(alloc: Global, codes: &[u64]) -> Result<Desk, Fail> {
 }
 
 /// How many lines the text has.
-fn line_count(text: &[u8]) -> u32 {
+pub(super) fn line_count(text: &[u8]) -> u32 {
     let mut count = 0u32;
     for byte in text {
         if *byte == b'\n' {

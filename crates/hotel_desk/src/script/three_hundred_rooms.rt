@@ -1,5 +1,6 @@
 //! Three hundred rooms, each booked and entered into the books by a script.
 use super::{ScriptEnd, run_script};
+use crate::run_tests::new_tables;
 use hotel_core::{ListBooks, Walks};
 use hotel_lists::{FakeReader, FakeWriter};
 use keycard_rules::ListedWords;
@@ -102,12 +103,14 @@ fn is_answered<B: Walks>(
     Ok(())
 }
 
-/// The script of three hundred rooms is answered.
+/// The script of three hundred rooms is answered, over memory and over tables.
 fn rooms_are_answered(rt: &(impl Abort + AllocGlobal)) -> Result<(), Fail> {
     let script = script(rt.alloc())?;
     let answers = answers(rt.alloc())?;
     let mut books = ListBooks::empty(rt.alloc());
-    is_answered(rt, &mut books, script.as_slice(), answers.as_slice())
+    is_answered(rt, &mut books, script.as_slice(), answers.as_slice())?;
+    let mut tables = new_tables(rt.alloc())?;
+    is_answered(rt, &mut tables, script.as_slice(), answers.as_slice())
 }
 
 #[test]

@@ -1,5 +1,5 @@
 -- A card that was put inside a room wasn't inside: the index of the pairs is unique.
-use Rattle.std.proofs.Common.{◌≡◌, refl, sym, ap, subst, ◌∙◌, List, [], ◌∷◌, ℕ, ℤ, map, true, false, Bool, not, ◌&&◌, Ordering, Less, Equal, Greater, is_eq}
+use Rattle.std.proofs.Common.{◌≡◌, refl, sym, subst, ◌∙◌, List, [], ◌∷◌, ℕ, ℤ, map, true, false, Bool, not, ◌&&◌, Ordering, Less, Equal, Greater, is_eq}
 use Rattle.std.specs.Ordering.{is_ne}
 use Rattle.std.specs.List.{AllByRecursion}
 use Rattle.std.proofs.lemmas.List.Sorted.{IsPermutation-sym}
@@ -23,10 +23,6 @@ use Rattle.hotel_tables.proofs.Made.Deletes.{Good, read, test, tested, at_pair}
 use Rattle.hotel_tables.proofs.Made.Reads.{inside_stored}
 use Rattle.hotel_tables.specs.Schema.{desk_schema, inside_table, at_tree}
 use Rattle.hotel_tables.proofs.Perm.{put_fresh, every_shuffled}
-
-both_true : (a b : Bool) → (a && b) ≡ true → a ≡ true
-both_true true b h = refl
-both_true false b h = h
 
 not_true : (a : Bool) → (not a && true) ≡ true → a ≡ false
 not_true true h = sym h

@@ -1,6 +1,5 @@
 -- What the two statements on the cards inside make of the rows of a desk.
 use Rattle.std.proofs.Common.{◌≡◌, refl, ap, ◌∙◌, List, ◌∷◌, ℕ, false, Ok, IsTrue, is_eq}
-use Rattle.std.specs.List.{AllByRecursion}
 use Rattle.std.proofs.lemmas.Cmp.{on_total}
 use Rattle.std.proofs.lemmas.List.Sorted.{IsPermutation-sym}
 use Rattle.sqlite_value.proofs.OrderLemmas.{value_cmp_total}

@@ -1,14 +1,11 @@
 -- A note of a card that comes in.
-use Rattle.std.proofs.Common.{◌≡◌, sym, ap, subst, ◌∙◌, ℕ, false, Bool, None, Ok, Err, Result, OnOk, IsTrue, is_eq}
-use Rattle.std.specs.List.{AllByRecursion}
+use Rattle.std.proofs.Common.{◌≡◌, sym, ap, ◌∙◌, ℕ, Bool, None, Ok, Err, Result, OnOk, IsTrue}
 use Rattle.sqlite.specs.State.{State}
 use Rattle.sqlite.specs.declared.error.Error.{Error}
 use Rattle.keycard_rules.specs.Note.{Note}
 use Rattle.hotel_core.specs.declared.books.change.InsideMove.{InsideMove}
 use Rattle.hotel_core.specs.declared.books.change.InsideMove.TheVariants as move
 use Rattle.hotel_core.specs.declared.books.change.Change.TheVariants as change
-use Rattle.hotel_core.specs.Model.Words.{pair_cmp}
-use Rattle.hotel_core.specs.Model.Rows.{Rows}
 use Rattle.hotel_core.specs.Books.Lookups.{note_at}
 use Rattle.hotel_core.specs.Books.Change.{made}
 use Rattle.hotel_tables.specs.Tables.{rows_in}

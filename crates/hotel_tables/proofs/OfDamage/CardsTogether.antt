@@ -1,8 +1,7 @@
 -- The rules of cards as tests of each row.
-use Rattle.std.proofs.Common.{◌≡◌, ℕ, suc, ◌+◌, Bool, true, false, cond, ◌&&◌, ◌==◌, List, [], ◌∷◌, map, length, Option, Some, None, refl, sym, ap, ◌∙◌, nat_cmp}
+use Rattle.std.proofs.Common.{◌≡◌, ℕ, Bool, true, false, ◌&&◌, ◌==◌, List, [], ◌∷◌, map, length, Option, Some, None, refl, sym, ap, ◌∙◌, nat_cmp}
 use Rattle.std.specs.Prelude.{nat_le, is_some, not, ◌||◌, option_map}
 use Rattle.std.specs.List.{list_all, list_any}
-use Rattle.std.specs.Map.{keys_of}
 use Rattle.keycard_rules.specs.declared.card.Card.{Card}
 use Rattle.hotel_nights.specs.declared.stay.Stay.{Stay}
 use Rattle.hotel_core.specs.declared.books.rows.RoomRow.{RoomRow}
@@ -15,11 +14,10 @@ use Rattle.hotel_core.specs.Model.SoundRooms.{are_in_order, count_up}
 use Rattle.hotel_core.specs.Model.SoundCards.{card_parties_there, links_are_neighbours, links_of_one_party, neighbours_are_links, newest_of_party, last_cards_newest, code_is, stands_at, is_newest, owns_newest, has_newest}
 use Rattle.hotel_core.proofs.OfTables.RowTests.{all_mapped}
 use Rattle.hotel_tables.specs.declared.stored.Stored.{Stored}
-use Rattle.hotel_tables.specs.declared.stored.CardLine.{CardLine}
 use Rattle.hotel_tables.specs.Stored.{number_of, rows_of, card_entry, card_row, link_row, code_entry, room_entry, stay_entry}
 use Rattle.hotel_tables.specs.Keys.{are_numbered, card_key}
 use Rattle.hotel_tables.specs.Damage.{card_holds}
-use Rattle.hotel_tables.specs.RowTests.{card_fits, agree, agrees, is_brought, is_owned, has_owner, has_last, links_hold}
+use Rattle.hotel_tables.specs.RowTests.{card_fits, agrees, is_brought, is_owned, has_owner, has_last, links_hold}
 use Rattle.hotel_tables.proofs.OfDamage.RowsTogether.{keys_mapped, length_mapped, all_alike, left_and}
 use Rattle.hotel_tables.proofs.OfDamage.StaysTogether.{own_keys}
 

@@ -1,10 +1,9 @@
 -- Where keys stand.
-use Rattle.std.proofs.Common.{◌≡◌, ◌≢◌, ℕ, suc, zero, ◌+◌, ◌-◌, ◌<◌, ◌≤◌, Bool, true, false, cond, ◌==◌, ◌&&◌, ◌++◌, List, [], ◌∷◌, map, length, take, drop, get_or, Option, Some, None, refl, sym, ap, subst, ◌∙◌, arith}
+use Rattle.std.proofs.Common.{◌≡◌, ℕ, suc, zero, ◌<◌, Bool, true, false, cond, ◌==◌, ◌&&◌, ◌++◌, List, [], ◌∷◌, map, length, get_or, Option, Some, None, refl, sym, ap, subst, ◌∙◌, arith}
 use Rattle.std.specs.Prelude.{option_map, is_some}
 use Rattle.std.specs.Ordering.{nat_cmp}
-use Rattle.std.specs.BTreeMap.{insert_entry, is_at}
+use Rattle.std.specs.BTreeMap.{insert_entry}
 use Rattle.std.specs.List.{list_all}
-use Rattle.std.proofs.lemmas.List.{take_more}
 use Rattle.hotel_core.specs.Model.Rows.{at_number}
 use Rattle.hotel_core.proofs.OfTables.Numbered.{at_inserted}
 use Rattle.hotel_core.proofs.OfTables.MapEntries.{at_is, eq_from}
@@ -110,15 +109,6 @@ module _ {L X : Type 0} (key : L → ℕ) (row : L → X) where
 
   pub one_bound : (places : List (ℕ × ℕ)) (ls : List L) (q i : ℕ) → Finds places (map key ls) → at_number places q ≡ Some i → i < length ls
   one_bound places ls q i is e = bound_of i (map key ls) q (length ls) (sym (is q) ∙ e) (length_keys ls)
-
-  is_some_map : {Y : Type 0} (f : ℕ → Y) (o : Option ℕ) → is_some (option_map f o) ≡ is_some o
-  is_some_map f (Some i) = refl
-  is_some_map f None = refl
-
-  -- a table has a number exactly where its key stands in the map
-  pub known_found : (places : List (ℕ × ℕ)) (ls : List L) (q : ℕ) → Finds places (map key ls) → is_some (at_number (map (λ l. (key l, row l)) ls) q) ≡ is_some (at_number places q)
-  known_found places [] q is = sym (ap is_some (is q))
-  known_found places (l ∷ ls) q is = ap is_some (row_found key row l (l ∷ ls) q) ∙ is_some_map (λ i. row (get_or (l ∷ ls) i l)) (place_in (map key (l ∷ ls)) q) ∙ sym (ap is_some (is q))
 
 key_by : (b : Bool) (ks : List ℕ) (k q i : ℕ) → (k == q) ≡ b → cond b (Some 0) (option_map suc (place_in ks q)) ≡ Some i → ((j : ℕ) → place_in ks q ≡ Some j → get_or ks j 0 ≡ q) → get_or (k ∷ ks) i 0 ≡ q
 key_by true ks k q i e f ih = let z : 0 ≡ i = cc in subst (λ n. get_or (k ∷ ks) n 0 ≡ q) z (eq_from k q e)

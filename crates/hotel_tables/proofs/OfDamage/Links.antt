@@ -1,13 +1,11 @@
 -- Links of cards.
-use Rattle.std.proofs.Common.{◌≡◌, ℕ, pos, suc, ◌+◌, Bool, true, false, cond, ◌==◌, ◌&&◌, List, [], ◌∷◌, map, length, Option, Some, None, refl, sym, ap, subst, ◌∙◌}
-use Rattle.std.specs.Prelude.{is_some, option_map, ◌||◌, not}
-use Rattle.std.specs.List.{list_all, list_any}
-use Rattle.keycard_rules.specs.declared.card.Link.{Link}
-use Rattle.hotel_core.specs.Model.Words.{said_of}
-use Rattle.hotel_core.specs.Model.Rows.{at_number, link_of_last_card, or_else}
+use Rattle.std.proofs.Common.{◌≡◌, ℕ, pos, suc, Bool, true, false, cond, ◌==◌, List, [], ◌∷◌, map, Option, Some, None, refl, ap, ◌∙◌}
+use Rattle.std.specs.Prelude.{is_some, option_map, ◌||◌}
+use Rattle.std.specs.List.{list_any}
+use Rattle.hotel_core.specs.Model.Rows.{at_number, or_else}
 use Rattle.hotel_core.proofs.OfTables.MapEntries.{eq_turned}
 use Rattle.hotel_tables.specs.declared.stored.CardLine.{CardLine}
-use Rattle.hotel_tables.specs.Stored.{number_of, card_entry, link_row}
+use Rattle.hotel_tables.specs.Stored.{number_of, link_row}
 use Rattle.hotel_tables.specs.Keys.{place_in}
 use Rattle.hotel_tables.specs.Lasts.{link_pair, link_of_pair, LastsOf}
 

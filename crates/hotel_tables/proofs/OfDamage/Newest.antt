@@ -1,7 +1,6 @@
 -- The newest link of a room, by the places of its codes.
-use Rattle.std.proofs.Common.{◌≡◌, ℕ, suc, ◌+◌, ◌-◌, ◌<◌, ◌≤◌, Bool, true, false, cond, ◌==◌, ◌&&◌, List, [], ◌∷◌, length, Option, Some, None, refl, sym, ap, subst, ◌∙◌, nat_cmp, arith}
+use Rattle.std.proofs.Common.{◌≡◌, ℕ, suc, ◌+◌, ◌<◌, ◌≤◌, Bool, true, false, cond, ◌==◌, ◌&&◌, List, [], ◌∷◌, length, Some, None, refl, sym, ap, ◌∙◌, arith}
 use Rattle.std.specs.Map.{keys_of, values_of}
-use Rattle.std.specs.BTreeMap.{is_at}
 use Rattle.keycard_rules.specs.declared.card.Link.{Link}
 use Rattle.hotel_core.specs.Model.Words.{said_of, is_that}
 use Rattle.hotel_core.specs.Model.Rows.{at_number, last_link_of}

@@ -1,5 +1,5 @@
 -- Counts of notes, from the last one on.
-use Rattle.std.proofs.Common.{◌≡◌, ℕ, pos, suc, ◌+◌, ◌-◌, ◌<◌, Bool, true, false, cond, ◌==◌, ◌&&◌, List, [], ◌∷◌, map, length, drop, Option, Some, None, refl, sym, ap, subst, ◌∙◌, nat_cmp, arith}
+use Rattle.std.proofs.Common.{◌≡◌, ℕ, pos, suc, ◌+◌, Bool, true, false, cond, ◌==◌, ◌&&◌, List, [], ◌∷◌, map, length, None, refl, sym, ap, ◌∙◌, arith}
 use Rattle.std.specs.Prelude.{is_some, nat_lt}
 use Rattle.std.specs.List.{list_all}
 use Rattle.std.specs.Map.{keys_of}
@@ -13,7 +13,6 @@ use Rattle.hotel_core.proofs.OfTables.RowTests.{all_mapped}
 use Rattle.hotel_core.proofs.OfTables.MapEntries.{eq_from, eq_self, eq_turned}
 use Rattle.hotel_tables.specs.declared.damage.note_runs.NoteRun.{NoteRun}
 use Rattle.hotel_tables.specs.declared.stored.NoteLine.{NoteLine}
-use Rattle.hotel_tables.specs.declared.stored.RoomLine.{RoomLine}
 use Rattle.hotel_tables.specs.declared.stored.Stored.{Stored}
 use Rattle.hotel_tables.specs.Stored.{number_of, note_row, note_entry, room_entry, rows_of}
 use Rattle.hotel_tables.specs.Keys.{note_key}

@@ -1,5 +1,5 @@
 -- Codes put at their places, from the last one on.
-use Rattle.std.proofs.Common.{◌≡◌, ℕ, pos, suc, ◌+◌, ◌-◌, ◌<◌, ◌^◌, Bool, true, false, cond, ◌==◌, ◌&&◌, List, [], ◌∷◌, map, length, drop, get_or, refl, sym, ap, subst, ◌∙◌, nat_cmp, arith}
+use Rattle.std.proofs.Common.{◌≡◌, ℕ, pos, ◌+◌, ◌-◌, ◌<◌, ◌^◌, Bool, true, false, ◌==◌, ◌&&◌, List, ◌∷◌, map, length, drop, get_or, refl, sym, ap, ◌∙◌, nat_cmp, arith}
 use Rattle.std.specs.Prelude.{nat_lt, is_some}
 use Rattle.std.specs.List.{list_all, count_by}
 use Rattle.std.specs.Map.{keys_of, values_of}
@@ -11,12 +11,11 @@ use Rattle.hotel_core.specs.declared.books.rows.RoomRow.{RoomRow}
 use Rattle.hotel_core.specs.Model.Words.{when}
 use Rattle.hotel_core.specs.Model.Rows.{at_number, codes_by_place}
 use Rattle.hotel_core.specs.Model.SoundRooms.{are_in_order, count_up}
-use Rattle.hotel_core.specs.Model.SoundCards.{places_once, codes_in_range, code_rooms_there}
+use Rattle.hotel_core.specs.Model.SoundCards.{places_once, code_rooms_there}
 use Rattle.hotel_core.proofs.OfTables.StayCounts.{count_first}
 use Rattle.hotel_core.proofs.OfTables.RowTests.{all_mapped}
 use Rattle.hotel_tables.specs.declared.damage.placed.Placed.{Placed}
 use Rattle.hotel_tables.specs.declared.stored.CodeLine.{CodeLine}
-use Rattle.hotel_tables.specs.declared.stored.RoomLine.{RoomLine}
 use Rattle.hotel_tables.specs.declared.stored.Stored.{Stored}
 use Rattle.hotel_tables.specs.Stored.{number_of, code_row, code_entry, room_entry, rows_of}
 use Rattle.hotel_tables.specs.Keys.{code_key}

@@ -1,9 +1,9 @@
 -- A pass over keys, each beside the next, and one that counts.
-use Rattle.std.proofs.Common.{◌≡◌, ℕ, suc, zero, ◌+◌, ◌-◌, ◌<◌, ◌≤◌, Bool, true, false, ◌&&◌, ◌==◌, List, [], ◌∷◌, length, drop, get_or, refl, sym, ap, subst, ◌∙◌, arith}
+use Rattle.std.proofs.Common.{◌≡◌, ℕ, ◌+◌, ◌-◌, ◌<◌, ◌≤◌, true, ◌&&◌, List, [], ◌∷◌, length, drop, get_or, refl, sym, ap, subst, ◌∙◌, arith}
 use Rattle.std.specs.Ordering.{is_lt}
 use Rattle.std.specs.declared.cmp.Ordering.{Ordering}
-use Rattle.std.proofs.lemmas.List.{drop_more, length-drop, drop_all}
-use Rattle.hotel_core.specs.Model.SoundRooms.{are_in_order, count_up}
+use Rattle.std.proofs.lemmas.List.{drop_more, length-drop}
+use Rattle.hotel_core.specs.Model.SoundRooms.{are_in_order}
 
 module _ {K : Type 0} (cmp : K → K → Ordering) where
   pub next_in_order : (d : K) (keys : List K) (i : ℕ) → 0 < i → i < length keys → are_in_order cmp (drop (i - 1) keys) ≡ (is_lt (cmp (get_or keys (i - 1) d) (get_or keys i d)) && are_in_order cmp (drop i keys))
@@ -21,9 +21,3 @@ module _ {K : Type 0} (cmp : K → K → Ordering) where
 
   pub last_in_order : (keys : List K) (i : ℕ) → length keys ≤ i → are_in_order cmp (drop (i - 1) keys) ≡ true
   last_in_order keys i h = short_in_order (drop (i - 1) keys) (subst (λ n. n ≤ 1) (sym (length-drop (i - 1) keys)) (omega (arith, h)))
-
-pub next_counted : (keys : List ℕ) (i : ℕ) → i < length keys → count_up (i + 1) (drop i keys) ≡ ((get_or keys i 0 == i + 1) && count_up (i + 1 + 1) (drop (i + 1) keys))
-next_counted keys i here = ap (count_up (i + 1)) (drop_more keys i 0 here)
-
-pub all_counted : (keys : List ℕ) (i : ℕ) → length keys ≤ i → count_up (i + 1) (drop i keys) ≡ true
-all_counted keys i h = ap (count_up (i + 1)) (drop_all i keys h)

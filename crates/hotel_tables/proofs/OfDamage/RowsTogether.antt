@@ -1,15 +1,14 @@
 -- Rules of all rows of a table as one test of each row.
-use Rattle.std.proofs.Common.{◌≡◌, ℕ, suc, ◌+◌, ◌-◌, Bool, true, false, ◌&&◌, ◌==◌, List, [], ◌∷◌, map, length, refl, sym, ap, ◌∙◌, nat_cmp}
-use Rattle.std.specs.Prelude.{nat_le, nat_lt, string_bytes, option_map, is_some, not, ◌||◌}
+use Rattle.std.proofs.Common.{◌≡◌, ℕ, suc, ◌+◌, ◌-◌, Bool, true, false, ◌&&◌, ◌==◌, List, [], ◌∷◌, map, length, refl, ap, ◌∙◌, nat_cmp}
+use Rattle.std.specs.Prelude.{nat_le, nat_lt, string_bytes, not, ◌||◌}
 use Rattle.std.specs.List.{list_all}
 use Rattle.std.specs.Map.{keys_of}
 use Rattle.hotel_core.specs.declared.books.rows.RoomRow.{RoomRow}
 use Rattle.hotel_core.specs.Model.Rows.{has_kind}
-use Rattle.hotel_core.specs.Model.SoundRooms.{are_in_order, is_day, room_numbers, lock_places, room_kinds_there, codes_few, note_counts, parties_in_house, secured_hold_last}
+use Rattle.hotel_core.specs.Model.SoundRooms.{are_in_order, room_numbers, lock_places, room_kinds_there, codes_few, note_counts, parties_in_house, secured_hold_last}
 use Rattle.hotel_core.proofs.OfTables.RowTests.{all_mapped}
 use Rattle.hotel_core.proofs.OfTables.MapEntries.{eq_self}
 use Rattle.hotel_tables.specs.declared.stored.Stored.{Stored}
-use Rattle.hotel_tables.specs.declared.stored.RoomLine.{RoomLine}
 use Rattle.hotel_tables.specs.Stored.{number_of, rows_of, room_entry, room_row, card_entry}
 use Rattle.hotel_tables.specs.Keys.{room_key}
 use Rattle.hotel_tables.specs.Damage.{room_columns, room_holds}
@@ -35,10 +34,6 @@ all_and t u ls b e = ap (λ z. list_all t ls && z) e ∙ joined ls
     joined : (ls : List _) → (list_all t ls && list_all u ls) ≡ list_all (λ l. t l && u l) ls
     joined [] = refl
     joined (l ∷ ls) = swap_and (t l) (list_all t ls) (u l) (list_all u ls) ∙ ap (λ z. (t l && u l) && z) (joined ls)
-
--- a rule of a table's rows and what goes with it
-pub row_and : {L X : Type 0} (f : L → X) (t : X → Bool) (u : L → Bool) (ls : List L) (b : Bool) → b ≡ list_all u ls → (list_all t (map f ls) && b) ≡ list_all (λ l. t (f l) && u l) ls
-row_and f t u ls b e = ap (λ z. z && b) (all_mapped t f ls) ∙ all_and (λ l. t (f l)) u ls b e
 
 pub all_alike : {L : Type 0} (t u : L → Bool) (ls : List L) → ((l : L) → t l ≡ u l) → list_all t ls ≡ list_all u ls
 all_alike t u [] e = refl

@@ -1,21 +1,20 @@
 -- The rules of stays as tests of each stay.
-use Rattle.std.proofs.Common.{◌≡◌, ℕ, suc, ◌+◌, ◌-◌, Bool, true, false, cond, ◌&&◌, ◌==◌, List, [], ◌∷◌, map, length, Option, Some, None, refl, sym, ap, ◌∙◌, nat_cmp}
-use Rattle.std.specs.Prelude.{nat_le, nat_lt, string_bytes, is_some, not, bytes_eq}
+use Rattle.std.proofs.Common.{◌≡◌, ℕ, ◌+◌, Bool, true, false, cond, ◌&&◌, ◌==◌, List, [], ◌∷◌, map, length, refl, sym, ap, ◌∙◌, nat_cmp}
+use Rattle.std.specs.Prelude.{nat_le, nat_lt, string_bytes, bytes_eq}
 use Rattle.std.specs.List.{list_all, count_by}
-use Rattle.std.specs.Map.{keys_of, values_of}
+use Rattle.std.specs.Map.{values_of}
 use Rattle.hotel_nights.specs.declared.stay.Stay.{Stay}
 use Rattle.hotel_nights.specs.FullNight.{takes}
 use Rattle.hotel_nights.specs.Guests.{is_guest}
 use Rattle.hotel_core.specs.declared.books.rows.RoomRow.{RoomRow}
-use Rattle.hotel_core.specs.Model.Words.{said_of}
-use Rattle.hotel_core.specs.Model.Rows.{has_kind, at_number}
-use Rattle.hotel_core.specs.Model.SoundRooms.{are_in_order, count_up, is_day, stay_numbers, guests_read, stay_kinds_there, stay_days, stay_rooms, nights_fit, stays_on, rooms_with}
+use Rattle.hotel_core.specs.Model.Rows.{has_kind}
+use Rattle.hotel_core.specs.Model.SoundRooms.{are_in_order, count_up, is_day, guests_read, stay_kinds_there, stay_days, stay_rooms, nights_fit, stays_on, rooms_with}
 use Rattle.hotel_core.proofs.OfTables.RowTests.{all_mapped}
 use Rattle.hotel_core.proofs.OfTables.MapEntries.{eq_self}
 use Rattle.hotel_core.proofs.OfTables.StayCounts.{count_first}
 use Rattle.hotel_tables.specs.declared.stored.Stored.{Stored}
 use Rattle.hotel_tables.specs.declared.stored.StayLine.{StayLine}
-use Rattle.hotel_tables.specs.Stored.{number_of, rows_of, stay_entry, stay_row, room_entry, room_row}
+use Rattle.hotel_tables.specs.Stored.{number_of, rows_of, stay_entry, stay_row, room_row}
 use Rattle.hotel_tables.specs.Keys.{are_numbered, room_key, stay_key}
 use Rattle.hotel_tables.specs.Damage.{stay_columns, stay_holds}
 use Rattle.hotel_tables.specs.RowTests.{stay_fits, has_home, has_night, has_line_home}

@@ -1,10 +1,9 @@
 -- Undamaged tables have sound rows, and the other way round.
-use Rattle.std.proofs.Common.{◌≡◌, Bool, true, false, cond, ◌&&◌, Option, Some, None, refl, sym, ap, ◌∙◌, nat_cmp}
+use Rattle.std.proofs.Common.{◌≡◌, Bool, true, false, cond, Option, Some, None, refl, nat_cmp}
 use Rattle.std.specs.List.{list_all}
 use Rattle.std.specs.Map.{keys_of}
-use Rattle.std.specs.Cmp.Lexicographic.{slice_cmp}
 use Rattle.hotel_core.specs.Model.Words.{pair_cmp}
-use Rattle.hotel_core.specs.Model.Sound.{IsSound, keys_in_order, passes_rules}
+use Rattle.hotel_core.specs.Model.Sound.{keys_in_order, passes_rules}
 use Rattle.hotel_core.specs.Model.SoundRooms.{are_in_order, day_in_range, day_before_kinds, kinds_read, room_numbers, lock_places, room_kinds_there, codes_few, note_counts, parties_in_house, secured_hold_last, stay_numbers, guests_read, stay_kinds_there, stay_days, stay_rooms, nights_fit}
 use Rattle.hotel_core.specs.Model.SoundCards.{codes_in_range, code_rooms_there, places_once, card_numbers, card_parties_there, links_are_neighbours, links_of_one_party, neighbours_are_links, newest_of_party, last_cards_newest, insides_fit, notes_fit, notes_counted}
 use Rattle.hotel_core.proofs.OfTables.Tests.{and_true}

@@ -1,5 +1,5 @@
 //! The rules of the table of cards.
-ghost use Rattle.std.specs.Prelude.{◌≡◌, ℕ, List, true, IfOk};
+ghost use Rattle.std.specs.Prelude.{◌≡◌, true, IfOk};
 ghost use Rattle.std.specs.List.{list_all};
 ghost use Rattle.hotel_tables.specs.Stored.{rows_of, card_row};
 ghost use Rattle.hotel_tables.specs.Places.{AreOf};

@@ -1,10 +1,8 @@
 //! The rules of the table of codes, and where links stand.
-ghost use Rattle.std.specs.Prelude.{◌≡◌, List, ℕ, IfOk, map, is_some, ◌^◌, nat_lt};
+ghost use Rattle.std.specs.Prelude.{◌≡◌, IfOk, is_some};
 ghost use Rattle.std.specs.List.{list_all};
-ghost use Rattle.keycard_rules.specs.declared.card.Link.{Link};
-ghost use Rattle.hotel_core.specs.Model.Rows.{at_number};
 ghost use Rattle.hotel_core.specs.Model.SoundCards.{stands_at};
-ghost use Rattle.hotel_tables.specs.Stored.{number_of, rows_of, link_row, code_row};
+ghost use Rattle.hotel_tables.specs.Stored.{rows_of, code_row};
 ghost use Rattle.hotel_tables.specs.Damage.{code_holds};
 ghost use Rattle.hotel_tables.specs.Placed.{PlacesOf};
 ghost use Rattle.hotel_tables.specs.Places.{AreOf};

@@ -1,5 +1,5 @@
 //! Rows found by their keys.
-ghost use Rattle.std.specs.Prelude.{◌≡◌, List, ℕ, Bool, true, IfOk, IfSome, map, option_map, is_some};
+ghost use Rattle.std.specs.Prelude.{◌≡◌, Bool, true, IfOk, IfSome, map, option_map};
 ghost use Rattle.std.specs.List.{list_all};
 ghost use Rattle.std.specs.Option.{option_copied};
 ghost use Rattle.hotel_core.specs.Model.Rows.{at_number};

@@ -1,5 +1,5 @@
 //! The rules of the table of cards that are inside.
-ghost use Rattle.std.specs.Prelude.{◌≡◌, ℕ, List, true, IfOk};
+ghost use Rattle.std.specs.Prelude.{◌≡◌, true, IfOk};
 ghost use Rattle.std.specs.List.{list_all};
 ghost use Rattle.hotel_tables.specs.Stored.{number_of, rows_of, room_row, card_row, inside_pair};
 ghost use Rattle.hotel_core.specs.Model.SoundCards.{fits_inside};

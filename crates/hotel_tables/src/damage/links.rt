@@ -1,10 +1,9 @@
 //! The rules on links of cards: whose they are, and which are the newest of rooms.
-ghost use Rattle.std.specs.Prelude.{◌≡◌, ℕ, List, true, IfOk, OnOk, map, option_map, ◌==◌, Some, None, is_some, if◌then◌else◌};
+ghost use Rattle.std.specs.Prelude.{◌≡◌, ℕ, true, IfOk, OnOk, map, ◌==◌, Some, None, is_some, if◌then◌else◌};
 ghost use Rattle.std.specs.List.{list_all, list_any};
-ghost use Rattle.keycard_rules.specs.declared.card.Link.{Link};
 ghost use Rattle.hotel_core.specs.Model.Rows.{at_number};
 ghost use Rattle.hotel_core.specs.Model.SoundCards.{has_newest, is_newest};
-ghost use Rattle.hotel_tables.specs.Stored.{number_of, rows_of, link_row};
+ghost use Rattle.hotel_tables.specs.Stored.{number_of, rows_of};
 ghost use Rattle.hotel_tables.specs.Lasts.{link_of_pair, link_pair, LastsOf};
 ghost use Rattle.hotel_tables.specs.Owners.{OwnersOf, owner_in};
 ghost use Rattle.hotel_core.specs.Model.Words.{said_of};

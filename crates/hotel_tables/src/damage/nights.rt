@@ -1,12 +1,17 @@
 //! The nights that the stays take, against the rooms that there are.
-ghost use Rattle.std.specs.Prelude.{◌≡◌, ℕ, List, map, string_bytes, nat_le};
+ghost use Rattle.std.specs.Prelude.{◌≡◌, IfOk, IfSome};
 ghost use Rattle.std.specs.List.{list_all, count_by};
 ghost use Rattle.hotel_nights.specs.FullNight.{takes};
-ghost use Rattle.hotel_tables.specs.Stored.{number_of, stay_row};
+ghost use Rattle.hotel_tables.specs.Stored.{stay_row};
 ghost use Rattle.hotel_tables.specs.RowTests.{is_line_of_kind, has_night};
+ghost use Rattle.hotel_tables.specs.declared.stored.Stored.{Stored as Rows};
+ghost use Rattle.hotel_tables.specs.Opening.{IsCountedOf};
 
+use crate::counting::{Counts, counts_of, day, kind_code};
 use crate::damage::numbers::number;
 use crate::stored::{RoomLine, StayLine, Stored};
+use keycard_rules::{LookFault, Memory};
+use std::alloc::Global;
 
 /// Whether a stay is booked or in house, of the kind, and takes the night.
 fn takes(stay: &StayLine, kind: &str, night: u64) -> bool
@@ -59,14 +64,67 @@ fn has_night(stored: &Stored, stay: &StayLine) -> bool
     taken <= rooms_with(&stored.rooms, kind)
 }
 
-/// Whether on the first night of each stay its kind isn't taken by more stays than it has rooms.
-pub(crate) fn nights_fit(stored: &Stored) -> bool
+/// The same by the counts, where they tell it.
+fn has_night_by(counts: &Counts, stay: &StayLine) -> Option<bool>
+    ensures { (s : Rows) → IsCountedOf s counts.now → IfSome result (λ has. has ≡ has_night s stay.now) }
+{
+    let Ok(kind) = kind_code(stay.kind.as_str()) else {
+        return None;
+    };
+    let arrive = number(stay.arrive);
+    if arrive > 36_523 {
+        return None;
+    }
+    let Ok(first) = day(arrive) else {
+        return None;
+    };
+    let Ok(next) = day(arrive + 1) else {
+        return None;
+    };
+    let rooms = counts.kinds.rooms(&kind);
+    if rooms == u32::MAX {
+        return None;
+    }
+    let full = counts.nights.full_night(&kind, rooms + 1, first, next);
+    Some(full.is_none())
+}
+
+/// The same by the counts, or where they don't tell it, or there are none, looked up among all.
+fn has_night_of(counts: Option<&Counts>, stored: &Stored, stay: &StayLine) -> bool
+    requires { IfSome counts (λ counts. IsCountedOf stored.now counts.now) }
+    ensures { result ≡ has_night stored.now stay.now }
+{
+    let Some(counts) = counts else {
+        return has_night(stored, stay);
+    };
+    match has_night_by(counts, stay) {
+        Some(has) => has,
+        None => has_night(stored, stay),
+    }
+}
+
+/// Whether each stay has its first night, by the counts where there are any.
+fn nights_fit_by(counts: Option<&Counts>, stored: &Stored) -> bool
+    requires { IfSome counts (λ counts. IsCountedOf stored.now counts.now) }
     ensures { result ≡ list_all (has_night stored.now) stored.now.stays.items }
 {
     for i in 0..stored.stays.len() {
-        if !has_night(stored, &stored.stays[i]) {
+        if !has_night_of(counts, stored, &stored.stays[i]) {
             return false;
         }
     }
     true
+}
+
+/// Whether on the first night of each stay its kind isn't taken by more stays than it has rooms.
+///
+/// Rows that can't be counted, which the tests before this one have refused, are looked up one by one.
+pub(crate) fn nights_fit(alloc: Global, stored: &Stored) -> Result<bool, Memory>
+    ensures { IfOk result (λ fit. fit ≡ list_all (has_night stored.now) stored.now.stays.items) }
+{
+    match counts_of(alloc, stored) {
+        Ok(counts) => Ok(nights_fit_by(Some(&counts), stored)),
+        Err(LookFault::Memory) => Err(Memory),
+        Err(LookFault::Store) => Ok(nights_fit_by(None, stored)),
+    }
 }

@@ -1,7 +1,6 @@
 //! The rules of the table of lock notes.
-ghost use Rattle.std.specs.Prelude.{◌≡◌, ℕ, List, ◌&&◌, nat_lt, IfOk};
+ghost use Rattle.std.specs.Prelude.{◌≡◌, ◌&&◌, nat_lt, IfOk};
 ghost use Rattle.std.specs.List.{list_all};
-ghost use Rattle.keycard_rules.specs.declared.card.Link.{Link};
 ghost use Rattle.hotel_core.specs.Model.SoundCards.{act_fits, has_link_at};
 ghost use Rattle.hotel_core.specs.Model.SoundRooms.{is_day};
 ghost use Rattle.hotel_tables.specs.Damage.{note_columns, note_holds};

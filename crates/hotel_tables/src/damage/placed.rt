@@ -1,5 +1,5 @@
 //! The codes of each room by their places.
-ghost use Rattle.std.specs.Prelude.{◌≡◌, ℕ, List, ◌&&◌, ◌==◌, ◌+◌, ◌-◌, ◌<◌, ◌^◌, IfOk, OnOk, None, true, length, option_map};
+ghost use Rattle.std.specs.Prelude.{◌≡◌, ℕ, ◌&&◌, ◌==◌, ◌+◌, ◌-◌, ◌<◌, ◌^◌, IfOk, OnOk, None, true, option_map};
 ghost use Rattle.std.specs.List.{list_all};
 ghost use Rattle.std.specs.Prelude.{if◌then◌else◌};
 ghost use Rattle.std.specs.Ordering.{nat_cmp};
@@ -8,7 +8,6 @@ ghost use Rattle.std.specs.Map.{keys_of, values_of};
 ghost use Rattle.hotel_nights.specs.Block.{one_if};
 ghost use Rattle.hotel_core.specs.Model.Words.{when, is_that};
 ghost use Rattle.hotel_core.specs.Model.Rows.{at_number, last_link_of};
-ghost use Rattle.keycard_rules.specs.declared.card.Link.{Link};
 ghost use Rattle.hotel_core.specs.Model.SoundCards.{is_newest};
 ghost use Rattle.hotel_core.specs.Model.SoundRooms.{count_up};
 ghost use Rattle.hotel_tables.specs.Stored.{number_of, rows_of};

@@ -1,7 +1,6 @@
 //! The rules of the table of rooms.
-ghost use Rattle.std.specs.Prelude.{◌≡◌, List, ℕ, map, option_map, is_some, length, nat_le, ◌+◌, true, IfOk, bytes_eq, string_bytes};
+ghost use Rattle.std.specs.Prelude.{◌≡◌, nat_le, ◌+◌, true, IfOk};
 ghost use Rattle.std.specs.List.{list_all};
-ghost use Rattle.hotel_core.specs.Model.Rows.{at_number};
 ghost use Rattle.hotel_core.specs.Model.Cases.{room_of_state};
 ghost use Rattle.hotel_tables.specs.Stored.{number_of, rows_of, room_row, stay_row};
 ghost use Rattle.hotel_core.specs.Model.SoundRooms.{kinds_read};

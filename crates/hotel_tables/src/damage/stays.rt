@@ -1,9 +1,9 @@
 //! The rules of the table of stays.
-ghost use Rattle.std.specs.Prelude.{◌≡◌, ℕ, List, true, IfOk, option_map};
+ghost use Rattle.std.specs.Prelude.{◌≡◌, true, IfOk};
 ghost use Rattle.std.specs.List.{list_all};
 ghost use Rattle.hotel_nights.specs.Guests.{is_guest};
 ghost use Rattle.hotel_core.specs.Model.SoundRooms.{kinds_read};
-ghost use Rattle.hotel_tables.specs.Stored.{number_of, rows_of, stay_row};
+ghost use Rattle.hotel_tables.specs.Stored.{rows_of, stay_row};
 ghost use Rattle.hotel_tables.specs.Damage.{stay_columns, stay_holds};
 ghost use Rattle.hotel_tables.specs.Places.{AreOf};
 ghost use Rattle.hotel_tables.specs.RowTests.{are_stay_days, has_home, stay_fits, KnowsKinds};
@@ -136,5 +136,5 @@ pub(crate) fn stays_hold(
     if !fit {
         return Ok(false);
     }
-    Ok(nights_fit(stored))
+    nights_fit(alloc, stored)
 }

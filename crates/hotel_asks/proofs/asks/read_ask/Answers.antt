@@ -1,4 +1,4 @@
-use Rattle.std.proofs.Common.{◌≡◌, ◌∙◌, map, sym}
+use Rattle.std.proofs.Common.{◌∙◌, map}
 use Rattle.std.proofs.lemmas.List.{length-map}
 use Rattle.hotel_asks.specs.Asks.{ask_copies}
 use Rattle.hotel_asks.proofs.Numbered.{misnumbered}

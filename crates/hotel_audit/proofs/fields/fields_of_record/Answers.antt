@@ -1,4 +1,4 @@
-use Rattle.std.proofs.Common.{rules, arith, ◌≡◌, ◌≤◌, ℕ, zero, suc, List, [], ◌∷◌, length, Some, None}
+use Rattle.std.proofs.Common.{rules, arith, ◌≡◌, ◌<◌, ◌≤◌, ℕ, zero, suc, List, [], ◌∷◌, length, Some, None}
 use Rattle.csv.specs.Records.{fields_of, field_at}
 use Rattle.hotel_audit.specs.Fields.{seven_fields}
 use Rattle.hotel_audit.proofs.fields.fields_of_record.Goals as goal
@@ -9,6 +9,9 @@ unfolding field_at
 field_at-none [] k e = omega arith
 field_at-none (f ∷ fs) zero e = cc e
 field_at-none (f ∷ fs) (suc k) e = let h = field_at-none fs k e in omega arith
+
+no_field : {A : Type 0} (fs : List (List ℕ)) (k : ℕ) → k < length fs → None ≡ field_at fs k → A
+no_field fs k there e = absurd (omega (arith, there, field_at-none fs k e))
 
 -- a record of seven fields has them at the places 0 to 6
 seven_fields-at : (fs : List (List ℕ)) (room count kind card old_code new_code moment : List ℕ) → length fs ≡ 7 → Some room ≡ field_at fs 0 → Some count ≡ field_at fs 1 → Some kind ≡ field_at fs 2
@@ -26,46 +29,25 @@ seven_fields-at (f0 ∷ f1 ∷ f2 ∷ f3 ∷ f4 ∷ f5 ∷ f6 ∷ []) r n k c o 
 seven_fields-at (f0 ∷ f1 ∷ f2 ∷ f3 ∷ f4 ∷ f5 ∷ f6 ∷ f7 ∷ fs) r n k c o w m l e0 e1 e2 e3 e4 e5 e6 = absurd (omega (arith, l))
 
 pub returns-in_err-get : goal.returns-in_err-get
-returns-in_err-get c =
-    let l : length (fields_of c.args.row.now) ≡ 7 = omega arith in
-    let e = c.in_err-get.ensures.value in
-    absurd (omega (arith, field_at-none (fields_of c.args.row.now) 0 (search rules)))
+returns-in_err-get c = let e = c.in_err-get.ensures.value in no_field (fields_of c.args.row.now) 0 (omega arith) (search rules)
 
 pub returns-in_err-get-2 : goal.returns-in_err-get-2
-returns-in_err-get-2 c =
-    let l : length (fields_of c.args.row.now) ≡ 7 = omega arith in
-    let e = c.in_err-get-2.ensures.value in
-    absurd (omega (arith, field_at-none (fields_of c.args.row.now) 1 (search rules)))
+returns-in_err-get-2 c = let e = c.in_err-get-2.ensures.value in no_field (fields_of c.args.row.now) 1 (omega arith) (search rules)
 
 pub returns-in_err-get-3 : goal.returns-in_err-get-3
-returns-in_err-get-3 c =
-    let l : length (fields_of c.args.row.now) ≡ 7 = omega arith in
-    let e = c.in_err-get-3.ensures.value in
-    absurd (omega (arith, field_at-none (fields_of c.args.row.now) 2 (search rules)))
+returns-in_err-get-3 c = let e = c.in_err-get-3.ensures.value in no_field (fields_of c.args.row.now) 2 (omega arith) (search rules)
 
 pub returns-in_err-get-4 : goal.returns-in_err-get-4
-returns-in_err-get-4 c =
-    let l : length (fields_of c.args.row.now) ≡ 7 = omega arith in
-    let e = c.in_err-get-4.ensures.value in
-    absurd (omega (arith, field_at-none (fields_of c.args.row.now) 3 (search rules)))
+returns-in_err-get-4 c = let e = c.in_err-get-4.ensures.value in no_field (fields_of c.args.row.now) 3 (omega arith) (search rules)
 
 pub returns-in_err-get-5 : goal.returns-in_err-get-5
-returns-in_err-get-5 c =
-    let l : length (fields_of c.args.row.now) ≡ 7 = omega arith in
-    let e = c.in_err-get-5.ensures.value in
-    absurd (omega (arith, field_at-none (fields_of c.args.row.now) 4 (search rules)))
+returns-in_err-get-5 c = let e = c.in_err-get-5.ensures.value in no_field (fields_of c.args.row.now) 4 (omega arith) (search rules)
 
 pub returns-in_err-get-6 : goal.returns-in_err-get-6
-returns-in_err-get-6 c =
-    let l : length (fields_of c.args.row.now) ≡ 7 = omega arith in
-    let e = c.in_err-get-6.ensures.value in
-    absurd (omega (arith, field_at-none (fields_of c.args.row.now) 5 (search rules)))
+returns-in_err-get-6 c = let e = c.in_err-get-6.ensures.value in no_field (fields_of c.args.row.now) 5 (omega arith) (search rules)
 
 pub returns-in_err-get-7 : goal.returns-in_err-get-7
-returns-in_err-get-7 c =
-    let l : length (fields_of c.args.row.now) ≡ 7 = omega arith in
-    let e = c.in_err-get-7.ensures.value in
-    absurd (omega (arith, field_at-none (fields_of c.args.row.now) 6 (search rules)))
+returns-in_err-get-7 c = let e = c.in_err-get-7.ensures.value in no_field (fields_of c.args.row.now) 6 (omega arith) (search rules)
 
 pub returns : goal.returns
 returns c =

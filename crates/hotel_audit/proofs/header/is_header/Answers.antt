@@ -1,8 +1,7 @@
 use Rattle.std.proofs.Common.{ℕ, Bool, rules, refl, sym, ◌∙◌, ◌≡◌, ◌&&◌, true, false, List, [], ◌∷◌, Some, codes}
 use Rattle.std.proofs.Math.Bool.{and_assoc}
 use Rattle.csv.specs.Records.{fields_of}
-use Rattle.hotel_audit.specs.Fields.{FieldTexts, seven_fields}
-use Rattle.hotel_audit.specs.Header.{is_header}
+use Rattle.hotel_audit.specs.{Fields.FieldTexts, Fields.seven_fields, Header.is_header}
 use Rattle.std.specs.Str.{bytes_eq}
 use Rattle.hotel_audit.proofs.header.is_header.Goals as goal
 use Rattle.hotel_audit.proofs.header.is_header.Goals.{then-eq, else-eq, then-eq-2, else-eq-2, then-eq-3, else-eq-3, then-eq-4, else-eq-4, then-eq-5, else-eq-5}
@@ -15,15 +14,8 @@ not_all-more a b c d e f rest h =
 -- the test of a record of seven fields
 is_header-seven : (fs : List (List ℕ)) (t : FieldTexts) → Some t ≡ seven_fields fs
     → is_header fs ≡ (bytes_eq t.room (codes "room") && (bytes_eq t.count (codes "count") && (bytes_eq t.kind (codes "kind") && (bytes_eq t.card (codes "card") && (bytes_eq t.old_code (codes "old") && (bytes_eq t.new_code (codes "new") && (bytes_eq t.moment (codes "at") && true)))))))
-is_header-seven [] t e = cc e
-is_header-seven (f0 ∷ []) t e = cc e
-is_header-seven (f0 ∷ f1 ∷ []) t e = cc e
-is_header-seven (f0 ∷ f1 ∷ f2 ∷ []) t e = cc e
-is_header-seven (f0 ∷ f1 ∷ f2 ∷ f3 ∷ []) t e = cc e
-is_header-seven (f0 ∷ f1 ∷ f2 ∷ f3 ∷ f4 ∷ []) t e = cc e
-is_header-seven (f0 ∷ f1 ∷ f2 ∷ f3 ∷ f4 ∷ f5 ∷ []) t e = cc e
 is_header-seven (f0 ∷ f1 ∷ f2 ∷ f3 ∷ f4 ∷ f5 ∷ f6 ∷ []) t e = let same : t ≡ record { room = f0; count = f1; kind = f2; card = f3; old_code = f4; new_code = f5; moment = f6 } = cc e in rw same refl
-is_header-seven (f0 ∷ f1 ∷ f2 ∷ f3 ∷ f4 ∷ f5 ∷ f6 ∷ f7 ∷ fs) t e = cc e
+is_header-seven _ t e = cc e
 
 pub returns-else-eq-6 : goal.returns-else-eq-6
 returns-else-eq-6 c =

@@ -1,8 +1,6 @@
-use Rattle.std.proofs.Common.{◌≡◌, ◌∙◌, refl, subst}
-use Rattle.std.specs.Prelude.{Result, Ok, Err, IfOk, IfErr, OnErr}
-use Rattle.hotel_core.specs.Books.Failures.{AreCounted}
-use Rattle.hotel_audit.proofs.Imports.{lead-note, lead-unread}
-use Rattle.hotel_audit.proofs.NoteReplies.{answered_reply, failed_reply, failure_told}
+use Rattle.std.proofs.Common.{◌≡◌, ◌∙◌, refl, subst, Result, Ok, Err, IfOk, IfErr, OnErr}
+use Rattle.hotel_core.proofs.Names.{AreCounted}
+use Rattle.hotel_audit.proofs.{Imports.lead-note, Imports.lead-unread, NoteReplies.answered_reply, NoteReplies.failed_reply, NoteReplies.failure_told}
 use Rattle.hotel_audit.proofs.importing.answer_line.Goals as goal
 
 if_ok : {A E : Type 0} (r : Result A E) (P : A → Type 0) → ((a : A) → Ok a ≡ r → P a) → IfOk r P

@@ -1,9 +1,6 @@
-use Rattle.std.proofs.Common.{◌≡◌, Err, [], ap, refl, inl, inr}
-use Rattle.std.specs.Prelude.{◌≢◌, ◌⊎◌}
-use Rattle.hotel_audit.specs.declared.audit_file.AuditFault.{AuditFault}
+use Rattle.std.proofs.Common.{◌≡◌, Err, [], ap, refl, inl, inr, ◌≢◌, ◌⊎◌}
+use Rattle.hotel_audit.specs.{declared.audit_file.AuditFault.AuditFault, AuditFile.audit_lines, declared.importing.ImportFault.TheVariants.File}
 use Rattle.hotel_audit.specs.declared.audit_file.AuditFault.TheVariants.{TooLarge, NoHeader, WrongHeader, Memory}
-use Rattle.hotel_audit.specs.AuditFile.{audit_lines}
-use Rattle.hotel_audit.specs.declared.importing.ImportFault.TheVariants.{File}
 use Rattle.hotel_audit.proofs.Imports.{lead-none}
 use Rattle.hotel_audit.proofs.importing.import.Goals as goal
 

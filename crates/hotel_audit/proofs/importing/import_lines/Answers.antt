@@ -1,11 +1,7 @@
-use Rattle.std.proofs.Common.{◌≡◌, ◌∙◌, ◌+◌, subst, false, Ok, [], ◌∷◌, ◌++◌, take, drop, length, arith, sym, refl, ap, inl}
-use Rattle.std.specs.Prelude.{◌||◌}
-use Rattle.hotel_core.specs.Books.Failures.{AreCounted}
-use Rattle.hotel_core.proofs.OfCode.FailuresCounted.{counted_after}
-use Rattle.std.proofs.lemmas.List.{take_more, take-append-drop}
-use Rattle.hotel_audit.specs.declared.answer.LineAnswer.{LineAnswer}
-use Rattle.hotel_audit.specs.declared.answer.LineAnswer.TheVariants.{Taken}
-use Rattle.hotel_audit.specs.Import.{LinesLeadTo, has_taken, refusal_by}
+use Rattle.std.proofs.Common.{ℕ, ◌≡◌, ◌∙◌, ◌+◌, subst, Bool, false, Ok, List, [], ◌∷◌, ◌++◌, take, drop, length, arith, sym, refl, ap, inl, ◌||◌}
+use Rattle.hotel_core.proofs.{Names.Rows, Names.take_more, OfCode.FailuresCounted.counted_after}
+use Rattle.std.proofs.lemmas.List.{take-append-drop}
+use Rattle.hotel_audit.specs.{declared.answer.LineAnswer.LineAnswer, declared.answer.LineAnswer.TheVariants.Taken, declared.line.Line.Line, Import.AreAnswered, Import.IsFrontOf, Import.LinesLeadTo, Import.has_taken}
 use Rattle.hotel_audit.proofs.Imports.{AreAnswered-append, has_taken-push, lead-join, lead-none}
 use Rattle.hotel_audit.proofs.importing.import_lines.Goals as goal
 use Rattle.hotel_audit.proofs.importing.import_lines.Goals.{then-taken, else-taken+in-Taken, else-taken+in_default-matches}
@@ -14,6 +10,18 @@ use Rattle.hotel_audit.proofs.importing.import_lines.Goals.{then-taken, else-tak
 has_taken-other : (a : LineAnswer) → (a ≡ Taken → ⊥) → has_taken (a ∷ []) ≡ false
 has_taken-other Taken other = absurd (other refl)
 has_taken-other _ other = refl
+
+-- a line failed: those before it were answered, and the rows are as these left them
+answered_before : (clean : Type 0) (old now later : Rows) (lines : List Line) (i : ℕ) (answers : List LineAnswer) (answered : ℕ) (taken : Bool)
+    → AreAnswered (take i lines) answers → length answers ≡ answered → taken ≡ has_taken answers → (clean → later ≡ now) → (clean → LinesLeadTo old (take i lines) answers now)
+    → (done : List Line) × (given : List LineAnswer) × AreAnswered done given × IsFrontOf (Ok lines) done given answered taken × (clean → LinesLeadTo old done given later)
+answered_before clean old now later lines i answers answered taken each count some same lead = (
+  take i lines,
+  answers,
+  each,
+  (drop i lines, ap (λ ls. Ok ls) (sym (take-append-drop i lines)), count, sym some),
+  λ here. subst (LinesLeadTo old (take i lines) answers) (sym (same here)) (lead here),
+)
 
 pub loop-line-init : goal.loop-line-init
 loop-line-init g c = record {
@@ -33,39 +41,21 @@ pub returns-in-Err-Memory-clause-imported : goal.returns-in-Err-Memory-clause-im
 returns-in-Err-Memory-clause-imported g c =
     let inv = c.loop-line.invariant in
     let f = c.in-Err-Memory.ensures in
-    let i = c.loop-line.line-index in
-    let count : length c.loop-line.answers.items ≡ c.len-answered.result = omega (arith, c.len-answered.ensures) in (
-      take i c.args.lines.now,
-      c.loop-line.answers.items,
-      inv.each,
-      (drop i c.args.lines.now, ap (λ ls. Ok ls) (sym (take-append-drop i c.args.lines.now)), count, sym inv.taken),
-      λ clean. subst (λ rows. LinesLeadTo (g.B.Books.rows c.args.books.now) (take i c.args.lines.now) c.loop-line.answers.items rows) (sym (f.unchanged clean)) (inv.lead (f.was_clean clean)),
-    )
+    answered_before (g.B.Issued.is_clean c.answer_line.new.books) (g.B.Books.rows c.args.books.now) (g.B.Books.rows c.loop-line.books) (g.B.Books.rows c.answer_line.new.books) c.args.lines.now c.loop-line.line-index
+    c.loop-line.answers.items c.len-answered.result c.loop-line.taken inv.each (omega (arith, c.len-answered.ensures)) inv.taken f.unchanged (λ clean. inv.lead (f.was_clean clean))
 
 pub returns-in-Err-Store-clause-imported : goal.returns-in-Err-Store-clause-imported
 returns-in-Err-Store-clause-imported g c =
     let inv = c.loop-line.invariant in
     let f = c.in-Err-Store.ensures in
-    let i = c.loop-line.line-index in
-    let count : length c.loop-line.answers.items ≡ c.len-answered.result = omega (arith, c.len-answered.ensures) in (
-      take i c.args.lines.now,
-      c.loop-line.answers.items,
-      inv.each,
-      (drop i c.args.lines.now, ap (λ ls. Ok ls) (sym (take-append-drop i c.args.lines.now)), count, sym inv.taken),
-      λ clean. subst (λ rows. LinesLeadTo (g.B.Books.rows c.args.books.now) (take i c.args.lines.now) c.loop-line.answers.items rows) (sym (f.unchanged clean)) (inv.lead (f.was_clean clean)),
-    )
+    answered_before (g.B.Issued.is_clean c.answer_line.new.books) (g.B.Books.rows c.args.books.now) (g.B.Books.rows c.loop-line.books) (g.B.Books.rows c.answer_line.new.books) c.args.lines.now c.loop-line.line-index
+    c.loop-line.answers.items c.len-answered.result c.loop-line.taken inv.each (omega (arith, c.len-answered.ensures)) inv.taken f.unchanged (λ clean. inv.lead (f.was_clean clean))
 
 pub returns-in-Err-Memory-clause-failed : goal.returns-in-Err-Memory-clause-failed
-returns-in-Err-Memory-clause-failed g c = λ clean.
-    let inv = c.loop-line.invariant in
-    let f = c.in-Err-Memory.ensures in
-    counted_after _ _ _ _ inv.counted (subst (λ why. AreCounted (g.B.Issued.failures c.loop-line.books) (g.B.Issued.failures c.answer_line.new.books) (refusal_by why ∷ [])) c.in-Err-Memory.field-0-is (f.failed clean))
+returns-in-Err-Memory-clause-failed g c = λ clean. counted_after _ _ _ _ c.loop-line.invariant.counted (rw c.in-Err-Memory.field-0-is at (c.in-Err-Memory.ensures.failed clean))
 
 pub returns-in-Err-Store-clause-failed : goal.returns-in-Err-Store-clause-failed
-returns-in-Err-Store-clause-failed g c = λ clean.
-    let inv = c.loop-line.invariant in
-    let f = c.in-Err-Store.ensures in
-    counted_after _ _ _ _ inv.counted (subst (λ why. AreCounted (g.B.Issued.failures c.loop-line.books) (g.B.Issued.failures c.answer_line.new.books) (refusal_by why ∷ [])) c.in-Err-Store.field-0-is (f.failed clean))
+returns-in-Err-Store-clause-failed g c = λ clean. counted_after _ _ _ _ c.loop-line.invariant.counted (rw c.in-Err-Store.field-0-is at (c.in-Err-Store.ensures.failed clean))
 
 pub loop-line-preserved : goal.loop-line-preserved
 loop-line-preserved g c =

@@ -1,6 +1,5 @@
 use Rattle.std.proofs.Common.{◌∙◌}
-use Rattle.hotel_lists.proofs.BytesLemmas.{on_err}
-use Rattle.hotel_lists.proofs.CallsLemmas.{then_none_forgotten}
+use Rattle.hotel_lists.proofs.{BytesLemmas.on_err, CallsLemmas.then_none_forgotten}
 use Rattle.hotel_audit.proofs.AnswersWritten.{answers_written, answers_front}
 use Rattle.hotel_audit.proofs.written.write_answers.Goals as goal
 

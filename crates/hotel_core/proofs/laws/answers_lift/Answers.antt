@@ -1,5 +1,4 @@
-use Rattle.hotel_core.proofs.Lifted.LiftAll.{answers_lift}
-use Rattle.hotel_core.proofs.Lifted.ListRows.{lists_lift}
+use Rattle.hotel_core.proofs.{Lifted.LiftAll.answers_lift, Lifted.ListRows.lists_lift}
 use Rattle.hotel_core.proofs.laws.answers_lift.Goals as goal
 
 pub returns-clause-answers : goal.returns-clause-answers

@@ -1,7 +1,5 @@
-use Rattle.std.proofs.Common.{◌≡◌, ℕ, Bool, true, false, replicate, refl, sym, ap, ◌∙◌}
-use Rattle.std.specs.Prelude.{not, slice_index, bytes_eq}
-use Rattle.std.proofs.lemmas.Slice.Eq.{bytes_eq-Decides}
-use Rattle.hotel_core.proofs.OfNights.NightCounts.{zeros}
+use Rattle.std.proofs.Common.{◌≡◌, ℕ, Bool, true, false, replicate, refl, sym, ap, ◌∙◌, not, slice_index, bytes_eq}
+use Rattle.hotel_core.proofs.{Names.bytes_eq-Decides, OfNights.NightCounts.zeros}
 use Rattle.hotel_core.proofs.night_counts.less.Goals as goal
 
 not_false : (b : Bool) → not b ≡ false → b ≡ true

@@ -1,10 +1,7 @@
-use Rattle.std.proofs.Common.{◌≡◌, ◌+◌, take, length, length-append, ◌++◌, ◌∷◌, [], sym, ap, ◌∙◌, arith, subst}
-use Rattle.std.proofs.lemmas.List.{take_more, take_all}
-use Rattle.hotel_core.specs.Model.Laws.{RunsTo}
-use Rattle.hotel_core.specs.Books.Failures.{AreCounted, failures_in}
-use Rattle.hotel_core.proofs.OfCode.FailuresCounted.{counted_join, failures_in-push}
-use Rattle.hotel_core.proofs.Lifted.RunParts.{runs_step}
-use Rattle.hotel_core.proofs.Invariants.Assurance.{runs_safely}
+use Rattle.std.proofs.Common.{◌≡◌, ◌+◌, take, ◌++◌, ◌∷◌, [], sym, ap, ◌∙◌, arith, subst}
+use Rattle.hotel_core.proofs.{Names.take_more, Names.RunsTo, OfCode.FailuresCounted.counted_join, OfCode.FailuresCounted.failures_in-push}
+use Rattle.std.proofs.lemmas.List.{take_all}
+use Rattle.hotel_core.proofs.{Lifted.RunParts.runs_step, Invariants.Assurance.runs_safely}
 use Rattle.hotel_core.proofs.runs.run.Goals as goal
 
 pub loop-command-preserved : goal.loop-command-preserved

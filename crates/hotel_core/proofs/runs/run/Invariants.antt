@@ -1,9 +1,5 @@
 use Rattle.std.proofs.Common.{◌≡◌, ◌≤◌, take, length, vec_len, vec_capacity}
-use Rattle.keycard_rules.specs.Rise.{NoFewer}
-use Rattle.hotel_core.specs.Model.History.{History}
-use Rattle.hotel_core.specs.Model.Run.{StandsFor}
-use Rattle.hotel_core.specs.Model.Laws.{RunsTo}
-use Rattle.hotel_core.specs.Books.Failures.{AreCounted, failures_in}
+use Rattle.hotel_core.proofs.Names.{NoFewer, History, StandsFor, RunsTo, AreCounted, failures_in}
 use Rattle.hotel_core.proofs.runs.run.Given as goal
 
 abbrev pub invariant-loop-command : goal.invariant-loop-command

@@ -1,6 +1,4 @@
-use Rattle.hotel_core.proofs.Lifted.Runs.{steps_lift}
-use Rattle.hotel_core.proofs.Invariants.Assurance.{assured_too}
-use Rattle.hotel_core.proofs.OfCode.FailuresCounted.{step_counted}
+use Rattle.hotel_core.proofs.{Lifted.Runs.steps_lift, Invariants.Assurance.assured_too, OfCode.FailuresCounted.step_counted}
 use Rattle.hotel_core.proofs.steps.step.Goals as goal
 
 pub returns-clause-step : goal.returns-clause-step

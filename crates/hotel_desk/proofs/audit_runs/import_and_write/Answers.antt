@@ -13,7 +13,7 @@ returns-in-Err-clause-ends g c =
     let e = c.in-Err.ensures in (
       Err c.in-Err.fault,
       false,
-      ap (λ f. Err f) c.import_fault.ensures,
+      ap (λ f. Err f) c.import_fault.ensures.fault,
       refl,
       record {
         went = e.imported;
@@ -32,7 +32,7 @@ returns-in-Ok-write_answers-clause-ends g c =
     let new = g.W.Write.contents c.write_answers.new.writer in (
       Ok c.in-Ok.answers.items,
       false,
-      ap (λ s. Ok s) (c.answers_status.ensures ∙ ap answers_status items),
+      ap (λ s. Ok s) (c.answers_status.ensures.status ∙ ap answers_status items),
       subst (λ (l : List LineAnswer). Appends old new (answers_text 1 l)) items c.in-Ok-write_answers.ensures.ok,
       record {
         went = e.imported;
@@ -65,4 +65,4 @@ returns-clause-ends g c =
 pub returns-in-Err-clause-failed : goal.returns-in-Err-clause-failed
 returns-in-Err-clause-failed g c = λ e.
     let written : c.import_fault.result ≡ Write = cc in
-    absurd (no_failed_write c.in-Err.fault (sym c.import_fault.ensures ∙ written))
+    absurd (no_failed_write c.in-Err.fault (sym c.import_fault.ensures.fault ∙ written))

@@ -3,8 +3,8 @@ use Rattle.hotel_desk.specs.declared.faults.Fault.{Fault}
 use Rattle.hotel_desk.specs.Faults.{end_status, Tells}
 use Rattle.hotel_desk.proofs.audit_runs.run_audit.Goals as goal
 
-pub returns : goal.returns
-returns g c =
+pub returns-clause-ends : goal.returns-clause-ends
+returns-clause-ends g c =
     let e = c.import_and_write-end.ensures.ends in (
       e.0,
       e.1,

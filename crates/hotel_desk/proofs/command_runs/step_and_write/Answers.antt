@@ -9,7 +9,7 @@ returns-in-Ok-clause-ends g c =
     let text = c.as_bytes.ensures.same ∙ c.reply_text.ensures in (
       c.step-reply.result,
       false,
-      ap Ok c.status_of.ensures,
+      ap Ok c.status_of.ensures.status,
       subst (λ (t : List ℕ). Appends (g.W.Write.contents c.args.writer.now) (g.W.Write.contents c.write_bytes.new.writer) t) text c.in-Ok.ensures.ok,
       record { went = e.step; was_clean = e.was_clean; failed = e.failed; counted = e.counted },
     )

@@ -4,10 +4,10 @@ use Rattle.hotel_desk.specs.Faults.{end_status, Tells}
 use Rattle.hotel_desk.proofs.ListRunLemmas.{answer_ends}
 use Rattle.hotel_desk.proofs.list_runs.run_list.Goals as goal
 
-pub returns : goal.returns
-returns g c =
+pub returns-clause-ends : goal.returns-clause-ends
+returns-clause-ends g c =
     let ended = c.write_list_or_refusal-end.ensures in
-    let end = c.end_of_list.ensures in (
+    let end = c.end_of_list.ensures.end in (
       c.write_list_or_refusal-end.result,
       c.finish.ensures.status ∙ ap end_status end,
       subst (λ (e : Result ℕ Fault). Tells g.F.FaultSink.told c.args.faults.now e c.finish.new.faults) end c.finish.ensures.told,

@@ -1,8 +1,12 @@
-use Rattle.hotel_desk.proofs.ServingLemmas.{none_served}
+use Rattle.std.proofs.Common.{refl, None, Some}
+use Rattle.hotel_desk.proofs.ServingLemmas.{nothing_came, one_served}
 use Rattle.hotel_desk.proofs.serving.serve_connection.Goals as goal
 
-pub returns-in_default-clause-books : goal.returns-in_default-clause-books
-returns-in_default-clause-books g c = λ clean. none_served _ _
+pub returns-in_default-clause-ends : goal.returns-in_default-clause-ends
+returns-in_default-clause-ends g c = (None, refl, λ clean. one_served _ _ _ _ None (nothing_came _ _))
 
-pub returns-then-not-is_patient-clause-books : goal.returns-then-not-is_patient-clause-books
-returns-then-not-is_patient-clause-books g c = λ clean. none_served _ _
+pub returns-then-not-is_patient-clause-ends : goal.returns-then-not-is_patient-clause-ends
+returns-then-not-is_patient-clause-ends g c = (None, refl, λ clean. one_served _ _ _ _ None (nothing_came _ _))
+
+pub returns-clause-ends : goal.returns-clause-ends
+returns-clause-ends g c = let e = c.serve_stream.ensures.ends in (Some e.0, e.1, e.2)

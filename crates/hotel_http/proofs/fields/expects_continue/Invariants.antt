@@ -1,7 +1,6 @@
 -- no field so far says so
-use Rattle.std.proofs.Common.{◌≡◌, take}
-use Rattle.std.specs.List.{list_any}
-use Rattle.std.specs.Prelude.{false}
+use Rattle.std.proofs.Common.{◌≡◌, take, false}
+use Rattle.hotel_core.proofs.Names.{list_any}
 use Rattle.httparse.specs.Spans.{header_bytes}
 use Rattle.hotel_http.specs.Fields.{is_expectation}
 use Rattle.hotel_http.proofs.fields.expects_continue.Given as goal

@@ -1,6 +1,5 @@
 -- what was found is right for the fields so far
-use Rattle.form_urlencoded.specs.Form.{raw_pairs}
-use Rattle.form_urlencoded.specs.Parse.{pairs_left}
+use Rattle.form_urlencoded.specs.{Form.raw_pairs, Parse.pairs_left}
 use Rattle.hotel_http.specs.Form.{texts_named}
 use Rattle.hotel_http.proofs.FormLemmas.{Found}
 use Rattle.hotel_http.proofs.form.read_form.Given as goal

@@ -1,5 +1,4 @@
-use Rattle.std.proofs.Common.{◌≤◌, ◌∙◌, arith, sym, ap, subst, length-take, drop, ◌++◌, ℕ, List, length}
-use Rattle.std.specs.Prelude.{IsUtf8}
+use Rattle.std.proofs.Common.{◌≤◌, ◌∙◌, arith, sym, ap, subst, length-take, drop, ◌++◌, ℕ, List, length, IsUtf8}
 use Rattle.httparse.specs.Spans.{IsRequestAt}
 use Rattle.hotel_http.specs.Plan.{path_of}
 use Rattle.hotel_http.proofs.RequestLemmas.{head_ends, head_rejected}

@@ -1,10 +1,6 @@
-use Rattle.std.proofs.Common.{sym, subst, take, drop, ◌++◌, ℕ, List}
-use Rattle.std.specs.Prelude.{IfSome}
-use Rattle.httparse.specs.Grammar.{RequestHead}
-use Rattle.httparse.specs.Spans.{IsRequestWithin, IsRequestAt}
-use Rattle.hotel_http.specs.Head.{LiesWithin, IsJudged}
-use Rattle.hotel_http.specs.Request.{EndsHead}
-use Rattle.hotel_http.specs.declared.head.Judged.{Judged}
+use Rattle.std.proofs.Common.{sym, subst, take, drop, ◌++◌, ℕ, List, IfSome}
+use Rattle.httparse.specs.{Grammar.RequestHead, Spans.IsRequestWithin, Spans.IsRequestAt}
+use Rattle.hotel_http.specs.{Head.LiesWithin, Head.IsJudged, Request.EndsHead, declared.head.Judged.Judged}
 use Rattle.hotel_http.proofs.RequestLemmas.{request_ends}
 use Rattle.hotel_http.proofs.requests.read_request.Goals as goal
 

@@ -1,8 +1,5 @@
-use Rattle.std.proofs.Common.{[], ℕ, List, subst}
-use Rattle.std.specs.Prelude.{false}
-use Rattle.hotel_http.specs.Answer.{list_answer}
-use Rattle.hotel_http.specs.Serve.{outcome, EndsAs}
-use Rattle.hotel_http.specs.declared.status.Status.TheVariants.{Success}
+use Rattle.std.proofs.Common.{[], ℕ, List, subst, false}
+use Rattle.hotel_http.specs.{Answer.list_answer, Serve.outcome, Serve.EndsAs, declared.status.Status.TheVariants.Success}
 use Rattle.hotel_http.proofs.ServeLemmas.{ends_as, list_came, list_there, list_refused}
 use Rattle.hotel_http.proofs.serve.answer_list.Goals as goal
 

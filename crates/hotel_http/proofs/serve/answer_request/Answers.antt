@@ -1,7 +1,6 @@
 use Rattle.std.proofs.Common.{[], sym, subst, List, ℕ}
 use Rattle.hotel_core.specs.Model.Leads.{Leads}
-use Rattle.hotel_http.specs.Serve.{Answered, TaskComes, FileComes}
-use Rattle.hotel_http.specs.declared.tasks.Task.{Task}
+use Rattle.hotel_http.specs.{Serve.Answered, Serve.TaskComes, Serve.FileComes, declared.tasks.Task.Task}
 use Rattle.hotel_http.proofs.serve.answer_request.Goals as goal
 
 pub returns-in-Audit-clause-went : goal.returns-in-Audit-clause-went

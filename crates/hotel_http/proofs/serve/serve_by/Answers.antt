@@ -1,15 +1,8 @@
-use Rattle.std.proofs.Common.{arith, sym, subst, ◌≡◌, Result, Ok, Err, inl}
-use Rattle.std.specs.Prelude.{Bool}
+use Rattle.std.proofs.Common.{arith, sym, subst, ◌≡◌, Result, Ok, Err, inl, Bool}
 use Rattle.hotel_core.proofs.OfCode.FailuresCounted.{none_counted}
 use Rattle.hotel_core.specs.Model.Leads.{Leads}
-use Rattle.hotel_http.specs.Body.{interim_where}
-use Rattle.hotel_http.specs.Request.{Wanted, EndsRequest}
-use Rattle.hotel_http.specs.Serve.{Answered, Comes, Serves}
-use Rattle.hotel_http.specs.declared.rejection.Rejection.{Rejection}
-use Rattle.hotel_http.specs.declared.requests.Request.{Request}
-use Rattle.hotel_http.specs.declared.serve.Cut.{Cut}
-use Rattle.hotel_http.specs.declared.serve.Served.{Served}
-use Rattle.hotel_http.specs.declared.serve.ServeFault.{ServeFault}
+use Rattle.hotel_http.specs.{Body.interim_where, Request.Wanted, Request.EndsRequest, Serve.Answered, Serve.Comes, Serve.Serves, declared.rejection.Rejection.Rejection}
+use Rattle.hotel_http.specs.{declared.requests.Request.Request, declared.serve.Cut.Cut, declared.serve.Served.Served, declared.serve.ServeFault.ServeFault}
 use Rattle.hotel_http.proofs.ServeLemmas.{request_served, rejection_served, is_cut}
 use Rattle.hotel_http.proofs.serve.serve_by.Goals as goal
 

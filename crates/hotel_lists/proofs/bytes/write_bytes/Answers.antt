@@ -1,5 +1,4 @@
-use Rattle.hotel_lists.proofs.BytesLemmas.{appended_next}
-use Rattle.hotel_lists.proofs.CallsLemmas.{then_none_forgotten}
+use Rattle.hotel_lists.proofs.{BytesLemmas.appended_next, CallsLemmas.then_none_forgotten}
 use Rattle.hotel_lists.proofs.bytes.write_bytes.Goals as goal
 
 pub loop-done-preserved : goal.loop-done-preserved

@@ -1,8 +1,7 @@
 -- the parts so far were added
 use Rattle.std.proofs.Common.{take}
 use Rattle.std.specs.Io.KnownBytes.{Appends}
-use Rattle.hotel_lists.specs.Bytes.{joined}
-use Rattle.hotel_lists.specs.Calls.{NoneForgotten}
+use Rattle.hotel_lists.specs.{Bytes.joined, Calls.NoneForgotten}
 use Rattle.hotel_lists.proofs.bytes.write_parts.Given as goal
 
 abbrev pub invariant-loop-part : goal.invariant-loop-part

@@ -1,6 +1,5 @@
 use Rattle.std.proofs.Common.{◌≡◌, ◌-◌, count_by}
-use Rattle.hotel_nights.specs.Block.{was_taken}
-use Rattle.hotel_nights.specs.FullNight.{first_day, is_full}
+use Rattle.hotel_nights.specs.{Block.was_taken, FullNight.first_day, FullNight.is_full}
 use Rattle.hotel_nights.proofs.block.first_in_block.Given as goal
 
 abbrev pub invariant-loop-night : goal.invariant-loop-night

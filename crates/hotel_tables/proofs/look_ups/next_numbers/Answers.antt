@@ -1,13 +1,10 @@
-use Rattle.std.proofs.Common.{◌≡◌, ◌∙◌, ap, ap₂, arith, rules}
+use Rattle.std.proofs.Common.{◌∙◌, ap, ap₂, arith, rules}
 use Rattle.std.specs.Prelude.{length}
 use Rattle.sqlite.specs.Held.{state}
 use Rattle.sqlite.specs.Effect.{Database}
-use Rattle.sqlite.specs.State.{State, HasCleanDisk, Survives}
-use Rattle.sqlite.proofs.StateLemmas.{survives_then}
-use Rattle.hotel_core.specs.declared.books.rows.NextNumbers.{NextNumbers}
+use Rattle.sqlite.specs.State.{HasCleanDisk}
 use Rattle.hotel_core.specs.Books.Lookups.{number_after}
 use Rattle.hotel_tables.specs.Tables.{rows_in}
-use Rattle.hotel_tables.specs.Books.{IsKept, KeepsRows}
 use Rattle.hotel_tables.proofs.Keeps.{then_keeps, then_survives}
 use Rattle.hotel_tables.proofs.look_ups.next_numbers.Goals as goal
 

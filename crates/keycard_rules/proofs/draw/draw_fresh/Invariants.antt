@@ -1,6 +1,5 @@
 use Rattle.std.proofs.Common.{◌≡◌}
-use Rattle.keycard_rules.specs.Rise.{NoFewer}
-use Rattle.keycard_rules.specs.Draw.{past}
+use Rattle.keycard_rules.specs.{Rise.NoFewer, Draw.past}
 use Rattle.keycard_rules.proofs.Drawing.{SoFar}
 use Rattle.keycard_rules.proofs.draw.draw_fresh.Given as goal
 

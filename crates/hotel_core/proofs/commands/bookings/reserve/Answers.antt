@@ -1,17 +1,10 @@
-use Rattle.std.proofs.Common.{ℕ, ◌≡◌, true, false, None, List, refl, sym, ap, ◌∙◌, arith}
+use Rattle.std.proofs.Common.{ℕ, ◌≡◌, true, false, None, List, refl, sym, ap, ◌∙◌, arith, nat_lt, ◌+◌, ◌-◌, []}
+use Rattle.hotel_core.proofs.{Names.outcome_on, Names.nat_tests, Names.Change, Names.Outcome, Names.accepted, OfTables.DayNumbers.is_day, OfTables.DayNumbers.no_day}
 use Rattle.hotel_core.specs.declared.reply.Refusal.TheVariants as refusal
 use Rattle.hotel_core.specs.declared.reply.Reply.TheVariants as reply
 use Rattle.hotel_core.specs.declared.books.change.Change.TheVariants as change
-use Rattle.hotel_core.specs.Refinement.OnRows.{outcome_on}
-use Rattle.hotel_core.proofs.OfTables.DayNumbers.{is_day, no_day}
-use Rattle.hotel_core.proofs.OfCode.Parts.{begun, then_found, stopped, refuses, ends, only}
-use Rattle.std.specs.Prelude.{nat_lt, ◌+◌, ◌-◌}
-use Rattle.std.proofs.lemmas.Bool.Decides.{nat_tests}
-use Rattle.hotel_core.proofs.OfCode.Parts.{number_is}
+use Rattle.hotel_core.proofs.{OfCode.Parts.begun, OfCode.Parts.then_found, OfCode.Parts.stopped, OfCode.Parts.refuses, OfCode.Parts.ends, OfCode.Parts.only, OfCode.Parts.number_is}
 use Rattle.hotel_nights.specs.declared.stay.StayState.TheVariants as state
-use Rattle.hotel_core.specs.declared.books.change.Change.{Change}
-use Rattle.hotel_core.specs.Model.Outcome.{Outcome, accepted}
-use Rattle.std.specs.Prelude.{[]}
 use Rattle.hotel_core.proofs.OfCode.AnswerParts.{answers}
 use Rattle.hotel_core.specs.declared.command.Command.TheVariants as command
 use Rattle.hotel_core.proofs.commands.bookings.reserve.Goals as goal

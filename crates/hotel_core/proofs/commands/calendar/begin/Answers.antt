@@ -1,8 +1,6 @@
-use Rattle.std.proofs.Common.{◌≡◌, true, false, refl, is_some}
-use Rattle.hotel_core.specs.declared.reply.Refusal.TheVariants.{AlreadyBegun}
-use Rattle.hotel_core.specs.Refinement.OnRows.{outcome_on}
+use Rattle.std.proofs.Common.{◌≡◌, true, false, refl, is_some, []}
+use Rattle.hotel_core.proofs.Names.{AlreadyBegun, outcome_on}
 use Rattle.hotel_core.proofs.OfCode.Parts.{begun, then_found, stopped, refuses, ends, only}
-use Rattle.std.specs.Prelude.{[]}
 use Rattle.hotel_core.proofs.OfCode.AnswerParts.{answers}
 use Rattle.hotel_core.specs.declared.command.Command.TheVariants as command
 use Rattle.hotel_core.proofs.commands.calendar.begin.Goals as goal

@@ -1,14 +1,8 @@
-use Rattle.std.proofs.Common.{ℕ, ◌≡◌, true, false, nat_lt, ◌+◌, refl, arith, sym, ap}
-use Rattle.std.proofs.lemmas.Bool.Decides.{nat_tests}
-use Rattle.hotel_core.specs.declared.reply.Refusal.TheVariants.{LastDay}
+use Rattle.std.proofs.Common.{ℕ, ◌≡◌, true, false, nat_lt, ◌+◌, refl, arith, sym, ap, []}
+use Rattle.hotel_core.proofs.{Names.nat_tests, Names.LastDay, Names.accepted, Names.outcome_on, OfTables.DayNumbers.is_day, OfTables.DayNumbers.no_day}
 use Rattle.hotel_core.specs.declared.reply.Reply.TheVariants as reply
 use Rattle.hotel_core.specs.declared.books.change.Change.TheVariants as change
-use Rattle.hotel_core.specs.Model.Outcome.{accepted}
-use Rattle.hotel_core.specs.Refinement.OnRows.{outcome_on}
-use Rattle.hotel_core.proofs.OfTables.DayNumbers.{is_day, no_day}
-use Rattle.hotel_core.proofs.OfCode.Parts.{begun, then_found, stopped, refuses, ends}
-use Rattle.std.specs.Prelude.{[]}
-use Rattle.hotel_core.proofs.OfCode.AnswerParts.{answers}
+use Rattle.hotel_core.proofs.{OfCode.Parts.begun, OfCode.Parts.then_found, OfCode.Parts.stopped, OfCode.Parts.refuses, OfCode.Parts.ends, OfCode.AnswerParts.answers}
 use Rattle.hotel_core.specs.declared.command.Command.TheVariants as command
 use Rattle.hotel_core.proofs.commands.calendar.next_day.Goals as goal
 

@@ -1,6 +1,5 @@
-use Rattle.hotel_core.proofs.OfCode.Parts.{makes, fails}
+use Rattle.hotel_core.proofs.{OfCode.Parts.makes, OfCode.Parts.fails, RowsAfter.FitsAfter.fits_after}
 use Rattle.hotel_core.specs.Model.Outcome.{accepted}
-use Rattle.hotel_core.proofs.RowsAfter.FitsAfter.{fits_after}
 use Rattle.hotel_core.proofs.commands.changes.make.Goals as goal
 
 pub apply-requires : goal.apply-requires

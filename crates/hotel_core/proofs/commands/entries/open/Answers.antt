@@ -1,14 +1,7 @@
-use Rattle.std.proofs.Common.{ℕ, ◌≡◌, Bool, true, false, refl, ap, sym}
-use Rattle.std.specs.Prelude.{not}
-use Rattle.keycard_rules.specs.declared.card.Link.{Link}
-use Rattle.keycard_rules.specs.Note.{Note}
-use Rattle.hotel_core.specs.declared.books.rows.RoomRow.{RoomRow}
-use Rattle.hotel_core.specs.Model.Rows.{Rows}
-use Rattle.hotel_core.specs.Refinement.Noting.{IsUntaken}
-use Rattle.hotel_core.specs.Refinement.OnRows.{has_link_on}
+use Rattle.std.proofs.Common.{ℕ, ◌≡◌, true, refl}
+use Rattle.hotel_core.proofs.Names.{Link, Note, RoomRow, Rows, IsUntaken, has_link_on}
 use Rattle.hotel_core.proofs.OfCode.Parts.{given, then_found, stopped, halted, ends, only}
-use Rattle.hotel_core.proofs.OfCode.NoteParts.{link_is_there}
-use Rattle.hotel_core.proofs.OfCode.AnswerParts.{answers, comes_of}
+use Rattle.hotel_core.proofs.{OfCode.NoteParts.link_is_there, OfCode.AnswerParts.answers, OfCode.AnswerParts.comes_of}
 use Rattle.hotel_core.proofs.commands.entries.open.Goals as goal
 
 abbrev Known : Note → RoomRow → ℕ → Link → Rows → Type 0

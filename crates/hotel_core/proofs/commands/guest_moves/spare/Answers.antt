@@ -1,12 +1,8 @@
-use Rattle.hotel_core.specs.Model.Cases.{room_of_state}
-use Rattle.std.proofs.Common.{◌≡◌, Some, None, refl}
+use Rattle.std.proofs.Common.{◌≡◌, Some, None, refl, []}
+use Rattle.hotel_core.proofs.Names.{room_of_state, outcome_on}
 use Rattle.hotel_core.specs.declared.reply.Refusal.TheVariants as refusal
-use Rattle.hotel_core.specs.Refinement.OnRows.{outcome_on}
 use Rattle.hotel_core.proofs.OfCode.Parts.{begun, then_found, stopped, halted, refuses, ends, only}
-use Rattle.hotel_core.proofs.OfCode.Parts.{number_is}
-use Rattle.hotel_core.proofs.Lifted.WholeRows.{home_has_link}
-use Rattle.std.specs.Prelude.{[]}
-use Rattle.hotel_core.proofs.OfCode.AnswerParts.{answers}
+use Rattle.hotel_core.proofs.{OfCode.Parts.number_is, Lifted.WholeRows.home_has_link, OfCode.AnswerParts.answers}
 use Rattle.hotel_core.specs.declared.command.Command.TheVariants as command
 use Rattle.hotel_core.proofs.commands.guest_moves.spare.Goals as goal
 

@@ -1,12 +1,7 @@
-use Rattle.hotel_core.specs.Model.Cases.{room_of_state}
 use Rattle.std.proofs.Common.{◌≡◌, Some, None, refl}
+use Rattle.hotel_core.proofs.{Names.room_of_state, Names.outcome_on, Names.bars_to_transfer, Names.words, Names.issued_on, OfCode.AnswerParts.comes_now}
 use Rattle.hotel_core.specs.declared.reply.Refusal.TheVariants as refusal
-use Rattle.hotel_core.specs.Refinement.OnRows.{outcome_on}
-use Rattle.hotel_core.specs.Refinement.Issuing.{bars_to_transfer}
 use Rattle.hotel_core.proofs.OfCode.Parts.{begun, then_found, at_now, stopped, refuses, barred, ends, bars_refuse, bars_pass}
-use Rattle.keycard_rules.specs.Draw.{words}
-use Rattle.hotel_core.specs.Refinement.Issuing.{issued_on}
-use Rattle.hotel_core.proofs.OfCode.AnswerParts.{comes_now}
 use Rattle.hotel_core.specs.declared.command.Command.TheVariants as command
 use Rattle.hotel_core.proofs.commands.guest_moves.transfer.Goals as goal
 

@@ -1,4 +1,4 @@
-use Rattle.std.proofs.Common.{◌≡◌, ◌<◌, Some, refl, ap, ◌∙◌, arith}
+use Rattle.std.proofs.Common.{◌<◌, Some, refl, ap, arith}
 use Rattle.hotel_core.proofs.OfCode.LaterNotes.{no_later_note}
 use Rattle.hotel_core.proofs.commands.lock_codes.kept_note.Goals as goal
 

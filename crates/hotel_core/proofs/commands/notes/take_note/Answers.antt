@@ -1,12 +1,9 @@
-use Rattle.std.proofs.Common.{None, refl, sym, ◌∙◌}
+use Rattle.std.proofs.Common.{None, refl, sym, ◌∙◌, []}
+use Rattle.hotel_core.proofs.Names.{outcome_on, reported_on, refused}
 use Rattle.hotel_core.specs.declared.reply.Refusal.TheVariants as refusal
 use Rattle.hotel_core.specs.declared.reply.Reply.TheVariants as reply
-use Rattle.hotel_core.specs.Refinement.OnRows.{outcome_on, reported_on}
-use Rattle.hotel_core.specs.Model.Outcome.{refused}
 use Rattle.hotel_core.proofs.OfCode.Parts.{begun, at_now, then_found, stopped, refuses, ends, only}
-use Rattle.hotel_core.proofs.OfCode.NoteParts.{reported_there, says}
-use Rattle.std.specs.Prelude.{[]}
-use Rattle.hotel_core.proofs.OfCode.AnswerParts.{comes_now}
+use Rattle.hotel_core.proofs.{OfCode.NoteParts.reported_there, OfCode.NoteParts.says, OfCode.AnswerParts.comes_now}
 use Rattle.hotel_core.specs.declared.command.Command.TheVariants as command
 use Rattle.hotel_core.proofs.commands.notes.take_note.Goals as goal
 

@@ -1,13 +1,8 @@
 use Rattle.std.proofs.Common.{ℕ, ◌≡◌, Some, refl}
+use Rattle.hotel_core.proofs.{Names.outcome_on, Names.Link, Names.card_of, Names.room_at, OfCode.Parts.then_found, OfCode.Parts.stopped, OfCode.Parts.halted}
 use Rattle.hotel_core.specs.declared.reply.Reply.TheVariants as reply
 use Rattle.hotel_core.specs.declared.books.change.Change.TheVariants as change
-use Rattle.hotel_core.specs.Refinement.OnRows.{outcome_on}
-use Rattle.hotel_core.proofs.OfCode.Parts.{then_found, stopped, halted}
-use Rattle.keycard_rules.specs.declared.card.Link.{Link}
-use Rattle.hotel_core.specs.Model.Cards.{card_of}
-use Rattle.hotel_core.specs.Books.Lookups.{room_at}
-use Rattle.hotel_core.proofs.OfCode.Parts.{given, number_is}
-use Rattle.hotel_core.proofs.OfCode.DrawParts.{undrawn, drawn_ends}
+use Rattle.hotel_core.proofs.{OfCode.Parts.given, OfCode.Parts.number_is, OfCode.DrawParts.undrawn, OfCode.DrawParts.drawn_ends}
 use Rattle.hotel_core.proofs.OfCode.AnswerParts.{comes_of, drawn_answers}
 use Rattle.hotel_core.proofs.commands.room_cards.issue.Goals as goal
 

@@ -1,10 +1,5 @@
-use Rattle.std.proofs.Common.{ℕ, ◌≡◌, List, false, ap, ◌∙◌}
-use Rattle.std.specs.Ordering.{nat_cmp}
-use Rattle.std.specs.Cmp.Lexicographic.{slice_cmp}
-use Rattle.std.specs.BTreeSet.{insert_key}
-use Rattle.std.specs.Map.{keys_of}
-use Rattle.hotel_core.specs.KindRooms.{is_there, rooms_in}
-use Rattle.hotel_core.proofs.OfNights.KindKeys.{keys_inserted, new_kind}
+use Rattle.std.proofs.Common.{◌≡◌, false, ap, ◌∙◌, nat_cmp}
+use Rattle.hotel_core.proofs.{Names.slice_cmp, Names.insert_key, Names.keys_of, Names.is_there, Names.rooms_in, OfNights.KindKeys.keys_inserted, OfNights.KindKeys.new_kind}
 use Rattle.hotel_core.proofs.kind_rooms.KindRooms.add_kind.Goals as goal
 
 pub returns-clause-kinds : goal.returns-clause-kinds

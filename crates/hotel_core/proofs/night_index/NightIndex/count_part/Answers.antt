@@ -1,17 +1,10 @@
-use Rattle.std.proofs.Common.{rules, ◌≡◌, ◌+◌, ◌/◌, ◌^◌, ◌<◌, ◌&&◌, Some, [], nat_le, nat_lt, ap, ◌∙◌, sym, subst, arith}
+use Rattle.std.proofs.Common.{rules, ◌≡◌, ◌+◌, ◌-◌, ◌/◌, ◌^◌, ◌<◌, ◌&&◌, Some, [], nat_le, nat_lt, ap, ◌∙◌, sym, subst, arith}
 use Rattle.std.specs.Prelude.{slice_index}
 use Rattle.std.specs.Option.{unwrap_or}
 use Rattle.hotel_nights.specs.Block.{one_if}
 use Rattle.hotel_core.specs.NightIndex.{block_at, counted, holds}
-use Rattle.hotel_core.proofs.OfNights.NightCounts.{Sets, part_changed, few_at, zeros}
+use Rattle.hotel_core.proofs.OfNights.NightCounts.{Sets, part_changed, zeros}
 use Rattle.hotel_core.proofs.night_index.NightIndex.count_part.Goals as goal
-
-pub more-requires-clause-few : goal.more-requires-clause-few
-more-requires-clause-few c =
-    let kind = c.args.kind.now in
-    let there : c.in-Some.counts.now ≡ block_at c.args.self.now kind (c.args.from / 32) = ap (λ o. unwrap_or o []) c.in-Some.ensures.value ∙ ap (λ es. block_at es kind (c.args.from / 32)) c.self.view_is in
-    let few = few_at c.args.self.now kind c.args.from c.args.to c.requires.one_block c.requires.few in
-    λ j low high. subst (λ xs. slice_index xs j < 2 ^ 63) (sym there) (few j (omega (arith, low, c.from-first.ensures)) (omega (arith, high, c.from-first.ensures, c.from.ensures)))
 
 pub returns-in-Some-clause-ok : goal.returns-in-Some-clause-ok
 returns-in-Some-clause-ok c =
@@ -21,12 +14,11 @@ returns-in-Some-clause-ok c =
     let after = (c.get_mut.follows.lender new).entries in
     let set : Sets before after kind (c.args.from / 32) (Some new) = ((c.get_mut.follows.holds new).3 (search rules)).0 in
     let was : c.in-Some.counts.now ≡ block_at before kind (c.args.from / 32) = ap (λ o. unwrap_or o []) c.in-Some.ensures.value in
-    λ k d. part_changed (λ x y. x + y) (λ x. omega arith) before after kind c.args.from c.args.to (Some new) c.requires.order c.requires.one_block set
-    (λ j. c.more.ensures j ∙ (λ i. slice_index (was i) j + one_if (nat_le (c.from-first.ensures i) j && nat_lt j (c.from-first.ensures i + c.from.ensures i)))) k d
+    λ k d few. part_changed (λ x n y. x < 2 ^ 64 - 1 → y ≡ x + n) (λ x _. omega arith) before after kind c.args.from c.args.to (Some new) c.requires.order c.requires.one_block set
+    (λ j low. c.more.ensures j (subst (λ xs. slice_index xs j < 2 ^ 64 - 1) (sym was) low)
+    ∙ (λ i. slice_index (was i) j + one_if (nat_le (c.from-first.ensures i) j && nat_lt j (c.from-first.ensures i + c.from.ensures i)))) k d
+    (subst (λ es. counted es k d < 2 ^ 64 - 1) (sym c.self.view_is) few)
     ∙ ap (λ es. counted es k d + one_if (holds kind c.args.from c.args.to k d)) c.self.view_is
-
-pub more-requires-2-clause-few : goal.more-requires-2-clause-few
-more-requires-2-clause-few c = λ j low high. omega (arith, zeros j)
 
 pub returns-clause-ok : goal.returns-clause-ok
 returns-clause-ok c =
@@ -36,7 +28,8 @@ returns-clause-ok c =
     let after = c.insert.new.self.entries in
     let set : Sets before after kind (c.args.from / 32) (Some new) = c.in-Ok.ensures.updates.0 in
     let was : [] ≡ block_at before kind (c.args.from / 32) = ap (λ o. unwrap_or o []) c.in_default.ensures.value ∙ sym (ap (λ m. block_at m.entries kind (c.args.from / 32)) c.get_mut.follows.holds-at-none) in
-    λ k d. part_changed (λ x y. x + y) (λ x. omega arith) before after kind c.args.from c.args.to (Some new) c.requires.order c.requires.one_block set
-    (λ j. c.more-2.ensures j ∙ ap (λ n. n + one_if (nat_le c.from-first.result j && nat_lt j (c.from-first.result + c.from.result))) (zeros j)
+    λ k d few. part_changed (λ x n y. x < 2 ^ 64 - 1 → y ≡ x + n) (λ x _. omega arith) before after kind c.args.from c.args.to (Some new) c.requires.order c.requires.one_block set
+    (λ j low. c.more-2.ensures j (omega (arith, zeros j)) ∙ ap (λ n. n + one_if (nat_le c.from-first.result j && nat_lt j (c.from-first.result + c.from.result))) (zeros j)
     ∙ (λ i. slice_index (was i) j + one_if (nat_le (c.from-first.ensures i) j && nat_lt j (c.from-first.ensures i + c.from.ensures i)))) k d
+    (subst (λ m. counted m.entries k d < 2 ^ 64 - 1) (sym c.get_mut.follows.holds-at-none) (subst (λ es. counted es k d < 2 ^ 64 - 1) (sym c.self.view_is) few))
     ∙ ap (λ m. counted m.entries k d + one_if (holds kind c.args.from c.args.to k d)) c.get_mut.follows.holds-at-none ∙ ap (λ es. counted es k d + one_if (holds kind c.args.from c.args.to k d)) c.self.view_is

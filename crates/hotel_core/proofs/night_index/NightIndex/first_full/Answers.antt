@@ -1,7 +1,6 @@
 use Rattle.std.proofs.Common.{◌≡◌, ℕ, ◌-◌, Bool, arith, sym, ◌∙◌, Some, None, nat_le}
-use Rattle.hotel_nights.specs.FullNight.{first_day}
+use Rattle.hotel_core.proofs.Names.{first_day, counted}
 use Rattle.hotel_nights.proofs.FirstDay.{block-some, block-none, first_day-lt, first_day-end, day_of_number-le}
-use Rattle.hotel_core.specs.NightIndex.{counted}
 use Rattle.hotel_core.proofs.night_index.NightIndex.first_full.Goals as goal
 
 pub returns-in-Some : goal.returns-in-Some

@@ -1,6 +1,5 @@
 use Rattle.std.proofs.Common.{◌≡◌, ◌≤◌, ◌-◌, nat_le}
-use Rattle.hotel_nights.specs.FullNight.{first_day}
-use Rattle.hotel_core.specs.NightIndex.{counted}
+use Rattle.hotel_core.proofs.Names.{first_day, counted}
 use Rattle.hotel_core.proofs.night_index.NightIndex.first_full.Given as goal
 
 abbrev pub invariant-loop-first : goal.invariant-loop-first

@@ -1,9 +1,7 @@
 use Rattle.std.proofs.Common.{◌≡◌, ℕ, Bool, true, false, nat_le, replicate, ap, ◌∙◌, sym, arith}
+use Rattle.hotel_core.proofs.{Names.nat_tests, Names.counted, OfNights.NightCounts.read_part}
 use Rattle.std.specs.Option.{unwrap_or}
-use Rattle.std.proofs.lemmas.Bool.Decides.{nat_tests}
 use Rattle.hotel_nights.proofs.FirstDay.{first_day-more, first_day-found, first_day-end}
-use Rattle.hotel_core.specs.NightIndex.{counted}
-use Rattle.hotel_core.proofs.OfNights.NightCounts.{read_part}
 use Rattle.hotel_core.proofs.night_index.NightIndex.first_in_part.Goals as goal
 
 pub returns-then-counts-from : goal.returns-then-counts-from

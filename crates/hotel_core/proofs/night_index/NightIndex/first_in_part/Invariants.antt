@@ -1,6 +1,5 @@
 use Rattle.std.proofs.Common.{◌≡◌, ◌-◌, nat_le}
-use Rattle.hotel_nights.specs.FullNight.{first_day}
-use Rattle.hotel_core.specs.NightIndex.{counted}
+use Rattle.hotel_core.proofs.Names.{first_day, counted}
 use Rattle.hotel_core.proofs.night_index.NightIndex.first_in_part.Given as goal
 
 abbrev pub invariant-loop-night : goal.invariant-loop-night

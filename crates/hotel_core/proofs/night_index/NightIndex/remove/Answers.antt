@@ -1,7 +1,5 @@
 use Rattle.std.proofs.Common.{◌-◌, ap, sym, ◌∙◌, arith}
-use Rattle.hotel_nights.specs.Block.{one_if}
-use Rattle.hotel_core.specs.NightIndex.{counted, holds}
-use Rattle.hotel_core.proofs.OfNights.NightsStanding.{takes_by, takes_none}
+use Rattle.hotel_core.proofs.{Names.one_if, Names.counted, Names.holds, OfNights.NightsStanding.takes_by, OfNights.NightsStanding.takes_none}
 use Rattle.hotel_core.proofs.night_index.NightIndex.remove.Goals as goal
 
 pub returns-then-is_standing : goal.returns-then-is_standing

@@ -1,6 +1,5 @@
 use Rattle.std.proofs.Common.{◌≡◌, ℕ, ◌-◌, ◌≤◌, List}
-use Rattle.hotel_nights.specs.Block.{one_if}
-use Rattle.hotel_core.specs.NightIndex.{counted, holds}
+use Rattle.hotel_core.proofs.Names.{one_if, counted, holds}
 use Rattle.hotel_core.proofs.night_index.NightIndex.uncount.Given as goal
 
 abbrev pub invariant-loop-night : goal.invariant-loop-night

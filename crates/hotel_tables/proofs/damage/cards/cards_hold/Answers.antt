@@ -1,4 +1,4 @@
-use Rattle.std.proofs.Common.{rules, ◌≡◌, ◌&&◌, map, ap, sym, ◌∙◌, IfOk}
+use Rattle.std.proofs.Common.{◌&&◌, map, ap, sym, ◌∙◌}
 use Rattle.std.proofs.lemmas.Result.{IfOk-weaker}
 use Rattle.std.specs.List.{list_all}
 use Rattle.hotel_tables.specs.Stored.{rows_of, card_row}

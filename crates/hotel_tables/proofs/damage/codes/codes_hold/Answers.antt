@@ -1,4 +1,4 @@
-use Rattle.std.proofs.Common.{◌≡◌, Bool, true, ◌&&◌, map, nat_cmp, ap, sym, ◌∙◌}
+use Rattle.std.proofs.Common.{◌&&◌, map, nat_cmp, ap, sym, ◌∙◌}
 use Rattle.std.specs.List.{list_all}
 use Rattle.hotel_core.specs.Model.SoundRooms.{are_in_order}
 use Rattle.hotel_core.specs.Model.SoundCards.{places_once}

@@ -1,5 +1,4 @@
 use Rattle.std.proofs.Common.{rules, ◌≡◌, None, Some, ap, sym, ◌∙◌, arith}
-use Rattle.hotel_core.specs.Model.Rows.{at_number}
 use Rattle.hotel_tables.specs.Stored.{code_row}
 use Rattle.hotel_tables.specs.Keys.{code_key}
 use Rattle.hotel_tables.proofs.OfDamage.FoundKeys.{none_found, one_found, one_bound}

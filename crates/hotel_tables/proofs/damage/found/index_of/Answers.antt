@@ -1,4 +1,4 @@
-use Rattle.std.proofs.Common.{◌≡◌, ◌+◌, ◌<◌, ◌≤◌, length, take, get_or, true, ap, sym, subst, ◌∙◌, arith, nat_cmp, length-take-le}
+use Rattle.std.proofs.Common.{◌≡◌, ◌≤◌, length, take, get_or, sym, subst, ◌∙◌, arith, nat_cmp, length-take-le}
 use Rattle.std.specs.BTreeMap.{insert_entry}
 use Rattle.std.proofs.lemmas.List.{take_more}
 use Rattle.hotel_tables.specs.Keys.{Finds}

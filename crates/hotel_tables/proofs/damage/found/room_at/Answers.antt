@@ -1,6 +1,4 @@
-use Rattle.std.proofs.Common.{rules, ◌≡◌, None, Some, Bool, true, ap, sym, subst, ◌∙◌, arith}
-use Rattle.std.specs.List.{list_all}
-use Rattle.hotel_core.specs.Model.Rows.{at_number}
+use Rattle.std.proofs.Common.{rules, ◌≡◌, None, Some, ap, sym, ◌∙◌, arith}
 use Rattle.hotel_tables.specs.declared.stored.RoomLine.{RoomLine}
 use Rattle.hotel_tables.specs.Stored.{number_of, room_row}
 use Rattle.hotel_tables.specs.Keys.{room_key}

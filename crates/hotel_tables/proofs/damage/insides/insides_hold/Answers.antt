@@ -1,5 +1,4 @@
 use Rattle.std.proofs.Common.{◌&&◌, map, ap, sym, ◌∙◌}
-use Rattle.std.specs.List.{list_all}
 use Rattle.hotel_core.specs.Model.Words.{pair_cmp}
 use Rattle.hotel_core.specs.Model.SoundRooms.{are_in_order}
 use Rattle.hotel_core.specs.Model.SoundCards.{insides_fit}

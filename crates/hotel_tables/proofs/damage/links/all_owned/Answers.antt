@@ -1,4 +1,4 @@
-use Rattle.std.proofs.Common.{rules, ◌≡◌, None, Some, ◌||◌, not, true, false, ◌==◌, ap, sym, ◌∙◌}
+use Rattle.std.proofs.Common.{rules, ◌≡◌, None, Some, ◌||◌, not, false, ◌==◌, ap, sym, ◌∙◌}
 use Rattle.std.specs.Prelude.{option_map}
 use Rattle.std.specs.List.{list_all}
 use Rattle.std.specs.Map.{values_of}
@@ -8,8 +8,6 @@ use Rattle.hotel_core.specs.Model.Notes.{same_link}
 use Rattle.hotel_tables.specs.declared.stored.CardLine.{CardLine}
 use Rattle.hotel_tables.specs.Stored.{number_of, link_row}
 use Rattle.hotel_tables.specs.Lasts.{link_of_pair}
-use Rattle.hotel_tables.specs.Owners.{owner_in}
-use Rattle.hotel_tables.specs.Placed.{places_in}
 use Rattle.hotel_tables.proofs.OfDamage.Owned.{owned_newest, agreeing_own}
 use Rattle.hotel_tables.proofs.damage.links.all_owned.Goals as goal
 

@@ -1,7 +1,5 @@
 use Rattle.std.proofs.Common.{◌≡◌, ◌≤◌, take}
 use Rattle.std.specs.List.{count_by}
-use Rattle.hotel_nights.specs.FullNight.{takes}
-use Rattle.hotel_tables.specs.Stored.{stay_row}
 use Rattle.hotel_tables.specs.RowTests.{is_line_of_kind}
 use Rattle.hotel_tables.proofs.damage.nights.rooms_with.Given as goal
 

@@ -2,7 +2,6 @@ use Rattle.std.proofs.Common.{◌≡◌, ◌≤◌, take}
 use Rattle.std.specs.List.{count_by}
 use Rattle.hotel_nights.specs.FullNight.{takes}
 use Rattle.hotel_tables.specs.Stored.{stay_row}
-use Rattle.hotel_tables.specs.RowTests.{is_line_of_kind}
 use Rattle.hotel_tables.proofs.damage.nights.stays_on.Given as goal
 
 abbrev pub invariant-loop-i : goal.invariant-loop-i

@@ -1,4 +1,4 @@
-use Rattle.std.proofs.Common.{◌≡◌, ◌-◌, ◌+◌, ◌<◌, ◌≤◌, length, ap₂, sym, ◌∙◌, arith}
+use Rattle.std.proofs.Common.{◌-◌, ap₂, sym, ◌∙◌, arith}
 use Rattle.hotel_tables.specs.Lasts.{link_of_both}
 use Rattle.hotel_tables.specs.Placed.{places_in, listed_in}
 use Rattle.hotel_tables.proofs.OfDamage.Newest.{last_two, no_link, due_parts}

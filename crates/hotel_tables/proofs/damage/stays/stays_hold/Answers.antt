@@ -1,3 +1,4 @@
+use Rattle.std.proofs.lemmas.Result.{IfOk-weaker}
 use Rattle.std.proofs.Common.{◌&&◌, map, ap, sym, ◌∙◌}
 use Rattle.std.specs.List.{list_all}
 use Rattle.hotel_tables.specs.Keys.{are_numbered, stay_key}
@@ -22,6 +23,6 @@ pub returns : goal.returns
 returns c =
     let s = c.args.stored.now in
     let order = c.are_numbered.ensures ∙ ap are_numbered (c.deref-2.ensures.value ∙ c.in_ok-keys.ensures ∙ ap (map stay_key) c.deref.ensures.value) in
-    c.nights_fit.ensures
+    IfOk-weaker c.nights_fit.result _ _ (λ fit is. is
     ∙ sym (stays_together s ∙ ap (λ b. b && list_all (stay_fits s) s.stays.items && list_all (has_night s) s.stays.items) (sym order ∙ c.if-not-are_numbered.false)
-    ∙ ap (λ b. b && list_all (has_night s) s.stays.items) (sym c.in_ok-fit.ensures ∙ c.if-not-fit.false))
+    ∙ ap (λ b. b && list_all (has_night s) s.stays.items) (sym c.in_ok-fit.ensures ∙ c.if-not-fit.false))) c.nights_fit.ensures

@@ -1,8 +1,6 @@
-use Rattle.std.proofs.Common.{◌≡◌, ◌-◌, ◌≤◌, ◌<◌, Some, length, ap, sym, ◌∙◌, arith}
-use Rattle.std.specs.List.{slice_get}
+use Rattle.std.proofs.Common.{◌-◌, ◌≤◌, ◌<◌, Some, length, ap, sym, ◌∙◌, arith, slice_get}
+use Rattle.hotel_core.proofs.{Names.at_number, OfTables.RowsByPlace.at_place}
 use Rattle.std.proofs.lemmas.Option.{slice_get_past, slice_get-get_or}
-use Rattle.hotel_core.specs.Model.Rows.{at_number}
-use Rattle.hotel_core.proofs.OfTables.RowsByPlace.{at_place}
 use Rattle.hotel_core.proofs.memory.card_table.CardTable.get.Goals as goal
 
 pub returns-then-place-len : goal.returns-then-place-len

@@ -1,9 +1,6 @@
-use Rattle.std.proofs.Common.{◌≡◌, ◌+◌, ◌++◌, ◌∷◌, [], length, ap, sym, ◌∙◌, arith}
-use Rattle.std.specs.List.{enumerate_from}
-use Rattle.std.specs.Ordering.{nat_cmp}
-use Rattle.std.specs.BTreeMap.{insert_entry}
+use Rattle.std.proofs.Common.{◌≡◌, length, ap, sym, ◌∙◌, arith, nat_cmp}
+use Rattle.hotel_core.proofs.{Names.enumerate_from, Names.insert_entry, OfTables.RowsByPlace.put_last}
 use Rattle.std.proofs.lemmas.List.FromFn.{length-enumerate_from}
-use Rattle.hotel_core.proofs.OfTables.RowsByPlace.{put_last}
 use Rattle.hotel_core.proofs.memory.card_table.CardTable.push.Goals as goal
 
 pub returns-clause-ok : goal.returns-clause-ok

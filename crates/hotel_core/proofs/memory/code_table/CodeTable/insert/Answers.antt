@@ -1,8 +1,5 @@
 use Rattle.std.proofs.Common.{ap, sym, ◌∙◌, subst}
-use Rattle.hotel_core.specs.Model.Rows.{at_number}
-use Rattle.hotel_core.specs.Books.Lookups.{first_code_at}
-use Rattle.hotel_core.specs.Memory.{PlacesAgree}
-use Rattle.hotel_core.proofs.OfTables.PlacedCodes.{agree_after, agree_again}
+use Rattle.hotel_core.proofs.{Names.at_number, Names.first_code_at, Names.PlacesAgree, OfTables.PlacedCodes.agree_after, OfTables.PlacedCodes.agree_again}
 use Rattle.hotel_core.proofs.memory.code_table.CodeTable.insert.Goals as goal
 
 pub invariant_of-self-in-Ok-insert : goal.invariant_of-self-in-Ok-insert

@@ -1,11 +1,5 @@
-use Rattle.std.proofs.Common.{ap, sym, ◌∙◌, subst}
-use Rattle.std.specs.Ordering.{nat_cmp}
-use Rattle.std.specs.BTreeMap.{is_at}
-use Rattle.std.specs.Map.{remove_entry}
-use Rattle.hotel_core.specs.Model.Rows.{at_number}
-use Rattle.hotel_core.specs.Books.Lookups.{first_code_at}
-use Rattle.hotel_core.specs.Memory.{PlacesAgree}
-use Rattle.hotel_core.proofs.OfTables.PlacedCodes.{agree_without}
+use Rattle.std.proofs.Common.{ap, sym, ◌∙◌, subst, nat_cmp}
+use Rattle.hotel_core.proofs.{Names.is_at, Names.remove_entry, Names.at_number, Names.first_code_at, Names.PlacesAgree, OfTables.PlacedCodes.agree_without}
 use Rattle.hotel_core.proofs.memory.code_table.CodeTable.remove.Goals as goal
 
 pub invariant_of-self : goal.invariant_of-self

@@ -1,9 +1,5 @@
 use Rattle.std.proofs.Common.{rules, ℕ, ◌≡◌, ◌++◌, List, map, filter, ap, sym, ◌∙◌}
-use Rattle.std.specs.declared.ops.Bound.TheVariants.{Included}
-use Rattle.std.specs.BTreeMap.Range.{range_contains}
-use Rattle.hotel_core.specs.Model.Words.{pair_cmp}
-use Rattle.hotel_core.specs.Model.Guests.{those_in}
-use Rattle.hotel_core.proofs.OfTables.CardsInside.{part_of_room}
+use Rattle.hotel_core.proofs.{Names.Included, Names.range_contains, Names.pair_cmp, Names.those_in, OfTables.CardsInside.part_of_room}
 use Rattle.hotel_core.proofs.memory.inside_table.InsideTable.at.Goals as goal
 
 pub loop-pair-init : goal.loop-pair-init

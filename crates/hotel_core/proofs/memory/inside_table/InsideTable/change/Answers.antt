@@ -1,9 +1,6 @@
 use Rattle.std.proofs.Common.{ap, sym, ◌∙◌, subst}
-use Rattle.keycard_rules.specs.Numbers.{IsNumberUpTo}
+use Rattle.hotel_core.proofs.{Names.IsNumberUpTo, Names.moved, Names.HaveCardNumbers, OfTables.CardsInside.numbers_removed, OfTables.CardsInside.numbers_added}
 use Rattle.hotel_core.specs.declared.books.change.InsideMove.{InsideMove}
-use Rattle.hotel_core.specs.Books.Change.{moved}
-use Rattle.hotel_core.specs.Memory.{HaveCardNumbers}
-use Rattle.hotel_core.proofs.OfTables.CardsInside.{numbers_removed, numbers_added}
 use Rattle.hotel_core.proofs.memory.inside_table.InsideTable.change.Goals as goal
 
 pub invariant_of-self : goal.invariant_of-self

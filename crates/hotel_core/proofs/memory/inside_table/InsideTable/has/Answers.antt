@@ -1,7 +1,5 @@
 use Rattle.std.proofs.Common.{ap, ◌∙◌}
-use Rattle.hotel_core.specs.Model.Words.{is_one_of}
-use Rattle.hotel_core.specs.Model.Guests.{those_in}
-use Rattle.hotel_core.proofs.OfTables.CardsInside.{known_inside}
+use Rattle.hotel_core.proofs.{Names.is_one_of, Names.those_in, OfTables.CardsInside.known_inside}
 use Rattle.hotel_core.proofs.memory.inside_table.InsideTable.has.Goals as goal
 
 pub returns : goal.returns

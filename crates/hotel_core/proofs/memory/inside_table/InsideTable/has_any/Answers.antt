@@ -1,9 +1,5 @@
-use Rattle.std.proofs.Common.{rules, ℕ, ◌≡◌, List, map, filter, ap, sym, ◌∙◌}
-use Rattle.std.specs.Prelude.{not}
-use Rattle.std.specs.declared.ops.Bound.TheVariants.{Included}
-use Rattle.std.specs.BTreeMap.Range.{range_contains}
-use Rattle.hotel_core.specs.Model.Words.{pair_cmp}
-use Rattle.hotel_core.specs.Model.Guests.{those_in, are_none}
+use Rattle.std.proofs.Common.{rules, ℕ, ◌≡◌, List, map, filter, ap, sym, ◌∙◌, not}
+use Rattle.hotel_core.proofs.Names.{Included, range_contains, pair_cmp, those_in, are_none}
 use Rattle.hotel_core.proofs.OfTables.CardsInside.{part_of_room, any_first}
 use Rattle.hotel_core.proofs.memory.inside_table.InsideTable.has_any.Goals as goal
 

@@ -1,6 +1,5 @@
 use Rattle.std.proofs.Common.{refl, rules}
-use Rattle.hotel_core.specs.Books.Walks.{Hands}
-use Rattle.hotel_core.specs.Refinement.ListsOnRows.{audit_on}
+use Rattle.hotel_core.proofs.Names.{Hands, audit_on}
 use Rattle.hotel_core.proofs.memory.list_books.ListBooksWalks.walk_audit.Goals as goal
 
 pub returns : goal.returns

@@ -1,7 +1,5 @@
 use Rattle.std.proofs.Common.{sym, subst}
-use Rattle.keycard_rules.specs.Numbers.{IsNumberUpTo}
-use Rattle.hotel_core.specs.Memory.{HaveCounts}
-use Rattle.hotel_core.proofs.OfTables.RoomNotes.{counts_added}
+use Rattle.hotel_core.proofs.{Names.IsNumberUpTo, Names.HaveCounts, OfTables.RoomNotes.counts_added}
 use Rattle.hotel_core.proofs.memory.note_table.NoteTable.insert.Goals as goal
 
 pub invariant_of-self-2 : goal.invariant_of-self-2

@@ -1,13 +1,7 @@
 use Rattle.std.proofs.Common.{rules, ℕ, ◌≡◌, List, map, ap, sym, ◌∙◌}
+use Rattle.hotel_core.proofs.Names.{Included, entries_between, rest_more, Note, pair_cmp, notes_at}
 use Rattle.std.specs.Map.Iter.{deref_pair}
-use Rattle.std.specs.declared.ops.Bound.TheVariants.{Included}
-use Rattle.std.specs.BTreeMap.Range.{entries_between}
-use Rattle.std.proofs.lemmas.Map.Iter.{rest_more}
-use Rattle.keycard_rules.specs.Note.{Note}
-use Rattle.hotel_core.specs.Model.Words.{pair_cmp}
-use Rattle.hotel_core.specs.Model.Rows.{notes_at}
-use Rattle.hotel_core.proofs.OfCode.Walking.{begun, one_more, as_rest}
-use Rattle.hotel_core.proofs.OfTables.RoomNotes.{part_of_room}
+use Rattle.hotel_core.proofs.{OfCode.Walking.begun, OfCode.Walking.one_more, OfCode.Walking.as_rest, OfTables.RoomNotes.part_of_room}
 use Rattle.hotel_core.proofs.memory.note_table.NoteTable.walk.Goals as goal
 
 pub loop-note-init : goal.loop-note-init

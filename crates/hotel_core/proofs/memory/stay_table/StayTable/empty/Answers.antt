@@ -1,8 +1,5 @@
 use Rattle.std.proofs.Common.{ap, sym, ◌∙◌}
-use Rattle.std.specs.Map.{values_of}
-use Rattle.hotel_nights.specs.FullNight.{nights_taken}
-use Rattle.hotel_core.specs.NightIndex.{counted}
-use Rattle.hotel_core.proofs.OfNights.NightsStanding.{none_stand}
+use Rattle.hotel_core.proofs.{Names.values_of, Names.nights_taken, Names.counted, OfNights.NightsStanding.none_stand}
 use Rattle.hotel_core.proofs.memory.stay_table.StayTable.empty.Goals as goal
 
 pub invariant_of-result : goal.invariant_of-result

@@ -1,8 +1,5 @@
 use Rattle.std.proofs.Common.{ap, sym, ◌∙◌, subst}
-use Rattle.hotel_core.specs.Model.Rows.{at_number}
-use Rattle.hotel_core.specs.Memory.{StandsForAll}
-use Rattle.hotel_core.proofs.OfTables.RowsChanged.{stay_absent}
-use Rattle.hotel_core.proofs.OfNights.NightsStanding.{stands_less}
+use Rattle.hotel_core.proofs.{Names.at_number, Names.StandsForAll, OfTables.RowsChanged.stay_absent, OfNights.NightsStanding.stands_less}
 use Rattle.hotel_core.proofs.memory.stay_table.StayTable.end.Goals as goal
 
 pub returns-in_default : goal.returns-in_default

@@ -1,10 +1,6 @@
 use Rattle.std.proofs.Common.{ap, sym, ◌∙◌, subst, true, refl}
-use Rattle.hotel_nights.specs.FullNight.{is_standing}
+use Rattle.hotel_core.proofs.{Names.is_standing, Names.said_of, Names.at_number, Names.StandsForAll, OfNights.NightsStanding.stands_on}
 use Rattle.hotel_nights.specs.declared.stay.StayState.TheVariants as state
-use Rattle.hotel_core.specs.Model.Words.{said_of}
-use Rattle.hotel_core.specs.Model.Rows.{at_number}
-use Rattle.hotel_core.specs.Memory.{StandsForAll}
-use Rattle.hotel_core.proofs.OfNights.NightsStanding.{stands_on}
 use Rattle.hotel_core.proofs.memory.stay_table.StayTable.stand_on.Goals as goal
 
 pub invariant_of-self : goal.invariant_of-self

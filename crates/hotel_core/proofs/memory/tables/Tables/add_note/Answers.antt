@@ -1,14 +1,6 @@
 use Rattle.std.proofs.Common.{◌≡◌, ◌≤◌, ℕ, List, refl, ap, sym, ◌∙◌, subst, arith}
-use Rattle.std.specs.BTreeMap.{is_at}
-use Rattle.std.specs.Map.{remove_entry, keys_of}
-use Rattle.keycard_rules.specs.Note.{Note}
-use Rattle.hotel_core.specs.declared.books.rows.RoomRow.{RoomRow}
-use Rattle.hotel_core.specs.Model.Words.{pair_cmp}
-use Rattle.hotel_core.specs.Model.Rows.{Rows}
-use Rattle.hotel_core.specs.Books.Lookups.{note_at}
-use Rattle.hotel_core.specs.Memory.{LaterPlacesFree, RoomsKnown, TablesAgree}
-use Rattle.hotel_core.proofs.OfTables.MapEntries.{taken_back, pair_total}
-use Rattle.hotel_core.proofs.OfTables.LaterPlaces.{free_on, codes_changed}
+use Rattle.hotel_core.proofs.Names.{is_at, remove_entry, keys_of, Note, RoomRow, pair_cmp, Rows, note_at, LaterPlacesFree, RoomsKnown}
+use Rattle.hotel_core.proofs.{OfTables.MapEntries.taken_back, OfTables.MapEntries.pair_total, OfTables.LaterPlaces.free_on, OfTables.LaterPlaces.codes_changed}
 use Rattle.hotel_core.proofs.OfNights.RoomsByKind.{known_changed}
 use Rattle.hotel_core.proofs.memory.tables.Tables.add_note.Goals as goal
 

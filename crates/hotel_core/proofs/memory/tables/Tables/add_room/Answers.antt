@@ -1,24 +1,9 @@
-use Rattle.std.proofs.Common.{◌≡◌, ℕ, List, None, false, ap, sym, ◌∙◌, subst, arith}
-use Rattle.std.specs.Ordering.{nat_cmp}
-use Rattle.std.specs.BTreeMap.{is_at}
-use Rattle.std.specs.Map.{remove_entry, keys_of}
-use Rattle.std.proofs.lemmas.Cmp.{nat_cmp_total}
-use Rattle.hotel_core.specs.declared.books.rows.RoomRow.{RoomRow}
-use Rattle.hotel_core.specs.Model.Words.{said_of}
-use Rattle.keycard_rules.specs.Numbers.{IsNumberUpTo}
-use Rattle.hotel_core.specs.Model.Rows.{Rows, has_kind}
-use Rattle.hotel_core.specs.Books.Lookups.{room_at, code_place}
-use Rattle.hotel_core.specs.Memory.{LaterPlacesFree, RoomsKnown, TablesAgree}
+use Rattle.std.proofs.Common.{◌≡◌, ℕ, List, None, false, ap, sym, ◌∙◌, subst, arith, nat_cmp}
+use Rattle.hotel_core.proofs.Names.{is_at, remove_entry, keys_of, nat_cmp_total, RoomRow, said_of, IsNumberUpTo, Rows, has_kind, room_at, code_place, LaterPlacesFree, RoomsKnown, TablesAgree}
 use Rattle.hotel_core.proofs.OfTables.MapEntries.{taken_back}
 use Rattle.hotel_core.proofs.OfTables.LaterPlaces.{free_after, codes_added, codes_new, codes_there}
 use Rattle.hotel_core.proofs.OfNights.RoomsByKind.{few_rooms, known_added}
 use Rattle.hotel_core.proofs.memory.tables.Tables.add_room.Goals as goal
-
-pub add_room-requires-clause-there : goal.add_room-requires-clause-there
-add_room-requires-clause-there c = ap (λ (rows : Rows). has_kind rows c.args.kind) c.self.view_is ∙ c.requires.there
-
-pub add_room-requires-clause-few : goal.add_room-requires-clause-few
-add_room-requires-clause-few c = few_rooms c.self.inside.kinds c.self.inside.rooms.entries c.args.kind c.self.invariant.rooms_known c.in-Ok.ensures.was_ordered
 
 pub invariant_of-self-2 : goal.invariant_of-self-2
 invariant_of-self-2 c =
@@ -26,6 +11,8 @@ invariant_of-self-2 c =
     let row : RoomRow = record { room = c.args.room; kind = c.args.kind; lock_place = 0; codes = 1; secured = false; party = None; notes = 0 } in
     let rooms = c.self.inside.rooms.entries in
     let none : codes_there rooms c.args.room ≡ 0 = ap (λ o. said_of o 0 (λ (row : RoomRow). row.codes)) absent in
+    let kind_there = ap (λ (rows : Rows). has_kind rows c.args.kind) c.self.view_is ∙ c.requires.there in
+    let few = few_rooms c.self.inside.kinds rooms c.args.kind c.self.invariant.rooms_known c.in-Ok.ensures.was_ordered in
     let one = codes_new rooms c.insert.new.self.entries c.args.room row (λ q. c.in-Ok.ensures.updates.0 q) in
     record {
       places = subst (λ codes. LaterPlacesFree c.insert.new.self.entries codes) (sym c.in-Ok-insert.ensures.ok)
@@ -35,7 +22,7 @@ invariant_of-self-2 c =
           (omega (arith, one))
           (ap (λ rows. code_place rows c.args.code) c.self.view_is ∙ c.requires.new_code));
       rooms_known = subst (λ later. RoomsKnown c.add_room.new.self later) (sym c.in-Ok.ensures.entries)
-          (known_added c.self.inside.kinds c.add_room.new.self rooms c.args.room row c.self.invariant.rooms_known absent (subst (IsNumberUpTo 9999) c.value-in_range.ensures.same c.value-in_range.ensures.known) c.add_room.ensures.rooms);
+          (known_added c.self.inside.kinds c.add_room.new.self rooms c.args.room row c.self.invariant.rooms_known absent (subst (IsNumberUpTo 9999) c.value-in_range.ensures.same c.value-in_range.ensures.known) (c.add_room.ensures.rooms kind_there few));
     }
 
 pub returns-in_default-insert-clause-err : goal.returns-in_default-insert-clause-err

@@ -1,8 +1,5 @@
-use Rattle.std.proofs.Common.{◌≡◌, ◌-◌, ap, sym, ◌∙◌}
-use Rattle.std.specs.Map.{values_of}
-use Rattle.hotel_nights.specs.FullNight.{first_day, is_full}
-use Rattle.hotel_core.specs.Model.Rows.{Rows}
-use Rattle.hotel_core.specs.Books.Lookups.{rooms_of_kind}
+use Rattle.std.proofs.Common.{◌-◌, ap, ◌∙◌}
+use Rattle.hotel_core.proofs.Names.{values_of, first_day, is_full, Rows}
 use Rattle.hotel_core.proofs.memory.tables.Tables.full_night.Goals as goal
 
 pub returns : goal.returns

@@ -1,17 +1,7 @@
-use Rattle.std.proofs.Common.{◌≤◌, ◌<◌, ◌+◌, ◌-◌, ◌^◌, ℕ, List, Some, false, IsSome, refl, ap, sym, ◌∙◌, subst, arith}
-use Rattle.std.specs.Ordering.{nat_cmp}
-use Rattle.std.specs.BTreeMap.{is_at}
-use Rattle.std.specs.Map.{remove_entry, keys_of}
-use Rattle.std.proofs.lemmas.Cmp.{nat_cmp_total}
-use Rattle.hotel_core.specs.declared.books.rows.RoomRow.{RoomRow}
-use Rattle.hotel_core.specs.declared.books.rows.CodeRow.{CodeRow}
-use Rattle.hotel_core.specs.Model.Rows.{Rows, at_number}
-use Rattle.hotel_core.specs.Books.Lookups.{room_at, code_place, first_code_at}
-use Rattle.hotel_core.specs.Books.Change.{codes_of, left_by, room_changed}
-use Rattle.hotel_core.specs.Memory.{LaterPlacesFree, RoomsKnown, TablesAgree}
-use Rattle.hotel_core.proofs.OfTables.MapEntries.{taken_back, found}
+use Rattle.std.proofs.Common.{◌≤◌, ◌<◌, ◌+◌, ◌-◌, ◌^◌, ℕ, List, Some, false, IsSome, refl, ap, sym, ◌∙◌, subst, arith, nat_cmp}
+use Rattle.hotel_core.proofs.Names.{is_at, remove_entry, keys_of, nat_cmp_total, RoomRow, CodeRow, Rows, at_number, room_at, code_place, first_code_at, codes_of, left_by, room_changed, LaterPlacesFree, RoomsKnown, TablesAgree}
+use Rattle.hotel_core.proofs.{OfTables.MapEntries.taken_back, OfTables.MapEntries.found, OfNights.RoomsByKind.known_changed, OfNights.RoomsByKind.known_left}
 use Rattle.hotel_core.proofs.OfTables.LaterPlaces.{free_after, codes_left, codes_changed, codes_there, one_more_code, there_left}
-use Rattle.hotel_core.proofs.OfNights.RoomsByKind.{known_changed, known_left}
 use Rattle.hotel_core.proofs.memory.tables.Tables.issue.Goals as goal
 
 pub remove-requires-clause-there : goal.remove-requires-clause-there

@@ -1,6 +1,5 @@
 use Rattle.std.proofs.Common.{ap, ◌∙◌}
-use Rattle.hotel_core.specs.Model.Rows.{Rows}
-use Rattle.hotel_core.specs.Books.Lookups.{rooms_of_kind}
+use Rattle.hotel_core.proofs.Names.{Rows, rooms_of_kind}
 use Rattle.hotel_core.proofs.memory.tables.Tables.rooms_of_kind.Goals as goal
 
 pub returns : goal.returns

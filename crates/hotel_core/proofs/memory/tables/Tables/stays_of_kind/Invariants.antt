@@ -1,6 +1,5 @@
-use Rattle.std.proofs.Common.{◌≡◌, ◌++◌, filter}
-use Rattle.std.specs.Prelude.{bytes_eq}
-use Rattle.hotel_core.specs.Books.Lookups.{stays_of_kind}
+use Rattle.std.proofs.Common.{◌≡◌, ◌++◌, filter, bytes_eq}
+use Rattle.hotel_core.proofs.Names.{stays_of_kind}
 use Rattle.hotel_core.proofs.memory.tables.Tables.stays_of_kind.Given as goal
 
 abbrev pub invariant-loop-stay : goal.invariant-loop-stay

@@ -1,7 +1,5 @@
 use Rattle.std.proofs.Common.{filter, ap, sym, ◌∙◌}
-use Rattle.std.proofs.lemmas.Map.Iter.{rest_more}
-use Rattle.hotel_core.specs.Refinement.ListsOnRows.{arrives_on}
-use Rattle.hotel_core.proofs.OfCode.Walking.{one_more, as_rest, passing}
+use Rattle.hotel_core.proofs.{Names.rest_more, Names.arrives_on, OfCode.Walking.one_more, OfCode.Walking.as_rest, OfCode.Walking.passing}
 use Rattle.hotel_core.proofs.memory.tables.Tables.walk_arrivals.Goals as goal
 
 pub loop-stay-preserved-in-Continue-1 : goal.loop-stay-preserved-in-Continue-1

@@ -1,8 +1,5 @@
-use Rattle.std.proofs.Common.{ap, sym, ◌∙◌}
-use Rattle.std.specs.Prelude.{filter_map}
-use Rattle.std.proofs.lemmas.Map.Iter.{rest_more}
-use Rattle.hotel_core.specs.Refinement.ListsOnRows.{behind_row_on}
-use Rattle.hotel_core.proofs.OfCode.Walking.{one_more, as_rest, made_row}
+use Rattle.std.proofs.Common.{ap, sym, ◌∙◌, filter_map}
+use Rattle.hotel_core.proofs.{Names.rest_more, Names.behind_row_on, OfCode.Walking.one_more, OfCode.Walking.as_rest, OfCode.Walking.made_row}
 use Rattle.hotel_core.proofs.memory.tables.Tables.walk_left_behind.Goals as goal
 
 pub loop-row-preserved-in-Continue-1 : goal.loop-row-preserved-in-Continue-1

@@ -1,9 +1,6 @@
-use Rattle.std.proofs.Common.{◌≡◌, ◌-◌, ◌+◌, Err, rules, ap, sym, subst, ◌∙◌, arith}
-use Rattle.std.specs.Prelude.{filter_map}
-use Rattle.std.specs.List.{range_with_len}
+use Rattle.std.proofs.Common.{◌≡◌, ◌-◌, ◌+◌, Err, rules, ap, sym, subst, ◌∙◌, arith, filter_map}
+use Rattle.hotel_core.proofs.Names.{range_with_len, Hands, chain_row_on}
 use Rattle.hotel_core.specs.declared.books.walks.WalkFault.TheVariants.{Stopped}
-use Rattle.hotel_core.specs.Books.Walks.{Hands}
-use Rattle.hotel_core.specs.Refinement.ListsOnRows.{chain_row_on}
 use Rattle.hotel_core.proofs.OfCode.Walking.{SoFar, one_more, as_rest, made_row, made_none, next_place, stopped}
 use Rattle.hotel_core.proofs.memory.tables.Tables.walk_places.Goals as goal
 use Rattle.hotel_core.proofs.memory.tables.Tables.walk_places.Goals.{in-Some+in_ok-take, in_default}

@@ -1,7 +1,5 @@
-use Rattle.std.specs.Prelude.{◌-◌, filter_map}
-use Rattle.std.specs.List.{range_with_len}
-use Rattle.hotel_core.specs.Refinement.ListsOnRows.{chain_row_on}
-use Rattle.hotel_core.proofs.OfCode.Walking.{SoFar}
+use Rattle.std.proofs.Common.{◌-◌, filter_map}
+use Rattle.hotel_core.proofs.{Names.range_with_len, Names.chain_row_on, OfCode.Walking.SoFar}
 use Rattle.hotel_core.proofs.memory.tables.Tables.walk_places.Given as goal
 
 abbrev pub invariant-loop-place : goal.invariant-loop-place

@@ -1,0 +1,86 @@
+-- The names that the proofs of this crate cite most, passed on from one place. Declares nothing.
+pub use Rattle.hotel_core.specs.Books.Change.{codes_of, left_by, made, moved, room_changed, without_party}
+pub use Rattle.hotel_core.specs.Books.Failures.{AreCounted, failure_in, failures_in, times}
+pub use Rattle.hotel_core.specs.Books.Fits.{HasItsRows}
+pub use Rattle.hotel_core.specs.Books.Lookups.{card_at, code_at, code_place, codes_in, first_code_at, first_full_on, inside_at, note_at, number_after, room_at, rooms_of_kind, stay_at, stays_of_kind}
+pub use Rattle.hotel_core.specs.Books.Walks.{Hands, StopsAt, Takes, TakesFront, failure_of}
+pub use Rattle.hotel_core.specs.KindRooms.{is_there, rooms_in}
+pub use Rattle.hotel_core.specs.Memory.{HaveCardNumbers, HaveCounts, HaveRoomNumbers, LaterPlacesFree, PlacesAgree, RoomsKnown, StandsForAll, TablesAgree}
+pub use Rattle.hotel_core.specs.Model.Answer.{checks, effect, moment_of, reported, told}
+unfoldable pub use Rattle.hotel_core.specs.Model.Answer.{answer_to}
+pub use Rattle.hotel_core.specs.Model.Cards.{card_of, cards, link_of_party, link_to, newest_link, with_spare}
+pub use Rattle.hotel_core.specs.Model.Cases.{cards_used_up, has_link, is_begun, is_booked, is_booked_state, is_card, is_home, is_in_house, is_kind, is_of_kind, is_party, is_room, is_taken, last_card_of, next_card, next_party, no_link, opens, parties_used_up, room_of, room_of_state, today}
+pub use Rattle.hotel_core.specs.Model.Event.{Begun, Cancelled, CheckIn, CheckOut, Entered, Event, Install, Kind, Left, Moment, NextDay, Recoded, Reserved, Spare, Transfer, note_of}
+pub use Rattle.hotel_core.specs.Model.Guests.{are_none, inside, insiders, leaves, registered, secured, those_in}
+pub use Rattle.hotel_core.specs.Model.Headline.{Assured, Headline, LedgerHolds, NewestOpens, NoCodeTwice, OpensOwnRoom, SafeRoom, TakesTheFirst}
+pub use Rattle.hotel_core.specs.Model.History.{History, start, ◌▷◌}
+pub use Rattle.hotel_core.specs.Model.Issued.{all_issued, current, is_fresh, issued, issued_codes}
+pub use Rattle.hotel_core.specs.Model.Laws.{IsRun, NoneFailed, RunsTo}
+pub use Rattle.hotel_core.specs.Model.Ledger.{awaited, passed, turns}
+pub use Rattle.hotel_core.specs.Model.Lock.{held}
+pub use Rattle.hotel_core.specs.Model.Notes.{After, Conflicting, Copy, Next, Standing, all_notes, and_note, notes, same_link, same_note, standing, standing_among, with_note}
+pub use Rattle.hotel_core.specs.Model.Outcome.{Outcome, accepted, bars, by_draw, grown, needs, refused, said, unless}
+pub use Rattle.hotel_core.specs.Model.Ranges.{InRange, IsCommand, IsReply}
+pub use Rattle.hotel_core.specs.Model.Rows.{Rows, at_number, codes_at, codes_by_place, first_of, has_kind, last_link_of, link_of_last_card, lock_place_of, notes_at, or_else}
+pub use Rattle.hotel_core.specs.Model.RowsOf.{room_row, rows_of}
+pub use Rattle.hotel_core.specs.Model.Run.{Ran, Reached, Runs, StandsFor, Steps, StepsIf, answered, is_failed, run_on}
+pub use Rattle.hotel_core.specs.Model.Sound.{IsSound, keys_in_order, passes_rules}
+pub use Rattle.hotel_core.specs.Model.SoundCards.{act_fits, are_neighbours, card_is, card_numbers, card_parties_there, code_is, code_rooms_there, codes_in_range, codes_listed, comes_later, counts_at, each_card, fits_inside, has_link_at, has_newest, insides_fit, is_newest, last_cards_newest, links_are_neighbours, links_of_one_party, neighbours_are_links, newest_of_party, note_fits, notes_counted, notes_fit, owns_newest, places_once, room_is, stands_at}
+pub use Rattle.hotel_core.specs.Model.SoundRooms.{are_in_order, codes_few, count_up, day_before_kinds, day_in_range, each_room, guests_read, has_party, is_day, is_home_of, kinds_read, lock_places, nights_fit, note_counts, parties_in_house, room_kinds_there, room_numbers, rooms_with, secured_hold_last, stay_days, stay_kinds_there, stay_numbers, stay_rooms, stays_on}
+pub use Rattle.hotel_core.specs.Model.Stays.{day, first_full, in_state, kinds, nights, now_is, rooms, rooms_of, stays}
+pub use Rattle.hotel_core.specs.Model.Words.{after, and_last, before, is_one_of, is_that, last_of, pair_cmp, said_of, when, without}
+pub use Rattle.hotel_core.specs.NightIndex.{block_at, block_cmp, counted, holds}
+pub use Rattle.hotel_core.specs.Refinement.ChangeOf.{change_of, comes}
+pub use Rattle.hotel_core.specs.Refinement.Finds.{AnyRows, DrawsCode, Drew, DrewNone, Finds, drawn_or, first_refusal, has_failed, refusal_of, reply_of}
+pub use Rattle.hotel_core.specs.Refinement.Issuing.{HasLink, bars_to_check_in, bars_to_transfer, issued_on}
+pub use Rattle.hotel_core.specs.Refinement.Lift.{Lifts, RunsSafely, as_change}
+pub use Rattle.hotel_core.specs.Refinement.ListsOnRows.{arrivals_on, arrives_on, audit_on, awaited_on, behind_row_on, chain_on, chain_row_on, house_row_on, housed, in_house_on, left_behind_on, state_at}
+pub use Rattle.hotel_core.specs.Refinement.Noting.{IsUntaken, opened_on}
+pub use Rattle.hotel_core.specs.Refinement.OnRows.{checks_on, effect_on, has_link_on, held_on, home_link_on, home_on, is_awaited_on, kinds_agree_on, link_on, lock_place_on, place_on, reported_on, room_is_on, said_code_at, secured_after_on, secured_on, told_on}
+unfoldable pub use Rattle.hotel_core.specs.Refinement.OnRows.{outcome_on}
+pub use Rattle.hotel_core.specs.Refinement.StepOnRows.{AreWhole, Goes, GoesIf, StepsAs, made_by}
+pub use Rattle.hotel_core.specs.Stopping.{EndsAs, Stopping, StopsEither}
+pub use Rattle.hotel_core.specs.declared.books.Books.{Ghosts}
+pub use Rattle.hotel_core.specs.declared.books.change.Change.{Change}
+pub use Rattle.hotel_core.specs.declared.books.rows.CodeRow.{CodeRow}
+pub use Rattle.hotel_core.specs.declared.books.rows.RoomRow.{RoomRow}
+pub use Rattle.hotel_core.specs.declared.command.Command.{Command}
+pub use Rattle.hotel_core.specs.declared.reply.Refusal.{Refusal}
+pub use Rattle.hotel_core.specs.declared.reply.Refusal.TheVariants.{AlreadyBegun, CardDiffers, Conflict, Gap, HeldDiffers, KindExists, KindFull, LastDay, LockShut, Memory, NoCard, NoFreshCode, NoKind, NoParty, NoRoom, NotAwaited, NotBegun, NotInHouse, NotInside, NumbersUsedUp, RoomExists, RoomTaken, SameRoom, Store, WrongKind}
+pub use Rattle.hotel_core.specs.declared.reply.Reply.{Reply}
+pub use Rattle.hotel_core.specs.declared.reply.Reply.TheVariants.{Refused}
+pub use Rattle.hotel_nights.specs.Block.{one_if}
+pub use Rattle.hotel_nights.specs.FullNight.{is_full, is_standing, takes}
+unfoldable pub use Rattle.hotel_nights.specs.FullNight.{first_day, nights_taken}
+pub use Rattle.hotel_nights.specs.declared.stay.Stay.{Stay}
+pub use Rattle.hotel_nights.specs.declared.stay.StayState.{StayState}
+pub use Rattle.keycard_rules.specs.Draw.{Draw, Draws, code_of, fault_in, one_more}
+unfoldable pub use Rattle.keycard_rules.specs.Draw.{draw_from, drawn, past, words}
+pub use Rattle.keycard_rules.specs.Lock.{turn}
+pub use Rattle.keycard_rules.specs.Note.{IsTimed, Note}
+pub use Rattle.keycard_rules.specs.Numbers.{IsNumberUpTo}
+pub use Rattle.keycard_rules.specs.Rise.{HasRisen, HasRisenBy, NoFewer}
+pub use Rattle.keycard_rules.specs.declared.card.Card.{Card}
+pub use Rattle.keycard_rules.specs.declared.card.Link.{Link}
+pub use Rattle.keycard_rules.specs.declared.issued.LookFault.{LookFault}
+pub use Rattle.keycard_rules.specs.declared.note.Act.{Act}
+pub use Rattle.rand_core.specs.Stream.{Stream, next_u64}
+pub use Rattle.std.proofs.lemmas.Bool.{false≢true}
+pub use Rattle.std.proofs.lemmas.Bool.Decides.{nat_tests}
+pub use Rattle.std.proofs.lemmas.Cmp.{alike_right, nat_cmp_total, nat_list_cmp_total, on_total, then_total, tied_itself}
+pub use Rattle.std.proofs.lemmas.List.{length-map, take_more}
+pub use Rattle.std.proofs.lemmas.List.Elements.{All-head, All-tail, Contains-append_right, filter_map-append}
+pub use Rattle.std.proofs.lemmas.List.Sums.{count_by-le-length, sum_by-cons}
+pub use Rattle.std.proofs.lemmas.Map.Iter.{rest_more}
+pub use Rattle.std.proofs.lemmas.Map.Lookups.{exact_unsigned}
+pub use Rattle.std.proofs.lemmas.Slice.Eq.{bytes_eq-Decides}
+pub use Rattle.std.specs.BTreeMap.{insert_entry, is_at}
+pub use Rattle.std.specs.BTreeMap.Range.{entries_between, range_contains}
+pub use Rattle.std.specs.BTreeSet.{insert_key}
+pub use Rattle.std.specs.Cmp.{Equal-is, IsTotalOrder, ranks}
+pub use Rattle.std.specs.Cmp.Lexicographic.{slice_cmp}
+pub use Rattle.std.specs.List.{AllByRecursion, cons_option, enumerate_from, list_all, list_any, position_or_len, range_with_len}
+pub use Rattle.std.specs.Map.{keys_of, lookup, remove_entry, set_value, values_of}
+pub use Rattle.std.specs.Ordering.{MatchOrdering, match_ordering, ordering_reverse, ordering_then}
+pub use Rattle.std.specs.Set.{remove_key}
+pub use Rattle.std.specs.declared.ops.Bound.TheVariants.{Included}

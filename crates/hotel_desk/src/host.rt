@@ -1,0 +1,93 @@
+//! The words, files, databases and ports of the system. No clause can say what they give, so the functions here do no more than ask.
+
+ghost use Rattle.std.specs.Prelude.{IfErr};
+ghost use Rattle.hotel_desk.specs.Faults.{IsOfFiles};
+
+use crate::command_line::FileName;
+use crate::database::{close_file, open_file};
+use crate::faults::Fault;
+use crate::file_books::FileBooks;
+use crate::files::{SEED_BYTES, audit_file_in, seed_in};
+use crate::surroundings::Surroundings;
+use std::alloc::Global;
+use std::fs::{self, File};
+use std::net::{Ipv4Addr, TcpListener};
+use std::{env, io};
+
+/// The file of random bytes, from which codes are drawn where no seed file is named.
+const RANDOM_BYTES: &str = "/dev/urandom";
+
+/// The words after the program's name.
+pub fn words(rt: &HostRuntime) -> io::Result<Vec<String>> {
+    let mut words = env::args(rt)?;
+    words.next();
+    Ok(words.collect(rt.alloc())?)
+}
+
+/// The system that the program runs on.
+#[derive(Drop)]
+pub struct Host {
+    rt: HostRuntime,
+}
+
+impl Host {
+    /// The system of this runtime.
+    pub fn new(rt: &HostRuntime) -> Host {
+        Host { rt: *rt }
+    }
+
+    /// Opens a file to read it.
+    fn open(&self, path: &str) -> Result<File, Fault>
+        ensures { IfErr result IsOfFiles }
+    {
+        match fs::open(&self.rt, path) {
+            Ok(file) => Ok(file),
+            Err(_) => Err(Fault::File),
+        }
+    }
+}
+
+impl Surroundings for Host {
+    type Books = FileBooks;
+
+    ghost seed_read = { λ _ _ _ _. Unit {0} };
+
+    ghost file_read = { λ _ _ _ _. Unit {0} };
+
+    ghost books_opened = { λ _ _ _ _. Unit {0} };
+
+    ghost port_bound = { λ _ _ _ _. Unit {0} };
+
+    fn read_seed(
+        &mut self,
+        alloc: Global,
+        name: Option<&FileName>,
+    ) -> Result<[u8; SEED_BYTES], Fault> {
+        let path = match name {
+            Some(name) => name.as_str(),
+            None => RANDOM_BYTES,
+        };
+        let mut file = self.open(path)?;
+        seed_in(alloc, &mut file)
+    }
+
+    fn read_file(&mut self, alloc: Global, name: &FileName) -> Result<Vec<u8>, Fault> {
+        let mut file = self.open(name.as_str())?;
+        audit_file_in(alloc, &mut file)
+    }
+
+    fn open_books(&mut self, _alloc: Global, name: &FileName) -> Result<FileBooks, Fault> {
+        open_file(&self.rt, name.as_str())
+    }
+
+    fn close_books(&self, books: FileBooks) {
+        close_file(books);
+    }
+
+    fn listen(&mut self, port: u16) -> Result<TcpListener, Fault> {
+        match TcpListener::bind(&self.rt, (Ipv4Addr::LOCALHOST, port)) {
+            Ok(listener) => Ok(listener),
+            Err(_) => Err(Fault::Port),
+        }
+    }
+}

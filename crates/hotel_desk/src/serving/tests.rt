@@ -1,0 +1,69 @@
+//! Connections on the loopback address, within one process: the request is sent and its end is closed before the connection is taken.
+use super::serve_connections;
+use crate::script::run_script;
+use hotel_core::ListBooks;
+use hotel_lists::{FakeReader, FakeWriter};
+use keycard_rules::ListedWords;
+use std::alloc::Global;
+use std::io::{self, Read, Write};
+use std::net::{Ipv4Addr, Shutdown, SocketAddr, TcpListener, TcpStream};
+use std::test::Fail;
+
+/// A party is booked, in a room of its kind.
+const BOOKED: &[u8] =
+    b"begin 2031-05-01\nadd-kind DBL\nadd-room 101 DBL\nreserve DBL 2031-05-01 2 Ann Lee\n";
+
+pub(crate) const CHECK_IN: &[u8] =
+    b"POST /reservations/1/check-in HTTP/1.1\r\nHost: localhost\r\nContent-Length: 8\r\n\r\nroom=101";
+
+pub(crate) const CHECKED_IN: &[u8] =
+    b"HTTP/1.1 200 OK\r\nContent-Type: text/plain; charset=utf-8\r\nContent-Length: 49\r\nConnection: close\r\n\r\ncard 1 party 1 old 0000000000a0 new 0000000000a1\n";
+
+/// A source of words that give the code a0 and then a1 for ever.
+fn two_codes(alloc: Global) -> Result<ListedWords, Fail> {
+    let mut words = Vec::new(alloc);
+    words.push(0xa0 << 16)?;
+    words.push(0xa1 << 16)?;
+    Ok(ListedWords::new(words).ok_or("no words")?)
+}
+
+/// Connects and sends a request, and closes the sending end.
+fn sent(rt: &HostRuntime, address: SocketAddr, request: &[u8]) -> io::Result<TcpStream> {
+    let mut stream = TcpStream::connect(rt, address)?;
+    stream.write_all(request)?;
+    stream.shutdown(Shutdown::Write)?;
+    Ok(stream)
+}
+
+/// What the desk of the scenario answers to a request over a connection, and what it tells.
+fn answered(rt: &HostRuntime, request: &[u8], faults: &mut FakeWriter) -> Result<Vec<u8>, Fail> {
+    let mut books = ListBooks::empty(rt.alloc());
+    let mut source = two_codes(rt.alloc())?;
+    let mut reader = FakeReader::new(BOOKED);
+    let mut said = FakeWriter::new(rt.alloc());
+    let _ = run_script(rt.alloc(), &mut reader, &mut said, &mut books, &mut source);
+    let listener = TcpListener::bind(rt, (Ipv4Addr::LOCALHOST, 0))?;
+    let mut stream = sent(rt, listener.local_addr()?, request)?;
+    serve_connections(rt.alloc(), &listener, 1, &mut books, &mut source, faults);
+    let mut answer = Vec::new(rt.alloc());
+    stream.read_to_end(&mut answer)?;
+    Ok(answer)
+}
+
+#[test]
+fn a_check_in_over_a_connection(rt: HostRuntime) -> Result<(), Fail> {
+    let mut faults = FakeWriter::new(rt.alloc());
+    let answer = answered(&rt, CHECK_IN, &mut faults)?;
+    assert_eq!(rt; answer.as_slice(), CHECKED_IN);
+    assert_eq!(rt; faults.written(), b"".as_slice());
+    Ok(())
+}
+
+#[test]
+fn a_connection_without_a_request_is_told(rt: HostRuntime) -> Result<(), Fail> {
+    let mut faults = FakeWriter::new(rt.alloc());
+    let answer = answered(&rt, b"", &mut faults)?;
+    assert_eq!(rt; answer.as_slice(), b"".as_slice());
+    assert_eq!(rt; faults.written(), b"closed\n".as_slice());
+    Ok(())
+}

@@ -1,0 +1,31 @@
+-- A desk made in memory has a desk's tables, since memory is always clean and never fails as a disk does.
+use Rattle.std.proofs.Common.{◌≡◌, ◌≤◌, ◌∙◌, true, sym, subst, arith, inl, inr, IsTrue}
+use Rattle.sqlite_trees.specs.declared.memory.MemStore.{MemStore}
+use Rattle.sqlite.specs.Held.{Held, state}
+use Rattle.sqlite.specs.Schema.{Schema}
+use Rattle.sqlite.specs.State.{Survives}
+use Rattle.sqlite.specs.Steps.{over_memory, IsEmpty}
+use Rattle.sqlite.proofs.Callers.{memory_is_clean}
+use Rattle.hotel_tables.specs.Schema.{desk_schema}
+use Rattle.hotel_tables.specs.Books.{IsBooks}
+use Rattle.hotel_tables.specs.Making.{IsEmptyDesk}
+use Rattle.hotel_tables.specs.SameSchema.{same_schema}
+use Rattle.hotel_tables.proofs.SameSchema.{schema_is, desk_is_same}
+
+pub memory_has_desk : (old new : Held MemStore) → IsEmpty (state over_memory old) → Survives (state over_memory old) (state over_memory new) IsEmptyDesk → IsBooks (state over_memory new)
+    → (state over_memory new).now.schema ≡ desk_schema
+memory_has_desk old new empty survives books = (books.desk (memory_is_clean new, open_yet)).schema
+  where
+    open_yet : IsTrue (state over_memory new).is_open
+    open_yet = elim (survives.closes (memory_is_clean new) empty.0.is_open) [
+      | inl is_open ↦ is_open
+      | inr more ↦ let h : 1 ≤ 0 = more in absurd (omega (arith, h))
+    ]
+
+-- the schemas of two connections, the second of which is a desk's
+pub same_is_desk : (a b shown desk : Schema) → a ≡ shown → b ≡ desk → desk ≡ desk_schema → same_schema a b ≡ true → shown ≡ desk_schema
+same_is_desk a b shown desk p q r e = sym p ∙ schema_is a b e ∙ q ∙ r
+
+pub desk_is_taken : (a b shown desk : Schema) → a ≡ shown → b ≡ desk → desk ≡ desk_schema → shown ≡ desk_schema → same_schema a b ≡ true
+desk_is_taken a b shown desk p q r s =
+    subst (λ x. same_schema x b ≡ true) (sym (p ∙ s)) (subst (λ x. same_schema desk_schema x ≡ true) (sym (q ∙ r)) desk_is_same)

@@ -1,0 +1,8 @@
+-- The rows that the walks' statements show are those of the lists.
+pub mod Compared
+pub mod Single
+pub mod SoundCodes
+pub mod Chain
+pub mod Joined
+pub mod House
+pub mod Behind

@@ -1,0 +1,403 @@
+-- Tables that are read, undamaged and without numbers below 0 are tables of a desk.
+use Rattle.std.proofs.Common.{◌≡◌, ◌&&◌, refl, sym, ap, subst, ◌∙◌, List, [], ◌∷◌, map, ℕ, ℤ, pos, nat_cmp, true, false, Bool, Less, Ordering, is_eq, Option, None, Some, Result, Ok, Err, OnOk, IfOk, IfErr, IsTrue, Vec, arith, ◌+◌, ◌<◌, length, take, get_or, inl, inr, cond}
+use Rattle.std.specs.Prelude.{◌||◌, option_map, bytes_eq, string_bytes, not, is_some, nat_le, ◌-◌}
+use Rattle.std.proofs.lemmas.Bool.Decides.{nat_tests}
+use Rattle.std.specs.List.{AllByRecursion, list_all, list_any, count_by}
+use Rattle.std.specs.List.Sorted.{IsPermutation}
+use Rattle.std.specs.Ordering.{int_cmp}
+use Rattle.std.specs.Cmp.Lexicographic.{slice_cmp}
+use Rattle.std.specs.Map.{keys_of, values_of}
+use Rattle.std.specs.declared.alloc.Global.{Global}
+use Rattle.std.proofs.lemmas.Cmp.{nat_cmp_total, int_cmp_total, nat_list_cmp_total}
+use Rattle.std.proofs.lemmas.List.Sorted.{IsPermutation-map, IsPermutation-sym, IsPermutation-refl, length_permutation}
+use Rattle.sqlite_value.specs.declared.value.Value.{Value}
+use Rattle.sqlite_value.specs.declared.value.Value.TheVariants.{Int}
+use Rattle.sqlite_value.proofs.OrderLemmas.{value_cmp_total, value_cmp-Int}
+use Rattle.sqlite_rules.specs.Edit.{id_in}
+use Rattle.sqlite_trees.specs.Tree.{rowid}
+use Rattle.sqlite.specs.Order.{Row, column, value_cmp}
+use Rattle.sqlite.specs.Tree.{Trees, IsAscending}
+use Rattle.sqlite.specs.Effect.{Database}
+use Rattle.sqlite.specs.State.{State, HasCleanDisk}
+use Rattle.sqlite.proofs.Callers.{one_permutation}
+use Rattle.sqlite_keyed.proofs.ListLemmas.{all_unmap, ascending_weaker, ascending-map}
+use Rattle.keycard_rules.specs.declared.issued.LookFault.{LookFault}
+use Rattle.keycard_rules.specs.declared.issued.LookFault.TheVariants as look
+use Rattle.hotel_nights.specs.declared.stay.Stay.{Stay}
+use Rattle.hotel_core.specs.Model.Words.{pair_cmp, said_of}
+use Rattle.hotel_core.specs.Model.Rows.{Rows, at_number}
+use Rattle.hotel_core.specs.Model.Sound.{keys_in_order}
+use Rattle.hotel_core.specs.Model.SoundRooms.{are_in_order}
+use Rattle.std.proofs.lemmas.Bool.{cases_Bool}
+use Rattle.std.proofs.lemmas.List.Folds.{list_any_more}
+use Rattle.std.proofs.lemmas.Slice.Eq.{bytes_eq-Decides}
+use Rattle.std.proofs.lemmas.List.Sums.{count_by_more_yes, count_by_more_no}
+use Rattle.hotel_nights.specs.Block.{one_if}
+use Rattle.hotel_nights.specs.FullNight.{takes, nights_taken, first_day, is_full}
+use Rattle.hotel_core.specs.declared.books.rows.RoomRow.{RoomRow}
+use Rattle.hotel_core.specs.NightIndex.{StandsFor, counted}
+use Rattle.hotel_core.proofs.OfTables.StayCounts.{count_first}
+use Rattle.hotel_core.specs.Books.Lookups.{rooms_of_kind}
+use Rattle.hotel_core.specs.KindRooms.{is_there, rooms_in}
+use Rattle.hotel_core.proofs.OfTables.Pairs.{pair_cmp_total}
+use Rattle.hotel_core.proofs.OfTables.Tests.{and_true, or_true}
+use Rattle.hotel_core.proofs.OfTables.KeysInOrder.{InOrder}
+use Rattle.hotel_core.proofs.Starts.StartOrder.{in_order_from}
+use Rattle.hotel_tables.specs.declared.lines.MetaLine.{MetaLine}
+use Rattle.hotel_tables.specs.declared.lines.NumberedInside.{NumberedInside}
+use Rattle.hotel_tables.specs.declared.stored.KindLine.{KindLine}
+use Rattle.hotel_tables.specs.declared.stored.InsideLine.{InsideLine}
+use Rattle.hotel_tables.specs.declared.stored.RoomLine.{RoomLine}
+use Rattle.hotel_tables.specs.declared.stored.StayLine.{StayLine}
+use Rattle.hotel_tables.specs.declared.stored.NoteLine.{NoteLine}
+use Rattle.hotel_tables.specs.declared.stored.Stored.{Stored}
+use Rattle.hotel_tables.specs.declared.reading.Tables.{Tables}
+use Rattle.hotel_tables.specs.declared.counting.Counts.{Counts}
+use Rattle.hotel_tables.specs.declared.open_fault.OpenFault.{OpenFault}
+use Rattle.hotel_tables.specs.declared.open_fault.OpenFault.TheVariants as fault
+use Rattle.hotel_tables.specs.Columns.{meta_columns, meta_of, meta_written, kind_columns, kind_of, kind_written, room_columns, room_of, room_written, stay_columns, stay_of, stay_written}
+use Rattle.hotel_tables.specs.Columns.{code_columns, code_of, code_written, card_columns, card_of, card_written, inside_columns, inside_of, inside_written, note_columns, note_of, note_written}
+use Rattle.hotel_tables.specs.Stored.{number_of, room_row, stay_row, kind_text, room_entry, stay_entry, code_entry, card_entry, inside_pair, note_entry, rows_of}
+use Rattle.hotel_tables.specs.Damage as damage
+use Rattle.hotel_tables.specs.Damage.{columns_fit, first_damaged_of}
+use Rattle.hotel_tables.specs.RowTests.{is_line_of_kind, has_night}
+use Rattle.hotel_tables.specs.Tables.{HasId, AreApartIds, AreApart, AreTables, IsTable, listed, by_key, metas_in, rows_in as all_rows_in}
+use Rattle.hotel_tables.specs.TableBooks.{IsCounted}
+use Rattle.hotel_tables.specs.Books.{IsKept, IsBooks, IsDesk}
+use Rattle.hotel_tables.specs.Lines.{maybe, meta_shown, kind_shown, room_shown, stay_shown, code_shown, card_shown, inside_shown, numbered_shown, numbered_columns, note_shown, AreLines}
+use Rattle.hotel_tables.specs.Lines.{may_be_natural, room_natural, stay_natural, code_natural, card_natural, inside_natural, note_natural}
+use Rattle.hotel_tables.specs.Opening.{IsOurs, ReadsTo, AreRead, AreStored, AreApartInside, IsMetaRow, LacksRow, HasMetaRow, FaultFits, Told, Opens, IsCountedOf, KnowsKinds, names_kind, all_rise, all_natural, id_inside, line_inside, fault_for}
+use Rattle.hotel_tables.proofs.Answers.{fused}
+use Rattle.hotel_tables.proofs.Found.{map_same}
+use Rattle.hotel_tables.proofs.Keyed.{key_total}
+use Rattle.hotel_tables.proofs.Perm.{every_shuffled, apart_permuted}
+use Rattle.hotel_tables.proofs.ReadBack.{read_back, tested_keys, tested_order}
+use Rattle.hotel_tables.proofs.Naturals.{meta_good, kind_good, room_good, stay_good, code_good, card_good, inside_good, note_good}
+use Rattle.hotel_tables.proofs.OfDamage.Undamaged.{undamaged_is_sound}
+
+-- ---- the row of meta
+
+one_version : (l : MetaLine) (row : Row) → meta_columns row ∷ [] ≡ meta_shown l ∷ [] → column (meta_columns row) 1 ≡ Int (pos 1) → l.version ≡ pos 1
+one_version l row same is =
+    let e : column (meta_columns row) 1 ≡ Int l.version = ap (λ (rows : List Row). column (head rows) 1) same in
+    ap id_in (sym e ∙ is)
+  where
+    head : List Row → Row
+    head [] = []
+    head (r ∷ rs) = r
+
+pub lacks_row : (db : Trees) (meta : List MetaLine) → AreLines meta_columns meta_shown meta (db 0) → ((l : MetaLine) → meta ≡ l ∷ [] → ¬ (l.version ≡ pos 1)) → ¬ HasMetaRow db
+lacks_row db [] lines none has =
+    let here : IsPermutation (map meta_columns (has.0 ∷ [])) [] = subst (λ rows. IsPermutation (map meta_columns rows) []) has.1 lines in
+    absurd (omega (arith, length_permutation _ _ here))
+lacks_row db (l ∷ []) lines none has =
+    let here : IsPermutation (meta_columns has.0 ∷ []) (meta_shown l ∷ []) = subst (λ rows. IsPermutation (map meta_columns rows) (meta_shown l ∷ [])) has.1 lines in
+    none l refl (one_version l has.0 (sym (one_permutation (meta_columns has.0) (meta_shown l ∷ []) here)) has.2)
+lacks_row db (l ∷ k ∷ meta) lines none has =
+    let here : IsPermutation (map meta_columns (has.0 ∷ [])) (map meta_shown (l ∷ k ∷ meta)) = subst (λ rows. IsPermutation (map meta_columns rows) (map meta_shown (l ∷ k ∷ meta))) has.1 lines in
+    absurd (omega (arith, length_permutation _ _ here))
+
+pub fault_lacks : (db : Trees) (meta : List MetaLine) (why : OpenFault) → AreLines meta_columns meta_shown meta (db 0) → LacksRow meta why → FaultFits db why
+fault_lacks db meta fault.Memory lines lacks = tt
+fault_lacks db meta fault.Store lines lacks = tt
+fault_lacks db meta fault.NotADesk lines lacks = lacks_row db meta lines lacks
+fault_lacks db meta (fault.Damaged t) lines lacks = absurd lacks
+
+-- ---- the rows inside, and their numbers
+
+pub apart_ids : (ids sorted : List ℤ) → IsPermutation ids sorted → are_in_order int_cmp sorted ≡ true → IsAscending (λ a b. is_eq (int_cmp a b) ≡ false) ids
+apart_ids ids sorted same up =
+    let apart : AreApart int_cmp sorted = ascending_weaker _ _ (λ a b less. ap is_eq less) sorted (tested_order int_cmp int_cmp_total sorted up) in
+    apart_permuted int_cmp int_cmp_total sorted ids (IsPermutation-sym _ _ same) apart
+
+all_ids : (lines : List NumberedInside) → AllByRecursion (λ (v : Row). column v 0 ≡ Int (id_in (column v 0))) (map numbered_shown lines)
+all_ids [] = tt
+all_ids (l ∷ lines) = (refl, all_ids lines)
+
+first_ids : (lines : List NumberedInside) → map (λ (v : Row). column v 0) (map numbered_shown lines) ≡ map (λ (n : ℤ). Int n) (map id_inside lines)
+first_ids [] = refl
+first_ids (l ∷ lines) = ap (λ vs. Int l.id ∷ vs) (first_ids lines)
+
+pub ids_apart : (lines : List NumberedInside) (db : Trees) → AreLines numbered_columns numbered_shown lines (db 9)
+    → IsAscending (λ a b. is_eq (int_cmp a b) ≡ false) (map id_inside lines) → AreApartInside db
+ids_apart lines db same apart =
+    let rows = db 9 in
+    let ids : AllByRecursion (λ r. column (numbered_columns r) 0 ≡ Int (id_in (column (numbered_columns r) 0))) rows =
+    all_unmap (λ (v : Row). column v 0 ≡ Int (id_in (column v 0))) numbered_columns rows
+    (every_shuffled (λ (v : Row). column v 0 ≡ Int (id_in (column v 0))) (map numbered_shown lines) (map numbered_columns rows) (IsPermutation-sym _ _ same) (all_ids lines)) in
+    let values : AreApart value_cmp (map (λ (n : ℤ). Int n) (map id_inside lines)) =
+    ascending-map (λ a b. is_eq (value_cmp a b) ≡ false) (λ (n : ℤ). Int n) (map id_inside lines)
+    (ascending_weaker _ _ (λ a b other. ap is_eq (value_cmp-Int a b) ∙ other) (map id_inside lines) apart) in
+    let moved : IsPermutation (map (λ (v : Row). column v 0) (map numbered_columns rows)) (map (λ (v : Row). column v 0) (map numbered_shown lines)) =
+    IsPermutation-map (λ (v : Row). column v 0) _ _ same in
+    let here : IsPermutation (map rowid rows) (map (λ (n : ℤ). Int n) (map id_inside lines)) =
+    subst (λ xs. IsPermutation xs (map (λ (n : ℤ). Int n) (map id_inside lines))) (fused (λ (v : Row). column v 0) numbered_columns rows)
+    (subst (IsPermutation (map (λ (v : Row). column v 0) (map numbered_columns rows))) (first_ids lines) moved) in
+    let all : AreApart value_cmp (map rowid rows) = apart_permuted value_cmp value_cmp_total _ _ (IsPermutation-sym _ _ here) values in
+    (ids, ascending_unmapped rows all)
+  where
+    above : (a : Row) (rows : List Row) → AllByRecursion (λ v. is_eq (value_cmp (rowid a) v) ≡ false) (map rowid rows) → AllByRecursion (λ b. is_eq (value_cmp (rowid a) (rowid b)) ≡ false) rows
+    above a [] h = tt
+    above a (r ∷ rows) h = (h.0, above a rows h.1)
+
+    ascending_unmapped : (rows : List Row) → AreApart value_cmp (map rowid rows) → AreApartIds rows
+    ascending_unmapped [] h = tt
+    ascending_unmapped (r ∷ rows) h = (above r rows h.0, ascending_unmapped rows h.1)
+
+abbrev last_two : Row → Row
+last_two v = column v 1 ∷ column v 2 ∷ []
+
+lines_of : (lines : List NumberedInside) → map last_two (map numbered_shown lines) ≡ map inside_shown (map line_inside lines)
+lines_of [] = refl
+lines_of (l ∷ lines) = ap (λ vs. inside_shown l.line ∷ vs) (lines_of lines)
+
+pub inside_lines : (lines : List NumberedInside) (rows : List Row) → AreLines numbered_columns numbered_shown lines rows → AreLines inside_columns inside_shown (map line_inside lines) rows
+inside_lines lines rows same =
+    subst (IsPermutation (map inside_columns rows)) (lines_of lines)
+    (subst (λ xs. IsPermutation xs (map last_two (map numbered_shown lines))) (fused last_two numbered_columns rows) (IsPermutation-map last_two _ _ same))
+
+pub stored_are : (t : Tables) (db : Trees) (line : MetaLine) (version : ℤ) (inside : Vec InsideLine Global) → version ≡ pos 1 → AreRead t db → IsMetaRow t.meta.items line
+    → inside.items ≡ map line_inside t.inside.items
+    → let s : Stored = record { version = version; day = line.day; kinds = t.kinds; rooms = t.rooms; stays = t.stays; codes = t.codes; cards = t.cards; inside = inside; notes = t.notes } in
+    all_rise s ≡ true → AreStored s db
+stored_are t db line version inside first read meta same up =
+    let one : IsPermutation (map meta_columns (db 0)) (meta_shown line ∷ []) = subst (λ ls. AreLines meta_columns meta_shown ls (db 0)) meta.0 read.0.0.0 in
+    let only : map meta_columns (db 0) ≡ meta_shown line ∷ [] = one_permutation (meta_shown line) _ (IsPermutation-sym _ _ one) in
+    let named : meta_shown line ≡ Int (pos 1) ∷ Int version ∷ maybe line.day ∷ [] = ap (λ n. Int n ∷ Int line.version ∷ maybe line.day ∷ []) meta.1 ∙ ap (λ n. Int (pos 1) ∷ Int n ∷ maybe line.day ∷ []) (meta.2 ∙ sym first) in
+    record {
+      version = first;
+      meta = only ∙ ap (λ r. r ∷ []) named;
+      kinds = read.0.0.1;
+      rooms = read.0.1.0;
+      stays = read.0.1.1;
+      codes = read.1.0.0;
+      cards = read.1.0.1;
+      inside = subst (λ ls. AreLines inside_columns inside_shown ls (db 9)) (sym same) (inside_lines t.inside.items (db 9) read.1.1.0);
+      notes = read.1.1.1;
+      rise = up;
+    }
+
+-- ---- the tables
+
+each : {L : Type 0} (test : L → Bool) (P : L → Type 0) → ((l : L) → test l ≡ true → P l) → (ls : List L) → list_all test ls ≡ true → AllByRecursion P ls
+each test P f [] h = tt
+each test P f (l ∷ ls) h = let a = and_true (test l) (list_all test ls) h in (f l a.0, each test P f ls a.1)
+
+each_two : {L : Type 0} (test also : L → Bool) (P : L → Type 0) → ((l : L) → test l ≡ true → also l ≡ true → P l) → (ls : List L) → list_all test ls ≡ true → list_all also ls ≡ true
+    → AllByRecursion P ls
+each_two test also P f [] h k = tt
+each_two test also P f (l ∷ ls) h k =
+    let a = and_true (test l) (list_all test ls) h in
+    let b = and_true (also l) (list_all also ls) k in
+    (f l a.0 b.0, each_two test also P f ls a.1 b.1)
+
+all_kinds : (ls : List KindLine) → AllByRecursion (λ l. (kind_shown l ≡ kind_written (kind_text l)) × (kind_of (kind_shown l) ≡ kind_text l)) ls
+all_kinds [] = tt
+all_kinds (l ∷ ls) = (kind_good l, all_kinds ls)
+
+keys_mapped : {K V L : Type 0} (entry : L → K × V) (ls : List L) → keys_of (map entry ls) ≡ map (λ (e : K × V). e.0) (map entry ls)
+keys_mapped entry [] = refl
+keys_mapped entry (l ∷ ls) = ap (λ ks. (entry l).0 ∷ ks) (keys_mapped entry ls)
+
+rising : {K V L : Type 0} {cmp : K → K → Ordering} (total : Rattle.std.specs.Cmp.IsTotalOrder cmp) (entry : L → K × V) (ls : List L) → are_in_order cmp (keys_of (map entry ls)) ≡ true
+    → IsAscending (λ a b. by_key cmp a b ≡ Less) (map entry ls)
+rising {K} {V} {L} {cmp} total entry ls e = tested_keys cmp total (λ (p : K × V). p.0) (map entry ls) (ap (are_in_order cmp) (sym (keys_mapped entry ls)) ∙ e)
+
+pub record AreDesk (s : Stored) (db : Trees) : Type 0 where
+  pub tables : AreTables db
+  pub rows : all_rows_in db ≡ rows_of s
+
+pub are_desk : (s : Stored) (db : Trees) → AreStored s db → AreApartInside db → keys_in_order (rows_of s) ≡ true → columns_fit s ≡ true → all_natural s ≡ true → AreDesk s db
+are_desk s db a ids keys fit natural =
+    let k6 = and_true _ (are_in_order pair_cmp (keys_of (rows_of s).notes)) keys in
+    let k5 = and_true _ (are_in_order pair_cmp (rows_of s).inside) k6.0 in
+    let k4 = and_true _ (are_in_order nat_cmp (keys_of (rows_of s).cards)) k5.0 in
+    let k3 = and_true _ (are_in_order nat_cmp (keys_of (rows_of s).stays)) k4.0 in
+    let k2 = and_true _ (are_in_order nat_cmp (keys_of (rows_of s).codes)) k3.0 in
+    let k1 = and_true (are_in_order (slice_cmp nat_cmp) (rows_of s).kinds) (are_in_order nat_cmp (keys_of (rows_of s).rooms)) k2.0 in
+    let n6 = and_true _ (list_all note_natural s.notes.items) natural in
+    let n5 = and_true _ (list_all inside_natural s.inside.items) n6.0 in
+    let n4 = and_true _ (list_all card_natural s.cards.items) n5.0 in
+    let n3 = and_true _ (list_all code_natural s.codes.items) n4.0 in
+    let n2 = and_true _ (list_all stay_natural s.stays.items) n3.0 in
+    let n1 = and_true (may_be_natural s.day) (list_all room_natural s.rooms.items) n2.0 in
+    let f2 = and_true _ (list_all damage.note_columns s.notes.items) fit in
+    let f1 = and_true (list_all damage.room_columns s.rooms.items) (list_all damage.stay_columns s.stays.items) f2.0 in
+    let line : MetaLine = record { id = pos 1; version = s.version; day = s.day } in
+    let meta_line : AreLines meta_columns meta_shown (line ∷ []) (db 0) = subst (λ xs. IsPermutation xs (meta_shown line ∷ [])) (sym a.meta) (IsPermutation-refl (meta_shown line ∷ [])) in
+    let entry : MetaLine → ℕ × (ℕ × Option ℕ) = λ l. (number_of l.id, (number_of l.version, option_map number_of l.day)) in
+    let meta = read_back (by_key nat_cmp) (key_total nat_cmp_total) meta_columns meta_of meta_written meta_shown entry (line ∷ []) (db 0) meta_line (meta_good line refl a.version n1.0, tt) (tt, tt) in
+    let kind = read_back (slice_cmp nat_cmp) nat_list_cmp_total kind_columns kind_of kind_written kind_shown kind_text s.kinds.items (db 1) a.kinds (all_kinds s.kinds.items)
+    (tested_order (slice_cmp nat_cmp) nat_list_cmp_total (map kind_text s.kinds.items) k1.0) in
+    let room = read_back (by_key nat_cmp) (key_total nat_cmp_total) room_columns room_of room_written room_shown room_entry s.rooms.items (db 3) a.rooms
+    (each_two room_natural damage.room_columns _ room_good s.rooms.items n1.1 f1.0) (rising nat_cmp_total room_entry s.rooms.items k1.1) in
+    let stay = read_back (by_key nat_cmp) (key_total nat_cmp_total) stay_columns stay_of stay_written stay_shown stay_entry s.stays.items (db 5) a.stays
+    (each_two stay_natural damage.stay_columns _ stay_good s.stays.items n2.1 f1.1) (rising nat_cmp_total stay_entry s.stays.items k3.1) in
+    let code = read_back (by_key nat_cmp) (key_total nat_cmp_total) code_columns code_of code_written code_shown code_entry s.codes.items (db 6) a.codes
+    (each code_natural _ code_good s.codes.items n3.1) (rising nat_cmp_total code_entry s.codes.items k2.1) in
+    let card = read_back (by_key nat_cmp) (key_total nat_cmp_total) card_columns card_of card_written card_shown card_entry s.cards.items (db 8) a.cards
+    (each card_natural _ card_good s.cards.items n4.1) (rising nat_cmp_total card_entry s.cards.items k4.1) in
+    let inside = read_back pair_cmp pair_cmp_total inside_columns inside_of inside_written inside_shown inside_pair s.inside.items (db 9) a.inside
+    (each inside_natural _ inside_good s.inside.items n5.1) (tested_order pair_cmp pair_cmp_total (map inside_pair s.inside.items) k5.1) in
+    let note = read_back (by_key pair_cmp) (key_total pair_cmp_total) note_columns note_of note_written note_shown note_entry s.notes.items (db 11) a.notes
+    (each_two note_natural damage.note_columns _ note_good s.notes.items n6.1 f2.1) (rising pair_cmp_total note_entry s.notes.items k6.1) in
+    let version : number_of s.version ≡ 1 = ap number_of a.version in
+    let metas : metas_in db ≡ (1, (1, option_map number_of s.day)) ∷ [] = meta.1 ∙ ap (λ n. (1, (n, option_map number_of s.day)) ∷ []) version in
+    record {
+      tables = record {
+        meta = meta.0;
+        meta_row = (option_map number_of s.day, metas);
+        kind = kind.0;
+        room = room.0;
+        stay = stay.0;
+        code = code.0;
+        card = card.0;
+        inside = inside.0;
+        inside_numbered = ids.0;
+        inside_ids = ids.1;
+        note = note.0;
+      };
+      rows = λ i. record {
+        day = ap (λ (m : List (ℕ × (ℕ × Option ℕ))). said_of (at_number m 1) None (λ e. e.1)) metas i;
+        kinds = kind.1 i;
+        rooms = room.1 i;
+        codes = code.1 i;
+        stays = stay.1 i;
+        cards = card.1 i;
+        inside = inside.1 i;
+        notes = note.1 i;
+      };
+    }
+
+-- ---- what is counted
+
+counted_rooms : (kind : List ℕ) (ls : List RoomLine) → count_by (is_line_of_kind kind) ls ≡ count_by (λ (row : RoomRow). bytes_eq row.kind kind) (values_of (map room_entry ls))
+counted_rooms kind [] = refl
+counted_rooms kind (l ∷ ls) =
+    count_first (is_line_of_kind kind) l ls
+    ∙ ap (λ n. one_if (is_line_of_kind kind l) + n) (counted_rooms kind ls)
+    ∙ sym (count_first (λ (row : RoomRow). bytes_eq row.kind kind) (room_row l) (values_of (map room_entry ls)))
+
+count_stays : (kind : List ℕ) (n : ℕ) (ls : List StayLine) → count_by (λ l. takes kind n (stay_row l)) ls ≡ count_by (takes kind n) (values_of (map stay_entry ls))
+count_stays kind n [] = refl
+count_stays kind n (l ∷ ls) =
+    count_first (λ l. takes kind n (stay_row l)) l ls ∙ ap (λ m. one_if (takes kind n (stay_row l)) + m) (count_stays kind n ls)
+    ∙ sym (count_first (takes kind n) (stay_row l) (values_of (map stay_entry ls)))
+
+-- one more stay is counted
+pub more_stays : (before after : List ((List ℕ × ℕ) × List ℕ)) (ls : List StayLine) (i : ℕ) (d : StayLine) (stay : Stay) → i < length ls
+    → StandsFor before (values_of (map stay_entry (take i ls))) → stay ≡ stay_row (get_or ls i d)
+    → ((kind : List ℕ) (n : ℕ) → counted after kind n ≡ counted before kind n + one_if (takes kind n stay)) → StandsFor after (values_of (map stay_entry (take (i + 1) ls)))
+unfolding nights_taken
+more_stays before after ls i d stay low stands is adds kind n =
+    let p : StayLine → Bool = λ l. takes kind n (stay_row l) in
+    let was : counted before kind n ≡ count_by p (take i ls) = stands kind n ∙ sym (count_stays kind n (take i ls)) in
+    let step : count_by p (take (i + 1) ls) ≡ count_by p (take i ls) + one_if (p (get_or ls i d)) = count_next p ls i d low in
+    adds kind n ∙ ap (λ (s : Stay). counted before kind n + one_if (takes kind n s)) is ∙ ap (λ m. m + one_if (p (get_or ls i d))) was ∙ sym step ∙ count_stays kind n (take (i + 1) ls)
+  where
+    count_next : (p : StayLine → Bool) (ls : List StayLine) (i : ℕ) (d : StayLine) → i < length ls → count_by p (take (i + 1) ls) ≡ count_by p (take i ls) + one_if (p (get_or ls i d))
+    count_next p ls i d low = elim (cases_Bool (p (get_or ls i d))) [
+      | inl yes_is ↦ rw yes_is (count_by_more_yes p ls i d low yes_is)
+      | inr no_is ↦ let e = count_by_more_no p ls i d low no_is in rw no_is (omega (arith, e))
+    ]
+
+-- a kind that the rows name, as the rows of the books have it
+named_kind : (kind : List ℕ) (lines : List KindLine) → names_kind kind lines ≡ list_any (λ k. bytes_eq k kind) (map kind_text lines)
+named_kind kind [] = refl
+named_kind kind (l ∷ ls) = ap (λ b. bytes_eq (kind_text l) kind || b) (named_kind kind ls)
+
+-- one more kind is known
+pub one_more_known : (before after : List (List ℕ × ℕ)) (lines : List KindLine) (i : ℕ) (d : KindLine) → i < length lines → KnowsKinds before (take i lines)
+    → is_there after (kind_text (get_or lines i d)) ≡ true → ((k : List ℕ) → is_there before k ≡ true → is_there after k ≡ true) → KnowsKinds after (take (i + 1) lines)
+one_more_known before after lines i d low known there others kind named =
+    elim (or_true _ _ (sym (list_any_more (λ line. bytes_eq (kind_text line) kind) lines i d low) ∙ named)) [
+      | inl old ↦ others kind (known kind old)
+      | inr new ↦ subst (λ k. is_there after k ≡ true) ((bytes_eq-Decides (kind_text (get_or lines i d)) kind).0 new) there
+    ]
+
+pub opened : (s : Stored) (db : Trees) (counts : Counts) → AreStored s db × AreApartInside db → IsCountedOf s counts × (first_damaged_of s ≡ None) × (all_natural s ≡ true)
+    → AreTables db × IsCounted counts.kinds counts.nights (all_rows_in db)
+opened s db counts a h =
+    let sound = (undamaged_is_sound s).0 h.1 in
+    let desk = are_desk s db a.0 a.1 sound.0.keys sound.1 h.2 in
+    let here : IsCounted counts.kinds counts.nights (rows_of s) = record {
+      sound = sound.0;
+      known = λ kind there. h.0.1.1 kind (named_kind kind s.kinds.items ∙ there);
+      rooms = λ kind. h.0.0 kind ∙ counted_rooms kind s.rooms.items;
+      stays = h.0.1.0;
+    } in
+    (desk.tables, subst (IsCounted counts.kinds counts.nights) (sym desk.rows) here)
+
+-- ---- the whole
+
+told : {A : Type 0} {P : Type 0} (r : Result A OpenFault) → P → Told r P
+told (Ok a) p = p
+told (Err fault.Memory) p = tt
+told (Err fault.Store) p = tt
+told (Err fault.NotADesk) p = p
+told (Err (fault.Damaged t)) p = p
+
+pub fault_fits : (db : Trees) (why : LookFault) → FaultFits db (fault_for why)
+fault_fits db look.Memory = tt
+fault_fits db look.Store = tt
+
+told_fault : (A P : Type 0) (why : LookFault) → Told {A = A} (Err (fault_for why)) P
+told_fault A P look.Memory = tt
+told_fault A P look.Store = tt
+
+pub opens_to : (old new : State) (t : Tables) (result : Result Counts OpenFault) → ReadsTo AreRead old new (Ok t)
+    → ((db : Trees) → AreRead t db → IfOk result (λ c. AreTables db × IsCounted c.kinds c.nights (all_rows_in db)))
+    → ((db : Trees) → AreRead t db → IfErr result (FaultFits db)) → Opens old new result
+opens_to old new t result reads ok err = record {
+  books = books result ok;
+  autocommit = reads.ours.autocommit;
+  keeps = reads.keeps;
+  counted = λ kept. counted result (ok old.now.trees (reads.says kept));
+  fault = λ kept. err old.now.trees (reads.says kept);
+  open_on = λ kept clean. told result (reads.open_on kept clean);
+  crash = reads.crash;
+}
+  where
+    counted : (r : Result Counts OpenFault) → IfOk r (λ c. AreTables old.now.trees × IsCounted c.kinds c.nights (all_rows_in old.now.trees)) → IfOk r (λ c. IsCounted c.kinds c.nights (all_rows_in old.now.trees))
+    counted (Ok c) h = h.1
+    counted (Err e) h = tt
+
+    books : (r : Result Counts OpenFault) → ((db : Trees) → AreRead t db → IfOk r (λ c. AreTables db × IsCounted c.kinds c.nights (all_rows_in db))) → OnOk r (IsBooks new)
+    books (Ok c) h = record {
+      autocommit = reads.ours.autocommit;
+      desk = λ kept.
+          let is = reads.ours.tables kept in
+          record { schema = is.0; settled = is.1; tables = subst (λ (d : Database). AreTables d.trees) (sym (reads.keeps kept).1) (h old.now.trees (reads.says kept)).0 };
+    }
+    books (Err e) h = tt
+
+pub opens_not : (old new : State) (why : LookFault) → ReadsTo AreRead old new (Err why) → Opens old new (Err (fault_for why))
+opens_not old new why reads = record {
+  books = tt;
+  autocommit = reads.ours.autocommit;
+  keeps = reads.keeps;
+  counted = λ _. tt;
+  fault = λ kept. fault_fits old.now.trees why;
+  open_on = λ _ _. told_fault Counts (IsTrue new.is_open) why;
+  crash = reads.crash;
+}
+
+-- ---- the first night of a stay, by the counts
+
+pub night_told : (s : Stored) (counts : Counts) (line : StayLine) (kind : List ℕ) (arrive more to : ℕ) (full : Option ℕ) → IsCountedOf s counts → kind ≡ string_bytes line.kind
+    → arrive ≡ number_of line.arrive → more ≡ rooms_in counts.kinds kind + 1 → to ≡ arrive + 1
+    → full ≡ first_day (is_full (values_of (map stay_entry s.stays.items)) kind more) arrive (to - arrive) → not (is_some full) ≡ has_night s line
+unfolding first_day nights_taken
+night_told s counts line kind arrive more to full h same from rooms next is =
+    let one : to - arrive ≡ 1 = omega (arith, next) in
+    let taken = count_by (takes kind arrive) (values_of (map stay_entry s.stays.items)) in
+    let first : full ≡ cond (nat_le more taken) (Some arrive) None = is ∙ ap (first_day (is_full (values_of (map stay_entry s.stays.items)) kind more) arrive) one in
+    let told : not (is_some full) ≡ nat_le taken (rooms_in counts.kinds kind) = ap (λ o. not (is_some o)) first ∙ by (nat_le more taken) refl in
+    let counted_here : nat_le taken (rooms_in counts.kinds kind) ≡ nat_le (count_by (λ (l : StayLine). takes kind arrive (stay_row l)) s.stays.items) (count_by (is_line_of_kind kind) s.rooms.items) =
+    λ i. nat_le (sym (count_stays kind arrive s.stays.items) i) (h.0 kind i) in
+    told ∙ counted_here ∙ λ i. nat_le (count_by (λ (l : StayLine). takes (same i) (from i) (stay_row l)) s.stays.items) (count_by (is_line_of_kind (same i)) s.rooms.items)
+  where
+    by : (b : Bool) → nat_le more (count_by (takes kind arrive) (values_of (map stay_entry s.stays.items))) ≡ b
+        → not (is_some (cond b (Some arrive) None)) ≡ nat_le (count_by (takes kind arrive) (values_of (map stay_entry s.stays.items))) (rooms_in counts.kinds kind)
+    by true e = grind (arith, nat_tests)
+    by false e = grind (arith, nat_tests)

@@ -1,0 +1,338 @@
+-- What is read of a desk's tables: each line is one that the books write, the lines have the rows of the tables, and where these are sound no table is damaged.
+use Rattle.std.proofs.Common.{◌≡◌, ℕ, ℤ, pos, negsuc, Bool, true, false, cond, ◌&&◌, not, refl, sym, ap, subst, ◌∙◌, List, [], ◌∷◌, map, length, Option, None, Some, Ordering, nat_cmp, is_lt, arith, inl, inr, Err}
+use Rattle.std.specs.Prelude.{nat_le, nat_lt, ◌==◌, is_some}
+use Rattle.std.specs.List.{AllByRecursion, list_all}
+use Rattle.std.specs.List.Sorted.{IsPermutation}
+use Rattle.std.specs.Ordering.{int_cmp, ordering_then}
+use Rattle.std.specs.Cmp.{nat_cmp_is}
+use Rattle.std.specs.Cmp.Lexicographic.{slice_cmp}
+use Rattle.std.specs.Map.{keys_of}
+use Rattle.std.proofs.lemmas.Bool.{cases_Bool, false≢true, ltb-true, ltb-false}
+use Rattle.std.proofs.lemmas.Cmp.{nat_cmp_total}
+use Rattle.sqlite_value.specs.declared.value.Value.{Value}
+use Rattle.sqlite_value.specs.declared.value.Value.TheVariants.{Null, Int}
+use Rattle.sqlite_rules.specs.Edit.{id_in}
+use Rattle.sqlite.specs.Order.{Row, column}
+use Rattle.sqlite.specs.Tree.{Trees}
+use Rattle.sqlite.specs.State.{State, HasCleanDisk}
+use Rattle.sqlite.proofs.Callers.{one_permutation}
+use Rattle.sqlite_keyed.proofs.ListLemmas.{all_map, all_unmap}
+use Rattle.sqlite_keyed.proofs.SortLemmas.{IsPermutation-sort_by}
+use Rattle.keycard_rules.specs.declared.note.Act.{Act}
+use Rattle.keycard_rules.specs.declared.note.Act.TheVariants.{Entered, Left, Recoded}
+use Rattle.hotel_nights.specs.declared.stay.StayState.{StayState}
+use Rattle.hotel_nights.specs.declared.stay.StayState.TheVariants.{Booked, InHouse, Done, Cancelled}
+use Rattle.hotel_core.specs.Model.Words.{pair_cmp}
+use Rattle.hotel_core.specs.Model.Cases.{room_of_state}
+use Rattle.hotel_core.specs.Model.Sound.{IsSound, keys_in_order}
+use Rattle.hotel_core.specs.Model.SoundRooms.{are_in_order}
+use Rattle.hotel_core.proofs.OfTables.Tests.{and_true}
+use Rattle.hotel_core.proofs.OfTables.RowTests.{both}
+use Rattle.hotel_tables.specs.declared.stored.KindLine.{KindLine}
+use Rattle.hotel_tables.specs.declared.stored.RoomLine.{RoomLine}
+use Rattle.hotel_tables.specs.declared.stored.StayLine.{StayLine}
+use Rattle.hotel_tables.specs.declared.stored.CodeLine.{CodeLine}
+use Rattle.hotel_tables.specs.declared.stored.CardLine.{CardLine}
+use Rattle.hotel_tables.specs.declared.stored.InsideLine.{InsideLine}
+use Rattle.hotel_tables.specs.declared.stored.NoteLine.{NoteLine}
+use Rattle.hotel_tables.specs.declared.stored.Stored.{Stored}
+use Rattle.hotel_tables.specs.declared.open_fault.OpenFault.{OpenFault}
+use Rattle.hotel_tables.specs.declared.open_fault.OpenFault.TheVariants as fault
+use Rattle.hotel_tables.specs.Values.{int, maybe_int}
+use Rattle.hotel_tables.specs.Columns.{meta_columns, meta_of, meta_written, room_columns, room_of, room_written, bit_of, stay_columns, stay_of, stay_written, state_number}
+use Rattle.hotel_tables.specs.Columns.{code_columns, code_of, code_written, card_columns, card_of, card_written, inside_columns, inside_of, inside_written, note_columns, note_of, note_written, act_number, act_card}
+use Rattle.hotel_tables.specs.Stored.{number_of, kind_text, room_entry, stay_entry, code_entry, card_entry, inside_pair, note_entry, rows_of}
+use Rattle.hotel_tables.specs.Damage as damage
+use Rattle.hotel_tables.specs.Damage.{columns_fit}
+use Rattle.hotel_tables.specs.Books.{IsKept}
+use Rattle.hotel_tables.specs.Tables.{AreTables, IsWrittenAs, by_key, rows_in as all_rows_in}
+use Rattle.hotel_tables.specs.Lines.{maybe, is_natural, may_be_natural, room_shown, room_natural, stay_shown, stay_natural, code_shown, code_natural, card_shown, card_natural, inside_shown, inside_natural, note_shown, note_natural, AreLines}
+use Rattle.hotel_tables.specs.Lines.{kind_natural, kind_order, room_order, stay_order, code_order, card_order, inside_order, note_order}
+use Rattle.hotel_tables.specs.Opening.{AreStored, HasMetaRow, FaultFits, IsOfCall, Opens, all_natural}
+use Rattle.hotel_tables.specs.Reopening.{ReadUndamaged}
+use Rattle.hotel_tables.proofs.Keyed.{key_total}
+use Rattle.hotel_tables.proofs.Perm.{every_shuffled}
+use Rattle.hotel_tables.proofs.Opened.{are_desk}
+use Rattle.hotel_tables.proofs.OfDamage.Undamaged.{undamaged_is_sound}
+
+-- ---- a column that the books wrote
+
+number_is : (n : ℤ) (m : ℕ) → Int n ≡ int m → n ≡ pos m
+number_is n m e = ap id_in e
+
+natural : (n : ℤ) (m : ℕ) → Int n ≡ int m → is_natural n ≡ true
+natural n m e = ap is_natural (number_is n m e)
+
+may_natural : (o : Option ℤ) (p : Option ℕ) → maybe o ≡ maybe_int p → may_be_natural o ≡ true
+may_natural None p e = refl
+may_natural (Some n) None e = absurd (let w : ◌≡◌ {A = Value} (Int n) Null = e in cc)
+may_natural (Some n) (Some m) e = natural n m e
+
+bit_fits : (n : ℤ) (b : Bool) → Int n ≡ int (bit_of b) → nat_le (number_of n) 1 ≡ true
+bit_fits n b e = ap (λ m. nat_le (number_of m) 1) (number_is n (bit_of b) e) ∙ small b
+  where
+    small : (b : Bool) → nat_le (bit_of b) 1 ≡ true
+    small true = refl
+    small false = refl
+
+state_fits : (n : ℤ) (room : Option ℤ) (s : StayState) → Int n ≡ int (state_number s) → maybe room ≡ maybe_int (room_of_state s)
+    → (nat_le (number_of n) 3 && cond (is_some room) (number_of n == 1) (not (number_of n == 1))) ≡ true
+state_fits n room s e r = ap (λ m. nat_le (number_of m) 3 && cond (is_some room) (number_of m == 1) (not (number_of m == 1))) (number_is n (state_number s) e) ∙ fits room s r
+  where
+    fits : (room : Option ℤ) (s : StayState) → maybe room ≡ maybe_int (room_of_state s)
+        → (nat_le (state_number s) 3 && cond (is_some room) (state_number s == 1) (not (state_number s == 1))) ≡ true
+    fits None Booked r = refl
+    fits None (InHouse room) r = absurd (let w : ◌≡◌ {A = Value} Null (int room) = r in cc)
+    fits None Done r = refl
+    fits None Cancelled r = refl
+    fits (Some k) Booked r = absurd (let w : ◌≡◌ {A = Value} (Int k) Null = r in cc)
+    fits (Some k) (InHouse room) r = refl
+    fits (Some k) Done r = absurd (let w : ◌≡◌ {A = Value} (Int k) Null = r in cc)
+    fits (Some k) Cancelled r = absurd (let w : ◌≡◌ {A = Value} (Int k) Null = r in cc)
+
+act_fits : (n : ℤ) (card : Option ℤ) (a : Act) → Int n ≡ int (act_number a) → maybe card ≡ maybe_int (act_card a)
+    → (nat_le (number_of n) 2 && cond (is_some card) (nat_le (number_of n) 1) (number_of n == 2)) ≡ true
+act_fits n card a e r = ap (λ m. nat_le (number_of m) 2 && cond (is_some card) (nat_le (number_of m) 1) (number_of m == 2)) (number_is n (act_number a) e) ∙ fits card a r
+  where
+    fits : (card : Option ℤ) (a : Act) → maybe card ≡ maybe_int (act_card a)
+        → (nat_le (act_number a) 2 && cond (is_some card) (nat_le (act_number a) 1) (act_number a == 2)) ≡ true
+    fits None (Entered card link) r = absurd (let w : ◌≡◌ {A = Value} Null (int card) = r in cc)
+    fits None (Left card link) r = absurd (let w : ◌≡◌ {A = Value} Null (int card) = r in cc)
+    fits None (Recoded from to) r = refl
+    fits (Some k) (Entered card link) r = refl
+    fits (Some k) (Left card link) r = refl
+    fits (Some k) (Recoded from to) r = absurd (let w : ◌≡◌ {A = Value} (Int k) Null = r in cc)
+
+-- ---- a line that the books wrote
+
+abbrev IsLine : {L X : Type 0} → (Row → X) → (X → Row) → (L → Row) → L → Type 0
+IsLine of written shown l = shown l ≡ written (of (shown l))
+
+room_line : (l : RoomLine) → IsLine room_of room_written room_shown l → room_natural l ≡ true
+room_line l e =
+    both _ _ (both _ _ (both _ _ (both _ _ (both _ _ (natural l.room _ (ap (λ (v : Row). column v 0) e)) (natural l.lock_place _ (ap (λ (v : Row). column v 2) e)))
+    (natural l.codes _ (ap (λ (v : Row). column v 3) e))) (natural l.secured _ (ap (λ (v : Row). column v 4) e))) (may_natural l.party _ (ap (λ (v : Row). column v 5) e)))
+    (natural l.notes _ (ap (λ (v : Row). column v 6) e))
+
+room_fits : (l : RoomLine) → IsLine room_of room_written room_shown l → damage.room_columns l ≡ true
+room_fits l e = bit_fits l.secured (room_of (room_shown l)).1.secured (ap (λ (v : Row). column v 4) e)
+
+stay_line : (l : StayLine) → IsLine stay_of stay_written stay_shown l → stay_natural l ≡ true
+stay_line l e =
+    both _ _ (both _ _ (both _ _ (both _ _ (natural l.party _ (ap (λ (v : Row). column v 0) e)) (natural l.arrive _ (ap (λ (v : Row). column v 3) e)))
+    (natural l.depart _ (ap (λ (v : Row). column v 4) e))) (natural l.state _ (ap (λ (v : Row). column v 5) e))) (may_natural l.room _ (ap (λ (v : Row). column v 6) e))
+
+stay_fits : (l : StayLine) → IsLine stay_of stay_written stay_shown l → damage.stay_columns l ≡ true
+stay_fits l e = state_fits l.state l.room (stay_of (stay_shown l)).1.state (ap (λ (v : Row). column v 5) e) (ap (λ (v : Row). column v 6) e)
+
+code_line : (l : CodeLine) → IsLine code_of code_written code_shown l → code_natural l ≡ true
+code_line l e =
+    both _ _ (both _ _ (natural l.code _ (ap (λ (v : Row). column v 0) e)) (natural l.room _ (ap (λ (v : Row). column v 1) e))) (natural l.place _ (ap (λ (v : Row). column v 2) e))
+
+card_line : (l : CardLine) → IsLine card_of card_written card_shown l → card_natural l ≡ true
+card_line l e =
+    both _ _ (both _ _ (both _ _ (natural l.number _ (ap (λ (v : Row). column v 0) e)) (natural l.party _ (ap (λ (v : Row). column v 1) e)))
+    (natural l.old_code _ (ap (λ (v : Row). column v 2) e))) (natural l.new_code _ (ap (λ (v : Row). column v 3) e))
+
+inside_line : (l : InsideLine) → IsLine inside_of inside_written inside_shown l → inside_natural l ≡ true
+inside_line l e = both _ _ (natural l.room _ (ap (λ (v : Row). column v 0) e)) (natural l.card _ (ap (λ (v : Row). column v 1) e))
+
+note_line : (l : NoteLine) → IsLine note_of note_written note_shown l → note_natural l ≡ true
+note_line l e =
+    both _ _ (both _ _ (both _ _ (both _ _ (both _ _ (both _ _ (both _ _ (natural l.room _ (ap (λ (v : Row). column v 0) e)) (natural l.n _ (ap (λ (v : Row). column v 1) e)))
+    (natural l.act _ (ap (λ (v : Row). column v 2) e))) (may_natural l.card _ (ap (λ (v : Row). column v 3) e))) (natural l.first_code _ (ap (λ (v : Row). column v 4) e)))
+    (natural l.second_code _ (ap (λ (v : Row). column v 5) e))) (natural l.day _ (ap (λ (v : Row). column v 6) e))) (natural l.second _ (ap (λ (v : Row). column v 7) e))
+
+note_fits : (l : NoteLine) → IsLine note_of note_written note_shown l → damage.note_columns l ≡ true
+note_fits l e = act_fits l.act l.card (note_of (note_shown l)).1.act (ap (λ (v : Row). column v 2) e) (ap (λ (v : Row). column v 3) e)
+
+-- ---- all lines of a table
+
+are_lines : {L X : Type 0} (columns : Row → Row) (of : Row → X) (written : X → Row) (shown : L → Row) (lines : List L) (rows : List Row)
+    → AllByRecursion (IsWrittenAs columns of written) rows → AreLines columns shown lines rows → AllByRecursion (IsLine of written shown) lines
+are_lines columns of written shown lines rows good same =
+    all_unmap (λ (v : Row). v ≡ written (of v)) shown lines
+    (every_shuffled (λ (v : Row). v ≡ written (of v)) (map columns rows) (map shown lines) same (all_map (λ (v : Row). v ≡ written (of v)) columns rows good))
+
+all_pass : {L : Type 0} (P : L → Type 0) (test : L → Bool) → ((l : L) → P l → test l ≡ true) → (ls : List L) → AllByRecursion P ls → list_all test ls ≡ true
+all_pass P test f [] h = refl
+all_pass P test f (l ∷ ls) h = both (test l) (list_all test ls) (f l h.0) (all_pass P test f ls h.1)
+
+-- no number is below 0, and each column is of its range
+record AreWritten (s : Stored) : Type 0 where
+  natural : all_natural s ≡ true
+  fit : columns_fit s ≡ true
+
+are_written : (s : Stored) (db : Trees) → AreTables db → AreStored s db → AreWritten s
+are_written s db t a =
+    let metas : AllByRecursion (λ (v : Row). v ≡ meta_written (meta_of v)) (map meta_columns (db 0)) = all_map (λ (v : Row). v ≡ meta_written (meta_of v)) meta_columns (db 0) t.meta.good in
+    let meta = (subst (AllByRecursion (λ (v : Row). v ≡ meta_written (meta_of v))) a.meta metas).0 in
+    let day : may_be_natural s.day ≡ true = may_natural s.day _ (ap (λ (v : Row). column v 2) meta) in
+    let rooms = are_lines room_columns room_of room_written room_shown s.rooms.items (db 3) t.room.good a.rooms in
+    let stays = are_lines stay_columns stay_of stay_written stay_shown s.stays.items (db 5) t.stay.good a.stays in
+    let codes = are_lines code_columns code_of code_written code_shown s.codes.items (db 6) t.code.good a.codes in
+    let cards = are_lines card_columns card_of card_written card_shown s.cards.items (db 8) t.card.good a.cards in
+    let inside = are_lines inside_columns inside_of inside_written inside_shown s.inside.items (db 9) t.inside.good a.inside in
+    let notes = are_lines note_columns note_of note_written note_shown s.notes.items (db 11) t.note.good a.notes in
+    let room = all_pass _ room_natural room_line s.rooms.items rooms in
+    let stay = all_pass _ stay_natural stay_line s.stays.items stays in
+    let code = all_pass _ code_natural code_line s.codes.items codes in
+    let card = all_pass _ card_natural card_line s.cards.items cards in
+    let within = all_pass _ inside_natural inside_line s.inside.items inside in
+    let note = all_pass _ note_natural note_line s.notes.items notes in
+    record {
+      natural = both _ _ (both _ _ (both _ _ (both _ _ (both _ _ (both _ _ day room) stay) code) card) within) note;
+      fit = both _ _ (both _ _ (all_pass _ damage.room_columns room_fits s.rooms.items rooms) (all_pass _ damage.stay_columns stay_fits s.stays.items stays)) (all_pass _ damage.note_columns note_fits s.notes.items notes);
+    }
+
+-- ---- the order of the keys
+
+same_numbers : (m n : ℕ) → int_cmp (pos m) (pos n) ≡ nat_cmp m n
+same_numbers m n = nat_cmp_is m n (int_cmp (pos m) (pos n)) (elim (cases_Bool (nat_lt m n)) [
+  | inl below ↦ rw below (ltb-true m n below)
+  | inr not_below ↦ elim (cases_Bool (nat_lt n m)) [
+    | inl above ↦ rw (not_below, above) (ltb-true n m above)
+    | inr not_above ↦ rw (not_below, not_above) (let low = ltb-false m n not_below in let high = ltb-false n m not_above in omega (arith, low, high))
+  ]
+])
+
+same_order : (a b : ℤ) → is_natural a ≡ true → is_natural b ≡ true → int_cmp a b ≡ nat_cmp (number_of a) (number_of b)
+same_order (pos m) (pos n) h k = same_numbers m n
+same_order (pos m) (negsuc n) h k = absurd (false≢true k)
+same_order (negsuc m) b h k = absurd (false≢true h)
+
+same_pairs : (a b c d : ℤ) → is_natural a ≡ true → is_natural b ≡ true → is_natural c ≡ true → is_natural d ≡ true
+    → ordering_then (int_cmp a c) (int_cmp b d) ≡ pair_cmp (number_of a, number_of b) (number_of c, number_of d)
+same_pairs a b c d p q r s = λ i. ordering_then (same_order a c p r i) (same_order b d q s i)
+
+rise_by : {L K : Type 0} (order : L → L → Ordering) (cmp : K → K → Ordering) (key : L → K) (test : L → Bool)
+    → ((a b : L) → test a ≡ true → test b ≡ true → order a b ≡ cmp (key a) (key b))
+    → (ls : List L) → list_all test ls ≡ true → are_in_order order ls ≡ true → are_in_order cmp (map key ls) ≡ true
+rise_by order cmp key test same [] all up = refl
+rise_by order cmp key test same (a ∷ []) all up = refl
+rise_by order cmp key test same (a ∷ b ∷ ls) all up =
+    let first = and_true (test a) (list_all test (b ∷ ls)) all in
+    let second = and_true (test b) (list_all test ls) first.1 in
+    let parts = and_true (is_lt (order a b)) (are_in_order order (b ∷ ls)) up in
+    both _ _ (ap is_lt (sym (same a b first.0 second.0)) ∙ parts.0) (rise_by order cmp key test same (b ∷ ls) first.1 parts.1)
+
+keys_are : {K V L : Type 0} (entry : L → K × V) (ls : List L) → keys_of (map entry ls) ≡ map (λ l. (entry l).0) ls
+keys_are entry [] = refl
+keys_are entry (l ∷ ls) = ap (λ ks. (entry l).0 ∷ ks) (keys_are entry ls)
+
+entries_rise : {L K V : Type 0} (order : L → L → Ordering) (cmp : K → K → Ordering) (entry : L → K × V) (test : L → Bool)
+    → ((a b : L) → test a ≡ true → test b ≡ true → order a b ≡ cmp (entry a).0 (entry b).0)
+    → (ls : List L) → list_all test ls ≡ true → are_in_order order ls ≡ true → are_in_order cmp (keys_of (map entry ls)) ≡ true
+entries_rise order cmp entry test same ls all up = ap (are_in_order cmp) (keys_are entry ls) ∙ rise_by order cmp (λ l. (entry l).0) test same ls all up
+
+keys_rise : (s : Stored) (db : Trees) → AreStored s db → all_natural s ≡ true → keys_in_order (rows_of s) ≡ true
+keys_rise s db a natural =
+    let n6 = and_true _ (list_all note_natural s.notes.items) natural in
+    let n5 = and_true _ (list_all inside_natural s.inside.items) n6.0 in
+    let n4 = and_true _ (list_all card_natural s.cards.items) n5.0 in
+    let n3 = and_true _ (list_all code_natural s.codes.items) n4.0 in
+    let n2 = and_true _ (list_all stay_natural s.stays.items) n3.0 in
+    let n1 = and_true (may_be_natural s.day) (list_all room_natural s.rooms.items) n2.0 in
+    let r6 = and_true _ (are_in_order note_order s.notes.items) a.rise in
+    let r5 = and_true _ (are_in_order inside_order s.inside.items) r6.0 in
+    let r4 = and_true _ (are_in_order card_order s.cards.items) r5.0 in
+    let r3 = and_true _ (are_in_order code_order s.codes.items) r4.0 in
+    let r2 = and_true _ (are_in_order stay_order s.stays.items) r3.0 in
+    let r1 = and_true (are_in_order kind_order s.kinds.items) (are_in_order room_order s.rooms.items) r2.0 in
+    let kinds = rise_by kind_order (slice_cmp nat_cmp) kind_text kind_natural (λ x y h k. refl) s.kinds.items (all_kinds s.kinds.items) r1.0 in
+    let rooms = entries_rise room_order nat_cmp room_entry room_natural (λ x y h k. same_order x.room y.room (of_room x h) (of_room y k)) s.rooms.items n1.1 r1.1 in
+    let stays = entries_rise stay_order nat_cmp stay_entry stay_natural (λ x y h k. same_order x.party y.party (of_stay x h) (of_stay y k)) s.stays.items n2.1 r2.1 in
+    let codes = entries_rise code_order nat_cmp code_entry code_natural (λ x y h k. same_order x.code y.code (of_code x h) (of_code y k)) s.codes.items n3.1 r3.1 in
+    let cards = entries_rise card_order nat_cmp card_entry card_natural (λ x y h k. same_order x.number y.number (of_card x h) (of_card y k)) s.cards.items n4.1 r4.1 in
+    let inside = rise_by inside_order pair_cmp inside_pair inside_natural
+    (λ x y h k. let p = and_true (is_natural x.room) (is_natural x.card) h in let q = and_true (is_natural y.room) (is_natural y.card) k in same_pairs x.room x.card y.room y.card p.0 p.1 q.0 q.1)
+    s.inside.items n5.1 r5.1 in
+    let notes = entries_rise note_order pair_cmp note_entry note_natural
+    (λ x y h k. let p = of_note x h in let q = of_note y k in same_pairs x.room x.n y.room y.n p.0 p.1 q.0 q.1) s.notes.items n6.1 r6.1 in
+    both _ _ (both _ _ (both _ _ (both _ _ (both _ _ (both _ _ kinds rooms) codes) stays) cards) inside) notes
+  where
+    all_kinds : (ls : List KindLine) → list_all kind_natural ls ≡ true
+    all_kinds [] = refl
+    all_kinds (l ∷ ls) = all_kinds ls
+
+    of_room : (l : RoomLine) → room_natural l ≡ true → is_natural l.room ≡ true
+    of_room l h =
+        let e = and_true _ (is_natural l.notes) h in
+        let d = and_true _ (may_be_natural l.party) e.0 in
+        let c = and_true _ (is_natural l.secured) d.0 in
+        let b = and_true _ (is_natural l.codes) c.0 in
+        (and_true (is_natural l.room) (is_natural l.lock_place) b.0).0
+
+    of_stay : (l : StayLine) → stay_natural l ≡ true → is_natural l.party ≡ true
+    of_stay l h =
+        let d = and_true _ (may_be_natural l.room) h in
+        let c = and_true _ (is_natural l.state) d.0 in
+        let b = and_true _ (is_natural l.depart) c.0 in
+        (and_true (is_natural l.party) (is_natural l.arrive) b.0).0
+
+    of_code : (l : CodeLine) → code_natural l ≡ true → is_natural l.code ≡ true
+    of_code l h = let b = and_true _ (is_natural l.place) h in (and_true (is_natural l.code) (is_natural l.room) b.0).0
+
+    of_card : (l : CardLine) → card_natural l ≡ true → is_natural l.number ≡ true
+    of_card l h =
+        let c = and_true _ (is_natural l.new_code) h in
+        let b = and_true _ (is_natural l.old_code) c.0 in
+        (and_true (is_natural l.number) (is_natural l.party) b.0).0
+
+    of_note : (l : NoteLine) → note_natural l ≡ true → (is_natural l.room ≡ true) × (is_natural l.n ≡ true)
+    of_note l h =
+        let g = and_true _ (is_natural l.second) h in
+        let f = and_true _ (is_natural l.day) g.0 in
+        let e = and_true _ (is_natural l.second_code) f.0 in
+        let d = and_true _ (is_natural l.first_code) e.0 in
+        let c = and_true _ (may_be_natural l.card) d.0 in
+        let b = and_true _ (is_natural l.act) c.0 in
+        and_true (is_natural l.room) (is_natural l.n) b.0
+
+-- ---- the row of meta
+
+has_row : (db : Trees) → AreTables db → HasMetaRow db
+has_row db t =
+    let cmp = by_key {K = ℕ} {V = ℕ × Option ℕ} nat_cmp in
+    let shuffled : IsPermutation ((1, (1, t.meta_row.0)) ∷ []) (map (λ r. meta_of (meta_columns r)) (db 0)) =
+    subst (λ es. IsPermutation es (map (λ r. meta_of (meta_columns r)) (db 0))) t.meta_row.1 (IsPermutation-sort_by cmp (key_total nat_cmp_total) (map (λ r. meta_of (meta_columns r)) (db 0))) in
+    only t.meta_row.0 (db 0) t.meta.good (one_permutation (1, (1, t.meta_row.0)) _ shuffled)
+  where
+    version : List (ℕ × (ℕ × Option ℕ)) → ℕ
+    version [] = 0
+    version (e ∷ es) = e.1.0
+
+    only : (day : Option ℕ) (rows : List Row) → AllByRecursion (IsWrittenAs meta_columns meta_of meta_written) rows → map (λ r. meta_of (meta_columns r)) rows ≡ (1, (1, day)) ∷ []
+        → (row : Row) × (rows ≡ row ∷ []) × (column (meta_columns row) 1 ≡ Int (pos 1))
+    only day [] good e = absurd (let w = ap length e in omega (arith, w))
+    only day (r ∷ []) good e = (r, refl, ap (λ (v : Row). column v 1) good.0 ∙ ap (λ n. int n) (ap version e))
+    only day (r ∷ q ∷ rows) good e = absurd (let w = ap length e in omega (arith, w))
+
+-- ---- the whole
+
+pub read_undamaged : ReadUndamaged
+read_undamaged db t = (
+  has_row db t,
+  λ s a.
+      let w = are_written s db t a in
+      let desk = are_desk s db a (t.inside_numbered, t.inside_ids) (keys_rise s db a w.natural) w.fit w.natural in
+      (sym desk.rows, λ sound. (undamaged_is_sound s).1 (subst IsSound desk.rows sound, w.fit)),
+)
+
+-- a fault of sound tables is one of a call
+pub of_a_call : (db : Trees) (why : OpenFault) → AreTables db → IsSound (all_rows_in db) → FaultFits db why → IsOfCall why
+of_a_call db fault.Memory t sound fits = tt
+of_a_call db fault.Store t sound fits = tt
+of_a_call db fault.NotADesk t sound fits = fits (read_undamaged db t).0
+of_a_call db (fault.Damaged name) t sound fits =
+    let none = ((read_undamaged db t).1 fits.0 fits.1).1 sound in
+    let both_are : ◌≡◌ {A = Option _} None (Some name) = sym none ∙ fits.2 in
+    cc
+
+-- ---- an opening that was refused
+
+pub refused_fits : (old new : State) (why : OpenFault) → Opens old new (Err why) → IsKept old → HasCleanDisk new → FaultFits old.now.trees why
+refused_fits old new fault.Memory opens kept clean = tt
+refused_fits old new fault.Store opens kept clean = tt
+refused_fits old new fault.NotADesk opens kept clean = opens.fault (clean, opens.open_on kept clean)
+refused_fits old new (fault.Damaged name) opens kept clean = opens.fault (clean, opens.open_on kept clean)

@@ -1,0 +1,189 @@
+-- What is read of the tables when books are opened, and what the reading promises.
+use Rattle.std.specs.Prelude.{◌≡◌, ◌&&◌, ℕ, ℤ, pos, Bool, true, false, List, [], ◌∷◌, map, Option, Some, Result, Ok, Err, IfOk, IfErr, OnOk, IsTrue, Vec, bytes_eq}
+use Rattle.std.specs.List.{list_all, list_any, count_by, AllByRecursion}
+use Rattle.std.specs.declared.alloc.Global.{Global}
+use Rattle.sqlite_value.specs.declared.value.Value.TheVariants.{Int}
+use Rattle.sqlite.specs.Order.{Row, column}
+use Rattle.sqlite.specs.Tree.{Trees}
+use Rattle.sqlite.specs.Query.{Query, IsAnswer}
+use Rattle.sqlite.specs.Program.{overlay}
+use Rattle.std.specs.List.Sorted.{IsPermutation}
+use Rattle.hotel_tables.specs.LookUps.{Asks}
+use Rattle.sqlite.specs.Held.{Held, state}
+use Rattle.sqlite.specs.State.{State, HasCleanDisk, Survives}
+use Rattle.keycard_rules.specs.declared.issued.LookFault.{LookFault}
+use Rattle.keycard_rules.specs.declared.issued.LookFault.TheVariants as look
+use Rattle.hotel_core.specs.Model.SoundRooms.{are_in_order}
+use Rattle.hotel_tables.specs.declared.stored.Stored.{Stored}
+use Rattle.hotel_tables.specs.declared.reading.Tables.{Tables}
+use Rattle.hotel_tables.specs.declared.lines.MetaLine.{MetaLine}
+use Rattle.hotel_tables.specs.declared.lines.NumberedInside.{NumberedInside}
+use Rattle.hotel_tables.specs.declared.stored.KindLine.{KindLine}
+use Rattle.hotel_tables.specs.declared.stored.RoomLine.{RoomLine}
+use Rattle.hotel_tables.specs.declared.stored.StayLine.{StayLine}
+use Rattle.hotel_tables.specs.declared.stored.CodeLine.{CodeLine}
+use Rattle.hotel_tables.specs.declared.stored.CardLine.{CardLine}
+use Rattle.hotel_tables.specs.declared.stored.NoteLine.{NoteLine}
+use Rattle.hotel_tables.specs.Schema.{desk_schema}
+use Rattle.hotel_tables.specs.Columns.{meta_columns, kind_columns, room_columns, stay_columns, code_columns, card_columns, inside_columns, note_columns}
+use Rattle.hotel_tables.specs.Lines.{maybe, meta_shown, kind_shown, room_shown, stay_shown, code_shown, card_shown, inside_shown, numbered_columns, numbered_shown, note_shown, AreLines}
+use Rattle.hotel_tables.specs.Lines.{kind_order, room_order, stay_order, code_order, card_order, inside_order, note_order}
+use Rattle.hotel_tables.specs.Lines.{may_be_natural, room_natural, stay_natural, code_natural, card_natural, inside_natural, note_natural}
+use Rattle.hotel_tables.specs.declared.open_fault.OpenFault.{OpenFault}
+use Rattle.hotel_tables.specs.declared.open_fault.OpenFault.TheVariants as fault
+use Rattle.hotel_tables.specs.declared.counting.Counts.{Counts}
+use Rattle.hotel_tables.specs.declared.stored.InsideLine.{InsideLine}
+use Rattle.hotel_core.specs.KindRooms as kinds
+use Rattle.hotel_core.specs.NightIndex.{StandsFor}
+use Rattle.std.specs.Map.{values_of}
+use Rattle.hotel_tables.specs.Stored.{kind_text, stay_entry}
+use Rattle.hotel_tables.specs.RowTests.{is_line_of_kind}
+use Rattle.hotel_tables.specs.Damage.{first_damaged_of}
+use Rattle.hotel_tables.specs.Tables.{HasId, AreApartIds, rows_in}
+use Rattle.hotel_tables.specs.Books.{IsKept, IsBooks, KeepsRows}
+use Rattle.hotel_tables.specs.TableBooks.{IsCounted}
+
+-- A connection outside any transaction, over the tables of a desk, whatever their rows.
+pub record IsOurs (s : State) : Type 0 where
+  pub autocommit : s.in_transaction ≡ false
+  pub tables : IsKept s → (s.now.schema ≡ desk_schema) × (s.now ≡ s.committed)
+
+-- The text reads a whole table: to a desk it is a query, whose answer has the columns of the tree's rows, in some order.
+pub record IsWhole (text : List ℕ) (tree : ℕ) (columns cut : Row → Row) : Type 0 where
+  pub query : Query
+  pub asks : Asks text query
+  pub answers : (db : Trees) (rows : List Row) → IsAnswer query (overlay db []) [] rows → IsPermutation (map columns (db tree)) (map cut rows)
+
+-- What a reading of the tables promises, of a connection from old to new: what it says of the trees where the test holds at its end.
+-- It changes no row, and a crash in it leaves nothing new.
+pub record ReadsTo {R : Type 0} (Says : R → Trees → Type 0) (old new : State) (result : Result R LookFault) : Type 0 where
+  pub ours : IsOurs new
+  pub keeps : KeepsRows old new
+  pub says : IsKept new → IfOk result (λ r. Says r old.now.trees)
+  pub open_on : IsKept old → HasCleanDisk new → OnOk result (IsTrue new.is_open)
+  pub crash : Survives old new (λ _. IsKept old → ⊥)
+
+-- the rows of the first four tables, and of the last four
+abbrev pub AreFirst : (Vec MetaLine Global × Vec KindLine Global) × (Vec RoomLine Global × Vec StayLine Global) → Trees → Type 0
+AreFirst r db =
+    (AreLines meta_columns meta_shown r.0.0.items (db 0) × AreLines kind_columns kind_shown r.0.1.items (db 1))
+    × (AreLines room_columns room_shown r.1.0.items (db 3) × AreLines stay_columns stay_shown r.1.1.items (db 5))
+
+abbrev pub AreLast : (Vec CodeLine Global × Vec CardLine Global) × (Vec NumberedInside Global × Vec NoteLine Global) → Trees → Type 0
+AreLast r db =
+    (AreLines code_columns code_shown r.0.0.items (db 6) × AreLines card_columns card_shown r.0.1.items (db 8))
+    × (AreLines numbered_columns numbered_shown r.1.0.items (db 9) × AreLines note_columns note_shown r.1.1.items (db 11))
+
+-- the rows of all
+abbrev pub AreRead : Tables → Trees → Type 0
+AreRead t db = AreFirst ((t.meta, t.kinds), (t.rooms, t.stays)) db × AreLast ((t.codes, t.cards), (t.inside, t.notes)) db
+
+-- each table is in the order of its key
+abbrev pub all_rise : Stored → Bool
+all_rise s =
+    are_in_order kind_order s.kinds.items && are_in_order room_order s.rooms.items && are_in_order stay_order s.stays.items && are_in_order code_order s.codes.items
+    && are_in_order card_order s.cards.items && are_in_order inside_order s.inside.items && are_in_order note_order s.notes.items
+
+-- no number is below 0
+abbrev pub all_natural : Stored → Bool
+all_natural s =
+    may_be_natural s.day && list_all room_natural s.rooms.items && list_all stay_natural s.stays.items && list_all code_natural s.codes.items
+    && list_all card_natural s.cards.items && list_all inside_natural s.inside.items && list_all note_natural s.notes.items
+
+-- the one row of meta, and that it isn't there
+abbrev pub IsMetaRow : List MetaLine → MetaLine → Type 0
+IsMetaRow meta line = (meta ≡ line ∷ []) × (line.id ≡ pos 1) × (line.version ≡ pos 1)
+
+abbrev pub LacksRow : List MetaLine → OpenFault → Type 0
+LacksRow meta fault.Memory = Unit {0}
+LacksRow meta fault.Store = Unit {0}
+LacksRow meta fault.NotADesk = (line : MetaLine) → meta ≡ line ∷ [] → ¬ (line.version ≡ pos 1)
+LacksRow meta (fault.Damaged t) = ⊥
+
+abbrev pub id_inside : NumberedInside → ℤ
+id_inside l = l.id
+
+abbrev pub line_inside : NumberedInside → InsideLine
+line_inside l = l.line
+
+-- one of the rows is of the kind
+abbrev pub names_kind : List ℕ → List KindLine → Bool
+names_kind kind lines = list_any (λ line. bytes_eq (kind_text line) kind) lines
+
+-- each kind of the rows is counted
+abbrev pub KnowsKinds : List (List ℕ × ℕ) → List KindLine → Type 0
+KnowsKinds counts lines = (kind : List ℕ) → names_kind kind lines ≡ true → kinds.is_there counts kind ≡ true
+
+-- the counts are those of the plain rows
+abbrev pub IsCountedOf : Stored → Counts → Type 0
+IsCountedOf s c =
+    ((kind : List ℕ) → kinds.rooms_in c.kinds kind ≡ count_by (is_line_of_kind kind) s.rooms.items) × (StandsFor c.nights (values_of (map stay_entry s.stays.items)) × KnowsKinds c.kinds s.kinds.items)
+
+-- The plain rows are those of the tables, each in the order of its key, and meta has its one row.
+pub record AreStored (s : Stored) (db : Trees) : Type 0 where
+  pub version : s.version ≡ pos 1
+  pub meta : map meta_columns (db 0) ≡ (Int (pos 1) ∷ Int s.version ∷ maybe s.day ∷ []) ∷ []
+  pub kinds : AreLines kind_columns kind_shown s.kinds.items (db 1)
+  pub rooms : AreLines room_columns room_shown s.rooms.items (db 3)
+  pub stays : AreLines stay_columns stay_shown s.stays.items (db 5)
+  pub codes : AreLines code_columns code_shown s.codes.items (db 6)
+  pub cards : AreLines card_columns card_shown s.cards.items (db 8)
+  pub inside : AreLines inside_columns inside_shown s.inside.items (db 9)
+  pub notes : AreLines note_columns note_shown s.notes.items (db 11)
+  pub rise : all_rise s ≡ true
+
+-- the rows of those inside have numbers, no two the same
+abbrev pub AreApartInside : Trees → Type 0
+AreApartInside db = AllByRecursion HasId (db 9) × AreApartIds (db 9)
+
+-- meta has exactly one row, of version 1
+abbrev pub HasMetaRow : Trees → Type 0
+HasMetaRow db = (row : Row) × (db 0 ≡ row ∷ []) × (column (meta_columns row) 1 ≡ Int (pos 1))
+
+-- what a fault says of the tables
+abbrev pub FaultFits : Trees → OpenFault → Type 0
+FaultFits db fault.Memory = Unit {0}
+FaultFits db fault.Store = Unit {0}
+FaultFits db fault.NotADesk = ¬ HasMetaRow db
+FaultFits db (fault.Damaged t) = (s : Stored) × AreStored s db × (first_damaged_of s ≡ Some t)
+
+-- memory was wanting, or a call of the store failed
+abbrev pub IsOfCall : OpenFault → Type 0
+IsOfCall fault.Memory = Unit {0}
+IsOfCall fault.Store = Unit {0}
+IsOfCall fault.NotADesk = ⊥
+IsOfCall (fault.Damaged t) = ⊥
+
+-- no table is called damaged
+abbrev pub NamesNoTable : OpenFault → Type 0
+NamesNoTable fault.Memory = Unit {0}
+NamesNoTable fault.Store = Unit {0}
+NamesNoTable fault.NotADesk = Unit {0}
+NamesNoTable (fault.Damaged t) = ⊥
+
+abbrev pub fault_for : LookFault → OpenFault
+fault_for look.Memory = fault.Memory
+fault_for look.Store = fault.Store
+
+-- the fact, but where memory was wanting or the store failed
+abbrev pub Told : {A : Type 0} → Result A OpenFault → Type 0 → Type 0
+Told (Ok a) P = P
+Told (Err fault.Memory) P = Unit {0}
+Told (Err fault.Store) P = Unit {0}
+Told (Err fault.NotADesk) P = P
+Told (Err (fault.Damaged t)) P = P
+
+-- What opening promises, of a connection from old to new: its books, what is counted of their rows, and what a fault says of the tables.
+-- It changes no row, and a crash in it leaves nothing new.
+pub record Opens (old new : State) (result : Result Counts OpenFault) : Type 0 where
+  pub books : OnOk result (IsBooks new)
+  pub autocommit : new.in_transaction ≡ false
+  pub keeps : KeepsRows old new
+  pub counted : IsKept new → IfOk result (λ c. IsCounted c.kinds c.nights (rows_in old.now.trees))
+  pub fault : IsKept new → IfErr result (FaultFits old.now.trees)
+  pub open_on : IsKept old → HasCleanDisk new → Told result (IsTrue new.is_open)
+  pub crash : Survives old new (λ _. IsKept old → ⊥)
+
+-- Over this store nothing but its own calls writes, as in memory: each state of a connection is clean.
+abbrev pub IsAlwaysClean : {S : Type 0} → (Held S → State) → Type 0
+IsAlwaysClean {S} shown = (c : Held S) → HasCleanDisk (shown c)

@@ -1,0 +1,27 @@
+//! Laws of the tables, which make no call: what a caller may rest on beside the contracts of the calls.
+ghost use Rattle.sqlite.specs.Held.{state};
+ghost use Rattle.sqlite.specs.Steps.{over_memory};
+ghost use Rattle.hotel_tables.specs.Opening.{IsAlwaysClean};
+ghost use Rattle.hotel_tables.specs.Reopening.{FilesAreClean, FilesKeepBooks, ReadUndamaged};
+
+use sqlite_disk::Disk;
+
+/// What is read of a desk's tables has their rows; where these are sound, no table is damaged.
+pub fn read_undamaged()
+    ensures { ReadUndamaged }
+{}
+
+/// Files that a close gave back and an opening found hold the tables and rows of the books.
+pub fn files_keep_books<D: Disk>()
+    ensures { FilesKeepBooks D.Disk }
+{}
+
+/// Nothing but its own calls writes a store in memory.
+pub fn memory_is_clean()
+    ensures { IsAlwaysClean (state over_memory) }
+{}
+
+/// Over disks that return what was written, nothing but its own calls writes a store of files.
+pub fn files_are_clean<D: Disk>()
+    ensures { FilesAreClean D.Disk }
+{}

@@ -1,0 +1,211 @@
+//! Books over tables that are there: the tables are read whole and tested, and what books keep in memory is counted.
+ghost use Rattle.std.specs.Prelude.{◌≡◌, None, true, false, map, IfOk, IfErr};
+ghost use Rattle.std.specs.Ordering.{int_cmp, is_eq, is_lt};
+ghost use Rattle.sqlite.specs.Held.{state};
+ghost use Rattle.sqlite.specs.Tree.{Trees, IsAscending};
+ghost use Rattle.hotel_core.specs.Model.SoundRooms.{are_in_order};
+ghost use Rattle.hotel_tables.specs.Damage.{first_damaged_of};
+ghost use Rattle.hotel_tables.specs.Tables.{AreTables, rows_in};
+ghost use Rattle.hotel_tables.specs.TableBooks.{IsCounted};
+ghost use Rattle.hotel_tables.specs.Opening.{IsOurs, AreRead, AreStored, AreApartInside, IsMetaRow, FaultFits, Opens, LacksRow, all_rise, all_natural, line_inside, id_inside, IsCountedOf, fault_for};
+
+use crate::counting::{Counts, counts_of};
+use crate::damage::first_damaged;
+use crate::lines::{self, MetaLine, NumberedInside};
+use crate::open_fault::OpenFault;
+use crate::reading::{self, Tables, read_tables, rise};
+use crate::stored::{InsideLine, Stored};
+use keycard_rules::{LookFault, Memory};
+use sqlite::{Alter, Connection};
+use std::alloc::Global;
+
+/// The one row of meta.
+fn meta_row(meta: &[MetaLine]) -> Result<MetaLine, OpenFault>
+    ensures ok { IfOk result (IsMetaRow meta.now) }
+    ensures err { IfErr result (LacksRow meta.now) }
+{
+    let [line] = meta else {
+        return Err(OpenFault::NotADesk);
+    };
+    if line.version != 1 {
+        return Err(OpenFault::NotADesk);
+    }
+    if line.id != 1 {
+        return Err(OpenFault::Store);
+    }
+    Ok(*line)
+}
+
+/// The one row of meta; without it the tables are no desk's.
+fn meta_of(tables: &Tables) -> Result<MetaLine, OpenFault>
+    ensures ok { IfOk result (IsMetaRow tables.now.meta.items) }
+    ensures err { (db : Trees) → AreRead tables.now db → IfErr result (FaultFits db) }
+{
+    meta_row(&tables.meta)
+}
+
+/// The numbers of the rows.
+fn ids_of(alloc: Global, inside: &[NumberedInside]) -> Result<Vec<i64>, Memory>
+    ensures { IfOk result (λ ids. ids.items ≡ map id_inside inside.now) }
+{
+    let mut ids = Vec::new(alloc);
+    for i in 0..inside.len() {
+        let Ok(()) = ids.push(inside[i].id) else {
+            return Err(Memory);
+        };
+    }
+    Ok(ids)
+}
+
+fn is_below(a: i64, b: i64) -> bool
+    ensures { result ≡ is_lt (int_cmp a b) }
+{
+    a.cmp(&b).is_lt()
+}
+
+fn numbers_rise(ids: &[i64]) -> bool
+    ensures { result ≡ are_in_order int_cmp ids.now }
+{
+    for i in 1..ids.len() {
+        if !is_below(ids[i - 1], ids[i]) {
+            return false;
+        }
+    }
+    true
+}
+
+/// Whether no two rows have the same number.
+fn are_apart(alloc: Global, inside: &[NumberedInside]) -> Result<bool, Memory>
+    ensures { IfOk result (λ apart. apart ≡ true → IsAscending (λ a b. is_eq (int_cmp a b) ≡ false) (map id_inside inside.now)) }
+{
+    let mut ids = ids_of(alloc, inside)?;
+    let Ok(()) = ids.sort() else {
+        return Err(Memory);
+    };
+    Ok(numbers_rise(&ids))
+}
+
+/// The rows without their numbers.
+fn lines_inside(alloc: Global, inside: &[NumberedInside]) -> Result<Vec<InsideLine>, Memory>
+    ensures { IfOk result (λ lines. lines.items ≡ map line_inside inside.now) }
+{
+    let mut lines = Vec::new(alloc);
+    for i in 0..inside.len() {
+        let Ok(()) = lines.push(inside[i].line) else {
+            return Err(Memory);
+        };
+    }
+    Ok(lines)
+}
+
+/// Whether each table is in the order of its key.
+fn all_rise(stored: &Stored) -> bool
+    ensures { result ≡ all_rise stored.now }
+{
+    rise(&stored.kinds)
+        && rise(&stored.rooms)
+        && rise(&stored.stays)
+        && rise(&stored.codes)
+        && rise(&stored.cards)
+        && rise(&stored.inside)
+        && rise(&stored.notes)
+}
+
+/// Whether no number is below 0.
+fn all_natural(stored: &Stored) -> bool
+    ensures { result ≡ all_natural stored.now }
+{
+    lines::may_be_natural(stored.day)
+        && reading::all_natural(&stored.rooms)
+        && reading::all_natural(&stored.stays)
+        && reading::all_natural(&stored.codes)
+        && reading::all_natural(&stored.cards)
+        && reading::all_natural(&stored.inside)
+        && reading::all_natural(&stored.notes)
+}
+
+/// The rows of the tables, where meta has its one row and each table is in the order of its key.
+///
+/// Rows that aren't in order, which no query shows, are a failure of the store.
+fn stored_of(alloc: Global, tables: Tables) -> Result<Stored, OpenFault>
+    ensures ok { (db : Trees) → AreRead tables db → IfOk result (λ s. AreStored s db × AreApartInside db) }
+    ensures err { (db : Trees) → AreRead tables db → IfErr result (FaultFits db) }
+{
+    let meta = meta_of(&tables)?;
+    match are_apart(alloc, &tables.inside) {
+        Ok(true) => {}
+        Ok(false) => return Err(OpenFault::Store),
+        Err(Memory) => return Err(OpenFault::Memory),
+    }
+    let Ok(inside) = lines_inside(alloc, &tables.inside) else {
+        return Err(OpenFault::Memory);
+    };
+    let stored = Stored {
+        version: meta.version,
+        day: meta.day,
+        kinds: tables.kinds,
+        rooms: tables.rooms,
+        stays: tables.stays,
+        codes: tables.codes,
+        cards: tables.cards,
+        inside,
+        notes: tables.notes,
+    };
+    if !all_rise(&stored) {
+        return Err(OpenFault::Store);
+    }
+    Ok(stored)
+}
+
+fn open_fault(why: LookFault) -> OpenFault
+    ensures { result ≡ fault_for why }
+{
+    match why {
+        LookFault::Memory => OpenFault::Memory,
+        LookFault::Store => OpenFault::Store,
+    }
+}
+
+/// What is counted of the rows, where no table is damaged.
+///
+/// Sound rows have no number below 0, so the last test never fails.
+fn sound_counts(alloc: Global, stored: &Stored) -> Result<Counts, OpenFault>
+    ensures ok { IfOk result (λ counts. IsCountedOf stored.now counts × (first_damaged_of stored.now ≡ None) × (all_natural stored.now ≡ true)) }
+    ensures err { (db : Trees) → AreStored stored.now db → IfErr result (FaultFits db) }
+{
+    match first_damaged(alloc, stored) {
+        Ok(None) => {}
+        Ok(Some(table)) => return Err(OpenFault::Damaged(table)),
+        Err(Memory) => return Err(OpenFault::Memory),
+    }
+    if !all_natural(stored) {
+        return Err(OpenFault::Store);
+    }
+    match counts_of(alloc, stored) {
+        Ok(counts) => Ok(counts),
+        Err(why) => Err(open_fault(why)),
+    }
+}
+
+/// What is counted of tables that a desk may have.
+fn counts_in(alloc: Global, tables: Tables) -> Result<Counts, OpenFault>
+    ensures ok { (db : Trees) → AreRead tables db → IfOk result (λ counts. AreTables db × IsCounted counts.kinds counts.nights (rows_in db)) }
+    ensures err { (db : Trees) → AreRead tables db → IfErr result (FaultFits db) }
+{
+    let stored = stored_of(alloc, tables)?;
+    sound_counts(alloc, &stored)
+}
+
+/// Reads the tables of a desk and tests them.
+pub(crate) fn find_counts<S: Alter>(
+    alloc: Global,
+    conn: &mut Connection<S>,
+) -> Result<Counts, OpenFault>
+    requires { IsOurs (state S.Store conn.old) }
+    ensures { Opens (state S.Store conn.old) (state S.Store conn.new) result }
+{
+    match read_tables(alloc, conn) {
+        Ok(tables) => counts_in(alloc, tables),
+        Err(why) => Err(open_fault(why)),
+    }
+}

@@ -1,0 +1,115 @@
+//! The look-ups and the changes, each counted where it fails.
+ghost use Rattle.std.specs.Prelude.{refl};
+ghost use Rattle.sqlite.specs.Held.{state};
+ghost use Rattle.hotel_tables.specs.Tables.{rows_in};
+
+use crate::look_ups;
+use crate::table_books::TableBooks;
+use hotel_core::{Books, Change, CodeRow, NextNumbers, RoomRow};
+use hotel_nights::{Day, Guest, KindCode, Stay};
+use keycard_rules::{Card, CardNo, Code, Count, LockNote, LookFault, PartyNo, RoomNo};
+use sqlite::Alter;
+
+impl<S: Alter> Books for TableBooks<S> {
+    ghost rows = { λ b. rows_in (state S.Store b.conn).now.trees };
+
+    fn day(&mut self) -> Result<Option<Day>, LookFault> {
+        let day = look_ups::day(self.alloc, &mut self.conn);
+        self.counting(day)
+    }
+
+    fn kind(&mut self, kind: &KindCode) -> Result<bool, LookFault> {
+        let there = look_ups::kind(self.alloc, &mut self.conn, kind);
+        self.counting(there)
+    }
+
+    fn room(&mut self, room: RoomNo) -> Result<Option<RoomRow>, LookFault> {
+        let row = look_ups::room(self.alloc, &mut self.conn, room);
+        self.counting(row)
+    }
+
+    fn code_place(&mut self, code: Code) -> Result<Option<CodeRow>, LookFault> {
+        let place = look_ups::code(self.alloc, &mut self.conn, code);
+        self.counting(place)
+    }
+
+    fn code_at(&mut self, room: RoomNo, place: u32) -> Result<Option<Code>, LookFault> {
+        let code = look_ups::code_at(self.alloc, &mut self.conn, room, place);
+        self.counting(code)
+    }
+
+    fn stay(&mut self, party: PartyNo) -> Result<Option<Stay>, LookFault> {
+        let stay = look_ups::stay(self.alloc, &mut self.conn, party);
+        self.counting(stay)
+    }
+
+    fn stays_of_kind(&mut self, kind: &KindCode) -> Result<Vec<Stay>, LookFault> {
+        let stays = look_ups::stays_of_kind(self.alloc, &mut self.conn, kind);
+        self.counting(stays)
+    }
+
+    fn full_night(
+        &mut self,
+        kind: &KindCode,
+        arrive: Day,
+        depart: Day,
+    ) -> Result<Option<Day>, LookFault> {
+        let rooms = self.kinds.rooms(kind);
+        Ok(self.nights.full_night(kind, rooms, arrive, depart))
+    }
+
+    fn copy_guest(&mut self, guest: &Guest) -> Result<Guest, LookFault> {
+        let copy = match guest.clone() {
+            Ok(copy) => Ok(copy),
+            Err(_) => Err(LookFault::Memory),
+        };
+        self.counting(copy)
+    }
+
+    fn card(&mut self, number: CardNo) -> Result<Option<Card>, LookFault> {
+        let card = look_ups::card(self.alloc, &mut self.conn, number);
+        self.counting(card)
+    }
+
+    fn inside(&mut self, room: RoomNo) -> Result<Vec<CardNo>, LookFault> {
+        let numbers = look_ups::inside(self.alloc, &mut self.conn, room);
+        self.counting(numbers)
+    }
+
+    fn is_inside(&mut self, room: RoomNo, number: CardNo) -> Result<bool, LookFault> {
+        let inside = look_ups::is_inside(self.alloc, &mut self.conn, room, number);
+        self.counting(inside)
+    }
+
+    fn has_inside(&mut self, room: RoomNo) -> Result<bool, LookFault> {
+        let any = look_ups::has_inside(self.alloc, &mut self.conn, room);
+        self.counting(any)
+    }
+
+    fn note(&mut self, room: RoomNo, count: Count) -> Result<Option<LockNote>, LookFault> {
+        let note = look_ups::note(self.alloc, &mut self.conn, room, count);
+        self.counting(note)
+    }
+
+    fn rooms_of_kind(&mut self, kind: &KindCode) -> Result<u32, LookFault> {
+        Ok(self.kinds.rooms(kind))
+    }
+
+    fn next_numbers(&mut self) -> Result<NextNumbers, LookFault> {
+        let numbers = look_ups::next_numbers(self.alloc, &mut self.conn);
+        self.counting(numbers)
+    }
+
+    fn known_sound(&self) {
+        // The type's invariant is known where a field is read.
+        let _ = &self.memory;
+    }
+
+    fn apply(&mut self, change: Change) -> Result<(), LookFault> {
+        self.apply_kept(&change)
+    }
+
+    ghost kept_rows = { λ a b h. h };
+
+    ghost issued_are = { λ a. refl };
+}

@@ -1,0 +1,64 @@
+//! The walks over the lists' rows, each counted where it fails.
+ghost use Rattle.std.specs.Prelude.{◌≡◌, IfSome};
+ghost use Rattle.keycard_rules.specs.Rise.{HasRisen, NoFewer};
+ghost use Rattle.hotel_core.specs.Books.Walks.{failure_of};
+ghost use Rattle.hotel_tables.specs.TableBooks.{failed};
+
+use crate::table_books::TableBooks;
+use crate::walks;
+use hotel_core::{BehindRow, ChainRow, HouseRow, Sink, WalkFault, Walks};
+use hotel_nights::{Day, Stay};
+use keycard_rules::{LockNote, LookFault, RoomNo};
+use sqlite::Alter;
+
+impl<S: Alter> TableBooks<S> {
+    /// How a walk ended; a failure is counted by its cause.
+    fn counting_walk(&mut self, end: Result<(), WalkFault>) -> Result<(), WalkFault>
+        ensures same { result ≡ end }
+        ensures conn { self.new.conn ≡ self.old.conn }
+        ensures counted { NoFewer (failed self.old) (failed self.new) }
+        ensures risen { IfSome (failure_of end) (λ cause. HasRisen (failed self.old cause) (failed self.new cause)) }
+    {
+        match end {
+            Err(WalkFault::Memory) => self.count(LookFault::Memory),
+            Err(WalkFault::Store) => self.count(LookFault::Store),
+            Ok(()) | Err(WalkFault::Stopped) => {}
+        }
+        end
+    }
+}
+
+impl<S: Alter> Walks for TableBooks<S> {
+    fn walk_arrivals<K: Sink<Stay>>(&mut self, day: Day, sink: &mut K) -> Result<(), WalkFault> {
+        let end = walks::arrivals(self.alloc, &mut self.conn, day, sink);
+        self.counting_walk(end)
+    }
+
+    fn walk_in_house<K: Sink<HouseRow>>(&mut self, sink: &mut K) -> Result<(), WalkFault> {
+        let end = walks::in_house(self.alloc, &mut self.conn, sink);
+        self.counting_walk(end)
+    }
+
+    fn walk_chain<K: Sink<ChainRow>>(
+        &mut self,
+        room: RoomNo,
+        sink: &mut K,
+    ) -> Result<(), WalkFault> {
+        let end = walks::chain(self.alloc, &mut self.conn, room, sink);
+        self.counting_walk(end)
+    }
+
+    fn walk_left_behind<K: Sink<BehindRow>>(&mut self, sink: &mut K) -> Result<(), WalkFault> {
+        let end = walks::left_behind(self.alloc, &mut self.conn, sink);
+        self.counting_walk(end)
+    }
+
+    fn walk_audit<K: Sink<LockNote>>(
+        &mut self,
+        room: RoomNo,
+        sink: &mut K,
+    ) -> Result<(), WalkFault> {
+        let end = walks::audit(self.alloc, &mut self.conn, room, sink);
+        self.counting_walk(end)
+    }
+}

@@ -1,0 +1,438 @@
+//! A stop at each store call: of the making of a desk, of its opening, of each change, of an import and of the closing. After each
+//! the store is opened again, and its rows are those before the call or after it; after an answer, those after it.
+use crate::desks::words_of;
+use crate::imports::FIRST_ENTRY;
+use crate::rooms_now::{answers_to, note_count};
+use crate::stopped_disks::{Contents, OUTCOMES, Outcome, Run};
+use crate::stopped_imports::{TWICE, is_sent_again};
+use crate::stopped_stores::{Store, calls_to_open, close, connect, open};
+use crate::stored_rows::{created, new_tables, opened, rows_of, rows_text};
+use hotel_asks::{Ask, Verb, read_ask};
+use hotel_audit::{ImportFault, import};
+use hotel_core::{Books, Command, Refusal, Reply, step};
+use hotel_tables::{OpenFault, TableBooks};
+use keycard_rules::ListedWords;
+use sqlite::{Connection, MemStore};
+use std::alloc::Global;
+use std::process::Abort;
+use std::test::Fail;
+
+/// A verb with its values, and the code that the source gives.
+type Step = (Verb, &'static [&'static [u8]], u64);
+
+const M: &[u8] = b"2031-05-01T15:00:00";
+
+/// Room 101, and a guest who checks in there.
+const CHECKED_IN: &[Step] = &[
+    (Verb::Begin, &[b"2031-05-01"], 0),
+    (Verb::AddKind, &[b"DBL"], 0),
+    (Verb::AddRoom, &[b"101", b"DBL"], 0xa0),
+    (Verb::Reserve, &[b"DBL", b"2031-05-01", b"2", b"Ann Lee"], 0),
+    (Verb::CheckIn, &[b"1", b"101"], 0xa1),
+];
+
+/// Then one more room, a booking that is given up, notes by which a card comes in, stays and goes, a spare card, the other room, a
+/// recoding there, the end of the stay, and the next day.
+const CHECKED_OUT: &[Step] = &[
+    (Verb::AddRoom, &[b"102", b"DBL"], 0xb0),
+    (Verb::Reserve, &[b"DBL", b"2031-05-02", b"1", b"Bo"], 0),
+    (Verb::Cancel, &[b"2"], 0),
+    (Verb::Entered, &[b"101", b"1", b"1", b"a0", b"a1", M], 0),
+    (Verb::Entered, &[b"101", b"2", b"1", b"a0", b"a1", M], 0),
+    (Verb::Left, &[b"101", b"3", b"1", b"a0", b"a1", M], 0),
+    (Verb::Spare, &[b"1"], 0),
+    (Verb::Transfer, &[b"1", b"102"], 0xb1),
+    (Verb::Recoded, &[b"102", b"1", b"b0", b"b1", M], 0),
+    (Verb::CheckOut, &[b"1"], 0),
+    (Verb::NextDay, &[], 0),
+];
+
+fn command(alloc: Global, verb: Verb, values: &[&[u8]]) -> Result<Command, Fail> {
+    match read_ask(alloc, verb, values) {
+        Ok(Ask::Command(command)) => Ok(command),
+        _ => Err(Fail::from("no command")),
+    }
+}
+
+/// Among which of the states before, between and after the rows are, if a task came so far.
+#[derive(Clone, Copy, Debug)]
+struct Reached {
+    first: usize,
+    last: usize,
+}
+
+const BEFORE: Reached = Reached { first: 0, last: 0 };
+
+const EITHER: Reached = Reached { first: 0, last: 1 };
+
+const AFTER: Reached = Reached { first: 1, last: 1 };
+
+/// What is done with a store.
+#[derive(Clone, Copy)]
+enum Task {
+    /// A desk is made.
+    Create,
+    /// A desk is opened.
+    Open,
+    /// A desk that is open takes a step.
+    Step(Step),
+    /// A desk that is open imports the file of two notes.
+    Import,
+    /// A desk that is open is closed.
+    Close,
+}
+
+/// Takes a step, and says how far that came.
+fn takes_step<B: Books>(alloc: Global, books: &mut B, asked: &Step) -> Result<Reached, Fail> {
+    let (verb, values, code) = *asked;
+    let command = command(alloc, verb, values)?;
+    let words = words_of(alloc, &[code])?;
+    let mut source = ListedWords::new(words).ok_or("no words")?;
+    match step(books, &mut source, &command) {
+        Reply::Refused(Refusal::Store) => Ok(EITHER),
+        Reply::Refused(_) => Err(Fail::from("refused")),
+        _ => Ok(AFTER),
+    }
+}
+
+fn creates(alloc: Global, conn: Connection<Store>) -> Result<Reached, Fail> {
+    match created(alloc, conn) {
+        Ok(_) => Ok(AFTER),
+        Err(OpenFault::Store) => Ok(EITHER),
+        Err(why) => Err(Fail::from(why)),
+    }
+}
+
+/// The line that a stop of the store came in may stand.
+fn imports<B: Books>(alloc: Global, books: &mut B) -> Result<Reached, Fail> {
+    match import(alloc, books, TWICE.file) {
+        Ok(answers) => Ok(Reached {
+            first: answers.len(),
+            last: answers.len(),
+        }),
+        Err(ImportFault::Store { answered, taken: _ }) => Ok(Reached {
+            first: answered,
+            last: answered.saturating_add(1),
+        }),
+        Err(_) => Err(Fail::from("no import")),
+    }
+}
+
+impl Task {
+    /// Does the task on an open desk.
+    fn acts(&self, alloc: Global, mut books: TableBooks<Store>) -> Result<Reached, Fail> {
+        match self {
+            Task::Step(asked) => takes_step(alloc, &mut books, asked),
+            Task::Import => imports(alloc, &mut books),
+            Task::Close => {
+                close(books);
+                Ok(BEFORE)
+            }
+            Task::Create | Task::Open => Ok(BEFORE),
+        }
+    }
+
+    /// Opens the store and does the task, and says how far that came.
+    fn runs(&self, alloc: Global, run: &Run) -> Result<Reached, Fail> {
+        match self {
+            Task::Create => match connect(alloc, run)? {
+                Some(conn) => creates(alloc, conn),
+                None => Ok(BEFORE),
+            },
+            _ => match open(alloc, run)? {
+                Some(books) => self.acts(alloc, books),
+                None => Ok(BEFORE),
+            },
+        }
+    }
+
+    /// How many calls come before those that are stopped: a desk's opening is a task of its own.
+    fn first_call(&self, alloc: Global, contents: &Contents) -> Result<u64, Fail> {
+        match self {
+            Task::Create | Task::Open => Ok(0),
+            _ => calls_to_open(alloc, contents),
+        }
+    }
+}
+
+/// The rows of a store that is opened again, none where it has no tables, and then a desk is made there.
+fn found(alloc: Global, mut conn: Connection<Store>) -> Result<(TableBooks<Store>, String), Fail> {
+    if conn.schema().tables.is_empty() {
+        return Ok((created(alloc, conn)?, String::new(alloc)));
+    }
+    let text = rows_text(alloc, &mut conn)?;
+    Ok((opened(alloc, conn)?, text))
+}
+
+/// How many stops there were, and how often a store was opened after one.
+#[derive(Clone, Copy)]
+pub(crate) struct Tries {
+    pub stops: u64,
+    pub openings: u64,
+}
+
+/// The states of the rows between which a task goes, on files with these contents.
+#[derive(Drop)]
+struct Path {
+    contents: Contents,
+    states: Vec<String>,
+}
+
+impl Path {
+    fn is_among(&self, reached: Reached, text: &String) -> bool {
+        match self
+            .states
+            .get(reached.first..reached.last.saturating_add(1))
+        {
+            Some(states) => states.iter().any(|state| state == text),
+            None => false,
+        }
+    }
+}
+
+/// The two notes are sent again, and then the tables are those of both.
+fn sent_again<R: Abort + AllocGlobal>(
+    rt: &R,
+    path: &Path,
+    mut books: TableBooks<Store>,
+) -> Result<(), Fail> {
+    let stood = note_count(&mut books)?;
+    is_sent_again(rt, &mut books, &TWICE, stood as usize)?;
+    let (_books, text) = rows_of(rt.alloc(), books)?;
+    assert_eq!(rt; path.states.last(), Some(&text));
+    Ok(())
+}
+
+/// The store of these files is opened, and its rows are as far as the task came.
+fn is_found<R: Abort + AllocGlobal>(
+    rt: &R,
+    task: &Task,
+    path: &Path,
+    left: &Contents,
+    reached: Reached,
+) -> Result<(), Fail> {
+    let run = Run::new(rt.alloc(), left, u64::MAX)?;
+    let conn = connect(rt.alloc(), &run)?.ok_or("no store")?;
+    let (books, text) = found(rt.alloc(), conn)?;
+    assert!(rt; path.is_among(reached, &text), "{text}");
+    match task {
+        Task::Import => sent_again(rt, path, books),
+        _ => Ok(()),
+    }
+}
+
+/// Each of the different outcomes of a stop is opened: how many they are.
+fn are_found<R: Abort + AllocGlobal>(
+    rt: &R,
+    task: &Task,
+    path: &Path,
+    run: &Run,
+    reached: Reached,
+) -> Result<u64, Fail> {
+    let mut all: Vec<Contents> = Vec::new(rt.alloc());
+    for outcome in OUTCOMES {
+        let left = run.left(outcome)?;
+        if !all.contains(&left) {
+            is_found(rt, task, path, &left, reached)?;
+            all.push(left)?;
+        }
+    }
+    Ok(all.len() as u64)
+}
+
+/// The most calls of a task that is tried.
+const MOST: u64 = 400;
+
+/// The task is stopped at each store call in turn, until it ends without a stop.
+fn stops<R: Abort + AllocGlobal>(rt: &R, task: &Task, path: &Path) -> Result<Tries, Fail> {
+    let mut tries = NO_TRIES;
+    let first = task.first_call(rt.alloc(), &path.contents)?;
+    for calls in first..first.saturating_add(MOST) {
+        let run = Run::new(rt.alloc(), &path.contents, calls)?;
+        let reached = task.runs(rt.alloc(), &run)?;
+        if !run.has_stopped()? {
+            return Ok(tries);
+        }
+        let openings = are_found(rt, task, path, &run, reached)?;
+        tries = tries.and(Tries { stops: 1, openings });
+    }
+    Err(Fail::from("no end"))
+}
+
+impl Tries {
+    fn and(self, more: Tries) -> Tries {
+        Tries {
+            stops: self.stops.saturating_add(more.stops),
+            openings: self.openings.saturating_add(more.openings),
+        }
+    }
+}
+
+impl Tries {
+    /// They are at least so many.
+    fn are_many<A: Abort>(self, rt: &A, stops: u64, openings: u64) {
+        assert!(rt; self.stops >= stops, "{} stops", self.stops);
+        assert!(rt; self.openings >= openings, "{} openings", self.openings);
+    }
+}
+
+const NO_TRIES: Tries = Tries {
+    stops: 0,
+    openings: 0,
+};
+
+/// The files of a closed desk, the same desk over tables in memory, and its rows.
+#[derive(Drop)]
+struct Course {
+    contents: Contents,
+    books: TableBooks<MemStore>,
+    rows: String,
+}
+
+/// The files after a task that isn't stopped.
+fn after(alloc: Global, task: &Task, contents: &Contents) -> Result<Contents, Fail> {
+    let run = Run::new(alloc, contents, u64::MAX)?;
+    task.runs(alloc, &run)?;
+    run.left(Outcome::Written)
+}
+
+/// The same, once the desk is closed.
+fn closed_after(alloc: Global, task: &Task, contents: &Contents) -> Result<Contents, Fail> {
+    after(alloc, &Task::Close, &after(alloc, task, contents)?)
+}
+
+/// A new desk.
+fn new_course(alloc: Global) -> Result<Course, Fail> {
+    let (books, rows) = rows_of(alloc, new_tables(alloc)?)?;
+    Ok(Course {
+        contents: closed_after(alloc, &Task::Create, &Contents::empty(alloc))?,
+        books,
+        rows,
+    })
+}
+
+impl Course {
+    /// The step is done.
+    fn takes(self, alloc: Global, asked: &Step) -> Result<Course, Fail> {
+        let mut books = self.books;
+        takes_step(alloc, &mut books, asked)?;
+        let (books, rows) = rows_of(alloc, books)?;
+        Ok(Course {
+            contents: closed_after(alloc, &Task::Step(*asked), &self.contents)?,
+            books,
+            rows,
+        })
+    }
+
+    /// The steps are done.
+    fn after(alloc: Global, steps: &[Step]) -> Result<Course, Fail> {
+        let mut course = new_course(alloc)?;
+        for asked in steps {
+            course = course.takes(alloc, asked)?;
+        }
+        Ok(course)
+    }
+
+    /// A way that begins with these files and rows.
+    fn path(&self, alloc: Global) -> Result<Path, Fail> {
+        let mut states = Vec::new(alloc);
+        states.push(self.rows.clone()?)?;
+        Ok(Path {
+            contents: self.contents.copy()?,
+            states,
+        })
+    }
+}
+
+/// Each of the steps is stopped at each store call, and then done.
+fn are_stopped<R: Abort + AllocGlobal>(
+    rt: &R,
+    mut course: Course,
+    steps: &[Step],
+) -> Result<Tries, Fail> {
+    let mut tries = NO_TRIES;
+    for asked in steps {
+        let mut path = course.path(rt.alloc())?;
+        course = course.takes(rt.alloc(), asked)?;
+        path.states.push(course.rows.clone()?)?;
+        tries = tries.and(stops(rt, &Task::Step(*asked), &path)?);
+    }
+    Ok(tries)
+}
+
+/// The steps are stopped on a desk after the earlier ones.
+fn are_stopped_after<R: Abort + AllocGlobal>(
+    rt: &R,
+    earlier: &[Step],
+    steps: &[Step],
+) -> Result<Tries, Fail> {
+    are_stopped(rt, Course::after(rt.alloc(), earlier)?, steps)
+}
+
+#[test]
+fn a_check_in_is_stopped(rt: HostRuntime) -> Result<(), Fail> {
+    let tries = are_stopped_after(&rt, &[], CHECKED_IN)?;
+    tries.are_many(&rt, 25, 60);
+    Ok(())
+}
+
+#[test]
+fn a_stay_is_stopped(rt: HostRuntime) -> Result<(), Fail> {
+    let tries = are_stopped_after(&rt, CHECKED_IN, CHECKED_OUT)?;
+    tries.are_many(&rt, 60, 140);
+    Ok(())
+}
+
+/// The making of a desk.
+#[test]
+fn a_new_desk_is_stopped(rt: HostRuntime) -> Result<(), Fail> {
+    let mut path = Path {
+        contents: Contents::empty(rt.alloc()),
+        states: Vec::new(rt.alloc()),
+    };
+    path.states.push(String::new(rt.alloc()))?;
+    path.states.push(new_course(rt.alloc())?.rows)?;
+    let tries = stops(&rt, &Task::Create, &path)?;
+    tries.are_many(&rt, 30, 50);
+    Ok(())
+}
+
+/// The rows after an import of the file.
+fn imported(
+    alloc: Global,
+    mut books: TableBooks<MemStore>,
+    file: &[u8],
+) -> Result<(TableBooks<MemStore>, String), Fail> {
+    answers_to(alloc, &mut books, file)?;
+    rows_of(alloc, books)
+}
+
+/// The way of an import: the rows before it, after its first note, and after both.
+fn import_path(alloc: Global) -> Result<Path, Fail> {
+    let course = Course::after(alloc, CHECKED_IN)?;
+    let mut path = course.path(alloc)?;
+    let (books, first) = imported(alloc, course.books, FIRST_ENTRY)?;
+    let (_books, both) = imported(alloc, books, TWICE.file)?;
+    path.states.push(first)?;
+    path.states.push(both)?;
+    Ok(path)
+}
+
+#[test]
+fn stopped_import(rt: HostRuntime) -> Result<(), Fail> {
+    let tries = stops(&rt, &Task::Import, &import_path(rt.alloc())?)?;
+    tries.are_many(&rt, 10, 20);
+    Ok(())
+}
+
+/// The opening and the closing of a desk of which the log has the last changes.
+#[test]
+fn an_opening_and_a_closing_are_stopped(rt: HostRuntime) -> Result<(), Fail> {
+    let mut path = import_path(rt.alloc())?;
+    path.contents = after(rt.alloc(), &Task::Import, &path.contents)?;
+    path.states.reverse();
+    path.states.truncate(1);
+    let tries = stops(&rt, &Task::Open, &path)?.and(stops(&rt, &Task::Close, &path)?);
+    tries.are_many(&rt, 120, 140);
+    Ok(())
+}

@@ -1,0 +1,186 @@
+//! Desks over tables that are closed and opened again, as they were or after a statement that damages them.
+use crate::desks::{Desk, FIRST_DAY};
+use crate::lists::{TWO_CODES, chain_reads, walks_end};
+use crate::stored_rows::{created, new_tables, opened, rows_of, stored};
+use hotel_core::Books;
+use hotel_tables::{OpenFault, TableBooks, TableName, first_damaged};
+use sqlite::{Alter, Connection, Error, MemStore};
+use std::alloc::Global;
+use std::process::Abort;
+use std::test::Fail;
+
+/// What a desk comes to, by the scenario's name.
+#[derive(Clone, Copy)]
+enum Scene {
+    /// The opening: room 101, and a booking of Ann Lee.
+    Opened,
+    /// Then her party is checked in.
+    CheckedIn,
+    TwoEntries,
+    NextGuest,
+}
+
+/// The codes that the source of these desks gives.
+const CODES: &[u64] = &[0xa0, 0xa1, 0xa2];
+
+impl<B: Books> Desk<B> {
+    fn comes_to(&mut self, scene: Scene) -> Result<(), Fail> {
+        self.begins(&[101])?;
+        match scene {
+            Scene::Opened => self.reserve("Ann Lee", FIRST_DAY, 2),
+            Scene::CheckedIn => self.has_a_guest(),
+            Scene::TwoEntries => self.enters_twice(),
+            Scene::NextGuest => self.is_entered_by_the_next(),
+        }
+    }
+}
+
+/// A desk over tables at this scene.
+fn tables_at(alloc: Global, scene: Scene) -> Result<TableBooks<MemStore>, Fail> {
+    let mut desk = Desk::over(alloc, new_tables(alloc)?, CODES)?;
+    desk.comes_to(scene)?;
+    Ok(desk.books)
+}
+
+/// A closed desk, a statement, and the answer to its opening then.
+type Damage = (Scene, &'static str, OpenFault);
+
+const DAMAGES: &[Damage] = &[
+    (
+        Scene::Opened,
+        "UPDATE meta SET version = 7",
+        OpenFault::NotADesk,
+    ),
+    (
+        Scene::Opened,
+        "UPDATE meta SET day = NULL",
+        OpenFault::Damaged(TableName::Meta),
+    ),
+    (
+        Scene::Opened,
+        "INSERT INTO kind VALUES ('dbl')",
+        OpenFault::Damaged(TableName::Kind),
+    ),
+    (
+        Scene::Opened,
+        "UPDATE room SET secured = 1",
+        OpenFault::Damaged(TableName::Room),
+    ),
+    (
+        Scene::Opened,
+        "UPDATE stay SET state = 1",
+        OpenFault::Damaged(TableName::Stay),
+    ),
+    (
+        Scene::TwoEntries,
+        "UPDATE code SET place = 5 WHERE place = 1",
+        OpenFault::Damaged(TableName::Code),
+    ),
+    (
+        Scene::CheckedIn,
+        "UPDATE card SET number = 5",
+        OpenFault::Damaged(TableName::Card),
+    ),
+    (
+        Scene::NextGuest,
+        "INSERT INTO inside VALUES (101, 1)",
+        OpenFault::Damaged(TableName::Inside),
+    ),
+    (
+        Scene::TwoEntries,
+        "UPDATE note SET n = 9 WHERE n = 2",
+        OpenFault::Damaged(TableName::Note),
+    ),
+];
+
+/// Changes the tables of a closed desk.
+fn change<S: Alter>(conn: &mut Connection<S>, statement: &str) -> Result<usize, Error> {
+    conn.execute(statement, &[])
+}
+
+/// The damaged table that an opening named.
+fn named(fault: OpenFault) -> Option<TableName> {
+    match fault {
+        OpenFault::Damaged(table) => Some(table),
+        _ => None,
+    }
+}
+
+/// Of the rows of a connection the table is the first damaged one, where an opening names one.
+fn is_first_damaged<S: Alter>(
+    rt: &(impl Abort + AllocGlobal),
+    conn: &mut Connection<S>,
+    fault: OpenFault,
+) -> Result<(), Fail> {
+    let stored = stored(rt.alloc(), conn)?;
+    if let Some(table) = named(fault) {
+        assert_eq!(rt; first_damaged(rt.alloc(), &stored), Ok(Some(table)));
+    }
+    Ok(())
+}
+
+/// The fault of an opening.
+fn fault_of<S: Alter + Drop>(alloc: Global, conn: Connection<S>) -> Option<OpenFault> {
+    match opened(alloc, conn) {
+        Ok(_) => None,
+        Err(fault) => Some(fault),
+    }
+}
+
+/// The closed desk can't be opened after the statement.
+fn is_damaged(rt: &(impl Abort + AllocGlobal), damage: &Damage) -> Result<(), Fail> {
+    let (scene, statement, fault) = *damage;
+    let mut conn = tables_at(rt.alloc(), scene)?.close();
+    assert_eq!(rt; change(&mut conn, statement), Ok(1), "{statement}");
+    is_first_damaged(rt, &mut conn, fault)?;
+    assert_eq!(rt; fault_of(rt.alloc(), conn), Some(fault), "{statement}");
+    Ok(())
+}
+
+#[test]
+fn a_damaged_desk_is_not_opened(rt: HostRuntime) -> Result<(), Fail> {
+    for damage in DAMAGES {
+        is_damaged(&rt, damage)?;
+    }
+    Ok(())
+}
+
+/// Over tables too a walk ends where its sink stops, and the next one is whole.
+#[test]
+fn a_walk_of_tables_ends_where_its_sink_stops(rt: HostRuntime) -> Result<(), Fail> {
+    let mut desk = Desk::over(rt.alloc(), new_tables(rt.alloc())?, CODES)?;
+    desk.begins(&[101])?;
+    desk.leaves_behind()?;
+    desk.is_recoded()?;
+    walks_end(&rt, &mut desk.books)
+}
+
+/// The books are closed and opened again: their rows are the same, and so is the list of the room's codes.
+fn opens_again<R: Abort + AllocGlobal>(
+    rt: &R,
+    books: TableBooks<MemStore>,
+) -> Result<TableBooks<MemStore>, Fail> {
+    let (books, before) = rows_of(rt.alloc(), books)?;
+    let (mut books, after) = rows_of(rt.alloc(), books)?;
+    assert_eq!(rt; after, before);
+    chain_reads(rt, &mut books, TWO_CODES)?;
+    Ok(books)
+}
+
+/// No desk is made where one is.
+fn is_made_once<R: Abort + AllocGlobal>(rt: &R, books: TableBooks<MemStore>) {
+    let again = match created(rt.alloc(), books.close()) {
+        Ok(_) => None,
+        Err(fault) => Some(fault),
+    };
+    assert_eq!(rt; again, Some(OpenFault::NotADesk));
+}
+
+#[test]
+fn reopened_tables(rt: HostRuntime) -> Result<(), Fail> {
+    let books = opens_again(&rt, tables_at(rt.alloc(), Scene::TwoEntries)?)?;
+    is_made_once(&rt, books);
+    let bare = Connection::open_in_memory(rt.alloc())?;
+    assert_eq!(rt; fault_of(rt.alloc(), bare), Some(OpenFault::NotADesk));
+    Ok(())
+}
