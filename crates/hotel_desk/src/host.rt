@@ -4,11 +4,11 @@ ghost use Rattle.std.specs.Prelude.{IfErr};
 ghost use Rattle.hotel_desk.specs.Faults.{IsOfFiles};
 
 use crate::command_line::FileName;
-use crate::database::{close_file, open_file};
+use crate::database::open_file;
 use crate::faults::Fault;
-use crate::file_books::FileBooks;
 use crate::files::{SEED_BYTES, audit_file_in, seed_in};
 use crate::surroundings::Surroundings;
+use hotel_tables::{FileBooks, close_file};
 use std::alloc::Global;
 use std::fs::{self, File};
 use std::net::{Ipv4Addr, TcpListener};

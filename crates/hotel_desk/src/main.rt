@@ -8,7 +8,6 @@ mod command_line;
 mod command_runs;
 mod database;
 mod faults;
-mod file_books;
 mod files;
 mod host;
 mod line_answers;

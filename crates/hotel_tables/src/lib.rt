@@ -8,6 +8,8 @@ mod counting;
 mod create;
 mod damage;
 mod desk_schema;
+mod file_books;
+mod files;
 mod from_row;
 mod issue;
 mod laws;
@@ -29,6 +31,8 @@ mod walk;
 mod walks;
 
 pub use damage::{first_damaged, undamaged_is_sound};
+pub use file_books::FileBooks;
+pub use files::{FileFault, close_file, open_file};
 pub use laws::{files_are_clean, files_keep_books, memory_is_clean, read_undamaged};
 pub use open_fault::OpenFault;
 pub use stored::{

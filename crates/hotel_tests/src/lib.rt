@@ -26,6 +26,8 @@ mod lists;
 #[cfg(test)]
 mod long_lists;
 #[cfg(test)]
+mod memory_desks;
+#[cfg(test)]
 mod new_desk;
 #[cfg(test)]
 mod reads_and_writes;

@@ -1,14 +1,12 @@
 //! Random commands over twenty rooms, on stores that stop at a hundred places and are opened again after each.
 use crate::desks::{AFTERNOON, FIRST_DAY, day, entered, kind, left, note, party, room, words_of};
+use crate::memory_desks::MemoryDesk;
 use crate::stopped_disks::{Contents, OUTCOMES, Outcome, Run};
-use crate::stopped_stores::{Store, calls_to_open, connect, open};
-use crate::stored_rows::{created, new_tables, rows_of, rows_text};
-use hotel_core::{Books, Command, ListBooks, Refusal, Reply, Walks, reply_text, step};
+use crate::stopped_stores::{FilesDesk, calls_to_open, connect, open};
+use hotel_core::{Command, ListBooks, Refusal, Reply, Walks, reply_text, step};
 use hotel_lists::{FakeWriter, arrivals, audit_of, chain_of, in_house, left_behind};
 use hotel_nights::{Guest, Nights};
-use hotel_tables::TableBooks;
 use keycard_rules::{Act, Card, ListedWords, LockNote, PartyNo};
-use sqlite::MemStore;
 use std::alloc::Global;
 use std::process::Abort;
 use std::test::Fail;
@@ -16,12 +14,12 @@ use std::test::Fail;
 /// The scripts, by their seeds.
 const SEEDS: &[u64] = &[1, 2];
 
-const COMMANDS: u64 = 450;
+const COMMANDS: u64 = 1_000;
 
 const ROOMS: u64 = 20;
 
 /// How often each of them is stopped.
-const STOPS: u64 = 50;
+const STOPS: u64 = 100;
 
 /// Numbers drawn from a seed.
 #[derive(Clone, Copy, Drop)]
@@ -168,12 +166,17 @@ impl Script {
         }
     }
 
-    /// The reply to the command of this place; the code that the source gives is of the place too.
-    fn reply_of<B: Books>(&self, books: &mut B, at: u64) -> Result<Reply, Fail> {
-        let command = self.command(at)?;
+    /// The command of this place, and a source: the code that it gives is of the place too.
+    fn asked(&self, at: u64) -> Result<(Command, ListedWords), Fail> {
         let words = words_of(self.alloc, &[at.saturating_add(1_000)])?;
-        let mut source = ListedWords::new(words).ok_or("no words")?;
-        Ok(step(books, &mut source, &command))
+        let source = ListedWords::new(words).ok_or("no words")?;
+        Ok((self.command(at)?, source))
+    }
+
+    /// The reply to the command of this place.
+    fn reply_of(&self, desk: &mut MemoryDesk, at: u64) -> Result<Reply, Fail> {
+        let (command, mut source) = self.asked(at)?;
+        Ok(desk.step(&mut source, &command))
     }
 
     /// The room that a card of the party was given for.
@@ -221,10 +224,11 @@ impl Script {
 }
 
 /// The script over books of which no call fails: how many commands were carried out.
-fn runs<B: Books>(script: &mut Script, books: &mut B) -> Result<u64, Fail> {
+fn runs(script: &mut Script, books: &mut ListBooks) -> Result<u64, Fail> {
     let mut done = 0u64;
     for at in 0..COMMANDS {
-        let reply = script.reply_of(books, at)?;
+        let (command, mut source) = script.asked(at)?;
+        let reply = step(books, &mut source, &command);
         if !matches!(reply, Reply::Refused(_)) {
             done = done.saturating_add(1);
         }
@@ -247,7 +251,7 @@ fn write_room<B: Walks>(
 }
 
 /// All lists of the books.
-fn lists_of<B: Walks>(alloc: Global, books: &mut B) -> Result<FakeWriter, Fail> {
+pub(crate) fn lists_of<B: Walks>(alloc: Global, books: &mut B) -> Result<FakeWriter, Fail> {
     let mut writer = FakeWriter::new(alloc);
     for later in 0..30u16 {
         let day = day(FIRST_DAY.saturating_add(later))?;
@@ -287,11 +291,11 @@ impl Stops {
     }
 }
 
-/// Books over a store that stops.
+/// A desk on a machine's files, and how far its store goes.
 #[derive(Drop)]
 struct Stopped {
     run: Run,
-    books: TableBooks<Store>,
+    desk: FilesDesk,
 }
 
 /// The most openings in turn of which each is stopped.
@@ -303,7 +307,7 @@ fn reopened(alloc: Global, mut contents: Contents, stops: &mut Stops) -> Result<
         let calls = stops.calls(calls_to_open(alloc, &contents)?);
         let run = Run::new(alloc, &contents, calls)?;
         match open(alloc, &run)? {
-            Some(books) => return Ok(Stopped { run, books }),
+            Some(desk) => return Ok(Stopped { run, desk }),
             None => contents = run.left(stops.outcome())?,
         }
     }
@@ -313,17 +317,17 @@ fn reopened(alloc: Global, mut contents: Contents, stops: &mut Stops) -> Result<
 /// The rows that the files have, and the files once the store is closed.
 fn found(alloc: Global, contents: &Contents) -> Result<(String, Contents), Fail> {
     let run = Run::new(alloc, contents, u64::MAX)?;
-    let mut conn = connect(alloc, &run)?.ok_or("no store")?;
-    let text = rows_text(alloc, &mut conn)?;
-    let _ = conn.close();
+    let mut store = connect(alloc, &run)?.ok_or("no store")?;
+    let text = store.rows(alloc)?;
+    store.close();
     Ok((text, run.left(Outcome::Written)?))
 }
 
-/// The books that stop, the same ones in memory, and the script of both.
+/// The desk that stops, the same one in memory, and the script of both.
 #[derive(Drop)]
 struct Pair {
     stopped: Stopped,
-    memory: TableBooks<MemStore>,
+    memory: MemoryDesk,
     script: Script,
     stops: Stops,
 }
@@ -332,16 +336,16 @@ struct Pair {
 fn is_carried_out<R: Abort + AllocGlobal>(
     rt: &R,
     script: &Script,
-    memory: TableBooks<MemStore>,
+    memory: MemoryDesk,
     text: &String,
     at: u64,
-) -> Result<(TableBooks<MemStore>, Option<Reply>), Fail> {
-    let (mut memory, before) = rows_of(rt.alloc(), memory)?;
+) -> Result<(MemoryDesk, Option<Reply>), Fail> {
+    let (mut memory, before) = memory.rows(rt.alloc())?;
     if *text == before {
         return Ok((memory, None));
     }
     let reply = script.reply_of(&mut memory, at)?;
-    let (memory, after) = rows_of(rt.alloc(), memory)?;
+    let (memory, after) = memory.rows(rt.alloc())?;
     assert_eq!(rt; *text, after, "command {at}");
     Ok((memory, Some(reply)))
 }
@@ -350,7 +354,7 @@ fn is_carried_out<R: Abort + AllocGlobal>(
 fn replies_so<R: Abort + AllocGlobal>(
     rt: &R,
     script: &Script,
-    memory: &mut TableBooks<MemStore>,
+    memory: &mut MemoryDesk,
     at: u64,
     reply: Reply,
 ) -> Result<(), Fail> {
@@ -370,15 +374,16 @@ fn tries<R: Abort + AllocGlobal>(
     at: u64,
 ) -> Result<(Pair, Option<Reply>), Fail> {
     let Pair {
-        stopped: Stopped { run, mut books },
+        stopped: Stopped { run, mut desk },
         mut memory,
         script,
         mut stops,
     } = pair;
-    let reply = script.reply_of(&mut books, at)?;
+    let (command, mut source) = script.asked(at)?;
+    let reply = desk.step(&mut source, &command);
     if !matches!(reply, Reply::Refused(Refusal::Store)) {
         replies_so(rt, &script, &mut memory, at, reply)?;
-        let stopped = Stopped { run, books };
+        let stopped = Stopped { run, desk };
         let pair = Pair {
             stopped,
             memory,
@@ -428,8 +433,8 @@ fn all_carried_out<R: Abort + AllocGlobal>(rt: &R, mut pair: Pair) -> Result<Pai
 /// A new desk on files, whose making isn't stopped.
 fn new_files(alloc: Global) -> Result<Contents, Fail> {
     let run = Run::new(alloc, &Contents::empty(alloc), u64::MAX)?;
-    let conn = connect(alloc, &run)?.ok_or("no store")?;
-    let _books = created(alloc, conn)?;
+    let store = connect(alloc, &run)?.ok_or("no store")?;
+    let _desk = store.create(alloc)?;
     run.left(Outcome::Written)
 }
 
@@ -440,7 +445,7 @@ fn new_pair(alloc: Global, seed: u64) -> Result<Pair, Fail> {
     };
     Ok(Pair {
         stopped: reopened(alloc, new_files(alloc)?, &mut stops)?,
-        memory: new_tables(alloc)?,
+        memory: MemoryDesk::new(alloc)?,
         script: Script::new(alloc, seed)?,
         stops,
     })
@@ -453,12 +458,12 @@ fn lists_are<R: Abort + AllocGlobal>(rt: &R, pair: &mut Pair, seed: u64) -> Resu
     let done = runs(&mut script, &mut books)?;
     assert!(rt; done > 100, "seed {seed}: {done}");
     let wanted = lists_of(rt.alloc(), &mut books)?;
-    let lists = lists_of(rt.alloc(), &mut pair.stopped.books)?;
+    let lists = pair.stopped.desk.lists(rt.alloc())?;
     assert!(rt; lists.written() == wanted.written(), "seed {seed}");
     Ok(())
 }
 
-/// The script of a seed, stopped at fifty places.
+/// The script of a seed, stopped at a hundred places.
 fn is_stopped<R: Abort + AllocGlobal>(rt: &R, seed: u64) -> Result<(), Fail> {
     let mut pair = all_carried_out(rt, new_pair(rt.alloc(), seed)?)?;
     assert_eq!(rt; pair.stops.left, 0, "seed {seed}");
@@ -469,9 +474,9 @@ fn is_stopped<R: Abort + AllocGlobal>(rt: &R, seed: u64) -> Result<(), Fail> {
         script: _,
         stops: _,
     } = pair;
-    let Stopped { run: _, books } = stopped;
-    let (_books, text) = rows_of(rt.alloc(), books)?;
-    let (_memory, wanted) = rows_of(rt.alloc(), memory)?;
+    let Stopped { run: _, desk } = stopped;
+    let (_desk, text) = desk.rows(rt.alloc())?;
+    let (_memory, wanted) = memory.rows(rt.alloc())?;
     assert_eq!(rt; text, wanted, "seed {seed}");
     Ok(())
 }

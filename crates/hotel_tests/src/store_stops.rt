@@ -2,17 +2,15 @@
 //! the store is opened again, and its rows are those before the call or after it; after an answer, those after it.
 use crate::desks::words_of;
 use crate::imports::FIRST_ENTRY;
-use crate::rooms_now::{answers_to, note_count};
+use crate::memory_desks::MemoryDesk;
 use crate::stopped_disks::{Contents, OUTCOMES, Outcome, Run};
-use crate::stopped_imports::{TWICE, is_sent_again};
-use crate::stopped_stores::{Store, calls_to_open, close, connect, open};
-use crate::stored_rows::{created, new_tables, opened, rows_of, rows_text};
+use crate::stopped_imports::TWICE;
+use crate::stopped_stores::{FilesDesk, FilesStore, calls_to_open, connect, open};
 use hotel_asks::{Ask, Verb, read_ask};
-use hotel_audit::{ImportFault, import};
-use hotel_core::{Books, Command, Refusal, Reply, step};
-use hotel_tables::{OpenFault, TableBooks};
+use hotel_audit::{ImportFault, LineAnswer};
+use hotel_core::{Command, Refusal, Reply};
+use hotel_tables::OpenFault;
 use keycard_rules::ListedWords;
-use sqlite::{Connection, MemStore};
 use std::alloc::Global;
 use std::process::Abort;
 use std::test::Fail;
@@ -82,30 +80,41 @@ enum Task {
     Close,
 }
 
-/// Takes a step, and says how far that came.
-fn takes_step<B: Books>(alloc: Global, books: &mut B, asked: &Step) -> Result<Reached, Fail> {
+/// The command of a step, and the source of its code.
+fn asked_of(alloc: Global, asked: &Step) -> Result<(Command, ListedWords), Fail> {
     let (verb, values, code) = *asked;
     let command = command(alloc, verb, values)?;
     let words = words_of(alloc, &[code])?;
-    let mut source = ListedWords::new(words).ok_or("no words")?;
-    match step(books, &mut source, &command) {
+    let source = ListedWords::new(words).ok_or("no words")?;
+    Ok((command, source))
+}
+
+/// How far a step came that was answered so.
+fn how_far(reply: &Reply) -> Result<Reached, Fail> {
+    match reply {
         Reply::Refused(Refusal::Store) => Ok(EITHER),
         Reply::Refused(_) => Err(Fail::from("refused")),
         _ => Ok(AFTER),
     }
 }
 
-fn creates(alloc: Global, conn: Connection<Store>) -> Result<Reached, Fail> {
-    match created(alloc, conn) {
+/// Takes a step, and says how far that came.
+fn takes_step(alloc: Global, desk: &mut FilesDesk, asked: &Step) -> Result<Reached, Fail> {
+    let (command, mut source) = asked_of(alloc, asked)?;
+    how_far(&desk.step(&mut source, &command))
+}
+
+fn creates(alloc: Global, store: FilesStore) -> Result<Reached, Fail> {
+    match store.create(alloc) {
         Ok(_) => Ok(AFTER),
         Err(OpenFault::Store) => Ok(EITHER),
         Err(why) => Err(Fail::from(why)),
     }
 }
 
-/// The line that a stop of the store came in may stand.
-fn imports<B: Books>(alloc: Global, books: &mut B) -> Result<Reached, Fail> {
-    match import(alloc, books, TWICE.file) {
+/// How far an import came that ended so: the line that a stop of the store came in may stand.
+fn imported(end: Result<Vec<LineAnswer>, ImportFault>) -> Result<Reached, Fail> {
+    match end {
         Ok(answers) => Ok(Reached {
             first: answers.len(),
             last: answers.len(),
@@ -120,12 +129,12 @@ fn imports<B: Books>(alloc: Global, books: &mut B) -> Result<Reached, Fail> {
 
 impl Task {
     /// Does the task on an open desk.
-    fn acts(&self, alloc: Global, mut books: TableBooks<Store>) -> Result<Reached, Fail> {
+    fn acts(&self, alloc: Global, mut desk: FilesDesk) -> Result<Reached, Fail> {
         match self {
-            Task::Step(asked) => takes_step(alloc, &mut books, asked),
-            Task::Import => imports(alloc, &mut books),
+            Task::Step(asked) => takes_step(alloc, &mut desk, asked),
+            Task::Import => imported(desk.import(alloc, TWICE.file)),
             Task::Close => {
-                close(books);
+                desk.close();
                 Ok(BEFORE)
             }
             Task::Create | Task::Open => Ok(BEFORE),
@@ -136,11 +145,11 @@ impl Task {
     fn runs(&self, alloc: Global, run: &Run) -> Result<Reached, Fail> {
         match self {
             Task::Create => match connect(alloc, run)? {
-                Some(conn) => creates(alloc, conn),
+                Some(store) => creates(alloc, store),
                 None => Ok(BEFORE),
             },
             _ => match open(alloc, run)? {
-                Some(books) => self.acts(alloc, books),
+                Some(desk) => self.acts(alloc, desk),
                 None => Ok(BEFORE),
             },
         }
@@ -155,13 +164,13 @@ impl Task {
     }
 }
 
-/// The rows of a store that is opened again, none where it has no tables, and then a desk is made there.
-fn found(alloc: Global, mut conn: Connection<Store>) -> Result<(TableBooks<Store>, String), Fail> {
-    if conn.schema().tables.is_empty() {
-        return Ok((created(alloc, conn)?, String::new(alloc)));
+/// The desk of a store that is opened again, and its rows: none where it has no tables, and then a desk is made there.
+fn found(alloc: Global, mut store: FilesStore) -> Result<(FilesDesk, String), Fail> {
+    if store.is_bare() {
+        return Ok((store.create(alloc)?, String::new(alloc)));
     }
-    let text = rows_text(alloc, &mut conn)?;
-    Ok((opened(alloc, conn)?, text))
+    let text = store.rows(alloc)?;
+    Ok((store.open(alloc)?, text))
 }
 
 /// How many stops there were, and how often a store was opened after one.
@@ -194,11 +203,10 @@ impl Path {
 fn sent_again<R: Abort + AllocGlobal>(
     rt: &R,
     path: &Path,
-    mut books: TableBooks<Store>,
+    mut desk: FilesDesk,
 ) -> Result<(), Fail> {
-    let stood = note_count(&mut books)?;
-    is_sent_again(rt, &mut books, &TWICE, stood as usize)?;
-    let (_books, text) = rows_of(rt.alloc(), books)?;
+    desk.is_sent_again(rt)?;
+    let (_desk, text) = desk.rows(rt.alloc())?;
     assert_eq!(rt; path.states.last(), Some(&text));
     Ok(())
 }
@@ -212,11 +220,11 @@ fn is_found<R: Abort + AllocGlobal>(
     reached: Reached,
 ) -> Result<(), Fail> {
     let run = Run::new(rt.alloc(), left, u64::MAX)?;
-    let conn = connect(rt.alloc(), &run)?.ok_or("no store")?;
-    let (books, text) = found(rt.alloc(), conn)?;
+    let store = connect(rt.alloc(), &run)?.ok_or("no store")?;
+    let (desk, text) = found(rt.alloc(), store)?;
     assert!(rt; path.is_among(reached, &text), "{text}");
     match task {
-        Task::Import => sent_again(rt, path, books),
+        Task::Import => sent_again(rt, path, desk),
         _ => Ok(()),
     }
 }
@@ -285,7 +293,7 @@ const NO_TRIES: Tries = Tries {
 #[derive(Drop)]
 struct Course {
     contents: Contents,
-    books: TableBooks<MemStore>,
+    desk: MemoryDesk,
     rows: String,
 }
 
@@ -303,10 +311,10 @@ fn closed_after(alloc: Global, task: &Task, contents: &Contents) -> Result<Conte
 
 /// A new desk.
 fn new_course(alloc: Global) -> Result<Course, Fail> {
-    let (books, rows) = rows_of(alloc, new_tables(alloc)?)?;
+    let (desk, rows) = MemoryDesk::new(alloc)?.rows(alloc)?;
     Ok(Course {
         contents: closed_after(alloc, &Task::Create, &Contents::empty(alloc))?,
-        books,
+        desk,
         rows,
     })
 }
@@ -314,12 +322,13 @@ fn new_course(alloc: Global) -> Result<Course, Fail> {
 impl Course {
     /// The step is done.
     fn takes(self, alloc: Global, asked: &Step) -> Result<Course, Fail> {
-        let mut books = self.books;
-        takes_step(alloc, &mut books, asked)?;
-        let (books, rows) = rows_of(alloc, books)?;
+        let mut desk = self.desk;
+        let (command, mut source) = asked_of(alloc, asked)?;
+        how_far(&desk.step(&mut source, &command))?;
+        let (desk, rows) = desk.rows(alloc)?;
         Ok(Course {
             contents: closed_after(alloc, &Task::Step(*asked), &self.contents)?,
-            books,
+            desk,
             rows,
         })
     }
@@ -397,22 +406,22 @@ fn a_new_desk_is_stopped(rt: HostRuntime) -> Result<(), Fail> {
     Ok(())
 }
 
-/// The rows after an import of the file.
-fn imported(
+/// The desk after an import of the file, and its rows.
+fn after_import(
     alloc: Global,
-    mut books: TableBooks<MemStore>,
+    mut desk: MemoryDesk,
     file: &[u8],
-) -> Result<(TableBooks<MemStore>, String), Fail> {
-    answers_to(alloc, &mut books, file)?;
-    rows_of(alloc, books)
+) -> Result<(MemoryDesk, String), Fail> {
+    desk.answers_to(alloc, file)?;
+    desk.rows(alloc)
 }
 
 /// The way of an import: the rows before it, after its first note, and after both.
 fn import_path(alloc: Global) -> Result<Path, Fail> {
     let course = Course::after(alloc, CHECKED_IN)?;
     let mut path = course.path(alloc)?;
-    let (books, first) = imported(alloc, course.books, FIRST_ENTRY)?;
-    let (_books, both) = imported(alloc, books, TWICE.file)?;
+    let (desk, first) = after_import(alloc, course.desk, FIRST_ENTRY)?;
+    let (_desk, both) = after_import(alloc, desk, TWICE.file)?;
     path.states.push(first)?;
     path.states.push(both)?;
     Ok(path)

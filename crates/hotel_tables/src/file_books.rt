@@ -4,12 +4,12 @@ ghost use Rattle.std.specs.Prelude.{◌≡◌, refl};
 ghost use Rattle.std.proofs.Common.{ap, ◌∙◌};
 ghost use Rattle.hotel_core.specs.Books.Lookups.{codes_in};
 
+use crate::table_books::TableBooks;
 use hotel_core::{
     BehindRow, Books, ChainRow, Change, CodeRow, HouseRow, NextNumbers, RoomRow, Sink, WalkFault,
     Walks,
 };
 use hotel_nights::{Day, Guest, KindCode, Stay};
-use hotel_tables::TableBooks;
 use keycard_rules::{Card, CardNo, Code, Count, Issued, LockNote, LookFault, PartyNo, RoomNo};
 use sqlite::{File, FileStore};
 
@@ -21,14 +21,14 @@ pub struct FileBooks {
 
 impl FileBooks {
     /// These books.
-    pub fn over(books: TableBooks<FileStore<File>>) -> FileBooks
+    pub(crate) fn over(books: TableBooks<FileStore<File>>) -> FileBooks
         ensures { result.books ≡ books }
     {
         FileBooks { books }
     }
 
     /// The books over the connection.
-    pub fn into_tables(self) -> TableBooks<FileStore<File>>
+    pub(crate) fn into_tables(self) -> TableBooks<FileStore<File>>
         ensures { result ≡ self.books }
     {
         self.books

@@ -1,0 +1,39 @@
+//! Desks over tables in memory, as a type without parameters.
+use crate::rooms_now::answers_to;
+use crate::stored_rows::{new_tables, rows_of};
+use hotel_core::{Command, Reply, step};
+use hotel_tables::TableBooks;
+use keycard_rules::ListedWords;
+use sqlite::MemStore;
+use std::alloc::Global;
+use std::test::Fail;
+
+/// A desk over tables in memory.
+#[derive(Drop)]
+pub(crate) struct MemoryDesk {
+    books: TableBooks<MemStore>,
+}
+
+impl MemoryDesk {
+    /// A new desk.
+    pub fn new(alloc: Global) -> Result<MemoryDesk, Fail> {
+        let books = new_tables(alloc)?;
+        Ok(MemoryDesk { books })
+    }
+
+    /// The reply to a command.
+    pub fn step(&mut self, source: &mut ListedWords, command: &Command) -> Reply {
+        step(&mut self.books, source, command)
+    }
+
+    /// The texts of the answers to an audit file's lines.
+    pub fn answers_to(&mut self, alloc: Global, file: &[u8]) -> Result<Vec<u8>, Fail> {
+        answers_to(alloc, &mut self.books, file)
+    }
+
+    /// The rows as a text; the desk is closed for it, and opened again.
+    pub fn rows(self, alloc: Global) -> Result<(MemoryDesk, String), Fail> {
+        let (books, text) = rows_of(alloc, self.books)?;
+        Ok((MemoryDesk { books }, text))
+    }
+}
