@@ -18,8 +18,9 @@ TESTS = pathlib.Path(__file__).resolve().parent.parent / "crates/hotel_desk/out/
 
 
 def tests_of(program, word):
-    listed = subprocess.run([program, "--list"], stdout=subprocess.PIPE, check=True).stdout.decode().split()
-    return [name for name in listed if word in name]
+    listed = subprocess.run([program, "--list"], stdout=subprocess.PIPE, check=True).stdout.decode().splitlines()
+    names = [line.removesuffix(": test") for line in listed]
+    return [name for name in names if word in name]
 
 
 def tried(program, test, folder):
@@ -31,10 +32,11 @@ def tried(program, test, folder):
         told.unlink(missing_ok=True)
         env = dict(os.environ, LD_PRELOAD=str(folder / "refuse.so"), REFUSE_AT=str(at), REFUSED=str(told))
         child = subprocess.run([program, test], env=env, stdout=subprocess.PIPE, stderr=subprocess.STDOUT, timeout=60)
+        said = child.stdout.decode(errors="replace").strip()
         if child.returncode == 0:
             passed += 1
-        elif child.returncode != 1:
-            bad.append(f"allocation {at}: status {child.returncode}: {child.stdout.decode(errors='replace').strip()}")
+        elif not said.endswith("its result gives status 1"):
+            bad.append(f"allocation {at}: status {child.returncode}: {said}")
         if not told.exists():
             return at - 1, passed - 1, bad
 

@@ -91,3 +91,6 @@ impl Surroundings for Host {
         }
     }
 }
+
+#[cfg(test)]
+mod tests;
