@@ -3,7 +3,7 @@
 
 usage: tables_speed.py [PROGRAM [STAYS]]      (the built hotel_desk and 300,000, where they aren't given)
 
-Each time is the least of five (over the large desk of two) that take turns, and that of a script less that of the same script without the lines of which it tells.
+Each time is the least of five runs that take turns (of two over the large desk): that of a script, less that of the same script without the lines in question.
 Beside it stands the processor's own time, which says more on a machine that has other work.
 - Changes: 200 bookings and 200 check-ins over a file with 300 rooms. Beside them the statements of hotel_tables' texts.rt by Python's sqlite3 over
   a copy of the file, with the same journal (WAL), `synchronous` (FULL) and foreign keys, one transaction each.

@@ -32,6 +32,7 @@ pub trait Books: Issued {
     fn kind(&mut self, kind: &KindCode) -> Result<bool, LookFault>
         ensures { LooksUp Self.Issued false (λ a. a) (has_kind (rows self.old) kind.now) self.old self.new result };
 
+    /// A room's row.
     fn room(&mut self, room: RoomNo) -> Result<Option<RoomRow>, LookFault>
         ensures { LooksUp Self.Issued false (λ a. a) (room_at (rows self.old) room) self.old self.new result };
 
@@ -64,6 +65,7 @@ pub trait Books: Issued {
     fn copy_guest(&mut self, guest: &Guest) -> Result<Guest, LookFault>
         ensures { LooksUp Self.Issued true (λ a. a) guest.now self.old self.new result };
 
+    /// A card, by its number.
     fn card(&mut self, number: CardNo) -> Result<Option<Card>, LookFault>
         ensures { LooksUp Self.Issued false (λ a. a) (card_at (rows self.old) number) self.old self.new result };
 
@@ -83,6 +85,7 @@ pub trait Books: Issued {
     fn note(&mut self, room: RoomNo, count: Count) -> Result<Option<LockNote>, LookFault>
         ensures { LooksUp Self.Issued false (λ a. a) (note_at (rows self.old) room count) self.old self.new result };
 
+    /// How many rooms a kind has; 0 where it isn't there.
     fn rooms_of_kind(&mut self, kind: &KindCode) -> Result<u32, LookFault>
         ensures { LooksUp Self.Issued false (λ a. a) (rooms_of_kind (rows self.old) kind.now) self.old self.new result };
 

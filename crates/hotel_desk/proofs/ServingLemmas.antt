@@ -54,6 +54,16 @@ request_came C a b s s' before known old new same x y (Err Closed) went idle cle
 request_came C a b s s' before known old new same x y (Err Read) went idle clean = idle went.0
 request_came C a b s s' before known old new same x y (Err Memory) went idle clean = idle went.0
 
+-- A request was served: where it wasn't begun, books and source are as they were.
+pub request_served : {B R : Type 0} (rows : B → Rows) (stream : R → Stream) (C : Type 0) (old new : B) (source later : R) (before : Bool → List ℕ) (known text text' : Option (List ℕ)) (x y : LookFault → ℕ) (result : Result Served ServeFault)
+    → Serves known text text' ((new ≡ old) × (later ≡ source))
+    (λ wanted awaited end. C → Leads (rows old) (Answered (Comes wanted) (stream source) (stream later) (before awaited) text text' x y end) (rows new)) result
+    → C → Leads (rows old) (ServesAll (Some result ∷ []) (stream source) (stream later)) (rows new)
+request_served rows stream C old new source later before known text text' x y result went clean =
+    one_served (rows old) (rows new) (stream source) (stream later) (Some result)
+    (request_came C (rows old) (rows new) (stream source) (stream later) before known text text' ((new ≡ old) × (later ≡ source)) x y result went
+    (λ same. idle_came rows stream old new source later same.0 same.1) clean)
+
 -- connections and then others
 all_came : (first more : List ConnectionEnd) (h mid h' : History) (s t s' : Stream) → AllCame first h s mid t → AllCame more mid t h' s' → AllCame (first ++ more) h s h' s'
 all_came [] more h mid h' s t s' came next = subst (λ (x : History). AllCame more x s h' s') came.0 (subst (λ (x : Stream). AllCame more mid x h' s') came.1 next)

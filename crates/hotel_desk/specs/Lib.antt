@@ -9,6 +9,7 @@ pub mod ScriptRun
 pub mod Program
 pub mod Statuses
 pub mod Faults
+pub mod Database
 pub mod ListRuns
 pub mod AuditRuns
 pub mod Scenes

@@ -1,14 +1,15 @@
 //! The books of a database file, with the program's faults.
 
-ghost use Rattle.std.specs.Prelude.{IfErr};
-ghost use Rattle.hotel_desk.specs.Faults.{IsOfFiles};
+ghost use Rattle.std.specs.Prelude.{◌≡◌, IfErr};
+ghost use Rattle.hotel_desk.specs.{Database.desk_fault, Faults.IsOfFiles};
 
 use crate::faults::Fault;
 use hotel_tables::{FileBooks, FileFault, OpenFault};
 
 /// The program's fault of a file that gave no books.
 fn desk_fault(fault: FileFault) -> Fault
-    ensures { IsOfFiles result }
+    ensures named { result ≡ desk_fault fault }
+    ensures kind { IsOfFiles result }
 {
     match fault {
         FileFault::File => Fault::File,

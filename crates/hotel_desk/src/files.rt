@@ -13,7 +13,7 @@ use std::io::Read;
 /// How many bytes a seed has.
 pub const SEED_BYTES: usize = 32;
 
-/// The most bytes that are wanted of an audit file: one more than it may have, so that it is known to have too many.
+/// The most bytes that an audit file may have. It is read until more came, so that it is known to have too many.
 pub const AUDIT_BYTES: usize = 262_144;
 
 /// Reads all the bytes that the reader has; or, where it has more than `most`, more than `most` of them.

@@ -81,7 +81,8 @@ impl Surroundings for Host {
     }
 
     fn close_books(&self, books: FileBooks) {
-        close_file(books);
+        // A close that failed loses nothing: the log keeps what it did not copy, and the next opening finds it there.
+        let _ = close_file(books);
     }
 
     fn listen(&mut self, port: u16) -> Result<TcpListener, Fault> {

@@ -217,8 +217,8 @@ fn words_fault(why: &io::Error) -> Fault
 }
 
 /// The program, whose exit status it answers. `words` are those after its name, or why one of them could not be read. Without words it
-/// answers the script that the reader has, over empty books in memory, with codes from a seed of 32 zero bytes. A fault is told to
-/// `faults`; where that goes wrong, nobody hears of it.
+/// answers the script that the reader has, over empty books in memory, with codes from a seed of 32 zero bytes. With words it carries
+/// out what they ask for, over the surroundings `around`. A fault is told to `faults`; where that goes wrong, nobody hears of it.
 pub fn run_program<I: Read, W: Write, F: FaultSink, E: Surroundings>(
     alloc: Global,
     words: io::Result<Vec<String>>,

@@ -3,6 +3,7 @@
 
 mod commands_alone;
 mod refused_memory;
+pub mod reopened_file;
 pub mod scenarios;
 
 use crate::asks::read_line;

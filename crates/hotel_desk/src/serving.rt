@@ -12,7 +12,7 @@ ghost use Rattle.hotel_desk.specs.Serving.{ConnectionEnd, ServesAll, connection_
 use crate::faults::{Fault, FaultSink};
 use crate::statuses::DONE;
 use hotel_core::Walks;
-use hotel_http::{ServeFault, Served, serve_one};
+use hotel_http::{Routes, ServeFault, Served, make_routes, serve_by, serve_one};
 use hotel_lists::IoCalls;
 use rand_core::Rng;
 use std::alloc::Global;
@@ -23,8 +23,8 @@ use std::time::Duration;
 /// How many seconds a read or a write of a connection may take.
 const PATIENCE: u64 = 10;
 
-/// Gives up a connection whose peer neither sends nor takes bytes.
-fn is_patient(stream: &TcpStream) -> bool {
+/// Sets how long a read and a write of the connection may take: whether the system took both limits.
+fn has_limits(stream: &TcpStream) -> bool {
     let limit = Some(Duration::from_secs(PATIENCE));
     stream.set_read_timeout(limit).is_ok() && stream.set_write_timeout(limit).is_ok()
 }
@@ -42,9 +42,11 @@ fn serve_end(end: Result<Served, ServeFault>) -> Result<(), Fault>
     }
 }
 
-/// Answers the request of a connection.
+/// Answers the request of a connection, by the table of routes that was made for all connections. Where it wasn't made, the request
+/// makes its own.
 fn serve_stream<I: Read, W: Write, B: Walks, R: Rng>(
     alloc: Global,
+    routes: Option<&Routes>,
     reader: &mut I,
     writer: &mut W,
     books: &mut B,
@@ -55,13 +57,23 @@ fn serve_stream<I: Read, W: Write, B: Walks, R: Rng>(
     ensures was_clean { B.is_clean books.new → B.is_clean books.old }
     ensures counted { NoFewer (B.failures books.old) (B.failures books.new) }
 {
-    let end = serve_one(alloc, reader, writer, books, source);
-    serve_end(end)
+    match routes {
+        Some(routes) => {
+            let mut calls = IoCalls::none();
+            let end = serve_by(alloc, routes, reader, writer, books, source, &mut calls);
+            serve_end(end)
+        }
+        None => {
+            let end = serve_one(alloc, reader, writer, books, source);
+            serve_end(end)
+        }
+    }
 }
 
 /// Takes a connection and answers its request.
 fn serve_connection<B: Walks, R: Rng>(
     alloc: Global,
+    routes: Option<&Routes>,
     listener: &TcpListener,
     books: &mut B,
     source: &mut R,
@@ -74,15 +86,16 @@ fn serve_connection<B: Walks, R: Rng>(
     let Ok((stream, _)) = listener.accept() else {
         return Err(Fault::Closed);
     };
-    if !is_patient(&stream) {
+    if !has_limits(&stream) {
         return Err(Fault::Closed);
     }
-    serve_stream(alloc, &mut &stream, &mut &stream, books, source)
+    serve_stream(alloc, routes, &mut &stream, &mut &stream, books, source)
 }
 
 /// Takes a connection, answers its request, and tells the fault that came instead.
 fn serve_and_tell<B: Walks, R: Rng, F: FaultSink>(
     alloc: Global,
+    routes: Option<&Routes>,
     listener: &TcpListener,
     books: &mut B,
     source: &mut R,
@@ -95,14 +108,15 @@ fn serve_and_tell<B: Walks, R: Rng, F: FaultSink>(
     ensures counted { NoFewer (B.failures books.old) (B.failures books.new) }
     ensures calls { NoneForgotten calls.old calls.new }
 {
-    if let Err(fault) = serve_connection(alloc, listener, books, source) {
+    if let Err(fault) = serve_connection(alloc, routes, listener, books, source) {
         faults.tell(&fault, calls);
     }
 }
 
 /// Takes so many connections, one after the other, and answers the request of each. A connection that
 /// fails is told as a fault, and the next one is taken. A peer that sends or takes nothing for ten
-/// seconds is given up. It answers 0.
+/// seconds is given up. The table of routes is made once, before the first connection; where memory for
+/// it was wanting, each request makes its own. It answers 0.
 pub fn serve_connections<B: Walks, R: Rng, F: FaultSink>(
     alloc: Global,
     listener: &TcpListener,
@@ -117,9 +131,11 @@ pub fn serve_connections<B: Walks, R: Rng, F: FaultSink>(
     ensures was_clean { B.is_clean books.new → B.is_clean books.old }
     ensures counted { NoFewer (B.failures books.old) (B.failures books.new) }
 {
+    let made = make_routes(alloc).ok();
+    let routes = made.as_ref();
     let mut calls = IoCalls::none();
     for _ in 0..count {
-        serve_and_tell(alloc, listener, books, source, faults, &mut calls);
+        serve_and_tell(alloc, routes, listener, books, source, faults, &mut calls);
     }
     DONE
 }

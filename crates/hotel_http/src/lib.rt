@@ -16,4 +16,5 @@ mod serve;
 mod status;
 mod tasks;
 
-pub use serve::{ServeFault, Served, serve_one};
+pub use routes::{Routes, make_routes};
+pub use serve::{ServeFault, Served, serve_by, serve_one};

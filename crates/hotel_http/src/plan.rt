@@ -2,13 +2,12 @@
 
 ghost use Rattle.std.specs.Prelude.{◌≡◌, length, map, All};
 ghost use Rattle.httparse.specs.Spans.{IsHeaderWithin, header_bytes};
-ghost use Rattle.hotel_http.specs.{Routes.hotel_routes, Plan.path_of, Plan.method_name, Plan.planned, Plan.routed, Plan.allowed, Plan.size_read, Plan.is_awaited};
+ghost use Rattle.hotel_http.specs.{Plan.path_of, Plan.method_name, Plan.planned, Plan.routed, Plan.allowed, Plan.size_read, Plan.is_awaited};
 
 use crate::fields::{expects_continue, read_framing};
 use crate::rejection::{Method, Rejection};
-use crate::routes::{Target, find_target, method_of};
+use crate::routes::{Routes, Target, find_target, method_of};
 use httparse::spans::HeaderSpan;
-use matchit::Router;
 
 /// What the head of a request asks for.
 #[derive(Clone, Copy, Debug)]
@@ -31,14 +30,13 @@ pub fn path_part(target: &str) -> &str
 }
 
 /// What the path asks for, where it begins with a slash and has a route.
-fn find_route(router: &Router<Target>, path: &str) -> Result<Target, Rejection>
-    requires { router.now ≡ hotel_routes }
+fn find_route(routes: &Routes, path: &str) -> Result<Target, Rejection>
     ensures { result ≡ routed path.now }
 {
     if !path.as_bytes().starts_with(b"/") {
         return Err(Rejection::BadRequest);
     }
-    match find_target(router, path) {
+    match find_target(routes, path) {
         Some(target) => Ok(target),
         None => Err(Rejection::NotFound),
     }
@@ -85,19 +83,18 @@ fn is_awaited(minor: u8, size: usize, bytes: &[u8], headers: &[HeaderSpan]) -> b
 /// version of HTTP/1.
 #[tactic(auto, unfolding(crate::specs::Plan::planned))]
 pub fn make_plan(
-    router: &Router<Target>,
+    routes: &Routes,
     minor: u8,
     method: &[u8],
     target: &str,
     bytes: &[u8],
     headers: &[HeaderSpan],
 ) -> Result<Plan, Rejection>
-    requires routes { router.now ≡ hotel_routes }
-    requires within { All (IsHeaderWithin (length bytes.now)) headers.now }
+    requires { All (IsHeaderWithin (length bytes.now)) headers.now }
     ensures { result ≡ planned minor method.now target.now (map (header_bytes bytes.now) headers.now) }
 {
     let size = read_framing(bytes, headers, minor)?;
-    let found = find_route(router, path_part(target))?;
+    let found = find_route(routes, path_part(target))?;
     let target = allow(method, found)?;
     let size = size_read(method_of(target), size);
     let awaited = is_awaited(minor, size, bytes, headers);

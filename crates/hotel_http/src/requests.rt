@@ -5,18 +5,16 @@ ghost use Rattle.std.specs.Io.KnownBytes.{Appends, Keeps};
 ghost use Rattle.httparse.specs.{Grammar.RequestHead, Spans.IsRequestWithin, Spans.IsRequestAt, Spans.span_bytes};
 ghost use Rattle.hotel_lists.specs.Calls.{NoneForgotten};
 ghost use Rattle.hotel_http.specs.{Plan.plan_in, Request.fault_of, Request.IsMeant, Request.EndsBody, Request.wanted_of, Request.EndsHead, Request.EndsRequest};
-ghost use Rattle.hotel_http.specs.Routes.{hotel_routes};
 ghost use Rattle.hotel_http.specs.declared.requests.RequestFault.TheVariants.{Write, Read, Memory};
 
 use crate::body::{read_body, write_interim};
 use crate::head::{Judged, MOST_FIELDS, head_part, read_head};
 use crate::plan::{Plan, make_plan, path_part};
 use crate::rejection::Rejection;
-use crate::routes::Target;
+use crate::routes::Routes;
 use crate::tasks::{Task, read_task};
 use hotel_lists::{IoCalls, ReadFault, WriteFailed};
 use httparse::spans::{EMPTY_HEADER_SPAN, HeaderSpan, RequestSpans};
-use matchit::Router;
 use std::alloc::{AllocError, Global};
 use std::io::{Read, Write};
 
@@ -74,19 +72,18 @@ fn target_text<'b>(front: &'b [u8], spans: &RequestSpans) -> &'b str
 
 /// What a head asks for, or the first rejection.
 fn plan_head(
-    router: &Router<Target>,
+    routes: &Routes,
     front: &[u8],
     headers: &[HeaderSpan],
     spans: &RequestSpans,
 ) -> Result<Plan, Rejection>
-    requires routes { router.now ≡ hotel_routes }
-    requires within { IsRequestWithin front.now headers.now spans.now }
+    requires { IsRequestWithin front.now headers.now spans.now }
     ensures { (head : RequestHead) → IsRequestAt front.now headers.now spans.now head → result ≡ plan_in head }
 {
     let method = spans.method.of(front);
     let target = target_text(front, spans);
     let fields = &headers[..spans.headers];
-    make_plan(router, spans.version, method, target, front, fields)
+    make_plan(routes, spans.version, method, target, front, fields)
 }
 
 /// What a plan asks for with the body that was read, which may be too short.
@@ -136,7 +133,7 @@ fn behind(bytes: &[u8], len: usize) -> &[u8]
 /// Reads what a head and the bytes behind it ask for. The bytes begin with the head.
 fn read_behind_head<R: Read, W: Write>(
     alloc: Global,
-    router: &Router<Target>,
+    routes: &Routes,
     reader: &mut R,
     writer: &mut W,
     bytes: &[u8],
@@ -144,8 +141,7 @@ fn read_behind_head<R: Read, W: Write>(
     spans: &RequestSpans,
     calls: &mut IoCalls,
 ) -> Result<Result<Request, Rejection>, RequestFault>
-    requires routes { router.now ≡ hotel_routes }
-    requires within { IsRequestWithin (take 16384 bytes.now) headers.now spans.now }
+    requires { IsRequestWithin (take 16384 bytes.now) headers.now spans.now }
     ensures ends { (head : RequestHead) → IsRequestAt (take 16384 bytes.now) headers.now spans.now head
         → EndsHead head (λ left. drop spans.now.len (bytes.now ++ left)) (R.remaining reader.old) (W.contents writer.old) (W.contents writer.new) result }
     ensures read_failed { IsErrOf result Read → calls.new.read_failed ≡ true }
@@ -153,7 +149,7 @@ fn read_behind_head<R: Read, W: Write>(
     ensures calls { NoneForgotten calls.old calls.new }
 {
     let front = head_part(bytes);
-    match plan_head(router, front, headers, spans) {
+    match plan_head(routes, front, headers, spans) {
         Err(why) => Ok(Err(why)),
         Ok(plan) => {
             let path = path_part(target_text(front, spans));
@@ -166,12 +162,11 @@ fn read_behind_head<R: Read, W: Write>(
 /// Reads a request, and writes the interim answer where the client awaits it before it sends the body.
 pub fn read_request<R: Read, W: Write>(
     alloc: Global,
-    router: &Router<Target>,
+    routes: &Routes,
     reader: &mut R,
     writer: &mut W,
     calls: &mut IoCalls,
 ) -> Result<Result<Request, Rejection>, RequestFault>
-    requires { router.now ≡ hotel_routes }
     ensures ends { EndsRequest (R.remaining reader.old) (W.contents writer.old) (W.contents writer.new) result }
     ensures read_failed { IsErrOf result Read → calls.new.read_failed ≡ true }
     ensures write_failed { IsErrOf result Write → calls.new.write_failed ≡ true }
@@ -185,7 +180,7 @@ pub fn read_request<R: Read, W: Write>(
         Judged::Malformed => Ok(Err(Rejection::BadRequest)),
         Judged::TooLarge => Ok(Err(Rejection::HeadTooLarge)),
         Judged::Whole(spans) => read_behind_head(
-            alloc, router, reader, writer, &bytes, &headers, &spans, calls,
+            alloc, routes, reader, writer, &bytes, &headers, &spans, calls,
         ),
     }
 }

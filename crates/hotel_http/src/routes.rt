@@ -1,13 +1,14 @@
 //! The routes: which paths there are, and what each asks for.
 
-ghost use Rattle.std.specs.Prelude.{◌≡◌, true, IfOk, IfErr, OnOk};
+ghost use Rattle.std.specs.Prelude.{◌≡◌, true, IfErr, OnOk};
 ghost use Rattle.matchit.specs.declared.error.InsertError.TheVariants.{OutOfMemory};
-ghost use Rattle.hotel_http.specs.Routes.{hotel_routes, texts, is_free, are_free, with_route, with_routes, target_of, method_of};
+ghost use Rattle.hotel_http.specs.Routes.{texts, is_free, are_free, with_route, with_routes, target_of, method_of};
 
 use crate::rejection::Method;
 use hotel_asks::Verb;
 use matchit::{InsertError, Router};
 use std::alloc::Global;
+use std::marker::Model;
 
 /// What a path asks for.
 #[derive(Clone, Copy, Debug, PartialEq, Eq)]
@@ -16,6 +17,23 @@ pub enum Target {
     Asks(Verb),
     /// The import of an audit file.
     Audit,
+}
+
+/// The table of routes. Each is the whole table of the desk, so contracts see nothing of it.
+#[derive(Drop)]
+pub struct Routes {
+    router: Router<Target>,
+}
+
+impl Model for Routes {
+    ghost use Rattle.std.specs.Prelude.{◌≡◌};
+    ghost use Rattle.hotel_http.specs.Routes.{hotel_routes};
+
+    ghost Value = { Unit {0} };
+
+    ghost view = { λ _. tt };
+
+    ghost invariant = { λ r. r.router ≡ hotel_routes };
 }
 
 fn add(router: &mut Router<Target>, route: &str, target: Target) -> Result<(), InsertError>
@@ -36,11 +54,11 @@ fn add_all(router: &mut Router<Target>, routes: &[(&str, Target)]) -> Result<(),
     Ok(())
 }
 
-/// Makes the table of routes. No two of them conflict, so it fails only by want of memory.
+/// Makes the table of routes. No two of them conflict, so it fails only by want of memory. A server makes it once, and serves each
+/// request by it.
 #[tactic(auto, unfolding(crate::specs::Routes::hotel_routes))]
-pub fn make_routes(alloc: Global) -> Result<Router<Target>, InsertError>
-    ensures ok { IfOk result (λ router. router ≡ hotel_routes) }
-    ensures err { IfErr result (λ fault. fault ≡ OutOfMemory) }
+pub fn make_routes(alloc: Global) -> Result<Routes, InsertError>
+    ensures fault { IfErr result (λ fault. fault ≡ OutOfMemory) }
 {
     let mut router = Router::new(alloc);
     add_all(
@@ -73,16 +91,15 @@ pub fn make_routes(alloc: Global) -> Result<Router<Target>, InsertError>
             ("/rooms/{room}/audit", Target::Asks(Verb::AuditOf)),
         ],
     )?;
-    Ok(router)
+    Ok(Routes { router })
 }
 
 /// What a path asks for.
 #[tactic(auto, unfolding(crate::specs::Routes::target_of))]
-pub fn find_target(router: &Router<Target>, path: &str) -> Option<Target>
-    requires { router.now ≡ hotel_routes }
+pub fn find_target(routes: &Routes, path: &str) -> Option<Target>
     ensures { result ≡ target_of path.now }
 {
-    match router.at(path) {
+    match routes.router.at(path) {
         Ok(found) => Some(*found.value),
         Err(_) => None,
     }

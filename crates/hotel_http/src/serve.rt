@@ -8,21 +8,20 @@ ghost use Rattle.hotel_core.specs.{Books.Failures.AreCounted, Model.Leads.Leads}
 ghost use Rattle.hotel_lists.specs.Calls.{NoneForgotten};
 ghost use Rattle.hotel_asks.specs.Listings.{listing_on};
 ghost use Rattle.hotel_asks.specs.declared.asks.Ask.TheVariants as ask;
-ghost use Rattle.hotel_http.specs.{Body.interim_where, Routes.hotel_routes, declared.serve.ServeFault.TheVariants.Read, declared.serve.ServeFault.TheVariants.Write};
+ghost use Rattle.hotel_http.specs.{Body.interim_where, declared.serve.ServeFault.TheVariants.Read, declared.serve.ServeFault.TheVariants.Write};
 ghost use Rattle.hotel_http.specs.Serve.{rejected, replied, is_accepted, taken_by, outcome, AskComes, FileComes, TaskComes, Comes, EndsAs, Answered, ended, IsListText, refusal_of, list_failures, text_in, Serves, IfUnwritten, fault_of};
 
 use crate::answer::{rejection_status, reply_status, write_csv, write_rejection, write_reply};
 use crate::audit_answer::{fault_status, has_taken, write_audit, write_fault};
 use crate::rejection::Rejection;
 use crate::requests::{Request, RequestFault, read_request};
-use crate::routes::{Target, make_routes};
+use crate::routes::{Routes, make_routes};
 use crate::status::Status;
 use crate::tasks::Task;
 use hotel_asks::{Ask, ListAsk, write_list};
 use hotel_audit::{ImportFault, import};
 use hotel_core::{Command, Refusal, Reply, Walks, step};
 use hotel_lists::{IoCalls, ListFault, WriteFailed};
-use matchit::Router;
 use rand_core::Rng;
 use std::alloc::Global;
 use std::io::{Read, Write};
@@ -273,17 +272,17 @@ fn answer_request<W: Write, B: Walks, R: Rng>(
     }
 }
 
-/// Reads one request, carries out what it asks for, and answers, by these routes. Its reads and writes are added to the calls.
-fn serve_by<I: Read, W: Write, B: Walks, R: Rng>(
+/// Reads one request, carries out what it asks for, and answers, as `serve_one` does. The caller made the table of routes, once for
+/// all its requests, and no memory is taken for it here. The reads and writes are added to the calls.
+pub fn serve_by<I: Read, W: Write, B: Walks, R: Rng>(
     alloc: Global,
-    router: &Router<Target>,
+    routes: &Routes,
     reader: &mut I,
     writer: &mut W,
     books: &mut B,
     source: &mut R,
     calls: &mut IoCalls,
 ) -> Result<Served, ServeFault>
-    requires { router.now ≡ hotel_routes }
     ensures serves { Serves (I.remaining reader.old) (W.contents writer.old) (W.contents writer.new) ((books.new ≡ books.old) × (source.new ≡ source.old))
         (λ wanted awaited end. B.is_clean books.new → Leads (B.rows books.old) (Answered (Comes wanted) (R.stream source.old) (R.stream source.new) (interim_where awaited)
         (W.contents writer.old) (W.contents writer.new) (B.failures books.old) (B.failures books.new) end) (B.rows books.new)) result }
@@ -293,13 +292,14 @@ fn serve_by<I: Read, W: Write, B: Walks, R: Rng>(
     ensures write_failed { IfUnwritten result (calls.new.write_failed ≡ true) }
     ensures calls { NoneForgotten calls.old calls.new }
 {
-    match read_request(alloc, router, reader, writer, calls)? {
+    match read_request(alloc, routes, reader, writer, calls)? {
         Ok(request) => Ok(answer_request(alloc, &request, writer, books, source, calls)?),
         Err(why) => Ok(answer_rejection(why, writer, calls)?),
     }
 }
 
-/// Reads one request, carries out what it asks for, and answers.
+/// Makes the table of routes, reads one request, carries out what it asks for, and answers. A server makes the table once, and calls
+/// `serve_by` with it.
 ///
 /// The body is read whole before a command or an import begins. All memory but theirs is taken before it; their answers are written from
 /// buffers of fixed size, and a list's text is made whole before its answer begins. The interrupted reads and writes of the call are
@@ -317,9 +317,9 @@ pub fn serve_one<I: Read, W: Write, B: Walks, R: Rng>(
     ensures was_clean { B.is_clean books.new → B.is_clean books.old }
     ensures counted { NoFewer (B.failures books.old) (B.failures books.new) }
 {
-    let Ok(router) = make_routes(alloc) else {
+    let Ok(routes) = make_routes(alloc) else {
         return Err(ServeFault::Memory);
     };
     let mut calls = IoCalls::none();
-    serve_by(alloc, &router, reader, writer, books, source, &mut calls)
+    serve_by(alloc, &routes, reader, writer, books, source, &mut calls)
 }

@@ -30,3 +30,4 @@ mod SameSchema
 mod MemoryDesk
 mod Reread
 mod Reopened
+mod OfFiles

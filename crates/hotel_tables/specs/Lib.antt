@@ -24,3 +24,4 @@ pub mod Lines
 pub mod Opening
 pub mod SameSchema
 pub mod Reopening
+pub mod Files

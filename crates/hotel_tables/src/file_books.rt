@@ -20,14 +20,14 @@ pub struct FileBooks {
 }
 
 impl FileBooks {
-    /// These books.
+    /// The books of a file, over these tables.
     pub(crate) fn over(books: TableBooks<FileStore<File>>) -> FileBooks
         ensures { result.books ≡ books }
     {
         FileBooks { books }
     }
 
-    /// The books over the connection.
+    /// The tables that these books are over.
     pub(crate) fn into_tables(self) -> TableBooks<FileStore<File>>
         ensures { result ≡ self.books }
     {

@@ -47,7 +47,7 @@ fn read_table<S: Alter, L: Line + Drop>(
 }
 
 /// The rows of two tables.
-pub(crate) fn read_two<S: Alter, A: Line + Drop, B: Line + Drop>(
+fn read_two<S: Alter, A: Line + Drop, B: Line + Drop>(
     alloc: Global,
     conn: &mut Connection<S>,
 ) -> Result<(Vec<A>, Vec<B>), LookFault>

@@ -8,6 +8,7 @@ ghost use Rattle.sqlite.specs.State.{Survives};
 ghost use Rattle.hotel_core.specs.Model.Rows.{no_rows};
 ghost use Rattle.hotel_tables.specs.Schema.{no_schema};
 ghost use Rattle.hotel_tables.specs.Making.{IsEmptyDesk};
+ghost use Rattle.hotel_tables.specs.Opening.{IsOfCall};
 ghost use Rattle.hotel_tables.specs.declared.open_fault.OpenFault.TheVariants.{NotADesk};
 ghost use Rattle.hotel_tables.specs.Books.{IsKept};
 ghost use Rattle.hotel_tables.specs.Tables.{rows_in};
@@ -53,8 +54,8 @@ impl<S: Alter> Model for TableBooks<S> {
     ghost invariant = { λ b. IsTabled (state S.Store b.conn) b.kinds b.nights };
 }
 
-/// Whether the database has no tables, indexes or views.
-fn is_bare<S: Alter>(conn: &Connection<S>) -> bool
+/// Whether the database has no tables, indexes or views: its file is missing or empty, or the making of a desk was cut short.
+pub(crate) fn is_bare<S: Alter>(conn: &Connection<S>) -> bool
     ensures { IsTrue result ↔ ((state S.Store conn.now).now.schema ≡ no_schema) }
 {
     let schema = conn.schema();
@@ -64,13 +65,14 @@ fn is_bare<S: Alter>(conn: &Connection<S>) -> bool
 impl<S: Alter + Drop> TableBooks<S> {
     /// Makes an empty desk of a database that has nothing, in one transaction.
     ///
-    /// On a fault the connection is dropped, and the store holds what it held.
+    /// On a fault the connection is dropped; that the store then holds what it held is in no clause of this call.
     pub fn create(alloc: Global, mut conn: Connection<S>) -> Result<TableBooks<S>, OpenFault>
         requires { (state S.Store conn).in_transaction ≡ false }
         ensures empty { IfOk result (λ b. IsKept (state S.Store b.conn) → rows_in (state S.Store b.conn).now.trees ≡ no_rows) }
         ensures unfailed { IfOk result (λ b. (b.memory ≡ 0) × (b.store ≡ 0)) }
         ensures crash { IfOk result (λ b. Survives (state S.Store conn) (state S.Store b.conn) IsEmptyDesk) }
-        ensures not_bare { result ≡ Err NotADesk → ¬ ((state S.Store conn).now.schema ≡ no_schema) }
+        ensures fault { (state S.Store conn).now.schema ≡ no_schema → IfErr result IsOfCall }
+        ensures taken { ¬ ((state S.Store conn).now.schema ≡ no_schema) → result ≡ Err NotADesk }
     {
         if !is_bare(&conn) {
             return Err(OpenFault::NotADesk);

@@ -6,78 +6,66 @@ use std::alloc::Global;
 use std::test::Fail;
 
 /// 2031-05-01.
-pub(crate) const FIRST_DAY: u16 = 11_443;
+pub const FIRST_DAY: u16 = 11_443;
 
 /// 15:00:00.
-pub(crate) const AFTERNOON: u32 = 54_000;
+pub const AFTERNOON: u32 = 54_000;
 
 /// A desk over books, which are in memory where nothing else is said.
 #[derive(Drop)]
-pub(crate) struct Desk<B = ListBooks> {
+pub struct Desk<B = ListBooks> {
     pub alloc: Global,
     pub books: B,
     pub source: ListedWords,
 }
 
-pub(crate) fn day(number: u16) -> Result<Day, Fail> {
+pub fn day(number: u16) -> Result<Day, Fail> {
     Ok(Day::new(number).ok_or("a day")?)
 }
 
-pub(crate) fn kind() -> Result<KindCode, Fail> {
+pub fn kind() -> Result<KindCode, Fail> {
     Ok(KindCode::read(b"DBL").ok_or("a kind")?)
 }
 
-pub(crate) fn room(number: u32) -> Result<RoomNo, Fail> {
+pub fn room(number: u32) -> Result<RoomNo, Fail> {
     Ok(RoomNo::new(number).ok_or("a room")?)
 }
 
-pub(crate) fn party(number: u32) -> Result<PartyNo, Fail> {
+pub fn party(number: u32) -> Result<PartyNo, Fail> {
     Ok(PartyNo::new(number).ok_or("a party")?)
 }
 
-pub(crate) fn code(value: u64) -> Result<Code, Fail> {
+pub fn code(value: u64) -> Result<Code, Fail> {
     Ok(Code::new(value).ok_or("a code")?)
 }
 
 /// The note of a count at a room, on the first day.
-pub(crate) fn note(number: u32, count: u32, act: Act, second: u32) -> Result<LockNote, Fail> {
+pub fn note(number: u32, count: u32, act: Act, second: u32) -> Result<LockNote, Fail> {
     let count = Count::new(count).ok_or("a count")?;
     Ok(LockNote::new(room(number)?, count, act, FIRST_DAY, second).ok_or("a note")?)
 }
 
-pub(crate) fn link(old: u64, new: u64) -> Result<Link, Fail> {
+pub fn link(old: u64, new: u64) -> Result<Link, Fail> {
     Ok(Link {
         old_code: code(old)?,
         new_code: code(new)?,
     })
 }
 
-pub(crate) fn entered(
-    number: u32,
-    count: u32,
-    card: u32,
-    old: u64,
-    new: u64,
-) -> Result<LockNote, Fail> {
+pub fn entered(number: u32, count: u32, card: u32, old: u64, new: u64) -> Result<LockNote, Fail> {
     let card = CardNo::new(card).ok_or("a card")?;
     let link = link(old, new)?;
     note(number, count, Act::Entered { card, link }, AFTERNOON)
 }
 
-pub(crate) fn left(
-    number: u32,
-    count: u32,
-    card: u32,
-    old: u64,
-    new: u64,
-) -> Result<LockNote, Fail> {
+pub fn left(number: u32, count: u32, card: u32, old: u64, new: u64) -> Result<LockNote, Fail> {
     let card = CardNo::new(card).ok_or("a card")?;
     let link = link(old, new)?;
     note(number, count, Act::Left { card, link }, AFTERNOON + 3_600)
 }
 
 /// Words by which a source gives these codes.
-pub(crate) fn words_of(alloc: Global, codes: &[u64]) -> Result<Vec<u64>, Fail> {
+pub fn words_of(alloc: Global, codes: &[u64]) -> Result<Vec<u64>, Fail> {
     let mut words = Vec::new(alloc);
     for code in codes {
         words.push(code.wrapping_mul(65_536))?;

@@ -175,18 +175,53 @@ fn exchange_is_cut(
     Ok(())
 }
 
-/// The write of each byte of the answer to an audit file fails in turn, and the notes stand; then, of as many bytes, of the same
-/// file again and of a list.
+/// The answer has so many bytes.
+fn has_bytes(
+    rt: &(impl Abort + AllocGlobal),
+    exchange: &Exchange,
+    bytes: usize,
+) -> Result<(), Fail> {
+    assert_eq!(rt; answer_of(rt.alloc(), exchange)?.len(), bytes);
+    Ok(())
+}
+
+/// The write of each byte of the answer to an audit file fails in turn, and the notes stand.
 #[test]
 fn notes_stand_whose_answer_is_cut(rt: HostRuntime) -> Result<(), Fail> {
+    has_bytes(&rt, &TAKEN, 115)?;
     let mut call = 0u32;
-    for before in 0..113 {
+    for before in 0..115 {
         call = call.saturating_add(1);
         let mut desk = Desk::of_one_guest(rt.alloc())?;
         exchange_is_cut(&rt, &mut desk, &TAKEN, before, call, true)?;
-        exchange_is_cut(&rt, &mut desk, &SEEN, before, call, false)?;
-        exchange_is_cut(&rt, &mut desk, &IN_HOUSE, before, call, false)?;
+        exchange_goes(&rt, &mut desk, 4096, &SEEN)?;
         exchange_goes(&rt, &mut desk, 4096, &IN_HOUSE)?;
     }
     Ok(())
+}
+
+/// The write of each byte of an answer fails in turn where nothing is begun: the desk stays as it was.
+fn is_cut_at_each_byte(
+    rt: &(impl Abort + AllocGlobal),
+    desk: &mut Desk,
+    exchange: &Exchange,
+    bytes: usize,
+) -> Result<(), Fail> {
+    has_bytes(rt, exchange, bytes)?;
+    let mut call = 0u32;
+    for before in 0..bytes {
+        call = call.saturating_add(1);
+        exchange_is_cut(rt, desk, exchange, before, call, false)?;
+        exchange_goes(rt, desk, 4096, &IN_HOUSE)?;
+    }
+    Ok(())
+}
+
+/// The same of the answers to that audit file when it comes again, and to a list.
+#[test]
+fn answers_are_cut_where_nothing_is_begun(rt: HostRuntime) -> Result<(), Fail> {
+    let mut desk = Desk::of_one_guest(rt.alloc())?;
+    exchange_goes(&rt, &mut desk, 4096, &TAKEN)?;
+    is_cut_at_each_byte(&rt, &mut desk, &SEEN, 113)?;
+    is_cut_at_each_byte(&rt, &mut desk, &IN_HOUSE, 167)
 }

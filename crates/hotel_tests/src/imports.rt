@@ -1,7 +1,7 @@
 //! The scenarios of imports, over books in memory.
 
 use crate::desks::{Desk, kind};
-use crate::rooms_now::{CUT_LAST_LINE, RoomNow, TWO_NOTES, answers_are, answers_to, room_is};
+use crate::rooms_now::{CUT_LAST_LINE, FIRST_ENTRY, RoomNow, TWO_NOTES, answers_to};
 use hotel_audit::{AuditFault, Cause, ImportFault, LineAnswer, import};
 use hotel_core::ListBooks;
 use keycard_rules::PartyNo;
@@ -25,10 +25,6 @@ const WITH_A_GAP: &[u8] = b"room,count,kind,card,old,new,at
 
 const OTHER_CONTENT: &[u8] = b"room,count,kind,card,old,new,at
 101,3,in,1,0000000000a0,0000000000a1,2031-05-01T15:00:01
-";
-
-pub(crate) const FIRST_ENTRY: &[u8] = b"room,count,kind,card,old,new,at
-101,1,in,1,0000000000a0,0000000000a1,2031-05-01T15:00:00
 ";
 
 pub(crate) const EACH_CAUSE: &[u8] = b"room,count,kind,card,old,new,at
@@ -148,12 +144,37 @@ const LATE_AUDIT: &[Step] = &[Step {
     after: (1, 1, false),
 }];
 
+/// The file's lines are answered so.
+fn answers_are(
+    rt: &(impl Abort + AllocGlobal),
+    books: &mut ListBooks,
+    file: &[u8],
+    answers: &[u8],
+    at: &str,
+) -> Result<(), Fail> {
+    let given = answers_to(rt.alloc(), books, file)?;
+    assert_eq!(rt; given.as_slice(), answers, "{at}");
+    Ok(())
+}
+
+/// The books say this of room 101.
+fn room_is(
+    rt: &(impl Abort + AllocGlobal),
+    books: &mut ListBooks,
+    room: &RoomNow,
+    at: &str,
+) -> Result<(), Fail> {
+    let now = RoomNow::of(rt.alloc(), books)?;
+    assert!(rt; now == *room, "{at}");
+    Ok(())
+}
+
 /// After the file the room is so. A file of which no note is taken changes nothing.
 fn is_after<A: Abort>(rt: &A, room: &RoomNow, before: &RoomNow, step: &Step) {
     let after = (room.notes.len(), room.lock_place, room.secured);
     assert_eq!(rt; after, step.after, "{}", step.name);
     if room.notes.len() == before.notes.len() {
-        room.assert_same(rt, before, step.name);
+        assert!(rt; room == before, "{}", step.name);
     }
 }
 

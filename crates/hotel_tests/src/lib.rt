@@ -1,8 +1,10 @@
-//! Tests of the crates below the desk, in a crate of their own: so none of those is proved a second time with its tests.
+//! Tests of the crates below the desk that need no tables, in a crate of their own: so none of those is proved a second time
+//! with its tests. `hotel_stored_tests` has those over tables, which take what is public here.
 #![tactic(auto)]
 
 #[cfg(test)]
 mod audit_files;
+pub mod chains;
 #[cfg(test)]
 mod codes;
 #[cfg(test)]
@@ -11,10 +13,7 @@ mod damage;
 mod damaged_files;
 #[cfg(test)]
 mod damaged_requests;
-#[cfg(test)]
-mod damaged_rows;
-#[cfg(test)]
-mod desks;
+pub mod desks;
 #[cfg(test)]
 mod failing_requests;
 #[cfg(test)]
@@ -26,33 +25,17 @@ mod lists;
 #[cfg(test)]
 mod long_lists;
 #[cfg(test)]
-mod memory_desks;
-#[cfg(test)]
-mod new_desk;
-#[cfg(test)]
 mod reads_and_writes;
 #[cfg(test)]
 mod request_limits;
 #[cfg(test)]
 mod requests;
-#[cfg(test)]
-mod rooms_now;
-#[cfg(test)]
-mod stopped_disks;
+pub mod rooms_now;
+pub mod sent_again;
 #[cfg(test)]
 mod stopped_imports;
 #[cfg(test)]
-mod stopped_scripts;
-#[cfg(test)]
-mod stopped_stores;
-#[cfg(test)]
 mod stopping;
-#[cfg(test)]
-mod store_stops;
-#[cfg(test)]
-mod stored_rows;
-#[cfg(test)]
-mod tables;
 #[cfg(test)]
 mod values;
 #[cfg(test)]

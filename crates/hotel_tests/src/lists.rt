@@ -1,6 +1,7 @@
 //! The lists of the scenarios, over books in memory.
+use crate::chains::{TWO_CODES, chain_reads, walks_end};
 use crate::desks::{Desk, FIRST_DAY, day, room};
-use hotel_core::{ChainRow, Command, Sink, Stop, WalkFault, Walks};
+use hotel_core::Command;
 use hotel_lists::{FakeWriter, ListFault, arrivals, audit_of, chain_of, in_house, left_behind};
 use hotel_nights::{Day, KindCode};
 use keycard_rules::RoomNo;
@@ -23,26 +24,11 @@ fn left_behind_desk(alloc: Global) -> Result<Desk, Fail> {
     Ok(desk)
 }
 
-/// The list of room 101's codes reads so.
-pub(crate) fn chain_reads<B: Walks>(
-    rt: &(impl Abort + AllocGlobal),
-    books: &mut B,
-    text: &[u8],
-) -> Result<(), Fail> {
-    let room = room(101)?;
-    let mut writer = FakeWriter::new(rt.alloc());
-    chain_of(rt.alloc(), books, room, &mut writer)?;
-    assert_eq!(rt; writer.written(), text);
-    Ok(())
-}
-
-/// Of scenario `two-entries`, the codes of room 101.
-pub(crate) const TWO_CODES: &[u8] =
-    b"place,code,state\n0,0000000000a0,passed\n1,0000000000a1,held\n";
-
 #[test]
 fn two_entries_chain(rt: HostRuntime) -> Result<(), Fail> {
-    chain_reads(&rt, &mut two_entries(rt.alloc())?.books, TWO_CODES)
+    let mut desk = two_entries(rt.alloc())?;
+    assert!(rt; chain_reads(rt.alloc(), &mut desk.books, TWO_CODES)?);
+    Ok(())
 }
 
 /// The list of the rooms in house reads so.
@@ -145,60 +131,11 @@ fn no_room_before_anything_is_written(rt: HostRuntime) -> Result<(), Fail> {
     no_room(&rt, &mut two_entries(rt.alloc())?)
 }
 
-/// Takes so many rows, and stops at the next one.
-#[derive(Drop)]
-struct Taker {
-    places: Vec<u32>,
-    most: usize,
-}
-
-impl Sink<ChainRow> for Taker {
-    ghost after = { λ _ _ _. Unit {0} };
-
-    ghost after_stop = { λ _ _ _. Unit {0} };
-
-    fn take(&mut self, row: &ChainRow) -> Result<(), Stop> {
-        if self.places.len() >= self.most {
-            return Err(Stop);
-        }
-        match self.places.push(row.place) {
-            Ok(()) => Ok(()),
-            Err(_) => Err(Stop),
-        }
-    }
-}
-
-/// A walk over the codes of room 101, of which its sink takes so many, ends so.
-fn walk_ends<B: Walks>(
-    rt: &(impl Abort + AllocGlobal),
-    books: &mut B,
-    most: usize,
-    end: Result<(), WalkFault>,
-    places: &[u32],
-) -> Result<(), Fail> {
-    let room = room(101)?;
-    let mut taker = Taker {
-        places: Vec::new(rt.alloc()),
-        most,
-    };
-    let ended = books.walk_chain(room, &mut taker);
-    assert_eq!(rt; ended, end);
-    assert_eq!(rt; taker.places.as_slice(), places);
-    Ok(())
-}
-
-/// Walks over three codes, by a sink that takes two and by one that takes three.
-pub(crate) fn walks_end<B: Walks>(
-    rt: &(impl Abort + AllocGlobal),
-    books: &mut B,
-) -> Result<(), Fail> {
-    walk_ends(rt, books, 2, Err(WalkFault::Stopped), &[0, 1])?;
-    walk_ends(rt, books, 3, Ok(()), &[0, 1, 2])
-}
-
 #[test]
 fn a_walk_ends_where_its_sink_stops(rt: HostRuntime) -> Result<(), Fail> {
-    walks_end(&rt, &mut left_behind_desk(rt.alloc())?.books)
+    let mut desk = left_behind_desk(rt.alloc())?;
+    assert!(rt; walks_end(rt.alloc(), &mut desk.books)?);
+    Ok(())
 }
 
 /// Of scenario `desk-day`, the second day's arrivals.

@@ -38,7 +38,7 @@ fn head_of_bytes(alloc: Global, bytes: usize, end: &[u8]) -> Result<Vec<u8>, Fai
     Ok(head)
 }
 
-/// The head is answered so, read at once and byte by byte, and begins nothing.
+/// The head is answered so, read in pieces of 4,096 bytes and byte by byte, and begins nothing.
 fn head_is_answered(
     rt: &(impl Abort + AllocGlobal),
     head: &[u8],

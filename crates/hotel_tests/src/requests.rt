@@ -39,9 +39,9 @@ pub(crate) struct Exchange {
     pub body: &'static str,
 }
 
-pub(crate) const DONE: &str = "200 OK";
+const DONE: &str = "200 OK";
 
-pub(crate) const REFUSED: &str = "409 Conflict";
+const REFUSED: &str = "409 Conflict";
 
 /// The commands that the scenarios begin with.
 pub(crate) const OPENING: &[Exchange] = &[
@@ -72,7 +72,7 @@ pub(crate) const OPENING: &[Exchange] = &[
 ];
 
 /// Two notes of the room, as an audit file and as the list of its notes.
-pub(crate) const NOTES: &str = "room,count,kind,card,old,new,at\n\
+const NOTES: &str = "room,count,kind,card,old,new,at\n\
 101,1,in,1,0000000000a0,0000000000a1,2031-05-01T15:00:00\n\
 101,2,out,1,0000000000a0,0000000000a1,2031-05-01T16:00:00\n";
 
@@ -401,7 +401,7 @@ fn scenes_go<R: Abort + AllocGlobal>(rt: &R, desk: &mut Desk, piece: usize)
 }
 
 /// No scene began the next day.
-pub(crate) const NEXT_DAY: Exchange = Exchange {
+const NEXT_DAY: Exchange = Exchange {
     request: "POST /next-day",
     form: "",
     status: DONE,

@@ -4,22 +4,26 @@ use hotel_audit::{LineAnswer, answer_text, import};
 use hotel_core::Books;
 use keycard_rules::{CardNo, Code, Count, LockNote, PartyNo, RoomNo};
 use std::alloc::Global;
-use std::process::Abort;
 use std::test::Fail;
 
 /// The header and two notes: card 1 came in, and went out an hour later.
-pub(crate) const TWO_NOTES: &[u8] = b"room,count,kind,card,old,new,at
+pub const TWO_NOTES: &[u8] = b"room,count,kind,card,old,new,at
 101,1,in,1,0000000000a0,0000000000a1,2031-05-01T15:00:00
 101,2,out,1,0000000000a0,0000000000a1,2031-05-01 16:00:00
 ";
 
+/// The header and the first of those notes.
+pub const FIRST_ENTRY: &[u8] = b"room,count,kind,card,old,new,at
+101,1,in,1,0000000000a0,0000000000a1,2031-05-01T15:00:00
+";
+
 /// A byte order mark, CRLF, quotes, and a last line that is cut.
-pub(crate) const CUT_LAST_LINE: &[u8] =
+pub const CUT_LAST_LINE: &[u8] =
     b"\xef\xbb\xbfroom,count,kind,card,old,new,at\r\n\"101\",1,in,1,\"A0\",0000000000A1,2031-05-01T15:00:00\r\n101,2,out";
 
 /// What the books say of room 101.
 #[derive(Drop, PartialEq)]
-pub(crate) struct RoomNow {
+pub struct RoomNow {
     pub lock_place: u32,
     pub secured: bool,
     pub party: Option<PartyNo>,
@@ -58,13 +62,14 @@ fn notes_of<B: Books>(
 }
 
 /// How many notes of room 101 the books have.
-pub(crate) fn note_count<B: Books>(books: &mut B) -> Result<u32, Fail> {
+pub fn note_count<B: Books>(books: &mut B) -> Result<u32, Fail> {
     let room = room(101)?;
     let row = books.room(room)?.ok_or("no row")?;
     Ok(row.notes)
 }
 
 impl RoomNow {
+    /// What these books say.
     pub fn of<B: Books>(alloc: Global, books: &mut B) -> Result<RoomNow, Fail> {
         let room = room(101)?;
         let row = books.room(room)?.ok_or("no row")?;
@@ -80,15 +85,10 @@ impl RoomNow {
             notes,
         })
     }
-
-    /// Both say the same.
-    pub fn assert_same<A: Abort>(&self, rt: &A, other: &RoomNow, at: &str) {
-        assert!(rt; self == other, "{at}");
-    }
 }
 
 /// The texts of answers, numbered from 1.
-pub(crate) fn texts_of(alloc: Global, answers: &[LineAnswer]) -> Result<Vec<u8>, Fail> {
+fn texts_of(alloc: Global, answers: &[LineAnswer]) -> Result<Vec<u8>, Fail> {
     let mut texts = Vec::new(alloc);
     let mut number = 0usize;
     for answer in answers {
@@ -99,38 +99,9 @@ pub(crate) fn texts_of(alloc: Global, answers: &[LineAnswer]) -> Result<Vec<u8>,
 }
 
 /// The texts of the answers to a file's lines.
-pub(crate) fn answers_to<B: Books>(
-    alloc: Global,
-    books: &mut B,
-    bytes: &[u8],
-) -> Result<Vec<u8>, Fail> {
+pub fn answers_to<B: Books>(alloc: Global, books: &mut B, bytes: &[u8]) -> Result<Vec<u8>, Fail> {
     let Ok(answers) = import(alloc, books, bytes) else {
         return Err(Fail::from("stopped"));
     };
     texts_of(alloc, answers.as_slice())
-}
-
-/// The file's lines are answered so.
-pub(crate) fn answers_are<B: Books>(
-    rt: &(impl Abort + AllocGlobal),
-    books: &mut B,
-    file: &[u8],
-    answers: &[u8],
-    at: &str,
-) -> Result<(), Fail> {
-    let given = answers_to(rt.alloc(), books, file)?;
-    assert_eq!(rt; given.as_slice(), answers, "{at}");
-    Ok(())
-}
-
-/// The books say this of room 101.
-pub(crate) fn room_is<B: Books>(
-    rt: &(impl Abort + AllocGlobal),
-    books: &mut B,
-    room: &RoomNow,
-    at: &str,
-) -> Result<(), Fail> {
-    let now = RoomNow::of(rt.alloc(), books)?;
-    now.assert_same(rt, room, at);
-    Ok(())
 }

@@ -1,51 +1,12 @@
 //! Imports that are stopped, by a growth that is refused or by a call of the books that fails, and the same file sent again.
 
 use crate::desks::Desk;
-use crate::rooms_now::{
-    CUT_LAST_LINE, RoomNow, TWO_NOTES, answers_are, answers_to, note_count, room_is,
-};
+use crate::sent_again::{CUT, Sent, TWICE, comes_again};
 use hotel_audit::{AuditFault, ImportFault, LineAnswer, import};
-use hotel_core::{Books, StoppingBooks};
+use hotel_core::StoppingBooks;
 use keycard_rules::LookFault;
-use std::alloc::Global;
 use std::process::Abort;
 use std::test::Fail;
-
-/// A file of two lines. By how many lines were answered: how many notes the room has then, and what the file is answered
-/// when it comes again.
-#[derive(Clone, Copy)]
-pub(crate) struct Sent {
-    pub file: &'static [u8],
-    notes: &'static [u32],
-    again: &'static [&'static [u8]],
-}
-
-pub(crate) const TWICE: Sent = Sent {
-    file: TWO_NOTES,
-    notes: &[0, 1, 2],
-    again: &[
-        b"1 taken\n2 taken\n",
-        b"1 seen\n2 taken\n",
-        b"1 seen\n2 seen\n",
-    ],
-};
-
-const CUT: Sent = Sent {
-    file: CUT_LAST_LINE,
-    notes: &[0, 1, 1],
-    again: &[
-        b"1 taken\n2 unread FieldCount\n",
-        b"1 seen\n2 unread FieldCount\n",
-        b"1 seen\n2 unread FieldCount\n",
-    ],
-};
-
-impl Sent {
-    /// After so many answered lines: how many notes the room has, and the answers when the file comes again.
-    fn after(&self, answered: usize) -> Option<(u32, &'static [u8])> {
-        Some((*self.notes.get(answered)?, *self.again.get(answered)?))
-    }
-}
 
 /// How many lines were answered, where an import ended so; by the first of the two a note was taken.
 fn lines_answered<A: Abort>(rt: &A, end: Result<Vec<LineAnswer>, ImportFault>) -> usize {
@@ -63,40 +24,13 @@ fn lines_answered<A: Abort>(rt: &A, end: Result<Vec<LineAnswer>, ImportFault>) -
     }
 }
 
-/// What the books say after the whole file, sent once.
-fn once(alloc: Global, sent: &Sent) -> Result<RoomNow, Fail> {
-    let mut desk = Desk::of_one_guest(alloc)?;
-    answers_to(alloc, &mut desk.books, sent.file)?;
-    RoomNow::of(alloc, &mut desk.books)
-}
-
-/// So many notes of the room stand.
-fn stands<A: Abort, B: Books>(rt: &A, books: &mut B, notes: u32) -> Result<(), Fail> {
-    let stopped = note_count(books)?;
-    assert_eq!(rt; stopped, notes, "the answered lines stand");
-    Ok(())
-}
-
-/// After so many answered lines the file comes again: the answered lines stand, it is answered for the others, and the
-/// tables are those of the whole file.
-pub(crate) fn is_sent_again<B: Books>(
-    rt: &(impl Abort + AllocGlobal),
-    books: &mut B,
-    sent: &Sent,
-    answered: usize,
-) -> Result<(), Fail> {
-    let (notes, again) = sent.after(answered).ok_or("more than two lines")?;
-    stands(rt, books, notes)?;
-    answers_are(rt, books, sent.file, again, "sent again")?;
-    let whole = once(rt.alloc(), sent)?;
-    room_is(rt, books, &whole, "stopped and sent again")
-}
-
 /// Imports the file, and sends it again where it was stopped.
 fn stops_by_a_growth(rt: &(impl Abort + AllocGlobal), sent: &Sent) -> Result<(), Fail> {
     let mut desk = Desk::of_one_guest(rt.alloc())?;
     let answered = lines_answered(rt, import(rt.alloc(), &mut desk.books, sent.file));
-    is_sent_again(rt, &mut desk.books, sent, answered)
+    let again = comes_again(rt.alloc(), &mut desk.books, sent, answered)?;
+    assert!(rt; again, "after {answered} lines");
+    Ok(())
 }
 
 /// Each growth refused in turn: `rt try --test --fail-alloc N`, for N from 1 on. Where the test lacks the memory for its
@@ -170,7 +104,11 @@ fn stops_at_call(
     let books = Desk::of_one_guest(rt.alloc())?.books;
     let mut books = StoppingBooks::new(books, call, cause);
     match stopped_at(rt, &mut books, sent.file, cause, call) {
-        Some(answered) => is_sent_again(rt, &mut books, sent, answered),
+        Some(answered) => {
+            let again = comes_again(rt.alloc(), &mut books, sent, answered)?;
+            assert!(rt; again, "call {call}");
+            Ok(())
+        }
         None => Ok(()),
     }
 }

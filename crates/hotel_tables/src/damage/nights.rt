@@ -64,7 +64,7 @@ fn has_night(stored: &Stored, stay: &StayLine) -> bool
     taken <= rooms_with(&stored.rooms, kind)
 }
 
-/// The same by the counts, where they tell it.
+/// Whether a stay's kind has a room for it on its first night, by the counts; none where they don't tell it.
 fn has_night_by(counts: &Counts, stay: &StayLine) -> Option<bool>
     ensures { (s : Rows) → IsCountedOf s counts.now → IfSome result (λ has. has ≡ has_night s stay.now) }
 {
@@ -89,7 +89,7 @@ fn has_night_by(counts: &Counts, stay: &StayLine) -> Option<bool>
     Some(full.is_none())
 }
 
-/// The same by the counts, or where they don't tell it, or there are none, looked up among all.
+/// The same answer: by the counts where there are any and they tell it, else looked up among all stays.
 fn has_night_of(counts: Option<&Counts>, stored: &Stored, stay: &StayLine) -> bool
     requires { IfSome counts (λ counts. IsCountedOf stored.now counts.now) }
     ensures { result ≡ has_night stored.now stay.now }

@@ -4,8 +4,8 @@ use Rattle.hotel_http.specs.{Head.LiesWithin, Head.IsJudged, Request.EndsHead, d
 use Rattle.hotel_http.proofs.RequestLemmas.{request_ends}
 use Rattle.hotel_http.proofs.requests.read_request.Goals as goal
 
-pub read_behind_head-requires-clause-within : goal.read_behind_head-requires-clause-within
-read_behind_head-requires-clause-within g c =
+pub read_behind_head-requires : goal.read_behind_head-requires
+read_behind_head-requires g c =
     let front = take 16384 c.read_head.new.bytes.items in
     let (within, of) = subst (λ (j : Judged). LiesWithin front c.read_head.new.headers j) c.in-Whole.is c.in_ok-read_head.ensures.within in
     subst (λ (l : List ℕ). IsRequestWithin (take 16384 l) c.read_head.new.headers c.in-Whole.spans) (sym c.deref.ensures.value) within

@@ -1,18 +1,17 @@
 //! Stores and desks on a machine's files, as types without parameters: what stands over them is compared by its name alone.
-use crate::rooms_now::note_count;
 use crate::stopped_disks::{Contents, Run, Watched};
-use crate::stopped_imports::{TWICE, is_sent_again};
 use crate::stopped_scripts::lists_of;
 use crate::stored_rows::{created, opened, rows_of, rows_text};
 use hotel_audit::{ImportFault, LineAnswer, import};
 use hotel_core::{Command, Reply, step};
 use hotel_lists::FakeWriter;
 use hotel_tables::{OpenFault, TableBooks};
+use hotel_tests::rooms_now::note_count;
+use hotel_tests::sent_again::{TWICE, comes_again};
 use keycard_rules::ListedWords;
 use sqlite::{Connection, FileStore, Files, Options};
 use sqlite_disk::{Disk, Memory};
 use std::alloc::Global;
-use std::process::Abort;
 use std::test::Fail;
 
 type Store = FileStore<Watched<Memory>>;
@@ -92,10 +91,10 @@ impl FilesDesk {
         import(alloc, &mut self.books, file)
     }
 
-    /// The two notes are sent again, after those that stood.
-    pub fn is_sent_again(&mut self, rt: &(impl Abort + AllocGlobal)) -> Result<(), Fail> {
+    /// The two notes are sent again, after those that stood: whether they are answered, and stand, as they should.
+    pub fn comes_again(&mut self, alloc: Global) -> Result<bool, Fail> {
         let stood = note_count(&mut self.books)?;
-        is_sent_again(rt, &mut self.books, &TWICE, stood as usize)
+        comes_again(alloc, &mut self.books, &TWICE, stood as usize)
     }
 
     /// The rows as a text; the desk is closed for it, and opened again.

@@ -1,8 +1,8 @@
 //! Desks over tables in memory, as a type without parameters.
-use crate::rooms_now::answers_to;
 use crate::stored_rows::{new_tables, rows_of};
 use hotel_core::{Command, Reply, step};
 use hotel_tables::TableBooks;
+use hotel_tests::rooms_now::answers_to;
 use keycard_rules::ListedWords;
 use sqlite::MemStore;
 use std::alloc::Global;

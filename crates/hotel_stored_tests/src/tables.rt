@@ -1,9 +1,9 @@
 //! Desks over tables that are closed and opened again, as they were or after a statement that damages them.
-use crate::desks::{Desk, FIRST_DAY};
-use crate::lists::{TWO_CODES, chain_reads, walks_end};
 use crate::stored_rows::{created, new_tables, opened, rows_of, stored};
 use hotel_core::Books;
 use hotel_tables::{OpenFault, TableBooks, TableName, first_damaged};
+use hotel_tests::chains::{TWO_CODES, chain_reads, walks_end};
+use hotel_tests::desks::{Desk, FIRST_DAY};
 use sqlite::{Alter, Connection, Error, MemStore};
 use std::alloc::Global;
 use std::process::Abort;
@@ -23,22 +23,21 @@ enum Scene {
 /// The codes that the source of these desks gives.
 const CODES: &[u64] = &[0xa0, 0xa1, 0xa2];
 
-impl<B: Books> Desk<B> {
-    fn comes_to(&mut self, scene: Scene) -> Result<(), Fail> {
-        self.begins(&[101])?;
-        match scene {
-            Scene::Opened => self.reserve("Ann Lee", FIRST_DAY, 2),
-            Scene::CheckedIn => self.has_a_guest(),
-            Scene::TwoEntries => self.enters_twice(),
-            Scene::NextGuest => self.is_entered_by_the_next(),
-        }
+/// Carries out the commands that lead there.
+fn comes_to<B: Books>(desk: &mut Desk<B>, scene: Scene) -> Result<(), Fail> {
+    desk.begins(&[101])?;
+    match scene {
+        Scene::Opened => desk.reserve("Ann Lee", FIRST_DAY, 2),
+        Scene::CheckedIn => desk.has_a_guest(),
+        Scene::TwoEntries => desk.enters_twice(),
+        Scene::NextGuest => desk.is_entered_by_the_next(),
     }
 }
 
 /// A desk over tables at this scene.
 fn tables_at(alloc: Global, scene: Scene) -> Result<TableBooks<MemStore>, Fail> {
     let mut desk = Desk::over(alloc, new_tables(alloc)?, CODES)?;
-    desk.comes_to(scene)?;
+    comes_to(&mut desk, scene)?;
     Ok(desk.books)
 }
 
@@ -152,7 +151,8 @@ fn a_walk_of_tables_ends_where_its_sink_stops(rt: HostRuntime) -> Result<(), Fai
     desk.begins(&[101])?;
     desk.leaves_behind()?;
     desk.is_recoded()?;
-    walks_end(&rt, &mut desk.books)
+    assert!(rt; walks_end(rt.alloc(), &mut desk.books)?);
+    Ok(())
 }
 
 /// The books are closed and opened again: their rows are the same, and so is the list of the room's codes.
@@ -163,7 +163,7 @@ fn opens_again<R: Abort + AllocGlobal>(
     let (books, before) = rows_of(rt.alloc(), books)?;
     let (mut books, after) = rows_of(rt.alloc(), books)?;
     assert_eq!(rt; after, before);
-    chain_reads(rt, &mut books, TWO_CODES)?;
+    assert!(rt; chain_reads(rt.alloc(), &mut books, TWO_CODES)?);
     Ok(books)
 }
 

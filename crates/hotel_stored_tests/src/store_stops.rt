@@ -1,15 +1,15 @@
 //! A stop at each store call: of the making of a desk, of its opening, of each change, of an import and of the closing. After each
 //! the store is opened again, and its rows are those before the call or after it; after an answer, those after it.
-use crate::desks::words_of;
-use crate::imports::FIRST_ENTRY;
 use crate::memory_desks::MemoryDesk;
 use crate::stopped_disks::{Contents, OUTCOMES, Outcome, Run};
-use crate::stopped_imports::TWICE;
 use crate::stopped_stores::{FilesDesk, FilesStore, calls_to_open, connect, open};
 use hotel_asks::{Ask, Verb, read_ask};
 use hotel_audit::{ImportFault, LineAnswer};
 use hotel_core::{Command, Refusal, Reply};
 use hotel_tables::OpenFault;
+use hotel_tests::desks::words_of;
+use hotel_tests::rooms_now::FIRST_ENTRY;
+use hotel_tests::sent_again::TWICE;
 use keycard_rules::ListedWords;
 use std::alloc::Global;
 use std::process::Abort;
@@ -18,7 +18,7 @@ use std::test::Fail;
 /// A verb with its values, and the code that the source gives.
 type Step = (Verb, &'static [&'static [u8]], u64);
 
-const M: &[u8] = b"2031-05-01T15:00:00";
+const MOMENT: &[u8] = b"2031-05-01T15:00:00";
 
 /// Room 101, and a guest who checks in there.
 const CHECKED_IN: &[Step] = &[
@@ -35,12 +35,20 @@ const CHECKED_OUT: &[Step] = &[
     (Verb::AddRoom, &[b"102", b"DBL"], 0xb0),
     (Verb::Reserve, &[b"DBL", b"2031-05-02", b"1", b"Bo"], 0),
     (Verb::Cancel, &[b"2"], 0),
-    (Verb::Entered, &[b"101", b"1", b"1", b"a0", b"a1", M], 0),
-    (Verb::Entered, &[b"101", b"2", b"1", b"a0", b"a1", M], 0),
-    (Verb::Left, &[b"101", b"3", b"1", b"a0", b"a1", M], 0),
+    (
+        Verb::Entered,
+        &[b"101", b"1", b"1", b"a0", b"a1", MOMENT],
+        0,
+    ),
+    (
+        Verb::Entered,
+        &[b"101", b"2", b"1", b"a0", b"a1", MOMENT],
+        0,
+    ),
+    (Verb::Left, &[b"101", b"3", b"1", b"a0", b"a1", MOMENT], 0),
     (Verb::Spare, &[b"1"], 0),
     (Verb::Transfer, &[b"1", b"102"], 0xb1),
-    (Verb::Recoded, &[b"102", b"1", b"b0", b"b1", M], 0),
+    (Verb::Recoded, &[b"102", b"1", b"b0", b"b1", MOMENT], 0),
     (Verb::CheckOut, &[b"1"], 0),
     (Verb::NextDay, &[], 0),
 ];
@@ -52,7 +60,7 @@ fn command(alloc: Global, verb: Verb, values: &[&[u8]]) -> Result<Command, Fail>
     }
 }
 
-/// Among which of the states before, between and after the rows are, if a task came so far.
+/// The rows are one of the path's states from the first place to the last, where a task came so far.
 #[derive(Clone, Copy, Debug)]
 struct Reached {
     first: usize,
@@ -205,7 +213,7 @@ fn sent_again<R: Abort + AllocGlobal>(
     path: &Path,
     mut desk: FilesDesk,
 ) -> Result<(), Fail> {
-    desk.is_sent_again(rt)?;
+    assert!(rt; desk.comes_again(rt.alloc())?);
     let (_desk, text) = desk.rows(rt.alloc())?;
     assert_eq!(rt; path.states.last(), Some(&text));
     Ok(())
@@ -274,9 +282,7 @@ impl Tries {
             openings: self.openings.saturating_add(more.openings),
         }
     }
-}
 
-impl Tries {
     /// They are at least so many.
     fn are_many<A: Abort>(self, rt: &A, stops: u64, openings: u64) {
         assert!(rt; self.stops >= stops, "{} stops", self.stops);

@@ -1,11 +1,13 @@
 //! Random commands over twenty rooms, on stores that stop at a hundred places and are opened again after each.
-use crate::desks::{AFTERNOON, FIRST_DAY, day, entered, kind, left, note, party, room, words_of};
 use crate::memory_desks::MemoryDesk;
 use crate::stopped_disks::{Contents, OUTCOMES, Outcome, Run};
 use crate::stopped_stores::{FilesDesk, calls_to_open, connect, open};
 use hotel_core::{Command, ListBooks, Refusal, Reply, Walks, reply_text, step};
 use hotel_lists::{FakeWriter, arrivals, audit_of, chain_of, in_house, left_behind};
 use hotel_nights::{Guest, Nights};
+use hotel_tests::desks::{
+    AFTERNOON, FIRST_DAY, day, entered, kind, left, note, party, room, words_of,
+};
 use keycard_rules::{Act, Card, ListedWords, LockNote, PartyNo};
 use std::alloc::Global;
 use std::process::Abort;
@@ -250,13 +252,23 @@ fn write_room<B: Walks>(
     Ok(())
 }
 
+/// Writes the arrivals of thirty days.
+fn write_arrivals<B: Walks>(
+    alloc: Global,
+    books: &mut B,
+    writer: &mut FakeWriter,
+) -> Result<(), Fail> {
+    for later in 0..30u16 {
+        let day = day(FIRST_DAY.saturating_add(later))?;
+        arrivals(alloc, books, day, writer)?;
+    }
+    Ok(())
+}
+
 /// All lists of the books.
 pub(crate) fn lists_of<B: Walks>(alloc: Global, books: &mut B) -> Result<FakeWriter, Fail> {
     let mut writer = FakeWriter::new(alloc);
-    for later in 0..30u16 {
-        let day = day(FIRST_DAY.saturating_add(later))?;
-        arrivals(alloc, books, day, &mut writer)?;
-    }
+    write_arrivals(alloc, books, &mut writer)?;
     in_house(alloc, books, &mut writer)?;
     left_behind(alloc, books, &mut writer)?;
     for place in 0..ROOMS {
@@ -291,14 +303,14 @@ impl Stops {
     }
 }
 
-/// A desk on a machine's files, and how far its store goes.
+/// A desk on a machine's files, and the machine.
 #[derive(Drop)]
 struct Stopped {
     run: Run,
     desk: FilesDesk,
 }
 
-/// The most openings in turn of which each is stopped.
+/// The most openings in turn that are stopped, and the most tries of one command.
 const MOST: u64 = 200;
 
 /// The store is opened, however often it stops meanwhile.

@@ -1,0 +1,21 @@
+//! Tests of books over tables: damaged rows, and a stop at each call of a store.
+#![tactic(auto)]
+
+#[cfg(test)]
+mod damaged_rows;
+#[cfg(test)]
+mod memory_desks;
+#[cfg(test)]
+mod new_desk;
+#[cfg(test)]
+mod stopped_disks;
+#[cfg(test)]
+mod stopped_scripts;
+#[cfg(test)]
+mod stopped_stores;
+#[cfg(test)]
+mod store_stops;
+#[cfg(test)]
+mod stored_rows;
+#[cfg(test)]
+mod tables;
