@@ -120,9 +120,9 @@ fn expected(step: &Step) -> (&'static [u8], &'static [u8], u8) {
 /// The step came to what it says.
 fn came_to<A: Abort>(rt: &A, step: &Step, written: &[u8], told: &[u8], status: u8, name: &str) {
     let (output, fault, wanted) = expected(step);
-    assert_eq!(rt; written, output, "{name}");
-    assert_eq!(rt; told, fault, "{name}");
-    assert_eq!(rt; status, wanted, "{name}");
+    assert!(rt; written == output);
+    assert!(rt; told == fault);
+    assert!(rt; status == wanted);
 }
 
 /// The step comes to what it says.
@@ -254,8 +254,8 @@ fn wrong_writer(alloc: Global, wrong: Wrong) -> FakeWriter {
 fn write_failed<A: Abort>(rt: &A, step: &Step, written: &[u8], told: &[u8], status: u8) {
     let (output, _, _) = expected(step);
     assert!(rt; output.starts_with(written));
-    assert_eq!(rt; told, b"write\n".as_slice());
-    assert_eq!(rt; status, 5);
+    assert!(rt; told == b"write\n".as_slice());
+    assert!(rt; status == 5);
 }
 
 /// The step writes a front of its output on a writer that goes wrong, and says so.
@@ -336,7 +336,7 @@ fn each_write_of_a_list_fails(rt: HostRuntime) -> Result<(), Fail> {
 
 /// Nothing was written, and nothing told.
 fn are_silent<A: Abort>(rt: &A, status: u8, written: &[u8], told: &[u8]) {
-    assert_eq!(rt; status, 5);
+    assert!(rt; status == 5);
     assert!(rt; written.is_empty());
     assert!(rt; told.is_empty());
 }
@@ -372,11 +372,7 @@ fn interrupted_list(
     let mut writer = FakeWriter::new(rt.alloc()).interrupted(600).failing_at(601);
     let mut faults = FakeWriter::new(rt.alloc()).interrupted(times);
     let status = desk.list(rt.alloc(), b"in-house", &mut writer, &mut faults)?;
-    assert_eq!(rt;
-        (status, faults.written()),
-        (5, told),
-        "{times} interruptions"
-    );
+    assert!(rt; (status, faults.written()) == (5, told));
     Ok(())
 }
 
@@ -390,8 +386,8 @@ fn interruptions_on_both_writers_are_counted_together(rt: HostRuntime) -> Result
 
 /// It is told so that the file is none, and nothing is written.
 fn is_told<A: Abort>(rt: &A, status: u8, written: &[u8], told: &[u8], wanted: &[u8]) {
-    assert_eq!(rt; status, 5);
-    assert_eq!(rt; told, wanted);
+    assert!(rt; status == 5);
+    assert!(rt; told == wanted);
     assert!(rt; written.is_empty());
 }
 
@@ -436,7 +432,7 @@ fn a_file_over_the_limit_is_too_large(rt: HostRuntime) -> Result<(), Fail> {
 
 /// The reply goes with this exit status.
 fn has_status<A: Abort>(rt: &A, reply: &Reply, status: u8) {
-    assert_eq!(rt; status_of(reply), status, "{reply:?}");
+    assert!(rt; status_of(reply) == status);
 }
 
 #[test]
@@ -456,7 +452,7 @@ fn is_whole_rows<A: Abort>(rt: &A, written: &[u8], status: u8) {
     assert!(rt; CHAIN.starts_with(written));
     assert!(rt; matches!(written.last(), None | Some(b'\n')));
     if status == 0 {
-        assert_eq!(rt; written, CHAIN);
+        assert!(rt; written == CHAIN);
     }
 }
 
@@ -470,7 +466,7 @@ fn chain_or_fault(rt: &(impl Abort + AllocGlobal), desk: &mut Desk<ListBooks>) -
         4 => b"memory\n",
         _ => b"write\n",
     };
-    assert_eq!(rt; faults.written(), told);
+    assert!(rt; faults.written() == told);
     is_whole_rows(rt, writer.written(), status);
     Ok(())
 }
@@ -497,9 +493,9 @@ fn answers_after(told: &[u8]) -> &'static [u8] {
 /// An import of the two notes that ended by this status wrote and told so.
 fn import_says_so<A: Abort>(rt: &A, status: u8, written: &[u8], told: &[u8]) {
     match status {
-        0 => assert_eq!(rt; written, b"1 taken\n2 taken\n".as_slice()),
+        0 => assert!(rt; written == b"1 taken\n2 taken\n".as_slice()),
         4 => assert!(rt; written.is_empty() && !told.is_empty()),
-        _ => assert_eq!(rt; told, b"write\n".as_slice()),
+        _ => assert!(rt; told == b"write\n".as_slice()),
     }
 }
 
@@ -518,7 +514,7 @@ fn import_again<R: Abort + AllocGlobal>(rt: &R, desk: &mut Desk<ListBooks>, agai
     let mut faults = FakeWriter::new(rt.alloc());
     let status = desk.audit(rt.alloc(), TWO_NOTES, &mut writer, &mut faults);
     if status == 0 {
-        assert_eq!(rt; writer.written(), again);
+        assert!(rt; writer.written() == again);
     }
 }
 

@@ -87,7 +87,7 @@ fn sound_rows_are_not_damaged(rt: HostRuntime) -> Result<(), Fail> {
     let alloc = rt.alloc();
     let mut stored = empty(alloc);
     fill(&mut stored, alloc, 0, 0, 0)?;
-    assert_eq!(rt; first_damaged(alloc, &stored), Ok(None));
+    assert!(rt; first_damaged(alloc, &stored) == Ok(None));
     Ok(())
 }
 
@@ -97,7 +97,7 @@ fn no_day_damages_meta(rt: HostRuntime) -> Result<(), Fail> {
     let mut stored = empty(alloc);
     fill(&mut stored, alloc, 0, 0, 0)?;
     stored.day = None;
-    assert_eq!(rt; first_damaged(alloc, &stored), Ok(Some(TableName::Meta)));
+    assert!(rt; first_damaged(alloc, &stored) == Ok(Some(TableName::Meta)));
     Ok(())
 }
 
@@ -107,7 +107,7 @@ fn small_letters_damage_kind(rt: HostRuntime) -> Result<(), Fail> {
     let mut stored = empty(alloc);
     fill(&mut stored, alloc, 0, 0, 0)?;
     add_kind(&mut stored, alloc, "dbl")?;
-    assert_eq!(rt; first_damaged(alloc, &stored), Ok(Some(TableName::Kind)));
+    assert!(rt; first_damaged(alloc, &stored) == Ok(Some(TableName::Kind)));
     Ok(())
 }
 
@@ -116,7 +116,7 @@ fn secured_without_a_guest_damages_room(rt: HostRuntime) -> Result<(), Fail> {
     let alloc = rt.alloc();
     let mut stored = empty(alloc);
     fill(&mut stored, alloc, 1, 0, 0)?;
-    assert_eq!(rt; first_damaged(alloc, &stored), Ok(Some(TableName::Room)));
+    assert!(rt; first_damaged(alloc, &stored) == Ok(Some(TableName::Room)));
     Ok(())
 }
 
@@ -125,7 +125,7 @@ fn in_house_without_a_room_damages_stay(rt: HostRuntime) -> Result<(), Fail> {
     let alloc = rt.alloc();
     let mut stored = empty(alloc);
     fill(&mut stored, alloc, 0, 1, 0)?;
-    assert_eq!(rt; first_damaged(alloc, &stored), Ok(Some(TableName::Stay)));
+    assert!(rt; first_damaged(alloc, &stored) == Ok(Some(TableName::Stay)));
     Ok(())
 }
 
@@ -134,7 +134,7 @@ fn a_later_place_damages_code(rt: HostRuntime) -> Result<(), Fail> {
     let alloc = rt.alloc();
     let mut stored = empty(alloc);
     fill(&mut stored, alloc, 0, 0, 5)?;
-    assert_eq!(rt; first_damaged(alloc, &stored), Ok(Some(TableName::Code)));
+    assert!(rt; first_damaged(alloc, &stored) == Ok(Some(TableName::Code)));
     Ok(())
 }
 
@@ -149,7 +149,7 @@ fn a_skipped_number_damages_card(rt: HostRuntime) -> Result<(), Fail> {
         old_code: 160,
         new_code: 160,
     })?;
-    assert_eq!(rt; first_damaged(alloc, &stored), Ok(Some(TableName::Card)));
+    assert!(rt; first_damaged(alloc, &stored) == Ok(Some(TableName::Card)));
     Ok(())
 }
 
@@ -159,7 +159,7 @@ fn no_such_card_damages_inside(rt: HostRuntime) -> Result<(), Fail> {
     let mut stored = empty(alloc);
     fill(&mut stored, alloc, 0, 0, 0)?;
     stored.inside.push(InsideLine { room: 101, card: 1 })?;
-    assert_eq!(rt; first_damaged(alloc, &stored), Ok(Some(TableName::Inside)));
+    assert!(rt; first_damaged(alloc, &stored) == Ok(Some(TableName::Inside)));
     Ok(())
 }
 
@@ -178,6 +178,6 @@ fn a_skipped_count_damages_note(rt: HostRuntime) -> Result<(), Fail> {
         day: 11_000,
         second: 0,
     })?;
-    assert_eq!(rt; first_damaged(alloc, &stored), Ok(Some(TableName::Note)));
+    assert!(rt; first_damaged(alloc, &stored) == Ok(Some(TableName::Note)));
     Ok(())
 }

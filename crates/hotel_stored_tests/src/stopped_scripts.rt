@@ -358,7 +358,7 @@ fn is_carried_out<R: Abort + AllocGlobal>(
     }
     let reply = script.reply_of(&mut memory, at)?;
     let (memory, after) = memory.rows(rt.alloc())?;
-    assert_eq!(rt; *text, after, "command {at}");
+    assert!(rt; *text == after);
     Ok((memory, Some(reply)))
 }
 
@@ -371,11 +371,7 @@ fn replies_so<R: Abort + AllocGlobal>(
     reply: Reply,
 ) -> Result<(), Fail> {
     let same = script.reply_of(memory, at)?;
-    assert_eq!(rt;
-        reply_text(&reply).as_bytes(),
-        reply_text(&same).as_bytes(),
-        "command {at}"
-    );
+    assert!(rt; reply_text(&reply).as_bytes() == reply_text(&same).as_bytes());
     Ok(())
 }
 
@@ -478,7 +474,7 @@ fn lists_are<R: Abort + AllocGlobal>(rt: &R, pair: &mut Pair, seed: u64) -> Resu
 /// The script of a seed, stopped at a hundred places.
 fn is_stopped<R: Abort + AllocGlobal>(rt: &R, seed: u64) -> Result<(), Fail> {
     let mut pair = all_carried_out(rt, new_pair(rt.alloc(), seed)?)?;
-    assert_eq!(rt; pair.stops.left, 0, "seed {seed}");
+    assert!(rt; pair.stops.left == 0);
     lists_are(rt, &mut pair, seed)?;
     let Pair {
         stopped,
@@ -489,7 +485,7 @@ fn is_stopped<R: Abort + AllocGlobal>(rt: &R, seed: u64) -> Result<(), Fail> {
     let Stopped { run: _, desk } = stopped;
     let (_desk, text) = desk.rows(rt.alloc())?;
     let (_memory, wanted) = memory.rows(rt.alloc())?;
-    assert_eq!(rt; text, wanted, "seed {seed}");
+    assert!(rt; text == wanted);
     Ok(())
 }
 

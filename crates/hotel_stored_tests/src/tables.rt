@@ -113,7 +113,7 @@ fn is_first_damaged<S: Alter>(
 ) -> Result<(), Fail> {
     let stored = stored(rt.alloc(), conn)?;
     if let Some(table) = named(fault) {
-        assert_eq!(rt; first_damaged(rt.alloc(), &stored), Ok(Some(table)));
+        assert!(rt; first_damaged(rt.alloc(), &stored) == Ok(Some(table)));
     }
     Ok(())
 }
@@ -130,9 +130,9 @@ fn fault_of<S: Alter + Drop>(alloc: Global, conn: Connection<S>) -> Option<OpenF
 fn is_damaged(rt: &(impl Abort + AllocGlobal), damage: &Damage) -> Result<(), Fail> {
     let (scene, statement, fault) = *damage;
     let mut conn = tables_at(rt.alloc(), scene)?.close();
-    assert_eq!(rt; change(&mut conn, statement), Ok(1), "{statement}");
+    assert!(rt; change(&mut conn, statement) == Ok(1));
     is_first_damaged(rt, &mut conn, fault)?;
-    assert_eq!(rt; fault_of(rt.alloc(), conn), Some(fault), "{statement}");
+    assert!(rt; fault_of(rt.alloc(), conn) == Some(fault));
     Ok(())
 }
 
@@ -162,7 +162,7 @@ fn opens_again<R: Abort + AllocGlobal>(
 ) -> Result<TableBooks<MemStore>, Fail> {
     let (books, before) = rows_of(rt.alloc(), books)?;
     let (mut books, after) = rows_of(rt.alloc(), books)?;
-    assert_eq!(rt; after, before);
+    assert!(rt; after == before);
     assert!(rt; chain_reads(rt.alloc(), &mut books, TWO_CODES)?);
     Ok(books)
 }
@@ -173,7 +173,7 @@ fn is_made_once<R: Abort + AllocGlobal>(rt: &R, books: TableBooks<MemStore>) {
         Ok(_) => None,
         Err(fault) => Some(fault),
     };
-    assert_eq!(rt; again, Some(OpenFault::NotADesk));
+    assert!(rt; again == Some(OpenFault::NotADesk));
 }
 
 #[test]
@@ -181,6 +181,6 @@ fn reopened_tables(rt: HostRuntime) -> Result<(), Fail> {
     let books = opens_again(&rt, tables_at(rt.alloc(), Scene::TwoEntries)?)?;
     is_made_once(&rt, books);
     let bare = Connection::open_in_memory(rt.alloc())?;
-    assert_eq!(rt; fault_of(rt.alloc(), bare), Some(OpenFault::NotADesk));
+    assert!(rt; fault_of(rt.alloc(), bare) == Some(OpenFault::NotADesk));
     Ok(())
 }

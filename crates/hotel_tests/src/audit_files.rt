@@ -41,7 +41,7 @@ fn are_unread<A: Abort>(rt: &A, lines: &[Line], causes: &[Cause]) {
     let mut rest = lines.iter();
     for cause in causes {
         let line = rest.next().expect(rt, "one more line");
-        assert_eq!(rt; *line, Line::Unread(*cause));
+        assert!(rt; *line == Line::Unread(*cause));
     }
 }
 
@@ -64,7 +64,7 @@ fn lines_of(alloc: Global, text: &[u8]) -> Result<Vec<Line>, Fail> {
 
 /// A note, and a line that is cut.
 fn are_cut<A: Abort>(rt: &A, lines: &[Line]) {
-    assert_eq!(rt; lines.len(), 2);
+    assert!(rt; lines.len() == 2);
     is_note(rt, lines.first(), entry(1));
     are_unread(rt, &lines[1..], &[Cause::FieldCount]);
 }
@@ -109,7 +109,7 @@ fn are_counted(
     wanted: Result<usize, AuditFault>,
 ) {
     for text in texts {
-        assert_eq!(rt; line_count(rt.alloc(), text), wanted);
+        assert!(rt; line_count(rt.alloc(), text) == wanted);
     }
 }
 
@@ -131,7 +131,7 @@ const CAUSES: &[Cause] = &[
 
 /// A line for each cause but two, and a note.
 fn are_for_causes<A: Abort>(rt: &A, lines: &[Line]) {
-    assert_eq!(rt; lines.len(), 7);
+    assert!(rt; lines.len() == 7);
     are_unread(rt, lines, CAUSES);
     is_note(rt, lines.last(), entry(3));
 }
@@ -181,7 +181,7 @@ fn recoding() -> Option<LockNote> {
 
 /// The lines are unread for the first of several causes; then come two notes.
 fn are_for_first_causes<A: Abort>(rt: &A, lines: &[Line]) {
-    assert_eq!(rt; lines.len(), 11);
+    assert!(rt; lines.len() == 11);
     are_unread(rt, lines, FIRST_CAUSES);
     is_note(rt, lines.get(9), exit(3));
     is_note(rt, lines.get(10), recoding());
@@ -205,7 +205,7 @@ pub(crate) fn long_line(alloc: Global, bytes: usize) -> Result<Vec<u8>, Fail> {
 fn greatest_file(rt: &(impl Abort + AllocGlobal)) -> Result<(), Fail> {
     let text = long_line(rt.alloc(), 262_144)?;
     let lines = lines_of(rt.alloc(), text.as_slice())?;
-    assert_eq!(rt; lines.len(), 1);
+    assert!(rt; lines.len() == 1);
     are_unread(rt, lines.as_slice(), &[Cause::FieldCount]);
     Ok(())
 }
@@ -220,7 +220,7 @@ fn files_at_the_limit(rt: HostRuntime) -> Result<(), Fail> {
 
 /// The text of an answer, with its number.
 fn reads<A: Abort>(rt: &A, number: usize, answer: &LineAnswer, text: &[u8]) {
-    assert_eq!(rt; answer_text(number, answer).as_bytes(), text);
+    assert!(rt; answer_text(number, answer).as_bytes() == text);
 }
 
 /// The texts of unread lines.

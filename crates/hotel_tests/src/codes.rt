@@ -33,7 +33,7 @@ const NO_NUMBERS: &[&[u8]] = &[b"", b"0", b"10000000", b"0000000001", b"a", b"+1
 /// Codes are read and printed.
 fn codes_read<A: Abort>(rt: &A) {
     let read = Code::read(b"ABC").expect(rt, "hexadecimal digits");
-    assert_eq!(rt; read.print(), *b"000000000abc");
+    assert!(rt; read.print() == *b"000000000abc");
     assert!(rt; Code::read(b"aBc") == Some(read));
     assert!(rt; Code::read(b"ffffffffffff") == Code::new(281_474_976_710_655));
     assert!(rt; Code::new(281_474_976_710_656).is_none());
@@ -66,12 +66,12 @@ fn value_readers_of_a_chain(rt: HostRuntime) -> Result<(), Fail> {
     let new_code = code(&rt, 0xa1);
     let mut chain = Chain::install(rt.alloc(), old_code)?;
     let link = issued(&rt, &mut chain, 0xa1);
-    assert_eq!(rt; link, Link { old_code, new_code });
+    assert!(rt; link == Link { old_code, new_code });
     let turned = Turned {
         before: old_code,
         after: new_code,
     };
-    assert_eq!(rt; chain.enter(&link), Some(turned));
+    assert!(rt; chain.enter(&link) == Some(turned));
     Ok(())
 }
 
@@ -80,15 +80,15 @@ fn lock_rule(rt: HostRuntime) {
     let old_code = code(&rt, 0xa0);
     let new_code = code(&rt, 0xa1);
     let link = Link { old_code, new_code };
-    assert_eq!(rt; turn(old_code, &link), Some(new_code));
-    assert_eq!(rt; turn(new_code, &link), Some(new_code));
-    assert_eq!(rt; turn(code(&rt, 0xa2), &link), None);
+    assert!(rt; turn(old_code, &link) == Some(new_code));
+    assert!(rt; turn(new_code, &link) == Some(new_code));
+    assert!(rt; turn(code(&rt, 0xa2), &link) == None);
 }
 
 /// The lock holds this code, the last one issued is that, and so many are awaited.
 fn stands<A: Abort>(rt: &A, chain: &Chain, held: Code, current: Code, awaited: usize) {
     assert!(rt; chain.held() == held && chain.current() == current);
-    assert_eq!(rt; chain.awaited_len(), awaited);
+    assert!(rt; chain.awaited_len() == awaited);
 }
 
 /// The newest card stays outside until the lock is recoded.
@@ -102,7 +102,7 @@ fn is_recoded<A: Abort>(rt: &A, chain: &mut Chain, newest: &Link) {
         before: third,
         after: third,
     };
-    assert_eq!(rt; chain.enter(newest), Some(kept));
+    assert!(rt; chain.enter(newest) == Some(kept));
     stands(rt, chain, third, third, 0);
     assert!(rt; chain.holds(code(rt, 0xa1)));
 }
@@ -122,10 +122,10 @@ fn is_refused<A: Abort>(rt: &A, chain: &mut Chain) {
     let third = code(rt, 0xa2);
     for to in [0xa0, 0xb0, 0xa1] {
         let recoded = chain.recode(second, code(rt, to));
-        assert_eq!(rt; recoded, Err(RecodeFault::NotAwaited), "to {to:x}");
+        assert!(rt; recoded == Err(RecodeFault::NotAwaited));
     }
     let differs = chain.recode(code(rt, 0xa0), third);
-    assert_eq!(rt; differs, Err(RecodeFault::HeldDiffers));
+    assert!(rt; differs == Err(RecodeFault::HeldDiffers));
     stands(rt, chain, second, third, 1);
     assert!(rt; chain.recode(second, third).is_ok());
     stands(rt, chain, third, third, 0);
@@ -145,9 +145,9 @@ fn recoding_refused(rt: HostRuntime) -> Result<(), Fail> {
 fn code_drawn_twice(rt: HostRuntime) -> Result<(), Fail> {
     let mut words = source(&rt, [0xa0_0000, 0xa0_0000, 0xb0_0000].to_vec(rt.alloc())?);
     let first = draw_fresh(&mut words, &mut ListedCodes::new(Vec::new(rt.alloc())));
-    assert_eq!(rt; first, Ok(code(&rt, 0xa0)));
+    assert!(rt; first == Ok(code(&rt, 0xa0)));
     let mut taken = ListedCodes::new([code(&rt, 0xa0)].to_vec(rt.alloc())?);
-    assert_eq!(rt; draw_fresh(&mut words, &mut taken), Ok(code(&rt, 0xb0)));
+    assert!(rt; draw_fresh(&mut words, &mut taken) == Ok(code(&rt, 0xb0)));
     Ok(())
 }
 
@@ -164,9 +164,9 @@ fn words_of_two_draws(alloc: Global) -> Result<Vec<u64>, Fail> {
 /// Two draws have examined 64 words each, and the third one finds the code b0.
 fn draws_at_last<A: Abort>(rt: &A, words: &mut ListedWords, taken: &mut ListedCodes) {
     for _ in 0..2u32 {
-        assert_eq!(rt; draw_fresh(words, taken), Err(DrawFault::NoFreshCode));
+        assert!(rt; draw_fresh(words, taken) == Err(DrawFault::NoFreshCode));
     }
-    assert_eq!(rt; draw_fresh(words, taken), Ok(code(rt, 0xb0)));
+    assert!(rt; draw_fresh(words, taken) == Ok(code(rt, 0xb0)));
 }
 
 #[test]
@@ -226,9 +226,9 @@ fn failed_look_ups(rt: HostRuntime) -> Result<(), Fail> {
             fault,
             failures: 0,
         };
-        assert_eq!(rt; draw_fresh(&mut words, &mut codes), Err(want));
-        assert_eq!(rt; codes.failures, 1);
-        assert_eq!(rt; words.next_u64(), 4, "three words were examined");
+        assert!(rt; draw_fresh(&mut words, &mut codes) == Err(want));
+        assert!(rt; codes.failures == 1);
+        assert!(rt; words.next_u64() == 4, "three words were examined");
     }
     Ok(())
 }
@@ -241,28 +241,25 @@ fn notes_of_a_lock(rt: HostRuntime) {
         from: code(&rt, 0xa0),
         to: code(&rt, 0xa1),
     };
-    assert_eq!(rt; LockNote::new(room, count, recoded, 36_525, 0), None);
-    assert_eq!(rt; LockNote::new(room, count, recoded, 0, 86_400), None);
+    assert!(rt; LockNote::new(room, count, recoded, 36_525, 0) == None);
+    assert!(rt; LockNote::new(room, count, recoded, 0, 86_400) == None);
     let note = LockNote::new(room, count, recoded, 36_524, 86_399).expect(&rt, "the last second");
-    assert_eq!(rt; note.room(), room);
-    assert_eq!(rt; note.count(), count);
-    assert_eq!(rt; note.act(), recoded);
-    assert_eq!(rt; (note.day(), note.second()), (36_524, 86_399));
-    assert_ne!(rt;
-        LockNote::new(room, count, recoded, 36_524, 86_398),
-        Some(note)
-    );
+    assert!(rt; note.room() == room);
+    assert!(rt; note.count() == count);
+    assert!(rt; note.act() == recoded);
+    assert!(rt; (note.day(), note.second()) == (36_524, 86_399));
+    assert!(rt; LockNote::new(room, count, recoded, 36_524, 86_398) != Some(note));
 }
 
 #[test]
 fn listed_words(rt: HostRuntime) -> Result<(), Fail> {
     assert!(rt; ListedWords::new(Vec::new(rt.alloc())).is_none());
     let mut words = source(&rt, [0x1_0000_0002, 3].to_vec(rt.alloc())?);
-    assert_eq!(rt; words.next_u32(), 2);
-    assert_eq!(rt; words.next_u64(), 3);
+    assert!(rt; words.next_u32() == 2);
+    assert!(rt; words.next_u64() == 3);
     let mut bytes = [0; 9];
     words.fill_bytes(&mut bytes);
-    assert_eq!(rt; bytes, [3, 0, 0, 0, 0, 0, 0, 0, 3]);
+    assert!(rt; bytes == [3, 0, 0, 0, 0, 0, 0, 0, 3]);
     Ok(())
 }
 
@@ -282,7 +279,7 @@ fn issues_all<A: Abort>(rt: &A, chain: &mut Chain) -> Result<(), Fail> {
     for value in 1..40u64 {
         issues_at_last(rt, chain, code(rt, value))?;
     }
-    assert_eq!(rt; chain.awaited_len(), 39);
+    assert!(rt; chain.awaited_len() == 39);
     Ok(())
 }
 

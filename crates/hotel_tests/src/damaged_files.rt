@@ -106,7 +106,7 @@ fn is_answered(
 fn each_byte_replaced(rt: HostRuntime) -> Result<(), Fail> {
     let once = after_the_whole(rt.alloc())?;
     let files = each_damaged(rt.alloc(), CUT_LAST_LINE, SPANS)?;
-    assert_eq!(rt; files.len(), 97 * 6 - 20);
+    assert!(rt; files.len() == 97 * 6 - 20);
     for file in &files {
         is_answered(&rt, &once, file.bytes.as_slice(), file.answer)?;
     }

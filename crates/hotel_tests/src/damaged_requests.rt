@@ -75,7 +75,7 @@ fn before_the_whole<R: Abort + AllocGlobal>(
 #[test]
 fn cut_after_each_byte(rt: HostRuntime) -> Result<(), Fail> {
     let request = CHECK_IN.request;
-    assert_eq!(rt; request.len(), 86);
+    assert!(rt; request.len() == 86);
     for cut in 1..request.len() {
         before_the_whole(&rt, 4096, &request[..cut], Answer::Bad)?;
         before_the_whole(&rt, 1, &request[..cut], Answer::Bad)?;
@@ -134,7 +134,7 @@ fn are_answered<R: Abort + AllocGlobal>(
 #[test]
 fn each_byte_replaced(rt: HostRuntime) -> Result<(), Fail> {
     let requests = each_damaged(rt.alloc(), CHECK_IN.request, SPANS)?;
-    assert_eq!(rt; requests.len(), 86 * 6 - 4);
+    assert!(rt; requests.len() == 86 * 6 - 4);
     are_answered(&rt, 4096, requests.as_slice())?;
     are_answered(&rt, 1, requests.as_slice())
 }

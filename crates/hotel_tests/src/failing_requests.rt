@@ -22,7 +22,7 @@ fn faults_so<R: Abort + AllocGlobal>(
 ) {
     let mut writer = FakeWriter::new(rt.alloc());
     let ended = serve(desk, reader, &mut writer);
-    assert_eq!(rt; ended, Err(fault));
+    assert!(rt; ended == Err(fault));
     assert!(rt; writer.written().is_empty());
 }
 
@@ -56,8 +56,8 @@ fn cut_so<R: Abort + AllocGlobal>(
 ) {
     let mut writer = FakeWriter::new(rt.alloc()).in_pieces(25).failing_at(call);
     let ended = serve(desk, &mut FakeReader::new(request), &mut writer);
-    assert_eq!(rt; ended, Err(ServeFault::Write { acted }));
-    assert_eq!(rt; writer.written(), written);
+    assert!(rt; ended == Err(ServeFault::Write { acted }));
+    assert!(rt; writer.written() == written);
 }
 
 #[test]
@@ -88,8 +88,8 @@ fn each_read_of_a_check_in_fails(rt: HostRuntime) -> Result<(), Fail> {
     let mut writer = FakeWriter::new(rt.alloc());
     let acted = true;
     let ended = serve(&mut desk, &mut reader, &mut writer);
-    assert_eq!(rt; ended, Ok(Served { status: 200, acted }));
-    assert_eq!(rt; writer.written(), CHECK_IN.answer);
+    assert!(rt; ended == Ok(Served { status: 200, acted }));
+    assert!(rt; writer.written() == CHECK_IN.answer);
     Ok(())
 }
 
@@ -104,8 +104,8 @@ fn check_in_is_cut(
     let mut reader = FakeReader::new(CHECK_IN.request);
     let acted = true;
     let ended = serve(&mut desk, &mut reader, &mut writer);
-    assert_eq!(rt; ended, Err(ServeFault::Write { acted }));
-    assert_eq!(rt; writer.written(), front);
+    assert!(rt; ended == Err(ServeFault::Write { acted }));
+    assert!(rt; writer.written() == front);
     exchange_goes(rt, &mut desk, 4096, &SPARE)
 }
 
@@ -137,8 +137,8 @@ fn interrupted_end(
     let mut reader = FakeReader::new(CHECK_IN.request).interrupted(reads);
     let mut writer = FakeWriter::new(rt.alloc()).interrupted(writes);
     let ended = serve(&mut desk, &mut reader, &mut writer);
-    assert_eq!(rt; ended, end, "{reads} reads, {writes} writes");
-    assert_eq!(rt; writer.written(), written);
+    assert!(rt; ended == end);
+    assert!(rt; writer.written() == written);
     Ok(())
 }
 
@@ -170,8 +170,8 @@ fn exchange_is_cut(
     let front = answer.as_bytes().get(..before).ok_or("behind its end")?;
     let mut writer = FakeWriter::new(rt.alloc()).in_pieces(1).failing_at(call);
     let ended = serve(desk, &mut FakeReader::new(request.as_bytes()), &mut writer);
-    assert_eq!(rt; ended, Err(ServeFault::Write { acted }), "{call}");
-    assert_eq!(rt; writer.written(), front, "{call}");
+    assert!(rt; ended == Err(ServeFault::Write { acted }));
+    assert!(rt; writer.written() == front);
     Ok(())
 }
 
@@ -181,7 +181,7 @@ fn has_bytes(
     exchange: &Exchange,
     bytes: usize,
 ) -> Result<(), Fail> {
-    assert_eq!(rt; answer_of(rt.alloc(), exchange)?.len(), bytes);
+    assert!(rt; answer_of(rt.alloc(), exchange)?.len() == bytes);
     Ok(())
 }
 

@@ -35,7 +35,7 @@ fn two_entries_chain(rt: HostRuntime) -> Result<(), Fail> {
 fn house_reads(rt: &(impl Abort + AllocGlobal), desk: &mut Desk, text: &[u8]) -> Result<(), Fail> {
     let mut writer = FakeWriter::new(rt.alloc());
     in_house(rt.alloc(), &mut desk.books, &mut writer)?;
-    assert_eq!(rt; writer.written(), text);
+    assert!(rt; writer.written() == text);
     Ok(())
 }
 
@@ -70,7 +70,7 @@ fn arrivals_read(
 ) -> Result<(), Fail> {
     let mut writer = FakeWriter::new(rt.alloc());
     arrivals(rt.alloc(), &mut desk.books, day, &mut writer)?;
-    assert_eq!(rt; writer.written(), text);
+    assert!(rt; writer.written() == text);
     Ok(())
 }
 
@@ -95,7 +95,7 @@ fn audit_reads(rt: &(impl Abort + AllocGlobal), desk: &mut Desk, text: &[u8]) ->
     let room = room(101)?;
     let mut writer = FakeWriter::new(rt.alloc());
     audit_of(rt.alloc(), &mut desk.books, room, &mut writer)?;
-    assert_eq!(rt; writer.written(), text);
+    assert!(rt; writer.written() == text);
     Ok(())
 }
 
@@ -119,9 +119,9 @@ fn no_room(rt: &(impl Abort + AllocGlobal), desk: &mut Desk) -> Result<(), Fail>
     let absent = room(102)?;
     let mut writer = FakeWriter::new(rt.alloc());
     let chain = chain_of(rt.alloc(), &mut desk.books, absent, &mut writer);
-    assert_eq!(rt; chain, Err(ListFault::NoRoom));
+    assert!(rt; chain == Err(ListFault::NoRoom));
     let audit = audit_of(rt.alloc(), &mut desk.books, absent, &mut writer);
-    assert_eq!(rt; audit, Err(ListFault::NoRoom));
+    assert!(rt; audit == Err(ListFault::NoRoom));
     assert!(rt; writer.written().is_empty());
     Ok(())
 }
@@ -230,8 +230,8 @@ const SCENES: [Scene; 4] = [
 fn is_whole(rt: &(impl Abort + AllocGlobal), scene: Scene, desk: &mut Desk) {
     let mut writer = FakeWriter::new(rt.alloc());
     let written = scene.write(desk, &mut writer);
-    assert_eq!(rt; written, Ok(()), "{scene:?}");
-    assert_eq!(rt; writer.written(), scene.text(), "{scene:?}");
+    assert!(rt; written == Ok(()));
+    assert!(rt; writer.written() == scene.text());
 }
 
 /// The write of the byte behind this front fails, and the front was written.
@@ -244,8 +244,8 @@ fn fails_behind(
 ) {
     let mut writer = FakeWriter::new(rt.alloc()).in_pieces(1).failing_at(call);
     let written = scene.write(desk, &mut writer);
-    assert_eq!(rt; written, Err(ListFault::Write), "{scene:?}, {call}");
-    assert_eq!(rt; writer.written(), front, "{scene:?}, {call}");
+    assert!(rt; written == Err(ListFault::Write));
+    assert!(rt; writer.written() == front);
 }
 
 /// The write of each byte fails in turn: the bytes before it were written, and the list after it is whole.
@@ -302,7 +302,7 @@ fn is_whole_or_in_rows(rt: &(impl Abort + AllocGlobal), scene: Scene, desk: &mut
     match writes_rows(rt, scene, desk) {
         Ok(()) => {}
         Err(fault) => {
-            assert_eq!(rt; fault, ListFault::Memory, "{scene:?}");
+            assert!(rt; fault == ListFault::Memory);
             is_whole(rt, scene, desk);
         }
     }
@@ -332,8 +332,8 @@ fn chain_ends(
     text: &[u8],
 ) {
     let written = Scene::Chain.write(desk, &mut writer);
-    assert_eq!(rt; written, outcome);
-    assert_eq!(rt; writer.written(), text);
+    assert!(rt; written == outcome);
+    assert!(rt; writer.written() == text);
 }
 
 /// The same list on slow, interrupted and stuck writers: its header is one write, and its rows are another.

@@ -9,10 +9,10 @@ fn one_byte_at_a_time(rt: HostRuntime) -> Result<(), Fail> {
     let mut calls = IoCalls::none();
     let mut reader = FakeReader::new(b"begin 2026-03-01\n").in_pieces(1);
     let bytes = read_whole(rt.alloc(), &mut reader, 17, &mut calls)?;
-    assert_eq!(rt; bytes.as_slice(), b"begin 2026-03-01\n".as_slice());
+    assert!(rt; bytes.as_slice() == b"begin 2026-03-01\n".as_slice());
     let mut writer = FakeWriter::new(rt.alloc()).in_pieces(1);
     write_parts(&mut writer, &[b"day ", b"", b"2026-03-01\n"], &mut calls)?;
-    assert_eq!(rt; writer.written(), b"day 2026-03-01\n".as_slice());
+    assert!(rt; writer.written() == b"day 2026-03-01\n".as_slice());
     Ok(())
 }
 
@@ -34,11 +34,11 @@ fn interrupted_999_times_and_1000_times(rt: HostRuntime) {
         let mut reader = FakeReader::new(b"begun\n").interrupted(times);
         let mut calls = IoCalls::none();
         let read = read_whole(rt.alloc(), &mut reader, 100, &mut calls);
-        assert_eq!(rt; read.is_ok(), is_read, "reads, {times}");
+        assert!(rt; read.is_ok() == is_read);
         let mut writer = FakeWriter::new(rt.alloc()).interrupted(times);
         let mut calls = IoCalls::none();
         let written = write_bytes(&mut writer, b"begun\n", &mut calls);
-        assert_eq!(rt; written.is_ok(), is_read, "writes, {times}");
+        assert!(rt; written.is_ok() == is_read);
     }
 }
 
@@ -47,7 +47,7 @@ fn interruptions_of_reads_and_writes_are_counted_together(rt: HostRuntime) -> Re
     let mut calls = IoCalls::none();
     let mut reader = FakeReader::new(b"begun\n").interrupted(600);
     let mut bytes = Vec::new(rt.alloc());
-    assert_eq!(rt; read_more(&mut reader, &mut bytes, &mut calls)?, 6);
+    assert!(rt; read_more(&mut reader, &mut bytes, &mut calls)? == 6);
     let mut writer = FakeWriter::new(rt.alloc()).interrupted(400);
     let written = write_bytes(&mut writer, bytes.as_slice(), &mut calls);
     assert!(rt; written.is_err());
@@ -60,10 +60,10 @@ fn a_call_that_fails_or_takes_no_byte_leaves_a_front(rt: HostRuntime) {
     let mut calls = IoCalls::none();
     let mut writer = FakeWriter::new(rt.alloc()).in_pieces(2).failing_at(3);
     assert!(rt; write_bytes(&mut writer, b"checked out\n", &mut calls).is_err());
-    assert_eq!(rt; writer.written(), b"chec".as_slice());
+    assert!(rt; writer.written() == b"chec".as_slice());
     let mut writer = FakeWriter::new(rt.alloc()).in_pieces(2).stuck_at(2);
     assert!(rt; write_bytes(&mut writer, b"checked out\n", &mut calls).is_err());
-    assert_eq!(rt; writer.written(), b"ch".as_slice());
+    assert!(rt; writer.written() == b"ch".as_slice());
     let mut reader = FakeReader::new(b"checked out\n").in_pieces(5).failing_at(3);
     let read = read_whole(rt.alloc(), &mut reader, 100, &mut calls);
     assert!(rt; matches!(read, Err(WholeFault::Read)));

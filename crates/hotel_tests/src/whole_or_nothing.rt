@@ -49,7 +49,7 @@ fn issue_of(books: &mut ListBooks, room: RoomNo) -> Result<(bool, bool, bool), F
 fn has_issue<A: Abort>(rt: &A, books: &mut ListBooks, issued: bool) -> Result<(), Fail> {
     let room = room(7)?;
     let parts = issue_of(books, room)?;
-    assert_eq!(rt; parts, (issued, issued, issued));
+    assert!(rt; parts == (issued, issued, issued));
     let first = books.code_at(room, 0)?;
     assert!(rt; first.is_some());
     let row = row_of(books, room)?;
@@ -76,13 +76,10 @@ fn an_issue_is_whole_or_nothing(rt: HostRuntime) -> Result<(), Fail> {
 fn has_note<A: Abort>(rt: &A, books: &mut ListBooks, taken: bool) -> Result<(), Fail> {
     let room = room(7)?;
     let count = Count::new(1).ok_or("a count")?;
-    assert_eq!(rt; books.note(room, count)?.is_some(), taken);
+    assert!(rt; books.note(room, count)?.is_some() == taken);
     let row = row_of(books, room)?;
-    assert_eq!(rt;
-        (row.notes, row.secured),
-        (if taken { 1 } else { 0 }, taken)
-    );
-    assert_eq!(rt; books.has_inside(room)?, taken);
+    assert!(rt; (row.notes, row.secured) == (if taken { 1 } else { 0 }, taken));
+    assert!(rt; books.has_inside(room)? == taken);
     Ok(())
 }
 
@@ -134,6 +131,6 @@ fn a_stay_takes_all_its_nights_or_none(rt: HostRuntime) -> Result<(), Fail> {
         nights: Nights::new(90).ok_or("nights")?,
     };
     let taken = is_done(&rt, &mut desk, &reserve);
-    assert_eq!(rt; is_any_taken(&mut desk.books)?, taken);
+    assert!(rt; is_any_taken(&mut desk.books)? == taken);
     Ok(())
 }

@@ -49,7 +49,7 @@ const UNREAD: &[&[u8]] = &[
 
 #[test]
 fn lines_that_are_unread(rt: HostRuntime) {
-    assert_eq!(rt; UNREAD.len(), 13);
+    assert!(rt; UNREAD.len() == 13);
     for line in UNREAD {
         let read = read_line(rt.alloc(), line);
         assert!(rt; matches!(read, Err(LineFault::Unread)));

@@ -15,8 +15,8 @@ const LINES: &[(&[u8], bool)] = &[
 /// The text, without its return, is this line.
 fn is_line<A: Abort>(rt: &A, text: &[u8], wanted: &[u8], silent: bool) {
     let line = without_return(text);
-    assert_eq!(rt; line, wanted);
-    assert_eq!(rt; is_silent(line), silent);
+    assert!(rt; line == wanted);
+    assert!(rt; is_silent(line) == silent);
 }
 
 #[test]

@@ -47,8 +47,8 @@ fn checks_in(
     let mut desk = Desk::new(alloc, ListBooks::empty(alloc), &[0xa0], 0xa1)?;
     carry_out_part(alloc, &mut desk, OPENED)?;
     let ended = check_in(rt, &mut desk, &mut writer, &mut faults)?;
-    assert_eq!(rt; (ended, faults.written()), (status, told));
-    assert_eq!(rt; writer.written(), written);
+    assert!(rt; (ended, faults.written()) == (status, told));
+    assert!(rt; writer.written() == written);
     step_holds(rt, &mut desk, &SPARE, "it stands")
 }
 

@@ -52,9 +52,9 @@ pub fn call_of(alloc: Global, zeros: &str, words: &[&str]) -> Result<Vec<String>
 
 /// It was done, this was answered, and no fault told.
 pub fn is_done<A: Abort>(rt: &A, status: u8, written: &[u8], told: &[u8], answer: &[u8]) {
-    assert_eq!(rt; told, b"".as_slice());
-    assert_eq!(rt; written, answer);
-    assert_eq!(rt; status, 0);
+    assert!(rt; told == b"".as_slice());
+    assert!(rt; written == answer);
+    assert!(rt; status == 0);
 }
 
 /// Whether it is the name of this file.

@@ -28,7 +28,7 @@ impl RoomChain {
     fn issue<A: Abort>(&mut self, rt: &A, link: Link) {
         assert!(rt; !self.chain.holds(link.new_code), "the code is new");
         let issued = self.chain.issue(link.new_code).expect(rt, "ample memory");
-        assert_eq!(rt; issued, link);
+        assert!(rt; issued == link);
     }
 
     /// The chain's lock does what a note says that this room's lock did.
@@ -39,7 +39,7 @@ impl RoomChain {
             }
             Act::Left { .. } => {}
             Act::Recoded { from, to } => {
-                assert_eq!(rt; self.chain.recode(from, to), Ok(()));
+                assert!(rt; self.chain.recode(from, to) == Ok(()));
             }
         }
     }
@@ -47,7 +47,7 @@ impl RoomChain {
     /// The chain's lock stays shut to a note that was refused for that.
     fn stays_shut<A: Abort>(&mut self, rt: &A, note: &LockNote) {
         if let Act::Entered { link, .. } = note.act() {
-            assert_eq!(rt; self.chain.enter(&link), None);
+            assert!(rt; self.chain.enter(&link) == None);
         }
     }
 
@@ -73,7 +73,7 @@ impl RoomChain {
             room: self.room,
             place,
         };
-        assert_eq!(rt; books.code_place(code)?, Some(stands));
+        assert!(rt; books.code_place(code)? == Some(stands));
         Ok(code)
     }
 
@@ -86,11 +86,8 @@ impl RoomChain {
         place: u32,
     ) -> Result<(), Fail> {
         let code = self.has_code(rt, books, place)?;
-        assert_eq!(rt; code == self.chain.held(), place == row.lock_place);
-        assert_eq!(rt;
-            code == self.chain.current(),
-            row.codes.checked_sub(1) == Some(place)
-        );
+        assert!(rt; (code == self.chain.held()) == (place == row.lock_place));
+        assert!(rt; (code == self.chain.current()) == (row.codes.checked_sub(1) == Some(place)));
         Ok(())
     }
 
@@ -99,11 +96,11 @@ impl RoomChain {
         let row = books.room(self.room)?.ok_or("no room")?;
         assert!(rt; row.lock_place < row.codes, "the lock holds a code");
         let awaited = row.codes - 1 - row.lock_place;
-        assert_eq!(rt; self.chain.awaited_len(), awaited as usize);
+        assert!(rt; self.chain.awaited_len() == awaited as usize);
         for place in 0..row.codes {
             self.place_agrees(rt, books, &row, place)?;
         }
-        assert_eq!(rt; books.code_at(self.room, row.codes)?, None);
+        assert!(rt; books.code_at(self.room, row.codes)? == None);
         Ok(())
     }
 }
@@ -214,7 +211,7 @@ fn line_is_answered(
 ) -> Result<(), Fail> {
     let mut writer = FakeWriter::new(rt.alloc());
     desk.answer(rt, line, &mut writer)?;
-    assert_eq!(rt; writer.written(), answer);
+    assert!(rt; writer.written() == answer);
     Ok(())
 }
 
@@ -246,7 +243,7 @@ fn hold_beside(
     for part in parts {
         part_holds(rt, &mut desk, part)?;
     }
-    assert_eq!(rt; desk.rooms.len(), rooms);
+    assert!(rt; desk.rooms.len() == rooms);
     Ok(())
 }
 
@@ -304,9 +301,9 @@ fn run_is_answered(
     answers: &[u8],
 ) -> Result<(), Fail> {
     let replies = run(rt.alloc(), &mut desk.books, &mut desk.source, commands)?;
-    assert_eq!(rt; replies.len(), count);
+    assert!(rt; replies.len() == count);
     let texts = texts_of(rt.alloc(), replies.as_slice())?;
-    assert_eq!(rt; texts.as_slice(), answers);
+    assert!(rt; texts.as_slice() == answers);
     Ok(())
 }
 

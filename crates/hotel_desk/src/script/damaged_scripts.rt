@@ -290,6 +290,6 @@ fn each_byte_replaced(rt: HostRuntime) -> Result<(), Fail> {
         let after = LINES.get(number.saturating_add(1)..).ok_or("no line")?;
         count = count.saturating_add(line_is_damaged(&rt, before, line, after)?);
     }
-    assert_eq!(rt; count, 157 * 6 - 6);
+    assert!(rt; count == 157 * 6 - 6);
     Ok(())
 }

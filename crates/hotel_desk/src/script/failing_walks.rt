@@ -101,8 +101,8 @@ fn lists_are(
     let mut reader = FakeReader::new(SCRIPT);
     let mut writer = FakeWriter::new(rt.alloc());
     let ran = run_script(rt.alloc(), &mut reader, &mut writer, books, source);
-    assert_eq!(rt; writer.written(), texts);
-    assert_eq!(rt; ran, Ok(ScriptEnd { lines: 5 }));
+    assert!(rt; writer.written() == texts);
+    assert!(rt; ran == Ok(ScriptEnd { lines: 5 }));
 }
 
 /// A desk where one party is checked in.
@@ -118,7 +118,7 @@ fn is_counted<A: Abort>(rt: &A, books: &StoppingBooks, cause: LookFault) {
         LookFault::Memory => LookFault::Store,
         LookFault::Store => LookFault::Memory,
     };
-    assert_eq!(rt; (books.failures(cause), books.failures(other)), (1, 0));
+    assert!(rt; (books.failures(cause), books.failures(other)) == (1, 0));
 }
 
 /// The call fails within this list, behind so many of its lines.
@@ -143,7 +143,7 @@ fn none_fails(rt: &(impl Abort + AllocGlobal)) -> Result<(), Fail> {
     let Desk { books, mut source } = checked_in(rt)?;
     let mut books = StoppingBooks::new(books, 0, LookFault::Store);
     lists_are(rt, &mut books, &mut source, texts.as_slice());
-    assert_eq!(rt; books.calls(), 10);
+    assert!(rt; books.calls() == 10);
     Ok(())
 }
 

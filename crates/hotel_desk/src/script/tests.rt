@@ -65,8 +65,8 @@ pub(super) fn ends_so(
     answers: &[u8],
 ) {
     let ran = desk.answer(rt.alloc(), reader, writer);
-    assert_eq!(rt; writer.written(), answers);
-    assert_eq!(rt; ran, outcome);
+    assert!(rt; writer.written() == answers);
+    assert!(rt; ran == outcome);
 }
 
 /// So many lines of the script are answered so.
@@ -171,14 +171,14 @@ fn fails_by_write(rt: &(impl Abort + AllocGlobal), desk: &mut Desk, call: u32, d
     let mut reader = FakeReader::new(SCRIPT);
     let mut writer = FakeWriter::new(rt.alloc()).failing_at(call);
     let ran = desk.answer(rt.alloc(), &mut reader, &mut writer);
-    assert_eq!(rt; ran, Err(ScriptFault::Write { done }));
+    assert!(rt; ran == Err(ScriptFault::Write { done }));
     are_first_lines(rt, writer.written(), call.saturating_sub(1));
 }
 
 /// The first answers, so many lines of them.
 fn are_first_lines<A: Abort>(rt: &A, written: &[u8], lines: u32) {
     assert!(rt; ANSWERS.starts_with(written));
-    assert_eq!(rt; line_count(written), lines);
+    assert!(rt; line_count(written) == lines);
 }
 
 /// The last two writes are those of one line, a list.
