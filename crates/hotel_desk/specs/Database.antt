@@ -1,7 +1,10 @@
 -- The program's fault of a file that gave no books.
+use Rattle.std.specs.Prelude.{◌≡◌}
+use Rattle.sqlite_disk.specs.declared.Disk.{Ghosts}
 use Rattle.hotel_tables.specs.declared.open_fault.OpenFault.TheVariants as opening
 use Rattle.hotel_tables.specs.declared.files.FileFault.{FileFault}
 use Rattle.hotel_tables.specs.declared.files.FileFault.TheVariants as file
+use Rattle.hotel_tables.specs.Files.{IsOfOpening}
 use Rattle.hotel_desk.specs.declared.faults.Fault.{Fault}
 use Rattle.hotel_desk.specs.declared.faults.Fault.TheVariants.{Memory, Store, NotADesk, Damaged, File}
 
@@ -12,3 +15,7 @@ desk_fault (file.Desk opening.Memory) = Memory
 desk_fault (file.Desk opening.Store) = Store
 desk_fault (file.Desk opening.NotADesk) = NotADesk
 desk_fault (file.Desk (opening.Damaged table)) = Damaged table
+
+-- the fault of an answer of the opening of a database file, under the program's own name
+abbrev pub IsOfFile : {D : Type 0} → Ghosts D → Fault → Type 0
+IsOfFile g f = (why : FileFault) × IsOfOpening g why × (f ≡ desk_fault why)

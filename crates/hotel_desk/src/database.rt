@@ -1,10 +1,13 @@
 //! The books of a database file, with the program's faults.
 
-ghost use Rattle.std.specs.Prelude.{◌≡◌, IfErr};
-ghost use Rattle.hotel_desk.specs.{Database.desk_fault, Faults.IsOfFiles};
+ghost use Rattle.std.specs.Prelude.{◌≡◌, IfOk, IfErr};
+ghost use Rattle.hotel_tables.specs.Files.{AreOfOpening};
+ghost use Rattle.hotel_desk.specs.{Database.desk_fault, Database.IsOfFile, Faults.IsOfFiles};
 
 use crate::faults::Fault;
 use hotel_tables::{FileBooks, FileFault, OpenFault};
+use sqlite::File;
+use sqlite_disk::Disk;
 
 /// The program's fault of a file that gave no books.
 fn desk_fault(fault: FileFault) -> Fault
@@ -22,7 +25,9 @@ fn desk_fault(fault: FileFault) -> Fault
 
 /// Opens the books of a file, and makes them where it is missing or its database has nothing.
 pub fn open_file(rt: &HostRuntime, path: &str) -> Result<FileBooks, Fault>
-    ensures { IfErr result IsOfFiles }
+    ensures books { IfOk result (λ b. AreOfOpening b.books.conn) }
+    ensures fault { IfErr result (IsOfFile ⟦<File as Disk>⟧) }
+    ensures kind { IfErr result IsOfFiles }
 {
     match hotel_tables::open_file(rt, path) {
         Ok(books) => Ok(books),
