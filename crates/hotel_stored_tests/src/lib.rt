@@ -16,6 +16,8 @@ mod stopped_stores;
 #[cfg(test)]
 mod store_stops;
 #[cfg(test)]
+mod stored_desks;
+#[cfg(test)]
 mod stored_rows;
 #[cfg(test)]
 mod tables;

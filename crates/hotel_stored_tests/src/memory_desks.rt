@@ -1,4 +1,5 @@
-//! Desks over tables in memory, as a type without parameters.
+//! Desks over tables in memory.
+use crate::stored_desks::{MemoryTables, TableDesk};
 use crate::stored_rows::{new_tables, rows_of};
 use hotel_core::{Command, Reply, step};
 use hotel_tables::TableBooks;
@@ -14,26 +15,24 @@ pub(crate) struct MemoryDesk {
     books: TableBooks<MemStore>,
 }
 
-impl MemoryDesk {
-    /// A new desk.
-    pub fn new(alloc: Global) -> Result<MemoryDesk, Fail> {
+impl TableDesk for MemoryDesk {
+    fn step(&mut self, source: &mut ListedWords, command: &Command) -> Reply {
+        step(&mut self.books, source, command)
+    }
+
+    fn rows(self, alloc: Global) -> Result<(MemoryDesk, String), Fail> {
+        let (books, text) = rows_of(alloc, self.books)?;
+        Ok((MemoryDesk { books }, text))
+    }
+}
+
+impl MemoryTables for MemoryDesk {
+    fn begun(alloc: Global) -> Result<MemoryDesk, Fail> {
         let books = new_tables(alloc)?;
         Ok(MemoryDesk { books })
     }
 
-    /// The reply to a command.
-    pub fn step(&mut self, source: &mut ListedWords, command: &Command) -> Reply {
-        step(&mut self.books, source, command)
-    }
-
-    /// The texts of the answers to an audit file's lines.
-    pub fn answers_to(&mut self, alloc: Global, file: &[u8]) -> Result<Vec<u8>, Fail> {
+    fn answers_to(&mut self, alloc: Global, file: &[u8]) -> Result<Vec<u8>, Fail> {
         answers_to(alloc, &mut self.books, file)
-    }
-
-    /// The rows as a text; the desk is closed for it, and opened again.
-    pub fn rows(self, alloc: Global) -> Result<(MemoryDesk, String), Fail> {
-        let (books, text) = rows_of(alloc, self.books)?;
-        Ok((MemoryDesk { books }, text))
     }
 }

@@ -1,7 +1,8 @@
 //! Random commands over twenty rooms, on stores that stop at a hundred places and are opened again after each.
 use crate::memory_desks::MemoryDesk;
 use crate::stopped_disks::{Contents, OUTCOMES, Outcome, Run};
-use crate::stopped_stores::{FilesDesk, calls_to_open, connect, open};
+use crate::stopped_stores::{FilesDesk, calls_to_open};
+use crate::stored_desks::{FileTables, Making, MemoryTables, TableDesk};
 use hotel_core::{Command, ListBooks, Refusal, Reply, Walks, reply_text, step};
 use hotel_lists::{FakeWriter, arrivals, audit_of, chain_of, in_house, left_behind};
 use hotel_nights::{Guest, Nights};
@@ -176,7 +177,7 @@ impl Script {
     }
 
     /// The reply to the command of this place.
-    fn reply_of(&self, desk: &mut MemoryDesk, at: u64) -> Result<Reply, Fail> {
+    fn reply_of<B: TableDesk>(&self, desk: &mut B, at: u64) -> Result<Reply, Fail> {
         let (command, mut source) = self.asked(at)?;
         Ok(desk.step(&mut source, &command))
     }
@@ -305,20 +306,24 @@ impl Stops {
 
 /// A desk on a machine's files, and the machine.
 #[derive(Drop)]
-struct Stopped {
+struct Stopped<D> {
     run: Run,
-    desk: FilesDesk,
+    desk: D,
 }
 
 /// The most openings in turn that are stopped, and the most tries of one command.
 const MOST: u64 = 200;
 
 /// The store is opened, however often it stops meanwhile.
-fn reopened(alloc: Global, mut contents: Contents, stops: &mut Stops) -> Result<Stopped, Fail> {
+fn reopened<D: FileTables + Drop>(
+    alloc: Global,
+    mut contents: Contents,
+    stops: &mut Stops,
+) -> Result<Stopped<D>, Fail> {
     for _ in 0..MOST {
-        let calls = stops.calls(calls_to_open(alloc, &contents)?);
+        let calls = stops.calls(calls_to_open::<D>(alloc, &contents)?);
         let run = Run::new(alloc, &contents, calls)?;
-        match open(alloc, &run)? {
+        match D::opened(alloc, &run)? {
             Some(desk) => return Ok(Stopped { run, desk }),
             None => contents = run.left(stops.outcome())?,
         }
@@ -327,31 +332,29 @@ fn reopened(alloc: Global, mut contents: Contents, stops: &mut Stops) -> Result<
 }
 
 /// The rows that the files have, and the files once the store is closed.
-fn found(alloc: Global, contents: &Contents) -> Result<(String, Contents), Fail> {
+fn found<D: FileTables>(alloc: Global, contents: &Contents) -> Result<(String, Contents), Fail> {
     let run = Run::new(alloc, contents, u64::MAX)?;
-    let mut store = connect(alloc, &run)?.ok_or("no store")?;
-    let text = store.rows(alloc)?;
-    store.close();
+    let text = D::rows_closed(alloc, &run)?;
     Ok((text, run.left(Outcome::Written)?))
 }
 
 /// The desk that stops, the same one in memory, and the script of both.
 #[derive(Drop)]
-struct Pair {
-    stopped: Stopped,
-    memory: MemoryDesk,
+struct Pair<D, K> {
+    stopped: Stopped<D>,
+    memory: K,
     script: Script,
     stops: Stops,
 }
 
 /// After a stop in the command of this place: whether it was carried out.
-fn is_carried_out<R: Abort + AllocGlobal>(
+fn is_carried_out<K: MemoryTables + Drop, R: Abort + AllocGlobal>(
     rt: &R,
     script: &Script,
-    memory: MemoryDesk,
+    memory: K,
     text: &String,
     at: u64,
-) -> Result<(MemoryDesk, Option<Reply>), Fail> {
+) -> Result<(K, Option<Reply>), Fail> {
     let (mut memory, before) = memory.rows(rt.alloc())?;
     if *text == before {
         return Ok((memory, None));
@@ -363,10 +366,10 @@ fn is_carried_out<R: Abort + AllocGlobal>(
 }
 
 /// The same reply in memory.
-fn replies_so<R: Abort + AllocGlobal>(
+fn replies_so<K: TableDesk, R: Abort + AllocGlobal>(
     rt: &R,
     script: &Script,
-    memory: &mut MemoryDesk,
+    memory: &mut K,
     at: u64,
     reply: Reply,
 ) -> Result<(), Fail> {
@@ -376,11 +379,11 @@ fn replies_so<R: Abort + AllocGlobal>(
 }
 
 /// One try of the command of this place: the reply to it, or none where a stop came before it was carried out.
-fn tries<R: Abort + AllocGlobal>(
+fn tries<D: FileTables + Drop, K: MemoryTables + Drop, R: Abort + AllocGlobal>(
     rt: &R,
-    pair: Pair,
+    pair: Pair<D, K>,
     at: u64,
-) -> Result<(Pair, Option<Reply>), Fail> {
+) -> Result<(Pair<D, K>, Option<Reply>), Fail> {
     let Pair {
         stopped: Stopped { run, mut desk },
         mut memory,
@@ -401,7 +404,7 @@ fn tries<R: Abort + AllocGlobal>(
         return Ok((pair, Some(reply)));
     }
     let contents = run.left(stops.outcome())?;
-    let (text, closed) = found(rt.alloc(), &contents)?;
+    let (text, closed) = found::<D>(rt.alloc(), &contents)?;
     let (memory, reply) = is_carried_out(rt, &script, memory, &text, at)?;
     let next = if stops.draws.below(2) == 0 {
         closed
@@ -419,7 +422,11 @@ fn tries<R: Abort + AllocGlobal>(
 }
 
 /// The command of this place is carried out, however often the store stops meanwhile.
-fn carries_out<R: Abort + AllocGlobal>(rt: &R, mut pair: Pair, at: u64) -> Result<Pair, Fail> {
+fn carries_out<D: FileTables + Drop, K: MemoryTables + Drop, R: Abort + AllocGlobal>(
+    rt: &R,
+    mut pair: Pair<D, K>,
+    at: u64,
+) -> Result<Pair<D, K>, Fail> {
     for _ in 0..MOST {
         let (mut next, reply) = tries(rt, pair, at)?;
         if let Some(reply) = reply {
@@ -431,7 +438,10 @@ fn carries_out<R: Abort + AllocGlobal>(rt: &R, mut pair: Pair, at: u64) -> Resul
     Err(Fail::from("never carried out"))
 }
 
-fn all_carried_out<R: Abort + AllocGlobal>(rt: &R, mut pair: Pair) -> Result<Pair, Fail> {
+fn all_carried_out<D: FileTables + Drop, K: MemoryTables + Drop, R: Abort + AllocGlobal>(
+    rt: &R,
+    mut pair: Pair<D, K>,
+) -> Result<Pair<D, K>, Fail> {
     for at in 0..COMMANDS {
         pair = carries_out(rt, pair, at)?;
     }
@@ -439,60 +449,76 @@ fn all_carried_out<R: Abort + AllocGlobal>(rt: &R, mut pair: Pair) -> Result<Pai
 }
 
 /// A new desk on files, whose making isn't stopped.
-fn new_files(alloc: Global) -> Result<Contents, Fail> {
+fn new_files<D: FileTables>(alloc: Global) -> Result<Contents, Fail> {
     let run = Run::new(alloc, &Contents::empty(alloc), u64::MAX)?;
-    let store = connect(alloc, &run)?.ok_or("no store")?;
-    let _desk = store.create(alloc)?;
-    run.left(Outcome::Written)
+    match D::made(alloc, &run)? {
+        Making::Done => run.left(Outcome::Written),
+        _ => Err(Fail::from("no desk")),
+    }
 }
 
-fn new_pair(alloc: Global, seed: u64) -> Result<Pair, Fail> {
+fn new_pair<D: FileTables + Drop, K: MemoryTables + Drop>(
+    alloc: Global,
+    seed: u64,
+) -> Result<Pair<D, K>, Fail> {
     let mut stops = Stops {
         draws: Draws::of(seed, 0),
         left: STOPS,
     };
     Ok(Pair {
-        stopped: reopened(alloc, new_files(alloc)?, &mut stops)?,
-        memory: MemoryDesk::new(alloc)?,
+        stopped: reopened(alloc, new_files::<D>(alloc)?, &mut stops)?,
+        memory: K::begun(alloc)?,
         script: Script::new(alloc, seed)?,
         stops,
     })
 }
 
 /// The books come to the same lists as books in memory over which the script runs without a stop.
-fn lists_are<R: Abort + AllocGlobal>(rt: &R, pair: &mut Pair, seed: u64) -> Result<(), Fail> {
+fn lists_are<D: FileTables, R: Abort + AllocGlobal>(
+    rt: &R,
+    desk: &mut D,
+    seed: u64,
+) -> Result<(), Fail> {
     let mut books = ListBooks::empty(rt.alloc());
     let mut script = Script::new(rt.alloc(), seed)?;
     let done = runs(&mut script, &mut books)?;
     assert!(rt; done > 100, "seed {seed}: {done}");
     let wanted = lists_of(rt.alloc(), &mut books)?;
-    let lists = pair.stopped.desk.lists(rt.alloc())?;
+    let lists = desk.lists(rt.alloc())?;
     assert!(rt; lists.written() == wanted.written(), "seed {seed}");
     Ok(())
 }
 
 /// The script of a seed, stopped at a hundred places.
-fn is_stopped<R: Abort + AllocGlobal>(rt: &R, seed: u64) -> Result<(), Fail> {
-    let mut pair = all_carried_out(rt, new_pair(rt.alloc(), seed)?)?;
-    assert!(rt; pair.stops.left == 0);
-    lists_are(rt, &mut pair, seed)?;
+fn is_stopped<D: FileTables + Drop, K: MemoryTables + Drop, R: Abort + AllocGlobal>(
+    rt: &R,
+    seed: u64,
+) -> Result<(), Fail> {
     let Pair {
         stopped,
         memory,
         script: _,
-        stops: _,
-    } = pair;
-    let Stopped { run: _, desk } = stopped;
+        stops,
+    } = all_carried_out(rt, new_pair::<D, K>(rt.alloc(), seed)?)?;
+    assert!(rt; stops.left == 0);
+    let Stopped { run: _, mut desk } = stopped;
+    lists_are(rt, &mut desk, seed)?;
     let (_desk, text) = desk.rows(rt.alloc())?;
     let (_memory, wanted) = memory.rows(rt.alloc())?;
     assert!(rt; text == wanted);
     Ok(())
 }
 
-#[test]
-fn scripts_are_stopped(rt: HostRuntime) -> Result<(), Fail> {
+fn are_stopped<D: FileTables + Drop, K: MemoryTables + Drop, R: Abort + AllocGlobal>(
+    rt: &R,
+) -> Result<(), Fail> {
     for seed in SEEDS {
-        is_stopped(&rt, *seed)?;
+        is_stopped::<D, K, R>(rt, *seed)?;
     }
     Ok(())
+}
+
+#[test]
+fn scripts_are_stopped(rt: HostRuntime) -> Result<(), Fail> {
+    are_stopped::<FilesDesk, MemoryDesk, _>(&rt)
 }

@@ -1,6 +1,7 @@
-//! Stores and desks on a machine's files, as types without parameters: what stands over them is compared by its name alone.
+//! Desks on a machine's files.
 use crate::stopped_disks::{Contents, Run, Watched};
 use crate::stopped_scripts::lists_of;
+use crate::stored_desks::{FileTables, Making, TableDesk};
 use crate::stored_rows::{created, opened, rows_of, rows_text};
 use hotel_audit::{ImportFault, LineAnswer, import};
 use hotel_core::{Command, Reply, step};
@@ -9,18 +10,12 @@ use hotel_tables::{OpenFault, TableBooks};
 use hotel_tests::rooms_now::note_count;
 use hotel_tests::sent_again::{TWICE, comes_again};
 use keycard_rules::ListedWords;
-use sqlite::{Connection, FileStore, Files, Options};
+use sqlite::{Alter, Connection, FileStore, Files, Options};
 use sqlite_disk::{Disk, Memory};
 use std::alloc::Global;
 use std::test::Fail;
 
 type Store = FileStore<Watched<Memory>>;
-
-/// The store of a machine's files.
-#[derive(Drop)]
-pub(crate) struct FilesStore {
-    conn: Connection<Store>,
-}
 
 /// A desk on a machine's files.
 #[derive(Drop)]
@@ -40,95 +35,118 @@ fn connected<D: Disk + Drop>(alloc: Global, files: Files<D>) -> Option<Connectio
 }
 
 /// The store of the machine's files. None where it stopped.
-pub(crate) fn connect(alloc: Global, run: &Run) -> Result<Option<FilesStore>, Fail> {
-    match connected(alloc, run.disks(alloc)?) {
-        Some(conn) => Ok(Some(FilesStore { conn })),
-        None => Ok(None),
+fn connect(alloc: Global, run: &Run) -> Result<Option<Connection<Store>>, Fail> {
+    Ok(connected(alloc, run.disks(alloc)?))
+}
+
+/// The desk of a store, and its rows: none where it has no tables, and then a desk is made there.
+fn found_in<S: Alter + Drop>(
+    alloc: Global,
+    conn: Option<Connection<S>>,
+) -> Result<(TableBooks<S>, String), Fail> {
+    let mut conn = conn.ok_or("no store")?;
+    if conn.schema().tables.is_empty() {
+        return Ok((created(alloc, conn)?, String::new(alloc)));
+    }
+    let text = rows_text(alloc, &mut conn)?;
+    Ok((opened(alloc, conn)?, text))
+}
+
+/// A store, and its rows.
+fn rows_in<S: Alter + Drop>(
+    alloc: Global,
+    conn: Option<Connection<S>>,
+) -> Result<(Connection<S>, String), Fail> {
+    let mut conn = conn.ok_or("no store")?;
+    let text = rows_text(alloc, &mut conn)?;
+    Ok((conn, text))
+}
+
+/// How far the making of a desk on a store came.
+fn made_in<S: Alter + Drop>(alloc: Global, conn: Option<Connection<S>>) -> Result<Making, Fail> {
+    let Some(conn) = conn else {
+        return Ok(Making::NotBegun);
+    };
+    match created(alloc, conn) {
+        Ok(_) => Ok(Making::Done),
+        Err(OpenFault::Store) => Ok(Making::Stopped),
+        Err(why) => Err(Fail::from(why)),
     }
 }
 
-impl FilesStore {
-    /// Whether it has no tables.
-    pub fn is_bare(&self) -> bool {
-        self.conn.schema().tables.is_empty()
-    }
-
-    /// The rows of a desk's tables as a text.
-    pub fn rows(&mut self, alloc: Global) -> Result<String, Fail> {
-        rows_text(alloc, &mut self.conn)
-    }
-
-    /// A new desk there.
-    pub fn create(self, alloc: Global) -> Result<FilesDesk, OpenFault> {
-        match created(alloc, self.conn) {
-            Ok(books) => Ok(FilesDesk { books }),
-            Err(why) => Err(why),
-        }
-    }
-
-    /// The desk there.
-    pub fn open(self, alloc: Global) -> Result<FilesDesk, OpenFault> {
-        match opened(alloc, self.conn) {
-            Ok(books) => Ok(FilesDesk { books }),
-            Err(why) => Err(why),
-        }
-    }
-
-    /// Closes the store.
-    pub fn close(self) {
-        let _ = self.conn.close();
-    }
-}
-
-impl FilesDesk {
-    /// The reply to a command.
-    pub fn step(&mut self, source: &mut ListedWords, command: &Command) -> Reply {
-        step(&mut self.books, source, command)
-    }
-
-    /// The answers to an audit file's lines.
-    pub fn import(&mut self, alloc: Global, file: &[u8]) -> Result<Vec<LineAnswer>, ImportFault> {
-        import(alloc, &mut self.books, file)
-    }
-
-    /// The two notes are sent again, after those that stood: whether they are answered, and stand, as they should.
-    pub fn comes_again(&mut self, alloc: Global) -> Result<bool, Fail> {
-        let stood = note_count(&mut self.books)?;
-        comes_again(alloc, &mut self.books, &TWICE, stood as usize)
-    }
-
-    /// The rows as a text; the desk is closed for it, and opened again.
-    pub fn rows(self, alloc: Global) -> Result<(FilesDesk, String), Fail> {
-        let (books, text) = rows_of(alloc, self.books)?;
-        Ok((FilesDesk { books }, text))
-    }
-
-    /// What is written of its lists.
-    pub fn lists(&mut self, alloc: Global) -> Result<FakeWriter, Fail> {
-        lists_of(alloc, &mut self.books)
-    }
-
-    /// Closes the desk, as far as the store does.
-    pub fn close(self) {
-        let _ = self.books.close().close();
-    }
-}
-
-/// The desk of the machine's files. None where it stopped.
-pub(crate) fn open(alloc: Global, run: &Run) -> Result<Option<FilesDesk>, Fail> {
-    let Some(store) = connect(alloc, run)? else {
+/// The desk of a store. None where it stopped.
+fn opened_in<S: Alter + Drop>(
+    alloc: Global,
+    conn: Option<Connection<S>>,
+) -> Result<Option<TableBooks<S>>, Fail> {
+    let Some(conn) = conn else {
         return Ok(None);
     };
-    match store.open(alloc) {
-        Ok(desk) => Ok(Some(desk)),
+    match opened(alloc, conn) {
+        Ok(books) => Ok(Some(books)),
         Err(OpenFault::Store) => Ok(None),
         Err(why) => Err(Fail::from(why)),
     }
 }
 
+impl TableDesk for FilesDesk {
+    fn step(&mut self, source: &mut ListedWords, command: &Command) -> Reply {
+        step(&mut self.books, source, command)
+    }
+
+    fn rows(self, alloc: Global) -> Result<(FilesDesk, String), Fail> {
+        let (books, text) = rows_of(alloc, self.books)?;
+        Ok((FilesDesk { books }, text))
+    }
+}
+
+impl FileTables for FilesDesk {
+    fn made(alloc: Global, run: &Run) -> Result<Making, Fail> {
+        made_in(alloc, connect(alloc, run)?)
+    }
+
+    fn opened(alloc: Global, run: &Run) -> Result<Option<FilesDesk>, Fail> {
+        match opened_in(alloc, connect(alloc, run)?)? {
+            Some(books) => Ok(Some(FilesDesk { books })),
+            None => Ok(None),
+        }
+    }
+
+    fn found(alloc: Global, run: &Run) -> Result<(FilesDesk, String), Fail> {
+        let (books, text) = found_in(alloc, connect(alloc, run)?)?;
+        Ok((FilesDesk { books }, text))
+    }
+
+    fn rows_closed(alloc: Global, run: &Run) -> Result<String, Fail> {
+        let (conn, text) = rows_in(alloc, connect(alloc, run)?)?;
+        let _ = conn.close();
+        Ok(text)
+    }
+
+    fn import(&mut self, alloc: Global, file: &[u8]) -> Result<Vec<LineAnswer>, ImportFault> {
+        import(alloc, &mut self.books, file)
+    }
+
+    fn comes_again(&mut self, alloc: Global) -> Result<bool, Fail> {
+        let stood = note_count(&mut self.books)?;
+        comes_again(alloc, &mut self.books, &TWICE, stood as usize)
+    }
+
+    fn lists(&mut self, alloc: Global) -> Result<FakeWriter, Fail> {
+        lists_of(alloc, &mut self.books)
+    }
+
+    fn close(self) {
+        let _ = self.books.close().close();
+    }
+}
+
 /// How many calls the opening of a desk takes.
-pub(crate) fn calls_to_open(alloc: Global, contents: &Contents) -> Result<u64, Fail> {
+pub(crate) fn calls_to_open<D: FileTables + Drop>(
+    alloc: Global,
+    contents: &Contents,
+) -> Result<u64, Fail> {
     let run = Run::new(alloc, contents, u64::MAX)?;
-    let _desk = open(alloc, &run)?;
+    let _desk = D::opened(alloc, &run)?;
     run.calls()
 }

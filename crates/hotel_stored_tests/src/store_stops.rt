@@ -2,11 +2,11 @@
 //! the store is opened again, and its rows are those before the call or after it; after an answer, those after it.
 use crate::memory_desks::MemoryDesk;
 use crate::stopped_disks::{Contents, OUTCOMES, Outcome, Run};
-use crate::stopped_stores::{FilesDesk, FilesStore, calls_to_open, connect, open};
+use crate::stopped_stores::{FilesDesk, calls_to_open};
+use crate::stored_desks::{FileTables, Making, MemoryTables, TableDesk};
 use hotel_asks::{Ask, Verb, read_ask};
 use hotel_audit::{ImportFault, LineAnswer};
 use hotel_core::{Command, Refusal, Reply};
-use hotel_tables::OpenFault;
 use hotel_tests::desks::words_of;
 use hotel_tests::rooms_now::FIRST_ENTRY;
 use hotel_tests::sent_again::TWICE;
@@ -107,16 +107,17 @@ fn how_far(reply: &Reply) -> Result<Reached, Fail> {
 }
 
 /// Takes a step, and says how far that came.
-fn takes_step(alloc: Global, desk: &mut FilesDesk, asked: &Step) -> Result<Reached, Fail> {
+fn takes_step<B: TableDesk>(alloc: Global, desk: &mut B, asked: &Step) -> Result<Reached, Fail> {
     let (command, mut source) = asked_of(alloc, asked)?;
     how_far(&desk.step(&mut source, &command))
 }
 
-fn creates(alloc: Global, store: FilesStore) -> Result<Reached, Fail> {
-    match store.create(alloc) {
-        Ok(_) => Ok(AFTER),
-        Err(OpenFault::Store) => Ok(EITHER),
-        Err(why) => Err(Fail::from(why)),
+/// How far the making of a desk came.
+fn how_far_made(made: Making) -> Reached {
+    match made {
+        Making::NotBegun => BEFORE,
+        Making::Stopped => EITHER,
+        Making::Done => AFTER,
     }
 }
 
@@ -137,7 +138,7 @@ fn imported(end: Result<Vec<LineAnswer>, ImportFault>) -> Result<Reached, Fail> 
 
 impl Task {
     /// Does the task on an open desk.
-    fn acts(&self, alloc: Global, mut desk: FilesDesk) -> Result<Reached, Fail> {
+    fn acts<D: FileTables + Drop>(&self, alloc: Global, mut desk: D) -> Result<Reached, Fail> {
         match self {
             Task::Step(asked) => takes_step(alloc, &mut desk, asked),
             Task::Import => imported(desk.import(alloc, TWICE.file)),
@@ -150,13 +151,10 @@ impl Task {
     }
 
     /// Opens the store and does the task, and says how far that came.
-    fn runs(&self, alloc: Global, run: &Run) -> Result<Reached, Fail> {
+    fn runs<D: FileTables + Drop>(&self, alloc: Global, run: &Run) -> Result<Reached, Fail> {
         match self {
-            Task::Create => match connect(alloc, run)? {
-                Some(store) => creates(alloc, store),
-                None => Ok(BEFORE),
-            },
-            _ => match open(alloc, run)? {
+            Task::Create => Ok(how_far_made(D::made(alloc, run)?)),
+            _ => match D::opened(alloc, run)? {
                 Some(desk) => self.acts(alloc, desk),
                 None => Ok(BEFORE),
             },
@@ -164,21 +162,16 @@ impl Task {
     }
 
     /// How many calls come before those that are stopped: a desk's opening is a task of its own.
-    fn first_call(&self, alloc: Global, contents: &Contents) -> Result<u64, Fail> {
+    fn first_call<D: FileTables + Drop>(
+        &self,
+        alloc: Global,
+        contents: &Contents,
+    ) -> Result<u64, Fail> {
         match self {
             Task::Create | Task::Open => Ok(0),
-            _ => calls_to_open(alloc, contents),
+            _ => calls_to_open::<D>(alloc, contents),
         }
     }
-}
-
-/// The desk of a store that is opened again, and its rows: none where it has no tables, and then a desk is made there.
-fn found(alloc: Global, mut store: FilesStore) -> Result<(FilesDesk, String), Fail> {
-    if store.is_bare() {
-        return Ok((store.create(alloc)?, String::new(alloc)));
-    }
-    let text = store.rows(alloc)?;
-    Ok((store.open(alloc)?, text))
 }
 
 /// How many stops there were, and how often a store was opened after one.
@@ -208,10 +201,10 @@ impl Path {
 }
 
 /// The two notes are sent again, and then the tables are those of both.
-fn sent_again<R: Abort + AllocGlobal>(
+fn sent_again<D: FileTables + Drop, R: Abort + AllocGlobal>(
     rt: &R,
     path: &Path,
-    mut desk: FilesDesk,
+    mut desk: D,
 ) -> Result<(), Fail> {
     assert!(rt; desk.comes_again(rt.alloc())?);
     let (_desk, text) = desk.rows(rt.alloc())?;
@@ -220,7 +213,7 @@ fn sent_again<R: Abort + AllocGlobal>(
 }
 
 /// The store of these files is opened, and its rows are as far as the task came.
-fn is_found<R: Abort + AllocGlobal>(
+fn is_found<D: FileTables + Drop, R: Abort + AllocGlobal>(
     rt: &R,
     task: &Task,
     path: &Path,
@@ -228,8 +221,7 @@ fn is_found<R: Abort + AllocGlobal>(
     reached: Reached,
 ) -> Result<(), Fail> {
     let run = Run::new(rt.alloc(), left, u64::MAX)?;
-    let store = connect(rt.alloc(), &run)?.ok_or("no store")?;
-    let (desk, text) = found(rt.alloc(), store)?;
+    let (desk, text) = D::found(rt.alloc(), &run)?;
     assert!(rt; path.is_among(reached, &text), "{text}");
     match task {
         Task::Import => sent_again(rt, path, desk),
@@ -238,7 +230,7 @@ fn is_found<R: Abort + AllocGlobal>(
 }
 
 /// Each of the different outcomes of a stop is opened: how many they are.
-fn are_found<R: Abort + AllocGlobal>(
+fn are_found<D: FileTables + Drop, R: Abort + AllocGlobal>(
     rt: &R,
     task: &Task,
     path: &Path,
@@ -249,7 +241,7 @@ fn are_found<R: Abort + AllocGlobal>(
     for outcome in OUTCOMES {
         let left = run.left(outcome)?;
         if !all.contains(&left) {
-            is_found(rt, task, path, &left, reached)?;
+            is_found::<D, R>(rt, task, path, &left, reached)?;
             all.push(left)?;
         }
     }
@@ -260,16 +252,20 @@ fn are_found<R: Abort + AllocGlobal>(
 const MOST: u64 = 400;
 
 /// The task is stopped at each store call in turn, until it ends without a stop.
-fn stops<R: Abort + AllocGlobal>(rt: &R, task: &Task, path: &Path) -> Result<Tries, Fail> {
+fn stops<D: FileTables + Drop, R: Abort + AllocGlobal>(
+    rt: &R,
+    task: &Task,
+    path: &Path,
+) -> Result<Tries, Fail> {
     let mut tries = NO_TRIES;
-    let first = task.first_call(rt.alloc(), &path.contents)?;
+    let first = task.first_call::<D>(rt.alloc(), &path.contents)?;
     for calls in first..first.saturating_add(MOST) {
         let run = Run::new(rt.alloc(), &path.contents, calls)?;
-        let reached = task.runs(rt.alloc(), &run)?;
+        let reached = task.runs::<D>(rt.alloc(), &run)?;
         if !run.has_stopped()? {
             return Ok(tries);
         }
-        let openings = are_found(rt, task, path, &run, reached)?;
+        let openings = are_found::<D, R>(rt, task, path, &run, reached)?;
         tries = tries.and(Tries { stops: 1, openings });
     }
     Err(Fail::from("no end"))
@@ -297,53 +293,64 @@ const NO_TRIES: Tries = Tries {
 
 /// The files of a closed desk, the same desk over tables in memory, and its rows.
 #[derive(Drop)]
-struct Course {
+struct Course<K> {
     contents: Contents,
-    desk: MemoryDesk,
+    desk: K,
     rows: String,
 }
 
 /// The files after a task that isn't stopped.
-fn after(alloc: Global, task: &Task, contents: &Contents) -> Result<Contents, Fail> {
+fn after<D: FileTables + Drop>(
+    alloc: Global,
+    task: &Task,
+    contents: &Contents,
+) -> Result<Contents, Fail> {
     let run = Run::new(alloc, contents, u64::MAX)?;
-    task.runs(alloc, &run)?;
+    task.runs::<D>(alloc, &run)?;
     run.left(Outcome::Written)
 }
 
 /// The same, once the desk is closed.
-fn closed_after(alloc: Global, task: &Task, contents: &Contents) -> Result<Contents, Fail> {
-    after(alloc, &Task::Close, &after(alloc, task, contents)?)
+fn closed_after<D: FileTables + Drop>(
+    alloc: Global,
+    task: &Task,
+    contents: &Contents,
+) -> Result<Contents, Fail> {
+    let contents = after::<D>(alloc, task, contents)?;
+    after::<D>(alloc, &Task::Close, &contents)
 }
 
 /// A new desk.
-fn new_course(alloc: Global) -> Result<Course, Fail> {
-    let (desk, rows) = MemoryDesk::new(alloc)?.rows(alloc)?;
+fn new_course<D: FileTables + Drop, K: MemoryTables + Drop>(
+    alloc: Global,
+) -> Result<Course<K>, Fail> {
+    let (desk, rows) = K::begun(alloc)?.rows(alloc)?;
     Ok(Course {
-        contents: closed_after(alloc, &Task::Create, &Contents::empty(alloc))?,
+        contents: closed_after::<D>(alloc, &Task::Create, &Contents::empty(alloc))?,
         desk,
         rows,
     })
 }
 
-impl Course {
+impl<K: MemoryTables + Drop> Course<K> {
     /// The step is done.
-    fn takes(self, alloc: Global, asked: &Step) -> Result<Course, Fail> {
+    fn takes<D: FileTables + Drop>(self, alloc: Global, asked: &Step) -> Result<Course<K>, Fail> {
         let mut desk = self.desk;
         let (command, mut source) = asked_of(alloc, asked)?;
         how_far(&desk.step(&mut source, &command))?;
         let (desk, rows) = desk.rows(alloc)?;
         Ok(Course {
-            contents: closed_after(alloc, &Task::Step(*asked), &self.contents)?,
+            contents: closed_after::<D>(alloc, &Task::Step(*asked), &self.contents)?,
             desk,
             rows,
         })
     }
 
     /// The steps are done.
-    fn after(alloc: Global, steps: &[Step]) -> Result<Course, Fail> {
-        let mut course = new_course(alloc)?;
+    fn after<D: FileTables + Drop>(alloc: Global, steps: &[Step]) -> Result<Course<K>, Fail> {
+        let mut course = new_course::<D, K>(alloc)?;
         for asked in steps {
-            course = course.takes(alloc, asked)?;
+            course = course.takes::<D>(alloc, asked)?;
         }
         Ok(course)
     }
@@ -360,71 +367,58 @@ impl Course {
 }
 
 /// Each of the steps is stopped at each store call, and then done.
-fn are_stopped<R: Abort + AllocGlobal>(
+fn are_stopped<D: FileTables + Drop, K: MemoryTables + Drop, R: Abort + AllocGlobal>(
     rt: &R,
-    mut course: Course,
+    mut course: Course<K>,
     steps: &[Step],
 ) -> Result<Tries, Fail> {
     let mut tries = NO_TRIES;
     for asked in steps {
         let mut path = course.path(rt.alloc())?;
-        course = course.takes(rt.alloc(), asked)?;
+        course = course.takes::<D>(rt.alloc(), asked)?;
         path.states.push(course.rows.clone()?)?;
-        tries = tries.and(stops(rt, &Task::Step(*asked), &path)?);
+        tries = tries.and(stops::<D, R>(rt, &Task::Step(*asked), &path)?);
     }
     Ok(tries)
 }
 
 /// The steps are stopped on a desk after the earlier ones.
-fn are_stopped_after<R: Abort + AllocGlobal>(
+fn are_stopped_after<D: FileTables + Drop, K: MemoryTables + Drop, R: Abort + AllocGlobal>(
     rt: &R,
     earlier: &[Step],
     steps: &[Step],
 ) -> Result<Tries, Fail> {
-    are_stopped(rt, Course::after(rt.alloc(), earlier)?, steps)
-}
-
-#[test]
-fn a_check_in_is_stopped(rt: HostRuntime) -> Result<(), Fail> {
-    let tries = are_stopped_after(&rt, &[], CHECKED_IN)?;
-    tries.are_many(&rt, 25, 60);
-    Ok(())
-}
-
-#[test]
-fn a_stay_is_stopped(rt: HostRuntime) -> Result<(), Fail> {
-    let tries = are_stopped_after(&rt, CHECKED_IN, CHECKED_OUT)?;
-    tries.are_many(&rt, 60, 140);
-    Ok(())
+    let course = Course::<K>::after::<D>(rt.alloc(), earlier)?;
+    are_stopped::<D, K, R>(rt, course, steps)
 }
 
 /// The making of a desk.
-#[test]
-fn a_new_desk_is_stopped(rt: HostRuntime) -> Result<(), Fail> {
+fn is_made<D: FileTables + Drop, K: MemoryTables + Drop, R: Abort + AllocGlobal>(
+    rt: &R,
+) -> Result<Tries, Fail> {
     let mut path = Path {
         contents: Contents::empty(rt.alloc()),
         states: Vec::new(rt.alloc()),
     };
     path.states.push(String::new(rt.alloc()))?;
-    path.states.push(new_course(rt.alloc())?.rows)?;
-    let tries = stops(&rt, &Task::Create, &path)?;
-    tries.are_many(&rt, 30, 50);
-    Ok(())
+    let course = new_course::<D, K>(rt.alloc())?;
+    path.states.push(course.rows)?;
+    stops::<D, R>(rt, &Task::Create, &path)
 }
 
 /// The desk after an import of the file, and its rows.
-fn after_import(
+fn after_import<K: MemoryTables + Drop>(
     alloc: Global,
-    mut desk: MemoryDesk,
+    mut desk: K,
     file: &[u8],
-) -> Result<(MemoryDesk, String), Fail> {
+) -> Result<(K, String), Fail> {
     desk.answers_to(alloc, file)?;
     desk.rows(alloc)
 }
 
 /// The way of an import: the rows before it, after its first note, and after both.
-fn import_path(alloc: Global) -> Result<Path, Fail> {
-    let course = Course::after(alloc, CHECKED_IN)?;
+fn import_path<D: FileTables + Drop, K: MemoryTables + Drop>(alloc: Global) -> Result<Path, Fail> {
+    let course = Course::<K>::after::<D>(alloc, CHECKED_IN)?;
     let mut path = course.path(alloc)?;
     let (desk, first) = after_import(alloc, course.desk, FIRST_ENTRY)?;
     let (_desk, both) = after_import(alloc, desk, TWICE.file)?;
@@ -433,21 +427,80 @@ fn import_path(alloc: Global) -> Result<Path, Fail> {
     Ok(path)
 }
 
-#[test]
-fn stopped_import(rt: HostRuntime) -> Result<(), Fail> {
-    let tries = stops(&rt, &Task::Import, &import_path(rt.alloc())?)?;
-    tries.are_many(&rt, 10, 20);
-    Ok(())
+/// The import of a file of two notes.
+fn is_imported<D: FileTables + Drop, K: MemoryTables + Drop, R: Abort + AllocGlobal>(
+    rt: &R,
+) -> Result<Tries, Fail> {
+    let path = import_path::<D, K>(rt.alloc())?;
+    stops::<D, R>(rt, &Task::Import, &path)
 }
 
 /// The opening and the closing of a desk of which the log has the last changes.
-#[test]
-fn an_opening_and_a_closing_are_stopped(rt: HostRuntime) -> Result<(), Fail> {
-    let mut path = import_path(rt.alloc())?;
-    path.contents = after(rt.alloc(), &Task::Import, &path.contents)?;
+fn is_opened_and_closed<D: FileTables + Drop, K: MemoryTables + Drop, R: Abort + AllocGlobal>(
+    rt: &R,
+) -> Result<Tries, Fail> {
+    let mut path = import_path::<D, K>(rt.alloc())?;
+    path.contents = after::<D>(rt.alloc(), &Task::Import, &path.contents)?;
     path.states.reverse();
     path.states.truncate(1);
-    let tries = stops(&rt, &Task::Open, &path)?.and(stops(&rt, &Task::Close, &path)?);
-    tries.are_many(&rt, 120, 140);
+    let opened = stops::<D, R>(rt, &Task::Open, &path)?;
+    Ok(opened.and(stops::<D, R>(rt, &Task::Close, &path)?))
+}
+
+/// What is stopped at each store call.
+#[derive(Clone, Copy)]
+enum Subject {
+    CheckIn,
+    Stay,
+    NewDesk,
+    Import,
+    OpeningAndClosing,
+}
+
+fn stops_of<D: FileTables + Drop, K: MemoryTables + Drop, R: Abort + AllocGlobal>(
+    rt: &R,
+    subject: Subject,
+) -> Result<Tries, Fail> {
+    match subject {
+        Subject::CheckIn => are_stopped_after::<D, K, R>(rt, &[], CHECKED_IN),
+        Subject::Stay => are_stopped_after::<D, K, R>(rt, CHECKED_IN, CHECKED_OUT),
+        Subject::NewDesk => is_made::<D, K, R>(rt),
+        Subject::Import => is_imported::<D, K, R>(rt),
+        Subject::OpeningAndClosing => is_opened_and_closed::<D, K, R>(rt),
+    }
+}
+
+/// The same of the desks that are stopped, which are named here once.
+fn stops_desks<R: Abort + AllocGlobal>(rt: &R, subject: Subject) -> Result<Tries, Fail> {
+    stops_of::<FilesDesk, MemoryDesk, R>(rt, subject)
+}
+
+#[test]
+fn a_check_in_is_stopped(rt: HostRuntime) -> Result<(), Fail> {
+    stops_desks(&rt, Subject::CheckIn)?.are_many(&rt, 25, 60);
+    Ok(())
+}
+
+#[test]
+fn a_stay_is_stopped(rt: HostRuntime) -> Result<(), Fail> {
+    stops_desks(&rt, Subject::Stay)?.are_many(&rt, 60, 140);
+    Ok(())
+}
+
+#[test]
+fn a_new_desk_is_stopped(rt: HostRuntime) -> Result<(), Fail> {
+    stops_desks(&rt, Subject::NewDesk)?.are_many(&rt, 30, 50);
+    Ok(())
+}
+
+#[test]
+fn stopped_import(rt: HostRuntime) -> Result<(), Fail> {
+    stops_desks(&rt, Subject::Import)?.are_many(&rt, 10, 20);
+    Ok(())
+}
+
+#[test]
+fn an_opening_and_a_closing_are_stopped(rt: HostRuntime) -> Result<(), Fail> {
+    stops_desks(&rt, Subject::OpeningAndClosing)?.are_many(&rt, 120, 140);
     Ok(())
 }
