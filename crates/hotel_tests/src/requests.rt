@@ -314,20 +314,28 @@ pub(crate) fn exchanges_go<R: Abort + AllocGlobal>(
     Ok(())
 }
 
+/// The exchanges over each route.
+const ROUTES: &[&[Exchange]] = &[OPENING, UNREAD, DAY];
+
+/// Each route is asked at a desk, in pieces.
+fn routes_go(rt: &(impl Abort + AllocGlobal), piece: usize) -> Result<(), Fail>
+    requires { 0 < piece }
+{
+    let mut desk = empty_desk(rt.alloc())?;
+    for exchanges in ROUTES {
+        exchanges_go(rt, &mut desk, piece, exchanges)?;
+    }
+    Ok(())
+}
+
 #[test]
 fn each_route(rt: HostRuntime) -> Result<(), Fail> {
-    let mut desk = empty_desk(rt.alloc())?;
-    exchanges_go(&rt, &mut desk, 4096, OPENING)?;
-    exchanges_go(&rt, &mut desk, 4096, UNREAD)?;
-    exchanges_go(&rt, &mut desk, 4096, DAY)
+    routes_go(&rt, 4096)
 }
 
 #[test]
 fn each_route_byte_by_byte(rt: HostRuntime) -> Result<(), Fail> {
-    let mut desk = empty_desk(rt.alloc())?;
-    exchanges_go(&rt, &mut desk, 1, OPENING)?;
-    exchanges_go(&rt, &mut desk, 1, UNREAD)?;
-    exchanges_go(&rt, &mut desk, 1, DAY)
+    routes_go(&rt, 1)
 }
 
 /// A request of the scenarios, and its answer; both byte for byte.
@@ -391,15 +399,6 @@ const SCENES: &[Scene] = &[
     },
 ];
 
-/// The desk answers the scenes, one after the other.
-fn scenes_go<R: Abort + AllocGlobal>(rt: &R, desk: &mut Desk, piece: usize)
-    requires { 0 < piece }
-{
-    for scene in SCENES {
-        answers_so(rt, desk, piece, scene.request, scene.answer);
-    }
-}
-
 /// No scene began the next day.
 const NEXT_DAY: Exchange = Exchange {
     request: "POST /next-day",
@@ -422,18 +421,24 @@ fn check_in_is_served(rt: HostRuntime) -> Result<(), Fail> {
     Ok(())
 }
 
+/// A desk answers the scenes in pieces, one after the other, and none of them began the next day.
+fn scenes_go(rt: &(impl Abort + AllocGlobal), piece: usize) -> Result<(), Fail>
+    requires { 0 < piece }
+{
+    let mut desk = empty_desk(rt.alloc())?;
+    exchanges_go(rt, &mut desk, piece, OPENING)?;
+    for scene in SCENES {
+        answers_so(rt, &mut desk, piece, scene.request, scene.answer);
+    }
+    exchange_goes(rt, &mut desk, piece, &NEXT_DAY)
+}
+
 #[test]
 fn scenes_at_once(rt: HostRuntime) -> Result<(), Fail> {
-    let mut desk = empty_desk(rt.alloc())?;
-    exchanges_go(&rt, &mut desk, 4096, OPENING)?;
-    scenes_go(&rt, &mut desk, 4096);
-    exchange_goes(&rt, &mut desk, 4096, &NEXT_DAY)
+    scenes_go(&rt, 4096)
 }
 
 #[test]
 fn scenes_byte_by_byte(rt: HostRuntime) -> Result<(), Fail> {
-    let mut desk = empty_desk(rt.alloc())?;
-    exchanges_go(&rt, &mut desk, 1, OPENING)?;
-    scenes_go(&rt, &mut desk, 1);
-    exchange_goes(&rt, &mut desk, 1, &NEXT_DAY)
+    scenes_go(&rt, 1)
 }
