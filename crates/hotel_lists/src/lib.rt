@@ -8,6 +8,7 @@ mod fault;
 mod gathered;
 mod line;
 mod lines;
+mod listing;
 mod lists;
 mod write_lists;
 

@@ -10,11 +10,23 @@ use crate::calls::IoCalls;
 use crate::fault::ListFault;
 use crate::gathered::Gathered;
 use crate::lines::{Lines, listed};
+use crate::listing::{Arrivals, AuditOf, ChainOf, InHouse, LeftBehind, Listing};
 use hotel_core::Walks;
 use hotel_nights::Day;
 use keycard_rules::{LookFault, RoomNo};
 use std::alloc::Global;
 use std::io::Write;
+
+/// The headers of the lists.
+const ARRIVALS: &[u8] = b"party,guest,kind,arrive,depart\n";
+
+const HOUSE: &[u8] = b"room,party,guest,kind,depart,secured\n";
+
+const CHAIN: &[u8] = b"place,code,state\n";
+
+const BEHIND: &[u8] = b"room,held,current,awaited\n";
+
+const AUDIT: &[u8] = b"room,count,kind,card,old,new,at\n";
 
 /// Whether the room is there, or why no list of it is written.
 fn find_room<B: Walks>(books: &mut B, room: RoomNo) -> Result<(), ListFault>
@@ -28,6 +40,48 @@ fn find_room<B: Walks>(books: &mut B, room: RoomNo) -> Result<(), ListFault>
         Err(LookFault::Memory) => Err(ListFault::Memory),
         Err(LookFault::Store) => Err(ListFault::Store),
     }
+}
+
+/// Writes the header of a list and the lines of its rows.
+fn write_rows<B: Walks, L: Listing<B>, W: Write>(
+    alloc: Global,
+    books: &mut B,
+    list: &L,
+    header: &[u8],
+    writer: &mut W,
+    calls: &mut IoCalls,
+) -> Result<(), ListFault>
+    ensures text { B.is_clean books.new → Lists (W.contents writer.old) (W.contents writer.new) header.now L.Row.line (L.rows list.now (B.rows books.old)) result }
+    ensures no_room { result ≡ Err NoRoom → ⊥ }
+    ensures books { LooksAt B.Issued books.old books.new result }
+    ensures failed { result ≡ Err Write → calls.new.write_failed ≡ true }
+    ensures calls { NoneForgotten calls.old calls.new }
+{
+    write_bytes(writer, header, calls)?;
+    let mut gathered = Gathered::none(alloc);
+    let mut lines = Lines::new(writer, calls, &mut gathered);
+    let walked = list.walk(books, &mut lines);
+    let end = lines.finish(walked);
+    listed(end, lines.write_failed)
+}
+
+/// Writes a list of a room, where the room is there.
+fn write_room_rows<B: Walks, L: Listing<B>, W: Write>(
+    alloc: Global,
+    books: &mut B,
+    room: RoomNo,
+    list: &L,
+    header: &[u8],
+    writer: &mut W,
+    calls: &mut IoCalls,
+) -> Result<(), ListFault>
+    ensures text { B.is_clean books.new → ListsRoom (room_at (B.rows books.old) room) (W.contents writer.old) (W.contents writer.new) header.now L.Row.line (L.rows list.now (B.rows books.old)) result }
+    ensures books { LooksAt B.Issued books.old books.new result }
+    ensures failed { result ≡ Err Write → calls.new.write_failed ≡ true }
+    ensures calls { NoneForgotten calls.old calls.new }
+{
+    find_room(books, room)?;
+    write_rows(alloc, books, list, header, writer, calls)
 }
 
 /// Writes the booked stays that take the night of a day, by party.
@@ -44,12 +98,7 @@ pub fn write_arrivals<B: Walks, W: Write>(
     ensures failed { result ≡ Err Write → calls.new.write_failed ≡ true }
     ensures calls { NoneForgotten calls.old calls.new }
 {
-    write_bytes(writer, b"party,guest,kind,arrive,depart\n", calls)?;
-    let mut gathered = Gathered::none(alloc);
-    let mut lines = Lines::new(writer, calls, &mut gathered);
-    let walked = books.walk_arrivals(day, &mut lines);
-    let end = lines.finish(walked);
-    listed(end, lines.write_failed)
+    write_rows(alloc, books, &Arrivals(day), ARRIVALS, writer, calls)
 }
 
 /// Writes the rooms with a registered party, by room.
@@ -65,12 +114,7 @@ pub fn write_in_house<B: Walks, W: Write>(
     ensures failed { result ≡ Err Write → calls.new.write_failed ≡ true }
     ensures calls { NoneForgotten calls.old calls.new }
 {
-    write_bytes(writer, b"room,party,guest,kind,depart,secured\n", calls)?;
-    let mut gathered = Gathered::none(alloc);
-    let mut lines = Lines::new(writer, calls, &mut gathered);
-    let walked = books.walk_in_house(&mut lines);
-    let end = lines.finish(walked);
-    listed(end, lines.write_failed)
+    write_rows(alloc, books, &InHouse, HOUSE, writer, calls)
 }
 
 /// Writes the codes of a room in order of issue. `NoRoom` where it isn't there.
@@ -86,13 +130,7 @@ pub fn write_chain_of<B: Walks, W: Write>(
     ensures failed { result ≡ Err Write → calls.new.write_failed ≡ true }
     ensures calls { NoneForgotten calls.old calls.new }
 {
-    find_room(books, room)?;
-    write_bytes(writer, b"place,code,state\n", calls)?;
-    let mut gathered = Gathered::none(alloc);
-    let mut lines = Lines::new(writer, calls, &mut gathered);
-    let walked = books.walk_chain(room, &mut lines);
-    let end = lines.finish(walked);
-    listed(end, lines.write_failed)
+    write_room_rows(alloc, books, room, &ChainOf(room), CHAIN, writer, calls)
 }
 
 /// Writes the rooms whose lock awaits two codes or more, by room.
@@ -108,12 +146,7 @@ pub fn write_left_behind<B: Walks, W: Write>(
     ensures failed { result ≡ Err Write → calls.new.write_failed ≡ true }
     ensures calls { NoneForgotten calls.old calls.new }
 {
-    write_bytes(writer, b"room,held,current,awaited\n", calls)?;
-    let mut gathered = Gathered::none(alloc);
-    let mut lines = Lines::new(writer, calls, &mut gathered);
-    let walked = books.walk_left_behind(&mut lines);
-    let end = lines.finish(walked);
-    listed(end, lines.write_failed)
+    write_rows(alloc, books, &LeftBehind, BEHIND, writer, calls)
 }
 
 /// Writes the notes of a room, by count. `NoRoom` where it isn't there.
@@ -129,11 +162,5 @@ pub fn write_audit_of<B: Walks, W: Write>(
     ensures failed { result ≡ Err Write → calls.new.write_failed ≡ true }
     ensures calls { NoneForgotten calls.old calls.new }
 {
-    find_room(books, room)?;
-    write_bytes(writer, b"room,count,kind,card,old,new,at\n", calls)?;
-    let mut gathered = Gathered::none(alloc);
-    let mut lines = Lines::new(writer, calls, &mut gathered);
-    let walked = books.walk_audit(room, &mut lines);
-    let end = lines.finish(walked);
-    listed(end, lines.write_failed)
+    write_room_rows(alloc, books, room, &AuditOf(room), AUDIT, writer, calls)
 }
