@@ -1,9 +1,9 @@
 #!/usr/bin/env python3
 """Refuses each allocation of the tests of refused memory in turn.
 
-usage: refused_growths.py [PROGRAM [WORD]]      (the built tests of hotel_desk, those whose names have `refused_memory`)
+usage: refused_growths.py [WORD [PROGRAM ..]]      (tests whose names have `refused_memory`; the built tests of hotel_tests and hotel_stored_tests)
 
-`rt ci` and `rt test` build the tests (out/hotel_desk_tests). Needs cc. Each test runs with the first, the second .. allocation refused,
+`rt ci` and `rt test` build the tests (out/NAME_tests). Needs cc. Each test runs with the first, the second .. allocation refused,
 until a run meets none. A test that lacks memory for its own desk ends by that; an assertion that fails is an answer that changed in place
 of want of memory, or a step that couldn't be repeated. Prints what isn't so, and at last for each test how many allocations were refused,
 and in how many runs the test went on to its end.
@@ -14,7 +14,8 @@ import subprocess
 import sys
 import tempfile
 
-TESTS = pathlib.Path(__file__).resolve().parent.parent / "crates/hotel_desk/out/hotel_desk_tests"
+CRATES = pathlib.Path(__file__).resolve().parent.parent / "crates"
+TESTS = [CRATES / name / "out" / f"{name}_tests" for name in ("hotel_tests", "hotel_stored_tests")]
 
 
 def tests_of(program, word):
@@ -42,16 +43,16 @@ def tried(program, test, folder):
 
 
 def main():
-    program = pathlib.Path(sys.argv[1] if len(sys.argv) > 1 else TESTS).resolve()
-    word = sys.argv[2] if len(sys.argv) > 2 else "refused_memory"
+    word = sys.argv[1] if len(sys.argv) > 1 else "refused_memory"
+    programs = [pathlib.Path(name).resolve() for name in sys.argv[2:]] or TESTS
     wrong = 0
     with tempfile.TemporaryDirectory() as made:
         folder = pathlib.Path(made)
         subprocess.run(["cc", "-O1", "-shared", "-fPIC", "-o", folder / "refuse.so", pathlib.Path(__file__).resolve().parent / "refuse.c"], check=True)
-        for test in tests_of(program, word):
+        for program, test in [(program, test) for program in programs for test in tests_of(program, word)]:
             count, passed, bad = tried(program, test, folder)
             wrong += len(bad)
-            print(f"{test}: {count} allocations refused, {passed} went on" + "".join(f"\n  {what}" for what in bad[:3]), flush=True)
+            print(f"{program.name} {test}: {count} allocations refused, {passed} went on" + "".join(f"\n  {what}" for what in bad[:3]), flush=True)
     sys.exit(1 if wrong else 0)
 
 

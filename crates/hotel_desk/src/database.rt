@@ -2,9 +2,11 @@
 
 ghost use Rattle.std.specs.Prelude.{◌≡◌, IfOk, IfErr};
 ghost use Rattle.hotel_tables.specs.Files.{AreOfOpening};
-ghost use Rattle.hotel_desk.specs.{Database.desk_fault, Database.IsOfFile, Faults.IsOfFiles};
+ghost use Rattle.hotel_program.specs.Faults.{IsOfFiles};
+ghost use Rattle.hotel_desk.specs.Database.{desk_fault, IsOfFile};
 
-use crate::faults::Fault;
+use crate::table_names::desk_table;
+use hotel_program::Fault;
 use hotel_tables::{FileBooks, FileFault, OpenFault};
 use sqlite::File;
 use sqlite_disk::Disk;
@@ -19,7 +21,7 @@ fn desk_fault(fault: FileFault) -> Fault
         FileFault::Desk(OpenFault::Memory) => Fault::Memory,
         FileFault::Desk(OpenFault::Store) => Fault::Store,
         FileFault::Desk(OpenFault::NotADesk) => Fault::NotADesk,
-        FileFault::Desk(OpenFault::Damaged(table)) => Fault::Damaged(table),
+        FileFault::Desk(OpenFault::Damaged(table)) => Fault::Damaged(desk_table(table)),
     }
 }
 

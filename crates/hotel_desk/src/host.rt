@@ -1,13 +1,10 @@
 //! The words, files, databases and ports of the system. No clause can say what they give, so the functions here do no more than ask.
 
 ghost use Rattle.std.specs.Prelude.{IfErr};
-ghost use Rattle.hotel_desk.specs.Faults.{IsOfFiles};
+ghost use Rattle.hotel_program.specs.Faults.{IsOfFiles};
 
-use crate::command_line::FileName;
 use crate::database::open_file;
-use crate::faults::Fault;
-use crate::files::{SEED_BYTES, audit_file_in, seed_in};
-use crate::surroundings::Surroundings;
+use hotel_program::{Fault, FileName, SEED_BYTES, Surroundings, audit_file_in, seed_in};
 use hotel_tables::{FileBooks, close_file};
 use std::alloc::Global;
 use std::fs::{self, File};

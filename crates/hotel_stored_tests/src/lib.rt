@@ -1,4 +1,4 @@
-//! Tests of books over tables: damaged rows, and a stop at each call of a store.
+//! Tests of books over tables: the worked scenarios, damaged rows, and a stop at each call of a store.
 #![tactic(auto)]
 
 #[cfg(test)]
@@ -7,6 +7,12 @@ mod damaged_rows;
 mod memory_desks;
 #[cfg(test)]
 mod new_desk;
+#[cfg(test)]
+mod program_in_tables;
+#[cfg(test)]
+mod refused_memory;
+#[cfg(test)]
+mod reopened_file;
 #[cfg(test)]
 mod stopped_disks;
 #[cfg(test)]

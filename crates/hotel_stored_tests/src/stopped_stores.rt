@@ -24,7 +24,10 @@ pub(crate) struct FilesDesk {
 }
 
 /// Opens the store that two files have. None where that goes wrong.
-fn connected<D: Disk + Drop>(alloc: Global, files: Files<D>) -> Option<Connection<FileStore<D>>> {
+pub(crate) fn connected<D: Disk + Drop>(
+    alloc: Global,
+    files: Files<D>,
+) -> Option<Connection<FileStore<D>>> {
     if !files.log.may_be_used() || !files.db.may_be_used() {
         return None;
     }

@@ -20,22 +20,35 @@ mod failing_requests;
 mod failing_walks;
 #[cfg(test)]
 mod imports;
+pub mod line_asks;
 #[cfg(test)]
 mod lists;
 #[cfg(test)]
 mod long_lists;
 #[cfg(test)]
+mod program;
+#[cfg(test)]
+mod program_runs;
+#[cfg(test)]
 mod reads_and_writes;
+pub mod refused_memory;
 #[cfg(test)]
 mod request_limits;
 #[cfg(test)]
 mod requests;
 pub mod rooms_now;
+pub mod scenario_runs;
+pub mod scenarios;
+#[cfg(test)]
+mod scripts;
 pub mod sent_again;
+#[cfg(test)]
+mod serving;
 #[cfg(test)]
 mod stopped_imports;
 #[cfg(test)]
 mod stopping;
+pub mod three_hundred_rooms;
 #[cfg(test)]
 mod values;
 #[cfg(test)]

@@ -1,0 +1,44 @@
+use Rattle.std.proofs.Common.{◌≡◌, sym, subst, map, string_bytes, true, ap, ◌∙◌, Some, Ok, Err, Option, List, option_map, ◌∷◌, []}
+use Rattle.std.proofs.lemmas.Result.{IfErr-weaker, IfOk-weaker}
+use Rattle.clap.specs.Words.{App, takes, first_of, Row, Text, is_simple, matches_of, subcommand_of}
+use Rattle.hotel_program.specs.Plans.{IsValueOrMemory, act_in}
+use Rattle.hotel_program.specs.declared.command_line.plan.UsageFault.{UsageFault}
+use Rattle.hotel_program.proofs.CommandLineLemmas.{desk_is_simple, desk_wants_subcommand}
+use Rattle.hotel_program.proofs.command_line.parse.parse_words.Goals as goal
+
+pub plan-requires : goal.plan-requires
+plan-requires c =
+    let from = c.in-Ok-try_get_matches_from.ensures.parsed in
+    let wants = ap (λ (a : App). a.top.subcommand_required) c.in-Ok.ensures.shape ∙ desk_wants_subcommand in
+    (from.parsed (from.from.globals ∙ c.in-Ok.ensures.globals)).checked.subcommand (from.from.needs_subcommand ∙ wants)
+
+pub returns-in-Ok-try_get_matches_from-clause-act : goal.returns-in-Ok-try_get_matches_from-clause-act
+returns-in-Ok-try_get_matches_from-clause-act c =
+    let m = c.in-Ok-try_get_matches_from.ensures.matches (ap is_simple c.in-Ok.ensures.shape ∙ desk_is_simple) in
+    let sub = m.1 ∙ ap (λ (a : App). subcommand_of a (map string_bytes c.args.words.now)) c.in-Ok.ensures.shape in
+    IfOk-weaker c.plan.result _ _ (λ p h. ap act_in (sym sub) ∙ h) c.plan.ensures.act
+
+pub returns-in-Ok-try_get_matches_from-clause-db : goal.returns-in-Ok-try_get_matches_from-clause-db
+returns-in-Ok-try_get_matches_from-clause-db c =
+    let m = c.in-Ok-try_get_matches_from.ensures.matches (ap is_simple c.in-Ok.ensures.shape ∙ desk_is_simple) in
+    let rows = m.0 ∙ ap (λ (a : App). matches_of a (map string_bytes c.args.words.now)) c.in-Ok.ensures.shape in
+    IfOk-weaker c.plan.result _ _ (λ p h. h ∙ ap (first_of (100 ∷ 98 ∷ [])) rows) c.plan.ensures.db
+
+pub returns-in-Ok-try_get_matches_from-clause-seed : goal.returns-in-Ok-try_get_matches_from-clause-seed
+returns-in-Ok-try_get_matches_from-clause-seed c =
+    let m = c.in-Ok-try_get_matches_from.ensures.matches (ap is_simple c.in-Ok.ensures.shape ∙ desk_is_simple) in
+    let rows = m.0 ∙ ap (λ (a : App). matches_of a (map string_bytes c.args.words.now)) c.in-Ok.ensures.shape in
+    IfOk-weaker c.plan.result _ _ (λ p h. h ∙ ap (first_of (115 ∷ 101 ∷ 101 ∷ 100 ∷ 45 ∷ 102 ∷ 105 ∷ 108 ∷ 101 ∷ [])) rows) c.plan.ensures.seed
+
+pub returns-in-Ok-try_get_matches_from-clause-value : goal.returns-in-Ok-try_get_matches_from-clause-value
+returns-in-Ok-try_get_matches_from-clause-value c =
+    let m = c.in-Ok-try_get_matches_from.ensures.matches (ap is_simple c.in-Ok.ensures.shape ∙ desk_is_simple) in
+    let sub = m.1 ∙ ap (λ (a : App). subcommand_of a (map string_bytes c.args.words.now)) c.in-Ok.ensures.shape in
+    IfErr-weaker c.plan.result _ _ (λ e h v r. ap act_in (sym sub) ∙ h v r) c.plan.ensures.value
+
+pub returns-in-Err-clause-takes : goal.returns-in-Err-clause-takes
+returns-in-Err-clause-takes c =
+    λ t.
+    let same = ap (λ (a : App). takes a (map string_bytes c.args.words.now)) c.in-Ok.ensures.shape in
+    let e = c.usage_fault.ensures.memory (c.in-Err.ensures.passes (same ∙ t)) in
+    subst (λ (f : UsageFault). IsValueOrMemory f) (sym e) tt

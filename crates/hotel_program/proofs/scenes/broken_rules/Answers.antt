@@ -1,0 +1,13 @@
+use Rattle.hotel_nights.specs.FullNight.{nights_taken, first_day}
+use Rattle.std.proofs.Common.{refl}
+use Rattle.std.specs.Str.{is_utf8, chars}
+use lib.Utf8.{encode}
+use Rattle.hotel_program.proofs.scenes.broken_rules.Goals as goal
+
+pub returns-clause-by_name : goal.returns-clause-by_name
+unfolding nights_taken first_day is_utf8 chars encode
+returns-clause-by_name c = ((refl, refl), (refl, refl), (refl, refl), (refl, refl), (refl, refl))
+
+pub returns-clause-sound : goal.returns-clause-sound
+unfolding nights_taken first_day is_utf8 chars encode
+returns-clause-sound c = (refl, refl)

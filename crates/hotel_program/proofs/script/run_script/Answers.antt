@@ -1,0 +1,10 @@
+use Rattle.std.proofs.Common.{rules}
+use Rattle.hotel_program.specs.Script.{IsInput}
+use Rattle.hotel_program.proofs.ScriptLemmas.{if_cut}
+use Rattle.hotel_program.proofs.script.run_script.Goals as goal
+
+pub returns-clause-cut : goal.returns-clause-cut
+returns-clause-cut g c =
+    let script = c.deref.result.now in
+    let input : IsInput (g.I.Read.remaining c.args.reader.now) script = search rules in
+    if_cut c.answer_lines.result _ _ (λ done p. (script, input, p.0, p.1, p.2)) c.answer_lines.ensures.cut

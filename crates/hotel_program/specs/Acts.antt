@@ -1,0 +1,128 @@
+-- What the program's acts come to over books.
+use Rattle.std.specs.Prelude.{◌≡◌, ◌≤◌, ◌<◌, ℕ, Bool, true, false, List, ◌++◌, codes, length, take, Option, IfSome, IfOk, IsErrOf, Result, Ok, Err}
+use Rattle.std.specs.Fmt.{decimal}
+use Rattle.std.specs.Io.KnownBytes.{Appends}
+use Rattle.rand_core.specs.Stream.{Stream}
+use Rattle.keycard_rules.specs.Rise.{NoFewer}
+use Rattle.keycard_rules.specs.declared.issued.Issued.{Ghosts as IssuedOf}
+use Rattle.hotel_core.specs.Model.Leads.{Leads}
+use Rattle.hotel_core.specs.Model.Rows.{Rows}
+use Rattle.hotel_core.specs.declared.command.Command.{Command}
+use Rattle.hotel_core.specs.declared.reply.Reply.{Reply}
+use Rattle.hotel_lists.specs.Bytes.{AppendsFront}
+use Rattle.hotel_lists.specs.Lines.{LooksAt}
+use Rattle.hotel_lists.specs.declared.fault.ListFault.{ListFault}
+use Rattle.hotel_asks.specs.declared.lists.ListAsk.{ListAsk}
+use Rattle.hotel_audit.specs.declared.answer.LineAnswer.{LineAnswer}
+use Rattle.hotel_audit.specs.declared.importing.ImportFault.{ImportFault}
+use Rattle.hotel_program.specs.AuditRuns.{audit_end, WritesAnswers, ImportEnds}
+use Rattle.hotel_program.specs.CommandRuns.{command_end, CommandEnds, WritesReply}
+use Rattle.hotel_program.specs.Faults.{end_status, Tells, TellsAll}
+use Rattle.hotel_program.specs.Lines.{answered_lines}
+use Rattle.hotel_program.specs.ListRuns.{AnswerEndsFor, list_end}
+use Rattle.hotel_program.specs.Program.{script_end}
+use Rattle.hotel_program.specs.Script.{ScriptAnswered, ScriptCut, IsInput, IfCut, IfUnbegun, NothingBegun}
+use Rattle.hotel_program.specs.Serving.{ConnectionEnd, ServesAll, faults_of}
+use Rattle.hotel_program.specs.declared.command_line.plan.DeskAct.{DeskAct}
+use Rattle.hotel_program.specs.declared.command_line.plan.DeskAct.TheVariants.{One, List as AList, Audit, Script, Serve}
+use Rattle.hotel_program.specs.declared.faults.Fault.{Fault}
+use Rattle.hotel_program.specs.declared.faults.Fault.TheVariants as fault
+use Rattle.hotel_program.specs.declared.script.ScriptEnd.{ScriptEnd}
+use Rattle.hotel_program.specs.declared.script.ScriptFault.{ScriptFault}
+use Rattle.hotel_program.specs.declared.script.ScriptFault.TheVariants.{TooLarge}
+
+-- What an act has to do with: books, a source, a writer, a taker of faults, and what is around the program.
+pub record Desk (S R W F E : Type 0) : Type 0 where
+  pub books : S
+  pub source : R
+  pub writer : W
+  pub faults : F
+  pub around : E
+
+-- What contracts see of these.
+pub record Views (S R W F E : Type 0) : Type 1 where
+  pub issued : IssuedOf S
+  pub rows : S → Rows
+  pub stream : R → Stream
+  pub contents : W → Option (List ℕ)
+  pub told : F → Fault → F → Type 0
+  pub bound : E → ℕ → Result (Unit {0}) Fault → E → Type 0
+
+-- An act ended by this status, or by this fault, which was told.
+abbrev pub EndsBy : {S R W F E : Type 0} → Views S R W F E → Result ℕ Fault → ℕ → Desk S R W F E → Desk S R W F E → Type 0
+EndsBy v end status old new = (status ≡ end_status end) × Tells v.told old.faults end new.faults
+
+-- One command: a step of the model, and its reply.
+abbrev pub OneEnds : {S R W F E : Type 0} → Views S R W F E → Command → ℕ → Desk S R W F E → Desk S R W F E → Type 0
+OneEnds v command status old new = (reply : Reply) × (write_failed : Bool) × EndsBy v (command_end reply write_failed) status old new
+    × WritesReply (v.contents old.writer) (v.contents new.writer) reply write_failed
+    × CommandEnds v.issued.is_clean v.rows v.issued.failures command reply old.books new.books (v.stream old.source) (v.stream new.source)
+    × (new.around ≡ old.around)
+
+-- A list: its text over the history.
+abbrev pub ListEnds : {S R W F E : Type 0} → Views S R W F E → ListAsk → ℕ → Desk S R W F E → Desk S R W F E → Type 0
+ListEnds v its_list status old new = (end : Result (Unit {0}) ListFault) × EndsBy v (list_end end) status old new
+    × (v.issued.is_clean new.books → AnswerEndsFor (v.rows old.books) its_list (v.contents old.writer) (v.contents new.writer) end)
+    × LooksAt v.issued old.books new.books end × (new.source ≡ old.source) × (new.around ≡ old.around)
+
+-- An audit file of these bytes: its lines one after the other, and their answers.
+abbrev pub AuditEnds : {S R W F E : Type 0} → Views S R W F E → List ℕ → ℕ → Desk S R W F E → Desk S R W F E → Type 0
+AuditEnds v bytes status old new = (outcome : Result (List LineAnswer) ImportFault) × (write_failed : Bool) × EndsBy v (audit_end outcome write_failed) status old new
+    × WritesAnswers v.contents old.writer new.writer outcome write_failed
+    × ImportEnds v.issued.is_clean v.rows v.issued.failures bytes old.books new.books outcome
+    × (new.source ≡ old.source) × (new.around ≡ old.around)
+
+-- What came of a script that ended so, of which these bytes are known.
+pub record ScriptCame {S R W F E : Type 0} (v : Views S R W F E) (known : Option (List ℕ)) (end : Result ScriptEnd ScriptFault) (old new : Desk S R W F E) : Type 0 where
+  pub answered : IfOk end (λ script_end. (script : List ℕ) × IsInput known script × (script_end.lines ≡ length (answered_lines script))
+      × (v.issued.is_clean new.books → Leads (v.rows old.books) (ScriptAnswered (answered_lines script) (v.stream old.source) (v.stream new.source)
+      (v.contents old.writer) (v.contents new.writer) (v.issued.failures old.books) (v.issued.failures new.books)) (v.rows new.books)))
+  pub cut : IfCut end (λ done. (script : List ℕ) × IsInput known script × (1 ≤ done) × (done ≤ length (answered_lines script))
+      × (v.issued.is_clean new.books → Leads (v.rows old.books) (ScriptCut (take done (answered_lines script)) (v.stream old.source) (v.stream new.source)
+      (v.contents old.writer) (v.contents new.writer) (v.issued.failures old.books) (v.issued.failures new.books)) (v.rows new.books)))
+  pub unbegun : IfUnbegun end (NothingBegun old.books new.books old.source new.source old.writer new.writer)
+  pub large : IsErrOf end TooLarge → IfSome known (λ input. 1048576 < length input)
+  pub was_clean : v.issued.is_clean new.books → v.issued.is_clean old.books
+  pub counted : NoFewer (v.issued.failures old.books) (v.issued.failures new.books)
+
+-- A script: its lines one after the other, each answered before the next.
+abbrev pub ScriptEnds : {S R W F E : Type 0} → Views S R W F E → Option (List ℕ) → ℕ → Desk S R W F E → Desk S R W F E → Type 0
+ScriptEnds v known status old new = (end : Result ScriptEnd ScriptFault) × EndsBy v (script_end end) status old new × ScriptCame v known end old new × (new.around ≡ old.around)
+
+-- The line that says where connections are taken.
+abbrev pub listening_text : ℕ → List ℕ
+listening_text port = codes "listening on 127.0.0.1:" ++ decimal port ++ codes "\n"
+
+-- Connections were served: this many, each to its end, and the faults of these ends were told.
+pub record Serves {S R W F E : Type 0} (v : Views S R W F E) (count : ℕ) (old new : Desk S R W F E) : Type 0 where
+  pub ends : (ends : List ConnectionEnd) × (length ends ≡ count) × TellsAll v.told old.faults (faults_of ends) new.faults
+      × (v.issued.is_clean new.books → Leads (v.rows old.books) (ServesAll ends (v.stream old.source) (v.stream new.source)) (v.rows new.books))
+  pub was_clean : v.issued.is_clean new.books → v.issued.is_clean old.books
+  pub counted : NoFewer (v.issued.failures old.books) (v.issued.failures new.books)
+
+-- Books and source are as they were.
+abbrev pub Untouched : {S R W F E : Type 0} → Desk S R W F E → Desk S R W F E → Type 0
+Untouched old new = (new.books ≡ old.books) × (new.source ≡ old.source)
+
+-- The line was written and connections were served; or a write of it failed, and none was.
+abbrev pub ListensTo : {S R W F E : Type 0} → Views S R W F E → ℕ → ℕ → Bool → ℕ → Desk S R W F E → Desk S R W F E → Type 0
+ListensTo v port count false status old new = (status ≡ 0) × Appends (v.contents old.writer) (v.contents new.writer) (listening_text port) × Serves v count old new
+ListensTo v port count true status old new = EndsBy v (Err fault.Write) status old new
+    × AppendsFront (v.contents old.writer) (v.contents new.writer) (listening_text port) × Untouched old new
+
+-- What comes of a port that was asked for.
+abbrev pub PortEnds : {S R W F E : Type 0} → Views S R W F E → ℕ → ℕ → Result (Unit {0}) Fault → ℕ → Desk S R W F E → Desk S R W F E → Type 0
+PortEnds v port count (Ok done) status old new = (write_failed : Bool) × ListensTo v port count write_failed status old new
+PortEnds v port count (Err why) status old new = EndsBy v (Err why) status old new × Untouched old new × (new.writer ≡ old.writer)
+
+-- Connections on a port.
+abbrev pub ServeEnds : {S R W F E : Type 0} → Views S R W F E → ℕ → ℕ → ℕ → Desk S R W F E → Desk S R W F E → Type 0
+ServeEnds v port count status old new = (port_is : Result (Unit {0}) Fault) × v.bound old.around port port_is new.around × PortEnds v port count port_is status old new
+
+-- An act, with the bytes of its audit file, and what is known of the script.
+abbrev pub ActEnds : {S R W F E : Type 0} → Views S R W F E → Option (List ℕ) → List ℕ → DeskAct → ℕ → Desk S R W F E → Desk S R W F E → Type 0
+ActEnds v known bytes (One command) = OneEnds v command
+ActEnds v known bytes (AList its_list) = ListEnds v its_list
+ActEnds v known bytes (Audit name) = AuditEnds v bytes
+ActEnds v known bytes Script = ScriptEnds v known
+ActEnds v known bytes (Serve port count) = ServeEnds v port count

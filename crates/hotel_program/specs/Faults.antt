@@ -1,0 +1,73 @@
+-- What is said of a fault, and the exit status that goes with it.
+use Rattle.std.specs.Prelude.{ℕ, ◌≡◌, ◌≢◌, List, [], ◌∷◌, ◌++◌, codes, Result, Ok, Err}
+use Rattle.std.specs.Fmt.{decimal}
+use Rattle.keycard_rules.specs.declared.issued.LookFault.{LookFault}
+use Rattle.keycard_rules.specs.declared.issued.LookFault.TheVariants as look
+use Rattle.hotel_asks.specs.Names.{name_text}
+use Rattle.hotel_program.specs.declared.faults.DeskTable.{DeskTable}
+use Rattle.hotel_program.specs.declared.faults.DeskTable.TheVariants as table
+use Rattle.hotel_program.specs.declared.faults.Fault.{Fault}
+use Rattle.hotel_program.specs.declared.faults.Fault.TheVariants.{Usage, Unread, Memory, Store, Read, Write, TooLarge, NoHeader, WrongHeader, Stopped, NotADesk, Damaged, Seed, File, Port, Closed}
+
+-- What stopped an import, and the end of the line.
+abbrev pub cause_text : LookFault → List ℕ
+cause_text look.Memory = codes ": Memory\n"
+cause_text look.Store = codes ": Store\n"
+
+-- The name of a table, and the end of the line.
+abbrev pub table_text : DeskTable → List ℕ
+table_text table.Meta = codes "meta\n"
+table_text table.Kind = codes "kind\n"
+table_text table.Room = codes "room\n"
+table_text table.Stay = codes "stay\n"
+table_text table.Code = codes "code\n"
+table_text table.Card = codes "card\n"
+table_text table.Inside = codes "inside\n"
+table_text table.Note = codes "note\n"
+
+-- The line that is said of a fault.
+abbrev pub fault_text : Fault → List ℕ
+fault_text Usage = codes "usage\n"
+fault_text (Unread name) = codes "unread " ++ name_text name ++ codes "\n"
+fault_text Memory = codes "memory\n"
+fault_text Store = codes "store\n"
+fault_text Read = codes "read\n"
+fault_text Write = codes "write\n"
+fault_text TooLarge = codes "too large\n"
+fault_text NoHeader = codes "no header\n"
+fault_text WrongHeader = codes "wrong header\n"
+fault_text (Stopped answered by) = codes "stopped after " ++ decimal answered ++ cause_text by
+fault_text NotADesk = codes "not a desk\n"
+fault_text (Damaged its_table) = codes "damaged " ++ table_text its_table
+fault_text Seed = codes "seed\n"
+fault_text File = codes "file\n"
+fault_text Port = codes "port\n"
+fault_text Closed = codes "closed\n"
+
+-- The exit status: 2 where the program was given words that it doesn't take, 4 where memory or the store failed, else 5.
+abbrev pub fault_status : Fault → ℕ
+fault_status Usage = 2
+fault_status (Unread name) = 2
+fault_status Memory = 4
+fault_status Store = 4
+fault_status (Stopped answered by) = 4
+fault_status _ = 5
+
+-- A fault of what is around the program, and not of words.
+abbrev pub IsOfFiles : Fault → Type 0
+IsOfFiles why = fault_status why ≢ 2
+
+-- The exit status of a call that came to a status, or to a fault.
+abbrev pub end_status : Result ℕ Fault → ℕ
+end_status (Ok status) = status
+end_status (Err fault) = fault_status fault
+
+-- A fault was told, once; nothing was where there is none.
+abbrev pub Tells : {F : Type 0} → (F → Fault → F → Type 0) → F → Result ℕ Fault → F → Type 0
+Tells told old (Ok status) new = new ≡ old
+Tells told old (Err fault) new = told old fault new
+
+-- Faults were told, one after the other.
+abbrev pub TellsAll : {F : Type 0} → (F → Fault → F → Type 0) → F → List Fault → F → Type 0
+TellsAll {F} told old [] new = new ≡ old
+TellsAll {F} told old (fault ∷ faults) new = (mid : F) × told old fault mid × TellsAll told mid faults new

@@ -1,0 +1,105 @@
+-- What the words of a call ask for.
+use Rattle.std.specs.Prelude.{◌≡◌, ℕ, Bool, List, [], ◌∷◌, Option, Some, None, Result, Ok, Err, codes, if◌then◌else◌, option_map}
+use Rattle.std.specs.Option.{ok_or}
+use Rattle.std.specs.Str.{bytes_eq}
+use Rattle.clap.specs.Words.{Row, Text, first_of}
+use Rattle.keycard_rules.specs.Numerals.{number_up_to}
+use Rattle.hotel_asks.specs.Asks.{ask_of}
+use Rattle.hotel_asks.specs.Names.{name_text, names_of}
+use Rattle.hotel_asks.specs.Values.{◌>>=◌}
+use Rattle.hotel_asks.specs.Verbs.{read_verb}
+use Rattle.hotel_asks.specs.declared.asks.Ask.{Ask}
+use Rattle.hotel_asks.specs.declared.asks.Ask.TheVariants as ask
+use Rattle.hotel_asks.specs.declared.values.ValueFault.{ValueFault}
+use Rattle.hotel_asks.specs.declared.values.ValueFault.TheVariants as fault
+use Rattle.hotel_asks.specs.declared.values.ValueName.{ValueName}
+use Rattle.hotel_asks.specs.declared.values.ValueName.TheVariants.{File, Port, Count}
+use Rattle.hotel_asks.specs.declared.verbs.Verb.{Verb}
+use Rattle.hotel_program.specs.declared.command_line.plan.DeskAct.{DeskAct}
+use Rattle.hotel_program.specs.declared.command_line.plan.DeskAct.TheVariants.{One, List as AList, Audit, Script, Serve}
+use Rattle.hotel_program.specs.declared.command_line.plan.UsageFault.{UsageFault}
+use Rattle.hotel_program.specs.declared.command_line.plan.UsageFault.TheVariants.{Shown, Usage, Value, Memory}
+
+-- The text that was given for a value.
+abbrev pub text_in : List Row → ValueName → Result Text ValueFault
+text_in rows name = ok_or (first_of (name_text name) rows) (fault.Value name)
+
+-- The texts that were given for values, in their order.
+abbrev pub texts_in : List Row → List ValueName → Result (List Text) ValueFault
+texts_in rows [] = Ok []
+texts_in rows (name ∷ names) = do
+  text ← text_in rows name
+  texts ← texts_in rows names
+  Ok (text ∷ texts)
+
+-- A number from 1 on, as the value of that name.
+abbrev pub number_in : ℕ → ValueName → Text → Result ℕ ValueFault
+number_in most name text = ok_or (number_up_to most text) (fault.Value name)
+
+-- What is asked is one command or a list.
+abbrev pub act_asked : Ask → DeskAct
+act_asked (ask.Command command) = One command
+act_asked (ask.List its_list) = AList its_list
+
+-- A subcommand that is a verb.
+abbrev pub verb_act : Verb → List Row → Result DeskAct ValueFault
+verb_act verb rows = do
+  texts ← texts_in rows (names_of verb)
+  asked ← ask_of verb texts
+  Ok (act_asked asked)
+
+-- The port and how many connections.
+abbrev pub serve_act : List Row → Result DeskAct ValueFault
+serve_act rows = do
+  port_text ← text_in rows Port
+  port ← number_in 65535 Port port_text
+  count_text ← text_in rows Count
+  count ← number_in 1000000 Count count_text
+  Ok (Serve port count)
+
+-- A subcommand that is no verb.
+abbrev pub own_act : Text → List Row → Result DeskAct ValueFault
+own_act name rows =
+    if bytes_eq name (codes "audit") then (do
+      file ← text_in rows File
+      Ok (Audit file))
+    else (if bytes_eq name (codes "serve") then serve_act rows else Ok Script)
+
+-- A subcommand, where the verb that its name is was looked for.
+abbrev pub act_by : Option Verb → Text → List Row → Result DeskAct ValueFault
+act_by (Some verb) name rows = verb_act verb rows
+act_by None name rows = own_act name rows
+
+-- What a subcommand asks for, its values read from left to right.
+abbrev pub act_of : Text → List Row → Result DeskAct ValueFault
+act_of name rows = act_by (read_verb name) name rows
+
+-- What the subcommand asks for, if there is one.
+abbrev pub act_in : Option (Text × List Row) → Option (Result DeskAct ValueFault)
+act_in = option_map (λ p. act_of p.0 p.1)
+
+-- A reading is as wanted, in the words of contracts, or there was no memory for it.
+abbrev pub IsRead : {A B : Type 0} → (B → A) → Result A ValueFault → Result B UsageFault → Type 0
+IsRead of wanted (Ok b) = wanted ≡ Ok (of b)
+IsRead of wanted (Err (Value name)) = wanted ≡ Err (fault.Value name)
+IsRead of wanted (Err Memory) = Unit {0}
+IsRead of wanted (Err (Shown text)) = ⊥
+IsRead of wanted (Err (Usage text)) = ⊥
+
+-- The value that a fault names, if it names one.
+abbrev pub refused_value : UsageFault → Option ValueName
+refused_value (Value name) = Some name
+refused_value Memory = None
+refused_value (Shown text) = None
+refused_value (Usage text) = None
+
+-- A value that the fault names is the first that its reader refuses.
+abbrev pub IsRefusalOf : Option (Result DeskAct ValueFault) → UsageFault → Type 0
+IsRefusalOf wanted why = (name : ValueName) → refused_value why ≡ Some name → wanted ≡ Some (Err (fault.Value name))
+
+-- A value was refused, or there was no memory.
+abbrev pub IsValueOrMemory : UsageFault → Type 0
+IsValueOrMemory (Value name) = Unit {0}
+IsValueOrMemory Memory = Unit {0}
+IsValueOrMemory (Shown text) = ⊥
+IsValueOrMemory (Usage text) = ⊥

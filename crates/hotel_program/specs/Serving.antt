@@ -1,0 +1,62 @@
+-- Connections that are answered one after the other.
+use Rattle.std.specs.Prelude.{◌≡◌, ◌⊎◌, Bool, false, List, [], ◌∷◌, Option, Some, None, Result, Ok, Err}
+use Rattle.std.specs.List.{flat_map}
+use Rattle.rand_core.specs.Stream.{Stream}
+use Rattle.hotel_core.specs.declared.reply.Refusal.{Refusal}
+use Rattle.hotel_core.specs.Model.History.{History}
+use Rattle.hotel_http.specs.declared.serve.Served.{Served}
+use Rattle.hotel_http.specs.declared.serve.ServeFault.{ServeFault}
+use Rattle.hotel_http.specs.declared.serve.ServeFault.TheVariants as serve
+use Rattle.hotel_http.specs.Request.{Wanted}
+use Rattle.hotel_http.specs.Serve.{Comes, Outcome}
+use Rattle.hotel_program.specs.declared.faults.Fault.{Fault}
+use Rattle.hotel_program.specs.declared.faults.Fault.TheVariants.{Closed, Read, Memory, Write}
+
+-- How a connection ended: as its request was served; or it couldn't be taken, and nothing was read.
+abbrev pub ConnectionEnd : Type 0
+ConnectionEnd = Option (Result Served ServeFault)
+
+-- Nothing was begun.
+abbrev pub NothingCame : History → Stream → History → Stream → Type 0
+NothingCame h s h' s' = (h' ≡ h) × (s' ≡ s)
+
+-- What a request asks for came, whose answer has this in it.
+abbrev pub RequestCame : (Outcome → Type 0) → History → Stream → History → Stream → Type 0
+RequestCame told h s h' s' = (wanted : Wanted) × (out : Outcome) × (failed : List Refusal) × Comes wanted h s out failed h' s' × told out
+
+-- What came of a connection that ended so.
+abbrev pub ConnectionCame : ConnectionEnd → History → Stream → History → Stream → Type 0
+ConnectionCame (Some (Ok served)) = RequestCame (λ out. (served.status ≡ out.status) × (served.acted ≡ out.acted))
+ConnectionCame (Some (Err (serve.Write acted))) = λ h s h' s'. RequestCame (λ out. acted ≡ out.acted) h s h' s' ⊎ ((acted ≡ false) × NothingCame h s h' s')
+ConnectionCame _ = NothingCame
+
+-- What came of connections that ended so, one after the other.
+abbrev pub AllCame : List ConnectionEnd → History → Stream → History → Stream → Type 0
+AllCame [] h s h' s' = NothingCame h s h' s'
+AllCame (end ∷ ends) h s h' s' = (mid : History) × (t : Stream) × ConnectionCame end h s mid t × AllCame ends mid t h' s'
+
+-- Connections were served from one history to another.
+abbrev pub ServesAll : List ConnectionEnd → Stream → Stream → History → History → Type 0
+ServesAll ends s s' h h' = AllCame ends h s h' s'
+
+-- The fault of a request that was served so.
+abbrev pub serve_end : Result Served ServeFault → Result (Unit {0}) Fault
+serve_end (Ok served) = Ok tt
+serve_end (Err serve.Closed) = Err Closed
+serve_end (Err serve.Read) = Err Read
+serve_end (Err serve.Memory) = Err Memory
+serve_end (Err (serve.Write acted)) = Err Write
+
+-- The fault of a connection that ended so: one that couldn't be taken is closed.
+abbrev pub connection_end : ConnectionEnd → Result (Unit {0}) Fault
+connection_end (Some end) = serve_end end
+connection_end None = Err Closed
+
+-- The fault that is told, if there is one.
+abbrev pub fault_in : Result (Unit {0}) Fault → List Fault
+fault_in (Ok done) = []
+fault_in (Err fault) = fault ∷ []
+
+-- The faults that are told of connections that ended so.
+abbrev pub faults_of : List ConnectionEnd → List Fault
+faults_of ends = flat_map (λ end. fault_in (connection_end end)) ends

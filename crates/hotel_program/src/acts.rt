@@ -1,0 +1,67 @@
+//! What the program is asked for, carried out over any books.
+
+ghost use Rattle.std.specs.Prelude.{◌≡◌, ◌≢◌};
+ghost use Rattle.hotel_program.specs.Acts.{ActEnds};
+ghost use Rattle.hotel_program.specs.Faults.{end_status};
+ghost use Rattle.hotel_program.specs.Program.{script_end};
+
+use crate::audit_runs::run_audit;
+use crate::command_line::DeskAct;
+use crate::command_runs::run_one;
+use crate::faults::{Fault, FaultSink, finish};
+use crate::list_runs::run_list;
+use crate::listening::run_serve;
+use crate::script::{ScriptEnd, ScriptFault, run_script};
+use crate::statuses::DONE;
+use crate::surroundings::Surroundings;
+use hotel_core::Walks;
+use hotel_lists::IoCalls;
+use rand_core::Rng;
+use std::alloc::Global;
+use std::io::{Read, Write};
+
+/// The exit status of a script that ended so, or the fault that is told.
+pub fn end_of_script(end: Result<ScriptEnd, ScriptFault>) -> Result<u8, Fault>
+    ensures end { result ≡ script_end end }
+    ensures no_usage { end_status result ≢ 2 }
+{
+    match end {
+        Ok(_) => Ok(DONE),
+        Err(ScriptFault::Read) => Err(Fault::Read),
+        Err(ScriptFault::TooLarge) => Err(Fault::TooLarge),
+        Err(ScriptFault::Memory) => Err(Fault::Memory),
+        Err(ScriptFault::Write { .. }) => Err(Fault::Write),
+    }
+}
+
+/// Carries out an act over books, and tells the fault that came instead. `file` has the bytes of an audit file where that is what is asked
+/// for. It answers the exit status.
+pub fn run_act<B: Walks, R: Rng, I: Read, W: Write, F: FaultSink, E: Surroundings>(
+    alloc: Global,
+    act: &DeskAct,
+    file: &[u8],
+    books: &mut B,
+    source: &mut R,
+    reader: &mut I,
+    writer: &mut W,
+    faults: &mut F,
+    around: &mut E,
+) -> u8
+    ensures ends { ActEnds (record { issued = B.Issued; rows = B.rows; stream = R.stream; contents = W.contents; told = F.told; bound = E.port_bound }) (I.remaining reader.old) file.now act.now result
+        (record { books = books.old; source = source.old; writer = writer.old; faults = faults.old; around = around.old })
+        (record { books = books.new; source = source.new; writer = writer.new; faults = faults.new; around = around.new }) }
+    ensures no_usage { result ≢ 2 }
+{
+    match act {
+        DeskAct::One(command) => run_one(command, books, source, writer, faults),
+        DeskAct::List(list) => run_list(alloc, list, books, writer, faults),
+        DeskAct::Audit(_) => run_audit(alloc, file, books, writer, faults),
+        DeskAct::Script => {
+            let end = run_script(alloc, reader, writer, books, source);
+            finish(end_of_script(end), faults, &mut IoCalls::none())
+        }
+        DeskAct::Serve { port, count } => {
+            run_serve(alloc, *port, *count, books, source, writer, faults, around)
+        }
+    }
+}

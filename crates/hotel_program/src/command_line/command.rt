@@ -1,0 +1,113 @@
+//! The command line, as `clap` reads it.
+
+ghost use Rattle.std.specs.Prelude.{◌≡◌, IfOk, map, fold, false, []};
+ghost use Rattle.clap.specs.Words.{app_of, with_subcommand};
+ghost use Rattle.clap.specs.declared.builder.Command.TheViews.{out-Command as fields_of};
+ghost use Rattle.hotel_program.specs.CommandLine.{leaf, verb_leaf, options, desk};
+
+use super::help::{about_value, about_verb};
+use clap::{Arg, Command};
+use hotel_asks::{ValueName, Verb};
+use std::alloc::{AllocError, Global};
+
+/// The verbs, in the order in which help lists them.
+static VERBS: [Verb; 18] = [
+    Verb::Begin,
+    Verb::AddKind,
+    Verb::AddRoom,
+    Verb::Reserve,
+    Verb::Cancel,
+    Verb::CheckIn,
+    Verb::Spare,
+    Verb::Transfer,
+    Verb::CheckOut,
+    Verb::NextDay,
+    Verb::Entered,
+    Verb::Left,
+    Verb::Recoded,
+    Verb::Arrivals,
+    Verb::InHouse,
+    Verb::ChainOf,
+    Verb::LeftBehind,
+    Verb::AuditOf,
+];
+
+/// A subcommand with its values, which are all required.
+fn with_values<'a>(
+    alloc: Global,
+    name: &'a str,
+    about: &'a str,
+    values: &'a [ValueName],
+) -> Result<Command<'a>, AllocError>
+    ensures shape { IfOk result (λ c. app_of c ≡ record { top = leaf name.entry.now values.entry.now; subs = [] }) }
+    ensures globals { IfOk result (λ c. (fields_of c).has_globals ≡ false) }
+{
+    let mut command = Command::new(alloc, name).about(about);
+    for value in values {
+        let arg = Arg::new(alloc, value.text())
+            .help(about_value(*value))
+            .required(true);
+        command = command.arg(arg)?;
+    }
+    Ok(command)
+}
+
+/// The program's own words: where the books and the seed are.
+fn with_options<'a>(alloc: Global) -> Result<Command<'a>, AllocError>
+    ensures shape { IfOk result (λ c. app_of c ≡ options) }
+    ensures globals { IfOk result (λ c. (fields_of c).has_globals ≡ false) }
+{
+    let database = Arg::new(alloc, "db").long("db").help(
+        "the file with the books, made where it is missing; without it they are kept in memory",
+    );
+    let seed_file = Arg::new(alloc, "seed-file").long("seed-file").help(
+        "for tests: a file of 32 bytes from which codes are drawn, the same codes in each run",
+    );
+    Command::new(alloc, "hotel_desk")
+        .about(
+            "The front desk of a hotel whose locks stand alone. Without words it carries out a script over memory.",
+        )
+        .no_binary_name(true)
+        .subcommand_required(true)
+        .arg(database)?
+        .arg(seed_file)
+}
+
+/// The program's own words and the subcommands of verbs.
+fn with_verbs<'a>(alloc: Global, verbs: &[Verb]) -> Result<Command<'a>, AllocError>
+    ensures shape { IfOk result (λ c. app_of c ≡ fold with_subcommand options (map verb_leaf verbs.now)) }
+    ensures globals { IfOk result (λ c. (fields_of c).has_globals ≡ false) }
+{
+    let mut command = with_options(alloc)?;
+    for verb in verbs {
+        let subcommand = with_values(alloc, verb.word(), about_verb(*verb), verb.values())?;
+        command = command.subcommand(subcommand)?;
+    }
+    Ok(command)
+}
+
+/// The command line with all its subcommands.
+pub fn desk_command<'a>(alloc: Global) -> Result<Command<'a>, AllocError>
+    ensures shape { IfOk result (λ c. app_of c ≡ desk) }
+    ensures globals { IfOk result (λ c. (fields_of c).has_globals ≡ false) }
+{
+    let about_audit = "Import a lock's audit file and print an answer for each line: audit 101.csv";
+    let about_serve = "Answer HTTP on 127.0.0.1, one connection after the other: serve 8080 1000";
+    let audit = with_values(alloc, "audit", about_audit, &[ValueName::File])?;
+    let script = with_values(
+        alloc,
+        "script",
+        "Carry out the script on standard input",
+        &[],
+    )?;
+    let serve = with_values(
+        alloc,
+        "serve",
+        about_serve,
+        &[ValueName::Port, ValueName::Count],
+    )?;
+    with_verbs(alloc, &VERBS)?
+        .subcommand(audit)?
+        .subcommand(script)?
+        .subcommand(serve)
+}

@@ -1,0 +1,189 @@
+//! From words to a plan.
+
+ghost use Rattle.std.specs.Prelude.{◌≡◌, ◌<◌, ◌^◌, ℕ, Some, None, Ok, Err, IfOk, IfErr, codes, option_map, string_bytes, map, true};
+ghost use Rattle.clap.specs.Words.{first_of, found_of, has_subcommand, rows_of, subcommand_rows_of, subcommand_of, matches_of, takes, kind_of};
+ghost use Rattle.hotel_asks.specs.Names.{name_text};
+ghost use Rattle.hotel_program.specs.CommandLine.{desk};
+ghost use Rattle.hotel_program.specs.Plans.{text_in, texts_in, number_in, verb_act, serve_act, own_act, act_of, act_in, IsRead, IsRefusalOf, IsValueOrMemory, refused_value};
+
+use super::command::desk_command;
+use super::plan::{DeskAct, FileName, Plan, UsageFault};
+use clap::error::ErrorKind;
+use clap::{ArgMatches, Error};
+use hotel_asks::{Ask, AskFault, ValueFault, ValueName, Verb, read_ask, read_verb};
+use keycard_rules::read_numeral;
+use std::alloc::Global;
+
+/// The greatest port.
+const MOST_PORT: u64 = 65_535;
+
+/// The most connections that one call serves.
+const MOST_CONNECTIONS: u64 = 1_000_000;
+
+fn given<'a>(matches: &ArgMatches<'a>, id: &str) -> Option<&'a str>
+    ensures { option_map (λ s. s.now) result ≡ first_of id.now (rows_of (found_of matches.now)) }
+{
+    matches.get_str(id)
+}
+
+/// The text of a value.
+fn text<'a>(matches: &ArgMatches<'a>, name: ValueName) -> Result<&'a str, UsageFault>
+    ensures { IsRead (λ s. s.now) (text_in (rows_of (found_of matches.now)) name) result }
+{
+    given(matches, name.text()).ok_or(UsageFault::Value(name))
+}
+
+/// The texts of values, in their order.
+fn texts<'a>(
+    alloc: Global,
+    matches: &ArgMatches<'a>,
+    names: &[ValueName],
+) -> Result<Vec<&'a [u8]>, UsageFault>
+    ensures { IsRead (λ texts. map (λ s. s.now) texts.items) (texts_in (rows_of (found_of matches.now)) names.now) result }
+{
+    let mut texts = Vec::new(alloc);
+    for name in names {
+        let text = text(matches, *name)?;
+        let Ok(()) = texts.push(text.as_bytes()) else {
+            return Err(UsageFault::Memory);
+        };
+    }
+    Ok(texts)
+}
+
+/// What a verb with its values asks for.
+fn verb_act(alloc: Global, verb: Verb, matches: &ArgMatches) -> Result<DeskAct, UsageFault>
+    ensures { IsRead (λ a. a) (verb_act verb (rows_of (found_of matches.now))) result }
+{
+    let texts = texts(alloc, matches, verb.values())?;
+    match read_ask(alloc, verb, texts.as_slice()) {
+        Ok(Ask::Command(command)) => Ok(DeskAct::One(command)),
+        Ok(Ask::List(list)) => Ok(DeskAct::List(list)),
+        Err(AskFault::Values(ValueFault::Value(name))) => Err(UsageFault::Value(name)),
+        Err(AskFault::Values(ValueFault::Number)) => unreachable!(),
+        Err(AskFault::Memory) => Err(UsageFault::Memory),
+    }
+}
+
+/// A number from 1 on, as the value of that name.
+fn number(most: u64, name: ValueName, text: &str) -> Result<u64, UsageFault>
+    requires { most < 2 ^ 63 }
+    ensures { IsRead (λ n. n) (number_in most name text.now) result }
+{
+    match read_numeral(text.as_bytes(), 10, 9) {
+        Some(number) if number >= 1 && number <= most => Ok(number),
+        _ => Err(UsageFault::Value(name)),
+    }
+}
+
+/// The port and how many connections.
+fn serve_act(matches: &ArgMatches) -> Result<DeskAct, UsageFault>
+    ensures { IsRead (λ a. a) (serve_act (rows_of (found_of matches.now))) result }
+{
+    let port = number(MOST_PORT, ValueName::Port, text(matches, ValueName::Port)?)?;
+    let count = number(
+        MOST_CONNECTIONS,
+        ValueName::Count,
+        text(matches, ValueName::Count)?,
+    )?;
+    Ok(DeskAct::Serve {
+        port: port as u16,
+        count: count as u32,
+    })
+}
+
+/// What a subcommand that is no verb asks for.
+fn own_act(alloc: Global, name: &str, matches: &ArgMatches) -> Result<DeskAct, UsageFault>
+    ensures { IsRead (λ a. a) (own_act name.now (rows_of (found_of matches.now))) result }
+{
+    if name == "audit" {
+        match FileName::of(alloc, text(matches, ValueName::File)?) {
+            Ok(file) => Ok(DeskAct::Audit(file)),
+            Err(_) => Err(UsageFault::Memory),
+        }
+    } else if name == "serve" {
+        serve_act(matches)
+    } else {
+        Ok(DeskAct::Script)
+    }
+}
+
+/// What a subcommand asks for.
+fn act(alloc: Global, name: &str, matches: &ArgMatches) -> Result<DeskAct, UsageFault>
+    ensures { IsRead (λ a. a) (act_of name.now (rows_of (found_of matches.now))) result }
+{
+    match read_verb(name.as_bytes()) {
+        Some(verb) => verb_act(alloc, verb, matches),
+        None => own_act(alloc, name, matches),
+    }
+}
+
+/// The name of the file that an option has.
+fn option(alloc: Global, matches: &ArgMatches, id: &str) -> Result<Option<FileName>, UsageFault>
+    ensures ok { IfOk result (λ file. file ≡ first_of id.now (rows_of (found_of matches.now))) }
+    ensures err { IfErr result (λ why. why ≡ UsageFault.Memory) }
+{
+    match given(matches, id) {
+        None => Ok(None),
+        Some(text) => match FileName::of(alloc, text) {
+            Ok(file) => Ok(Some(file)),
+            Err(_) => Err(UsageFault::Memory),
+        },
+    }
+}
+
+/// The text of a fault of the words: help that was asked for, or what is wrong with them.
+fn usage_fault(alloc: Global, error: &Error) -> UsageFault
+    ensures memory { kind_of error.now ≡ ErrorKind.OutOfMemory → result ≡ UsageFault.Memory }
+    ensures unnamed { refused_value result ≡ None }
+{
+    if matches!(error.kind(), ErrorKind::OutOfMemory) {
+        return UsageFault::Memory;
+    }
+    match error.to_string(alloc) {
+        Err(_) => UsageFault::Memory,
+        Ok(text) => {
+            if error.use_stderr() {
+                UsageFault::Usage(text)
+            } else {
+                UsageFault::Shown(text)
+            }
+        }
+    }
+}
+
+/// The plan of matches.
+fn plan(alloc: Global, matches: &ArgMatches) -> Result<Plan, UsageFault>
+    requires { has_subcommand matches.now ≡ true }
+    ensures act { IfOk result (λ p. act_in (subcommand_rows_of matches.now) ≡ Some (Ok p.act)) }
+    ensures db { IfOk result (λ p. p.db ≡ first_of (codes "db") (rows_of (found_of matches.now))) }
+    ensures seed { IfOk result (λ p. p.seed_file ≡ first_of (codes "seed-file") (rows_of (found_of matches.now))) }
+    ensures value { IfErr result (IsRefusalOf (act_in (subcommand_rows_of matches.now))) }
+    ensures only { IfErr result IsValueOrMemory }
+{
+    let Some((name, inner)) = matches.subcommand() else {
+        unreachable!();
+    };
+    let act = act(alloc, name, inner)?;
+    let db = option(alloc, matches, "db")?;
+    let seed_file = option(alloc, matches, "seed-file")?;
+    Ok(Plan { db, seed_file, act })
+}
+
+/// The meaning of the words after the program's name: what `clap` finds in them, its values read from left to right. Help that was asked
+/// for, and what `clap` says of words that it doesn't take, come as texts.
+pub fn parse_words(alloc: Global, words: &[String]) -> Result<Plan, UsageFault>
+    ensures act { IfOk result (λ p. act_in (subcommand_of desk (map string_bytes words.now)) ≡ Some (Ok p.act)) }
+    ensures db { IfOk result (λ p. p.db ≡ first_of (codes "db") (matches_of desk (map string_bytes words.now))) }
+    ensures seed { IfOk result (λ p. p.seed_file ≡ first_of (codes "seed-file") (matches_of desk (map string_bytes words.now))) }
+    ensures value { IfErr result (IsRefusalOf (act_in (subcommand_of desk (map string_bytes words.now)))) }
+    ensures takes { takes desk (map string_bytes words.now) ≡ true → IfErr result IsValueOrMemory }
+{
+    let Ok(command) = desk_command(alloc) else {
+        return Err(UsageFault::Memory);
+    };
+    match command.try_get_matches_from(words) {
+        Ok(matches) => plan(alloc, &matches),
+        Err(error) => Err(usage_fault(alloc, &error)),
+    }
+}

@@ -1,0 +1,251 @@
+//! Faults of the program and of its calls: what is said of each, where it is said, and its exit status.
+
+ghost use Rattle.std.specs.Prelude.{◌≡◌, ◌++◌, codes, true, OnOk, OnErr};
+ghost use Rattle.std.specs.Io.KnownBytes.{Appends};
+ghost use Rattle.hotel_lists.specs.Calls.{NoneForgotten};
+ghost use Rattle.hotel_lists.specs.Bytes.{AppendsFront};
+ghost use Rattle.hotel_program.specs.Faults.{cause_text, table_text, fault_text, fault_status, end_status, Tells};
+
+use crate::statuses::{BROKEN, FAILED, USAGE};
+use hotel_asks::ValueName;
+use hotel_lists::{IoCalls, WriteFailed, write_bytes, write_parts};
+use keycard_rules::LookFault;
+use std::io::Write;
+
+/// The tables of a desk, in the order in which their rules are tried.
+#[derive(Clone, Copy, Debug, PartialEq, Eq)]
+pub enum DeskTable {
+    Meta,
+    Kind,
+    Room,
+    Stay,
+    Code,
+    Card,
+    Inside,
+    Note,
+}
+
+/// Why the program or a call of it didn't do its work to the end.
+#[derive(Clone, Copy, Debug, PartialEq, Eq)]
+pub enum Fault {
+    /// The program was given a word that isn't text.
+    Usage,
+    /// The first value of the command line that its reader refuses.
+    Unread(ValueName),
+    /// A growth of memory was refused.
+    Memory,
+    /// A call of the store failed.
+    Store,
+    /// A read failed.
+    Read,
+    /// A write failed.
+    Write,
+    /// A script or an audit file has too many bytes.
+    TooLarge,
+    /// An audit file has no record.
+    NoHeader,
+    /// The first record of an audit file isn't the header.
+    WrongHeader,
+    /// An import was stopped after so many lines.
+    Stopped { answered: usize, by: LookFault },
+    /// The database isn't a desk's.
+    NotADesk,
+    /// The first table of a desk of which a rule fails.
+    Damaged(DeskTable),
+    /// The seed has fewer than 32 bytes.
+    Seed,
+    /// A file couldn't be opened or read.
+    File,
+    /// The port couldn't be listened on.
+    Port,
+    /// A connection couldn't be taken, or ended before its request's first byte.
+    Closed,
+}
+
+impl Fault {
+    /// The exit status of a call that came to it.
+    pub fn status(&self) -> u8
+        ensures { result ≡ fault_status self.now }
+    {
+        match self {
+            Fault::Usage | Fault::Unread(_) => USAGE,
+            Fault::Memory | Fault::Store | Fault::Stopped { .. } => FAILED,
+            _ => BROKEN,
+        }
+    }
+}
+
+/// What stopped an import, and the end of the line.
+fn cause_text(by: LookFault) -> &'static [u8]
+    ensures { result.now ≡ cause_text by }
+{
+    match by {
+        LookFault::Memory => b": Memory\n",
+        LookFault::Store => b": Store\n",
+    }
+}
+
+/// The name of a table, and the end of the line.
+fn table_text(table: DeskTable) -> &'static [u8]
+    ensures { result.now ≡ table_text table }
+{
+    match table {
+        DeskTable::Meta => b"meta\n",
+        DeskTable::Kind => b"kind\n",
+        DeskTable::Room => b"room\n",
+        DeskTable::Stay => b"stay\n",
+        DeskTable::Code => b"code\n",
+        DeskTable::Card => b"card\n",
+        DeskTable::Inside => b"inside\n",
+        DeskTable::Note => b"note\n",
+    }
+}
+
+/// Writes a line of a text and a name.
+pub fn write_named<W: Write>(
+    writer: &mut W,
+    text: &[u8],
+    name: &[u8],
+    calls: &mut IoCalls,
+) -> Result<(), WriteFailed>
+    ensures ok { OnOk result (Appends (W.contents writer.old) (W.contents writer.new) (text.now ++ name.now ++ codes "\n")) }
+    ensures err { OnErr result (AppendsFront (W.contents writer.old) (W.contents writer.new) (text.now ++ name.now ++ codes "\n")) }
+    ensures failed { OnErr result (calls.new.write_failed ≡ true) }
+    ensures calls { NoneForgotten calls.old calls.new }
+{
+    let parts = [text, name, b"\n".as_slice()];
+    write_parts(writer, &parts, calls)
+}
+
+/// Writes the line of a value that is refused.
+fn write_unread<W: Write>(
+    writer: &mut W,
+    name: ValueName,
+    calls: &mut IoCalls,
+) -> Result<(), WriteFailed>
+    ensures ok { OnOk result (Appends (W.contents writer.old) (W.contents writer.new) (fault_text (Fault.Unread name))) }
+    ensures err { OnErr result (AppendsFront (W.contents writer.old) (W.contents writer.new) (fault_text (Fault.Unread name))) }
+    ensures failed { OnErr result (calls.new.write_failed ≡ true) }
+    ensures calls { NoneForgotten calls.old calls.new }
+{
+    write_named(writer, b"unread ", name.text().as_bytes(), calls)
+}
+
+/// Writes the line of a table that is damaged.
+fn write_damaged<W: Write>(
+    writer: &mut W,
+    table: DeskTable,
+    calls: &mut IoCalls,
+) -> Result<(), WriteFailed>
+    ensures ok { OnOk result (Appends (W.contents writer.old) (W.contents writer.new) (fault_text (Fault.Damaged table))) }
+    ensures err { OnErr result (AppendsFront (W.contents writer.old) (W.contents writer.new) (fault_text (Fault.Damaged table))) }
+    ensures failed { OnErr result (calls.new.write_failed ≡ true) }
+    ensures calls { NoneForgotten calls.old calls.new }
+{
+    let parts = [b"damaged ".as_slice(), table_text(table)];
+    write_parts(writer, &parts, calls)
+}
+
+/// Writes the line of an import that was stopped.
+fn write_stopped<W: Write>(
+    writer: &mut W,
+    answered: usize,
+    by: LookFault,
+    calls: &mut IoCalls,
+) -> Result<(), WriteFailed>
+    ensures ok { OnOk result (Appends (W.contents writer.old) (W.contents writer.new) (fault_text (Fault.Stopped answered by))) }
+    ensures err { OnErr result (AppendsFront (W.contents writer.old) (W.contents writer.new) (fault_text (Fault.Stopped answered by))) }
+    ensures failed { OnErr result (calls.new.write_failed ≡ true) }
+    ensures calls { NoneForgotten calls.old calls.new }
+{
+    let mut buffer = itoa::Buffer::new();
+    let number = buffer.format(answered).as_bytes();
+    let parts = [b"stopped after ".as_slice(), number, cause_text(by)];
+    write_parts(writer, &parts, calls)
+}
+
+/// Writes the line of a fault.
+fn write_fault<W: Write>(
+    writer: &mut W,
+    fault: &Fault,
+    calls: &mut IoCalls,
+) -> Result<(), WriteFailed>
+    ensures ok { OnOk result (Appends (W.contents writer.old) (W.contents writer.new) (fault_text fault.now)) }
+    ensures err { OnErr result (AppendsFront (W.contents writer.old) (W.contents writer.new) (fault_text fault.now)) }
+    ensures failed { OnErr result (calls.new.write_failed ≡ true) }
+    ensures calls { NoneForgotten calls.old calls.new }
+{
+    match fault {
+        Fault::Usage => write_bytes(writer, b"usage\n", calls),
+        Fault::Unread(name) => write_unread(writer, *name, calls),
+        Fault::Memory => write_bytes(writer, b"memory\n", calls),
+        Fault::Store => write_bytes(writer, b"store\n", calls),
+        Fault::Read => write_bytes(writer, b"read\n", calls),
+        Fault::Write => write_bytes(writer, b"write\n", calls),
+        Fault::TooLarge => write_bytes(writer, b"too large\n", calls),
+        Fault::NoHeader => write_bytes(writer, b"no header\n", calls),
+        Fault::WrongHeader => write_bytes(writer, b"wrong header\n", calls),
+        Fault::Stopped { answered, by } => write_stopped(writer, *answered, *by, calls),
+        Fault::NotADesk => write_bytes(writer, b"not a desk\n", calls),
+        Fault::Damaged(table) => write_damaged(writer, *table, calls),
+        Fault::Seed => write_bytes(writer, b"seed\n", calls),
+        Fault::File => write_bytes(writer, b"file\n", calls),
+        Fault::Port => write_bytes(writer, b"port\n", calls),
+        Fault::Closed => write_bytes(writer, b"closed\n", calls),
+    }
+}
+
+/// Takes the faults that calls tell. Each writer is one.
+pub trait FaultSink {
+    ghost use Rattle.std.specs.Prelude.{ℕ, List};
+    ghost use Rattle.hotel_lists.specs.Calls.{NoneForgotten};
+    ghost use Rattle.hotel_program.specs.declared.faults.Fault.{Fault};
+
+    /// The meanings that may follow one after a fault was told.
+    ghost told: { Self → Fault → Self → Type 0 };
+
+    /// The meanings that may follow one after a text of usage was shown.
+    ghost shown: { Self → List ℕ → Self → Type 0 };
+
+    /// Takes a text that says how the program is called. Where that goes wrong, nobody hears of it.
+    fn show(&mut self, text: &str, calls: &mut IoCalls)
+        ensures shown { shown self.old text.now self.new }
+        ensures calls { NoneForgotten calls.old calls.new };
+
+    /// Takes a fault. Where that goes wrong, nobody hears of it.
+    fn tell(&mut self, fault: &Fault, calls: &mut IoCalls)
+        ensures told { told self.old fault.now self.new }
+        ensures calls { NoneForgotten calls.old calls.new };
+}
+
+impl<W: Write> FaultSink for W {
+    ghost use Rattle.hotel_lists.specs.Bytes.{AppendsFront};
+    ghost use Rattle.hotel_program.specs.Faults.{fault_text};
+
+    ghost told = { λ old fault new. AppendsFront (W.contents old) (W.contents new) (fault_text fault) };
+
+    ghost shown = { λ old text new. AppendsFront (W.contents old) (W.contents new) text };
+
+    fn show(&mut self, text: &str, calls: &mut IoCalls) {
+        let _ = write_bytes(self, text.as_bytes(), calls);
+    }
+
+    fn tell(&mut self, fault: &Fault, calls: &mut IoCalls) {
+        let _ = write_fault(self, fault, calls);
+    }
+}
+
+/// The exit status of a call that came to this end. A fault is told first.
+pub fn finish<F: FaultSink>(end: Result<u8, Fault>, faults: &mut F, calls: &mut IoCalls) -> u8
+    ensures status { result ≡ end_status end }
+    ensures told { Tells F.told faults.old end faults.new }
+    ensures calls { NoneForgotten calls.old calls.new }
+{
+    match end {
+        Ok(status) => status,
+        Err(fault) => {
+            faults.tell(&fault, calls);
+            fault.status()
+        }
+    }
+}

@@ -1,0 +1,68 @@
+//! What the program reads of files itself: a seed, and an audit file.
+
+ghost use Rattle.std.specs.Prelude.{◌≡◌, ◌<◌, length, take, Err, IfOk, IfErr, IfSome};
+ghost use Rattle.hotel_program.specs.Faults.{IsOfFiles};
+ghost use Rattle.hotel_program.specs.Files.{IsFront, read_fault};
+ghost use Rattle.hotel_program.specs.declared.faults.Fault.TheVariants.{Seed};
+
+use crate::faults::Fault;
+use hotel_lists::{IoCalls, ReadFault, read_more};
+use std::alloc::Global;
+use std::io::Read;
+
+/// How many bytes a seed has.
+pub const SEED_BYTES: usize = 32;
+
+/// The most bytes that an audit file may have. It is read until more came, so that it is known to have too many.
+pub const AUDIT_BYTES: usize = 262_144;
+
+/// Reads all the bytes that the reader has; or, where it has more than `most`, more than `most` of them.
+fn read_front<R: Read>(alloc: Global, reader: &mut R, most: usize) -> Result<Vec<u8>, ReadFault>
+    ensures { IfOk result (λ bytes. IfSome (R.remaining reader.old) (IsFront most bytes.items)) }
+{
+    let mut calls = IoCalls::none();
+    let mut bytes = Vec::new(alloc);
+    while bytes.len() <= most {
+        let got = read_more(reader, &mut bytes, &mut calls)?;
+        if got == 0 {
+            return Ok(bytes);
+        }
+    }
+    Ok(bytes)
+}
+
+/// The fault of a file that couldn't be read.
+fn read_fault(fault: ReadFault) -> Fault
+    ensures { result ≡ read_fault fault }
+{
+    match fault {
+        ReadFault::Read => Fault::File,
+        ReadFault::Memory => Fault::Memory,
+    }
+}
+
+/// The first 32 bytes that the reader has. Where it has fewer, that is the fault.
+pub fn seed_in<R: Read>(alloc: Global, reader: &mut R) -> Result<[u8; SEED_BYTES], Fault>
+    ensures seed { IfOk result (λ seed. IfSome (R.remaining reader.old) (λ input. seed ≡ take 32 input)) }
+    ensures short { result ≡ Err Seed → IfSome (R.remaining reader.old) (λ input. length input < 32) }
+    ensures fault { IfErr result IsOfFiles }
+{
+    match read_front(alloc, reader, SEED_BYTES - 1) {
+        Ok(bytes) => match bytes.as_slice().first_chunk::<SEED_BYTES>() {
+            Some(seed) => Ok(*seed),
+            None => Err(Fault::Seed),
+        },
+        Err(why) => Err(read_fault(why)),
+    }
+}
+
+/// The bytes of an audit file: all that the reader has; or, where it has more than such a file may have, more than that.
+pub fn audit_file_in<R: Read>(alloc: Global, reader: &mut R) -> Result<Vec<u8>, Fault>
+    ensures bytes { IfOk result (λ bytes. IfSome (R.remaining reader.old) (IsFront 262144 bytes.items)) }
+    ensures fault { IfErr result IsOfFiles }
+{
+    match read_front(alloc, reader, AUDIT_BYTES) {
+        Ok(bytes) => Ok(bytes),
+        Err(why) => Err(read_fault(why)),
+    }
+}

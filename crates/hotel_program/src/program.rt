@@ -1,0 +1,247 @@
+//! What the program does, and its exit status.
+
+ghost use Rattle.std.specs.Prelude.{◌≡◌, ◌≢◌, Ok, Err, Some, IfErr, Result, map, string_bytes};
+ghost use Rattle.std.specs.IoError.{error_kind};
+ghost use Rattle.std.specs.Result.{result_map_both};
+ghost use Rattle.hotel_program.specs.declared.faults.Fault.TheVariants.{Usage, Memory};
+ghost use Rattle.hotel_program.specs.declared.script.ScriptEnd.{ScriptEnd};
+ghost use Rattle.hotel_program.specs.declared.script.ScriptFault.{ScriptFault};
+ghost use Rattle.hotel_program.specs.Faults.{end_status, IsOfFiles, Tells};
+ghost use Rattle.hotel_program.specs.Plan.{outer_views, FileIsRead, InMemory, OverBooks, PlanEnds, UsageSaid, WordsEnd};
+ghost use Rattle.hotel_program.specs.Program.{HasNoWords, IfWords, IsNoText, LacksMemory, ScriptEnds, script_end};
+
+use crate::acts::{end_of_script, run_act};
+use crate::command_line::{DeskAct, FileName, Plan, UsageFault, parse_words};
+use crate::faults::{Fault, FaultSink, finish};
+use crate::script::run_script;
+use crate::statuses::{DONE, USAGE};
+use crate::surroundings::Surroundings;
+use hotel_core::{Books, ListBooks};
+use hotel_lists::{IoCalls, WriteFailed, write_bytes};
+use keycard_rules::Issued;
+use rand_chacha::ChaCha20Rng;
+use rand_core::SeedableRng;
+use std::alloc::Global;
+use std::io::{self, ErrorKind, Read, Write};
+
+/// Answers a script over empty books in memory, with codes from a seed of 32 zero bytes.
+fn answer_script<I: Read, W: Write>(
+    alloc: Global,
+    reader: &mut I,
+    writer: &mut W,
+) -> Result<u8, Fault>
+    ensures { (end : Result ScriptEnd ScriptFault) × (result ≡ script_end end) × ScriptEnds W.contents (I.remaining reader.old) writer.old writer.new end }
+{
+    let mut books = ListBooks::empty(alloc);
+    books.known_sound();
+    let mut source = ChaCha20Rng::from_seed([0; 32]);
+    let end = run_script(alloc, reader, writer, &mut books, &mut source);
+    end_of_script(end)
+}
+
+/// Carries out an act over empty books in memory.
+fn run_in_memory<I: Read, W: Write, F: FaultSink, E: Surroundings>(
+    alloc: Global,
+    act: &DeskAct,
+    file: &[u8],
+    source: &mut ChaCha20Rng,
+    reader: &mut I,
+    writer: &mut W,
+    faults: &mut F,
+    around: &mut E,
+) -> u8
+    ensures ends { InMemory (outer_views W.contents F.told F.shown E.seed_read E.file_read E.books_opened E.port_bound ⟦<ListBooks as Issued>⟧ E.Books.Issued E.Books.rows)
+        (I.remaining reader.old) act.now file.now source.old around.old result
+        (record { writer = writer.old; faults = faults.old; around = around.old }) (record { writer = writer.new; faults = faults.new; around = around.new }) }
+    ensures no_usage { result ≢ 2 }
+{
+    let mut books = ListBooks::empty(alloc);
+    run_act(
+        alloc, act, file, &mut books, source, reader, writer, faults, around,
+    )
+}
+
+/// Carries out an act over the books of a database.
+fn run_on_database<I: Read, W: Write, F: FaultSink, E: Surroundings>(
+    alloc: Global,
+    name: &FileName,
+    act: &DeskAct,
+    file: &[u8],
+    source: &mut ChaCha20Rng,
+    reader: &mut I,
+    writer: &mut W,
+    faults: &mut F,
+    around: &mut E,
+) -> u8
+    ensures ends { OverBooks (outer_views W.contents F.told F.shown E.seed_read E.file_read E.books_opened E.port_bound ⟦<ListBooks as Issued>⟧ E.Books.Issued E.Books.rows)
+        (I.remaining reader.old) act.now file.now source.old (Some name.now) around.old result
+        (record { writer = writer.old; faults = faults.old; around = around.old }) (record { writer = writer.new; faults = faults.new; around = around.new }) }
+    ensures no_usage { result ≢ 2 }
+{
+    let mut books = match around.open_books(alloc, name) {
+        Ok(books) => books,
+        Err(why) => return finish(Err(why), faults, &mut IoCalls::none()),
+    };
+    let status = run_act(
+        alloc, act, file, &mut books, source, reader, writer, faults, around,
+    );
+    around.close_books(books);
+    status
+}
+
+/// Carries out an act over the books that are asked for: those of a database, or empty ones in memory.
+fn run_over_books<I: Read, W: Write, F: FaultSink, E: Surroundings>(
+    alloc: Global,
+    plan: &Plan,
+    file: &[u8],
+    source: &mut ChaCha20Rng,
+    reader: &mut I,
+    writer: &mut W,
+    faults: &mut F,
+    around: &mut E,
+) -> u8
+    ensures ends { OverBooks (outer_views W.contents F.told F.shown E.seed_read E.file_read E.books_opened E.port_bound ⟦<ListBooks as Issued>⟧ E.Books.Issued E.Books.rows)
+        (I.remaining reader.old) plan.now.act file.now source.old plan.now.db around.old result
+        (record { writer = writer.old; faults = faults.old; around = around.old }) (record { writer = writer.new; faults = faults.new; around = around.new }) }
+    ensures no_usage { result ≢ 2 }
+{
+    let act = &plan.act;
+    match &plan.db {
+        None => run_in_memory(alloc, act, file, source, reader, writer, faults, around),
+        Some(name) => {
+            run_on_database(
+                alloc, name, act, file, source, reader, writer, faults, around,
+            )
+        }
+    }
+}
+
+/// The bytes of the audit file, where one is asked for.
+fn audit_file<E: Surroundings>(
+    alloc: Global,
+    act: &DeskAct,
+    around: &mut E,
+) -> Result<Vec<u8>, Fault>
+    ensures read { FileIsRead E.file_read act.now around.old (result_map_both (λ bytes. bytes.items) (λ why. why) result) around.new }
+    ensures fault { IfErr result IsOfFiles }
+{
+    match act {
+        DeskAct::Audit(name) => around.read_file(alloc, name),
+        _ => Ok(Vec::new(alloc)),
+    }
+}
+
+/// Carries out a plan. The seed is read first, then an audit file, then the books are opened, and then a port is listened on; the first
+/// fault is told and ends it.
+fn run_plan<I: Read, W: Write, F: FaultSink, E: Surroundings>(
+    alloc: Global,
+    plan: &Plan,
+    reader: &mut I,
+    writer: &mut W,
+    faults: &mut F,
+    around: &mut E,
+) -> u8
+    ensures ends { PlanEnds (outer_views W.contents F.told F.shown E.seed_read E.file_read E.books_opened E.port_bound ⟦<ListBooks as Issued>⟧ E.Books.Issued E.Books.rows)
+        (I.remaining reader.old) plan.now result
+        (record { writer = writer.old; faults = faults.old; around = around.old }) (record { writer = writer.new; faults = faults.new; around = around.new }) }
+    ensures no_usage { result ≢ 2 }
+{
+    let seed = match around.read_seed(alloc, plan.seed_file.as_ref()) {
+        Ok(seed) => seed,
+        Err(why) => return finish(Err(why), faults, &mut IoCalls::none()),
+    };
+    let file = match audit_file(alloc, &plan.act, around) {
+        Ok(file) => file,
+        Err(why) => return finish(Err(why), faults, &mut IoCalls::none()),
+    };
+    let mut source = ChaCha20Rng::from_seed(seed);
+    run_over_books(
+        alloc,
+        plan,
+        &file,
+        &mut source,
+        reader,
+        writer,
+        faults,
+        around,
+    )
+}
+
+/// Shows the help that was asked for, or says what is wrong with the words. It answers the exit status.
+fn say_usage<W: Write, F: FaultSink>(why: &UsageFault, writer: &mut W, faults: &mut F) -> u8
+    ensures { UsageSaid W.contents F.told F.shown why.now result writer.old writer.new faults.old faults.new }
+{
+    let mut calls = IoCalls::none();
+    match why {
+        UsageFault::Shown(text) => match write_bytes(writer, text.as_bytes(), &mut calls) {
+            Ok(()) => DONE,
+            Err(WriteFailed) => finish(Err(Fault::Write), faults, &mut calls),
+        },
+        UsageFault::Usage(text) => {
+            faults.show(text, &mut calls);
+            USAGE
+        }
+        UsageFault::Value(name) => finish(Err(Fault::Unread(*name)), faults, &mut calls),
+        UsageFault::Memory => finish(Err(Fault::Memory), faults, &mut calls),
+    }
+}
+
+/// Carries out what the words ask for.
+fn run_words<I: Read, W: Write, F: FaultSink, E: Surroundings>(
+    alloc: Global,
+    words: &[String],
+    reader: &mut I,
+    writer: &mut W,
+    faults: &mut F,
+    around: &mut E,
+) -> u8
+    ensures { WordsEnd (outer_views W.contents F.told F.shown E.seed_read E.file_read E.books_opened E.port_bound ⟦<ListBooks as Issued>⟧ E.Books.Issued E.Books.rows)
+        (I.remaining reader.old) (map string_bytes words.now) result
+        (record { writer = writer.old; faults = faults.old; around = around.old }) (record { writer = writer.new; faults = faults.new; around = around.new }) }
+{
+    match parse_words(alloc, words) {
+        Ok(plan) => run_plan(alloc, &plan, reader, writer, faults, around),
+        Err(why) => say_usage(&why, writer, faults),
+    }
+}
+
+/// The fault of words that couldn't be read.
+fn words_fault(why: &io::Error) -> Fault
+    ensures memory { error_kind why.now ≡ ErrorKind.OutOfMemory → result ≡ Memory }
+    ensures no_text { error_kind why.now ≢ ErrorKind.OutOfMemory → result ≡ Usage }
+{
+    match why.kind() {
+        ErrorKind::OutOfMemory => Fault::Memory,
+        _ => Fault::Usage,
+    }
+}
+
+/// The program, whose exit status it answers. `words` are those after its name, or why one of them could not be read. Without words it
+/// answers the script that the reader has, over empty books in memory, with codes from a seed of 32 zero bytes. With words it carries
+/// out what they ask for, over the surroundings `around`. A fault is told to `faults`; where that goes wrong, nobody hears of it.
+pub fn run_program<I: Read, W: Write, F: FaultSink, E: Surroundings>(
+    alloc: Global,
+    words: io::Result<Vec<String>>,
+    reader: &mut I,
+    writer: &mut W,
+    faults: &mut F,
+    around: &mut E,
+) -> u8
+    ensures no_text { IsNoText words → (result ≡ 2) × F.told faults.old Usage faults.new × (reader.new ≡ reader.old) × (writer.new ≡ writer.old) × (around.new ≡ around.old) }
+    ensures memory { LacksMemory words → (result ≡ 4) × F.told faults.old Memory faults.new × (reader.new ≡ reader.old) × (writer.new ≡ writer.old) × (around.new ≡ around.old) }
+    ensures script { HasNoWords words → (end : Result ScriptEnd ScriptFault) × (result ≡ end_status (script_end end)) × Tells F.told faults.old (script_end end) faults.new
+        × ScriptEnds W.contents (I.remaining reader.old) writer.old writer.new end × (around.new ≡ around.old) }
+    ensures words { IfWords words (λ texts. WordsEnd (outer_views W.contents F.told F.shown E.seed_read E.file_read E.books_opened E.port_bound ⟦<ListBooks as Issued>⟧ E.Books.Issued E.Books.rows)
+        (I.remaining reader.old) texts result
+        (record { writer = writer.old; faults = faults.old; around = around.old }) (record { writer = writer.new; faults = faults.new; around = around.new })) }
+{
+    let words = match words {
+        Ok(words) => words,
+        Err(why) => return finish(Err(words_fault(&why)), faults, &mut IoCalls::none()),
+    };
+    if words.is_empty() {
+        let end = answer_script(alloc, reader, writer);
+        return finish(end, faults, &mut IoCalls::none());
+    }
+    run_words(alloc, &words, reader, writer, faults, around)
+}

@@ -1,0 +1,56 @@
+//! The worked scenarios, computed on the model: their replies, lists and tables, and what the headline says after each event.
+ghost use Rattle.hotel_program.specs.Scenes.FirstRun as scene_first_run;
+ghost use Rattle.hotel_program.specs.Scenes.TwoEntries as scene_two_entries;
+ghost use Rattle.hotel_program.specs.Scenes.NextGuest as scene_next_guest;
+ghost use Rattle.hotel_program.specs.Scenes.LeftBehindRecoded as scene_left_behind_recoded;
+ghost use Rattle.hotel_program.specs.Scenes.AwayAndBack as scene_away_and_back;
+ghost use Rattle.hotel_program.specs.Scenes.CodeDrawnTwice as scene_code_drawn_twice;
+ghost use Rattle.hotel_program.specs.Scenes.NoFreshCode as scene_no_fresh_code;
+ghost use Rattle.hotel_program.specs.Scenes.NoFreshCodeTwice as scene_no_fresh_code_twice;
+ghost use Rattle.hotel_program.specs.Scenes.SpareKeepsRoomOpen as scene_spare_keeps_room_open;
+ghost use Rattle.hotel_program.specs.Scenes.AuditTwice as scene_audit_twice;
+ghost use Rattle.hotel_program.specs.Scenes.AuditGapConflict as scene_audit_gap_conflict;
+ghost use Rattle.hotel_program.specs.Scenes.LateAudit as scene_late_audit;
+ghost use Rattle.hotel_program.specs.Scenes.RecodingRefused as scene_recoding_refused;
+ghost use Rattle.hotel_program.specs.Scenes.KindFull as scene_kind_full;
+ghost use Rattle.hotel_program.specs.Scenes.EndOfCalendar as scene_end_of_calendar;
+ghost use Rattle.hotel_program.specs.Scenes.EndOfCalendarLastDay as scene_end_of_calendar_last_day;
+ghost use Rattle.hotel_program.specs.Scenes.DeskDay as scene_desk_day;
+ghost use Rattle.hotel_program.specs.Scenes.NoteRefusals as scene_note_refusals;
+ghost use Rattle.hotel_program.specs.Scenes.TwoRefusals as scene_two_refusals;
+ghost use Rattle.hotel_program.specs.Scenes.BrokenRules as scene_broken_rules;
+
+/// The worked scenarios hold of the model.
+pub fn scenarios()
+    ensures first_run { scene_first_run.TheScene }
+    ensures two_entries { scene_two_entries.TheScene }
+    ensures next_guest { scene_next_guest.TheScene }
+    ensures left_behind_recoded { scene_left_behind_recoded.TheScene }
+    ensures away_and_back { scene_away_and_back.TheScene }
+    ensures code_drawn_twice { scene_code_drawn_twice.TheScene }
+    ensures no_fresh_code { scene_no_fresh_code.TheScene }
+    ensures no_fresh_code_twice { scene_no_fresh_code_twice.TheScene }
+    ensures spare_keeps_room_open { scene_spare_keeps_room_open.TheScene }
+    ensures audit_twice { scene_audit_twice.TheScene }
+    ensures audit_gap_conflict { scene_audit_gap_conflict.TheScene }
+    ensures late_audit { scene_late_audit.TheScene }
+    ensures recoding_refused { scene_recoding_refused.TheScene }
+    ensures kind_full { scene_kind_full.TheScene }
+    ensures end_of_calendar { scene_end_of_calendar.TheScene }
+    ensures end_of_calendar_last_day { scene_end_of_calendar_last_day.TheScene }
+    ensures desk_day { scene_desk_day.TheScene }
+    ensures note_refusals { scene_note_refusals.TheScene }
+{}
+
+/// Of two refusals at once the first in the order of the checks is answered.
+pub fn two_refusals()
+    ensures at_once { scene_two_refusals.TheScene }
+    ensures cards_used_up { scene_two_refusals.CardsEnd }
+    ensures parties_used_up { scene_two_refusals.PartiesEnd }
+{}
+
+/// Each rule of sound rows fails of rows that break it, and just the rules fail that are named there.
+pub fn broken_rules()
+    ensures by_name { scene_broken_rules.TheScene }
+    ensures sound { scene_broken_rules.AreSound }
+{}

@@ -1,0 +1,125 @@
+//! Scripts: lines of commands and lists, each answered before the next.
+
+ghost use Rattle.std.specs.Prelude.{◌≡◌, ℕ, true, List, ◌≤◌, ◌<◌, length, take, IfSome, IfOk, IsErrOf, OnOk, OnErr};
+ghost use Rattle.keycard_rules.specs.Rise.{NoFewer};
+ghost use Rattle.hotel_core.specs.Model.Leads.{Leads};
+ghost use Rattle.hotel_lists.specs.Calls.{NoneForgotten};
+ghost use Rattle.hotel_program.specs.declared.script.ScriptFault.TheVariants.{TooLarge};
+ghost use Rattle.hotel_program.specs.Lines.{answered_lines};
+ghost use Rattle.hotel_program.specs.Script.{ScriptAnswered, ScriptCut, IsInput, IfCut, IfUnbegun, NothingBegun, fault_of};
+
+use crate::line_answers::answer_line;
+use crate::lines::{first_line, is_silent, without_return};
+use hotel_core::Walks;
+use hotel_lists::{IoCalls, WholeFault, read_whole};
+use rand_core::Rng;
+use std::alloc::Global;
+use std::io::{Read, Write};
+
+/// The most bytes of a script.
+pub const SCRIPT_LIMIT: usize = 1_048_576;
+
+/// A script whose lines were all answered.
+#[derive(Clone, Copy, Debug, PartialEq, Eq)]
+pub struct ScriptEnd {
+    /// How many lines were answered.
+    pub lines: u32,
+}
+
+/// Why a script was not answered to its end.
+#[derive(Clone, Copy, Debug, PartialEq, Eq)]
+pub enum ScriptFault {
+    /// A read failed; no line was begun.
+    Read,
+    /// It has more than 1,048,576 bytes; no line was begun.
+    TooLarge,
+    /// A growth of memory for its bytes was refused; no line was begun.
+    Memory,
+    /// A write failed.
+    Write {
+        /// How many lines were carried out, at least one. The answers of those before the last one were
+        /// written whole; of the last one's answer a front was.
+        done: u32,
+    },
+}
+
+impl From<WholeFault> for ScriptFault {
+    ghost from_gives = { λ fault e. e ≡ fault_of fault };
+
+    fn from(fault: WholeFault) -> ScriptFault {
+        match fault {
+            WholeFault::Read => ScriptFault::Read,
+            WholeFault::TooLarge => ScriptFault::TooLarge,
+            WholeFault::Memory => ScriptFault::Memory,
+        }
+    }
+}
+
+/// Answers the lines of a script. Each answer is written before the next line is begun.
+fn answer_lines<W: Write, B: Walks, R: Rng>(
+    alloc: Global,
+    script: &[u8],
+    writer: &mut W,
+    books: &mut B,
+    source: &mut R,
+    calls: &mut IoCalls,
+) -> Result<ScriptEnd, ScriptFault>
+    requires { length script.now ≤ 1048576 }
+    ensures count { IfOk result (λ script_end. script_end.lines ≡ length (answered_lines script.now)) }
+    ensures ok { B.is_clean books.new → OnOk result (Leads (B.rows books.old)
+        (ScriptAnswered (answered_lines script.now) (R.stream source.old) (R.stream source.new) (W.contents writer.old)
+        (W.contents writer.new) (B.failures books.old) (B.failures books.new)) (B.rows books.new)) }
+    ensures cut { IfCut result (λ done. (1 ≤ done) × (done ≤ length (answered_lines script.now))
+        × (B.is_clean books.new → Leads (B.rows books.old) (ScriptCut
+        (take done (answered_lines script.now)) (R.stream source.old) (R.stream source.new) (W.contents writer.old)
+        (W.contents writer.new) (B.failures books.old) (B.failures books.new)) (B.rows books.new))) }
+    ensures sure { IfUnbegun result ⊥ }
+    ensures was_clean { B.is_clean books.new → B.is_clean books.old }
+    ensures counted { NoFewer (B.failures books.old) (B.failures books.new) }
+    ensures failed { OnErr result (calls.new.write_failed ≡ true) }
+    ensures calls { NoneForgotten calls.old calls.new }
+{
+    let mut rest = script;
+    let mut done = 0;
+    while let Some((line, later)) = first_line(rest) {
+        rest = later;
+        let line = without_return(line);
+        if !is_silent(line) {
+            let answered = answer_line(alloc, line, writer, books, source, calls);
+            done += 1;
+            let Ok(()) = answered else {
+                return Err(ScriptFault::Write { done });
+            };
+        }
+    }
+    Ok(ScriptEnd { lines: done })
+}
+
+/// Answers the lines of a script: all the bytes that the reader has. The whole script is read first;
+/// then each line is carried out and its answer written before the next line is begun. The
+/// interrupted reads and writes of the call are counted together, those of its lists among them; the
+/// thousandth is a fault. The writer is not flushed.
+pub fn run_script<I: Read, W: Write, B: Walks, R: Rng>(
+    alloc: Global,
+    reader: &mut I,
+    writer: &mut W,
+    books: &mut B,
+    source: &mut R,
+) -> Result<ScriptEnd, ScriptFault>
+    ensures ok { IfOk result (λ script_end. (script : List ℕ) × IsInput (I.remaining reader.old) script
+        × (script_end.lines ≡ length (answered_lines script)) × (B.is_clean books.new → Leads (B.rows books.old)
+        (ScriptAnswered (answered_lines script) (R.stream source.old) (R.stream source.new) (W.contents writer.old)
+        (W.contents writer.new) (B.failures books.old) (B.failures books.new)) (B.rows books.new))) }
+    ensures cut { IfCut result (λ done. (script : List ℕ) × IsInput (I.remaining reader.old) script × (1 ≤ done)
+        × (done ≤ length (answered_lines script)) × (B.is_clean books.new → Leads (B.rows books.old) (ScriptCut
+        (take done (answered_lines script)) (R.stream source.old) (R.stream source.new) (W.contents writer.old)
+        (W.contents writer.new) (B.failures books.old) (B.failures books.new)) (B.rows books.new))) }
+    ensures unbegun { IfUnbegun result (NothingBegun books.old books.new source.old source.new writer.old writer.new) }
+    ensures large { IsErrOf result TooLarge → IfSome (I.remaining reader.old) (λ input. 1048576 < length input) }
+    ensures was_clean { B.is_clean books.new → B.is_clean books.old }
+    ensures counted { NoFewer (B.failures books.old) (B.failures books.new) }
+{
+    let mut calls = IoCalls::none();
+    let script = read_whole(alloc, reader, SCRIPT_LIMIT, &mut calls)?;
+    answer_lines(alloc, &script, writer, books, source, &mut calls)
+}

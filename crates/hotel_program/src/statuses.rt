@@ -1,0 +1,33 @@
+//! The exit statuses, and that of a reply.
+
+ghost use Rattle.std.specs.Prelude.{◌≡◌, ◌≢◌};
+ghost use Rattle.hotel_program.specs.Statuses.{reply_status};
+
+use hotel_core::{Refusal, Reply};
+
+/// What was asked is done.
+pub const DONE: u8 = 0;
+
+/// The program was given words that it doesn't take.
+pub const USAGE: u8 = 2;
+
+/// The answer is a refusal, or an audit file has a line that is unread or refused.
+pub const REFUSED: u8 = 3;
+
+/// Memory was refused, or a call of the store failed.
+pub const FAILED: u8 = 4;
+
+/// Input or output went wrong.
+pub const BROKEN: u8 = 5;
+
+/// The exit status of a reply.
+pub fn status_of(reply: &Reply) -> u8
+    ensures status { result ≡ reply_status reply.now }
+    ensures no_usage { result ≢ 2 }
+{
+    match reply {
+        Reply::Refused(Refusal::Memory | Refusal::Store) => FAILED,
+        Reply::Refused(_) => REFUSED,
+        _ => DONE,
+    }
+}

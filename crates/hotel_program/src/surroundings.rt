@@ -1,0 +1,53 @@
+//! What is around the program: files, databases and ports.
+
+use crate::command_line::FileName;
+use crate::faults::Fault;
+use hotel_core::Walks;
+use std::alloc::Global;
+use std::net::TcpListener;
+
+/// What is around the program. What it holds is not known to contracts: they say what was asked of it, and in which order.
+pub trait Surroundings {
+    ghost use Rattle.std.specs.Prelude.{ℕ, List, Option, Result, IfErr, option_map};
+    ghost use Rattle.std.specs.Result.{result_map_both};
+    ghost use Rattle.hotel_program.specs.Faults.{IsOfFiles};
+    ghost use Rattle.hotel_program.specs.declared.faults.Fault.{Fault};
+
+    /// The books over a database.
+    type Books: Walks + Drop;
+
+    /// The meanings that may follow one after a seed was read: of the named file, or of the system's source.
+    ghost seed_read: { Self → Option (List ℕ) → Result (List ℕ) Fault → Self → Type 0 };
+
+    /// The same of an audit file.
+    ghost file_read: { Self → List ℕ → Result (List ℕ) Fault → Self → Type 0 };
+
+    /// The same of books that were opened.
+    ghost books_opened: { Self → List ℕ → Result Self.Books Fault → Self → Type 0 };
+
+    /// The same of a port.
+    ghost port_bound: { Self → ℕ → Result (Unit {0}) Fault → Self → Type 0 };
+
+    /// The first 32 bytes of the file, or of the system's source of random bytes where none is named.
+    fn read_seed(&mut self, alloc: Global, name: Option<&FileName>) -> Result<[u8; 32], Fault>
+        ensures read { seed_read self.old (option_map (λ n. n.now) name.entry) result self.new }
+        ensures fault { IfErr result IsOfFiles };
+
+    /// The bytes of an audit file; or, where it has too many, more than it may have.
+    fn read_file(&mut self, alloc: Global, name: &FileName) -> Result<Vec<u8>, Fault>
+        ensures read { file_read self.old name.now (result_map_both (λ bytes. bytes.items) (λ why. why) result) self.new }
+        ensures fault { IfErr result IsOfFiles };
+
+    /// The books of a database, which is made a desk where it is missing or has no tables.
+    fn open_books(&mut self, alloc: Global, name: &FileName) -> Result<Self::Books, Fault>
+        ensures opened { books_opened self.old name.now result self.new }
+        ensures fault { IfErr result IsOfFiles };
+
+    /// Gives books back.
+    fn close_books(&self, books: Self::Books);
+
+    /// Listens on a port of the loopback address.
+    fn listen(&mut self, port: u16) -> Result<TcpListener, Fault>
+        ensures bound { port_bound self.old port (result_map_both (λ listener. tt) (λ why. why) result) self.new }
+        ensures fault { IfErr result IsOfFiles };
+}

@@ -1,0 +1,48 @@
+//! The worked scenarios and three hundred rooms over tables in memory, from bytes to bytes and exit status.
+use crate::stored_rows::new_tables;
+use hotel_tests::scenario_runs::scenario_holds;
+use hotel_tests::scenarios::{OF_FILES, OF_LOCKS, OF_THE_DESK, Scenario};
+use hotel_tests::three_hundred_rooms::rooms_are_answered;
+use std::alloc::Global;
+use std::process::Abort;
+use std::test::Fail;
+
+/// Whether the scenario holds over the tables of a new desk.
+fn tables_hold(alloc: Global, scenario: &Scenario) -> Result<bool, Fail> {
+    scenario_holds(alloc, new_tables(alloc)?, scenario)
+}
+
+/// Whether the script of three hundred rooms is answered over the tables of a new desk.
+fn tables_have_rooms(alloc: Global) -> Result<bool, Fail> {
+    let mut tables = new_tables(alloc)?;
+    rooms_are_answered(alloc, &mut tables)
+}
+
+/// Each of the scenarios holds.
+fn scenarios_hold(rt: &(impl Abort + AllocGlobal), scenarios: &[Scenario]) -> Result<(), Fail> {
+    for scenario in scenarios {
+        assert!(rt; tables_hold(rt.alloc(), scenario)?, "{}", scenario.name);
+    }
+    Ok(())
+}
+
+#[test]
+fn scenarios_of_locks(rt: HostRuntime) -> Result<(), Fail> {
+    scenarios_hold(&rt, &OF_LOCKS)
+}
+
+#[test]
+fn scenarios_of_files(rt: HostRuntime) -> Result<(), Fail> {
+    scenarios_hold(&rt, &OF_FILES)
+}
+
+#[test]
+fn scenarios_of_the_desk(rt: HostRuntime) -> Result<(), Fail> {
+    scenarios_hold(&rt, &OF_THE_DESK)
+}
+
+#[test]
+fn three_hundred_rooms(rt: HostRuntime) -> Result<(), Fail> {
+    assert!(rt; tables_have_rooms(rt.alloc())?);
+    Ok(())
+}

@@ -1,0 +1,344 @@
+//! The worked scenarios over books in memory; and writers that go wrong under lists and audit files.
+
+mod commands_alone;
+
+use crate::desks::Desk;
+use crate::scenario_runs::{desk_of, expected, scenario_holds, step_holds};
+use crate::scenarios::{
+    CHECKED_IN, OF_FILES, OF_LOCKS, OF_THE_DESK, OPENED, Scenario, Step, TWO_NOTES,
+};
+use crate::scripts::spaces;
+use hotel_core::{ListBooks, Refusal, Reply};
+use hotel_lists::FakeWriter;
+use hotel_program::status_of;
+use std::alloc::Global;
+use std::process::Abort;
+use std::test::Fail;
+
+/// Each of the scenarios holds over empty books in memory.
+fn scenarios_hold(rt: &(impl Abort + AllocGlobal), scenarios: &[Scenario]) -> Result<(), Fail> {
+    for scenario in scenarios {
+        let books = ListBooks::empty(rt.alloc());
+        assert!(rt;
+            scenario_holds(rt.alloc(), books, scenario)?,
+            "{}",
+            scenario.name
+        );
+    }
+    Ok(())
+}
+
+#[test]
+fn scenarios_of_locks(rt: HostRuntime) -> Result<(), Fail> {
+    scenarios_hold(&rt, &OF_LOCKS)
+}
+
+#[test]
+fn scenarios_of_files(rt: HostRuntime) -> Result<(), Fail> {
+    scenarios_hold(&rt, &OF_FILES)
+}
+
+#[test]
+fn scenarios_of_the_desk(rt: HostRuntime) -> Result<(), Fail> {
+    scenarios_hold(&rt, &OF_THE_DESK)
+}
+
+/// Carries out the steps of a part, each of which answers what it says, or the test ends.
+fn carry_out_part(desk: &mut Desk, part: &[Step]) -> Result<(), Fail> {
+    for step in part {
+        let mut writer = FakeWriter::new(desk.alloc);
+        let mut faults = FakeWriter::new(desk.alloc);
+        desk.carry_out(step, &mut writer, &mut faults)?;
+        if writer.written() != expected(step).0 {
+            return Err(Fail::from("another answer"));
+        }
+    }
+    Ok(())
+}
+
+/// Party 1 is checked in at room 101.
+fn checks_in(desk: &mut Desk) -> Result<(), Fail> {
+    carry_out_part(desk, OPENED)?;
+    carry_out_part(desk, CHECKED_IN)
+}
+
+/// A desk in memory on which party 1 is checked in at room 101.
+fn checked_in(alloc: Global) -> Result<Desk, Fail> {
+    let mut desk = desk_of(alloc, ListBooks::empty(alloc), &[0xa0], 0xa1)?;
+    checks_in(&mut desk)?;
+    Ok(desk)
+}
+
+/// How a writer goes wrong: it takes so many bytes a call, and the call of this number fails or takes none.
+#[derive(Clone, Copy)]
+enum Wrong {
+    Failing(usize, u32),
+    Stuck(usize, u32),
+}
+
+/// A writer that goes wrong so.
+fn wrong_writer(alloc: Global, wrong: Wrong) -> FakeWriter {
+    match wrong {
+        Wrong::Failing(piece, call) => FakeWriter::new(alloc).in_pieces(piece).failing_at(call),
+        Wrong::Stuck(piece, call) => FakeWriter::new(alloc).in_pieces(piece).stuck_at(call),
+    }
+}
+
+/// A front of the step's output is written, and the fault is told.
+fn write_failed<A: Abort>(rt: &A, step: &Step, written: &[u8], told: &[u8], status: u8) {
+    let (output, _, _) = expected(step);
+    assert!(rt; output.starts_with(written));
+    assert!(rt; told == b"write\n".as_slice());
+    assert!(rt; status == 5);
+}
+
+/// The step writes a front of its output on a writer that goes wrong, and says so.
+fn write_fails(
+    rt: &(impl Abort + AllocGlobal),
+    desk: &mut Desk,
+    step: &Step,
+    wrong: Wrong,
+) -> Result<(), Fail> {
+    let mut writer = wrong_writer(rt.alloc(), wrong);
+    let mut faults = FakeWriter::new(rt.alloc());
+    let status = desk.carry_out(step, &mut writer, &mut faults)?;
+    write_failed(rt, step, writer.written(), faults.written(), status);
+    Ok(())
+}
+
+const TAKEN: Step = Step::Audit(TWO_NOTES, b"1 taken\n2 taken\n", 0);
+
+const SEEN: Step = Step::Audit(TWO_NOTES, b"1 seen\n2 seen\n", 0);
+
+/// The notes stand after the write of this number fails.
+fn notes_stand_after_write(
+    rt: &(impl Abort + AllocGlobal),
+    desk: &mut Desk,
+    call: u32,
+) -> Result<(), Fail> {
+    write_fails(rt, desk, &TAKEN, Wrong::Failing(3, call))?;
+    assert!(rt; step_holds(desk, &SEEN)?, "sent again");
+    write_fails(rt, desk, &SEEN, Wrong::Stuck(3, call.min(4)))
+}
+
+#[test]
+fn notes_stand_after_each_write_that_fails(rt: HostRuntime) -> Result<(), Fail> {
+    for call in 1..=6 {
+        let mut desk = checked_in(rt.alloc())?;
+        notes_stand_after_write(&rt, &mut desk, call)?;
+    }
+    Ok(())
+}
+
+/// The codes of room 101 where party 1 is checked in.
+const CHAIN: &[u8] = b"\
+place,code,state
+0,0000000000a0,held
+1,0000000000a1,awaited
+";
+
+const CHAIN_LISTED: Step = Step::List(b"chain 101", CHAIN, 0);
+
+const NO_ROOM: Step = Step::List(b"audit-of 102", b"refused 6 NoRoom\n", 3);
+
+/// The write of this number fails within a list, and within the line that says that its room isn't there.
+fn list_write_fails(
+    rt: &(impl Abort + AllocGlobal),
+    desk: &mut Desk,
+    call: u32,
+) -> Result<(), Fail> {
+    write_fails(rt, desk, &CHAIN_LISTED, Wrong::Failing(9, call))?;
+    write_fails(rt, desk, &NO_ROOM, Wrong::Failing(6, call))
+}
+
+/// Each of the first writes of a list fails in turn; then it is written.
+fn list_writes_fail(rt: &(impl Abort + AllocGlobal), desk: &mut Desk) -> Result<(), Fail> {
+    for call in 1..=3 {
+        list_write_fails(rt, desk, call)?;
+    }
+    assert!(rt; step_holds(desk, &CHAIN_LISTED)?, "at last");
+    Ok(())
+}
+
+#[test]
+fn each_write_of_a_list_fails(rt: HostRuntime) -> Result<(), Fail> {
+    let mut desk = checked_in(rt.alloc())?;
+    list_writes_fail(&rt, &mut desk)
+}
+
+/// Nothing was written, and nothing told.
+fn are_silent<A: Abort>(rt: &A, status: u8, written: &[u8], told: &[u8]) {
+    assert!(rt; status == 5);
+    assert!(rt; written.is_empty());
+    assert!(rt; told.is_empty());
+}
+
+/// The file comes to a fault, with a write that fails or without, which is not told.
+fn nobody_hears(rt: &(impl Abort + AllocGlobal), desk: &mut Desk, file: &[u8], call: u32) {
+    let mut writer = FakeWriter::new(rt.alloc()).failing_at(call);
+    let mut faults = FakeWriter::new(rt.alloc()).failing_at(1);
+    let status = desk.audit(file, &mut writer, &mut faults);
+    are_silent(rt, status, writer.written(), faults.written());
+}
+
+#[test]
+fn nobody_hears_of_a_fault_that_is_not_written(rt: HostRuntime) -> Result<(), Fail> {
+    let mut desk = checked_in(rt.alloc())?;
+    nobody_hears(&rt, &mut desk, b"", 9);
+    nobody_hears(&rt, &mut desk, TWO_NOTES, 1);
+    Ok(())
+}
+
+/// After 600 interruptions on its writer and so many on the other, a list tells so.
+fn interrupted_list(
+    rt: &(impl Abort + AllocGlobal),
+    desk: &mut Desk,
+    times: u32,
+    told: &[u8],
+) -> Result<(), Fail> {
+    let mut writer = FakeWriter::new(rt.alloc()).interrupted(600).failing_at(601);
+    let mut faults = FakeWriter::new(rt.alloc()).interrupted(times);
+    let status = desk.list(b"in-house", &mut writer, &mut faults)?;
+    assert!(rt; (status, faults.written()) == (5, told));
+    Ok(())
+}
+
+/// The thousandth interruption of a call is a fault.
+#[test]
+fn interruptions_on_both_writers_are_counted_together(rt: HostRuntime) -> Result<(), Fail> {
+    let mut desk = checked_in(rt.alloc())?;
+    interrupted_list(&rt, &mut desk, 399, b"write\n")?;
+    interrupted_list(&rt, &mut desk, 400, b"")
+}
+
+/// It is told so that the file is none, and nothing is written.
+fn is_told<A: Abort>(rt: &A, status: u8, written: &[u8], told: &[u8], wanted: &[u8]) {
+    assert!(rt; status == 5);
+    assert!(rt; told == wanted);
+    assert!(rt; written.is_empty());
+}
+
+/// The file is no audit file, and so it is told.
+fn is_no_audit(rt: &(impl Abort + AllocGlobal), desk: &mut Desk, file: &[u8], told: &[u8]) {
+    let mut writer = FakeWriter::new(rt.alloc());
+    let mut faults = FakeWriter::new(rt.alloc());
+    let status = desk.audit(file, &mut writer, &mut faults);
+    is_told(rt, status, writer.written(), faults.written(), told);
+}
+
+/// A file of so many spaces is no audit file, and so it is told.
+fn spaces_are_no_audit(
+    rt: &(impl Abort + AllocGlobal),
+    desk: &mut Desk,
+    len: usize,
+    told: &[u8],
+) -> Result<(), Fail> {
+    let file = spaces(rt.alloc(), len)?;
+    is_no_audit(rt, desk, file.as_slice(), told);
+    Ok(())
+}
+
+#[test]
+fn a_file_over_the_limit_is_too_large(rt: HostRuntime) -> Result<(), Fail> {
+    let mut desk = checked_in(rt.alloc())?;
+    spaces_are_no_audit(&rt, &mut desk, 262_144, b"wrong header\n")?;
+    spaces_are_no_audit(&rt, &mut desk, 262_145, b"too large\n")
+}
+
+/// The reply goes with this exit status.
+fn has_status<A: Abort>(rt: &A, reply: &Reply, status: u8) {
+    assert!(rt; status_of(reply) == status);
+}
+
+#[test]
+fn statuses_of_replies(rt: HostRuntime) {
+    has_status(&rt, &Reply::Begun, 0);
+    has_status(&rt, &Reply::Taken, 0);
+    has_status(&rt, &Reply::Seen, 0);
+    has_status(&rt, &Reply::Refused(Refusal::NotBegun), 3);
+    has_status(&rt, &Reply::Refused(Refusal::Gap(4)), 3);
+    has_status(&rt, &Reply::Refused(Refusal::NotAwaited), 3);
+    has_status(&rt, &Reply::Refused(Refusal::Memory), 4);
+    has_status(&rt, &Reply::Refused(Refusal::Store), 4);
+}
+
+/// What is written is whole rows of the chain's list, and the whole list where all went well.
+fn is_whole_rows<A: Abort>(rt: &A, written: &[u8], status: u8) {
+    assert!(rt; CHAIN.starts_with(written));
+    assert!(rt; matches!(written.last(), None | Some(b'\n')));
+    if status == 0 {
+        assert!(rt; written == CHAIN);
+    }
+}
+
+/// Writes the chain's list, or says that there was no memory.
+fn chain_or_fault(rt: &(impl Abort + AllocGlobal), desk: &mut Desk) -> Result<(), Fail> {
+    let mut writer = FakeWriter::new(rt.alloc());
+    let mut faults = FakeWriter::new(rt.alloc());
+    let status = desk.list(b"chain 101", &mut writer, &mut faults)?;
+    let told: &[u8] = match status {
+        0 => b"",
+        4 => b"memory\n",
+        _ => b"write\n",
+    };
+    assert!(rt; faults.written() == told);
+    is_whole_rows(rt, writer.written(), status);
+    Ok(())
+}
+
+/// Where a growth of memory is refused, whole rows of the list are written, and it is said.
+#[test]
+fn a_list_without_memory_says_so(rt: HostRuntime) -> Result<(), Fail> {
+    let mut desk = checked_in(rt.alloc())?;
+    chain_or_fault(&rt, &mut desk)
+}
+
+/// What the two notes are answered again, after this was told of their first import.
+fn answers_after(told: &[u8]) -> &'static [u8] {
+    let both = b"stopped after 2: Memory\n".as_slice();
+    if told.is_empty() || told == b"write\n".as_slice() || told == both {
+        b"1 seen\n2 seen\n"
+    } else if told == b"stopped after 1: Memory\n".as_slice() {
+        b"1 seen\n2 taken\n"
+    } else {
+        b"1 taken\n2 taken\n"
+    }
+}
+
+/// An import of the two notes that ended by this status wrote and told so.
+fn import_says_so<A: Abort>(rt: &A, status: u8, written: &[u8], told: &[u8]) {
+    match status {
+        0 => assert!(rt; written == b"1 taken\n2 taken\n".as_slice()),
+        4 => assert!(rt; written.is_empty() && !told.is_empty()),
+        _ => assert!(rt; told == b"write\n".as_slice()),
+    }
+}
+
+/// Imports the two notes, and answers what they are answered again.
+fn import_or_fault<R: Abort + AllocGlobal>(rt: &R, desk: &mut Desk) -> &'static [u8] {
+    let mut writer = FakeWriter::new(rt.alloc());
+    let mut faults = FakeWriter::new(rt.alloc());
+    let status = desk.audit(TWO_NOTES, &mut writer, &mut faults);
+    import_says_so(rt, status, writer.written(), faults.written());
+    answers_after(faults.written())
+}
+
+/// Where the two notes are answered again, they are answered so.
+fn import_again<R: Abort + AllocGlobal>(rt: &R, desk: &mut Desk, again: &[u8]) {
+    let mut writer = FakeWriter::new(rt.alloc());
+    let mut faults = FakeWriter::new(rt.alloc());
+    let status = desk.audit(TWO_NOTES, &mut writer, &mut faults);
+    if status == 0 {
+        assert!(rt; writer.written() == again);
+    }
+}
+
+/// Where a growth of memory is refused, the import says after how many lines, or that there was
+/// none for the file; the file sent again is answered for the lines that stood before.
+#[test]
+fn an_import_without_memory_says_so(rt: HostRuntime) -> Result<(), Fail> {
+    let mut desk = checked_in(rt.alloc())?;
+    let again = import_or_fault(&rt, &mut desk);
+    import_again(&rt, &mut desk, again);
+    Ok(())
+}
