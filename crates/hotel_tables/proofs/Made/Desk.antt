@@ -115,48 +115,56 @@ steps {tree} {rows} old new make shown did now =
 
 pub rooms_set : {db : Trees} {rows : List Row} {list : List (ℕ × RoomRow)} → AreTables db → AreRooms rows × (listed (by_key nat_cmp) (λ r. room_of (room_columns r)) rows ≡ list)
     → AreTables (with_tree db 3 rows) × (rows_in (with_tree db 3 rows) ≡ record (rows_in db) { rooms = list })
-rooms_set {db} was made =
-    (record { meta = was.meta; meta_row = was.meta_row; kind = was.kind; room = made.0; stay = was.stay; code = was.code; card = was.card; inside = was.inside; inside_numbered = was.inside_numbered; inside_ids = was.inside_ids; note = was.note },
-    ap (λ rooms. record (rows_in db) { rooms = rooms }) made.1)
+rooms_set {db} was made = (
+  record { meta = was.meta; meta_row = was.meta_row; kind = was.kind; room = made.0; stay = was.stay; code = was.code; card = was.card; inside = was.inside; inside_numbered = was.inside_numbered; inside_ids = was.inside_ids; note = was.note },
+  ap (λ rooms. record (rows_in db) { rooms = rooms }) made.1,
+)
 
 pub stays_set : {db : Trees} {rows : List Row} {list : List (ℕ × Stay)} → AreTables db → AreStays rows × (listed (by_key nat_cmp) (λ r. stay_of (stay_columns r)) rows ≡ list)
     → AreTables (with_tree db 5 rows) × (rows_in (with_tree db 5 rows) ≡ record (rows_in db) { stays = list })
-stays_set {db} was made =
-    (record { meta = was.meta; meta_row = was.meta_row; kind = was.kind; room = was.room; stay = made.0; code = was.code; card = was.card; inside = was.inside; inside_numbered = was.inside_numbered; inside_ids = was.inside_ids; note = was.note },
-    ap (λ stays. record (rows_in db) { stays = stays }) made.1)
+stays_set {db} was made = (
+  record { meta = was.meta; meta_row = was.meta_row; kind = was.kind; room = was.room; stay = made.0; code = was.code; card = was.card; inside = was.inside; inside_numbered = was.inside_numbered; inside_ids = was.inside_ids; note = was.note },
+  ap (λ stays. record (rows_in db) { stays = stays }) made.1,
+)
 
 pub codes_set : {db : Trees} {rows : List Row} {list : List (ℕ × CodeRow)} → AreTables db → AreCodes rows × (listed (by_key nat_cmp) (λ r. code_of (code_columns r)) rows ≡ list)
     → AreTables (with_tree db 6 rows) × (rows_in (with_tree db 6 rows) ≡ record (rows_in db) { codes = list })
-codes_set {db} was made =
-    (record { meta = was.meta; meta_row = was.meta_row; kind = was.kind; room = was.room; stay = was.stay; code = made.0; card = was.card; inside = was.inside; inside_numbered = was.inside_numbered; inside_ids = was.inside_ids; note = was.note },
-    ap (λ codes. record (rows_in db) { codes = codes }) made.1)
+codes_set {db} was made = (
+  record { meta = was.meta; meta_row = was.meta_row; kind = was.kind; room = was.room; stay = was.stay; code = made.0; card = was.card; inside = was.inside; inside_numbered = was.inside_numbered; inside_ids = was.inside_ids; note = was.note },
+  ap (λ codes. record (rows_in db) { codes = codes }) made.1,
+)
 
 pub cards_set : {db : Trees} {rows : List Row} {list : List (ℕ × Card)} → AreTables db → AreCards rows × (listed (by_key nat_cmp) (λ r. card_of (card_columns r)) rows ≡ list)
     → AreTables (with_tree db 8 rows) × (rows_in (with_tree db 8 rows) ≡ record (rows_in db) { cards = list })
-cards_set {db} was made =
-    (record { meta = was.meta; meta_row = was.meta_row; kind = was.kind; room = was.room; stay = was.stay; code = was.code; card = made.0; inside = was.inside; inside_numbered = was.inside_numbered; inside_ids = was.inside_ids; note = was.note },
-    ap (λ cards. record (rows_in db) { cards = cards }) made.1)
+cards_set {db} was made = (
+  record { meta = was.meta; meta_row = was.meta_row; kind = was.kind; room = was.room; stay = was.stay; code = was.code; card = made.0; inside = was.inside; inside_numbered = was.inside_numbered; inside_ids = was.inside_ids; note = was.note },
+  ap (λ cards. record (rows_in db) { cards = cards }) made.1,
+)
 
 pub kinds_set : {db : Trees} {rows : List Row} {list : List (List ℕ)} → AreTables db → AreKinds rows × (listed (slice_cmp nat_cmp) (λ r. kind_of (kind_columns r)) rows ≡ list)
     → AreTables (with_tree db 1 rows) × (rows_in (with_tree db 1 rows) ≡ record (rows_in db) { kinds = list })
-kinds_set {db} was made =
-    (record { meta = was.meta; meta_row = was.meta_row; kind = made.0; room = was.room; stay = was.stay; code = was.code; card = was.card; inside = was.inside; inside_numbered = was.inside_numbered; inside_ids = was.inside_ids; note = was.note },
-    ap (λ kinds. record (rows_in db) { kinds = kinds }) made.1)
+kinds_set {db} was made = (
+  record { meta = was.meta; meta_row = was.meta_row; kind = made.0; room = was.room; stay = was.stay; code = was.code; card = was.card; inside = was.inside; inside_numbered = was.inside_numbered; inside_ids = was.inside_ids; note = was.note },
+  ap (λ kinds. record (rows_in db) { kinds = kinds }) made.1,
+)
 
 pub notes_set : {db : Trees} {rows : List Row} {list : List ((ℕ × ℕ) × Note)} → AreTables db → AreNotes rows × (listed (by_key pair_cmp) (λ r. note_of (note_columns r)) rows ≡ list)
     → AreTables (with_tree db 11 rows) × (rows_in (with_tree db 11 rows) ≡ record (rows_in db) { notes = list })
-notes_set {db} was made =
-    (record { meta = was.meta; meta_row = was.meta_row; kind = was.kind; room = was.room; stay = was.stay; code = was.code; card = was.card; inside = was.inside; inside_numbered = was.inside_numbered; inside_ids = was.inside_ids; note = made.0 },
-    ap (λ notes. record (rows_in db) { notes = notes }) made.1)
+notes_set {db} was made = (
+  record { meta = was.meta; meta_row = was.meta_row; kind = was.kind; room = was.room; stay = was.stay; code = was.code; card = was.card; inside = was.inside; inside_numbered = was.inside_numbered; inside_ids = was.inside_ids; note = made.0 },
+  ap (λ notes. record (rows_in db) { notes = notes }) made.1,
+)
 
 pub insides_set : {db : Trees} {rows : List Row} {list : List (ℕ × ℕ)} → AreTables db → AreInside rows × (listed pair_cmp (λ r. inside_of (inside_columns r)) rows ≡ list) → AllByRecursion HasId rows → AreApartIds rows
     → AreTables (with_tree db 9 rows) × (rows_in (with_tree db 9 rows) ≡ record (rows_in db) { inside = list })
-insides_set {db} was made numbered apart =
-    (record { meta = was.meta; meta_row = was.meta_row; kind = was.kind; room = was.room; stay = was.stay; code = was.code; card = was.card; inside = made.0; inside_numbered = numbered; inside_ids = apart; note = was.note },
-    ap (λ inside. record (rows_in db) { inside = inside }) made.1)
+insides_set {db} was made numbered apart = (
+  record { meta = was.meta; meta_row = was.meta_row; kind = was.kind; room = was.room; stay = was.stay; code = was.code; card = was.card; inside = made.0; inside_numbered = numbered; inside_ids = apart; note = was.note },
+  ap (λ inside. record (rows_in db) { inside = inside }) made.1,
+)
 
 pub day_set : {db : Trees} {rows : List Row} {day : Option ℕ} → AreTables db → AreMetas rows × (listed (by_key nat_cmp) (λ r. meta_of (meta_columns r)) rows ≡ (1, (1, day)) ∷ [])
     → AreTables (with_tree db 0 rows) × (rows_in (with_tree db 0 rows) ≡ record (rows_in db) { day = day })
-day_set {day = day} was made =
-    (record { meta = made.0; meta_row = (day, made.1); kind = was.kind; room = was.room; stay = was.stay; code = was.code; card = was.card; inside = was.inside; inside_numbered = was.inside_numbered; inside_ids = was.inside_ids; note = was.note },
-    rw made.1 refl)
+day_set {day = day} was made = (
+  record { meta = made.0; meta_row = (day, made.1); kind = was.kind; room = was.room; stay = was.stay; code = was.code; card = was.card; inside = was.inside; inside_numbered = was.inside_numbered; inside_ids = was.inside_ids; note = was.note },
+  rw made.1 refl,
+)

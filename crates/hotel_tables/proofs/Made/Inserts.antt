@@ -101,7 +101,7 @@ room_step old new r count h mid =
     let was = (mid h.1.was_open).0 in
     let row = room_stored r in
     let did : Put 3 row old new = put 3 room_table _ row row old new count changes.insert_room (λ _ does. does) refl
-        (rw (cast_null, cast_int (pos r.room), cast_int (pos r.lock_place), cast_int (pos r.codes), cast_int (pos (bit_of r.secured)), cast_maybe r.party, cast_int (pos r.notes)) refl) was.schema h.0 in
+    (rw (cast_null, cast_int (pos r.room), cast_int (pos r.lock_place), cast_int (pos r.codes), cast_int (pos (bit_of r.secured)), cast_maybe r.party, cast_int (pos r.notes)) refl) was.schema h.0 in
     steps old new (room_added r) h.1 did.changes (rooms_set was.tables (insert_makes room_columns room_of room_written room_numbered row r.room r _ was.tables.room (room_good r) (room_reads r) refl did.fresh))
 
 pub stay_step : (old new : State) (stay : Stay) (count : ℕ)
@@ -111,7 +111,7 @@ stay_step old new s count h mid =
     let was = (mid h.1.was_open).0 in
     let row = stay_stored s in
     let did : Put 5 row old new = put 5 stay_table _ row row old new count changes.insert_stay (λ _ does. does) refl
-        (rw (cast_null, cast_int (pos s.party), cast_int (pos s.arrive), cast_int (pos s.depart), cast_int (pos (state_number s.state)), cast_maybe (room_of_state s.state)) refl) was.schema h.0 in
+    (rw (cast_null, cast_int (pos s.party), cast_int (pos s.arrive), cast_int (pos s.depart), cast_int (pos (state_number s.state)), cast_maybe (room_of_state s.state)) refl) was.schema h.0 in
     steps old new (stay_added s) h.1 did.changes (stays_set was.tables (insert_makes stay_columns stay_of stay_written stay_numbered row s.party s _ was.tables.stay (stay_good s) (stay_reads s) refl did.fresh))
 
 pub card_step : (old new : State) (card : Card) (count : ℕ) → ExecutesInside 0 insert_card (int card.number ∷ int card.party ∷ int card.link.old_code ∷ int card.link.new_code ∷ []) old new (Ok count)
@@ -120,7 +120,7 @@ card_step old new c count h mid =
     let was = (mid h.1.was_open).0 in
     let row = card_stored c in
     let did : Put 8 row old new = put 8 card_table _ row row old new count changes.insert_card (λ _ does. does) refl
-        (rw (cast_null, cast_int (pos c.number), cast_int (pos c.party), cast_int (pos c.link.old_code), cast_int (pos c.link.new_code)) refl) was.schema h.0 in
+    (rw (cast_null, cast_int (pos c.number), cast_int (pos c.party), cast_int (pos c.link.old_code), cast_int (pos c.link.new_code)) refl) was.schema h.0 in
     steps old new (card_added c) h.1 did.changes (cards_set was.tables (insert_makes card_columns card_of card_written card_numbered row c.number c _ was.tables.card refl refl refl did.fresh))
 
 -- ---- the tables whose rows have a number of their own
@@ -163,11 +163,20 @@ note_step old new n count h mid =
     let id = next_rowid (old.now.trees 11) in
     let row = note_stored id n in
     let did : Put 11 row old new = put 11 note_table _
-        (Null ∷ int n.room ∷ int n.count ∷ int (act_number n.act) ∷ maybe_int (act_card n.act) ∷ int (act_first n.act) ∷ int (act_second n.act) ∷ int n.day ∷ int n.second ∷ []) row
-        old new count changes.insert_note (λ _ does. does) refl
-        (rw (cast_null, cast_int (pos n.room), cast_int (pos n.count), cast_int (pos (act_number n.act)), cast_maybe (act_card n.act), cast_int (pos (act_first n.act)), cast_int (pos (act_second n.act)),
-        cast_int (pos n.day), cast_int (pos n.second)) refl) was.schema h.0 in
+    (Null ∷ int n.room ∷ int n.count ∷ int (act_number n.act) ∷ maybe_int (act_card n.act) ∷ int (act_first n.act) ∷ int (act_second n.act) ∷ int n.day ∷ int n.second ∷ []) row
+    old new count changes.insert_note (λ _ does. does) refl
+    (rw (
+      cast_null,
+      cast_int (pos n.room),
+      cast_int (pos n.count),
+      cast_int (pos (act_number n.act)),
+      cast_maybe (act_card n.act),
+      cast_int (pos (act_first n.act)),
+      cast_int (pos (act_second n.act)),
+      cast_int (pos n.day),
+      cast_int (pos n.second),
+    ) refl) was.schema h.0 in
     let apart = not_at (n.room, n.count) notes both.1 in
     let made = put_keyed (by_key pair_cmp) (key_total pair_cmp pair_total) (IsWrittenAs note_columns note_of note_written) (λ r. note_of (note_columns r)) row ((n.room, n.count), n) _ was.tables.note
-        (note_good id n) (note_reads id n) did.fresh apart in
+    (note_good id n) (note_reads id n) did.fresh apart in
     steps old new (note_added n) h.1 did.changes (notes_set was.tables (made.0, made.1 ∙ entry_put pair_cmp (n.room, n.count) n notes apart))

@@ -39,7 +39,7 @@ inside_step old new room number count h mid =
     let rows = old.now.trees 9 in
     let row = inside_stored (next_rowid rows) e in
     let did : Put 9 row old new = put 9 inside_table _ (Null ∷ int room ∷ int number ∷ []) row old new count changes.insert_inside (λ _ does. does) refl
-        (rw (cast_null, cast_int (pos room), cast_int (pos number)) refl) was.schema h.0 in
+    (rw (cast_null, cast_int (pos room), cast_int (pos number)) refl) was.schema h.0 in
     let out = alone did.next room number (next_rowid rows) rows was.tables.inside.good was.tables.inside_numbered did.fits did.next_is did.fresh in
     let made = put_keyed pair_cmp pair_total (IsWrittenAs inside_columns inside_of inside_written) (λ r. inside_of (inside_columns r)) row e rows was.tables.inside refl refl did.fresh out in
     let ids = every_shuffled HasId (row ∷ rows) (put_row row rows) (IsPermutation-sym _ _ (put_fresh row rows did.fresh)) (refl, was.tables.inside_numbered) in

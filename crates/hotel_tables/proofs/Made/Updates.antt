@@ -104,15 +104,15 @@ day_step old new day count h mid =
     let e = λ (r : Row). meta_of (meta_columns r) in
     let stored = λ (r : Row). meta_stored ((e r).0, ((e r).1.0, Some day)) in
     let did = sets meta_columns meta_of meta_written meta_numbered 0 meta_table 1 (int day ∷ []) (λ x. (x.0, Some day)) (λ r. int (e r).0 ∷ int (e r).0 ∷ Null ∷ int (e r).1.0 ∷ int day ∷ []) stored old new count refl
-        changes.update_day (λ _ does. does)
-        (record {
-          given = λ r good. ap (λ (v : Row). column v 0 ∷ column v 0 ∷ Null ∷ column v 1 ∷ int day ∷ []) good;
-          number = λ r. refl;
-          cast = λ r. rw (cast_null, cast_int (pos (e r).0), cast_int (pos (e r).1.0), cast_int (pos day)) refl;
-          good = λ r. meta_good ((e r).0, ((e r).1.0, Some day));
-          reads = λ r. meta_reads ((e r).0, ((e r).1.0, Some day));
-          id = λ r. refl;
-        }) was.schema was.tables.meta h.0 in
+    changes.update_day (λ _ does. does)
+    (record {
+      given = λ r good. ap (λ (v : Row). column v 0 ∷ column v 0 ∷ Null ∷ column v 1 ∷ int day ∷ []) good;
+      number = λ r. refl;
+      cast = λ r. rw (cast_null, cast_int (pos (e r).0), cast_int (pos (e r).1.0), cast_int (pos day)) refl;
+      good = λ r. meta_good ((e r).0, ((e r).1.0, Some day));
+      reads = λ r. meta_reads ((e r).0, ((e r).1.0, Some day));
+      id = λ r. refl;
+    }) was.schema was.tables.meta h.0 in
     steps old new (day_set day) h.1 did.changes (desk.day_set was.tables (did.made.0, did.made.1 ∙ ap (changed_at 1 (λ x. (x.0, Some day))) was.tables.meta_row.1))
 
 -- ---- a room
@@ -130,14 +130,14 @@ rooms_step room more f source old new count same does on given number cast h mid
     let was = (mid h.1.was_open).0 in
     let x = λ (r : Row). (room_of (room_columns r)).1 in
     let did = sets room_columns room_of room_written room_numbered 3 room_table room more f (λ r. source (x r)) (λ r. room_stored (f (x r))) old new count refl does on
-        (record {
-          given = given;
-          number = λ r. number (x r);
-          cast = λ r. cast (x r);
-          good = λ r. room_good (f (x r));
-          reads = λ r. room_reads (f (x r)) ∙ ap (λ n. (n, f (x r))) (same (x r));
-          id = λ r. ap int (same (x r));
-        }) was.schema was.tables.room h.0 in
+    (record {
+      given = given;
+      number = λ r. number (x r);
+      cast = λ r. cast (x r);
+      good = λ r. room_good (f (x r));
+      reads = λ r. room_reads (f (x r)) ∙ ap (λ n. (n, f (x r))) (same (x r));
+      id = λ r. ap int (same (x r));
+    }) was.schema was.tables.room h.0 in
     steps old new _ h.1 did.changes (rooms_set was.tables (did.made.0, did.made.1 ∙ rooms_same room f (rows_in old.now.trees).rooms))
 
 pub issued_step : (old new : State) (room codes party : ℕ) (count : ℕ) → ExecutesInside 0 update_issued (int room ∷ int codes ∷ int party ∷ []) old new (Ok count)
@@ -176,14 +176,14 @@ state_step old new party state count h mid =
     let x = λ (r : Row). (stay_of (stay_columns r)).1 in
     let now = int (state_number state) ∷ maybe_int (room_of_state state) ∷ [] in
     let did = sets stay_columns stay_of stay_written stay_numbered 5 stay_table party now (now_is state)
-        (λ r. int (x r).party ∷ int (x r).party ∷ Null ∷ Text (x r).guest ∷ Text (x r).kind ∷ int (x r).arrive ∷ int (x r).depart ∷ now) (λ r. stay_stored (now_is state (x r))) old new count refl
-        changes.update_state (λ _ does. does)
-        (record {
-          given = λ r good. ap (λ (v : Row). column v 0 ∷ column v 0 ∷ Null ∷ column v 1 ∷ column v 2 ∷ column v 3 ∷ column v 4 ∷ now) good;
-          number = λ r. refl;
-          cast = λ r. rw (cast_null, cast_int (pos (x r).party), cast_int (pos (x r).arrive), cast_int (pos (x r).depart), cast_int (pos (state_number state)), cast_maybe (room_of_state state)) refl;
-          good = λ r. stay_good (now_is state (x r));
-          reads = λ r. stay_reads (now_is state (x r));
-          id = λ r. refl;
-        }) was.schema was.tables.stay h.0 in
+    (λ r. int (x r).party ∷ int (x r).party ∷ Null ∷ Text (x r).guest ∷ Text (x r).kind ∷ int (x r).arrive ∷ int (x r).depart ∷ now) (λ r. stay_stored (now_is state (x r))) old new count refl
+    changes.update_state (λ _ does. does)
+    (record {
+      given = λ r good. ap (λ (v : Row). column v 0 ∷ column v 0 ∷ Null ∷ column v 1 ∷ column v 2 ∷ column v 3 ∷ column v 4 ∷ now) good;
+      number = λ r. refl;
+      cast = λ r. rw (cast_null, cast_int (pos (x r).party), cast_int (pos (x r).arrive), cast_int (pos (x r).depart), cast_int (pos (state_number state)), cast_maybe (room_of_state state)) refl;
+      good = λ r. stay_good (now_is state (x r));
+      reads = λ r. stay_reads (now_is state (x r));
+      id = λ r. refl;
+    }) was.schema was.tables.stay h.0 in
     steps old new (stay_set party state) h.1 did.changes (stays_set was.tables (did.made.0, did.made.1 ∙ stays_same party state (rows_in old.now.trees).stays))
