@@ -2,13 +2,11 @@
 pub mod Entries
 pub mod Desk
 pub mod Reads
+pub mod Writes
 pub mod Inserts
-pub mod Effects
 pub mod Sources
 pub mod Updates
-pub mod Moves
 pub mod Issued
 pub mod Insides
 pub mod Deletes
 pub mod Alone
-pub mod Noted

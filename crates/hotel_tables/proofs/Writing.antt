@@ -1,6 +1,6 @@
 -- What a write is put together of.
 use Rattle.std.proofs.Common.{◌≡◌, ◌⊎◌, inl, inr, ℕ, ℤ, pos, Bool, true, false, List, cond, Option}
-use Rattle.std.proofs.Common.{None, Some, Ok, Err, Result, not, ◌&&◌, sym, ◌∙◌, subst, true≢false, refl, IsTrue}
+use Rattle.std.proofs.Common.{None, Some, Ok, Err, Result, OnOk, IsErr, not, ◌&&◌, sym, ◌∙◌, subst, true≢false, refl, IsTrue}
 use Rattle.sqlite_value.specs.declared.value.Value.{Value}
 use Rattle.sqlite_value.specs.declared.value.Value.TheVariants.{Null, Int, Text}
 use Rattle.sqlite.specs.Ops.{unary}
@@ -42,6 +42,11 @@ same_value e = cc
 pub fresh_one : (b more : Bool) → (not b && more) ≡ true → b ≡ false
 fresh_one true more h = absurd (true≢false (sym h))
 fresh_one false more h = refl
+
+-- what failed promises nothing
+pub failing : {E : Type 0} (P : Type 0) (r : Result (Unit {0}) E) → IsErr r → OnOk r P
+failing P (Ok u) is = absurd cc
+failing P (Err e) is = tt
 
 -- ---- a statement within a transaction
 

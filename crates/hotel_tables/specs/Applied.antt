@@ -1,23 +1,25 @@
 -- What a change of the books needs beside its rows, to be made over tables, and what making it says.
-use Rattle.std.specs.Prelude.{ℕ, ◌≡◌, ◌-◌, ◌^◌, Option, Some, None, Result, OnOk, OnErr, if◌then◌else◌, nat_lt}
+use Rattle.std.specs.Prelude.{ℕ, ◌≡◌, ◌-◌, ◌^◌, false, Option, Some, None, Result, OnOk, OnErr, if◌then◌else◌, nat_lt}
 use Rattle.sqlite.specs.Tree.{Trees}
 use Rattle.sqlite.specs.State.{State, Survives}
 use Rattle.keycard_rules.specs.declared.issued.LookFault.{LookFault}
 use Rattle.hotel_core.specs.declared.books.rows.RoomRow.{RoomRow}
 use Rattle.hotel_core.specs.declared.books.change.Change.{Change}
-use Rattle.hotel_core.specs.declared.books.change.Change.TheVariants.{Issue}
+use Rattle.hotel_core.specs.declared.books.change.Change.TheVariants.{Kind, Issue, Noted}
 use Rattle.hotel_core.specs.Model.Words.{said_of}
-use Rattle.hotel_core.specs.Books.Lookups.{room_at}
+use Rattle.hotel_core.specs.Books.Lookups.{room_at, note_at}
 use Rattle.hotel_core.specs.Books.Change.{made, codes_of}
-use Rattle.hotel_core.specs.Model.Rows.{Rows}
+use Rattle.hotel_core.specs.Model.Rows.{Rows, has_kind}
 use Rattle.hotel_tables.specs.Tables.{rows_in}
 use Rattle.hotel_tables.specs.Books.{IsBooks, IsKept}
 use Rattle.hotel_tables.specs.Steps.{IsMadeOf}
 
--- so many codes stand at the room at which a card is issued
-abbrev pub HasCodes : Change → ℕ → Rows → Type 0
-HasCodes (Issue card room leaves) codes rows = codes_of rows room ≡ codes
-HasCodes _ codes rows = Unit {0}
+-- what the statements of a change ask of the rows, with so many codes at the room of an issue
+abbrev pub MayMake : Change → ℕ → Rows → Type 0
+MayMake (Kind kind) codes rows = has_kind rows kind ≡ false
+MayMake (Issue card room leaves) codes rows = codes_of rows room ≡ codes
+MayMake (Noted note lock_place secured insides) codes rows = note_at rows note.room note.count ≡ None
+MayMake _ codes rows = Unit {0}
 
 -- a room's codes, where one more can be counted
 abbrev pub with_next : RoomRow → Option ℕ

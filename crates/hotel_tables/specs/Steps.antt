@@ -1,5 +1,5 @@
 -- The statements of one transaction, each a step of it, and the change that they make together.
-use Rattle.std.specs.Prelude.{ℕ, ◌≡◌, Bool, false, List, Option, Some, IsTrue}
+use Rattle.std.specs.Prelude.{ℕ, ◌≡◌, Bool, false, List, Option, Some, Result, Ok, OnOk, IsTrue}
 use Rattle.std.specs.Ordering.{nat_cmp}
 use Rattle.std.specs.Cmp.Lexicographic.{slice_cmp}
 use Rattle.std.specs.BTreeMap.{insert_entry, is_at}
@@ -16,7 +16,9 @@ use Rattle.hotel_core.specs.Model.Words.{pair_cmp}
 use Rattle.hotel_core.specs.Model.Stays.{in_state}
 use Rattle.hotel_core.specs.Books.Change.{room_changed, without_party, left_by}
 use Rattle.sqlite.specs.Tree.{Trees}
-use Rattle.sqlite.specs.State.{State}
+use Rattle.sqlite.specs.Order.{Row}
+use Rattle.sqlite.specs.State.{State, HasCleanDisk, KeepsCommit, Survives, ExecutesInside}
+use Rattle.sqlite.specs.declared.error.Error.{Error}
 use Rattle.hotel_core.specs.Model.Rows.{Rows}
 use Rattle.hotel_tables.specs.Schema.{desk_schema}
 use Rattle.hotel_tables.specs.Tables.{AreTables, rows_in}
@@ -34,6 +36,26 @@ pub record Steps (old new : State) (make : Rows → Rows) : Type 0 where
   pub committed : new.committed ≡ old.committed
   pub mid : IsMid new
   pub rows_are : rows_in new.now.trees ≡ make (rows_in old.now.trees)
+
+-- A statement that was run in a transaction, from old to new.
+pub record Runs (text : List ℕ) (params : Row) (old new : State) (result : Result (Unit {0}) Error) : Type 0 where
+  pub ran : HasCleanDisk new → OnOk result ((count : ℕ) × ExecutesInside 0 text params old new (Ok count))
+  pub kept : HasCleanDisk new → KeepsCommit old new
+  pub survives : Survives old new (λ _. ⊥)
+
+-- the tables are those of a desk, whose rows fit, if the connection was open
+abbrev pub IsMidWith : (Rows → Type 0) → State → Type 0
+IsMidWith fits s = IsTrue s.is_open → IsMid s × fits (rows_in s.now.trees)
+
+-- Statements of a transaction, from old to new: where none failed, and the rows fit, the rows are what is made of those before. Nothing is committed, and a crash leaves nothing new.
+pub record MakesRows (fits : Rows → Type 0) (make : Rows → Rows) (old new : State) (result : Result (Unit {0}) Error) : Type 0 where
+  pub made : HasCleanDisk new → OnOk result (IsMidWith fits old → Steps old new make)
+  pub kept : HasCleanDisk new → KeepsCommit old new
+  pub survives : Survives old new (λ _. ⊥)
+
+-- whatever the rows are
+abbrev pub any_rows : Rows → Type 0
+any_rows rows = Unit {0}
 
 -- The trees are those of a desk, whose rows are what is made of the rows before.
 pub record IsMadeOf (make : Rows → Rows) (old new : Trees) : Type 0 where

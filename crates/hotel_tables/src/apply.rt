@@ -6,49 +6,65 @@ ghost use Rattle.hotel_core.specs.Books.Change.{made};
 ghost use Rattle.hotel_core.specs.Books.Fits.{HasItsRows};
 ghost use Rattle.hotel_tables.specs.Tables.{rows_in};
 ghost use Rattle.hotel_tables.specs.Books.{IsBooks, IsKept};
-ghost use Rattle.hotel_tables.specs.Steps.{IsMadeOf};
+ghost use Rattle.hotel_tables.specs.Steps.{IsMadeOf, MakesRows};
 ghost use Rattle.hotel_tables.specs.LookUps.{Looks};
-ghost use Rattle.hotel_tables.specs.Applied.{HasCodes, codes_for, Applies};
+ghost use Rattle.hotel_tables.specs.Applied.{MayMake, codes_for, Applies};
 
-use crate::changes::{add_kind, add_room, add_spare, add_stay, cancel_stay, end_stay, set_the_day};
+use crate::changes::{add_room, end_stay};
 use crate::from_row::fault_of;
 use crate::issue::issue;
 use crate::look_ups;
 use crate::noting::take_note;
+use crate::steps::{insert_card, insert_kind, insert_stay, set_day, set_state};
 use hotel_core::Change;
+use hotel_nights::StayState;
 use keycard_rules::LookFault;
-use sqlite::{Alter, Connection, Error};
+use sqlite::{Alter, Connection, Error, Transaction};
 use std::alloc::Global;
 
-/// Makes all of a change, or nothing; `codes` is how many codes stand at the room of an issue.
+/// Writes a change within a transaction; `codes` is how many codes stand at the room of an issue.
+fn write_change<S: Alter>(
+    tx: &mut Transaction<'_, S>,
+    change: &Change,
+    codes: u32,
+) -> Result<(), Error>
+    requires { codes < 2 ^ 32 - 1 }
+    ensures same_reference { tx.new.conn.ghost_name ≡ tx.old.conn.ghost_name }
+    ensures makes { MakesRows (MayMake change.now codes) (made change.now) (state S.Store tx.old.conn.now) (state S.Store tx.new.conn.now) result }
+{
+    match change {
+        Change::Begin(day) => set_day(tx, *day),
+        Change::DayTo(day) => set_day(tx, *day),
+        Change::Kind(kind) => insert_kind(tx, kind),
+        Change::Room { room, kind, code } => add_room(tx, *room, *kind, *code),
+        Change::Reserved(stay) => insert_stay(tx, stay),
+        Change::Cancelled(party) => set_state(tx, *party, StayState::Cancelled),
+        Change::Issue { card, room, leaves } => issue(tx, card, *room, *leaves, codes),
+        Change::Spare(card) => insert_card(tx, *card),
+        Change::CheckedOut { party, room } => end_stay(tx, *party, *room),
+        Change::Noted {
+            note,
+            lock_place,
+            secured,
+            insides,
+        } => take_note(tx, note, *lock_place, *secured, *insides),
+    }
+}
+
+/// Makes all of a change, or nothing, by one transaction whose commit is its last store call.
 fn make_change<S: Alter>(conn: &mut Connection<S>, change: &Change, codes: u32) -> Result<(), Error>
     requires books { IsBooks (state S.Store conn.old) }
     requires more { codes < 2 ^ 32 - 1 }
-    requires counted { IsKept (state S.Store conn.old) → HasCodes change.now codes (rows_in (state S.Store conn.old).now.trees) }
-    requires fits { IsKept (state S.Store conn.old) → HasItsRows change.now (rows_in (state S.Store conn.old).now.trees) }
+    requires fits { IsKept (state S.Store conn.old) → MayMake change.now codes (rows_in (state S.Store conn.old).now.trees) }
     ensures books { IsBooks (state S.Store conn.new) }
     ensures was { IsKept (state S.Store conn.new) → IsKept (state S.Store conn.old) }
     ensures made { IsKept (state S.Store conn.new) → OnOk result (rows_in (state S.Store conn.new).now.trees ≡ made change.now (rows_in (state S.Store conn.old).now.trees)) }
     ensures same { IsKept (state S.Store conn.new) → OnErr result ((state S.Store conn.new).now ≡ (state S.Store conn.old).now) }
     ensures crash { Survives (state S.Store conn.old) (state S.Store conn.new) (IsMadeOf (made change.now) (state S.Store conn.old).now.trees) }
 {
-    match change {
-        Change::Begin(day) => set_the_day(conn, *day),
-        Change::DayTo(day) => set_the_day(conn, *day),
-        Change::Kind(kind) => add_kind(conn, kind),
-        Change::Room { room, kind, code } => add_room(conn, *room, *kind, *code),
-        Change::Reserved(stay) => add_stay(conn, stay),
-        Change::Cancelled(party) => cancel_stay(conn, *party),
-        Change::Issue { card, room, leaves } => issue(conn, card, *room, *leaves, codes),
-        Change::Spare(card) => add_spare(conn, *card),
-        Change::CheckedOut { party, room } => end_stay(conn, *party, *room),
-        Change::Noted {
-            note,
-            lock_place,
-            secured,
-            insides,
-        } => take_note(conn, note, *lock_place, *secured, *insides),
-    }
+    let mut tx = conn.transaction();
+    write_change(&mut tx, change, codes)?;
+    tx.commit()
 }
 
 /// How many codes stand at the room of an issue; 0 for another change.

@@ -6,6 +6,7 @@ ghost use Rattle.hotel_tables.specs.Schema.{no_schema, desk_schema};
 ghost use Rattle.hotel_tables.specs.Books.{IsKept, IsBooks};
 ghost use Rattle.hotel_tables.specs.Making.{Leads, LeadsBare, Makes, IsBare, IsMade, IsEmptyDesk, with_stay};
 
+use crate::statement::run;
 use crate::texts::{
     CREATE_CARD, CREATE_CODE, CREATE_INSIDE, CREATE_KIND, CREATE_META, CREATE_NOTE, CREATE_ROOM,
     CREATE_STAY, INSERT_META,
@@ -19,8 +20,7 @@ fn make<S: Alter>(tx: &mut Transaction<'_, S>, text: &str) -> Result<(), Error>
     ensures kept { HasCleanDisk (state S.Store tx.new.conn.now) → KeepsCommit (state S.Store tx.old.conn.now) (state S.Store tx.new.conn.now) }
     ensures survives { Survives (state S.Store tx.old.conn.now) (state S.Store tx.new.conn.now) (λ _. ⊥) }
 {
-    tx.execute(text, &[])?;
-    Ok(())
+    run(tx, text, &[])
 }
 
 /// Makes the tables of the desk, its kinds, rooms and stays.
@@ -56,8 +56,7 @@ fn enter_meta<S: Alter>(tx: &mut Transaction<'_, S>) -> Result<(), Error>
     ensures kept { HasCleanDisk (state S.Store tx.new.conn.now) → KeepsCommit (state S.Store tx.old.conn.now) (state S.Store tx.new.conn.now) }
     ensures survives { Survives (state S.Store tx.old.conn.now) (state S.Store tx.new.conn.now) (λ _. ⊥) }
 {
-    tx.execute(INSERT_META, &[])?;
-    Ok(())
+    run(tx, INSERT_META, &[])
 }
 
 /// Makes an empty desk of a database that has nothing, or leaves it so.

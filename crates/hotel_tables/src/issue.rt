@@ -1,18 +1,15 @@
-//! The issue of a card of a new code, one transaction.
-ghost use Rattle.std.specs.Prelude.{◌≡◌, ◌<◌, ◌-◌, ◌^◌, IsTrue, OnOk, OnErr};
+//! The issue of a card of a new code, within a transaction.
+ghost use Rattle.std.specs.Prelude.{◌≡◌, ◌<◌, ◌-◌, ◌^◌};
 ghost use Rattle.sqlite.specs.Held.{state};
-ghost use Rattle.sqlite.specs.State.{HasCleanDisk, KeepsCommit, Survives};
 ghost use Rattle.hotel_core.specs.Books.Change.{made, codes_of};
 ghost use Rattle.hotel_core.specs.declared.books.change.Change.TheVariants as change;
-ghost use Rattle.hotel_tables.specs.Tables.{rows_in};
-ghost use Rattle.hotel_tables.specs.Books.{IsBooks, IsKept};
-ghost use Rattle.hotel_tables.specs.Steps.{IsMid, Steps, IsMadeOf, code_given, card_given};
+ghost use Rattle.hotel_tables.specs.Steps.{MakesRows, any_rows, code_given, card_given};
 
 use crate::steps::{insert_card, insert_code, set_issued, set_left, set_state};
 use hotel_core::CodeRow;
 use hotel_nights::StayState;
 use keycard_rules::{Card, Code, RoomNo};
-use sqlite::{Alter, Connection, Error, Transaction};
+use sqlite::{Alter, Error, Transaction};
 
 /// The room that is left has no party, and a code is added.
 fn give_code<S: Alter>(
@@ -22,9 +19,7 @@ fn give_code<S: Alter>(
     at: CodeRow,
 ) -> Result<(), Error>
     ensures same_reference { tx.new.conn.ghost_name ≡ tx.old.conn.ghost_name }
-    ensures made { HasCleanDisk (state S.Store tx.new.conn.now) → OnOk result ((IsTrue (state S.Store tx.old.conn.now).is_open → IsMid (state S.Store tx.old.conn.now)) → Steps (state S.Store tx.old.conn.now) (state S.Store tx.new.conn.now) (code_given leaves code at)) }
-    ensures kept { HasCleanDisk (state S.Store tx.new.conn.now) → KeepsCommit (state S.Store tx.old.conn.now) (state S.Store tx.new.conn.now) }
-    ensures survives { Survives (state S.Store tx.old.conn.now) (state S.Store tx.new.conn.now) (λ _. ⊥) }
+    ensures makes { MakesRows any_rows (code_given leaves code at) (state S.Store tx.old.conn.now) (state S.Store tx.new.conn.now) result }
 {
     match leaves {
         Some(left) => {
@@ -43,9 +38,7 @@ fn give_card<S: Alter>(
     codes: u32,
 ) -> Result<(), Error>
     ensures same_reference { tx.new.conn.ghost_name ≡ tx.old.conn.ghost_name }
-    ensures made { HasCleanDisk (state S.Store tx.new.conn.now) → OnOk result ((IsTrue (state S.Store tx.old.conn.now).is_open → IsMid (state S.Store tx.old.conn.now)) → Steps (state S.Store tx.old.conn.now) (state S.Store tx.new.conn.now) (card_given card room codes)) }
-    ensures kept { HasCleanDisk (state S.Store tx.new.conn.now) → KeepsCommit (state S.Store tx.old.conn.now) (state S.Store tx.new.conn.now) }
-    ensures survives { Survives (state S.Store tx.old.conn.now) (state S.Store tx.new.conn.now) (λ _. ⊥) }
+    ensures makes { MakesRows any_rows (card_given card room codes) (state S.Store tx.old.conn.now) (state S.Store tx.new.conn.now) result }
 {
     let party = card.party;
     set_issued(tx, room, codes, party)?;
@@ -55,25 +48,18 @@ fn give_card<S: Alter>(
 
 /// Issues a card of a new code at a room that had so many codes.
 pub(crate) fn issue<S: Alter>(
-    conn: &mut Connection<S>,
+    tx: &mut Transaction<'_, S>,
     card: &Card,
     room: RoomNo,
     leaves: Option<RoomNo>,
     codes: u32,
 ) -> Result<(), Error>
-    requires books { IsBooks (state S.Store conn.old) }
-    requires more { codes < 2 ^ 32 - 1 }
-    requires counted { IsKept (state S.Store conn.old) → codes_of (rows_in (state S.Store conn.old).now.trees) room ≡ codes }
-    ensures books { IsBooks (state S.Store conn.new) }
-    ensures was { IsKept (state S.Store conn.new) → IsKept (state S.Store conn.old) }
-    ensures made { IsKept (state S.Store conn.new) → OnOk result (rows_in (state S.Store conn.new).now.trees ≡ made (change.Issue card.now room leaves) (rows_in (state S.Store conn.old).now.trees)) }
-    ensures same { IsKept (state S.Store conn.new) → OnErr result ((state S.Store conn.new).now ≡ (state S.Store conn.old).now) }
-    ensures crash { Survives (state S.Store conn.old) (state S.Store conn.new) (IsMadeOf (made (change.Issue card.now room leaves)) (state S.Store conn.old).now.trees) }
+    requires { codes < 2 ^ 32 - 1 }
+    ensures same_reference { tx.new.conn.ghost_name ≡ tx.old.conn.ghost_name }
+    ensures makes { MakesRows (λ rows. codes_of rows room ≡ codes) (made (change.Issue card.now room leaves)) (state S.Store tx.old.conn.now) (state S.Store tx.new.conn.now) result }
 {
     let at = CodeRow { room, place: codes };
     let code = card.link.new_code;
-    let mut tx = conn.transaction();
-    give_code(&mut tx, leaves, code, at)?;
-    give_card(&mut tx, *card, room, codes + 1)?;
-    tx.commit()
+    give_code(tx, leaves, code, at)?;
+    give_card(tx, *card, room, codes + 1)
 }

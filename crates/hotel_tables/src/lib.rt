@@ -23,6 +23,7 @@ mod open_fault;
 mod opening;
 mod reading;
 mod same_schema;
+mod statement;
 mod steps;
 mod stored;
 mod table_books;

@@ -48,13 +48,10 @@ fn meta_of(tables: &Tables) -> Result<MetaLine, OpenFault>
 fn ids_of(alloc: Global, inside: &[NumberedInside]) -> Result<Vec<i64>, Memory>
     ensures { IfOk result (λ ids. ids.items ≡ map id_inside inside.now) }
 {
-    let mut ids = Vec::new(alloc);
-    for i in 0..inside.len() {
-        let Ok(()) = ids.push(inside[i].id) else {
-            return Err(Memory);
-        };
+    match inside.iter().map(|row| row.id).collect(alloc) {
+        Ok(ids) => Ok(ids),
+        Err(_) => Err(Memory),
     }
-    Ok(ids)
 }
 
 fn is_below(a: i64, b: i64) -> bool
@@ -89,13 +86,10 @@ fn are_apart(alloc: Global, inside: &[NumberedInside]) -> Result<bool, Memory>
 fn lines_inside(alloc: Global, inside: &[NumberedInside]) -> Result<Vec<InsideLine>, Memory>
     ensures { IfOk result (λ lines. lines.items ≡ map line_inside inside.now) }
 {
-    let mut lines = Vec::new(alloc);
-    for i in 0..inside.len() {
-        let Ok(()) = lines.push(inside[i].line) else {
-            return Err(Memory);
-        };
+    match inside.iter().map(|row| row.line).collect(alloc) {
+        Ok(lines) => Ok(lines),
+        Err(_) => Err(Memory),
     }
-    Ok(lines)
 }
 
 /// Whether each table is in the order of its key.

@@ -1,16 +1,15 @@
 //! The statements of a transaction: each adds or changes one row.
-ghost use Rattle.std.specs.Prelude.{◌≡◌, IsTrue, OnOk, None, false};
+ghost use Rattle.std.specs.Prelude.{◌≡◌, None, false};
 ghost use Rattle.sqlite.specs.Held.{state};
-ghost use Rattle.sqlite.specs.State.{HasCleanDisk, KeepsCommit, Survives};
 ghost use Rattle.hotel_core.specs.Model.Rows.{has_kind};
 ghost use Rattle.hotel_core.specs.Books.Lookups.{note_at};
-ghost use Rattle.hotel_tables.specs.Tables.{rows_in};
-ghost use Rattle.hotel_tables.specs.Steps.{IsMid, Steps, day_set, kind_added, room_added, code_added, stay_added, card_added, note_added, inside_added, inside_gone, room_issued, room_left, room_noted, stay_set};
+ghost use Rattle.hotel_tables.specs.Steps.{MakesRows, any_rows, day_set, kind_added, room_added, code_added, stay_added, card_added, note_added, inside_added, inside_gone, room_issued, room_left, room_noted, stay_set};
 
 use crate::number::{
     act_card, act_first, act_number, act_second, bit, coded, dated, maybe, numbered, room_of,
     small, standing, text,
 };
+use crate::statement::run;
 use crate::texts::{
     DELETE_INSIDE, INSERT_CARD, INSERT_CODE, INSERT_INSIDE, INSERT_KIND, INSERT_NOTE, INSERT_ROOM,
     INSERT_STAY, UPDATE_DAY, UPDATE_ISSUED, UPDATE_NOTED, UPDATE_PARTY, UPDATE_STATE,
@@ -23,12 +22,9 @@ use sqlite::{Alter, Error, Transaction};
 /// Sets the day.
 pub(crate) fn set_day<S: Alter>(tx: &mut Transaction<'_, S>, day: Day) -> Result<(), Error>
     ensures same_reference { tx.new.conn.ghost_name ≡ tx.old.conn.ghost_name }
-    ensures made { HasCleanDisk (state S.Store tx.new.conn.now) → OnOk result ((IsTrue (state S.Store tx.old.conn.now).is_open → IsMid (state S.Store tx.old.conn.now)) → Steps (state S.Store tx.old.conn.now) (state S.Store tx.new.conn.now) (day_set day)) }
-    ensures kept { HasCleanDisk (state S.Store tx.new.conn.now) → KeepsCommit (state S.Store tx.old.conn.now) (state S.Store tx.new.conn.now) }
-    ensures survives { Survives (state S.Store tx.old.conn.now) (state S.Store tx.new.conn.now) (λ _. ⊥) }
+    ensures makes { MakesRows any_rows (day_set day) (state S.Store tx.old.conn.now) (state S.Store tx.new.conn.now) result }
 {
-    tx.execute(UPDATE_DAY, &[small(1), dated(day)])?;
-    Ok(())
+    run(tx, UPDATE_DAY, &[small(1), dated(day)])
 }
 
 /// Adds a kind that isn't there.
@@ -37,23 +33,19 @@ pub(crate) fn insert_kind<S: Alter>(
     kind: &KindCode,
 ) -> Result<(), Error>
     ensures same_reference { tx.new.conn.ghost_name ≡ tx.old.conn.ghost_name }
-    ensures made { HasCleanDisk (state S.Store tx.new.conn.now) → OnOk result ((IsTrue (state S.Store tx.old.conn.now).is_open → IsMid (state S.Store tx.old.conn.now) × (has_kind (rows_in (state S.Store tx.old.conn.now).now.trees) kind.now ≡ false)) → Steps (state S.Store tx.old.conn.now) (state S.Store tx.new.conn.now) (kind_added kind.now)) }
-    ensures kept { HasCleanDisk (state S.Store tx.new.conn.now) → KeepsCommit (state S.Store tx.old.conn.now) (state S.Store tx.new.conn.now) }
-    ensures survives { Survives (state S.Store tx.old.conn.now) (state S.Store tx.new.conn.now) (λ _. ⊥) }
+    ensures makes { MakesRows (λ rows. has_kind rows kind.now ≡ false) (kind_added kind.now) (state S.Store tx.old.conn.now) (state S.Store tx.new.conn.now) result }
 {
-    tx.execute(INSERT_KIND, &[text(kind.as_bytes())])?;
-    Ok(())
+    run(tx, INSERT_KIND, &[text(kind.as_bytes())])
 }
 
 /// Adds a room.
 pub(crate) fn insert_room<S: Alter>(tx: &mut Transaction<'_, S>, row: RoomRow) -> Result<(), Error>
     ensures same_reference { tx.new.conn.ghost_name ≡ tx.old.conn.ghost_name }
-    ensures made { HasCleanDisk (state S.Store tx.new.conn.now) → OnOk result ((IsTrue (state S.Store tx.old.conn.now).is_open → IsMid (state S.Store tx.old.conn.now)) → Steps (state S.Store tx.old.conn.now) (state S.Store tx.new.conn.now) (room_added row)) }
-    ensures kept { HasCleanDisk (state S.Store tx.new.conn.now) → KeepsCommit (state S.Store tx.old.conn.now) (state S.Store tx.new.conn.now) }
-    ensures survives { Survives (state S.Store tx.old.conn.now) (state S.Store tx.new.conn.now) (λ _. ⊥) }
+    ensures makes { MakesRows any_rows (room_added row) (state S.Store tx.old.conn.now) (state S.Store tx.new.conn.now) result }
 {
     let party = row.party;
-    tx.execute(
+    run(
+        tx,
         INSERT_ROOM,
         &[
             numbered(row.room),
@@ -64,8 +56,7 @@ pub(crate) fn insert_room<S: Alter>(tx: &mut Transaction<'_, S>, row: RoomRow) -
             maybe(party),
             small(row.notes),
         ],
-    )?;
-    Ok(())
+    )
 }
 
 /// Adds a code.
@@ -75,25 +66,22 @@ pub(crate) fn insert_code<S: Alter>(
     at: CodeRow,
 ) -> Result<(), Error>
     ensures same_reference { tx.new.conn.ghost_name ≡ tx.old.conn.ghost_name }
-    ensures made { HasCleanDisk (state S.Store tx.new.conn.now) → OnOk result ((IsTrue (state S.Store tx.old.conn.now).is_open → IsMid (state S.Store tx.old.conn.now)) → Steps (state S.Store tx.old.conn.now) (state S.Store tx.new.conn.now) (code_added code at)) }
-    ensures kept { HasCleanDisk (state S.Store tx.new.conn.now) → KeepsCommit (state S.Store tx.old.conn.now) (state S.Store tx.new.conn.now) }
-    ensures survives { Survives (state S.Store tx.old.conn.now) (state S.Store tx.new.conn.now) (λ _. ⊥) }
+    ensures makes { MakesRows any_rows (code_added code at) (state S.Store tx.old.conn.now) (state S.Store tx.new.conn.now) result }
 {
-    tx.execute(
+    run(
+        tx,
         INSERT_CODE,
         &[coded(code), numbered(at.room), small(at.place)],
-    )?;
-    Ok(())
+    )
 }
 
 /// Adds a stay.
 pub(crate) fn insert_stay<S: Alter>(tx: &mut Transaction<'_, S>, stay: &Stay) -> Result<(), Error>
     ensures same_reference { tx.new.conn.ghost_name ≡ tx.old.conn.ghost_name }
-    ensures made { HasCleanDisk (state S.Store tx.new.conn.now) → OnOk result ((IsTrue (state S.Store tx.old.conn.now).is_open → IsMid (state S.Store tx.old.conn.now)) → Steps (state S.Store tx.old.conn.now) (state S.Store tx.new.conn.now) (stay_added stay.now)) }
-    ensures kept { HasCleanDisk (state S.Store tx.new.conn.now) → KeepsCommit (state S.Store tx.old.conn.now) (state S.Store tx.new.conn.now) }
-    ensures survives { Survives (state S.Store tx.old.conn.now) (state S.Store tx.new.conn.now) (λ _. ⊥) }
+    ensures makes { MakesRows any_rows (stay_added stay.now) (state S.Store tx.old.conn.now) (state S.Store tx.new.conn.now) result }
 {
-    tx.execute(
+    run(
+        tx,
         INSERT_STAY,
         &[
             numbered(stay.party),
@@ -104,18 +92,16 @@ pub(crate) fn insert_stay<S: Alter>(tx: &mut Transaction<'_, S>, stay: &Stay) ->
             standing(&stay.state),
             room_of(&stay.state),
         ],
-    )?;
-    Ok(())
+    )
 }
 
 /// Adds a card.
 pub(crate) fn insert_card<S: Alter>(tx: &mut Transaction<'_, S>, card: Card) -> Result<(), Error>
     ensures same_reference { tx.new.conn.ghost_name ≡ tx.old.conn.ghost_name }
-    ensures made { HasCleanDisk (state S.Store tx.new.conn.now) → OnOk result ((IsTrue (state S.Store tx.old.conn.now).is_open → IsMid (state S.Store tx.old.conn.now)) → Steps (state S.Store tx.old.conn.now) (state S.Store tx.new.conn.now) (card_added card)) }
-    ensures kept { HasCleanDisk (state S.Store tx.new.conn.now) → KeepsCommit (state S.Store tx.old.conn.now) (state S.Store tx.new.conn.now) }
-    ensures survives { Survives (state S.Store tx.old.conn.now) (state S.Store tx.new.conn.now) (λ _. ⊥) }
+    ensures makes { MakesRows any_rows (card_added card) (state S.Store tx.old.conn.now) (state S.Store tx.new.conn.now) result }
 {
-    tx.execute(
+    run(
+        tx,
         INSERT_CARD,
         &[
             numbered(card.number),
@@ -123,8 +109,7 @@ pub(crate) fn insert_card<S: Alter>(tx: &mut Transaction<'_, S>, card: Card) -> 
             coded(card.link.old_code),
             coded(card.link.new_code),
         ],
-    )?;
-    Ok(())
+    )
 }
 
 /// Adds a note of a count that isn't there.
@@ -133,12 +118,11 @@ pub(crate) fn insert_note<S: Alter>(
     note: &LockNote,
 ) -> Result<(), Error>
     ensures same_reference { tx.new.conn.ghost_name ≡ tx.old.conn.ghost_name }
-    ensures made { HasCleanDisk (state S.Store tx.new.conn.now) → OnOk result ((IsTrue (state S.Store tx.old.conn.now).is_open → IsMid (state S.Store tx.old.conn.now) × (note_at (rows_in (state S.Store tx.old.conn.now).now.trees) note.now.room note.now.count ≡ None)) → Steps (state S.Store tx.old.conn.now) (state S.Store tx.new.conn.now) (note_added note.now)) }
-    ensures kept { HasCleanDisk (state S.Store tx.new.conn.now) → KeepsCommit (state S.Store tx.old.conn.now) (state S.Store tx.new.conn.now) }
-    ensures survives { Survives (state S.Store tx.old.conn.now) (state S.Store tx.new.conn.now) (λ _. ⊥) }
+    ensures makes { MakesRows (λ rows. note_at rows note.now.room note.now.count ≡ None) (note_added note.now) (state S.Store tx.old.conn.now) (state S.Store tx.new.conn.now) result }
 {
     let act = note.act();
-    tx.execute(
+    run(
+        tx,
         INSERT_NOTE,
         &[
             numbered(note.room()),
@@ -150,8 +134,7 @@ pub(crate) fn insert_note<S: Alter>(
             small(u32::from(note.day())),
             small(note.second()),
         ],
-    )?;
-    Ok(())
+    )
 }
 
 /// Adds a card inside a room; one that is there already is refused.
@@ -161,12 +144,9 @@ pub(crate) fn insert_inside<S: Alter>(
     card: CardNo,
 ) -> Result<(), Error>
     ensures same_reference { tx.new.conn.ghost_name ≡ tx.old.conn.ghost_name }
-    ensures made { HasCleanDisk (state S.Store tx.new.conn.now) → OnOk result ((IsTrue (state S.Store tx.old.conn.now).is_open → IsMid (state S.Store tx.old.conn.now)) → Steps (state S.Store tx.old.conn.now) (state S.Store tx.new.conn.now) (inside_added room card)) }
-    ensures kept { HasCleanDisk (state S.Store tx.new.conn.now) → KeepsCommit (state S.Store tx.old.conn.now) (state S.Store tx.new.conn.now) }
-    ensures survives { Survives (state S.Store tx.old.conn.now) (state S.Store tx.new.conn.now) (λ _. ⊥) }
+    ensures makes { MakesRows any_rows (inside_added room card) (state S.Store tx.old.conn.now) (state S.Store tx.new.conn.now) result }
 {
-    tx.execute(INSERT_INSIDE, &[numbered(room), numbered(card)])?;
-    Ok(())
+    run(tx, INSERT_INSIDE, &[numbered(room), numbered(card)])
 }
 
 /// Takes a card out of those inside the room.
@@ -176,12 +156,9 @@ pub(crate) fn delete_inside<S: Alter>(
     card: CardNo,
 ) -> Result<(), Error>
     ensures same_reference { tx.new.conn.ghost_name ≡ tx.old.conn.ghost_name }
-    ensures made { HasCleanDisk (state S.Store tx.new.conn.now) → OnOk result ((IsTrue (state S.Store tx.old.conn.now).is_open → IsMid (state S.Store tx.old.conn.now)) → Steps (state S.Store tx.old.conn.now) (state S.Store tx.new.conn.now) (inside_gone room card)) }
-    ensures kept { HasCleanDisk (state S.Store tx.new.conn.now) → KeepsCommit (state S.Store tx.old.conn.now) (state S.Store tx.new.conn.now) }
-    ensures survives { Survives (state S.Store tx.old.conn.now) (state S.Store tx.new.conn.now) (λ _. ⊥) }
+    ensures makes { MakesRows any_rows (inside_gone room card) (state S.Store tx.old.conn.now) (state S.Store tx.new.conn.now) result }
 {
-    tx.execute(DELETE_INSIDE, &[numbered(room), numbered(card)])?;
-    Ok(())
+    run(tx, DELETE_INSIDE, &[numbered(room), numbered(card)])
 }
 
 /// Sets how many codes a room has, and its party; it is not secured.
@@ -192,26 +169,21 @@ pub(crate) fn set_issued<S: Alter>(
     party: PartyNo,
 ) -> Result<(), Error>
     ensures same_reference { tx.new.conn.ghost_name ≡ tx.old.conn.ghost_name }
-    ensures made { HasCleanDisk (state S.Store tx.new.conn.now) → OnOk result ((IsTrue (state S.Store tx.old.conn.now).is_open → IsMid (state S.Store tx.old.conn.now)) → Steps (state S.Store tx.old.conn.now) (state S.Store tx.new.conn.now) (room_issued room codes party)) }
-    ensures kept { HasCleanDisk (state S.Store tx.new.conn.now) → KeepsCommit (state S.Store tx.old.conn.now) (state S.Store tx.new.conn.now) }
-    ensures survives { Survives (state S.Store tx.old.conn.now) (state S.Store tx.new.conn.now) (λ _. ⊥) }
+    ensures makes { MakesRows any_rows (room_issued room codes party) (state S.Store tx.old.conn.now) (state S.Store tx.new.conn.now) result }
 {
-    tx.execute(
+    run(
+        tx,
         UPDATE_ISSUED,
         &[numbered(room), small(codes), numbered(party)],
-    )?;
-    Ok(())
+    )
 }
 
 /// Leaves a room without a party.
 pub(crate) fn set_left<S: Alter>(tx: &mut Transaction<'_, S>, room: RoomNo) -> Result<(), Error>
     ensures same_reference { tx.new.conn.ghost_name ≡ tx.old.conn.ghost_name }
-    ensures made { HasCleanDisk (state S.Store tx.new.conn.now) → OnOk result ((IsTrue (state S.Store tx.old.conn.now).is_open → IsMid (state S.Store tx.old.conn.now)) → Steps (state S.Store tx.old.conn.now) (state S.Store tx.new.conn.now) (room_left room)) }
-    ensures kept { HasCleanDisk (state S.Store tx.new.conn.now) → KeepsCommit (state S.Store tx.old.conn.now) (state S.Store tx.new.conn.now) }
-    ensures survives { Survives (state S.Store tx.old.conn.now) (state S.Store tx.new.conn.now) (λ _. ⊥) }
+    ensures makes { MakesRows any_rows (room_left room) (state S.Store tx.old.conn.now) (state S.Store tx.new.conn.now) result }
 {
-    tx.execute(UPDATE_PARTY, &[numbered(room)])?;
-    Ok(())
+    run(tx, UPDATE_PARTY, &[numbered(room)])
 }
 
 /// Sets the place of a room's lock, whether it is secured, and how many notes were taken.
@@ -223,11 +195,10 @@ pub(crate) fn set_noted<S: Alter>(
     notes: Count,
 ) -> Result<(), Error>
     ensures same_reference { tx.new.conn.ghost_name ≡ tx.old.conn.ghost_name }
-    ensures made { HasCleanDisk (state S.Store tx.new.conn.now) → OnOk result ((IsTrue (state S.Store tx.old.conn.now).is_open → IsMid (state S.Store tx.old.conn.now)) → Steps (state S.Store tx.old.conn.now) (state S.Store tx.new.conn.now) (room_noted room lock_place secured notes)) }
-    ensures kept { HasCleanDisk (state S.Store tx.new.conn.now) → KeepsCommit (state S.Store tx.old.conn.now) (state S.Store tx.new.conn.now) }
-    ensures survives { Survives (state S.Store tx.old.conn.now) (state S.Store tx.new.conn.now) (λ _. ⊥) }
+    ensures makes { MakesRows any_rows (room_noted room lock_place secured notes) (state S.Store tx.old.conn.now) (state S.Store tx.new.conn.now) result }
 {
-    tx.execute(
+    run(
+        tx,
         UPDATE_NOTED,
         &[
             numbered(room),
@@ -235,8 +206,7 @@ pub(crate) fn set_noted<S: Alter>(
             bit(secured),
             numbered(notes),
         ],
-    )?;
-    Ok(())
+    )
 }
 
 /// Sets how a stay stands.
@@ -246,13 +216,11 @@ pub(crate) fn set_state<S: Alter>(
     state_now: StayState,
 ) -> Result<(), Error>
     ensures same_reference { tx.new.conn.ghost_name ≡ tx.old.conn.ghost_name }
-    ensures made { HasCleanDisk (state S.Store tx.new.conn.now) → OnOk result ((IsTrue (state S.Store tx.old.conn.now).is_open → IsMid (state S.Store tx.old.conn.now)) → Steps (state S.Store tx.old.conn.now) (state S.Store tx.new.conn.now) (stay_set party state_now)) }
-    ensures kept { HasCleanDisk (state S.Store tx.new.conn.now) → KeepsCommit (state S.Store tx.old.conn.now) (state S.Store tx.new.conn.now) }
-    ensures survives { Survives (state S.Store tx.old.conn.now) (state S.Store tx.new.conn.now) (λ _. ⊥) }
+    ensures makes { MakesRows any_rows (stay_set party state_now) (state S.Store tx.old.conn.now) (state S.Store tx.new.conn.now) result }
 {
-    tx.execute(
+    run(
+        tx,
         UPDATE_STATE,
         &[numbered(party), standing(&state_now), room_of(&state_now)],
-    )?;
-    Ok(())
+    )
 }

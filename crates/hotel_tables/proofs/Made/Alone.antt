@@ -18,7 +18,7 @@ use Rattle.sqlite_keyed.proofs.ListLemmas.{none_from_any, all_both, all_map}
 use Rattle.hotel_core.specs.Model.Words.{pair_cmp}
 use Rattle.hotel_tables.specs.Tables.{HasId, listed}
 use Rattle.hotel_tables.proofs.Keys.{truly}
-use Rattle.hotel_tables.proofs.Made.Moves.{pair_total}
+use Rattle.hotel_tables.proofs.Made.Inserts.{pair_total}
 use Rattle.hotel_tables.proofs.Made.Deletes.{Good, read, test, tested, at_pair}
 use Rattle.hotel_tables.proofs.Made.Reads.{inside_stored}
 use Rattle.hotel_tables.specs.Schema.{desk_schema, inside_table, at_tree}

@@ -39,16 +39,16 @@ use Rattle.hotel_tables.specs.Values.{int}
 use Rattle.hotel_tables.specs.Texts.{delete_inside}
 use Rattle.hotel_tables.specs.Columns.{inside_columns, inside_of, inside_written}
 use Rattle.hotel_tables.specs.Tables.{IsWrittenAs, AreApart, AreApartIds, HasId, listed, rows_in}
-use Rattle.hotel_tables.specs.Steps.{IsMid, Steps, inside_gone}
+use Rattle.hotel_tables.specs.Steps.{IsMidWith, Steps, any_rows, inside_gone}
 use Rattle.hotel_tables.proofs.Answers.{answered, single, env, passes}
 use Rattle.hotel_tables.proofs.Keys.{equals, and_true, is_key}
 use Rattle.hotel_tables.proofs.Perm.{gone_one, apart_filtered, apart_permuted, filter_makes}
 use Rattle.hotel_tables.proofs.Statements.Changes as changes
 use Rattle.hotel_tables.proofs.Statements.Terms.{by_pair}
 use Rattle.hotel_tables.proofs.Writing.{went, same_value}
-use Rattle.hotel_tables.proofs.Made.Desk.{AreInside, Changed, changed, steps, insides_set}
-use Rattle.hotel_tables.proofs.Made.Inserts.{inside_params}
-use Rattle.hotel_tables.proofs.Made.Moves.{pair_total}
+use Rattle.hotel_tables.proofs.Made.Desk.{changed, steps, insides_set}
+use Rattle.hotel_tables.proofs.Made.Inserts.{pair_total}
+use Rattle.hotel_tables.proofs.Made.Writes.{wrote}
 use Rattle.sqlite_keyed.proofs.SortLemmas.{IsPermutation-sort_by}
 use Rattle.std.proofs.lemmas.List.Sorted.{IsPermutation-sym}
 
@@ -153,33 +153,20 @@ removed room card (e ∷ es) apart = elim (cases_Bool (is_pair room card e)) [
   | inr other ↦ let lost : is_at (pair_cmp (room, card)) e ≡ false = at_pair room card e ∙ other in rw (other, lost) (ap (λ rest. e ∷ rest) (removed room card es apart.1))
 ]
 
-deleted : (old new : State) (room card count : ℕ) → old.now.schema ≡ desk_schema → AreInside (old.now.trees 9) → AllByRecursion HasId (old.now.trees 9) → AreApartIds (old.now.trees 9)
-    → ExecutesIn false delete_inside (inside_params (room, card)) old new (Ok count) → Changed 9 (filter (λ r. not (test room card r)) (old.now.trees 9)) old new
-deleted old new room card count has was numbered apart h =
-    let params = inside_params (room, card) in
+pub gone_step : (old new : State) (room card count : ℕ) → ExecutesInside 0 delete_inside (int room ∷ int card ∷ []) old new (Ok count) → IsMidWith any_rows old → Steps old new (inside_gone room card)
+gone_step old new room card count h mid =
+    let was = (mid h.1.was_open).0 in
     let db = old.now.trees in
-    let command = Delete 6 (record { lets = []; body = single 9 (by_pair 1 2) (col 1 0 ∷ []) [] }) in
-    let w = runs_as delete_inside params old new desk_schema has command changes.delete_inside.is changes.delete_inside.plain count h in
-    let text = statement_of delete_inside (understood desk_schema delete_inside) in
-    let done = went (subst (λ s. Does old.step_limit (mode_of old) params (record old.now { schema = s }) text None command (Ok (w.tally, new.now))) has w.changed) in
-    let now = ap (λ (p : Tally × Database). p.1) (same_value (went (went done.2).2).2) in
+    let rows = db 9 in
+    let stays = λ (r : Row). not (test room card r) in
+    let done = wrote old new 9 inside_table delete_inside (int room ∷ int card ∷ []) (Delete 6 (record { lets = []; body = single 9 (by_pair 1 2) (col 1 0 ∷ []) [] })) count changes.delete_inside (λ w. w) (λ _ does. does) was.schema h.0 in
     let given = went done.1 in
     let put = went given.2 in
-    let trees : done.0.trees ≡ put.0 = ap (λ (it : Written). it.trees) (same_value put.2) in
-    let after = now ∙ ap (λ (s : Trees). record { schema = desk_schema; trees = s }) trees in
-    let left = shown_ids room card db given.0 numbered apart (few room card (db 9) was.good was.apart) (given.1.answer Null) in
     let applied = one_step desk_schema (mode_of old).keys db put.0 (edit_of db table (ids_of given.0) Given 0 []) refl put.1 in
-    changed old new put.0 9 (filter (λ r. not (test room card r)) (db 9)) after (applied.rows ∙ left) applied.tables
-
-pub gone_step : (old new : State) (room card count : ℕ) → ExecutesInside 0 delete_inside (inside_params (room, card)) old new (Ok count) → (IsTrue old.is_open → IsMid old) → Steps old new (inside_gone room card)
-gone_step old new room card count h mid =
-    let was = mid h.1.was_open in
-    let rows = old.now.trees 9 in
-    let did = deleted old new room card count was.schema was.tables.inside was.tables.inside_numbered was.tables.inside_ids h.0 in
-    let tests = all_weaker Good (λ r. not (test room card r) ≡ not (is_pair room card (read r))) (λ r g. ap not (tested room card r g)) rows was.tables.inside.good in
-    let made = filter_makes pair_cmp pair_total Good read (λ r. not (test room card r)) (λ e. not (is_pair room card e)) rows was.tables.inside tests in
-    let kept = filter (λ r. not (test room card r)) rows in
+    let left = shown_ids room card db given.0 was.tables.inside_numbered was.tables.inside_ids (few room card rows was.tables.inside.good was.tables.inside.apart) (given.1.answer Null) in
+    let did = changed old new put.0 9 (filter stays rows) (done.2 ∙ ap (λ (it : Written). record { schema = desk_schema; trees = it.trees }) (same_value put.2)) (applied.rows ∙ left) applied.tables in
+    let tests = all_weaker Good (λ r. stays r ≡ not (is_pair room card (read r))) (λ r g. ap not (tested room card r g)) rows was.tables.inside.good in
+    let made = filter_makes pair_cmp pair_total Good read stays (λ e. not (is_pair room card e)) rows was.tables.inside tests in
     let sorted : AreApart pair_cmp (listed pair_cmp read rows) = apart_permuted pair_cmp pair_total _ _ (IsPermutation-sym _ _ (IsPermutation-sort_by pair_cmp pair_total (map read rows))) was.tables.inside.apart in
-    let now = insides_set old.now.trees kept was.tables made.0 (all-filter HasId (λ r. not (test room card r)) rows was.tables.inside_numbered) (apart_filtered (λ r. not (test room card r)) rows was.tables.inside_ids) in
-    let list = made.1 ∙ removed room card (listed pair_cmp read rows) sorted in
-    steps delete_inside (inside_params (room, card)) old new count 9 kept (inside_gone room card) h did (now.0, now.1 ∙ ap (λ inside. record (rows_in old.now.trees) { inside = inside }) list)
+    steps old new (inside_gone room card) h.1 did
+    (insides_set was.tables (made.0, made.1 ∙ removed room card (listed pair_cmp read rows) sorted) (all-filter HasId stays rows was.tables.inside_numbered) (apart_filtered stays rows was.tables.inside_ids))

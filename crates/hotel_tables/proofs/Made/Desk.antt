@@ -10,7 +10,12 @@ use Rattle.sqlite.specs.Tree.{Trees}
 use Rattle.sqlite_trees.specs.Tree.{with_tree}
 use Rattle.sqlite.specs.Table.{Table}
 use Rattle.sqlite.specs.Effect.{Database}
-use Rattle.sqlite.specs.State.{State, ExecutesInside}
+use Rattle.sqlite.specs.State.{State, Shows}
+use Rattle.keycard_rules.specs.declared.card.Card.{Card}
+use Rattle.keycard_rules.specs.Note.{Note}
+use Rattle.hotel_nights.specs.declared.stay.Stay.{Stay}
+use Rattle.hotel_core.specs.declared.books.rows.RoomRow.{RoomRow}
+use Rattle.hotel_core.specs.declared.books.rows.CodeRow.{CodeRow}
 use Rattle.hotel_core.specs.Model.Words.{pair_cmp}
 use Rattle.hotel_core.specs.Model.Rows.{Rows}
 use Rattle.hotel_tables.specs.Schema.{desk_schema}
@@ -95,42 +100,71 @@ changed old new next tree rows now is others = record {
   trees = subst (λ (d : Database). Same (with_tree old.now.trees tree rows) d.trees) (sym now) (set_one old.now.trees next tree rows desk_schema.tables is others);
 }
 
-pub steps : (text : List ℕ) (params : Row) (old new : State) (count tree : ℕ) (rows : List Row) (make : Rows → Rows) → ExecutesInside 0 text params old new (Ok count) → Changed tree rows old new
+pub steps : {tree : ℕ} {rows : List Row} (old new : State) (make : Rows → Rows) → Shows old new new.now old.committed true → Changed tree rows old new
     → AreTables (with_tree old.now.trees tree rows) × (rows_in (with_tree old.now.trees tree rows) ≡ make (rows_in old.now.trees)) → Steps old new make
-steps text params old new count tree rows make h did now =
-    let same = same_desk (with_tree old.now.trees tree rows) new.now.trees did.trees now.0 in
-    record { was_open = h.1.was_open; is_open = h.1.is_open; committed = h.1.committed_is; mid = record { schema = did.schema; inside = subst IsTrue (sym h.1.mode) refl; tables = same.0 }; rows_are = same.1 ∙ now.1 }
+steps {tree} {rows} old new make shown did now =
+    let same = same_desk (with_tree old.now.trees tree rows) new.now.trees did.trees now.0 in record {
+      was_open = shown.was_open;
+      is_open = shown.is_open;
+      committed = shown.committed_is;
+      mid = record { schema = did.schema; inside = subst IsTrue (sym shown.mode) refl; tables = same.0 };
+      rows_are = same.1 ∙ now.1;
+    }
 
 -- ---- which list moves
 
-pub rooms_set : (db : Trees) (rows : List Row) → AreTables db → AreRooms rows → AreTables (with_tree db 3 rows) × (rows_in (with_tree db 3 rows) ≡ record (rows_in db) { rooms = listed (by_key nat_cmp) (λ r. room_of (room_columns r)) rows })
-rooms_set db rows was good =
-    (record { meta = was.meta; meta_row = was.meta_row; kind = was.kind; room = good; stay = was.stay; code = was.code; card = was.card; inside = was.inside; inside_numbered = was.inside_numbered; inside_ids = was.inside_ids; note = was.note }, refl)
+pub rooms_set : {db : Trees} {rows : List Row} {list : List (ℕ × RoomRow)} → AreTables db → AreRooms rows × (listed (by_key nat_cmp) (λ r. room_of (room_columns r)) rows ≡ list)
+    → AreTables (with_tree db 3 rows) × (rows_in (with_tree db 3 rows) ≡ record (rows_in db) { rooms = list })
+rooms_set {db} was made = (
+  record { meta = was.meta; meta_row = was.meta_row; kind = was.kind; room = made.0; stay = was.stay; code = was.code; card = was.card; inside = was.inside; inside_numbered = was.inside_numbered; inside_ids = was.inside_ids; note = was.note },
+  ap (λ rooms. record (rows_in db) { rooms = rooms }) made.1,
+)
 
-pub stays_set : (db : Trees) (rows : List Row) → AreTables db → AreStays rows → AreTables (with_tree db 5 rows) × (rows_in (with_tree db 5 rows) ≡ record (rows_in db) { stays = listed (by_key nat_cmp) (λ r. stay_of (stay_columns r)) rows })
-stays_set db rows was good =
-    (record { meta = was.meta; meta_row = was.meta_row; kind = was.kind; room = was.room; stay = good; code = was.code; card = was.card; inside = was.inside; inside_numbered = was.inside_numbered; inside_ids = was.inside_ids; note = was.note }, refl)
+pub stays_set : {db : Trees} {rows : List Row} {list : List (ℕ × Stay)} → AreTables db → AreStays rows × (listed (by_key nat_cmp) (λ r. stay_of (stay_columns r)) rows ≡ list)
+    → AreTables (with_tree db 5 rows) × (rows_in (with_tree db 5 rows) ≡ record (rows_in db) { stays = list })
+stays_set {db} was made = (
+  record { meta = was.meta; meta_row = was.meta_row; kind = was.kind; room = was.room; stay = made.0; code = was.code; card = was.card; inside = was.inside; inside_numbered = was.inside_numbered; inside_ids = was.inside_ids; note = was.note },
+  ap (λ stays. record (rows_in db) { stays = stays }) made.1,
+)
 
-pub codes_set : (db : Trees) (rows : List Row) → AreTables db → AreCodes rows → AreTables (with_tree db 6 rows) × (rows_in (with_tree db 6 rows) ≡ record (rows_in db) { codes = listed (by_key nat_cmp) (λ r. code_of (code_columns r)) rows })
-codes_set db rows was good =
-    (record { meta = was.meta; meta_row = was.meta_row; kind = was.kind; room = was.room; stay = was.stay; code = good; card = was.card; inside = was.inside; inside_numbered = was.inside_numbered; inside_ids = was.inside_ids; note = was.note }, refl)
+pub codes_set : {db : Trees} {rows : List Row} {list : List (ℕ × CodeRow)} → AreTables db → AreCodes rows × (listed (by_key nat_cmp) (λ r. code_of (code_columns r)) rows ≡ list)
+    → AreTables (with_tree db 6 rows) × (rows_in (with_tree db 6 rows) ≡ record (rows_in db) { codes = list })
+codes_set {db} was made = (
+  record { meta = was.meta; meta_row = was.meta_row; kind = was.kind; room = was.room; stay = was.stay; code = made.0; card = was.card; inside = was.inside; inside_numbered = was.inside_numbered; inside_ids = was.inside_ids; note = was.note },
+  ap (λ codes. record (rows_in db) { codes = codes }) made.1,
+)
 
-pub cards_set : (db : Trees) (rows : List Row) → AreTables db → AreCards rows → AreTables (with_tree db 8 rows) × (rows_in (with_tree db 8 rows) ≡ record (rows_in db) { cards = listed (by_key nat_cmp) (λ r. card_of (card_columns r)) rows })
-cards_set db rows was good =
-    (record { meta = was.meta; meta_row = was.meta_row; kind = was.kind; room = was.room; stay = was.stay; code = was.code; card = good; inside = was.inside; inside_numbered = was.inside_numbered; inside_ids = was.inside_ids; note = was.note }, refl)
+pub cards_set : {db : Trees} {rows : List Row} {list : List (ℕ × Card)} → AreTables db → AreCards rows × (listed (by_key nat_cmp) (λ r. card_of (card_columns r)) rows ≡ list)
+    → AreTables (with_tree db 8 rows) × (rows_in (with_tree db 8 rows) ≡ record (rows_in db) { cards = list })
+cards_set {db} was made = (
+  record { meta = was.meta; meta_row = was.meta_row; kind = was.kind; room = was.room; stay = was.stay; code = was.code; card = made.0; inside = was.inside; inside_numbered = was.inside_numbered; inside_ids = was.inside_ids; note = was.note },
+  ap (λ cards. record (rows_in db) { cards = cards }) made.1,
+)
 
-pub kinds_set : (db : Trees) (rows : List Row) → AreTables db → AreKinds rows → AreTables (with_tree db 1 rows) × (rows_in (with_tree db 1 rows) ≡ record (rows_in db) { kinds = listed (slice_cmp nat_cmp) (λ r. kind_of (kind_columns r)) rows })
-kinds_set db rows was good =
-    (record { meta = was.meta; meta_row = was.meta_row; kind = good; room = was.room; stay = was.stay; code = was.code; card = was.card; inside = was.inside; inside_numbered = was.inside_numbered; inside_ids = was.inside_ids; note = was.note }, refl)
+pub kinds_set : {db : Trees} {rows : List Row} {list : List (List ℕ)} → AreTables db → AreKinds rows × (listed (slice_cmp nat_cmp) (λ r. kind_of (kind_columns r)) rows ≡ list)
+    → AreTables (with_tree db 1 rows) × (rows_in (with_tree db 1 rows) ≡ record (rows_in db) { kinds = list })
+kinds_set {db} was made = (
+  record { meta = was.meta; meta_row = was.meta_row; kind = made.0; room = was.room; stay = was.stay; code = was.code; card = was.card; inside = was.inside; inside_numbered = was.inside_numbered; inside_ids = was.inside_ids; note = was.note },
+  ap (λ kinds. record (rows_in db) { kinds = kinds }) made.1,
+)
 
-pub notes_set : (db : Trees) (rows : List Row) → AreTables db → AreNotes rows → AreTables (with_tree db 11 rows) × (rows_in (with_tree db 11 rows) ≡ record (rows_in db) { notes = listed (by_key pair_cmp) (λ r. note_of (note_columns r)) rows })
-notes_set db rows was good =
-    (record { meta = was.meta; meta_row = was.meta_row; kind = was.kind; room = was.room; stay = was.stay; code = was.code; card = was.card; inside = was.inside; inside_numbered = was.inside_numbered; inside_ids = was.inside_ids; note = good }, refl)
+pub notes_set : {db : Trees} {rows : List Row} {list : List ((ℕ × ℕ) × Note)} → AreTables db → AreNotes rows × (listed (by_key pair_cmp) (λ r. note_of (note_columns r)) rows ≡ list)
+    → AreTables (with_tree db 11 rows) × (rows_in (with_tree db 11 rows) ≡ record (rows_in db) { notes = list })
+notes_set {db} was made = (
+  record { meta = was.meta; meta_row = was.meta_row; kind = was.kind; room = was.room; stay = was.stay; code = was.code; card = was.card; inside = was.inside; inside_numbered = was.inside_numbered; inside_ids = was.inside_ids; note = made.0 },
+  ap (λ notes. record (rows_in db) { notes = notes }) made.1,
+)
 
-pub insides_set : (db : Trees) (rows : List Row) → AreTables db → AreInside rows → AllByRecursion HasId rows → AreApartIds rows → AreTables (with_tree db 9 rows) × (rows_in (with_tree db 9 rows) ≡ record (rows_in db) { inside = listed pair_cmp (λ r. inside_of (inside_columns r)) rows })
-insides_set db rows was good numbered apart =
-    (record { meta = was.meta; meta_row = was.meta_row; kind = was.kind; room = was.room; stay = was.stay; code = was.code; card = was.card; inside = good; inside_numbered = numbered; inside_ids = apart; note = was.note }, refl)
+pub insides_set : {db : Trees} {rows : List Row} {list : List (ℕ × ℕ)} → AreTables db → AreInside rows × (listed pair_cmp (λ r. inside_of (inside_columns r)) rows ≡ list) → AllByRecursion HasId rows → AreApartIds rows
+    → AreTables (with_tree db 9 rows) × (rows_in (with_tree db 9 rows) ≡ record (rows_in db) { inside = list })
+insides_set {db} was made numbered apart = (
+  record { meta = was.meta; meta_row = was.meta_row; kind = was.kind; room = was.room; stay = was.stay; code = was.code; card = was.card; inside = made.0; inside_numbered = numbered; inside_ids = apart; note = was.note },
+  ap (λ inside. record (rows_in db) { inside = inside }) made.1,
+)
 
-pub day_set : (db : Trees) (rows : List Row) (day : Option ℕ) → AreTables db → AreMetas rows → listed (by_key nat_cmp) (λ r. meta_of (meta_columns r)) rows ≡ (1, (1, day)) ∷ [] → AreTables (with_tree db 0 rows) × (rows_in (with_tree db 0 rows) ≡ record (rows_in db) { day = day })
-day_set db rows day was good row =
-    (record { meta = good; meta_row = (day, row); kind = was.kind; room = was.room; stay = was.stay; code = was.code; card = was.card; inside = was.inside; inside_numbered = was.inside_numbered; inside_ids = was.inside_ids; note = was.note }, rw row refl)
+pub day_set : {db : Trees} {rows : List Row} {day : Option ℕ} → AreTables db → AreMetas rows × (listed (by_key nat_cmp) (λ r. meta_of (meta_columns r)) rows ≡ (1, (1, day)) ∷ [])
+    → AreTables (with_tree db 0 rows) × (rows_in (with_tree db 0 rows) ≡ record (rows_in db) { day = day })
+day_set {day = day} was made = (
+  record { meta = made.0; meta_row = (day, made.1); kind = was.kind; room = was.room; stay = was.stay; code = was.code; card = was.card; inside = was.inside; inside_numbered = was.inside_numbered; inside_ids = was.inside_ids; note = was.note },
+  rw made.1 refl,
+)

@@ -1,18 +1,14 @@
 -- The steps of an issue make the change.
 use Rattle.std.proofs.Common.{◌≡◌, ◌+◌, inl, inr, refl, sym, ap, ap₂, ◌∙◌, List, [], ◌∷◌, ℕ, true, false, Option, None, Some, eqb, is_eq, nat_cmp}
 use Rattle.std.proofs.lemmas.Bool.{cases_Bool}
-use Rattle.sqlite.specs.State.{State, HasCleanDisk}
 use Rattle.keycard_rules.specs.declared.card.Card.{Card}
 use Rattle.hotel_core.specs.declared.books.rows.RoomRow.{RoomRow}
 use Rattle.hotel_core.specs.declared.books.change.Change.TheVariants as change
 use Rattle.hotel_core.specs.Model.Words.{said_of}
 use Rattle.hotel_core.specs.Model.Rows.{Rows, at_number}
 use Rattle.hotel_core.specs.Books.Change.{made, codes_of, room_changed, without_party, left_by}
-use Rattle.hotel_tables.specs.Tables.{rows_in}
-use Rattle.hotel_tables.specs.Books.{IsKept}
 use Rattle.hotel_tables.specs.Steps.{code_given, card_given}
 use Rattle.hotel_tables.proofs.Keys.{is_key}
-use Rattle.hotel_tables.proofs.Ends.{Begins, Does, fits_start}
 
 abbrev codes_at : ℕ → List (ℕ × RoomRow) → ℕ
 codes_at room es = said_of (at_number es room) 0 (λ row. row.codes)
@@ -58,10 +54,3 @@ issue_is card room leaves codes rows is =
     let at = made (change.Issue card room leaves) rows in
     ap₂ (λ rooms place. record at { rooms = rooms; codes = Rattle.std.specs.BTreeMap.insert_entry nat_cmp rows.codes card.link.new_code (record { room = room; place = place }) })
     (one_more room card.party codes (left_by leaves rows.rooms) (codes_kept room leaves rows.rooms ∙ is)) (sym is)
-
-pub does_issue : (old start mid : State) (card : Card) (room : ℕ) (leaves : Option ℕ) (codes : ℕ) → Begins old start → (IsKept old → codes_of (rows_in old.now.trees) room ≡ codes) → (HasCleanDisk mid → HasCleanDisk start)
-    → Does start mid (λ rows. card_given card room (codes + 1) (code_given leaves card.link.new_code (record { room = room; place = codes }) rows)) → Does start mid (made (change.Issue card room leaves))
-does_issue old start mid card room leaves codes begins counted was does clean inside =
-    let did = does clean inside in
-    let is = fits_start old start (λ rows. codes_of rows room ≡ codes) begins counted (was clean) did.was_open in
-    record { was_open = did.was_open; is_open = did.is_open; committed = did.committed; mid = did.mid; rows_are = did.rows_are ∙ issue_is card room leaves codes (rows_in start.now.trees) is }

@@ -34,81 +34,84 @@ pub(crate) fn index_of(alloc: Global, keys: &[u64]) -> Result<BTreeMap<u64, usiz
 pub(crate) fn room_keys(alloc: Global, rooms: &[RoomLine]) -> Result<Vec<u64>, Memory>
     ensures { IfOk result (λ keys. keys.items ≡ map room_key rooms.now) }
 {
-    let mut keys = Vec::new(alloc);
-    for i in 0..rooms.len() {
-        let Ok(()) = keys.push(numbers::number(rooms[i].room)) else {
-            return Err(Memory);
-        };
+    match rooms
+        .iter()
+        .map(|line| numbers::number(line.room))
+        .collect(alloc)
+    {
+        Ok(keys) => Ok(keys),
+        Err(_) => Err(Memory),
     }
-    Ok(keys)
 }
 
 /// The parties of the stays.
 pub(crate) fn stay_keys(alloc: Global, stays: &[StayLine]) -> Result<Vec<u64>, Memory>
     ensures { IfOk result (λ keys. keys.items ≡ map stay_key stays.now) }
 {
-    let mut keys = Vec::new(alloc);
-    for i in 0..stays.len() {
-        let Ok(()) = keys.push(numbers::number(stays[i].party)) else {
-            return Err(Memory);
-        };
+    match stays
+        .iter()
+        .map(|line| numbers::number(line.party))
+        .collect(alloc)
+    {
+        Ok(keys) => Ok(keys),
+        Err(_) => Err(Memory),
     }
-    Ok(keys)
 }
 
 /// The codes.
 pub(crate) fn code_keys(alloc: Global, codes: &[CodeLine]) -> Result<Vec<u64>, Memory>
     ensures { IfOk result (λ keys. keys.items ≡ map code_key codes.now) }
 {
-    let mut keys = Vec::new(alloc);
-    for i in 0..codes.len() {
-        let Ok(()) = keys.push(numbers::number(codes[i].code)) else {
-            return Err(Memory);
-        };
+    match codes
+        .iter()
+        .map(|line| numbers::number(line.code))
+        .collect(alloc)
+    {
+        Ok(keys) => Ok(keys),
+        Err(_) => Err(Memory),
     }
-    Ok(keys)
 }
 
 /// The numbers of the cards.
 pub(crate) fn card_keys(alloc: Global, cards: &[CardLine]) -> Result<Vec<u64>, Memory>
     ensures { IfOk result (λ keys. keys.items ≡ map card_key cards.now) }
 {
-    let mut keys = Vec::new(alloc);
-    for i in 0..cards.len() {
-        let Ok(()) = keys.push(numbers::number(cards[i].number)) else {
-            return Err(Memory);
-        };
+    match cards
+        .iter()
+        .map(|line| numbers::number(line.number))
+        .collect(alloc)
+    {
+        Ok(keys) => Ok(keys),
+        Err(_) => Err(Memory),
     }
-    Ok(keys)
 }
 
 /// The rooms and cards of what is inside.
 pub(crate) fn inside_keys(alloc: Global, inside: &[InsideLine]) -> Result<Vec<(u64, u64)>, Memory>
     ensures { IfOk result (λ keys. keys.items ≡ map inside_pair inside.now) }
 {
-    let mut keys = Vec::new(alloc);
-    for i in 0..inside.len() {
-        let Ok(()) = keys.push((
-            numbers::number(inside[i].room),
-            numbers::number(inside[i].card),
-        )) else {
-            return Err(Memory);
-        };
+    match inside
+        .iter()
+        .map(|line| (numbers::number(line.room), numbers::number(line.card)))
+        .collect(alloc)
+    {
+        Ok(keys) => Ok(keys),
+        Err(_) => Err(Memory),
     }
-    Ok(keys)
 }
 
 /// The rooms and counts of the notes.
 pub(crate) fn note_keys(alloc: Global, notes: &[NoteLine]) -> Result<Vec<(u64, u64)>, Memory>
     ensures { IfOk result (λ keys. keys.items ≡ map note_key notes.now) }
 {
-    let mut keys = Vec::new(alloc);
-    for i in 0..notes.len() {
-        let Ok(()) = keys.push((numbers::number(notes[i].room), numbers::number(notes[i].n))) else {
-            return Err(Memory);
-        };
+    match notes
+        .iter()
+        .map(|line| (numbers::number(line.room), numbers::number(line.n)))
+        .collect(alloc)
+    {
+        Ok(keys) => Ok(keys),
+        Err(_) => Err(Memory),
     }
-    Ok(keys)
 }
 
 /// Where the rows with a number for a key stand.

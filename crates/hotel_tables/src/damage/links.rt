@@ -26,13 +26,14 @@ use std::collections::BTreeMap;
 pub(crate) fn brought_codes(alloc: Global, cards: &[CardLine]) -> Result<Vec<u64>, Memory>
     ensures { IfOk result (λ codes. codes.items ≡ map new_code_of cards.now) }
 {
-    let mut codes = Vec::new(alloc);
-    for i in 0..cards.len() {
-        let Ok(()) = codes.push(number(cards[i].new_code)) else {
-            return Err(Memory);
-        };
+    match cards
+        .iter()
+        .map(|card| number(card.new_code))
+        .collect(alloc)
+    {
+        Ok(codes) => Ok(codes),
+        Err(_) => Err(Memory),
     }
-    Ok(codes)
 }
 
 fn is_first(code: &CodeLine) -> bool

@@ -1,19 +1,8 @@
-use Rattle.std.proofs.Common.{ap, rules}
-use Rattle.sqlite.specs.Held.{state}
-use Rattle.sqlite.specs.State.{Survives}
-use Rattle.sqlite.proofs.StateLemmas.{survives_then}
-use Rattle.hotel_tables.specs.Steps.{room_left, stay_set}
-use Rattle.hotel_tables.specs.Books.{IsBooks}
-use Rattle.hotel_tables.proofs.Ends.{Begins, then_does, end_books}
+use Rattle.hotel_tables.proofs.Ends.{then_makes, failed}
 use Rattle.hotel_tables.proofs.changes.end_stay.Goals as goal
 
-pub returns-clause-books : goal.returns-clause-books
-returns-clause-books g c =
-    let s0 = state g.S.Store c.transaction-tx.result.conn.now in
-    let s1 = state g.S.Store c.set_state.new.tx.conn.now in
-    let s2 = state g.S.Store c.set_left.new.tx.conn.now in
-    let begins : Begins (state g.S.Store c.args.conn.now) s0 = record { books = c.requires.books; begun = ap (state g.S.Store) c.transaction-tx.ensures.begun } in
-    let survives : Survives s0 s2 (λ _. ⊥) = survives_then s0 s1 s2 (λ _. ⊥) (λ _. ⊥) (λ _. ⊥) (λ _ _ none. none) (λ _ _ none. none) c.set_state.ensures.survives c.set_left.ensures.survives in
-    let does = then_does s0 s1 s2 (stay_set _ _) (room_left _) c.in_ok-set_state.ensures.made c.in_ok-set_left.ensures.made c.set_left.ensures.survives in
-    let books : IsBooks (state g.S.Store c.commit.new.self.0) = end_books (state g.S.Store c.args.conn.now) s0 s2 _ _ begins does survives c.commit.result c.commit.ensures.ended c.commit.ensures.ok c.commit.ensures.err c.commit.ensures.survives in
-    search (rules, books)
+pub returns-in_err-set_state-clause-makes : goal.returns-in_err-set_state-clause-makes
+returns-in_err-set_state-clause-makes g c = failed c.from_residual.result c.from_residual.ensures.0 c.in_err-set_state.ensures.makes
+
+pub returns-clause-makes : goal.returns-clause-makes
+returns-clause-makes g c = then_makes c.in_ok-set_state.ensures.makes c.set_left.ensures.makes

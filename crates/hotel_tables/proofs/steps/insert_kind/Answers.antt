@@ -1,22 +1,8 @@
-use Rattle.std.proofs.Common.{◌≡◌, [], ◌∷◌, Ok, ap, subst, refl, rules}
-use Rattle.sqlite.specs.Held.{state}
-use Rattle.sqlite.specs.Values.{bound}
-use Rattle.sqlite.specs.State.{ExecutesInside}
-use Rattle.hotel_tables.specs.Texts as texts
-use Rattle.hotel_tables.proofs.Writing.{ran_inside, kept_inside}
-use Rattle.hotel_tables.proofs.Made.Inserts.{kind_params}
-use Rattle.hotel_tables.proofs.Made.Moves.{kind_step}
+use Rattle.std.proofs.Common.{[], ◌∷◌, refl}
+use Rattle.sqlite_value.specs.declared.value.Value.TheVariants.{Text}
+use Rattle.hotel_tables.proofs.Ends.{makes_rows}
+use Rattle.hotel_tables.proofs.Made.Inserts.{kind_step}
 use Rattle.hotel_tables.proofs.steps.insert_kind.Goals as goal
 
-pub returns-in_err-execute-clause-kept : goal.returns-in_err-execute-clause-kept
-returns-in_err-execute-clause-kept g c = λ clean. kept_inside _ _ _ _ _ _ (c.execute.ensures.runs clean) (λ no. ap (state g.S.Store) (c.execute.ensures.ended no).1)
-
-pub returns-clause-made : goal.returns-clause-made
-returns-clause-made g c = λ clean mid.
-    let old = state g.S.Store c.args.tx.now.conn.now in
-    let new = state g.S.Store c.execute.new.self.conn.now in
-    let is : c.execute.result ≡ Ok c.in_ok-execute.field-0 = search rules in
-    let inside = ran_inside old.in_transaction _ _ _ _ is c.execute.ensures.ended in
-    let same : bound (c.text.result ∷ []) ≡ kind_params c.args.kind.now = rw (c.text.ensures, c.as_bytes.ensures.same) refl in
-    let runs : ExecutesInside 0 texts.insert_kind (kind_params c.args.kind.now) old new (Ok c.in_ok-execute.field-0) = subst (λ ps. ExecutesInside 0 texts.insert_kind ps old new (Ok c.in_ok-execute.field-0)) same (c.in_ok-execute.ensures.runs clean inside) in
-    kind_step old new c.args.kind.now c.in_ok-execute.field-0 runs mid
+pub returns-clause-makes : goal.returns-clause-makes
+returns-clause-makes g c = makes_rows (Text c.args.kind.now ∷ []) c.run.ensures.runs (kind_step _ _ c.args.kind.now) (rw (c.text.ensures, c.as_bytes.ensures.same) refl)

@@ -1,23 +1,14 @@
-use Rattle.std.proofs.Common.{◌≡◌, [], ◌∷◌, Ok, ap, subst, refl, rules}
-use Rattle.sqlite.specs.Held.{state}
-use Rattle.sqlite.specs.Values.{bound}
-use Rattle.sqlite.specs.State.{ExecutesInside}
-use Rattle.hotel_tables.specs.Texts as texts
-use Rattle.hotel_tables.proofs.Writing.{ran_inside, kept_inside}
+use Rattle.std.proofs.Common.{[], ◌∷◌, refl}
+use Rattle.sqlite_value.specs.declared.value.Value.TheVariants.{Text}
+use Rattle.hotel_tables.specs.Values.{int, maybe_int}
+use Rattle.hotel_tables.specs.Columns.{bit_of}
+use Rattle.hotel_tables.proofs.Ends.{makes_rows}
 use Rattle.hotel_tables.proofs.Made.Reads.{bound_maybe}
-use Rattle.hotel_tables.proofs.Made.Inserts.{room_params}
-use Rattle.hotel_tables.proofs.Made.Effects.{room_step}
+use Rattle.hotel_tables.proofs.Made.Inserts.{room_step}
 use Rattle.hotel_tables.proofs.steps.insert_room.Goals as goal
 
-pub returns-in_err-execute-clause-kept : goal.returns-in_err-execute-clause-kept
-returns-in_err-execute-clause-kept g c = λ clean. kept_inside _ _ _ _ _ _ (c.execute.ensures.runs clean) (λ no. ap (state g.S.Store) (c.execute.ensures.ended no).1)
-
-pub returns-clause-made : goal.returns-clause-made
-returns-clause-made g c = λ clean mid.
-    let old = state g.S.Store c.args.tx.now.conn.now in
-    let new = state g.S.Store c.execute.new.self.conn.now in
-    let is : c.execute.result ≡ Ok c.in_ok-execute.field-0 = search rules in
-    let inside = ran_inside old.in_transaction _ _ _ _ is c.execute.ensures.ended in
-    let same : bound (c.numbered.result ∷ c.text.result ∷ c.small.result ∷ c.small-2.result ∷ c.bit.result ∷ c.maybe.result ∷ c.small-3.result ∷ []) ≡ room_params c.args.row = rw (c.numbered.ensures, c.text.ensures, c.small.ensures, c.small-2.ensures, c.bit.ensures, c.maybe.ensures, c.small-3.ensures, c.as_bytes.ensures.same, bound_maybe c.args.row.party) refl in
-    let runs : ExecutesInside 0 texts.insert_room (room_params c.args.row) old new (Ok c.in_ok-execute.field-0) = subst (λ ps. ExecutesInside 0 texts.insert_room ps old new (Ok c.in_ok-execute.field-0)) same (c.in_ok-execute.ensures.runs clean inside) in
-    room_step old new c.args.row c.in_ok-execute.field-0 runs mid
+pub returns-clause-makes : goal.returns-clause-makes
+returns-clause-makes g c =
+    let r = c.args.row in
+    makes_rows (int r.room ∷ Text r.kind ∷ int r.lock_place ∷ int r.codes ∷ int (bit_of r.secured) ∷ maybe_int r.party ∷ int r.notes ∷ []) c.run.ensures.runs (room_step _ _ r)
+    (rw (c.numbered.ensures, c.text.ensures, c.small.ensures, c.small-2.ensures, c.bit.ensures, c.maybe.ensures, c.small-3.ensures, c.as_bytes.ensures.same, bound_maybe r.party) refl)

@@ -1,24 +1,13 @@
-use Rattle.std.proofs.Common.{◌≡◌, [], ◌∷◌, Ok, ap, subst, refl, rules}
-use Rattle.sqlite.specs.Held.{state}
-use Rattle.sqlite.specs.Values.{bound}
-use Rattle.sqlite.specs.State.{ExecutesInside}
-use Rattle.hotel_tables.specs.Texts as texts
-use Rattle.hotel_tables.proofs.Writing.{ran_inside, kept_inside}
-use Rattle.hotel_tables.proofs.Made.Reads.{bound_maybe}
+use Rattle.std.proofs.Common.{[], ◌∷◌, refl}
 use Rattle.hotel_core.specs.Model.Cases.{room_of_state}
-use Rattle.hotel_tables.proofs.Made.Updates.{state_params}
-use Rattle.hotel_tables.proofs.Made.Moves.{state_step}
+use Rattle.hotel_tables.specs.Values.{int, maybe_int}
+use Rattle.hotel_tables.specs.Columns.{state_number}
+use Rattle.hotel_tables.proofs.Ends.{makes_rows}
+use Rattle.hotel_tables.proofs.Made.Reads.{bound_maybe}
+use Rattle.hotel_tables.proofs.Made.Updates.{state_step}
 use Rattle.hotel_tables.proofs.steps.set_state.Goals as goal
 
-pub returns-in_err-execute-clause-kept : goal.returns-in_err-execute-clause-kept
-returns-in_err-execute-clause-kept g c = λ clean. kept_inside _ _ _ _ _ _ (c.execute.ensures.runs clean) (λ no. ap (state g.S.Store) (c.execute.ensures.ended no).1)
-
-pub returns-clause-made : goal.returns-clause-made
-returns-clause-made g c = λ clean mid.
-    let old = state g.S.Store c.args.tx.now.conn.now in
-    let new = state g.S.Store c.execute.new.self.conn.now in
-    let is : c.execute.result ≡ Ok c.in_ok-execute.field-0 = search rules in
-    let inside = ran_inside old.in_transaction _ _ _ _ is c.execute.ensures.ended in
-    let same : bound (c.numbered.result ∷ c.standing.result ∷ c.room_of.result ∷ []) ≡ state_params c.args.party c.args.state_now = rw (c.numbered.ensures, c.standing.ensures, c.room_of.ensures, bound_maybe (room_of_state c.args.state_now)) refl in
-    let runs : ExecutesInside 0 texts.update_state (state_params c.args.party c.args.state_now) old new (Ok c.in_ok-execute.field-0) = subst (λ ps. ExecutesInside 0 texts.update_state ps old new (Ok c.in_ok-execute.field-0)) same (c.in_ok-execute.ensures.runs clean inside) in
-    state_step old new c.args.party c.args.state_now c.in_ok-execute.field-0 runs mid
+pub returns-clause-makes : goal.returns-clause-makes
+returns-clause-makes g c =
+    makes_rows (int c.args.party ∷ int (state_number c.args.state_now) ∷ maybe_int (room_of_state c.args.state_now) ∷ []) c.run.ensures.runs (state_step _ _ c.args.party c.args.state_now)
+    (rw (c.numbered.ensures, c.standing.ensures, c.room_of.ensures, bound_maybe (room_of_state c.args.state_now)) refl)
