@@ -8,7 +8,6 @@ mod counting;
 mod create;
 mod damage;
 mod desk_schema;
-mod file_books;
 mod files;
 mod from_row;
 mod issue;
@@ -21,22 +20,25 @@ mod number;
 mod open_books;
 mod open_fault;
 mod opening;
+mod path_disk;
 mod reading;
 mod same_schema;
 mod statement;
 mod steps;
 mod stored;
+mod system_disk;
 mod table_books;
 mod texts;
 mod walk;
 mod walks;
 
 pub use damage::{first_damaged, undamaged_is_sound};
-pub use file_books::FileBooks;
 pub use files::{FileFault, close_file, open_file};
 pub use laws::{files_are_clean, files_keep_books, memory_is_clean, read_undamaged};
 pub use open_fault::OpenFault;
+pub use path_disk::PathDisk;
 pub use stored::{
     CardLine, CodeLine, InsideLine, KindLine, NoteLine, RoomLine, StayLine, Stored, TableName,
 };
+pub use system_disk::SystemDisk;
 pub use table_books::TableBooks;

@@ -6,7 +6,7 @@ use Rattle.hotel_tables.proofs.files.books_of.Goals as goal
 
 pub returns-in-Ok-create-clause-books : goal.returns-in-Ok-create-clause-books
 returns-in-Ok-create-clause-books g c =
-    let made = made_books (state g.S.Store c.in-Ok.conn) (state g.S.Store c.in-Ok-create.books.conn) (c.is_bare.ensures.0 c.if-is_bare.true) c.in-Ok-create.ensures.empty c.in-Ok-create.ensures.crash in
+    let made = made_books (state g.S.Store c.in-Ok.conn) (state g.S.Store c.in-Ok-create.made.conn) (c.is_bare.ensures.0 c.if-is_bare.true) c.in-Ok-create.ensures.empty c.in-Ok-create.ensures.crash in
     rw c.in-Ok.is made
 
 pub returns-in-Ok-open_or_return-clause-books : goal.returns-in-Ok-open_or_return-clause-books
@@ -14,7 +14,7 @@ returns-in-Ok-open_or_return-clause-books g c =
     let old = state g.S.Store c.in-Ok.conn in
     let was = c.in-Ok-open_or_return.ensures in
     let other : ¬ (old.now.schema ≡ no_schema) = λ bare. true≢false (sym (c.is_bare.ensures.1 bare) ∙ c.if-is_bare.false) in
-    let found = found_books old (state g.S.Store c.in-Ok-open_or_return.books.conn) other was.schema was.keeps was.crash was.sound in
+    let found = found_books old (state g.S.Store c.in-Ok-open_or_return.found.conn) other was.schema was.keeps was.crash was.sound in
     rw c.in-Ok.is found
 
 pub returns-in-Err-open_or_return-clause-fault : goal.returns-in-Err-open_or_return-clause-fault
