@@ -1,14 +1,14 @@
 -- The lines that a sink wrote along a walk.
-use Rattle.std.proofs.Common.{ℕ, ◌≡◌, Bool, true, false, List, [], ◌∷◌, ◌++◌, Option, Some, None, Result, Ok, Err, append_assoc, append-nil, length-append, ap, refl, sym, ◌∙◌, subst, arith, inl, inr, flat_map}
-use Rattle.hotel_core.proofs.Names.{false≢true, Takes, Hands}
+use Rattle.std.proofs.Common.{ℕ, ◌≡◌, Bool, true, false, List, [], ◌∷◌, ◌++◌, Option, Result, Ok, Err, append_assoc, append-nil, length-append, ap, refl, sym, ◌∙◌, subst, arith, inl, inr, flat_map}
+use Rattle.hotel_core.proofs.Names.{Takes, Hands}
 use Rattle.std.proofs.lemmas.List.{take-append-le}
 use Rattle.std.proofs.lemmas.List.Concat.{flat_map-append}
 use Rattle.std.specs.Io.KnownBytes.{Appends}
 use Rattle.std.proofs.KnownBytes.{Appends-trans, Appends-kept}
-use Rattle.hotel_core.specs.{declared.books.walks.WalkFault.WalkFault, declared.books.rows.RoomRow.RoomRow}
+use Rattle.hotel_core.specs.declared.books.walks.WalkFault.{WalkFault}
 use Rattle.hotel_core.specs.declared.books.walks.WalkFault.TheVariants as walk
 use Rattle.hotel_lists.specs.{Bytes.AppendsFront, LineSink.SameEnds, LineSink.Gathers, LineSink.StopsAtWrite, LineSink.Finishes, declared.lines.Lines.Lines}
-use Rattle.hotel_lists.specs.{declared.fault.ListFault.ListFault, Lines.list_text, Lines.Lists, Lines.ListsRoom, Lines.FindsRoom, Lines.StopsBy, Lines.listed}
+use Rattle.hotel_lists.specs.{declared.fault.ListFault.ListFault, Lines.list_text, Lines.Lists, Lines.StopsBy, Lines.listed}
 use Rattle.hotel_lists.specs.declared.fault.ListFault.TheVariants as fault
 use Rattle.hotel_lists.proofs.{BytesLemmas.front_next, CallsLemmas.none_forgotten, CallsLemmas.then_none_forgotten}
 
@@ -164,15 +164,3 @@ module _ {W R : Type 0} (contents : W → Option (List ℕ)) (line : R → List 
   list_written w header rows handed a b c (Err walk.Store) (Err walk.Store) first none e h f = inr (h.0, h.1, sym e ∙ h.2, rest_written w header h.0 b c (from_header w header h.0 a b first none h.3) f.1)
   list_written w header rows handed a b c (Err walk.Store) (Err walk.Memory) first none e h f = absurd (store_is_memory (Err walk.Store) refl (sym f.0))
   list_written w header rows handed a b c (Err walk.Store) (Ok done) first none e h f = absurd (err_is_ok (sym f.0))
-
--- a list that was begun doesn't end with NoRoom
-pub listed_there : (end : Result (Unit {0}) WalkFault) (failed : Bool) → listed end failed ≡ Err fault.NoRoom → ⊥
-listed_there (Err walk.Stopped) true e = cc
-listed_there (Err walk.Stopped) false e = cc
-listed_there _ failed e = cc
-
--- the list of a room that was found
-pub room_listed : {R : Type 0} (o : Option RoomRow) (a b : Option (List ℕ)) (header : List ℕ) (line : R → List ℕ) (rows : List R) (done : Unit {0}) (result : Result (Unit {0}) ListFault)
-    → FindsRoom o (Ok done) → (result ≡ Err fault.NoRoom → ⊥) → Lists a b header line rows result → ListsRoom o a b header line rows result
-room_listed (Some row) a b header line rows done result found there l = (there, l)
-room_listed None a b header line rows done result found there l = absurd (false≢true found)

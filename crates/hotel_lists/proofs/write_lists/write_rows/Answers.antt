@@ -12,25 +12,25 @@ returns-in_err-write_bytes-clause-text g c = λ clean.
 
 pub returns-clause-text : goal.returns-clause-text
 returns-clause-text g c = λ clean.
-    let hands = c.walk-walked.ensures.hands in
-    let ended = list_ended g.W.Write.contents g.L.Row.Line.line hands.0 _ _ _ _ _ _ hands.1 c.finish-end.ensures.same c.finish-end.ensures.ends c.listed.ensures in
-    let written = list_written g.W.Write.contents g.L.Row.Line.line _ c.args.header.now (g.L.Listing.rows c.args.list.now (g.B.Books.rows c.args.books.now)) hands.0 _ _ _ _ _ (rw c.new-lines.ensures.unwritten c.in_ok-write_bytes.ensures.ok) (c.new-lines.ensures.gathered ∙ c.none-gathered.ensures) (hands.2 clean) hands.1 c.finish-end.ensures.ends in
+    let (handed, hands, all) = c.walk-walked.ensures.hands in
+    let (same, _) = list_ended g.W.Write.contents g.L.Row.Line.line handed _ _ _ _ _ _ hands c.finish-end.ensures.same c.finish-end.ensures.ends c.listed.ensures in
+    let written = list_written g.W.Write.contents g.L.Row.Line.line _ c.args.header.now _ handed _ _ _ _ _ (rw c.new-lines.ensures.unwritten c.in_ok-write_bytes.ensures.ok) (c.new-lines.ensures.gathered ∙ c.none-gathered.ensures) (all clean) hands c.finish-end.ensures.ends in
     let said : Lists (g.W.Write.contents c.args.writer.now) (g.W.Write.contents c.finish-end.new.self.writer.now) c.args.header.now g.L.Row.Line.line (g.L.Listing.rows c.args.list.now (g.B.Books.rows c.args.books.now)) c.listed.result = rw c.listed.ensures written in
-    let back = sym (ended.0.writer ∙ c.new-lines.ensures.same_writer) in
+    let back = sym (same.writer ∙ c.new-lines.ensures.same_writer) in
     search rules
 
 pub returns-clause-failed : goal.returns-clause-failed
 returns-clause-failed g c = λ e.
-    let hands = c.walk-walked.ensures.hands in
-    let ended = list_ended g.W.Write.contents g.L.Row.Line.line hands.0 _ _ _ _ _ _ hands.1 c.finish-end.ensures.same c.finish-end.ensures.ends c.listed.ensures in
-    let failed = ended.1 e in
-    let back = sym (ended.0.calls ∙ c.new-lines.ensures.same_calls) in
+    let (handed, hands, _) = c.walk-walked.ensures.hands in
+    let (same, failed) = list_ended g.W.Write.contents g.L.Row.Line.line handed _ _ _ _ _ _ hands c.finish-end.ensures.same c.finish-end.ensures.ends c.listed.ensures in
+    let now = failed e in
+    let back = sym (same.calls ∙ c.new-lines.ensures.same_calls) in
     search rules
 
 pub returns-clause-calls : goal.returns-clause-calls
 returns-clause-calls g c =
-    let hands = c.walk-walked.ensures.hands in
-    let ended = list_ended g.W.Write.contents g.L.Row.Line.line hands.0 _ _ _ _ _ _ hands.1 c.finish-end.ensures.same c.finish-end.ensures.ends c.listed.ensures in
-    let none = then_none_forgotten _ _ _ (rw (← c.new-lines.ensures.uncalled) at c.in_ok-write_bytes.ensures.calls) ended.0.none_forgotten in
-    let back = sym (ended.0.calls ∙ c.new-lines.ensures.same_calls) in
+    let (handed, hands, _) = c.walk-walked.ensures.hands in
+    let (same, _) = list_ended g.W.Write.contents g.L.Row.Line.line handed _ _ _ _ _ _ hands c.finish-end.ensures.same c.finish-end.ensures.ends c.listed.ensures in
+    let none = then_none_forgotten _ _ _ (rw (← c.new-lines.ensures.uncalled) at c.in_ok-write_bytes.ensures.calls) same.none_forgotten in
+    let back = sym (same.calls ∙ c.new-lines.ensures.same_calls) in
     search rules
