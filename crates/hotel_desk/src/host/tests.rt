@@ -3,11 +3,16 @@ use super::Host;
 use crate::program::run_program;
 use crate::run_tests::reopened_file::{RUNS, Run, call_of, is_done};
 use hotel_lists::{FakeReader, FakeWriter};
+use hotel_tables::{PathDisk, SystemDisk};
 use std::process::Abort;
 use std::test::Fail;
 
 /// The run ends with status 0 and its answer.
-fn run_holds(rt: &(impl Abort + AllocGlobal), around: &mut Host, run: &Run) -> Result<(), Fail> {
+fn run_holds<D: PathDisk>(
+    rt: &(impl Abort + AllocGlobal),
+    around: &mut Host<D>,
+    run: &Run,
+) -> Result<(), Fail> {
     let call = call_of(rt.alloc(), "/dev/zero", run.words)?;
     let mut writer = FakeWriter::new(rt.alloc());
     let mut faults = FakeWriter::new(rt.alloc());
@@ -26,7 +31,8 @@ fn run_holds(rt: &(impl Abort + AllocGlobal), around: &mut Host, run: &Run) -> R
 #[test]
 fn reopened_file(rt: HostRuntime) -> Result<(), Fail> {
     for run in RUNS {
-        run_holds(&rt, &mut Host::new(&rt), run)?;
+        let mut around: Host<SystemDisk> = Host::new(&rt);
+        run_holds(&rt, &mut around, run)?;
     }
     Ok(())
 }
