@@ -170,7 +170,7 @@ def without_file(runs):
     runs.wanted("a short seed", runs.on(runs.folder / "never", "begin 2031-05-01", seed="short"), 5, "", "seed\n")
     if (runs.folder / "never").exists():
         runs.wanted("a short seed makes no file", True, False, None, None)
-    runs.wanted("no seed file", runs.ran(["--seed-file", str(runs.names["missing"]), "in-house"]), 5, "", "file\n")
+    runs.wanted("no seed file", runs.ran(["--seed-file", str(runs.names["missing"]), "in-house"]), 5, "", "seed\n")
     runs.wanted("seed before audit file", runs.ran(["--seed-file", str(runs.names["short"]), "audit", str(runs.names["missing"])]), 5, "", "seed\n")
     runs.wanted("words before seed", runs.ran(["--seed-file", str(runs.names["short"]), "chain", "x"]), 2, "", "unread ROOM\n")
     runs.wanted("a full disk", runs.ran([*seed, "in-house"], output="/dev/full"), 5, "", "write\n")

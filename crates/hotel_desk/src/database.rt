@@ -7,9 +7,8 @@ ghost use Rattle.hotel_desk.specs.Database.{desk_fault, IsOfFile};
 
 use crate::table_names::desk_table;
 use hotel_program::Fault;
-use hotel_tables::{FileBooks, FileFault, OpenFault};
-use sqlite::File;
-use sqlite_disk::Disk;
+use hotel_tables::{FileFault, OpenFault, PathDisk, TableBooks};
+use sqlite::FileStore;
 
 /// The program's fault of a file that gave no books.
 fn desk_fault(fault: FileFault) -> Fault
@@ -26,9 +25,12 @@ fn desk_fault(fault: FileFault) -> Fault
 }
 
 /// Opens the books of a file, and makes them where it is missing or its database has nothing.
-pub fn open_file(rt: &HostRuntime, path: &str) -> Result<FileBooks, Fault>
-    ensures books { IfOk result (λ b. AreOfOpening b.books.conn) }
-    ensures fault { IfErr result (IsOfFile ⟦<File as Disk>⟧) }
+pub fn open_file<D: PathDisk>(
+    rt: &HostRuntime,
+    path: &str,
+) -> Result<TableBooks<FileStore<D>>, Fault>
+    ensures books { IfOk result (λ b. AreOfOpening b.conn) }
+    ensures fault { IfErr result (IsOfFile D.Disk) }
     ensures kind { IfErr result IsOfFiles }
 {
     match hotel_tables::open_file(rt, path) {

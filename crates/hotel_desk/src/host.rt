@@ -5,9 +5,11 @@ ghost use Rattle.hotel_program.specs.Faults.{IsOfFiles};
 
 use crate::database::open_file;
 use hotel_program::{Fault, FileName, SEED_BYTES, Surroundings, audit_file_in, seed_in};
-use hotel_tables::{FileBooks, close_file};
+use hotel_tables::{PathDisk, TableBooks, close_file};
+use sqlite::FileStore;
 use std::alloc::Global;
 use std::fs::{self, File};
+use std::marker::PhantomData;
 use std::net::{Ipv4Addr, TcpListener};
 use std::{env, io};
 
@@ -21,16 +23,20 @@ pub fn words(rt: &HostRuntime) -> io::Result<Vec<String>> {
     Ok(words.collect(rt.alloc())?)
 }
 
-/// The system that the program runs on.
+/// The system that the program runs on, and the disks `D` that its databases are on.
 #[derive(Drop)]
-pub struct Host {
+pub struct Host<D: PathDisk> {
     rt: HostRuntime,
+    disk: PhantomData<D>,
 }
 
-impl Host {
+impl<D: PathDisk> Host<D> {
     /// The system of this runtime.
-    pub fn new(rt: &HostRuntime) -> Host {
-        Host { rt: *rt }
+    pub fn new(rt: &HostRuntime) -> Host<D> {
+        Host {
+            rt: *rt,
+            disk: PhantomData,
+        }
     }
 
     /// Opens a file to read it.
@@ -44,8 +50,8 @@ impl Host {
     }
 }
 
-impl Surroundings for Host {
-    type Books = FileBooks;
+impl<D: PathDisk> Surroundings for Host<D> {
+    type Books = TableBooks<FileStore<D>>;
 
     ghost seed_read = { λ _ _ _ _. Unit {0} };
 
@@ -64,7 +70,9 @@ impl Surroundings for Host {
             Some(name) => name.as_str(),
             None => RANDOM_BYTES,
         };
-        let mut file = self.open(path)?;
+        let Ok(mut file) = self.open(path) else {
+            return Err(Fault::Seed);
+        };
         seed_in(alloc, &mut file)
     }
 
@@ -73,11 +81,15 @@ impl Surroundings for Host {
         audit_file_in(alloc, &mut file)
     }
 
-    fn open_books(&mut self, _alloc: Global, name: &FileName) -> Result<FileBooks, Fault> {
+    fn open_books(
+        &mut self,
+        _alloc: Global,
+        name: &FileName,
+    ) -> Result<TableBooks<FileStore<D>>, Fault> {
         open_file(&self.rt, name.as_str())
     }
 
-    fn close_books(&self, books: FileBooks) {
+    fn close_books(&self, books: TableBooks<FileStore<D>>) {
         // A close that failed loses nothing: the log keeps what it did not copy, and the next opening finds it there.
         let _ = close_file(books);
     }

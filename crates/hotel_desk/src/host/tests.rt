@@ -2,6 +2,7 @@
 use super::Host;
 use hotel_lists::{FakeReader, FakeWriter};
 use hotel_program::run_program;
+use hotel_tables::{PathDisk, SystemDisk};
 use std::alloc::{AllocError, Global};
 use std::process::Abort;
 use std::test::Fail;
@@ -52,7 +53,11 @@ fn is_done<A: Abort>(rt: &A, status: u8, written: &[u8], told: &[u8], answer: &[
 }
 
 /// The run ends with status 0 and its answer.
-fn run_holds(rt: &(impl Abort + AllocGlobal), around: &mut Host, run: &Run) -> Result<(), Fail> {
+fn run_holds<D: PathDisk>(
+    rt: &(impl Abort + AllocGlobal),
+    around: &mut Host<D>,
+    run: &Run,
+) -> Result<(), Fail> {
     let call = call_of(rt.alloc(), run.words)?;
     let mut writer = FakeWriter::new(rt.alloc());
     let mut faults = FakeWriter::new(rt.alloc());
@@ -71,7 +76,8 @@ fn run_holds(rt: &(impl Abort + AllocGlobal), around: &mut Host, run: &Run) -> R
 #[test]
 fn reopened_file(rt: HostRuntime) -> Result<(), Fail> {
     for run in RUNS {
-        run_holds(&rt, &mut Host::new(&rt), run)?;
+        let mut around: Host<SystemDisk> = Host::new(&rt);
+        run_holds(&rt, &mut around, run)?;
     }
     Ok(())
 }
