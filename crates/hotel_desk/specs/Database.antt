@@ -7,7 +7,6 @@ use Rattle.hotel_tables.specs.declared.files.FileFault.TheVariants as file
 use Rattle.hotel_tables.specs.Files.{IsOfOpening}
 use Rattle.hotel_program.specs.declared.faults.Fault.{Fault}
 use Rattle.hotel_program.specs.declared.faults.Fault.TheVariants.{Memory, Store, NotADesk, Damaged, File}
-use Rattle.hotel_desk.specs.TableNames.{desk_table}
 
 -- each fault under the program's own name
 abbrev pub desk_fault : FileFault → Fault
@@ -15,7 +14,7 @@ desk_fault file.File = File
 desk_fault (file.Desk opening.Memory) = Memory
 desk_fault (file.Desk opening.Store) = Store
 desk_fault (file.Desk opening.NotADesk) = NotADesk
-desk_fault (file.Desk (opening.Damaged table)) = Damaged (desk_table table)
+desk_fault (file.Desk (opening.Damaged table)) = Damaged table
 
 -- the fault of an answer of the opening of a database file, under the program's own name
 abbrev pub IsOfFile : {D : Type 0} → Ghosts D → Fault → Type 0

@@ -1,2 +1,1 @@
-pub mod TableNames
 pub mod Database

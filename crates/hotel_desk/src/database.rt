@@ -5,7 +5,6 @@ ghost use Rattle.hotel_tables.specs.Files.{AreOfOpening};
 ghost use Rattle.hotel_program.specs.Faults.{IsOfFiles};
 ghost use Rattle.hotel_desk.specs.Database.{desk_fault, IsOfFile};
 
-use crate::table_names::desk_table;
 use hotel_program::Fault;
 use hotel_tables::{FileFault, OpenFault, PathDisk, TableBooks};
 use sqlite::FileStore;
@@ -20,7 +19,7 @@ fn desk_fault(fault: FileFault) -> Fault
         FileFault::Desk(OpenFault::Memory) => Fault::Memory,
         FileFault::Desk(OpenFault::Store) => Fault::Store,
         FileFault::Desk(OpenFault::NotADesk) => Fault::NotADesk,
-        FileFault::Desk(OpenFault::Damaged(table)) => Fault::Damaged(desk_table(table)),
+        FileFault::Desk(OpenFault::Damaged(table)) => Fault::Damaged(table),
     }
 }
 

@@ -101,6 +101,3 @@ impl<D: PathDisk> Surroundings for Host<D> {
         }
     }
 }
-
-#[cfg(test)]
-mod tests;

@@ -3,7 +3,6 @@
 
 mod database;
 mod host;
-mod table_names;
 
 use host::{Host, words};
 use hotel_program::run_program;

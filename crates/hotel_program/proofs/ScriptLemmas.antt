@@ -146,8 +146,6 @@ appends_front a b c output text (n, within, next) first =
     (length output + n, simp length-append (omega arith), subst (Appends a c) (sym (take-append-add output text n)) (Appends-trans a b c output (take n text) first next))
 
 -- a silent line is not among those that are answered
-pub answered_silent : (text later line cut : List ℕ) → lines text ≡ line ∷ lines later → cut ≡ without_return line → is_silent cut ≡ true → answered_lines text ≡ answered_lines later
-answered_silent text later line cut e w h = rw (e, subst (λ (x : List ℕ). is_silent x ≡ true) w h) refl
 
 -- any other line is
 pub answered_more : (text later line cut : List ℕ) → lines text ≡ line ∷ lines later → cut ≡ without_return line → is_silent cut ≡ false → answered_lines text ≡ cut ∷ answered_lines later

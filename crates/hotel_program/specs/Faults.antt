@@ -4,8 +4,8 @@ use Rattle.std.specs.Fmt.{decimal}
 use Rattle.keycard_rules.specs.declared.issued.LookFault.{LookFault}
 use Rattle.keycard_rules.specs.declared.issued.LookFault.TheVariants as look
 use Rattle.hotel_asks.specs.Names.{name_text}
-use Rattle.hotel_program.specs.declared.faults.DeskTable.{DeskTable}
-use Rattle.hotel_program.specs.declared.faults.DeskTable.TheVariants as table
+use Rattle.hotel_rows.specs.declared.stored.TableName.{TableName}
+use Rattle.hotel_rows.specs.declared.stored.TableName.TheVariants as table
 use Rattle.hotel_program.specs.declared.faults.Fault.{Fault}
 use Rattle.hotel_program.specs.declared.faults.Fault.TheVariants.{Usage, Unread, Memory, Store, Read, Write, TooLarge, NoHeader, WrongHeader, Stopped, NotADesk, Damaged, Seed, File, Port, Closed}
 
@@ -15,7 +15,7 @@ cause_text look.Memory = codes ": Memory\n"
 cause_text look.Store = codes ": Store\n"
 
 -- The name of a table, and the end of the line.
-abbrev pub table_text : DeskTable → List ℕ
+abbrev pub table_text : TableName → List ℕ
 table_text table.Meta = codes "meta\n"
 table_text table.Kind = codes "kind\n"
 table_text table.Room = codes "room\n"

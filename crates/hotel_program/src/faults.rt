@@ -9,21 +9,9 @@ ghost use Rattle.hotel_program.specs.Faults.{cause_text, table_text, fault_text,
 use crate::statuses::{BROKEN, FAILED, USAGE};
 use hotel_asks::ValueName;
 use hotel_lists::{IoCalls, WriteFailed, write_bytes, write_parts};
+use hotel_rows::TableName;
 use keycard_rules::LookFault;
 use std::io::Write;
-
-/// The tables of a desk, in the order in which their rules are tried.
-#[derive(Clone, Copy, Debug, PartialEq, Eq)]
-pub enum DeskTable {
-    Meta,
-    Kind,
-    Room,
-    Stay,
-    Code,
-    Card,
-    Inside,
-    Note,
-}
 
 /// Why the program or a call of it didn't do its work to the end.
 #[derive(Clone, Copy, Debug, PartialEq, Eq)]
@@ -51,7 +39,7 @@ pub enum Fault {
     /// The database isn't a desk's.
     NotADesk,
     /// The first table of a desk of which a rule fails.
-    Damaged(DeskTable),
+    Damaged(TableName),
     /// The seed has fewer than 32 bytes.
     Seed,
     /// A file couldn't be opened or read.
@@ -86,18 +74,18 @@ fn cause_text(by: LookFault) -> &'static [u8]
 }
 
 /// The name of a table, and the end of the line.
-fn table_text(table: DeskTable) -> &'static [u8]
+fn table_text(table: TableName) -> &'static [u8]
     ensures { result.now ≡ table_text table }
 {
     match table {
-        DeskTable::Meta => b"meta\n",
-        DeskTable::Kind => b"kind\n",
-        DeskTable::Room => b"room\n",
-        DeskTable::Stay => b"stay\n",
-        DeskTable::Code => b"code\n",
-        DeskTable::Card => b"card\n",
-        DeskTable::Inside => b"inside\n",
-        DeskTable::Note => b"note\n",
+        TableName::Meta => b"meta\n",
+        TableName::Kind => b"kind\n",
+        TableName::Room => b"room\n",
+        TableName::Stay => b"stay\n",
+        TableName::Code => b"code\n",
+        TableName::Card => b"card\n",
+        TableName::Inside => b"inside\n",
+        TableName::Note => b"note\n",
     }
 }
 
@@ -134,7 +122,7 @@ fn write_unread<W: Write>(
 /// Writes the line of a table that is damaged.
 fn write_damaged<W: Write>(
     writer: &mut W,
-    table: DeskTable,
+    table: TableName,
     calls: &mut IoCalls,
 ) -> Result<(), WriteFailed>
     ensures ok { OnOk result (Appends (W.contents writer.old) (W.contents writer.new) (fault_text (Fault.Damaged table))) }

@@ -26,7 +26,7 @@ mod words;
 pub use audit_runs::run_audit;
 pub use command_line::{DeskAct, FileName, Plan, UsageFault, parse_words};
 pub use command_runs::run_one;
-pub use faults::{DeskTable, Fault, FaultSink};
+pub use faults::{Fault, FaultSink};
 pub use files::{SEED_BYTES, audit_file_in, seed_in};
 pub use list_runs::run_list;
 pub use program::run_program;

@@ -1,8 +1,6 @@
-//! Tests of books over tables: the worked scenarios, damaged rows, and a stop at each call of a store.
+//! Tests of books over tables: the worked scenarios, and a stop at each call of a store.
 #![tactic(auto)]
 
-#[cfg(test)]
-mod damaged_rows;
 #[cfg(test)]
 mod memory_desks;
 #[cfg(test)]

@@ -1,8 +1,6 @@
 //! The rows of a desk's tables, read by statements of the tests' own, and desks that are closed and opened again.
-use hotel_tables::{
-    CardLine, CodeLine, InsideLine, KindLine, NoteLine, OpenFault, RoomLine, StayLine, Stored,
-    TableBooks,
-};
+use hotel_rows::{CardLine, CodeLine, InsideLine, KindLine, NoteLine, RoomLine, StayLine, Stored};
+use hotel_tables::{OpenFault, TableBooks};
 use sqlite::{Alter, Connection, Error, MemStore, Row};
 use std::alloc::Global;
 use std::test::Fail;

@@ -1,92 +1,85 @@
 //! Desks over tables that are closed and opened again, as they were or after a statement that damages them.
 use crate::stored_rows::{created, new_tables, opened, rows_of, stored};
-use hotel_core::Books;
-use hotel_tables::{OpenFault, TableBooks, TableName, first_damaged};
+use hotel_rows::{TableName, first_damaged};
+use hotel_tables::{OpenFault, TableBooks};
 use hotel_tests::chains::{TWO_CODES, chain_reads, walks_end};
-use hotel_tests::desks::{Desk, FIRST_DAY};
+use hotel_tests::desks::Desk;
+use hotel_tests::scenarios::{
+    CHECKED_IN, LEFT, LEFT_BEHIND_RECODED, NEXT_CHECKED_IN, NEXT_GUEST, OPENED, Step, TWO_ENTRIES,
+};
 use sqlite::{Alter, Connection, Error, MemStore};
 use std::alloc::Global;
 use std::process::Abort;
 use std::test::Fail;
 
-/// What a desk comes to, by the scenario's name.
-#[derive(Clone, Copy)]
-enum Scene {
-    /// The opening: room 101, and a booking of Ann Lee.
-    Opened,
-    /// Then her party is checked in.
-    CheckedIn,
-    TwoEntries,
-    NextGuest,
-}
+/// Parts of scenarios that lead to a desk.
+type Parts = &'static [&'static [Step]];
+
+const TWO_ENTRIES_MADE: Parts = &[OPENED, CHECKED_IN, TWO_ENTRIES];
 
 /// The codes that the source of these desks gives.
 const CODES: &[u64] = &[0xa0, 0xa1, 0xa2];
 
-/// Carries out the commands that lead there.
-fn comes_to<B: Books>(desk: &mut Desk<B>, scene: Scene) -> Result<(), Fail> {
-    desk.begins(&[101])?;
-    match scene {
-        Scene::Opened => desk.reserve("Ann Lee", FIRST_DAY, 2),
-        Scene::CheckedIn => desk.has_a_guest(),
-        Scene::TwoEntries => desk.enters_twice(),
-        Scene::NextGuest => desk.is_entered_by_the_next(),
-    }
-}
-
-/// A desk over tables at this scene.
-fn tables_at(alloc: Global, scene: Scene) -> Result<TableBooks<MemStore>, Fail> {
+/// A desk over tables behind these parts.
+fn tables_behind(alloc: Global, parts: &[&[Step]]) -> Result<TableBooks<MemStore>, Fail> {
     let mut desk = Desk::over(alloc, new_tables(alloc)?, CODES)?;
-    comes_to(&mut desk, scene)?;
+    desk.goes_through(parts)?;
     Ok(desk.books)
 }
 
 /// A closed desk, a statement, and the answer to its opening then.
-type Damage = (Scene, &'static str, OpenFault);
+type Damage = (Parts, &'static str, OpenFault);
 
 const DAMAGES: &[Damage] = &[
     (
-        Scene::Opened,
+        &[OPENED],
         "UPDATE meta SET version = 7",
         OpenFault::NotADesk,
     ),
     (
-        Scene::Opened,
+        &[OPENED],
         "UPDATE meta SET day = NULL",
         OpenFault::Damaged(TableName::Meta),
     ),
     (
-        Scene::Opened,
+        &[OPENED],
         "INSERT INTO kind VALUES ('dbl')",
         OpenFault::Damaged(TableName::Kind),
     ),
     (
-        Scene::Opened,
+        &[OPENED],
         "UPDATE room SET secured = 1",
         OpenFault::Damaged(TableName::Room),
     ),
     (
-        Scene::Opened,
+        &[OPENED],
         "UPDATE stay SET state = 1",
         OpenFault::Damaged(TableName::Stay),
     ),
     (
-        Scene::TwoEntries,
+        TWO_ENTRIES_MADE,
         "UPDATE code SET place = 5 WHERE place = 1",
         OpenFault::Damaged(TableName::Code),
     ),
     (
-        Scene::CheckedIn,
+        &[OPENED, CHECKED_IN],
         "UPDATE card SET number = 5",
         OpenFault::Damaged(TableName::Card),
     ),
     (
-        Scene::NextGuest,
+        &[
+            OPENED,
+            CHECKED_IN,
+            TWO_ENTRIES,
+            LEFT,
+            NEXT_CHECKED_IN,
+            NEXT_GUEST,
+        ],
         "INSERT INTO inside VALUES (101, 1)",
         OpenFault::Damaged(TableName::Inside),
     ),
     (
-        Scene::TwoEntries,
+        TWO_ENTRIES_MADE,
         "UPDATE note SET n = 9 WHERE n = 2",
         OpenFault::Damaged(TableName::Note),
     ),
@@ -128,8 +121,8 @@ fn fault_of<S: Alter + Drop>(alloc: Global, conn: Connection<S>) -> Option<OpenF
 
 /// The closed desk can't be opened after the statement.
 fn is_damaged(rt: &(impl Abort + AllocGlobal), damage: &Damage) -> Result<(), Fail> {
-    let (scene, statement, fault) = *damage;
-    let mut conn = tables_at(rt.alloc(), scene)?.close();
+    let (parts, statement, fault) = *damage;
+    let mut conn = tables_behind(rt.alloc(), parts)?.close();
     assert!(rt; change(&mut conn, statement) == Ok(1));
     is_first_damaged(rt, &mut conn, fault)?;
     assert!(rt; fault_of(rt.alloc(), conn) == Some(fault));
@@ -147,11 +140,9 @@ fn a_damaged_desk_is_not_opened(rt: HostRuntime) -> Result<(), Fail> {
 /// Over tables too a walk ends where its sink stops, and the next one is whole.
 #[test]
 fn a_walk_of_tables_ends_where_its_sink_stops(rt: HostRuntime) -> Result<(), Fail> {
-    let mut desk = Desk::over(rt.alloc(), new_tables(rt.alloc())?, CODES)?;
-    desk.begins(&[101])?;
-    desk.leaves_behind()?;
-    desk.is_recoded()?;
-    assert!(rt; walks_end(rt.alloc(), &mut desk.books)?);
+    let parts = [OPENED, CHECKED_IN, NEXT_CHECKED_IN, LEFT_BEHIND_RECODED];
+    let mut books = tables_behind(rt.alloc(), &parts)?;
+    assert!(rt; walks_end(rt.alloc(), &mut books)?);
     Ok(())
 }
 
@@ -178,7 +169,7 @@ fn is_made_once<R: Abort + AllocGlobal>(rt: &R, books: TableBooks<MemStore>) {
 
 #[test]
 fn reopened_tables(rt: HostRuntime) -> Result<(), Fail> {
-    let books = opens_again(&rt, tables_at(rt.alloc(), Scene::TwoEntries)?)?;
+    let books = opens_again(&rt, tables_behind(rt.alloc(), TWO_ENTRIES_MADE)?)?;
     is_made_once(&rt, books);
     let bare = Connection::open_in_memory(rt.alloc())?;
     assert!(rt; fault_of(rt.alloc(), bare) == Some(OpenFault::NotADesk));

@@ -25,7 +25,6 @@ mod Walked
 mod OfWalks
 mod KeptCounts
 mod Applied
-pub mod OfDamage
 mod SameSchema
 mod MemoryDesk
 mod Reread

@@ -8,19 +8,19 @@ use Rattle.sqlite.specs.Order.{Row}
 use Rattle.hotel_core.specs.Model.Cases.{room_of_state}
 use Rattle.hotel_core.proofs.OfTables.Tests.{and_true}
 use Rattle.hotel_tables.specs.declared.lines.MetaLine.{MetaLine}
-use Rattle.hotel_tables.specs.declared.stored.KindLine.{KindLine}
-use Rattle.hotel_tables.specs.declared.stored.RoomLine.{RoomLine}
-use Rattle.hotel_tables.specs.declared.stored.StayLine.{StayLine}
-use Rattle.hotel_tables.specs.declared.stored.CodeLine.{CodeLine}
-use Rattle.hotel_tables.specs.declared.stored.CardLine.{CardLine}
-use Rattle.hotel_tables.specs.declared.stored.InsideLine.{InsideLine}
-use Rattle.hotel_tables.specs.declared.stored.NoteLine.{NoteLine}
+use Rattle.hotel_rows.specs.declared.stored.KindLine.{KindLine}
+use Rattle.hotel_rows.specs.declared.stored.RoomLine.{RoomLine}
+use Rattle.hotel_rows.specs.declared.stored.StayLine.{StayLine}
+use Rattle.hotel_rows.specs.declared.stored.CodeLine.{CodeLine}
+use Rattle.hotel_rows.specs.declared.stored.CardLine.{CardLine}
+use Rattle.hotel_rows.specs.declared.stored.InsideLine.{InsideLine}
+use Rattle.hotel_rows.specs.declared.stored.NoteLine.{NoteLine}
 use Rattle.hotel_tables.specs.Values.{int, maybe_int}
 use Rattle.hotel_tables.specs.Values as value
 use Rattle.hotel_tables.specs.Columns.{meta_of, meta_written, kind_of, kind_written, room_of, room_written, bit_of, stay_of, stay_written, state_number, code_of, code_written, card_of, card_written, inside_of, inside_written, note_of, note_written, act_number, act_card, act_first, act_second}
 use Rattle.hotel_tables.specs.Columns as columns
-use Rattle.hotel_tables.specs.Stored.{number_of, state_of, act_of, no_number, kind_text, room_entry, stay_entry, code_entry, card_entry, inside_pair, note_entry}
-use Rattle.hotel_tables.specs.Damage.{room_columns, stay_columns, note_columns}
+use Rattle.hotel_rows.specs.Stored.{number_of, state_of, act_of, no_number, kind_text, room_entry, stay_entry, code_entry, card_entry, inside_pair, note_entry}
+use Rattle.hotel_rows.specs.Damage.{room_columns, stay_columns, note_columns}
 use Rattle.hotel_core.specs.Model.Words.{said_of}
 use Rattle.hotel_tables.specs.Lines.{maybe, is_natural, may_be_natural, meta_shown, kind_shown, room_shown, room_natural, stay_shown, stay_natural, code_shown, code_natural, card_shown, card_natural, inside_shown, inside_natural, note_shown, note_natural}
 

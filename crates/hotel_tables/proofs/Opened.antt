@@ -1,16 +1,14 @@
 -- Tables that are read, undamaged and without numbers below 0 are tables of a desk.
-use Rattle.std.proofs.Common.{◌≡◌, ◌&&◌, refl, sym, ap, subst, ◌∙◌, List, [], ◌∷◌, map, ℕ, ℤ, pos, nat_cmp, true, false, Bool, Less, Ordering, is_eq, Option, None, Some, Result, Ok, Err, OnOk, IfOk, IfErr, IsTrue, Vec, arith, ◌+◌, ◌<◌, length, take, get_or, inl, inr, cond}
-use Rattle.std.specs.Prelude.{◌||◌, option_map, bytes_eq, string_bytes, not, is_some, nat_le, ◌-◌}
-use Rattle.std.proofs.lemmas.Bool.Decides.{nat_tests}
-use Rattle.std.specs.List.{AllByRecursion, list_all, list_any, count_by}
+use Rattle.std.proofs.Common.{◌≡◌, refl, sym, ap, subst, ◌∙◌, List, [], ◌∷◌, map, ℕ, ℤ, pos, nat_cmp, true, false, Bool, Less, Ordering, is_eq, Option, None, Result, Ok, Err, OnOk, IfOk, IfErr, IsTrue, Vec, arith}
+use Rattle.std.specs.Prelude.{option_map, ◌-◌}
+use Rattle.std.specs.List.{AllByRecursion, list_all}
 use Rattle.std.specs.List.Sorted.{IsPermutation}
 use Rattle.std.specs.Ordering.{int_cmp}
 use Rattle.std.specs.Cmp.Lexicographic.{slice_cmp}
-use Rattle.std.specs.Map.{keys_of, values_of}
+use Rattle.std.specs.Map.{keys_of}
 use Rattle.std.specs.declared.alloc.Global.{Global}
 use Rattle.std.proofs.lemmas.Cmp.{nat_cmp_total, int_cmp_total, nat_list_cmp_total}
 use Rattle.std.proofs.lemmas.List.Sorted.{IsPermutation-map, IsPermutation-sym, IsPermutation-refl, length_permutation}
-use Rattle.sqlite_value.specs.declared.value.Value.{Value}
 use Rattle.sqlite_value.specs.declared.value.Value.TheVariants.{Int}
 use Rattle.sqlite_value.proofs.OrderLemmas.{value_cmp_total, value_cmp-Int}
 use Rattle.sqlite_rules.specs.Edit.{id_in}
@@ -18,62 +16,46 @@ use Rattle.sqlite_trees.specs.Tree.{rowid}
 use Rattle.sqlite.specs.Order.{Row, column, value_cmp}
 use Rattle.sqlite.specs.Tree.{Trees, IsAscending}
 use Rattle.sqlite.specs.Effect.{Database}
-use Rattle.sqlite.specs.State.{State, HasCleanDisk}
+use Rattle.sqlite.specs.State.{State}
 use Rattle.sqlite.proofs.Callers.{one_permutation}
 use Rattle.sqlite_keyed.proofs.ListLemmas.{all_unmap, ascending_weaker, ascending-map}
 use Rattle.keycard_rules.specs.declared.issued.LookFault.{LookFault}
 use Rattle.keycard_rules.specs.declared.issued.LookFault.TheVariants as look
-use Rattle.hotel_nights.specs.declared.stay.Stay.{Stay}
 use Rattle.hotel_core.specs.Model.Words.{pair_cmp, said_of}
-use Rattle.hotel_core.specs.Model.Rows.{Rows, at_number}
+use Rattle.hotel_core.specs.Model.Rows.{at_number}
 use Rattle.hotel_core.specs.Model.Sound.{keys_in_order}
 use Rattle.hotel_core.specs.Model.SoundRooms.{are_in_order}
-use Rattle.std.proofs.lemmas.Bool.{cases_Bool}
-use Rattle.std.proofs.lemmas.List.Folds.{list_any_more}
-use Rattle.std.proofs.lemmas.Slice.Eq.{bytes_eq-Decides}
-use Rattle.std.proofs.lemmas.List.Sums.{count_by_more_yes, count_by_more_no}
-use Rattle.hotel_nights.specs.Block.{one_if}
-use Rattle.hotel_nights.specs.FullNight.{takes, nights_taken, first_day, is_full}
-use Rattle.hotel_core.specs.declared.books.rows.RoomRow.{RoomRow}
-use Rattle.hotel_core.specs.NightIndex.{StandsFor, counted}
-use Rattle.hotel_core.proofs.OfTables.StayCounts.{count_first}
-use Rattle.hotel_core.specs.Books.Lookups.{rooms_of_kind}
-use Rattle.hotel_core.specs.KindRooms.{is_there, rooms_in}
+use Rattle.hotel_core.specs.NightIndex.{counted}
 use Rattle.hotel_core.proofs.OfTables.Pairs.{pair_cmp_total}
-use Rattle.hotel_core.proofs.OfTables.Tests.{and_true, or_true}
-use Rattle.hotel_core.proofs.OfTables.KeysInOrder.{InOrder}
-use Rattle.hotel_core.proofs.Starts.StartOrder.{in_order_from}
+use Rattle.hotel_core.proofs.OfTables.Tests.{and_true}
 use Rattle.hotel_tables.specs.declared.lines.MetaLine.{MetaLine}
 use Rattle.hotel_tables.specs.declared.lines.NumberedInside.{NumberedInside}
-use Rattle.hotel_tables.specs.declared.stored.KindLine.{KindLine}
-use Rattle.hotel_tables.specs.declared.stored.InsideLine.{InsideLine}
-use Rattle.hotel_tables.specs.declared.stored.RoomLine.{RoomLine}
-use Rattle.hotel_tables.specs.declared.stored.StayLine.{StayLine}
-use Rattle.hotel_tables.specs.declared.stored.NoteLine.{NoteLine}
-use Rattle.hotel_tables.specs.declared.stored.Stored.{Stored}
+use Rattle.hotel_rows.specs.declared.stored.KindLine.{KindLine}
+use Rattle.hotel_rows.specs.declared.stored.InsideLine.{InsideLine}
+use Rattle.hotel_rows.specs.declared.stored.Stored.{Stored}
 use Rattle.hotel_tables.specs.declared.reading.Tables.{Tables}
-use Rattle.hotel_tables.specs.declared.counting.Counts.{Counts}
+use Rattle.hotel_rows.specs.declared.counting.Counts.{Counts}
 use Rattle.hotel_tables.specs.declared.open_fault.OpenFault.{OpenFault}
 use Rattle.hotel_tables.specs.declared.open_fault.OpenFault.TheVariants as fault
 use Rattle.hotel_tables.specs.Columns.{meta_columns, meta_of, meta_written, kind_columns, kind_of, kind_written, room_columns, room_of, room_written, stay_columns, stay_of, stay_written}
 use Rattle.hotel_tables.specs.Columns.{code_columns, code_of, code_written, card_columns, card_of, card_written, inside_columns, inside_of, inside_written, note_columns, note_of, note_written}
-use Rattle.hotel_tables.specs.Stored.{number_of, room_row, stay_row, kind_text, room_entry, stay_entry, code_entry, card_entry, inside_pair, note_entry, rows_of}
-use Rattle.hotel_tables.specs.Damage as damage
-use Rattle.hotel_tables.specs.Damage.{columns_fit, first_damaged_of}
-use Rattle.hotel_tables.specs.RowTests.{is_line_of_kind, has_night}
-use Rattle.hotel_tables.specs.Tables.{HasId, AreApartIds, AreApart, AreTables, IsTable, listed, by_key, metas_in, rows_in as all_rows_in}
+use Rattle.hotel_rows.specs.Stored.{number_of, kind_text, room_entry, stay_entry, code_entry, card_entry, inside_pair, note_entry, rows_of}
+use Rattle.hotel_rows.specs.Damage as damage
+use Rattle.hotel_rows.specs.Damage.{columns_fit, first_damaged_of}
+use Rattle.hotel_tables.specs.Tables.{AreApartIds, AreApart, AreTables, by_key, metas_in, rows_in as all_rows_in}
 use Rattle.hotel_tables.specs.TableBooks.{IsCounted}
-use Rattle.hotel_tables.specs.Books.{IsKept, IsBooks, IsDesk}
+use Rattle.hotel_tables.specs.Books.{IsBooks}
 use Rattle.hotel_tables.specs.Lines.{maybe, meta_shown, kind_shown, room_shown, stay_shown, code_shown, card_shown, inside_shown, numbered_shown, numbered_columns, note_shown, AreLines}
 use Rattle.hotel_tables.specs.Lines.{may_be_natural, room_natural, stay_natural, code_natural, card_natural, inside_natural, note_natural}
-use Rattle.hotel_tables.specs.Opening.{IsOurs, ReadsTo, AreRead, AreStored, AreApartInside, IsMetaRow, LacksRow, HasMetaRow, FaultFits, Told, Opens, IsCountedOf, KnowsKinds, names_kind, all_rise, all_natural, id_inside, line_inside, fault_for}
+use Rattle.hotel_tables.specs.Opening.{ReadsTo, AreRead, AreStored, AreApartInside, IsMetaRow, LacksRow, HasMetaRow, FaultFits, Told, Opens, all_rise, all_natural, id_inside, line_inside, fault_for}
+use Rattle.hotel_rows.specs.Counting.{IsCountedOf}
+use Rattle.hotel_rows.proofs.OfCounts.{counted_rooms, named_kind}
 use Rattle.hotel_tables.proofs.Answers.{fused}
-use Rattle.hotel_tables.proofs.Found.{map_same}
 use Rattle.hotel_tables.proofs.Keyed.{key_total}
 use Rattle.hotel_tables.proofs.Perm.{every_shuffled, apart_permuted}
 use Rattle.hotel_tables.proofs.ReadBack.{read_back, tested_keys, tested_order}
 use Rattle.hotel_tables.proofs.Naturals.{meta_good, kind_good, room_good, stay_good, code_good, card_good, inside_good, note_good}
-use Rattle.hotel_tables.proofs.OfDamage.Undamaged.{undamaged_is_sound}
+use Rattle.hotel_rows.proofs.OfDamage.Undamaged.{undamaged_is_sound}
 
 -- ---- the row of meta
 
@@ -269,51 +251,7 @@ are_desk s db a ids keys fit natural =
       };
     }
 
--- ---- what is counted
-
-counted_rooms : (kind : List ℕ) (ls : List RoomLine) → count_by (is_line_of_kind kind) ls ≡ count_by (λ (row : RoomRow). bytes_eq row.kind kind) (values_of (map room_entry ls))
-counted_rooms kind [] = refl
-counted_rooms kind (l ∷ ls) =
-    count_first (is_line_of_kind kind) l ls
-    ∙ ap (λ n. one_if (is_line_of_kind kind l) + n) (counted_rooms kind ls)
-    ∙ sym (count_first (λ (row : RoomRow). bytes_eq row.kind kind) (room_row l) (values_of (map room_entry ls)))
-
-count_stays : (kind : List ℕ) (n : ℕ) (ls : List StayLine) → count_by (λ l. takes kind n (stay_row l)) ls ≡ count_by (takes kind n) (values_of (map stay_entry ls))
-count_stays kind n [] = refl
-count_stays kind n (l ∷ ls) =
-    count_first (λ l. takes kind n (stay_row l)) l ls ∙ ap (λ m. one_if (takes kind n (stay_row l)) + m) (count_stays kind n ls)
-    ∙ sym (count_first (takes kind n) (stay_row l) (values_of (map stay_entry ls)))
-
--- one more stay is counted
-pub more_stays : (before after : List ((List ℕ × ℕ) × List ℕ)) (ls : List StayLine) (i : ℕ) (d : StayLine) (stay : Stay) → i < length ls
-    → StandsFor before (values_of (map stay_entry (take i ls))) → stay ≡ stay_row (get_or ls i d)
-    → ((kind : List ℕ) (n : ℕ) → counted after kind n ≡ counted before kind n + one_if (takes kind n stay)) → StandsFor after (values_of (map stay_entry (take (i + 1) ls)))
-unfolding nights_taken
-more_stays before after ls i d stay low stands is adds kind n =
-    let p : StayLine → Bool = λ l. takes kind n (stay_row l) in
-    let was : counted before kind n ≡ count_by p (take i ls) = stands kind n ∙ sym (count_stays kind n (take i ls)) in
-    let step : count_by p (take (i + 1) ls) ≡ count_by p (take i ls) + one_if (p (get_or ls i d)) = count_next p ls i d low in
-    adds kind n ∙ ap (λ (s : Stay). counted before kind n + one_if (takes kind n s)) is ∙ ap (λ m. m + one_if (p (get_or ls i d))) was ∙ sym step ∙ count_stays kind n (take (i + 1) ls)
-  where
-    count_next : (p : StayLine → Bool) (ls : List StayLine) (i : ℕ) (d : StayLine) → i < length ls → count_by p (take (i + 1) ls) ≡ count_by p (take i ls) + one_if (p (get_or ls i d))
-    count_next p ls i d low = elim (cases_Bool (p (get_or ls i d))) [
-      | inl yes_is ↦ rw yes_is (count_by_more_yes p ls i d low yes_is)
-      | inr no_is ↦ let e = count_by_more_no p ls i d low no_is in rw no_is (omega (arith, e))
-    ]
-
--- a kind that the rows name, as the rows of the books have it
-named_kind : (kind : List ℕ) (lines : List KindLine) → names_kind kind lines ≡ list_any (λ k. bytes_eq k kind) (map kind_text lines)
-named_kind kind [] = refl
-named_kind kind (l ∷ ls) = ap (λ b. bytes_eq (kind_text l) kind || b) (named_kind kind ls)
-
--- one more kind is known
-pub one_more_known : (before after : List (List ℕ × ℕ)) (lines : List KindLine) (i : ℕ) (d : KindLine) → i < length lines → KnowsKinds before (take i lines)
-    → is_there after (kind_text (get_or lines i d)) ≡ true → ((k : List ℕ) → is_there before k ≡ true → is_there after k ≡ true) → KnowsKinds after (take (i + 1) lines)
-one_more_known before after lines i d low known there others kind named =
-    elim (or_true _ _ (sym (list_any_more (λ line. bytes_eq (kind_text line) kind) lines i d low) ∙ named)) [
-      | inl old ↦ others kind (known kind old)
-      | inr new ↦ subst (λ k. is_there after k ≡ true) ((bytes_eq-Decides (kind_text (get_or lines i d)) kind).0 new) there
-    ]
+-- ---- what is opened
 
 pub opened : (s : Stored) (db : Trees) (counts : Counts) → AreStored s db × AreApartInside db → IsCountedOf s counts × (first_damaged_of s ≡ None) × (all_natural s ≡ true)
     → AreTables db × IsCounted counts.kinds counts.nights (all_rows_in db)
@@ -381,23 +319,3 @@ opens_not old new why reads = record {
   open_on = λ _ _. told_fault Counts (IsTrue new.is_open) why;
   crash = reads.crash;
 }
-
--- ---- the first night of a stay, by the counts
-
-pub night_told : (s : Stored) (counts : Counts) (line : StayLine) (kind : List ℕ) (arrive more to : ℕ) (full : Option ℕ) → IsCountedOf s counts → kind ≡ string_bytes line.kind
-    → arrive ≡ number_of line.arrive → more ≡ rooms_in counts.kinds kind + 1 → to ≡ arrive + 1
-    → full ≡ first_day (is_full (values_of (map stay_entry s.stays.items)) kind more) arrive (to - arrive) → not (is_some full) ≡ has_night s line
-unfolding first_day nights_taken
-night_told s counts line kind arrive more to full h same from rooms next is =
-    let one : to - arrive ≡ 1 = omega (arith, next) in
-    let taken = count_by (takes kind arrive) (values_of (map stay_entry s.stays.items)) in
-    let first : full ≡ cond (nat_le more taken) (Some arrive) None = is ∙ ap (first_day (is_full (values_of (map stay_entry s.stays.items)) kind more) arrive) one in
-    let told : not (is_some full) ≡ nat_le taken (rooms_in counts.kinds kind) = ap (λ o. not (is_some o)) first ∙ by (nat_le more taken) refl in
-    let counted_here : nat_le taken (rooms_in counts.kinds kind) ≡ nat_le (count_by (λ (l : StayLine). takes kind arrive (stay_row l)) s.stays.items) (count_by (is_line_of_kind kind) s.rooms.items) =
-    λ i. nat_le (sym (count_stays kind arrive s.stays.items) i) (h.0 kind i) in
-    told ∙ counted_here ∙ λ i. nat_le (count_by (λ (l : StayLine). takes (same i) (from i) (stay_row l)) s.stays.items) (count_by (is_line_of_kind (same i)) s.rooms.items)
-  where
-    by : (b : Bool) → nat_le more (count_by (takes kind arrive) (values_of (map stay_entry s.stays.items))) ≡ b
-        → not (is_some (cond b (Some arrive) None)) ≡ nat_le (count_by (takes kind arrive) (values_of (map stay_entry s.stays.items))) (rooms_in counts.kinds kind)
-    by true e = grind (arith, nat_tests)
-    by false e = grind (arith, nat_tests)

@@ -11,15 +11,6 @@ pub mod Applied
 pub mod Counted
 pub mod TableBooks
 pub mod Walks
-pub mod Stored
-pub mod Keys
-pub mod Places
-pub mod Damage
-pub mod RowTests
-pub mod Placed
-pub mod NoteRuns
-pub mod Lasts
-pub mod Owners
 pub mod Lines
 pub mod Opening
 pub mod SameSchema

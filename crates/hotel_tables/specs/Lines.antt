@@ -9,13 +9,13 @@ use Rattle.sqlite_value.specs.declared.value.Value.TheVariants.{Null, Int, Text}
 use Rattle.sqlite.specs.Order.{Row, column}
 use Rattle.hotel_tables.specs.declared.lines.MetaLine.{MetaLine}
 use Rattle.hotel_tables.specs.declared.lines.NumberedInside.{NumberedInside}
-use Rattle.hotel_tables.specs.declared.stored.KindLine.{KindLine}
-use Rattle.hotel_tables.specs.declared.stored.RoomLine.{RoomLine}
-use Rattle.hotel_tables.specs.declared.stored.StayLine.{StayLine}
-use Rattle.hotel_tables.specs.declared.stored.CodeLine.{CodeLine}
-use Rattle.hotel_tables.specs.declared.stored.CardLine.{CardLine}
-use Rattle.hotel_tables.specs.declared.stored.InsideLine.{InsideLine}
-use Rattle.hotel_tables.specs.declared.stored.NoteLine.{NoteLine}
+use Rattle.hotel_rows.specs.declared.stored.KindLine.{KindLine}
+use Rattle.hotel_rows.specs.declared.stored.RoomLine.{RoomLine}
+use Rattle.hotel_rows.specs.declared.stored.StayLine.{StayLine}
+use Rattle.hotel_rows.specs.declared.stored.CodeLine.{CodeLine}
+use Rattle.hotel_rows.specs.declared.stored.CardLine.{CardLine}
+use Rattle.hotel_rows.specs.declared.stored.InsideLine.{InsideLine}
+use Rattle.hotel_rows.specs.declared.stored.NoteLine.{NoteLine}
 
 -- a number that may be null
 abbrev pub maybe : Option ℤ → Value

@@ -1,6 +1,6 @@
 -- What is read of the tables when books are opened, and what the reading promises.
-use Rattle.std.specs.Prelude.{◌≡◌, ◌&&◌, ℕ, ℤ, pos, Bool, true, false, List, [], ◌∷◌, map, Option, Some, Result, Ok, Err, IfOk, IfErr, OnOk, IsTrue, Vec, bytes_eq}
-use Rattle.std.specs.List.{list_all, list_any, count_by, AllByRecursion}
+use Rattle.std.specs.Prelude.{◌≡◌, ◌&&◌, ℕ, ℤ, pos, Bool, true, false, List, [], ◌∷◌, map, Some, Result, Ok, Err, IfOk, IfErr, OnOk, IsTrue, Vec}
+use Rattle.std.specs.List.{list_all, AllByRecursion}
 use Rattle.std.specs.declared.alloc.Global.{Global}
 use Rattle.sqlite_value.specs.declared.value.Value.TheVariants.{Int}
 use Rattle.sqlite.specs.Order.{Row, column}
@@ -14,16 +14,16 @@ use Rattle.sqlite.specs.State.{State, HasCleanDisk, Survives}
 use Rattle.keycard_rules.specs.declared.issued.LookFault.{LookFault}
 use Rattle.keycard_rules.specs.declared.issued.LookFault.TheVariants as look
 use Rattle.hotel_core.specs.Model.SoundRooms.{are_in_order}
-use Rattle.hotel_tables.specs.declared.stored.Stored.{Stored}
+use Rattle.hotel_rows.specs.declared.stored.Stored.{Stored}
 use Rattle.hotel_tables.specs.declared.reading.Tables.{Tables}
 use Rattle.hotel_tables.specs.declared.lines.MetaLine.{MetaLine}
 use Rattle.hotel_tables.specs.declared.lines.NumberedInside.{NumberedInside}
-use Rattle.hotel_tables.specs.declared.stored.KindLine.{KindLine}
-use Rattle.hotel_tables.specs.declared.stored.RoomLine.{RoomLine}
-use Rattle.hotel_tables.specs.declared.stored.StayLine.{StayLine}
-use Rattle.hotel_tables.specs.declared.stored.CodeLine.{CodeLine}
-use Rattle.hotel_tables.specs.declared.stored.CardLine.{CardLine}
-use Rattle.hotel_tables.specs.declared.stored.NoteLine.{NoteLine}
+use Rattle.hotel_rows.specs.declared.stored.KindLine.{KindLine}
+use Rattle.hotel_rows.specs.declared.stored.RoomLine.{RoomLine}
+use Rattle.hotel_rows.specs.declared.stored.StayLine.{StayLine}
+use Rattle.hotel_rows.specs.declared.stored.CodeLine.{CodeLine}
+use Rattle.hotel_rows.specs.declared.stored.CardLine.{CardLine}
+use Rattle.hotel_rows.specs.declared.stored.NoteLine.{NoteLine}
 use Rattle.hotel_tables.specs.Schema.{desk_schema}
 use Rattle.hotel_tables.specs.Columns.{meta_columns, kind_columns, room_columns, stay_columns, code_columns, card_columns, inside_columns, note_columns}
 use Rattle.hotel_tables.specs.Lines.{maybe, meta_shown, kind_shown, room_shown, stay_shown, code_shown, card_shown, inside_shown, numbered_columns, numbered_shown, note_shown, AreLines}
@@ -31,14 +31,9 @@ use Rattle.hotel_tables.specs.Lines.{kind_order, room_order, stay_order, code_or
 use Rattle.hotel_tables.specs.Lines.{may_be_natural, room_natural, stay_natural, code_natural, card_natural, inside_natural, note_natural}
 use Rattle.hotel_tables.specs.declared.open_fault.OpenFault.{OpenFault}
 use Rattle.hotel_tables.specs.declared.open_fault.OpenFault.TheVariants as fault
-use Rattle.hotel_tables.specs.declared.counting.Counts.{Counts}
-use Rattle.hotel_tables.specs.declared.stored.InsideLine.{InsideLine}
-use Rattle.hotel_core.specs.KindRooms as kinds
-use Rattle.hotel_core.specs.NightIndex.{StandsFor}
-use Rattle.std.specs.Map.{values_of}
-use Rattle.hotel_tables.specs.Stored.{kind_text, stay_entry}
-use Rattle.hotel_tables.specs.RowTests.{is_line_of_kind}
-use Rattle.hotel_tables.specs.Damage.{first_damaged_of}
+use Rattle.hotel_rows.specs.declared.counting.Counts.{Counts}
+use Rattle.hotel_rows.specs.declared.stored.InsideLine.{InsideLine}
+use Rattle.hotel_rows.specs.Damage.{first_damaged_of}
 use Rattle.hotel_tables.specs.Tables.{HasId, AreApartIds, rows_in}
 use Rattle.hotel_tables.specs.Books.{IsKept, IsBooks, KeepsRows}
 use Rattle.hotel_tables.specs.TableBooks.{IsCounted}
@@ -105,19 +100,6 @@ id_inside l = l.id
 
 abbrev pub line_inside : NumberedInside → InsideLine
 line_inside l = l.line
-
--- one of the rows is of the kind
-abbrev pub names_kind : List ℕ → List KindLine → Bool
-names_kind kind lines = list_any (λ line. bytes_eq (kind_text line) kind) lines
-
--- each kind of the rows is counted
-abbrev pub KnowsKinds : List (List ℕ × ℕ) → List KindLine → Type 0
-KnowsKinds counts lines = (kind : List ℕ) → names_kind kind lines ≡ true → kinds.is_there counts kind ≡ true
-
--- the counts are those of the plain rows
-abbrev pub IsCountedOf : Stored → Counts → Type 0
-IsCountedOf s c =
-    ((kind : List ℕ) → kinds.rooms_in c.kinds kind ≡ count_by (is_line_of_kind kind) s.rooms.items) × (StandsFor c.nights (values_of (map stay_entry s.stays.items)) × KnowsKinds c.kinds s.kinds.items)
 
 -- The plain rows are those of the tables, each in the order of its key, and meta has its one row.
 pub record AreStored (s : Stored) (db : Trees) : Type 0 where

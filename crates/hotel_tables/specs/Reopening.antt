@@ -9,11 +9,11 @@ use Rattle.sqlite.specs.State.{HasCleanDisk, IsLive}
 use Rattle.sqlite.specs.Files.{file_state, IsOpened, Finds}
 use Rattle.sqlite.specs.Closing.{IsCopied}
 use Rattle.hotel_core.specs.Model.Sound.{IsSound}
-use Rattle.hotel_tables.specs.declared.stored.Stored.{Stored}
+use Rattle.hotel_rows.specs.declared.stored.Stored.{Stored}
 use Rattle.hotel_tables.specs.Books.{IsKept, IsBooks}
 use Rattle.hotel_tables.specs.Tables.{AreTables, rows_in}
-use Rattle.hotel_tables.specs.Stored.{rows_of}
-use Rattle.hotel_tables.specs.Damage.{first_damaged_of}
+use Rattle.hotel_rows.specs.Stored.{rows_of}
+use Rattle.hotel_rows.specs.Damage.{first_damaged_of}
 use Rattle.hotel_tables.specs.Opening.{AreStored, HasMetaRow, IsAlwaysClean}
 
 -- What is read of a desk's tables: meta's one row is there, the rows read are those of the tables, and where these are sound no table is damaged.

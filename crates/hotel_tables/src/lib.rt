@@ -4,9 +4,7 @@
 mod apply;
 mod changes;
 mod counted;
-mod counting;
 mod create;
-mod damage;
 mod desk_schema;
 mod files;
 mod from_row;
@@ -25,20 +23,15 @@ mod reading;
 mod same_schema;
 mod statement;
 mod steps;
-mod stored;
 mod system_disk;
 mod table_books;
 mod texts;
 mod walk;
 mod walks;
 
-pub use damage::{first_damaged, undamaged_is_sound};
 pub use files::{FileFault, close_file, open_file};
 pub use laws::{files_are_clean, files_keep_books, memory_is_clean, read_undamaged};
 pub use open_fault::OpenFault;
 pub use path_disk::PathDisk;
-pub use stored::{
-    CardLine, CodeLine, InsideLine, KindLine, NoteLine, RoomLine, StayLine, Stored, TableName,
-};
 pub use system_disk::SystemDisk;
 pub use table_books::TableBooks;

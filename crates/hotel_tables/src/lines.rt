@@ -6,10 +6,10 @@ ghost use Rattle.hotel_tables.specs.Lines as line;
 ghost use Rattle.hotel_tables.specs.Columns as columns;
 ghost use Rattle.hotel_tables.specs.Texts as texts;
 
-use crate::stored::{CardLine, CodeLine, InsideLine, KindLine, NoteLine, RoomLine, StayLine};
 use crate::texts::{
     READ_CARD, READ_CODE, READ_INSIDE, READ_KIND, READ_META, READ_NOTE, READ_ROOM, READ_STAY,
 };
+use hotel_rows::{CardLine, CodeLine, InsideLine, KindLine, NoteLine, RoomLine, StayLine};
 use sqlite::{Error, Row};
 use std::cmp::Ordering;
 

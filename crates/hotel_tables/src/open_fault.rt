@@ -1,5 +1,5 @@
 //! Why books can't be had over a connection.
-use crate::stored::TableName;
+use hotel_rows::TableName;
 
 /// Why a connection gives no books.
 #[derive(Clone, Copy, Debug, PartialEq, Eq)]

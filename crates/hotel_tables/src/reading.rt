@@ -9,7 +9,7 @@ ghost use Rattle.hotel_tables.specs.Lines.{AreLines};
 
 use crate::from_row::fault_of;
 use crate::lines::{Line, MetaLine, NumberedInside, Plain};
-use crate::stored::{CardLine, CodeLine, KindLine, NoteLine, RoomLine, StayLine};
+use hotel_rows::{CardLine, CodeLine, KindLine, NoteLine, RoomLine, StayLine};
 use keycard_rules::LookFault;
 use sqlite::{Alter, Connection, Row};
 use std::alloc::Global;

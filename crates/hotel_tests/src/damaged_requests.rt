@@ -3,17 +3,16 @@
 ghost use Rattle.std.specs.Prelude.{◌<◌};
 
 use crate::damage::{Damaged, Span, each_damaged};
-use crate::desks::{Desk, FIRST_DAY};
+use crate::desks::Desk;
 use crate::requests::{BAD_REQUEST, CHECK_IN, UNREAD_VALUE, answers_so};
+use crate::scenarios::OPENED;
 use std::alloc::Global;
 use std::process::Abort;
 use std::test::Fail;
 
 /// Room 101, and a booking of Ann Lee. The source gives a1 next.
 pub(crate) fn booked(alloc: Global) -> Result<Desk, Fail> {
-    let mut desk = Desk::begun(alloc, &[0xa0, 0xa1], &[101])?;
-    desk.reserve("Ann Lee", FIRST_DAY, 2)?;
-    Ok(desk)
+    Desk::behind(alloc, &[0xa0, 0xa1], &[OPENED])
 }
 
 const NOT_FOUND: &[u8] =

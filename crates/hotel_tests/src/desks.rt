@@ -1,4 +1,7 @@
 //! A desk over books, for the tests of books, lists, imports and tables.
+use crate::line_asks::ask_of;
+use crate::scenarios::{CHECKED_IN, NEXT_CHECKED_IN, OPENED, Step};
+use hotel_asks::Ask;
 use hotel_core::{Books, Command, ListBooks, Reply, step};
 use hotel_nights::{Day, Guest, KindCode, Nights};
 use keycard_rules::{Act, CardNo, Code, Count, Link, ListedWords, LockNote, PartyNo, RoomNo};
@@ -86,17 +89,22 @@ impl Desk {
         Ok(desk)
     }
 
+    /// A desk whose source gives these codes, behind these parts of scenarios.
+    pub fn behind(alloc: Global, codes: &[u64], parts: &[&[Step]]) -> Result<Desk, Fail> {
+        let mut desk = Desk::of_codes(alloc, codes)?;
+        desk.goes_through(parts)?;
+        Ok(desk)
+    }
+
     /// Room 101, where party 1 checked in: code a0, then a1. The source gives a2 and b0 next.
     pub fn of_one_guest(alloc: Global) -> Result<Desk, Fail> {
-        let mut desk = Desk::begun(alloc, &[0xa0, 0xa1, 0xa2, 0xb0], &[101])?;
-        desk.has_a_guest()?;
-        Ok(desk)
+        Desk::behind(alloc, &[0xa0, 0xa1, 0xa2, 0xb0], &[OPENED, CHECKED_IN])
     }
 
     /// The same desk, after party 1 checked out and party 2 checked in there: code a2.
     pub fn of_next_guest(alloc: Global) -> Result<Desk, Fail> {
         let mut desk = Desk::of_one_guest(alloc)?;
-        desk.has_a_next_guest()?;
+        desk.goes_through(&[NEXT_CHECKED_IN])?;
         Ok(desk)
     }
 }
@@ -133,9 +141,47 @@ impl<B: Books> Desk<B> {
         }
     }
 
-    /// A note that is taken.
-    pub fn takes(&mut self, note: LockNote) -> Result<(), Fail> {
-        self.does(&Command::Reported(note))
+    /// What the line asks for is done: a command that is accepted.
+    pub fn told(&mut self, line: &[u8]) -> Result<(), Fail> {
+        match &ask_of(self.alloc, line)? {
+            Ask::Command(command) => self.does(command),
+            Ask::List(_) => Err(Fail::from("a list")),
+        }
+    }
+
+    /// The same of each line.
+    pub fn told_each(&mut self, lines: &[&[u8]]) -> Result<(), Fail> {
+        for line in lines {
+            self.told(line)?;
+        }
+        Ok(())
+    }
+
+    /// What a step of a scenario accepts is done; a list, a file and a refused command are passed over.
+    fn goes_on(&mut self, step: &Step) -> Result<(), Fail> {
+        if let Step::Line(line, answer) = step
+            && !answer.starts_with(b"refused")
+            && let Ask::Command(command) = &ask_of(self.alloc, line)?
+        {
+            self.does(command)?;
+        }
+        Ok(())
+    }
+
+    /// The same of each step of a part.
+    fn goes_through_part(&mut self, part: &[Step]) -> Result<(), Fail> {
+        for step in part {
+            self.goes_on(step)?;
+        }
+        Ok(())
+    }
+
+    /// The same of each part.
+    pub fn goes_through(&mut self, parts: &[&[Step]]) -> Result<(), Fail> {
+        for part in parts {
+            self.goes_through_part(part)?;
+        }
+        Ok(())
     }
 
     pub fn add_room(&mut self, number: u32, kind: KindCode) -> Result<(), Fail> {
@@ -160,86 +206,5 @@ impl<B: Books> Desk<B> {
         let party = party(number)?;
         let room = room(to)?;
         self.does(&Command::CheckIn { party, room })
-    }
-
-    pub fn check_out(&mut self, number: u32) -> Result<(), Fail> {
-        self.does(&Command::CheckOut(party(number)?))
-    }
-
-    pub fn transfer(&mut self, number: u32, to: u32) -> Result<(), Fail> {
-        let party = party(number)?;
-        let room = room(to)?;
-        self.does(&Command::Transfer { party, room })
-    }
-
-    /// Party 1 checks in at room 101.
-    pub fn has_a_guest(&mut self) -> Result<(), Fail> {
-        self.reserve("Ann Lee", FIRST_DAY, 2)?;
-        self.check_in(1, 101)
-    }
-
-    /// Party 1 leaves, and party 2 checks in there.
-    fn has_a_next_guest(&mut self) -> Result<(), Fail> {
-        self.check_out(1)?;
-        self.reserve("Bo", FIRST_DAY, 2)?;
-        self.check_in(2, 101)
-    }
-
-    /// The first card enters room 101 twice.
-    pub fn enters_twice(&mut self) -> Result<(), Fail> {
-        self.has_a_guest()?;
-        self.takes(entered(101, 1, 1, 0xa0, 0xa1)?)?;
-        self.takes(entered(101, 2, 1, 0xa0, 0xa1)?)
-    }
-
-    /// Then it leaves, and the next guest's card enters.
-    pub fn is_entered_by_the_next(&mut self) -> Result<(), Fail> {
-        self.enters_twice()?;
-        self.takes(left(101, 3, 1, 0xa0, 0xa1)?)?;
-        self.has_a_next_guest()?;
-        self.takes(entered(101, 4, 2, 0xa1, 0xa2)?)
-    }
-
-    /// A guest leaves who never entered room 101, and the next one checks in.
-    pub fn leaves_behind(&mut self) -> Result<(), Fail> {
-        self.has_a_guest()?;
-        self.has_a_next_guest()
-    }
-
-    /// Then staff recode the lock to the newest code, and its card enters.
-    pub fn is_recoded(&mut self) -> Result<(), Fail> {
-        let from = code(0xa0)?;
-        let to = code(0xa2)?;
-        self.takes(note(101, 1, Act::Recoded { from, to }, AFTERNOON)?)?;
-        self.takes(entered(101, 2, 2, 0xa1, 0xa2)?)
-    }
-
-    /// A party goes to another room, and comes back to room 101, where another one was.
-    pub fn goes_away_and_back(&mut self) -> Result<(), Fail> {
-        self.reserve("Ann Lee", FIRST_DAY, 2)?;
-        self.reserve("Bo", FIRST_DAY, 2)?;
-        self.check_in(1, 101)?;
-        self.takes(entered(101, 1, 1, 0xa0, 0xa1)?)?;
-        self.takes(left(101, 2, 1, 0xa0, 0xa1)?)?;
-        self.transfer(1, 102)?;
-        self.check_in(2, 101)?;
-        self.check_out(2)?;
-        self.transfer(1, 101)?;
-        self.takes(entered(101, 3, 1, 0xa0, 0xa1)?)
-    }
-
-    /// Then it leaves, and enters by its later cards.
-    pub fn enters_by_later_cards(&mut self) -> Result<(), Fail> {
-        self.takes(left(101, 4, 1, 0xa0, 0xa1)?)?;
-        self.takes(entered(101, 5, 3, 0xa1, 0xa2)?)?;
-        self.takes(left(101, 6, 3, 0xa1, 0xa2)?)?;
-        self.takes(entered(101, 7, 4, 0xa2, 0xa3)?)
-    }
-
-    /// The first card enters room 101 and leaves it.
-    pub fn enters_and_leaves(&mut self) -> Result<(), Fail> {
-        self.has_a_guest()?;
-        self.takes(entered(101, 1, 1, 0xa0, 0xa1)?)?;
-        self.takes(left(101, 2, 1, 0xa0, 0xa1)?)
     }
 }

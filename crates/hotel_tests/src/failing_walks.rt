@@ -1,122 +1,99 @@
 //! Lists over books of which a call fails: each call in turn, for each cause.
-use crate::desks::{Desk, FIRST_DAY, entered, left};
+use crate::desks::Desk;
+use crate::lists::{list_of, write_alone};
 use hotel_core::StoppingBooks;
-use hotel_lists::{FakeWriter, ListFault, arrivals, audit_of, chain_of, in_house, left_behind};
-use hotel_nights::Day;
-use keycard_rules::{LookFault, RoomNo};
+use hotel_lists::{FakeWriter, ListFault};
+use keycard_rules::LookFault;
 use std::alloc::Global;
 use std::process::Abort;
 use std::test::Fail;
 
-const ARRIVALS: &[u8] = b"party,guest,kind,arrive,depart\n4,Di,DBL,2031-05-03,2031-05-04\n";
+/// Room 101 was never entered, and its second guest is in house; the guest of room 102 came and went out; and one more is to
+/// arrive two days later.
+const ALL_LISTS: &[&[u8]] = &[
+    b"begin 2031-05-01",
+    b"add-kind DBL",
+    b"add-room 101 DBL",
+    b"add-room 102 DBL",
+    b"reserve DBL 2031-05-01 2 Ann Lee",
+    b"check-in 1 101",
+    b"check-out 1",
+    b"reserve DBL 2031-05-01 2 Bo",
+    b"check-in 2 101",
+    b"reserve DBL 2031-05-01 1 Cy",
+    b"check-in 3 102",
+    b"entered 102 1 3 b0 b1 2031-05-01T15:00:00",
+    b"left 102 2 3 b0 b1 2031-05-01T16:00:00",
+    b"reserve DBL 2031-05-03 1 Di",
+];
 
-const IN_HOUSE: &[u8] = b"\
+/// A desk of which each list has rows.
+fn listed_desk(alloc: Global) -> Result<Desk, Fail> {
+    let mut desk = Desk::of_codes(alloc, &[0xa0, 0xb0, 0xa1, 0xa2, 0xb1])?;
+    desk.told_each(ALL_LISTS)?;
+    Ok(desk)
+}
+
+/// A list: the line that asks for it, its text, how many calls of the books it makes (one before each row and one behind the
+/// last one; and a room is looked up first), and how many lines stand before the first of these.
+#[derive(Clone, Copy)]
+struct Asked {
+    line: &'static [u8],
+    text: &'static [u8],
+    calls: usize,
+    header: usize,
+}
+
+const ASKED: &[Asked] = &[
+    Asked {
+        line: b"arrivals 2031-05-03",
+        text: b"party,guest,kind,arrive,depart\n4,Di,DBL,2031-05-03,2031-05-04\n",
+        calls: 2,
+        header: 1,
+    },
+    Asked {
+        line: b"in-house",
+        text: b"\
 room,party,guest,kind,depart,secured
 101,2,Bo,DBL,2031-05-03,no
 102,3,Cy,DBL,2031-05-02,yes
-";
-
-const CHAIN: &[u8] = b"\
+",
+        calls: 3,
+        header: 1,
+    },
+    Asked {
+        line: b"chain 101",
+        text: b"\
 place,code,state
 0,0000000000a0,held
 1,0000000000a1,awaited
 2,0000000000a2,awaited
-";
-
-const BEHIND: &[u8] = b"room,held,current,awaited\n101,0000000000a0,0000000000a2,2\n";
-
-const NOTES: &[u8] = b"\
+",
+        calls: 5,
+        header: 0,
+    },
+    Asked {
+        line: b"left-behind",
+        text: b"room,held,current,awaited\n101,0000000000a0,0000000000a2,2\n",
+        calls: 2,
+        header: 1,
+    },
+    Asked {
+        line: b"audit-of 102",
+        text: b"\
 room,count,kind,card,old,new,at
 102,1,in,3,0000000000b0,0000000000b1,2031-05-01T15:00:00
 102,2,out,3,0000000000b0,0000000000b1,2031-05-01T16:00:00
-";
-
-/// The five lists.
-#[derive(Clone, Copy, Debug)]
-enum Asked {
-    Arrivals,
-    InHouse,
-    Chain,
-    Behind,
-    Notes,
-}
-
-const ASKED: &[Asked] = &[
-    Asked::Arrivals,
-    Asked::InHouse,
-    Asked::Chain,
-    Asked::Behind,
-    Asked::Notes,
+",
+        calls: 4,
+        header: 0,
+    },
 ];
 
-impl Desk {
-    /// Room 101 was never entered, and its second guest is in house; the guest of room 102 came and went out; and one more
-    /// is to arrive two days later.
-    fn has_all_lists(&mut self) -> Result<(), Fail> {
-        self.leaves_behind()?;
-        self.reserve("Cy", FIRST_DAY, 1)?;
-        self.check_in(3, 102)?;
-        self.takes(entered(102, 1, 3, 0xb0, 0xb1)?)?;
-        self.takes(left(102, 2, 3, 0xb0, 0xb1)?)?;
-        self.reserve("Di", FIRST_DAY + 2, 1)
-    }
-}
-
-/// A desk of which each list has rows.
-fn listed_desk(alloc: Global) -> Result<Desk, Fail> {
-    let codes = [0xa0, 0xb0, 0xa1, 0xa2, 0xb1];
-    let mut desk = Desk::begun(alloc, &codes, &[101, 102])?;
-    desk.has_all_lists()?;
-    Ok(desk)
-}
-
 impl Asked {
-    fn text(self) -> &'static [u8] {
-        match self {
-            Asked::Arrivals => ARRIVALS,
-            Asked::InHouse => IN_HOUSE,
-            Asked::Chain => CHAIN,
-            Asked::Behind => BEHIND,
-            Asked::Notes => NOTES,
-        }
-    }
-
-    /// How many calls of the books it makes: one before each row and one behind the last one; and a room is looked up first.
-    fn calls(self) -> usize {
-        match self {
-            Asked::Arrivals => 2,
-            Asked::InHouse => 3,
-            Asked::Chain => 5,
-            Asked::Behind => 2,
-            Asked::Notes => 4,
-        }
-    }
-
-    /// How many lines stand before this call: the header, and the rows before it; or none before a room is found.
-    fn lines_before(self, call: usize) -> usize {
-        match self {
-            Asked::Chain | Asked::Notes => call.saturating_sub(1),
-            _ => call,
-        }
-    }
-
-    /// Writes the list.
-    fn write(
-        self,
-        alloc: Global,
-        books: &mut StoppingBooks,
-        writer: &mut FakeWriter,
-    ) -> Result<(), ListFault> {
-        let day = Day::new(FIRST_DAY + 2).ok_or(ListFault::NoRoom)?;
-        let first = RoomNo::new(101).ok_or(ListFault::NoRoom)?;
-        let second = RoomNo::new(102).ok_or(ListFault::NoRoom)?;
-        match self {
-            Asked::Arrivals => arrivals(alloc, books, day, writer),
-            Asked::InHouse => in_house(alloc, books, writer),
-            Asked::Chain => chain_of(alloc, books, first, writer),
-            Asked::Behind => left_behind(alloc, books, writer),
-            Asked::Notes => audit_of(alloc, books, second, writer),
-        }
+    /// How many lines stand before this call.
+    fn lines_before(&self, call: usize) -> usize {
+        self.header.saturating_add(call).saturating_sub(1)
     }
 }
 
@@ -144,46 +121,53 @@ fn fault_of(cause: LookFault) -> ListFault {
 /// The list is written up to the call of this number, which fails.
 fn is_cut(
     rt: &(impl Abort + AllocGlobal),
-    asked: Asked,
+    asked: &Asked,
     books: &mut StoppingBooks,
     call: usize,
     cause: LookFault,
-) {
+) -> Result<(), Fail> {
+    let list = list_of(rt.alloc(), asked.line)?;
     let mut writer = FakeWriter::new(rt.alloc());
-    let written = asked.write(rt.alloc(), books, &mut writer);
+    let written = write_alone(rt.alloc(), &list, books, &mut writer);
     assert!(rt; written == Err(fault_of(cause)));
-    are_first_lines(rt, writer.written(), asked.text(), asked.lines_before(call));
+    are_first_lines(rt, writer.written(), asked.text, asked.lines_before(call));
     assert!(rt; books.failures(cause) == 1);
+    Ok(())
 }
 
 /// The list is written whole, by so many calls of the books.
-fn is_whole(rt: &(impl Abort + AllocGlobal), asked: Asked, books: &mut StoppingBooks) {
+fn is_whole(
+    rt: &(impl Abort + AllocGlobal),
+    asked: &Asked,
+    books: &mut StoppingBooks,
+) -> Result<(), Fail> {
     let calls = books.calls();
+    let list = list_of(rt.alloc(), asked.line)?;
     let mut writer = FakeWriter::new(rt.alloc());
-    let written = asked.write(rt.alloc(), books, &mut writer);
+    let written = write_alone(rt.alloc(), &list, books, &mut writer);
     assert!(rt; written == Ok(()));
-    assert!(rt; writer.written() == asked.text());
+    assert!(rt; writer.written() == asked.text);
     let made = books.calls().saturating_sub(calls);
-    assert!(rt; made == asked.calls() as u64);
+    assert!(rt; made == asked.calls as u64);
+    Ok(())
 }
 
 /// The call of this number fails for this cause; then the list is whole.
 fn fails_at(
     rt: &(impl Abort + AllocGlobal),
-    asked: Asked,
+    asked: &Asked,
     call: usize,
     cause: LookFault,
 ) -> Result<(), Fail> {
     let books = listed_desk(rt.alloc())?.books;
     let mut books = StoppingBooks::new(books, call as u64, cause);
-    is_cut(rt, asked, &mut books, call, cause);
-    is_whole(rt, asked, &mut books);
-    Ok(())
+    is_cut(rt, asked, &mut books, call, cause)?;
+    is_whole(rt, asked, &mut books)
 }
 
 /// Each call of the list fails in turn.
-fn fails_in_turn(rt: &(impl Abort + AllocGlobal), asked: Asked) -> Result<(), Fail> {
-    for earlier in 0..asked.calls() {
+fn fails_in_turn(rt: &(impl Abort + AllocGlobal), asked: &Asked) -> Result<(), Fail> {
+    for earlier in 0..asked.calls {
         let call = earlier.saturating_add(1);
         fails_at(rt, asked, call, LookFault::Memory)?;
         fails_at(rt, asked, call, LookFault::Store)?;
@@ -194,7 +178,7 @@ fn fails_in_turn(rt: &(impl Abort + AllocGlobal), asked: Asked) -> Result<(), Fa
 #[test]
 fn each_call_of_a_list_fails(rt: HostRuntime) -> Result<(), Fail> {
     for asked in ASKED {
-        fails_in_turn(&rt, *asked)?;
+        fails_in_turn(&rt, asked)?;
     }
     Ok(())
 }

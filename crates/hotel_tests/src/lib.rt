@@ -13,6 +13,8 @@ mod damage;
 mod damaged_files;
 #[cfg(test)]
 mod damaged_requests;
+#[cfg(test)]
+mod damaged_rows;
 pub mod desks;
 #[cfg(test)]
 mod failing_requests;

@@ -1,117 +1,104 @@
-//! The lists of the scenarios, over books in memory.
-use crate::chains::{TWO_CODES, chain_reads, walks_end};
-use crate::desks::{Desk, FIRST_DAY, day, room};
-use hotel_core::Command;
+//! The lists of the scenarios, each by its own call, over books in memory.
+use crate::chains::walks_end;
+use crate::desks::{Desk, room};
+use crate::line_asks::ask_of;
+use crate::scenarios::{
+    AWAY_AND_BACK, CHECKED_IN, LEFT_BEHIND_RECODED, NEXT_CHECKED_IN, OPENED, QUOTED_GUEST, Step,
+    TWO_ENTRIES,
+};
+use hotel_asks::{Ask, ListAsk};
+use hotel_core::Walks;
 use hotel_lists::{FakeWriter, ListFault, arrivals, audit_of, chain_of, in_house, left_behind};
-use hotel_nights::{Day, KindCode};
-use keycard_rules::RoomNo;
 use std::alloc::Global;
 use std::io::{Cursor, Write};
 use std::process::Abort;
 use std::test::Fail;
 
-/// Room 101 after two entries of its first card.
-fn two_entries(alloc: Global) -> Result<Desk, Fail> {
-    let mut desk = Desk::begun(alloc, &[0xa0, 0xa1, 0xa2], &[101])?;
-    desk.enters_twice()?;
-    Ok(desk)
+/// The list that a line asks for.
+pub(crate) fn list_of(alloc: Global, line: &[u8]) -> Result<ListAsk, Fail> {
+    match &ask_of(alloc, line)? {
+        Ask::List(list) => Ok(*list),
+        Ask::Command(_) => Err(Fail::from("no list")),
+    }
 }
 
-/// Room 101 after a guest who never entered it, and the next one.
-fn left_behind_desk(alloc: Global) -> Result<Desk, Fail> {
-    let mut desk = Desk::begun(alloc, &[0xa0, 0xa1, 0xa2], &[101])?;
-    desk.leaves_behind()?;
-    Ok(desk)
+/// Writes a list by its own call.
+pub(crate) fn write_alone<B: Walks, W: Write>(
+    alloc: Global,
+    list: &ListAsk,
+    books: &mut B,
+    writer: &mut W,
+) -> Result<(), ListFault> {
+    match list {
+        ListAsk::Arrivals(day) => arrivals(alloc, books, *day, writer),
+        ListAsk::InHouse => in_house(alloc, books, writer),
+        ListAsk::ChainOf(room) => chain_of(alloc, books, *room, writer),
+        ListAsk::LeftBehind => left_behind(alloc, books, writer),
+        ListAsk::AuditOf(room) => audit_of(alloc, books, *room, writer),
+    }
 }
 
-#[test]
-fn two_entries_chain(rt: HostRuntime) -> Result<(), Fail> {
-    let mut desk = two_entries(rt.alloc())?;
-    assert!(rt; chain_reads(rt.alloc(), &mut desk.books, TWO_CODES)?);
-    Ok(())
+/// A list behind parts of scenarios: the codes that the source gives, the line that asks for it, and its text.
+#[derive(Clone, Copy)]
+struct Scene {
+    codes: &'static [u64],
+    parts: &'static [&'static [Step]],
+    line: &'static [u8],
+    text: &'static [u8],
 }
 
-/// The list of the rooms in house reads so.
-fn house_reads(rt: &(impl Abort + AllocGlobal), desk: &mut Desk, text: &[u8]) -> Result<(), Fail> {
-    let mut writer = FakeWriter::new(rt.alloc());
-    in_house(rt.alloc(), &mut desk.books, &mut writer)?;
-    assert!(rt; writer.written() == text);
-    Ok(())
-}
+const CODES: &[u64] = &[0xa0, 0xa1, 0xa2];
 
-/// The list of the rooms in house, as a party comes back and as it enters by its later cards.
-fn away_and_back(rt: &(impl Abort + AllocGlobal), desk: &mut Desk) -> Result<(), Fail> {
-    desk.goes_away_and_back()?;
-    house_reads(
-        rt,
-        desk,
-        b"room,party,guest,kind,depart,secured\n101,1,Ann Lee,DBL,2031-05-03,no\n",
-    )?;
-    desk.enters_by_later_cards()?;
-    house_reads(
-        rt,
-        desk,
-        b"room,party,guest,kind,depart,secured\n101,1,Ann Lee,DBL,2031-05-03,yes\n",
-    )
-}
+/// Room 101's codes, where staff recoded a lock that was left behind.
+const CHAIN: Scene = Scene {
+    codes: CODES,
+    parts: &[OPENED, CHECKED_IN, NEXT_CHECKED_IN, LEFT_BEHIND_RECODED],
+    line: b"chain 101",
+    text: b"place,code,state\n0,0000000000a0,passed\n1,0000000000a1,passed\n2,0000000000a2,held\n",
+};
 
-#[test]
-fn away_and_back_in_house(rt: HostRuntime) -> Result<(), Fail> {
-    let codes = [0xa0, 0xb0, 0xa1, 0xb1, 0xa2, 0xa3];
-    away_and_back(&rt, &mut Desk::begun(rt.alloc(), &codes, &[101, 102])?)
-}
+const SCENES: &[Scene] = &[
+    CHAIN,
+    Scene {
+        line: b"left-behind",
+        text: b"room,held,current,awaited\n",
+        ..CHAIN
+    },
+    Scene {
+        codes: CODES,
+        parts: &[OPENED, CHECKED_IN, NEXT_CHECKED_IN],
+        line: b"left-behind",
+        text: b"room,held,current,awaited\n101,0000000000a0,0000000000a2,2\n",
+    },
+    Scene {
+        codes: CODES,
+        parts: &[OPENED, CHECKED_IN, TWO_ENTRIES],
+        line: b"audit-of 101",
+        text: b"\
+room,count,kind,card,old,new,at
+101,1,in,1,0000000000a0,0000000000a1,2031-05-01T15:00:00
+101,2,in,1,0000000000a0,0000000000a1,2031-05-01T15:00:00
+",
+    },
+    Scene {
+        codes: &[0xa0, 0xb0, 0xa1, 0xb1, 0xa2, 0xa3],
+        parts: &[AWAY_AND_BACK],
+        line: b"in-house",
+        text: b"room,party,guest,kind,depart,secured\n101,1,Ann Lee,DBL,2031-05-03,yes\n",
+    },
+    Scene {
+        codes: &[0xa0],
+        parts: &[QUOTED_GUEST],
+        line: b"arrivals 2031-05-02",
+        text: b"party,guest,kind,arrive,depart\n1,\"Lee, Ann\",DBL,2031-05-01,2031-05-03\n",
+    },
+];
 
-/// The list of a day's arrivals reads so.
-fn arrivals_read(
-    rt: &(impl Abort + AllocGlobal),
-    desk: &mut Desk,
-    day: Day,
-    text: &[u8],
-) -> Result<(), Fail> {
-    let mut writer = FakeWriter::new(rt.alloc());
-    arrivals(rt.alloc(), &mut desk.books, day, &mut writer)?;
-    assert!(rt; writer.written() == text);
-    Ok(())
-}
-
-/// A quoted guest is in the list of each day of the stay.
-fn quoted_guest(rt: &(impl Abort + AllocGlobal), desk: &mut Desk) -> Result<(), Fail> {
-    desk.reserve("Lee, Ann", FIRST_DAY, 2)?;
-    let row = b"party,guest,kind,arrive,depart\n1,\"Lee, Ann\",DBL,2031-05-01,2031-05-03\n";
-    let none = b"party,guest,kind,arrive,depart\n";
-    arrivals_read(rt, desk, day(FIRST_DAY - 1)?, none)?;
-    arrivals_read(rt, desk, day(FIRST_DAY)?, row)?;
-    arrivals_read(rt, desk, day(FIRST_DAY + 1)?, row)?;
-    arrivals_read(rt, desk, day(FIRST_DAY + 2)?, none)
-}
-
-#[test]
-fn quoted_guest_arrives(rt: HostRuntime) -> Result<(), Fail> {
-    quoted_guest(&rt, &mut Desk::begun(rt.alloc(), &[0xa0], &[101])?)
-}
-
-/// The list of room 101's notes reads so.
-fn audit_reads(rt: &(impl Abort + AllocGlobal), desk: &mut Desk, text: &[u8]) -> Result<(), Fail> {
-    let room = room(101)?;
-    let mut writer = FakeWriter::new(rt.alloc());
-    audit_of(rt.alloc(), &mut desk.books, room, &mut writer)?;
-    assert!(rt; writer.written() == text);
-    Ok(())
-}
-
-/// The list of the notes of an entry and a leave.
-fn round_trip(rt: &(impl Abort + AllocGlobal), desk: &mut Desk) -> Result<(), Fail> {
-    desk.enters_and_leaves()?;
-    audit_reads(
-        rt,
-        desk,
-        b"room,count,kind,card,old,new,at\n101,1,in,1,0000000000a0,0000000000a1,2031-05-01T15:00:00\n101,2,out,1,0000000000a0,0000000000a1,2031-05-01T16:00:00\n",
-    )
-}
-
-#[test]
-fn audit_round_trip_notes(rt: HostRuntime) -> Result<(), Fail> {
-    round_trip(&rt, &mut Desk::begun(rt.alloc(), &[0xa0, 0xa1], &[101])?)
+impl Scene {
+    /// The desk whose list it is.
+    fn desk(&self, alloc: Global) -> Result<Desk, Fail> {
+        Desk::behind(alloc, self.codes, self.parts)
+    }
 }
 
 /// The lists of a room that isn't there write nothing.
@@ -128,148 +115,73 @@ fn no_room(rt: &(impl Abort + AllocGlobal), desk: &mut Desk) -> Result<(), Fail>
 
 #[test]
 fn no_room_before_anything_is_written(rt: HostRuntime) -> Result<(), Fail> {
-    no_room(&rt, &mut two_entries(rt.alloc())?)
+    no_room(&rt, &mut CHAIN.desk(rt.alloc())?)
 }
 
 #[test]
 fn a_walk_ends_where_its_sink_stops(rt: HostRuntime) -> Result<(), Fail> {
-    let mut desk = left_behind_desk(rt.alloc())?;
+    let mut desk = CHAIN.desk(rt.alloc())?;
     assert!(rt; walks_end(rt.alloc(), &mut desk.books)?);
     Ok(())
 }
 
-/// Of scenario `desk-day`, the second day's arrivals.
-const DAY_ARRIVALS: &[u8] = b"party,guest,kind,arrive,depart\n2,Bo,DBL,2031-05-02,2031-05-03\n";
-
-/// Of scenario `left-behind-recoded`, the rooms left behind before the recoding.
-const BEHIND: &[u8] = b"room,held,current,awaited\n101,0000000000a0,0000000000a2,2\n";
-
-/// The same list after the recoding.
-const NONE_BEHIND: &[u8] = b"room,held,current,awaited\n";
-
-/// The codes of room 101 after the recoding.
-const CHAIN: &[u8] =
-    b"place,code,state\n0,0000000000a0,passed\n1,0000000000a1,passed\n2,0000000000a2,held\n";
-
-/// A list of a scenario.
-#[derive(Clone, Copy, Debug)]
-enum Scene {
-    DayArrivals,
-    Behind,
-    NoneBehind,
-    Chain,
+/// A scene's desk, and its list.
+#[derive(Drop)]
+struct Listed {
+    desk: Desk,
+    list: ListAsk,
+    text: &'static [u8],
 }
 
-impl Desk {
-    /// Scenario `desk-day` after its first commands.
-    fn has_a_day(&mut self) -> Result<(), Fail> {
-        let single = KindCode::read(b"SGL").ok_or("a kind")?;
-        self.does(&Command::AddKind(single))?;
-        self.add_room(201, single)?;
-        self.reserve("Ann", FIRST_DAY, 2)?;
-        self.reserve("Bo", FIRST_DAY + 1, 1)?;
-        self.check_in(1, 101)?;
-        self.does(&Command::NextDay)
-    }
+/// The desk and the list of a scene.
+fn list_behind(alloc: Global, scene: &Scene) -> Result<Listed, Fail> {
+    Ok(Listed {
+        desk: scene.desk(alloc)?,
+        list: list_of(alloc, scene.line)?,
+        text: scene.text,
+    })
 }
 
-/// Scenario `desk-day` on its second day.
-fn desk_day(alloc: Global) -> Result<Desk, Fail> {
-    let mut desk = Desk::begun(alloc, &[0xa0, 0xb0, 0xc0, 0xa1], &[101, 102])?;
-    desk.has_a_day()?;
-    Ok(desk)
-}
-
-/// Scenario `left-behind-recoded` at its end.
-fn recoded_desk(alloc: Global) -> Result<Desk, Fail> {
-    let mut desk = left_behind_desk(alloc)?;
-    desk.is_recoded()?;
-    Ok(desk)
-}
-
-impl Scene {
-    /// The desk whose list it is.
-    fn desk(self, alloc: Global) -> Result<Desk, Fail> {
-        match self {
-            Scene::DayArrivals => desk_day(alloc),
-            Scene::Behind => left_behind_desk(alloc),
-            Scene::NoneBehind | Scene::Chain => recoded_desk(alloc),
-        }
-    }
-
-    /// The list's text.
-    fn text(self) -> &'static [u8] {
-        match self {
-            Scene::DayArrivals => DAY_ARRIVALS,
-            Scene::Behind => BEHIND,
-            Scene::NoneBehind => NONE_BEHIND,
-            Scene::Chain => CHAIN,
-        }
-    }
-
+impl Listed {
     /// Writes the list.
-    fn write<W: Write>(self, desk: &mut Desk, writer: &mut W) -> Result<(), ListFault> {
-        let room = RoomNo::new(101).ok_or(ListFault::NoRoom)?;
-        let day = Day::new(FIRST_DAY + 1).ok_or(ListFault::NoRoom)?;
-        match self {
-            Scene::DayArrivals => arrivals(desk.alloc, &mut desk.books, day, writer),
-            Scene::Behind | Scene::NoneBehind => left_behind(desk.alloc, &mut desk.books, writer),
-            Scene::Chain => chain_of(desk.alloc, &mut desk.books, room, writer),
-        }
+    fn write<W: Write>(&mut self, writer: &mut W) -> Result<(), ListFault> {
+        write_alone(self.desk.alloc, &self.list, &mut self.desk.books, writer)
     }
 }
-
-const SCENES: [Scene; 4] = [
-    Scene::DayArrivals,
-    Scene::Behind,
-    Scene::NoneBehind,
-    Scene::Chain,
-];
 
 /// The list is written whole.
-fn is_whole(rt: &(impl Abort + AllocGlobal), scene: Scene, desk: &mut Desk) {
+fn is_whole(rt: &(impl Abort + AllocGlobal), listed: &mut Listed) {
     let mut writer = FakeWriter::new(rt.alloc());
-    let written = scene.write(desk, &mut writer);
+    let written = listed.write(&mut writer);
     assert!(rt; written == Ok(()));
-    assert!(rt; writer.written() == scene.text());
+    assert!(rt; writer.written() == listed.text);
 }
 
 /// The write of the byte behind this front fails, and the front was written.
-fn fails_behind(
-    rt: &(impl Abort + AllocGlobal),
-    scene: Scene,
-    desk: &mut Desk,
-    call: u32,
-    front: &[u8],
-) {
+fn fails_behind(rt: &(impl Abort + AllocGlobal), listed: &mut Listed, call: u32, front: &[u8]) {
     let mut writer = FakeWriter::new(rt.alloc()).in_pieces(1).failing_at(call);
-    let written = scene.write(desk, &mut writer);
+    let written = listed.write(&mut writer);
     assert!(rt; written == Err(ListFault::Write));
     assert!(rt; writer.written() == front);
 }
 
 /// The write of each byte fails in turn: the bytes before it were written, and the list after it is whole.
-fn fails_by_bytes(rt: &(impl Abort + AllocGlobal), scene: Scene, desk: &mut Desk) {
-    let text = scene.text();
+fn fails_by_bytes(rt: &(impl Abort + AllocGlobal), listed: &mut Listed) {
+    let text = listed.text;
     let mut call = 0u32;
     for before in 0..text.len() {
         call = call.saturating_add(1);
-        fails_behind(rt, scene, desk, call, &text[..before]);
-        is_whole(rt, scene, desk);
+        fails_behind(rt, listed, call, &text[..before]);
+        is_whole(rt, listed);
     }
-}
-
-/// Each byte of each list.
-fn each_fails_by_bytes(rt: &(impl Abort + AllocGlobal)) -> Result<(), Fail> {
-    for scene in SCENES {
-        fails_by_bytes(rt, scene, &mut scene.desk(rt.alloc())?);
-    }
-    Ok(())
 }
 
 #[test]
 fn each_byte_whose_write_fails_ends_a_front(rt: HostRuntime) -> Result<(), Fail> {
-    each_fails_by_bytes(&rt)
+    for scene in SCENES {
+        fails_by_bytes(&rt, &mut list_behind(rt.alloc(), scene)?);
+    }
+    Ok(())
 }
 
 /// These bytes of a list are whole rows.
@@ -278,84 +190,84 @@ fn are_rows(taken: &[u8]) -> bool {
 }
 
 /// Writes a list on a writer that takes no memory, of which whole rows are written where it ends by a fault.
-fn writes_rows(
-    rt: &(impl Abort + AllocGlobal),
-    scene: Scene,
-    desk: &mut Desk,
-) -> Result<(), ListFault> {
+fn writes_rows(rt: &(impl Abort + AllocGlobal), listed: &mut Listed) -> Result<(), ListFault> {
     let mut array = [0; 256];
     let mut writer = Cursor::new(array.as_mut_slice());
-    let written = scene.write(desk, &mut writer);
+    let written = listed.write(&mut writer);
     let length = writer.position() as usize;
     let taken = &array[..length.min(256)];
-    assert!(rt; scene.text().starts_with(taken), "{scene:?}");
+    assert!(rt; listed.text.starts_with(taken));
     let is_right = match written {
-        Ok(()) => taken.len() == scene.text().len(),
+        Ok(()) => taken.len() == listed.text.len(),
         Err(_) => are_rows(taken),
     };
-    assert!(rt; is_right, "{scene:?}");
+    assert!(rt; is_right);
     written
 }
 
 /// A list that found no memory has written whole rows and says so, and the next one is whole.
-fn is_whole_or_in_rows(rt: &(impl Abort + AllocGlobal), scene: Scene, desk: &mut Desk) {
-    match writes_rows(rt, scene, desk) {
-        Ok(()) => {}
-        Err(fault) => {
-            assert!(rt; fault == ListFault::Memory);
-            is_whole(rt, scene, desk);
-        }
+fn is_whole_or_in_rows(rt: &(impl Abort + AllocGlobal), listed: &mut Listed) {
+    if let Err(fault) = writes_rows(rt, listed) {
+        assert!(rt; fault == ListFault::Memory);
+        is_whole(rt, listed);
     }
-}
-
-/// Each list.
-fn each_is_whole_or_in_rows(rt: &(impl Abort + AllocGlobal)) -> Result<(), Fail> {
-    for scene in SCENES {
-        is_whole_or_in_rows(rt, scene, &mut scene.desk(rt.alloc())?);
-    }
-    Ok(())
 }
 
 /// Each growth refused in turn: `rt try --test --fail-alloc N`, for N from 1 on. A list that found no memory has written
 /// whole rows and says so, and the next one is whole. No assertion fails; a desk that found no memory ends the test.
 #[test]
 fn a_list_is_whole_or_in_whole_rows(rt: HostRuntime) -> Result<(), Fail> {
-    each_is_whole_or_in_rows(&rt)
+    for scene in SCENES {
+        is_whole_or_in_rows(&rt, &mut list_behind(rt.alloc(), scene)?);
+    }
+    Ok(())
 }
 
 /// The list of room 101's codes ends so, on this writer.
 fn chain_ends(
     rt: &(impl Abort + AllocGlobal),
-    desk: &mut Desk,
+    listed: &mut Listed,
     mut writer: FakeWriter,
     outcome: Result<(), ListFault>,
     text: &[u8],
 ) {
-    let written = Scene::Chain.write(desk, &mut writer);
+    let written = listed.write(&mut writer);
     assert!(rt; written == outcome);
     assert!(rt; writer.written() == text);
 }
 
 /// The same list on slow, interrupted and stuck writers: its header is one write, and its rows are another.
-fn chains_end(rt: &(impl Abort + AllocGlobal), desk: &mut Desk) {
+fn chains_end(rt: &(impl Abort + AllocGlobal), listed: &mut Listed) {
     let alloc = rt.alloc();
     let failed = Err(ListFault::Write);
     let header = b"place,code,state\n";
-    chain_ends(rt, desk, FakeWriter::new(alloc).in_pieces(1), Ok(()), CHAIN);
+    chain_ends(
+        rt,
+        listed,
+        FakeWriter::new(alloc).in_pieces(1),
+        Ok(()),
+        CHAIN.text,
+    );
     let slow = FakeWriter::new(alloc).interrupted(999);
-    chain_ends(rt, desk, slow, Ok(()), CHAIN);
+    chain_ends(rt, listed, slow, Ok(()), CHAIN.text);
     let slow = FakeWriter::new(alloc).interrupted(1000);
-    chain_ends(rt, desk, slow, failed, b"");
+    chain_ends(rt, listed, slow, failed, b"");
     let slow = FakeWriter::new(alloc).interrupted_before_each(499);
-    chain_ends(rt, desk, slow, Ok(()), CHAIN);
+    chain_ends(rt, listed, slow, Ok(()), CHAIN.text);
     let slow = FakeWriter::new(alloc).interrupted_before_each(500);
-    chain_ends(rt, desk, slow, failed, header);
-    chain_ends(rt, desk, FakeWriter::new(alloc).stuck_at(1), failed, b"");
-    chain_ends(rt, desk, FakeWriter::new(alloc).stuck_at(2), failed, header);
+    chain_ends(rt, listed, slow, failed, header);
+    chain_ends(rt, listed, FakeWriter::new(alloc).stuck_at(1), failed, b"");
+    chain_ends(
+        rt,
+        listed,
+        FakeWriter::new(alloc).stuck_at(2),
+        failed,
+        header,
+    );
 }
 
 #[test]
 fn slow_interrupted_and_stuck_writers(rt: HostRuntime) -> Result<(), Fail> {
-    chains_end(&rt, &mut Scene::Chain.desk(rt.alloc())?);
+    chains_end(&rt, &mut list_behind(rt.alloc(), &CHAIN)?);
     Ok(())
 }

@@ -3,7 +3,7 @@
 mod commands_alone;
 
 use crate::desks::Desk;
-use crate::scenario_runs::{desk_of, expected, scenario_holds, step_holds};
+use crate::scenario_runs::{expected, scenario_holds, step_holds};
 use crate::scenarios::{
     CHECKED_IN, OF_FILES, OF_LOCKS, OF_THE_DESK, OPENED, Scenario, Step, TWO_NOTES,
 };
@@ -16,57 +16,31 @@ use std::process::Abort;
 use std::test::Fail;
 
 /// Each of the scenarios holds over empty books in memory.
-fn scenarios_hold(rt: &(impl Abort + AllocGlobal), scenarios: &[Scenario]) -> Result<(), Fail> {
+fn scenarios_hold(alloc: Global, scenarios: &[Scenario]) -> Result<(), Fail> {
     for scenario in scenarios {
-        let books = ListBooks::empty(rt.alloc());
-        assert!(rt;
-            scenario_holds(rt.alloc(), books, scenario)?,
-            "{}",
-            scenario.name
-        );
+        scenario_holds(alloc, ListBooks::empty(alloc), scenario)?;
     }
     Ok(())
 }
 
 #[test]
 fn scenarios_of_locks(rt: HostRuntime) -> Result<(), Fail> {
-    scenarios_hold(&rt, &OF_LOCKS)
+    scenarios_hold(rt.alloc(), &OF_LOCKS)
 }
 
 #[test]
 fn scenarios_of_files(rt: HostRuntime) -> Result<(), Fail> {
-    scenarios_hold(&rt, &OF_FILES)
+    scenarios_hold(rt.alloc(), &OF_FILES)
 }
 
 #[test]
 fn scenarios_of_the_desk(rt: HostRuntime) -> Result<(), Fail> {
-    scenarios_hold(&rt, &OF_THE_DESK)
-}
-
-/// Carries out the steps of a part, each of which answers what it says, or the test ends.
-fn carry_out_part(desk: &mut Desk, part: &[Step]) -> Result<(), Fail> {
-    for step in part {
-        let mut writer = FakeWriter::new(desk.alloc);
-        let mut faults = FakeWriter::new(desk.alloc);
-        desk.carry_out(step, &mut writer, &mut faults)?;
-        if writer.written() != expected(step).0 {
-            return Err(Fail::from("another answer"));
-        }
-    }
-    Ok(())
-}
-
-/// Party 1 is checked in at room 101.
-fn checks_in(desk: &mut Desk) -> Result<(), Fail> {
-    carry_out_part(desk, OPENED)?;
-    carry_out_part(desk, CHECKED_IN)
+    scenarios_hold(rt.alloc(), &OF_THE_DESK)
 }
 
 /// A desk in memory on which party 1 is checked in at room 101.
 fn checked_in(alloc: Global) -> Result<Desk, Fail> {
-    let mut desk = desk_of(alloc, ListBooks::empty(alloc), &[0xa0], 0xa1)?;
-    checks_in(&mut desk)?;
-    Ok(desk)
+    Desk::behind(alloc, &[0xa0, 0xa1], &[OPENED, CHECKED_IN])
 }
 
 /// How a writer goes wrong: it takes so many bytes a call, and the call of this number fails or takes none.

@@ -101,27 +101,25 @@ pub fn step_holds<B: Walks>(desk: &mut Desk<B>, step: &Step) -> Result<bool, Fai
     Ok(writer.written() == output && faults.written() == fault && status == wanted)
 }
 
-/// Whether the steps of a part of a scenario hold in turn.
-fn part_holds<B: Walks>(desk: &mut Desk<B>, part: &[Step]) -> Result<bool, Fail> {
+/// The steps of a part of this scenario hold in turn, or the test fails by its name.
+fn part_holds<B: Walks>(desk: &mut Desk<B>, part: &[Step], name: &'static str) -> Result<(), Fail> {
     for step in part {
         if !step_holds(desk, step)? {
-            return Ok(false);
+            return Err(Fail::from(name));
         }
     }
-    Ok(true)
+    Ok(())
 }
 
-/// Whether the scenario holds over these empty books.
+/// The scenario holds over these empty books, or the test fails by its name.
 pub fn scenario_holds<B: Walks + Drop>(
     alloc: Global,
     books: B,
     scenario: &Scenario,
-) -> Result<bool, Fail> {
+) -> Result<(), Fail> {
     let mut desk = desk_of(alloc, books, scenario.codes, scenario.last)?;
     for part in scenario.parts {
-        if !part_holds(&mut desk, part)? {
-            return Ok(false);
-        }
+        part_holds(&mut desk, part, scenario.name)?;
     }
-    Ok(true)
+    Ok(())
 }

@@ -1,7 +1,7 @@
 //! Scripts from bytes to bytes, and readers and writers that go wrong.
 
 mod asked_lines;
-mod chains_beside;
+mod command_runs;
 mod damaged_scripts;
 mod failing_walks;
 mod failing_writes;

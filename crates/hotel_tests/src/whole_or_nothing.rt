@@ -17,7 +17,7 @@ const ROOMS: [u32; 15] = [1, 2, 3, 4, 5, 6, 7, 8, 9, 10, 11, 12, 13, 14, 15];
 /// has a booking.
 fn booked(alloc: Global) -> Result<Desk, Fail> {
     let mut desk = Desk::begun(alloc, &CODES, &ROOMS)?;
-    desk.reserve("Ada", FIRST_DAY, 1)?;
+    desk.told(b"reserve DBL 2031-05-01 1 Ada")?;
     Ok(desk)
 }
 
@@ -85,7 +85,7 @@ fn has_note<A: Abort>(rt: &A, books: &mut ListBooks, taken: bool) -> Result<(), 
 
 /// Its card enters the room, wholly or not at all.
 fn enters<A: Abort>(rt: &A, desk: &mut Desk) -> Result<(), Fail> {
-    desk.check_in(1, 7)?;
+    desk.told(b"check-in 1 7")?;
     let note = entered(7, 1, 1, 7, 100)?;
     let taken = is_done(rt, desk, &Command::Reported(note));
     has_note(rt, &mut desk.books, taken)

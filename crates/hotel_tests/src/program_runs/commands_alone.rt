@@ -1,9 +1,8 @@
 //! One command that is carried out alone, on writers that fail: it stands.
-use super::carry_out_part;
 use crate::desks::{Desk, party, room};
-use crate::scenario_runs::{desk_of, step_holds};
+use crate::scenario_runs::step_holds;
 use crate::scenarios::{OPENED, Step};
-use hotel_core::{Command, ListBooks};
+use hotel_core::Command;
 use hotel_lists::FakeWriter;
 use hotel_program::run_one;
 use std::process::Abort;
@@ -41,8 +40,7 @@ fn checks_in(
     let alloc = rt.alloc();
     let mut writer = writer;
     let mut faults = FakeWriter::new(alloc);
-    let mut desk = desk_of(alloc, ListBooks::empty(alloc), &[0xa0], 0xa1)?;
-    carry_out_part(&mut desk, OPENED)?;
+    let mut desk = Desk::behind(alloc, &[0xa0, 0xa1], &[OPENED])?;
     let ended = check_in(&mut desk, &mut writer, &mut faults)?;
     assert!(rt; (ended, faults.written()) == (status, told));
     assert!(rt; writer.written() == written);

@@ -1,7 +1,7 @@
 use Rattle.std.proofs.Common.{◌≤◌, length, sym, ◌∙◌, arith}
 use Rattle.std.specs.Ordering.{int_cmp}
 use Rattle.std.proofs.lemmas.Bool.Decides.{nat_tests}
-use Rattle.hotel_tables.proofs.OfDamage.Rising.{last_in_order}
+use Rattle.hotel_rows.proofs.OfDamage.Rising.{last_in_order}
 use Rattle.hotel_tables.proofs.opening.numbers_rise.Goals as goal
 
 pub returns : goal.returns

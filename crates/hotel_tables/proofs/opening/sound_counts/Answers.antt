@@ -1,5 +1,5 @@
 use Rattle.std.proofs.Common.{◌≡◌, ◌∙◌, sym}
-use Rattle.hotel_tables.specs.Damage.{first_damaged_of}
+use Rattle.hotel_rows.specs.Damage.{first_damaged_of}
 use Rattle.hotel_tables.proofs.Opened.{fault_fits}
 use Rattle.hotel_tables.proofs.opening.sound_counts.Goals as goal
 

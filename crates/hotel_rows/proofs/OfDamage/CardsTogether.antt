@@ -1,0 +1,82 @@
+-- The rules of cards as tests of each row.
+use Rattle.std.proofs.Common.{◌≡◌, ℕ, Bool, true, false, ◌&&◌, ◌==◌, List, [], ◌∷◌, map, length, Option, Some, None, refl, sym, ap, ◌∙◌, nat_cmp}
+use Rattle.std.specs.Prelude.{nat_le, is_some, not, ◌||◌, option_map}
+use Rattle.std.specs.List.{list_all, list_any}
+use Rattle.keycard_rules.specs.declared.card.Card.{Card}
+use Rattle.hotel_nights.specs.declared.stay.Stay.{Stay}
+use Rattle.hotel_core.specs.declared.books.rows.RoomRow.{RoomRow}
+use Rattle.hotel_core.specs.declared.books.rows.CodeRow.{CodeRow}
+use Rattle.hotel_core.specs.Model.Words.{said_of}
+use Rattle.hotel_core.specs.Model.Rows.{at_number}
+use Rattle.hotel_core.specs.Model.Cases.{room_of_state}
+use Rattle.hotel_core.specs.Model.Notes.{same_link}
+use Rattle.hotel_core.specs.Model.SoundRooms.{are_in_order, count_up}
+use Rattle.hotel_core.specs.Model.SoundCards.{card_parties_there, links_are_neighbours, links_of_one_party, neighbours_are_links, newest_of_party, last_cards_newest, code_is, stands_at, is_newest, owns_newest, has_newest}
+use Rattle.hotel_core.proofs.OfTables.RowTests.{all_mapped}
+use Rattle.hotel_rows.specs.declared.stored.Stored.{Stored}
+use Rattle.hotel_rows.specs.Stored.{number_of, rows_of, card_entry, card_row, link_row, code_entry, room_entry, stay_entry}
+use Rattle.hotel_rows.specs.Keys.{are_numbered, card_key}
+use Rattle.hotel_rows.specs.Damage.{card_holds}
+use Rattle.hotel_rows.specs.RowTests.{card_fits, agrees, is_brought, is_owned, has_owner, has_last, links_hold}
+use Rattle.hotel_rows.proofs.OfDamage.RowsTogether.{keys_mapped, length_mapped, all_alike, left_and}
+use Rattle.hotel_rows.proofs.OfDamage.StaysTogether.{own_keys}
+
+numbers_joined : (o e u w : Bool) → e ≡ true → (o && ((e && u) && w)) ≡ ((o && u) && w)
+numbers_joined true e u w is = ap (λ z. (z && u) && w) is
+numbers_joined false e u w is = refl
+
+any_mapped : {L X : Type 0} (t : X → Bool) (f : L → X) (ls : List L) → list_any t (map f ls) ≡ list_any (λ l. t (f l)) ls
+any_mapped t f [] = refl
+any_mapped t f (l ∷ ls) = ap (λ b. t (f l) || b) (any_mapped t f ls)
+
+said_alike : {X Y : Type 0} (o : Option X) (d : Y) (f g : X → Y) → ((x : X) → f x ≡ g x) → said_of o d f ≡ said_of o d g
+said_alike (Some x) d f g e = e x
+said_alike None d f g e = refl
+
+agree_together : (s : Stored) → links_of_one_party (rows_of s) ≡ list_all (agrees s) s.cards.items
+agree_together s =
+    all_mapped (λ (e : ℕ × Card). list_all (λ (f : ℕ × Card). not (same_link e.1.link f.1.link) || (e.1.party == f.1.party)) (rows_of s).cards) card_entry s.cards.items
+    ∙ all_alike _ (agrees s) s.cards.items (λ line. all_mapped (λ (f : ℕ × Card). not (same_link (link_row line) f.1.link) || (number_of line.party == f.1.party)) card_entry s.cards.items)
+
+brought_together : (s : Stored) → neighbours_are_links (rows_of s) ≡ list_all (is_brought s) s.codes.items
+brought_together s =
+    all_mapped (λ (e : ℕ × CodeRow). (e.1.place == 0) || list_any (λ (c : ℕ × Card). c.1.link.new_code == e.0) (rows_of s).cards) code_entry s.codes.items
+    ∙ all_alike _ (is_brought s) s.codes.items (λ line. ap (λ b. (number_of line.place == 0) || b) (any_mapped (λ (c : ℕ × Card). c.1.link.new_code == number_of line.code) card_entry s.cards.items))
+
+owners_together : (s : Stored) → newest_of_party (rows_of s) ≡ list_all (has_owner s) s.rooms.items
+owners_together s =
+    all_mapped (λ (e : ℕ × RoomRow). said_of e.1.party true (owns_newest (rows_of s) e.1.room)) room_entry s.rooms.items
+    ∙ all_alike _ (has_owner s) s.rooms.items (λ line.
+    said_alike (option_map number_of line.party) true (owns_newest (rows_of s) (number_of line.room)) (λ party. list_all (is_owned s (number_of line.room) party) s.cards.items)
+    (λ party. all_mapped (λ (e : ℕ × Card). not (is_newest (rows_of s) (number_of line.room) e.1.link) || (e.1.party == party)) card_entry s.cards.items))
+
+lasts_together : (s : Stored) → last_cards_newest (rows_of s) ≡ list_all (has_last s) s.stays.items
+lasts_together s = all_mapped (λ (e : ℕ × Stay). said_of (room_of_state e.1.state) true (has_newest (rows_of s) e.1.party)) stay_entry s.stays.items
+
+joined : (a b c d e f : Bool) → (((((a && b) && c) && d) && e) && f) ≡ ((a && b) && (((c && d) && e) && f))
+joined true true c d e f = refl
+joined true false c d e f = refl
+joined false b c d e f = refl
+
+-- the rules of cards are tests of the keys and of each row
+pub cards_together : (s : Stored) → card_holds s ≡ (are_numbered (map card_key s.cards.items) && list_all (λ card. card_fits (rows_of s) (card_row card)) s.cards.items && links_hold s)
+cards_together s =
+    let lines = s.cards.items in
+    let rows = rows_of s in
+    let ks = map card_key lines in
+    let o = are_numbered ks in
+    let own = list_all (λ (e : ℕ × Card). e.1.number == e.0) rows.cards in
+    ap (λ keys. are_in_order nat_cmp keys && (own && count_up 1 keys && nat_le (length rows.cards) 9999999) && card_parties_there rows && links_are_neighbours rows && links_of_one_party rows && neighbours_are_links rows && newest_of_party rows && last_cards_newest rows)
+    (keys_mapped card_key card_row lines)
+    ∙ ap (λ n. are_in_order nat_cmp ks && (own && count_up 1 ks && nat_le n 9999999) && card_parties_there rows && links_are_neighbours rows && links_of_one_party rows && neighbours_are_links rows && newest_of_party rows && last_cards_newest rows)
+    (length_mapped card_entry lines ∙ sym (length_mapped card_key lines))
+    ∙ ap (λ b. b && card_parties_there rows && links_are_neighbours rows && links_of_one_party rows && neighbours_are_links rows && newest_of_party rows && last_cards_newest rows)
+    (numbers_joined (are_in_order nat_cmp ks) own (count_up 1 ks) (nat_le (length ks) 9999999) (own_keys card_key card_row (λ (card : Card). card.number) (λ line. refl) lines))
+    ∙ ap (λ b. b && links_of_one_party rows && neighbours_are_links rows && newest_of_party rows && last_cards_newest rows)
+    (left_and o card_entry (λ (e : ℕ × Card). code_is rows e.1.link.new_code (λ new. stands_at rows new.room e.1.link)) _ lines _
+    (ap (λ b. o && b) (all_mapped (λ (e : ℕ × Card). is_some (at_number rows.stays e.1.party)) card_entry lines)))
+    ∙ ap (λ b. o && list_all (λ card. card_fits rows (card_row card)) lines && b && neighbours_are_links rows && newest_of_party rows && last_cards_newest rows) (agree_together s)
+    ∙ ap (λ b. o && list_all (λ card. card_fits rows (card_row card)) lines && list_all (agrees s) lines && b && newest_of_party rows && last_cards_newest rows) (brought_together s)
+    ∙ ap (λ b. o && list_all (λ card. card_fits rows (card_row card)) lines && list_all (agrees s) lines && list_all (is_brought s) s.codes.items && b && last_cards_newest rows) (owners_together s)
+    ∙ ap (λ b. o && list_all (λ card. card_fits rows (card_row card)) lines && list_all (agrees s) lines && list_all (is_brought s) s.codes.items && list_all (has_owner s) s.rooms.items && b) (lasts_together s)
+    ∙ joined o (list_all (λ card. card_fits rows (card_row card)) lines) (list_all (agrees s) lines) (list_all (is_brought s) s.codes.items) (list_all (has_owner s) s.rooms.items) (list_all (has_last s) s.stays.items)

@@ -1,0 +1,82 @@
+-- Codes put at their places, from the last one on.
+use Rattle.std.proofs.Common.{◌≡◌, ℕ, pos, ◌+◌, ◌-◌, ◌<◌, ◌^◌, Bool, true, false, ◌==◌, ◌&&◌, List, ◌∷◌, map, length, drop, get_or, refl, sym, ap, ◌∙◌, nat_cmp, arith}
+use Rattle.std.specs.Prelude.{nat_lt, is_some}
+use Rattle.std.specs.List.{list_all, count_by}
+use Rattle.std.specs.Map.{keys_of, values_of}
+use Rattle.std.specs.BTreeMap.{insert_entry}
+use Rattle.std.proofs.lemmas.List.{drop_more}
+use Rattle.hotel_nights.specs.Block.{one_if}
+use Rattle.hotel_core.specs.declared.books.rows.CodeRow.{CodeRow}
+use Rattle.hotel_core.specs.declared.books.rows.RoomRow.{RoomRow}
+use Rattle.hotel_core.specs.Model.Words.{when}
+use Rattle.hotel_core.specs.Model.Rows.{at_number, codes_by_place}
+use Rattle.hotel_core.specs.Model.SoundRooms.{are_in_order, count_up}
+use Rattle.hotel_core.specs.Model.SoundCards.{places_once, code_rooms_there}
+use Rattle.hotel_core.proofs.OfTables.StayCounts.{count_first}
+use Rattle.hotel_core.proofs.OfTables.RowTests.{all_mapped}
+use Rattle.hotel_rows.specs.declared.damage.placed.Placed.{Placed}
+use Rattle.hotel_rows.specs.declared.stored.CodeLine.{CodeLine}
+use Rattle.hotel_rows.specs.declared.stored.Stored.{Stored}
+use Rattle.hotel_rows.specs.Stored.{number_of, code_row, code_entry, room_entry, rows_of}
+use Rattle.hotel_rows.specs.Keys.{code_key}
+use Rattle.hotel_rows.specs.Placed.{places_in, listed_in, PlacesOf, placed_as_due}
+use Rattle.hotel_rows.specs.Damage.{code_holds}
+use Rattle.hotel_rows.specs.RowTests.{code_fits}
+use Rattle.hotel_rows.proofs.OfDamage.RowsTogether.{keys_mapped, all_and, and_more, all_alike}
+
+-- what stands past the end of a list of codes
+abbrev pub no_code : CodeLine
+no_code = record { code = pos 0; room = pos 0; place = pos 0 }
+
+turned : (a b : ℕ) → a + b ≡ b + a
+turned a b = omega arith
+
+-- a code more, before the others
+pub placed_first : (before after : List (ℕ × Placed)) (line : CodeLine) (lines : List CodeLine) → PlacesOf before lines
+    → ((r : ℕ) → places_in after r ≡ when (number_of line.room == r) (λ es. insert_entry nat_cmp es (number_of line.place) (number_of line.code)) (places_in before r))
+    → ((r : ℕ) → listed_in after r ≡ listed_in before r + one_if (number_of line.room == r)) → PlacesOf after (line ∷ lines)
+placed_first before after line lines is places listed r = (
+  places r ∙ ap (λ es. when (number_of line.room == r) (λ es. insert_entry nat_cmp es (number_of line.place) (number_of line.code)) es) (is r).0,
+  listed r ∙ ap (λ n. n + one_if (number_of line.room == r)) (is r).1
+      ∙ turned (count_by (λ (row : CodeRow). row.room == r) (values_of (map code_entry lines))) (one_if (number_of line.room == r))
+      ∙ sym (count_first (λ (row : CodeRow). row.room == r) (code_row line) (values_of (map code_entry lines))),
+)
+
+-- one element more of a list's end
+pub at_back : {X : Type 0} (xs : List X) (k : ℕ) (d : X) → k < length xs → get_or xs (length xs - 1 - k) d ∷ drop (length xs - k) xs ≡ drop (length xs - (k + 1)) xs
+at_back xs k d low =
+    let i = length xs - (k + 1) in
+    let one : length xs - 1 - k ≡ i = omega (arith, low) in
+    let two : length xs - k ≡ i + 1 = omega (arith, low) in
+    ap (λ n. get_or xs n d ∷ drop (length xs - k) xs) one ∙ ap (λ n. get_or xs i d ∷ drop n xs) two ∙ sym (drop_more xs i d (omega (arith, low)))
+
+-- the rule on the places of all rooms
+pub places_as_due : (s : Stored) (placed : List (ℕ × Placed)) → PlacesOf placed s.codes.items → places_once (rows_of s) ≡ list_all (placed_as_due placed) s.rooms.items
+places_as_due s placed is =
+    all_mapped (λ (e : ℕ × RoomRow). count_up 0 (keys_of (codes_by_place (map code_entry s.codes.items) e.1.room)) && (length (values_of (codes_by_place (map code_entry s.codes.items) e.1.room)) == e.1.codes)
+    && (count_by (λ (row : CodeRow). row.room == e.1.room) (values_of (map code_entry s.codes.items)) == e.1.codes)) room_entry s.rooms.items
+    ∙ all_alike _ (placed_as_due placed) s.rooms.items (λ line.
+    let r = number_of line.room in
+    ap (λ es. count_up 0 (keys_of es) && (length (values_of es) == number_of line.codes) && (count_by (λ (row : CodeRow). row.room == r) (values_of (map code_entry s.codes.items)) == number_of line.codes)) (sym (is r).0)
+    ∙ ap (λ n. count_up 0 (keys_of (places_in placed r)) && (length (values_of (places_in placed r)) == number_of line.codes) && (n == number_of line.codes)) (sym (is r).1))
+
+-- the rules of codes are a test of each code, and one of each room
+pub codes_together : (s : Stored) → code_holds s ≡ (are_in_order nat_cmp (map code_key s.codes.items) && list_all (code_fits (rows_of s)) s.codes.items && places_once (rows_of s))
+codes_together s =
+    let lines = s.codes.items in
+    let rows = rows_of s in
+    let o = are_in_order nat_cmp (map code_key lines) in
+    ap (λ ks. are_in_order nat_cmp ks && list_all (λ code. nat_lt code (2 ^ 48)) ks && code_rooms_there rows && places_once rows) (keys_mapped code_key code_row lines)
+    ∙ ap (λ b. b && places_once rows)
+    (and_more o (list_all (λ code. nat_lt code (2 ^ 48)) (map code_key lines)) (code_rooms_there rows)
+    ∙ ap (λ b. o && b) (
+    ap (λ b. b && code_rooms_there rows) (all_mapped (λ code. nat_lt code (2 ^ 48)) code_key lines)
+    ∙ all_and (λ line. nat_lt (number_of line.code) (2 ^ 48)) _ lines _ (all_mapped (λ (e : ℕ × CodeRow). is_some (at_number rows.rooms e.1.room)) code_entry lines)))
+
+parts : (a b : Bool) → (a && b) ≡ true → (a ≡ true) × (b ≡ true)
+parts true b h = (refl, h)
+parts false b h = absurd (let w : ◌≡◌ {A = Bool} false true = h in cc)
+
+-- where the rules of codes hold, the places of each room's codes are as due
+pub due_of_codes : (s : Stored) (placed : List (ℕ × Placed)) → PlacesOf placed s.codes.items → code_holds s ≡ true → list_all (placed_as_due placed) s.rooms.items ≡ true
+due_of_codes s placed is h = sym (places_as_due s placed is) ∙ (parts _ (places_once (rows_of s)) h).1

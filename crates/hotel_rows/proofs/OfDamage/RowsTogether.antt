@@ -1,0 +1,76 @@
+-- Rules of all rows of a table as one test of each row.
+use Rattle.std.proofs.Common.{◌≡◌, ℕ, suc, ◌+◌, ◌-◌, Bool, true, false, ◌&&◌, ◌==◌, List, [], ◌∷◌, map, length, refl, ap, ◌∙◌, nat_cmp}
+use Rattle.std.specs.Prelude.{nat_le, nat_lt, string_bytes, not, ◌||◌}
+use Rattle.std.specs.List.{list_all}
+use Rattle.std.specs.Map.{keys_of}
+use Rattle.hotel_core.specs.declared.books.rows.RoomRow.{RoomRow}
+use Rattle.hotel_core.specs.Model.Rows.{has_kind}
+use Rattle.hotel_core.specs.Model.SoundRooms.{are_in_order, room_numbers, lock_places, room_kinds_there, codes_few, note_counts, parties_in_house, secured_hold_last}
+use Rattle.hotel_core.proofs.OfTables.RowTests.{all_mapped}
+use Rattle.hotel_core.proofs.OfTables.MapEntries.{eq_self}
+use Rattle.hotel_rows.specs.declared.stored.Stored.{Stored}
+use Rattle.hotel_rows.specs.Stored.{number_of, rows_of, room_entry, room_row, card_entry}
+use Rattle.hotel_rows.specs.Keys.{room_key}
+use Rattle.hotel_rows.specs.Damage.{room_columns, room_holds}
+use Rattle.hotel_rows.specs.RowTests.{room_fits, is_room_number, is_at_home, is_secured_as_due}
+
+pub keys_mapped : {L X : Type 0} (key : L → ℕ) (row : L → X) (ls : List L) → keys_of (map (λ l. (key l, row l)) ls) ≡ map key ls
+keys_mapped key row [] = refl
+keys_mapped key row (l ∷ ls) = ap (λ ks. key l ∷ ks) (keys_mapped key row ls)
+
+pub length_mapped : {L X : Type 0} (f : L → X) (ls : List L) → length (map f ls) ≡ length ls
+length_mapped f [] = refl
+length_mapped f (l ∷ ls) = ap suc (length_mapped f ls)
+
+swap_and : (a b c d : Bool) → ((a && b) && (c && d)) ≡ ((a && c) && (b && d))
+swap_and true true c d = refl
+swap_and true false true d = refl
+swap_and true false false d = refl
+swap_and false b c d = refl
+
+pub all_and : {L : Type 0} (t u : L → Bool) (ls : List L) (b : Bool) → b ≡ list_all u ls → (list_all t ls && b) ≡ list_all (λ l. t l && u l) ls
+all_and t u ls b e = ap (λ z. list_all t ls && z) e ∙ joined ls
+  where
+    joined : (ls : List _) → (list_all t ls && list_all u ls) ≡ list_all (λ l. t l && u l) ls
+    joined [] = refl
+    joined (l ∷ ls) = swap_and (t l) (list_all t ls) (u l) (list_all u ls) ∙ ap (λ z. (t l && u l) && z) (joined ls)
+
+pub all_alike : {L : Type 0} (t u : L → Bool) (ls : List L) → ((l : L) → t l ≡ u l) → list_all t ls ≡ list_all u ls
+all_alike t u [] e = refl
+all_alike t u (l ∷ ls) e = ap (λ b. b && list_all t ls) (e l) ∙ ap (λ b. u l && b) (all_alike t u ls e)
+
+pub and_more : (o a b : Bool) → ((o && a) && b) ≡ (o && (a && b))
+and_more true a b = refl
+and_more false a b = refl
+
+-- what was joined so far, and a rule more
+pub left_and : {L X : Type 0} (o : Bool) (f : L → X) (t : X → Bool) (u : L → Bool) (ls : List L) (b : Bool) → b ≡ (o && list_all u ls)
+    → (b && list_all t (map f ls)) ≡ (o && list_all (λ l. u l && t (f l)) ls)
+left_and o f t u ls b e =
+    ap (λ z. z && list_all t (map f ls)) e ∙ and_more o (list_all u ls) (list_all t (map f ls))
+    ∙ ap (λ z. o && z) (all_and u (λ l. t (f l)) ls (list_all t (map f ls)) (all_mapped t f ls))
+
+-- ---- room
+
+-- the rules of rooms are a test of each row
+pub rooms_together : (s : Stored) → room_holds s ≡ (are_in_order nat_cmp (map room_key s.rooms.items) && list_all (room_fits s) s.rooms.items)
+rooms_together s =
+    let lines = s.rooms.items in
+    let rows = rows_of s in
+    let o = are_in_order nat_cmp (map room_key lines) in
+    ap (λ ks. are_in_order nat_cmp ks && list_all room_columns lines && room_numbers rows && lock_places rows && room_kinds_there rows && codes_few rows && note_counts rows && parties_in_house rows && secured_hold_last rows)
+    (keys_mapped room_key room_row lines)
+    ∙ left_and o room_entry (λ (e : ℕ × RoomRow). not e.1.secured || ((e.1.lock_place == e.1.codes - 1) && nat_le 2 e.1.codes)) _ lines _
+    (left_and o room_entry (λ (e : ℕ × RoomRow). is_at_home rows e.1) _ lines _
+    (left_and o room_entry (λ (e : ℕ × RoomRow). nat_le e.1.notes 9999999) _ lines _
+    (left_and o room_entry (λ (e : ℕ × RoomRow). nat_le e.1.codes (length rows.cards + 1)) _ lines _
+    (left_and o room_entry (λ (e : ℕ × RoomRow). has_kind rows e.1.kind) _ lines _
+    (left_and o room_entry (λ (e : ℕ × RoomRow). nat_lt e.1.lock_place e.1.codes) _ lines _
+    (left_and o room_entry (λ (e : ℕ × RoomRow). (e.1.room == e.0) && nat_le 1 e.0 && nat_le e.0 9999) room_columns lines _ refl))))))
+    ∙ ap (λ b. o && b) (all_alike _ (room_fits s) lines (λ line.
+    ap (λ b. room_columns line && (b && nat_le 1 (number_of line.room) && nat_le (number_of line.room) 9999) && nat_lt (number_of line.lock_place) (number_of line.codes)
+    && has_kind rows (string_bytes line.kind) && nat_le (number_of line.codes) (length rows.cards + 1) && nat_le (number_of line.notes) 9999999 && is_at_home rows (room_row line)
+    && is_secured_as_due line) (eq_self (number_of line.room))
+    ∙ ap (λ n. room_columns line && is_room_number line && nat_lt (number_of line.lock_place) (number_of line.codes) && has_kind rows (string_bytes line.kind)
+    && nat_le (number_of line.codes) (n + 1) && nat_le (number_of line.notes) 9999999 && is_at_home rows (room_row line) && is_secured_as_due line)
+    (length_mapped card_entry s.cards.items)))

@@ -1,0 +1,31 @@
+use Rattle.std.proofs.Common.{◌≡◌, ◌-◌, ◌<◌, ◌≤◌, ◌&&◌, length, drop, get_or, true, ap, sym, subst, ◌∙◌, arith}
+use Rattle.std.specs.Ordering.{is_lt}
+use Rattle.std.proofs.lemmas.Bool.Decides.{nat_tests}
+use Rattle.hotel_core.specs.Model.Words.{pair_cmp}
+use Rattle.hotel_core.specs.Model.SoundRooms.{are_in_order}
+use Rattle.hotel_rows.proofs.OfDamage.Rising.{next_in_order, last_in_order}
+use Rattle.hotel_rows.proofs.damage.numbers.rise_in_pairs.Goals as goal
+
+pub loop-i-preserved : goal.loop-i-preserved
+loop-i-preserved c =
+    let keys = c.args.keys.now in
+    let i = c.loop-i.i in
+    let low : 0 < i = omega (arith, c.loop-i.auto.i) in
+    let less : is_lt (pair_cmp (get_or keys (i - 1) (0, 0)) (get_or keys i (0, 0))) ≡ true = sym c.is_before.ensures ∙ c.if-not-is_before.false in
+    subst (λ n. are_in_order pair_cmp keys ≡ are_in_order pair_cmp (drop n keys)) (omega arith)
+    (c.loop-i.invariant ∙ next_in_order pair_cmp (0, 0) keys i low c.loop-i-test.true ∙ ap (λ b. b && are_in_order pair_cmp (drop i keys)) less)
+
+pub returns-then-not-is_before : goal.returns-then-not-is_before
+returns-then-not-is_before c =
+    let keys = c.args.keys.now in
+    let i = c.loop-i.i in
+    let low : 0 < i = omega (arith, c.loop-i.auto.i) in
+    let more = sym c.is_before.ensures ∙ c.if-not-is_before.true in
+    let all = c.loop-i.invariant ∙ next_in_order pair_cmp (0, 0) keys i low c.loop-i-test.true ∙ ap (λ b. b && are_in_order pair_cmp (drop i keys)) more in
+    sym all
+
+pub returns : goal.returns
+returns c =
+    let past : length c.args.keys.now ≤ c.loop-i.i = grind (arith, nat_tests, c.loop-i-test.false) in
+    let all = c.loop-i.invariant ∙ last_in_order pair_cmp c.args.keys.now c.loop-i.i past in
+    sym all

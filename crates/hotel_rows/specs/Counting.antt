@@ -1,0 +1,24 @@
+-- What is counted of plain rows: the rooms of each kind, and the nights of the stays.
+use Rattle.std.specs.Prelude.{◌≡◌, ℕ, Bool, true, List, map, bytes_eq}
+use Rattle.std.specs.List.{list_any, count_by}
+use Rattle.std.specs.Map.{values_of}
+use Rattle.hotel_core.specs.KindRooms as kinds
+use Rattle.hotel_core.specs.NightIndex.{StandsFor}
+use Rattle.hotel_rows.specs.declared.stored.KindLine.{KindLine}
+use Rattle.hotel_rows.specs.declared.stored.Stored.{Stored}
+use Rattle.hotel_rows.specs.declared.counting.Counts.{Counts}
+use Rattle.hotel_rows.specs.Stored.{kind_text, stay_entry}
+use Rattle.hotel_rows.specs.RowTests.{is_line_of_kind}
+
+-- one of the rows is of the kind
+abbrev pub names_kind : List ℕ → List KindLine → Bool
+names_kind kind lines = list_any (λ line. bytes_eq (kind_text line) kind) lines
+
+-- each kind of the rows is counted
+abbrev pub KnowsKinds : List (List ℕ × ℕ) → List KindLine → Type 0
+KnowsKinds counts lines = (kind : List ℕ) → names_kind kind lines ≡ true → kinds.is_there counts kind ≡ true
+
+-- the counts are those of the plain rows
+abbrev pub IsCountedOf : Stored → Counts → Type 0
+IsCountedOf s c =
+    ((kind : List ℕ) → kinds.rooms_in c.kinds kind ≡ count_by (is_line_of_kind kind) s.rooms.items) × (StandsFor c.nights (values_of (map stay_entry s.stays.items)) × KnowsKinds c.kinds s.kinds.items)

@@ -1,0 +1,87 @@
+-- The rules of each table, and the first table of which one fails.
+use Rattle.std.specs.Prelude.{◌≡◌, ◌↔◌, Bool, true, List, [], ◌∷◌, Option, Some, None, ◌==◌, ◌&&◌, not, nat_le, is_some, if◌then◌else◌}
+use Rattle.std.specs.List.{list_all}
+use Rattle.std.specs.Map.{keys_of}
+use Rattle.std.specs.Ordering.{nat_cmp}
+use Rattle.std.specs.Cmp.Lexicographic.{slice_cmp}
+use Rattle.hotel_core.specs.Model.Words.{pair_cmp}
+use Rattle.hotel_core.specs.Model.SoundRooms.{are_in_order, day_in_range, day_before_kinds, kinds_read, room_numbers, lock_places, room_kinds_there, codes_few, note_counts, parties_in_house, secured_hold_last, stay_numbers, guests_read, stay_kinds_there, stay_days, stay_rooms, nights_fit}
+use Rattle.hotel_core.specs.Model.SoundCards.{codes_in_range, code_rooms_there, places_once, card_numbers, card_parties_there, links_are_neighbours, links_of_one_party, neighbours_are_links, newest_of_party, last_cards_newest, insides_fit, notes_fit, notes_counted}
+use Rattle.hotel_core.specs.Model.Sound.{IsSound}
+use Rattle.hotel_rows.specs.declared.stored.RoomLine.{RoomLine}
+use Rattle.hotel_rows.specs.declared.stored.StayLine.{StayLine}
+use Rattle.hotel_rows.specs.declared.stored.NoteLine.{NoteLine}
+use Rattle.hotel_rows.specs.declared.stored.Stored.{Stored}
+use Rattle.hotel_rows.specs.declared.stored.TableName.{TableName}
+use Rattle.hotel_rows.specs.declared.stored.TableName.TheVariants as table
+use Rattle.hotel_rows.specs.Stored.{number_of, rows_of}
+
+-- a room's column `secured` is 0 or 1
+abbrev pub room_columns : RoomLine → Bool
+room_columns line = nat_le (number_of line.secured) 1
+
+-- a stay's state is 0 to 3, and it has a room exactly in state 1, in house
+abbrev pub stay_columns : StayLine → Bool
+stay_columns line = nat_le (number_of line.state) 3 && (if is_some line.room then number_of line.state == 1 else not (number_of line.state == 1))
+
+-- a note's act is 0 to 2, and it has a card but in act 2, recoded
+abbrev pub note_columns : NoteLine → Bool
+note_columns line = nat_le (number_of line.act) 2 && (if is_some line.card then nat_le (number_of line.act) 1 else number_of line.act == 2)
+
+abbrev pub meta_holds : Stored → Bool
+meta_holds s = day_in_range (rows_of s) && day_before_kinds (rows_of s)
+
+abbrev pub kind_holds : Stored → Bool
+kind_holds s = are_in_order (slice_cmp nat_cmp) (rows_of s).kinds && kinds_read (rows_of s)
+
+abbrev pub room_holds : Stored → Bool
+room_holds s =
+    are_in_order nat_cmp (keys_of (rows_of s).rooms) && list_all room_columns s.rooms.items && room_numbers (rows_of s) && lock_places (rows_of s) && room_kinds_there (rows_of s)
+    && codes_few (rows_of s) && note_counts (rows_of s) && parties_in_house (rows_of s) && secured_hold_last (rows_of s)
+
+abbrev pub stay_holds : Stored → Bool
+stay_holds s =
+    are_in_order nat_cmp (keys_of (rows_of s).stays) && list_all stay_columns s.stays.items && stay_numbers (rows_of s) && guests_read (rows_of s) && stay_kinds_there (rows_of s)
+    && stay_days (rows_of s) && stay_rooms (rows_of s) && nights_fit (rows_of s)
+
+abbrev pub code_holds : Stored → Bool
+code_holds s = are_in_order nat_cmp (keys_of (rows_of s).codes) && codes_in_range (rows_of s) && code_rooms_there (rows_of s) && places_once (rows_of s)
+
+abbrev pub card_holds : Stored → Bool
+card_holds s =
+    are_in_order nat_cmp (keys_of (rows_of s).cards) && card_numbers (rows_of s) && card_parties_there (rows_of s) && links_are_neighbours (rows_of s) && links_of_one_party (rows_of s)
+    && neighbours_are_links (rows_of s) && newest_of_party (rows_of s) && last_cards_newest (rows_of s)
+
+abbrev pub inside_holds : Stored → Bool
+inside_holds s = are_in_order pair_cmp (rows_of s).inside && insides_fit (rows_of s)
+
+abbrev pub note_holds : Stored → Bool
+note_holds s = are_in_order pair_cmp (keys_of (rows_of s).notes) && list_all note_columns s.notes.items && notes_counted (rows_of s) && notes_fit (rows_of s)
+
+-- Each rule of a table holds, and its rows are in the order of their keys, no key twice.
+abbrev pub holds : TableName → Stored → Bool
+holds table.Meta s = meta_holds s
+holds table.Kind s = kind_holds s
+holds table.Room s = room_holds s
+holds table.Stay s = stay_holds s
+holds table.Code s = code_holds s
+holds table.Card s = card_holds s
+holds table.Inside s = inside_holds s
+holds table.Note s = note_holds s
+
+-- the first of the tables that doesn't hold
+abbrev pub first_of_tables : List TableName → Stored → Option TableName
+first_of_tables [] s = None
+first_of_tables (t ∷ ts) s = if holds t s then first_of_tables ts s else Some t
+
+-- The first damaged table.
+abbrev pub first_damaged_of : Stored → Option TableName
+first_damaged_of = first_of_tables (table.Meta ∷ table.Kind ∷ table.Room ∷ table.Stay ∷ table.Code ∷ table.Card ∷ table.Inside ∷ table.Note ∷ [])
+
+-- what the rows of the books don't show: each column is of its range
+abbrev pub columns_fit : Stored → Bool
+columns_fit s = list_all room_columns s.rooms.items && list_all stay_columns s.stays.items && list_all note_columns s.notes.items
+
+-- No table is damaged exactly where the rows are sound and each column is of its range.
+abbrev pub UndamagedIsSound : Type 0
+UndamagedIsSound = (s : Stored) → (first_damaged_of s ≡ None) ↔ (IsSound (rows_of s) × (columns_fit s ≡ true))

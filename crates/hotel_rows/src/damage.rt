@@ -1,0 +1,94 @@
+//! The first damaged table of stored rows.
+ghost use Rattle.std.specs.Prelude.{◌≡◌, ◌∷◌, [], true, IfOk};
+ghost use Rattle.hotel_rows.specs.declared.stored.TableName.TheVariants as table;
+ghost use Rattle.hotel_rows.specs.Damage.{UndamagedIsSound, first_damaged_of, first_of_tables, stay_holds};
+ghost use Rattle.hotel_rows.specs.Places.{AreOf};
+
+mod cards;
+mod codes;
+mod found;
+mod insides;
+mod kinds;
+mod links;
+mod nights;
+mod note_runs;
+mod notes;
+pub(crate) mod numbers;
+mod owners;
+mod placed;
+mod rooms;
+mod stays;
+
+use crate::damage::cards::cards_hold;
+use crate::damage::codes::codes_hold;
+use crate::damage::found::{Places, places_of};
+use crate::damage::insides::insides_hold;
+use crate::damage::kinds::{kinds_hold, meta_holds};
+use crate::damage::notes::notes_hold;
+use crate::damage::placed::place_codes;
+use crate::damage::rooms::rooms_hold;
+use crate::damage::stays::stays_hold;
+use crate::stored::{Stored, TableName};
+use keycard_rules::Memory;
+use std::alloc::Global;
+
+/// The first damaged one of the tables of codes, cards, insides and notes, where the stays are sound.
+fn first_of_later(
+    alloc: Global,
+    places: &Places,
+    stored: &Stored,
+) -> Result<Option<TableName>, Memory>
+    requires places { AreOf places.now stored.now }
+    requires stays { stay_holds stored.now ≡ true }
+    ensures { IfOk result (λ first. first ≡ first_of_tables (table.Code ∷ table.Card ∷ table.Inside ∷ table.Note ∷ []) stored.now) }
+{
+    let placed = place_codes(alloc, &stored.codes)?;
+    let codes = codes_hold(alloc, places, stored, &placed)?;
+    if !codes {
+        return Ok(Some(TableName::Code));
+    }
+    let cards = cards_hold(alloc, places, stored, &placed)?;
+    if !cards {
+        return Ok(Some(TableName::Card));
+    }
+    let insides = insides_hold(alloc, places, stored, &placed)?;
+    if !insides {
+        return Ok(Some(TableName::Inside));
+    }
+    let notes = notes_hold(alloc, places, stored)?;
+    if !notes {
+        return Ok(Some(TableName::Note));
+    }
+    Ok(None)
+}
+
+/// The first table, in the order of their names, of which a rule fails.
+///
+/// `Memory` only where a growth was refused.
+pub fn first_damaged(alloc: Global, stored: &Stored) -> Result<Option<TableName>, Memory>
+    ensures { IfOk result (λ first. first ≡ first_damaged_of stored.now) }
+{
+    if !meta_holds(stored) {
+        return Ok(Some(TableName::Meta));
+    }
+    let kinds = kinds_hold(alloc, stored)?;
+    let Some(known) = kinds else {
+        return Ok(Some(TableName::Kind));
+    };
+    let places = places_of(alloc, stored)?;
+    let rooms = rooms_hold(alloc, &places, stored, &known)?;
+    if !rooms {
+        return Ok(Some(TableName::Room));
+    }
+    let stays = stays_hold(alloc, &places, stored, &known)?;
+    if !stays {
+        return Ok(Some(TableName::Stay));
+    }
+    first_of_later(alloc, &places, stored)
+}
+
+/// A law, which makes no call: no table is damaged exactly where the rows are sound in the sense of the core and each
+/// column is of its range.
+pub fn undamaged_is_sound()
+    ensures { UndamagedIsSound }
+{}

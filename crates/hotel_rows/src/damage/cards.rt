@@ -1,0 +1,105 @@
+//! The rules of the table of cards.
+ghost use Rattle.std.specs.Prelude.{◌≡◌, true, IfOk};
+ghost use Rattle.std.specs.List.{list_all};
+ghost use Rattle.hotel_rows.specs.Stored.{rows_of, card_row};
+ghost use Rattle.hotel_rows.specs.Places.{AreOf};
+ghost use Rattle.hotel_rows.specs.RowTests.{card_fits, has_line_home, links_hold};
+ghost use Rattle.hotel_rows.specs.Damage.{card_holds};
+ghost use Rattle.hotel_rows.specs.Placed.{PlacesOf, placed_as_due};
+
+use crate::damage::codes::stands_at;
+use crate::damage::found::{Places, card_keys, code_at, index_of, stay_at};
+use crate::damage::links::{all_brought, all_have_lasts, all_have_owners, brought_codes, lasts_of};
+use crate::damage::numbers::{are_numbered, number};
+use crate::damage::owners::{all_agree, owners_of};
+use crate::damage::placed::Placed;
+use crate::stored::{CardLine, Stored};
+use keycard_rules::Memory;
+use std::alloc::Global;
+use std::collections::BTreeMap;
+
+/// Whether the card's party has a stay, and its codes are neighbours at one room.
+fn card_fits(places: &Places, stored: &Stored, card: &CardLine) -> bool
+    requires { AreOf places.now stored.now }
+    ensures { result ≡ card_fits (rows_of stored.now) (card_row card.now) }
+{
+    if stay_at(places, stored, number(card.party)).is_none() {
+        return false;
+    }
+    let new = number(card.new_code);
+    let Some(code) = code_at(places, stored, new) else {
+        return false;
+    };
+    stands_at(
+        places,
+        stored,
+        number(code.room),
+        number(card.old_code),
+        new,
+    )
+}
+
+/// Whether each card's party has a stay, and its codes are neighbours at one room.
+pub(crate) fn cards_fit(places: &Places, stored: &Stored) -> bool
+    requires { AreOf places.now stored.now }
+    ensures { result ≡ list_all (λ card. card_fits (rows_of stored.now) (card_row card)) stored.now.cards.items }
+{
+    for i in 0..stored.cards.len() {
+        if !card_fits(places, stored, &stored.cards[i]) {
+            return false;
+        }
+    }
+    true
+}
+
+/// Whether the rules on links hold: whose they are, that each was given, and which are the newest.
+fn links_hold(
+    alloc: Global,
+    places: &Places,
+    stored: &Stored,
+    placed: &BTreeMap<u64, Placed>,
+) -> Result<bool, Memory>
+    requires places { AreOf places.now stored.now }
+    requires placed { PlacesOf placed.now.entries stored.now.codes.items }
+    requires due { list_all (placed_as_due placed.now.entries) stored.now.rooms.items ≡ true }
+    requires homes { list_all (has_line_home stored.now) stored.now.stays.items ≡ true }
+    ensures { IfOk result (λ hold. hold ≡ links_hold stored.now) }
+{
+    let codes = brought_codes(alloc, &stored.cards)?;
+    let brought = index_of(alloc, &codes)?;
+    let lasts = lasts_of(alloc, &stored.cards)?;
+    let owners = owners_of(alloc, &stored.cards)?;
+    if !all_agree(&owners, stored) {
+        return Ok(false);
+    }
+    if !all_brought(&brought, stored) {
+        return Ok(false);
+    }
+    if !all_have_owners(&owners, placed, stored) {
+        return Ok(false);
+    }
+    Ok(all_have_lasts(places, placed, stored, &lasts))
+}
+
+/// Whether the rules of the table of cards hold, where those of the stays and codes do.
+pub(crate) fn cards_hold(
+    alloc: Global,
+    places: &Places,
+    stored: &Stored,
+    placed: &BTreeMap<u64, Placed>,
+) -> Result<bool, Memory>
+    requires places { AreOf places.now stored.now }
+    requires placed { PlacesOf placed.now.entries stored.now.codes.items }
+    requires due { list_all (placed_as_due placed.now.entries) stored.now.rooms.items ≡ true }
+    requires homes { list_all (has_line_home stored.now) stored.now.stays.items ≡ true }
+    ensures { IfOk result (λ hold. hold ≡ card_holds stored.now) }
+{
+    let keys = card_keys(alloc, &stored.cards)?;
+    if !are_numbered(&keys) {
+        return Ok(false);
+    }
+    if !cards_fit(places, stored) {
+        return Ok(false);
+    }
+    links_hold(alloc, places, stored, placed)
+}

@@ -1,0 +1,115 @@
+//! The rules of the table of codes, and where links stand.
+ghost use Rattle.std.specs.Prelude.{◌≡◌, IfOk, is_some};
+ghost use Rattle.std.specs.List.{list_all};
+ghost use Rattle.hotel_core.specs.Model.SoundCards.{stands_at};
+ghost use Rattle.hotel_rows.specs.Stored.{rows_of, code_row};
+ghost use Rattle.hotel_rows.specs.Damage.{code_holds};
+ghost use Rattle.hotel_rows.specs.Placed.{PlacesOf};
+ghost use Rattle.hotel_rows.specs.Places.{AreOf};
+ghost use Rattle.hotel_rows.specs.RowTests.{code_fits, are_apart, comes_after, recoding_fits};
+
+use crate::damage::found::{Places, code_at, code_keys, room_at};
+use crate::damage::numbers::{number, rise};
+use crate::damage::placed::{Placed, rooms_have_places};
+use crate::stored::{CodeLine, Stored};
+use keycard_rules::Memory;
+use std::alloc::Global;
+use std::collections::BTreeMap;
+
+/// The codes end below this number.
+const CODES: u64 = 281_474_976_710_656;
+
+/// Whether a code is in range and its room is there.
+fn code_fits(places: &Places, stored: &Stored, code: &CodeLine) -> bool
+    requires { AreOf places.now stored.now }
+    ensures { result ≡ code_fits (rows_of stored.now) code.now }
+{
+    if number(code.code) >= CODES {
+        return false;
+    }
+    room_at(places, stored, number(code.room)).is_some()
+}
+
+/// Whether each code is in range and its room is there.
+pub(crate) fn codes_fit(places: &Places, stored: &Stored) -> bool
+    requires { AreOf places.now stored.now }
+    ensures { result ≡ list_all (code_fits (rows_of stored.now)) stored.now.codes.items }
+{
+    for i in 0..stored.codes.len() {
+        if !code_fits(places, stored, &stored.codes[i]) {
+            return false;
+        }
+    }
+    true
+}
+
+/// Whether the second code stands at the room, one place after the first.
+fn are_neighbours(room: u64, first: CodeLine, second: CodeLine) -> bool
+    ensures { result ≡ are_apart room (code_row first) (code_row second) }
+{
+    if number(first.room) != room || number(second.room) != room {
+        return false;
+    }
+    let place = number(first.place);
+    let next = number(second.place);
+    place < next && next - place == 1
+}
+
+/// Whether the second code stands at the room, one place after the first.
+pub(crate) fn stands_at(places: &Places, stored: &Stored, room: u64, old: u64, new: u64) -> bool
+    requires { AreOf places.now stored.now }
+    ensures { result ≡ stands_at (rows_of stored.now) room (record { old_code = old; new_code = new }) }
+{
+    let Some(first) = code_at(places, stored, old) else {
+        return false;
+    };
+    let Some(second) = code_at(places, stored, new) else {
+        return false;
+    };
+    are_neighbours(room, first, second)
+}
+
+/// Whether the second code stands at the room, after the first.
+fn comes_later(room: u64, first: CodeLine, second: CodeLine) -> bool
+    ensures { result ≡ comes_after room (code_row first) (code_row second) }
+{
+    if number(first.room) != room || number(second.room) != room {
+        return false;
+    }
+    number(first.place) < number(second.place)
+}
+
+/// Whether the second code stands at the room, some place after the first.
+pub(crate) fn stands_later(places: &Places, stored: &Stored, room: u64, from: u64, to: u64) -> bool
+    requires { AreOf places.now stored.now }
+    ensures { result ≡ recoding_fits (rows_of stored.now) room from to }
+{
+    let Some(first) = code_at(places, stored, from) else {
+        return false;
+    };
+    let Some(second) = code_at(places, stored, to) else {
+        return false;
+    };
+    comes_later(room, first, second)
+}
+
+/// Whether the rules of the table of codes hold, where the map has the codes by their places.
+pub(crate) fn codes_hold(
+    alloc: Global,
+    places: &Places,
+    stored: &Stored,
+    placed: &BTreeMap<u64, Placed>,
+) -> Result<bool, Memory>
+    requires places { AreOf places.now stored.now }
+    requires placed { PlacesOf placed.now.entries stored.now.codes.items }
+    ensures { IfOk result (λ hold. hold ≡ code_holds stored.now) }
+{
+    let keys = code_keys(alloc, &stored.codes)?;
+    if !rise(&keys) {
+        return Ok(false);
+    }
+    if !codes_fit(places, stored) {
+        return Ok(false);
+    }
+    Ok(rooms_have_places(placed, stored))
+}

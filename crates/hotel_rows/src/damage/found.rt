@@ -1,0 +1,208 @@
+//! Rows found by their keys.
+ghost use Rattle.std.specs.Prelude.{◌≡◌, Bool, true, IfOk, IfSome, map, option_map};
+ghost use Rattle.std.specs.List.{list_all};
+ghost use Rattle.std.specs.Option.{option_copied};
+ghost use Rattle.hotel_core.specs.Model.Rows.{at_number};
+ghost use Rattle.hotel_rows.specs.Stored.{number_of, rows_of, room_row, stay_row, code_row, card_row, inside_pair};
+ghost use Rattle.hotel_rows.specs.Keys.{Finds, room_key, stay_key, code_key, card_key, note_key};
+ghost use Rattle.hotel_rows.specs.Places.{AreOf};
+ghost use Rattle.hotel_rows.specs.declared.stored.RoomLine.{RoomLine};
+
+use crate::damage::numbers;
+use crate::stored::{CardLine, CodeLine, InsideLine, NoteLine, RoomLine, StayLine, Stored};
+use keycard_rules::Memory;
+use std::alloc::Global;
+use std::collections::BTreeMap;
+
+/// Where each key stands first.
+pub(crate) fn index_of(alloc: Global, keys: &[u64]) -> Result<BTreeMap<u64, usize>, Memory>
+    ensures { IfOk result (λ places. Finds places.entries keys.now) }
+{
+    let mut places = BTreeMap::new(alloc);
+    for i in 0..keys.len() {
+        if places.contains_key(&keys[i]) {
+            continue;
+        }
+        let Ok(_) = places.insert(keys[i], i) else {
+            return Err(Memory);
+        };
+    }
+    Ok(places)
+}
+
+/// The numbers of the rooms.
+pub(crate) fn room_keys(alloc: Global, rooms: &[RoomLine]) -> Result<Vec<u64>, Memory>
+    ensures { IfOk result (λ keys. keys.items ≡ map room_key rooms.now) }
+{
+    match rooms
+        .iter()
+        .map(|line| numbers::number(line.room))
+        .collect(alloc)
+    {
+        Ok(keys) => Ok(keys),
+        Err(_) => Err(Memory),
+    }
+}
+
+/// The parties of the stays.
+pub(crate) fn stay_keys(alloc: Global, stays: &[StayLine]) -> Result<Vec<u64>, Memory>
+    ensures { IfOk result (λ keys. keys.items ≡ map stay_key stays.now) }
+{
+    match stays
+        .iter()
+        .map(|line| numbers::number(line.party))
+        .collect(alloc)
+    {
+        Ok(keys) => Ok(keys),
+        Err(_) => Err(Memory),
+    }
+}
+
+/// The codes.
+pub(crate) fn code_keys(alloc: Global, codes: &[CodeLine]) -> Result<Vec<u64>, Memory>
+    ensures { IfOk result (λ keys. keys.items ≡ map code_key codes.now) }
+{
+    match codes
+        .iter()
+        .map(|line| numbers::number(line.code))
+        .collect(alloc)
+    {
+        Ok(keys) => Ok(keys),
+        Err(_) => Err(Memory),
+    }
+}
+
+/// The numbers of the cards.
+pub(crate) fn card_keys(alloc: Global, cards: &[CardLine]) -> Result<Vec<u64>, Memory>
+    ensures { IfOk result (λ keys. keys.items ≡ map card_key cards.now) }
+{
+    match cards
+        .iter()
+        .map(|line| numbers::number(line.number))
+        .collect(alloc)
+    {
+        Ok(keys) => Ok(keys),
+        Err(_) => Err(Memory),
+    }
+}
+
+/// The rooms and cards of what is inside.
+pub(crate) fn inside_keys(alloc: Global, inside: &[InsideLine]) -> Result<Vec<(u64, u64)>, Memory>
+    ensures { IfOk result (λ keys. keys.items ≡ map inside_pair inside.now) }
+{
+    match inside
+        .iter()
+        .map(|line| (numbers::number(line.room), numbers::number(line.card)))
+        .collect(alloc)
+    {
+        Ok(keys) => Ok(keys),
+        Err(_) => Err(Memory),
+    }
+}
+
+/// The rooms and counts of the notes.
+pub(crate) fn note_keys(alloc: Global, notes: &[NoteLine]) -> Result<Vec<(u64, u64)>, Memory>
+    ensures { IfOk result (λ keys. keys.items ≡ map note_key notes.now) }
+{
+    match notes
+        .iter()
+        .map(|line| (numbers::number(line.room), numbers::number(line.n)))
+        .collect(alloc)
+    {
+        Ok(keys) => Ok(keys),
+        Err(_) => Err(Memory),
+    }
+}
+
+/// Where the rows with a number for a key stand.
+#[derive(Drop)]
+pub(crate) struct Places {
+    rooms: BTreeMap<u64, usize>,
+    stays: BTreeMap<u64, usize>,
+    codes: BTreeMap<u64, usize>,
+    cards: BTreeMap<u64, usize>,
+}
+
+/// Where the stored rows stand.
+pub(crate) fn places_of(alloc: Global, stored: &Stored) -> Result<Places, Memory>
+    ensures { IfOk result (λ places. AreOf places stored.now) }
+{
+    let room_keys = room_keys(alloc, &stored.rooms)?;
+    let rooms = index_of(alloc, &room_keys)?;
+    let stay_keys = stay_keys(alloc, &stored.stays)?;
+    let stays = index_of(alloc, &stay_keys)?;
+    let code_keys = code_keys(alloc, &stored.codes)?;
+    let codes = index_of(alloc, &code_keys)?;
+    let card_keys = card_keys(alloc, &stored.cards)?;
+    let cards = index_of(alloc, &card_keys)?;
+    Ok(Places {
+        rooms,
+        stays,
+        codes,
+        cards,
+    })
+}
+
+fn place_at(places: &BTreeMap<u64, usize>, key: u64) -> Option<usize>
+    ensures { result ≡ at_number places.now.entries key }
+{
+    places.get(&key).copied()
+}
+
+/// The room of a number.
+pub(crate) fn room_at<'a>(places: &Places, stored: &'a Stored, room: u64) -> Option<&'a RoomLine>
+    requires { AreOf places.now stored.now }
+    ensures row { option_map room_row (option_copied result) ≡ at_number (rows_of stored.now).rooms room }
+    ensures key { IfSome result (λ line. number_of line.now.room ≡ room) }
+    ensures rules { IfSome result (λ line. (t : RoomLine → Bool) → list_all t stored.now.rooms.items ≡ true → t line.now ≡ true) }
+{
+    let Some(place) = place_at(&places.rooms, room) else {
+        return None;
+    };
+    if place >= stored.rooms.len() {
+        return None;
+    }
+    Some(&stored.rooms[place])
+}
+
+/// The stay of a party.
+pub(crate) fn stay_at<'a>(places: &Places, stored: &'a Stored, party: u64) -> Option<&'a StayLine>
+    requires { AreOf places.now stored.now }
+    ensures { option_map stay_row (option_copied result) ≡ at_number (rows_of stored.now).stays party }
+{
+    let Some(place) = place_at(&places.stays, party) else {
+        return None;
+    };
+    if place >= stored.stays.len() {
+        return None;
+    }
+    Some(&stored.stays[place])
+}
+
+/// The row of a code.
+pub(crate) fn code_at(places: &Places, stored: &Stored, code: u64) -> Option<CodeLine>
+    requires { AreOf places.now stored.now }
+    ensures { option_map code_row result ≡ at_number (rows_of stored.now).codes code }
+{
+    let Some(place) = place_at(&places.codes, code) else {
+        return None;
+    };
+    if place >= stored.codes.len() {
+        return None;
+    }
+    Some(stored.codes[place])
+}
+
+/// The card of a number.
+pub(crate) fn card_at(places: &Places, stored: &Stored, number: u64) -> Option<CardLine>
+    requires { AreOf places.now stored.now }
+    ensures { option_map card_row result ≡ at_number (rows_of stored.now).cards number }
+{
+    let Some(place) = place_at(&places.cards, number) else {
+        return None;
+    };
+    if place >= stored.cards.len() {
+        return None;
+    }
+    Some(stored.cards[place])
+}

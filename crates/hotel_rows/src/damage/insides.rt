@@ -1,0 +1,102 @@
+//! The rules of the table of cards that are inside.
+ghost use Rattle.std.specs.Prelude.{◌≡◌, true, IfOk};
+ghost use Rattle.std.specs.List.{list_all};
+ghost use Rattle.hotel_rows.specs.Stored.{number_of, rows_of, room_row, card_row, inside_pair};
+ghost use Rattle.hotel_core.specs.Model.SoundCards.{fits_inside};
+ghost use Rattle.hotel_rows.specs.Damage.{inside_holds};
+ghost use Rattle.hotel_rows.specs.Placed.{PlacesOf, placed_as_due};
+ghost use Rattle.hotel_rows.specs.Places.{AreOf};
+ghost use Rattle.hotel_rows.specs.RowTests.{inside_fits};
+
+use crate::damage::codes::stands_at;
+use crate::damage::found::{Places, card_at, code_at, inside_keys, room_at};
+use crate::damage::numbers::{number, rise_in_pairs};
+use crate::damage::placed::{Placed, is_newest};
+use crate::stored::{CardLine, InsideLine, RoomLine, Stored};
+use keycard_rules::Memory;
+use std::alloc::Global;
+use std::collections::BTreeMap;
+
+/// Whether the card's link stands at the room, its new code not after the lock's, and the newest in a secured room.
+fn fits_inside(
+    places: &Places,
+    stored: &Stored,
+    placed: &BTreeMap<u64, Placed>,
+    room: &RoomLine,
+    card: CardLine,
+) -> bool
+    requires places { AreOf places.now stored.now }
+    requires placed { PlacesOf placed.now.entries stored.now.codes.items }
+    requires due { placed_as_due placed.now.entries room.now ≡ true }
+    ensures { result ≡ fits_inside (rows_of stored.now) (number_of room.now.room) (room_row room.now) (card_row card) }
+{
+    let old = number(card.old_code);
+    let new = number(card.new_code);
+    if !stands_at(places, stored, number(room.room), old, new) {
+        return false;
+    }
+    let Some(code) = code_at(places, stored, new) else {
+        return false;
+    };
+    if number(code.place) > number(room.lock_place) {
+        return false;
+    }
+    if number(room.secured) != 1 {
+        return true;
+    }
+    is_newest(placed, stored, room, old, new)
+}
+
+fn inside_fits(
+    places: &Places,
+    stored: &Stored,
+    placed: &BTreeMap<u64, Placed>,
+    inside: &InsideLine,
+) -> bool
+    requires places { AreOf places.now stored.now }
+    requires placed { PlacesOf placed.now.entries stored.now.codes.items }
+    requires due { list_all (placed_as_due placed.now.entries) stored.now.rooms.items ≡ true }
+    ensures { result ≡ inside_fits (rows_of stored.now) (inside_pair inside.now) }
+{
+    let named = number(inside.room);
+    let Some(room) = room_at(places, stored, named) else {
+        return false;
+    };
+    let Some(card) = card_at(places, stored, number(inside.card)) else {
+        return false;
+    };
+    fits_inside(places, stored, placed, room, card)
+}
+
+fn insides_fit(places: &Places, stored: &Stored, placed: &BTreeMap<u64, Placed>) -> bool
+    requires places { AreOf places.now stored.now }
+    requires placed { PlacesOf placed.now.entries stored.now.codes.items }
+    requires due { list_all (placed_as_due placed.now.entries) stored.now.rooms.items ≡ true }
+    ensures { result ≡ list_all (λ e. inside_fits (rows_of stored.now) (inside_pair e)) stored.now.inside.items }
+{
+    for i in 0..stored.inside.len() {
+        if !inside_fits(places, stored, placed, &stored.inside[i]) {
+            return false;
+        }
+    }
+    true
+}
+
+/// Whether the rules of the table of cards that are inside hold, where those of the codes do.
+pub(crate) fn insides_hold(
+    alloc: Global,
+    places: &Places,
+    stored: &Stored,
+    placed: &BTreeMap<u64, Placed>,
+) -> Result<bool, Memory>
+    requires places { AreOf places.now stored.now }
+    requires placed { PlacesOf placed.now.entries stored.now.codes.items }
+    requires due { list_all (placed_as_due placed.now.entries) stored.now.rooms.items ≡ true }
+    ensures { IfOk result (λ hold. hold ≡ inside_holds stored.now) }
+{
+    let keys = inside_keys(alloc, &stored.inside)?;
+    if !rise_in_pairs(&keys) {
+        return Ok(false);
+    }
+    Ok(insides_fit(places, stored, placed))
+}

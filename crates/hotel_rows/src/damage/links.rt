@@ -1,0 +1,271 @@
+//! The rules on links of cards: whose they are, and which are the newest of rooms.
+ghost use Rattle.std.specs.Prelude.{◌≡◌, ℕ, true, IfOk, OnOk, map, ◌==◌, Some, None, is_some, if◌then◌else◌};
+ghost use Rattle.std.specs.List.{list_all, list_any};
+ghost use Rattle.hotel_core.specs.Model.Rows.{at_number};
+ghost use Rattle.hotel_core.specs.Model.SoundCards.{has_newest, is_newest};
+ghost use Rattle.hotel_rows.specs.Stored.{number_of, rows_of};
+ghost use Rattle.hotel_rows.specs.Lasts.{link_of_pair, link_pair, LastsOf};
+ghost use Rattle.hotel_rows.specs.Owners.{OwnersOf, owner_in};
+ghost use Rattle.hotel_core.specs.Model.Words.{said_of};
+ghost use Rattle.hotel_rows.specs.Keys.{Finds, new_code_of};
+ghost use Rattle.hotel_rows.specs.Places.{AreOf};
+ghost use Rattle.hotel_rows.specs.Placed.{PlacesOf, are_due_at, placed_as_due};
+ghost use Rattle.hotel_rows.specs.RowTests.{agrees, is_brought, is_owned, has_owner, has_last, has_line_home};
+
+use crate::damage::found::{Places, room_at};
+use crate::damage::numbers::{number, number_if};
+use crate::damage::owners::owner_of;
+use crate::damage::placed::{Placed, is_newest, newest_of};
+use crate::damage::rooms::home_of;
+use crate::stored::{CardLine, CodeLine, RoomLine, StayLine, Stored};
+use keycard_rules::Memory;
+use std::alloc::Global;
+use std::collections::BTreeMap;
+
+/// The codes that the cards brought.
+pub(crate) fn brought_codes(alloc: Global, cards: &[CardLine]) -> Result<Vec<u64>, Memory>
+    ensures { IfOk result (λ codes. codes.items ≡ map new_code_of cards.now) }
+{
+    match cards
+        .iter()
+        .map(|card| number(card.new_code))
+        .collect(alloc)
+    {
+        Ok(codes) => Ok(codes),
+        Err(_) => Err(Memory),
+    }
+}
+
+fn is_first(code: &CodeLine) -> bool
+    ensures { result ≡ (number_of code.now.place == 0) }
+{
+    number(code.place) == 0
+}
+
+fn has_brought(brought: &BTreeMap<u64, usize>, stored: &Stored, code: u64) -> bool
+    requires { Finds brought.now.entries (map new_code_of stored.now.cards.items) }
+    ensures { result ≡ list_any (λ card. number_of card.new_code == code) stored.now.cards.items }
+{
+    brought.contains_key(&code)
+}
+
+fn is_brought(brought: &BTreeMap<u64, usize>, stored: &Stored, code: &CodeLine) -> bool
+    requires { Finds brought.now.entries (map new_code_of stored.now.cards.items) }
+    ensures { result ≡ is_brought stored.now code.now }
+{
+    if is_first(code) {
+        return true;
+    }
+    has_brought(brought, stored, number(code.code))
+}
+
+/// Whether each code but the first of its room was brought by a card.
+pub(crate) fn all_brought(brought: &BTreeMap<u64, usize>, stored: &Stored) -> bool
+    requires { Finds brought.now.entries (map new_code_of stored.now.cards.items) }
+    ensures { result ≡ list_all (is_brought stored.now) stored.now.codes.items }
+{
+    for i in 0..stored.codes.len() {
+        if !is_brought(brought, stored, &stored.codes[i]) {
+            return false;
+        }
+    }
+    true
+}
+
+/// Whether a link's cards are of a party, where it has any.
+fn is_link_of(
+    owners: &BTreeMap<(u64, u64), u64>,
+    stored: &Stored,
+    link: (u64, u64),
+    party: u64,
+) -> bool
+    requires { OwnersOf owners.now.entries stored.now.cards.items }
+    ensures { result ≡ said_of (owner_in stored.now.cards.items (link_of_pair link)) true (λ owner. owner == party) }
+{
+    let Some(owner) = owner_of(owners, link.0, link.1) else {
+        return true;
+    };
+    owner == party
+}
+
+/// Whether the cards of the newest link of a room with so many codes are of a party.
+fn all_owned(
+    owners: &BTreeMap<(u64, u64), u64>,
+    placed: &BTreeMap<u64, Placed>,
+    stored: &Stored,
+    room: u64,
+    codes: u64,
+    party: u64,
+) -> bool
+    requires owners { OwnersOf owners.now.entries stored.now.cards.items }
+    requires own { list_all (agrees stored.now) stored.now.cards.items ≡ true }
+    requires placed { PlacesOf placed.now.entries stored.now.codes.items }
+    requires due { are_due_at placed.now.entries room codes ≡ true }
+    ensures { result ≡ list_all (is_owned stored.now room party) stored.now.cards.items }
+{
+    let Some(link) = newest_of(placed, room, codes) else {
+        return true;
+    };
+    is_link_of(owners, stored, link, party)
+}
+
+fn has_owner(
+    owners: &BTreeMap<(u64, u64), u64>,
+    placed: &BTreeMap<u64, Placed>,
+    stored: &Stored,
+    room: &RoomLine,
+) -> bool
+    requires owners { OwnersOf owners.now.entries stored.now.cards.items }
+    requires own { list_all (agrees stored.now) stored.now.cards.items ≡ true }
+    requires placed { PlacesOf placed.now.entries stored.now.codes.items }
+    requires due { placed_as_due placed.now.entries room.now ≡ true }
+    ensures { result ≡ has_owner stored.now room.now }
+{
+    let Some(party) = number_if(room.party) else {
+        return true;
+    };
+    let named = number(room.room);
+    let codes = number(room.codes);
+    all_owned(owners, placed, stored, named, codes, party)
+}
+
+/// Whether the cards of each room's newest link are of its party, where it has one.
+pub(crate) fn all_have_owners(
+    owners: &BTreeMap<(u64, u64), u64>,
+    placed: &BTreeMap<u64, Placed>,
+    stored: &Stored,
+) -> bool
+    requires owners { OwnersOf owners.now.entries stored.now.cards.items }
+    requires own { list_all (agrees stored.now) stored.now.cards.items ≡ true }
+    requires placed { PlacesOf placed.now.entries stored.now.codes.items }
+    requires due { list_all (placed_as_due placed.now.entries) stored.now.rooms.items ≡ true }
+    ensures { result ≡ list_all (has_owner stored.now) stored.now.rooms.items }
+{
+    for i in 0..stored.rooms.len() {
+        if !has_owner(owners, placed, stored, &stored.rooms[i]) {
+            return false;
+        }
+    }
+    true
+}
+
+/// The link of the party's last card, among those after a card, or else that card's.
+fn add_last(lasts: &mut BTreeMap<u64, (u64, u64)>, card: &CardLine) -> Result<(), Memory>
+    ensures { OnOk result ((p : ℕ) → at_number lasts.new.entries p
+        ≡ (if is_some (at_number lasts.old.entries p) then at_number lasts.old.entries p else (if p == number_of card.now.party then Some (link_pair card.now) else None))) }
+{
+    let party = number(card.party);
+    if lasts.contains_key(&party) {
+        return Ok(());
+    }
+    let link = (number(card.old_code), number(card.new_code));
+    let Ok(_) = lasts.insert(party, link) else {
+        return Err(Memory);
+    };
+    Ok(())
+}
+
+/// The link of each party's last card.
+pub(crate) fn lasts_of(
+    alloc: Global,
+    cards: &[CardLine],
+) -> Result<BTreeMap<u64, (u64, u64)>, Memory>
+    ensures { IfOk result (λ lasts. LastsOf lasts.entries cards.now) }
+{
+    let mut lasts = BTreeMap::new(alloc);
+    let len = cards.len();
+    for k in 0..len {
+        add_last(&mut lasts, &cards[len - 1 - k])?;
+    }
+    Ok(lasts)
+}
+
+fn last_of(lasts: &BTreeMap<u64, (u64, u64)>, party: u64) -> Option<(u64, u64)>
+    ensures { result ≡ at_number lasts.now.entries party }
+{
+    lasts.get(&party).copied()
+}
+
+/// Whether a link is the newest of a room that is there.
+fn is_newest_at(
+    places: &Places,
+    placed: &BTreeMap<u64, Placed>,
+    stored: &Stored,
+    home: u64,
+    link: (u64, u64),
+) -> bool
+    requires places { AreOf places.now stored.now }
+    requires placed { PlacesOf placed.now.entries stored.now.codes.items }
+    requires due { list_all (placed_as_due placed.now.entries) stored.now.rooms.items ≡ true }
+    requires there { is_some (at_number (rows_of stored.now).rooms home) ≡ true }
+    ensures { result ≡ is_newest (rows_of stored.now) home (record { old_code = link.0; new_code = link.1 }) }
+{
+    let Some(room) = room_at(places, stored, home) else {
+        return false;
+    };
+    is_newest(placed, stored, room, link.0, link.1)
+}
+
+/// Whether the last card of a party has the newest link of a room that is there.
+fn has_newest(
+    places: &Places,
+    placed: &BTreeMap<u64, Placed>,
+    stored: &Stored,
+    lasts: &BTreeMap<u64, (u64, u64)>,
+    party: u64,
+    home: u64,
+) -> bool
+    requires places { AreOf places.now stored.now }
+    requires placed { PlacesOf placed.now.entries stored.now.codes.items }
+    requires due { list_all (placed_as_due placed.now.entries) stored.now.rooms.items ≡ true }
+    requires lasts { LastsOf lasts.now.entries stored.now.cards.items }
+    requires there { is_some (at_number (rows_of stored.now).rooms home) ≡ true }
+    ensures { result ≡ has_newest (rows_of stored.now) party home }
+{
+    let Some(link) = last_of(lasts, party) else {
+        return false;
+    };
+    is_newest_at(places, placed, stored, home, link)
+}
+
+fn has_last(
+    places: &Places,
+    placed: &BTreeMap<u64, Placed>,
+    stored: &Stored,
+    lasts: &BTreeMap<u64, (u64, u64)>,
+    stay: &StayLine,
+) -> bool
+    requires places { AreOf places.now stored.now }
+    requires placed { PlacesOf placed.now.entries stored.now.codes.items }
+    requires due { list_all (placed_as_due placed.now.entries) stored.now.rooms.items ≡ true }
+    requires lasts { LastsOf lasts.now.entries stored.now.cards.items }
+    requires home { has_line_home stored.now stay.now ≡ true }
+    ensures { result ≡ has_last stored.now stay.now }
+{
+    let Some(home) = home_of(stay) else {
+        return true;
+    };
+    has_newest(places, placed, stored, lasts, number(stay.party), home)
+}
+
+/// Whether the last card of each party in house has the newest link of its room.
+pub(crate) fn all_have_lasts(
+    places: &Places,
+    placed: &BTreeMap<u64, Placed>,
+    stored: &Stored,
+    lasts: &BTreeMap<u64, (u64, u64)>,
+) -> bool
+    requires places { AreOf places.now stored.now }
+    requires placed { PlacesOf placed.now.entries stored.now.codes.items }
+    requires due { list_all (placed_as_due placed.now.entries) stored.now.rooms.items ≡ true }
+    requires lasts { LastsOf lasts.now.entries stored.now.cards.items }
+    requires homes { list_all (has_line_home stored.now) stored.now.stays.items ≡ true }
+    ensures { result ≡ list_all (has_last stored.now) stored.now.stays.items }
+{
+    for i in 0..stored.stays.len() {
+        if !has_last(places, placed, stored, lasts, &stored.stays[i]) {
+            return false;
+        }
+    }
+    true
+}

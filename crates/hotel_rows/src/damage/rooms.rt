@@ -1,0 +1,139 @@
+//! The rules of the table of rooms.
+ghost use Rattle.std.specs.Prelude.{◌≡◌, nat_le, ◌+◌, true, IfOk};
+ghost use Rattle.std.specs.List.{list_all};
+ghost use Rattle.hotel_core.specs.Model.Cases.{room_of_state};
+ghost use Rattle.hotel_rows.specs.Stored.{number_of, rows_of, room_row, stay_row};
+ghost use Rattle.hotel_core.specs.Model.SoundRooms.{kinds_read};
+ghost use Rattle.hotel_rows.specs.Damage.{room_columns, room_holds};
+ghost use Rattle.hotel_rows.specs.Places.{AreOf};
+ghost use Rattle.hotel_rows.specs.RowTests.{is_room_number, is_secured_as_due, is_at_home, room_fits, KnowsKinds};
+
+use crate::damage::found::{Places, room_keys, stay_at};
+use crate::damage::kinds::has_kind;
+use crate::damage::numbers::{number, number_if, rise};
+use crate::stored::{RoomLine, StayLine, Stored};
+use hotel_nights::KindCode;
+use keycard_rules::Memory;
+use std::alloc::Global;
+use std::collections::BTreeMap;
+
+fn has_columns(room: &RoomLine) -> bool
+    ensures { result ≡ room_columns room.now }
+{
+    number(room.secured) <= 1
+}
+
+fn has_number(room: &RoomLine) -> bool
+    ensures { result ≡ is_room_number room.now }
+{
+    let named = number(room.room);
+    named >= 1 && named <= 9999
+}
+
+fn has_few_codes(room: &RoomLine, cards: usize) -> bool
+    ensures { result ≡ nat_le (number_of room.now.codes) (cards + 1) }
+{
+    let codes = number(room.codes);
+    codes == 0 || codes - 1 <= cards as u64
+}
+
+/// Whether the lock holds the last code, not the first, if the room is secured.
+fn is_secured_as_due(room: &RoomLine) -> bool
+    ensures { result ≡ is_secured_as_due room.now }
+{
+    if number(room.secured) != 1 {
+        return true;
+    }
+    let codes = number(room.codes);
+    codes >= 2 && number(room.lock_place) == codes - 1
+}
+
+/// The room of a stay that is in house.
+pub(crate) fn home_of(stay: &StayLine) -> Option<u64>
+    ensures { result ≡ room_of_state (stay_row stay.now).state }
+{
+    let state = number(stay.state);
+    if state == 0 {
+        return None;
+    }
+    if state != 1 {
+        return None;
+    }
+    Some(number_if(stay.room).unwrap_or(u64::MAX))
+}
+
+/// Whether the party of the room, if it has one, is in house there, with a stay of its kind.
+fn has_guest(places: &Places, stored: &Stored, room: &RoomLine) -> bool
+    requires { AreOf places.now stored.now }
+    ensures { result ≡ is_at_home (rows_of stored.now) (room_row room.now) }
+{
+    let Some(party) = number_if(room.party) else {
+        return true;
+    };
+    let Some(stay) = stay_at(places, stored, party) else {
+        return false;
+    };
+    let Some(home) = home_of(stay) else {
+        return false;
+    };
+    home == number(room.room) && room.kind.as_str() == stay.kind.as_str()
+}
+
+fn room_fits(
+    places: &Places,
+    stored: &Stored,
+    known: &BTreeMap<KindCode, u32>,
+    room: &RoomLine,
+) -> bool
+    requires places { AreOf places.now stored.now }
+    requires read { kinds_read (rows_of stored.now) ≡ true }
+    requires known { KnowsKinds known.now.entries (rows_of stored.now).kinds }
+    ensures { result ≡ room_fits stored.now room.now }
+{
+    if !has_columns(room) || !has_number(room) {
+        return false;
+    }
+    if number(room.lock_place) >= number(room.codes) {
+        return false;
+    }
+    if !has_kind(known, room.kind.as_str()) {
+        return false;
+    }
+    if !has_few_codes(room, stored.cards.len()) || number(room.notes) > 9_999_999 {
+        return false;
+    }
+    has_guest(places, stored, room) && is_secured_as_due(room)
+}
+
+fn rooms_fit(places: &Places, stored: &Stored, known: &BTreeMap<KindCode, u32>) -> bool
+    requires places { AreOf places.now stored.now }
+    requires read { kinds_read (rows_of stored.now) ≡ true }
+    requires known { KnowsKinds known.now.entries (rows_of stored.now).kinds }
+    ensures { result ≡ list_all (room_fits stored.now) stored.now.rooms.items }
+{
+    for i in 0..stored.rooms.len() {
+        if !room_fits(places, stored, known, &stored.rooms[i]) {
+            return false;
+        }
+    }
+    true
+}
+
+/// Whether the rules of the table of rooms hold, where those of the kinds do.
+pub(crate) fn rooms_hold(
+    alloc: Global,
+    places: &Places,
+    stored: &Stored,
+    known: &BTreeMap<KindCode, u32>,
+) -> Result<bool, Memory>
+    requires places { AreOf places.now stored.now }
+    requires read { kinds_read (rows_of stored.now) ≡ true }
+    requires known { KnowsKinds known.now.entries (rows_of stored.now).kinds }
+    ensures { IfOk result (λ hold. hold ≡ room_holds stored.now) }
+{
+    let keys = room_keys(alloc, &stored.rooms)?;
+    if !rise(&keys) {
+        return Ok(false);
+    }
+    Ok(rooms_fit(places, stored, known))
+}

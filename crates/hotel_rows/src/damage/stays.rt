@@ -1,0 +1,140 @@
+//! The rules of the table of stays.
+ghost use Rattle.std.specs.Prelude.{◌≡◌, true, IfOk};
+ghost use Rattle.std.specs.List.{list_all};
+ghost use Rattle.hotel_nights.specs.Guests.{is_guest};
+ghost use Rattle.hotel_core.specs.Model.SoundRooms.{kinds_read};
+ghost use Rattle.hotel_rows.specs.Stored.{rows_of, stay_row};
+ghost use Rattle.hotel_rows.specs.Damage.{stay_columns, stay_holds};
+ghost use Rattle.hotel_rows.specs.Places.{AreOf};
+ghost use Rattle.hotel_rows.specs.RowTests.{are_stay_days, has_home, stay_fits, KnowsKinds};
+
+use crate::damage::found::{Places, room_at, stay_keys};
+use crate::damage::kinds::has_kind;
+use crate::damage::nights::nights_fit;
+use crate::damage::numbers::{are_numbered, number, number_if};
+use crate::damage::rooms::home_of;
+use crate::stored::{StayLine, Stored};
+use hotel_nights::{Guest, GuestFault, KindCode};
+use keycard_rules::Memory;
+use std::alloc::Global;
+use std::collections::BTreeMap;
+
+/// Whether the stay has a room exactly where it is in house.
+fn has_columns(stay: &StayLine) -> bool
+    ensures { result ≡ stay_columns stay.now }
+{
+    let state = number(stay.state);
+    if state > 3 {
+        return false;
+    }
+    if stay.room.is_some() {
+        return state == 1;
+    }
+    state != 1
+}
+
+fn has_days(stay: &StayLine) -> bool
+    ensures { result ≡ are_stay_days stay.now }
+{
+    let arrive = number(stay.arrive);
+    let depart = number(stay.depart);
+    depart <= 36_524 && arrive < depart && depart - arrive <= 90
+}
+
+/// Whether the room of a stay in house has its party.
+fn has_home(places: &Places, stored: &Stored, stay: &StayLine) -> bool
+    requires { AreOf places.now stored.now }
+    ensures { result ≡ has_home (rows_of stored.now) (stay_row stay.now) }
+{
+    let Some(home) = home_of(stay) else {
+        return true;
+    };
+    let Some(room) = room_at(places, stored, home) else {
+        return false;
+    };
+    let Some(party) = number_if(room.party) else {
+        return false;
+    };
+    party == number(stay.party)
+}
+
+/// Whether the text is a guest's name.
+fn is_guest(alloc: Global, text: &str) -> Result<bool, Memory>
+    ensures { IfOk result (λ read. read ≡ is_guest text.now) }
+{
+    match Guest::read(alloc, text) {
+        Ok(_guest) => Ok(true),
+        Err(GuestFault::Unread) => Ok(false),
+        Err(GuestFault::Memory) => Err(Memory),
+    }
+}
+
+fn stay_fits(
+    alloc: Global,
+    places: &Places,
+    stored: &Stored,
+    known: &BTreeMap<KindCode, u32>,
+    stay: &StayLine,
+) -> Result<bool, Memory>
+    requires places { AreOf places.now stored.now }
+    requires read { kinds_read (rows_of stored.now) ≡ true }
+    requires known { KnowsKinds known.now.entries (rows_of stored.now).kinds }
+    ensures { IfOk result (λ fits. fits ≡ stay_fits stored.now stay.now) }
+{
+    if !has_columns(stay) {
+        return Ok(false);
+    }
+    if !is_guest(alloc, stay.guest.as_str())? {
+        return Ok(false);
+    }
+    if !has_kind(known, stay.kind.as_str()) {
+        return Ok(false);
+    }
+    if !has_days(stay) {
+        return Ok(false);
+    }
+    Ok(has_home(places, stored, stay))
+}
+
+/// Whether each stay fits by itself.
+pub(crate) fn stays_fit(
+    alloc: Global,
+    places: &Places,
+    stored: &Stored,
+    known: &BTreeMap<KindCode, u32>,
+) -> Result<bool, Memory>
+    requires places { AreOf places.now stored.now }
+    requires read { kinds_read (rows_of stored.now) ≡ true }
+    requires known { KnowsKinds known.now.entries (rows_of stored.now).kinds }
+    ensures { IfOk result (λ fit. fit ≡ list_all (stay_fits stored.now) stored.now.stays.items) }
+{
+    for i in 0..stored.stays.len() {
+        if !stay_fits(alloc, places, stored, known, &stored.stays[i])? {
+            return Ok(false);
+        }
+    }
+    Ok(true)
+}
+
+/// Whether the rules of the table of stays hold, where those of the kinds do.
+pub(crate) fn stays_hold(
+    alloc: Global,
+    places: &Places,
+    stored: &Stored,
+    known: &BTreeMap<KindCode, u32>,
+) -> Result<bool, Memory>
+    requires places { AreOf places.now stored.now }
+    requires read { kinds_read (rows_of stored.now) ≡ true }
+    requires known { KnowsKinds known.now.entries (rows_of stored.now).kinds }
+    ensures { IfOk result (λ hold. hold ≡ stay_holds stored.now) }
+{
+    let keys = stay_keys(alloc, &stored.stays)?;
+    if !are_numbered(&keys) {
+        return Ok(false);
+    }
+    let fit = stays_fit(alloc, places, stored, known)?;
+    if !fit {
+        return Ok(false);
+    }
+    nights_fit(alloc, stored)
+}

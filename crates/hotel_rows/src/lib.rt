@@ -1,0 +1,13 @@
+//! The rows of a desk's tables as plain data: whether they are sound, which table is damaged first, and what books count of
+//! them. How they are read and written `hotel_tables` knows; here is no store.
+#![tactic(auto)]
+
+mod counting;
+mod damage;
+mod stored;
+
+pub use counting::{Counts, counts_of};
+pub use damage::{first_damaged, undamaged_is_sound};
+pub use stored::{
+    CardLine, CodeLine, InsideLine, KindLine, NoteLine, RoomLine, StayLine, Stored, TableName,
+};

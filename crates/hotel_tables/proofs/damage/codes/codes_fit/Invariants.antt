@@ -1,8 +1,0 @@
-use Rattle.std.proofs.Common.{◌≡◌, drop}
-use Rattle.std.specs.List.{list_all}
-use Rattle.hotel_tables.specs.Stored.{rows_of}
-use Rattle.hotel_tables.specs.RowTests.{code_fits}
-use Rattle.hotel_tables.proofs.damage.codes.codes_fit.Given as goal
-
-abbrev pub invariant-loop-i : goal.invariant-loop-i
-invariant-loop-i l = list_all (code_fits (rows_of l.stored)) l.stored.codes.items ≡ list_all (code_fits (rows_of l.stored)) (drop l.i l.stored.codes.items)

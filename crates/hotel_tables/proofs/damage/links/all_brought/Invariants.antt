@@ -1,7 +1,0 @@
-use Rattle.std.proofs.Common.{◌≡◌, drop}
-use Rattle.std.specs.List.{list_all}
-use Rattle.hotel_tables.specs.RowTests.{is_brought}
-use Rattle.hotel_tables.proofs.damage.links.all_brought.Given as goal
-
-abbrev pub invariant-loop-i : goal.invariant-loop-i
-invariant-loop-i l = list_all (is_brought l.stored) l.stored.codes.items ≡ list_all (is_brought l.stored) (drop l.i l.stored.codes.items)

@@ -1,7 +1,0 @@
-use Rattle.std.proofs.Common.{◌≡◌, drop}
-use Rattle.std.specs.List.{list_all}
-use Rattle.hotel_tables.specs.RowTests.{has_night}
-use Rattle.hotel_tables.proofs.damage.nights.nights_fit_by.Given as goal
-
-abbrev pub invariant-loop-i : goal.invariant-loop-i
-invariant-loop-i l = list_all (has_night l.stored) l.stored.stays.items ≡ list_all (has_night l.stored) (drop l.i l.stored.stays.items)

@@ -1,5 +1,0 @@
-use Rattle.hotel_tables.proofs.OfDamage.Undamaged as law
-use Rattle.hotel_tables.proofs.damage.undamaged_is_sound.Goals as goal
-
-pub returns : goal.returns
-returns c = law.undamaged_is_sound
