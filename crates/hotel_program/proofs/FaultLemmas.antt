@@ -1,5 +1,5 @@
 -- What a writer took of a text, whether it was written whole or not.
-use Rattle.std.proofs.Common.{◌≡◌, ◌≤◌, ℕ, List, length, take, Option, Result, Ok, Err, arith, subst, sym}
+use Rattle.std.proofs.Common.{ℕ, List, length, Option, Result, Ok, Err, arith, subst, sym}
 use Rattle.std.proofs.lemmas.List.{take_all}
 use Rattle.std.specs.Prelude.{OnOk, OnErr}
 use Rattle.std.specs.Io.KnownBytes.{Appends}

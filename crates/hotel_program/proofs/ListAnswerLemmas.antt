@@ -1,26 +1,23 @@
 -- The answer to a list, as it is written.
-use Rattle.std.proofs.Common.{◌≡◌, ℕ, List, [], ◌∷◌, ◌++◌, map, true, refl, sym, ap, subst, ◌∙◌, arith, Option, Some, None, Result, Ok, Err, inl, inr}
-use Rattle.std.specs.Prelude.{◌≢◌, Bool, false, OnOk, OnErr, is_some}
-use Rattle.std.specs.List.{concat, flat_map}
-use Rattle.std.proofs.lemmas.List.{map-append}
-use Rattle.std.specs.Io.KnownBytes.{Appends, Keeps}
-use Rattle.std.proofs.KnownBytes.{Appends-nil, Appends-kept, Appends-trans}
+use Rattle.std.proofs.Common.{◌≡◌, ℕ, List, [], ◌∷◌, ◌++◌, true, refl, sym, ap, subst, Option, Some, None, Result, Ok, Err, inl, inr}
+use Rattle.std.specs.Prelude.{OnOk, OnErr}
+use Rattle.std.specs.Io.KnownBytes.{Appends}
+use Rattle.std.proofs.KnownBytes.{Appends-trans}
 use Rattle.keycard_rules.specs.declared.issued.LookFault.TheVariants as look
 use Rattle.keycard_rules.specs.declared.issued.LookFault.{LookFault}
 use Rattle.keycard_rules.specs.Rise.{NoFewer}
 use Rattle.hotel_core.specs.declared.reply.Reply.TheVariants.{Refused}
 use Rattle.hotel_core.specs.declared.reply.Refusal.{Refusal}
 use Rattle.hotel_core.specs.declared.reply.Refusal.TheVariants as refusal
-use Rattle.hotel_core.specs.declared.books.rows.RoomRow.{RoomRow}
 use Rattle.hotel_core.specs.Model.Run.{is_failed}
 use Rattle.hotel_core.specs.Books.Failures.{AreCounted}
 use Rattle.hotel_core.proofs.OfCode.FailuresCounted.{none_counted, one_counted}
 use Rattle.keycard_rules.specs.declared.issued.Issued.{Ghosts as IssuedOf}
 use Rattle.hotel_lists.specs.Bytes.{AppendsFront}
-use Rattle.hotel_lists.specs.Lines.{Lists, ListsRoom, LooksAt, AppendsRows, is_early}
+use Rattle.hotel_lists.specs.Lines.{LooksAt}
 use Rattle.hotel_lists.specs.declared.fault.ListFault.{ListFault}
 use Rattle.hotel_lists.specs.declared.fault.ListFault.TheVariants as fault
-use Rattle.hotel_asks.specs.Listings.{Listing, IsFront, ListEnds}
+use Rattle.hotel_asks.specs.Listings.{Listing, ListEnds}
 use Rattle.hotel_program.specs.ListAnswers.{refusal_text, refusal_of, failure_of, AnswersList, ListAnswered}
 use Rattle.hotel_program.proofs.ScriptLemmas.{appends_front}
 

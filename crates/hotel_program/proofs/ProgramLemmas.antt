@@ -9,14 +9,11 @@ use Rattle.hotel_core.specs.Model.History.{History, start}
 use Rattle.hotel_core.specs.Model.Leads.{Leads}
 use Rattle.hotel_core.specs.Model.Sound.{IsSound}
 use Rattle.hotel_core.proofs.Starts.StartRows.{rows_of_start}
-use Rattle.hotel_program.specs.declared.faults.Fault.{Fault}
-use Rattle.hotel_program.specs.declared.faults.Fault.TheVariants as fault
 use Rattle.hotel_program.specs.declared.script.ScriptEnd.{ScriptEnd}
 use Rattle.hotel_program.specs.declared.script.ScriptFault.{ScriptFault}
 use Rattle.hotel_program.specs.declared.script.ScriptFault.TheVariants.{Read, TooLarge, Memory, Write}
-use Rattle.hotel_program.specs.Faults.{end_status}
 use Rattle.hotel_program.specs.Lines.{answered_lines}
-use Rattle.hotel_program.specs.Program.{zero_seeded, OverNewDesk, ScriptEnds, script_end}
+use Rattle.hotel_program.specs.Program.{zero_seeded, OverNewDesk, ScriptEnds}
 use Rattle.hotel_program.specs.Script.{ScriptAnswered, ScriptCut, IsInput, IfCut, IfUnbegun, NothingBegun}
 
 new_desk : (went : Stream → Stream → (LookFault → ℕ) → (LookFault → ℕ) → History → History → Type 0) (rows rows' : Rows) (s s' : Stream) (n m : ℕ)

@@ -1,5 +1,5 @@
 -- Lines of a script, answered one after the other.
-use Rattle.std.proofs.Common.{◌≡◌, ℕ, zero, suc, ◌+◌, ◌≤◌, List, [], ◌∷◌, ◌++◌, length, take, drop, arith, refl, sym, ap, subst, ◌∙◌, append_assoc, append-nil, length-append, take-append-drop, add-one, Option, Some, None, true, false, Result, Ok, Err}
+use Rattle.std.proofs.Common.{◌≡◌, ℕ, zero, suc, ◌+◌, ◌≤◌, List, [], ◌∷◌, ◌++◌, length, take, drop, arith, refl, sym, ap, subst, ◌∙◌, append_assoc, append-nil, length-append, take-append-drop, add-one, Option, Some, None, false, Result, Ok, Err}
 use Rattle.std.proofs.Math.Seq.{take-append-add}
 use Rattle.std.proofs.lemmas.List.{length-drop}
 use Rattle.std.specs.List.{concat}
@@ -145,9 +145,7 @@ pub appends_front : (a b c : Option (List ℕ)) (output text : List ℕ) → App
 appends_front a b c output text (n, within, next) first =
     (length output + n, simp length-append (omega arith), subst (Appends a c) (sym (take-append-add output text n)) (Appends-trans a b c output (take n text) first next))
 
--- a silent line is not among those that are answered
-
--- any other line is
+-- a line that isn't silent is among those that are answered
 pub answered_more : (text later line cut : List ℕ) → lines text ≡ line ∷ lines later → cut ≡ without_return line → is_silent cut ≡ false → answered_lines text ≡ cut ∷ answered_lines later
 answered_more text later line cut e w h =
     let s : is_silent (without_return line) ≡ false = subst (λ (x : List ℕ). is_silent x ≡ false) w h in

@@ -1,5 +1,5 @@
 -- Connections, one more at a time.
-use Rattle.std.proofs.Common.{◌≡◌, ℕ, Bool, List, [], ◌∷◌, ◌++◌, refl, sym, subst, Option, Some, None, Result, Ok, Err, inl, inr}
+use Rattle.std.proofs.Common.{◌≡◌, ℕ, Bool, List, [], ◌∷◌, ◌++◌, refl, sym, subst, Option, Some, Result, Ok, Err, inl, inr}
 use Rattle.std.proofs.lemmas.Grind.{flat_map-append}
 use Rattle.rand_core.specs.Stream.{Stream}
 use Rattle.keycard_rules.specs.declared.issued.LookFault.{LookFault}
@@ -7,8 +7,7 @@ use Rattle.hotel_core.proofs.Invariants.Assurance.{assured}
 use Rattle.hotel_core.specs.Model.History.{History}
 use Rattle.hotel_core.specs.Model.Leads.{Leads}
 use Rattle.hotel_core.specs.Model.Rows.{Rows}
-use Rattle.hotel_http.specs.Request.{Wanted}
-use Rattle.hotel_http.specs.Serve.{AnswerEnd, Answered, Comes, Serves}
+use Rattle.hotel_http.specs.Serve.{Answered, Comes, Serves}
 use Rattle.hotel_http.specs.declared.serve.Served.{Served}
 use Rattle.hotel_http.specs.declared.serve.ServeFault.{ServeFault}
 use Rattle.hotel_http.specs.declared.serve.ServeFault.TheVariants.{Closed, Read, Memory, Write}

@@ -1,5 +1,5 @@
 -- What an audit file that is imported alone comes to.
-use Rattle.std.specs.Prelude.{◌≡◌, ◌≤◌, ℕ, Bool, true, false, List, [], ◌∷◌, Option, Result, Ok, Err, IfErr}
+use Rattle.std.specs.Prelude.{◌≡◌, ℕ, Bool, true, false, List, [], ◌∷◌, Option, Result, Ok, Err, IfErr}
 use Rattle.std.specs.Io.KnownBytes.{Appends}
 use Rattle.keycard_rules.specs.declared.issued.LookFault.{LookFault}
 use Rattle.keycard_rules.specs.Rise.{NoFewer}

@@ -1,5 +1,5 @@
 -- The command line: its subcommands, each with the values that it takes.
-use Rattle.std.specs.Prelude.{ℕ, List, [], ◌∷◌, ◌++◌, map, codes, true, false, Some}
+use Rattle.std.specs.Prelude.{List, [], ◌∷◌, ◌++◌, map, codes, true, false, Some}
 use Rattle.clap.specs.Words.{App, Rule, Shape, Text, new_rule}
 use Rattle.clap.specs.Simple.{new_shape}
 use Rattle.hotel_asks.specs.Names.{name_text, names_of, word_of}

@@ -1,5 +1,5 @@
 -- The failures of lines that the books count.
-use Rattle.std.specs.Prelude.{Bool, true, false, List, []}
+use Rattle.std.specs.Prelude.{Bool, true, List, []}
 use Rattle.hotel_core.specs.declared.reply.Reply.{Reply}
 use Rattle.hotel_core.specs.declared.reply.Reply.TheVariants.{Refused}
 use Rattle.hotel_core.specs.declared.reply.Refusal.{Refusal}

@@ -1,12 +1,11 @@
 -- What the words of a call ask for.
-use Rattle.std.specs.Prelude.{◌≡◌, ℕ, Bool, List, [], ◌∷◌, Option, Some, None, Result, Ok, Err, codes, if◌then◌else◌, option_map}
+use Rattle.std.specs.Prelude.{◌≡◌, ℕ, List, [], ◌∷◌, Option, Some, None, Result, Ok, Err, codes, if◌then◌else◌, option_map}
 use Rattle.std.specs.Option.{ok_or}
 use Rattle.std.specs.Str.{bytes_eq}
 use Rattle.clap.specs.Words.{Row, Text, first_of}
 use Rattle.keycard_rules.specs.Numerals.{number_up_to}
 use Rattle.hotel_asks.specs.Asks.{ask_of}
 use Rattle.hotel_asks.specs.Names.{name_text, names_of}
-use Rattle.hotel_asks.specs.Values.{◌>>=◌}
 use Rattle.hotel_asks.specs.Verbs.{read_verb}
 use Rattle.hotel_asks.specs.declared.asks.Ask.{Ask}
 use Rattle.hotel_asks.specs.declared.asks.Ask.TheVariants as ask

@@ -2,8 +2,8 @@
 use crate::stored_desks::{MemoryTables, TableDesk};
 use crate::stored_rows::{new_tables, rows_of};
 use hotel_core::{Command, Reply, step};
+use hotel_scenarios::rooms_now::answers_to;
 use hotel_tables::TableBooks;
-use hotel_tests::rooms_now::answers_to;
 use keycard_rules::ListedWords;
 use sqlite::MemStore;
 use std::alloc::Global;

@@ -1,8 +1,8 @@
 //! The worked scenarios and three hundred rooms over tables in memory, from bytes to bytes and exit status.
 use crate::stored_rows::new_tables;
-use hotel_tests::scenario_runs::scenario_holds;
-use hotel_tests::scenarios::{OF_FILES, OF_LOCKS, OF_THE_DESK, Scenario};
-use hotel_tests::three_hundred_rooms::rooms_are_answered;
+use hotel_scenarios::scenario_runs::scenario_holds;
+use hotel_scenarios::scenarios::{OF_FILES, OF_LOCKS, OF_THE_DESK, Scenario};
+use hotel_scenarios::three_hundred_rooms::rooms_are_answered;
 use std::alloc::Global;
 use std::process::Abort;
 use std::test::Fail;

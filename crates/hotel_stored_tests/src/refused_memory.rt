@@ -1,9 +1,9 @@
 //! The scenarios of refused memory over tables. No assertion fails where a growth is refused.
 use crate::stored_rows::new_tables;
-use hotel_tests::refused_memory::{
+use hotel_scenarios::refused_memory::{
     BYTES_STEPS, FILES_STEPS, RECODED_STEPS, TWO_ENTRIES_STEPS, parts_hold, request_holds,
 };
-use hotel_tests::scenarios::Step;
+use hotel_scenarios::scenarios::Step;
 use std::alloc::Global;
 use std::process::Abort;
 use std::test::Fail;

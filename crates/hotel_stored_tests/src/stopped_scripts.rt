@@ -6,7 +6,7 @@ use crate::stored_desks::{FileTables, Making, MemoryTables, TableDesk};
 use hotel_core::{Command, ListBooks, Refusal, Reply, Walks, reply_text, step};
 use hotel_lists::{FakeWriter, arrivals, audit_of, chain_of, in_house, left_behind};
 use hotel_nights::{Guest, Nights};
-use hotel_tests::desks::{
+use hotel_scenarios::desks::{
     AFTERNOON, FIRST_DAY, day, entered, kind, left, note, party, room, words_of,
 };
 use keycard_rules::{Act, Card, ListedWords, LockNote, PartyNo};

@@ -1,12 +1,12 @@
 //! Desks over tables that are closed and opened again, as they were or after a statement that damages them.
 use crate::stored_rows::{created, new_tables, opened, rows_of, stored};
 use hotel_rows::{TableName, first_damaged};
-use hotel_tables::{OpenFault, TableBooks};
-use hotel_tests::chains::{TWO_CODES, chain_reads, walks_end};
-use hotel_tests::desks::Desk;
-use hotel_tests::scenarios::{
+use hotel_scenarios::chains::{TWO_CODES, chain_reads, walks_end};
+use hotel_scenarios::desks::Desk;
+use hotel_scenarios::scenarios::{
     CHECKED_IN, LEFT, LEFT_BEHIND_RECODED, NEXT_CHECKED_IN, NEXT_GUEST, OPENED, Step, TWO_ENTRIES,
 };
+use hotel_tables::{OpenFault, TableBooks};
 use sqlite::{Alter, Connection, Error, MemStore};
 use std::alloc::Global;
 use std::process::Abort;

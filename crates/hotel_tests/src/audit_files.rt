@@ -1,9 +1,9 @@
 //! The scenarios of audit files.
 
 use crate::imports::EACH_CAUSE;
-use crate::rooms_now::CUT_LAST_LINE;
 use hotel_audit::{AuditFault, Cause, Line, LineAnswer, answer_text, read_notes};
 use hotel_core::Refusal;
+use hotel_scenarios::rooms_now::CUT_LAST_LINE;
 use keycard_rules::{Act, CardNo, Code, Count, Link, LockNote, RoomNo};
 use std::alloc::Global;
 use std::process::Abort;

@@ -1,10 +1,10 @@
 //! The file of `audit-bytes` with each of its bytes replaced in turn, and then sent whole.
 
 use crate::damage::{Span, each_damaged};
-use crate::desks::Desk;
 use crate::imports::{after_the_whole, before_the_whole, is_no_file};
-use crate::rooms_now::{CUT_LAST_LINE, RoomNow};
 use hotel_audit::AuditFault;
+use hotel_scenarios::desks::Desk;
+use hotel_scenarios::rooms_now::{CUT_LAST_LINE, RoomNow};
 use std::process::Abort;
 use std::test::Fail;
 

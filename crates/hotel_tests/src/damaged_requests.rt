@@ -3,9 +3,9 @@
 ghost use Rattle.std.specs.Prelude.{◌<◌};
 
 use crate::damage::{Damaged, Span, each_damaged};
-use crate::desks::Desk;
 use crate::requests::{BAD_REQUEST, CHECK_IN, UNREAD_VALUE, answers_so};
-use crate::scenarios::OPENED;
+use hotel_scenarios::desks::Desk;
+use hotel_scenarios::scenarios::OPENED;
 use std::alloc::Global;
 use std::process::Abort;
 use std::test::Fail;

@@ -3,13 +3,13 @@
 ghost use Rattle.std.specs.Prelude.{◌<◌};
 
 use crate::damaged_requests::booked;
-use crate::desks::Desk;
 use crate::requests::{
     CHECK_IN, Exchange, IN_HOUSE, SEEN, SPARE, TAKEN, answer_of, empty_desk, exchange_goes,
     request_of, serve,
 };
 use hotel_http::{ServeFault, Served};
 use hotel_lists::{FakeReader, FakeWriter};
+use hotel_scenarios::desks::Desk;
 use std::process::Abort;
 use std::test::Fail;
 

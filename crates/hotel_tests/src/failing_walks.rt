@@ -1,8 +1,8 @@
 //! Lists over books of which a call fails: each call in turn, for each cause.
-use crate::desks::Desk;
 use crate::lists::{list_of, write_alone};
 use hotel_core::StoppingBooks;
 use hotel_lists::{FakeWriter, ListFault};
+use hotel_scenarios::desks::Desk;
 use keycard_rules::LookFault;
 use std::alloc::Global;
 use std::process::Abort;

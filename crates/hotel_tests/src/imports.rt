@@ -1,9 +1,9 @@
 //! The scenarios of imports, over books in memory.
 
-use crate::desks::{Desk, kind};
-use crate::rooms_now::{CUT_LAST_LINE, FIRST_ENTRY, RoomNow, TWO_NOTES, answers_to};
 use hotel_audit::{AuditFault, Cause, ImportFault, LineAnswer, import};
 use hotel_core::ListBooks;
+use hotel_scenarios::desks::{Desk, kind};
+use hotel_scenarios::rooms_now::{CUT_LAST_LINE, FIRST_ENTRY, RoomNow, TWO_NOTES, answers_to};
 use keycard_rules::PartyNo;
 use std::alloc::Global;
 use std::ops::Range;

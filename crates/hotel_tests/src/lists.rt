@@ -1,14 +1,14 @@
 //! The lists of the scenarios, each by its own call, over books in memory.
-use crate::chains::walks_end;
-use crate::desks::{Desk, room};
-use crate::line_asks::ask_of;
-use crate::scenarios::{
-    AWAY_AND_BACK, CHECKED_IN, LEFT_BEHIND_RECODED, NEXT_CHECKED_IN, OPENED, QUOTED_GUEST, Step,
-    TWO_ENTRIES,
-};
 use hotel_asks::{Ask, ListAsk};
 use hotel_core::Walks;
 use hotel_lists::{FakeWriter, ListFault, arrivals, audit_of, chain_of, in_house, left_behind};
+use hotel_scenarios::chains::walks_end;
+use hotel_scenarios::desks::{Desk, room};
+use hotel_scenarios::line_asks::ask_of;
+use hotel_scenarios::scenarios::{
+    AWAY_AND_BACK, CHECKED_IN, LEFT_BEHIND_RECODED, NEXT_CHECKED_IN, OPENED, QUOTED_GUEST, Step,
+    TWO_ENTRIES,
+};
 use std::alloc::Global;
 use std::io::{Cursor, Write};
 use std::process::Abort;

@@ -1,7 +1,7 @@
 //! Lists longer than what is gathered for one write, some 8 KB, of guests of the greatest length with quotes and commas.
-use crate::desks::{Desk, FIRST_DAY, day, kind};
 use hotel_core::{StoppingBooks, Walks};
 use hotel_lists::{FakeWriter, ListFault, arrivals, in_house};
+use hotel_scenarios::desks::{Desk, FIRST_DAY, day, kind};
 use keycard_rules::LookFault;
 use std::alloc::Global;
 use std::process::Abort;
@@ -24,35 +24,27 @@ fn desk_of_many_codes(alloc: Global) -> Result<Desk, Fail> {
     Desk::begun(alloc, codes.as_slice(), &[])
 }
 
-impl Desk {
-    fn has_many_rooms(&mut self) -> Result<(), Fail> {
-        for number in 1..ROOMS + 1 {
-            self.add_room(number, kind()?)?;
-        }
-        Ok(())
+/// Rooms, and as many bookings.
+fn has_bookings(desk: &mut Desk) -> Result<(), Fail> {
+    for number in 1..ROOMS + 1 {
+        desk.add_room(number, kind()?)?;
+        desk.reserve(GUEST, FIRST_DAY, 2)?;
     }
+    Ok(())
+}
 
-    fn has_many_bookings(&mut self) -> Result<(), Fail> {
-        for _ in 0..ROOMS {
-            self.reserve(GUEST, FIRST_DAY, 2)?;
-        }
-        Ok(())
+/// The party of each number goes to the room of this number.
+fn has_guests(desk: &mut Desk) -> Result<(), Fail> {
+    for number in 1..ROOMS + 1 {
+        desk.check_in(number, number)?;
     }
-
-    /// The party of each number goes to the room of this number.
-    fn has_many_guests(&mut self) -> Result<(), Fail> {
-        for number in 1..ROOMS + 1 {
-            self.check_in(number, number)?;
-        }
-        Ok(())
-    }
+    Ok(())
 }
 
 /// A desk of as many bookings as rooms.
 fn booked_desk(alloc: Global) -> Result<Desk, Fail> {
     let mut desk = desk_of_many_codes(alloc)?;
-    desk.has_many_rooms()?;
-    desk.has_many_bookings()?;
+    has_bookings(&mut desk)?;
     Ok(desk)
 }
 
@@ -113,7 +105,7 @@ fn long_lists_of_quoted_guests(rt: HostRuntime) -> Result<(), Fail> {
     assert!(rt; GUEST.len() == 60);
     let mut desk = booked_desk(rt.alloc())?;
     arrivals_are_whole(&rt, &mut desk)?;
-    desk.has_many_guests()?;
+    has_guests(&mut desk)?;
     house_is_whole(&rt, &mut desk)
 }
 

@@ -2,15 +2,15 @@
 
 mod commands_alone;
 
-use crate::desks::Desk;
-use crate::scenario_runs::{expected, scenario_holds, step_holds};
-use crate::scenarios::{
-    CHECKED_IN, OF_FILES, OF_LOCKS, OF_THE_DESK, OPENED, Scenario, Step, TWO_NOTES,
-};
 use crate::scripts::spaces;
 use hotel_core::{ListBooks, Refusal, Reply};
 use hotel_lists::FakeWriter;
 use hotel_program::status_of;
+use hotel_scenarios::desks::Desk;
+use hotel_scenarios::scenario_runs::{expected, scenario_holds, step_holds};
+use hotel_scenarios::scenarios::{
+    CHECKED_IN, OF_FILES, OF_LOCKS, OF_THE_DESK, OPENED, Scenario, Step, TWO_NOTES,
+};
 use std::alloc::Global;
 use std::process::Abort;
 use std::test::Fail;

@@ -3,8 +3,8 @@
 ghost use Rattle.std.specs.Prelude.{◌<◌};
 
 use crate::audit_files::long_line;
-use crate::desks::Desk;
 use crate::requests::{BAD_REQUEST, OPENING, answers_so, empty_desk, exchanges_go};
+use hotel_scenarios::desks::Desk;
 use std::alloc::Global;
 use std::process::Abort;
 use std::test::Fail;

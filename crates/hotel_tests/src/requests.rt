@@ -2,9 +2,9 @@
 
 ghost use Rattle.std.specs.Prelude.{◌<◌};
 
-use crate::desks::Desk;
 use hotel_http::{ServeFault, Served, serve_one};
 use hotel_lists::{FakeReader, FakeWriter};
+use hotel_scenarios::desks::Desk;
 use std::alloc::Global;
 use std::process::Abort;
 use std::test::Fail;

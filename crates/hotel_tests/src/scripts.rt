@@ -8,9 +8,9 @@ mod failing_writes;
 mod greatest_sizes;
 mod lines;
 
-use crate::desks::Desk;
 use hotel_lists::{FakeReader, FakeWriter};
 use hotel_program::{ScriptEnd, ScriptFault, run_script};
+use hotel_scenarios::desks::Desk;
 use std::alloc::Global;
 use std::process::Abort;
 use std::test::Fail;

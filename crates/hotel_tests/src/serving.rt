@@ -1,9 +1,9 @@
 //! Connections on the loopback address, within one process: the request is sent and its end is closed before the connection is taken.
-use crate::desks::words_of;
-use crate::refused_memory::{CARD_SENT, CHECK_IN};
 use hotel_core::ListBooks;
 use hotel_lists::{FakeReader, FakeWriter};
 use hotel_program::{run_script, serve_connections};
+use hotel_scenarios::desks::words_of;
+use hotel_scenarios::refused_memory::{CARD_SENT, CHECK_IN};
 use keycard_rules::ListedWords;
 use std::alloc::Global;
 use std::io::{self, Read, Write};

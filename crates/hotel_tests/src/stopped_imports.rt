@@ -1,9 +1,9 @@
 //! Imports that are stopped, by a growth that is refused or by a call of the books that fails, and the same file sent again.
 
-use crate::desks::Desk;
-use crate::sent_again::{CUT, Sent, TWICE, comes_again};
 use hotel_audit::{AuditFault, ImportFault, LineAnswer, import};
 use hotel_core::StoppingBooks;
+use hotel_scenarios::desks::Desk;
+use hotel_scenarios::sent_again::{CUT, Sent, TWICE, comes_again};
 use keycard_rules::LookFault;
 use std::process::Abort;
 use std::test::Fail;

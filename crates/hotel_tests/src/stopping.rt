@@ -1,7 +1,7 @@
 //! Books of which a call fails: which one it is, how it is counted, and where a walk then ends.
 
-use crate::desks::{Desk, room};
 use hotel_core::{Books, ChainRow, ListBooks, Sink, Stop, StoppingBooks, WalkFault, Walks};
+use hotel_scenarios::desks::{Desk, room};
 use keycard_rules::{Code, LookFault};
 use std::process::Abort;
 use std::test::Fail;

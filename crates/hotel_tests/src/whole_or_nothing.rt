@@ -1,8 +1,8 @@
 //! Each growth refused in turn: `rt try --test --fail-alloc N`, for N from 1 on, over these tests. A command that found no
 //! memory has left the books as they were.
-use crate::desks::{Desk, FIRST_DAY, code, day, entered, kind, party, room};
 use hotel_core::{Books, Command, ListBooks, Refusal, Reply, RoomRow, step};
 use hotel_nights::{Guest, Nights};
+use hotel_scenarios::desks::{Desk, FIRST_DAY, code, day, entered, kind, party, room};
 use keycard_rules::{CardNo, Count, RoomNo};
 use std::alloc::Global;
 use std::process::Abort;

@@ -1,5 +1,5 @@
 -- What the DELETE of a card that leaves a room makes of the rows of a desk.
-use Rattle.std.proofs.Common.{◌≡◌, ◌⊎◌, ◌&&◌, not, inl, inr, refl, sym, ap, ap₂, subst, ◌∙◌, List, [], ◌∷◌, ℕ, None, true, false, Bool, Ok, IsTrue, map, filter, arith, eqb, nat_cmp, Less, Equal, Greater, Ordering, is_eq, true≢false}
+use Rattle.std.proofs.Common.{◌≡◌, ◌⊎◌, ◌&&◌, not, inl, inr, refl, sym, ap, ap₂, subst, ◌∙◌, List, [], ◌∷◌, ℕ, true, false, Bool, Ok, map, filter, arith, eqb, nat_cmp, Less, Equal, Greater, Ordering, is_eq, true≢false}
 use Rattle.std.specs.List.{AllByRecursion}
 use Rattle.std.specs.List.Sorted.{IsPermutation}
 use Rattle.std.specs.Ordering.{ordering_then}
@@ -26,19 +26,16 @@ use Rattle.sqlite.specs.Command.TheVariants.{Delete}
 use Rattle.sqlite.specs.Table.{Table}
 use Rattle.sqlite.specs.Edit.{edit_of, edited}
 use Rattle.sqlite.specs.Rowids.TheVariants.{Given}
-use Rattle.sqlite.specs.Does.{Tally, Does}
 use Rattle.sqlite.specs.Rows.{Written}
 use Rattle.sqlite.specs.Tree.{Trees}
-use Rattle.sqlite.specs.Listing.{understood}
-use Rattle.sqlite.specs.Effect.{Database}
-use Rattle.sqlite.specs.State.{State, mode_of, ExecutesIn, ExecutesInside}
-use Rattle.sqlite.proofs.Callers.{runs_as, one_step, statement_of, one_permutation}
+use Rattle.sqlite.specs.State.{State, mode_of, ExecutesInside}
+use Rattle.sqlite.proofs.Callers.{one_step, one_permutation}
 use Rattle.hotel_core.specs.Model.Words.{pair_cmp}
 use Rattle.hotel_tables.specs.Schema.{desk_schema, inside_table, at_tree}
 use Rattle.hotel_tables.specs.Values.{int}
 use Rattle.hotel_tables.specs.Texts.{delete_inside}
 use Rattle.hotel_tables.specs.Columns.{inside_columns, inside_of, inside_written}
-use Rattle.hotel_tables.specs.Tables.{IsWrittenAs, AreApart, AreApartIds, HasId, listed, rows_in}
+use Rattle.hotel_tables.specs.Tables.{IsWrittenAs, AreApart, AreApartIds, HasId, listed}
 use Rattle.hotel_tables.specs.Steps.{IsMidWith, Steps, any_rows, inside_gone}
 use Rattle.hotel_tables.proofs.Answers.{answered, single, env, passes}
 use Rattle.hotel_tables.proofs.Keys.{equals, and_true, is_key}

@@ -1,5 +1,5 @@
 -- A desk of whose tables one is written: of the eight lists one moves.
-use Rattle.std.proofs.Common.{◌≡◌, ◌≢◌, true, inl, inr, refl, sym, ap, subst, ◌∙◌, List, [], ◌∷◌, ℕ, Option, Ok, IsTrue, arith, eqb}
+use Rattle.std.proofs.Common.{◌≡◌, ◌≢◌, true, inl, inr, refl, sym, ap, subst, ◌∙◌, List, [], ◌∷◌, ℕ, Option, IsTrue, arith, eqb}
 use Rattle.std.specs.Cmp.Lexicographic.{slice_cmp}
 use Rattle.std.specs.Ordering.{nat_cmp}
 use Rattle.std.specs.List.{AllByRecursion}

@@ -1,5 +1,5 @@
 -- What each INSERT makes of the rows of a desk.
-use Rattle.std.proofs.Common.{◌≡◌, refl, ap, subst, ◌∙◌, List, [], ◌∷◌, ◌++◌, ◌/◌, length, ℕ, pos, None, Ok, inl, inr, true, false, IsTrue, is_eq, nat_cmp}
+use Rattle.std.proofs.Common.{◌≡◌, refl, ap, subst, ◌∙◌, List, [], ◌∷◌, ◌++◌, ◌/◌, length, ℕ, pos, None, Ok, inl, inr, true, false, is_eq, nat_cmp}
 use Rattle.std.specs.Cmp.{IsTotalOrder}
 use Rattle.std.specs.Cmp.Lexicographic.{slice_cmp}
 use Rattle.std.specs.List.{AllByRecursion}

@@ -1,5 +1,5 @@
 -- What each UPDATE makes of the rows of a desk.
-use Rattle.std.proofs.Common.{if◌then◌else◌, ◌==◌, ◌≡◌, inl, inr, refl, ap, ap₂, subst, ◌∙◌, List, [], ◌∷◌, ℕ, pos, None, Some, Ok, false, Bool, IsTrue, drop, filter, arith, eqb, nat_cmp}
+use Rattle.std.proofs.Common.{if◌then◌else◌, ◌==◌, ◌≡◌, inl, inr, refl, ap, ap₂, subst, ◌∙◌, List, [], ◌∷◌, ℕ, pos, None, Some, Ok, false, Bool, drop, arith, eqb, nat_cmp}
 use Rattle.std.proofs.lemmas.Bool.Decides.{nat_tests}
 use Rattle.sqlite_value.specs.declared.value.Value.TheVariants.{Null, Text}
 use Rattle.sqlite.specs.Order.{Row, column}
@@ -17,7 +17,6 @@ use Rattle.sqlite.specs.Program.{overlay}
 use Rattle.sqlite.specs.Rows.{Written, Edited}
 use Rattle.sqlite.specs.Tree.{put_row, without_rowid}
 use Rattle.sqlite.specs.Listing.{understood}
-use Rattle.sqlite.specs.Effect.{Database}
 use Rattle.sqlite.specs.State.{State, mode_of, ExecutesIn, ExecutesInside}
 use Rattle.sqlite.proofs.Callers.{one_step, statement_of}
 use Rattle.hotel_nights.specs.declared.stay.Stay.{Stay}

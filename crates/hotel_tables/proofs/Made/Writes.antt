@@ -5,7 +5,7 @@ use Rattle.sqlite.specs.Command.{Command}
 use Rattle.sqlite.specs.Table.{Table}
 use Rattle.sqlite.specs.Does.{Tally, OnRows, WritesRows}
 use Rattle.sqlite.specs.Does as calls
-use Rattle.sqlite.specs.Rows.{Written, Task, Part}
+use Rattle.sqlite.specs.Rows.{Written, Task}
 use Rattle.sqlite.specs.Listing.{understood}
 use Rattle.sqlite.specs.Effect.{Database}
 use Rattle.sqlite.specs.State.{State, mode_of, Runs, Writes, ExecutesIn}

@@ -1,10 +1,10 @@
 //! One command that is carried out alone, on writers that fail: it stands.
-use crate::desks::{Desk, party, room};
-use crate::scenario_runs::step_holds;
-use crate::scenarios::{OPENED, Step};
 use hotel_core::Command;
 use hotel_lists::FakeWriter;
 use hotel_program::run_one;
+use hotel_scenarios::desks::{Desk, party, room};
+use hotel_scenarios::scenario_runs::step_holds;
+use hotel_scenarios::scenarios::{OPENED, Step};
 use std::process::Abort;
 use std::test::Fail;
 

@@ -1,6 +1,6 @@
 //! What lines of scripts ask for.
 use super::answers_so;
-use crate::desks::Desk;
+use hotel_scenarios::desks::Desk;
 use std::test::Fail;
 
 /// Ann Lee's reservation, with two spaces in her name, and the arrivals of its day.

@@ -1,9 +1,9 @@
 //! Runs of commands in one call.
-use crate::desks::Desk;
-use crate::line_asks::ask_of;
-use crate::scenarios::{CHECKED_IN, OPENED, Step, TWO_ENTRIES};
 use hotel_asks::Ask;
 use hotel_core::{Command, Reply, reply_text, run};
+use hotel_scenarios::desks::Desk;
+use hotel_scenarios::line_asks::ask_of;
+use hotel_scenarios::scenarios::{CHECKED_IN, OPENED, Step, TWO_ENTRIES};
 use std::alloc::Global;
 use std::process::Abort;
 use std::test::Fail;

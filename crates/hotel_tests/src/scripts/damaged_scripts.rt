@@ -1,6 +1,6 @@
 //! The script of `first-run` cut before each of its bytes, and with each of them replaced in turn by 00, 0A, 22, 2C, 7F and FF.
 use super::{answers_so, line_count};
-use crate::desks::Desk;
+use hotel_scenarios::desks::Desk;
 use std::alloc::Global;
 use std::process::Abort;
 use std::test::Fail;

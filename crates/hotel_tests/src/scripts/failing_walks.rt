@@ -1,9 +1,9 @@
 //! Scripts of lists over books of which a call fails: each call in turn, for each cause.
 use super::answers_so;
-use crate::desks::Desk;
 use hotel_core::StoppingBooks;
 use hotel_lists::{FakeReader, FakeWriter};
 use hotel_program::{ScriptEnd, run_script};
+use hotel_scenarios::desks::Desk;
 use keycard_rules::{ListedWords, LookFault};
 use std::alloc::Global;
 use std::process::Abort;

@@ -1,8 +1,8 @@
 //! A script of which the write of each byte fails in turn, or takes no byte: the lines that were carried out stand.
 use super::{ANSWERS, SCRIPT, answers_so, ends_so};
-use crate::desks::Desk;
 use hotel_lists::{FakeReader, FakeWriter};
 use hotel_program::ScriptFault;
+use hotel_scenarios::desks::Desk;
 use std::alloc::Global;
 use std::process::Abort;
 use std::test::Fail;

@@ -1,8 +1,8 @@
 //! Scripts and guests of the greatest size, and of one byte more.
 use super::ends_so;
-use crate::desks::Desk;
 use hotel_lists::{FakeReader, FakeWriter};
 use hotel_program::{ScriptEnd, ScriptFault};
+use hotel_scenarios::desks::Desk;
 use std::alloc::Global;
 use std::process::Abort;
 use std::test::Fail;

@@ -1,6 +1,6 @@
 //! The ends of lines, and the lines that get no answer.
 use super::answers_so;
-use crate::desks::Desk;
+use hotel_scenarios::desks::Desk;
 use std::alloc::Global;
 use std::process::Abort;
 use std::test::Fail;

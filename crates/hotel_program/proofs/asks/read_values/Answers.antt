@@ -1,5 +1,5 @@
 -- The values that were found are those of the verb.
-use Rattle.std.proofs.Common.{◌≡◌, ◌∙◌, ℕ, List, subst}
+use Rattle.std.proofs.Common.{◌∙◌, ℕ, List, subst}
 use Rattle.hotel_asks.specs.Asks.{ask_of, ask_copies}
 use Rattle.hotel_program.specs.Asks.{asked, IsLineRead}
 use Rattle.hotel_program.proofs.asks.read_values.Goals as goal

@@ -1,4 +1,4 @@
-use Rattle.std.proofs.Common.{◌≡◌, ◌∙◌, true, false, refl, ap, subst, List, ℕ, Ok}
+use Rattle.std.proofs.Common.{◌∙◌, true, false, refl, ap, subst, List, ℕ, Ok}
 use Rattle.std.specs.Io.KnownBytes.{Appends}
 use Rattle.hotel_lists.specs.Bytes.{AppendsFront}
 use Rattle.hotel_program.proofs.command_runs.step_and_write.Goals as goal

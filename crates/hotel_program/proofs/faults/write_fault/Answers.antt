@@ -1,4 +1,4 @@
-use Rattle.std.proofs.Common.{◌≡◌, subst, sym}
+use Rattle.std.proofs.Common.{subst, sym}
 use Rattle.std.specs.Prelude.{OnErr}
 use Rattle.hotel_lists.specs.Bytes.{AppendsFront}
 use Rattle.hotel_program.specs.Faults.{fault_text}

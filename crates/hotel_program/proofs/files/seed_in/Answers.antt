@@ -1,4 +1,3 @@
-use Rattle.std.proofs.Common.{◌≡◌}
 use Rattle.hotel_program.proofs.FileLemmas.{seed_taken}
 use Rattle.hotel_program.proofs.files.seed_in.Goals as goal
 

@@ -1,5 +1,4 @@
 -- The command's step is one of the model, and its failure was counted.
-use Rattle.std.proofs.Common.{List, ℕ}
 use Rattle.hotel_asks.specs.Asks.{copies}
 use Rattle.hotel_program.proofs.CountedLemmas.{known_counted}
 use Rattle.hotel_program.proofs.LineAnswerLemmas.{command_answered}

@@ -1,4 +1,4 @@
-use Rattle.std.proofs.Common.{◌≡◌, ◌+◌, [], ◌∷◌, ◌++◌, length, length-append, refl, arith}
+use Rattle.std.proofs.Common.{◌+◌, [], ◌∷◌, ◌++◌, length, length-append, refl, arith}
 use Rattle.hotel_program.proofs.ServingLemmas.{none_served, then_served, then_told}
 use Rattle.hotel_program.proofs.serving.serve_connections.Goals as goal
 

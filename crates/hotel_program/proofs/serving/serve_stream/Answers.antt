@@ -1,4 +1,3 @@
-use Rattle.std.proofs.Common.{◌≡◌, Some}
 use Rattle.hotel_http.specs.Body.{interim_where}
 use Rattle.hotel_program.proofs.ServingLemmas.{request_served}
 use Rattle.hotel_program.proofs.serving.serve_stream.Goals as goal

@@ -1,4 +1,4 @@
-use Rattle.hotel_tables.proofs.Ends.{then_makes, failed}
+use Rattle.hotel_tables.proofs.Ends.{failed}
 use Rattle.hotel_tables.proofs.noting.give_note.Goals as goal
 
 pub returns-in_err-insert_note-clause-makes : goal.returns-in_err-insert_note-clause-makes

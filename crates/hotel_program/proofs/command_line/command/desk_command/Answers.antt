@@ -1,5 +1,5 @@
 -- The subcommands of verbs, and the three others.
-use Rattle.std.proofs.Common.{◌≡◌, ap, ap₂, ◌∙◌, ◌||◌}
+use Rattle.std.proofs.Common.{ap, ap₂, ◌∙◌, ◌||◌}
 use Rattle.std.proofs.lemmas.Result.{IfOk-weaker}
 use Rattle.clap.specs.Words.{App, with_subcommand}
 use Rattle.hotel_program.specs.CommandLine.{desk}

@@ -1,8 +1,8 @@
-use Rattle.std.proofs.Common.{rules, ◌≡◌, true, ap, ap₂, ◌∙◌, codes, Some, ◌||◌}
+use Rattle.std.proofs.Common.{◌≡◌, true, ap, ap₂, ◌∙◌, codes, Some, ◌||◌}
 use Rattle.std.proofs.lemmas.Result.{IfOk-weaker}
-use Rattle.clap.specs.Words.{app_of, rule_of, App, Rule, with_rule}
+use Rattle.clap.specs.Words.{rule_of, App, Rule, with_rule}
 use Rattle.clap.specs.Simple.{app_of_fields}
-use Rattle.hotel_program.specs.CommandLine.{option_rule, options}
+use Rattle.hotel_program.specs.CommandLine.{option_rule}
 use Rattle.hotel_program.proofs.command_line.command.with_options.Goals as goal
 
 pub returns-clause-shape : goal.returns-clause-shape

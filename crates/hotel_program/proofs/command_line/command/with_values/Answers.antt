@@ -1,8 +1,8 @@
 -- One value more of a subcommand.
-use Rattle.std.proofs.Common.{rules, arith, ◌≡◌, map, false, true, [], ℕ, ◌+◌, ◌<◌, take, ap, ap₂, ◌||◌, refl, ◌∙◌, List, ◌∷◌, ◌++◌, sym, length, get_or}
+use Rattle.std.proofs.Common.{rules, arith, ◌≡◌, map, true, [], ℕ, ◌+◌, ◌<◌, take, ap, ap₂, ◌||◌, refl, ◌∙◌, List, ◌∷◌, ◌++◌, sym, length, get_or}
 use Rattle.std.proofs.lemmas.List.{map-append}
 use Rattle.std.proofs.lemmas.Grind.{take_at_read}
-use Rattle.clap.specs.Words.{app_of, rule_of, App, Rule, with_rule, Text, new_rule}
+use Rattle.clap.specs.Words.{rule_of, App, Rule, with_rule, Text, new_rule}
 use Rattle.clap.specs.Simple.{app_of_fields}
 use Rattle.hotel_asks.specs.declared.values.ValueName.{ValueName}
 use Rattle.hotel_program.specs.CommandLine.{leaf, value_rule}

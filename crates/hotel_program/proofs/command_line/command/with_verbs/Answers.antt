@@ -1,9 +1,9 @@
 -- One subcommand more.
-use Rattle.std.proofs.Common.{rules, arith, ◌≡◌, map, [], ℕ, ◌+◌, ◌<◌, take, ap, ap₂, ◌||◌, ◌∙◌, List, sym, length, get_or, fold}
+use Rattle.std.proofs.Common.{arith, ◌≡◌, map, ℕ, ◌+◌, ◌<◌, take, ap, ap₂, ◌||◌, ◌∙◌, List, sym, length, get_or, fold}
 use Rattle.std.proofs.lemmas.List.{map-append}
 use Rattle.std.proofs.lemmas.List.Sums.{fold_push}
 use Rattle.std.proofs.lemmas.Grind.{take_at_read}
-use Rattle.clap.specs.Words.{app_of, App, with_subcommand}
+use Rattle.clap.specs.Words.{App, with_subcommand}
 use Rattle.hotel_asks.specs.declared.verbs.Verb.{Verb}
 use Rattle.hotel_program.specs.CommandLine.{leaf, options, verb_leaf}
 use Rattle.hotel_program.proofs.command_line.command.with_verbs.Goals as goal

@@ -1,6 +1,6 @@
-use Rattle.std.proofs.Common.{◌≡◌, sym, subst, map, string_bytes, true, ap, ◌∙◌, Some, Ok, Err, Option, List, option_map, ◌∷◌, []}
+use Rattle.std.proofs.Common.{sym, subst, map, string_bytes, ap, ◌∙◌, ◌∷◌, []}
 use Rattle.std.proofs.lemmas.Result.{IfErr-weaker, IfOk-weaker}
-use Rattle.clap.specs.Words.{App, takes, first_of, Row, Text, is_simple, matches_of, subcommand_of}
+use Rattle.clap.specs.Words.{App, takes, first_of, is_simple, matches_of, subcommand_of}
 use Rattle.hotel_program.specs.Plans.{IsValueOrMemory, act_in}
 use Rattle.hotel_program.specs.declared.command_line.plan.UsageFault.{UsageFault}
 use Rattle.hotel_program.proofs.CommandLineLemmas.{desk_is_simple, desk_wants_subcommand}

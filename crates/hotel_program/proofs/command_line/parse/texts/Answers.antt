@@ -1,4 +1,4 @@
-use Rattle.std.proofs.Common.{◌≡◌, ◌∙◌, ℕ, ◌+◌, List, [], ◌∷◌, ◌++◌, length, map, take, get_or, ap, sym, refl, Bor, Vec, Global, arith, rules, Ok, Err}
+use Rattle.std.proofs.Common.{◌∙◌, ℕ, List, map, take, ap, refl, Bor, Vec, Global, arith, rules}
 use Rattle.std.proofs.lemmas.List.{map-append}
 use Rattle.std.proofs.lemmas.Grind.{take_at_read}
 use Rattle.clap.specs.Words.{found_of, rows_of}

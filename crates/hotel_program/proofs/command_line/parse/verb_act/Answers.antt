@@ -1,4 +1,4 @@
-use Rattle.std.proofs.Common.{◌≡◌, ◌∙◌, length, ap, sym, Err}
+use Rattle.std.proofs.Common.{◌∙◌, length, ap, sym, Err}
 use Rattle.std.proofs.lemmas.List.{length-map}
 use Rattle.clap.specs.Words.{found_of, rows_of}
 use Rattle.hotel_program.proofs.PlanLemmas.{as_many_texts}
