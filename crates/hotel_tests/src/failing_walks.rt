@@ -1,7 +1,8 @@
-//! Lists over books of which a call fails: each call in turn, for each cause.
+//! Lists over books of which a call fails, each call in turn, for each cause: by their own calls, and in a script.
 use crate::lists::{list_of, write_alone};
 use hotel_core::StoppingBooks;
-use hotel_lists::{FakeWriter, ListFault};
+use hotel_lists::{FakeReader, FakeWriter, ListFault};
+use hotel_program::{ScriptEnd, run_script};
 use hotel_scenarios::desks::Desk;
 use keycard_rules::LookFault;
 use std::alloc::Global;
@@ -97,17 +98,18 @@ impl Asked {
     }
 }
 
-/// The first lines of a text, so many of them, are the bytes.
-fn are_first_lines<A: Abort>(rt: &A, bytes: &[u8], text: &[u8], lines: usize) {
-    assert!(rt; text.starts_with(bytes));
-    let mut count = 0usize;
-    for byte in bytes {
+/// The first lines of a text, so many of them.
+fn first_lines(text: &[u8], lines: usize) -> &[u8] {
+    let mut left = lines;
+    for (at, byte) in text.iter().enumerate() {
+        if left == 0 {
+            return text.get(..at).unwrap_or(b"");
+        }
         if *byte == b'\n' {
-            count = count.saturating_add(1);
+            left = left.saturating_sub(1);
         }
     }
-    assert!(rt; count == lines);
-    assert!(rt; matches!(bytes.last(), None | Some(b'\n')));
+    text
 }
 
 /// The fault that a list answers where a call of the books failed for this cause.
@@ -130,7 +132,7 @@ fn is_cut(
     let mut writer = FakeWriter::new(rt.alloc());
     let written = write_alone(rt.alloc(), &list, books, &mut writer);
     assert!(rt; written == Err(fault_of(cause)));
-    are_first_lines(rt, writer.written(), asked.text, asked.lines_before(call));
+    assert!(rt; writer.written() == first_lines(asked.text, asked.lines_before(call)));
     assert!(rt; books.failures(cause) == 1);
     Ok(())
 }
@@ -179,6 +181,72 @@ fn fails_in_turn(rt: &(impl Abort + AllocGlobal), asked: &Asked) -> Result<(), F
 fn each_call_of_a_list_fails(rt: HostRuntime) -> Result<(), Fail> {
     for asked in ASKED {
         fails_in_turn(&rt, asked)?;
+    }
+    Ok(())
+}
+
+/// The refusal that a script has where a call of the books failed for this cause.
+fn refusal_of(cause: LookFault) -> &'static [u8] {
+    match cause {
+        LookFault::Memory => b"refused 29 Memory\n",
+        LookFault::Store => b"refused 30 Store\n",
+    }
+}
+
+/// The texts, one after the other.
+fn joined(alloc: Global, texts: &[&[u8]]) -> Result<Vec<u8>, Fail> {
+    let mut all = Vec::new(alloc);
+    for text in texts {
+        all.extend_from_slice(text)?;
+    }
+    Ok(all)
+}
+
+/// A script asks for the list twice. The call of this number fails for this cause: the first lines before it are followed by the
+/// refusal, and then the list is whole.
+fn fails_in_script(
+    rt: &(impl Abort + AllocGlobal),
+    asked: &Asked,
+    call: usize,
+    cause: LookFault,
+) -> Result<(), Fail> {
+    let lines = first_lines(asked.text, asked.lines_before(call));
+    let script = joined(rt.alloc(), &[asked.line, b"\n", asked.line])?;
+    let answers = joined(rt.alloc(), &[lines, refusal_of(cause), asked.text])?;
+    let Desk {
+        alloc: _,
+        books,
+        mut source,
+    } = listed_desk(rt.alloc())?;
+    let mut books = StoppingBooks::new(books, call as u64, cause);
+    let mut reader = FakeReader::new(script.as_slice());
+    let mut writer = FakeWriter::new(rt.alloc());
+    let ran = run_script(
+        rt.alloc(),
+        &mut reader,
+        &mut writer,
+        &mut books,
+        &mut source,
+    );
+    assert!(rt; writer.written() == answers.as_slice());
+    assert!(rt; ran == Ok(ScriptEnd { lines: 2 }));
+    Ok(())
+}
+
+/// Each call of the list fails in turn.
+fn fails_in_turn_in_scripts(rt: &(impl Abort + AllocGlobal), asked: &Asked) -> Result<(), Fail> {
+    for earlier in 0..asked.calls {
+        let call = earlier.saturating_add(1);
+        fails_in_script(rt, asked, call, LookFault::Memory)?;
+        fails_in_script(rt, asked, call, LookFault::Store)?;
+    }
+    Ok(())
+}
+
+#[test]
+fn each_call_of_a_list_in_a_script_fails(rt: HostRuntime) -> Result<(), Fail> {
+    for asked in ASKED {
+        fails_in_turn_in_scripts(&rt, asked)?;
     }
     Ok(())
 }

@@ -3,7 +3,6 @@
 mod asked_lines;
 mod command_runs;
 mod damaged_scripts;
-mod failing_walks;
 mod failing_writes;
 mod greatest_sizes;
 mod lines;
