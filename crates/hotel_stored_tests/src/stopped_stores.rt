@@ -1,11 +1,11 @@
 //! Desks on a machine's files.
 use crate::stopped_disks::{Contents, Run, Watched};
-use crate::stopped_scripts::lists_of;
 use crate::stored_desks::{FileTables, Making, TableDesk};
 use crate::stored_rows::{created, opened, rows_of, rows_text};
 use hotel_audit::{ImportFault, LineAnswer, import};
 use hotel_core::{Command, Reply, step};
 use hotel_lists::FakeWriter;
+use hotel_scenarios::random_scripts::lists_of;
 use hotel_scenarios::rooms_now::note_count;
 use hotel_scenarios::sent_again::{TWICE, comes_again};
 use hotel_tables::{OpenFault, TableBooks};
