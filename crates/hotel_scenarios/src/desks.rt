@@ -124,7 +124,7 @@ impl<B: Books> Desk<B> {
     }
 
     /// Begins, with rooms of one kind.
-    pub fn begins(&mut self, rooms: &[u32]) -> Result<(), Fail> {
+    fn begins(&mut self, rooms: &[u32]) -> Result<(), Fail> {
         self.does(&Command::Begin(day(FIRST_DAY)?))?;
         self.does(&Command::AddKind(kind()?))?;
         for number in rooms {
