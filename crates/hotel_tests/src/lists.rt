@@ -149,12 +149,18 @@ impl Listed {
     }
 }
 
+/// What was written is the text.
+fn is_text<A: Abort>(rt: &A, writer: &FakeWriter, text: &[u8]) {
+    assert!(rt; writer.written() == text);
+}
+
 /// The list is written whole.
 fn is_whole(rt: &(impl Abort + AllocGlobal), listed: &mut Listed) {
+    let text = listed.text;
     let mut writer = FakeWriter::new(rt.alloc());
     let written = listed.write(&mut writer);
     assert!(rt; written == Ok(()));
-    assert!(rt; writer.written() == listed.text);
+    is_text(rt, &writer, text);
 }
 
 /// The write of the byte behind this front fails, and the front was written.
