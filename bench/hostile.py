@@ -1,12 +1,10 @@
 #!/usr/bin/env python3
-"""Gives the built program damaged bytes: a script, an audit file, a request and a database file.
+"""Gives the built program random bytes: as a script, an audit file, a request and a database file, and a database with some bytes replaced.
 
 usage: hostile.py [PROGRAM [RANDOM]]      (the built hotel_desk and 1,000,000 random bytes, where they aren't given)
 
-A script, an audit file and a request are cut after each byte, and each of their bytes is replaced by 00, 0A, 22, 2C, 7F and FF in turn;
-random bytes stand for each of them and for the database file. Each run has to end with a status and a fault that the desk names; what
-stands before the damaged byte has to be answered as it is without the damage; and a database file has to be whole afterwards, with all
-that was answered as done. Prints what isn't so, and at last how many runs of each were as wanted.
+Each run has to end with a status and a fault that the desk names, and a database file has to be whole afterwards, or as it was. Prints
+what isn't so, and at last how many runs of each were as wanted. `.ci/bytes` cuts and damages each of them byte by byte.
 """
 import pathlib
 import random
@@ -20,26 +18,10 @@ import tempfile
 from http_routes import serve
 from stored_desk import DESK, answered, faults_of
 
-FIRST, SECOND = "903df1a0ade0", "28bd8653e56a"
-OPENING = ["begin 2031-05-01", "add-kind DBL", "add-room 101 DBL", "reserve DBL 2031-05-01 2 Ann Lee"]
-SCRIPT = OPENING + ["check-in 1 101", f"entered 101 1 1 {FIRST} {SECOND} 2031-05-01T15:00:00"]
-ANSWERS = ["begun", "kind added", f"room code {FIRST}", "party 1", f"card 1 party 1 old {FIRST} new {SECOND}", "taken"]
-AUDIT = (b"\xef\xbb\xbfroom,count,kind,card,old,new,at\r\n" + f'"101",1,in,1,"{FIRST.upper()}",{SECOND},2031-05-01T15:00:00\r\n'.encode()
-         + f"101,2,out,1,{FIRST},{SECOND},2031-05-01T16:00:00\r\n101,3,in".encode())
-AUDITED = ["1 taken", "2 taken", "3 unread FieldCount"]
-REQUEST = b"POST /reservations/1/check-in HTTP/1.1\r\nHost: localhost\r\nContent-Length: 8\r\n\r\nroom=101"
+CHECKED_IN = ["begin 2031-05-01", "add-kind DBL", "add-room 101 DBL", "reserve DBL 2031-05-01 2 Ann Lee", "check-in 1 101"]
 LISTS = ["in-house", "chain 101", "audit-of 101", "arrivals 2031-05-01", "left-behind"]
 FAULTS = re.compile(r"|memory\n|store\n|read\n|too large\n|no header\n|wrong header\n|not a desk\n|damaged [a-z]+\n|closed\n")
 STATUSES = re.compile(rb"HTTP/1\.1 (200|400|404|405|409|413|431|501|503) ")
-
-
-def damaged(good):
-    """Each front of some bytes, and them with each byte replaced; and where the damage begins."""
-    for at in range(len(good)):
-        yield at, good[:at]
-        for byte in b"\x00\x0a\x22\x2c\x7f\xff":
-            if good[at] != byte:
-                yield at, good[:at] + bytes([byte]) + good[at + 1:]
 
 
 class Desk:
@@ -75,25 +57,6 @@ def is_named(status, faults):
     return status in (0, 3, 4, 5) and FAULTS.fullmatch(faults) is not None
 
 
-def scripts_tried(desk, told):
-    good = "".join(f"{line}\n" for line in SCRIPT).encode()
-    for at, given in damaged(good):
-        status, output, faults = desk.run(given)
-        lines = good[:at].count(b"\n")
-        told("script", status == 0 and not faults and output.split("\n")[:lines] == ANSWERS[:lines], given)
-
-
-def audits_tried(desk, told):
-    desk.begun(SCRIPT[:5])
-    file = desk.folder / "audit.csv"
-    for at, given in damaged(AUDIT):
-        desk.fresh()
-        file.write_bytes(given)
-        status, output, faults = desk.run(b"", *desk.words("audit", file))
-        lines = max(0, AUDIT[:at].count(b"\n") - 1)
-        told("audit file", is_named(status, faults) and output.split("\n")[:lines] == AUDITED[:lines] and desk.is_whole(), given)
-
-
 def answer_to(port, sent):
     """What the server says to these bytes, and whether it closed the connection before it had read them all."""
     said, is_cut = b"", False
@@ -108,17 +71,6 @@ def answer_to(port, sent):
     return said, is_cut
 
 
-def requests_tried(desk, told):
-    given = [bytes_sent for _, bytes_sent in damaged(REQUEST)]
-    desk.begun(OPENING)
-    desk.fresh()
-    server, port = serve(desk.program, len(given), *desk.words())
-    for sent in given:
-        said, _ = answer_to(port, sent)
-        told("request", STATUSES.match(said) is not None or (sent == b"" and said == b""), sent)
-    told("server", server.wait(20) == 0 and server.stderr.read() == b"closed\n" and desk.is_whole(), b"")
-
-
 def random_requests_tried(desk, told, pieces):
     desk.fresh()
     server, port = serve(desk.program, len(pieces), *desk.words())
@@ -130,7 +82,7 @@ def random_requests_tried(desk, told, pieces):
 
 def random_tried(desk, told, count):
     chance = random.Random(1)
-    desk.begun(SCRIPT[:5])
+    desk.begun(CHECKED_IN)
     # A file of one byte is an empty database to SQLite, and to the desk.
     pieces = [chance.randbytes(length) for length in (2, 100, 4096, 65536, count)]
     for given in pieces:
@@ -169,9 +121,6 @@ def main():
 
     with tempfile.TemporaryDirectory() as made:
         desk = Desk(program, pathlib.Path(made))
-        scripts_tried(desk, told)
-        audits_tried(desk, told)
-        requests_tried(desk, told)
         random_tried(desk, told, count)
     print(", ".join(f"{what} {number}" for what, number in good.items()) + " as wanted" + (f"; not: {bad}" if bad else ""))
     sys.exit(1 if bad else 0)

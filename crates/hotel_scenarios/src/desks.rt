@@ -1,6 +1,6 @@
 //! A desk over books, for the tests of books, lists, imports and tables.
 use crate::line_asks::ask_of;
-use crate::scenarios::{CHECKED_IN, NEXT_CHECKED_IN, OPENED, Step};
+use crate::scenarios::{CHECKED_IN, OPENED, Step};
 use hotel_asks::Ask;
 use hotel_core::{Books, Command, ListBooks, Reply, step};
 use hotel_nights::{Day, Guest, KindCode, Nights};
@@ -99,13 +99,6 @@ impl Desk {
     /// Room 101, where party 1 checked in: code a0, then a1. The source gives a2 and b0 next.
     pub fn of_one_guest(alloc: Global) -> Result<Desk, Fail> {
         Desk::behind(alloc, &[0xa0, 0xa1, 0xa2, 0xb0], &[OPENED, CHECKED_IN])
-    }
-
-    /// The same desk, after party 1 checked out and party 2 checked in there: code a2.
-    pub fn of_next_guest(alloc: Global) -> Result<Desk, Fail> {
-        let mut desk = Desk::of_one_guest(alloc)?;
-        desk.goes_through(&[NEXT_CHECKED_IN])?;
-        Ok(desk)
     }
 }
 

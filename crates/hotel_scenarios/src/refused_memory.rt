@@ -16,10 +16,10 @@ use std::io::Cursor;
 use std::test::Fail;
 
 /// The check-in over HTTP, and its answer.
-pub const CHECK_IN: &[u8] =
+const CHECK_IN: &[u8] =
     b"POST /reservations/1/check-in HTTP/1.1\r\nHost: localhost\r\nContent-Length: 8\r\n\r\nroom=101";
 
-pub const CARD_SENT: &[u8] =
+const CARD_SENT: &[u8] =
     b"HTTP/1.1 200 OK\r\nContent-Type: text/plain; charset=utf-8\r\nContent-Length: 49\r\nConnection: close\r\n\r\ncard 1 party 1 old 0000000000a0 new 0000000000a1\n";
 
 pub const TWO_ENTRIES_STEPS: &[&[Step]] = &[OPENED, CHECKED_IN, TWO_ENTRIES, AFTER_TWO_ENTRIES];

@@ -16,7 +16,7 @@ pub struct Sent {
 }
 
 /// The file of two notes.
-pub const TWICE: Sent = Sent {
+pub static TWICE: Sent = Sent {
     file: TWO_NOTES,
     notes: &[0, 1, 2],
     again: &[
@@ -27,7 +27,7 @@ pub const TWICE: Sent = Sent {
 };
 
 /// The file whose last line is cut.
-pub const CUT: Sent = Sent {
+pub static CUT: Sent = Sent {
     file: CUT_LAST_LINE,
     notes: &[0, 1, 1],
     again: &[

@@ -4,13 +4,9 @@
 #[cfg(test)]
 mod memory_desks;
 #[cfg(test)]
-mod new_desk;
-#[cfg(test)]
 mod program_in_tables;
 #[cfg(test)]
 mod refused_memory;
-#[cfg(test)]
-mod reopened_file;
 #[cfg(test)]
 mod stopped_disks;
 #[cfg(test)]

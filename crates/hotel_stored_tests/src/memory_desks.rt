@@ -1,10 +1,7 @@
 //! Desks over tables in memory.
 use crate::stored_desks::{MemoryTables, TableDesk};
 use crate::stored_rows::{new_tables, rows_of};
-use hotel_core::{Command, Reply, step};
-use hotel_scenarios::rooms_now::answers_to;
 use hotel_tables::TableBooks;
-use keycard_rules::ListedWords;
 use sqlite::MemStore;
 use std::alloc::Global;
 use std::test::Fail;
@@ -16,8 +13,10 @@ pub(crate) struct MemoryDesk {
 }
 
 impl TableDesk for MemoryDesk {
-    fn step(&mut self, source: &mut ListedWords, command: &Command) -> Reply {
-        step(&mut self.books, source, command)
+    type Books = TableBooks<MemStore>;
+
+    fn books(&mut self) -> &mut TableBooks<MemStore> {
+        &mut self.books
     }
 
     fn rows(self, alloc: Global) -> Result<(MemoryDesk, String), Fail> {
@@ -30,9 +29,5 @@ impl MemoryTables for MemoryDesk {
     fn begun(alloc: Global) -> Result<MemoryDesk, Fail> {
         let books = new_tables(alloc)?;
         Ok(MemoryDesk { books })
-    }
-
-    fn answers_to(&mut self, alloc: Global, file: &[u8]) -> Result<Vec<u8>, Fail> {
-        answers_to(alloc, &mut self.books, file)
     }
 }

@@ -3,7 +3,7 @@ use crate::memory_desks::MemoryDesk;
 use crate::stopped_disks::{Contents, OUTCOMES, Outcome, Run};
 use crate::stopped_stores::{FilesDesk, calls_to_open};
 use crate::stored_desks::{FileTables, Making, MemoryTables, TableDesk};
-use hotel_core::{ListBooks, Refusal, Reply, reply_text};
+use hotel_core::{ListBooks, Refusal, Reply, reply_text, step};
 use hotel_scenarios::random_scripts::{COMMANDS, Draws, Script, lists_of, runs};
 use std::alloc::Global;
 use std::process::Abort;
@@ -18,7 +18,7 @@ const STOPS: u64 = 100;
 /// The reply to the command of this place.
 fn reply_of<B: TableDesk>(script: &Script, desk: &mut B, at: u64) -> Result<Reply, Fail> {
     let (command, mut source) = script.asked(at)?;
-    Ok(desk.step(&mut source, &command))
+    Ok(step(desk.books(), &mut source, &command))
 }
 
 /// When a store stops, and what is left of it then.
@@ -134,7 +134,7 @@ fn tries<D: FileTables + Drop, K: MemoryTables + Drop, R: Abort + AllocGlobal>(
         mut stops,
     } = pair;
     let (command, mut source) = script.asked(at)?;
-    let reply = desk.step(&mut source, &command);
+    let reply = step(desk.books(), &mut source, &command);
     if !matches!(reply, Reply::Refused(Refusal::Store)) {
         replies_so(rt, &script, &mut memory, at, reply)?;
         let stopped = Stopped { run, desk };
@@ -225,10 +225,10 @@ fn lists_are<D: FileTables, R: Abort + AllocGlobal>(
     let mut books = ListBooks::empty(rt.alloc());
     let mut script = Script::new(rt.alloc(), seed)?;
     let done = runs(&mut script, &mut books)?;
-    assert!(rt; done > 100, "seed {seed}: {done}");
+    assert!(rt; done > 100);
     let wanted = lists_of(rt.alloc(), &mut books)?;
-    let lists = desk.lists(rt.alloc())?;
-    assert!(rt; lists.written() == wanted.written(), "seed {seed}");
+    let lists = lists_of(rt.alloc(), desk.books())?;
+    assert!(rt; lists.written() == wanted.written());
     Ok(())
 }
 

@@ -2,14 +2,7 @@
 use crate::stopped_disks::{Contents, Run, Watched};
 use crate::stored_desks::{FileTables, Making, TableDesk};
 use crate::stored_rows::{created, opened, rows_of, rows_text};
-use hotel_audit::{ImportFault, LineAnswer, import};
-use hotel_core::{Command, Reply, step};
-use hotel_lists::FakeWriter;
-use hotel_scenarios::random_scripts::lists_of;
-use hotel_scenarios::rooms_now::note_count;
-use hotel_scenarios::sent_again::{TWICE, comes_again};
 use hotel_tables::{OpenFault, TableBooks};
-use keycard_rules::ListedWords;
 use sqlite::{Alter, Connection, FileStore, Files, Options};
 use sqlite_disk::{Disk, Memory};
 use std::alloc::Global;
@@ -24,10 +17,7 @@ pub(crate) struct FilesDesk {
 }
 
 /// Opens the store that two files have. None where that goes wrong.
-pub(crate) fn connected<D: Disk + Drop>(
-    alloc: Global,
-    files: Files<D>,
-) -> Option<Connection<FileStore<D>>> {
+fn connected<D: Disk + Drop>(alloc: Global, files: Files<D>) -> Option<Connection<FileStore<D>>> {
     if !files.log.may_be_used() || !files.db.may_be_used() {
         return None;
     }
@@ -93,8 +83,10 @@ fn opened_in<S: Alter + Drop>(
 }
 
 impl TableDesk for FilesDesk {
-    fn step(&mut self, source: &mut ListedWords, command: &Command) -> Reply {
-        step(&mut self.books, source, command)
+    type Books = TableBooks<Store>;
+
+    fn books(&mut self) -> &mut TableBooks<Store> {
+        &mut self.books
     }
 
     fn rows(self, alloc: Global) -> Result<(FilesDesk, String), Fail> {
@@ -124,19 +116,6 @@ impl FileTables for FilesDesk {
         let (conn, text) = rows_in(alloc, connect(alloc, run)?)?;
         let _ = conn.close();
         Ok(text)
-    }
-
-    fn import(&mut self, alloc: Global, file: &[u8]) -> Result<Vec<LineAnswer>, ImportFault> {
-        import(alloc, &mut self.books, file)
-    }
-
-    fn comes_again(&mut self, alloc: Global) -> Result<bool, Fail> {
-        let stood = note_count(&mut self.books)?;
-        comes_again(alloc, &mut self.books, &TWICE, stood as usize)
-    }
-
-    fn lists(&mut self, alloc: Global) -> Result<FakeWriter, Fail> {
-        lists_of(alloc, &mut self.books)
     }
 
     fn close(self) {

@@ -5,11 +5,11 @@ use crate::stopped_disks::{Contents, OUTCOMES, Outcome, Run};
 use crate::stopped_stores::{FilesDesk, calls_to_open};
 use crate::stored_desks::{FileTables, Making, MemoryTables, TableDesk};
 use hotel_asks::{Ask, Verb, read_ask};
-use hotel_audit::{ImportFault, LineAnswer};
-use hotel_core::{Command, Refusal, Reply};
+use hotel_audit::{ImportFault, LineAnswer, import};
+use hotel_core::{Command, Refusal, Reply, step};
 use hotel_scenarios::desks::words_of;
-use hotel_scenarios::rooms_now::FIRST_ENTRY;
-use hotel_scenarios::sent_again::TWICE;
+use hotel_scenarios::rooms_now::{FIRST_ENTRY, answers_to, note_count};
+use hotel_scenarios::sent_again::{TWICE, comes_again};
 use keycard_rules::ListedWords;
 use std::alloc::Global;
 use std::process::Abort;
@@ -21,7 +21,7 @@ type Step = (Verb, &'static [&'static [u8]], u64);
 const MOMENT: &[u8] = b"2031-05-01T15:00:00";
 
 /// Room 101, and a guest who checks in there.
-const CHECKED_IN: &[Step] = &[
+static CHECKED_IN: [Step; 5] = [
     (Verb::Begin, &[b"2031-05-01"], 0),
     (Verb::AddKind, &[b"DBL"], 0),
     (Verb::AddRoom, &[b"101", b"DBL"], 0xa0),
@@ -31,7 +31,7 @@ const CHECKED_IN: &[Step] = &[
 
 /// Then one more room, a booking that is given up, notes by which a card comes in, stays and goes, a spare card, the other room, a
 /// recoding there, the end of the stay, and the next day.
-const CHECKED_OUT: &[Step] = &[
+static CHECKED_OUT: [Step; 11] = [
     (Verb::AddRoom, &[b"102", b"DBL"], 0xb0),
     (Verb::Reserve, &[b"DBL", b"2031-05-02", b"1", b"Bo"], 0),
     (Verb::Cancel, &[b"2"], 0),
@@ -109,7 +109,7 @@ fn how_far(reply: &Reply) -> Result<Reached, Fail> {
 /// Takes a step, and says how far that came.
 fn takes_step<B: TableDesk>(alloc: Global, desk: &mut B, asked: &Step) -> Result<Reached, Fail> {
     let (command, mut source) = asked_of(alloc, asked)?;
-    how_far(&desk.step(&mut source, &command))
+    how_far(&step(desk.books(), &mut source, &command))
 }
 
 /// How far the making of a desk came.
@@ -141,7 +141,7 @@ impl Task {
     fn acts<D: FileTables + Drop>(&self, alloc: Global, mut desk: D) -> Result<Reached, Fail> {
         match self {
             Task::Step(asked) => takes_step(alloc, &mut desk, asked),
-            Task::Import => imported(desk.import(alloc, TWICE.file)),
+            Task::Import => imported(import(alloc, desk.books(), TWICE.file)),
             Task::Close => {
                 desk.close();
                 Ok(BEFORE)
@@ -206,7 +206,8 @@ fn sent_again<D: FileTables + Drop, R: Abort + AllocGlobal>(
     path: &Path,
     mut desk: D,
 ) -> Result<(), Fail> {
-    assert!(rt; desk.comes_again(rt.alloc())?);
+    let stood = note_count(desk.books())?;
+    assert!(rt; comes_again(rt.alloc(), desk.books(), &TWICE, stood as usize)?);
     let (_desk, text) = desk.rows(rt.alloc())?;
     assert!(rt; path.states.last() == Some(&text));
     Ok(())
@@ -222,7 +223,7 @@ fn is_found<D: FileTables + Drop, R: Abort + AllocGlobal>(
 ) -> Result<(), Fail> {
     let run = Run::new(rt.alloc(), left, u64::MAX)?;
     let (desk, text) = D::found(rt.alloc(), &run)?;
-    assert!(rt; path.is_among(reached, &text), "{text}");
+    assert!(rt; path.is_among(reached, &text));
     match task {
         Task::Import => sent_again(rt, path, desk),
         _ => Ok(()),
@@ -281,8 +282,8 @@ impl Tries {
 
     /// They are at least so many.
     fn are_many<A: Abort>(self, rt: &A, stops: u64, openings: u64) {
-        assert!(rt; self.stops >= stops, "{} stops", self.stops);
-        assert!(rt; self.openings >= openings, "{} openings", self.openings);
+        assert!(rt; self.stops >= stops);
+        assert!(rt; self.openings >= openings);
     }
 }
 
@@ -337,7 +338,7 @@ impl<K: MemoryTables + Drop> Course<K> {
     fn takes<D: FileTables + Drop>(self, alloc: Global, asked: &Step) -> Result<Course<K>, Fail> {
         let mut desk = self.desk;
         let (command, mut source) = asked_of(alloc, asked)?;
-        how_far(&desk.step(&mut source, &command))?;
+        how_far(&step(desk.books(), &mut source, &command))?;
         let (desk, rows) = desk.rows(alloc)?;
         Ok(Course {
             contents: closed_after::<D>(alloc, &Task::Step(*asked), &self.contents)?,
@@ -412,13 +413,13 @@ fn after_import<K: MemoryTables + Drop>(
     mut desk: K,
     file: &[u8],
 ) -> Result<(K, String), Fail> {
-    desk.answers_to(alloc, file)?;
+    answers_to(alloc, desk.books(), file)?;
     desk.rows(alloc)
 }
 
 /// The way of an import: the rows before it, after its first note, and after both.
 fn import_path<D: FileTables + Drop, K: MemoryTables + Drop>(alloc: Global) -> Result<Path, Fail> {
-    let course = Course::<K>::after::<D>(alloc, CHECKED_IN)?;
+    let course = Course::<K>::after::<D>(alloc, &CHECKED_IN)?;
     let mut path = course.path(alloc)?;
     let (desk, first) = after_import(alloc, course.desk, FIRST_ENTRY)?;
     let (_desk, both) = after_import(alloc, desk, TWICE.file)?;
@@ -462,8 +463,8 @@ fn stops_of<D: FileTables + Drop, K: MemoryTables + Drop, R: Abort + AllocGlobal
     subject: Subject,
 ) -> Result<Tries, Fail> {
     match subject {
-        Subject::CheckIn => are_stopped_after::<D, K, R>(rt, &[], CHECKED_IN),
-        Subject::Stay => are_stopped_after::<D, K, R>(rt, CHECKED_IN, CHECKED_OUT),
+        Subject::CheckIn => are_stopped_after::<D, K, R>(rt, &[], &CHECKED_IN),
+        Subject::Stay => are_stopped_after::<D, K, R>(rt, &CHECKED_IN, &CHECKED_OUT),
         Subject::NewDesk => is_made::<D, K, R>(rt),
         Subject::Import => is_imported::<D, K, R>(rt),
         Subject::OpeningAndClosing => is_opened_and_closed::<D, K, R>(rt),

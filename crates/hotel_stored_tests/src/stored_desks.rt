@@ -1,17 +1,15 @@
 //! What the tests of stores ask of a desk. They know it by these traits alone: a function that names the type of a store is checked
 //! together with every type below it, and that takes ten times as long.
 use crate::stopped_disks::Run;
-use hotel_audit::{ImportFault, LineAnswer};
-use hotel_core::{Command, Reply};
-use hotel_lists::FakeWriter;
-use keycard_rules::ListedWords;
+use hotel_core::Walks;
 use std::alloc::Global;
 use std::test::Fail;
 
 /// A desk over tables.
 pub(crate) trait TableDesk {
-    /// The reply to a command.
-    fn step(&mut self, source: &mut ListedWords, command: &Command) -> Reply;
+    type Books: Walks;
+
+    fn books(&mut self) -> &mut Self::Books;
 
     /// The rows as a text; the desk is closed for it, and opened again.
     fn rows(self, alloc: Global) -> Result<(Self, String), Fail>;
@@ -21,9 +19,6 @@ pub(crate) trait TableDesk {
 pub(crate) trait MemoryTables: TableDesk {
     /// A new desk.
     fn begun(alloc: Global) -> Result<Self, Fail>;
-
-    /// The texts of the answers to an audit file's lines.
-    fn answers_to(&mut self, alloc: Global, file: &[u8]) -> Result<Vec<u8>, Fail>;
 }
 
 /// How far the making of a desk came.
@@ -49,15 +44,6 @@ pub(crate) trait FileTables: TableDesk {
 
     /// The rows as a text; then the store is closed.
     fn rows_closed(alloc: Global, run: &Run) -> Result<String, Fail>;
-
-    /// The answers to an audit file's lines.
-    fn import(&mut self, alloc: Global, file: &[u8]) -> Result<Vec<LineAnswer>, ImportFault>;
-
-    /// The two notes are sent again, after those that stood: whether they are answered, and stand, as they should.
-    fn comes_again(&mut self, alloc: Global) -> Result<bool, Fail>;
-
-    /// What is written of its lists.
-    fn lists(&mut self, alloc: Global) -> Result<FakeWriter, Fail>;
 
     /// Closes the desk, as far as the store does.
     fn close(self);

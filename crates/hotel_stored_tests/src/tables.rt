@@ -4,7 +4,7 @@ use hotel_rows::{TableName, first_damaged};
 use hotel_scenarios::chains::{TWO_CODES, chain_reads, walks_end};
 use hotel_scenarios::desks::Desk;
 use hotel_scenarios::scenarios::{
-    CHECKED_IN, LEFT, LEFT_BEHIND_RECODED, NEXT_CHECKED_IN, NEXT_GUEST, OPENED, Step, TWO_ENTRIES,
+    CHECKED_IN, LEFT_BEHIND_RECODED, NEXT_CHECKED_IN, OPENED, Step, TWO_ENTRIES,
 };
 use hotel_tables::{OpenFault, TableBooks};
 use sqlite::{Alter, Connection, Error, MemStore};
@@ -12,10 +12,8 @@ use std::alloc::Global;
 use std::process::Abort;
 use std::test::Fail;
 
-/// Parts of scenarios that lead to a desk.
-type Parts = &'static [&'static [Step]];
-
-const TWO_ENTRIES_MADE: Parts = &[OPENED, CHECKED_IN, TWO_ENTRIES];
+/// The parts of scenario `two-entries` before its list.
+const TWO_ENTRIES_MADE: &[&[Step]] = &[OPENED, CHECKED_IN, TWO_ENTRIES];
 
 /// The codes that the source of these desks gives.
 const CODES: &[u64] = &[0xa0, 0xa1, 0xa2];
@@ -27,88 +25,9 @@ fn tables_behind(alloc: Global, parts: &[&[Step]]) -> Result<TableBooks<MemStore
     Ok(desk.books)
 }
 
-/// A closed desk, a statement, and the answer to its opening then.
-type Damage = (Parts, &'static str, OpenFault);
-
-const DAMAGES: &[Damage] = &[
-    (
-        &[OPENED],
-        "UPDATE meta SET version = 7",
-        OpenFault::NotADesk,
-    ),
-    (
-        &[OPENED],
-        "UPDATE meta SET day = NULL",
-        OpenFault::Damaged(TableName::Meta),
-    ),
-    (
-        &[OPENED],
-        "INSERT INTO kind VALUES ('dbl')",
-        OpenFault::Damaged(TableName::Kind),
-    ),
-    (
-        &[OPENED],
-        "UPDATE room SET secured = 1",
-        OpenFault::Damaged(TableName::Room),
-    ),
-    (
-        &[OPENED],
-        "UPDATE stay SET state = 1",
-        OpenFault::Damaged(TableName::Stay),
-    ),
-    (
-        TWO_ENTRIES_MADE,
-        "UPDATE code SET place = 5 WHERE place = 1",
-        OpenFault::Damaged(TableName::Code),
-    ),
-    (
-        &[OPENED, CHECKED_IN],
-        "UPDATE card SET number = 5",
-        OpenFault::Damaged(TableName::Card),
-    ),
-    (
-        &[
-            OPENED,
-            CHECKED_IN,
-            TWO_ENTRIES,
-            LEFT,
-            NEXT_CHECKED_IN,
-            NEXT_GUEST,
-        ],
-        "INSERT INTO inside VALUES (101, 1)",
-        OpenFault::Damaged(TableName::Inside),
-    ),
-    (
-        TWO_ENTRIES_MADE,
-        "UPDATE note SET n = 9 WHERE n = 2",
-        OpenFault::Damaged(TableName::Note),
-    ),
-];
-
 /// Changes the tables of a closed desk.
 fn change<S: Alter>(conn: &mut Connection<S>, statement: &str) -> Result<usize, Error> {
     conn.execute(statement, &[])
-}
-
-/// The damaged table that an opening named.
-fn named(fault: OpenFault) -> Option<TableName> {
-    match fault {
-        OpenFault::Damaged(table) => Some(table),
-        _ => None,
-    }
-}
-
-/// Of the rows of a connection the table is the first damaged one, where an opening names one.
-fn is_first_damaged<S: Alter>(
-    rt: &(impl Abort + AllocGlobal),
-    conn: &mut Connection<S>,
-    fault: OpenFault,
-) -> Result<(), Fail> {
-    let stored = stored(rt.alloc(), conn)?;
-    if let Some(table) = named(fault) {
-        assert!(rt; first_damaged(rt.alloc(), &stored) == Ok(Some(table)));
-    }
-    Ok(())
 }
 
 /// The fault of an opening.
@@ -119,21 +38,14 @@ fn fault_of<S: Alter + Drop>(alloc: Global, conn: Connection<S>) -> Option<OpenF
     }
 }
 
-/// The closed desk can't be opened after the statement.
-fn is_damaged(rt: &(impl Abort + AllocGlobal), damage: &Damage) -> Result<(), Fail> {
-    let (parts, statement, fault) = *damage;
-    let mut conn = tables_behind(rt.alloc(), parts)?.close();
-    assert!(rt; change(&mut conn, statement) == Ok(1));
-    is_first_damaged(rt, &mut conn, fault)?;
-    assert!(rt; fault_of(rt.alloc(), conn) == Some(fault));
-    Ok(())
-}
-
-#[test]
-fn a_damaged_desk_is_not_opened(rt: HostRuntime) -> Result<(), Fail> {
-    for damage in DAMAGES {
-        is_damaged(&rt, damage)?;
-    }
+/// A code of the closed desk stands at a later place: the table is named, by its rows and by an opening.
+fn is_damaged<R: Abort + AllocGlobal>(rt: &R, mut conn: Connection<MemStore>) -> Result<(), Fail> {
+    let moved = change(&mut conn, "UPDATE code SET place = 5 WHERE place = 1");
+    assert!(rt; moved == Ok(1));
+    let stored = stored(rt.alloc(), &mut conn)?;
+    assert!(rt; first_damaged(rt.alloc(), &stored) == Ok(Some(TableName::Code)));
+    let fault = fault_of(rt.alloc(), conn);
+    assert!(rt; fault == Some(OpenFault::Damaged(TableName::Code)));
     Ok(())
 }
 
@@ -159,8 +71,8 @@ fn opens_again<R: Abort + AllocGlobal>(
 }
 
 /// No desk is made where one is.
-fn is_made_once<R: Abort + AllocGlobal>(rt: &R, books: TableBooks<MemStore>) {
-    let again = match created(rt.alloc(), books.close()) {
+fn is_made_once<R: Abort + AllocGlobal>(rt: &R, conn: Connection<MemStore>) {
+    let again = match created(rt.alloc(), conn) {
         Ok(_) => None,
         Err(fault) => Some(fault),
     };
@@ -170,7 +82,8 @@ fn is_made_once<R: Abort + AllocGlobal>(rt: &R, books: TableBooks<MemStore>) {
 #[test]
 fn reopened_tables(rt: HostRuntime) -> Result<(), Fail> {
     let books = opens_again(&rt, tables_behind(rt.alloc(), TWO_ENTRIES_MADE)?)?;
-    is_made_once(&rt, books);
+    is_damaged(&rt, books.close())?;
+    is_made_once(&rt, tables_behind(rt.alloc(), &[OPENED])?.close());
     let bare = Connection::open_in_memory(rt.alloc())?;
     assert!(rt; fault_of(rt.alloc(), bare) == Some(OpenFault::NotADesk));
     Ok(())

@@ -1,12 +1,6 @@
 //! Requests of which a read or a write fails, each in turn.
-
-ghost use Rattle.std.specs.Prelude.{◌<◌};
-
-use crate::damaged_requests::booked;
-use crate::requests::{
-    CHECK_IN, Exchange, IN_HOUSE, SEEN, SPARE, TAKEN, answer_of, empty_desk, exchange_goes,
-    request_of, serve,
-};
+use crate::requests::{CHECK_IN, Exchange, SPARE, booked, goes, serve};
+use hotel_core::Walks;
 use hotel_http::{ServeFault, Served};
 use hotel_lists::{FakeReader, FakeWriter};
 use hotel_scenarios::desks::Desk;
@@ -16,7 +10,7 @@ use std::test::Fail;
 /// The request ends by a fault, and nothing is written.
 fn faults_so<R: Abort + AllocGlobal>(
     rt: &R,
-    desk: &mut Desk,
+    desk: &mut Desk<impl Walks>,
     reader: &mut FakeReader<'_>,
     fault: ServeFault,
 ) {
@@ -28,7 +22,7 @@ fn faults_so<R: Abort + AllocGlobal>(
 
 #[test]
 fn no_byte_and_failed_reads(rt: HostRuntime) -> Result<(), Fail> {
-    let mut desk = empty_desk(rt.alloc())?;
+    let mut desk = Desk::of_codes(rt.alloc(), &[0xa0])?;
     let next_day = b"POST /next-day HTTP/1.1\r\nHost: a\r\nContent-Length: 2\r\n\r\nab";
     faults_so(
         &rt,
@@ -48,7 +42,7 @@ fn no_byte_and_failed_reads(rt: HostRuntime) -> Result<(), Fail> {
 /// The write of this number fails, and then so much was written, and the request acted or not.
 fn cut_so<R: Abort + AllocGlobal>(
     rt: &R,
-    desk: &mut Desk,
+    desk: &mut Desk<impl Walks>,
     call: u32,
     request: &[u8],
     written: &[u8],
@@ -62,7 +56,7 @@ fn cut_so<R: Abort + AllocGlobal>(
 
 #[test]
 fn failed_writes_behind_an_interim_answer(rt: HostRuntime) -> Result<(), Fail> {
-    let mut desk = empty_desk(rt.alloc())?;
+    let mut desk = Desk::of_codes(rt.alloc(), &[0xa0])?;
     let begin =
         b"POST /begin HTTP/1.1\r\nHost: a\r\nExpect: 100-Continue\r\nContent-Length: 14\r\n\r\nday=2031-05-01";
     let interim = b"HTTP/1.1 100 Continue\r\n\r\n";
@@ -106,7 +100,8 @@ fn check_in_is_cut(
     let ended = serve(&mut desk, &mut reader, &mut writer);
     assert!(rt; ended == Err(ServeFault::Write { acted }));
     assert!(rt; writer.written() == front);
-    exchange_goes(rt, &mut desk, 4096, &SPARE)
+    goes(rt, &mut desk, &SPARE);
+    Ok(())
 }
 
 /// The write of each byte of the answer fails in turn, or takes no byte.
@@ -156,72 +151,85 @@ fn interrupted_999_times_and_1000_times(rt: HostRuntime) -> Result<(), Fail> {
     interrupted_end(&rt, 600, 400, cut, b"")
 }
 
-/// The exchange's answer is written byte by byte, up to the byte behind so many, whose write fails.
+/// An audit file of two notes.
+const NOTES: &[u8] = b"\
+POST /audit HTTP/1.1\r
+Host: desk\r
+Content-Length: 147\r
+\r
+room,count,kind,card,old,new,at
+101,1,in,1,0000000000a0,0000000000a1,2031-05-01T15:00:00
+101,2,out,1,0000000000a0,0000000000a1,2031-05-01T16:00:00
+";
+
+/// They are new.
+static TAKEN: Exchange = Exchange {
+    request: NOTES,
+    answer: b"HTTP/1.1 200 OK\r\nContent-Type: text/plain; charset=utf-8\r\nContent-Length: 16\r\nConnection: close\r\n\r\n1 taken\n2 taken\n",
+};
+
+/// The same notes again.
+static SEEN: Exchange = Exchange {
+    request: NOTES,
+    answer: b"HTTP/1.1 200 OK\r\nContent-Type: text/plain; charset=utf-8\r\nContent-Length: 14\r\nConnection: close\r\n\r\n1 seen\n2 seen\n",
+};
+
+/// The list of the guests in house, after these notes.
+static IN_HOUSE: Exchange = Exchange {
+    request: b"GET /in-house HTTP/1.1\r\nHost: desk\r\n\r\n",
+    answer: b"HTTP/1.1 200 OK\r\nContent-Type: text/csv; charset=utf-8\r\nContent-Length: 70\r\nConnection: close\r\n\r\nroom,party,guest,kind,depart,secured\n101,1,Ann Lee,DBL,2031-05-03,yes\n",
+};
+
+/// The exchange's answer is written byte by byte, up to the byte behind so many, whose write fails; the notes stand.
 fn exchange_is_cut(
     rt: &(impl Abort + AllocGlobal),
-    desk: &mut Desk,
+    desk: &mut Desk<impl Walks>,
     exchange: &Exchange,
-    before: usize,
     call: u32,
+    front: &[u8],
     acted: bool,
-) -> Result<(), Fail> {
-    let request = request_of(rt.alloc(), exchange)?;
-    let answer = answer_of(rt.alloc(), exchange)?;
-    let front = answer.as_bytes().get(..before).ok_or("behind its end")?;
+) {
     let mut writer = FakeWriter::new(rt.alloc()).in_pieces(1).failing_at(call);
-    let ended = serve(desk, &mut FakeReader::new(request.as_bytes()), &mut writer);
+    let ended = serve(desk, &mut FakeReader::new(exchange.request), &mut writer);
     assert!(rt; ended == Err(ServeFault::Write { acted }));
     assert!(rt; writer.written() == front);
-    Ok(())
-}
-
-/// The answer has so many bytes.
-fn has_bytes(
-    rt: &(impl Abort + AllocGlobal),
-    exchange: &Exchange,
-    bytes: usize,
-) -> Result<(), Fail> {
-    assert!(rt; answer_of(rt.alloc(), exchange)?.len() == bytes);
-    Ok(())
 }
 
 /// The write of each byte of the answer to an audit file fails in turn, and the notes stand.
 #[test]
 fn notes_stand_whose_answer_is_cut(rt: HostRuntime) -> Result<(), Fail> {
-    has_bytes(&rt, &TAKEN, 115)?;
     let mut call = 0u32;
-    for before in 0..115 {
+    for before in 0..TAKEN.answer.len() {
         call = call.saturating_add(1);
         let mut desk = Desk::of_one_guest(rt.alloc())?;
-        exchange_is_cut(&rt, &mut desk, &TAKEN, before, call, true)?;
-        exchange_goes(&rt, &mut desk, 4096, &SEEN)?;
-        exchange_goes(&rt, &mut desk, 4096, &IN_HOUSE)?;
+        exchange_is_cut(&rt, &mut desk, &TAKEN, call, &TAKEN.answer[..before], true);
+        goes(&rt, &mut desk, &SEEN);
+        goes(&rt, &mut desk, &IN_HOUSE);
     }
     Ok(())
 }
 
-/// The write of each byte of an answer fails in turn where nothing is begun: the desk stays as it was.
+/// The same of an answer where nothing is begun: the desk stays as it was.
 fn is_cut_at_each_byte(
     rt: &(impl Abort + AllocGlobal),
-    desk: &mut Desk,
+    desk: &mut Desk<impl Walks>,
     exchange: &Exchange,
-    bytes: usize,
-) -> Result<(), Fail> {
-    has_bytes(rt, exchange, bytes)?;
+) {
+    let answer = exchange.answer;
     let mut call = 0u32;
-    for before in 0..bytes {
+    for before in 0..answer.len() {
         call = call.saturating_add(1);
-        exchange_is_cut(rt, desk, exchange, before, call, false)?;
-        exchange_goes(rt, desk, 4096, &IN_HOUSE)?;
+        exchange_is_cut(rt, desk, exchange, call, &answer[..before], false);
+        goes(rt, desk, &IN_HOUSE);
     }
-    Ok(())
 }
 
 /// The same of the answers to that audit file when it comes again, and to a list.
 #[test]
 fn answers_are_cut_where_nothing_is_begun(rt: HostRuntime) -> Result<(), Fail> {
     let mut desk = Desk::of_one_guest(rt.alloc())?;
-    exchange_goes(&rt, &mut desk, 4096, &TAKEN)?;
-    is_cut_at_each_byte(&rt, &mut desk, &SEEN, 113)?;
-    is_cut_at_each_byte(&rt, &mut desk, &IN_HOUSE, 167)
+    goes(&rt, &mut desk, &TAKEN);
+    is_cut_at_each_byte(&rt, &mut desk, &SEEN);
+    is_cut_at_each_byte(&rt, &mut desk, &IN_HOUSE);
+    Ok(())
 }

@@ -11,7 +11,7 @@ use std::test::Fail;
 
 /// Room 101 was never entered, and its second guest is in house; the guest of room 102 came and went out; and one more is to
 /// arrive two days later.
-const ALL_LISTS: &[&[u8]] = &[
+static ALL_LISTS: [&[u8]; 14] = [
     b"begin 2031-05-01",
     b"add-kind DBL",
     b"add-room 101 DBL",
@@ -31,7 +31,7 @@ const ALL_LISTS: &[&[u8]] = &[
 /// A desk of which each list has rows.
 fn listed_desk(alloc: Global) -> Result<Desk, Fail> {
     let mut desk = Desk::of_codes(alloc, &[0xa0, 0xb0, 0xa1, 0xa2, 0xb1])?;
-    desk.told_each(ALL_LISTS)?;
+    desk.told_each(&ALL_LISTS)?;
     Ok(desk)
 }
 
@@ -45,7 +45,7 @@ struct Asked {
     header: usize,
 }
 
-const ASKED: &[Asked] = &[
+static ASKED: [Asked; 5] = [
     Asked {
         line: b"arrivals 2031-05-03",
         text: b"party,guest,kind,arrive,depart\n4,Di,DBL,2031-05-03,2031-05-04\n",
@@ -179,7 +179,7 @@ fn fails_in_turn(rt: &(impl Abort + AllocGlobal), asked: &Asked) -> Result<(), F
 
 #[test]
 fn each_call_of_a_list_fails(rt: HostRuntime) -> Result<(), Fail> {
-    for asked in ASKED {
+    for asked in &ASKED {
         fails_in_turn(&rt, asked)?;
     }
     Ok(())
@@ -245,7 +245,7 @@ fn fails_in_turn_in_scripts(rt: &(impl Abort + AllocGlobal), asked: &Asked) -> R
 
 #[test]
 fn each_call_of_a_list_in_a_script_fails(rt: HostRuntime) -> Result<(), Fail> {
-    for asked in ASKED {
+    for asked in &ASKED {
         fails_in_turn_in_scripts(&rt, asked)?;
     }
     Ok(())

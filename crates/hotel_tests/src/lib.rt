@@ -3,23 +3,11 @@
 #![tactic(auto)]
 
 #[cfg(test)]
-mod audit_files;
-#[cfg(test)]
-mod codes;
-#[cfg(test)]
-mod damage;
-#[cfg(test)]
-mod damaged_files;
-#[cfg(test)]
-mod damaged_requests;
-#[cfg(test)]
-mod damaged_rows;
+mod chains_and_draws;
 #[cfg(test)]
 mod failing_requests;
 #[cfg(test)]
 mod failing_walks;
-#[cfg(test)]
-mod imports;
 #[cfg(test)]
 mod lists;
 #[cfg(test)]
@@ -33,13 +21,9 @@ mod reads_and_writes;
 #[cfg(test)]
 mod refused_memory;
 #[cfg(test)]
-mod request_limits;
-#[cfg(test)]
 mod requests;
 #[cfg(test)]
 mod scripts;
-#[cfg(test)]
-mod serving;
 #[cfg(test)]
 mod stopped_imports;
 #[cfg(test)]
@@ -47,6 +31,6 @@ mod stopping;
 #[cfg(test)]
 mod three_hundred_rooms;
 #[cfg(test)]
-mod values;
+mod value_readers;
 #[cfg(test)]
 mod whole_or_nothing;

@@ -50,19 +50,22 @@ struct Scene {
 const CODES: &[u64] = &[0xa0, 0xa1, 0xa2];
 
 /// Room 101's codes, where staff recoded a lock that was left behind.
-const CHAIN: Scene = Scene {
-    codes: CODES,
-    parts: &[OPENED, CHECKED_IN, NEXT_CHECKED_IN, LEFT_BEHIND_RECODED],
-    line: b"chain 101",
-    text: b"place,code,state\n0,0000000000a0,passed\n1,0000000000a1,passed\n2,0000000000a2,held\n",
-};
+const THREE_CODES: &[u8] =
+    b"place,code,state\n0,0000000000a0,passed\n1,0000000000a1,passed\n2,0000000000a2,held\n";
 
-const SCENES: &[Scene] = &[
-    CHAIN,
+/// The first of them is the list of those codes.
+static SCENES: [Scene; 6] = [
     Scene {
+        codes: CODES,
+        parts: &[OPENED, CHECKED_IN, NEXT_CHECKED_IN, LEFT_BEHIND_RECODED],
+        line: b"chain 101",
+        text: THREE_CODES,
+    },
+    Scene {
+        codes: CODES,
+        parts: &[OPENED, CHECKED_IN, NEXT_CHECKED_IN, LEFT_BEHIND_RECODED],
         line: b"left-behind",
         text: b"room,held,current,awaited\n",
-        ..CHAIN
     },
     Scene {
         codes: CODES,
@@ -102,7 +105,7 @@ impl Scene {
 }
 
 /// The lists of a room that isn't there write nothing.
-fn no_room(rt: &(impl Abort + AllocGlobal), desk: &mut Desk) -> Result<(), Fail> {
+fn no_room(rt: &(impl Abort + AllocGlobal), desk: &mut Desk<impl Walks>) -> Result<(), Fail> {
     let absent = room(102)?;
     let mut writer = FakeWriter::new(rt.alloc());
     let chain = chain_of(rt.alloc(), &mut desk.books, absent, &mut writer);
@@ -115,12 +118,12 @@ fn no_room(rt: &(impl Abort + AllocGlobal), desk: &mut Desk) -> Result<(), Fail>
 
 #[test]
 fn no_room_before_anything_is_written(rt: HostRuntime) -> Result<(), Fail> {
-    no_room(&rt, &mut CHAIN.desk(rt.alloc())?)
+    no_room(&rt, &mut SCENES[0].desk(rt.alloc())?)
 }
 
 #[test]
 fn a_walk_ends_where_its_sink_stops(rt: HostRuntime) -> Result<(), Fail> {
-    let mut desk = CHAIN.desk(rt.alloc())?;
+    let mut desk = SCENES[0].desk(rt.alloc())?;
     assert!(rt; walks_end(rt.alloc(), &mut desk.books)?);
     Ok(())
 }
@@ -135,11 +138,10 @@ struct Listed {
 
 /// The desk and the list of a scene.
 fn list_behind(alloc: Global, scene: &Scene) -> Result<Listed, Fail> {
-    Ok(Listed {
-        desk: scene.desk(alloc)?,
-        list: list_of(alloc, scene.line)?,
-        text: scene.text,
-    })
+    let list = list_of(alloc, scene.line)?;
+    let text = scene.text;
+    let desk = scene.desk(alloc)?;
+    Ok(Listed { desk, list, text })
 }
 
 impl Listed {
@@ -184,7 +186,7 @@ fn fails_by_bytes(rt: &(impl Abort + AllocGlobal), listed: &mut Listed) {
 
 #[test]
 fn each_byte_whose_write_fails_ends_a_front(rt: HostRuntime) -> Result<(), Fail> {
-    for scene in SCENES {
+    for scene in &SCENES {
         fails_by_bytes(&rt, &mut list_behind(rt.alloc(), scene)?);
     }
     Ok(())
@@ -223,7 +225,7 @@ fn is_whole_or_in_rows(rt: &(impl Abort + AllocGlobal), listed: &mut Listed) {
 /// whole rows and says so, and the next one is whole. No assertion fails; a desk that found no memory ends the test.
 #[test]
 fn a_list_is_whole_or_in_whole_rows(rt: HostRuntime) -> Result<(), Fail> {
-    for scene in SCENES {
+    for scene in &SCENES {
         is_whole_or_in_rows(&rt, &mut list_behind(rt.alloc(), scene)?);
     }
     Ok(())
@@ -252,14 +254,14 @@ fn chains_end(rt: &(impl Abort + AllocGlobal), listed: &mut Listed) {
         listed,
         FakeWriter::new(alloc).in_pieces(1),
         Ok(()),
-        CHAIN.text,
+        THREE_CODES,
     );
     let slow = FakeWriter::new(alloc).interrupted(999);
-    chain_ends(rt, listed, slow, Ok(()), CHAIN.text);
+    chain_ends(rt, listed, slow, Ok(()), THREE_CODES);
     let slow = FakeWriter::new(alloc).interrupted(1000);
     chain_ends(rt, listed, slow, failed, b"");
     let slow = FakeWriter::new(alloc).interrupted_before_each(499);
-    chain_ends(rt, listed, slow, Ok(()), CHAIN.text);
+    chain_ends(rt, listed, slow, Ok(()), THREE_CODES);
     let slow = FakeWriter::new(alloc).interrupted_before_each(500);
     chain_ends(rt, listed, slow, failed, header);
     chain_ends(rt, listed, FakeWriter::new(alloc).stuck_at(1), failed, b"");
@@ -274,6 +276,6 @@ fn chains_end(rt: &(impl Abort + AllocGlobal), listed: &mut Listed) {
 
 #[test]
 fn slow_interrupted_and_stuck_writers(rt: HostRuntime) -> Result<(), Fail> {
-    chains_end(&rt, &mut list_behind(rt.alloc(), &CHAIN)?);
+    chains_end(&rt, &mut list_behind(rt.alloc(), &SCENES[0])?);
     Ok(())
 }

@@ -1,6 +1,6 @@
-//! Lists longer than what is gathered for one write, some 8 KB, of guests of the greatest length with quotes and commas.
+//! Faults within a list longer than what is gathered for one write, some 8 KB, of guests of the greatest length with quotes and commas.
 use hotel_core::{StoppingBooks, Walks};
-use hotel_lists::{FakeWriter, ListFault, arrivals, in_house};
+use hotel_lists::{FakeWriter, ListFault, arrivals};
 use hotel_scenarios::desks::{Desk, FIRST_DAY, day, kind};
 use keycard_rules::LookFault;
 use std::alloc::Global;
@@ -15,17 +15,17 @@ const FIELD: &str = "\"Lee, Ann \"\"Annie\"\" of the house, at the end of the lo
 
 const ROOMS: u32 = 120;
 
-/// A desk whose source gives the codes 1, 2, and so on.
-fn desk_of_many_codes(alloc: Global) -> Result<Desk, Fail> {
+/// The codes 1, 2, and so on.
+fn many_codes(alloc: Global) -> Result<Vec<u64>, Fail> {
     let mut codes = Vec::new(alloc);
-    for code in 1..241u64 {
+    for code in 1..121u64 {
         codes.push(code)?;
     }
-    Desk::begun(alloc, codes.as_slice(), &[])
+    Ok(codes)
 }
 
 /// Rooms, and as many bookings.
-fn has_bookings(desk: &mut Desk) -> Result<(), Fail> {
+fn has_bookings(desk: &mut Desk<impl Walks>) -> Result<(), Fail> {
     for number in 1..ROOMS + 1 {
         desk.add_room(number, kind()?)?;
         desk.reserve(GUEST, FIRST_DAY, 2)?;
@@ -33,17 +33,10 @@ fn has_bookings(desk: &mut Desk) -> Result<(), Fail> {
     Ok(())
 }
 
-/// The party of each number goes to the room of this number.
-fn has_guests(desk: &mut Desk) -> Result<(), Fail> {
-    for number in 1..ROOMS + 1 {
-        desk.check_in(number, number)?;
-    }
-    Ok(())
-}
-
 /// A desk of as many bookings as rooms.
 fn booked_desk(alloc: Global) -> Result<Desk, Fail> {
-    let mut desk = desk_of_many_codes(alloc)?;
+    let codes = many_codes(alloc)?;
+    let mut desk = Desk::begun(alloc, codes.as_slice(), &[])?;
     has_bookings(&mut desk)?;
     Ok(desk)
 }
@@ -58,57 +51,6 @@ fn arrival_rows(alloc: Global, rows: u32) -> Result<Vec<u8>, Fail> {
     Ok(text)
 }
 
-/// The list of all guests in house.
-fn house_rows(alloc: Global) -> Result<Vec<u8>, Fail> {
-    let mut text = b"room,party,guest,kind,depart,secured\n".to_vec(alloc)?;
-    for number in 1..ROOMS + 1 {
-        let line = format!(in alloc; "{number},{number},{FIELD},DBL,2031-05-03,no\n")?;
-        text.extend_from_slice(line.as_bytes())?;
-    }
-    Ok(text)
-}
-
-/// The first day's arrivals are written so.
-fn arrivals_end<B: Walks>(
-    rt: &(impl Abort + AllocGlobal),
-    books: &mut B,
-    writer: &mut FakeWriter,
-    outcome: Result<(), ListFault>,
-    text: &[u8],
-) -> Result<(), Fail> {
-    let first = day(FIRST_DAY)?;
-    let written = arrivals(rt.alloc(), books, first, writer);
-    assert!(rt; written == outcome);
-    assert!(rt; writer.written() == text);
-    Ok(())
-}
-
-/// All arrivals are listed.
-fn arrivals_are_whole(rt: &(impl Abort + AllocGlobal), desk: &mut Desk) -> Result<(), Fail> {
-    let text = arrival_rows(rt.alloc(), ROOMS)?;
-    assert!(rt; text.len() > 10_000);
-    let mut writer = FakeWriter::new(rt.alloc());
-    arrivals_end(rt, &mut desk.books, &mut writer, Ok(()), text.as_slice())
-}
-
-/// All guests in house are listed.
-fn house_is_whole(rt: &(impl Abort + AllocGlobal), desk: &mut Desk) -> Result<(), Fail> {
-    let text = house_rows(rt.alloc())?;
-    let mut writer = FakeWriter::new(rt.alloc());
-    in_house(rt.alloc(), &mut desk.books, &mut writer)?;
-    assert!(rt; writer.written() == text.as_slice());
-    Ok(())
-}
-
-#[test]
-fn long_lists_of_quoted_guests(rt: HostRuntime) -> Result<(), Fail> {
-    assert!(rt; GUEST.len() == 60);
-    let mut desk = booked_desk(rt.alloc())?;
-    arrivals_are_whole(&rt, &mut desk)?;
-    has_guests(&mut desk)?;
-    house_is_whole(&rt, &mut desk)
-}
-
 /// The call of the books before the 101st row fails: a hundred rows are written, and the cause is told.
 fn fails_behind_100(
     rt: &(impl Abort + AllocGlobal),
@@ -117,7 +59,10 @@ fn fails_behind_100(
 ) -> Result<(), Fail> {
     let text = arrival_rows(rt.alloc(), 100)?;
     let mut writer = FakeWriter::new(rt.alloc());
-    arrivals_end(rt, books, &mut writer, Err(fault), text.as_slice())
+    let written = arrivals(rt.alloc(), books, day(FIRST_DAY)?, &mut writer);
+    assert!(rt; written == Err(fault));
+    assert!(rt; writer.written() == text.as_slice());
+    Ok(())
 }
 
 #[test]
@@ -130,7 +75,7 @@ fn a_long_list_stops_behind_its_hundredth_row(rt: HostRuntime) -> Result<(), Fai
 /// The write of this number fails: a front of the list is written, and it is whole rows.
 fn fails_at_write(
     rt: &(impl Abort + AllocGlobal),
-    desk: &mut Desk,
+    desk: &mut Desk<impl Walks>,
     call: u32,
     text: &[u8],
 ) -> Result<usize, Fail> {
@@ -145,7 +90,7 @@ fn fails_at_write(
 }
 
 /// The header is one write; the rows are a write in mid-walk, of more than 8,000 bytes, and one behind the last row.
-fn writes_fail(rt: &(impl Abort + AllocGlobal), desk: &mut Desk) -> Result<(), Fail> {
+fn writes_fail(rt: &(impl Abort + AllocGlobal), desk: &mut Desk<impl Walks>) -> Result<(), Fail> {
     let text = arrival_rows(rt.alloc(), ROOMS)?;
     assert!(rt; fails_at_write(rt, desk, 1, text.as_slice())? == 0);
     assert!(rt; fails_at_write(rt, desk, 2, text.as_slice())? == 31);

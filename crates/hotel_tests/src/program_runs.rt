@@ -2,10 +2,8 @@
 
 mod commands_alone;
 
-use crate::scripts::spaces;
-use hotel_core::{ListBooks, Refusal, Reply};
+use hotel_core::{ListBooks, Walks};
 use hotel_lists::FakeWriter;
-use hotel_program::status_of;
 use hotel_scenarios::desks::Desk;
 use hotel_scenarios::scenario_runs::{expected, scenario_holds, step_holds};
 use hotel_scenarios::scenarios::{
@@ -69,7 +67,7 @@ fn write_failed<A: Abort>(rt: &A, step: &Step, written: &[u8], told: &[u8], stat
 /// The step writes a front of its output on a writer that goes wrong, and says so.
 fn write_fails(
     rt: &(impl Abort + AllocGlobal),
-    desk: &mut Desk,
+    desk: &mut Desk<impl Walks>,
     step: &Step,
     wrong: Wrong,
 ) -> Result<(), Fail> {
@@ -80,18 +78,18 @@ fn write_fails(
     Ok(())
 }
 
-const TAKEN: Step = Step::Audit(TWO_NOTES, b"1 taken\n2 taken\n", 0);
+static TAKEN: Step = Step::Audit(TWO_NOTES, b"1 taken\n2 taken\n", 0);
 
-const SEEN: Step = Step::Audit(TWO_NOTES, b"1 seen\n2 seen\n", 0);
+static SEEN: Step = Step::Audit(TWO_NOTES, b"1 seen\n2 seen\n", 0);
 
 /// The notes stand after the write of this number fails.
 fn notes_stand_after_write(
     rt: &(impl Abort + AllocGlobal),
-    desk: &mut Desk,
+    desk: &mut Desk<impl Walks>,
     call: u32,
 ) -> Result<(), Fail> {
     write_fails(rt, desk, &TAKEN, Wrong::Failing(3, call))?;
-    assert!(rt; step_holds(desk, &SEEN)?, "sent again");
+    assert!(rt; step_holds(desk, &SEEN)?);
     write_fails(rt, desk, &SEEN, Wrong::Stuck(3, call.min(4)))
 }
 
@@ -111,14 +109,14 @@ place,code,state
 1,0000000000a1,awaited
 ";
 
-const CHAIN_LISTED: Step = Step::List(b"chain 101", CHAIN, 0);
+static CHAIN_LISTED: Step = Step::List(b"chain 101", CHAIN, 0);
 
-const NO_ROOM: Step = Step::List(b"audit-of 102", b"refused 6 NoRoom\n", 3);
+static NO_ROOM: Step = Step::List(b"audit-of 102", b"refused 6 NoRoom\n", 3);
 
 /// The write of this number fails within a list, and within the line that says that its room isn't there.
 fn list_write_fails(
     rt: &(impl Abort + AllocGlobal),
-    desk: &mut Desk,
+    desk: &mut Desk<impl Walks>,
     call: u32,
 ) -> Result<(), Fail> {
     write_fails(rt, desk, &CHAIN_LISTED, Wrong::Failing(9, call))?;
@@ -126,11 +124,14 @@ fn list_write_fails(
 }
 
 /// Each of the first writes of a list fails in turn; then it is written.
-fn list_writes_fail(rt: &(impl Abort + AllocGlobal), desk: &mut Desk) -> Result<(), Fail> {
+fn list_writes_fail(
+    rt: &(impl Abort + AllocGlobal),
+    desk: &mut Desk<impl Walks>,
+) -> Result<(), Fail> {
     for call in 1..=3 {
         list_write_fails(rt, desk, call)?;
     }
-    assert!(rt; step_holds(desk, &CHAIN_LISTED)?, "at last");
+    assert!(rt; step_holds(desk, &CHAIN_LISTED)?);
     Ok(())
 }
 
@@ -148,7 +149,12 @@ fn are_silent<A: Abort>(rt: &A, status: u8, written: &[u8], told: &[u8]) {
 }
 
 /// The file comes to a fault, with a write that fails or without, which is not told.
-fn nobody_hears(rt: &(impl Abort + AllocGlobal), desk: &mut Desk, file: &[u8], call: u32) {
+fn nobody_hears(
+    rt: &(impl Abort + AllocGlobal),
+    desk: &mut Desk<impl Walks>,
+    file: &[u8],
+    call: u32,
+) {
     let mut writer = FakeWriter::new(rt.alloc()).failing_at(call);
     let mut faults = FakeWriter::new(rt.alloc()).failing_at(1);
     let status = desk.audit(file, &mut writer, &mut faults);
@@ -166,7 +172,7 @@ fn nobody_hears_of_a_fault_that_is_not_written(rt: HostRuntime) -> Result<(), Fa
 /// After 600 interruptions on its writer and so many on the other, a list tells so.
 fn interrupted_list(
     rt: &(impl Abort + AllocGlobal),
-    desk: &mut Desk,
+    desk: &mut Desk<impl Walks>,
     times: u32,
     told: &[u8],
 ) -> Result<(), Fail> {
@@ -185,57 +191,6 @@ fn interruptions_on_both_writers_are_counted_together(rt: HostRuntime) -> Result
     interrupted_list(&rt, &mut desk, 400, b"")
 }
 
-/// It is told so that the file is none, and nothing is written.
-fn is_told<A: Abort>(rt: &A, status: u8, written: &[u8], told: &[u8], wanted: &[u8]) {
-    assert!(rt; status == 5);
-    assert!(rt; told == wanted);
-    assert!(rt; written.is_empty());
-}
-
-/// The file is no audit file, and so it is told.
-fn is_no_audit(rt: &(impl Abort + AllocGlobal), desk: &mut Desk, file: &[u8], told: &[u8]) {
-    let mut writer = FakeWriter::new(rt.alloc());
-    let mut faults = FakeWriter::new(rt.alloc());
-    let status = desk.audit(file, &mut writer, &mut faults);
-    is_told(rt, status, writer.written(), faults.written(), told);
-}
-
-/// A file of so many spaces is no audit file, and so it is told.
-fn spaces_are_no_audit(
-    rt: &(impl Abort + AllocGlobal),
-    desk: &mut Desk,
-    len: usize,
-    told: &[u8],
-) -> Result<(), Fail> {
-    let file = spaces(rt.alloc(), len)?;
-    is_no_audit(rt, desk, file.as_slice(), told);
-    Ok(())
-}
-
-#[test]
-fn a_file_over_the_limit_is_too_large(rt: HostRuntime) -> Result<(), Fail> {
-    let mut desk = checked_in(rt.alloc())?;
-    spaces_are_no_audit(&rt, &mut desk, 262_144, b"wrong header\n")?;
-    spaces_are_no_audit(&rt, &mut desk, 262_145, b"too large\n")
-}
-
-/// The reply goes with this exit status.
-fn has_status<A: Abort>(rt: &A, reply: &Reply, status: u8) {
-    assert!(rt; status_of(reply) == status);
-}
-
-#[test]
-fn statuses_of_replies(rt: HostRuntime) {
-    has_status(&rt, &Reply::Begun, 0);
-    has_status(&rt, &Reply::Taken, 0);
-    has_status(&rt, &Reply::Seen, 0);
-    has_status(&rt, &Reply::Refused(Refusal::NotBegun), 3);
-    has_status(&rt, &Reply::Refused(Refusal::Gap(4)), 3);
-    has_status(&rt, &Reply::Refused(Refusal::NotAwaited), 3);
-    has_status(&rt, &Reply::Refused(Refusal::Memory), 4);
-    has_status(&rt, &Reply::Refused(Refusal::Store), 4);
-}
-
 /// What is written is whole rows of the chain's list, and the whole list where all went well.
 fn is_whole_rows<A: Abort>(rt: &A, written: &[u8], status: u8) {
     assert!(rt; CHAIN.starts_with(written));
@@ -246,7 +201,10 @@ fn is_whole_rows<A: Abort>(rt: &A, written: &[u8], status: u8) {
 }
 
 /// Writes the chain's list, or says that there was no memory.
-fn chain_or_fault(rt: &(impl Abort + AllocGlobal), desk: &mut Desk) -> Result<(), Fail> {
+fn chain_or_fault(
+    rt: &(impl Abort + AllocGlobal),
+    desk: &mut Desk<impl Walks>,
+) -> Result<(), Fail> {
     let mut writer = FakeWriter::new(rt.alloc());
     let mut faults = FakeWriter::new(rt.alloc());
     let status = desk.list(b"chain 101", &mut writer, &mut faults)?;
@@ -289,7 +247,7 @@ fn import_says_so<A: Abort>(rt: &A, status: u8, written: &[u8], told: &[u8]) {
 }
 
 /// Imports the two notes, and answers what they are answered again.
-fn import_or_fault<R: Abort + AllocGlobal>(rt: &R, desk: &mut Desk) -> &'static [u8] {
+fn import_or_fault<R: Abort + AllocGlobal>(rt: &R, desk: &mut Desk<impl Walks>) -> &'static [u8] {
     let mut writer = FakeWriter::new(rt.alloc());
     let mut faults = FakeWriter::new(rt.alloc());
     let status = desk.audit(TWO_NOTES, &mut writer, &mut faults);
@@ -298,7 +256,7 @@ fn import_or_fault<R: Abort + AllocGlobal>(rt: &R, desk: &mut Desk) -> &'static 
 }
 
 /// Where the two notes are answered again, they are answered so.
-fn import_again<R: Abort + AllocGlobal>(rt: &R, desk: &mut Desk, again: &[u8]) {
+fn import_again<R: Abort + AllocGlobal>(rt: &R, desk: &mut Desk<impl Walks>, again: &[u8]) {
     let mut writer = FakeWriter::new(rt.alloc());
     let mut faults = FakeWriter::new(rt.alloc());
     let status = desk.audit(TWO_NOTES, &mut writer, &mut faults);

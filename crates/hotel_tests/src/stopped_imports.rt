@@ -17,7 +17,7 @@ fn lines_answered<A: Abort>(rt: &A, end: Result<Vec<LineAnswer>, ImportFault>) -
             0
         }
         Err(ImportFault::Memory { answered, taken } | ImportFault::Store { answered, taken }) => {
-            assert!(rt; answered < 2, "a stop comes before the last answer");
+            assert!(rt; answered < 2);
             assert!(rt; taken == (answered > 0));
             answered
         }
@@ -29,7 +29,7 @@ fn stops_by_a_growth(rt: &(impl Abort + AllocGlobal), sent: &Sent) -> Result<(),
     let mut desk = Desk::of_one_guest(rt.alloc())?;
     let answered = lines_answered(rt, import(rt.alloc(), &mut desk.books, sent.file));
     let again = comes_again(rt.alloc(), &mut desk.books, sent, answered)?;
-    assert!(rt; again, "after {answered} lines");
+    assert!(rt; again);
     Ok(())
 }
 
@@ -70,7 +70,7 @@ fn cause_of(end: &Result<Vec<LineAnswer>, ImportFault>) -> Option<LookFault> {
 /// The import ended well, or by this cause; fewer than 20 calls are made.
 fn ended_by<A: Abort>(rt: &A, ended: Option<LookFault>, cause: LookFault, call: u64) {
     if let Some(why) = ended {
-        assert!(rt; why == cause && call < 20, "call {call}");
+        assert!(rt; why == cause && call < 20);
     }
 }
 
@@ -106,7 +106,7 @@ fn stops_at_call(
     match stopped_at(rt, &mut books, sent.file, cause, call) {
         Some(answered) => {
             let again = comes_again(rt.alloc(), &mut books, sent, answered)?;
-            assert!(rt; again, "call {call}");
+            assert!(rt; again);
             Ok(())
         }
         None => Ok(()),

@@ -1,5 +1,5 @@
 //! One command that is carried out alone, on writers that fail: it stands.
-use hotel_core::Command;
+use hotel_core::{Command, Walks};
 use hotel_lists::FakeWriter;
 use hotel_program::run_one;
 use hotel_scenarios::desks::{Desk, party, room};
@@ -10,13 +10,17 @@ use std::test::Fail;
 
 const CARD: &[u8] = b"card 1 party 1 old 0000000000a0 new 0000000000a1\n";
 
-const SPARE: Step = Step::Line(
+static SPARE: Step = Step::Line(
     b"spare 1",
     b"card 2 party 1 old 0000000000a0 new 0000000000a1\n",
 );
 
 /// Party 1 checks in at room 101: the status.
-fn check_in(desk: &mut Desk, writer: &mut FakeWriter, faults: &mut FakeWriter) -> Result<u8, Fail> {
+fn check_in(
+    desk: &mut Desk<impl Walks>,
+    writer: &mut FakeWriter,
+    faults: &mut FakeWriter,
+) -> Result<u8, Fail> {
     let command = Command::CheckIn {
         party: party(1)?,
         room: room(101)?,
@@ -44,7 +48,7 @@ fn checks_in(
     let ended = check_in(&mut desk, &mut writer, &mut faults)?;
     assert!(rt; (ended, faults.written()) == (status, told));
     assert!(rt; writer.written() == written);
-    assert!(rt; step_holds(&mut desk, &SPARE)?, "it stands");
+    assert!(rt; step_holds(&mut desk, &SPARE)?);
     Ok(())
 }
 

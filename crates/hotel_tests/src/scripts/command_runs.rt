@@ -1,6 +1,7 @@
-//! Runs of commands in one call.
+//! Runs of commands in one call, and a script of no line.
+use super::answers_so;
 use hotel_asks::Ask;
-use hotel_core::{Command, Reply, reply_text, run};
+use hotel_core::{Command, Reply, Walks, reply_text, run};
 use hotel_scenarios::desks::Desk;
 use hotel_scenarios::line_asks::ask_of;
 use hotel_scenarios::scenarios::{CHECKED_IN, OPENED, Step, TWO_ENTRIES};
@@ -38,7 +39,7 @@ fn texts_of(alloc: Global, replies: &[Reply]) -> Result<Vec<u8>, Fail> {
 /// A run of these commands has so many replies, whose texts are the answers.
 fn run_is_answered(
     rt: &(impl Abort + AllocGlobal),
-    desk: &mut Desk,
+    desk: &mut Desk<impl Walks>,
     commands: &[Command],
     count: usize,
     answers: &[u8],
@@ -62,7 +63,7 @@ fn push_two_entries(
 }
 
 /// The commands of the scenario "two-entries" have their seven replies in one run, after a run of no command.
-fn runs_at_once(rt: &(impl Abort + AllocGlobal), desk: &mut Desk) -> Result<(), Fail> {
+fn runs_at_once(rt: &(impl Abort + AllocGlobal), desk: &mut Desk<impl Walks>) -> Result<(), Fail> {
     let mut commands = Vec::new(rt.alloc());
     let mut answers = Vec::new(rt.alloc());
     push_two_entries(rt.alloc(), &mut commands, &mut answers)?;
@@ -71,7 +72,8 @@ fn runs_at_once(rt: &(impl Abort + AllocGlobal), desk: &mut Desk) -> Result<(), 
 }
 
 #[test]
-fn words_and_empties_runs(rt: HostRuntime) -> Result<(), Fail> {
+fn words_and_empties(rt: HostRuntime) -> Result<(), Fail> {
     let mut desk = Desk::of_codes(rt.alloc(), &[0xa0, 0xa1, 0xa2])?;
+    answers_so(&rt, &mut desk, b"", b"", 0);
     runs_at_once(&rt, &mut desk)
 }

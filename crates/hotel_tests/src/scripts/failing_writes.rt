@@ -10,7 +10,7 @@ use std::test::Fail;
 const CHAIN: &[u8] = b"place,code,state\n0,0000000000a0,held\n";
 
 /// What the script's lines are answered, and what they are answered when they come again.
-const LINES: &[(&[u8], &[u8])] = &[
+static LINES: [(&[u8], &[u8]); 4] = [
     (b"begun\n", b"refused 2 AlreadyBegun\n"),
     (b"kind added\n", b"refused 3 KindExists\n"),
     (b"room code 0000000000a0\n", b"refused 5 RoomExists\n"),
@@ -21,7 +21,7 @@ const LINES: &[(&[u8], &[u8])] = &[
 fn done_behind(bytes: usize) -> u32 {
     let mut done = 0u32;
     let mut start = 0usize;
-    for (answer, _) in LINES {
+    for (answer, _) in &LINES {
         if start <= bytes {
             done = done.saturating_add(1);
         }
@@ -34,7 +34,7 @@ fn done_behind(bytes: usize) -> u32 {
 fn answers_again(alloc: Global, done: u32) -> Result<Vec<u8>, Fail> {
     let mut answers = Vec::new(alloc);
     let mut left = done;
-    for (first, again) in LINES {
+    for (first, again) in &LINES {
         answers.extend_from_slice(if left > 0 { *again } else { *first })?;
         left = left.saturating_sub(1);
     }
