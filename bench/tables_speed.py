@@ -5,7 +5,7 @@ usage: tables_speed.py [PROGRAM [STAYS]]      (the built hotel_desk and 300,000,
 
 Each time is the least of five runs that take turns (of two over the large desk): that of a script, less that of the same script without the lines in question.
 Beside it stands the processor's own time, which says more on a machine that has other work.
-- Changes: 200 bookings and 200 check-ins over a file with 300 rooms. Beside them the statements of hotel_tables' texts.rt by Python's sqlite3 over
+- Changes: 200 bookings and 200 check-ins over a file with 300 rooms. Beside them the statements of hotel_statements' texts.rt by Python's sqlite3 over
   a copy of the file, with the same journal (WAL), `synchronous` (FULL) and foreign keys, one transaction each.
 - Look-ups: 20,000 lines that ask for a room that isn't there, one keyed statement each, less the same lines over memory.
 - A check-in: 200 of them over a desk without stays, and over one with so many stays and cards and four notes for each card.
@@ -28,7 +28,7 @@ DAY = 11443  # 2031-05-01, counted from 2000-01-01
 ROOMS, CHANGES = 100, 200  # rooms with past stays, and rooms without, of which each is checked into once
 LOOKS = 20000
 TURNS, LARGE_TURNS = 5, 2
-SOURCE = HERE.parent / "crates" / "hotel_tables" / "src" / "texts.rt"
+SOURCE = HERE.parent / "crates" / "hotel_statements" / "src" / "texts.rt"
 TEXTS = dict(re.findall(r'const (\w+): &str =\s*"([^"]*)"', SOURCE.read_text()))
 
 BOOKED = ["reserve K0 2031-05-01 1 G"] * CHANGES

@@ -1,7 +1,6 @@
 //! Scripts of random commands on stores that stop at a hundred places and are opened again after each.
-use crate::memory_desks::MemoryDesk;
 use crate::stopped_disks::{Contents, OUTCOMES, Outcome, Run};
-use crate::stopped_stores::{FilesDesk, calls_to_open};
+use crate::stopped_stores::calls_to_open;
 use crate::stored_desks::{FileTables, Making, MemoryTables, TableDesk};
 use hotel_core::{ListBooks, Refusal, Reply, reply_text, step};
 use hotel_scenarios::random_scripts::{COMMANDS, Draws, Script, lists_of, runs};
@@ -252,16 +251,12 @@ fn is_stopped<D: FileTables + Drop, K: MemoryTables + Drop, R: Abort + AllocGlob
     Ok(())
 }
 
-fn are_stopped<D: FileTables + Drop, K: MemoryTables + Drop, R: Abort + AllocGlobal>(
+/// Each of the scripts is carried out, however often the store stops meanwhile.
+pub(crate) fn are_carried_out<D: FileTables + Drop, K: MemoryTables + Drop, R: Abort + AllocGlobal>(
     rt: &R,
 ) -> Result<(), Fail> {
     for seed in SEEDS {
         is_stopped::<D, K, R>(rt, *seed)?;
     }
     Ok(())
-}
-
-#[test]
-fn scripts_are_stopped(rt: HostRuntime) -> Result<(), Fail> {
-    are_stopped::<FilesDesk, MemoryDesk, _>(&rt)
 }
