@@ -7,10 +7,10 @@ use Rattle.keycard_rules.specs.declared.issued.LookFault.{LookFault}
 use Rattle.hotel_core.specs.declared.books.change.Change.{Change}
 use Rattle.hotel_core.specs.Model.Rows.{Rows}
 use Rattle.hotel_core.specs.Books.Change.{made}
-use Rattle.hotel_tables.specs.Tables.{rows_in}
-use Rattle.hotel_tables.specs.Books.{IsKept}
-use Rattle.hotel_tables.specs.LookUps.{Looks}
-use Rattle.hotel_tables.specs.Steps.{IsMadeOf}
+use Rattle.hotel_statements.specs.Tables.{rows_in}
+use Rattle.hotel_statements.specs.Books.{IsKept}
+use Rattle.hotel_statements.specs.LookUps.{Looks}
+use Rattle.hotel_statements.specs.Steps.{IsMadeOf}
 use Rattle.hotel_tables.specs.Applied.{Applies}
 
 module _ {A R : Type 0} {said : R → A} {wanted : Rows → A} (change : Change) (old mid : State) (r : Result R LookFault) (looks : Looks said wanted old mid r) where

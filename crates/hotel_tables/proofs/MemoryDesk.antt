@@ -6,11 +6,11 @@ use Rattle.sqlite.specs.Schema.{Schema}
 use Rattle.sqlite.specs.State.{Survives}
 use Rattle.sqlite.specs.Steps.{over_memory, IsEmpty}
 use Rattle.sqlite.proofs.Callers.{memory_is_clean}
-use Rattle.hotel_tables.specs.Schema.{desk_schema}
-use Rattle.hotel_tables.specs.Books.{IsBooks}
-use Rattle.hotel_tables.specs.Making.{IsEmptyDesk}
-use Rattle.hotel_tables.specs.SameSchema.{same_schema}
-use Rattle.hotel_tables.proofs.SameSchema.{schema_is, desk_is_same}
+use Rattle.hotel_statements.specs.Schema.{desk_schema}
+use Rattle.hotel_statements.specs.Books.{IsBooks}
+use Rattle.hotel_statements.specs.Making.{IsEmptyDesk}
+use Rattle.hotel_statements.specs.SameSchema.{same_schema}
+use Rattle.hotel_statements.proofs.SameSchema.{schema_is, desk_is_same}
 
 pub memory_has_desk : (old new : Held MemStore) → IsEmpty (state over_memory old) → Survives (state over_memory old) (state over_memory new) IsEmptyDesk → IsBooks (state over_memory new)
     → (state over_memory new).now.schema ≡ desk_schema

@@ -20,10 +20,10 @@ use Rattle.hotel_core.proofs.OfTables.RowTests.{both}
 use Rattle.hotel_tables.specs.declared.open_fault.OpenFault.{OpenFault}
 use Rattle.hotel_tables.specs.declared.files.FileFault.{FileFault}
 use Rattle.hotel_tables.specs.TableBooks.{Tabled}
-use Rattle.hotel_tables.specs.Schema.{no_schema, desk_schema}
-use Rattle.hotel_tables.specs.Books.{IsKept, IsBooks, KeepsRows}
-use Rattle.hotel_tables.specs.Tables.{rows_in}
-use Rattle.hotel_tables.specs.Making.{IsEmptyDesk}
+use Rattle.hotel_statements.specs.Schema.{no_schema, desk_schema}
+use Rattle.hotel_statements.specs.Books.{IsKept, IsBooks, KeepsRows}
+use Rattle.hotel_statements.specs.Tables.{rows_in}
+use Rattle.hotel_statements.specs.Making.{IsEmptyDesk}
 use Rattle.hotel_tables.specs.Opening.{NamesNoTable}
 use Rattle.hotel_tables.specs.Files.{file_fault, IsAnswer, AreBooksOf, AreOfOpening, LeavesDatabase, IsWhyNone, HoldBooks}
 use Rattle.hotel_tables.proofs.EmptyDesk.{empty_counted}

@@ -1,6 +1,6 @@
 -- Tables that are read, undamaged and without numbers below 0 are tables of a desk.
 use Rattle.std.proofs.Common.{◌≡◌, refl, sym, ap, subst, ◌∙◌, List, [], ◌∷◌, map, ℕ, ℤ, pos, nat_cmp, true, false, Bool, Less, Ordering, is_eq, Option, None, Result, Ok, Err, OnOk, IfOk, IfErr, IsTrue, Vec, arith}
-use Rattle.std.specs.Prelude.{option_map, ◌-◌}
+use Rattle.std.specs.Prelude.{option_map}
 use Rattle.std.specs.List.{AllByRecursion, list_all}
 use Rattle.std.specs.List.Sorted.{IsPermutation}
 use Rattle.std.specs.Ordering.{int_cmp}
@@ -25,36 +25,36 @@ use Rattle.hotel_core.specs.Model.Words.{pair_cmp, said_of}
 use Rattle.hotel_core.specs.Model.Rows.{at_number}
 use Rattle.hotel_core.specs.Model.Sound.{keys_in_order}
 use Rattle.hotel_core.specs.Model.SoundRooms.{are_in_order}
-use Rattle.hotel_core.specs.NightIndex.{counted}
 use Rattle.hotel_core.proofs.OfTables.Pairs.{pair_cmp_total}
 use Rattle.hotel_core.proofs.OfTables.Tests.{and_true}
-use Rattle.hotel_tables.specs.declared.lines.MetaLine.{MetaLine}
-use Rattle.hotel_tables.specs.declared.lines.NumberedInside.{NumberedInside}
+use Rattle.hotel_statements.specs.declared.lines.MetaLine.{MetaLine}
+use Rattle.hotel_statements.specs.declared.lines.NumberedInside.{NumberedInside}
 use Rattle.hotel_rows.specs.declared.stored.KindLine.{KindLine}
 use Rattle.hotel_rows.specs.declared.stored.InsideLine.{InsideLine}
 use Rattle.hotel_rows.specs.declared.stored.Stored.{Stored}
-use Rattle.hotel_tables.specs.declared.reading.Tables.{Tables}
+use Rattle.hotel_statements.specs.declared.reading.Tables.{Tables}
 use Rattle.hotel_rows.specs.declared.counting.Counts.{Counts}
 use Rattle.hotel_tables.specs.declared.open_fault.OpenFault.{OpenFault}
 use Rattle.hotel_tables.specs.declared.open_fault.OpenFault.TheVariants as fault
-use Rattle.hotel_tables.specs.Columns.{meta_columns, meta_of, meta_written, kind_columns, kind_of, kind_written, room_columns, room_of, room_written, stay_columns, stay_of, stay_written}
-use Rattle.hotel_tables.specs.Columns.{code_columns, code_of, code_written, card_columns, card_of, card_written, inside_columns, inside_of, inside_written, note_columns, note_of, note_written}
+use Rattle.hotel_statements.specs.Columns.{meta_columns, meta_of, meta_written, kind_columns, kind_of, kind_written, room_columns, room_of, room_written, stay_columns, stay_of, stay_written}
+use Rattle.hotel_statements.specs.Columns.{code_columns, code_of, code_written, card_columns, card_of, card_written, inside_columns, inside_of, inside_written, note_columns, note_of, note_written}
 use Rattle.hotel_rows.specs.Stored.{number_of, kind_text, room_entry, stay_entry, code_entry, card_entry, inside_pair, note_entry, rows_of}
 use Rattle.hotel_rows.specs.Damage as damage
 use Rattle.hotel_rows.specs.Damage.{columns_fit, first_damaged_of}
-use Rattle.hotel_tables.specs.Tables.{AreApartIds, AreApart, AreTables, by_key, metas_in, rows_in as all_rows_in}
+use Rattle.hotel_statements.specs.Tables.{AreApartIds, AreApart, AreTables, by_key, metas_in, rows_in as all_rows_in}
 use Rattle.hotel_tables.specs.TableBooks.{IsCounted}
-use Rattle.hotel_tables.specs.Books.{IsBooks}
-use Rattle.hotel_tables.specs.Lines.{maybe, meta_shown, kind_shown, room_shown, stay_shown, code_shown, card_shown, inside_shown, numbered_shown, numbered_columns, note_shown, AreLines}
-use Rattle.hotel_tables.specs.Lines.{may_be_natural, room_natural, stay_natural, code_natural, card_natural, inside_natural, note_natural}
-use Rattle.hotel_tables.specs.Opening.{ReadsTo, AreRead, AreStored, AreApartInside, IsMetaRow, LacksRow, HasMetaRow, FaultFits, Told, Opens, all_rise, all_natural, id_inside, line_inside, fault_for}
+use Rattle.hotel_statements.specs.Books.{IsBooks}
+use Rattle.hotel_statements.specs.Lines.{maybe, meta_shown, kind_shown, room_shown, stay_shown, code_shown, card_shown, inside_shown, numbered_shown, numbered_columns, note_shown, AreLines}
+use Rattle.hotel_statements.specs.Lines.{may_be_natural, room_natural, stay_natural, code_natural, card_natural, inside_natural, note_natural}
+use Rattle.hotel_statements.specs.Reading.{ReadsTo, AreRead}
+use Rattle.hotel_tables.specs.Opening.{AreStored, AreApartInside, IsMetaRow, LacksRow, HasMetaRow, FaultFits, Told, Opens, all_rise, all_natural, id_inside, line_inside, fault_for}
 use Rattle.hotel_rows.specs.Counting.{IsCountedOf}
 use Rattle.hotel_rows.proofs.OfCounts.{counted_rooms, named_kind}
-use Rattle.hotel_tables.proofs.Answers.{fused}
-use Rattle.hotel_tables.proofs.Keyed.{key_total}
-use Rattle.hotel_tables.proofs.Perm.{every_shuffled, apart_permuted}
-use Rattle.hotel_tables.proofs.ReadBack.{read_back, tested_keys, tested_order}
-use Rattle.hotel_tables.proofs.Naturals.{meta_good, kind_good, room_good, stay_good, code_good, card_good, inside_good, note_good}
+use Rattle.hotel_statements.proofs.Answers.{fused}
+use Rattle.hotel_statements.proofs.Keyed.{key_total}
+use Rattle.hotel_statements.proofs.Perm.{every_shuffled, apart_permuted}
+use Rattle.hotel_statements.proofs.ReadBack.{read_back, tested_keys, tested_order}
+use Rattle.hotel_statements.proofs.Naturals.{meta_good, kind_good, room_good, stay_good, code_good, card_good, inside_good, note_good}
 use Rattle.hotel_rows.proofs.OfDamage.Undamaged.{undamaged_is_sound}
 
 -- ---- the row of meta

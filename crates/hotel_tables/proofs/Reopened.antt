@@ -11,8 +11,8 @@ use Rattle.sqlite.specs.Effect.{Database}
 use Rattle.sqlite.specs.Files.{file_state}
 use Rattle.sqlite.proofs.Callers.{finds_again}
 use Rattle.hotel_core.proofs.OfTables.RowTests.{both}
-use Rattle.hotel_tables.specs.Schema.{desk_schema}
-use Rattle.hotel_tables.specs.Tables.{AreTables}
+use Rattle.hotel_statements.specs.Schema.{desk_schema}
+use Rattle.hotel_statements.specs.Tables.{AreTables}
 use Rattle.hotel_tables.specs.Reopening.{FilesKeepBooks, FilesAreClean}
 
 pub files_keep_books : {D : Type 0} {g : Ghosts D} → FilesKeepBooks g

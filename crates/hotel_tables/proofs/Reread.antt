@@ -38,20 +38,20 @@ use Rattle.hotel_rows.specs.declared.stored.NoteLine.{NoteLine}
 use Rattle.hotel_rows.specs.declared.stored.Stored.{Stored}
 use Rattle.hotel_tables.specs.declared.open_fault.OpenFault.{OpenFault}
 use Rattle.hotel_tables.specs.declared.open_fault.OpenFault.TheVariants as fault
-use Rattle.hotel_tables.specs.Values.{int, maybe_int}
-use Rattle.hotel_tables.specs.Columns.{meta_columns, meta_of, meta_written, room_columns, room_of, room_written, bit_of, stay_columns, stay_of, stay_written, state_number}
-use Rattle.hotel_tables.specs.Columns.{code_columns, code_of, code_written, card_columns, card_of, card_written, inside_columns, inside_of, inside_written, note_columns, note_of, note_written, act_number, act_card}
+use Rattle.hotel_statements.specs.Values.{int, maybe_int}
+use Rattle.hotel_statements.specs.Columns.{meta_columns, meta_of, meta_written, room_columns, room_of, room_written, bit_of, stay_columns, stay_of, stay_written, state_number}
+use Rattle.hotel_statements.specs.Columns.{code_columns, code_of, code_written, card_columns, card_of, card_written, inside_columns, inside_of, inside_written, note_columns, note_of, note_written, act_number, act_card}
 use Rattle.hotel_rows.specs.Stored.{number_of, kind_text, room_entry, stay_entry, code_entry, card_entry, inside_pair, note_entry, rows_of}
 use Rattle.hotel_rows.specs.Damage as damage
 use Rattle.hotel_rows.specs.Damage.{columns_fit}
-use Rattle.hotel_tables.specs.Books.{IsKept}
-use Rattle.hotel_tables.specs.Tables.{AreTables, IsWrittenAs, by_key, rows_in as all_rows_in}
-use Rattle.hotel_tables.specs.Lines.{maybe, is_natural, may_be_natural, room_shown, room_natural, stay_shown, stay_natural, code_shown, code_natural, card_shown, card_natural, inside_shown, inside_natural, note_shown, note_natural, AreLines}
-use Rattle.hotel_tables.specs.Lines.{kind_natural, kind_order, room_order, stay_order, code_order, card_order, inside_order, note_order}
+use Rattle.hotel_statements.specs.Books.{IsKept}
+use Rattle.hotel_statements.specs.Tables.{AreTables, IsWrittenAs, by_key, rows_in as all_rows_in}
+use Rattle.hotel_statements.specs.Lines.{maybe, is_natural, may_be_natural, room_shown, room_natural, stay_shown, stay_natural, code_shown, code_natural, card_shown, card_natural, inside_shown, inside_natural, note_shown, note_natural, AreLines}
+use Rattle.hotel_statements.specs.Lines.{kind_natural, kind_order, room_order, stay_order, code_order, card_order, inside_order, note_order}
 use Rattle.hotel_tables.specs.Opening.{AreStored, HasMetaRow, FaultFits, IsOfCall, Opens, all_natural}
 use Rattle.hotel_tables.specs.Reopening.{ReadUndamaged}
-use Rattle.hotel_tables.proofs.Keyed.{key_total}
-use Rattle.hotel_tables.proofs.Perm.{every_shuffled}
+use Rattle.hotel_statements.proofs.Keyed.{key_total}
+use Rattle.hotel_statements.proofs.Perm.{every_shuffled}
 use Rattle.hotel_tables.proofs.Opened.{are_desk}
 use Rattle.hotel_rows.proofs.OfDamage.Undamaged.{undamaged_is_sound}
 

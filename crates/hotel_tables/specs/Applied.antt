@@ -10,9 +10,9 @@ use Rattle.hotel_core.specs.Model.Words.{said_of}
 use Rattle.hotel_core.specs.Books.Lookups.{room_at, note_at}
 use Rattle.hotel_core.specs.Books.Change.{made, codes_of}
 use Rattle.hotel_core.specs.Model.Rows.{Rows, has_kind}
-use Rattle.hotel_tables.specs.Tables.{rows_in}
-use Rattle.hotel_tables.specs.Books.{IsBooks, IsKept}
-use Rattle.hotel_tables.specs.Steps.{IsMadeOf}
+use Rattle.hotel_statements.specs.Tables.{rows_in}
+use Rattle.hotel_statements.specs.Books.{IsBooks, IsKept}
+use Rattle.hotel_statements.specs.Steps.{IsMadeOf}
 
 -- what the statements of a change ask of the rows, with so many codes at the room of an issue
 abbrev pub MayMake : Change → ℕ → Rows → Type 0

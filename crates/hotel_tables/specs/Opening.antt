@@ -1,77 +1,29 @@
--- What is read of the tables when books are opened, and what the reading promises.
-use Rattle.std.specs.Prelude.{◌≡◌, ◌&&◌, ℕ, ℤ, pos, Bool, true, false, List, [], ◌∷◌, map, Some, Result, Ok, Err, IfOk, IfErr, OnOk, IsTrue, Vec}
+-- What is tested of the tables that are read when books are opened, and what opening promises.
+use Rattle.std.specs.Prelude.{◌≡◌, ◌&&◌, ℤ, pos, Bool, true, false, List, [], ◌∷◌, map, Some, Result, Ok, Err, IfOk, IfErr, OnOk, IsTrue}
 use Rattle.std.specs.List.{list_all, AllByRecursion}
-use Rattle.std.specs.declared.alloc.Global.{Global}
 use Rattle.sqlite_value.specs.declared.value.Value.TheVariants.{Int}
 use Rattle.sqlite.specs.Order.{Row, column}
 use Rattle.sqlite.specs.Tree.{Trees}
-use Rattle.sqlite.specs.Query.{Query, IsAnswer}
-use Rattle.sqlite.specs.Program.{overlay}
-use Rattle.std.specs.List.Sorted.{IsPermutation}
-use Rattle.hotel_tables.specs.LookUps.{Asks}
-use Rattle.sqlite.specs.Held.{Held, state}
+use Rattle.sqlite.specs.Held.{Held}
 use Rattle.sqlite.specs.State.{State, HasCleanDisk, Survives}
 use Rattle.keycard_rules.specs.declared.issued.LookFault.{LookFault}
 use Rattle.keycard_rules.specs.declared.issued.LookFault.TheVariants as look
 use Rattle.hotel_core.specs.Model.SoundRooms.{are_in_order}
 use Rattle.hotel_rows.specs.declared.stored.Stored.{Stored}
-use Rattle.hotel_tables.specs.declared.reading.Tables.{Tables}
-use Rattle.hotel_tables.specs.declared.lines.MetaLine.{MetaLine}
-use Rattle.hotel_tables.specs.declared.lines.NumberedInside.{NumberedInside}
-use Rattle.hotel_rows.specs.declared.stored.KindLine.{KindLine}
-use Rattle.hotel_rows.specs.declared.stored.RoomLine.{RoomLine}
-use Rattle.hotel_rows.specs.declared.stored.StayLine.{StayLine}
-use Rattle.hotel_rows.specs.declared.stored.CodeLine.{CodeLine}
-use Rattle.hotel_rows.specs.declared.stored.CardLine.{CardLine}
-use Rattle.hotel_rows.specs.declared.stored.NoteLine.{NoteLine}
-use Rattle.hotel_tables.specs.Schema.{desk_schema}
-use Rattle.hotel_tables.specs.Columns.{meta_columns, kind_columns, room_columns, stay_columns, code_columns, card_columns, inside_columns, note_columns}
-use Rattle.hotel_tables.specs.Lines.{maybe, meta_shown, kind_shown, room_shown, stay_shown, code_shown, card_shown, inside_shown, numbered_columns, numbered_shown, note_shown, AreLines}
-use Rattle.hotel_tables.specs.Lines.{kind_order, room_order, stay_order, code_order, card_order, inside_order, note_order}
-use Rattle.hotel_tables.specs.Lines.{may_be_natural, room_natural, stay_natural, code_natural, card_natural, inside_natural, note_natural}
+use Rattle.hotel_statements.specs.declared.lines.MetaLine.{MetaLine}
+use Rattle.hotel_statements.specs.declared.lines.NumberedInside.{NumberedInside}
+use Rattle.hotel_statements.specs.Columns.{meta_columns, kind_columns, room_columns, stay_columns, code_columns, card_columns, inside_columns, note_columns}
+use Rattle.hotel_statements.specs.Lines.{maybe, kind_shown, room_shown, stay_shown, code_shown, card_shown, inside_shown, note_shown, AreLines}
+use Rattle.hotel_statements.specs.Lines.{kind_order, room_order, stay_order, code_order, card_order, inside_order, note_order}
+use Rattle.hotel_statements.specs.Lines.{may_be_natural, room_natural, stay_natural, code_natural, card_natural, inside_natural, note_natural}
 use Rattle.hotel_tables.specs.declared.open_fault.OpenFault.{OpenFault}
 use Rattle.hotel_tables.specs.declared.open_fault.OpenFault.TheVariants as fault
 use Rattle.hotel_rows.specs.declared.counting.Counts.{Counts}
 use Rattle.hotel_rows.specs.declared.stored.InsideLine.{InsideLine}
 use Rattle.hotel_rows.specs.Damage.{first_damaged_of}
-use Rattle.hotel_tables.specs.Tables.{HasId, AreApartIds, rows_in}
-use Rattle.hotel_tables.specs.Books.{IsKept, IsBooks, KeepsRows}
+use Rattle.hotel_statements.specs.Tables.{HasId, AreApartIds, rows_in}
+use Rattle.hotel_statements.specs.Books.{IsKept, IsBooks, KeepsRows}
 use Rattle.hotel_tables.specs.TableBooks.{IsCounted}
-
--- A connection outside any transaction, over the tables of a desk, whatever their rows.
-pub record IsOurs (s : State) : Type 0 where
-  pub autocommit : s.in_transaction ≡ false
-  pub tables : IsKept s → (s.now.schema ≡ desk_schema) × (s.now ≡ s.committed)
-
--- The text reads a whole table: to a desk it is a query, whose answer has the columns of the tree's rows, in some order.
-pub record IsWhole (text : List ℕ) (tree : ℕ) (columns cut : Row → Row) : Type 0 where
-  pub query : Query
-  pub asks : Asks text query
-  pub answers : (db : Trees) (rows : List Row) → IsAnswer query (overlay db []) [] rows → IsPermutation (map columns (db tree)) (map cut rows)
-
--- What a reading of the tables promises, of a connection from old to new: what it says of the trees where the test holds at its end.
--- It changes no row, and a crash in it leaves nothing new.
-pub record ReadsTo {R : Type 0} (Says : R → Trees → Type 0) (old new : State) (result : Result R LookFault) : Type 0 where
-  pub ours : IsOurs new
-  pub keeps : KeepsRows old new
-  pub says : IsKept new → IfOk result (λ r. Says r old.now.trees)
-  pub open_on : IsKept old → HasCleanDisk new → OnOk result (IsTrue new.is_open)
-  pub crash : Survives old new (λ _. IsKept old → ⊥)
-
--- the rows of the first four tables, and of the last four
-abbrev pub AreFirst : (Vec MetaLine Global × Vec KindLine Global) × (Vec RoomLine Global × Vec StayLine Global) → Trees → Type 0
-AreFirst r db =
-    (AreLines meta_columns meta_shown r.0.0.items (db 0) × AreLines kind_columns kind_shown r.0.1.items (db 1))
-    × (AreLines room_columns room_shown r.1.0.items (db 3) × AreLines stay_columns stay_shown r.1.1.items (db 5))
-
-abbrev pub AreLast : (Vec CodeLine Global × Vec CardLine Global) × (Vec NumberedInside Global × Vec NoteLine Global) → Trees → Type 0
-AreLast r db =
-    (AreLines code_columns code_shown r.0.0.items (db 6) × AreLines card_columns card_shown r.0.1.items (db 8))
-    × (AreLines numbered_columns numbered_shown r.1.0.items (db 9) × AreLines note_columns note_shown r.1.1.items (db 11))
-
--- the rows of all
-abbrev pub AreRead : Tables → Trees → Type 0
-AreRead t db = AreFirst ((t.meta, t.kinds), (t.rooms, t.stays)) db × AreLast ((t.codes, t.cards), (t.inside, t.notes)) db
 
 -- each table is in the order of its key
 abbrev pub all_rise : Stored → Bool

@@ -10,8 +10,8 @@ use Rattle.sqlite.specs.Files.{file_state, IsOpened, Finds}
 use Rattle.sqlite.specs.Closing.{IsCopied}
 use Rattle.hotel_core.specs.Model.Sound.{IsSound}
 use Rattle.hotel_rows.specs.declared.stored.Stored.{Stored}
-use Rattle.hotel_tables.specs.Books.{IsKept, IsBooks}
-use Rattle.hotel_tables.specs.Tables.{AreTables, rows_in}
+use Rattle.hotel_statements.specs.Books.{IsKept, IsBooks}
+use Rattle.hotel_statements.specs.Tables.{AreTables, rows_in}
 use Rattle.hotel_rows.specs.Stored.{rows_of}
 use Rattle.hotel_rows.specs.Damage.{first_damaged_of}
 use Rattle.hotel_tables.specs.Opening.{AreStored, HasMetaRow, IsAlwaysClean}

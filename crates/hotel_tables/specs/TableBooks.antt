@@ -11,8 +11,8 @@ use Rattle.hotel_core.specs.Model.Sound.{IsSound}
 use Rattle.hotel_core.specs.Books.Lookups.{rooms_of_kind}
 use Rattle.hotel_core.specs.NightIndex.{StandsFor}
 use Rattle.hotel_core.specs.KindRooms.{is_there, rooms_in}
-use Rattle.hotel_tables.specs.Tables.{rows_in}
-use Rattle.hotel_tables.specs.Books.{IsKept, IsBooks}
+use Rattle.hotel_statements.specs.Tables.{rows_in}
+use Rattle.hotel_statements.specs.Books.{IsKept, IsBooks}
 
 -- the connection, the rooms of each kind and the standing stays of each night, counted, and how many calls failed
 pub record Tabled (S : Type 0) : Type 0 where

@@ -1,13 +1,13 @@
 //! The counts beside the tables, kept in step with the changes of the rows.
 ghost use Rattle.std.specs.Prelude.{None, OnOk, OnErr};
 ghost use Rattle.sqlite.specs.Held.{state};
-ghost use Rattle.hotel_tables.specs.Books.{IsBooks};
-ghost use Rattle.hotel_tables.specs.LookUps.{Looks};
+ghost use Rattle.hotel_statements.specs.Books.{IsBooks};
+ghost use Rattle.hotel_statements.specs.LookUps.{Looks};
 ghost use Rattle.hotel_tables.specs.Counted.{booked_by, ended_by, CountsMore, CountsLess, KeepsRooms, HasItsKind, CountsItsRoom};
 
-use crate::look_ups;
 use hotel_core::{Change, KindRooms, NightIndex};
 use hotel_nights::Stay;
+use hotel_statements::look_ups;
 use keycard_rules::{LookFault, Memory};
 use sqlite::{Alter, Connection};
 use std::alloc::Global;

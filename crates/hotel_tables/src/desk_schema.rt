@@ -3,13 +3,13 @@ ghost use Rattle.std.specs.Prelude.{◌≡◌, true, IfOk, IfErr};
 ghost use Rattle.sqlite.specs.Held.{state};
 ghost use Rattle.sqlite.specs.Steps.{over_memory};
 ghost use Rattle.sqlite.specs.Tree.{Trees};
-ghost use Rattle.hotel_tables.specs.Schema.{desk_schema};
+ghost use Rattle.hotel_statements.specs.Schema.{desk_schema};
 ghost use Rattle.hotel_tables.specs.Opening.{FaultFits, NamesNoTable};
 
 use crate::create::make_desk;
-use crate::from_row::fault_of;
 use crate::open_fault::OpenFault;
-use crate::same_schema::same_schema;
+use hotel_statements::fault_of;
+use hotel_statements::same_schema::same_schema;
 use keycard_rules::LookFault;
 use sqlite::{Alter, Connection, MemStore};
 use std::alloc::Global;

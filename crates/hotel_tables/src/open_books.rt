@@ -3,9 +3,9 @@ ghost use Rattle.std.specs.Prelude.{◌≡◌, false, IfOk, IfErr};
 ghost use Rattle.sqlite.specs.Held.{state};
 ghost use Rattle.sqlite.specs.State.{HasCleanDisk, IsLive, Survives};
 ghost use Rattle.hotel_core.specs.Model.Sound.{IsSound};
-ghost use Rattle.hotel_tables.specs.Schema.{desk_schema};
-ghost use Rattle.hotel_tables.specs.Books.{IsBooks, IsDesk, IsKept, KeepsRows};
-ghost use Rattle.hotel_tables.specs.Tables.{rows_in};
+ghost use Rattle.hotel_statements.specs.Schema.{desk_schema};
+ghost use Rattle.hotel_statements.specs.Books.{IsBooks, IsDesk, IsKept, KeepsRows};
+ghost use Rattle.hotel_statements.specs.Tables.{rows_in};
 ghost use Rattle.hotel_tables.specs.Opening.{FaultFits, IsAlwaysClean, IsOfCall, NamesNoTable};
 
 use crate::desk_schema::test_schema;

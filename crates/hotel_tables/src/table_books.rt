@@ -6,12 +6,12 @@ ghost use Rattle.hotel_core.specs.Books.Lookups.{codes_in};
 ghost use Rattle.sqlite.specs.Held.{state};
 ghost use Rattle.sqlite.specs.State.{Survives};
 ghost use Rattle.hotel_core.specs.Model.Rows.{no_rows};
-ghost use Rattle.hotel_tables.specs.Schema.{no_schema};
-ghost use Rattle.hotel_tables.specs.Making.{IsEmptyDesk};
+ghost use Rattle.hotel_statements.specs.Schema.{no_schema};
+ghost use Rattle.hotel_statements.specs.Making.{IsEmptyDesk};
 ghost use Rattle.hotel_tables.specs.Opening.{IsOfCall};
 ghost use Rattle.hotel_tables.specs.declared.open_fault.OpenFault.TheVariants.{NotADesk};
-ghost use Rattle.hotel_tables.specs.Books.{IsKept};
-ghost use Rattle.hotel_tables.specs.Tables.{rows_in};
+ghost use Rattle.hotel_statements.specs.Books.{IsKept};
+ghost use Rattle.hotel_statements.specs.Tables.{rows_in};
 ghost use Rattle.hotel_tables.specs.TableBooks.{failed};
 
 mod books;
@@ -19,10 +19,9 @@ mod changing;
 mod walks;
 
 use crate::create::make_desk;
-use crate::from_row::fault_of;
-use crate::look_ups;
 use crate::open_fault::OpenFault;
 use hotel_core::{KindRooms, NightIndex};
+use hotel_statements::{fault_of, look_ups};
 use keycard_rules::{Code, Issued, LookFault};
 use sqlite::{Alter, Connection};
 use std::alloc::Global;

@@ -1,12 +1,12 @@
 //! The look-ups and the changes, each counted where it fails.
 ghost use Rattle.std.specs.Prelude.{refl};
 ghost use Rattle.sqlite.specs.Held.{state};
-ghost use Rattle.hotel_tables.specs.Tables.{rows_in};
+ghost use Rattle.hotel_statements.specs.Tables.{rows_in};
 
-use crate::look_ups;
 use crate::table_books::TableBooks;
 use hotel_core::{Books, Change, CodeRow, NextNumbers, RoomRow};
 use hotel_nights::{Day, Guest, KindCode, Stay};
+use hotel_statements::look_ups;
 use keycard_rules::{Card, CardNo, Code, Count, LockNote, LookFault, PartyNo, RoomNo};
 use sqlite::Alter;
 

@@ -3,8 +3,8 @@ ghost use Rattle.std.specs.Prelude.{◌≡◌, IfErr};
 ghost use Rattle.keycard_rules.specs.Rise.{HasRisen, NoFewer};
 ghost use Rattle.sqlite.specs.Held.{state};
 ghost use Rattle.hotel_core.specs.Books.Fits.{Fits};
-ghost use Rattle.hotel_tables.specs.Tables.{rows_in};
-ghost use Rattle.hotel_tables.specs.Books.{IsKept};
+ghost use Rattle.hotel_statements.specs.Tables.{rows_in};
+ghost use Rattle.hotel_statements.specs.Books.{IsKept};
 ghost use Rattle.hotel_tables.specs.Applied.{Applies, LeavesAll};
 ghost use Rattle.hotel_tables.specs.TableBooks.{failed};
 

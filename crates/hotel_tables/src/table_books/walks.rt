@@ -5,9 +5,9 @@ ghost use Rattle.hotel_core.specs.Books.Walks.{failure_of};
 ghost use Rattle.hotel_tables.specs.TableBooks.{failed};
 
 use crate::table_books::TableBooks;
-use crate::walks;
 use hotel_core::{BehindRow, ChainRow, HouseRow, Sink, WalkFault, Walks};
 use hotel_nights::{Day, Stay};
+use hotel_statements::walks;
 use keycard_rules::{LockNote, LookFault, RoomNo};
 use sqlite::Alter;
 

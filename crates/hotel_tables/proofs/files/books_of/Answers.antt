@@ -1,6 +1,6 @@
 use Rattle.std.proofs.Common.{◌≡◌, refl, sym, ◌∙◌, true≢false}
 use Rattle.sqlite.specs.Held.{state}
-use Rattle.hotel_tables.specs.Schema.{no_schema}
+use Rattle.hotel_statements.specs.Schema.{no_schema}
 use Rattle.hotel_tables.proofs.OfFiles.{made_books, found_books, left_database}
 use Rattle.hotel_tables.proofs.files.books_of.Goals as goal
 

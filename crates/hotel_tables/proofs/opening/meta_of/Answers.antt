@@ -1,6 +1,6 @@
 use Rattle.std.proofs.lemmas.Result.{IfErr-weaker, IfOk-weaker}
 use Rattle.std.proofs.Common.{subst, List}
-use Rattle.hotel_tables.specs.declared.lines.MetaLine.{MetaLine}
+use Rattle.hotel_statements.specs.declared.lines.MetaLine.{MetaLine}
 use Rattle.hotel_tables.specs.Opening.{IsMetaRow, LacksRow}
 use Rattle.hotel_tables.proofs.Opened.{fault_lacks}
 use Rattle.hotel_tables.proofs.opening.meta_of.Goals as goal

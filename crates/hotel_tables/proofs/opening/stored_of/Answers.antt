@@ -1,7 +1,7 @@
 use Rattle.std.proofs.Common.{◌≡◌, ◌∙◌, sym, ap, subst, map, true, false, refl, List}
 use Rattle.std.specs.Ordering.{int_cmp, is_eq}
 use Rattle.sqlite.specs.Tree.{IsAscending}
-use Rattle.hotel_tables.specs.declared.lines.NumberedInside.{NumberedInside}
+use Rattle.hotel_statements.specs.declared.lines.NumberedInside.{NumberedInside}
 use Rattle.hotel_tables.specs.Opening.{id_inside, line_inside}
 use Rattle.hotel_tables.proofs.Opened.{stored_are, ids_apart}
 use Rattle.hotel_tables.proofs.opening.stored_of.Goals as goal

@@ -4,8 +4,8 @@ use Rattle.sqlite.specs.Held.{state}
 use Rattle.hotel_core.specs.Model.Rows.{Rows}
 use Rattle.hotel_core.specs.Books.Change.{made}
 use Rattle.hotel_core.specs.Books.Fits.{Fits}
-use Rattle.hotel_tables.specs.Tables.{rows_in}
-use Rattle.hotel_tables.specs.Books.{IsKept}
+use Rattle.hotel_statements.specs.Tables.{rows_in}
+use Rattle.hotel_statements.specs.Books.{IsKept}
 use Rattle.hotel_tables.specs.Counted.{booked_by, CountsLess}
 use Rattle.hotel_tables.specs.TableBooks.{Tabled, IsCounted}
 use Rattle.hotel_tables.specs.Applied.{Applies}

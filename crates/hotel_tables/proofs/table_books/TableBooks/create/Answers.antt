@@ -1,7 +1,7 @@
 use Rattle.std.proofs.Common.{sym, subst, []}
 use Rattle.sqlite.specs.Held.{state}
 use Rattle.hotel_core.specs.Model.Rows.{Rows}
-use Rattle.hotel_tables.specs.Tables.{rows_in}
+use Rattle.hotel_statements.specs.Tables.{rows_in}
 use Rattle.hotel_tables.specs.TableBooks.{IsCounted}
 use Rattle.hotel_tables.proofs.EmptyDesk.{empty_counted}
 use Rattle.hotel_tables.proofs.table_books.TableBooks.create.Goals as goal

@@ -1,0 +1,24 @@
+pub mod Answers
+pub mod Perm
+mod Keys
+mod Found
+mod Keeps
+mod Looked
+mod Writing
+mod Makers
+mod Ordered
+pub mod Keyed
+mod Finds
+mod Lists
+mod Last
+mod NewDesk
+mod Statements
+mod Whole
+mod Readings
+pub mod ReadBack
+pub mod Naturals
+mod Made
+pub mod Ends
+mod Walked
+mod OfWalks
+pub mod SameSchema

@@ -1,0 +1,144 @@
+-- One keyed statement, and the row that it finds.
+use Rattle.std.proofs.Common.{OnOk, ◌≡◌, inl, inr, sym, subst, List, [], ℕ, None, Some, Option, Ok, Err, Result, IsTrue, false, map}
+use Rattle.sqlite_value.specs.declared.value.Value.TheVariants.{Null}
+use Rattle.sqlite.specs.Order.{Row}
+use Rattle.sqlite.specs.Query.{Query}
+use Rattle.sqlite.specs.Effect.{Database, RefusesToRead}
+use Rattle.sqlite.specs.Command.{Command}
+use Rattle.sqlite.specs.Command.TheVariants.{Select, Rows}
+use Rattle.sqlite.specs.Listing.{understood}
+use Rattle.sqlite_trees.specs.declared.error.StoreError.{StoreError}
+use Rattle.sqlite_trees.specs.declared.error.StoreError.TheVariants.{OutOfMemory}
+use Rattle.sqlite.specs.State.{State, HasCleanDisk, QueriesRow, Shown, Survives, CommitsShowing, FailsToQuery, IsNotRun, FailsToShow, store_error}
+use Rattle.sqlite.specs.declared.error.Error.{Error}
+use Rattle.sqlite.specs.declared.error.Error.TheVariants.{QueryReturnedNoRows}
+use Rattle.sqlite_resolve.specs.declared.compiled.Compiled.{Compiled}
+use Rattle.sqlite_resolve.specs.declared.error.CompileError.{CompileError}
+use Rattle.sqlite.proofs.Callers.{IsPlain, command_of, first_as, reads_as, never_commits}
+use Rattle.sqlite.proofs.StateLemmas.{survives_weaker}
+use Rattle.hotel_statements.specs.Schema.{desk_schema}
+use Rattle.hotel_statements.specs.Books.{IsDesk, IsKept, IsBooks, KeepsRows}
+use Rattle.hotel_statements.specs.LookUps.{Asks, IsQuery, AnswersFirst, AnswersAll}
+use Rattle.hotel_statements.proofs.Keeps.{Stays, query_stays, query_opened, keeps_books, keeps_rows, shown_stay, shown_opened, shown_is_open, first_is_open, fails_stay, fail_opened}
+
+-- no other failure is that no row was found
+not_read : (command : Command) (limit : Option ℕ) (db : Database) (params : Row) → RefusesToRead limit command db params QueryReturnedNoRows → ⊥
+not_read (Select q names) limit db params (inl h) = absurd (let e = h.0 in cc)
+not_read (Select q names) limit db params (inr (inl h)) = absurd (let e = h.0 in cc)
+not_read (Select q names) limit db params (inr (inr h)) = absurd (let e = h.0 in cc)
+not_read (Rows values width names) limit db params h = absurd (let e = h.0 in cc)
+not_read command limit db params h = absurd cc
+
+not_store : (cause : StoreError) → QueryReturnedNoRows ≡ store_error cause → ⊥
+not_store OutOfMemory e = absurd cc
+not_store _ e = absurd cc
+
+not_failed : (sql : List ℕ) (params : Row) (old new : State) → IsPlain (understood old.now.schema sql) → FailsToQuery sql params old new QueryReturnedNoRows → ⊥
+unfolding FailsToQuery IsNotRun
+not_failed sql params old new plain (inl (inl (inl h, same))) = absurd (let e = h.2 in cc)
+not_failed sql params old new plain (inl (inl (inr (c, is, inl h), same))) = absurd (let e = h.1 in cc)
+not_failed sql params old new plain (inl (inl (inr (c, is, inr (inl h)), same))) = absurd (let e = h.1 in cc)
+not_failed sql params old new plain (inl (inl (inr (c, is, inr (inr h)), same))) = absurd (let e = h.1 in cc)
+not_failed sql params old new plain (inl (inr h)) = not_store h.0 h.1
+not_failed sql params old new plain (inr h) =
+    let none = (subst IsPlain h.1.is plain).0 in
+    not_read h.0.command old.step_limit _ _ (subst (FailsToShow old new sql h.0 _ QueryReturnedNoRows) none h.2).2
+
+pub command_is : (q : Query) (r : Result Compiled CompileError) → IsQuery q r → (names : List (List ℕ)) × (command_of r ≡ Select (record { lets = []; body = q }) names)
+command_is q (Ok c) is = is
+command_is q (Err e) is = absurd is
+
+pub plain_in : (text : List ℕ) (q : Query) (s : State) → Asks text q → IsDesk s → IsPlain (understood s.now.schema text)
+plain_in text q s asks desk = subst (λ m. IsPlain (understood m text)) (sym desk.schema) asks.plain
+
+module _ (text : List ℕ) (params : Row) (old new : State) (r : Result Row Error) (books : IsBooks old) (asked : (q : Query) × Asks text q)
+    (runs : HasCleanDisk new → QueriesRow text params old new r) (mode : old.in_transaction ≡ false → new.in_transaction ≡ false)
+    (survives : Survives old new (CommitsShowing text params old)) where
+  stays : HasCleanDisk new → IsDesk old → Stays old new
+  stays clean desk = query_stays text params old new r (plain_in text asked.0 old asked.1 desk) (runs clean)
+
+  opened : HasCleanDisk new → IsTrue new.is_open → IsTrue old.is_open
+  opened clean = query_opened text params old new r (runs clean)
+
+  look_keeps : KeepsRows old new
+  look_keeps = keeps_rows old new _ books mode survives stays opened
+
+  pub looked : IsBooks new × KeepsRows old new × Survives old new (λ _. IsKept old → ⊥)
+  looked = (
+    keeps_books old new _ books mode survives stays opened,
+    look_keeps,
+    survives_weaker old new _ _ (λ _ db commits kept. never_commits text params old db (plain_in text asked.0 old asked.1 (books.desk kept)) commits) survives,
+  )
+
+  pub look_found : {A : Type 0} (out : Row → A) (row : Row) (x : A) → r ≡ Ok row → x ≡ out row → IsKept new → (q : Query) → Asks text q
+      → AnswersFirst out q params old.now.trees (Some x)
+  look_found out row x is reads kept q asks =
+      let desk = books.desk (look_keeps kept).0 in
+      let got = (first_as text params old new desk_schema desk.schema _ (command_is q _ asks.query).1 asks.plain asks.listing row
+      (subst (QueriesRow text params old new) is (runs kept.0))).1 in
+      (row, got.0, got.1 Null, reads)
+
+  pub look_lost : {A : Type 0} (out : Row → A) → r ≡ Err QueryReturnedNoRows → IsKept new → (q : Query) → Asks text q → AnswersFirst out q params old.now.trees None
+  unfolding QueriesRow
+  look_lost out is kept q asks = go (books.desk (look_keeps kept).0) (subst (QueriesRow text params old new) is (runs kept.0))
+    where
+      go : IsDesk old → QueriesRow text params old new (Err QueryReturnedNoRows) → AnswersFirst out q params old.now.trees None
+      go desk (inl h) = absurd (not_failed text params old new (plain_in text q old asks desk) h)
+      go desk (inr h) = (reads_as text params old new desk_schema desk.schema _ (command_is q _ asks.query).1 asks.plain asks.listing [] h.1).answer Null
+
+  pub look_open : (row : Row) → r ≡ Ok row → IsKept old → HasCleanDisk new → IsTrue new.is_open
+  look_open row is kept clean = first_is_open text params old new row (plain_in text asked.0 old asked.1 (books.desk kept))
+      (subst (QueriesRow text params old new) is (runs clean))
+
+  pub none_open : r ≡ Err QueryReturnedNoRows → IsKept old → HasCleanDisk new → IsTrue new.is_open
+  unfolding QueriesRow
+  none_open is kept clean = go (plain_in text asked.0 old asked.1 (books.desk kept)) (subst (QueriesRow text params old new) is (runs clean))
+    where
+      go : IsPlain (understood old.now.schema text) → QueriesRow text params old new (Err QueryReturnedNoRows) → IsTrue new.is_open
+      go plain (inl h) = absurd (not_failed text params old new plain h)
+      go plain (inr h) = shown_is_open text params old new [] plain h.1
+
+-- ---- all rows of an answer
+
+module _ (text : List ℕ) (params : Row) (old new : State) (books : IsBooks old) (asked : (q : Query) × Asks text q)
+    (mode : old.in_transaction ≡ false → new.in_transaction ≡ false) (survives : Survives old new (CommitsShowing text params old)) where
+  pub all_crash : Survives old new (λ _. IsKept old → ⊥)
+  all_crash = survives_weaker old new _ _ (λ _ db commits kept. never_commits text params old db (plain_in text asked.0 old asked.1 (books.desk kept)) commits) survives
+
+  module _ (rows : List Row) (shown : HasCleanDisk new → Shown text params old new rows) where
+    all_stays : HasCleanDisk new → IsDesk old → Stays old new
+    all_stays clean desk = shown_stay text params old new rows (plain_in text asked.0 old asked.1 desk) (shown clean)
+
+    all_opened : HasCleanDisk new → IsTrue new.is_open → IsTrue old.is_open
+    all_opened clean is_open = shown_opened text params old new rows (shown clean)
+
+    pub all_books : IsBooks new
+    all_books = keeps_books old new _ books mode survives all_stays all_opened
+
+    pub all_keeps : KeepsRows old new
+    all_keeps = keeps_rows old new _ books mode survives all_stays all_opened
+
+    pub all_found : {A : Type 0} (out : Row → A) (all : List A) → all ≡ map out rows → IsKept new → (q : Query) → Asks text q → AnswersAll out q params old.now.trees all
+    all_found out all reads kept q asks =
+        let desk = books.desk (all_keeps kept).0 in
+        (rows, (reads_as text params old new desk_schema desk.schema _ (command_is q _ asks.query).1 asks.plain asks.listing rows (shown kept.0)).answer Null, reads)
+
+    pub all_open : IsKept old → HasCleanDisk new → IsTrue new.is_open
+    all_open kept clean = shown_is_open text params old new rows (plain_in text asked.0 old asked.1 (books.desk kept)) (shown clean)
+
+  module _ (e : Error) (fails : HasCleanDisk new → FailsToQuery text params old new e) where
+    fault_stays : HasCleanDisk new → IsDesk old → Stays old new
+    fault_stays clean desk = fails_stay text params old new e (plain_in text asked.0 old asked.1 desk) (fails clean)
+
+    fault_opened : HasCleanDisk new → IsTrue new.is_open → IsTrue old.is_open
+    fault_opened clean = fail_opened text params old new e (fails clean)
+
+    pub fault_books : IsBooks new
+    fault_books = keeps_books old new _ books mode survives fault_stays fault_opened
+
+    pub fault_keeps : KeepsRows old new
+    fault_keeps = keeps_rows old new _ books mode survives fault_stays fault_opened
+
+pub on_ok_always : {A E P : Type 0} (r : Result A E) → P → OnOk r P
+on_ok_always (Ok a) p = p
+on_ok_always (Err e) p = tt

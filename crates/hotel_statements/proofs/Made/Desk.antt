@@ -1,0 +1,170 @@
+-- A desk of whose tables one is written: of the eight lists one moves.
+use Rattle.std.proofs.Common.{◌≡◌, ◌≢◌, true, inl, inr, refl, sym, ap, subst, ◌∙◌, List, [], ◌∷◌, ℕ, Option, IsTrue, arith, eqb}
+use Rattle.std.specs.Cmp.Lexicographic.{slice_cmp}
+use Rattle.std.specs.Ordering.{nat_cmp}
+use Rattle.std.specs.List.{AllByRecursion}
+use Rattle.std.proofs.lemmas.Bool.{cases_Bool}
+use Rattle.std.proofs.lemmas.Bool.Decides.{nat_tests}
+use Rattle.sqlite.specs.Order.{Row}
+use Rattle.sqlite.specs.Tree.{Trees}
+use Rattle.sqlite_trees.specs.Tree.{with_tree}
+use Rattle.sqlite.specs.Table.{Table}
+use Rattle.sqlite.specs.Effect.{Database}
+use Rattle.sqlite.specs.State.{State, Shows}
+use Rattle.keycard_rules.specs.declared.card.Card.{Card}
+use Rattle.keycard_rules.specs.Note.{Note}
+use Rattle.hotel_nights.specs.declared.stay.Stay.{Stay}
+use Rattle.hotel_core.specs.declared.books.rows.RoomRow.{RoomRow}
+use Rattle.hotel_core.specs.declared.books.rows.CodeRow.{CodeRow}
+use Rattle.hotel_core.specs.Model.Words.{pair_cmp}
+use Rattle.hotel_core.specs.Model.Rows.{Rows}
+use Rattle.hotel_statements.specs.Schema.{desk_schema}
+use Rattle.hotel_statements.specs.Columns.{meta_columns, meta_of, meta_written, kind_columns, kind_of, kind_written, room_columns, room_of, room_written, stay_columns, stay_of, stay_written, code_columns, code_of, code_written, card_columns, card_of, card_written, inside_columns, inside_of, inside_written, note_columns, note_of, note_written}
+use Rattle.hotel_statements.specs.Tables.{IsTable, AreTables, AreApartIds, HasId, rows_in, listed, by_key}
+use Rattle.hotel_statements.specs.Steps.{Steps}
+
+abbrev pub AreMetas : List Row → Type 0
+AreMetas rows = IsTable (by_key nat_cmp) meta_columns meta_of meta_written rows
+
+abbrev pub AreKinds : List Row → Type 0
+AreKinds rows = IsTable (slice_cmp nat_cmp) kind_columns kind_of kind_written rows
+
+abbrev pub AreRooms : List Row → Type 0
+AreRooms rows = IsTable (by_key nat_cmp) room_columns room_of room_written rows
+
+abbrev pub AreStays : List Row → Type 0
+AreStays rows = IsTable (by_key nat_cmp) stay_columns stay_of stay_written rows
+
+abbrev pub AreCodes : List Row → Type 0
+AreCodes rows = IsTable (by_key nat_cmp) code_columns code_of code_written rows
+
+abbrev pub AreCards : List Row → Type 0
+AreCards rows = IsTable (by_key nat_cmp) card_columns card_of card_written rows
+
+abbrev pub AreInside : List Row → Type 0
+AreInside rows = IsTable pair_cmp inside_columns inside_of inside_written rows
+
+abbrev pub AreNotes : List Row → Type 0
+AreNotes rows = IsTable (by_key pair_cmp) note_columns note_of note_written rows
+
+-- each table has the same rows in both
+abbrev pub Same : Trees → Trees → Type 0
+Same a b = AllByRecursion (λ (t : Table). b t.tree ≡ a t.tree) desk_schema.tables
+
+same_desk : (a b : Trees) → Same a b → AreTables a → AreTables b × (rows_in b ≡ rows_in a)
+same_desk a b same was =
+    let meta : b 0 ≡ a 0 = same.0 in
+    let kind : b 1 ≡ a 1 = same.1.0 in
+    let room : b 3 ≡ a 3 = same.1.1.0 in
+    let stay : b 5 ≡ a 5 = same.1.1.1.0 in
+    let code : b 6 ≡ a 6 = same.1.1.1.1.0 in
+    let card : b 8 ≡ a 8 = same.1.1.1.1.1.0 in
+    let inside : b 9 ≡ a 9 = same.1.1.1.1.1.1.0 in
+    let note : b 11 ≡ a 11 = same.1.1.1.1.1.1.1.0 in (
+      record {
+        meta = subst AreMetas (sym meta) was.meta;
+        meta_row = (was.meta_row.0, ap (listed (by_key nat_cmp) (λ r. meta_of (meta_columns r))) meta ∙ was.meta_row.1);
+        kind = subst AreKinds (sym kind) was.kind;
+        room = subst AreRooms (sym room) was.room;
+        stay = subst AreStays (sym stay) was.stay;
+        code = subst AreCodes (sym code) was.code;
+        card = subst AreCards (sym card) was.card;
+        inside = subst AreInside (sym inside) was.inside;
+        inside_numbered = subst (AllByRecursion HasId) (sym inside) was.inside_numbered;
+        inside_ids = subst AreApartIds (sym inside) was.inside_ids;
+        note = subst AreNotes (sym note) was.note;
+      },
+      rw (meta, kind, room, stay, code, card, inside, note) refl,
+    )
+
+-- ---- one table written
+
+-- A statement left the schema, and wrote one table alone.
+pub record Changed (tree : ℕ) (rows : List Row) (old new : State) : Type 0 where
+  pub schema : new.now.schema ≡ desk_schema
+  pub trees : Same (with_tree old.now.trees tree rows) new.now.trees
+
+set_one : (db next : Trees) (tree : ℕ) (rows : List Row) (ts : List Table) → next tree ≡ rows → AllByRecursion (λ (t : Table). t.tree ≢ tree → next t.tree ≡ db t.tree) ts → AllByRecursion (λ (t : Table). next t.tree ≡ with_tree db tree rows t.tree) ts
+set_one db next tree rows [] is others = tt
+set_one db next tree rows (t ∷ ts) is others =
+    let more = set_one db next tree rows ts is others.1 in
+    elim (cases_Bool (eqb t.tree tree)) [
+      | inl same ↦ let e : t.tree ≡ tree = grind (arith, nat_tests, same) in (ap next e ∙ is ∙ rw same refl, more)
+      | inr other ↦ let e : t.tree ≢ tree = (λ same. let no : eqb t.tree tree ≡ true = grind (arith, nat_tests, same) in absurd (let z = sym other ∙ no in cc)) in (others.0 e ∙ rw other refl, more)
+    ]
+
+pub changed : (old new : State) (next : Trees) (tree : ℕ) (rows : List Row) → new.now ≡ record { schema = desk_schema; trees = next } → next tree ≡ rows
+    → AllByRecursion (λ (t : Table). t.tree ≢ tree → next t.tree ≡ old.now.trees t.tree) desk_schema.tables → Changed tree rows old new
+changed old new next tree rows now is others = record {
+  schema = ap (λ (d : Database). d.schema) now;
+  trees = subst (λ (d : Database). Same (with_tree old.now.trees tree rows) d.trees) (sym now) (set_one old.now.trees next tree rows desk_schema.tables is others);
+}
+
+pub steps : {tree : ℕ} {rows : List Row} (old new : State) (make : Rows → Rows) → Shows old new new.now old.committed true → Changed tree rows old new
+    → AreTables (with_tree old.now.trees tree rows) × (rows_in (with_tree old.now.trees tree rows) ≡ make (rows_in old.now.trees)) → Steps old new make
+steps {tree} {rows} old new make shown did now =
+    let same = same_desk (with_tree old.now.trees tree rows) new.now.trees did.trees now.0 in record {
+      was_open = shown.was_open;
+      is_open = shown.is_open;
+      committed = shown.committed_is;
+      mid = record { schema = did.schema; inside = subst IsTrue (sym shown.mode) refl; tables = same.0 };
+      rows_are = same.1 ∙ now.1;
+    }
+
+-- ---- which list moves
+
+pub rooms_set : {db : Trees} {rows : List Row} {list : List (ℕ × RoomRow)} → AreTables db → AreRooms rows × (listed (by_key nat_cmp) (λ r. room_of (room_columns r)) rows ≡ list)
+    → AreTables (with_tree db 3 rows) × (rows_in (with_tree db 3 rows) ≡ record (rows_in db) { rooms = list })
+rooms_set {db} was made = (
+  record { meta = was.meta; meta_row = was.meta_row; kind = was.kind; room = made.0; stay = was.stay; code = was.code; card = was.card; inside = was.inside; inside_numbered = was.inside_numbered; inside_ids = was.inside_ids; note = was.note },
+  ap (λ rooms. record (rows_in db) { rooms = rooms }) made.1,
+)
+
+pub stays_set : {db : Trees} {rows : List Row} {list : List (ℕ × Stay)} → AreTables db → AreStays rows × (listed (by_key nat_cmp) (λ r. stay_of (stay_columns r)) rows ≡ list)
+    → AreTables (with_tree db 5 rows) × (rows_in (with_tree db 5 rows) ≡ record (rows_in db) { stays = list })
+stays_set {db} was made = (
+  record { meta = was.meta; meta_row = was.meta_row; kind = was.kind; room = was.room; stay = made.0; code = was.code; card = was.card; inside = was.inside; inside_numbered = was.inside_numbered; inside_ids = was.inside_ids; note = was.note },
+  ap (λ stays. record (rows_in db) { stays = stays }) made.1,
+)
+
+pub codes_set : {db : Trees} {rows : List Row} {list : List (ℕ × CodeRow)} → AreTables db → AreCodes rows × (listed (by_key nat_cmp) (λ r. code_of (code_columns r)) rows ≡ list)
+    → AreTables (with_tree db 6 rows) × (rows_in (with_tree db 6 rows) ≡ record (rows_in db) { codes = list })
+codes_set {db} was made = (
+  record { meta = was.meta; meta_row = was.meta_row; kind = was.kind; room = was.room; stay = was.stay; code = made.0; card = was.card; inside = was.inside; inside_numbered = was.inside_numbered; inside_ids = was.inside_ids; note = was.note },
+  ap (λ codes. record (rows_in db) { codes = codes }) made.1,
+)
+
+pub cards_set : {db : Trees} {rows : List Row} {list : List (ℕ × Card)} → AreTables db → AreCards rows × (listed (by_key nat_cmp) (λ r. card_of (card_columns r)) rows ≡ list)
+    → AreTables (with_tree db 8 rows) × (rows_in (with_tree db 8 rows) ≡ record (rows_in db) { cards = list })
+cards_set {db} was made = (
+  record { meta = was.meta; meta_row = was.meta_row; kind = was.kind; room = was.room; stay = was.stay; code = was.code; card = made.0; inside = was.inside; inside_numbered = was.inside_numbered; inside_ids = was.inside_ids; note = was.note },
+  ap (λ cards. record (rows_in db) { cards = cards }) made.1,
+)
+
+pub kinds_set : {db : Trees} {rows : List Row} {list : List (List ℕ)} → AreTables db → AreKinds rows × (listed (slice_cmp nat_cmp) (λ r. kind_of (kind_columns r)) rows ≡ list)
+    → AreTables (with_tree db 1 rows) × (rows_in (with_tree db 1 rows) ≡ record (rows_in db) { kinds = list })
+kinds_set {db} was made = (
+  record { meta = was.meta; meta_row = was.meta_row; kind = made.0; room = was.room; stay = was.stay; code = was.code; card = was.card; inside = was.inside; inside_numbered = was.inside_numbered; inside_ids = was.inside_ids; note = was.note },
+  ap (λ kinds. record (rows_in db) { kinds = kinds }) made.1,
+)
+
+pub notes_set : {db : Trees} {rows : List Row} {list : List ((ℕ × ℕ) × Note)} → AreTables db → AreNotes rows × (listed (by_key pair_cmp) (λ r. note_of (note_columns r)) rows ≡ list)
+    → AreTables (with_tree db 11 rows) × (rows_in (with_tree db 11 rows) ≡ record (rows_in db) { notes = list })
+notes_set {db} was made = (
+  record { meta = was.meta; meta_row = was.meta_row; kind = was.kind; room = was.room; stay = was.stay; code = was.code; card = was.card; inside = was.inside; inside_numbered = was.inside_numbered; inside_ids = was.inside_ids; note = made.0 },
+  ap (λ notes. record (rows_in db) { notes = notes }) made.1,
+)
+
+pub insides_set : {db : Trees} {rows : List Row} {list : List (ℕ × ℕ)} → AreTables db → AreInside rows × (listed pair_cmp (λ r. inside_of (inside_columns r)) rows ≡ list) → AllByRecursion HasId rows → AreApartIds rows
+    → AreTables (with_tree db 9 rows) × (rows_in (with_tree db 9 rows) ≡ record (rows_in db) { inside = list })
+insides_set {db} was made numbered apart = (
+  record { meta = was.meta; meta_row = was.meta_row; kind = was.kind; room = was.room; stay = was.stay; code = was.code; card = was.card; inside = made.0; inside_numbered = numbered; inside_ids = apart; note = was.note },
+  ap (λ inside. record (rows_in db) { inside = inside }) made.1,
+)
+
+pub day_set : {db : Trees} {rows : List Row} {day : Option ℕ} → AreTables db → AreMetas rows × (listed (by_key nat_cmp) (λ r. meta_of (meta_columns r)) rows ≡ (1, (1, day)) ∷ [])
+    → AreTables (with_tree db 0 rows) × (rows_in (with_tree db 0 rows) ≡ record (rows_in db) { day = day })
+day_set {day = day} was made = (
+  record { meta = made.0; meta_row = (day, made.1); kind = was.kind; room = was.room; stay = was.stay; code = was.code; card = was.card; inside = was.inside; inside_numbered = was.inside_numbered; inside_ids = was.inside_ids; note = was.note },
+  rw made.1 refl,
+)

@@ -1,0 +1,56 @@
+-- The steps of an issue make the change.
+use Rattle.std.proofs.Common.{◌≡◌, ◌+◌, inl, inr, refl, sym, ap, ap₂, ◌∙◌, List, [], ◌∷◌, ℕ, true, false, Option, None, Some, eqb, is_eq, nat_cmp}
+use Rattle.std.proofs.lemmas.Bool.{cases_Bool}
+use Rattle.keycard_rules.specs.declared.card.Card.{Card}
+use Rattle.hotel_core.specs.declared.books.rows.RoomRow.{RoomRow}
+use Rattle.hotel_core.specs.declared.books.change.Change.TheVariants as change
+use Rattle.hotel_core.specs.Model.Words.{said_of}
+use Rattle.hotel_core.specs.Model.Rows.{Rows, at_number}
+use Rattle.hotel_core.specs.Books.Change.{made, codes_of, room_changed, without_party, left_by}
+use Rattle.hotel_statements.specs.Steps.{code_given, card_given}
+use Rattle.hotel_statements.proofs.Keys.{is_key}
+
+abbrev codes_at : ℕ → List (ℕ × RoomRow) → ℕ
+codes_at room es = said_of (at_number es room) 0 (λ row. row.codes)
+
+abbrev set_codes : ℕ → ℕ → RoomRow → RoomRow
+set_codes party codes row = record row { codes = codes; secured = false; party = Some party }
+
+-- one more code than the room has
+one_more : (room party codes : ℕ) (es : List (ℕ × RoomRow)) → codes_at room es ≡ codes → room_changed room (set_codes party (codes + 1)) es ≡ room_changed room (λ row. set_codes party (row.codes + 1) row) es
+one_more room party codes [] is = refl
+one_more room party codes (e ∷ es) is = elim (cases_Bool (eqb e.0 room)) [
+  | inl at ↦
+      let found : is_eq (nat_cmp room e.0) ≡ true = is_key room e.0 ∙ at in
+      let same : e.1.codes ≡ codes = rw found at is in
+      rw at (ap (λ n. (e.0, set_codes party (n + 1) e.1) ∷ es) (sym same))
+  | inr other ↦
+      let lost : is_eq (nat_cmp room e.0) ≡ false = is_key room e.0 ∙ other in
+      let later : codes_at room es ≡ codes = rw lost at is in
+      rw other (ap (λ rest. e ∷ rest) (one_more room party codes es later))
+]
+
+-- who leaves a room does not move its codes
+codes_stay : (room left : ℕ) (es : List (ℕ × RoomRow)) → codes_at room (without_party left es) ≡ codes_at room es
+codes_stay room left [] = refl
+codes_stay room left (e ∷ es) = elim (cases_Bool (eqb e.0 left)) [
+  | inl at ↦ elim (cases_Bool (is_eq (nat_cmp room e.0))) [
+    | inl found ↦ rw (at, found) refl
+    | inr lost ↦ rw (at, lost) refl
+  ]
+  | inr other ↦ elim (cases_Bool (is_eq (nat_cmp room e.0))) [
+    | inl found ↦ rw (other, found) refl
+    | inr lost ↦ rw (other, lost) (codes_stay room left es)
+  ]
+]
+
+codes_kept : (room : ℕ) (leaves : Option ℕ) (es : List (ℕ × RoomRow)) → codes_at room (left_by leaves es) ≡ codes_at room es
+codes_kept room None es = refl
+codes_kept room (Some left) es = codes_stay room left es
+
+pub issue_is : (card : Card) (room : ℕ) (leaves : Option ℕ) (codes : ℕ) (rows : Rows) → codes_of rows room ≡ codes
+    → card_given card room (codes + 1) (code_given leaves card.link.new_code (record { room = room; place = codes }) rows) ≡ made (change.Issue card room leaves) rows
+issue_is card room leaves codes rows is =
+    let at = made (change.Issue card room leaves) rows in
+    ap₂ (λ rooms place. record at { rooms = rooms; codes = Rattle.std.specs.BTreeMap.insert_entry nat_cmp rows.codes card.link.new_code (record { room = room; place = place }) })
+    (one_more room card.party codes (left_by leaves rows.rooms) (codes_kept room leaves rows.rooms ∙ is)) (sym is)

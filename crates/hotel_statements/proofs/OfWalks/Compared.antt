@@ -1,0 +1,30 @@
+-- Tests of two numbers in statements, beside that they are equal, and lists by their entries.
+use Rattle.std.proofs.Common.{◌≡◌, ◌∙◌, ap, inl, inr, refl, List, [], ◌∷◌, ℕ, pos, Bool, map, filter, arith}
+use Rattle.std.specs.Prelude.{nat_le, nat_lt}
+use Rattle.std.specs.Ordering.{is_le, is_lt}
+use Rattle.std.specs.Map.{values_of}
+use Rattle.std.proofs.lemmas.Bool.{cases_Bool}
+use Rattle.std.proofs.lemmas.Bool.Decides.{nat_tests}
+use Rattle.sqlite_value.proofs.OrderLemmas.{value_cmp-Int}
+use Rattle.sqlite_value.specs.declared.keys.Collation.TheVariants.{Binary}
+use Rattle.sqlite_sql.specs.declared.ops.BinaryOp.TheVariants.{Compare}
+use Rattle.sqlite_sql.specs.declared.ops.CompareOp.TheVariants.{Lt, Le}
+use Rattle.sqlite.specs.Ops.{binary, is_true}
+use Rattle.hotel_statements.specs.Values.{int}
+use Rattle.hotel_statements.proofs.Keys.{truly}
+
+pub at_most : (a k : ℕ) → is_true (binary (Compare Le Binary) (int a) (int k)) ≡ nat_le a k
+unfolding binary
+at_most a k = truly _ ∙ ap is_le (value_cmp-Int (pos a) (pos k)) ∙ grind (arith, nat_tests)
+
+pub less_than : (a k : ℕ) → is_true (binary (Compare Lt Binary) (int a) (int k)) ≡ nat_lt a k
+unfolding binary
+less_than a k = truly _ ∙ ap is_lt (value_cmp-Int (pos a) (pos k)) ∙ grind (arith, nat_tests)
+
+-- the values of the entries whose values pass a test
+pub values_passing : {K V : Type 0} (p : V → Bool) (es : List (K × V)) → map (λ (e : K × V). e.1) (filter (λ (e : K × V). p e.1) es) ≡ filter p (values_of es)
+values_passing p [] = refl
+values_passing p (e ∷ es) = elim (cases_Bool (p e.1)) [
+  | inl is ↦ rw is (ap (λ xs. e.1 ∷ xs) (values_passing p es))
+  | inr other ↦ rw other (values_passing p es)
+]

@@ -1,0 +1,70 @@
+-- What the rows of a table are, where its plain rows are such as the books write.
+use Rattle.std.proofs.Common.{◌≡◌, refl, sym, ap, subst, ◌∙◌, List, [], ◌∷◌, map, true, Less, Ordering, is_eq}
+use Rattle.std.specs.List.{AllByRecursion}
+use Rattle.std.specs.List.Sorted.{IsPermutation}
+use Rattle.std.specs.Cmp.{IsTotalOrder}
+use Rattle.std.proofs.lemmas.List.Sorted.{IsPermutation-map, IsPermutation-sym}
+use Rattle.sqlite.specs.Order.{Row}
+use Rattle.sqlite.specs.Tree.{IsAscending}
+use Rattle.sqlite_keyed.proofs.ListLemmas.{all_unmap, ascending_weaker}
+use Rattle.sqlite_keyed.proofs.SortLemmas.{sorted_is-sort_by}
+use Rattle.hotel_core.specs.Model.SoundRooms.{are_in_order}
+use Rattle.hotel_core.proofs.OfTables.KeysInOrder.{AllAfter, InOrder}
+use Rattle.hotel_core.proofs.Starts.StartOrder.{in_order_from}
+use Rattle.hotel_statements.specs.Tables.{IsTable, IsWrittenAs, AreApart, listed}
+use Rattle.hotel_statements.specs.Lines.{AreLines}
+use Rattle.hotel_statements.proofs.Answers.{fused}
+use Rattle.hotel_statements.proofs.Perm.{every_shuffled, sorted_rises, apart_permuted}
+
+-- ---- keys that pass the test of order
+
+all_above : {K X : Type 0} (cmp : K → K → Ordering) (key : X → K) (k : K) (xs : List X) → AllAfter cmp k (map key xs) → AllByRecursion (λ x. cmp k (key x) ≡ Less) xs
+all_above cmp key k [] h = tt
+all_above cmp key k (x ∷ xs) h = (h.0, all_above cmp key k xs h.1)
+
+ascend : {K X : Type 0} (cmp : K → K → Ordering) (key : X → K) (xs : List X) → InOrder cmp (map key xs) → IsAscending (λ a b. cmp (key a) (key b) ≡ Less) xs
+ascend cmp key [] h = tt
+ascend cmp key (x ∷ xs) h = (all_above cmp key (key x) xs h.0, ascend cmp key xs h.1)
+
+pub tested_keys : {K X : Type 0} (cmp : K → K → Ordering) (total : IsTotalOrder cmp) (key : X → K) (xs : List X) → are_in_order cmp (map key xs) ≡ true
+    → IsAscending (λ a b. cmp (key a) (key b) ≡ Less) xs
+tested_keys cmp total key xs e = ascend cmp key xs (in_order_from cmp total (map key xs) e)
+
+order : {K : Type 0} (cmp : K → K → Ordering) (xs : List K) → InOrder cmp xs → IsAscending (λ a b. cmp a b ≡ Less) xs
+order cmp [] h = tt
+order {K} cmp (x ∷ xs) h = (after x xs h.0, order cmp xs h.1)
+  where
+    after : (k : K) (ys : List K) → AllAfter cmp k ys → AllByRecursion (λ y. cmp k y ≡ Less) ys
+    after k [] a = tt
+    after k (y ∷ ys) a = (a.0, after k ys a.1)
+
+pub tested_order : {K : Type 0} (cmp : K → K → Ordering) (total : IsTotalOrder cmp) (xs : List K) → are_in_order cmp xs ≡ true → IsAscending (λ a b. cmp a b ≡ Less) xs
+tested_order cmp total xs e = order cmp xs (in_order_from cmp total xs e)
+
+-- ---- the rows of a table
+
+module _ {L X : Type 0} (cmp : X → X → Ordering) (total : IsTotalOrder cmp) (columns : Row → Row) (of : Row → X) (written : X → Row) (shown : L → Row) (entry : L → X) where
+  -- the plain row is one that the books write
+  abbrev pub IsGood : L → Type 0
+  IsGood l = (shown l ≡ written (entry l)) × (of (shown l) ≡ entry l)
+
+  shown_all : (lines : List L) → AllByRecursion IsGood lines → AllByRecursion (λ v. v ≡ written (of v)) (map shown lines)
+  shown_all [] all = tt
+  shown_all (l ∷ lines) all = (all.0.0 ∙ ap written (sym all.0.1), shown_all lines all.1)
+
+  entries : (lines : List L) → AllByRecursion IsGood lines → map (λ l. of (shown l)) lines ≡ map entry lines
+  entries [] all = refl
+  entries (l ∷ lines) all = ap (λ e. e ∷ map (λ (k : L). of (shown k)) lines) all.0.1 ∙ ap (λ es. entry l ∷ es) (entries lines all.1)
+
+  pub read_back : (lines : List L) (rows : List Row) → AreLines columns shown lines rows → AllByRecursion IsGood lines
+      → IsAscending (λ a b. cmp a b ≡ Less) (map entry lines) → IsTable cmp columns of written rows × (listed cmp (λ r. of (columns r)) rows ≡ map entry lines)
+  read_back lines rows same all up =
+      let good : AllByRecursion (IsWrittenAs columns of written) rows = all_unmap (λ v. v ≡ written (of v)) columns rows
+      (every_shuffled (λ v. v ≡ written (of v)) (map shown lines) (map columns rows) (IsPermutation-sym _ _ same) (shown_all lines all)) in
+      let first : IsPermutation (map of (map columns rows)) (map of (map shown lines)) = IsPermutation-map of _ _ same in
+      let moved : IsPermutation (map (λ r. of (columns r)) rows) (map of (map shown lines)) = subst (λ xs. IsPermutation xs (map of (map shown lines))) (fused of columns rows) first in
+      let mapped : IsPermutation (map (λ r. of (columns r)) rows) (map entry lines) =
+      subst (λ ys. IsPermutation (map (λ r. of (columns r)) rows) ys) (fused of shown lines ∙ entries lines all) moved in
+      let apart : AreApart cmp (map entry lines) = ascending_weaker _ _ (λ a b less. ap is_eq less) (map entry lines) up in
+      let own = apart_permuted cmp total _ _ (IsPermutation-sym _ _ mapped) apart in
+      (record { good = good; apart = own }, sym (sorted_is-sort_by cmp total (map (λ r. of (columns r)) rows) (map entry lines) own mapped (sorted_rises cmp total _ up)))

@@ -1,0 +1,269 @@
+-- One statement whose rows are handed over, one at a time.
+use Rattle.std.proofs.Common.{◌≡◌, ◌⊎◌, inl, inr, refl, sym, ap, subst, ◌∙◌, List, [], ◌∷◌, ◌++◌, ℕ, IsTrue, Bool, false, true, Option, Some, None, Ok, Err, Result, map, append_assoc}
+use Rattle.std.specs.Prelude.{option_copied, OnOk, IfOk, IfErr}
+use Rattle.std.proofs.lemmas.List.{map-append}
+use Rattle.std.specs.Borrow.{Bor}
+use Rattle.sqlite_value.specs.declared.value.Value.TheVariants.{Null}
+use Rattle.sqlite_trees.specs.declared.store.Store.{Ghosts}
+use Rattle.sqlite_trees.specs.View.{doubt}
+use Rattle.sqlite.specs.Order.{Row}
+use Rattle.sqlite.specs.Query.{Query, IsAnswer}
+use Rattle.sqlite.specs.Program.{overlay}
+use Rattle.sqlite.specs.Effect.{Database}
+use Rattle.sqlite.specs.Held.{Held, state}
+use Rattle.sqlite.specs.Given.{HasGiven, HasBegun, Advances}
+use Rattle.sqlite.specs.Next.{HasMoved}
+use Rattle.sqlite.specs.State.{State, HasCleanDisk, IsUnchanged, Fails, Survives, CommitsShowing, Shown, Begins, FailsToQuery}
+use Rattle.sqlite.specs.declared.error.Error.{Error}
+use Rattle.sqlite.specs.declared.rows.stream.Rows.{Rows}
+use Rattle.sqlite.proofs.Callers.{begins_as, reads_as, begun_plain, given_begin}
+use Rattle.sqlite.proofs.StateLemmas.{survives_then}
+use Rattle.keycard_rules.specs.declared.issued.LookFault.{LookFault}
+use Rattle.hotel_core.specs.declared.books.walks.WalkFault.{WalkFault}
+use Rattle.hotel_core.specs.declared.books.walks.WalkFault.TheVariants as why
+use Rattle.hotel_core.specs.Books.Walks.{Takes, TakesFront, Hands, failure_of}
+use Rattle.hotel_core.proofs.OfCode.Walking.{one_more, all_taken}
+use Rattle.hotel_statements.specs.Schema.{desk_schema}
+use Rattle.hotel_statements.specs.Books.{IsDesk, IsKept, IsBooks, KeepsRows}
+use Rattle.hotel_statements.specs.LookUps.{Asks}
+use Rattle.hotel_statements.specs.Walks.{SaysRows, HandsOne, WalksRows}
+use Rattle.hotel_statements.proofs.Keeps.{Stays, keeps_books, keeps_rows, then_keeps, then_survives, shown_opened}
+use Rattle.hotel_statements.proofs.Looked.{command_is, plain_in, all_crash, fault_books, fault_keeps}
+
+-- the test holds, or it does not
+kept_or_not : (s : State) → IsKept s ⊎ (IsKept s → ⊥)
+unfolding doubt
+kept_or_not s = go s.is_clean s.is_open
+  where
+    go : (clean is_open : Bool) → ((doubt clean ≡ 0) × (is_open ≡ true)) ⊎ ((doubt clean ≡ 0) × (is_open ≡ true) → ⊥)
+    go true true = inl (refl, refl)
+    go true false = inr (λ k. let e = k.1 in cc)
+    go false is_open = inr (λ k. let e = k.0 in cc)
+
+-- the rows after some that are a front where the test holds
+pub chosen : {A : Type 0} (s : State) (taken rows : List A) → (IsKept s → (rest : List A) × (rows ≡ taken ++ rest)) → (rest : List A) × (IsKept s → taken ++ rest ≡ rows)
+chosen s taken rows front = elim (kept_or_not s) [
+  | inl kept ↦ let it = front kept in (it.0, λ _. sym it.1)
+  | inr other ↦ ([], λ kept. absurd (other kept))
+]
+
+-- what a failed walk handed over
+pub failed_walk : {S A : Type 0} (after after_stop : S → A → S → Type 0) (rows : List A) (sink end : S) (fault : WalkFault) (cause : LookFault) → failure_of (Err fault) ≡ Some cause
+    → TakesFront after rows sink end → Hands after after_stop rows sink end (Err fault)
+failed_walk after after_stop rows sink end why.Memory cause is front = front
+failed_walk after after_stop rows sink end why.Store cause is front = front
+failed_walk after after_stop rows sink end why.Stopped cause is front = absurd cc
+
+-- ---- the rows that a statement gives
+
+module _ {A : Type 0} (of : Row → A) (text : List ℕ) (params : Row) (old : State) (rows : List A) (says : SaysRows of text params old rows) where
+  -- those so far are a front
+  pub begins : (s : State) → IsBooks s → IsKept s → IsKept old → s.now ≡ old.now → (given : List Row) → Begins text params s given
+      → (rest : List A) × (rows ≡ map of given ++ rest)
+  begins s books kept was same given start =
+      let q = says.0 in
+      let asks = says.1 in
+      let first = (begins_as text params s s desk_schema (books.desk kept).schema _ (command_is q _ asks.query).1 asks.plain asks.listing given start).1 in
+      let tail = first.0 in
+      let answer : IsAnswer q (overlay old.now.trees []) params (given ++ tail) = subst (λ (d : Database). IsAnswer q (overlay d.trees []) params (given ++ tail)) same (first.1 Null) in
+      (map of tail, sym (says.2 was (map of (given ++ tail)) (given ++ tail, answer, refl)) ∙ map-append of given tail)
+
+  -- and at the end all of them
+  pub ends : (s new : State) → IsBooks s → IsKept s → IsKept old → s.now ≡ old.now → (given : List Row) → Shown text params s new given → map of given ≡ rows
+  ends s new books kept was same given shown =
+      let q = says.0 in
+      let asks = says.1 in
+      let answer = (reads_as text params s new desk_schema (books.desk kept).schema _ (command_is q _ asks.query).1 asks.plain asks.listing given shown).answer Null in
+      says.2 was (map of given) (given, subst (λ (d : Database). IsAnswer q (overlay d.trees []) params given) same answer, refl)
+
+-- ---- part-way through a walk
+
+-- What the sink took are the rows that the statement gave; the books are as they were.
+pub record IsUnderWay {S A K : Type 0} (g : Ghosts S) (of : Row → A) (after : K → A → K → Type 0) (text : List ℕ) (params : Row) (old now : Held S) (sink end : K) : Type 0 where
+  pub books : IsBooks (state g now)
+  pub keeps : KeepsRows (state g old) (state g now)
+  pub crash : Survives (state g old) (state g now) (λ _. IsKept (state g old) → ⊥)
+  pub taken : List A
+  pub takes : Takes after taken sink end
+  pub given : IsKept (state g now) → (rows : List Row) × HasGiven g text params now rows × (taken ≡ map of rows)
+
+stays_after : {R : Type 0} (old new : State) (result : Result R Error) → OnOk result (IsUnchanged old new) → IfErr result (λ e. Fails old new ⊥ e ⊎ IsUnchanged old new) → Stays old new
+stays_after old new (Ok row) same kept = inl same
+stays_after old new (Err e) same kept = elim kept [ inl fails ↦ inr fails.3 | inr still ↦ inl still ]
+
+opened : (old new : State) → Stays old new → IsTrue new.is_open → IsTrue old.is_open
+opened old new (inl same) is_open = same.0.was_open
+opened old new (inr back) is_open = back.was_open is_open
+
+module _ {S A K : Type 0} (g : Ghosts S) (of : Row → A) (after after_stop : K → A → K → Type 0) (text : List ℕ) (params : Row) (old : Held S) (sink : K) where
+  abbrev Walking : Held S → K → Type 0
+  Walking now end = IsUnderWay g of after text params old now sink end
+
+  -- ---- the query begins, or is refused
+
+  module _ (books : IsBooks (state g old)) (asks : (q : Query) × Asks text q) (new : Held S) (mode : old.in_transaction ≡ false → new.in_transaction ≡ false)
+      (survives : Survives (state g old) (state g new) (CommitsShowing text params (state g old))) where
+    pub starts : (HasCleanDisk (state g new) → HasBegun g text params old new) → Walking new sink
+    starts begun =
+        let plain = λ (desk : IsDesk (state g old)). plain_in text asks.0 (state g old) asks.1 desk in
+        let stays : HasCleanDisk (state g new) → IsDesk (state g old) → Stays (state g old) (state g new) = λ clean desk. inl (begun_plain g text params old new (plain desk) (begun clean)).1 in
+        let keeps = keeps_rows (state g old) (state g new) _ books mode survives stays (λ clean is_open. begun_opened (begun clean)) in
+        record {
+          books = keeps_books (state g old) (state g new) _ books mode survives stays (λ clean is_open. begun_opened (begun clean));
+          keeps = keeps;
+          crash = all_crash text params (state g old) (state g new) books asks mode survives;
+          taken = [];
+          takes = refl;
+          given = λ kept. ([], (begun_plain g text params old new (plain (books.desk (keeps kept).0)) (begun kept.0)).0, refl);
+        }
+      where
+        begun_opened : HasBegun g text params old new → IsTrue (state g old).is_open
+        begun_opened (inl h) = h.1.0.was_open
+        begun_opened (inr h) = shown_opened text params (state g old) (state g new) _ h.1
+
+    pub refused : (rows : List A) (e : Error) → (HasCleanDisk (state g new) → FailsToQuery text params (state g old) (state g new) e)
+        → (fault : WalkFault) (cause : LookFault) → failure_of (Err fault) ≡ Some cause
+        → WalksRows after after_stop rows (state g old) (state g new) sink sink (Err fault)
+    refused rows e fails fault cause is = record {
+      books = fault_books text params (state g old) (state g new) books asks mode survives e fails;
+      keeps = fault_keeps text params (state g old) (state g new) books asks mode survives e fails;
+      hands = (rows, failed_walk after after_stop rows sink sink fault cause is ([], rows, refl, refl), λ _. refl);
+      crash = all_crash text params (state g old) (state g new) books asks mode survives;
+    }
+
+  -- the rows that were taken are a front
+  front : (rows : List A) → SaysRows of text params (state g old) rows → (mid : Held S) (now : K) (so_far : Walking mid now) → IsKept (state g mid)
+      → (rest : List A) × (rows ≡ so_far.taken ++ rest)
+  front rows says mid now so_far kept =
+      let it = so_far.given kept in
+      let more = so_far.keeps kept in
+      let rest = begins of text params (state g old) rows says (state g mid) so_far.books kept more.0 more.1 it.0 (given_begin g text params mid it.0 it.1) in
+      (rest.0, rest.1 ∙ ap (λ ts. ts ++ rest.0) (sym it.2))
+
+  -- ---- one more row
+
+  module _ (mid new : Rows S g) (result : Result (Option (Bor Row)) Error) (moved : HasMoved g mid result new) (now : K) (so_far : Walking mid.conn.now now) where
+    after_next : HasCleanDisk (state g new.conn.now) → Stays (state g mid.conn.now) (state g new.conn.now)
+    after_next clean = stays_after (state g mid.conn.now) (state g new.conn.now) result (moved.same clean) (moved.kept clean)
+
+    still_books : IsBooks (state g new.conn.now)
+    still_books = keeps_books (state g mid.conn.now) (state g new.conn.now) _ so_far.books moved.mode moved.survives (λ clean _. after_next clean)
+        (λ clean. opened (state g mid.conn.now) (state g new.conn.now) (after_next clean))
+
+    one_keeps : KeepsRows (state g mid.conn.now) (state g new.conn.now)
+    one_keeps = keeps_rows (state g mid.conn.now) (state g new.conn.now) _ so_far.books moved.mode moved.survives (λ clean _. after_next clean)
+        (λ clean. opened (state g mid.conn.now) (state g new.conn.now) (after_next clean))
+
+    still_keeps : KeepsRows (state g old) (state g new.conn.now)
+    still_keeps = then_keeps (state g old) (state g mid.conn.now) (state g new.conn.now) so_far.keeps one_keeps
+
+    still_survives : Survives (state g old) (state g new.conn.now) (λ _. IsKept (state g old) → ⊥)
+    still_survives = survives_then (state g old) (state g mid.conn.now) (state g new.conn.now) _ _ _ (λ _ db none. none) (λ _ db none. absurd none) so_far.crash moved.survives
+
+    module _ (row : Bor Row) (is : result ≡ Ok (Some row)) where
+      given_more : IsKept (state g new.conn.now) → (rows : List Row) × HasGiven g text params new.conn.now (rows ++ row.now ∷ []) × (so_far.taken ≡ map of rows)
+      given_more kept =
+          let it = so_far.given (one_keeps kept).0 in
+          (it.0, subst (λ r. IfOk r (λ row. Advances g mid.conn.now new.conn.now (option_copied row))) is (moved.ok kept.0) text params it.0 it.1, it.2)
+
+      pub goes_on : (end : K) → after now (of row.now) end → Walking new.conn.now end
+      goes_on end took = record {
+        books = still_books;
+        keeps = still_keeps;
+        crash = still_survives;
+        taken = so_far.taken ++ of row.now ∷ [];
+        takes = all_taken after _ _ _ (one_more after (so_far.taken ++ of row.now ∷ []) (of row.now) [] _ _ _ (so_far.taken, refl, so_far.takes) took);
+        given = λ kept. let it = given_more kept in (it.0 ++ row.now ∷ [], it.1, ap (λ ts. ts ++ of row.now ∷ []) it.2 ∙ sym (map-append of it.0 (row.now ∷ [])));
+      }
+
+      -- the row was not taken
+      pub left : (rows : List A) → SaysRows of text params (state g old) rows → (end : K) (fault : WalkFault) → HandsOne after after_stop (of row.now) now end (Err fault)
+          → WalksRows after after_stop rows (state g old) (state g new.conn.now) sink end (Err fault)
+      left rows says end fault hands = record { books = still_books; keeps = still_keeps; crash = still_survives; hands = go fault hands }
+        where
+          value : A
+          value = of row.now
+
+          front : IsKept (state g new.conn.now) → (rest : List A) × (rows ≡ (so_far.taken ++ value ∷ []) ++ rest)
+          front kept =
+              let it = given_more kept in
+              let more = still_keeps kept in
+              let start = given_begin g text params new.conn.now (it.0 ++ row.now ∷ []) it.1 in
+              let rest = begins of text params (state g old) rows says (state g new.conn.now) still_books kept more.0 more.1 (it.0 ++ row.now ∷ []) start in
+              (rest.0, rest.1 ∙ ap (λ ts. ts ++ rest.0) (map-append of it.0 (row.now ∷ []) ∙ ap (λ ts. ts ++ value ∷ []) (sym it.2)))
+
+          rest : (rest : List A) × (IsKept (state g new.conn.now) → (so_far.taken ++ value ∷ []) ++ rest ≡ rows)
+          rest = chosen (state g new.conn.now) (so_far.taken ++ value ∷ []) rows front
+
+          are : IsKept (state g new.conn.now) → so_far.taken ++ value ∷ rest.0 ≡ rows
+          are kept = sym (append_assoc so_far.taken (value ∷ []) rest.0) ∙ rest.1 kept
+
+          go : (w : WalkFault) → HandsOne after after_stop value now end (Err w)
+              → (handed : List A) × Hands after after_stop handed sink end (Err w) × (IsKept (state g new.conn.now) → handed ≡ rows)
+          go why.Stopped stop = (so_far.taken ++ value ∷ rest.0, (so_far.taken, value, rest.0, refl, now, so_far.takes, stop), are)
+          go why.Memory same = (so_far.taken ++ value ∷ rest.0, (so_far.taken, value ∷ rest.0, refl, subst (Takes after so_far.taken sink) (sym same) so_far.takes), are)
+          go why.Store same = (so_far.taken ++ value ∷ rest.0, (so_far.taken, value ∷ rest.0, refl, subst (Takes after so_far.taken sink) (sym same) so_far.takes), are)
+
+    -- ---- no further row
+
+    pub ended : result ≡ Ok None → (rows : List A) → SaysRows of text params (state g old) rows
+        → WalksRows after after_stop rows (state g old) (state g new.conn.now) sink now (Ok tt)
+    ended is rows says = record {
+      books = still_books;
+      keeps = still_keeps;
+      crash = still_survives;
+      hands = (
+        so_far.taken,
+        so_far.takes,
+        λ kept.
+            let before = (one_keeps kept).0 in
+            let first = so_far.keeps before in
+            let it = so_far.given before in
+            let shown = subst (λ r. IfOk r (λ row. Advances g mid.conn.now new.conn.now (option_copied row))) is (moved.ok kept.0) text params it.0 it.1 in
+            it.2 ∙ ends of text params (state g old) rows says (state g mid.conn.now) (state g new.conn.now) so_far.books before first.0 first.1 it.0 shown,
+      );
+    }
+
+    pub broken_off : (rows : List A) → SaysRows of text params (state g old) rows → (fault : WalkFault) (cause : LookFault) → failure_of (Err fault) ≡ Some cause
+        → WalksRows after after_stop rows (state g old) (state g new.conn.now) sink now (Err fault)
+    broken_off rows says fault cause is =
+        let rest = chosen (state g new.conn.now) so_far.taken rows (λ kept. front rows says mid.conn.now now so_far (one_keeps kept).0) in
+        record {
+          books = still_books;
+          keeps = still_keeps;
+          crash = still_survives;
+          hands = (so_far.taken ++ rest.0, failed_walk after after_stop _ sink now fault cause is (so_far.taken, rest.0, refl, so_far.takes), rest.1);
+        }
+
+  -- after as many rows as a counter counts
+  pub cut : (mid : Held S) (now : K) → Walking mid now → (rows : List A) → SaysRows of text params (state g old) rows
+      → WalksRows after after_stop rows (state g old) (state g mid) sink now (Err why.Store)
+  cut mid now so_far rows says =
+      let rest = chosen (state g mid) so_far.taken rows (front rows says mid now so_far) in
+      record {
+        books = so_far.books;
+        keeps = so_far.keeps;
+        crash = so_far.crash;
+        hands = (so_far.taken ++ rest.0, (so_far.taken, rest.0, refl, so_far.takes), rest.1);
+      }
+
+-- ---- a walk after a look-up, and a look-up that failed before it
+
+module _ {A K : Type 0} (after after_stop : K → A → K → Type 0) (rows : List A) (old mid : State) (sink : K) where
+  pub then_walks : (new : State) (end : K) (result : Result (Unit {0}) WalkFault) → KeepsRows old mid → (IsKept old → HasCleanDisk mid → IsTrue mid.is_open) → Survives old mid (λ _. IsKept old → ⊥)
+      → WalksRows after after_stop rows mid new sink end result → WalksRows after after_stop rows old new sink end result
+  then_walks new end result keeps open_on crash walked = record {
+    books = walked.books;
+    keeps = then_keeps old mid new keeps walked.keeps;
+    hands = walked.hands;
+    crash = then_survives old mid new open_on crash walked.crash;
+  }
+
+  pub not_begun : (fault : WalkFault) (cause : LookFault) → failure_of (Err fault) ≡ Some cause → IsBooks mid → KeepsRows old mid → Survives old mid (λ _. IsKept old → ⊥)
+      → WalksRows after after_stop rows old mid sink sink (Err fault)
+  not_begun fault cause is books keeps crash = record {
+    books = books;
+    keeps = keeps;
+    hands = (rows, failed_walk after after_stop rows sink sink fault cause is ([], rows, refl, refl), λ _. refl);
+    crash = crash;
+  }

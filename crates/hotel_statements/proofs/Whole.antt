@@ -1,0 +1,78 @@
+-- What the reading of a whole table answers.
+use Rattle.std.proofs.Common.{◌≡◌, refl, sym, ap, subst, ◌∙◌, List, [], ◌∷◌, ℕ, map, filter}
+use Rattle.std.specs.List.Sorted.{IsPermutation}
+use Rattle.std.proofs.lemmas.List.Sorted.{IsPermutation-map}
+use Rattle.sqlite_value.specs.declared.keys.Collation.TheVariants.{Binary}
+use Rattle.sqlite_value.specs.declared.keys.Key.{Key}
+use Rattle.sqlite_value.specs.Keys.{ascending}
+use Rattle.sqlite.specs.Order.{Row}
+use Rattle.sqlite.specs.Query.{IsAnswer, Output, output}
+use Rattle.sqlite.specs.Program.{overlay}
+use Rattle.sqlite.specs.Term.{Term, col, eval_all}
+use Rattle.sqlite.specs.Tree.{Trees}
+use Rattle.hotel_statements.specs.Texts as text
+use Rattle.hotel_statements.specs.Columns.{meta_columns, kind_columns, room_columns, stay_columns, code_columns, card_columns, note_columns}
+use Rattle.hotel_statements.specs.Lines.{numbered_columns, first_one, first_three, first_four, first_seven, first_eight}
+use Rattle.hotel_statements.specs.Reading.{IsWhole}
+use Rattle.hotel_statements.proofs.Statements.Terms.{columns, all_seven, all_eight}
+use Rattle.hotel_statements.proofs.Statements.Reads as reads
+use Rattle.hotel_statements.proofs.Answers.{answered, single, env, passes, fused}
+use Rattle.hotel_statements.proofs.Found.{same_tree, map_same}
+
+abbrev pub by_rowid : List (Term × Key)
+by_rowid = (col 1 0, ascending Binary) ∷ []
+
+abbrev pub by_first : List (Term × Key)
+by_first = (col 1 1, ascending Binary) ∷ []
+
+abbrev pub by_two : List (Term × Key)
+by_two = (col 1 1, ascending Binary) ∷ (col 1 2, ascending Binary) ∷ []
+
+all_pass : (rows : List Row) → filter (passes [] []) rows ≡ rows
+all_pass [] = refl
+all_pass (r ∷ rows) = ap (λ rs. r ∷ rs) (all_pass rows)
+
+-- the rows that are shown are those of the tree, in some order
+pub all_rows : (tree : ℕ) (project : List Term) (order : List (Term × Key)) (columns cut : Row → Row) → ((r : Row) → eval_all project (env [] r) ≡ columns r)
+    → ((r : Row) → cut (columns r) ≡ columns r) → (db : Trees) (rows : List Row) → IsAnswer (single tree [] project order) (overlay db []) [] rows
+    → IsPermutation (map columns (db tree)) (map cut rows)
+all_rows tree project order columns cut shows whole db rows a =
+    let it = answered tree [] project order (overlay db []) [] rows a in
+    let o : Row → Output = λ r. output (single tree [] project order) (env [] r) in
+    let all : IsPermutation (map o (db tree)) it.ordered = subst (λ rs. IsPermutation (map o rs) it.ordered) (all_pass _ ∙ same_tree db tree) it.same in
+    let mapped : IsPermutation (map (λ (x : Output). cut x.1) (map o (db tree))) (map (λ (x : Output). cut x.1) it.ordered) =
+    IsPermutation-map (λ (x : Output). cut x.1) _ _ all in
+    let left : map (λ (x : Output). cut x.1) (map o (db tree)) ≡ map columns (db tree) =
+    fused (λ (x : Output). cut x.1) o (db tree) ∙ map_same _ columns (λ r. ap cut (shows r) ∙ whole r) (db tree) in
+    let right : map (λ (x : Output). cut x.1) it.ordered ≡ map cut rows = sym (fused cut (λ (x : Output). x.1) it.ordered) ∙ ap (map cut) (sym it.shown) in
+    subst (λ ys. IsPermutation (map columns (db tree)) ys) right (subst (λ xs. IsPermutation xs (map (λ (x : Output). cut x.1) it.ordered)) left mapped)
+
+-- ---- the eight tables
+
+pub meta_whole : IsWhole text.read_meta 0 meta_columns first_three
+meta_whole = record { query = single 0 [] (columns (0 ∷ 2 ∷ 3 ∷ [])) by_rowid; asks = reads.read_meta; answers = all_rows 0 (columns (0 ∷ 2 ∷ 3 ∷ [])) by_rowid meta_columns first_three (λ r. refl) (λ r. refl) }
+
+pub kind_whole : IsWhole text.read_kind 1 kind_columns first_one
+kind_whole = record { query = single 1 [] (columns (1 ∷ [])) by_first; asks = reads.read_kind; answers = all_rows 1 (columns (1 ∷ [])) by_first kind_columns first_one (λ r. refl) (λ r. refl) }
+
+pub room_whole : IsWhole text.read_room 3 room_columns first_seven
+room_whole = record { query = single 3 [] all_seven by_rowid; asks = reads.read_room; answers = all_rows 3 all_seven by_rowid room_columns first_seven (λ r. refl) (λ r. refl) }
+
+pub stay_whole : IsWhole text.read_stay 5 stay_columns first_seven
+stay_whole = record { query = single 5 [] all_seven by_rowid; asks = reads.read_stay; answers = all_rows 5 all_seven by_rowid stay_columns first_seven (λ r. refl) (λ r. refl) }
+
+pub code_whole : IsWhole text.read_code 6 code_columns first_three
+code_whole = record { query = single 6 [] (columns (0 ∷ 2 ∷ 3 ∷ [])) by_rowid; asks = reads.read_code; answers = all_rows 6 (columns (0 ∷ 2 ∷ 3 ∷ [])) by_rowid code_columns first_three (λ r. refl) (λ r. refl) }
+
+pub card_whole : IsWhole text.read_card 8 card_columns first_four
+card_whole = record {
+  query = single 8 [] (columns (0 ∷ 2 ∷ 3 ∷ 4 ∷ [])) by_rowid;
+  asks = reads.read_card;
+  answers = all_rows 8 (columns (0 ∷ 2 ∷ 3 ∷ 4 ∷ [])) by_rowid card_columns first_four (λ r. refl) (λ r. refl);
+}
+
+pub inside_whole : IsWhole text.read_inside 9 numbered_columns first_three
+inside_whole = record { query = single 9 [] (columns (0 ∷ 1 ∷ 2 ∷ [])) by_two; asks = reads.read_inside; answers = all_rows 9 (columns (0 ∷ 1 ∷ 2 ∷ [])) by_two numbered_columns first_three (λ r. refl) (λ r. refl) }
+
+pub note_whole : IsWhole text.read_note 11 note_columns first_eight
+note_whole = record { query = single 11 [] all_eight by_two; asks = reads.read_note; answers = all_rows 11 all_eight by_two note_columns first_eight (λ r. refl) (λ r. refl) }

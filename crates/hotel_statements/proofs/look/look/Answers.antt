@@ -1,0 +1,61 @@
+use Rattle.std.proofs.Common.{◌∙◌, ap, Err, rules}
+use Rattle.sqlite.specs.Held.{state}
+use Rattle.sqlite.specs.Values.{bound}
+use Rattle.hotel_statements.proofs.Looked.{looked, look_found, look_lost, look_open, none_open}
+use Rattle.hotel_statements.proofs.look.look.Goals as goal
+
+pub returns-in_err-from_row-in-Ok : goal.returns-in_err-from_row-in-Ok
+returns-in_err-from_row-in-Ok g c =
+    let kept = looked c.args.text.now (bound c.args.params.now) (state g.S.Store c.args.conn.now) (state g.S.Store c.query_row.new.self) c.query_row.result c.requires.books c.requires.asks c.query_row.ensures.row
+    c.query_row.ensures.mode c.query_row.ensures.survives in
+    record {
+      books = kept.0;
+      keeps = kept.1;
+      found = search rules;
+      open_on = search rules;
+      crash = kept.2;
+    }
+
+pub returns-in_ok-from_row-in-Ok : goal.returns-in_ok-from_row-in-Ok
+returns-in_ok-from_row-in-Ok g c =
+    let kept = looked c.args.text.now (bound c.args.params.now) (state g.S.Store c.args.conn.now) (state g.S.Store c.query_row.new.self) c.query_row.result c.requires.books c.requires.asks c.query_row.ensures.row
+    c.query_row.ensures.mode c.query_row.ensures.survives in
+    record {
+      books = kept.0;
+      keeps = kept.1;
+      found = λ still q asks. look_found c.args.text.now (bound c.args.params.now) (state g.S.Store c.args.conn.now) (state g.S.Store c.query_row.new.self) c.query_row.result c.requires.books c.requires.asks c.query_row.ensures.row
+          c.query_row.ensures.mode c.query_row.ensures.survives
+          g.R.FromRow.of c.in-Ok.row c.in_ok-from_row-in-Ok.field-0 c.in-Ok.is (search rules) still q asks;
+      open_on = look_open c.args.text.now (bound c.args.params.now) (state g.S.Store c.args.conn.now) (state g.S.Store c.query_row.new.self) c.query_row.result c.requires.books c.requires.asks c.query_row.ensures.row
+          c.query_row.ensures.mode c.query_row.ensures.survives
+          c.in-Ok.row c.in-Ok.is;
+      crash = kept.2;
+    }
+
+pub returns-in-Err-QueryReturnedNoRows : goal.returns-in-Err-QueryReturnedNoRows
+returns-in-Err-QueryReturnedNoRows g c =
+    let kept = looked c.args.text.now (bound c.args.params.now) (state g.S.Store c.args.conn.now) (state g.S.Store c.query_row.new.self) c.query_row.result c.requires.books c.requires.asks c.query_row.ensures.row
+    c.query_row.ensures.mode c.query_row.ensures.survives in
+    record {
+      books = kept.0;
+      keeps = kept.1;
+      found = λ still q asks. look_lost c.args.text.now (bound c.args.params.now) (state g.S.Store c.args.conn.now) (state g.S.Store c.query_row.new.self) c.query_row.result c.requires.books c.requires.asks c.query_row.ensures.row
+          c.query_row.ensures.mode c.query_row.ensures.survives
+          g.R.FromRow.of (c.in-Err-QueryReturnedNoRows.is ∙ ap Err c.in-Err-QueryReturnedNoRows.field-0-is) still q asks;
+      open_on = none_open c.args.text.now (bound c.args.params.now) (state g.S.Store c.args.conn.now) (state g.S.Store c.query_row.new.self) c.query_row.result c.requires.books c.requires.asks c.query_row.ensures.row
+          c.query_row.ensures.mode c.query_row.ensures.survives
+          (c.in-Err-QueryReturnedNoRows.is ∙ ap Err c.in-Err-QueryReturnedNoRows.field-0-is);
+      crash = kept.2;
+    }
+
+pub returns-in-Err : goal.returns-in-Err
+returns-in-Err g c =
+    let kept = looked c.args.text.now (bound c.args.params.now) (state g.S.Store c.args.conn.now) (state g.S.Store c.query_row.new.self) c.query_row.result c.requires.books c.requires.asks c.query_row.ensures.row
+    c.query_row.ensures.mode c.query_row.ensures.survives in
+    record {
+      books = kept.0;
+      keeps = kept.1;
+      found = λ _ _ _. tt;
+      open_on = λ _ _. tt;
+      crash = kept.2;
+    }

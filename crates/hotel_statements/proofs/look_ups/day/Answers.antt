@@ -1,0 +1,28 @@
+use Rattle.std.proofs.Common.{◌∙◌, [], ◌∷◌}
+use Rattle.sqlite.specs.Order.{column}
+use Rattle.sqlite.specs.Query.{Query}
+use Rattle.sqlite.specs.Held.{state}
+use Rattle.hotel_statements.specs.Values.{int, option_of}
+use Rattle.hotel_statements.specs.Books.{IsKept}
+use Rattle.hotel_statements.specs.LookUps.{Asks, AnswersFirst}
+use Rattle.hotel_statements.specs.Texts as text
+use Rattle.hotel_statements.proofs.Statements.Selects as selects
+use Rattle.hotel_statements.proofs.Finds.{day_finds}
+use Rattle.hotel_statements.proofs.look_ups.day.Goals as goal
+
+pub look-requires-clause-asks : goal.look-requires-clause-asks
+look-requires-clause-asks g c = (_, selects.select_day)
+
+pub returns : goal.returns
+returns g c =
+    let old = state g.S.Store c.args.conn.now in
+    let new = state g.S.Store c.look.new.conn in
+    let shown : IsKept new → (p : Query) → Asks text.select_day p → AnswersFirst (λ v. option_of (column v 0)) p (int 1 ∷ []) old.now.trees c.in_ok-day.day =
+    rw (c.small.ensures) at c.in_ok-day.ensures.found in
+    record {
+      books = c.look.ensures.books;
+      keeps = c.look.ensures.keeps;
+      found = λ kept. c.unwrap_or.ensures ∙ day_finds old.now.trees (c.requires.desk (c.look.ensures.keeps kept).0).tables c.in_ok-day.day (shown kept _ selects.select_day);
+      open_on = c.in_ok-day.ensures.open_on;
+      crash = c.look.ensures.crash;
+    }

@@ -1,0 +1,29 @@
+use Rattle.std.proofs.Common.{◌∙◌, [], ◌∷◌}
+use Rattle.sqlite.specs.Order.{column}
+use Rattle.sqlite.specs.Query.{Query}
+use Rattle.sqlite.specs.Held.{state}
+use Rattle.hotel_statements.specs.Values.{int, number_of}
+use Rattle.hotel_statements.specs.Books.{IsKept}
+use Rattle.hotel_statements.specs.LookUps.{Asks, AnswersFirst}
+use Rattle.hotel_statements.specs.Texts as text
+use Rattle.hotel_statements.proofs.Statements.Selects as selects
+use Rattle.hotel_statements.proofs.Finds.{any_inside_finds}
+use Rattle.hotel_statements.proofs.look_ups.has_inside.Goals as goal
+
+pub look-requires-clause-asks : goal.look-requires-clause-asks
+look-requires-clause-asks g c = (_, selects.select_any_inside)
+
+pub returns : goal.returns
+returns g c =
+    let old = state g.S.Store c.args.conn.now in
+    let new = state g.S.Store c.look.new.conn in
+    let shown : IsKept new → (p : Query) → Asks text.select_any_inside p → AnswersFirst (λ v. number_of (column v 0)) p (int c.args.room ∷ []) old.now.trees c.in_ok-card.card =
+    rw (c.small.ensures, c.value.ensures.same) at c.in_ok-card.ensures.found in
+    record {
+      books = c.look.ensures.books;
+      keeps = c.look.ensures.keeps;
+      found = λ kept. c.is_some.ensures ∙ any_inside_finds old.now.trees (c.requires.desk (c.look.ensures.keeps kept).0).tables c.args.room c.in_ok-card.card
+          (shown kept _ selects.select_any_inside);
+      open_on = c.in_ok-card.ensures.open_on;
+      crash = c.look.ensures.crash;
+    }

@@ -1,0 +1,30 @@
+use Rattle.std.proofs.Common.{◌∙◌, [], ◌∷◌}
+use Rattle.sqlite_value.specs.declared.value.Value.TheVariants.{Text}
+use Rattle.sqlite.specs.Order.{column}
+use Rattle.sqlite.specs.Query.{Query}
+use Rattle.sqlite.specs.Held.{state}
+use Rattle.hotel_statements.specs.Values.{text_of}
+use Rattle.hotel_statements.specs.Books.{IsKept}
+use Rattle.hotel_statements.specs.LookUps.{Asks, AnswersFirst}
+use Rattle.hotel_statements.specs.Texts as text
+use Rattle.hotel_statements.proofs.Statements.Selects as selects
+use Rattle.hotel_statements.proofs.Finds.{kind_finds}
+use Rattle.hotel_statements.proofs.look_ups.kind.Goals as goal
+
+pub look-requires-clause-asks : goal.look-requires-clause-asks
+look-requires-clause-asks g c = (_, selects.select_kind)
+
+pub returns : goal.returns
+returns g c =
+    let old = state g.S.Store c.args.conn.now in
+    let new = state g.S.Store c.look.new.conn in
+    let shown : IsKept new → (p : Query) → Asks text.select_kind p → AnswersFirst (λ v. text_of (column v 0)) p (Text c.args.kind.now ∷ []) old.now.trees c.in_ok-kind.kind =
+    rw (c.text.ensures, c.as_bytes.ensures.same) at c.in_ok-kind.ensures.found in
+    record {
+      books = c.look.ensures.books;
+      keeps = c.look.ensures.keeps;
+      found = λ kept. c.is_some.ensures ∙ kind_finds old.now.trees (c.requires.desk (c.look.ensures.keeps kept).0).tables c.args.kind.now c.in_ok-kind.kind
+          (shown kept _ selects.select_kind);
+      open_on = c.in_ok-kind.ensures.open_on;
+      crash = c.look.ensures.crash;
+    }

@@ -1,0 +1,42 @@
+use Rattle.std.proofs.Common.{◌∙◌, ap, ap₂, arith, rules}
+use Rattle.std.specs.Prelude.{length}
+use Rattle.sqlite.specs.Held.{state}
+use Rattle.sqlite.specs.Effect.{Database}
+use Rattle.sqlite.specs.State.{HasCleanDisk}
+use Rattle.hotel_core.specs.Books.Lookups.{number_after}
+use Rattle.hotel_statements.specs.Tables.{rows_in}
+use Rattle.hotel_statements.proofs.Keeps.{then_keeps, then_survives}
+use Rattle.hotel_statements.proofs.look_ups.next_numbers.Goals as goal
+
+pub returns-in_err-card : goal.returns-in_err-card
+returns-in_err-card g c =
+    let old = state g.S.Store c.args.conn.now in
+    let mid = state g.S.Store c.last_party.new.conn in
+    let new = state g.S.Store c.last_card.new.conn in
+    record {
+      books = c.last_card.ensures.books;
+      keeps = then_keeps old mid new c.in_ok-party.ensures.keeps c.last_card.ensures.keeps;
+      found = search rules;
+      open_on = search rules;
+      crash = then_survives old mid new c.in_ok-party.ensures.open_on c.in_ok-party.ensures.crash c.last_card.ensures.crash;
+    }
+
+pub returns : goal.returns
+returns g c =
+    let old = state g.S.Store c.args.conn.now in
+    let mid = state g.S.Store c.last_party.new.conn in
+    let new = state g.S.Store c.last_card.new.conn in
+    record {
+      books = c.in_ok-card.ensures.books;
+      keeps = then_keeps old mid new c.in_ok-party.ensures.keeps c.in_ok-card.ensures.keeps;
+      found = λ kept.
+          let then = c.in_ok-card.ensures.keeps kept in
+          let first = c.in_ok-party.ensures.keeps then.0 in
+          let party = c.number_after.ensures ∙ ap number_after (c.in_ok-party.ensures.found then.0) in
+          let card = c.number_after-2.ensures ∙ ap number_after (c.in_ok-card.ensures.found kept ∙ ap (λ (d : Database). length (rows_in d.trees).cards) first.1) in
+          ap₂ (λ p q. record { party = p; card = q }) party card;
+      open_on = λ kept clean.
+          let before : HasCleanDisk mid = omega (arith, c.in_ok-card.ensures.crash.clean, clean) in
+          c.in_ok-card.ensures.open_on (before, c.in_ok-party.ensures.open_on kept before) clean;
+      crash = then_survives old mid new c.in_ok-party.ensures.open_on c.in_ok-party.ensures.crash c.in_ok-card.ensures.crash;
+    }

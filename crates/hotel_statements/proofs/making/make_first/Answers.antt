@@ -1,0 +1,21 @@
+use Rattle.std.proofs.Common.{arith}
+use Rattle.std.proofs.lemmas.Result.{on_ok_weaker}
+use Rattle.sqlite.specs.Held.{state}
+use Rattle.sqlite.specs.State.{HasCleanDisk}
+use Rattle.hotel_statements.specs.Making.{IsBare, with_meta, with_kind, with_room}
+use Rattle.hotel_statements.proofs.Makers.{make_meta, make_kind, make_room, make_stay}
+use Rattle.hotel_statements.proofs.making.make_first.Goals as goal
+
+pub returns-clause-made : goal.returns-clause-made
+returns-clause-made g c = λ clean.
+    let s1 = state g.S.Store c.make.new.tx.conn.now in
+    let s2 = state g.S.Store c.make-2.new.tx.conn.now in
+    let s3 = state g.S.Store c.make-3.new.tx.conn.now in
+    let k3 : HasCleanDisk s3 = omega (arith, c.make-4.ensures.survives.clean, clean) in
+    let k2 : HasCleanDisk s2 = omega (arith, c.make-3.ensures.survives.clean, k3) in
+    let k1 : HasCleanDisk s1 = omega (arith, c.make-2.ensures.survives.clean, k2) in
+    on_ok_weaker c.make-4.result (λ made bare.
+    let b1 : IsBare with_meta s1 = c.in_ok-make.ensures.made k1 _ _ make_meta bare in
+    let b2 : IsBare with_kind s2 = c.in_ok-make-2.ensures.made k2 _ _ make_kind (λ _. b1) in
+    let b3 : IsBare with_room s3 = c.in_ok-make-3.ensures.made k3 _ _ make_room (λ _. b2) in
+    made _ _ make_stay (λ _. b3)) (c.make-4.ensures.made clean)

@@ -1,0 +1,13 @@
+pub mod Schema
+pub mod Texts
+pub mod Values
+pub mod Columns
+pub mod Tables
+pub mod Books
+pub mod Making
+pub mod LookUps
+pub mod Steps
+pub mod Walks
+pub mod Lines
+pub mod Reading
+pub mod SameSchema

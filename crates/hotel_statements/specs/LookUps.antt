@@ -1,0 +1,60 @@
+-- What a look-up promises.
+use Rattle.std.specs.Prelude.{◌≡◌, ℕ, false, length, List, [], ◌∷◌, map, Option, Some, None, Result, IfOk, OnOk, IsTrue}
+use Rattle.sqlite.specs.Order.{Row}
+use Rattle.sqlite.specs.Query.{Query, IsAnswer}
+use Rattle.sqlite.specs.Program.{overlay}
+use Rattle.sqlite.specs.Tree.{Trees}
+use Rattle.sqlite.specs.Command.TheVariants.{Select}
+use Rattle.sqlite.specs.Listing.{understood, reads_listing}
+use Rattle.sqlite.specs.Given.{IsPlain}
+use Rattle.sqlite.specs.State.{State, HasCleanDisk, Survives}
+use Rattle.sqlite_resolve.specs.declared.compiled.Compiled.{Compiled}
+use Rattle.sqlite_resolve.specs.declared.error.CompileError.{CompileError}
+use Rattle.keycard_rules.specs.declared.issued.LookFault.{LookFault}
+use Rattle.hotel_core.specs.declared.books.rows.NextNumbers.{NextNumbers}
+use Rattle.hotel_core.specs.Books.Lookups.{number_after}
+use Rattle.hotel_core.specs.Model.Rows.{Rows}
+use Rattle.hotel_statements.specs.Schema.{desk_schema}
+use Rattle.hotel_statements.specs.Tables.{rows_in}
+use Rattle.hotel_statements.specs.Books.{IsKept, IsBooks, KeepsRows}
+use Rattle.std.specs.Prelude.{Ok, Err}
+
+-- the text is understood as this query
+abbrev pub IsQuery : Query → Result Compiled CompileError → Type 0
+IsQuery q (Ok c) = (names : List (List ℕ)) × (c.command ≡ Select (record { lets = []; body = q }) names)
+IsQuery q (Err e) = ⊥
+
+-- A statement that a desk understands as a query of its tables alone.
+pub record Asks (text : List ℕ) (q : Query) : Type 0 where
+  pub query : IsQuery q (understood desk_schema text)
+  pub plain : IsPlain (understood desk_schema text)
+  pub listing : reads_listing desk_schema text ≡ false
+
+-- the first row of an answer, or none where it has none
+abbrev pub AnswersFirst : {A : Type 0} → (Row → A) → Query → Row → Trees → Option A → Type 0
+AnswersFirst of q params db None = IsAnswer q (overlay db []) params []
+AnswersFirst of q params db (Some a) = (row : Row) × (rows : List Row) × IsAnswer q (overlay db []) params (row ∷ rows) × (a ≡ of row)
+
+-- all rows of an answer
+abbrev pub AnswersAll : {A : Type 0} → (Row → A) → Query → Row → Trees → List A → Type 0
+AnswersAll of q params db all = (rows : List Row) × IsAnswer q (overlay db []) params rows × (all ≡ map of rows)
+
+-- What a statement finds that a desk understands, whatever it is: the first row, or all rows.
+abbrev pub FindsFirst : {A : Type 0} → (Row → A) → List ℕ → Row → State → Result (Option A) LookFault → Type 0
+FindsFirst of text params old result = (q : Query) → Asks text q → IfOk result (AnswersFirst of q params old.now.trees)
+
+abbrev pub FindsAll : {A R : Type 0} → (R → List A) → (Row → A) → List ℕ → Row → State → Result R LookFault → Type 0
+FindsAll said of text params old result = (q : Query) → Asks text q → IfOk result (λ all. AnswersAll of q params old.now.trees (said all))
+
+-- A look-up of the books, of a connection from old to new: where the test holds at its end, its answer says what is wanted of the rows.
+-- It changes no row, and a crash in it leaves nothing new.
+pub record Looks {A R : Type 0} (said : R → A) (wanted : Rows → A) (old new : State) (result : Result R LookFault) : Type 0 where
+  pub books : IsBooks new
+  pub keeps : KeepsRows old new
+  pub found : IsKept new → IfOk result (λ a. said a ≡ wanted (rows_in old.now.trees))
+  pub open_on : IsKept old → HasCleanDisk new → OnOk result (IsTrue new.is_open)
+  pub crash : Survives old new (λ _. IsKept old → ⊥)
+
+-- the numbers after the last party and the last card
+abbrev pub next_numbers_of : Rows → NextNumbers
+next_numbers_of rows = record { party = number_after (length rows.stays); card = number_after (length rows.cards) }

@@ -1,0 +1,78 @@
+-- The making of tables, and an empty desk.
+use Rattle.std.specs.Prelude.{◌≡◌, List, [], ℕ, IsTrue, false, Ok}
+use Rattle.std.specs.List.{AllByRecursion}
+use Rattle.sqlite.specs.Table.{Table}
+use Rattle.sqlite.specs.Compile.{table_defined_by}
+use Rattle.sqlite.specs.Command.TheVariants.{CreateTable}
+use Rattle.sqlite.specs.Does.{lacks_sequence}
+use Rattle.sqlite.specs.Listing.{understood}
+use Rattle.sqlite.specs.Given.{IsPlain}
+use Rattle.sqlite.proofs.Callers.{command_of, statement_of}
+use Rattle.sqlite.specs.Tree.{Trees}
+use Rattle.sqlite.specs.Schema.{Schema}
+use Rattle.sqlite.specs.State.{State}
+use Rattle.sqlite_catalog.specs.Change.{created}
+use Rattle.hotel_core.specs.Model.Rows.{no_rows}
+use Rattle.hotel_statements.specs.Tables.{AreTables, rows_in}
+use Rattle.hotel_statements.specs.Schema.{desk_schema, no_schema, meta_table, kind_table, room_table, stay_table, code_table, card_table, inside_table}
+
+abbrev pub AreEmpty : Schema → Trees → Type 0
+AreEmpty schema db = AllByRecursion (λ (t : Table). db t.tree ≡ []) schema.tables
+
+-- The text makes this table of a database with these tables.
+pub record IsMaker (schema : Schema) (text : List ℕ) (t : Table) : Type 0 where
+  pub command : command_of (understood schema text) ≡ CreateTable
+  pub whole : statement_of text (understood schema text) ≡ text
+  pub plain : IsPlain (understood schema text)
+  pub defines : table_defined_by text ≡ Ok t
+  pub uncounted : lacks_sequence (created schema t) ≡ false
+
+-- Within a transaction, each table is there and empty.
+pub record IsBare (schema : Schema) (s : State) : Type 0 where
+  pub inside : IsTrue s.in_transaction
+  pub schema_is : s.now.schema ≡ schema
+  pub empty : AreEmpty schema s.now.trees
+
+abbrev pub with_meta : Schema
+with_meta = created no_schema meta_table
+
+abbrev pub with_kind : Schema
+with_kind = created with_meta kind_table
+
+abbrev pub with_room : Schema
+with_room = created with_kind room_table
+
+abbrev pub with_stay : Schema
+with_stay = created with_room stay_table
+
+abbrev pub with_code : Schema
+with_code = created with_stay code_table
+
+abbrev pub with_card : Schema
+with_card = created with_code card_table
+
+abbrev pub with_inside : Schema
+with_inside = created with_card inside_table
+
+-- Where the connection was open and the one held, the other holds.
+abbrev pub Leads : (State → Type 0) → (State → Type 0) → State → State → Type 0
+Leads Before After old new = (IsTrue old.is_open → Before old) → After new
+
+-- the tables are made of those that were there
+abbrev pub LeadsBare : Schema → Schema → State → State → Type 0
+LeadsBare before after = Leads (IsBare before) (IsBare after)
+
+-- whatever tables are there, the text's table is made
+abbrev pub Makes : List ℕ → State → State → Type 0
+Makes text old new = (schema : Schema) (t : Table) → IsMaker schema text t → Leads (IsBare schema) (IsBare (created schema t)) old new
+
+-- The trees of an empty desk: meta has its one row, and the other tables have none.
+pub record IsEmptyDesk (db : Trees) : Type 0 where
+  pub tables : AreTables db
+  pub no_rows_are : rows_in db ≡ no_rows
+
+-- Within a transaction, the tables are those of an empty desk.
+pub record IsMade (s : State) : Type 0 where
+  pub inside : IsTrue s.in_transaction
+  pub schema_is : s.now.schema ≡ desk_schema
+  pub empty : IsEmptyDesk s.now.trees

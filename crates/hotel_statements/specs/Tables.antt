@@ -1,0 +1,82 @@
+-- What the trees of a desk's tables hold: for each table the list of its rows in the order of the key, whatever the order of the tree.
+use Rattle.std.specs.Prelude.{ℕ, ◌≡◌, false, List, [], ◌∷◌, map, Option, None}
+use Rattle.std.specs.Ordering.{nat_cmp, is_eq}
+use Rattle.std.specs.declared.cmp.Ordering.{Ordering}
+use Rattle.std.specs.Cmp.Lexicographic.{slice_cmp}
+use Rattle.std.specs.List.{AllByRecursion}
+use Rattle.sqlite.specs.Order.{Row, value_cmp}
+use Rattle.sqlite.specs.Tree.{Trees, IsAscending}
+use Rattle.sqlite_trees.specs.Tree.{rowid}
+use Rattle.sqlite_rules.specs.Edit.{id_in}
+use Rattle.sqlite_value.specs.declared.value.Value.TheVariants.{Int}
+use Rattle.sqlite_keyed.specs.Lists.{sort_by}
+use Rattle.hotel_core.specs.Model.Words.{pair_cmp, said_of}
+use Rattle.hotel_core.specs.Model.Rows.{Rows, at_number}
+use Rattle.hotel_statements.specs.Columns.{meta_columns, meta_of, meta_written, kind_columns, kind_of, kind_written, room_columns, room_of, room_written, stay_columns, stay_of, stay_written}
+use Rattle.hotel_statements.specs.Columns.{code_columns, code_of, code_written, card_columns, card_of, card_written, inside_columns, inside_of, inside_written, note_columns, note_of, note_written}
+
+-- no two are equal in the order
+abbrev pub AreApart : {X : Type 0} → (X → X → Ordering) → List X → Type 0
+AreApart cmp = IsAscending (λ a b. is_eq (cmp a b) ≡ false)
+
+-- in the order of the first of two
+abbrev pub by_key : {K V : Type 0} → (K → K → Ordering) → K × V → K × V → Ordering
+by_key cmp a b = cmp a.0 b.0
+
+-- The rows of a table: each is good, and no two have one key.
+pub record IsTableOf {X : Type 0} (cmp : X → X → Ordering) (Good : Row → Type 0) (of : Row → X) (rows : List Row) : Type 0 where
+  pub good : AllByRecursion Good rows
+  pub apart : AreApart cmp (map of rows)
+
+-- what they say, in the order of the key
+abbrev pub listed : {X : Type 0} → (X → X → Ordering) → (Row → X) → List Row → List X
+listed cmp of rows = sort_by cmp (map of rows)
+
+-- the columns of a row are those that the books write of what it says
+abbrev pub IsWrittenAs : {X : Type 0} → (Row → Row) → (Row → X) → (X → Row) → Row → Type 0
+IsWrittenAs columns of written r = columns r ≡ written (of (columns r))
+
+-- A table whose rows have these columns, and are written so.
+abbrev pub IsTable : {X : Type 0} → (X → X → Ordering) → (Row → Row) → (Row → X) → (X → Row) → List Row → Type 0
+IsTable cmp columns of written = IsTableOf cmp (IsWrittenAs columns of written) (λ r. of (columns r))
+
+-- a row's number in its tree is an integer, and no two rows have the same
+abbrev pub HasId : Row → Type 0
+HasId r = rowid r ≡ Int (id_in (rowid r))
+
+abbrev pub AreApartIds : List Row → Type 0
+AreApartIds = IsAscending (λ a b. is_eq (value_cmp (rowid a) (rowid b)) ≡ false)
+
+-- ---- the trees of the tables; the numbers between are those of their indexes
+
+abbrev pub metas_in : Trees → List (ℕ × (ℕ × Option ℕ))
+metas_in db = listed (by_key nat_cmp) (λ r. meta_of (meta_columns r)) (db 0)
+
+-- The eight lists that the trees hold.
+abbrev pub rows_in : Trees → Rows
+rows_in db = record {
+  day = said_of (at_number (metas_in db) 1) None (λ meta. meta.1);
+  kinds = listed (slice_cmp nat_cmp) (λ r. kind_of (kind_columns r)) (db 1);
+  rooms = listed (by_key nat_cmp) (λ r. room_of (room_columns r)) (db 3);
+  stays = listed (by_key nat_cmp) (λ r. stay_of (stay_columns r)) (db 5);
+  codes = listed (by_key nat_cmp) (λ r. code_of (code_columns r)) (db 6);
+  cards = listed (by_key nat_cmp) (λ r. card_of (card_columns r)) (db 8);
+  inside = listed pair_cmp (λ r. inside_of (inside_columns r)) (db 9);
+  notes = listed (by_key pair_cmp) (λ r. note_of (note_columns r)) (db 11);
+}
+
+-- The trees are those of the eight tables, written by the books.
+pub record AreTables (db : Trees) : Type 0 where
+  pub meta : IsTable (by_key nat_cmp) meta_columns meta_of meta_written (db 0)
+  -- meta has one row
+  pub meta_row : (day : Option ℕ) × (metas_in db ≡ (1, (1, day)) ∷ [])
+  pub kind : IsTable (slice_cmp nat_cmp) kind_columns kind_of kind_written (db 1)
+  pub room : IsTable (by_key nat_cmp) room_columns room_of room_written (db 3)
+  pub stay : IsTable (by_key nat_cmp) stay_columns stay_of stay_written (db 5)
+  pub code : IsTable (by_key nat_cmp) code_columns code_of code_written (db 6)
+  pub card : IsTable (by_key nat_cmp) card_columns card_of card_written (db 8)
+  pub inside : IsTable pair_cmp inside_columns inside_of inside_written (db 9)
+  -- the numbers of its rows, by which one is deleted
+  pub inside_numbered : AllByRecursion HasId (db 9)
+  pub inside_ids : AreApartIds (db 9)
+  pub note : IsTable (by_key pair_cmp) note_columns note_of note_written (db 11)

@@ -1,0 +1,65 @@
+-- What the walks promise over a connection, and what the rows say that their statements show.
+use Rattle.std.specs.Prelude.{◌≡◌, ◌-◌, ◌==◌, ℕ, List, Result, Ok, Err}
+use Rattle.sqlite.specs.Order.{Row, column}
+use Rattle.sqlite.specs.Query.{Query}
+use Rattle.sqlite.specs.State.{State, Survives}
+use Rattle.hotel_core.specs.declared.books.walks.WalkFault.{WalkFault}
+use Rattle.hotel_core.specs.declared.books.walks.WalkFault.TheVariants as why
+use Rattle.hotel_core.specs.declared.books.list_rows.HouseRow.{HouseRow}
+use Rattle.hotel_core.specs.declared.books.list_rows.ChainRow.{ChainRow}
+use Rattle.hotel_core.specs.declared.books.list_rows.BehindRow.{BehindRow}
+use Rattle.hotel_core.specs.Books.Walks.{Hands}
+use Rattle.hotel_core.specs.Model.Rows.{Rows}
+use Rattle.hotel_core.specs.Refinement.ListsOnRows.{state_at}
+use Rattle.hotel_statements.specs.Values.{number_of, text_of}
+use Rattle.hotel_statements.specs.Tables.{rows_in}
+use Rattle.hotel_statements.specs.Books.{IsKept, IsBooks, KeepsRows}
+use Rattle.hotel_statements.specs.LookUps.{Asks, AnswersAll}
+
+-- A text that a desk understands as a query, each answer to which says these rows in order.
+abbrev pub SaysRows : {A : Type 0} → (Row → A) → List ℕ → Row → State → List A → Type 0
+SaysRows {A} of text params s rows = (q : Query) × Asks text q × (IsKept s → (all : List A) → AnswersAll of q params s.now.trees all → all ≡ rows)
+
+-- What came of one row: it was taken, or the sink stopped at it, or it was not handed over.
+abbrev pub HandsOne : {S R : Type 0} → (S → R → S → Type 0) → (S → R → S → Type 0) → R → S → S → Result (Unit {0}) WalkFault → Type 0
+HandsOne after after_stop row sink end (Ok done) = after sink row end
+HandsOne after after_stop row sink end (Err why.Stopped) = after_stop sink row end
+HandsOne after after_stop row sink end (Err why.Memory) = end ≡ sink
+HandsOne after after_stop row sink end (Err why.Store) = end ≡ sink
+
+-- A walk over these rows, of a connection from old to new and a sink from its meaning to that at the end: it hands over some rows,
+-- which are these where the test holds at its end. It changes no row, and a crash in it leaves nothing new.
+pub record WalksRows {S R : Type 0} (after after_stop : S → R → S → Type 0) (rows : List R) (old new : State) (sink end : S) (result : Result (Unit {0}) WalkFault) : Type 0 where
+  pub books : IsBooks new
+  pub keeps : KeepsRows old new
+  pub hands : (handed : List R) × Hands after after_stop handed sink end result × (IsKept new → handed ≡ rows)
+  pub crash : Survives old new (λ _. IsKept old → ⊥)
+
+-- a walk over a list of the rows that the tables have
+abbrev pub WalksList : {S R : Type 0} → (S → R → S → Type 0) → (S → R → S → Type 0) → (Rows → List R) → State → State → S → S → Result (Unit {0}) WalkFault → Type 0
+WalksList after after_stop list old new sink end result = WalksRows after after_stop (list (rows_in old.now.trees)) old new sink end result
+
+-- ---- what rows of columns say
+
+abbrev pub house_row_of : Row → HouseRow
+house_row_of v = record {
+  room = number_of (column v 0);
+  party = number_of (column v 1);
+  guest = text_of (column v 2);
+  kind = text_of (column v 3);
+  depart = number_of (column v 4);
+  secured = number_of (column v 5) == 1;
+}
+
+-- a place and its code, where the lock stands at a place
+abbrev pub chain_row_of : ℕ → Row → ChainRow
+chain_row_of lock_place v = record { place = number_of (column v 0); code = number_of (column v 1); state = state_at lock_place (number_of (column v 0)) }
+
+-- a room with the code that its lock holds, the last one, the place of the lock, and how many codes it has
+abbrev pub behind_row_of : Row → BehindRow
+behind_row_of v = record {
+  room = number_of (column v 0);
+  held = number_of (column v 1);
+  current = number_of (column v 2);
+  awaited = number_of (column v 4) - number_of (column v 3) - 1;
+}

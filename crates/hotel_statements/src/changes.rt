@@ -1,0 +1,48 @@
+//! The changes of the books that are two statements, within a transaction.
+ghost use Rattle.std.specs.Prelude.{◌≡◌};
+ghost use Rattle.sqlite.specs.Held.{state};
+ghost use Rattle.hotel_core.specs.Books.Change.{made};
+ghost use Rattle.hotel_core.specs.declared.books.change.Change.TheVariants as change;
+ghost use Rattle.hotel_statements.specs.Steps.{MakesRows, any_rows};
+
+use crate::steps::{insert_code, insert_room, set_left, set_state};
+use hotel_core::{CodeRow, RoomRow};
+use hotel_nights::{KindCode, StayState};
+use keycard_rules::{Code, PartyNo, RoomNo};
+use sqlite::{Alter, Error, Transaction};
+
+/// Adds a room whose lock holds its first code.
+pub fn add_room<S: Alter>(
+    tx: &mut Transaction<'_, S>,
+    room: RoomNo,
+    kind: KindCode,
+    code: Code,
+) -> Result<(), Error>
+    ensures same_reference { tx.new.conn.ghost_name ≡ tx.old.conn.ghost_name }
+    ensures makes { MakesRows any_rows (made (change.Room room kind code)) (state S.Store tx.old.conn.now) (state S.Store tx.new.conn.now) result }
+{
+    let row = RoomRow {
+        room,
+        kind,
+        lock_place: 0,
+        codes: 1,
+        secured: false,
+        party: None,
+        notes: 0,
+    };
+    insert_room(tx, row)?;
+    insert_code(tx, code, CodeRow { room, place: 0 })
+}
+
+/// Ends a stay, and leaves its room without a party.
+pub fn end_stay<S: Alter>(
+    tx: &mut Transaction<'_, S>,
+    party: PartyNo,
+    room: RoomNo,
+) -> Result<(), Error>
+    ensures same_reference { tx.new.conn.ghost_name ≡ tx.old.conn.ghost_name }
+    ensures makes { MakesRows any_rows (made (change.CheckedOut party room)) (state S.Store tx.old.conn.now) (state S.Store tx.new.conn.now) result }
+{
+    set_state(tx, party, StayState::Done)?;
+    set_left(tx, room)
+}

@@ -1,0 +1,320 @@
+//! What is read from the columns that a statement shows.
+ghost use Rattle.std.specs.Prelude.{◌≡◌, ◌<◌, ◌+◌, ◌==◌, IfOk, string_bytes};
+ghost use Rattle.sqlite.specs.Order.{Row as SqlRow, column};
+ghost use Rattle.hotel_statements.specs.Values.{number_of, option_of, text_of};
+ghost use Rattle.hotel_statements.specs.Columns.{room_row_of, stay_row_of, code_row_of, card_row_of, note_row_of, state_of, act_of};
+
+pub(crate) mod list_rows;
+
+use hotel_core::{CodeRow, RoomRow};
+use hotel_nights::{Day, Guest, GuestFault, KindCode, Stay, StayState};
+use keycard_rules::{Act, Card, Code, Link, LockNote, LookFault, Number};
+use sqlite::{Error, ErrorCode, Row};
+use std::alloc::Global;
+
+/// Why a look-up has no answer, where the store answered this.
+pub fn fault_of(error: Error) -> LookFault {
+    match error {
+        Error::SqliteFailure(ErrorCode::OutOfMemory) => LookFault::Memory,
+        _ => LookFault::Store,
+    }
+}
+
+/// A value that a row of columns says.
+///
+/// A row that is not read is a failure of the store, but where memory for a text was wanting.
+pub(crate) trait FromRow: Sized {
+    /// What a row with these columns says.
+    ghost of: { SqlRow → Self };
+
+    fn from_row(alloc: Global, row: &Row) -> Result<Self, LookFault>
+        ensures { IfOk result (λ value. value ≡ of row.now) };
+}
+
+/// The number of a column.
+fn integer(row: &Row, at: usize) -> Result<u64, LookFault>
+    ensures { IfOk result (λ n. number_of (column row.now at) ≡ n) }
+{
+    match row.get::<u64>(at) {
+        Ok(n) => Ok(n),
+        Err(error) => Err(fault_of(error)),
+    }
+}
+
+/// The number of a column, at most the greatest `u32`.
+fn small_integer(row: &Row, at: usize) -> Result<u32, LookFault>
+    ensures { IfOk result (λ n. number_of (column row.now at) ≡ n) }
+{
+    match row.get::<u32>(at) {
+        Ok(n) => Ok(n),
+        Err(error) => Err(fault_of(error)),
+    }
+}
+
+/// The number of a column that may be null.
+fn maybe_integer(row: &Row, at: usize) -> Result<Option<u32>, LookFault>
+    ensures { IfOk result (λ n. option_of (column row.now at) ≡ n) }
+{
+    match row.get::<Option<u32>>(at) {
+        Ok(n) => Ok(n),
+        Err(error) => Err(fault_of(error)),
+    }
+}
+
+/// The text of a column.
+fn text(row: &Row, at: usize) -> Result<String, LookFault>
+    ensures { IfOk result (λ text. text_of (column row.now at) ≡ string_bytes text) }
+{
+    match row.get::<String>(at) {
+        Ok(text) => Ok(text),
+        Err(error) => Err(fault_of(error)),
+    }
+}
+
+/// A number from 1 up to a greatest one.
+fn counted<K, const MOST: u32>(row: &Row, at: usize) -> Result<Number<K, MOST>, LookFault>
+    ensures { IfOk result (λ n. n ≡ number_of (column row.now at)) }
+{
+    let n = small_integer(row, at)?;
+    match Number::new(n) {
+        Some(number) => Ok(number),
+        None => Err(LookFault::Store),
+    }
+}
+
+/// A number from 1 up to a greatest one, or none where the column is null.
+fn maybe_counted<K, const MOST: u32>(
+    row: &Row,
+    at: usize,
+) -> Result<Option<Number<K, MOST>>, LookFault>
+    ensures { IfOk result (λ n. n ≡ option_of (column row.now at)) }
+{
+    let Some(n) = maybe_integer(row, at)? else {
+        return Ok(None);
+    };
+    match Number::new(n) {
+        Some(number) => Ok(Some(number)),
+        None => Err(LookFault::Store),
+    }
+}
+
+fn code(row: &Row, at: usize) -> Result<Code, LookFault>
+    ensures { IfOk result (λ c. c ≡ number_of (column row.now at)) }
+{
+    let n = integer(row, at)?;
+    match Code::new(n) {
+        Some(code) => Ok(code),
+        None => Err(LookFault::Store),
+    }
+}
+
+fn link(row: &Row, at: usize) -> Result<Link, LookFault>
+    requires { at < 100 }
+    ensures { IfOk result (λ l. l ≡ record { old_code = number_of (column row.now at); new_code = number_of (column row.now (at + 1)) }) }
+{
+    Ok(Link {
+        old_code: code(row, at)?,
+        new_code: code(row, at + 1)?,
+    })
+}
+
+/// A day's number, which may be one of no day.
+fn day_number(row: &Row, at: usize) -> Result<u16, LookFault>
+    ensures { IfOk result (λ n. n ≡ number_of (column row.now at)) }
+{
+    let n = small_integer(row, at)?;
+    if n > 36_524 {
+        return Err(LookFault::Store);
+    }
+    Ok(n as u16)
+}
+
+fn day(row: &Row, at: usize) -> Result<Day, LookFault>
+    ensures { IfOk result (λ d. d ≡ number_of (column row.now at)) }
+{
+    let n = day_number(row, at)?;
+    match Day::new(n) {
+        Some(day) => Ok(day),
+        None => Err(LookFault::Store),
+    }
+}
+
+fn kind_code(row: &Row, at: usize) -> Result<KindCode, LookFault>
+    ensures { IfOk result (λ k. k ≡ text_of (column row.now at)) }
+{
+    let text = text(row, at)?;
+    match KindCode::read(text.as_bytes()) {
+        Some(kind) => Ok(kind),
+        None => Err(LookFault::Store),
+    }
+}
+
+fn guest(alloc: Global, row: &Row, at: usize) -> Result<Guest, LookFault>
+    ensures { IfOk result (λ g. g ≡ text_of (column row.now at)) }
+{
+    let text = text(row, at)?;
+    match Guest::read(alloc, text.as_str()) {
+        Ok(guest) => Ok(guest),
+        Err(GuestFault::Memory) => Err(LookFault::Memory),
+        Err(GuestFault::Unread) => Err(LookFault::Store),
+    }
+}
+
+/// Whether the column is 1 and not 0.
+fn bit(row: &Row, at: usize) -> Result<bool, LookFault>
+    ensures { IfOk result (λ b. b ≡ (number_of (column row.now at) == 1)) }
+{
+    match small_integer(row, at)? {
+        0 => Ok(false),
+        1 => Ok(true),
+        _ => Err(LookFault::Store),
+    }
+}
+
+/// How a stay stands, from its number and its room, which is set exactly where it is in house.
+fn stay_state(row: &Row) -> Result<StayState, LookFault>
+    ensures { IfOk result (λ state. state ≡ state_of (number_of (column row.now 5)) (option_of (column row.now 6))) }
+{
+    let number = small_integer(row, 5)?;
+    let room = maybe_counted(row, 6)?;
+    match (number, room) {
+        (0, None) => Ok(StayState::Booked),
+        (1, Some(room)) => Ok(StayState::InHouse(room)),
+        (2, None) => Ok(StayState::Done),
+        (3, None) => Ok(StayState::Cancelled),
+        _ => Err(LookFault::Store),
+    }
+}
+
+/// What happened, from the number of the act, the card and the codes.
+fn act(row: &Row) -> Result<Act, LookFault>
+    ensures { IfOk result (λ act. act ≡ act_of (number_of (column row.now 2)) (option_of (column row.now 3)) (number_of (column row.now 4)) (number_of (column row.now 5))) }
+{
+    let number = small_integer(row, 2)?;
+    let card = maybe_counted(row, 3)?;
+    let link = link(row, 4)?;
+    match (number, card) {
+        (0, Some(card)) => Ok(Act::Entered { card, link }),
+        (1, Some(card)) => Ok(Act::Left { card, link }),
+        (2, None) => Ok(Act::Recoded {
+            from: link.old_code,
+            to: link.new_code,
+        }),
+        _ => Err(LookFault::Store),
+    }
+}
+
+impl FromRow for RoomRow {
+    ghost of = { room_row_of };
+
+    fn from_row(_: Global, row: &Row) -> Result<RoomRow, LookFault> {
+        Ok(RoomRow {
+            room: counted(row, 0)?,
+            kind: kind_code(row, 1)?,
+            lock_place: small_integer(row, 2)?,
+            codes: small_integer(row, 3)?,
+            secured: bit(row, 4)?,
+            party: maybe_counted(row, 5)?,
+            notes: small_integer(row, 6)?,
+        })
+    }
+}
+
+impl FromRow for Stay {
+    ghost of = { stay_row_of };
+
+    fn from_row(alloc: Global, row: &Row) -> Result<Stay, LookFault> {
+        Ok(Stay {
+            party: counted(row, 0)?,
+            guest: guest(alloc, row, 1)?,
+            kind: kind_code(row, 2)?,
+            arrive: day(row, 3)?,
+            depart: day(row, 4)?,
+            state: stay_state(row)?,
+        })
+    }
+}
+
+impl FromRow for CodeRow {
+    ghost of = { code_row_of };
+
+    fn from_row(_: Global, row: &Row) -> Result<CodeRow, LookFault> {
+        Ok(CodeRow {
+            room: counted(row, 1)?,
+            place: small_integer(row, 2)?,
+        })
+    }
+}
+
+impl FromRow for Card {
+    ghost of = { card_row_of };
+
+    fn from_row(_: Global, row: &Row) -> Result<Card, LookFault> {
+        Ok(Card {
+            number: counted(row, 0)?,
+            party: counted(row, 1)?,
+            link: link(row, 2)?,
+        })
+    }
+}
+
+impl FromRow for LockNote {
+    ghost of = { note_row_of };
+
+    fn from_row(_: Global, row: &Row) -> Result<LockNote, LookFault> {
+        let room = counted(row, 0)?;
+        let count = counted(row, 1)?;
+        let act = act(row)?;
+        let day = day_number(row, 6)?;
+        let second = small_integer(row, 7)?;
+        match LockNote::new(room, count, act, day, second) {
+            Some(note) => Ok(note),
+            None => Err(LookFault::Store),
+        }
+    }
+}
+
+/// A code alone.
+impl FromRow for Code {
+    ghost of = { λ v. number_of (column v 0) };
+
+    fn from_row(_: Global, row: &Row) -> Result<Code, LookFault> {
+        code(row, 0)
+    }
+}
+
+/// A number alone.
+impl<K, const MOST: u32> FromRow for Number<K, MOST> {
+    ghost of = { λ v. number_of (column v 0) };
+
+    fn from_row(_: Global, row: &Row) -> Result<Number<K, MOST>, LookFault> {
+        counted(row, 0)
+    }
+}
+
+/// A kind alone.
+impl FromRow for KindCode {
+    ghost of = { λ v. text_of (column v 0) };
+
+    fn from_row(_: Global, row: &Row) -> Result<KindCode, LookFault> {
+        kind_code(row, 0)
+    }
+}
+
+/// A day that may be null.
+impl FromRow for Option<Day> {
+    ghost of = { λ v. option_of (column v 0) };
+
+    fn from_row(_: Global, row: &Row) -> Result<Option<Day>, LookFault> {
+        let Some(n) = maybe_integer(row, 0)? else {
+            return Ok(None);
+        };
+        if n > 36_524 {
+            return Err(LookFault::Store);
+        }
+        match Day::new(n as u16) {
+            Some(day) => Ok(Some(day)),
+            None => Err(LookFault::Store),
+        }
+    }
+}

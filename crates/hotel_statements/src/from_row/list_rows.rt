@@ -1,0 +1,86 @@
+//! The rows of lists, from the columns that the walks' statements show.
+ghost use Rattle.std.specs.Prelude.{◌≡◌, ◌-◌, IfOk};
+ghost use Rattle.sqlite.specs.Order.{Row as SqlRow, column};
+ghost use Rattle.hotel_statements.specs.Values.{number_of};
+ghost use Rattle.hotel_statements.specs.Walks.{house_row_of, chain_row_of, behind_row_of};
+
+use super::{FromRow, bit, code, counted, day, guest, kind_code, small_integer};
+use hotel_core::{BehindRow, ChainRow, CodeState, HouseRow};
+use keycard_rules::LookFault;
+use sqlite::Row;
+use std::alloc::Global;
+
+/// What is read from the columns of a row, and from what the reader has.
+pub(crate) trait RowReader<R> {
+    /// What a row with these columns says.
+    ghost says: { Self → SqlRow → R };
+
+    fn read(&self, alloc: Global, row: &Row) -> Result<R, LookFault>
+        ensures { IfOk result (λ value. value ≡ says self.now row.now) };
+}
+
+/// Reads what the columns say by themselves.
+#[derive(Drop)]
+pub(crate) struct Alone;
+
+impl<R: FromRow> RowReader<R> for Alone {
+    ghost says = { λ _. R.FromRow.of };
+
+    fn read(&self, alloc: Global, row: &Row) -> Result<R, LookFault> {
+        R::from_row(alloc, row)
+    }
+}
+
+/// Reads the codes of a room whose lock stands at a place.
+#[derive(Drop)]
+pub(crate) struct AtLock {
+    pub(crate) place: u32,
+}
+
+impl RowReader<ChainRow> for AtLock {
+    ghost says = { λ lock. chain_row_of lock.place };
+
+    fn read(&self, _: Global, row: &Row) -> Result<ChainRow, LookFault> {
+        let place = small_integer(row, 0)?;
+        let code = code(row, 1)?;
+        let state = CodeState::at(self.place, place);
+        Ok(ChainRow { place, code, state })
+    }
+}
+
+impl FromRow for HouseRow {
+    ghost of = { house_row_of };
+
+    fn from_row(alloc: Global, row: &Row) -> Result<HouseRow, LookFault> {
+        Ok(HouseRow {
+            room: counted(row, 0)?,
+            party: counted(row, 1)?,
+            guest: guest(alloc, row, 2)?,
+            kind: kind_code(row, 3)?,
+            depart: day(row, 4)?,
+            secured: bit(row, 5)?,
+        })
+    }
+}
+
+/// How many codes come after the one that the lock holds.
+fn awaited(row: &Row) -> Result<u32, LookFault>
+    ensures { IfOk result (λ n. n ≡ number_of (column row.now 4) - number_of (column row.now 3) - 1) }
+{
+    let lock_place = small_integer(row, 3)?;
+    let codes = small_integer(row, 4)?;
+    Ok(codes.saturating_sub(lock_place).saturating_sub(1))
+}
+
+impl FromRow for BehindRow {
+    ghost of = { behind_row_of };
+
+    fn from_row(_: Global, row: &Row) -> Result<BehindRow, LookFault> {
+        Ok(BehindRow {
+            room: counted(row, 0)?,
+            held: code(row, 1)?,
+            current: code(row, 2)?,
+            awaited: awaited(row)?,
+        })
+    }
+}

@@ -1,0 +1,65 @@
+//! The issue of a card of a new code, within a transaction.
+ghost use Rattle.std.specs.Prelude.{◌≡◌, ◌<◌, ◌-◌, ◌^◌};
+ghost use Rattle.sqlite.specs.Held.{state};
+ghost use Rattle.hotel_core.specs.Books.Change.{made, codes_of};
+ghost use Rattle.hotel_core.specs.declared.books.change.Change.TheVariants as change;
+ghost use Rattle.hotel_statements.specs.Steps.{MakesRows, any_rows, code_given, card_given};
+
+use crate::steps::{insert_card, insert_code, set_issued, set_left, set_state};
+use hotel_core::CodeRow;
+use hotel_nights::StayState;
+use keycard_rules::{Card, Code, RoomNo};
+use sqlite::{Alter, Error, Transaction};
+
+/// The room that is left has no party, and a code is added.
+fn give_code<S: Alter>(
+    tx: &mut Transaction<'_, S>,
+    leaves: Option<RoomNo>,
+    code: Code,
+    at: CodeRow,
+) -> Result<(), Error>
+    ensures same_reference { tx.new.conn.ghost_name ≡ tx.old.conn.ghost_name }
+    ensures makes { MakesRows any_rows (code_given leaves code at) (state S.Store tx.old.conn.now) (state S.Store tx.new.conn.now) result }
+{
+    match leaves {
+        Some(left) => {
+            set_left(tx, left)?;
+            insert_code(tx, code, at)
+        }
+        None => insert_code(tx, code, at),
+    }
+}
+
+/// The room has its new code and party, the card is added, and the party's stay is in the room.
+fn give_card<S: Alter>(
+    tx: &mut Transaction<'_, S>,
+    card: Card,
+    room: RoomNo,
+    codes: u32,
+) -> Result<(), Error>
+    ensures same_reference { tx.new.conn.ghost_name ≡ tx.old.conn.ghost_name }
+    ensures makes { MakesRows any_rows (card_given card room codes) (state S.Store tx.old.conn.now) (state S.Store tx.new.conn.now) result }
+{
+    let party = card.party;
+    set_issued(tx, room, codes, party)?;
+    insert_card(tx, card)?;
+    set_state(tx, party, StayState::InHouse(room))
+}
+
+/// Issues a card of a new code at a room that had so many codes.
+pub fn issue<S: Alter>(
+    tx: &mut Transaction<'_, S>,
+    card: &Card,
+    room: RoomNo,
+    leaves: Option<RoomNo>,
+    codes: u32,
+) -> Result<(), Error>
+    requires { codes < 2 ^ 32 - 1 }
+    ensures same_reference { tx.new.conn.ghost_name ≡ tx.old.conn.ghost_name }
+    ensures makes { MakesRows (λ rows. codes_of rows room ≡ codes) (made (change.Issue card.now room leaves)) (state S.Store tx.old.conn.now) (state S.Store tx.new.conn.now) result }
+{
+    let at = CodeRow { room, place: codes };
+    let code = card.link.new_code;
+    give_code(tx, leaves, code, at)?;
+    give_card(tx, *card, room, codes + 1)
+}

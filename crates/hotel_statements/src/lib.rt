@@ -1,0 +1,22 @@
+//! The desk's SQL statements over one connection: look-ups, the steps of a change and of the making of a desk, walks, the reading
+//! of whole tables, and the comparing of schemas. `hotel_tables` makes books of them; here no transaction is begun or committed.
+#![tactic(auto)]
+
+pub mod changes;
+mod from_row;
+pub mod issue;
+pub mod lines;
+mod look;
+pub mod look_ups;
+pub mod making;
+pub mod noting;
+mod number;
+pub mod reading;
+pub mod same_schema;
+mod statement;
+pub mod steps;
+mod texts;
+mod walk;
+pub mod walks;
+
+pub use from_row::fault_of;

@@ -1,0 +1,50 @@
+//! A note that is taken, within a transaction.
+ghost use Rattle.std.specs.Prelude.{◌≡◌, None};
+ghost use Rattle.sqlite.specs.Held.{state};
+ghost use Rattle.hotel_core.specs.Books.Lookups.{note_at};
+ghost use Rattle.hotel_core.specs.Books.Change.{made};
+ghost use Rattle.hotel_core.specs.declared.books.change.Change.TheVariants as change;
+ghost use Rattle.hotel_statements.specs.Steps.{MakesRows, note_given};
+
+use crate::steps::{delete_inside, insert_inside, insert_note, set_noted};
+use hotel_core::InsideMove;
+use keycard_rules::LockNote;
+use sqlite::{Alter, Error, Transaction};
+
+/// Adds a note, and sets what follows of it for its room.
+fn give_note<S: Alter>(
+    tx: &mut Transaction<'_, S>,
+    note: &LockNote,
+    lock_place: u32,
+    secured: bool,
+) -> Result<(), Error>
+    ensures same_reference { tx.new.conn.ghost_name ≡ tx.old.conn.ghost_name }
+    ensures makes { MakesRows (λ rows. note_at rows note.now.room note.now.count ≡ None) (note_given note.now lock_place secured) (state S.Store tx.old.conn.now) (state S.Store tx.new.conn.now) result }
+{
+    insert_note(tx, note)?;
+    set_noted(tx, note.room(), lock_place, secured, note.count())
+}
+
+/// Takes a note whose count isn't there: adds it, sets what follows of it for its room, and moves a card in or out.
+pub fn take_note<S: Alter>(
+    tx: &mut Transaction<'_, S>,
+    note: &LockNote,
+    lock_place: u32,
+    secured: bool,
+    insides: InsideMove,
+) -> Result<(), Error>
+    ensures same_reference { tx.new.conn.ghost_name ≡ tx.old.conn.ghost_name }
+    ensures makes { MakesRows (λ rows. note_at rows note.now.room note.now.count ≡ None) (made (change.Noted note.now lock_place secured insides)) (state S.Store tx.old.conn.now) (state S.Store tx.new.conn.now) result }
+{
+    match insides {
+        InsideMove::Same => give_note(tx, note, lock_place, secured),
+        InsideMove::Goes(card) => {
+            give_note(tx, note, lock_place, secured)?;
+            delete_inside(tx, note.room(), card)
+        }
+        InsideMove::Comes(card) => {
+            give_note(tx, note, lock_place, secured)?;
+            insert_inside(tx, note.room(), card)
+        }
+    }
+}

@@ -1,0 +1,223 @@
+//! The statements of a transaction: each adds or changes one row.
+ghost use Rattle.std.specs.Prelude.{◌≡◌, None, false};
+ghost use Rattle.sqlite.specs.Held.{state};
+ghost use Rattle.hotel_core.specs.Model.Rows.{has_kind};
+ghost use Rattle.hotel_core.specs.Books.Lookups.{note_at};
+ghost use Rattle.hotel_statements.specs.Steps.{MakesRows, any_rows, day_set, kind_added, room_added, code_added, stay_added, card_added, note_added, inside_added, inside_gone, room_issued, room_left, room_noted, stay_set};
+
+use crate::number::{
+    act_card, act_first, act_number, act_second, bit, coded, dated, maybe, numbered, room_of,
+    small, standing, text,
+};
+use crate::statement::run;
+use crate::texts::{
+    DELETE_INSIDE, INSERT_CARD, INSERT_CODE, INSERT_INSIDE, INSERT_KIND, INSERT_NOTE, INSERT_ROOM,
+    INSERT_STAY, UPDATE_DAY, UPDATE_ISSUED, UPDATE_NOTED, UPDATE_PARTY, UPDATE_STATE,
+};
+use hotel_core::{CodeRow, RoomRow};
+use hotel_nights::{Day, KindCode, Stay, StayState};
+use keycard_rules::{Card, CardNo, Code, Count, LockNote, PartyNo, RoomNo};
+use sqlite::{Alter, Error, Transaction};
+
+/// Sets the day.
+pub fn set_day<S: Alter>(tx: &mut Transaction<'_, S>, day: Day) -> Result<(), Error>
+    ensures same_reference { tx.new.conn.ghost_name ≡ tx.old.conn.ghost_name }
+    ensures makes { MakesRows any_rows (day_set day) (state S.Store tx.old.conn.now) (state S.Store tx.new.conn.now) result }
+{
+    run(tx, UPDATE_DAY, &[small(1), dated(day)])
+}
+
+/// Adds a kind that isn't there.
+pub fn insert_kind<S: Alter>(tx: &mut Transaction<'_, S>, kind: &KindCode) -> Result<(), Error>
+    ensures same_reference { tx.new.conn.ghost_name ≡ tx.old.conn.ghost_name }
+    ensures makes { MakesRows (λ rows. has_kind rows kind.now ≡ false) (kind_added kind.now) (state S.Store tx.old.conn.now) (state S.Store tx.new.conn.now) result }
+{
+    run(tx, INSERT_KIND, &[text(kind.as_bytes())])
+}
+
+/// Adds a room.
+pub(crate) fn insert_room<S: Alter>(tx: &mut Transaction<'_, S>, row: RoomRow) -> Result<(), Error>
+    ensures same_reference { tx.new.conn.ghost_name ≡ tx.old.conn.ghost_name }
+    ensures makes { MakesRows any_rows (room_added row) (state S.Store tx.old.conn.now) (state S.Store tx.new.conn.now) result }
+{
+    let party = row.party;
+    run(
+        tx,
+        INSERT_ROOM,
+        &[
+            numbered(row.room),
+            text(row.kind.as_bytes()),
+            small(row.lock_place),
+            small(row.codes),
+            bit(row.secured),
+            maybe(party),
+            small(row.notes),
+        ],
+    )
+}
+
+/// Adds a code.
+pub(crate) fn insert_code<S: Alter>(
+    tx: &mut Transaction<'_, S>,
+    code: Code,
+    at: CodeRow,
+) -> Result<(), Error>
+    ensures same_reference { tx.new.conn.ghost_name ≡ tx.old.conn.ghost_name }
+    ensures makes { MakesRows any_rows (code_added code at) (state S.Store tx.old.conn.now) (state S.Store tx.new.conn.now) result }
+{
+    run(
+        tx,
+        INSERT_CODE,
+        &[coded(code), numbered(at.room), small(at.place)],
+    )
+}
+
+/// Adds a stay.
+pub fn insert_stay<S: Alter>(tx: &mut Transaction<'_, S>, stay: &Stay) -> Result<(), Error>
+    ensures same_reference { tx.new.conn.ghost_name ≡ tx.old.conn.ghost_name }
+    ensures makes { MakesRows any_rows (stay_added stay.now) (state S.Store tx.old.conn.now) (state S.Store tx.new.conn.now) result }
+{
+    run(
+        tx,
+        INSERT_STAY,
+        &[
+            numbered(stay.party),
+            text(stay.guest.text().as_bytes()),
+            text(stay.kind.as_bytes()),
+            dated(stay.arrive),
+            dated(stay.depart),
+            standing(&stay.state),
+            room_of(&stay.state),
+        ],
+    )
+}
+
+/// Adds a card.
+pub fn insert_card<S: Alter>(tx: &mut Transaction<'_, S>, card: Card) -> Result<(), Error>
+    ensures same_reference { tx.new.conn.ghost_name ≡ tx.old.conn.ghost_name }
+    ensures makes { MakesRows any_rows (card_added card) (state S.Store tx.old.conn.now) (state S.Store tx.new.conn.now) result }
+{
+    run(
+        tx,
+        INSERT_CARD,
+        &[
+            numbered(card.number),
+            numbered(card.party),
+            coded(card.link.old_code),
+            coded(card.link.new_code),
+        ],
+    )
+}
+
+/// Adds a note of a count that isn't there.
+pub(crate) fn insert_note<S: Alter>(
+    tx: &mut Transaction<'_, S>,
+    note: &LockNote,
+) -> Result<(), Error>
+    ensures same_reference { tx.new.conn.ghost_name ≡ tx.old.conn.ghost_name }
+    ensures makes { MakesRows (λ rows. note_at rows note.now.room note.now.count ≡ None) (note_added note.now) (state S.Store tx.old.conn.now) (state S.Store tx.new.conn.now) result }
+{
+    let act = note.act();
+    run(
+        tx,
+        INSERT_NOTE,
+        &[
+            numbered(note.room()),
+            numbered(note.count()),
+            act_number(&act),
+            act_card(&act),
+            act_first(&act),
+            act_second(&act),
+            small(u32::from(note.day())),
+            small(note.second()),
+        ],
+    )
+}
+
+/// Adds a card inside a room; one that is there already is refused.
+pub(crate) fn insert_inside<S: Alter>(
+    tx: &mut Transaction<'_, S>,
+    room: RoomNo,
+    card: CardNo,
+) -> Result<(), Error>
+    ensures same_reference { tx.new.conn.ghost_name ≡ tx.old.conn.ghost_name }
+    ensures makes { MakesRows any_rows (inside_added room card) (state S.Store tx.old.conn.now) (state S.Store tx.new.conn.now) result }
+{
+    run(tx, INSERT_INSIDE, &[numbered(room), numbered(card)])
+}
+
+/// Takes a card out of those inside the room.
+pub(crate) fn delete_inside<S: Alter>(
+    tx: &mut Transaction<'_, S>,
+    room: RoomNo,
+    card: CardNo,
+) -> Result<(), Error>
+    ensures same_reference { tx.new.conn.ghost_name ≡ tx.old.conn.ghost_name }
+    ensures makes { MakesRows any_rows (inside_gone room card) (state S.Store tx.old.conn.now) (state S.Store tx.new.conn.now) result }
+{
+    run(tx, DELETE_INSIDE, &[numbered(room), numbered(card)])
+}
+
+/// Sets how many codes a room has, and its party; it is not secured.
+pub(crate) fn set_issued<S: Alter>(
+    tx: &mut Transaction<'_, S>,
+    room: RoomNo,
+    codes: u32,
+    party: PartyNo,
+) -> Result<(), Error>
+    ensures same_reference { tx.new.conn.ghost_name ≡ tx.old.conn.ghost_name }
+    ensures makes { MakesRows any_rows (room_issued room codes party) (state S.Store tx.old.conn.now) (state S.Store tx.new.conn.now) result }
+{
+    run(
+        tx,
+        UPDATE_ISSUED,
+        &[numbered(room), small(codes), numbered(party)],
+    )
+}
+
+/// Leaves a room without a party.
+pub fn set_left<S: Alter>(tx: &mut Transaction<'_, S>, room: RoomNo) -> Result<(), Error>
+    ensures same_reference { tx.new.conn.ghost_name ≡ tx.old.conn.ghost_name }
+    ensures makes { MakesRows any_rows (room_left room) (state S.Store tx.old.conn.now) (state S.Store tx.new.conn.now) result }
+{
+    run(tx, UPDATE_PARTY, &[numbered(room)])
+}
+
+/// Sets the place of a room's lock, whether it is secured, and how many notes were taken.
+pub(crate) fn set_noted<S: Alter>(
+    tx: &mut Transaction<'_, S>,
+    room: RoomNo,
+    lock_place: u32,
+    secured: bool,
+    notes: Count,
+) -> Result<(), Error>
+    ensures same_reference { tx.new.conn.ghost_name ≡ tx.old.conn.ghost_name }
+    ensures makes { MakesRows any_rows (room_noted room lock_place secured notes) (state S.Store tx.old.conn.now) (state S.Store tx.new.conn.now) result }
+{
+    run(
+        tx,
+        UPDATE_NOTED,
+        &[
+            numbered(room),
+            small(lock_place),
+            bit(secured),
+            numbered(notes),
+        ],
+    )
+}
+
+/// Sets how a stay stands.
+pub fn set_state<S: Alter>(
+    tx: &mut Transaction<'_, S>,
+    party: PartyNo,
+    state_now: StayState,
+) -> Result<(), Error>
+    ensures same_reference { tx.new.conn.ghost_name ≡ tx.old.conn.ghost_name }
+    ensures makes { MakesRows any_rows (stay_set party state_now) (state S.Store tx.old.conn.now) (state S.Store tx.new.conn.now) result }
+{
+    run(
+        tx,
+        UPDATE_STATE,
+        &[numbered(party), standing(&state_now), room_of(&state_now)],
+    )
+}

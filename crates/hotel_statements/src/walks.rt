@@ -1,0 +1,93 @@
+//! The walks of the books over the connection: one statement each, but for a room's codes, before which the room's row is looked up.
+ghost use Rattle.sqlite.specs.Held.{state};
+ghost use Rattle.hotel_core.specs.Model.Sound.{IsSound};
+ghost use Rattle.hotel_core.specs.Refinement.ListsOnRows.{arrivals_on, in_house_on, chain_on, left_behind_on, audit_on};
+ghost use Rattle.hotel_statements.specs.Books.{IsBooks, IsKept};
+ghost use Rattle.hotel_statements.specs.Tables.{rows_in};
+ghost use Rattle.hotel_statements.specs.Walks.{WalksList};
+
+use crate::from_row::list_rows::{Alone, AtLock};
+use crate::look_ups;
+use crate::number::{dated, numbered};
+use crate::texts::{WALK_ARRIVALS, WALK_AUDIT, WALK_CHAIN, WALK_IN_HOUSE, WALK_LEFT_BEHIND};
+use crate::walk::{failed, walk};
+use hotel_core::{BehindRow, ChainRow, HouseRow, Sink, WalkFault};
+use hotel_nights::{Day, Stay};
+use keycard_rules::{LockNote, RoomNo};
+use sqlite::{Alter, Connection};
+use std::alloc::Global;
+
+/// The booked stays that take the night of a day, by party.
+pub fn arrivals<S: Alter, K: Sink<Stay>>(
+    alloc: Global,
+    conn: &mut Connection<S>,
+    day: Day,
+    sink: &mut K,
+) -> Result<(), WalkFault>
+    requires { IsBooks (state S.Store conn.old) }
+    ensures { WalksList K.Sink.after K.Sink.after_stop (λ rows. arrivals_on rows day) (state S.Store conn.old) (state S.Store conn.new) sink.old sink.new result }
+{
+    walk(alloc, conn, WALK_ARRIVALS, &[dated(day)], &Alone, sink)
+}
+
+/// The notes of a room, by count.
+pub fn audit<S: Alter, K: Sink<LockNote>>(
+    alloc: Global,
+    conn: &mut Connection<S>,
+    room: RoomNo,
+    sink: &mut K,
+) -> Result<(), WalkFault>
+    requires { IsBooks (state S.Store conn.old) }
+    ensures { WalksList K.Sink.after K.Sink.after_stop (λ rows. audit_on rows room) (state S.Store conn.old) (state S.Store conn.new) sink.old sink.new result }
+{
+    walk(alloc, conn, WALK_AUDIT, &[numbered(room)], &Alone, sink)
+}
+
+/// The codes of a room in order of issue; none where the room isn't there.
+pub fn chain<S: Alter, K: Sink<ChainRow>>(
+    alloc: Global,
+    conn: &mut Connection<S>,
+    room: RoomNo,
+    sink: &mut K,
+) -> Result<(), WalkFault>
+    requires books { IsBooks (state S.Store conn.old) }
+    requires sound { IsKept (state S.Store conn.old) → IsSound (rows_in (state S.Store conn.old).now.trees) }
+    ensures { WalksList K.Sink.after K.Sink.after_stop (λ rows. chain_on rows room) (state S.Store conn.old) (state S.Store conn.new) sink.old sink.new result }
+{
+    match look_ups::room(alloc, conn, room) {
+        Ok(Some(row)) => {
+            let lock = AtLock {
+                place: row.lock_place,
+            };
+            walk(alloc, conn, WALK_CHAIN, &[numbered(room)], &lock, sink)
+        }
+        Ok(None) => Ok(()),
+        Err(cause) => Err(failed(cause)),
+    }
+}
+
+/// The rooms with a registered party, by room.
+pub fn in_house<S: Alter, K: Sink<HouseRow>>(
+    alloc: Global,
+    conn: &mut Connection<S>,
+    sink: &mut K,
+) -> Result<(), WalkFault>
+    requires books { IsBooks (state S.Store conn.old) }
+    requires sound { IsKept (state S.Store conn.old) → IsSound (rows_in (state S.Store conn.old).now.trees) }
+    ensures { WalksList K.Sink.after K.Sink.after_stop in_house_on (state S.Store conn.old) (state S.Store conn.new) sink.old sink.new result }
+{
+    walk(alloc, conn, WALK_IN_HOUSE, &[], &Alone, sink)
+}
+
+/// The rooms with two awaited codes or more, by room.
+pub fn left_behind<S: Alter, K: Sink<BehindRow>>(
+    alloc: Global,
+    conn: &mut Connection<S>,
+    sink: &mut K,
+) -> Result<(), WalkFault>
+    requires books { IsBooks (state S.Store conn.old) }
+    requires sound { IsKept (state S.Store conn.old) → IsSound (rows_in (state S.Store conn.old).now.trees) }
+    ensures { WalksList K.Sink.after K.Sink.after_stop left_behind_on (state S.Store conn.old) (state S.Store conn.new) sink.old sink.new result }
+{
+    walk(alloc, conn, WALK_LEFT_BEHIND, &[], &Alone, sink)
+}

@@ -1,8 +1,0 @@
-use Rattle.hotel_tables.proofs.Ends.{then_makes, failed}
-use Rattle.hotel_tables.proofs.changes.end_stay.Goals as goal
-
-pub returns-in_err-set_state-clause-makes : goal.returns-in_err-set_state-clause-makes
-returns-in_err-set_state-clause-makes g c = failed c.from_residual.result c.from_residual.ensures.0 c.in_err-set_state.ensures.makes
-
-pub returns-clause-makes : goal.returns-clause-makes
-returns-clause-makes g c = then_makes c.in_ok-set_state.ensures.makes c.set_left.ensures.makes

@@ -1,5 +1,0 @@
-use Rattle.std.proofs.Common.{◌≡◌, map, take}
-use Rattle.hotel_tables.proofs.look.read_all.Given as goal
-
-abbrev pub invariant-rows : goal.invariant-rows
-invariant-rows g l = l.all.items ≡ map g.R.FromRow.of (take l.i l.rows)

@@ -1,5 +1,0 @@
-use Rattle.std.proofs.Common.{length}
-use Rattle.hotel_tables.proofs.same_schema.+same_roots.Given as goal
-
-abbrev pub decreases-same_roots : goal.decreases-same_roots
-decreases-same_roots l = length l.at.now

@@ -1,8 +1,0 @@
-use Rattle.std.proofs.Common.{[], ◌∷◌, refl}
-use Rattle.hotel_tables.specs.Values.{int}
-use Rattle.hotel_tables.proofs.Ends.{makes_rows}
-use Rattle.hotel_tables.proofs.Made.Updates.{left_step}
-use Rattle.hotel_tables.proofs.steps.set_left.Goals as goal
-
-pub returns-clause-makes : goal.returns-clause-makes
-returns-clause-makes g c = makes_rows (int c.args.room ∷ []) c.run.ensures.runs (left_step _ _ c.args.room) (rw (c.numbered.ensures) refl)
