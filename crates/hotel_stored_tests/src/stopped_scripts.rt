@@ -3,6 +3,7 @@ use crate::stopped_disks::{Contents, OUTCOMES, Outcome, Run};
 use crate::stopped_stores::calls_to_open;
 use crate::stored_desks::{FileTables, Making, MemoryTables, TableDesk};
 use hotel_core::{ListBooks, Refusal, Reply, reply_text, step};
+use hotel_lists::FakeWriter;
 use hotel_scenarios::random_scripts::{COMMANDS, Draws, Script, lists_of, runs};
 use std::alloc::Global;
 use std::process::Abort;
@@ -76,7 +77,8 @@ fn reopened<D: FileTables + Drop>(
 /// The rows that the files have, and the files once the store is closed.
 fn found<D: FileTables>(alloc: Global, contents: &Contents) -> Result<(String, Contents), Fail> {
     let run = Run::new(alloc, contents, u64::MAX)?;
-    let text = D::rows_closed(alloc, &run)?;
+    let (desk, text) = D::found(alloc, &run)?;
+    desk.close();
     Ok((text, run.left(Outcome::Written)?))
 }
 
@@ -215,17 +217,23 @@ fn new_pair<D: FileTables + Drop, K: MemoryTables + Drop>(
     })
 }
 
-/// The books come to the same lists as books in memory over which the script runs without a stop.
+/// The lists that books in memory come to, over which the script of a seed runs without a stop.
+fn wanted_lists(alloc: Global, seed: u64) -> Result<FakeWriter, Fail> {
+    let mut books = ListBooks::empty(alloc);
+    let mut script = Script::new(alloc, seed)?;
+    if runs(&mut script, &mut books)? <= 100 {
+        return Err(Fail::from("few commands"));
+    }
+    lists_of(alloc, &mut books)
+}
+
+/// The books come to the same lists as books in memory.
 fn lists_are<D: FileTables, R: Abort + AllocGlobal>(
     rt: &R,
     desk: &mut D,
     seed: u64,
 ) -> Result<(), Fail> {
-    let mut books = ListBooks::empty(rt.alloc());
-    let mut script = Script::new(rt.alloc(), seed)?;
-    let done = runs(&mut script, &mut books)?;
-    assert!(rt; done > 100);
-    let wanted = lists_of(rt.alloc(), &mut books)?;
+    let wanted = wanted_lists(rt.alloc(), seed)?;
     let lists = lists_of(rt.alloc(), desk.books())?;
     assert!(rt; lists.written() == wanted.written());
     Ok(())

@@ -65,16 +65,6 @@ fn found_in<S: Alter + Drop>(
     Ok((opened(alloc, conn)?, text))
 }
 
-/// A store, and its rows.
-fn rows_in<S: Alter + Drop>(
-    alloc: Global,
-    conn: Option<Connection<S>>,
-) -> Result<(Connection<S>, String), Fail> {
-    let mut conn = conn.ok_or("no store")?;
-    let text = rows_text(alloc, &mut conn)?;
-    Ok((conn, text))
-}
-
 /// How far the making of a desk on a store came.
 fn made_in<S: Alter + Drop>(alloc: Global, conn: Option<Connection<S>>) -> Result<Making, Fail> {
     let Some(conn) = conn else {
@@ -138,12 +128,6 @@ impl<D: Disk + Drop, O: OpenDisks<D>> FileTables for FilesDesk<D, O> {
     fn found(alloc: Global, run: &Run) -> Result<(FilesDesk<D, O>, String), Fail> {
         let (books, text) = found_in(alloc, connect::<D, O>(alloc, run)?)?;
         Ok((desk_of(books), text))
-    }
-
-    fn rows_closed(alloc: Global, run: &Run) -> Result<String, Fail> {
-        let (conn, text) = rows_in(alloc, connect::<D, O>(alloc, run)?)?;
-        let _ = conn.close();
-        Ok(text)
     }
 
     fn close(self) {
