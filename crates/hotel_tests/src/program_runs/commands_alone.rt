@@ -1,10 +1,12 @@
 //! One command that is carried out alone, on writers that fail: it stands.
-use hotel_core::{Command, Walks};
+use hotel_core::{Books, Command};
 use hotel_lists::FakeWriter;
-use hotel_program::run_one;
+use hotel_program::{FaultSink, run_one};
 use hotel_scenarios::desks::{Desk, party, room};
 use hotel_scenarios::scenario_runs::step_holds;
 use hotel_scenarios::scenarios::{OPENED, Step};
+use rand_core::Rng;
+use std::io::Write;
 use std::process::Abort;
 use std::test::Fail;
 
@@ -15,21 +17,17 @@ static SPARE: Step = Step::Line(
     b"card 2 party 1 old 0000000000a0 new 0000000000a1\n",
 );
 
-/// Party 1 checks in at room 101: the status.
-fn check_in(
-    desk: &mut Desk<impl Walks>,
-    writer: &mut FakeWriter,
-    faults: &mut FakeWriter,
+/// Party 1 checks in at room 101: the status. Over types by name the call would be checked with all that these are made of.
+fn check_in<B: Books, R: Rng, W: Write, F: FaultSink>(
+    books: &mut B,
+    source: &mut R,
+    writer: &mut W,
+    faults: &mut F,
 ) -> Result<u8, Fail> {
     let command = Command::CheckIn {
         party: party(1)?,
         room: room(101)?,
     };
-    let Desk {
-        alloc: _,
-        books,
-        source,
-    } = desk;
     Ok(run_one(&command, books, source, writer, faults))
 }
 
@@ -45,7 +43,7 @@ fn checks_in(
     let mut writer = writer;
     let mut faults = FakeWriter::new(alloc);
     let mut desk = Desk::behind(alloc, &[0xa0, 0xa1], &[OPENED])?;
-    let ended = check_in(&mut desk, &mut writer, &mut faults)?;
+    let ended = check_in(&mut desk.books, &mut desk.source, &mut writer, &mut faults)?;
     assert!(rt; (ended, faults.written()) == (status, told));
     assert!(rt; writer.written() == written);
     assert!(rt; step_holds(&mut desk, &SPARE)?);
