@@ -3,7 +3,7 @@ ghost use Rattle.std.specs.Prelude.{◌≡◌, ◌+◌, ◌&&◌, not, false};
 ghost use Rattle.sqlite_disk.specs.Disk.{CountsFault};
 ghost use Rattle.sqlite_disk.specs.Refusal.{finds_no_room};
 
-use sqlite_disk::{Disk, Memory, Tally};
+use sqlite_disk::{Disk, Files, Memory, Tally};
 use std::alloc::{AllocError, Global};
 use std::cell::RefCell;
 use std::io;
@@ -337,6 +337,9 @@ impl<D: Disk> Disk for Watched<D> {
     }
 }
 
+/// The files of a machine.
+pub(crate) type Disks = Files<Watched<Memory>>;
+
 /// A machine that is run.
 #[derive(Drop)]
 pub(crate) struct Run {
@@ -360,8 +363,7 @@ impl Run {
         })
     }
 
-    /// The log or the database file, watched.
-    pub fn watched(&self, alloc: Global, is_log: bool) -> Result<Watched<Memory>, Fail> {
+    fn watched(&self, alloc: Global, is_log: bool) -> Result<Watched<Memory>, Fail> {
         let machine = self.machine.clone()?;
         let inner = {
             let now = self.machine.try_borrow()?;
@@ -373,6 +375,14 @@ impl Run {
             is_log,
             refused: 0,
             sync_refused: false,
+        })
+    }
+
+    /// The machine's files.
+    pub fn disks(&self, alloc: Global) -> Result<Disks, Fail> {
+        Ok(Files {
+            log: self.watched(alloc, true)?,
+            db: self.watched(alloc, false)?,
         })
     }
 

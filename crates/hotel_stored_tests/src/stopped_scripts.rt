@@ -1,6 +1,7 @@
 //! Scripts of random commands on stores that stop at a hundred places and are opened again after each.
+use crate::memory_desks::MemoryDesk;
 use crate::stopped_disks::{Contents, OUTCOMES, Outcome, Run};
-use crate::stopped_stores::calls_to_open;
+use crate::stopped_stores::{FilesDesk, calls_to_open};
 use crate::stored_desks::{FileTables, Making, MemoryTables, TableDesk};
 use hotel_core::{ListBooks, Refusal, Reply, reply_text, step};
 use hotel_lists::FakeWriter;
@@ -77,8 +78,7 @@ fn reopened<D: FileTables + Drop>(
 /// The rows that the files have, and the files once the store is closed.
 fn found<D: FileTables>(alloc: Global, contents: &Contents) -> Result<(String, Contents), Fail> {
     let run = Run::new(alloc, contents, u64::MAX)?;
-    let (desk, text) = D::found(alloc, &run)?;
-    desk.close();
+    let text = D::rows_closed(alloc, &run)?;
     Ok((text, run.left(Outcome::Written)?))
 }
 
@@ -259,12 +259,16 @@ fn is_stopped<D: FileTables + Drop, K: MemoryTables + Drop, R: Abort + AllocGlob
     Ok(())
 }
 
-/// Each of the scripts is carried out, however often the store stops meanwhile.
-pub(crate) fn are_carried_out<D: FileTables + Drop, K: MemoryTables + Drop, R: Abort + AllocGlobal>(
+fn are_stopped<D: FileTables + Drop, K: MemoryTables + Drop, R: Abort + AllocGlobal>(
     rt: &R,
 ) -> Result<(), Fail> {
     for seed in SEEDS {
         is_stopped::<D, K, R>(rt, *seed)?;
     }
     Ok(())
+}
+
+#[test]
+fn scripts_are_stopped(rt: HostRuntime) -> Result<(), Fail> {
+    are_stopped::<FilesDesk, MemoryDesk, _>(&rt)
 }

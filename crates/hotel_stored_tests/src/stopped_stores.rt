@@ -6,29 +6,14 @@ use hotel_tables::{OpenFault, TableBooks};
 use sqlite::{Alter, Connection, FileStore, Files, Options};
 use sqlite_disk::{Disk, Memory};
 use std::alloc::Global;
-use std::marker::PhantomData;
 use std::test::Fail;
 
-/// How a machine's files are opened as disks.
-pub(crate) trait OpenDisks<D> {
-    /// The log, or the database file.
-    fn disk(alloc: Global, run: &Run, is_log: bool) -> Result<D, Fail>;
-}
+type Store = FileStore<Watched<Memory>>;
 
-/// Files of which the machine says whether a call passes.
-pub(crate) struct WatchedFiles;
-
-impl OpenDisks<Watched<Memory>> for WatchedFiles {
-    fn disk(alloc: Global, run: &Run, is_log: bool) -> Result<Watched<Memory>, Fail> {
-        run.watched(alloc, is_log)
-    }
-}
-
-/// A desk on a machine's files, which are such disks.
+/// A desk on a machine's files.
 #[derive(Drop)]
-pub(crate) struct FilesDesk<D: Disk, O> {
-    books: TableBooks<FileStore<D>>,
-    disks: PhantomData<O>,
+pub(crate) struct FilesDesk {
+    books: TableBooks<Store>,
 }
 
 /// Opens the store that two files have. None where that goes wrong.
@@ -43,13 +28,8 @@ fn connected<D: Disk + Drop>(alloc: Global, files: Files<D>) -> Option<Connectio
 }
 
 /// The store of the machine's files. None where it stopped.
-fn connect<D: Disk + Drop, O: OpenDisks<D>>(
-    alloc: Global,
-    run: &Run,
-) -> Result<Option<Connection<FileStore<D>>>, Fail> {
-    let log = O::disk(alloc, run, true)?;
-    let db = O::disk(alloc, run, false)?;
-    Ok(connected(alloc, Files { log, db }))
+fn connect(alloc: Global, run: &Run) -> Result<Option<Connection<Store>>, Fail> {
+    Ok(connected(alloc, run.disks(alloc)?))
 }
 
 /// The desk of a store, and its rows: none where it has no tables, and then a desk is made there.
@@ -63,6 +43,16 @@ fn found_in<S: Alter + Drop>(
     }
     let text = rows_text(alloc, &mut conn)?;
     Ok((opened(alloc, conn)?, text))
+}
+
+/// A store, and its rows.
+fn rows_in<S: Alter + Drop>(
+    alloc: Global,
+    conn: Option<Connection<S>>,
+) -> Result<(Connection<S>, String), Fail> {
+    let mut conn = conn.ok_or("no store")?;
+    let text = rows_text(alloc, &mut conn)?;
+    Ok((conn, text))
 }
 
 /// How far the making of a desk on a store came.
@@ -92,42 +82,40 @@ fn opened_in<S: Alter + Drop>(
     }
 }
 
-/// The desk of these books.
-fn desk_of<D: Disk, O>(books: TableBooks<FileStore<D>>) -> FilesDesk<D, O> {
-    FilesDesk {
-        books,
-        disks: PhantomData,
-    }
-}
+impl TableDesk for FilesDesk {
+    type Books = TableBooks<Store>;
 
-impl<D: Disk + Drop, O: OpenDisks<D>> TableDesk for FilesDesk<D, O> {
-    type Books = TableBooks<FileStore<D>>;
-
-    fn books(&mut self) -> &mut TableBooks<FileStore<D>> {
+    fn books(&mut self) -> &mut TableBooks<Store> {
         &mut self.books
     }
 
-    fn rows(self, alloc: Global) -> Result<(FilesDesk<D, O>, String), Fail> {
+    fn rows(self, alloc: Global) -> Result<(FilesDesk, String), Fail> {
         let (books, text) = rows_of(alloc, self.books)?;
-        Ok((desk_of(books), text))
+        Ok((FilesDesk { books }, text))
     }
 }
 
-impl<D: Disk + Drop, O: OpenDisks<D>> FileTables for FilesDesk<D, O> {
+impl FileTables for FilesDesk {
     fn made(alloc: Global, run: &Run) -> Result<Making, Fail> {
-        made_in(alloc, connect::<D, O>(alloc, run)?)
+        made_in(alloc, connect(alloc, run)?)
     }
 
-    fn opened(alloc: Global, run: &Run) -> Result<Option<FilesDesk<D, O>>, Fail> {
-        match opened_in(alloc, connect::<D, O>(alloc, run)?)? {
-            Some(books) => Ok(Some(desk_of(books))),
+    fn opened(alloc: Global, run: &Run) -> Result<Option<FilesDesk>, Fail> {
+        match opened_in(alloc, connect(alloc, run)?)? {
+            Some(books) => Ok(Some(FilesDesk { books })),
             None => Ok(None),
         }
     }
 
-    fn found(alloc: Global, run: &Run) -> Result<(FilesDesk<D, O>, String), Fail> {
-        let (books, text) = found_in(alloc, connect::<D, O>(alloc, run)?)?;
-        Ok((desk_of(books), text))
+    fn found(alloc: Global, run: &Run) -> Result<(FilesDesk, String), Fail> {
+        let (books, text) = found_in(alloc, connect(alloc, run)?)?;
+        Ok((FilesDesk { books }, text))
+    }
+
+    fn rows_closed(alloc: Global, run: &Run) -> Result<String, Fail> {
+        let (conn, text) = rows_in(alloc, connect(alloc, run)?)?;
+        let _ = conn.close();
+        Ok(text)
     }
 
     fn close(self) {

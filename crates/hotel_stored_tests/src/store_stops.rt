@@ -1,9 +1,8 @@
 //! A stop at each store call: of the making of a desk, of its opening, of each change, of an import and of the closing. After each
 //! the store is opened again, and its rows are those before the call or after it; after an answer, those after it.
 use crate::memory_desks::MemoryDesk;
-use crate::stopped_disks::{Contents, OUTCOMES, Outcome, Run, Watched};
-use crate::stopped_scripts::are_carried_out;
-use crate::stopped_stores::{FilesDesk, WatchedFiles, calls_to_open};
+use crate::stopped_disks::{Contents, OUTCOMES, Outcome, Run};
+use crate::stopped_stores::{FilesDesk, calls_to_open};
 use crate::stored_desks::{FileTables, Making, MemoryTables, TableDesk};
 use hotel_asks::{Ask, Verb, read_ask};
 use hotel_audit::{ImportFault, LineAnswer, import};
@@ -12,8 +11,6 @@ use hotel_scenarios::desks::words_of;
 use hotel_scenarios::rooms_now::{FIRST_ENTRY, answers_to, note_count};
 use hotel_scenarios::sent_again::{TWICE, comes_again};
 use keycard_rules::ListedWords;
-use sqlite::MemStore;
-use sqlite_disk::Memory;
 use std::alloc::Global;
 use std::process::Abort;
 use std::test::Fail;
@@ -459,8 +456,6 @@ enum Subject {
     NewDesk,
     Import,
     OpeningAndClosing,
-    /// Scripts of random commands, which count their stops themselves.
-    Scripts,
 }
 
 fn stops_of<D: FileTables + Drop, K: MemoryTables + Drop, R: Abort + AllocGlobal>(
@@ -473,16 +468,12 @@ fn stops_of<D: FileTables + Drop, K: MemoryTables + Drop, R: Abort + AllocGlobal
         Subject::NewDesk => is_made::<D, K, R>(rt),
         Subject::Import => is_imported::<D, K, R>(rt),
         Subject::OpeningAndClosing => is_opened_and_closed::<D, K, R>(rt),
-        Subject::Scripts => {
-            are_carried_out::<D, K, R>(rt)?;
-            Ok(NO_TRIES)
-        }
     }
 }
 
 /// The same of the desks that are stopped, which are named here once.
 fn stops_desks<R: Abort + AllocGlobal>(rt: &R, subject: Subject) -> Result<Tries, Fail> {
-    stops_of::<FilesDesk<Watched<Memory>, WatchedFiles>, MemoryDesk<MemStore>, R>(rt, subject)
+    stops_of::<FilesDesk, MemoryDesk, R>(rt, subject)
 }
 
 #[test]
@@ -512,11 +503,5 @@ fn stopped_import(rt: HostRuntime) -> Result<(), Fail> {
 #[test]
 fn an_opening_and_a_closing_are_stopped(rt: HostRuntime) -> Result<(), Fail> {
     stops_desks(&rt, Subject::OpeningAndClosing)?.are_many(&rt, 120, 140);
-    Ok(())
-}
-
-#[test]
-fn scripts_are_stopped(rt: HostRuntime) -> Result<(), Fail> {
-    stops_desks(&rt, Subject::Scripts)?;
     Ok(())
 }

@@ -42,6 +42,9 @@ pub(crate) trait FileTables: TableDesk {
     /// The desk of a store that is opened again, and its rows: none where it has no tables, and then a desk is made there.
     fn found(alloc: Global, run: &Run) -> Result<(Self, String), Fail>;
 
+    /// The rows as a text; then the store is closed.
+    fn rows_closed(alloc: Global, run: &Run) -> Result<String, Fail>;
+
     /// Closes the desk, as far as the store does.
     fn close(self);
 }
