@@ -76,12 +76,12 @@ def by_http_client(port, method, path, body, _):
     return answer.status, answer.getheader("Content-Type"), answer.read().decode()
 
 
-def serve(program, count, *words):
+def serve(program, count, *words, env=None):
     """A server for so many connections, and the port that it says it listens on."""
     with socket.socket() as probe:
         probe.bind(("127.0.0.1", 0))
         port = probe.getsockname()[1]
-    server = subprocess.Popen([program, *words, "serve", str(port), str(count)], stdout=subprocess.PIPE, stderr=subprocess.PIPE)
+    server = subprocess.Popen([program, *words, "serve", str(port), str(count)], stdout=subprocess.PIPE, stderr=subprocess.PIPE, env=env)
     line = server.stdout.readline().decode()
     assert line == f"listening on 127.0.0.1:{port}\n", f"{line!r} {server.stderr.read()!r}"
     return server, port

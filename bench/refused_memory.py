@@ -10,6 +10,7 @@ or, where only the answer could not be made, as the run leaves them; and the sam
 import may stop after some notes, which stand, and the same import then takes the others. Prints what isn't so, and how many allocations
 were refused in each run, of how many.
 """
+import itertools
 import os
 import pathlib
 import re
@@ -19,9 +20,13 @@ import subprocess
 import sys
 import tempfile
 
-from hostile import FIRST, OPENING, SCRIPT, SECOND
+from scripts import codes
 from stored_desk import DESK, answered
 
+# The codes that a seed of zeros gives first.
+FIRST, SECOND = (f"{code:012x}" for code in itertools.islice(codes(), 2))
+OPENING = ["begin 2031-05-01", "add-kind DBL", "add-room 101 DBL", "reserve DBL 2031-05-01 2 Ann Lee"]
+SCRIPT = OPENING + ["check-in 1 101", f"entered 101 1 1 {FIRST} {SECOND} 2031-05-01T15:00:00"]
 HEADER = "room,count,kind,card,old,new,at\n"
 NOTES = HEADER + "".join(f"101,{count},{kind},1,{FIRST},{SECOND},2031-05-01T1{count}:00:00\n" for count, kind in ((1, "in"), (2, "out"), (3, "in")))
 
@@ -56,14 +61,14 @@ class Refusing:
         self.program, self.folder = program, folder
         (folder / "seed").write_bytes(bytes(32))
         (folder / "notes.csv").write_text(NOTES)
-        source = pathlib.Path(__file__).resolve().parent / "refuse.c"
-        subprocess.run(["cc", "-O1", "-shared", "-fPIC", "-o", folder / "refuse.so", source], check=True)
+        source = pathlib.Path(__file__).resolve().parent.parent / ".ci" / "failing_calls.c"
+        subprocess.run(["cc", "-O1", "-shared", "-fPIC", "-o", folder / "failing_calls.so", source], check=True)
 
     def run(self, words, given, at):
         """How a run ends with the allocation of this number refused, and whether there was one."""
         told = self.folder / "refused"
         told.unlink(missing_ok=True)
-        env = dict(os.environ, LD_PRELOAD=str(self.folder / "refuse.so"), REFUSE_AT=str(at), REFUSED=str(told)) if at else None
+        env = dict(os.environ, LD_PRELOAD=str(self.folder / "failing_calls.so"), REFUSE_AT=str(at), REFUSED=str(told)) if at else None
         child = subprocess.run([self.program, "--db", "desk.db", "--seed-file", "seed", *words], input=given.encode(), cwd=self.folder, env=env,
                                stdout=subprocess.PIPE, stderr=subprocess.PIPE, timeout=60)
         return (child.returncode, without_codes(child.stdout.decode()), child.stderr.decode()), told.exists()

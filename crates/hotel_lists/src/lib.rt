@@ -3,7 +3,6 @@
 
 mod bytes;
 mod calls;
-mod fakes;
 mod fault;
 mod gathered;
 mod line;
@@ -14,7 +13,6 @@ mod write_lists;
 
 pub use bytes::{ReadFault, WholeFault, read_more, read_whole, write_bytes, write_parts};
 pub use calls::{IoCalls, ReadFailed, WriteFailed};
-pub use fakes::{FakeReader, FakeWriter};
 pub use fault::ListFault;
 pub use lists::{arrivals, audit_of, chain_of, in_house, left_behind};
 pub use write_lists::{

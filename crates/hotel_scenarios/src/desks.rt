@@ -3,16 +3,9 @@ use crate::line_asks::ask_of;
 use crate::scenarios::{CHECKED_IN, OPENED, Step};
 use hotel_asks::Ask;
 use hotel_core::{Books, Command, ListBooks, Reply, step};
-use hotel_nights::{Day, Guest, KindCode, Nights};
-use keycard_rules::{Act, CardNo, Code, Count, Link, ListedWords, LockNote, PartyNo, RoomNo};
+use keycard_rules::{ListedWords, RoomNo};
 use std::alloc::Global;
 use std::test::Fail;
-
-/// 2031-05-01.
-pub const FIRST_DAY: u16 = 11_443;
-
-/// 15:00:00.
-pub const AFTERNOON: u32 = 54_000;
 
 /// A desk over books, which are in memory where nothing else is said.
 #[derive(Drop)]
@@ -22,49 +15,8 @@ pub struct Desk<B = ListBooks> {
     pub source: ListedWords,
 }
 
-pub fn day(number: u16) -> Result<Day, Fail> {
-    Ok(Day::new(number).ok_or("a day")?)
-}
-
-pub fn kind() -> Result<KindCode, Fail> {
-    Ok(KindCode::read(b"DBL").ok_or("a kind")?)
-}
-
 pub fn room(number: u32) -> Result<RoomNo, Fail> {
     Ok(RoomNo::new(number).ok_or("a room")?)
-}
-
-pub fn party(number: u32) -> Result<PartyNo, Fail> {
-    Ok(PartyNo::new(number).ok_or("a party")?)
-}
-
-pub fn code(value: u64) -> Result<Code, Fail> {
-    Ok(Code::new(value).ok_or("a code")?)
-}
-
-/// The note of a count at a room, on the first day.
-pub fn note(number: u32, count: u32, act: Act, second: u32) -> Result<LockNote, Fail> {
-    let count = Count::new(count).ok_or("a count")?;
-    Ok(LockNote::new(room(number)?, count, act, FIRST_DAY, second).ok_or("a note")?)
-}
-
-pub fn link(old: u64, new: u64) -> Result<Link, Fail> {
-    Ok(Link {
-        old_code: code(old)?,
-        new_code: code(new)?,
-    })
-}
-
-pub fn entered(number: u32, count: u32, card: u32, old: u64, new: u64) -> Result<LockNote, Fail> {
-    let card = CardNo::new(card).ok_or("a card")?;
-    let link = link(old, new)?;
-    note(number, count, Act::Entered { card, link }, AFTERNOON)
-}
-
-pub fn left(number: u32, count: u32, card: u32, old: u64, new: u64) -> Result<LockNote, Fail> {
-    let card = CardNo::new(card).ok_or("a card")?;
-    let link = link(old, new)?;
-    note(number, count, Act::Left { card, link }, AFTERNOON + 3_600)
 }
 
 /// Words by which a source gives these codes.
@@ -80,13 +32,6 @@ impl Desk {
     /// A desk whose source gives these codes.
     pub fn of_codes(alloc: Global, codes: &[u64]) -> Result<Desk, Fail> {
         Desk::over(alloc, ListBooks::empty(alloc), codes)
-    }
-
-    /// A desk that has begun, with rooms of one kind, whose source gives these codes.
-    pub fn begun(alloc: Global, codes: &[u64], rooms: &[u32]) -> Result<Desk, Fail> {
-        let mut desk = Desk::of_codes(alloc, codes)?;
-        desk.begins(rooms)?;
-        Ok(desk)
     }
 
     /// A desk whose source gives these codes, behind these parts of scenarios.
@@ -116,18 +61,8 @@ impl<B: Books> Desk<B> {
         })
     }
 
-    /// Begins, with rooms of one kind.
-    fn begins(&mut self, rooms: &[u32]) -> Result<(), Fail> {
-        self.does(&Command::Begin(day(FIRST_DAY)?))?;
-        self.does(&Command::AddKind(kind()?))?;
-        for number in rooms {
-            self.add_room(*number, kind()?)?;
-        }
-        Ok(())
-    }
-
     /// A command that is accepted.
-    pub fn does(&mut self, command: &Command) -> Result<(), Fail> {
+    fn does(&mut self, command: &Command) -> Result<(), Fail> {
         match step(&mut self.books, &mut self.source, command) {
             Reply::Refused(_) => Err(Fail::from("refused")),
             _ => Ok(()),
@@ -175,29 +110,5 @@ impl<B: Books> Desk<B> {
             self.goes_through_part(part)?;
         }
         Ok(())
-    }
-
-    pub fn add_room(&mut self, number: u32, kind: KindCode) -> Result<(), Fail> {
-        let room = room(number)?;
-        self.does(&Command::AddRoom { room, kind })
-    }
-
-    pub fn reserve(&mut self, name: &str, arrive: u16, nights: u8) -> Result<(), Fail> {
-        let kind = kind()?;
-        let arrive = day(arrive)?;
-        let nights = Nights::new(nights).ok_or("nights")?;
-        let guest = Guest::read(self.alloc, name)?;
-        self.does(&Command::Reserve {
-            guest,
-            kind,
-            arrive,
-            nights,
-        })
-    }
-
-    pub fn check_in(&mut self, number: u32, to: u32) -> Result<(), Fail> {
-        let party = party(number)?;
-        let room = room(to)?;
-        self.does(&Command::CheckIn { party, room })
     }
 }

@@ -4,10 +4,7 @@
 pub mod chains;
 pub mod desks;
 pub mod line_asks;
-pub mod random_scripts;
-pub mod refused_memory;
 pub mod rooms_now;
 pub mod scenario_runs;
 pub mod scenarios;
 pub mod sent_again;
-pub mod three_hundred_rooms;

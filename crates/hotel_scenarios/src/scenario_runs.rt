@@ -4,7 +4,6 @@ use crate::line_asks::ask_of;
 use crate::scenarios::{Scenario, Step};
 use hotel_asks::Ask;
 use hotel_core::Walks;
-use hotel_lists::{FakeReader, FakeWriter};
 use hotel_program::{ScriptEnd, run_audit, run_list, run_script};
 use keycard_rules::ListedWords;
 use std::alloc::Global;
@@ -29,8 +28,8 @@ pub fn desk_of<B: Walks + Drop>(
 
 impl<B: Walks> Desk<B> {
     /// Answers a line of a script.
-    fn line(&mut self, line: &[u8], writer: &mut FakeWriter) -> Result<(), Fail> {
-        let mut reader = FakeReader::new(line);
+    fn line(&mut self, line: &[u8], writer: &mut Vec<u8>) -> Result<(), Fail> {
+        let mut reader = line;
         match run_script(
             self.alloc,
             &mut reader,
@@ -47,8 +46,8 @@ impl<B: Walks> Desk<B> {
     pub fn list(
         &mut self,
         line: &[u8],
-        writer: &mut FakeWriter,
-        faults: &mut FakeWriter,
+        writer: &mut Vec<u8>,
+        faults: &mut Vec<u8>,
     ) -> Result<u8, Fail> {
         let list = match &ask_of(self.alloc, line)? {
             Ask::List(list) => *list,
@@ -58,7 +57,7 @@ impl<B: Walks> Desk<B> {
     }
 
     /// Answers an audit file.
-    pub fn audit(&mut self, file: &[u8], writer: &mut FakeWriter, faults: &mut FakeWriter) -> u8 {
+    pub fn audit(&mut self, file: &[u8], writer: &mut Vec<u8>, faults: &mut Vec<u8>) -> u8 {
         run_audit(self.alloc, file, &mut self.books, writer, faults)
     }
 
@@ -66,8 +65,8 @@ impl<B: Walks> Desk<B> {
     pub fn carry_out(
         &mut self,
         step: &Step,
-        writer: &mut FakeWriter,
-        faults: &mut FakeWriter,
+        writer: &mut Vec<u8>,
+        faults: &mut Vec<u8>,
     ) -> Result<u8, Fail> {
         match step {
             Step::Line(line, _) => {
@@ -94,11 +93,11 @@ pub fn expected(step: &Step) -> (&'static [u8], &'static [u8], u8) {
 
 /// Whether the step comes to what it says.
 pub fn step_holds<B: Walks>(desk: &mut Desk<B>, step: &Step) -> Result<bool, Fail> {
-    let mut writer = FakeWriter::new(desk.alloc).in_pieces(9);
-    let mut faults = FakeWriter::new(desk.alloc).in_pieces(4);
+    let mut writer = Vec::new(desk.alloc);
+    let mut faults = Vec::new(desk.alloc);
     let status = desk.carry_out(step, &mut writer, &mut faults)?;
     let (output, fault, wanted) = expected(step);
-    Ok(writer.written() == output && faults.written() == fault && status == wanted)
+    Ok(writer.as_slice() == output && faults.as_slice() == fault && status == wanted)
 }
 
 /// The steps of a part of this scenario hold in turn, or the test fails by its name.

@@ -8,9 +8,13 @@ use Rattle.sqlite.specs.Command.TheVariants.{Select}
 use Rattle.sqlite.specs.Listing.{understood, reads_listing}
 use Rattle.sqlite.specs.Given.{IsPlain}
 use Rattle.sqlite.specs.State.{State, HasCleanDisk, Survives}
+use Rattle.sqlite.specs.declared.error.ErrorCode.TheVariants.{OutOfMemory}
+use Rattle.sqlite.specs.declared.error.Error.{Error}
+use Rattle.sqlite.specs.declared.error.Error.TheVariants.{SqliteFailure}
 use Rattle.sqlite_resolve.specs.declared.compiled.Compiled.{Compiled}
 use Rattle.sqlite_resolve.specs.declared.error.CompileError.{CompileError}
 use Rattle.keycard_rules.specs.declared.issued.LookFault.{LookFault}
+use Rattle.keycard_rules.specs.declared.issued.LookFault.TheVariants as why
 use Rattle.hotel_core.specs.declared.books.rows.NextNumbers.{NextNumbers}
 use Rattle.hotel_core.specs.Books.Lookups.{number_after}
 use Rattle.hotel_core.specs.Model.Rows.{Rows}
@@ -18,6 +22,11 @@ use Rattle.hotel_statements.specs.Schema.{desk_schema}
 use Rattle.hotel_statements.specs.Tables.{rows_in}
 use Rattle.hotel_statements.specs.Books.{IsKept, IsBooks, KeepsRows}
 use Rattle.std.specs.Prelude.{Ok, Err}
+
+-- why a look-up has no answer, where the store answered this: memory was wanting, or the store failed
+abbrev pub fault_of : Error → LookFault
+fault_of (SqliteFailure OutOfMemory) = why.Memory
+fault_of _ = why.Store
 
 -- the text is understood as this query
 abbrev pub IsQuery : Query → Result Compiled CompileError → Type 0

@@ -1,6 +1,7 @@
 //! What is read from the columns that a statement shows.
 ghost use Rattle.std.specs.Prelude.{◌≡◌, ◌<◌, ◌+◌, ◌==◌, IfOk, string_bytes};
 ghost use Rattle.sqlite.specs.Order.{Row as SqlRow, column};
+ghost use Rattle.hotel_statements.specs.LookUps.{fault_of};
 ghost use Rattle.hotel_statements.specs.Values.{number_of, option_of, text_of};
 ghost use Rattle.hotel_statements.specs.Columns.{room_row_of, stay_row_of, code_row_of, card_row_of, note_row_of, state_of, act_of};
 
@@ -13,7 +14,9 @@ use sqlite::{Error, ErrorCode, Row};
 use std::alloc::Global;
 
 /// Why a look-up has no answer, where the store answered this.
-pub fn fault_of(error: Error) -> LookFault {
+pub fn fault_of(error: Error) -> LookFault
+    ensures { result ≡ fault_of error }
+{
     match error {
         Error::SqliteFailure(ErrorCode::OutOfMemory) => LookFault::Memory,
         _ => LookFault::Store,

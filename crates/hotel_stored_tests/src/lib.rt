@@ -1,23 +1,9 @@
-//! Tests of books over tables: the worked scenarios, and a stop at each call of a store.
+//! Tests of books over tables: the worked scenarios, and tables that are closed and opened again.
 #![tactic(auto)]
 
-#[cfg(test)]
-mod memory_desks;
-#[cfg(test)]
-mod program_in_tables;
-#[cfg(test)]
-mod refused_memory;
-#[cfg(test)]
-mod stopped_disks;
-#[cfg(test)]
-mod stopped_scripts;
-#[cfg(test)]
-mod stopped_stores;
-#[cfg(test)]
-mod store_stops;
-#[cfg(test)]
-mod stored_desks;
 #[cfg(test)]
 mod stored_rows;
 #[cfg(test)]
 mod tables;
+#[cfg(test)]
+mod worked_scenarios;

@@ -1,7 +1,7 @@
 //! Lists over books of which a call fails, each call in turn, for each cause: by their own calls, and in a script.
 use crate::lists::{list_of, write_alone};
 use hotel_core::StoppingBooks;
-use hotel_lists::{FakeReader, FakeWriter, ListFault};
+use hotel_lists::ListFault;
 use hotel_program::{ScriptEnd, run_script};
 use hotel_scenarios::desks::Desk;
 use keycard_rules::LookFault;
@@ -129,10 +129,10 @@ fn is_cut(
     cause: LookFault,
 ) -> Result<(), Fail> {
     let list = list_of(rt.alloc(), asked.line)?;
-    let mut writer = FakeWriter::new(rt.alloc());
+    let mut writer = Vec::new(rt.alloc());
     let written = write_alone(rt.alloc(), &list, books, &mut writer);
     assert!(rt; written == Err(fault_of(cause)));
-    assert!(rt; writer.written() == first_lines(asked.text, asked.lines_before(call)));
+    assert!(rt; writer.as_slice() == first_lines(asked.text, asked.lines_before(call)));
     assert!(rt; books.failures(cause) == 1);
     Ok(())
 }
@@ -145,10 +145,10 @@ fn is_whole(
 ) -> Result<(), Fail> {
     let calls = books.calls();
     let list = list_of(rt.alloc(), asked.line)?;
-    let mut writer = FakeWriter::new(rt.alloc());
+    let mut writer = Vec::new(rt.alloc());
     let written = write_alone(rt.alloc(), &list, books, &mut writer);
     assert!(rt; written == Ok(()));
-    assert!(rt; writer.written() == asked.text);
+    assert!(rt; writer.as_slice() == asked.text);
     let made = books.calls().saturating_sub(calls);
     assert!(rt; made == asked.calls as u64);
     Ok(())
@@ -219,8 +219,8 @@ fn fails_in_script(
         mut source,
     } = listed_desk(rt.alloc())?;
     let mut books = StoppingBooks::new(books, call as u64, cause);
-    let mut reader = FakeReader::new(script.as_slice());
-    let mut writer = FakeWriter::new(rt.alloc());
+    let mut reader = script.as_slice();
+    let mut writer = Vec::new(rt.alloc());
     let ran = run_script(
         rt.alloc(),
         &mut reader,
@@ -228,7 +228,7 @@ fn fails_in_script(
         &mut books,
         &mut source,
     );
-    assert!(rt; writer.written() == answers.as_slice());
+    assert!(rt; writer.as_slice() == answers.as_slice());
     assert!(rt; ran == Ok(ScriptEnd { lines: 2 }));
     Ok(())
 }

@@ -1,7 +1,6 @@
 //! The scenario `http-check-in` over books in memory; `.ci/bytes` asks each route, and damages requests, at the built program.
 use hotel_core::Walks;
 use hotel_http::{ServeFault, Served, serve_one};
-use hotel_lists::{FakeReader, FakeWriter};
 use hotel_scenarios::desks::Desk;
 use hotel_scenarios::scenarios::OPENED;
 use std::alloc::Global;
@@ -11,8 +10,8 @@ use std::test::Fail;
 /// The desk answers the reader's request to the writer.
 pub(crate) fn serve(
     desk: &mut Desk<impl Walks>,
-    reader: &mut FakeReader<'_>,
-    writer: &mut FakeWriter,
+    reader: &mut &[u8],
+    writer: &mut Vec<u8>,
 ) -> Result<Served, ServeFault> {
     serve_one(
         desk.alloc,
@@ -77,10 +76,10 @@ pub(crate) fn goes(
     desk: &mut Desk<impl Walks>,
     exchange: &Exchange,
 ) {
-    let mut writer = FakeWriter::new(rt.alloc()).in_pieces(100);
-    let mut reader = FakeReader::new(exchange.request).in_pieces(1);
+    let mut writer = Vec::new(rt.alloc());
+    let mut reader = exchange.request;
     let ended = serve(desk, &mut reader, &mut writer);
-    assert!(rt; writer.written() == exchange.answer);
+    assert!(rt; writer.as_slice() == exchange.answer);
     assert!(rt; ended.is_ok());
 }
 

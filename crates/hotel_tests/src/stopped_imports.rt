@@ -1,4 +1,4 @@
-//! Imports that are stopped, by a growth that is refused or by a call of the books that fails, and the same file sent again.
+//! Imports that are stopped by a call of the books that fails, and the same file sent again.
 
 use hotel_audit::{AuditFault, ImportFault, LineAnswer, import};
 use hotel_core::StoppingBooks;
@@ -22,23 +22,6 @@ fn lines_answered<A: Abort>(rt: &A, end: Result<Vec<LineAnswer>, ImportFault>) -
             answered
         }
     }
-}
-
-/// Imports the file, and sends it again where it was stopped.
-fn stops_by_a_growth(rt: &(impl Abort + AllocGlobal), sent: &Sent) -> Result<(), Fail> {
-    let mut desk = Desk::of_one_guest(rt.alloc())?;
-    let answered = lines_answered(rt, import(rt.alloc(), &mut desk.books, sent.file));
-    let again = comes_again(rt.alloc(), &mut desk.books, sent, answered)?;
-    assert!(rt; again);
-    Ok(())
-}
-
-/// Each growth refused in turn: `rt try --test --fail-alloc N`, for N from 1 on. Where the test lacks the memory for its
-/// own desks, or for the file sent again, it ends by that, and a comparison never fails.
-#[test]
-fn refused_growths(rt: HostRuntime) -> Result<(), Fail> {
-    stops_by_a_growth(&rt, &TWICE)?;
-    stops_by_a_growth(&rt, &CUT)
 }
 
 /// Which failures were counted: of memory, of the store.

@@ -1,21 +1,13 @@
-//! The worked scenarios and three hundred rooms over tables in memory, from bytes to bytes and exit status.
+//! The worked scenarios over tables in memory, from bytes to bytes and exit status.
 use crate::stored_rows::new_tables;
 use hotel_scenarios::scenario_runs::scenario_holds;
 use hotel_scenarios::scenarios::{OF_FILES, OF_LOCKS, OF_THE_DESK, Scenario};
-use hotel_scenarios::three_hundred_rooms::rooms_are_answered;
 use std::alloc::Global;
-use std::process::Abort;
 use std::test::Fail;
 
 /// The scenario holds over the tables of a new desk.
 fn tables_hold(alloc: Global, scenario: &Scenario) -> Result<(), Fail> {
     scenario_holds(alloc, new_tables(alloc)?, scenario)
-}
-
-/// Whether the script of three hundred rooms is answered over the tables of a new desk.
-fn tables_have_rooms(alloc: Global) -> Result<bool, Fail> {
-    let mut tables = new_tables(alloc)?;
-    rooms_are_answered(alloc, &mut tables)
 }
 
 /// Each of the scenarios holds.
@@ -39,10 +31,4 @@ fn scenarios_of_files(rt: HostRuntime) -> Result<(), Fail> {
 #[test]
 fn scenarios_of_the_desk(rt: HostRuntime) -> Result<(), Fail> {
     scenarios_hold(rt.alloc(), &OF_THE_DESK)
-}
-
-#[test]
-fn three_hundred_rooms(rt: HostRuntime) -> Result<(), Fail> {
-    assert!(rt; tables_have_rooms(rt.alloc())?);
-    Ok(())
 }

@@ -1,14 +1,9 @@
-//! Draws whose look-ups fail, and a chain that finds no memory.
+//! Draws whose look-ups fail.
 ghost use Rattle.std.specs.Prelude.{[], refl};
 
-use keycard_rules::{Chain, Code, DrawFault, Issued, ListedWords, LookFault, Memory, draw_fresh};
+use keycard_rules::{Code, DrawFault, Issued, ListedWords, LookFault, draw_fresh};
 use rand_core::Rng;
-use std::process::Abort;
 use std::test::Fail;
-
-fn code<A: Abort>(rt: &A, value: u64) -> Code {
-    Code::new(value).expect(rt, "a value below 2^48")
-}
 
 /// Look-ups that say that every code was issued, and fail once some were made.
 #[derive(Drop)]
@@ -65,34 +60,4 @@ fn failed_look_ups(rt: HostRuntime) -> Result<(), Fail> {
         assert!(rt; words.next_u64() == 4);
     }
     Ok(())
-}
-
-/// Issues a code that isn't there; where memory is refused the chain stays, and it is issued the next time.
-fn issues_at_last<A: Abort>(rt: &A, chain: &mut Chain, next: Code) -> Result<(), Fail> {
-    assert!(rt; !chain.holds(next));
-    if chain.issue(next) == Err(Memory) {
-        assert!(rt; !chain.holds(next));
-        chain.issue(next)?;
-    }
-    assert!(rt; chain.current() == next && chain.held() == code(rt, 0));
-    Ok(())
-}
-
-/// A chain of 40 codes.
-fn issues_all<A: Abort>(rt: &A, chain: &mut Chain) -> Result<(), Fail> {
-    for value in 1..40u64 {
-        issues_at_last(rt, chain, code(rt, value))?;
-    }
-    assert!(rt; chain.awaited_len() == 39);
-    Ok(())
-}
-
-/// Where a growth is refused, the fault is want of memory, and the same call finds memory the next time.
-#[test]
-fn refused_growth(rt: HostRuntime) -> Result<(), Fail> {
-    let mut chain = match Chain::install(rt.alloc(), code(&rt, 0)) {
-        Ok(chain) => chain,
-        Err(Memory) => Chain::install(rt.alloc(), code(&rt, 0))?,
-    };
-    issues_all(&rt, &mut chain)
 }

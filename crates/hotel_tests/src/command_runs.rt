@@ -1,5 +1,4 @@
-//! Runs of commands in one call, and a script of no line.
-use super::answers_so;
+//! Runs of commands in one call.
 use hotel_asks::Ask;
 use hotel_core::{Command, Reply, Walks, reply_text, run};
 use hotel_scenarios::desks::Desk;
@@ -74,6 +73,5 @@ fn runs_at_once(rt: &(impl Abort + AllocGlobal), desk: &mut Desk<impl Walks>) ->
 #[test]
 fn words_and_empties(rt: HostRuntime) -> Result<(), Fail> {
     let mut desk = Desk::of_codes(rt.alloc(), &[0xa0, 0xa1, 0xa2])?;
-    answers_so(&rt, &mut desk, b"", b"", 0);
     runs_at_once(&rt, &mut desk)
 }

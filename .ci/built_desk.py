@@ -1,0 +1,151 @@
+"""The built program as the tests of this folder run it: what it is given, and what it answers."""
+import errno
+import functools
+import itertools
+import os
+import pathlib
+import shutil
+import socket
+import subprocess
+import sys
+import tempfile
+
+HERE = pathlib.Path(__file__).resolve().parent
+sys.dont_write_bytecode = True
+sys.path.insert(0, str(HERE.parent / "bench"))
+from http_routes import DESK, serve  # noqa: E402
+import scripts  # noqa: E402
+
+# The codes that a seed of zeros gives.
+CODES = [f"{code:012x}" for code in itertools.islice(scripts.codes(), 640)]
+FIRST, SECOND = CODES[:2]
+CARD = f"card 1 party 1 old {FIRST} new {SECOND}\n".encode()
+HEADER = b"room,count,kind,card,old,new,at\n"
+OPENING = b"begin 2031-05-01\nadd-kind DBL\nadd-room 101 DBL\nreserve DBL 2031-05-01 2 Ann Lee\n"
+OPENED = f"begun\nkind added\nroom code {FIRST}\nparty 1\n".encode()
+CHECKED_IN = OPENING + b"check-in 1 101\n"
+LISTS = b"in-house\nchain 101\naudit-of 101\n"
+NOTES = HEADER + f"101,1,in,1,{FIRST},{SECOND},2031-05-01T15:00:00\n101,2,out,1,{FIRST},{SECOND},2031-05-01T16:00:00\n".encode()
+
+
+def answer(status, body, media="plain", allow=""):
+    """The bytes of an answer."""
+    allowed = f"Allow: {allow}\r\n" if allow else ""
+    head = f"HTTP/1.1 {status}\r\nContent-Type: text/{media}; charset=utf-8\r\nContent-Length: {len(body)}\r\n{allowed}Connection: close\r\n\r\n"
+    return head.encode() + body
+
+
+def request(line, body=b""):
+    """The bytes of a request."""
+    return f"{line} HTTP/1.1\r\nHost: desk\r\nContent-Length: {len(body)}\r\n\r\n".encode() + body
+
+
+def text_of(lines):
+    return "".join(f"{line}\n" for line in lines if line).encode()
+
+
+DONE = answer("200 OK", CARD)
+CHECK_IN = b"POST /reservations/1/check-in HTTP/1.1\r\nHost: localhost\r\nContent-Length: 8\r\n\r\nroom=101"
+
+# Each exchange by itself: a request and its answer.
+BOOKED = [
+    (request("POST /begin", b"day=2031-05-01"), answer("200 OK", b"begun\n")),
+    (request("POST /kinds", b"kind=DBL"), answer("200 OK", b"kind added\n")),
+    (request("POST /rooms", b"room=101&kind=DBL"), answer("200 OK", f"room code {FIRST}\n".encode())),
+    (request("POST /reservations", b"kind=DBL&arrive=2031-05-01&nights=2&guest=Ann+Lee"), answer("200 OK", b"party 1\n")),
+]
+
+
+@functools.cache
+def preloaded():
+    """The library that has calls of the system fail, built for as long as this runs."""
+    made = tempfile.NamedTemporaryFile(suffix=".so")
+    subprocess.run(["cc", "-O1", "-shared", "-fPIC", "-o", made.name, HERE / "failing_calls.c"], check=True)
+    return made
+
+
+class Desk:
+    """The built program, with a seed of zeros, in a folder of its own."""
+
+    def __init__(self, program, folder):
+        self.program, self.folder, self.db = program, folder, folder / "desk.db"
+        (folder / "zeros").write_bytes(bytes(32))
+
+    def run(self, given, *words, **calls):
+        """The status, the output and the faults of a run with these words on this input, of which these calls of the system fail."""
+        seeded = ["--seed-file", self.folder / "zeros", *words] if words else []
+        child = subprocess.run([self.program, *seeded], input=given, stdout=subprocess.PIPE, stderr=subprocess.PIPE, timeout=60,
+                               env=self.environment(calls))
+        return child.returncode, child.stdout, child.stderr
+
+    def environment(self, calls):
+        """The environment in which these calls of the system fail (failing_calls.c)."""
+        return dict(os.environ, LD_PRELOAD=preloaded().name, **calls) if calls else None
+
+    def stored(self, given, *words, **calls):
+        """The same on the database."""
+        return self.run(given, "--db", self.db, *words, **calls)
+
+    def laid(self, start):
+        """The database as it is in this file, or none."""
+        for file in self.folder.glob("desk.db*"):
+            file.unlink()
+        if start:
+            shutil.copy(start, self.db)
+
+    def begun(self, script):
+        """A new database, with this script carried out."""
+        self.laid(None)
+        self.stored(script, "script")
+
+    def kept(self, name, script):
+        """A file of this name with the database behind this script."""
+        self.begun(script)
+        return shutil.copy(self.db, self.folder / name)
+
+    def audit(self, text, is_stored=False, **calls):
+        """A run on this audit file."""
+        file = self.folder / "audit.csv"
+        file.write_bytes(text)
+        return (self.stored if is_stored else self.run)(b"", "audit", file, **calls)
+
+    def answers(self, requests, piece=1 << 20, is_stored=False, **calls):
+        """What a server says to these requests, one connection each, sent in pieces of so many bytes; and how it ends."""
+        words = ["--db", self.db] if is_stored else []
+        server, port = serve(self.program, len(requests), "--seed-file", self.folder / "zeros", *words, env=self.environment(calls))
+        said = [exchange(port, asked, piece) for asked in requests]
+        return said, server.wait(60), server.stderr.read()
+
+
+def exchange(port, asked, piece):
+    """What the server says to these bytes, sent in pieces of so many."""
+    said = b""
+    with socket.create_connection(("127.0.0.1", port), timeout=60) as client:
+        client.setsockopt(socket.IPPROTO_TCP, socket.TCP_NODELAY, 1)
+        try:
+            for at in range(0, len(asked), piece):
+                client.sendall(asked[at:at + piece])
+            client.shutdown(socket.SHUT_WR)
+        except OSError as fault:
+            if fault.errno not in (errno.EPIPE, errno.ECONNRESET, errno.ENOTCONN):
+                raise
+        try:
+            while some := client.recv(65536):
+                said += some
+        except ConnectionResetError:
+            pass
+    return said
+
+
+def main(tests):
+    """Runs these tests of the program that is named by the first word, or of the built one, and counts them."""
+    program = pathlib.Path(sys.argv[1] if len(sys.argv) > 1 else DESK).resolve()
+    failed = 0
+    for test in tests:
+        with tempfile.TemporaryDirectory() as made:
+            wrong = [case for case in test(Desk(program, pathlib.Path(made))) if case[1] != case[2]]
+        for given, wanted, got in wrong[:3]:
+            print(f"{test.__name__}, given {given!r}: wanted {wanted!r:.300}, and got {got!r:.300}")
+        failed += bool(wrong)
+    print(f"{len(tests) - failed} passed, {failed} failed")
+    sys.exit(1 if failed else 0)

@@ -1,0 +1,29 @@
+//! The worked scenarios over books in memory, from bytes to bytes and exit status.
+use hotel_core::ListBooks;
+use hotel_scenarios::scenario_runs::scenario_holds;
+use hotel_scenarios::scenarios::{OF_FILES, OF_LOCKS, OF_THE_DESK, Scenario};
+use std::alloc::Global;
+use std::test::Fail;
+
+/// Each of the scenarios holds over empty books in memory.
+fn scenarios_hold(alloc: Global, scenarios: &[Scenario]) -> Result<(), Fail> {
+    for scenario in scenarios {
+        scenario_holds(alloc, ListBooks::empty(alloc), scenario)?;
+    }
+    Ok(())
+}
+
+#[test]
+fn scenarios_of_locks(rt: HostRuntime) -> Result<(), Fail> {
+    scenarios_hold(rt.alloc(), &OF_LOCKS)
+}
+
+#[test]
+fn scenarios_of_files(rt: HostRuntime) -> Result<(), Fail> {
+    scenarios_hold(rt.alloc(), &OF_FILES)
+}
+
+#[test]
+fn scenarios_of_the_desk(rt: HostRuntime) -> Result<(), Fail> {
+    scenarios_hold(rt.alloc(), &OF_THE_DESK)
+}
