@@ -2,7 +2,7 @@
 #![tactic(auto)]
 
 #[cfg(test)]
-mod stored_rows;
+mod connections;
 #[cfg(test)]
 mod tables;
 #[cfg(test)]

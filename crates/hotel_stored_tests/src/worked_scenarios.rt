@@ -1,5 +1,5 @@
 //! The worked scenarios over tables in memory, from bytes to bytes and exit status.
-use crate::stored_rows::new_tables;
+use crate::connections::new_tables;
 use hotel_scenarios::scenario_runs::scenario_holds;
 use hotel_scenarios::scenarios::{OF_FILES, OF_LOCKS, OF_THE_DESK, Scenario};
 use std::alloc::Global;

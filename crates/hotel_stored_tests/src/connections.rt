@@ -1,0 +1,32 @@
+//! Desks that are made and opened on connections.
+use hotel_tables::{OpenFault, TableBooks};
+use sqlite::{Alter, Connection, MemStore};
+use std::alloc::Global;
+use std::test::Fail;
+
+/// The books that a connection has.
+pub(crate) fn opened<S: Alter + Drop>(
+    alloc: Global,
+    conn: Connection<S>,
+) -> Result<TableBooks<S>, OpenFault> {
+    if !conn.is_autocommit() {
+        return Err(OpenFault::Store);
+    }
+    TableBooks::open(alloc, conn)
+}
+
+/// A new desk on a connection.
+pub(crate) fn created<S: Alter + Drop>(
+    alloc: Global,
+    conn: Connection<S>,
+) -> Result<TableBooks<S>, OpenFault> {
+    if !conn.is_autocommit() {
+        return Err(OpenFault::Store);
+    }
+    TableBooks::create(alloc, conn)
+}
+
+/// A new desk over tables in memory.
+pub(crate) fn new_tables(alloc: Global) -> Result<TableBooks<MemStore>, Fail> {
+    Ok(created(alloc, Connection::open_in_memory(alloc)?)?)
+}
