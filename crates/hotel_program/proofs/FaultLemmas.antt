@@ -1,5 +1,6 @@
 -- What a writer took of a text, whether it was written whole or not.
-use Rattle.std.proofs.Common.{ℕ, List, length, Option, Result, Ok, Err, arith, subst, sym}
+use Rattle.std.proofs.Common.{◌≡◌, ◌∙◌, ℕ, List, length, Option, Bool, true, false, Result, Ok, Err, arith, subst, sym}
+use Rattle.std.proofs.lemmas.Bool.{false≢true}
 use Rattle.std.proofs.lemmas.List.{take_all}
 use Rattle.std.specs.Prelude.{OnOk, OnErr}
 use Rattle.std.specs.Io.KnownBytes.{Appends}
@@ -8,3 +9,8 @@ use Rattle.hotel_lists.specs.Bytes.{AppendsFront}
 pub front_taken : {E : Type 0} (r : Result (Unit {0}) E) (old new : Option (List ℕ)) (text : List ℕ) → OnOk r (Appends old new text) → OnErr r (AppendsFront old new text) → AppendsFront old new text
 front_taken (Ok done) old new text whole front = (length text, omega arith, subst (Appends old new) (sym (take_all (length text) text (omega arith))) whole)
 front_taken (Err why) old new text whole front = front
+
+-- A text was taken whole where no write failed.
+pub taken_whole : {E : Type 0} (r : Result (Unit {0}) E) (old new : Option (List ℕ)) (text : List ℕ) (failed : Bool) → OnOk r (Appends old new text) → OnErr r (failed ≡ true) → failed ≡ false → Appends old new text
+taken_whole (Ok done) old new text failed whole err unfailed = whole
+taken_whole (Err why) old new text failed whole err unfailed = absurd (false≢true (sym unfailed ∙ err))

@@ -186,8 +186,9 @@ fn write_fault<W: Write>(
 /// Takes the faults that calls tell. Each writer is one.
 pub trait FaultSink {
     ghost use Rattle.std.specs.Prelude.{ℕ, List};
-    ghost use Rattle.hotel_lists.specs.Calls.{NoneForgotten};
+    ghost use Rattle.hotel_lists.specs.Calls.{Calls, NoneForgotten};
     ghost use Rattle.hotel_program.specs.declared.faults.Fault.{Fault};
+    ghost use Rattle.hotel_program.specs.Faults.{fault_text};
 
     /// The meanings that may follow one after a fault was told.
     ghost told: { Self → Fault → Self → Type 0 };
@@ -195,24 +196,33 @@ pub trait FaultSink {
     /// The meanings that may follow one after a text of usage was shown.
     ghost shown: { Self → List ℕ → Self → Type 0 };
 
+    /// The meanings that may follow one after a text, where the call's reads and writes went so.
+    ghost heard: { Self → List ℕ → Calls → Self → Type 0 };
+
     /// Takes a text that says how the program is called. Where that goes wrong, nobody hears of it.
     fn show(&mut self, text: &str, calls: &mut IoCalls)
         ensures shown { shown self.old text.now self.new }
+        ensures heard { heard self.old text.now calls.new self.new }
         ensures calls { NoneForgotten calls.old calls.new };
 
     /// Takes a fault. Where that goes wrong, nobody hears of it.
     fn tell(&mut self, fault: &Fault, calls: &mut IoCalls)
         ensures told { told self.old fault.now self.new }
+        ensures heard { heard self.old (fault_text fault.now) calls.new self.new }
         ensures calls { NoneForgotten calls.old calls.new };
 }
 
 impl<W: Write> FaultSink for W {
+    ghost use Rattle.std.specs.Prelude.{◌≡◌, false};
+    ghost use Rattle.std.specs.Io.KnownBytes.{Appends};
     ghost use Rattle.hotel_lists.specs.Bytes.{AppendsFront};
     ghost use Rattle.hotel_program.specs.Faults.{fault_text};
 
     ghost told = { λ old fault new. AppendsFront (W.contents old) (W.contents new) (fault_text fault) };
 
     ghost shown = { λ old text new. AppendsFront (W.contents old) (W.contents new) text };
+
+    ghost heard = { λ old text calls new. calls.write_failed ≡ false → Appends (W.contents old) (W.contents new) text };
 
     fn show(&mut self, text: &str, calls: &mut IoCalls) {
         let _ = write_bytes(self, text.as_bytes(), calls);
