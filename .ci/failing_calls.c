@@ -41,8 +41,8 @@ static struct kind *kind_of(int file, int is_read) {
     return is_read ? &receives : &sends;
 }
 
-/* Whether this call of a kind ends as it is told, in *ended; if not, *size is what it may move. */
-static int told(struct kind *kind, size_t *size, ssize_t *ended) {
+/* Counts a call of a kind: whether it is one that fails, and then *result is what it answers; if not, *size is what it may move. */
+static int fails(struct kind *kind, size_t *size, ssize_t *result) {
     char *rest = kind ? getenv(kind->name) : NULL;
     if (!rest) return 0;
     size_t piece = strtoul(rest, &rest, 10);
@@ -52,35 +52,35 @@ static int told(struct kind *kind, size_t *size, ssize_t *ended) {
         long from = strtol(rest, &rest, 10), times = strtol(rest, &rest, 10), why = strtol(rest, &rest, 10);
         if (from <= kind->calls && kind->calls < from + times) {
             errno = why;
-            *ended = why ? -1 : 0;
+            *result = why ? -1 : 0;
             return 1;
         }
     }
     return 0;
 }
 
-static int ends(int file, int is_read, size_t *size, ssize_t *ended) { return told(kind_of(file, is_read), size, ended); }
+static int file_fails(int file, int is_read, size_t *size, ssize_t *result) { return fails(kind_of(file, is_read), size, result); }
 
 ssize_t read(int file, void *bytes, size_t size) {
-    ssize_t ended;
-    return ends(file, 1, &size, &ended) ? ended : syscall(SYS_read, file, bytes, size);
+    ssize_t result;
+    return file_fails(file, 1, &size, &result) ? result : syscall(SYS_read, file, bytes, size);
 }
 
 ssize_t write(int file, const void *bytes, size_t size) {
-    ssize_t ended;
-    return ends(file, 0, &size, &ended) ? ended : syscall(SYS_write, file, bytes, size);
+    ssize_t result;
+    return file_fails(file, 0, &size, &result) ? result : syscall(SYS_write, file, bytes, size);
 }
 
 ssize_t __write(int file, const void *bytes, size_t size) { return write(file, bytes, size); }
 
 ssize_t recv(int file, void *bytes, size_t size, int flags) {
-    ssize_t ended;
-    return ends(file, 1, &size, &ended) ? ended : recvfrom(file, bytes, size, flags, NULL, NULL);
+    ssize_t result;
+    return file_fails(file, 1, &size, &result) ? result : recvfrom(file, bytes, size, flags, NULL, NULL);
 }
 
 ssize_t send(int file, const void *bytes, size_t size, int flags) {
-    ssize_t ended;
-    return ends(file, 0, &size, &ended) ? ended : sendto(file, bytes, size, flags, NULL, 0);
+    ssize_t result;
+    return file_fails(file, 0, &size, &result) ? result : sendto(file, bytes, size, flags, NULL, 0);
 }
 
 static struct kind stores = {"STORES", 0};
@@ -104,11 +104,11 @@ static void trace(const char *what, int is_log, long place, long size, int faile
 }
 
 /* Whether this call of a store fails, and then errno says why. */
-static int stops(const char *what, int file, long place, long size, const void *bytes) {
+static int store_fails(const char *what, int file, long place, long size, const void *bytes) {
     size_t any = 1;
-    ssize_t ended;
+    ssize_t result;
     int is_log = log_of(file);
-    int failed = is_log >= 0 && told(&stores, &any, &ended);
+    int failed = is_log >= 0 && fails(&stores, &any, &result);
     int why = errno;
     if (is_log >= 0 && getenv("TRACE") && (failed || *what != 'r')) trace(what, is_log, place, size, failed, bytes);
     errno = why;
@@ -116,18 +116,18 @@ static int stops(const char *what, int file, long place, long size, const void *
 }
 
 ssize_t pread(int file, void *bytes, size_t size, off_t place) {
-    return stops("read", file, place, size, NULL) ? -1 : syscall(SYS_pread64, file, bytes, size, place);
+    return store_fails("read", file, place, size, NULL) ? -1 : syscall(SYS_pread64, file, bytes, size, place);
 }
 
 ssize_t pwrite(int file, const void *bytes, size_t size, off_t place) {
-    return stops("write", file, place, size, bytes) ? -1 : syscall(SYS_pwrite64, file, bytes, size, place);
+    return store_fails("write", file, place, size, bytes) ? -1 : syscall(SYS_pwrite64, file, bytes, size, place);
 }
 
-int ftruncate(int file, off_t size) { return stops("cut", file, size, 0, NULL) ? -1 : syscall(SYS_ftruncate, file, size); }
+int ftruncate(int file, off_t size) { return store_fails("cut", file, size, 0, NULL) ? -1 : syscall(SYS_ftruncate, file, size); }
 
-int fdatasync(int file) { return stops("sync", file, 0, 0, NULL) ? -1 : syscall(SYS_fdatasync, file); }
+int fdatasync(int file) { return store_fails("sync", file, 0, 0, NULL) ? -1 : syscall(SYS_fdatasync, file); }
 
-int fsync(int file) { return stops("sync", file, 0, 0, NULL) ? -1 : syscall(SYS_fsync, file); }
+int fsync(int file) { return store_fails("sync", file, 0, 0, NULL) ? -1 : syscall(SYS_fsync, file); }
 
 static int refuses(void) {
     static long calls, refused_at = -1;

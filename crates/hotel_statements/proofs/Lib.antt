@@ -19,6 +19,7 @@ pub mod ReadBack
 pub mod Naturals
 mod Made
 pub mod Ends
+pub mod InTurn
 mod Walked
 mod OfWalks
 pub mod SameSchema

@@ -7,6 +7,7 @@ pub mod Books
 pub mod Making
 pub mod LookUps
 pub mod Steps
+pub mod Statements
 pub mod Walks
 pub mod Lines
 pub mod Reading

@@ -1,9 +1,9 @@
 //! The changes of the books that are two statements, within a transaction.
 ghost use Rattle.std.specs.Prelude.{◌≡◌};
-ghost use Rattle.sqlite.specs.Held.{state};
 ghost use Rattle.hotel_core.specs.Books.Change.{made};
 ghost use Rattle.hotel_core.specs.declared.books.change.Change.TheVariants as change;
-ghost use Rattle.hotel_statements.specs.Steps.{MakesRows, any_rows};
+ghost use Rattle.hotel_statements.specs.Statements.{WritesBy, opens_room, ends_stay};
+ghost use Rattle.hotel_statements.specs.Steps.{any_rows};
 
 use crate::steps::{insert_code, insert_room, set_left, set_state};
 use hotel_core::{CodeRow, RoomRow};
@@ -19,7 +19,7 @@ pub fn add_room<S: Alter>(
     code: Code,
 ) -> Result<(), Error>
     ensures same_reference { tx.new.conn.ghost_name ≡ tx.old.conn.ghost_name }
-    ensures makes { MakesRows any_rows (made (change.Room room kind code)) (state S.Store tx.old.conn.now) (state S.Store tx.new.conn.now) result }
+    ensures makes { WritesBy S.Store (opens_room room kind code) any_rows (made (change.Room room kind code)) tx.old.conn.now tx.new.conn.now result }
 {
     let row = RoomRow {
         room,
@@ -41,7 +41,7 @@ pub fn end_stay<S: Alter>(
     room: RoomNo,
 ) -> Result<(), Error>
     ensures same_reference { tx.new.conn.ghost_name ≡ tx.old.conn.ghost_name }
-    ensures makes { MakesRows any_rows (made (change.CheckedOut party room)) (state S.Store tx.old.conn.now) (state S.Store tx.new.conn.now) result }
+    ensures makes { WritesBy S.Store (ends_stay party room) any_rows (made (change.CheckedOut party room)) tx.old.conn.now tx.new.conn.now result }
 {
     set_state(tx, party, StayState::Done)?;
     set_left(tx, room)

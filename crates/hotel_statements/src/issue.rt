@@ -1,9 +1,9 @@
 //! The issue of a card of a new code, within a transaction.
 ghost use Rattle.std.specs.Prelude.{◌≡◌, ◌<◌, ◌-◌, ◌^◌};
-ghost use Rattle.sqlite.specs.Held.{state};
 ghost use Rattle.hotel_core.specs.Books.Change.{made, codes_of};
 ghost use Rattle.hotel_core.specs.declared.books.change.Change.TheVariants as change;
-ghost use Rattle.hotel_statements.specs.Steps.{MakesRows, any_rows, code_given, card_given};
+ghost use Rattle.hotel_statements.specs.Statements.{WritesBy, gives_code, gives_card, issues_card};
+ghost use Rattle.hotel_statements.specs.Steps.{any_rows, code_given, card_given};
 
 use crate::steps::{insert_card, insert_code, set_issued, set_left, set_state};
 use hotel_core::CodeRow;
@@ -19,7 +19,7 @@ fn give_code<S: Alter>(
     at: CodeRow,
 ) -> Result<(), Error>
     ensures same_reference { tx.new.conn.ghost_name ≡ tx.old.conn.ghost_name }
-    ensures makes { MakesRows any_rows (code_given leaves code at) (state S.Store tx.old.conn.now) (state S.Store tx.new.conn.now) result }
+    ensures makes { WritesBy S.Store (gives_code leaves code at) any_rows (code_given leaves code at) tx.old.conn.now tx.new.conn.now result }
 {
     match leaves {
         Some(left) => {
@@ -38,7 +38,7 @@ fn give_card<S: Alter>(
     codes: u32,
 ) -> Result<(), Error>
     ensures same_reference { tx.new.conn.ghost_name ≡ tx.old.conn.ghost_name }
-    ensures makes { MakesRows any_rows (card_given card room codes) (state S.Store tx.old.conn.now) (state S.Store tx.new.conn.now) result }
+    ensures makes { WritesBy S.Store (gives_card card room codes) any_rows (card_given card room codes) tx.old.conn.now tx.new.conn.now result }
 {
     let party = card.party;
     set_issued(tx, room, codes, party)?;
@@ -56,7 +56,7 @@ pub fn issue<S: Alter>(
 ) -> Result<(), Error>
     requires { codes < 2 ^ 32 - 1 }
     ensures same_reference { tx.new.conn.ghost_name ≡ tx.old.conn.ghost_name }
-    ensures makes { MakesRows (λ rows. codes_of rows room ≡ codes) (made (change.Issue card.now room leaves)) (state S.Store tx.old.conn.now) (state S.Store tx.new.conn.now) result }
+    ensures makes { WritesBy S.Store (issues_card card.now room leaves codes) (λ rows. codes_of rows room ≡ codes) (made (change.Issue card.now room leaves)) tx.old.conn.now tx.new.conn.now result }
 {
     let at = CodeRow { room, place: codes };
     let code = card.link.new_code;

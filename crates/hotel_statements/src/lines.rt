@@ -1,5 +1,5 @@
 //! Rows of whole tables as plain data.
-ghost use Rattle.std.specs.Prelude.{◌≡◌, ℕ, Bool, List, IfOk};
+ghost use Rattle.std.specs.Prelude.{◌≡◌, ◌≢◌, ◌++◌, ℕ, Bool, List, IfOk, IfErr};
 ghost use Rattle.std.specs.declared.cmp.Ordering.{Ordering as Order};
 ghost use Rattle.sqlite.specs.Order.{Row as SqlRow};
 ghost use Rattle.hotel_statements.specs.Lines as line;
@@ -10,7 +10,7 @@ use crate::texts::{
     READ_CARD, READ_CODE, READ_INSIDE, READ_KIND, READ_META, READ_NOTE, READ_ROOM, READ_STAY,
 };
 use hotel_rows::{CardLine, CodeLine, InsideLine, KindLine, NoteLine, RoomLine, StayLine};
-use sqlite::{Error, Row};
+use sqlite::{Error, ErrorCode, Row};
 use std::cmp::Ordering;
 
 /// A row of a table as plain data.
@@ -32,7 +32,8 @@ pub(crate) trait Line: Sized {
         ensures { result.now ≡ text };
 
     fn line(row: &Row) -> Result<Self, Error>
-        ensures { IfOk result (λ line. shown line ≡ cut row.now) };
+        ensures shows { IfOk result (λ line. shown line ≡ cut row.now) }
+        ensures unread { IfErr result (λ e. e ≢ Error.SqliteFailure ErrorCode.OutOfMemory → (l : Self) (more : SqlRow) → shown l ++ more ≢ row.now) };
 }
 
 /// A row of a table by its key, and whether its numbers are such as the books write.

@@ -1,10 +1,10 @@
 //! A note that is taken, within a transaction.
 ghost use Rattle.std.specs.Prelude.{◌≡◌, None};
-ghost use Rattle.sqlite.specs.Held.{state};
 ghost use Rattle.hotel_core.specs.Books.Lookups.{note_at};
 ghost use Rattle.hotel_core.specs.Books.Change.{made};
 ghost use Rattle.hotel_core.specs.declared.books.change.Change.TheVariants as change;
-ghost use Rattle.hotel_statements.specs.Steps.{MakesRows, note_given};
+ghost use Rattle.hotel_statements.specs.Statements.{WritesBy, gives_note, takes_note};
+ghost use Rattle.hotel_statements.specs.Steps.{note_given};
 
 use crate::steps::{delete_inside, insert_inside, insert_note, set_noted};
 use hotel_core::InsideMove;
@@ -19,7 +19,7 @@ fn give_note<S: Alter>(
     secured: bool,
 ) -> Result<(), Error>
     ensures same_reference { tx.new.conn.ghost_name ≡ tx.old.conn.ghost_name }
-    ensures makes { MakesRows (λ rows. note_at rows note.now.room note.now.count ≡ None) (note_given note.now lock_place secured) (state S.Store tx.old.conn.now) (state S.Store tx.new.conn.now) result }
+    ensures makes { WritesBy S.Store (gives_note note.now lock_place secured) (λ rows. note_at rows note.now.room note.now.count ≡ None) (note_given note.now lock_place secured) tx.old.conn.now tx.new.conn.now result }
 {
     insert_note(tx, note)?;
     set_noted(tx, note.room(), lock_place, secured, note.count())
@@ -34,7 +34,7 @@ pub fn take_note<S: Alter>(
     insides: InsideMove,
 ) -> Result<(), Error>
     ensures same_reference { tx.new.conn.ghost_name ≡ tx.old.conn.ghost_name }
-    ensures makes { MakesRows (λ rows. note_at rows note.now.room note.now.count ≡ None) (made (change.Noted note.now lock_place secured insides)) (state S.Store tx.old.conn.now) (state S.Store tx.new.conn.now) result }
+    ensures makes { WritesBy S.Store (takes_note note.now lock_place secured insides) (λ rows. note_at rows note.now.room note.now.count ≡ None) (made (change.Noted note.now lock_place secured insides)) tx.old.conn.now tx.new.conn.now result }
 {
     match insides {
         InsideMove::Same => give_note(tx, note, lock_place, secured),

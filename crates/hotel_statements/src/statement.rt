@@ -1,7 +1,8 @@
 //! One statement of a transaction.
-ghost use Rattle.std.specs.Prelude.{◌≡◌};
+ghost use Rattle.std.specs.Prelude.{◌≡◌, [], ◌∷◌};
 ghost use Rattle.sqlite.specs.Held.{state};
 ghost use Rattle.sqlite.specs.Values.{bound};
+ghost use Rattle.hotel_statements.specs.Statements.{Runs as RunsAll};
 ghost use Rattle.hotel_statements.specs.Steps.{Runs};
 
 use sqlite::types::ValueRef;
@@ -15,6 +16,7 @@ pub(crate) fn run<S: Alter>(
 ) -> Result<(), Error>
     ensures same_reference { tx.new.conn.ghost_name ≡ tx.old.conn.ghost_name }
     ensures runs { Runs text.now (bound params.now) (state S.Store tx.old.conn.now) (state S.Store tx.new.conn.now) result }
+    ensures answers { RunsAll S.Store ((text.now, bound params.now) ∷ []) tx.old.conn.now tx.new.conn.now result }
 {
     tx.execute(text, params)?;
     Ok(())

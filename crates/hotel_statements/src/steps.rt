@@ -1,9 +1,9 @@
 //! The statements of a transaction: each adds or changes one row.
-ghost use Rattle.std.specs.Prelude.{◌≡◌, None, false};
-ghost use Rattle.sqlite.specs.Held.{state};
+ghost use Rattle.std.specs.Prelude.{◌≡◌, None, false, [], ◌∷◌};
 ghost use Rattle.hotel_core.specs.Model.Rows.{has_kind};
 ghost use Rattle.hotel_core.specs.Books.Lookups.{note_at};
-ghost use Rattle.hotel_statements.specs.Steps.{MakesRows, any_rows, day_set, kind_added, room_added, code_added, stay_added, card_added, note_added, inside_added, inside_gone, room_issued, room_left, room_noted, stay_set};
+ghost use Rattle.hotel_statements.specs.Statements.{WritesBy, sets_day, adds_kind, adds_room, adds_code, adds_stay, adds_card, adds_note, adds_inside, removes_inside, sets_issued, sets_left, sets_noted, sets_state};
+ghost use Rattle.hotel_statements.specs.Steps.{any_rows, day_set, kind_added, room_added, code_added, stay_added, card_added, note_added, inside_added, inside_gone, room_issued, room_left, room_noted, stay_set};
 
 use crate::number::{
     act_card, act_first, act_number, act_second, bit, coded, dated, maybe, numbered, room_of,
@@ -22,7 +22,7 @@ use sqlite::{Alter, Error, Transaction};
 /// Sets the day.
 pub fn set_day<S: Alter>(tx: &mut Transaction<'_, S>, day: Day) -> Result<(), Error>
     ensures same_reference { tx.new.conn.ghost_name ≡ tx.old.conn.ghost_name }
-    ensures makes { MakesRows any_rows (day_set day) (state S.Store tx.old.conn.now) (state S.Store tx.new.conn.now) result }
+    ensures makes { WritesBy S.Store (sets_day day ∷ []) any_rows (day_set day) tx.old.conn.now tx.new.conn.now result }
 {
     run(tx, UPDATE_DAY, &[small(1), dated(day)])
 }
@@ -30,7 +30,7 @@ pub fn set_day<S: Alter>(tx: &mut Transaction<'_, S>, day: Day) -> Result<(), Er
 /// Adds a kind that isn't there.
 pub fn insert_kind<S: Alter>(tx: &mut Transaction<'_, S>, kind: &KindCode) -> Result<(), Error>
     ensures same_reference { tx.new.conn.ghost_name ≡ tx.old.conn.ghost_name }
-    ensures makes { MakesRows (λ rows. has_kind rows kind.now ≡ false) (kind_added kind.now) (state S.Store tx.old.conn.now) (state S.Store tx.new.conn.now) result }
+    ensures makes { WritesBy S.Store (adds_kind kind.now ∷ []) (λ rows. has_kind rows kind.now ≡ false) (kind_added kind.now) tx.old.conn.now tx.new.conn.now result }
 {
     run(tx, INSERT_KIND, &[text(kind.as_bytes())])
 }
@@ -38,7 +38,7 @@ pub fn insert_kind<S: Alter>(tx: &mut Transaction<'_, S>, kind: &KindCode) -> Re
 /// Adds a room.
 pub(crate) fn insert_room<S: Alter>(tx: &mut Transaction<'_, S>, row: RoomRow) -> Result<(), Error>
     ensures same_reference { tx.new.conn.ghost_name ≡ tx.old.conn.ghost_name }
-    ensures makes { MakesRows any_rows (room_added row) (state S.Store tx.old.conn.now) (state S.Store tx.new.conn.now) result }
+    ensures makes { WritesBy S.Store (adds_room row ∷ []) any_rows (room_added row) tx.old.conn.now tx.new.conn.now result }
 {
     let party = row.party;
     run(
@@ -63,7 +63,7 @@ pub(crate) fn insert_code<S: Alter>(
     at: CodeRow,
 ) -> Result<(), Error>
     ensures same_reference { tx.new.conn.ghost_name ≡ tx.old.conn.ghost_name }
-    ensures makes { MakesRows any_rows (code_added code at) (state S.Store tx.old.conn.now) (state S.Store tx.new.conn.now) result }
+    ensures makes { WritesBy S.Store (adds_code code at ∷ []) any_rows (code_added code at) tx.old.conn.now tx.new.conn.now result }
 {
     run(
         tx,
@@ -75,7 +75,7 @@ pub(crate) fn insert_code<S: Alter>(
 /// Adds a stay.
 pub fn insert_stay<S: Alter>(tx: &mut Transaction<'_, S>, stay: &Stay) -> Result<(), Error>
     ensures same_reference { tx.new.conn.ghost_name ≡ tx.old.conn.ghost_name }
-    ensures makes { MakesRows any_rows (stay_added stay.now) (state S.Store tx.old.conn.now) (state S.Store tx.new.conn.now) result }
+    ensures makes { WritesBy S.Store (adds_stay stay.now ∷ []) any_rows (stay_added stay.now) tx.old.conn.now tx.new.conn.now result }
 {
     run(
         tx,
@@ -95,7 +95,7 @@ pub fn insert_stay<S: Alter>(tx: &mut Transaction<'_, S>, stay: &Stay) -> Result
 /// Adds a card.
 pub fn insert_card<S: Alter>(tx: &mut Transaction<'_, S>, card: Card) -> Result<(), Error>
     ensures same_reference { tx.new.conn.ghost_name ≡ tx.old.conn.ghost_name }
-    ensures makes { MakesRows any_rows (card_added card) (state S.Store tx.old.conn.now) (state S.Store tx.new.conn.now) result }
+    ensures makes { WritesBy S.Store (adds_card card ∷ []) any_rows (card_added card) tx.old.conn.now tx.new.conn.now result }
 {
     run(
         tx,
@@ -115,7 +115,7 @@ pub(crate) fn insert_note<S: Alter>(
     note: &LockNote,
 ) -> Result<(), Error>
     ensures same_reference { tx.new.conn.ghost_name ≡ tx.old.conn.ghost_name }
-    ensures makes { MakesRows (λ rows. note_at rows note.now.room note.now.count ≡ None) (note_added note.now) (state S.Store tx.old.conn.now) (state S.Store tx.new.conn.now) result }
+    ensures makes { WritesBy S.Store (adds_note note.now ∷ []) (λ rows. note_at rows note.now.room note.now.count ≡ None) (note_added note.now) tx.old.conn.now tx.new.conn.now result }
 {
     let act = note.act();
     run(
@@ -141,7 +141,7 @@ pub(crate) fn insert_inside<S: Alter>(
     card: CardNo,
 ) -> Result<(), Error>
     ensures same_reference { tx.new.conn.ghost_name ≡ tx.old.conn.ghost_name }
-    ensures makes { MakesRows any_rows (inside_added room card) (state S.Store tx.old.conn.now) (state S.Store tx.new.conn.now) result }
+    ensures makes { WritesBy S.Store (adds_inside room card ∷ []) any_rows (inside_added room card) tx.old.conn.now tx.new.conn.now result }
 {
     run(tx, INSERT_INSIDE, &[numbered(room), numbered(card)])
 }
@@ -153,7 +153,7 @@ pub(crate) fn delete_inside<S: Alter>(
     card: CardNo,
 ) -> Result<(), Error>
     ensures same_reference { tx.new.conn.ghost_name ≡ tx.old.conn.ghost_name }
-    ensures makes { MakesRows any_rows (inside_gone room card) (state S.Store tx.old.conn.now) (state S.Store tx.new.conn.now) result }
+    ensures makes { WritesBy S.Store (removes_inside room card ∷ []) any_rows (inside_gone room card) tx.old.conn.now tx.new.conn.now result }
 {
     run(tx, DELETE_INSIDE, &[numbered(room), numbered(card)])
 }
@@ -166,7 +166,7 @@ pub(crate) fn set_issued<S: Alter>(
     party: PartyNo,
 ) -> Result<(), Error>
     ensures same_reference { tx.new.conn.ghost_name ≡ tx.old.conn.ghost_name }
-    ensures makes { MakesRows any_rows (room_issued room codes party) (state S.Store tx.old.conn.now) (state S.Store tx.new.conn.now) result }
+    ensures makes { WritesBy S.Store (sets_issued room codes party ∷ []) any_rows (room_issued room codes party) tx.old.conn.now tx.new.conn.now result }
 {
     run(
         tx,
@@ -178,7 +178,7 @@ pub(crate) fn set_issued<S: Alter>(
 /// Leaves a room without a party.
 pub fn set_left<S: Alter>(tx: &mut Transaction<'_, S>, room: RoomNo) -> Result<(), Error>
     ensures same_reference { tx.new.conn.ghost_name ≡ tx.old.conn.ghost_name }
-    ensures makes { MakesRows any_rows (room_left room) (state S.Store tx.old.conn.now) (state S.Store tx.new.conn.now) result }
+    ensures makes { WritesBy S.Store (sets_left room ∷ []) any_rows (room_left room) tx.old.conn.now tx.new.conn.now result }
 {
     run(tx, UPDATE_PARTY, &[numbered(room)])
 }
@@ -192,7 +192,7 @@ pub(crate) fn set_noted<S: Alter>(
     notes: Count,
 ) -> Result<(), Error>
     ensures same_reference { tx.new.conn.ghost_name ≡ tx.old.conn.ghost_name }
-    ensures makes { MakesRows any_rows (room_noted room lock_place secured notes) (state S.Store tx.old.conn.now) (state S.Store tx.new.conn.now) result }
+    ensures makes { WritesBy S.Store (sets_noted room lock_place secured notes ∷ []) any_rows (room_noted room lock_place secured notes) tx.old.conn.now tx.new.conn.now result }
 {
     run(
         tx,
@@ -213,7 +213,7 @@ pub fn set_state<S: Alter>(
     state_now: StayState,
 ) -> Result<(), Error>
     ensures same_reference { tx.new.conn.ghost_name ≡ tx.old.conn.ghost_name }
-    ensures makes { MakesRows any_rows (stay_set party state_now) (state S.Store tx.old.conn.now) (state S.Store tx.new.conn.now) result }
+    ensures makes { WritesBy S.Store (sets_state party state_now ∷ []) any_rows (stay_set party state_now) tx.old.conn.now tx.new.conn.now result }
 {
     run(
         tx,

@@ -6,7 +6,8 @@ ghost use Rattle.hotel_core.specs.Books.Change.{made};
 ghost use Rattle.hotel_core.specs.Books.Fits.{HasItsRows};
 ghost use Rattle.hotel_statements.specs.Tables.{rows_in};
 ghost use Rattle.hotel_statements.specs.Books.{IsBooks, IsKept};
-ghost use Rattle.hotel_statements.specs.Steps.{IsMadeOf, MakesRows};
+ghost use Rattle.hotel_statements.specs.Steps.{IsMadeOf};
+ghost use Rattle.hotel_statements.specs.Statements.{WritesBy, statements_of};
 ghost use Rattle.hotel_statements.specs.LookUps.{Looks};
 ghost use Rattle.hotel_tables.specs.Applied.{MayMake, codes_for, Applies};
 
@@ -29,7 +30,7 @@ fn write_change<S: Alter>(
 ) -> Result<(), Error>
     requires { codes < 2 ^ 32 - 1 }
     ensures same_reference { tx.new.conn.ghost_name ≡ tx.old.conn.ghost_name }
-    ensures makes { MakesRows (MayMake change.now codes) (made change.now) (state S.Store tx.old.conn.now) (state S.Store tx.new.conn.now) result }
+    ensures makes { WritesBy S.Store (statements_of change.now codes) (MayMake change.now codes) (made change.now) tx.old.conn.now tx.new.conn.now result }
 {
     match change {
         Change::Begin(day) => set_day(tx, *day),

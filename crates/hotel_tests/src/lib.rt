@@ -11,6 +11,8 @@ mod failing_walks;
 #[cfg(test)]
 mod lists;
 #[cfg(test)]
+mod long_lists;
+#[cfg(test)]
 mod requests;
 #[cfg(test)]
 mod stopped_imports;

@@ -4,6 +4,7 @@ use Rattle.sqlite.specs.Held.{state}
 use Rattle.sqlite.specs.State.{HasCleanDisk}
 use Rattle.hotel_statements.specs.Making.{IsBare, with_meta, with_kind, with_room}
 use Rattle.hotel_statements.proofs.Makers.{make_meta, make_kind, make_room, make_stay}
+use Rattle.hotel_statements.proofs.InTurn.{answered, runs_then, runs_stopped}
 use Rattle.hotel_statements.proofs.making.make_first.Goals as goal
 
 pub returns-clause-made : goal.returns-clause-made
@@ -19,3 +20,18 @@ returns-clause-made g c = λ clean.
     let b2 : IsBare with_kind s2 = c.in_ok-make-2.ensures.made k2 _ _ make_kind (λ _. b1) in
     let b3 : IsBare with_room s3 = c.in_ok-make-3.ensures.made k3 _ _ make_room (λ _. b2) in
     made _ _ make_stay (λ _. b3)) (c.make-4.ensures.made clean)
+
+pub returns-in_err-make-2-clause-answers : goal.returns-in_err-make-2-clause-answers
+returns-in_err-make-2-clause-answers g c =
+    runs_stopped _ c.from_residual-in_err-make-2.result (answered _ c.from_residual-in_err-make-2.ensures.1)
+    (runs_then c.in_ok-make.ensures.answers c.in_err-make-2.ensures.survives c.in_err-make-2.ensures.answers)
+
+pub returns-in_err-make-3-clause-answers : goal.returns-in_err-make-3-clause-answers
+returns-in_err-make-3-clause-answers g c =
+    runs_stopped _ c.from_residual-in_err-make-3.result (answered _ c.from_residual-in_err-make-3.ensures.1)
+    (runs_then (runs_then c.in_ok-make.ensures.answers c.in_ok-make-2.ensures.survives c.in_ok-make-2.ensures.answers) c.in_err-make-3.ensures.survives c.in_err-make-3.ensures.answers)
+
+pub returns-clause-answers : goal.returns-clause-answers
+returns-clause-answers g c =
+    runs_then (runs_then (runs_then c.in_ok-make.ensures.answers c.in_ok-make-2.ensures.survives c.in_ok-make-2.ensures.answers) c.in_ok-make-3.ensures.survives c.in_ok-make-3.ensures.answers)
+    c.make-4.ensures.survives c.make-4.ensures.answers

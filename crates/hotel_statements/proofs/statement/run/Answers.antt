@@ -1,7 +1,8 @@
-use Rattle.std.proofs.Common.{◌≡◌, Ok, ap, rules}
+use Rattle.std.proofs.Common.{◌≡◌, inl, inr, Ok, refl, ap, rules}
 use Rattle.sqlite.specs.Held.{state}
 use Rattle.sqlite.specs.Values.{bound}
 use Rattle.hotel_statements.proofs.Writing.{commit_kept, failing, ran_inside, kept_inside}
+use Rattle.hotel_statements.proofs.InTurn.{ran_one, answered}
 use Rattle.hotel_statements.proofs.statement.run.Goals as goal
 
 pub returns-in_err-execute-clause-runs : goal.returns-in_err-execute-clause-runs
@@ -21,3 +22,11 @@ returns-clause-runs g c =
       kept = λ clean. commit_kept c.args.text.now (bound c.args.params.now) old (state g.S.Store c.execute.new.self.conn.now) (Ok c.in_ok-execute.field-0) (c.in_ok-execute.ensures.runs clean inside);
       survives = c.execute.ensures.survives;
     }
+
+pub returns-in_err-execute-clause-answers : goal.returns-in_err-execute-clause-answers
+returns-in_err-execute-clause-answers g c = record {
+  in_turn = λ clean. inl (_, ran_one g.S.Store _ _ _ _ (c.in_err-execute.ensures.runs clean) c.in_err-execute.ensures.ended, answered c.from_residual.result c.from_residual.ensures.1);
+}
+
+pub returns-clause-answers : goal.returns-clause-answers
+returns-clause-answers g c = record { in_turn = λ clean. inr (_, _, ran_one g.S.Store _ _ _ _ (c.in_ok-execute.ensures.runs clean) c.in_ok-execute.ensures.ended, (refl, refl)) }

@@ -1,8 +1,8 @@
 use Rattle.std.proofs.Common.{[], ◌∷◌, refl}
 use Rattle.hotel_statements.specs.Values.{int}
-use Rattle.hotel_statements.proofs.Ends.{makes_rows}
+use Rattle.hotel_statements.proofs.InTurn.{writes_row}
 use Rattle.hotel_statements.proofs.Made.Deletes.{gone_step}
 use Rattle.hotel_statements.proofs.steps.delete_inside.Goals as goal
 
 pub returns-clause-makes : goal.returns-clause-makes
-returns-clause-makes g c = makes_rows (int c.args.room ∷ int c.args.card ∷ []) c.run.ensures.runs (gone_step _ _ c.args.room c.args.card) (rw (c.numbered.ensures, c.numbered-2.ensures) refl)
+returns-clause-makes g c = writes_row (int c.args.room ∷ int c.args.card ∷ []) c.run.ensures.runs c.run.ensures.answers (gone_step _ _ c.args.room c.args.card) (rw (c.numbered.ensures, c.numbered-2.ensures) refl)

@@ -1,0 +1,150 @@
+-- The SQL statements of each change, with the values of their parameters, and what comes of statements that are run in turn.
+use Rattle.std.specs.Prelude.{ℕ, ◌+◌, ◌≡◌, ◌⊎◌, false, Bool, IsTrue, List, [], ◌∷◌, ◌++◌, Option, Some, None, Result, Ok, Err}
+use Rattle.keycard_rules.specs.declared.card.Card.{Card}
+use Rattle.keycard_rules.specs.Note.{Note}
+use Rattle.hotel_nights.specs.declared.stay.Stay.{Stay}
+use Rattle.hotel_nights.specs.declared.stay.StayState.{StayState}
+use Rattle.hotel_nights.specs.declared.stay.StayState.TheVariants as state
+use Rattle.hotel_core.specs.declared.books.rows.RoomRow.{RoomRow}
+use Rattle.hotel_core.specs.declared.books.rows.CodeRow.{CodeRow}
+use Rattle.hotel_core.specs.declared.books.change.InsideMove.{InsideMove}
+use Rattle.hotel_core.specs.declared.books.change.InsideMove.TheVariants.{Same, Goes, Comes}
+use Rattle.hotel_core.specs.declared.books.change.Change.{Change}
+use Rattle.hotel_core.specs.declared.books.change.Change.TheVariants.{Begin, DayTo, Kind, Room, Reserved, Cancelled, Issue, Spare, CheckedOut, Noted}
+use Rattle.hotel_core.specs.Model.Cases.{room_of_state}
+use Rattle.sqlite.specs.Order.{Row}
+use Rattle.sqlite.specs.State.{HasCleanDisk, ExecutesInside}
+use Rattle.sqlite.specs.Held as held
+use Rattle.sqlite.specs.Held.{Held}
+use Rattle.sqlite_trees.specs.declared.store.Store.{Ghosts}
+use Rattle.sqlite.specs.declared.error.Error.{Error}
+use Rattle.sqlite.specs.declared.error.Error.TheVariants.{SqliteFailure}
+use Rattle.sqlite.specs.declared.error.ErrorCode.TheVariants.{TransactionState}
+use Rattle.hotel_core.specs.Model.Rows.{Rows}
+use Rattle.hotel_statements.specs.Texts as text
+use Rattle.hotel_statements.specs.Values.{int, maybe_int}
+use Rattle.hotel_statements.specs.Columns.{bit_of, state_number, kind_written, room_written, stay_written, code_written, card_written, inside_written, note_written}
+use Rattle.hotel_statements.specs.Steps.{MakesRows}
+
+-- its text, and the values of its parameters
+abbrev pub Statement : Type 0
+Statement = List ℕ × Row
+
+-- ---- one statement for each row
+
+abbrev pub sets_day : ℕ → Statement
+sets_day day = (text.update_day, int 1 ∷ int day ∷ [])
+
+abbrev pub adds_kind : List ℕ → Statement
+adds_kind kind = (text.insert_kind, kind_written kind)
+
+abbrev pub adds_room : RoomRow → Statement
+adds_room row = (text.insert_room, room_written (row.room, row))
+
+abbrev pub adds_code : ℕ → CodeRow → Statement
+adds_code code at = (text.insert_code, code_written (code, at))
+
+abbrev pub adds_stay : Stay → Statement
+adds_stay stay = (text.insert_stay, stay_written (stay.party, stay))
+
+abbrev pub adds_card : Card → Statement
+adds_card card = (text.insert_card, card_written (card.number, card))
+
+abbrev pub adds_note : Note → Statement
+adds_note note = (text.insert_note, note_written ((note.room, note.count), note))
+
+abbrev pub adds_inside : ℕ → ℕ → Statement
+adds_inside room card = (text.insert_inside, inside_written (room, card))
+
+abbrev pub removes_inside : ℕ → ℕ → Statement
+removes_inside room card = (text.delete_inside, inside_written (room, card))
+
+-- how many codes the room has, and its party
+abbrev pub sets_issued : ℕ → ℕ → ℕ → Statement
+sets_issued room codes party = (text.update_issued, int room ∷ int codes ∷ int party ∷ [])
+
+abbrev pub sets_left : ℕ → Statement
+sets_left room = (text.update_party, int room ∷ [])
+
+-- the place of the room's lock, whether it is secured, and how many notes were taken
+abbrev pub sets_noted : ℕ → ℕ → Bool → ℕ → Statement
+sets_noted room lock_place secured notes = (text.update_noted, int room ∷ int lock_place ∷ int (bit_of secured) ∷ int notes ∷ [])
+
+abbrev pub sets_state : ℕ → StayState → Statement
+sets_state party state = (text.update_state, int party ∷ int (state_number state) ∷ maybe_int (room_of_state state) ∷ [])
+
+-- ---- several, in the order in which they run
+
+abbrev pub leaves_room : Option ℕ → List Statement
+leaves_room None = []
+leaves_room (Some room) = sets_left room ∷ []
+
+abbrev pub gives_code : Option ℕ → ℕ → CodeRow → List Statement
+gives_code leaves code at = leaves_room leaves ++ adds_code code at ∷ []
+
+abbrev pub gives_card : Card → ℕ → ℕ → List Statement
+gives_card card room codes = sets_issued room codes card.party ∷ adds_card card ∷ sets_state card.party (state.InHouse room) ∷ []
+
+-- the room had so many codes
+abbrev pub issues_card : Card → ℕ → Option ℕ → ℕ → List Statement
+issues_card card room leaves codes = gives_code leaves card.link.new_code (record { room = room; place = codes }) ++ gives_card card room (codes + 1)
+
+abbrev pub opens_room : ℕ → List ℕ → ℕ → List Statement
+opens_room room kind code =
+    adds_room (record { room = room; kind = kind; lock_place = 0; codes = 1; secured = false; party = None; notes = 0 })
+    ∷ adds_code code (record { room = room; place = 0 }) ∷ []
+
+abbrev pub ends_stay : ℕ → ℕ → List Statement
+ends_stay party room = sets_state party state.Done ∷ sets_left room ∷ []
+
+abbrev pub gives_note : Note → ℕ → Bool → List Statement
+gives_note note lock_place secured = adds_note note ∷ sets_noted note.room lock_place secured note.count ∷ []
+
+abbrev pub moves_card : InsideMove → ℕ → List Statement
+moves_card Same room = []
+moves_card (Goes card) room = removes_inside room card ∷ []
+moves_card (Comes card) room = adds_inside room card ∷ []
+
+abbrev pub takes_note : Note → ℕ → Bool → InsideMove → List Statement
+takes_note note lock_place secured insides = gives_note note lock_place secured ++ moves_card insides note.room
+
+-- those of a change, where so many codes stand at the room of an issue
+abbrev pub statements_of : Change → ℕ → List Statement
+statements_of (Begin day) codes = sets_day day ∷ []
+statements_of (DayTo day) codes = sets_day day ∷ []
+statements_of (Kind kind) codes = adds_kind kind ∷ []
+statements_of (Room room kind code) codes = opens_room room kind code
+statements_of (Reserved stay) codes = adds_stay stay ∷ []
+statements_of (Cancelled party) codes = sets_state party state.Cancelled ∷ []
+statements_of (Issue card room leaves) codes = issues_card card room leaves codes
+statements_of (Spare card) codes = adds_card card ∷ []
+statements_of (CheckedOut party room) codes = ends_stay party room
+statements_of (Noted note lock_place secured insides) codes = takes_note note lock_place secured insides
+
+abbrev pub makes_table : List ℕ → Statement
+makes_table text = (text, [])
+
+-- ---- what comes of them
+
+module _ {S : Type 0} (g : Ghosts S) where
+  -- A statement of a transaction answers as SQLite says; in one that a failure ended it isn't run.
+  abbrev pub RunsOne : Statement → Held S → Held S → Result ℕ Error → Type 0
+  RunsOne s old new result =
+      (IsTrue old.in_transaction × ExecutesInside 0 s.0 s.1 (held.state g old) (held.state g new) result)
+      ⊎ ((old.in_transaction ≡ false) × (result ≡ Err (SqliteFailure TransactionState)) × (new ≡ old))
+
+  -- The statements run in turn, up to the first that fails; its error is the answer.
+  abbrev pub RunsInTurn : List Statement → Held S → Held S → Result (Unit {0}) Error → Type 0
+  RunsInTurn [] old new result = (result ≡ Ok tt) × (new ≡ old)
+  RunsInTurn (s ∷ more) old new result =
+      ((e : Error) × RunsOne s old new (Err e) × (result ≡ Err e))
+      ⊎ ((mid : Held S) × (count : ℕ) × RunsOne s old mid (Ok count) × RunsInTurn more mid new result)
+
+  -- what these statements do, on a disk that returned what was written
+  pub record Runs (statements : List Statement) (old new : Held S) (result : Result (Unit {0}) Error) : Type 0 where
+    pub in_turn : HasCleanDisk (held.state g new) → RunsInTurn statements old new result
+
+  -- These statements are run; where none failed, and the rows fit, the rows are what is made of those before.
+  pub record WritesBy (statements : List Statement) (fits : Rows → Type 0) (make : Rows → Rows) (old new : Held S) (result : Result (Unit {0}) Error) : Type 0 where
+    pub runs : Runs statements old new result
+    pub rows : MakesRows fits make (held.state g old) (held.state g new) result

@@ -1,0 +1,19 @@
+use Rattle.std.proofs.Common.{rules}
+use Rattle.sqlite.specs.Tree.{Trees}
+use Rattle.sqlite.specs.Held.{state}
+use Rattle.sqlite.specs.State.{State, Survives}
+use Rattle.sqlite.proofs.StateLemmas.{survives_then, survives_weaker}
+use Rattle.hotel_statements.specs.Making.{IsEmptyDesk}
+use Rattle.hotel_tables.proofs.create.make_desk.Goals as goal
+
+none_then : {a b c : State} → Survives a b (λ _. ⊥) → Survives b c (λ _. ⊥) → Survives a c (λ _. ⊥)
+none_then {a} {b} {c} one two = survives_then a b c (λ _. ⊥) (λ _. ⊥) (λ _. ⊥) (λ _ _ none. none) (λ _ _ none. none) one two
+
+pub returns-in_err-enter_meta-clause-crash : goal.returns-in_err-enter_meta-clause-crash
+returns-in_err-enter_meta-clause-crash g c =
+    let old = state g.S.Store c.args.conn.now in
+    let start = state g.S.Store c.transaction-tx.result.conn.now in
+    let mid = state g.S.Store c.enter_meta.new.tx.conn.now in
+    let zero : Survives old start (λ _. ⊥) = search rules in
+    let all : Survives old mid (λ _. ⊥) = none_then zero (none_then (none_then c.make_first.ensures.survives c.make_last.ensures.survives) c.enter_meta.ensures.survives) in
+    search (rules, survives_weaker _ _ (λ _. ⊥) IsEmptyDesk (λ _ _ none. absurd none) (none_then all c.drop-tx-in_err-enter_meta.ensures.survives))
