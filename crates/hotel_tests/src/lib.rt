@@ -11,8 +11,6 @@ mod failing_walks;
 #[cfg(test)]
 mod lists;
 #[cfg(test)]
-mod long_lists;
-#[cfg(test)]
 mod requests;
 #[cfg(test)]
 mod stopped_imports;
