@@ -5,7 +5,7 @@
     python3 bench/wrong_bodies.py NAME WORD ..     # those whose names have one of the words, of the gate's own too
 
 They are tried on a copy of the repository, by `rt must-fail`, which says a line of each and what the first open goal was. The first one takes as long as a
-proof of the crate, and each other one 20 to 75 seconds. The libraries below are proved first, where `rt` kept none of them. The status is 1 where
+proof of the crate, and each other one 10 to 75 seconds. The libraries below are proved first, where `rt` kept none of them. The status is 1 where
 one was not refused.
 """
 
