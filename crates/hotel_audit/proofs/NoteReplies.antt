@@ -1,6 +1,6 @@
 -- What a note is answered: Taken, Seen or a refusal.
 use Rattle.std.proofs.Common.{◌≡◌, Bool, true, false, [], ◌∷◌, refl, Ok, Err}
-use Rattle.hotel_core.proofs.Names.{Note, is_failed, failure_in}
+use Rattle.hotel_core.proofs.Names.{Note, is_failed, failure_in, refusal_of}
 use Rattle.keycard_rules.specs.declared.issued.LookFault.{LookFault}
 use Rattle.keycard_rules.specs.declared.issued.LookFault.TheVariants as look
 use Rattle.hotel_core.specs.{declared.reply.Reply.Reply, Model.NoteReplies.IsNoteReply}
@@ -9,7 +9,7 @@ use Rattle.hotel_core.specs.declared.reply.Refusal.TheVariants as refusal
 use Rattle.hotel_audit.specs.declared.answer.LineAnswer.{LineAnswer}
 use Rattle.hotel_audit.specs.declared.answer.LineAnswer.TheVariants.{Taken, Seen, Refused}
 use Rattle.hotel_audit.specs.declared.line.Line.TheVariants as line
-use Rattle.hotel_audit.specs.Import.{IsAnswerTo, answer_of, refusal_by, replies_in}
+use Rattle.hotel_audit.specs.Import.{IsAnswerTo, answer_of, replies_in}
 
 -- the reply to a note that is answered so is that answer's
 pub answered_reply : (note : Note) (given : Reply) (answer : LineAnswer) → Ok answer ≡ answer_of given → IsAnswerTo (line.Note note) answer × (replies_in (answer ∷ []) ≡ given ∷ [])
@@ -34,7 +34,7 @@ failed_reply (reply.Refused r) why e n = by (is_failed (reply.Refused r)) refl
 failed_reply _ why e n = absurd n
 
 -- the failure that is told is the one that the reply tells
-pub failure_told : (given : Reply) (why : LookFault) → Err why ≡ answer_of given → is_failed given ≡ true → failure_in given ≡ refusal_by why ∷ []
+pub failure_told : (given : Reply) (why : LookFault) → Err why ≡ answer_of given → is_failed given ≡ true → failure_in given ≡ refusal_of why ∷ []
 failure_told (reply.Refused refusal.Memory) why e f = let same : why ≡ look.Memory = cc e in rw same refl
 failure_told (reply.Refused refusal.Store) why e f = let same : why ≡ look.Store = cc e in rw same refl
 failure_told _ why e f = cc f

@@ -4,7 +4,7 @@ use Rattle.std.specs.List.{range_with_len, slice_get}
 use Rattle.rand_core.specs.Stream.{Stream}
 use Rattle.keycard_rules.specs.{Note.Note, declared.note.Act.Act}
 use Rattle.keycard_rules.specs.declared.note.Act.TheVariants as act
-use Rattle.hotel_core.specs.{declared.command.Command.Command, declared.reply.Reply.Reply, Model.Answer.moment_of}
+use Rattle.hotel_core.specs.{declared.command.Command.Command, declared.reply.Reply.Reply, Model.Event.moment_of}
 use Rattle.hotel_core.specs.declared.command.Command.TheVariants as command
 use Rattle.hotel_core.specs.declared.reply.Reply.TheVariants as reply
 use Rattle.hotel_core.specs.{Model.Event.Event, Model.Event.Entered, Model.Event.Left, Model.Event.Recoded, Model.History.History, Model.History.◌▷◌, Books.Lookups.note_at}

@@ -78,11 +78,6 @@ failures_of (Store answered taken) = refusal.Store ∷ []
 failures_of (Memory answered taken) = refusal.Memory ∷ []
 failures_of (File why) = []
 
--- the refusal that says which of the two failed
-abbrev pub refusal_by : LookFault → Refusal
-refusal_by look.Memory = refusal.Memory
-refusal_by look.Store = refusal.Store
-
 -- which of the two failed, by the refusal that says so
 abbrev pub failed_by : Refusal → LookFault
 failed_by refusal.Memory = look.Memory

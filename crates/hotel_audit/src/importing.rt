@@ -2,9 +2,9 @@
 ghost use Rattle.std.specs.Prelude.{◌≡◌, ◌<◌, List, [], ◌∷◌, length, IfOk, IfErr, OnErr, Ok, Err};
 ghost use Rattle.rand_core.specs.Stream.{Stream};
 ghost use Rattle.keycard_rules.specs.Rise.{NoFewer};
-ghost use Rattle.hotel_core.specs.{Books.Failures.AreCounted, Model.Leads.Leads, Model.Run.Runs};
+ghost use Rattle.hotel_core.specs.{Books.Failures.AreCounted, Books.Failures.refusal_of, Model.Leads.Leads, Model.Run.Runs};
 ghost use Rattle.hotel_audit.specs.{declared.answer.LineAnswer.LineAnswer, declared.audit_file.AuditFault.AuditFault, declared.line.Line.Line, AuditFile.audit_lines};
-ghost use Rattle.hotel_audit.specs.Import.{AreAnswered, EndsAfter, IsAnswerTo, LinesLeadTo, answer_of, commands_of, failures_of, outcome_of, refusal_by, replies_in};
+ghost use Rattle.hotel_audit.specs.Import.{AreAnswered, EndsAfter, IsAnswerTo, LinesLeadTo, answer_of, commands_of, failures_of, outcome_of, replies_in};
 
 use crate::answer::LineAnswer;
 use crate::audit_file::{AuditFault, read_notes};
@@ -45,7 +45,7 @@ fn answer_line<B: Books>(books: &mut B, line: &Line) -> Result<LineAnswer, LookF
     ensures answer { IfOk result (λ answer. IsAnswerTo line.now answer) }
     ensures step { IfOk result (λ answer. B.is_clean books.new → LinesLeadTo (B.rows books.old) (line.now ∷ []) (answer ∷ []) (B.rows books.new)) }
     ensures unchanged { OnErr result (B.is_clean books.new → B.rows books.new ≡ B.rows books.old) }
-    ensures failed { IfErr result (λ why. B.is_clean books.new → AreCounted (B.failures books.old) (B.failures books.new) (refusal_by why ∷ [])) }
+    ensures failed { IfErr result (λ why. B.is_clean books.new → AreCounted (B.failures books.old) (B.failures books.new) (refusal_of why ∷ [])) }
     ensures was_clean { B.is_clean books.new → B.is_clean books.old }
     ensures counted { NoFewer (B.failures books.old) (B.failures books.new) }
 {

@@ -1,16 +1,16 @@
 -- The names that the proofs of this crate cite most, passed on from one place. Declares nothing.
-pub use Rattle.hotel_core.specs.Books.Change.{codes_of, left_by, made, moved, room_changed, without_party}
-pub use Rattle.hotel_core.specs.Books.Failures.{AreCounted, failure_in, failures_in, times}
+pub use Rattle.hotel_core.specs.Books.Change.{codes_of, freed_by, made, moved, room_changed, without_party}
+pub use Rattle.hotel_core.specs.Books.Failures.{AreCounted, failure_in, failures_in, times, refusal_of}
 pub use Rattle.hotel_core.specs.Books.Fits.{HasItsRows}
 pub use Rattle.hotel_core.specs.Books.Lookups.{card_at, code_at, code_place, codes_in, first_code_at, first_full_on, inside_at, note_at, number_after, room_at, rooms_of_kind, stay_at, stays_of_kind}
 pub use Rattle.hotel_core.specs.Books.Walks.{Hands, StopsAt, Takes, TakesFront, failure_of}
 pub use Rattle.hotel_core.specs.KindRooms.{is_there, rooms_in}
-pub use Rattle.hotel_core.specs.Memory.{HaveCardNumbers, HaveCounts, HaveRoomNumbers, LaterPlacesFree, PlacesAgree, RoomsKnown, StandsForAll, TablesAgree}
-pub use Rattle.hotel_core.specs.Model.Answer.{checks, effect, moment_of, reported, told}
+pub use Rattle.hotel_core.specs.Memory.{HaveCardNumbers, HaveCounts, HaveRoomNumbers, LaterPlacesFree, PlacesAgree, RoomsKnown, CountsNightsOf, TablesAgree}
+pub use Rattle.hotel_core.specs.Model.Answer.{checks, effect, reported, told}
 unfoldable pub use Rattle.hotel_core.specs.Model.Answer.{answer_to}
 pub use Rattle.hotel_core.specs.Model.Cards.{card_of, cards, link_of_party, link_to, newest_link, with_spare}
 pub use Rattle.hotel_core.specs.Model.Cases.{cards_used_up, has_link, is_begun, is_booked, is_booked_state, is_card, is_home, is_in_house, is_kind, is_of_kind, is_party, is_room, is_taken, last_card_of, next_card, next_party, no_link, opens, parties_used_up, room_of, room_of_state, today}
-pub use Rattle.hotel_core.specs.Model.Event.{Begun, Cancelled, CheckIn, CheckOut, Entered, Event, Install, Kind, Left, Moment, NextDay, Recoded, Reserved, Spare, Transfer, note_of}
+pub use Rattle.hotel_core.specs.Model.Event.{Begun, Cancelled, CheckIn, CheckOut, Entered, Event, Install, Kind, Left, Moment, NextDay, Recoded, Reserved, Spare, Transfer, note_of, moment_of}
 pub use Rattle.hotel_core.specs.Model.Guests.{are_none, inside, insiders, leaves, registered, secured, those_in}
 pub use Rattle.hotel_core.specs.Model.Headline.{Assured, Headline, LedgerHolds, NewestOpens, NoCodeTwice, OpensOwnRoom, SafeRoom, TakesTheFirst}
 pub use Rattle.hotel_core.specs.Model.History.{History, start, ◌▷◌}
@@ -29,11 +29,11 @@ pub use Rattle.hotel_core.specs.Model.SoundCards.{act_fits, are_neighbours, card
 pub use Rattle.hotel_core.specs.Model.SoundRooms.{are_in_order, codes_few, count_up, day_before_kinds, day_in_range, each_room, guests_read, has_party, is_day, is_home_of, kinds_read, lock_places, nights_fit, note_counts, parties_in_house, room_kinds_there, room_numbers, rooms_with, secured_hold_last, stay_days, stay_kinds_there, stay_numbers, stay_rooms, stays_on}
 pub use Rattle.hotel_core.specs.Model.Stays.{day, first_full, in_state, kinds, nights, now_is, rooms, rooms_of, stays}
 pub use Rattle.hotel_core.specs.Model.Words.{after, and_last, before, is_one_of, is_that, last_of, pair_cmp, said_of, when, without}
-pub use Rattle.hotel_core.specs.NightIndex.{block_at, block_cmp, counted, holds}
+pub use Rattle.hotel_core.specs.NightIndex.{block_at, block_cmp, counted, spans}
 pub use Rattle.hotel_core.specs.Refinement.ChangeOf.{change_of, comes}
-pub use Rattle.hotel_core.specs.Refinement.Finds.{AnyRows, DrawsCode, Drew, DrewNone, Finds, drawn_or, first_refusal, has_failed, refusal_of, reply_of}
+pub use Rattle.hotel_core.specs.Refinement.Finds.{AnyRows, DrawsCode, Drew, DrewNone, Finds, drawn_or, first_refusal, has_failed, reply_of}
 pub use Rattle.hotel_core.specs.Refinement.Issuing.{HasLink, bars_to_check_in, bars_to_transfer, issued_on}
-pub use Rattle.hotel_core.specs.Refinement.Lift.{Lifts, RunsSafely, as_change}
+pub use Rattle.hotel_core.specs.Refinement.Lift.{Lifts, as_change}
 pub use Rattle.hotel_core.specs.Refinement.ListsOnRows.{arrivals_on, arrives_on, audit_on, awaited_on, behind_row_on, chain_on, chain_row_on, house_row_on, housed, in_house_on, left_behind_on, state_at}
 pub use Rattle.hotel_core.specs.Refinement.Noting.{IsUntaken, opened_on}
 pub use Rattle.hotel_core.specs.Refinement.OnRows.{checks_on, effect_on, has_link_on, held_on, home_link_on, home_on, is_awaited_on, kinds_agree_on, link_on, lock_place_on, place_on, reported_on, room_is_on, said_code_at, secured_after_on, secured_on, told_on}

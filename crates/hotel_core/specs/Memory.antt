@@ -6,7 +6,7 @@ use Rattle.std.specs.BTreeMap.{is_at}
 use Rattle.keycard_rules.specs.{Note.Note, Numbers.IsNumberUpTo}
 use Rattle.hotel_nights.specs.declared.stay.Stay.{Stay}
 use Rattle.hotel_core.specs.{declared.books.rows.RoomRow.RoomRow, declared.books.rows.CodeRow.CodeRow, Model.Words.said_of, Model.Words.pair_cmp}
-use Rattle.hotel_core.specs.{Model.Rows.Rows, Model.Rows.at_number, Books.Lookups.first_code_at, NightIndex.StandsFor, KindRooms.rooms_in}
+use Rattle.hotel_core.specs.{Model.Rows.Rows, Model.Rows.at_number, Books.Lookups.first_code_at, NightIndex.CountsNights, KindRooms.rooms_in}
 
 -- the rows, and how many calls found no memory
 pub record Listed : Type 0 where
@@ -37,8 +37,8 @@ pub record TablesAgree (kinds : List (List ℕ × ℕ)) (rooms : List (ℕ × Ro
   pub rooms_known : RoomsKnown kinds rooms
 
 -- The index has what the stays take.
-abbrev pub StandsForAll : List ((List ℕ × ℕ) × List ℕ) → List (ℕ × Stay) → Type 0
-StandsForAll blocks stays = StandsFor blocks (values_of stays)
+abbrev pub CountsNightsOf : List ((List ℕ × ℕ) × List ℕ) → List (ℕ × Stay) → Type 0
+CountsNightsOf blocks stays = CountsNights blocks (values_of stays)
 
 -- Each pair's second number is a card's.
 abbrev pub HaveCardNumbers : List (ℕ × ℕ) → Type 0

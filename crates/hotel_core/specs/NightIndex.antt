@@ -21,9 +21,9 @@ abbrev pub counted : List ((List ℕ × ℕ) × List ℕ) → List ℕ → ℕ �
 counted blocks kind d = slice_index (block_at blocks kind (d / 32)) (d % 32)
 
 -- it is one of the nights from `arrive` on and before `depart`, of this kind
-abbrev pub holds : List ℕ → ℕ → ℕ → List ℕ → ℕ → Bool
-holds kind arrive depart k d = bytes_eq kind k && (nat_le arrive d && nat_lt d depart)
+abbrev pub spans : List ℕ → ℕ → ℕ → List ℕ → ℕ → Bool
+spans kind arrive depart k d = bytes_eq kind k && (nat_le arrive d && nat_lt d depart)
 
 -- what is counted is what standing stays of these take
-abbrev pub StandsFor : List ((List ℕ × ℕ) × List ℕ) → List Stay → Type 0
-StandsFor blocks stays = (kind : List ℕ) (d : ℕ) → counted blocks kind d ≡ nights_taken stays kind d
+abbrev pub CountsNights : List ((List ℕ × ℕ) × List ℕ) → List Stay → Type 0
+CountsNights blocks stays = (kind : List ℕ) (d : ℕ) → counted blocks kind d ≡ nights_taken stays kind d

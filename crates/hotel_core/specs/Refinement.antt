@@ -7,6 +7,5 @@ pub mod ListsLift
 pub mod Lift
 pub mod StepOnRows
 pub mod Finds
-pub mod Stepping
 pub mod Issuing
 pub mod Noting

@@ -1,7 +1,7 @@
 //! How many stays take each night, found by kind and night.
 ghost use Rattle.std.specs.Prelude.{◌≡◌, ℕ, ◌+◌, ◌-◌, ◌*◌, ◌/◌, ◌^◌, ◌<◌, ◌≤◌, List, [], nat_le, OnOk, OnErr};
 ghost use Rattle.hotel_nights.specs.{Block.one_if, FullNight.first_day, FullNight.is_full, FullNight.takes, declared.stay.Stay.Stay};
-ghost use Rattle.hotel_core.specs.NightIndex.{counted, holds, StandsFor};
+ghost use Rattle.hotel_core.specs.NightIndex.{counted, spans, CountsNights};
 
 use crate::night_counts::{less, more};
 use hotel_nights::{Day, KindCode, Stay};
@@ -51,7 +51,7 @@ impl NightIndex {
     fn count_part(&mut self, kind: &KindCode, from: u16, to: u16) -> Result<(), Memory>
         requires order { from < to }
         requires one_block { to ≤ from / 32 * 32 + 32 }
-        ensures ok { OnOk result ((k : List ℕ) (d : ℕ) → counted self.old k d < 2 ^ 64 - 1 → counted self.new k d ≡ counted self.old k d + one_if (holds kind.now from to k d)) }
+        ensures ok { OnOk result ((k : List ℕ) (d : ℕ) → counted self.old k d < 2 ^ 64 - 1 → counted self.new k d ≡ counted self.old k d + one_if (spans kind.now from to k d)) }
         ensures err { OnErr result ((k : List ℕ) (d : ℕ) → counted self.new k d ≡ counted self.old k d) }
     {
         let block = from / 32;
@@ -73,7 +73,7 @@ impl NightIndex {
     fn uncount_part(&mut self, kind: &KindCode, from: u16, to: u16)
         requires order { from < to }
         requires one_block { to ≤ from / 32 * 32 + 32 }
-        ensures { (k : List ℕ) (d : ℕ) → counted self.new k d ≡ counted self.old k d - one_if (holds kind.now from to k d) }
+        ensures { (k : List ℕ) (d : ℕ) → counted self.new k d ≡ counted self.old k d - one_if (spans kind.now from to k d) }
     {
         let block = from / 32;
         let first = usize::from(from % 32);
@@ -89,7 +89,7 @@ impl NightIndex {
 
     /// One stay less takes each night from `from` on and before `to`.
     fn uncount(&mut self, kind: &KindCode, from: u16, to: u16)
-        ensures { (k : List ℕ) (d : ℕ) → counted self.new k d ≡ counted self.old k d - one_if (holds kind.now from to k d) }
+        ensures { (k : List ℕ) (d : ℕ) → counted self.new k d ≡ counted self.old k d - one_if (spans kind.now from to k d) }
     {
         let mut night = from;
         while night < to {
@@ -101,7 +101,7 @@ impl NightIndex {
 
     /// One stay more takes each night from `from` on and before `to`, or where memory is refused none does.
     fn add_nights(&mut self, kind: &KindCode, from: u16, to: u16) -> Result<(), Memory>
-        ensures ok { OnOk result ((k : List ℕ) (d : ℕ) → counted self.old k d < 2 ^ 63 → counted self.new k d ≡ counted self.old k d + one_if (holds kind.now from to k d)) }
+        ensures ok { OnOk result ((k : List ℕ) (d : ℕ) → counted self.old k d < 2 ^ 63 → counted self.new k d ≡ counted self.old k d + one_if (spans kind.now from to k d)) }
         ensures err { OnErr result ((k : List ℕ) (d : ℕ) → counted self.old k d < 2 ^ 63 → counted self.new k d ≡ counted self.old k d) }
     {
         let mut night = from;
@@ -179,7 +179,7 @@ impl NightIndex {
     /// The first night from `arrive` on and before `depart` that so many of the stays, or more, take in rooms of the kind,
     /// where these are the stays that are counted. It takes no memory.
     pub fn full_night(&self, kind: &KindCode, rooms: u32, arrive: Day, depart: Day) -> Option<Day>
-        ensures { (stays : List Stay) → StandsFor self.now stays → result ≡ first_day (is_full stays kind.now rooms) arrive (depart - arrive) }
+        ensures { (stays : List Stay) → CountsNights self.now stays → result ≡ first_day (is_full stays kind.now rooms) arrive (depart - arrive) }
     {
         self.first_full(kind, rooms, arrive, depart)
     }

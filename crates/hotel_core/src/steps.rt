@@ -4,7 +4,7 @@ ghost use Rattle.rand_core.specs.Stream.{Stream};
 ghost use Rattle.keycard_rules.specs.{Draw.words, Rise.NoFewer};
 ghost use Rattle.hotel_core.specs.{Books.Failures.AreCounted, Books.Failures.failure_in, Model.Leads.Leads, Model.NoteReplies.IsNoteReply, Model.Run.Steps, Model.Run.is_failed};
 ghost use Rattle.hotel_core.specs.{Model.Ranges.IsCommand, Model.Ranges.IsReply, Refinement.Finds.reply_of, Refinement.OnRows.outcome_on, Refinement.StepOnRows.StepsAs};
-ghost use Rattle.hotel_core.specs.Refinement.Stepping.{takes_none};
+ghost use Rattle.hotel_core.specs.Books.Fits.{takes_none};
 ghost use Rattle.hotel_core.specs.declared.command.Command.TheVariants as command;
 
 use crate::books::Books;

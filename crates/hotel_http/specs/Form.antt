@@ -1,4 +1,4 @@
--- The fields of a form, and the value in a path.
+-- The fields of a form.
 use Rattle.std.specs.Prelude.{◌≡◌, ℕ, ◌<◌, length, List, [], ◌∷◌, map, filter, if◌then◌else◌, Option, Some, None}
 use Rattle.std.specs.Cow.{cow_str_bytes}
 use Rattle.std.specs.Str.{bytes_eq}

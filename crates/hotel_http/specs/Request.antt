@@ -70,9 +70,9 @@ abbrev pub wanted_of : Result Request Rejection → Wanted
 wanted_of (Ok request) = Ok (request.task, request.body.items)
 wanted_of (Err why) = Err why
 
-abbrev pub fault_of : ReadFault → RequestFault
-fault_of more.Read = Read
-fault_of more.Memory = Memory
+abbrev pub request_fault_of : ReadFault → RequestFault
+request_fault_of more.Read = Read
+request_fault_of more.Memory = Memory
 
 -- The body of a plan was read behind these bytes, or not.
 abbrev pub EndsBody : Plan → List ℕ → List ℕ → Option (List ℕ) → Option (List ℕ) → Option (List ℕ) → Result (Result Request Rejection) RequestFault → Type 0

@@ -163,8 +163,8 @@ IfUnwritten (Err (Write acted)) P = P
 IfUnwritten _ P = Unit {0}
 
 -- The fault of a request that wasn't read.
-abbrev pub fault_of : RequestFault → ServeFault
-fault_of unread.Closed = Closed
-fault_of unread.Read = Read
-fault_of unread.Memory = Memory
-fault_of unread.Write = Write false
+abbrev pub serve_fault_of : RequestFault → ServeFault
+serve_fault_of unread.Closed = Closed
+serve_fault_of unread.Read = Read
+serve_fault_of unread.Memory = Memory
+serve_fault_of unread.Write = Write false

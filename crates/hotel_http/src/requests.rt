@@ -4,7 +4,7 @@ ghost use Rattle.std.specs.Prelude.{◌≡◌, ◌≢◌, ◌++◌, ◌≤◌, t
 ghost use Rattle.std.specs.Io.KnownBytes.{Appends, Keeps};
 ghost use Rattle.httparse.specs.{Grammar.RequestHead, Spans.IsRequestWithin, Spans.IsRequestAt, Spans.span_bytes};
 ghost use Rattle.hotel_lists.specs.Calls.{NoneForgotten};
-ghost use Rattle.hotel_http.specs.{Plan.plan_in, Request.fault_of, Request.IsMeant, Request.EndsBody, Request.wanted_of, Request.EndsHead, Request.EndsRequest};
+ghost use Rattle.hotel_http.specs.{Plan.plan_in, Request.request_fault_of, Request.IsMeant, Request.EndsBody, Request.wanted_of, Request.EndsHead, Request.EndsRequest};
 ghost use Rattle.hotel_http.specs.declared.requests.RequestFault.TheVariants.{Write, Read, Memory};
 
 use crate::body::{read_body, write_interim};
@@ -40,7 +40,7 @@ pub enum RequestFault {
 }
 
 impl From<ReadFault> for RequestFault {
-    ghost from_gives = { λ fault e. e ≡ fault_of fault };
+    ghost from_gives = { λ fault e. e ≡ request_fault_of fault };
 
     fn from(fault: ReadFault) -> RequestFault {
         match fault {

@@ -7,6 +7,7 @@ use Rattle.csv.specs.Writing.{default_writer, row_text}
 use Rattle.keycard_rules.specs.{Rise.HasRisen, Rise.NoFewer, declared.issued.Issued.Ghosts as IssuedOf, Numerals.code_text, Note.Note, declared.note.Act.Act}
 use Rattle.keycard_rules.specs.declared.issued.LookFault.TheVariants as look
 use Rattle.keycard_rules.specs.declared.note.Act.TheVariants.{Entered, Left, Recoded}
+use Rattle.hotel_core.specs.Model.Event.{moment_of}
 use Rattle.hotel_nights.specs.{Days.day_text, Moments.moment_text, declared.stay.Stay.Stay}
 use Rattle.hotel_core.specs.{declared.books.rows.RoomRow.RoomRow, declared.books.list_rows.HouseRow.HouseRow, declared.books.list_rows.ChainRow.ChainRow}
 use Rattle.hotel_core.specs.{declared.books.list_rows.BehindRow.BehindRow, declared.books.list_rows.CodeState.CodeState, declared.books.walks.WalkFault.WalkFault}
@@ -52,7 +53,7 @@ act_fields (Recoded from to) = codes "recode" ∷ [] ∷ code_text from ∷ code
 
 -- a note
 abbrev pub note_line : Note → List ℕ
-note_line note = line_of (decimal note.room ∷ decimal note.count ∷ act_fields note.act ++ moment_text (note.day, note.second) ∷ [])
+note_line note = line_of (decimal note.room ∷ decimal note.count ∷ act_fields note.act ++ moment_text (moment_of note) ∷ [])
 
 -- the first line of each list
 abbrev pub arrivals_header : List ℕ

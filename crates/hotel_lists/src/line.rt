@@ -3,6 +3,7 @@ ghost use Rattle.std.specs.Prelude.{◌≡◌, ℕ, List, [], ◌∷◌, ◌++�
 ghost use Rattle.std.specs.Fmt.{decimal};
 ghost use Rattle.keycard_rules.specs.Numerals.{code_text};
 ghost use Rattle.hotel_nights.specs.Moments.{moment_text};
+ghost use Rattle.hotel_core.specs.Model.Event.{moment_of};
 ghost use Rattle.hotel_lists.specs.Lines.{line_of, arrival_line, house_line, chain_line, behind_line, note_line, yes_or_no, state_text};
 
 use crate::gathered::Gathered;
@@ -105,7 +106,7 @@ impl Line for BehindRow {
 
 /// When the lock noted it.
 fn moment_of(note: &LockNote) -> Moment
-    ensures { result ≡ (note.now.day, note.now.second) }
+    ensures { result ≡ moment_of note.now }
 {
     let Some(day) = Day::new(note.day()) else {
         unreachable!()

@@ -4,8 +4,8 @@ use Rattle.keycard_rules.specs.Numerals.{numeral, fixed_text}
 use Rattle.hotel_nights.specs.Days.{read_day, day_text, ◌>>=◌}
 
 -- that second of the day, unless a day has fewer
-abbrev pub moment_of : ℕ → ℕ → Option (ℕ × ℕ)
-moment_of day second = if nat_le second 86399 then Some (day, second) else None
+abbrev pub moment_within : ℕ → ℕ → Option (ℕ × ℕ)
+moment_within day second = if nat_le second 86399 then Some (day, second) else None
 
 -- the second of the day that `HH:MM:SS` writes: eight bytes, colons (byte 58), hours to 23, minutes and seconds to 59
 abbrev pub read_time : List ℕ → Option ℕ

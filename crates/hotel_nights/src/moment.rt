@@ -1,7 +1,7 @@
 //! Moments: a day and a second of it.
 
 ghost use Rattle.std.specs.Prelude.{◌≡◌, ℕ, ◌≤◌, Some};
-ghost use Rattle.hotel_nights.specs.Moments.{moment_of, read_moment, read_time, moment_text, time_text};
+ghost use Rattle.hotel_nights.specs.Moments.{moment_within, read_moment, read_time, moment_text, time_text};
 
 use crate::day::{Day, two_digits};
 use keycard_rules::read_numeral;
@@ -60,7 +60,7 @@ fn print_time(second: u32) -> [u8; 8]
 impl Moment {
     /// That second of the day; `None` above 86,399.
     pub fn new(day: Day, second: u32) -> Option<Moment>
-        ensures { result ≡ moment_of day second }
+        ensures { result ≡ moment_within day second }
     {
         if second > LAST_SECOND {
             return None;

@@ -1,12 +1,6 @@
-pub mod ReturnLemmas
-pub mod WordLemmas
-pub mod CountedLemmas
-pub mod ScriptLemmas
-pub mod ListAnswerLemmas
-pub mod LineAnswerLemmas
+pub mod OfScript
 pub mod ListRunLemmas
 pub mod AuditRunLemmas
-pub mod ScriptRunLemmas
 pub mod ProgramLemmas
 pub mod CommandLineLemmas
 pub mod PlanLemmas

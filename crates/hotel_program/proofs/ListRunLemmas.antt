@@ -9,8 +9,8 @@ use Rattle.hotel_lists.specs.Bytes.{AppendsFront}
 use Rattle.hotel_lists.specs.declared.fault.ListFault.{ListFault}
 use Rattle.hotel_lists.specs.declared.fault.ListFault.TheVariants as fault
 use Rattle.hotel_asks.specs.declared.lists.ListAsk.{ListAsk}
-use Rattle.hotel_program.specs.ListAnswers.{refusal_text}
-use Rattle.hotel_program.specs.ListRuns.{AnswerEnds, AnswerEndsFor}
+use Rattle.hotel_program.specs.Script.ListAnswers.{refusal_text}
+use Rattle.hotel_program.specs.Alone.ListRuns.{AnswerEnds, AnswerEndsFor}
 use Rattle.hotel_asks.specs.Listings.{ListEnds, Listing, listing_on}
 use Rattle.hotel_asks.proofs.ListEndLemmas.{is_text}
 use Rattle.hotel_asks.proofs.ListingLemmas.{listing_stands}

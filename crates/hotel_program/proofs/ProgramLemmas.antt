@@ -12,9 +12,9 @@ use Rattle.hotel_core.proofs.Starts.StartRows.{rows_of_start}
 use Rattle.hotel_program.specs.declared.script.ScriptEnd.{ScriptEnd}
 use Rattle.hotel_program.specs.declared.script.ScriptFault.{ScriptFault}
 use Rattle.hotel_program.specs.declared.script.ScriptFault.TheVariants.{Read, TooLarge, Memory, Write}
-use Rattle.hotel_program.specs.Lines.{answered_lines}
-use Rattle.hotel_program.specs.Program.{zero_seeded, OverNewDesk, ScriptEnds}
-use Rattle.hotel_program.specs.Script.{ScriptAnswered, ScriptCut, IsInput, IfCut, IfUnbegun, NothingBegun}
+use Rattle.hotel_program.specs.Script.Lines.{answered_lines}
+use Rattle.hotel_program.specs.Program.{zero_seeded, OverNewDesk, EndsOverNewDesk}
+use Rattle.hotel_program.specs.Script.WholeScript.{ScriptAnswered, ScriptCut, IsInput, IfCut, IfUnbegun, NothingBegun}
 
 new_desk : (went : Stream → Stream → (LookFault → ℕ) → (LookFault → ℕ) → History → History → Type 0) (rows rows' : Rows) (s s' : Stream) (n m : ℕ)
     → rows ≡ no_rows → n ≡ 0 → s ≡ zero_seeded → IsSound no_rows → Leads rows (went s s' (of_memory n) (of_memory m)) rows' → OverNewDesk went
@@ -34,7 +34,7 @@ pub script_ends : {W B S C : Type 0} (contents : W → Option (List ℕ)) (known
     × (C → Leads rows (ScriptCut (take done (answered_lines script)) s s' (contents old) (contents new) (of_memory n) (of_memory m)) rows'))
     → IfUnbegun end (NothingBegun books books' source source' old new)
     → (IsErrOf end TooLarge → IfSome known (λ input. 1048576 < length input))
-    → ScriptEnds contents known old new end
+    → EndsOverNewDesk contents known old new end
 script_ends contents known old new books books' source source' rows rows' s s' n m (Ok end) clean at_rows at_zero at_source sound ok cut unbegun large =
     (ok.0, ok.1, ok.2, new_desk (λ s s' counts counts'. ScriptAnswered (answered_lines ok.0) s s' (contents old) (contents new) counts counts') rows rows' s s' n m at_rows at_zero at_source sound (ok.3 clean))
 script_ends contents known old new books books' source source' rows rows' s s' n m (Err (Write done)) clean at_rows at_zero at_source sound ok cut unbegun large =

@@ -15,13 +15,13 @@ use Rattle.hotel_lists.specs.declared.fault.ListFault.{ListFault}
 use Rattle.hotel_asks.specs.declared.lists.ListAsk.{ListAsk}
 use Rattle.hotel_audit.specs.declared.answer.LineAnswer.{LineAnswer}
 use Rattle.hotel_audit.specs.declared.importing.ImportFault.{ImportFault}
-use Rattle.hotel_program.specs.AuditRuns.{audit_end, WritesAnswers, ImportEnds}
-use Rattle.hotel_program.specs.CommandRuns.{command_end, CommandEnds, WritesReply}
+use Rattle.hotel_program.specs.Alone.AuditRuns.{audit_end, WritesAnswers, ImportEnds}
+use Rattle.hotel_program.specs.Alone.CommandRuns.{command_end, CommandEnds, WritesReply}
 use Rattle.hotel_program.specs.Faults.{end_status, Tells, TellsAll}
-use Rattle.hotel_program.specs.Lines.{answered_lines}
-use Rattle.hotel_program.specs.ListRuns.{AnswerEndsFor, list_end}
+use Rattle.hotel_program.specs.Script.Lines.{answered_lines}
+use Rattle.hotel_program.specs.Alone.ListRuns.{AnswerEndsFor, list_end}
 use Rattle.hotel_program.specs.Program.{script_end}
-use Rattle.hotel_program.specs.Script.{ScriptAnswered, ScriptCut, IsInput, IfCut, IfUnbegun, NothingBegun}
+use Rattle.hotel_program.specs.Script.WholeScript.{ScriptAnswered, ScriptCut, IsInput, IfCut, IfUnbegun, NothingBegun}
 use Rattle.hotel_program.specs.Serving.{ConnectionEnd, ServesAll, faults_of}
 use Rattle.hotel_program.specs.declared.command_line.plan.DeskAct.{DeskAct}
 use Rattle.hotel_program.specs.declared.command_line.plan.DeskAct.TheVariants.{One, List as AList, Audit, Script, Serve}
@@ -56,7 +56,7 @@ EndsBy v end status old new = (status ≡ end_status end) × Tells v.told old.fa
 abbrev pub OneEnds : {S R W F E : Type 0} → Views S R W F E → Command → ℕ → Desk S R W F E → Desk S R W F E → Type 0
 OneEnds v command status old new = (reply : Reply) × (write_failed : Bool) × EndsBy v (command_end reply write_failed) status old new
     × WritesReply (v.contents old.writer) (v.contents new.writer) reply write_failed
-    × CommandEnds v.issued.is_clean v.rows v.issued.failures command reply old.books new.books (v.stream old.source) (v.stream new.source)
+    × CommandEnds v.issued v.rows command reply old.books new.books (v.stream old.source) (v.stream new.source)
     × (new.around ≡ old.around)
 
 -- A list: its text over the history.
@@ -69,7 +69,7 @@ ListEnds v its_list status old new = (end : Result (Unit {0}) ListFault) × Ends
 abbrev pub AuditEnds : {S R W F E : Type 0} → Views S R W F E → List ℕ → ℕ → Desk S R W F E → Desk S R W F E → Type 0
 AuditEnds v bytes status old new = (outcome : Result (List LineAnswer) ImportFault) × (write_failed : Bool) × EndsBy v (audit_end outcome write_failed) status old new
     × WritesAnswers v.contents old.writer new.writer outcome write_failed
-    × ImportEnds v.issued.is_clean v.rows v.issued.failures bytes old.books new.books outcome
+    × ImportEnds v.issued v.rows bytes old.books new.books outcome
     × (new.source ≡ old.source) × (new.around ≡ old.around)
 
 -- What came of a script that ended so, of which these bytes are known.

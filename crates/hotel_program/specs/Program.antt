@@ -17,8 +17,8 @@ use Rattle.hotel_program.specs.declared.faults.Fault.TheVariants as fault
 use Rattle.hotel_program.specs.declared.script.ScriptEnd.{ScriptEnd}
 use Rattle.hotel_program.specs.declared.script.ScriptFault.{ScriptFault}
 use Rattle.hotel_program.specs.declared.script.ScriptFault.TheVariants.{Read, TooLarge, Memory, Write}
-use Rattle.hotel_program.specs.Lines.{answered_lines}
-use Rattle.hotel_program.specs.Script.{ScriptAnswered, ScriptCut, IsInput}
+use Rattle.hotel_program.specs.Script.Lines.{answered_lines}
+use Rattle.hotel_program.specs.Script.WholeScript.{ScriptAnswered, ScriptCut, IsInput}
 
 -- There are no words after the program's name.
 abbrev pub HasNoWords : Result (Vec (String Global) Global) Error → Type 0
@@ -49,13 +49,13 @@ abbrev pub OverNewDesk : (Stream → Stream → (LookFault → ℕ) → (LookFau
 OverNewDesk went = (h : History) × (s : Stream) × (n : ℕ) × went zero_seeded s (of_memory 0) (of_memory n) (start no_rows) h × Assured h
 
 -- A script over a new desk ended so: all its lines were answered; after a failed write, its lines were cut short at one; after another fault the writer took nothing.
-abbrev pub ScriptEnds : {W : Type 0} → (W → Option (List ℕ)) → Option (List ℕ) → W → W → Result ScriptEnd ScriptFault → Type 0
-ScriptEnds contents known old new (Ok end) = (script : List ℕ) × IsInput known script × (end.lines ≡ length (answered_lines script))
+abbrev pub EndsOverNewDesk : {W : Type 0} → (W → Option (List ℕ)) → Option (List ℕ) → W → W → Result ScriptEnd ScriptFault → Type 0
+EndsOverNewDesk contents known old new (Ok end) = (script : List ℕ) × IsInput known script × (end.lines ≡ length (answered_lines script))
     × OverNewDesk (λ s s' counts counts'. ScriptAnswered (answered_lines script) s s' (contents old) (contents new) counts counts')
-ScriptEnds contents known old new (Err (Write done)) = (script : List ℕ) × IsInput known script × (1 ≤ done) × (done ≤ length (answered_lines script))
+EndsOverNewDesk contents known old new (Err (Write done)) = (script : List ℕ) × IsInput known script × (1 ≤ done) × (done ≤ length (answered_lines script))
     × OverNewDesk (λ s s' counts counts'. ScriptCut (take done (answered_lines script)) s s' (contents old) (contents new) counts counts')
-ScriptEnds contents known old new (Err TooLarge) = IfSome known (λ input. 1048576 < length input) × (new ≡ old)
-ScriptEnds contents known old new (Err _) = new ≡ old
+EndsOverNewDesk contents known old new (Err TooLarge) = IfSome known (λ input. 1048576 < length input) × (new ≡ old)
+EndsOverNewDesk contents known old new (Err _) = new ≡ old
 
 -- The exit status of a script that ended so, or the fault that is told.
 abbrev pub script_end : Result ScriptEnd ScriptFault → Result ℕ Fault

@@ -5,11 +5,9 @@ ghost use Rattle.hotel_program.specs.Acts.{ActEnds};
 ghost use Rattle.hotel_program.specs.Faults.{end_status};
 ghost use Rattle.hotel_program.specs.Program.{script_end};
 
-use crate::audit_runs::run_audit;
+use crate::alone::{run_audit, run_list, run_one};
 use crate::command_line::DeskAct;
-use crate::command_runs::run_one;
 use crate::faults::{Fault, FaultSink, finish};
-use crate::list_runs::run_list;
 use crate::listening::run_serve;
 use crate::script::{ScriptEnd, ScriptFault, run_script};
 use crate::statuses::DONE;

@@ -8,7 +8,7 @@ ghost use Rattle.hotel_program.specs.declared.script.ScriptEnd.{ScriptEnd};
 ghost use Rattle.hotel_program.specs.declared.script.ScriptFault.{ScriptFault};
 ghost use Rattle.hotel_program.specs.Faults.{end_status, IsOfFiles, Tells};
 ghost use Rattle.hotel_program.specs.Plan.{outer_views, FileIsRead, InMemory, OverBooks, PlanEnds, UsageSaid, WordsEnd};
-ghost use Rattle.hotel_program.specs.Program.{HasNoWords, IfWords, IsNoText, LacksMemory, ScriptEnds, script_end};
+ghost use Rattle.hotel_program.specs.Program.{HasNoWords, IfWords, IsNoText, LacksMemory, EndsOverNewDesk, script_end};
 
 use crate::acts::{end_of_script, run_act};
 use crate::command_line::{DeskAct, FileName, Plan, UsageFault, parse_words};
@@ -30,7 +30,7 @@ fn answer_script<I: Read, W: Write>(
     reader: &mut I,
     writer: &mut W,
 ) -> Result<u8, Fault>
-    ensures { (end : Result ScriptEnd ScriptFault) × (result ≡ script_end end) × ScriptEnds W.contents (I.remaining reader.old) writer.old writer.new end }
+    ensures { (end : Result ScriptEnd ScriptFault) × (result ≡ script_end end) × EndsOverNewDesk W.contents (I.remaining reader.old) writer.old writer.new end }
 {
     let mut books = ListBooks::empty(alloc);
     books.known_sound();
@@ -230,7 +230,7 @@ pub fn run_program<I: Read, W: Write, F: FaultSink, E: Surroundings>(
     ensures no_text { IsNoText words → (result ≡ 2) × F.told faults.old Usage faults.new × (reader.new ≡ reader.old) × (writer.new ≡ writer.old) × (around.new ≡ around.old) }
     ensures memory { LacksMemory words → (result ≡ 4) × F.told faults.old Memory faults.new × (reader.new ≡ reader.old) × (writer.new ≡ writer.old) × (around.new ≡ around.old) }
     ensures script { HasNoWords words → (end : Result ScriptEnd ScriptFault) × (result ≡ end_status (script_end end)) × Tells F.told faults.old (script_end end) faults.new
-        × ScriptEnds W.contents (I.remaining reader.old) writer.old writer.new end × (around.new ≡ around.old) }
+        × EndsOverNewDesk W.contents (I.remaining reader.old) writer.old writer.new end × (around.new ≡ around.old) }
     ensures words { IfWords words (λ texts. WordsEnd (outer_views W.contents F.told F.shown E.seed_read E.file_read E.books_opened E.port_bound ⟦<ListBooks as Issued>⟧ E.Books.Issued E.Books.rows)
         (I.remaining reader.old) texts result
         (record { writer = writer.old; faults = faults.old; around = around.old }) (record { writer = writer.new; faults = faults.new; around = around.new })) }

@@ -5,11 +5,19 @@ ghost use Rattle.keycard_rules.specs.Rise.{NoFewer};
 ghost use Rattle.hotel_core.specs.Model.Leads.{Leads};
 ghost use Rattle.hotel_lists.specs.Calls.{NoneForgotten};
 ghost use Rattle.hotel_program.specs.declared.script.ScriptFault.TheVariants.{TooLarge};
-ghost use Rattle.hotel_program.specs.Lines.{answered_lines};
-ghost use Rattle.hotel_program.specs.Script.{ScriptAnswered, ScriptCut, IsInput, IfCut, IfUnbegun, NothingBegun, fault_of};
+ghost use Rattle.hotel_program.specs.Script.Lines.{answered_lines};
+ghost use Rattle.hotel_program.specs.Script.WholeScript.{ScriptAnswered, ScriptCut, IsInput, IfCut, IfUnbegun, NothingBegun, fault_of};
 
-use crate::line_answers::answer_line;
-use crate::lines::{first_line, is_silent, without_return};
+mod asks;
+mod line_answers;
+mod line_values;
+mod lines;
+mod list_answers;
+mod script_run;
+mod words;
+
+use crate::script::line_answers::answer_line;
+use crate::script::lines::{first_line, is_silent, without_return};
 use hotel_core::Walks;
 use hotel_lists::{IoCalls, WholeFault, read_whole};
 use rand_core::Rng;

@@ -8,25 +8,25 @@ use Rattle.hotel_core.specs.Model.Words.{pair_cmp}
 use Rattle.hotel_core.specs.Model.SoundRooms.{are_in_order, day_in_range, day_before_kinds, kinds_read, room_numbers, lock_places, room_kinds_there, codes_few, note_counts, parties_in_house, secured_hold_last, stay_numbers, guests_read, stay_kinds_there, stay_days, stay_rooms, nights_fit}
 use Rattle.hotel_core.specs.Model.SoundCards.{codes_in_range, code_rooms_there, places_once, card_numbers, card_parties_there, links_are_neighbours, links_of_one_party, neighbours_are_links, newest_of_party, last_cards_newest, insides_fit, notes_fit, notes_counted}
 use Rattle.hotel_core.specs.Model.Sound.{IsSound}
-use Rattle.hotel_rows.specs.declared.stored.RoomLine.{RoomLine}
-use Rattle.hotel_rows.specs.declared.stored.StayLine.{StayLine}
-use Rattle.hotel_rows.specs.declared.stored.NoteLine.{NoteLine}
+use Rattle.hotel_rows.specs.declared.stored.PlainRoom.{PlainRoom}
+use Rattle.hotel_rows.specs.declared.stored.PlainStay.{PlainStay}
+use Rattle.hotel_rows.specs.declared.stored.PlainNote.{PlainNote}
 use Rattle.hotel_rows.specs.declared.stored.Stored.{Stored}
 use Rattle.hotel_rows.specs.declared.stored.TableName.{TableName}
 use Rattle.hotel_rows.specs.declared.stored.TableName.TheVariants as table
 use Rattle.hotel_rows.specs.Stored.{number_of, rows_of}
 
 -- a room's column `secured` is 0 or 1
-abbrev pub room_columns : RoomLine → Bool
-room_columns line = nat_le (number_of line.secured) 1
+abbrev pub room_columns : PlainRoom → Bool
+room_columns plain = nat_le (number_of plain.secured) 1
 
 -- a stay's state is 0 to 3, and it has a room exactly in state 1, in house
-abbrev pub stay_columns : StayLine → Bool
-stay_columns line = nat_le (number_of line.state) 3 && (if is_some line.room then number_of line.state == 1 else not (number_of line.state == 1))
+abbrev pub stay_columns : PlainStay → Bool
+stay_columns plain = nat_le (number_of plain.state) 3 && (if is_some plain.room then number_of plain.state == 1 else not (number_of plain.state == 1))
 
 -- a note's act is 0 to 2, and it has a card but in act 2, recoded
-abbrev pub note_columns : NoteLine → Bool
-note_columns line = nat_le (number_of line.act) 2 && (if is_some line.card then nat_le (number_of line.act) 1 else number_of line.act == 2)
+abbrev pub note_columns : PlainNote → Bool
+note_columns plain = nat_le (number_of plain.act) 2 && (if is_some plain.card then nat_le (number_of plain.act) 1 else number_of plain.act == 2)
 
 abbrev pub meta_holds : Stored → Bool
 meta_holds s = day_in_range (rows_of s) && day_before_kinds (rows_of s)

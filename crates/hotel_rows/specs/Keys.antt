@@ -3,31 +3,31 @@ use Rattle.std.specs.Prelude.{ℕ, ◌≡◌, ◌==◌, ◌&&◌, nat_le, length
 use Rattle.std.specs.Ordering.{nat_cmp}
 use Rattle.hotel_core.specs.Model.SoundRooms.{are_in_order, count_up}
 use Rattle.hotel_core.specs.Model.Rows.{at_number}
-use Rattle.hotel_rows.specs.declared.stored.RoomLine.{RoomLine}
-use Rattle.hotel_rows.specs.declared.stored.StayLine.{StayLine}
-use Rattle.hotel_rows.specs.declared.stored.CodeLine.{CodeLine}
-use Rattle.hotel_rows.specs.declared.stored.CardLine.{CardLine}
-use Rattle.hotel_rows.specs.declared.stored.NoteLine.{NoteLine}
+use Rattle.hotel_rows.specs.declared.stored.PlainRoom.{PlainRoom}
+use Rattle.hotel_rows.specs.declared.stored.PlainStay.{PlainStay}
+use Rattle.hotel_rows.specs.declared.stored.PlainCode.{PlainCode}
+use Rattle.hotel_rows.specs.declared.stored.PlainCard.{PlainCard}
+use Rattle.hotel_rows.specs.declared.stored.PlainNote.{PlainNote}
 use Rattle.hotel_rows.specs.Stored.{number_of}
 
-abbrev pub room_key : RoomLine → ℕ
-room_key line = number_of line.room
+abbrev pub room_key : PlainRoom → ℕ
+room_key plain = number_of plain.room
 
-abbrev pub stay_key : StayLine → ℕ
-stay_key line = number_of line.party
+abbrev pub stay_key : PlainStay → ℕ
+stay_key plain = number_of plain.party
 
-abbrev pub code_key : CodeLine → ℕ
-code_key line = number_of line.code
+abbrev pub code_key : PlainCode → ℕ
+code_key plain = number_of plain.code
 
-abbrev pub card_key : CardLine → ℕ
-card_key line = number_of line.number
+abbrev pub card_key : PlainCard → ℕ
+card_key plain = number_of plain.number
 
-abbrev pub note_key : NoteLine → ℕ × ℕ
-note_key line = (number_of line.room, number_of line.n)
+abbrev pub note_key : PlainNote → ℕ × ℕ
+note_key plain = (number_of plain.room, number_of plain.n)
 
 -- the code that a card brought
-abbrev pub new_code_of : CardLine → ℕ
-new_code_of line = number_of line.new_code
+abbrev pub new_code_of : PlainCard → ℕ
+new_code_of plain = number_of plain.new_code
 
 -- where a key stands first
 abbrev pub place_in : List ℕ → ℕ → Option ℕ

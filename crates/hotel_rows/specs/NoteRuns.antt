@@ -5,8 +5,8 @@ use Rattle.hotel_core.specs.Model.Rows.{at_number, notes_at}
 use Rattle.hotel_core.specs.Model.SoundRooms.{count_up}
 use Rattle.hotel_core.specs.Model.SoundCards.{counts_at}
 use Rattle.hotel_rows.specs.declared.damage.note_runs.NoteRun.{NoteRun}
-use Rattle.hotel_rows.specs.declared.stored.NoteLine.{NoteLine}
-use Rattle.hotel_rows.specs.declared.stored.RoomLine.{RoomLine}
+use Rattle.hotel_rows.specs.declared.stored.PlainNote.{PlainNote}
+use Rattle.hotel_rows.specs.declared.stored.PlainRoom.{PlainRoom}
 use Rattle.hotel_rows.specs.Stored.{number_of, note_entry}
 
 -- the first and the last of some counts, and whether they count up
@@ -15,9 +15,9 @@ run_of [] = None
 run_of (n ∷ ns) = Some (record { first = n; last = last_of (n ∷ ns); counted = count_up n (n ∷ ns) })
 
 -- the map has what the counts of each room are
-abbrev pub RunsOf : List (ℕ × NoteRun) → List NoteLine → Type 0
-RunsOf runs lines = (room : ℕ) → at_number runs room ≡ run_of (counts_at (notes_at (map note_entry lines) room))
+abbrev pub RunsOf : List (ℕ × NoteRun) → List PlainNote → Type 0
+RunsOf runs plain_rows = (room : ℕ) → at_number runs room ≡ run_of (counts_at (notes_at (map note_entry plain_rows) room))
 
 -- the counts of the room's notes are 1 and on, as many as the room's row says
-abbrev pub counted_as_due : List (ℕ × NoteRun) → RoomLine → Bool
-counted_as_due runs line = said_of (at_number runs (number_of line.room)) (number_of line.notes == 0) (λ run. run.counted && (run.first == 1) && (run.last == number_of line.notes))
+abbrev pub counted_as_due : List (ℕ × NoteRun) → PlainRoom → Bool
+counted_as_due runs plain = said_of (at_number runs (number_of plain.room)) (number_of plain.notes == 0) (λ run. run.counted && (run.first == 1) && (run.last == number_of plain.notes))

@@ -5,18 +5,18 @@ use Rattle.std.specs.Map.{lookup}
 use Rattle.keycard_rules.specs.declared.card.Link.{Link}
 use Rattle.hotel_core.specs.Model.Words.{pair_cmp, is_that}
 use Rattle.hotel_core.specs.Model.Notes.{same_link}
-use Rattle.hotel_rows.specs.declared.stored.CardLine.{CardLine}
+use Rattle.hotel_rows.specs.declared.stored.PlainCard.{PlainCard}
 use Rattle.hotel_rows.specs.Stored.{number_of, link_row}
 
 -- the party of the first card of a link
-abbrev pub owner_in : List CardLine → Link → Option ℕ
+abbrev pub owner_in : List PlainCard → Link → Option ℕ
 owner_in [] link = None
 owner_in (c ∷ cs) link = if same_link (link_row c) link then Some (number_of c.party) else owner_in cs link
 
 -- the map has the party of each link
-abbrev pub OwnersOf : List ((ℕ × ℕ) × ℕ) → List CardLine → Type 0
-OwnersOf owners lines = (old new : ℕ) → lookup (is_at (pair_cmp (old, new))) owners ≡ owner_in lines (record { old_code = old; new_code = new })
+abbrev pub OwnersOf : List ((ℕ × ℕ) × ℕ) → List PlainCard → Type 0
+OwnersOf owners plain_rows = (old new : ℕ) → lookup (is_at (pair_cmp (old, new))) owners ≡ owner_in plain_rows (record { old_code = old; new_code = new })
 
 -- the card's party is that of the first card of its link
-abbrev pub is_own : List CardLine → CardLine → Bool
-is_own lines line = is_that (owner_in lines (link_row line)) (number_of line.party)
+abbrev pub is_own : List PlainCard → PlainCard → Bool
+is_own plain_rows plain = is_that (owner_in plain_rows (link_row plain)) (number_of plain.party)

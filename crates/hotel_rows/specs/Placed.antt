@@ -9,8 +9,8 @@ use Rattle.hotel_core.specs.Model.Notes.{same_link}
 use Rattle.keycard_rules.specs.declared.card.Link.{Link}
 use Rattle.hotel_core.specs.Model.SoundRooms.{count_up}
 use Rattle.hotel_rows.specs.declared.damage.placed.Placed.{Placed}
-use Rattle.hotel_rows.specs.declared.stored.CodeLine.{CodeLine}
-use Rattle.hotel_rows.specs.declared.stored.RoomLine.{RoomLine}
+use Rattle.hotel_rows.specs.declared.stored.PlainCode.{PlainCode}
+use Rattle.hotel_rows.specs.declared.stored.PlainRoom.{PlainRoom}
 use Rattle.hotel_rows.specs.Stored.{number_of, code_entry}
 
 -- the codes of a room by place
@@ -22,9 +22,9 @@ abbrev pub listed_in : List (ℕ × Placed) → ℕ → ℕ
 listed_in placed room = said_of (at_number placed room) 0 (λ p. p.listed)
 
 -- the map has the codes of each room
-abbrev pub PlacesOf : List (ℕ × Placed) → List CodeLine → Type 0
-PlacesOf placed lines = (room : ℕ) → (places_in placed room ≡ codes_by_place (map code_entry lines) room)
-    × (listed_in placed room ≡ count_by (λ (row : CodeRow). row.room == room) (values_of (map code_entry lines)))
+abbrev pub PlacesOf : List (ℕ × Placed) → List PlainCode → Type 0
+PlacesOf placed plain_rows = (room : ℕ) → (places_in placed room ≡ codes_by_place (map code_entry plain_rows) room)
+    × (listed_in placed room ≡ count_by (λ (row : CodeRow). row.room == room) (values_of (map code_entry plain_rows)))
 
 -- the places of the room's codes are 0 and on, each once, so many
 abbrev pub are_due_at : List (ℕ × Placed) → ℕ → ℕ → Bool
@@ -32,8 +32,8 @@ are_due_at placed room codes =
     count_up 0 (keys_of (places_in placed room)) && (length (values_of (places_in placed room)) == codes) && (listed_in placed room == codes)
 
 -- the same, as many as the room's row says
-abbrev pub placed_as_due : List (ℕ × Placed) → RoomLine → Bool
-placed_as_due placed line = are_due_at placed (number_of line.room) (number_of line.codes)
+abbrev pub placed_as_due : List (ℕ × Placed) → PlainRoom → Bool
+placed_as_due placed plain = are_due_at placed (number_of plain.room) (number_of plain.codes)
 
 -- the room's last two codes are this link
 abbrev pub is_last_link : List (ℕ × Placed) → ℕ → Link → Bool

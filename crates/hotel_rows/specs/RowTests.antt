@@ -16,12 +16,12 @@ use Rattle.hotel_core.specs.Model.Rows.{Rows, has_kind, at_number}
 use Rattle.hotel_core.specs.Model.Cases.{room_of_state}
 use Rattle.hotel_core.specs.Model.SoundRooms.{is_home_of, is_day, has_party}
 use Rattle.hotel_core.specs.Model.SoundCards.{are_neighbours, comes_later, code_is, room_is, card_is, stands_at, act_fits, fits_inside, is_newest, has_newest}
-use Rattle.hotel_rows.specs.declared.stored.RoomLine.{RoomLine}
-use Rattle.hotel_rows.specs.declared.stored.StayLine.{StayLine}
-use Rattle.hotel_rows.specs.declared.stored.CodeLine.{CodeLine}
-use Rattle.hotel_rows.specs.declared.stored.CardLine.{CardLine}
+use Rattle.hotel_rows.specs.declared.stored.PlainRoom.{PlainRoom}
+use Rattle.hotel_rows.specs.declared.stored.PlainStay.{PlainStay}
+use Rattle.hotel_rows.specs.declared.stored.PlainCode.{PlainCode}
+use Rattle.hotel_rows.specs.declared.stored.PlainCard.{PlainCard}
 use Rattle.hotel_core.specs.Model.Notes.{same_link}
-use Rattle.hotel_rows.specs.declared.stored.NoteLine.{NoteLine}
+use Rattle.hotel_rows.specs.declared.stored.PlainNote.{PlainNote}
 use Rattle.hotel_rows.specs.declared.stored.Stored.{Stored}
 use Rattle.hotel_rows.specs.Stored.{number_of, room_row, stay_row, note_row, link_row, rows_of}
 use Rattle.hotel_rows.specs.Damage.{room_columns, stay_columns, note_columns}
@@ -33,53 +33,53 @@ KnowsKinds known kinds = (q : List ℕ) → is_some (lookup (is_at (slice_cmp na
 -- ---- room
 
 -- the room's number is in range
-abbrev pub is_room_number : RoomLine → Bool
-is_room_number line = nat_le 1 (number_of line.room) && nat_le (number_of line.room) 9999
+abbrev pub is_room_number : PlainRoom → Bool
+is_room_number plain = nat_le 1 (number_of plain.room) && nat_le (number_of plain.room) 9999
 
 -- a secured room's lock holds its last code, which isn't its first
-abbrev pub is_secured_as_due : RoomLine → Bool
-is_secured_as_due line =
-    not (number_of line.secured == 1) || ((number_of line.lock_place == number_of line.codes - 1) && nat_le 2 (number_of line.codes))
+abbrev pub is_secured_as_due : PlainRoom → Bool
+is_secured_as_due plain =
+    not (number_of plain.secured == 1) || ((number_of plain.lock_place == number_of plain.codes - 1) && nat_le 2 (number_of plain.codes))
 
 abbrev pub is_at_home : Rows → RoomRow → Bool
 is_at_home rows row = said_of row.party true (is_home_of rows row)
 
-abbrev pub room_fits : Stored → RoomLine → Bool
-room_fits s line =
-    room_columns line && is_room_number line && nat_lt (number_of line.lock_place) (number_of line.codes) && has_kind (rows_of s) (string_bytes line.kind)
-    && nat_le (number_of line.codes) (length s.cards.items + 1) && nat_le (number_of line.notes) 9999999 && is_at_home (rows_of s) (room_row line) && is_secured_as_due line
+abbrev pub room_fits : Stored → PlainRoom → Bool
+room_fits s plain =
+    room_columns plain && is_room_number plain && nat_lt (number_of plain.lock_place) (number_of plain.codes) && has_kind (rows_of s) (string_bytes plain.kind)
+    && nat_le (number_of plain.codes) (length s.cards.items + 1) && nat_le (number_of plain.notes) 9999999 && is_at_home (rows_of s) (room_row plain) && is_secured_as_due plain
 
 -- ---- stay
 
 -- days in range, 1 to 90 nights
-abbrev pub are_stay_days : StayLine → Bool
-are_stay_days line =
-    is_day (number_of line.depart) && nat_lt (number_of line.arrive) (number_of line.depart) && nat_le (number_of line.depart) (number_of line.arrive + 90)
+abbrev pub are_stay_days : PlainStay → Bool
+are_stay_days plain =
+    is_day (number_of plain.depart) && nat_lt (number_of plain.arrive) (number_of plain.depart) && nat_le (number_of plain.depart) (number_of plain.arrive + 90)
 
 abbrev pub has_home : Rows → Stay → Bool
 has_home rows stay = said_of (room_of_state stay.state) true (has_party rows stay.party)
 
-abbrev pub has_line_home : Stored → StayLine → Bool
-has_line_home s line = has_home (rows_of s) (stay_row line)
+abbrev pub has_plain_home : Stored → PlainStay → Bool
+has_plain_home s plain = has_home (rows_of s) (stay_row plain)
 
-abbrev pub stay_fits : Stored → StayLine → Bool
-stay_fits s line =
-    stay_columns line && is_guest (string_bytes line.guest) && has_kind (rows_of s) (string_bytes line.kind) && are_stay_days line
-    && has_home (rows_of s) (stay_row line)
+abbrev pub stay_fits : Stored → PlainStay → Bool
+stay_fits s plain =
+    stay_columns plain && is_guest (string_bytes plain.guest) && has_kind (rows_of s) (string_bytes plain.kind) && are_stay_days plain
+    && has_home (rows_of s) (stay_row plain)
 
-abbrev pub is_line_of_kind : List ℕ → RoomLine → Bool
-is_line_of_kind kind line = bytes_eq (string_bytes line.kind) kind
+abbrev pub is_room_of_kind : List ℕ → PlainRoom → Bool
+is_room_of_kind kind plain = bytes_eq (string_bytes plain.kind) kind
 
 -- on the stay's first night, its kind isn't taken by more stays than it has rooms
-abbrev pub has_night : Stored → StayLine → Bool
-has_night s line =
-    nat_le (count_by (λ (stay : StayLine). takes (string_bytes line.kind) (number_of line.arrive) (stay_row stay)) s.stays.items)
-    (count_by (is_line_of_kind (string_bytes line.kind)) s.rooms.items)
+abbrev pub has_night : Stored → PlainStay → Bool
+has_night s plain =
+    nat_le (count_by (λ (stay : PlainStay). takes (string_bytes plain.kind) (number_of plain.arrive) (stay_row stay)) s.stays.items)
+    (count_by (is_room_of_kind (string_bytes plain.kind)) s.rooms.items)
 
 -- ---- code
 
-abbrev pub code_fits : Rows → CodeLine → Bool
-code_fits rows line = nat_lt (number_of line.code) (2 ^ 48) && is_some (at_number rows.rooms (number_of line.room))
+abbrev pub code_fits : Rows → PlainCode → Bool
+code_fits rows plain = nat_lt (number_of plain.code) (2 ^ 48) && is_some (at_number rows.rooms (number_of plain.room))
 
 abbrev pub are_apart : ℕ → CodeRow → CodeRow → Bool
 are_apart = are_neighbours
@@ -97,27 +97,27 @@ abbrev pub card_fits : Rows → Card → Bool
 card_fits rows card = is_some (at_number rows.stays card.party) && code_is rows card.link.new_code (λ new. stands_at rows new.room card.link)
 
 -- the card and each other one of the same link have one party
-abbrev pub agree : CardLine → CardLine → Bool
+abbrev pub agree : PlainCard → PlainCard → Bool
 agree a b = not (same_link (link_row a) (link_row b)) || (number_of a.party == number_of b.party)
 
-abbrev pub agrees : Stored → CardLine → Bool
-agrees s line = list_all (agree line) s.cards.items
+abbrev pub agrees : Stored → PlainCard → Bool
+agrees s plain = list_all (agree plain) s.cards.items
 
 -- the code is the first of its room, or a card brought it
-abbrev pub is_brought : Stored → CodeLine → Bool
-is_brought s line = (number_of line.place == 0) || list_any (λ (card : CardLine). number_of card.new_code == number_of line.code) s.cards.items
+abbrev pub is_brought : Stored → PlainCode → Bool
+is_brought s plain = (number_of plain.place == 0) || list_any (λ (card : PlainCard). number_of card.new_code == number_of plain.code) s.cards.items
 
 -- a card of the room's newest link is of the party
-abbrev pub is_owned : Stored → ℕ → ℕ → CardLine → Bool
+abbrev pub is_owned : Stored → ℕ → ℕ → PlainCard → Bool
 is_owned s room party card = not (is_newest (rows_of s) room (link_row card)) || (number_of card.party == party)
 
 -- all cards of the room's newest link are of its party, where it has one
-abbrev pub has_owner : Stored → RoomLine → Bool
-has_owner s line = said_of (option_map number_of line.party) true (λ party. list_all (is_owned s (number_of line.room) party) s.cards.items)
+abbrev pub has_owner : Stored → PlainRoom → Bool
+has_owner s plain = said_of (option_map number_of plain.party) true (λ party. list_all (is_owned s (number_of plain.room) party) s.cards.items)
 
 -- the last card of a party in house has the newest link of its room
-abbrev pub has_last : Stored → StayLine → Bool
-has_last s line = said_of (room_of_state (stay_row line).state) true (has_newest (rows_of s) (number_of line.party))
+abbrev pub has_last : Stored → PlainStay → Bool
+has_last s plain = said_of (room_of_state (stay_row plain).state) true (has_newest (rows_of s) (number_of plain.party))
 
 -- the rules on links, each a test of each row
 abbrev pub links_hold : Stored → Bool
@@ -131,7 +131,7 @@ inside_fits rows e = room_is rows e.0 (λ row. card_is rows e.1 (fits_inside row
 
 -- ---- note
 
-abbrev pub note_line_fits : Rows → NoteLine → Bool
-note_line_fits rows line =
-    note_columns line && is_some (at_number rows.rooms (number_of line.room)) && act_fits rows (number_of line.room) (note_row line).act && is_day (number_of line.day)
-    && nat_lt (number_of line.second) 86400
+abbrev pub plain_note_fits : Rows → PlainNote → Bool
+plain_note_fits rows plain =
+    note_columns plain && is_some (at_number rows.rooms (number_of plain.room)) && act_fits rows (number_of plain.room) (note_row plain).act && is_day (number_of plain.day)
+    && nat_lt (number_of plain.second) 86400

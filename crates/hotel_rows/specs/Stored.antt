@@ -12,13 +12,13 @@ use Rattle.hotel_core.specs.declared.books.rows.CodeRow.{CodeRow}
 use Rattle.hotel_core.specs.declared.books.rows.RoomRow.{RoomRow}
 use Rattle.hotel_core.specs.Model.Words.{said_of}
 use Rattle.hotel_core.specs.Model.Rows.{Rows}
-use Rattle.hotel_rows.specs.declared.stored.KindLine.{KindLine}
-use Rattle.hotel_rows.specs.declared.stored.RoomLine.{RoomLine}
-use Rattle.hotel_rows.specs.declared.stored.StayLine.{StayLine}
-use Rattle.hotel_rows.specs.declared.stored.CodeLine.{CodeLine}
-use Rattle.hotel_rows.specs.declared.stored.CardLine.{CardLine}
-use Rattle.hotel_rows.specs.declared.stored.InsideLine.{InsideLine}
-use Rattle.hotel_rows.specs.declared.stored.NoteLine.{NoteLine}
+use Rattle.hotel_rows.specs.declared.stored.PlainKind.{PlainKind}
+use Rattle.hotel_rows.specs.declared.stored.PlainRoom.{PlainRoom}
+use Rattle.hotel_rows.specs.declared.stored.PlainStay.{PlainStay}
+use Rattle.hotel_rows.specs.declared.stored.PlainCode.{PlainCode}
+use Rattle.hotel_rows.specs.declared.stored.PlainCard.{PlainCard}
+use Rattle.hotel_rows.specs.declared.stored.PlainInside.{PlainInside}
+use Rattle.hotel_rows.specs.declared.stored.PlainNote.{PlainNote}
 use Rattle.hotel_rows.specs.declared.stored.Stored.{Stored}
 
 -- A stored number; one below 0 is read as a number that no rule takes.
@@ -31,15 +31,15 @@ abbrev pub no_number : ℕ
 no_number = 2 ^ 64 - 1
 
 -- a room
-abbrev pub room_row : RoomLine → RoomRow
-room_row line = record {
-  room = number_of line.room;
-  kind = string_bytes line.kind;
-  lock_place = number_of line.lock_place;
-  codes = number_of line.codes;
-  secured = number_of line.secured == 1;
-  party = option_map number_of line.party;
-  notes = number_of line.notes;
+abbrev pub room_row : PlainRoom → RoomRow
+room_row plain = record {
+  room = number_of plain.room;
+  kind = string_bytes plain.kind;
+  lock_place = number_of plain.lock_place;
+  codes = number_of plain.codes;
+  secured = number_of plain.secured == 1;
+  party = option_map number_of plain.party;
+  notes = number_of plain.notes;
 }
 
 -- how a stay stands; its columns are tested by a rule of their own
@@ -47,27 +47,27 @@ abbrev pub state_of : ℕ → Option ℕ → StayState
 state_of n room = if n == 0 then state.Booked else if n == 1 then state.InHouse (said_of room no_number (λ r. r)) else if n == 2 then state.Done else state.Cancelled
 
 -- a stay
-abbrev pub stay_row : StayLine → Stay
-stay_row line = record {
-  party = number_of line.party;
-  guest = string_bytes line.guest;
-  kind = string_bytes line.kind;
-  arrive = number_of line.arrive;
-  depart = number_of line.depart;
-  state = state_of (number_of line.state) (option_map number_of line.room);
+abbrev pub stay_row : PlainStay → Stay
+stay_row plain = record {
+  party = number_of plain.party;
+  guest = string_bytes plain.guest;
+  kind = string_bytes plain.kind;
+  arrive = number_of plain.arrive;
+  depart = number_of plain.depart;
+  state = state_of (number_of plain.state) (option_map number_of plain.room);
 }
 
 -- where a code stands
-abbrev pub code_row : CodeLine → CodeRow
-code_row line = record { room = number_of line.room; place = number_of line.place }
+abbrev pub code_row : PlainCode → CodeRow
+code_row plain = record { room = number_of plain.room; place = number_of plain.place }
 
 -- the codes of a card
-abbrev pub link_row : CardLine → Link
-link_row line = record { old_code = number_of line.old_code; new_code = number_of line.new_code }
+abbrev pub link_row : PlainCard → Link
+link_row plain = record { old_code = number_of plain.old_code; new_code = number_of plain.new_code }
 
 -- a card
-abbrev pub card_row : CardLine → Card
-card_row line = record { number = number_of line.number; party = number_of line.party; link = link_row line }
+abbrev pub card_row : PlainCard → Card
+card_row plain = record { number = number_of plain.number; party = number_of plain.party; link = link_row plain }
 
 -- what a note says; its columns are tested by a rule of their own
 abbrev pub act_of : ℕ → ℕ → ℕ → ℕ → Act
@@ -77,35 +77,35 @@ act_of n card first second =
     else act.Recoded first second
 
 -- a note
-abbrev pub note_row : NoteLine → Note
-note_row line = record {
-  room = number_of line.room;
-  count = number_of line.n;
-  act = act_of (number_of line.act) (said_of line.card no_number number_of) (number_of line.first_code) (number_of line.second_code);
-  day = number_of line.day;
-  second = number_of line.second;
+abbrev pub note_row : PlainNote → Note
+note_row plain = record {
+  room = number_of plain.room;
+  count = number_of plain.n;
+  act = act_of (number_of plain.act) (said_of plain.card no_number number_of) (number_of plain.first_code) (number_of plain.second_code);
+  day = number_of plain.day;
+  second = number_of plain.second;
 }
 
-abbrev pub kind_text : KindLine → List ℕ
-kind_text line = string_bytes line.kind
+abbrev pub kind_text : PlainKind → List ℕ
+kind_text plain = string_bytes plain.kind
 
-abbrev pub room_entry : RoomLine → ℕ × RoomRow
-room_entry line = (number_of line.room, room_row line)
+abbrev pub room_entry : PlainRoom → ℕ × RoomRow
+room_entry plain = (number_of plain.room, room_row plain)
 
-abbrev pub stay_entry : StayLine → ℕ × Stay
-stay_entry line = (number_of line.party, stay_row line)
+abbrev pub stay_entry : PlainStay → ℕ × Stay
+stay_entry plain = (number_of plain.party, stay_row plain)
 
-abbrev pub code_entry : CodeLine → ℕ × CodeRow
-code_entry line = (number_of line.code, code_row line)
+abbrev pub code_entry : PlainCode → ℕ × CodeRow
+code_entry plain = (number_of plain.code, code_row plain)
 
-abbrev pub card_entry : CardLine → ℕ × Card
-card_entry line = (number_of line.number, card_row line)
+abbrev pub card_entry : PlainCard → ℕ × Card
+card_entry plain = (number_of plain.number, card_row plain)
 
-abbrev pub inside_pair : InsideLine → ℕ × ℕ
-inside_pair line = (number_of line.room, number_of line.card)
+abbrev pub inside_pair : PlainInside → ℕ × ℕ
+inside_pair plain = (number_of plain.room, number_of plain.card)
 
-abbrev pub note_entry : NoteLine → (ℕ × ℕ) × Note
-note_entry line = ((number_of line.room, number_of line.n), note_row line)
+abbrev pub note_entry : PlainNote → (ℕ × ℕ) × Note
+note_entry plain = ((number_of plain.room, number_of plain.n), note_row plain)
 
 -- The stored rows as the rows of the books, whatever they are.
 abbrev pub rows_of : Stored → Rows

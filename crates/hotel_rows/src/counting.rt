@@ -4,14 +4,14 @@ ghost use Rattle.std.specs.List.{count_by};
 ghost use Rattle.std.specs.Map.{keys_of, values_of};
 ghost use Rattle.hotel_nights.specs.Block.{one_if};
 ghost use Rattle.hotel_core.specs.KindRooms.{rooms_in};
-ghost use Rattle.hotel_core.specs.NightIndex.{StandsFor};
+ghost use Rattle.hotel_core.specs.NightIndex.{CountsNights};
 ghost use Rattle.hotel_rows.specs.Stored.{state_of, stay_row, stay_entry};
-ghost use Rattle.hotel_rows.specs.RowTests.{is_line_of_kind};
+ghost use Rattle.hotel_rows.specs.RowTests.{is_room_of_kind};
 ghost use Rattle.hotel_rows.specs.Counting.{KnowsKinds};
 ghost use Rattle.hotel_rows.specs.Counting.{IsCountedOf};
 
 use crate::damage::numbers::{number, number_if};
-use crate::stored::{KindLine, RoomLine, StayLine, Stored};
+use crate::stored::{PlainKind, PlainRoom, PlainStay, Stored};
 use hotel_core::{KindRooms, NightIndex};
 use hotel_nights::{Day, Guest, GuestFault, KindCode, Stay, StayState};
 use keycard_rules::{LookFault, Number};
@@ -80,21 +80,21 @@ fn stay_state(state: u64, room: Option<u64>) -> Result<StayState, LookFault>
 }
 
 /// A row of the table of stays, as a stay.
-fn stay_of(alloc: Global, line: &StayLine) -> Result<Stay, LookFault>
-    ensures { IfOk result (λ stay. stay ≡ stay_row line.now) }
+fn stay_of(alloc: Global, plain: &PlainStay) -> Result<Stay, LookFault>
+    ensures { IfOk result (λ stay. stay ≡ stay_row plain.now) }
 {
     Ok(Stay {
-        party: counted(number(line.party))?,
-        guest: guest(alloc, line.guest.as_str())?,
-        kind: kind_code(line.kind.as_str())?,
-        arrive: day(number(line.arrive))?,
-        depart: day(number(line.depart))?,
-        state: stay_state(number(line.state), number_if(line.room))?,
+        party: counted(number(plain.party))?,
+        guest: guest(alloc, plain.guest.as_str())?,
+        kind: kind_code(plain.kind.as_str())?,
+        arrive: day(number(plain.arrive))?,
+        depart: day(number(plain.depart))?,
+        state: stay_state(number(plain.state), number_if(plain.room))?,
     })
 }
 
 /// The kinds, with no rooms.
-fn name_kinds(alloc: Global, kinds: &[KindLine]) -> Result<KindRooms, LookFault>
+fn name_kinds(alloc: Global, kinds: &[PlainKind]) -> Result<KindRooms, LookFault>
     ensures none { IfOk result (λ counts. (kind : List ℕ) → rooms_in counts kind ≡ 0) }
     ensures known { IfOk result (λ counts. KnowsKinds counts kinds.now) }
 {
@@ -109,8 +109,8 @@ fn name_kinds(alloc: Global, kinds: &[KindLine]) -> Result<KindRooms, LookFault>
 }
 
 /// One more room of its kind.
-fn add_room(counts: &mut KindRooms, room: &RoomLine) -> Result<(), LookFault>
-    ensures rooms { OnOk result ((kind : List ℕ) → rooms_in counts.new kind ≡ rooms_in counts.old kind + one_if (is_line_of_kind kind room.now)) }
+fn add_room(counts: &mut KindRooms, room: &PlainRoom) -> Result<(), LookFault>
+    ensures rooms { OnOk result ((kind : List ℕ) → rooms_in counts.new kind ≡ rooms_in counts.old kind + one_if (is_room_of_kind kind room.now)) }
     ensures kinds { OnOk result (keys_of counts.new ≡ keys_of counts.old) }
 {
     let kind = kind_code(room.kind.as_str())?;
@@ -127,10 +127,10 @@ fn add_room(counts: &mut KindRooms, room: &RoomLine) -> Result<(), LookFault>
 /// How many rooms each kind has.
 fn count_rooms(
     alloc: Global,
-    kinds: &[KindLine],
-    rooms: &[RoomLine],
+    kinds: &[PlainKind],
+    rooms: &[PlainRoom],
 ) -> Result<KindRooms, LookFault>
-    ensures rooms { IfOk result (λ counts. (kind : List ℕ) → rooms_in counts kind ≡ count_by (is_line_of_kind kind) rooms.now) }
+    ensures rooms { IfOk result (λ counts. (kind : List ℕ) → rooms_in counts kind ≡ count_by (is_room_of_kind kind) rooms.now) }
     ensures known { IfOk result (λ counts. KnowsKinds counts kinds.now) }
 {
     let mut counts = name_kinds(alloc, kinds)?;
@@ -142,7 +142,7 @@ fn count_rooms(
 
 /// How many standing stays take each night.
 fn count_nights(alloc: Global, stored: &Stored) -> Result<NightIndex, LookFault>
-    ensures { IfOk result (λ nights. StandsFor nights (values_of (map stay_entry stored.now.stays.items))) }
+    ensures { IfOk result (λ nights. CountsNights nights (values_of (map stay_entry stored.now.stays.items))) }
 {
     let mut nights = NightIndex::empty(alloc);
     for i in 0..stored.stays.len() {

@@ -9,5 +9,6 @@ mod stored;
 pub use counting::{Counts, counts_of};
 pub use damage::{first_damaged, undamaged_is_sound};
 pub use stored::{
-    CardLine, CodeLine, InsideLine, KindLine, NoteLine, RoomLine, StayLine, Stored, TableName,
+    PlainCard, PlainCode, PlainInside, PlainKind, PlainNote, PlainRoom, PlainStay, Stored,
+    TableName,
 };

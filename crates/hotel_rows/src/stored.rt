@@ -15,13 +15,13 @@ pub enum TableName {
 
 /// A row of the table of kinds.
 #[derive(Debug, Drop)]
-pub struct KindLine {
+pub struct PlainKind {
     pub kind: String,
 }
 
 /// A row of the table of rooms.
 #[derive(Debug, Drop)]
-pub struct RoomLine {
+pub struct PlainRoom {
     pub room: i64,
     pub kind: String,
     pub lock_place: i64,
@@ -33,7 +33,7 @@ pub struct RoomLine {
 
 /// A row of the table of stays.
 #[derive(Debug, Drop)]
-pub struct StayLine {
+pub struct PlainStay {
     pub party: i64,
     pub guest: String,
     pub kind: String,
@@ -46,7 +46,7 @@ pub struct StayLine {
 
 /// A row of the table of codes.
 #[derive(Clone, Copy, Debug)]
-pub struct CodeLine {
+pub struct PlainCode {
     pub code: i64,
     pub room: i64,
     pub place: i64,
@@ -54,7 +54,7 @@ pub struct CodeLine {
 
 /// A row of the table of cards.
 #[derive(Clone, Copy, Debug)]
-pub struct CardLine {
+pub struct PlainCard {
     pub number: i64,
     pub party: i64,
     pub old_code: i64,
@@ -63,14 +63,14 @@ pub struct CardLine {
 
 /// A row of the table of cards that are inside.
 #[derive(Clone, Copy, Debug)]
-pub struct InsideLine {
+pub struct PlainInside {
     pub room: i64,
     pub card: i64,
 }
 
 /// A row of the table of lock notes.
 #[derive(Clone, Copy, Debug)]
-pub struct NoteLine {
+pub struct PlainNote {
     pub room: i64,
     pub n: i64,
     /// 0 entered, 1 left, 2 recoded.
@@ -89,11 +89,11 @@ pub struct Stored {
     pub version: i64,
     /// The business day, from meta's row.
     pub day: Option<i64>,
-    pub kinds: Vec<KindLine>,
-    pub rooms: Vec<RoomLine>,
-    pub stays: Vec<StayLine>,
-    pub codes: Vec<CodeLine>,
-    pub cards: Vec<CardLine>,
-    pub inside: Vec<InsideLine>,
-    pub notes: Vec<NoteLine>,
+    pub kinds: Vec<PlainKind>,
+    pub rooms: Vec<PlainRoom>,
+    pub stays: Vec<PlainStay>,
+    pub codes: Vec<PlainCode>,
+    pub cards: Vec<PlainCard>,
+    pub inside: Vec<PlainInside>,
+    pub notes: Vec<PlainNote>,
 }

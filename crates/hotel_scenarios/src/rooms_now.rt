@@ -6,16 +6,6 @@ use keycard_rules::{CardNo, Code, Count, LockNote, PartyNo, RoomNo};
 use std::alloc::Global;
 use std::test::Fail;
 
-/// The header and two notes: card 1 came in, and went out an hour later.
-pub const TWO_NOTES: &[u8] = b"room,count,kind,card,old,new,at
-101,1,in,1,0000000000a0,0000000000a1,2031-05-01T15:00:00
-101,2,out,1,0000000000a0,0000000000a1,2031-05-01 16:00:00
-";
-
-/// A byte order mark, CRLF, quotes, and a last line that is cut.
-pub const CUT_LAST_LINE: &[u8] =
-    b"\xef\xbb\xbfroom,count,kind,card,old,new,at\r\n\"101\",1,in,1,\"A0\",0000000000A1,2031-05-01T15:00:00\r\n101,2,out";
-
 /// What the books say of room 101.
 #[derive(Drop, PartialEq)]
 pub struct RoomNow {

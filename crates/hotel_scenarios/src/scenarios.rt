@@ -1,5 +1,7 @@
 //! The worked scenarios: what is asked of a desk with empty books, step by step, and what each step answers. The
-//! computed scenes of the model have the same names and the same lines in the same order.
+//! computed scenes of the model have the same names and commands, in the same order; lists and lines that aren't read
+//! stand here alone.
+use crate::chains::TWO_CODES;
 
 /// What is asked of a desk, and what it answers.
 #[derive(Clone, Copy)]
@@ -89,10 +91,7 @@ room,count,kind,card,old,new,at
 ";
 
 /// The second entry moved nothing.
-pub const AFTER_TWO_ENTRIES: &[Step] = &[Step::Line(
-    b"chain 101",
-    b"place,code,state\n0,0000000000a0,passed\n1,0000000000a1,held\n",
-)];
+pub const AFTER_TWO_ENTRIES: &[Step] = &[Step::Line(b"chain 101", TWO_CODES)];
 
 /// The first card leaves.
 pub const LEFT: &[Step] = &[Step::Line(b"left 101 3 1 a0 a1 2031-05-01T15:00:00", b"taken\n")];
@@ -309,13 +308,13 @@ pub const END_OF_CALENDAR_LAST_DAY: &[Step] = &[
     Step::Line(b"next-day", b"refused 20 LastDay\n"),
 ];
 
-/// A byte order mark, quotes, other ends of lines; no lines, no header, a wrong one.
+/// A byte order mark, quotes, lines that end in CR and LF, and a last line that is cut.
+pub const CUT_LAST_LINE: &[u8] =
+    b"\xef\xbb\xbfroom,count,kind,card,old,new,at\r\n\"101\",1,in,1,\"A0\",0000000000A1,2031-05-01T15:00:00\r\n101,2,out";
+
+/// Such a file; no lines, no header, a wrong one.
 pub const AUDIT_BYTES: &[Step] = &[
-    Step::Audit(
-        b"\xef\xbb\xbfroom,count,kind,card,old,new,at\r\n\"101\",1,in,1,\"A0\",0000000000A1,2031-05-01T15:00:00\r\n101,2,out",
-        b"1 taken\n2 unread FieldCount\n",
-        3,
-    ),
+    Step::Audit(CUT_LAST_LINE, b"1 taken\n2 unread FieldCount\n", 3),
     Step::Audit(b"room,count,kind,card,old,new,at\n", b"", 0),
     Step::NoAudit(b"", b"no header\n"),
     Step::NoAudit(b"room,count,kind,card,old,new,on\n", b"wrong header\n"),

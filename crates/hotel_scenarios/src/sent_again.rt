@@ -1,6 +1,7 @@
 //! Audit files that are sent again after a stop.
 use crate::desks::Desk;
-use crate::rooms_now::{CUT_LAST_LINE, RoomNow, TWO_NOTES, answers_to, note_count};
+use crate::rooms_now::{RoomNow, answers_to, note_count};
+use crate::scenarios::{CUT_LAST_LINE, TWO_NOTES};
 use hotel_core::Books;
 use std::alloc::Global;
 use std::test::Fail;

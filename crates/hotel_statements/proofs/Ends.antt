@@ -9,7 +9,7 @@ use Rattle.sqlite.proofs.StateLemmas.{survives_then}
 use Rattle.hotel_core.specs.Model.Rows.{Rows}
 use Rattle.hotel_statements.specs.Tables.{AreTables, rows_in}
 use Rattle.hotel_statements.specs.Books.{IsDesk, IsKept, IsBooks}
-use Rattle.hotel_statements.specs.Steps.{IsMid, IsMidWith, Steps, Runs, MakesRows, any_rows, IsMadeOf}
+use Rattle.hotel_statements.specs.Steps.{IsMid, IsMidWith, MovesRows, RunsStatement, MakesRows, any_rows, IsMadeOf}
 
 -- ---- statements, one after the other
 
@@ -28,7 +28,7 @@ module _ {fits : Rows → Type 0} {f : Rows → Rows} {a b : State} where
       was : HasCleanDisk c → HasCleanDisk b
       was clean = omega (arith, two.survives.clean, clean)
 
-      go : (r : Result (Unit {0}) Error) → HasCleanDisk b → OnOk r (IsMidWith any_rows b → Steps b c g) → OnOk r (IsMidWith fits a → Steps a c (λ rows. g (f rows)))
+      go : (r : Result (Unit {0}) Error) → HasCleanDisk b → OnOk r (IsMidWith any_rows b → MovesRows b c g) → OnOk r (IsMidWith fits a → MovesRows a c (λ rows. g (f rows)))
       go (Err e) clean next = tt
       go (Ok u) clean next = λ mid.
           let first = one.made clean mid in
@@ -45,18 +45,18 @@ pub as_made : {fits others : Rows → Type 0} {f g : Rows → Rows} {a b : State
     → MakesRows fits f a b r → MakesRows others g a b r
 as_made {fits} {others} {f} {g} {a} {b} {r} fit same it = record { made = λ clean. go r (it.made clean); kept = it.kept; survives = it.survives }
   where
-    go : (r : Result (Unit {0}) Error) → OnOk r (IsMidWith fits a → Steps a b f) → OnOk r (IsMidWith others a → Steps a b g)
+    go : (r : Result (Unit {0}) Error) → OnOk r (IsMidWith fits a → MovesRows a b f) → OnOk r (IsMidWith others a → MovesRows a b g)
     go (Err e) made = tt
     go (Ok u) made = λ mid.
         let did = made (λ is_open. ((mid is_open).0, fit _ (mid is_open).1)) in
         record { was_open = did.was_open; is_open = did.is_open; committed = did.committed; mid = did.mid; rows_are = did.rows_are ∙ same _ (mid did.was_open).1 }
 
 -- one statement, given what it makes of the rows, and its parameters as they are bound
-pub makes_rows : {text : List ℕ} {given : Row} {fits : Rows → Type 0} {make : Rows → Rows} {old new : State} {r : Result (Unit {0}) Error} (params : Row) → Runs text given old new r
-    → ((count : ℕ) → ExecutesInside 0 text params old new (Ok count) → IsMidWith fits old → Steps old new make) → given ≡ params → MakesRows fits make old new r
+pub makes_rows : {text : List ℕ} {given : Row} {fits : Rows → Type 0} {make : Rows → Rows} {old new : State} {r : Result (Unit {0}) Error} (params : Row) → RunsStatement text given old new r
+    → ((count : ℕ) → ExecutesInside 0 text params old new (Ok count) → IsMidWith fits old → MovesRows old new make) → given ≡ params → MakesRows fits make old new r
 makes_rows {text} {given} {fits} {make} {old} {new} {r} params it step same = record { made = λ clean. go r (it.ran clean); kept = it.kept; survives = it.survives }
   where
-    go : (r : Result (Unit {0}) Error) → OnOk r ((count : ℕ) × ExecutesInside 0 text given old new (Ok count)) → OnOk r (IsMidWith fits old → Steps old new make)
+    go : (r : Result (Unit {0}) Error) → OnOk r ((count : ℕ) × ExecutesInside 0 text given old new (Ok count)) → OnOk r (IsMidWith fits old → MovesRows old new make)
     go (Err e) ran = tt
     go (Ok u) ran = step ran.0 (subst (λ ps. ExecutesInside 0 text ps old new (Ok ran.0)) same ran.1)
 
@@ -101,7 +101,7 @@ pub record Ends (make : Rows → Rows) (old new : State) (r : Result (Unit {0}) 
   pub crash : Survives old new (IsMadeOf make old.now.trees)
 
 module _ {fits : Rows → Type 0} {make : Rows → Rows} {old start mid : State} {u : Unit {0}} (b : Begins old start) (may : IsKept old → fits (rows_in old.now.trees)) (did : MakesRows fits make start mid (Ok u)) where
-  all_steps : HasCleanDisk mid → Steps start mid make
+  all_steps : HasCleanDisk mid → MovesRows start mid make
   all_steps clean =
       let before : HasCleanDisk start = omega (arith, did.survives.clean, clean) in
       did.made clean (λ is_open. (start_mid old start b before is_open, fits_start old start fits b may before is_open))
@@ -124,7 +124,7 @@ module _ {fits : Rows → Type 0} {make : Rows → Rows} {old start mid : State}
     ends : IsKept new → Ended r
     ends kept = go r (ok kept.0) (err kept.0)
       where
-        did_all : Steps start mid make
+        did_all : MovesRows start mid make
         did_all = all_steps (clean_mid kept.0)
 
         back : IsRolledBack mid new → IsDesk new × (new.now ≡ old.now)

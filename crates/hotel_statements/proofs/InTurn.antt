@@ -11,8 +11,8 @@ use Rattle.sqlite.specs.declared.error.ErrorCode.TheVariants.{TransactionState}
 use Rattle.sqlite_trees.specs.declared.store.Store.{Ghosts}
 use Rattle.hotel_core.specs.Model.Rows.{Rows}
 use Rattle.hotel_statements.specs.Steps as step
-use Rattle.hotel_statements.specs.Steps.{IsMidWith, Steps, any_rows}
-use Rattle.hotel_statements.specs.Statements.{Statement, RunsOne, RunsInTurn, Runs, WritesBy}
+use Rattle.hotel_statements.specs.Steps.{IsMidWith, MovesRows, any_rows}
+use Rattle.hotel_statements.specs.Statements.{Statement, RunsOne, RunsInTurn, RunsStatements, WritesBy}
 use Rattle.hotel_statements.proofs.Ends.{then_makes, failed, as_made, makes_rows}
 
 pub answered : {e : Error} (r : Result (Unit {0}) Error) → IsErrAnd r (λ why. why ≡ e) → r ≡ Err e
@@ -40,12 +40,12 @@ module _ {S : Type 0} (g : Ghosts S) where
 
 module _ {S : Type 0} {g : Ghosts S} {one : List Statement} {a b : Held S} where
   -- those ran, and then these
-  pub runs_then : {P : Trees → Type 0} {two : List Statement} {c : Held S} {u : Unit {0}} {r : Result (Unit {0}) Error} → Runs g one a b (Ok u) → Survives (state g b) (state g c) P → Runs g two b c r
-      → Runs g (one ++ two) a c r
+  pub runs_then : {P : Trees → Type 0} {two : List Statement} {c : Held S} {u : Unit {0}} {r : Result (Unit {0}) Error} → RunsStatements g one a b (Ok u) → Survives (state g b) (state g c) P → RunsStatements g two b c r
+      → RunsStatements g (one ++ two) a c r
   runs_then {P} {two} {c} {u} {r} first survives next = record { in_turn = λ clean. in_turn_then g one two a b c u r (first.in_turn (omega (arith, survives.clean, clean))) (next.in_turn clean) }
 
   -- one failed, and of those after it none is run
-  pub runs_stopped : (two : List Statement) {e : Error} (r : Result (Unit {0}) Error) → r ≡ Err e → Runs g one a b (Err e) → Runs g (one ++ two) a b r
+  pub runs_stopped : (two : List Statement) {e : Error} (r : Result (Unit {0}) Error) → r ≡ Err e → RunsStatements g one a b (Err e) → RunsStatements g (one ++ two) a b r
   runs_stopped two {e} r is ran = record { in_turn = λ clean. in_turn_stopped g one two a b e r is (ran.in_turn clean) }
 
   module _ {fits : Rows → Type 0} {f : Rows → Rows} where
@@ -65,10 +65,10 @@ module _ {S : Type 0} {g : Ghosts S} {one : List Statement} {a b : Held S} where
 
 -- one statement, given what it makes of the rows, and its parameters as they are bound
 pub writes_row : {S : Type 0} {g : Ghosts S} {text : List ℕ} {given : Row} {fits : Rows → Type 0} {make : Rows → Rows} {old new : Held S} {r : Result (Unit {0}) Error} (params : Row)
-    → step.Runs text given (state g old) (state g new) r → Runs g ((text, given) ∷ []) old new r
-    → ((count : ℕ) → ExecutesInside 0 text params (state g old) (state g new) (Ok count) → IsMidWith fits (state g old) → Steps (state g old) (state g new) make) → given ≡ params
+    → step.RunsStatement text given (state g old) (state g new) r → RunsStatements g ((text, given) ∷ []) old new r
+    → ((count : ℕ) → ExecutesInside 0 text params (state g old) (state g new) (Ok count) → IsMidWith fits (state g old) → MovesRows (state g old) (state g new) make) → given ≡ params
     → WritesBy g ((text, params) ∷ []) fits make old new r
 writes_row {S} {g} {text} {given} {fits} {make} {old} {new} {r} params it answers step same = record {
-  runs = subst (λ ps. Runs g ((text, ps) ∷ []) old new r) same answers;
+  runs = subst (λ ps. RunsStatements g ((text, ps) ∷ []) old new r) same answers;
   rows = makes_rows params it step same;
 }

@@ -7,14 +7,14 @@ use Rattle.sqlite_value.specs.declared.value.Value.TheVariants.{Int}
 use Rattle.sqlite.specs.Order.{Row}
 use Rattle.hotel_core.specs.Model.Cases.{room_of_state}
 use Rattle.hotel_core.proofs.OfTables.Tests.{and_true}
-use Rattle.hotel_statements.specs.declared.lines.MetaLine.{MetaLine}
-use Rattle.hotel_rows.specs.declared.stored.KindLine.{KindLine}
-use Rattle.hotel_rows.specs.declared.stored.RoomLine.{RoomLine}
-use Rattle.hotel_rows.specs.declared.stored.StayLine.{StayLine}
-use Rattle.hotel_rows.specs.declared.stored.CodeLine.{CodeLine}
-use Rattle.hotel_rows.specs.declared.stored.CardLine.{CardLine}
-use Rattle.hotel_rows.specs.declared.stored.InsideLine.{InsideLine}
-use Rattle.hotel_rows.specs.declared.stored.NoteLine.{NoteLine}
+use Rattle.hotel_statements.specs.declared.plain_rows.PlainMeta.{PlainMeta}
+use Rattle.hotel_rows.specs.declared.stored.PlainKind.{PlainKind}
+use Rattle.hotel_rows.specs.declared.stored.PlainRoom.{PlainRoom}
+use Rattle.hotel_rows.specs.declared.stored.PlainStay.{PlainStay}
+use Rattle.hotel_rows.specs.declared.stored.PlainCode.{PlainCode}
+use Rattle.hotel_rows.specs.declared.stored.PlainCard.{PlainCard}
+use Rattle.hotel_rows.specs.declared.stored.PlainInside.{PlainInside}
+use Rattle.hotel_rows.specs.declared.stored.PlainNote.{PlainNote}
 use Rattle.hotel_statements.specs.Values.{int, maybe_int}
 use Rattle.hotel_statements.specs.Values as value
 use Rattle.hotel_statements.specs.Columns.{meta_of, meta_written, kind_of, kind_written, room_of, room_written, bit_of, stay_of, stay_written, state_number, code_of, code_written, card_of, card_written, inside_of, inside_written, note_of, note_written, act_number, act_card, act_first, act_second}
@@ -22,7 +22,7 @@ use Rattle.hotel_statements.specs.Columns as columns
 use Rattle.hotel_rows.specs.Stored.{number_of, state_of, act_of, no_number, kind_text, room_entry, stay_entry, code_entry, card_entry, inside_pair, note_entry}
 use Rattle.hotel_rows.specs.Damage.{room_columns, stay_columns, note_columns}
 use Rattle.hotel_core.specs.Model.Words.{said_of}
-use Rattle.hotel_statements.specs.Lines.{maybe, is_natural, may_be_natural, meta_shown, kind_shown, room_shown, room_natural, stay_shown, stay_natural, code_shown, code_natural, card_shown, card_natural, inside_shown, inside_natural, note_shown, note_natural}
+use Rattle.hotel_statements.specs.PlainRows.{maybe, is_natural, may_be_natural, meta_shown, kind_shown, room_shown, room_natural, stay_shown, stay_natural, code_shown, code_natural, card_shown, card_natural, inside_shown, inside_natural, note_shown, note_natural}
 
 -- ---- a number, and one that may be null
 
@@ -103,39 +103,39 @@ is_act n (Some card) first second h = elim (cases_Bool (eqb n 0)) [
 
 -- ---- the rows of the tables
 
-abbrev meta_entry : MetaLine → ℕ × (ℕ × Option ℕ)
+abbrev meta_entry : PlainMeta → ℕ × (ℕ × Option ℕ)
 meta_entry l = (number_of l.id, (number_of l.version, option_map number_of l.day))
 
 abbrev Good : {L X : Type 0} → (Row → X) → (X → Row) → (L → Row) → (L → X) → L → Type 0
 Good of written shown entry l = (shown l ≡ written (entry l)) × (of (shown l) ≡ entry l)
 
-pub meta_good : (l : MetaLine) → l.id ≡ pos 1 → l.version ≡ pos 1 → may_be_natural l.day ≡ true → Good meta_of meta_written meta_shown meta_entry l
+pub meta_good : (l : PlainMeta) → l.id ≡ pos 1 → l.version ≡ pos 1 → may_be_natural l.day ≡ true → Good meta_of meta_written meta_shown meta_entry l
 meta_good l id version day =
     let natural : (n : ℤ) → n ≡ pos 1 → is_natural n ≡ true = λ n e. ap is_natural e in
     (rw (is_int l.id (natural l.id id), is_int l.version (natural l.version version), is_maybe l.day day) refl, rw (says l.id (natural l.id id), says l.version (natural l.version version), may_say l.day day) refl)
 
-pub kind_good : (l : KindLine) → Good kind_of kind_written kind_shown kind_text l
+pub kind_good : (l : PlainKind) → Good kind_of kind_written kind_shown kind_text l
 kind_good l = (refl, refl)
 
-pub code_good : (l : CodeLine) → code_natural l ≡ true → Good code_of code_written code_shown code_entry l
+pub code_good : (l : PlainCode) → code_natural l ≡ true → Good code_of code_written code_shown code_entry l
 code_good l h =
     let b = and_true _ (is_natural l.place) h in
     let a = and_true (is_natural l.code) (is_natural l.room) b.0 in
     (rw (is_int l.code a.0, is_int l.room a.1, is_int l.place b.1) refl, rw (says l.code a.0, says l.room a.1, says l.place b.1) refl)
 
-pub card_good : (l : CardLine) → card_natural l ≡ true → Good card_of card_written card_shown card_entry l
+pub card_good : (l : PlainCard) → card_natural l ≡ true → Good card_of card_written card_shown card_entry l
 card_good l h =
     let d = and_true _ (is_natural l.new_code) h in
     let b = and_true _ (is_natural l.old_code) d.0 in
     let a = and_true (is_natural l.number) (is_natural l.party) b.0 in
     (rw (is_int l.number a.0, is_int l.party a.1, is_int l.old_code b.1, is_int l.new_code d.1) refl, rw (says l.number a.0, says l.party a.1, says l.old_code b.1, says l.new_code d.1) refl)
 
-pub inside_good : (l : InsideLine) → inside_natural l ≡ true → Good inside_of inside_written inside_shown inside_pair l
+pub inside_good : (l : PlainInside) → inside_natural l ≡ true → Good inside_of inside_written inside_shown inside_pair l
 inside_good l h =
     let a = and_true (is_natural l.room) (is_natural l.card) h in
     (rw (is_int l.room a.0, is_int l.card a.1) refl, rw (says l.room a.0, says l.card a.1) refl)
 
-pub room_good : (l : RoomLine) → room_natural l ≡ true → room_columns l ≡ true → Good room_of room_written room_shown room_entry l
+pub room_good : (l : PlainRoom) → room_natural l ≡ true → room_columns l ≡ true → Good room_of room_written room_shown room_entry l
 room_good l h bit =
     let f = and_true _ (is_natural l.notes) h in
     let e = and_true _ (may_be_natural l.party) f.0 in
@@ -147,7 +147,7 @@ room_good l h bit =
       rw (says l.room a.0, says l.lock_place a.1, says l.codes b.1, says l.secured d.1, may_say l.party e.1, says l.notes f.1) refl,
     )
 
-pub stay_good : (l : StayLine) → stay_natural l ≡ true → stay_columns l ≡ true → Good stay_of stay_written stay_shown stay_entry l
+pub stay_good : (l : PlainStay) → stay_natural l ≡ true → stay_columns l ≡ true → Good stay_of stay_written stay_shown stay_entry l
 stay_good l h fits =
     let e = and_true _ (may_be_natural l.room) h in
     let d = and_true _ (is_natural l.state) e.0 in
@@ -164,7 +164,7 @@ stay_good l h fits =
       rw (says l.party a.0, says l.arrive a.1, says l.depart b.1, says l.state d.1, may_say l.room e.1, it.same) refl,
     )
 
-pub note_good : (l : NoteLine) → note_natural l ≡ true → note_columns l ≡ true → Good note_of note_written note_shown note_entry l
+pub note_good : (l : PlainNote) → note_natural l ≡ true → note_columns l ≡ true → Good note_of note_written note_shown note_entry l
 note_good l h fits =
     let i = and_true _ (is_natural l.second) h in
     let f = and_true _ (is_natural l.day) i.0 in

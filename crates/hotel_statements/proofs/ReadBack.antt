@@ -12,7 +12,7 @@ use Rattle.hotel_core.specs.Model.SoundRooms.{are_in_order}
 use Rattle.hotel_core.proofs.OfTables.KeysInOrder.{AllAfter, InOrder}
 use Rattle.hotel_core.proofs.Starts.StartOrder.{in_order_from}
 use Rattle.hotel_statements.specs.Tables.{IsTable, IsWrittenAs, AreApart, listed}
-use Rattle.hotel_statements.specs.Lines.{AreLines}
+use Rattle.hotel_statements.specs.PlainRows.{ArePlainRows}
 use Rattle.hotel_statements.proofs.Answers.{fused}
 use Rattle.hotel_statements.proofs.Perm.{every_shuffled, sorted_rises, apart_permuted}
 
@@ -48,23 +48,23 @@ module _ {L X : Type 0} (cmp : X → X → Ordering) (total : IsTotalOrder cmp) 
   abbrev pub IsGood : L → Type 0
   IsGood l = (shown l ≡ written (entry l)) × (of (shown l) ≡ entry l)
 
-  shown_all : (lines : List L) → AllByRecursion IsGood lines → AllByRecursion (λ v. v ≡ written (of v)) (map shown lines)
+  shown_all : (plain_rows : List L) → AllByRecursion IsGood plain_rows → AllByRecursion (λ v. v ≡ written (of v)) (map shown plain_rows)
   shown_all [] all = tt
-  shown_all (l ∷ lines) all = (all.0.0 ∙ ap written (sym all.0.1), shown_all lines all.1)
+  shown_all (l ∷ plain_rows) all = (all.0.0 ∙ ap written (sym all.0.1), shown_all plain_rows all.1)
 
-  entries : (lines : List L) → AllByRecursion IsGood lines → map (λ l. of (shown l)) lines ≡ map entry lines
+  entries : (plain_rows : List L) → AllByRecursion IsGood plain_rows → map (λ l. of (shown l)) plain_rows ≡ map entry plain_rows
   entries [] all = refl
-  entries (l ∷ lines) all = ap (λ e. e ∷ map (λ (k : L). of (shown k)) lines) all.0.1 ∙ ap (λ es. entry l ∷ es) (entries lines all.1)
+  entries (l ∷ plain_rows) all = ap (λ e. e ∷ map (λ (k : L). of (shown k)) plain_rows) all.0.1 ∙ ap (λ es. entry l ∷ es) (entries plain_rows all.1)
 
-  pub read_back : (lines : List L) (rows : List Row) → AreLines columns shown lines rows → AllByRecursion IsGood lines
-      → IsAscending (λ a b. cmp a b ≡ Less) (map entry lines) → IsTable cmp columns of written rows × (listed cmp (λ r. of (columns r)) rows ≡ map entry lines)
-  read_back lines rows same all up =
+  pub read_back : (plain_rows : List L) (rows : List Row) → ArePlainRows columns shown plain_rows rows → AllByRecursion IsGood plain_rows
+      → IsAscending (λ a b. cmp a b ≡ Less) (map entry plain_rows) → IsTable cmp columns of written rows × (listed cmp (λ r. of (columns r)) rows ≡ map entry plain_rows)
+  read_back plain_rows rows same all up =
       let good : AllByRecursion (IsWrittenAs columns of written) rows = all_unmap (λ v. v ≡ written (of v)) columns rows
-      (every_shuffled (λ v. v ≡ written (of v)) (map shown lines) (map columns rows) (IsPermutation-sym _ _ same) (shown_all lines all)) in
-      let first : IsPermutation (map of (map columns rows)) (map of (map shown lines)) = IsPermutation-map of _ _ same in
-      let moved : IsPermutation (map (λ r. of (columns r)) rows) (map of (map shown lines)) = subst (λ xs. IsPermutation xs (map of (map shown lines))) (fused of columns rows) first in
-      let mapped : IsPermutation (map (λ r. of (columns r)) rows) (map entry lines) =
-      subst (λ ys. IsPermutation (map (λ r. of (columns r)) rows) ys) (fused of shown lines ∙ entries lines all) moved in
-      let apart : AreApart cmp (map entry lines) = ascending_weaker _ _ (λ a b less. ap is_eq less) (map entry lines) up in
+      (every_shuffled (λ v. v ≡ written (of v)) (map shown plain_rows) (map columns rows) (IsPermutation-sym _ _ same) (shown_all plain_rows all)) in
+      let first : IsPermutation (map of (map columns rows)) (map of (map shown plain_rows)) = IsPermutation-map of _ _ same in
+      let moved : IsPermutation (map (λ r. of (columns r)) rows) (map of (map shown plain_rows)) = subst (λ xs. IsPermutation xs (map of (map shown plain_rows))) (fused of columns rows) first in
+      let mapped : IsPermutation (map (λ r. of (columns r)) rows) (map entry plain_rows) =
+      subst (λ ys. IsPermutation (map (λ r. of (columns r)) rows) ys) (fused of shown plain_rows ∙ entries plain_rows all) moved in
+      let apart : AreApart cmp (map entry plain_rows) = ascending_weaker _ _ (λ a b less. ap is_eq less) (map entry plain_rows) up in
       let own = apart_permuted cmp total _ _ (IsPermutation-sym _ _ mapped) apart in
-      (record { good = good; apart = own }, sym (sorted_is-sort_by cmp total (map (λ r. of (columns r)) rows) (map entry lines) own mapped (sorted_rises cmp total _ up)))
+      (record { good = good; apart = own }, sym (sorted_is-sort_by cmp total (map (λ r. of (columns r)) rows) (map entry plain_rows) own mapped (sorted_rises cmp total _ up)))

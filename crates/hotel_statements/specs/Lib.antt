@@ -9,6 +9,6 @@ pub mod LookUps
 pub mod Steps
 pub mod Statements
 pub mod Walks
-pub mod Lines
+pub mod PlainRows
 pub mod Reading
 pub mod SameSchema

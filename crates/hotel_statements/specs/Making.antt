@@ -55,16 +55,16 @@ abbrev pub with_inside : Schema
 with_inside = created with_card inside_table
 
 -- Where the connection was open and the one held, the other holds.
-abbrev pub Leads : (State → Type 0) → (State → Type 0) → State → State → Type 0
-Leads Before After old new = (IsTrue old.is_open → Before old) → After new
+abbrev pub IfOpen : (State → Type 0) → (State → Type 0) → State → State → Type 0
+IfOpen Before After old new = (IsTrue old.is_open → Before old) → After new
 
 -- the tables are made of those that were there
-abbrev pub LeadsBare : Schema → Schema → State → State → Type 0
-LeadsBare before after = Leads (IsBare before) (IsBare after)
+abbrev pub IfOpenBare : Schema → Schema → State → State → Type 0
+IfOpenBare before after = IfOpen (IsBare before) (IsBare after)
 
 -- whatever tables are there, the text's table is made
 abbrev pub Makes : List ℕ → State → State → Type 0
-Makes text old new = (schema : Schema) (t : Table) → IsMaker schema text t → Leads (IsBare schema) (IsBare (created schema t)) old new
+Makes text old new = (schema : Schema) (t : Table) → IsMaker schema text t → IfOpen (IsBare schema) (IsBare (created schema t)) old new
 
 -- The trees of an empty desk: meta has its one row, and the other tables have none.
 pub record IsEmptyDesk (db : Trees) : Type 0 where

@@ -8,18 +8,18 @@ use Rattle.sqlite.specs.Query.{Query, IsAnswer}
 use Rattle.sqlite.specs.Program.{overlay}
 use Rattle.sqlite.specs.State.{State, HasCleanDisk, Survives}
 use Rattle.keycard_rules.specs.declared.issued.LookFault.{LookFault}
-use Rattle.hotel_rows.specs.declared.stored.KindLine.{KindLine}
-use Rattle.hotel_rows.specs.declared.stored.RoomLine.{RoomLine}
-use Rattle.hotel_rows.specs.declared.stored.StayLine.{StayLine}
-use Rattle.hotel_rows.specs.declared.stored.CodeLine.{CodeLine}
-use Rattle.hotel_rows.specs.declared.stored.CardLine.{CardLine}
-use Rattle.hotel_rows.specs.declared.stored.NoteLine.{NoteLine}
-use Rattle.hotel_statements.specs.declared.lines.MetaLine.{MetaLine}
-use Rattle.hotel_statements.specs.declared.lines.NumberedInside.{NumberedInside}
+use Rattle.hotel_rows.specs.declared.stored.PlainKind.{PlainKind}
+use Rattle.hotel_rows.specs.declared.stored.PlainRoom.{PlainRoom}
+use Rattle.hotel_rows.specs.declared.stored.PlainStay.{PlainStay}
+use Rattle.hotel_rows.specs.declared.stored.PlainCode.{PlainCode}
+use Rattle.hotel_rows.specs.declared.stored.PlainCard.{PlainCard}
+use Rattle.hotel_rows.specs.declared.stored.PlainNote.{PlainNote}
+use Rattle.hotel_statements.specs.declared.plain_rows.PlainMeta.{PlainMeta}
+use Rattle.hotel_statements.specs.declared.plain_rows.NumberedInside.{NumberedInside}
 use Rattle.hotel_statements.specs.declared.reading.Tables.{Tables}
 use Rattle.hotel_statements.specs.Schema.{desk_schema}
 use Rattle.hotel_statements.specs.Columns.{meta_columns, kind_columns, room_columns, stay_columns, code_columns, card_columns, note_columns}
-use Rattle.hotel_statements.specs.Lines.{meta_shown, kind_shown, room_shown, stay_shown, code_shown, card_shown, numbered_columns, numbered_shown, note_shown, AreLines}
+use Rattle.hotel_statements.specs.PlainRows.{meta_shown, kind_shown, room_shown, stay_shown, code_shown, card_shown, numbered_columns, numbered_shown, note_shown, ArePlainRows}
 use Rattle.hotel_statements.specs.LookUps.{Asks}
 use Rattle.hotel_statements.specs.Books.{IsKept, KeepsRows}
 
@@ -44,15 +44,15 @@ pub record ReadsTo {R : Type 0} (Says : R → Trees → Type 0) (old new : State
   pub crash : Survives old new (λ _. IsKept old → ⊥)
 
 -- the rows of the first four tables, and of the last four
-abbrev pub AreFirst : (Vec MetaLine Global × Vec KindLine Global) × (Vec RoomLine Global × Vec StayLine Global) → Trees → Type 0
+abbrev pub AreFirst : (Vec PlainMeta Global × Vec PlainKind Global) × (Vec PlainRoom Global × Vec PlainStay Global) → Trees → Type 0
 AreFirst r db =
-    (AreLines meta_columns meta_shown r.0.0.items (db 0) × AreLines kind_columns kind_shown r.0.1.items (db 1))
-    × (AreLines room_columns room_shown r.1.0.items (db 3) × AreLines stay_columns stay_shown r.1.1.items (db 5))
+    (ArePlainRows meta_columns meta_shown r.0.0.items (db 0) × ArePlainRows kind_columns kind_shown r.0.1.items (db 1))
+    × (ArePlainRows room_columns room_shown r.1.0.items (db 3) × ArePlainRows stay_columns stay_shown r.1.1.items (db 5))
 
-abbrev pub AreLast : (Vec CodeLine Global × Vec CardLine Global) × (Vec NumberedInside Global × Vec NoteLine Global) → Trees → Type 0
+abbrev pub AreLast : (Vec PlainCode Global × Vec PlainCard Global) × (Vec NumberedInside Global × Vec PlainNote Global) → Trees → Type 0
 AreLast r db =
-    (AreLines code_columns code_shown r.0.0.items (db 6) × AreLines card_columns card_shown r.0.1.items (db 8))
-    × (AreLines numbered_columns numbered_shown r.1.0.items (db 9) × AreLines note_columns note_shown r.1.1.items (db 11))
+    (ArePlainRows code_columns code_shown r.0.0.items (db 6) × ArePlainRows card_columns card_shown r.0.1.items (db 8))
+    × (ArePlainRows numbered_columns numbered_shown r.1.0.items (db 9) × ArePlainRows note_columns note_shown r.1.1.items (db 11))
 
 -- the rows of all
 abbrev pub AreRead : Tables → Trees → Type 0

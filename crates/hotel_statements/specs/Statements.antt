@@ -63,8 +63,8 @@ removes_inside room card = (text.delete_inside, inside_written (room, card))
 abbrev pub sets_issued : ℕ → ℕ → ℕ → Statement
 sets_issued room codes party = (text.update_issued, int room ∷ int codes ∷ int party ∷ [])
 
-abbrev pub sets_left : ℕ → Statement
-sets_left room = (text.update_party, int room ∷ [])
+abbrev pub frees_room : ℕ → Statement
+frees_room room = (text.update_party, int room ∷ [])
 
 -- the place of the room's lock, whether it is secured, and how many notes were taken
 abbrev pub sets_noted : ℕ → ℕ → Bool → ℕ → Statement
@@ -77,7 +77,7 @@ sets_state party state = (text.update_state, int party ∷ int (state_number sta
 
 abbrev pub leaves_room : Option ℕ → List Statement
 leaves_room None = []
-leaves_room (Some room) = sets_left room ∷ []
+leaves_room (Some room) = frees_room room ∷ []
 
 abbrev pub gives_code : Option ℕ → ℕ → CodeRow → List Statement
 gives_code leaves code at = leaves_room leaves ++ adds_code code at ∷ []
@@ -95,7 +95,7 @@ opens_room room kind code =
     ∷ adds_code code (record { room = room; place = 0 }) ∷ []
 
 abbrev pub ends_stay : ℕ → ℕ → List Statement
-ends_stay party room = sets_state party state.Done ∷ sets_left room ∷ []
+ends_stay party room = sets_state party state.Done ∷ frees_room room ∷ []
 
 abbrev pub gives_note : Note → ℕ → Bool → List Statement
 gives_note note lock_place secured = adds_note note ∷ sets_noted note.room lock_place secured note.count ∷ []
@@ -141,10 +141,10 @@ module _ {S : Type 0} (g : Ghosts S) where
       ⊎ ((mid : Held S) × (count : ℕ) × RunsOne s old mid (Ok count) × RunsInTurn more mid new result)
 
   -- what these statements do, on a disk that returned what was written
-  pub record Runs (statements : List Statement) (old new : Held S) (result : Result (Unit {0}) Error) : Type 0 where
+  pub record RunsStatements (statements : List Statement) (old new : Held S) (result : Result (Unit {0}) Error) : Type 0 where
     pub in_turn : HasCleanDisk (held.state g new) → RunsInTurn statements old new result
 
   -- These statements are run; where none failed, and the rows fit, the rows are what is made of those before.
   pub record WritesBy (statements : List Statement) (fits : Rows → Type 0) (make : Rows → Rows) (old new : Held S) (result : Result (Unit {0}) Error) : Type 0 where
-    pub runs : Runs statements old new result
+    pub runs : RunsStatements statements old new result
     pub rows : MakesRows fits make (held.state g old) (held.state g new) result

@@ -14,7 +14,7 @@ use Rattle.hotel_core.specs.declared.books.rows.RoomRow.{RoomRow}
 use Rattle.hotel_core.specs.declared.books.rows.CodeRow.{CodeRow}
 use Rattle.hotel_core.specs.Model.Words.{pair_cmp}
 use Rattle.hotel_core.specs.Model.Stays.{in_state}
-use Rattle.hotel_core.specs.Books.Change.{room_changed, without_party, left_by}
+use Rattle.hotel_core.specs.Books.Change.{room_changed, without_party, freed_by}
 use Rattle.sqlite.specs.Tree.{Trees}
 use Rattle.sqlite.specs.Order.{Row}
 use Rattle.sqlite.specs.State.{State, HasCleanDisk, KeepsCommit, Survives, ExecutesInside}
@@ -30,7 +30,7 @@ pub record IsMid (s : State) : Type 0 where
   pub tables : AreTables s.now.trees
 
 -- A step of a transaction: nothing is committed, and the rows after it are what is made of those before.
-pub record Steps (old new : State) (make : Rows → Rows) : Type 0 where
+pub record MovesRows (old new : State) (make : Rows → Rows) : Type 0 where
   pub was_open : IsTrue old.is_open
   pub is_open : IsTrue new.is_open
   pub committed : new.committed ≡ old.committed
@@ -38,7 +38,7 @@ pub record Steps (old new : State) (make : Rows → Rows) : Type 0 where
   pub rows_are : rows_in new.now.trees ≡ make (rows_in old.now.trees)
 
 -- A statement that was run in a transaction, from old to new.
-pub record Runs (text : List ℕ) (params : Row) (old new : State) (result : Result (Unit {0}) Error) : Type 0 where
+pub record RunsStatement (text : List ℕ) (params : Row) (old new : State) (result : Result (Unit {0}) Error) : Type 0 where
   pub ran : HasCleanDisk new → OnOk result ((count : ℕ) × ExecutesInside 0 text params old new (Ok count))
   pub kept : HasCleanDisk new → KeepsCommit old new
   pub survives : Survives old new (λ _. ⊥)
@@ -49,7 +49,7 @@ IsMidWith fits s = IsTrue s.is_open → IsMid s × fits (rows_in s.now.trees)
 
 -- Statements of a transaction, from old to new: where none failed, and the rows fit, the rows are what is made of those before. Nothing is committed, and a crash leaves nothing new.
 pub record MakesRows (fits : Rows → Type 0) (make : Rows → Rows) (old new : State) (result : Result (Unit {0}) Error) : Type 0 where
-  pub made : HasCleanDisk new → OnOk result (IsMidWith fits old → Steps old new make)
+  pub made : HasCleanDisk new → OnOk result (IsMidWith fits old → MovesRows old new make)
   pub kept : HasCleanDisk new → KeepsCommit old new
   pub survives : Survives old new (λ _. ⊥)
 
@@ -92,8 +92,8 @@ note_added note rows = record rows { notes = insert_entry pair_cmp rows.notes (n
 abbrev pub room_issued : ℕ → ℕ → ℕ → Rows → Rows
 room_issued room codes party rows = record rows { rooms = room_changed room (λ row. record row { codes = codes; secured = false; party = Some party }) rows.rooms }
 
-abbrev pub room_left : ℕ → Rows → Rows
-room_left room rows = record rows { rooms = without_party room rows.rooms }
+abbrev pub room_freed : ℕ → Rows → Rows
+room_freed room rows = record rows { rooms = without_party room rows.rooms }
 
 -- a note of the room's lock was taken
 abbrev pub room_noted : ℕ → ℕ → Bool → ℕ → Rows → Rows
@@ -109,7 +109,7 @@ inside_gone room number rows = record rows { inside = remove_key (is_at (pair_cm
 
 -- a party leaves its room, if it has one, and a code is added
 abbrev pub code_given : Option ℕ → ℕ → CodeRow → Rows → Rows
-code_given leaves code at rows = code_added code at (record rows { rooms = left_by leaves rows.rooms })
+code_given leaves code at rows = code_added code at (record rows { rooms = freed_by leaves rows.rooms })
 
 -- the room has so many codes and the card's party, whose stay is in that room
 abbrev pub card_given : Card → ℕ → ℕ → Rows → Rows

@@ -5,7 +5,7 @@ ghost use Rattle.hotel_core.specs.declared.books.change.Change.TheVariants as ch
 ghost use Rattle.hotel_statements.specs.Statements.{WritesBy, opens_room, ends_stay};
 ghost use Rattle.hotel_statements.specs.Steps.{any_rows};
 
-use crate::steps::{insert_code, insert_room, set_left, set_state};
+use crate::steps::{free_room, insert_code, insert_room, set_state};
 use hotel_core::{CodeRow, RoomRow};
 use hotel_nights::{KindCode, StayState};
 use keycard_rules::{Code, PartyNo, RoomNo};
@@ -44,5 +44,5 @@ pub fn end_stay<S: Alter>(
     ensures makes { WritesBy S.Store (ends_stay party room) any_rows (made (change.CheckedOut party room)) tx.old.conn.now tx.new.conn.now result }
 {
     set_state(tx, party, StayState::Done)?;
-    set_left(tx, room)
+    free_room(tx, room)
 }

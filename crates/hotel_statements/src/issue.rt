@@ -5,7 +5,7 @@ ghost use Rattle.hotel_core.specs.declared.books.change.Change.TheVariants as ch
 ghost use Rattle.hotel_statements.specs.Statements.{WritesBy, gives_code, gives_card, issues_card};
 ghost use Rattle.hotel_statements.specs.Steps.{any_rows, code_given, card_given};
 
-use crate::steps::{insert_card, insert_code, set_issued, set_left, set_state};
+use crate::steps::{free_room, insert_card, insert_code, set_issued, set_state};
 use hotel_core::CodeRow;
 use hotel_nights::StayState;
 use keycard_rules::{Card, Code, RoomNo};
@@ -23,7 +23,7 @@ fn give_code<S: Alter>(
 {
     match leaves {
         Some(left) => {
-            set_left(tx, left)?;
+            free_room(tx, left)?;
             insert_code(tx, code, at)
         }
         None => insert_code(tx, code, at),

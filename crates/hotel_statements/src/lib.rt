@@ -5,12 +5,12 @@
 pub mod changes;
 mod from_row;
 pub mod issue;
-pub mod lines;
+pub mod lock_notes;
 mod look;
 pub mod look_ups;
 pub mod making;
-pub mod noting;
 mod number;
+pub mod plain_rows;
 pub mod reading;
 pub mod same_schema;
 mod statement;

@@ -4,8 +4,8 @@ ghost use Rattle.sqlite.specs.Held.{state};
 ghost use Rattle.sqlite.specs.State.{HasCleanDisk, KeepsCommit, Survives};
 ghost use Rattle.hotel_statements.specs.Schema.{no_schema, desk_schema};
 ghost use Rattle.hotel_statements.specs.Texts as texts;
-ghost use Rattle.hotel_statements.specs.Statements.{Runs, makes_table};
-ghost use Rattle.hotel_statements.specs.Making.{Leads, LeadsBare, Makes, IsBare, IsMade, with_stay};
+ghost use Rattle.hotel_statements.specs.Statements.{RunsStatements, makes_table};
+ghost use Rattle.hotel_statements.specs.Making.{IfOpen, IfOpenBare, Makes, IsBare, IsMade, with_stay};
 
 use crate::statement::run;
 use crate::texts::{
@@ -17,7 +17,7 @@ use sqlite::{Alter, Error, Transaction};
 /// Makes a table.
 fn make<S: Alter>(tx: &mut Transaction<'_, S>, text: &str) -> Result<(), Error>
     ensures same_reference { tx.new.conn.ghost_name ≡ tx.old.conn.ghost_name }
-    ensures answers { Runs S.Store (makes_table text.now ∷ []) tx.old.conn.now tx.new.conn.now result }
+    ensures answers { RunsStatements S.Store (makes_table text.now ∷ []) tx.old.conn.now tx.new.conn.now result }
     ensures made { HasCleanDisk (state S.Store tx.new.conn.now) → OnOk result (Makes text.now (state S.Store tx.old.conn.now) (state S.Store tx.new.conn.now)) }
     ensures kept { HasCleanDisk (state S.Store tx.new.conn.now) → KeepsCommit (state S.Store tx.old.conn.now) (state S.Store tx.new.conn.now) }
     ensures survives { Survives (state S.Store tx.old.conn.now) (state S.Store tx.new.conn.now) (λ _. ⊥) }
@@ -28,8 +28,8 @@ fn make<S: Alter>(tx: &mut Transaction<'_, S>, text: &str) -> Result<(), Error>
 /// Makes the tables of the desk, its kinds, rooms and stays.
 pub fn make_first<S: Alter>(tx: &mut Transaction<'_, S>) -> Result<(), Error>
     ensures same_reference { tx.new.conn.ghost_name ≡ tx.old.conn.ghost_name }
-    ensures answers { Runs S.Store (makes_table texts.create_meta ∷ makes_table texts.create_kind ∷ makes_table texts.create_room ∷ makes_table texts.create_stay ∷ []) tx.old.conn.now tx.new.conn.now result }
-    ensures made { HasCleanDisk (state S.Store tx.new.conn.now) → OnOk result (LeadsBare no_schema with_stay (state S.Store tx.old.conn.now) (state S.Store tx.new.conn.now)) }
+    ensures answers { RunsStatements S.Store (makes_table texts.create_meta ∷ makes_table texts.create_kind ∷ makes_table texts.create_room ∷ makes_table texts.create_stay ∷ []) tx.old.conn.now tx.new.conn.now result }
+    ensures made { HasCleanDisk (state S.Store tx.new.conn.now) → OnOk result (IfOpenBare no_schema with_stay (state S.Store tx.old.conn.now) (state S.Store tx.new.conn.now)) }
     ensures kept { HasCleanDisk (state S.Store tx.new.conn.now) → KeepsCommit (state S.Store tx.old.conn.now) (state S.Store tx.new.conn.now) }
     ensures survives { Survives (state S.Store tx.old.conn.now) (state S.Store tx.new.conn.now) (λ _. ⊥) }
 {
@@ -42,8 +42,8 @@ pub fn make_first<S: Alter>(tx: &mut Transaction<'_, S>) -> Result<(), Error>
 /// Makes the tables of codes, cards, insides and notes.
 pub fn make_last<S: Alter>(tx: &mut Transaction<'_, S>) -> Result<(), Error>
     ensures same_reference { tx.new.conn.ghost_name ≡ tx.old.conn.ghost_name }
-    ensures answers { Runs S.Store (makes_table texts.create_code ∷ makes_table texts.create_card ∷ makes_table texts.create_inside ∷ makes_table texts.create_note ∷ []) tx.old.conn.now tx.new.conn.now result }
-    ensures made { HasCleanDisk (state S.Store tx.new.conn.now) → OnOk result (LeadsBare with_stay desk_schema (state S.Store tx.old.conn.now) (state S.Store tx.new.conn.now)) }
+    ensures answers { RunsStatements S.Store (makes_table texts.create_code ∷ makes_table texts.create_card ∷ makes_table texts.create_inside ∷ makes_table texts.create_note ∷ []) tx.old.conn.now tx.new.conn.now result }
+    ensures made { HasCleanDisk (state S.Store tx.new.conn.now) → OnOk result (IfOpenBare with_stay desk_schema (state S.Store tx.old.conn.now) (state S.Store tx.new.conn.now)) }
     ensures kept { HasCleanDisk (state S.Store tx.new.conn.now) → KeepsCommit (state S.Store tx.old.conn.now) (state S.Store tx.new.conn.now) }
     ensures survives { Survives (state S.Store tx.old.conn.now) (state S.Store tx.new.conn.now) (λ _. ⊥) }
 {
@@ -56,8 +56,8 @@ pub fn make_last<S: Alter>(tx: &mut Transaction<'_, S>) -> Result<(), Error>
 /// Adds the row of meta, with no day.
 pub fn enter_meta<S: Alter>(tx: &mut Transaction<'_, S>) -> Result<(), Error>
     ensures same_reference { tx.new.conn.ghost_name ≡ tx.old.conn.ghost_name }
-    ensures answers { Runs S.Store ((texts.insert_meta, []) ∷ []) tx.old.conn.now tx.new.conn.now result }
-    ensures made { HasCleanDisk (state S.Store tx.new.conn.now) → OnOk result (Leads (IsBare desk_schema) IsMade (state S.Store tx.old.conn.now) (state S.Store tx.new.conn.now)) }
+    ensures answers { RunsStatements S.Store ((texts.insert_meta, []) ∷ []) tx.old.conn.now tx.new.conn.now result }
+    ensures made { HasCleanDisk (state S.Store tx.new.conn.now) → OnOk result (IfOpen (IsBare desk_schema) IsMade (state S.Store tx.old.conn.now) (state S.Store tx.new.conn.now)) }
     ensures kept { HasCleanDisk (state S.Store tx.new.conn.now) → KeepsCommit (state S.Store tx.old.conn.now) (state S.Store tx.new.conn.now) }
     ensures survives { Survives (state S.Store tx.old.conn.now) (state S.Store tx.new.conn.now) (λ _. ⊥) }
 {

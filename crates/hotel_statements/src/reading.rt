@@ -5,56 +5,56 @@ ghost use Rattle.std.specs.Ordering.{is_lt};
 ghost use Rattle.sqlite.specs.Held.{state};
 ghost use Rattle.hotel_core.specs.Model.SoundRooms.{are_in_order};
 ghost use Rattle.hotel_statements.specs.Reading.{IsOurs, IsWhole, ReadsTo, AreFirst, AreLast, AreRead};
-ghost use Rattle.hotel_statements.specs.Lines.{AreLines};
+ghost use Rattle.hotel_statements.specs.PlainRows.{ArePlainRows};
 
 use crate::from_row::fault_of;
-use crate::lines::{Line, MetaLine, NumberedInside, Plain};
-use hotel_rows::{CardLine, CodeLine, KindLine, NoteLine, RoomLine, StayLine};
+use crate::plain_rows::{NumberedInside, Plain, PlainMeta, PlainRow};
+use hotel_rows::{PlainCard, PlainCode, PlainKind, PlainNote, PlainRoom, PlainStay};
 use keycard_rules::LookFault;
 use sqlite::{Alter, Connection, Row};
 use std::alloc::Global;
 
 /// The rows that were shown, as plain data.
-fn lines_of<L: Line + Drop>(alloc: Global, rows: &[Row]) -> Result<Vec<L>, LookFault>
-    ensures { IfOk result (λ lines. map L.Line.shown lines.items ≡ map L.Line.cut rows.now) }
+fn plain_rows_of<L: PlainRow + Drop>(alloc: Global, rows: &[Row]) -> Result<Vec<L>, LookFault>
+    ensures { IfOk result (λ plain_rows. map L.PlainRow.shown plain_rows.items ≡ map L.PlainRow.cut rows.now) }
 {
-    let mut lines = Vec::new(alloc);
+    let mut plain_rows = Vec::new(alloc);
     'rows: for i in 0..rows.len() {
-        let line = match L::line(&rows[i]) {
-            Ok(line) => line,
+        let plain = match L::of_row(&rows[i]) {
+            Ok(plain) => plain,
             Err(error) => return Err(fault_of(error)),
         };
-        if lines.push(line).is_err() {
+        if plain_rows.push(plain).is_err() {
             return Err(LookFault::Memory);
         }
     }
-    Ok(lines)
+    Ok(plain_rows)
 }
 
 /// The rows of a table, in the order of its key.
-fn read_table<S: Alter, L: Line + Drop>(
+fn read_table<S: Alter, L: PlainRow + Drop>(
     alloc: Global,
     conn: &mut Connection<S>,
 ) -> Result<Vec<L>, LookFault>
     requires ours { IsOurs (state S.Store conn.old) }
-    requires whole { IsWhole L.Line.text L.Line.tree L.Line.columns L.Line.cut }
-    ensures { ReadsTo (λ lines db. AreLines L.Line.columns L.Line.shown lines.items (db L.Line.tree)) (state S.Store conn.old) (state S.Store conn.new) result }
+    requires whole { IsWhole L.PlainRow.text L.PlainRow.tree L.PlainRow.columns L.PlainRow.cut }
+    ensures { ReadsTo (λ plain_rows db. ArePlainRows L.PlainRow.columns L.PlainRow.shown plain_rows.items (db L.PlainRow.tree)) (state S.Store conn.old) (state S.Store conn.new) result }
 {
     match conn.query_all(L::text(), &[]) {
-        Ok(rows) => lines_of(alloc, &rows),
+        Ok(rows) => plain_rows_of(alloc, &rows),
         Err(error) => Err(fault_of(error)),
     }
 }
 
 /// The rows of two tables.
-fn read_two<S: Alter, A: Line + Drop, B: Line + Drop>(
+fn read_two<S: Alter, A: PlainRow + Drop, B: PlainRow + Drop>(
     alloc: Global,
     conn: &mut Connection<S>,
 ) -> Result<(Vec<A>, Vec<B>), LookFault>
     requires ours { IsOurs (state S.Store conn.old) }
-    requires first { IsWhole A.Line.text A.Line.tree A.Line.columns A.Line.cut }
-    requires second { IsWhole B.Line.text B.Line.tree B.Line.columns B.Line.cut }
-    ensures { ReadsTo (λ two db. AreLines A.Line.columns A.Line.shown two.0.items (db A.Line.tree) × AreLines B.Line.columns B.Line.shown two.1.items (db B.Line.tree))
+    requires first { IsWhole A.PlainRow.text A.PlainRow.tree A.PlainRow.columns A.PlainRow.cut }
+    requires second { IsWhole B.PlainRow.text B.PlainRow.tree B.PlainRow.columns B.PlainRow.cut }
+    ensures { ReadsTo (λ two db. ArePlainRows A.PlainRow.columns A.PlainRow.shown two.0.items (db A.PlainRow.tree) × ArePlainRows B.PlainRow.columns B.PlainRow.shown two.1.items (db B.PlainRow.tree))
         (state S.Store conn.old) (state S.Store conn.new) result }
 {
     let first = read_table(alloc, conn)?;
@@ -69,11 +69,11 @@ fn comes_before<L: Plain>(a: &L, b: &L) -> bool
 }
 
 /// Whether each row's key comes before the next one's.
-pub fn rise<L: Plain>(lines: &[L]) -> bool
-    ensures { result ≡ are_in_order L.Plain.order lines.now }
+pub fn rise<L: Plain>(plain_rows: &[L]) -> bool
+    ensures { result ≡ are_in_order L.Plain.order plain_rows.now }
 {
-    for i in 1..lines.len() {
-        if !comes_before(&lines[i - 1], &lines[i]) {
+    for i in 1..plain_rows.len() {
+        if !comes_before(&plain_rows[i - 1], &plain_rows[i]) {
             return false;
         }
     }
@@ -81,11 +81,11 @@ pub fn rise<L: Plain>(lines: &[L]) -> bool
 }
 
 /// Whether no number of any row is below 0.
-pub fn all_natural<L: Plain>(lines: &[L]) -> bool
-    ensures { result ≡ list_all L.Plain.natural lines.now }
+pub fn all_natural<L: Plain>(plain_rows: &[L]) -> bool
+    ensures { result ≡ list_all L.Plain.natural plain_rows.now }
 {
-    for i in 0..lines.len() {
-        if !lines[i].is_natural() {
+    for i in 0..plain_rows.len() {
+        if !plain_rows[i].is_natural() {
             return false;
         }
     }
@@ -95,14 +95,14 @@ pub fn all_natural<L: Plain>(lines: &[L]) -> bool
 /// The rows of the tables; those inside with their numbers.
 #[derive(Drop)]
 pub struct Tables {
-    pub meta: Vec<MetaLine>,
-    pub kinds: Vec<KindLine>,
-    pub rooms: Vec<RoomLine>,
-    pub stays: Vec<StayLine>,
-    pub codes: Vec<CodeLine>,
-    pub cards: Vec<CardLine>,
+    pub meta: Vec<PlainMeta>,
+    pub kinds: Vec<PlainKind>,
+    pub rooms: Vec<PlainRoom>,
+    pub stays: Vec<PlainStay>,
+    pub codes: Vec<PlainCode>,
+    pub cards: Vec<PlainCard>,
     pub inside: Vec<NumberedInside>,
-    pub notes: Vec<NoteLine>,
+    pub notes: Vec<PlainNote>,
 }
 
 /// The rows of meta, kinds, rooms and stays.
@@ -111,8 +111,8 @@ fn read_first<S: Alter>(
     conn: &mut Connection<S>,
 ) -> Result<
     (
-        (Vec<MetaLine>, Vec<KindLine>),
-        (Vec<RoomLine>, Vec<StayLine>),
+        (Vec<PlainMeta>, Vec<PlainKind>),
+        (Vec<PlainRoom>, Vec<PlainStay>),
     ),
     LookFault,
 >
@@ -130,8 +130,8 @@ fn read_last<S: Alter>(
     conn: &mut Connection<S>,
 ) -> Result<
     (
-        (Vec<CodeLine>, Vec<CardLine>),
-        (Vec<NumberedInside>, Vec<NoteLine>),
+        (Vec<PlainCode>, Vec<PlainCard>),
+        (Vec<NumberedInside>, Vec<PlainNote>),
     ),
     LookFault,
 >

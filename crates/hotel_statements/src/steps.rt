@@ -2,8 +2,8 @@
 ghost use Rattle.std.specs.Prelude.{◌≡◌, None, false, [], ◌∷◌};
 ghost use Rattle.hotel_core.specs.Model.Rows.{has_kind};
 ghost use Rattle.hotel_core.specs.Books.Lookups.{note_at};
-ghost use Rattle.hotel_statements.specs.Statements.{WritesBy, sets_day, adds_kind, adds_room, adds_code, adds_stay, adds_card, adds_note, adds_inside, removes_inside, sets_issued, sets_left, sets_noted, sets_state};
-ghost use Rattle.hotel_statements.specs.Steps.{any_rows, day_set, kind_added, room_added, code_added, stay_added, card_added, note_added, inside_added, inside_gone, room_issued, room_left, room_noted, stay_set};
+ghost use Rattle.hotel_statements.specs.Statements.{WritesBy, sets_day, adds_kind, adds_room, adds_code, adds_stay, adds_card, adds_note, adds_inside, removes_inside, sets_issued, frees_room, sets_noted, sets_state};
+ghost use Rattle.hotel_statements.specs.Steps.{any_rows, day_set, kind_added, room_added, code_added, stay_added, card_added, note_added, inside_added, inside_gone, room_issued, room_freed, room_noted, stay_set};
 
 use crate::number::{
     act_card, act_first, act_number, act_second, bit, coded, dated, maybe, numbered, room_of,
@@ -176,9 +176,9 @@ pub(crate) fn set_issued<S: Alter>(
 }
 
 /// Leaves a room without a party.
-pub fn set_left<S: Alter>(tx: &mut Transaction<'_, S>, room: RoomNo) -> Result<(), Error>
+pub fn free_room<S: Alter>(tx: &mut Transaction<'_, S>, room: RoomNo) -> Result<(), Error>
     ensures same_reference { tx.new.conn.ghost_name ≡ tx.old.conn.ghost_name }
-    ensures makes { WritesBy S.Store (sets_left room ∷ []) any_rows (room_left room) tx.old.conn.now tx.new.conn.now result }
+    ensures makes { WritesBy S.Store (frees_room room ∷ []) any_rows (room_freed room) tx.old.conn.now tx.new.conn.now result }
 {
     run(tx, UPDATE_PARTY, &[numbered(room)])
 }

@@ -22,11 +22,11 @@ use Rattle.hotel_core.specs.declared.books.change.Change.TheVariants as change
 use Rattle.hotel_core.specs.Model.Rows.{Rows, has_kind}
 use Rattle.hotel_core.specs.Model.Stays.{in_state}
 use Rattle.hotel_core.specs.Books.Lookups.{stay_at, rooms_of_kind}
-use Rattle.hotel_core.specs.Books.Change.{made, left_by}
+use Rattle.hotel_core.specs.Books.Change.{made, freed_by}
 use Rattle.hotel_core.specs.Books.Fits.{HasItsRows, Fits}
 use Rattle.hotel_core.specs.KindRooms.{is_there, rooms_in}
-use Rattle.hotel_core.specs.NightIndex.{counted, StandsFor}
-use Rattle.hotel_core.specs.Memory.{HaveRoomNumbers, RoomsKnown, StandsForAll}
+use Rattle.hotel_core.specs.NightIndex.{counted, CountsNights}
+use Rattle.hotel_core.specs.Memory.{HaveRoomNumbers, RoomsKnown, CountsNightsOf}
 use Rattle.hotel_core.proofs.OfTables.Tests.{and_true, or_true}
 use Rattle.hotel_core.proofs.OfTables.RowTests.{or_later}
 use Rattle.hotel_core.proofs.OfTables.KeysInOrder.{AllAfter, InOrder}
@@ -138,7 +138,7 @@ rooms_after (change.Room room kind code) rows mid later known kinds few fits one
     omega (arith, added, was, is)
 rooms_after (change.Issue card room leaves) rows mid later known kinds few fits same k =
     ap (λ ks. rooms_in ks k) same
-    ∙ (known_changed (λ row. record row { codes = row.codes + 1; secured = false; party = Some card.party }) (λ row. refl) mid room (left_by leaves rows.rooms) (known_left leaves mid rows.rooms known)).counts k
+    ∙ (known_changed (λ row. record row { codes = row.codes + 1; secured = false; party = Some card.party }) (λ row. refl) mid room (freed_by leaves rows.rooms) (known_left leaves mid rows.rooms known)).counts k
 rooms_after (change.CheckedOut party room) rows mid later known kinds few fits same k =
     ap (λ ks. rooms_in ks k) same ∙ (known_changed (λ row. record row { party = None }) (λ row. refl) mid room rows.rooms known).counts k
 rooms_after (change.Noted note place secured insides) rows mid later known kinds few fits same k =
@@ -149,17 +149,17 @@ rooms_after _ rows mid later known kinds few fits same k = ap (λ ks. rooms_in k
 abbrev Turns : Option Stay → Option Stay → List ((List ℕ × ℕ) × List ℕ) → List ((List ℕ × ℕ) × List ℕ) → Type 0
 Turns more less old new = (kind : List ℕ) (d : ℕ) → counted new kind d ≡ counted old kind d + taken_by more kind d - taken_by less kind d
 
-stands_still : (old new : List ((List ℕ × ℕ) × List ℕ)) (stays : List Stay) → StandsFor old stays → Turns None None old new → StandsFor new stays
+stands_still : (old new : List ((List ℕ × ℕ) × List ℕ)) (stays : List Stay) → CountsNights old stays → Turns None None old new → CountsNights new stays
 stands_still old new stays h u kind d = let is = u kind d in let was = h kind d in omega (arith, is, was)
 
-stands_ended : (o : Option Stay) (party : ℕ) (s : StayState) (rows : Rows) (old new : List ((List ℕ × ℕ) × List ℕ)) → stay_at rows party ≡ o → IsSome o → is_standing s ≡ false → StandsForAll old rows.stays
-    → Turns None o old new → StandsForAll new (in_state party s rows.stays)
+stands_ended : (o : Option Stay) (party : ℕ) (s : StayState) (rows : Rows) (old new : List ((List ℕ × ℕ) × List ℕ)) → stay_at rows party ≡ o → IsSome o → is_standing s ≡ false → CountsNightsOf old rows.stays
+    → Turns None o old new → CountsNightsOf new (in_state party s rows.stays)
 stands_ended None party s rows old new e there ends h u = absurd (false≢true there)
 stands_ended (Some stay) party s rows old new e there ends h u =
     stands_less old new rows.stays party s stay h e ends (λ kind d. let is = u kind d in omega (arith, is))
 
-stays_after : (change : Change) (rows : Rows) (old new : List ((List ℕ × ℕ) × List ℕ)) → HasItsRows change rows → StandsForAll old rows.stays
-    → Turns (booked_by change) (ended_by change rows) old new → StandsForAll new (made change rows).stays
+stays_after : (change : Change) (rows : Rows) (old new : List ((List ℕ × ℕ) × List ℕ)) → HasItsRows change rows → CountsNightsOf old rows.stays
+    → Turns (booked_by change) (ended_by change rows) old new → CountsNightsOf new (made change rows).stays
 stays_after (change.Reserved stay) rows old new fits h u = stands_more old new rows.stays stay.party stay h fits.2 (λ kind d. let is = u kind d in omega (arith, is))
 stays_after (change.Cancelled party) rows old new fits h u = stands_ended (stay_at rows party) party state.Cancelled rows old new refl fits refl h u
 stays_after (change.CheckedOut party room) rows old new fits h u = stands_ended (stay_at rows party) party state.Done rows old new refl fits.0 refl h u

@@ -27,10 +27,10 @@ use Rattle.hotel_core.specs.Model.Sound.{keys_in_order}
 use Rattle.hotel_core.specs.Model.SoundRooms.{are_in_order}
 use Rattle.hotel_core.proofs.OfTables.Pairs.{pair_cmp_total}
 use Rattle.hotel_core.proofs.OfTables.Tests.{and_true}
-use Rattle.hotel_statements.specs.declared.lines.MetaLine.{MetaLine}
-use Rattle.hotel_statements.specs.declared.lines.NumberedInside.{NumberedInside}
-use Rattle.hotel_rows.specs.declared.stored.KindLine.{KindLine}
-use Rattle.hotel_rows.specs.declared.stored.InsideLine.{InsideLine}
+use Rattle.hotel_statements.specs.declared.plain_rows.PlainMeta.{PlainMeta}
+use Rattle.hotel_statements.specs.declared.plain_rows.NumberedInside.{NumberedInside}
+use Rattle.hotel_rows.specs.declared.stored.PlainKind.{PlainKind}
+use Rattle.hotel_rows.specs.declared.stored.PlainInside.{PlainInside}
 use Rattle.hotel_rows.specs.declared.stored.Stored.{Stored}
 use Rattle.hotel_statements.specs.declared.reading.Tables.{Tables}
 use Rattle.hotel_rows.specs.declared.counting.Counts.{Counts}
@@ -44,10 +44,10 @@ use Rattle.hotel_rows.specs.Damage.{columns_fit, first_damaged_of}
 use Rattle.hotel_statements.specs.Tables.{AreApartIds, AreApart, AreTables, by_key, metas_in, rows_in as all_rows_in}
 use Rattle.hotel_tables.specs.TableBooks.{IsCounted}
 use Rattle.hotel_statements.specs.Books.{IsBooks}
-use Rattle.hotel_statements.specs.Lines.{maybe, meta_shown, kind_shown, room_shown, stay_shown, code_shown, card_shown, inside_shown, numbered_shown, numbered_columns, note_shown, AreLines}
-use Rattle.hotel_statements.specs.Lines.{may_be_natural, room_natural, stay_natural, code_natural, card_natural, inside_natural, note_natural}
+use Rattle.hotel_statements.specs.PlainRows.{maybe, meta_shown, kind_shown, room_shown, stay_shown, code_shown, card_shown, inside_shown, numbered_shown, numbered_columns, note_shown, ArePlainRows}
+use Rattle.hotel_statements.specs.PlainRows.{may_be_natural, room_natural, stay_natural, code_natural, card_natural, inside_natural, note_natural}
 use Rattle.hotel_statements.specs.Reading.{ReadsTo, AreRead}
-use Rattle.hotel_tables.specs.Opening.{AreStored, AreApartInside, IsMetaRow, LacksRow, HasMetaRow, FaultFits, Told, Opens, all_rise, all_natural, id_inside, line_inside, fault_for}
+use Rattle.hotel_tables.specs.Opening.{AreStored, AreApartInside, IsMetaRow, LacksRow, HasMetaRow, FaultFits, Told, Opens, all_rise, all_natural, id_inside, plain_inside, fault_for}
 use Rattle.hotel_rows.specs.Counting.{IsCountedOf}
 use Rattle.hotel_rows.proofs.OfCounts.{counted_rooms, named_kind}
 use Rattle.hotel_statements.proofs.Answers.{fused}
@@ -59,7 +59,7 @@ use Rattle.hotel_rows.proofs.OfDamage.Undamaged.{undamaged_is_sound}
 
 -- ---- the row of meta
 
-one_version : (l : MetaLine) (row : Row) → meta_columns row ∷ [] ≡ meta_shown l ∷ [] → column (meta_columns row) 1 ≡ Int (pos 1) → l.version ≡ pos 1
+one_version : (l : PlainMeta) (row : Row) → meta_columns row ∷ [] ≡ meta_shown l ∷ [] → column (meta_columns row) 1 ≡ Int (pos 1) → l.version ≡ pos 1
 one_version l row same is =
     let e : column (meta_columns row) 1 ≡ Int l.version = ap (λ (rows : List Row). column (head rows) 1) same in
     ap id_in (sym e ∙ is)
@@ -68,22 +68,22 @@ one_version l row same is =
     head [] = []
     head (r ∷ rs) = r
 
-pub lacks_row : (db : Trees) (meta : List MetaLine) → AreLines meta_columns meta_shown meta (db 0) → ((l : MetaLine) → meta ≡ l ∷ [] → ¬ (l.version ≡ pos 1)) → ¬ HasMetaRow db
-lacks_row db [] lines none has =
-    let here : IsPermutation (map meta_columns (has.0 ∷ [])) [] = subst (λ rows. IsPermutation (map meta_columns rows) []) has.1 lines in
+pub lacks_row : (db : Trees) (meta : List PlainMeta) → ArePlainRows meta_columns meta_shown meta (db 0) → ((l : PlainMeta) → meta ≡ l ∷ [] → ¬ (l.version ≡ pos 1)) → ¬ HasMetaRow db
+lacks_row db [] plain_rows none has =
+    let here : IsPermutation (map meta_columns (has.0 ∷ [])) [] = subst (λ rows. IsPermutation (map meta_columns rows) []) has.1 plain_rows in
     absurd (omega (arith, length_permutation _ _ here))
-lacks_row db (l ∷ []) lines none has =
-    let here : IsPermutation (meta_columns has.0 ∷ []) (meta_shown l ∷ []) = subst (λ rows. IsPermutation (map meta_columns rows) (meta_shown l ∷ [])) has.1 lines in
+lacks_row db (l ∷ []) plain_rows none has =
+    let here : IsPermutation (meta_columns has.0 ∷ []) (meta_shown l ∷ []) = subst (λ rows. IsPermutation (map meta_columns rows) (meta_shown l ∷ [])) has.1 plain_rows in
     none l refl (one_version l has.0 (sym (one_permutation (meta_columns has.0) (meta_shown l ∷ []) here)) has.2)
-lacks_row db (l ∷ k ∷ meta) lines none has =
-    let here : IsPermutation (map meta_columns (has.0 ∷ [])) (map meta_shown (l ∷ k ∷ meta)) = subst (λ rows. IsPermutation (map meta_columns rows) (map meta_shown (l ∷ k ∷ meta))) has.1 lines in
+lacks_row db (l ∷ k ∷ meta) plain_rows none has =
+    let here : IsPermutation (map meta_columns (has.0 ∷ [])) (map meta_shown (l ∷ k ∷ meta)) = subst (λ rows. IsPermutation (map meta_columns rows) (map meta_shown (l ∷ k ∷ meta))) has.1 plain_rows in
     absurd (omega (arith, length_permutation _ _ here))
 
-pub fault_lacks : (db : Trees) (meta : List MetaLine) (why : OpenFault) → AreLines meta_columns meta_shown meta (db 0) → LacksRow meta why → FaultFits db why
-fault_lacks db meta fault.Memory lines lacks = tt
-fault_lacks db meta fault.Store lines lacks = tt
-fault_lacks db meta fault.NotADesk lines lacks = lacks_row db meta lines lacks
-fault_lacks db meta (fault.Damaged t) lines lacks = absurd lacks
+pub fault_lacks : (db : Trees) (meta : List PlainMeta) (why : OpenFault) → ArePlainRows meta_columns meta_shown meta (db 0) → LacksRow meta why → FaultFits db why
+fault_lacks db meta fault.Memory plain_rows lacks = tt
+fault_lacks db meta fault.Store plain_rows lacks = tt
+fault_lacks db meta fault.NotADesk plain_rows lacks = lacks_row db meta plain_rows lacks
+fault_lacks db meta (fault.Damaged t) plain_rows lacks = absurd lacks
 
 -- ---- the rows inside, and their numbers
 
@@ -92,29 +92,29 @@ apart_ids ids sorted same up =
     let apart : AreApart int_cmp sorted = ascending_weaker _ _ (λ a b less. ap is_eq less) sorted (tested_order int_cmp int_cmp_total sorted up) in
     apart_permuted int_cmp int_cmp_total sorted ids (IsPermutation-sym _ _ same) apart
 
-all_ids : (lines : List NumberedInside) → AllByRecursion (λ (v : Row). column v 0 ≡ Int (id_in (column v 0))) (map numbered_shown lines)
+all_ids : (plain_rows : List NumberedInside) → AllByRecursion (λ (v : Row). column v 0 ≡ Int (id_in (column v 0))) (map numbered_shown plain_rows)
 all_ids [] = tt
-all_ids (l ∷ lines) = (refl, all_ids lines)
+all_ids (l ∷ plain_rows) = (refl, all_ids plain_rows)
 
-first_ids : (lines : List NumberedInside) → map (λ (v : Row). column v 0) (map numbered_shown lines) ≡ map (λ (n : ℤ). Int n) (map id_inside lines)
+first_ids : (plain_rows : List NumberedInside) → map (λ (v : Row). column v 0) (map numbered_shown plain_rows) ≡ map (λ (n : ℤ). Int n) (map id_inside plain_rows)
 first_ids [] = refl
-first_ids (l ∷ lines) = ap (λ vs. Int l.id ∷ vs) (first_ids lines)
+first_ids (l ∷ plain_rows) = ap (λ vs. Int l.id ∷ vs) (first_ids plain_rows)
 
-pub ids_apart : (lines : List NumberedInside) (db : Trees) → AreLines numbered_columns numbered_shown lines (db 9)
-    → IsAscending (λ a b. is_eq (int_cmp a b) ≡ false) (map id_inside lines) → AreApartInside db
-ids_apart lines db same apart =
+pub ids_apart : (plain_rows : List NumberedInside) (db : Trees) → ArePlainRows numbered_columns numbered_shown plain_rows (db 9)
+    → IsAscending (λ a b. is_eq (int_cmp a b) ≡ false) (map id_inside plain_rows) → AreApartInside db
+ids_apart plain_rows db same apart =
     let rows = db 9 in
     let ids : AllByRecursion (λ r. column (numbered_columns r) 0 ≡ Int (id_in (column (numbered_columns r) 0))) rows =
     all_unmap (λ (v : Row). column v 0 ≡ Int (id_in (column v 0))) numbered_columns rows
-    (every_shuffled (λ (v : Row). column v 0 ≡ Int (id_in (column v 0))) (map numbered_shown lines) (map numbered_columns rows) (IsPermutation-sym _ _ same) (all_ids lines)) in
-    let values : AreApart value_cmp (map (λ (n : ℤ). Int n) (map id_inside lines)) =
-    ascending-map (λ a b. is_eq (value_cmp a b) ≡ false) (λ (n : ℤ). Int n) (map id_inside lines)
-    (ascending_weaker _ _ (λ a b other. ap is_eq (value_cmp-Int a b) ∙ other) (map id_inside lines) apart) in
-    let moved : IsPermutation (map (λ (v : Row). column v 0) (map numbered_columns rows)) (map (λ (v : Row). column v 0) (map numbered_shown lines)) =
+    (every_shuffled (λ (v : Row). column v 0 ≡ Int (id_in (column v 0))) (map numbered_shown plain_rows) (map numbered_columns rows) (IsPermutation-sym _ _ same) (all_ids plain_rows)) in
+    let values : AreApart value_cmp (map (λ (n : ℤ). Int n) (map id_inside plain_rows)) =
+    ascending-map (λ a b. is_eq (value_cmp a b) ≡ false) (λ (n : ℤ). Int n) (map id_inside plain_rows)
+    (ascending_weaker _ _ (λ a b other. ap is_eq (value_cmp-Int a b) ∙ other) (map id_inside plain_rows) apart) in
+    let moved : IsPermutation (map (λ (v : Row). column v 0) (map numbered_columns rows)) (map (λ (v : Row). column v 0) (map numbered_shown plain_rows)) =
     IsPermutation-map (λ (v : Row). column v 0) _ _ same in
-    let here : IsPermutation (map rowid rows) (map (λ (n : ℤ). Int n) (map id_inside lines)) =
-    subst (λ xs. IsPermutation xs (map (λ (n : ℤ). Int n) (map id_inside lines))) (fused (λ (v : Row). column v 0) numbered_columns rows)
-    (subst (IsPermutation (map (λ (v : Row). column v 0) (map numbered_columns rows))) (first_ids lines) moved) in
+    let here : IsPermutation (map rowid rows) (map (λ (n : ℤ). Int n) (map id_inside plain_rows)) =
+    subst (λ xs. IsPermutation xs (map (λ (n : ℤ). Int n) (map id_inside plain_rows))) (fused (λ (v : Row). column v 0) numbered_columns rows)
+    (subst (IsPermutation (map (λ (v : Row). column v 0) (map numbered_columns rows))) (first_ids plain_rows) moved) in
     let all : AreApart value_cmp (map rowid rows) = apart_permuted value_cmp value_cmp_total _ _ (IsPermutation-sym _ _ here) values in
     (ids, ascending_unmapped rows all)
   where
@@ -129,23 +129,23 @@ ids_apart lines db same apart =
 abbrev last_two : Row → Row
 last_two v = column v 1 ∷ column v 2 ∷ []
 
-lines_of : (lines : List NumberedInside) → map last_two (map numbered_shown lines) ≡ map inside_shown (map line_inside lines)
-lines_of [] = refl
-lines_of (l ∷ lines) = ap (λ vs. inside_shown l.line ∷ vs) (lines_of lines)
+plain_rows_of : (plain_rows : List NumberedInside) → map last_two (map numbered_shown plain_rows) ≡ map inside_shown (map plain_inside plain_rows)
+plain_rows_of [] = refl
+plain_rows_of (l ∷ plain_rows) = ap (λ vs. inside_shown l.plain ∷ vs) (plain_rows_of plain_rows)
 
-pub inside_lines : (lines : List NumberedInside) (rows : List Row) → AreLines numbered_columns numbered_shown lines rows → AreLines inside_columns inside_shown (map line_inside lines) rows
-inside_lines lines rows same =
-    subst (IsPermutation (map inside_columns rows)) (lines_of lines)
-    (subst (λ xs. IsPermutation xs (map last_two (map numbered_shown lines))) (fused last_two numbered_columns rows) (IsPermutation-map last_two _ _ same))
+pub inside_plain_rows : (plain_rows : List NumberedInside) (rows : List Row) → ArePlainRows numbered_columns numbered_shown plain_rows rows → ArePlainRows inside_columns inside_shown (map plain_inside plain_rows) rows
+inside_plain_rows plain_rows rows same =
+    subst (IsPermutation (map inside_columns rows)) (plain_rows_of plain_rows)
+    (subst (λ xs. IsPermutation xs (map last_two (map numbered_shown plain_rows))) (fused last_two numbered_columns rows) (IsPermutation-map last_two _ _ same))
 
-pub stored_are : (t : Tables) (db : Trees) (line : MetaLine) (version : ℤ) (inside : Vec InsideLine Global) → version ≡ pos 1 → AreRead t db → IsMetaRow t.meta.items line
-    → inside.items ≡ map line_inside t.inside.items
-    → let s : Stored = record { version = version; day = line.day; kinds = t.kinds; rooms = t.rooms; stays = t.stays; codes = t.codes; cards = t.cards; inside = inside; notes = t.notes } in
+pub stored_are : (t : Tables) (db : Trees) (plain : PlainMeta) (version : ℤ) (inside : Vec PlainInside Global) → version ≡ pos 1 → AreRead t db → IsMetaRow t.meta.items plain
+    → inside.items ≡ map plain_inside t.inside.items
+    → let s : Stored = record { version = version; day = plain.day; kinds = t.kinds; rooms = t.rooms; stays = t.stays; codes = t.codes; cards = t.cards; inside = inside; notes = t.notes } in
     all_rise s ≡ true → AreStored s db
-stored_are t db line version inside first read meta same up =
-    let one : IsPermutation (map meta_columns (db 0)) (meta_shown line ∷ []) = subst (λ ls. AreLines meta_columns meta_shown ls (db 0)) meta.0 read.0.0.0 in
-    let only : map meta_columns (db 0) ≡ meta_shown line ∷ [] = one_permutation (meta_shown line) _ (IsPermutation-sym _ _ one) in
-    let named : meta_shown line ≡ Int (pos 1) ∷ Int version ∷ maybe line.day ∷ [] = ap (λ n. Int n ∷ Int line.version ∷ maybe line.day ∷ []) meta.1 ∙ ap (λ n. Int (pos 1) ∷ Int n ∷ maybe line.day ∷ []) (meta.2 ∙ sym first) in
+stored_are t db plain version inside first read meta same up =
+    let one : IsPermutation (map meta_columns (db 0)) (meta_shown plain ∷ []) = subst (λ ls. ArePlainRows meta_columns meta_shown ls (db 0)) meta.0 read.0.0.0 in
+    let only : map meta_columns (db 0) ≡ meta_shown plain ∷ [] = one_permutation (meta_shown plain) _ (IsPermutation-sym _ _ one) in
+    let named : meta_shown plain ≡ Int (pos 1) ∷ Int version ∷ maybe plain.day ∷ [] = ap (λ n. Int n ∷ Int plain.version ∷ maybe plain.day ∷ []) meta.1 ∙ ap (λ n. Int (pos 1) ∷ Int n ∷ maybe plain.day ∷ []) (meta.2 ∙ sym first) in
     record {
       version = first;
       meta = only ∙ ap (λ r. r ∷ []) named;
@@ -154,7 +154,7 @@ stored_are t db line version inside first read meta same up =
       stays = read.0.1.1;
       codes = read.1.0.0;
       cards = read.1.0.1;
-      inside = subst (λ ls. AreLines inside_columns inside_shown ls (db 9)) (sym same) (inside_lines t.inside.items (db 9) read.1.1.0);
+      inside = subst (λ ls. ArePlainRows inside_columns inside_shown ls (db 9)) (sym same) (inside_plain_rows t.inside.items (db 9) read.1.1.0);
       notes = read.1.1.1;
       rise = up;
     }
@@ -173,7 +173,7 @@ each_two test also P f (l ∷ ls) h k =
     let b = and_true (also l) (list_all also ls) k in
     (f l a.0 b.0, each_two test also P f ls a.1 b.1)
 
-all_kinds : (ls : List KindLine) → AllByRecursion (λ l. (kind_shown l ≡ kind_written (kind_text l)) × (kind_of (kind_shown l) ≡ kind_text l)) ls
+all_kinds : (ls : List PlainKind) → AllByRecursion (λ l. (kind_shown l ≡ kind_written (kind_text l)) × (kind_of (kind_shown l) ≡ kind_text l)) ls
 all_kinds [] = tt
 all_kinds (l ∷ ls) = (kind_good l, all_kinds ls)
 
@@ -205,10 +205,10 @@ are_desk s db a ids keys fit natural =
     let n1 = and_true (may_be_natural s.day) (list_all room_natural s.rooms.items) n2.0 in
     let f2 = and_true _ (list_all damage.note_columns s.notes.items) fit in
     let f1 = and_true (list_all damage.room_columns s.rooms.items) (list_all damage.stay_columns s.stays.items) f2.0 in
-    let line : MetaLine = record { id = pos 1; version = s.version; day = s.day } in
-    let meta_line : AreLines meta_columns meta_shown (line ∷ []) (db 0) = subst (λ xs. IsPermutation xs (meta_shown line ∷ [])) (sym a.meta) (IsPermutation-refl (meta_shown line ∷ [])) in
-    let entry : MetaLine → ℕ × (ℕ × Option ℕ) = λ l. (number_of l.id, (number_of l.version, option_map number_of l.day)) in
-    let meta = read_back (by_key nat_cmp) (key_total nat_cmp_total) meta_columns meta_of meta_written meta_shown entry (line ∷ []) (db 0) meta_line (meta_good line refl a.version n1.0, tt) (tt, tt) in
+    let plain : PlainMeta = record { id = pos 1; version = s.version; day = s.day } in
+    let meta_plain : ArePlainRows meta_columns meta_shown (plain ∷ []) (db 0) = subst (λ xs. IsPermutation xs (meta_shown plain ∷ [])) (sym a.meta) (IsPermutation-refl (meta_shown plain ∷ [])) in
+    let entry : PlainMeta → ℕ × (ℕ × Option ℕ) = λ l. (number_of l.id, (number_of l.version, option_map number_of l.day)) in
+    let meta = read_back (by_key nat_cmp) (key_total nat_cmp_total) meta_columns meta_of meta_written meta_shown entry (plain ∷ []) (db 0) meta_plain (meta_good plain refl a.version n1.0, tt) (tt, tt) in
     let kind = read_back (slice_cmp nat_cmp) nat_list_cmp_total kind_columns kind_of kind_written kind_shown kind_text s.kinds.items (db 1) a.kinds (all_kinds s.kinds.items)
     (tested_order (slice_cmp nat_cmp) nat_list_cmp_total (map kind_text s.kinds.items) k1.0) in
     let room = read_back (by_key nat_cmp) (key_total nat_cmp_total) room_columns room_of room_written room_shown room_entry s.rooms.items (db 3) a.rooms

@@ -1,4 +1,4 @@
--- What is read of a desk's tables: each line is one that the books write, the lines have the rows of the tables, and where these are sound no table is damaged.
+-- What is read of a desk's tables: each plain row is one that the books write, they have the rows of the tables, and where these are sound no table is damaged.
 use Rattle.std.proofs.Common.{◌≡◌, ℕ, ℤ, pos, negsuc, Bool, true, false, cond, ◌&&◌, not, refl, sym, ap, subst, ◌∙◌, List, [], ◌∷◌, map, length, Option, None, Some, Ordering, nat_cmp, is_lt, arith, inl, inr, Err}
 use Rattle.std.specs.Prelude.{nat_le, nat_lt, ◌==◌, is_some}
 use Rattle.std.specs.List.{AllByRecursion, list_all}
@@ -28,13 +28,13 @@ use Rattle.hotel_core.specs.Model.Sound.{IsSound, keys_in_order}
 use Rattle.hotel_core.specs.Model.SoundRooms.{are_in_order}
 use Rattle.hotel_core.proofs.OfTables.Tests.{and_true}
 use Rattle.hotel_core.proofs.OfTables.RowTests.{both}
-use Rattle.hotel_rows.specs.declared.stored.KindLine.{KindLine}
-use Rattle.hotel_rows.specs.declared.stored.RoomLine.{RoomLine}
-use Rattle.hotel_rows.specs.declared.stored.StayLine.{StayLine}
-use Rattle.hotel_rows.specs.declared.stored.CodeLine.{CodeLine}
-use Rattle.hotel_rows.specs.declared.stored.CardLine.{CardLine}
-use Rattle.hotel_rows.specs.declared.stored.InsideLine.{InsideLine}
-use Rattle.hotel_rows.specs.declared.stored.NoteLine.{NoteLine}
+use Rattle.hotel_rows.specs.declared.stored.PlainKind.{PlainKind}
+use Rattle.hotel_rows.specs.declared.stored.PlainRoom.{PlainRoom}
+use Rattle.hotel_rows.specs.declared.stored.PlainStay.{PlainStay}
+use Rattle.hotel_rows.specs.declared.stored.PlainCode.{PlainCode}
+use Rattle.hotel_rows.specs.declared.stored.PlainCard.{PlainCard}
+use Rattle.hotel_rows.specs.declared.stored.PlainInside.{PlainInside}
+use Rattle.hotel_rows.specs.declared.stored.PlainNote.{PlainNote}
 use Rattle.hotel_rows.specs.declared.stored.Stored.{Stored}
 use Rattle.hotel_tables.specs.declared.open_fault.OpenFault.{OpenFault}
 use Rattle.hotel_tables.specs.declared.open_fault.OpenFault.TheVariants as fault
@@ -46,8 +46,8 @@ use Rattle.hotel_rows.specs.Damage as damage
 use Rattle.hotel_rows.specs.Damage.{columns_fit}
 use Rattle.hotel_statements.specs.Books.{IsKept}
 use Rattle.hotel_statements.specs.Tables.{AreTables, IsWrittenAs, by_key, rows_in as all_rows_in}
-use Rattle.hotel_statements.specs.Lines.{maybe, is_natural, may_be_natural, room_shown, room_natural, stay_shown, stay_natural, code_shown, code_natural, card_shown, card_natural, inside_shown, inside_natural, note_shown, note_natural, AreLines}
-use Rattle.hotel_statements.specs.Lines.{kind_natural, kind_order, room_order, stay_order, code_order, card_order, inside_order, note_order}
+use Rattle.hotel_statements.specs.PlainRows.{maybe, is_natural, may_be_natural, room_shown, room_natural, stay_shown, stay_natural, code_shown, code_natural, card_shown, card_natural, inside_shown, inside_natural, note_shown, note_natural, ArePlainRows}
+use Rattle.hotel_statements.specs.PlainRows.{kind_natural, kind_order, room_order, stay_order, code_order, card_order, inside_order, note_order}
 use Rattle.hotel_tables.specs.Opening.{AreStored, HasMetaRow, FaultFits, IsOfCall, Opens, all_natural}
 use Rattle.hotel_tables.specs.Reopening.{ReadUndamaged}
 use Rattle.hotel_statements.proofs.Keyed.{key_total}
@@ -103,56 +103,56 @@ act_fits n card a e r = ap (λ m. nat_le (number_of m) 2 && cond (is_some card) 
     fits (Some k) (Left card link) r = refl
     fits (Some k) (Recoded from to) r = absurd (let w : ◌≡◌ {A = Value} (Int k) Null = r in cc)
 
--- ---- a line that the books wrote
+-- ---- a plain row that the books wrote
 
-abbrev IsLine : {L X : Type 0} → (Row → X) → (X → Row) → (L → Row) → L → Type 0
-IsLine of written shown l = shown l ≡ written (of (shown l))
+abbrev IsPlainRow : {L X : Type 0} → (Row → X) → (X → Row) → (L → Row) → L → Type 0
+IsPlainRow of written shown l = shown l ≡ written (of (shown l))
 
-room_line : (l : RoomLine) → IsLine room_of room_written room_shown l → room_natural l ≡ true
-room_line l e =
+room_plain : (l : PlainRoom) → IsPlainRow room_of room_written room_shown l → room_natural l ≡ true
+room_plain l e =
     both _ _ (both _ _ (both _ _ (both _ _ (both _ _ (natural l.room _ (ap (λ (v : Row). column v 0) e)) (natural l.lock_place _ (ap (λ (v : Row). column v 2) e)))
     (natural l.codes _ (ap (λ (v : Row). column v 3) e))) (natural l.secured _ (ap (λ (v : Row). column v 4) e))) (may_natural l.party _ (ap (λ (v : Row). column v 5) e)))
     (natural l.notes _ (ap (λ (v : Row). column v 6) e))
 
-room_fits : (l : RoomLine) → IsLine room_of room_written room_shown l → damage.room_columns l ≡ true
+room_fits : (l : PlainRoom) → IsPlainRow room_of room_written room_shown l → damage.room_columns l ≡ true
 room_fits l e = bit_fits l.secured (room_of (room_shown l)).1.secured (ap (λ (v : Row). column v 4) e)
 
-stay_line : (l : StayLine) → IsLine stay_of stay_written stay_shown l → stay_natural l ≡ true
-stay_line l e =
+stay_plain : (l : PlainStay) → IsPlainRow stay_of stay_written stay_shown l → stay_natural l ≡ true
+stay_plain l e =
     both _ _ (both _ _ (both _ _ (both _ _ (natural l.party _ (ap (λ (v : Row). column v 0) e)) (natural l.arrive _ (ap (λ (v : Row). column v 3) e)))
     (natural l.depart _ (ap (λ (v : Row). column v 4) e))) (natural l.state _ (ap (λ (v : Row). column v 5) e))) (may_natural l.room _ (ap (λ (v : Row). column v 6) e))
 
-stay_fits : (l : StayLine) → IsLine stay_of stay_written stay_shown l → damage.stay_columns l ≡ true
+stay_fits : (l : PlainStay) → IsPlainRow stay_of stay_written stay_shown l → damage.stay_columns l ≡ true
 stay_fits l e = state_fits l.state l.room (stay_of (stay_shown l)).1.state (ap (λ (v : Row). column v 5) e) (ap (λ (v : Row). column v 6) e)
 
-code_line : (l : CodeLine) → IsLine code_of code_written code_shown l → code_natural l ≡ true
-code_line l e =
+code_plain : (l : PlainCode) → IsPlainRow code_of code_written code_shown l → code_natural l ≡ true
+code_plain l e =
     both _ _ (both _ _ (natural l.code _ (ap (λ (v : Row). column v 0) e)) (natural l.room _ (ap (λ (v : Row). column v 1) e))) (natural l.place _ (ap (λ (v : Row). column v 2) e))
 
-card_line : (l : CardLine) → IsLine card_of card_written card_shown l → card_natural l ≡ true
-card_line l e =
+card_plain : (l : PlainCard) → IsPlainRow card_of card_written card_shown l → card_natural l ≡ true
+card_plain l e =
     both _ _ (both _ _ (both _ _ (natural l.number _ (ap (λ (v : Row). column v 0) e)) (natural l.party _ (ap (λ (v : Row). column v 1) e)))
     (natural l.old_code _ (ap (λ (v : Row). column v 2) e))) (natural l.new_code _ (ap (λ (v : Row). column v 3) e))
 
-inside_line : (l : InsideLine) → IsLine inside_of inside_written inside_shown l → inside_natural l ≡ true
-inside_line l e = both _ _ (natural l.room _ (ap (λ (v : Row). column v 0) e)) (natural l.card _ (ap (λ (v : Row). column v 1) e))
+inside_plain : (l : PlainInside) → IsPlainRow inside_of inside_written inside_shown l → inside_natural l ≡ true
+inside_plain l e = both _ _ (natural l.room _ (ap (λ (v : Row). column v 0) e)) (natural l.card _ (ap (λ (v : Row). column v 1) e))
 
-note_line : (l : NoteLine) → IsLine note_of note_written note_shown l → note_natural l ≡ true
-note_line l e =
+note_plain : (l : PlainNote) → IsPlainRow note_of note_written note_shown l → note_natural l ≡ true
+note_plain l e =
     both _ _ (both _ _ (both _ _ (both _ _ (both _ _ (both _ _ (both _ _ (natural l.room _ (ap (λ (v : Row). column v 0) e)) (natural l.n _ (ap (λ (v : Row). column v 1) e)))
     (natural l.act _ (ap (λ (v : Row). column v 2) e))) (may_natural l.card _ (ap (λ (v : Row). column v 3) e))) (natural l.first_code _ (ap (λ (v : Row). column v 4) e)))
     (natural l.second_code _ (ap (λ (v : Row). column v 5) e))) (natural l.day _ (ap (λ (v : Row). column v 6) e))) (natural l.second _ (ap (λ (v : Row). column v 7) e))
 
-note_fits : (l : NoteLine) → IsLine note_of note_written note_shown l → damage.note_columns l ≡ true
+note_fits : (l : PlainNote) → IsPlainRow note_of note_written note_shown l → damage.note_columns l ≡ true
 note_fits l e = act_fits l.act l.card (note_of (note_shown l)).1.act (ap (λ (v : Row). column v 2) e) (ap (λ (v : Row). column v 3) e)
 
--- ---- all lines of a table
+-- ---- all plain rows of a table
 
-are_lines : {L X : Type 0} (columns : Row → Row) (of : Row → X) (written : X → Row) (shown : L → Row) (lines : List L) (rows : List Row)
-    → AllByRecursion (IsWrittenAs columns of written) rows → AreLines columns shown lines rows → AllByRecursion (IsLine of written shown) lines
-are_lines columns of written shown lines rows good same =
-    all_unmap (λ (v : Row). v ≡ written (of v)) shown lines
-    (every_shuffled (λ (v : Row). v ≡ written (of v)) (map columns rows) (map shown lines) same (all_map (λ (v : Row). v ≡ written (of v)) columns rows good))
+are_plain_rows : {L X : Type 0} (columns : Row → Row) (of : Row → X) (written : X → Row) (shown : L → Row) (plain_rows : List L) (rows : List Row)
+    → AllByRecursion (IsWrittenAs columns of written) rows → ArePlainRows columns shown plain_rows rows → AllByRecursion (IsPlainRow of written shown) plain_rows
+are_plain_rows columns of written shown plain_rows rows good same =
+    all_unmap (λ (v : Row). v ≡ written (of v)) shown plain_rows
+    (every_shuffled (λ (v : Row). v ≡ written (of v)) (map columns rows) (map shown plain_rows) same (all_map (λ (v : Row). v ≡ written (of v)) columns rows good))
 
 all_pass : {L : Type 0} (P : L → Type 0) (test : L → Bool) → ((l : L) → P l → test l ≡ true) → (ls : List L) → AllByRecursion P ls → list_all test ls ≡ true
 all_pass P test f [] h = refl
@@ -168,18 +168,18 @@ are_written s db t a =
     let metas : AllByRecursion (λ (v : Row). v ≡ meta_written (meta_of v)) (map meta_columns (db 0)) = all_map (λ (v : Row). v ≡ meta_written (meta_of v)) meta_columns (db 0) t.meta.good in
     let meta = (subst (AllByRecursion (λ (v : Row). v ≡ meta_written (meta_of v))) a.meta metas).0 in
     let day : may_be_natural s.day ≡ true = may_natural s.day _ (ap (λ (v : Row). column v 2) meta) in
-    let rooms = are_lines room_columns room_of room_written room_shown s.rooms.items (db 3) t.room.good a.rooms in
-    let stays = are_lines stay_columns stay_of stay_written stay_shown s.stays.items (db 5) t.stay.good a.stays in
-    let codes = are_lines code_columns code_of code_written code_shown s.codes.items (db 6) t.code.good a.codes in
-    let cards = are_lines card_columns card_of card_written card_shown s.cards.items (db 8) t.card.good a.cards in
-    let inside = are_lines inside_columns inside_of inside_written inside_shown s.inside.items (db 9) t.inside.good a.inside in
-    let notes = are_lines note_columns note_of note_written note_shown s.notes.items (db 11) t.note.good a.notes in
-    let room = all_pass _ room_natural room_line s.rooms.items rooms in
-    let stay = all_pass _ stay_natural stay_line s.stays.items stays in
-    let code = all_pass _ code_natural code_line s.codes.items codes in
-    let card = all_pass _ card_natural card_line s.cards.items cards in
-    let within = all_pass _ inside_natural inside_line s.inside.items inside in
-    let note = all_pass _ note_natural note_line s.notes.items notes in
+    let rooms = are_plain_rows room_columns room_of room_written room_shown s.rooms.items (db 3) t.room.good a.rooms in
+    let stays = are_plain_rows stay_columns stay_of stay_written stay_shown s.stays.items (db 5) t.stay.good a.stays in
+    let codes = are_plain_rows code_columns code_of code_written code_shown s.codes.items (db 6) t.code.good a.codes in
+    let cards = are_plain_rows card_columns card_of card_written card_shown s.cards.items (db 8) t.card.good a.cards in
+    let inside = are_plain_rows inside_columns inside_of inside_written inside_shown s.inside.items (db 9) t.inside.good a.inside in
+    let notes = are_plain_rows note_columns note_of note_written note_shown s.notes.items (db 11) t.note.good a.notes in
+    let room = all_pass _ room_natural room_plain s.rooms.items rooms in
+    let stay = all_pass _ stay_natural stay_plain s.stays.items stays in
+    let code = all_pass _ code_natural code_plain s.codes.items codes in
+    let card = all_pass _ card_natural card_plain s.cards.items cards in
+    let within = all_pass _ inside_natural inside_plain s.inside.items inside in
+    let note = all_pass _ note_natural note_plain s.notes.items notes in
     record {
       natural = both _ _ (both _ _ (both _ _ (both _ _ (both _ _ (both _ _ day room) stay) code) card) within) note;
       fit = both _ _ (both _ _ (all_pass _ damage.room_columns room_fits s.rooms.items rooms) (all_pass _ damage.stay_columns stay_fits s.stays.items stays)) (all_pass _ damage.note_columns note_fits s.notes.items notes);
@@ -251,11 +251,11 @@ keys_rise s db a natural =
     (λ x y h k. let p = of_note x h in let q = of_note y k in same_pairs x.room x.n y.room y.n p.0 p.1 q.0 q.1) s.notes.items n6.1 r6.1 in
     both _ _ (both _ _ (both _ _ (both _ _ (both _ _ (both _ _ kinds rooms) codes) stays) cards) inside) notes
   where
-    all_kinds : (ls : List KindLine) → list_all kind_natural ls ≡ true
+    all_kinds : (ls : List PlainKind) → list_all kind_natural ls ≡ true
     all_kinds [] = refl
     all_kinds (l ∷ ls) = all_kinds ls
 
-    of_room : (l : RoomLine) → room_natural l ≡ true → is_natural l.room ≡ true
+    of_room : (l : PlainRoom) → room_natural l ≡ true → is_natural l.room ≡ true
     of_room l h =
         let e = and_true _ (is_natural l.notes) h in
         let d = and_true _ (may_be_natural l.party) e.0 in
@@ -263,23 +263,23 @@ keys_rise s db a natural =
         let b = and_true _ (is_natural l.codes) c.0 in
         (and_true (is_natural l.room) (is_natural l.lock_place) b.0).0
 
-    of_stay : (l : StayLine) → stay_natural l ≡ true → is_natural l.party ≡ true
+    of_stay : (l : PlainStay) → stay_natural l ≡ true → is_natural l.party ≡ true
     of_stay l h =
         let d = and_true _ (may_be_natural l.room) h in
         let c = and_true _ (is_natural l.state) d.0 in
         let b = and_true _ (is_natural l.depart) c.0 in
         (and_true (is_natural l.party) (is_natural l.arrive) b.0).0
 
-    of_code : (l : CodeLine) → code_natural l ≡ true → is_natural l.code ≡ true
+    of_code : (l : PlainCode) → code_natural l ≡ true → is_natural l.code ≡ true
     of_code l h = let b = and_true _ (is_natural l.place) h in (and_true (is_natural l.code) (is_natural l.room) b.0).0
 
-    of_card : (l : CardLine) → card_natural l ≡ true → is_natural l.number ≡ true
+    of_card : (l : PlainCard) → card_natural l ≡ true → is_natural l.number ≡ true
     of_card l h =
         let c = and_true _ (is_natural l.new_code) h in
         let b = and_true _ (is_natural l.old_code) c.0 in
         (and_true (is_natural l.number) (is_natural l.party) b.0).0
 
-    of_note : (l : NoteLine) → note_natural l ≡ true → (is_natural l.room ≡ true) × (is_natural l.n ≡ true)
+    of_note : (l : PlainNote) → note_natural l ≡ true → (is_natural l.room ≡ true) × (is_natural l.n ≡ true)
     of_note l h =
         let g = and_true _ (is_natural l.second) h in
         let f = and_true _ (is_natural l.day) g.0 in

@@ -10,16 +10,16 @@ use Rattle.keycard_rules.specs.declared.issued.LookFault.{LookFault}
 use Rattle.keycard_rules.specs.declared.issued.LookFault.TheVariants as look
 use Rattle.hotel_core.specs.Model.SoundRooms.{are_in_order}
 use Rattle.hotel_rows.specs.declared.stored.Stored.{Stored}
-use Rattle.hotel_statements.specs.declared.lines.MetaLine.{MetaLine}
-use Rattle.hotel_statements.specs.declared.lines.NumberedInside.{NumberedInside}
+use Rattle.hotel_statements.specs.declared.plain_rows.PlainMeta.{PlainMeta}
+use Rattle.hotel_statements.specs.declared.plain_rows.NumberedInside.{NumberedInside}
 use Rattle.hotel_statements.specs.Columns.{meta_columns, kind_columns, room_columns, stay_columns, code_columns, card_columns, inside_columns, note_columns}
-use Rattle.hotel_statements.specs.Lines.{maybe, kind_shown, room_shown, stay_shown, code_shown, card_shown, inside_shown, note_shown, AreLines}
-use Rattle.hotel_statements.specs.Lines.{kind_order, room_order, stay_order, code_order, card_order, inside_order, note_order}
-use Rattle.hotel_statements.specs.Lines.{may_be_natural, room_natural, stay_natural, code_natural, card_natural, inside_natural, note_natural}
+use Rattle.hotel_statements.specs.PlainRows.{maybe, kind_shown, room_shown, stay_shown, code_shown, card_shown, inside_shown, note_shown, ArePlainRows}
+use Rattle.hotel_statements.specs.PlainRows.{kind_order, room_order, stay_order, code_order, card_order, inside_order, note_order}
+use Rattle.hotel_statements.specs.PlainRows.{may_be_natural, room_natural, stay_natural, code_natural, card_natural, inside_natural, note_natural}
 use Rattle.hotel_tables.specs.declared.open_fault.OpenFault.{OpenFault}
 use Rattle.hotel_tables.specs.declared.open_fault.OpenFault.TheVariants as fault
 use Rattle.hotel_rows.specs.declared.counting.Counts.{Counts}
-use Rattle.hotel_rows.specs.declared.stored.InsideLine.{InsideLine}
+use Rattle.hotel_rows.specs.declared.stored.PlainInside.{PlainInside}
 use Rattle.hotel_rows.specs.Damage.{first_damaged_of}
 use Rattle.hotel_statements.specs.Tables.{HasId, AreApartIds, rows_in}
 use Rattle.hotel_statements.specs.Books.{IsKept, IsBooks, KeepsRows}
@@ -38,32 +38,32 @@ all_natural s =
     && list_all card_natural s.cards.items && list_all inside_natural s.inside.items && list_all note_natural s.notes.items
 
 -- the one row of meta, and that it isn't there
-abbrev pub IsMetaRow : List MetaLine → MetaLine → Type 0
-IsMetaRow meta line = (meta ≡ line ∷ []) × (line.id ≡ pos 1) × (line.version ≡ pos 1)
+abbrev pub IsMetaRow : List PlainMeta → PlainMeta → Type 0
+IsMetaRow meta plain = (meta ≡ plain ∷ []) × (plain.id ≡ pos 1) × (plain.version ≡ pos 1)
 
-abbrev pub LacksRow : List MetaLine → OpenFault → Type 0
+abbrev pub LacksRow : List PlainMeta → OpenFault → Type 0
 LacksRow meta fault.Memory = Unit {0}
 LacksRow meta fault.Store = Unit {0}
-LacksRow meta fault.NotADesk = (line : MetaLine) → meta ≡ line ∷ [] → ¬ (line.version ≡ pos 1)
+LacksRow meta fault.NotADesk = (plain : PlainMeta) → meta ≡ plain ∷ [] → ¬ (plain.version ≡ pos 1)
 LacksRow meta (fault.Damaged t) = ⊥
 
 abbrev pub id_inside : NumberedInside → ℤ
 id_inside l = l.id
 
-abbrev pub line_inside : NumberedInside → InsideLine
-line_inside l = l.line
+abbrev pub plain_inside : NumberedInside → PlainInside
+plain_inside l = l.plain
 
 -- The plain rows are those of the tables, each in the order of its key, and meta has its one row.
 pub record AreStored (s : Stored) (db : Trees) : Type 0 where
   pub version : s.version ≡ pos 1
   pub meta : map meta_columns (db 0) ≡ (Int (pos 1) ∷ Int s.version ∷ maybe s.day ∷ []) ∷ []
-  pub kinds : AreLines kind_columns kind_shown s.kinds.items (db 1)
-  pub rooms : AreLines room_columns room_shown s.rooms.items (db 3)
-  pub stays : AreLines stay_columns stay_shown s.stays.items (db 5)
-  pub codes : AreLines code_columns code_shown s.codes.items (db 6)
-  pub cards : AreLines card_columns card_shown s.cards.items (db 8)
-  pub inside : AreLines inside_columns inside_shown s.inside.items (db 9)
-  pub notes : AreLines note_columns note_shown s.notes.items (db 11)
+  pub kinds : ArePlainRows kind_columns kind_shown s.kinds.items (db 1)
+  pub rooms : ArePlainRows room_columns room_shown s.rooms.items (db 3)
+  pub stays : ArePlainRows stay_columns stay_shown s.stays.items (db 5)
+  pub codes : ArePlainRows code_columns code_shown s.codes.items (db 6)
+  pub cards : ArePlainRows card_columns card_shown s.cards.items (db 8)
+  pub inside : ArePlainRows inside_columns inside_shown s.inside.items (db 9)
+  pub notes : ArePlainRows note_columns note_shown s.notes.items (db 11)
   pub rise : all_rise s ≡ true
 
 -- the rows of those inside have numbers, no two the same

@@ -9,7 +9,7 @@ use Rattle.keycard_rules.specs.declared.issued.LookFault.TheVariants.{Memory, St
 use Rattle.hotel_core.specs.Model.Rows.{Rows, has_kind}
 use Rattle.hotel_core.specs.Model.Sound.{IsSound}
 use Rattle.hotel_core.specs.Books.Lookups.{rooms_of_kind}
-use Rattle.hotel_core.specs.NightIndex.{StandsFor}
+use Rattle.hotel_core.specs.NightIndex.{CountsNights}
 use Rattle.hotel_core.specs.KindRooms.{is_there, rooms_in}
 use Rattle.hotel_statements.specs.Tables.{rows_in}
 use Rattle.hotel_statements.specs.Books.{IsKept, IsBooks}
@@ -41,7 +41,7 @@ pub record IsCounted (kinds : List (List ℕ × ℕ)) (nights : List ((List ℕ 
   pub sound : IsSound rows
   pub known : (kind : List ℕ) → has_kind rows kind ≡ true → is_there kinds kind ≡ true
   pub rooms : (kind : List ℕ) → rooms_in kinds kind ≡ rooms_of_kind rows kind
-  pub stays : StandsFor nights (values_of rows.stays)
+  pub stays : CountsNights nights (values_of rows.stays)
 
 -- What books over tables keep true, whatever has failed.
 pub record IsTabled (s : State) (kinds : List (List ℕ × ℕ)) (nights : List ((List ℕ × ℕ) × List ℕ)) : Type 0 where

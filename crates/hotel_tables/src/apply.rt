@@ -15,7 +15,7 @@ use hotel_core::Change;
 use hotel_nights::StayState;
 use hotel_statements::changes::{add_room, end_stay};
 use hotel_statements::issue::issue;
-use hotel_statements::noting::take_note;
+use hotel_statements::lock_notes::take_note;
 use hotel_statements::steps::{insert_card, insert_kind, insert_stay, set_day, set_state};
 use hotel_statements::{fault_of, look_ups};
 use keycard_rules::LookFault;

@@ -9,35 +9,35 @@ ghost use Rattle.hotel_rows.specs.Damage.{first_damaged_of};
 ghost use Rattle.hotel_statements.specs.Tables.{AreTables, rows_in};
 ghost use Rattle.hotel_tables.specs.TableBooks.{IsCounted};
 ghost use Rattle.hotel_statements.specs.Reading.{IsOurs, AreRead};
-ghost use Rattle.hotel_tables.specs.Opening.{AreStored, AreApartInside, IsMetaRow, FaultFits, Opens, LacksRow, all_rise, all_natural, line_inside, id_inside, fault_for};
+ghost use Rattle.hotel_tables.specs.Opening.{AreStored, AreApartInside, IsMetaRow, FaultFits, Opens, LacksRow, all_rise, all_natural, plain_inside, id_inside, fault_for};
 
 use crate::open_fault::OpenFault;
-use hotel_rows::{Counts, InsideLine, Stored, counts_of, first_damaged};
-use hotel_statements::lines::{self, MetaLine, NumberedInside};
+use hotel_rows::{Counts, PlainInside, Stored, counts_of, first_damaged};
+use hotel_statements::plain_rows::{self, NumberedInside, PlainMeta};
 use hotel_statements::reading::{self, Tables, read_tables, rise};
 use keycard_rules::{LookFault, Memory};
 use sqlite::{Alter, Connection};
 use std::alloc::Global;
 
 /// The one row of meta.
-fn meta_row(meta: &[MetaLine]) -> Result<MetaLine, OpenFault>
+fn meta_row(meta: &[PlainMeta]) -> Result<PlainMeta, OpenFault>
     ensures ok { IfOk result (IsMetaRow meta.now) }
     ensures err { IfErr result (LacksRow meta.now) }
 {
-    let [line] = meta else {
+    let [plain] = meta else {
         return Err(OpenFault::NotADesk);
     };
-    if line.version != 1 {
+    if plain.version != 1 {
         return Err(OpenFault::NotADesk);
     }
-    if line.id != 1 {
+    if plain.id != 1 {
         return Err(OpenFault::Store);
     }
-    Ok(*line)
+    Ok(*plain)
 }
 
 /// The one row of meta; without it the tables are no desk's.
-fn meta_of(tables: &Tables) -> Result<MetaLine, OpenFault>
+fn meta_of(tables: &Tables) -> Result<PlainMeta, OpenFault>
     ensures ok { IfOk result (IsMetaRow tables.now.meta.items) }
     ensures err { (db : Trees) → AreRead tables.now db → IfErr result (FaultFits db) }
 {
@@ -83,11 +83,11 @@ fn are_apart(alloc: Global, inside: &[NumberedInside]) -> Result<bool, Memory>
 }
 
 /// The rows without their numbers.
-fn lines_inside(alloc: Global, inside: &[NumberedInside]) -> Result<Vec<InsideLine>, Memory>
-    ensures { IfOk result (λ lines. lines.items ≡ map line_inside inside.now) }
+fn plain_rows_inside(alloc: Global, inside: &[NumberedInside]) -> Result<Vec<PlainInside>, Memory>
+    ensures { IfOk result (λ plain_rows. plain_rows.items ≡ map plain_inside inside.now) }
 {
-    match inside.iter().map(|row| row.line).collect(alloc) {
-        Ok(lines) => Ok(lines),
+    match inside.iter().map(|row| row.plain).collect(alloc) {
+        Ok(plain_rows) => Ok(plain_rows),
         Err(_) => Err(Memory),
     }
 }
@@ -109,7 +109,7 @@ fn all_rise(stored: &Stored) -> bool
 fn all_natural(stored: &Stored) -> bool
     ensures { result ≡ all_natural stored.now }
 {
-    lines::may_be_natural(stored.day)
+    plain_rows::may_be_natural(stored.day)
         && reading::all_natural(&stored.rooms)
         && reading::all_natural(&stored.stays)
         && reading::all_natural(&stored.codes)
@@ -131,7 +131,7 @@ fn stored_of(alloc: Global, tables: Tables) -> Result<Stored, OpenFault>
         Ok(false) => return Err(OpenFault::Store),
         Err(Memory) => return Err(OpenFault::Memory),
     }
-    let Ok(inside) = lines_inside(alloc, &tables.inside) else {
+    let Ok(inside) = plain_rows_inside(alloc, &tables.inside) else {
         return Err(OpenFault::Memory);
     };
     let stored = Stored {

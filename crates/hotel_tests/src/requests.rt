@@ -8,7 +8,7 @@ use std::process::Abort;
 use std::test::Fail;
 
 /// The desk answers the reader's request to the writer.
-pub(crate) fn serve(
+fn serve(
     desk: &mut Desk<impl Walks>,
     reader: &mut &[u8],
     writer: &mut Vec<u8>,
@@ -23,28 +23,16 @@ pub(crate) fn serve(
 }
 
 /// Room 101, and a booking of Ann Lee. The source gives a1 next.
-pub(crate) fn booked(alloc: Global) -> Result<Desk, Fail> {
+fn booked(alloc: Global) -> Result<Desk, Fail> {
     Desk::behind(alloc, &[0xa0, 0xa1], &[OPENED])
 }
 
 /// A request and its answer, both byte for byte.
 #[derive(Clone, Copy)]
-pub(crate) struct Exchange {
-    pub request: &'static [u8],
-    pub answer: &'static [u8],
+struct Exchange {
+    request: &'static [u8],
+    answer: &'static [u8],
 }
-
-/// A check-in.
-pub(crate) static CHECK_IN: Exchange = Exchange {
-    request: b"POST /reservations/1/check-in HTTP/1.1\r\nHost: localhost\r\nContent-Length: 8\r\n\r\nroom=101",
-    answer: b"HTTP/1.1 200 OK\r\nContent-Type: text/plain; charset=utf-8\r\nContent-Length: 49\r\nConnection: close\r\n\r\ncard 1 party 1 old 0000000000a0 new 0000000000a1\n",
-};
-
-/// A spare card for the same party.
-pub(crate) static SPARE: Exchange = Exchange {
-    request: b"POST /reservations/1/spare HTTP/1.1\r\nHost: desk\r\n\r\n",
-    answer: b"HTTP/1.1 200 OK\r\nContent-Type: text/plain; charset=utf-8\r\nContent-Length: 49\r\nConnection: close\r\n\r\ncard 2 party 1 old 0000000000a0 new 0000000000a1\n",
-};
 
 /// The answer to a head or a body that is malformed or cut.
 const BAD_REQUEST: &[u8] =
@@ -70,12 +58,8 @@ static EXCHANGES: [Exchange; 4] = [
     },
 ];
 
-/// The desk answers the request so, read byte by byte.
-pub(crate) fn goes(
-    rt: &(impl Abort + AllocGlobal),
-    desk: &mut Desk<impl Walks>,
-    exchange: &Exchange,
-) {
+/// The desk answers the request so.
+fn goes(rt: &(impl Abort + AllocGlobal), desk: &mut Desk<impl Walks>, exchange: &Exchange) {
     let mut writer = Vec::new(rt.alloc());
     let mut reader = exchange.request;
     let ended = serve(desk, &mut reader, &mut writer);

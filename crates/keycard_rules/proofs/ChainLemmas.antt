@@ -9,7 +9,7 @@ use Rattle.std.proofs.lemmas.Bool.{cases_Bool, ne_eqb}
 use Rattle.std.proofs.lemmas.Bool.Decides.{nat_tests}
 use Rattle.std.proofs.lemmas.Grind.{common_steps}
 use Rattle.std.specs.List.{IsDistinct, list_any, position_or_len}
-use Rattle.keycard_rules.specs.{declared.card.Link.Link, Draw.is_one_of, Lock.turn}
+use Rattle.keycard_rules.specs.{declared.card.Link.Link, Words.is_one_of, Lock.turn}
 use Rattle.keycard_rules.specs.Chain.{Ledger, last_from, issued, current, IsLinkOf, recoded, place_in}
 
 last_from-at : (x : ℕ) (xs : List ℕ) → last_from x xs ≡ get_or (x ∷ xs) (length xs) 0

@@ -2,7 +2,8 @@
 use Rattle.std.proofs.Common.{ℕ, zero, suc, ◌≡◌, ◌+◌, ◌≤◌, ◌<◌, Bool, true, false, List, [], ◌∷◌, Option, Some, None, refl, ap, sym, ◌∙◌, arith, add-one, cond}
 use Rattle.std.proofs.lemmas.List.Elements.{All-cons, All-nil}
 use Rattle.rand_core.specs.Stream.{Stream, next_u64}
-use Rattle.keycard_rules.specs.Draw.{is_one_of, words, past, code_of, Draw, one_more, draw_from, drawn, AllIssued}
+use Rattle.keycard_rules.specs.Words.{is_one_of}
+use Rattle.keycard_rules.specs.Draw.{words, past, code_of, Draw, one_more, draw_from, drawn, AllIssued}
 
 abbrev pub more : ℕ → Draw → Draw
 more n draw = record { code = draw.code; examined = n + draw.examined }

@@ -1,7 +1,7 @@
--- A room's codes in order of issue: those that the lock has left behind, the one that it holds, and those that it has not seen.
+-- A room's codes in order of issue: those that the lock has passed, the one that it holds, and those that it has not seen.
 use Rattle.std.specs.Prelude.{◌≡◌, ℕ, ◌==◌, ◌&&◌, ◌||◌, Bool, false, not, List, [], ◌∷◌, ◌++◌, Option, Some, None, Result, Ok, Err, if◌then◌else◌}
-use Rattle.std.specs.List.{before_first, after_first, position_or_len}
-use Rattle.keycard_rules.specs.{Draw.is_one_of, declared.card.Link.Link, declared.chain.Turned.Turned, declared.chain.RecodeFault.RecodeFault}
+use Rattle.std.specs.List.{position_or_len}
+use Rattle.keycard_rules.specs.{Words.is_one_of, Words.before, Words.after, declared.card.Link.Link, declared.chain.Turned.Turned, declared.chain.RecodeFault.RecodeFault}
 use Rattle.keycard_rules.specs.declared.chain.RecodeFault.TheVariants.{HeldDiffers, NotAwaited}
 
 -- passed, held and awaited codes
@@ -69,11 +69,11 @@ recode_answer ledger from to =
 -- the codes after a recoding: the held one and those awaited before the new one are passed
 abbrev pub recoded : Ledger → ℕ → Ledger
 recoded ledger to = record {
-  passed = ledger.passed ++ (ledger.held ∷ before_first (λ code. code == to) ledger.awaited);
+  passed = ledger.passed ++ (ledger.held ∷ before to ledger.awaited);
   held = to;
-  awaited = after_first (λ code. code == to) ledger.awaited;
+  awaited = after to ledger.awaited;
 }
 
 -- an issue made the link: its codes stand one after the other
 abbrev pub IsLinkOf : List ℕ → Link → Type 0
-IsLinkOf codes link = (before : List ℕ) × (later : List ℕ) × (codes ≡ before ++ (link.old_code ∷ link.new_code ∷ later))
+IsLinkOf codes link = (earlier : List ℕ) × (later : List ℕ) × (codes ≡ earlier ++ (link.old_code ∷ link.new_code ∷ later))

@@ -1,15 +1,11 @@
 -- Drawing a code that was never issued.
-use Rattle.std.specs.Prelude.{ℕ, zero, suc, ◌≡◌, ◌≤◌, ◌+◌, ◌/◌, Bool, true, List, [], All, ◌∷◌, Option, Some, None, Result, Ok, Err, if◌then◌else◌, ◌==◌}
-use Rattle.std.specs.List.{list_any}
+use Rattle.std.specs.Prelude.{ℕ, zero, suc, ◌≡◌, ◌≤◌, ◌+◌, ◌/◌, true, List, [], All, ◌∷◌, Option, Some, None, Result, Ok, Err, if◌then◌else◌}
 use Rattle.rand_core.specs.Stream.{Stream, next_u64}
+use Rattle.keycard_rules.specs.Words.{is_one_of}
 use Rattle.keycard_rules.specs.declared.draw.DrawFault.{DrawFault}
 use Rattle.keycard_rules.specs.declared.draw.DrawFault.TheVariants.{NoFreshCode, Memory, Store}
 use Rattle.keycard_rules.specs.declared.issued.LookFault.{LookFault}
 use Rattle.keycard_rules.specs.declared.issued.LookFault.TheVariants as look
-
--- the number is one of these
-abbrev pub is_one_of : ℕ → List ℕ → Bool
-is_one_of n ns = list_any (λ m. m == n) ns
 
 -- the next n words of a source
 unfoldable pub words : ℕ → Stream → List ℕ

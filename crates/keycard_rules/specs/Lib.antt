@@ -1,3 +1,4 @@
+pub mod Words
 pub mod Numerals
 pub mod Numbers
 pub mod Lock

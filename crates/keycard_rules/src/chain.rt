@@ -2,7 +2,7 @@
 
 ghost use Rattle.std.specs.Prelude.{◌≡◌, [], ◌∷◌, ◌++◌, length, Ok, IfOk, OnOk, OnErr, option_map, false, nat_eq};
 ghost use Rattle.std.specs.List.{IsDistinct};
-ghost use Rattle.keycard_rules.specs.{Draw.is_one_of, Lock.turn};
+ghost use Rattle.keycard_rules.specs.{Words.is_one_of, Lock.turn};
 ghost use Rattle.keycard_rules.specs.Chain.{Ledger, IsLinkOf, issued, current, installed, with_issued, entered, turned, recode_answer, recoded, place_in};
 
 use crate::card::Link;

@@ -1,6 +1,6 @@
 //! Drawing a code that was never issued.
 ghost use Rattle.std.specs.Prelude.{◌≡◌, false, Err, IfOk, IfSome, None};
-ghost use Rattle.keycard_rules.specs.{Draw.is_one_of, Draw.words, Draw.past, Draw.MovedAtMost, Draw.Draws, Draw.AllIssued, Draw.fault_in, Rise.HasRisen, Rise.NoFewer};
+ghost use Rattle.keycard_rules.specs.{Words.is_one_of, Draw.words, Draw.past, Draw.MovedAtMost, Draw.Draws, Draw.AllIssued, Draw.fault_in, Rise.HasRisen, Rise.NoFewer};
 
 use crate::code::Code;
 use crate::issued::{Issued, LookFault};

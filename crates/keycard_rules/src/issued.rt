@@ -1,7 +1,7 @@
 //! What knows the codes that were issued, asked before a new one is given out.
 ghost use Rattle.std.specs.Prelude.{◌≡◌, ℕ, List, IfOk, IfErr, IsOk, refl};
 ghost use Rattle.std.proofs.Common.{◌∙◌};
-ghost use Rattle.keycard_rules.specs.{Draw.is_one_of, Rise.HasRisen, Rise.NoFewer, declared.issued.LookFault.LookFault, declared.issued.LookFault.TheVariants.Store};
+ghost use Rattle.keycard_rules.specs.{Words.is_one_of, Rise.HasRisen, Rise.NoFewer, declared.issued.LookFault.LookFault, declared.issued.LookFault.TheVariants.Store};
 
 use crate::code::Code;
 use std::marker::Model;

@@ -1,7 +1,7 @@
 -- Each code stands at one place of one room.
 use Rattle.std.proofs.Common.{ℕ, ◌≡◌, Bool, true, false, Some, None, List, [], ◌∷◌, ◌++◌, length, inl, inr, refl, ap, sym, ◌∙◌, append_assoc, ◌==◌, not, nat_cmp}
 use Rattle.hotel_core.proofs.Names.{insert_entry, CodeRow, when, and_last, at_number, Install, CheckIn, Transfer, History, start, ◌▷◌, issued, all_issued, issued_codes, is_fresh, Reached, NoCodeTwice}
-use Rattle.keycard_rules.specs.Draw.{is_one_of}
+use Rattle.keycard_rules.specs.Words.{is_one_of}
 use Rattle.hotel_core.proofs.{Facts.CodeFacts.CodesHavePlaces, Facts.CodeFacts.PlacesHaveCodes, OfTables.Tests.eq_from, OfTables.Tests.eq_self, OfTables.Tests.not_both}
 use Rattle.hotel_core.proofs.OfTables.TableKeys.{row_inserted, row_kept, row_added, no_key}
 use Rattle.hotel_core.proofs.{OfTables.CodeLists.snoc_split, OfTables.CodeLists.cut_alike, OfTables.Grown.may_follow}

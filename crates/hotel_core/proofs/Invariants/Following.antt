@@ -5,7 +5,7 @@ use Rattle.hotel_core.specs.declared.command.Command.TheVariants as command
 use Rattle.hotel_core.specs.declared.reply.Reply.TheVariants as reply
 use Rattle.keycard_rules.specs.declared.note.Act.TheVariants as act
 use Rattle.hotel_core.specs.Model.Event as event
-use Rattle.keycard_rules.specs.Draw.{is_one_of}
+use Rattle.keycard_rules.specs.Words.{is_one_of}
 use Rattle.hotel_core.specs.Model.Cases.{holds}
 use Rattle.hotel_core.proofs.{Facts.Follow.MayFollow, OfTables.Tests.eq_from}
 

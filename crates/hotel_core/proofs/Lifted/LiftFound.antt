@@ -16,7 +16,7 @@ entered_place h ok room count number link at r k l o =
 
 entered_current : (h : History) → Reached h → EnteredCurrent h
 entered_current h ok room number link r k l o =
-    let at : Moment = record { day = 0; second = 0 } in
+    let at : Moment = (0, 0) in
     ap (λ n. n + 1 == length (issued h room)) (entered_place h ok room (length (notes h room) + 1) number link at r k l o)
     ∙ sym (found.entered_current h ok room (length (notes h room) + 1) number link at (refl, r, k, l, o))
 

@@ -1,6 +1,6 @@
 -- Counts at nights, after those of one block were changed.
 use Rattle.std.proofs.Common.{ℕ, ◌≡◌, ◌+◌, ◌-◌, ◌*◌, ◌/◌, ◌%◌, ◌≤◌, ◌<◌, Bool, true, false, cond, Option, Some, None, List, [], zero, suc, get_or, replicate, refl, ap, sym, ◌∙◌, arith, nat_le, nat_lt, subst, ◌==◌, ◌&&◌, bytes_eq, slice_index, nat_cmp, is_eq}
-use Rattle.hotel_core.proofs.Names.{slice_cmp, is_at, lookup, nat_tests, bytes_eq-Decides, one_if, block_cmp, block_at, counted, holds}
+use Rattle.hotel_core.proofs.Names.{slice_cmp, is_at, lookup, nat_tests, bytes_eq-Decides, one_if, block_cmp, block_at, counted, spans}
 use Rattle.std.specs.Option.{unwrap_or}
 use Rattle.std.proofs.lemmas.Map.Text.{is_eq-slice_cmp}
 use Rattle.hotel_core.proofs.{OfTables.MapEntries.both_equal, OfTables.MapEntries.at_is, OfTables.MapEntries.eq_from, OfTables.PlacedCodes.both_true}
@@ -45,15 +45,15 @@ place_other from to d lt one other = both_false (nat_le from d) (nat_lt d to) (�
 pub part_changed : (Turns : ℕ → ℕ → ℕ → Type 0) → ((x : ℕ) → Turns x 0 x) → (before after : List ((List ℕ × ℕ) × List ℕ)) (kind : List ℕ) (from to : ℕ) (w : Option (List ℕ)) → from < to → to ≤ from / 32 * 32 + 32
     → Sets before after kind (from / 32) w
     → ((j : ℕ) → Turns (slice_index (block_at before kind (from / 32)) j) (one_if (nat_le (from % 32) j && nat_lt j (from % 32 + (to - from)))) (slice_index (unwrap_or w []) j))
-    → (k : List ℕ) (d : ℕ) → Turns (counted before k d) (one_if (holds kind from to k d)) (counted after k d)
+    → (k : List ℕ) (d : ℕ) → Turns (counted before k d) (one_if (spans kind from to k d)) (counted after k d)
 part_changed Turns none before after kind from to w lt one u g k d =
-    subst (λ n. Turns (counted before k d) (one_if (holds kind from to k d)) n) (sym here) (by (bytes_eq kind k) (d / 32 == from / 32) refl refl)
+    subst (λ n. Turns (counted before k d) (one_if (spans kind from to k d)) n) (sym here) (by (bytes_eq kind k) (d / 32 == from / 32) refl refl)
   where
     here : counted after k d ≡ slice_index (cond (bytes_eq kind k && (d / 32 == from / 32)) (unwrap_or w []) (block_at before k (d / 32))) (d % 32)
     here = ap (λ xs. slice_index xs (d % 32)) (set_at before after kind (from / 32) w u k (d / 32))
 
     by : (x y : Bool) → bytes_eq kind k ≡ x → (d / 32 == from / 32) ≡ y
-        → Turns (counted before k d) (one_if (holds kind from to k d)) (slice_index (cond (bytes_eq kind k && (d / 32 == from / 32)) (unwrap_or w []) (block_at before k (d / 32))) (d % 32))
+        → Turns (counted before k d) (one_if (spans kind from to k d)) (slice_index (cond (bytes_eq kind k && (d / 32 == from / 32)) (unwrap_or w []) (block_at before k (d / 32))) (d % 32))
     by false y e h =
         subst (λ b. Turns (counted before k d) (one_if (b && (nat_le from d && nat_lt d to))) (slice_index (cond (b && (d / 32 == from / 32)) (unwrap_or w []) (block_at before k (d / 32))) (d % 32))) (sym e)
         (none (counted before k d))
@@ -79,10 +79,10 @@ sets_twice before mid after kind b v w first second q = second q ∙ by (is_at (
 
 -- of a block that isn't there, no night is taken
 pub part_absent : (blocks : List ((List ℕ × ℕ) × List ℕ)) (kind : List ℕ) (from to : ℕ) → from < to → to ≤ from / 32 * 32 + 32 → block_at blocks kind (from / 32) ≡ []
-    → (k : List ℕ) (d : ℕ) → counted blocks k d ≡ counted blocks k d - one_if (holds kind from to k d)
-part_absent blocks kind from to lt one none k d = by (holds kind from to k d) refl
+    → (k : List ℕ) (d : ℕ) → counted blocks k d ≡ counted blocks k d - one_if (spans kind from to k d)
+part_absent blocks kind from to lt one none k d = by (spans kind from to k d) refl
   where
-    by : (t : Bool) → holds kind from to k d ≡ t → counted blocks k d ≡ counted blocks k d - one_if t
+    by : (t : Bool) → spans kind from to k d ≡ t → counted blocks k d ≡ counted blocks k d - one_if t
     by false h = omega arith
     by true h =
         let two = both_true (bytes_eq kind k) (nat_le from d && nat_lt d to) h in

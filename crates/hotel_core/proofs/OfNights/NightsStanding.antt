@@ -1,17 +1,17 @@
 -- The index after a stay was added or changed its state.
 use Rattle.std.proofs.Common.{ℕ, ◌≡◌, ◌+◌, ◌-◌, ◌<◌, ◌^◌, Bool, true, false, cond, Option, Some, None, List, [], ◌∷◌, length, refl, ap, sym, ◌∙◌, subst, arith, nat_le, nat_lt, count_by, ◌==◌, ◌&&◌, bytes_eq, nat_cmp}
-use Rattle.hotel_core.proofs.Names.{insert_entry, values_of, length-map, count_by-le-length, Stay, StayState, one_if, takes, is_standing, nights_taken, said_of, at_number, in_state, now_is, counted, holds, StandsForAll}
+use Rattle.hotel_core.proofs.Names.{insert_entry, values_of, length-map, count_by-le-length, Stay, StayState, one_if, takes, is_standing, nights_taken, said_of, at_number, in_state, now_is, counted, spans, CountsNightsOf}
 use Rattle.hotel_core.proofs.{OfTables.StayCounts.count_first, OfTables.StayCounts.count_inserted, OfTables.TableKeys.at_is, OfTables.RowsChanged.stay_absent}
 
 -- a stay that stands takes the nights that it holds, and another none
-pub takes_by : (stay : Stay) (kind : List ℕ) (d : ℕ) → is_standing stay.state ≡ true → takes kind d stay ≡ holds stay.kind stay.arrive stay.depart kind d
+pub takes_by : (stay : Stay) (kind : List ℕ) (d : ℕ) → is_standing stay.state ≡ true → takes kind d stay ≡ spans stay.kind stay.arrive stay.depart kind d
 takes_by stay kind d h = ap (λ b. (b && bytes_eq stay.kind kind) && (nat_le stay.arrive d && nat_lt d stay.depart)) h
 
 pub takes_none : (stay : Stay) (kind : List ℕ) (d : ℕ) → is_standing stay.state ≡ false → takes kind d stay ≡ false
 takes_none stay kind d h = ap (λ b. (b && bytes_eq stay.kind kind) && (nat_le stay.arrive d && nat_lt d stay.depart)) h
 
 -- no more are counted than there are stays
-pub counts_fit : (counts : List ((List ℕ × ℕ) × List ℕ)) (es : List (ℕ × Stay)) (kind : List ℕ) (d : ℕ) → StandsForAll counts es → length es < 2 ^ 63 → counted counts kind d < 2 ^ 63
+pub counts_fit : (counts : List ((List ℕ × ℕ) × List ℕ)) (es : List (ℕ × Stay)) (kind : List ℕ) (d : ℕ) → CountsNightsOf counts es → length es < 2 ^ 63 → counted counts kind d < 2 ^ 63
 unfolding nights_taken
 counts_fit counts es kind d h few =
     let e : counted counts kind d ≡ count_by (takes kind d) (values_of es) = h kind d in
@@ -20,9 +20,9 @@ counts_fit counts es kind d h few =
     omega (arith, e, le, same, few)
 
 -- one more stay
-pub stands_more : (before after : List ((List ℕ × ℕ) × List ℕ)) (es : List (ℕ × Stay)) (party : ℕ) (stay : Stay) → StandsForAll before es → at_number es party ≡ None
+pub stands_more : (before after : List ((List ℕ × ℕ) × List ℕ)) (es : List (ℕ × Stay)) (party : ℕ) (stay : Stay) → CountsNightsOf before es → at_number es party ≡ None
     → ((k : List ℕ) (d : ℕ) → counted after k d ≡ counted before k d + one_if (takes k d stay))
-    → StandsForAll after (insert_entry nat_cmp es party stay)
+    → CountsNightsOf after (insert_entry nat_cmp es party stay)
 unfolding nights_taken
 stands_more before after es party stay h new u k d =
     let now : count_by (takes k d) (values_of (insert_entry nat_cmp es party stay)) ≡ one_if (takes k d stay) + count_by (takes k d) (values_of es) = count_inserted (takes k d) es party stay new in
@@ -68,9 +68,9 @@ counts_changed p party s (e ∷ es) stay h =
     (λ f. counts_changed p party s es stay (tail_is (e.0 == party) e.1 stay (at_number es party) turned f))
 
 -- a stay is done or cancelled
-pub stands_less : (before after : List ((List ℕ × ℕ) × List ℕ)) (es : List (ℕ × Stay)) (party : ℕ) (s : StayState) (stay : Stay) → StandsForAll before es → at_number es party ≡ Some stay → is_standing s ≡ false
+pub stands_less : (before after : List ((List ℕ × ℕ) × List ℕ)) (es : List (ℕ × Stay)) (party : ℕ) (s : StayState) (stay : Stay) → CountsNightsOf before es → at_number es party ≡ Some stay → is_standing s ≡ false
     → ((k : List ℕ) (d : ℕ) → counted after k d ≡ counted before k d - one_if (takes k d stay))
-    → StandsForAll after (in_state party s es)
+    → CountsNightsOf after (in_state party s es)
 unfolding nights_taken
 stands_less before after es party s stay h at ends u k d =
     let moved = counts_changed (takes k d) party s es stay at in
@@ -80,8 +80,8 @@ stands_less before after es party s stay h at ends u k d =
     omega (arith, moved, new, was, is)
 
 -- a stay that stands as it stood, or as little as it did
-pub stands_same : (counts : List ((List ℕ × ℕ) × List ℕ)) (es : List (ℕ × Stay)) (party : ℕ) (s : StayState) (stay : Stay) → StandsForAll counts es → at_number es party ≡ Some stay
-    → is_standing s ≡ is_standing stay.state → StandsForAll counts (in_state party s es)
+pub stands_same : (counts : List ((List ℕ × ℕ) × List ℕ)) (es : List (ℕ × Stay)) (party : ℕ) (s : StayState) (stay : Stay) → CountsNightsOf counts es → at_number es party ≡ Some stay
+    → is_standing s ≡ is_standing stay.state → CountsNightsOf counts (in_state party s es)
 unfolding nights_taken
 stands_same counts es party s stay h at same k d =
     let moved = counts_changed (takes k d) party s es stay at in
@@ -89,15 +89,15 @@ stands_same counts es party s stay h at same k d =
     let was : counted counts k d ≡ count_by (takes k d) (values_of es) = h k d in
     omega (arith, moved, old, was)
 
-pub none_stand : StandsForAll [] []
+pub none_stand : CountsNightsOf [] []
 unfolding nights_taken
 none_stand k d = refl
 
 -- a stay that stood, if there is one, stands on
-pub stands_on : (counts : List ((List ℕ × ℕ) × List ℕ)) (es : List (ℕ × Stay)) (party : ℕ) (s : StayState) → StandsForAll counts es → said_of (at_number es party) true (λ x. is_standing x.state) ≡ true
-    → is_standing s ≡ true → StandsForAll counts (in_state party s es)
+pub stands_on : (counts : List ((List ℕ × ℕ) × List ℕ)) (es : List (ℕ × Stay)) (party : ℕ) (s : StayState) → CountsNightsOf counts es → said_of (at_number es party) true (λ x. is_standing x.state) ≡ true
+    → is_standing s ≡ true → CountsNightsOf counts (in_state party s es)
 stands_on counts es party s h stood stands = by (at_number es party) refl stood
   where
-    by : (o : Option Stay) → at_number es party ≡ o → said_of o true (λ x. is_standing x.state) ≡ true → StandsForAll counts (in_state party s es)
-    by None e t = subst (λ stays. StandsForAll counts stays) (sym (stay_absent party s es e)) h
+    by : (o : Option Stay) → at_number es party ≡ o → said_of o true (λ x. is_standing x.state) ≡ true → CountsNightsOf counts (in_state party s es)
+    by None e t = subst (λ stays. CountsNightsOf counts stays) (sym (stay_absent party s es e)) h
     by (Some stay) e t = stands_same counts es party s stay h e (stands ∙ sym t)

@@ -1,6 +1,6 @@
 -- The rooms of each kind: as many as are counted, and fewer than a count holds.
 use Rattle.std.proofs.Common.{ℕ, ◌≡◌, ◌+◌, ◌-◌, ◌^◌, ◌≤◌, ◌<◌, Bool, true, false, cond, Option, Some, None, List, [], ◌∷◌, length, refl, ap, ◌∙◌, arith, sym, ◌==◌, bytes_eq, count_by, nat_cmp, Ordering, Less, Equal, Greater}
-use Rattle.hotel_core.proofs.Names.{AllByRecursion, MatchOrdering, match_ordering, ranks, insert_entry, keys_of, values_of, length-map, count_by-le-length, IsNumberUpTo, one_if, RoomRow, at_number, room_changed, left_by, rooms_in, HaveRoomNumbers, RoomsKnown}
+use Rattle.hotel_core.proofs.Names.{AllByRecursion, MatchOrdering, match_ordering, ranks, insert_entry, keys_of, values_of, length-map, count_by-le-length, IsNumberUpTo, one_if, RoomRow, at_number, room_changed, freed_by, rooms_in, HaveRoomNumbers, RoomsKnown}
 use Rattle.std.specs.List.Sorted.{IsStrictlySortedBy}
 use Rattle.hotel_core.proofs.OfTables.StayCounts.{count_first, count_inserted}
 
@@ -91,6 +91,6 @@ module _ (f : RoomRow → RoomRow) (same : (row : RoomRow) → (f row).kind ≡ 
     numbers = numbers_kept room es known.numbers;
   }
 
-pub known_left : (leaves : Option ℕ) (kinds : List (List ℕ × ℕ)) (es : List (ℕ × RoomRow)) → RoomsKnown kinds es → RoomsKnown kinds (left_by leaves es)
+pub known_left : (leaves : Option ℕ) (kinds : List (List ℕ × ℕ)) (es : List (ℕ × RoomRow)) → RoomsKnown kinds es → RoomsKnown kinds (freed_by leaves es)
 known_left None kinds es known = known
 known_left (Some room) kinds es known = known_changed (λ row. record row { party = None }) (λ row. refl) kinds room es known

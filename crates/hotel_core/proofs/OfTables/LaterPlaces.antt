@@ -1,6 +1,6 @@
 -- The places from a room's number of codes on stay free.
 use Rattle.std.proofs.Common.{ℕ, ◌≡◌, ◌+◌, ◌≤◌, ◌<◌, Bool, true, false, cond, Option, Some, None, IsSome, List, [], ◌∷◌, refl, ap, sym, ◌∙◌, subst, arith, ◌==◌, nat_cmp}
-use Rattle.hotel_core.proofs.Names.{is_at, insert_entry, RoomRow, CodeRow, said_of, at_number, first_code_at, room_changed, left_by, LaterPlacesFree, nat_cmp_total}
+use Rattle.hotel_core.proofs.Names.{is_at, insert_entry, RoomRow, CodeRow, said_of, at_number, first_code_at, room_changed, freed_by, LaterPlacesFree, nat_cmp_total}
 use Rattle.hotel_core.proofs.OfTables.MapEntries.{at_is, at_self, eq_from}
 use Rattle.hotel_core.proofs.OfTables.PlacedCodes.{placed, is_here, both_true}
 
@@ -28,7 +28,7 @@ module _ (R : ℕ → ℕ → Type 0) (same : (n : ℕ) → R n n) (f : RoomRow 
   codes_changed room r [] = same 0
   codes_changed room r (e ∷ es) = codes_by (e.0 == room) room r e es (codes_changed room r es)
 
-pub codes_left : (leaves : Option ℕ) (rooms : List (ℕ × RoomRow)) (r : ℕ) → codes_there rooms r ≡ codes_there (left_by leaves rooms) r
+pub codes_left : (leaves : Option ℕ) (rooms : List (ℕ × RoomRow)) (r : ℕ) → codes_there rooms r ≡ codes_there (freed_by leaves rooms) r
 codes_left None rooms r = refl
 codes_left (Some left) rooms r = codes_changed (λ m n. m ≡ n) (λ n. refl) (λ row. record row { party = None }) (λ row. refl) left r rooms
 
@@ -59,7 +59,7 @@ there_changed : (room r : ℕ) (f : RoomRow → RoomRow) (es : List (ℕ × Room
 there_changed room r f [] s = s
 there_changed room r f (e ∷ es) s = there_changed_by (e.0 == room) room r f e es s (there_changed room r f es)
 
-pub there_left : (leaves : Option ℕ) (rooms : List (ℕ × RoomRow)) (r : ℕ) → IsSome (at_number rooms r) → IsSome (at_number (left_by leaves rooms) r)
+pub there_left : (leaves : Option ℕ) (rooms : List (ℕ × RoomRow)) (r : ℕ) → IsSome (at_number rooms r) → IsSome (at_number (freed_by leaves rooms) r)
 there_left None rooms r s = s
 there_left (Some left) rooms r s = there_changed left r (λ row. record row { party = None }) rooms s
 

@@ -1,6 +1,6 @@
 -- The rows after a party left for good, and after it went to another room.
 use Rattle.std.proofs.Common.{ℕ, ◌≡◌, true, false, Option, Some, None, List, refl, ap, sym, ◌∙◌, length, ◌==◌, is_some, nat_cmp}
-use Rattle.hotel_core.proofs.Names.{insert_entry, RoomRow, when, and_last, said_of, Transfer, CheckOut, History, ◌▷◌, issued, all_issued, registered, secured, leaves, rooms, room_row, rows_of, is_room, is_in_house, room_of, Reached, room_changed, without_party, left_by}
+use Rattle.hotel_core.proofs.Names.{insert_entry, RoomRow, when, and_last, said_of, Transfer, CheckOut, History, ◌▷◌, issued, all_issued, registered, secured, leaves, rooms, room_row, rows_of, is_room, is_in_house, room_of, Reached, room_changed, without_party, freed_by}
 use Rattle.hotel_core.proofs.{Facts.Follow.FollowsBy, RowsAfter.RowsRooms.rows_by, RowsAfter.RowsRooms.one_changed, RowsAfter.RowsRooms.length_more}
 use Rattle.hotel_core.proofs.{OfTables.Numbered.true_is_not_false, OfTables.RoomNumbers.rooms_once, RowsAfter.RowsIssue.came_to, RowsAfter.RowsIssue.codes_said}
 use Rattle.hotel_core.proofs.{Invariants.Homes.not_leaving, Invariants.InHouse.homes_match, OfTables.Tests.eq_self}
@@ -58,8 +58,8 @@ transfer_follows h party room number code ok there t =
       party = when b (λ _. Some party) (leaves party (registered h room));
     }) (eq_self room) ∙ ap (λ n. record (room_row h room k) { codes = n; secured = false; party = Some party }) (length_more (issued h room) code))
     (rooms h) (rooms_once h ok)
-    ∙ ap (λ rs. room_changed room (came_to party) rs) (left_room h party home.0 ok home.1 ∙ ap (λ o. left_by o (rows_of h).rooms) (sym home.1)))
+    ∙ ap (λ rs. room_changed room (came_to party) rs) (left_room h party home.0 ok home.1 ∙ ap (λ o. freed_by o (rows_of h).rooms) (sym home.1)))
     ∙ ap (λ place. record (rows_of h') {
-      rooms = room_changed room (came_to party) (left_by (room_of h party) (rows_of h).rooms);
+      rooms = room_changed room (came_to party) (freed_by (room_of h party) (rows_of h).rooms);
       codes = insert_entry nat_cmp (all_issued h) code (record { room = room; place = place });
     }) (sym (codes_said h room there))

@@ -13,7 +13,7 @@ noted_row place s count row = record row { lock_place = place; secured = s; note
 pub entered_follows : (h : History) (room count number : ℕ) (link : Link) (at : Moment) → Reached h → count ≡ length (notes h room) + 1 → FollowsBy h (Entered room count number link at)
 entered_follows h room count number link at ok n =
     let h' : History = h ▷ Entered room count number link at in
-    let note : Note = record { room = room; count = count; act = act.Entered number link; day = at.day; second = at.second } in
+    let note : Note = record { room = room; count = count; act = act.Entered number link; day = at.0; second = at.1 } in
     let c : RoomRow → RoomRow = noted_row (length (passed h' room)) (secured h' room) count in
     ap (λ rs. record (rows_of h') { rooms = rs })
     (one_changed (room_row h') (room_row h) c room
@@ -30,7 +30,7 @@ entered_follows h room count number link at ok n =
 pub recoded_follows : (h : History) (room count from to : ℕ) (at : Moment) → Reached h → count ≡ length (notes h room) + 1 → FollowsBy h (Recoded room count from to at)
 recoded_follows h room count from to at ok n =
     let h' : History = h ▷ Recoded room count from to at in
-    let note : Note = record { room = room; count = count; act = act.Recoded from to; day = at.day; second = at.second } in
+    let note : Note = record { room = room; count = count; act = act.Recoded from to; day = at.0; second = at.1 } in
     let c : RoomRow → RoomRow = noted_row (length (passed h' room)) (secured h' room) count in
     ap (λ rs. record (rows_of h') { rooms = rs })
     (one_changed (room_row h') (room_row h) c room

@@ -95,19 +95,19 @@ left_fits h room count number link at ok =
 one_fits : (h : History) (event : Event) (note : Note) → Reached (h ▷ event) → note_of event ≡ Some note → note_fits (rows_of (h ▷ event)) ((note.room, note.count), note) ≡ true
 one_fits h (Entered room count number link at) note ok e =
     let event : Event = Entered room count number link at in
-    let its : Note = record { room = room; count = count; act = act.Entered number link; day = at.day; second = at.second } in
+    let its : Note = record { room = room; count = count; act = act.Entered number link; day = at.0; second = at.1 } in
     let w : its ≡ note = cc in
     subst (λ (n : Note). note_fits (rows_of (h ▷ event)) ((n.room, n.count), n) ≡ true) w
     (new_fits (h ▷ event) its (may_follow h event ok).1 (entered_fits h room count number link at ok) (last_in_range h event ok).1)
 one_fits h (Left room count number link at) note ok e =
     let event : Event = Left room count number link at in
-    let its : Note = record { room = room; count = count; act = act.Left number link; day = at.day; second = at.second } in
+    let its : Note = record { room = room; count = count; act = act.Left number link; day = at.0; second = at.1 } in
     let w : its ≡ note = cc in
     subst (λ (n : Note). note_fits (rows_of (h ▷ event)) ((n.room, n.count), n) ≡ true) w
     (new_fits (h ▷ event) its (may_follow h event ok).1 (left_fits h room count number link at ok) (last_in_range h event ok).1)
 one_fits h (Recoded room count from to at) note ok e =
     let event : Event = Recoded room count from to at in
-    let its : Note = record { room = room; count = count; act = act.Recoded from to; day = at.day; second = at.second } in
+    let its : Note = record { room = room; count = count; act = act.Recoded from to; day = at.0; second = at.1 } in
     let w : its ≡ note = cc in
     let n = may_follow h event ok in
     subst (λ (n : Note). note_fits (rows_of (h ▷ event)) ((n.room, n.count), n) ≡ true) w

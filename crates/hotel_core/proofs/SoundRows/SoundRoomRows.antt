@@ -48,13 +48,13 @@ one_more_by false note taken count n m few = few
 pub few_notes : (h : History) → Reached h → (r : ℕ) → length (notes h r) ≤ 9999999
 few_notes (start t) ok r = few_notes_at_start t ok r
 few_notes (h ▷ Entered room count number link at) ok r =
-    one_more_by (room == r) (record { room = room; count = count; act = act.Entered number link; day = at.day; second = at.second }) (notes h r) count
+    one_more_by (room == r) (record { room = room; count = count; act = act.Entered number link; day = at.0; second = at.1 }) (notes h r) count
     (λ t. (may_follow h (Entered room count number link at) ok).0 ∙ ap (λ z. length (notes h z) + 1) (eq_from room r t)) (last_in_range h (Entered room count number link at) ok).0.1 (few_notes h ok.0 r)
 few_notes (h ▷ Left room count number link at) ok r =
-    one_more_by (room == r) (record { room = room; count = count; act = act.Left number link; day = at.day; second = at.second }) (notes h r) count
+    one_more_by (room == r) (record { room = room; count = count; act = act.Left number link; day = at.0; second = at.1 }) (notes h r) count
     (λ t. (may_follow h (Left room count number link at) ok).0 ∙ ap (λ z. length (notes h z) + 1) (eq_from room r t)) (last_in_range h (Left room count number link at) ok).0.1 (few_notes h ok.0 r)
 few_notes (h ▷ Recoded room count from to at) ok r =
-    one_more_by (room == r) (record { room = room; count = count; act = act.Recoded from to; day = at.day; second = at.second }) (notes h r) count
+    one_more_by (room == r) (record { room = room; count = count; act = act.Recoded from to; day = at.0; second = at.1 }) (notes h r) count
     (λ t. (may_follow h (Recoded room count from to at) ok).0 ∙ ap (λ z. length (notes h z) + 1) (eq_from room r t)) (last_in_range h (Recoded room count from to at) ok).0.1 (few_notes h ok.0 r)
 few_notes (h ▷ _) ok r = few_notes h ok.0 r
 

@@ -21,9 +21,9 @@ abbrev pub without_party : ℕ → List (ℕ × RoomRow) → List (ℕ × RoomRo
 without_party room rooms = room_changed room (λ row. record row { party = None }) rooms
 
 -- the rooms, the one that a party leaves without a party
-abbrev pub left_by : Option ℕ → List (ℕ × RoomRow) → List (ℕ × RoomRow)
-left_by (Some room) rooms = without_party room rooms
-left_by None rooms = rooms
+abbrev pub freed_by : Option ℕ → List (ℕ × RoomRow) → List (ℕ × RoomRow)
+freed_by (Some room) rooms = without_party room rooms
+freed_by None rooms = rooms
 
 -- the cards inside rooms, after a move at a room
 abbrev pub moved : InsideMove → ℕ → List (ℕ × ℕ) → List (ℕ × ℕ)
@@ -48,7 +48,7 @@ made (Room room kind code) rows = record rows {
 made (Reserved stay) rows = record rows { stays = insert_entry nat_cmp rows.stays stay.party stay }
 made (Cancelled party) rows = record rows { stays = in_state party state.Cancelled rows.stays }
 made (Issue card room leaves) rows = record rows {
-  rooms = room_changed room (λ row. record row { codes = row.codes + 1; secured = false; party = Some card.party }) (left_by leaves rows.rooms);
+  rooms = room_changed room (λ row. record row { codes = row.codes + 1; secured = false; party = Some card.party }) (freed_by leaves rows.rooms);
   codes = insert_entry nat_cmp rows.codes card.link.new_code (record { room = room; place = codes_of rows room });
   stays = in_state card.party (state.InHouse room) rows.stays;
   cards = insert_entry nat_cmp rows.cards card.number card;

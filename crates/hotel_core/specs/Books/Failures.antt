@@ -5,6 +5,11 @@ use Rattle.keycard_rules.specs.declared.issued.LookFault.TheVariants as look
 use Rattle.hotel_core.specs.{declared.reply.Reply.Reply, declared.reply.Reply.TheVariants.Refused, declared.reply.Refusal.Refusal}
 use Rattle.hotel_core.specs.declared.reply.Refusal.TheVariants.{Memory, Store}
 
+-- the refusal that tells this cause
+abbrev pub refusal_of : LookFault → Refusal
+refusal_of look.Memory = Memory
+refusal_of look.Store = Store
+
 -- The failure that a reply tells, if it tells one.
 abbrev pub failure_in : Reply → List Refusal
 failure_in (Refused Memory) = Memory ∷ []

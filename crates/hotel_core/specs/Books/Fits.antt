@@ -2,6 +2,8 @@
 use Rattle.std.specs.Prelude.{◌≡◌, ◌<◌, ◌-◌, ◌^◌, ◌+◌, Bool, true, false, None, IsSome, length}
 use Rattle.hotel_core.specs.{declared.books.change.Change.Change, Model.Words.said_of, Model.Rows.Rows, Model.Rows.has_kind}
 use Rattle.hotel_core.specs.declared.books.change.Change.TheVariants as change
+use Rattle.hotel_core.specs.declared.command.Command.{Command}
+use Rattle.hotel_core.specs.declared.command.Command.TheVariants as command
 use Rattle.hotel_nights.specs.declared.stay.StayState.TheVariants as state
 use Rattle.hotel_nights.specs.FullNight.{is_standing}
 use Rattle.hotel_core.specs.{Books.Lookups.room_at, Books.Lookups.code_place, Books.Lookups.stay_at, Books.Lookups.note_at, Books.Change.made, Books.Change.codes_of}
@@ -33,3 +35,9 @@ takes_memory (change.DayTo day) = false
 takes_memory (change.Cancelled party) = false
 takes_memory (change.CheckedOut party room) = false
 takes_memory _ = true
+
+-- the commands that take no memory: the first business day and the next one
+abbrev pub takes_none : Command → Bool
+takes_none (command.Begin day) = true
+takes_none command.NextDay = true
+takes_none _ = false

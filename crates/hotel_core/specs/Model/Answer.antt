@@ -10,7 +10,7 @@ use Rattle.keycard_rules.specs.declared.note.Act.TheVariants as act
 use Rattle.keycard_rules.specs.Note.{Note}
 use Rattle.hotel_core.specs.Model.Words.{is_one_of}
 use Rattle.hotel_core.specs.Model.Event as event
-use Rattle.hotel_core.specs.Model.Event.{Event}
+use Rattle.hotel_core.specs.Model.Event.{Event, moment_of}
 use Rattle.hotel_core.specs.Model.History.{History}
 use Rattle.hotel_core.specs.Model.Cards.{card_of, link_to}
 use Rattle.hotel_core.specs.Model.Ledger.{awaited}
@@ -19,10 +19,6 @@ use Rattle.hotel_core.specs.Model.Stays.{first_full}
 use Rattle.hotel_core.specs.Model.Notes.{Standing, Copy, Conflicting, Next, After, standing}
 use Rattle.hotel_core.specs.Model.Cases.{is_begun, today, is_kind, is_room, is_party, is_booked, is_in_house, is_early, is_over, is_of_kind, is_home, is_taken, parties_used_up, next_party, cards_used_up, next_card, last_card_of, is_card, has_link, opens, holds}
 use Rattle.hotel_core.specs.Model.Outcome.{Outcome, needs, bars, unless, accepted, said, refused, with_fresh}
-
--- the moment of a note
-abbrev pub moment_of : Note → event.Moment
-moment_of note = record { day = note.day; second = note.second }
 
 -- The next note of a room: what it says must be so.
 abbrev pub told : History → Note → Act → Outcome Event

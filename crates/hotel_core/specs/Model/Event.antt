@@ -5,9 +5,12 @@ use Rattle.keycard_rules.specs.Note.{Note}
 use Rattle.keycard_rules.specs.declared.note.Act.TheVariants as act
 
 -- a day, and a second of it
-pub record Moment : Type 0 where
-  pub day : ℕ
-  pub second : ℕ
+abbrev pub Moment : Type 0
+Moment = ℕ × ℕ
+
+-- the moment of a note
+abbrev pub moment_of : Note → Moment
+moment_of note = (note.day, note.second)
 
 -- What happened.
 pub data Event : Type 0 where
@@ -40,7 +43,7 @@ pub data Event : Type 0 where
 
 -- the note that an event took, where it took one
 abbrev pub note_of : Event → Option Note
-note_of (Entered room count number link at) = Some (record { room = room; count = count; act = act.Entered number link; day = at.day; second = at.second })
-note_of (Left room count number link at) = Some (record { room = room; count = count; act = act.Left number link; day = at.day; second = at.second })
-note_of (Recoded room count from to at) = Some (record { room = room; count = count; act = act.Recoded from to; day = at.day; second = at.second })
+note_of (Entered room count number link at) = Some (record { room = room; count = count; act = act.Entered number link; day = at.0; second = at.1 })
+note_of (Left room count number link at) = Some (record { room = room; count = count; act = act.Left number link; day = at.0; second = at.1 })
+note_of (Recoded room count from to at) = Some (record { room = room; count = count; act = act.Recoded from to; day = at.0; second = at.1 })
 note_of _ = None

@@ -3,7 +3,7 @@ use Rattle.std.specs.Prelude.{ℕ, Bool, List, ◌==◌, not, length}
 use Rattle.std.specs.Ordering.{nat_cmp}
 use Rattle.std.specs.BTreeMap.{insert_entry}
 use Rattle.std.specs.Map.{keys_of}
-use Rattle.keycard_rules.specs.Draw.{is_one_of}
+use Rattle.keycard_rules.specs.Words.{is_one_of}
 use Rattle.hotel_core.specs.declared.books.rows.CodeRow.{CodeRow}
 use Rattle.hotel_core.specs.Model.Words.{when, and_last, last_of}
 use Rattle.hotel_core.specs.Model.Rows.{codes_at}

@@ -20,7 +20,7 @@ awaited (h ▷ Entered room count number link at) r = when ((room == r) && turns
 awaited (h ▷ Recoded room count from to at) r = when (room == r) (after to) (awaited h r)
 awaited (h ▷ _) r = awaited h r
 
--- The codes that a room's lock left: an entry that turns the lock leaves its old code, a recoding leaves the code that was held and each awaited one before its new code.
+-- The codes that a room's lock has passed: an entry that turns the lock passes its old code, a recoding passes the code that was held and each awaited one before its new code.
 abbrev pub passed : History → ℕ → List ℕ
 passed (start t) r = take (lock_place_of t r) (codes_at t r)
 passed (h ▷ Entered room count number link at) r = when ((room == r) && turns h room link) (and_last link.old_code) (passed h r)

@@ -2,18 +2,12 @@
 use Rattle.std.specs.Prelude.{ℕ, ◌≡◌, Bool, true, false, List, [], ◌∷◌, Option, Some, None, Result, Ok, Err}
 use Rattle.rand_core.specs.Stream.{Stream}
 use Rattle.keycard_rules.specs.{Draw.Draw, Draw.words, Draw.past, Draw.draw_from, Draw.MovedAtMost, Rise.HasRisen, Rise.NoFewer, declared.issued.LookFault.LookFault}
-use Rattle.keycard_rules.specs.declared.issued.LookFault.TheVariants as look
 use Rattle.keycard_rules.specs.{declared.draw.DrawFault.DrawFault, declared.issued.Issued.Ghosts as IssuedOf}
 use Rattle.keycard_rules.specs.declared.draw.DrawFault.TheVariants as draw
 use Rattle.hotel_core.specs.{declared.reply.Reply.Reply, declared.reply.Refusal.Refusal}
 use Rattle.hotel_core.specs.declared.reply.Reply.TheVariants as reply
 use Rattle.hotel_core.specs.{declared.reply.Refusal.TheVariants.Memory, declared.reply.Refusal.TheVariants.Store, declared.reply.Refusal.TheVariants.NoFreshCode, Model.Rows.Rows}
-use Rattle.hotel_core.specs.{Books.Lookups.codes_in, Model.Run.is_failed, declared.books.Books.Ghosts as BooksOf}
-
--- the refusal that a fault of a look-up is answered by
-abbrev pub refusal_of : LookFault → Refusal
-refusal_of look.Memory = Memory
-refusal_of look.Store = Store
+use Rattle.hotel_core.specs.{Books.Lookups.codes_in, Books.Failures.refusal_of, Model.Run.is_failed, declared.books.Books.Ghosts as BooksOf}
 
 -- what was looked up, with its fault as a refusal
 abbrev pub known : {A : Type 0} → Result A LookFault → Result A Refusal

@@ -1,9 +1,8 @@
 -- What the books compute on rows, lifted to what the desk answers after a history.
 use Rattle.std.specs.Prelude.{ℕ, ◌≡◌, List, option_map}
-use Rattle.rand_core.specs.Stream.{Stream}
-use Rattle.hotel_core.specs.{declared.books.change.Change.Change, declared.command.Command.Command, declared.reply.Reply.Reply, Model.Rows.Rows, Model.Event.Event}
+use Rattle.hotel_core.specs.{declared.books.change.Change.Change, declared.command.Command.Command, Model.Event.Event}
 use Rattle.hotel_core.specs.{Model.Ranges.IsCommand, Model.History.History, Model.History.◌▷◌, Model.RowsOf.rows_of, Model.Outcome.Outcome, Model.Answer.answer_to}
-use Rattle.hotel_core.specs.{Model.Headline.Assured, Model.Run.Reached, Model.Run.StandsFor, Model.Run.Runs, Books.Change.made, Books.Fits.Fits, Refinement.ChangeOf.change_of}
+use Rattle.hotel_core.specs.{Model.Run.Reached, Books.Change.made, Books.Fits.Fits, Refinement.ChangeOf.change_of}
 use Rattle.hotel_core.specs.Refinement.OnRows.{outcome_on}
 
 -- The outcome, with the change of the books in place of the event.
@@ -21,7 +20,3 @@ AnswersLift = (h : History) (command : Command) → Reached h → IsCommand comm
 -- The rows after one more event are those that its change makes, and the change fits.
 abbrev pub ChangesFit : Type 0
 ChangesFit = (h : History) (event : Event) → Reached (h ▷ event) → (rows_of (h ▷ event) ≡ made (change_of h event) (rows_of h)) × Fits (change_of h event) (rows_of h)
-
--- A run has come to these rows and this source, and what is assured holds of its history.
-abbrev pub RunsSafely : History → Stream → List Command → List Reply → Rows → Stream → Type 0
-RunsSafely h s commands replies rows s' = (h' : History) × StandsFor h' rows × Runs h s commands replies h' s' × Assured h'

@@ -46,12 +46,12 @@ abbrev pub awaited_on : RoomRow → ℕ
 awaited_on row = row.codes - row.lock_place - 1
 
 -- a room that is left behind, with the codes that its lock holds and that were issued last
-abbrev pub left_at : RoomRow → ℕ → ℕ → BehindRow
-left_at row held current = record { room = row.room; held = held; current = current; awaited = awaited_on row }
+abbrev pub behind_at : RoomRow → ℕ → ℕ → BehindRow
+behind_at row held current = record { room = row.room; held = held; current = current; awaited = awaited_on row }
 
 -- the row of a room with two awaited codes or more
 abbrev pub behind_row_on : Rows → RoomRow → Option BehindRow
-behind_row_on rows row = if nat_le 2 (awaited_on row) then said_of (code_at rows row.room row.lock_place) None (λ held. option_map (left_at row held) (code_at rows row.room (row.codes - 1))) else None
+behind_row_on rows row = if nat_le 2 (awaited_on row) then said_of (code_at rows row.room row.lock_place) None (λ held. option_map (behind_at row held) (code_at rows row.room (row.codes - 1))) else None
 
 -- Rooms with two awaited codes or more, by room.
 abbrev pub left_behind_on : Rows → List BehindRow

@@ -5,7 +5,7 @@ use Rattle.rand_core.specs.Stream.{Stream}
 use Rattle.hotel_core.specs.{declared.books.change.Change.Change, declared.reply.Reply.Reply, declared.books.rows.RoomRow.RoomRow, Model.Rows.Rows}
 use Rattle.hotel_core.specs.declared.reply.Reply.TheVariants as reply
 use Rattle.hotel_core.specs.Books.Lookups.{room_at, code_at, code_place, card_at, note_at}
-use Rattle.hotel_core.specs.{Books.Change.made, Books.Change.codes_of, Refinement.OnRows.home_on, Model.Outcome.Outcome, Model.Run.is_failed, Refinement.Finds.refusal_of}
+use Rattle.hotel_core.specs.{Books.Change.made, Books.Failures.refusal_of, Books.Change.codes_of, Refinement.OnRows.home_on, Model.Outcome.Outcome, Model.Run.is_failed}
 use Rattle.keycard_rules.specs.declared.issued.Issued.{Ghosts as IssuedOf}
 use Rattle.hotel_core.specs.declared.books.Books.{Ghosts as BooksOf}
 

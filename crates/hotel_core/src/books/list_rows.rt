@@ -21,7 +21,7 @@ pub struct HouseRow {
 /// How a code stands to its room's lock.
 #[derive(Clone, Copy, PartialEq, Eq, Debug)]
 pub enum CodeState {
-    /// The lock has left it.
+    /// The lock has passed it.
     Passed,
     Held,
     /// The lock has not taken it yet.

@@ -3,7 +3,7 @@ ghost use Rattle.std.specs.Prelude.{◌≡◌, ℕ, Some, None, [], OnOk, OnErr}
 ghost use Rattle.std.specs.Ordering.{nat_cmp};
 ghost use Rattle.std.specs.BTreeMap.{is_at, insert_entry};
 ghost use Rattle.std.specs.Map.{remove_entry, keys_of};
-ghost use Rattle.keycard_rules.specs.Draw.{is_one_of};
+ghost use Rattle.keycard_rules.specs.Words.{is_one_of};
 ghost use Rattle.hotel_core.specs.{Model.Rows.at_number, Books.Lookups.first_code_at};
 
 use crate::books::rows::CodeRow;

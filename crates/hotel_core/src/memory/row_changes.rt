@@ -1,6 +1,6 @@
 //! Changes of rows that are there: they take no memory.
 ghost use Rattle.std.specs.Prelude.{◌≡◌, ℕ, ◌+◌, ◌-◌, ◌^◌, ◌<◌, Some, None, false};
-ghost use Rattle.hotel_core.specs.{Model.Words.said_of, Model.Rows.at_number, Books.Change.room_changed, Books.Change.without_party, Books.Change.left_by, Model.Stays.in_state};
+ghost use Rattle.hotel_core.specs.{Model.Words.said_of, Model.Rows.at_number, Books.Change.room_changed, Books.Change.without_party, Books.Change.freed_by, Model.Stays.in_state};
 
 use crate::books::rows::RoomRow;
 use hotel_nights::{Stay, StayState};
@@ -40,7 +40,7 @@ pub(crate) fn leave(rooms: &mut BTreeMap<RoomNo, RoomRow>, room: RoomNo)
 
 /// The party has left the room that is named, if one is.
 pub(crate) fn leave_any(rooms: &mut BTreeMap<RoomNo, RoomRow>, leaves: Option<RoomNo>)
-    ensures { rooms.new.entries ≡ left_by leaves rooms.old.entries }
+    ensures { rooms.new.entries ≡ freed_by leaves rooms.old.entries }
 {
     if let Some(room) = leaves {
         leave(rooms, room);

@@ -25,13 +25,13 @@ pub(crate) struct StayTable {
 impl Model for StayTable {
     ghost use Rattle.std.specs.Prelude.{ℕ, List};
     ghost use Rattle.hotel_nights.specs.declared.stay.Stay.{Stay};
-    ghost use Rattle.hotel_core.specs.Memory.{StandsForAll};
+    ghost use Rattle.hotel_core.specs.Memory.{CountsNightsOf};
 
     ghost Value = { List (ℕ × Stay) };
 
     ghost view = { λ t. t.stays.entries };
 
-    ghost invariant = { λ t. StandsForAll t.nights t.stays.entries };
+    ghost invariant = { λ t. CountsNightsOf t.nights t.stays.entries };
 }
 
 impl StayTable {

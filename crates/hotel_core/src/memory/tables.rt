@@ -1,7 +1,7 @@
 //! The tables of books in memory, and what look-ups find there.
 ghost use Rattle.std.specs.Prelude.{◌≡◌, ◌-◌, ℕ, ◌^◌, ◌<◌, length, IfOk, not};
 ghost use Rattle.std.specs.Map.{keys_of};
-ghost use Rattle.keycard_rules.specs.Draw.{is_one_of};
+ghost use Rattle.keycard_rules.specs.Words.{is_one_of};
 ghost use Rattle.hotel_core.specs.{Model.Guests.are_none, Model.Rows.Rows, Model.Rows.no_rows, Model.Rows.at_number, Model.Rows.has_kind};
 ghost use Rattle.hotel_core.specs.Books.Lookups.{room_at, codes_in, code_place, code_at, stay_at, stays_of_kind, card_at, inside_at, note_at, rooms_of_kind, first_full_on, number_after};
 

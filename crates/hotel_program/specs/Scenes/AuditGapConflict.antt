@@ -12,7 +12,7 @@ lines =
     ++ taken_twice
     ++ (entered 101 3 1 a0 a1 M ⇒ taken
     ∷ left 101 5 1 a0 a1 M ⇒ refused (Gap 4)
-    ∷ entered 101 3 1 a0 a1 (record M { second = 54001 }) ⇒ refused Conflict ∷ [])
+    ∷ entered 101 3 1 a0 a1 (M.0, 54001) ⇒ refused Conflict ∷ [])
 
 abbrev pub TheScene : Type 0
 TheScene = Holds (a0 ∷ []) a1 lines

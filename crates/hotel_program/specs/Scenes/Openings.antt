@@ -27,7 +27,7 @@ next_checked_in =
 
 -- the moment 2031-05-01T16:00:00
 abbrev pub four_pm : Moment
-four_pm = record { day = may 1; second = 57600 }
+four_pm = (may 1, 57600)
 
 -- The notes of an entry and of an exit.
 abbrev pub taken_twice : List Line

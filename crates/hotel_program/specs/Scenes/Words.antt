@@ -20,7 +20,7 @@ may day = 11442 + day
 
 -- the moment 2031-05-01T15:00:00
 abbrev pub M : Moment
-M = record { day = may 1; second = 54000 }
+M = (may 1, 54000)
 
 abbrev pub a0 : ℕ
 a0 = 0xa0
@@ -109,13 +109,13 @@ abbrev pub next_day : Command
 next_day = command.NextDay
 
 abbrev pub entered : ℕ → ℕ → ℕ → ℕ → ℕ → Moment → Command
-entered room count number old new at = command.Reported (record { room = room; count = count; act = act.Entered number (link old new); day = at.day; second = at.second })
+entered room count number old new at = command.Reported (record { room = room; count = count; act = act.Entered number (link old new); day = at.0; second = at.1 })
 
 abbrev pub left : ℕ → ℕ → ℕ → ℕ → ℕ → Moment → Command
-left room count number old new at = command.Reported (record { room = room; count = count; act = act.Left number (link old new); day = at.day; second = at.second })
+left room count number old new at = command.Reported (record { room = room; count = count; act = act.Left number (link old new); day = at.0; second = at.1 })
 
 abbrev pub recoded : ℕ → ℕ → ℕ → ℕ → Moment → Command
-recoded room count from to at = command.Reported (record { room = room; count = count; act = act.Recoded from to; day = at.day; second = at.second })
+recoded room count from to at = command.Reported (record { room = room; count = count; act = act.Recoded from to; day = at.0; second = at.1 })
 
 -- ---- replies, as their texts have them
 

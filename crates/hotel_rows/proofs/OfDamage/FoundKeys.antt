@@ -123,20 +123,20 @@ key_there : (ks : List ℕ) (q i : ℕ) → place_in ks q ≡ Some i → get_or 
 key_there [] q i e = absurd (let w : ◌≡◌ {A = Option ℕ} None (Some i) = e in cc)
 key_there (k ∷ ks) q i e = key_by (k == q) ks k q i refl e (λ j f. key_there ks q j f)
 
-key_of_line : {L : Type 0} (key : L → ℕ) (ls : List L) (i : ℕ) (d : L) → i < length ls → get_or (map key ls) i 0 ≡ key (get_or ls i d)
-key_of_line key [] i d low = absurd (omega (arith, low))
-key_of_line key (l ∷ ls) zero d low = refl
-key_of_line key (l ∷ ls) (suc i) d low = key_of_line key ls i d (omega (arith, low))
+key_of_plain : {L : Type 0} (key : L → ℕ) (ls : List L) (i : ℕ) (d : L) → i < length ls → get_or (map key ls) i 0 ≡ key (get_or ls i d)
+key_of_plain key [] i d low = absurd (omega (arith, low))
+key_of_plain key (l ∷ ls) zero d low = refl
+key_of_plain key (l ∷ ls) (suc i) d low = key_of_plain key ls i d (omega (arith, low))
 
 module _ {L X : Type 0} (key : L → ℕ) (row : L → X) where
-  pub line_found : (places : List (ℕ × ℕ)) (ls : List L) (q i : ℕ) (d : L) → Finds places (map key ls) → at_number places q ≡ Some i → key (get_or ls i d) ≡ q
-  line_found places ls q i d is e = sym (key_of_line key ls i d (one_bound key row places ls q i is e)) ∙ key_there (map key ls) q i (sym (is q) ∙ e)
+  pub plain_found : (places : List (ℕ × ℕ)) (ls : List L) (q i : ℕ) (d : L) → Finds places (map key ls) → at_number places q ≡ Some i → key (get_or ls i d) ≡ q
+  plain_found places ls q i d is e = sym (key_of_plain key ls i d (one_bound key row places ls q i is e)) ∙ key_there (map key ls) q i (sym (is q) ∙ e)
 
 both_parts : (a b : Bool) → (a && b) ≡ true → (a ≡ true) × (b ≡ true)
 both_parts true b h = (refl, h)
 both_parts false b h = absurd (let w : ◌≡◌ {A = Bool} false true = h in cc)
 
--- what all lines pass, the line at an index passes
+-- what all plain rows pass, the one at an index passes
 pub passes_at : {L : Type 0} (t : L → Bool) (ls : List L) (i : ℕ) (d : L) → i < length ls → list_all t ls ≡ true → t (get_or ls i d) ≡ true
 passes_at t [] i d low all = absurd (omega (arith, low))
 passes_at t (l ∷ ls) zero d low all = (both_parts (t l) (list_all t ls) all).0

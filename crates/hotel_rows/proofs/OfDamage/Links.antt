@@ -4,7 +4,7 @@ use Rattle.std.specs.Prelude.{is_some, option_map, ◌||◌}
 use Rattle.std.specs.List.{list_any}
 use Rattle.hotel_core.specs.Model.Rows.{at_number, or_else}
 use Rattle.hotel_core.proofs.OfTables.MapEntries.{eq_turned}
-use Rattle.hotel_rows.specs.declared.stored.CardLine.{CardLine}
+use Rattle.hotel_rows.specs.declared.stored.PlainCard.{PlainCard}
 use Rattle.hotel_rows.specs.Stored.{number_of, link_row}
 use Rattle.hotel_rows.specs.Keys.{place_in}
 use Rattle.hotel_rows.specs.Lasts.{link_pair, link_of_pair, LastsOf}
@@ -14,26 +14,26 @@ any_by true o = refl
 any_by false (Some i) = refl
 any_by false None = refl
 
--- a key stands somewhere exactly where some line has it
+-- a key stands somewhere exactly where some plain row has it
 pub any_placed : {L : Type 0} (key : L → ℕ) (ls : List L) (q : ℕ) → is_some (place_in (map key ls) q) ≡ list_any (λ l. key l == q) ls
 any_placed key [] q = refl
 any_placed key (l ∷ ls) q = any_by (key l == q) (place_in (map key ls) q) ∙ ap (λ b. (key l == q) || b) (any_placed key ls q)
 
 -- what stands past the end of a list of cards
-abbrev pub no_card : CardLine
+abbrev pub no_card : PlainCard
 no_card = record { number = pos 0; party = pos 0; old_code = pos 0; new_code = pos 0 }
 
-last_by : (o : Option (ℕ × ℕ)) (line : CardLine) (b : Bool) → option_map link_of_pair (cond (is_some o) o (cond b (Some (link_pair line)) None)) ≡ or_else (option_map link_of_pair o) (cond b (Some (link_row line)) None)
-last_by (Some p) line b = refl
-last_by None line true = refl
-last_by None line false = refl
+last_by : (o : Option (ℕ × ℕ)) (plain : PlainCard) (b : Bool) → option_map link_of_pair (cond (is_some o) o (cond b (Some (link_pair plain)) None)) ≡ or_else (option_map link_of_pair o) (cond b (Some (link_row plain)) None)
+last_by (Some p) plain b = refl
+last_by None plain true = refl
+last_by None plain false = refl
 
 -- a card more, before the others
-pub lasts_more : (before after : List (ℕ × (ℕ × ℕ))) (line : CardLine) (lines : List CardLine) → LastsOf before lines
-    → ((p : ℕ) → at_number after p ≡ cond (is_some (at_number before p)) (at_number before p) (cond (p == number_of line.party) (Some (link_pair line)) None))
-    → LastsOf after (line ∷ lines)
-lasts_more before after line lines is put p =
+pub lasts_more : (before after : List (ℕ × (ℕ × ℕ))) (plain : PlainCard) (plain_rows : List PlainCard) → LastsOf before plain_rows
+    → ((p : ℕ) → at_number after p ≡ cond (is_some (at_number before p)) (at_number before p) (cond (p == number_of plain.party) (Some (link_pair plain)) None))
+    → LastsOf after (plain ∷ plain_rows)
+lasts_more before after plain plain_rows is put p =
     ap (option_map link_of_pair) (put p)
-    ∙ last_by (at_number before p) line (p == number_of line.party)
-    ∙ ap (λ b. or_else (option_map link_of_pair (at_number before p)) (cond b (Some (link_row line)) None)) (eq_turned p (number_of line.party))
-    ∙ ap (λ o. or_else o (cond (number_of line.party == p) (Some (link_row line)) None)) (is p)
+    ∙ last_by (at_number before p) plain (p == number_of plain.party)
+    ∙ ap (λ b. or_else (option_map link_of_pair (at_number before p)) (cond b (Some (link_row plain)) None)) (eq_turned p (number_of plain.party))
+    ∙ ap (λ o. or_else o (cond (number_of plain.party == p) (Some (link_row plain)) None)) (is p)

@@ -12,34 +12,34 @@ use Rattle.hotel_core.specs.Model.SoundCards.{counts_at, notes_counted, notes_fi
 use Rattle.hotel_core.proofs.OfTables.RowTests.{all_mapped}
 use Rattle.hotel_core.proofs.OfTables.MapEntries.{eq_from, eq_self, eq_turned}
 use Rattle.hotel_rows.specs.declared.damage.note_runs.NoteRun.{NoteRun}
-use Rattle.hotel_rows.specs.declared.stored.NoteLine.{NoteLine}
+use Rattle.hotel_rows.specs.declared.stored.PlainNote.{PlainNote}
 use Rattle.hotel_rows.specs.declared.stored.Stored.{Stored}
 use Rattle.hotel_rows.specs.Stored.{number_of, note_row, note_entry, room_entry, rows_of}
 use Rattle.hotel_rows.specs.Keys.{note_key}
 use Rattle.hotel_rows.specs.Damage.{note_columns, note_holds}
-use Rattle.hotel_rows.specs.RowTests.{note_line_fits}
+use Rattle.hotel_rows.specs.RowTests.{plain_note_fits}
 use Rattle.hotel_rows.specs.NoteRuns.{run_of, RunsOf, counted_as_due}
 use Rattle.hotel_rows.proofs.OfDamage.RowsTogether.{all_and, all_alike}
 
 -- what stands past the end of a list of notes
-abbrev pub no_note : NoteLine
+abbrev pub no_note : PlainNote
 no_note = record { room = pos 0; n = pos 0; act = pos 0; card = None; first_code = pos 0; second_code = pos 0; day = pos 0; second = pos 0 }
 
-more_by : (b : Bool) (line : NoteLine) (lines : List NoteLine) (before : List (ℕ × NoteRun)) (r : ℕ) → (number_of line.room == r) ≡ b → RunsOf before lines
-    → cond b (run_of (number_of line.n ∷ counts_at (notes_at (map note_entry lines) (number_of line.room)))) (at_number before r)
-    ≡ run_of (counts_at (when b (λ notes. note_row line ∷ notes) (notes_at (map note_entry lines) r)))
-more_by true line lines before r e is = ap (λ q. run_of (number_of line.n ∷ counts_at (notes_at (map note_entry lines) q))) (eq_from (number_of line.room) r e)
-more_by false line lines before r e is = is r
+more_by : (b : Bool) (plain : PlainNote) (plain_rows : List PlainNote) (before : List (ℕ × NoteRun)) (r : ℕ) → (number_of plain.room == r) ≡ b → RunsOf before plain_rows
+    → cond b (run_of (number_of plain.n ∷ counts_at (notes_at (map note_entry plain_rows) (number_of plain.room)))) (at_number before r)
+    ≡ run_of (counts_at (when b (λ notes. note_row plain ∷ notes) (notes_at (map note_entry plain_rows) r)))
+more_by true plain plain_rows before r e is = ap (λ q. run_of (number_of plain.n ∷ counts_at (notes_at (map note_entry plain_rows) q))) (eq_from (number_of plain.room) r e)
+more_by false plain plain_rows before r e is = is r
 
 -- a note more, before the others
-pub runs_more : (before after : List (ℕ × NoteRun)) (line : NoteLine) (lines : List NoteLine) → RunsOf before lines
-    → ((r : ℕ) (ns : List ℕ) → at_number before (number_of line.room) ≡ run_of ns → at_number after r ≡ cond (r == number_of line.room) (run_of (number_of line.n ∷ ns)) (at_number before r))
-    → RunsOf after (line ∷ lines)
-runs_more before after line lines is put r =
-    let ns = counts_at (notes_at (map note_entry lines) (number_of line.room)) in
-    put r ns (is (number_of line.room))
-    ∙ ap (λ b. cond b (run_of (number_of line.n ∷ ns)) (at_number before r)) (eq_turned r (number_of line.room))
-    ∙ more_by (number_of line.room == r) line lines before r refl is
+pub runs_more : (before after : List (ℕ × NoteRun)) (plain : PlainNote) (plain_rows : List PlainNote) → RunsOf before plain_rows
+    → ((r : ℕ) (ns : List ℕ) → at_number before (number_of plain.room) ≡ run_of ns → at_number after r ≡ cond (r == number_of plain.room) (run_of (number_of plain.n ∷ ns)) (at_number before r))
+    → RunsOf after (plain ∷ plain_rows)
+runs_more before after plain plain_rows is put r =
+    let ns = counts_at (notes_at (map note_entry plain_rows) (number_of plain.room)) in
+    put r ns (is (number_of plain.room))
+    ∙ ap (λ b. cond b (run_of (number_of plain.n ∷ ns)) (at_number before r)) (eq_turned r (number_of plain.room))
+    ∙ more_by (number_of plain.room == r) plain plain_rows before r refl is
 
 length_counts : (notes : List Note) → length (counts_at notes) ≡ length notes
 length_counts [] = refl
@@ -79,11 +79,11 @@ due_as_counted (n ∷ ns) m =
 pub counts_as_due : (s : Stored) (runs : List (ℕ × NoteRun)) → RunsOf runs s.notes.items → notes_counted (rows_of s) ≡ list_all (counted_as_due runs) s.rooms.items
 counts_as_due s runs is =
     all_mapped (λ (e : ℕ × RoomRow). count_up 1 (counts_at (notes_at (map note_entry s.notes.items) e.1.room)) && (length (notes_at (map note_entry s.notes.items) e.1.room) == e.1.notes)) room_entry s.rooms.items
-    ∙ all_alike _ (counted_as_due runs) s.rooms.items (λ line.
-    let here = notes_at (map note_entry s.notes.items) (number_of line.room) in
-    ap (λ n. count_up 1 (counts_at here) && (n == number_of line.notes)) (sym (length_counts here))
-    ∙ due_as_counted (counts_at here) (number_of line.notes)
-    ∙ ap (λ o. said_of o (number_of line.notes == 0) (λ run. run.counted && (run.first == 1) && (run.last == number_of line.notes))) (sym (is (number_of line.room))))
+    ∙ all_alike _ (counted_as_due runs) s.rooms.items (λ plain.
+    let here = notes_at (map note_entry s.notes.items) (number_of plain.room) in
+    ap (λ n. count_up 1 (counts_at here) && (n == number_of plain.notes)) (sym (length_counts here))
+    ∙ due_as_counted (counts_at here) (number_of plain.notes)
+    ∙ ap (λ o. said_of o (number_of plain.notes == 0) (λ run. run.counted && (run.first == 1) && (run.last == number_of plain.notes))) (sym (is (number_of plain.room))))
 
 swap_last : (o c n f t : Bool) → (c && f) ≡ t → (((o && c) && n) && f) ≡ ((o && t) && n)
 swap_last true true n true t e = let g : n && true ≡ n && true = refl in and_true_last n ∙ ap (λ z. z && n) e
@@ -99,22 +99,22 @@ swap_last true true n false t e = and_false_last n ∙ ap (λ z. z && n) e
 swap_last true false n f t e = ap (λ z. z && n) e
 swap_last false c n f t e = refl
 
-line_fits : (c a b t x d s : Bool) → a ≡ true → b ≡ true → (c && (((((a && b) && t) && x) && d) && s)) ≡ ((((c && t) && x) && d) && s)
-line_fits true a b t x d s e f = ap (λ z. ((((z && b) && t) && x) && d) && s) e ∙ ap (λ z. (((z && t) && x) && d) && s) f
-line_fits false a b t x d s e f = refl
+plain_fits : (c a b t x d s : Bool) → a ≡ true → b ≡ true → (c && (((((a && b) && t) && x) && d) && s)) ≡ ((((c && t) && x) && d) && s)
+plain_fits true a b t x d s e f = ap (λ z. ((((z && b) && t) && x) && d) && s) e ∙ ap (λ z. (((z && t) && x) && d) && s) f
+plain_fits false a b t x d s e f = refl
 
 -- the rules of notes are a test of each note, and one of each room
-pub notes_together : (s : Stored) → note_holds s ≡ (are_in_order pair_cmp (map note_key s.notes.items) && list_all (note_line_fits (rows_of s)) s.notes.items && notes_counted (rows_of s))
+pub notes_together : (s : Stored) → note_holds s ≡ (are_in_order pair_cmp (map note_key s.notes.items) && list_all (plain_note_fits (rows_of s)) s.notes.items && notes_counted (rows_of s))
 notes_together s =
-    let lines = s.notes.items in
+    let plain_rows = s.notes.items in
     let rows = rows_of s in
-    ap (λ ks. are_in_order pair_cmp ks && list_all note_columns lines && notes_counted rows && notes_fit rows) (pair_keys_mapped lines)
-    ∙ swap_last (are_in_order pair_cmp (map note_key lines)) (list_all note_columns lines) (notes_counted rows) (notes_fit rows) (list_all (note_line_fits rows) lines)
-    (all_and note_columns (λ line. note_fits rows (note_entry line)) lines (notes_fit rows) (all_mapped (note_fits rows) note_entry lines)
-    ∙ all_alike _ (note_line_fits rows) lines (λ line.
-    line_fits (note_columns line) (number_of line.room == number_of line.room) (number_of line.n == number_of line.n) (is_some (at_number rows.rooms (number_of line.room)))
-    (act_fits rows (number_of line.room) (note_row line).act) (is_day (number_of line.day)) (nat_lt (number_of line.second) 86400) (eq_self (number_of line.room)) (eq_self (number_of line.n))))
+    ap (λ ks. are_in_order pair_cmp ks && list_all note_columns plain_rows && notes_counted rows && notes_fit rows) (pair_keys_mapped plain_rows)
+    ∙ swap_last (are_in_order pair_cmp (map note_key plain_rows)) (list_all note_columns plain_rows) (notes_counted rows) (notes_fit rows) (list_all (plain_note_fits rows) plain_rows)
+    (all_and note_columns (λ plain. note_fits rows (note_entry plain)) plain_rows (notes_fit rows) (all_mapped (note_fits rows) note_entry plain_rows)
+    ∙ all_alike _ (plain_note_fits rows) plain_rows (λ plain.
+    plain_fits (note_columns plain) (number_of plain.room == number_of plain.room) (number_of plain.n == number_of plain.n) (is_some (at_number rows.rooms (number_of plain.room)))
+    (act_fits rows (number_of plain.room) (note_row plain).act) (is_day (number_of plain.day)) (nat_lt (number_of plain.second) 86400) (eq_self (number_of plain.room)) (eq_self (number_of plain.n))))
   where
-    pair_keys_mapped : (ls : List NoteLine) → keys_of (map note_entry ls) ≡ map note_key ls
+    pair_keys_mapped : (ls : List PlainNote) → keys_of (map note_entry ls) ≡ map note_key ls
     pair_keys_mapped [] = refl
     pair_keys_mapped (l ∷ ls) = ap (λ ks. note_key l ∷ ks) (pair_keys_mapped ls)

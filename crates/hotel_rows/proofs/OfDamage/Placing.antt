@@ -15,7 +15,7 @@ use Rattle.hotel_core.specs.Model.SoundCards.{places_once, code_rooms_there}
 use Rattle.hotel_core.proofs.OfTables.StayCounts.{count_first}
 use Rattle.hotel_core.proofs.OfTables.RowTests.{all_mapped}
 use Rattle.hotel_rows.specs.declared.damage.placed.Placed.{Placed}
-use Rattle.hotel_rows.specs.declared.stored.CodeLine.{CodeLine}
+use Rattle.hotel_rows.specs.declared.stored.PlainCode.{PlainCode}
 use Rattle.hotel_rows.specs.declared.stored.Stored.{Stored}
 use Rattle.hotel_rows.specs.Stored.{number_of, code_row, code_entry, room_entry, rows_of}
 use Rattle.hotel_rows.specs.Keys.{code_key}
@@ -25,21 +25,21 @@ use Rattle.hotel_rows.specs.RowTests.{code_fits}
 use Rattle.hotel_rows.proofs.OfDamage.RowsTogether.{keys_mapped, all_and, and_more, all_alike}
 
 -- what stands past the end of a list of codes
-abbrev pub no_code : CodeLine
+abbrev pub no_code : PlainCode
 no_code = record { code = pos 0; room = pos 0; place = pos 0 }
 
 turned : (a b : ℕ) → a + b ≡ b + a
 turned a b = omega arith
 
 -- a code more, before the others
-pub placed_first : (before after : List (ℕ × Placed)) (line : CodeLine) (lines : List CodeLine) → PlacesOf before lines
-    → ((r : ℕ) → places_in after r ≡ when (number_of line.room == r) (λ es. insert_entry nat_cmp es (number_of line.place) (number_of line.code)) (places_in before r))
-    → ((r : ℕ) → listed_in after r ≡ listed_in before r + one_if (number_of line.room == r)) → PlacesOf after (line ∷ lines)
-placed_first before after line lines is places listed r = (
-  places r ∙ ap (λ es. when (number_of line.room == r) (λ es. insert_entry nat_cmp es (number_of line.place) (number_of line.code)) es) (is r).0,
-  listed r ∙ ap (λ n. n + one_if (number_of line.room == r)) (is r).1
-      ∙ turned (count_by (λ (row : CodeRow). row.room == r) (values_of (map code_entry lines))) (one_if (number_of line.room == r))
-      ∙ sym (count_first (λ (row : CodeRow). row.room == r) (code_row line) (values_of (map code_entry lines))),
+pub placed_first : (before after : List (ℕ × Placed)) (plain : PlainCode) (plain_rows : List PlainCode) → PlacesOf before plain_rows
+    → ((r : ℕ) → places_in after r ≡ when (number_of plain.room == r) (λ es. insert_entry nat_cmp es (number_of plain.place) (number_of plain.code)) (places_in before r))
+    → ((r : ℕ) → listed_in after r ≡ listed_in before r + one_if (number_of plain.room == r)) → PlacesOf after (plain ∷ plain_rows)
+placed_first before after plain plain_rows is places listed r = (
+  places r ∙ ap (λ es. when (number_of plain.room == r) (λ es. insert_entry nat_cmp es (number_of plain.place) (number_of plain.code)) es) (is r).0,
+  listed r ∙ ap (λ n. n + one_if (number_of plain.room == r)) (is r).1
+      ∙ turned (count_by (λ (row : CodeRow). row.room == r) (values_of (map code_entry plain_rows))) (one_if (number_of plain.room == r))
+      ∙ sym (count_first (λ (row : CodeRow). row.room == r) (code_row plain) (values_of (map code_entry plain_rows))),
 )
 
 -- one element more of a list's end
@@ -55,23 +55,23 @@ pub places_as_due : (s : Stored) (placed : List (ℕ × Placed)) → PlacesOf pl
 places_as_due s placed is =
     all_mapped (λ (e : ℕ × RoomRow). count_up 0 (keys_of (codes_by_place (map code_entry s.codes.items) e.1.room)) && (length (values_of (codes_by_place (map code_entry s.codes.items) e.1.room)) == e.1.codes)
     && (count_by (λ (row : CodeRow). row.room == e.1.room) (values_of (map code_entry s.codes.items)) == e.1.codes)) room_entry s.rooms.items
-    ∙ all_alike _ (placed_as_due placed) s.rooms.items (λ line.
-    let r = number_of line.room in
-    ap (λ es. count_up 0 (keys_of es) && (length (values_of es) == number_of line.codes) && (count_by (λ (row : CodeRow). row.room == r) (values_of (map code_entry s.codes.items)) == number_of line.codes)) (sym (is r).0)
-    ∙ ap (λ n. count_up 0 (keys_of (places_in placed r)) && (length (values_of (places_in placed r)) == number_of line.codes) && (n == number_of line.codes)) (sym (is r).1))
+    ∙ all_alike _ (placed_as_due placed) s.rooms.items (λ plain.
+    let r = number_of plain.room in
+    ap (λ es. count_up 0 (keys_of es) && (length (values_of es) == number_of plain.codes) && (count_by (λ (row : CodeRow). row.room == r) (values_of (map code_entry s.codes.items)) == number_of plain.codes)) (sym (is r).0)
+    ∙ ap (λ n. count_up 0 (keys_of (places_in placed r)) && (length (values_of (places_in placed r)) == number_of plain.codes) && (n == number_of plain.codes)) (sym (is r).1))
 
 -- the rules of codes are a test of each code, and one of each room
 pub codes_together : (s : Stored) → code_holds s ≡ (are_in_order nat_cmp (map code_key s.codes.items) && list_all (code_fits (rows_of s)) s.codes.items && places_once (rows_of s))
 codes_together s =
-    let lines = s.codes.items in
+    let plain_rows = s.codes.items in
     let rows = rows_of s in
-    let o = are_in_order nat_cmp (map code_key lines) in
-    ap (λ ks. are_in_order nat_cmp ks && list_all (λ code. nat_lt code (2 ^ 48)) ks && code_rooms_there rows && places_once rows) (keys_mapped code_key code_row lines)
+    let o = are_in_order nat_cmp (map code_key plain_rows) in
+    ap (λ ks. are_in_order nat_cmp ks && list_all (λ code. nat_lt code (2 ^ 48)) ks && code_rooms_there rows && places_once rows) (keys_mapped code_key code_row plain_rows)
     ∙ ap (λ b. b && places_once rows)
-    (and_more o (list_all (λ code. nat_lt code (2 ^ 48)) (map code_key lines)) (code_rooms_there rows)
+    (and_more o (list_all (λ code. nat_lt code (2 ^ 48)) (map code_key plain_rows)) (code_rooms_there rows)
     ∙ ap (λ b. o && b) (
-    ap (λ b. b && code_rooms_there rows) (all_mapped (λ code. nat_lt code (2 ^ 48)) code_key lines)
-    ∙ all_and (λ line. nat_lt (number_of line.code) (2 ^ 48)) _ lines _ (all_mapped (λ (e : ℕ × CodeRow). is_some (at_number rows.rooms e.1.room)) code_entry lines)))
+    ap (λ b. b && code_rooms_there rows) (all_mapped (λ code. nat_lt code (2 ^ 48)) code_key plain_rows)
+    ∙ all_and (λ plain. nat_lt (number_of plain.code) (2 ^ 48)) _ plain_rows _ (all_mapped (λ (e : ℕ × CodeRow). is_some (at_number rows.rooms e.1.room)) code_entry plain_rows)))
 
 parts : (a b : Bool) → (a && b) ≡ true → (a ≡ true) × (b ≡ true)
 parts true b h = (refl, h)

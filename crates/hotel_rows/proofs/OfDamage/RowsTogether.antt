@@ -55,22 +55,22 @@ left_and o f t u ls b e =
 -- the rules of rooms are a test of each row
 pub rooms_together : (s : Stored) → room_holds s ≡ (are_in_order nat_cmp (map room_key s.rooms.items) && list_all (room_fits s) s.rooms.items)
 rooms_together s =
-    let lines = s.rooms.items in
+    let plain_rows = s.rooms.items in
     let rows = rows_of s in
-    let o = are_in_order nat_cmp (map room_key lines) in
-    ap (λ ks. are_in_order nat_cmp ks && list_all room_columns lines && room_numbers rows && lock_places rows && room_kinds_there rows && codes_few rows && note_counts rows && parties_in_house rows && secured_hold_last rows)
-    (keys_mapped room_key room_row lines)
-    ∙ left_and o room_entry (λ (e : ℕ × RoomRow). not e.1.secured || ((e.1.lock_place == e.1.codes - 1) && nat_le 2 e.1.codes)) _ lines _
-    (left_and o room_entry (λ (e : ℕ × RoomRow). is_at_home rows e.1) _ lines _
-    (left_and o room_entry (λ (e : ℕ × RoomRow). nat_le e.1.notes 9999999) _ lines _
-    (left_and o room_entry (λ (e : ℕ × RoomRow). nat_le e.1.codes (length rows.cards + 1)) _ lines _
-    (left_and o room_entry (λ (e : ℕ × RoomRow). has_kind rows e.1.kind) _ lines _
-    (left_and o room_entry (λ (e : ℕ × RoomRow). nat_lt e.1.lock_place e.1.codes) _ lines _
-    (left_and o room_entry (λ (e : ℕ × RoomRow). (e.1.room == e.0) && nat_le 1 e.0 && nat_le e.0 9999) room_columns lines _ refl))))))
-    ∙ ap (λ b. o && b) (all_alike _ (room_fits s) lines (λ line.
-    ap (λ b. room_columns line && (b && nat_le 1 (number_of line.room) && nat_le (number_of line.room) 9999) && nat_lt (number_of line.lock_place) (number_of line.codes)
-    && has_kind rows (string_bytes line.kind) && nat_le (number_of line.codes) (length rows.cards + 1) && nat_le (number_of line.notes) 9999999 && is_at_home rows (room_row line)
-    && is_secured_as_due line) (eq_self (number_of line.room))
-    ∙ ap (λ n. room_columns line && is_room_number line && nat_lt (number_of line.lock_place) (number_of line.codes) && has_kind rows (string_bytes line.kind)
-    && nat_le (number_of line.codes) (n + 1) && nat_le (number_of line.notes) 9999999 && is_at_home rows (room_row line) && is_secured_as_due line)
+    let o = are_in_order nat_cmp (map room_key plain_rows) in
+    ap (λ ks. are_in_order nat_cmp ks && list_all room_columns plain_rows && room_numbers rows && lock_places rows && room_kinds_there rows && codes_few rows && note_counts rows && parties_in_house rows && secured_hold_last rows)
+    (keys_mapped room_key room_row plain_rows)
+    ∙ left_and o room_entry (λ (e : ℕ × RoomRow). not e.1.secured || ((e.1.lock_place == e.1.codes - 1) && nat_le 2 e.1.codes)) _ plain_rows _
+    (left_and o room_entry (λ (e : ℕ × RoomRow). is_at_home rows e.1) _ plain_rows _
+    (left_and o room_entry (λ (e : ℕ × RoomRow). nat_le e.1.notes 9999999) _ plain_rows _
+    (left_and o room_entry (λ (e : ℕ × RoomRow). nat_le e.1.codes (length rows.cards + 1)) _ plain_rows _
+    (left_and o room_entry (λ (e : ℕ × RoomRow). has_kind rows e.1.kind) _ plain_rows _
+    (left_and o room_entry (λ (e : ℕ × RoomRow). nat_lt e.1.lock_place e.1.codes) _ plain_rows _
+    (left_and o room_entry (λ (e : ℕ × RoomRow). (e.1.room == e.0) && nat_le 1 e.0 && nat_le e.0 9999) room_columns plain_rows _ refl))))))
+    ∙ ap (λ b. o && b) (all_alike _ (room_fits s) plain_rows (λ plain.
+    ap (λ b. room_columns plain && (b && nat_le 1 (number_of plain.room) && nat_le (number_of plain.room) 9999) && nat_lt (number_of plain.lock_place) (number_of plain.codes)
+    && has_kind rows (string_bytes plain.kind) && nat_le (number_of plain.codes) (length rows.cards + 1) && nat_le (number_of plain.notes) 9999999 && is_at_home rows (room_row plain)
+    && is_secured_as_due plain) (eq_self (number_of plain.room))
+    ∙ ap (λ n. room_columns plain && is_room_number plain && nat_lt (number_of plain.lock_place) (number_of plain.codes) && has_kind rows (string_bytes plain.kind)
+    && nat_le (number_of plain.codes) (n + 1) && nat_le (number_of plain.notes) 9999999 && is_at_home rows (room_row plain) && is_secured_as_due plain)
     (length_mapped card_entry s.cards.items)))

@@ -13,11 +13,11 @@ use Rattle.hotel_core.proofs.OfTables.RowTests.{all_mapped}
 use Rattle.hotel_core.proofs.OfTables.MapEntries.{eq_self}
 use Rattle.hotel_core.proofs.OfTables.StayCounts.{count_first}
 use Rattle.hotel_rows.specs.declared.stored.Stored.{Stored}
-use Rattle.hotel_rows.specs.declared.stored.StayLine.{StayLine}
+use Rattle.hotel_rows.specs.declared.stored.PlainStay.{PlainStay}
 use Rattle.hotel_rows.specs.Stored.{number_of, rows_of, stay_entry, stay_row, room_row}
 use Rattle.hotel_rows.specs.Keys.{are_numbered, room_key, stay_key}
 use Rattle.hotel_rows.specs.Damage.{stay_columns, stay_holds}
-use Rattle.hotel_rows.specs.RowTests.{stay_fits, has_home, has_night, has_line_home}
+use Rattle.hotel_rows.specs.RowTests.{stay_fits, has_home, has_night, has_plain_home}
 use Rattle.hotel_rows.proofs.OfDamage.RowsTogether.{keys_mapped, length_mapped, all_alike, left_and}
 
 all_yes : {L : Type 0} (ls : List L) → list_all (λ l. true) ls ≡ true
@@ -52,38 +52,38 @@ numbers_first false c e u w is = refl
 nights_together : (s : Stored) → nights_fit (rows_of s) ≡ list_all (has_night s) s.stays.items
 nights_together s =
     all_mapped (λ (e : ℕ × Stay). nat_le (stays_on (rows_of s) e.1.kind e.1.arrive) (rooms_with (rows_of s) e.1.kind)) stay_entry s.stays.items
-    ∙ all_alike _ (has_night s) s.stays.items (λ line.
-    ap (λ n. nat_le n (rooms_with (rows_of s) (string_bytes line.kind))) (counted (takes (string_bytes line.kind) (number_of line.arrive)) stay_key stay_row s.stays.items)
-    ∙ ap (λ n. nat_le (count_by (λ (stay : StayLine). takes (string_bytes line.kind) (number_of line.arrive) (stay_row stay)) s.stays.items) n)
-    (counted (λ (row : RoomRow). bytes_eq row.kind (string_bytes line.kind)) room_key room_row s.rooms.items))
+    ∙ all_alike _ (has_night s) s.stays.items (λ plain.
+    ap (λ n. nat_le n (rooms_with (rows_of s) (string_bytes plain.kind))) (counted (takes (string_bytes plain.kind) (number_of plain.arrive)) stay_key stay_row s.stays.items)
+    ∙ ap (λ n. nat_le (count_by (λ (stay : PlainStay). takes (string_bytes plain.kind) (number_of plain.arrive) (stay_row stay)) s.stays.items) n)
+    (counted (λ (row : RoomRow). bytes_eq row.kind (string_bytes plain.kind)) room_key room_row s.rooms.items))
 
 -- the rules of stays are tests of the keys and of each stay
 pub stays_together : (s : Stored) → stay_holds s ≡ (are_numbered (map stay_key s.stays.items) && list_all (stay_fits s) s.stays.items && list_all (has_night s) s.stays.items)
 stays_together s =
-    let lines = s.stays.items in
+    let plain_rows = s.stays.items in
     let rows = rows_of s in
-    let ks = map stay_key lines in
+    let ks = map stay_key plain_rows in
     let o = are_numbered ks in
     let own = list_all (λ (e : ℕ × Stay). e.1.party == e.0) rows.stays in
-    ap (λ keys. are_in_order nat_cmp keys && list_all stay_columns lines && (own && count_up 1 keys && nat_le (length rows.stays) 9999999) && guests_read rows && stay_kinds_there rows && stay_days rows && stay_rooms rows && nights_fit rows)
-    (keys_mapped stay_key stay_row lines)
-    ∙ ap (λ n. are_in_order nat_cmp ks && list_all stay_columns lines && (own && count_up 1 ks && nat_le n 9999999) && guests_read rows && stay_kinds_there rows && stay_days rows && stay_rooms rows && nights_fit rows)
-    (length_mapped stay_entry lines ∙ sym (length_mapped stay_key lines))
+    ap (λ keys. are_in_order nat_cmp keys && list_all stay_columns plain_rows && (own && count_up 1 keys && nat_le (length rows.stays) 9999999) && guests_read rows && stay_kinds_there rows && stay_days rows && stay_rooms rows && nights_fit rows)
+    (keys_mapped stay_key stay_row plain_rows)
+    ∙ ap (λ n. are_in_order nat_cmp ks && list_all stay_columns plain_rows && (own && count_up 1 ks && nat_le n 9999999) && guests_read rows && stay_kinds_there rows && stay_days rows && stay_rooms rows && nights_fit rows)
+    (length_mapped stay_entry plain_rows ∙ sym (length_mapped stay_key plain_rows))
     ∙ ap (λ b. b && guests_read rows && stay_kinds_there rows && stay_days rows && stay_rooms rows && nights_fit rows)
-    (numbers_first (are_in_order nat_cmp ks) (list_all stay_columns lines) own (count_up 1 ks) (nat_le (length ks) 9999999) (own_keys stay_key stay_row (λ (stay : Stay). stay.party) (λ line. refl) lines))
+    (numbers_first (are_in_order nat_cmp ks) (list_all stay_columns plain_rows) own (count_up 1 ks) (nat_le (length ks) 9999999) (own_keys stay_key stay_row (λ (stay : Stay). stay.party) (λ plain. refl) plain_rows))
     ∙ ap (λ b. b && nights_fit rows)
-    (left_and o stay_entry (λ (e : ℕ × Stay). has_home rows e.1) _ lines _
-    (left_and o stay_entry (λ (e : ℕ × Stay). is_day e.1.depart && nat_lt e.1.arrive e.1.depart && nat_le e.1.depart (e.1.arrive + 90)) _ lines _
-    (left_and o stay_entry (λ (e : ℕ × Stay). has_kind rows e.1.kind) _ lines _
-    (left_and o stay_entry (λ (e : ℕ × Stay). is_guest e.1.guest) stay_columns lines _ refl))))
-    ∙ ap (λ b. o && list_all (stay_fits s) lines && b) (nights_together s)
+    (left_and o stay_entry (λ (e : ℕ × Stay). has_home rows e.1) _ plain_rows _
+    (left_and o stay_entry (λ (e : ℕ × Stay). is_day e.1.depart && nat_lt e.1.arrive e.1.depart && nat_le e.1.depart (e.1.arrive + 90)) _ plain_rows _
+    (left_and o stay_entry (λ (e : ℕ × Stay). has_kind rows e.1.kind) _ plain_rows _
+    (left_and o stay_entry (λ (e : ℕ × Stay). is_guest e.1.guest) stay_columns plain_rows _ refl))))
+    ∙ ap (λ b. o && list_all (stay_fits s) plain_rows && b) (nights_together s)
 
 parts : (a b : Bool) → (a && b) ≡ true → (a ≡ true) × (b ≡ true)
 parts true b h = (refl, h)
 parts false b h = absurd (let w : ◌≡◌ {A = Bool} false true = h in cc)
 
 -- where the rules of stays hold, each party in house has its room
-pub homes_of_stays : (s : Stored) → stay_holds s ≡ true → list_all (has_line_home s) s.stays.items ≡ true
+pub homes_of_stays : (s : Stored) → stay_holds s ≡ true → list_all (has_plain_home s) s.stays.items ≡ true
 homes_of_stays s h =
     let rooms = (parts _ (stay_rooms (rows_of s)) (parts _ (nights_fit (rows_of s)) h).0).1 in
     sym (all_mapped (λ (e : ℕ × Stay). has_home (rows_of s) e.1) stay_entry s.stays.items) ∙ rooms

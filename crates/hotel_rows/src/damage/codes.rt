@@ -11,7 +11,7 @@ ghost use Rattle.hotel_rows.specs.RowTests.{code_fits, are_apart, comes_after, r
 use crate::damage::found::{Places, code_at, code_keys, room_at};
 use crate::damage::numbers::{number, rise};
 use crate::damage::placed::{Placed, rooms_have_places};
-use crate::stored::{CodeLine, Stored};
+use crate::stored::{PlainCode, Stored};
 use keycard_rules::Memory;
 use std::alloc::Global;
 use std::collections::BTreeMap;
@@ -20,7 +20,7 @@ use std::collections::BTreeMap;
 const CODES: u64 = 281_474_976_710_656;
 
 /// Whether a code is in range and its room is there.
-fn code_fits(places: &Places, stored: &Stored, code: &CodeLine) -> bool
+fn code_fits(places: &Places, stored: &Stored, code: &PlainCode) -> bool
     requires { AreOf places.now stored.now }
     ensures { result ≡ code_fits (rows_of stored.now) code.now }
 {
@@ -44,7 +44,7 @@ pub(crate) fn codes_fit(places: &Places, stored: &Stored) -> bool
 }
 
 /// Whether the second code stands at the room, one place after the first.
-fn are_neighbours(room: u64, first: CodeLine, second: CodeLine) -> bool
+fn are_neighbours(room: u64, first: PlainCode, second: PlainCode) -> bool
     ensures { result ≡ are_apart room (code_row first) (code_row second) }
 {
     if number(first.room) != room || number(second.room) != room {
@@ -70,7 +70,7 @@ pub(crate) fn stands_at(places: &Places, stored: &Stored, room: u64, old: u64, n
 }
 
 /// Whether the second code stands at the room, after the first.
-fn comes_later(room: u64, first: CodeLine, second: CodeLine) -> bool
+fn comes_later(room: u64, first: PlainCode, second: PlainCode) -> bool
     ensures { result ≡ comes_after room (code_row first) (code_row second) }
 {
     if number(first.room) != room || number(second.room) != room {

@@ -6,10 +6,10 @@ ghost use Rattle.hotel_core.specs.Model.Rows.{at_number};
 ghost use Rattle.hotel_rows.specs.Stored.{number_of, rows_of, room_row, stay_row, code_row, card_row, inside_pair};
 ghost use Rattle.hotel_rows.specs.Keys.{Finds, room_key, stay_key, code_key, card_key, note_key};
 ghost use Rattle.hotel_rows.specs.Places.{AreOf};
-ghost use Rattle.hotel_rows.specs.declared.stored.RoomLine.{RoomLine};
+ghost use Rattle.hotel_rows.specs.declared.stored.PlainRoom.{PlainRoom};
 
 use crate::damage::numbers;
-use crate::stored::{CardLine, CodeLine, InsideLine, NoteLine, RoomLine, StayLine, Stored};
+use crate::stored::{PlainCard, PlainCode, PlainInside, PlainNote, PlainRoom, PlainStay, Stored};
 use keycard_rules::Memory;
 use std::alloc::Global;
 use std::collections::BTreeMap;
@@ -31,12 +31,12 @@ pub(crate) fn index_of(alloc: Global, keys: &[u64]) -> Result<BTreeMap<u64, usiz
 }
 
 /// The numbers of the rooms.
-pub(crate) fn room_keys(alloc: Global, rooms: &[RoomLine]) -> Result<Vec<u64>, Memory>
+pub(crate) fn room_keys(alloc: Global, rooms: &[PlainRoom]) -> Result<Vec<u64>, Memory>
     ensures { IfOk result (λ keys. keys.items ≡ map room_key rooms.now) }
 {
     match rooms
         .iter()
-        .map(|line| numbers::number(line.room))
+        .map(|plain| numbers::number(plain.room))
         .collect(alloc)
     {
         Ok(keys) => Ok(keys),
@@ -45,12 +45,12 @@ pub(crate) fn room_keys(alloc: Global, rooms: &[RoomLine]) -> Result<Vec<u64>, M
 }
 
 /// The parties of the stays.
-pub(crate) fn stay_keys(alloc: Global, stays: &[StayLine]) -> Result<Vec<u64>, Memory>
+pub(crate) fn stay_keys(alloc: Global, stays: &[PlainStay]) -> Result<Vec<u64>, Memory>
     ensures { IfOk result (λ keys. keys.items ≡ map stay_key stays.now) }
 {
     match stays
         .iter()
-        .map(|line| numbers::number(line.party))
+        .map(|plain| numbers::number(plain.party))
         .collect(alloc)
     {
         Ok(keys) => Ok(keys),
@@ -59,12 +59,12 @@ pub(crate) fn stay_keys(alloc: Global, stays: &[StayLine]) -> Result<Vec<u64>, M
 }
 
 /// The codes.
-pub(crate) fn code_keys(alloc: Global, codes: &[CodeLine]) -> Result<Vec<u64>, Memory>
+pub(crate) fn code_keys(alloc: Global, codes: &[PlainCode]) -> Result<Vec<u64>, Memory>
     ensures { IfOk result (λ keys. keys.items ≡ map code_key codes.now) }
 {
     match codes
         .iter()
-        .map(|line| numbers::number(line.code))
+        .map(|plain| numbers::number(plain.code))
         .collect(alloc)
     {
         Ok(keys) => Ok(keys),
@@ -73,12 +73,12 @@ pub(crate) fn code_keys(alloc: Global, codes: &[CodeLine]) -> Result<Vec<u64>, M
 }
 
 /// The numbers of the cards.
-pub(crate) fn card_keys(alloc: Global, cards: &[CardLine]) -> Result<Vec<u64>, Memory>
+pub(crate) fn card_keys(alloc: Global, cards: &[PlainCard]) -> Result<Vec<u64>, Memory>
     ensures { IfOk result (λ keys. keys.items ≡ map card_key cards.now) }
 {
     match cards
         .iter()
-        .map(|line| numbers::number(line.number))
+        .map(|plain| numbers::number(plain.number))
         .collect(alloc)
     {
         Ok(keys) => Ok(keys),
@@ -87,12 +87,12 @@ pub(crate) fn card_keys(alloc: Global, cards: &[CardLine]) -> Result<Vec<u64>, M
 }
 
 /// The rooms and cards of what is inside.
-pub(crate) fn inside_keys(alloc: Global, inside: &[InsideLine]) -> Result<Vec<(u64, u64)>, Memory>
+pub(crate) fn inside_keys(alloc: Global, inside: &[PlainInside]) -> Result<Vec<(u64, u64)>, Memory>
     ensures { IfOk result (λ keys. keys.items ≡ map inside_pair inside.now) }
 {
     match inside
         .iter()
-        .map(|line| (numbers::number(line.room), numbers::number(line.card)))
+        .map(|plain| (numbers::number(plain.room), numbers::number(plain.card)))
         .collect(alloc)
     {
         Ok(keys) => Ok(keys),
@@ -101,12 +101,12 @@ pub(crate) fn inside_keys(alloc: Global, inside: &[InsideLine]) -> Result<Vec<(u
 }
 
 /// The rooms and counts of the notes.
-pub(crate) fn note_keys(alloc: Global, notes: &[NoteLine]) -> Result<Vec<(u64, u64)>, Memory>
+pub(crate) fn note_keys(alloc: Global, notes: &[PlainNote]) -> Result<Vec<(u64, u64)>, Memory>
     ensures { IfOk result (λ keys. keys.items ≡ map note_key notes.now) }
 {
     match notes
         .iter()
-        .map(|line| (numbers::number(line.room), numbers::number(line.n)))
+        .map(|plain| (numbers::number(plain.room), numbers::number(plain.n)))
         .collect(alloc)
     {
         Ok(keys) => Ok(keys),
@@ -150,11 +150,11 @@ fn place_at(places: &BTreeMap<u64, usize>, key: u64) -> Option<usize>
 }
 
 /// The room of a number.
-pub(crate) fn room_at<'a>(places: &Places, stored: &'a Stored, room: u64) -> Option<&'a RoomLine>
+pub(crate) fn room_at<'a>(places: &Places, stored: &'a Stored, room: u64) -> Option<&'a PlainRoom>
     requires { AreOf places.now stored.now }
     ensures row { option_map room_row (option_copied result) ≡ at_number (rows_of stored.now).rooms room }
-    ensures key { IfSome result (λ line. number_of line.now.room ≡ room) }
-    ensures rules { IfSome result (λ line. (t : RoomLine → Bool) → list_all t stored.now.rooms.items ≡ true → t line.now ≡ true) }
+    ensures key { IfSome result (λ plain. number_of plain.now.room ≡ room) }
+    ensures rules { IfSome result (λ plain. (t : PlainRoom → Bool) → list_all t stored.now.rooms.items ≡ true → t plain.now ≡ true) }
 {
     let Some(place) = place_at(&places.rooms, room) else {
         return None;
@@ -166,7 +166,7 @@ pub(crate) fn room_at<'a>(places: &Places, stored: &'a Stored, room: u64) -> Opt
 }
 
 /// The stay of a party.
-pub(crate) fn stay_at<'a>(places: &Places, stored: &'a Stored, party: u64) -> Option<&'a StayLine>
+pub(crate) fn stay_at<'a>(places: &Places, stored: &'a Stored, party: u64) -> Option<&'a PlainStay>
     requires { AreOf places.now stored.now }
     ensures { option_map stay_row (option_copied result) ≡ at_number (rows_of stored.now).stays party }
 {
@@ -180,7 +180,7 @@ pub(crate) fn stay_at<'a>(places: &Places, stored: &'a Stored, party: u64) -> Op
 }
 
 /// The row of a code.
-pub(crate) fn code_at(places: &Places, stored: &Stored, code: u64) -> Option<CodeLine>
+pub(crate) fn code_at(places: &Places, stored: &Stored, code: u64) -> Option<PlainCode>
     requires { AreOf places.now stored.now }
     ensures { option_map code_row result ≡ at_number (rows_of stored.now).codes code }
 {
@@ -194,7 +194,7 @@ pub(crate) fn code_at(places: &Places, stored: &Stored, code: u64) -> Option<Cod
 }
 
 /// The card of a number.
-pub(crate) fn card_at(places: &Places, stored: &Stored, number: u64) -> Option<CardLine>
+pub(crate) fn card_at(places: &Places, stored: &Stored, number: u64) -> Option<PlainCard>
     requires { AreOf places.now stored.now }
     ensures { option_map card_row result ≡ at_number (rows_of stored.now).cards number }
 {

@@ -12,7 +12,7 @@ use crate::damage::codes::stands_at;
 use crate::damage::found::{Places, card_at, code_at, inside_keys, room_at};
 use crate::damage::numbers::{number, rise_in_pairs};
 use crate::damage::placed::{Placed, is_newest};
-use crate::stored::{CardLine, InsideLine, RoomLine, Stored};
+use crate::stored::{PlainCard, PlainInside, PlainRoom, Stored};
 use keycard_rules::Memory;
 use std::alloc::Global;
 use std::collections::BTreeMap;
@@ -22,8 +22,8 @@ fn fits_inside(
     places: &Places,
     stored: &Stored,
     placed: &BTreeMap<u64, Placed>,
-    room: &RoomLine,
-    card: CardLine,
+    room: &PlainRoom,
+    card: PlainCard,
 ) -> bool
     requires places { AreOf places.now stored.now }
     requires placed { PlacesOf placed.now.entries stored.now.codes.items }
@@ -51,7 +51,7 @@ fn inside_fits(
     places: &Places,
     stored: &Stored,
     placed: &BTreeMap<u64, Placed>,
-    inside: &InsideLine,
+    inside: &PlainInside,
 ) -> bool
     requires places { AreOf places.now stored.now }
     requires placed { PlacesOf placed.now.entries stored.now.codes.items }

@@ -10,7 +10,7 @@ ghost use Rattle.hotel_rows.specs.Damage.{kind_holds, meta_holds};
 ghost use Rattle.hotel_rows.specs.RowTests.{KnowsKinds};
 
 use crate::damage::numbers::number_if;
-use crate::stored::{KindLine, Stored};
+use crate::stored::{PlainKind, Stored};
 use hotel_nights::KindCode;
 use keycard_rules::Memory;
 use std::alloc::Global;
@@ -26,14 +26,14 @@ pub(crate) fn meta_holds(stored: &Stored) -> bool
     day <= 36_524
 }
 
-fn is_before(a: &KindLine, b: &KindLine) -> bool
+fn is_before(a: &PlainKind, b: &PlainKind) -> bool
     ensures { result ≡ is_lt (slice_cmp nat_cmp (kind_text a.now) (kind_text b.now)) }
 {
     a.kind.as_bytes().cmp(b.kind.as_bytes()).is_lt()
 }
 
 /// Whether each kind comes before the next.
-pub(crate) fn kinds_rise(kinds: &[KindLine]) -> bool
+pub(crate) fn kinds_rise(kinds: &[PlainKind]) -> bool
     ensures { result ≡ are_in_order (slice_cmp nat_cmp) (map kind_text kinds.now) }
 {
     for i in 1..kinds.len() {
@@ -47,7 +47,7 @@ pub(crate) fn kinds_rise(kinds: &[KindLine]) -> bool
 /// The kinds, where each reads as one.
 pub(crate) fn read_kinds(
     alloc: Global,
-    kinds: &[KindLine],
+    kinds: &[PlainKind],
 ) -> Result<Option<BTreeMap<KindCode, u32>>, Memory>
     ensures { IfOk result (λ read. MatchOption read (list_all is_kind (map kind_text kinds.now) ≡ false)
         (λ known. (list_all is_kind (map kind_text kinds.now) ≡ true) × KnowsKinds known.entries (map kind_text kinds.now))) }

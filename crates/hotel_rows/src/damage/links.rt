@@ -10,20 +10,20 @@ ghost use Rattle.hotel_core.specs.Model.Words.{said_of};
 ghost use Rattle.hotel_rows.specs.Keys.{Finds, new_code_of};
 ghost use Rattle.hotel_rows.specs.Places.{AreOf};
 ghost use Rattle.hotel_rows.specs.Placed.{PlacesOf, are_due_at, placed_as_due};
-ghost use Rattle.hotel_rows.specs.RowTests.{agrees, is_brought, is_owned, has_owner, has_last, has_line_home};
+ghost use Rattle.hotel_rows.specs.RowTests.{agrees, is_brought, is_owned, has_owner, has_last, has_plain_home};
 
 use crate::damage::found::{Places, room_at};
 use crate::damage::numbers::{number, number_if};
 use crate::damage::owners::owner_of;
 use crate::damage::placed::{Placed, is_newest, newest_of};
 use crate::damage::rooms::home_of;
-use crate::stored::{CardLine, CodeLine, RoomLine, StayLine, Stored};
+use crate::stored::{PlainCard, PlainCode, PlainRoom, PlainStay, Stored};
 use keycard_rules::Memory;
 use std::alloc::Global;
 use std::collections::BTreeMap;
 
 /// The codes that the cards brought.
-pub(crate) fn brought_codes(alloc: Global, cards: &[CardLine]) -> Result<Vec<u64>, Memory>
+pub(crate) fn brought_codes(alloc: Global, cards: &[PlainCard]) -> Result<Vec<u64>, Memory>
     ensures { IfOk result (λ codes. codes.items ≡ map new_code_of cards.now) }
 {
     match cards
@@ -36,7 +36,7 @@ pub(crate) fn brought_codes(alloc: Global, cards: &[CardLine]) -> Result<Vec<u64
     }
 }
 
-fn is_first(code: &CodeLine) -> bool
+fn is_first(code: &PlainCode) -> bool
     ensures { result ≡ (number_of code.now.place == 0) }
 {
     number(code.place) == 0
@@ -49,7 +49,7 @@ fn has_brought(brought: &BTreeMap<u64, usize>, stored: &Stored, code: u64) -> bo
     brought.contains_key(&code)
 }
 
-fn is_brought(brought: &BTreeMap<u64, usize>, stored: &Stored, code: &CodeLine) -> bool
+fn is_brought(brought: &BTreeMap<u64, usize>, stored: &Stored, code: &PlainCode) -> bool
     requires { Finds brought.now.entries (map new_code_of stored.now.cards.items) }
     ensures { result ≡ is_brought stored.now code.now }
 {
@@ -113,7 +113,7 @@ fn has_owner(
     owners: &BTreeMap<(u64, u64), u64>,
     placed: &BTreeMap<u64, Placed>,
     stored: &Stored,
-    room: &RoomLine,
+    room: &PlainRoom,
 ) -> bool
     requires owners { OwnersOf owners.now.entries stored.now.cards.items }
     requires own { list_all (agrees stored.now) stored.now.cards.items ≡ true }
@@ -150,7 +150,7 @@ pub(crate) fn all_have_owners(
 }
 
 /// The link of the party's last card, among those after a card, or else that card's.
-fn add_last(lasts: &mut BTreeMap<u64, (u64, u64)>, card: &CardLine) -> Result<(), Memory>
+fn add_last(lasts: &mut BTreeMap<u64, (u64, u64)>, card: &PlainCard) -> Result<(), Memory>
     ensures { OnOk result ((p : ℕ) → at_number lasts.new.entries p
         ≡ (if is_some (at_number lasts.old.entries p) then at_number lasts.old.entries p else (if p == number_of card.now.party then Some (link_pair card.now) else None))) }
 {
@@ -168,7 +168,7 @@ fn add_last(lasts: &mut BTreeMap<u64, (u64, u64)>, card: &CardLine) -> Result<()
 /// The link of each party's last card.
 pub(crate) fn lasts_of(
     alloc: Global,
-    cards: &[CardLine],
+    cards: &[PlainCard],
 ) -> Result<BTreeMap<u64, (u64, u64)>, Memory>
     ensures { IfOk result (λ lasts. LastsOf lasts.entries cards.now) }
 {
@@ -233,13 +233,13 @@ fn has_last(
     placed: &BTreeMap<u64, Placed>,
     stored: &Stored,
     lasts: &BTreeMap<u64, (u64, u64)>,
-    stay: &StayLine,
+    stay: &PlainStay,
 ) -> bool
     requires places { AreOf places.now stored.now }
     requires placed { PlacesOf placed.now.entries stored.now.codes.items }
     requires due { list_all (placed_as_due placed.now.entries) stored.now.rooms.items ≡ true }
     requires lasts { LastsOf lasts.now.entries stored.now.cards.items }
-    requires home { has_line_home stored.now stay.now ≡ true }
+    requires home { has_plain_home stored.now stay.now ≡ true }
     ensures { result ≡ has_last stored.now stay.now }
 {
     let Some(home) = home_of(stay) else {
@@ -259,7 +259,7 @@ pub(crate) fn all_have_lasts(
     requires placed { PlacesOf placed.now.entries stored.now.codes.items }
     requires due { list_all (placed_as_due placed.now.entries) stored.now.rooms.items ≡ true }
     requires lasts { LastsOf lasts.now.entries stored.now.cards.items }
-    requires homes { list_all (has_line_home stored.now) stored.now.stays.items ≡ true }
+    requires homes { list_all (has_plain_home stored.now) stored.now.stays.items ≡ true }
     ensures { result ≡ list_all (has_last stored.now) stored.now.stays.items }
 {
     for i in 0..stored.stays.len() {

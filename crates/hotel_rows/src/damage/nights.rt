@@ -3,18 +3,18 @@ ghost use Rattle.std.specs.Prelude.{◌≡◌, IfOk, IfSome};
 ghost use Rattle.std.specs.List.{list_all, count_by};
 ghost use Rattle.hotel_nights.specs.FullNight.{takes};
 ghost use Rattle.hotel_rows.specs.Stored.{stay_row};
-ghost use Rattle.hotel_rows.specs.RowTests.{is_line_of_kind, has_night};
+ghost use Rattle.hotel_rows.specs.RowTests.{is_room_of_kind, has_night};
 ghost use Rattle.hotel_rows.specs.declared.stored.Stored.{Stored as Rows};
 ghost use Rattle.hotel_rows.specs.Counting.{IsCountedOf};
 
 use crate::counting::{Counts, counts_of, day, kind_code};
 use crate::damage::numbers::number;
-use crate::stored::{RoomLine, StayLine, Stored};
+use crate::stored::{PlainRoom, PlainStay, Stored};
 use keycard_rules::{LookFault, Memory};
 use std::alloc::Global;
 
 /// Whether a stay is booked or in house, of the kind, and takes the night.
-fn takes(stay: &StayLine, kind: &str, night: u64) -> bool
+fn takes(stay: &PlainStay, kind: &str, night: u64) -> bool
     ensures { result ≡ takes kind.now night (stay_row stay.now) }
 {
     if number(stay.state) > 1 {
@@ -26,7 +26,7 @@ fn takes(stay: &StayLine, kind: &str, night: u64) -> bool
     number(stay.arrive) <= night && night < number(stay.depart)
 }
 
-fn stays_on(stays: &[StayLine], kind: &str, night: u64) -> usize
+fn stays_on(stays: &[PlainStay], kind: &str, night: u64) -> usize
     ensures { result ≡ count_by (λ stay. takes kind.now night (stay_row stay)) stays.now }
 {
     let mut count = 0usize;
@@ -38,14 +38,14 @@ fn stays_on(stays: &[StayLine], kind: &str, night: u64) -> usize
     count
 }
 
-fn is_of_kind(room: &RoomLine, kind: &str) -> bool
-    ensures { result ≡ is_line_of_kind kind.now room.now }
+fn is_of_kind(room: &PlainRoom, kind: &str) -> bool
+    ensures { result ≡ is_room_of_kind kind.now room.now }
 {
     room.kind.as_str() == kind
 }
 
-fn rooms_with(rooms: &[RoomLine], kind: &str) -> usize
-    ensures { result ≡ count_by (is_line_of_kind kind.now) rooms.now }
+fn rooms_with(rooms: &[PlainRoom], kind: &str) -> usize
+    ensures { result ≡ count_by (is_room_of_kind kind.now) rooms.now }
 {
     let mut count = 0usize;
     for i in 0..rooms.len() {
@@ -56,7 +56,7 @@ fn rooms_with(rooms: &[RoomLine], kind: &str) -> usize
     count
 }
 
-fn has_night(stored: &Stored, stay: &StayLine) -> bool
+fn has_night(stored: &Stored, stay: &PlainStay) -> bool
     ensures { result ≡ has_night stored.now stay.now }
 {
     let kind = stay.kind.as_str();
@@ -65,7 +65,7 @@ fn has_night(stored: &Stored, stay: &StayLine) -> bool
 }
 
 /// Whether a stay's kind has a room for it on its first night, by the counts; none where they don't tell it.
-fn has_night_by(counts: &Counts, stay: &StayLine) -> Option<bool>
+fn has_night_by(counts: &Counts, stay: &PlainStay) -> Option<bool>
     ensures { (s : Rows) → IsCountedOf s counts.now → IfSome result (λ has. has ≡ has_night s stay.now) }
 {
     let Ok(kind) = kind_code(stay.kind.as_str()) else {
@@ -90,7 +90,7 @@ fn has_night_by(counts: &Counts, stay: &StayLine) -> Option<bool>
 }
 
 /// The same answer: by the counts where there are any and they tell it, else looked up among all stays.
-fn has_night_of(counts: Option<&Counts>, stored: &Stored, stay: &StayLine) -> bool
+fn has_night_of(counts: Option<&Counts>, stored: &Stored, stay: &PlainStay) -> bool
     requires { IfSome counts (λ counts. IsCountedOf stored.now counts.now) }
     ensures { result ≡ has_night stored.now stay.now }
 {

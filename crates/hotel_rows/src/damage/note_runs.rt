@@ -6,7 +6,7 @@ ghost use Rattle.hotel_rows.specs.Stored.{number_of};
 ghost use Rattle.hotel_rows.specs.NoteRuns.{run_of, RunsOf, counted_as_due};
 
 use crate::damage::numbers::number;
-use crate::stored::{NoteLine, RoomLine, Stored};
+use crate::stored::{PlainNote, PlainRoom, Stored};
 use keycard_rules::Memory;
 use std::alloc::Global;
 use std::collections::BTreeMap;
@@ -43,7 +43,7 @@ fn with_first(run: Option<NoteRun>, n: u64) -> NoteRun
     }
 }
 
-fn add_note(runs: &mut BTreeMap<u64, NoteRun>, note: &NoteLine) -> Result<(), Memory>
+fn add_note(runs: &mut BTreeMap<u64, NoteRun>, note: &PlainNote) -> Result<(), Memory>
     ensures { OnOk result ((r : ℕ) (ns : List ℕ) → at_number runs.old.entries (number_of note.now.room) ≡ run_of ns
         → at_number runs.new.entries r ≡ (if r == number_of note.now.room then run_of (number_of note.now.n ∷ ns) else at_number runs.old.entries r)) }
 {
@@ -57,7 +57,7 @@ fn add_note(runs: &mut BTreeMap<u64, NoteRun>, note: &NoteLine) -> Result<(), Me
 }
 
 /// The counts of each room's notes.
-pub(crate) fn runs_of(alloc: Global, notes: &[NoteLine]) -> Result<BTreeMap<u64, NoteRun>, Memory>
+pub(crate) fn runs_of(alloc: Global, notes: &[PlainNote]) -> Result<BTreeMap<u64, NoteRun>, Memory>
     ensures { IfOk result (λ runs. RunsOf runs.entries notes.now) }
 {
     let mut runs = BTreeMap::new(alloc);
@@ -68,7 +68,7 @@ pub(crate) fn runs_of(alloc: Global, notes: &[NoteLine]) -> Result<BTreeMap<u64,
     Ok(runs)
 }
 
-fn has_counts(runs: &BTreeMap<u64, NoteRun>, room: &RoomLine) -> bool
+fn has_counts(runs: &BTreeMap<u64, NoteRun>, room: &PlainRoom) -> bool
     ensures { result ≡ counted_as_due runs.now.entries room.now }
 {
     let notes = number(room.notes);

@@ -6,13 +6,13 @@ ghost use Rattle.hotel_core.specs.Model.SoundRooms.{is_day};
 ghost use Rattle.hotel_rows.specs.Damage.{note_columns, note_holds};
 ghost use Rattle.hotel_rows.specs.Stored.{rows_of, number_of, note_row};
 ghost use Rattle.hotel_rows.specs.Places.{AreOf};
-ghost use Rattle.hotel_rows.specs.RowTests.{note_line_fits};
+ghost use Rattle.hotel_rows.specs.RowTests.{plain_note_fits};
 
 use crate::damage::codes::{stands_at, stands_later};
 use crate::damage::found::{Places, card_at, note_keys, room_at};
 use crate::damage::note_runs::{rooms_have_counts, runs_of};
 use crate::damage::numbers::{number, number_if, rise_in_pairs};
-use crate::stored::{NoteLine, Stored};
+use crate::stored::{PlainNote, Stored};
 use keycard_rules::Memory;
 use std::alloc::Global;
 
@@ -31,7 +31,7 @@ fn has_link_at(places: &Places, stored: &Stored, room: u64, named: u64, old: u64
 }
 
 /// Whether the note has a card exactly where one entered or left.
-fn has_columns(note: &NoteLine) -> bool
+fn has_columns(note: &PlainNote) -> bool
     ensures { result ≡ note_columns note.now }
 {
     let act = number(note.act);
@@ -44,7 +44,7 @@ fn has_columns(note: &NoteLine) -> bool
     act == 2
 }
 
-fn act_fits(places: &Places, stored: &Stored, note: &NoteLine) -> bool
+fn act_fits(places: &Places, stored: &Stored, note: &PlainNote) -> bool
     requires { AreOf places.now stored.now }
     ensures { result ≡ act_fits (rows_of stored.now) (number_of note.now.room) (note_row note.now).act }
 {
@@ -59,16 +59,16 @@ fn act_fits(places: &Places, stored: &Stored, note: &NoteLine) -> bool
     stands_later(places, stored, room, first, second)
 }
 
-fn has_time(note: &NoteLine) -> bool
+fn has_time(note: &PlainNote) -> bool
     ensures { result ≡ (is_day (number_of note.now.day) && nat_lt (number_of note.now.second) 86400) }
 {
     number(note.day) <= 36_524 && number(note.second) < 86_400
 }
 
 /// Whether the note fits the cards and codes of its room, and its time is one.
-fn note_fits(places: &Places, stored: &Stored, note: &NoteLine) -> bool
+fn note_fits(places: &Places, stored: &Stored, note: &PlainNote) -> bool
     requires { AreOf places.now stored.now }
-    ensures { result ≡ note_line_fits (rows_of stored.now) note.now }
+    ensures { result ≡ plain_note_fits (rows_of stored.now) note.now }
 {
     if !has_columns(note) {
         return false;
@@ -85,7 +85,7 @@ fn note_fits(places: &Places, stored: &Stored, note: &NoteLine) -> bool
 /// Whether each note fits.
 pub(crate) fn notes_fit(places: &Places, stored: &Stored) -> bool
     requires { AreOf places.now stored.now }
-    ensures { result ≡ list_all (note_line_fits (rows_of stored.now)) stored.now.notes.items }
+    ensures { result ≡ list_all (plain_note_fits (rows_of stored.now)) stored.now.notes.items }
 {
     for i in 0..stored.notes.len() {
         if !note_fits(places, stored, &stored.notes[i]) {

@@ -10,12 +10,12 @@ ghost use Rattle.hotel_rows.specs.Owners.{OwnersOf, is_own};
 ghost use Rattle.hotel_rows.specs.RowTests.{agrees};
 
 use crate::damage::numbers::number;
-use crate::stored::{CardLine, Stored};
+use crate::stored::{PlainCard, Stored};
 use keycard_rules::Memory;
 use std::alloc::Global;
 use std::collections::BTreeMap;
 
-fn add_owner(owners: &mut BTreeMap<(u64, u64), u64>, card: &CardLine) -> Result<(), Memory>
+fn add_owner(owners: &mut BTreeMap<(u64, u64), u64>, card: &PlainCard) -> Result<(), Memory>
     ensures { OnOk result ((q : ℕ × ℕ) → lookup (is_at (pair_cmp q)) owners.new.entries
         ≡ (if is_at (pair_cmp (link_pair card.now)) q then Some (number_of card.now.party) else lookup (is_at (pair_cmp q)) owners.old.entries)) }
 {
@@ -30,7 +30,7 @@ fn add_owner(owners: &mut BTreeMap<(u64, u64), u64>, card: &CardLine) -> Result<
 /// The party of each link.
 pub(crate) fn owners_of(
     alloc: Global,
-    cards: &[CardLine],
+    cards: &[PlainCard],
 ) -> Result<BTreeMap<(u64, u64), u64>, Memory>
     ensures { IfOk result (λ owners. OwnersOf owners.entries cards.now) }
 {
@@ -49,7 +49,7 @@ pub(crate) fn owner_of(owners: &BTreeMap<(u64, u64), u64>, old: u64, new: u64) -
     owners.get(&(old, new)).copied()
 }
 
-fn is_own(owners: &BTreeMap<(u64, u64), u64>, stored: &Stored, card: &CardLine) -> bool
+fn is_own(owners: &BTreeMap<(u64, u64), u64>, stored: &Stored, card: &PlainCard) -> bool
     requires { OwnersOf owners.now.entries stored.now.cards.items }
     ensures { result ≡ is_own stored.now.cards.items card.now }
 {

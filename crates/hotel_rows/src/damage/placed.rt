@@ -15,7 +15,7 @@ ghost use Rattle.hotel_rows.specs.Lasts.{link_of_pair, link_of_both};
 ghost use Rattle.hotel_rows.specs.Placed.{places_in, listed_in, PlacesOf, placed_as_due, are_due_at, is_last_link};
 
 use crate::damage::numbers::number;
-use crate::stored::{CodeLine, RoomLine, Stored};
+use crate::stored::{PlainCode, PlainRoom, Stored};
 use keycard_rules::Memory;
 use std::alloc::Global;
 use std::collections::BTreeMap;
@@ -65,10 +65,10 @@ fn place_code(
     Ok(())
 }
 
-fn place_line(
+fn place_plain(
     alloc: Global,
     placed: &mut BTreeMap<u64, Placed>,
-    code: &CodeLine,
+    code: &PlainCode,
 ) -> Result<(), Memory>
     requires { listed_in placed.old.entries (number_of code.now.room) < 2 ^ 63 }
     ensures places { OnOk result ((r : ℕ) → places_in placed.new.entries r
@@ -84,14 +84,14 @@ fn place_line(
 /// The codes of each room by their places.
 pub(crate) fn place_codes(
     alloc: Global,
-    codes: &[CodeLine],
+    codes: &[PlainCode],
 ) -> Result<BTreeMap<u64, Placed>, Memory>
     ensures { IfOk result (λ placed. PlacesOf placed.entries codes.now) }
 {
     let mut placed = BTreeMap::new(alloc);
     let len = codes.len();
     for k in 0..len {
-        place_line(alloc, &mut placed, &codes[len - 1 - k])?;
+        place_plain(alloc, &mut placed, &codes[len - 1 - k])?;
     }
     Ok(placed)
 }
@@ -111,7 +111,7 @@ fn count_from_zero(by_place: &BTreeMap<u64, u64>) -> bool
 }
 
 /// Whether the places of a room's codes are 0 and on, each once, as many as the room's row says.
-fn has_places(placed: &BTreeMap<u64, Placed>, room: &RoomLine) -> bool
+fn has_places(placed: &BTreeMap<u64, Placed>, room: &PlainRoom) -> bool
     ensures { result ≡ placed_as_due placed.now.entries room.now }
 {
     let codes = number(room.codes);
@@ -166,7 +166,7 @@ fn is_newest_in(placed: &BTreeMap<u64, Placed>, room: u64, codes: u64, old: u64,
 pub(crate) fn is_newest(
     placed: &BTreeMap<u64, Placed>,
     stored: &Stored,
-    room: &RoomLine,
+    room: &PlainRoom,
     old: u64,
     new: u64,
 ) -> bool

@@ -11,26 +11,26 @@ ghost use Rattle.hotel_rows.specs.RowTests.{is_room_number, is_secured_as_due, i
 use crate::damage::found::{Places, room_keys, stay_at};
 use crate::damage::kinds::has_kind;
 use crate::damage::numbers::{number, number_if, rise};
-use crate::stored::{RoomLine, StayLine, Stored};
+use crate::stored::{PlainRoom, PlainStay, Stored};
 use hotel_nights::KindCode;
 use keycard_rules::Memory;
 use std::alloc::Global;
 use std::collections::BTreeMap;
 
-fn has_columns(room: &RoomLine) -> bool
+fn has_columns(room: &PlainRoom) -> bool
     ensures { result ≡ room_columns room.now }
 {
     number(room.secured) <= 1
 }
 
-fn has_number(room: &RoomLine) -> bool
+fn has_number(room: &PlainRoom) -> bool
     ensures { result ≡ is_room_number room.now }
 {
     let named = number(room.room);
     named >= 1 && named <= 9999
 }
 
-fn has_few_codes(room: &RoomLine, cards: usize) -> bool
+fn has_few_codes(room: &PlainRoom, cards: usize) -> bool
     ensures { result ≡ nat_le (number_of room.now.codes) (cards + 1) }
 {
     let codes = number(room.codes);
@@ -38,7 +38,7 @@ fn has_few_codes(room: &RoomLine, cards: usize) -> bool
 }
 
 /// Whether the lock holds the last code, not the first, if the room is secured.
-fn is_secured_as_due(room: &RoomLine) -> bool
+fn is_secured_as_due(room: &PlainRoom) -> bool
     ensures { result ≡ is_secured_as_due room.now }
 {
     if number(room.secured) != 1 {
@@ -49,7 +49,7 @@ fn is_secured_as_due(room: &RoomLine) -> bool
 }
 
 /// The room of a stay that is in house.
-pub(crate) fn home_of(stay: &StayLine) -> Option<u64>
+pub(crate) fn home_of(stay: &PlainStay) -> Option<u64>
     ensures { result ≡ room_of_state (stay_row stay.now).state }
 {
     let state = number(stay.state);
@@ -63,7 +63,7 @@ pub(crate) fn home_of(stay: &StayLine) -> Option<u64>
 }
 
 /// Whether the party of the room, if it has one, is in house there, with a stay of its kind.
-fn has_guest(places: &Places, stored: &Stored, room: &RoomLine) -> bool
+fn has_guest(places: &Places, stored: &Stored, room: &PlainRoom) -> bool
     requires { AreOf places.now stored.now }
     ensures { result ≡ is_at_home (rows_of stored.now) (room_row room.now) }
 {
@@ -83,7 +83,7 @@ fn room_fits(
     places: &Places,
     stored: &Stored,
     known: &BTreeMap<KindCode, u32>,
-    room: &RoomLine,
+    room: &PlainRoom,
 ) -> bool
     requires places { AreOf places.now stored.now }
     requires read { kinds_read (rows_of stored.now) ≡ true }

@@ -13,14 +13,14 @@ use crate::damage::kinds::has_kind;
 use crate::damage::nights::nights_fit;
 use crate::damage::numbers::{are_numbered, number, number_if};
 use crate::damage::rooms::home_of;
-use crate::stored::{StayLine, Stored};
+use crate::stored::{PlainStay, Stored};
 use hotel_nights::{Guest, GuestFault, KindCode};
 use keycard_rules::Memory;
 use std::alloc::Global;
 use std::collections::BTreeMap;
 
 /// Whether the stay has a room exactly where it is in house.
-fn has_columns(stay: &StayLine) -> bool
+fn has_columns(stay: &PlainStay) -> bool
     ensures { result ≡ stay_columns stay.now }
 {
     let state = number(stay.state);
@@ -33,7 +33,7 @@ fn has_columns(stay: &StayLine) -> bool
     state != 1
 }
 
-fn has_days(stay: &StayLine) -> bool
+fn has_days(stay: &PlainStay) -> bool
     ensures { result ≡ are_stay_days stay.now }
 {
     let arrive = number(stay.arrive);
@@ -42,7 +42,7 @@ fn has_days(stay: &StayLine) -> bool
 }
 
 /// Whether the room of a stay in house has its party.
-fn has_home(places: &Places, stored: &Stored, stay: &StayLine) -> bool
+fn has_home(places: &Places, stored: &Stored, stay: &PlainStay) -> bool
     requires { AreOf places.now stored.now }
     ensures { result ≡ has_home (rows_of stored.now) (stay_row stay.now) }
 {
@@ -74,7 +74,7 @@ fn stay_fits(
     places: &Places,
     stored: &Stored,
     known: &BTreeMap<KindCode, u32>,
-    stay: &StayLine,
+    stay: &PlainStay,
 ) -> Result<bool, Memory>
     requires places { AreOf places.now stored.now }
     requires read { kinds_read (rows_of stored.now) ≡ true }

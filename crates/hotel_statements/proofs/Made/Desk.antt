@@ -21,7 +21,7 @@ use Rattle.hotel_core.specs.Model.Rows.{Rows}
 use Rattle.hotel_statements.specs.Schema.{desk_schema}
 use Rattle.hotel_statements.specs.Columns.{meta_columns, meta_of, meta_written, kind_columns, kind_of, kind_written, room_columns, room_of, room_written, stay_columns, stay_of, stay_written, code_columns, code_of, code_written, card_columns, card_of, card_written, inside_columns, inside_of, inside_written, note_columns, note_of, note_written}
 use Rattle.hotel_statements.specs.Tables.{IsTable, AreTables, AreApartIds, HasId, rows_in, listed, by_key}
-use Rattle.hotel_statements.specs.Steps.{Steps}
+use Rattle.hotel_statements.specs.Steps.{MovesRows}
 
 abbrev pub AreMetas : List Row → Type 0
 AreMetas rows = IsTable (by_key nat_cmp) meta_columns meta_of meta_written rows
@@ -101,7 +101,7 @@ changed old new next tree rows now is others = record {
 }
 
 pub steps : {tree : ℕ} {rows : List Row} (old new : State) (make : Rows → Rows) → Shows old new new.now old.committed true → Changed tree rows old new
-    → AreTables (with_tree old.now.trees tree rows) × (rows_in (with_tree old.now.trees tree rows) ≡ make (rows_in old.now.trees)) → Steps old new make
+    → AreTables (with_tree old.now.trees tree rows) × (rows_in (with_tree old.now.trees tree rows) ≡ make (rows_in old.now.trees)) → MovesRows old new make
 steps {tree} {rows} old new make shown did now =
     let same = same_desk (with_tree old.now.trees tree rows) new.now.trees did.trees now.0 in record {
       was_open = shown.was_open;

@@ -39,7 +39,7 @@ use Rattle.hotel_statements.specs.Schema.{desk_schema, kind_table, note_table, r
 use Rattle.hotel_statements.specs.Values.{int, maybe_int}
 use Rattle.hotel_statements.specs.Columns.{bit_of, state_number, act_number, act_card, act_first, act_second, kind_columns, kind_of, kind_written, note_columns, note_of, note_written, room_columns, room_of, room_written, stay_columns, stay_of, stay_written, code_columns, code_of, code_written, card_columns, card_of, card_written}
 use Rattle.hotel_statements.specs.Tables.{IsWrittenAs, by_key, rows_in}
-use Rattle.hotel_statements.specs.Steps.{IsMidWith, Steps, any_rows, kind_added, note_added, room_added, code_added, stay_added, card_added}
+use Rattle.hotel_statements.specs.Steps.{IsMidWith, MovesRows, any_rows, kind_added, note_added, room_added, code_added, stay_added, card_added}
 use Rattle.hotel_statements.specs.Texts.{insert_kind, insert_note, insert_room, insert_stay, insert_code, insert_card}
 use Rattle.hotel_statements.proofs.Statements.Changes as changes
 use Rattle.hotel_statements.proofs.Statements.Terms.{Does}
@@ -87,7 +87,7 @@ put {at} {width} {text} {terms} tree t params source row old new count does on s
 -- ---- the tables whose rows have their key for a number
 
 pub code_step : (old new : State) (code : ℕ) (at : CodeRow) (count : ℕ) → ExecutesInside 0 insert_code (int code ∷ int at.room ∷ int at.place ∷ []) old new (Ok count)
-    → IsMidWith any_rows old → Steps old new (code_added code at)
+    → IsMidWith any_rows old → MovesRows old new (code_added code at)
 code_step old new code at count h mid =
     let was = (mid h.1.was_open).0 in
     let row = code_stored code at in
@@ -96,7 +96,7 @@ code_step old new code at count h mid =
 
 pub room_step : (old new : State) (row : RoomRow) (count : ℕ)
     → ExecutesInside 0 insert_room (int row.room ∷ Text row.kind ∷ int row.lock_place ∷ int row.codes ∷ int (bit_of row.secured) ∷ maybe_int row.party ∷ int row.notes ∷ []) old new (Ok count)
-    → IsMidWith any_rows old → Steps old new (room_added row)
+    → IsMidWith any_rows old → MovesRows old new (room_added row)
 room_step old new r count h mid =
     let was = (mid h.1.was_open).0 in
     let row = room_stored r in
@@ -106,7 +106,7 @@ room_step old new r count h mid =
 
 pub stay_step : (old new : State) (stay : Stay) (count : ℕ)
     → ExecutesInside 0 insert_stay (int stay.party ∷ Text stay.guest ∷ Text stay.kind ∷ int stay.arrive ∷ int stay.depart ∷ int (state_number stay.state) ∷ maybe_int (room_of_state stay.state) ∷ []) old new (Ok count)
-    → IsMidWith any_rows old → Steps old new (stay_added stay)
+    → IsMidWith any_rows old → MovesRows old new (stay_added stay)
 stay_step old new s count h mid =
     let was = (mid h.1.was_open).0 in
     let row = stay_stored s in
@@ -115,7 +115,7 @@ stay_step old new s count h mid =
     steps old new (stay_added s) h.1 did.changes (stays_set was.tables (insert_makes stay_columns stay_of stay_written stay_numbered row s.party s _ was.tables.stay (stay_good s) (stay_reads s) refl did.fresh))
 
 pub card_step : (old new : State) (card : Card) (count : ℕ) → ExecutesInside 0 insert_card (int card.number ∷ int card.party ∷ int card.link.old_code ∷ int card.link.new_code ∷ []) old new (Ok count)
-    → IsMidWith any_rows old → Steps old new (card_added card)
+    → IsMidWith any_rows old → MovesRows old new (card_added card)
 card_step old new c count h mid =
     let was = (mid h.1.was_open).0 in
     let row = card_stored c in
@@ -130,7 +130,7 @@ kind_apart kind kinds apart = all_weaker (λ k. bytes_eq k kind ≡ false) _ (λ
 
 -- the kind isn't there yet
 pub kind_step : (old new : State) (kind : List ℕ) (count : ℕ) → ExecutesInside 0 insert_kind (Text kind ∷ []) old new (Ok count)
-    → IsMidWith (λ rows. has_kind rows kind ≡ false) old → Steps old new (kind_added kind)
+    → IsMidWith (λ rows. has_kind rows kind ≡ false) old → MovesRows old new (kind_added kind)
 kind_step old new kind count h mid =
     let both = mid h.1.was_open in
     let was = both.0 in
@@ -155,7 +155,7 @@ not_at k (e ∷ es) none = elim (cases_Bool (is_eq (pair_cmp k e.0))) [
 pub note_step : (old new : State) (note : Note) (count : ℕ)
     → ExecutesInside 0 insert_note (int note.room ∷ int note.count ∷ int (act_number note.act) ∷ maybe_int (act_card note.act) ∷ int (act_first note.act) ∷ int (act_second note.act)
     ∷ int note.day ∷ int note.second ∷ []) old new (Ok count)
-    → IsMidWith (λ rows. note_at rows note.room note.count ≡ None) old → Steps old new (note_added note)
+    → IsMidWith (λ rows. note_at rows note.room note.count ≡ None) old → MovesRows old new (note_added note)
 note_step old new n count h mid =
     let both = mid h.1.was_open in
     let was = both.0 in

@@ -6,7 +6,7 @@ use Rattle.hotel_core.specs.declared.books.rows.RoomRow.{RoomRow}
 use Rattle.hotel_core.specs.declared.books.change.Change.TheVariants as change
 use Rattle.hotel_core.specs.Model.Words.{said_of}
 use Rattle.hotel_core.specs.Model.Rows.{Rows, at_number}
-use Rattle.hotel_core.specs.Books.Change.{made, codes_of, room_changed, without_party, left_by}
+use Rattle.hotel_core.specs.Books.Change.{made, codes_of, room_changed, without_party, freed_by}
 use Rattle.hotel_statements.specs.Steps.{code_given, card_given}
 use Rattle.hotel_statements.proofs.Keys.{is_key}
 
@@ -44,7 +44,7 @@ codes_stay room left (e ∷ es) = elim (cases_Bool (eqb e.0 left)) [
   ]
 ]
 
-codes_kept : (room : ℕ) (leaves : Option ℕ) (es : List (ℕ × RoomRow)) → codes_at room (left_by leaves es) ≡ codes_at room es
+codes_kept : (room : ℕ) (leaves : Option ℕ) (es : List (ℕ × RoomRow)) → codes_at room (freed_by leaves es) ≡ codes_at room es
 codes_kept room None es = refl
 codes_kept room (Some left) es = codes_stay room left es
 
@@ -53,4 +53,4 @@ pub issue_is : (card : Card) (room : ℕ) (leaves : Option ℕ) (codes : ℕ) (r
 issue_is card room leaves codes rows is =
     let at = made (change.Issue card room leaves) rows in
     ap₂ (λ rooms place. record at { rooms = rooms; codes = Rattle.std.specs.BTreeMap.insert_entry nat_cmp rows.codes card.link.new_code (record { room = room; place = place }) })
-    (one_more room card.party codes (left_by leaves rows.rooms) (codes_kept room leaves rows.rooms ∙ is)) (sym is)
+    (one_more room card.party codes (freed_by leaves rows.rooms) (codes_kept room leaves rows.rooms ∙ is)) (sym is)

@@ -2,9 +2,9 @@ use Rattle.std.proofs.Common.{◌≡◌, ◌∙◌, [], arith, false, refl, subs
 use Rattle.std.specs.Prelude.{OnOk, OnErr}
 use Rattle.hotel_core.specs.Model.Leads.{Leads}
 use Rattle.hotel_lists.proofs.CallsLemmas.{none_forgotten, then_none_forgotten}
-use Rattle.hotel_program.specs.Lines.{answered_lines, is_silent}
-use Rattle.hotel_program.specs.Script.{ScriptAnswered}
-use Rattle.hotel_program.proofs.ScriptLemmas.{none_answered, answered_next, cut_next, next_line, all_done, answered_more}
+use Rattle.hotel_program.specs.Script.Lines.{answered_lines, is_silent}
+use Rattle.hotel_program.specs.Script.WholeScript.{ScriptAnswered}
+use Rattle.hotel_program.proofs.OfScript.ScriptLemmas.{none_answered, answered_next, cut_next, next_line, all_done, answered_more}
 use Rattle.hotel_program.proofs.script.answer_lines.Goals as goal
 
 got_ok : {T E : Type 0} {r : Result T E} {t : T} {P : Type 0} → r ≡ Ok t → OnOk r P → P

@@ -3,8 +3,8 @@ use Rattle.std.proofs.Common.{◌≡◌, ◌+◌, ◌≤◌, length, take, drop}
 use Rattle.keycard_rules.specs.Rise.{NoFewer}
 use Rattle.hotel_core.specs.Model.Leads.{Leads}
 use Rattle.hotel_lists.specs.Calls.{NoneForgotten}
-use Rattle.hotel_program.specs.Lines.{answered_lines}
-use Rattle.hotel_program.specs.Script.{ScriptAnswered}
+use Rattle.hotel_program.specs.Script.Lines.{answered_lines}
+use Rattle.hotel_program.specs.Script.WholeScript.{ScriptAnswered}
 use Rattle.hotel_program.proofs.script.answer_lines.Given as goal
 
 abbrev pub invariant-loop-line : goal.invariant-loop-line

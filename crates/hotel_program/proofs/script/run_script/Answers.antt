@@ -1,6 +1,6 @@
 use Rattle.std.proofs.Common.{rules}
-use Rattle.hotel_program.specs.Script.{IsInput}
-use Rattle.hotel_program.proofs.ScriptLemmas.{if_cut}
+use Rattle.hotel_program.specs.Script.WholeScript.{IsInput}
+use Rattle.hotel_program.proofs.OfScript.ScriptLemmas.{if_cut}
 use Rattle.hotel_program.proofs.script.run_script.Goals as goal
 
 pub returns-clause-cut : goal.returns-clause-cut

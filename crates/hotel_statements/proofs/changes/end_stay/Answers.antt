@@ -5,4 +5,4 @@ pub returns-in_err-set_state-clause-makes : goal.returns-in_err-set_state-clause
 returns-in_err-set_state-clause-makes g c = writes_stopped _ c.from_residual.result c.from_residual.ensures.0 c.from_residual.ensures.1 c.in_err-set_state.ensures.makes
 
 pub returns-clause-makes : goal.returns-clause-makes
-returns-clause-makes g c = writes_then c.in_ok-set_state.ensures.makes c.set_left.ensures.makes
+returns-clause-makes g c = writes_then c.in_ok-set_state.ensures.makes c.free_room.ensures.makes

@@ -3,7 +3,7 @@ use Rattle.std.proofs.lemmas.Result.{IfOk-weaker}
 use Rattle.std.specs.List.Sorted.{IsPermutation}
 use Rattle.sqlite.specs.Held.{state}
 use Rattle.hotel_statements.specs.LookUps.{Asks}
-use Rattle.hotel_statements.specs.Lines.{AreLines}
+use Rattle.hotel_statements.specs.PlainRows.{ArePlainRows}
 use Rattle.hotel_statements.proofs.Readings.{reads_rows, reads_none}
 use Rattle.hotel_statements.proofs.reading.read_table.Goals as goal
 
@@ -13,13 +13,13 @@ returns-in-Ok g c =
     let old = state g.S.Store c.args.conn.now in
     let asks = subst (λ t. Asks t whole.query) (sym c.text.ensures) whole.asks in
     reads_rows c.text.result.now whole.query old (state g.S.Store c.query_all.new.self) c.requires.ours asks c.query_all.ensures.mode c.query_all.ensures.survives
-    (λ lines db. AreLines g.L.Line.columns g.L.Line.shown lines.items (db g.L.Line.tree)) c.in-Ok.rows.items c.lines_of.result c.in-Ok.ensures.ok
-    (λ answer. IfOk-weaker c.lines_of.result _ _ (λ lines are. subst (IsPermutation (map g.L.Line.columns (old.now.trees g.L.Line.tree)))
-    (sym (are ∙ ap (map g.L.Line.cut) c.deref.ensures.value)) (whole.answers old.now.trees c.in-Ok.rows.items answer)) c.lines_of.ensures)
+    (λ plain_rows db. ArePlainRows g.L.PlainRow.columns g.L.PlainRow.shown plain_rows.items (db g.L.PlainRow.tree)) c.in-Ok.rows.items c.plain_rows_of.result c.in-Ok.ensures.ok
+    (λ answer. IfOk-weaker c.plain_rows_of.result _ _ (λ plain_rows are. subst (IsPermutation (map g.L.PlainRow.columns (old.now.trees g.L.PlainRow.tree)))
+    (sym (are ∙ ap (map g.L.PlainRow.cut) c.deref.ensures.value)) (whole.answers old.now.trees c.in-Ok.rows.items answer)) c.plain_rows_of.ensures)
 
 pub returns-in-Err : goal.returns-in-Err
 returns-in-Err g c =
     let whole = c.requires.whole in
     let asks = subst (λ t. Asks t whole.query) (sym c.text.ensures) whole.asks in
     reads_none c.text.result.now whole.query (state g.S.Store c.args.conn.now) (state g.S.Store c.query_all.new.self) c.requires.ours asks c.query_all.ensures.mode
-    c.query_all.ensures.survives (λ lines db. AreLines g.L.Line.columns g.L.Line.shown lines.items (db g.L.Line.tree)) c.in-Err.error c.fault_of.result c.in-Err.ensures.err
+    c.query_all.ensures.survives (λ plain_rows db. ArePlainRows g.L.PlainRow.columns g.L.PlainRow.shown plain_rows.items (db g.L.PlainRow.tree)) c.in-Err.error c.fault_of.result c.in-Err.ensures.err

@@ -5,5 +5,5 @@ use Rattle.hotel_statements.proofs.reading.rise.Goals as goal
 
 pub returns : goal.returns
 returns g c =
-    let past : length c.args.lines.now ≤ c.loop-i.i = grind (arith, nat_tests, c.loop-i-test.false) in
-    sym (c.loop-i.invariant ∙ last_in_order g.L.Plain.order c.args.lines.now c.loop-i.i past)
+    let past : length c.args.plain_rows.now ≤ c.loop-i.i = grind (arith, nat_tests, c.loop-i-test.false) in
+    sym (c.loop-i.invariant ∙ last_in_order g.L.Plain.order c.args.plain_rows.now c.loop-i.i past)

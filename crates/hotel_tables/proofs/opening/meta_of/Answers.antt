@@ -1,13 +1,13 @@
 use Rattle.std.proofs.lemmas.Result.{IfErr-weaker, IfOk-weaker}
 use Rattle.std.proofs.Common.{subst, List}
-use Rattle.hotel_statements.specs.declared.lines.MetaLine.{MetaLine}
+use Rattle.hotel_statements.specs.declared.plain_rows.PlainMeta.{PlainMeta}
 use Rattle.hotel_tables.specs.Opening.{IsMetaRow, LacksRow}
 use Rattle.hotel_tables.proofs.Opened.{fault_lacks}
 use Rattle.hotel_tables.proofs.opening.meta_of.Goals as goal
 
 pub returns-clause-ok : goal.returns-clause-ok
-returns-clause-ok c = IfOk-weaker c.meta_row.result _ _ (λ line is. subst (λ (meta : List MetaLine). IsMetaRow meta line) c.deref.ensures.value is) c.meta_row.ensures.ok
+returns-clause-ok c = IfOk-weaker c.meta_row.result _ _ (λ plain is. subst (λ (meta : List PlainMeta). IsMetaRow meta plain) c.deref.ensures.value is) c.meta_row.ensures.ok
 
 pub returns-clause-err : goal.returns-clause-err
 returns-clause-err c = λ db read. IfErr-weaker c.meta_row.result _ _ (λ why lacks.
-    fault_lacks db c.args.tables.now.meta.items why read.0.0.0 (subst (λ (meta : List MetaLine). LacksRow meta why) c.deref.ensures.value lacks)) c.meta_row.ensures.err
+    fault_lacks db c.args.tables.now.meta.items why read.0.0.0 (subst (λ (meta : List PlainMeta). LacksRow meta why) c.deref.ensures.value lacks)) c.meta_row.ensures.err

@@ -1,8 +1,8 @@
 use Rattle.std.proofs.Common.{◌≡◌, ◌∙◌, sym, ap, subst, map, true, false, refl, List}
 use Rattle.std.specs.Ordering.{int_cmp, is_eq}
 use Rattle.sqlite.specs.Tree.{IsAscending}
-use Rattle.hotel_statements.specs.declared.lines.NumberedInside.{NumberedInside}
-use Rattle.hotel_tables.specs.Opening.{id_inside, line_inside}
+use Rattle.hotel_statements.specs.declared.plain_rows.NumberedInside.{NumberedInside}
+use Rattle.hotel_tables.specs.Opening.{id_inside, plain_inside}
 use Rattle.hotel_tables.proofs.Opened.{stored_are, ids_apart}
 use Rattle.hotel_tables.proofs.opening.stored_of.Goals as goal
 
@@ -11,7 +11,7 @@ returns-clause-ok c = λ db read.
     let t = c.args.tables in
     let is = c.in_ok-meta.ensures.ok in
     let apart = subst (λ (ls : List NumberedInside). c.in-Ok-true.field-0 ≡ true → IsAscending (λ a b. is_eq (int_cmp a b) ≡ false) (map id_inside ls)) c.deref.ensures.value (c.in-Ok-true.ensures) in
-    let inside = c.in-Ok.ensures ∙ ap (map line_inside) c.deref-2.ensures.value in (
+    let inside = c.in-Ok.ensures ∙ ap (map plain_inside) c.deref-2.ensures.value in (
       stored_are t db c.in_ok-meta.meta _ c.in-Ok.inside (rw is.2 refl) read is inside (sym c.all_rise.ensures ∙ c.if-not-all_rise.false),
       ids_apart t.inside.items db read.1.1.0 (apart c.in-Ok-true.field-0-test),
     )

@@ -1,7 +1,7 @@
 use Rattle.std.proofs.Common.{ℕ, ◌≡◌, ◌+◌, ◌<◌, ◌^◌, List, ap, sym, ◌∙◌, arith}
 use Rattle.hotel_nights.specs.Block.{one_if}
 use Rattle.hotel_nights.specs.FullNight.{takes}
-use Rattle.hotel_core.specs.NightIndex.{counted, holds}
+use Rattle.hotel_core.specs.NightIndex.{counted, spans}
 use Rattle.hotel_core.proofs.OfTables.Tests.{when_ok}
 use Rattle.hotel_core.proofs.OfNights.NightsStanding.{takes_by, takes_none}
 use Rattle.hotel_core.proofs.night_index.NightIndex.add.Goals as goal
@@ -16,7 +16,7 @@ returns-clause-ok c =
     let stay = c.args.stay.now in
     let old = c.args.self.now in
     let new = c.add_nights.new.self in
-    let more : ((k : List ℕ) (d : ℕ) → counted old k d < 2 ^ 63 → counted new k d ≡ counted old k d + one_if (holds stay.kind c.number-first.result c.number-last.result k d)) → (k : List ℕ) (d : ℕ) → counted old k d < 2 ^ 63 → counted new k d ≡ counted old k d + one_if (takes k d stay) =
-    λ held k d few. held k d few ∙ (λ i. counted old k d + one_if (holds stay.kind (c.number-first.ensures.same i) (c.number-last.ensures.same i) k d))
+    let more : ((k : List ℕ) (d : ℕ) → counted old k d < 2 ^ 63 → counted new k d ≡ counted old k d + one_if (spans stay.kind c.number-first.result c.number-last.result k d)) → (k : List ℕ) (d : ℕ) → counted old k d < 2 ^ 63 → counted new k d ≡ counted old k d + one_if (takes k d stay) =
+    λ held k d few. held k d few ∙ (λ i. counted old k d + one_if (spans stay.kind (c.number-first.ensures.same i) (c.number-last.ensures.same i) k d))
     ∙ ap (λ b. counted old k d + one_if b) (sym (takes_by stay k d (sym c.is_standing.ensures ∙ c.if-not-is_standing.false))) in
     when_ok _ _ _ more c.add_nights.ensures.ok

@@ -2,7 +2,7 @@ use Rattle.std.proofs.Common.{rules, ◌≡◌, ◌+◌, ◌-◌, ◌/◌, ◌^�
 use Rattle.std.specs.Prelude.{slice_index}
 use Rattle.std.specs.Option.{unwrap_or}
 use Rattle.hotel_nights.specs.Block.{one_if}
-use Rattle.hotel_core.specs.NightIndex.{block_at, counted, holds}
+use Rattle.hotel_core.specs.NightIndex.{block_at, counted, spans}
 use Rattle.hotel_core.proofs.OfNights.NightCounts.{Sets, part_changed, zeros}
 use Rattle.hotel_core.proofs.night_index.NightIndex.count_part.Goals as goal
 
@@ -18,7 +18,7 @@ returns-in-Some-clause-ok c =
     (λ j low. c.more.ensures j (subst (λ xs. slice_index xs j < 2 ^ 64 - 1) (sym was) low)
     ∙ (λ i. slice_index (was i) j + one_if (nat_le (c.from-first.ensures i) j && nat_lt j (c.from-first.ensures i + c.from.ensures i)))) k d
     (subst (λ es. counted es k d < 2 ^ 64 - 1) (sym c.self.view_is) few)
-    ∙ ap (λ es. counted es k d + one_if (holds kind c.args.from c.args.to k d)) c.self.view_is
+    ∙ ap (λ es. counted es k d + one_if (spans kind c.args.from c.args.to k d)) c.self.view_is
 
 pub returns-clause-ok : goal.returns-clause-ok
 returns-clause-ok c =
@@ -32,4 +32,4 @@ returns-clause-ok c =
     (λ j low. c.more-2.ensures j (omega (arith, zeros j)) ∙ ap (λ n. n + one_if (nat_le c.from-first.result j && nat_lt j (c.from-first.result + c.from.result))) (zeros j)
     ∙ (λ i. slice_index (was i) j + one_if (nat_le (c.from-first.ensures i) j && nat_lt j (c.from-first.ensures i + c.from.ensures i)))) k d
     (subst (λ m. counted m.entries k d < 2 ^ 64 - 1) (sym c.get_mut.follows.holds-at-none) (subst (λ es. counted es k d < 2 ^ 64 - 1) (sym c.self.view_is) few))
-    ∙ ap (λ m. counted m.entries k d + one_if (holds kind c.args.from c.args.to k d)) c.get_mut.follows.holds-at-none ∙ ap (λ es. counted es k d + one_if (holds kind c.args.from c.args.to k d)) c.self.view_is
+    ∙ ap (λ m. counted m.entries k d + one_if (spans kind c.args.from c.args.to k d)) c.get_mut.follows.holds-at-none ∙ ap (λ es. counted es k d + one_if (spans kind c.args.from c.args.to k d)) c.self.view_is

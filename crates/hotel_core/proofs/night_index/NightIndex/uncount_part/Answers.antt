@@ -1,5 +1,5 @@
 use Rattle.std.proofs.Common.{rules, ◌≡◌, ℕ, ◌+◌, ◌-◌, ◌/◌, ◌&&◌, Some, None, [], nat_le, nat_lt, ap, ◌∙◌, sym, arith, slice_index}
-use Rattle.hotel_core.proofs.Names.{one_if, block_at, counted, holds}
+use Rattle.hotel_core.proofs.Names.{one_if, block_at, counted, spans}
 use Rattle.std.specs.Option.{unwrap_or}
 use Rattle.hotel_core.proofs.OfNights.NightCounts.{Sets, sets_twice, part_changed, part_absent}
 use Rattle.hotel_core.proofs.night_index.NightIndex.uncount_part.Goals as goal
@@ -23,7 +23,7 @@ returns-then-not-is_taken c =
     let zero : (j : ℕ) → slice_index new j ≡ 0 = c.less-is_taken.ensures.none c.if-not-is_taken.true in
     λ k d. part_changed (λ x n y. y ≡ x - n) (λ x. omega arith) before after kind c.args.from c.args.to None c.requires.order c.requires.one_block (sets_twice before mid after kind (c.args.from / 32) (Some new) None set gone)
     (λ j. sym (zero j) ∙ c.less-is_taken.ensures.counts j ∙ (λ i. slice_index (was i) j - one_if (nat_le (c.from-first.ensures i) j && nat_lt j (c.from-first.ensures i + c.from.ensures i)))) k d
-    ∙ ap (λ es. counted es k d - one_if (holds kind c.args.from c.args.to k d)) c.self.view_is
+    ∙ ap (λ es. counted es k d - one_if (spans kind c.args.from c.args.to k d)) c.self.view_is
 
 pub returns-else-not-is_taken : goal.returns-else-not-is_taken
 returns-else-not-is_taken c =
@@ -35,4 +35,4 @@ returns-else-not-is_taken c =
     let was : c.in-Some.counts.now ≡ block_at before kind (c.args.from / 32) = ap (λ o. unwrap_or o []) c.in-Some.ensures.value in
     λ k d. part_changed (λ x n y. y ≡ x - n) (λ x. omega arith) before after kind c.args.from c.args.to (Some new) c.requires.order c.requires.one_block set
     (λ j. c.less-is_taken.ensures.counts j ∙ (λ i. slice_index (was i) j - one_if (nat_le (c.from-first.ensures i) j && nat_lt j (c.from-first.ensures i + c.from.ensures i)))) k d
-    ∙ ap (λ es. counted es k d - one_if (holds kind c.args.from c.args.to k d)) c.self.view_is
+    ∙ ap (λ es. counted es k d - one_if (spans kind c.args.from c.args.to k d)) c.self.view_is

@@ -16,5 +16,5 @@ returns-then-place-len c =
 
 pub returns : goal.returns
 returns c =
-    ap (λ line. Some (card_row line)) c.index.ensures
+    ap (λ plain. Some (card_row plain)) c.index.ensures
     ∙ sym (one_found card_key card_row c.args.places.now.cards.entries c.args.stored.now.cards.items c.args.number c.in-Some.place c.index.result.now c.requires.cards (sym c.place_at.ensures ∙ c.in-Some.is))

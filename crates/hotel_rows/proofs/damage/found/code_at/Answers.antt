@@ -16,5 +16,5 @@ returns-then-place-len c =
 
 pub returns : goal.returns
 returns c =
-    ap (λ line. Some (code_row line)) c.index.ensures
+    ap (λ plain. Some (code_row plain)) c.index.ensures
     ∙ sym (one_found code_key code_row c.args.places.now.codes.entries c.args.stored.now.codes.items c.args.code c.in-Some.place c.index.result.now c.requires.codes (sym c.place_at.ensures ∙ c.in-Some.is))

@@ -1,8 +1,8 @@
 use Rattle.std.proofs.Common.{rules, ◌≡◌, None, Some, ap, sym, ◌∙◌, arith}
-use Rattle.hotel_rows.specs.declared.stored.RoomLine.{RoomLine}
+use Rattle.hotel_rows.specs.declared.stored.PlainRoom.{PlainRoom}
 use Rattle.hotel_rows.specs.Stored.{number_of, room_row}
 use Rattle.hotel_rows.specs.Keys.{room_key}
-use Rattle.hotel_rows.proofs.OfDamage.FoundKeys.{none_found, one_found, one_bound, line_found, passes_at}
+use Rattle.hotel_rows.proofs.OfDamage.FoundKeys.{none_found, one_found, one_bound, plain_found, passes_at}
 use Rattle.hotel_rows.proofs.damage.found.room_at.Goals as goal
 
 pub returns-in_default : goal.returns-in_default
@@ -22,11 +22,11 @@ returns-then-place-len c =
 pub returns : goal.returns
 returns c =
     let entries = c.args.places.now.rooms.entries in
-    let lines = c.args.stored.now.rooms.items in
+    let plain_rows = c.args.stored.now.rooms.items in
     let there = sym c.place_at.ensures ∙ c.in-Some.is in
-    let low = one_bound room_key room_row entries lines c.args.room c.in-Some.place c.requires.rooms there in
+    let low = one_bound room_key room_row entries plain_rows c.args.room c.in-Some.place c.requires.rooms there in
     record {
-      row = ap (λ line. Some (room_row line)) c.index.ensures ∙ sym (one_found room_key room_row entries lines c.args.room c.in-Some.place c.index.result.now c.requires.rooms there);
-      key = ap (λ (line : RoomLine). number_of line.room) c.index.ensures ∙ line_found room_key room_row entries lines c.args.room c.in-Some.place c.index.result.now c.requires.rooms there;
-      rules = λ t all. ap t c.index.ensures ∙ passes_at t lines c.in-Some.place c.index.result.now low all;
+      row = ap (λ plain. Some (room_row plain)) c.index.ensures ∙ sym (one_found room_key room_row entries plain_rows c.args.room c.in-Some.place c.index.result.now c.requires.rooms there);
+      key = ap (λ (plain : PlainRoom). number_of plain.room) c.index.ensures ∙ plain_found room_key room_row entries plain_rows c.args.room c.in-Some.place c.index.result.now c.requires.rooms there;
+      rules = λ t all. ap t c.index.ensures ∙ passes_at t plain_rows c.in-Some.place c.index.result.now low all;
     }

@@ -16,5 +16,5 @@ returns-then-place-len c =
 
 pub returns : goal.returns
 returns c =
-    ap (λ line. Some (stay_row line)) c.index.ensures
+    ap (λ plain. Some (stay_row plain)) c.index.ensures
     ∙ sym (one_found stay_key stay_row c.args.places.now.stays.entries c.args.stored.now.stays.items c.args.party c.in-Some.place c.index.result.now c.requires.stays (sym c.place_at.ensures ∙ c.in-Some.is))

@@ -1,6 +1,6 @@
 use Rattle.std.proofs.Common.{ap, ◌∙◌}
 use Rattle.std.specs.Map.{keys_of}
-use Rattle.keycard_rules.specs.Draw.{is_one_of}
+use Rattle.keycard_rules.specs.Words.{is_one_of}
 use Rattle.hotel_core.proofs.OfTables.MapEntries.{known_key}
 use Rattle.hotel_core.proofs.memory.code_table.CodeTable.has.Goals as goal
 

@@ -1,5 +1,5 @@
 use Rattle.std.proofs.Common.{ap, sym, ◌∙◌, subst}
-use Rattle.hotel_core.proofs.{Names.at_number, Names.StandsForAll, OfTables.RowsChanged.stay_absent, OfNights.NightsStanding.stands_less}
+use Rattle.hotel_core.proofs.{Names.at_number, Names.CountsNightsOf, OfTables.RowsChanged.stay_absent, OfNights.NightsStanding.stands_less}
 use Rattle.hotel_core.proofs.memory.stay_table.StayTable.end.Goals as goal
 
 pub returns-in_default : goal.returns-in_default
@@ -10,5 +10,5 @@ returns-in_default c =
 pub invariant_of-self : goal.invariant_of-self
 invariant_of-self c =
     let t = c.self.inside in
-    subst (λ es. StandsForAll c.remove.new.self es) (sym c.set_state.ensures)
+    subst (λ es. CountsNightsOf c.remove.new.self es) (sym c.set_state.ensures)
     (stands_less t.nights c.remove.new.self t.stays.entries c.args.party c.args.state c.in-Some.stay.now c.self.invariant (sym c.in-Some.ensures.value) c.requires c.remove.ensures)

@@ -3,7 +3,7 @@ use Rattle.hotel_nights.specs.Block.{one_if}
 use Rattle.hotel_nights.specs.FullNight.{takes}
 use Rattle.hotel_core.specs.Model.Rows.{at_number}
 use Rattle.hotel_core.specs.NightIndex.{counted}
-use Rattle.hotel_core.specs.Memory.{StandsForAll}
+use Rattle.hotel_core.specs.Memory.{CountsNightsOf}
 use Rattle.hotel_core.proofs.OfNights.NightsStanding.{counts_fit, stands_more}
 use Rattle.hotel_core.proofs.memory.stay_table.StayTable.insert.Goals as goal
 
@@ -18,7 +18,7 @@ invariant_of-self-in-Ok c =
     let t = c.self.inside in
     let few : length t.stays.entries < 2 ^ 63 = subst (λ n. n < 2 ^ 63) c.len-few.ensures.len c.len-few.ensures.small in
     let absent = ap (λ es. at_number es c.args.stay.party) c.self.view_is ∙ c.requires in
-    subst (λ es. StandsForAll c.add.new.self es) (sym c.in-Ok.ensures.entries)
+    subst (λ es. CountsNightsOf c.add.new.self es) (sym c.in-Ok.ensures.entries)
     (stands_more t.nights c.add.new.self t.stays.entries c.args.stay.party c.args.stay c.self.invariant absent
     (λ kind d. c.in_ok-add.ensures.ok kind d (counts_fit t.nights t.stays.entries kind d c.self.invariant few)))
 

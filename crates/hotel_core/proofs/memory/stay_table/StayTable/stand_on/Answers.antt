@@ -1,5 +1,5 @@
 use Rattle.std.proofs.Common.{ap, sym, ◌∙◌, subst, true, refl}
-use Rattle.hotel_core.proofs.{Names.is_standing, Names.said_of, Names.at_number, Names.StandsForAll, OfNights.NightsStanding.stands_on}
+use Rattle.hotel_core.proofs.{Names.is_standing, Names.said_of, Names.at_number, Names.CountsNightsOf, OfNights.NightsStanding.stands_on}
 use Rattle.hotel_nights.specs.declared.stay.StayState.TheVariants as state
 use Rattle.hotel_core.proofs.memory.stay_table.StayTable.stand_on.Goals as goal
 
@@ -7,5 +7,5 @@ pub invariant_of-self : goal.invariant_of-self
 invariant_of-self c =
     let t = c.self.inside in
     let stood = ap (λ es. said_of (at_number es c.args.party) true (λ s. is_standing s.state)) c.self.view_is ∙ c.requires in
-    subst (λ es. StandsForAll t.nights es) (sym c.set_state.ensures)
+    subst (λ es. CountsNightsOf t.nights es) (sym c.set_state.ensures)
     (stands_on t.nights t.stays.entries c.args.party (state.InHouse c.args.room) c.self.invariant stood refl)

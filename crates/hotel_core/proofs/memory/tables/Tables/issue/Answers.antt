@@ -1,5 +1,5 @@
 use Rattle.std.proofs.Common.{◌≤◌, ◌<◌, ◌+◌, ◌-◌, ◌^◌, ℕ, List, Some, false, IsSome, refl, ap, sym, ◌∙◌, subst, arith, nat_cmp}
-use Rattle.hotel_core.proofs.Names.{is_at, remove_entry, keys_of, nat_cmp_total, RoomRow, CodeRow, Rows, at_number, room_at, code_place, first_code_at, codes_of, left_by, room_changed, LaterPlacesFree, RoomsKnown, TablesAgree}
+use Rattle.hotel_core.proofs.Names.{is_at, remove_entry, keys_of, nat_cmp_total, RoomRow, CodeRow, Rows, at_number, room_at, code_place, first_code_at, codes_of, freed_by, room_changed, LaterPlacesFree, RoomsKnown, TablesAgree}
 use Rattle.hotel_core.proofs.{OfTables.MapEntries.taken_back, OfTables.MapEntries.found, OfNights.RoomsByKind.known_changed, OfNights.RoomsByKind.known_left}
 use Rattle.hotel_core.proofs.OfTables.LaterPlaces.{free_after, codes_left, codes_changed, codes_there, one_more_code, there_left}
 use Rattle.hotel_core.proofs.memory.tables.Tables.issue.Goals as goal
@@ -45,7 +45,7 @@ invariant_of-self-2 c =
     let there = subst (λ rows. IsSome (room_at rows c.args.room)) (sym c.self.view_is) c.requires.there in
     let absent = ap (λ rows. code_place rows c.args.card.now.link.new_code) c.self.view_is ∙ c.requires.new_code in
     let f : RoomRow → RoomRow = λ row. record row { codes = row.codes + 1; secured = false; party = Some c.args.card.now.party } in
-    let left : List (ℕ × RoomRow) = left_by c.args.leaves c.self.inside.rooms.entries in
+    let left : List (ℕ × RoomRow) = freed_by c.args.leaves c.self.inside.rooms.entries in
     let up : (r : ℕ) → codes_there c.self.inside.rooms.entries r ≤ codes_there c.issue_at.new.rooms.entries r =
     λ r. let a = codes_left c.args.leaves c.self.inside.rooms.entries r in
     let b = codes_changed (λ m n. m ≤ n) (λ n. omega arith) f (λ row. omega arith) c.args.room r left in

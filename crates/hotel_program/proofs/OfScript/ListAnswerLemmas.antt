@@ -1,0 +1,108 @@
+-- The answer to a list, as it is written.
+use Rattle.std.proofs.Common.{◌≡◌, ℕ, List, [], ◌∷◌, ◌++◌, true, refl, sym, ap, subst, Option, Some, None, Result, Ok, Err, inl, inr}
+use Rattle.std.specs.Prelude.{OnOk, OnErr}
+use Rattle.std.specs.Io.KnownBytes.{Appends}
+use Rattle.std.proofs.KnownBytes.{Appends-trans}
+use Rattle.keycard_rules.specs.declared.issued.LookFault.TheVariants as look
+use Rattle.keycard_rules.specs.declared.issued.LookFault.{LookFault}
+use Rattle.keycard_rules.specs.Rise.{NoFewer}
+use Rattle.hotel_core.specs.declared.reply.Reply.TheVariants.{Refused}
+use Rattle.hotel_core.specs.declared.reply.Refusal.{Refusal}
+use Rattle.hotel_core.specs.declared.reply.Refusal.TheVariants as refusal
+use Rattle.hotel_core.specs.Model.Run.{is_failed}
+use Rattle.hotel_core.specs.Books.Failures.{AreCounted}
+use Rattle.hotel_core.proofs.OfCode.FailuresCounted.{none_counted, one_counted}
+use Rattle.keycard_rules.specs.declared.issued.Issued.{Ghosts as IssuedOf}
+use Rattle.hotel_lists.specs.Bytes.{AppendsFront}
+use Rattle.hotel_lists.specs.Lines.{LooksAt}
+use Rattle.hotel_lists.specs.declared.fault.ListFault.{ListFault}
+use Rattle.hotel_lists.specs.declared.fault.ListFault.TheVariants as fault
+use Rattle.hotel_asks.specs.Listings.{Listing, ListEnds}
+use Rattle.hotel_program.specs.Script.ListAnswers.{refusal_text, refusal_of, failure_of, AnswersList, ListAnswered}
+use Rattle.hotel_program.proofs.OfScript.ScriptLemmas.{appends_front}
+
+-- the failures that the books counted where a list ended by a fault
+failed_by : ListFault → List Refusal
+failed_by fault.Store = refusal.Store ∷ []
+failed_by _ = []
+
+-- these failures go with this refusal
+FailsSo : Refusal → List Refusal → Type 0
+FailsSo why failed = (is_failed (Refused why) ≡ true) × (failed ≡ failure_of why)
+
+by_memory : (why : Refusal) → refusal_of fault.Memory ≡ Some why → FailsSo why []
+unfolding FailsSo
+by_memory why e = let same : refusal.Memory ≡ why = cc e in subst (λ (w : Refusal). FailsSo w []) same (refl, refl)
+
+by_store : (why : Refusal) → refusal_of fault.Store ≡ Some why → FailsSo why (refusal.Store ∷ [])
+unfolding FailsSo
+by_store why e = let same : refusal.Store ≡ why = cc e in subst (λ (w : Refusal). FailsSo w (refusal.Store ∷ [])) same (refl, refl)
+
+said_no_room : (listing : Option Listing) (old new : Option (List ℕ)) (why : Refusal) → refusal_of fault.NoRoom ≡ Some why → ListEnds [] listing old new (Err fault.NoRoom)
+    → (front : List ℕ) × AnswersList listing (front ++ refusal_text why) [] × Appends old new front
+said_no_room None old new why e p = let same : refusal.NoRoom ≡ why = cc e in ([], inl (ap refusal_text (sym same), refl), p.1)
+said_no_room (Some listing) old new why e p = cc p.0
+
+-- whole lines of a list, which its refusal follows
+refused_front : (listing : Option Listing) (old new : Option (List ℕ)) (why_not : ListFault) (why : Refusal) → refusal_of why_not ≡ Some why → ListEnds [] listing old new (Err why_not)
+    → (front : List ℕ) × AnswersList listing (front ++ refusal_text why) (failed_by why_not) × Appends old new front
+unfolding failed_by FailsSo
+refused_front listing old new fault.NoRoom why e p = said_no_room listing old new why e p
+refused_front listing old new fault.Memory why e p = let so = by_memory why e in (p.0, inr (p.0, why, p.1, so.0, refl, so.1), p.2)
+refused_front listing old new fault.Store why e p = let so = by_store why e in (p.0, inr (p.0, why, p.1, so.0, refl, so.1), p.2)
+refused_front listing old new fault.Write why e p = cc e
+
+-- the failures of a list were counted
+counted_by : {B : Type 0} (I : IssuedOf B) {old new : B} (why_not : ListFault)
+    → LooksAt I old new (Err why_not) → AreCounted (I.failures old) (I.failures new) (failed_by why_not)
+unfolding failed_by
+counted_by I {old = old} {new = new} fault.NoRoom looks = none_counted (I.failures old) (I.failures new) looks.counted
+counted_by I {old = old} {new = new} fault.Memory looks = none_counted (I.failures old) (I.failures new) looks.counted
+counted_by I {old = old} {new = new} fault.Write looks = none_counted (I.failures old) (I.failures new) looks.counted
+counted_by I {old = old} {new = new} fault.Store looks =
+    one_counted (I.failures old) (I.failures new) look.Store looks.counted (looks.store refl)
+
+-- the whole answer of a list that was refused
+pub refused_whole : {B : Type 0} (I : IssuedOf B) {b c : B}
+    (listing : Option Listing) (old mid new : Option (List ℕ)) (why_not : ListFault) (why : Refusal) → refusal_of why_not ≡ Some why
+    → ListEnds [] listing old mid (Err why_not) → LooksAt I b c (Err why_not) → Appends mid new (refusal_text why)
+    → ListAnswered listing (Appends old new) (AreCounted (I.failures b) (I.failures c))
+refused_whole I listing old mid new why_not why e p looks written =
+    let r = refused_front listing old mid why_not why e p in
+    (r.0 ++ refusal_text why, failed_by why_not, r.1, Appends-trans old mid new r.0 (refusal_text why) r.2 written, counted_by I why_not looks)
+
+-- a front of the answer of a list that was refused
+pub refused_cut : {B : Type 0} (I : IssuedOf B) {b c : B}
+    (listing : Option Listing) (old mid new : Option (List ℕ)) (why_not : ListFault) (why : Refusal) → refusal_of why_not ≡ Some why
+    → ListEnds [] listing old mid (Err why_not) → LooksAt I b c (Err why_not) → AppendsFront mid new (refusal_text why)
+    → ListAnswered listing (AppendsFront old new) (AreCounted (I.failures b) (I.failures c))
+refused_cut I listing old mid new why_not why e p looks written =
+    let r = refused_front listing old mid why_not why e p in
+    (r.0 ++ refusal_text why, failed_by why_not, r.1, appends_front old mid new r.0 (refusal_text why) written r.2, counted_by I why_not looks)
+
+-- a list that was written whole
+pub whole_answered : {a b : LookFault → ℕ} (listing : Option Listing) (old new : Option (List ℕ)) → ListEnds [] listing old new (Ok tt) → NoFewer a b
+    → ListAnswered listing (Appends old new) (AreCounted a b)
+whole_answered {a} {b} None old new p grown = cc p.0
+whole_answered {a} {b} (Some listing) old new p grown = (_, [], inl (refl, refl), p.1, none_counted a b grown)
+
+write_failed : {a b : LookFault → ℕ} (listing : Option Listing) (old new : Option (List ℕ)) → ListEnds [] listing old new (Err fault.Write) → NoFewer a b
+    → ListAnswered listing (AppendsFront old new) (AreCounted a b)
+write_failed {a} {b} None old new p grown = absurd (p.0 refl)
+write_failed {a} {b} (Some listing) old new p grown = (_, [], inl (refl, refl), p.1, none_counted a b grown)
+
+-- a list whose write failed, which no refusal answers
+pub cut_answered : {a b : LookFault → ℕ} (listing : Option Listing) (old new : Option (List ℕ)) (why_not : ListFault) → refusal_of why_not ≡ None
+    → ListEnds [] listing old new (Err why_not) → NoFewer a b → ListAnswered listing (AppendsFront old new) (AreCounted a b)
+cut_answered listing old new fault.NoRoom e p grown = cc e
+cut_answered listing old new fault.Memory e p grown = cc e
+cut_answered listing old new fault.Store e p grown = cc e
+cut_answered listing old new fault.Write e p grown = write_failed listing old new p grown
+
+pub when_ok : {T E : Type 0} (r : Result T E) (P Q : Type 0) → (P → Q) → OnOk r P → OnOk r Q
+when_ok (Ok t) P Q f p = f p
+when_ok (Err e) P Q f p = p
+
+pub when_err : {T E : Type 0} (r : Result T E) (P Q : Type 0) → (P → Q) → OnErr r P → OnErr r Q
+when_err (Ok t) P Q f p = p
+when_err (Err e) P Q f p = f p

@@ -1,0 +1,68 @@
+use Rattle.std.proofs.Common.{◌≡◌, true, false, refl, sym, ap, ◌∙◌, subst, List, Ok, Err}
+use Rattle.std.specs.Io.KnownBytes.{Appends}
+use Rattle.hotel_lists.specs.Bytes.{AppendsFront}
+use Rattle.hotel_audit.specs.Answers.{answers_text}
+use Rattle.hotel_audit.specs.declared.answer.LineAnswer.{LineAnswer}
+use Rattle.hotel_program.specs.Alone.AuditRuns.{answers_status}
+use Rattle.hotel_program.specs.declared.faults.Fault.TheVariants.{Write}
+use Rattle.hotel_program.proofs.AuditRunLemmas.{no_failed_write}
+use Rattle.hotel_program.proofs.alone.audit_runs.import_and_write.Goals as goal
+
+pub returns-in-Err-clause-ends : goal.returns-in-Err-clause-ends
+returns-in-Err-clause-ends g c =
+    let e = c.in-Err.ensures in (
+      Err c.in-Err.fault,
+      false,
+      ap (λ f. Err f) c.import_fault.ensures.fault,
+      refl,
+      record {
+        went = e.imported;
+        no_file = e.no_file;
+        was_clean = e.was_clean;
+        counted = e.counted;
+        failed = e.failed;
+      },
+    )
+
+pub returns-in-Ok-write_answers-clause-ends : goal.returns-in-Ok-write_answers-clause-ends
+returns-in-Ok-write_answers-clause-ends g c =
+    let e = c.in-Ok.ensures in
+    let items = c.as_slice-answers.ensures.value in
+    let old = g.W.Write.contents c.args.writer.now in
+    let new = g.W.Write.contents c.write_answers.new.writer in (
+      Ok c.in-Ok.answers.items,
+      false,
+      ap (λ s. Ok s) (c.answers_status.ensures.status ∙ ap answers_status items),
+      subst (λ (l : List LineAnswer). Appends old new (answers_text 1 l)) items c.in-Ok-write_answers.ensures.ok,
+      record {
+        went = e.imported;
+        no_file = tt;
+        was_clean = e.was_clean;
+        counted = e.counted;
+        failed = tt;
+      },
+    )
+
+pub returns-clause-ends : goal.returns-clause-ends
+returns-clause-ends g c =
+    let e = c.in-Ok.ensures in
+    let items = c.as_slice-answers.ensures.value in
+    let old = g.W.Write.contents c.args.writer.now in
+    let new = g.W.Write.contents c.write_answers.new.writer in (
+      Ok c.in-Ok.answers.items,
+      true,
+      refl,
+      subst (λ (l : List LineAnswer). AppendsFront old new (answers_text 1 l)) items c.in-Err-write_answers.ensures.err,
+      record {
+        went = e.imported;
+        no_file = tt;
+        was_clean = e.was_clean;
+        counted = e.counted;
+        failed = tt;
+      },
+    )
+
+pub returns-in-Err-clause-failed : goal.returns-in-Err-clause-failed
+returns-in-Err-clause-failed g c = λ e.
+    let written : c.import_fault.result ≡ Write = cc in
+    absurd (no_failed_write c.in-Err.fault (sym c.import_fault.ensures.fault ∙ written))

@@ -1,0 +1,67 @@
+-- What an audit file that is imported alone comes to.
+use Rattle.std.specs.Prelude.{◌≡◌, ℕ, Bool, true, false, List, [], ◌∷◌, Option, Result, Ok, Err, IfErr}
+use Rattle.std.specs.Io.KnownBytes.{Appends}
+use Rattle.keycard_rules.specs.declared.issued.Issued.{Ghosts as IssuedOf}
+use Rattle.keycard_rules.specs.Rise.{NoFewer}
+use Rattle.keycard_rules.specs.declared.issued.LookFault.TheVariants as look
+use Rattle.hotel_core.specs.Model.Rows.{Rows}
+use Rattle.hotel_core.specs.Books.Failures.{AreCounted}
+use Rattle.hotel_lists.specs.Bytes.{AppendsFront}
+use Rattle.hotel_audit.specs.Answers.{answers_text}
+use Rattle.hotel_audit.specs.AuditFile.{audit_lines}
+use Rattle.hotel_audit.specs.Import.{AreAnswered, EndsAfter, LinesLeadTo, failures_of}
+use Rattle.hotel_audit.specs.declared.line.Line.{Line}
+use Rattle.hotel_audit.specs.declared.answer.LineAnswer.{LineAnswer}
+use Rattle.hotel_audit.specs.declared.answer.LineAnswer.TheVariants.{Taken, Seen, Unread, Refused}
+use Rattle.hotel_audit.specs.declared.audit_file.AuditFault.{AuditFault}
+use Rattle.hotel_audit.specs.declared.audit_file.AuditFault.TheVariants as file
+use Rattle.hotel_audit.specs.declared.importing.ImportFault.{ImportFault}
+use Rattle.hotel_audit.specs.declared.importing.ImportFault.TheVariants.{File, Memory, Store}
+use Rattle.hotel_program.specs.declared.faults.Fault.{Fault}
+use Rattle.hotel_program.specs.declared.faults.Fault.TheVariants as fault
+
+-- The exit status that goes with answers: 0 where each is Taken or Seen, else 3.
+abbrev pub answers_status : List LineAnswer → ℕ
+answers_status [] = 0
+answers_status (Taken ∷ answers) = answers_status answers
+answers_status (Seen ∷ answers) = answers_status answers
+answers_status (Unread cause ∷ answers) = 3
+answers_status (Refused refusal ∷ answers) = 3
+
+-- The fault of bytes that give no lines.
+abbrev pub file_fault : AuditFault → Fault
+file_fault file.TooLarge = fault.TooLarge
+file_fault file.NoHeader = fault.NoHeader
+file_fault file.WrongHeader = fault.WrongHeader
+file_fault file.Memory = fault.Memory
+
+-- The fault of an import that has no answers.
+abbrev pub import_fault : ImportFault → Fault
+import_fault (File why) = file_fault why
+import_fault (Memory answered taken) = fault.Stopped answered look.Memory
+import_fault (Store answered taken) = fault.Stopped answered look.Store
+
+-- The exit status of an import with these answers or this fault, or the fault that is told: also where a write of its answers failed.
+abbrev pub audit_end : Result (List LineAnswer) ImportFault → Bool → Result ℕ Fault
+audit_end (Ok answers) false = Ok (answers_status answers)
+audit_end (Ok answers) true = Err fault.Write
+audit_end (Err why) write_failed = Err (import_fault why)
+
+-- What a writer took of an import: the texts of its answers, a line each; a front of them where a write failed; nothing where it has no answers.
+abbrev pub WritesAnswers : {W : Type 0} → (W → Option (List ℕ)) → W → W → Result (List LineAnswer) ImportFault → Bool → Type 0
+WritesAnswers contents old new (Ok answers) false = Appends (contents old) (contents new) (answers_text 1 answers)
+WritesAnswers contents old new (Ok answers) true = AppendsFront (contents old) (contents new) (answers_text 1 answers)
+WritesAnswers contents old new (Err why) write_failed = new ≡ old
+
+-- The books went by lines of the file, which have these answers: by all of them, or by those before a fault.
+abbrev pub GoesBy : {B : Type 0} → IssuedOf B → (B → Rows) → List ℕ → B → B → Result (List LineAnswer) ImportFault → Type 0
+GoesBy I rows bytes old new outcome = (lines : List Line) × (answers : List LineAnswer) × AreAnswered lines answers × EndsAfter (audit_lines bytes) outcome lines answers
+    × (I.is_clean new → LinesLeadTo (rows old) lines answers (rows new))
+
+-- An import of the file ended so: the books went by it, or are as they were where it is none; a failure of the store, or of memory after the first line, was counted.
+pub record ImportEnds {B : Type 0} (I : IssuedOf B) (rows : B → Rows) (bytes : List ℕ) (old new : B) (outcome : Result (List LineAnswer) ImportFault) : Type 0 where
+  pub went : GoesBy I rows bytes old new outcome
+  pub no_file : IfErr outcome (λ fault. (why : AuditFault) → fault ≡ File why → new ≡ old)
+  pub was_clean : I.is_clean new → I.is_clean old
+  pub counted : NoFewer (I.failures old) (I.failures new)
+  pub failed : IfErr outcome (λ why. I.is_clean new → AreCounted (I.failures old) (I.failures new) (failures_of why))

@@ -1,0 +1,39 @@
+-- The answer to a line that asks for a list.
+use Rattle.std.specs.Prelude.{◌≡◌, ◌⊎◌, ℕ, true, List, [], ◌++◌, Option, Some, None}
+use Rattle.hotel_core.specs.declared.reply.Reply.TheVariants.{Refused}
+use Rattle.hotel_core.specs.declared.reply.Refusal.{Refusal}
+use Rattle.hotel_core.specs.declared.reply.Refusal.TheVariants as refusal
+use Rattle.hotel_core.specs.Model.Run.{is_failed}
+use Rattle.hotel_program.specs.Script.Copies.{counted_in}
+use Rattle.hotel_core.specs.Texts.{reply_text}
+use Rattle.hotel_lists.specs.declared.fault.ListFault.{ListFault}
+use Rattle.hotel_lists.specs.declared.fault.ListFault.TheVariants as fault
+use Rattle.hotel_asks.specs.Listings.{Listing, IsFront, in_full}
+
+-- The line of a refusal.
+abbrev pub refusal_text : Refusal → List ℕ
+refusal_text refusal = reply_text (Refused refusal)
+
+-- The failures that the books counted where a list failed so. The memory of a row's text is the list's own: want of it isn't counted.
+abbrev pub failure_of : Refusal → List Refusal
+failure_of why = counted_in (Refused why) true
+
+-- Whole lines of a list and then the line that memory or the store failed, with the failures that the books counted.
+abbrev pub IsCutShort : Option Listing → List ℕ → List Refusal → Type 0
+IsCutShort listing text failed =
+    (front : List ℕ) × (why : Refusal) × IsFront listing front × (is_failed (Refused why) ≡ true) × (text ≡ front ++ refusal_text why) × (failed ≡ failure_of why)
+
+-- The answer to a list: it in full, or the line that its room isn't there; or it is cut short.
+abbrev pub AnswersList : Option Listing → List ℕ → List Refusal → Type 0
+AnswersList listing text failed = ((text ≡ in_full (refusal_text refusal.NoRoom) listing) × (failed ≡ [])) ⊎ IsCutShort listing text failed
+
+-- Such an answer was written so, and its failures were counted so.
+abbrev pub ListAnswered : Option Listing → (List ℕ → Type 0) → (List Refusal → Type 0) → Type 0
+ListAnswered listing written counted = (text : List ℕ) × (failed : List Refusal) × AnswersList listing text failed × written text × counted failed
+
+-- The refusal that a list's fault is answered by; none where the writer itself failed.
+abbrev pub refusal_of : ListFault → Option Refusal
+refusal_of fault.NoRoom = Some refusal.NoRoom
+refusal_of fault.Memory = Some refusal.Memory
+refusal_of fault.Store = Some refusal.Store
+refusal_of fault.Write = None

@@ -1,0 +1,63 @@
+-- A script as a run of its commands.
+use Rattle.std.specs.Prelude.{◌≡◌, ℕ, List, [], ◌∷◌, ◌++◌, map, Option, Some, None}
+use Rattle.rand_core.specs.Stream.{Stream}
+use Rattle.hotel_core.specs.declared.command.Command.{Command}
+use Rattle.hotel_core.specs.declared.reply.Reply.{Reply}
+use Rattle.hotel_core.specs.declared.reply.Refusal.{Refusal}
+use Rattle.hotel_core.specs.Model.History.{History}
+use Rattle.hotel_core.specs.Model.Run.{Runs}
+use Rattle.hotel_asks.specs.Asks.{copies}
+use Rattle.hotel_program.specs.Script.Copies.{counted_in}
+use Rattle.hotel_core.specs.Texts.{reply_text}
+use Rattle.hotel_program.specs.Script.Asks.{ask_in}
+use Rattle.hotel_asks.specs.declared.asks.Ask.{Ask}
+use Rattle.hotel_asks.specs.declared.asks.Ask.TheVariants as ask
+use Rattle.hotel_asks.specs.declared.lists.ListAsk.{ListAsk}
+use Rattle.hotel_program.specs.Script.LineAnswers.{unread_text}
+use Rattle.hotel_program.specs.Script.ListAnswers.{AnswersList}
+use Rattle.hotel_asks.specs.Listings.{listing_over}
+use Rattle.hotel_program.specs.Script.WholeScript.{ScriptGoes}
+
+-- The commands among what lines ask for.
+abbrev pub commands_of : List (Option Ask) → List Command
+commands_of [] = []
+commands_of (None ∷ later) = commands_of later
+commands_of (Some (ask.Command command) ∷ later) = command ∷ commands_of later
+commands_of (Some (ask.List its_list) ∷ later) = commands_of later
+
+-- The answers of lines whose commands are given these replies, and whose lists these answers, in order.
+abbrev pub texts_of : List (Option Ask) → List Reply → List (List ℕ × List Refusal) → List (List ℕ)
+texts_of [] replies lists = []
+texts_of (None ∷ later) replies lists = unread_text ∷ texts_of later replies lists
+texts_of (Some (ask.Command command) ∷ later) [] lists = []
+texts_of (Some (ask.Command command) ∷ later) (reply ∷ replies) lists = reply_text reply ∷ texts_of later replies lists
+texts_of (Some (ask.List its_list) ∷ later) replies [] = []
+texts_of (Some (ask.List its_list) ∷ later) replies (answer ∷ lists) = answer.0 ∷ texts_of later replies lists
+
+-- The failures that the books counted where these are the replies and the lists' answers, in order.
+abbrev pub failed_of : List (Option Ask) → List Reply → List (List ℕ × List Refusal) → List Refusal
+failed_of [] replies lists = []
+failed_of (None ∷ later) replies lists = failed_of later replies lists
+failed_of (Some (ask.Command command) ∷ later) [] lists = []
+failed_of (Some (ask.Command command) ∷ later) (reply ∷ replies) lists = counted_in reply (copies command) ++ failed_of later replies lists
+failed_of (Some (ask.List its_list) ∷ later) replies [] = []
+failed_of (Some (ask.List its_list) ∷ later) replies (answer ∷ lists) = answer.1 ++ failed_of later replies lists
+
+-- The commands of lines are a run, and the answers and the failures are those of its replies and of the lists' answers.
+abbrev pub LinesRun : History → Stream → List (List ℕ) → List (List ℕ) → List Refusal → History → Stream → Type 0
+LinesRun h s lines texts failed h' s' =
+    (replies : List Reply) × (lists : List (List ℕ × List Refusal)) × Runs h s (commands_of (map ask_in lines)) replies h' s'
+    × (texts ≡ texts_of (map ask_in lines) replies lists) × (failed ≡ failed_of (map ask_in lines) replies lists)
+
+-- The lines of a script are a run of their commands.
+abbrev pub ScriptsRun : Type 0
+ScriptsRun = (h h' : History) (s s' : Stream) (lines texts : List (List ℕ)) (failed : List Refusal)
+    → ScriptGoes h s lines texts failed h' s' → LinesRun h s lines texts failed h' s'
+
+-- Where a line asks for a list, the lines before it are a run to some history, the list is answered over that history, and the lines after it are a run from there.
+abbrev pub ListsBetween : Type 0
+ListsBetween = (h h' : History) (s s' : Stream) (before later : List (List ℕ)) (line : List ℕ) (its_list : ListAsk) (texts : List (List ℕ)) (failed : List Refusal)
+    → ScriptGoes h s (before ++ line ∷ later) texts failed h' s' → ask_in line ≡ Some (ask.List its_list)
+    → (mid : History) × (source : Stream) × (first : List (List ℕ)) × (text : List ℕ) × (rest : List (List ℕ)) × (failed_first failed_text failed_rest : List Refusal)
+    × LinesRun h s before first failed_first mid source × AnswersList (listing_over mid its_list) text failed_text × LinesRun mid source later rest failed_rest h' s'
+    × (texts ≡ first ++ text ∷ rest) × (failed ≡ failed_first ++ failed_text ++ failed_rest)

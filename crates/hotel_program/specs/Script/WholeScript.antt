@@ -1,0 +1,60 @@
+-- A script: its answered lines, one after the other.
+use Rattle.std.specs.Prelude.{◌≡◌, ◌≤◌, ℕ, length, take, List, [], ◌∷◌, ◌++◌, Option, IfSome, Result, Ok, Err, ⊤}
+use Rattle.std.specs.List.{concat}
+use Rattle.std.specs.Io.KnownBytes.{Appends}
+use Rattle.rand_core.specs.Stream.{Stream}
+use Rattle.keycard_rules.specs.declared.issued.LookFault.{LookFault}
+use Rattle.hotel_core.specs.declared.reply.Refusal.{Refusal}
+use Rattle.hotel_core.specs.Books.Failures.{AreCounted}
+use Rattle.hotel_core.specs.Model.History.{History}
+use Rattle.hotel_program.specs.Script.LineAnswers.{LineGoes}
+use Rattle.hotel_program.specs.declared.script.ScriptEnd.{ScriptEnd}
+use Rattle.hotel_program.specs.declared.script.ScriptFault.{ScriptFault}
+use Rattle.hotel_program.specs.declared.script.ScriptFault.TheVariants.{Read, TooLarge, Memory, Write}
+use Rattle.hotel_lists.specs.declared.bytes.WholeFault.{WholeFault}
+use Rattle.hotel_lists.specs.declared.bytes.WholeFault.TheVariants as whole
+
+-- The lines go in their order, each with its answer; the failures are theirs, in order.
+unfoldable pub ScriptGoes : History → Stream → List (List ℕ) → List (List ℕ) → List Refusal → History → Stream → Type 0
+ScriptGoes h s [] [] failed h' s' = (failed ≡ []) × (h' ≡ h) × (s' ≡ s)
+ScriptGoes h s (line ∷ later) (text ∷ texts) failed h' s' =
+    (mid : History) × (source : Stream) × (first : List Refusal) × (more : List Refusal)
+    × LineGoes h s line text first mid source × ScriptGoes mid source later texts more h' s' × (failed ≡ first ++ more)
+ScriptGoes h s [] (text ∷ texts) failed h' s' = ⊥
+ScriptGoes h s (line ∷ later) [] failed h' s' = ⊥
+
+-- Lines were answered: they went, their answers were written whole, and their failures were counted.
+abbrev pub ScriptAnswered : List (List ℕ) → Stream → Stream → Option (List ℕ) → Option (List ℕ) → (LookFault → ℕ) → (LookFault → ℕ) → History → History → Type 0
+ScriptAnswered lines s s' old new counts counts' h h' =
+    (texts : List (List ℕ)) × (failed : List Refusal) × ScriptGoes h s lines texts failed h' s' × Appends old new (concat texts) × AreCounted counts counts' failed
+
+-- Lines were cut short at the last one: they went, and their answers were written whole, but for the last one, of which a front was written.
+abbrev pub ScriptCut : List (List ℕ) → Stream → Stream → Option (List ℕ) → Option (List ℕ) → (LookFault → ℕ) → (LookFault → ℕ) → History → History → Type 0
+ScriptCut lines s s' old new counts counts' h h' =
+    (texts : List (List ℕ)) × (last : List ℕ) × (failed : List Refusal) × ScriptGoes h s lines (texts ++ last ∷ []) failed h' s'
+    × (n : ℕ) × (n ≤ length last) × Appends old new (concat texts ++ take n last) × AreCounted counts counts' failed
+
+-- The script is what the reader had, where its bytes are known, and at most 1,048,576 bytes.
+abbrev pub IsInput : Option (List ℕ) → List ℕ → Type 0
+IsInput known script = (length script ≤ 1048576) × IfSome known (λ input. script ≡ input)
+
+-- Where a write failed, this holds of the number of lines that were carried out.
+abbrev pub IfCut : Result ScriptEnd ScriptFault → (ℕ → Type 0) → Type 0
+IfCut (Err (Write done)) P = P done
+IfCut _ P = ⊤
+
+-- Where the script was not read whole, and so no line was begun, this holds.
+abbrev pub IfUnbegun : Result ScriptEnd ScriptFault → Type 0 → Type 0
+IfUnbegun (Ok end) P = ⊤
+IfUnbegun (Err (Write done)) P = ⊤
+IfUnbegun (Err fault) P = P
+
+-- The books, the source and the writer are as they were.
+abbrev pub NothingBegun : {B R W : Type 0} → B → B → R → R → W → W → Type 0
+NothingBegun books books' source source' writer writer' = (books' ≡ books) × (source' ≡ source) × (writer' ≡ writer)
+
+-- The fault of a script that was not read whole.
+abbrev pub fault_of : WholeFault → ScriptFault
+fault_of whole.Read = Read
+fault_of whole.TooLarge = TooLarge
+fault_of whole.Memory = Memory

@@ -1,0 +1,107 @@
+//! An audit file that is imported alone: its answers on one writer, and what went wrong on another.
+
+ghost use Rattle.std.specs.Prelude.{◌≡◌, ◌≢◌, true, IsErrOf, List, Bool, Result};
+ghost use Rattle.hotel_lists.specs.Calls.{NoneForgotten};
+ghost use Rattle.hotel_audit.specs.declared.answer.LineAnswer.{LineAnswer};
+ghost use Rattle.hotel_audit.specs.declared.importing.ImportFault.{ImportFault};
+ghost use Rattle.hotel_program.specs.Faults.{end_status, IsOfFiles, Tells};
+ghost use Rattle.hotel_program.specs.Alone.AuditRuns.{answers_status, file_fault, import_fault, audit_end, WritesAnswers, ImportEnds};
+
+use crate::faults::{Fault, FaultSink, finish};
+use crate::statuses::{DONE, REFUSED};
+use hotel_audit::{AuditFault, ImportFault, LineAnswer, import, write_answers};
+use hotel_core::Books;
+use hotel_lists::{IoCalls, WriteFailed};
+use keycard_rules::LookFault;
+use std::alloc::Global;
+use std::io::Write;
+
+/// The exit status that goes with answers.
+fn answers_status(answers: &[LineAnswer]) -> u8
+    ensures status { result ≡ answers_status answers.now }
+    ensures no_usage { result ≢ 2 }
+{
+    for answer in answers {
+        if let LineAnswer::Unread(_) | LineAnswer::Refused(_) = answer {
+            return REFUSED;
+        }
+    }
+    DONE
+}
+
+/// The fault of bytes that give no lines.
+fn file_fault(fault: AuditFault) -> Fault
+    ensures fault { result ≡ file_fault fault }
+    ensures no_usage { IsOfFiles result }
+{
+    match fault {
+        AuditFault::TooLarge => Fault::TooLarge,
+        AuditFault::NoHeader => Fault::NoHeader,
+        AuditFault::WrongHeader => Fault::WrongHeader,
+        AuditFault::Memory => Fault::Memory,
+    }
+}
+
+/// The fault of an import that has no answers.
+fn import_fault(fault: ImportFault) -> Fault
+    ensures fault { result ≡ import_fault fault }
+    ensures no_usage { IsOfFiles result }
+{
+    match fault {
+        ImportFault::File(why) => file_fault(why),
+        ImportFault::Memory { answered, .. } => Fault::Stopped {
+            answered,
+            by: LookFault::Memory,
+        },
+        ImportFault::Store { answered, .. } => Fault::Stopped {
+            answered,
+            by: LookFault::Store,
+        },
+    }
+}
+
+/// Imports an audit file and writes the texts of its answers. It answers the exit status, or the
+/// fault that came instead.
+fn import_and_write<B: Books, W: Write>(
+    alloc: Global,
+    bytes: &[u8],
+    books: &mut B,
+    writer: &mut W,
+    calls: &mut IoCalls,
+) -> Result<u8, Fault>
+    ensures ends { (outcome : Result (List LineAnswer) ImportFault) × (write_failed : Bool) × (result ≡ audit_end outcome write_failed)
+        × WritesAnswers W.contents writer.old writer.new outcome write_failed
+        × ImportEnds B.Issued B.rows bytes.now books.old books.new outcome }
+    ensures no_usage { end_status result ≢ 2 }
+    ensures failed { IsErrOf result Fault.Write → calls.new.write_failed ≡ true }
+    ensures calls { NoneForgotten calls.old calls.new }
+{
+    let answers = match import(alloc, books, bytes) {
+        Ok(answers) => answers,
+        Err(fault) => return Err(import_fault(fault)),
+    };
+    let answers = answers.as_slice();
+    match write_answers(writer, answers, calls) {
+        Ok(()) => Ok(answers_status(answers)),
+        Err(WriteFailed) => Err(Fault::Write),
+    }
+}
+
+/// Imports an audit file: writes the answers to its lines, and tells the fault that came instead. It
+/// answers the exit status. The interrupted writes of the call are counted together, on both writers.
+pub fn run_audit<B: Books, W: Write, F: FaultSink>(
+    alloc: Global,
+    bytes: &[u8],
+    books: &mut B,
+    writer: &mut W,
+    faults: &mut F,
+) -> u8
+    ensures ends { (outcome : Result (List LineAnswer) ImportFault) × (write_failed : Bool) × (result ≡ end_status (audit_end outcome write_failed))
+        × Tells F.told faults.old (audit_end outcome write_failed) faults.new × WritesAnswers W.contents writer.old writer.new outcome write_failed
+        × ImportEnds B.Issued B.rows bytes.now books.old books.new outcome }
+    ensures no_usage { result ≢ 2 }
+{
+    let mut calls = IoCalls::none();
+    let end = import_and_write(alloc, bytes, books, writer, &mut calls);
+    finish(end, faults, &mut calls)
+}

@@ -1,0 +1,102 @@
+//! The answer to a line of a script.
+
+ghost use Rattle.std.specs.Prelude.{◌≡◌, ◌≤◌, true, Some, OnOk, OnErr};
+ghost use Rattle.hotel_asks.specs.declared.asks.Ask.TheVariants as ask;
+ghost use Rattle.std.specs.Io.KnownBytes.{Appends};
+ghost use Rattle.keycard_rules.specs.Rise.{NoFewer};
+ghost use Rattle.hotel_core.specs.Books.Failures.{AreCounted};
+ghost use Rattle.hotel_lists.specs.Bytes.{AppendsFront};
+ghost use Rattle.hotel_lists.specs.Calls.{NoneForgotten};
+ghost use Rattle.hotel_core.specs.Model.Leads.{Leads};
+ghost use Rattle.hotel_program.specs.Script.LineAnswers.{LineAnswered, AskAnswered, answer_text};
+
+use crate::script::asks::{LineFault, read_line};
+use crate::script::list_answers::answer_list;
+use hotel_asks::Ask;
+use hotel_core::{Command, Refusal, Reply, Walks, reply_text, step};
+use hotel_lists::{IoCalls, WriteFailed, write_bytes};
+use rand_core::Rng;
+use std::alloc::Global;
+use std::io::Write;
+
+/// The answer to a line.
+#[derive(Clone, Copy, Debug)]
+pub enum ScriptAnswer {
+    /// The reply to the command that the line asks for.
+    Replied(Reply),
+    /// The line asks for no command; nothing was done.
+    Unread,
+}
+
+/// Writes the text of an answer. After a fault the writer took a front of it.
+fn write_answer<W: Write>(
+    writer: &mut W,
+    answer: &ScriptAnswer,
+    calls: &mut IoCalls,
+) -> Result<(), WriteFailed>
+    ensures ok { OnOk result (Appends (W.contents writer.old) (W.contents writer.new) (answer_text answer.now)) }
+    ensures err { OnErr result (AppendsFront (W.contents writer.old) (W.contents writer.new) (answer_text answer.now)) }
+    ensures failed { OnErr result (calls.new.write_failed ≡ true) }
+    ensures calls { NoneForgotten calls.old calls.new }
+{
+    match answer {
+        ScriptAnswer::Replied(reply) => { write_bytes(writer, reply_text(reply).as_bytes(), calls) }
+        ScriptAnswer::Unread => write_bytes(writer, b"unread\n", calls),
+    }
+}
+
+/// Carries out a command and writes the reply.
+fn answer_command<W: Write, B: Walks, R: Rng>(
+    command: &Command,
+    writer: &mut W,
+    books: &mut B,
+    source: &mut R,
+    calls: &mut IoCalls,
+) -> Result<(), WriteFailed>
+    ensures ok { B.is_clean books.new → OnOk result (Leads (B.rows books.old)
+        (AskAnswered (Some (ask.Command command.now)) (R.stream source.old) (R.stream source.new)
+        (Appends (W.contents writer.old) (W.contents writer.new)) (AreCounted (B.failures books.old) (B.failures books.new))) (B.rows books.new)) }
+    ensures err { B.is_clean books.new → OnErr result (Leads (B.rows books.old)
+        (AskAnswered (Some (ask.Command command.now)) (R.stream source.old) (R.stream source.new)
+        (AppendsFront (W.contents writer.old) (W.contents writer.new)) (AreCounted (B.failures books.old) (B.failures books.new))) (B.rows books.new)) }
+    ensures was_clean { B.is_clean books.new → B.is_clean books.old }
+    ensures counted { NoFewer (B.failures books.old) (B.failures books.new) }
+    ensures failed { OnErr result (calls.new.write_failed ≡ true) }
+    ensures calls { NoneForgotten calls.old calls.new }
+{
+    let answer = ScriptAnswer::Replied(step(books, source, command));
+    write_answer(writer, &answer, calls)
+}
+
+/// Reads a line, which is without its end, carries out its command, and writes the answer; of a list,
+/// the list itself. Where a growth of memory for the line is refused, nothing is done and the answer
+/// says so. After a fault the writer took a front of the answer.
+pub fn answer_line<W: Write, B: Walks, R: Rng>(
+    alloc: Global,
+    line: &[u8],
+    writer: &mut W,
+    books: &mut B,
+    source: &mut R,
+    calls: &mut IoCalls,
+) -> Result<(), WriteFailed>
+    ensures ok { B.is_clean books.new → OnOk result (Leads (B.rows books.old)
+        (LineAnswered line.now (R.stream source.old) (R.stream source.new)
+        (Appends (W.contents writer.old) (W.contents writer.new)) (AreCounted (B.failures books.old) (B.failures books.new))) (B.rows books.new)) }
+    ensures err { B.is_clean books.new → OnErr result (Leads (B.rows books.old)
+        (LineAnswered line.now (R.stream source.old) (R.stream source.new)
+        (AppendsFront (W.contents writer.old) (W.contents writer.new)) (AreCounted (B.failures books.old) (B.failures books.new))) (B.rows books.new)) }
+    ensures was_clean { B.is_clean books.new → B.is_clean books.old }
+    ensures counted { NoFewer (B.failures books.old) (B.failures books.new) }
+    ensures failed { OnErr result (calls.new.write_failed ≡ true) }
+    ensures calls { NoneForgotten calls.old calls.new }
+{
+    match read_line(alloc, line) {
+        Ok(Ask::Command(command)) => { answer_command(&command, writer, books, source, calls) }
+        Ok(Ask::List(list)) => answer_list(alloc, &list, writer, books, calls),
+        Err(LineFault::Unread) => write_answer(writer, &ScriptAnswer::Unread, calls),
+        Err(LineFault::Memory) => {
+            let answer = ScriptAnswer::Replied(Reply::Refused(Refusal::Memory));
+            write_answer(writer, &answer, calls)
+        }
+    }
+}

@@ -1,0 +1,404 @@
+//! Rows of whole tables as plain data.
+ghost use Rattle.std.specs.Prelude.{◌≡◌, ◌≢◌, ◌++◌, ℕ, Bool, List, IfOk, IfErr};
+ghost use Rattle.std.specs.declared.cmp.Ordering.{Ordering as Order};
+ghost use Rattle.sqlite.specs.Order.{Row as SqlRow};
+ghost use Rattle.hotel_statements.specs.PlainRows as plain;
+ghost use Rattle.hotel_statements.specs.Columns as columns;
+ghost use Rattle.hotel_statements.specs.Texts as texts;
+
+use crate::texts::{
+    READ_CARD, READ_CODE, READ_INSIDE, READ_KIND, READ_META, READ_NOTE, READ_ROOM, READ_STAY,
+};
+use hotel_rows::{PlainCard, PlainCode, PlainInside, PlainKind, PlainNote, PlainRoom, PlainStay};
+use sqlite::{Error, ErrorCode, Row};
+use std::cmp::Ordering;
+
+/// A row of a table as plain data.
+pub(crate) trait PlainRow: Sized {
+    /// The statement that reads the whole table.
+    ghost text: { List ℕ };
+
+    /// The number of the table's tree, and the columns of a row of it.
+    ghost tree: { ℕ };
+
+    ghost columns: { SqlRow → SqlRow };
+
+    /// The columns of the plain row, and as many of a row that a statement shows.
+    ghost shown: { Self → SqlRow };
+
+    ghost cut: { SqlRow → SqlRow };
+
+    fn text() -> &'static str
+        ensures { result.now ≡ text };
+
+    fn of_row(row: &Row) -> Result<Self, Error>
+        ensures shows { IfOk result (λ plain. shown plain ≡ cut row.now) }
+        ensures unread { IfErr result (λ e. e ≢ Error.SqliteFailure ErrorCode.OutOfMemory → (l : Self) (more : SqlRow) → shown l ++ more ≢ row.now) };
+}
+
+/// A row of a table by its key, and whether its numbers are such as the books write.
+pub trait Plain: Sized {
+    /// The order of the keys.
+    ghost order: { Self → Self → Order };
+
+    /// No number of it is below 0.
+    ghost natural: { Self → Bool };
+
+    fn compare(&self, other: &Self) -> Ordering
+        ensures { result ≡ order self.now other.now };
+
+    fn is_natural(&self) -> bool
+        ensures { result ≡ natural self.now };
+}
+
+/// The row of meta.
+#[derive(Clone, Copy, Debug)]
+pub struct PlainMeta {
+    pub id: i64,
+    pub version: i64,
+    pub day: Option<i64>,
+}
+
+/// A row of the table of cards that are inside, with the number of the row.
+#[derive(Clone, Copy, Debug)]
+pub struct NumberedInside {
+    pub id: i64,
+    pub plain: PlainInside,
+}
+
+fn is_natural(n: i64) -> bool
+    ensures { result ≡ plain.is_natural n }
+{
+    n >= 0
+}
+
+/// Whether a number that may be null is not below 0.
+pub fn may_be_natural(n: Option<i64>) -> bool
+    ensures { result ≡ plain.may_be_natural n }
+{
+    match n {
+        Some(n) => is_natural(n),
+        None => true,
+    }
+}
+
+impl PlainRow for PlainMeta {
+    ghost text = { texts.read_meta };
+
+    ghost tree = { 0 };
+
+    ghost columns = { columns.meta_columns };
+
+    ghost shown = { plain.meta_shown };
+
+    ghost cut = { plain.first_three };
+
+    fn text() -> &'static str {
+        READ_META
+    }
+
+    fn of_row(row: &Row) -> Result<PlainMeta, Error> {
+        Ok(PlainMeta {
+            id: row.get(0)?,
+            version: row.get(1)?,
+            day: row.get(2)?,
+        })
+    }
+}
+
+impl PlainRow for PlainKind {
+    ghost text = { texts.read_kind };
+
+    ghost tree = { 1 };
+
+    ghost columns = { columns.kind_columns };
+
+    ghost shown = { plain.kind_shown };
+
+    ghost cut = { plain.first_one };
+
+    fn text() -> &'static str {
+        READ_KIND
+    }
+
+    fn of_row(row: &Row) -> Result<PlainKind, Error> {
+        Ok(PlainKind { kind: row.get(0)? })
+    }
+}
+
+impl PlainRow for PlainRoom {
+    ghost text = { texts.read_room };
+
+    ghost tree = { 3 };
+
+    ghost columns = { columns.room_columns };
+
+    ghost shown = { plain.room_shown };
+
+    ghost cut = { plain.first_seven };
+
+    fn text() -> &'static str {
+        READ_ROOM
+    }
+
+    fn of_row(row: &Row) -> Result<PlainRoom, Error> {
+        Ok(PlainRoom {
+            room: row.get(0)?,
+            kind: row.get(1)?,
+            lock_place: row.get(2)?,
+            codes: row.get(3)?,
+            secured: row.get(4)?,
+            party: row.get(5)?,
+            notes: row.get(6)?,
+        })
+    }
+}
+
+impl PlainRow for PlainStay {
+    ghost text = { texts.read_stay };
+
+    ghost tree = { 5 };
+
+    ghost columns = { columns.stay_columns };
+
+    ghost shown = { plain.stay_shown };
+
+    ghost cut = { plain.first_seven };
+
+    fn text() -> &'static str {
+        READ_STAY
+    }
+
+    fn of_row(row: &Row) -> Result<PlainStay, Error> {
+        Ok(PlainStay {
+            party: row.get(0)?,
+            guest: row.get(1)?,
+            kind: row.get(2)?,
+            arrive: row.get(3)?,
+            depart: row.get(4)?,
+            state: row.get(5)?,
+            room: row.get(6)?,
+        })
+    }
+}
+
+impl PlainRow for PlainCode {
+    ghost text = { texts.read_code };
+
+    ghost tree = { 6 };
+
+    ghost columns = { columns.code_columns };
+
+    ghost shown = { plain.code_shown };
+
+    ghost cut = { plain.first_three };
+
+    fn text() -> &'static str {
+        READ_CODE
+    }
+
+    fn of_row(row: &Row) -> Result<PlainCode, Error> {
+        Ok(PlainCode {
+            code: row.get(0)?,
+            room: row.get(1)?,
+            place: row.get(2)?,
+        })
+    }
+}
+
+impl PlainRow for PlainCard {
+    ghost text = { texts.read_card };
+
+    ghost tree = { 8 };
+
+    ghost columns = { columns.card_columns };
+
+    ghost shown = { plain.card_shown };
+
+    ghost cut = { plain.first_four };
+
+    fn text() -> &'static str {
+        READ_CARD
+    }
+
+    fn of_row(row: &Row) -> Result<PlainCard, Error> {
+        Ok(PlainCard {
+            number: row.get(0)?,
+            party: row.get(1)?,
+            old_code: row.get(2)?,
+            new_code: row.get(3)?,
+        })
+    }
+}
+
+impl PlainRow for NumberedInside {
+    ghost text = { texts.read_inside };
+
+    ghost tree = { 9 };
+
+    ghost columns = { plain.numbered_columns };
+
+    ghost shown = { plain.numbered_shown };
+
+    ghost cut = { plain.first_three };
+
+    fn text() -> &'static str {
+        READ_INSIDE
+    }
+
+    fn of_row(row: &Row) -> Result<NumberedInside, Error> {
+        Ok(NumberedInside {
+            id: row.get(0)?,
+            plain: PlainInside {
+                room: row.get(1)?,
+                card: row.get(2)?,
+            },
+        })
+    }
+}
+
+impl PlainRow for PlainNote {
+    ghost text = { texts.read_note };
+
+    ghost tree = { 11 };
+
+    ghost columns = { columns.note_columns };
+
+    ghost shown = { plain.note_shown };
+
+    ghost cut = { plain.first_eight };
+
+    fn text() -> &'static str {
+        READ_NOTE
+    }
+
+    fn of_row(row: &Row) -> Result<PlainNote, Error> {
+        Ok(PlainNote {
+            room: row.get(0)?,
+            n: row.get(1)?,
+            act: row.get(2)?,
+            card: row.get(3)?,
+            first_code: row.get(4)?,
+            second_code: row.get(5)?,
+            day: row.get(6)?,
+            second: row.get(7)?,
+        })
+    }
+}
+
+impl Plain for PlainKind {
+    ghost order = { plain.kind_order };
+
+    ghost natural = { plain.kind_natural };
+
+    fn compare(&self, other: &PlainKind) -> Ordering {
+        self.kind.as_bytes().cmp(other.kind.as_bytes())
+    }
+
+    fn is_natural(&self) -> bool {
+        true
+    }
+}
+
+impl Plain for PlainRoom {
+    ghost order = { plain.room_order };
+
+    ghost natural = { plain.room_natural };
+
+    fn compare(&self, other: &PlainRoom) -> Ordering {
+        self.room.cmp(&other.room)
+    }
+
+    fn is_natural(&self) -> bool {
+        is_natural(self.room)
+            && is_natural(self.lock_place)
+            && is_natural(self.codes)
+            && is_natural(self.secured)
+            && may_be_natural(self.party)
+            && is_natural(self.notes)
+    }
+}
+
+impl Plain for PlainStay {
+    ghost order = { plain.stay_order };
+
+    ghost natural = { plain.stay_natural };
+
+    fn compare(&self, other: &PlainStay) -> Ordering {
+        self.party.cmp(&other.party)
+    }
+
+    fn is_natural(&self) -> bool {
+        is_natural(self.party)
+            && is_natural(self.arrive)
+            && is_natural(self.depart)
+            && is_natural(self.state)
+            && may_be_natural(self.room)
+    }
+}
+
+impl Plain for PlainCode {
+    ghost order = { plain.code_order };
+
+    ghost natural = { plain.code_natural };
+
+    fn compare(&self, other: &PlainCode) -> Ordering {
+        self.code.cmp(&other.code)
+    }
+
+    fn is_natural(&self) -> bool {
+        is_natural(self.code) && is_natural(self.room) && is_natural(self.place)
+    }
+}
+
+impl Plain for PlainCard {
+    ghost order = { plain.card_order };
+
+    ghost natural = { plain.card_natural };
+
+    fn compare(&self, other: &PlainCard) -> Ordering {
+        self.number.cmp(&other.number)
+    }
+
+    fn is_natural(&self) -> bool {
+        is_natural(self.number)
+            && is_natural(self.party)
+            && is_natural(self.old_code)
+            && is_natural(self.new_code)
+    }
+}
+
+impl Plain for PlainInside {
+    ghost order = { plain.inside_order };
+
+    ghost natural = { plain.inside_natural };
+
+    fn compare(&self, other: &PlainInside) -> Ordering {
+        (self.room, self.card).cmp(&(other.room, other.card))
+    }
+
+    fn is_natural(&self) -> bool {
+        is_natural(self.room) && is_natural(self.card)
+    }
+}
+
+impl Plain for PlainNote {
+    ghost order = { plain.note_order };
+
+    ghost natural = { plain.note_natural };
+
+    fn compare(&self, other: &PlainNote) -> Ordering {
+        (self.room, self.n).cmp(&(other.room, other.n))
+    }
+
+    fn is_natural(&self) -> bool {
+        is_natural(self.room)
+            && is_natural(self.n)
+            && is_natural(self.act)
+            && may_be_natural(self.card)
+            && is_natural(self.first_code)
+            && is_natural(self.second_code)
+            && is_natural(self.day)
+            && is_natural(self.second)
+    }
+}
