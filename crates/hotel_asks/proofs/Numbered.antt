@@ -2,8 +2,9 @@
 use Rattle.std.proofs.Common.{◌≡◌, ℕ, ◌&&◌, Bool, true, false, if◌then◌else◌, List, [], ◌∷◌, length, arith, Option, Some, None, Result, Ok, Err, subst, sym}
 use Rattle.std.specs.Option.{ok_or}
 use Rattle.std.specs.Str.{is_utf8}
+use Rattle.keycard_rules.specs.Results.{◌>>=◌}
 use Rattle.hotel_nights.specs.{Days.read_day, Guests.is_guest, Kinds.read_kind, Moments.read_moment}
-use Rattle.hotel_asks.specs.{Asks.ask_of, Asks.link_in, Asks.card_note_of, Names.names_of, Values.IsReading, Values.guest_in, Values.◌>>=◌, declared.asks.Ask.Ask}
+use Rattle.hotel_asks.specs.{Asks.ask_of, Asks.link_in, Asks.card_note_of, Names.names_of, Values.IsReading, Values.guest_in, declared.asks.Ask.Ask}
 use Rattle.keycard_rules.specs.Numerals.{number_up_to, read_code}
 use Rattle.hotel_asks.specs.declared.values.ValueName.TheVariants.{Day, Kind, Arrive, Nights, Guest, Room, Party, Card, Count, Old, New, From, To, Moment}
 use Rattle.hotel_asks.specs.{declared.values.AskFault.AskFault, declared.values.AskFault.TheVariants.Values, declared.values.ValueFault.ValueFault}

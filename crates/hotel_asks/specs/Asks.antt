@@ -1,5 +1,6 @@
 -- What a verb and the texts of its values ask for. The values are read from left to right.
 use Rattle.std.specs.Prelude.{ℕ, Bool, true, false, List, [], ◌∷◌, Result, Ok, Err}
+use Rattle.keycard_rules.specs.Results.{◌>>=◌}
 use Rattle.keycard_rules.specs.{declared.card.Link.Link, declared.note.Act.Act}
 use Rattle.keycard_rules.specs.declared.note.Act.TheVariants as act
 use Rattle.hotel_core.specs.declared.command.Command.{Command}
@@ -10,7 +11,7 @@ use Rattle.hotel_asks.specs.declared.lists.ListAsk.TheVariants as list
 use Rattle.hotel_asks.specs.declared.values.ValueName.TheVariants.{Day, Arrive, Old, New, From, To}
 use Rattle.hotel_asks.specs.declared.verbs.Verb.{Verb}
 use Rattle.hotel_asks.specs.declared.verbs.Verb.TheVariants.{Begin, AddKind, AddRoom, Reserve, Cancel, CheckIn, Spare, Transfer, CheckOut, NextDay, Entered, Left, Recoded, Arrivals, InHouse, ChainOf, LeftBehind, AuditOf}
-use Rattle.hotel_asks.specs.Values.{day_in, code_in, kind_in, nights_in, guest_in, room_in, party_in, card_in, count_in, moment_in, ◌>>=◌}
+use Rattle.hotel_asks.specs.Values.{day_in, code_in, kind_in, nights_in, guest_in, room_in, party_in, card_in, count_in, moment_in}
 
 -- A verb without values.
 abbrev pub of_none : Verb → Result Ask ValueFault

@@ -40,11 +40,6 @@ count_in text = ok_or (number_up_to 9999999 text) (Value Count)
 abbrev pub moment_in : List ℕ → Result (ℕ × ℕ) ValueFault
 moment_in text = ok_or (read_moment text) (Value Moment)
 
-infixl 10 ◌>>=◌
-abbrev pub ◌>>=◌ : {A B : Type 0} → Result A ValueFault → (A → Result B ValueFault) → Result B ValueFault
-(Ok a) >>= f = f a
-(Err e) >>= f = Err e
-
 -- A value is wanted, and it is one whose reading copies a text.
 abbrev pub IsCopy : {A : Type 0} → (A → Bool) → Result A ValueFault → Type 0
 IsCopy copied (Ok a) = copied a ≡ true

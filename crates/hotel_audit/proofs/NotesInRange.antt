@@ -16,7 +16,8 @@ use Rattle.hotel_audit.specs.declared.line.Cause.TheVariants.{BadRoom, BadCount,
 use Rattle.hotel_audit.specs.{declared.line.Happening.Happening, declared.line.Line.Line, AuditFile.audit_lines, AuditFile.file_records, AuditFile.lines_of}
 use Rattle.hotel_audit.specs.declared.line.Line.TheVariants as line
 use Rattle.hotel_audit.specs.{Fields.FieldTexts, Fields.seven_fields, Header.is_header, Import.commands_of}
-use Rattle.hotel_audit.specs.Line.{act_of, happening, line_of, line_with, read_line, ◌>>=◌}
+use Rattle.keycard_rules.specs.Results.{◌>>=◌}
+use Rattle.hotel_audit.specs.Line.{act_of, happening, line_of, line_with, read_line}
 
 -- where there is a value, the test held, and it is this value
 given : {A : Type 0} (b : Bool) (a c : A) → (if b then Some a else None) ≡ Some c → (b ≡ true) × (a ≡ c)

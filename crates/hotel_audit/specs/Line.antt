@@ -4,18 +4,13 @@ use Rattle.std.specs.Option.{ok_or}
 use Rattle.std.specs.Str.{bytes_eq}
 use Rattle.keycard_rules.specs.{Note.Note, Numerals.number_up_to, Numerals.read_code, declared.card.Link.Link, declared.note.Act.Act}
 use Rattle.keycard_rules.specs.declared.note.Act.TheVariants.{Entered, Left, Recoded}
+use Rattle.keycard_rules.specs.Results.{◌>>=◌}
 use Rattle.hotel_nights.specs.Moments.{read_moment}
 use Rattle.hotel_audit.specs.{declared.line.Cause.Cause, declared.line.Happening.Happening}
 use Rattle.hotel_audit.specs.declared.line.Cause.TheVariants.{FieldCount, BadRoom, BadCount, BadKind, BadCard, BadOld, BadNew, BadMoment}
 use Rattle.hotel_audit.specs.{declared.line.Happening.TheVariants.In, declared.line.Happening.TheVariants.Out, declared.line.Happening.TheVariants.Recode, declared.line.Line.Line}
 use Rattle.hotel_audit.specs.declared.line.Line.TheVariants as line
 use Rattle.hotel_audit.specs.Fields.{FieldTexts, seven_fields}
-
--- what a value leads to; the first cause is the answer
-infixl 10 ◌>>=◌
-abbrev pub ◌>>=◌ : {A B : Type 0} → Result A Cause → (A → Result B Cause) → Result B Cause
-(Ok a) >>= f = f a
-(Err cause) >>= f = Err cause
 
 -- the number of a card
 abbrev pub card_in : List ℕ → Result ℕ Cause

@@ -8,8 +8,9 @@ pub use Rattle.hotel_core.specs.KindRooms.{is_there, rooms_in}
 pub use Rattle.hotel_core.specs.Memory.{HaveCardNumbers, HaveCounts, HaveRoomNumbers, LaterPlacesFree, PlacesAgree, RoomsKnown, CountsNightsOf, TablesAgree}
 pub use Rattle.hotel_core.specs.Model.Answer.{checks, effect, reported, told}
 unfoldable pub use Rattle.hotel_core.specs.Model.Answer.{answer_to}
-pub use Rattle.hotel_core.specs.Model.Cards.{card_of, cards, link_of_party, link_to, newest_link, with_spare}
-pub use Rattle.hotel_core.specs.Model.Cases.{cards_used_up, has_link, is_begun, is_booked, is_booked_state, is_card, is_home, is_in_house, is_kind, is_of_kind, is_party, is_room, is_taken, last_card_of, next_card, next_party, no_link, opens, parties_used_up, room_of, room_of_state, today}
+pub use Rattle.hotel_core.specs.Model.Cards.{card_of, cards, link_of_party, link_to, newest_link, same_link, with_spare}
+pub use Rattle.hotel_core.specs.Model.Cases.{cards_used_up, has_link, is_begun, is_booked, is_card, is_home, is_in_house, is_kind, is_of_kind, is_party, is_room, is_taken, last_card_of, next_card, next_party, no_link, opens, parties_used_up, room_of, today}
+pub use Rattle.hotel_core.specs.Model.Stays.{day, first_full, in_state, is_booked_state, kinds, nights, now_is, room_of_state, rooms, rooms_of, stays}
 pub use Rattle.hotel_core.specs.Model.Event.{Begun, Cancelled, CheckIn, CheckOut, Entered, Event, Install, Kind, Left, Moment, NextDay, Recoded, Reserved, Spare, Transfer, note_of, moment_of}
 pub use Rattle.hotel_core.specs.Model.Guests.{are_none, inside, insiders, leaves, registered, secured, those_in}
 pub use Rattle.hotel_core.specs.Model.Headline.{Assured, Headline, LedgerHolds, NewestOpens, NoCodeTwice, OpensOwnRoom, SafeRoom, TakesTheFirst}
@@ -18,7 +19,7 @@ pub use Rattle.hotel_core.specs.Model.Issued.{all_issued, current, is_fresh, iss
 pub use Rattle.hotel_core.specs.Model.Laws.{IsRun, NoneFailed, RunsTo}
 pub use Rattle.hotel_core.specs.Model.Ledger.{awaited, passed, turns}
 pub use Rattle.hotel_core.specs.Model.Lock.{held}
-pub use Rattle.hotel_core.specs.Model.Notes.{After, Conflicting, Copy, Next, Standing, all_notes, and_note, notes, same_link, same_note, standing, standing_among, with_note}
+pub use Rattle.hotel_core.specs.Model.Notes.{After, Conflicting, Copy, Next, Standing, all_notes, and_note, notes, same_note, standing, standing_among, with_note}
 pub use Rattle.hotel_core.specs.Model.Outcome.{Outcome, accepted, bars, by_draw, grown, needs, refused, said, unless}
 pub use Rattle.hotel_core.specs.Model.Ranges.{InRange, IsCommand, IsReply}
 pub use Rattle.hotel_core.specs.Model.Rows.{Rows, at_number, codes_at, codes_by_place, first_of, has_kind, last_link_of, link_of_last_card, lock_place_of, notes_at, or_else}
@@ -27,7 +28,6 @@ pub use Rattle.hotel_core.specs.Model.Run.{Ran, Reached, Runs, StandsFor, Steps,
 pub use Rattle.hotel_core.specs.Model.Sound.{IsSound, keys_in_order, passes_rules}
 pub use Rattle.hotel_core.specs.Model.SoundCards.{act_fits, are_neighbours, card_is, card_numbers, card_parties_there, code_is, code_rooms_there, codes_in_range, codes_listed, comes_later, counts_at, each_card, fits_inside, has_link_at, has_newest, insides_fit, is_newest, last_cards_newest, links_are_neighbours, links_of_one_party, neighbours_are_links, newest_of_party, note_fits, notes_counted, notes_fit, owns_newest, places_once, room_is, stands_at}
 pub use Rattle.hotel_core.specs.Model.SoundRooms.{are_in_order, codes_few, count_up, day_before_kinds, day_in_range, each_room, guests_read, has_party, is_day, is_home_of, kinds_read, lock_places, nights_fit, note_counts, parties_in_house, room_kinds_there, room_numbers, rooms_with, secured_hold_last, stay_days, stay_kinds_there, stay_numbers, stay_rooms, stays_on}
-pub use Rattle.hotel_core.specs.Model.Stays.{day, first_full, in_state, kinds, nights, now_is, rooms, rooms_of, stays}
 pub use Rattle.hotel_core.specs.Model.Words.{after, and_last, before, is_one_of, is_that, last_of, pair_cmp, said_of, when, without}
 pub use Rattle.hotel_core.specs.NightIndex.{block_at, block_cmp, counted, spans}
 pub use Rattle.hotel_core.specs.Refinement.ChangeOf.{change_of, comes}

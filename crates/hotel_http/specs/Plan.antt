@@ -2,16 +2,12 @@
 use Rattle.std.specs.Prelude.{ℕ, Bool, ◌&&◌, List, take, map, Option, Some, None, Result, Ok, Err, ◌==◌, nat_lt, codes, if◌then◌else◌, slice_index}
 use Rattle.std.specs.List.{position_or_len}
 use Rattle.std.specs.Str.{bytes_eq}
+use Rattle.keycard_rules.specs.Results.{◌>>=◌}
 use Rattle.httparse.specs.{Grammar.RequestHead, Spans.name_and_value}
 use Rattle.hotel_http.specs.{Fields.Pair, Fields.framing, Fields.expects_continue, Routes.target_of, Routes.method_of, declared.rejection.Method.Method}
 use Rattle.hotel_http.specs.{declared.rejection.Method.TheVariants.Get, declared.rejection.Method.TheVariants.Post, declared.rejection.Rejection.Rejection}
 use Rattle.hotel_http.specs.declared.rejection.Rejection.TheVariants.{BadRequest, NotFound, WrongMethod}
 use Rattle.hotel_http.specs.{declared.routes.Target.Target, declared.plan.Plan.Plan}
-
-infixl 10 ◌>>=◌
-abbrev pub ◌>>=◌ : {A B : Type 0} → Result A Rejection → (A → Result B Rejection) → Result B Rejection
-(Ok a) >>= f = f a
-(Err why) >>= f = Err why
 
 -- the path of a target: what stands before the first question mark
 abbrev pub path_of : List ℕ → List ℕ

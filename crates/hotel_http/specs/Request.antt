@@ -7,7 +7,8 @@ use Rattle.hotel_lists.specs.declared.bytes.ReadFault.TheVariants as more
 use Rattle.hotel_http.specs.{declared.plan.Plan.Plan, declared.rejection.Rejection.Rejection, declared.requests.Request.Request, declared.requests.RequestFault.RequestFault}
 use Rattle.hotel_http.specs.declared.rejection.Rejection.TheVariants as rejection
 use Rattle.hotel_http.specs.declared.requests.RequestFault.TheVariants.{Closed, Read, Memory, Write}
-use Rattle.hotel_http.specs.{declared.tasks.Task.Task, Body.interim_text, Body.interim_where, Head.BeginsWith, Head.IsBad, Head.IsTooLarge, Plan.plan_in, Plan.path_of, Plan.◌>>=◌}
+use Rattle.keycard_rules.specs.Results.{◌>>=◌}
+use Rattle.hotel_http.specs.{declared.tasks.Task.Task, Body.interim_text, Body.interim_where, Head.BeginsWith, Head.IsBad, Head.IsTooLarge, Plan.plan_in, Plan.path_of}
 use Rattle.hotel_http.specs.Tasks.{task_in, reads_form}
 
 -- What a request comes to: a task with the body that came with it, or why nothing is asked.

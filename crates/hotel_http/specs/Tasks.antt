@@ -1,16 +1,12 @@
 -- What a route asks for, by its path and the form behind the head.
 use Rattle.std.specs.Prelude.{ℕ, ◌+◌, ◌==◌, Bool, true, false, List, [], ◌∷◌, take, drop, codes, Option, Some, None, Result, Ok, Err}
 use Rattle.std.specs.List.{position_or_len}
+use Rattle.hotel_nights.specs.Days.{◌>>=◌}
 use Rattle.hotel_asks.specs.{declared.asks.Ask.Ask, declared.verbs.Verb.Verb, declared.values.ValueFault.ValueFault, Asks.ask_of}
 use Rattle.hotel_asks.specs.declared.verbs.Verb.TheVariants.{Begin, AddKind, AddRoom, Reserve, Cancel, CheckIn, Spare, Transfer, CheckOut, NextDay, Entered, Left, Recoded, Arrivals, InHouse, ChainOf, LeftBehind, AuditOf}
 use Rattle.hotel_http.specs.{declared.routes.Target.Target, declared.tasks.Task.Task, Form.form_text}
 use Rattle.hotel_http.specs.declared.routes.Target.TheVariants as target
 use Rattle.hotel_http.specs.declared.tasks.Task.TheVariants as task
-
-infixl 10 ◌>>=◌
-abbrev pub ◌>>=◌ : {A B : Type 0} → Option A → (A → Option B) → Option B
-(Some a) >>= f = f a
-None >>= f = None
 
 -- what stands behind the first slash
 abbrev pub after_slash : List ℕ → List ℕ

@@ -3,7 +3,7 @@ use Rattle.std.proofs.Common.{◌≡◌, ◌∙◌, ℕ, ◌+◌, ◌<◌, List,
 use Rattle.std.proofs.lemmas.List.{take-append-drop, append_assoc}
 use Rattle.std.proofs.lemmas.Grind.{take_at_read}
 use Rattle.clap.specs.Words.{Row, Text}
-use Rattle.hotel_asks.specs.Values.{◌>>=◌}
+use Rattle.keycard_rules.specs.Results.{◌>>=◌}
 use Rattle.hotel_asks.specs.declared.values.ValueFault.{ValueFault}
 use Rattle.hotel_asks.specs.declared.values.ValueName.{ValueName}
 use Rattle.hotel_program.specs.declared.command_line.plan.UsageFault.{UsageFault}

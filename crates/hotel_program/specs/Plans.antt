@@ -6,7 +6,7 @@ use Rattle.clap.specs.Words.{Row, Text, first_of}
 use Rattle.keycard_rules.specs.Numerals.{number_up_to}
 use Rattle.hotel_asks.specs.Asks.{ask_of}
 use Rattle.hotel_asks.specs.Names.{name_text, names_of}
-use Rattle.hotel_asks.specs.Values.{◌>>=◌}
+use Rattle.keycard_rules.specs.Results.{◌>>=◌}
 use Rattle.hotel_asks.specs.Verbs.{read_verb}
 use Rattle.hotel_asks.specs.declared.asks.Ask.{Ask}
 use Rattle.hotel_asks.specs.declared.asks.Ask.TheVariants as ask

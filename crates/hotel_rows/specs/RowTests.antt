@@ -13,14 +13,14 @@ use Rattle.hotel_core.specs.declared.books.rows.RoomRow.{RoomRow}
 use Rattle.hotel_core.specs.declared.books.rows.CodeRow.{CodeRow}
 use Rattle.hotel_core.specs.Model.Words.{said_of}
 use Rattle.hotel_core.specs.Model.Rows.{Rows, has_kind, at_number}
-use Rattle.hotel_core.specs.Model.Cases.{room_of_state}
+use Rattle.hotel_core.specs.Model.Stays.{room_of_state}
 use Rattle.hotel_core.specs.Model.SoundRooms.{is_home_of, is_day, has_party}
 use Rattle.hotel_core.specs.Model.SoundCards.{are_neighbours, comes_later, code_is, room_is, card_is, stands_at, act_fits, fits_inside, is_newest, has_newest}
 use Rattle.hotel_rows.specs.declared.stored.PlainRoom.{PlainRoom}
 use Rattle.hotel_rows.specs.declared.stored.PlainStay.{PlainStay}
 use Rattle.hotel_rows.specs.declared.stored.PlainCode.{PlainCode}
 use Rattle.hotel_rows.specs.declared.stored.PlainCard.{PlainCard}
-use Rattle.hotel_core.specs.Model.Notes.{same_link}
+use Rattle.hotel_core.specs.Model.Cards.{same_link}
 use Rattle.hotel_rows.specs.declared.stored.PlainNote.{PlainNote}
 use Rattle.hotel_rows.specs.declared.stored.Stored.{Stored}
 use Rattle.hotel_rows.specs.Stored.{number_of, room_row, stay_row, note_row, link_row, rows_of}
@@ -134,4 +134,4 @@ inside_fits rows e = room_is rows e.0 (λ row. card_is rows e.1 (fits_inside row
 abbrev pub plain_note_fits : Rows → PlainNote → Bool
 plain_note_fits rows plain =
     note_columns plain && is_some (at_number rows.rooms (number_of plain.room)) && act_fits rows (number_of plain.room) (note_row plain).act && is_day (number_of plain.day)
-    && nat_lt (number_of plain.second) 86400
+    && nat_le (number_of plain.second) 86399

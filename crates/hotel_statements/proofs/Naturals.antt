@@ -5,7 +5,7 @@ use Rattle.std.proofs.lemmas.Bool.{cases_Bool, false≢true}
 use Rattle.std.proofs.lemmas.Bool.Decides.{nat_tests}
 use Rattle.sqlite_value.specs.declared.value.Value.TheVariants.{Int}
 use Rattle.sqlite.specs.Order.{Row}
-use Rattle.hotel_core.specs.Model.Cases.{room_of_state}
+use Rattle.hotel_core.specs.Model.Stays.{room_of_state}
 use Rattle.hotel_core.proofs.OfTables.Tests.{and_true}
 use Rattle.hotel_statements.specs.declared.plain_rows.PlainMeta.{PlainMeta}
 use Rattle.hotel_rows.specs.declared.stored.PlainKind.{PlainKind}

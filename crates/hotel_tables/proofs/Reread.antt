@@ -23,7 +23,7 @@ use Rattle.keycard_rules.specs.declared.note.Act.TheVariants.{Entered, Left, Rec
 use Rattle.hotel_nights.specs.declared.stay.StayState.{StayState}
 use Rattle.hotel_nights.specs.declared.stay.StayState.TheVariants.{Booked, InHouse, Done, Cancelled}
 use Rattle.hotel_core.specs.Model.Words.{pair_cmp}
-use Rattle.hotel_core.specs.Model.Cases.{room_of_state}
+use Rattle.hotel_core.specs.Model.Stays.{room_of_state}
 use Rattle.hotel_core.specs.Model.Sound.{IsSound, keys_in_order}
 use Rattle.hotel_core.specs.Model.SoundRooms.{are_in_order}
 use Rattle.hotel_core.proofs.OfTables.Tests.{and_true}

@@ -1,4 +1,5 @@
 pub mod Words
+pub mod Results
 pub mod Numerals
 pub mod Numbers
 pub mod Lock

@@ -1,5 +1,5 @@
 -- Notes: their counts, and that what they say fits their rooms.
-use Rattle.std.proofs.Common.{ℕ, ◌≡◌, ◌<◌, true, Some, List, ◌∷◌, ◌++◌, length, ap, sym, ◌∙◌, subst, append_assoc, arith, length-append, ◌&&◌, is_some, nat_lt}
+use Rattle.std.proofs.Common.{ℕ, ◌≡◌, ◌<◌, true, Some, List, ◌∷◌, ◌++◌, length, ap, sym, ◌∙◌, subst, append_assoc, arith, length-append, ◌&&◌, is_some, nat_le}
 use Rattle.hotel_core.proofs.Names.{Card, Link, Act, Note, IsTimed, CodeRow, is_one_of, before, after, at_number, Event, Moment, Entered, Left, Recoded, note_of, History, ◌▷◌, issued, all_issued, cards, held, passed, awaited, same_link, rows_of, is_room, Reached, is_day, count_up, code_is, are_neighbours, stands_at, comes_later, has_link_at, act_fits, note_fits, notes_fit, counts_at, notes_counted, list_all}
 use Rattle.keycard_rules.specs.declared.note.Act.TheVariants as act
 use Rattle.hotel_core.proofs.{Facts.CodeFacts.IsLinkOf, OfTables.Tests.eq_from, OfTables.Tests.eq_self, OfTables.Tests.and_true, OfTables.Grown.may_follow}
@@ -41,7 +41,7 @@ act_on h event room (act.Recoded from to) ok t =
 
 note_on : (h : History) (event : Event) (e : (ℕ × ℕ) × Note) → Reached (h ▷ event) → note_fits (rows_of h) e ≡ true → note_fits (rows_of (h ▷ event)) e ≡ true
 note_on h event e ok t =
-    let a = and_true _ (nat_lt e.1.second 86400) t in
+    let a = and_true _ (nat_le e.1.second 86399) t in
     let b = and_true _ (is_day e.1.day) a.0 in
     let c = and_true _ (act_fits (rows_of h) e.0.0 e.1.act) b.0 in
     let d = and_true _ (is_some (at_number (rows_of h).rooms e.0.0)) c.0 in
@@ -51,8 +51,7 @@ note_on h event e ok t =
 -- a note fits where its room is there, what it says fits, and its time is one
 new_fits : (h : History) (note : Note) → is_room h note.room ≡ true → act_fits (rows_of h) note.room note.act ≡ true → IsTimed note.day note.second → note_fits (rows_of h) ((note.room, note.count), note) ≡ true
 new_fits h note there fits timed =
-    let second : note.second < 86400 = let le = timed.1 in omega arith in
-    both _ _ (both _ _ (both _ _ (both _ _ (both _ _ (eq_self note.room) (eq_self note.count)) (room_has_row h note.room there)) fits) (le_tested note.day 36524 timed.0)) (lt_tested note.second 86400 second)
+    both _ _ (both _ _ (both _ _ (both _ _ (both _ _ (eq_self note.room) (eq_self note.count)) (room_has_row h note.room there)) fits) (le_tested note.day 36524 timed.0)) (le_tested note.second 86399 timed.1)
 
 -- a card with the link of a room
 link_fits : (h : History) → Reached h → (room number : ℕ) (link : Link) (card : Card) → at_number (cards h) number ≡ Some card → card.link ≡ link → IsLinkOf (issued h room) link → has_link_at (rows_of h) room number link ≡ true

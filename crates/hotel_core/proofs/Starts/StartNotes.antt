@@ -1,5 +1,5 @@
 -- The notes of sound rows: the note of a room's count is the one of that place.
-use Rattle.std.proofs.Common.{ℕ, zero, suc, ◌≡◌, ◌≤◌, ◌<◌, ◌+◌, Bool, true, false, cond, Option, Some, None, List, [], ◌∷◌, drop, refl, ap, sym, ◌∙◌, arith, ◌==◌, ◌&&◌, is_some, nat_le, nat_lt, length}
+use Rattle.std.proofs.Common.{ℕ, zero, suc, ◌≡◌, ◌≤◌, ◌<◌, ◌+◌, Bool, true, false, cond, Option, Some, None, List, [], ◌∷◌, drop, refl, ap, sym, ◌∙◌, arith, ◌==◌, ◌&&◌, is_some, nat_le, length}
 use Rattle.hotel_core.proofs.Names.{is_at, list_all, lookup, nat_tests, Note, RoomRow, when, pair_cmp, Rows, at_number, notes_at, start, notes, is_room, count_up, is_day, counts_at, act_fits, note_fits, IsSound}
 use Rattle.hotel_core.proofs.OfTables.Pairs.{pair_is, pair_cmp_total}
 use Rattle.hotel_core.proofs.OfTables.Tests.{eq_from, eq_self, and_true, not_both}
@@ -25,8 +25,8 @@ kept_from : (t : Rows) (es : List ((ℕ × ℕ) × Note))
 kept_from t [] a = tt
 kept_from t (e ∷ es) a =
     let first = (e.1.room == e.0.0) && (e.1.count == e.0.1) in
-    let p = and_true (first && is_some (at_number t.rooms e.0.0) && act_fits t e.0.0 e.1.act && is_day e.1.day && nat_lt e.1.second 86400) _ a in
-    let q = and_true (first && is_some (at_number t.rooms e.0.0) && act_fits t e.0.0 e.1.act && is_day e.1.day) (nat_lt e.1.second 86400) p.0 in
+    let p = and_true (first && is_some (at_number t.rooms e.0.0) && act_fits t e.0.0 e.1.act && is_day e.1.day && nat_le e.1.second 86399) _ a in
+    let q = and_true (first && is_some (at_number t.rooms e.0.0) && act_fits t e.0.0 e.1.act && is_day e.1.day) (nat_le e.1.second 86399) p.0 in
     let u = and_true (first && is_some (at_number t.rooms e.0.0) && act_fits t e.0.0 e.1.act) (is_day e.1.day) q.0 in
     let v = and_true (first && is_some (at_number t.rooms e.0.0)) (act_fits t e.0.0 e.1.act) u.0 in
     let w = and_true first (is_some (at_number t.rooms e.0.0)) v.0 in

@@ -1,5 +1,5 @@
 -- Which cards there are, and the newest link of a room and of a party.
-use Rattle.std.specs.Prelude.{ℕ, List, Option, Some, None, ◌==◌}
+use Rattle.std.specs.Prelude.{ℕ, Bool, List, Option, Some, None, ◌==◌, ◌&&◌}
 use Rattle.std.specs.Ordering.{nat_cmp}
 use Rattle.std.specs.BTreeMap.{insert_entry}
 use Rattle.keycard_rules.specs.declared.card.Card.{Card}
@@ -27,6 +27,10 @@ link_of_party (start t) p = link_of_last_card t.cards p
 link_of_party (h ▷ CheckIn party room number code) p = when (party == p) (λ _. Some (link_to h room code)) (link_of_party h p)
 link_of_party (h ▷ Transfer party room number code) p = when (party == p) (λ _. Some (link_to h room code)) (link_of_party h p)
 link_of_party (h ▷ _) p = link_of_party h p
+
+-- Both codes of two links are equal.
+abbrev pub same_link : Link → Link → Bool
+same_link a b = (a.old_code == b.old_code) && (a.new_code == b.new_code)
 
 -- the card of a number that is made for a party
 abbrev pub card_of : ℕ → ℕ → Link → Card

@@ -4,17 +4,14 @@ use Rattle.std.specs.List.{list_any}
 use Rattle.std.specs.Map.{keys_of}
 use Rattle.keycard_rules.specs.declared.card.Link.{Link}
 use Rattle.hotel_nights.specs.declared.stay.Stay.{Stay}
-use Rattle.hotel_nights.specs.declared.stay.StayState.{StayState}
-use Rattle.hotel_nights.specs.declared.stay.StayState.TheVariants as state
 use Rattle.hotel_core.specs.Model.Words.{is_one_of, is_that, said_of}
 use Rattle.hotel_core.specs.Model.Rows.{at_number}
 use Rattle.hotel_core.specs.Model.History.{History}
-use Rattle.hotel_core.specs.Model.Cards.{cards, link_of_party}
+use Rattle.hotel_core.specs.Model.Cards.{cards, link_of_party, same_link}
 use Rattle.keycard_rules.specs.Lock.{turn}
 use Rattle.hotel_core.specs.Model.Lock.{held}
 use Rattle.hotel_core.specs.Model.Guests.{registered}
-use Rattle.hotel_core.specs.Model.Stays.{day, kinds, rooms, stays}
-use Rattle.hotel_core.specs.Model.Notes.{same_link}
+use Rattle.hotel_core.specs.Model.Stays.{day, kinds, rooms, stays, is_booked_state, room_of_state}
 
 -- a day is set
 abbrev pub is_begun : History → Bool
@@ -39,20 +36,6 @@ is_party h party = is_one_of party (keys_of (stays h))
 -- whether the party's stay is so
 abbrev pub stay_is : History → ℕ → (Stay → Bool) → Bool
 stay_is h party test = said_of (at_number (stays h) party) false test
-
--- the stay is booked, and not yet in house, done or cancelled
-abbrev pub is_booked_state : StayState → Bool
-is_booked_state state.Booked = true
-is_booked_state (state.InHouse room) = false
-is_booked_state state.Done = false
-is_booked_state state.Cancelled = false
-
--- the room of a stay in house
-abbrev pub room_of_state : StayState → Option ℕ
-room_of_state state.Booked = None
-room_of_state (state.InHouse room) = Some room
-room_of_state state.Done = None
-room_of_state state.Cancelled = None
 
 -- the room in which the party is in house
 abbrev pub room_of : History → ℕ → Option ℕ

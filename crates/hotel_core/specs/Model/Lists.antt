@@ -15,8 +15,7 @@ use Rattle.hotel_core.specs.Model.Issued.{current}
 use Rattle.hotel_core.specs.Model.Lock.{held}
 use Rattle.hotel_core.specs.Model.Ledger.{passed, awaited}
 use Rattle.hotel_core.specs.Model.Guests.{registered, secured}
-use Rattle.hotel_core.specs.Model.Stays.{rooms, stays}
-use Rattle.hotel_core.specs.Model.Cases.{is_booked_state}
+use Rattle.hotel_core.specs.Model.Stays.{rooms, stays, is_booked_state}
 use Rattle.hotel_core.specs.Model.Notes.{notes}
 
 -- Booked stays that take the night of a day, by party.

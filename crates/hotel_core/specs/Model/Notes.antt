@@ -1,7 +1,6 @@
 -- The notes that were taken, and how a further one stands to them.
 use Rattle.std.specs.Prelude.{ℕ, Bool, false, List, [], ◌∷◌, Option, Some, None, ◌+◌, ◌-◌, ◌==◌, ◌&&◌, if◌then◌else◌, length, drop}
 use Rattle.std.specs.BTreeMap.{insert_entry}
-use Rattle.keycard_rules.specs.declared.card.Link.{Link}
 use Rattle.keycard_rules.specs.declared.note.Act.{Act}
 use Rattle.keycard_rules.specs.declared.note.Act.TheVariants as act
 use Rattle.keycard_rules.specs.Note.{Note}
@@ -9,6 +8,7 @@ use Rattle.hotel_core.specs.Model.Words.{when, and_last, pair_cmp}
 use Rattle.hotel_core.specs.Model.Rows.{notes_at}
 use Rattle.hotel_core.specs.Model.Event.{note_of}
 use Rattle.hotel_core.specs.Model.History.{History, start, ◌▷◌}
+use Rattle.hotel_core.specs.Model.Cards.{same_link}
 
 -- a room's notes, and the event's one where it is of that room
 abbrev pub with_note : ℕ → Option Note → List Note → List Note
@@ -29,10 +29,6 @@ and_note None taken = taken
 abbrev pub all_notes : History → List ((ℕ × ℕ) × Note)
 all_notes (start t) = t.notes
 all_notes (h ▷ event) = and_note (note_of event) (all_notes h)
-
--- Both codes of two links are equal.
-abbrev pub same_link : Link → Link → Bool
-same_link a b = (a.old_code == b.old_code) && (a.new_code == b.new_code)
 
 -- Two notes say the same act, with equal numbers.
 abbrev pub same_act : Act → Act → Bool

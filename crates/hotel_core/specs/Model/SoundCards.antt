@@ -11,8 +11,8 @@ use Rattle.hotel_core.specs.declared.books.rows.CodeRow.{CodeRow}
 use Rattle.hotel_core.specs.declared.books.rows.RoomRow.{RoomRow}
 use Rattle.hotel_core.specs.Model.Words.{said_of}
 use Rattle.hotel_core.specs.Model.Rows.{Rows, at_number, codes_by_place, codes_at, last_link_of, link_of_last_card, notes_at}
-use Rattle.hotel_core.specs.Model.Cases.{room_of_state}
-use Rattle.hotel_core.specs.Model.Notes.{same_link}
+use Rattle.hotel_core.specs.Model.Stays.{room_of_state}
+use Rattle.hotel_core.specs.Model.Cards.{same_link}
 use Rattle.hotel_core.specs.Model.SoundRooms.{count_up, each_room, each_stay, is_day}
 
 -- whether the room is there, and its row so
@@ -130,7 +130,7 @@ act_fits rows room (act.Recoded from to) = code_is rows from (λ first. code_is 
 -- the note is of its key, its room is there, what it says fits the room, and its time is one
 abbrev pub note_fits : Rows → (ℕ × ℕ) × Note → Bool
 note_fits rows e =
-    (e.1.room == e.0.0) && (e.1.count == e.0.1) && is_some (at_number rows.rooms e.0.0) && act_fits rows e.0.0 e.1.act && is_day e.1.day && nat_lt e.1.second 86400
+    (e.1.room == e.0.0) && (e.1.count == e.0.1) && is_some (at_number rows.rooms e.0.0) && act_fits rows e.0.0 e.1.act && is_day e.1.day && nat_le e.1.second 86399
 
 -- each note fits
 abbrev pub notes_fit : Rows → Bool

@@ -8,7 +8,7 @@ use Rattle.hotel_nights.specs.declared.stay.Stay.{Stay}
 use Rattle.hotel_core.specs.declared.books.rows.RoomRow.{RoomRow}
 use Rattle.hotel_core.specs.Model.Words.{is_that, said_of}
 use Rattle.hotel_core.specs.Model.Rows.{Rows, at_number, has_kind}
-use Rattle.hotel_core.specs.Model.Cases.{room_of_state}
+use Rattle.hotel_core.specs.Model.Stays.{room_of_state}
 use Rattle.hotel_nights.specs.FullNight.{takes}
 use Rattle.hotel_nights.specs.Guests.{is_guest}
 use Rattle.hotel_nights.specs.Kinds.{is_kind}

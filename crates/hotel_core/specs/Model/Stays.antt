@@ -1,5 +1,5 @@
 -- The business day, the kinds and rooms, the stays, and how full the nights are.
-use Rattle.std.specs.Prelude.{ℕ, List, [], ◌∷◌, Option, Some, ◌+◌, ◌==◌, if◌then◌else◌, map, count_by, option_map, bytes_eq}
+use Rattle.std.specs.Prelude.{ℕ, Bool, true, false, List, [], ◌∷◌, Option, Some, None, ◌+◌, ◌==◌, if◌then◌else◌, map, count_by, option_map, bytes_eq}
 use Rattle.std.specs.Ordering.{nat_cmp}
 use Rattle.std.specs.Cmp.Lexicographic.{slice_cmp}
 use Rattle.std.specs.BTreeMap.{insert_entry}
@@ -30,6 +30,20 @@ abbrev pub rooms : History → List (ℕ × List ℕ)
 rooms (start t) = map (λ e. (e.0, e.1.kind)) t.rooms
 rooms (h ▷ Install room kind code) = insert_entry nat_cmp (rooms h) room kind
 rooms (h ▷ _) = rooms h
+
+-- the stay is booked, and not yet in house, done or cancelled
+abbrev pub is_booked_state : StayState → Bool
+is_booked_state state.Booked = true
+is_booked_state (state.InHouse room) = false
+is_booked_state state.Done = false
+is_booked_state state.Cancelled = false
+
+-- the room of a stay in house
+abbrev pub room_of_state : StayState → Option ℕ
+room_of_state state.Booked = None
+room_of_state (state.InHouse room) = Some room
+room_of_state state.Done = None
+room_of_state state.Cancelled = None
 
 -- how a stay stands after a change
 abbrev pub now_is : StayState → Stay → Stay

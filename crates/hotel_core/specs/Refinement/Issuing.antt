@@ -6,7 +6,7 @@ use Rattle.hotel_core.specs.{declared.books.change.Change.Change, declared.reply
 use Rattle.hotel_core.specs.declared.books.change.Change.TheVariants as change
 use Rattle.hotel_core.specs.declared.reply.Reply.TheVariants as reply
 use Rattle.hotel_core.specs.declared.reply.Refusal.TheVariants.{NotBooked, TooEarly, StayOver, WrongKind, SameRoom, RoomTaken, NumbersUsedUp}
-use Rattle.hotel_core.specs.{Model.Cases.is_booked_state, Model.Rows.Rows, Books.Lookups.room_at, Books.Lookups.code_at, Books.Lookups.number_after, Model.Cards.card_of}
+use Rattle.hotel_core.specs.{Model.Stays.is_booked_state, Model.Rows.Rows, Books.Lookups.room_at, Books.Lookups.code_at, Books.Lookups.number_after, Model.Cards.card_of}
 use Rattle.hotel_core.specs.{Books.Change.codes_of, Model.Outcome.Outcome, Model.Outcome.needs, Model.Outcome.bars, Model.Outcome.unless}
 use Rattle.hotel_core.specs.Refinement.OnRows.{with_fresh_on, link_on, said_code_at}
 

@@ -5,7 +5,7 @@ use Rattle.std.specs.Map.{values_of}
 use Rattle.keycard_rules.specs.Note.{Note}
 use Rattle.hotel_nights.specs.declared.stay.Stay.{Stay}
 use Rattle.hotel_core.specs.{declared.books.rows.RoomRow.RoomRow, declared.books.list_rows.HouseRow.HouseRow, declared.books.list_rows.ChainRow.ChainRow}
-use Rattle.hotel_core.specs.{declared.books.list_rows.BehindRow.BehindRow, declared.books.list_rows.CodeState.CodeState, Model.Words.said_of, Model.Cases.is_booked_state}
+use Rattle.hotel_core.specs.{declared.books.list_rows.BehindRow.BehindRow, declared.books.list_rows.CodeState.CodeState, Model.Words.said_of, Model.Stays.is_booked_state}
 use Rattle.hotel_core.specs.declared.books.list_rows.CodeState.TheVariants.{Passed, Held, Awaited}
 use Rattle.hotel_core.specs.{Model.Rows.Rows, Model.Rows.notes_at, Books.Lookups.room_at, Books.Lookups.stay_at, Books.Lookups.code_at}
 

@@ -11,7 +11,7 @@ use Rattle.hotel_core.specs.declared.command.Command.TheVariants as command
 use Rattle.hotel_core.specs.declared.reply.Reply.TheVariants as reply
 use Rattle.hotel_core.specs.declared.reply.Refusal.TheVariants.{NotBegun, AlreadyBegun, KindExists, NoKind, RoomExists, NoRoom, NoParty, NotBooked, NotInHouse, TooEarly, StayOver, WrongKind, SameRoom, RoomTaken, PastArrival, PastEnd, KindFull, NumbersUsedUp, LastDay, Conflict, Gap, NoCard, CardDiffers, LockShut, NotInside, HeldDiffers, NotAwaited}
 use Rattle.hotel_core.specs.{Model.Words.said_of, Model.Words.is_one_of, Model.Words.is_that, Model.Rows.Rows, Model.Rows.has_kind, Model.Guests.are_none}
-use Rattle.hotel_core.specs.{Model.Notes.same_note, Model.Notes.same_link, Model.Cards.card_of, Model.Cases.is_booked_state, Model.Cases.room_of_state, Model.Cases.no_link}
+use Rattle.hotel_core.specs.{Model.Notes.same_note, Model.Cards.same_link, Model.Cards.card_of, Model.Stays.is_booked_state, Model.Stays.room_of_state, Model.Cases.no_link}
 use Rattle.hotel_core.specs.{Books.Change.codes_of, Refinement.ChangeOf.comes}
 use Rattle.hotel_core.specs.Books.Lookups.{room_at, codes_in, code_place, code_at, stay_at, card_at, inside_at, note_at, first_full_on, number_after}
 use Rattle.hotel_core.specs.Model.Outcome.{Outcome, needs, bars, unless, accepted, said, refused, by_draw}

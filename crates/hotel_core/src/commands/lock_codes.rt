@@ -1,7 +1,7 @@
 //! What a note of a lock is compared with in the books.
 ghost use Rattle.std.specs.Prelude.{◌≡◌, Option, Some, None, IsSome, not};
 ghost use Rattle.hotel_core.specs.Refinement.Finds.{Finds, AnyRows};
-ghost use Rattle.hotel_core.specs.{Books.Lookups.room_at, Books.Lookups.code_place, Books.Lookups.inside_at, Books.Lookups.note_at, Model.Guests.are_none, Model.Notes.same_link};
+ghost use Rattle.hotel_core.specs.{Books.Lookups.room_at, Books.Lookups.code_place, Books.Lookups.inside_at, Books.Lookups.note_at, Model.Guests.are_none, Model.Cards.same_link};
 ghost use Rattle.hotel_core.specs.{Model.Words.is_one_of, declared.reply.Refusal.TheVariants.NotAwaited, declared.reply.Refusal.TheVariants.Store};
 
 use crate::books::Books;

@@ -9,13 +9,12 @@ use Rattle.hotel_core.specs.Model.Sound.{passes_rules}
 use Rattle.hotel_core.specs.Model.History.{History, start, ◌▷◌}
 use Rattle.hotel_core.specs.Model.RowsOf.{rows_of}
 use Rattle.hotel_core.specs.Model.Issued.{issued, current}
-use Rattle.hotel_core.specs.Model.Cards.{cards, newest_link}
+use Rattle.hotel_core.specs.Model.Cards.{cards, newest_link, same_link}
 use Rattle.keycard_rules.specs.Lock.{turn}
 use Rattle.hotel_core.specs.Model.Lock.{held}
 use Rattle.hotel_core.specs.Model.Ledger.{passed, awaited}
 use Rattle.hotel_core.specs.Model.Guests.{registered, inside, secured}
 use Rattle.hotel_core.specs.Model.Stays.{rooms}
-use Rattle.hotel_core.specs.Model.Notes.{same_link}
 use Rattle.hotel_core.specs.Books.Change.{made}
 use Rattle.hotel_core.specs.Refinement.ChangeOf.{change_of}
 

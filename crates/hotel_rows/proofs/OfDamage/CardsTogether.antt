@@ -8,8 +8,8 @@ use Rattle.hotel_core.specs.declared.books.rows.RoomRow.{RoomRow}
 use Rattle.hotel_core.specs.declared.books.rows.CodeRow.{CodeRow}
 use Rattle.hotel_core.specs.Model.Words.{said_of}
 use Rattle.hotel_core.specs.Model.Rows.{at_number}
-use Rattle.hotel_core.specs.Model.Cases.{room_of_state}
-use Rattle.hotel_core.specs.Model.Notes.{same_link}
+use Rattle.hotel_core.specs.Model.Stays.{room_of_state}
+use Rattle.hotel_core.specs.Model.Cards.{same_link}
 use Rattle.hotel_core.specs.Model.SoundRooms.{are_in_order, count_up}
 use Rattle.hotel_core.specs.Model.SoundCards.{card_parties_there, links_are_neighbours, links_of_one_party, neighbours_are_links, newest_of_party, last_cards_newest, code_is, stands_at, is_newest, owns_newest, has_newest}
 use Rattle.hotel_core.proofs.OfTables.RowTests.{all_mapped}

@@ -4,7 +4,7 @@ use Rattle.std.specs.Map.{keys_of, values_of}
 use Rattle.keycard_rules.specs.declared.card.Link.{Link}
 use Rattle.hotel_core.specs.Model.Words.{said_of, is_that}
 use Rattle.hotel_core.specs.Model.Rows.{at_number, last_link_of}
-use Rattle.hotel_core.specs.Model.Notes.{same_link}
+use Rattle.hotel_core.specs.Model.Cards.{same_link}
 use Rattle.hotel_core.specs.Model.SoundRooms.{count_up}
 use Rattle.hotel_core.proofs.OfTables.MapEntries.{at_is, eq_from}
 use Rattle.hotel_rows.specs.Lasts.{link_of_both}

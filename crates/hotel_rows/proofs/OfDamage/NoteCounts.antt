@@ -1,6 +1,6 @@
 -- Counts of notes, from the last one on.
 use Rattle.std.proofs.Common.{◌≡◌, ℕ, pos, suc, ◌+◌, Bool, true, false, cond, ◌==◌, ◌&&◌, List, [], ◌∷◌, map, length, None, refl, sym, ap, ◌∙◌, arith}
-use Rattle.std.specs.Prelude.{is_some, nat_lt}
+use Rattle.std.specs.Prelude.{is_some, nat_le}
 use Rattle.std.specs.List.{list_all}
 use Rattle.std.specs.Map.{keys_of}
 use Rattle.keycard_rules.specs.Note.{Note}
@@ -113,7 +113,7 @@ notes_together s =
     (all_and note_columns (λ plain. note_fits rows (note_entry plain)) plain_rows (notes_fit rows) (all_mapped (note_fits rows) note_entry plain_rows)
     ∙ all_alike _ (plain_note_fits rows) plain_rows (λ plain.
     plain_fits (note_columns plain) (number_of plain.room == number_of plain.room) (number_of plain.n == number_of plain.n) (is_some (at_number rows.rooms (number_of plain.room)))
-    (act_fits rows (number_of plain.room) (note_row plain).act) (is_day (number_of plain.day)) (nat_lt (number_of plain.second) 86400) (eq_self (number_of plain.room)) (eq_self (number_of plain.n))))
+    (act_fits rows (number_of plain.room) (note_row plain).act) (is_day (number_of plain.day)) (nat_le (number_of plain.second) 86399) (eq_self (number_of plain.room)) (eq_self (number_of plain.n))))
   where
     pair_keys_mapped : (ls : List PlainNote) → keys_of (map note_entry ls) ≡ map note_key ls
     pair_keys_mapped [] = refl

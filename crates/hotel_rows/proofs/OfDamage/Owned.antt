@@ -6,7 +6,7 @@ use Rattle.std.specs.BTreeMap.{is_at}
 use Rattle.std.specs.Map.{lookup}
 use Rattle.keycard_rules.specs.declared.card.Link.{Link}
 use Rattle.hotel_core.specs.Model.Words.{is_that, pair_cmp, said_of}
-use Rattle.hotel_core.specs.Model.Notes.{same_link}
+use Rattle.hotel_core.specs.Model.Cards.{same_link}
 use Rattle.hotel_core.proofs.OfTables.MapEntries.{eq_from, eq_self, eq_turned, pair_is, same_bool}
 use Rattle.hotel_core.proofs.OfTables.RowTests.{all_weaker}
 use Rattle.hotel_core.proofs.OfTables.Tests.{and_true}

@@ -1,5 +1,5 @@
 //! The rules of the table of lock notes.
-ghost use Rattle.std.specs.Prelude.{◌≡◌, ◌&&◌, nat_lt, IfOk};
+ghost use Rattle.std.specs.Prelude.{◌≡◌, ◌&&◌, nat_le, IfOk};
 ghost use Rattle.std.specs.List.{list_all};
 ghost use Rattle.hotel_core.specs.Model.SoundCards.{act_fits, has_link_at};
 ghost use Rattle.hotel_core.specs.Model.SoundRooms.{is_day};
@@ -60,9 +60,9 @@ fn act_fits(places: &Places, stored: &Stored, note: &PlainNote) -> bool
 }
 
 fn has_time(note: &PlainNote) -> bool
-    ensures { result ≡ (is_day (number_of note.now.day) && nat_lt (number_of note.now.second) 86400) }
+    ensures { result ≡ (is_day (number_of note.now.day) && nat_le (number_of note.now.second) 86399) }
 {
-    number(note.day) <= 36_524 && number(note.second) < 86_400
+    number(note.day) <= 36_524 && number(note.second) <= 86_399
 }
 
 /// Whether the note fits the cards and codes of its room, and its time is one.

@@ -1,7 +1,7 @@
 //! The rules of the table of rooms.
 ghost use Rattle.std.specs.Prelude.{◌≡◌, nat_le, ◌+◌, true, IfOk};
 ghost use Rattle.std.specs.List.{list_all};
-ghost use Rattle.hotel_core.specs.Model.Cases.{room_of_state};
+ghost use Rattle.hotel_core.specs.Model.Stays.{room_of_state};
 ghost use Rattle.hotel_rows.specs.Stored.{number_of, rows_of, room_row, stay_row};
 ghost use Rattle.hotel_core.specs.Model.SoundRooms.{kinds_read};
 ghost use Rattle.hotel_rows.specs.Damage.{room_columns, room_holds};

@@ -33,7 +33,7 @@ use Rattle.hotel_core.specs.declared.books.rows.RoomRow.{RoomRow}
 use Rattle.hotel_core.specs.declared.books.rows.CodeRow.{CodeRow}
 use Rattle.hotel_core.specs.Model.Words.{pair_cmp}
 use Rattle.hotel_core.specs.Model.Rows.{has_kind}
-use Rattle.hotel_core.specs.Model.Cases.{room_of_state}
+use Rattle.hotel_core.specs.Model.Stays.{room_of_state}
 use Rattle.hotel_core.specs.Books.Lookups.{note_at}
 use Rattle.hotel_statements.specs.Schema.{desk_schema, kind_table, note_table, room_table, stay_table, code_table, card_table}
 use Rattle.hotel_statements.specs.Values.{int, maybe_int}

@@ -22,8 +22,7 @@ use Rattle.sqlite.proofs.Callers.{one_step, statement_of}
 use Rattle.hotel_nights.specs.declared.stay.Stay.{Stay}
 use Rattle.hotel_nights.specs.declared.stay.StayState.{StayState}
 use Rattle.hotel_core.specs.declared.books.rows.RoomRow.{RoomRow}
-use Rattle.hotel_core.specs.Model.Cases.{room_of_state}
-use Rattle.hotel_core.specs.Model.Stays.{in_state, now_is}
+use Rattle.hotel_core.specs.Model.Stays.{room_of_state, in_state, now_is}
 use Rattle.hotel_core.specs.Books.Change.{room_changed}
 use Rattle.hotel_statements.specs.Schema.{desk_schema, meta_table, room_table, stay_table}
 use Rattle.hotel_statements.specs.Texts.{update_day, update_issued, update_party, update_noted, update_state}

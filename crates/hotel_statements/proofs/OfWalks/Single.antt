@@ -24,7 +24,7 @@ use Rattle.hotel_nights.specs.declared.stay.StayState.{StayState}
 use Rattle.hotel_nights.specs.declared.stay.StayState.TheVariants.{Booked, InHouse, Done, Cancelled}
 use Rattle.hotel_core.specs.Model.Words.{pair_cmp}
 use Rattle.hotel_core.specs.Model.Rows.{notes_at}
-use Rattle.hotel_core.specs.Model.Cases.{is_booked_state}
+use Rattle.hotel_core.specs.Model.Stays.{is_booked_state}
 use Rattle.hotel_core.specs.Refinement.ListsOnRows.{arrives_on, arrivals_on, audit_on}
 use Rattle.hotel_core.proofs.OfTables.Pairs.{pair_cmp_total}
 use Rattle.hotel_statements.specs.Schema.{compare}
