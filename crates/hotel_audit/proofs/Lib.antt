@@ -1,6 +1,6 @@
 mod Records
 mod NoteReplies
-mod Imports
+mod LineAnswers
 mod NotesKnown
 mod SentAgain
 mod NoteOutcomes

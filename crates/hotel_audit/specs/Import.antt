@@ -8,10 +8,10 @@ use Rattle.hotel_core.specs.declared.command.Command.TheVariants as command
 use Rattle.hotel_core.specs.declared.reply.Reply.TheVariants as reply
 use Rattle.hotel_core.specs.declared.reply.Refusal.TheVariants as refusal
 use Rattle.hotel_core.specs.Model.Run.{Runs, is_failed}
-use Rattle.hotel_audit.specs.{declared.answer.LineAnswer.LineAnswer, declared.audit_file.AuditFault.AuditFault, declared.importing.ImportFault.ImportFault}
+use Rattle.hotel_audit.specs.{declared.answer.LineAnswer.LineAnswer, declared.audit_file.AuditFault.AuditFault, declared.imports.ImportFault.ImportFault}
 use Rattle.hotel_audit.specs.declared.answer.LineAnswer.TheVariants.{Taken, Seen, Unread, Refused}
 use Rattle.hotel_audit.specs.declared.audit_file.AuditFault.TheVariants as fault
-use Rattle.hotel_audit.specs.declared.importing.ImportFault.TheVariants.{File, Memory, Store}
+use Rattle.hotel_audit.specs.declared.imports.ImportFault.TheVariants.{File, Memory, Store}
 use Rattle.hotel_audit.specs.declared.line.Line.{Line}
 use Rattle.hotel_audit.specs.declared.line.Line.TheVariants as line
 

@@ -5,7 +5,7 @@ mod answer;
 mod audit_file;
 mod fields;
 mod header;
-mod importing;
+mod imports;
 mod laws;
 mod line;
 mod texts;
@@ -13,7 +13,7 @@ mod written;
 
 pub use answer::LineAnswer;
 pub use audit_file::{AuditFault, read_notes};
-pub use importing::{ImportFault, import};
+pub use imports::{ImportFault, import};
 pub use laws::{
     files_counted, records_of_bytes, seen_again, sent_again_at_once, stopped_and_sent_again,
 };

@@ -32,14 +32,14 @@ pub use Rattle.hotel_core.specs.Model.Words.{after, and_last, before, is_one_of,
 pub use Rattle.hotel_core.specs.NightIndex.{block_at, block_cmp, counted, spans}
 pub use Rattle.hotel_core.specs.Refinement.ChangeOf.{change_of, comes}
 pub use Rattle.hotel_core.specs.Refinement.Finds.{AnyRows, DrawsCode, Drew, DrewNone, Finds, drawn_or, first_refusal, has_failed, reply_of}
-pub use Rattle.hotel_core.specs.Refinement.Issuing.{HasLink, bars_to_check_in, bars_to_transfer, issued_on}
+pub use Rattle.hotel_core.specs.Refinement.CardsOnRows.{HasLink, bars_to_check_in, bars_to_transfer, issued_on}
 pub use Rattle.hotel_core.specs.Refinement.Lift.{Lifts, as_change}
 pub use Rattle.hotel_core.specs.Refinement.ListsOnRows.{arrivals_on, arrives_on, audit_on, awaited_on, behind_row_on, chain_on, chain_row_on, house_row_on, housed, in_house_on, left_behind_on, state_at}
-pub use Rattle.hotel_core.specs.Refinement.Noting.{IsUntaken, opened_on}
+pub use Rattle.hotel_core.specs.Refinement.NotesOnRows.{IsUntaken, opened_on}
 pub use Rattle.hotel_core.specs.Refinement.OnRows.{checks_on, effect_on, has_link_on, held_on, home_link_on, home_on, is_awaited_on, kinds_agree_on, link_on, lock_place_on, place_on, reported_on, room_is_on, said_code_at, secured_after_on, secured_on, told_on}
 unfoldable pub use Rattle.hotel_core.specs.Refinement.OnRows.{outcome_on}
 pub use Rattle.hotel_core.specs.Refinement.StepOnRows.{AreWhole, Goes, GoesIf, StepsAs, made_by}
-pub use Rattle.hotel_core.specs.Stopping.{EndsAs, Stopping, StopsEither}
+pub use Rattle.hotel_core.specs.Stops.{EndsAs, Stopping, StopsEither}
 pub use Rattle.hotel_core.specs.declared.books.Books.{Ghosts}
 pub use Rattle.hotel_core.specs.declared.books.change.Change.{Change}
 pub use Rattle.hotel_core.specs.declared.books.rows.CodeRow.{CodeRow}

@@ -2,7 +2,7 @@ pub mod Model
 pub mod Books
 pub mod Refinement
 pub mod Memory
-pub mod Stopping
+pub mod Stops
 pub mod NightIndex
 pub mod KindRooms
 pub mod Texts

@@ -7,5 +7,5 @@ pub mod ListsLift
 pub mod Lift
 pub mod StepOnRows
 pub mod Finds
-pub mod Issuing
-pub mod Noting
+pub mod CardsOnRows
+pub mod NotesOnRows

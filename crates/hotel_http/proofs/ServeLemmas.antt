@@ -14,7 +14,7 @@ use Rattle.hotel_asks.specs.declared.asks.Ask.TheVariants as ask
 use Rattle.hotel_asks.specs.{declared.lists.ListAsk.ListAsk, Listings.Listing, Listings.listing_on}
 use Rattle.hotel_asks.proofs.ListingLemmas.{listing_stands}
 use Rattle.hotel_audit.specs.{AuditFile.audit_lines, Import.AreAnswered, Import.EndsAfter, Import.commands_of, Import.replies_in, declared.answer.LineAnswer.LineAnswer}
-use Rattle.hotel_audit.specs.{declared.importing.ImportFault.ImportFault, declared.line.Line.Line}
+use Rattle.hotel_audit.specs.{declared.imports.ImportFault.ImportFault, declared.line.Line.Line}
 use Rattle.hotel_http.specs.{declared.rejection.Rejection.Rejection, declared.serve.Cut.Cut, declared.serve.Served.Served, declared.status.Status.Status}
 use Rattle.hotel_http.specs.{declared.status.Status.TheVariants.Success, declared.requests.Request.Request, declared.serve.ServeFault.ServeFault}
 use Rattle.hotel_http.specs.{declared.serve.ServeFault.TheVariants.Write, Answer.list_answer, Body.interim_where, Request.EndsRequest}

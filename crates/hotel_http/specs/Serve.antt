@@ -12,8 +12,8 @@ use Rattle.hotel_lists.specs.declared.fault.ListFault.TheVariants as list
 use Rattle.hotel_asks.specs.{declared.asks.Ask.Ask, Listings.Listing, Listings.listing_over, Listings.in_full}
 use Rattle.hotel_asks.specs.declared.asks.Ask.TheVariants as ask
 use Rattle.hotel_audit.specs.{AuditFile.audit_lines, Import.AreAnswered, Import.EndsAfter, Import.commands_of, Import.replies_in, Import.has_taken, Import.failures_of}
-use Rattle.hotel_audit.specs.{declared.answer.LineAnswer.LineAnswer, declared.importing.ImportFault.ImportFault, declared.line.Line.Line}
-use Rattle.hotel_audit.specs.declared.importing.ImportFault.TheVariants as import
+use Rattle.hotel_audit.specs.{declared.answer.LineAnswer.LineAnswer, declared.imports.ImportFault.ImportFault, declared.line.Line.Line}
+use Rattle.hotel_audit.specs.declared.imports.ImportFault.TheVariants as import
 use Rattle.hotel_http.specs.{declared.rejection.Rejection.Rejection, declared.serve.Cut.Cut, declared.serve.Served.Served, declared.serve.ServeFault.ServeFault}
 use Rattle.hotel_http.specs.declared.serve.ServeFault.TheVariants.{Closed, Read, Memory, Write}
 use Rattle.hotel_http.specs.{declared.requests.RequestFault.RequestFault, declared.status.Status.Status, declared.status.Status.TheVariants.Success, declared.tasks.Task.Task}
@@ -127,11 +127,11 @@ IsListText None (Err refusal.Store) = Unit {0}
 IsListText None (Err _) = ⊥
 
 -- the refusal that a list's fault is answered by: a writer in memory fails for want of it
-abbrev pub refusal_of : ListFault → Refusal
-refusal_of list.NoRoom = refusal.NoRoom
-refusal_of list.Memory = refusal.Memory
-refusal_of list.Write = refusal.Memory
-refusal_of list.Store = refusal.Store
+abbrev pub list_refusal : ListFault → Refusal
+list_refusal list.NoRoom = refusal.NoRoom
+list_refusal list.Memory = refusal.Memory
+list_refusal list.Write = refusal.Memory
+list_refusal list.Store = refusal.Store
 
 -- the failures that the books counted of a list's text
 abbrev pub list_failures : Result (List ℕ) Refusal → List Refusal

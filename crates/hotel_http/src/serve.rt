@@ -9,7 +9,7 @@ ghost use Rattle.hotel_lists.specs.Calls.{NoneForgotten};
 ghost use Rattle.hotel_asks.specs.Listings.{listing_on};
 ghost use Rattle.hotel_asks.specs.declared.asks.Ask.TheVariants as ask;
 ghost use Rattle.hotel_http.specs.{Body.interim_where, declared.serve.ServeFault.TheVariants.Read, declared.serve.ServeFault.TheVariants.Write};
-ghost use Rattle.hotel_http.specs.Serve.{rejected, replied, is_accepted, taken_by, outcome, AskComes, FileComes, TaskComes, Comes, EndsAs, Answered, ended, IsListText, refusal_of, list_failures, text_in, Serves, IfUnwritten, serve_fault_of};
+ghost use Rattle.hotel_http.specs.Serve.{rejected, replied, is_accepted, taken_by, outcome, AskComes, FileComes, TaskComes, Comes, EndsAs, Answered, ended, IsListText, list_refusal, list_failures, text_in, Serves, IfUnwritten, serve_fault_of};
 
 use crate::answer::{rejection_status, reply_status, write_csv, write_rejection, write_reply};
 use crate::audit_answer::{fault_status, has_taken, write_audit, write_fault};
@@ -142,8 +142,8 @@ fn answer_command<W: Write, B: Walks, R: Rng>(
 }
 
 /// The refusal that a list's fault is answered by. Its text is written in memory, where a write fails for want of memory alone.
-fn refusal_of(fault: ListFault) -> Refusal
-    ensures { result ≡ refusal_of fault }
+fn list_refusal(fault: ListFault) -> Refusal
+    ensures { result ≡ list_refusal fault }
 {
     match fault {
         ListFault::NoRoom => Refusal::NoRoom,
@@ -163,7 +163,7 @@ fn list_text<B: Walks>(alloc: Global, list: &ListAsk, books: &mut B) -> Result<V
     let mut text = Vec::new(alloc);
     match write_list(alloc, list, &mut text, books, &mut IoCalls::none()) {
         Ok(()) => Ok(text),
-        Err(fault) => Err(refusal_of(fault)),
+        Err(fault) => Err(list_refusal(fault)),
     }
 }
 

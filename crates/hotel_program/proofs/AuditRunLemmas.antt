@@ -1,8 +1,8 @@
 -- How an import ended.
 use Rattle.std.proofs.Common.{◌≡◌}
 use Rattle.hotel_audit.specs.declared.audit_file.AuditFault.TheVariants as file
-use Rattle.hotel_audit.specs.declared.importing.ImportFault.{ImportFault}
-use Rattle.hotel_audit.specs.declared.importing.ImportFault.TheVariants.{File, Memory, Store}
+use Rattle.hotel_audit.specs.declared.imports.ImportFault.{ImportFault}
+use Rattle.hotel_audit.specs.declared.imports.ImportFault.TheVariants.{File, Memory, Store}
 use Rattle.hotel_program.specs.Alone.AuditRuns.{import_fault}
 use Rattle.hotel_program.specs.declared.faults.Fault.TheVariants as fault
 

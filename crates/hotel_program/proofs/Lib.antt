@@ -4,6 +4,6 @@ pub mod AuditRunLemmas
 pub mod ProgramLemmas
 pub mod CommandLineLemmas
 pub mod PlanLemmas
-pub mod ServingLemmas
+pub mod ConnectionsLemmas
 pub mod FaultLemmas
 pub mod FileLemmas

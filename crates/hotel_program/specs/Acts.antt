@@ -14,7 +14,7 @@ use Rattle.hotel_lists.specs.Lines.{LooksAt}
 use Rattle.hotel_lists.specs.declared.fault.ListFault.{ListFault}
 use Rattle.hotel_asks.specs.declared.lists.ListAsk.{ListAsk}
 use Rattle.hotel_audit.specs.declared.answer.LineAnswer.{LineAnswer}
-use Rattle.hotel_audit.specs.declared.importing.ImportFault.{ImportFault}
+use Rattle.hotel_audit.specs.declared.imports.ImportFault.{ImportFault}
 use Rattle.hotel_program.specs.Alone.AuditRuns.{audit_end, WritesAnswers, ImportEnds}
 use Rattle.hotel_program.specs.Alone.CommandRuns.{command_end, CommandEnds, WritesReply}
 use Rattle.hotel_program.specs.Faults.{end_status, Tells, TellsAll}
@@ -22,7 +22,7 @@ use Rattle.hotel_program.specs.Script.Lines.{answered_lines}
 use Rattle.hotel_program.specs.Alone.ListRuns.{AnswerEndsFor, list_end}
 use Rattle.hotel_program.specs.Program.{script_end}
 use Rattle.hotel_program.specs.Script.WholeScript.{ScriptAnswered, ScriptCut, IsInput, IfCut, IfUnbegun, NothingBegun}
-use Rattle.hotel_program.specs.Serving.{ConnectionEnd, ServesAll, faults_of}
+use Rattle.hotel_program.specs.Connections.{ConnectionEnd, ServesAll, faults_of}
 use Rattle.hotel_program.specs.declared.command_line.plan.DeskAct.{DeskAct}
 use Rattle.hotel_program.specs.declared.command_line.plan.DeskAct.TheVariants.{One, List as AList, Audit, Script, Serve}
 use Rattle.hotel_program.specs.declared.faults.Fault.{Fault}

@@ -6,7 +6,7 @@ pub mod Alone
 pub mod Scenes
 pub mod CommandLine
 pub mod Plans
-pub mod Serving
+pub mod Connections
 pub mod Files
 pub mod Acts
 pub mod Plan

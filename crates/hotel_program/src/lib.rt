@@ -4,22 +4,22 @@
 mod acts;
 mod alone;
 mod command_line;
+mod connections;
 mod faults;
 mod files;
-mod listening;
 mod program;
 mod scenes;
 mod script;
-mod serving;
+mod server;
 mod statuses;
 mod surroundings;
 
 pub use alone::{run_audit, run_list, run_one};
 pub use command_line::{DeskAct, FileName, Plan, UsageFault, parse_words};
+pub use connections::serve_connections;
 pub use faults::{Fault, FaultSink};
 pub use files::{SEED_BYTES, audit_file_in, seed_in};
 pub use program::run_program;
 pub use script::{ScriptEnd, ScriptFault, run_script};
-pub use serving::serve_connections;
 pub use statuses::status_of;
 pub use surroundings::Surroundings;

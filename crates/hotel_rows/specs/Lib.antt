@@ -7,4 +7,4 @@ pub mod Placed
 pub mod NoteRuns
 pub mod Lasts
 pub mod Owners
-pub mod Counting
+pub mod Counts

@@ -59,8 +59,8 @@ are_stay_days plain =
 abbrev pub has_home : Rows → Stay → Bool
 has_home rows stay = said_of (room_of_state stay.state) true (has_party rows stay.party)
 
-abbrev pub has_plain_home : Stored → PlainStay → Bool
-has_plain_home s plain = has_home (rows_of s) (stay_row plain)
+abbrev pub stay_has_home : Stored → PlainStay → Bool
+stay_has_home s plain = has_home (rows_of s) (stay_row plain)
 
 abbrev pub stay_fits : Stored → PlainStay → Bool
 stay_fits s plain =

@@ -2,11 +2,11 @@
 //! them. How they are read and written `hotel_statements` knows; here is no store.
 #![tactic(auto)]
 
-mod counting;
+mod counts;
 mod damage;
 mod stored;
 
-pub use counting::{Counts, counts_of};
+pub use counts::{Counts, counts_of};
 pub use damage::{first_damaged, undamaged_is_sound};
 pub use stored::{
     PlainCard, PlainCode, PlainInside, PlainKind, PlainNote, PlainRoom, PlainStay, Stored,

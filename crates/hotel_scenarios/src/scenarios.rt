@@ -1,6 +1,6 @@
 //! The worked scenarios: what is asked of a desk with empty books, step by step, and what each step answers. The
-//! computed scenes of the model have the same names and commands, in the same order; lists and lines that aren't read
-//! stand here alone.
+//! computed scenes of the model have the same names, codes and lines, in the same order, and `.ci/scenes` compares them; a
+//! scenario may have lists and lines that aren't read which its scene lacks.
 use crate::chains::TWO_CODES;
 
 /// What is asked of a desk, and what it answers.
@@ -449,6 +449,7 @@ pub static OF_LOCKS: [Scenario; 6] = [
             OPENED,
             CHECKED_IN,
             TWO_ENTRIES,
+            AFTER_TWO_ENTRIES,
             LEFT,
             NEXT_CHECKED_IN,
             NEXT_GUEST,
@@ -476,7 +477,13 @@ pub static OF_LOCKS: [Scenario; 6] = [
         name: "note-refusals",
         codes: &[0xa0, 0xa1],
         last: 0xa2,
-        parts: &[OPENED, CHECKED_IN, TWO_ENTRIES, NOTE_REFUSALS],
+        parts: &[
+            OPENED,
+            CHECKED_IN,
+            TWO_ENTRIES,
+            AFTER_TWO_ENTRIES,
+            NOTE_REFUSALS,
+        ],
     },
 ];
 

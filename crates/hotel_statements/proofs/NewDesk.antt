@@ -21,7 +21,7 @@ use Rattle.hotel_statements.specs.Texts.{insert_meta}
 use Rattle.hotel_statements.specs.Values.{int}
 use Rattle.hotel_statements.specs.Columns.{meta_columns, meta_of, meta_written}
 use Rattle.hotel_statements.specs.Tables.{IsTable, by_key}
-use Rattle.hotel_statements.specs.Making.{IsBare, IsMade, IsEmptyDesk}
+use Rattle.hotel_statements.specs.NewDesk.{IsBare, IsMade, IsEmptyDesk}
 use Rattle.hotel_statements.proofs.Statements.Changes as changes
 use Rattle.hotel_statements.proofs.Writing.{went, same_value, cast_null, cast_int}
 

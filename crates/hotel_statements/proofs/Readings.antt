@@ -15,7 +15,7 @@ use Rattle.keycard_rules.specs.declared.issued.LookFault.{LookFault}
 use Rattle.hotel_statements.specs.Schema.{desk_schema}
 use Rattle.hotel_statements.specs.Books.{IsKept, KeepsRows}
 use Rattle.hotel_statements.specs.LookUps.{Asks}
-use Rattle.hotel_statements.specs.Reading.{IsOurs, ReadsTo}
+use Rattle.hotel_statements.specs.WholeTables.{IsOurs, ReadsTo}
 use Rattle.hotel_statements.proofs.Keeps.{Stays, shown_stay, shown_opened, shown_is_open, fails_stay, fail_opened}
 use Rattle.hotel_statements.proofs.Looked.{command_is}
 

@@ -13,7 +13,7 @@ use Rattle.sqlite.specs.Tree.{Trees}
 use Rattle.hotel_statements.specs.Texts as text
 use Rattle.hotel_statements.specs.Columns.{meta_columns, kind_columns, room_columns, stay_columns, code_columns, card_columns, note_columns}
 use Rattle.hotel_statements.specs.PlainRows.{numbered_columns, first_one, first_three, first_four, first_seven, first_eight}
-use Rattle.hotel_statements.specs.Reading.{IsWhole}
+use Rattle.hotel_statements.specs.WholeTables.{IsWhole}
 use Rattle.hotel_statements.proofs.Statements.Terms.{columns, all_seven, all_eight}
 use Rattle.hotel_statements.proofs.Statements.Reads as reads
 use Rattle.hotel_statements.proofs.Answers.{answered, single, env, passes, fused}

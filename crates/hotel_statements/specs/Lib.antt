@@ -4,11 +4,11 @@ pub mod Values
 pub mod Columns
 pub mod Tables
 pub mod Books
-pub mod Making
+pub mod NewDesk
 pub mod LookUps
 pub mod Steps
 pub mod Statements
 pub mod Walks
 pub mod PlainRows
-pub mod Reading
+pub mod WholeTables
 pub mod SameSchema

@@ -8,15 +8,15 @@ pub mod issue;
 pub mod lock_notes;
 mod look;
 pub mod look_ups;
-pub mod making;
+pub mod new_desk;
 mod number;
 pub mod plain_rows;
-pub mod reading;
 pub mod same_schema;
 mod statement;
 pub mod steps;
 mod texts;
 mod walk;
 pub mod walks;
+pub mod whole_tables;
 
 pub use from_row::fault_of;

@@ -8,7 +8,7 @@ use Rattle.sqlite.specs.Steps.{over_memory, IsEmpty}
 use Rattle.sqlite.proofs.Callers.{memory_is_clean}
 use Rattle.hotel_statements.specs.Schema.{desk_schema}
 use Rattle.hotel_statements.specs.Books.{IsBooks}
-use Rattle.hotel_statements.specs.Making.{IsEmptyDesk}
+use Rattle.hotel_statements.specs.NewDesk.{IsEmptyDesk}
 use Rattle.hotel_statements.specs.SameSchema.{same_schema}
 use Rattle.hotel_statements.proofs.SameSchema.{schema_is, desk_is_same}
 

@@ -23,7 +23,7 @@ use Rattle.hotel_tables.specs.TableBooks.{Tabled}
 use Rattle.hotel_statements.specs.Schema.{no_schema, desk_schema}
 use Rattle.hotel_statements.specs.Books.{IsKept, IsBooks, KeepsRows}
 use Rattle.hotel_statements.specs.Tables.{rows_in}
-use Rattle.hotel_statements.specs.Making.{IsEmptyDesk}
+use Rattle.hotel_statements.specs.NewDesk.{IsEmptyDesk}
 use Rattle.hotel_tables.specs.Opening.{NamesNoTable}
 use Rattle.hotel_tables.specs.Files.{file_fault, IsAnswer, AreBooksOf, AreOfOpening, LeavesDatabase, IsWhyNone, HoldBooks}
 use Rattle.hotel_tables.proofs.EmptyDesk.{empty_counted}

@@ -32,8 +32,8 @@ use Rattle.hotel_statements.specs.declared.plain_rows.NumberedInside.{NumberedIn
 use Rattle.hotel_rows.specs.declared.stored.PlainKind.{PlainKind}
 use Rattle.hotel_rows.specs.declared.stored.PlainInside.{PlainInside}
 use Rattle.hotel_rows.specs.declared.stored.Stored.{Stored}
-use Rattle.hotel_statements.specs.declared.reading.Tables.{Tables}
-use Rattle.hotel_rows.specs.declared.counting.Counts.{Counts}
+use Rattle.hotel_statements.specs.declared.whole_tables.Tables.{Tables}
+use Rattle.hotel_rows.specs.declared.counts.Counts.{Counts}
 use Rattle.hotel_tables.specs.declared.open_fault.OpenFault.{OpenFault}
 use Rattle.hotel_tables.specs.declared.open_fault.OpenFault.TheVariants as fault
 use Rattle.hotel_statements.specs.Columns.{meta_columns, meta_of, meta_written, kind_columns, kind_of, kind_written, room_columns, room_of, room_written, stay_columns, stay_of, stay_written}
@@ -46,9 +46,9 @@ use Rattle.hotel_tables.specs.TableBooks.{IsCounted}
 use Rattle.hotel_statements.specs.Books.{IsBooks}
 use Rattle.hotel_statements.specs.PlainRows.{maybe, meta_shown, kind_shown, room_shown, stay_shown, code_shown, card_shown, inside_shown, numbered_shown, numbered_columns, note_shown, ArePlainRows}
 use Rattle.hotel_statements.specs.PlainRows.{may_be_natural, room_natural, stay_natural, code_natural, card_natural, inside_natural, note_natural}
-use Rattle.hotel_statements.specs.Reading.{ReadsTo, AreRead}
+use Rattle.hotel_statements.specs.WholeTables.{ReadsTo, AreRead}
 use Rattle.hotel_tables.specs.Opening.{AreStored, AreApartInside, IsMetaRow, LacksRow, HasMetaRow, FaultFits, Told, Opens, all_rise, all_natural, id_inside, plain_inside, fault_for}
-use Rattle.hotel_rows.specs.Counting.{IsCountedOf}
+use Rattle.hotel_rows.specs.Counts.{IsCountedOf}
 use Rattle.hotel_rows.proofs.OfCounts.{counted_rooms, named_kind}
 use Rattle.hotel_statements.proofs.Answers.{fused}
 use Rattle.hotel_statements.proofs.Keyed.{key_total}

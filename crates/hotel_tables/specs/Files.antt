@@ -22,7 +22,7 @@ use Rattle.hotel_tables.specs.declared.files.FileFault.TheVariants.{File, Desk}
 use Rattle.hotel_statements.specs.Schema.{no_schema, desk_schema}
 use Rattle.hotel_statements.specs.Books.{IsKept, IsDesk, KeepsRows}
 use Rattle.hotel_statements.specs.Tables.{rows_in}
-use Rattle.hotel_statements.specs.Making.{IsEmptyDesk}
+use Rattle.hotel_statements.specs.NewDesk.{IsEmptyDesk}
 use Rattle.hotel_tables.specs.Opening.{FaultFits, IsOfCall, NamesNoTable}
 
 -- the fault of a file whose opening failed

@@ -18,7 +18,7 @@ use Rattle.hotel_statements.specs.PlainRows.{kind_order, room_order, stay_order,
 use Rattle.hotel_statements.specs.PlainRows.{may_be_natural, room_natural, stay_natural, code_natural, card_natural, inside_natural, note_natural}
 use Rattle.hotel_tables.specs.declared.open_fault.OpenFault.{OpenFault}
 use Rattle.hotel_tables.specs.declared.open_fault.OpenFault.TheVariants as fault
-use Rattle.hotel_rows.specs.declared.counting.Counts.{Counts}
+use Rattle.hotel_rows.specs.declared.counts.Counts.{Counts}
 use Rattle.hotel_rows.specs.declared.stored.PlainInside.{PlainInside}
 use Rattle.hotel_rows.specs.Damage.{first_damaged_of}
 use Rattle.hotel_statements.specs.Tables.{HasId, AreApartIds, rows_in}

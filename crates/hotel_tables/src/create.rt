@@ -4,9 +4,9 @@ ghost use Rattle.sqlite.specs.Held.{state};
 ghost use Rattle.sqlite.specs.State.{Survives};
 ghost use Rattle.hotel_statements.specs.Schema.{no_schema};
 ghost use Rattle.hotel_statements.specs.Books.{IsKept, IsBooks};
-ghost use Rattle.hotel_statements.specs.Making.{IsEmptyDesk};
+ghost use Rattle.hotel_statements.specs.NewDesk.{IsEmptyDesk};
 
-use hotel_statements::making::{enter_meta, make_first, make_last};
+use hotel_statements::new_desk::{enter_meta, make_first, make_last};
 use sqlite::{Alter, Connection, Error};
 
 /// Makes an empty desk of a database that has nothing, or leaves it so.

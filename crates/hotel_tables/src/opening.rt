@@ -4,17 +4,17 @@ ghost use Rattle.std.specs.Ordering.{int_cmp, is_eq, is_lt};
 ghost use Rattle.sqlite.specs.Held.{state};
 ghost use Rattle.sqlite.specs.Tree.{Trees, IsAscending};
 ghost use Rattle.hotel_core.specs.Model.SoundRooms.{are_in_order};
-ghost use Rattle.hotel_rows.specs.Counting.{IsCountedOf};
+ghost use Rattle.hotel_rows.specs.Counts.{IsCountedOf};
 ghost use Rattle.hotel_rows.specs.Damage.{first_damaged_of};
 ghost use Rattle.hotel_statements.specs.Tables.{AreTables, rows_in};
 ghost use Rattle.hotel_tables.specs.TableBooks.{IsCounted};
-ghost use Rattle.hotel_statements.specs.Reading.{IsOurs, AreRead};
+ghost use Rattle.hotel_statements.specs.WholeTables.{IsOurs, AreRead};
 ghost use Rattle.hotel_tables.specs.Opening.{AreStored, AreApartInside, IsMetaRow, FaultFits, Opens, LacksRow, all_rise, all_natural, plain_inside, id_inside, fault_for};
 
 use crate::open_fault::OpenFault;
 use hotel_rows::{Counts, PlainInside, Stored, counts_of, first_damaged};
 use hotel_statements::plain_rows::{self, NumberedInside, PlainMeta};
-use hotel_statements::reading::{self, Tables, read_tables, rise};
+use hotel_statements::whole_tables::{self, Tables, read_tables, rise};
 use keycard_rules::{LookFault, Memory};
 use sqlite::{Alter, Connection};
 use std::alloc::Global;
@@ -110,12 +110,12 @@ fn all_natural(stored: &Stored) -> bool
     ensures { result ≡ all_natural stored.now }
 {
     plain_rows::may_be_natural(stored.day)
-        && reading::all_natural(&stored.rooms)
-        && reading::all_natural(&stored.stays)
-        && reading::all_natural(&stored.codes)
-        && reading::all_natural(&stored.cards)
-        && reading::all_natural(&stored.inside)
-        && reading::all_natural(&stored.notes)
+        && whole_tables::all_natural(&stored.rooms)
+        && whole_tables::all_natural(&stored.stays)
+        && whole_tables::all_natural(&stored.codes)
+        && whole_tables::all_natural(&stored.cards)
+        && whole_tables::all_natural(&stored.inside)
+        && whole_tables::all_natural(&stored.notes)
 }
 
 /// The rows of the tables, where meta has its one row and each table is in the order of its key.

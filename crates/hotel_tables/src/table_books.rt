@@ -7,7 +7,7 @@ ghost use Rattle.sqlite.specs.Held.{state};
 ghost use Rattle.sqlite.specs.State.{Survives};
 ghost use Rattle.hotel_core.specs.Model.Rows.{no_rows};
 ghost use Rattle.hotel_statements.specs.Schema.{no_schema};
-ghost use Rattle.hotel_statements.specs.Making.{IsEmptyDesk};
+ghost use Rattle.hotel_statements.specs.NewDesk.{IsEmptyDesk};
 ghost use Rattle.hotel_tables.specs.Opening.{IsOfCall};
 ghost use Rattle.hotel_tables.specs.declared.open_fault.OpenFault.TheVariants.{NotADesk};
 ghost use Rattle.hotel_statements.specs.Books.{IsKept};
@@ -15,7 +15,7 @@ ghost use Rattle.hotel_statements.specs.Tables.{rows_in};
 ghost use Rattle.hotel_tables.specs.TableBooks.{failed};
 
 mod books;
-mod changing;
+mod changes;
 mod walks;
 
 use crate::create::make_desk;

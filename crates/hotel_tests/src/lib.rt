@@ -15,7 +15,7 @@ mod requests;
 #[cfg(test)]
 mod stopped_imports;
 #[cfg(test)]
-mod stopping;
+mod stops;
 #[cfg(test)]
 mod value_readers;
 #[cfg(test)]

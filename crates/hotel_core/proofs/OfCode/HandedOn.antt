@@ -2,7 +2,7 @@
 use Rattle.std.proofs.Common.{◌≡◌, Bool, true, false, List, [], ◌∷◌, ◌++◌, Result, Ok, Err, ap, sym, ◌∙◌, subst, inl, inr, IsSome}
 use Rattle.hotel_core.proofs.Names.{false≢true, Takes, TakesFront, Hands, failure_of, EndsAs, StopsEither}
 use Rattle.std.proofs.lemmas.List.{append-nil}
-use Rattle.hotel_core.specs.{declared.books.walks.WalkFault.WalkFault, declared.stopping.stopping_walks.Passing.Passing}
+use Rattle.hotel_core.specs.{declared.books.walks.WalkFault.WalkFault, declared.stops.stopping_walks.Passing.Passing}
 use Rattle.hotel_core.specs.declared.books.walks.WalkFault.TheVariants as why
 
 module _ {S R : Type 0} (after after_stop : S → R → S → Type 0) where

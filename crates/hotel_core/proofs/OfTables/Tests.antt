@@ -1,5 +1,5 @@
 -- Tests of numbers, and what they tell.
-use Rattle.std.proofs.Common.{ℕ, ◌≡◌, Bool, true, false, ◌⊎◌, inl, inr, Result, Ok, Err, OnOk, refl, sym, ◌∙◌, arith}
+use Rattle.std.proofs.Common.{ℕ, ◌≡◌, Bool, true, false, ◌⊎◌, inl, inr, Result, Ok, Err, OnOk, refl, sym, ◌∙◌, arith, ◌≤◌, ◌<◌, nat_le, nat_lt}
 use Rattle.std.specs.Prelude.{◌==◌, ◌&&◌, ◌||◌}
 use Rattle.std.proofs.lemmas.Bool.{false≢true}
 use Rattle.std.proofs.lemmas.Bool.Decides.{nat_tests}
@@ -9,6 +9,12 @@ eq_from a b h = grind (arith, nat_tests)
 
 pub eq_self : (a : ℕ) → (a == a) ≡ true
 eq_self a = grind (arith, nat_tests)
+
+pub le_tested : (a b : ℕ) → a ≤ b → nat_le a b ≡ true
+le_tested a b h = grind (arith, nat_tests)
+
+pub lt_tested : (a b : ℕ) → a < b → nat_lt a b ≡ true
+lt_tested a b h = grind (arith, nat_tests)
 
 -- a test that holds and fails
 pub not_both : {P : Type 0} (b : Bool) → b ≡ true → b ≡ false → P

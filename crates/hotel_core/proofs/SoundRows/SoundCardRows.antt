@@ -9,7 +9,7 @@ use Rattle.hotel_core.proofs.Invariants.LiftHomes as homes
 use Rattle.hotel_core.proofs.Invariants.CardParties.{cards_one_party, guests_have_cards}
 use Rattle.hotel_core.proofs.OfTables.RowTests.{both, or_first, or_later, where_so, all_found}
 use Rattle.hotel_core.proofs.{SoundRows.RowsPass.cards_pass, SoundRows.RowsPass.codes_pass, SoundRows.SoundKeys.cards_in_order, SoundRows.SoundKeys.stays_in_order}
-use Rattle.hotel_core.proofs.{SoundRows.SoundDay.le_tested, SoundRows.SoundRoomRows.each_room_is, SoundRows.SoundRoomRows.eq_tested, SoundRows.SoundStays.stay_has_number}
+use Rattle.hotel_core.proofs.{OfTables.Tests.le_tested, SoundRows.SoundRoomRows.each_room_is, SoundRows.SoundRoomRows.eq_tested, SoundRows.SoundStays.stay_has_number}
 use Rattle.hotel_core.proofs.SoundRows.SoundLinks.{said_some, new_at, link_stands, newest_tested, tested_newest, card_comes_last, last_cards}
 use Rattle.hotel_core.proofs.Starts.StartNumbers.{cards_numbered_at_start}
 

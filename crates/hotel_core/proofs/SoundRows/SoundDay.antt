@@ -1,13 +1,7 @@
 -- The day of a history's rows is in range, and is set before a kind is added.
 use Rattle.std.proofs.Common.{ℕ, ◌≡◌, ◌≤◌, ◌<◌, ◌+◌, true, Option, Some, None, refl, arith, length, ◌==◌, is_some, nat_le, nat_lt, option_map}
 use Rattle.hotel_core.proofs.Names.{nat_tests, said_of, Begun, Kind, NextDay, History, start, ◌▷◌, day, kinds, rows_of, Reached, is_day, day_in_range, day_before_kinds}
-use Rattle.hotel_core.proofs.{OfTables.Grown.may_follow, Invariants.EventRanges.last_in_range, OfTables.RowTests.or_first}
-
-pub le_tested : (a b : ℕ) → a ≤ b → nat_le a b ≡ true
-le_tested a b h = grind (arith, nat_tests)
-
-pub lt_tested : (a b : ℕ) → a < b → nat_lt a b ≡ true
-lt_tested a b h = grind (arith, nat_tests)
+use Rattle.hotel_core.proofs.{OfTables.Grown.may_follow, OfTables.Tests.le_tested, Invariants.EventRanges.last_in_range, OfTables.RowTests.or_first}
 
 next_by : (o : Option ℕ) → nat_lt (said_of o 0 (λ d. d)) 36524 ≡ true → said_of (option_map (λ d. d + 1) o) true is_day ≡ true
 next_by (Some d) h = grind (arith, nat_tests)

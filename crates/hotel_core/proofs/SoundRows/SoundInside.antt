@@ -5,7 +5,7 @@ use Rattle.hotel_core.proofs.{Facts.Follow.MayFollow, Facts.CodeFacts.IsLinkOf, 
 use Rattle.hotel_core.proofs.{Invariants.InsideRooms.came_in, Invariants.InsideRooms.left_out, Invariants.CodePlaces.same_place, Invariants.CodesFound.entered_in_order}
 use Rattle.hotel_core.proofs.{Invariants.LedgerOrder.card_seen, Invariants.LedgerOrder.link_seen, Invariants.OpenLocks.link_of_room, OfTables.RoomNumbers.room_there}
 use Rattle.hotel_core.proofs.{Invariants.SecuredRooms.secured_rooms_fit, OfTables.RowTests.both, OfTables.RowTests.where_so, OfTables.RowTests.all_there}
-use Rattle.hotel_core.proofs.SoundRows.SoundDay.{le_tested}
+use Rattle.hotel_core.proofs.OfTables.Tests.{le_tested}
 use Rattle.hotel_core.proofs.SoundRows.SoundLinks.{said_some, new_at, link_stands, newest_tested}
 use Rattle.hotel_core.proofs.{Invariants.Kept.room_goes_on, Invariants.Kept.card_goes_on, Invariants.Kept.link_goes_on, Starts.StartInside.insiders_seen_at_start}
 

@@ -6,7 +6,7 @@ use Rattle.hotel_core.proofs.{Facts.CodeFacts.IsLinkOf, OfTables.Tests.eq_from, 
 use Rattle.hotel_core.proofs.{Invariants.EventRanges.last_in_range, OfTables.CodeLists.parted, Invariants.CodePlaces.codes_have_places}
 use Rattle.hotel_core.proofs.{Invariants.LedgerOrder.ledger_holds, Invariants.LedgerOrder.card_seen, Invariants.LedgerOrder.link_seen, Invariants.OpenLocks.link_of_room}
 use Rattle.hotel_core.proofs.{RowsAfter.HasRows.room_has_row, Lifted.LiftEasy.room_is_there, OfTables.RowTests.both, SoundRows.RowsPass.notes_pass}
-use Rattle.hotel_core.proofs.{SoundRows.SoundDay.le_tested, SoundRows.SoundDay.lt_tested, SoundRows.SoundRoomRows.each_room_is, SoundRows.SoundRoomRows.eq_tested}
+use Rattle.hotel_core.proofs.{OfTables.Tests.le_tested, OfTables.Tests.lt_tested, SoundRows.SoundRoomRows.each_room_is, SoundRows.SoundRoomRows.eq_tested}
 use Rattle.hotel_core.proofs.SoundRows.SoundLinks.{said_some, link_stands, same_self}
 use Rattle.hotel_core.proofs.SoundRows.SoundInside.{insiders_seen, one_card}
 use Rattle.hotel_core.proofs.Invariants.Kept.{room_goes_on, code_is_on, card_is_on}

@@ -7,7 +7,7 @@ use Rattle.hotel_core.proofs.{OfTables.Numbered.found_there, OfTables.Grown.may_
 use Rattle.hotel_core.proofs.{Invariants.LedgerOrder.ledger_holds, Invariants.LedgerOrder.link_seen, Invariants.OpenLocks.link_of_room}
 use Rattle.hotel_core.proofs.Invariants.SecuredRooms.{secured_by, secured_rooms_fit}
 use Rattle.hotel_core.proofs.{OfTables.RowTests.both, OfTables.RowTests.where_so, OfTables.RowTests.all_mapped, OfTables.RowTests.all_found, SoundRows.RowsPass.rooms_pass}
-use Rattle.hotel_core.proofs.{SoundRows.SoundKeys.rooms_in_order, SoundRows.SoundDay.le_tested, SoundRows.SoundDay.lt_tested}
+use Rattle.hotel_core.proofs.{SoundRows.SoundKeys.rooms_in_order, OfTables.Tests.le_tested, OfTables.Tests.lt_tested}
 use Rattle.hotel_core.proofs.{Starts.StartRows.rooms_numbered_at_start, Starts.StartRows.few_notes_at_start, Starts.StartSecured.secured_have_two_at_start}
 
 -- a rule of all rooms holds where it holds of each room's row

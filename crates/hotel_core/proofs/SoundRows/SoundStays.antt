@@ -5,7 +5,7 @@ use Rattle.hotel_nights.specs.Guests.{is_guest}
 use Rattle.hotel_core.proofs.{OfTables.Tests.eq_from, OfTables.Tests.eq_self, Invariants.EventRanges.last_in_range, Invariants.Numbering.stays_count}
 use Rattle.hotel_core.proofs.{Invariants.NumbersLeft.stays_fit, OfTables.RoomNumbers.room_there, Invariants.InHouse.registered_in_house, RowsAfter.HasRows.home_is_room}
 use Rattle.hotel_core.proofs.{OfTables.RowTests.both, OfTables.RowTests.all_found, OfTables.RowTests.found_passes, SoundRows.RowsPass.stays_pass}
-use Rattle.hotel_core.proofs.{SoundRows.SoundKeys.stays_in_order, SoundRows.SoundDay.le_tested, SoundRows.SoundDay.lt_tested, Starts.StartNumbers.stays_numbered_at_start}
+use Rattle.hotel_core.proofs.{SoundRows.SoundKeys.stays_in_order, OfTables.Tests.le_tested, OfTables.Tests.lt_tested, Starts.StartNumbers.stays_numbered_at_start}
 
 -- the stay of a number has it
 pub stay_has_number : (h : History) → Reached h → (p : ℕ) (stay : Stay) → at_number (stays h) p ≡ Some stay → stay.party ≡ p

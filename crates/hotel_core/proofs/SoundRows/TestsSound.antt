@@ -3,7 +3,7 @@ use Rattle.std.proofs.Common.{ℕ, zero, suc, ◌≡◌, ◌≤◌, Bool, true, 
 use Rattle.hotel_core.proofs.Names.{list_any, list_all, values_of, nat_tests, bytes_eq-Decides, Stay, takes, is_standing, Rows, day_in_range, day_before_kinds, kinds_read, room_numbers, lock_places, room_kinds_there, codes_few, note_counts, parties_in_house, secured_hold_last, stay_numbers, guests_read, stay_kinds_there, stay_days, stay_rooms, nights_fit, stays_on, rooms_with, codes_in_range, code_rooms_there, places_once, card_numbers, card_parties_there, links_are_neighbours, links_of_one_party, neighbours_are_links, newest_of_party, last_cards_newest, insides_fit, notes_counted, notes_fit, IsSound, passes_rules}
 use Rattle.hotel_nights.specs.FullNight.{is_of_kind}
 use Rattle.hotel_core.proofs.{OfTables.Tests.eq_from, OfTables.Tests.and_true, OfTables.Tests.or_false, OfTables.Tests.not_both, Invariants.KindCounts.count_more}
-use Rattle.hotel_core.proofs.{OfTables.RowTests.both, SoundRows.SoundDay.le_tested}
+use Rattle.hotel_core.proofs.{OfTables.RowTests.both, OfTables.Tests.le_tested}
 
 -- each first night of a stay fits, where all nights do
 begins_by : (rows : Rows) → ((kind : List ℕ) (d : ℕ) → stays_on rows kind d ≤ rooms_with rows kind) → (es : List (ℕ × Stay)) → list_all (λ (e : ℕ × Stay). nat_le (stays_on rows e.1.kind e.1.arrive) (rooms_with rows e.1.kind)) es ≡ true

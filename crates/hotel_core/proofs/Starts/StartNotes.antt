@@ -2,7 +2,7 @@
 use Rattle.std.proofs.Common.{ℕ, zero, suc, ◌≡◌, ◌≤◌, ◌<◌, ◌+◌, Bool, true, false, cond, Option, Some, None, List, [], ◌∷◌, drop, refl, ap, sym, ◌∙◌, arith, ◌==◌, ◌&&◌, is_some, nat_le, length}
 use Rattle.hotel_core.proofs.Names.{is_at, list_all, lookup, nat_tests, Note, RoomRow, when, pair_cmp, Rows, at_number, notes_at, start, notes, is_room, count_up, is_day, counts_at, act_fits, note_fits, IsSound}
 use Rattle.hotel_core.proofs.OfTables.Pairs.{pair_is, pair_cmp_total}
-use Rattle.hotel_core.proofs.OfTables.Tests.{eq_from, eq_self, and_true, not_both}
+use Rattle.hotel_core.proofs.OfTables.Tests.{eq_from, eq_self, and_true, not_both, le_tested}
 use Rattle.hotel_core.proofs.{OfTables.RowTests.found_passes, OfTables.RowTests.all_found, Starts.StartRules.some_of}
 use Rattle.hotel_core.proofs.{Starts.StartCodes.room_is, Starts.StartCodes.has_no_row, Starts.StartCodes.orders, Starts.StartLedger.not_there, Starts.StartSplits.past}
 
@@ -102,9 +102,6 @@ within_by t s r (suc k) note e =
     let m : k + 1 ≡ suc k = omega arith in
     let l = some_left k (notes_at t.notes r) note (sym (note_kept_at_start t s r k) ∙ ap (λ z. lookup (is_at (pair_cmp (r, z))) t.notes) m ∙ e) in
     omega arith
-
-le_tested : (a b : ℕ) → a ≤ b → nat_le a b ≡ true
-le_tested a b l = grind (arith, nat_tests)
 
 -- No note has a count above how many its room has.
 pub counts_within_at_start : (t : Rows) → IsSound t → list_all (λ (e : (ℕ × ℕ) × Note). nat_le e.0.1 (length (notes_at t.notes e.0.0))) t.notes ≡ true

@@ -5,7 +5,7 @@ ghost use Rattle.keycard_rules.specs.Lock.{turn};
 ghost use Rattle.keycard_rules.specs.declared.note.Act.TheVariants as act;
 ghost use Rattle.hotel_core.specs.{Refinement.Answered.IsOutcome, Refinement.Finds.Finds, Refinement.Finds.AnyRows, Refinement.Finds.reply_of, Books.Lookups.inside_at};
 ghost use Rattle.hotel_core.specs.{Model.Guests.are_none, declared.reply.Refusal.TheVariants.Store};
-ghost use Rattle.hotel_core.specs.{Refinement.Noting.IsUntaken, Refinement.Noting.opened_on, Refinement.Noting.secured_by, Refinement.ChangeOf.comes};
+ghost use Rattle.hotel_core.specs.{Refinement.NotesOnRows.IsUntaken, Refinement.NotesOnRows.opened_on, Refinement.NotesOnRows.secured_by, Refinement.ChangeOf.comes};
 ghost use Rattle.hotel_core.specs.{Refinement.OnRows.told_on, Refinement.OnRows.has_link_on, Refinement.StepOnRows.StepsAs, Model.Words.is_one_of};
 
 use crate::books::Books;

@@ -2,7 +2,7 @@
 ghost use Rattle.std.specs.Prelude.{◌≡◌, false};
 ghost use Rattle.rand_core.specs.Stream.{Stream};
 ghost use Rattle.keycard_rules.specs.declared.note.Act.TheVariants as act;
-ghost use Rattle.hotel_core.specs.{Refinement.Answered.IsOutcome, Refinement.Finds.reply_of, Refinement.Noting.IsUntaken, Refinement.OnRows.told_on, Refinement.StepOnRows.StepsAs};
+ghost use Rattle.hotel_core.specs.{Refinement.Answered.IsOutcome, Refinement.Finds.reply_of, Refinement.NotesOnRows.IsUntaken, Refinement.OnRows.told_on, Refinement.StepOnRows.StepsAs};
 
 use crate::books::Books;
 use crate::books::change::{Change, InsideMove};

@@ -3,7 +3,7 @@ ghost use Rattle.std.specs.Prelude.{◌≡◌, false, Option, Some, None, bytes_
 ghost use Rattle.rand_core.specs.Stream.{Stream};
 ghost use Rattle.keycard_rules.specs.Draw.{words};
 ghost use Rattle.hotel_core.specs.{Model.Stays.is_booked_state, Model.Stays.room_of_state, Refinement.Finds.reply_of, Refinement.Finds.Passes};
-ghost use Rattle.hotel_core.specs.{Refinement.Issuing.bars_to_check_in, Refinement.Issuing.bars_to_transfer, Refinement.OnRows.outcome_on, Refinement.StepOnRows.StepsAs};
+ghost use Rattle.hotel_core.specs.{Refinement.CardsOnRows.bars_to_check_in, Refinement.CardsOnRows.bars_to_transfer, Refinement.OnRows.outcome_on, Refinement.StepOnRows.StepsAs};
 ghost use Rattle.hotel_core.specs.declared.command.Command.TheVariants as command;
 
 use crate::books::Books;

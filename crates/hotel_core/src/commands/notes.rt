@@ -2,7 +2,7 @@
 ghost use Rattle.std.specs.Prelude.{◌≡◌, false, None};
 ghost use Rattle.rand_core.specs.Stream.{Stream};
 ghost use Rattle.keycard_rules.specs.Draw.{words};
-ghost use Rattle.hotel_core.specs.{Refinement.Answered.IsOutcome, Refinement.Finds.reply_of, Refinement.Noting.IsUntaken};
+ghost use Rattle.hotel_core.specs.{Refinement.Answered.IsOutcome, Refinement.Finds.reply_of, Refinement.NotesOnRows.IsUntaken};
 ghost use Rattle.hotel_core.specs.{Model.Cards.same_link, Model.Notes.same_act, Model.Notes.same_note, Refinement.OnRows.outcome_on, Refinement.OnRows.reported_on};
 ghost use Rattle.hotel_core.specs.{Model.Ranges.IsCommand, Refinement.StepOnRows.StepsAs};
 ghost use Rattle.hotel_core.specs.declared.command.Command.TheVariants as command;

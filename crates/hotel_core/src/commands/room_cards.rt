@@ -2,7 +2,7 @@
 ghost use Rattle.std.specs.Prelude.{◌≡◌, ◌<◌, ◌-◌, ◌^◌, false, Option, Some, IsSome, OnOk};
 ghost use Rattle.keycard_rules.specs.Draw.{words};
 ghost use Rattle.hotel_core.specs.{Refinement.Answered.IsOutcome, Refinement.Finds.Finds, Refinement.Finds.reply_of};
-ghost use Rattle.hotel_core.specs.Refinement.Issuing.{issued_on, HasCurrent, HasLink, last_link_on};
+ghost use Rattle.hotel_core.specs.Refinement.CardsOnRows.{issued_on, HasCurrent, HasLink, last_link_on};
 ghost use Rattle.hotel_core.specs.{Books.Lookups.room_at, Books.Lookups.code_at, Refinement.StepOnRows.StepsAs, declared.reply.Refusal.TheVariants.Store};
 
 use crate::books::Books;

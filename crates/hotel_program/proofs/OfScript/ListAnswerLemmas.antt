@@ -18,7 +18,7 @@ use Rattle.hotel_lists.specs.Lines.{LooksAt}
 use Rattle.hotel_lists.specs.declared.fault.ListFault.{ListFault}
 use Rattle.hotel_lists.specs.declared.fault.ListFault.TheVariants as fault
 use Rattle.hotel_asks.specs.Listings.{Listing, ListEnds}
-use Rattle.hotel_program.specs.Script.ListAnswers.{refusal_text, refusal_of, failure_of, AnswersList, ListAnswered}
+use Rattle.hotel_program.specs.Script.ListAnswers.{refusal_text, told_refusal, failure_of, AnswersList, ListAnswered}
 use Rattle.hotel_program.proofs.OfScript.ScriptLemmas.{appends_front}
 
 -- the failures that the books counted where a list ended by a fault
@@ -30,21 +30,21 @@ failed_by _ = []
 FailsSo : Refusal → List Refusal → Type 0
 FailsSo why failed = (is_failed (Refused why) ≡ true) × (failed ≡ failure_of why)
 
-by_memory : (why : Refusal) → refusal_of fault.Memory ≡ Some why → FailsSo why []
+by_memory : (why : Refusal) → told_refusal fault.Memory ≡ Some why → FailsSo why []
 unfolding FailsSo
 by_memory why e = let same : refusal.Memory ≡ why = cc e in subst (λ (w : Refusal). FailsSo w []) same (refl, refl)
 
-by_store : (why : Refusal) → refusal_of fault.Store ≡ Some why → FailsSo why (refusal.Store ∷ [])
+by_store : (why : Refusal) → told_refusal fault.Store ≡ Some why → FailsSo why (refusal.Store ∷ [])
 unfolding FailsSo
 by_store why e = let same : refusal.Store ≡ why = cc e in subst (λ (w : Refusal). FailsSo w (refusal.Store ∷ [])) same (refl, refl)
 
-said_no_room : (listing : Option Listing) (old new : Option (List ℕ)) (why : Refusal) → refusal_of fault.NoRoom ≡ Some why → ListEnds [] listing old new (Err fault.NoRoom)
+said_no_room : (listing : Option Listing) (old new : Option (List ℕ)) (why : Refusal) → told_refusal fault.NoRoom ≡ Some why → ListEnds [] listing old new (Err fault.NoRoom)
     → (front : List ℕ) × AnswersList listing (front ++ refusal_text why) [] × Appends old new front
 said_no_room None old new why e p = let same : refusal.NoRoom ≡ why = cc e in ([], inl (ap refusal_text (sym same), refl), p.1)
 said_no_room (Some listing) old new why e p = cc p.0
 
 -- whole lines of a list, which its refusal follows
-refused_front : (listing : Option Listing) (old new : Option (List ℕ)) (why_not : ListFault) (why : Refusal) → refusal_of why_not ≡ Some why → ListEnds [] listing old new (Err why_not)
+refused_front : (listing : Option Listing) (old new : Option (List ℕ)) (why_not : ListFault) (why : Refusal) → told_refusal why_not ≡ Some why → ListEnds [] listing old new (Err why_not)
     → (front : List ℕ) × AnswersList listing (front ++ refusal_text why) (failed_by why_not) × Appends old new front
 unfolding failed_by FailsSo
 refused_front listing old new fault.NoRoom why e p = said_no_room listing old new why e p
@@ -64,7 +64,7 @@ counted_by I {old = old} {new = new} fault.Store looks =
 
 -- the whole answer of a list that was refused
 pub refused_whole : {B : Type 0} (I : IssuedOf B) {b c : B}
-    (listing : Option Listing) (old mid new : Option (List ℕ)) (why_not : ListFault) (why : Refusal) → refusal_of why_not ≡ Some why
+    (listing : Option Listing) (old mid new : Option (List ℕ)) (why_not : ListFault) (why : Refusal) → told_refusal why_not ≡ Some why
     → ListEnds [] listing old mid (Err why_not) → LooksAt I b c (Err why_not) → Appends mid new (refusal_text why)
     → ListAnswered listing (Appends old new) (AreCounted (I.failures b) (I.failures c))
 refused_whole I listing old mid new why_not why e p looks written =
@@ -73,7 +73,7 @@ refused_whole I listing old mid new why_not why e p looks written =
 
 -- a front of the answer of a list that was refused
 pub refused_cut : {B : Type 0} (I : IssuedOf B) {b c : B}
-    (listing : Option Listing) (old mid new : Option (List ℕ)) (why_not : ListFault) (why : Refusal) → refusal_of why_not ≡ Some why
+    (listing : Option Listing) (old mid new : Option (List ℕ)) (why_not : ListFault) (why : Refusal) → told_refusal why_not ≡ Some why
     → ListEnds [] listing old mid (Err why_not) → LooksAt I b c (Err why_not) → AppendsFront mid new (refusal_text why)
     → ListAnswered listing (AppendsFront old new) (AreCounted (I.failures b) (I.failures c))
 refused_cut I listing old mid new why_not why e p looks written =
@@ -92,7 +92,7 @@ write_failed {a} {b} None old new p grown = absurd (p.0 refl)
 write_failed {a} {b} (Some listing) old new p grown = (_, [], inl (refl, refl), p.1, none_counted a b grown)
 
 -- a list whose write failed, which no refusal answers
-pub cut_answered : {a b : LookFault → ℕ} (listing : Option Listing) (old new : Option (List ℕ)) (why_not : ListFault) → refusal_of why_not ≡ None
+pub cut_answered : {a b : LookFault → ℕ} (listing : Option Listing) (old new : Option (List ℕ)) (why_not : ListFault) → told_refusal why_not ≡ None
     → ListEnds [] listing old new (Err why_not) → NoFewer a b → ListAnswered listing (AppendsFront old new) (AreCounted a b)
 cut_answered listing old new fault.NoRoom e p grown = cc e
 cut_answered listing old new fault.Memory e p grown = cc e

@@ -32,8 +32,8 @@ abbrev pub ListAnswered : Option Listing → (List ℕ → Type 0) → (List Ref
 ListAnswered listing written counted = (text : List ℕ) × (failed : List Refusal) × AnswersList listing text failed × written text × counted failed
 
 -- The refusal that a list's fault is answered by; none where the writer itself failed.
-abbrev pub refusal_of : ListFault → Option Refusal
-refusal_of fault.NoRoom = Some refusal.NoRoom
-refusal_of fault.Memory = Some refusal.Memory
-refusal_of fault.Store = Some refusal.Store
-refusal_of fault.Write = None
+abbrev pub told_refusal : ListFault → Option Refusal
+told_refusal fault.NoRoom = Some refusal.NoRoom
+told_refusal fault.Memory = Some refusal.Memory
+told_refusal fault.Store = Some refusal.Store
+told_refusal fault.Write = None

@@ -3,7 +3,7 @@
 ghost use Rattle.std.specs.Prelude.{◌≡◌, ◌≢◌, true, IsErrOf, List, Bool, Result};
 ghost use Rattle.hotel_lists.specs.Calls.{NoneForgotten};
 ghost use Rattle.hotel_audit.specs.declared.answer.LineAnswer.{LineAnswer};
-ghost use Rattle.hotel_audit.specs.declared.importing.ImportFault.{ImportFault};
+ghost use Rattle.hotel_audit.specs.declared.imports.ImportFault.{ImportFault};
 ghost use Rattle.hotel_program.specs.Faults.{end_status, IsOfFiles, Tells};
 ghost use Rattle.hotel_program.specs.Alone.AuditRuns.{answers_status, file_fault, import_fault, audit_end, WritesAnswers, ImportEnds};
 

@@ -6,7 +6,7 @@ ghost use Rattle.keycard_rules.specs.Rise.{NoFewer};
 ghost use Rattle.hotel_core.specs.Books.Failures.{AreCounted};
 ghost use Rattle.hotel_lists.specs.Bytes.{AppendsFront};
 ghost use Rattle.hotel_lists.specs.Calls.{NoneForgotten};
-ghost use Rattle.hotel_program.specs.Script.ListAnswers.{ListAnswered, refusal_of};
+ghost use Rattle.hotel_program.specs.Script.ListAnswers.{ListAnswered, told_refusal};
 ghost use Rattle.hotel_asks.specs.Listings.{listing_on};
 
 use hotel_asks::{ListAsk, write_list};
@@ -16,8 +16,8 @@ use std::alloc::Global;
 use std::io::Write;
 
 /// The refusal that a list's fault is answered by. None where the writer itself failed.
-fn refusal_of(fault: ListFault) -> Option<Refusal>
-    ensures { result ≡ refusal_of fault }
+fn told_refusal(fault: ListFault) -> Option<Refusal>
+    ensures { result ≡ told_refusal fault }
 {
     match fault {
         ListFault::NoRoom => Some(Refusal::NoRoom),
@@ -50,7 +50,7 @@ pub fn answer_list<W: Write, B: Walks>(
     let Err(fault) = write_list(alloc, list, writer, books, calls) else {
         return Ok(());
     };
-    let Some(refusal) = refusal_of(fault) else {
+    let Some(refusal) = told_refusal(fault) else {
         return Err(WriteFailed);
     };
     let text = reply_text(&Reply::Refused(refusal));

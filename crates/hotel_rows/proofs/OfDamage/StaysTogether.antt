@@ -17,7 +17,7 @@ use Rattle.hotel_rows.specs.declared.stored.PlainStay.{PlainStay}
 use Rattle.hotel_rows.specs.Stored.{number_of, rows_of, stay_entry, stay_row, room_row}
 use Rattle.hotel_rows.specs.Keys.{are_numbered, room_key, stay_key}
 use Rattle.hotel_rows.specs.Damage.{stay_columns, stay_holds}
-use Rattle.hotel_rows.specs.RowTests.{stay_fits, has_home, has_night, has_plain_home}
+use Rattle.hotel_rows.specs.RowTests.{stay_fits, has_home, has_night, stay_has_home}
 use Rattle.hotel_rows.proofs.OfDamage.RowsTogether.{keys_mapped, length_mapped, all_alike, left_and}
 
 all_yes : {L : Type 0} (ls : List L) → list_all (λ l. true) ls ≡ true
@@ -83,7 +83,7 @@ parts true b h = (refl, h)
 parts false b h = absurd (let w : ◌≡◌ {A = Bool} false true = h in cc)
 
 -- where the rules of stays hold, each party in house has its room
-pub homes_of_stays : (s : Stored) → stay_holds s ≡ true → list_all (has_plain_home s) s.stays.items ≡ true
+pub homes_of_stays : (s : Stored) → stay_holds s ≡ true → list_all (stay_has_home s) s.stays.items ≡ true
 homes_of_stays s h =
     let rooms = (parts _ (stay_rooms (rows_of s)) (parts _ (nights_fit (rows_of s)) h).0).1 in
     sym (all_mapped (λ (e : ℕ × Stay). has_home (rows_of s) e.1) stay_entry s.stays.items) ∙ rooms

@@ -3,7 +3,7 @@ ghost use Rattle.std.specs.Prelude.{◌≡◌, true, IfOk};
 ghost use Rattle.std.specs.List.{list_all};
 ghost use Rattle.hotel_rows.specs.Stored.{rows_of, card_row};
 ghost use Rattle.hotel_rows.specs.Places.{AreOf};
-ghost use Rattle.hotel_rows.specs.RowTests.{card_fits, has_plain_home, links_hold};
+ghost use Rattle.hotel_rows.specs.RowTests.{card_fits, stay_has_home, links_hold};
 ghost use Rattle.hotel_rows.specs.Damage.{card_holds};
 ghost use Rattle.hotel_rows.specs.Placed.{PlacesOf, placed_as_due};
 
@@ -62,7 +62,7 @@ fn links_hold(
     requires places { AreOf places.now stored.now }
     requires placed { PlacesOf placed.now.entries stored.now.codes.items }
     requires due { list_all (placed_as_due placed.now.entries) stored.now.rooms.items ≡ true }
-    requires homes { list_all (has_plain_home stored.now) stored.now.stays.items ≡ true }
+    requires homes { list_all (stay_has_home stored.now) stored.now.stays.items ≡ true }
     ensures { IfOk result (λ hold. hold ≡ links_hold stored.now) }
 {
     let codes = brought_codes(alloc, &stored.cards)?;
@@ -91,7 +91,7 @@ pub(crate) fn cards_hold(
     requires places { AreOf places.now stored.now }
     requires placed { PlacesOf placed.now.entries stored.now.codes.items }
     requires due { list_all (placed_as_due placed.now.entries) stored.now.rooms.items ≡ true }
-    requires homes { list_all (has_plain_home stored.now) stored.now.stays.items ≡ true }
+    requires homes { list_all (stay_has_home stored.now) stored.now.stays.items ≡ true }
     ensures { IfOk result (λ hold. hold ≡ card_holds stored.now) }
 {
     let keys = card_keys(alloc, &stored.cards)?;

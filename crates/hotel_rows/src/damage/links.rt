@@ -10,7 +10,7 @@ ghost use Rattle.hotel_core.specs.Model.Words.{said_of};
 ghost use Rattle.hotel_rows.specs.Keys.{Finds, new_code_of};
 ghost use Rattle.hotel_rows.specs.Places.{AreOf};
 ghost use Rattle.hotel_rows.specs.Placed.{PlacesOf, are_due_at, placed_as_due};
-ghost use Rattle.hotel_rows.specs.RowTests.{agrees, is_brought, is_owned, has_owner, has_last, has_plain_home};
+ghost use Rattle.hotel_rows.specs.RowTests.{agrees, is_brought, is_owned, has_owner, has_last, stay_has_home};
 
 use crate::damage::found::{Places, room_at};
 use crate::damage::numbers::{number, number_if};
@@ -239,7 +239,7 @@ fn has_last(
     requires placed { PlacesOf placed.now.entries stored.now.codes.items }
     requires due { list_all (placed_as_due placed.now.entries) stored.now.rooms.items ≡ true }
     requires lasts { LastsOf lasts.now.entries stored.now.cards.items }
-    requires home { has_plain_home stored.now stay.now ≡ true }
+    requires home { stay_has_home stored.now stay.now ≡ true }
     ensures { result ≡ has_last stored.now stay.now }
 {
     let Some(home) = home_of(stay) else {
@@ -259,7 +259,7 @@ pub(crate) fn all_have_lasts(
     requires placed { PlacesOf placed.now.entries stored.now.codes.items }
     requires due { list_all (placed_as_due placed.now.entries) stored.now.rooms.items ≡ true }
     requires lasts { LastsOf lasts.now.entries stored.now.cards.items }
-    requires homes { list_all (has_plain_home stored.now) stored.now.stays.items ≡ true }
+    requires homes { list_all (stay_has_home stored.now) stored.now.stays.items ≡ true }
     ensures { result ≡ list_all (has_last stored.now) stored.now.stays.items }
 {
     for i in 0..stored.stays.len() {

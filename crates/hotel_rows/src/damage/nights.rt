@@ -5,9 +5,9 @@ ghost use Rattle.hotel_nights.specs.FullNight.{takes};
 ghost use Rattle.hotel_rows.specs.Stored.{stay_row};
 ghost use Rattle.hotel_rows.specs.RowTests.{is_room_of_kind, has_night};
 ghost use Rattle.hotel_rows.specs.declared.stored.Stored.{Stored as Rows};
-ghost use Rattle.hotel_rows.specs.Counting.{IsCountedOf};
+ghost use Rattle.hotel_rows.specs.Counts.{IsCountedOf};
 
-use crate::counting::{Counts, counts_of, day, kind_code};
+use crate::counts::{Counts, counts_of, day, kind_code};
 use crate::damage::numbers::number;
 use crate::stored::{PlainRoom, PlainStay, Stored};
 use keycard_rules::{LookFault, Memory};

@@ -3,7 +3,7 @@ use Rattle.sqlite.specs.Tree.{Trees}
 use Rattle.sqlite.specs.Held.{state}
 use Rattle.sqlite.specs.State.{State, Survives}
 use Rattle.sqlite.proofs.StateLemmas.{survives_then, survives_weaker}
-use Rattle.hotel_statements.specs.Making.{IsEmptyDesk}
+use Rattle.hotel_statements.specs.NewDesk.{IsEmptyDesk}
 use Rattle.hotel_tables.proofs.create.make_desk.Goals as goal
 
 none_then : {a b c : State} → Survives a b (λ _. ⊥) → Survives b c (λ _. ⊥) → Survives a c (λ _. ⊥)

@@ -1,6 +1,6 @@
 use Rattle.std.proofs.Common.{subst, sym, Err}
 use Rattle.sqlite.specs.Held.{state}
-use Rattle.hotel_statements.specs.Reading.{ReadsTo, AreRead}
+use Rattle.hotel_statements.specs.WholeTables.{ReadsTo, AreRead}
 use Rattle.hotel_tables.specs.Opening.{Opens}
 use Rattle.hotel_tables.proofs.Opened.{opens_to, opens_not}
 use Rattle.hotel_tables.proofs.opening.find_counts.Goals as goal

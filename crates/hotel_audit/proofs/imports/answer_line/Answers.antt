@@ -1,0 +1,41 @@
+use Rattle.std.proofs.Common.{◌≡◌, ◌∙◌, refl, subst, Result, Ok, Err, IfOk, IfErr, OnErr}
+use Rattle.hotel_core.proofs.Names.{AreCounted}
+use Rattle.hotel_audit.proofs.{LineAnswers.lead-note, LineAnswers.lead-unread, NoteReplies.answered_reply, NoteReplies.failed_reply, NoteReplies.failure_told}
+use Rattle.hotel_audit.proofs.imports.answer_line.Goals as goal
+
+if_ok : {A E : Type 0} (r : Result A E) (P : A → Type 0) → ((a : A) → Ok a ≡ r → P a) → IfOk r P
+if_ok (Ok a) P h = h a refl
+if_ok (Err e) P h = tt
+
+on_err : {A E : Type 0} (r : Result A E) (P : Type 0) → ((e : E) → Err e ≡ r → P) → OnErr r P
+on_err (Ok a) P h = tt
+on_err (Err e) P h = h e refl
+
+if_err : {A E : Type 0} (r : Result A E) (P : E → Type 0) → ((e : E) → Err e ≡ r → P e) → IfErr r P
+if_err (Ok a) P h = tt
+if_err (Err e) P h = h e refl
+
+pub returns-in-Unread-clause-answer : goal.returns-in-Unread-clause-answer
+returns-in-Unread-clause-answer g c = rw c.in-Unread.is refl
+
+pub returns-in-Unread-clause-step : goal.returns-in-Unread-clause-step
+returns-in-Unread-clause-step g c = λ clean. rw c.in-Unread.is (lead-unread (g.B.Books.rows c.args.books.now) c.in-Unread.cause)
+
+pub returns-in-Note-clause-answer : goal.returns-in-Note-clause-answer
+returns-in-Note-clause-answer g c = rw c.in-Note.is (if_ok c.answer_of.result _ (λ a e. (answered_reply c.in-Note.note c.report.result a (e ∙ c.answer_of.ensures)).0))
+
+pub returns-in-Note-clause-step : goal.returns-in-Note-clause-step
+returns-in-Note-clause-step g c =
+    rw c.in-Note.is
+    (if_ok c.answer_of.result _ (λ a e clean. lead-note (g.B.Books.rows c.args.books.now) (g.B.Books.rows c.report.new.books) c.in-Note.note c.report.result a (e ∙ c.answer_of.ensures) (c.report.ensures.step clean)))
+
+pub returns-in-Note-clause-unchanged : goal.returns-in-Note-clause-unchanged
+returns-in-Note-clause-unchanged g c =
+    on_err c.answer_of.result _ (λ why e clean. c.report.ensures.unchanged clean (failed_reply c.report.result why (e ∙ c.answer_of.ensures) (c.report.ensures.note clean)))
+
+pub returns-in-Note-clause-failed : goal.returns-in-Note-clause-failed
+returns-in-Note-clause-failed g c =
+    if_err c.answer_of.result _ (λ why e clean.
+    let told = e ∙ c.answer_of.ensures in
+    subst (λ fs. AreCounted (g.B.Issued.failures c.args.books.now) (g.B.Issued.failures c.report.new.books) fs)
+    (failure_told c.report.result why told (failed_reply c.report.result why told (c.report.ensures.note clean))) (c.report.ensures.failed clean))

@@ -1,0 +1,141 @@
+//! Connections that are answered one after the other.
+
+ghost use Rattle.std.specs.Prelude.{◌≡◌, ◌∷◌, [], List, Result, Some, length};
+ghost use Rattle.keycard_rules.specs.Rise.{NoFewer};
+ghost use Rattle.hotel_core.specs.Model.Leads.{Leads};
+ghost use Rattle.hotel_lists.specs.Calls.{NoneForgotten};
+ghost use Rattle.hotel_http.specs.declared.serve.Served.{Served};
+ghost use Rattle.hotel_http.specs.declared.serve.ServeFault.{ServeFault};
+ghost use Rattle.hotel_program.specs.Faults.{TellsAll};
+ghost use Rattle.hotel_program.specs.Connections.{ConnectionEnd, ServesAll, connection_end, faults_of, serve_end};
+
+use crate::faults::{Fault, FaultSink};
+use crate::statuses::DONE;
+use hotel_core::Walks;
+use hotel_http::{Routes, ServeFault, Served, make_routes, serve_by, serve_one};
+use hotel_lists::IoCalls;
+use rand_core::Rng;
+use std::alloc::Global;
+use std::io::{Read, Write};
+use std::net::{TcpListener, TcpStream};
+use std::time::Duration;
+
+/// How many seconds a read or a write of a connection may take.
+const PATIENCE: u64 = 10;
+
+/// Sets how long a read and a write of the connection may take: whether the system took both limits.
+fn has_limits(stream: &TcpStream) -> bool {
+    let limit = Some(Duration::from_secs(PATIENCE));
+    stream.set_read_timeout(limit).is_ok() && stream.set_write_timeout(limit).is_ok()
+}
+
+/// The fault of a request that was served so.
+fn serve_end(end: Result<Served, ServeFault>) -> Result<(), Fault>
+    ensures { result ≡ serve_end end }
+{
+    match end {
+        Ok(_) => Ok(()),
+        Err(ServeFault::Closed) => Err(Fault::Closed),
+        Err(ServeFault::Read) => Err(Fault::Read),
+        Err(ServeFault::Memory) => Err(Fault::Memory),
+        Err(ServeFault::Write { .. }) => Err(Fault::Write),
+    }
+}
+
+/// Answers the request of a connection, by the table of routes that was made for all connections. Where it wasn't made, the request
+/// makes its own.
+fn serve_stream<I: Read, W: Write, B: Walks, R: Rng>(
+    alloc: Global,
+    routes: Option<&Routes>,
+    reader: &mut I,
+    writer: &mut W,
+    books: &mut B,
+    source: &mut R,
+) -> Result<(), Fault>
+    ensures ends { (end : Result Served ServeFault) × (result ≡ serve_end end)
+        × (B.is_clean books.new → Leads (B.rows books.old) (ServesAll (Some end ∷ []) (R.stream source.old) (R.stream source.new)) (B.rows books.new)) }
+    ensures was_clean { B.is_clean books.new → B.is_clean books.old }
+    ensures counted { NoFewer (B.failures books.old) (B.failures books.new) }
+{
+    match routes {
+        Some(routes) => {
+            let mut calls = IoCalls::none();
+            let end = serve_by(alloc, routes, reader, writer, books, source, &mut calls);
+            serve_end(end)
+        }
+        None => {
+            let end = serve_one(alloc, reader, writer, books, source);
+            serve_end(end)
+        }
+    }
+}
+
+/// Takes a connection and answers its request.
+fn serve_connection<B: Walks, R: Rng>(
+    alloc: Global,
+    routes: Option<&Routes>,
+    listener: &TcpListener,
+    books: &mut B,
+    source: &mut R,
+) -> Result<(), Fault>
+    ensures ends { (end : ConnectionEnd) × (result ≡ connection_end end)
+        × (B.is_clean books.new → Leads (B.rows books.old) (ServesAll (end ∷ []) (R.stream source.old) (R.stream source.new)) (B.rows books.new)) }
+    ensures was_clean { B.is_clean books.new → B.is_clean books.old }
+    ensures counted { NoFewer (B.failures books.old) (B.failures books.new) }
+{
+    let Ok((stream, _)) = listener.accept() else {
+        return Err(Fault::Closed);
+    };
+    if !has_limits(&stream) {
+        return Err(Fault::Closed);
+    }
+    serve_stream(alloc, routes, &mut &stream, &mut &stream, books, source)
+}
+
+/// Takes a connection, answers its request, and tells the fault that came instead.
+fn serve_and_tell<B: Walks, R: Rng, F: FaultSink>(
+    alloc: Global,
+    routes: Option<&Routes>,
+    listener: &TcpListener,
+    books: &mut B,
+    source: &mut R,
+    faults: &mut F,
+    calls: &mut IoCalls,
+)
+    ensures ends { (end : ConnectionEnd) × TellsAll F.told faults.old (faults_of (end ∷ [])) faults.new
+        × (B.is_clean books.new → Leads (B.rows books.old) (ServesAll (end ∷ []) (R.stream source.old) (R.stream source.new)) (B.rows books.new)) }
+    ensures was_clean { B.is_clean books.new → B.is_clean books.old }
+    ensures counted { NoFewer (B.failures books.old) (B.failures books.new) }
+    ensures calls { NoneForgotten calls.old calls.new }
+{
+    if let Err(fault) = serve_connection(alloc, routes, listener, books, source) {
+        faults.tell(&fault, calls);
+    }
+}
+
+/// Takes so many connections, one after the other, and answers the request of each. A connection that
+/// fails is told as a fault, and the next one is taken. A peer that sends or takes nothing for ten
+/// seconds is given up. The table of routes is made once, before the first connection; where memory for
+/// it was wanting, each request makes its own. It answers 0.
+pub fn serve_connections<B: Walks, R: Rng, F: FaultSink>(
+    alloc: Global,
+    listener: &TcpListener,
+    count: u32,
+    books: &mut B,
+    source: &mut R,
+    faults: &mut F,
+) -> u8
+    ensures status { result ≡ 0 }
+    ensures ends { (ends : List ConnectionEnd) × (length ends ≡ count) × TellsAll F.told faults.old (faults_of ends) faults.new
+        × (B.is_clean books.new → Leads (B.rows books.old) (ServesAll ends (R.stream source.old) (R.stream source.new)) (B.rows books.new)) }
+    ensures was_clean { B.is_clean books.new → B.is_clean books.old }
+    ensures counted { NoFewer (B.failures books.old) (B.failures books.new) }
+{
+    let made = make_routes(alloc).ok();
+    let routes = made.as_ref();
+    let mut calls = IoCalls::none();
+    for _ in 0..count {
+        serve_and_tell(alloc, routes, listener, books, source, faults, &mut calls);
+    }
+    DONE
+}

@@ -1,0 +1,60 @@
+//! Connections on a port of the loopback address.
+
+ghost use Rattle.std.specs.Prelude.{◌≡◌, ◌≢◌, true, OnOk, OnErr};
+ghost use Rattle.std.specs.Io.KnownBytes.{Appends};
+ghost use Rattle.hotel_lists.specs.Bytes.{AppendsFront};
+ghost use Rattle.hotel_lists.specs.Calls.{NoneForgotten};
+ghost use Rattle.hotel_program.specs.Acts.{ServeEnds, listening_text};
+
+use crate::connections::serve_connections;
+use crate::faults::{Fault, FaultSink, finish, write_named};
+use crate::surroundings::Surroundings;
+use hotel_core::Walks;
+use hotel_lists::{IoCalls, WriteFailed};
+use rand_core::Rng;
+use std::alloc::Global;
+use std::io::Write;
+
+/// Writes the line that says where connections are taken.
+fn write_listening<W: Write>(
+    writer: &mut W,
+    port: u16,
+    calls: &mut IoCalls,
+) -> Result<(), WriteFailed>
+    ensures ok { OnOk result (Appends (W.contents writer.old) (W.contents writer.new) (listening_text port)) }
+    ensures err { OnErr result (AppendsFront (W.contents writer.old) (W.contents writer.new) (listening_text port)) }
+    ensures failed { OnErr result (calls.new.write_failed ≡ true) }
+    ensures calls { NoneForgotten calls.old calls.new }
+{
+    let mut buffer = itoa::Buffer::new();
+    let number = buffer.format(port).as_bytes();
+    write_named(writer, b"listening on 127.0.0.1:", number, calls)
+}
+
+/// Listens on a port of the loopback address, says so, and answers so many connections, one after the other. It answers the exit
+/// status: 0, or 5 where the port couldn't be had or the line couldn't be written; then none is answered.
+pub fn run_serve<B: Walks, R: Rng, W: Write, F: FaultSink, E: Surroundings>(
+    alloc: Global,
+    port: u16,
+    count: u32,
+    books: &mut B,
+    source: &mut R,
+    writer: &mut W,
+    faults: &mut F,
+    around: &mut E,
+) -> u8
+    ensures ends { ServeEnds (record { issued = B.Issued; rows = B.rows; stream = R.stream; contents = W.contents; told = F.told; bound = E.port_bound }) port count result
+        (record { books = books.old; source = source.old; writer = writer.old; faults = faults.old; around = around.old })
+        (record { books = books.new; source = source.new; writer = writer.new; faults = faults.new; around = around.new }) }
+    ensures no_usage { result ≢ 2 }
+{
+    let mut calls = IoCalls::none();
+    let listener = match around.listen(port) {
+        Ok(listener) => listener,
+        Err(why) => return finish(Err(why), faults, &mut calls),
+    };
+    match write_listening(writer, port, &mut calls) {
+        Ok(()) => serve_connections(alloc, &listener, count, books, source, faults),
+        Err(WriteFailed) => finish(Err(Fault::Write), faults, &mut calls),
+    }
+}

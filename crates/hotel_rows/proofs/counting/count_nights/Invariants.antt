@@ -1,8 +1,0 @@
-use Rattle.std.proofs.Common.{take, map}
-use Rattle.std.specs.Map.{values_of}
-use Rattle.hotel_core.specs.NightIndex.{CountsNights}
-use Rattle.hotel_rows.specs.Stored.{stay_entry}
-use Rattle.hotel_rows.proofs.counting.count_nights.Given as goal
-
-abbrev pub invariant-loop-i : goal.invariant-loop-i
-invariant-loop-i l = CountsNights l.nights (values_of (map stay_entry (take l.i l.stored.stays.items)))

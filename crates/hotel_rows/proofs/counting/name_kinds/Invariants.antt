@@ -1,7 +1,0 @@
-use Rattle.std.proofs.Common.{◌≡◌, List, ℕ, take}
-use Rattle.hotel_core.specs.KindRooms.{rooms_in}
-use Rattle.hotel_rows.specs.Counting.{KnowsKinds}
-use Rattle.hotel_rows.proofs.counting.name_kinds.Given as goal
-
-abbrev pub invariant-loop-i : goal.invariant-loop-i
-invariant-loop-i l = ((kind : List ℕ) → rooms_in l.counts kind ≡ 0) × KnowsKinds l.counts (take l.i l.kinds)

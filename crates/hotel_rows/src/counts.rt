@@ -1,0 +1,164 @@
+//! The rooms of each kind and the nights of the stays, counted from the rows of the tables.
+ghost use Rattle.std.specs.Prelude.{◌≡◌, ◌+◌, List, ℕ, map, IfOk, OnOk};
+ghost use Rattle.std.specs.List.{count_by};
+ghost use Rattle.std.specs.Map.{keys_of, values_of};
+ghost use Rattle.hotel_nights.specs.Block.{one_if};
+ghost use Rattle.hotel_core.specs.KindRooms.{rooms_in};
+ghost use Rattle.hotel_core.specs.NightIndex.{CountsNights};
+ghost use Rattle.hotel_rows.specs.Stored.{state_of, stay_row, stay_entry};
+ghost use Rattle.hotel_rows.specs.RowTests.{is_room_of_kind};
+ghost use Rattle.hotel_rows.specs.Counts.{KnowsKinds};
+ghost use Rattle.hotel_rows.specs.Counts.{IsCountedOf};
+
+use crate::damage::numbers::{number, number_if};
+use crate::stored::{PlainKind, PlainRoom, PlainStay, Stored};
+use hotel_core::{KindRooms, NightIndex};
+use hotel_nights::{Day, Guest, GuestFault, KindCode, Stay, StayState};
+use keycard_rules::{LookFault, Number};
+use std::alloc::Global;
+
+/// What books keep in memory of their rows.
+#[derive(Drop)]
+pub struct Counts {
+    pub kinds: KindRooms,
+    pub nights: NightIndex,
+}
+
+fn counted<K, const MOST: u32>(n: u64) -> Result<Number<K, MOST>, LookFault>
+    ensures { IfOk result (λ number. number ≡ n) }
+{
+    if n > u64::from(MOST) {
+        return Err(LookFault::Store);
+    }
+    match Number::new(n as u32) {
+        Some(number) => Ok(number),
+        None => Err(LookFault::Store),
+    }
+}
+
+pub(crate) fn day(n: u64) -> Result<Day, LookFault>
+    ensures { IfOk result (λ day. day ≡ n) }
+{
+    if n > 36_524 {
+        return Err(LookFault::Store);
+    }
+    match Day::new(n as u16) {
+        Some(day) => Ok(day),
+        None => Err(LookFault::Store),
+    }
+}
+
+pub(crate) fn kind_code(text: &str) -> Result<KindCode, LookFault>
+    ensures { IfOk result (λ kind. kind ≡ text.now) }
+{
+    match KindCode::read(text.as_bytes()) {
+        Some(kind) => Ok(kind),
+        None => Err(LookFault::Store),
+    }
+}
+
+fn guest(alloc: Global, text: &str) -> Result<Guest, LookFault>
+    ensures { IfOk result (λ guest. guest ≡ text.now) }
+{
+    match Guest::read(alloc, text) {
+        Ok(guest) => Ok(guest),
+        Err(GuestFault::Memory) => Err(LookFault::Memory),
+        Err(GuestFault::Unread) => Err(LookFault::Store),
+    }
+}
+
+fn stay_state(state: u64, room: Option<u64>) -> Result<StayState, LookFault>
+    ensures { IfOk result (λ is. is ≡ state_of state room) }
+{
+    match (state, room) {
+        (0, None) => Ok(StayState::Booked),
+        (1, Some(room)) => Ok(StayState::InHouse(counted(room)?)),
+        (2, None) => Ok(StayState::Done),
+        (3, None) => Ok(StayState::Cancelled),
+        _ => Err(LookFault::Store),
+    }
+}
+
+/// A row of the table of stays, as a stay.
+fn stay_of(alloc: Global, plain: &PlainStay) -> Result<Stay, LookFault>
+    ensures { IfOk result (λ stay. stay ≡ stay_row plain.now) }
+{
+    Ok(Stay {
+        party: counted(number(plain.party))?,
+        guest: guest(alloc, plain.guest.as_str())?,
+        kind: kind_code(plain.kind.as_str())?,
+        arrive: day(number(plain.arrive))?,
+        depart: day(number(plain.depart))?,
+        state: stay_state(number(plain.state), number_if(plain.room))?,
+    })
+}
+
+/// The kinds, with no rooms.
+fn name_kinds(alloc: Global, kinds: &[PlainKind]) -> Result<KindRooms, LookFault>
+    ensures none { IfOk result (λ counts. (kind : List ℕ) → rooms_in counts kind ≡ 0) }
+    ensures known { IfOk result (λ counts. KnowsKinds counts kinds.now) }
+{
+    let mut counts = KindRooms::empty(alloc);
+    for i in 0..kinds.len() {
+        let kind = kind_code(kinds[i].kind.as_str())?;
+        let Ok(()) = counts.know_kind(kind) else {
+            return Err(LookFault::Memory);
+        };
+    }
+    Ok(counts)
+}
+
+/// One more room of its kind.
+fn add_room(counts: &mut KindRooms, room: &PlainRoom) -> Result<(), LookFault>
+    ensures rooms { OnOk result ((kind : List ℕ) → rooms_in counts.new kind ≡ rooms_in counts.old kind + one_if (is_room_of_kind kind room.now)) }
+    ensures kinds { OnOk result (keys_of counts.new ≡ keys_of counts.old) }
+{
+    let kind = kind_code(room.kind.as_str())?;
+    if !counts.has(&kind) {
+        return Err(LookFault::Store);
+    }
+    if counts.rooms(&kind) == u32::MAX {
+        return Err(LookFault::Store);
+    }
+    counts.add_room(&kind);
+    Ok(())
+}
+
+/// How many rooms each kind has.
+fn count_rooms(
+    alloc: Global,
+    kinds: &[PlainKind],
+    rooms: &[PlainRoom],
+) -> Result<KindRooms, LookFault>
+    ensures rooms { IfOk result (λ counts. (kind : List ℕ) → rooms_in counts kind ≡ count_by (is_room_of_kind kind) rooms.now) }
+    ensures known { IfOk result (λ counts. KnowsKinds counts kinds.now) }
+{
+    let mut counts = name_kinds(alloc, kinds)?;
+    for i in 0..rooms.len() {
+        add_room(&mut counts, &rooms[i])?;
+    }
+    Ok(counts)
+}
+
+/// How many standing stays take each night.
+fn count_nights(alloc: Global, stored: &Stored) -> Result<NightIndex, LookFault>
+    ensures { IfOk result (λ nights. CountsNights nights (values_of (map stay_entry stored.now.stays.items))) }
+{
+    let mut nights = NightIndex::empty(alloc);
+    for i in 0..stored.stays.len() {
+        let stay = stay_of(alloc, &stored.stays[i])?;
+        let Ok(()) = nights.add(&stay) else {
+            return Err(LookFault::Memory);
+        };
+    }
+    Ok(nights)
+}
+
+/// What is counted of the rows.
+pub fn counts_of(alloc: Global, stored: &Stored) -> Result<Counts, LookFault>
+    ensures { IfOk result (IsCountedOf stored.now) }
+{
+    let kinds = count_rooms(alloc, &stored.kinds, &stored.rooms)?;
+    let nights = count_nights(alloc, stored)?;
+    Ok(Counts { kinds, nights })
+}

@@ -1,0 +1,59 @@
+-- What is read of whole tables, and what the reading promises.
+use Rattle.std.specs.Prelude.{◌≡◌, ℕ, false, List, [], map, Result, IfOk, OnOk, IsTrue, Vec}
+use Rattle.std.specs.List.Sorted.{IsPermutation}
+use Rattle.std.specs.declared.alloc.Global.{Global}
+use Rattle.sqlite.specs.Order.{Row}
+use Rattle.sqlite.specs.Tree.{Trees}
+use Rattle.sqlite.specs.Query.{Query, IsAnswer}
+use Rattle.sqlite.specs.Program.{overlay}
+use Rattle.sqlite.specs.State.{State, HasCleanDisk, Survives}
+use Rattle.keycard_rules.specs.declared.issued.LookFault.{LookFault}
+use Rattle.hotel_rows.specs.declared.stored.PlainKind.{PlainKind}
+use Rattle.hotel_rows.specs.declared.stored.PlainRoom.{PlainRoom}
+use Rattle.hotel_rows.specs.declared.stored.PlainStay.{PlainStay}
+use Rattle.hotel_rows.specs.declared.stored.PlainCode.{PlainCode}
+use Rattle.hotel_rows.specs.declared.stored.PlainCard.{PlainCard}
+use Rattle.hotel_rows.specs.declared.stored.PlainNote.{PlainNote}
+use Rattle.hotel_statements.specs.declared.plain_rows.PlainMeta.{PlainMeta}
+use Rattle.hotel_statements.specs.declared.plain_rows.NumberedInside.{NumberedInside}
+use Rattle.hotel_statements.specs.declared.whole_tables.Tables.{Tables}
+use Rattle.hotel_statements.specs.Schema.{desk_schema}
+use Rattle.hotel_statements.specs.Columns.{meta_columns, kind_columns, room_columns, stay_columns, code_columns, card_columns, note_columns}
+use Rattle.hotel_statements.specs.PlainRows.{meta_shown, kind_shown, room_shown, stay_shown, code_shown, card_shown, numbered_columns, numbered_shown, note_shown, ArePlainRows}
+use Rattle.hotel_statements.specs.LookUps.{Asks}
+use Rattle.hotel_statements.specs.Books.{IsKept, KeepsRows}
+
+-- A connection outside any transaction, over the tables of a desk, whatever their rows.
+pub record IsOurs (s : State) : Type 0 where
+  pub autocommit : s.in_transaction ≡ false
+  pub tables : IsKept s → (s.now.schema ≡ desk_schema) × (s.now ≡ s.committed)
+
+-- The text reads a whole table: to a desk it is a query, whose answer has the columns of the tree's rows, in some order.
+pub record IsWhole (text : List ℕ) (tree : ℕ) (columns cut : Row → Row) : Type 0 where
+  pub query : Query
+  pub asks : Asks text query
+  pub answers : (db : Trees) (rows : List Row) → IsAnswer query (overlay db []) [] rows → IsPermutation (map columns (db tree)) (map cut rows)
+
+-- What a reading of the tables promises, of a connection from old to new: what it says of the trees where the test holds at its end.
+-- It changes no row, and a crash in it leaves nothing new.
+pub record ReadsTo {R : Type 0} (Says : R → Trees → Type 0) (old new : State) (result : Result R LookFault) : Type 0 where
+  pub ours : IsOurs new
+  pub keeps : KeepsRows old new
+  pub says : IsKept new → IfOk result (λ r. Says r old.now.trees)
+  pub open_on : IsKept old → HasCleanDisk new → OnOk result (IsTrue new.is_open)
+  pub crash : Survives old new (λ _. IsKept old → ⊥)
+
+-- the rows of the first four tables, and of the last four
+abbrev pub AreFirst : (Vec PlainMeta Global × Vec PlainKind Global) × (Vec PlainRoom Global × Vec PlainStay Global) → Trees → Type 0
+AreFirst r db =
+    (ArePlainRows meta_columns meta_shown r.0.0.items (db 0) × ArePlainRows kind_columns kind_shown r.0.1.items (db 1))
+    × (ArePlainRows room_columns room_shown r.1.0.items (db 3) × ArePlainRows stay_columns stay_shown r.1.1.items (db 5))
+
+abbrev pub AreLast : (Vec PlainCode Global × Vec PlainCard Global) × (Vec NumberedInside Global × Vec PlainNote Global) → Trees → Type 0
+AreLast r db =
+    (ArePlainRows code_columns code_shown r.0.0.items (db 6) × ArePlainRows card_columns card_shown r.0.1.items (db 8))
+    × (ArePlainRows numbered_columns numbered_shown r.1.0.items (db 9) × ArePlainRows note_columns note_shown r.1.1.items (db 11))
+
+-- the rows of all
+abbrev pub AreRead : Tables → Trees → Type 0
+AreRead t db = AreFirst ((t.meta, t.kinds), (t.rooms, t.stays)) db × AreLast ((t.codes, t.cards), (t.inside, t.notes)) db

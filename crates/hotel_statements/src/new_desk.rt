@@ -1,0 +1,65 @@
+//! The statements that make a new desk, within a transaction: its eight tables and the one row of meta.
+ghost use Rattle.std.specs.Prelude.{◌≡◌, [], ◌∷◌, OnOk};
+ghost use Rattle.sqlite.specs.Held.{state};
+ghost use Rattle.sqlite.specs.State.{HasCleanDisk, KeepsCommit, Survives};
+ghost use Rattle.hotel_statements.specs.Schema.{no_schema, desk_schema};
+ghost use Rattle.hotel_statements.specs.Texts as texts;
+ghost use Rattle.hotel_statements.specs.Statements.{RunsStatements, makes_table};
+ghost use Rattle.hotel_statements.specs.NewDesk.{IfOpen, IfOpenBare, Makes, IsBare, IsMade, with_stay};
+
+use crate::statement::run;
+use crate::texts::{
+    CREATE_CARD, CREATE_CODE, CREATE_INSIDE, CREATE_KIND, CREATE_META, CREATE_NOTE, CREATE_ROOM,
+    CREATE_STAY, INSERT_META,
+};
+use sqlite::{Alter, Error, Transaction};
+
+/// Makes a table.
+fn make<S: Alter>(tx: &mut Transaction<'_, S>, text: &str) -> Result<(), Error>
+    ensures same_reference { tx.new.conn.ghost_name ≡ tx.old.conn.ghost_name }
+    ensures answers { RunsStatements S.Store (makes_table text.now ∷ []) tx.old.conn.now tx.new.conn.now result }
+    ensures made { HasCleanDisk (state S.Store tx.new.conn.now) → OnOk result (Makes text.now (state S.Store tx.old.conn.now) (state S.Store tx.new.conn.now)) }
+    ensures kept { HasCleanDisk (state S.Store tx.new.conn.now) → KeepsCommit (state S.Store tx.old.conn.now) (state S.Store tx.new.conn.now) }
+    ensures survives { Survives (state S.Store tx.old.conn.now) (state S.Store tx.new.conn.now) (λ _. ⊥) }
+{
+    run(tx, text, &[])
+}
+
+/// Makes the tables of the desk, its kinds, rooms and stays.
+pub fn make_first<S: Alter>(tx: &mut Transaction<'_, S>) -> Result<(), Error>
+    ensures same_reference { tx.new.conn.ghost_name ≡ tx.old.conn.ghost_name }
+    ensures answers { RunsStatements S.Store (makes_table texts.create_meta ∷ makes_table texts.create_kind ∷ makes_table texts.create_room ∷ makes_table texts.create_stay ∷ []) tx.old.conn.now tx.new.conn.now result }
+    ensures made { HasCleanDisk (state S.Store tx.new.conn.now) → OnOk result (IfOpenBare no_schema with_stay (state S.Store tx.old.conn.now) (state S.Store tx.new.conn.now)) }
+    ensures kept { HasCleanDisk (state S.Store tx.new.conn.now) → KeepsCommit (state S.Store tx.old.conn.now) (state S.Store tx.new.conn.now) }
+    ensures survives { Survives (state S.Store tx.old.conn.now) (state S.Store tx.new.conn.now) (λ _. ⊥) }
+{
+    make(tx, CREATE_META)?;
+    make(tx, CREATE_KIND)?;
+    make(tx, CREATE_ROOM)?;
+    make(tx, CREATE_STAY)
+}
+
+/// Makes the tables of codes, cards, insides and notes.
+pub fn make_last<S: Alter>(tx: &mut Transaction<'_, S>) -> Result<(), Error>
+    ensures same_reference { tx.new.conn.ghost_name ≡ tx.old.conn.ghost_name }
+    ensures answers { RunsStatements S.Store (makes_table texts.create_code ∷ makes_table texts.create_card ∷ makes_table texts.create_inside ∷ makes_table texts.create_note ∷ []) tx.old.conn.now tx.new.conn.now result }
+    ensures made { HasCleanDisk (state S.Store tx.new.conn.now) → OnOk result (IfOpenBare with_stay desk_schema (state S.Store tx.old.conn.now) (state S.Store tx.new.conn.now)) }
+    ensures kept { HasCleanDisk (state S.Store tx.new.conn.now) → KeepsCommit (state S.Store tx.old.conn.now) (state S.Store tx.new.conn.now) }
+    ensures survives { Survives (state S.Store tx.old.conn.now) (state S.Store tx.new.conn.now) (λ _. ⊥) }
+{
+    make(tx, CREATE_CODE)?;
+    make(tx, CREATE_CARD)?;
+    make(tx, CREATE_INSIDE)?;
+    make(tx, CREATE_NOTE)
+}
+
+/// Adds the row of meta, with no day.
+pub fn enter_meta<S: Alter>(tx: &mut Transaction<'_, S>) -> Result<(), Error>
+    ensures same_reference { tx.new.conn.ghost_name ≡ tx.old.conn.ghost_name }
+    ensures answers { RunsStatements S.Store ((texts.insert_meta, []) ∷ []) tx.old.conn.now tx.new.conn.now result }
+    ensures made { HasCleanDisk (state S.Store tx.new.conn.now) → OnOk result (IfOpen (IsBare desk_schema) IsMade (state S.Store tx.old.conn.now) (state S.Store tx.new.conn.now)) }
+    ensures kept { HasCleanDisk (state S.Store tx.new.conn.now) → KeepsCommit (state S.Store tx.old.conn.now) (state S.Store tx.new.conn.now) }
+    ensures survives { Survives (state S.Store tx.old.conn.now) (state S.Store tx.new.conn.now) (λ _. ⊥) }
+{
+    run(tx, INSERT_META, &[])
+}

@@ -1,0 +1,165 @@
+//! The tables, read whole.
+ghost use Rattle.std.specs.Prelude.{◌≡◌, map, IfOk};
+ghost use Rattle.std.specs.List.{list_all};
+ghost use Rattle.std.specs.Ordering.{is_lt};
+ghost use Rattle.sqlite.specs.Held.{state};
+ghost use Rattle.hotel_core.specs.Model.SoundRooms.{are_in_order};
+ghost use Rattle.hotel_statements.specs.WholeTables.{IsOurs, IsWhole, ReadsTo, AreFirst, AreLast, AreRead};
+ghost use Rattle.hotel_statements.specs.PlainRows.{ArePlainRows};
+
+use crate::from_row::fault_of;
+use crate::plain_rows::{NumberedInside, Plain, PlainMeta, PlainRow};
+use hotel_rows::{PlainCard, PlainCode, PlainKind, PlainNote, PlainRoom, PlainStay};
+use keycard_rules::LookFault;
+use sqlite::{Alter, Connection, Row};
+use std::alloc::Global;
+
+/// The rows that were shown, as plain data.
+fn plain_rows_of<L: PlainRow + Drop>(alloc: Global, rows: &[Row]) -> Result<Vec<L>, LookFault>
+    ensures { IfOk result (λ plain_rows. map L.PlainRow.shown plain_rows.items ≡ map L.PlainRow.cut rows.now) }
+{
+    let mut plain_rows = Vec::new(alloc);
+    'rows: for i in 0..rows.len() {
+        let plain = match L::of_row(&rows[i]) {
+            Ok(plain) => plain,
+            Err(error) => return Err(fault_of(error)),
+        };
+        if plain_rows.push(plain).is_err() {
+            return Err(LookFault::Memory);
+        }
+    }
+    Ok(plain_rows)
+}
+
+/// The rows of a table, in the order of its key.
+fn read_table<S: Alter, L: PlainRow + Drop>(
+    alloc: Global,
+    conn: &mut Connection<S>,
+) -> Result<Vec<L>, LookFault>
+    requires ours { IsOurs (state S.Store conn.old) }
+    requires whole { IsWhole L.PlainRow.text L.PlainRow.tree L.PlainRow.columns L.PlainRow.cut }
+    ensures { ReadsTo (λ plain_rows db. ArePlainRows L.PlainRow.columns L.PlainRow.shown plain_rows.items (db L.PlainRow.tree)) (state S.Store conn.old) (state S.Store conn.new) result }
+{
+    match conn.query_all(L::text(), &[]) {
+        Ok(rows) => plain_rows_of(alloc, &rows),
+        Err(error) => Err(fault_of(error)),
+    }
+}
+
+/// The rows of two tables.
+fn read_two<S: Alter, A: PlainRow + Drop, B: PlainRow + Drop>(
+    alloc: Global,
+    conn: &mut Connection<S>,
+) -> Result<(Vec<A>, Vec<B>), LookFault>
+    requires ours { IsOurs (state S.Store conn.old) }
+    requires first { IsWhole A.PlainRow.text A.PlainRow.tree A.PlainRow.columns A.PlainRow.cut }
+    requires second { IsWhole B.PlainRow.text B.PlainRow.tree B.PlainRow.columns B.PlainRow.cut }
+    ensures { ReadsTo (λ two db. ArePlainRows A.PlainRow.columns A.PlainRow.shown two.0.items (db A.PlainRow.tree) × ArePlainRows B.PlainRow.columns B.PlainRow.shown two.1.items (db B.PlainRow.tree))
+        (state S.Store conn.old) (state S.Store conn.new) result }
+{
+    let first = read_table(alloc, conn)?;
+    let second = read_table(alloc, conn)?;
+    Ok((first, second))
+}
+
+fn comes_before<L: Plain>(a: &L, b: &L) -> bool
+    ensures { result ≡ is_lt (L.Plain.order a.now b.now) }
+{
+    L::compare(a, b).is_lt()
+}
+
+/// Whether each row's key comes before the next one's.
+pub fn rise<L: Plain>(plain_rows: &[L]) -> bool
+    ensures { result ≡ are_in_order L.Plain.order plain_rows.now }
+{
+    for i in 1..plain_rows.len() {
+        if !comes_before(&plain_rows[i - 1], &plain_rows[i]) {
+            return false;
+        }
+    }
+    true
+}
+
+/// Whether no number of any row is below 0.
+pub fn all_natural<L: Plain>(plain_rows: &[L]) -> bool
+    ensures { result ≡ list_all L.Plain.natural plain_rows.now }
+{
+    for i in 0..plain_rows.len() {
+        if !plain_rows[i].is_natural() {
+            return false;
+        }
+    }
+    true
+}
+
+/// The rows of the tables; those inside with their numbers.
+#[derive(Drop)]
+pub struct Tables {
+    pub meta: Vec<PlainMeta>,
+    pub kinds: Vec<PlainKind>,
+    pub rooms: Vec<PlainRoom>,
+    pub stays: Vec<PlainStay>,
+    pub codes: Vec<PlainCode>,
+    pub cards: Vec<PlainCard>,
+    pub inside: Vec<NumberedInside>,
+    pub notes: Vec<PlainNote>,
+}
+
+/// The rows of meta, kinds, rooms and stays.
+fn read_first<S: Alter>(
+    alloc: Global,
+    conn: &mut Connection<S>,
+) -> Result<
+    (
+        (Vec<PlainMeta>, Vec<PlainKind>),
+        (Vec<PlainRoom>, Vec<PlainStay>),
+    ),
+    LookFault,
+>
+    requires { IsOurs (state S.Store conn.old) }
+    ensures { ReadsTo AreFirst (state S.Store conn.old) (state S.Store conn.new) result }
+{
+    let first = read_two(alloc, conn)?;
+    let second = read_two(alloc, conn)?;
+    Ok((first, second))
+}
+
+/// The rows of codes, cards, those inside and notes.
+fn read_last<S: Alter>(
+    alloc: Global,
+    conn: &mut Connection<S>,
+) -> Result<
+    (
+        (Vec<PlainCode>, Vec<PlainCard>),
+        (Vec<NumberedInside>, Vec<PlainNote>),
+    ),
+    LookFault,
+>
+    requires { IsOurs (state S.Store conn.old) }
+    ensures { ReadsTo AreLast (state S.Store conn.old) (state S.Store conn.new) result }
+{
+    let first = read_two(alloc, conn)?;
+    let second = read_two(alloc, conn)?;
+    Ok((first, second))
+}
+
+/// The rows of all tables.
+pub fn read_tables<S: Alter>(alloc: Global, conn: &mut Connection<S>) -> Result<Tables, LookFault>
+    requires { IsOurs (state S.Store conn.old) }
+    ensures { ReadsTo AreRead (state S.Store conn.old) (state S.Store conn.new) result }
+{
+    let first = read_first(alloc, conn)?;
+    let last = read_last(alloc, conn)?;
+    let ((meta, kinds), (rooms, stays)) = first;
+    let ((codes, cards), (inside, notes)) = last;
+    Ok(Tables {
+        meta,
+        kinds,
+        rooms,
+        stays,
+        codes,
+        cards,
+        inside,
+        notes,
+    })
+}
