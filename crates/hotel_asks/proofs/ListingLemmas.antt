@@ -5,7 +5,8 @@ use Rattle.std.proofs.lemmas.Bool.{cases_Bool}
 use Rattle.hotel_core.proofs.{Lifted.ListRows.lists_lift, OfTables.RoomNumbers.room_there, OfTables.RoomNumbers.room_not_there}
 use Rattle.hotel_core.specs.Model.Lists.{chain, audit_of}
 use Rattle.hotel_lists.specs.Lines.{arrivals_header, in_house_header, chain_header, left_behind_header, audit_header, arrival_line, house_line, chain_line, behind_line, note_line}
-use Rattle.hotel_asks.specs.{declared.lists.ListAsk.ListAsk, Listings.listing, Listings.of_room, Listings.listing_on, Listings.listing_over}
+use Rattle.hotel_lists.specs.Listings.{listing, of_room}
+use Rattle.hotel_asks.specs.{declared.lists.ListAsk.ListAsk, Listings.listing_on, Listings.listing_over}
 use Rattle.hotel_asks.specs.declared.lists.ListAsk.TheVariants.{Arrivals, InHouse, ChainOf, LeftBehind, AuditOf}
 
 room_lifts : {R : Type 0} (h : History) (room : ℕ) (header : List ℕ) (line : R → List ℕ) (on_rows on_history : List R) → (is_room h room ≡ true → on_rows ≡ on_history)

@@ -1,29 +1,12 @@
--- What a list that is asked for has: its header and its lines, or nothing where its room isn't there.
-use Rattle.std.specs.Prelude.{◌≡◌, ◌≢◌, ◌⊎◌, ℕ, Bool, true, false, List, [], ◌++◌, map, Option, Some, None, is_some, Result, Ok, Err}
-use Rattle.std.specs.List.{concat}
-use Rattle.std.specs.Io.KnownBytes.{Appends}
+-- The listing of each list that can be asked for.
+use Rattle.std.specs.Prelude.{Option, Some, is_some}
 use Rattle.hotel_core.specs.{Model.Rows.Rows, Books.Lookups.room_at, Model.History.History, Model.Cases.is_room}
 use Rattle.hotel_core.specs.Model.Lists.{arrivals, in_house, chain, left_behind, audit_of}
 use Rattle.hotel_core.specs.Refinement.ListsOnRows.{arrivals_on, in_house_on, chain_on, left_behind_on, audit_on}
-use Rattle.hotel_lists.specs.{Bytes.AppendsFront, declared.fault.ListFault.ListFault}
-use Rattle.hotel_lists.specs.declared.fault.ListFault.TheVariants as fault
+use Rattle.hotel_lists.specs.Listings.{Listing, listing, of_room}
 use Rattle.hotel_lists.specs.Lines.{arrivals_header, in_house_header, chain_header, left_behind_header, audit_header, arrival_line, house_line, chain_line, behind_line, note_line}
 use Rattle.hotel_asks.specs.declared.lists.ListAsk.{ListAsk}
 use Rattle.hotel_asks.specs.declared.lists.ListAsk.TheVariants.{Arrivals, InHouse, ChainOf, LeftBehind, AuditOf}
-
--- A list's header and its lines.
-pub record Listing : Type 0 where
-  pub header : List ℕ
-  pub lines : List (List ℕ)
-
--- The listing with this header and a line for each row.
-abbrev pub listing : {R : Type 0} → List ℕ → (R → List ℕ) → List R → Listing
-listing header line rows = record { header = header; lines = map line rows }
-
--- The listing of a room, which is there or not.
-abbrev pub of_room : Bool → Listing → Option Listing
-of_room true its_listing = Some its_listing
-of_room false its_listing = None
 
 -- The listing of a list over a history.
 abbrev pub listing_over : History → ListAsk → Option Listing
@@ -40,21 +23,3 @@ listing_on rows InHouse = Some (listing in_house_header house_line (in_house_on 
 listing_on rows (ChainOf room) = of_room (is_some (room_at rows room)) (listing chain_header chain_line (chain_on rows room))
 listing_on rows LeftBehind = Some (listing left_behind_header behind_line (left_behind_on rows))
 listing_on rows (AuditOf room) = of_room (is_some (room_at rows room)) (listing audit_header note_line (audit_on rows room))
-
--- A list in full: its header and its lines; where its room isn't there, what is said then.
-abbrev pub in_full : List ℕ → Option Listing → List ℕ
-in_full no_room None = no_room
-in_full no_room (Some listing) = listing.header ++ concat listing.lines
-
--- The header of a list and some whole lines from the first on; or nothing.
-abbrev pub IsFront : Option Listing → List ℕ → Type 0
-IsFront None text = text ≡ []
-IsFront (Some listing) text = (text ≡ []) ⊎ ((taken : List (List ℕ)) × (rest : List (List ℕ)) × (listing.lines ≡ taken ++ rest) × (text ≡ listing.header ++ concat taken))
-
--- What a writer took of a list that ended so, where this is said if its room isn't there: all; a front after a write of it failed; whole lines where memory or the store failed.
-abbrev pub ListEnds : List ℕ → Option Listing → Option (List ℕ) → Option (List ℕ) → Result (Unit {0}) ListFault → Type 0
-ListEnds no_room listing old new (Ok done) = (is_some listing ≡ true) × Appends old new (in_full no_room listing)
-ListEnds no_room listing old new (Err fault.NoRoom) = (is_some listing ≡ false) × Appends old new (in_full no_room listing)
-ListEnds no_room listing old new (Err fault.Write) = (in_full no_room listing ≢ []) × AppendsFront old new (in_full no_room listing)
-ListEnds no_room listing old new (Err fault.Memory) = (front : List ℕ) × IsFront listing front × Appends old new front
-ListEnds no_room listing old new (Err fault.Store) = (front : List ℕ) × IsFront listing front × Appends old new front

@@ -1,8 +1,8 @@
 //! The list that is asked for, written.
 
 ghost use Rattle.std.specs.Prelude.{◌≡◌, [], true, IsErrOf};
-ghost use Rattle.hotel_lists.specs.{Calls.NoneForgotten, Lines.LooksAt};
-ghost use Rattle.hotel_asks.specs.Listings.{ListEnds, listing_on};
+ghost use Rattle.hotel_lists.specs.{Calls.NoneForgotten, Lines.LooksAt, Listings.ListEnds};
+ghost use Rattle.hotel_asks.specs.Listings.{listing_on};
 
 use crate::lists::ListAsk;
 use hotel_core::Walks;

@@ -11,7 +11,8 @@ use Rattle.hotel_core.specs.declared.reply.Refusal.TheVariants as refusal
 use Rattle.hotel_lists.specs.{Bytes.AppendsFront, declared.calls.WriteFailed.WriteFailed}
 use Rattle.hotel_lists.proofs.BytesLemmas.{front_next}
 use Rattle.hotel_asks.specs.declared.asks.Ask.TheVariants as ask
-use Rattle.hotel_asks.specs.{declared.lists.ListAsk.ListAsk, Listings.Listing, Listings.listing_on}
+use Rattle.hotel_lists.specs.Listings.{Listing}
+use Rattle.hotel_asks.specs.{declared.lists.ListAsk.ListAsk, Listings.listing_on}
 use Rattle.hotel_asks.proofs.ListingLemmas.{listing_stands}
 use Rattle.hotel_audit.specs.{AuditFile.audit_lines, Import.AreAnswered, Import.EndsAfter, Import.commands_of, Import.replies_in, declared.answer.LineAnswer.LineAnswer}
 use Rattle.hotel_audit.specs.{declared.imports.ImportFault.ImportFault, declared.line.Line.Line}

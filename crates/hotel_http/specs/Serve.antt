@@ -9,7 +9,8 @@ use Rattle.hotel_core.specs.declared.reply.Refusal.TheVariants as refusal
 use Rattle.hotel_core.specs.Model.Run.{Steps, Runs}
 use Rattle.hotel_lists.specs.{Bytes.AppendsFront, declared.calls.WriteFailed.WriteFailed, declared.fault.ListFault.ListFault}
 use Rattle.hotel_lists.specs.declared.fault.ListFault.TheVariants as list
-use Rattle.hotel_asks.specs.{declared.asks.Ask.Ask, Listings.Listing, Listings.listing_over, Listings.in_full}
+use Rattle.hotel_lists.specs.Listings.{Listing, in_full}
+use Rattle.hotel_asks.specs.{declared.asks.Ask.Ask, Listings.listing_over}
 use Rattle.hotel_asks.specs.declared.asks.Ask.TheVariants as ask
 use Rattle.hotel_audit.specs.{AuditFile.audit_lines, Import.AreAnswered, Import.EndsAfter, Import.commands_of, Import.replies_in, Import.has_taken, Import.failures_of}
 use Rattle.hotel_audit.specs.{declared.answer.LineAnswer.LineAnswer, declared.imports.ImportFault.ImportFault, declared.line.Line.Line}

@@ -1,14 +1,15 @@
 -- The lines that a sink wrote along a walk.
-use Rattle.std.proofs.Common.{ℕ, ◌≡◌, Bool, true, false, List, [], ◌∷◌, ◌++◌, Option, Result, Ok, Err, append_assoc, append-nil, length-append, ap, refl, sym, ◌∙◌, subst, arith, inl, inr, flat_map}
+use Rattle.std.proofs.Common.{ℕ, ◌≡◌, Bool, true, false, List, [], ◌∷◌, ◌++◌, Option, Result, Ok, Err, Some, map, append_assoc, append-nil, length-append, ap, refl, sym, ◌∙◌, subst, arith, inl, inr, flat_map}
 use Rattle.hotel_core.proofs.Names.{Takes, Hands}
-use Rattle.std.proofs.lemmas.List.{take-append-le}
+use Rattle.std.specs.List.{concat}
+use Rattle.std.proofs.lemmas.List.{map-append, take-append-le}
 use Rattle.std.proofs.lemmas.List.Concat.{flat_map-append}
 use Rattle.std.specs.Io.KnownBytes.{Appends}
 use Rattle.std.proofs.KnownBytes.{Appends-trans, Appends-kept}
 use Rattle.hotel_core.specs.declared.books.walks.WalkFault.{WalkFault}
 use Rattle.hotel_core.specs.declared.books.walks.WalkFault.TheVariants as walk
 use Rattle.hotel_lists.specs.{Bytes.AppendsFront, LineSink.SameEnds, LineSink.Gathers, LineSink.StopsAtWrite, LineSink.Finishes, declared.lines.Lines.Lines}
-use Rattle.hotel_lists.specs.{declared.fault.ListFault.ListFault, Lines.list_text, Lines.Lists, Lines.StopsBy, Lines.listed}
+use Rattle.hotel_lists.specs.{declared.fault.ListFault.ListFault, Lines.StopsBy, Lines.listed, Listings.IsFront, Listings.ListEnds, Listings.listing}
 use Rattle.hotel_lists.specs.declared.fault.ListFault.TheVariants as fault
 use Rattle.hotel_lists.proofs.{BytesLemmas.front_next, CallsLemmas.none_forgotten, CallsLemmas.then_none_forgotten}
 
@@ -41,6 +42,37 @@ store_is_memory the h k = cc
 regroup : {R : Type 0} (sent held : List R) (row : R) (rest : List R) → (sent ++ held) ++ row ∷ rest ≡ (sent ++ (held ++ row ∷ [])) ++ rest
 regroup sent held row rest =
     append_assoc sent held (row ∷ rest) ∙ sym (append_assoc sent (held ++ row ∷ []) rest ∙ ap (λ l. sent ++ l) (append_assoc held (row ∷ []) rest))
+
+-- the text of a list: its header, and a line for each row
+abbrev pub list_text : {R : Type 0} → List ℕ → (R → List ℕ) → List R → List ℕ
+list_text header line rows = header ++ flat_map line rows
+
+-- the lines of rows are their text
+lines_text : {R : Type 0} (header : List ℕ) (line : R → List ℕ) (rows : List R) → list_text header line rows ≡ header ++ concat (map line rows)
+lines_text {R} header line rows = ap (λ (l : List ℕ). header ++ l) (by rows)
+  where
+    by : (rows : List R) → flat_map line rows ≡ concat (map line rows)
+    by [] = refl
+    by (row ∷ rows) = ap (λ (l : List ℕ). line row ++ l) (by rows)
+
+module _ {R : Type 0} (line : R → List ℕ) (old new : Option (List ℕ)) (header : List ℕ) (rows : List R) where
+  -- a writer took of the list of these rows what its end says
+  abbrev pub Ends : Result (Unit {0}) ListFault → Type 0
+  Ends end = ListEnds [] (Some (listing header line rows)) old new end
+
+  whole_ends : Appends old new (list_text header line rows) → Ends (Ok tt)
+  whole_ends written = (refl, subst (Appends old new) (lines_text header line rows) written)
+
+  pub cut_ends : AppendsFront old new (header ++ concat (map line rows)) → Ends (Err fault.Write)
+  cut_ends front = ((λ none. cc none), front)
+
+  -- whole lines of it
+  front_ends : (sent rest : List R) → rows ≡ sent ++ rest → Appends old new (list_text header line sent) → (front : List ℕ) × IsFront (Some (listing header line rows)) front × Appends old new front
+  front_ends sent rest e written = (
+    header ++ concat (map line sent),
+    inr (map line sent, map line rest, ap (map line) e ∙ map-append line sent rest, refl),
+    subst (Appends old new) (lines_text header line sent) written,
+  )
 
 module _ {W R : Type 0} (contents : W → Option (List ℕ)) (line : R → List ℕ) where
   abbrev pub Wrote : Lines W → R → Lines W → Type 0
@@ -116,17 +148,18 @@ module _ {W R : Type 0} (contents : W → Option (List ℕ)) (line : R → List 
 
   -- the sink stopped as it was to write the lines of rows
   stopped : (failed : Bool) (w old new : Option (List ℕ)) (header : List ℕ) (rows sent more rest : List R) (bytes : List ℕ) → rows ≡ (sent ++ more) ++ rest → bytes ≡ flat_map line more
-      → Appends w old (list_text header line sent) → StopsBy failed old new bytes → Lists w new header line rows (listed (Err walk.Stopped) failed)
+      → Appends w old (list_text header line sent) → StopsBy failed old new bytes → Ends line w new header rows (listed (Err walk.Stopped) failed)
   stopped true w old new header rows sent more rest bytes e same first stop =
       let whole : list_text header line rows ≡ (list_text header line sent ++ bytes) ++ flat_map line rest =
       ap (λ l. list_text header line l) e ∙ sym (text_of_both header (sent ++ more) rest) ∙ ap (λ l. l ++ flat_map line rest) (sym (text_of_both header sent more))
       ∙ ap (λ l. (list_text header line sent ++ l) ++ flat_map line rest) (sym same) in
-      subst (AppendsFront w new) (sym whole) (front_next w old new (list_text header line sent) bytes (flat_map line rest) first stop)
-  stopped false w old new header rows sent more rest bytes e same first stop = inr (sent, more ++ rest, e ∙ append_assoc sent more rest, Appends-kept w old new _ first stop)
+      cut_ends line w new header rows (subst (AppendsFront w new) (sym whole ∙ lines_text header line rows) (front_next w old new (list_text header line sent) bytes (flat_map line rest) first stop))
+  stopped false w old new header rows sent more rest bytes e same first stop =
+      front_ends line w new header rows sent (more ++ rest) (e ∙ append_assoc sent more rest) (Appends-kept w old new _ first stop)
 
   -- the rest of the rows wasn't written, or the rest of them was
   rest_stopped : (w : Option (List ℕ)) (header : List ℕ) (rows taken rest : List R) (b c : Lines W) → rows ≡ taken ++ rest → Stands w header taken b → StopsAtWrite contents b c b.gathered.now
-      → Lists w (contents c.writer.now) header line rows (listed (Err walk.Stopped) c.write_failed)
+      → Ends line w (contents c.writer.now) header rows (listed (Err walk.Stopped) c.write_failed)
   rest_stopped w header rows taken rest b c e (sent, held, all, written, gathered) f =
       stopped c.write_failed w (contents b.writer.now) (contents c.writer.now) header rows sent held rest b.gathered.now (e ∙ ap (λ l. l ++ rest) all) gathered written f.0
 
@@ -139,28 +172,30 @@ module _ {W R : Type 0} (contents : W → Option (List ℕ)) (line : R → List 
 
   -- the sink stopped at a row of the walk
   walk_stopped : (w : Option (List ℕ)) (header : List ℕ) (rows taken : List R) (row : R) (rest : List R) (last b : Lines W) → rows ≡ taken ++ row ∷ rest → Stands w header taken last
-      → StopsAtWrite contents last b (last.gathered.now ++ line row) → Lists w (contents b.writer.now) header line rows (listed (Err walk.Stopped) b.write_failed)
+      → StopsAtWrite contents last b (last.gathered.now ++ line row) → Ends line w (contents b.writer.now) header rows (listed (Err walk.Stopped) b.write_failed)
   walk_stopped w header rows taken row rest last b e (sent, held, all, written, gathered) f =
       stopped b.write_failed w (contents last.writer.now) (contents b.writer.now) header rows sent (held ++ row ∷ []) rest (last.gathered.now ++ line row)
       (e ∙ ap (λ l. l ++ row ∷ rest) all ∙ regroup sent held row rest) (ap (λ l. l ++ line row) gathered ∙ one_more held row) written f.0
 
   -- after the header, the walk and its end, the list is written as its end says
   pub list_written : (w : Option (List ℕ)) (header : List ℕ) (rows handed : List R) (a b c : Lines W) (end result : Result (Unit {0}) WalkFault) → Appends w (contents a.writer.now) header → a.gathered.now ≡ []
-      → handed ≡ rows → Hands Wrote Stopped handed a b end → Finishes contents b c end result → Lists w (contents c.writer.now) header line rows (listed result c.write_failed)
+      → handed ≡ rows → Hands Wrote Stopped handed a b end → Finishes contents b c end result → Ends line w (contents c.writer.now) header rows (listed result c.write_failed)
   list_written w header rows handed a b c (Err walk.Stopped) result first none e h f =
       let here = walk_stopped w header rows h.0 h.1 h.2 h.4 b (sym e ∙ h.3) (from_header w header h.0 a h.4 first none h.5) h.6.1 in
-      subst (λ r. Lists w (contents c.writer.now) header line rows (listed r c.write_failed)) (sym f.0)
-      (subst (λ (s : Lines W). Lists w (contents s.writer.now) header line rows (listed (Err walk.Stopped) s.write_failed)) (sym f.1) here)
+      subst (λ r. Ends line w (contents c.writer.now) header rows (listed r c.write_failed)) (sym f.0)
+      (subst (λ (s : Lines W). Ends line w (contents s.writer.now) header rows (listed (Err walk.Stopped) s.write_failed)) (sym f.1) here)
   list_written w header rows handed a b c (Ok done) (Err walk.Stopped) first none e h f = rest_stopped w header rows handed [] b c (sym e ∙ sym (append-nil handed)) (from_header w header handed a b first none h) f
   list_written w header rows handed a b c (Ok done) (Ok ended) first none e h f =
-      subst (λ rs. Appends w (contents c.writer.now) (list_text header line rs)) e (rest_written w header handed b c (from_header w header handed a b first none h) f.1)
+      whole_ends line w (contents c.writer.now) header rows (subst (λ rs. Appends w (contents c.writer.now) (list_text header line rs)) e (rest_written w header handed b c (from_header w header handed a b first none h) f.1))
   list_written w header rows handed a b c (Ok done) (Err walk.Memory) first none e h f = absurd (err_is_ok f.0)
   list_written w header rows handed a b c (Ok done) (Err walk.Store) first none e h f = absurd (err_is_ok f.0)
   list_written w header rows handed a b c (Err walk.Memory) (Err walk.Stopped) first none e h f = rest_stopped w header rows h.0 h.1 b c (sym e ∙ h.2) (from_header w header h.0 a b first none h.3) f
-  list_written w header rows handed a b c (Err walk.Memory) (Err walk.Memory) first none e h f = inr (h.0, h.1, sym e ∙ h.2, rest_written w header h.0 b c (from_header w header h.0 a b first none h.3) f.1)
+  list_written w header rows handed a b c (Err walk.Memory) (Err walk.Memory) first none e h f =
+      front_ends line w (contents c.writer.now) header rows h.0 h.1 (sym e ∙ h.2) (rest_written w header h.0 b c (from_header w header h.0 a b first none h.3) f.1)
   list_written w header rows handed a b c (Err walk.Memory) (Err walk.Store) first none e h f = absurd (store_is_memory (Err walk.Store) refl f.0)
   list_written w header rows handed a b c (Err walk.Memory) (Ok done) first none e h f = absurd (err_is_ok (sym f.0))
   list_written w header rows handed a b c (Err walk.Store) (Err walk.Stopped) first none e h f = rest_stopped w header rows h.0 h.1 b c (sym e ∙ h.2) (from_header w header h.0 a b first none h.3) f
-  list_written w header rows handed a b c (Err walk.Store) (Err walk.Store) first none e h f = inr (h.0, h.1, sym e ∙ h.2, rest_written w header h.0 b c (from_header w header h.0 a b first none h.3) f.1)
+  list_written w header rows handed a b c (Err walk.Store) (Err walk.Store) first none e h f =
+      front_ends line w (contents c.writer.now) header rows h.0 h.1 (sym e ∙ h.2) (rest_written w header h.0 b c (from_header w header h.0 a b first none h.3) f.1)
   list_written w header rows handed a b c (Err walk.Store) (Err walk.Memory) first none e h f = absurd (store_is_memory (Err walk.Store) refl (sym f.0))
   list_written w header rows handed a b c (Err walk.Store) (Ok done) first none e h f = absurd (err_is_ok (sym f.0))

@@ -1,8 +1,7 @@
--- The lines of the five lists, and how a list was written.
-use Rattle.std.specs.Prelude.{ℕ, ◌≡◌, Bool, true, false, List, [], ◌∷◌, ◌++◌, codes, if◌then◌else◌, Option, Some, None, Result, Ok, Err, ◌⊎◌}
-use Rattle.std.specs.List.{flat_map}
+-- The lines of the five lists, and how a sink of lines and a look-up of a room end.
+use Rattle.std.specs.Prelude.{ℕ, ◌≡◌, Bool, true, false, List, [], ◌∷◌, ◌++◌, codes, if◌then◌else◌, Option, Some, None, Result, Ok, Err}
 use Rattle.std.specs.Fmt.{decimal}
-use Rattle.std.specs.Io.KnownBytes.{Appends, Keeps}
+use Rattle.std.specs.Io.KnownBytes.{Keeps}
 use Rattle.csv.specs.Writing.{default_writer, row_text}
 use Rattle.keycard_rules.specs.{Rise.HasRisen, Rise.NoFewer, declared.issued.Issued.Ghosts as IssuedOf, Numerals.code_text, Note.Note, declared.note.Act.Act}
 use Rattle.keycard_rules.specs.declared.issued.LookFault.TheVariants as look
@@ -71,22 +70,6 @@ left_behind_header = codes "room,held,current,awaited\n"
 abbrev pub audit_header : List ℕ
 audit_header = codes "room,count,kind,card,old,new,at\n"
 
--- The text of a list: its header, and a line for each row.
-abbrev pub list_text : {R : Type 0} → List ℕ → (R → List ℕ) → List R → List ℕ
-list_text header line rows = header ++ flat_map line rows
-
--- The writer took the text of a front of the rows, or nothing.
-abbrev pub AppendsRows : {R : Type 0} → Option (List ℕ) → Option (List ℕ) → List ℕ → (R → List ℕ) → List R → Type 0
-AppendsRows {R = R} old new header line rows = Keeps old new ⊎ ((taken : List R) × (rest : List R) × (rows ≡ taken ++ rest) × Appends old new (list_text header line taken))
-
--- What the writer took of a list: its text; or, after a failed write, a front of it; where memory or the store failed, whole rows of it; and nothing where the room isn't there.
-abbrev pub Lists : {R : Type 0} → Option (List ℕ) → Option (List ℕ) → List ℕ → (R → List ℕ) → List R → Result (Unit {0}) ListFault → Type 0
-Lists old new header line rows (Ok done) = Appends old new (list_text header line rows)
-Lists old new header line rows (Err fault.Write) = AppendsFront old new (list_text header line rows)
-Lists old new header line rows (Err fault.Memory) = AppendsRows old new header line rows
-Lists old new header line rows (Err fault.Store) = AppendsRows old new header line rows
-Lists old new header line rows (Err fault.NoRoom) = Keeps old new
-
 -- A writer stopped at a line: it took a front of it where the write failed, and nothing of it otherwise.
 abbrev pub StopsBy : Bool → Option (List ℕ) → Option (List ℕ) → List ℕ → Type 0
 StopsBy true old new line = AppendsFront old new line
@@ -113,11 +96,6 @@ is_early (Err fault.NoRoom) = true
 is_early (Err fault.Memory) = true
 is_early (Err fault.Store) = true
 is_early (Err fault.Write) = false
-
--- What the writer took of a list of a room: the list where the room is there; else nothing, and the answer is NoRoom, unless memory or the store failed.
-abbrev pub ListsRoom : {R : Type 0} → Option RoomRow → Option (List ℕ) → Option (List ℕ) → List ℕ → (R → List ℕ) → List R → Result (Unit {0}) ListFault → Type 0
-ListsRoom (Some row) old new header line rows result = (result ≡ Err fault.NoRoom → ⊥) × Lists old new header line rows result
-ListsRoom None old new header line rows result = (is_early result ≡ true) × Keeps old new
 
 -- the room is there, or it isn't and the answer is NoRoom, unless memory or the store failed
 abbrev pub FindsRoom : Option RoomRow → Result (Unit {0}) ListFault → Type 0

@@ -1,8 +1,9 @@
 //! The five lists as text: a header, and a line for each row.
-ghost use Rattle.std.specs.Prelude.{◌≡◌, Err};
+ghost use Rattle.std.specs.Prelude.{◌≡◌, [], Some, is_some, Err};
 ghost use Rattle.hotel_core.specs.Books.Lookups.{room_at};
 ghost use Rattle.hotel_core.specs.Refinement.ListsOnRows.{arrivals_on, in_house_on, chain_on, left_behind_on, audit_on};
-ghost use Rattle.hotel_lists.specs.Lines.{Lists, ListsRoom, LooksAt, arrivals_header, in_house_header, chain_header, left_behind_header, audit_header, arrival_line, house_line, chain_line, behind_line, note_line};
+ghost use Rattle.hotel_lists.specs.Listings.{ListEnds, listing, of_room};
+ghost use Rattle.hotel_lists.specs.Lines.{LooksAt, arrivals_header, in_house_header, chain_header, left_behind_header, audit_header, arrival_line, house_line, chain_line, behind_line, note_line};
 ghost use Rattle.hotel_lists.specs.declared.fault.ListFault.TheVariants.{NoRoom};
 
 use crate::calls::IoCalls;
@@ -23,7 +24,7 @@ pub fn arrivals<B: Walks, W: Write>(
     day: Day,
     writer: &mut W,
 ) -> Result<(), ListFault>
-    ensures text { B.is_clean books.new → Lists (W.contents writer.old) (W.contents writer.new) arrivals_header arrival_line (arrivals_on (B.rows books.old) day) result }
+    ensures text { B.is_clean books.new → ListEnds [] (Some (listing arrivals_header arrival_line (arrivals_on (B.rows books.old) day))) (W.contents writer.old) (W.contents writer.new) result }
     ensures no_room { result ≡ Err NoRoom → ⊥ }
     ensures books { LooksAt B.Issued books.old books.new result }
 {
@@ -36,7 +37,7 @@ pub fn in_house<B: Walks, W: Write>(
     books: &mut B,
     writer: &mut W,
 ) -> Result<(), ListFault>
-    ensures text { B.is_clean books.new → Lists (W.contents writer.old) (W.contents writer.new) in_house_header house_line (in_house_on (B.rows books.old)) result }
+    ensures text { B.is_clean books.new → ListEnds [] (Some (listing in_house_header house_line (in_house_on (B.rows books.old)))) (W.contents writer.old) (W.contents writer.new) result }
     ensures no_room { result ≡ Err NoRoom → ⊥ }
     ensures books { LooksAt B.Issued books.old books.new result }
 {
@@ -50,7 +51,7 @@ pub fn chain_of<B: Walks, W: Write>(
     room: RoomNo,
     writer: &mut W,
 ) -> Result<(), ListFault>
-    ensures text { B.is_clean books.new → ListsRoom (room_at (B.rows books.old) room) (W.contents writer.old) (W.contents writer.new) chain_header chain_line (chain_on (B.rows books.old) room) result }
+    ensures text { B.is_clean books.new → ListEnds [] (of_room (is_some (room_at (B.rows books.old) room)) (listing chain_header chain_line (chain_on (B.rows books.old) room))) (W.contents writer.old) (W.contents writer.new) result }
     ensures books { LooksAt B.Issued books.old books.new result }
 {
     write_chain_of(alloc, books, room, writer, &mut IoCalls::none())
@@ -62,7 +63,7 @@ pub fn left_behind<B: Walks, W: Write>(
     books: &mut B,
     writer: &mut W,
 ) -> Result<(), ListFault>
-    ensures text { B.is_clean books.new → Lists (W.contents writer.old) (W.contents writer.new) left_behind_header behind_line (left_behind_on (B.rows books.old)) result }
+    ensures text { B.is_clean books.new → ListEnds [] (Some (listing left_behind_header behind_line (left_behind_on (B.rows books.old)))) (W.contents writer.old) (W.contents writer.new) result }
     ensures no_room { result ≡ Err NoRoom → ⊥ }
     ensures books { LooksAt B.Issued books.old books.new result }
 {
@@ -76,7 +77,7 @@ pub fn audit_of<B: Walks, W: Write>(
     room: RoomNo,
     writer: &mut W,
 ) -> Result<(), ListFault>
-    ensures text { B.is_clean books.new → ListsRoom (room_at (B.rows books.old) room) (W.contents writer.old) (W.contents writer.new) audit_header note_line (audit_on (B.rows books.old) room) result }
+    ensures text { B.is_clean books.new → ListEnds [] (of_room (is_some (room_at (B.rows books.old) room)) (listing audit_header note_line (audit_on (B.rows books.old) room))) (W.contents writer.old) (W.contents writer.new) result }
     ensures books { LooksAt B.Issued books.old books.new result }
 {
     write_audit_of(alloc, books, room, writer, &mut IoCalls::none())

@@ -1,9 +1,10 @@
 //! The five lists as text, within a call whose reads and writes are counted. The writes of a list are added to them.
-ghost use Rattle.std.specs.Prelude.{◌≡◌, true, Err};
+ghost use Rattle.std.specs.Prelude.{◌≡◌, true, [], Some, is_some, Err};
 ghost use Rattle.hotel_core.specs.Books.Lookups.{room_at};
 ghost use Rattle.hotel_core.specs.Refinement.ListsOnRows.{arrivals_on, in_house_on, chain_on, left_behind_on, audit_on};
 ghost use Rattle.hotel_lists.specs.{Calls.NoneForgotten, declared.fault.ListFault.TheVariants.NoRoom, declared.fault.ListFault.TheVariants.Write};
-ghost use Rattle.hotel_lists.specs.Lines.{Lists, ListsRoom, LooksAt, FindsRoom, arrivals_header, in_house_header, chain_header, left_behind_header, audit_header, arrival_line, house_line, chain_line, behind_line, note_line};
+ghost use Rattle.hotel_lists.specs.Listings.{ListEnds, listing, of_room};
+ghost use Rattle.hotel_lists.specs.Lines.{LooksAt, FindsRoom, arrivals_header, in_house_header, chain_header, left_behind_header, audit_header, arrival_line, house_line, chain_line, behind_line, note_line};
 
 use crate::bytes::write_bytes;
 use crate::calls::IoCalls;
@@ -51,7 +52,7 @@ fn write_rows<B: Walks, L: Listing<B>, W: Write>(
     writer: &mut W,
     calls: &mut IoCalls,
 ) -> Result<(), ListFault>
-    ensures text { B.is_clean books.new → Lists (W.contents writer.old) (W.contents writer.new) header.now L.Row.line (L.rows list.now (B.rows books.old)) result }
+    ensures text { B.is_clean books.new → ListEnds [] (Some (listing header.now L.Row.line (L.rows list.now (B.rows books.old)))) (W.contents writer.old) (W.contents writer.new) result }
     ensures no_room { result ≡ Err NoRoom → ⊥ }
     ensures books { LooksAt B.Issued books.old books.new result }
     ensures failed { result ≡ Err Write → calls.new.write_failed ≡ true }
@@ -75,7 +76,7 @@ fn write_room_rows<B: Walks, L: Listing<B>, W: Write>(
     writer: &mut W,
     calls: &mut IoCalls,
 ) -> Result<(), ListFault>
-    ensures text { B.is_clean books.new → ListsRoom (room_at (B.rows books.old) room) (W.contents writer.old) (W.contents writer.new) header.now L.Row.line (L.rows list.now (B.rows books.old)) result }
+    ensures text { B.is_clean books.new → ListEnds [] (of_room (is_some (room_at (B.rows books.old) room)) (listing header.now L.Row.line (L.rows list.now (B.rows books.old)))) (W.contents writer.old) (W.contents writer.new) result }
     ensures books { LooksAt B.Issued books.old books.new result }
     ensures failed { result ≡ Err Write → calls.new.write_failed ≡ true }
     ensures calls { NoneForgotten calls.old calls.new }
@@ -92,7 +93,7 @@ pub fn write_arrivals<B: Walks, W: Write>(
     writer: &mut W,
     calls: &mut IoCalls,
 ) -> Result<(), ListFault>
-    ensures text { B.is_clean books.new → Lists (W.contents writer.old) (W.contents writer.new) arrivals_header arrival_line (arrivals_on (B.rows books.old) day) result }
+    ensures text { B.is_clean books.new → ListEnds [] (Some (listing arrivals_header arrival_line (arrivals_on (B.rows books.old) day))) (W.contents writer.old) (W.contents writer.new) result }
     ensures no_room { result ≡ Err NoRoom → ⊥ }
     ensures books { LooksAt B.Issued books.old books.new result }
     ensures failed { result ≡ Err Write → calls.new.write_failed ≡ true }
@@ -108,7 +109,7 @@ pub fn write_in_house<B: Walks, W: Write>(
     writer: &mut W,
     calls: &mut IoCalls,
 ) -> Result<(), ListFault>
-    ensures text { B.is_clean books.new → Lists (W.contents writer.old) (W.contents writer.new) in_house_header house_line (in_house_on (B.rows books.old)) result }
+    ensures text { B.is_clean books.new → ListEnds [] (Some (listing in_house_header house_line (in_house_on (B.rows books.old)))) (W.contents writer.old) (W.contents writer.new) result }
     ensures no_room { result ≡ Err NoRoom → ⊥ }
     ensures books { LooksAt B.Issued books.old books.new result }
     ensures failed { result ≡ Err Write → calls.new.write_failed ≡ true }
@@ -125,7 +126,7 @@ pub fn write_chain_of<B: Walks, W: Write>(
     writer: &mut W,
     calls: &mut IoCalls,
 ) -> Result<(), ListFault>
-    ensures text { B.is_clean books.new → ListsRoom (room_at (B.rows books.old) room) (W.contents writer.old) (W.contents writer.new) chain_header chain_line (chain_on (B.rows books.old) room) result }
+    ensures text { B.is_clean books.new → ListEnds [] (of_room (is_some (room_at (B.rows books.old) room)) (listing chain_header chain_line (chain_on (B.rows books.old) room))) (W.contents writer.old) (W.contents writer.new) result }
     ensures books { LooksAt B.Issued books.old books.new result }
     ensures failed { result ≡ Err Write → calls.new.write_failed ≡ true }
     ensures calls { NoneForgotten calls.old calls.new }
@@ -140,7 +141,7 @@ pub fn write_left_behind<B: Walks, W: Write>(
     writer: &mut W,
     calls: &mut IoCalls,
 ) -> Result<(), ListFault>
-    ensures text { B.is_clean books.new → Lists (W.contents writer.old) (W.contents writer.new) left_behind_header behind_line (left_behind_on (B.rows books.old)) result }
+    ensures text { B.is_clean books.new → ListEnds [] (Some (listing left_behind_header behind_line (left_behind_on (B.rows books.old)))) (W.contents writer.old) (W.contents writer.new) result }
     ensures no_room { result ≡ Err NoRoom → ⊥ }
     ensures books { LooksAt B.Issued books.old books.new result }
     ensures failed { result ≡ Err Write → calls.new.write_failed ≡ true }
@@ -157,7 +158,7 @@ pub fn write_audit_of<B: Walks, W: Write>(
     writer: &mut W,
     calls: &mut IoCalls,
 ) -> Result<(), ListFault>
-    ensures text { B.is_clean books.new → ListsRoom (room_at (B.rows books.old) room) (W.contents writer.old) (W.contents writer.new) audit_header note_line (audit_on (B.rows books.old) room) result }
+    ensures text { B.is_clean books.new → ListEnds [] (of_room (is_some (room_at (B.rows books.old) room)) (listing audit_header note_line (audit_on (B.rows books.old) room))) (W.contents writer.old) (W.contents writer.new) result }
     ensures books { LooksAt B.Issued books.old books.new result }
     ensures failed { result ≡ Err Write → calls.new.write_failed ≡ true }
     ensures calls { NoneForgotten calls.old calls.new }

@@ -60,8 +60,8 @@ OneEnds v command status old new = (reply : Reply) × (write_failed : Bool) × E
     × (new.around ≡ old.around)
 
 -- A list: its text over the history.
-abbrev pub ListEnds : {S R W F E : Type 0} → Views S R W F E → ListAsk → ℕ → Desk S R W F E → Desk S R W F E → Type 0
-ListEnds v its_list status old new = (end : Result (Unit {0}) ListFault) × EndsBy v (list_end end) status old new
+abbrev pub AListEnds : {S R W F E : Type 0} → Views S R W F E → ListAsk → ℕ → Desk S R W F E → Desk S R W F E → Type 0
+AListEnds v its_list status old new = (end : Result (Unit {0}) ListFault) × EndsBy v (list_end end) status old new
     × (v.issued.is_clean new.books → AnswerEndsFor (v.rows old.books) its_list (v.contents old.writer) (v.contents new.writer) end)
     × LooksAt v.issued old.books new.books end × (new.source ≡ old.source) × (new.around ≡ old.around)
 
@@ -122,7 +122,7 @@ ServeEnds v port count status old new = (port_is : Result (Unit {0}) Fault) × v
 -- An act, with the bytes of its audit file, and what is known of the script.
 abbrev pub ActEnds : {S R W F E : Type 0} → Views S R W F E → Option (List ℕ) → List ℕ → DeskAct → ℕ → Desk S R W F E → Desk S R W F E → Type 0
 ActEnds v known bytes (One command) = OneEnds v command
-ActEnds v known bytes (AList its_list) = ListEnds v its_list
+ActEnds v known bytes (AList its_list) = AListEnds v its_list
 ActEnds v known bytes (Audit name) = AuditEnds v bytes
 ActEnds v known bytes Script = ScriptEnds v known
 ActEnds v known bytes (Serve port count) = ServeEnds v port count

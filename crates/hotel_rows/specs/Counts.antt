@@ -1,13 +1,19 @@
--- What is counted of plain rows: the rooms of each kind, and the nights of the stays.
-use Rattle.std.specs.Prelude.{◌≡◌, ℕ, Bool, true, List, map, bytes_eq}
-use Rattle.std.specs.List.{list_any, count_by}
+-- What is counted of plain rows: the rooms of each kind, and the nights of the stays; and which rows can be counted.
+use Rattle.std.specs.Prelude.{◌≡◌, ◌==◌, ◌&&◌, ℕ, Bool, true, not, nat_le, length, List, map, Option, option_map, bytes_eq, string_bytes}
+use Rattle.std.specs.List.{list_all, list_any, count_by}
 use Rattle.std.specs.Map.{values_of}
+use Rattle.hotel_nights.specs.Guests.{is_guest}
+use Rattle.hotel_nights.specs.Kinds.{is_kind}
+use Rattle.hotel_core.specs.Model.Words.{said_of}
+use Rattle.hotel_core.specs.Model.SoundRooms.{is_day}
 use Rattle.hotel_core.specs.KindRooms as kinds
 use Rattle.hotel_core.specs.NightIndex.{CountsNights}
 use Rattle.hotel_rows.specs.declared.stored.PlainKind.{PlainKind}
+use Rattle.hotel_rows.specs.declared.stored.PlainRoom.{PlainRoom}
+use Rattle.hotel_rows.specs.declared.stored.PlainStay.{PlainStay}
 use Rattle.hotel_rows.specs.declared.stored.Stored.{Stored}
 use Rattle.hotel_rows.specs.declared.counts.Counts.{Counts}
-use Rattle.hotel_rows.specs.Stored.{kind_text, stay_entry}
+use Rattle.hotel_rows.specs.Stored.{number_of, kind_text, stay_entry}
 use Rattle.hotel_rows.specs.RowTests.{is_room_of_kind}
 
 -- one of the rows is of the kind
@@ -22,3 +28,24 @@ KnowsKinds counts plain_rows = (kind : List ℕ) → names_kind kind plain_rows 
 abbrev pub IsCountedOf : Stored → Counts → Type 0
 IsCountedOf s c =
     ((kind : List ℕ) → kinds.rooms_in c.kinds kind ≡ count_by (is_room_of_kind kind) s.rooms.items) × (CountsNights c.nights (values_of (map stay_entry s.stays.items)) × KnowsKinds c.kinds s.kinds.items)
+
+-- ---- rows that can be counted
+
+-- from 1 up to a greatest number
+abbrev pub is_number_up_to : ℕ → ℕ → Bool
+is_number_up_to most n = nat_le 1 n && nat_le n most
+
+-- in house, 1, at a room from 1 to 9999; or booked, done or cancelled, 0, 2 or 3, without a room
+abbrev pub tells_state : ℕ → Option ℕ → Bool
+tells_state n room = said_of room (nat_le n 3 && not (n == 1)) (λ r. (n == 1) && is_number_up_to 9999 r)
+
+-- the columns are those of a stay, each in its range
+abbrev pub tells_stay : PlainStay → Bool
+tells_stay plain =
+    is_number_up_to 9999999 (number_of plain.party) && is_guest (string_bytes plain.guest) && is_kind (string_bytes plain.kind) && is_day (number_of plain.arrive)
+    && is_day (number_of plain.depart) && tells_state (number_of plain.state) (option_map number_of plain.room)
+
+-- at most 9999 rooms, each of one of the kinds, which read as kind codes
+abbrev pub are_rooms_of : List PlainKind → List PlainRoom → Bool
+are_rooms_of plain_kinds plain_rooms =
+    list_all (λ kind. is_kind (kind_text kind)) plain_kinds && list_all (λ room. names_kind (string_bytes room.kind) plain_kinds) plain_rooms && nat_le (length plain_rooms) 9999

@@ -1,14 +1,19 @@
 //! The rooms of each kind and the nights of the stays, counted from the rows of the tables.
-ghost use Rattle.std.specs.Prelude.{◌≡◌, ◌+◌, List, ℕ, map, IfOk, OnOk};
-ghost use Rattle.std.specs.List.{count_by};
+ghost use Rattle.std.specs.Prelude.{◌≡◌, ◌+◌, ◌-◌, ◌^◌, ◌≤◌, List, ℕ, None, true, false, map, string_bytes, IfOk, OnOk};
+ghost use Rattle.std.specs.Result.{IfErr};
+ghost use Rattle.std.specs.List.{list_all, count_by};
 ghost use Rattle.std.specs.Map.{keys_of, values_of};
+ghost use Rattle.keycard_rules.specs.declared.issued.LookFault.TheVariants.{Memory, Store};
 ghost use Rattle.hotel_nights.specs.Block.{one_if};
-ghost use Rattle.hotel_core.specs.KindRooms.{rooms_in};
+ghost use Rattle.hotel_nights.specs.Guests.{is_guest};
+ghost use Rattle.hotel_nights.specs.Kinds.{is_kind};
+ghost use Rattle.hotel_core.specs.Model.SoundRooms.{is_day};
+ghost use Rattle.hotel_core.specs.KindRooms.{is_there, rooms_in};
 ghost use Rattle.hotel_core.specs.NightIndex.{CountsNights};
-ghost use Rattle.hotel_rows.specs.Stored.{state_of, stay_row, stay_entry};
+ghost use Rattle.hotel_rows.specs.Stored.{state_of, kind_text, stay_row, stay_entry};
+ghost use Rattle.hotel_rows.specs.Damage.{first_damaged_of};
 ghost use Rattle.hotel_rows.specs.RowTests.{is_room_of_kind};
-ghost use Rattle.hotel_rows.specs.Counts.{KnowsKinds};
-ghost use Rattle.hotel_rows.specs.Counts.{IsCountedOf};
+ghost use Rattle.hotel_rows.specs.Counts.{IsCountedOf, KnowsKinds, are_rooms_of, is_number_up_to, tells_state, tells_stay};
 
 use crate::damage::numbers::{number, number_if};
 use crate::stored::{PlainKind, PlainRoom, PlainStay, Stored};
@@ -25,7 +30,8 @@ pub struct Counts {
 }
 
 fn counted<K, const MOST: u32>(n: u64) -> Result<Number<K, MOST>, LookFault>
-    ensures { IfOk result (λ number. number ≡ n) }
+    ensures ok { IfOk result (λ number. number ≡ n) }
+    ensures err { IfErr result (λ why. why ≡ Store × (is_number_up_to MOST n ≡ false)) }
 {
     if n > u64::from(MOST) {
         return Err(LookFault::Store);
@@ -37,7 +43,8 @@ fn counted<K, const MOST: u32>(n: u64) -> Result<Number<K, MOST>, LookFault>
 }
 
 pub(crate) fn day(n: u64) -> Result<Day, LookFault>
-    ensures { IfOk result (λ day. day ≡ n) }
+    ensures ok { IfOk result (λ day. day ≡ n) }
+    ensures err { IfErr result (λ why. why ≡ Store × (is_day n ≡ false)) }
 {
     if n > 36_524 {
         return Err(LookFault::Store);
@@ -49,7 +56,8 @@ pub(crate) fn day(n: u64) -> Result<Day, LookFault>
 }
 
 pub(crate) fn kind_code(text: &str) -> Result<KindCode, LookFault>
-    ensures { IfOk result (λ kind. kind ≡ text.now) }
+    ensures ok { IfOk result (λ kind. kind ≡ text.now) }
+    ensures err { IfErr result (λ why. why ≡ Store × (is_kind text.now ≡ false)) }
 {
     match KindCode::read(text.as_bytes()) {
         Some(kind) => Ok(kind),
@@ -58,7 +66,8 @@ pub(crate) fn kind_code(text: &str) -> Result<KindCode, LookFault>
 }
 
 fn guest(alloc: Global, text: &str) -> Result<Guest, LookFault>
-    ensures { IfOk result (λ guest. guest ≡ text.now) }
+    ensures ok { IfOk result (λ guest. guest ≡ text.now) }
+    ensures err { IfErr result (λ why. why ≡ Store → is_guest text.now ≡ false) }
 {
     match Guest::read(alloc, text) {
         Ok(guest) => Ok(guest),
@@ -68,7 +77,8 @@ fn guest(alloc: Global, text: &str) -> Result<Guest, LookFault>
 }
 
 fn stay_state(state: u64, room: Option<u64>) -> Result<StayState, LookFault>
-    ensures { IfOk result (λ is. is ≡ state_of state room) }
+    ensures ok { IfOk result (λ is. is ≡ state_of state room) }
+    ensures err { IfErr result (λ why. why ≡ Store × (tells_state state room ≡ false)) }
 {
     match (state, room) {
         (0, None) => Ok(StayState::Booked),
@@ -81,7 +91,8 @@ fn stay_state(state: u64, room: Option<u64>) -> Result<StayState, LookFault>
 
 /// A row of the table of stays, as a stay.
 fn stay_of(alloc: Global, plain: &PlainStay) -> Result<Stay, LookFault>
-    ensures { IfOk result (λ stay. stay ≡ stay_row plain.now) }
+    ensures ok { IfOk result (λ stay. stay ≡ stay_row plain.now) }
+    ensures err { IfErr result (λ why. why ≡ Store → tells_stay plain.now ≡ false) }
 {
     Ok(Stay {
         party: counted(number(plain.party))?,
@@ -97,6 +108,7 @@ fn stay_of(alloc: Global, plain: &PlainStay) -> Result<Stay, LookFault>
 fn name_kinds(alloc: Global, kinds: &[PlainKind]) -> Result<KindRooms, LookFault>
     ensures none { IfOk result (λ counts. (kind : List ℕ) → rooms_in counts kind ≡ 0) }
     ensures known { IfOk result (λ counts. KnowsKinds counts kinds.now) }
+    ensures err { IfErr result (λ why. why ≡ Store → list_all (λ kind. is_kind (kind_text kind)) kinds.now ≡ false) }
 {
     let mut counts = KindRooms::empty(alloc);
     for i in 0..kinds.len() {
@@ -108,10 +120,11 @@ fn name_kinds(alloc: Global, kinds: &[PlainKind]) -> Result<KindRooms, LookFault
     Ok(counts)
 }
 
-/// One more room of its kind.
+/// One more room of its kind, where the kind is there and has fewer rooms than the greatest count.
 fn add_room(counts: &mut KindRooms, room: &PlainRoom) -> Result<(), LookFault>
     ensures rooms { OnOk result ((kind : List ℕ) → rooms_in counts.new kind ≡ rooms_in counts.old kind + one_if (is_room_of_kind kind room.now)) }
     ensures kinds { OnOk result (keys_of counts.new ≡ keys_of counts.old) }
+    ensures err { IfErr result (λ why. why ≡ Store × (is_kind (string_bytes room.now.kind) ≡ true → is_there counts.old (string_bytes room.now.kind) ≡ true → 2 ^ 32 - 1 ≤ rooms_in counts.old (string_bytes room.now.kind))) }
 {
     let kind = kind_code(room.kind.as_str())?;
     if !counts.has(&kind) {
@@ -132,6 +145,7 @@ fn count_rooms(
 ) -> Result<KindRooms, LookFault>
     ensures rooms { IfOk result (λ counts. (kind : List ℕ) → rooms_in counts kind ≡ count_by (is_room_of_kind kind) rooms.now) }
     ensures known { IfOk result (λ counts. KnowsKinds counts kinds.now) }
+    ensures err { IfErr result (λ why. why ≡ Store → are_rooms_of kinds.now rooms.now ≡ false) }
 {
     let mut counts = name_kinds(alloc, kinds)?;
     for i in 0..rooms.len() {
@@ -142,7 +156,8 @@ fn count_rooms(
 
 /// How many standing stays take each night.
 fn count_nights(alloc: Global, stored: &Stored) -> Result<NightIndex, LookFault>
-    ensures { IfOk result (λ nights. CountsNights nights (values_of (map stay_entry stored.now.stays.items))) }
+    ensures ok { IfOk result (λ nights. CountsNights nights (values_of (map stay_entry stored.now.stays.items))) }
+    ensures err { IfErr result (λ why. why ≡ Store → list_all tells_stay stored.now.stays.items ≡ false) }
 {
     let mut nights = NightIndex::empty(alloc);
     for i in 0..stored.stays.len() {
@@ -155,8 +170,11 @@ fn count_nights(alloc: Global, stored: &Stored) -> Result<NightIndex, LookFault>
 }
 
 /// What is counted of the rows.
+///
+/// `Store` only where a table is damaged, and not for each damage; `Memory` only where a growth was refused.
 pub fn counts_of(alloc: Global, stored: &Stored) -> Result<Counts, LookFault>
-    ensures { IfOk result (IsCountedOf stored.now) }
+    ensures ok { IfOk result (IsCountedOf stored.now) }
+    ensures err { first_damaged_of stored.now ≡ None → IfErr result (λ why. why ≡ Memory) }
 {
     let kinds = count_rooms(alloc, &stored.kinds, &stored.rooms)?;
     let nights = count_nights(alloc, stored)?;

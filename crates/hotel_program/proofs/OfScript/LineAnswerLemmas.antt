@@ -18,7 +18,8 @@ use Rattle.hotel_asks.specs.declared.lists.ListAsk.{ListAsk}
 use Rattle.hotel_program.specs.Script.Asks.{AsksCopy}
 use Rattle.hotel_program.specs.Script.LineAnswers.{AskGoes, AskAnswered, unread_text}
 use Rattle.hotel_program.specs.Script.ListAnswers.{refusal_text, AnswersList, ListAnswered}
-use Rattle.hotel_asks.specs.Listings.{Listing, listing_on}
+use Rattle.hotel_lists.specs.Listings.{Listing}
+use Rattle.hotel_asks.specs.Listings.{listing_on}
 use Rattle.hotel_asks.proofs.ListingLemmas.{listing_stands}
 use Rattle.hotel_program.proofs.OfScript.ScriptLemmas.{ask_without_memory}
 

@@ -17,7 +17,7 @@ use Rattle.hotel_lists.specs.Bytes.{AppendsFront}
 use Rattle.hotel_lists.specs.Lines.{LooksAt}
 use Rattle.hotel_lists.specs.declared.fault.ListFault.{ListFault}
 use Rattle.hotel_lists.specs.declared.fault.ListFault.TheVariants as fault
-use Rattle.hotel_asks.specs.Listings.{Listing, ListEnds}
+use Rattle.hotel_lists.specs.Listings.{Listing, ListEnds}
 use Rattle.hotel_program.specs.Script.ListAnswers.{refusal_text, told_refusal, failure_of, AnswersList, ListAnswered}
 use Rattle.hotel_program.proofs.OfScript.ScriptLemmas.{appends_front}
 
@@ -88,7 +88,7 @@ whole_answered {a} {b} (Some listing) old new p grown = (_, [], inl (refl, refl)
 
 write_failed : {a b : LookFault → ℕ} (listing : Option Listing) (old new : Option (List ℕ)) → ListEnds [] listing old new (Err fault.Write) → NoFewer a b
     → ListAnswered listing (AppendsFront old new) (AreCounted a b)
-write_failed {a} {b} None old new p grown = absurd (p.0 refl)
+write_failed {a} {b} None old new p grown = absurd (p.0 refl refl)
 write_failed {a} {b} (Some listing) old new p grown = (_, [], inl (refl, refl), p.1, none_counted a b grown)
 
 -- a list whose write failed, which no refusal answers

@@ -10,7 +10,8 @@ use Rattle.hotel_asks.specs.declared.lists.ListAsk.{ListAsk}
 use Rattle.hotel_program.specs.declared.faults.Fault.{Fault}
 use Rattle.hotel_program.specs.declared.faults.Fault.TheVariants.{Memory, Store, Write}
 use Rattle.hotel_program.specs.Script.ListAnswers.{refusal_text}
-use Rattle.hotel_asks.specs.Listings.{ListEnds, Listing, listing_over}
+use Rattle.hotel_lists.specs.Listings.{ListEnds, Listing}
+use Rattle.hotel_asks.specs.Listings.{listing_over}
 
 -- What a writer took of a list that ended so; where its room isn't there, of the line that says so.
 abbrev pub AnswerEnds : Option Listing → Option (List ℕ) → Option (List ℕ) → Result (Unit {0}) ListFault → Type 0

@@ -1,7 +1,7 @@
 -- The scenario "left-behind-recoded": a guest who never entered leaves the lock behind; staff recode it.
 use Rattle.std.specs.Prelude.{List, [], ◌∷◌, ◌++◌}
 use Rattle.hotel_core.specs.declared.reply.Refusal.TheVariants.{LockShut}
-use Rattle.hotel_program.specs.Scenes.Words.{M, a0, a1, a2, entered, recoded, taken, refused, passed, held, awaited}
+use Rattle.hotel_program.specs.Scenes.Words.{M, a0, a1, a2, entered, recoded, taken, refused, passed, held}
 use Rattle.hotel_program.specs.Scenes.Lines.{Line, ◌⇒◌, Chain, LeftBehind, Holds}
 use Rattle.hotel_program.specs.Scenes.Openings.{opened, checked_in, next_checked_in}
 

@@ -8,7 +8,7 @@ use Rattle.hotel_program.specs.Script.Copies.{counted_in}
 use Rattle.hotel_core.specs.Texts.{reply_text}
 use Rattle.hotel_lists.specs.declared.fault.ListFault.{ListFault}
 use Rattle.hotel_lists.specs.declared.fault.ListFault.TheVariants as fault
-use Rattle.hotel_asks.specs.Listings.{Listing, IsFront, in_full}
+use Rattle.hotel_lists.specs.Listings.{Listing, IsFront, in_full}
 
 -- The line of a refusal.
 abbrev pub refusal_text : Refusal → List ℕ

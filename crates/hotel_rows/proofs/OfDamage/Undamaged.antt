@@ -16,21 +16,21 @@ use Rattle.hotel_rows.specs.Stored.{rows_of}
 use Rattle.hotel_rows.specs.Damage.{room_columns, stay_columns, note_columns, meta_holds, kind_holds, room_holds, stay_holds, code_holds, card_holds, inside_holds, note_holds, first_damaged_of, columns_fit, UndamagedIsSound}
 
 -- each table holds
-record AllHold (s : Stored) : Type 0 where
-  meta : meta_holds s ≡ true
-  kind : kind_holds s ≡ true
-  room : room_holds s ≡ true
-  stay : stay_holds s ≡ true
-  code : code_holds s ≡ true
-  card : card_holds s ≡ true
-  inside : inside_holds s ≡ true
-  note : note_holds s ≡ true
+pub record AllHold (s : Stored) : Type 0 where
+  pub meta : meta_holds s ≡ true
+  pub kind : kind_holds s ≡ true
+  pub room : room_holds s ≡ true
+  pub stay : stay_holds s ≡ true
+  pub code : code_holds s ≡ true
+  pub card : card_holds s ≡ true
+  pub inside : inside_holds s ≡ true
+  pub note : note_holds s ≡ true
 
 passed : (b : Bool) (t : TableName) (rest : Option TableName) → cond b rest (Some t) ≡ None → (b ≡ true) × (rest ≡ None)
 passed true t rest e = (refl, e)
 passed false t rest e = absurd (let w : ◌≡◌ {A = Option TableName} (Some t) None = e in cc)
 
-all_passed : (s : Stored) → first_damaged_of s ≡ None → AllHold s
+pub all_passed : (s : Stored) → first_damaged_of s ≡ None → AllHold s
 all_passed s e =
     let a = passed (meta_holds s) table.Meta _ e in
     let b = passed (kind_holds s) table.Kind _ a.1 in

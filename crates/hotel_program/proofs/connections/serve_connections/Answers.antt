@@ -1,4 +1,4 @@
-use Rattle.std.proofs.Common.{◌+◌, [], ◌∷◌, ◌++◌, length, length-append, refl, arith}
+use Rattle.std.proofs.Common.{[], ◌∷◌, ◌++◌, length-append, refl, arith}
 use Rattle.hotel_program.proofs.ConnectionsLemmas.{none_served, then_served, then_told}
 use Rattle.hotel_program.proofs.connections.serve_connections.Goals as goal
 

@@ -5,7 +5,8 @@ use Rattle.hotel_lists.specs.Bytes.{AppendsFront}
 use Rattle.hotel_lists.specs.declared.fault.ListFault.{ListFault}
 use Rattle.hotel_program.specs.Script.ListAnswers.{refusal_text}
 use Rattle.hotel_program.specs.Alone.ListRuns.{AnswerEnds}
-use Rattle.hotel_asks.specs.Listings.{ListEnds, listing_on}
+use Rattle.hotel_lists.specs.Listings.{ListEnds}
+use Rattle.hotel_asks.specs.Listings.{listing_on}
 use Rattle.hotel_program.proofs.ListRunLemmas.{told_no_room, cut_no_room, is_write}
 use Rattle.hotel_program.proofs.alone.list_runs.write_list_or_refusal.Goals as goal
 

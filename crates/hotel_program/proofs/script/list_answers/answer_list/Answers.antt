@@ -4,7 +4,8 @@ use Rattle.hotel_lists.specs.Bytes.{AppendsFront}
 use Rattle.hotel_lists.specs.Lines.{LooksAt}
 use Rattle.hotel_lists.specs.declared.fault.ListFault.{ListFault}
 use Rattle.hotel_program.specs.Script.ListAnswers.{refusal_text}
-use Rattle.hotel_asks.specs.Listings.{ListEnds, listing_on}
+use Rattle.hotel_lists.specs.Listings.{ListEnds}
+use Rattle.hotel_asks.specs.Listings.{listing_on}
 use Rattle.hotel_program.proofs.OfScript.ListAnswerLemmas.{refused_whole, refused_cut, whole_answered, cut_answered, when_ok, when_err}
 use Rattle.hotel_program.proofs.script.list_answers.answer_list.Goals as goal
 
