@@ -2,8 +2,8 @@
 use Rattle.std.proofs.Common.{◌≡◌, refl, sym, ap, subst, ◌∙◌, List, [], ◌∷◌, map, ℕ, ℤ, pos, nat_cmp, true, false, Bool, Less, Ordering, is_eq, Option, None, Result, Ok, Err, OnOk, IfOk, IfErr, IsTrue, Vec, arith}
 use Rattle.std.specs.Prelude.{option_map}
 use Rattle.std.specs.List.{AllByRecursion, list_all}
-use Rattle.std.specs.List.Sorted.{IsPermutation}
-use Rattle.std.specs.Ordering.{int_cmp}
+use Rattle.std.specs.List.Sorted.{IsPermutation, IsSorted}
+use Rattle.std.specs.Ordering.{int_cmp, is_lt}
 use Rattle.std.specs.Cmp.Lexicographic.{slice_cmp}
 use Rattle.std.specs.Map.{keys_of}
 use Rattle.std.specs.declared.alloc.Global.{Global}
@@ -18,6 +18,7 @@ use Rattle.sqlite.specs.Tree.{Trees, IsAscending}
 use Rattle.sqlite.specs.Effect.{Database}
 use Rattle.sqlite.specs.State.{State}
 use Rattle.sqlite.proofs.Callers.{one_permutation}
+use Rattle.sqlite_keyed.proofs.SortLemmas.{sorted_is-sort_by}
 use Rattle.sqlite_keyed.proofs.ListLemmas.{all_unmap, ascending_weaker, ascending-map}
 use Rattle.keycard_rules.specs.declared.issued.LookFault.{LookFault}
 use Rattle.keycard_rules.specs.declared.issued.LookFault.TheVariants as look
@@ -26,6 +27,7 @@ use Rattle.hotel_core.specs.Model.Rows.{at_number}
 use Rattle.hotel_core.specs.Model.Sound.{keys_in_order}
 use Rattle.hotel_core.specs.Model.SoundRooms.{are_in_order}
 use Rattle.hotel_core.proofs.OfTables.Pairs.{pair_cmp_total}
+use Rattle.hotel_core.proofs.OfTables.RowTests.{both}
 use Rattle.hotel_core.proofs.OfTables.Tests.{and_true}
 use Rattle.hotel_statements.specs.declared.plain_rows.PlainMeta.{PlainMeta}
 use Rattle.hotel_statements.specs.declared.plain_rows.NumberedInside.{NumberedInside}
@@ -52,7 +54,7 @@ use Rattle.hotel_rows.specs.Counts.{IsCountedOf}
 use Rattle.hotel_rows.proofs.OfCounts.{counted_rooms, named_kind}
 use Rattle.hotel_statements.proofs.Answers.{fused}
 use Rattle.hotel_statements.proofs.Keyed.{key_total}
-use Rattle.hotel_statements.proofs.Perm.{every_shuffled, apart_permuted}
+use Rattle.hotel_statements.proofs.Perm.{every_shuffled, apart_permuted, sort_rises}
 use Rattle.hotel_statements.proofs.ReadBack.{read_back, tested_keys, tested_order}
 use Rattle.hotel_statements.proofs.Naturals.{meta_good, kind_good, room_good, stay_good, code_good, card_good, inside_good, note_good}
 use Rattle.hotel_rows.proofs.OfDamage.Undamaged.{undamaged_is_sound}
@@ -87,7 +89,17 @@ fault_lacks db meta (fault.Damaged t) plain_rows lacks = absurd lacks
 
 -- ---- the rows inside, and their numbers
 
-pub apart_ids : (ids sorted : List ℤ) → IsPermutation ids sorted → are_in_order int_cmp sorted ≡ true → IsAscending (λ a b. is_eq (int_cmp a b) ≡ false) ids
+rising_passes : (ids : List ℤ) → IsAscending (λ a b. int_cmp a b ≡ Less) ids → are_in_order int_cmp ids ≡ true
+rising_passes [] up = refl
+rising_passes (a ∷ []) up = refl
+rising_passes (a ∷ b ∷ ids) up = both _ _ (ap is_lt up.0.0) (rising_passes (b ∷ ids) up.1)
+
+-- no two are the same exactly where the sorted ones rise
+pub apart_in_order : (ids sorted : List ℤ) → IsPermutation ids sorted → IsSorted int_cmp sorted → AreApart int_cmp ids → are_in_order int_cmp sorted ≡ true
+apart_in_order ids sorted same in_order apart =
+    ap (are_in_order int_cmp) (sorted_is-sort_by int_cmp int_cmp_total ids sorted apart same in_order) ∙ rising_passes _ (sort_rises int_cmp int_cmp_total ids apart)
+
+pub apart_ids : (ids sorted : List ℤ) → IsPermutation ids sorted → are_in_order int_cmp sorted ≡ true → AreApart int_cmp ids
 apart_ids ids sorted same up =
     let apart : AreApart int_cmp sorted = ascending_weaker _ _ (λ a b less. ap is_eq less) sorted (tested_order int_cmp int_cmp_total sorted up) in
     apart_permuted int_cmp int_cmp_total sorted ids (IsPermutation-sym _ _ same) apart

@@ -1,12 +1,12 @@
 //! Books over tables that are there: the tables are read whole and tested, and what books keep in memory is counted.
-ghost use Rattle.std.specs.Prelude.{◌≡◌, None, true, false, map, IfOk, IfErr};
-ghost use Rattle.std.specs.Ordering.{int_cmp, is_eq, is_lt};
+ghost use Rattle.std.specs.Prelude.{◌≡◌, ◌↔◌, None, true, map, IfOk, IfErr};
+ghost use Rattle.std.specs.Ordering.{int_cmp, is_lt};
 ghost use Rattle.sqlite.specs.Held.{state};
-ghost use Rattle.sqlite.specs.Tree.{Trees, IsAscending};
+ghost use Rattle.sqlite.specs.Tree.{Trees};
 ghost use Rattle.hotel_core.specs.Model.SoundRooms.{are_in_order};
 ghost use Rattle.hotel_rows.specs.Counts.{IsCountedOf};
 ghost use Rattle.hotel_rows.specs.Damage.{first_damaged_of};
-ghost use Rattle.hotel_statements.specs.Tables.{AreTables, rows_in};
+ghost use Rattle.hotel_statements.specs.Tables.{AreApart, AreTables, rows_in};
 ghost use Rattle.hotel_tables.specs.TableBooks.{IsCounted};
 ghost use Rattle.hotel_statements.specs.WholeTables.{IsOurs, AreRead};
 ghost use Rattle.hotel_tables.specs.Opening.{AreStored, AreApartInside, IsMetaRow, FaultFits, Opens, LacksRow, all_rise, all_natural, plain_inside, id_inside, fault_for};
@@ -73,7 +73,7 @@ fn numbers_rise(ids: &[i64]) -> bool
 
 /// Whether no two rows have the same number.
 fn are_apart(alloc: Global, inside: &[NumberedInside]) -> Result<bool, Memory>
-    ensures { IfOk result (λ apart. apart ≡ true → IsAscending (λ a b. is_eq (int_cmp a b) ≡ false) (map id_inside inside.now)) }
+    ensures { IfOk result (λ apart. (apart ≡ true) ↔ AreApart int_cmp (map id_inside inside.now)) }
 {
     let mut ids = ids_of(alloc, inside)?;
     let Ok(()) = ids.sort() else {

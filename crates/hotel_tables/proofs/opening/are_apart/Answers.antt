@@ -1,13 +1,17 @@
-use Rattle.std.proofs.Common.{◌≡◌, ◌∙◌, sym, ap, subst, map, true}
+use Rattle.std.proofs.Common.{◌∙◌, sym, ap, subst, map, List, ℤ}
 use Rattle.std.specs.List.Sorted.{IsPermutation}
 use Rattle.std.specs.Ordering.{int_cmp}
 use Rattle.hotel_core.specs.Model.SoundRooms.{are_in_order}
 use Rattle.hotel_tables.specs.Opening.{id_inside}
-use Rattle.hotel_tables.proofs.Opened.{apart_ids}
+use Rattle.hotel_tables.proofs.Opened.{apart_ids, apart_in_order}
 use Rattle.hotel_tables.proofs.opening.are_apart.Goals as goal
 
 pub returns : goal.returns
-returns c = λ apart.
-    let up : are_in_order int_cmp c.sort.new.self.items ≡ true = ap (are_in_order int_cmp) (sym c.deref.ensures.value) ∙ sym c.numbers_rise.ensures ∙ apart in
-    let same : IsPermutation c.in_ok-ids.ids.items c.sort.new.self.items = c.in-Ok.ensures.permutation in
-    apart_ids (map id_inside c.args.inside.now) c.sort.new.self.items (subst (λ ids. IsPermutation ids c.sort.new.self.items) c.in_ok-ids.ensures same) up
+returns c =
+    let ids = map id_inside c.args.inside.now in
+    let sorted = c.sort.new.self.items in
+    let rises = c.numbers_rise.ensures ∙ ap (are_in_order int_cmp) c.deref.ensures.value in
+    let same : IsPermutation ids sorted = subst (λ (ids : List ℤ). IsPermutation ids sorted) c.in_ok-ids.ensures c.in-Ok.ensures.permutation in (
+      (λ apart. apart_ids ids sorted same (sym rises ∙ apart)),
+      (λ apart. rises ∙ apart_in_order ids sorted same c.in-Ok.ensures.sorted apart),
+    )

@@ -1,16 +1,16 @@
-use Rattle.std.proofs.Common.{◌≡◌, ◌∙◌, sym, ap, subst, map, true, false, refl, List}
-use Rattle.std.specs.Ordering.{int_cmp, is_eq}
-use Rattle.sqlite.specs.Tree.{IsAscending}
+use Rattle.std.proofs.Common.{◌≡◌, ◌∙◌, sym, ap, subst, map, true, refl, List}
+use Rattle.std.specs.Ordering.{int_cmp}
 use Rattle.hotel_statements.specs.declared.plain_rows.NumberedInside.{NumberedInside}
 use Rattle.hotel_tables.specs.Opening.{id_inside, plain_inside}
 use Rattle.hotel_tables.proofs.Opened.{stored_are, ids_apart}
+use Rattle.hotel_statements.specs.Tables.{AreApart}
 use Rattle.hotel_tables.proofs.opening.stored_of.Goals as goal
 
 pub returns-clause-ok : goal.returns-clause-ok
 returns-clause-ok c = λ db read.
     let t = c.args.tables in
     let is = c.in_ok-meta.ensures.ok in
-    let apart = subst (λ (ls : List NumberedInside). c.in-Ok-true.field-0 ≡ true → IsAscending (λ a b. is_eq (int_cmp a b) ≡ false) (map id_inside ls)) c.deref.ensures.value (c.in-Ok-true.ensures) in
+    let apart = subst (λ (ls : List NumberedInside). c.in-Ok-true.field-0 ≡ true → AreApart int_cmp (map id_inside ls)) c.deref.ensures.value c.in-Ok-true.ensures.0 in
     let inside = c.in-Ok.ensures ∙ ap (map plain_inside) c.deref-2.ensures.value in (
       stored_are t db c.in_ok-meta.meta _ c.in-Ok.inside (rw is.2 refl) read is inside (sym c.all_rise.ensures ∙ c.if-not-all_rise.false),
       ids_apart t.inside.items db read.1.1.0 (apart c.in-Ok-true.field-0-test),
