@@ -6,6 +6,7 @@ import os
 import pathlib
 import shutil
 import socket
+import sqlite3
 import subprocess
 import sys
 import tempfile
@@ -15,6 +16,9 @@ sys.dont_write_bytecode = True
 sys.path.insert(0, str(HERE.parent / "bench"))
 from http_routes import DESK, serve  # noqa: E402
 import scripts  # noqa: E402
+
+# Where the folders of tests are made: in memory where the machine has such a folder, since nothing waits there for a sync.
+ROOM = "/dev/shm" if os.access("/dev/shm", os.W_OK) else None
 
 # The codes that a seed of zeros gives.
 CODES = [f"{code:012x}" for code in itertools.islice(scripts.codes(), 640)]
@@ -103,6 +107,21 @@ class Desk:
         self.begun(script)
         return shutil.copy(self.db, self.folder / name)
 
+    def rows(self):
+        """The tables of the database and their rows, as another program finds them in its file and its log."""
+        for file in self.folder.glob("read.db*"):
+            file.unlink()
+        for file in self.folder.glob("desk.db*"):
+            shutil.copy(file, self.folder / file.name.replace("desk", "read"))
+        with sqlite3.connect(self.folder / "read.db") as db:
+            rows = "\n".join(line for line in db.iterdump() if line.startswith(("CREATE", "INSERT")))
+        db.close()
+        return rows
+
+    def sizes(self):
+        """The sizes of the database file and of what lies beside it."""
+        return tuple(file.stat().st_size for file in sorted(self.folder.glob("desk.db*")))
+
     def audit(self, text, is_stored=False, **calls):
         """A run on this audit file."""
         file = self.folder / "audit.csv"
@@ -142,7 +161,7 @@ def main(tests):
     program = pathlib.Path(sys.argv[1] if len(sys.argv) > 1 else DESK).resolve()
     failed = 0
     for test in tests:
-        with tempfile.TemporaryDirectory() as made:
+        with tempfile.TemporaryDirectory(dir=ROOM) as made:
             wrong = [case for case in test(Desk(program, pathlib.Path(made))) if case[1] != case[2]]
         for given, wanted, got in wrong[:3]:
             print(f"{test.__name__}, given {given!r}: wanted {wanted!r:.300}, and got {got!r:.300}")

@@ -4,6 +4,8 @@
 #[cfg(test)]
 mod connections;
 #[cfg(test)]
+mod stored_rows;
+#[cfg(test)]
 mod tables;
 #[cfg(test)]
 mod worked_scenarios;

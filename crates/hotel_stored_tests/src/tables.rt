@@ -1,6 +1,7 @@
 //! Desks over tables that are closed and opened again, as they were or after a statement that damages them.
 use crate::connections::{created, new_tables, opened};
-use hotel_rows::TableName;
+use crate::stored_rows::{rows_text, stored};
+use hotel_rows::{TableName, first_damaged};
 use hotel_scenarios::chains::{TWO_CODES, chain_reads, walks_end};
 use hotel_scenarios::desks::Desk;
 use hotel_scenarios::scenarios::{
@@ -38,12 +39,23 @@ fn fault_of<S: Alter + Drop>(alloc: Global, conn: Connection<S>) -> Option<OpenF
     }
 }
 
-/// A code of the closed desk stands at a later place: the table is named.
-fn is_damaged<R: Abort + AllocGlobal>(rt: &R, mut conn: Connection<MemStore>) {
+/// The first damaged table of the rows that the connection has.
+fn damaged_in<S: Alter>(
+    alloc: Global,
+    conn: &mut Connection<S>,
+) -> Result<Option<TableName>, Fail> {
+    Ok(first_damaged(alloc, &stored(alloc, conn)?)?)
+}
+
+/// A code of the closed desk stands at a later place: the table is named, by its rows and by an opening.
+fn is_damaged<R: Abort + AllocGlobal>(rt: &R, mut conn: Connection<MemStore>) -> Result<(), Fail> {
+    assert!(rt; damaged_in(rt.alloc(), &mut conn)? == None);
     let moved = change(&mut conn, "UPDATE code SET place = 5 WHERE place = 1");
     assert!(rt; moved == Ok(1));
+    assert!(rt; damaged_in(rt.alloc(), &mut conn)? == Some(TableName::Code));
     let fault = fault_of(rt.alloc(), conn);
     assert!(rt; fault == Some(OpenFault::Damaged(TableName::Code)));
+    Ok(())
 }
 
 /// Over tables too a walk ends where its sink stops, and the next one is whole.
@@ -55,12 +67,24 @@ fn a_walk_of_tables_ends_where_its_sink_stops(rt: HostRuntime) -> Result<(), Fai
     Ok(())
 }
 
-/// The books are closed and opened again, and the list of the room's codes is as it was.
+/// The connection of books that are closed, opened and closed again: it has the rows that it had.
+fn keeps_rows<S: Alter + Drop, R: Abort + AllocGlobal>(
+    rt: &R,
+    books: TableBooks<S>,
+) -> Result<Connection<S>, Fail> {
+    let mut conn = books.close();
+    let before = rows_text(rt.alloc(), &mut conn)?;
+    let mut conn = opened(rt.alloc(), conn)?.close();
+    assert!(rt; rows_text(rt.alloc(), &mut conn)? == before);
+    Ok(conn)
+}
+
+/// The books are closed and opened again: their rows are as they were, and so is the list of the room's codes.
 fn opens_again<R: Abort + AllocGlobal>(
     rt: &R,
     books: TableBooks<MemStore>,
 ) -> Result<TableBooks<MemStore>, Fail> {
-    let mut books = opened(rt.alloc(), books.close())?;
+    let mut books = opened(rt.alloc(), keeps_rows(rt, books)?)?;
     assert!(rt; chain_reads(rt.alloc(), &mut books, TWO_CODES)?);
     Ok(books)
 }
@@ -77,7 +101,7 @@ fn is_made_once<R: Abort + AllocGlobal>(rt: &R, conn: Connection<MemStore>) {
 #[test]
 fn reopened_tables(rt: HostRuntime) -> Result<(), Fail> {
     let books = opens_again(&rt, tables_behind(rt.alloc(), TWO_ENTRIES_MADE)?)?;
-    is_damaged(&rt, books.close());
+    is_damaged(&rt, books.close())?;
     is_made_once(&rt, tables_behind(rt.alloc(), &[OPENED])?.close());
     let bare = Connection::open_in_memory(rt.alloc())?;
     assert!(rt; fault_of(rt.alloc(), bare) == Some(OpenFault::NotADesk));

@@ -1,5 +1,6 @@
 //! The worked scenarios over tables in memory, from bytes to bytes and exit status.
 use crate::connections::new_tables;
+use hotel_scenarios::many_rows::many_rows_are_found;
 use hotel_scenarios::scenario_runs::scenario_holds;
 use hotel_scenarios::scenarios::{OF_FILES, OF_LOCKS, OF_THE_DESK, Scenario};
 use std::alloc::Global;
@@ -31,4 +32,11 @@ fn scenarios_of_files(rt: HostRuntime) -> Result<(), Fail> {
 #[test]
 fn scenarios_of_the_desk(rt: HostRuntime) -> Result<(), Fail> {
     scenarios_hold(rt.alloc(), &OF_THE_DESK)
+}
+
+/// Look-ups that no command makes, by their own calls.
+#[test]
+fn many_rows(rt: HostRuntime) -> Result<(), Fail> {
+    assert!(rt; many_rows_are_found(rt.alloc(), new_tables(rt.alloc())?)?);
+    Ok(())
 }

@@ -3,9 +3,13 @@
 #![tactic(auto)]
 
 #[cfg(test)]
+mod chains_and_nights;
+#[cfg(test)]
 mod command_runs;
 #[cfg(test)]
 mod failed_draws;
+#[cfg(test)]
+mod failing_calls;
 #[cfg(test)]
 mod failing_walks;
 #[cfg(test)]
@@ -20,3 +24,5 @@ mod stops;
 mod value_readers;
 #[cfg(test)]
 mod worked_scenarios;
+#[cfg(test)]
+mod wrong_calls;
