@@ -31,11 +31,11 @@ effect_took_none h ahead (command.AddRoom room kind) e o q =
 effect_took_none h ahead (command.Reserve guest kind arrive nights) e o q = is_event e _ (same_event q) refl
 effect_took_none h ahead (command.Cancel party) e o q = is_event e _ (same_event q) refl
 effect_took_none h ahead (command.CheckIn party room) e o q =
-    let d = from_draw (draw_from (issued_codes h) ahead).code (λ code. event.CheckIn party room (next_card h) code) e q in
+    let d = from_draw (draw_from (issued_codes h) ahead).code (λ code. event.Issue party room (next_card h) code) e q in
     is_event e _ d.2 refl
 effect_took_none h ahead (command.Spare party) e o q = is_event e _ (same_event q) refl
 effect_took_none h ahead (command.Transfer party room) e o q =
-    let d = from_draw (draw_from (issued_codes h) ahead).code (λ code. event.Transfer party room (next_card h) code) e q in
+    let d = from_draw (draw_from (issued_codes h) ahead).code (λ code. event.Issue party room (next_card h) code) e q in
     is_event e _ d.2 refl
 effect_took_none h ahead (command.CheckOut party) e o q = is_event e _ (same_event q) refl
 effect_took_none h ahead command.NextDay e o q = is_event e _ (same_event q) refl

@@ -9,9 +9,9 @@ pub use Rattle.hotel_core.specs.Memory.{HaveCardNumbers, HaveCounts, HaveRoomNum
 pub use Rattle.hotel_core.specs.Model.Answer.{checks, effect, reported, told}
 unfoldable pub use Rattle.hotel_core.specs.Model.Answer.{answer_to}
 pub use Rattle.hotel_core.specs.Model.Cards.{card_of, cards, link_of_party, link_to, newest_link, same_link, with_spare}
-pub use Rattle.hotel_core.specs.Model.Cases.{cards_used_up, has_link, is_begun, is_booked, is_card, is_home, is_in_house, is_kind, is_of_kind, is_party, is_room, is_taken, last_card_of, next_card, next_party, no_link, opens, parties_used_up, room_of, today}
+pub use Rattle.hotel_core.specs.Model.Cases.{cards_used_up, has_link, is_begun, is_booked, is_card, is_home, is_in_house, is_kind, is_of_kind, is_party, is_room, is_taken, last_card_of, next_card, next_party, no_link, opens, parties_used_up, room_of, stay_is, today}
 pub use Rattle.hotel_core.specs.Model.Stays.{day, first_full, in_state, is_booked_state, kinds, nights, now_is, room_of_state, rooms, rooms_of, stays}
-pub use Rattle.hotel_core.specs.Model.Event.{Begun, Cancelled, CheckIn, CheckOut, Entered, Event, Install, Kind, Left, Moment, NextDay, Recoded, Reserved, Spare, Transfer, note_of, moment_of}
+pub use Rattle.hotel_core.specs.Model.Event.{Begun, Cancelled, Issue, CheckOut, Entered, Event, Install, Kind, Left, Moment, NextDay, Recoded, Reserved, Spare, note_of, moment_of}
 pub use Rattle.hotel_core.specs.Model.Guests.{are_none, inside, insiders, leaves, registered, secured, those_in}
 pub use Rattle.hotel_core.specs.Model.Headline.{Assured, Headline, LedgerHolds, NewestOpens, NoCodeTwice, OpensOwnRoom, SafeRoom, TakesTheFirst}
 pub use Rattle.hotel_core.specs.Model.History.{History, start, ◌▷◌}
@@ -30,7 +30,7 @@ pub use Rattle.hotel_core.specs.Model.SoundCards.{act_fits, are_neighbours, card
 pub use Rattle.hotel_core.specs.Model.SoundRooms.{are_in_order, codes_few, count_up, day_before_kinds, day_in_range, each_room, guests_read, has_party, is_day, is_home_of, kinds_read, lock_places, nights_fit, note_counts, parties_in_house, room_kinds_there, room_numbers, rooms_with, secured_hold_last, stay_days, stay_kinds_there, stay_numbers, stay_rooms, stays_on}
 pub use Rattle.hotel_core.specs.Model.Words.{after, and_last, before, is_one_of, is_that, last_of, pair_cmp, said_of, when, without}
 pub use Rattle.hotel_core.specs.NightIndex.{block_at, block_cmp, counted, spans}
-pub use Rattle.hotel_core.specs.Refinement.ChangeOf.{change_of, comes}
+pub use Rattle.hotel_core.specs.Refinement.ChangeOf.{change_of, comes, other_than}
 pub use Rattle.hotel_core.specs.Refinement.Finds.{AnyRows, DrawsCode, Drew, DrewNone, Finds, drawn_or, first_refusal, has_failed, reply_of}
 pub use Rattle.hotel_core.specs.Refinement.CardsOnRows.{HasLink, bars_to_check_in, bars_to_transfer, issued_on}
 pub use Rattle.hotel_core.specs.Refinement.Lift.{Lifts, as_change}
@@ -46,7 +46,7 @@ pub use Rattle.hotel_core.specs.declared.books.rows.CodeRow.{CodeRow}
 pub use Rattle.hotel_core.specs.declared.books.rows.RoomRow.{RoomRow}
 pub use Rattle.hotel_core.specs.declared.command.Command.{Command}
 pub use Rattle.hotel_core.specs.declared.reply.Refusal.{Refusal}
-pub use Rattle.hotel_core.specs.declared.reply.Refusal.TheVariants.{AlreadyBegun, CardDiffers, Conflict, Gap, HeldDiffers, KindExists, KindFull, LastDay, LockShut, Memory, NoCard, NoFreshCode, NoKind, NoParty, NoRoom, NotAwaited, NotBegun, NotInHouse, NotInside, NumbersUsedUp, RoomExists, RoomTaken, SameRoom, Store, WrongKind}
+pub use Rattle.hotel_core.specs.declared.reply.Refusal.TheVariants.{AlreadyBegun, CardDiffers, Conflict, Gap, HeldDiffers, KindExists, KindFull, LastDay, LockShut, Memory, NoCard, NoFreshCode, NoKind, NoParty, NoRoom, NotAwaited, NotBegun, NotBooked, NotInHouse, NotInside, NumbersUsedUp, RoomExists, RoomTaken, SameRoom, Store, WrongKind}
 pub use Rattle.hotel_core.specs.declared.reply.Reply.{Reply}
 pub use Rattle.hotel_core.specs.declared.reply.Reply.TheVariants.{Refused}
 pub use Rattle.hotel_nights.specs.Block.{one_if}

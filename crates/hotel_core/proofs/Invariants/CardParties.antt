@@ -1,6 +1,6 @@
--- All cards of a link are one party's: that of the check-in or transfer that made the link.
+-- All cards of a link are one party's: that of the card that brought the link.
 use Rattle.std.proofs.Common.{ℕ, ◌≡◌, Bool, true, false, Option, Some, None, List, [], ◌∷◌, ◌++◌, length, inl, inr, refl, ap, sym, ◌∙◌, subst, append_assoc, ◌==◌, nat_cmp}
-use Rattle.hotel_core.proofs.Names.{insert_entry, Card, Link, CodeRow, when, is_that, at_number, CheckIn, Transfer, Spare, CheckOut, History, start, ◌▷◌, is_fresh, cards, card_of, with_spare, link_of_party, link_to, newest_link, registered, leaves, next_card, Reached}
+use Rattle.hotel_core.proofs.Names.{insert_entry, Card, Link, CodeRow, when, is_that, at_number, Issue, Spare, CheckOut, History, start, ◌▷◌, is_fresh, cards, card_of, with_spare, link_of_party, link_to, newest_link, registered, leaves, next_card, Reached}
 use Rattle.hotel_core.proofs.Facts.CodeFacts.{IsLink, HasCard, PartiesHaveCards, CardsOneParty, GuestsHaveCards}
 use Rattle.hotel_core.proofs.{OfTables.Tests.eq_from, OfTables.TableKeys.row_inserted, OfTables.TableKeys.row_kept, OfTables.TableKeys.row_added, OfTables.Grown.may_follow}
 use Rattle.hotel_core.proofs.{Invariants.Numbering.next_card_free, Invariants.CodePlaces.codes_have_places, Invariants.CodePlaces.fresh_has_no_row}
@@ -40,10 +40,8 @@ given_by false h p number party new link was here ok next ih e = still_has h num
 -- A party has a card of the link that it was given last.
 pub parties_have_cards : (h : History) → Reached h → PartiesHaveCards h
 parties_have_cards (start t) ok party link e = parties_have_cards_at_start t ok party link e
-parties_have_cards (h ▷ CheckIn p room number code) ok party link e =
-    given_by (p == party) h p number party (link_to h room code) link (link_of_party h party) (eq_from p party) ok.0 (may_follow h (CheckIn p room number code) ok).5 (parties_have_cards h ok.0 party link) e
-parties_have_cards (h ▷ Transfer p room number code) ok party link e =
-    given_by (p == party) h p number party (link_to h room code) link (link_of_party h party) (eq_from p party) ok.0 (may_follow h (Transfer p room number code) ok).5 (parties_have_cards h ok.0 party link) e
+parties_have_cards (h ▷ Issue p room number code) ok party link e =
+    given_by (p == party) h p number party (link_to h room code) link (link_of_party h party) (eq_from p party) ok.0 (may_follow h (Issue p room number code) ok).5 (parties_have_cards h ok.0 party link) e
 parties_have_cards (h ▷ Spare p number) ok party link e = still_has_spare (link_of_party h p) h p number party link ok.0 (may_follow h (Spare p number) ok).2 (parties_have_cards h ok.0 party link e)
 parties_have_cards (h ▷ _) ok party link e = parties_have_cards h ok.0 party link e
 
@@ -93,10 +91,8 @@ one_of_spare None h number party ih own n m a b e f same = ih n m a b e f same
 -- Cards with the same new code are one party's.
 pub cards_one_party : (h : History) → Reached h → CardsOneParty h
 cards_one_party (start t) ok n m a b e f same = cards_one_party_at_start t ok n m a b e f same
-cards_one_party (h ▷ CheckIn party room number code) ok n m a b e f same =
-    one_of_fresh h number (card_of number party (link_to h room code)) ok.0 (cards_one_party h ok.0) (may_follow h (CheckIn party room number code) ok).6 n m a b e f same
-cards_one_party (h ▷ Transfer party room number code) ok n m a b e f same =
-    one_of_fresh h number (card_of number party (link_to h room code)) ok.0 (cards_one_party h ok.0) (may_follow h (Transfer party room number code) ok).6 n m a b e f same
+cards_one_party (h ▷ Issue party room number code) ok n m a b e f same =
+    one_of_fresh h number (card_of number party (link_to h room code)) ok.0 (cards_one_party h ok.0) (may_follow h (Issue party room number code) ok).6 n m a b e f same
 cards_one_party (h ▷ Spare party number) ok n m a b e f same = one_of_spare (link_of_party h party) h number party (cards_one_party h ok.0) (parties_have_cards h ok.0 party) n m a b e f same
 cards_one_party (h ▷ _) ok n m a b e f same = cards_one_party h ok.0 n m a b e f same
 
@@ -120,10 +116,8 @@ came_by false h party room number code r p was ok here next ih e =
 -- A registered party has a card of its room's newest link.
 pub guests_have_cards : (h : History) → Reached h → GuestsHaveCards h
 guests_have_cards (start t) ok r p e = guests_have_cards_at_start t ok r p e
-guests_have_cards (h ▷ CheckIn party room number code) ok r p e =
-    came_by (room == r) h party room number code r p (registered h r) ok.0 (eq_from room r) (may_follow h (CheckIn party room number code) ok).5 (guests_have_cards h ok.0 r p) e
-guests_have_cards (h ▷ Transfer party room number code) ok r p e =
-    came_by (room == r) h party room number code r p (leaves party (registered h r)) ok.0 (eq_from room r) (may_follow h (Transfer party room number code) ok).5
+guests_have_cards (h ▷ Issue party room number code) ok r p e =
+    came_by (room == r) h party room number code r p (leaves party (registered h r)) ok.0 (eq_from room r) (may_follow h (Issue party room number code) ok).5
     (λ n. guests_have_cards h ok.0 r p (stayed (is_that (registered h r) party) party p (registered h r) n)) e
 guests_have_cards (h ▷ CheckOut party) ok r p e = guests_have_cards h ok.0 r p (stayed (is_that (registered h r) party) party p (registered h r) e)
 guests_have_cards (h ▷ Spare party number) ok r p e =

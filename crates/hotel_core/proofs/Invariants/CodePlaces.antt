@@ -1,6 +1,6 @@
 -- Each code stands at one place of one room.
 use Rattle.std.proofs.Common.{ℕ, ◌≡◌, Bool, true, false, Some, None, List, [], ◌∷◌, ◌++◌, length, inl, inr, refl, ap, sym, ◌∙◌, append_assoc, ◌==◌, not, nat_cmp}
-use Rattle.hotel_core.proofs.Names.{insert_entry, CodeRow, when, and_last, at_number, Install, CheckIn, Transfer, History, start, ◌▷◌, issued, all_issued, issued_codes, is_fresh, Reached, NoCodeTwice}
+use Rattle.hotel_core.proofs.Names.{insert_entry, CodeRow, when, and_last, at_number, Install, Issue, History, start, ◌▷◌, issued, all_issued, issued_codes, is_fresh, Reached, NoCodeTwice}
 use Rattle.keycard_rules.specs.Words.{is_one_of}
 use Rattle.hotel_core.proofs.{Facts.CodeFacts.CodesHavePlaces, Facts.CodeFacts.PlacesHaveCodes, OfTables.Tests.eq_from, OfTables.Tests.eq_self, OfTables.Tests.not_both}
 use Rattle.hotel_core.proofs.OfTables.TableKeys.{row_inserted, row_kept, row_added, no_key}
@@ -39,11 +39,8 @@ codes_have_places (start t) ok r before code later e = places_at_start t ok r be
 codes_have_places (h ▷ Install room kind new) ok r before code later e =
     let fresh = fresh_has_no_row h new (may_follow h (Install room kind new) ok).2 in
     placed_more (room == r) h room new r (eq_from room r) fresh (codes_have_places h ok.0) before code later e
-codes_have_places (h ▷ CheckIn party room number new) ok r before code later e =
-    let fresh = fresh_has_no_row h new (may_follow h (CheckIn party room number new) ok).6 in
-    placed_more (room == r) h room new r (eq_from room r) fresh (codes_have_places h ok.0) before code later e
-codes_have_places (h ▷ Transfer party room number new) ok r before code later e =
-    let fresh = fresh_has_no_row h new (may_follow h (Transfer party room number new) ok).6 in
+codes_have_places (h ▷ Issue party room number new) ok r before code later e =
+    let fresh = fresh_has_no_row h new (may_follow h (Issue party room number new) ok).6 in
     placed_more (room == r) h room new r (eq_from room r) fresh (codes_have_places h ok.0) before code later e
 codes_have_places (h ▷ _) ok r before code later e = codes_have_places h ok.0 r before code later e
 
@@ -87,6 +84,5 @@ stands_more h room new code row ih e =
 pub places_have_codes : (h : History) → Reached h → PlacesHaveCodes h
 places_have_codes (start t) ok code row e = rows_at_start t ok code row e
 places_have_codes (h ▷ Install room kind new) ok code row e = stands_more h room new code row (places_have_codes h ok.0) e
-places_have_codes (h ▷ CheckIn party room number new) ok code row e = stands_more h room new code row (places_have_codes h ok.0) e
-places_have_codes (h ▷ Transfer party room number new) ok code row e = stands_more h room new code row (places_have_codes h ok.0) e
+places_have_codes (h ▷ Issue party room number new) ok code row e = stands_more h room new code row (places_have_codes h ok.0) e
 places_have_codes (h ▷ _) ok code row e = places_have_codes h ok.0 code row e

@@ -55,11 +55,11 @@ range_if h ahead (command.Reserve guest kind arrive nights) e n p r q =
 range_if h ahead (command.Cancel party) e n p r q = subst (λ x. InRange x) (same_event q) tt
 range_if h ahead (command.CheckIn party room) e n p r q =
     let d = draw_from (issued_codes h) ahead in
-    drawn_in_range d.code d.examined (λ code. reply.Issued (card_of (next_card h) party (link_to h room code))) (λ code. event.CheckIn party room (next_card h) code) e (λ code s. s) q r
+    drawn_in_range d.code d.examined (λ code. reply.Issued (card_of (next_card h) party (link_to h room code))) (λ code. event.Issue party room (next_card h) code) e (λ code s. s) q r
 range_if h ahead (command.Spare party) e n p r q = subst (λ x. InRange x) (same_event q) tt
 range_if h ahead (command.Transfer party room) e n p r q =
     let d = draw_from (issued_codes h) ahead in
-    drawn_in_range d.code d.examined (λ code. reply.Issued (card_of (next_card h) party (link_to h room code))) (λ code. event.Transfer party room (next_card h) code) e (λ code s. s) q r
+    drawn_in_range d.code d.examined (λ code. reply.Issued (card_of (next_card h) party (link_to h room code))) (λ code. event.Issue party room (next_card h) code) e (λ code s. s) q r
 range_if h ahead (command.CheckOut party) e n p r q = subst (λ x. InRange x) (same_event q) tt
 range_if h ahead command.NextDay e n p r q = subst (λ x. InRange x) (same_event q) tt
 range_if h ahead (command.Reported note) e n p r q = by_standing h note (standing h note) e n q

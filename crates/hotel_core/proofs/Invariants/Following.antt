@@ -1,13 +1,13 @@
 -- What an accepted event needs.
 use Rattle.std.proofs.Common.{ℕ, ◌≡◌, List, [], ◌∷◌, Bool, true, false, Option, Some, None, refl, ap, subst, nat_lt, option_map, not, cond, length, drop, ◌+◌, ◌-◌, ◌==◌}
-use Rattle.hotel_core.proofs.Names.{Command, Refusal, KindFull, NoCard, CardDiffers, LockShut, NotInside, HeldDiffers, NotAwaited, Act, inside, awaited, Note, Event, History, is_fresh, issued_codes, draw_from, one_more, code_of, Outcome, accepted, unless, needs, bars, answer_to, checks, effect, reported, told, moment_of, is_begun, today, is_kind, is_room, is_party, is_booked, is_in_house, is_of_kind, is_taken, is_card, has_link, opens, next_card, first_full, Standing, Copy, Conflicting, Next, After, standing, standing_among, notes, same_note}
+use Rattle.hotel_core.proofs.Names.{at_number, stays, Command, Refusal, KindFull, NoCard, CardDiffers, LockShut, NotInside, HeldDiffers, NotAwaited, Act, inside, awaited, Note, Event, History, is_fresh, issued_codes, draw_from, one_more, code_of, Outcome, accepted, unless, needs, bars, answer_to, checks, effect, reported, told, moment_of, is_begun, today, is_kind, is_room, is_party, is_booked, is_in_house, is_of_kind, is_taken, is_card, has_link, opens, next_card, first_full, Standing, Copy, Conflicting, Next, After, standing, standing_among, notes, same_note}
 use Rattle.hotel_core.specs.declared.command.Command.TheVariants as command
 use Rattle.hotel_core.specs.declared.reply.Reply.TheVariants as reply
 use Rattle.keycard_rules.specs.declared.note.Act.TheVariants as act
 use Rattle.hotel_core.specs.Model.Event as event
 use Rattle.keycard_rules.specs.Words.{is_one_of}
 use Rattle.hotel_core.specs.Model.Cases.{holds}
-use Rattle.hotel_core.proofs.{Facts.Follow.MayFollow, OfTables.Tests.eq_from}
+use Rattle.hotel_core.proofs.{Facts.Follow.MayFollow, OfTables.Tests.eq_from, OfTables.StayStates.stands_booked, OfTables.StayStates.stands_home}
 
 -- none of the checks refused
 abbrev pub AllPass : List (Option Refusal) → Type 0
@@ -89,11 +89,11 @@ follows_if h ahead (command.Reserve guest kind arrive nights) e p q =
     subst (λ x. MayFollow h x) (same_event q) (needed (is_kind h kind) _ p.1.0, refl, nights, refl, no_refusal (first_full h kind arrive nights) p.1.1.1.1.0)
 follows_if h ahead (command.Cancel party) e p q = subst (λ x. MayFollow h x) (same_event q) (needed (is_party h party) _ p.1.0, needed (is_booked h party) _ p.1.1.0)
 follows_if h ahead (command.CheckIn party room) e p q =
-    let d = from_draw (draw_from (issued_codes h) ahead).code (λ code. event.CheckIn party room (next_card h) code) e q in
+    let d = from_draw (draw_from (issued_codes h) ahead).code (λ code. event.Issue party room (next_card h) code) e q in
     subst (λ x. MayFollow h x) d.2 (
       needed (is_room h room) _ p.1.0,
       needed (is_party h party) _ p.1.1.0,
-      needed (is_booked h party) _ p.1.1.1.0,
+      stands_booked (at_number (stays h) party) (needed (is_booked h party) _ p.1.1.1.0),
       needed (is_of_kind h room party) _ p.1.1.1.1.1.1.0,
       barred (is_taken h room) _ p.1.1.1.1.1.1.1.0,
       refl,
@@ -101,11 +101,11 @@ follows_if h ahead (command.CheckIn party room) e p q =
     )
 follows_if h ahead (command.Spare party) e p q = subst (λ x. MayFollow h x) (same_event q) (needed (is_party h party) _ p.1.0, needed (is_in_house h party) _ p.1.1.0, refl)
 follows_if h ahead (command.Transfer party room) e p q =
-    let d = from_draw (draw_from (issued_codes h) ahead).code (λ code. event.Transfer party room (next_card h) code) e q in
+    let d = from_draw (draw_from (issued_codes h) ahead).code (λ code. event.Issue party room (next_card h) code) e q in
     subst (λ x. MayFollow h x) d.2 (
       needed (is_room h room) _ p.1.0,
       needed (is_party h party) _ p.1.1.0,
-      needed (is_in_house h party) _ p.1.1.1.0,
+      stands_home (at_number (stays h) party) (needed (is_in_house h party) _ p.1.1.1.0),
       needed (is_of_kind h room party) _ p.1.1.1.1.0,
       barred (is_taken h room) _ p.1.1.1.1.1.1.0,
       refl,

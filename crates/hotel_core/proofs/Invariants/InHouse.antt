@@ -1,18 +1,15 @@
 -- A party is registered at a room exactly where it is in house there.
 use Rattle.std.proofs.Common.{ℕ, ◌≡◌, Bool, true, false, cond, Option, Some, None, refl, ap, sym, ◌∙◌, subst, ◌==◌, is_some}
-use Rattle.hotel_core.proofs.Names.{when, at_number, Reserved, Cancelled, CheckIn, Transfer, CheckOut, History, start, ◌▷◌, registered, leaves, stays, room_of, is_party, is_booked, Reached}
+use Rattle.hotel_core.proofs.Names.{at_number, Reserved, Cancelled, Issue, CheckOut, History, start, ◌▷◌, registered, stays, room_of, is_party, is_booked, Reached}
 use Rattle.hotel_nights.specs.declared.stay.StayState.TheVariants as state
 use Rattle.hotel_core.proofs.{OfTables.Numbered.is_there, Invariants.Numbering.next_party_free}
 use Rattle.hotel_core.proofs.OfTables.StayStates.{home_of, home_changed, home_added, booked_has_no_home}
-use Rattle.hotel_core.proofs.Invariants.Homes.{Match, match_left, match_came, match_same, not_leaving}
+use Rattle.hotel_core.proofs.Invariants.Homes.{Match, match_left, match_came, match_same}
 use Rattle.hotel_core.proofs.{OfTables.Tests.eq_from, OfTables.Grown.may_follow, Starts.StartGuests.homes_match_at_start}
 
 pub none_is : (o : Option ℕ) → is_some o ≡ false → o ≡ None
 none_is (Some x) h = cc
 none_is None h = refl
-
-not_some : {p : ℕ} {o : Option ℕ} → o ≡ None → o ≡ Some p → ⊥
-not_some n s = cc
 
 none_either : (b : Bool) (o : Option ℕ) → (b ≡ true → o ≡ None) → cond b None o ≡ o
 none_either true o f = sym (f refl)
@@ -30,16 +27,6 @@ booked_nowhere h party b = booked_has_no_home (at_number (stays h) party) b
 abbrev pub HomesMatch : History → Type 0
 HomesMatch h = Match (registered h) (room_of h)
 
-check_in_matches : (h : History) (party room number code : ℕ) → Reached (h ▷ CheckIn party room number code) → HomesMatch h → HomesMatch (h ▷ CheckIn party room number code)
-check_in_matches h party room number code ok m =
-    let n = may_follow h (CheckIn party room number code) ok in
-    let nowhere : room_of h party ≡ None = booked_nowhere h party n.2 in
-    match_same (λ r. when (room == r) (λ _. Some party) (leaves party (registered h r))) (registered (h ▷ CheckIn party room number code)) _ _
-    (match_came party room (registered h) (room_of h) (room_of (h ▷ CheckIn party room number code)) m (none_is (registered h room) n.4)
-    (λ p. home_changed party (state.InHouse room) (stays h) p (has_stay h party n.1)))
-    (λ r. ap (when (room == r) (λ _. Some party)) (sym (not_leaving party (registered h r) (λ s. not_some nowhere (m.forth r party s)))))
-    (λ p. refl)
-
 -- A party is registered at a room exactly where it is in house there.
 pub homes_match : (h : History) → Reached h → HomesMatch h
 homes_match (start t) ok = homes_match_at_start t ok
@@ -53,10 +40,9 @@ homes_match (h ▷ Cancelled party) ok =
     match_same (registered h) (registered h) (room_of h) (room_of (h ▷ Cancelled party)) (homes_match h ok.0) (λ r. refl)
     (λ p. home_changed party state.Cancelled (stays h) p (has_stay h party n.0)
     ∙ none_either (party == p) (room_of h p) (λ t. ap (room_of h) (sym (eq_from party p t)) ∙ booked_nowhere h party n.1))
-homes_match (h ▷ CheckIn party room number code) ok = check_in_matches h party room number code ok (homes_match h ok.0)
-homes_match (h ▷ Transfer party room number code) ok =
-    let n = may_follow h (Transfer party room number code) ok in
-    match_came party room (registered h) (room_of h) (room_of (h ▷ Transfer party room number code)) (homes_match h ok.0) (none_is (registered h room) n.4)
+homes_match (h ▷ Issue party room number code) ok =
+    let n = may_follow h (Issue party room number code) ok in
+    match_came party room (registered h) (room_of h) (room_of (h ▷ Issue party room number code)) (homes_match h ok.0) (none_is (registered h room) n.4)
     (λ p. home_changed party (state.InHouse room) (stays h) p (has_stay h party n.1))
 homes_match (h ▷ CheckOut party) ok =
     let n = may_follow h (CheckOut party) ok in

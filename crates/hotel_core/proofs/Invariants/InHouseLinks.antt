@@ -1,6 +1,6 @@
 -- A party in house was given a card.
 use Rattle.std.proofs.Common.{ℕ, ◌≡◌, Bool, true, false, cond, Option, Some, None, refl, ap, sym, ◌∙◌, ◌==◌, is_some}
-use Rattle.hotel_core.proofs.Names.{Link, when, Reserved, Cancelled, CheckIn, Transfer, CheckOut, History, start, ◌▷◌, link_of_party, link_to, stays, room_of, is_in_house, Reached}
+use Rattle.hotel_core.proofs.Names.{Link, when, Reserved, Cancelled, Issue, CheckOut, History, start, ◌▷◌, link_of_party, link_to, stays, room_of, is_in_house, Reached}
 use Rattle.hotel_nights.specs.declared.stay.StayState.TheVariants as state
 use Rattle.hotel_core.proofs.{OfTables.StayStates.home_changed, OfTables.StayStates.home_added, Invariants.InHouse.has_stay, OfTables.Grown.may_follow}
 use Rattle.hotel_core.proofs.Starts.StartGuests.{in_house_has_link_at_start}
@@ -23,13 +23,9 @@ in_house_has_link (h ▷ Reserved party guest kind arrive depart) ok p e =
 in_house_has_link (h ▷ Cancelled party) ok p e =
     in_house_has_link h ok.0 p (was_some (party == p) (room_of h p)
     (sym (ap is_some (home_changed party state.Cancelled (stays h) p (has_stay h party (may_follow h (Cancelled party) ok).0))) ∙ e))
-in_house_has_link (h ▷ CheckIn party room number code) ok p e =
+in_house_has_link (h ▷ Issue party room number code) ok p e =
     given_or_was (party == p) room (link_to h room code) (room_of h p) (link_of_party h p)
-    (sym (ap is_some (home_changed party (state.InHouse room) (stays h) p (has_stay h party (may_follow h (CheckIn party room number code) ok).1))) ∙ e)
-    (in_house_has_link h ok.0 p)
-in_house_has_link (h ▷ Transfer party room number code) ok p e =
-    given_or_was (party == p) room (link_to h room code) (room_of h p) (link_of_party h p)
-    (sym (ap is_some (home_changed party (state.InHouse room) (stays h) p (has_stay h party (may_follow h (Transfer party room number code) ok).1))) ∙ e)
+    (sym (ap is_some (home_changed party (state.InHouse room) (stays h) p (has_stay h party (may_follow h (Issue party room number code) ok).1))) ∙ e)
     (in_house_has_link h ok.0 p)
 in_house_has_link (h ▷ CheckOut party) ok p e =
     in_house_has_link h ok.0 p (was_some (party == p) (room_of h p)

@@ -1,6 +1,6 @@
 -- The ledger of each room's codes.
 use Rattle.std.proofs.Common.{ℕ, ◌≡◌, Bool, true, false, cond, Option, Some, None, List, [], ◌∷◌, ◌++◌, refl, ap, sym, ◌∙◌, subst, append_assoc, ◌==◌, ◌&&◌, ◌||◌, is_some}
-use Rattle.hotel_core.proofs.Names.{Card, Link, turn, when, and_last, is_one_of, before, after, without, said_of, at_number, Install, CheckIn, Transfer, Entered, Recoded, History, start, ◌▷◌, issued, cards, held, passed, awaited, turns, rooms, same_link, is_room, is_card, has_link, opens, Reached, LedgerHolds, TakesTheFirst}
+use Rattle.hotel_core.proofs.Names.{Card, Link, turn, when, and_last, is_one_of, before, after, without, said_of, at_number, Install, Issue, Entered, Recoded, History, start, ◌▷◌, issued, cards, held, passed, awaited, turns, rooms, same_link, is_room, is_card, has_link, opens, Reached, LedgerHolds, TakesTheFirst}
 use Rattle.hotel_core.proofs.{Facts.CodeFacts.IsLink, OfTables.Tests.eq_from, OfTables.Tests.not_both, OfTables.Tests.or_second}
 use Rattle.hotel_core.proofs.{OfTables.TableKeys.key_inserted, OfTables.TableKeys.row_of_key, OfTables.CodeLists.first_out, OfTables.CodeLists.parted, OfTables.Grown.may_follow}
 use Rattle.hotel_core.proofs.{Invariants.RoomCodes.others_have_none, Invariants.CodePlaces.same_place, Invariants.RoomLinks.cards_have_links, Starts.StartLedger.ledger_at_start}
@@ -80,8 +80,7 @@ ledger_holds (h ▷ Install room kind code) ok r f =
     install_case (room == r) h code r
     (λ t. others_have_none h ok.0 r (ap (is_room h) (sym (eq_from room r t)) ∙ (may_follow h (Install room kind code) ok).1))
     (λ n. ledger_holds h ok.0 r (or_second (room == r) (is_room h r) n (sym (key_inserted (rooms h) room kind r) ∙ f)))
-ledger_holds (h ▷ CheckIn party room number code) ok r f = issue_case (room == r) h code r (ledger_holds h ok.0 r f)
-ledger_holds (h ▷ Transfer party room number code) ok r f = issue_case (room == r) h code r (ledger_holds h ok.0 r f)
+ledger_holds (h ▷ Issue party room number code) ok r f = issue_case (room == r) h code r (ledger_holds h ok.0 r f)
 ledger_holds (h ▷ Entered room count number link at) ok r f =
     let needs = may_follow h (Entered room count number link at) ok in
     entered_case (room == r) h room r link (eq_from room r) ok.0 (ledger_holds h ok.0 r f) (link_seen h number link ok.0 needs.2 needs.3) needs.4

@@ -1,8 +1,8 @@
 -- A registered party's last card has the newest link of its room.
-use Rattle.std.proofs.Common.{ℕ, ◌≡◌, ◌-◌, Bool, true, false, Option, Some, None, refl, ap, sym, ◌∙◌, subst, length, ◌==◌, is_some}
-use Rattle.hotel_core.proofs.Names.{Link, when, said_of, CheckIn, Transfer, CheckOut, History, start, ◌▷◌, link_to, newest_link, link_of_party, registered, leaves, issued, rows_of, room_of, no_link, codes_of, said_code_at, home_link_on, Reached}
-use Rattle.hotel_core.proofs.{OfTables.Tests.eq_self, OfTables.Numbered.apart_by, OfTables.Grown.may_follow, Invariants.Homes.stays_on}
-use Rattle.hotel_core.proofs.{Invariants.InHouse.booked_nowhere, Invariants.InHouse.registered_in_house, Invariants.InHouseLinks.in_house_has_link}
+use Rattle.std.proofs.Common.{ℕ, ◌≡◌, ◌-◌, Bool, true, false, Option, Some, None, refl, ap, sym, ◌∙◌, length, ◌==◌, is_some}
+use Rattle.hotel_core.proofs.Names.{Link, when, said_of, Issue, CheckOut, History, start, ◌▷◌, link_to, newest_link, link_of_party, registered, leaves, issued, rows_of, room_of, no_link, codes_of, said_code_at, home_link_on, Reached}
+use Rattle.hotel_core.proofs.{OfTables.Tests.eq_self, Invariants.Homes.stays_on}
+use Rattle.hotel_core.proofs.{Invariants.InHouse.registered_in_house, Invariants.InHouseLinks.in_house_has_link}
 use Rattle.hotel_core.proofs.{Invariants.OpenLocks.there_by_link, Invariants.CodesFound.newest_found, Lifted.LiftFacts.HomeLink, Lifted.LiftRooms.codes_said}
 use Rattle.hotel_core.proofs.Starts.StartGuests.{has_newest_at_start}
 
@@ -24,19 +24,9 @@ came_with_link false party p r link before newest of_party e others =
     let o = others e in
     o.1 ∙ ap (λ b. when b (λ _. Some link) of_party) (sym o.0)
 
-booked_is_another : (h : History) → Reached h → (party p r : ℕ) → room_of h party ≡ None → registered h r ≡ Some p → (party == p) ≡ false
-booked_is_another h ok party p r none e =
-    apart_by party p (λ same. let home : room_of h party ≡ Some r = subst (λ z. room_of h z ≡ Some r) (sym same) ((registered_in_house h ok r p).0 e) in no_party r (sym none ∙ home))
-
 pub has_newest : (h : History) → Reached h → HasNewest h
 has_newest (start t) ok r p e = has_newest_at_start t ok r p e
-has_newest (h ▷ CheckIn party room number code) ok r p e =
-    let booked = (may_follow h (CheckIn party room number code) ok).2 in
-    let same : when (room == r) (λ _. Some (link_to h room code)) (newest_link h r) ≡ when (party == p) (λ _. Some (link_to h room code)) (link_of_party h p) =
-    came_with_link (room == r) party p r (link_to h room code) (registered h r) (newest_link h r) (link_of_party h p) e
-    (λ was. (booked_is_another h ok.0 party p r (booked_nowhere h party booked) was, has_newest h ok.0 r p was)) in
-    same
-has_newest (h ▷ Transfer party room number code) ok r p e =
+has_newest (h ▷ Issue party room number code) ok r p e =
     came_with_link (room == r) party p r (link_to h room code) (leaves party (registered h r)) (newest_link h r) (link_of_party h p) e
     (λ was. let s = stays_on party (registered h r) p was in (s.1, has_newest h ok.0 r p s.0))
 has_newest (h ▷ CheckOut party) ok r p e = has_newest h ok.0 r p (stays_on party (registered h r) p e).0

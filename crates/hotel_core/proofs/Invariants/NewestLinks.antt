@@ -1,6 +1,6 @@
 -- A room with two codes has a newest link.
 use Rattle.std.proofs.Common.{ℕ, ◌≡◌, Bool, true, false, Some, List, [], ◌∷◌, ◌++◌, length, refl, ap, sym, ◌∙◌, arith, length-append, ◌==◌}
-use Rattle.hotel_core.proofs.Names.{Link, when, and_last, Install, CheckIn, Transfer, History, start, ◌▷◌, issued, newest_link, link_to, is_room, Reached}
+use Rattle.hotel_core.proofs.Names.{Link, when, and_last, Install, Issue, History, start, ◌▷◌, issued, newest_link, link_to, is_room, Reached}
 use Rattle.hotel_core.proofs.{OfTables.Tests.eq_from, OfTables.CodeLists.cut_alike, Invariants.RoomCodes.others_have_none, Invariants.RoomLinks.newest_are_last}
 use Rattle.hotel_core.proofs.{OfTables.Grown.may_follow, Starts.StartLinks.two_have_newest_at_start}
 
@@ -26,8 +26,7 @@ two_have_newest (start t) ok r front a b e = two_have_newest_at_start t r front 
 two_have_newest (h ▷ Install room kind code) ok r front a b e =
     installed_two (room == r) h code r front a b
     (λ t. (others_have_none h ok.0 r (ap (is_room h) (sym (eq_from room r t)) ∙ (may_follow h (Install room kind code) ok).1)).0) (two_have_newest h ok.0 r front a b) e
-two_have_newest (h ▷ CheckIn party room number code) ok r front a b e = issued_two (room == r) h room code r front a b (two_have_newest h ok.0 r front a b) e
-two_have_newest (h ▷ Transfer party room number code) ok r front a b e = issued_two (room == r) h room code r front a b (two_have_newest h ok.0 r front a b) e
+two_have_newest (h ▷ Issue party room number code) ok r front a b e = issued_two (room == r) h room code r front a b (two_have_newest h ok.0 r front a b) e
 two_have_newest (h ▷ _) ok r front a b e = two_have_newest h ok.0 r front a b e
 
 -- The last two codes of a room are its newest link.

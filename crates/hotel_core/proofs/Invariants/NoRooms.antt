@@ -1,6 +1,6 @@
 -- Nothing happened at a number that is no room's.
 use Rattle.std.proofs.Common.{ℕ, ◌≡◌, true, false, Some, None, List, [], ap, sym, ◌∙◌, subst, ◌==◌}
-use Rattle.hotel_core.proofs.Names.{Note, when, and_last, Install, CheckIn, Transfer, CheckOut, Entered, Left, Recoded, History, start, ◌▷◌, issued, passed, registered, leaves, notes, rooms, Reached, is_room}
+use Rattle.hotel_core.proofs.Names.{Note, when, and_last, Install, Issue, CheckOut, Entered, Left, Recoded, History, start, ◌▷◌, issued, passed, registered, leaves, notes, rooms, Reached, is_room}
 use Rattle.keycard_rules.specs.declared.note.Act.TheVariants as act
 use Rattle.hotel_core.proofs.{OfTables.Numbered.true_is_not_false, OfTables.Numbered.apart_by, OfTables.Grown.may_follow, OfTables.Tests.or_false, OfTables.TableKeys.key_inserted}
 use Rattle.hotel_core.proofs.{Invariants.RoomCodes.others_have_none, Starts.StartGuests.nobody_at_start, Starts.StartNotes.nothing_noted_at_start}
@@ -22,11 +22,8 @@ nothing_passed h ok r e = (others_have_none h ok r e).1
 pub nobody_registered : (h : History) → Reached h → (r : ℕ) → is_room h r ≡ false → registered h r ≡ None
 nobody_registered (start t) ok r e = nobody_at_start t r e
 nobody_registered (h ▷ Install room kind code) ok r e = nobody_registered h ok.0 r (not_added h room r code kind e).1
-nobody_registered (h ▷ CheckIn party room number code) ok r e =
-    ap (λ b. when b (λ _. Some party) (registered h r)) (apart_rooms h room r (may_follow h (CheckIn party room number code) ok).0 e)
-    ∙ nobody_registered h ok.0 r e
-nobody_registered (h ▷ Transfer party room number code) ok r e =
-    ap (λ b. when b (λ _. Some party) (leaves party (registered h r))) (apart_rooms h room r (may_follow h (Transfer party room number code) ok).0 e)
+nobody_registered (h ▷ Issue party room number code) ok r e =
+    ap (λ b. when b (λ _. Some party) (leaves party (registered h r))) (apart_rooms h room r (may_follow h (Issue party room number code) ok).0 e)
     ∙ ap (leaves party) (nobody_registered h ok.0 r e)
 nobody_registered (h ▷ CheckOut party) ok r e = ap (leaves party) (nobody_registered h ok.0 r e)
 nobody_registered (h ▷ _) ok r e = nobody_registered h ok.0 r e

@@ -1,6 +1,6 @@
 -- The cards and the stays are numbered 1, 2 and so on.
 use Rattle.std.proofs.Common.{ℕ, ◌≡◌, ◌+◌, Bool, true, false, cond, Option, Some, None, List, [], ◌∷◌, length, refl, ap, ◌∙◌, arith, ◌==◌}
-use Rattle.hotel_core.proofs.Names.{keys_of, Card, Link, Stay, StayState, count_up, at_number, Reserved, Cancelled, CheckIn, Transfer, Spare, CheckOut, History, start, ◌▷◌, cards, card_of, with_spare, link_of_party, link_to, stays, in_state, now_is, Reached}
+use Rattle.hotel_core.proofs.Names.{keys_of, Card, Link, Stay, StayState, count_up, at_number, Reserved, Cancelled, Issue, Spare, CheckOut, History, start, ◌▷◌, cards, card_of, with_spare, link_of_party, link_to, stays, in_state, now_is, Reached}
 use Rattle.hotel_nights.specs.declared.stay.StayState.TheVariants as state
 use Rattle.hotel_core.proofs.{Facts.CodeFacts.CardsCount, Facts.CodeFacts.StaysCount, OfTables.Counting.counts_more, OfTables.Counting.next_is_free, OfTables.Grown.may_follow}
 use Rattle.hotel_core.proofs.Starts.StartNumbers.{cards_count_at_start, stays_count_at_start}
@@ -32,8 +32,7 @@ stays_count (h ▷ Reserved party guest kind arrive depart) ok =
     (counts_more (stays h) party (record { party = party; guest = guest; kind = kind; arrive = arrive; depart = depart; state = state.Booked })
     (stays_count h ok.0) (may_follow h (Reserved party guest kind arrive depart) ok).1).0
 stays_count (h ▷ Cancelled party) ok = counted_still party state.Cancelled (stays h) (stays_count h ok.0)
-stays_count (h ▷ CheckIn party room number code) ok = counted_still party (state.InHouse room) (stays h) (stays_count h ok.0)
-stays_count (h ▷ Transfer party room number code) ok = counted_still party (state.InHouse room) (stays h) (stays_count h ok.0)
+stays_count (h ▷ Issue party room number code) ok = counted_still party (state.InHouse room) (stays h) (stays_count h ok.0)
 stays_count (h ▷ CheckOut party) ok = counted_still party state.Done (stays h) (stays_count h ok.0)
 stays_count (h ▷ _) ok = stays_count h ok.0
 
@@ -43,10 +42,8 @@ spare_counts None number party all n up = up
 
 pub cards_count : (h : History) → Reached h → CardsCount h
 cards_count (start t) ok = cards_count_at_start t ok
-cards_count (h ▷ CheckIn party room number code) ok =
-    (counts_more (cards h) number (card_of number party (link_to h room code)) (cards_count h ok.0) (may_follow h (CheckIn party room number code) ok).5).0
-cards_count (h ▷ Transfer party room number code) ok =
-    (counts_more (cards h) number (card_of number party (link_to h room code)) (cards_count h ok.0) (may_follow h (Transfer party room number code) ok).5).0
+cards_count (h ▷ Issue party room number code) ok =
+    (counts_more (cards h) number (card_of number party (link_to h room code)) (cards_count h ok.0) (may_follow h (Issue party room number code) ok).5).0
 cards_count (h ▷ Spare party number) ok = spare_counts (link_of_party h party) number party (cards h) (may_follow h (Spare party number) ok).2 (cards_count h ok.0)
 cards_count (h ▷ _) ok = cards_count h ok.0
 

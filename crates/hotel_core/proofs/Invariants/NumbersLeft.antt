@@ -16,8 +16,7 @@ use Rattle.hotel_core.proofs.{OfTables.Grown.may_follow, Starts.StartNumbers.car
 -- an event that uses a number finds one left
 abbrev pub HasNumber : History → Event → Type 0
 HasNumber h (event.Reserved party guest kind arrive depart) = parties_used_up h ≡ false
-HasNumber h (event.CheckIn party room number code) = cards_used_up h ≡ false
-HasNumber h (event.Transfer party room number code) = cards_used_up h ≡ false
+HasNumber h (event.Issue party room number code) = cards_used_up h ≡ false
 HasNumber h (event.Spare party number) = cards_used_up h ≡ false
 HasNumber h _ = Unit {0}
 
@@ -58,11 +57,11 @@ number_if h ahead (command.AddRoom room kind) e p q =
 number_if h ahead (command.Reserve guest kind arrive nights) e p q = subst (λ x. HasNumber h x) (same_event q) (barred (parties_used_up h) _ p.1.1.1.1.1.0)
 number_if h ahead (command.Cancel party) e p q = subst (λ x. HasNumber h x) (same_event q) tt
 number_if h ahead (command.CheckIn party room) e p q =
-    let d = drawn_event (draw_from (issued_codes h) ahead).code (λ code. event.CheckIn party room (next_card h) code) e q in
+    let d = drawn_event (draw_from (issued_codes h) ahead).code (λ code. event.Issue party room (next_card h) code) e q in
     subst (λ x. HasNumber h x) d.1 (barred (cards_used_up h) _ p.1.1.1.1.1.1.1.1.0)
 number_if h ahead (command.Spare party) e p q = subst (λ x. HasNumber h x) (same_event q) (barred (cards_used_up h) _ p.1.1.1.0)
 number_if h ahead (command.Transfer party room) e p q =
-    let d = drawn_event (draw_from (issued_codes h) ahead).code (λ code. event.Transfer party room (next_card h) code) e q in
+    let d = drawn_event (draw_from (issued_codes h) ahead).code (λ code. event.Issue party room (next_card h) code) e q in
     subst (λ x. HasNumber h x) d.1 (barred (cards_used_up h) _ p.1.1.1.1.1.1.1.0)
 number_if h ahead (command.CheckOut party) e p q = subst (λ x. HasNumber h x) (same_event q) tt
 number_if h ahead command.NextDay e p q = subst (λ x. HasNumber h x) (same_event q) tt
@@ -87,10 +86,8 @@ spare_fits None h party number ok n left few = few
 -- There are at most as many cards as numbers.
 pub cards_fit : (h : History) → Reached h → CardsFit h
 cards_fit (start t) ok = cards_fit_at_start t ok
-cards_fit (h ▷ event.CheckIn party room number code) ok =
-    fits_more (length (cards h)) _ (one_more_card h ok.0 number (card_of number party (link_to h room code)) (may_follow h (event.CheckIn party room number code) ok).5) (has_number h (event.CheckIn party room number code) ok)
-cards_fit (h ▷ event.Transfer party room number code) ok =
-    fits_more (length (cards h)) _ (one_more_card h ok.0 number (card_of number party (link_to h room code)) (may_follow h (event.Transfer party room number code) ok).5) (has_number h (event.Transfer party room number code) ok)
+cards_fit (h ▷ event.Issue party room number code) ok =
+    fits_more (length (cards h)) _ (one_more_card h ok.0 number (card_of number party (link_to h room code)) (may_follow h (event.Issue party room number code) ok).5) (has_number h (event.Issue party room number code) ok)
 cards_fit (h ▷ event.Spare party number) ok =
     spare_fits (link_of_party h party) h party number ok.0 (may_follow h (event.Spare party number) ok).2 (has_number h (event.Spare party number) ok) (cards_fit h ok.0)
 cards_fit (h ▷ _) ok = cards_fit h ok.0
@@ -103,8 +100,7 @@ stays_fit (h ▷ event.Reserved party guest kind arrive depart) ok =
     (counts_more (stays h) party (record { party = party; guest = guest; kind = kind; arrive = arrive; depart = depart; state = state.Booked }) (stays_count h ok.0) (may_follow h (event.Reserved party guest kind arrive depart) ok).1).1
     (has_number h (event.Reserved party guest kind arrive depart) ok)
 stays_fit (h ▷ event.Cancelled party) ok = let few = stays_fit h ok.0 in let same = same_length party state.Cancelled (stays h) in omega arith
-stays_fit (h ▷ event.CheckIn party room number code) ok = let few = stays_fit h ok.0 in let same = same_length party (state.InHouse room) (stays h) in omega arith
-stays_fit (h ▷ event.Transfer party room number code) ok = let few = stays_fit h ok.0 in let same = same_length party (state.InHouse room) (stays h) in omega arith
+stays_fit (h ▷ event.Issue party room number code) ok = let few = stays_fit h ok.0 in let same = same_length party (state.InHouse room) (stays h) in omega arith
 stays_fit (h ▷ event.CheckOut party) ok = let few = stays_fit h ok.0 in let same = same_length party state.Done (stays h) in omega arith
 stays_fit (h ▷ _) ok = stays_fit h ok.0
 
@@ -126,10 +122,8 @@ codes_fit (start t) ok r = codes_fit_at_start t ok r
 codes_fit (h ▷ event.Install room kind code) ok r =
     first_fits (room == r) (issued h r) code (length (cards h))
     (λ t. (others_have_none h ok.0 r (ap (is_room h) (sym (eq_from room r t)) ∙ (may_follow h (event.Install room kind code) ok).1)).0) (codes_fit h ok.0 r)
-codes_fit (h ▷ event.CheckIn party room number code) ok r =
-    next_fits (room == r) (issued h r) code (length (cards h)) _ (one_more_card h ok.0 number (card_of number party (link_to h room code)) (may_follow h (event.CheckIn party room number code) ok).5) (codes_fit h ok.0 r)
-codes_fit (h ▷ event.Transfer party room number code) ok r =
-    next_fits (room == r) (issued h r) code (length (cards h)) _ (one_more_card h ok.0 number (card_of number party (link_to h room code)) (may_follow h (event.Transfer party room number code) ok).5) (codes_fit h ok.0 r)
+codes_fit (h ▷ event.Issue party room number code) ok r =
+    next_fits (room == r) (issued h r) code (length (cards h)) _ (one_more_card h ok.0 number (card_of number party (link_to h room code)) (may_follow h (event.Issue party room number code) ok).5) (codes_fit h ok.0 r)
 codes_fit (h ▷ event.Spare party number) ok r =
     let few = codes_fit h ok.0 r in
     let more = with_spare_more (link_of_party h party) h party number ok.0 (may_follow h (event.Spare party number) ok).2 in

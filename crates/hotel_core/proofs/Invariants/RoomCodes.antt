@@ -1,6 +1,6 @@
 -- A room has codes exactly where it is there.
 use Rattle.std.proofs.Common.{ℕ, ◌≡◌, Bool, true, false, List, [], ◌∷◌, ◌++◌, inl, inr, refl, ap, sym, ◌∙◌, ◌==◌, ◌&&◌}
-use Rattle.hotel_core.proofs.Names.{when, and_last, without, before, after, Install, CheckIn, Transfer, Entered, Recoded, History, start, ◌▷◌, issued, passed, awaited, turns, rooms, is_room, Reached}
+use Rattle.hotel_core.proofs.Names.{when, and_last, without, before, after, Install, Issue, Entered, Recoded, History, start, ◌▷◌, issued, passed, awaited, turns, rooms, is_room, Reached}
 use Rattle.hotel_core.proofs.Facts.CodeFacts.{HasCodes, RoomsHaveCodes, OthersHaveNone}
 use Rattle.hotel_core.proofs.{OfTables.Tests.eq_from, OfTables.Tests.or_true, OfTables.Tests.or_false, OfTables.Tests.not_both, OfTables.TableKeys.key_inserted}
 use Rattle.hotel_core.proofs.{OfTables.Grown.may_follow, OfTables.Grown.not_here, Starts.StartLedger.rooms_have_codes_at_start, Starts.StartLedger.others_have_none_at_start}
@@ -22,10 +22,8 @@ others_have_none (h ▷ Install room kind code) ok r e =
     let f = or_false (room == r) (is_room h r) (sym (key_inserted (rooms h) room kind r) ∙ e) in
     let none = others_have_none h ok.0 r f.1 in
     (no_code_here (room == r) h code r f.0 none.0, none.1, none.2)
-others_have_none (h ▷ CheckIn party room number code) ok r e =
-    issue_elsewhere h room code r (may_follow h (CheckIn party room number code) ok).0 e (others_have_none h ok.0 r e)
-others_have_none (h ▷ Transfer party room number code) ok r e =
-    issue_elsewhere h room code r (may_follow h (Transfer party room number code) ok).0 e (others_have_none h ok.0 r e)
+others_have_none (h ▷ Issue party room number code) ok r e =
+    issue_elsewhere h room code r (may_follow h (Issue party room number code) ok).0 e (others_have_none h ok.0 r e)
 others_have_none (h ▷ Entered room count number link at) ok r e =
     let none = others_have_none h ok.0 r e in
     let b = not_here (room == r) h room r (eq_from room r) (may_follow h (Entered room count number link at) ok).1 e in (
@@ -62,6 +60,5 @@ rooms_have_codes (h ▷ Install room kind code) ok r e =
       | inl t ↦ first_code (room == r) code (issued h r) t
       | inr t ↦ still_codes (room == r) code (issued h r) (rooms_have_codes h ok.0 r t)
     ]
-rooms_have_codes (h ▷ CheckIn party room number code) ok r e = still_codes (room == r) code (issued h r) (rooms_have_codes h ok.0 r e)
-rooms_have_codes (h ▷ Transfer party room number code) ok r e = still_codes (room == r) code (issued h r) (rooms_have_codes h ok.0 r e)
+rooms_have_codes (h ▷ Issue party room number code) ok r e = still_codes (room == r) code (issued h r) (rooms_have_codes h ok.0 r e)
 rooms_have_codes (h ▷ _) ok r e = rooms_have_codes h ok.0 r e

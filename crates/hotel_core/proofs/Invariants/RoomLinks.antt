@@ -1,6 +1,6 @@
 -- Links of cards are neighbours among a room's codes.
 use Rattle.std.proofs.Common.{ℕ, ◌≡◌, Bool, true, false, Option, Some, None, List, [], ◌∷◌, ◌++◌, inl, inr, refl, ap, sym, ◌∙◌, subst, append_assoc, ◌==◌, nat_cmp}
-use Rattle.hotel_core.proofs.Names.{insert_entry, Card, Link, when, and_last, last_of, at_number, Install, CheckIn, Transfer, Spare, History, start, ◌▷◌, issued, current, cards, card_of, with_spare, link_of_party, link_to, newest_link, is_room, Reached}
+use Rattle.hotel_core.proofs.Names.{insert_entry, Card, Link, when, and_last, last_of, at_number, Install, Issue, Spare, History, start, ◌▷◌, issued, current, cards, card_of, with_spare, link_of_party, link_to, newest_link, is_room, Reached}
 use Rattle.hotel_core.proofs.Facts.CodeFacts.{IsLinkOf, IsLink, CardsHaveLinks, PartiesHaveLinks, NewestAreLast, HasCodes}
 use Rattle.hotel_core.proofs.{OfTables.Tests.eq_from, OfTables.Tests.eq_self, OfTables.TableKeys.row_inserted, OfTables.CodeLists.last_split, OfTables.Grown.may_follow}
 use Rattle.hotel_core.proofs.Invariants.RoomCodes.{rooms_have_codes, others_have_none}
@@ -42,10 +42,8 @@ given_by false h room new was link f ih e = still_link h room new link (ih e)
 pub parties_have_links : (h : History) → Reached h → PartiesHaveLinks h
 parties_have_links (start t) ok party link e = parties_have_links_at_start t ok party link e
 parties_have_links (h ▷ Install room kind code) ok party link e = still_link h room code link (parties_have_links h ok.0 party link e)
-parties_have_links (h ▷ CheckIn p room number code) ok party link e =
-    given_by (p == party) h room code (link_of_party h party) link (rooms_have_codes h ok.0 room (may_follow h (CheckIn p room number code) ok).0) (parties_have_links h ok.0 party link) e
-parties_have_links (h ▷ Transfer p room number code) ok party link e =
-    given_by (p == party) h room code (link_of_party h party) link (rooms_have_codes h ok.0 room (may_follow h (Transfer p room number code) ok).0) (parties_have_links h ok.0 party link) e
+parties_have_links (h ▷ Issue p room number code) ok party link e =
+    given_by (p == party) h room code (link_of_party h party) link (rooms_have_codes h ok.0 room (may_follow h (Issue p room number code) ok).0) (parties_have_links h ok.0 party link) e
 parties_have_links (h ▷ _) ok party link e = parties_have_links h ok.0 party link e
 
 carded : (h : History) (party room number new n : ℕ) (card : Card) → HasCodes (issued h room) → CardsHaveLinks h
@@ -70,10 +68,8 @@ spared None h party number n card had ih e = ih n card e
 pub cards_have_links : (h : History) → Reached h → CardsHaveLinks h
 cards_have_links (start t) ok n card e = cards_have_links_at_start t ok n card e
 cards_have_links (h ▷ Install room kind code) ok n card e = still_link h room code card.link (cards_have_links h ok.0 n card e)
-cards_have_links (h ▷ CheckIn party room number code) ok n card e =
-    carded h party room number code n card (rooms_have_codes h ok.0 room (may_follow h (CheckIn party room number code) ok).0) (cards_have_links h ok.0) e
-cards_have_links (h ▷ Transfer party room number code) ok n card e =
-    carded h party room number code n card (rooms_have_codes h ok.0 room (may_follow h (Transfer party room number code) ok).0) (cards_have_links h ok.0) e
+cards_have_links (h ▷ Issue party room number code) ok n card e =
+    carded h party room number code n card (rooms_have_codes h ok.0 room (may_follow h (Issue party room number code) ok).0) (cards_have_links h ok.0) e
 cards_have_links (h ▷ Spare party number) ok n card e = spared (link_of_party h party) h party number n card (parties_have_links h ok.0 party) (cards_have_links h ok.0) e
 cards_have_links (h ▷ _) ok n card e = cards_have_links h ok.0 n card e
 
@@ -101,8 +97,6 @@ newest_are_last (h ▷ Install room kind code) ok r link e =
     installed_by (room == r) h room code r link
     (λ t. (others_have_none h ok.0 r (ap (is_room h) (sym (eq_from room r t)) ∙ (may_follow h (Install room kind code) ok).1)).0)
     (newest_are_last h ok.0 r link e)
-newest_are_last (h ▷ CheckIn party room number code) ok r link e =
-    newest_by (room == r) h room code r link (eq_from room r) (rooms_have_codes h ok.0 room (may_follow h (CheckIn party room number code) ok).0) (newest_are_last h ok.0) e
-newest_are_last (h ▷ Transfer party room number code) ok r link e =
-    newest_by (room == r) h room code r link (eq_from room r) (rooms_have_codes h ok.0 room (may_follow h (Transfer party room number code) ok).0) (newest_are_last h ok.0) e
+newest_are_last (h ▷ Issue party room number code) ok r link e =
+    newest_by (room == r) h room code r link (eq_from room r) (rooms_have_codes h ok.0 room (may_follow h (Issue party room number code) ok).0) (newest_are_last h ok.0) e
 newest_are_last (h ▷ _) ok r link e = newest_are_last h ok.0 r link e

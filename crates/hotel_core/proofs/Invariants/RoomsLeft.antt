@@ -1,11 +1,11 @@
 -- On no night are more stays of a kind than rooms.
-use Rattle.std.proofs.Common.{ℕ, ◌≡◌, ◌≤◌, ◌<◌, ◌+◌, Bool, true, false, cond, Some, None, List, refl, ap, sym, ◌∙◌, subst, arith, ◌&&◌, nat_le, nat_lt, is_some, bytes_eq, count_by}
-use Rattle.hotel_core.proofs.Names.{values_of, bytes_eq-Decides, Stay, StayState, takes, is_standing, is_full, nights_taken, said_of, at_number, Install, Reserved, Cancelled, CheckIn, Transfer, CheckOut, History, start, ◌▷◌, stays, rooms, rooms_of, nights, now_is, first_full, is_booked, is_in_house, is_booked_state, room_of_state, Reached, rows_of, stays_on, rooms_with}
+use Rattle.std.proofs.Common.{ℕ, ◌≡◌, ◌≤◌, ◌<◌, ◌+◌, Bool, true, false, cond, Some, None, List, refl, ap, sym, ◌∙◌, subst, arith, ◌&&◌, nat_le, nat_lt, bytes_eq, count_by}
+use Rattle.hotel_core.proofs.Names.{values_of, bytes_eq-Decides, Stay, takes, is_standing, is_full, nights_taken, said_of, at_number, Install, Reserved, Cancelled, Issue, CheckOut, History, start, ◌▷◌, stays, rooms, rooms_of, nights, now_is, first_full, Reached, rows_of, stays_on, rooms_with}
 use Rattle.std.proofs.lemmas.Bool.{leb-false}
 use Rattle.hotel_nights.specs.declared.stay.StayState.TheVariants as state
 use Rattle.hotel_core.proofs.{OfTables.Tests.and_true, OfTables.Tests.not_both, OfTables.TableKeys.no_key, OfTables.Grown.may_follow, Invariants.Numbering.next_party_free}
 use Rattle.hotel_core.proofs.{OfTables.StayCounts.count_inserted, OfTables.StayCounts.count_changed, OfTables.StayCounts.none_passes, Starts.StartRows.rooms_of_start}
-use Rattle.hotel_core.proofs.{Starts.StartRules.le_from, Starts.StartRules.lt_from, Invariants.KindCounts.rooms_counted}
+use Rattle.hotel_core.proofs.{Facts.Follow.stays_now, Starts.StartRules.le_from, Starts.StartRules.lt_from, Invariants.KindCounts.rooms_counted}
 
 -- on no night are more stays of a kind than rooms
 abbrev pub RoomsSuffice : History → Type 0
@@ -13,18 +13,6 @@ RoomsSuffice h = (kind : List ℕ) (d : ℕ) → count_by (takes kind d) (values
 
 same_kind : (a b : List ℕ) → bytes_eq a b ≡ true → a ≡ b
 same_kind a b e = (bytes_eq-Decides a b).0 e
-
-booked_stands : (s : StayState) → is_booked_state s ≡ true → is_standing s ≡ true
-booked_stands state.Booked e = refl
-booked_stands (state.InHouse room) e = refl
-booked_stands state.Done e = not_both false e refl
-booked_stands state.Cancelled e = not_both false e refl
-
-housed_stands : (s : StayState) → is_some (room_of_state s) ≡ true → is_standing s ≡ true
-housed_stands state.Booked e = not_both false e refl
-housed_stands (state.InHouse room) e = refl
-housed_stands state.Done e = not_both false e refl
-housed_stands state.Cancelled e = not_both false e refl
 
 -- a standing stay that comes into a room takes the same nights
 takes_still : (kind : List ℕ) (d room : ℕ) (stay : Stay) → is_standing stay.state ≡ true → takes kind d (now_is (state.InHouse room) stay) ≡ true → takes kind d stay ≡ true
@@ -50,11 +38,8 @@ left_if h kind d party guest booked arrive depart nights e none t =
     let lt : d < depart = lt_from d depart q.1 in
     subst (λ k. count_by (takes k d) (values_of (stays h)) < rooms_of h k) (same_kind booked kind p.0) (left_for h booked arrive nights d none le (omega arith))
 
-moved_in : (h : History) (party room : ℕ) (kind : List ℕ) (d : ℕ) (stay : Stay) → (is_booked h party ≡ true) → at_number (stays h) party ≡ Some stay → is_standing stay.state ≡ true
-moved_in h party room kind d stay booked e = booked_stands stay.state (ap (λ o. said_of o false (λ s. is_booked_state s.state)) (sym e) ∙ booked)
-
-moved_on : (h : History) (party room : ℕ) (kind : List ℕ) (d : ℕ) (stay : Stay) → (is_in_house h party ≡ true) → at_number (stays h) party ≡ Some stay → is_standing stay.state ≡ true
-moved_on h party room kind d stay housed e = housed_stands stay.state (ap (λ o. is_some (said_of o None (λ s. room_of_state s.state))) (sym e) ∙ housed)
+stands_now : (h : History) (party : ℕ) (stay : Stay) → stays_now h party ≡ true → at_number (stays h) party ≡ Some stay → is_standing stay.state ≡ true
+stands_now h party stay stands e = ap (λ o. said_of o false (λ (s : Stay). is_standing s.state)) (sym e) ∙ stands
 
 most : (a b c : ℕ) → a ≤ b → b ≤ c → a ≤ c
 most a b c s t = omega arith
@@ -75,12 +60,9 @@ rooms_suffice (h ▷ Reserved party guest k arrive depart) ok kind d =
     (left_if h kind d party guest k arrive depart needs.2 needs.3 needs.4)
 rooms_suffice (h ▷ Cancelled party) ok kind d =
     most _ _ _ (count_changed (takes kind d) party state.Cancelled (stays h) (λ stay e t. not_both false t refl)) (rooms_suffice h ok.0 kind d)
-rooms_suffice (h ▷ CheckIn party room number code) ok kind d =
+rooms_suffice (h ▷ Issue party room number code) ok kind d =
     most _ _ _ (count_changed (takes kind d) party (state.InHouse room) (stays h)
-    (λ stay e. takes_still kind d room stay (moved_in h party room kind d stay (may_follow h (CheckIn party room number code) ok).2 e))) (rooms_suffice h ok.0 kind d)
-rooms_suffice (h ▷ Transfer party room number code) ok kind d =
-    most _ _ _ (count_changed (takes kind d) party (state.InHouse room) (stays h)
-    (λ stay e. takes_still kind d room stay (moved_on h party room kind d stay (may_follow h (Transfer party room number code) ok).2 e))) (rooms_suffice h ok.0 kind d)
+    (λ stay e. takes_still kind d room stay (stands_now h party stay (may_follow h (Issue party room number code) ok).2 e))) (rooms_suffice h ok.0 kind d)
 rooms_suffice (h ▷ CheckOut party) ok kind d =
     most _ _ _ (count_changed (takes kind d) party state.Done (stays h) (λ stay e t. not_both false t refl)) (rooms_suffice h ok.0 kind d)
 rooms_suffice (h ▷ _) ok kind d = rooms_suffice h ok.0 kind d

@@ -1,6 +1,6 @@
 -- Who is inside a secured room.
 use Rattle.std.proofs.Common.{ℕ, ◌≡◌, Bool, true, false, Some, List, [], ◌∷◌, ◌++◌, ◌⊎◌, inl, inr, refl, ap, sym, ◌∙◌, subst, append_assoc, ◌==◌, ◌&&◌, ◌||◌, ◌+◌, length, nat_cmp}
-use Rattle.hotel_core.proofs.Names.{insert_entry, Card, Link, when, and_last, is_one_of, after, without, last_of, at_number, Moment, Install, CheckIn, Transfer, Spare, Entered, Left, Recoded, History, start, ◌▷◌, issued, current, cards, card_of, link_to, newest_link, link_of_party, held, passed, awaited, turns, insiders, inside, secured, are_none, rooms, is_room, Reached, SafeRoom}
+use Rattle.hotel_core.proofs.Names.{insert_entry, Card, Link, when, and_last, is_one_of, after, without, last_of, at_number, Moment, Install, Issue, Spare, Entered, Left, Recoded, History, start, ◌▷◌, issued, current, cards, card_of, link_to, newest_link, link_of_party, held, passed, awaited, turns, insiders, inside, secured, are_none, rooms, is_room, Reached, SafeRoom}
 use Rattle.hotel_core.proofs.{Facts.Follow.MayFollow, Facts.CodeFacts.SecuredRoomsFit}
 use Rattle.hotel_core.proofs.OfTables.Tests.{eq_from, eq_self, and_true, either_way, not_both}
 use Rattle.hotel_core.proofs.{OfTables.TableKeys.key_inserted, OfTables.CodeLists.last_more, OfTables.Grown.may_follow, Invariants.RoomCodes.rooms_have_codes}
@@ -127,10 +127,8 @@ secured_rooms_fit (start t) ok r e = secured_rooms_fit_at_start t ok r e
 secured_rooms_fit (h ▷ Install room kind code) ok r e =
     let fit = secured_rooms_fit h ok.0 r (was_secured (room == r) (secured h r) e).1 in
     (key_inserted (rooms h) room kind r ∙ or_there (room == r) (is_room h r) fit.0, fit.1, fit.2)
-secured_rooms_fit (h ▷ CheckIn party room number code) ok r e =
-    fit_issue (room == r) h party room number code r ok.0 (may_follow h (CheckIn party room number code) ok).5 e (secured_rooms_fit h ok.0 r)
-secured_rooms_fit (h ▷ Transfer party room number code) ok r e =
-    fit_issue (room == r) h party room number code r ok.0 (may_follow h (Transfer party room number code) ok).5 e (secured_rooms_fit h ok.0 r)
+secured_rooms_fit (h ▷ Issue party room number code) ok r e =
+    fit_issue (room == r) h party room number code r ok.0 (may_follow h (Issue party room number code) ok).5 e (secured_rooms_fit h ok.0 r)
 secured_rooms_fit (h ▷ Spare party number) ok r e =
     let fit = secured_rooms_fit h ok.0 r e in
     (fit.0, fit.1, λ n t. let c = fit.2 n t in (c.0, card_kept_spare (link_of_party h party) h party number n c.0 ok.0 (may_follow h (Spare party number) ok).2 c.1, c.2))

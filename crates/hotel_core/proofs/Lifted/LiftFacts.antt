@@ -1,6 +1,6 @@
 -- What the lifts of commands need: what look-ups of codes find in the rows of a history.
 use Rattle.std.proofs.Common.{ℕ, ◌≡◌, ◌+◌, ◌-◌, ◌==◌, true, Some, length}
-use Rattle.hotel_core.proofs.Names.{Link, is_one_of, Moment, Entered, Recoded, History, ◌▷◌, issued, current, link_of_party, held, passed, awaited, rows_of, is_room, room_of, is_card, has_link, opens, code_at, place_on, is_awaited_on, home_link_on}
+use Rattle.hotel_core.proofs.Names.{Link, is_one_of, Moment, Entered, Recoded, History, ◌▷◌, issued, current, link_of_party, registered, held, passed, awaited, rows_of, is_room, room_of, is_card, has_link, opens, code_at, place_on, is_awaited_on, home_link_on}
 use Rattle.hotel_core.specs.Model.Cases.{holds}
 
 -- the code that a room's lock holds stands after those that it passed
@@ -14,6 +14,10 @@ CurrentFound h = (r : ℕ) → is_room h r ≡ true → code_at (rows_of h) r (l
 -- a party in house has the link of its room's last two codes
 abbrev pub HomeLink : History → Type 0
 HomeLink h = (party room : ℕ) → room_of h party ≡ Some room → link_of_party h party ≡ Some (home_link_on (rows_of h) party)
+
+-- a party in house is registered at its room
+abbrev pub AtHome : History → Type 0
+AtHome h = (room party : ℕ) → room_of h party ≡ Some room → registered h room ≡ Some party
 
 -- after an entry the lock stands at the place of the link's new code
 abbrev pub EnteredPlace : History → Type 0

@@ -1,6 +1,6 @@
 -- What a search for a place among the codes finds.
 use Rattle.std.proofs.Common.{ℕ, ◌≡◌, ◌+◌, ◌≤◌, Bool, true, false, cond, Option, Some, None, List, [], ◌∷◌, ◌++◌, length, inl, inr, refl, ap, sym, ◌∙◌, arith, ◌==◌, ◌&&◌, nat_cmp, is_eq, Ordering, Less, Equal, Greater}
-use Rattle.hotel_core.proofs.Names.{match_ordering, is_at, insert_entry, CodeRow, when, and_last, at_number, first_code_at, Install, CheckIn, Transfer, History, start, ◌▷◌, issued, all_issued, Reached}
+use Rattle.hotel_core.proofs.Names.{match_ordering, is_at, insert_entry, CodeRow, when, and_last, at_number, first_code_at, Install, Issue, History, start, ◌▷◌, issued, all_issued, Reached}
 use Rattle.hotel_core.proofs.{Facts.CodeFacts.CodesAreFound, OfTables.Tests.eq_from, OfTables.Tests.eq_self, OfTables.Tests.and_true, OfTables.Tests.not_both}
 use Rattle.hotel_core.proofs.{OfTables.TableKeys.swap_tests, OfTables.CodeLists.snoc_split, OfTables.CodeLists.length_more}
 use Rattle.hotel_core.proofs.{Invariants.CodePlaces.next_place, Invariants.CodePlaces.fresh_has_no_row, OfTables.Grown.may_follow}
@@ -71,17 +71,13 @@ free_more h room new fresh free r p l =
 fresh_installed : (h : History) (room : ℕ) (kind : List ℕ) (new : ℕ) → Reached (h ▷ Install room kind new) → at_number (all_issued h) new ≡ None
 fresh_installed h room kind new ok = fresh_has_no_row h new (may_follow h (Install room kind new) ok).2
 
-fresh_checked_in : (h : History) (party room number new : ℕ) → Reached (h ▷ CheckIn party room number new) → at_number (all_issued h) new ≡ None
-fresh_checked_in h party room number new ok = fresh_has_no_row h new (may_follow h (CheckIn party room number new) ok).6
-
-fresh_transferred : (h : History) (party room number new : ℕ) → Reached (h ▷ Transfer party room number new) → at_number (all_issued h) new ≡ None
-fresh_transferred h party room number new ok = fresh_has_no_row h new (may_follow h (Transfer party room number new) ok).6
+fresh_given : (h : History) (party room number new : ℕ) → Reached (h ▷ Issue party room number new) → at_number (all_issued h) new ≡ None
+fresh_given h party room number new ok = fresh_has_no_row h new (may_follow h (Issue party room number new) ok).6
 
 pub all_free : (h : History) → Reached h → AllFree h
 all_free (start t) ok r p l = free_at_start t ok r p l
 all_free (h ▷ Install room kind new) ok r p l = free_more h room new (fresh_installed h room kind new ok) (all_free h ok.0) r p l
-all_free (h ▷ CheckIn party room n new) ok r p l = free_more h room new (fresh_checked_in h party room n new ok) (all_free h ok.0) r p l
-all_free (h ▷ Transfer party room n new) ok r p l = free_more h room new (fresh_transferred h party room n new ok) (all_free h ok.0) r p l
+all_free (h ▷ Issue party room n new) ok r p l = free_more h room new (fresh_given h party room n new ok) (all_free h ok.0) r p l
 all_free (h ▷ _) ok r p l = all_free h ok.0 r p l
 
 stays_found : (t : Bool) (k c : ℕ) (was : Option ℕ) → (t ≡ true → was ≡ None) → was ≡ Some c → cond t (Some k) was ≡ Some c
@@ -110,8 +106,6 @@ pub codes_are_found : (h : History) → Reached h → CodesAreFound h
 codes_are_found (start t) ok r before code later e = found_at_start t ok r before code later e
 codes_are_found (h ▷ Install room kind new) ok r before code later e =
     found_more (room == r) h room new r (eq_from room r) (fresh_installed h room kind new ok) (all_free h ok.0) (codes_are_found h ok.0) before code later e
-codes_are_found (h ▷ CheckIn party room n new) ok r before code later e =
-    found_more (room == r) h room new r (eq_from room r) (fresh_checked_in h party room n new ok) (all_free h ok.0) (codes_are_found h ok.0) before code later e
-codes_are_found (h ▷ Transfer party room n new) ok r before code later e =
-    found_more (room == r) h room new r (eq_from room r) (fresh_transferred h party room n new ok) (all_free h ok.0) (codes_are_found h ok.0) before code later e
+codes_are_found (h ▷ Issue party room n new) ok r before code later e =
+    found_more (room == r) h room new r (eq_from room r) (fresh_given h party room n new ok) (all_free h ok.0) (codes_are_found h ok.0) before code later e
 codes_are_found (h ▷ _) ok r before code later e = codes_are_found h ok.0 r before code later e

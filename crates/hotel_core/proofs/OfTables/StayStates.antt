@@ -1,6 +1,6 @@
 -- Look-ups of stays after one of them changed its state.
 use Rattle.std.proofs.Common.{ℕ, ◌≡◌, Bool, true, false, cond, Option, Some, None, List, [], ◌∷◌, refl, ap, sym, ◌∙◌, ◌==◌, option_map, is_some, nat_cmp}
-use Rattle.hotel_core.proofs.Names.{is_at, insert_entry, Stay, StayState, said_of, at_number, in_state, now_is, room_of_state, is_booked_state}
+use Rattle.hotel_core.proofs.Names.{is_at, insert_entry, Stay, StayState, said_of, at_number, in_state, now_is, room_of_state, is_booked_state, is_standing}
 use Rattle.hotel_nights.specs.declared.stay.StayState.TheVariants as state
 use Rattle.hotel_core.proofs.{OfTables.Numbered.true_is_not_false, OfTables.Numbered.at_inserted, OfTables.Tests.eq_from, OfTables.TableKeys.at_is}
 
@@ -77,6 +77,28 @@ home_added party stay es p = ap home_of (at_inserted es party stay p) ∙ added_
 booked_by : (s : StayState) → is_booked_state s ≡ true → room_of_state s ≡ None
 booked_by state.Booked h = refl
 booked_by _ h = cc
+
+booked_stands : (s : StayState) → is_booked_state s ≡ true → is_standing s ≡ true
+booked_stands state.Booked h = refl
+booked_stands (state.InHouse room) h = refl
+booked_stands state.Done h = cc
+booked_stands state.Cancelled h = cc
+
+home_stands : (s : StayState) → is_some (room_of_state s) ≡ true → is_standing s ≡ true
+home_stands state.Booked h = refl
+home_stands (state.InHouse room) h = refl
+home_stands state.Done h = cc
+home_stands state.Cancelled h = cc
+
+-- a booked stay stands
+pub stands_booked : (o : Option Stay) → said_of o false (λ stay. is_booked_state stay.state) ≡ true → said_of o false (λ stay. is_standing stay.state) ≡ true
+stands_booked (Some stay) h = booked_stands stay.state h
+stands_booked None h = h
+
+-- a stay in house stands
+pub stands_home : (o : Option Stay) → is_some (home_of o) ≡ true → said_of o false (λ stay. is_standing stay.state) ≡ true
+stands_home (Some stay) h = home_stands stay.state h
+stands_home None h = h
 
 -- a booked party is in no room
 pub booked_has_no_home : (o : Option Stay) → said_of o false (λ stay. is_booked_state stay.state) ≡ true → home_of o ≡ None

@@ -1,7 +1,6 @@
 -- The change of an event has its rows.
 use Rattle.std.proofs.Common.{ℕ, ◌≡◌, ◌<◌, ◌≤◌, ◌+◌, ◌-◌, ◌^◌, Bool, true, false, Option, Some, None, length, refl, ap, sym, ◌∙◌, arith, not, is_some}
-use Rattle.hotel_core.proofs.Names.{is_one_of, Event, Begun, Kind, Install, Reserved, Cancelled, CheckIn, Transfer, Spare, CheckOut, NextDay, Entered, Left, Recoded, History, ◌▷◌, issued, all_issued, issued_codes, is_fresh, cards, day, stays, at_number, Stay, StayState, is_standing, is_room, room_of, is_in_house, cards_used_up, is_booked_state, room_of_state, rows_of, room_at, code_place, stay_at, note_at, codes_of, change_of, HasItsRows, Reached, said_of, notes}
-use Rattle.hotel_nights.specs.declared.stay.StayState.TheVariants as state
+use Rattle.hotel_core.proofs.Names.{is_one_of, Event, Begun, Kind, Install, Reserved, Cancelled, Issue, Spare, CheckOut, NextDay, Entered, Left, Recoded, History, ◌▷◌, issued, all_issued, issued_codes, is_fresh, cards, day, stays, at_number, Stay, is_standing, is_room, room_of, is_in_house, cards_used_up, rows_of, room_at, code_place, stay_at, note_at, codes_of, change_of, HasItsRows, Reached, said_of, notes}
 use Rattle.hotel_core.proofs.{Facts.Follow.MayFollow, OfTables.RoomNumbers.room_there, OfTables.RoomNumbers.room_not_there, RowsAfter.RowsIssue.codes_said}
 use Rattle.hotel_core.proofs.{RowsAfter.RowsLeft.home_there, Invariants.NoRooms.nobody_registered, Invariants.InHouse.homes_match, Invariants.InHouse.has_stay}
 use Rattle.hotel_core.proofs.{OfTables.NotesKept.next_not_found, Invariants.NumbersLeft.HasNumber, Invariants.NumbersLeft.has_number, Invariants.NumbersLeft.codes_fit}
@@ -48,27 +47,10 @@ home_has_row h party ok t =
 next_is_new : (h : History) (room count : ℕ) → Reached h → count ≡ length (notes h room) + 1 → note_at (rows_of h) room count ≡ None
 next_is_new h room count ok n = next_not_found h ok room count (omega arith)
 
-booked_stands : (s : StayState) → is_booked_state s ≡ true → is_standing s ≡ true
-booked_stands state.Booked h = refl
-booked_stands (state.InHouse room) h = refl
-booked_stands state.Done h = cc
-booked_stands state.Cancelled h = cc
-
-home_stands : (s : StayState) → is_some (room_of_state s) ≡ true → is_standing s ≡ true
-home_stands state.Booked h = refl
-home_stands (state.InHouse room) h = refl
-home_stands state.Done h = cc
-home_stands state.Cancelled h = cc
-
--- a booked stay stands
-stands_booked : (o : Option Stay) → said_of o false (λ stay. is_booked_state stay.state) ≡ true → said_of o true (λ stay. is_standing stay.state) ≡ true
-stands_booked (Some stay) h = booked_stands stay.state h
-stands_booked None h = refl
-
--- a stay in house stands
-stands_home : (o : Option Stay) → is_some (said_of o None (λ stay. room_of_state stay.state)) ≡ true → said_of o true (λ stay. is_standing stay.state) ≡ true
-stands_home (Some stay) h = home_stands stay.state h
-stands_home None h = refl
+-- a stay that stands, where one is there
+stands : (o : Option Stay) → said_of o false (λ stay. is_standing stay.state) ≡ true → said_of o true (λ stay. is_standing stay.state) ≡ true
+stands (Some stay) h = h
+stands None h = refl
 
 has_rows_where : (h : History) (event : Event) → Reached h → MayFollow h event → HasNumber h event → HasItsRows (change_of h event) (rows_of h)
 has_rows_where h (Begun day) ok n l = no_day _ n
@@ -76,10 +58,8 @@ has_rows_where h (Kind kind) ok n l = n.1
 has_rows_where h (Install room kind code) ok n l = (n.0, room_not_there h room n.1, fresh_has_no_row h code n.2)
 has_rows_where h (Reserved party guest kind arrive depart) ok n l = (n.1, refl, ap (at_number (stays h)) n.1 ∙ next_party_free h ok)
 has_rows_where h (Cancelled party) ok n l = has_stay h party n.0
-has_rows_where h (CheckIn party room number code) ok n l =
-    (room_has_row h room n.0, codes_left h room ok n.0 l, fresh_has_no_row h code n.6, n.5, has_stay h party n.1, stands_booked (stay_at (rows_of h) party) n.2)
-has_rows_where h (Transfer party room number code) ok n l =
-    (room_has_row h room n.0, codes_left h room ok n.0 l, fresh_has_no_row h code n.6, n.5, has_stay h party n.1, stands_home (stay_at (rows_of h) party) n.2)
+has_rows_where h (Issue party room number code) ok n l =
+    (room_has_row h room n.0, codes_left h room ok n.0 l, fresh_has_no_row h code n.6, n.5, has_stay h party n.1, stands (stay_at (rows_of h) party) n.2)
 has_rows_where h (Spare party number) ok n l = n.2
 has_rows_where h (CheckOut party) ok n l = (has_stay h party n.0, home_has_row h party ok n.1)
 has_rows_where h NextDay ok n l = n.0

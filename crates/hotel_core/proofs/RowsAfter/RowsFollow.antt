@@ -1,9 +1,9 @@
 -- The rows after one more event are those that its change makes.
 use Rattle.std.proofs.Common.{refl}
-use Rattle.hotel_core.proofs.Names.{Event, Begun, Kind, Install, Reserved, Cancelled, CheckIn, Transfer, Spare, CheckOut, NextDay, Entered, Left, Recoded, History, ◌▷◌, Reached}
+use Rattle.hotel_core.proofs.Names.{Event, Begun, Kind, Install, Reserved, Cancelled, Issue, Spare, CheckOut, NextDay, Entered, Left, Recoded, History, ◌▷◌, Reached}
 use Rattle.hotel_core.proofs.{Facts.Follow.FollowsBy, Facts.Follow.MayFollow, OfTables.RoomNumbers.rooms_once}
-use Rattle.hotel_core.proofs.{RowsAfter.RowsEasy.next_day_follows, RowsAfter.RowsEasy.spare_follows, RowsAfter.RowsIssue.install_follows, RowsAfter.RowsIssue.check_in_follows}
-use Rattle.hotel_core.proofs.{RowsAfter.RowsLeft.check_out_follows, RowsAfter.RowsLeft.transfer_follows, RowsAfter.RowsNoted.entered_follows, RowsAfter.RowsNoted.recoded_follows}
+use Rattle.hotel_core.proofs.{RowsAfter.RowsEasy.next_day_follows, RowsAfter.RowsEasy.spare_follows, RowsAfter.RowsIssue.install_follows}
+use Rattle.hotel_core.proofs.{RowsAfter.RowsLeft.check_out_follows, RowsAfter.RowsLeft.issue_follows, RowsAfter.RowsNoted.entered_follows, RowsAfter.RowsNoted.recoded_follows}
 use Rattle.hotel_core.proofs.{RowsAfter.RowsRooms.left_follows, Invariants.InHouseLinks.in_house_has_link, OfTables.Grown.may_follow}
 
 follows_where : (h : History) (event : Event) → Reached h → MayFollow h event → FollowsBy h event
@@ -12,8 +12,7 @@ follows_where h (Kind kind) ok n = refl
 follows_where h (Install room kind code) ok n = install_follows h room code kind ok n.1
 follows_where h (Reserved party guest kind arrive depart) ok n = refl
 follows_where h (Cancelled party) ok n = refl
-follows_where h (CheckIn party room number code) ok n = check_in_follows h party room number code ok n.0
-follows_where h (Transfer party room number code) ok n = transfer_follows h party room number code ok n.0 n.2
+follows_where h (Issue party room number code) ok n = issue_follows h party room number code ok n.0
 follows_where h (Spare party number) ok n = spare_follows h party number (in_house_has_link h ok party n.1)
 follows_where h (CheckOut party) ok n = check_out_follows h party ok n.1
 follows_where h NextDay ok n = next_day_follows h n.0

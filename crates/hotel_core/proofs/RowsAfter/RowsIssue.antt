@@ -1,9 +1,9 @@
--- The rows after a room was added, and after a party came to a room.
-use Rattle.std.proofs.Common.{ℕ, ◌≡◌, ◌+◌, Bool, true, false, Option, Some, None, List, [], ◌∷◌, refl, ap, sym, ◌∙◌, length, ◌==◌, nat_cmp, Ordering, Less, Equal, Greater}
-use Rattle.hotel_core.proofs.Names.{match_ordering, insert_entry, exact_unsigned, RoomRow, when, and_last, said_of, Install, CheckIn, History, ◌▷◌, issued, all_issued, registered, secured, rooms, room_row, rows_of, is_room, Reached, codes_of, room_changed}
+-- The rows after a room was added, and the row of a room to which a party came.
+use Rattle.std.proofs.Common.{ℕ, ◌≡◌, ◌+◌, Bool, true, false, Option, Some, None, List, [], ◌∷◌, refl, ap, ◌∙◌, length, ◌==◌, nat_cmp, Ordering, Less, Equal, Greater}
+use Rattle.hotel_core.proofs.Names.{match_ordering, insert_entry, exact_unsigned, RoomRow, when, and_last, said_of, Install, History, ◌▷◌, issued, all_issued, secured, rooms, room_row, rows_of, is_room, Reached, codes_of}
 use Rattle.hotel_core.proofs.{Facts.Follow.FollowsBy, Facts.Follow.ApartFrom, OfTables.Numbered.true_is_not_false}
-use Rattle.hotel_core.proofs.RowsAfter.RowsRooms.{eq_flip, rows_by, others, one_changed, length_more}
-use Rattle.hotel_core.proofs.OfTables.RoomNumbers.{apart_from, rooms_once, room_there}
+use Rattle.hotel_core.proofs.RowsAfter.RowsRooms.{eq_flip, rows_by, others}
+use Rattle.hotel_core.proofs.OfTables.RoomNumbers.{apart_from, room_there}
 use Rattle.hotel_core.proofs.Invariants.NoRooms.{nothing_issued, nothing_passed, nobody_registered, nothing_noted}
 use Rattle.hotel_core.proofs.OfTables.Tests.{eq_self}
 
@@ -64,25 +64,3 @@ codes_said h room e = ap (λ o. said_of o 0 (λ row. row.codes)) (room_there h r
 -- the row of a room to which a party came
 abbrev pub came_to : ℕ → RoomRow → RoomRow
 came_to party row = record row { codes = row.codes + 1; secured = false; party = Some party }
-
--- a party comes to a room
-pub check_in_follows : (h : History) (party room number code : ℕ) → Reached h → is_room h room ≡ true → FollowsBy h (CheckIn party room number code)
-check_in_follows h party room number code ok there =
-    let h' : History = h ▷ CheckIn party room number code in
-    ap (λ rs. record (rows_of h') { rooms = rs })
-    (one_changed (room_row h') (room_row h) (came_to party) room
-    (λ r k t. ap (λ b. record (room_row h r k) {
-      codes = length (when b (and_last code) (issued h r));
-      secured = when b (λ _. false) (secured h r);
-      party = when b (λ _. Some party) (registered h r);
-    }) t)
-    (λ k. ap (λ b. record (room_row h room k) {
-      codes = length (when b (and_last code) (issued h room));
-      secured = when b (λ _. false) (secured h room);
-      party = when b (λ _. Some party) (registered h room);
-    }) (eq_self room) ∙ ap (λ n. record (room_row h room k) { codes = n; secured = false; party = Some party }) (length_more (issued h room) code))
-    (rooms h) (rooms_once h ok))
-    ∙ ap (λ place. record (rows_of h') {
-      rooms = room_changed room (came_to party) (rows_of h).rooms;
-      codes = insert_entry nat_cmp (all_issued h) code (record { room = room; place = place });
-    }) (sym (codes_said h room there))

@@ -1,6 +1,6 @@
 -- Tests that the rows of a table pass along each history: where each new row passes, and what passed goes on to pass.
 use Rattle.std.proofs.Common.{ℕ, ◌≡◌, Bool, true, List, Option, Some, None, refl, length}
-use Rattle.hotel_core.proofs.Names.{list_all, Card, Link, Note, Stay, StayState, CodeRow, Rows, Event, Install, Reserved, Cancelled, CheckIn, Transfer, Spare, CheckOut, note_of, History, start, ◌▷◌, issued, all_issued, cards, card_of, with_spare, link_of_party, link_to, rooms, stays, now_is, all_notes, and_note, pair_cmp, Reached, IsSound}
+use Rattle.hotel_core.proofs.Names.{list_all, Card, Link, Note, Stay, StayState, CodeRow, Rows, Event, Install, Reserved, Cancelled, Issue, Spare, CheckOut, note_of, History, start, ◌▷◌, issued, all_issued, cards, card_of, with_spare, link_of_party, link_to, rooms, stays, now_is, all_notes, and_note, pair_cmp, Reached, IsSound}
 use Rattle.hotel_nights.specs.declared.stay.StayState.TheVariants as state
 use Rattle.hotel_core.proofs.OfTables.Pairs.{pair_exact}
 use Rattle.hotel_core.proofs.OfTables.RowTests.{all_weaker, all_inserted, all_added_by, all_in_state}
@@ -36,9 +36,7 @@ stays_pass t on first keeps new (h ▷ Reserved party guest kind arrive depart) 
     all_inserted _ (stays h) party _ (new h party guest kind arrive depart ok) (all_go_on t on h _ (stays h) ok (stays_pass t on first keeps new h ok.0))
 stays_pass t on first keeps new (h ▷ Cancelled party) ok =
     all_in_state _ party state.Cancelled (stays h) (λ x. keeps _ x state.Cancelled) (all_go_on t on h _ (stays h) ok (stays_pass t on first keeps new h ok.0))
-stays_pass t on first keeps new (h ▷ CheckIn party room number code) ok =
-    all_in_state _ party (state.InHouse room) (stays h) (λ x. keeps _ x (state.InHouse room)) (all_go_on t on h _ (stays h) ok (stays_pass t on first keeps new h ok.0))
-stays_pass t on first keeps new (h ▷ Transfer party room number code) ok =
+stays_pass t on first keeps new (h ▷ Issue party room number code) ok =
     all_in_state _ party (state.InHouse room) (stays h) (λ x. keeps _ x (state.InHouse room)) (all_go_on t on h _ (stays h) ok (stays_pass t on first keeps new h ok.0))
 stays_pass t on first keeps new (h ▷ CheckOut party) ok =
     all_in_state _ party state.Done (stays h) (λ x. keeps _ x state.Done) (all_go_on t on h _ (stays h) ok (stays_pass t on first keeps new h ok.0))
@@ -50,35 +48,29 @@ next_row h room = record { room = room; place = length (issued h room) }
 
 pub codes_pass : (t : History → ℕ × CodeRow → Bool) → GoesOn t → HoldsAtStart (λ h. list_all (t h) (all_issued h) ≡ true)
     → ((h : History) (room code : ℕ) (kind : List ℕ) → Reached (h ▷ Install room kind code) → t (h ▷ Install room kind code) (code, next_row h room) ≡ true)
-    → ((h : History) (party room number code : ℕ) → Reached (h ▷ CheckIn party room number code) → t (h ▷ CheckIn party room number code) (code, next_row h room) ≡ true)
-    → ((h : History) (party room number code : ℕ) → Reached (h ▷ Transfer party room number code) → t (h ▷ Transfer party room number code) (code, next_row h room) ≡ true)
+    → ((h : History) (party room number code : ℕ) → Reached (h ▷ Issue party room number code) → t (h ▷ Issue party room number code) (code, next_row h room) ≡ true)
     → (h : History) → Reached h → list_all (t h) (all_issued h) ≡ true
-codes_pass t on first f g k (start s) ok = first s ok
-codes_pass t on first f g k (h ▷ Install room kind code) ok =
-    all_inserted _ (all_issued h) code _ (f h room code kind ok) (all_go_on t on h _ (all_issued h) ok (codes_pass t on first f g k h ok.0))
-codes_pass t on first f g k (h ▷ CheckIn party room number code) ok =
-    all_inserted _ (all_issued h) code _ (g h party room number code ok) (all_go_on t on h _ (all_issued h) ok (codes_pass t on first f g k h ok.0))
-codes_pass t on first f g k (h ▷ Transfer party room number code) ok =
-    all_inserted _ (all_issued h) code _ (k h party room number code ok) (all_go_on t on h _ (all_issued h) ok (codes_pass t on first f g k h ok.0))
-codes_pass t on first f g k (h ▷ event) ok = all_go_on t on h event (all_issued h) ok (codes_pass t on first f g k h ok.0)
+codes_pass t on first f g (start s) ok = first s ok
+codes_pass t on first f g (h ▷ Install room kind code) ok =
+    all_inserted _ (all_issued h) code _ (f h room code kind ok) (all_go_on t on h _ (all_issued h) ok (codes_pass t on first f g h ok.0))
+codes_pass t on first f g (h ▷ Issue party room number code) ok =
+    all_inserted _ (all_issued h) code _ (g h party room number code ok) (all_go_on t on h _ (all_issued h) ok (codes_pass t on first f g h ok.0))
+codes_pass t on first f g (h ▷ event) ok = all_go_on t on h event (all_issued h) ok (codes_pass t on first f g h ok.0)
 
 spare_passes : (o : Option Link) (t : ℕ × Card → Bool) (number party : ℕ) (all : List (ℕ × Card)) → ((link : Link) → o ≡ Some link → t (number, card_of number party link) ≡ true) → list_all t all ≡ true → list_all t (with_spare number party o all) ≡ true
 spare_passes (Some link) t number party all new passed = all_inserted t all number _ (new link refl) passed
 spare_passes None t number party all new passed = passed
 
 pub cards_pass : (t : History → ℕ × Card → Bool) → GoesOn t → HoldsAtStart (λ h. list_all (t h) (cards h) ≡ true)
-    → ((h : History) (party room number code : ℕ) → Reached (h ▷ CheckIn party room number code) → t (h ▷ CheckIn party room number code) (number, card_of number party (link_to h room code)) ≡ true)
-    → ((h : History) (party room number code : ℕ) → Reached (h ▷ Transfer party room number code) → t (h ▷ Transfer party room number code) (number, card_of number party (link_to h room code)) ≡ true)
+    → ((h : History) (party room number code : ℕ) → Reached (h ▷ Issue party room number code) → t (h ▷ Issue party room number code) (number, card_of number party (link_to h room code)) ≡ true)
     → ((h : History) (party number : ℕ) (link : Link) → Reached (h ▷ Spare party number) → link_of_party h party ≡ Some link → t (h ▷ Spare party number) (number, card_of number party link) ≡ true)
     → (h : History) → Reached h → list_all (t h) (cards h) ≡ true
-cards_pass t on first f g k (start s) ok = first s ok
-cards_pass t on first f g k (h ▷ CheckIn party room number code) ok =
-    all_inserted _ (cards h) number _ (f h party room number code ok) (all_go_on t on h _ (cards h) ok (cards_pass t on first f g k h ok.0))
-cards_pass t on first f g k (h ▷ Transfer party room number code) ok =
-    all_inserted _ (cards h) number _ (g h party room number code ok) (all_go_on t on h _ (cards h) ok (cards_pass t on first f g k h ok.0))
-cards_pass t on first f g k (h ▷ Spare party number) ok =
-    spare_passes (link_of_party h party) _ number party (cards h) (λ link e. k h party number link ok e) (all_go_on t on h _ (cards h) ok (cards_pass t on first f g k h ok.0))
-cards_pass t on first f g k (h ▷ event) ok = all_go_on t on h event (cards h) ok (cards_pass t on first f g k h ok.0)
+cards_pass t on first f g (start s) ok = first s ok
+cards_pass t on first f g (h ▷ Issue party room number code) ok =
+    all_inserted _ (cards h) number _ (f h party room number code ok) (all_go_on t on h _ (cards h) ok (cards_pass t on first f g h ok.0))
+cards_pass t on first f g (h ▷ Spare party number) ok =
+    spare_passes (link_of_party h party) _ number party (cards h) (λ link e. g h party number link ok e) (all_go_on t on h _ (cards h) ok (cards_pass t on first f g h ok.0))
+cards_pass t on first f g (h ▷ event) ok = all_go_on t on h event (cards h) ok (cards_pass t on first f g h ok.0)
 
 note_passes : (o : Option Note) (t : (ℕ × ℕ) × Note → Bool) (all : List ((ℕ × ℕ) × Note)) → ((note : Note) → o ≡ Some note → t ((note.room, note.count), note) ≡ true) → list_all t all ≡ true → list_all t (and_note o all) ≡ true
 note_passes (Some note) t all new passed = all_added_by pair_cmp pair_exact t all (note.room, note.count) note (new note refl) passed

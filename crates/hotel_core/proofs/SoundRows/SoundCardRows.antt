@@ -1,6 +1,6 @@
 -- Cards: their numbers, parties and links.
 use Rattle.std.proofs.Common.{ℕ, ◌≡◌, Bool, true, false, cond, Option, Some, None, List, [], ◌∷◌, ◌++◌, length, refl, ap, sym, ◌∙◌, ◌==◌, ◌||◌, is_some, nat_cmp}
-use Rattle.hotel_core.proofs.Names.{is_at, insert_entry, list_any, nat_cmp_total, Card, Link, Stay, StayState, CodeRow, said_of, is_one_of, at_number, link_of_last_card, Event, Install, Reserved, Cancelled, CheckIn, Transfer, Spare, CheckOut, History, ◌▷◌, cards, card_of, with_spare, link_of_party, link_to, registered, stays, in_state, rows_of, room_of_state, room_of, next_card, same_link, Reached, each_card, card_numbers, card_parties_there, links_are_neighbours, links_of_one_party, neighbours_are_links, is_newest, owns_newest, newest_of_party, has_newest, last_cards_newest, stands_at}
+use Rattle.hotel_core.proofs.Names.{is_at, insert_entry, list_any, nat_cmp_total, Card, Link, Stay, StayState, CodeRow, said_of, is_one_of, at_number, link_of_last_card, Event, Install, Reserved, Cancelled, Issue, Spare, CheckOut, History, ◌▷◌, cards, card_of, with_spare, link_of_party, link_to, registered, stays, in_state, rows_of, room_of_state, room_of, next_card, same_link, Reached, each_card, card_numbers, card_parties_there, links_are_neighbours, links_of_one_party, neighbours_are_links, is_newest, owns_newest, newest_of_party, has_newest, last_cards_newest, stands_at}
 use Rattle.hotel_nights.specs.declared.stay.StayState.TheVariants as state
 use Rattle.hotel_core.proofs.{OfTables.Tests.eq_self, OfTables.TableKeys.at_inserted, OfTables.TableKeys.is_key, OfTables.Grown.may_follow, Invariants.RoomCodes.others_have_none}
 use Rattle.hotel_core.proofs.{Invariants.RoomLinks.cards_have_links, Invariants.Numbering.same_keys, Invariants.Numbering.cards_count, Invariants.NumbersLeft.cards_fit}
@@ -22,7 +22,7 @@ pub cards_numbered : (h : History) → Reached h → card_numbers (rows_of h) �
 cards_numbered h ok =
     both _ _
     (both _ _
-    (cards_pass (λ h e. e.1.number == e.0) (λ h event e ok t. t) (λ s ok. (cards_numbered_at_start s ok).0) (λ h party room number code ok. eq_self number) (λ h party room number code ok. eq_self number) (λ h party number link ok e. eq_self number) h ok)
+    (cards_pass (λ h e. e.1.number == e.0) (λ h event e ok t. t) (λ s ok. (cards_numbered_at_start s ok).0) (λ h party room number code ok. eq_self number) (λ h party number link ok e. eq_self number) h ok)
     (cards_count h ok))
     (le_tested _ _ (cards_fit h ok))
 
@@ -37,8 +37,7 @@ state_some party s es p e = sym (is_key (in_state party s es) p) ∙ ap (is_one_
 pub stay_goes_on : (h : History) (event : Event) (p : ℕ) → is_some (at_number (stays h) p) ≡ true → is_some (at_number (stays (h ▷ event)) p) ≡ true
 stay_goes_on h (Reserved party guest kind arrive depart) p e = ap is_some (at_inserted (stays h) party _ p) ∙ still_some (is_at (nat_cmp p) party) _ (at_number (stays h) p) e
 stay_goes_on h (Cancelled party) p e = state_some party state.Cancelled (stays h) p e
-stay_goes_on h (CheckIn party room number code) p e = state_some party (state.InHouse room) (stays h) p e
-stay_goes_on h (Transfer party room number code) p e = state_some party (state.InHouse room) (stays h) p e
+stay_goes_on h (Issue party room number code) p e = state_some party (state.InHouse room) (stays h) p e
 stay_goes_on h (CheckOut party) p e = state_some party state.Done (stays h) p e
 stay_goes_on h _ p e = e
 
@@ -46,8 +45,7 @@ stay_goes_on h _ p e = e
 pub card_parties : (h : History) → Reached h → card_parties_there (rows_of h) ≡ true
 card_parties h ok =
     cards_pass (λ h e. is_some (at_number (stays h) e.1.party)) (λ h event e ok. stay_goes_on h event e.1.party) (λ s ok. ok.card_party)
-    (λ h party room number code ok. state_some party (state.InHouse room) (stays h) party (has_stay h party (may_follow h (CheckIn party room number code) ok).1))
-    (λ h party room number code ok. state_some party (state.InHouse room) (stays h) party (has_stay h party (may_follow h (Transfer party room number code) ok).1))
+    (λ h party room number code ok. state_some party (state.InHouse room) (stays h) party (has_stay h party (may_follow h (Issue party room number code) ok).1))
     (λ h party number link ok e. has_stay h party (may_follow h (Spare party number) ok).0) h ok
 
 -- A card's two codes are neighbours at one room.
@@ -90,8 +88,7 @@ spare_brings (Some link) h party number code ok n t = added_brings h number (car
 spare_brings None h party number code ok n t = t
 
 goes_on_brought : (h : History) (event : Event) (code : ℕ) → Reached (h ▷ event) → list_any (brings code) (cards h) ≡ true → list_any (brings code) (cards (h ▷ event)) ≡ true
-goes_on_brought h (CheckIn party room number new) code ok t = added_brings h number (card_of number party (link_to h room new)) code ok.0 (may_follow h (CheckIn party room number new) ok).5 t
-goes_on_brought h (Transfer party room number new) code ok t = added_brings h number (card_of number party (link_to h room new)) code ok.0 (may_follow h (Transfer party room number new) ok).5 t
+goes_on_brought h (Issue party room number new) code ok t = added_brings h number (card_of number party (link_to h room new)) code ok.0 (may_follow h (Issue party room number new) ok).5 t
 goes_on_brought h (Spare party number) code ok t = spare_brings (link_of_party h party) h party number code ok.0 (may_follow h (Spare party number) ok).2 t
 goes_on_brought h _ code ok t = t
 
@@ -113,8 +110,7 @@ pub codes_are_brought : (h : History) → Reached h → neighbours_are_links (ro
 codes_are_brought h ok =
     codes_pass is_first_or_brought (λ h event e ok. goes_on_first (e.1.place == 0) h event e.0 ok) (λ s ok. ok.card_neighbours)
     (λ h room code kind ok. or_first _ _ (ap (λ (zs : List ℕ). length zs == 0) (others_have_none h ok.0 room (may_follow h (Install room kind code) ok).1).0))
-    (λ h party room number code ok. or_later _ _ (new_brings h party room number code ok.0 (may_follow h (CheckIn party room number code) ok).5))
-    (λ h party room number code ok. or_later _ _ (new_brings h party room number code ok.0 (may_follow h (Transfer party room number code) ok).5)) h ok
+    (λ h party room number code ok. or_later _ _ (new_brings h party room number code ok.0 (may_follow h (Issue party room number code) ok).5)) h ok
 
 owner_tested : (h : History) → Reached h → (r : ℕ) (o : Option ℕ) → registered h r ≡ o → said_of o true (owns_newest (rows_of h) r) ≡ true
 owner_tested h ok r None e = refl

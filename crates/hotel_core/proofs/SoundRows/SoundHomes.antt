@@ -1,6 +1,6 @@
 -- Rooms and the stays in house: each has the other, and they are of one kind.
 use Rattle.std.proofs.Common.{ℕ, ◌≡◌, Bool, true, false, cond, Option, Some, None, List, ◌⊎◌, inl, inr, refl, ap, sym, ◌∙◌, subst, ◌==◌, ◌&&◌, option_map, bytes_eq, nat_cmp}
-use Rattle.hotel_core.proofs.Names.{insert_entry, Stay, StayState, said_of, is_that, at_number, Install, Reserved, Cancelled, CheckIn, Transfer, CheckOut, History, start, ◌▷◌, registered, rooms, stays, in_state, now_is, room_row, rows_of, room_of_state, is_of_kind, Reached, is_home_of, parties_in_house}
+use Rattle.hotel_core.proofs.Names.{insert_entry, Stay, StayState, said_of, is_that, at_number, Install, Reserved, Cancelled, Issue, CheckOut, History, start, ◌▷◌, registered, rooms, stays, in_state, now_is, room_row, rows_of, room_of_state, is_of_kind, Reached, is_home_of, parties_in_house}
 use Rattle.hotel_nights.specs.declared.stay.StayState.TheVariants as state
 use Rattle.hotel_core.proofs.OfTables.Tests.{eq_from, eq_self, not_both}
 use Rattle.hotel_core.proofs.OfTables.TableKeys.{row_inserted, row_kept, no_key}
@@ -58,10 +58,8 @@ homes_of_kind (h ▷ Reserved party guest kind arrive depart) ok p r stay e home
     ]
 homes_of_kind (h ▷ Cancelled party) ok p r stay e home = changed_of_kind h party state.Cancelled (homes_of_kind h ok.0) (λ old r e n. absurd (no_room r n)) p r stay e home
 homes_of_kind (h ▷ CheckOut party) ok p r stay e home = changed_of_kind h party state.Done (homes_of_kind h ok.0) (λ old r e n. absurd (no_room r n)) p r stay e home
-homes_of_kind (h ▷ CheckIn party room number code) ok p r stay e home =
-    changed_of_kind h party (state.InHouse room) (homes_of_kind h ok.0) (homed h party room (may_follow h (CheckIn party room number code) ok).3) p r stay e home
-homes_of_kind (h ▷ Transfer party room number code) ok p r stay e home =
-    changed_of_kind h party (state.InHouse room) (homes_of_kind h ok.0) (homed h party room (may_follow h (Transfer party room number code) ok).3) p r stay e home
+homes_of_kind (h ▷ Issue party room number code) ok p r stay e home =
+    changed_of_kind h party (state.InHouse room) (homes_of_kind h ok.0) (homed h party room (may_follow h (Issue party room number code) ok).3) p r stay e home
 homes_of_kind (h ▷ _) ok p r stay e home = homes_of_kind h ok.0 p r stay e home
 
 -- a party in house has a stay there

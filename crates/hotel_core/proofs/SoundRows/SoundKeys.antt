@@ -1,6 +1,6 @@
 -- Each table of a history's rows is in the order of its keys, and no key stands twice.
 use Rattle.std.proofs.Common.{ℕ, ◌≡◌, true, List, [], ◌∷◌, Option, Some, None, refl, ap, sym, ◌∙◌, subst, map, nat_cmp}
-use Rattle.hotel_core.proofs.Names.{slice_cmp, keys_of, nat_list_cmp_total, Card, Link, Note, Stay, StayState, pair_cmp, Kind, Install, Reserved, Cancelled, CheckIn, Transfer, Spare, CheckOut, note_of, History, start, ◌▷◌, all_issued, cards, card_of, with_spare, link_of_party, link_to, insiders, kinds, rooms, stays, in_state, all_notes, and_note, room_row, rows_of, Reached, are_in_order, keys_in_order}
+use Rattle.hotel_core.proofs.Names.{slice_cmp, keys_of, nat_list_cmp_total, Card, Link, Note, Stay, StayState, pair_cmp, Kind, Install, Reserved, Cancelled, Issue, Spare, CheckOut, note_of, History, start, ◌▷◌, all_issued, cards, card_of, with_spare, link_of_party, link_to, insiders, kinds, rooms, stays, in_state, all_notes, and_note, room_row, rows_of, Reached, are_in_order, keys_in_order}
 use Rattle.hotel_nights.specs.declared.stay.StayState.TheVariants as state
 use Rattle.hotel_core.proofs.OfTables.KeysInOrder.{InOrder, in_order_inserted, keys_inserted, in_order_tested}
 use Rattle.hotel_core.proofs.{OfTables.Insiders.insiders_in_order, OfTables.Pairs.pair_cmp_total, Invariants.Numbering.same_keys, OfTables.RowTests.both}
@@ -23,8 +23,7 @@ rooms_in_order (h ▷ _) ok = rooms_in_order h ok.0
 pub codes_in_order : (h : History) → Reached h → AreInOrder (all_issued h)
 codes_in_order (start t) ok = (orders t ok).codes
 codes_in_order (h ▷ Install room kind code) ok = in_order_with (all_issued h) code _ (codes_in_order h ok.0)
-codes_in_order (h ▷ CheckIn party room number code) ok = in_order_with (all_issued h) code _ (codes_in_order h ok.0)
-codes_in_order (h ▷ Transfer party room number code) ok = in_order_with (all_issued h) code _ (codes_in_order h ok.0)
+codes_in_order (h ▷ Issue party room number code) ok = in_order_with (all_issued h) code _ (codes_in_order h ok.0)
 codes_in_order (h ▷ _) ok = codes_in_order h ok.0
 
 still_in_order : (party : ℕ) (s : StayState) (es : List (ℕ × Stay)) → AreInOrder es → AreInOrder (in_state party s es)
@@ -34,8 +33,7 @@ pub stays_in_order : (h : History) → Reached h → AreInOrder (stays h)
 stays_in_order (start t) ok = (orders t ok).stays
 stays_in_order (h ▷ Reserved party guest kind arrive depart) ok = in_order_with (stays h) party _ (stays_in_order h ok.0)
 stays_in_order (h ▷ Cancelled party) ok = still_in_order party state.Cancelled (stays h) (stays_in_order h ok.0)
-stays_in_order (h ▷ CheckIn party room number code) ok = still_in_order party (state.InHouse room) (stays h) (stays_in_order h ok.0)
-stays_in_order (h ▷ Transfer party room number code) ok = still_in_order party (state.InHouse room) (stays h) (stays_in_order h ok.0)
+stays_in_order (h ▷ Issue party room number code) ok = still_in_order party (state.InHouse room) (stays h) (stays_in_order h ok.0)
 stays_in_order (h ▷ CheckOut party) ok = still_in_order party state.Done (stays h) (stays_in_order h ok.0)
 stays_in_order (h ▷ _) ok = stays_in_order h ok.0
 
@@ -45,8 +43,7 @@ spare_in_order None number party all i = i
 
 pub cards_in_order : (h : History) → Reached h → AreInOrder (cards h)
 cards_in_order (start t) ok = (orders t ok).cards
-cards_in_order (h ▷ CheckIn party room number code) ok = in_order_with (cards h) number (card_of number party (link_to h room code)) (cards_in_order h ok.0)
-cards_in_order (h ▷ Transfer party room number code) ok = in_order_with (cards h) number (card_of number party (link_to h room code)) (cards_in_order h ok.0)
+cards_in_order (h ▷ Issue party room number code) ok = in_order_with (cards h) number (card_of number party (link_to h room code)) (cards_in_order h ok.0)
 cards_in_order (h ▷ Spare party number) ok = spare_in_order (link_of_party h party) number party (cards h) (cards_in_order h ok.0)
 cards_in_order (h ▷ _) ok = cards_in_order h ok.0
 

@@ -1,6 +1,6 @@
 -- Links as the rows tell them: where they stand, and which is a room's newest and a party's last.
 use Rattle.std.proofs.Common.{ℕ, ◌≡◌, Bool, true, false, cond, Option, Some, None, List, [], ◌∷◌, ◌++◌, length, refl, ap, sym, ◌∙◌, append_assoc, arith, length-append, ◌==◌, if◌then◌else◌, nat_cmp}
-use Rattle.hotel_core.proofs.Names.{insert_entry, Card, Link, CodeRow, when, said_of, at_number, codes_at, last_link_of, or_else, link_of_last_card, CheckIn, Transfer, Spare, History, start, ◌▷◌, issued, all_issued, cards, card_of, with_spare, link_of_party, link_to, newest_link, rows_of, next_card, same_link, Reached, code_is, stands_at, are_neighbours, is_newest}
+use Rattle.hotel_core.proofs.Names.{insert_entry, Card, Link, CodeRow, when, said_of, at_number, codes_at, last_link_of, or_else, link_of_last_card, Issue, Spare, History, start, ◌▷◌, issued, all_issued, cards, card_of, with_spare, link_of_party, link_to, newest_link, rows_of, next_card, same_link, Reached, code_is, stands_at, are_neighbours, is_newest}
 use Rattle.hotel_core.proofs.{Facts.CodeFacts.IsLinkOf, OfTables.Tests.eq_from, OfTables.Tests.eq_self, OfTables.Tests.not_both, OfTables.Grown.may_follow}
 use Rattle.hotel_core.proofs.{OfTables.Counting.comes_last, Invariants.Numbering.cards_count, Invariants.CodePlaces.codes_have_places, Invariants.RoomLinks.newest_are_last}
 use Rattle.hotel_core.proofs.{Invariants.NewestLinks.newest_is, Starts.StartRules.link_is, OfTables.RowTests.both, SoundRows.SoundRoomRows.eq_tested}
@@ -103,7 +103,6 @@ spare_last None h party number p ok n e ih = ih
 -- The link of a party's last card is the one that it was given last.
 pub last_cards : (h : History) → Reached h → (p : ℕ) → link_of_last_card (cards h) p ≡ link_of_party h p
 last_cards (start t) ok p = refl
-last_cards (h ▷ CheckIn party room number code) ok p = issue_last h party number (link_to h room code) p ok.0 (may_follow h (CheckIn party room number code) ok).5 (last_cards h ok.0 p)
-last_cards (h ▷ Transfer party room number code) ok p = issue_last h party number (link_to h room code) p ok.0 (may_follow h (Transfer party room number code) ok).5 (last_cards h ok.0 p)
+last_cards (h ▷ Issue party room number code) ok p = issue_last h party number (link_to h room code) p ok.0 (may_follow h (Issue party room number code) ok).5 (last_cards h ok.0 p)
 last_cards (h ▷ Spare party number) ok p = spare_last (link_of_party h party) h party number p ok.0 (may_follow h (Spare party number) ok).2 refl (last_cards h ok.0 p)
 last_cards (h ▷ _) ok p = last_cards h ok.0 p

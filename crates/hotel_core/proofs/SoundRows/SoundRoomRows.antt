@@ -1,6 +1,6 @@
 -- Rooms: their numbers, locks, counts of codes and notes, and which are secured.
 use Rattle.std.proofs.Common.{ℕ, ◌≡◌, ◌≤◌, ◌<◌, ◌+◌, ◌-◌, Bool, true, false, Some, List, [], ◌∷◌, ◌++◌, length, inl, inr, refl, ap, ◌∙◌, subst, arith, length-append, ◌==◌, ◌&&◌, nat_le, nat_cmp}
-use Rattle.hotel_core.proofs.Names.{nat_cmp_total, nat_tests, Link, Note, RoomRow, when, and_last, at_number, Install, CheckIn, Transfer, Entered, Left, Recoded, History, start, ◌▷◌, issued, current, passed, awaited, held, secured, inside, are_none, rooms, notes, room_row, rows_of, is_room, Reached, each_room, room_numbers, lock_places, codes_few, note_counts, secured_hold_last}
+use Rattle.hotel_core.proofs.Names.{nat_cmp_total, nat_tests, Link, Note, RoomRow, when, and_last, at_number, Install, Issue, Entered, Left, Recoded, History, start, ◌▷◌, issued, current, passed, awaited, held, secured, inside, are_none, rooms, notes, room_row, rows_of, is_room, Reached, each_room, room_numbers, lock_places, codes_few, note_counts, secured_hold_last}
 use Rattle.keycard_rules.specs.declared.note.Act.TheVariants as act
 use Rattle.hotel_core.proofs.{Facts.CodeFacts.IsLinkOf, OfTables.Tests.eq_from, OfTables.Tests.eq_self, OfTables.Tests.and_true, OfTables.Tests.not_both}
 use Rattle.hotel_core.proofs.{OfTables.Numbered.found_there, OfTables.Grown.may_follow, Invariants.EventRanges.last_in_range, Invariants.NumbersLeft.codes_fit}
@@ -72,8 +72,7 @@ issued_to false c codes code two e = two e
 pub secured_have_two : (h : History) → Reached h → (r : ℕ) → secured h r ≡ true → 2 ≤ length (issued h r)
 secured_have_two (start t) ok r e = secured_have_two_at_start t ok r e
 secured_have_two (h ▷ Install room kind code) ok r e = issued_to (room == r) (secured h r) (issued h r) code (secured_have_two h ok.0 r) e
-secured_have_two (h ▷ CheckIn party room number code) ok r e = issued_to (room == r) (secured h r) (issued h r) code (secured_have_two h ok.0 r) e
-secured_have_two (h ▷ Transfer party room number code) ok r e = issued_to (room == r) (secured h r) (issued h r) code (secured_have_two h ok.0 r) e
+secured_have_two (h ▷ Issue party room number code) ok r e = issued_to (room == r) (secured h r) (issued h r) code (secured_have_two h ok.0 r) e
 secured_have_two (h ▷ Entered room count number link at) ok r e =
     elim (secured_by ((room == r) && (link.new_code == current h room) && are_none (inside h room)) (secured h r) e) [
       | inl t ↦

@@ -6,7 +6,7 @@ use Rattle.keycard_rules.specs.declared.card.Card.{Card}
 use Rattle.keycard_rules.specs.declared.card.Link.{Link}
 use Rattle.hotel_core.specs.Model.Words.{when}
 use Rattle.hotel_core.specs.Model.Rows.{codes_at, last_link_of, link_of_last_card}
-use Rattle.hotel_core.specs.Model.Event.{CheckIn, Transfer, Spare}
+use Rattle.hotel_core.specs.Model.Event.{Issue, Spare}
 use Rattle.hotel_core.specs.Model.History.{History, start, ◌▷◌}
 use Rattle.hotel_core.specs.Model.Issued.{current}
 
@@ -14,18 +14,16 @@ use Rattle.hotel_core.specs.Model.Issued.{current}
 abbrev pub link_to : History → ℕ → ℕ → Link
 link_to h room code = record { old_code = current h room; new_code = code }
 
--- The newest link of a room is that of the last check-in or transfer to it.
+-- The newest link of a room is that of the last card of a new code there.
 abbrev pub newest_link : History → ℕ → Option Link
 newest_link (start t) r = last_link_of (codes_at t r)
-newest_link (h ▷ CheckIn party room number code) r = when (room == r) (λ _. Some (link_to h room code)) (newest_link h r)
-newest_link (h ▷ Transfer party room number code) r = when (room == r) (λ _. Some (link_to h room code)) (newest_link h r)
+newest_link (h ▷ Issue party room number code) r = when (room == r) (λ _. Some (link_to h room code)) (newest_link h r)
 newest_link (h ▷ _) r = newest_link h r
 
 -- The link of the card that a party was given last (a spare card has the same one again).
 abbrev pub link_of_party : History → ℕ → Option Link
 link_of_party (start t) p = link_of_last_card t.cards p
-link_of_party (h ▷ CheckIn party room number code) p = when (party == p) (λ _. Some (link_to h room code)) (link_of_party h p)
-link_of_party (h ▷ Transfer party room number code) p = when (party == p) (λ _. Some (link_to h room code)) (link_of_party h p)
+link_of_party (h ▷ Issue party room number code) p = when (party == p) (λ _. Some (link_to h room code)) (link_of_party h p)
 link_of_party (h ▷ _) p = link_of_party h p
 
 -- Both codes of two links are equal.
@@ -41,10 +39,9 @@ abbrev pub with_spare : ℕ → ℕ → Option Link → List (ℕ × Card) → L
 with_spare number party (Some link) all = insert_entry nat_cmp all number (card_of number party link)
 with_spare number party None all = all
 
--- All cards, by number: a check-in and a transfer make one of a new link, a spare card has the link of the party's last one.
+-- All cards, by number: one of a new code has a new link, a spare card has the link of the party's last one.
 abbrev pub cards : History → List (ℕ × Card)
 cards (start t) = t.cards
-cards (h ▷ CheckIn party room number code) = insert_entry nat_cmp (cards h) number (card_of number party (link_to h room code))
-cards (h ▷ Transfer party room number code) = insert_entry nat_cmp (cards h) number (card_of number party (link_to h room code))
+cards (h ▷ Issue party room number code) = insert_entry nat_cmp (cards h) number (card_of number party (link_to h room code))
 cards (h ▷ Spare party number) = with_spare number party (link_of_party h party) (cards h)
 cards (h ▷ _) = cards h

@@ -24,10 +24,8 @@ pub data Event : Type 0 where
   Reserved : (party : ℕ) (guest kind : List ℕ) (arrive depart : ℕ) → Event
   -- a booking is given up
   Cancelled : (party : ℕ) → Event
-  -- a party arrives at a room, and is given a card with a new code
-  CheckIn : (party room number code : ℕ) → Event
-  -- a party in house goes to another room, and is given a card with a new code
-  Transfer : (party room number code : ℕ) → Event
+  -- a party is given a card with a new code at a room, and is registered there and at no other room
+  Issue : (party room number code : ℕ) → Event
   -- a party is given one more card with the link of its last one
   Spare : (party number : ℕ) → Event
   -- a party leaves for good

@@ -5,7 +5,7 @@ use Rattle.std.specs.BTreeSet.{insert_key}
 use Rattle.std.specs.Set.{remove_key}
 use Rattle.hotel_core.specs.Model.Words.{when, is_that, said_of, pair_cmp}
 use Rattle.hotel_core.specs.Model.Rows.{at_number}
-use Rattle.hotel_core.specs.Model.Event.{Install, CheckIn, Transfer, CheckOut, Entered, Left}
+use Rattle.hotel_core.specs.Model.Event.{Install, Issue, CheckOut, Entered, Left}
 use Rattle.hotel_core.specs.Model.History.{History, start, ◌▷◌}
 use Rattle.hotel_core.specs.Model.Issued.{current}
 
@@ -13,11 +13,10 @@ use Rattle.hotel_core.specs.Model.Issued.{current}
 abbrev pub leaves : ℕ → Option ℕ → Option ℕ
 leaves party registered = when (is_that registered party) (λ _. None) registered
 
--- The party of the last check-in or transfer to a room, until it checks out or goes elsewhere.
+-- The party that was given the last card of a new code at a room, until it checks out or is given one at another room.
 abbrev pub registered : History → ℕ → Option ℕ
 registered (start t) r = said_of (at_number t.rooms r) None (λ row. row.party)
-registered (h ▷ CheckIn party room number code) r = when (room == r) (λ _. Some party) (registered h r)
-registered (h ▷ Transfer party room number code) r = when (room == r) (λ _. Some party) (leaves party (registered h r))
+registered (h ▷ Issue party room number code) r = when (room == r) (λ _. Some party) (leaves party (registered h r))
 registered (h ▷ CheckOut party) r = leaves party (registered h r)
 registered (h ▷ _) r = registered h r
 
@@ -46,8 +45,7 @@ are_none (n ∷ ns) = false
 abbrev pub secured : History → ℕ → Bool
 secured (start t) r = said_of (at_number t.rooms r) false (λ row. row.secured)
 secured (h ▷ Install room kind code) r = when (room == r) (λ _. false) (secured h r)
-secured (h ▷ CheckIn party room number code) r = when (room == r) (λ _. false) (secured h r)
-secured (h ▷ Transfer party room number code) r = when (room == r) (λ _. false) (secured h r)
+secured (h ▷ Issue party room number code) r = when (room == r) (λ _. false) (secured h r)
 secured (h ▷ Entered room count number link at) r =
     when ((room == r) && (link.new_code == current h room) && are_none (inside h room)) (λ _. true) (secured h r)
 secured (h ▷ _) r = secured h r

@@ -3,7 +3,7 @@ use Rattle.std.specs.Prelude.{ℕ, Bool, List, ◌∷◌, ◌++◌, ◌==◌, �
 use Rattle.keycard_rules.specs.declared.card.Link.{Link}
 use Rattle.hotel_core.specs.Model.Words.{when, and_last, before, after, without}
 use Rattle.hotel_core.specs.Model.Rows.{codes_at, lock_place_of}
-use Rattle.hotel_core.specs.Model.Event.{CheckIn, Transfer, Entered, Recoded}
+use Rattle.hotel_core.specs.Model.Event.{Issue, Entered, Recoded}
 use Rattle.hotel_core.specs.Model.History.{History, start, ◌▷◌}
 use Rattle.hotel_core.specs.Model.Lock.{held}
 
@@ -14,8 +14,7 @@ turns h room link = held h room == link.old_code
 -- The codes that a room's lock hasn't taken yet: a new code is awaited, an entry that turns the lock takes its new code out, a recoding takes out all up to its new code.
 abbrev pub awaited : History → ℕ → List ℕ
 awaited (start t) r = drop (lock_place_of t r + 1) (codes_at t r)
-awaited (h ▷ CheckIn party room number code) r = when (room == r) (and_last code) (awaited h r)
-awaited (h ▷ Transfer party room number code) r = when (room == r) (and_last code) (awaited h r)
+awaited (h ▷ Issue party room number code) r = when (room == r) (and_last code) (awaited h r)
 awaited (h ▷ Entered room count number link at) r = when ((room == r) && turns h room link) (without link.new_code) (awaited h r)
 awaited (h ▷ Recoded room count from to at) r = when (room == r) (after to) (awaited h r)
 awaited (h ▷ _) r = awaited h r

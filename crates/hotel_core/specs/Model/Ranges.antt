@@ -8,7 +8,7 @@ use Rattle.hotel_core.specs.declared.command.Command.{Command}
 use Rattle.hotel_core.specs.declared.command.Command.TheVariants as command
 use Rattle.hotel_core.specs.declared.reply.Reply.{Reply}
 use Rattle.hotel_core.specs.declared.reply.Reply.TheVariants as reply
-use Rattle.hotel_core.specs.Model.Event.{Event, Begun, Kind, Install, Reserved, CheckIn, Transfer, Entered, Left, Recoded}
+use Rattle.hotel_core.specs.Model.Event.{Event, Begun, Kind, Install, Reserved, Issue, Entered, Left, Recoded}
 
 -- a day of the calendar
 abbrev pub IsDay : ℕ → Type 0
@@ -47,8 +47,7 @@ InRange (Begun day) = IsDay day
 InRange (Kind kind) = is_kind kind ≡ true
 InRange (Install room kind code) = IsRoomNumber room × IsCode code
 InRange (Reserved party guest kind arrive depart) = (is_guest guest ≡ true) × (arrive < depart) × (depart ≤ arrive + 90) × IsDay depart
-InRange (CheckIn party room number code) = IsCode code
-InRange (Transfer party room number code) = IsCode code
+InRange (Issue party room number code) = IsCode code
 InRange (Entered room count number link at) = IsCount count × IsTimed at.0 at.1
 InRange (Left room count number link at) = IsCount count × IsTimed at.0 at.1
 InRange (Recoded room count from to at) = IsCount count × IsTimed at.0 at.1

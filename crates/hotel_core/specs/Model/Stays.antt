@@ -9,7 +9,7 @@ use Rattle.hotel_nights.specs.declared.stay.Stay.{Stay}
 use Rattle.hotel_nights.specs.declared.stay.StayState.{StayState}
 use Rattle.hotel_nights.specs.declared.stay.StayState.TheVariants as state
 use Rattle.hotel_nights.specs.FullNight.{nights_taken, is_full, first_day}
-use Rattle.hotel_core.specs.Model.Event.{Begun, Kind, Install, Reserved, Cancelled, CheckIn, Transfer, CheckOut, NextDay}
+use Rattle.hotel_core.specs.Model.Event.{Begun, Kind, Install, Reserved, Cancelled, Issue, CheckOut, NextDay}
 use Rattle.hotel_core.specs.Model.History.{History, start, ◌▷◌}
 
 -- The business day: the one that was set, and one more for each next day.
@@ -60,8 +60,7 @@ stays (start t) = t.stays
 stays (h ▷ Reserved party guest kind arrive depart) =
     insert_entry nat_cmp (stays h) party (record { party = party; guest = guest; kind = kind; arrive = arrive; depart = depart; state = state.Booked })
 stays (h ▷ Cancelled party) = in_state party state.Cancelled (stays h)
-stays (h ▷ CheckIn party room number code) = in_state party (state.InHouse room) (stays h)
-stays (h ▷ Transfer party room number code) = in_state party (state.InHouse room) (stays h)
+stays (h ▷ Issue party room number code) = in_state party (state.InHouse room) (stays h)
 stays (h ▷ CheckOut party) = in_state party state.Done (stays h)
 stays (h ▷ _) = stays h
 

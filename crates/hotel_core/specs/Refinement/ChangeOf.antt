@@ -1,12 +1,12 @@
 -- The change that an event makes of the books.
-use Rattle.std.specs.Prelude.{ℕ, Bool, true, false, None, ◌+◌, length}
+use Rattle.std.specs.Prelude.{ℕ, Bool, true, false, Option, None, ◌+◌, length}
 use Rattle.keycard_rules.specs.Note.{Note}
 use Rattle.keycard_rules.specs.declared.note.Act.TheVariants as act
 use Rattle.hotel_nights.specs.declared.stay.StayState.TheVariants as state
-use Rattle.hotel_core.specs.{declared.books.change.InsideMove.InsideMove, declared.books.change.Change.Change, Model.Words.said_of, Model.Words.is_one_of}
+use Rattle.hotel_core.specs.{declared.books.change.InsideMove.InsideMove, declared.books.change.Change.Change, Model.Words.when, Model.Words.said_of, Model.Words.is_that, Model.Words.is_one_of}
 use Rattle.hotel_core.specs.declared.books.change.InsideMove.TheVariants.{Same, Goes, Comes}
 use Rattle.hotel_core.specs.declared.books.change.Change.TheVariants as change
-use Rattle.hotel_core.specs.Model.Event.{Event, Begun, Kind, Install, Reserved, Cancelled, CheckIn, Transfer, Spare, CheckOut, NextDay, Entered, Left, Recoded}
+use Rattle.hotel_core.specs.Model.Event.{Event, Begun, Kind, Install, Reserved, Cancelled, Issue, Spare, CheckOut, NextDay, Entered, Left, Recoded}
 use Rattle.hotel_core.specs.{Model.History.History, Model.History.◌▷◌, Model.Cards.card_of, Model.Cards.link_to, Model.Ledger.passed, Model.Guests.inside, Model.Guests.secured}
 use Rattle.hotel_core.specs.Model.Cases.{today, room_of, last_card_of}
 
@@ -19,6 +19,10 @@ abbrev pub comes : Bool → ℕ → InsideMove
 comes true number = Same
 comes false number = Comes number
 
+-- the room that a party is in, unless that is this one
+abbrev pub other_than : ℕ → Option ℕ → Option ℕ
+other_than room home = when (is_that home room) (λ _. None) home
+
 -- The change of the books that stands for an event after a history.
 abbrev pub change_of : History → Event → Change
 change_of h (Begun day) = change.Begin day
@@ -27,8 +31,7 @@ change_of h (Install room kind code) = change.Room room kind code
 change_of h (Reserved party guest kind arrive depart) =
     change.Reserved (record { party = party; guest = guest; kind = kind; arrive = arrive; depart = depart; state = state.Booked })
 change_of h (Cancelled party) = change.Cancelled party
-change_of h (CheckIn party room number code) = change.Issue (card_of number party (link_to h room code)) room None
-change_of h (Transfer party room number code) = change.Issue (card_of number party (link_to h room code)) room (room_of h party)
+change_of h (Issue party room number code) = change.Issue (card_of number party (link_to h room code)) room (other_than room (room_of h party))
 change_of h (Spare party number) = change.Spare (card_of number party (last_card_of h party))
 change_of h (CheckOut party) = change.CheckedOut party (said_of (room_of h party) 0 (λ room. room))
 change_of h NextDay = change.DayTo (today h + 1)
