@@ -230,6 +230,11 @@ impl Desk {
                 let link = (codes[codes.len() - 2], codes[codes.len() - 1]);
                 self.card(number(words[1]), link)
             }
+            "reissue" => {
+                let (home, code) = (self.home(number(words[1])), self.fresh(source));
+                self.rooms.get_mut(&home).unwrap().party = None;
+                self.issue(number(words[1]), home, code)
+            }
             "transfer" => {
                 let (home, code) = (self.home(number(words[1])), self.fresh(source));
                 self.rooms.get_mut(&home).unwrap().party = None;

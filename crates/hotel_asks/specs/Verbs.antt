@@ -2,7 +2,7 @@
 use Rattle.std.specs.Prelude.{ℕ, List, codes, if◌then◌else◌, Option, Some, None}
 use Rattle.std.specs.Str.{bytes_eq}
 use Rattle.hotel_asks.specs.declared.verbs.Verb.{Verb}
-use Rattle.hotel_asks.specs.declared.verbs.Verb.TheVariants.{Begin, AddKind, AddRoom, Reserve, Cancel, CheckIn, Spare, Transfer, CheckOut, NextDay, Entered, Left, Recoded, Arrivals, InHouse, ChainOf, LeftBehind, AuditOf}
+use Rattle.hotel_asks.specs.declared.verbs.Verb.TheVariants.{Begin, AddKind, AddRoom, Reserve, Cancel, CheckIn, Spare, Reissue, Transfer, CheckOut, NextDay, Entered, Left, Recoded, Arrivals, InHouse, ChainOf, LeftBehind, AuditOf}
 
 -- The verb that a word is.
 unfoldable pub read_verb : List ℕ → Option Verb
@@ -14,6 +14,7 @@ read_verb word =
     else (if bytes_eq word (codes "cancel") then Some Cancel
     else (if bytes_eq word (codes "check-in") then Some CheckIn
     else (if bytes_eq word (codes "spare") then Some Spare
+    else (if bytes_eq word (codes "reissue") then Some Reissue
     else (if bytes_eq word (codes "transfer") then Some Transfer
     else (if bytes_eq word (codes "check-out") then Some CheckOut
     else (if bytes_eq word (codes "next-day") then Some NextDay
@@ -25,4 +26,4 @@ read_verb word =
     else (if bytes_eq word (codes "chain") then Some ChainOf
     else (if bytes_eq word (codes "left-behind") then Some LeftBehind
     else (if bytes_eq word (codes "audit-of") then Some AuditOf
-    else None)))))))))))))))))
+    else None))))))))))))))))))

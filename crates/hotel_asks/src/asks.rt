@@ -43,6 +43,7 @@ fn read_one(verb: Verb, value: &[u8]) -> Result<Ask, AskFault>
         Verb::AddKind => Ask::Command(Command::AddKind(read_kind(value)?)),
         Verb::Cancel => Ask::Command(Command::Cancel(read_party(value)?)),
         Verb::Spare => Ask::Command(Command::Spare(read_party(value)?)),
+        Verb::Reissue => Ask::Command(Command::Reissue(read_party(value)?)),
         Verb::CheckOut => Ask::Command(Command::CheckOut(read_party(value)?)),
         Verb::Arrivals => Ask::List(ListAsk::Arrivals(read_day(ValueName::Day, value)?)),
         Verb::ChainOf => Ask::List(ListAsk::ChainOf(read_room(value)?)),

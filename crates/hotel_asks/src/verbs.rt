@@ -15,6 +15,7 @@ pub enum Verb {
     Cancel,
     CheckIn,
     Spare,
+    Reissue,
     Transfer,
     CheckOut,
     NextDay,
@@ -41,6 +42,7 @@ impl Verb {
             Verb::Cancel => "cancel",
             Verb::CheckIn => "check-in",
             Verb::Spare => "spare",
+            Verb::Reissue => "reissue",
             Verb::Transfer => "transfer",
             Verb::CheckOut => "check-out",
             Verb::NextDay => "next-day",
@@ -63,7 +65,7 @@ impl Verb {
             Verb::NextDay | Verb::InHouse | Verb::LeftBehind => &[],
             Verb::Begin | Verb::Arrivals => &[ValueName::Day],
             Verb::AddKind => &[ValueName::Kind],
-            Verb::Cancel | Verb::Spare | Verb::CheckOut => &[ValueName::Party],
+            Verb::Cancel | Verb::Spare | Verb::Reissue | Verb::CheckOut => &[ValueName::Party],
             Verb::ChainOf | Verb::AuditOf => &[ValueName::Room],
             Verb::AddRoom => &[ValueName::Room, ValueName::Kind],
             Verb::CheckIn | Verb::Transfer => &[ValueName::Party, ValueName::Room],
@@ -111,6 +113,8 @@ pub fn read_verb(word: &[u8]) -> Option<Verb>
         Some(Verb::CheckIn)
     } else if word == b"spare".as_slice() {
         Some(Verb::Spare)
+    } else if word == b"reissue".as_slice() {
+        Some(Verb::Reissue)
     } else if word == b"transfer".as_slice() {
         Some(Verb::Transfer)
     } else if word == b"check-out".as_slice() {

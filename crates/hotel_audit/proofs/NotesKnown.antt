@@ -10,7 +10,7 @@ use Rattle.hotel_core.specs.declared.command.Command.TheVariants as command
 use Rattle.hotel_core.specs.declared.reply.Reply.TheVariants as reply
 use Rattle.hotel_core.specs.declared.reply.Refusal.TheVariants.{NotBegun, NoRoom, NoCard, CardDiffers, LockShut, NotInside, HeldDiffers, NotAwaited}
 use Rattle.hotel_core.specs.Model.Event as event
-use Rattle.hotel_core.proofs.Invariants.NoRooms.{not_added}
+use Rattle.hotel_core.proofs.Invariants.HomeRooms.{not_added}
 
 -- the first of these notes is the note
 abbrev pub BeginsWith : List Note → Note → Type 0

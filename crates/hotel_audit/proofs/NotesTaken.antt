@@ -1,6 +1,6 @@
 -- In a run a room's notes grow by those that were answered Taken.
 use Rattle.std.proofs.Common.{◌≡◌, ◌∙◌, ℕ, Bool, true, false, List, [], ◌∷◌, ◌++◌, Option, Some, None, inl, inr, refl, ap, sym, subst, append_assoc, append-nil, ◌==◌}
-use Rattle.hotel_core.proofs.Names.{Stream, draw_from, words, Note, answer_to, checks, effect, next_card, Event, note_of, History, issued_codes, notes, with_note, grown, Steps, StepsIf, answered, is_failed, and_last, when}
+use Rattle.hotel_core.proofs.Names.{Stream, draw_from, words, Note, answer_to, checks, effect, next_card, own_room, Event, note_of, History, issued_codes, notes, with_note, grown, Steps, StepsIf, answered, is_failed, and_last, when}
 use Rattle.hotel_core.specs.{declared.command.Command.Command, declared.reply.Reply.Reply}
 use Rattle.hotel_core.specs.declared.command.Command.TheVariants as command
 use Rattle.hotel_core.specs.declared.reply.Reply.TheVariants as reply
@@ -34,6 +34,9 @@ effect_took_none h ahead (command.CheckIn party room) e o q =
     let d = from_draw (draw_from (issued_codes h) ahead).code (λ code. event.Issue party room (next_card h) code) e q in
     is_event e _ d.2 refl
 effect_took_none h ahead (command.Spare party) e o q = is_event e _ (same_event q) refl
+effect_took_none h ahead (command.Reissue party) e o q =
+    let d = from_draw (draw_from (issued_codes h) ahead).code (λ code. event.Issue party (own_room h party) (next_card h) code) e q in
+    is_event e _ d.2 refl
 effect_took_none h ahead (command.Transfer party room) e o q =
     let d = from_draw (draw_from (issued_codes h) ahead).code (λ code. event.Issue party room (next_card h) code) e q in
     is_event e _ d.2 refl
@@ -88,6 +91,7 @@ step_takes h s (command.Reserve guest kind arrive nights) p h' s' r d = other_st
 step_takes h s (command.Cancel party) p h' s' r d = other_stays (is_failed p) h s (command.Cancel party) p h' s' r tt d
 step_takes h s (command.CheckIn party room) p h' s' r d = other_stays (is_failed p) h s (command.CheckIn party room) p h' s' r tt d
 step_takes h s (command.Spare party) p h' s' r d = other_stays (is_failed p) h s (command.Spare party) p h' s' r tt d
+step_takes h s (command.Reissue party) p h' s' r d = other_stays (is_failed p) h s (command.Reissue party) p h' s' r tt d
 step_takes h s (command.Transfer party room) p h' s' r d = other_stays (is_failed p) h s (command.Transfer party room) p h' s' r tt d
 step_takes h s (command.CheckOut party) p h' s' r d = other_stays (is_failed p) h s (command.CheckOut party) p h' s' r tt d
 step_takes h s command.NextDay p h' s' r d = other_stays (is_failed p) h s command.NextDay p h' s' r tt d

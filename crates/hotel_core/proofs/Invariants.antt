@@ -17,6 +17,7 @@ pub mod NoRooms
 pub mod LiftHomes
 pub mod Homes
 pub mod InHouse
+pub mod HomeRooms
 pub mod InHouseLinks
 pub mod KindCounts
 pub mod Kept

@@ -9,7 +9,7 @@ pub use Rattle.hotel_core.specs.Memory.{HaveCardNumbers, HaveCounts, HaveRoomNum
 pub use Rattle.hotel_core.specs.Model.Answer.{checks, effect, reported, told}
 unfoldable pub use Rattle.hotel_core.specs.Model.Answer.{answer_to}
 pub use Rattle.hotel_core.specs.Model.Cards.{card_of, cards, link_of_party, link_to, newest_link, same_link, with_spare}
-pub use Rattle.hotel_core.specs.Model.Cases.{cards_used_up, has_link, is_begun, is_booked, is_card, is_home, is_in_house, is_kind, is_of_kind, is_party, is_room, is_taken, last_card_of, next_card, next_party, no_link, opens, parties_used_up, room_of, stay_is, today}
+pub use Rattle.hotel_core.specs.Model.Cases.{cards_used_up, has_link, is_begun, is_booked, is_card, is_home, is_in_house, is_kind, is_of_kind, is_party, is_room, is_taken, last_card_of, next_card, next_party, no_link, opens, own_room, parties_used_up, room_of, stay_is, today}
 pub use Rattle.hotel_core.specs.Model.Stays.{day, first_full, in_state, is_booked_state, kinds, nights, now_is, room_of_state, rooms, rooms_of, stays}
 pub use Rattle.hotel_core.specs.Model.Event.{Begun, Cancelled, Issue, CheckOut, Entered, Event, Install, Kind, Left, Moment, NextDay, Recoded, Reserved, Spare, note_of, moment_of}
 pub use Rattle.hotel_core.specs.Model.Guests.{are_none, inside, insiders, leaves, registered, secured, those_in}
@@ -36,7 +36,7 @@ pub use Rattle.hotel_core.specs.Refinement.CardsOnRows.{HasLink, bars_to_check_i
 pub use Rattle.hotel_core.specs.Refinement.Lift.{Lifts, as_change}
 pub use Rattle.hotel_core.specs.Refinement.ListsOnRows.{arrivals_on, arrives_on, audit_on, awaited_on, behind_row_on, chain_on, chain_row_on, house_row_on, housed, in_house_on, left_behind_on, state_at}
 pub use Rattle.hotel_core.specs.Refinement.NotesOnRows.{IsUntaken, opened_on}
-pub use Rattle.hotel_core.specs.Refinement.OnRows.{checks_on, effect_on, has_link_on, held_on, home_link_on, home_on, is_awaited_on, kinds_agree_on, link_on, lock_place_on, place_on, reported_on, room_is_on, said_code_at, secured_after_on, secured_on, told_on}
+pub use Rattle.hotel_core.specs.Refinement.OnRows.{checks_on, effect_on, has_link_on, held_on, home_link_on, home_on, is_awaited_on, kinds_agree_on, link_on, lock_place_on, own_room_on, place_on, reported_on, room_is_on, said_code_at, secured_after_on, secured_on, told_on}
 unfoldable pub use Rattle.hotel_core.specs.Refinement.OnRows.{outcome_on}
 pub use Rattle.hotel_core.specs.Refinement.StepOnRows.{AreWhole, Goes, GoesIf, StepsAs, made_by}
 pub use Rattle.hotel_core.specs.Stops.{EndsAs, Stopping, StopsEither}

@@ -11,7 +11,7 @@ use crate::books::Books;
 use crate::command::Command;
 use crate::commands::bookings::{cancel, reserve};
 use crate::commands::calendar::{begin, next_day};
-use crate::commands::guest_moves::{check_in, check_out, spare, transfer};
+use crate::commands::guest_moves::{check_in, check_out, reissue, spare, transfer};
 use crate::commands::kinds_and_rooms::{add_kind, add_room};
 use crate::commands::notes::take_note;
 use crate::commands::ranges::{known_command, known_note, known_reply};
@@ -52,6 +52,7 @@ fn carry_out<B: Books, R: Rng>(
         Command::Cancel(party) => cancel(books, *party),
         Command::CheckIn { party, room } => check_in(books, source, *party, *room),
         Command::Spare(party) => spare(books, *party),
+        Command::Reissue(party) => reissue(books, source, *party),
         Command::Transfer { party, room } => transfer(books, source, *party, *room),
         Command::CheckOut(party) => check_out(books, *party),
         Command::NextDay => next_day(books),

@@ -16,6 +16,7 @@ route_table =
     (codes "/reservations/{party}/cancel", Asks verb.Cancel) ∷
     (codes "/reservations/{party}/check-in", Asks verb.CheckIn) ∷
     (codes "/reservations/{party}/spare", Asks verb.Spare) ∷
+    (codes "/reservations/{party}/reissue", Asks verb.Reissue) ∷
     (codes "/reservations/{party}/transfer", Asks verb.Transfer) ∷
     (codes "/reservations/{party}/check-out", Asks verb.CheckOut) ∷
     (codes "/next-day", Asks verb.NextDay) ∷

@@ -74,6 +74,7 @@ pub fn make_routes(alloc: Global) -> Result<Routes, InsertError>
                 Target::Asks(Verb::CheckIn),
             ),
             ("/reservations/{party}/spare", Target::Asks(Verb::Spare)),
+            ("/reservations/{party}/reissue", Target::Asks(Verb::Reissue)),
             (
                 "/reservations/{party}/transfer",
                 Target::Asks(Verb::Transfer),

@@ -13,6 +13,7 @@ pub mod FirstRun
 pub mod KindFull
 pub mod LateAudit
 pub mod LeftBehindRecoded
+pub mod LostCard
 pub mod NextGuest
 pub mod NoFreshCode
 pub mod NoFreshCodeTwice

@@ -8,6 +8,7 @@ ghost use Rattle.hotel_program.specs.Scenes.CodeDrawnTwice as scene_code_drawn_t
 ghost use Rattle.hotel_program.specs.Scenes.NoFreshCode as scene_no_fresh_code;
 ghost use Rattle.hotel_program.specs.Scenes.NoFreshCodeTwice as scene_no_fresh_code_twice;
 ghost use Rattle.hotel_program.specs.Scenes.SpareKeepsRoomOpen as scene_spare_keeps_room_open;
+ghost use Rattle.hotel_program.specs.Scenes.LostCard as scene_lost_card;
 ghost use Rattle.hotel_program.specs.Scenes.AuditTwice as scene_audit_twice;
 ghost use Rattle.hotel_program.specs.Scenes.AuditGapConflict as scene_audit_gap_conflict;
 ghost use Rattle.hotel_program.specs.Scenes.LateAudit as scene_late_audit;
@@ -31,6 +32,7 @@ pub fn scenarios()
     ensures no_fresh_code { scene_no_fresh_code.TheScene }
     ensures no_fresh_code_twice { scene_no_fresh_code_twice.TheScene }
     ensures spare_keeps_room_open { scene_spare_keeps_room_open.TheScene }
+    ensures lost_card { scene_lost_card.TheScene }
     ensures audit_twice { scene_audit_twice.TheScene }
     ensures audit_gap_conflict { scene_audit_gap_conflict.TheScene }
     ensures late_audit { scene_late_audit.TheScene }

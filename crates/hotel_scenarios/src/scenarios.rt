@@ -226,6 +226,41 @@ pub const SPARE_KEEPS_ROOM_OPEN: &[Step] = &[
     ),
 ];
 
+/// A party whose card was lost gets one of a new code; once it has entered, the lost one opens no more.
+pub const LOST_CARD: &[Step] = &[
+    Step::Line(b"entered 101 1 1 a0 a1 2031-05-01T15:00:00", b"taken\n"),
+    Step::Line(b"left 101 2 1 a0 a1 2031-05-01T15:00:00", b"taken\n"),
+    Step::Line(
+        b"in-house",
+        b"room,party,guest,kind,depart,secured\n101,1,Ann Lee,DBL,2031-05-03,yes\n",
+    ),
+    Step::Line(
+        b"reissue 1",
+        b"card 2 party 1 old 0000000000a1 new 0000000000a2\n",
+    ),
+    Step::Line(
+        b"in-house",
+        b"room,party,guest,kind,depart,secured\n101,1,Ann Lee,DBL,2031-05-03,no\n",
+    ),
+    Step::Line(b"entered 101 3 1 a0 a1 2031-05-01T15:00:00", b"taken\n"),
+    Step::Line(b"left 101 4 1 a0 a1 2031-05-01T15:00:00", b"taken\n"),
+    Step::Line(b"entered 101 5 2 a1 a2 2031-05-01T15:00:00", b"taken\n"),
+    Step::Line(
+        b"in-house",
+        b"room,party,guest,kind,depart,secured\n101,1,Ann Lee,DBL,2031-05-03,yes\n",
+    ),
+    Step::Line(
+        b"entered 101 6 1 a0 a1 2031-05-01T15:00:00",
+        b"refused 25 LockShut\n",
+    ),
+    Step::Line(
+        b"spare 1",
+        b"card 3 party 1 old 0000000000a1 new 0000000000a2\n",
+    ),
+    Step::Line(b"check-out 1", b"checked out\n"),
+    Step::Line(b"reissue 1", b"refused 9 NotInHouse\n"),
+];
+
 /// The same notes again are seen.
 pub const AUDIT_TWICE: &[Step] = &[Step::Audit(TWO_NOTES, b"1 seen\n2 seen\n", 0)];
 
@@ -434,7 +469,7 @@ pub const WORDS_AND_EMPTIES: &[Step] = &[
 ];
 
 /// What locks do.
-pub static OF_LOCKS: [Scenario; 6] = [
+pub static OF_LOCKS: [Scenario; 7] = [
     Scenario {
         name: "two-entries",
         codes: &[0xa0, 0xa1],
@@ -472,6 +507,12 @@ pub static OF_LOCKS: [Scenario; 6] = [
         codes: &[0xa0, 0xa1],
         last: 0xa2,
         parts: &[OPENED, CHECKED_IN, SPARE_KEEPS_ROOM_OPEN],
+    },
+    Scenario {
+        name: "lost-card",
+        codes: &[0xa0, 0xa1],
+        last: 0xa2,
+        parts: &[OPENED, CHECKED_IN, LOST_CARD],
     },
     Scenario {
         name: "note-refusals",

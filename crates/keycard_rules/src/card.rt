@@ -3,7 +3,7 @@
 use crate::code::Code;
 use crate::numbers::{CardNo, PartyNo};
 
-/// The pair of codes that one check-in or transfer makes: the room's current code before it, and the new one.
+/// The pair of codes that one check-in, transfer or reissue makes: the room's current code before it, and the new one.
 #[derive(Clone, Copy, Debug, PartialEq, Eq)]
 pub struct Link {
     /// A lock that holds it opens and takes the new one.

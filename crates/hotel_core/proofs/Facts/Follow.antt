@@ -1,11 +1,15 @@
 -- What an accepted event needs of the history before it. A consequence of the answers, for proofs.
-use Rattle.std.proofs.Common.{ℕ, ◌≡◌, Bool, true, false, List, None, ◌+◌, nat_lt, [], ◌∷◌, ◌==◌, length}
-use Rattle.hotel_core.proofs.Names.{is_one_of, notes, Event, Begun, Kind, Install, Reserved, Cancelled, Issue, Spare, CheckOut, NextDay, Entered, Left, Recoded, History, ◌▷◌, rows_of, made, change_of, is_fresh, awaited, inside, first_full, is_begun, today, is_kind, is_room, is_party, is_booked, is_in_house, is_of_kind, is_taken, is_card, has_link, opens, next_card, next_party, stay_is, is_standing}
+use Rattle.std.proofs.Common.{ℕ, ◌≡◌, ◌⊎◌, Bool, true, false, List, Some, None, ◌+◌, nat_lt, [], ◌∷◌, ◌==◌, length}
+use Rattle.hotel_core.proofs.Names.{is_one_of, notes, Event, Begun, Kind, Install, Reserved, Cancelled, Issue, Spare, CheckOut, NextDay, Entered, Left, Recoded, History, ◌▷◌, rows_of, made, change_of, is_fresh, awaited, inside, first_full, is_begun, today, is_kind, is_room, is_party, is_booked, is_in_house, is_of_kind, is_taken, room_of, is_card, has_link, opens, next_card, next_party, stay_is, is_standing}
 use Rattle.hotel_core.specs.Model.Cases.{holds}
 
 -- the party is booked, or in house
 abbrev pub stays_now : History → ℕ → Bool
 stays_now h party = stay_is h party (λ stay. is_standing stay.state)
+
+-- this is so, or the party is in house at the room
+abbrev pub OrAtHome : History → ℕ → ℕ → Type 0 → Type 0
+OrAtHome h party room P = P ⊎ (room_of h party ≡ Some room)
 
 abbrev pub MayFollow : History → Event → Type 0
 MayFollow h (Begun day) = is_begun h ≡ false
@@ -14,7 +18,8 @@ MayFollow h (Install room kind code) = (is_kind h kind ≡ true) × (is_room h r
 MayFollow h (Reserved party guest kind arrive depart) = (is_kind h kind ≡ true) × (party ≡ next_party h) × (nights : ℕ) × (depart ≡ arrive + nights) × (first_full h kind arrive nights ≡ None)
 MayFollow h (Cancelled party) = (is_party h party ≡ true) × (is_booked h party ≡ true)
 MayFollow h (Issue party room number code) =
-    (is_room h room ≡ true) × (is_party h party ≡ true) × (stays_now h party ≡ true) × (is_of_kind h room party ≡ true) × (is_taken h room ≡ false) × (number ≡ next_card h) × (is_fresh h code ≡ true)
+    OrAtHome h party room (is_room h room ≡ true) × (is_party h party ≡ true) × (stays_now h party ≡ true) × OrAtHome h party room (is_of_kind h room party ≡ true)
+    × OrAtHome h party room (is_taken h room ≡ false) × (number ≡ next_card h) × (is_fresh h code ≡ true)
 MayFollow h (Spare party number) = (is_party h party ≡ true) × (is_in_house h party ≡ true) × (number ≡ next_card h)
 MayFollow h (CheckOut party) = (is_party h party ≡ true) × (is_in_house h party ≡ true)
 MayFollow h NextDay = (is_begun h ≡ true) × (nat_lt (today h) 36524 ≡ true)

@@ -1,6 +1,6 @@
 -- What an accepted event needs.
-use Rattle.std.proofs.Common.{ℕ, ◌≡◌, List, [], ◌∷◌, Bool, true, false, Option, Some, None, refl, ap, subst, nat_lt, option_map, not, cond, length, drop, ◌+◌, ◌-◌, ◌==◌}
-use Rattle.hotel_core.proofs.Names.{at_number, stays, Command, Refusal, KindFull, NoCard, CardDiffers, LockShut, NotInside, HeldDiffers, NotAwaited, Act, inside, awaited, Note, Event, History, is_fresh, issued_codes, draw_from, one_more, code_of, Outcome, accepted, unless, needs, bars, answer_to, checks, effect, reported, told, moment_of, is_begun, today, is_kind, is_room, is_party, is_booked, is_in_house, is_of_kind, is_taken, is_card, has_link, opens, next_card, first_full, Standing, Copy, Conflicting, Next, After, standing, standing_among, notes, same_note}
+use Rattle.std.proofs.Common.{ℕ, ◌≡◌, List, [], ◌∷◌, Bool, true, false, Option, Some, None, refl, ap, subst, nat_lt, option_map, not, cond, length, drop, ◌+◌, ◌-◌, ◌==◌, is_some, inl, inr}
+use Rattle.hotel_core.proofs.Names.{at_number, said_of, own_room, room_of, stays, Command, Refusal, KindFull, NoCard, CardDiffers, LockShut, NotInside, HeldDiffers, NotAwaited, Act, inside, awaited, Note, Event, History, is_fresh, issued_codes, draw_from, one_more, code_of, Outcome, accepted, unless, needs, bars, answer_to, checks, effect, reported, told, moment_of, is_begun, today, is_kind, is_room, is_party, is_booked, is_in_house, is_of_kind, is_taken, is_card, has_link, opens, next_card, first_full, Standing, Copy, Conflicting, Next, After, standing, standing_among, notes, same_note}
 use Rattle.hotel_core.specs.declared.command.Command.TheVariants as command
 use Rattle.hotel_core.specs.declared.reply.Reply.TheVariants as reply
 use Rattle.keycard_rules.specs.declared.note.Act.TheVariants as act
@@ -79,6 +79,11 @@ by_standing : (h : History) (note : Note) (s : Standing) (e : Event) → standin
 by_standing h note Next e f r q = by_act h note note.act e (next_count (length (notes h note.room)) note (drop (note.count - 1) (notes h note.room)) f) r q
 by_standing h note _ e f r q = cc
 
+-- the number that is there
+pub some_number : (o : Option ℕ) → is_some o ≡ true → o ≡ Some (said_of o 0 (λ n. n))
+some_number (Some n) h = refl
+some_number None h = cc
+
 follows_if : (h : History) (ahead : List ℕ) (command : Command) (e : Event) → AllPass (checks h command) → (effect h ahead command).happens ≡ Some e → MayFollow h e
 follows_if h ahead (command.Begin day) e p q = subst (λ x. MayFollow h x) (same_event q) (barred (is_begun h) _ p.0)
 follows_if h ahead (command.AddKind kind) e p q = subst (λ x. MayFollow h x) (same_event q) (needed (is_begun h) _ p.0, barred (is_kind h kind) _ p.1.0)
@@ -91,23 +96,28 @@ follows_if h ahead (command.Cancel party) e p q = subst (λ x. MayFollow h x) (s
 follows_if h ahead (command.CheckIn party room) e p q =
     let d = from_draw (draw_from (issued_codes h) ahead).code (λ code. event.Issue party room (next_card h) code) e q in
     subst (λ x. MayFollow h x) d.2 (
-      needed (is_room h room) _ p.1.0,
+      inl (needed (is_room h room) _ p.1.0),
       needed (is_party h party) _ p.1.1.0,
       stands_booked (at_number (stays h) party) (needed (is_booked h party) _ p.1.1.1.0),
-      needed (is_of_kind h room party) _ p.1.1.1.1.1.1.0,
-      barred (is_taken h room) _ p.1.1.1.1.1.1.1.0,
+      inl (needed (is_of_kind h room party) _ p.1.1.1.1.1.1.0),
+      inl (barred (is_taken h room) _ p.1.1.1.1.1.1.1.0),
       refl,
       drawn_fresh h ahead d.0 d.1,
     )
 follows_if h ahead (command.Spare party) e p q = subst (λ x. MayFollow h x) (same_event q) (needed (is_party h party) _ p.1.0, needed (is_in_house h party) _ p.1.1.0, refl)
+follows_if h ahead (command.Reissue party) e p q =
+    let d = from_draw (draw_from (issued_codes h) ahead).code (λ code. event.Issue party (own_room h party) (next_card h) code) e q in
+    let housed = needed (is_in_house h party) _ p.1.1.0 in
+    let home : room_of h party ≡ Some (own_room h party) = some_number (room_of h party) housed in
+    subst (λ x. MayFollow h x) d.2 (inr home, needed (is_party h party) _ p.1.0, stands_home (at_number (stays h) party) housed, inr home, inr home, refl, drawn_fresh h ahead d.0 d.1)
 follows_if h ahead (command.Transfer party room) e p q =
     let d = from_draw (draw_from (issued_codes h) ahead).code (λ code. event.Issue party room (next_card h) code) e q in
     subst (λ x. MayFollow h x) d.2 (
-      needed (is_room h room) _ p.1.0,
+      inl (needed (is_room h room) _ p.1.0),
       needed (is_party h party) _ p.1.1.0,
       stands_home (at_number (stays h) party) (needed (is_in_house h party) _ p.1.1.1.0),
-      needed (is_of_kind h room party) _ p.1.1.1.1.0,
-      barred (is_taken h room) _ p.1.1.1.1.1.1.0,
+      inl (needed (is_of_kind h room party) _ p.1.1.1.1.0),
+      inl (barred (is_taken h room) _ p.1.1.1.1.1.1.0),
       refl,
       drawn_fresh h ahead d.0 d.1,
     )

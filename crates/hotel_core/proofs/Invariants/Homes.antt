@@ -26,6 +26,10 @@ stays_on party None p h = cc
 pub others_stay : (party p : ℕ) → (party == p) ≡ false → leaves party (Some p) ≡ Some p
 others_stay party p f = ap (λ b. when b (λ _. None) (Some p)) (eq_flip party p f)
 
+-- a party leaves itself
+pub itself_leaves : (party : ℕ) → leaves party (Some party) ≡ None
+itself_leaves party = ap (λ b. when b (λ _. None) (Some party)) (eq_self party)
+
 -- a party that isn't there doesn't leave
 pub not_leaving : (party : ℕ) (o : Option ℕ) → (o ≡ Some party → ⊥) → leaves party o ≡ o
 not_leaving party (Some q) f = by (q == party) refl
@@ -61,15 +65,15 @@ came_forth true false party room r p at home m s t h = absurd (true_is_not_false
 came_forth false true party room r p at home m s t h = absurd (true_is_not_false t (stays_on party (at r) p h).1)
 came_forth false false party room r p at home m s t h = m.forth r p (stays_on party (at r) p h).0
 
-came_back : (b c : Bool) (party room r p : ℕ) (at home : ℕ → Option ℕ) → Match at home → at room ≡ None → (room == r) ≡ b → (party == p) ≡ c
+came_back : (b c : Bool) (party room r p : ℕ) (at home : ℕ → Option ℕ) → Match at home → leaves party (at room) ≡ None → (room == r) ≡ b → (party == p) ≡ c
     → cond c (Some room) (home p) ≡ Some r → when b (λ _. Some party) (leaves party (at r)) ≡ Some p
 came_back true true party room r p at home m n s t h = ap (λ z. Some z) (eq_from party p t)
-came_back true false party room r p at home m n s t h = absurd (not_none (ap at (eq_from room r s) ∙ m.back r p h) n)
+came_back true false party room r p at home m n s t h = absurd (not_none (ap (leaves party) (ap at (eq_from room r s) ∙ m.back r p h) ∙ others_stay party p t) n)
 came_back false true party room r p at home m n s t h = absurd (true_is_not_false (ap (λ z. room == z) (sym (same_number h)) ∙ eq_self room) s)
 came_back false false party room r p at home m n s t h = ap (leaves party) (m.back r p h) ∙ others_stay party p t
 
--- after a party came to a room where nobody was
-pub match_came : (party room : ℕ) (at home home' : ℕ → Option ℕ) → Match at home → at room ≡ None → ComesBy party room home home'
+-- after a party came to a room where no other one was
+pub match_came : (party room : ℕ) (at home home' : ℕ → Option ℕ) → Match at home → leaves party (at room) ≡ None → ComesBy party room home home'
     → Match (λ r. when (room == r) (λ _. Some party) (leaves party (at r))) home'
 match_came party room at home home' m n c = record {
   forth = λ r p h. c p ∙ came_forth (room == r) (party == p) party room r p at home m refl refl h;

@@ -1,11 +1,11 @@
 -- A party is registered at a room exactly where it is in house there.
-use Rattle.std.proofs.Common.{ℕ, ◌≡◌, Bool, true, false, cond, Option, Some, None, refl, ap, sym, ◌∙◌, subst, ◌==◌, is_some}
-use Rattle.hotel_core.proofs.Names.{at_number, Reserved, Cancelled, Issue, CheckOut, History, start, ◌▷◌, registered, stays, room_of, is_party, is_booked, Reached}
+use Rattle.std.proofs.Common.{ℕ, ◌≡◌, Bool, true, false, cond, Option, Some, None, refl, ap, sym, ◌∙◌, subst, ◌==◌, is_some, inl, inr}
+use Rattle.hotel_core.proofs.Names.{at_number, Reserved, Cancelled, Issue, CheckOut, History, start, ◌▷◌, registered, leaves, is_taken, stays, room_of, is_party, is_booked, Reached}
 use Rattle.hotel_nights.specs.declared.stay.StayState.TheVariants as state
 use Rattle.hotel_core.proofs.{OfTables.Numbered.is_there, Invariants.Numbering.next_party_free}
 use Rattle.hotel_core.proofs.OfTables.StayStates.{home_of, home_changed, home_added, booked_has_no_home}
-use Rattle.hotel_core.proofs.Invariants.Homes.{Match, match_left, match_came, match_same}
-use Rattle.hotel_core.proofs.{OfTables.Tests.eq_from, OfTables.Grown.may_follow, Starts.StartGuests.homes_match_at_start}
+use Rattle.hotel_core.proofs.Invariants.Homes.{Match, itself_leaves, match_left, match_came, match_same}
+use Rattle.hotel_core.proofs.{Facts.Follow.OrAtHome, OfTables.Tests.eq_from, OfTables.Grown.may_follow, Starts.StartGuests.homes_match_at_start}
 
 pub none_is : (o : Option ℕ) → is_some o ≡ false → o ≡ None
 none_is (Some x) h = cc
@@ -27,6 +27,11 @@ booked_nowhere h party b = booked_has_no_home (at_number (stays h) party) b
 abbrev pub HomesMatch : History → Type 0
 HomesMatch h = Match (registered h) (room_of h)
 
+-- nobody but the party is registered at a room to which it comes
+nobody_else : (h : History) (party room : ℕ) → HomesMatch h → OrAtHome h party room (is_taken h room ≡ false) → leaves party (registered h room) ≡ None
+nobody_else h party room m (inl free) = ap (leaves party) (none_is (registered h room) free)
+nobody_else h party room m (inr home) = ap (leaves party) (m.back room party home) ∙ itself_leaves party
+
 -- A party is registered at a room exactly where it is in house there.
 pub homes_match : (h : History) → Reached h → HomesMatch h
 homes_match (start t) ok = homes_match_at_start t ok
@@ -42,7 +47,7 @@ homes_match (h ▷ Cancelled party) ok =
     ∙ none_either (party == p) (room_of h p) (λ t. ap (room_of h) (sym (eq_from party p t)) ∙ booked_nowhere h party n.1))
 homes_match (h ▷ Issue party room number code) ok =
     let n = may_follow h (Issue party room number code) ok in
-    match_came party room (registered h) (room_of h) (room_of (h ▷ Issue party room number code)) (homes_match h ok.0) (none_is (registered h room) n.4)
+    match_came party room (registered h) (room_of h) (room_of (h ▷ Issue party room number code)) (homes_match h ok.0) (nobody_else h party room (homes_match h ok.0) n.4)
     (λ p. home_changed party (state.InHouse room) (stays h) p (has_stay h party n.1))
 homes_match (h ▷ CheckOut party) ok =
     let n = may_follow h (CheckOut party) ok in

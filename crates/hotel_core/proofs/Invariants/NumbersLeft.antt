@@ -1,6 +1,6 @@
 -- Cards and stays have numbers up to the greatest, and a room has few codes.
 use Rattle.std.proofs.Common.{ℕ, ◌≡◌, ◌+◌, ◌≤◌, ◌<◌, Bool, true, false, Option, Some, None, List, [], ◌∷◌, ◌++◌, length, refl, ap, sym, ◌∙◌, subst, arith, ◌==◌, nat_le, option_map, nat_cmp}
-use Rattle.hotel_core.proofs.Names.{insert_entry, Card, Link, Act, Note, draw_from, Command, Refusal, NoCard, CardDiffers, LockShut, NotInside, HeldDiffers, NotAwaited, when, and_last, is_one_of, Event, History, start, ◌▷◌, issued, issued_codes, cards, card_of, with_spare, link_of_party, link_to, inside, awaited, stays, Standing, Next, standing, is_room, is_card, has_link, opens, next_card, parties_used_up, cards_used_up, accepted, needs, bars, answer_to, checks, effect, reported, told, moment_of, Reached}
+use Rattle.hotel_core.proofs.Names.{insert_entry, Card, Link, Act, Note, draw_from, Command, Refusal, NoCard, CardDiffers, LockShut, NotInside, HeldDiffers, NotAwaited, when, and_last, is_one_of, Event, History, start, ◌▷◌, issued, issued_codes, cards, card_of, with_spare, link_of_party, link_to, inside, awaited, stays, Standing, Next, standing, is_room, is_card, has_link, opens, next_card, own_room, parties_used_up, cards_used_up, accepted, needs, bars, answer_to, checks, effect, reported, told, moment_of, Reached}
 use Rattle.std.proofs.lemmas.Bool.{leb-false}
 use Rattle.keycard_rules.specs.declared.note.Act.TheVariants as act
 use Rattle.hotel_nights.specs.declared.stay.StayState.TheVariants as state
@@ -60,6 +60,9 @@ number_if h ahead (command.CheckIn party room) e p q =
     let d = drawn_event (draw_from (issued_codes h) ahead).code (λ code. event.Issue party room (next_card h) code) e q in
     subst (λ x. HasNumber h x) d.1 (barred (cards_used_up h) _ p.1.1.1.1.1.1.1.1.0)
 number_if h ahead (command.Spare party) e p q = subst (λ x. HasNumber h x) (same_event q) (barred (cards_used_up h) _ p.1.1.1.0)
+number_if h ahead (command.Reissue party) e p q =
+    let d = drawn_event (draw_from (issued_codes h) ahead).code (λ code. event.Issue party (own_room h party) (next_card h) code) e q in
+    subst (λ x. HasNumber h x) d.1 (barred (cards_used_up h) _ p.1.1.1.0)
 number_if h ahead (command.Transfer party room) e p q =
     let d = drawn_event (draw_from (issued_codes h) ahead).code (λ code. event.Issue party room (next_card h) code) e q in
     subst (λ x. HasNumber h x) d.1 (barred (cards_used_up h) _ p.1.1.1.1.1.1.1.0)

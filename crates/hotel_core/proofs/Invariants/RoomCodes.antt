@@ -3,7 +3,7 @@ use Rattle.std.proofs.Common.{ℕ, ◌≡◌, Bool, true, false, List, [], ◌�
 use Rattle.hotel_core.proofs.Names.{when, and_last, without, before, after, Install, Issue, Entered, Recoded, History, start, ◌▷◌, issued, passed, awaited, turns, rooms, is_room, Reached}
 use Rattle.hotel_core.proofs.Facts.CodeFacts.{HasCodes, RoomsHaveCodes, OthersHaveNone}
 use Rattle.hotel_core.proofs.{OfTables.Tests.eq_from, OfTables.Tests.or_true, OfTables.Tests.or_false, OfTables.Tests.not_both, OfTables.TableKeys.key_inserted}
-use Rattle.hotel_core.proofs.{OfTables.Grown.may_follow, OfTables.Grown.not_here, Starts.StartLedger.rooms_have_codes_at_start, Starts.StartLedger.others_have_none_at_start}
+use Rattle.hotel_core.proofs.{Invariants.HomeRooms.comes_to_room, OfTables.Grown.may_follow, OfTables.Grown.not_here, Starts.StartLedger.rooms_have_codes_at_start, Starts.StartLedger.others_have_none_at_start}
 
 -- one more code at another room
 no_code_here : (b : Bool) (h : History) (code r : ℕ) → b ≡ false → issued h r ≡ [] → when b (and_last code) (issued h r) ≡ []
@@ -23,7 +23,7 @@ others_have_none (h ▷ Install room kind code) ok r e =
     let none = others_have_none h ok.0 r f.1 in
     (no_code_here (room == r) h code r f.0 none.0, none.1, none.2)
 others_have_none (h ▷ Issue party room number code) ok r e =
-    issue_elsewhere h room code r (may_follow h (Issue party room number code) ok).0 e (others_have_none h ok.0 r e)
+    issue_elsewhere h room code r (comes_to_room h party room ok.0 (may_follow h (Issue party room number code) ok).0) e (others_have_none h ok.0 r e)
 others_have_none (h ▷ Entered room count number link at) ok r e =
     let none = others_have_none h ok.0 r e in
     let b = not_here (room == r) h room r (eq_from room r) (may_follow h (Entered room count number link at) ok).1 e in (

@@ -2,7 +2,7 @@
 use Rattle.std.proofs.Common.{ℕ, ◌≡◌, Bool, true, false, Option, Some, None, List, [], ◌∷◌, ◌++◌, inl, inr, refl, ap, sym, ◌∙◌, subst, append_assoc, ◌==◌, nat_cmp}
 use Rattle.hotel_core.proofs.Names.{insert_entry, Card, Link, when, and_last, last_of, at_number, Install, Issue, Spare, History, start, ◌▷◌, issued, current, cards, card_of, with_spare, link_of_party, link_to, newest_link, is_room, Reached}
 use Rattle.hotel_core.proofs.Facts.CodeFacts.{IsLinkOf, IsLink, CardsHaveLinks, PartiesHaveLinks, NewestAreLast, HasCodes}
-use Rattle.hotel_core.proofs.{OfTables.Tests.eq_from, OfTables.Tests.eq_self, OfTables.TableKeys.row_inserted, OfTables.CodeLists.last_split, OfTables.Grown.may_follow}
+use Rattle.hotel_core.proofs.{OfTables.Tests.eq_from, OfTables.Tests.eq_self, OfTables.TableKeys.row_inserted, OfTables.CodeLists.last_split, Invariants.HomeRooms.comes_to_room, OfTables.Grown.may_follow}
 use Rattle.hotel_core.proofs.Invariants.RoomCodes.{rooms_have_codes, others_have_none}
 use Rattle.hotel_core.proofs.Starts.StartLinks.{cards_have_links_at_start, parties_have_links_at_start, newest_are_last_at_start}
 
@@ -43,7 +43,7 @@ pub parties_have_links : (h : History) → Reached h → PartiesHaveLinks h
 parties_have_links (start t) ok party link e = parties_have_links_at_start t ok party link e
 parties_have_links (h ▷ Install room kind code) ok party link e = still_link h room code link (parties_have_links h ok.0 party link e)
 parties_have_links (h ▷ Issue p room number code) ok party link e =
-    given_by (p == party) h room code (link_of_party h party) link (rooms_have_codes h ok.0 room (may_follow h (Issue p room number code) ok).0) (parties_have_links h ok.0 party link) e
+    given_by (p == party) h room code (link_of_party h party) link (rooms_have_codes h ok.0 room (comes_to_room h p room ok.0 (may_follow h (Issue p room number code) ok).0)) (parties_have_links h ok.0 party link) e
 parties_have_links (h ▷ _) ok party link e = parties_have_links h ok.0 party link e
 
 carded : (h : History) (party room number new n : ℕ) (card : Card) → HasCodes (issued h room) → CardsHaveLinks h
@@ -69,7 +69,7 @@ pub cards_have_links : (h : History) → Reached h → CardsHaveLinks h
 cards_have_links (start t) ok n card e = cards_have_links_at_start t ok n card e
 cards_have_links (h ▷ Install room kind code) ok n card e = still_link h room code card.link (cards_have_links h ok.0 n card e)
 cards_have_links (h ▷ Issue party room number code) ok n card e =
-    carded h party room number code n card (rooms_have_codes h ok.0 room (may_follow h (Issue party room number code) ok).0) (cards_have_links h ok.0) e
+    carded h party room number code n card (rooms_have_codes h ok.0 room (comes_to_room h party room ok.0 (may_follow h (Issue party room number code) ok).0)) (cards_have_links h ok.0) e
 cards_have_links (h ▷ Spare party number) ok n card e = spared (link_of_party h party) h party number n card (parties_have_links h ok.0 party) (cards_have_links h ok.0) e
 cards_have_links (h ▷ _) ok n card e = cards_have_links h ok.0 n card e
 
@@ -98,5 +98,5 @@ newest_are_last (h ▷ Install room kind code) ok r link e =
     (λ t. (others_have_none h ok.0 r (ap (is_room h) (sym (eq_from room r t)) ∙ (may_follow h (Install room kind code) ok).1)).0)
     (newest_are_last h ok.0 r link e)
 newest_are_last (h ▷ Issue party room number code) ok r link e =
-    newest_by (room == r) h room code r link (eq_from room r) (rooms_have_codes h ok.0 room (may_follow h (Issue party room number code) ok).0) (newest_are_last h ok.0) e
+    newest_by (room == r) h room code r link (eq_from room r) (rooms_have_codes h ok.0 room (comes_to_room h party room ok.0 (may_follow h (Issue party room number code) ok).0)) (newest_are_last h ok.0) e
 newest_are_last (h ▷ _) ok r link e = newest_are_last h ok.0 r link e

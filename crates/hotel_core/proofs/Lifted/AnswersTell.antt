@@ -43,6 +43,7 @@ checks_tell h (command.Cancel party) = (needs_tell _ _ refl, (needs_tell _ _ ref
 checks_tell h (command.CheckIn party room) =
     (needs_tell _ _ refl, (needs_tell _ _ refl, (needs_tell _ _ refl, (needs_tell _ _ refl, (bars_tell _ _ refl, (bars_tell _ _ refl, (needs_tell _ _ refl, (bars_tell _ _ refl, (bars_tell _ _ refl, tt)))))))))
 checks_tell h (command.Spare party) = (needs_tell _ _ refl, (needs_tell _ _ refl, (needs_tell _ _ refl, (bars_tell _ _ refl, tt))))
+checks_tell h (command.Reissue party) = (needs_tell _ _ refl, (needs_tell _ _ refl, (needs_tell _ _ refl, (bars_tell _ _ refl, tt))))
 checks_tell h (command.Transfer party room) =
     (needs_tell _ _ refl, (needs_tell _ _ refl, (needs_tell _ _ refl, (needs_tell _ _ refl, (needs_tell _ _ refl, (bars_tell _ _ refl, (bars_tell _ _ refl, (bars_tell _ _ refl, tt))))))))
 checks_tell h (command.CheckOut party) = (needs_tell _ _ refl, (needs_tell _ _ refl, (needs_tell _ _ refl, tt)))
@@ -82,6 +83,7 @@ note_reported h note _ = refl
 effect_tells : (h : History) (ahead : List ℕ) (command : Command) → is_failed (effect h ahead command).reply ≡ false
 effect_tells h ahead (command.AddRoom room kind) = draw_tells (draw_from (issued_codes h) ahead).code _ (λ code. refl)
 effect_tells h ahead (command.CheckIn party room) = draw_tells (draw_from (issued_codes h) ahead).code _ (λ code. refl)
+effect_tells h ahead (command.Reissue party) = draw_tells (draw_from (issued_codes h) ahead).code _ (λ code. refl)
 effect_tells h ahead (command.Transfer party room) = draw_tells (draw_from (issued_codes h) ahead).code _ (λ code. refl)
 effect_tells h ahead (command.Reported note) = note_reported h note (standing h note)
 effect_tells h ahead _ = refl

@@ -1,6 +1,6 @@
 -- The commands by which a party comes to a room, lifted.
 use Rattle.std.proofs.Common.{ℕ, ◌≡◌, true, false, Option, Some, None, refl, ap, sym, ◌∙◌, length, is_some}
-use Rattle.hotel_core.proofs.Names.{said_of, draw_from, Draw, Link, Change, NoRoom, NoParty, NotBooked, NotInHouse, WrongKind, SameRoom, RoomTaken, NumbersUsedUp, History, issued_codes, card_of, cards, link_to, stays, rows_of, is_room, is_booked, is_taken, next_card, room_of, other_than, last_card_of, no_link, Outcome, needs, bars, accepted, by_draw, link_on, home_link_on, Lifts}
+use Rattle.hotel_core.proofs.Names.{said_of, draw_from, Draw, Link, Change, NoRoom, NoParty, NotBooked, NotInHouse, WrongKind, SameRoom, RoomTaken, NumbersUsedUp, History, issued_codes, card_of, cards, link_to, stays, rows_of, is_room, is_booked, is_in_house, is_taken, next_card, own_room, room_of, other_than, last_card_of, no_link, Outcome, needs, bars, accepted, by_draw, link_on, home_link_on, Lifts}
 use Rattle.hotel_core.specs.declared.books.change.Change.TheVariants as change
 use Rattle.hotel_core.specs.declared.command.Command.TheVariants as command
 use Rattle.hotel_core.specs.declared.reply.Reply.TheVariants as reply
@@ -8,7 +8,7 @@ use Rattle.hotel_core.specs.Model.Event as event
 use Rattle.hotel_core.proofs.{OfTables.Numbered.is_there, Lifted.LiftTools.lifts_by, Lifted.LiftTools.alike, Lifted.LiftTools.draw_lifts, Lifted.LiftTools.needed, Lifted.LiftEasy.room_is_there}
 use Rattle.hotel_core.proofs.Lifted.LiftRooms.{last_number, taken_said, home_said, kind_said, link_said}
 use Rattle.hotel_core.proofs.Lifted.LiftFacts.{CurrentFound, HomeLink, AtHome}
-use Rattle.hotel_core.proofs.{Invariants.Following.barred, Invariants.Homes.not_leaving, Invariants.InHouse.booked_nowhere}
+use Rattle.hotel_core.proofs.{Invariants.Following.barred, Invariants.Following.some_number, Invariants.Homes.itself_leaves, Invariants.Homes.not_leaving, Invariants.InHouse.booked_nowhere}
 
 -- a card of a new code, and the change that makes it, where the link of each code is this
 abbrev issue_by : History → ℕ → ℕ → Option ℕ → Draw → (ℕ → Link) → Outcome Change
@@ -49,6 +49,16 @@ transfer_lifts h party room found at_home ahead =
     alike refl λ _. alike (ap (λ b. needs b WrongKind) (kind_said h room party)) λ _. alike (ap (λ b. bars b SameRoom) (home_said h room party (there r))) λ _.
     alike (ap (λ b. bars b RoomTaken) (taken_said h room (there r))) λ f. alike (ap (λ b. bars b NumbersUsedUp) (last_number (length (cards h)))) λ _.
     issue_same h party room (room_of h party) draw found (there r) ∙ leaving h party room draw (room_of h party) (sym (not_free h party room at_home (barred (is_taken h room) RoomTaken f)))
+    ∙ draw_lifts h draw (λ code. reply.Issued (card_of (next_card h) party (link_to h room code))) (λ code. event.Issue party room (next_card h) code))
+
+pub reissue_lifts : (h : History) (party : ℕ) → CurrentFound h → ((room : ℕ) → room_of h party ≡ Some room → is_room h room ≡ true) → Lifts h (command.Reissue party)
+reissue_lifts h party found home_there ahead =
+    let draw : Draw = draw_from (issued_codes h) ahead in
+    let room : ℕ = own_room h party in
+    lifts_by h ahead (command.Reissue party) (alike refl λ _. alike (ap (λ b. needs b NoParty) (is_there (stays h) party)) λ _. alike refl λ n.
+    alike (ap (λ b. bars b NumbersUsedUp) (last_number (length (cards h)))) λ _.
+    let home : room_of h party ≡ Some room = some_number (room_of h party) (needed (is_in_house h party) NotInHouse n) in
+    issue_same h party room None draw found (home_there room home) ∙ leaving h party room draw None (sym (ap (other_than room) home ∙ itself_leaves room))
     ∙ draw_lifts h draw (λ code. reply.Issued (card_of (next_card h) party (link_to h room code))) (λ code. event.Issue party room (next_card h) code))
 
 home_link : (h : History) (party room : ℕ) → HomeLink h → room_of h party ≡ Some room → home_link_on (rows_of h) party ≡ last_card_of h party

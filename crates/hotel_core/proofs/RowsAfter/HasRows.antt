@@ -1,8 +1,8 @@
 -- The change of an event has its rows.
-use Rattle.std.proofs.Common.{ℕ, ◌≡◌, ◌<◌, ◌≤◌, ◌+◌, ◌-◌, ◌^◌, Bool, true, false, Option, Some, None, length, refl, ap, sym, ◌∙◌, arith, not, is_some}
+use Rattle.std.proofs.Common.{ℕ, ◌≡◌, ◌<◌, ◌≤◌, ◌+◌, ◌-◌, ◌^◌, Bool, true, false, Option, Some, None, length, refl, ap, ◌∙◌, arith, not, is_some}
 use Rattle.hotel_core.proofs.Names.{is_one_of, Event, Begun, Kind, Install, Reserved, Cancelled, Issue, Spare, CheckOut, NextDay, Entered, Left, Recoded, History, ◌▷◌, issued, all_issued, issued_codes, is_fresh, cards, day, stays, at_number, Stay, is_standing, is_room, room_of, is_in_house, cards_used_up, rows_of, room_at, code_place, stay_at, note_at, codes_of, change_of, HasItsRows, Reached, said_of, notes}
 use Rattle.hotel_core.proofs.{Facts.Follow.MayFollow, OfTables.RoomNumbers.room_there, OfTables.RoomNumbers.room_not_there, RowsAfter.RowsIssue.codes_said}
-use Rattle.hotel_core.proofs.{RowsAfter.RowsLeft.home_there, Invariants.NoRooms.nobody_registered, Invariants.InHouse.homes_match, Invariants.InHouse.has_stay}
+use Rattle.hotel_core.proofs.{RowsAfter.RowsLeft.home_there, Invariants.HomeRooms.home_is_room, Invariants.HomeRooms.comes_to_room, Invariants.InHouse.has_stay}
 use Rattle.hotel_core.proofs.{OfTables.NotesKept.next_not_found, Invariants.NumbersLeft.HasNumber, Invariants.NumbersLeft.has_number, Invariants.NumbersLeft.codes_fit}
 use Rattle.std.proofs.lemmas.Bool.{leb-false}
 use Rattle.hotel_core.proofs.{Invariants.Numbering.next_party_free, OfTables.Grown.may_follow, OfTables.TableKeys.no_key}
@@ -22,14 +22,6 @@ fresh_has_no_row h code f = no_key (all_issued h) code (not_among (is_one_of cod
 -- a room that is there has a row
 pub room_has_row : (h : History) (room : ℕ) → is_room h room ≡ true → is_some (room_at (rows_of h) room) ≡ true
 room_has_row h room t = ap is_some (room_there h room t).2
-
--- The room of a party in house is there.
-pub home_is_room : (h : History) (party room : ℕ) → Reached h → room_of h party ≡ Some room → is_room h room ≡ true
-home_is_room h party room ok e = by (is_room h room) refl
-  where
-    by : (b : Bool) → is_room h room ≡ b → is_room h room ≡ true
-    by true t = t
-    by false f = let w : ◌≡◌ {A = Option ℕ} (Some party) None = sym ((homes_match h ok).back room party e) ∙ nobody_registered h ok room f in cc
 
 -- A room can have one more code, as long as a card's number is left.
 codes_left : (h : History) (room : ℕ) → Reached h → is_room h room ≡ true → cards_used_up h ≡ false → codes_of (rows_of h) room < 2 ^ 32 - 1
@@ -59,7 +51,8 @@ has_rows_where h (Install room kind code) ok n l = (n.0, room_not_there h room n
 has_rows_where h (Reserved party guest kind arrive depart) ok n l = (n.1, refl, ap (at_number (stays h)) n.1 ∙ next_party_free h ok)
 has_rows_where h (Cancelled party) ok n l = has_stay h party n.0
 has_rows_where h (Issue party room number code) ok n l =
-    (room_has_row h room n.0, codes_left h room ok n.0 l, fresh_has_no_row h code n.6, n.5, has_stay h party n.1, stands (stay_at (rows_of h) party) n.2)
+    let there = comes_to_room h party room ok n.0 in
+    (room_has_row h room there, codes_left h room ok there l, fresh_has_no_row h code n.6, n.5, has_stay h party n.1, stands (stay_at (rows_of h) party) n.2)
 has_rows_where h (Spare party number) ok n l = n.2
 has_rows_where h (CheckOut party) ok n l = (has_stay h party n.0, home_has_row h party ok n.1)
 has_rows_where h NextDay ok n l = n.0

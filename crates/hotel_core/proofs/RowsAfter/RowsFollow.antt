@@ -4,7 +4,7 @@ use Rattle.hotel_core.proofs.Names.{Event, Begun, Kind, Install, Reserved, Cance
 use Rattle.hotel_core.proofs.{Facts.Follow.FollowsBy, Facts.Follow.MayFollow, OfTables.RoomNumbers.rooms_once}
 use Rattle.hotel_core.proofs.{RowsAfter.RowsEasy.next_day_follows, RowsAfter.RowsEasy.spare_follows, RowsAfter.RowsIssue.install_follows}
 use Rattle.hotel_core.proofs.{RowsAfter.RowsLeft.check_out_follows, RowsAfter.RowsLeft.issue_follows, RowsAfter.RowsNoted.entered_follows, RowsAfter.RowsNoted.recoded_follows}
-use Rattle.hotel_core.proofs.{RowsAfter.RowsRooms.left_follows, Invariants.InHouseLinks.in_house_has_link, OfTables.Grown.may_follow}
+use Rattle.hotel_core.proofs.{RowsAfter.RowsRooms.left_follows, Invariants.HomeRooms.comes_to_room, Invariants.InHouseLinks.in_house_has_link, OfTables.Grown.may_follow}
 
 follows_where : (h : History) (event : Event) → Reached h → MayFollow h event → FollowsBy h event
 follows_where h (Begun day) ok n = refl
@@ -12,7 +12,7 @@ follows_where h (Kind kind) ok n = refl
 follows_where h (Install room kind code) ok n = install_follows h room code kind ok n.1
 follows_where h (Reserved party guest kind arrive depart) ok n = refl
 follows_where h (Cancelled party) ok n = refl
-follows_where h (Issue party room number code) ok n = issue_follows h party room number code ok n.0
+follows_where h (Issue party room number code) ok n = issue_follows h party room number code ok (comes_to_room h party room ok n.0)
 follows_where h (Spare party number) ok n = spare_follows h party number (in_house_has_link h ok party n.1)
 follows_where h (CheckOut party) ok n = check_out_follows h party ok n.1
 follows_where h NextDay ok n = next_day_follows h n.0

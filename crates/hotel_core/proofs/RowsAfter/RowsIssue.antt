@@ -4,7 +4,7 @@ use Rattle.hotel_core.proofs.Names.{match_ordering, insert_entry, exact_unsigned
 use Rattle.hotel_core.proofs.{Facts.Follow.FollowsBy, Facts.Follow.ApartFrom, OfTables.Numbered.true_is_not_false}
 use Rattle.hotel_core.proofs.RowsAfter.RowsRooms.{eq_flip, rows_by, others}
 use Rattle.hotel_core.proofs.OfTables.RoomNumbers.{apart_from, room_there}
-use Rattle.hotel_core.proofs.Invariants.NoRooms.{nothing_issued, nothing_passed, nobody_registered, nothing_noted}
+use Rattle.hotel_core.proofs.Invariants.{NoRooms.nothing_issued, NoRooms.nothing_passed, NoRooms.nothing_noted, HomeRooms.nobody_registered}
 use Rattle.hotel_core.proofs.OfTables.Tests.{eq_self}
 
 new_room_by : (o : Ordering) (f g : ℕ → List ℕ → RoomRow) (room : ℕ) (kind : List ℕ) (e : ℕ × List ℕ) (es : List (ℕ × List ℕ))

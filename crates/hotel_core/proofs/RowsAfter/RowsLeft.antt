@@ -3,7 +3,7 @@ use Rattle.std.proofs.Common.{ℕ, ◌≡◌, true, false, Option, Some, None, L
 use Rattle.hotel_core.proofs.Names.{insert_entry, RoomRow, when, and_last, said_of, Issue, CheckOut, History, ◌▷◌, issued, all_issued, registered, secured, leaves, rooms, room_row, rows_of, is_room, is_in_house, room_of, Reached, room_changed, without_party, freed_by, other_than}
 use Rattle.hotel_core.proofs.{Facts.Follow.FollowsBy, RowsAfter.RowsRooms.rows_by, RowsAfter.RowsRooms.one_changed, RowsAfter.RowsRooms.length_more}
 use Rattle.hotel_core.proofs.{OfTables.Numbered.true_is_not_false, OfTables.RoomNumbers.rooms_once, RowsAfter.RowsIssue.came_to, RowsAfter.RowsIssue.codes_said}
-use Rattle.hotel_core.proofs.{Invariants.Homes.not_leaving, Invariants.Homes.others_stay, Invariants.Homes.stays_on, Invariants.InHouse.homes_match, OfTables.Tests.eq_self}
+use Rattle.hotel_core.proofs.{Invariants.Homes.itself_leaves, Invariants.Homes.not_leaving, Invariants.Homes.others_stay, Invariants.Homes.stays_on, Invariants.InHouse.homes_match, OfTables.Tests.eq_self}
 
 some_home : (o : Option ℕ) → is_some o ≡ true → (room : ℕ) × (o ≡ Some room)
 some_home (Some room) h = (room, refl)
@@ -15,9 +15,6 @@ home_there h party t = some_home (room_of h party) t
 
 two_homes : {a b : ℕ} {o : Option ℕ} → o ≡ Some a → o ≡ Some b → a ≡ b
 two_homes e f = cc
-
-itself_leaves : (party : ℕ) → leaves party (Some party) ≡ None
-itself_leaves party = ap (λ b. when b (λ _. None) (Some party)) (eq_self party)
 
 -- a room's row without a party that leaves
 abbrev pub row_without : History → ℕ → ℕ → List ℕ → RoomRow

@@ -4,7 +4,7 @@ use Rattle.hotel_core.proofs.Names.{insert_entry, Stay, StayState, said_of, is_t
 use Rattle.hotel_nights.specs.declared.stay.StayState.TheVariants as state
 use Rattle.hotel_core.proofs.OfTables.Tests.{eq_from, eq_self, not_both}
 use Rattle.hotel_core.proofs.OfTables.TableKeys.{row_inserted, row_kept, no_key}
-use Rattle.hotel_core.proofs.{OfTables.StayStates.stay_changed, OfTables.StayStates.home_of, OfTables.Grown.may_follow, Invariants.InHouse.registered_in_house}
+use Rattle.hotel_core.proofs.{Facts.Follow.OrAtHome, OfTables.StayStates.stay_changed, OfTables.StayStates.home_of, OfTables.Grown.may_follow, Invariants.InHouse.registered_in_house}
 use Rattle.hotel_core.proofs.{OfTables.RowTests.both, SoundRows.SoundRoomRows.each_room_is, Starts.StartGuests.homes_of_kind_at_start}
 
 -- the room is there, and of this kind
@@ -44,8 +44,11 @@ changed_of_kind h party s ih new p r stay e home =
 kind_checked : (o : Option Stay) (old : Stay) (all : List (ℕ × List ℕ)) (room : ℕ) → o ≡ Some old → said_of o false (λ stay. said_of (at_number all room) false (λ kind. bytes_eq kind stay.kind)) ≡ true → room_of_kind all room old.kind ≡ true
 kind_checked o old all room e t = ap (λ z. said_of z false (λ stay. said_of (at_number all room) false (λ kind. bytes_eq kind stay.kind))) (sym e) ∙ t
 
-homed : (h : History) (party room : ℕ) → is_of_kind h room party ≡ true → (old : Stay) (r : ℕ) → at_number (stays h) party ≡ Some old → room_of_state (state.InHouse room) ≡ Some r → room_of_kind (rooms h) r old.kind ≡ true
-homed h party room t old r e home = let same : room ≡ r = cc in subst (λ z. room_of_kind (rooms h) z old.kind ≡ true) same (kind_checked (at_number (stays h) party) old (rooms h) room e t)
+homed : (h : History) (party room : ℕ) → HomesOfKind h → OrAtHome h party room (is_of_kind h room party ≡ true) → (old : Stay) (r : ℕ) → at_number (stays h) party ≡ Some old → room_of_state (state.InHouse room) ≡ Some r → room_of_kind (rooms h) r old.kind ≡ true
+homed h party room ih (inl t) old r e home = let same : room ≡ r = cc in subst (λ z. room_of_kind (rooms h) z old.kind ≡ true) same (kind_checked (at_number (stays h) party) old (rooms h) room e t)
+homed h party room ih (inr at_home) old r e home =
+    let same : room ≡ r = cc in
+    ih party r old e (ap (λ o. said_of o None (λ (x : Stay). room_of_state x.state)) (sym e) ∙ at_home ∙ ap (λ z. Some z) same)
 
 pub homes_of_kind : (h : History) → Reached h → HomesOfKind h
 homes_of_kind (start t) ok p r stay e home = homes_of_kind_at_start t ok p r stay e home
@@ -59,7 +62,7 @@ homes_of_kind (h ▷ Reserved party guest kind arrive depart) ok p r stay e home
 homes_of_kind (h ▷ Cancelled party) ok p r stay e home = changed_of_kind h party state.Cancelled (homes_of_kind h ok.0) (λ old r e n. absurd (no_room r n)) p r stay e home
 homes_of_kind (h ▷ CheckOut party) ok p r stay e home = changed_of_kind h party state.Done (homes_of_kind h ok.0) (λ old r e n. absurd (no_room r n)) p r stay e home
 homes_of_kind (h ▷ Issue party room number code) ok p r stay e home =
-    changed_of_kind h party (state.InHouse room) (homes_of_kind h ok.0) (homed h party room (may_follow h (Issue party room number code) ok).3) p r stay e home
+    changed_of_kind h party (state.InHouse room) (homes_of_kind h ok.0) (homed h party room (homes_of_kind h ok.0) (may_follow h (Issue party room number code) ok).3) p r stay e home
 homes_of_kind (h ▷ _) ok p r stay e home = homes_of_kind h ok.0 p r stay e home
 
 -- a party in house has a stay there

@@ -3,7 +3,7 @@ use Rattle.std.proofs.Common.{ℕ, ◌≡◌, ◌+◌, true, false, Option, Some
 use Rattle.hotel_core.proofs.Names.{nat_cmp_total, Stay, RoomRow, said_of, is_that, at_number, Reserved, History, stays, rows_of, room_of_state, room_of, Reached, is_day, stay_numbers, guests_read, stay_days, has_party, stay_rooms}
 use Rattle.hotel_nights.specs.Guests.{is_guest}
 use Rattle.hotel_core.proofs.{OfTables.Tests.eq_from, OfTables.Tests.eq_self, Invariants.EventRanges.last_in_range, Invariants.Numbering.stays_count}
-use Rattle.hotel_core.proofs.{Invariants.NumbersLeft.stays_fit, OfTables.RoomNumbers.room_there, Invariants.InHouse.registered_in_house, RowsAfter.HasRows.home_is_room}
+use Rattle.hotel_core.proofs.{Invariants.NumbersLeft.stays_fit, OfTables.RoomNumbers.room_there, Invariants.InHouse.registered_in_house, Invariants.HomeRooms.home_is_room}
 use Rattle.hotel_core.proofs.{OfTables.RowTests.both, OfTables.RowTests.all_found, OfTables.RowTests.found_passes, SoundRows.RowsPass.stays_pass}
 use Rattle.hotel_core.proofs.{SoundRows.SoundKeys.stays_in_order, OfTables.Tests.le_tested, OfTables.Tests.lt_tested, Starts.StartNumbers.stays_numbered_at_start}
 

@@ -17,7 +17,7 @@ use Rattle.hotel_core.specs.Model.Ledger.{awaited}
 use Rattle.hotel_core.specs.Model.Guests.{inside}
 use Rattle.hotel_core.specs.Model.Stays.{first_full}
 use Rattle.hotel_core.specs.Model.Notes.{Standing, Copy, Conflicting, Next, After, standing}
-use Rattle.hotel_core.specs.Model.Cases.{is_begun, today, is_kind, is_room, is_party, is_booked, is_in_house, is_early, is_over, is_of_kind, is_home, is_taken, parties_used_up, next_party, cards_used_up, next_card, last_card_of, is_card, has_link, opens, holds}
+use Rattle.hotel_core.specs.Model.Cases.{is_begun, today, is_kind, is_room, is_party, is_booked, is_in_house, is_early, is_over, is_of_kind, is_home, own_room, is_taken, parties_used_up, next_party, cards_used_up, next_card, last_card_of, is_card, has_link, opens, holds}
 use Rattle.hotel_core.specs.Model.Outcome.{Outcome, needs, bars, unless, accepted, said, refused, with_fresh}
 
 -- The next note of a room: what it says must be so.
@@ -39,6 +39,11 @@ reported h note Conflicting = refused Conflict
 reported h note (After expected) = refused (Gap expected)
 reported h note Next = told h note note.act
 
+-- The checks of a further card for a party in house, in order.
+abbrev pub further_card_checks : History → ℕ → List (Option Refusal)
+further_card_checks h party =
+    needs (is_begun h) NotBegun ∷ needs (is_party h party) NoParty ∷ needs (is_in_house h party) NotInHouse ∷ bars (cards_used_up h) NumbersUsedUp ∷ []
+
 -- The checks of each command, in order.
 abbrev pub checks : History → Command → List (Option Refusal)
 checks h (command.Begin day) = bars (is_begun h) AlreadyBegun ∷ []
@@ -52,8 +57,8 @@ checks h (command.CheckIn party room) =
     needs (is_begun h) NotBegun ∷ needs (is_room h room) NoRoom ∷ needs (is_party h party) NoParty ∷ needs (is_booked h party) NotBooked
     ∷ bars (is_early h party) TooEarly ∷ bars (is_over h party) StayOver ∷ needs (is_of_kind h room party) WrongKind
     ∷ bars (is_taken h room) RoomTaken ∷ bars (cards_used_up h) NumbersUsedUp ∷ []
-checks h (command.Spare party) =
-    needs (is_begun h) NotBegun ∷ needs (is_party h party) NoParty ∷ needs (is_in_house h party) NotInHouse ∷ bars (cards_used_up h) NumbersUsedUp ∷ []
+checks h (command.Spare party) = further_card_checks h party
+checks h (command.Reissue party) = further_card_checks h party
 checks h (command.Transfer party room) =
     needs (is_begun h) NotBegun ∷ needs (is_room h room) NoRoom ∷ needs (is_party h party) NoParty ∷ needs (is_in_house h party) NotInHouse
     ∷ needs (is_of_kind h room party) WrongKind ∷ bars (is_home h room party) SameRoom
@@ -71,6 +76,8 @@ effect h ahead (command.Reserve guest kind arrive nights) = accepted (reply.Rese
 effect h ahead (command.Cancel party) = accepted reply.Cancelled (event.Cancelled party)
 effect h ahead (command.CheckIn party room) = with_fresh h ahead (λ code. reply.Issued (card_of (next_card h) party (link_to h room code))) (λ code. event.Issue party room (next_card h) code)
 effect h ahead (command.Spare party) = accepted (reply.Issued (card_of (next_card h) party (last_card_of h party))) (event.Spare party (next_card h))
+effect h ahead (command.Reissue party) =
+    with_fresh h ahead (λ code. reply.Issued (card_of (next_card h) party (link_to h (own_room h party) code))) (λ code. event.Issue party (own_room h party) (next_card h) code)
 effect h ahead (command.Transfer party room) = with_fresh h ahead (λ code. reply.Issued (card_of (next_card h) party (link_to h room code))) (λ code. event.Issue party room (next_card h) code)
 effect h ahead (command.CheckOut party) = accepted reply.CheckedOut (event.CheckOut party)
 effect h ahead command.NextDay = accepted (reply.DayIs (today h + 1)) event.NextDay

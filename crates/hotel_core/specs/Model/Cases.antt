@@ -41,6 +41,10 @@ stay_is h party test = said_of (at_number (stays h) party) false test
 abbrev pub room_of : History → ℕ → Option ℕ
 room_of h party = said_of (at_number (stays h) party) None (λ stay. room_of_state stay.state)
 
+-- the room in which the party is in house (0 where it isn't)
+abbrev pub own_room : History → ℕ → ℕ
+own_room h party = said_of (room_of h party) 0 (λ room. room)
+
 -- the party is booked, and has not yet come
 abbrev pub is_booked : History → ℕ → Bool
 is_booked h party = stay_is h party (λ stay. is_booked_state stay.state)

@@ -36,6 +36,10 @@ kinds_agree_on rows room party = stay_is_on rows party (λ stay. room_is_on rows
 abbrev pub home_on : Rows → ℕ → Option ℕ
 home_on rows party = said_of (stay_at rows party) None (λ stay. room_of_state stay.state)
 
+-- the room in which the party is in house (0 where it isn't)
+abbrev pub own_room_on : Rows → ℕ → ℕ
+own_room_on rows party = said_of (home_on rows party) 0 (λ room. room)
+
 -- the place of the code that the room's lock holds
 abbrev pub lock_place_on : Rows → ℕ → ℕ
 lock_place_on rows room = said_of (room_at rows room) 0 (λ row. row.lock_place)
@@ -99,6 +103,12 @@ reported_on rows note None =
 abbrev pub with_fresh_on : Rows → List ℕ → (ℕ → Reply) → (ℕ → Change) → Outcome Change
 with_fresh_on rows ahead reply_with change_with = by_draw (draw_from (codes_in rows) ahead) reply_with change_with
 
+-- the checks of a further card for a party in house, in order
+abbrev pub further_card_checks_on : Rows → ℕ → List (Option Refusal)
+further_card_checks_on rows party =
+    needs (is_some rows.day) NotBegun ∷ needs (is_some (stay_at rows party)) NoParty ∷ needs (is_some (home_on rows party)) NotInHouse
+    ∷ bars (is_none (number_after (length rows.cards))) NumbersUsedUp ∷ []
+
 -- the checks of each command, in order
 abbrev pub checks_on : Rows → Command → List (Option Refusal)
 checks_on rows (command.Begin day) = bars (is_some rows.day) AlreadyBegun ∷ []
@@ -117,9 +127,8 @@ checks_on rows (command.CheckIn party room) =
     ∷ bars (stay_is_on rows party (λ stay. nat_lt (day_on rows) stay.arrive)) TooEarly ∷ bars (stay_is_on rows party (λ stay. nat_le stay.depart (day_on rows))) StayOver
     ∷ needs (kinds_agree_on rows room party) WrongKind ∷ bars (room_is_on rows room (λ row. is_some row.party)) RoomTaken
     ∷ bars (is_none (number_after (length rows.cards))) NumbersUsedUp ∷ []
-checks_on rows (command.Spare party) =
-    needs (is_some rows.day) NotBegun ∷ needs (is_some (stay_at rows party)) NoParty ∷ needs (is_some (home_on rows party)) NotInHouse
-    ∷ bars (is_none (number_after (length rows.cards))) NumbersUsedUp ∷ []
+checks_on rows (command.Spare party) = further_card_checks_on rows party
+checks_on rows (command.Reissue party) = further_card_checks_on rows party
 checks_on rows (command.Transfer party room) =
     needs (is_some rows.day) NotBegun ∷ needs (is_some (room_at rows room)) NoRoom ∷ needs (is_some (stay_at rows party)) NoParty
     ∷ needs (is_some (home_on rows party)) NotInHouse ∷ needs (kinds_agree_on rows room party) WrongKind
@@ -144,6 +153,9 @@ effect_on rows ahead (command.CheckIn party room) =
     (λ code. change.Issue (card_of (length rows.cards + 1) party (link_on rows room code)) room None)
 effect_on rows ahead (command.Spare party) =
     accepted (reply.Issued (card_of (length rows.cards + 1) party (home_link_on rows party))) (change.Spare (card_of (length rows.cards + 1) party (home_link_on rows party)))
+effect_on rows ahead (command.Reissue party) =
+    with_fresh_on rows ahead (λ code. reply.Issued (card_of (length rows.cards + 1) party (link_on rows (own_room_on rows party) code)))
+    (λ code. change.Issue (card_of (length rows.cards + 1) party (link_on rows (own_room_on rows party) code)) (own_room_on rows party) None)
 effect_on rows ahead (command.Transfer party room) =
     with_fresh_on rows ahead (λ code. reply.Issued (card_of (length rows.cards + 1) party (link_on rows room code)))
     (λ code. change.Issue (card_of (length rows.cards + 1) party (link_on rows room code)) room (home_on rows party))

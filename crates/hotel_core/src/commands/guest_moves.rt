@@ -127,6 +127,23 @@ pub(crate) fn spare<B: Books>(books: &mut B, party: PartyNo) -> Result<Reply, Re
     make(books, Change::Spare(*card), Reply::Issued(*card))
 }
 
+/// Gives a party in house a card of a fresh code for its room.
+pub(crate) fn reissue<B: Books, R: Rng>(
+    books: &mut B,
+    source: &mut R,
+    party: PartyNo,
+) -> Result<Reply, Refusal>
+    ensures { StepsAs B.Issued B.Books.own (λ rows. outcome_on rows (words 64 (R.stream source.old)) (command.Reissue party)) books.old books.new (R.stream source.old) (R.stream source.new) (reply_of result) }
+{
+    today(books)?;
+    let stay = stay_there(books, party)?;
+    let Some(home) = home_of(&stay) else {
+        return Err(Refusal::NotInHouse);
+    };
+    let row = row_of(books, home)?;
+    issue(books, source, party, &row, home, None)
+}
+
 /// Ends the stay of a party in house.
 pub(crate) fn check_out<B: Books>(books: &mut B, party: PartyNo) -> Result<Reply, Refusal>
     ensures { (source : Stream) → StepsAs B.Issued B.Books.own (λ rows. outcome_on rows (words 64 source) (command.CheckOut party)) books.old books.new source source (reply_of result) }

@@ -43,6 +43,7 @@ pub(crate) fn known_command(command: &Command)
         Command::Cancel(_)
         | Command::CheckIn { .. }
         | Command::Spare(_)
+        | Command::Reissue(_)
         | Command::Transfer { .. }
         | Command::CheckOut(_)
         | Command::NextDay => {}

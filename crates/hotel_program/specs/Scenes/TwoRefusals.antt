@@ -13,7 +13,7 @@ use Rattle.hotel_core.specs.Model.Stays.{first_full}
 use Rattle.hotel_core.specs.Model.Outcome as outcome
 use Rattle.hotel_core.specs.Model.Answer.{answer_to}
 use Rattle.hotel_core.specs.Model.RowsOf.{rows_of}
-use Rattle.hotel_program.specs.Scenes.Words.{may, M, a0, a1, b0, b1, c0, c1, d0, d1, DBL, SGL, TWN, TPL, guest, begin, add_kind, add_room, reserve, cancel, check_in, spare, transfer, check_out, next_day, entered, left, recoded, begun, kind_added, room_code, party, cancelled, card, day, taken, seen, refused}
+use Rattle.hotel_program.specs.Scenes.Words.{may, M, a0, a1, b0, b1, c0, c1, d0, d1, DBL, SGL, TWN, TPL, guest, begin, add_kind, add_room, reserve, cancel, check_in, spare, reissue, transfer, check_out, next_day, entered, left, recoded, begun, kind_added, room_code, party, cancelled, card, day, taken, seen, refused}
 use Rattle.hotel_program.specs.Scenes.Lines.{Line, ◌⇒◌, Played, play, source, AreAnswered, AreRefused}
 
 -- Nothing happened yet.
@@ -28,6 +28,7 @@ before_the_first_day =
     ∷ cancel 1 ⇒ refused NotBegun  -- NoParty
     ∷ check_in 1 101 ⇒ refused NotBegun  -- NoRoom
     ∷ spare 1 ⇒ refused NotBegun  -- NoParty
+    ∷ reissue 1 ⇒ refused NotBegun  -- NoParty
     ∷ transfer 1 101 ⇒ refused NotBegun  -- NoRoom
     ∷ check_out 1 ⇒ refused NotBegun  -- NoParty
     ∷ next_day ⇒ refused NotBegun
@@ -89,6 +90,8 @@ of_guests =
     ∷ check_in 6 101 ⇒ refused RoomTaken  -- NoFreshCode
     ∷ spare 9 ⇒ refused NoParty  -- NotInHouse
     ∷ spare 6 ⇒ refused NotInHouse
+    ∷ reissue 9 ⇒ refused NoParty  -- NotInHouse
+    ∷ reissue 6 ⇒ refused NotInHouse  -- NoFreshCode
     ∷ transfer 9 999 ⇒ refused NoRoom  -- NoParty
     ∷ transfer 9 101 ⇒ refused NoParty  -- NotInHouse
     ∷ transfer 6 201 ⇒ refused NotInHouse  -- WrongKind
@@ -152,6 +155,7 @@ CardsEnd =
     (cards : List (ℕ × Card)) → length cards ≡ 9999999
     → IsRefused (with_cards cards) (check_in 6 101) RoomTaken × IsRefused (with_cards cards) (check_in 6 102) NumbersUsedUp
     × IsRefused (with_cards cards) (spare 6) NotInHouse × IsRefused (with_cards cards) (spare 1) NumbersUsedUp
+    × IsRefused (with_cards cards) (reissue 6) NotInHouse × IsRefused (with_cards cards) (reissue 1) NumbersUsedUp
     × IsRefused (with_cards cards) (transfer 1 103) RoomTaken × IsRefused (with_cards cards) (transfer 1 102) NumbersUsedUp
 
 -- Where 9,999,999 parties were given: KindFull comes before.
@@ -169,4 +173,4 @@ TheScene =
     × AreRefused busy of_guests
     × AreRefused busy of_notes
     × AreRefused last_day on_the_last_day
-    × FindsNoCode (add_room 104 DBL) × FindsNoCode (check_in 6 102) × FindsNoCode (transfer 1 102)
+    × FindsNoCode (add_room 104 DBL) × FindsNoCode (check_in 6 102) × FindsNoCode (reissue 1) × FindsNoCode (transfer 1 102)

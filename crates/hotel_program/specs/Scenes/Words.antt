@@ -99,6 +99,9 @@ check_in party room = command.CheckIn party room
 abbrev pub spare : ℕ → Command
 spare party = command.Spare party
 
+abbrev pub reissue : ℕ → Command
+reissue party = command.Reissue party
+
 abbrev pub transfer : ℕ → ℕ → Command
 transfer party room = command.Transfer party room
 

@@ -11,7 +11,7 @@ use hotel_asks::{ValueName, Verb};
 use std::alloc::{AllocError, Global};
 
 /// The verbs, in the order in which help lists them.
-static VERBS: [Verb; 18] = [
+static VERBS: [Verb; 19] = [
     Verb::Begin,
     Verb::AddKind,
     Verb::AddRoom,
@@ -19,6 +19,7 @@ static VERBS: [Verb; 18] = [
     Verb::Cancel,
     Verb::CheckIn,
     Verb::Spare,
+    Verb::Reissue,
     Verb::Transfer,
     Verb::CheckOut,
     Verb::NextDay,

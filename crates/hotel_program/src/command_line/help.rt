@@ -12,6 +12,7 @@ pub fn about_verb<'a>(verb: Verb) -> &'a str {
         Verb::Cancel => "Cancel a booking: cancel 1",
         Verb::CheckIn => "Check a party in and print its card: check-in 1 101",
         Verb::Spare => "Print a further card for a party in house: spare 1",
+        Verb::Reissue => "Print a card of a new code for a party that lost one: reissue 1",
         Verb::Transfer => "Move a party to another room of its kind: transfer 1 102",
         Verb::CheckOut => "Check a party out: check-out 1",
         Verb::NextDay => "Close the business day: next-day",

@@ -11,7 +11,7 @@ use Rattle.hotel_core.specs.declared.reply.Refusal.TheVariants.{KindFull, Number
 use Rattle.hotel_core.specs.Model.Cases.{cards_used_up, parties_used_up}
 use Rattle.hotel_core.specs.Model.Outcome.{Outcome, unless, bars, refused}
 use Rattle.hotel_core.specs.Model.Answer.{effect}
-use Rattle.hotel_program.specs.Scenes.Words.{may, DBL, guest, check_in, spare, transfer, reserve}
+use Rattle.hotel_program.specs.Scenes.Words.{may, DBL, guest, check_in, spare, reissue, transfer, reserve}
 use Rattle.hotel_program.specs.Scenes.TwoRefusals.{busy, with_cards, with_stays}
 use Rattle.std.specs.Str.{is_utf8, chars}
 use lib.Utf8.{encode}
@@ -21,7 +21,7 @@ use Rattle.hotel_program.proofs.scenes.two_refusals.Goals as goal
 
 pub returns-clause-at_once : goal.returns-clause-at_once
 unfolding answer_to draw_from nights_taken first_day is_utf8 chars encode
-returns-clause-at_once c = ((refl, refl, refl), refl, refl, refl, refl, refl, refl, refl, refl)
+returns-clause-at_once c = ((refl, refl, refl), refl, refl, refl, refl, refl, refl, refl, refl, refl)
 
 -- Where the numbers of cards are all that is left to check, and are used up.
 cards_end : (command : Command) (cards : List (ℕ × Card)) → length cards ≡ 9999999
@@ -30,7 +30,7 @@ cards_end command cards full = ap (λ b. unless (bars b NumbersUsedUp ∷ []) (e
 
 pub returns-clause-cards_used_up : goal.returns-clause-cards_used_up
 unfolding answer_to draw_from nights_taken first_day is_utf8 chars encode
-returns-clause-cards_used_up c = λ cards full. (refl, cards_end (check_in 6 102) cards full, refl, cards_end (spare 1) cards full, refl, cards_end (transfer 1 102) cards full)
+returns-clause-cards_used_up c = λ cards full. (refl, cards_end (check_in 6 102) cards full, refl, cards_end (spare 1) cards full, refl, cards_end (reissue 1) cards full, refl, cards_end (transfer 1 102) cards full)
 
 -- What is left of a booking's checks: whether a night is full, and then whether the numbers of parties are used up.
 abbrev left : History → Option ℕ → Bool → Outcome Event
