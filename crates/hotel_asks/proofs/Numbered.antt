@@ -1,12 +1,12 @@
 -- As many texts as a verb has values are never refused for their number.
-use Rattle.std.proofs.Common.{◌≡◌, ℕ, ◌&&◌, Bool, true, false, if◌then◌else◌, List, [], ◌∷◌, length, arith, Option, Some, None, Result, Ok, Err, subst, sym}
+use Rattle.std.proofs.Common.{◌≡◌, ℕ, ◌&&◌, Bool, true, false, if◌then◌else◌, List, [], ◌∷◌, length, take, arith, Option, Some, None, Result, Ok, Err, subst, sym}
 use Rattle.std.specs.Option.{ok_or}
 use Rattle.std.specs.Str.{is_utf8}
 use Rattle.keycard_rules.specs.Results.{◌>>=◌}
 use Rattle.hotel_nights.specs.{Days.read_day, Guests.is_guest, Kinds.read_kind, Moments.read_moment}
-use Rattle.hotel_asks.specs.{Asks.ask_of, Asks.link_in, Asks.card_note_of, Names.names_of, Values.IsReading, Values.guest_in, declared.asks.Ask.Ask}
+use Rattle.hotel_asks.specs.{Asks.ask_of, Asks.link_in, Asks.card_note_of, Names.names_of, Values.IsReading, Values.guest_in, Values.slash_in, Values.fit_after, Values.lock_in, declared.asks.Ask.Ask}
 use Rattle.keycard_rules.specs.Numerals.{number_up_to, read_code}
-use Rattle.hotel_asks.specs.declared.values.ValueName.TheVariants.{Day, Kind, Arrive, Nights, Guest, Room, Party, Card, Count, Old, New, From, To, Moment}
+use Rattle.hotel_asks.specs.declared.values.ValueName.TheVariants.{Day, Kind, Arrive, Nights, Guest, Room, Lock, Party, Card, Count, Old, New, From, To, Moment}
 use Rattle.hotel_asks.specs.{declared.values.AskFault.AskFault, declared.values.AskFault.TheVariants.Values, declared.values.ValueFault.ValueFault}
 use Rattle.hotel_asks.specs.{declared.values.ValueFault.TheVariants.Number, declared.values.ValueFault.TheVariants.Value, declared.values.ValueName.ValueName}
 use Rattle.hotel_asks.specs.declared.verbs.Verb.{Verb}
@@ -63,12 +63,15 @@ first o name f rest = after (ok_or o (Value name)) f (one_read o name) rest
 guest_numbered : (text : List ℕ) → IsNumbered (guest_in text)
 guest_numbered text = either (is_utf8 text && is_guest text) (Ok text) (Err (Value Guest)) tt tt
 
+lock_numbered : (text : List ℕ) → IsNumbered (lock_in text)
+lock_numbered text = first (number_up_to 9999 (take (slash_in text) text)) Lock _ (λ r. first (fit_after text (slash_in text)) Lock _ (λ f. tt))
+
 link_numbered : (old new : List ℕ) → IsNumbered (link_in old new)
 link_numbered old new = first (read_code old) Old _ (λ o. first (read_code new) New _ (λ n. tt))
 
-note_numbered : (room count card old new moment : List ℕ) → IsNumbered (card_note_of room count card old new moment)
-note_numbered room count card old new moment =
-    first (number_up_to 9999 room) Room _ (λ r. first (number_up_to 9999999 count) Count _ (λ k. first (number_up_to 9999999 card) Card _ (λ n. after (link_in old new) _ (link_numbered old new) (λ l. first (read_moment moment) Moment _ (λ m. tt)))))
+note_numbered : (lock count card old new moment : List ℕ) → IsNumbered (card_note_of lock count card old new moment)
+note_numbered lock count card old new moment =
+    after (lock_in lock) _ (lock_numbered lock) (λ r. first (number_up_to 9999999 count) Count _ (λ k. first (number_up_to 9999999 card) Card _ (λ n. after (link_in old new) _ (link_numbered old new) (λ l. first (read_moment moment) Moment _ (λ m. tt)))))
 
 abbrev Asks : Verb → List (List ℕ) → Type 0
 Asks verb values = IsNumbered (ask_of verb values)
@@ -88,7 +91,7 @@ numbered CheckOut values n = one_texts (Asks CheckOut) (λ a. first (number_up_t
 numbered NextDay values n = no_texts (Asks NextDay) tt values n
 numbered Entered values n = six_texts (Asks Entered) (λ a b c d e f. after (card_note_of a b c d e f) _ (note_numbered a b c d e f) (λ m. tt)) values n
 numbered Left values n = six_texts (Asks Left) (λ a b c d e f. after (card_note_of a b c d e f) _ (note_numbered a b c d e f) (λ m. tt)) values n
-numbered Recoded values n = five_texts (Asks Recoded) (λ a b c d e. first (number_up_to 9999 a) Room _ (λ r. first (number_up_to 9999999 b) Count _ (λ k. first (read_code c) From _ (λ f. first (read_code d) To _ (λ t. first (read_moment e) Moment _ (λ m. tt)))))) values n
+numbered Recoded values n = five_texts (Asks Recoded) (λ a b c d e. after (lock_in a) _ (lock_numbered a) (λ r. first (number_up_to 9999999 b) Count _ (λ k. first (read_code c) From _ (λ f. first (read_code d) To _ (λ t. first (read_moment e) Moment _ (λ m. tt)))))) values n
 numbered Arrivals values n = one_texts (Asks Arrivals) (λ a. first (read_day a) Day _ (λ x. tt)) values n
 numbered InHouse values n = no_texts (Asks InHouse) tt values n
 numbered ChainOf values n = one_texts (Asks ChainOf) (λ a. first (number_up_to 9999 a) Room _ (λ x. tt)) values n

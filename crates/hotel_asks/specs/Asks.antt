@@ -5,13 +5,13 @@ use Rattle.keycard_rules.specs.{declared.card.Link.Link, declared.note.Act.Act}
 use Rattle.keycard_rules.specs.declared.note.Act.TheVariants as act
 use Rattle.hotel_core.specs.declared.command.Command.{Command}
 use Rattle.hotel_core.specs.declared.command.Command.TheVariants as command
-use Rattle.hotel_asks.specs.{declared.asks.Ask.Ask, declared.notes.CardNote.CardNote, declared.values.ValueFault.ValueFault, declared.values.ValueFault.TheVariants.Number}
+use Rattle.hotel_asks.specs.{declared.asks.Ask.Ask, declared.notes.CardNote.CardNote, declared.values.Lock.Lock, declared.values.ValueFault.ValueFault, declared.values.ValueFault.TheVariants.Number}
 use Rattle.hotel_asks.specs.declared.asks.Ask.TheVariants as ask
 use Rattle.hotel_asks.specs.declared.lists.ListAsk.TheVariants as list
 use Rattle.hotel_asks.specs.declared.values.ValueName.TheVariants.{Day, Arrive, Old, New, From, To}
 use Rattle.hotel_asks.specs.declared.verbs.Verb.{Verb}
 use Rattle.hotel_asks.specs.declared.verbs.Verb.TheVariants.{Begin, AddKind, AddRoom, Reserve, Cancel, CheckIn, Spare, Reissue, Transfer, CheckOut, NextDay, Entered, Left, Recoded, Arrivals, InHouse, ChainOf, LeftBehind, AuditOf}
-use Rattle.hotel_asks.specs.Values.{day_in, code_in, kind_in, nights_in, guest_in, room_in, party_in, card_in, count_in, moment_in}
+use Rattle.hotel_asks.specs.Values.{day_in, code_in, kind_in, nights_in, guest_in, room_in, lock_in, party_in, card_in, count_in, moment_in}
 
 -- A verb without values.
 abbrev pub of_none : Verb → Result Ask ValueFault
@@ -77,20 +77,20 @@ of_four Reserve kind arrive nights guest = do
   Ok (ask.Command (command.Reserve g k a n))
 of_four _ kind arrive nights guest = Err Number
 
--- The report of a note of a room's lock: the note's count, what happened, and the day and second of it.
-abbrev pub report_of : ℕ → ℕ → Act → ℕ × ℕ → Ask
-report_of room count what at = ask.Command (command.Reported (record { room = room; count = count; act = what; day = at.0; second = at.1 }))
+-- The report of a lock's note: the note's count, what happened, and the day and second of it.
+abbrev pub report_of : Lock → ℕ → Act → ℕ × ℕ → Ask
+report_of lock count what at = ask.Command (command.Reported (record { room = lock.room; fit = lock.fit; count = count; act = what; day = at.0; second = at.1 }))
 
 -- A verb with five values.
 abbrev pub of_five : Verb → List ℕ → List ℕ → List ℕ → List ℕ → List ℕ → Result Ask ValueFault
-of_five Recoded room count from to moment = do
-  r ← room_in room
+of_five Recoded lock count from to moment = do
+  l ← lock_in lock
   c ← count_in count
   f ← code_in From from
   t ← code_in To to
   m ← moment_in moment
-  Ok (report_of r c (act.Recoded f t) m)
-of_five _ room count from to moment = Err Number
+  Ok (report_of l c (act.Recoded f t) m)
+of_five _ lock count from to moment = Err Number
 
 -- A link of an old and a new code.
 abbrev pub link_in : List ℕ → List ℕ → Result Link ValueFault
@@ -101,23 +101,23 @@ link_in old new = do
 
 -- What a lock notes of a card that was shown to it.
 abbrev pub card_note_of : List ℕ → List ℕ → List ℕ → List ℕ → List ℕ → List ℕ → Result CardNote ValueFault
-card_note_of room count card old new moment = do
-  r ← room_in room
+card_note_of lock count card old new moment = do
+  k ← lock_in lock
   c ← count_in count
   n ← card_in card
   l ← link_in old new
   m ← moment_in moment
-  Ok (record { room = r; count = c; card = n; link = l; at = m })
+  Ok (record { lock = k; count = c; card = n; link = l; at = m })
 
 -- A verb with six values.
 abbrev pub of_six : Verb → List ℕ → List ℕ → List ℕ → List ℕ → List ℕ → List ℕ → Result Ask ValueFault
-of_six Entered room count card old new moment = do
-  n ← card_note_of room count card old new moment
-  Ok (report_of n.room n.count (act.Entered n.card n.link) n.at)
-of_six Left room count card old new moment = do
-  n ← card_note_of room count card old new moment
-  Ok (report_of n.room n.count (act.Left n.card n.link) n.at)
-of_six _ room count card old new moment = Err Number
+of_six Entered lock count card old new moment = do
+  n ← card_note_of lock count card old new moment
+  Ok (report_of n.lock n.count (act.Entered n.card n.link) n.at)
+of_six Left lock count card old new moment = do
+  n ← card_note_of lock count card old new moment
+  Ok (report_of n.lock n.count (act.Left n.card n.link) n.at)
+of_six _ lock count card old new moment = Err Number
 
 -- What a verb and the texts of its values ask for.
 abbrev pub ask_of : Verb → List (List ℕ) → Result Ask ValueFault
@@ -125,8 +125,8 @@ ask_of verb [] = of_none verb
 ask_of verb (value ∷ []) = of_one verb value
 ask_of verb (first ∷ second ∷ []) = of_two verb first second
 ask_of verb (kind ∷ arrive ∷ nights ∷ guest ∷ []) = of_four verb kind arrive nights guest
-ask_of verb (room ∷ count ∷ from ∷ to ∷ moment ∷ []) = of_five verb room count from to moment
-ask_of verb (room ∷ count ∷ card ∷ old ∷ new ∷ moment ∷ []) = of_six verb room count card old new moment
+ask_of verb (lock ∷ count ∷ from ∷ to ∷ moment ∷ []) = of_five verb lock count from to moment
+ask_of verb (lock ∷ count ∷ card ∷ old ∷ new ∷ moment ∷ []) = of_six verb lock count card old new moment
 ask_of verb _ = Err Number
 
 -- the command copies its guest's name

@@ -1,7 +1,7 @@
 -- The words of verbs, and the names of their values, as users read them.
 use Rattle.std.specs.Prelude.{ℕ, List, [], ◌∷◌, codes}
 use Rattle.hotel_asks.specs.{declared.values.ValueName.ValueName, declared.verbs.Verb.Verb}
-use Rattle.hotel_asks.specs.declared.values.ValueName.TheVariants.{Day, Kind, Arrive, Nights, Guest, Room, Party, Card, Count, Old, New, From, To, Moment, File, Port}
+use Rattle.hotel_asks.specs.declared.values.ValueName.TheVariants.{Day, Kind, Arrive, Nights, Guest, Room, Lock, Party, Card, Count, Old, New, From, To, Moment, File, Port}
 use Rattle.hotel_asks.specs.declared.verbs.Verb.TheVariants as verb
 
 -- The name of a value, in capital letters.
@@ -12,6 +12,7 @@ name_text Arrive = codes "ARRIVE"
 name_text Nights = codes "NIGHTS"
 name_text Guest = codes "GUEST"
 name_text Room = codes "ROOM"
+name_text Lock = codes "LOCK"
 name_text Party = codes "PARTY"
 name_text Card = codes "CARD"
 name_text Count = codes "COUNT"
@@ -58,9 +59,9 @@ names_of verb.Reissue = Party ∷ []
 names_of verb.Transfer = Party ∷ Room ∷ []
 names_of verb.CheckOut = Party ∷ []
 names_of verb.NextDay = []
-names_of verb.Entered = Room ∷ Count ∷ Card ∷ Old ∷ New ∷ Moment ∷ []
-names_of verb.Left = Room ∷ Count ∷ Card ∷ Old ∷ New ∷ Moment ∷ []
-names_of verb.Recoded = Room ∷ Count ∷ From ∷ To ∷ Moment ∷ []
+names_of verb.Entered = Lock ∷ Count ∷ Card ∷ Old ∷ New ∷ Moment ∷ []
+names_of verb.Left = Lock ∷ Count ∷ Card ∷ Old ∷ New ∷ Moment ∷ []
+names_of verb.Recoded = Lock ∷ Count ∷ From ∷ To ∷ Moment ∷ []
 names_of verb.Arrivals = Day ∷ []
 names_of verb.InHouse = []
 names_of verb.ChainOf = Room ∷ []

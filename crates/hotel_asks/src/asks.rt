@@ -8,7 +8,7 @@ use crate::lists::ListAsk;
 use crate::notes::{read_card_note, report_of};
 use crate::values::{
     AskFault, ValueFault, ValueName, read_code, read_count, read_day, read_guest, read_kind,
-    read_moment, read_nights, read_party, read_room,
+    read_lock, read_moment, read_nights, read_party, read_room,
 };
 use crate::verbs::Verb;
 use hotel_core::Command;
@@ -109,22 +109,22 @@ fn read_four(
 /// What a verb with five values asks for.
 fn read_five(
     verb: Verb,
-    room: &[u8],
+    lock: &[u8],
     count: &[u8],
     from: &[u8],
     to: &[u8],
     moment: &[u8],
 ) -> Result<Ask, AskFault>
-    ensures { IsReading ask_copies (of_five verb room.now count.now from.now to.now moment.now) result }
+    ensures { IsReading ask_copies (of_five verb lock.now count.now from.now to.now moment.now) result }
 {
     match verb {
         Verb::Recoded => {
-            let room = read_room(room)?;
+            let lock = read_lock(lock)?;
             let count = read_count(count)?;
             let from = read_code(ValueName::From, from)?;
             let to = read_code(ValueName::To, to)?;
             let at = read_moment(moment)?;
-            Ok(report_of(room, count, Act::Recoded { from, to }, at))
+            Ok(report_of(lock, count, Act::Recoded { from, to }, at))
         }
         _ => Err(AskFault::Values(ValueFault::Number)),
     }
@@ -133,25 +133,25 @@ fn read_five(
 /// What a verb with six values asks for.
 fn read_six(
     verb: Verb,
-    room: &[u8],
+    lock: &[u8],
     count: &[u8],
     card: &[u8],
     old: &[u8],
     new: &[u8],
     moment: &[u8],
 ) -> Result<Ask, AskFault>
-    ensures { IsReading ask_copies (of_six verb room.now count.now card.now old.now new.now moment.now) result }
+    ensures { IsReading ask_copies (of_six verb lock.now count.now card.now old.now new.now moment.now) result }
 {
     match verb {
         Verb::Entered => {
-            let note = read_card_note(room, count, card, old, new, moment)?;
+            let note = read_card_note(lock, count, card, old, new, moment)?;
             let (card, link) = (note.card, note.link);
-            Ok(report_of(note.room, note.count, Act::Entered { card, link }, note.at))
+            Ok(report_of(note.lock, note.count, Act::Entered { card, link }, note.at))
         }
         Verb::Left => {
-            let note = read_card_note(room, count, card, old, new, moment)?;
+            let note = read_card_note(lock, count, card, old, new, moment)?;
             let (card, link) = (note.card, note.link);
-            Ok(report_of(note.room, note.count, Act::Left { card, link }, note.at))
+            Ok(report_of(note.lock, note.count, Act::Left { card, link }, note.at))
         }
         _ => Err(AskFault::Values(ValueFault::Number)),
     }
@@ -166,9 +166,9 @@ fn read_values(alloc: Global, verb: Verb, values: &[&[u8]]) -> Result<Ask, AskFa
         [first, second] => read_two(verb, first, second),
         [_, _, _] => Err(AskFault::Values(ValueFault::Number)),
         [kind, arrive, nights, guest] => read_four(alloc, verb, kind, arrive, nights, guest),
-        [room, count, from, to, moment] => read_five(verb, room, count, from, to, moment),
-        [room, count, card, old, new, moment] => {
-            read_six(verb, room, count, card, old, new, moment)
+        [lock, count, from, to, moment] => read_five(verb, lock, count, from, to, moment),
+        [lock, count, card, old, new, moment] => {
+            read_six(verb, lock, count, card, old, new, moment)
         }
         _ => Err(AskFault::Values(ValueFault::Number)),
     }

@@ -13,7 +13,7 @@ pub use asks::{Ask, read_ask};
 pub use listings::write_list;
 pub use lists::ListAsk;
 pub use values::{
-    AskFault, ValueFault, ValueName, read_card, read_code, read_count, read_day, read_guest,
-    read_kind, read_moment, read_nights, read_party, read_room,
+    AskFault, Lock, ValueFault, ValueName, read_card, read_code, read_count, read_day, read_guest,
+    read_kind, read_lock, read_moment, read_nights, read_party, read_room,
 };
 pub use verbs::{Verb, read_verb};

@@ -5,16 +5,16 @@ ghost use Rattle.hotel_asks.specs.Asks.{report_of, link_in, card_note_of};
 
 use crate::asks::Ask;
 use crate::values::{
-    ValueFault, ValueName, read_card, read_code, read_count, read_moment, read_room,
+    Lock, ValueFault, ValueName, read_card, read_code, read_count, read_lock, read_moment,
 };
 use hotel_core::Command;
 use hotel_nights::Moment;
-use keycard_rules::{Act, CardNo, Count, Link, LockNote, RoomNo};
+use keycard_rules::{Act, CardNo, Count, Link, LockNote};
 
 /// What a lock notes of a card that was shown to it.
 #[derive(Clone, Copy, Debug)]
 pub struct CardNote {
-    pub room: RoomNo,
+    pub lock: Lock,
     pub count: Count,
     pub card: CardNo,
     pub link: Link,
@@ -22,10 +22,11 @@ pub struct CardNote {
 }
 
 /// The report of a lock's note.
-pub fn report_of(room: RoomNo, count: Count, act: Act, at: Moment) -> Ask
-    ensures { result ≡ report_of room count act at }
+pub fn report_of(lock: Lock, count: Count, act: Act, at: Moment) -> Ask
+    ensures { result ≡ report_of lock count act at }
 {
-    match LockNote::new(room, count, act, at.day().number(), at.second()) {
+    let day = at.day().number();
+    match LockNote::new(lock.room, lock.fit, count, act, day, at.second()) {
         Some(note) => Ask::Command(Command::Reported(note)),
         None => unreachable!(),
     }
@@ -41,22 +42,22 @@ fn read_link(old: &[u8], new: &[u8]) -> Result<Link, ValueFault>
 
 /// Reads what a lock noted of a card.
 pub fn read_card_note(
-    room: &[u8],
+    lock: &[u8],
     count: &[u8],
     card: &[u8],
     old: &[u8],
     new: &[u8],
     moment: &[u8],
 ) -> Result<CardNote, ValueFault>
-    ensures { result ≡ card_note_of room.now count.now card.now old.now new.now moment.now }
+    ensures { result ≡ card_note_of lock.now count.now card.now old.now new.now moment.now }
 {
-    let room = read_room(room)?;
+    let lock = read_lock(lock)?;
     let count = read_count(count)?;
     let card = read_card(card)?;
     let link = read_link(old, new)?;
     let at = read_moment(moment)?;
     Ok(CardNote {
-        room,
+        lock,
         count,
         card,
         link,

@@ -1,11 +1,11 @@
 //! The values of verbs: each read from a text, or refused by its name.
 
-ghost use Rattle.std.specs.Prelude.{◌≡◌, true};
+ghost use Rattle.std.specs.Prelude.{◌≡◌, ◌≤◌, true, length};
 ghost use Rattle.hotel_asks.specs.{Names.name_text, declared.values.AskFault.TheVariants.Values};
-ghost use Rattle.hotel_asks.specs.Values.{day_in, code_in, kind_in, nights_in, guest_in, room_in, party_in, card_in, count_in, moment_in, IsReading};
+ghost use Rattle.hotel_asks.specs.Values.{day_in, code_in, kind_in, nights_in, guest_in, room_in, slash_in, fit_after, lock_in, party_in, card_in, count_in, moment_in, IsReading};
 
 use hotel_nights::{Day, Guest, GuestFault, KindCode, Moment, Nights};
-use keycard_rules::{CardNo, Code, Count, PartyNo, RoomNo};
+use keycard_rules::{CardNo, Code, Count, FitNo, PartyNo, RoomNo};
 use std::alloc::Global;
 
 /// The names of the values of verbs, and of those that the program takes beside them.
@@ -17,6 +17,7 @@ pub enum ValueName {
     Nights,
     Guest,
     Room,
+    Lock,
     Party,
     Card,
     Count,
@@ -41,6 +42,7 @@ impl ValueName {
             ValueName::Nights => "NIGHTS",
             ValueName::Guest => "GUEST",
             ValueName::Room => "ROOM",
+            ValueName::Lock => "LOCK",
             ValueName::Party => "PARTY",
             ValueName::Card => "CARD",
             ValueName::Count => "COUNT",
@@ -53,6 +55,13 @@ impl ValueName {
             ValueName::Port => "PORT",
         }
     }
+}
+
+/// A lock: its room, and which of the room's locks it is.
+#[derive(Clone, Copy, Debug, PartialEq, Eq)]
+pub struct Lock {
+    pub room: RoomNo,
+    pub fit: FitNo,
 }
 
 /// Why the texts are no values of a verb.
@@ -113,6 +122,42 @@ pub fn read_room(text: &[u8]) -> Result<RoomNo, ValueFault>
     ensures { result ≡ room_in text.now }
 {
     RoomNo::read(text).ok_or(ValueFault::Value(ValueName::Room))
+}
+
+/// Where the text's first slash is, or the text's length where there is none.
+#[tactic(auto, unfolding(crate::specs::Values::slash_in))]
+fn slash_in(text: &[u8]) -> usize
+    ensures value { result ≡ slash_in text.now }
+    ensures within { result ≤ length text.now }
+{
+    for (i, byte) in text.iter().enumerate() {
+        if *byte == b'/' {
+            return i;
+        }
+    }
+    text.len()
+}
+
+/// The number of a lock after the slash at this place, or the first one where the text ends there.
+fn fit_after(text: &[u8], slash: usize) -> Option<FitNo>
+    requires { slash ≤ length text.now }
+    ensures { result ≡ fit_after text.now slash }
+{
+    if slash == text.len() {
+        return FitNo::new(1);
+    }
+    FitNo::read(&text[slash + 1..])
+}
+
+/// Reads a lock: a room's number, or that, a slash and the number of the room's lock, 1 to 99. Without a slash it is the
+/// room's first lock. What isn't read is refused as `ValueName::Lock`.
+pub fn read_lock(text: &[u8]) -> Result<Lock, ValueFault>
+    ensures { result ≡ lock_in text.now }
+{
+    let slash = slash_in(text);
+    let room = RoomNo::read(&text[..slash]).ok_or(ValueFault::Value(ValueName::Lock))?;
+    let fit = fit_after(text, slash).ok_or(ValueFault::Value(ValueName::Lock))?;
+    Ok(Lock { room, fit })
 }
 
 /// Reads a party's number, 1 to 9,999,999.

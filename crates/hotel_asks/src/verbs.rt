@@ -76,14 +76,14 @@ impl Verb {
                 ValueName::Guest,
             ],
             Verb::Recoded => &[
-                ValueName::Room,
+                ValueName::Lock,
                 ValueName::Count,
                 ValueName::From,
                 ValueName::To,
                 ValueName::Moment,
             ],
             Verb::Entered | Verb::Left => &[
-                ValueName::Room,
+                ValueName::Lock,
                 ValueName::Count,
                 ValueName::Card,
                 ValueName::Old,

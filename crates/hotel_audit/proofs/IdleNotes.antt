@@ -1,10 +1,10 @@
 -- Notes that would not be taken, and that they stay so.
 use Rattle.std.proofs.Common.{◌≡◌, ◌∙◌, ◌<◌, ◌≤◌, ℕ, zero, suc, Bool, true, false, List, [], ◌∷◌, ◌++◌, Some, None, inl, inr, length, drop, refl, ap, sym, subst, arith, length-append, ◌==◌, ◌+◌, ◌-◌}
-use Rattle.hotel_core.proofs.Names.{Stream, words, Note, answer_to, reported, is_begun, is_room, Event, note_of, History, ◌▷◌, notes, same_note, standing_among, with_note, Outcome, grown, needs, Runs, StepsIf, and_last, when}
+use Rattle.hotel_core.proofs.Names.{Stream, words, Note, answer_to, reported, is_begun, is_room, Event, note_of, History, ◌▷◌, notes, same_note, standing_among, with_note, Outcome, grown, needs, bars, Runs, StepsIf, and_last, when}
 use Rattle.keycard_rules.specs.declared.note.Act.{Act}
 use Rattle.keycard_rules.specs.declared.note.Act.TheVariants as act
 use Rattle.hotel_core.specs.declared.command.Command.TheVariants as command
-use Rattle.hotel_core.specs.{declared.reply.Reply.Reply, declared.reply.Refusal.TheVariants.NotBegun, declared.reply.Refusal.TheVariants.NoRoom}
+use Rattle.hotel_core.specs.{declared.reply.Reply.Reply, declared.reply.Refusal.TheVariants.NotBegun, declared.reply.Refusal.TheVariants.NoRoom, declared.reply.Refusal.TheVariants.NoFit, Model.Cases.is_later_fit}
 use Rattle.hotel_core.specs.declared.reply.Reply.TheVariants as reply
 use Rattle.hotel_core.proofs.OfTables.Tests.{eq_from, eq_self}
 use Rattle.hotel_audit.specs.{declared.answer.LineAnswer.LineAnswer, declared.line.Line.Line, FilesCounted.event_by, FilesCounted.event_of}
@@ -67,7 +67,7 @@ idle_below : (h : History) (note : Note) → note.count - 1 < length (notes h no
 unfolding answer_to
 idle_below h note l =
     let among = standing_among (length (notes h note.room)) note (drop (note.count - 1) (notes h note.room)) in
-    (idle_checked (needs (is_begun h) NotBegun ∷ needs (is_room h note.room) NoRoom ∷ []) (reported h note among) (below (note.count - 1) (length (notes h note.room)) h note (notes h note.room) l)).0
+    (idle_checked (needs (is_begun h) NotBegun ∷ needs (is_room h note.room) NoRoom ∷ bars (is_later_fit h note.room note.fit) NoFit ∷ []) (reported h note among) (below (note.count - 1) (length (notes h note.room)) h note (notes h note.room) l)).0
 
 noted_by : (note : Note) (what : Act) → what ≡ note.act → note_of (event_by note what) ≡ Some note
 noted_by note (act.Entered number link) w = ap (λ a. Some (record note { act = a })) w

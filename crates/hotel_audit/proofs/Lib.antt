@@ -1,3 +1,4 @@
+mod FieldsAt
 mod Records
 mod NoteReplies
 mod LineAnswers

@@ -1,13 +1,13 @@
 -- A note is taken as the next one of its room, or nothing happens.
 use Rattle.std.proofs.Common.{◌≡◌, ℕ, Bool, true, false, List, [], ◌∷◌, Option, Some, None, ◌⊎◌, inl, inr, length, drop, refl, ap, ◌==◌, ◌+◌, ◌-◌, if◌then◌else◌}
-use Rattle.hotel_core.proofs.Names.{Note, answer_to, told, reported, is_begun, is_card, is_room, has_link, opens, Event, inside, History, awaited, Copy, Conflicting, Next, After, notes, same_note, standing_among, Outcome, accepted, needs, unless, is_one_of}
+use Rattle.hotel_core.proofs.Names.{Note, answer_to, told, reported, is_begun, is_card, is_room, has_link, opens, Event, inside, History, awaited, Copy, Conflicting, Next, After, notes, same_note, standing_among, Outcome, accepted, needs, bars, unless, is_one_of}
 use Rattle.std.proofs.lemmas.Bool.{eqb-true}
 use Rattle.keycard_rules.specs.declared.note.Act.{Act}
 use Rattle.keycard_rules.specs.declared.note.Act.TheVariants as act
 use Rattle.hotel_core.specs.declared.command.Command.TheVariants as command
 use Rattle.hotel_core.specs.declared.reply.Reply.TheVariants as reply
-use Rattle.hotel_core.specs.{declared.reply.Refusal.Refusal, Model.Cases.holds}
-use Rattle.hotel_core.specs.declared.reply.Refusal.TheVariants.{NotBegun, NoRoom, NoCard, CardDiffers, LockShut, NotInside, HeldDiffers, NotAwaited}
+use Rattle.hotel_core.specs.{declared.reply.Refusal.Refusal, Model.Cases.holds, Model.Cases.is_later_fit}
+use Rattle.hotel_core.specs.declared.reply.Refusal.TheVariants.{NotBegun, NoRoom, NoFit, NoCard, CardDiffers, LockShut, NotInside, HeldDiffers, NotAwaited}
 use Rattle.hotel_audit.specs.FilesCounted.{event_by, event_of}
 
 -- the note is taken
@@ -68,7 +68,7 @@ unfolding answer_to
 note_outcome h ahead note =
     let taken = length (notes h note.room) in
     let later = drop (note.count - 1) (notes h note.room) in
-    checked taken note (needs (is_begun h) NotBegun ∷ needs (is_room h note.room) NoRoom ∷ []) (reported h note (standing_among taken note later)) (by_standing h taken note later)
+    checked taken note (needs (is_begun h) NotBegun ∷ needs (is_room h note.room) NoRoom ∷ bars (is_later_fit h note.room note.fit) NoFit ∷ []) (reported h note (standing_among taken note later)) (by_standing h taken note later)
 
 -- the words of the source play no part
 pub same_words : (h : History) (ahead : List ℕ) (note : Note) → answer_to h ahead (command.Reported note) ≡ answer_to h [] (command.Reported note)

@@ -10,12 +10,12 @@ use Rattle.hotel_nights.specs.Days.{Ymd, day_of_date, is_date, is_in_range, numb
 use Rattle.hotel_nights.specs.Moments.{read_moment, read_time}
 use Rattle.hotel_nights.proofs.DayLemmas.{count-high, first_count}
 use Rattle.hotel_core.specs.declared.command.Command.TheVariants as command
-use Rattle.hotel_core.specs.Model.Ranges.{IsCount}
-use Rattle.hotel_audit.specs.{declared.audit_file.AuditFault.TheVariants.TooLarge, declared.audit_file.AuditFault.TheVariants.WrongHeader, declared.line.Cause.Cause}
-use Rattle.hotel_audit.specs.declared.line.Cause.TheVariants.{BadRoom, BadCount, BadOld, BadNew, BadMoment}
-use Rattle.hotel_audit.specs.{declared.line.Happening.Happening, declared.line.Line.Line, AuditFile.audit_lines, AuditFile.file_records, AuditFile.lines_of}
+use Rattle.hotel_core.specs.Model.Ranges.{IsCount, IsFit}
+use Rattle.hotel_audit.specs.{declared.audit_file.AuditFault.TheVariants.TooLarge, declared.line.Cause.Cause, declared.header.Columns.Columns}
+use Rattle.hotel_audit.specs.declared.line.Cause.TheVariants.{BadRoom, BadFit, BadCount, BadOld, BadNew, BadMoment}
+use Rattle.hotel_audit.specs.{declared.line.Happening.Happening, declared.line.Line.Line, AuditFile.audit_lines, AuditFile.file_records, AuditFile.lines_of, AuditFile.lines_under}
 use Rattle.hotel_audit.specs.declared.line.Line.TheVariants as line
-use Rattle.hotel_audit.specs.{Fields.FieldTexts, Fields.seven_fields, Header.is_header, Import.commands_of}
+use Rattle.hotel_audit.specs.{Fields.FieldTexts, Fields.fields_under, Header.columns_of, Import.commands_of}
 use Rattle.keycard_rules.specs.Results.{◌>>=◌}
 use Rattle.hotel_audit.specs.Line.{act_of, happening, line_of, line_with, read_line}
 
@@ -99,45 +99,46 @@ abbrev pub IsLineInRange : Line → Type 0
 IsLineInRange (line.Note note) = IsCommand (command.Reported note)
 IsLineInRange (line.Unread cause) = Unit {0}
 
--- the line of seven values, where they were read
-abbrev line_by : Option ℕ → Option ℕ → Result Happening Cause → Option ℕ → Option ℕ → Option (ℕ × ℕ) → Line
-line_by room count what old new moment =
+-- the line of the values, where they were read
+abbrev line_by : Option ℕ → Option ℕ → Option ℕ → Result Happening Cause → Option ℕ → Option ℕ → Option (ℕ × ℕ) → Line
+line_by room fit count what old new moment =
     line_of (do
       r ← ok_or room BadRoom
+      f ← ok_or fit BadFit
       c ← ok_or count BadCount
       w ← what
       o ← ok_or old BadOld
       n ← ok_or new BadNew
       m ← ok_or moment BadMoment
-      Ok (record { room = r; count = c; act = act_of w (record { old_code = o; new_code = n }); day = m.0; second = m.1 }))
+      Ok (record { room = r; fit = f; count = c; act = act_of w (record { old_code = o; new_code = n }); day = m.0; second = m.1 }))
 
-line_ranges : (room count : Option ℕ) (what : Result Happening Cause) (old new : Option ℕ) (moment : Option (ℕ × ℕ)) → ((c : ℕ) → count ≡ Some c → IsCount c) → ((m : ℕ × ℕ) → moment ≡ Some m → IsTimed m.0 m.1)
-    → IsLineInRange (line_by room count what old new moment)
-line_ranges (Some r) (Some c) (Ok w) (Some o) (Some n) (Some m) f g = (f c refl, g m refl)
-line_ranges _ _ _ _ _ _ f g = tt
+line_ranges : (room fit count : Option ℕ) (what : Result Happening Cause) (old new : Option ℕ) (moment : Option (ℕ × ℕ)) → ((x : ℕ) → fit ≡ Some x → IsFit x) → ((c : ℕ) → count ≡ Some c → IsCount c) → ((m : ℕ × ℕ) → moment ≡ Some m → IsTimed m.0 m.1)
+    → IsLineInRange (line_by room fit count what old new moment)
+line_ranges (Some r) (Some x) (Some c) (Ok w) (Some o) (Some n) (Some m) e f g = (f c refl, g m refl, e x refl)
+line_ranges _ _ _ _ _ _ _ e f g = tt
 
 fields_in_range : (fields : Option FieldTexts) → IsLineInRange (line_with fields)
 fields_in_range None = tt
 fields_in_range (Some fields) =
-    line_ranges (number_up_to 9999 fields.room) (number_up_to 9999999 fields.count) (happening fields.kind fields.card) (read_code fields.old_code) (read_code fields.new_code) (read_moment fields.moment)
-    (number_in_range 9999999 fields.count) (moment_in_range fields.moment)
+    line_ranges (number_up_to 9999 fields.room) (number_up_to 99 fields.fit) (number_up_to 9999999 fields.count) (happening fields.kind fields.card) (read_code fields.old_code) (read_code fields.new_code) (read_moment fields.moment)
+    (number_in_range 99 fields.fit) (number_in_range 9999999 fields.count) (moment_in_range fields.moment)
 
 -- the notes of the lines have their values in range
 abbrev pub AreInRange : List Line → Type 0
 AreInRange [] = Unit {0}
 AreInRange (l ∷ lines) = IsLineInRange l × AreInRange lines
 
-all_read : (rows : List (List (List ℕ))) → AreInRange (map read_line rows)
-all_read [] = tt
-all_read (row ∷ rows) = (fields_in_range (seven_fields row), all_read rows)
+all_read : (columns : Columns) (rows : List (List (List ℕ))) → AreInRange (map (read_line columns) rows)
+all_read columns [] = tt
+all_read columns (row ∷ rows) = (fields_in_range (fields_under columns row), all_read columns rows)
 
-header_by : (b : Bool) (rows : List (List (List ℕ))) (lines : List Line) → (if b then Ok (map read_line rows) else Err WrongHeader) ≡ Ok lines → AreInRange lines
-header_by true rows lines e = let same : map read_line rows ≡ lines = cc e in subst AreInRange same (all_read rows)
-header_by false rows lines e = cc e
+header_by : (columns : Option Columns) (rows : List (List (List ℕ))) (lines : List Line) → lines_under columns rows ≡ Ok lines → AreInRange lines
+header_by (Some columns) rows lines e = let same : map (read_line columns) rows ≡ lines = cc e in subst AreInRange same (all_read columns rows)
+header_by None rows lines e = cc e
 
 rows_by : (rows : List (List (List ℕ))) (lines : List Line) → lines_of rows ≡ Ok lines → AreInRange lines
 rows_by [] lines e = cc e
-rows_by (first ∷ later) lines e = header_by (is_header first) later lines e
+rows_by (first ∷ later) lines e = header_by (columns_of first) later lines e
 
 file_by : (b : Bool) (rows : List (List (List ℕ))) (lines : List Line) → (if b then Err TooLarge else lines_of rows) ≡ Ok lines → AreInRange lines
 file_by true rows lines e = cc e

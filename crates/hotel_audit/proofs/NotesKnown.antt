@@ -1,14 +1,14 @@
 -- A note that was taken stays so, and is seen when it comes again.
 use Rattle.std.proofs.Common.{◌≡◌, ℕ, zero, suc, Bool, true, false, List, [], ◌∷◌, ◌++◌, Option, Some, None, length, drop, sym, refl, subst, ap, arith, eq-eqb, ◌==◌, ◌+◌, ◌-◌, is_some, option_map, if◌then◌else◌}
-use Rattle.hotel_core.proofs.Names.{Stream, Note, words, answer_to, moment_of, told, reported, is_begun, is_card, is_room, has_link, opens, inside, awaited, Event, Begun, NextDay, Install, note_of, History, ◌▷◌, Copy, Conflicting, Next, After, notes, with_note, same_note, same_link, standing, standing_among, Outcome, accepted, grown, needs, said, unless, Runs, Steps, StepsIf, is_failed, day, and_last, is_one_of, when}
+use Rattle.hotel_core.proofs.Names.{Stream, Note, words, answer_to, moment_of, told, reported, is_begun, is_card, is_room, has_link, opens, inside, awaited, Event, Begun, NextDay, Install, note_of, History, ◌▷◌, Copy, Conflicting, Next, After, notes, with_note, same_note, same_link, standing, standing_among, Outcome, accepted, grown, needs, bars, said, unless, Runs, Steps, StepsIf, is_failed, day, and_last, is_one_of, when}
 use Rattle.std.proofs.lemmas.Bool.{eqb-true}
 use Rattle.std.proofs.Math.Seq.{drop-append_seam}
 use Rattle.keycard_rules.specs.{declared.card.Link.Link, declared.note.Act.Act}
 use Rattle.keycard_rules.specs.declared.note.Act.TheVariants as act
-use Rattle.hotel_core.specs.{declared.command.Command.Command, declared.reply.Reply.Reply, declared.reply.Refusal.Refusal, Model.Cases.holds, Model.Notes.same_act}
+use Rattle.hotel_core.specs.{declared.command.Command.Command, declared.reply.Reply.Reply, declared.reply.Refusal.Refusal, Model.Cases.holds, Model.Cases.is_later_fit, Model.Notes.same_act}
 use Rattle.hotel_core.specs.declared.command.Command.TheVariants as command
 use Rattle.hotel_core.specs.declared.reply.Reply.TheVariants as reply
-use Rattle.hotel_core.specs.declared.reply.Refusal.TheVariants.{NotBegun, NoRoom, NoCard, CardDiffers, LockShut, NotInside, HeldDiffers, NotAwaited}
+use Rattle.hotel_core.specs.declared.reply.Refusal.TheVariants.{NotBegun, NoRoom, NoFit, NoCard, CardDiffers, LockShut, NotInside, HeldDiffers, NotAwaited}
 use Rattle.hotel_core.specs.Model.Event as event
 use Rattle.hotel_core.proofs.Invariants.HomeRooms.{not_added}
 
@@ -17,10 +17,11 @@ abbrev pub BeginsWith : List Note → Note → Type 0
 BeginsWith [] note = ⊥
 BeginsWith (kept ∷ more) note = same_note kept note ≡ true
 
--- a business day is set, the room is there, and the note was taken
+-- a business day is set, the room is there and has had the note's lock, and the note was taken
 pub record Knows (h : History) (note : Note) : Type 0 where
   pub begun : is_begun h ≡ true
   pub room : is_room h note.room ≡ true
+  pub fit : is_later_fit h note.room note.fit ≡ false
   pub kept : BeginsWith (drop (note.count - 1) (notes h note.room)) note
 
 begun_more : (h : History) (e : Event) → is_begun h ≡ true → is_begun (h ▷ e) ≡ true
@@ -58,6 +59,7 @@ knows_more : (h : History) (e : Event) (note : Note) → Knows h note → Knows 
 knows_more h e note k = record {
   begun = begun_more h e k.begun;
   room = room_more h e note.room k.room;
+  fit = k.fit;
   kept = kept_more (note_of e) note.room (note.count - 1) (notes h note.room) note k.kept;
 }
 
@@ -80,7 +82,7 @@ knows_along h h' s s' (c ∷ commands) [] note r k = absurd r
 -- a note that was taken is answered Seen
 pub known_seen : (h : History) (ahead : List ℕ) (note : Note) → Knows h note → answer_to h ahead (command.Reported note) ≡ said reply.Seen
 unfolding answer_to
-known_seen h ahead note k = rw (k.begun, k.room) (by (drop (note.count - 1) (notes h note.room)) k.kept)
+known_seen h ahead note k = rw (k.begun, k.room, k.fit) (by (drop (note.count - 1) (notes h note.room)) k.kept)
   where
     by : (xs : List Note) → BeginsWith xs note → reported h note (standing_among (length (notes h note.room)) note xs) ≡ said reply.Seen
     by [] b = absurd b
@@ -96,7 +98,7 @@ same_act_itself (act.Recoded from to) = rw (eq-eqb from from refl, eq-eqb to to 
 
 same_note_itself : (n : Note) → same_note n n ≡ true
 same_note_itself n =
-    rw (eq-eqb n.room n.room refl, eq-eqb n.count n.count refl, same_act_itself n.act, eq-eqb n.day n.day refl, eq-eqb n.second n.second refl) refl
+    rw (eq-eqb n.room n.room refl, eq-eqb n.fit n.fit refl, eq-eqb n.count n.count refl, same_act_itself n.act, eq-eqb n.day n.day refl, eq-eqb n.second n.second refl) refl
 
 -- the next note of a room is its last one afterwards
 next_kept : (note : Note) (taken : List Note) → note.count ≡ length taken + 1 → BeginsWith (drop (note.count - 1) (with_note note.room (Some note) taken)) note
@@ -104,10 +106,11 @@ next_kept note taken next =
     let at : note.count - 1 ≡ length taken = omega arith in
     rw (at, eq-eqb note.room note.room refl, drop-append_seam taken (note ∷ [])) (same_note_itself note)
 
-knows_next : (h : History) (e : Event) (note : Note) → note_of e ≡ Some note → is_begun h ≡ true → is_room h note.room ≡ true → note.count ≡ length (notes h note.room) + 1 → Knows (h ▷ e) note
-knows_next h e note of begun room next = record {
+knows_next : (h : History) (e : Event) (note : Note) → note_of e ≡ Some note → is_begun h ≡ true → is_room h note.room ≡ true → is_later_fit h note.room note.fit ≡ false → note.count ≡ length (notes h note.room) + 1 → Knows (h ▷ e) note
+knows_next h e note of begun room fit next = record {
   begun = begun_more h e begun;
   room = room_more h e note.room room;
+  fit = fit;
   kept = rw of (next_kept note (notes h note.room) next);
 }
 
@@ -123,40 +126,42 @@ unless_taken [] o p e t = e
 unless_taken (Some why ∷ checks) o p e t = absurd (rw e at t)
 unless_taken (None ∷ checks) o p e t = unless_taken checks o p e t
 
-needs_taken : (begun room : Bool) (o : Outcome Event) → IsTaken (unless (needs begun NotBegun ∷ needs room NoRoom ∷ []) o).reply → (begun ≡ true) × (room ≡ true) × IsTaken o.reply
-needs_taken true true o t = (refl, refl, t)
-needs_taken true false o t = absurd t
-needs_taken false room o t = absurd t
+needs_taken : (begun room later : Bool) (o : Outcome Event) → IsTaken (unless (needs begun NotBegun ∷ needs room NoRoom ∷ bars later NoFit ∷ []) o).reply
+    → (begun ≡ true) × (room ≡ true) × (later ≡ false) × IsTaken o.reply
+needs_taken true true false o t = (refl, refl, refl, t)
+needs_taken true true true o t = absurd t
+needs_taken true false later o t = absurd t
+needs_taken false room later o t = absurd t
 
-knows_told : (h : History) (note : Note) (what : Act) (o : Outcome Event) → what ≡ note.act → is_begun h ≡ true → is_room h note.room ≡ true → note.count ≡ length (notes h note.room) + 1
+knows_told : (h : History) (note : Note) (what : Act) (o : Outcome Event) → what ≡ note.act → is_begun h ≡ true → is_room h note.room ≡ true → is_later_fit h note.room note.fit ≡ false → note.count ≡ length (notes h note.room) + 1
     → o ≡ told h note what → IsTaken o.reply → Knows (grown h o.happens) note
-knows_told h note (act.Entered number link) o w begun room next e t =
-    let ev = event.Entered note.room note.count number link (moment_of note) in
+knows_told h note (act.Entered number link) o w begun room fit next e t =
+    let ev = event.Entered note.room note.fit note.count number link (moment_of note) in
     let same = unless_taken (needs (is_card h number) NoCard ∷ needs (has_link h number link) CardDiffers ∷ needs (opens h note.room link) LockShut ∷ []) (accepted reply.Taken ev) o e t in
-    rw same (knows_next h ev note (ap (λ a. Some (record note { act = a })) w) begun room next)
-knows_told h note (act.Left number link) o w begun room next e t =
-    let ev = event.Left note.room note.count number link (moment_of note) in
+    rw same (knows_next h ev note (ap (λ a. Some (record note { act = a })) w) begun room fit next)
+knows_told h note (act.Left number link) o w begun room fit next e t =
+    let ev = event.Left note.room note.fit note.count number link (moment_of note) in
     let same = unless_taken (needs (is_card h number) NoCard ∷ needs (has_link h number link) CardDiffers ∷ needs (is_one_of number (inside h note.room)) NotInside ∷ []) (accepted reply.Taken ev) o e t in
-    rw same (knows_next h ev note (ap (λ a. Some (record note { act = a })) w) begun room next)
-knows_told h note (act.Recoded from to) o w begun room next e t =
-    let ev = event.Recoded note.room note.count from to (moment_of note) in
+    rw same (knows_next h ev note (ap (λ a. Some (record note { act = a })) w) begun room fit next)
+knows_told h note (act.Recoded from to) o w begun room fit next e t =
+    let ev = event.Recoded note.room note.fit note.count from to (moment_of note) in
     let same = unless_taken (needs (holds h note.room from) HeldDiffers ∷ needs (is_one_of to (awaited h note.room)) NotAwaited ∷ []) (accepted reply.Taken ev) o e t in
-    rw same (knows_next h ev note (ap (λ a. Some (record note { act = a })) w) begun room next)
+    rw same (knows_next h ev note (ap (λ a. Some (record note { act = a })) w) begun room fit next)
 
-knows_reported : (h : History) (note : Note) (o : Outcome Event) → is_begun h ≡ true → is_room h note.room ≡ true → o ≡ reported h note (standing h note) → IsTaken o.reply → Knows (grown h o.happens) note
-knows_reported h note o begun room e t = by (drop (note.count - 1) (notes h note.room)) refl
+knows_reported : (h : History) (note : Note) (o : Outcome Event) → is_begun h ≡ true → is_room h note.room ≡ true → is_later_fit h note.room note.fit ≡ false → o ≡ reported h note (standing h note) → IsTaken o.reply → Knows (grown h o.happens) note
+knows_reported h note o begun room fit e t = by (drop (note.count - 1) (notes h note.room)) refl
   where
     taken : ℕ
     taken = length (notes h note.room)
 
     seen : (b : Bool) (kept : Note) (more : List Note) → drop (note.count - 1) (notes h note.room) ≡ kept ∷ more → same_note kept note ≡ b → o ≡ reported h note (if b then Copy else Conflicting) → Knows (grown h o.happens) note
     seen true kept more d q f =
-        let k : Knows h note = record { begun = begun; room = room; kept = rw d q } in
+        let k : Knows h note = record { begun = begun; room = room; fit = fit; kept = rw d q } in
         rw f k
     seen false kept more d q f = absurd (rw f at t)
 
     next : (b : Bool) → (note.count == taken + 1) ≡ b → o ≡ reported h note (if b then Next else After (taken + 1)) → Knows (grown h o.happens) note
-    next true q f = knows_told h note note.act o refl begun room (eqb-true note.count (taken + 1) q) f t
+    next true q f = knows_told h note note.act o refl begun room fit (eqb-true note.count (taken + 1) q) f t
     next false q f = absurd (rw f at t)
 
     by : (xs : List Note) → drop (note.count - 1) (notes h note.room) ≡ xs → Knows (grown h o.happens) note
@@ -167,8 +172,8 @@ knows_reported h note o begun room e t = by (drop (note.count - 1) (notes h note
 knows_answered : (h : History) (ahead : List ℕ) (note : Note) → IsTaken (answer_to h ahead (command.Reported note)).reply → Knows (grown h (answer_to h ahead (command.Reported note)).happens) note
 unfolding answer_to
 knows_answered h ahead note t =
-    let checked = needs_taken (is_begun h) (is_room h note.room) (reported h note (standing h note)) t in
-    rw (checked.0, checked.1) (knows_reported h note (reported h note (standing h note)) checked.0 checked.1 refl checked.2)
+    let checked = needs_taken (is_begun h) (is_room h note.room) (is_later_fit h note.room note.fit) (reported h note (standing h note)) t in
+    rw (checked.0, checked.1, checked.2) (knows_reported h note (reported h note (standing h note)) checked.0 checked.1 checked.2 refl checked.3)
 
 pub knows_step : (h : History) (s : Stream) (note : Note) (given : Reply) (h' : History) (s' : Stream) → IsTaken given → Steps h s (command.Reported note) given h' s' → Knows h' note
 knows_step h s note reply.Taken h' s' t d = subst (λ z. Knows z note) (sym d.1) (knows_answered h (words 64 s) note (subst (λ r. IsTaken r) d.0 tt))

@@ -5,12 +5,13 @@ use Rattle.hotel_core.specs.declared.reply.Reply.TheVariants as reply
 use Rattle.hotel_core.specs.Texts.{reply_text}
 use Rattle.hotel_audit.specs.{declared.answer.LineAnswer.LineAnswer, declared.line.Cause.Cause}
 use Rattle.hotel_audit.specs.declared.answer.LineAnswer.TheVariants.{Taken, Seen, Unread, Refused}
-use Rattle.hotel_audit.specs.declared.line.Cause.TheVariants.{FieldCount, BadRoom, BadCount, BadKind, BadCard, BadOld, BadNew, BadMoment}
+use Rattle.hotel_audit.specs.declared.line.Cause.TheVariants.{FieldCount, BadRoom, BadFit, BadCount, BadKind, BadCard, BadOld, BadNew, BadMoment}
 
 -- the name of a cause
 abbrev pub cause_name : Cause → List ℕ
 cause_name FieldCount = codes "FieldCount"
 cause_name BadRoom = codes "BadRoom"
+cause_name BadFit = codes "BadFit"
 cause_name BadCount = codes "BadCount"
 cause_name BadKind = codes "BadKind"
 cause_name BadCard = codes "BadCard"

@@ -15,9 +15,9 @@ use Rattle.hotel_audit.specs.SentAgain.{LinesLead}
 
 -- what happened by a note with this act
 abbrev pub event_by : Note → Act → Event
-event_by note (act.Entered number link) = Entered note.room note.count number link (moment_of note)
-event_by note (act.Left number link) = Left note.room note.count number link (moment_of note)
-event_by note (act.Recoded from to) = Recoded note.room note.count from to (moment_of note)
+event_by note (act.Entered number link) = Entered note.room note.fit note.count number link (moment_of note)
+event_by note (act.Left number link) = Left note.room note.fit note.count number link (moment_of note)
+event_by note (act.Recoded from to) = Recoded note.room note.fit note.count from to (moment_of note)
 
 -- the event of a note that is taken
 abbrev pub event_of : Note → Event

@@ -7,10 +7,10 @@ use Rattle.keycard_rules.specs.declared.note.Act.TheVariants.{Entered, Left, Rec
 use Rattle.keycard_rules.specs.Results.{◌>>=◌}
 use Rattle.hotel_nights.specs.Moments.{read_moment}
 use Rattle.hotel_audit.specs.{declared.line.Cause.Cause, declared.line.Happening.Happening}
-use Rattle.hotel_audit.specs.declared.line.Cause.TheVariants.{FieldCount, BadRoom, BadCount, BadKind, BadCard, BadOld, BadNew, BadMoment}
+use Rattle.hotel_audit.specs.declared.line.Cause.TheVariants.{FieldCount, BadRoom, BadFit, BadCount, BadKind, BadCard, BadOld, BadNew, BadMoment}
 use Rattle.hotel_audit.specs.{declared.line.Happening.TheVariants.In, declared.line.Happening.TheVariants.Out, declared.line.Happening.TheVariants.Recode, declared.line.Line.Line}
 use Rattle.hotel_audit.specs.declared.line.Line.TheVariants as line
-use Rattle.hotel_audit.specs.Fields.{FieldTexts, seven_fields}
+use Rattle.hotel_audit.specs.{declared.header.Columns.Columns, Fields.FieldTexts, Fields.fields_under}
 
 -- the number of a card
 abbrev pub card_in : List ℕ → Result ℕ Cause
@@ -34,27 +34,28 @@ act_of (In card) link = Entered card link
 act_of (Out card) link = Left card link
 act_of Recode link = Recoded link.old_code link.new_code
 
--- the note of seven fields, each read in its turn
+-- the note of the fields, each read in its turn
 abbrev pub note_of : FieldTexts → Result Note Cause
 note_of fields = do
   room ← ok_or (number_up_to 9999 fields.room) BadRoom
+  fit ← ok_or (number_up_to 99 fields.fit) BadFit
   count ← ok_or (number_up_to 9999999 fields.count) BadCount
   what ← happening fields.kind fields.card
   old ← ok_or (read_code fields.old_code) BadOld
   new ← ok_or (read_code fields.new_code) BadNew
   moment ← ok_or (read_moment fields.moment) BadMoment
-  Ok (record { room = room; count = count; act = act_of what (record { old_code = old; new_code = new }); day = moment.0; second = moment.1 })
+  Ok (record { room = room; fit = fit; count = count; act = act_of what (record { old_code = old; new_code = new }); day = moment.0; second = moment.1 })
 
 -- the line of what was read
 abbrev pub line_of : Result Note Cause → Line
 line_of (Ok note) = line.Note note
 line_of (Err cause) = line.Unread cause
 
--- the line of the fields, where there are seven
+-- the line of the fields, where there are as many as columns
 abbrev pub line_with : Option FieldTexts → Line
 line_with None = line.Unread FieldCount
 line_with (Some fields) = line_of (note_of fields)
 
--- the line that a record is
-abbrev pub read_line : List (List ℕ) → Line
-read_line record_fields = line_with (seven_fields record_fields)
+-- the line that a record under these columns is
+abbrev pub read_line : Columns → List (List ℕ) → Line
+read_line columns record_fields = line_with (fields_under columns record_fields)

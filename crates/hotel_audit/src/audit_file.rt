@@ -4,7 +4,7 @@ ghost use Rattle.std.specs.Prelude.{◌≡◌, ◌≢◌, ◌↔◌, ◌<◌, �
 ghost use Rattle.csv.specs.Records.{fields_of};
 ghost use Rattle.hotel_audit.specs.AuditFile.{audit_lines, file_records};
 
-use crate::header::is_header;
+use crate::header::columns_of;
 use crate::line::{Line, read_line};
 use csv::{ByteRecord, Error, ReaderBuilder};
 use std::alloc::Global;
@@ -41,8 +41,9 @@ fn read_records(alloc: Global, bytes: &[u8]) -> Result<Vec<ByteRecord>, Error>
     Ok(rows)
 }
 
-/// Reads an audit file: at most 262,144 bytes of CSV, whose first record is `room,count,kind,card,old,new,at`. The
-/// lines are the records after it, in order. A byte order mark at the start is dropped.
+/// Reads an audit file: at most 262,144 bytes of CSV. Its first record is `room,fit,count,kind,card,old,new,at`, or the
+/// same without `fit`, where each note is of its room's first lock. The lines are the records after it, in order. A byte
+/// order mark at the start is dropped.
 pub fn read_notes(alloc: Global, bytes: &[u8]) -> Result<Vec<Line>, AuditFault>
     ensures lines { IfOk result (λ v. audit_lines bytes.now ≡ Ok v.items) }
     ensures fault { IfErr result (λ e. e ≢ AuditFault.Memory → audit_lines bytes.now ≡ Err e) }
@@ -57,12 +58,12 @@ pub fn read_notes(alloc: Global, bytes: &[u8]) -> Result<Vec<Line>, AuditFault>
     let Some((first, later)) = rows.as_slice().split_first() else {
         return Err(AuditFault::NoHeader);
     };
-    if !is_header(first) {
+    let Some(columns) = columns_of(first) else {
         return Err(AuditFault::WrongHeader);
-    }
+    };
     let mut lines = Vec::new(alloc);
     for row in later {
-        if lines.push(read_line(row)).is_err() {
+        if lines.push(read_line(row, columns)).is_err() {
             return Err(AuditFault::Memory);
         }
     }

@@ -1,15 +1,17 @@
-//! The seven fields of an audit file's record.
+//! The fields of an audit file's record.
 
 ghost use Rattle.std.specs.Prelude.{◌≡◌, List, ℕ, option_map};
 ghost use Rattle.csv.specs.Records.{fields_of};
-ghost use Rattle.hotel_audit.specs.Fields.{seven_fields};
+ghost use Rattle.hotel_audit.specs.Fields.{eight_fields, fields_under, seven_fields, texts_of};
 
+use crate::header::Columns;
 use csv::ByteRecord;
 
-/// The fields of a record that has seven, each as its bytes.
+/// The fields of a record, each as its bytes.
 #[derive(Clone, Copy)]
 pub(crate) struct Fields<'a> {
     pub room: &'a [u8],
+    pub fit: &'a [u8],
     pub count: &'a [u8],
     pub kind: &'a [u8],
     pub card: &'a [u8],
@@ -18,15 +20,35 @@ pub(crate) struct Fields<'a> {
     pub moment: &'a [u8],
 }
 
-/// The fields of a record; None where they aren't seven.
-pub(crate) fn fields_of_record(row: &ByteRecord) -> Option<Fields<'_>>
-    ensures { option_map (λ f. record { room = f.room.now; count = f.count.now; kind = f.kind.now; card = f.card.now; old_code = f.old_code.now; new_code = f.new_code.now; moment = f.moment.now }) result ≡ seven_fields (fields_of row.now) }
+/// The fields of a record; None where they aren't eight.
+pub(crate) fn eight_fields(row: &ByteRecord) -> Option<Fields<'_>>
+    ensures { option_map texts_of result ≡ eight_fields (fields_of row.now) }
+{
+    if row.len() != 8 {
+        return None;
+    }
+    Some(Fields {
+        room: row.get(0)?,
+        fit: row.get(1)?,
+        count: row.get(2)?,
+        kind: row.get(3)?,
+        card: row.get(4)?,
+        old_code: row.get(5)?,
+        new_code: row.get(6)?,
+        moment: row.get(7)?,
+    })
+}
+
+/// The fields of a record, of the room's first lock; None where they aren't seven.
+pub(crate) fn seven_fields(row: &ByteRecord) -> Option<Fields<'_>>
+    ensures { option_map texts_of result ≡ seven_fields (fields_of row.now) }
 {
     if row.len() != 7 {
         return None;
     }
     Some(Fields {
         room: row.get(0)?,
+        fit: b"1".as_slice(),
         count: row.get(1)?,
         kind: row.get(2)?,
         card: row.get(3)?,
@@ -34,4 +56,14 @@ pub(crate) fn fields_of_record(row: &ByteRecord) -> Option<Fields<'_>>
         new_code: row.get(5)?,
         moment: row.get(6)?,
     })
+}
+
+/// The fields of a record; None where they aren't as many as the columns.
+pub(crate) fn fields_of_record(row: &ByteRecord, columns: Columns) -> Option<Fields<'_>>
+    ensures { option_map texts_of result ≡ fields_under columns (fields_of row.now) }
+{
+    match columns {
+        Columns::WithFit => eight_fields(row),
+        Columns::WithoutFit => seven_fields(row),
+    }
 }

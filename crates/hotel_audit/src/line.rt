@@ -2,20 +2,23 @@
 
 ghost use Rattle.std.specs.Prelude.{◌≡◌, map, option_map};
 ghost use Rattle.csv.specs.Records.{fields_of};
-ghost use Rattle.hotel_audit.specs.Line.{act_of, card_in, happening, note_of, read_line};
+ghost use Rattle.hotel_audit.specs.{Fields.texts_of, Line.act_of, Line.card_in, Line.happening, Line.note_of, Line.read_line};
 
 use crate::fields::{Fields, fields_of_record};
+use crate::header::Columns;
 use csv::ByteRecord;
 use hotel_nights::Moment;
-use keycard_rules::{Act, CardNo, Code, Count, Link, LockNote, RoomNo};
+use keycard_rules::{Act, CardNo, Code, Count, FitNo, Link, LockNote, RoomNo};
 
 /// Why a line can't be read: the first of these that is so.
 #[derive(Clone, Copy, Debug, PartialEq, Eq)]
 pub enum Cause {
-    /// It hasn't seven fields.
+    /// It hasn't as many fields as the header.
     FieldCount,
     /// The room isn't a number from 1 to 9,999.
     BadRoom,
+    /// The number of the room's lock isn't one from 1 to 99.
+    BadFit,
     /// The count isn't a number from 1 to 9,999,999.
     BadCount,
     /// The kind isn't `in`, `out` or `recode`.
@@ -83,23 +86,25 @@ fn act_of(happening: Happening, link: Link) -> Act
 }
 
 fn read_note(fields: &Fields) -> Result<LockNote, Cause>
-    ensures { result ≡ note_of (record { room = fields.now.room.now; count = fields.now.count.now; kind = fields.now.kind.now; card = fields.now.card.now; old_code = fields.now.old_code.now; new_code = fields.now.new_code.now; moment = fields.now.moment.now }) }
+    ensures { result ≡ note_of (texts_of fields.now) }
 {
     let room = RoomNo::read(fields.room).ok_or(Cause::BadRoom)?;
+    let fit = FitNo::read(fields.fit).ok_or(Cause::BadFit)?;
     let count = Count::read(fields.count).ok_or(Cause::BadCount)?;
     let happening = read_happening(fields.kind, fields.card)?;
     let old_code = Code::read(fields.old_code).ok_or(Cause::BadOld)?;
     let new_code = Code::read(fields.new_code).ok_or(Cause::BadNew)?;
     let moment = Moment::read(fields.moment).ok_or(Cause::BadMoment)?;
     let act = act_of(happening, Link { old_code, new_code });
-    LockNote::new(room, count, act, moment.day().number(), moment.second()).ok_or(Cause::BadMoment)
+    let day = moment.day().number();
+    LockNote::new(room, fit, count, act, day, moment.second()).ok_or(Cause::BadMoment)
 }
 
 /// Reads one record after the header.
-pub(crate) fn read_line(row: &ByteRecord) -> Line
-    ensures { result ≡ read_line (fields_of row.now) }
+pub(crate) fn read_line(row: &ByteRecord, columns: Columns) -> Line
+    ensures { result ≡ read_line columns (fields_of row.now) }
 {
-    let Some(fields) = fields_of_record(row) else {
+    let Some(fields) = fields_of_record(row, columns) else {
         return Line::Unread(Cause::FieldCount);
     };
     match read_note(&fields) {

@@ -26,6 +26,7 @@ const fn cause_name(cause: Cause) -> &'static [u8]
     match cause {
         Cause::FieldCount => b"FieldCount",
         Cause::BadRoom => b"BadRoom",
+        Cause::BadFit => b"BadFit",
         Cause::BadCount => b"BadCount",
         Cause::BadKind => b"BadKind",
         Cause::BadCard => b"BadCard",

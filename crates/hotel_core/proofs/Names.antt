@@ -36,7 +36,7 @@ pub use Rattle.hotel_core.specs.Refinement.CardsOnRows.{HasLink, bars_to_check_i
 pub use Rattle.hotel_core.specs.Refinement.Lift.{Lifts, as_change}
 pub use Rattle.hotel_core.specs.Refinement.ListsOnRows.{arrivals_on, arrives_on, audit_on, awaited_on, behind_row_on, chain_on, chain_row_on, house_row_on, housed, in_house_on, left_behind_on, state_at}
 pub use Rattle.hotel_core.specs.Refinement.NotesOnRows.{IsUntaken, opened_on}
-pub use Rattle.hotel_core.specs.Refinement.OnRows.{checks_on, effect_on, has_link_on, held_on, home_link_on, home_on, is_awaited_on, kinds_agree_on, link_on, lock_place_on, own_room_on, place_on, reported_on, room_is_on, said_code_at, secured_after_on, secured_on, told_on}
+pub use Rattle.hotel_core.specs.Refinement.OnRows.{checks_on, effect_on, has_link_on, held_on, home_link_on, home_on, is_awaited_on, is_later_fit_on, kinds_agree_on, link_on, lock_place_on, own_room_on, place_on, reported_on, room_is_on, said_code_at, secured_after_on, secured_on, told_on}
 unfoldable pub use Rattle.hotel_core.specs.Refinement.OnRows.{outcome_on}
 pub use Rattle.hotel_core.specs.Refinement.StepOnRows.{AreWhole, Goes, GoesIf, StepsAs, made_by}
 pub use Rattle.hotel_core.specs.Stops.{EndsAs, Stopping, StopsEither}
@@ -46,7 +46,7 @@ pub use Rattle.hotel_core.specs.declared.books.rows.CodeRow.{CodeRow}
 pub use Rattle.hotel_core.specs.declared.books.rows.RoomRow.{RoomRow}
 pub use Rattle.hotel_core.specs.declared.command.Command.{Command}
 pub use Rattle.hotel_core.specs.declared.reply.Refusal.{Refusal}
-pub use Rattle.hotel_core.specs.declared.reply.Refusal.TheVariants.{AlreadyBegun, CardDiffers, Conflict, Gap, HeldDiffers, KindExists, KindFull, LastDay, LockShut, Memory, NoCard, NoFreshCode, NoKind, NoParty, NoRoom, NotAwaited, NotBegun, NotBooked, NotInHouse, NotInside, NumbersUsedUp, RoomExists, RoomTaken, SameRoom, Store, WrongKind}
+pub use Rattle.hotel_core.specs.declared.reply.Refusal.TheVariants.{AlreadyBegun, CardDiffers, Conflict, Gap, HeldDiffers, KindExists, KindFull, LastDay, LockShut, Memory, NoCard, NoFit, NoFreshCode, NoKind, NoParty, NoRoom, NotAwaited, NotBegun, NotBooked, NotInHouse, NotInside, NumbersUsedUp, RoomExists, RoomTaken, SameRoom, Store, WrongKind}
 pub use Rattle.hotel_core.specs.declared.reply.Reply.{Reply}
 pub use Rattle.hotel_core.specs.declared.reply.Reply.TheVariants.{Refused}
 pub use Rattle.hotel_nights.specs.Block.{one_if}

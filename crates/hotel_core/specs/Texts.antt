@@ -39,6 +39,9 @@ refusal_name refusal.HeldDiffers = codes "27 HeldDiffers"
 refusal_name refusal.NotAwaited = codes "28 NotAwaited"
 refusal_name refusal.Memory = codes "29 Memory"
 refusal_name refusal.Store = codes "30 Store"
+refusal_name refusal.OldFit = codes "31 OldFit"
+refusal_name refusal.NoFit = codes "32 NoFit"
+refusal_name refusal.FitsUsedUp = codes "33 FitsUsedUp"
 
 -- what a refusal says beyond its name: the first full night, or the count that was expected
 abbrev pub refusal_detail : Refusal → List ℕ

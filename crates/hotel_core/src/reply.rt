@@ -83,4 +83,10 @@ pub enum Refusal {
     Memory,
     /// A call of the store failed.
     Store,
+    /// The note is of an earlier lock of the room, and its count isn't among that lock's notes.
+    OldFit,
+    /// The note is of a later lock than the room's.
+    NoFit,
+    /// The room is at its 99th lock.
+    FitsUsedUp,
 }

@@ -89,6 +89,9 @@ const fn name_of(refusal: &Refusal) -> &'static [u8]
         Refusal::NotAwaited => b"28 NotAwaited",
         Refusal::Memory => b"29 Memory",
         Refusal::Store => b"30 Store",
+        Refusal::OldFit => b"31 OldFit",
+        Refusal::NoFit => b"32 NoFit",
+        Refusal::FitsUsedUp => b"33 FitsUsedUp",
     }
 }
 

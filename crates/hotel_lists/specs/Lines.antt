@@ -52,7 +52,7 @@ act_fields (Recoded from to) = codes "recode" ∷ [] ∷ code_text from ∷ code
 
 -- a note
 abbrev pub note_line : Note → List ℕ
-note_line note = line_of (decimal note.room ∷ decimal note.count ∷ act_fields note.act ++ moment_text (moment_of note) ∷ [])
+note_line note = line_of (decimal note.room ∷ decimal note.fit ∷ decimal note.count ∷ act_fields note.act ++ moment_text (moment_of note) ∷ [])
 
 -- the first line of each list
 abbrev pub arrivals_header : List ℕ
@@ -68,7 +68,7 @@ abbrev pub left_behind_header : List ℕ
 left_behind_header = codes "room,held,current,awaited\n"
 
 abbrev pub audit_header : List ℕ
-audit_header = codes "room,count,kind,card,old,new,at\n"
+audit_header = codes "room,fit,count,kind,card,old,new,at\n"
 
 -- A writer stopped at a line: it took a front of it where the write failed, and nothing of it otherwise.
 abbrev pub StopsBy : Bool → Option (List ℕ) → Option (List ℕ) → List ℕ → Type 0

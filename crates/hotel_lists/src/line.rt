@@ -126,15 +126,17 @@ fn note_fields(
     old: Code,
     new: Code,
 ) -> Result<(), Memory>
-    ensures { OnOk result (lines.new ≡ lines.old ++ line_of (decimal note.now.room ∷ decimal note.now.count ∷ kind.now ∷ card.now ∷ code_text old ∷ code_text new ∷ moment_text (note.now.day, note.now.second) ∷ [])) }
+    ensures { OnOk result (lines.new ≡ lines.old ++ line_of (decimal note.now.room ∷ decimal note.now.fit ∷ decimal note.now.count ∷ kind.now ∷ card.now ∷ code_text old ∷ code_text new ∷ moment_text (note.now.day, note.now.second) ∷ [])) }
 {
     let mut room = itoa::Buffer::new();
+    let mut fit = itoa::Buffer::new();
     let mut count = itoa::Buffer::new();
     let old = old.print();
     let new = new.print();
     let at = moment_of(note).print();
     lines.push(&[
         room.format(note.room().value()).as_bytes(),
+        fit.format(note.fit().value()).as_bytes(),
         count.format(note.count().value()).as_bytes(),
         kind,
         card,

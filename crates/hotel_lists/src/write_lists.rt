@@ -27,7 +27,7 @@ const CHAIN: &[u8] = b"place,code,state\n";
 
 const BEHIND: &[u8] = b"room,held,current,awaited\n";
 
-const AUDIT: &[u8] = b"room,count,kind,card,old,new,at\n";
+const AUDIT: &[u8] = b"room,fit,count,kind,card,old,new,at\n";
 
 /// Whether the room is there, or why no list of it is written.
 fn find_room<B: Walks>(books: &mut B, room: RoomNo) -> Result<(), ListFault>

@@ -12,6 +12,7 @@ pub mod EndOfCalendarLastDay
 pub mod FirstRun
 pub mod KindFull
 pub mod LateAudit
+pub mod LaterLock
 pub mod LeftBehindRecoded
 pub mod LostCard
 pub mod NextGuest

@@ -1,4 +1,4 @@
-//! The worked scenarios, computed on the model: their replies, lists and tables, and what the headline says after each event.
+//! The worked scenarios, computed on the model: replies, lists and tables, and the headline after each event.
 ghost use Rattle.hotel_program.specs.Scenes.FirstRun as scene_first_run;
 ghost use Rattle.hotel_program.specs.Scenes.TwoEntries as scene_two_entries;
 ghost use Rattle.hotel_program.specs.Scenes.NextGuest as scene_next_guest;
@@ -9,6 +9,7 @@ ghost use Rattle.hotel_program.specs.Scenes.NoFreshCode as scene_no_fresh_code;
 ghost use Rattle.hotel_program.specs.Scenes.NoFreshCodeTwice as scene_no_fresh_code_twice;
 ghost use Rattle.hotel_program.specs.Scenes.SpareKeepsRoomOpen as scene_spare_keeps_room_open;
 ghost use Rattle.hotel_program.specs.Scenes.LostCard as scene_lost_card;
+ghost use Rattle.hotel_program.specs.Scenes.LaterLock as scene_later_lock;
 ghost use Rattle.hotel_program.specs.Scenes.AuditTwice as scene_audit_twice;
 ghost use Rattle.hotel_program.specs.Scenes.AuditGapConflict as scene_audit_gap_conflict;
 ghost use Rattle.hotel_program.specs.Scenes.LateAudit as scene_late_audit;
@@ -33,6 +34,7 @@ pub fn scenarios()
     ensures no_fresh_code_twice { scene_no_fresh_code_twice.TheScene }
     ensures spare_keeps_room_open { scene_spare_keeps_room_open.TheScene }
     ensures lost_card { scene_lost_card.TheScene }
+    ensures later_lock { scene_later_lock.TheScene }
     ensures audit_twice { scene_audit_twice.TheScene }
     ensures audit_gap_conflict { scene_audit_gap_conflict.TheScene }
     ensures late_audit { scene_late_audit.TheScene }

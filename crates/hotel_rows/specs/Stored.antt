@@ -76,10 +76,11 @@ act_of n card first second =
     else if n == 1 then act.Left card (record { old_code = first; new_code = second })
     else act.Recoded first second
 
--- a note
+-- a note: it has no column for its lock, which is the room's first
 abbrev pub note_row : PlainNote → Note
 note_row plain = record {
   room = number_of plain.room;
+  fit = 1;
   count = number_of plain.n;
   act = act_of (number_of plain.act) (said_of plain.card no_number number_of) (number_of plain.first_code) (number_of plain.second_code);
   day = number_of plain.day;

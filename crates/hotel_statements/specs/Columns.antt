@@ -169,9 +169,11 @@ act_second (Recoded from to) = to
 abbrev pub note_columns : Row → Row
 note_columns r = column r 1 ∷ column r 2 ∷ column r 3 ∷ column r 4 ∷ column r 5 ∷ column r 6 ∷ column r 7 ∷ column r 8 ∷ []
 
+-- it has no column for its lock, which is the room's first
 abbrev pub note_row_of : Row → Note
 note_row_of v = record {
   room = number_of (column v 0);
+  fit = 1;
   count = number_of (column v 1);
   act = act_of (number_of (column v 2)) (option_of (column v 3)) (number_of (column v 4)) (number_of (column v 5));
   day = number_of (column v 6);

@@ -1,5 +1,5 @@
 -- The statements of one transaction, each a step of it, and the change that they make together.
-use Rattle.std.specs.Prelude.{ℕ, ◌≡◌, Bool, false, List, Option, Some, Result, Ok, OnOk, IsTrue}
+use Rattle.std.specs.Prelude.{ℕ, ◌≡◌, Bool, false, List, Option, Some, None, Result, Ok, OnOk, IsTrue}
 use Rattle.std.specs.Ordering.{nat_cmp}
 use Rattle.std.specs.Cmp.Lexicographic.{slice_cmp}
 use Rattle.std.specs.BTreeMap.{insert_entry, is_at}
@@ -14,6 +14,7 @@ use Rattle.hotel_core.specs.declared.books.rows.RoomRow.{RoomRow}
 use Rattle.hotel_core.specs.declared.books.rows.CodeRow.{CodeRow}
 use Rattle.hotel_core.specs.Model.Words.{pair_cmp}
 use Rattle.hotel_core.specs.Model.Stays.{in_state}
+use Rattle.hotel_core.specs.Books.Lookups.{note_at}
 use Rattle.hotel_core.specs.Books.Change.{room_changed, without_party, freed_by}
 use Rattle.sqlite.specs.Tree.{Trees}
 use Rattle.sqlite.specs.Order.{Row}
@@ -84,6 +85,10 @@ card_added card rows = record rows { cards = insert_entry nat_cmp rows.cards car
 
 abbrev pub inside_added : ℕ → ℕ → Rows → Rows
 inside_added room number rows = record rows { inside = insert_key pair_cmp rows.inside (room, number) }
+
+-- a note of a room's first lock, of a count that isn't there: a note has no column for its lock
+abbrev pub IsNewNote : Note → Rows → Type 0
+IsNewNote note rows = (note_at rows note.room note.count ≡ None) × (note.fit ≡ 1)
 
 abbrev pub note_added : Note → Rows → Rows
 note_added note rows = record rows { notes = insert_entry pair_cmp rows.notes (note.room, note.count) note }

@@ -9,7 +9,7 @@ pub(crate) mod list_rows;
 
 use hotel_core::{CodeRow, RoomRow};
 use hotel_nights::{Day, Guest, GuestFault, KindCode, Stay, StayState};
-use keycard_rules::{Act, Card, Code, Link, LockNote, LookFault, Number};
+use keycard_rules::{Act, Card, Code, FitNo, Link, LockNote, LookFault, Number};
 use sqlite::{Error, ErrorCode, Row};
 use std::alloc::Global;
 
@@ -261,6 +261,13 @@ impl FromRow for Card {
     }
 }
 
+/// The number of a room's first lock.
+fn first_fit() -> Result<FitNo, LookFault>
+    ensures { IfOk result (λ fit. fit ≡ 1) }
+{
+    FitNo::new(1).ok_or(LookFault::Store)
+}
+
 impl FromRow for LockNote {
     ghost of = { note_row_of };
 
@@ -270,7 +277,7 @@ impl FromRow for LockNote {
         let act = act(row)?;
         let day = day_number(row, 6)?;
         let second = small_integer(row, 7)?;
-        match LockNote::new(room, count, act, day, second) {
+        match LockNote::new(room, first_fit()?, count, act, day, second) {
             Some(note) => Ok(note),
             None => Err(LookFault::Store),
         }

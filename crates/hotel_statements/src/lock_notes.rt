@@ -1,10 +1,9 @@
 //! A note that is taken, within a transaction.
-ghost use Rattle.std.specs.Prelude.{◌≡◌, None};
-ghost use Rattle.hotel_core.specs.Books.Lookups.{note_at};
+ghost use Rattle.std.specs.Prelude.{◌≡◌};
 ghost use Rattle.hotel_core.specs.Books.Change.{made};
 ghost use Rattle.hotel_core.specs.declared.books.change.Change.TheVariants as change;
 ghost use Rattle.hotel_statements.specs.Statements.{WritesBy, gives_note, takes_note};
-ghost use Rattle.hotel_statements.specs.Steps.{note_given};
+ghost use Rattle.hotel_statements.specs.Steps.{IsNewNote, note_given};
 
 use crate::steps::{delete_inside, insert_inside, insert_note, set_noted};
 use hotel_core::InsideMove;
@@ -19,13 +18,14 @@ fn give_note<S: Alter>(
     secured: bool,
 ) -> Result<(), Error>
     ensures same_reference { tx.new.conn.ghost_name ≡ tx.old.conn.ghost_name }
-    ensures makes { WritesBy S.Store (gives_note note.now lock_place secured) (λ rows. note_at rows note.now.room note.now.count ≡ None) (note_given note.now lock_place secured) tx.old.conn.now tx.new.conn.now result }
+    ensures makes { WritesBy S.Store (gives_note note.now lock_place secured) (IsNewNote note.now) (note_given note.now lock_place secured) tx.old.conn.now tx.new.conn.now result }
 {
     insert_note(tx, note)?;
     set_noted(tx, note.room(), lock_place, secured, note.count())
 }
 
-/// Takes a note whose count isn't there: adds it, sets what follows of it for its room, and moves a card in or out.
+/// Takes a note of a room's first lock, whose count isn't there: adds it, sets what follows of it for its room, and
+/// moves a card in or out.
 pub fn take_note<S: Alter>(
     tx: &mut Transaction<'_, S>,
     note: &LockNote,
@@ -34,7 +34,7 @@ pub fn take_note<S: Alter>(
     insides: InsideMove,
 ) -> Result<(), Error>
     ensures same_reference { tx.new.conn.ghost_name ≡ tx.old.conn.ghost_name }
-    ensures makes { WritesBy S.Store (takes_note note.now lock_place secured insides) (λ rows. note_at rows note.now.room note.now.count ≡ None) (made (change.Noted note.now lock_place secured insides)) tx.old.conn.now tx.new.conn.now result }
+    ensures makes { WritesBy S.Store (takes_note note.now lock_place secured insides) (IsNewNote note.now) (made (change.Noted note.now lock_place secured insides)) tx.old.conn.now tx.new.conn.now result }
 {
     match insides {
         InsideMove::Same => give_note(tx, note, lock_place, secured),

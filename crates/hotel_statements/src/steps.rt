@@ -1,9 +1,8 @@
 //! The statements of a transaction: each adds or changes one row.
-ghost use Rattle.std.specs.Prelude.{◌≡◌, None, false, [], ◌∷◌};
+ghost use Rattle.std.specs.Prelude.{◌≡◌, false, [], ◌∷◌};
 ghost use Rattle.hotel_core.specs.Model.Rows.{has_kind};
-ghost use Rattle.hotel_core.specs.Books.Lookups.{note_at};
 ghost use Rattle.hotel_statements.specs.Statements.{WritesBy, sets_day, adds_kind, adds_room, adds_code, adds_stay, adds_card, adds_note, adds_inside, removes_inside, sets_issued, frees_room, sets_noted, sets_state};
-ghost use Rattle.hotel_statements.specs.Steps.{any_rows, day_set, kind_added, room_added, code_added, stay_added, card_added, note_added, inside_added, inside_gone, room_issued, room_freed, room_noted, stay_set};
+ghost use Rattle.hotel_statements.specs.Steps.{IsNewNote, any_rows, day_set, kind_added, room_added, code_added, stay_added, card_added, note_added, inside_added, inside_gone, room_issued, room_freed, room_noted, stay_set};
 
 use crate::number::{
     act_card, act_first, act_number, act_second, bit, coded, dated, maybe, numbered, room_of,
@@ -109,13 +108,13 @@ pub fn insert_card<S: Alter>(tx: &mut Transaction<'_, S>, card: Card) -> Result<
     )
 }
 
-/// Adds a note of a count that isn't there.
+/// Adds a note of a room's first lock, of a count that isn't there.
 pub(crate) fn insert_note<S: Alter>(
     tx: &mut Transaction<'_, S>,
     note: &LockNote,
 ) -> Result<(), Error>
     ensures same_reference { tx.new.conn.ghost_name ≡ tx.old.conn.ghost_name }
-    ensures makes { WritesBy S.Store (adds_note note.now ∷ []) (λ rows. note_at rows note.now.room note.now.count ≡ None) (note_added note.now) tx.old.conn.now tx.new.conn.now result }
+    ensures makes { WritesBy S.Store (adds_note note.now ∷ []) (IsNewNote note.now) (note_added note.now) tx.old.conn.now tx.new.conn.now result }
 {
     let act = note.act();
     run(

@@ -2,6 +2,7 @@ mod EmptyDesk
 mod Opened
 mod KeptCounts
 mod Applied
+mod NewNotes
 mod MemoryDesk
 mod Reread
 mod Reopened

@@ -7,18 +7,18 @@ use Rattle.hotel_core.specs.declared.books.rows.RoomRow.{RoomRow}
 use Rattle.hotel_core.specs.declared.books.change.Change.{Change}
 use Rattle.hotel_core.specs.declared.books.change.Change.TheVariants.{Kind, Issue, Noted}
 use Rattle.hotel_core.specs.Model.Words.{said_of}
-use Rattle.hotel_core.specs.Books.Lookups.{room_at, note_at}
+use Rattle.hotel_core.specs.Books.Lookups.{room_at}
 use Rattle.hotel_core.specs.Books.Change.{made, codes_of}
 use Rattle.hotel_core.specs.Model.Rows.{Rows, has_kind}
 use Rattle.hotel_statements.specs.Tables.{rows_in}
 use Rattle.hotel_statements.specs.Books.{IsBooks, IsKept}
-use Rattle.hotel_statements.specs.Steps.{IsMadeOf}
+use Rattle.hotel_statements.specs.Steps.{IsMadeOf, IsNewNote}
 
 -- what the statements of a change ask of the rows, with so many codes at the room of an issue
 abbrev pub MayMake : Change → ℕ → Rows → Type 0
 MayMake (Kind kind) codes rows = has_kind rows kind ≡ false
 MayMake (Issue card room leaves) codes rows = codes_of rows room ≡ codes
-MayMake (Noted note lock_place secured insides) codes rows = note_at rows note.room note.count ≡ None
+MayMake (Noted note lock_place secured insides) codes rows = IsNewNote note rows
 MayMake _ codes rows = Unit {0}
 
 -- a room's codes, where one more can be counted

@@ -3,7 +3,7 @@ ghost use Rattle.std.specs.Prelude.{◌≡◌, ◌<◌, ◌-◌, ◌^◌, OnOk, 
 ghost use Rattle.sqlite.specs.Held.{state};
 ghost use Rattle.sqlite.specs.State.{Survives};
 ghost use Rattle.hotel_core.specs.Books.Change.{made};
-ghost use Rattle.hotel_core.specs.Books.Fits.{HasItsRows};
+ghost use Rattle.hotel_core.specs.Books.Fits.{Fits, HasItsRows};
 ghost use Rattle.hotel_statements.specs.Tables.{rows_in};
 ghost use Rattle.hotel_statements.specs.Books.{IsBooks, IsKept};
 ghost use Rattle.hotel_statements.specs.Steps.{IsMadeOf};
@@ -99,7 +99,7 @@ pub(crate) fn apply_change<S: Alter>(
     change: &Change,
 ) -> Result<(), LookFault>
     requires books { IsBooks (state S.Store conn.old) }
-    requires fits { IsKept (state S.Store conn.old) → HasItsRows change.now (rows_in (state S.Store conn.old).now.trees) }
+    requires fits { IsKept (state S.Store conn.old) → Fits change.now (rows_in (state S.Store conn.old).now.trees) }
     ensures { Applies change.now (state S.Store conn.old) (state S.Store conn.new) result }
 {
     let Some(codes) = codes_for(alloc, conn, change)? else {

@@ -74,6 +74,10 @@ recoded ledger to = record {
   awaited = after to ledger.awaited;
 }
 
+-- the codes after a new lock with one more code: all earlier ones are passed
+abbrev pub refitted : Ledger → ℕ → Ledger
+refitted ledger code = record { passed = ledger.passed ++ (ledger.held ∷ ledger.awaited); held = code; awaited = [] }
+
 -- an issue made the link: its codes stand one after the other
 abbrev pub IsLinkOf : List ℕ → Link → Type 0
 IsLinkOf codes link = (earlier : List ℕ) × (later : List ℕ) × (codes ≡ earlier ++ (link.old_code ∷ link.new_code ∷ later))

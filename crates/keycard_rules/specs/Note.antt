@@ -1,10 +1,11 @@
--- What a lock notes: a count, what happened, and when.
+-- What a lock notes: which lock it is, a count, what happened, and when.
 use Rattle.std.specs.Prelude.{ℕ, ◌≤◌}
 use Rattle.keycard_rules.specs.declared.note.Act.{Act}
 
--- A note: the room's count, the act, and the day and the second of it.
+-- A note: the room, the number of the room's lock, the lock's count, the act, and the day and the second of it.
 pub record Note : Type 0 where
   pub room : ℕ
+  pub fit : ℕ
   pub count : ℕ
   pub act : Act
   pub day : ℕ

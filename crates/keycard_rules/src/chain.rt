@@ -3,7 +3,7 @@
 ghost use Rattle.std.specs.Prelude.{◌≡◌, [], ◌∷◌, ◌++◌, length, Ok, IfOk, OnOk, OnErr, option_map, false, nat_eq};
 ghost use Rattle.std.specs.List.{IsDistinct};
 ghost use Rattle.keycard_rules.specs.{Words.is_one_of, Lock.turn};
-ghost use Rattle.keycard_rules.specs.Chain.{Ledger, IsLinkOf, issued, current, installed, with_issued, entered, turned, recode_answer, recoded, place_in};
+ghost use Rattle.keycard_rules.specs.Chain.{Ledger, IsLinkOf, issued, current, installed, with_issued, entered, turned, recode_answer, recoded, refitted, place_in};
 
 use crate::card::Link;
 use crate::code::Code;
@@ -138,6 +138,20 @@ impl Chain {
             return Err(RecodeFault::NotAwaited);
         }
         self.place = place;
+        Ok(())
+    }
+
+    /// Fits a new lock, which holds a code that was never issued here (`holds` is the test): the earlier codes, awaited
+    /// ones among them, are passed. A refusal for want of memory changes nothing.
+    pub fn refit(&mut self, code: Code) -> Result<(), Memory>
+        requires fresh { is_one_of code (issued self.old) ≡ false }
+        ensures ok { OnOk result (self.new ≡ refitted self.old code) }
+        ensures codes { OnOk result (issued self.new ≡ issued self.old ++ (code ∷ [])) }
+        ensures err { OnErr result (self.new ≡ self.old) }
+    {
+        let last = self.codes.len();
+        self.codes.push(code).map_err(|_| Memory)?;
+        self.place = last;
         Ok(())
     }
 

@@ -21,6 +21,6 @@ pub use issued::{Issued, ListedCodes, LookFault};
 pub use listed_words::ListedWords;
 pub use lock::turn;
 pub use note::{Act, LockNote};
-pub use numbers::{CardNo, Count, Number, PartyNo, RoomNo};
+pub use numbers::{CardNo, Count, FitNo, Number, PartyNo, RoomNo};
 pub use numerals::{read_numeral, write_fixed};
 pub use short_text::ShortText;

@@ -3,7 +3,7 @@ ghost use Rattle.std.specs.Prelude.{◌≡◌, ◌≤◌, Some, None, if◌then�
 
 use crate::card::Link;
 use crate::code::Code;
-use crate::numbers::{CardNo, Count, RoomNo};
+use crate::numbers::{CardNo, Count, FitNo, RoomNo};
 use std::marker::Model;
 
 /// What happened at a lock.
@@ -21,6 +21,7 @@ pub enum Act {
 #[derive(Clone, Copy, Debug, PartialEq, Eq)]
 pub struct LockNote {
     room: RoomNo,
+    fit: FitNo,
     count: Count,
     act: Act,
     day: u16,
@@ -32,23 +33,31 @@ impl Model for LockNote {
 
     ghost Value = { Note };
 
-    ghost view = { λ n. record { room = n.room; count = n.count; act = n.act; day = n.day; second = n.second } };
+    ghost view = { λ n. record { room = n.room; fit = n.fit; count = n.count; act = n.act; day = n.day; second = n.second } };
 
     ghost invariant = { λ n. IsTimed n.day n.second };
 
-    ghost inverse = { λ v. record { room = v.room; count = v.count; act = v.act; day = v.day; second = v.second } };
+    ghost inverse = { λ v. record { room = v.room; fit = v.fit; count = v.count; act = v.act; day = v.day; second = v.second } };
 }
 
 impl LockNote {
     /// The note of these, or `None` where the day is above 36,524 (2099-12-31) or the second above 86,399.
-    pub fn new(room: RoomNo, count: Count, act: Act, day: u16, second: u32) -> Option<LockNote>
-        ensures { result ≡ (if nat_le day 36524 && nat_le second 86399 then Some (record { room = room; count = count; act = act; day = day; second = second }) else None) }
+    pub fn new(
+        room: RoomNo,
+        fit: FitNo,
+        count: Count,
+        act: Act,
+        day: u16,
+        second: u32,
+    ) -> Option<LockNote>
+        ensures { result ≡ (if nat_le day 36524 && nat_le second 86399 then Some (record { room = room; fit = fit; count = count; act = act; day = day; second = second }) else None) }
     {
         if day > 36_524 || second > 86_399 {
             return None;
         }
         Some(LockNote {
             room,
+            fit,
             count,
             act,
             day,
@@ -61,6 +70,13 @@ impl LockNote {
         ensures { result ≡ self.now.room }
     {
         self.room
+    }
+
+    /// The number of the room's lock that noted it.
+    pub fn fit(&self) -> FitNo
+        ensures { result ≡ self.now.fit }
+    {
+        self.fit
     }
 
     /// The lock's count of the note.

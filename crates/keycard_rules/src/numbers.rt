@@ -1,4 +1,4 @@
-//! The numbers of cards, parties, rooms and notes: one generic type.
+//! The numbers of cards, parties, rooms, locks and notes: one generic type.
 
 ghost use Rattle.std.specs.Prelude.{◌≡◌, ℕ, ◌+◌, ◌<◌};
 ghost use Rattle.std.specs.Option.{SomeIff};
@@ -124,6 +124,13 @@ pub struct RoomKind;
 
 /// The number of a room, 1 to 9,999.
 pub type RoomNo = Number<RoomKind, 9_999>;
+
+/// Marks the numbers of a room's locks.
+#[derive(Clone, Copy, PartialEq, Eq, PartialOrd, Ord, Debug)]
+pub struct FitKind;
+
+/// The number of a room's lock, 1 to 99: the first is 1.
+pub type FitNo = Number<FitKind, 99>;
 
 /// Marks the counts of lock notes.
 #[derive(Clone, Copy, PartialEq, Eq, PartialOrd, Ord, Debug)]

@@ -50,26 +50,26 @@ current_by_place h ok r front code later there e = same_bool _ _ (λ t. is_last 
     is_current (x ∷ rest) f n = absurd (let m = ap (λ (zs : List ℕ). length zs) f in omega (arith, length-append front (code ∷ x ∷ rest)))
 
 -- The codes of a room after an entry that may follow: those then passed, the link's new one, those then awaited.
-pub entered_in_order : (h : History) → Reached h → (room count number : ℕ) (link : Link) (at : Moment) → MayFollow h (Entered room count number link at)
-    → issued h room ≡ passed (h ▷ Entered room count number link at) room ++ link.new_code ∷ awaited (h ▷ Entered room count number link at) room
-entered_in_order h ok room count number link at needs =
+pub entered_in_order : (h : History) → Reached h → (room fit count number : ℕ) (link : Link) (at : Moment) → MayFollow h (Entered room fit count number link at)
+    → issued h room ≡ passed (h ▷ Entered room fit count number link at) room ++ link.new_code ∷ awaited (h ▷ Entered room fit count number link at) room
+entered_in_order h ok room fit count number link at needs =
     let e = entered_case (room == room) h room room link (λ t. refl) ok (ledger_holds h ok room needs.1) (link_seen h number link ok needs.2 needs.3) needs.4 in
-    let h' : History = h ▷ Entered room count number link at in
+    let h' : History = h ▷ Entered room fit count number link at in
     sym e ∙ ap (λ b. passed h' room ++ when b (λ _. link.new_code) (held h room) ∷ awaited h' room) (eq_self room)
 
 -- Where the new code of an entry stands: after all codes that are then passed.
-pub entered_place : (h : History) → Reached h → (room count number : ℕ) (link : Link) (at : Moment) → MayFollow h (Entered room count number link at)
-    → at_number (all_issued h) link.new_code ≡ Some (record { room = room; place = length (passed (h ▷ Entered room count number link at) room) })
-entered_place h ok room count number link at needs =
-    let h' : History = h ▷ Entered room count number link at in
-    codes_have_places h ok room (passed h' room) link.new_code (awaited h' room) (entered_in_order h ok room count number link at needs)
+pub entered_place : (h : History) → Reached h → (room fit count number : ℕ) (link : Link) (at : Moment) → MayFollow h (Entered room fit count number link at)
+    → at_number (all_issued h) link.new_code ≡ Some (record { room = room; place = length (passed (h ▷ Entered room fit count number link at) room) })
+entered_place h ok room fit count number link at needs =
+    let h' : History = h ▷ Entered room fit count number link at in
+    codes_have_places h ok room (passed h' room) link.new_code (awaited h' room) (entered_in_order h ok room fit count number link at needs)
 
 -- It is the current code exactly where it stands at the last place.
-pub entered_current : (h : History) → Reached h → (room count number : ℕ) (link : Link) (at : Moment) → MayFollow h (Entered room count number link at)
-    → (link.new_code == current h room) ≡ (length (passed (h ▷ Entered room count number link at) room) + 1 == length (issued h room))
-entered_current h ok room count number link at needs =
-    let h' : History = h ▷ Entered room count number link at in
-    current_by_place h ok room (passed h' room) link.new_code (awaited h' room) needs.1 (entered_in_order h ok room count number link at needs)
+pub entered_current : (h : History) → Reached h → (room fit count number : ℕ) (link : Link) (at : Moment) → MayFollow h (Entered room fit count number link at)
+    → (link.new_code == current h room) ≡ (length (passed (h ▷ Entered room fit count number link at) room) + 1 == length (issued h room))
+entered_current h ok room fit count number link at needs =
+    let h' : History = h ▷ Entered room fit count number link at in
+    current_by_place h ok room (passed h' room) link.new_code (awaited h' room) needs.1 (entered_in_order h ok room fit count number link at needs)
 
 is_one_in : (front : List ℕ) (c : ℕ) (back : List ℕ) → is_one_of c (front ++ c ∷ back) ≡ true
 is_one_in [] c back = first (c == c) (eq_self c)
@@ -101,9 +101,9 @@ pub awaited_place : (h : History) → Reached h → (room to : ℕ) → is_room 
 awaited_place h ok room to there one = codes_have_places h ok room (passed h room ++ held h room ∷ before to (awaited h room)) to (after to (awaited h room)) (awaited_splits h ok room to there one)
 
 -- Where the new code of a recoding stands: after all codes that are then passed.
-pub recoded_place : (h : History) → Reached h → (room count from to : ℕ) (at : Moment) → MayFollow h (Recoded room count from to at)
-    → at_number (all_issued h) to ≡ Some (record { room = room; place = length (passed (h ▷ Recoded room count from to at) room) })
-recoded_place h ok room count from to at needs =
+pub recoded_place : (h : History) → Reached h → (room fit count from to : ℕ) (at : Moment) → MayFollow h (Recoded room fit count from to at)
+    → at_number (all_issued h) to ≡ Some (record { room = room; place = length (passed (h ▷ Recoded room fit count from to at) room) })
+recoded_place h ok room fit count from to at needs =
     awaited_place h ok room to needs.1 needs.3
     ∙ ap (λ z. Some (let x : CodeRow = record { room = room; place = length (passed h room ++ z ∷ before to (awaited h room)) } in x)) (eq_from (held h room) from needs.2)
     ∙ ap (λ b. Some (let x : CodeRow = record { room = room; place = length (when b (λ codes. codes ++ from ∷ before to (awaited h room)) (passed h room)) } in x)) (sym (eq_self room))

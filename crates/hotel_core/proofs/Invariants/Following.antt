@@ -6,7 +6,7 @@ use Rattle.hotel_core.specs.declared.reply.Reply.TheVariants as reply
 use Rattle.keycard_rules.specs.declared.note.Act.TheVariants as act
 use Rattle.hotel_core.specs.Model.Event as event
 use Rattle.keycard_rules.specs.Words.{is_one_of}
-use Rattle.hotel_core.specs.Model.Cases.{holds}
+use Rattle.hotel_core.specs.Model.Cases.{holds, is_later_fit}
 use Rattle.hotel_core.proofs.{Facts.Follow.MayFollow, OfTables.Tests.eq_from, OfTables.StayStates.stands_booked, OfTables.StayStates.stands_home}
 
 -- none of the checks refused
@@ -61,23 +61,23 @@ next_count : (taken : ℕ) (note : Note) (kept : List Note) → standing_among t
 next_count taken note [] h = eq_from note.count (taken + 1) (if_next (note.count == taken + 1) (taken + 1) h)
 next_count taken note (k ∷ ks) h = absurd (not_next (same_note k note) h)
 
-by_act : (h : History) (note : Note) (its_act : Act) (e : Event) → note.count ≡ length (notes h note.room) + 1 → is_room h note.room ≡ true → (told h note its_act).happens ≡ Some e → MayFollow h e
-by_act h note (act.Entered number link) e n r q =
+by_act : (h : History) (note : Note) (its_act : Act) (e : Event) → note.count ≡ length (notes h note.room) + 1 → is_room h note.room ≡ true → is_later_fit h note.room note.fit ≡ false → (told h note its_act).happens ≡ Some e → MayFollow h e
+by_act h note (act.Entered number link) e n r l q =
     let p = passed_all (needs (is_card h number) NoCard ∷ needs (has_link h number link) CardDiffers ∷ needs (opens h note.room link) LockShut ∷ [])
-    (accepted reply.Taken (event.Entered note.room note.count number link (moment_of note))) e q in
-    subst (λ x. MayFollow h x) (same_event p.1) (n, r, needed (is_card h number) _ p.0.0, needed (has_link h number link) _ p.0.1.0, needed (opens h note.room link) _ p.0.1.1.0)
-by_act h note (act.Left number link) e n r q =
+    (accepted reply.Taken (event.Entered note.room note.fit note.count number link (moment_of note))) e q in
+    subst (λ x. MayFollow h x) (same_event p.1) (n, r, needed (is_card h number) _ p.0.0, needed (has_link h number link) _ p.0.1.0, needed (opens h note.room link) _ p.0.1.1.0, l)
+by_act h note (act.Left number link) e n r l q =
     let p = passed_all (needs (is_card h number) NoCard ∷ needs (has_link h number link) CardDiffers ∷ needs (is_one_of number (inside h note.room)) NotInside ∷ [])
-    (accepted reply.Taken (event.Left note.room note.count number link (moment_of note))) e q in
-    subst (λ x. MayFollow h x) (same_event p.1) (n, r, needed (is_card h number) _ p.0.0, needed (has_link h number link) _ p.0.1.0, needed (is_one_of number (inside h note.room)) _ p.0.1.1.0)
-by_act h note (act.Recoded from to) e n r q =
+    (accepted reply.Taken (event.Left note.room note.fit note.count number link (moment_of note))) e q in
+    subst (λ x. MayFollow h x) (same_event p.1) (n, r, needed (is_card h number) _ p.0.0, needed (has_link h number link) _ p.0.1.0, needed (is_one_of number (inside h note.room)) _ p.0.1.1.0, l)
+by_act h note (act.Recoded from to) e n r l q =
     let p = passed_all (needs (holds h note.room from) HeldDiffers ∷ needs (is_one_of to (awaited h note.room)) NotAwaited ∷ [])
-    (accepted reply.Taken (event.Recoded note.room note.count from to (moment_of note))) e q in
-    subst (λ x. MayFollow h x) (same_event p.1) (n, r, needed (holds h note.room from) _ p.0.0, needed (is_one_of to (awaited h note.room)) _ p.0.1.0)
+    (accepted reply.Taken (event.Recoded note.room note.fit note.count from to (moment_of note))) e q in
+    subst (λ x. MayFollow h x) (same_event p.1) (n, r, needed (holds h note.room from) _ p.0.0, needed (is_one_of to (awaited h note.room)) _ p.0.1.0, l)
 
-by_standing : (h : History) (note : Note) (s : Standing) (e : Event) → standing h note ≡ s → is_room h note.room ≡ true → (reported h note s).happens ≡ Some e → MayFollow h e
-by_standing h note Next e f r q = by_act h note note.act e (next_count (length (notes h note.room)) note (drop (note.count - 1) (notes h note.room)) f) r q
-by_standing h note _ e f r q = cc
+by_standing : (h : History) (note : Note) (s : Standing) (e : Event) → standing h note ≡ s → is_room h note.room ≡ true → is_later_fit h note.room note.fit ≡ false → (reported h note s).happens ≡ Some e → MayFollow h e
+by_standing h note Next e f r l q = by_act h note note.act e (next_count (length (notes h note.room)) note (drop (note.count - 1) (notes h note.room)) f) r l q
+by_standing h note _ e f r l q = cc
 
 -- the number that is there
 pub some_number : (o : Option ℕ) → is_some o ≡ true → o ≡ Some (said_of o 0 (λ n. n))
@@ -123,7 +123,7 @@ follows_if h ahead (command.Transfer party room) e p q =
     )
 follows_if h ahead (command.CheckOut party) e p q = subst (λ x. MayFollow h x) (same_event q) (needed (is_party h party) _ p.1.0, needed (is_in_house h party) _ p.1.1.0)
 follows_if h ahead command.NextDay e p q = subst (λ x. MayFollow h x) (same_event q) (needed (is_begun h) _ p.0, needed (nat_lt (today h) 36524) _ p.1.0)
-follows_if h ahead (command.Reported note) e p q = by_standing h note (standing h note) e refl (needed (is_room h note.room) _ p.1.0) q
+follows_if h ahead (command.Reported note) e p q = by_standing h note (standing h note) e refl (needed (is_room h note.room) _ p.1.0) (barred (is_later_fit h note.room note.fit) _ p.1.1.0) q
 
 pub answers_follow : (h : History) (ahead : List ℕ) (command : Command) (e : Event) → (answer_to h ahead command).happens ≡ Some e → MayFollow h e
 unfolding answer_to

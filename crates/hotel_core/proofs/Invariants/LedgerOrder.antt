@@ -81,18 +81,18 @@ ledger_holds (h ▷ Install room kind code) ok r f =
     (λ t. others_have_none h ok.0 r (ap (is_room h) (sym (eq_from room r t)) ∙ (may_follow h (Install room kind code) ok).1))
     (λ n. ledger_holds h ok.0 r (or_second (room == r) (is_room h r) n (sym (key_inserted (rooms h) room kind r) ∙ f)))
 ledger_holds (h ▷ Issue party room number code) ok r f = issue_case (room == r) h code r (ledger_holds h ok.0 r f)
-ledger_holds (h ▷ Entered room count number link at) ok r f =
-    let needs = may_follow h (Entered room count number link at) ok in
+ledger_holds (h ▷ Entered room fit count number link at) ok r f =
+    let needs = may_follow h (Entered room fit count number link at) ok in
     entered_case (room == r) h room r link (eq_from room r) ok.0 (ledger_holds h ok.0 r f) (link_seen h number link ok.0 needs.2 needs.3) needs.4
-ledger_holds (h ▷ Recoded room count from to at) ok r f =
-    let needs = may_follow h (Recoded room count from to at) ok in
+ledger_holds (h ▷ Recoded room fit count from to at) ok r f =
+    let needs = may_follow h (Recoded room fit count from to at) ok in
     recoded_case (room == r) h room r from to (eq_from room r) (ledger_holds h ok.0 r f) (eq_from (held h room) from needs.2) needs.3
 ledger_holds (h ▷ _) ok r f = ledger_holds h ok.0 r f
 
 -- A code that an entry took out of the awaited ones was their first.
 pub takes_the_first : (h : History) → Reached h → TakesTheFirst h
 takes_the_first (start t) ok = tt
-takes_the_first (h ▷ Entered room count number link at) ok =
-    let needs = may_follow h (Entered room count number link at) ok in
+takes_the_first (h ▷ Entered room fit count number link at) ok =
+    let needs = may_follow h (Entered room fit count number link at) ok in
     (takes_the_first h ok.0, λ t. first_awaited h room link ok.0 (eq_from (held h room) link.old_code t) (ledger_holds h ok.0 room needs.1) (link_seen h number link ok.0 needs.2 needs.3))
 takes_the_first (h ▷ _) ok = takes_the_first h ok.0

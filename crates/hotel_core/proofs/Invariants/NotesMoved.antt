@@ -9,9 +9,9 @@ use Rattle.hotel_core.proofs.Invariants.LedgerOrder.{first_awaited, holds_new, l
 codes_same : (p q : List ℕ) (x y : ℕ) (a b : List ℕ) → p ≡ q → x ≡ y → a ≡ b → (let c : Ledger = record { passed = p; held = x; awaited = a } in c) ≡ record { passed = q; held = y; awaited = b }
 codes_same p q x y a b e f g = λ i. record { passed = e i; held = f i; awaited = g i }
 
-entry_moves : (h : History) (room count number : ℕ) (link : Link) (at : Moment) → Reached (h ▷ Entered room count number link at) → EntryMoves h (h ▷ Entered room count number link at) room link
-entry_moves h room count number link at ok =
-    let needs = may_follow h (Entered room count number link at) ok in
+entry_moves : (h : History) (room fit count number : ℕ) (link : Link) (at : Moment) → Reached (h ▷ Entered room fit count number link at) → EntryMoves h (h ▷ Entered room fit count number link at) room link
+entry_moves h room fit count number link at ok =
+    let needs = may_follow h (Entered room fit count number link at) ok in
     let here : (room == room) ≡ true = eq-eqb room room refl in (
       λ t.
           let e = eq_from (held h room) link.old_code t in
@@ -25,9 +25,9 @@ entry_moves h room count number link at ok =
           (e, rw (here, n) (codes_same _ _ _ _ _ _ refl (sym e) refl)),
     )
 
-recoding_moves : (h : History) (room count from to : ℕ) (at : Moment) → Reached (h ▷ Recoded room count from to at) → RecodingMoves h (h ▷ Recoded room count from to at) room from to
-recoding_moves h room count from to at ok =
-    let needs = may_follow h (Recoded room count from to at) ok in
+recoding_moves : (h : History) (room fit count from to : ℕ) (at : Moment) → Reached (h ▷ Recoded room fit count from to at) → RecodingMoves h (h ▷ Recoded room fit count from to at) room from to
+recoding_moves h room fit count from to at ok =
+    let needs = may_follow h (Recoded room fit count from to at) ok in
     let here : (room == room) ≡ true = eq-eqb room room refl in (
       before to (awaited h room),
       after to (awaited h room),
@@ -36,9 +36,9 @@ recoding_moves h room count from to at ok =
     )
 
 moves : (h : History) (event : Event) → Reached (h ▷ event) → Moves event h (h ▷ event)
-moves h (Entered room count number link at) ok = (entry_moves h room count number link at ok, λ r other. rw other refl)
-moves h (Left room count number link at) ok = λ r. refl
-moves h (Recoded room count from to at) ok = (recoding_moves h room count from to at ok, λ r other. rw other refl)
+moves h (Entered room fit count number link at) ok = (entry_moves h room fit count number link at ok, λ r other. rw other refl)
+moves h (Left room fit count number link at) ok = λ r. refl
+moves h (Recoded room fit count from to at) ok = (recoding_moves h room fit count from to at ok, λ r other. rw other refl)
 moves h _ ok = tt
 
 pub notes_move : (h : History) → Reached h → NotesMove h

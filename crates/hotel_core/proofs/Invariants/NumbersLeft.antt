@@ -34,15 +34,15 @@ drawn_event None f e h = cc
 by_act : (h : History) (note : Note) (its_act : Act) (e : Event) → (told h note its_act).happens ≡ Some e → HasNumber h e
 by_act h note (act.Entered number link) e q =
     let p = passed_all (needs (is_card h number) NoCard ∷ needs (has_link h number link) CardDiffers ∷ needs (opens h note.room link) LockShut ∷ [])
-    (accepted reply.Taken (event.Entered note.room note.count number link (moment_of note))) e q in
+    (accepted reply.Taken (event.Entered note.room note.fit note.count number link (moment_of note))) e q in
     subst (λ x. HasNumber h x) (same_event p.1) tt
 by_act h note (act.Left number link) e q =
     let p = passed_all (needs (is_card h number) NoCard ∷ needs (has_link h number link) CardDiffers ∷ needs (is_one_of number (inside h note.room)) NotInside ∷ [])
-    (accepted reply.Taken (event.Left note.room note.count number link (moment_of note))) e q in
+    (accepted reply.Taken (event.Left note.room note.fit note.count number link (moment_of note))) e q in
     subst (λ x. HasNumber h x) (same_event p.1) tt
 by_act h note (act.Recoded from to) e q =
     let p = passed_all (needs (holds h note.room from) HeldDiffers ∷ needs (is_one_of to (awaited h note.room)) NotAwaited ∷ [])
-    (accepted reply.Taken (event.Recoded note.room note.count from to (moment_of note))) e q in
+    (accepted reply.Taken (event.Recoded note.room note.fit note.count from to (moment_of note))) e q in
     subst (λ x. HasNumber h x) (same_event p.1) tt
 
 by_standing : (h : History) (note : Note) (s : Standing) (e : Event) → (reported h note s).happens ≡ Some e → HasNumber h e

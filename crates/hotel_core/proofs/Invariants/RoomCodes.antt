@@ -24,16 +24,16 @@ others_have_none (h ▷ Install room kind code) ok r e =
     (no_code_here (room == r) h code r f.0 none.0, none.1, none.2)
 others_have_none (h ▷ Issue party room number code) ok r e =
     issue_elsewhere h room code r (comes_to_room h party room ok.0 (may_follow h (Issue party room number code) ok).0) e (others_have_none h ok.0 r e)
-others_have_none (h ▷ Entered room count number link at) ok r e =
+others_have_none (h ▷ Entered room fit count number link at) ok r e =
     let none = others_have_none h ok.0 r e in
-    let b = not_here (room == r) h room r (eq_from room r) (may_follow h (Entered room count number link at) ok).1 e in (
+    let b = not_here (room == r) h room r (eq_from room r) (may_follow h (Entered room fit count number link at) ok).1 e in (
       none.0,
       ap (λ x. when (x && turns h room link) (and_last link.old_code) (passed h r)) b ∙ none.1,
       ap (λ x. when (x && turns h room link) (without link.new_code) (awaited h r)) b ∙ none.2,
     )
-others_have_none (h ▷ Recoded room count from to at) ok r e =
+others_have_none (h ▷ Recoded room fit count from to at) ok r e =
     let none = others_have_none h ok.0 r e in
-    let b = not_here (room == r) h room r (eq_from room r) (may_follow h (Recoded room count from to at) ok).1 e in (
+    let b = not_here (room == r) h room r (eq_from room r) (may_follow h (Recoded room fit count from to at) ok).1 e in (
       none.0,
       ap (λ x. when x (λ codes. codes ++ from ∷ before to (awaited h r)) (passed h r)) b ∙ none.1,
       ap (λ x. when x (after to) (awaited h r)) b ∙ none.2,

@@ -30,8 +30,8 @@ or_there true b e = refl
 or_there false b e = e
 
 -- the link is that of the room's last two codes, if nothing is awaited
-newest_if_none : (h : History) → Reached h → (room number : ℕ) (link : Link) (count : ℕ) (at : Moment) → MayFollow h (Entered room count number link at) → awaited h room ≡ [] → newest_link h room ≡ Some link
-newest_if_none h ok room number link count at needs none =
+newest_if_none : (h : History) → Reached h → (room number : ℕ) (link : Link) (fit count : ℕ) (at : Moment) → MayFollow h (Entered room fit count number link at) → awaited h room ≡ [] → newest_link h room ≡ Some link
+newest_if_none h ok room number link fit count at needs none =
     let same = ledger_holds h ok room needs.1 in
     let l = link_of_room h ok room link needs.1 (link_seen h number link ok needs.2 needs.3) needs.4 in
     elim (opened_by (held h room) link needs.4) [
@@ -47,8 +47,8 @@ newest_if_none h ok room number link count at needs none =
     ]
 
 -- so it is if its new code is the current one
-newest_if_current : (h : History) → Reached h → (room number : ℕ) (link : Link) (count : ℕ) (at : Moment) → MayFollow h (Entered room count number link at) → link.new_code ≡ current h room → newest_link h room ≡ Some link
-newest_if_current h ok room number link count at needs cur =
+newest_if_current : (h : History) → Reached h → (room number : ℕ) (link : Link) (fit count : ℕ) (at : Moment) → MayFollow h (Entered room fit count number link at) → link.new_code ≡ current h room → newest_link h room ≡ Some link
+newest_if_current h ok room number link fit count at needs cur =
     let l = link_of_room h ok room link needs.1 (link_seen h number link ok needs.2 needs.3) needs.4 in
     let f = l.2 ∙ sym (append_assoc l.0 (link.old_code ∷ []) (link.new_code ∷ l.1)) in
     let c = ends_with_current h room (rooms_have_codes h ok room needs.1) in
@@ -56,23 +56,23 @@ newest_if_current h ok room number link count at needs cur =
     newest_is h ok room l.0 link (l.2 ∙ ap (λ zs. l.0 ++ link.old_code ∷ link.new_code ∷ zs) p)
 
 -- an entry by the newest link leaves nothing awaited
-none_awaited : (h : History) → Reached h → (room count number : ℕ) (link : Link) (at : Moment) → MayFollow h (Entered room count number link at)
-    → (front : List ℕ) → issued h room ≡ front ++ link.new_code ∷ [] → awaited (h ▷ Entered room count number link at) room ≡ []
-none_awaited h ok room count number link at needs front e =
-    let h' : History = h ▷ Entered room count number link at in
-    (same_place h ok room room link.new_code (passed h' room) (awaited h' room) front [] (entered_in_order h ok room count number link at needs) e).2
+none_awaited : (h : History) → Reached h → (room fit count number : ℕ) (link : Link) (at : Moment) → MayFollow h (Entered room fit count number link at)
+    → (front : List ℕ) → issued h room ≡ front ++ link.new_code ∷ [] → awaited (h ▷ Entered room fit count number link at) room ≡ []
+none_awaited h ok room fit count number link at needs front e =
+    let h' : History = h ▷ Entered room fit count number link at in
+    (same_place h ok room room link.new_code (passed h' room) (awaited h' room) front [] (entered_in_order h ok room fit count number link at needs) e).2
 
 -- the newest link's new code is the room's last
 ends_with_new : (h : History) → Reached h → (r : ℕ) (link : Link) → newest_link h r ≡ Some link → (front : List ℕ) × (issued h r ≡ front ++ link.new_code ∷ [])
 ends_with_new h ok r link e = let l = newest_are_last h ok r link e in (l.0 ++ link.old_code ∷ [], l.1 ∙ sym (append_assoc l.0 (link.old_code ∷ []) (link.new_code ∷ [])))
 
 -- an entry by the newest link
-fit_entry : (h : History) → Reached h → (room count number : ℕ) (link : Link) (at : Moment) → MayFollow h (Entered room count number link at) → newest_link h room ≡ Some link
-    → ((n : ℕ) → is_one_of n (inside h room) ≡ true → (card : Card) × (at_number (cards h) n ≡ Some card) × (newest_link h room ≡ Some card.link)) → IsFit (h ▷ Entered room count number link at) room
-fit_entry h ok room count number link at needs newest those =
+fit_entry : (h : History) → Reached h → (room fit count number : ℕ) (link : Link) (at : Moment) → MayFollow h (Entered room fit count number link at) → newest_link h room ≡ Some link
+    → ((n : ℕ) → is_one_of n (inside h room) ≡ true → (card : Card) × (at_number (cards h) n ≡ Some card) × (newest_link h room ≡ Some card.link)) → IsFit (h ▷ Entered room fit count number link at) room
+fit_entry h ok room fit count number link at needs newest those =
     let last = ends_with_new h ok room link newest in (
       needs.1,
-      none_awaited h ok room count number link at needs last.0 last.1,
+      none_awaited h ok room fit count number link at needs last.0 last.1,
       λ n t. elim (came_in (insiders h) room number room n t) [
         | inl p ↦ let c = card_seen h number link needs.2 needs.3 in (c.0, ap (at_number (cards h)) (sym p.1) ∙ c.1, newest ∙ ap (λ z. Some z) (sym c.2))
         | inr q ↦ those n q
@@ -80,30 +80,30 @@ fit_entry h ok room count number link at needs newest those =
     )
 
 -- an entry at the room
-fit_here : (h : History) → Reached h → (room count number : ℕ) (link : Link) (at : Moment) → MayFollow h (Entered room count number link at) → (secured h room ≡ true → IsFit h room)
-    → secured (h ▷ Entered room count number link at) room ≡ true → IsFit (h ▷ Entered room count number link at) room
-fit_here h ok room count number link at needs ih e =
+fit_here : (h : History) → Reached h → (room fit count number : ℕ) (link : Link) (at : Moment) → MayFollow h (Entered room fit count number link at) → (secured h room ≡ true → IsFit h room)
+    → secured (h ▷ Entered room fit count number link at) room ≡ true → IsFit (h ▷ Entered room fit count number link at) room
+fit_here h ok room fit count number link at needs ih e =
     elim (secured_by ((room == room) && (link.new_code == current h room) && are_none (inside h room)) (secured h room) e) [
       | inl t ↦
           let p = and_true (link.new_code == current h room) (are_none (inside h room))
           (sym (ap (λ b. b && (link.new_code == current h room) && are_none (inside h room)) (eq_self room)) ∙ t) in
-          fit_entry h ok room count number link at needs (newest_if_current h ok room number link count at needs (eq_from link.new_code (current h room) p.0))
+          fit_entry h ok room fit count number link at needs (newest_if_current h ok room number link fit count at needs (eq_from link.new_code (current h room) p.0))
           (λ n q. not_both (is_one_of n (inside h room)) q (nobody_in (inside h room) n p.1))
       | inr s ↦
-          let fit = ih s in
-          fit_entry h ok room count number link at needs (newest_if_none h ok room number link count at needs fit.1) fit.2
+          let was = ih s in
+          fit_entry h ok room fit count number link at needs (newest_if_none h ok room number link fit count at needs was.1) was.2
     ]
 
 -- an entry at another room
-fit_elsewhere : (h : History) (room count number : ℕ) (link : Link) (at : Moment) (r : ℕ) → (room == r) ≡ false → (secured h r ≡ true → IsFit h r)
-    → secured (h ▷ Entered room count number link at) r ≡ true → IsFit (h ▷ Entered room count number link at) r
-fit_elsewhere h room count number link at r f ih e =
-    let fit = ih (sym (ap (λ b. when (b && (link.new_code == current h room) && are_none (inside h room)) (λ _. true) (secured h r)) f) ∙ e) in (
-      fit.0,
-      ap (λ b. when (b && turns h room link) (without link.new_code) (awaited h r)) f ∙ fit.1,
+fit_elsewhere : (h : History) (room fit count number : ℕ) (link : Link) (at : Moment) (r : ℕ) → (room == r) ≡ false → (secured h r ≡ true → IsFit h r)
+    → secured (h ▷ Entered room fit count number link at) r ≡ true → IsFit (h ▷ Entered room fit count number link at) r
+fit_elsewhere h room fit count number link at r f ih e =
+    let was = ih (sym (ap (λ b. when (b && (link.new_code == current h room) && are_none (inside h room)) (λ _. true) (secured h r)) f) ∙ e) in (
+      was.0,
+      ap (λ b. when (b && turns h room link) (without link.new_code) (awaited h r)) f ∙ was.1,
       λ n t. elim (came_in (insiders h) room number r n t) [
         | inl p ↦ not_both (room == r) (ap (λ z. z == r) p.0 ∙ eq_self r) f
-        | inr q ↦ fit.2 n q
+        | inr q ↦ was.2 n q
       ],
     )
 
@@ -132,18 +132,18 @@ secured_rooms_fit (h ▷ Issue party room number code) ok r e =
 secured_rooms_fit (h ▷ Spare party number) ok r e =
     let fit = secured_rooms_fit h ok.0 r e in
     (fit.0, fit.1, λ n t. let c = fit.2 n t in (c.0, card_kept_spare (link_of_party h party) h party number n c.0 ok.0 (may_follow h (Spare party number) ok).2 c.1, c.2))
-secured_rooms_fit (h ▷ Entered room count number link at) ok r e =
-    let needs = may_follow h (Entered room count number link at) ok in
-    let h' : History = h ▷ Entered room count number link at in
+secured_rooms_fit (h ▷ Entered room fit count number link at) ok r e =
+    let needs = may_follow h (Entered room fit count number link at) ok in
+    let h' : History = h ▷ Entered room fit count number link at in
     elim (either_way (room == r)) [
       | inl t ↦
-          subst (λ z. (secured h z ≡ true → IsFit h z) → secured h' z ≡ true → IsFit h' z) (eq_from room r t) (fit_here h ok.0 room count number link at needs) (secured_rooms_fit h ok.0 r) e
-      | inr f ↦ fit_elsewhere h room count number link at r f (secured_rooms_fit h ok.0 r) e
+          subst (λ z. (secured h z ≡ true → IsFit h z) → secured h' z ≡ true → IsFit h' z) (eq_from room r t) (fit_here h ok.0 room fit count number link at needs) (secured_rooms_fit h ok.0 r) e
+      | inr f ↦ fit_elsewhere h room fit count number link at r f (secured_rooms_fit h ok.0 r) e
     ]
-secured_rooms_fit (h ▷ Left room count number link at) ok r e =
+secured_rooms_fit (h ▷ Left room fit count number link at) ok r e =
     let fit = secured_rooms_fit h ok.0 r e in
     (fit.0, fit.1, λ n t. fit.2 n (left_out (insiders h) (room, number) r n t))
-secured_rooms_fit (h ▷ Recoded room count from to at) ok r e =
+secured_rooms_fit (h ▷ Recoded room fit count from to at) ok r e =
     let fit = secured_rooms_fit h ok.0 r e in
     (fit.0, none_after (room == r) to (awaited h r) fit.1, fit.2)
 secured_rooms_fit (h ▷ _) ok r e = secured_rooms_fit h ok.0 r e

@@ -48,7 +48,7 @@ checks_tell h (command.Transfer party room) =
     (needs_tell _ _ refl, (needs_tell _ _ refl, (needs_tell _ _ refl, (needs_tell _ _ refl, (needs_tell _ _ refl, (bars_tell _ _ refl, (bars_tell _ _ refl, (bars_tell _ _ refl, tt))))))))
 checks_tell h (command.CheckOut party) = (needs_tell _ _ refl, (needs_tell _ _ refl, (needs_tell _ _ refl, tt)))
 checks_tell h command.NextDay = (needs_tell _ _ refl, (needs_tell _ _ refl, tt))
-checks_tell h (command.Reported note) = (needs_tell _ _ refl, (needs_tell _ _ refl, tt))
+checks_tell h (command.Reported note) = (needs_tell _ _ refl, (needs_tell _ _ refl, (bars_tell _ _ refl, tt)))
 
 draw_tells : (o : Option ℕ) (f : ℕ → Reply) → ((code : ℕ) → is_failed (f code) ≡ false) → is_failed (said_of o (reply.Refused NoFreshCode) f) ≡ false
 draw_tells None f e = refl
@@ -70,11 +70,11 @@ needs_told_two true true r q e f g = refl
 
 note_told : (h : History) (note : Note) (what : Act) → is_failed (told h note what).reply ≡ false
 note_told h note (act.Entered number link) =
-    needs_told (is_card h number) (has_link h number link) (opens h note.room link) NoCard CardDiffers LockShut (event.Entered note.room note.count number link (moment_of note)) refl refl refl
+    needs_told (is_card h number) (has_link h number link) (opens h note.room link) NoCard CardDiffers LockShut (event.Entered note.room note.fit note.count number link (moment_of note)) refl refl refl
 note_told h note (act.Left number link) =
-    needs_told (is_card h number) (has_link h number link) (is_one_of number (inside h note.room)) NoCard CardDiffers NotInside (event.Left note.room note.count number link (moment_of note)) refl refl refl
+    needs_told (is_card h number) (has_link h number link) (is_one_of number (inside h note.room)) NoCard CardDiffers NotInside (event.Left note.room note.fit note.count number link (moment_of note)) refl refl refl
 note_told h note (act.Recoded from to) =
-    needs_told_two (holds h note.room from) (is_one_of to (awaited h note.room)) HeldDiffers NotAwaited (event.Recoded note.room note.count from to (moment_of note)) refl refl
+    needs_told_two (holds h note.room from) (is_one_of to (awaited h note.room)) HeldDiffers NotAwaited (event.Recoded note.room note.fit note.count from to (moment_of note)) refl refl
 
 note_reported : (h : History) (note : Note) (s : Standing) → is_failed (reported h note s).reply ≡ false
 note_reported h note Next = note_told h note note.act

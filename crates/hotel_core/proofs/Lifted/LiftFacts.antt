@@ -21,8 +21,8 @@ AtHome h = (room party : ℕ) → room_of h party ≡ Some room → registered h
 
 -- after an entry the lock stands at the place of the link's new code
 abbrev pub EnteredPlace : History → Type 0
-EnteredPlace h = (room count number : ℕ) (link : Link) (at : Moment) → is_room h room ≡ true → is_card h number ≡ true → has_link h number link ≡ true → opens h room link ≡ true
-    → place_on (rows_of h) link.new_code ≡ length (passed (h ▷ Entered room count number link at) room)
+EnteredPlace h = (room fit count number : ℕ) (link : Link) (at : Moment) → is_room h room ≡ true → is_card h number ≡ true → has_link h number link ≡ true → opens h room link ≡ true
+    → place_on (rows_of h) link.new_code ≡ length (passed (h ▷ Entered room fit count number link at) room)
 
 -- of a card that opens the room, the new code is the current one exactly where it stands last
 abbrev pub EnteredCurrent : History → Type 0
@@ -35,8 +35,8 @@ AwaitedFound h = (room code : ℕ) → is_room h room ≡ true → is_awaited_on
 
 -- after a recoding the lock stands at the place of the code that it was recoded to
 abbrev pub RecodedPlace : History → Type 0
-RecodedPlace h = (room count from to : ℕ) (at : Moment) → is_room h room ≡ true → holds h room from ≡ true → is_one_of to (awaited h room) ≡ true
-    → place_on (rows_of h) to ≡ length (passed (h ▷ Recoded room count from to at) room)
+RecodedPlace h = (room fit count from to : ℕ) (at : Moment) → is_room h room ≡ true → holds h room from ≡ true → is_one_of to (awaited h room) ≡ true
+    → place_on (rows_of h) to ≡ length (passed (h ▷ Recoded room fit count from to at) room)
 
 -- What look-ups of codes find.
 pub record CodesFound (h : History) : Type 0 where

@@ -25,9 +25,9 @@ secured_by false true s = refl
 secured_by false false s = refl
 
 -- whether the room is secured after an entry
-secured_entered : (h : History) (room count number : ℕ) (link : Link) (at : event.Moment) → CodesFound h → is_room h room ≡ true → is_card h number ≡ true → has_link h number link ≡ true → opens h room link ≡ true
-    → secured_after_on (rows_of h) room link ≡ secured (h ▷ event.Entered room count number link at) room
-secured_entered h room count number link at found r k l o =
+secured_entered : (h : History) (room fit count number : ℕ) (link : Link) (at : event.Moment) → CodesFound h → is_room h room ≡ true → is_card h number ≡ true → has_link h number link ≡ true → opens h room link ≡ true
+    → secured_after_on (rows_of h) room link ≡ secured (h ▷ event.Entered room fit count number link at) room
+secured_entered h room fit count number link at found r k l o =
     let none : Bool = are_none (inside h room) in
     ap (λ n. cond (none && (place_on (rows_of h) link.new_code + 1 == n)) true (secured_on (rows_of h) room)) (codes_said h room r)
     ∙ ap (λ b. cond (none && b) true (secured_on (rows_of h) room)) (found.entered_current room number link r k l o)
@@ -45,7 +45,7 @@ told_lifts : (h : History) (note : Note) (its_act : Act) → CodesFound h → is
     → (let n : Note = record note { act = its_act } in told_on (rows_of h) n its_act ≡ as_change h (told h n its_act))
 told_lifts h note (act.Entered number link) found r =
     let n : Note = record note { act = act.Entered number link } in
-    let e : event.Event = event.Entered note.room note.count number link (moment_of note) in
+    let e : event.Event = event.Entered note.room note.fit note.count number link (moment_of note) in
     let rows = rows_of h in
     same_unless
     (needs (is_some (card_at rows number)) NoCard ∷ needs (has_link_on rows number link) CardDiffers ∷ needs (is_some (turn (held_on rows note.room) link)) LockShut ∷ [])
@@ -61,15 +61,15 @@ told_lifts h note (act.Entered number link) found r =
               let seen = needed (has_link h number link) CardDiffers l in
               let opened = needed (opens h note.room link) LockShut o in
               taken_alike n _ _ _ _ (comes (is_one_of number (inside h note.room)) number)
-              (found.entered_place note.room note.count number link (moment_of note) r there seen opened)
-              (secured_entered h note.room note.count number link (moment_of note) found r there seen opened),
+              (found.entered_place note.room note.fit note.count number link (moment_of note) r there seen opened)
+              (secured_entered h note.room note.fit note.count number link (moment_of note) found r there seen opened),
         ),
       ),
     )
     ∙ after_checks h (needs (is_card h number) NoCard ∷ needs (has_link h number link) CardDiffers ∷ needs (opens h note.room link) LockShut ∷ []) (accepted reply.Taken e)
 told_lifts h note (act.Left number link) found r =
     let n : Note = record note { act = act.Left number link } in
-    let e : event.Event = event.Left note.room note.count number link (moment_of note) in
+    let e : event.Event = event.Left note.room note.fit note.count number link (moment_of note) in
     let rows = rows_of h in
     same_unless
     (needs (is_some (card_at rows number)) NoCard ∷ needs (has_link_on rows number link) CardDiffers ∷ needs (is_one_of number (inside_at rows note.room)) NotInside ∷ [])
@@ -82,7 +82,7 @@ told_lifts h note (act.Left number link) found r =
     ∙ after_checks h (needs (is_card h number) NoCard ∷ needs (has_link h number link) CardDiffers ∷ needs (is_one_of number (inside h note.room)) NotInside ∷ []) (accepted reply.Taken e)
 told_lifts h note (act.Recoded from to) found r =
     let n : Note = record note { act = act.Recoded from to } in
-    let e : event.Event = event.Recoded note.room note.count from to (moment_of note) in
+    let e : event.Event = event.Recoded note.room note.fit note.count from to (moment_of note) in
     let rows = rows_of h in
     same_unless
     (needs (held_on rows note.room == from) HeldDiffers ∷ needs (is_awaited_on rows note.room to) NotAwaited ∷ [])
@@ -93,7 +93,7 @@ told_lifts h note (act.Recoded from to) found r =
       λ f. (
         ap (λ b. needs b NotAwaited) (found.awaited note.room to r),
         λ a. taken_alike n _ _ _ _ Same
-            (found.recoded_place note.room note.count from to (moment_of note) r (needed (holds h note.room from) HeldDiffers f) (needed (is_one_of to (awaited h note.room)) NotAwaited a))
+            (found.recoded_place note.room note.fit note.count from to (moment_of note) r (needed (holds h note.room from) HeldDiffers f) (needed (is_one_of to (awaited h note.room)) NotAwaited a))
             (secured_said h note.room r),
       ),
     )
@@ -118,5 +118,5 @@ reported_lifts h note None found r =
 
 pub note_lifts : (h : History) (note : Note) → Reached h → CodesFound h → 1 ≤ note.count → Lifts h (command.Reported note)
 note_lifts h note ok found n ahead =
-    lifts_by h ahead (command.Reported note) (alike refl λ _. alike (ap (λ b. needs b NoRoom) (room_is_there h note.room)) λ r.
+    lifts_by h ahead (command.Reported note) (alike refl λ _. alike (ap (λ b. needs b NoRoom) (room_is_there h note.room)) λ r. alike refl λ _.
     reported_lifts h note (note_at (rows_of h) note.room note.count) found (needed (is_room h note.room) NoRoom r) ∙ ap (λ s. as_change h (reported h note s)) (sym (standing_by_lookup h note ok n)))

@@ -1,6 +1,6 @@
 -- Parts of a step that takes a note of a lock.
 use Rattle.std.proofs.Common.{ℕ, ◌≡◌, ◌==◌, ◌<◌, ◌≤◌, Bool, true, false, not, ◌&&◌, Option, Some, None, is_some, List, [], ◌∷◌, ◌+◌, if◌then◌else◌, refl, ap, sym, ◌∙◌, subst, arith, IsSome}
-use Rattle.hotel_core.proofs.Names.{false≢true, nat_tests, Stream, past, Card, Link, Act, Note, Change, Reply, Refused, NotBegun, NoRoom, Gap, Store, RoomRow, said_of, Rows, room_at, card_at, code_place, note_at, same_link, has_link_on, told_on, reported_on, outcome_on, AreWhole, GoesIf, made_by, StepsAs, Outcome, said, refused, needs, unless, is_failed, Ghosts as BooksOf}
+use Rattle.hotel_core.proofs.Names.{false≢true, nat_tests, Stream, past, Card, Link, Act, Note, Change, Reply, Refused, NotBegun, NoRoom, NoFit, Gap, Store, RoomRow, said_of, Rows, room_at, card_at, code_place, note_at, same_link, has_link_on, told_on, is_later_fit_on, reported_on, outcome_on, AreWhole, GoesIf, made_by, StepsAs, Outcome, said, refused, needs, bars, unless, is_failed, Ghosts as BooksOf}
 use Rattle.keycard_rules.proofs.Drawing.{past-zero}
 use Rattle.hotel_core.specs.declared.command.Command.TheVariants as command
 use Rattle.hotel_core.proofs.OfCode.Parts.{SoFar, faults}
@@ -61,13 +61,26 @@ equal m n e = grind (arith, nat_tests)
 pub not_equal : (m n : ℕ) → n < m → (m == n) ≡ false
 not_equal m n e = grind (arith, nat_tests)
 
--- a note of a room that is there, once a day is set
-pub reported_there : (rows : Rows) (ahead : List ℕ) (note : Note) (day : ℕ) (row : RoomRow) (kept : Option Note)
-    → rows.day ≡ Some day → room_at rows note.room ≡ Some row → note_at rows note.room note.count ≡ kept → outcome_on rows ahead (command.Reported note) ≡ reported_on rows note kept
+-- a note of a room that is there, once a day is set, by whether it is of a later lock
+by_fit : (rows : Rows) (ahead : List ℕ) (note : Note) (day : ℕ) (row : RoomRow) (later : Bool)
+    → rows.day ≡ Some day → room_at rows note.room ≡ Some row → is_later_fit_on rows note.room note.fit ≡ later
+    → outcome_on rows ahead (command.Reported note) ≡ unless (bars later NoFit ∷ []) (reported_on rows note (note_at rows note.room note.count))
 unfolding outcome_on
-reported_there rows ahead note day row kept d r n =
-    ap (λ x. unless (needs (is_some x) NotBegun ∷ needs (is_some (room_at rows note.room)) NoRoom ∷ []) (reported_on rows note (note_at rows note.room note.count))) d
-    ∙ ap (λ x. unless (needs (is_some x) NoRoom ∷ []) (reported_on rows note (note_at rows note.room note.count))) r ∙ ap (λ x. reported_on rows note x) n
+by_fit rows ahead note day row later d r l =
+    let comes : Outcome Change = reported_on rows note (note_at rows note.room note.count) in
+    ap (λ x. unless (needs (is_some x) NotBegun ∷ needs (is_some (room_at rows note.room)) NoRoom ∷ bars (is_later_fit_on rows note.room note.fit) NoFit ∷ []) comes) d
+    ∙ ap (λ x. unless (needs (is_some x) NoRoom ∷ bars (is_later_fit_on rows note.room note.fit) NoFit ∷ []) comes) r ∙ ap (λ b. unless (bars b NoFit ∷ []) comes) l
+
+-- a note of a later lock than that of its room
+pub later_there : (rows : Rows) (ahead : List ℕ) (note : Note) (day : ℕ) (row : RoomRow)
+    → rows.day ≡ Some day → room_at rows note.room ≡ Some row → is_later_fit_on rows note.room note.fit ≡ true → outcome_on rows ahead (command.Reported note) ≡ refused NoFit
+later_there rows ahead note day row d r l = by_fit rows ahead note day row true d r l
+
+-- a note of a lock that its room has had
+pub reported_there : (rows : Rows) (ahead : List ℕ) (note : Note) (day : ℕ) (row : RoomRow) (kept : Option Note)
+    → rows.day ≡ Some day → room_at rows note.room ≡ Some row → is_later_fit_on rows note.room note.fit ≡ false → note_at rows note.room note.count ≡ kept
+    → outcome_on rows ahead (command.Reported note) ≡ reported_on rows note kept
+reported_there rows ahead note day row kept d r l n = by_fit rows ahead note day row false d r l ∙ ap (λ x. reported_on rows note x) n
 
 -- the next note of a room, by its count
 pub next_told : (rows : Rows) (note : Note) (row : RoomRow) (what : Act) (count : ℕ) → room_at rows note.room ≡ Some row → count ≡ note.count → row.notes < count → count ≤ row.notes + 1 → what ≡ note.act

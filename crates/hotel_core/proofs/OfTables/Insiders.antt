@@ -7,8 +7,8 @@ use Rattle.hotel_core.proofs.OfTables.KeysInOrder.{InOrder, has_key, in_order_in
 -- The cards inside rooms stand in order, none twice.
 pub insiders_in_order : (h : History) → Reached h → InOrder pair_cmp (insiders h)
 insiders_in_order (start t) ok = (orders t ok).inside
-insiders_in_order (h ▷ Entered room count number link at) ok = in_order_inserted pair_cmp pair_cmp_total (room, number) (insiders h) (insiders_in_order h ok.0)
-insiders_in_order (h ▷ Left room count number link at) ok = in_order_removed pair_cmp (room, number) (insiders h) (insiders_in_order h ok.0)
+insiders_in_order (h ▷ Entered room fit count number link at) ok = in_order_inserted pair_cmp pair_cmp_total (room, number) (insiders h) (insiders_in_order h ok.0)
+insiders_in_order (h ▷ Left room fit count number link at) ok = in_order_removed pair_cmp (room, number) (insiders h) (insiders_in_order h ok.0)
 insiders_in_order (h ▷ _) ok = insiders_in_order h ok.0
 
 those_by : (b : Bool) (n m : ℕ) (ns : List ℕ) → is_one_of n (when b (λ numbers. m ∷ numbers) ns) ≡ ((b && (m == n)) || is_one_of n ns)

@@ -40,15 +40,15 @@ kept_more h note r k n ih =
 -- The note of a room's count k + 1 is the first after k notes there.
 pub note_kept : (h : History) → Reached h → (r k : ℕ) → lookup (is_at (pair_cmp (r, k + 1))) (all_notes h) ≡ first_note (drop k (notes h r))
 note_kept (start t) ok r k = note_kept_at_start t ok r k
-note_kept (h ▷ Entered room count number link at) ok r k =
-    kept_more h (record { room = room; count = count; act = act.Entered number link; day = at.0; second = at.1 }) r k
-    (may_follow h (Entered room count number link at) ok).0 (note_kept h ok.0 r k)
-note_kept (h ▷ Left room count number link at) ok r k =
-    kept_more h (record { room = room; count = count; act = act.Left number link; day = at.0; second = at.1 }) r k
-    (may_follow h (Left room count number link at) ok).0 (note_kept h ok.0 r k)
-note_kept (h ▷ Recoded room count from to at) ok r k =
-    kept_more h (record { room = room; count = count; act = act.Recoded from to; day = at.0; second = at.1 }) r k
-    (may_follow h (Recoded room count from to at) ok).0 (note_kept h ok.0 r k)
+note_kept (h ▷ Entered room fit count number link at) ok r k =
+    kept_more h (record { room = room; fit = fit; count = count; act = act.Entered number link; day = at.0; second = at.1 }) r k
+    (may_follow h (Entered room fit count number link at) ok).0 (note_kept h ok.0 r k)
+note_kept (h ▷ Left room fit count number link at) ok r k =
+    kept_more h (record { room = room; fit = fit; count = count; act = act.Left number link; day = at.0; second = at.1 }) r k
+    (may_follow h (Left room fit count number link at) ok).0 (note_kept h ok.0 r k)
+note_kept (h ▷ Recoded room fit count from to at) ok r k =
+    kept_more h (record { room = room; fit = fit; count = count; act = act.Recoded from to; day = at.0; second = at.1 }) r k
+    (may_follow h (Recoded room fit count from to at) ok).0 (note_kept h ok.0 r k)
 note_kept (h ▷ _) ok r k = note_kept h ok.0 r k
 
 found_first : (h : History) → Reached h → (r count : ℕ) → 1 ≤ count → note_at (rows_of h) r count ≡ first_note (drop (count - 1) (notes h r))

@@ -75,15 +75,15 @@ note_added (e ∷ es) note r s all =
 
 -- A note that is taken has the next count of its room.
 pub noted_next : (h : History) (event : Event) (note : Note) → Reached (h ▷ event) → note_of event ≡ Some note → note.count ≡ length (notes h note.room) + 1
-noted_next h (Entered room count number link at) note ok e =
-    let w : record { room = room; count = count; act = act.Entered number link; day = at.0; second = at.1 } ≡ note = cc in
-    subst (λ (n : Note). n.count ≡ length (notes h n.room) + 1) w (may_follow h (Entered room count number link at) ok).0
-noted_next h (Left room count number link at) note ok e =
-    let w : record { room = room; count = count; act = act.Left number link; day = at.0; second = at.1 } ≡ note = cc in
-    subst (λ (n : Note). n.count ≡ length (notes h n.room) + 1) w (may_follow h (Left room count number link at) ok).0
-noted_next h (Recoded room count from to at) note ok e =
-    let w : record { room = room; count = count; act = act.Recoded from to; day = at.0; second = at.1 } ≡ note = cc in
-    subst (λ (n : Note). n.count ≡ length (notes h n.room) + 1) w (may_follow h (Recoded room count from to at) ok).0
+noted_next h (Entered room fit count number link at) note ok e =
+    let w : record { room = room; fit = fit; count = count; act = act.Entered number link; day = at.0; second = at.1 } ≡ note = cc in
+    subst (λ (n : Note). n.count ≡ length (notes h n.room) + 1) w (may_follow h (Entered room fit count number link at) ok).0
+noted_next h (Left room fit count number link at) note ok e =
+    let w : record { room = room; fit = fit; count = count; act = act.Left number link; day = at.0; second = at.1 } ≡ note = cc in
+    subst (λ (n : Note). n.count ≡ length (notes h n.room) + 1) w (may_follow h (Left room fit count number link at) ok).0
+noted_next h (Recoded room fit count from to at) note ok e =
+    let w : record { room = room; fit = fit; count = count; act = act.Recoded from to; day = at.0; second = at.1 } ≡ note = cc in
+    subst (λ (n : Note). n.count ≡ length (notes h n.room) + 1) w (may_follow h (Recoded room fit count from to at) ok).0
 noted_next h _ note ok e = cc
 
 notes_grow : (o : Option Note) (r : ℕ) (taken : List Note) → length taken ≤ length (with_note r o taken)

@@ -56,9 +56,9 @@ has_rows_where h (Issue party room number code) ok n l =
 has_rows_where h (Spare party number) ok n l = n.2
 has_rows_where h (CheckOut party) ok n l = (has_stay h party n.0, home_has_row h party ok n.1)
 has_rows_where h NextDay ok n l = n.0
-has_rows_where h (Entered room count number link at) ok n l = (room_has_row h room n.1, next_is_new h room count ok n.0)
-has_rows_where h (Left room count number link at) ok n l = (room_has_row h room n.1, next_is_new h room count ok n.0)
-has_rows_where h (Recoded room count from to at) ok n l = (room_has_row h room n.1, next_is_new h room count ok n.0)
+has_rows_where h (Entered room fit count number link at) ok n l = (room_has_row h room n.1, next_is_new h room count ok n.0)
+has_rows_where h (Left room fit count number link at) ok n l = (room_has_row h room n.1, next_is_new h room count ok n.0)
+has_rows_where h (Recoded room fit count from to at) ok n l = (room_has_row h room n.1, next_is_new h room count ok n.0)
 
 -- The change of an event of a reached history has its rows.
 pub changes_have_rows : (h : History) (event : Event) → Reached (h ▷ event) → HasItsRows (change_of h event) (rows_of h)

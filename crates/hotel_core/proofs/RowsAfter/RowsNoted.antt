@@ -10,10 +10,10 @@ abbrev pub noted_row : ℕ → Bool → ℕ → RoomRow → RoomRow
 noted_row place s count row = record row { lock_place = place; secured = s; notes = count }
 
 -- a card enters
-pub entered_follows : (h : History) (room count number : ℕ) (link : Link) (at : Moment) → Reached h → count ≡ length (notes h room) + 1 → FollowsBy h (Entered room count number link at)
-entered_follows h room count number link at ok n =
-    let h' : History = h ▷ Entered room count number link at in
-    let note : Note = record { room = room; count = count; act = act.Entered number link; day = at.0; second = at.1 } in
+pub entered_follows : (h : History) (room fit count number : ℕ) (link : Link) (at : Moment) → Reached h → count ≡ length (notes h room) + 1 → FollowsBy h (Entered room fit count number link at)
+entered_follows h room fit count number link at ok n =
+    let h' : History = h ▷ Entered room fit count number link at in
+    let note : Note = record { room = room; fit = fit; count = count; act = act.Entered number link; day = at.0; second = at.1 } in
     let c : RoomRow → RoomRow = noted_row (length (passed h' room)) (secured h' room) count in
     ap (λ rs. record (rows_of h') { rooms = rs })
     (one_changed (room_row h') (room_row h) c room
@@ -27,10 +27,10 @@ entered_follows h room count number link at ok n =
     ∙ ap (λ pairs. record (rows_of h') { rooms = room_changed room c (rows_of h).rooms; inside = pairs }) (card_came h room number ok)
 
 -- staff recode a lock
-pub recoded_follows : (h : History) (room count from to : ℕ) (at : Moment) → Reached h → count ≡ length (notes h room) + 1 → FollowsBy h (Recoded room count from to at)
-recoded_follows h room count from to at ok n =
-    let h' : History = h ▷ Recoded room count from to at in
-    let note : Note = record { room = room; count = count; act = act.Recoded from to; day = at.0; second = at.1 } in
+pub recoded_follows : (h : History) (room fit count from to : ℕ) (at : Moment) → Reached h → count ≡ length (notes h room) + 1 → FollowsBy h (Recoded room fit count from to at)
+recoded_follows h room fit count from to at ok n =
+    let h' : History = h ▷ Recoded room fit count from to at in
+    let note : Note = record { room = room; fit = fit; count = count; act = act.Recoded from to; day = at.0; second = at.1 } in
     let c : RoomRow → RoomRow = noted_row (length (passed h' room)) (secured h' room) count in
     ap (λ rs. record (rows_of h') { rooms = rs })
     (one_changed (room_row h') (room_row h) c room

@@ -36,10 +36,10 @@ length_more [] x = refl
 length_more (y ∷ ys) x = let p = length_more ys x in omega arith
 
 -- a card leaves
-pub left_follows : (h : History) (room count number : ℕ) (link : Link) (at : Moment) → RoomsOnce (rooms h) → count ≡ length (notes h room) + 1 → FollowsBy h (Left room count number link at)
-left_follows h room count number link at once n =
-    let h' : History = h ▷ Left room count number link at in
-    let note : Note = record { room = room; count = count; act = act.Left number link; day = at.0; second = at.1 } in
+pub left_follows : (h : History) (room fit count number : ℕ) (link : Link) (at : Moment) → RoomsOnce (rooms h) → count ≡ length (notes h room) + 1 → FollowsBy h (Left room fit count number link at)
+left_follows h room fit count number link at once n =
+    let h' : History = h ▷ Left room fit count number link at in
+    let note : Note = record { room = room; fit = fit; count = count; act = act.Left number link; day = at.0; second = at.1 } in
     ap (λ rs. record (rows_of h') { rooms = rs })
     (one_changed (room_row h') (room_row h) _ room
     (λ r k t. ap (λ b. record (room_row h r k) { notes = length (when b (and_last note) (notes h r)) }) t)

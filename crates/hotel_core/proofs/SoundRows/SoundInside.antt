@@ -19,12 +19,12 @@ InsidersSeen h = (r n : ℕ) → is_one_of n (inside h r) ≡ true → (is_room 
 
 -- more codes are passed at a room
 passed_grow : (h : History) (event : Event) (r : ℕ) → length (passed h r) ≤ length (passed (h ▷ event) r)
-passed_grow h (Entered room count number link at) r = by ((room == r) && turns h room link)
+passed_grow h (Entered room fit count number link at) r = by ((room == r) && turns h room link)
   where
     by : (b : Bool) → length (passed h r) ≤ length (when b (and_last link.old_code) (passed h r))
     by true = omega (arith, length-append (passed h r) (link.old_code ∷ []))
     by false = omega arith
-passed_grow h (Recoded room count from to at) r = by (room == r)
+passed_grow h (Recoded room fit count from to at) r = by (room == r)
   where
     by : (b : Bool) → length (passed h r) ≤ length (when b (λ codes. codes ++ from ∷ before to (awaited h r)) (passed h r))
     by true = omega (arith, length-append (passed h r) (from ∷ before to (awaited h r)))
@@ -47,29 +47,29 @@ still_seen h event r n ok ih t =
     (room_goes_on h event r c.0, c.1, card_goes_on h event n c.1 ok c.2, seen_goes_on h event r c.1.link c.3)
 
 -- after an entry the lock has seen the card's link
-entry_seen : (h : History) → Reached h → (room count number : ℕ) (link : Link) (at : Moment) → MayFollow h (Entered room count number link at) → HasSeen (h ▷ Entered room count number link at) room link
-entry_seen h ok room count number link at needs =
-    let h' : History = h ▷ Entered room count number link at in
+entry_seen : (h : History) → Reached h → (room fit count number : ℕ) (link : Link) (at : Moment) → MayFollow h (Entered room fit count number link at) → HasSeen (h ▷ Entered room fit count number link at) room link
+entry_seen h ok room fit count number link at needs =
+    let h' : History = h ▷ Entered room fit count number link at in
     let l = link_of_room h ok room link needs.1 (link_seen h number link ok needs.2 needs.3) needs.4 in
     let f = l.2 ∙ sym (append_assoc l.0 (link.old_code ∷ []) (link.new_code ∷ l.1)) in
-    let p = (same_place h ok room room link.new_code (passed h' room) (awaited h' room) (l.0 ++ link.old_code ∷ []) l.1 (entered_in_order h ok room count number link at needs) f).1 in
+    let p = (same_place h ok room room link.new_code (passed h' room) (awaited h' room) (l.0 ++ link.old_code ∷ []) l.1 (entered_in_order h ok room fit count number link at needs) f).1 in
     let n : length (passed h' room) ≡ length (l.0 ++ link.old_code ∷ []) = ap (λ (zs : List ℕ). length zs) p in
     (l.0, l.1, l.2, omega (arith, n, length-append l.0 (link.old_code ∷ [])))
 
 pub insiders_seen : (h : History) → Reached h → InsidersSeen h
 insiders_seen (start t) ok r n e = insiders_seen_at_start t ok r n e
-insiders_seen (h ▷ Entered room count number link at) ok r n e =
-    let event : Event = Entered room count number link at in
+insiders_seen (h ▷ Entered room fit count number link at) ok r n e =
+    let event : Event = Entered room fit count number link at in
     elim (came_in (insiders h) room number r n e) [
       | inl p ↦
           let needs = may_follow h event ok in
           let c = card_seen h number link needs.2 needs.3 in
-          let seen : HasSeen (h ▷ event) r link = subst (λ z. HasSeen (h ▷ event) z link) p.0 (entry_seen h ok.0 room count number link at needs) in
+          let seen : HasSeen (h ▷ event) r link = subst (λ z. HasSeen (h ▷ event) z link) p.0 (entry_seen h ok.0 room fit count number link at needs) in
           (subst (λ z. is_room h z ≡ true) p.0 needs.1, c.0, ap (at_number (cards h)) (sym p.1) ∙ c.1, subst (HasSeen (h ▷ event) r) (sym c.2) seen)
       | inr q ↦ still_seen h event r n ok (insiders_seen h ok.0) q
     ]
-insiders_seen (h ▷ Left room count number link at) ok r n e =
-    still_seen h (Left room count number link at) r n ok (insiders_seen h ok.0) (left_out (insiders h) (room, number) r n e)
+insiders_seen (h ▷ Left room fit count number link at) ok r n e =
+    still_seen h (Left room fit count number link at) r n ok (insiders_seen h ok.0) (left_out (insiders h) (room, number) r n e)
 insiders_seen (h ▷ event) ok r n e = still_seen h event r n ok (insiders_seen h ok.0) e
 
 -- a number has one card

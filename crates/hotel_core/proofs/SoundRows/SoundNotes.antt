@@ -1,5 +1,6 @@
 -- Notes: their counts, and that what they say fits their rooms.
-use Rattle.std.proofs.Common.{ℕ, ◌≡◌, ◌<◌, true, Some, List, ◌∷◌, ◌++◌, length, ap, sym, ◌∙◌, subst, append_assoc, arith, length-append, ◌&&◌, is_some, nat_le}
+use Rattle.std.proofs.Common.{ℕ, ◌≡◌, ◌<◌, ◌≤◌, ◌==◌, true, false, Some, List, ◌∷◌, ◌++◌, length, ap, sym, ◌∙◌, subst, append_assoc, arith, length-append, ◌&&◌, is_some, nat_le, nat_lt}
+use Rattle.std.proofs.lemmas.Bool.{ltb-false}
 use Rattle.hotel_core.proofs.Names.{Card, Link, Act, Note, IsTimed, CodeRow, is_one_of, before, after, at_number, Event, Moment, Entered, Left, Recoded, note_of, History, ◌▷◌, issued, all_issued, cards, held, passed, awaited, same_link, rows_of, is_room, Reached, is_day, count_up, code_is, are_neighbours, stands_at, comes_later, has_link_at, act_fits, note_fits, notes_fit, counts_at, notes_counted, list_all}
 use Rattle.keycard_rules.specs.declared.note.Act.TheVariants as act
 use Rattle.hotel_core.proofs.{Facts.CodeFacts.IsLinkOf, OfTables.Tests.eq_from, OfTables.Tests.eq_self, OfTables.Tests.and_true, OfTables.Grown.may_follow}
@@ -48,10 +49,14 @@ note_on h event e ok t =
     let there : is_room h e.0.0 ≡ true = sym (room_is_there h e.0.0) ∙ d.1 in
     both _ _ (both _ _ (both _ _ (both _ _ d.0 (room_has_row (h ▷ event) e.0.0 (room_goes_on h event e.0.0 there))) (act_on h event e.0.0 e.1.act ok c.1)) b.1) a.1
 
--- a note fits where its room is there, what it says fits, and its time is one
-new_fits : (h : History) (note : Note) → is_room h note.room ≡ true → act_fits (rows_of h) note.room note.act ≡ true → IsTimed note.day note.second → note_fits (rows_of h) ((note.room, note.count), note) ≡ true
-new_fits h note there fits timed =
-    both _ _ (both _ _ (both _ _ (both _ _ (both _ _ (eq_self note.room) (eq_self note.count)) (room_has_row h note.room there)) fits) (le_tested note.day 36524 timed.0)) (le_tested note.second 86399 timed.1)
+-- a number from 1 on that is not after 1
+first_fit : (fit : ℕ) → 1 ≤ fit → nat_lt 1 fit ≡ false → (fit == 1) ≡ true
+first_fit fit least later = let first = ltb-false 1 fit later in let e : fit ≡ 1 = omega arith in ap (λ z. z == 1) e
+
+-- a note of the first lock fits where its room is there, what it says fits, and its time is one
+new_fits : (h : History) (note : Note) → (note.fit == 1) ≡ true → is_room h note.room ≡ true → act_fits (rows_of h) note.room note.act ≡ true → IsTimed note.day note.second → note_fits (rows_of h) ((note.room, note.count), note) ≡ true
+new_fits h note first there fits timed =
+    both _ _ (both _ _ (both _ _ (both _ _ (both _ _ (both _ _ first (eq_self note.room)) (eq_self note.count)) (room_has_row h note.room there)) fits) (le_tested note.day 36524 timed.0)) (le_tested note.second 86399 timed.1)
 
 -- a card with the link of a room
 link_fits : (h : History) → Reached h → (room number : ℕ) (link : Link) (card : Card) → at_number (cards h) number ≡ Some card → card.link ≡ link → IsLinkOf (issued h room) link → has_link_at (rows_of h) room number link ≡ true
@@ -76,15 +81,15 @@ recoding_fits h ok room from to there holds waits =
     (said_some (at_number (all_issued h) to) second (comes_later room first) (codes_have_places h ok room (past ++ from ∷ between) to rest f)
     (both _ _ (both _ _ (eq_self room) (eq_self room)) (lt_tested (length past) (length (past ++ from ∷ between)) later)))
 
-entered_fits : (h : History) (room count number : ℕ) (link : Link) (at : Moment) → Reached (h ▷ Entered room count number link at) → act_fits (rows_of h) room (act.Entered number link) ≡ true
-entered_fits h room count number link at ok =
-    let n = may_follow h (Entered room count number link at) ok in
+entered_fits : (h : History) (room fit count number : ℕ) (link : Link) (at : Moment) → Reached (h ▷ Entered room fit count number link at) → act_fits (rows_of h) room (act.Entered number link) ≡ true
+entered_fits h room fit count number link at ok =
+    let n = may_follow h (Entered room fit count number link at) ok in
     let c = card_seen h number link n.2 n.3 in
     link_fits h ok.0 room number link c.0 c.1 c.2 (link_of_room h ok.0 room link n.1 (link_seen h number link ok.0 n.2 n.3) n.4)
 
-left_fits : (h : History) (room count number : ℕ) (link : Link) (at : Moment) → Reached (h ▷ Left room count number link at) → act_fits (rows_of h) room (act.Left number link) ≡ true
-left_fits h room count number link at ok =
-    let n = may_follow h (Left room count number link at) ok in
+left_fits : (h : History) (room fit count number : ℕ) (link : Link) (at : Moment) → Reached (h ▷ Left room fit count number link at) → act_fits (rows_of h) room (act.Left number link) ≡ true
+left_fits h room fit count number link at ok =
+    let n = may_follow h (Left room fit count number link at) ok in
     let c = card_seen h number link n.2 n.3 in
     let s = insiders_seen h ok.0 room number n.4 in
     let same : s.1.link ≡ link = ap (λ (x : Card). x.link) (one_card (at_number (cards h) number) s.1 c.0 s.2 c.1) ∙ c.2 in
@@ -92,25 +97,25 @@ left_fits h room count number link at ok =
     link_fits h ok.0 room number link c.0 c.1 c.2 (subst (IsLinkOf (issued h room)) same l)
 
 one_fits : (h : History) (event : Event) (note : Note) → Reached (h ▷ event) → note_of event ≡ Some note → note_fits (rows_of (h ▷ event)) ((note.room, note.count), note) ≡ true
-one_fits h (Entered room count number link at) note ok e =
-    let event : Event = Entered room count number link at in
-    let its : Note = record { room = room; count = count; act = act.Entered number link; day = at.0; second = at.1 } in
+one_fits h (Entered room fit count number link at) note ok e =
+    let event : Event = Entered room fit count number link at in
+    let its : Note = record { room = room; fit = fit; count = count; act = act.Entered number link; day = at.0; second = at.1 } in
     let w : its ≡ note = cc in
     subst (λ (n : Note). note_fits (rows_of (h ▷ event)) ((n.room, n.count), n) ≡ true) w
-    (new_fits (h ▷ event) its (may_follow h event ok).1 (entered_fits h room count number link at ok) (last_in_range h event ok).1)
-one_fits h (Left room count number link at) note ok e =
-    let event : Event = Left room count number link at in
-    let its : Note = record { room = room; count = count; act = act.Left number link; day = at.0; second = at.1 } in
+    (new_fits (h ▷ event) its (first_fit fit (last_in_range h event ok).2.0 (may_follow h event ok).5) (may_follow h event ok).1 (entered_fits h room fit count number link at ok) (last_in_range h event ok).1)
+one_fits h (Left room fit count number link at) note ok e =
+    let event : Event = Left room fit count number link at in
+    let its : Note = record { room = room; fit = fit; count = count; act = act.Left number link; day = at.0; second = at.1 } in
     let w : its ≡ note = cc in
     subst (λ (n : Note). note_fits (rows_of (h ▷ event)) ((n.room, n.count), n) ≡ true) w
-    (new_fits (h ▷ event) its (may_follow h event ok).1 (left_fits h room count number link at ok) (last_in_range h event ok).1)
-one_fits h (Recoded room count from to at) note ok e =
-    let event : Event = Recoded room count from to at in
-    let its : Note = record { room = room; count = count; act = act.Recoded from to; day = at.0; second = at.1 } in
+    (new_fits (h ▷ event) its (first_fit fit (last_in_range h event ok).2.0 (may_follow h event ok).5) (may_follow h event ok).1 (left_fits h room fit count number link at ok) (last_in_range h event ok).1)
+one_fits h (Recoded room fit count from to at) note ok e =
+    let event : Event = Recoded room fit count from to at in
+    let its : Note = record { room = room; fit = fit; count = count; act = act.Recoded from to; day = at.0; second = at.1 } in
     let w : its ≡ note = cc in
     let n = may_follow h event ok in
     subst (λ (n : Note). note_fits (rows_of (h ▷ event)) ((n.room, n.count), n) ≡ true) w
-    (new_fits (h ▷ event) its n.1 (recoding_fits h ok.0 room from to n.1 (eq_from (held h room) from n.2) n.3) (last_in_range h event ok).1)
+    (new_fits (h ▷ event) its (first_fit fit (last_in_range h event ok).2.0 n.4) n.1 (recoding_fits h ok.0 room from to n.1 (eq_from (held h room) from n.2) n.3) (last_in_range h event ok).1)
 one_fits h _ note ok e = cc
 
 -- What each note says fits its room.

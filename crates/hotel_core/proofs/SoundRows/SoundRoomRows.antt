@@ -47,15 +47,15 @@ one_more_by false note taken count n m few = few
 -- A room has at most 9,999,999 notes.
 pub few_notes : (h : History) → Reached h → (r : ℕ) → length (notes h r) ≤ 9999999
 few_notes (start t) ok r = few_notes_at_start t ok r
-few_notes (h ▷ Entered room count number link at) ok r =
-    one_more_by (room == r) (record { room = room; count = count; act = act.Entered number link; day = at.0; second = at.1 }) (notes h r) count
-    (λ t. (may_follow h (Entered room count number link at) ok).0 ∙ ap (λ z. length (notes h z) + 1) (eq_from room r t)) (last_in_range h (Entered room count number link at) ok).0.1 (few_notes h ok.0 r)
-few_notes (h ▷ Left room count number link at) ok r =
-    one_more_by (room == r) (record { room = room; count = count; act = act.Left number link; day = at.0; second = at.1 }) (notes h r) count
-    (λ t. (may_follow h (Left room count number link at) ok).0 ∙ ap (λ z. length (notes h z) + 1) (eq_from room r t)) (last_in_range h (Left room count number link at) ok).0.1 (few_notes h ok.0 r)
-few_notes (h ▷ Recoded room count from to at) ok r =
-    one_more_by (room == r) (record { room = room; count = count; act = act.Recoded from to; day = at.0; second = at.1 }) (notes h r) count
-    (λ t. (may_follow h (Recoded room count from to at) ok).0 ∙ ap (λ z. length (notes h z) + 1) (eq_from room r t)) (last_in_range h (Recoded room count from to at) ok).0.1 (few_notes h ok.0 r)
+few_notes (h ▷ Entered room fit count number link at) ok r =
+    one_more_by (room == r) (record { room = room; fit = fit; count = count; act = act.Entered number link; day = at.0; second = at.1 }) (notes h r) count
+    (λ t. (may_follow h (Entered room fit count number link at) ok).0 ∙ ap (λ z. length (notes h z) + 1) (eq_from room r t)) (last_in_range h (Entered room fit count number link at) ok).0.1 (few_notes h ok.0 r)
+few_notes (h ▷ Left room fit count number link at) ok r =
+    one_more_by (room == r) (record { room = room; fit = fit; count = count; act = act.Left number link; day = at.0; second = at.1 }) (notes h r) count
+    (λ t. (may_follow h (Left room fit count number link at) ok).0 ∙ ap (λ z. length (notes h z) + 1) (eq_from room r t)) (last_in_range h (Left room fit count number link at) ok).0.1 (few_notes h ok.0 r)
+few_notes (h ▷ Recoded room fit count from to at) ok r =
+    one_more_by (room == r) (record { room = room; fit = fit; count = count; act = act.Recoded from to; day = at.0; second = at.1 }) (notes h r) count
+    (λ t. (may_follow h (Recoded room fit count from to at) ok).0 ∙ ap (λ z. length (notes h z) + 1) (eq_from room r t)) (last_in_range h (Recoded room fit count from to at) ok).0.1 (few_notes h ok.0 r)
 few_notes (h ▷ _) ok r = few_notes h ok.0 r
 
 pub notes_numbered : (h : History) → Reached h → note_counts (rows_of h) ≡ true
@@ -73,11 +73,11 @@ pub secured_have_two : (h : History) → Reached h → (r : ℕ) → secured h r
 secured_have_two (start t) ok r e = secured_have_two_at_start t ok r e
 secured_have_two (h ▷ Install room kind code) ok r e = issued_to (room == r) (secured h r) (issued h r) code (secured_have_two h ok.0 r) e
 secured_have_two (h ▷ Issue party room number code) ok r e = issued_to (room == r) (secured h r) (issued h r) code (secured_have_two h ok.0 r) e
-secured_have_two (h ▷ Entered room count number link at) ok r e =
+secured_have_two (h ▷ Entered room fit count number link at) ok r e =
     elim (secured_by ((room == r) && (link.new_code == current h room) && are_none (inside h room)) (secured h r) e) [
       | inl t ↦
           let here = (and_true (room == r) (link.new_code == current h room) (and_true _ (are_none (inside h room)) t).0).0 in
-          let needs = may_follow h (Entered room count number link at) ok in
+          let needs = may_follow h (Entered room fit count number link at) ok in
           subst (λ z. 2 ≤ length (issued h z)) (eq_from room r here) (two_of_link (issued h room) link (link_of_room h ok.0 room link needs.1 (link_seen h number link ok.0 needs.2 needs.3) needs.4))
       | inr s ↦ secured_have_two h ok.0 r s
     ]

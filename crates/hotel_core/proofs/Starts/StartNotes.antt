@@ -24,13 +24,13 @@ kept_from : (t : Rows) (es : List ((ℕ × ℕ) × Note))
     → list_all (note_fits t) es ≡ true → Kept t es
 kept_from t [] a = tt
 kept_from t (e ∷ es) a =
-    let first = (e.1.room == e.0.0) && (e.1.count == e.0.1) in
+    let first = (e.1.fit == 1) && (e.1.room == e.0.0) && (e.1.count == e.0.1) in
     let p = and_true (first && is_some (at_number t.rooms e.0.0) && act_fits t e.0.0 e.1.act && is_day e.1.day && nat_le e.1.second 86399) _ a in
     let q = and_true (first && is_some (at_number t.rooms e.0.0) && act_fits t e.0.0 e.1.act && is_day e.1.day) (nat_le e.1.second 86399) p.0 in
     let u = and_true (first && is_some (at_number t.rooms e.0.0) && act_fits t e.0.0 e.1.act) (is_day e.1.day) q.0 in
     let v = and_true (first && is_some (at_number t.rooms e.0.0)) (act_fits t e.0.0 e.1.act) u.0 in
     let w = and_true first (is_some (at_number t.rooms e.0.0)) v.0 in
-    let c = and_true (e.1.room == e.0.0) (e.1.count == e.0.1) w.0 in
+    let c = and_true ((e.1.fit == 1) && (e.1.room == e.0.0)) (e.1.count == e.0.1) w.0 in
     (eq_from e.1.count e.0.1 c.1, w.1, kept_from t es p.1)
 
 -- where there is no room there are no notes

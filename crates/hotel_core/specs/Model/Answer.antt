@@ -4,7 +4,7 @@ use Rattle.hotel_core.specs.declared.command.Command.{Command}
 use Rattle.hotel_core.specs.declared.command.Command.TheVariants as command
 use Rattle.hotel_core.specs.declared.reply.Reply.TheVariants as reply
 use Rattle.hotel_core.specs.declared.reply.Refusal.{Refusal}
-use Rattle.hotel_core.specs.declared.reply.Refusal.TheVariants.{NotBegun, AlreadyBegun, KindExists, NoKind, RoomExists, NoRoom, NoParty, NotBooked, NotInHouse, TooEarly, StayOver, WrongKind, SameRoom, RoomTaken, PastArrival, PastEnd, KindFull, NumbersUsedUp, LastDay, Conflict, Gap, NoCard, CardDiffers, LockShut, NotInside, HeldDiffers, NotAwaited}
+use Rattle.hotel_core.specs.declared.reply.Refusal.TheVariants.{NotBegun, AlreadyBegun, KindExists, NoKind, RoomExists, NoRoom, NoParty, NotBooked, NotInHouse, TooEarly, StayOver, WrongKind, SameRoom, RoomTaken, PastArrival, PastEnd, KindFull, NumbersUsedUp, LastDay, Conflict, Gap, NoCard, CardDiffers, LockShut, NotInside, HeldDiffers, NotAwaited, NoFit}
 use Rattle.keycard_rules.specs.declared.note.Act.{Act}
 use Rattle.keycard_rules.specs.declared.note.Act.TheVariants as act
 use Rattle.keycard_rules.specs.Note.{Note}
@@ -17,20 +17,20 @@ use Rattle.hotel_core.specs.Model.Ledger.{awaited}
 use Rattle.hotel_core.specs.Model.Guests.{inside}
 use Rattle.hotel_core.specs.Model.Stays.{first_full}
 use Rattle.hotel_core.specs.Model.Notes.{Standing, Copy, Conflicting, Next, After, standing}
-use Rattle.hotel_core.specs.Model.Cases.{is_begun, today, is_kind, is_room, is_party, is_booked, is_in_house, is_early, is_over, is_of_kind, is_home, own_room, is_taken, parties_used_up, next_party, cards_used_up, next_card, last_card_of, is_card, has_link, opens, holds}
+use Rattle.hotel_core.specs.Model.Cases.{is_begun, today, is_kind, is_room, is_party, is_booked, is_in_house, is_early, is_over, is_of_kind, is_home, own_room, is_taken, parties_used_up, next_party, cards_used_up, next_card, last_card_of, is_later_fit, is_card, has_link, opens, holds}
 use Rattle.hotel_core.specs.Model.Outcome.{Outcome, needs, bars, unless, accepted, said, refused, with_fresh}
 
 -- The next note of a room: what it says must be so.
 abbrev pub told : History → Note → Act → Outcome Event
 told h note (act.Entered number link) =
     unless (needs (is_card h number) NoCard ∷ needs (has_link h number link) CardDiffers ∷ needs (opens h note.room link) LockShut ∷ [])
-    (accepted reply.Taken (event.Entered note.room note.count number link (moment_of note)))
+    (accepted reply.Taken (event.Entered note.room note.fit note.count number link (moment_of note)))
 told h note (act.Left number link) =
     unless (needs (is_card h number) NoCard ∷ needs (has_link h number link) CardDiffers ∷ needs (is_one_of number (inside h note.room)) NotInside ∷ [])
-    (accepted reply.Taken (event.Left note.room note.count number link (moment_of note)))
+    (accepted reply.Taken (event.Left note.room note.fit note.count number link (moment_of note)))
 told h note (act.Recoded from to) =
     unless (needs (holds h note.room from) HeldDiffers ∷ needs (is_one_of to (awaited h note.room)) NotAwaited ∷ [])
-    (accepted reply.Taken (event.Recoded note.room note.count from to (moment_of note)))
+    (accepted reply.Taken (event.Recoded note.room note.fit note.count from to (moment_of note)))
 
 -- A copy was seen, another content is a conflict, a later count leaves a gap; only the next note is looked at.
 abbrev pub reported : History → Note → Standing → Outcome Event
@@ -65,7 +65,7 @@ checks h (command.Transfer party room) =
     ∷ bars (is_taken h room) RoomTaken ∷ bars (cards_used_up h) NumbersUsedUp ∷ []
 checks h (command.CheckOut party) = needs (is_begun h) NotBegun ∷ needs (is_party h party) NoParty ∷ needs (is_in_house h party) NotInHouse ∷ []
 checks h command.NextDay = needs (is_begun h) NotBegun ∷ needs (nat_lt (today h) 36524) LastDay ∷ []
-checks h (command.Reported note) = needs (is_begun h) NotBegun ∷ needs (is_room h note.room) NoRoom ∷ []
+checks h (command.Reported note) = needs (is_begun h) NotBegun ∷ needs (is_room h note.room) NoRoom ∷ bars (is_later_fit h note.room note.fit) NoFit ∷ []
 
 -- What comes of each command that passes its checks, where these are the source's next words.
 abbrev pub effect : History → List ℕ → Command → Outcome Event

@@ -12,6 +12,7 @@ use Rattle.keycard_rules.specs.Lock.{turn}
 use Rattle.hotel_core.specs.Model.Lock.{held}
 use Rattle.hotel_core.specs.Model.Guests.{registered}
 use Rattle.hotel_core.specs.Model.Stays.{day, kinds, rooms, stays, is_booked_state, room_of_state}
+use Rattle.hotel_core.specs.Model.Notes.{present_fit}
 
 -- a day is set
 abbrev pub is_begun : History → Bool
@@ -96,6 +97,10 @@ no_link = record { old_code = 0; new_code = 0 }
 -- the link of the card that the party was given last
 abbrev pub last_card_of : History → ℕ → Link
 last_card_of h party = said_of (link_of_party h party) no_link (λ link. link)
+
+-- the number is after that of the room's present lock
+abbrev pub is_later_fit : History → ℕ → ℕ → Bool
+is_later_fit h room fit = nat_lt (present_fit h room) fit
 
 -- a card of the number was given
 abbrev pub is_card : History → ℕ → Bool

@@ -33,15 +33,15 @@ pub data Event : Type 0 where
   -- the next business day comes
   NextDay : Event
   -- a lock reports: this card entered
-  Entered : (room count number : ℕ) → Link → Moment → Event
+  Entered : (room fit count number : ℕ) → Link → Moment → Event
   -- a lock reports: this card left
-  Left : (room count number : ℕ) → Link → Moment → Event
+  Left : (room fit count number : ℕ) → Link → Moment → Event
   -- a lock reports: staff recoded it
-  Recoded : (room count from to : ℕ) → Moment → Event
+  Recoded : (room fit count from to : ℕ) → Moment → Event
 
 -- the note that an event took, where it took one
 abbrev pub note_of : Event → Option Note
-note_of (Entered room count number link at) = Some (record { room = room; count = count; act = act.Entered number link; day = at.0; second = at.1 })
-note_of (Left room count number link at) = Some (record { room = room; count = count; act = act.Left number link; day = at.0; second = at.1 })
-note_of (Recoded room count from to at) = Some (record { room = room; count = count; act = act.Recoded from to; day = at.0; second = at.1 })
+note_of (Entered room fit count number link at) = Some (record { room = room; fit = fit; count = count; act = act.Entered number link; day = at.0; second = at.1 })
+note_of (Left room fit count number link at) = Some (record { room = room; fit = fit; count = count; act = act.Left number link; day = at.0; second = at.1 })
+note_of (Recoded room fit count from to at) = Some (record { room = room; fit = fit; count = count; act = act.Recoded from to; day = at.0; second = at.1 })
 note_of _ = None

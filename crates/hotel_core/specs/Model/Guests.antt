@@ -23,8 +23,8 @@ registered (h ▷ _) r = registered h r
 -- The cards that are inside: they entered a room and didn't leave it since.
 abbrev pub insiders : History → List (ℕ × ℕ)
 insiders (start t) = t.inside
-insiders (h ▷ Entered room count number link at) = insert_key pair_cmp (insiders h) (room, number)
-insiders (h ▷ Left room count number link at) = remove_key (is_at (pair_cmp (room, number))) (insiders h)
+insiders (h ▷ Entered room fit count number link at) = insert_key pair_cmp (insiders h) (room, number)
+insiders (h ▷ Left room fit count number link at) = remove_key (is_at (pair_cmp (room, number))) (insiders h)
 insiders (h ▷ _) = insiders h
 
 -- the cards of these pairs that are at a room
@@ -46,6 +46,6 @@ abbrev pub secured : History → ℕ → Bool
 secured (start t) r = said_of (at_number t.rooms r) false (λ row. row.secured)
 secured (h ▷ Install room kind code) r = when (room == r) (λ _. false) (secured h r)
 secured (h ▷ Issue party room number code) r = when (room == r) (λ _. false) (secured h r)
-secured (h ▷ Entered room count number link at) r =
+secured (h ▷ Entered room fit count number link at) r =
     when ((room == r) && (link.new_code == current h room) && are_none (inside h room)) (λ _. true) (secured h r)
 secured (h ▷ _) r = secured h r

@@ -28,7 +28,7 @@ LedgerHolds h = (r : ℕ) → is_room h r ≡ true → passed h r ++ held h r �
 -- A code that an entry took out of the awaited ones was their first.
 abbrev pub TakesTheFirst : History → Type 0
 TakesTheFirst (start t) = Unit {0}
-TakesTheFirst (h ▷ Entered room count number link at) =
+TakesTheFirst (h ▷ Entered room fit count number link at) =
     TakesTheFirst h × (turns h room link ≡ true → (later : List ℕ) × (awaited h room ≡ link.new_code ∷ later))
 TakesTheFirst (h ▷ _) = TakesTheFirst h
 

@@ -15,13 +15,13 @@ turns h room link = held h room == link.old_code
 abbrev pub awaited : History → ℕ → List ℕ
 awaited (start t) r = drop (lock_place_of t r + 1) (codes_at t r)
 awaited (h ▷ Issue party room number code) r = when (room == r) (and_last code) (awaited h r)
-awaited (h ▷ Entered room count number link at) r = when ((room == r) && turns h room link) (without link.new_code) (awaited h r)
-awaited (h ▷ Recoded room count from to at) r = when (room == r) (after to) (awaited h r)
+awaited (h ▷ Entered room fit count number link at) r = when ((room == r) && turns h room link) (without link.new_code) (awaited h r)
+awaited (h ▷ Recoded room fit count from to at) r = when (room == r) (after to) (awaited h r)
 awaited (h ▷ _) r = awaited h r
 
 -- The codes that a room's lock has passed: an entry that turns the lock passes its old code, a recoding passes the code that was held and each awaited one before its new code.
 abbrev pub passed : History → ℕ → List ℕ
 passed (start t) r = take (lock_place_of t r) (codes_at t r)
-passed (h ▷ Entered room count number link at) r = when ((room == r) && turns h room link) (and_last link.old_code) (passed h r)
-passed (h ▷ Recoded room count from to at) r = when (room == r) (λ codes. codes ++ from ∷ before to (awaited h r)) (passed h r)
+passed (h ▷ Entered room fit count number link at) r = when ((room == r) && turns h room link) (and_last link.old_code) (passed h r)
+passed (h ▷ Recoded room fit count from to at) r = when (room == r) (λ codes. codes ++ from ∷ before to (awaited h r)) (passed h r)
 passed (h ▷ _) r = passed h r

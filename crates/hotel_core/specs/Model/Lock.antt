@@ -9,6 +9,6 @@ use Rattle.hotel_core.specs.Model.History.{History, start, ◌▷◌}
 abbrev pub held : History → ℕ → ℕ
 held (start t) r = first_of (drop (lock_place_of t r) (codes_at t r))
 held (h ▷ Install room kind code) r = when (room == r) (λ _. code) (held h r)
-held (h ▷ Entered room count number link at) r = when (room == r) (λ _. link.new_code) (held h r)
-held (h ▷ Recoded room count from to at) r = when (room == r) (λ _. to) (held h r)
+held (h ▷ Entered room fit count number link at) r = when (room == r) (λ _. link.new_code) (held h r)
+held (h ▷ Recoded room fit count from to at) r = when (room == r) (λ _. to) (held h r)
 held (h ▷ _) r = held h r

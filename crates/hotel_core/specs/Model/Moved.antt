@@ -35,9 +35,9 @@ RecodingMoves h h' room from to = (between : List ℕ) × (later : List ℕ)
 
 -- What the event of a note moved between the history before it and the one after it; of a card that left, nothing.
 abbrev pub Moves : Event → History → History → Type 0
-Moves (Entered room count number link at) h h' = EntryMoves h h' room link × OthersStand h h' room
-Moves (Left room count number link at) h h' = (r : ℕ) → Stands h h' r
-Moves (Recoded room count from to at) h h' = RecodingMoves h h' room from to × OthersStand h h' room
+Moves (Entered room fit count number link at) h h' = EntryMoves h h' room link × OthersStand h h' room
+Moves (Left room fit count number link at) h h' = (r : ℕ) → Stands h h' r
+Moves (Recoded room fit count from to at) h h' = RecodingMoves h h' room from to × OthersStand h h' room
 Moves _ h h' = Unit {0}
 
 -- Each note moved exactly the codes that it records.

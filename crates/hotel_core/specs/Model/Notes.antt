@@ -39,7 +39,11 @@ same_act _ _ = false
 
 -- All fields of two notes are equal.
 abbrev pub same_note : Note → Note → Bool
-same_note a b = (a.room == b.room) && (a.count == b.count) && same_act a.act b.act && (a.day == b.day) && (a.second == b.second)
+same_note a b = (a.room == b.room) && (a.fit == b.fit) && (a.count == b.count) && same_act a.act b.act && (a.day == b.day) && (a.second == b.second)
+
+-- The number of a room's present lock: each room has its first one.
+abbrev pub present_fit : History → ℕ → ℕ
+present_fit h r = 1
 
 -- How a note stands to those that its room has.
 pub data Standing : Type 0 where

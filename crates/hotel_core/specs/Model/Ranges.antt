@@ -26,13 +26,17 @@ IsRoomNumber room = IsNumberUpTo 9999 room
 abbrev pub IsCount : ℕ → Type 0
 IsCount count = IsNumberUpTo 9999999 count
 
+-- a room's locks are numbered from 1 to 99
+abbrev pub IsFit : ℕ → Type 0
+IsFit fit = IsNumberUpTo 99 fit
+
 -- the command's values are in their ranges
 abbrev pub IsCommand : Command → Type 0
 IsCommand (command.Begin day) = IsDay day
 IsCommand (command.AddKind kind) = is_kind kind ≡ true
 IsCommand (command.AddRoom room kind) = IsRoomNumber room
 IsCommand (command.Reserve guest kind arrive nights) = (is_guest guest ≡ true) × IsDay arrive × IsNumberUpTo 90 nights
-IsCommand (command.Reported note) = IsCount note.count × IsTimed note.day note.second
+IsCommand (command.Reported note) = IsCount note.count × IsTimed note.day note.second × IsFit note.fit
 IsCommand _ = Unit {0}
 
 -- the codes that a reply gives are in their range
@@ -48,7 +52,7 @@ InRange (Kind kind) = is_kind kind ≡ true
 InRange (Install room kind code) = IsRoomNumber room × IsCode code
 InRange (Reserved party guest kind arrive depart) = (is_guest guest ≡ true) × (arrive < depart) × (depart ≤ arrive + 90) × IsDay depart
 InRange (Issue party room number code) = IsCode code
-InRange (Entered room count number link at) = IsCount count × IsTimed at.0 at.1
-InRange (Left room count number link at) = IsCount count × IsTimed at.0 at.1
-InRange (Recoded room count from to at) = IsCount count × IsTimed at.0 at.1
+InRange (Entered room fit count number link at) = IsCount count × IsTimed at.0 at.1 × IsFit fit
+InRange (Left room fit count number link at) = IsCount count × IsTimed at.0 at.1 × IsFit fit
+InRange (Recoded room fit count from to at) = IsCount count × IsTimed at.0 at.1 × IsFit fit
 InRange _ = Unit {0}

@@ -127,10 +127,10 @@ act_fits rows room (act.Entered number link) = has_link_at rows room number link
 act_fits rows room (act.Left number link) = has_link_at rows room number link
 act_fits rows room (act.Recoded from to) = code_is rows from (λ first. code_is rows to (comes_later room first))
 
--- the note is of its key, its room is there, what it says fits the room, and its time is one
+-- the note is of its room's first lock and of its key, its room is there, what it says fits the room, and its time is one
 abbrev pub note_fits : Rows → (ℕ × ℕ) × Note → Bool
 note_fits rows e =
-    (e.1.room == e.0.0) && (e.1.count == e.0.1) && is_some (at_number rows.rooms e.0.0) && act_fits rows e.0.0 e.1.act && is_day e.1.day && nat_le e.1.second 86399
+    (e.1.fit == 1) && (e.1.room == e.0.0) && (e.1.count == e.0.1) && is_some (at_number rows.rooms e.0.0) && act_fits rows e.0.0 e.1.act && is_day e.1.day && nat_le e.1.second 86399
 
 -- each note fits
 abbrev pub notes_fit : Rows → Bool

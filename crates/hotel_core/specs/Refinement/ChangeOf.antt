@@ -35,10 +35,10 @@ change_of h (Issue party room number code) = change.Issue (card_of number party 
 change_of h (Spare party number) = change.Spare (card_of number party (last_card_of h party))
 change_of h (CheckOut party) = change.CheckedOut party (said_of (room_of h party) 0 (λ room. room))
 change_of h NextDay = change.DayTo (today h + 1)
-change_of h (Entered room count number link at) =
-    noted h (Entered room count number link at) (record { room = room; count = count; act = act.Entered number link; day = at.0; second = at.1 })
+change_of h (Entered room fit count number link at) =
+    noted h (Entered room fit count number link at) (record { room = room; fit = fit; count = count; act = act.Entered number link; day = at.0; second = at.1 })
     (comes (is_one_of number (inside h room)) number)
-change_of h (Left room count number link at) =
-    noted h (Left room count number link at) (record { room = room; count = count; act = act.Left number link; day = at.0; second = at.1 }) (Goes number)
-change_of h (Recoded room count from to at) =
-    noted h (Recoded room count from to at) (record { room = room; count = count; act = act.Recoded from to; day = at.0; second = at.1 }) Same
+change_of h (Left room fit count number link at) =
+    noted h (Left room fit count number link at) (record { room = room; fit = fit; count = count; act = act.Left number link; day = at.0; second = at.1 }) (Goes number)
+change_of h (Recoded room fit count from to at) =
+    noted h (Recoded room fit count from to at) (record { room = room; fit = fit; count = count; act = act.Recoded from to; day = at.0; second = at.1 }) Same

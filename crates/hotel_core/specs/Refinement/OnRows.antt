@@ -9,7 +9,7 @@ use Rattle.hotel_core.specs.declared.books.change.Change.TheVariants as change
 use Rattle.hotel_core.specs.{declared.command.Command.Command, declared.reply.Reply.Reply, declared.reply.Refusal.Refusal, declared.books.rows.RoomRow.RoomRow}
 use Rattle.hotel_core.specs.declared.command.Command.TheVariants as command
 use Rattle.hotel_core.specs.declared.reply.Reply.TheVariants as reply
-use Rattle.hotel_core.specs.declared.reply.Refusal.TheVariants.{NotBegun, AlreadyBegun, KindExists, NoKind, RoomExists, NoRoom, NoParty, NotBooked, NotInHouse, TooEarly, StayOver, WrongKind, SameRoom, RoomTaken, PastArrival, PastEnd, KindFull, NumbersUsedUp, LastDay, Conflict, Gap, NoCard, CardDiffers, LockShut, NotInside, HeldDiffers, NotAwaited}
+use Rattle.hotel_core.specs.declared.reply.Refusal.TheVariants.{NotBegun, AlreadyBegun, KindExists, NoKind, RoomExists, NoRoom, NoParty, NotBooked, NotInHouse, TooEarly, StayOver, WrongKind, SameRoom, RoomTaken, PastArrival, PastEnd, KindFull, NumbersUsedUp, LastDay, Conflict, Gap, NoCard, CardDiffers, LockShut, NotInside, HeldDiffers, NotAwaited, NoFit}
 use Rattle.hotel_core.specs.{Model.Words.said_of, Model.Words.is_one_of, Model.Words.is_that, Model.Rows.Rows, Model.Rows.has_kind, Model.Guests.are_none}
 use Rattle.hotel_core.specs.{Model.Notes.same_note, Model.Cards.same_link, Model.Cards.card_of, Model.Stays.is_booked_state, Model.Stays.room_of_state, Model.Cases.no_link}
 use Rattle.hotel_core.specs.{Books.Change.codes_of, Refinement.ChangeOf.comes}
@@ -27,6 +27,14 @@ stay_is_on rows party test = said_of (stay_at rows party) false test
 -- whether the room is so
 abbrev pub room_is_on : Rows → ℕ → (RoomRow → Bool) → Bool
 room_is_on rows room test = said_of (room_at rows room) false test
+
+-- the number of a room's present lock
+abbrev pub present_fit_on : Rows → ℕ → ℕ
+present_fit_on rows room = 1
+
+-- the number is after that of the room's present lock
+abbrev pub is_later_fit_on : Rows → ℕ → ℕ → Bool
+is_later_fit_on rows room fit = nat_lt (present_fit_on rows room) fit
 
 -- the room is of the kind of the party's stay
 abbrev pub kinds_agree_on : Rows → ℕ → ℕ → Bool
@@ -137,7 +145,8 @@ checks_on rows (command.Transfer party room) =
 checks_on rows (command.CheckOut party) =
     needs (is_some rows.day) NotBegun ∷ needs (is_some (stay_at rows party)) NoParty ∷ needs (is_some (home_on rows party)) NotInHouse ∷ []
 checks_on rows command.NextDay = needs (is_some rows.day) NotBegun ∷ needs (nat_lt (day_on rows) 36524) LastDay ∷ []
-checks_on rows (command.Reported note) = needs (is_some rows.day) NotBegun ∷ needs (is_some (room_at rows note.room)) NoRoom ∷ []
+checks_on rows (command.Reported note) =
+    needs (is_some rows.day) NotBegun ∷ needs (is_some (room_at rows note.room)) NoRoom ∷ bars (is_later_fit_on rows note.room note.fit) NoFit ∷ []
 
 -- what comes of each command that passes its checks, where these are the source's next words
 abbrev pub effect_on : Rows → List ℕ → Command → Outcome Change

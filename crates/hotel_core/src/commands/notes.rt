@@ -1,5 +1,5 @@
 //! Notes of locks.
-ghost use Rattle.std.specs.Prelude.{◌≡◌, false, None};
+ghost use Rattle.std.specs.Prelude.{◌≡◌, false, None, nat_lt};
 ghost use Rattle.rand_core.specs.Stream.{Stream};
 ghost use Rattle.keycard_rules.specs.Draw.{words};
 ghost use Rattle.hotel_core.specs.{Refinement.Answered.IsOutcome, Refinement.Finds.reply_of, Refinement.NotesOnRows.IsUntaken};
@@ -21,6 +21,13 @@ fn same_note(kept: &LockNote, note: &LockNote) -> bool
     ensures { result ≡ same_note kept.now note.now }
 {
     kept == note
+}
+
+/// Whether a note is of a later lock than a room's first one.
+fn is_later_fit(note: &LockNote) -> bool
+    ensures { result ≡ nat_lt 1 note.now.fit }
+{
+    note.fit().value() > 1
 }
 
 /// Takes a note whose count wasn't taken.
@@ -52,6 +59,9 @@ pub(crate) fn take_note<B: Books>(books: &mut B, note: &LockNote) -> Result<Repl
 {
     today(books)?;
     let row = room_there(books, note.room())?;
+    if is_later_fit(note) {
+        return Err(Refusal::NoFit);
+    }
     match kept_note(books, note, &row)? {
         Some(kept) if same_note(&kept, note) => Ok(Reply::Seen),
         Some(_) => Err(Refusal::Conflict),

@@ -10,6 +10,7 @@ use keycard_rules::LockNote;
 pub(crate) fn known_note(note: &LockNote)
     ensures { IsCommand (command.Reported note.now) }
 {
+    note.fit().value();
     note.count().value();
     note.day();
     note.second();

@@ -35,7 +35,7 @@ abbrev pub card : ℕ → ℕ → ℕ → ℕ → ℕ × Card
 card number party old new = (number, record { number = number; party = party; link = link old new })
 
 abbrev pub note : ℕ → ℕ → Act → (ℕ × ℕ) × Note
-note its_room count its_act = ((its_room, count), record { room = its_room; count = count; act = its_act; day = may 1; second = 54000 })
+note its_room count its_act = ((its_room, count), record { room = its_room; fit = 1; count = count; act = its_act; day = may 1; second = 54000 })
 
 -- Party 2 had room 101, and party 1 moved there from room 102 and is inside; party 3 is in room 201, which it never entered; party 6 had room 202; party 4 cancelled; 5 and 7 are booked.
 abbrev pub rows : Rows
@@ -219,6 +219,8 @@ of_insides_and_notes =
     ∷ (codes "note_counted" ∷ [], with_notes (note 101 4 (act.Entered 4 (link a1 a2))) (note 102 1 (act.Recoded b0 b1)))
     ∷ (codes "note_fits" ∷ [], with_notes ((101, 4), third_note.1) (note 102 1 (act.Recoded b0 b1)))
     ∷ (codes "note_fits" ∷ [], with_third (λ note. record note { room = 102 }))
+    ∷ (codes "note_fits" ∷ [], with_third (λ note. record note { fit = 2 }))
+    ∷ (codes "note_fits" ∷ [], with_third (λ note. record note { fit = 0 }))
     ∷ (codes "note_fits" ∷ [], record rows { notes = rows.notes ++ note 999 1 (act.Entered 4 (link a1 a2)) ∷ [] })
     ∷ (codes "note_fits" ∷ [], with_third (λ note. record note { act = act.Entered 9 (link a1 a2) }))
     ∷ (codes "note_fits" ∷ [], with_third (λ note. record note { act = act.Entered 4 (link a0 a1) }))

@@ -4,7 +4,7 @@
 use Rattle.std.specs.Prelude.{ℕ, ◌≡◌, List, [], ◌∷◌, Some, None, length}
 use Rattle.keycard_rules.specs.declared.card.Card.{Card}
 use Rattle.hotel_nights.specs.declared.stay.Stay.{Stay}
-use Rattle.hotel_core.specs.declared.reply.Refusal.TheVariants.{NotBegun, AlreadyBegun, KindExists, NoKind, RoomExists, NoRoom, NoParty, NotBooked, NotInHouse, TooEarly, StayOver, WrongKind, SameRoom, RoomTaken, PastArrival, PastEnd, KindFull, NumbersUsedUp, NoFreshCode, LastDay, Conflict, Gap, NoCard, CardDiffers, LockShut, NotInside, HeldDiffers, NotAwaited}
+use Rattle.hotel_core.specs.declared.reply.Refusal.TheVariants.{NotBegun, AlreadyBegun, KindExists, NoKind, RoomExists, NoRoom, NoParty, NotBooked, NotInHouse, TooEarly, StayOver, WrongKind, SameRoom, RoomTaken, PastArrival, PastEnd, KindFull, NumbersUsedUp, NoFreshCode, LastDay, Conflict, Gap, NoCard, CardDiffers, LockShut, NotInside, HeldDiffers, NotAwaited, NoFit}
 use Rattle.hotel_core.specs.declared.reply.Refusal.{Refusal}
 use Rattle.hotel_core.specs.declared.command.Command.{Command}
 use Rattle.hotel_core.specs.Model.Rows.{no_rows}
@@ -13,7 +13,7 @@ use Rattle.hotel_core.specs.Model.Stays.{first_full}
 use Rattle.hotel_core.specs.Model.Outcome as outcome
 use Rattle.hotel_core.specs.Model.Answer.{answer_to}
 use Rattle.hotel_core.specs.Model.RowsOf.{rows_of}
-use Rattle.hotel_program.specs.Scenes.Words.{may, M, a0, a1, b0, b1, c0, c1, d0, d1, DBL, SGL, TWN, TPL, guest, begin, add_kind, add_room, reserve, cancel, check_in, spare, reissue, transfer, check_out, next_day, entered, left, recoded, begun, kind_added, room_code, party, cancelled, card, day, taken, seen, refused}
+use Rattle.hotel_program.specs.Scenes.Words.{may, M, a0, a1, b0, b1, c0, c1, d0, d1, DBL, SGL, TWN, TPL, guest, begin, add_kind, add_room, reserve, cancel, check_in, spare, reissue, transfer, check_out, next_day, entered_by, left_by, recoded_by, entered, left, recoded, begun, kind_added, room_code, party, cancelled, card, day, taken, seen, refused}
 use Rattle.hotel_program.specs.Scenes.Lines.{Line, ◌⇒◌, Played, play, source, AreAnswered, AreRefused}
 
 -- Nothing happened yet.
@@ -33,6 +33,7 @@ before_the_first_day =
     ∷ check_out 1 ⇒ refused NotBegun  -- NoParty
     ∷ next_day ⇒ refused NotBegun
     ∷ entered 101 1 1 a0 a1 M ⇒ refused NotBegun  -- NoRoom
+    ∷ entered_by 101 2 1 1 a0 a1 M ⇒ refused NotBegun  -- NoFit
     ∷ []
 
 -- The kind TWN has no rooms, and TPL is not there. A day on which parties 1, 7 and 5 are in rooms 101, 103 and 201, party 2 never came and its stay is over, party 3 is cancelled, party 4 arrives tomorrow, and party 6 today.
@@ -104,7 +105,12 @@ of_guests =
 
 abbrev pub of_notes : List Line
 of_notes =
-    entered 999 2 1 a0 a1 M ⇒ refused NoRoom  -- Gap
+    entered_by 999 2 1 1 a0 a1 M ⇒ refused NoRoom  -- NoFit
+    ∷ entered 999 2 1 a0 a1 M ⇒ refused NoRoom  -- Gap
+    ∷ entered_by 101 2 1 9 a0 a1 M ⇒ refused NoFit  -- Conflict
+    ∷ left_by 101 2 4 9 a0 a1 M ⇒ refused NoFit  -- Gap
+    ∷ left_by 101 99 2 1 a0 a1 M ⇒ refused NoFit  -- the first lock has a note of the same count that is equal but for the lock
+    ∷ recoded_by 103 2 2 d0 d0 M ⇒ refused NoFit  -- HeldDiffers
     ∷ left 101 2 1 a0 a1 M ⇒ seen  -- NotInside
     ∷ recoded 103 1 d0 d1 M ⇒ seen  -- HeldDiffers
     ∷ entered 101 1 9 a0 a1 M ⇒ refused Conflict  -- NoCard

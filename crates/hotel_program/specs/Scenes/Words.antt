@@ -111,14 +111,28 @@ check_out party = command.CheckOut party
 abbrev pub next_day : Command
 next_day = command.NextDay
 
+-- notes of a room's lock of this number
+abbrev pub entered_by : ℕ → ℕ → ℕ → ℕ → ℕ → ℕ → Moment → Command
+entered_by room fit count number old new at =
+    command.Reported (record { room = room; fit = fit; count = count; act = act.Entered number (link old new); day = at.0; second = at.1 })
+
+abbrev pub left_by : ℕ → ℕ → ℕ → ℕ → ℕ → ℕ → Moment → Command
+left_by room fit count number old new at =
+    command.Reported (record { room = room; fit = fit; count = count; act = act.Left number (link old new); day = at.0; second = at.1 })
+
+abbrev pub recoded_by : ℕ → ℕ → ℕ → ℕ → ℕ → Moment → Command
+recoded_by room fit count from to at =
+    command.Reported (record { room = room; fit = fit; count = count; act = act.Recoded from to; day = at.0; second = at.1 })
+
+-- notes of a room's first lock
 abbrev pub entered : ℕ → ℕ → ℕ → ℕ → ℕ → Moment → Command
-entered room count number old new at = command.Reported (record { room = room; count = count; act = act.Entered number (link old new); day = at.0; second = at.1 })
+entered room count number old new at = entered_by room 1 count number old new at
 
 abbrev pub left : ℕ → ℕ → ℕ → ℕ → ℕ → Moment → Command
-left room count number old new at = command.Reported (record { room = room; count = count; act = act.Left number (link old new); day = at.0; second = at.1 })
+left room count number old new at = left_by room 1 count number old new at
 
 abbrev pub recoded : ℕ → ℕ → ℕ → ℕ → Moment → Command
-recoded room count from to at = command.Reported (record { room = room; count = count; act = act.Recoded from to; day = at.0; second = at.1 })
+recoded room count from to at = recoded_by room 1 count from to at
 
 -- ---- replies, as their texts have them
 

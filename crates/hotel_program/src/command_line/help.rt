@@ -39,6 +39,8 @@ pub fn about_value<'a>(name: ValueName) -> &'a str {
         ValueName::Guest =>
             "the guest's name: 1 to 60 bytes of UTF-8, no control character, no space at either end",
         ValueName::Room => "a room's number, 1 to 9999",
+        ValueName::Lock =>
+            "a room's lock: its room's number, for a later lock with / and its own number, 1 to 99: 101/2",
         ValueName::Party => "a party's number, 1 to 9999999",
         ValueName::Card => "a card's number, 1 to 9999999",
         ValueName::Count =>

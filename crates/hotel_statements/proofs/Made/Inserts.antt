@@ -34,12 +34,11 @@ use Rattle.hotel_core.specs.declared.books.rows.CodeRow.{CodeRow}
 use Rattle.hotel_core.specs.Model.Words.{pair_cmp}
 use Rattle.hotel_core.specs.Model.Rows.{has_kind}
 use Rattle.hotel_core.specs.Model.Stays.{room_of_state}
-use Rattle.hotel_core.specs.Books.Lookups.{note_at}
 use Rattle.hotel_statements.specs.Schema.{desk_schema, kind_table, note_table, room_table, stay_table, code_table, card_table}
 use Rattle.hotel_statements.specs.Values.{int, maybe_int}
 use Rattle.hotel_statements.specs.Columns.{bit_of, state_number, act_number, act_card, act_first, act_second, kind_columns, kind_of, kind_written, note_columns, note_of, note_written, room_columns, room_of, room_written, stay_columns, stay_of, stay_written, code_columns, code_of, code_written, card_columns, card_of, card_written}
 use Rattle.hotel_statements.specs.Tables.{IsWrittenAs, by_key, rows_in}
-use Rattle.hotel_statements.specs.Steps.{IsMidWith, MovesRows, any_rows, kind_added, note_added, room_added, code_added, stay_added, card_added}
+use Rattle.hotel_statements.specs.Steps.{IsMidWith, IsNewNote, MovesRows, any_rows, kind_added, note_added, room_added, code_added, stay_added, card_added}
 use Rattle.hotel_statements.specs.Texts.{insert_kind, insert_note, insert_room, insert_stay, insert_code, insert_card}
 use Rattle.hotel_statements.proofs.Statements.Changes as changes
 use Rattle.hotel_statements.proofs.Statements.Terms.{Does}
@@ -151,11 +150,11 @@ not_at k (e ∷ es) none = elim (cases_Bool (is_eq (pair_cmp k e.0))) [
   | inr other ↦ (other, not_at k es (rw other at none))
 ]
 
--- no note has the count yet
+-- no note has the count yet, and the note is of its room's first lock
 pub note_step : (old new : State) (note : Note) (count : ℕ)
     → ExecutesInside 0 insert_note (int note.room ∷ int note.count ∷ int (act_number note.act) ∷ maybe_int (act_card note.act) ∷ int (act_first note.act) ∷ int (act_second note.act)
     ∷ int note.day ∷ int note.second ∷ []) old new (Ok count)
-    → IsMidWith (λ rows. note_at rows note.room note.count ≡ None) old → MovesRows old new (note_added note)
+    → IsMidWith (IsNewNote note) old → MovesRows old new (note_added note)
 note_step old new n count h mid =
     let both = mid h.1.was_open in
     let was = both.0 in
@@ -176,7 +175,7 @@ note_step old new n count h mid =
       cast_int (pos n.day),
       cast_int (pos n.second),
     ) refl) was.schema h.0 in
-    let apart = not_at (n.room, n.count) notes both.1 in
+    let apart = not_at (n.room, n.count) notes both.1.0 in
     let made = put_keyed (by_key pair_cmp) (key_total pair_cmp pair_total) (IsWrittenAs note_columns note_of note_written) (λ r. note_of (note_columns r)) row ((n.room, n.count), n) _ was.tables.note
-    (note_good id n) (note_reads id n) did.fresh apart in
+    (note_good id n) (note_reads id n both.1.1) did.fresh apart in
     steps old new (note_added n) h.1 did.changes (notes_set was.tables (made.0, made.1 ∙ entry_put pair_cmp (n.room, n.count) n notes apart))

@@ -108,8 +108,11 @@ inside_stored id e = Int id ∷ int e.0 ∷ int e.1 ∷ []
 abbrev pub note_stored : ℤ → Note → Row
 note_stored id n = Int id ∷ int n.room ∷ int n.count ∷ int (act_number n.act) ∷ maybe_int (act_card n.act) ∷ int (act_first n.act) ∷ int (act_second n.act) ∷ int n.day ∷ int n.second ∷ []
 
-pub note_reads : (id : ℤ) (n : Note) → note_of (note_columns (note_stored id n)) ≡ ((n.room, n.count), n)
-note_reads id n = ap (λ (act : Act). ((n.room, n.count), record n { act = act })) (act_reads n.act)
+first_reads : (id : ℤ) (n : Note) → note_of (note_columns (note_stored id n)) ≡ ((n.room, n.count), record n { fit = 1 })
+first_reads id n = ap (λ (act : Act). ((n.room, n.count), record n { fit = 1; act = act })) (act_reads n.act)
+
+pub note_reads : (id : ℤ) (n : Note) → n.fit ≡ 1 → note_of (note_columns (note_stored id n)) ≡ ((n.room, n.count), n)
+note_reads id n first = first_reads id n ∙ ap (λ fit. ((n.room, n.count), record n { fit = fit })) (sym first)
 
 pub note_good : (id : ℤ) (n : Note) → IsWrittenAs note_columns note_of note_written (note_stored id n)
-note_good id n = good_from note_columns note_of note_written (note_stored id n) ((n.room, n.count), n) refl (note_reads id n)
+note_good id n = good_from note_columns note_of note_written (note_stored id n) ((n.room, n.count), record n { fit = 1 }) refl (first_reads id n)

@@ -46,6 +46,10 @@ pub returns-clause-lost_card : goal.returns-clause-lost_card
 unfolding answer_to draw_from nights_taken first_day is_utf8 chars encode
 returns-clause-lost_card c = (refl, refl, refl)
 
+pub returns-clause-later_lock : goal.returns-clause-later_lock
+unfolding answer_to draw_from nights_taken first_day is_utf8 chars encode
+returns-clause-later_lock c = (refl, refl, refl)
+
 pub returns-clause-audit_twice : goal.returns-clause-audit_twice
 unfolding answer_to draw_from nights_taken first_day is_utf8 chars encode
 returns-clause-audit_twice c = (refl, refl, refl)

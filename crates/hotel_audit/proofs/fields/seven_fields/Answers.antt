@@ -1,22 +1,13 @@
-use Rattle.std.proofs.Common.{rules, arith, ◌≡◌, ◌<◌, ◌≤◌, ℕ, zero, suc, List, [], ◌∷◌, length, Some, None}
+use Rattle.std.proofs.Common.{rules, arith, ◌≡◌, ℕ, List, [], ◌∷◌, length, Some, codes}
 use Rattle.csv.specs.Records.{fields_of, field_at}
 use Rattle.hotel_audit.specs.Fields.{seven_fields}
-use Rattle.hotel_audit.proofs.fields.fields_of_record.Goals as goal
-
--- no field stands at a place only after the last one
-field_at-none : (fs : List (List ℕ)) (k : ℕ) → None ≡ field_at fs k → length fs ≤ k
-unfolding field_at
-field_at-none [] k e = omega arith
-field_at-none (f ∷ fs) zero e = cc e
-field_at-none (f ∷ fs) (suc k) e = let h = field_at-none fs k e in omega arith
-
-no_field : {A : Type 0} (fs : List (List ℕ)) (k : ℕ) → k < length fs → None ≡ field_at fs k → A
-no_field fs k there e = absurd (omega (arith, there, field_at-none fs k e))
+use Rattle.hotel_audit.proofs.FieldsAt.{no_field}
+use Rattle.hotel_audit.proofs.fields.seven_fields.Goals as goal
 
 -- a record of seven fields has them at the places 0 to 6
 seven_fields-at : (fs : List (List ℕ)) (room count kind card old_code new_code moment : List ℕ) → length fs ≡ 7 → Some room ≡ field_at fs 0 → Some count ≡ field_at fs 1 → Some kind ≡ field_at fs 2
     → Some card ≡ field_at fs 3 → Some old_code ≡ field_at fs 4 → Some new_code ≡ field_at fs 5 → Some moment ≡ field_at fs 6
-    → Some (record { room = room; count = count; kind = kind; card = card; old_code = old_code; new_code = new_code; moment = moment }) ≡ seven_fields fs
+    → Some (record { room = room; fit = codes "1"; count = count; kind = kind; card = card; old_code = old_code; new_code = new_code; moment = moment }) ≡ seven_fields fs
 unfolding field_at
 seven_fields-at [] r n k c o w m l e0 e1 e2 e3 e4 e5 e6 = cc e0
 seven_fields-at (f0 ∷ []) r n k c o w m l e0 e1 e2 e3 e4 e5 e6 = cc e1
@@ -52,5 +43,5 @@ returns-in_err-get-7 c = let e = c.in_err-get-7.ensures.value in no_field (field
 pub returns : goal.returns
 returns c =
     let l : length (fields_of c.args.row.now) ≡ 7 = omega arith in
-    seven_fields-at (fields_of c.args.row.now) _ _ _ _ _ _ _ l c.in_ok-get.ensures.value c.in_ok-get-2.ensures.value c.in_ok-get-3.ensures.value
-    c.in_ok-get-4.ensures.value c.in_ok-get-5.ensures.value c.in_ok-get-6.ensures.value c.in_ok-get-7.ensures.value
+    rw c.as_slice.ensures (seven_fields-at (fields_of c.args.row.now) _ _ _ _ _ _ _ l c.in_ok-get.ensures.value c.in_ok-get-2.ensures.value c.in_ok-get-3.ensures.value
+    c.in_ok-get-4.ensures.value c.in_ok-get-5.ensures.value c.in_ok-get-6.ensures.value c.in_ok-get-7.ensures.value)
