@@ -84,10 +84,10 @@ pub const LATE_NOTE: &[Step] = &[
 ];
 
 /// The two notes as the desk lists them.
-const LISTED_NOTES: &[u8] = b"\
-room,count,kind,card,old,new,at
-101,1,in,1,0000000000a0,0000000000a1,2031-05-01T15:00:00
-101,2,out,1,0000000000a0,0000000000a1,2031-05-01T16:00:00
+pub const LISTED_NOTES: &[u8] = b"\
+room,fit,count,kind,card,old,new,at
+101,1,1,in,1,0000000000a0,0000000000a1,2031-05-01T15:00:00
+101,1,2,out,1,0000000000a0,0000000000a1,2031-05-01T16:00:00
 ";
 
 /// The second entry moved nothing.
@@ -261,6 +261,44 @@ pub const LOST_CARD: &[Step] = &[
     Step::Line(b"reissue 1", b"refused 9 NotInHouse\n"),
 ];
 
+/// A room without a second lock has no notes of one. Its first lock is meant with its number or without it.
+pub const LATER_LOCK: &[Step] = &[
+    Step::Line(
+        b"entered 101/2 1 1 a0 a1 2031-05-01T15:00:00",
+        b"refused 32 NoFit\n",
+    ),
+    Step::Line(b"entered 101/1 1 1 a0 a1 2031-05-01T15:00:00", b"taken\n"),
+    Step::Line(b"entered 101 1 1 a0 a1 2031-05-01T15:00:00", b"seen\n"),
+    Step::Line(
+        b"entered 101/2 1 1 a0 a1 2031-05-01T15:00:00",
+        b"refused 32 NoFit\n",
+    ),
+    Step::Line(
+        b"left 101/2 3 1 a0 a1 2031-05-01T15:00:00",
+        b"refused 32 NoFit\n",
+    ),
+    Step::Line(
+        b"recoded 101/99 2 a1 a0 2031-05-01T15:00:00",
+        b"refused 32 NoFit\n",
+    ),
+    Step::Line(
+        b"entered 102/2 1 1 a0 a1 2031-05-01T15:00:00",
+        b"refused 6 NoRoom\n",
+    ),
+    Step::Line(b"left 101/01 2 1 a0 a1 2031-05-01T15:00:00", b"taken\n"),
+    Step::Line(b"entered 101/ 3 1 a0 a1 2031-05-01T15:00:00", b"unread\n"),
+    Step::Line(b"left 101/0 3 1 a0 a1 2031-05-01T15:00:00", b"unread\n"),
+    Step::Line(b"recoded 101/100 3 a1 a0 2031-05-01T15:00:00", b"unread\n"),
+    Step::Line(
+        b"audit-of 101",
+        b"\
+room,fit,count,kind,card,old,new,at
+101,1,1,in,1,0000000000a0,0000000000a1,2031-05-01T15:00:00
+101,1,2,out,1,0000000000a0,0000000000a1,2031-05-01T15:00:00
+",
+    ),
+];
+
 /// The same notes again are seen.
 pub const AUDIT_TWICE: &[Step] = &[Step::Audit(TWO_NOTES, b"1 seen\n2 seen\n", 0)];
 
@@ -308,7 +346,11 @@ pub const RECODING_REFUSED: &[Step] = &[
     ),
     Step::Line(
         b"audit-of 101",
-        b"room,count,kind,card,old,new,at\n101,1,in,1,0000000000a0,0000000000a1,2031-05-01T15:00:00\n101,2,recode,,0000000000a1,0000000000a2,2031-05-01T15:00:00\n",
+        b"\
+room,fit,count,kind,card,old,new,at
+101,1,1,in,1,0000000000a0,0000000000a1,2031-05-01T15:00:00
+101,1,2,recode,,0000000000a1,0000000000a2,2031-05-01T15:00:00
+",
     ),
 ];
 
@@ -355,7 +397,7 @@ pub const AUDIT_BYTES: &[Step] = &[
     Step::NoAudit(b"room,count,kind,card,old,new,on\n", b"wrong header\n"),
 ];
 
-/// Each cause for which a line is unread.
+/// Causes for which a line is unread, under the header without fits.
 pub const AUDIT_CAUSES: &[Step] = &[Step::Audit(
     b"\
 room,count,kind,card,old,new,at
@@ -378,6 +420,91 @@ room,count,kind,card,old,new,at
 ",
     3,
 )];
+
+/// Under the header with fits: a note of the room's first lock, of locks that it hasn't, of numbers that no lock has;
+/// too few fields and too many; a wrong fit behind a wrong room and before a wrong count; the first note again.
+pub const LINES_WITH_FITS: &[Step] = &[Step::Audit(
+    b"\
+room,fit,count,kind,card,old,new,at
+101,1,1,in,1,0000000000a0,0000000000a1,2031-05-01T15:00:00
+101,2,1,in,1,0000000000a0,0000000000a1,2031-05-01T15:00:00
+101,99,1,in,1,0000000000a0,0000000000a1,2031-05-01T15:00:00
+101,0,1,in,1,0000000000a0,0000000000a1,2031-05-01T15:00:00
+101,100,1,in,1,0000000000a0,0000000000a1,2031-05-01T15:00:00
+101,,1,in,1,0000000000a0,0000000000a1,2031-05-01T15:00:00
+101,1,in,1,0000000000a0,0000000000a1,2031-05-01T15:00:00
+101,1,1,1,in,1,0000000000a0,0000000000a1,2031-05-01T15:00:00
+0,0,1,in,1,0000000000a0,0000000000a1,2031-05-01T15:00:00
+101,0,0,in,1,0000000000a0,0000000000a1,2031-05-01T15:00:00
+101,01,1,in,1,0000000000a0,0000000000a1,2031-05-01T15:00:00
+",
+    b"\
+1 taken
+2 refused 32 NoFit
+3 refused 32 NoFit
+4 unread BadFit
+5 unread BadFit
+6 unread BadFit
+7 unread FieldCount
+8 unread FieldCount
+9 unread BadRoom
+10 unread BadFit
+11 seen
+",
+    3,
+)];
+
+/// Of several causes in a line the one of the earliest field is told.
+pub const CAUSES_WITH_FITS: &[Step] = &[Step::Audit(
+    b"\
+room,fit,count,kind,card,old,new,at
+101,1,0,IN,1,0000000000a0,0000000000a1,2031-05-01T15:00:00
+101,1,2,IN,0,0000000000a0,0000000000a1,2031-05-01T15:00:00
+101,1,2,in,0,xyz,0000000000a1,2031-05-01T15:00:00
+101,1,2,recode,1,xyz,0000000000a1,2031-05-01T15:00:00
+101,1,2,in,1,xyz,xyz,2031-05-01T15:00:00
+101,1,2,in,1,0000000000a0,xyz,2031-02-29T15:00:00
+101,1,2,in,1,0000000000a0,0000000000a1,2031-02-29T15:00:00
+",
+    b"\
+1 unread BadCount
+2 unread BadKind
+3 unread BadCard
+4 unread BadCard
+5 unread BadOld
+6 unread BadNew
+7 unread BadMoment
+",
+    3,
+)];
+
+/// Under the header without fits: the note of the first lock that was taken; the same with a fit; a later one.
+pub const LINES_WITHOUT_FITS: &[Step] = &[Step::Audit(
+    b"\
+room,count,kind,card,old,new,at
+101,1,in,1,0000000000a0,0000000000a1,2031-05-01T15:00:00
+101,1,1,in,1,0000000000a0,0000000000a1,2031-05-01T15:00:00
+101,2,out,1,0000000000a0,0000000000a1,2031-05-01T16:00:00
+",
+    b"1 seen\n2 unread FieldCount\n3 taken\n",
+    3,
+)];
+
+/// Both notes under the header with fits; that header alone.
+pub const SEEN_WITH_FITS: &[Step] = &[
+    Step::Audit(LISTED_NOTES, b"1 seen\n2 seen\n", 0),
+    Step::Audit(b"room,fit,count,kind,card,old,new,at\n", b"", 0),
+];
+
+/// Columns in another order, without the room, with the fit twice.
+pub const WRONG_HEADERS: &[Step] = &[
+    Step::NoAudit(b"room,count,fit,kind,card,old,new,at\n", b"wrong header\n"),
+    Step::NoAudit(b"fit,count,kind,card,old,new,at\n", b"wrong header\n"),
+    Step::NoAudit(b"room,fit,fit,kind,card,old,new,at\n", b"wrong header\n"),
+];
+
+/// The notes of both files, listed with their fits.
+pub const LISTED_WITH_FITS: &[Step] = &[Step::Line(b"audit-of 101", LISTED_NOTES)];
 
 /// Days, kinds, states: each refusal of check-in and its neighbours.
 pub const DESK_DAY: &[Step] = &[
@@ -457,7 +584,12 @@ pub const NOTES_OF_A_ROOM: &[Step] = &[
     Step::Line(b"left 101 3 1 a0 a1 2031-05-02T09:00:00", b"taken\n"),
     Step::Line(
         b"audit-of 101",
-        b"room,count,kind,card,old,new,at\n101,1,recode,,0000000000a0,0000000000a1,2031-05-01T14:59:59\n101,2,in,1,0000000000a0,0000000000a1,2031-05-01T15:00:00\n101,3,out,1,0000000000a0,0000000000a1,2031-05-02T09:00:00\n",
+        b"\
+room,fit,count,kind,card,old,new,at
+101,1,1,recode,,0000000000a0,0000000000a1,2031-05-01T14:59:59
+101,1,2,in,1,0000000000a0,0000000000a1,2031-05-01T15:00:00
+101,1,3,out,1,0000000000a0,0000000000a1,2031-05-02T09:00:00
+",
     ),
 ];
 
@@ -469,7 +601,7 @@ pub const WORDS_AND_EMPTIES: &[Step] = &[
 ];
 
 /// What locks do.
-pub static OF_LOCKS: [Scenario; 7] = [
+pub static OF_LOCKS: [Scenario; 8] = [
     Scenario {
         name: "two-entries",
         codes: &[0xa0, 0xa1],
@@ -526,10 +658,16 @@ pub static OF_LOCKS: [Scenario; 7] = [
             NOTE_REFUSALS,
         ],
     },
+    Scenario {
+        name: "later-lock",
+        codes: &[0xa0],
+        last: 0xa1,
+        parts: &[OPENED, CHECKED_IN, LATER_LOCK],
+    },
 ];
 
 /// Audit files.
-pub static OF_FILES: [Scenario; 7] = [
+pub static OF_FILES: [Scenario; 8] = [
     Scenario {
         name: "audit-twice",
         codes: &[0xa0],
@@ -577,6 +715,21 @@ pub static OF_FILES: [Scenario; 7] = [
         codes: &[0xa0],
         last: 0xa1,
         parts: &[OPENED, CHECKED_IN, TAKEN_TWICE, AUDIT_ROUND_TRIP],
+    },
+    Scenario {
+        name: "two-headers",
+        codes: &[0xa0],
+        last: 0xa1,
+        parts: &[
+            OPENED,
+            CHECKED_IN,
+            LINES_WITH_FITS,
+            CAUSES_WITH_FITS,
+            LINES_WITHOUT_FITS,
+            SEEN_WITH_FITS,
+            WRONG_HEADERS,
+            LISTED_WITH_FITS,
+        ],
     },
 ];
 

@@ -1,7 +1,7 @@
 //! Audit files that are sent again after a stop.
 use crate::desks::Desk;
 use crate::rooms_now::{RoomNow, answers_to, note_count};
-use crate::scenarios::{CUT_LAST_LINE, TWO_NOTES};
+use crate::scenarios::{CUT_LAST_LINE, LISTED_NOTES, TWO_NOTES};
 use hotel_core::Books;
 use std::alloc::Global;
 use std::test::Fail;
@@ -16,15 +16,25 @@ pub struct Sent {
     again: &'static [&'static [u8]],
 }
 
+/// What a file of two notes is answered when it comes again: each note that stands is seen, and the others are taken.
+const TWO_AGAIN: &[&[u8]] = &[
+    b"1 taken\n2 taken\n",
+    b"1 seen\n2 taken\n",
+    b"1 seen\n2 seen\n",
+];
+
 /// The file of two notes.
 pub static TWICE: Sent = Sent {
     file: TWO_NOTES,
     notes: &[0, 1, 2],
-    again: &[
-        b"1 taken\n2 taken\n",
-        b"1 seen\n2 taken\n",
-        b"1 seen\n2 seen\n",
-    ],
+    again: TWO_AGAIN,
+};
+
+/// The file of the same two notes with fits.
+pub static TWICE_WITH_FITS: Sent = Sent {
+    file: LISTED_NOTES,
+    notes: &[0, 1, 2],
+    again: TWO_AGAIN,
 };
 
 /// The file whose last line is cut.

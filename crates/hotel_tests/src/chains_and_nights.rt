@@ -1,4 +1,4 @@
-//! Recodings of a chain of codes, and the first full night of a list of stays, by their own calls.
+//! Recodings and a replaced lock of a chain of codes, and the first full night of a list of stays, by their own calls.
 use hotel_nights::{Day, Guest, KindCode, Stay, StayState, first_full_night};
 use keycard_rules::{Chain, Code, Link, PartyNo, RecodeFault, Turned};
 use std::alloc::Global;
@@ -79,6 +79,52 @@ fn recoding_refused(rt: HostRuntime) -> Result<(), Fail> {
     }
     assert!(rt; chain.recode(code(0xa1)?, code(0xa2)?) == Ok(()));
     stands(&rt, &chain, 0xa2, 0)
+}
+
+/// Fits a lock of a code that wasn't issued before.
+fn refit(chain: &mut Chain, value: u64) -> Result<(), Fail> {
+    let code = code(value)?;
+    if chain.holds(code) {
+        return Err(Fail::from("issued before"));
+    }
+    Ok(chain.refit(code)?)
+}
+
+/// A room whose guest never came; then its lock is replaced by one of code a2.
+fn refitted(alloc: Global) -> Result<Chain, Fail> {
+    let mut chain = Chain::install(alloc, code(0xa0)?)?;
+    issue(&mut chain, 0xa1)?;
+    refit(&mut chain, 0xa2)?;
+    Ok(chain)
+}
+
+/// The lock opens to no earlier card and is recoded to no earlier code; nothing of the chain is lost.
+#[test]
+fn refitted_chain(rt: HostRuntime) -> Result<(), Fail> {
+    let mut chain = refitted(rt.alloc())?;
+    stands(&rt, &chain, 0xa2, 0)?;
+    for value in [0xa0, 0xa1, 0xa2] {
+        assert!(rt; chain.holds(code(value)?));
+    }
+    assert!(rt; chain.enter(&link(0xa0, 0xa1)?) == None);
+    assert!(rt; chain.recode(code(0xa2)?, code(0xa1)?) == Err(RecodeFault::NotAwaited));
+    stands(&rt, &chain, 0xa2, 0)
+}
+
+/// The card that is issued next is of the lock's code, and opens it.
+#[test]
+fn card_of_a_refitted_chain(rt: HostRuntime) -> Result<(), Fail> {
+    let mut chain = refitted(rt.alloc())?;
+    let newest = issue(&mut chain, 0xa3)?;
+    assert!(rt; newest == link(0xa2, 0xa3)?);
+    let turned = Turned {
+        before: code(0xa2)?,
+        after: code(0xa3)?,
+    };
+    assert!(rt; chain.enter(&newest) == Some(turned));
+    assert!(rt; chain.held() == code(0xa3)?);
+    assert!(rt; chain.awaited_len() == 0);
+    Ok(())
 }
 
 fn day(number: u16) -> Result<Day, Fail> {

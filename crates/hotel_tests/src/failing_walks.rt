@@ -82,9 +82,9 @@ place,code,state
     Asked {
         line: b"audit-of 102",
         text: b"\
-room,count,kind,card,old,new,at
-102,1,in,3,0000000000b0,0000000000b1,2031-05-01T15:00:00
-102,2,out,3,0000000000b0,0000000000b1,2031-05-01T16:00:00
+room,fit,count,kind,card,old,new,at
+102,1,1,in,3,0000000000b0,0000000000b1,2031-05-01T15:00:00
+102,1,2,out,3,0000000000b0,0000000000b1,2031-05-01T16:00:00
 ",
         calls: 4,
         header: 0,

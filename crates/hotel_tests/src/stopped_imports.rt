@@ -3,7 +3,7 @@
 use hotel_audit::{AuditFault, ImportFault, LineAnswer, import};
 use hotel_core::StoppingBooks;
 use hotel_scenarios::desks::Desk;
-use hotel_scenarios::sent_again::{CUT, Sent, TWICE, comes_again};
+use hotel_scenarios::sent_again::{CUT, Sent, TWICE, TWICE_WITH_FITS, comes_again};
 use keycard_rules::LookFault;
 use std::process::Abort;
 use std::test::Fail;
@@ -103,6 +103,8 @@ fn failed_calls_of_the_books(rt: HostRuntime) -> Result<(), Fail> {
     for call in 1..21u64 {
         stops_at_call(&rt, &TWICE, LookFault::Memory, call)?;
         stops_at_call(&rt, &TWICE, LookFault::Store, call)?;
+        stops_at_call(&rt, &TWICE_WITH_FITS, LookFault::Memory, call)?;
+        stops_at_call(&rt, &TWICE_WITH_FITS, LookFault::Store, call)?;
         stops_at_call(&rt, &CUT, LookFault::Memory, call)?;
         stops_at_call(&rt, &CUT, LookFault::Store, call)?;
     }
