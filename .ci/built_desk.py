@@ -24,12 +24,22 @@ ROOM = "/dev/shm" if os.access("/dev/shm", os.W_OK) else None
 CODES = [f"{code:012x}" for code in itertools.islice(scripts.codes(), 640)]
 FIRST, SECOND = CODES[:2]
 CARD = f"card 1 party 1 old {FIRST} new {SECOND}\n".encode()
-HEADER = b"room,count,kind,card,old,new,at\n"
+# The header of audit files, and that of the first version, under which each note is of its room's first lock.
+HEADER = b"room,fit,count,kind,card,old,new,at\n"
+FIRST_HEADER = b"room,count,kind,card,old,new,at\n"
 OPENING = b"begin 2031-05-01\nadd-kind DBL\nadd-room 101 DBL\nreserve DBL 2031-05-01 2 Ann Lee\n"
 OPENED = f"begun\nkind added\nroom code {FIRST}\nparty 1\n".encode()
 CHECKED_IN = OPENING + b"check-in 1 101\n"
 LISTS = b"in-house\nchain 101\naudit-of 101\n"
-NOTES = HEADER + f"101,1,in,1,{FIRST},{SECOND},2031-05-01T15:00:00\n101,2,out,1,{FIRST},{SECOND},2031-05-01T16:00:00\n".encode()
+# The same two notes under each header.
+NOTES = HEADER + f"""\
+101,1,1,in,1,{FIRST},{SECOND},2031-05-01T15:00:00
+101,1,2,out,1,{FIRST},{SECOND},2031-05-01T16:00:00
+""".encode()
+FIRST_NOTES = FIRST_HEADER + f"""\
+101,1,in,1,{FIRST},{SECOND},2031-05-01T15:00:00
+101,2,out,1,{FIRST},{SECOND},2031-05-01T16:00:00
+""".encode()
 
 
 def answer(status, body, media="plain", allow=""):

@@ -18,7 +18,10 @@ import urllib.parse
 HERE = pathlib.Path(__file__).resolve().parent
 DESK = HERE.parent / "crates" / "hotel_desk" / "out" / "hotel_desk"
 CODE = "[0-9a-f]{12}"
-HEADER = "room,count,kind,card,old,new,at"
+# The header of audit files, and that of the first version, under which each note is of its room's first lock.
+HEADER = "room,fit,count,kind,card,old,new,at"
+FIRST_HEADER = "room,count,kind,card,old,new,at"
+LINK = "1,{first},{second},2031-05-01"
 
 # method, path, fields or a body, status, type, body: CODE stands for any code, {name} for one that an earlier body gave as (?P<name>..)
 ROUTES = [
@@ -33,11 +36,16 @@ ROUTES = [
     ("POST", "/reservations/2/cancel", {}, 200, "plain", "cancelled\n"),
     ("POST", "/reservations/1/check-in", {"room": "101"}, 200, "plain", f"card 1 party 1 old {{first}} new (?P<second>{CODE})\n"),
     ("POST", "/reservations/1/spare", {}, 200, "plain", "card 2 party 1 old {first} new {second}\n"),
-    ("POST", "/audit", f"{HEADER}\n101,1,in,1,{{first}},{{second}},2031-05-01T15:00:00\n101,2,out,1,{{first}},{{second}},2031-05-01T16:00:00\n",
-     200, "plain", "1 taken\n2 taken\n"),
+    ("POST", "/audit", f"{HEADER}\n101,1,1,in,{LINK}T15:00:00\n101,1,2,out,{LINK}T16:00:00\n", 200, "plain",
+     "1 taken\n2 taken\n"),
+    ("POST", "/audit", f"{FIRST_HEADER}\n101,1,in,{LINK}T15:00:00\n101,3,in,{LINK}T16:00:00\n", 200, "plain",
+     "1 seen\n2 taken\n"),
+    ("POST", "/audit", f"{HEADER}\n101,2,4,out,{LINK}T17:00:00\n101,1,4,out,{LINK}T17:00:00\n", 200, "plain",
+     "1 refused 32 NoFit\n2 taken\n"),
     ("GET", "/rooms/101/chain", None, 200, "csv", "place,code,state\n0,{first},passed\n1,{second},held\n"),
     ("GET", "/rooms/101/audit", None, 200, "csv",
-     f"{HEADER}\n101,1,in,1,{{first}},{{second}},2031-05-01T15:00:00\n101,2,out,1,{{first}},{{second}},2031-05-01T16:00:00\n"),
+     f"{HEADER}\n101,1,1,in,{LINK}T15:00:00\n101,1,2,out,{LINK}T16:00:00\n"
+     f"101,1,3,in,{LINK}T16:00:00\n101,1,4,out,{LINK}T17:00:00\n"),
     ("GET", "/in-house", None, 200, "csv", "room,party,guest,kind,depart,secured\n101,1,Ann Lee,DBL,2031-05-03,yes\n"),
     ("POST", "/reservations/1/reissue", {}, 200, "plain", f"card 3 party 1 old {{second}} new {CODE}\n"),
     ("POST", "/reservations/1/transfer", {"room": "102"}, 200, "plain", f"card 4 party 1 old {{other}} new (?P<third>{CODE})\n"),

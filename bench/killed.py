@@ -40,7 +40,7 @@ def request(line):
     verb, *values = line.split(" ", 4)
     if verb in KINDS:
         room, count, card, *codes = line.split(" ")[1:]
-        return "/audit", "\n".join([HEADER, ",".join([room, count, KINDS[verb], card, *codes]), ""])
+        return "/audit", "\n".join([HEADER, ",".join([room, "1", count, KINDS[verb], card, *codes]), ""])
     path, fields = FORMS[verb]
     if "{}" in path:
         path = path.format(values.pop(0))

@@ -281,11 +281,12 @@ impl Desk {
                 }
             }
             "audit-of" => {
-                text += "room,count,kind,card,old,new,at\n";
+                text += "room,fit,count,kind,card,old,new,at\n";
                 for (i, (enters, card, link, day, s)) in self.rooms[&words[1].parse().unwrap()].notes.iter().enumerate() {
                     let (kind, at) = (if *enters { "in" } else { "out" }, date(*day));
                     let clock = format!("{:02}:{:02}:{:02}", s / 3600, s / 60 % 60, s % 60);
-                    text += &format!("{},{},{kind},{card},{:012x},{:012x},{at}T{clock}\n", words[1], i + 1, link.0, link.1);
+                    let codes = format!("{:012x},{:012x}", link.0, link.1);
+                    text += &format!("{},1,{},{kind},{card},{codes},{at}T{clock}\n", words[1], i + 1);
                 }
             }
             _ => panic!("{words:?}"),

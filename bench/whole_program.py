@@ -19,8 +19,10 @@ import tempfile
 HERE = pathlib.Path(__file__).resolve().parent
 DESK = HERE.parent / "crates" / "hotel_desk" / "out" / "hotel_desk"
 FIRST, SECOND = "903df1a0ade0", "28bd8653e56a"
-HEADER = "room,count,kind,card,old,new,at\n"
-ENTRY = f"101,1,in,1,{FIRST},{SECOND},2031-05-01T15:00:00\n"
+# The header of audit files, and that of the first version, under which each note is of its room's first lock.
+HEADER = "room,fit,count,kind,card,old,new,at\n"
+FIRST_HEADER = "room,count,kind,card,old,new,at\n"
+ENTRY = f"101,1,1,in,1,{FIRST},{SECOND},2031-05-01T15:00:00\n"
 
 # One desk in one file, a run after the other: words, standard input, status, output, faults. The seed is of zeros in each run, so a
 # draw passes over the codes that were issued before.
@@ -38,8 +40,12 @@ STORED = [
     ("chain 101", "", 0, f"place,code,state\n0,{FIRST},held\n1,{SECOND},awaited\n", ""),
     (f"entered 101 1 1 {FIRST} {SECOND} '2031-05-01 15:00:00'", "", 0, "taken\n", ""),
     ("audit {note}", "", 0, "1 seen\n", ""),
+    ("audit {first_note}", "", 0, "1 seen\n", ""),
     ("audit {gap}", "", 3, "1 refused 22 Gap 2\n", ""),
+    ("audit {later}", "", 3, "1 refused 32 NoFit\n", ""),
     ("audit {bad}", "", 3, "1 unread BadRoom\n", ""),
+    (f"entered 101/2 1 1 {FIRST} {SECOND} 2031-05-01T15:00:00", "", 3, "refused 32 NoFit\n", ""),
+    (f"entered 101/1 1 1 {FIRST} {SECOND} 2031-05-01T15:00:00", "", 0, "seen\n", ""),
     ("audit {empty}", "", 5, "", "no header\n"),
     ("audit {other}", "", 5, "", "wrong header\n"),
     ("audit {long}", "", 5, "", "too large\n"),
@@ -47,7 +53,7 @@ STORED = [
     ("audit {folder}", "", 5, "", "file\n"),
     (f"left 101 2 1 {FIRST} {SECOND} 2031-05-01T16:00:00", "", 0, "taken\n", ""),
     (f"recoded 101 3 {FIRST} {SECOND} 2031-05-01T16:00:00", "", 3, "refused 27 HeldDiffers\n", ""),
-    ("audit-of 101", "", 0, f"{HEADER}{ENTRY}101,2,out,1,{FIRST},{SECOND},2031-05-01T16:00:00\n", ""),
+    ("audit-of 101", "", 0, f"{HEADER}{ENTRY}101,1,2,out,1,{FIRST},{SECOND},2031-05-01T16:00:00\n", ""),
     ("in-house", "", 0, "room,party,guest,kind,depart,secured\n101,1,Ann Lee,DBL,2031-05-03,yes\n", ""),
     ("left-behind", "", 0, "room,held,current,awaited\n", ""),
     ("script", "in-house\nnext-day\nno such line\n", 0,
@@ -58,6 +64,7 @@ STORED = [
     ("chain 102", "", 3, "refused 6 NoRoom\n", ""),
     ("script", "x" * 1048577, 5, "", "too large\n"),
     ("chain nine", "", 2, "", "unread ROOM\n"),
+    ("entered 101/0 0 1 a0 a1 2031-05-01T15:00:00", "", 2, "", "unread LOCK\n"),
     ("reserve dbl 2031-05-01 0 Bo", "", 2, "", "unread KIND\n"),
     ("serve 0 1", "", 2, "", "unread PORT\n"),
     ("serve {taken} 1", "", 5, "", "port\n"),
@@ -67,9 +74,14 @@ STORED = [
 class Runs:
     def __init__(self, program, folder):
         self.program, self.folder, self.good, self.bad, self.user, self.limit = program, folder, 0, 0, None, None
-        self.names = {name: folder / name for name in ("note", "gap", "bad", "empty", "other", "long", "missing", "folder", "seed", "short")}
-        for name, text in (("note", HEADER + ENTRY), ("gap", HEADER + ENTRY.replace("101,1,", "101,9,")), ("bad", HEADER + ENTRY.replace("101,", "0,")),
-                           ("empty", ""), ("other", "a,b\n"), ("long", HEADER + " " * 262144)):
+        self.names = {name: folder / name for name in (
+            "note", "first_note", "gap", "later", "bad", "empty", "other", "long", "missing", "folder", "seed",
+            "short")}
+        for name, text in (("note", HEADER + ENTRY), ("first_note", FIRST_HEADER + ENTRY.replace("101,1,1,", "101,1,")),
+                           ("gap", HEADER + ENTRY.replace("101,1,1,", "101,1,9,")),
+                           ("later", HEADER + ENTRY.replace("101,1,1,", "101,2,1,")),
+                           ("bad", HEADER + ENTRY.replace("101,", "0,")), ("empty", ""), ("other", "a,b\n"),
+                           ("long", HEADER + " " * 262144)):
             self.names[name].write_text(text)
         self.names["folder"].mkdir()
         self.names["seed"].write_bytes(bytes(32))
