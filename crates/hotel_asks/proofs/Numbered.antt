@@ -10,7 +10,7 @@ use Rattle.hotel_asks.specs.declared.values.ValueName.TheVariants.{Day, Kind, Ar
 use Rattle.hotel_asks.specs.{declared.values.AskFault.AskFault, declared.values.AskFault.TheVariants.Values, declared.values.ValueFault.ValueFault}
 use Rattle.hotel_asks.specs.{declared.values.ValueFault.TheVariants.Number, declared.values.ValueFault.TheVariants.Value, declared.values.ValueName.ValueName}
 use Rattle.hotel_asks.specs.declared.verbs.Verb.{Verb}
-use Rattle.hotel_asks.specs.declared.verbs.Verb.TheVariants.{Begin, AddKind, AddRoom, Reserve, Cancel, CheckIn, Spare, Reissue, Transfer, CheckOut, NextDay, Entered, Left, Recoded, Arrivals, InHouse, ChainOf, LeftBehind, AuditOf}
+use Rattle.hotel_asks.specs.declared.verbs.Verb.TheVariants.{Begin, AddKind, AddRoom, Reserve, Cancel, CheckIn, Spare, Reissue, Transfer, CheckOut, Refit, NextDay, Entered, Left, Recoded, Arrivals, InHouse, ChainOf, LeftBehind, AuditOf}
 
 -- whether it isn't the number of texts that is refused
 abbrev pub IsNumbered : {A : Type 0} → Result A ValueFault → Type 0
@@ -88,6 +88,7 @@ numbered Spare values n = one_texts (Asks Spare) (λ a. first (number_up_to 9999
 numbered Reissue values n = one_texts (Asks Reissue) (λ a. first (number_up_to 9999999 a) Party _ (λ x. tt)) values n
 numbered Transfer values n = two_texts (Asks Transfer) (λ a b. first (number_up_to 9999999 a) Party _ (λ p. first (number_up_to 9999 b) Room _ (λ r. tt))) values n
 numbered CheckOut values n = one_texts (Asks CheckOut) (λ a. first (number_up_to 9999999 a) Party _ (λ x. tt)) values n
+numbered Refit values n = one_texts (Asks Refit) (λ a. first (number_up_to 9999 a) Room _ (λ x. tt)) values n
 numbered NextDay values n = no_texts (Asks NextDay) tt values n
 numbered Entered values n = six_texts (Asks Entered) (λ a b c d e f. after (card_note_of a b c d e f) _ (note_numbered a b c d e f) (λ m. tt)) values n
 numbered Left values n = six_texts (Asks Left) (λ a b c d e f. after (card_note_of a b c d e f) _ (note_numbered a b c d e f) (λ m. tt)) values n

@@ -10,7 +10,7 @@ use Rattle.hotel_asks.specs.declared.asks.Ask.TheVariants as ask
 use Rattle.hotel_asks.specs.declared.lists.ListAsk.TheVariants as list
 use Rattle.hotel_asks.specs.declared.values.ValueName.TheVariants.{Day, Arrive, Old, New, From, To}
 use Rattle.hotel_asks.specs.declared.verbs.Verb.{Verb}
-use Rattle.hotel_asks.specs.declared.verbs.Verb.TheVariants.{Begin, AddKind, AddRoom, Reserve, Cancel, CheckIn, Spare, Reissue, Transfer, CheckOut, NextDay, Entered, Left, Recoded, Arrivals, InHouse, ChainOf, LeftBehind, AuditOf}
+use Rattle.hotel_asks.specs.declared.verbs.Verb.TheVariants.{Begin, AddKind, AddRoom, Reserve, Cancel, CheckIn, Spare, Reissue, Transfer, CheckOut, Refit, NextDay, Entered, Left, Recoded, Arrivals, InHouse, ChainOf, LeftBehind, AuditOf}
 use Rattle.hotel_asks.specs.Values.{day_in, code_in, kind_in, nights_in, guest_in, room_in, lock_in, party_in, card_in, count_in, moment_in}
 
 -- A verb without values.
@@ -40,6 +40,9 @@ of_one Reissue party = do
 of_one CheckOut party = do
   p ← party_in party
   Ok (ask.Command (command.CheckOut p))
+of_one Refit room = do
+  r ← room_in room
+  Ok (ask.Command (command.Refit r))
 of_one Arrivals day = do
   d ← day_in Day day
   Ok (ask.List (list.Arrivals d))

@@ -2,7 +2,7 @@
 use Rattle.std.specs.Prelude.{ℕ, List, codes, if◌then◌else◌, Option, Some, None}
 use Rattle.std.specs.Str.{bytes_eq}
 use Rattle.hotel_asks.specs.declared.verbs.Verb.{Verb}
-use Rattle.hotel_asks.specs.declared.verbs.Verb.TheVariants.{Begin, AddKind, AddRoom, Reserve, Cancel, CheckIn, Spare, Reissue, Transfer, CheckOut, NextDay, Entered, Left, Recoded, Arrivals, InHouse, ChainOf, LeftBehind, AuditOf}
+use Rattle.hotel_asks.specs.declared.verbs.Verb.TheVariants.{Begin, AddKind, AddRoom, Reserve, Cancel, CheckIn, Spare, Reissue, Transfer, CheckOut, Refit, NextDay, Entered, Left, Recoded, Arrivals, InHouse, ChainOf, LeftBehind, AuditOf}
 
 -- The verb that a word is.
 unfoldable pub read_verb : List ℕ → Option Verb
@@ -17,6 +17,7 @@ read_verb word =
     else (if bytes_eq word (codes "reissue") then Some Reissue
     else (if bytes_eq word (codes "transfer") then Some Transfer
     else (if bytes_eq word (codes "check-out") then Some CheckOut
+    else (if bytes_eq word (codes "refit") then Some Refit
     else (if bytes_eq word (codes "next-day") then Some NextDay
     else (if bytes_eq word (codes "entered") then Some Entered
     else (if bytes_eq word (codes "left") then Some Left
@@ -26,4 +27,4 @@ read_verb word =
     else (if bytes_eq word (codes "chain") then Some ChainOf
     else (if bytes_eq word (codes "left-behind") then Some LeftBehind
     else (if bytes_eq word (codes "audit-of") then Some AuditOf
-    else None))))))))))))))))))
+    else None)))))))))))))))))))

@@ -45,6 +45,7 @@ fn read_one(verb: Verb, value: &[u8]) -> Result<Ask, AskFault>
         Verb::Spare => Ask::Command(Command::Spare(read_party(value)?)),
         Verb::Reissue => Ask::Command(Command::Reissue(read_party(value)?)),
         Verb::CheckOut => Ask::Command(Command::CheckOut(read_party(value)?)),
+        Verb::Refit => Ask::Command(Command::Refit(read_room(value)?)),
         Verb::Arrivals => Ask::List(ListAsk::Arrivals(read_day(ValueName::Day, value)?)),
         Verb::ChainOf => Ask::List(ListAsk::ChainOf(read_room(value)?)),
         Verb::AuditOf => Ask::List(ListAsk::AuditOf(read_room(value)?)),

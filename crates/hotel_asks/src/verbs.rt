@@ -18,6 +18,7 @@ pub enum Verb {
     Reissue,
     Transfer,
     CheckOut,
+    Refit,
     NextDay,
     Entered,
     Left,
@@ -45,6 +46,7 @@ impl Verb {
             Verb::Reissue => "reissue",
             Verb::Transfer => "transfer",
             Verb::CheckOut => "check-out",
+            Verb::Refit => "refit",
             Verb::NextDay => "next-day",
             Verb::Entered => "entered",
             Verb::Left => "left",
@@ -66,7 +68,7 @@ impl Verb {
             Verb::Begin | Verb::Arrivals => &[ValueName::Day],
             Verb::AddKind => &[ValueName::Kind],
             Verb::Cancel | Verb::Spare | Verb::Reissue | Verb::CheckOut => &[ValueName::Party],
-            Verb::ChainOf | Verb::AuditOf => &[ValueName::Room],
+            Verb::Refit | Verb::ChainOf | Verb::AuditOf => &[ValueName::Room],
             Verb::AddRoom => &[ValueName::Room, ValueName::Kind],
             Verb::CheckIn | Verb::Transfer => &[ValueName::Party, ValueName::Room],
             Verb::Reserve => &[
@@ -119,6 +121,8 @@ pub fn read_verb(word: &[u8]) -> Option<Verb>
         Some(Verb::Transfer)
     } else if word == b"check-out".as_slice() {
         Some(Verb::CheckOut)
+    } else if word == b"refit".as_slice() {
+        Some(Verb::Refit)
     } else if word == b"next-day".as_slice() {
         Some(Verb::NextDay)
     } else if word == b"entered".as_slice() {

@@ -1,16 +1,16 @@
--- Files lead to the events of the notes that were taken, and each room's notes are counted.
-use Rattle.std.proofs.Common.{◌≡◌, ◌∙◌, ◌+◌, ℕ, true, false, List, [], ◌∷◌, ◌++◌, inl, inr, length, map, refl, ap, sym, subst, All, ◌==◌}
-use Rattle.hotel_core.proofs.Names.{range_with_len, Stream, words, Note, Event, History, ◌▷◌, notes, grown, IsReply, Reached, Runs, StepsIf, counts_at, count_up}
+-- Files lead to the events of the notes that were taken, and the notes of each fit are counted.
+use Rattle.std.proofs.Common.{◌≡◌, ◌∙◌, false, List, [], ◌∷◌, ◌++◌, inl, inr, refl, ap, sym, subst, All}
+use Rattle.hotel_core.proofs.Names.{Stream, words, Note, Event, History, ◌▷◌, grown, IsReply, Reached, Runs, StepsIf}
 use Rattle.std.proofs.lemmas.List.Elements.{All-cons, All-nil}
 use Rattle.hotel_core.specs.declared.command.Command.TheVariants as command
 use Rattle.hotel_core.specs.declared.reply.Reply.{Reply}
 use Rattle.hotel_core.specs.declared.reply.Reply.TheVariants as reply
-use Rattle.hotel_core.proofs.{OfTables.NotesKept.note_found, OfTables.NotesListed.notes_count, Lifted.Runs.runs_reach, OfTables.Tests.and_true, OfTables.Tests.eq_from}
+use Rattle.hotel_core.proofs.Lifted.Runs.{runs_reach}
 use Rattle.hotel_audit.specs.{declared.answer.LineAnswer.LineAnswer, declared.line.Line.Line, Import.AreAnswered, Import.commands_of, Import.replies_in}
 use Rattle.hotel_audit.specs.declared.answer.LineAnswer.TheVariants.{Taken, Seen, Unread, Refused}
 use Rattle.hotel_audit.specs.declared.line.Line.TheVariants as line
-use Rattle.hotel_audit.specs.FilesCounted.{AnsweredFile, FilesCounted, FilesLead, NotesCounted, all_events_taken, event_of, events_taken, followed_by}
-use Rattle.hotel_audit.proofs.{NoteOutcomes.note_outcome, NotesInRange.commands_in_range, NotesInRange.file_in_range, NotesInRange.front_in_range}
+use Rattle.hotel_audit.specs.FilesCounted.{AnsweredFile, FilesCounted, FilesLead, all_events_taken, event_of, events_taken, followed_by}
+use Rattle.hotel_audit.proofs.{CountsOfFits.notes_counted, NoteOutcomes.note_outcome, NotesInRange.commands_in_range, NotesInRange.file_in_range, NotesInRange.front_in_range}
 
 -- a note that was answered Taken happened
 taken_step : (h : History) (s : Stream) (note : Note) (h' : History) (s' : Stream) → StepsIf false h s (command.Reported note) reply.Taken h' s' → h' ≡ h ▷ event_of note
@@ -69,15 +69,6 @@ files_reach h h' [] ok l = subst Reached (sym l) ok
 files_reach h h' (file ∷ files) ok l =
     let in_range = commands_in_range file.lines (front_in_range file.lines l.0.0 (file_in_range file.bytes (file.lines ++ l.0.0) l.0.1)) in
     files_reach l.1 h' files (runs_reach h l.1 l.2 l.3 (commands_of file.lines) (replies_in file.answers) ok in_range (replies_in_range file.answers) l.4.1) l.5
-
-count_range : (n : ℕ) (taken : List Note) → count_up n (counts_at taken) ≡ true → map (λ (note : Note). note.count) taken ≡ range_with_len n (length taken)
-count_range n [] up = refl
-count_range n (note ∷ taken) up =
-    let p = and_true (note.count == n) (count_up (n + 1) (counts_at taken)) up in
-    ap (λ z. z ∷ map (λ (x : Note). x.count) taken) (eq_from note.count n p.0) ∙ ap (λ zs. n ∷ zs) (count_range (n + 1) taken p.1)
-
-pub notes_counted : NotesCounted
-notes_counted h ok r = (count_range 1 (notes h r) (notes_count h ok r), λ count one. note_found h ok r count one)
 
 pub files_counted : FilesCounted
 files_counted h h' files ok l =

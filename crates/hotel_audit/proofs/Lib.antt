@@ -9,6 +9,7 @@ mod OtherRooms
 mod IdleNotes
 mod SentAtOnce
 mod NotesInRange
+mod CountsOfFits
 mod FilesCounted
 mod NotesTaken
 pub mod AnswersWritten

@@ -1,6 +1,6 @@
 -- In a run a room's notes grow by those that were answered Taken.
 use Rattle.std.proofs.Common.{◌≡◌, ◌∙◌, ℕ, Bool, true, false, List, [], ◌∷◌, ◌++◌, Option, Some, None, inl, inr, refl, ap, sym, subst, append_assoc, append-nil, ◌==◌}
-use Rattle.hotel_core.proofs.Names.{Stream, draw_from, words, Note, answer_to, checks, effect, next_card, own_room, Event, note_of, History, issued_codes, notes, with_note, grown, Steps, StepsIf, answered, is_failed, and_last, when}
+use Rattle.hotel_core.proofs.Names.{Stream, draw_from, words, Note, answer_to, checks, effect, next_card, next_fit, own_room, Event, note_of, History, issued_codes, notes, with_note, grown, Steps, StepsIf, answered, is_failed, and_last, when}
 use Rattle.hotel_core.specs.{declared.command.Command.Command, declared.reply.Reply.Reply}
 use Rattle.hotel_core.specs.declared.command.Command.TheVariants as command
 use Rattle.hotel_core.specs.declared.reply.Reply.TheVariants as reply
@@ -41,6 +41,10 @@ effect_took_none h ahead (command.Transfer party room) e o q =
     let d = from_draw (draw_from (issued_codes h) ahead).code (λ code. event.Issue party room (next_card h) code) e q in
     is_event e _ d.2 refl
 effect_took_none h ahead (command.CheckOut party) e o q = is_event e _ (same_event q) refl
+effect_took_none h ahead (command.Refit room) e o q =
+    let drawn = (draw_from (issued_codes h) ahead).code in
+    let d = from_draw drawn (λ code. event.Refitted room (next_fit h room) code) e q in
+    is_event e _ d.2 refl
 effect_took_none h ahead command.NextDay e o q = is_event e _ (same_event q) refl
 effect_took_none h ahead (command.Reported note) e o q = absurd o
 
@@ -94,6 +98,7 @@ step_takes h s (command.Spare party) p h' s' r d = other_stays (is_failed p) h s
 step_takes h s (command.Reissue party) p h' s' r d = other_stays (is_failed p) h s (command.Reissue party) p h' s' r tt d
 step_takes h s (command.Transfer party room) p h' s' r d = other_stays (is_failed p) h s (command.Transfer party room) p h' s' r tt d
 step_takes h s (command.CheckOut party) p h' s' r d = other_stays (is_failed p) h s (command.CheckOut party) p h' s' r tt d
+step_takes h s (command.Refit room) p h' s' r d = other_stays (is_failed p) h s (command.Refit room) p h' s' r tt d
 step_takes h s command.NextDay p h' s' r d = other_stays (is_failed p) h s command.NextDay p h' s' r tt d
 
 note_moved : (b : Bool) (note : Note) (taken later : List Note) → when b (and_last note) taken ++ later ≡ taken ++ when b (λ ns. note ∷ ns) later

@@ -1,6 +1,6 @@
 -- A note of a room changes nothing that the notes of another one turn on.
 use Rattle.std.proofs.Common.{◌≡◌, ℕ, Bool, true, false, List, [], ◌∷◌, refl, ap, sym, ◌∙◌, ◌==◌, ◌&&◌, if◌then◌else◌, Ordering, Less, Equal, Greater}
-use Rattle.hotel_core.proofs.Names.{insert_key, match_ordering, is_at, remove_key, Note, answer_to, told, reported, cards, is_begun, is_room, insiders, inside, those_in, History, ◌▷◌, awaited, turns, held, Standing, Copy, Conflicting, Next, After, notes, standing, and_last, pair_cmp, when, without, after}
+use Rattle.hotel_core.proofs.Names.{insert_key, match_ordering, is_at, remove_key, Note, answer_to, told, reported, cards, is_begun, is_room, present_fit, insiders, inside, those_in, History, ◌▷◌, awaited, turns, held, Standing, Copy, Conflicting, OfOldFit, Next, After, notes, standing, and_last, pair_cmp, when, without, after}
 use Rattle.keycard_rules.specs.declared.note.Act.{Act}
 use Rattle.keycard_rules.specs.declared.note.Act.TheVariants as act
 use Rattle.hotel_core.specs.declared.command.Command.TheVariants as command
@@ -11,6 +11,7 @@ use Rattle.hotel_audit.specs.FilesCounted.{event_by, event_of}
 pub record SameAt (h k : History) (r : ℕ) : Type 0 where
   pub begun : is_begun k ≡ is_begun h
   pub room : is_room k r ≡ is_room h r
+  pub fit : present_fit k r ≡ present_fit h r
   pub cards : cards k ≡ cards h
   pub held : held k r ≡ held h r
   pub awaited : awaited k r ≡ awaited h r
@@ -45,6 +46,7 @@ other_by_act : (h : History) (note : Note) (what : Act) (r : ℕ) → (note.room
 other_by_act h note (act.Entered number link) r f = record {
   begun = refl;
   room = refl;
+  fit = refl;
   cards = refl;
   held = ap (λ b. when b (λ _. link.new_code) (held h r)) f;
   awaited = ap (λ b. when (b && turns h note.room link) (without link.new_code) (awaited h r)) f;
@@ -54,6 +56,7 @@ other_by_act h note (act.Entered number link) r f = record {
 other_by_act h note (act.Left number link) r f = record {
   begun = refl;
   room = refl;
+  fit = refl;
   cards = refl;
   held = refl;
   awaited = refl;
@@ -63,6 +66,7 @@ other_by_act h note (act.Left number link) r f = record {
 other_by_act h note (act.Recoded from to) r f = record {
   begun = refl;
   room = refl;
+  fit = refl;
   cards = refl;
   held = ap (λ b. when b (λ _. to) (held h r)) f;
   awaited = ap (λ b. when b (after to) (awaited h r)) f;
@@ -82,10 +86,11 @@ told_same h k note (act.Recoded from to) s = rw (s.held, s.awaited) refl
 reported_same : (h k : History) (note : Note) (st : Standing) → SameAt h k note.room → reported k note st ≡ reported h note st
 reported_same h k note Copy s = refl
 reported_same h k note Conflicting s = refl
+reported_same h k note OfOldFit s = refl
 reported_same h k note (After expected) s = refl
 reported_same h k note Next s = told_same h k note note.act s
 
 -- histories that agree on a room answer its notes alike
 pub answered_same : (h k : History) (ahead : List ℕ) (note : Note) → SameAt h k note.room → answer_to k ahead (command.Reported note) ≡ answer_to h ahead (command.Reported note)
 unfolding answer_to
-answered_same h k ahead note s = rw (s.begun, s.room, s.notes, reported_same h k note (standing h note) s) refl
+answered_same h k ahead note s = rw (s.begun, s.room, s.fit, s.notes, reported_same h k note (standing h note) s) refl

@@ -1,4 +1,4 @@
--- Lines in which no room's counts fall change nothing when they come again at once.
+-- Lines in which no lock's counts fall change nothing when they come again at once.
 use Rattle.std.proofs.Common.{◌≡◌, ◌∙◌, List, [], ◌∷◌, ◌++◌, ap, sym}
 use Rattle.hotel_core.proofs.Names.{History, Note}
 use Rattle.hotel_audit.specs.{declared.line.Line.Line, SentAtOnce.CountsDoNotFall, SentAtOnce.NoneLower, SentAtOnce.SentAtOnce, SentAtOnce.StoppedAndSent}

@@ -1,4 +1,4 @@
--- What a list of files does: each room's notes have the counts 1, 2 and so on, however the files were cut.
+-- What a list of files does: the notes of each fit of a room have the counts 1, 2 and so on, however files were cut.
 use Rattle.std.specs.Prelude.{ℕ, ◌≡◌, ◌≤◌, ◌-◌, List, [], ◌∷◌, ◌++◌, length, map, Ok, Option, Some, None, ◌==◌}
 use Rattle.std.specs.List.{range_with_len, slice_get}
 use Rattle.rand_core.specs.Stream.{Stream}
@@ -8,7 +8,7 @@ use Rattle.hotel_core.specs.{declared.command.Command.Command, declared.reply.Re
 use Rattle.hotel_core.specs.declared.command.Command.TheVariants as command
 use Rattle.hotel_core.specs.declared.reply.Reply.TheVariants as reply
 use Rattle.hotel_core.specs.{Model.Event.Event, Model.Event.Entered, Model.Event.Left, Model.Event.Recoded, Model.History.History, Model.History.◌▷◌, Books.Lookups.note_at}
-use Rattle.hotel_core.specs.{Model.Notes.notes, Model.RowsOf.rows_of, Model.Run.Reached, Model.Run.Runs, Model.Words.when}
+use Rattle.hotel_core.specs.{Model.Notes.notes, Model.Notes.notes_of, Model.RowsOf.rows_of, Model.Run.Reached, Model.Run.Runs, Model.Words.when}
 use Rattle.hotel_audit.specs.{declared.answer.LineAnswer.LineAnswer, declared.answer.LineAnswer.TheVariants.Taken, declared.line.Line.Line, AuditFile.audit_lines}
 use Rattle.hotel_audit.specs.declared.line.Line.TheVariants as line
 use Rattle.hotel_audit.specs.SentAgain.{LinesLead}
@@ -54,10 +54,12 @@ abbrev pub all_events_taken : List AnsweredFile → List Event
 all_events_taken [] = []
 all_events_taken (file ∷ files) = events_taken file.lines file.answers ++ all_events_taken files
 
--- Each room's notes have the counts 1, 2 and so on, each once, and the table of notes has the note of each count, and none above.
+-- The notes of each fit of a room have the counts 1, 2 and so on, each once.
+-- The tables have the note of each count of a fit, and none above.
 abbrev pub AreNumbered : History → Type 0
-AreNumbered h = (r : ℕ) → (map (λ note. note.count) (notes h r) ≡ range_with_len 1 (length (notes h r)))
-    × ((count : ℕ) → 1 ≤ count → note_at (rows_of h) r count ≡ slice_get (notes h r) (count - 1))
+AreNumbered h = (r fit : ℕ)
+    → (map (λ note. note.count) (notes_of h r fit) ≡ range_with_len 1 (length (notes_of h r fit)))
+    × ((count : ℕ) → 1 ≤ count → note_at (rows_of h) r fit count ≡ slice_get (notes_of h r fit) (count - 1))
 
 -- Any files, cut, overlapping or repeated, lead to the history before them and then the events of the notes that were taken, and the notes are counted.
 abbrev pub FilesCounted : Type 0

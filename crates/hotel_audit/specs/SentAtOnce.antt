@@ -6,24 +6,25 @@ use Rattle.hotel_core.specs.Model.History.{History}
 use Rattle.hotel_audit.specs.{declared.answer.LineAnswer.LineAnswer, declared.line.Line.Line, SentAgain.LinesLead}
 use Rattle.hotel_audit.specs.declared.line.Line.TheVariants as line
 
--- none of the lines has a lower count of the note's room
+-- none of the lines has a lower count of the note's lock, which is a fit of its room
 abbrev pub NoneLower : Note → List Line → Type 0
 NoneLower note [] = Unit {0}
-NoneLower note (line.Note later ∷ lines) = (later.room ≡ note.room → note.count ≤ later.count) × NoneLower note lines
+NoneLower note (line.Note later ∷ lines) =
+    (later.room ≡ note.room → later.fit ≡ note.fit → note.count ≤ later.count) × NoneLower note lines
 NoneLower note (line.Unread cause ∷ lines) = NoneLower note lines
 
--- No room's counts fall from a line to a later one.
+-- No lock's counts fall from a line to a later one. (So it is where no room's pairs of fit and count fall.)
 abbrev pub CountsDoNotFall : List Line → Type 0
 CountsDoNotFall [] = Unit {0}
 CountsDoNotFall (line.Note note ∷ lines) = NoneLower note lines × CountsDoNotFall lines
 CountsDoNotFall (line.Unread cause ∷ lines) = CountsDoNotFall lines
 
--- Lines in which no room's counts fall, and then any front of them again: nothing happens, whatever the answers were.
+-- Lines in which no lock's counts fall, and then any front of them again: nothing happens, whatever the answers were.
 abbrev pub SentAtOnce : Type 0
 SentAtOnce = (h mid end : History) (s source t s' : Stream) (front rest : List Line) (answers again : List LineAnswer) → CountsDoNotFall (front ++ rest)
     → LinesLead h s (front ++ rest) answers mid source → LinesLead mid t front again end s' → end ≡ mid
 
--- A front of lines in which no room's counts fall, and then all of them, come to the same history as all of them sent once.
+-- A front of lines in which no lock's counts fall, and then all of them, come to the history of all of them sent once.
 abbrev pub StoppedAndSent : Type 0
 StoppedAndSent = (h mid end once : History) (s source t s' u u' : Stream) (front rest : List Line) (answers again whole : List LineAnswer) → CountsDoNotFall (front ++ rest)
     → LinesLead h s front answers mid source → LinesLead mid t (front ++ rest) again end s' → LinesLead h u (front ++ rest) whole once u' → end ≡ once

@@ -8,12 +8,14 @@ pub fn records_of_bytes()
     ensures one { HasOneReading }
 {}
 
-/// A file whose lines were all Taken or Seen changes nothing when it comes again, at any later time: each line is seen.
+/// A file whose lines were all Taken or Seen changes nothing when it comes again, at any later time, also after a refit
+/// of a room: each line is seen.
 pub fn seen_again()
     ensures { SeenAgain }
 {}
 
-/// A file in which no room's counts fall from one line to a later one changes nothing when it, or any front of it, comes again with no command between.
+/// A file in which no room's pairs of fit and count fall from one line to a later one changes nothing when it, or any
+/// front of it, comes again with no command between. It is enough that no lock's counts fall.
 pub fn sent_again_at_once()
     ensures { SentAtOnce }
 {}
@@ -23,7 +25,8 @@ pub fn stopped_and_sent_again()
     ensures { StoppedAndSent }
 {}
 
-/// However the notes come, in files that are cut, overlap or repeat, each room's are taken with the counts 1, 2 and so on, each once.
+/// However the notes come, in files that are cut, overlap or repeat, those of each fit of a room are taken with the
+/// counts 1, 2 and so on, each once.
 ///
 /// The history is then the one before the files and the events of the notes that were answered Taken, in order, so that the tables are those of these events.
 /// The last two clauses speak of other commands between the files too.

@@ -10,6 +10,10 @@ pub mod CodesFound
 pub mod NumbersLeft
 pub mod InsideRooms
 pub mod CardParties
+pub mod FitsKept
+pub mod NotesOfFits
+pub mod FitsOf
+pub mod FitLinks
 pub mod NewestLinks
 pub mod SecuredRooms
 pub mod RoomsLeft

@@ -4,6 +4,7 @@ pub mod LiftFound
 pub mod LiftEasy
 pub mod LiftRooms
 pub mod LiftGuests
+pub mod NotesFound
 pub mod LiftNotes
 pub mod LiftAll
 pub mod Runs

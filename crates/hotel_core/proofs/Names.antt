@@ -1,8 +1,8 @@
 -- The names that the proofs of this crate cite most, passed on from one place. Declares nothing.
-pub use Rattle.hotel_core.specs.Books.Change.{codes_of, freed_by, made, moved, room_changed, without_party}
+pub use Rattle.hotel_core.specs.Books.Change.{before_in, codes_of, freed_by, made, moved, notes_in, room_changed, without_party}
 pub use Rattle.hotel_core.specs.Books.Failures.{AreCounted, failure_in, failures_in, times, refusal_of}
 pub use Rattle.hotel_core.specs.Books.Fits.{HasItsRows}
-pub use Rattle.hotel_core.specs.Books.Lookups.{card_at, code_at, code_place, codes_in, first_code_at, first_full_on, inside_at, note_at, number_after, room_at, rooms_of_kind, stay_at, stays_of_kind}
+pub use Rattle.hotel_core.specs.Books.Lookups.{card_at, code_at, code_place, codes_in, first_code_at, first_full_on, inside_at, note_at, note_numbered, number_after, of_fit, room_at, rooms_of_kind, stay_at, stays_of_kind}
 pub use Rattle.hotel_core.specs.Books.Walks.{Hands, StopsAt, Takes, TakesFront, failure_of}
 pub use Rattle.hotel_core.specs.KindRooms.{is_there, rooms_in}
 pub use Rattle.hotel_core.specs.Memory.{HaveCardNumbers, HaveCounts, HaveRoomNumbers, LaterPlacesFree, PlacesAgree, RoomsKnown, CountsNightsOf, TablesAgree}
@@ -11,23 +11,28 @@ unfoldable pub use Rattle.hotel_core.specs.Model.Answer.{answer_to}
 pub use Rattle.hotel_core.specs.Model.Cards.{card_of, cards, link_of_party, link_to, newest_link, same_link, with_spare}
 pub use Rattle.hotel_core.specs.Model.Cases.{cards_used_up, has_link, is_begun, is_booked, is_card, is_home, is_in_house, is_kind, is_of_kind, is_party, is_room, is_taken, last_card_of, next_card, next_party, no_link, opens, own_room, parties_used_up, room_of, stay_is, today}
 pub use Rattle.hotel_core.specs.Model.Stays.{day, first_full, in_state, is_booked_state, kinds, nights, now_is, room_of_state, rooms, rooms_of, stays}
-pub use Rattle.hotel_core.specs.Model.Event.{Begun, Cancelled, Issue, CheckOut, Entered, Event, Install, Kind, Left, Moment, NextDay, Recoded, Reserved, Spare, note_of, moment_of}
-pub use Rattle.hotel_core.specs.Model.Guests.{are_none, inside, insiders, leaves, registered, secured, those_in}
+pub use Rattle.hotel_core.specs.Model.Event.{Begun, Cancelled, Issue, CheckOut, Entered, Event, Install, Kind, Left, Moment, NextDay, Recoded, Refitted, Reserved, Spare, note_of, moment_of}
+pub use Rattle.hotel_core.specs.Model.Guests.{are_none, inside, insiders, leaves, registered, secured, those_elsewhere, those_in}
 pub use Rattle.hotel_core.specs.Model.Headline.{Assured, Headline, LedgerHolds, NewestOpens, NoCodeTwice, OpensOwnRoom, SafeRoom, TakesTheFirst}
 pub use Rattle.hotel_core.specs.Model.History.{History, start, ◌▷◌}
 pub use Rattle.hotel_core.specs.Model.Issued.{all_issued, current, is_fresh, issued, issued_codes}
 pub use Rattle.hotel_core.specs.Model.Laws.{IsRun, NoneFailed, RunsTo}
 pub use Rattle.hotel_core.specs.Model.Ledger.{awaited, passed, turns}
 pub use Rattle.hotel_core.specs.Model.Lock.{held}
-pub use Rattle.hotel_core.specs.Model.Notes.{After, Conflicting, Copy, Next, Standing, all_notes, and_note, notes, same_note, standing, standing_among, with_note}
+pub use Rattle.hotel_core.specs.Model.Notes.{all_notes, and_note, notes, notes_of, same_note, with_note}
 pub use Rattle.hotel_core.specs.Model.Outcome.{Outcome, accepted, bars, by_draw, grown, needs, refused, said, unless}
 pub use Rattle.hotel_core.specs.Model.Ranges.{InRange, IsCommand, IsReply}
-pub use Rattle.hotel_core.specs.Model.Rows.{Rows, at_number, codes_at, codes_by_place, first_of, has_kind, last_link_of, link_of_last_card, lock_place_of, notes_at, or_else}
+pub use Rattle.hotel_core.specs.Model.Refits.{fit_row, fits, fits_used_up, is_fit, next_fit, notes_before, present_fit}
+pub use Rattle.hotel_core.specs.Model.Rows.{Rows, at_number, begins_fit, codes_at, codes_by_place, first_of, fit_at, fits_at, has_kind, last_fit, last_link_of, link_of_last_card, lock_place_of, newest_link_at, notes_at, or_else}
 pub use Rattle.hotel_core.specs.Model.RowsOf.{room_row, rows_of}
 pub use Rattle.hotel_core.specs.Model.Run.{Ran, Reached, Runs, StandsFor, Steps, StepsIf, answered, is_failed, run_on}
 pub use Rattle.hotel_core.specs.Model.Sound.{IsSound, keys_in_order, passes_rules}
-pub use Rattle.hotel_core.specs.Model.SoundCards.{act_fits, are_neighbours, card_is, card_numbers, card_parties_there, code_is, code_rooms_there, codes_in_range, codes_listed, comes_later, counts_at, each_card, fits_inside, has_link_at, has_newest, insides_fit, is_newest, last_cards_newest, links_are_neighbours, links_of_one_party, neighbours_are_links, newest_of_party, note_fits, notes_counted, notes_fit, owns_newest, places_once, room_is, stands_at}
-pub use Rattle.hotel_core.specs.Model.SoundRooms.{are_in_order, codes_few, count_up, day_before_kinds, day_in_range, each_room, guests_read, has_party, is_day, is_home_of, kinds_read, lock_places, nights_fit, note_counts, parties_in_house, room_kinds_there, room_numbers, rooms_with, secured_hold_last, stay_days, stay_kinds_there, stay_numbers, stay_rooms, stays_on}
+pub use Rattle.hotel_core.specs.Model.SoundCards.{are_neighbours, card_numbers, card_parties_there, code_is, code_rooms_there, codes_in_range, codes_listed, each_card, fits_without_links, has_newest, is_new_code, is_newest, last_cards_newest, links_are_neighbours, links_of_one_party, neighbours_are_links, newest_of_party, owns_newest, places_once, stands_at}
+pub use Rattle.hotel_core.specs.Model.SoundFits.{each_fitted, first_fits, first_is_first, fit_notes_few, fit_notes_rise, fit_numbers, fit_places_rise, fit_rooms_there, last_fits_held, last_fits_noted, none_fall, notes_before_each, rise_by_few, rows_of_last_fits}
+pub use Rattle.hotel_core.specs.Model.SoundNotes.{act_fits, card_is, comes_later, fit_is, fits_inside, has_entered, has_link_at, insides_fit, is_of_fit, last_fit_place, note_fits, notes_counted, notes_fit, notes_of_fits, numbers_at, room_is}
+pub use Rattle.hotel_core.specs.Model.SoundRooms.{are_in_order, codes_few, count_up, day_before_kinds, day_in_range, each_room, is_day, is_home_of, kinds_read, lock_places, note_counts, parties_in_house, room_kinds_there, room_numbers, secured_hold_last}
+pub use Rattle.hotel_core.specs.Model.SoundStays.{guests_read, has_party, nights_fit, rooms_with, stay_days, stay_kinds_there, stay_numbers, stay_rooms, stays_on}
+pub use Rattle.hotel_core.specs.Model.Standing.{After, Conflicting, Copy, Next, OfOldFit, Standing, standing, standing_among, standing_to}
 pub use Rattle.hotel_core.specs.Model.Words.{after, and_last, before, is_one_of, is_that, last_of, pair_cmp, said_of, when, without}
 pub use Rattle.hotel_core.specs.NightIndex.{block_at, block_cmp, counted, spans}
 pub use Rattle.hotel_core.specs.Refinement.ChangeOf.{change_of, comes, other_than}
@@ -36,17 +41,18 @@ pub use Rattle.hotel_core.specs.Refinement.CardsOnRows.{HasLink, bars_to_check_i
 pub use Rattle.hotel_core.specs.Refinement.Lift.{Lifts, as_change}
 pub use Rattle.hotel_core.specs.Refinement.ListsOnRows.{arrivals_on, arrives_on, audit_on, awaited_on, behind_row_on, chain_on, chain_row_on, house_row_on, housed, in_house_on, left_behind_on, state_at}
 pub use Rattle.hotel_core.specs.Refinement.NotesOnRows.{IsUntaken, opened_on}
-pub use Rattle.hotel_core.specs.Refinement.OnRows.{checks_on, effect_on, has_link_on, held_on, home_link_on, home_on, is_awaited_on, is_later_fit_on, kinds_agree_on, link_on, lock_place_on, own_room_on, place_on, reported_on, room_is_on, said_code_at, secured_after_on, secured_on, told_on}
+pub use Rattle.hotel_core.specs.Refinement.OnRows.{checks_on, effect_on, has_link_on, held_on, home_link_on, home_on, is_awaited_on, is_fit_on, kinds_agree_on, link_on, lock_place_on, own_room_on, place_on, present_fit_on, reported_on, room_is_on, said_code_at, secured_after_on, secured_on, told_on, untaken_on}
 unfoldable pub use Rattle.hotel_core.specs.Refinement.OnRows.{outcome_on}
 pub use Rattle.hotel_core.specs.Refinement.StepOnRows.{AreWhole, Goes, GoesIf, StepsAs, made_by}
 pub use Rattle.hotel_core.specs.Stops.{EndsAs, Stopping, StopsEither}
 pub use Rattle.hotel_core.specs.declared.books.Books.{Ghosts}
 pub use Rattle.hotel_core.specs.declared.books.change.Change.{Change}
 pub use Rattle.hotel_core.specs.declared.books.rows.CodeRow.{CodeRow}
+pub use Rattle.hotel_core.specs.declared.books.rows.FitRow.{FitRow}
 pub use Rattle.hotel_core.specs.declared.books.rows.RoomRow.{RoomRow}
 pub use Rattle.hotel_core.specs.declared.command.Command.{Command}
 pub use Rattle.hotel_core.specs.declared.reply.Refusal.{Refusal}
-pub use Rattle.hotel_core.specs.declared.reply.Refusal.TheVariants.{AlreadyBegun, CardDiffers, Conflict, Gap, HeldDiffers, KindExists, KindFull, LastDay, LockShut, Memory, NoCard, NoFit, NoFreshCode, NoKind, NoParty, NoRoom, NotAwaited, NotBegun, NotBooked, NotInHouse, NotInside, NumbersUsedUp, RoomExists, RoomTaken, SameRoom, Store, WrongKind}
+pub use Rattle.hotel_core.specs.declared.reply.Refusal.TheVariants.{AlreadyBegun, CardDiffers, Conflict, FitsUsedUp, Gap, HeldDiffers, KindExists, KindFull, LastDay, LockShut, Memory, NoCard, NoFit, NoFreshCode, NoKind, NoParty, NoRoom, NotAwaited, NotBegun, NotBooked, NotInHouse, NotInside, NumbersUsedUp, OldFit, RoomExists, RoomTaken, SameRoom, Store, WrongKind}
 pub use Rattle.hotel_core.specs.declared.reply.Reply.{Reply}
 pub use Rattle.hotel_core.specs.declared.reply.Reply.TheVariants.{Refused}
 pub use Rattle.hotel_nights.specs.Block.{one_if}

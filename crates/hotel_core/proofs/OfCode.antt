@@ -1,5 +1,6 @@
 pub mod LaterNotes
 pub mod NoteParts
+pub mod FitParts
 pub mod NoteReplies
 pub mod Parts
 pub mod DrawParts

@@ -24,4 +24,7 @@ pub mod RoomNotes
 pub mod RowTests
 pub mod SameTables
 pub mod CodesByPlace
+pub mod AtRoom
+pub mod FitLists
+pub mod ByFit
 pub mod NotesListed

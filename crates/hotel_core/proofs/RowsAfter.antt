@@ -3,6 +3,7 @@ pub mod RowsRooms
 pub mod RowsIssue
 pub mod RowsNoted
 pub mod RowsLeft
+pub mod RowsRefit
 pub mod RowsFollow
 pub mod HasRows
 pub mod FitsAfter

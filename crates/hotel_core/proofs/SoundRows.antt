@@ -10,5 +10,6 @@ pub mod SoundLinks
 pub mod SoundCardRows
 pub mod SoundInside
 pub mod SoundNotes
+pub mod SoundFitRows
 pub mod AllSound
 pub mod TestsSound

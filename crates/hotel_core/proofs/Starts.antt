@@ -10,5 +10,7 @@ pub mod StartLinks
 pub mod StartGuests
 pub mod StartSecured
 pub mod StartNotes
+pub mod StartFits
+pub mod StartNotesOfFits
 pub mod StartRows
 pub mod StartInside

@@ -1,5 +1,5 @@
 -- How books in memory keep their tables.
-use Rattle.std.specs.Prelude.{ℕ, ◌≡◌, ◌≤◌, List, [], ◌∷◌, None, bytes_eq}
+use Rattle.std.specs.Prelude.{ℕ, ◌≡◌, ◌≤◌, ◌<◌, ◌^◌, List, [], ◌∷◌, None, bytes_eq}
 use Rattle.std.specs.List.{count_by}
 use Rattle.std.specs.Map.{lookup, values_of}
 use Rattle.std.specs.BTreeMap.{is_at}
@@ -45,7 +45,7 @@ abbrev pub HaveCardNumbers : List (ℕ × ℕ) → Type 0
 HaveCardNumbers [] = Unit {0}
 HaveCardNumbers (e ∷ es) = IsNumberUpTo 9999999 e.1 × HaveCardNumbers es
 
--- Each note is kept under a count.
+-- Each note is kept under a number of 32 bits.
 abbrev pub HaveCounts : List ((ℕ × ℕ) × Note) → Type 0
 HaveCounts [] = Unit {0}
-HaveCounts (e ∷ es) = IsNumberUpTo 9999999 e.0.1 × HaveCounts es
+HaveCounts (e ∷ es) = (e.0.1 < 2 ^ 32) × HaveCounts es

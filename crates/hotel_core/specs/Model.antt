@@ -20,8 +20,12 @@ pub mod Ledger
 pub mod Guests
 -- The business day, the kinds and rooms, the stays, and how full a night is.
 pub mod Stays
--- The notes that were taken, and how a further one stands to them.
+-- The notes that were taken.
 pub mod Notes
+-- The fits of each room: its locks, one after the other.
+pub mod Refits
+-- How a further note stands to those that were taken.
+pub mod Standing
 -- The rows that stand for a history.
 pub mod RowsOf
 -- The questions on which the answers turn.
@@ -34,10 +38,16 @@ pub mod Answer
 pub mod NoteReplies
 -- The ranges of the values in commands, replies and events.
 pub mod Ranges
--- The rules of sound rows: of the day, kinds, rooms and stays,
+-- The rules of sound rows: of the day, kinds and rooms,
 pub mod SoundRooms
--- of codes, cards, cards inside and notes,
+-- of stays,
+pub mod SoundStays
+-- of codes and cards,
 pub mod SoundCards
+-- of cards inside and notes,
+pub mod SoundNotes
+-- of fits,
+pub mod SoundFits
 -- and all of them together.
 pub mod Sound
 -- The histories that can be reached, the rows that stand for them, and runs of commands with their replies.

@@ -1,7 +1,7 @@
 //! The books of the desk, however they are kept.
 ghost use Rattle.std.specs.Prelude.{◌≡◌, ◌-◌, List, Option, Some, None, Bool, true, false, OnOk, OnErr, IfErr, IsOk, Err, length, not};
 ghost use Rattle.keycard_rules.specs.{Rise.HasRisen, Rise.NoFewer, declared.issued.LookFault.TheVariants.Memory};
-ghost use Rattle.hotel_core.specs.{Model.Words.is_one_of, Model.Rows.Rows, Model.Rows.has_kind, Model.Guests.are_none, Books.Reads.LooksUp, Books.Change.made};
+ghost use Rattle.hotel_core.specs.{Model.Words.is_one_of, Model.Rows.Rows, Model.Rows.has_kind, Model.Rows.fit_at, Model.Guests.are_none, Books.Reads.LooksUp, Books.Change.made};
 ghost use Rattle.hotel_core.specs.Books.Lookups.{room_at, codes_in, code_place, code_at, stay_at, stays_of_kind, card_at, inside_at, note_at, rooms_of_kind, first_full_on, number_after};
 ghost use Rattle.hotel_core.specs.{Books.Fits.Fits, Books.Fits.takes_memory, Model.Sound.IsSound};
 
@@ -11,17 +11,19 @@ pub mod rows;
 pub mod walks;
 
 use crate::books::change::Change;
-use crate::books::rows::{CodeRow, NextNumbers, RoomRow};
+use crate::books::rows::{CodeRow, FitRow, NextNumbers, RoomRow};
 use hotel_nights::{Day, Guest, KindCode, Stay};
-use keycard_rules::{Card, CardNo, Code, Count, Issued, LockNote, LookFault, PartyNo, RoomNo};
+use keycard_rules::{
+    Card, CardNo, Code, Count, FitNo, Issued, LockNote, LookFault, PartyNo, RoomNo,
+};
 
-/// The books of the desk: eight tables, each seen as the list of its rows in the order of their keys.
+/// The books of the desk: nine tables, each seen as the list of its rows in the order of their keys.
 ///
 /// A look-up changes nothing but the counts of failures. Each clause stands where the test of the state holds as the
 /// call ends, and then it held as the call began. What is answered for want of memory or by the store's failure is
 /// counted, each by its cause.
 pub trait Books: Issued {
-    /// The rows of the eight tables.
+    /// The rows of the nine tables.
     ghost rows: { Self → Rows };
 
     /// The business day, once it is set.
@@ -81,9 +83,18 @@ pub trait Books: Issued {
     fn has_inside(&mut self, room: RoomNo) -> Result<bool, LookFault>
         ensures { LooksUp Self.Issued false (λ a. a) (not (are_none (inside_at (rows self.old) room))) self.old self.new result };
 
-    /// The note of a count that was taken.
-    fn note(&mut self, room: RoomNo, count: Count) -> Result<Option<LockNote>, LookFault>
-        ensures { LooksUp Self.Issued false (λ a. a) (note_at (rows self.old) room count) self.old self.new result };
+    /// A note that was taken, by its room, lock and count.
+    fn note(
+        &mut self,
+        room: RoomNo,
+        fit: FitNo,
+        count: Count,
+    ) -> Result<Option<LockNote>, LookFault>
+        ensures { LooksUp Self.Issued false (λ a. a) (note_at (rows self.old) room fit count) self.old self.new result };
+
+    /// A lock of a room, by its number.
+    fn fit(&mut self, room: RoomNo, fit: FitNo) -> Result<Option<FitRow>, LookFault>
+        ensures { LooksUp Self.Issued false (λ a. a) (fit_at (rows self.old) room fit) self.old self.new result };
 
     /// How many rooms a kind has; 0 where it isn't there.
     fn rooms_of_kind(&mut self, kind: &KindCode) -> Result<u32, LookFault>

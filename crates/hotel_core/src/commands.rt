@@ -13,4 +13,5 @@ pub mod look_ups;
 pub mod notes;
 pub mod ranges;
 pub mod recodings;
+pub mod refits;
 pub mod room_cards;

@@ -1,6 +1,6 @@
 //! What the desk answers.
 use hotel_nights::Day;
-use keycard_rules::{Card, Code, PartyNo};
+use keycard_rules::{Card, Code, FitNo, PartyNo};
 
 /// The answer to one command.
 #[derive(Clone, Copy, Debug)]
@@ -12,6 +12,8 @@ pub enum Reply {
     Cancelled,
     Issued(Card),
     CheckedOut,
+    /// The room has a new lock: its number, and the code that it holds.
+    Refitted { code: Code, fit: FitNo },
     DayIs(Day),
     Taken,
     /// The note was taken before; nothing changed.

@@ -114,6 +114,12 @@ pub fn reply_text(reply: &Reply) -> ReplyText
         Reply::Cancelled => text.push(b"cancelled"),
         Reply::Issued(card) => push_card(&mut text, card),
         Reply::CheckedOut => text.push(b"checked out"),
+        Reply::Refitted { code, fit } => {
+            text.push(b"lock ");
+            text.push_number::<2>(u128::from(fit.value()));
+            text.push(b" code ");
+            push_code(&mut text, code);
+        }
         Reply::DayIs(day) => {
             text.push(b"day ");
             text.push(&day.print());

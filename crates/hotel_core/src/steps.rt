@@ -15,6 +15,7 @@ use crate::commands::guest_moves::{check_in, check_out, reissue, spare, transfer
 use crate::commands::kinds_and_rooms::{add_kind, add_room};
 use crate::commands::notes::take_note;
 use crate::commands::ranges::{known_command, known_note, known_reply};
+use crate::commands::refits::refit;
 use crate::reply::{Refusal, Reply};
 use keycard_rules::LockNote;
 use rand_core::Rng;
@@ -55,6 +56,7 @@ fn carry_out<B: Books, R: Rng>(
         Command::Reissue(party) => reissue(books, source, *party),
         Command::Transfer { party, room } => transfer(books, source, *party, *room),
         Command::CheckOut(party) => check_out(books, *party),
+        Command::Refit(room) => refit(books, source, *room),
         Command::NextDay => next_day(books),
         Command::Reported(note) => take_note(books, note),
     }

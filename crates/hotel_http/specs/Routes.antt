@@ -19,6 +19,7 @@ route_table =
     (codes "/reservations/{party}/reissue", Asks verb.Reissue) ∷
     (codes "/reservations/{party}/transfer", Asks verb.Transfer) ∷
     (codes "/reservations/{party}/check-out", Asks verb.CheckOut) ∷
+    (codes "/rooms/{room}/refit", Asks verb.Refit) ∷
     (codes "/next-day", Asks verb.NextDay) ∷
     (codes "/audit", Audit) ∷
     (codes "/arrivals/{day}", Asks verb.Arrivals) ∷

@@ -3,7 +3,7 @@ use Rattle.std.specs.Prelude.{ℕ, ◌+◌, ◌==◌, Bool, true, false, List, [
 use Rattle.std.specs.List.{position_or_len}
 use Rattle.hotel_nights.specs.Days.{◌>>=◌}
 use Rattle.hotel_asks.specs.{declared.asks.Ask.Ask, declared.verbs.Verb.Verb, declared.values.ValueFault.ValueFault, Asks.ask_of}
-use Rattle.hotel_asks.specs.declared.verbs.Verb.TheVariants.{Begin, AddKind, AddRoom, Reserve, Cancel, CheckIn, Spare, Reissue, Transfer, CheckOut, NextDay, Entered, Left, Recoded, Arrivals, InHouse, ChainOf, LeftBehind, AuditOf}
+use Rattle.hotel_asks.specs.declared.verbs.Verb.TheVariants.{Begin, AddKind, AddRoom, Reserve, Cancel, CheckIn, Spare, Reissue, Transfer, CheckOut, Refit, NextDay, Entered, Left, Recoded, Arrivals, InHouse, ChainOf, LeftBehind, AuditOf}
 use Rattle.hotel_http.specs.{declared.routes.Target.Target, declared.tasks.Task.Task, Form.form_text}
 use Rattle.hotel_http.specs.declared.routes.Target.TheVariants as target
 use Rattle.hotel_http.specs.declared.tasks.Task.TheVariants as task
@@ -73,6 +73,7 @@ ask_in Spare path body = of_part Spare path
 ask_in Reissue path body = of_part Reissue path
 ask_in Transfer path body = of_part_and_room Transfer path body
 ask_in CheckOut path body = of_part CheckOut path
+ask_in Refit path body = of_part Refit path
 ask_in NextDay path body = asked NextDay []
 ask_in Arrivals path body = of_part Arrivals path
 ask_in InHouse path body = asked InHouse []

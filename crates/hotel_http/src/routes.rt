@@ -83,6 +83,7 @@ pub fn make_routes(alloc: Global) -> Result<Routes, InsertError>
                 "/reservations/{party}/check-out",
                 Target::Asks(Verb::CheckOut),
             ),
+            ("/rooms/{room}/refit", Target::Asks(Verb::Refit)),
             ("/next-day", Target::Asks(Verb::NextDay)),
             ("/audit", Target::Audit),
             ("/arrivals/{day}", Target::Asks(Verb::Arrivals)),

@@ -174,7 +174,7 @@ fn ask_by_verb(
         Verb::AddRoom => ask_room_and_kind(alloc, verb, body),
         Verb::Reserve => ask_reservation(alloc, verb, body),
         Verb::Cancel | Verb::Spare | Verb::Reissue | Verb::CheckOut => ask_part(alloc, verb, path),
-        Verb::Arrivals | Verb::ChainOf | Verb::AuditOf => ask_part(alloc, verb, path),
+        Verb::Refit | Verb::Arrivals | Verb::ChainOf | Verb::AuditOf => ask_part(alloc, verb, path),
         Verb::CheckIn | Verb::Transfer => ask_part_and_room(alloc, verb, path, body),
         Verb::NextDay | Verb::InHouse | Verb::LeftBehind => ask(alloc, verb, &[]),
         Verb::Entered | Verb::Left | Verb::Recoded => Ok(None),

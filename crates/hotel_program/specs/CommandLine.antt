@@ -6,7 +6,7 @@ use Rattle.hotel_asks.specs.Names.{name_text, names_of, word_of}
 use Rattle.hotel_asks.specs.declared.values.ValueName.{ValueName}
 use Rattle.hotel_asks.specs.declared.values.ValueName.TheVariants.{File, Port, Count}
 use Rattle.hotel_asks.specs.declared.verbs.Verb.{Verb}
-use Rattle.hotel_asks.specs.declared.verbs.Verb.TheVariants.{Begin, AddKind, AddRoom, Reserve, Cancel, CheckIn, Spare, Reissue, Transfer, CheckOut, NextDay, Entered, Left, Recoded, Arrivals, InHouse, ChainOf, LeftBehind, AuditOf}
+use Rattle.hotel_asks.specs.declared.verbs.Verb.TheVariants.{Begin, AddKind, AddRoom, Reserve, Cancel, CheckIn, Spare, Reissue, Transfer, CheckOut, Refit, NextDay, Entered, Left, Recoded, Arrivals, InHouse, ChainOf, LeftBehind, AuditOf}
 
 -- A value that is always given.
 abbrev pub value_rule : ValueName → Rule
@@ -22,7 +22,7 @@ verb_leaf verb = leaf (word_of verb) (names_of verb)
 
 -- The verbs, in the order in which help lists them.
 abbrev pub verbs : List Verb
-verbs = Begin ∷ AddKind ∷ AddRoom ∷ Reserve ∷ Cancel ∷ CheckIn ∷ Spare ∷ Reissue ∷ Transfer ∷ CheckOut ∷ NextDay ∷ Entered ∷ Left ∷ Recoded
+verbs = Begin ∷ AddKind ∷ AddRoom ∷ Reserve ∷ Cancel ∷ CheckIn ∷ Spare ∷ Reissue ∷ Transfer ∷ CheckOut ∷ Refit ∷ NextDay ∷ Entered ∷ Left ∷ Recoded
     ∷ Arrivals ∷ InHouse ∷ ChainOf ∷ LeftBehind ∷ AuditOf ∷ []
 
 -- An option that names a file, before the subcommand.

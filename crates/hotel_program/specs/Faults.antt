@@ -24,6 +24,7 @@ table_text table.Code = codes "code\n"
 table_text table.Card = codes "card\n"
 table_text table.Inside = codes "inside\n"
 table_text table.Note = codes "note\n"
+table_text table.Fit = codes "fit\n"
 
 -- The line that is said of a fault.
 abbrev pub fault_text : Fault → List ℕ

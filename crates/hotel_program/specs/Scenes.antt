@@ -3,6 +3,8 @@ pub mod Kept
 pub mod Lines
 pub mod Openings
 pub mod AuditGapConflict
+pub mod AuditListComesBackWithFits
+pub mod AuditRoundTrip
 pub mod AuditTwice
 pub mod AwayAndBack
 pub mod CodeDrawnTwice
@@ -10,6 +12,7 @@ pub mod DeskDay
 pub mod EndOfCalendar
 pub mod EndOfCalendarLastDay
 pub mod FirstRun
+pub mod FitsUsedUp
 pub mod KindFull
 pub mod LateAudit
 pub mod LaterLock
@@ -20,7 +23,15 @@ pub mod NoFreshCode
 pub mod NoFreshCodeTwice
 pub mod NoteRefusals
 pub mod RecodingRefused
+pub mod RefitPassesAwaited
+pub mod ReplacedLock
 pub mod SpareKeepsRoomOpen
 pub mod TwoEntries
 pub mod TwoRefusals
+pub mod RefusalsOfFits
+pub mod BrokenRows
+pub mod RuleNames
 pub mod BrokenRules
+pub mod BrokenCards
+pub mod BrokenFits
+pub mod SoundStart

@@ -86,6 +86,7 @@ fn table_text(table: TableName) -> &'static [u8]
         TableName::Card => b"card\n",
         TableName::Inside => b"inside\n",
         TableName::Note => b"note\n",
+        TableName::Fit => b"fit\n",
     }
 }
 

@@ -10,8 +10,13 @@ ghost use Rattle.hotel_program.specs.Scenes.NoFreshCodeTwice as scene_no_fresh_c
 ghost use Rattle.hotel_program.specs.Scenes.SpareKeepsRoomOpen as scene_spare_keeps_room_open;
 ghost use Rattle.hotel_program.specs.Scenes.LostCard as scene_lost_card;
 ghost use Rattle.hotel_program.specs.Scenes.LaterLock as scene_later_lock;
+ghost use Rattle.hotel_program.specs.Scenes.ReplacedLock as scene_replaced_lock;
+ghost use Rattle.hotel_program.specs.Scenes.RefitPassesAwaited as scene_refit_passes_awaited;
+ghost use Rattle.hotel_program.specs.Scenes.FitsUsedUp as scene_fits_used_up;
 ghost use Rattle.hotel_program.specs.Scenes.AuditTwice as scene_audit_twice;
 ghost use Rattle.hotel_program.specs.Scenes.AuditGapConflict as scene_audit_gap_conflict;
+ghost use Rattle.hotel_program.specs.Scenes.AuditRoundTrip as scene_audit_round_trip;
+ghost use Rattle.hotel_program.specs.Scenes.AuditListComesBackWithFits as scene_audit_list_comes_back_with_fits;
 ghost use Rattle.hotel_program.specs.Scenes.LateAudit as scene_late_audit;
 ghost use Rattle.hotel_program.specs.Scenes.RecodingRefused as scene_recoding_refused;
 ghost use Rattle.hotel_program.specs.Scenes.KindFull as scene_kind_full;
@@ -19,8 +24,13 @@ ghost use Rattle.hotel_program.specs.Scenes.EndOfCalendar as scene_end_of_calend
 ghost use Rattle.hotel_program.specs.Scenes.EndOfCalendarLastDay as scene_end_of_calendar_last_day;
 ghost use Rattle.hotel_program.specs.Scenes.DeskDay as scene_desk_day;
 ghost use Rattle.hotel_program.specs.Scenes.NoteRefusals as scene_note_refusals;
+ghost use Rattle.hotel_program.specs.Scenes.SoundStart as scene_sound_start;
 ghost use Rattle.hotel_program.specs.Scenes.TwoRefusals as scene_two_refusals;
+ghost use Rattle.hotel_program.specs.Scenes.RefusalsOfFits as scene_refusals_of_fits;
 ghost use Rattle.hotel_program.specs.Scenes.BrokenRules as scene_broken_rules;
+ghost use Rattle.hotel_program.specs.Scenes.BrokenCards as scene_broken_cards;
+ghost use Rattle.hotel_program.specs.Scenes.BrokenFits as scene_broken_fits;
+ghost use Rattle.hotel_program.specs.Scenes.RuleNames as rule_names;
 
 /// The worked scenarios hold of the model.
 pub fn scenarios()
@@ -35,8 +45,13 @@ pub fn scenarios()
     ensures spare_keeps_room_open { scene_spare_keeps_room_open.TheScene }
     ensures lost_card { scene_lost_card.TheScene }
     ensures later_lock { scene_later_lock.TheScene }
+    ensures replaced_lock { scene_replaced_lock.TheScene }
+    ensures refit_passes_awaited { scene_refit_passes_awaited.TheScene }
+    ensures fits_used_up { scene_fits_used_up.TheScene }
     ensures audit_twice { scene_audit_twice.TheScene }
     ensures audit_gap_conflict { scene_audit_gap_conflict.TheScene }
+    ensures audit_round_trip { scene_audit_round_trip.TheScene }
+    ensures audit_list_comes_back_with_fits { scene_audit_list_comes_back_with_fits.TheScene }
     ensures late_audit { scene_late_audit.TheScene }
     ensures recoding_refused { scene_recoding_refused.TheScene }
     ensures kind_full { scene_kind_full.TheScene }
@@ -44,6 +59,7 @@ pub fn scenarios()
     ensures end_of_calendar_last_day { scene_end_of_calendar_last_day.TheScene }
     ensures desk_day { scene_desk_day.TheScene }
     ensures note_refusals { scene_note_refusals.TheScene }
+    ensures sound_start { scene_sound_start.TheScene }
 {}
 
 /// Of two refusals at once the first in the order of the checks is answered.
@@ -51,10 +67,13 @@ pub fn two_refusals()
     ensures at_once { scene_two_refusals.TheScene }
     ensures cards_used_up { scene_two_refusals.CardsEnd }
     ensures parties_used_up { scene_two_refusals.PartiesEnd }
+    ensures of_fits { scene_refusals_of_fits.TheScene }
 {}
 
 /// Each rule of sound rows fails of rows that break it, and just the rules fail that are named there.
 pub fn broken_rules()
-    ensures by_name { scene_broken_rules.TheScene }
-    ensures sound { scene_broken_rules.AreSound }
+    ensures of_rooms { scene_broken_rules.TheScene }
+    ensures of_cards { scene_broken_cards.TheScene }
+    ensures of_fits { scene_broken_fits.TheScene }
+    ensures sound { rule_names.AreSound }
 {}

@@ -1,2 +1,3 @@
+pub mod OfJoined
 pub mod OfCounts
 pub mod OfDamage

@@ -4,6 +4,9 @@ pub mod KindTexts
 pub mod RowsTogether
 pub mod Placing
 pub mod NoteCounts
+pub mod KnownFits
+pub mod FitsTogether
+pub mod NotesOfFits
 pub mod Newest
 pub mod Links
 pub mod StaysTogether

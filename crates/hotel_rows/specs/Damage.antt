@@ -5,8 +5,18 @@ use Rattle.std.specs.Map.{keys_of}
 use Rattle.std.specs.Ordering.{nat_cmp}
 use Rattle.std.specs.Cmp.Lexicographic.{slice_cmp}
 use Rattle.hotel_core.specs.Model.Words.{pair_cmp}
-use Rattle.hotel_core.specs.Model.SoundRooms.{are_in_order, day_in_range, day_before_kinds, kinds_read, room_numbers, lock_places, room_kinds_there, codes_few, note_counts, parties_in_house, secured_hold_last, stay_numbers, guests_read, stay_kinds_there, stay_days, stay_rooms, nights_fit}
-use Rattle.hotel_core.specs.Model.SoundCards.{codes_in_range, code_rooms_there, places_once, card_numbers, card_parties_there, links_are_neighbours, links_of_one_party, neighbours_are_links, newest_of_party, last_cards_newest, insides_fit, notes_fit, notes_counted}
+use Rattle.hotel_core.specs.Model.SoundRooms.{are_in_order, day_in_range, day_before_kinds, kinds_read}
+use Rattle.hotel_core.specs.Model.SoundRooms.{room_numbers, lock_places, room_kinds_there, codes_few, note_counts}
+use Rattle.hotel_core.specs.Model.SoundRooms.{parties_in_house, secured_hold_last}
+use Rattle.hotel_core.specs.Model.SoundStays.{stay_numbers, guests_read, stay_kinds_there, stay_days}
+use Rattle.hotel_core.specs.Model.SoundStays.{stay_rooms, nights_fit}
+use Rattle.hotel_core.specs.Model.SoundCards.{codes_in_range, code_rooms_there, places_once, card_numbers}
+use Rattle.hotel_core.specs.Model.SoundCards.{card_parties_there, links_are_neighbours, links_of_one_party}
+use Rattle.hotel_core.specs.Model.SoundCards.{neighbours_are_links, fits_without_links}
+use Rattle.hotel_core.specs.Model.SoundCards.{newest_of_party, last_cards_newest}
+use Rattle.hotel_core.specs.Model.SoundNotes.{insides_fit, notes_fit, notes_counted}
+use Rattle.hotel_core.specs.Model.SoundFits.{fit_rooms_there, fit_numbers, first_fits, fit_places_rise, fit_notes_rise}
+use Rattle.hotel_core.specs.Model.SoundFits.{last_fits_held, last_fits_noted, fit_notes_few}
 use Rattle.hotel_core.specs.Model.Sound.{IsSound}
 use Rattle.hotel_rows.specs.declared.stored.PlainRoom.{PlainRoom}
 use Rattle.hotel_rows.specs.declared.stored.PlainStay.{PlainStay}
@@ -50,13 +60,21 @@ code_holds s = are_in_order nat_cmp (keys_of (rows_of s).codes) && codes_in_rang
 abbrev pub card_holds : Stored → Bool
 card_holds s =
     are_in_order nat_cmp (keys_of (rows_of s).cards) && card_numbers (rows_of s) && card_parties_there (rows_of s) && links_are_neighbours (rows_of s) && links_of_one_party (rows_of s)
-    && neighbours_are_links (rows_of s) && newest_of_party (rows_of s) && last_cards_newest (rows_of s)
+    && neighbours_are_links (rows_of s) && fits_without_links (rows_of s) && newest_of_party (rows_of s)
+    && last_cards_newest (rows_of s)
 
 abbrev pub inside_holds : Stored → Bool
 inside_holds s = are_in_order pair_cmp (rows_of s).inside && insides_fit (rows_of s)
 
 abbrev pub note_holds : Stored → Bool
 note_holds s = are_in_order pair_cmp (keys_of (rows_of s).notes) && list_all note_columns s.notes.items && notes_counted (rows_of s) && notes_fit (rows_of s)
+
+-- that a room's row and a note are of a fit follows: they have no columns for it
+abbrev pub fit_holds : Stored → Bool
+fit_holds s =
+    are_in_order pair_cmp (keys_of (rows_of s).fits) && fit_rooms_there (rows_of s) && fit_numbers (rows_of s)
+    && first_fits (rows_of s) && fit_places_rise (rows_of s) && fit_notes_rise (rows_of s) && last_fits_held (rows_of s)
+    && last_fits_noted (rows_of s) && fit_notes_few (rows_of s)
 
 -- Each rule of a table holds, and its rows are in the order of their keys, no key twice.
 abbrev pub holds : TableName → Stored → Bool
@@ -68,6 +86,7 @@ holds table.Code s = code_holds s
 holds table.Card s = card_holds s
 holds table.Inside s = inside_holds s
 holds table.Note s = note_holds s
+holds table.Fit s = fit_holds s
 
 -- the first of the tables that doesn't hold
 abbrev pub first_of_tables : List TableName → Stored → Option TableName
@@ -76,7 +95,9 @@ first_of_tables (t ∷ ts) s = if holds t s then first_of_tables ts s else Some 
 
 -- The first damaged table.
 abbrev pub first_damaged_of : Stored → Option TableName
-first_damaged_of = first_of_tables (table.Meta ∷ table.Kind ∷ table.Room ∷ table.Stay ∷ table.Code ∷ table.Card ∷ table.Inside ∷ table.Note ∷ [])
+first_damaged_of = first_of_tables
+    (table.Meta ∷ table.Kind ∷ table.Room ∷ table.Stay ∷ table.Code ∷ table.Card ∷ table.Inside ∷ table.Note ∷ table.Fit
+    ∷ [])
 
 -- what the rows of the books don't show: each column is of its range
 abbrev pub columns_fit : Stored → Bool

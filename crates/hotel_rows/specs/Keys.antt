@@ -8,6 +8,7 @@ use Rattle.hotel_rows.specs.declared.stored.PlainStay.{PlainStay}
 use Rattle.hotel_rows.specs.declared.stored.PlainCode.{PlainCode}
 use Rattle.hotel_rows.specs.declared.stored.PlainCard.{PlainCard}
 use Rattle.hotel_rows.specs.declared.stored.PlainNote.{PlainNote}
+use Rattle.hotel_rows.specs.declared.stored.PlainFit.{PlainFit}
 use Rattle.hotel_rows.specs.Stored.{number_of}
 
 abbrev pub room_key : PlainRoom → ℕ
@@ -24,6 +25,9 @@ card_key plain = number_of plain.number
 
 abbrev pub note_key : PlainNote → ℕ × ℕ
 note_key plain = (number_of plain.room, number_of plain.n)
+
+abbrev pub fit_key : PlainFit → ℕ × ℕ
+fit_key plain = (number_of plain.room, number_of plain.fit)
 
 -- the code that a card brought
 abbrev pub new_code_of : PlainCard → ℕ

@@ -1,3 +1,4 @@
+pub mod Joined
 pub mod Stored
 pub mod Keys
 pub mod Places
@@ -5,6 +6,7 @@ pub mod Damage
 pub mod RowTests
 pub mod Placed
 pub mod NoteRuns
+pub mod FitRuns
 pub mod Lasts
 pub mod Owners
 pub mod Counts

@@ -1,23 +1,23 @@
--- The counts of each room's notes.
+-- The numbers of each room's notes.
 use Rattle.std.specs.Prelude.{ℕ, ◌≡◌, ◌==◌, ◌&&◌, Bool, List, [], ◌∷◌, map, Option, Some, None}
 use Rattle.hotel_core.specs.Model.Words.{said_of, last_of}
-use Rattle.hotel_core.specs.Model.Rows.{at_number, notes_at}
+use Rattle.hotel_core.specs.Model.Rows.{at_number}
 use Rattle.hotel_core.specs.Model.SoundRooms.{count_up}
-use Rattle.hotel_core.specs.Model.SoundCards.{counts_at}
+use Rattle.hotel_core.specs.Model.SoundNotes.{numbers_at}
 use Rattle.hotel_rows.specs.declared.damage.note_runs.NoteRun.{NoteRun}
 use Rattle.hotel_rows.specs.declared.stored.PlainNote.{PlainNote}
 use Rattle.hotel_rows.specs.declared.stored.PlainRoom.{PlainRoom}
 use Rattle.hotel_rows.specs.Stored.{number_of, note_entry}
 
--- the first and the last of some counts, and whether they count up
+-- the first and the last of some numbers, and whether they count up
 abbrev pub run_of : List ℕ → Option NoteRun
 run_of [] = None
 run_of (n ∷ ns) = Some (record { first = n; last = last_of (n ∷ ns); counted = count_up n (n ∷ ns) })
 
--- the map has what the counts of each room are
+-- the map has what the numbers of each room's notes are
 abbrev pub RunsOf : List (ℕ × NoteRun) → List PlainNote → Type 0
-RunsOf runs plain_rows = (room : ℕ) → at_number runs room ≡ run_of (counts_at (notes_at (map note_entry plain_rows) room))
+RunsOf runs plain_rows = (room : ℕ) → at_number runs room ≡ run_of (numbers_at (map note_entry plain_rows) room)
 
--- the counts of the room's notes are 1 and on, as many as the room's row says
+-- the numbers of the room's notes are 1 and on, as many as the room's row says
 abbrev pub counted_as_due : List (ℕ × NoteRun) → PlainRoom → Bool
 counted_as_due runs plain = said_of (at_number runs (number_of plain.room)) (number_of plain.notes == 0) (λ run. run.counted && (run.first == 1) && (run.last == number_of plain.notes))

@@ -12,18 +12,21 @@ use Rattle.hotel_nights.specs.Guests.{is_guest}
 use Rattle.hotel_core.specs.declared.books.rows.RoomRow.{RoomRow}
 use Rattle.hotel_core.specs.declared.books.rows.CodeRow.{CodeRow}
 use Rattle.hotel_core.specs.Model.Words.{said_of}
-use Rattle.hotel_core.specs.Model.Rows.{Rows, has_kind, at_number}
+use Rattle.hotel_core.specs.Model.Rows.{Rows, has_kind, at_number, fits_at, begins_fit}
 use Rattle.hotel_core.specs.Model.Stays.{room_of_state}
-use Rattle.hotel_core.specs.Model.SoundRooms.{is_home_of, is_day, has_party}
-use Rattle.hotel_core.specs.Model.SoundCards.{are_neighbours, comes_later, code_is, room_is, card_is, stands_at, act_fits, fits_inside, is_newest, has_newest}
+use Rattle.hotel_core.specs.Model.SoundRooms.{is_home_of, is_day}
+use Rattle.hotel_core.specs.Model.SoundStays.{has_party}
+use Rattle.hotel_core.specs.Model.SoundCards.{are_neighbours, code_is, stands_at, is_newest, has_newest}
+use Rattle.hotel_core.specs.Model.SoundNotes.{comes_later, room_is, card_is, act_fits, fits_inside}
 use Rattle.hotel_rows.specs.declared.stored.PlainRoom.{PlainRoom}
 use Rattle.hotel_rows.specs.declared.stored.PlainStay.{PlainStay}
 use Rattle.hotel_rows.specs.declared.stored.PlainCode.{PlainCode}
 use Rattle.hotel_rows.specs.declared.stored.PlainCard.{PlainCard}
 use Rattle.hotel_core.specs.Model.Cards.{same_link}
 use Rattle.hotel_rows.specs.declared.stored.PlainNote.{PlainNote}
+use Rattle.hotel_rows.specs.declared.stored.PlainFit.{PlainFit}
 use Rattle.hotel_rows.specs.declared.stored.Stored.{Stored}
-use Rattle.hotel_rows.specs.Stored.{number_of, room_row, stay_row, note_row, link_row, rows_of}
+use Rattle.hotel_rows.specs.Stored.{number_of, room_row, stay_row, note_row, link_row, fits_of, rows_of}
 use Rattle.hotel_rows.specs.Damage.{room_columns, stay_columns, note_columns}
 
 -- the map has the kinds
@@ -36,10 +39,21 @@ KnowsKinds known kinds = (q : List ℕ) → is_some (lookup (is_at (slice_cmp na
 abbrev pub is_room_number : PlainRoom → Bool
 is_room_number plain = nat_le 1 (number_of plain.room) && nat_le (number_of plain.room) 9999
 
--- a secured room's lock holds its last code, which isn't its first
-abbrev pub is_secured_as_due : PlainRoom → Bool
-is_secured_as_due plain =
-    not (number_of plain.secured == 1) || ((number_of plain.lock_place == number_of plain.codes - 1) && nat_le 2 (number_of plain.codes))
+-- a fit of the room begins with its last code
+abbrev pub ends_with_fit : Stored → PlainRoom → Bool
+ends_with_fit s plain = begins_fit (rows_of s) (number_of plain.room) (number_of plain.codes - 1)
+
+-- a secured room's lock holds its last code, which isn't its first, nor the first of a fit
+abbrev pub is_secured_as_due : Stored → PlainRoom → Bool
+is_secured_as_due s plain =
+    not (number_of plain.secured == 1)
+    || ((number_of plain.lock_place == number_of plain.codes - 1) && nat_le 2 (number_of plain.codes)
+    && not (ends_with_fit s plain))
+
+-- the room has at most as many codes as there are cards, and those that its fits begin with
+abbrev pub has_few_codes : Stored → PlainRoom → Bool
+has_few_codes s plain =
+    nat_le (number_of plain.codes) (length s.cards.items + length (fits_at (fits_of s) (number_of plain.room)))
 
 abbrev pub is_at_home : Rows → RoomRow → Bool
 is_at_home rows row = said_of row.party true (is_home_of rows row)
@@ -47,7 +61,8 @@ is_at_home rows row = said_of row.party true (is_home_of rows row)
 abbrev pub room_fits : Stored → PlainRoom → Bool
 room_fits s plain =
     room_columns plain && is_room_number plain && nat_lt (number_of plain.lock_place) (number_of plain.codes) && has_kind (rows_of s) (string_bytes plain.kind)
-    && nat_le (number_of plain.codes) (length s.cards.items + 1) && nat_le (number_of plain.notes) 9999999 && is_at_home (rows_of s) (room_row plain) && is_secured_as_due plain
+    && has_few_codes s plain && nat_le (number_of plain.notes) 989999901 && is_at_home (rows_of s) (room_row plain)
+    && is_secured_as_due s plain
 
 -- ---- stay
 
@@ -103,9 +118,19 @@ agree a b = not (same_link (link_row a) (link_row b)) || (number_of a.party == n
 abbrev pub agrees : Stored → PlainCard → Bool
 agrees s plain = list_all (agree plain) s.cards.items
 
--- the code is the first of its room, or a card brought it
+-- a card brought the code
+abbrev pub has_card : Stored → PlainCode → Bool
+has_card s plain = list_any (λ (card : PlainCard). number_of card.new_code == number_of plain.code) s.cards.items
+
+-- a fit begins with the code
+abbrev pub begins_one : Stored → PlainCode → Bool
+begins_one s plain = begins_fit (rows_of s) (number_of plain.room) (number_of plain.place)
+
+-- the code is the first of its room, or a fit begins with it, or a card brought it; not both of the last two
 abbrev pub is_brought : Stored → PlainCode → Bool
-is_brought s plain = (number_of plain.place == 0) || list_any (λ (card : PlainCard). number_of card.new_code == number_of plain.code) s.cards.items
+is_brought s plain =
+    ((number_of plain.place == 0) || begins_one s plain || has_card s plain)
+    && not (begins_one s plain && has_card s plain)
 
 -- a card of the room's newest link is of the party
 abbrev pub is_owned : Stored → ℕ → ℕ → PlainCard → Bool
@@ -135,3 +160,9 @@ abbrev pub plain_note_fits : Rows → PlainNote → Bool
 plain_note_fits rows plain =
     note_columns plain && is_some (at_number rows.rooms (number_of plain.room)) && act_fits rows (number_of plain.room) (note_row plain).act && is_day (number_of plain.day)
     && nat_le (number_of plain.second) 86399
+
+-- ---- fit
+
+-- the fit's room is there
+abbrev pub has_room : Rows → PlainFit → Bool
+has_room rows plain = is_some (at_number rows.rooms (number_of plain.room))

@@ -10,6 +10,7 @@ use Rattle.hotel_nights.specs.declared.stay.StayState.{StayState}
 use Rattle.hotel_nights.specs.declared.stay.StayState.TheVariants as state
 use Rattle.hotel_core.specs.declared.books.rows.CodeRow.{CodeRow}
 use Rattle.hotel_core.specs.declared.books.rows.RoomRow.{RoomRow}
+use Rattle.hotel_core.specs.declared.books.rows.FitRow.{FitRow}
 use Rattle.hotel_core.specs.Model.Words.{said_of}
 use Rattle.hotel_core.specs.Model.Rows.{Rows}
 use Rattle.hotel_rows.specs.declared.stored.PlainKind.{PlainKind}
@@ -19,7 +20,9 @@ use Rattle.hotel_rows.specs.declared.stored.PlainCode.{PlainCode}
 use Rattle.hotel_rows.specs.declared.stored.PlainCard.{PlainCard}
 use Rattle.hotel_rows.specs.declared.stored.PlainInside.{PlainInside}
 use Rattle.hotel_rows.specs.declared.stored.PlainNote.{PlainNote}
+use Rattle.hotel_rows.specs.declared.stored.PlainFit.{PlainFit}
 use Rattle.hotel_rows.specs.declared.stored.Stored.{Stored}
+use Rattle.hotel_rows.specs.Joined.{with_fit, under_fit}
 
 -- A stored number; one below 0 is read as a number that no rule takes.
 abbrev pub number_of : ℤ → ℕ
@@ -30,7 +33,7 @@ number_of (negsuc n) = 2 ^ 64 - 1
 abbrev pub no_number : ℕ
 no_number = 2 ^ 64 - 1
 
--- a room
+-- a room; its table has no column for its fit, nor for the notes before it
 abbrev pub room_row : PlainRoom → RoomRow
 room_row plain = record {
   room = number_of plain.room;
@@ -40,6 +43,8 @@ room_row plain = record {
   secured = number_of plain.secured == 1;
   party = option_map number_of plain.party;
   notes = number_of plain.notes;
+  fit = 0;
+  before = 0;
 }
 
 -- how a stay stands; its columns are tested by a rule of their own
@@ -76,15 +81,24 @@ act_of n card first second =
     else if n == 1 then act.Left card (record { old_code = first; new_code = second })
     else act.Recoded first second
 
--- a note: it has no column for its lock, which is the room's first
+-- a note: its table has no column for its fit, and its number is that among all notes of the room
 abbrev pub note_row : PlainNote → Note
 note_row plain = record {
   room = number_of plain.room;
-  fit = 1;
+  fit = 0;
   count = number_of plain.n;
   act = act_of (number_of plain.act) (said_of plain.card no_number number_of) (number_of plain.first_code) (number_of plain.second_code);
   day = number_of plain.day;
   second = number_of plain.second;
+}
+
+-- a fit
+abbrev pub fit_row : PlainFit → FitRow
+fit_row plain = record {
+  room = number_of plain.room;
+  fit = number_of plain.fit;
+  place = number_of plain.place;
+  before = number_of plain.before;
 }
 
 abbrev pub kind_text : PlainKind → List ℕ
@@ -108,15 +122,31 @@ inside_pair plain = (number_of plain.room, number_of plain.card)
 abbrev pub note_entry : PlainNote → (ℕ × ℕ) × Note
 note_entry plain = ((number_of plain.room, number_of plain.n), note_row plain)
 
--- The stored rows as the rows of the books, whatever they are.
+abbrev pub fit_entry : PlainFit → (ℕ × ℕ) × FitRow
+fit_entry plain = ((number_of plain.room, number_of plain.fit), fit_row plain)
+
+-- the fits of all rooms, by room and fit
+abbrev pub fits_of : Stored → List ((ℕ × ℕ) × FitRow)
+fits_of s = map fit_entry s.fits.items
+
+-- a room, joined with its last fit
+abbrev pub joined_row : List ((ℕ × ℕ) × FitRow) → PlainRoom → RoomRow
+joined_row fits plain = (with_fit fits (room_entry plain)).1
+
+-- a note, joined with its fit
+abbrev pub joined_note : List ((ℕ × ℕ) × FitRow) → PlainNote → Note
+joined_note fits plain = (under_fit fits (note_entry plain)).1
+
+-- The stored rows as the rows of the books, whatever they are; those of rooms and notes are joined with the fits.
 abbrev pub rows_of : Stored → Rows
 rows_of s = record {
   day = option_map number_of s.day;
   kinds = map kind_text s.kinds.items;
-  rooms = map room_entry s.rooms.items;
+  rooms = map (with_fit (fits_of s)) (map room_entry s.rooms.items);
   codes = map code_entry s.codes.items;
   stays = map stay_entry s.stays.items;
   cards = map card_entry s.cards.items;
   inside = map inside_pair s.inside.items;
-  notes = map note_entry s.notes.items;
+  notes = map (under_fit (fits_of s)) (map note_entry s.notes.items);
+  fits = fits_of s;
 }

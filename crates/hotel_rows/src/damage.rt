@@ -2,10 +2,13 @@
 ghost use Rattle.std.specs.Prelude.{◌≡◌, ◌∷◌, [], true, IfOk};
 ghost use Rattle.hotel_rows.specs.declared.stored.TableName.TheVariants as table;
 ghost use Rattle.hotel_rows.specs.Damage.{UndamagedIsSound, first_damaged_of, first_of_tables, stay_holds};
+ghost use Rattle.hotel_rows.specs.FitRuns.{FitsOf};
 ghost use Rattle.hotel_rows.specs.Places.{AreOf};
 
 mod cards;
 mod codes;
+mod fit_runs;
+mod fits;
 mod found;
 mod insides;
 mod kinds;
@@ -21,6 +24,8 @@ mod stays;
 
 use crate::damage::cards::cards_hold;
 use crate::damage::codes::codes_hold;
+use crate::damage::fit_runs::{RoomFits, room_fits};
+use crate::damage::fits::fits_hold;
 use crate::damage::found::{Places, places_of};
 use crate::damage::insides::insides_hold;
 use crate::damage::kinds::{kinds_hold, meta_holds};
@@ -32,32 +37,39 @@ use crate::stored::{Stored, TableName};
 use keycard_rules::Memory;
 use std::alloc::Global;
 
-/// The first damaged one of the tables of codes, cards, insides and notes, where the stays are sound.
+/// The first damaged one of the tables of codes, cards, insides, notes and fits, where the stays are sound.
 fn first_of_later(
     alloc: Global,
     places: &Places,
     stored: &Stored,
+    fits: &RoomFits,
 ) -> Result<Option<TableName>, Memory>
     requires places { AreOf places.now stored.now }
+    requires fits { FitsOf fits.now stored.now.fits.items }
     requires stays { stay_holds stored.now ≡ true }
-    ensures { IfOk result (λ first. first ≡ first_of_tables (table.Code ∷ table.Card ∷ table.Inside ∷ table.Note ∷ []) stored.now) }
+    ensures { IfOk result (λ first.
+        first ≡ first_of_tables (table.Code ∷ table.Card ∷ table.Inside ∷ table.Note ∷ table.Fit ∷ []) stored.now) }
 {
     let placed = place_codes(alloc, &stored.codes)?;
     let codes = codes_hold(alloc, places, stored, &placed)?;
     if !codes {
         return Ok(Some(TableName::Code));
     }
-    let cards = cards_hold(alloc, places, stored, &placed)?;
+    let cards = cards_hold(alloc, places, stored, &placed, fits)?;
     if !cards {
         return Ok(Some(TableName::Card));
     }
-    let insides = insides_hold(alloc, places, stored, &placed)?;
+    let insides = insides_hold(alloc, places, stored, &placed, fits)?;
     if !insides {
         return Ok(Some(TableName::Inside));
     }
     let notes = notes_hold(alloc, places, stored)?;
     if !notes {
         return Ok(Some(TableName::Note));
+    }
+    let fitted = fits_hold(alloc, places, stored, fits)?;
+    if !fitted {
+        return Ok(Some(TableName::Fit));
     }
     Ok(None)
 }
@@ -76,7 +88,8 @@ pub fn first_damaged(alloc: Global, stored: &Stored) -> Result<Option<TableName>
         return Ok(Some(TableName::Kind));
     };
     let places = places_of(alloc, stored)?;
-    let rooms = rooms_hold(alloc, &places, stored, &known)?;
+    let fits = room_fits(alloc, &stored.fits)?;
+    let rooms = rooms_hold(alloc, &places, stored, &known, &fits)?;
     if !rooms {
         return Ok(Some(TableName::Room));
     }
@@ -84,7 +97,7 @@ pub fn first_damaged(alloc: Global, stored: &Stored) -> Result<Option<TableName>
     if !stays {
         return Ok(Some(TableName::Stay));
     }
-    first_of_later(alloc, &places, stored)
+    first_of_later(alloc, &places, stored, &fits)
 }
 
 /// A law, which makes no call: no table is damaged exactly where the rows are sound in the sense of the core and each

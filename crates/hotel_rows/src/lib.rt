@@ -9,6 +9,6 @@ mod stored;
 pub use counts::{Counts, counts_of};
 pub use damage::{first_damaged, undamaged_is_sound};
 pub use stored::{
-    PlainCard, PlainCode, PlainInside, PlainKind, PlainNote, PlainRoom, PlainStay, Stored,
-    TableName,
+    PlainCard, PlainCode, PlainFit, PlainInside, PlainKind, PlainNote, PlainRoom, PlainStay,
+    Stored, TableName,
 };

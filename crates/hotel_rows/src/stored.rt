@@ -11,6 +11,7 @@ pub enum TableName {
     Card,
     Inside,
     Note,
+    Fit,
 }
 
 /// A row of the table of kinds.
@@ -72,6 +73,7 @@ pub struct PlainInside {
 #[derive(Clone, Copy, Debug)]
 pub struct PlainNote {
     pub room: i64,
+    /// The number of the note among those of all locks of the room, counted from 1.
     pub n: i64,
     /// 0 entered, 1 left, 2 recoded.
     pub act: i64,
@@ -80,6 +82,18 @@ pub struct PlainNote {
     pub second_code: i64,
     pub day: i64,
     pub second: i64,
+}
+
+/// A row of the table of fits: a lock of a room.
+#[derive(Clone, Copy, Debug)]
+pub struct PlainFit {
+    pub room: i64,
+    /// Its number among the locks of the room, counted from 1.
+    pub fit: i64,
+    /// The place of its first code.
+    pub place: i64,
+    /// How many notes of the room were taken before it.
+    pub before: i64,
 }
 
 /// The rows of the tables, each table in the order of its key.
@@ -96,4 +110,5 @@ pub struct Stored {
     pub cards: Vec<PlainCard>,
     pub inside: Vec<PlainInside>,
     pub notes: Vec<PlainNote>,
+    pub fits: Vec<PlainFit>,
 }

@@ -14,9 +14,11 @@ use Rattle.hotel_statements.specs.Steps.{IsMid, IsMidWith, MovesRows, RunsStatem
 -- ---- statements, one after the other
 
 module _ {fits : Rows → Type 0} {f : Rows → Rows} {a b : State} where
-  -- two, of which the second may fail
-  pub then_makes : {g : Rows → Rows} {c : State} {u : Unit {0}} {r : Result (Unit {0}) Error} → MakesRows fits f a b (Ok u) → MakesRows any_rows g b c r → MakesRows fits (λ rows. g (f rows)) a c r
-  then_makes {g} {c} {u} {r} one two = record {
+  -- two, of which the second may fail, and wants something of the rows that the first leaves
+  pub then_makes_if : {more : Rows → Type 0} {g : Rows → Rows} {c : State} {u : Unit {0}} {r : Result (Unit {0}) Error}
+      → ((rows : Rows) → fits rows → more (f rows)) → MakesRows fits f a b (Ok u) → MakesRows more g b c r
+      → MakesRows fits (λ rows. g (f rows)) a c r
+  then_makes_if {more} {g} {c} {u} {r} still one two = record {
     made = λ clean. go r (was clean) (two.made clean);
     kept = λ clean.
         let first = one.kept (was clean) in
@@ -28,12 +30,18 @@ module _ {fits : Rows → Type 0} {f : Rows → Rows} {a b : State} where
       was : HasCleanDisk c → HasCleanDisk b
       was clean = omega (arith, two.survives.clean, clean)
 
-      go : (r : Result (Unit {0}) Error) → HasCleanDisk b → OnOk r (IsMidWith any_rows b → MovesRows b c g) → OnOk r (IsMidWith fits a → MovesRows a c (λ rows. g (f rows)))
+      go : (r : Result (Unit {0}) Error) → HasCleanDisk b → OnOk r (IsMidWith more b → MovesRows b c g)
+          → OnOk r (IsMidWith fits a → MovesRows a c (λ rows. g (f rows)))
       go (Err e) clean next = tt
       go (Ok u) clean next = λ mid.
           let first = one.made clean mid in
-          let last = next (λ _. (first.mid, tt)) in
+          let last = next (λ _. (first.mid, subst more (sym first.rows_are) (still _ (mid first.was_open).1))) in
           record { was_open = first.was_open; is_open = last.is_open; committed = last.committed ∙ first.committed; mid = last.mid; rows_are = last.rows_are ∙ ap g first.rows_are }
+
+  -- two, whatever the rows are
+  pub then_makes : {g : Rows → Rows} {c : State} {u : Unit {0}} {r : Result (Unit {0}) Error}
+      → MakesRows fits f a b (Ok u) → MakesRows any_rows g b c r → MakesRows fits (λ rows. g (f rows)) a c r
+  then_makes one two = then_makes_if (λ _ _. tt) one two
 
   -- what failed promises no rows
   pub failed : {others : Rows → Type 0} {make : Rows → Rows} {e : Error} (r : Result (Unit {0}) Error) → IsErr r → MakesRows fits f a b (Err e) → MakesRows others make a b r

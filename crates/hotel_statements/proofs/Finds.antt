@@ -3,6 +3,7 @@ use Rattle.std.proofs.Common.{◌≡◌, ◌&&◌, ◌||◌, refl, ap, ap₂, �
 use Rattle.std.specs.Prelude.{is_some, unwrap_or, option_map, bytes_eq}
 use Rattle.std.specs.List.{list_any}
 use Rattle.std.specs.Cmp.Lexicographic.{slice_cmp}
+use Rattle.std.specs.Map.{lookup}
 use Rattle.std.specs.BTreeMap.{is_at}
 use Rattle.std.proofs.lemmas.Map.Made.{is_some-lookup}
 use Rattle.std.proofs.lemmas.Bool.{cases_Bool}
@@ -19,15 +20,18 @@ use Rattle.keycard_rules.specs.Note.{Note}
 use Rattle.hotel_nights.specs.declared.stay.Stay.{Stay}
 use Rattle.hotel_core.specs.declared.books.rows.RoomRow.{RoomRow}
 use Rattle.hotel_core.specs.declared.books.rows.CodeRow.{CodeRow}
+use Rattle.hotel_core.specs.declared.books.rows.FitRow.{FitRow}
 use Rattle.hotel_core.specs.Model.Words.{pair_cmp, is_one_of, said_of}
 use Rattle.hotel_core.specs.Model.Guests.{those_in, are_none}
-use Rattle.hotel_core.specs.Model.Rows.{Rows, has_kind, at_number}
-use Rattle.hotel_core.specs.Books.Lookups.{room_at, codes_in, code_place, stay_at, card_at, note_at, inside_at}
+use Rattle.hotel_core.specs.Model.Rows.{Rows, has_kind, at_number, fit_at}
+use Rattle.hotel_core.specs.Books.Lookups.{codes_in, code_place, stay_at, card_at, inside_at}
 use Rattle.hotel_core.proofs.OfTables.Pairs.{pair_cmp_total}
 use Rattle.hotel_statements.specs.Values.{number_of, option_of, text_of, int}
 use Rattle.hotel_statements.specs.Columns.{meta_columns, meta_written, kind_columns, kind_of, kind_written, room_columns, room_row_of, room_written, stay_columns, stay_row_of, stay_written}
-use Rattle.hotel_statements.specs.Columns.{code_columns, code_row_of, code_written, card_columns, card_row_of, card_written, inside_columns, inside_of, inside_written, note_columns, note_row_of, note_written}
-use Rattle.hotel_statements.specs.Tables.{AreTables, IsWrittenAs, rows_in, metas_in}
+use Rattle.hotel_statements.specs.Columns.{code_columns, code_row_of, code_written, card_columns, card_row_of}
+use Rattle.hotel_statements.specs.Columns.{card_written, inside_columns, inside_of, inside_written, note_columns}
+use Rattle.hotel_statements.specs.Columns.{note_row_of, note_written, fit_columns, fit_row_of, fit_written}
+use Rattle.hotel_statements.specs.Tables.{AreTables, IsWrittenAs, rows_in, metas_in, bare_rooms_in, bare_notes_in}
 use Rattle.hotel_statements.specs.LookUps.{AnswersFirst}
 use Rattle.hotel_statements.proofs.Answers.{single, passes}
 use Rattle.hotel_statements.proofs.Statements.Terms.{by_rowid, by_pair, column_is, columns, all_seven, all_eight}
@@ -47,7 +51,9 @@ pub issued_where_found : (k : ℕ) (rows : Rows) → is_some (code_place rows k)
 issued_where_found k rows = is_some-lookup (is_at (nat_cmp k)) rows.codes ∙ same_any (is_at (nat_cmp k)) (λ m. eqb m k) (turned k) (codes_in rows)
 
 module _ (db : Trees) (t : AreTables db) where
-  pub room_finds : (k : ℕ) (o : Option RoomRow) → AnswersFirst room_row_of (single 3 by_rowid all_seven []) (int k ∷ []) db o → o ≡ room_at (rows_in db) k
+  -- a room, a note and a fit, as their tables have them
+  pub room_finds : (k : ℕ) (o : Option RoomRow) → AnswersFirst room_row_of (single 3 by_rowid all_seven [])
+      (int k ∷ []) db o → o ≡ at_number (bare_rooms_in db) k
   room_finds k o a = by_number 3 all_seven room_columns room_row_of room_written k db room_row_of (λ v. v) (λ r. refl) (λ e. refl) (λ r. refl) t.room o a ∙ same_option _
 
   pub stay_finds : (k : ℕ) (o : Option Stay) → AnswersFirst stay_row_of (single 5 by_rowid all_seven []) (int k ∷ []) db o → o ≡ stay_at (rows_in db) k
@@ -61,8 +67,15 @@ module _ (db : Trees) (t : AreTables db) where
   card_finds k o a = by_number 8 (columns (0 ∷ 2 ∷ 3 ∷ 4 ∷ [])) card_columns card_row_of card_written k db card_row_of (λ v. v) (λ r. refl) (λ e. refl) (λ r. refl) t.card o a
       ∙ same_option _
 
-  pub note_finds : (a b : ℕ) (o : Option Note) → AnswersFirst note_row_of (single 11 (by_pair 1 2) all_eight []) (int a ∷ int b ∷ []) db o → o ≡ note_at (rows_in db) a b
+  pub note_finds : (a b : ℕ) (o : Option Note) → AnswersFirst note_row_of (single 11 (by_pair 1 2) all_eight [])
+      (int a ∷ int b ∷ []) db o → o ≡ lookup (is_at (pair_cmp (a, b))) (bare_notes_in db)
   note_finds a b o answers = by_two 11 all_eight note_columns note_row_of note_written a b db (λ r. refl) (λ r. refl) (λ e. (refl, refl)) (λ r. refl) t.note o answers
+
+  pub fit_finds : (a b : ℕ) (o : Option FitRow) → AnswersFirst fit_row_of
+      (single 13 (by_pair 1 2) (columns (1 ∷ 2 ∷ 3 ∷ 4 ∷ [])) []) (int a ∷ int b ∷ []) db o → o
+      ≡ fit_at (rows_in db) a b
+  fit_finds a b o answers = by_two 13 (columns (1 ∷ 2 ∷ 3 ∷ 4 ∷ [])) fit_columns fit_row_of fit_written a b db
+      (λ r. refl) (λ r. refl) (λ e. (refl, refl)) (λ r. refl) t.fit o answers
 
   -- the day, where the row of meta is there
   flat : {V : Type 0} (f : V → Option ℕ) (m : Option V) (o : Option (Option ℕ)) → o ≡ option_map f m → unwrap_or o None ≡ said_of m None f

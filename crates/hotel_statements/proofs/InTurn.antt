@@ -13,7 +13,7 @@ use Rattle.hotel_core.specs.Model.Rows.{Rows}
 use Rattle.hotel_statements.specs.Steps as step
 use Rattle.hotel_statements.specs.Steps.{IsMidWith, MovesRows, any_rows}
 use Rattle.hotel_statements.specs.Statements.{Statement, RunsOne, RunsInTurn, RunsStatements, WritesBy}
-use Rattle.hotel_statements.proofs.Ends.{then_makes, failed, as_made, makes_rows}
+use Rattle.hotel_statements.proofs.Ends.{then_makes, then_makes_if, failed, as_made, makes_rows}
 
 pub answered : {e : Error} (r : Result (Unit {0}) Error) → IsErrAnd r (λ why. why ≡ e) → r ≡ Err e
 answered (Ok u) is = absurd is
@@ -52,6 +52,16 @@ module _ {S : Type 0} {g : Ghosts S} {one : List Statement} {a b : Held S} where
     pub writes_then : {two : List Statement} {h : Rows → Rows} {c : Held S} {u : Unit {0}} {r : Result (Unit {0}) Error} → WritesBy g one fits f a b (Ok u) → WritesBy g two any_rows h b c r
         → WritesBy g (one ++ two) fits (λ rows. h (f rows)) a c r
     writes_then first next = record { runs = runs_then first.runs next.rows.survives next.runs; rows = then_makes first.rows next.rows }
+
+    -- those after it want something of the rows that it leaves
+    pub writes_then_if : {two : List Statement} {more : Rows → Type 0} {h : Rows → Rows} {c : Held S} {u : Unit {0}}
+        {r : Result (Unit {0}) Error} → ((rows : Rows) → fits rows → more (f rows)) → WritesBy g one fits f a b (Ok u)
+        → WritesBy g two more h b c r → WritesBy g (one ++ two) fits (λ rows. h (f rows)) a c r
+    writes_then_if still first next = record {
+      runs = runs_then first.runs next.rows.survives next.runs;
+      rows =
+          then_makes_if still first.rows next.rows;
+    }
 
     -- what failed promises no rows
     pub writes_stopped : (two : List Statement) {others : Rows → Type 0} {make : Rows → Rows} {e : Error} (r : Result (Unit {0}) Error) → IsErr r → IsErrAnd r (λ why. why ≡ e)

@@ -26,7 +26,7 @@ use Rattle.hotel_core.proofs.OfTables.Pairs.{pair_cmp_total}
 use Rattle.hotel_statements.specs.Values.{number_of, int}
 use Rattle.hotel_statements.specs.Tables.{IsTable, IsWrittenAs, listed, by_key, rows_in, AreTables}
 use Rattle.hotel_statements.specs.Books.{IsKept, IsBooks, KeepsRows}
-use Rattle.hotel_statements.specs.LookUps.{Asks, AnswersFirst, Looks}
+use Rattle.hotel_statements.specs.LookUps.{Asks, AnswersFirst, Looks, Finds}
 use Rattle.hotel_statements.proofs.Answers.{single, env, passes, fused}
 use Rattle.hotel_statements.proofs.Statements.Terms.{by_rowid, by_pair}
 use Rattle.hotel_statements.proofs.Keys.{equals, is_key, and_true}
@@ -122,6 +122,24 @@ looks_to text params old new out q found result said wanted was books keeps find
   books = books;
   keeps = keeps;
   found = λ kept. let before = (keeps kept).0 in is before (was.desk before).tables (finds kept q asks);
+  open_on = open_on;
+  crash = crash;
+}
+
+-- the same of the tables as they stand
+pub finds_to : {A : Type 0} (text : List ℕ) (params : Row) (old new : State) (out : Row → A) (q : Query)
+    (result : Result (Option A) LookFault) (wanted : Trees → Option A)
+    → IsBooks old → IsBooks new → KeepsRows old new
+    → (IsKept new → (p : Query) → Asks text p → IfOk result (AnswersFirst out p params old.now.trees))
+    → (IsKept old → HasCleanDisk new → OnOk result (IsTrue new.is_open)) → Survives old new (λ _. IsKept old → ⊥)
+    → Asks text q
+    → (AreTables old.now.trees → IfOk result (AnswersFirst out q params old.now.trees)
+    → IfOk result (λ a. a ≡ wanted old.now.trees))
+    → Finds wanted old new result
+finds_to text params old new out q result wanted was books keeps finds open_on crash asks is = record {
+  books = books;
+  keeps = keeps;
+  found = λ kept. is (was.desk (keeps kept).0).tables (finds kept q asks);
   open_on = open_on;
   crash = crash;
 }

@@ -1,5 +1,6 @@
 pub mod Answers
 pub mod Perm
+pub mod Joins
 mod Keys
 mod Found
 mod Keeps
@@ -8,8 +9,11 @@ mod Writing
 mod Makers
 mod Ordered
 pub mod Keyed
+pub mod Risen
 mod Finds
 mod Lists
+mod ByRoom
+mod Fitted
 mod Last
 mod NewDesk
 mod Statements

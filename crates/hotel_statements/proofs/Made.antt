@@ -7,6 +7,8 @@ pub mod Inserts
 pub mod Sources
 pub mod Updates
 pub mod Issued
+pub mod Rooms
 pub mod Insides
 pub mod Deletes
+pub mod Emptied
 pub mod Alone

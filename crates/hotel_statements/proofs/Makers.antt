@@ -12,9 +12,12 @@ use Rattle.sqlite.specs.Listing.{understood}
 use Rattle.sqlite.specs.Effect.{Database}
 use Rattle.sqlite.specs.State.{State, Writes, ExecutesIn, ExecutesInside}
 use Rattle.sqlite.proofs.Callers.{runs_as}
-use Rattle.hotel_statements.specs.Texts.{create_meta, create_kind, create_room, create_stay, create_code, create_card, create_inside, create_note}
-use Rattle.hotel_statements.specs.Schema.{no_schema, meta_table, kind_table, room_table, stay_table, code_table, card_table, inside_table, note_table}
-use Rattle.hotel_statements.specs.NewDesk.{IsMaker, IsBare, with_meta, with_kind, with_room, with_stay, with_code, with_card, with_inside}
+use Rattle.hotel_statements.specs.Texts.{create_meta, create_kind, create_room, create_stay, create_code, create_card}
+use Rattle.hotel_statements.specs.Texts.{create_inside, create_note, create_fit}
+use Rattle.hotel_statements.specs.Schema.{no_schema, meta_table, kind_table, room_table, stay_table, code_table}
+use Rattle.hotel_statements.specs.Schema.{card_table, inside_table, note_table, fit_table}
+use Rattle.hotel_statements.specs.NewDesk.{IsMaker, IsBare, with_meta, with_kind, with_room, with_stay, with_code}
+use Rattle.hotel_statements.specs.NewDesk.{with_card, with_inside, with_note}
 use Rattle.hotel_statements.proofs.Writing.{went, same_value}
 
 pub creates : (schema : Schema) (text : List ℕ) (t : Table) (old new : State) (count : ℕ) → IsMaker schema text t → old.now.schema ≡ schema
@@ -77,3 +80,7 @@ make_inside = record { command = refl; whole = refl; plain = (refl, refl); defin
 pub make_note : IsMaker with_inside create_note note_table
 unfolding understood everything
 make_note = record { command = refl; whole = refl; plain = (refl, refl); defines = refl; uncounted = refl }
+
+pub make_fit : IsMaker with_note create_fit fit_table
+unfolding understood everything
+make_fit = record { command = refl; whole = refl; plain = (refl, refl); defines = refl; uncounted = refl }

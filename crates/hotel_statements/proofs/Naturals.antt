@@ -15,14 +15,22 @@ use Rattle.hotel_rows.specs.declared.stored.PlainCode.{PlainCode}
 use Rattle.hotel_rows.specs.declared.stored.PlainCard.{PlainCard}
 use Rattle.hotel_rows.specs.declared.stored.PlainInside.{PlainInside}
 use Rattle.hotel_rows.specs.declared.stored.PlainNote.{PlainNote}
+use Rattle.hotel_rows.specs.declared.stored.PlainFit.{PlainFit}
 use Rattle.hotel_statements.specs.Values.{int, maybe_int}
 use Rattle.hotel_statements.specs.Values as value
-use Rattle.hotel_statements.specs.Columns.{meta_of, meta_written, kind_of, kind_written, room_of, room_written, bit_of, stay_of, stay_written, state_number, code_of, code_written, card_of, card_written, inside_of, inside_written, note_of, note_written, act_number, act_card, act_first, act_second}
+use Rattle.hotel_statements.specs.Columns.{meta_of, meta_written, kind_of, kind_written, room_of, room_written, bit_of}
+use Rattle.hotel_statements.specs.Columns.{stay_of, stay_written, state_number, code_of, code_written, card_of}
+use Rattle.hotel_statements.specs.Columns.{card_written, inside_of, inside_written, note_of, note_written, fit_of}
+use Rattle.hotel_statements.specs.Columns.{fit_written, act_number, act_card, act_first, act_second}
 use Rattle.hotel_statements.specs.Columns as columns
-use Rattle.hotel_rows.specs.Stored.{number_of, state_of, act_of, no_number, kind_text, room_entry, stay_entry, code_entry, card_entry, inside_pair, note_entry}
+use Rattle.hotel_rows.specs.Stored.{number_of, state_of, act_of, no_number, kind_text, room_entry, stay_entry}
+use Rattle.hotel_rows.specs.Stored.{code_entry, card_entry, inside_pair, note_entry, fit_entry}
 use Rattle.hotel_rows.specs.Damage.{room_columns, stay_columns, note_columns}
 use Rattle.hotel_core.specs.Model.Words.{said_of}
-use Rattle.hotel_statements.specs.PlainRows.{maybe, is_natural, may_be_natural, meta_shown, kind_shown, room_shown, room_natural, stay_shown, stay_natural, code_shown, code_natural, card_shown, card_natural, inside_shown, inside_natural, note_shown, note_natural}
+use Rattle.hotel_statements.specs.PlainRows.{maybe, is_natural, may_be_natural, meta_shown, kind_shown, room_shown}
+use Rattle.hotel_statements.specs.PlainRows.{room_natural, stay_shown, stay_natural, code_shown, code_natural}
+use Rattle.hotel_statements.specs.PlainRows.{card_shown, card_natural, inside_shown, inside_natural, note_shown}
+use Rattle.hotel_statements.specs.PlainRows.{note_natural, fit_shown, fit_natural}
 
 -- ---- a number, and one that may be null
 
@@ -109,10 +117,13 @@ meta_entry l = (number_of l.id, (number_of l.version, option_map number_of l.day
 abbrev Good : {L X : Type 0} → (Row → X) → (X → Row) → (L → Row) → (L → X) → L → Type 0
 Good of written shown entry l = (shown l ≡ written (entry l)) × (of (shown l) ≡ entry l)
 
-pub meta_good : (l : PlainMeta) → l.id ≡ pos 1 → l.version ≡ pos 1 → may_be_natural l.day ≡ true → Good meta_of meta_written meta_shown meta_entry l
+pub meta_good : (l : PlainMeta) → l.id ≡ pos 1 → l.version ≡ pos 2 → may_be_natural l.day ≡ true
+    → Good meta_of meta_written meta_shown meta_entry l
 meta_good l id version day =
-    let natural : (n : ℤ) → n ≡ pos 1 → is_natural n ≡ true = λ n e. ap is_natural e in
-    (rw (is_int l.id (natural l.id id), is_int l.version (natural l.version version), is_maybe l.day day) refl, rw (says l.id (natural l.id id), says l.version (natural l.version version), may_say l.day day) refl)
+    let natural : (n : ℤ) (m : ℕ) → n ≡ pos m → is_natural n ≡ true = λ n m e. ap is_natural e in (
+      rw (is_int l.id (natural l.id 1 id), is_int l.version (natural l.version 2 version), is_maybe l.day day) refl,
+      rw (says l.id (natural l.id 1 id), says l.version (natural l.version 2 version), may_say l.day day) refl,
+    )
 
 pub kind_good : (l : PlainKind) → Good kind_of kind_written kind_shown kind_text l
 kind_good l = (refl, refl)
@@ -134,6 +145,15 @@ pub inside_good : (l : PlainInside) → inside_natural l ≡ true → Good insid
 inside_good l h =
     let a = and_true (is_natural l.room) (is_natural l.card) h in
     (rw (is_int l.room a.0, is_int l.card a.1) refl, rw (says l.room a.0, says l.card a.1) refl)
+
+pub fit_good : (l : PlainFit) → fit_natural l ≡ true → Good fit_of fit_written fit_shown fit_entry l
+fit_good l h =
+    let c = and_true _ (is_natural l.before) h in
+    let b = and_true _ (is_natural l.place) c.0 in
+    let a = and_true (is_natural l.room) (is_natural l.fit) b.0 in (
+      rw (is_int l.room a.0, is_int l.fit a.1, is_int l.place b.1, is_int l.before c.1) refl,
+      rw (says l.room a.0, says l.fit a.1, says l.place b.1, says l.before c.1) refl,
+    )
 
 pub room_good : (l : PlainRoom) → room_natural l ≡ true → room_columns l ≡ true → Good room_of room_written room_shown room_entry l
 room_good l h bit =

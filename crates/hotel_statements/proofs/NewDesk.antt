@@ -1,4 +1,4 @@
--- The row of meta is added to eight empty tables.
+-- The row of meta is added to nine empty tables.
 use Rattle.std.proofs.Common.{◌≡◌, refl, sym, ap, subst, ◌∙◌, List, [], ◌∷◌, ℕ, pos, None, Ok, IsTrue, false, arith}
 use Rattle.std.specs.Ordering.{nat_cmp}
 use Rattle.sqlite_value.specs.declared.value.Value.TheVariants.{Null, Int}
@@ -26,7 +26,7 @@ use Rattle.hotel_statements.proofs.Statements.Changes as changes
 use Rattle.hotel_statements.proofs.Writing.{went, same_value, cast_null, cast_int}
 
 abbrev meta_row : Row
-meta_row = int 1 ∷ Null ∷ int 1 ∷ Null ∷ []
+meta_row = int 1 ∷ Null ∷ int 2 ∷ Null ∷ []
 
 abbrev table : Table
 table = at_tree 0 meta_table
@@ -42,11 +42,12 @@ record Entered (old new : State) : Type 0 where
   pub card : new.now.trees 8 ≡ old.now.trees 8
   pub inside : new.now.trees 9 ≡ old.now.trees 9
   pub note : new.now.trees 11 ≡ old.now.trees 11
+  pub fit : new.now.trees 13 ≡ old.now.trees 13
 
 enters : (old new : State) (count : ℕ) → old.now.schema ≡ desk_schema → ExecutesIn false insert_meta [] old new (Ok count) → Entered old new
 enters old new count has h =
     let db = old.now.trees in
-    let terms : List Term = lit (Int (pos 1)) ∷ lit Null ∷ lit (Int (pos 1)) ∷ lit Null ∷ [] in
+    let terms : List Term = lit (Int (pos 1)) ∷ lit Null ∷ lit (Int (pos 2)) ∷ lit Null ∷ [] in
     let command = Insert 0 (Values terms 4) in
     let w = runs_as insert_meta [] old new desk_schema has command changes.insert_meta.is changes.insert_meta.plain count h in
     let text = statement_of insert_meta (understood desk_schema insert_meta) in
@@ -56,10 +57,11 @@ enters old new count has h =
     let written = went (went given.2).2 in
     let counted = went written.2 in
     let trees : done.0.trees ≡ written.0 = ap (λ (it : Written). it.trees) (same_value counted.2) ∙ same_value counted.1 in
-    let source : Row = int 1 ∷ Null ∷ int 1 ∷ Null ∷ [] in
+    let source : Row = int 1 ∷ Null ∷ int 2 ∷ Null ∷ [] in
     let went_in = subst (λ all. Edited desk_schema (mode_of old).keys db (edit_of db table [] Chosen 0 all) (Ok written.0)) given.1.1 written.1 in
     let applied = one_step desk_schema (mode_of old).keys db written.0 (edit_of db table [] Chosen 0 (source ∷ [])) refl went_in in
-    let edit : edited db (edit_of db table [] Chosen 0 (source ∷ [])) ≡ put_row meta_row (db 0) = rw (cast_null, cast_int (pos 1)) refl in
+    let edit : edited db (edit_of db table [] Chosen 0 (source ∷ []))
+    ≡ put_row meta_row (db 0) = rw (cast_null, cast_int (pos 1), cast_int (pos 2)) refl in
     let at : (t : ℕ) → new.now.trees t ≡ written.0 t = λ t. ap (λ (d : Database). d.trees t) now ∙ ap (λ (s : Trees). s t) trees in
     record {
       schema = ap (λ (d : Database). d.schema) now;
@@ -71,10 +73,12 @@ enters old new count has h =
       card = at 8 ∙ applied.tables.1.1.1.1.1.0 (λ e. omega (arith, e));
       inside = at 9 ∙ applied.tables.1.1.1.1.1.1.0 (λ e. omega (arith, e));
       note = at 11 ∙ applied.tables.1.1.1.1.1.1.1.0 (λ e. omega (arith, e));
+      fit = at 13 ∙ applied.tables.1.1.1.1.1.1.1.1.0 (λ e. omega (arith, e));
     }
 
-empty_desk : (db : Trees) → db 0 ≡ meta_row ∷ [] → db 1 ≡ [] → db 3 ≡ [] → db 5 ≡ [] → db 6 ≡ [] → db 8 ≡ [] → db 9 ≡ [] → db 11 ≡ [] → IsEmptyDesk db
-empty_desk db meta kind room stay code card inside note = record {
+empty_desk : (db : Trees) → db 0 ≡ meta_row ∷ [] → db 1 ≡ [] → db 3 ≡ [] → db 5 ≡ [] → db 6 ≡ [] → db 8 ≡ [] → db 9
+    ≡ [] → db 11 ≡ [] → db 13 ≡ [] → IsEmptyDesk db
+empty_desk db meta kind room stay code card inside note fit = record {
   tables = record {
     meta = subst (IsTable (by_key nat_cmp) meta_columns meta_of meta_written) (sym meta) (record { good = (refl, tt); apart = (tt, tt) });
     meta_row = (None, rw meta refl);
@@ -87,8 +91,9 @@ empty_desk db meta kind room stay code card inside note = record {
     inside_numbered = rw inside tt;
     inside_ids = rw inside tt;
     note = rw note (record { good = tt; apart = tt });
+    fit = rw fit (record { good = tt; apart = tt });
   };
-  no_rows_are = rw (meta, kind, room, stay, code, card, inside, note) refl;
+  no_rows_are = rw (meta, kind, room, stay, code, card, inside, note, fit) refl;
 }
 
 pub enters_meta : (old new : State) (count : ℕ) → ExecutesInside 0 insert_meta [] old new (Ok count) → (IsTrue old.is_open → IsBare desk_schema old) → IsMade new
@@ -101,5 +106,6 @@ enters_meta old new count h bare =
       schema_is = did.schema;
       empty = empty_desk new.now.trees (did.meta ∙ ap (put_row meta_row) none.0) (did.kind ∙ none.1.0) (did.room ∙ none.1.1.0) (did.stay ∙ none.1.1.1.0)
           (did.code ∙ none.1.1.1.1.0)
-          (did.card ∙ none.1.1.1.1.1.0) (did.inside ∙ none.1.1.1.1.1.1.0) (did.note ∙ none.1.1.1.1.1.1.1.0);
+          (did.card ∙ none.1.1.1.1.1.0) (did.inside ∙ none.1.1.1.1.1.1.0) (did.note ∙ none.1.1.1.1.1.1.1.0)
+          (did.fit ∙ none.1.1.1.1.1.1.1.1.0);
     }

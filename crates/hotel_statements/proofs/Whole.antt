@@ -11,7 +11,8 @@ use Rattle.sqlite.specs.Program.{overlay}
 use Rattle.sqlite.specs.Term.{Term, col, eval_all}
 use Rattle.sqlite.specs.Tree.{Trees}
 use Rattle.hotel_statements.specs.Texts as text
-use Rattle.hotel_statements.specs.Columns.{meta_columns, kind_columns, room_columns, stay_columns, code_columns, card_columns, note_columns}
+use Rattle.hotel_statements.specs.Columns.{meta_columns, kind_columns, room_columns, stay_columns, code_columns}
+use Rattle.hotel_statements.specs.Columns.{card_columns, note_columns, fit_columns}
 use Rattle.hotel_statements.specs.PlainRows.{numbered_columns, first_one, first_three, first_four, first_seven, first_eight}
 use Rattle.hotel_statements.specs.WholeTables.{IsWhole}
 use Rattle.hotel_statements.proofs.Statements.Terms.{columns, all_seven, all_eight}
@@ -47,7 +48,7 @@ all_rows tree project order columns cut shows whole db rows a =
     let right : map (λ (x : Output). cut x.1) it.ordered ≡ map cut rows = sym (fused cut (λ (x : Output). x.1) it.ordered) ∙ ap (map cut) (sym it.shown) in
     subst (λ ys. IsPermutation (map columns (db tree)) ys) right (subst (λ xs. IsPermutation xs (map (λ (x : Output). cut x.1) it.ordered)) left mapped)
 
--- ---- the eight tables
+-- ---- the nine tables
 
 pub meta_whole : IsWhole text.read_meta 0 meta_columns first_three
 meta_whole = record { query = single 0 [] (columns (0 ∷ 2 ∷ 3 ∷ [])) by_rowid; asks = reads.read_meta; answers = all_rows 0 (columns (0 ∷ 2 ∷ 3 ∷ [])) by_rowid meta_columns first_three (λ r. refl) (λ r. refl) }
@@ -76,3 +77,10 @@ inside_whole = record { query = single 9 [] (columns (0 ∷ 1 ∷ 2 ∷ [])) by_
 
 pub note_whole : IsWhole text.read_note 11 note_columns first_eight
 note_whole = record { query = single 11 [] all_eight by_two; asks = reads.read_note; answers = all_rows 11 all_eight by_two note_columns first_eight (λ r. refl) (λ r. refl) }
+
+pub fit_whole : IsWhole text.read_fit 13 fit_columns first_four
+fit_whole = record {
+  query = single 13 [] (columns (1 ∷ 2 ∷ 3 ∷ 4 ∷ [])) by_two;
+  asks = reads.read_fit;
+  answers = all_rows 13 (columns (1 ∷ 2 ∷ 3 ∷ 4 ∷ [])) by_two fit_columns first_four (λ r. refl) (λ r. refl);
+}

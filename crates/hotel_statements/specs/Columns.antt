@@ -1,4 +1,4 @@
--- The rows of the eight tables: which columns each has, what a row with these columns says, and how the books write it.
+-- The rows of the nine tables: which columns each has, what a row with these columns says, and how the books write it.
 use Rattle.std.specs.Prelude.{ℕ, Bool, true, false, List, [], ◌∷◌, Option, Some, None, ◌==◌, if◌then◌else◌, unwrap_or}
 use Rattle.sqlite_value.specs.declared.value.Value.TheVariants.{Text}
 use Rattle.sqlite.specs.Order.{Row, column}
@@ -11,6 +11,7 @@ use Rattle.hotel_nights.specs.declared.stay.StayState.{StayState}
 use Rattle.hotel_nights.specs.declared.stay.StayState.TheVariants.{Booked, InHouse, Done, Cancelled}
 use Rattle.hotel_core.specs.declared.books.rows.RoomRow.{RoomRow}
 use Rattle.hotel_core.specs.declared.books.rows.CodeRow.{CodeRow}
+use Rattle.hotel_core.specs.declared.books.rows.FitRow.{FitRow}
 use Rattle.hotel_core.specs.Model.Stays.{room_of_state}
 use Rattle.hotel_statements.specs.Values.{number_of, option_of, text_of, int, maybe_int}
 
@@ -48,6 +49,7 @@ bit_of false = 0
 abbrev pub room_columns : Row → Row
 room_columns r = column r 0 ∷ column r 2 ∷ column r 3 ∷ column r 4 ∷ column r 5 ∷ column r 6 ∷ column r 7 ∷ []
 
+-- it has no column for the fit, nor for the notes before it
 abbrev pub room_row_of : Row → RoomRow
 room_row_of v = record {
   room = number_of (column v 0);
@@ -57,6 +59,8 @@ room_row_of v = record {
   secured = number_of (column v 4) == 1;
   party = option_of (column v 5);
   notes = number_of (column v 6);
+  fit = 0;
+  before = 0;
 }
 
 abbrev pub room_of : Row → ℕ × RoomRow
@@ -169,11 +173,11 @@ act_second (Recoded from to) = to
 abbrev pub note_columns : Row → Row
 note_columns r = column r 1 ∷ column r 2 ∷ column r 3 ∷ column r 4 ∷ column r 5 ∷ column r 6 ∷ column r 7 ∷ column r 8 ∷ []
 
--- it has no column for its lock, which is the room's first
+-- it has no columns for its fit and its count; its number is that among all notes of the room
 abbrev pub note_row_of : Row → Note
 note_row_of v = record {
   room = number_of (column v 0);
-  fit = 1;
+  fit = 0;
   count = number_of (column v 1);
   act = act_of (number_of (column v 2)) (option_of (column v 3)) (number_of (column v 4)) (number_of (column v 5));
   day = number_of (column v 6);
@@ -186,3 +190,22 @@ note_of v = ((number_of (column v 0), number_of (column v 1)), note_row_of v)
 abbrev pub note_written : (ℕ × ℕ) × Note → Row
 note_written e =
     int e.0.0 ∷ int e.0.1 ∷ int (act_number e.1.act) ∷ maybe_int (act_card e.1.act) ∷ int (act_first e.1.act) ∷ int (act_second e.1.act) ∷ int e.1.day ∷ int e.1.second ∷ []
+
+-- ---- fit
+
+abbrev pub fit_columns : Row → Row
+fit_columns r = column r 1 ∷ column r 2 ∷ column r 3 ∷ column r 4 ∷ []
+
+abbrev pub fit_row_of : Row → FitRow
+fit_row_of v = record {
+  room = number_of (column v 0);
+  fit = number_of (column v 1);
+  place = number_of (column v 2);
+  before = number_of (column v 3);
+}
+
+abbrev pub fit_of : Row → (ℕ × ℕ) × FitRow
+fit_of v = ((number_of (column v 0), number_of (column v 1)), fit_row_of v)
+
+abbrev pub fit_written : (ℕ × ℕ) × FitRow → Row
+fit_written e = int e.0.0 ∷ int e.0.1 ∷ int e.1.place ∷ int e.1.before ∷ []

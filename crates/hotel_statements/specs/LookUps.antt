@@ -1,5 +1,6 @@
 -- What a look-up promises.
-use Rattle.std.specs.Prelude.{◌≡◌, ℕ, false, length, List, [], ◌∷◌, map, Option, Some, None, Result, IfOk, OnOk, IsTrue}
+use Rattle.std.specs.Prelude.{◌≡◌, ◌==◌, if◌then◌else◌, ℕ, false, length, List, [], ◌∷◌, map, Option, Some, None}
+use Rattle.std.specs.Prelude.{Result, IfOk, OnOk, IsTrue}
 use Rattle.sqlite.specs.Order.{Row}
 use Rattle.sqlite.specs.Query.{Query, IsAnswer}
 use Rattle.sqlite.specs.Program.{overlay}
@@ -16,6 +17,7 @@ use Rattle.sqlite_resolve.specs.declared.error.CompileError.{CompileError}
 use Rattle.keycard_rules.specs.declared.issued.LookFault.{LookFault}
 use Rattle.keycard_rules.specs.declared.issued.LookFault.TheVariants as why
 use Rattle.hotel_core.specs.declared.books.rows.NextNumbers.{NextNumbers}
+use Rattle.hotel_core.specs.declared.books.rows.FitRow.{FitRow}
 use Rattle.hotel_core.specs.Books.Lookups.{number_after}
 use Rattle.hotel_core.specs.Model.Rows.{Rows}
 use Rattle.hotel_statements.specs.Schema.{desk_schema}
@@ -63,6 +65,19 @@ pub record Looks {A R : Type 0} (said : R → A) (wanted : Rows → A) (old new 
   pub found : IsKept new → IfOk result (λ a. said a ≡ wanted (rows_in old.now.trees))
   pub open_on : IsKept old → HasCleanDisk new → OnOk result (IsTrue new.is_open)
   pub crash : Survives old new (λ _. IsKept old → ⊥)
+
+-- A look-up in the tables as they stand, which promises as much.
+pub record Finds {R : Type 0} (wanted : Trees → R) (old new : State) (result : Result R LookFault) : Type 0 where
+  pub books : IsBooks new
+  pub keeps : KeepsRows old new
+  pub found : IsKept new → IfOk result (λ a. a ≡ wanted old.now.trees)
+  pub open_on : IsKept old → HasCleanDisk new → OnOk result (IsTrue new.is_open)
+  pub crash : Survives old new (λ _. IsKept old → ⊥)
+
+-- the first of some fits that has this number
+abbrev pub numbered_fit : List FitRow → ℕ → Option FitRow
+numbered_fit [] number = None
+numbered_fit (f ∷ fs) number = if f.fit == number then Some f else numbered_fit fs number
 
 -- the numbers after the last party and the last card
 abbrev pub next_numbers_of : Rows → NextNumbers

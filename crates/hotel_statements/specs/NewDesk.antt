@@ -14,7 +14,8 @@ use Rattle.sqlite.specs.State.{State}
 use Rattle.sqlite_catalog.specs.Change.{created}
 use Rattle.hotel_core.specs.Model.Rows.{no_rows}
 use Rattle.hotel_statements.specs.Tables.{AreTables, rows_in}
-use Rattle.hotel_statements.specs.Schema.{desk_schema, no_schema, meta_table, kind_table, room_table, stay_table, code_table, card_table, inside_table}
+use Rattle.hotel_statements.specs.Schema.{desk_schema, no_schema, meta_table, kind_table, room_table, stay_table}
+use Rattle.hotel_statements.specs.Schema.{code_table, card_table, inside_table, note_table}
 
 abbrev pub AreEmpty : Schema → Trees → Type 0
 AreEmpty schema db = AllByRecursion (λ (t : Table). db t.tree ≡ []) schema.tables
@@ -53,6 +54,9 @@ with_card = created with_code card_table
 
 abbrev pub with_inside : Schema
 with_inside = created with_card inside_table
+
+abbrev pub with_note : Schema
+with_note = created with_inside note_table
 
 -- Where the connection was open and the one held, the other holds.
 abbrev pub IfOpen : (State → Type 0) → (State → Type 0) → State → State → Type 0

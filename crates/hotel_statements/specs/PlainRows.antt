@@ -16,6 +16,7 @@ use Rattle.hotel_rows.specs.declared.stored.PlainCode.{PlainCode}
 use Rattle.hotel_rows.specs.declared.stored.PlainCard.{PlainCard}
 use Rattle.hotel_rows.specs.declared.stored.PlainInside.{PlainInside}
 use Rattle.hotel_rows.specs.declared.stored.PlainNote.{PlainNote}
+use Rattle.hotel_rows.specs.declared.stored.PlainFit.{PlainFit}
 
 -- a number that may be null
 abbrev pub maybe : Option ℤ → Value
@@ -54,6 +55,9 @@ numbered_columns r = column r 0 ∷ column r 1 ∷ column r 2 ∷ []
 
 abbrev pub note_shown : PlainNote → Row
 note_shown l = Int l.room ∷ Int l.n ∷ Int l.act ∷ maybe l.card ∷ Int l.first_code ∷ Int l.second_code ∷ Int l.day ∷ Int l.second ∷ []
+
+abbrev pub fit_shown : PlainFit → Row
+fit_shown l = Int l.room ∷ Int l.fit ∷ Int l.place ∷ Int l.before ∷ []
 
 -- ---- the first columns of a row
 
@@ -95,6 +99,9 @@ inside_order a b = ordering_then (int_cmp a.room b.room) (int_cmp a.card b.card)
 abbrev pub note_order : PlainNote → PlainNote → Ordering
 note_order a b = ordering_then (int_cmp a.room b.room) (int_cmp a.n b.n)
 
+abbrev pub fit_order : PlainFit → PlainFit → Ordering
+fit_order a b = ordering_then (int_cmp a.room b.room) (int_cmp a.fit b.fit)
+
 -- ---- no number is below 0
 
 abbrev pub is_natural : ℤ → Bool
@@ -127,6 +134,9 @@ abbrev pub note_natural : PlainNote → Bool
 note_natural l =
     is_natural l.room && is_natural l.n && is_natural l.act && may_be_natural l.card && is_natural l.first_code && is_natural l.second_code && is_natural l.day
     && is_natural l.second
+
+abbrev pub fit_natural : PlainFit → Bool
+fit_natural l = is_natural l.room && is_natural l.fit && is_natural l.place && is_natural l.before
 
 -- the plain rows are those of the tree, in some order
 abbrev pub ArePlainRows : {L : Type 0} → (Row → Row) → (L → Row) → List L → List Row → Type 0

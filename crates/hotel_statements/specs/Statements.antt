@@ -7,11 +7,14 @@ use Rattle.hotel_nights.specs.declared.stay.StayState.{StayState}
 use Rattle.hotel_nights.specs.declared.stay.StayState.TheVariants as state
 use Rattle.hotel_core.specs.declared.books.rows.RoomRow.{RoomRow}
 use Rattle.hotel_core.specs.declared.books.rows.CodeRow.{CodeRow}
+use Rattle.hotel_core.specs.declared.books.rows.FitRow.{FitRow}
 use Rattle.hotel_core.specs.declared.books.change.InsideMove.{InsideMove}
 use Rattle.hotel_core.specs.declared.books.change.InsideMove.TheVariants.{Same, Goes, Comes}
 use Rattle.hotel_core.specs.declared.books.change.Change.{Change}
-use Rattle.hotel_core.specs.declared.books.change.Change.TheVariants.{Begin, DayTo, Kind, Room, Reserved, Cancelled, Issue, Spare, CheckedOut, Noted}
+use Rattle.hotel_core.specs.declared.books.change.Change.TheVariants.{Begin, DayTo, Kind, Room, Reserved, Cancelled}
+use Rattle.hotel_core.specs.declared.books.change.Change.TheVariants.{Issue, Spare, CheckedOut, Refit, Noted}
 use Rattle.hotel_core.specs.Model.Stays.{room_of_state}
+use Rattle.hotel_core.specs.Model.Refits.{fit_row}
 use Rattle.sqlite.specs.Order.{Row}
 use Rattle.sqlite.specs.State.{HasCleanDisk, ExecutesInside}
 use Rattle.sqlite.specs.Held as held
@@ -23,7 +26,8 @@ use Rattle.sqlite.specs.declared.error.ErrorCode.TheVariants.{TransactionState}
 use Rattle.hotel_core.specs.Model.Rows.{Rows}
 use Rattle.hotel_statements.specs.Texts as text
 use Rattle.hotel_statements.specs.Values.{int, maybe_int}
-use Rattle.hotel_statements.specs.Columns.{bit_of, state_number, kind_written, room_written, stay_written, code_written, card_written, inside_written, note_written}
+use Rattle.hotel_statements.specs.Columns.{bit_of, state_number, kind_written, room_written, stay_written, code_written}
+use Rattle.hotel_statements.specs.Columns.{card_written, inside_written, note_written, fit_written}
 use Rattle.hotel_statements.specs.Steps.{MakesRows}
 
 -- its text, and the values of its parameters
@@ -50,14 +54,21 @@ adds_stay stay = (text.insert_stay, stay_written (stay.party, stay))
 abbrev pub adds_card : Card → Statement
 adds_card card = (text.insert_card, card_written (card.number, card))
 
-abbrev pub adds_note : Note → Statement
-adds_note note = (text.insert_note, note_written ((note.room, note.count), note))
+-- a note of this number among all of its room
+abbrev pub adds_note : Note → ℕ → Statement
+adds_note note number = (text.insert_note, note_written ((note.room, number), note))
+
+abbrev pub adds_fit : FitRow → Statement
+adds_fit fit = (text.insert_fit, fit_written ((fit.room, fit.fit), fit))
 
 abbrev pub adds_inside : ℕ → ℕ → Statement
 adds_inside room card = (text.insert_inside, inside_written (room, card))
 
 abbrev pub removes_inside : ℕ → ℕ → Statement
 removes_inside room card = (text.delete_inside, inside_written (room, card))
+
+abbrev pub removes_insides : ℕ → Statement
+removes_insides room = (text.delete_insides, int room ∷ [])
 
 -- how many codes the room has, and its party
 abbrev pub sets_issued : ℕ → ℕ → ℕ → Statement
@@ -69,6 +80,10 @@ frees_room room = (text.update_party, int room ∷ [])
 -- the place of the room's lock, whether it is secured, and how many notes were taken
 abbrev pub sets_noted : ℕ → ℕ → Bool → ℕ → Statement
 sets_noted room lock_place secured notes = (text.update_noted, int room ∷ int lock_place ∷ int (bit_of secured) ∷ int notes ∷ [])
+
+-- the place of the room's new lock, and how many codes the room has
+abbrev pub sets_refitted : ℕ → ℕ → ℕ → Statement
+sets_refitted room lock_place codes = (text.update_refitted, int room ∷ int lock_place ∷ int codes ∷ [])
 
 abbrev pub sets_state : ℕ → StayState → Statement
 sets_state party state = (text.update_state, int party ∷ int (state_number state) ∷ maybe_int (room_of_state state) ∷ [])
@@ -91,35 +106,63 @@ issues_card card room leaves codes = gives_code leaves card.link.new_code (recor
 
 abbrev pub opens_room : ℕ → List ℕ → ℕ → List Statement
 opens_room room kind code =
-    adds_room (record { room = room; kind = kind; lock_place = 0; codes = 1; secured = false; party = None; notes = 0 })
-    ∷ adds_code code (record { room = room; place = 0 }) ∷ []
+    adds_room (record {
+      room = room;
+      kind = kind;
+      lock_place = 0;
+      codes = 1;
+      secured = false;
+      party = None;
+      notes = 0;
+      fit = 1;
+      before = 0;
+    })
+    ∷ adds_code code (record { room = room; place = 0 }) ∷ adds_fit (fit_row room 1 0 0) ∷ []
 
 abbrev pub ends_stay : ℕ → ℕ → List Statement
 ends_stay party room = sets_state party state.Done ∷ frees_room room ∷ []
 
-abbrev pub gives_note : Note → ℕ → Bool → List Statement
-gives_note note lock_place secured = adds_note note ∷ sets_noted note.room lock_place secured note.count ∷ []
+-- the room had so many codes
+abbrev pub replaces_lock : ℕ → ℕ → ℕ → List Statement
+replaces_lock room code codes = adds_code code (record { room = room; place = codes })
+    ∷ sets_refitted room codes (codes + 1) ∷ removes_insides room ∷ []
+
+-- the room had so many codes and notes
+abbrev pub refits_room : ℕ → ℕ → ℕ → ℕ → ℕ → List Statement
+refits_room room code fit codes notes = replaces_lock room code codes ++ adds_fit (fit_row room fit codes notes) ∷ []
+
+abbrev pub gives_note : Note → ℕ → ℕ → Bool → List Statement
+gives_note note number lock_place secured = adds_note note number ∷ sets_noted note.room lock_place secured number ∷ []
 
 abbrev pub moves_card : InsideMove → ℕ → List Statement
 moves_card Same room = []
 moves_card (Goes card) room = removes_inside room card ∷ []
 moves_card (Comes card) room = adds_inside room card ∷ []
 
-abbrev pub takes_note : Note → ℕ → Bool → InsideMove → List Statement
-takes_note note lock_place secured insides = gives_note note lock_place secured ++ moves_card insides note.room
+abbrev pub takes_note : Note → ℕ → ℕ → Bool → InsideMove → List Statement
+takes_note note number lock_place secured insides = gives_note note number lock_place secured
+    ++ moves_card insides note.room
 
--- those of a change, where so many codes stand at the room of an issue
-abbrev pub statements_of : Change → ℕ → List Statement
-statements_of (Begin day) codes = sets_day day ∷ []
-statements_of (DayTo day) codes = sets_day day ∷ []
-statements_of (Kind kind) codes = adds_kind kind ∷ []
-statements_of (Room room kind code) codes = opens_room room kind code
-statements_of (Reserved stay) codes = adds_stay stay ∷ []
-statements_of (Cancelled party) codes = sets_state party state.Cancelled ∷ []
-statements_of (Issue card room leaves) codes = issues_card card room leaves codes
-statements_of (Spare card) codes = adds_card card ∷ []
-statements_of (CheckedOut party room) codes = ends_stay party room
-statements_of (Noted note lock_place secured insides) codes = takes_note note lock_place secured insides
+-- how many codes stand at a room, how many notes it has, and how many of these were taken before its present fit
+pub record Known : Type 0 where
+  pub codes : ℕ
+  pub notes : ℕ
+  pub before : ℕ
+
+-- those of a change, where this is known of its room
+abbrev pub statements_of : Change → Known → List Statement
+statements_of (Begin day) known = sets_day day ∷ []
+statements_of (DayTo day) known = sets_day day ∷ []
+statements_of (Kind kind) known = adds_kind kind ∷ []
+statements_of (Room room kind code) known = opens_room room kind code
+statements_of (Reserved stay) known = adds_stay stay ∷ []
+statements_of (Cancelled party) known = sets_state party state.Cancelled ∷ []
+statements_of (Issue card room leaves) known = issues_card card room leaves known.codes
+statements_of (Spare card) known = adds_card card ∷ []
+statements_of (CheckedOut party room) known = ends_stay party room
+statements_of (Refit room code fit) known = refits_room room code fit known.codes known.notes
+statements_of (Noted note lock_place secured insides) known = takes_note note (known.before + note.count) lock_place
+    secured insides
 
 abbrev pub makes_table : List ℕ → Statement
 makes_table text = (text, [])

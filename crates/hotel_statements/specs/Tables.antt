@@ -10,10 +10,16 @@ use Rattle.sqlite_trees.specs.Tree.{rowid}
 use Rattle.sqlite_rules.specs.Edit.{id_in}
 use Rattle.sqlite_value.specs.declared.value.Value.TheVariants.{Int}
 use Rattle.sqlite_keyed.specs.Lists.{sort_by}
+use Rattle.keycard_rules.specs.Note.{Note}
+use Rattle.hotel_core.specs.declared.books.rows.RoomRow.{RoomRow}
+use Rattle.hotel_core.specs.declared.books.rows.FitRow.{FitRow}
 use Rattle.hotel_core.specs.Model.Words.{pair_cmp, said_of}
 use Rattle.hotel_core.specs.Model.Rows.{Rows, at_number}
+use Rattle.hotel_rows.specs.Joined.{with_fit, under_fit}
 use Rattle.hotel_statements.specs.Columns.{meta_columns, meta_of, meta_written, kind_columns, kind_of, kind_written, room_columns, room_of, room_written, stay_columns, stay_of, stay_written}
-use Rattle.hotel_statements.specs.Columns.{code_columns, code_of, code_written, card_columns, card_of, card_written, inside_columns, inside_of, inside_written, note_columns, note_of, note_written}
+use Rattle.hotel_statements.specs.Columns.{code_columns, code_of, code_written, card_columns, card_of, card_written}
+use Rattle.hotel_statements.specs.Columns.{inside_columns, inside_of, inside_written, note_columns, note_of}
+use Rattle.hotel_statements.specs.Columns.{note_written, fit_columns, fit_of, fit_written}
 
 -- no two are equal in the order
 abbrev pub AreApart : {X : Type 0} → (X → X → Ordering) → List X → Type 0
@@ -52,24 +58,36 @@ AreApartIds = IsAscending (λ a b. is_eq (value_cmp (rowid a) (rowid b)) ≡ fal
 abbrev pub metas_in : Trees → List (ℕ × (ℕ × Option ℕ))
 metas_in db = listed (by_key nat_cmp) (λ r. meta_of (meta_columns r)) (db 0)
 
--- The eight lists that the trees hold.
+-- the fits of all rooms
+abbrev pub fits_in : Trees → List ((ℕ × ℕ) × FitRow)
+fits_in db = listed (by_key pair_cmp) (λ r. fit_of (fit_columns r)) (db 13)
+
+-- the rooms and the notes as their tables have them
+abbrev pub bare_rooms_in : Trees → List (ℕ × RoomRow)
+bare_rooms_in db = listed (by_key nat_cmp) (λ r. room_of (room_columns r)) (db 3)
+
+abbrev pub bare_notes_in : Trees → List ((ℕ × ℕ) × Note)
+bare_notes_in db = listed (by_key pair_cmp) (λ r. note_of (note_columns r)) (db 11)
+
+-- The nine lists that the trees hold, those of rooms and notes joined with the fits.
 abbrev pub rows_in : Trees → Rows
 rows_in db = record {
   day = said_of (at_number (metas_in db) 1) None (λ meta. meta.1);
   kinds = listed (slice_cmp nat_cmp) (λ r. kind_of (kind_columns r)) (db 1);
-  rooms = listed (by_key nat_cmp) (λ r. room_of (room_columns r)) (db 3);
+  rooms = map (with_fit (fits_in db)) (bare_rooms_in db);
   stays = listed (by_key nat_cmp) (λ r. stay_of (stay_columns r)) (db 5);
   codes = listed (by_key nat_cmp) (λ r. code_of (code_columns r)) (db 6);
   cards = listed (by_key nat_cmp) (λ r. card_of (card_columns r)) (db 8);
   inside = listed pair_cmp (λ r. inside_of (inside_columns r)) (db 9);
-  notes = listed (by_key pair_cmp) (λ r. note_of (note_columns r)) (db 11);
+  notes = map (under_fit (fits_in db)) (bare_notes_in db);
+  fits = fits_in db;
 }
 
--- The trees are those of the eight tables, written by the books.
+-- The trees are those of the nine tables, written by the books.
 pub record AreTables (db : Trees) : Type 0 where
   pub meta : IsTable (by_key nat_cmp) meta_columns meta_of meta_written (db 0)
-  -- meta has one row
-  pub meta_row : (day : Option ℕ) × (metas_in db ≡ (1, (1, day)) ∷ [])
+  -- meta has one row, of the second version
+  pub meta_row : (day : Option ℕ) × (metas_in db ≡ (1, (2, day)) ∷ [])
   pub kind : IsTable (slice_cmp nat_cmp) kind_columns kind_of kind_written (db 1)
   pub room : IsTable (by_key nat_cmp) room_columns room_of room_written (db 3)
   pub stay : IsTable (by_key nat_cmp) stay_columns stay_of stay_written (db 5)
@@ -80,3 +98,4 @@ pub record AreTables (db : Trees) : Type 0 where
   pub inside_numbered : AllByRecursion HasId (db 9)
   pub inside_ids : AreApartIds (db 9)
   pub note : IsTable (by_key pair_cmp) note_columns note_of note_written (db 11)
+  pub fit : IsTable (by_key pair_cmp) fit_columns fit_of fit_written (db 13)

@@ -27,6 +27,9 @@ create_inside = codes "CREATE TABLE inside (room INTEGER NOT NULL REFERENCES roo
 abbrev pub create_note : List ℕ
 create_note = codes "CREATE TABLE note (room INTEGER NOT NULL REFERENCES room, n INTEGER NOT NULL, act INTEGER NOT NULL CHECK (act BETWEEN 0 AND 2), card INTEGER, first_code INTEGER NOT NULL, second_code INTEGER NOT NULL, day INTEGER NOT NULL, second INTEGER NOT NULL, PRIMARY KEY (room, n)) STRICT"
 
+abbrev pub create_fit : List ℕ
+create_fit = codes "CREATE TABLE fit (room INTEGER NOT NULL REFERENCES room, fit INTEGER NOT NULL, place INTEGER NOT NULL, before INTEGER NOT NULL, PRIMARY KEY (room, fit), UNIQUE (room, place)) STRICT"
+
 -- ---- one row by its key
 
 abbrev pub select_day : List ℕ
@@ -59,6 +62,9 @@ select_any_inside = codes "SELECT card FROM inside WHERE room = ?1"
 abbrev pub select_note : List ℕ
 select_note = codes "SELECT room, n, act, card, first_code, second_code, day, second FROM note WHERE room = ?1 AND n = ?2"
 
+abbrev pub select_fit : List ℕ
+select_fit = codes "SELECT room, fit, place, before FROM fit WHERE room = ?1 AND fit = ?2"
+
 abbrev pub select_last_party : List ℕ
 select_last_party = codes "SELECT party FROM stay ORDER BY party DESC"
 
@@ -73,10 +79,13 @@ select_stays_of_kind = codes "SELECT party, guest, kind, arrive, depart, state, 
 abbrev pub select_cards_inside : List ℕ
 select_cards_inside = codes "SELECT card FROM inside WHERE room = ?1 ORDER BY card"
 
+abbrev pub select_fits : List ℕ
+select_fits = codes "SELECT room, fit, place, before FROM fit WHERE room = ?1 ORDER BY fit"
+
 -- ---- changes
 
 abbrev pub insert_meta : List ℕ
-insert_meta = codes "INSERT INTO meta (id, version, day) VALUES (1, 1, NULL)"
+insert_meta = codes "INSERT INTO meta (id, version, day) VALUES (1, 2, NULL)"
 
 abbrev pub insert_kind : List ℕ
 insert_kind = codes "INSERT INTO kind (kind) VALUES (?1)"
@@ -99,6 +108,9 @@ insert_inside = codes "INSERT INTO inside (room, card) VALUES (?1, ?2)"
 abbrev pub insert_note : List ℕ
 insert_note = codes "INSERT INTO note (room, n, act, card, first_code, second_code, day, second) VALUES (?1, ?2, ?3, ?4, ?5, ?6, ?7, ?8)"
 
+abbrev pub insert_fit : List ℕ
+insert_fit = codes "INSERT INTO fit (room, fit, place, before) VALUES (?1, ?2, ?3, ?4)"
+
 abbrev pub update_day : List ℕ
 update_day = codes "UPDATE meta SET day = ?2 WHERE id = ?1"
 
@@ -111,11 +123,17 @@ update_party = codes "UPDATE room SET party = NULL WHERE room = ?1"
 abbrev pub update_noted : List ℕ
 update_noted = codes "UPDATE room SET lock_place = ?2, secured = ?3, notes = ?4 WHERE room = ?1"
 
+abbrev pub update_refitted : List ℕ
+update_refitted = codes "UPDATE room SET lock_place = ?2, codes = ?3, secured = 0 WHERE room = ?1"
+
 abbrev pub update_state : List ℕ
 update_state = codes "UPDATE stay SET state = ?2, room = ?3 WHERE party = ?1"
 
 abbrev pub delete_inside : List ℕ
 delete_inside = codes "DELETE FROM inside WHERE room = ?1 AND card = ?2"
+
+abbrev pub delete_insides : List ℕ
+delete_insides = codes "DELETE FROM inside WHERE room = ?1"
 
 -- ---- walks
 
@@ -159,3 +177,6 @@ read_inside = codes "SELECT rowid, room, card FROM inside ORDER BY room, card"
 
 abbrev pub read_note : List ℕ
 read_note = codes "SELECT room, n, act, card, first_code, second_code, day, second FROM note ORDER BY room, n"
+
+abbrev pub read_fit : List ℕ
+read_fit = codes "SELECT room, fit, place, before FROM fit ORDER BY room, fit"

@@ -3,6 +3,8 @@ use Rattle.std.specs.Prelude.{◌≡◌, ◌-◌, ◌==◌, ℕ, List, Result, O
 use Rattle.sqlite.specs.Order.{Row, column}
 use Rattle.sqlite.specs.Query.{Query}
 use Rattle.sqlite.specs.State.{State, Survives}
+use Rattle.keycard_rules.specs.Note.{Note}
+use Rattle.hotel_core.specs.declared.books.rows.FitRow.{FitRow}
 use Rattle.hotel_core.specs.declared.books.walks.WalkFault.{WalkFault}
 use Rattle.hotel_core.specs.declared.books.walks.WalkFault.TheVariants as why
 use Rattle.hotel_core.specs.declared.books.list_rows.HouseRow.{HouseRow}
@@ -12,6 +14,8 @@ use Rattle.hotel_core.specs.Books.Walks.{Hands}
 use Rattle.hotel_core.specs.Model.Rows.{Rows}
 use Rattle.hotel_core.specs.Refinement.ListsOnRows.{state_at}
 use Rattle.hotel_statements.specs.Values.{number_of, text_of}
+use Rattle.hotel_rows.specs.Joined.{with_count, fit_of_number}
+use Rattle.hotel_statements.specs.Columns.{note_row_of}
 use Rattle.hotel_statements.specs.Tables.{rows_in}
 use Rattle.hotel_statements.specs.Books.{IsKept, IsBooks, KeepsRows}
 use Rattle.hotel_statements.specs.LookUps.{Asks, AnswersAll}
@@ -63,3 +67,7 @@ behind_row_of v = record {
   current = number_of (column v 2);
   awaited = number_of (column v 4) - number_of (column v 3) - 1;
 }
+
+-- a note with its fit and count, in a room that has these fits
+abbrev pub note_under : List FitRow → Row → Note
+note_under fits v = with_count (fit_of_number fits (number_of (column v 1))) (number_of (column v 1)) (note_row_of v)

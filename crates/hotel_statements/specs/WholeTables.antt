@@ -14,12 +14,15 @@ use Rattle.hotel_rows.specs.declared.stored.PlainStay.{PlainStay}
 use Rattle.hotel_rows.specs.declared.stored.PlainCode.{PlainCode}
 use Rattle.hotel_rows.specs.declared.stored.PlainCard.{PlainCard}
 use Rattle.hotel_rows.specs.declared.stored.PlainNote.{PlainNote}
+use Rattle.hotel_rows.specs.declared.stored.PlainFit.{PlainFit}
 use Rattle.hotel_statements.specs.declared.plain_rows.PlainMeta.{PlainMeta}
 use Rattle.hotel_statements.specs.declared.plain_rows.NumberedInside.{NumberedInside}
 use Rattle.hotel_statements.specs.declared.whole_tables.Tables.{Tables}
 use Rattle.hotel_statements.specs.Schema.{desk_schema}
-use Rattle.hotel_statements.specs.Columns.{meta_columns, kind_columns, room_columns, stay_columns, code_columns, card_columns, note_columns}
-use Rattle.hotel_statements.specs.PlainRows.{meta_shown, kind_shown, room_shown, stay_shown, code_shown, card_shown, numbered_columns, numbered_shown, note_shown, ArePlainRows}
+use Rattle.hotel_statements.specs.Columns.{meta_columns, kind_columns, room_columns, stay_columns, code_columns}
+use Rattle.hotel_statements.specs.Columns.{card_columns, note_columns, fit_columns}
+use Rattle.hotel_statements.specs.PlainRows.{meta_shown, kind_shown, room_shown, stay_shown, code_shown, card_shown}
+use Rattle.hotel_statements.specs.PlainRows.{numbered_columns, numbered_shown, note_shown, fit_shown, ArePlainRows}
 use Rattle.hotel_statements.specs.LookUps.{Asks}
 use Rattle.hotel_statements.specs.Books.{IsKept, KeepsRows}
 
@@ -43,17 +46,21 @@ pub record ReadsTo {R : Type 0} (Says : R → Trees → Type 0) (old new : State
   pub open_on : IsKept old → HasCleanDisk new → OnOk result (IsTrue new.is_open)
   pub crash : Survives old new (λ _. IsKept old → ⊥)
 
--- the rows of the first four tables, and of the last four
+-- the rows of the first four tables, and of the other five
 abbrev pub AreFirst : (Vec PlainMeta Global × Vec PlainKind Global) × (Vec PlainRoom Global × Vec PlainStay Global) → Trees → Type 0
 AreFirst r db =
     (ArePlainRows meta_columns meta_shown r.0.0.items (db 0) × ArePlainRows kind_columns kind_shown r.0.1.items (db 1))
     × (ArePlainRows room_columns room_shown r.1.0.items (db 3) × ArePlainRows stay_columns stay_shown r.1.1.items (db 5))
 
-abbrev pub AreLast : (Vec PlainCode Global × Vec PlainCard Global) × (Vec NumberedInside Global × Vec PlainNote Global) → Trees → Type 0
+abbrev pub AreLast : (Vec PlainCode Global × Vec PlainCard Global)
+    × ((Vec NumberedInside Global × Vec PlainNote Global) × Vec PlainFit Global) → Trees → Type 0
 AreLast r db =
     (ArePlainRows code_columns code_shown r.0.0.items (db 6) × ArePlainRows card_columns card_shown r.0.1.items (db 8))
-    × (ArePlainRows numbered_columns numbered_shown r.1.0.items (db 9) × ArePlainRows note_columns note_shown r.1.1.items (db 11))
+    × ((ArePlainRows numbered_columns numbered_shown r.1.0.0.items (db 9)
+    × ArePlainRows note_columns note_shown r.1.0.1.items (db 11))
+    × ArePlainRows fit_columns fit_shown r.1.1.items (db 13))
 
 -- the rows of all
 abbrev pub AreRead : Tables → Trees → Type 0
-AreRead t db = AreFirst ((t.meta, t.kinds), (t.rooms, t.stays)) db × AreLast ((t.codes, t.cards), (t.inside, t.notes)) db
+AreRead t db = AreFirst ((t.meta, t.kinds), (t.rooms, t.stays)) db
+    × AreLast ((t.codes, t.cards), ((t.inside, t.notes), t.fits)) db

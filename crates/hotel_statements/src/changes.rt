@@ -1,17 +1,17 @@
-//! The changes of the books that are two statements, within a transaction.
+//! The changes of the books that are two statements or three, within a transaction.
 ghost use Rattle.std.specs.Prelude.{◌≡◌};
 ghost use Rattle.hotel_core.specs.Books.Change.{made};
 ghost use Rattle.hotel_core.specs.declared.books.change.Change.TheVariants as change;
 ghost use Rattle.hotel_statements.specs.Statements.{WritesBy, opens_room, ends_stay};
-ghost use Rattle.hotel_statements.specs.Steps.{any_rows};
+ghost use Rattle.hotel_statements.specs.Steps.{IsNewRoom, any_rows};
 
-use crate::steps::{free_room, insert_code, insert_room, set_state};
-use hotel_core::{CodeRow, RoomRow};
+use crate::steps::{free_room, insert_code, insert_fit, insert_room, set_state};
+use hotel_core::{CodeRow, FitRow, RoomRow};
 use hotel_nights::{KindCode, StayState};
-use keycard_rules::{Code, PartyNo, RoomNo};
+use keycard_rules::{Code, FitNo, PartyNo, RoomNo};
 use sqlite::{Alter, Error, Transaction};
 
-/// Adds a room whose lock holds its first code.
+/// Adds a room whose lock, its first, holds its first code.
 pub fn add_room<S: Alter>(
     tx: &mut Transaction<'_, S>,
     room: RoomNo,
@@ -19,8 +19,10 @@ pub fn add_room<S: Alter>(
     code: Code,
 ) -> Result<(), Error>
     ensures same_reference { tx.new.conn.ghost_name ≡ tx.old.conn.ghost_name }
-    ensures makes { WritesBy S.Store (opens_room room kind code) any_rows (made (change.Room room kind code)) tx.old.conn.now tx.new.conn.now result }
+    ensures makes { WritesBy S.Store (opens_room room kind code) (IsNewRoom room)
+        (made (change.Room room kind code)) tx.old.conn.now tx.new.conn.now result }
 {
+    let first = FitNo::new(1).unwrap();
     let row = RoomRow {
         room,
         kind,
@@ -29,9 +31,20 @@ pub fn add_room<S: Alter>(
         secured: false,
         party: None,
         notes: 0,
+        fit: first,
+        before: 0,
     };
     insert_room(tx, row)?;
-    insert_code(tx, code, CodeRow { room, place: 0 })
+    insert_code(tx, code, CodeRow { room, place: 0 })?;
+    insert_fit(
+        tx,
+        FitRow {
+            room,
+            fit: first,
+            place: 0,
+            before: 0,
+        },
+    )
 }
 
 /// Ends a stay, and leaves its room without a party.

@@ -3,13 +3,14 @@ ghost use Rattle.std.specs.Prelude.{◌≡◌, ◌<◌, ◌+◌, ◌==◌, IfOk,
 ghost use Rattle.sqlite.specs.Order.{Row as SqlRow, column};
 ghost use Rattle.hotel_statements.specs.LookUps.{fault_of};
 ghost use Rattle.hotel_statements.specs.Values.{number_of, option_of, text_of};
-ghost use Rattle.hotel_statements.specs.Columns.{room_row_of, stay_row_of, code_row_of, card_row_of, note_row_of, state_of, act_of};
+ghost use Rattle.hotel_statements.specs.Columns.{stay_row_of, code_row_of, card_row_of, fit_row_of, state_of, act_of};
 
+pub(crate) mod bare_rows;
 pub(crate) mod list_rows;
 
-use hotel_core::{CodeRow, RoomRow};
+use hotel_core::{CodeRow, FitRow};
 use hotel_nights::{Day, Guest, GuestFault, KindCode, Stay, StayState};
-use keycard_rules::{Act, Card, Code, FitNo, Link, LockNote, LookFault, Number};
+use keycard_rules::{Act, Card, Code, Link, LookFault, Number};
 use sqlite::{Error, ErrorCode, Row};
 use std::alloc::Global;
 
@@ -207,22 +208,6 @@ fn act(row: &Row) -> Result<Act, LookFault>
     }
 }
 
-impl FromRow for RoomRow {
-    ghost of = { room_row_of };
-
-    fn from_row(_: Global, row: &Row) -> Result<RoomRow, LookFault> {
-        Ok(RoomRow {
-            room: counted(row, 0)?,
-            kind: kind_code(row, 1)?,
-            lock_place: small_integer(row, 2)?,
-            codes: small_integer(row, 3)?,
-            secured: bit(row, 4)?,
-            party: maybe_counted(row, 5)?,
-            notes: small_integer(row, 6)?,
-        })
-    }
-}
-
 impl FromRow for Stay {
     ghost of = { stay_row_of };
 
@@ -261,26 +246,16 @@ impl FromRow for Card {
     }
 }
 
-/// The number of a room's first lock.
-fn first_fit() -> Result<FitNo, LookFault>
-    ensures { IfOk result (λ fit. fit ≡ 1) }
-{
-    FitNo::new(1).ok_or(LookFault::Store)
-}
+impl FromRow for FitRow {
+    ghost of = { fit_row_of };
 
-impl FromRow for LockNote {
-    ghost of = { note_row_of };
-
-    fn from_row(_: Global, row: &Row) -> Result<LockNote, LookFault> {
-        let room = counted(row, 0)?;
-        let count = counted(row, 1)?;
-        let act = act(row)?;
-        let day = day_number(row, 6)?;
-        let second = small_integer(row, 7)?;
-        match LockNote::new(room, first_fit()?, count, act, day, second) {
-            Some(note) => Ok(note),
-            None => Err(LookFault::Store),
-        }
+    fn from_row(_: Global, row: &Row) -> Result<FitRow, LookFault> {
+        Ok(FitRow {
+            room: counted(row, 0)?,
+            fit: counted(row, 1)?,
+            place: small_integer(row, 2)?,
+            before: small_integer(row, 3)?,
+        })
     }
 }
 

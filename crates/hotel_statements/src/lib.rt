@@ -11,6 +11,7 @@ pub mod look_ups;
 pub mod new_desk;
 mod number;
 pub mod plain_rows;
+pub mod refits;
 pub mod same_schema;
 mod statement;
 pub mod steps;

@@ -1,26 +1,31 @@
-//! The look-ups of the books, each over the connection: one keyed statement, but for the next numbers, which are two.
-ghost use Rattle.std.specs.Prelude.{◌≡◌, not, length, true, unwrap_or};
-ghost use Rattle.std.specs.Map.{keys_of};
+//! The look-ups of the books, each over the connection: one keyed statement, but for a room, a note and the next
+//! numbers, which are two.
+ghost use Rattle.std.specs.Prelude.{◌≡◌, ◌<◌, ◌^◌, not, length, true, unwrap_or};
+ghost use Rattle.std.specs.Map.{keys_of, lookup};
+ghost use Rattle.std.specs.BTreeMap.{is_at};
 ghost use Rattle.hotel_core.specs.Model.SoundRooms.{count_up};
-ghost use Rattle.hotel_statements.specs.Tables.{rows_in};
+ghost use Rattle.hotel_statements.specs.Tables.{rows_in, bare_rooms_in, bare_notes_in};
 ghost use Rattle.sqlite.specs.Held.{state};
-ghost use Rattle.hotel_core.specs.Model.Rows.{has_kind};
-ghost use Rattle.hotel_core.specs.Model.Words.{is_one_of};
+ghost use Rattle.hotel_core.specs.Model.Rows.{has_kind, at_number, fit_at, fits_at};
+ghost use Rattle.hotel_core.specs.Model.Words.{is_one_of, pair_cmp};
 ghost use Rattle.hotel_core.specs.Model.Guests.{are_none};
 ghost use Rattle.hotel_core.specs.Books.Lookups.{room_at, codes_in, code_place, code_at, stay_at, stays_of_kind, card_at, inside_at, note_at, number_after};
 ghost use Rattle.hotel_statements.specs.Books.{IsBooks, IsKept};
-ghost use Rattle.hotel_statements.specs.LookUps.{Looks, next_numbers_of};
+ghost use Rattle.hotel_statements.specs.LookUps.{Looks, Finds, numbered_fit, next_numbers_of};
 
+use crate::from_row::bare_rows::{BareNote, BareRoom, note_with, room_with};
 use crate::look::{look, look_all};
 use crate::number::{number, small, text};
 use crate::texts::{
     SELECT_ANY_INSIDE, SELECT_CARD, SELECT_CARDS_INSIDE, SELECT_CODE, SELECT_CODE_AT, SELECT_DAY,
-    SELECT_INSIDE, SELECT_KIND, SELECT_LAST_CARD, SELECT_LAST_PARTY, SELECT_NOTE, SELECT_ROOM,
-    SELECT_STAY, SELECT_STAYS_OF_KIND,
+    SELECT_FIT, SELECT_FITS, SELECT_INSIDE, SELECT_KIND, SELECT_LAST_CARD, SELECT_LAST_PARTY,
+    SELECT_NOTE, SELECT_ROOM, SELECT_STAY, SELECT_STAYS_OF_KIND,
 };
-use hotel_core::{CodeRow, NextNumbers, RoomRow};
+use hotel_core::{CodeRow, FitRow, NextNumbers, RoomRow};
 use hotel_nights::{Day, KindCode, Stay};
-use keycard_rules::{Card, CardNo, Code, Count, LockNote, LookFault, Number, PartyNo, RoomNo};
+use keycard_rules::{
+    Card, CardNo, Code, Count, FitNo, LockNote, LookFault, Number, PartyNo, RoomNo,
+};
 use sqlite::{Alter, Connection};
 use std::alloc::Global;
 
@@ -46,7 +51,51 @@ pub fn kind<S: Alter>(
     Ok(kind.is_some())
 }
 
-/// A room by its number.
+/// The fits of a room, in order.
+pub fn fits_of_room<S: Alter>(
+    alloc: Global,
+    conn: &mut Connection<S>,
+    room: RoomNo,
+) -> Result<Vec<FitRow>, LookFault>
+    requires { IsBooks (state S.Store conn.old) }
+    ensures { Looks (λ v. v.items) (λ rows. fits_at rows.fits room)
+        (state S.Store conn.old) (state S.Store conn.new) result }
+{
+    look_all(alloc, conn, SELECT_FITS, &[small(room.value())])
+}
+
+/// A fit of a room by its number.
+pub fn fit<S: Alter>(
+    alloc: Global,
+    conn: &mut Connection<S>,
+    room: RoomNo,
+    number: FitNo,
+) -> Result<Option<FitRow>, LookFault>
+    requires { IsBooks (state S.Store conn.old) }
+    ensures { Looks (λ a. a) (λ rows. fit_at rows room number)
+        (state S.Store conn.old) (state S.Store conn.new) result }
+{
+    look(
+        alloc,
+        conn,
+        SELECT_FIT,
+        &[small(room.value()), small(number.value())],
+    )
+}
+
+/// A room by its number, as its table has it.
+pub(crate) fn bare_room<S: Alter>(
+    alloc: Global,
+    conn: &mut Connection<S>,
+    room: RoomNo,
+) -> Result<Option<BareRoom>, LookFault>
+    requires { IsBooks (state S.Store conn.old) }
+    ensures { Finds (λ db. at_number (bare_rooms_in db) room) (state S.Store conn.old) (state S.Store conn.new) result }
+{
+    look(alloc, conn, SELECT_ROOM, &[small(room.value())])
+}
+
+/// A room by its number, with the last of its fits.
 pub fn room<S: Alter>(
     alloc: Global,
     conn: &mut Connection<S>,
@@ -55,7 +104,11 @@ pub fn room<S: Alter>(
     requires { IsBooks (state S.Store conn.old) }
     ensures { Looks (λ a. a) (λ rows. room_at rows room) (state S.Store conn.old) (state S.Store conn.new) result }
 {
-    look(alloc, conn, SELECT_ROOM, &[small(room.value())])
+    let Some(bare) = bare_room(alloc, conn, room)? else {
+        return Ok(None);
+    };
+    let fits = fits_of_room(alloc, conn, room)?;
+    Ok(Some(room_with(&bare, &fits)?))
 }
 
 /// The stay of a party.
@@ -94,22 +147,60 @@ pub fn card<S: Alter>(
     look(alloc, conn, SELECT_CARD, &[small(number.value())])
 }
 
-/// The note of a room's lock by its count.
+/// A note of a room by its number among all of the room, as its table has it.
+fn bare_note<S: Alter>(
+    alloc: Global,
+    conn: &mut Connection<S>,
+    room: RoomNo,
+    at: u64,
+) -> Result<Option<BareNote>, LookFault>
+    requires books { IsBooks (state S.Store conn.old) }
+    requires low { at < 2 ^ 63 }
+    ensures { Finds (λ db. lookup (is_at (pair_cmp (room, at))) (bare_notes_in db))
+        (state S.Store conn.old) (state S.Store conn.new) result }
+{
+    look(alloc, conn, SELECT_NOTE, &[small(room.value()), number(at)])
+}
+
+/// The first of some fits that has this number.
+fn numbered(fits: &[FitRow], number: FitNo) -> Option<FitRow>
+    ensures { result ≡ numbered_fit fits.now number }
+{
+    for i in 0..fits.len() {
+        let fit = fits[i];
+        if fit.fit == number {
+            return Some(fit);
+        }
+    }
+    None
+}
+
+/// The note of a count of a room's fit.
 pub fn note<S: Alter>(
     alloc: Global,
     conn: &mut Connection<S>,
     room: RoomNo,
+    fit: FitNo,
     count: Count,
 ) -> Result<Option<LockNote>, LookFault>
     requires { IsBooks (state S.Store conn.old) }
-    ensures { Looks (λ a. a) (λ rows. note_at rows room count) (state S.Store conn.old) (state S.Store conn.new) result }
+    ensures { Looks (λ a. a) (λ rows. note_at rows room fit count)
+        (state S.Store conn.old) (state S.Store conn.new) result }
 {
-    look(
-        alloc,
-        conn,
-        SELECT_NOTE,
-        &[small(room.value()), small(count.value())],
-    )
+    let fits = fits_of_room(alloc, conn, room)?;
+    let Some(of) = numbered(&fits, fit) else {
+        return Ok(None);
+    };
+    let number = u64::from(of.before) + u64::from(count.value());
+    let Some(bare) = bare_note(alloc, conn, room, number)? else {
+        return Ok(None);
+    };
+    let note = note_with(&bare, &fits)?;
+    if note.fit() == fit {
+        Ok(Some(note))
+    } else {
+        Ok(None)
+    }
 }
 
 /// Whether a card is inside a room.

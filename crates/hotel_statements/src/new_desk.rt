@@ -1,16 +1,16 @@
-//! The statements that make a new desk, within a transaction: its eight tables and the one row of meta.
+//! The statements that make a new desk, within a transaction: its nine tables and the one row of meta.
 ghost use Rattle.std.specs.Prelude.{◌≡◌, [], ◌∷◌, OnOk};
 ghost use Rattle.sqlite.specs.Held.{state};
 ghost use Rattle.sqlite.specs.State.{HasCleanDisk, KeepsCommit, Survives};
 ghost use Rattle.hotel_statements.specs.Schema.{no_schema, desk_schema};
 ghost use Rattle.hotel_statements.specs.Texts as texts;
 ghost use Rattle.hotel_statements.specs.Statements.{RunsStatements, makes_table};
-ghost use Rattle.hotel_statements.specs.NewDesk.{IfOpen, IfOpenBare, Makes, IsBare, IsMade, with_stay};
+ghost use Rattle.hotel_statements.specs.NewDesk.{IfOpen, IfOpenBare, Makes, IsBare, IsMade, with_stay, with_card};
 
 use crate::statement::run;
 use crate::texts::{
-    CREATE_CARD, CREATE_CODE, CREATE_INSIDE, CREATE_KIND, CREATE_META, CREATE_NOTE, CREATE_ROOM,
-    CREATE_STAY, INSERT_META,
+    CREATE_CARD, CREATE_CODE, CREATE_FIT, CREATE_INSIDE, CREATE_KIND, CREATE_META, CREATE_NOTE,
+    CREATE_ROOM, CREATE_STAY, INSERT_META,
 };
 use sqlite::{Alter, Error, Transaction};
 
@@ -39,18 +39,37 @@ pub fn make_first<S: Alter>(tx: &mut Transaction<'_, S>) -> Result<(), Error>
     make(tx, CREATE_STAY)
 }
 
-/// Makes the tables of codes, cards, insides and notes.
+/// Makes the tables of insides, notes and fits.
+fn make_of_locks<S: Alter>(tx: &mut Transaction<'_, S>) -> Result<(), Error>
+    ensures same_reference { tx.new.conn.ghost_name ≡ tx.old.conn.ghost_name }
+    ensures answers { RunsStatements S.Store
+        (makes_table texts.create_inside ∷ makes_table texts.create_note ∷ makes_table texts.create_fit ∷ [])
+        tx.old.conn.now tx.new.conn.now result }
+    ensures made { HasCleanDisk (state S.Store tx.new.conn.now) →
+        OnOk result (IfOpenBare with_card desk_schema (state S.Store tx.old.conn.now) (state S.Store tx.new.conn.now)) }
+    ensures kept { HasCleanDisk (state S.Store tx.new.conn.now) →
+        KeepsCommit (state S.Store tx.old.conn.now) (state S.Store tx.new.conn.now) }
+    ensures survives { Survives (state S.Store tx.old.conn.now) (state S.Store tx.new.conn.now) (λ _. ⊥) }
+{
+    make(tx, CREATE_INSIDE)?;
+    make(tx, CREATE_NOTE)?;
+    make(tx, CREATE_FIT)
+}
+
+/// Makes the tables of codes, cards, insides, notes and fits.
 pub fn make_last<S: Alter>(tx: &mut Transaction<'_, S>) -> Result<(), Error>
     ensures same_reference { tx.new.conn.ghost_name ≡ tx.old.conn.ghost_name }
-    ensures answers { RunsStatements S.Store (makes_table texts.create_code ∷ makes_table texts.create_card ∷ makes_table texts.create_inside ∷ makes_table texts.create_note ∷ []) tx.old.conn.now tx.new.conn.now result }
+    ensures answers { RunsStatements S.Store
+        (makes_table texts.create_code ∷ makes_table texts.create_card ∷ makes_table texts.create_inside
+        ∷ makes_table texts.create_note ∷ makes_table texts.create_fit ∷ [])
+        tx.old.conn.now tx.new.conn.now result }
     ensures made { HasCleanDisk (state S.Store tx.new.conn.now) → OnOk result (IfOpenBare with_stay desk_schema (state S.Store tx.old.conn.now) (state S.Store tx.new.conn.now)) }
     ensures kept { HasCleanDisk (state S.Store tx.new.conn.now) → KeepsCommit (state S.Store tx.old.conn.now) (state S.Store tx.new.conn.now) }
     ensures survives { Survives (state S.Store tx.old.conn.now) (state S.Store tx.new.conn.now) (λ _. ⊥) }
 {
     make(tx, CREATE_CODE)?;
     make(tx, CREATE_CARD)?;
-    make(tx, CREATE_INSIDE)?;
-    make(tx, CREATE_NOTE)
+    make_of_locks(tx)
 }
 
 /// Adds the row of meta, with no day.

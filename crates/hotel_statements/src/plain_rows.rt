@@ -7,9 +7,12 @@ ghost use Rattle.hotel_statements.specs.Columns as columns;
 ghost use Rattle.hotel_statements.specs.Texts as texts;
 
 use crate::texts::{
-    READ_CARD, READ_CODE, READ_INSIDE, READ_KIND, READ_META, READ_NOTE, READ_ROOM, READ_STAY,
+    READ_CARD, READ_CODE, READ_FIT, READ_INSIDE, READ_KIND, READ_META, READ_NOTE, READ_ROOM,
+    READ_STAY,
 };
-use hotel_rows::{PlainCard, PlainCode, PlainInside, PlainKind, PlainNote, PlainRoom, PlainStay};
+use hotel_rows::{
+    PlainCard, PlainCode, PlainFit, PlainInside, PlainKind, PlainNote, PlainRoom, PlainStay,
+};
 use sqlite::{Error, ErrorCode, Row};
 use std::cmp::Ordering;
 
@@ -286,6 +289,31 @@ impl PlainRow for PlainNote {
     }
 }
 
+impl PlainRow for PlainFit {
+    ghost text = { texts.read_fit };
+
+    ghost tree = { 13 };
+
+    ghost columns = { columns.fit_columns };
+
+    ghost shown = { plain.fit_shown };
+
+    ghost cut = { plain.first_four };
+
+    fn text() -> &'static str {
+        READ_FIT
+    }
+
+    fn of_row(row: &Row) -> Result<PlainFit, Error> {
+        Ok(PlainFit {
+            room: row.get(0)?,
+            fit: row.get(1)?,
+            place: row.get(2)?,
+            before: row.get(3)?,
+        })
+    }
+}
+
 impl Plain for PlainKind {
     ghost order = { plain.kind_order };
 
@@ -400,5 +428,22 @@ impl Plain for PlainNote {
             && is_natural(self.second_code)
             && is_natural(self.day)
             && is_natural(self.second)
+    }
+}
+
+impl Plain for PlainFit {
+    ghost order = { plain.fit_order };
+
+    ghost natural = { plain.fit_natural };
+
+    fn compare(&self, other: &PlainFit) -> Ordering {
+        (self.room, self.fit).cmp(&(other.room, other.fit))
+    }
+
+    fn is_natural(&self) -> bool {
+        is_natural(self.room)
+            && is_natural(self.fit)
+            && is_natural(self.place)
+            && is_natural(self.before)
     }
 }

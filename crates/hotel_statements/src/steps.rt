@@ -1,8 +1,14 @@
-//! The statements of a transaction: each adds or changes one row.
+//! The statements of a transaction: each adds or changes one row, but for the one that takes all cards out of a room.
 ghost use Rattle.std.specs.Prelude.{◌≡◌, false, [], ◌∷◌};
 ghost use Rattle.hotel_core.specs.Model.Rows.{has_kind};
-ghost use Rattle.hotel_statements.specs.Statements.{WritesBy, sets_day, adds_kind, adds_room, adds_code, adds_stay, adds_card, adds_note, adds_inside, removes_inside, sets_issued, frees_room, sets_noted, sets_state};
-ghost use Rattle.hotel_statements.specs.Steps.{IsNewNote, any_rows, day_set, kind_added, room_added, code_added, stay_added, card_added, note_added, inside_added, inside_gone, room_issued, room_freed, room_noted, stay_set};
+ghost use Rattle.hotel_statements.specs.Statements.{WritesBy, sets_day, adds_kind, adds_room, adds_code, adds_stay};
+ghost use Rattle.hotel_statements.specs.Statements.{adds_card, adds_note, adds_fit, adds_inside, removes_inside};
+ghost use Rattle.hotel_statements.specs.Statements.{removes_insides, sets_issued, frees_room, sets_noted};
+ghost use Rattle.hotel_statements.specs.Statements.{sets_refitted, sets_state};
+ghost use Rattle.hotel_statements.specs.Steps.{IsNewNote, IsNextFit, IsWithoutFit, any_rows, day_set, kind_added};
+ghost use Rattle.hotel_statements.specs.Steps.{room_added, code_added, stay_added, card_added, note_added, fit_added};
+ghost use Rattle.hotel_statements.specs.Steps.{inside_added, inside_gone, insides_gone, room_issued, room_freed};
+ghost use Rattle.hotel_statements.specs.Steps.{room_noted, room_refitted, stay_set};
 
 use crate::number::{
     act_card, act_first, act_number, act_second, bit, coded, dated, maybe, numbered, room_of,
@@ -10,12 +16,13 @@ use crate::number::{
 };
 use crate::statement::run;
 use crate::texts::{
-    DELETE_INSIDE, INSERT_CARD, INSERT_CODE, INSERT_INSIDE, INSERT_KIND, INSERT_NOTE, INSERT_ROOM,
-    INSERT_STAY, UPDATE_DAY, UPDATE_ISSUED, UPDATE_NOTED, UPDATE_PARTY, UPDATE_STATE,
+    DELETE_INSIDE, DELETE_INSIDES, INSERT_CARD, INSERT_CODE, INSERT_FIT, INSERT_INSIDE,
+    INSERT_KIND, INSERT_NOTE, INSERT_ROOM, INSERT_STAY, UPDATE_DAY, UPDATE_ISSUED, UPDATE_NOTED,
+    UPDATE_PARTY, UPDATE_REFITTED, UPDATE_STATE,
 };
-use hotel_core::{CodeRow, RoomRow};
+use hotel_core::{CodeRow, FitRow, RoomRow};
 use hotel_nights::{Day, KindCode, Stay, StayState};
-use keycard_rules::{Card, CardNo, Code, Count, LockNote, PartyNo, RoomNo};
+use keycard_rules::{Card, CardNo, Code, LockNote, PartyNo, RoomNo};
 use sqlite::{Alter, Error, Transaction};
 
 /// Sets the day.
@@ -34,10 +41,11 @@ pub fn insert_kind<S: Alter>(tx: &mut Transaction<'_, S>, kind: &KindCode) -> Re
     run(tx, INSERT_KIND, &[text(kind.as_bytes())])
 }
 
-/// Adds a room.
+/// Adds a room that has no fit yet: its table has no columns for the fit and the notes before it.
 pub(crate) fn insert_room<S: Alter>(tx: &mut Transaction<'_, S>, row: RoomRow) -> Result<(), Error>
     ensures same_reference { tx.new.conn.ghost_name ≡ tx.old.conn.ghost_name }
-    ensures makes { WritesBy S.Store (adds_room row ∷ []) any_rows (room_added row) tx.old.conn.now tx.new.conn.now result }
+    ensures makes { WritesBy S.Store (adds_room row ∷ []) (IsWithoutFit row.room)
+        (room_added row) tx.old.conn.now tx.new.conn.now result }
 {
     let party = row.party;
     run(
@@ -108,13 +116,15 @@ pub fn insert_card<S: Alter>(tx: &mut Transaction<'_, S>, card: Card) -> Result<
     )
 }
 
-/// Adds a note of a room's first lock, of a count that isn't there.
+/// Adds a note under its number among all of its room, which isn't there and is that of its fit and count.
 pub(crate) fn insert_note<S: Alter>(
     tx: &mut Transaction<'_, S>,
     note: &LockNote,
+    number: u32,
 ) -> Result<(), Error>
     ensures same_reference { tx.new.conn.ghost_name ≡ tx.old.conn.ghost_name }
-    ensures makes { WritesBy S.Store (adds_note note.now ∷ []) (IsNewNote note.now) (note_added note.now) tx.old.conn.now tx.new.conn.now result }
+    ensures makes { WritesBy S.Store (adds_note note.now number ∷ []) (IsNewNote note.now number)
+        (note_added note.now number) tx.old.conn.now tx.new.conn.now result }
 {
     let act = note.act();
     run(
@@ -122,13 +132,31 @@ pub(crate) fn insert_note<S: Alter>(
         INSERT_NOTE,
         &[
             numbered(note.room()),
-            numbered(note.count()),
+            small(number),
             act_number(&act),
             act_card(&act),
             act_first(&act),
             act_second(&act),
             small(u32::from(note.day())),
             small(note.second()),
+        ],
+    )
+}
+
+/// Adds the next fit of a room.
+pub(crate) fn insert_fit<S: Alter>(tx: &mut Transaction<'_, S>, fit: FitRow) -> Result<(), Error>
+    ensures same_reference { tx.new.conn.ghost_name ≡ tx.old.conn.ghost_name }
+    ensures makes { WritesBy S.Store (adds_fit fit ∷ []) (IsNextFit fit) (fit_added fit)
+        tx.old.conn.now tx.new.conn.now result }
+{
+    run(
+        tx,
+        INSERT_FIT,
+        &[
+            numbered(fit.room),
+            numbered(fit.fit),
+            small(fit.place),
+            small(fit.before),
         ],
     )
 }
@@ -155,6 +183,18 @@ pub(crate) fn delete_inside<S: Alter>(
     ensures makes { WritesBy S.Store (removes_inside room card ∷ []) any_rows (inside_gone room card) tx.old.conn.now tx.new.conn.now result }
 {
     run(tx, DELETE_INSIDE, &[numbered(room), numbered(card)])
+}
+
+/// Takes all cards out of those inside the room.
+pub(crate) fn delete_insides<S: Alter>(
+    tx: &mut Transaction<'_, S>,
+    room: RoomNo,
+) -> Result<(), Error>
+    ensures same_reference { tx.new.conn.ghost_name ≡ tx.old.conn.ghost_name }
+    ensures makes { WritesBy S.Store (removes_insides room ∷ []) any_rows (insides_gone room)
+        tx.old.conn.now tx.new.conn.now result }
+{
+    run(tx, DELETE_INSIDES, &[numbered(room)])
 }
 
 /// Sets how many codes a room has, and its party; it is not secured.
@@ -188,7 +228,7 @@ pub(crate) fn set_noted<S: Alter>(
     room: RoomNo,
     lock_place: u32,
     secured: bool,
-    notes: Count,
+    notes: u32,
 ) -> Result<(), Error>
     ensures same_reference { tx.new.conn.ghost_name ≡ tx.old.conn.ghost_name }
     ensures makes { WritesBy S.Store (sets_noted room lock_place secured notes ∷ []) any_rows (room_noted room lock_place secured notes) tx.old.conn.now tx.new.conn.now result }
@@ -200,8 +240,26 @@ pub(crate) fn set_noted<S: Alter>(
             numbered(room),
             small(lock_place),
             bit(secured),
-            numbered(notes),
+            small(notes),
         ],
+    )
+}
+
+/// Sets the place of a room's new lock, and how many codes the room has; it is not secured.
+pub(crate) fn set_refitted<S: Alter>(
+    tx: &mut Transaction<'_, S>,
+    room: RoomNo,
+    lock_place: u32,
+    codes: u32,
+) -> Result<(), Error>
+    ensures same_reference { tx.new.conn.ghost_name ≡ tx.old.conn.ghost_name }
+    ensures makes { WritesBy S.Store (sets_refitted room lock_place codes ∷ []) any_rows
+        (room_refitted room lock_place codes) tx.old.conn.now tx.new.conn.now result }
+{
+    run(
+        tx,
+        UPDATE_REFITTED,
+        &[numbered(room), small(lock_place), small(codes)],
     )
 }
 

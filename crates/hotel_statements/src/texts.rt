@@ -25,6 +25,9 @@ pub(crate) const CREATE_INSIDE: &str =
 pub(crate) const CREATE_NOTE: &str =
     "CREATE TABLE note (room INTEGER NOT NULL REFERENCES room, n INTEGER NOT NULL, act INTEGER NOT NULL CHECK (act BETWEEN 0 AND 2), card INTEGER, first_code INTEGER NOT NULL, second_code INTEGER NOT NULL, day INTEGER NOT NULL, second INTEGER NOT NULL, PRIMARY KEY (room, n)) STRICT";
 
+pub(crate) const CREATE_FIT: &str =
+    "CREATE TABLE fit (room INTEGER NOT NULL REFERENCES room, fit INTEGER NOT NULL, place INTEGER NOT NULL, before INTEGER NOT NULL, PRIMARY KEY (room, fit), UNIQUE (room, place)) STRICT";
+
 // One row by its key.
 
 pub(crate) const SELECT_DAY: &str = "SELECT day FROM meta WHERE id = ?1";
@@ -52,6 +55,9 @@ pub(crate) const SELECT_ANY_INSIDE: &str = "SELECT card FROM inside WHERE room =
 pub(crate) const SELECT_NOTE: &str =
     "SELECT room, n, act, card, first_code, second_code, day, second FROM note WHERE room = ?1 AND n = ?2";
 
+pub(crate) const SELECT_FIT: &str =
+    "SELECT room, fit, place, before FROM fit WHERE room = ?1 AND fit = ?2";
+
 pub(crate) const SELECT_LAST_PARTY: &str = "SELECT party FROM stay ORDER BY party DESC";
 
 pub(crate) const SELECT_LAST_CARD: &str = "SELECT number FROM card ORDER BY number DESC";
@@ -64,9 +70,12 @@ pub(crate) const SELECT_STAYS_OF_KIND: &str =
 pub(crate) const SELECT_CARDS_INSIDE: &str =
     "SELECT card FROM inside WHERE room = ?1 ORDER BY card";
 
+pub(crate) const SELECT_FITS: &str =
+    "SELECT room, fit, place, before FROM fit WHERE room = ?1 ORDER BY fit";
+
 // Changes.
 
-pub(crate) const INSERT_META: &str = "INSERT INTO meta (id, version, day) VALUES (1, 1, NULL)";
+pub(crate) const INSERT_META: &str = "INSERT INTO meta (id, version, day) VALUES (1, 2, NULL)";
 
 pub(crate) const INSERT_KIND: &str = "INSERT INTO kind (kind) VALUES (?1)";
 
@@ -86,6 +95,9 @@ pub(crate) const INSERT_INSIDE: &str = "INSERT INTO inside (room, card) VALUES (
 pub(crate) const INSERT_NOTE: &str =
     "INSERT INTO note (room, n, act, card, first_code, second_code, day, second) VALUES (?1, ?2, ?3, ?4, ?5, ?6, ?7, ?8)";
 
+pub(crate) const INSERT_FIT: &str =
+    "INSERT INTO fit (room, fit, place, before) VALUES (?1, ?2, ?3, ?4)";
+
 pub(crate) const UPDATE_DAY: &str = "UPDATE meta SET day = ?2 WHERE id = ?1";
 
 pub(crate) const UPDATE_ISSUED: &str =
@@ -96,9 +108,14 @@ pub(crate) const UPDATE_PARTY: &str = "UPDATE room SET party = NULL WHERE room =
 pub(crate) const UPDATE_NOTED: &str =
     "UPDATE room SET lock_place = ?2, secured = ?3, notes = ?4 WHERE room = ?1";
 
+pub(crate) const UPDATE_REFITTED: &str =
+    "UPDATE room SET lock_place = ?2, codes = ?3, secured = 0 WHERE room = ?1";
+
 pub(crate) const UPDATE_STATE: &str = "UPDATE stay SET state = ?2, room = ?3 WHERE party = ?1";
 
 pub(crate) const DELETE_INSIDE: &str = "DELETE FROM inside WHERE room = ?1 AND card = ?2";
+
+pub(crate) const DELETE_INSIDES: &str = "DELETE FROM inside WHERE room = ?1";
 
 // Walks.
 
@@ -137,3 +154,5 @@ pub(crate) const READ_INSIDE: &str = "SELECT rowid, room, card FROM inside ORDER
 
 pub(crate) const READ_NOTE: &str =
     "SELECT room, n, act, card, first_code, second_code, day, second FROM note ORDER BY room, n";
+
+pub(crate) const READ_FIT: &str = "SELECT room, fit, place, before FROM fit ORDER BY room, fit";

@@ -1,4 +1,5 @@
-//! The walks of the books over the connection: one statement each, but for a room's codes, before which the room's row is looked up.
+//! The walks of the books over the connection: one statement each, but for a room's codes and its notes, before which
+//! the room's row or its fits are looked up.
 ghost use Rattle.sqlite.specs.Held.{state};
 ghost use Rattle.hotel_core.specs.Model.Sound.{IsSound};
 ghost use Rattle.hotel_core.specs.Refinement.ListsOnRows.{arrivals_on, in_house_on, chain_on, left_behind_on, audit_on};
@@ -6,6 +7,7 @@ ghost use Rattle.hotel_statements.specs.Books.{IsBooks, IsKept};
 ghost use Rattle.hotel_statements.specs.Tables.{rows_in};
 ghost use Rattle.hotel_statements.specs.Walks.{WalksList};
 
+use crate::from_row::bare_rows::UnderFits;
 use crate::from_row::list_rows::{Alone, AtLock};
 use crate::look_ups;
 use crate::number::{dated, numbered};
@@ -30,7 +32,7 @@ pub fn arrivals<S: Alter, K: Sink<Stay>>(
     walk(alloc, conn, WALK_ARRIVALS, &[dated(day)], &Alone, sink)
 }
 
-/// The notes of a room, by count.
+/// The notes of a room, by fit and count.
 pub fn audit<S: Alter, K: Sink<LockNote>>(
     alloc: Global,
     conn: &mut Connection<S>,
@@ -40,7 +42,13 @@ pub fn audit<S: Alter, K: Sink<LockNote>>(
     requires { IsBooks (state S.Store conn.old) }
     ensures { WalksList K.Sink.after K.Sink.after_stop (λ rows. audit_on rows room) (state S.Store conn.old) (state S.Store conn.new) sink.old sink.new result }
 {
-    walk(alloc, conn, WALK_AUDIT, &[numbered(room)], &Alone, sink)
+    match look_ups::fits_of_room(alloc, conn, room) {
+        Ok(fits) => {
+            let under = UnderFits { fits };
+            walk(alloc, conn, WALK_AUDIT, &[numbered(room)], &under, sink)
+        }
+        Err(cause) => Err(failed(cause)),
+    }
 }
 
 /// The codes of a room in order of issue; none where the room isn't there.
@@ -54,10 +62,10 @@ pub fn chain<S: Alter, K: Sink<ChainRow>>(
     requires sound { IsKept (state S.Store conn.old) → IsSound (rows_in (state S.Store conn.old).now.trees) }
     ensures { WalksList K.Sink.after K.Sink.after_stop (λ rows. chain_on rows room) (state S.Store conn.old) (state S.Store conn.new) sink.old sink.new result }
 {
-    match look_ups::room(alloc, conn, room) {
+    match look_ups::bare_room(alloc, conn, room) {
         Ok(Some(row)) => {
             let lock = AtLock {
-                place: row.lock_place,
+                place: row.lock_place(),
             };
             walk(alloc, conn, WALK_CHAIN, &[numbered(room)], &lock, sink)
         }

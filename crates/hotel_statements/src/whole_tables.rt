@@ -9,7 +9,7 @@ ghost use Rattle.hotel_statements.specs.PlainRows.{ArePlainRows};
 
 use crate::from_row::fault_of;
 use crate::plain_rows::{NumberedInside, Plain, PlainMeta, PlainRow};
-use hotel_rows::{PlainCard, PlainCode, PlainKind, PlainNote, PlainRoom, PlainStay};
+use hotel_rows::{PlainCard, PlainCode, PlainFit, PlainKind, PlainNote, PlainRoom, PlainStay};
 use keycard_rules::LookFault;
 use sqlite::{Alter, Connection, Row};
 use std::alloc::Global;
@@ -103,6 +103,7 @@ pub struct Tables {
     pub cards: Vec<PlainCard>,
     pub inside: Vec<NumberedInside>,
     pub notes: Vec<PlainNote>,
+    pub fits: Vec<PlainFit>,
 }
 
 /// The rows of meta, kinds, rooms and stays.
@@ -124,14 +125,14 @@ fn read_first<S: Alter>(
     Ok((first, second))
 }
 
-/// The rows of codes, cards, those inside and notes.
+/// The rows of codes, cards, those inside, notes and fits.
 fn read_last<S: Alter>(
     alloc: Global,
     conn: &mut Connection<S>,
 ) -> Result<
     (
         (Vec<PlainCode>, Vec<PlainCard>),
-        (Vec<NumberedInside>, Vec<PlainNote>),
+        ((Vec<NumberedInside>, Vec<PlainNote>), Vec<PlainFit>),
     ),
     LookFault,
 >
@@ -140,7 +141,8 @@ fn read_last<S: Alter>(
 {
     let first = read_two(alloc, conn)?;
     let second = read_two(alloc, conn)?;
-    Ok((first, second))
+    let third = read_table(alloc, conn)?;
+    Ok((first, (second, third)))
 }
 
 /// The rows of all tables.
@@ -151,7 +153,7 @@ pub fn read_tables<S: Alter>(alloc: Global, conn: &mut Connection<S>) -> Result<
     let first = read_first(alloc, conn)?;
     let last = read_last(alloc, conn)?;
     let ((meta, kinds), (rooms, stays)) = first;
-    let ((codes, cards), (inside, notes)) = last;
+    let ((codes, cards), ((inside, notes), fits)) = last;
     Ok(Tables {
         meta,
         kinds,
@@ -161,5 +163,6 @@ pub fn read_tables<S: Alter>(alloc: Global, conn: &mut Connection<S>) -> Result<
         cards,
         inside,
         notes,
+        fits,
     })
 }

@@ -33,11 +33,22 @@ none_sound = record {
   card_link = refl;
   card_one_party = refl;
   card_neighbours = refl;
+  card_fits = refl;
   card_newest = refl;
   card_last = refl;
   inside_fits = refl;
   note_counted = refl;
   note_fits = refl;
+  note_of_fit = refl;
+  fit_room = refl;
+  fit_number = refl;
+  fit_first = refl;
+  fit_places = refl;
+  fit_notes = refl;
+  fit_held = refl;
+  fit_noted = refl;
+  fit_few = refl;
+  fit_of_room = refl;
 }
 
 none_counted : IsCounted [] [] no_rows

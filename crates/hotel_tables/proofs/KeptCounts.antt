@@ -36,6 +36,7 @@ use Rattle.hotel_core.proofs.OfNights.RoomsByKind.{few_rooms, known_changed, kno
 use Rattle.hotel_core.proofs.Starts.StartCodes.{orders}
 use Rattle.hotel_core.proofs.Starts.StartNumbers.{stays_fit_at_start}
 use Rattle.hotel_tables.specs.TableBooks.{IsCounted}
+use Rattle.hotel_tables.proofs.MayMake.{new_row, refitted}
 use Rattle.hotel_tables.specs.Counted.{booked_by, ended_by, taken_by, CountsMore, CountsLess, KeepsRooms, HasItsKind, CountsItsRoom}
 
 -- ---- the counts of sound rows are few
@@ -131,8 +132,7 @@ CountsRooms kinds rows = (kind : List ℕ) → rooms_in kinds kind ≡ rooms_of_
 rooms_after : (change : Change) (rows : Rows) (mid later : List (List ℕ × ℕ)) → RoomsKnown mid rows.rooms → KnowsKinds mid rows → ((kind : List ℕ) → rooms_in mid kind < 2 ^ 32 - 1) → HasItsRows change rows
     → CountsItsRoom change mid later → CountsRooms later (made change rows)
 rooms_after (change.Room room kind code) rows mid later known kinds few fits one k =
-    let row : RoomRow = record { room = room; kind = kind; lock_place = 0; codes = 1; secured = false; party = None; notes = 0 } in
-    let added = count_inserted (λ (r : RoomRow). bytes_eq r.kind k) rows.rooms room row fits.1 in
+    let added = count_inserted (λ (r : RoomRow). bytes_eq r.kind k) rows.rooms room (new_row room kind) fits.1 in
     let was = known.counts k in
     let is = one.rooms (kinds kind fits.0) (few kind) k in
     omega (arith, added, was, is)
@@ -141,8 +141,10 @@ rooms_after (change.Issue card room leaves) rows mid later known kinds few fits 
     ∙ (known_changed (λ row. record row { codes = row.codes + 1; secured = false; party = Some card.party }) (λ row. refl) mid room (freed_by leaves rows.rooms) (known_left leaves mid rows.rooms known)).counts k
 rooms_after (change.CheckedOut party room) rows mid later known kinds few fits same k =
     ap (λ ks. rooms_in ks k) same ∙ (known_changed (λ row. record row { party = None }) (λ row. refl) mid room rows.rooms known).counts k
+rooms_after (change.Refit room code fit) rows mid later known kinds few fits same k =
+    ap (λ ks. rooms_in ks k) same ∙ (known_changed (refitted fit) (λ row. refl) mid room rows.rooms known).counts k
 rooms_after (change.Noted note place secured insides) rows mid later known kinds few fits same k =
-    ap (λ ks. rooms_in ks k) same ∙ (known_changed (λ row. record row { lock_place = place; secured = secured; notes = note.count }) (λ row. refl) mid note.room rows.rooms known).counts k
+    ap (λ ks. rooms_in ks k) same ∙ (known_changed (λ row. record row { lock_place = place; secured = secured; notes = row.before + note.count }) (λ row. refl) mid note.room rows.rooms known).counts k
 rooms_after _ rows mid later known kinds few fits same k = ap (λ ks. rooms_in ks k) same ∙ known.counts k
 
 -- one stay is counted more and one less

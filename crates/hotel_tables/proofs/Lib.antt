@@ -1,8 +1,10 @@
 mod EmptyDesk
+mod OverBooks
+mod MadeDesk
 mod Opened
 mod KeptCounts
 mod Applied
-mod NewNotes
+mod MayMake
 mod MemoryDesk
 mod Reread
 mod Reopened

@@ -1,11 +1,11 @@
 -- Tables that are read, undamaged and without numbers below 0 are tables of a desk.
 use Rattle.std.proofs.Common.{◌≡◌, refl, sym, ap, subst, ◌∙◌, List, [], ◌∷◌, map, ℕ, ℤ, pos, nat_cmp, true, false, Bool, Less, Ordering, is_eq, Option, None, Result, Ok, Err, OnOk, IfOk, IfErr, IsTrue, Vec, arith}
-use Rattle.std.specs.Prelude.{option_map}
-use Rattle.std.specs.List.{AllByRecursion, list_all}
+use Rattle.std.specs.Prelude.{◌+◌, option_map, bytes_eq}
+use Rattle.std.specs.List.{AllByRecursion, list_all, count_by}
 use Rattle.std.specs.List.Sorted.{IsPermutation, IsSorted}
 use Rattle.std.specs.Ordering.{int_cmp, is_lt}
 use Rattle.std.specs.Cmp.Lexicographic.{slice_cmp}
-use Rattle.std.specs.Map.{keys_of}
+use Rattle.std.specs.Map.{keys_of, values_of}
 use Rattle.std.specs.declared.alloc.Global.{Global}
 use Rattle.std.proofs.lemmas.Cmp.{nat_cmp_total, int_cmp_total, nat_list_cmp_total}
 use Rattle.std.proofs.lemmas.List.Sorted.{IsPermutation-map, IsPermutation-sym, IsPermutation-refl, length_permutation}
@@ -22,12 +22,16 @@ use Rattle.sqlite_keyed.proofs.SortLemmas.{sorted_is-sort_by}
 use Rattle.sqlite_keyed.proofs.ListLemmas.{all_unmap, ascending_weaker, ascending-map}
 use Rattle.keycard_rules.specs.declared.issued.LookFault.{LookFault}
 use Rattle.keycard_rules.specs.declared.issued.LookFault.TheVariants as look
+use Rattle.hotel_nights.specs.Block.{one_if}
+use Rattle.hotel_core.specs.declared.books.rows.RoomRow.{RoomRow}
+use Rattle.hotel_core.specs.declared.books.rows.FitRow.{FitRow}
 use Rattle.hotel_core.specs.Model.Words.{pair_cmp, said_of}
 use Rattle.hotel_core.specs.Model.Rows.{at_number}
 use Rattle.hotel_core.specs.Model.Sound.{keys_in_order}
 use Rattle.hotel_core.specs.Model.SoundRooms.{are_in_order}
 use Rattle.hotel_core.proofs.OfTables.Pairs.{pair_cmp_total}
 use Rattle.hotel_core.proofs.OfTables.RowTests.{both}
+use Rattle.hotel_core.proofs.OfTables.StayCounts.{count_first}
 use Rattle.hotel_core.proofs.OfTables.Tests.{and_true}
 use Rattle.hotel_statements.specs.declared.plain_rows.PlainMeta.{PlainMeta}
 use Rattle.hotel_statements.specs.declared.plain_rows.NumberedInside.{NumberedInside}
@@ -39,29 +43,31 @@ use Rattle.hotel_rows.specs.declared.counts.Counts.{Counts}
 use Rattle.hotel_tables.specs.declared.open_fault.OpenFault.{OpenFault}
 use Rattle.hotel_tables.specs.declared.open_fault.OpenFault.TheVariants as fault
 use Rattle.hotel_statements.specs.Columns.{meta_columns, meta_of, meta_written, kind_columns, kind_of, kind_written, room_columns, room_of, room_written, stay_columns, stay_of, stay_written}
-use Rattle.hotel_statements.specs.Columns.{code_columns, code_of, code_written, card_columns, card_of, card_written, inside_columns, inside_of, inside_written, note_columns, note_of, note_written}
-use Rattle.hotel_rows.specs.Stored.{number_of, kind_text, room_entry, stay_entry, code_entry, card_entry, inside_pair, note_entry, rows_of}
+use Rattle.hotel_statements.specs.Columns.{code_columns, code_of, code_written, card_columns, card_of, card_written, inside_columns, inside_of, inside_written, note_columns, note_of, note_written, fit_columns, fit_of, fit_written}
+use Rattle.hotel_rows.specs.Stored.{number_of, kind_text, room_entry, stay_entry, code_entry, card_entry, inside_pair, note_entry, fit_entry, fits_of, rows_of}
 use Rattle.hotel_rows.specs.Damage as damage
 use Rattle.hotel_rows.specs.Damage.{columns_fit, first_damaged_of}
 use Rattle.hotel_statements.specs.Tables.{AreApartIds, AreApart, AreTables, by_key, metas_in, rows_in as all_rows_in}
 use Rattle.hotel_tables.specs.TableBooks.{IsCounted}
 use Rattle.hotel_statements.specs.Books.{IsBooks}
-use Rattle.hotel_statements.specs.PlainRows.{maybe, meta_shown, kind_shown, room_shown, stay_shown, code_shown, card_shown, inside_shown, numbered_shown, numbered_columns, note_shown, ArePlainRows}
-use Rattle.hotel_statements.specs.PlainRows.{may_be_natural, room_natural, stay_natural, code_natural, card_natural, inside_natural, note_natural}
+use Rattle.hotel_statements.specs.PlainRows.{maybe, meta_shown, kind_shown, room_shown, stay_shown, code_shown, card_shown, inside_shown, numbered_shown, numbered_columns, note_shown, fit_shown, ArePlainRows}
+use Rattle.hotel_statements.specs.PlainRows.{may_be_natural, room_natural, stay_natural, code_natural, card_natural, inside_natural, note_natural, fit_natural}
 use Rattle.hotel_statements.specs.WholeTables.{ReadsTo, AreRead}
 use Rattle.hotel_tables.specs.Opening.{AreStored, AreApartInside, IsMetaRow, LacksRow, HasMetaRow, FaultFits, Told, Opens, all_rise, all_natural, id_inside, plain_inside, fault_for}
 use Rattle.hotel_rows.specs.Counts.{IsCountedOf}
+use Rattle.hotel_rows.specs.Joined.{with_fit, under_fit}
 use Rattle.hotel_rows.proofs.OfCounts.{counted_rooms, named_kind}
+use Rattle.hotel_rows.proofs.OfJoined.{keys_with_fit, keys_under_fit}
 use Rattle.hotel_statements.proofs.Answers.{fused}
 use Rattle.hotel_statements.proofs.Keyed.{key_total}
 use Rattle.hotel_statements.proofs.Perm.{every_shuffled, apart_permuted, sort_rises}
 use Rattle.hotel_statements.proofs.ReadBack.{read_back, tested_keys, tested_order}
-use Rattle.hotel_statements.proofs.Naturals.{meta_good, kind_good, room_good, stay_good, code_good, card_good, inside_good, note_good}
+use Rattle.hotel_statements.proofs.Naturals.{meta_good, kind_good, room_good, stay_good, code_good, card_good, inside_good, note_good, fit_good}
 use Rattle.hotel_rows.proofs.OfDamage.Undamaged.{undamaged_is_sound}
 
 -- ---- the row of meta
 
-one_version : (l : PlainMeta) (row : Row) → meta_columns row ∷ [] ≡ meta_shown l ∷ [] → column (meta_columns row) 1 ≡ Int (pos 1) → l.version ≡ pos 1
+one_version : (l : PlainMeta) (row : Row) → meta_columns row ∷ [] ≡ meta_shown l ∷ [] → column (meta_columns row) 1 ≡ Int (pos 2) → l.version ≡ pos 2
 one_version l row same is =
     let e : column (meta_columns row) 1 ≡ Int l.version = ap (λ (rows : List Row). column (head rows) 1) same in
     ap id_in (sym e ∙ is)
@@ -70,7 +76,7 @@ one_version l row same is =
     head [] = []
     head (r ∷ rs) = r
 
-pub lacks_row : (db : Trees) (meta : List PlainMeta) → ArePlainRows meta_columns meta_shown meta (db 0) → ((l : PlainMeta) → meta ≡ l ∷ [] → ¬ (l.version ≡ pos 1)) → ¬ HasMetaRow db
+pub lacks_row : (db : Trees) (meta : List PlainMeta) → ArePlainRows meta_columns meta_shown meta (db 0) → ((l : PlainMeta) → meta ≡ l ∷ [] → ¬ (l.version ≡ pos 2)) → ¬ HasMetaRow db
 lacks_row db [] plain_rows none has =
     let here : IsPermutation (map meta_columns (has.0 ∷ [])) [] = subst (λ rows. IsPermutation (map meta_columns rows) []) has.1 plain_rows in
     absurd (omega (arith, length_permutation _ _ here))
@@ -150,9 +156,9 @@ inside_plain_rows plain_rows rows same =
     subst (IsPermutation (map inside_columns rows)) (plain_rows_of plain_rows)
     (subst (λ xs. IsPermutation xs (map last_two (map numbered_shown plain_rows))) (fused last_two numbered_columns rows) (IsPermutation-map last_two _ _ same))
 
-pub stored_are : (t : Tables) (db : Trees) (plain : PlainMeta) (version : ℤ) (inside : Vec PlainInside Global) → version ≡ pos 1 → AreRead t db → IsMetaRow t.meta.items plain
+pub stored_are : (t : Tables) (db : Trees) (plain : PlainMeta) (version : ℤ) (inside : Vec PlainInside Global) → version ≡ pos 2 → AreRead t db → IsMetaRow t.meta.items plain
     → inside.items ≡ map plain_inside t.inside.items
-    → let s : Stored = record { version = version; day = plain.day; kinds = t.kinds; rooms = t.rooms; stays = t.stays; codes = t.codes; cards = t.cards; inside = inside; notes = t.notes } in
+    → let s : Stored = record { version = version; day = plain.day; kinds = t.kinds; rooms = t.rooms; stays = t.stays; codes = t.codes; cards = t.cards; inside = inside; notes = t.notes; fits = t.fits } in
     all_rise s ≡ true → AreStored s db
 stored_are t db plain version inside first read meta same up =
     let one : IsPermutation (map meta_columns (db 0)) (meta_shown plain ∷ []) = subst (λ ls. ArePlainRows meta_columns meta_shown ls (db 0)) meta.0 read.0.0.0 in
@@ -166,8 +172,9 @@ stored_are t db plain version inside first read meta same up =
       stays = read.0.1.1;
       codes = read.1.0.0;
       cards = read.1.0.1;
-      inside = subst (λ ls. ArePlainRows inside_columns inside_shown ls (db 9)) (sym same) (inside_plain_rows t.inside.items (db 9) read.1.1.0);
-      notes = read.1.1.1;
+      inside = subst (λ ls. ArePlainRows inside_columns inside_shown ls (db 9)) (sym same) (inside_plain_rows t.inside.items (db 9) read.1.1.0.0);
+      notes = read.1.1.0.1;
+      fits = read.1.1.1;
       rise = up;
     }
 
@@ -202,20 +209,22 @@ pub record AreDesk (s : Stored) (db : Trees) : Type 0 where
   pub rows : all_rows_in db ≡ rows_of s
 
 pub are_desk : (s : Stored) (db : Trees) → AreStored s db → AreApartInside db → keys_in_order (rows_of s) ≡ true → columns_fit s ≡ true → all_natural s ≡ true → AreDesk s db
-are_desk s db a ids keys fit natural =
-    let k6 = and_true _ (are_in_order pair_cmp (keys_of (rows_of s).notes)) keys in
+are_desk s db a ids keys columns natural =
+    let k7 = and_true _ (are_in_order pair_cmp (keys_of (rows_of s).fits)) keys in
+    let k6 = and_true _ (are_in_order pair_cmp (keys_of (rows_of s).notes)) k7.0 in
     let k5 = and_true _ (are_in_order pair_cmp (rows_of s).inside) k6.0 in
     let k4 = and_true _ (are_in_order nat_cmp (keys_of (rows_of s).cards)) k5.0 in
     let k3 = and_true _ (are_in_order nat_cmp (keys_of (rows_of s).stays)) k4.0 in
     let k2 = and_true _ (are_in_order nat_cmp (keys_of (rows_of s).codes)) k3.0 in
     let k1 = and_true (are_in_order (slice_cmp nat_cmp) (rows_of s).kinds) (are_in_order nat_cmp (keys_of (rows_of s).rooms)) k2.0 in
-    let n6 = and_true _ (list_all note_natural s.notes.items) natural in
+    let n7 = and_true _ (list_all fit_natural s.fits.items) natural in
+    let n6 = and_true _ (list_all note_natural s.notes.items) n7.0 in
     let n5 = and_true _ (list_all inside_natural s.inside.items) n6.0 in
     let n4 = and_true _ (list_all card_natural s.cards.items) n5.0 in
     let n3 = and_true _ (list_all code_natural s.codes.items) n4.0 in
     let n2 = and_true _ (list_all stay_natural s.stays.items) n3.0 in
     let n1 = and_true (may_be_natural s.day) (list_all room_natural s.rooms.items) n2.0 in
-    let f2 = and_true _ (list_all damage.note_columns s.notes.items) fit in
+    let f2 = and_true _ (list_all damage.note_columns s.notes.items) columns in
     let f1 = and_true (list_all damage.room_columns s.rooms.items) (list_all damage.stay_columns s.stays.items) f2.0 in
     let plain : PlainMeta = record { id = pos 1; version = s.version; day = s.day } in
     let meta_plain : ArePlainRows meta_columns meta_shown (plain ∷ []) (db 0) = subst (λ xs. IsPermutation xs (meta_shown plain ∷ [])) (sym a.meta) (IsPermutation-refl (meta_shown plain ∷ [])) in
@@ -224,7 +233,9 @@ are_desk s db a ids keys fit natural =
     let kind = read_back (slice_cmp nat_cmp) nat_list_cmp_total kind_columns kind_of kind_written kind_shown kind_text s.kinds.items (db 1) a.kinds (all_kinds s.kinds.items)
     (tested_order (slice_cmp nat_cmp) nat_list_cmp_total (map kind_text s.kinds.items) k1.0) in
     let room = read_back (by_key nat_cmp) (key_total nat_cmp_total) room_columns room_of room_written room_shown room_entry s.rooms.items (db 3) a.rooms
-    (each_two room_natural damage.room_columns _ room_good s.rooms.items n1.1 f1.0) (rising nat_cmp_total room_entry s.rooms.items k1.1) in
+    (each_two room_natural damage.room_columns _ room_good s.rooms.items n1.1 f1.0)
+    (rising nat_cmp_total room_entry s.rooms.items
+    (ap (are_in_order nat_cmp) (sym (keys_with_fit (fits_of s) (map room_entry s.rooms.items))) ∙ k1.1)) in
     let stay = read_back (by_key nat_cmp) (key_total nat_cmp_total) stay_columns stay_of stay_written stay_shown stay_entry s.stays.items (db 5) a.stays
     (each_two stay_natural damage.stay_columns _ stay_good s.stays.items n2.1 f1.1) (rising nat_cmp_total stay_entry s.stays.items k3.1) in
     let code = read_back (by_key nat_cmp) (key_total nat_cmp_total) code_columns code_of code_written code_shown code_entry s.codes.items (db 6) a.codes
@@ -234,9 +245,15 @@ are_desk s db a ids keys fit natural =
     let inside = read_back pair_cmp pair_cmp_total inside_columns inside_of inside_written inside_shown inside_pair s.inside.items (db 9) a.inside
     (each inside_natural _ inside_good s.inside.items n5.1) (tested_order pair_cmp pair_cmp_total (map inside_pair s.inside.items) k5.1) in
     let note = read_back (by_key pair_cmp) (key_total pair_cmp_total) note_columns note_of note_written note_shown note_entry s.notes.items (db 11) a.notes
-    (each_two note_natural damage.note_columns _ note_good s.notes.items n6.1 f2.1) (rising pair_cmp_total note_entry s.notes.items k6.1) in
-    let version : number_of s.version ≡ 1 = ap number_of a.version in
-    let metas : metas_in db ≡ (1, (1, option_map number_of s.day)) ∷ [] = meta.1 ∙ ap (λ n. (1, (n, option_map number_of s.day)) ∷ []) version in
+    (each_two note_natural damage.note_columns _ note_good s.notes.items n6.1 f2.1)
+    (rising pair_cmp_total note_entry s.notes.items
+    (ap (are_in_order pair_cmp) (sym (keys_under_fit (fits_of s) (map note_entry s.notes.items))) ∙ k6.1)) in
+    let fit =
+    read_back (by_key pair_cmp) (key_total pair_cmp_total) fit_columns fit_of fit_written fit_shown fit_entry
+    s.fits.items (db 13) a.fits
+    (each fit_natural _ fit_good s.fits.items n7.1) (rising pair_cmp_total fit_entry s.fits.items k7.1) in
+    let version : number_of s.version ≡ 2 = ap number_of a.version in
+    let metas : metas_in db ≡ (1, (2, option_map number_of s.day)) ∷ [] = meta.1 ∙ ap (λ n. (1, (n, option_map number_of s.day)) ∷ []) version in
     record {
       tables = record {
         meta = meta.0;
@@ -250,20 +267,33 @@ are_desk s db a ids keys fit natural =
         inside_numbered = ids.0;
         inside_ids = ids.1;
         note = note.0;
+        fit = fit.0;
       };
       rows = λ i. record {
         day = ap (λ (m : List (ℕ × (ℕ × Option ℕ))). said_of (at_number m 1) None (λ e. e.1)) metas i;
         kinds = kind.1 i;
-        rooms = room.1 i;
+        rooms = map (with_fit (fit.1 i)) (room.1 i);
         codes = code.1 i;
         stays = stay.1 i;
         cards = card.1 i;
         inside = inside.1 i;
-        notes = note.1 i;
+        notes = map (under_fit (fit.1 i)) (note.1 i);
+        fits = fit.1 i;
       };
     }
 
 -- ---- what is opened
+
+abbrev is_kind : List ℕ → RoomRow → Bool
+is_kind kind row = bytes_eq row.kind kind
+
+-- rooms that are joined with their fits are of their kinds
+joined_kinds : (kind : List ℕ) (fits : List ((ℕ × ℕ) × FitRow)) (es : List (ℕ × RoomRow))
+    → count_by (is_kind kind) (values_of es) ≡ count_by (is_kind kind) (values_of (map (with_fit fits) es))
+joined_kinds kind fits [] = refl
+joined_kinds kind fits (e ∷ es) =
+    count_first (is_kind kind) e.1 (values_of es) ∙ ap (λ n. one_if (is_kind kind e.1) + n) (joined_kinds kind fits es)
+    ∙ sym (count_first (is_kind kind) (with_fit fits e).1 (values_of (map (with_fit fits) es)))
 
 pub opened : (s : Stored) (db : Trees) (counts : Counts) → AreStored s db × AreApartInside db → IsCountedOf s counts × (first_damaged_of s ≡ None) × (all_natural s ≡ true)
     → AreTables db × IsCounted counts.kinds counts.nights (all_rows_in db)
@@ -273,7 +303,8 @@ opened s db counts a h =
     let here : IsCounted counts.kinds counts.nights (rows_of s) = record {
       sound = sound.0;
       known = λ kind there. h.0.1.1 kind (named_kind kind s.kinds.items ∙ there);
-      rooms = λ kind. h.0.0 kind ∙ counted_rooms kind s.rooms.items;
+      rooms = λ kind.
+          h.0.0 kind ∙ counted_rooms kind s.rooms.items ∙ joined_kinds kind (fits_of s) (map room_entry s.rooms.items);
       stays = h.0.1.0;
     } in
     (desk.tables, subst (IsCounted counts.kinds counts.nights) (sym desk.rows) here)

@@ -35,24 +35,26 @@ use Rattle.hotel_rows.specs.declared.stored.PlainCode.{PlainCode}
 use Rattle.hotel_rows.specs.declared.stored.PlainCard.{PlainCard}
 use Rattle.hotel_rows.specs.declared.stored.PlainInside.{PlainInside}
 use Rattle.hotel_rows.specs.declared.stored.PlainNote.{PlainNote}
+use Rattle.hotel_rows.specs.declared.stored.PlainFit.{PlainFit}
 use Rattle.hotel_rows.specs.declared.stored.Stored.{Stored}
 use Rattle.hotel_tables.specs.declared.open_fault.OpenFault.{OpenFault}
 use Rattle.hotel_tables.specs.declared.open_fault.OpenFault.TheVariants as fault
 use Rattle.hotel_statements.specs.Values.{int, maybe_int}
 use Rattle.hotel_statements.specs.Columns.{meta_columns, meta_of, meta_written, room_columns, room_of, room_written, bit_of, stay_columns, stay_of, stay_written, state_number}
-use Rattle.hotel_statements.specs.Columns.{code_columns, code_of, code_written, card_columns, card_of, card_written, inside_columns, inside_of, inside_written, note_columns, note_of, note_written, act_number, act_card}
-use Rattle.hotel_rows.specs.Stored.{number_of, kind_text, room_entry, stay_entry, code_entry, card_entry, inside_pair, note_entry, rows_of}
+use Rattle.hotel_statements.specs.Columns.{code_columns, code_of, code_written, card_columns, card_of, card_written, inside_columns, inside_of, inside_written, note_columns, note_of, note_written, act_number, act_card, fit_columns, fit_of, fit_written}
+use Rattle.hotel_rows.specs.Stored.{number_of, kind_text, room_entry, stay_entry, code_entry, card_entry, inside_pair, note_entry, fit_entry, fits_of, rows_of}
 use Rattle.hotel_rows.specs.Damage as damage
 use Rattle.hotel_rows.specs.Damage.{columns_fit}
 use Rattle.hotel_statements.specs.Books.{IsKept}
 use Rattle.hotel_statements.specs.Tables.{AreTables, IsWrittenAs, by_key, rows_in as all_rows_in}
-use Rattle.hotel_statements.specs.PlainRows.{maybe, is_natural, may_be_natural, room_shown, room_natural, stay_shown, stay_natural, code_shown, code_natural, card_shown, card_natural, inside_shown, inside_natural, note_shown, note_natural, ArePlainRows}
-use Rattle.hotel_statements.specs.PlainRows.{kind_natural, kind_order, room_order, stay_order, code_order, card_order, inside_order, note_order}
+use Rattle.hotel_statements.specs.PlainRows.{maybe, is_natural, may_be_natural, room_shown, room_natural, stay_shown, stay_natural, code_shown, code_natural, card_shown, card_natural, inside_shown, inside_natural, note_shown, note_natural, fit_shown, fit_natural, ArePlainRows}
+use Rattle.hotel_statements.specs.PlainRows.{kind_natural, kind_order, room_order, stay_order, code_order, card_order, inside_order, note_order, fit_order}
 use Rattle.hotel_tables.specs.Opening.{AreStored, HasMetaRow, FaultFits, IsOfCall, Opens, all_natural}
 use Rattle.hotel_tables.specs.Reopening.{ReadUndamaged}
 use Rattle.hotel_statements.proofs.Keyed.{key_total}
 use Rattle.hotel_statements.proofs.Perm.{every_shuffled}
 use Rattle.hotel_tables.proofs.Opened.{are_desk}
+use Rattle.hotel_rows.proofs.OfJoined.{keys_with_fit, keys_under_fit}
 use Rattle.hotel_rows.proofs.OfDamage.Undamaged.{undamaged_is_sound}
 
 -- ---- a column that the books wrote
@@ -146,6 +148,13 @@ note_plain l e =
 note_fits : (l : PlainNote) → IsPlainRow note_of note_written note_shown l → damage.note_columns l ≡ true
 note_fits l e = act_fits l.act l.card (note_of (note_shown l)).1.act (ap (λ (v : Row). column v 2) e) (ap (λ (v : Row). column v 3) e)
 
+fit_plain : (l : PlainFit) → IsPlainRow fit_of fit_written fit_shown l → fit_natural l ≡ true
+fit_plain l e =
+    let room = natural l.room _ (ap (λ (v : Row). column v 0) e) in
+    let fit = natural l.fit _ (ap (λ (v : Row). column v 1) e) in
+    let place = natural l.place _ (ap (λ (v : Row). column v 2) e) in
+    both _ _ (both _ _ (both _ _ room fit) place) (natural l.before _ (ap (λ (v : Row). column v 3) e))
+
 -- ---- all plain rows of a table
 
 are_plain_rows : {L X : Type 0} (columns : Row → Row) (of : Row → X) (written : X → Row) (shown : L → Row) (plain_rows : List L) (rows : List Row)
@@ -174,14 +183,18 @@ are_written s db t a =
     let cards = are_plain_rows card_columns card_of card_written card_shown s.cards.items (db 8) t.card.good a.cards in
     let inside = are_plain_rows inside_columns inside_of inside_written inside_shown s.inside.items (db 9) t.inside.good a.inside in
     let notes = are_plain_rows note_columns note_of note_written note_shown s.notes.items (db 11) t.note.good a.notes in
+    let fits = are_plain_rows fit_columns fit_of fit_written fit_shown s.fits.items (db 13) t.fit.good a.fits in
     let room = all_pass _ room_natural room_plain s.rooms.items rooms in
     let stay = all_pass _ stay_natural stay_plain s.stays.items stays in
     let code = all_pass _ code_natural code_plain s.codes.items codes in
     let card = all_pass _ card_natural card_plain s.cards.items cards in
     let within = all_pass _ inside_natural inside_plain s.inside.items inside in
     let note = all_pass _ note_natural note_plain s.notes.items notes in
+    let fit = all_pass _ fit_natural fit_plain s.fits.items fits in
     record {
-      natural = both _ _ (both _ _ (both _ _ (both _ _ (both _ _ (both _ _ day room) stay) code) card) within) note;
+      natural =
+          let first = both _ _ (both _ _ (both _ _ day room) stay) code in
+          both _ _ (both _ _ (both _ _ (both _ _ first card) within) note) fit;
       fit = both _ _ (both _ _ (all_pass _ damage.room_columns room_fits s.rooms.items rooms) (all_pass _ damage.stay_columns stay_fits s.stays.items stays)) (all_pass _ damage.note_columns note_fits s.notes.items notes);
     }
 
@@ -227,13 +240,15 @@ entries_rise order cmp entry test same ls all up = ap (are_in_order cmp) (keys_a
 
 keys_rise : (s : Stored) (db : Trees) → AreStored s db → all_natural s ≡ true → keys_in_order (rows_of s) ≡ true
 keys_rise s db a natural =
-    let n6 = and_true _ (list_all note_natural s.notes.items) natural in
+    let n7 = and_true _ (list_all fit_natural s.fits.items) natural in
+    let n6 = and_true _ (list_all note_natural s.notes.items) n7.0 in
     let n5 = and_true _ (list_all inside_natural s.inside.items) n6.0 in
     let n4 = and_true _ (list_all card_natural s.cards.items) n5.0 in
     let n3 = and_true _ (list_all code_natural s.codes.items) n4.0 in
     let n2 = and_true _ (list_all stay_natural s.stays.items) n3.0 in
     let n1 = and_true (may_be_natural s.day) (list_all room_natural s.rooms.items) n2.0 in
-    let r6 = and_true _ (are_in_order note_order s.notes.items) a.rise in
+    let r7 = and_true _ (are_in_order fit_order s.fits.items) a.rise in
+    let r6 = and_true _ (are_in_order note_order s.notes.items) r7.0 in
     let r5 = and_true _ (are_in_order inside_order s.inside.items) r6.0 in
     let r4 = and_true _ (are_in_order card_order s.cards.items) r5.0 in
     let r3 = and_true _ (are_in_order code_order s.codes.items) r4.0 in
@@ -249,7 +264,13 @@ keys_rise s db a natural =
     s.inside.items n5.1 r5.1 in
     let notes = entries_rise note_order pair_cmp note_entry note_natural
     (λ x y h k. let p = of_note x h in let q = of_note y k in same_pairs x.room x.n y.room y.n p.0 p.1 q.0 q.1) s.notes.items n6.1 r6.1 in
-    both _ _ (both _ _ (both _ _ (both _ _ (both _ _ (both _ _ kinds rooms) codes) stays) cards) inside) notes
+    let fits = entries_rise fit_order pair_cmp fit_entry fit_natural
+    (λ x y h k. let p = of_fit x h in let q = of_fit y k in same_pairs x.room x.fit y.room y.fit p.0 p.1 q.0 q.1)
+    s.fits.items n7.1 r7.1 in
+    let joined_rooms = ap (are_in_order nat_cmp) (keys_with_fit (fits_of s) (map room_entry s.rooms.items)) ∙ rooms in
+    let joined_notes = ap (are_in_order pair_cmp) (keys_under_fit (fits_of s) (map note_entry s.notes.items)) ∙ notes in
+    let first = both _ _ (both _ _ (both _ _ kinds joined_rooms) codes) stays in
+    both _ _ (both _ _ (both _ _ (both _ _ first cards) inside) joined_notes) fits
   where
     all_kinds : (ls : List PlainKind) → list_all kind_natural ls ≡ true
     all_kinds [] = refl
@@ -289,21 +310,27 @@ keys_rise s db a natural =
         let b = and_true _ (is_natural l.act) c.0 in
         and_true (is_natural l.room) (is_natural l.n) b.0
 
+    of_fit : (l : PlainFit) → fit_natural l ≡ true → (is_natural l.room ≡ true) × (is_natural l.fit ≡ true)
+    of_fit l h =
+        let c = and_true _ (is_natural l.before) h in
+        let b = and_true _ (is_natural l.place) c.0 in
+        and_true (is_natural l.room) (is_natural l.fit) b.0
+
 -- ---- the row of meta
 
 has_row : (db : Trees) → AreTables db → HasMetaRow db
 has_row db t =
     let cmp = by_key {K = ℕ} {V = ℕ × Option ℕ} nat_cmp in
-    let shuffled : IsPermutation ((1, (1, t.meta_row.0)) ∷ []) (map (λ r. meta_of (meta_columns r)) (db 0)) =
+    let shuffled : IsPermutation ((1, (2, t.meta_row.0)) ∷ []) (map (λ r. meta_of (meta_columns r)) (db 0)) =
     subst (λ es. IsPermutation es (map (λ r. meta_of (meta_columns r)) (db 0))) t.meta_row.1 (IsPermutation-sort_by cmp (key_total nat_cmp_total) (map (λ r. meta_of (meta_columns r)) (db 0))) in
-    only t.meta_row.0 (db 0) t.meta.good (one_permutation (1, (1, t.meta_row.0)) _ shuffled)
+    only t.meta_row.0 (db 0) t.meta.good (one_permutation (1, (2, t.meta_row.0)) _ shuffled)
   where
     version : List (ℕ × (ℕ × Option ℕ)) → ℕ
     version [] = 0
     version (e ∷ es) = e.1.0
 
-    only : (day : Option ℕ) (rows : List Row) → AllByRecursion (IsWrittenAs meta_columns meta_of meta_written) rows → map (λ r. meta_of (meta_columns r)) rows ≡ (1, (1, day)) ∷ []
-        → (row : Row) × (rows ≡ row ∷ []) × (column (meta_columns row) 1 ≡ Int (pos 1))
+    only : (day : Option ℕ) (rows : List Row) → AllByRecursion (IsWrittenAs meta_columns meta_of meta_written) rows → map (λ r. meta_of (meta_columns r)) rows ≡ (1, (2, day)) ∷ []
+        → (row : Row) × (rows ≡ row ∷ []) × (column (meta_columns row) 1 ≡ Int (pos 2))
     only day [] good e = absurd (let w = ap length e in omega (arith, w))
     only day (r ∷ []) good e = (r, refl, ap (λ (v : Row). column v 1) good.0 ∙ ap (λ n. int n) (ap version e))
     only day (r ∷ q ∷ rows) good e = absurd (let w = ap length e in omega (arith, w))

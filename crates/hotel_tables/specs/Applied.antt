@@ -1,34 +1,65 @@
 -- What a change of the books needs beside its rows, to be made over tables, and what making it says.
-use Rattle.std.specs.Prelude.{ℕ, ◌≡◌, ◌-◌, ◌^◌, false, Option, Some, None, Result, OnOk, OnErr, if◌then◌else◌, nat_lt}
+use Rattle.std.specs.Prelude.{ℕ, ◌≡◌, ◌+◌, ◌-◌, ◌^◌, Bool, true, false, Option, Some, None, Result, OnOk, OnErr}
+use Rattle.std.specs.Prelude.{if◌then◌else◌, nat_lt}
 use Rattle.sqlite.specs.Tree.{Trees}
 use Rattle.sqlite.specs.State.{State, Survives}
 use Rattle.keycard_rules.specs.declared.issued.LookFault.{LookFault}
 use Rattle.hotel_core.specs.declared.books.rows.RoomRow.{RoomRow}
 use Rattle.hotel_core.specs.declared.books.change.Change.{Change}
-use Rattle.hotel_core.specs.declared.books.change.Change.TheVariants.{Kind, Issue, Noted}
+use Rattle.hotel_core.specs.declared.books.change.Change.TheVariants.{Kind, Room, Issue, Refit, Noted}
 use Rattle.hotel_core.specs.Model.Words.{said_of}
 use Rattle.hotel_core.specs.Books.Lookups.{room_at}
 use Rattle.hotel_core.specs.Books.Change.{made, codes_of}
 use Rattle.hotel_core.specs.Model.Rows.{Rows, has_kind}
 use Rattle.hotel_statements.specs.Tables.{rows_in}
 use Rattle.hotel_statements.specs.Books.{IsBooks, IsKept}
-use Rattle.hotel_statements.specs.Steps.{IsMadeOf, IsNewNote}
+use Rattle.hotel_statements.specs.Steps.{IsMadeOf, IsNewRoom, IsRefit, IsNumbered}
+use Rattle.hotel_statements.specs.Statements.{Known}
+use Rattle.hotel_tables.specs.declared.apply.Known as code
 
--- what the statements of a change ask of the rows, with so many codes at the room of an issue
-abbrev pub MayMake : Change → ℕ → Rows → Type 0
-MayMake (Kind kind) codes rows = has_kind rows kind ≡ false
-MayMake (Issue card room leaves) codes rows = codes_of rows room ≡ codes
-MayMake (Noted note lock_place secured insides) codes rows = IsNewNote note rows
-MayMake _ codes rows = Unit {0}
+-- what the statements of a change are told
+abbrev pub told : code.Known → Known
+told known = record { codes = known.codes; notes = known.notes; before = known.before }
 
--- a room's codes, where one more can be counted
-abbrev pub with_next : RoomRow → Option ℕ
-with_next row = if nat_lt row.codes (2 ^ 32 - 1) then Some row.codes else None
+-- what the statements of a change ask of the rows, where this is known of its room
+abbrev pub MayMake : Change → Known → Rows → Type 0
+MayMake (Kind kind) known rows = has_kind rows kind ≡ false
+MayMake (Room room kind code) known rows = IsNewRoom room rows
+MayMake (Issue card room leaves) known rows = codes_of rows room ≡ known.codes
+MayMake (Refit room code fit) known rows = IsRefit room fit known.codes known.notes rows
+MayMake (Noted note lock_place secured insides) known rows = IsNumbered note (known.before + note.count) rows
+MayMake _ known rows = Unit {0}
 
--- how many codes stand at the room at which a card is issued: none, where it isn't there, or where no more can be counted; 0 for another change
-abbrev pub codes_for : Change → Rows → Option ℕ
-codes_for (Issue card room leaves) rows = said_of (room_at rows room) None with_next
-codes_for _ rows = Some 0
+-- the room at which a change adds a code or a note
+abbrev pub room_of : Change → Option ℕ
+room_of (Issue card room leaves) = Some room
+room_of (Refit room code fit) = Some room
+room_of (Noted note lock_place secured insides) = Some note.room
+room_of _ = None
+
+-- what a room's row says of it
+abbrev pub known_of : RoomRow → Known
+known_of row = record { codes = row.codes; notes = row.notes; before = row.before }
+
+-- one more code can be counted at the room of a change that adds one, or the number of the note that one adds
+abbrev pub can_count : Change → Known → Bool
+can_count (Issue card room leaves) known = nat_lt known.codes (2 ^ 32 - 1)
+can_count (Refit room code fit) known = nat_lt known.codes (2 ^ 32 - 1)
+can_count (Noted note lock_place secured insides) known = nat_lt (known.before + note.count) (2 ^ 32)
+can_count _ known = true
+
+-- of a room whose row is this, where the change can count on
+abbrev pub known_at : Change → RoomRow → Option Known
+known_at change row = if can_count change (known_of row) then Some (known_of row) else None
+
+-- nothing, where a change adds no code and no note
+abbrev pub nothing_known : Known
+nothing_known = record { codes = 0; notes = 0; before = 0 }
+
+-- What is known of a change's room: none, where it isn't there, or where what is added can't be counted.
+abbrev pub known_for : Change → Rows → Option Known
+known_for change rows =
+    said_of (room_of change) (Some nothing_known) (λ room. said_of (room_at rows room) None (known_at change))
 
 -- A change, of the books' connection from old to new: it is made whole or not at all, and a crash leaves what it could leave before, or the change made.
 pub record Applies (change : Change) (old new : State) (result : Result (Unit {0}) LookFault) : Type 0 where

@@ -12,10 +12,10 @@ use Rattle.hotel_core.specs.Model.SoundRooms.{are_in_order}
 use Rattle.hotel_rows.specs.declared.stored.Stored.{Stored}
 use Rattle.hotel_statements.specs.declared.plain_rows.PlainMeta.{PlainMeta}
 use Rattle.hotel_statements.specs.declared.plain_rows.NumberedInside.{NumberedInside}
-use Rattle.hotel_statements.specs.Columns.{meta_columns, kind_columns, room_columns, stay_columns, code_columns, card_columns, inside_columns, note_columns}
-use Rattle.hotel_statements.specs.PlainRows.{maybe, kind_shown, room_shown, stay_shown, code_shown, card_shown, inside_shown, note_shown, ArePlainRows}
-use Rattle.hotel_statements.specs.PlainRows.{kind_order, room_order, stay_order, code_order, card_order, inside_order, note_order}
-use Rattle.hotel_statements.specs.PlainRows.{may_be_natural, room_natural, stay_natural, code_natural, card_natural, inside_natural, note_natural}
+use Rattle.hotel_statements.specs.Columns.{meta_columns, kind_columns, room_columns, stay_columns, code_columns, card_columns, inside_columns, note_columns, fit_columns}
+use Rattle.hotel_statements.specs.PlainRows.{maybe, kind_shown, room_shown, stay_shown, code_shown, card_shown, inside_shown, note_shown, fit_shown, ArePlainRows}
+use Rattle.hotel_statements.specs.PlainRows.{kind_order, room_order, stay_order, code_order, card_order, inside_order, note_order, fit_order}
+use Rattle.hotel_statements.specs.PlainRows.{may_be_natural, room_natural, stay_natural, code_natural, card_natural, inside_natural, note_natural, fit_natural}
 use Rattle.hotel_tables.specs.declared.open_fault.OpenFault.{OpenFault}
 use Rattle.hotel_tables.specs.declared.open_fault.OpenFault.TheVariants as fault
 use Rattle.hotel_rows.specs.declared.counts.Counts.{Counts}
@@ -30,21 +30,23 @@ abbrev pub all_rise : Stored → Bool
 all_rise s =
     are_in_order kind_order s.kinds.items && are_in_order room_order s.rooms.items && are_in_order stay_order s.stays.items && are_in_order code_order s.codes.items
     && are_in_order card_order s.cards.items && are_in_order inside_order s.inside.items && are_in_order note_order s.notes.items
+    && are_in_order fit_order s.fits.items
 
 -- no number is below 0
 abbrev pub all_natural : Stored → Bool
 all_natural s =
     may_be_natural s.day && list_all room_natural s.rooms.items && list_all stay_natural s.stays.items && list_all code_natural s.codes.items
     && list_all card_natural s.cards.items && list_all inside_natural s.inside.items && list_all note_natural s.notes.items
+    && list_all fit_natural s.fits.items
 
 -- the one row of meta, and that it isn't there
 abbrev pub IsMetaRow : List PlainMeta → PlainMeta → Type 0
-IsMetaRow meta plain = (meta ≡ plain ∷ []) × (plain.id ≡ pos 1) × (plain.version ≡ pos 1)
+IsMetaRow meta plain = (meta ≡ plain ∷ []) × (plain.id ≡ pos 1) × (plain.version ≡ pos 2)
 
 abbrev pub LacksRow : List PlainMeta → OpenFault → Type 0
 LacksRow meta fault.Memory = Unit {0}
 LacksRow meta fault.Store = Unit {0}
-LacksRow meta fault.NotADesk = (plain : PlainMeta) → meta ≡ plain ∷ [] → ¬ (plain.version ≡ pos 1)
+LacksRow meta fault.NotADesk = (plain : PlainMeta) → meta ≡ plain ∷ [] → ¬ (plain.version ≡ pos 2)
 LacksRow meta (fault.Damaged t) = ⊥
 
 abbrev pub id_inside : NumberedInside → ℤ
@@ -55,7 +57,7 @@ plain_inside l = l.plain
 
 -- The plain rows are those of the tables, each in the order of its key, and meta has its one row.
 pub record AreStored (s : Stored) (db : Trees) : Type 0 where
-  pub version : s.version ≡ pos 1
+  pub version : s.version ≡ pos 2
   pub meta : map meta_columns (db 0) ≡ (Int (pos 1) ∷ Int s.version ∷ maybe s.day ∷ []) ∷ []
   pub kinds : ArePlainRows kind_columns kind_shown s.kinds.items (db 1)
   pub rooms : ArePlainRows room_columns room_shown s.rooms.items (db 3)
@@ -64,15 +66,16 @@ pub record AreStored (s : Stored) (db : Trees) : Type 0 where
   pub cards : ArePlainRows card_columns card_shown s.cards.items (db 8)
   pub inside : ArePlainRows inside_columns inside_shown s.inside.items (db 9)
   pub notes : ArePlainRows note_columns note_shown s.notes.items (db 11)
+  pub fits : ArePlainRows fit_columns fit_shown s.fits.items (db 13)
   pub rise : all_rise s ≡ true
 
 -- the rows of those inside have numbers, no two the same
 abbrev pub AreApartInside : Trees → Type 0
 AreApartInside db = AllByRecursion HasId (db 9) × AreApartIds (db 9)
 
--- meta has exactly one row, of version 1
+-- meta has exactly one row, of version 2
 abbrev pub HasMetaRow : Trees → Type 0
-HasMetaRow db = (row : Row) × (db 0 ≡ row ∷ []) × (column (meta_columns row) 1 ≡ Int (pos 1))
+HasMetaRow db = (row : Row) × (db 0 ≡ row ∷ []) × (column (meta_columns row) 1 ≡ Int (pos 2))
 
 -- what a fault says of the tables
 abbrev pub FaultFits : Trees → OpenFault → Type 0

@@ -1,5 +1,5 @@
 //! A change of the books over the connection, one transaction.
-ghost use Rattle.std.specs.Prelude.{◌≡◌, ◌<◌, ◌-◌, ◌^◌, OnOk, OnErr, IfOk, IfSome, IsSome};
+ghost use Rattle.std.specs.Prelude.{◌≡◌, true, option_map, OnOk, OnErr, IfOk, IfSome, IsSome};
 ghost use Rattle.sqlite.specs.Held.{state};
 ghost use Rattle.sqlite.specs.State.{Survives};
 ghost use Rattle.hotel_core.specs.Books.Change.{made};
@@ -9,28 +9,41 @@ ghost use Rattle.hotel_statements.specs.Books.{IsBooks, IsKept};
 ghost use Rattle.hotel_statements.specs.Steps.{IsMadeOf};
 ghost use Rattle.hotel_statements.specs.Statements.{WritesBy, statements_of};
 ghost use Rattle.hotel_statements.specs.LookUps.{Looks};
-ghost use Rattle.hotel_tables.specs.Applied.{MayMake, codes_for, Applies};
+ghost use Rattle.hotel_tables.specs.Applied.{MayMake, Applies, told, known_of, known_for, room_of, can_count};
 
-use hotel_core::Change;
+use hotel_core::{Change, RoomRow};
 use hotel_nights::StayState;
 use hotel_statements::changes::{add_room, end_stay};
 use hotel_statements::issue::issue;
 use hotel_statements::lock_notes::take_note;
+use hotel_statements::refits::refit;
 use hotel_statements::steps::{insert_card, insert_kind, insert_stay, set_day, set_state};
 use hotel_statements::{fault_of, look_ups};
-use keycard_rules::LookFault;
+use keycard_rules::{LookFault, RoomNo};
 use sqlite::{Alter, Connection, Error, Transaction};
 use std::alloc::Global;
 
-/// Writes a change within a transaction; `codes` is how many codes stand at the room of an issue.
+/// What the statements of a change are told of its room; nothing, where it has none.
+#[derive(Clone, Copy)]
+pub(crate) struct Known {
+    /// How many codes stand there.
+    pub codes: u32,
+    /// How many notes were taken there.
+    pub notes: u32,
+    /// How many of these were taken before the room's present lock.
+    pub before: u32,
+}
+
+/// Writes a change within a transaction, by what is known of its room.
 fn write_change<S: Alter>(
     tx: &mut Transaction<'_, S>,
     change: &Change,
-    codes: u32,
+    known: Known,
 ) -> Result<(), Error>
-    requires { codes < 2 ^ 32 - 1 }
+    requires { can_count change.now (told known) ≡ true }
     ensures same_reference { tx.new.conn.ghost_name ≡ tx.old.conn.ghost_name }
-    ensures makes { WritesBy S.Store (statements_of change.now codes) (MayMake change.now codes) (made change.now) tx.old.conn.now tx.new.conn.now result }
+    ensures makes { WritesBy S.Store (statements_of change.now (told known)) (MayMake change.now (told known))
+        (made change.now) tx.old.conn.now tx.new.conn.now result }
 {
     match change {
         Change::Begin(day) => set_day(tx, *day),
@@ -39,23 +52,34 @@ fn write_change<S: Alter>(
         Change::Room { room, kind, code } => add_room(tx, *room, *kind, *code),
         Change::Reserved(stay) => insert_stay(tx, stay),
         Change::Cancelled(party) => set_state(tx, *party, StayState::Cancelled),
-        Change::Issue { card, room, leaves } => issue(tx, card, *room, *leaves, codes),
+        Change::Issue { card, room, leaves } => issue(tx, card, *room, *leaves, known.codes),
         Change::Spare(card) => insert_card(tx, *card),
         Change::CheckedOut { party, room } => end_stay(tx, *party, *room),
+        Change::Refit { room, code, fit } => {
+            refit(tx, *room, *code, *fit, known.codes, known.notes)
+        }
         Change::Noted {
             note,
             lock_place,
             secured,
             insides,
-        } => take_note(tx, note, *lock_place, *secured, *insides),
+        } => {
+            let number = known.before + note.count().value();
+            take_note(tx, note, number, *lock_place, *secured, *insides)
+        }
     }
 }
 
 /// Makes all of a change, or nothing, by one transaction whose commit is its last store call.
-fn make_change<S: Alter>(conn: &mut Connection<S>, change: &Change, codes: u32) -> Result<(), Error>
+fn make_change<S: Alter>(
+    conn: &mut Connection<S>,
+    change: &Change,
+    known: Known,
+) -> Result<(), Error>
     requires books { IsBooks (state S.Store conn.old) }
-    requires more { codes < 2 ^ 32 - 1 }
-    requires fits { IsKept (state S.Store conn.old) → MayMake change.now codes (rows_in (state S.Store conn.old).now.trees) }
+    requires counted { can_count change.now (told known) ≡ true }
+    requires fits { IsKept (state S.Store conn.old)
+        → MayMake change.now (told known) (rows_in (state S.Store conn.old).now.trees) }
     ensures books { IsBooks (state S.Store conn.new) }
     ensures was { IsKept (state S.Store conn.new) → IsKept (state S.Store conn.old) }
     ensures made { IsKept (state S.Store conn.new) → OnOk result (rows_in (state S.Store conn.new).now.trees ≡ made change.now (rows_in (state S.Store conn.old).now.trees)) }
@@ -63,36 +87,81 @@ fn make_change<S: Alter>(conn: &mut Connection<S>, change: &Change, codes: u32) 
     ensures crash { Survives (state S.Store conn.old) (state S.Store conn.new) (IsMadeOf (made change.now) (state S.Store conn.old).now.trees) }
 {
     let mut tx = conn.transaction();
-    write_change(&mut tx, change, codes)?;
+    write_change(&mut tx, change, known)?;
     tx.commit()
 }
 
-/// How many codes stand at the room of an issue; 0 for another change.
+/// The room at which a change adds a code or a note.
+fn room_of(change: &Change) -> Option<RoomNo>
+    ensures { result ≡ room_of change.now }
+{
+    match change {
+        Change::Issue { room, .. } => Some(*room),
+        Change::Refit { room, .. } => Some(*room),
+        Change::Noted { note, .. } => Some(note.room()),
+        _ => None,
+    }
+}
+
+fn known_of(row: &RoomRow) -> Known
+    ensures { told result ≡ known_of row.now }
+{
+    Known {
+        codes: row.codes,
+        notes: row.notes,
+        before: row.before,
+    }
+}
+
+/// Whether one more code can be counted at the room of a change that adds one, or the number of a note that one adds.
+fn can_count(change: &Change, known: Known) -> bool
+    ensures { result ≡ can_count change.now (told known) }
+{
+    match change {
+        Change::Issue { .. } => known.codes < u32::MAX,
+        Change::Refit { .. } => known.codes < u32::MAX,
+        Change::Noted { note, .. } => known.before <= u32::MAX - note.count().value(),
+        _ => true,
+    }
+}
+
+/// What the statements of a change are told of its room.
 ///
-/// None where the room isn't there or no more codes can be counted, which is so of no issue that fits.
-fn codes_for<S: Alter>(
+/// None where the room isn't there or what is added can't be counted, which is so of no change that fits.
+fn known_for<S: Alter>(
     alloc: Global,
     conn: &mut Connection<S>,
     change: &Change,
-) -> Result<Option<u32>, LookFault>
+) -> Result<Option<Known>, LookFault>
     requires books { IsBooks (state S.Store conn.old) }
     requires fits { IsKept (state S.Store conn.old) → HasItsRows change.now (rows_in (state S.Store conn.old).now.trees) }
-    ensures looks { Looks (λ a. a) (codes_for change.now) (state S.Store conn.old) (state S.Store conn.new) result }
-    ensures more { IfOk result (λ codes. IfSome codes (λ n. n < 2 ^ 32 - 1)) }
+    ensures looks { Looks (λ known. option_map told known) (known_for change.now) (state S.Store conn.old)
+        (state S.Store conn.new) result }
+    ensures counted { IfOk result (λ known. IfSome known (λ k. can_count change.now (told k) ≡ true)) }
     ensures there { IsKept (state S.Store conn.new) → IfOk result IsSome }
 {
-    let Change::Issue { room, .. } = change else {
-        return Ok(Some(0));
+    let Some(room) = room_of(change) else {
+        return Ok(Some(Known {
+            codes: 0,
+            notes: 0,
+            before: 0,
+        }));
     };
-    match look_ups::room(alloc, conn, *room)? {
-        Some(row) if row.codes < u32::MAX => Ok(Some(row.codes)),
-        _ => Ok(None),
+    let Some(row) = look_ups::room(alloc, conn, room)? else {
+        return Ok(None);
+    };
+    let known = known_of(&row);
+    if can_count(change, known) {
+        Ok(Some(known))
+    } else {
+        Ok(None)
     }
 }
 
 /// Makes all of a change, or nothing, also where a crash comes in it.
 ///
-/// A change that fits has its codes; Store is answered where they can't be had, which only a failure of the store can bring about.
+/// The room of a change that fits is known; Store is answered where it isn't, which only a failure of the store can
+/// bring about.
 pub(crate) fn apply_change<S: Alter>(
     alloc: Global,
     conn: &mut Connection<S>,
@@ -102,10 +171,10 @@ pub(crate) fn apply_change<S: Alter>(
     requires fits { IsKept (state S.Store conn.old) → Fits change.now (rows_in (state S.Store conn.old).now.trees) }
     ensures { Applies change.now (state S.Store conn.old) (state S.Store conn.new) result }
 {
-    let Some(codes) = codes_for(alloc, conn, change)? else {
+    let Some(known) = known_for(alloc, conn, change)? else {
         return Err(LookFault::Store);
     };
-    match make_change(conn, change, codes) {
+    match make_change(conn, change, known) {
         Ok(()) => Ok(()),
         Err(error) => Err(fault_of(error)),
     }

@@ -27,7 +27,7 @@ fn meta_row(meta: &[PlainMeta]) -> Result<PlainMeta, OpenFault>
     let [plain] = meta else {
         return Err(OpenFault::NotADesk);
     };
-    if plain.version != 1 {
+    if plain.version != 2 {
         return Err(OpenFault::NotADesk);
     }
     if plain.id != 1 {
@@ -103,6 +103,7 @@ fn all_rise(stored: &Stored) -> bool
         && rise(&stored.cards)
         && rise(&stored.inside)
         && rise(&stored.notes)
+        && rise(&stored.fits)
 }
 
 /// Whether no number is below 0.
@@ -116,6 +117,7 @@ fn all_natural(stored: &Stored) -> bool
         && whole_tables::all_natural(&stored.cards)
         && whole_tables::all_natural(&stored.inside)
         && whole_tables::all_natural(&stored.notes)
+        && whole_tables::all_natural(&stored.fits)
 }
 
 /// The rows of the tables, where meta has its one row and each table is in the order of its key.
@@ -144,6 +146,7 @@ fn stored_of(alloc: Global, tables: Tables) -> Result<Stored, OpenFault>
         cards: tables.cards,
         inside,
         notes: tables.notes,
+        fits: tables.fits,
     };
     if !all_rise(&stored) {
         return Err(OpenFault::Store);

@@ -27,7 +27,7 @@ use sqlite::{Alter, Connection};
 use std::alloc::Global;
 use std::marker::Model;
 
-/// Books over the eight tables of a desk.
+/// Books over the nine tables of a desk.
 ///
 /// No rows are kept in memory: beside the connection stand only how many rooms each kind has and how many stays take each night.
 #[derive(Drop)]

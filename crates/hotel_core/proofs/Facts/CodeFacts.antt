@@ -1,6 +1,6 @@
 -- What holds of the codes, cards and rooms of each history that can be reached: the steps to the headline.
 use Rattle.std.proofs.Common.{ℕ, ◌≡◌, ◌≤◌, ◌+◌, true, false, List, [], ◌∷◌, ◌++◌, Some, length}
-use Rattle.hotel_core.proofs.Names.{keys_of, Card, Link, CodeRow, is_one_of, at_number, History, issued, all_issued, passed, awaited, cards, newest_link, link_of_party, registered, inside, secured, stays, count_up, rows_of, code_at, is_room}
+use Rattle.hotel_core.proofs.Names.{keys_of, Card, Link, CodeRow, is_one_of, at_number, History, issued, all_issued, passed, awaited, cards, newest_link, link_of_party, registered, inside, secured, stays, count_up, rows_of, code_at, is_room, fits, fits_at}
 pub use Rattle.keycard_rules.specs.Chain.{IsLinkOf}
 
 -- The cards' numbers are 1, 2 and so on.
@@ -61,9 +61,9 @@ CardsFit h = length (cards h) ≤ 9999999
 abbrev pub StaysFit : History → Type 0
 StaysFit h = length (stays h) ≤ 9999999
 
--- A room has at most one code more than there are cards.
+-- A room has at most as many codes as there are cards, and those that its fits begin with.
 abbrev pub CodesFit : History → Type 0
-CodesFit h = (r : ℕ) → length (issued h r) ≤ length (cards h) + 1
+CodesFit h = (r : ℕ) → length (issued h r) ≤ length (cards h) + length (fits_at (fits h) r)
 
 -- the party has a card of this link
 abbrev pub HasCard : History → ℕ → Link → Type 0

@@ -1,7 +1,7 @@
 -- What an accepted event needs of the history before it. A consequence of the answers, for proofs.
 use Rattle.std.proofs.Common.{ℕ, ◌≡◌, ◌⊎◌, Bool, true, false, List, Some, None, ◌+◌, nat_lt, [], ◌∷◌, ◌==◌, length}
-use Rattle.hotel_core.proofs.Names.{is_one_of, notes, Event, Begun, Kind, Install, Reserved, Cancelled, Issue, Spare, CheckOut, NextDay, Entered, Left, Recoded, History, ◌▷◌, rows_of, made, change_of, is_fresh, awaited, inside, first_full, is_begun, today, is_kind, is_room, is_party, is_booked, is_in_house, is_of_kind, is_taken, room_of, is_card, has_link, opens, next_card, next_party, stay_is, is_standing}
-use Rattle.hotel_core.specs.Model.Cases.{holds, is_later_fit}
+use Rattle.hotel_core.proofs.Names.{is_one_of, Event, Begun, Kind, Install, Reserved, Cancelled, Issue, Spare, CheckOut, NextDay, Entered, Left, Recoded, Refitted, notes_of, present_fit, History, ◌▷◌, rows_of, made, change_of, is_fresh, awaited, inside, first_full, is_begun, today, is_kind, is_room, is_party, is_booked, is_in_house, is_of_kind, is_taken, room_of, is_card, has_link, opens, next_card, next_party, stay_is, is_standing}
+use Rattle.hotel_core.specs.Model.Cases.{holds}
 
 -- the party is booked, or in house
 abbrev pub stays_now : History → ℕ → Bool
@@ -23,9 +23,10 @@ MayFollow h (Issue party room number code) =
 MayFollow h (Spare party number) = (is_party h party ≡ true) × (is_in_house h party ≡ true) × (number ≡ next_card h)
 MayFollow h (CheckOut party) = (is_party h party ≡ true) × (is_in_house h party ≡ true)
 MayFollow h NextDay = (is_begun h ≡ true) × (nat_lt (today h) 36524 ≡ true)
-MayFollow h (Entered room fit count number link at) = (count ≡ length (notes h room) + 1) × (is_room h room ≡ true) × (is_card h number ≡ true) × (has_link h number link ≡ true) × (opens h room link ≡ true) × (is_later_fit h room fit ≡ false)
-MayFollow h (Left room fit count number link at) = (count ≡ length (notes h room) + 1) × (is_room h room ≡ true) × (is_card h number ≡ true) × (has_link h number link ≡ true) × (is_one_of number (inside h room) ≡ true) × (is_later_fit h room fit ≡ false)
-MayFollow h (Recoded room fit count from to at) = (count ≡ length (notes h room) + 1) × (is_room h room ≡ true) × (holds h room from ≡ true) × (is_one_of to (awaited h room) ≡ true) × (is_later_fit h room fit ≡ false)
+MayFollow h (Refitted room fit code) = (is_room h room ≡ true) × (is_taken h room ≡ false) × (fit ≡ present_fit h room + 1) × (is_fresh h code ≡ true)
+MayFollow h (Entered room fit count number link at) = (count ≡ length (notes_of h room fit) + 1) × (is_room h room ≡ true) × (is_card h number ≡ true) × (has_link h number link ≡ true) × (opens h room link ≡ true) × (fit ≡ present_fit h room)
+MayFollow h (Left room fit count number link at) = (count ≡ length (notes_of h room fit) + 1) × (is_room h room ≡ true) × (is_card h number ≡ true) × (has_link h number link ≡ true) × (is_one_of number (inside h room) ≡ true) × (fit ≡ present_fit h room)
+MayFollow h (Recoded room fit count from to at) = (count ≡ length (notes_of h room fit) + 1) × (is_room h room ≡ true) × (holds h room from ≡ true) × (is_one_of to (awaited h room) ≡ true) × (fit ≡ present_fit h room)
 
 -- The event's change makes the rows of the grown history.
 abbrev pub FollowsBy : History → Event → Type 0

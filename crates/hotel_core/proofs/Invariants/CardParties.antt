@@ -1,8 +1,8 @@
 -- All cards of a link are one party's: that of the card that brought the link.
-use Rattle.std.proofs.Common.{ℕ, ◌≡◌, Bool, true, false, Option, Some, None, List, [], ◌∷◌, ◌++◌, length, inl, inr, refl, ap, sym, ◌∙◌, subst, append_assoc, ◌==◌, nat_cmp}
-use Rattle.hotel_core.proofs.Names.{insert_entry, Card, Link, CodeRow, when, is_that, at_number, Issue, Spare, CheckOut, History, start, ◌▷◌, is_fresh, cards, card_of, with_spare, link_of_party, link_to, newest_link, registered, leaves, next_card, Reached}
+use Rattle.std.proofs.Common.{ℕ, ◌≡◌, Bool, true, false, Option, Some, None, List, [], ◌∷◌, ◌++◌, length, inl, inr, refl, ap, sym, ◌∙◌, subst, append_assoc, ◌==◌, nat_cmp, is_some}
+use Rattle.hotel_core.proofs.Names.{insert_entry, Card, Link, CodeRow, when, is_that, at_number, Issue, Refitted, is_taken, Spare, CheckOut, History, start, ◌▷◌, is_fresh, cards, card_of, with_spare, link_of_party, link_to, newest_link, registered, leaves, next_card, Reached}
 use Rattle.hotel_core.proofs.Facts.CodeFacts.{IsLink, HasCard, PartiesHaveCards, CardsOneParty, GuestsHaveCards}
-use Rattle.hotel_core.proofs.{OfTables.Tests.eq_from, OfTables.TableKeys.row_inserted, OfTables.TableKeys.row_kept, OfTables.TableKeys.row_added, OfTables.Grown.may_follow}
+use Rattle.hotel_core.proofs.{OfTables.Tests.eq_from, OfTables.Tests.not_both, OfTables.TableKeys.row_inserted, OfTables.TableKeys.row_kept, OfTables.TableKeys.row_added, OfTables.Grown.may_follow}
 use Rattle.hotel_core.proofs.{Invariants.Numbering.next_card_free, Invariants.CodePlaces.codes_have_places, Invariants.CodePlaces.fresh_has_no_row}
 use Rattle.hotel_core.proofs.{Invariants.RoomLinks.cards_have_links, Starts.StartLinks.parties_have_cards_at_start, Starts.StartLinks.cards_one_party_at_start}
 use Rattle.hotel_core.proofs.Starts.StartGuests.{guests_have_cards_at_start}
@@ -113,6 +113,14 @@ came_by false h party room number code r p was ok here next ih e =
     let g = ih e in
     (g.0, g.1, still_has h number (card_of number party (link_to h room code)) p g.0 ok next g.2)
 
+-- a room where nobody is registered is none where somebody is
+pub not_taken_here : (h : History) (room r p : ℕ) → is_taken h room ≡ false → registered h r ≡ Some p → (room == r) ≡ false
+not_taken_here h room r p f e = by (room == r) refl
+  where
+    by : (b : Bool) → (room == r) ≡ b → (room == r) ≡ false
+    by true t = not_both (is_taken h room) (ap (λ z. is_taken h z) (eq_from room r t) ∙ ap is_some e) f
+    by false t = t
+
 -- A registered party has a card of its room's newest link.
 pub guests_have_cards : (h : History) → Reached h → GuestsHaveCards h
 guests_have_cards (start t) ok r p e = guests_have_cards_at_start t ok r p e
@@ -120,6 +128,9 @@ guests_have_cards (h ▷ Issue party room number code) ok r p e =
     came_by (room == r) h party room number code r p (leaves party (registered h r)) ok.0 (eq_from room r) (may_follow h (Issue party room number code) ok).5
     (λ n. guests_have_cards h ok.0 r p (stayed (is_that (registered h r) party) party p (registered h r) n)) e
 guests_have_cards (h ▷ CheckOut party) ok r p e = guests_have_cards h ok.0 r p (stayed (is_that (registered h r) party) party p (registered h r) e)
+guests_have_cards (h ▷ Refitted room fit code) ok r p e =
+    let g = guests_have_cards h ok.0 r p e in
+    (g.0, ap (λ b. when b (λ (l : Option Link). None) (newest_link h r)) (not_taken_here h room r p (may_follow h (Refitted room fit code) ok).1 e) ∙ g.1, g.2)
 guests_have_cards (h ▷ Spare party number) ok r p e =
     let g = guests_have_cards h ok.0 r p e in
     (g.0, g.1, still_has_spare (link_of_party h party) h party number p g.0 ok.0 (may_follow h (Spare party number) ok).2 g.2)

@@ -1,15 +1,11 @@
 -- Each code stands at one place of one room.
-use Rattle.std.proofs.Common.{ℕ, ◌≡◌, Bool, true, false, Some, None, List, [], ◌∷◌, ◌++◌, length, inl, inr, refl, ap, sym, ◌∙◌, append_assoc, ◌==◌, not, nat_cmp}
-use Rattle.hotel_core.proofs.Names.{insert_entry, CodeRow, when, and_last, at_number, Install, Issue, History, start, ◌▷◌, issued, all_issued, issued_codes, is_fresh, Reached, NoCodeTwice}
+use Rattle.std.proofs.Common.{ℕ, ◌≡◌, Bool, true, false, Some, None, List, [], ◌∷◌, ◌++◌, length, inl, inr, refl, ap, sym, ◌∙◌, append_assoc, ◌==◌, nat_cmp}
+use Rattle.hotel_core.proofs.Names.{insert_entry, CodeRow, when, and_last, at_number, Install, Issue, Refitted, History, start, ◌▷◌, issued, all_issued, issued_codes, is_fresh, Reached, NoCodeTwice}
 use Rattle.keycard_rules.specs.Words.{is_one_of}
-use Rattle.hotel_core.proofs.{Facts.CodeFacts.CodesHavePlaces, Facts.CodeFacts.PlacesHaveCodes, OfTables.Tests.eq_from, OfTables.Tests.eq_self, OfTables.Tests.not_both}
+use Rattle.hotel_core.proofs.{Facts.CodeFacts.CodesHavePlaces, Facts.CodeFacts.PlacesHaveCodes, OfTables.Tests.eq_from, OfTables.Tests.eq_self, OfTables.Tests.not_true}
 use Rattle.hotel_core.proofs.OfTables.TableKeys.{row_inserted, row_kept, row_added, no_key}
 use Rattle.hotel_core.proofs.{OfTables.CodeLists.snoc_split, OfTables.CodeLists.cut_alike, OfTables.Grown.may_follow}
 use Rattle.hotel_core.proofs.Starts.StartCodes.{places_at_start, rows_at_start}
-
-not_true : (b : Bool) → not b ≡ true → b ≡ false
-not_true true e = not_both false e refl
-not_true false e = refl
 
 -- a fresh code has no row
 pub fresh_has_no_row : (h : History) (code : ℕ) → is_fresh h code ≡ true → at_number (all_issued h) code ≡ None
@@ -41,6 +37,9 @@ codes_have_places (h ▷ Install room kind new) ok r before code later e =
     placed_more (room == r) h room new r (eq_from room r) fresh (codes_have_places h ok.0) before code later e
 codes_have_places (h ▷ Issue party room number new) ok r before code later e =
     let fresh = fresh_has_no_row h new (may_follow h (Issue party room number new) ok).6 in
+    placed_more (room == r) h room new r (eq_from room r) fresh (codes_have_places h ok.0) before code later e
+codes_have_places (h ▷ Refitted room fit new) ok r before code later e =
+    let fresh = fresh_has_no_row h new (may_follow h (Refitted room fit new) ok).3 in
     placed_more (room == r) h room new r (eq_from room r) fresh (codes_have_places h ok.0) before code later e
 codes_have_places (h ▷ _) ok r before code later e = codes_have_places h ok.0 r before code later e
 
@@ -85,4 +84,5 @@ pub places_have_codes : (h : History) → Reached h → PlacesHaveCodes h
 places_have_codes (start t) ok code row e = rows_at_start t ok code row e
 places_have_codes (h ▷ Install room kind new) ok code row e = stands_more h room new code row (places_have_codes h ok.0) e
 places_have_codes (h ▷ Issue party room number new) ok code row e = stands_more h room new code row (places_have_codes h ok.0) e
+places_have_codes (h ▷ Refitted room fit new) ok code row e = stands_more h room new code row (places_have_codes h ok.0) e
 places_have_codes (h ▷ _) ok code row e = places_have_codes h ok.0 code row e

@@ -1,6 +1,6 @@
 -- The event of an answer to a command in range, with a reply in range, is in range.
 use Rattle.std.proofs.Common.{ℕ, ◌≡◌, ◌≤◌, ◌+◌, false, Option, Some, None, List, [], ◌∷◌, refl, sym, subst, arith, nat_lt}
-use Rattle.hotel_core.proofs.Names.{Act, Note, draw_from, Command, Reply, Refusal, NoCard, CardDiffers, LockShut, NotInside, HeldDiffers, NotAwaited, is_one_of, Event, History, ◌▷◌, IsCommand, IsReply, InRange, issued_codes, card_of, link_to, inside, awaited, Standing, Next, standing, is_card, has_link, opens, next_card, own_room, Outcome, unless, needs, by_draw, accepted, grown, answer_to, checks, effect, reported, told, moment_of, Reached}
+use Rattle.hotel_core.proofs.Names.{Act, Note, draw_from, Command, Reply, Refusal, NoCard, CardDiffers, LockShut, NotInside, HeldDiffers, NotAwaited, is_one_of, Event, History, ◌▷◌, IsCommand, IsReply, InRange, issued_codes, card_of, link_to, inside, awaited, Standing, Next, standing, is_card, has_link, opens, next_card, next_fit, own_room, Outcome, unless, needs, by_draw, accepted, grown, answer_to, checks, effect, reported, told, moment_of, Reached}
 use Rattle.std.proofs.lemmas.Bool.{ltb-false}
 use Rattle.keycard_rules.specs.declared.note.Act.TheVariants as act
 use Rattle.hotel_core.specs.declared.command.Command.TheVariants as command
@@ -64,6 +64,9 @@ range_if h ahead (command.Transfer party room) e n p r q =
     let d = draw_from (issued_codes h) ahead in
     drawn_in_range d.code d.examined (λ code. reply.Issued (card_of (next_card h) party (link_to h room code))) (λ code. event.Issue party room (next_card h) code) e (λ code s. s) q r
 range_if h ahead (command.CheckOut party) e n p r q = subst (λ x. InRange x) (same_event q) tt
+range_if h ahead (command.Refit room) e n p r q =
+    let d = draw_from (issued_codes h) ahead in
+    drawn_in_range d.code d.examined (λ code. reply.Refitted code (next_fit h room)) (λ code. event.Refitted room (next_fit h room) code) e (λ code s. s) q r
 range_if h ahead command.NextDay e n p r q = subst (λ x. InRange x) (same_event q) tt
 range_if h ahead (command.Reported note) e n p r q = by_standing h note (standing h note) e n q
 

@@ -1,12 +1,12 @@
 -- What an accepted event needs.
 use Rattle.std.proofs.Common.{ℕ, ◌≡◌, List, [], ◌∷◌, Bool, true, false, Option, Some, None, refl, ap, subst, nat_lt, option_map, not, cond, length, drop, ◌+◌, ◌-◌, ◌==◌, is_some, inl, inr}
-use Rattle.hotel_core.proofs.Names.{at_number, said_of, own_room, room_of, stays, Command, Refusal, KindFull, NoCard, CardDiffers, LockShut, NotInside, HeldDiffers, NotAwaited, Act, inside, awaited, Note, Event, History, is_fresh, issued_codes, draw_from, one_more, code_of, Outcome, accepted, unless, needs, bars, answer_to, checks, effect, reported, told, moment_of, is_begun, today, is_kind, is_room, is_party, is_booked, is_in_house, is_of_kind, is_taken, is_card, has_link, opens, next_card, first_full, Standing, Copy, Conflicting, Next, After, standing, standing_among, notes, same_note}
+use Rattle.hotel_core.proofs.Names.{at_number, said_of, own_room, room_of, stays, Command, Refusal, KindFull, NoCard, CardDiffers, LockShut, NotInside, HeldDiffers, NotAwaited, Act, inside, awaited, Note, Event, History, is_fresh, issued_codes, draw_from, one_more, code_of, Outcome, accepted, unless, needs, bars, answer_to, checks, effect, reported, told, moment_of, is_begun, today, is_kind, is_room, is_party, is_booked, is_in_house, is_of_kind, is_taken, is_card, has_link, opens, next_card, first_full, Standing, Copy, Conflicting, Next, After, standing, standing_among, notes_of, present_fit, next_fit, same_note}
 use Rattle.hotel_core.specs.declared.command.Command.TheVariants as command
 use Rattle.hotel_core.specs.declared.reply.Reply.TheVariants as reply
 use Rattle.keycard_rules.specs.declared.note.Act.TheVariants as act
 use Rattle.hotel_core.specs.Model.Event as event
 use Rattle.keycard_rules.specs.Words.{is_one_of}
-use Rattle.hotel_core.specs.Model.Cases.{holds, is_later_fit}
+use Rattle.hotel_core.specs.Model.Cases.{holds}
 use Rattle.hotel_core.proofs.{Facts.Follow.MayFollow, OfTables.Tests.eq_from, OfTables.StayStates.stands_booked, OfTables.StayStates.stands_home}
 
 -- none of the checks refused
@@ -57,11 +57,12 @@ not_next : (b : Bool) → cond b Copy Conflicting ≡ Next → ⊥
 not_next true h = cc
 not_next false h = cc
 
-next_count : (taken : ℕ) (note : Note) (kept : List Note) → standing_among taken note kept ≡ Next → note.count ≡ taken + 1
-next_count taken note [] h = eq_from note.count (taken + 1) (if_next (note.count == taken + 1) (taken + 1) h)
-next_count taken note (k ∷ ks) h = absurd (not_next (same_note k note) h)
+next_count : (present : Bool) (taken : ℕ) (note : Note) (kept : List Note) → standing_among present taken note kept ≡ Next → (present ≡ true) × (note.count ≡ taken + 1)
+next_count true taken note [] h = (refl, eq_from note.count (taken + 1) (if_next (note.count == taken + 1) (taken + 1) h))
+next_count false taken note [] h = cc
+next_count present taken note (k ∷ ks) h = absurd (not_next (same_note k note) h)
 
-by_act : (h : History) (note : Note) (its_act : Act) (e : Event) → note.count ≡ length (notes h note.room) + 1 → is_room h note.room ≡ true → is_later_fit h note.room note.fit ≡ false → (told h note its_act).happens ≡ Some e → MayFollow h e
+by_act : (h : History) (note : Note) (its_act : Act) (e : Event) → note.count ≡ length (notes_of h note.room note.fit) + 1 → is_room h note.room ≡ true → note.fit ≡ present_fit h note.room → (told h note its_act).happens ≡ Some e → MayFollow h e
 by_act h note (act.Entered number link) e n r l q =
     let p = passed_all (needs (is_card h number) NoCard ∷ needs (has_link h number link) CardDiffers ∷ needs (opens h note.room link) LockShut ∷ [])
     (accepted reply.Taken (event.Entered note.room note.fit note.count number link (moment_of note))) e q in
@@ -75,9 +76,12 @@ by_act h note (act.Recoded from to) e n r l q =
     (accepted reply.Taken (event.Recoded note.room note.fit note.count from to (moment_of note))) e q in
     subst (λ x. MayFollow h x) (same_event p.1) (n, r, needed (holds h note.room from) _ p.0.0, needed (is_one_of to (awaited h note.room)) _ p.0.1.0, l)
 
-by_standing : (h : History) (note : Note) (s : Standing) (e : Event) → standing h note ≡ s → is_room h note.room ≡ true → is_later_fit h note.room note.fit ≡ false → (reported h note s).happens ≡ Some e → MayFollow h e
-by_standing h note Next e f r l q = by_act h note note.act e (next_count (length (notes h note.room)) note (drop (note.count - 1) (notes h note.room)) f) r l q
-by_standing h note _ e f r l q = cc
+by_standing : (h : History) (note : Note) (s : Standing) (e : Event) → standing h note ≡ s → is_room h note.room ≡ true → (reported h note s).happens ≡ Some e → MayFollow h e
+by_standing h note Next e f r q =
+    let taken = notes_of h note.room note.fit in
+    let n = next_count (note.fit == present_fit h note.room) (length taken) note (drop (note.count - 1) taken) f in
+    by_act h note note.act e n.1 r (eq_from note.fit (present_fit h note.room) n.0) q
+by_standing h note _ e f r q = cc
 
 -- the number that is there
 pub some_number : (o : Option ℕ) → is_some o ≡ true → o ≡ Some (said_of o 0 (λ n. n))
@@ -122,8 +126,11 @@ follows_if h ahead (command.Transfer party room) e p q =
       drawn_fresh h ahead d.0 d.1,
     )
 follows_if h ahead (command.CheckOut party) e p q = subst (λ x. MayFollow h x) (same_event q) (needed (is_party h party) _ p.1.0, needed (is_in_house h party) _ p.1.1.0)
+follows_if h ahead (command.Refit room) e p q =
+    let d = from_draw (draw_from (issued_codes h) ahead).code (λ code. event.Refitted room (next_fit h room) code) e q in
+    subst (λ x. MayFollow h x) d.2 (needed (is_room h room) _ p.1.0, barred (is_taken h room) _ p.1.1.0, refl, drawn_fresh h ahead d.0 d.1)
 follows_if h ahead command.NextDay e p q = subst (λ x. MayFollow h x) (same_event q) (needed (is_begun h) _ p.0, needed (nat_lt (today h) 36524) _ p.1.0)
-follows_if h ahead (command.Reported note) e p q = by_standing h note (standing h note) e refl (needed (is_room h note.room) _ p.1.0) (barred (is_later_fit h note.room note.fit) _ p.1.1.0) q
+follows_if h ahead (command.Reported note) e p q = by_standing h note (standing h note) e refl (needed (is_room h note.room) _ p.1.0) q
 
 pub answers_follow : (h : History) (ahead : List ℕ) (command : Command) (e : Event) → (answer_to h ahead command).happens ≡ Some e → MayFollow h e
 unfolding answer_to

@@ -1,12 +1,20 @@
--- The room of a party in house is there, and so is one at which a card of a new code is given.
+-- Rooms that are there: they stay; the room of a party in house is one, and so is one at which a card of a new code is given.
 use Rattle.std.proofs.Common.{ℕ, ◌≡◌, Bool, true, false, Option, Some, None, List, refl, ap, sym, ◌∙◌, subst, ◌==◌, inl, inr}
-use Rattle.hotel_core.proofs.Names.{when, Install, Issue, CheckOut, History, start, ◌▷◌, registered, leaves, rooms, room_of, Reached, is_room}
-use Rattle.hotel_core.proofs.{OfTables.Numbered.true_is_not_false, OfTables.Numbered.apart_by, OfTables.Grown.may_follow, OfTables.Tests.or_false, OfTables.TableKeys.key_inserted}
+use Rattle.hotel_core.proofs.Names.{when, Event, Install, Issue, CheckOut, History, start, ◌▷◌, registered, leaves, rooms, room_of, Reached, is_room}
+use Rattle.hotel_core.proofs.{OfTables.Numbered.true_is_not_false, OfTables.Numbered.apart_by, OfTables.Grown.may_follow, OfTables.Tests.or_false, OfTables.TableKeys.key_inserted, OfTables.RowTests.or_later}
 use Rattle.hotel_core.proofs.{Facts.Follow.OrAtHome, Invariants.InHouse.HomesMatch, Invariants.InHouse.homes_match, Starts.StartGuests.nobody_at_start}
 
--- a room is apart from what is no room
+-- a room is apart from what is no room, and that from it
 pub apart_rooms : (h : History) (room r : ℕ) → is_room h room ≡ true → is_room h r ≡ false → (room == r) ≡ false
 apart_rooms h room r t f = apart_by room r (λ e. true_is_not_false t (subst (λ z. is_room h z ≡ false) (sym e) f))
+
+pub new_is_apart : (h : History) (room r : ℕ) → is_room h room ≡ false → is_room h r ≡ true → (room == r) ≡ false
+new_is_apart h room r f t = apart_by room r (λ e. true_is_not_false t (subst (λ z. is_room h z ≡ false) e f))
+
+-- a room that is there stays
+pub room_goes_on : (h : History) (event : Event) (r : ℕ) → is_room h r ≡ true → is_room (h ▷ event) r ≡ true
+room_goes_on h (Install room kind code) r t = key_inserted (rooms h) room kind r ∙ or_later (room == r) (is_room h r) t
+room_goes_on h _ r t = t
 
 -- what is no room after a room was added
 pub not_added : (h : History) (room r code : ℕ) (kind : List ℕ) → is_room (h ▷ Install room kind code) r ≡ false → ((room == r) ≡ false) × (is_room h r ≡ false)

@@ -1,6 +1,6 @@
 -- Who is inside a room after a card came in or left.
-use Rattle.std.proofs.Common.{ℕ, zero, suc, ◌≡◌, ◌<◌, Bool, true, false, cond, List, [], ◌∷◌, length, ◌⊎◌, inl, inr, refl, ap, ◌∙◌, arith, ◌==◌, ◌||◌, Contains, slice_index_or, Ordering, Less, Equal, Greater}
-use Rattle.hotel_core.proofs.Names.{match_ordering, insert_key, is_at, remove_key, when, is_one_of, pair_cmp, those_in, are_none}
+use Rattle.std.proofs.Common.{ℕ, zero, suc, ◌≡◌, ◌<◌, Bool, true, false, cond, List, [], ◌∷◌, length, ◌⊎◌, inl, inr, refl, ap, ◌∙◌, arith, ◌==◌, ◌||◌, not, Contains, slice_index_or, Ordering, Less, Equal, Greater}
+use Rattle.hotel_core.proofs.Names.{match_ordering, insert_key, is_at, remove_key, when, is_one_of, pair_cmp, those_elsewhere, those_in, are_none}
 use Rattle.hotel_core.proofs.OfTables.Tests.{eq_from, eq_self, or_true, not_both}
 
 pub one_of_when : (b : Bool) (m x : ℕ) (ns : List ℕ) → is_one_of m (when b (λ numbers. x ∷ numbers) ns) ≡ true → ((b ≡ true) × (x ≡ m)) ⊎ (is_one_of m ns ≡ true)
@@ -63,6 +63,29 @@ left_by false e later es r m ih t =
 pub left_out : (es : List (ℕ × ℕ)) (k : ℕ × ℕ) (r m : ℕ) → is_one_of m (those_in (remove_key (is_at (pair_cmp k)) es) r) ≡ true → is_one_of m (those_in es r) ≡ true
 left_out [] k r m t = t
 left_out (e ∷ es) k r m t = left_by (is_at (pair_cmp k) e) e (remove_key (is_at (pair_cmp k)) es) es r m (left_out es k r m) t
+
+elsewhere_by : (b : Bool) (e : ℕ × ℕ) (later es : List (ℕ × ℕ)) (r m : ℕ) → (is_one_of m (those_in later r) ≡ true → is_one_of m (those_in es r) ≡ true)
+    → is_one_of m (those_in (cond b (e ∷ later) later) r) ≡ true → is_one_of m (those_in (e ∷ es) r) ≡ true
+elsewhere_by true e later es r m ih t =
+    elim (one_of_when (e.0 == r) m e.1 (those_in later r) t) [
+      | inl p ↦ when_one_of (e.0 == r) m e.1 (those_in es r) (inl p)
+      | inr p ↦ when_one_of (e.0 == r) m e.1 (those_in es r) (inr (ih p))
+    ]
+elsewhere_by false e later es r m ih t = when_one_of (e.0 == r) m e.1 (those_in es r) (inr (ih t))
+
+-- who is inside after a room was cleared was inside before
+pub elsewhere_in : (es : List (ℕ × ℕ)) (room r m : ℕ) → is_one_of m (those_in (those_elsewhere room es) r) ≡ true → is_one_of m (those_in es r) ≡ true
+elsewhere_in [] room r m t = t
+elsewhere_in (e ∷ es) room r m t = elsewhere_by (not (e.0 == room)) e (those_elsewhere room es) es r m (elsewhere_in es room r m) t
+
+cleared_by : (b : Bool) (e : ℕ × ℕ) (later : List (ℕ × ℕ)) (room : ℕ) → (e.0 == room) ≡ b → those_in later room ≡ [] → those_in (cond (not b) (e ∷ later) later) room ≡ []
+cleared_by true e later room q n = n
+cleared_by false e later room q n = ap (λ b. when b (λ numbers. e.1 ∷ numbers) (those_in later room)) q ∙ n
+
+-- and nobody is inside that room
+pub none_inside : (es : List (ℕ × ℕ)) (room : ℕ) → those_in (those_elsewhere room es) room ≡ []
+none_inside [] room = refl
+none_inside (e ∷ es) room = cleared_by (e.0 == room) e (those_elsewhere room es) room refl (none_inside es room)
 
 -- in an empty room is nobody
 pub nobody_in : (ns : List ℕ) (m : ℕ) → are_none ns ≡ true → is_one_of m ns ≡ false

@@ -1,6 +1,6 @@
 -- The ledger of each room's codes.
 use Rattle.std.proofs.Common.{ℕ, ◌≡◌, Bool, true, false, cond, Option, Some, None, List, [], ◌∷◌, ◌++◌, refl, ap, sym, ◌∙◌, subst, append_assoc, ◌==◌, ◌&&◌, ◌||◌, is_some}
-use Rattle.hotel_core.proofs.Names.{Card, Link, turn, when, and_last, is_one_of, before, after, without, said_of, at_number, Install, Issue, Entered, Recoded, History, start, ◌▷◌, issued, cards, held, passed, awaited, turns, rooms, same_link, is_room, is_card, has_link, opens, Reached, LedgerHolds, TakesTheFirst}
+use Rattle.hotel_core.proofs.Names.{Card, Link, turn, when, and_last, is_one_of, before, after, without, said_of, at_number, Install, Issue, Refitted, Entered, Recoded, History, start, ◌▷◌, issued, cards, held, passed, awaited, turns, rooms, same_link, is_room, is_card, has_link, opens, Reached, LedgerHolds, TakesTheFirst}
 use Rattle.hotel_core.proofs.{Facts.CodeFacts.IsLink, OfTables.Tests.eq_from, OfTables.Tests.not_both, OfTables.Tests.or_second}
 use Rattle.hotel_core.proofs.{OfTables.TableKeys.key_inserted, OfTables.TableKeys.row_of_key, OfTables.CodeLists.first_out, OfTables.CodeLists.parted, OfTables.Grown.may_follow}
 use Rattle.hotel_core.proofs.{Invariants.RoomCodes.others_have_none, Invariants.CodePlaces.same_place, Invariants.RoomLinks.cards_have_links, Starts.StartLedger.ledger_at_start}
@@ -25,6 +25,12 @@ pub holds_new : (a b : Bool) (new : ℕ) → b ≡ false → is_some (cond (a ||
 holds_new true b new n e = refl
 holds_new false true new n e = not_both true refl n
 holds_new false false new n e = not_both false e refl
+
+-- a new lock passes all codes before its own
+refit_case : (b : Bool) (h : History) (room r code : ℕ) → (b ≡ true → room ≡ r) → InOrder h r
+    → when b (λ codes. codes ++ held h room ∷ awaited h room) (passed h r) ++ when b (λ _. code) (held h r) ∷ when b (λ (codes : List ℕ). []) (awaited h r) ≡ when b (and_last code) (issued h r)
+refit_case true h room r code here same = ap (λ z. (passed h r ++ held h z ∷ awaited h z) ++ code ∷ []) (here refl) ∙ ap (λ zs. zs ++ code ∷ []) same
+refit_case false h room r code here same = same
 
 -- where an entry turns the lock, the awaited codes begin with the link's new one
 pub first_awaited : (h : History) (r : ℕ) (link : Link) → Reached h → held h r ≡ link.old_code → InOrder h r → IsLink h link → (later : List ℕ) × (awaited h r ≡ link.new_code ∷ later)
@@ -81,6 +87,7 @@ ledger_holds (h ▷ Install room kind code) ok r f =
     (λ t. others_have_none h ok.0 r (ap (is_room h) (sym (eq_from room r t)) ∙ (may_follow h (Install room kind code) ok).1))
     (λ n. ledger_holds h ok.0 r (or_second (room == r) (is_room h r) n (sym (key_inserted (rooms h) room kind r) ∙ f)))
 ledger_holds (h ▷ Issue party room number code) ok r f = issue_case (room == r) h code r (ledger_holds h ok.0 r f)
+ledger_holds (h ▷ Refitted room fit code) ok r f = refit_case (room == r) h room r code (eq_from room r) (ledger_holds h ok.0 r f)
 ledger_holds (h ▷ Entered room fit count number link at) ok r f =
     let needs = may_follow h (Entered room fit count number link at) ok in
     entered_case (room == r) h room r link (eq_from room r) ok.0 (ledger_holds h ok.0 r f) (link_seen h number link ok.0 needs.2 needs.3) needs.4

@@ -1,7 +1,7 @@
 -- A registered party's last card has the newest link of its room.
 use Rattle.std.proofs.Common.{ℕ, ◌≡◌, ◌-◌, Bool, true, false, Option, Some, None, refl, ap, sym, ◌∙◌, length, ◌==◌, is_some}
-use Rattle.hotel_core.proofs.Names.{Link, when, said_of, Issue, CheckOut, History, start, ◌▷◌, link_to, newest_link, link_of_party, registered, leaves, issued, rows_of, room_of, no_link, codes_of, said_code_at, home_link_on, Reached}
-use Rattle.hotel_core.proofs.{OfTables.Tests.eq_self, Invariants.Homes.stays_on}
+use Rattle.hotel_core.proofs.Names.{Link, when, said_of, Issue, Refitted, CheckOut, History, start, ◌▷◌, link_to, newest_link, link_of_party, registered, leaves, issued, rows_of, room_of, no_link, codes_of, said_code_at, home_link_on, Reached}
+use Rattle.hotel_core.proofs.{OfTables.Tests.eq_self, OfTables.Grown.may_follow, Invariants.CardParties.not_taken_here, Invariants.Homes.stays_on}
 use Rattle.hotel_core.proofs.{Invariants.InHouse.registered_in_house, Invariants.InHouseLinks.in_house_has_link}
 use Rattle.hotel_core.proofs.{Invariants.OpenLocks.there_by_link, Invariants.CodesFound.newest_found, Lifted.LiftFacts.HomeLink, Lifted.LiftRooms.codes_said}
 use Rattle.hotel_core.proofs.Starts.StartGuests.{has_newest_at_start}
@@ -30,6 +30,8 @@ has_newest (h ▷ Issue party room number code) ok r p e =
     came_with_link (room == r) party p r (link_to h room code) (leaves party (registered h r)) (newest_link h r) (link_of_party h p) e
     (λ was. let s = stays_on party (registered h r) p was in (s.1, has_newest h ok.0 r p s.0))
 has_newest (h ▷ CheckOut party) ok r p e = has_newest h ok.0 r p (stays_on party (registered h r) p e).0
+has_newest (h ▷ Refitted room fit code) ok r p e =
+    ap (λ b. when b (λ (l : Option Link). None) (newest_link h r)) (not_taken_here h room r p (may_follow h (Refitted room fit code) ok).1 e) ∙ has_newest h ok.0 r p e
 has_newest (h ▷ _) ok r p e = has_newest h ok.0 r p e
 
 some_link : (o : Option Link) → is_some o ≡ true → (link : Link) × (o ≡ Some link)

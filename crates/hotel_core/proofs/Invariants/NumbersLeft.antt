@@ -1,6 +1,6 @@
 -- Cards and stays have numbers up to the greatest, and a room has few codes.
-use Rattle.std.proofs.Common.{ℕ, ◌≡◌, ◌+◌, ◌≤◌, ◌<◌, Bool, true, false, Option, Some, None, List, [], ◌∷◌, ◌++◌, length, refl, ap, sym, ◌∙◌, subst, arith, ◌==◌, nat_le, option_map, nat_cmp}
-use Rattle.hotel_core.proofs.Names.{insert_entry, Card, Link, Act, Note, draw_from, Command, Refusal, NoCard, CardDiffers, LockShut, NotInside, HeldDiffers, NotAwaited, when, and_last, is_one_of, Event, History, start, ◌▷◌, issued, issued_codes, cards, card_of, with_spare, link_of_party, link_to, inside, awaited, stays, Standing, Next, standing, is_room, is_card, has_link, opens, next_card, own_room, parties_used_up, cards_used_up, accepted, needs, bars, answer_to, checks, effect, reported, told, moment_of, Reached}
+use Rattle.std.proofs.Common.{ℕ, ◌≡◌, ◌+◌, ◌≤◌, ◌<◌, Bool, true, false, Option, Some, None, List, [], ◌∷◌, length, refl, ap, subst, arith, length-append, ◌==◌, nat_le, option_map, nat_cmp}
+use Rattle.hotel_core.proofs.Names.{insert_entry, Card, Link, Act, Note, draw_from, Command, Refusal, NoCard, CardDiffers, LockShut, NotInside, HeldDiffers, NotAwaited, when, and_last, is_one_of, Event, History, start, ◌▷◌, issued, issued_codes, cards, card_of, with_spare, link_of_party, link_to, inside, awaited, stays, Standing, Next, standing, is_card, has_link, opens, next_card, next_fit, fits_used_up, FitRow, fit_row, fits, fits_at, notes, own_room, parties_used_up, cards_used_up, accepted, needs, bars, answer_to, checks, effect, reported, told, moment_of, Reached}
 use Rattle.std.proofs.lemmas.Bool.{leb-false}
 use Rattle.keycard_rules.specs.declared.note.Act.TheVariants as act
 use Rattle.hotel_nights.specs.declared.stay.StayState.TheVariants as state
@@ -8,9 +8,9 @@ use Rattle.hotel_core.specs.declared.command.Command.TheVariants as command
 use Rattle.hotel_core.specs.declared.reply.Reply.TheVariants as reply
 use Rattle.hotel_core.specs.Model.Event as event
 use Rattle.hotel_core.specs.Model.Cases.{holds}
-use Rattle.hotel_core.proofs.{Facts.CodeFacts.CardsFit, Facts.CodeFacts.StaysFit, Facts.CodeFacts.CodesFit, OfTables.Tests.eq_from}
+use Rattle.hotel_core.proofs.{Facts.CodeFacts.CardsFit, Facts.CodeFacts.StaysFit, Facts.CodeFacts.CodesFit}
 use Rattle.hotel_core.proofs.{Invariants.Following.AllPass, Invariants.Following.passed_all, OfTables.Counting.counts_more, OfTables.CodeLists.length_more}
-use Rattle.hotel_core.proofs.{Invariants.Numbering.cards_count, Invariants.Numbering.stays_count, Invariants.Numbering.same_length, Invariants.RoomCodes.others_have_none}
+use Rattle.hotel_core.proofs.{Invariants.Numbering.cards_count, Invariants.Numbering.stays_count, Invariants.Numbering.same_length, Invariants.FitsKept.fits_installed, Invariants.FitsKept.fits_refitted}
 use Rattle.hotel_core.proofs.{OfTables.Grown.may_follow, Starts.StartNumbers.cards_fit_at_start, Starts.StartNumbers.stays_fit_at_start, Starts.StartLedger.codes_fit_at_start}
 
 -- an event that uses a number finds one left
@@ -18,6 +18,7 @@ abbrev pub HasNumber : History → Event → Type 0
 HasNumber h (event.Reserved party guest kind arrive depart) = parties_used_up h ≡ false
 HasNumber h (event.Issue party room number code) = cards_used_up h ≡ false
 HasNumber h (event.Spare party number) = cards_used_up h ≡ false
+HasNumber h (event.Refitted room fit code) = fits_used_up h room ≡ false
 HasNumber h _ = Unit {0}
 
 same_event : {a b : Event} → Some a ≡ Some b → a ≡ b
@@ -67,6 +68,9 @@ number_if h ahead (command.Transfer party room) e p q =
     let d = drawn_event (draw_from (issued_codes h) ahead).code (λ code. event.Issue party room (next_card h) code) e q in
     subst (λ x. HasNumber h x) d.1 (barred (cards_used_up h) _ p.1.1.1.1.1.1.1.0)
 number_if h ahead (command.CheckOut party) e p q = subst (λ x. HasNumber h x) (same_event q) tt
+number_if h ahead (command.Refit room) e p q =
+    let d = drawn_event (draw_from (issued_codes h) ahead).code (λ code. event.Refitted room (next_fit h room) code) e q in
+    subst (λ x. HasNumber h x) d.1 (barred (fits_used_up h room) _ p.1.1.1.0)
 number_if h ahead command.NextDay e p q = subst (λ x. HasNumber h x) (same_event q) tt
 number_if h ahead (command.Reported note) e p q = by_standing h note (standing h note) e q
 
@@ -107,26 +111,28 @@ stays_fit (h ▷ event.Issue party room number code) ok = let few = stays_fit h 
 stays_fit (h ▷ event.CheckOut party) ok = let few = stays_fit h ok.0 in let same = same_length party state.Done (stays h) in omega arith
 stays_fit (h ▷ _) ok = stays_fit h ok.0
 
-first_fits : (b : Bool) (codes : List ℕ) (code n : ℕ) → (b ≡ true → codes ≡ []) → length codes ≤ n + 1 → length (when b (and_last code) codes) ≤ n + 1
-first_fits true codes code n none few = let e = ap (λ zs. length (zs ++ code ∷ [])) (none refl) in omega arith
-first_fits false codes code n none few = few
+-- a code that begins a fit
+begun_fits : (b : Bool) (codes : List ℕ) (code n : ℕ) (fs fs' : List FitRow) (row : FitRow) → fs' ≡ when b (and_last row) fs → length codes ≤ n + length fs → length (when b (and_last code) codes) ≤ n + length fs'
+begun_fits true codes code n fs fs' row e few = let l = length_more codes code in let m = ap (λ (gs : List FitRow). length gs) e in omega (arith, m, length-append fs (row ∷ []))
+begun_fits false codes code n fs fs' row e few = let m = ap (λ (gs : List FitRow). length gs) e in omega arith
 
-next_fits : (b : Bool) (codes : List ℕ) (code n m : ℕ) → m ≡ n + 1 → length codes ≤ n + 1 → length (when b (and_last code) codes) ≤ m + 1
-next_fits true codes code n m e few = let l = length_more codes code in omega arith
-next_fits false codes code n m e few = omega arith
+next_fits : (b : Bool) (codes : List ℕ) (code n m k : ℕ) → m ≡ n + 1 → length codes ≤ n + k → length (when b (and_last code) codes) ≤ m + k
+next_fits true codes code n m k e few = let l = length_more codes code in omega arith
+next_fits false codes code n m k e few = omega arith
 
 with_spare_more : (o : Option Link) (h : History) (party number : ℕ) → Reached h → number ≡ next_card h → length (cards h) ≤ length (with_spare number party o (cards h))
 with_spare_more (Some link) h party number ok n = let e = one_more_card h ok number (card_of number party link) n in omega arith
 with_spare_more None h party number ok n = omega arith
 
--- A room has at most one code more than there are cards.
+-- A room has at most as many codes as there are cards, and those that its fits begin with.
 pub codes_fit : (h : History) → Reached h → CodesFit h
 codes_fit (start t) ok r = codes_fit_at_start t ok r
 codes_fit (h ▷ event.Install room kind code) ok r =
-    first_fits (room == r) (issued h r) code (length (cards h))
-    (λ t. (others_have_none h ok.0 r (ap (is_room h) (sym (eq_from room r t)) ∙ (may_follow h (event.Install room kind code) ok).1)).0) (codes_fit h ok.0 r)
+    begun_fits (room == r) (issued h r) code (length (cards h)) (fits_at (fits h) r) _ (fit_row room 1 0 0) (fits_installed h room code kind r ok) (codes_fit h ok.0 r)
+codes_fit (h ▷ event.Refitted room fit code) ok r =
+    begun_fits (room == r) (issued h r) code (length (cards h)) (fits_at (fits h) r) _ (fit_row room fit (length (issued h room)) (length (notes h room))) (fits_refitted h room fit code r ok) (codes_fit h ok.0 r)
 codes_fit (h ▷ event.Issue party room number code) ok r =
-    next_fits (room == r) (issued h r) code (length (cards h)) _ (one_more_card h ok.0 number (card_of number party (link_to h room code)) (may_follow h (event.Issue party room number code) ok).5) (codes_fit h ok.0 r)
+    next_fits (room == r) (issued h r) code (length (cards h)) _ (length (fits_at (fits h) r)) (one_more_card h ok.0 number (card_of number party (link_to h room code)) (may_follow h (event.Issue party room number code) ok).5) (codes_fit h ok.0 r)
 codes_fit (h ▷ event.Spare party number) ok r =
     let few = codes_fit h ok.0 r in
     let more = with_spare_more (link_of_party h party) h party number ok.0 (may_follow h (event.Spare party number) ok).2 in

@@ -1,6 +1,6 @@
 -- A room has codes exactly where it is there.
 use Rattle.std.proofs.Common.{ℕ, ◌≡◌, Bool, true, false, List, [], ◌∷◌, ◌++◌, inl, inr, refl, ap, sym, ◌∙◌, ◌==◌, ◌&&◌}
-use Rattle.hotel_core.proofs.Names.{when, and_last, without, before, after, Install, Issue, Entered, Recoded, History, start, ◌▷◌, issued, passed, awaited, turns, rooms, is_room, Reached}
+use Rattle.hotel_core.proofs.Names.{when, and_last, without, before, after, Install, Issue, Refitted, held, Entered, Recoded, History, start, ◌▷◌, issued, passed, awaited, turns, rooms, is_room, Reached}
 use Rattle.hotel_core.proofs.Facts.CodeFacts.{HasCodes, RoomsHaveCodes, OthersHaveNone}
 use Rattle.hotel_core.proofs.{OfTables.Tests.eq_from, OfTables.Tests.or_true, OfTables.Tests.or_false, OfTables.Tests.not_both, OfTables.TableKeys.key_inserted}
 use Rattle.hotel_core.proofs.{Invariants.HomeRooms.comes_to_room, OfTables.Grown.may_follow, OfTables.Grown.not_here, Starts.StartLedger.rooms_have_codes_at_start, Starts.StartLedger.others_have_none_at_start}
@@ -24,6 +24,13 @@ others_have_none (h ▷ Install room kind code) ok r e =
     (no_code_here (room == r) h code r f.0 none.0, none.1, none.2)
 others_have_none (h ▷ Issue party room number code) ok r e =
     issue_elsewhere h room code r (comes_to_room h party room ok.0 (may_follow h (Issue party room number code) ok).0) e (others_have_none h ok.0 r e)
+others_have_none (h ▷ Refitted room fit code) ok r e =
+    let none = others_have_none h ok.0 r e in
+    let b = not_here (room == r) h room r (eq_from room r) (may_follow h (Refitted room fit code) ok).0 e in (
+      no_code_here (room == r) h code r b none.0,
+      ap (λ x. when x (λ codes. codes ++ held h room ∷ awaited h room) (passed h r)) b ∙ none.1,
+      ap (λ x. when x (λ (codes : List ℕ). []) (awaited h r)) b ∙ none.2,
+    )
 others_have_none (h ▷ Entered room fit count number link at) ok r e =
     let none = others_have_none h ok.0 r e in
     let b = not_here (room == r) h room r (eq_from room r) (may_follow h (Entered room fit count number link at) ok).1 e in (
@@ -61,4 +68,5 @@ rooms_have_codes (h ▷ Install room kind code) ok r e =
       | inr t ↦ still_codes (room == r) code (issued h r) (rooms_have_codes h ok.0 r t)
     ]
 rooms_have_codes (h ▷ Issue party room number code) ok r e = still_codes (room == r) code (issued h r) (rooms_have_codes h ok.0 r e)
+rooms_have_codes (h ▷ Refitted room fit code) ok r e = still_codes (room == r) code (issued h r) (rooms_have_codes h ok.0 r e)
 rooms_have_codes (h ▷ _) ok r e = rooms_have_codes h ok.0 r e

@@ -1,6 +1,6 @@
 -- Links of cards are neighbours among a room's codes.
 use Rattle.std.proofs.Common.{ℕ, ◌≡◌, Bool, true, false, Option, Some, None, List, [], ◌∷◌, ◌++◌, inl, inr, refl, ap, sym, ◌∙◌, subst, append_assoc, ◌==◌, nat_cmp}
-use Rattle.hotel_core.proofs.Names.{insert_entry, Card, Link, when, and_last, last_of, at_number, Install, Issue, Spare, History, start, ◌▷◌, issued, current, cards, card_of, with_spare, link_of_party, link_to, newest_link, is_room, Reached}
+use Rattle.hotel_core.proofs.Names.{insert_entry, Card, Link, when, and_last, last_of, at_number, Install, Issue, Refitted, Spare, History, start, ◌▷◌, issued, current, cards, card_of, with_spare, link_of_party, link_to, newest_link, is_room, Reached}
 use Rattle.hotel_core.proofs.Facts.CodeFacts.{IsLinkOf, IsLink, CardsHaveLinks, PartiesHaveLinks, NewestAreLast, HasCodes}
 use Rattle.hotel_core.proofs.{OfTables.Tests.eq_from, OfTables.Tests.eq_self, OfTables.TableKeys.row_inserted, OfTables.CodeLists.last_split, Invariants.HomeRooms.comes_to_room, OfTables.Grown.may_follow}
 use Rattle.hotel_core.proofs.Invariants.RoomCodes.{rooms_have_codes, others_have_none}
@@ -20,7 +20,7 @@ pub ends_with_current : (h : History) (room : ℕ) → HasCodes (issued h room) 
 ends_with_current h room f = let l = last_split f.0 f.1 in (l.0, f.2 ∙ l.1 ∙ ap (λ zs. l.0 ++ last_of zs ∷ []) (sym f.2))
 
 -- the last two codes of a room whose new code was just issued
-new_last_two : (h : History) (room new : ℕ) → HasCodes (issued h room) → (front : List ℕ) × (issued h room ++ new ∷ [] ≡ front ++ current h room ∷ new ∷ [])
+pub new_last_two : (h : History) (room new : ℕ) → HasCodes (issued h room) → (front : List ℕ) × (issued h room ++ new ∷ [] ≡ front ++ current h room ∷ new ∷ [])
 new_last_two h room new f =
     let l = ends_with_current h room f in
     (l.0, ap (λ zs. zs ++ new ∷ []) l.1 ∙ append_assoc l.0 (current h room ∷ []) (new ∷ []))
@@ -44,6 +44,7 @@ parties_have_links (start t) ok party link e = parties_have_links_at_start t ok 
 parties_have_links (h ▷ Install room kind code) ok party link e = still_link h room code link (parties_have_links h ok.0 party link e)
 parties_have_links (h ▷ Issue p room number code) ok party link e =
     given_by (p == party) h room code (link_of_party h party) link (rooms_have_codes h ok.0 room (comes_to_room h p room ok.0 (may_follow h (Issue p room number code) ok).0)) (parties_have_links h ok.0 party link) e
+parties_have_links (h ▷ Refitted room fit code) ok party link e = still_link h room code link (parties_have_links h ok.0 party link e)
 parties_have_links (h ▷ _) ok party link e = parties_have_links h ok.0 party link e
 
 carded : (h : History) (party room number new n : ℕ) (card : Card) → HasCodes (issued h room) → CardsHaveLinks h
@@ -71,6 +72,7 @@ cards_have_links (h ▷ Install room kind code) ok n card e = still_link h room 
 cards_have_links (h ▷ Issue party room number code) ok n card e =
     carded h party room number code n card (rooms_have_codes h ok.0 room (comes_to_room h party room ok.0 (may_follow h (Issue party room number code) ok).0)) (cards_have_links h ok.0) e
 cards_have_links (h ▷ Spare party number) ok n card e = spared (link_of_party h party) h party number n card (parties_have_links h ok.0 party) (cards_have_links h ok.0) e
+cards_have_links (h ▷ Refitted room fit code) ok n card e = still_link h room code card.link (cards_have_links h ok.0 n card e)
 cards_have_links (h ▷ _) ok n card e = cards_have_links h ok.0 n card e
 
 nothing_here : (front : List ℕ) (link : Link) → [] ≡ front ++ link.old_code ∷ link.new_code ∷ [] → ⊥
@@ -90,6 +92,11 @@ installed_by : (b : Bool) (h : History) (room new r : ℕ) (link : Link) → (b 
 installed_by true h room new r link none l = absurd (nothing_here l.0 link (sym (none refl) ∙ l.1))
 installed_by false h room new r link none l = l
 
+refitted_by : (b : Bool) (new : ℕ) (was : Option Link) (codes : List ℕ) (link : Link) → (was ≡ Some link → (front : List ℕ) × (codes ≡ front ++ link.old_code ∷ link.new_code ∷ [])) → when b (λ _. None) was ≡ Some link
+    → (front : List ℕ) × (when b (and_last new) codes ≡ front ++ link.old_code ∷ link.new_code ∷ [])
+refitted_by true new was codes link ih e = absurd (let w : ◌≡◌ {A = Option Link} None (Some link) = e in cc)
+refitted_by false new was codes link ih e = ih e
+
 -- The newest link of a room is its last two codes.
 pub newest_are_last : (h : History) → Reached h → NewestAreLast h
 newest_are_last (start t) ok r link e = newest_are_last_at_start t ok r link e
@@ -99,4 +106,5 @@ newest_are_last (h ▷ Install room kind code) ok r link e =
     (newest_are_last h ok.0 r link e)
 newest_are_last (h ▷ Issue party room number code) ok r link e =
     newest_by (room == r) h room code r link (eq_from room r) (rooms_have_codes h ok.0 room (comes_to_room h party room ok.0 (may_follow h (Issue party room number code) ok).0)) (newest_are_last h ok.0) e
+newest_are_last (h ▷ Refitted room fit code) ok r link e = refitted_by (room == r) code (newest_link h r) (issued h r) link (newest_are_last h ok.0 r link) e
 newest_are_last (h ▷ _) ok r link e = newest_are_last h ok.0 r link e

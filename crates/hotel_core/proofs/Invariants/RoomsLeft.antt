@@ -5,7 +5,7 @@ use Rattle.std.proofs.lemmas.Bool.{leb-false}
 use Rattle.hotel_nights.specs.declared.stay.StayState.TheVariants as state
 use Rattle.hotel_core.proofs.{OfTables.Tests.and_true, OfTables.Tests.not_both, OfTables.TableKeys.no_key, OfTables.Grown.may_follow, Invariants.Numbering.next_party_free}
 use Rattle.hotel_core.proofs.{OfTables.StayCounts.count_inserted, OfTables.StayCounts.count_changed, OfTables.StayCounts.none_passes, Starts.StartRows.rooms_of_start}
-use Rattle.hotel_core.proofs.{Facts.Follow.stays_now, Starts.StartRules.le_from, Starts.StartRules.lt_from, Invariants.KindCounts.rooms_counted}
+use Rattle.hotel_core.proofs.{Facts.Follow.stays_now, OfTables.Tests.le_from, OfTables.Tests.lt_from, Invariants.KindCounts.rooms_counted}
 
 -- on no night are more stays of a kind than rooms
 abbrev pub RoomsSuffice : History → Type 0

@@ -47,8 +47,9 @@ checks_tell h (command.Reissue party) = (needs_tell _ _ refl, (needs_tell _ _ re
 checks_tell h (command.Transfer party room) =
     (needs_tell _ _ refl, (needs_tell _ _ refl, (needs_tell _ _ refl, (needs_tell _ _ refl, (needs_tell _ _ refl, (bars_tell _ _ refl, (bars_tell _ _ refl, (bars_tell _ _ refl, tt))))))))
 checks_tell h (command.CheckOut party) = (needs_tell _ _ refl, (needs_tell _ _ refl, (needs_tell _ _ refl, tt)))
+checks_tell h (command.Refit room) = (needs_tell _ _ refl, (needs_tell _ _ refl, (bars_tell _ _ refl, (bars_tell _ _ refl, tt))))
 checks_tell h command.NextDay = (needs_tell _ _ refl, (needs_tell _ _ refl, tt))
-checks_tell h (command.Reported note) = (needs_tell _ _ refl, (needs_tell _ _ refl, (bars_tell _ _ refl, tt)))
+checks_tell h (command.Reported note) = (needs_tell _ _ refl, (needs_tell _ _ refl, (needs_tell _ _ refl, tt)))
 
 draw_tells : (o : Option ℕ) (f : ℕ → Reply) → ((code : ℕ) → is_failed (f code) ≡ false) → is_failed (said_of o (reply.Refused NoFreshCode) f) ≡ false
 draw_tells None f e = refl
@@ -85,6 +86,7 @@ effect_tells h ahead (command.AddRoom room kind) = draw_tells (draw_from (issued
 effect_tells h ahead (command.CheckIn party room) = draw_tells (draw_from (issued_codes h) ahead).code _ (λ code. refl)
 effect_tells h ahead (command.Reissue party) = draw_tells (draw_from (issued_codes h) ahead).code _ (λ code. refl)
 effect_tells h ahead (command.Transfer party room) = draw_tells (draw_from (issued_codes h) ahead).code _ (λ code. refl)
+effect_tells h ahead (command.Refit room) = draw_tells (draw_from (issued_codes h) ahead).code _ (λ code. refl)
 effect_tells h ahead (command.Reported note) = note_reported h note (standing h note)
 effect_tells h ahead _ = refl
 

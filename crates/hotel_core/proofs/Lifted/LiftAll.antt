@@ -1,7 +1,7 @@
 -- Every command, lifted.
 use Rattle.hotel_core.proofs.{Names.Command, Names.History, Names.Reached, Names.IsCommand, Names.Lifts, Lifted.LiftFacts.CodesFound, Lifted.LiftFound.codes_found}
 use Rattle.hotel_core.specs.declared.command.Command.TheVariants as command
-use Rattle.hotel_core.proofs.Lifted.LiftEasy.{begin_lifts, add_kind_lifts, next_day_lifts, cancel_lifts, check_out_lifts, add_room_lifts, reserve_lifts}
+use Rattle.hotel_core.proofs.Lifted.LiftEasy.{begin_lifts, add_kind_lifts, next_day_lifts, cancel_lifts, check_out_lifts, add_room_lifts, refit_lifts, reserve_lifts}
 use Rattle.hotel_core.proofs.{Lifted.LiftGuests.check_in_lifts, Lifted.LiftGuests.transfer_lifts, Lifted.LiftGuests.spare_lifts, Lifted.LiftGuests.reissue_lifts, Lifted.LiftNotes.note_lifts}
 use Rattle.hotel_core.proofs.Invariants.{InHouse.homes_match, HomeRooms.home_is_room}
 
@@ -16,6 +16,7 @@ answers_lift_where h (command.Spare party) ok found n = spare_lifts h party foun
 answers_lift_where h (command.Reissue party) ok found n = reissue_lifts h party found.current (λ room. home_is_room h party room ok)
 answers_lift_where h (command.Transfer party room) ok found n = transfer_lifts h party room found.current (homes_match h ok).back
 answers_lift_where h (command.CheckOut party) ok found n = check_out_lifts h party
+answers_lift_where h (command.Refit room) ok found n = refit_lifts h room
 answers_lift_where h command.NextDay ok found n = next_day_lifts h
 answers_lift_where h (command.Reported note) ok found n = note_lifts h note ok found n.0.0
 

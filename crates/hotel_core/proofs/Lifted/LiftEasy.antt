@@ -1,10 +1,11 @@
 -- The commands that read no room's row, lifted.
-use Rattle.std.proofs.Common.{ℕ, ◌≡◌, Option, Some, None, List, refl, ap, ◌∙◌, length, option_map, is_some}
-use Rattle.hotel_core.proofs.Names.{draw_from, NoParty, RoomExists, KindFull, NumbersUsedUp, at_number, History, issued_codes, stays, rooms, room_row, rows_of, is_room, needs, bars, room_at, Lifts}
+use Rattle.std.proofs.Common.{ℕ, ◌≡◌, Option, Some, None, List, refl, ap, ◌∙◌, ◌+◌, nat_le, length, option_map, is_some}
+use Rattle.hotel_core.proofs.Names.{draw_from, by_draw, next_fit, NoParty, NoRoom, RoomTaken, FitsUsedUp, RoomExists, KindFull, NumbersUsedUp, at_number, History, issued_codes, stays, rooms, room_row, rows_of, is_room, needs, bars, room_at, Lifts}
 use Rattle.hotel_core.specs.declared.command.Command.TheVariants as command
 use Rattle.hotel_core.specs.declared.reply.Reply.TheVariants as reply
+use Rattle.hotel_core.specs.declared.books.change.Change.TheVariants as change
 use Rattle.hotel_core.specs.Model.Event as event
-use Rattle.hotel_core.proofs.{Lifted.LiftTools.lifts_by, Lifted.LiftTools.alike, Lifted.LiftTools.draw_lifts, OfTables.Numbered.is_there, Invariants.KindCounts.full_night_counted}
+use Rattle.hotel_core.proofs.{Lifted.LiftTools.lifts_by, Lifted.LiftTools.alike, Lifted.LiftTools.needed, Lifted.LiftTools.draw_lifts, Lifted.LiftRooms.fit_said, Lifted.LiftRooms.taken_said, OfTables.Numbered.is_there, Invariants.KindCounts.full_night_counted}
 use Rattle.hotel_core.proofs.{Lifted.LiftRooms.last_number, OfTables.RoomNumbers.room_found}
 
 pub begin_lifts : (h : History) (day : ℕ) → Lifts h (command.Begin day)
@@ -34,6 +35,14 @@ pub add_room_lifts : (h : History) (room : ℕ) (kind : List ℕ) → Lifts h (c
 add_room_lifts h room kind ahead =
     lifts_by h ahead (command.AddRoom room kind) (alike refl λ _. alike refl λ _. alike (ap (λ b. bars b RoomExists) (room_is_there h room)) λ _.
     draw_lifts h (draw_from (issued_codes h) ahead) (λ code. reply.RoomAdded code) (λ code. event.Install room kind code))
+
+pub refit_lifts : (h : History) (room : ℕ) → Lifts h (command.Refit room)
+refit_lifts h room ahead =
+    lifts_by h ahead (command.Refit room) (alike refl λ _. alike (ap (λ b. needs b NoRoom) (room_is_there h room)) λ r.
+    alike (ap (λ b. bars b RoomTaken) (taken_said h room (needed (is_room h room) NoRoom r))) λ _.
+    alike (ap (λ n. bars (nat_le 99 n) FitsUsedUp) (fit_said h room (needed (is_room h room) NoRoom r))) λ _.
+    ap (λ n. by_draw (draw_from (issued_codes h) ahead) (λ code. reply.Refitted code (n + 1)) (λ code. change.Refit room code (n + 1))) (fit_said h room (needed (is_room h room) NoRoom r))
+    ∙ draw_lifts h (draw_from (issued_codes h) ahead) (λ code. reply.Refitted code (next_fit h room)) (λ code. event.Refitted room (next_fit h room) code))
 
 pub reserve_lifts : (h : History) (guest kind : List ℕ) (arrive nights : ℕ) → Lifts h (command.Reserve guest kind arrive nights)
 reserve_lifts h guest kind arrive nights ahead =

@@ -1,6 +1,6 @@
 -- A note of a lock, lifted.
-use Rattle.std.proofs.Common.{ℕ, ◌≡◌, ◌+◌, ◌≤◌, Bool, true, false, cond, Option, Some, None, [], ◌∷◌, refl, ap, sym, ◌∙◌, length, ◌==◌, ◌&&◌, is_some}
-use Rattle.hotel_core.proofs.Names.{Link, Act, Note, turn, NoRoom, NoCard, CardDiffers, LockShut, NotInside, HeldDiffers, NotAwaited, Conflict, Gap, when, said_of, is_one_of, History, ◌▷◌, current, cards, held, awaited, inside, secured, are_none, Copy, Conflicting, Next, After, notes, same_note, rows_of, is_room, is_card, has_link, opens, card_at, note_at, inside_at, needs, accepted, said, refused, told, reported, moment_of, comes, told_on, reported_on, held_on, said_code_at, place_on, lock_place_on, secured_on, secured_after_on, is_awaited_on, has_link_on, Reached, Lifts, as_change}
+use Rattle.std.proofs.Common.{ℕ, ◌≡◌, ◌+◌, ◌≤◌, Bool, true, false, cond, Option, Some, None, [], ◌∷◌, refl, ap, sym, ◌∙◌, length, ◌==◌, ◌&&◌, ◌-◌, nat_le, arith, is_some}
+use Rattle.hotel_core.proofs.Names.{Link, Act, Note, turn, NoRoom, NoCard, CardDiffers, LockShut, NotInside, HeldDiffers, NotAwaited, Conflict, Gap, OldFit, NoFit, when, said_of, is_one_of, History, ◌▷◌, current, cards, held, awaited, inside, secured, are_none, Copy, Conflicting, Next, After, notes, notes_of, notes_before, present_fit, same_note, rows_of, is_room, is_card, has_link, opens, card_at, note_at, inside_at, needs, accepted, said, refused, told, reported, moment_of, comes, told_on, untaken_on, reported_on, held_on, said_code_at, place_on, lock_place_on, secured_on, secured_after_on, is_awaited_on, has_link_on, Reached, Lifts, as_change}
 use Rattle.keycard_rules.specs.declared.note.Act.TheVariants as act
 use Rattle.hotel_core.specs.{declared.books.change.InsideMove.InsideMove, declared.books.change.InsideMove.TheVariants.Same, declared.books.change.InsideMove.TheVariants.Goes}
 use Rattle.hotel_core.specs.declared.books.change.Change.TheVariants as change
@@ -9,9 +9,10 @@ use Rattle.hotel_core.specs.declared.reply.Reply.TheVariants as reply
 use Rattle.hotel_core.specs.Model.Event as event
 use Rattle.hotel_core.specs.Model.Cases.{holds}
 use Rattle.hotel_core.proofs.{Lifted.LiftFacts.CodesFound, OfTables.Tests.eq_self, OfTables.Numbered.is_there, OfTables.RoomNumbers.room_there}
-use Rattle.hotel_core.proofs.OfTables.NotesKept.{standing_on, standing_by_lookup}
+use Rattle.hotel_core.proofs.Lifted.NotesFound.{standing_on, standing_by_lookup}
+use Rattle.hotel_core.proofs.{Invariants.NotesOfFits.notes_for, OfTables.Tests.eq_from}
 use Rattle.hotel_core.proofs.{Lifted.LiftTools.lifts_by, Lifted.LiftTools.alike, Lifted.LiftTools.same_unless, Lifted.LiftTools.after_checks, Lifted.LiftTools.needed, Lifted.LiftEasy.room_is_there}
-use Rattle.hotel_core.proofs.Lifted.LiftRooms.{codes_said, place_said, secured_said}
+use Rattle.hotel_core.proofs.Lifted.LiftRooms.{codes_said, place_said, secured_said, fit_said}
 
 -- the code that the row of a room says its lock holds
 held_said : (h : History) (room : ℕ) → CodesFound h → is_room h room ≡ true → held_on (rows_of h) room ≡ held h room
@@ -108,15 +109,36 @@ next_by : (b : Bool) (h : History) (note : Note) (n : ℕ) → CodesFound h → 
 next_by true h note n found r = told_lifts h note note.act found r
 next_by false h note n found r = refl
 
--- a note, by the one of its count
-reported_lifts : (h : History) (note : Note) (kept : Option Note) → CodesFound h → is_room h note.room ≡ true
-    → reported_on (rows_of h) note kept ≡ as_change h (reported h note (standing_on kept (length (notes h note.room)) note))
-reported_lifts h note (Some kept) found r = kept_by (same_note kept note) h note
-reported_lifts h note None found r =
-    ap (λ o. said_of o (refused NoRoom) (λ row. cond (note.count == row.notes + 1) (told_on (rows_of h) note note.act) (refused (Gap (row.notes + 1))))) (room_there h note.room r).2
-    ∙ next_by (note.count == length (notes h note.room) + 1) h note (length (notes h note.room) + 1) found r
+-- how many notes of the present fit its row says
+taken_said : (h : History) → Reached h → (room fit : ℕ) → (fit == present_fit h room) ≡ true → length (notes h room) - notes_before h room ≡ length (notes_of h room fit)
+taken_said h ok room fit e =
+    let n = (notes_for h ok room).1 in
+    let m : length (notes h room) - notes_before h room ≡ length (notes_of h room (present_fit h room)) = omega arith in
+    m ∙ ap (λ z. length (notes_of h room z)) (sym (eq_from fit (present_fit h room) e))
+
+-- a note that wasn't taken, by whether it is of the present fit
+untaken_by : (b : Bool) (h : History) (note : Note) (taken : ℕ) → Reached h → CodesFound h → is_room h note.room ≡ true → (b ≡ true → taken ≡ length (notes_of h note.room note.fit))
+    → cond b (cond (note.count == taken + 1) (told_on (rows_of h) note note.act) (refused (Gap (taken + 1)))) (refused OldFit) ≡ as_change h (reported h note (standing_on b None (length (notes_of h note.room note.fit)) note))
+untaken_by true h note taken ok found r n =
+    ap (λ z. cond (note.count == z + 1) (told_on (rows_of h) note note.act) (refused (Gap (z + 1)))) (n refl)
+    ∙ next_by (note.count == length (notes_of h note.room note.fit) + 1) h note (length (notes_of h note.room note.fit) + 1) found r
+untaken_by false h note taken ok found r n = refl
+
+kept_of : (b : Bool) (h : History) (note kept : Note) (taken : ℕ) → cond (same_note kept note) (said reply.Seen) (refused Conflict) ≡ as_change h (reported h note (standing_on b (Some kept) taken note))
+kept_of true h note kept taken = kept_by (same_note kept note) h note
+kept_of false h note kept taken = kept_by (same_note kept note) h note
+
+-- a note, by the one of its fit and count
+reported_lifts : (h : History) (note : Note) (kept : Option Note) → Reached h → CodesFound h → is_room h note.room ≡ true
+    → reported_on (rows_of h) note kept ≡ as_change h (reported h note (standing_on (note.fit == present_fit h note.room) kept (length (notes_of h note.room note.fit)) note))
+reported_lifts h note (Some kept) ok found r = kept_of (note.fit == present_fit h note.room) h note kept (length (notes_of h note.room note.fit))
+reported_lifts h note None ok found r =
+    ap (λ o. said_of o (refused NoRoom) (untaken_on (rows_of h) note)) (room_there h note.room r).2
+    ∙ untaken_by (note.fit == present_fit h note.room) h note (length (notes h note.room) - notes_before h note.room) ok found r (taken_said h ok note.room note.fit)
 
 pub note_lifts : (h : History) (note : Note) → Reached h → CodesFound h → 1 ≤ note.count → Lifts h (command.Reported note)
 note_lifts h note ok found n ahead =
-    lifts_by h ahead (command.Reported note) (alike refl λ _. alike (ap (λ b. needs b NoRoom) (room_is_there h note.room)) λ r. alike refl λ _.
-    reported_lifts h note (note_at (rows_of h) note.room note.count) found (needed (is_room h note.room) NoRoom r) ∙ ap (λ s. as_change h (reported h note s)) (sym (standing_by_lookup h note ok n)))
+    lifts_by h ahead (command.Reported note) (alike refl λ _. alike (ap (λ b. needs b NoRoom) (room_is_there h note.room)) λ r.
+    alike (ap (λ m. needs (nat_le note.fit m) NoFit) (fit_said h note.room (needed (is_room h note.room) NoRoom r))) λ _.
+    reported_lifts h note (note_at (rows_of h) note.room note.fit note.count) ok found (needed (is_room h note.room) NoRoom r)
+    ∙ ap (λ s. as_change h (reported h note s)) (sym (standing_by_lookup h note ok (needed (is_room h note.room) NoRoom r) n)))

@@ -1,6 +1,6 @@
 -- What a room's row says, and the next numbers.
 use Rattle.std.proofs.Common.{ℕ, ◌≡◌, ◌+◌, ◌-◌, Bool, true, false, cond, Option, Some, None, List, refl, ap, sym, ◌∙◌, arith, length, option_map, is_none, is_some, nat_lt, nat_le, bytes_eq}
-use Rattle.hotel_core.proofs.Names.{nat_tests, Stay, said_of, is_that, at_number, History, issued, link_to, passed, secured, stays, rooms, room_row, rows_of, is_room, is_of_kind, is_taken, is_home, number_after, codes_of, room_is_on, kinds_agree_on, lock_place_on, secured_on, said_code_at, link_on}
+use Rattle.hotel_core.proofs.Names.{nat_tests, Stay, said_of, is_that, at_number, History, issued, link_to, passed, secured, stays, rooms, room_row, rows_of, is_room, is_of_kind, is_taken, is_home, number_after, codes_of, room_is_on, kinds_agree_on, lock_place_on, secured_on, present_fit, present_fit_on, said_code_at, link_on}
 use Rattle.hotel_core.proofs.{OfTables.RoomNumbers.room_found, OfTables.RoomNumbers.room_there, Lifted.LiftFacts.CurrentFound}
 
 none_after : (b c : Bool) (n : ℕ) → (b ≡ true → c ≡ false) → (b ≡ false → c ≡ true) → is_none (cond b (Some n) None) ≡ c
@@ -18,6 +18,9 @@ codes_said h room e = ap (λ o. said_of o 0 (λ row. row.codes)) (room_there h r
 -- at which place the row of a room says that the lock stands
 pub place_said : (h : History) (room : ℕ) → is_room h room ≡ true → lock_place_on (rows_of h) room ≡ length (passed h room)
 place_said h room e = ap (λ o. said_of o 0 (λ row. row.lock_place)) (room_there h room e).2
+
+pub fit_said : (h : History) (room : ℕ) → is_room h room ≡ true → present_fit_on (rows_of h) room ≡ present_fit h room
+fit_said h room e = ap (λ o. said_of o 0 (λ row. row.fit)) (room_there h room e).2
 
 pub secured_said : (h : History) (room : ℕ) → is_room h room ≡ true → secured_on (rows_of h) room ≡ secured h room
 secured_said h room e = ap (λ o. said_of o false (λ row. row.secured)) (room_there h room e).2

@@ -1,8 +1,7 @@
 -- The rows of a history are whole: what they point to is there.
-use Rattle.std.proofs.Common.{ℕ, ◌≡◌, ◌+◌, ◌-◌, ◌<◌, ◌≤◌, ◌^◌, true, Some, None, List, [], ◌∷◌, ◌++◌, ap, sym, ◌∙◌, subst, arith, length, append_assoc, is_some, IsSome, slice_get}
-use Rattle.hotel_core.proofs.Names.{Note, Card, RoomRow, Rows, at_number, History, issued, all_issued, cards, notes, room_row, rows_of, is_room, room_of, room_at, code_at, note_at, codes_of, AreWhole, Reached, StandsFor}
-use Rattle.std.proofs.lemmas.Option.{slice_get-get_or}
-use Rattle.hotel_core.proofs.{OfTables.RoomNumbers.room_there, OfTables.NotesKept.note_found, Invariants.NumbersLeft.cards_fit, Invariants.NumbersLeft.codes_fit}
+use Rattle.std.proofs.Common.{ℕ, ◌≡◌, ◌+◌, ◌-◌, ◌<◌, ◌≤◌, ◌^◌, true, Some, None, List, [], ◌∷◌, ◌++◌, ap, sym, ◌∙◌, subst, arith, length, append_assoc, is_some, IsSome}
+use Rattle.hotel_core.proofs.Names.{Card, RoomRow, Rows, at_number, History, issued, all_issued, cards, notes, notes_of, notes_before, present_fit, fits, fits_at, room_row, rows_of, is_room, room_of, room_at, code_at, note_at, codes_of, AreWhole, Reached, StandsFor}
+use Rattle.hotel_core.proofs.{OfTables.RoomNumbers.room_there, Lifted.NotesFound.note_found, Invariants.NotesOfFits.notes_for, Invariants.FitsOf.fits_of, OfTables.AtRoom.there_at, Invariants.NumbersLeft.cards_fit, Invariants.NumbersLeft.codes_fit}
 use Rattle.hotel_core.proofs.{Invariants.CodePlaces.codes_have_places, Invariants.CodesFound.held_found, Invariants.CodesFound.current_found, Invariants.CodesFound.newest_found}
 use Rattle.hotel_core.proofs.{Invariants.OpenLocks.there_by_link, Invariants.RoomLinks.cards_have_links, Lifted.LiftEasy.room_is_there, Lifted.LiftRooms.codes_said}
 use Rattle.hotel_core.proofs.Invariants.LiftHomes.{home_has_newest}
@@ -28,18 +27,19 @@ held_there h ok room row e =
 few_codes : (h : History) → Reached h → (room : ℕ) (row : RoomRow) → room_at (rows_of h) room ≡ Some row → row.codes < 2 ^ 32 - 1
 few_codes h ok room row e =
     let n : row.codes ≡ length (issued h room) = ap (λ (r : RoomRow). r.codes) (its_row h room row e).1 in
-    let few : length (issued h room) ≤ length (cards h) + 1 = codes_fit h ok room in
+    let few : length (issued h room) ≤ length (cards h) + length (fits_at (fits h) room) = codes_fit h ok room in
+    let most = (fits_of h ok room (there h room row e)).most in
     let fit : length (cards h) ≤ 9999999 = cards_fit h ok in
     omega arith
 
-some_note : (xs : List Note) (i : ℕ) → i < length xs → IsSome (slice_get xs i)
-some_note [] i l = absurd (omega arith)
-some_note (x ∷ xs) i l = ap is_some (slice_get-get_or (x ∷ xs) i x l)
-
-note_there : (h : History) → Reached h → (room count : ℕ) (row : RoomRow) → room_at (rows_of h) room ≡ Some row → 1 ≤ count → count ≤ row.notes → IsSome (note_at (rows_of h) room count)
+note_there : (h : History) → Reached h → (room count : ℕ) (row : RoomRow) → room_at (rows_of h) room ≡ Some row → 1 ≤ count → count ≤ row.notes - row.before → IsSome (note_at (rows_of h) room row.fit count)
 note_there h ok room count row e one most =
     let n : row.notes ≡ length (notes h room) = ap (λ (r : RoomRow). r.notes) (its_row h room row e).1 in
-    ap is_some (note_found h ok room count one) ∙ some_note (notes h room) (count - 1) (omega arith)
+    let b : row.before ≡ notes_before h room = ap (λ (r : RoomRow). r.before) (its_row h room row e).1 in
+    let f : row.fit ≡ present_fit h room = ap (λ (r : RoomRow). r.fit) (its_row h room row e).1 in
+    let taken = (notes_for h ok room).1 in
+    let x = there_at (count - 1) (notes_of h room (present_fit h room)) (omega arith) in
+    ap (λ z. is_some (note_at (rows_of h) room z count)) f ∙ ap is_some (note_found h ok room (present_fit h room) count (there h room row e) one ∙ x.1)
 
 home_there : (h : History) → Reached h → (party room : ℕ) → room_of h party ≡ Some room → IsSome (room_at (rows_of h) room) × IsSome (code_at (rows_of h) room (codes_of (rows_of h) room - 2))
 home_there h ok party room e =

@@ -1,14 +1,20 @@
--- Notes after all that a room's row counts.
-use Rattle.std.proofs.Common.{ℕ, ◌≡◌, ◌<◌, Some, None, length, ap, subst, arith}
-use Rattle.hotel_core.proofs.Names.{RoomRow, Rows, History, start, notes, rows_of, Reached, IsSound, room_at, note_at}
-use Rattle.hotel_core.proofs.{OfTables.NotesKept.next_not_found, Starts.StartRows.rows_of_start, Lifted.Whole.its_row}
+-- Notes after all that a room's row counts of its present lock.
+use Rattle.std.proofs.Common.{ℕ, ◌≡◌, ◌≤◌, ◌<◌, ◌-◌, Some, None, length, ap, sym, ◌∙◌, subst, arith, is_some, true}
+use Rattle.hotel_core.proofs.Names.{RoomRow, Rows, History, start, notes, notes_of, notes_before, present_fit, rows_of, is_room, Reached, IsSound, room_at, note_at}
+use Rattle.hotel_core.proofs.{OfTables.NotesKept.none_past, Lifted.NotesFound.note_found, Lifted.LiftEasy.room_is_there, Invariants.NotesOfFits.notes_for, Starts.StartRows.rows_of_start, Lifted.Whole.its_row}
 
-none_later : (h : History) → Reached h → (room count : ℕ) (row : RoomRow) → row.notes < count → room_at (rows_of h) room ≡ Some row → note_at (rows_of h) room count ≡ None
-none_later h ok room count row later e =
-    let n : row.notes ≡ length (notes h room) = ap (λ (r : RoomRow). r.notes) (its_row h room row e).1 in
-    next_not_found h ok room count (omega (arith, n, later))
+none_later : (h : History) → Reached h → (room count : ℕ) (row : RoomRow) → 1 ≤ count → row.notes - row.before < count → room_at (rows_of h) room ≡ Some row → note_at (rows_of h) room row.fit count ≡ None
+none_later h ok room count row least later e =
+    let its = (its_row h room row e).1 in
+    let n : row.notes ≡ length (notes h room) = ap (λ (r : RoomRow). r.notes) its in
+    let b : row.before ≡ notes_before h room = ap (λ (r : RoomRow). r.before) its in
+    let f : row.fit ≡ present_fit h room = ap (λ (r : RoomRow). r.fit) its in
+    let there : is_room h room ≡ true = sym (room_is_there h room) ∙ ap is_some e in
+    let taken = (notes_for h ok room).1 in
+    ap (λ z. note_at (rows_of h) room z count) f ∙ note_found h ok room (present_fit h room) count there least
+    ∙ none_past (count - 1) (notes_of h room (present_fit h room)) (omega arith)
 
--- in sound rows no note of the room is there
-pub no_later_note : (rows : Rows) → IsSound rows → (room count : ℕ) (row : RoomRow) → row.notes < count → room_at rows room ≡ Some row → note_at rows room count ≡ None
-no_later_note rows sound room count row later =
-    subst (λ rs. room_at rs room ≡ Some row → note_at rs room count ≡ None) (rows_of_start rows sound) (none_later (start rows) sound room count row later)
+-- in sound rows no note of the room's present lock is there
+pub no_later_note : (rows : Rows) → IsSound rows → (room count : ℕ) (row : RoomRow) → 1 ≤ count → row.notes - row.before < count → room_at rows room ≡ Some row → note_at rows room row.fit count ≡ None
+no_later_note rows sound room count row least later =
+    subst (λ rs. room_at rs room ≡ Some row → note_at rs room row.fit count ≡ None) (rows_of_start rows sound) (none_later (start rows) sound room count row least later)

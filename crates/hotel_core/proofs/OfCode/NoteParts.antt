@@ -1,14 +1,10 @@
 -- Parts of a step that takes a note of a lock.
-use Rattle.std.proofs.Common.{ℕ, ◌≡◌, ◌==◌, ◌<◌, ◌≤◌, Bool, true, false, not, ◌&&◌, Option, Some, None, is_some, List, [], ◌∷◌, ◌+◌, if◌then◌else◌, refl, ap, sym, ◌∙◌, subst, arith, IsSome}
-use Rattle.hotel_core.proofs.Names.{false≢true, nat_tests, Stream, past, Card, Link, Act, Note, Change, Reply, Refused, NotBegun, NoRoom, NoFit, Gap, Store, RoomRow, said_of, Rows, room_at, card_at, code_place, note_at, same_link, has_link_on, told_on, is_later_fit_on, reported_on, outcome_on, AreWhole, GoesIf, made_by, StepsAs, Outcome, said, refused, needs, bars, unless, is_failed, Ghosts as BooksOf}
+use Rattle.std.proofs.Common.{ℕ, ◌≡◌, ◌==◌, ◌<◌, ◌≤◌, Bool, true, false, not, ◌&&◌, Option, Some, None, is_some, List, [], ◌∷◌, ◌+◌, ◌-◌, nat_le, if◌then◌else◌, refl, ap, sym, ◌∙◌, subst, arith, IsSome}
+use Rattle.hotel_core.proofs.Names.{false≢true, nat_tests, Stream, past, Card, Link, Act, Note, Change, Reply, Refused, NotBegun, NoRoom, NoFit, OldFit, Gap, Store, RoomRow, said_of, Rows, room_at, card_at, code_place, note_at, same_link, has_link_on, told_on, untaken_on, is_fit_on, present_fit_on, reported_on, outcome_on, AreWhole, GoesIf, made_by, StepsAs, Outcome, said, refused, needs, unless, is_failed, Ghosts as BooksOf}
 use Rattle.keycard_rules.proofs.Drawing.{past-zero}
 use Rattle.hotel_core.specs.declared.command.Command.TheVariants as command
 use Rattle.hotel_core.proofs.OfCode.Parts.{SoFar, faults}
 use Rattle.keycard_rules.specs.declared.issued.Issued.{Ghosts as IssuedOf}
-
-pub not_true : (b : Bool) → not b ≡ true → b ≡ false
-not_true true e = sym e
-not_true false e = refl
 
 pub not_false : (b : Bool) → not b ≡ false → b ≡ true
 not_false true e = refl
@@ -61,31 +57,54 @@ equal m n e = grind (arith, nat_tests)
 pub not_equal : (m n : ℕ) → n < m → (m == n) ≡ false
 not_equal m n e = grind (arith, nat_tests)
 
--- a note of a room that is there, once a day is set, by whether it is of a later lock
-by_fit : (rows : Rows) (ahead : List ℕ) (note : Note) (day : ℕ) (row : RoomRow) (later : Bool)
-    → rows.day ≡ Some day → room_at rows note.room ≡ Some row → is_later_fit_on rows note.room note.fit ≡ later
-    → outcome_on rows ahead (command.Reported note) ≡ unless (bars later NoFit ∷ []) (reported_on rows note (note_at rows note.room note.count))
+-- a note of a room that is there, once a day is set, by whether the room has had its lock
+by_fit : (rows : Rows) (ahead : List ℕ) (note : Note) (day : ℕ) (row : RoomRow) (had : Bool)
+    → rows.day ≡ Some day → room_at rows note.room ≡ Some row → nat_le note.fit row.fit ≡ had
+    → outcome_on rows ahead (command.Reported note) ≡ unless (needs had NoFit ∷ []) (reported_on rows note (note_at rows note.room note.fit note.count))
 unfolding outcome_on
-by_fit rows ahead note day row later d r l =
-    let comes : Outcome Change = reported_on rows note (note_at rows note.room note.count) in
-    ap (λ x. unless (needs (is_some x) NotBegun ∷ needs (is_some (room_at rows note.room)) NoRoom ∷ bars (is_later_fit_on rows note.room note.fit) NoFit ∷ []) comes) d
-    ∙ ap (λ x. unless (needs (is_some x) NoRoom ∷ bars (is_later_fit_on rows note.room note.fit) NoFit ∷ []) comes) r ∙ ap (λ b. unless (bars b NoFit ∷ []) comes) l
+by_fit rows ahead note day row had d r l =
+    let comes : Outcome Change = reported_on rows note (note_at rows note.room note.fit note.count) in
+    let its : present_fit_on rows note.room ≡ row.fit = ap (λ o. said_of o 0 (λ (x : RoomRow). x.fit)) r in
+    ap (λ x. unless (needs (is_some x) NotBegun ∷ needs (is_some (room_at rows note.room)) NoRoom ∷ needs (is_fit_on rows note.room note.fit) NoFit ∷ []) comes) d
+    ∙ ap (λ x. unless (needs (is_some x) NoRoom ∷ needs (is_fit_on rows note.room note.fit) NoFit ∷ []) comes) r
+    ∙ ap (λ n. unless (needs (nat_le note.fit n) NoFit ∷ []) comes) its ∙ ap (λ b. unless (needs b NoFit ∷ []) comes) l
 
 -- a note of a later lock than that of its room
 pub later_there : (rows : Rows) (ahead : List ℕ) (note : Note) (day : ℕ) (row : RoomRow)
-    → rows.day ≡ Some day → room_at rows note.room ≡ Some row → is_later_fit_on rows note.room note.fit ≡ true → outcome_on rows ahead (command.Reported note) ≡ refused NoFit
-later_there rows ahead note day row d r l = by_fit rows ahead note day row true d r l
+    → rows.day ≡ Some day → room_at rows note.room ≡ Some row → nat_le note.fit row.fit ≡ false → outcome_on rows ahead (command.Reported note) ≡ refused NoFit
+later_there rows ahead note day row d r l = by_fit rows ahead note day row false d r l
 
 -- a note of a lock that its room has had
 pub reported_there : (rows : Rows) (ahead : List ℕ) (note : Note) (day : ℕ) (row : RoomRow) (kept : Option Note)
-    → rows.day ≡ Some day → room_at rows note.room ≡ Some row → is_later_fit_on rows note.room note.fit ≡ false → note_at rows note.room note.count ≡ kept
+    → rows.day ≡ Some day → room_at rows note.room ≡ Some row → nat_le note.fit row.fit ≡ true → note_at rows note.room note.fit note.count ≡ kept
     → outcome_on rows ahead (command.Reported note) ≡ reported_on rows note kept
-reported_there rows ahead note day row kept d r l n = by_fit rows ahead note day row false d r l ∙ ap (λ x. reported_on rows note x) n
+reported_there rows ahead note day row kept d r l n = by_fit rows ahead note day row true d r l ∙ ap (λ x. reported_on rows note x) n
+
+-- a note that wasn't taken, by its room's row
+untaken_of : (rows : Rows) (note : Note) (row : RoomRow) → room_at rows note.room ≡ Some row → reported_on rows note None ≡ untaken_on rows note row
+untaken_of rows note row r = ap (λ o. said_of o (refused NoRoom) (untaken_on rows note)) r
+
+-- a note of an earlier lock
+pub old_told : (rows : Rows) (note : Note) (row : RoomRow) → room_at rows note.room ≡ Some row → (note.fit == row.fit) ≡ false → reported_on rows note None ≡ refused OldFit
+old_told rows note row r f =
+    untaken_of rows note row r
+    ∙ ap (λ b. if b then (if note.count == row.notes - row.before + 1 then told_on rows note note.act else refused (Gap (row.notes - row.before + 1))) else refused OldFit) f
+
+-- a later note than the next one of its lock
+pub gap_told : (rows : Rows) (note : Note) (row : RoomRow) (taken : ℕ) → room_at rows note.room ≡ Some row → (note.fit == row.fit) ≡ true → taken ≡ row.notes - row.before → taken + 1 < note.count
+    → reported_on rows note None ≡ refused (Gap (taken + 1))
+gap_told rows note row taken r f n l =
+    untaken_of rows note row r
+    ∙ ap (λ b. if b then (if note.count == row.notes - row.before + 1 then told_on rows note note.act else refused (Gap (row.notes - row.before + 1))) else refused OldFit) f
+    ∙ ap (λ z. if note.count == z + 1 then told_on rows note note.act else refused (Gap (z + 1))) (sym n)
+    ∙ ap (λ b. if b then told_on rows note note.act else refused (Gap (taken + 1))) (not_equal note.count (taken + 1) l)
 
 -- the next note of a room, by its count
-pub next_told : (rows : Rows) (note : Note) (row : RoomRow) (what : Act) (count : ℕ) → room_at rows note.room ≡ Some row → count ≡ note.count → row.notes < count → count ≤ row.notes + 1 → what ≡ note.act
-    → reported_on rows note None ≡ told_on rows note what
-next_told rows note row what count r same past next a =
-    let n : note.count ≡ row.notes + 1 = omega arith in
-    ap (λ o. said_of o (refused NoRoom) (λ (x : RoomRow). if note.count == x.notes + 1 then told_on rows note note.act else refused (Gap (x.notes + 1)))) r
-    ∙ ap (λ b. if b then told_on rows note note.act else refused (Gap (row.notes + 1))) (equal note.count (row.notes + 1) n) ∙ ap (λ x. told_on rows note x) (sym a)
+pub next_told : (rows : Rows) (note : Note) (row : RoomRow) (what : Act) (count taken : ℕ) → room_at rows note.room ≡ Some row → (note.fit == row.fit) ≡ true → count ≡ note.count → taken ≡ row.notes - row.before
+    → taken < count → count ≤ taken + 1 → what ≡ note.act → reported_on rows note None ≡ told_on rows note what
+next_told rows note row what count taken r f same n past next a =
+    let m : note.count ≡ taken + 1 = omega arith in
+    untaken_of rows note row r
+    ∙ ap (λ b. if b then (if note.count == row.notes - row.before + 1 then told_on rows note note.act else refused (Gap (row.notes - row.before + 1))) else refused OldFit) f
+    ∙ ap (λ z. if note.count == z + 1 then told_on rows note note.act else refused (Gap (z + 1))) (sym n)
+    ∙ ap (λ b. if b then told_on rows note note.act else refused (Gap (taken + 1))) (equal note.count (taken + 1) m) ∙ ap (λ x. told_on rows note x) (sym a)

@@ -1,6 +1,6 @@
 -- What comes of a note on rows is Taken, Seen or a refusal.
-use Rattle.std.proofs.Common.{◌≡◌, ℕ, Bool, true, false, List, [], ◌∷◌, Option, Some, None, sym, refl, subst, if◌then◌else◌, is_some, ◌==◌, ◌+◌}
-use Rattle.hotel_core.proofs.Names.{turn, Stream, Note, Act, Change, Reply, Refusal, RoomRow, Rows, said_of, is_one_of, comes, card_at, inside_at, note_at, room_at, same_note, outcome_on, reported_on, told_on, checks_on, has_link_on, held_on, place_on, lock_place_on, secured_on, secured_after_on, is_awaited_on, Outcome, accepted, needs, refused, said, unless, false≢true, is_failed}
+use Rattle.std.proofs.Common.{◌≡◌, ℕ, Bool, true, false, List, [], ◌∷◌, Option, Some, None, sym, refl, subst, if◌then◌else◌, is_some, ◌==◌, ◌+◌, ◌-◌}
+use Rattle.hotel_core.proofs.Names.{turn, Stream, Note, Act, Change, Reply, Refusal, RoomRow, Rows, said_of, is_one_of, comes, card_at, inside_at, note_at, room_at, same_note, outcome_on, reported_on, untaken_on, told_on, checks_on, has_link_on, held_on, place_on, lock_place_on, secured_on, secured_after_on, is_awaited_on, Outcome, accepted, needs, refused, said, unless, false≢true, is_failed}
 use Rattle.keycard_rules.specs.declared.note.Act.TheVariants as act
 use Rattle.hotel_core.specs.declared.books.change.Change.TheVariants as change
 use Rattle.hotel_core.specs.{declared.books.change.InsideMove.TheVariants.Same, declared.books.change.InsideMove.TheVariants.Goes, Model.NoteReplies.IsNoteReply}
@@ -37,13 +37,14 @@ told_reply rows note (act.Recoded from to) =
 reported_reply : (rows : Rows) (note : Note) (kept : Option Note) → IsNoteReply (reported_on rows note kept).reply
 reported_reply rows note (Some kept) = if_reply (same_note kept note) (said reply.Seen) (refused refusal.Conflict) tt tt
 reported_reply rows note None =
-    said_reply (room_at rows note.room) (refused refusal.NoRoom) (λ row. if note.count == row.notes + 1 then told_on rows note note.act else refused (refusal.Gap (row.notes + 1))) tt
-    (λ row. if_reply (note.count == row.notes + 1) (told_on rows note note.act) (refused (refusal.Gap (row.notes + 1))) (told_reply rows note note.act) tt)
+    said_reply (room_at rows note.room) (refused refusal.NoRoom) (untaken_on rows note) tt
+    (λ row. if_reply (note.fit == row.fit) (if note.count == row.notes - row.before + 1 then told_on rows note note.act else refused (refusal.Gap (row.notes - row.before + 1))) (refused refusal.OldFit)
+    (if_reply (note.count == row.notes - row.before + 1) (told_on rows note note.act) (refused (refusal.Gap (row.notes - row.before + 1))) (told_reply rows note note.act) tt) tt)
 
 -- what comes of a note on rows is such a reply
 pub outcome_reply : (rows : Rows) (ahead : List ℕ) (note : Note) → IsNoteReply (outcome_on rows ahead (command.Reported note)).reply
 unfolding outcome_on
-outcome_reply rows ahead note = unless_reply (checks_on rows (command.Reported note)) (reported_on rows note (note_at rows note.room note.count)) (reported_reply rows note (note_at rows note.room note.count))
+outcome_reply rows ahead note = unless_reply (checks_on rows (command.Reported note)) (reported_on rows note (note_at rows note.room note.fit note.count)) (reported_reply rows note (note_at rows note.room note.fit note.count))
 
 failed_is : (given : Reply) → is_failed given ≡ true → IsNoteReply given
 failed_is (reply.Refused why) e = tt

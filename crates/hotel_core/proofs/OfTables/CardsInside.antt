@@ -24,6 +24,14 @@ numbers_added (x ∷ xs) pair h n = added_by (pair_cmp pair x) h (numbers_added 
     added_by Equal h ih = h
     added_by Greater h ih = (h.0, ih)
 
+pub numbers_filtered : (t : ℕ × ℕ → Bool) (pairs : List (ℕ × ℕ)) → HaveCardNumbers pairs → HaveCardNumbers (filter t pairs)
+numbers_filtered t [] h = tt
+numbers_filtered t (x ∷ xs) h = filtered_by (t x) h.0 (numbers_filtered t xs h.1)
+  where
+    filtered_by : (b : Bool) → IsNumberUpTo 9999999 x.1 → HaveCardNumbers (filter t xs) → HaveCardNumbers (cond b (x ∷ filter t xs) (filter t xs))
+    filtered_by true i ih = (i, ih)
+    filtered_by false i ih = ih
+
 -- ---- the part of a room
 
 least_first : (o : Ordering) (n : ℕ) → MatchOrdering o (1 < n) (1 ≡ n) (n < 1) → 1 ≤ n → is_le o ≡ true
@@ -36,7 +44,7 @@ most_last Less n m h = absurd (omega (arith, m, h))
 most_last Equal n m h = refl
 most_last Greater n m h = refl
 
-part_by : (o low high : Ordering) → is_le low ≡ true → not (is_lt high) ≡ true → (is_le (ordering_then o low) && not (is_lt (ordering_then o high))) ≡ is_eq o
+pub part_by : (o low high : Ordering) → is_le low ≡ true → not (is_lt high) ≡ true → (is_le (ordering_then o low) && not (is_lt (ordering_then o high))) ≡ is_eq o
 part_by Less low high l h = refl
 part_by Equal low high l h = ap (λ b. b && not (is_lt high)) l ∙ h
 part_by Greater low high l h = refl

@@ -1,6 +1,6 @@
 -- What a search for a place among the codes finds.
 use Rattle.std.proofs.Common.{ℕ, ◌≡◌, ◌+◌, ◌≤◌, Bool, true, false, cond, Option, Some, None, List, [], ◌∷◌, ◌++◌, length, inl, inr, refl, ap, sym, ◌∙◌, arith, ◌==◌, ◌&&◌, nat_cmp, is_eq, Ordering, Less, Equal, Greater}
-use Rattle.hotel_core.proofs.Names.{match_ordering, is_at, insert_entry, CodeRow, when, and_last, at_number, first_code_at, Install, Issue, History, start, ◌▷◌, issued, all_issued, Reached}
+use Rattle.hotel_core.proofs.Names.{match_ordering, is_at, insert_entry, CodeRow, when, and_last, at_number, first_code_at, Install, Issue, Refitted, History, start, ◌▷◌, issued, all_issued, Reached}
 use Rattle.hotel_core.proofs.{Facts.CodeFacts.CodesAreFound, OfTables.Tests.eq_from, OfTables.Tests.eq_self, OfTables.Tests.and_true, OfTables.Tests.not_both}
 use Rattle.hotel_core.proofs.{OfTables.TableKeys.swap_tests, OfTables.CodeLists.snoc_split, OfTables.CodeLists.length_more}
 use Rattle.hotel_core.proofs.{Invariants.CodePlaces.next_place, Invariants.CodePlaces.fresh_has_no_row, OfTables.Grown.may_follow}
@@ -74,10 +74,14 @@ fresh_installed h room kind new ok = fresh_has_no_row h new (may_follow h (Insta
 fresh_given : (h : History) (party room number new : ℕ) → Reached (h ▷ Issue party room number new) → at_number (all_issued h) new ≡ None
 fresh_given h party room number new ok = fresh_has_no_row h new (may_follow h (Issue party room number new) ok).6
 
+fresh_refitted : (h : History) (room fit new : ℕ) → Reached (h ▷ Refitted room fit new) → at_number (all_issued h) new ≡ None
+fresh_refitted h room fit new ok = fresh_has_no_row h new (may_follow h (Refitted room fit new) ok).3
+
 pub all_free : (h : History) → Reached h → AllFree h
 all_free (start t) ok r p l = free_at_start t ok r p l
 all_free (h ▷ Install room kind new) ok r p l = free_more h room new (fresh_installed h room kind new ok) (all_free h ok.0) r p l
 all_free (h ▷ Issue party room n new) ok r p l = free_more h room new (fresh_given h party room n new ok) (all_free h ok.0) r p l
+all_free (h ▷ Refitted room fit new) ok r p l = free_more h room new (fresh_refitted h room fit new ok) (all_free h ok.0) r p l
 all_free (h ▷ _) ok r p l = all_free h ok.0 r p l
 
 stays_found : (t : Bool) (k c : ℕ) (was : Option ℕ) → (t ≡ true → was ≡ None) → was ≡ Some c → cond t (Some k) was ≡ Some c
@@ -108,4 +112,6 @@ codes_are_found (h ▷ Install room kind new) ok r before code later e =
     found_more (room == r) h room new r (eq_from room r) (fresh_installed h room kind new ok) (all_free h ok.0) (codes_are_found h ok.0) before code later e
 codes_are_found (h ▷ Issue party room n new) ok r before code later e =
     found_more (room == r) h room new r (eq_from room r) (fresh_given h party room n new ok) (all_free h ok.0) (codes_are_found h ok.0) before code later e
+codes_are_found (h ▷ Refitted room fit new) ok r before code later e =
+    found_more (room == r) h room new r (eq_from room r) (fresh_refitted h room fit new ok) (all_free h ok.0) (codes_are_found h ok.0) before code later e
 codes_are_found (h ▷ _) ok r before code later e = codes_are_found h ok.0 r before code later e

@@ -1,6 +1,6 @@
 -- The table of codes has each room's codes at the places 0 and on, in the order of issue.
 use Rattle.std.proofs.Common.{ℕ, ◌≡◌, ◌<◌, ◌+◌, Bool, true, false, cond, Some, None, List, [], ◌∷◌, ◌++◌, length, refl, ap, sym, ◌∙◌, subst, arith, length-append, ◌==◌, ◌&&◌, not, nat_cmp, Ordering, Less, Equal, Greater, count_by}
-use Rattle.hotel_core.proofs.Names.{match_ordering, is_at, insert_entry, list_all, keys_of, values_of, nat_tests, nat_cmp_total, exact_unsigned, CodeRow, when, and_last, at_number, codes_by_place, Install, Issue, History, start, ◌▷◌, issued, all_issued, Reached, count_up}
+use Rattle.hotel_core.proofs.Names.{match_ordering, is_at, insert_entry, list_all, keys_of, values_of, nat_tests, nat_cmp_total, exact_unsigned, CodeRow, when, and_last, at_number, codes_by_place, Install, Issue, Refitted, History, start, ◌▷◌, issued, all_issued, Reached, count_up}
 use Rattle.hotel_core.proofs.{OfTables.Tests.eq_from, OfTables.Tests.eq_self, OfTables.Tests.and_true, OfTables.TableKeys.is_at_self, OfTables.Grown.may_follow}
 use Rattle.hotel_core.proofs.{OfTables.Counting.comes_last, OfTables.Counting.counts_on, OfTables.CodeLists.length_more}
 use Rattle.hotel_core.proofs.Invariants.CodePlaces.{places_have_codes, fresh_has_no_row, next_place}
@@ -113,6 +113,7 @@ pub codes_are_placed : (h : History) → Reached h → (r : ℕ) → ArePlaced (
 codes_are_placed (start t) ok r = (places_count_up t ok r, refl)
 codes_are_placed (h ▷ Install room kind code) ok r = issue_placed h room code r ok.0 (fresh_has_no_row h code (may_follow h (Install room kind code) ok).2) (codes_are_placed h ok.0 r)
 codes_are_placed (h ▷ Issue party room number code) ok r = issue_placed h room code r ok.0 (fresh_has_no_row h code (may_follow h (Issue party room number code) ok).6) (codes_are_placed h ok.0 r)
+codes_are_placed (h ▷ Refitted room fit code) ok r = issue_placed h room code r ok.0 (fresh_has_no_row h code (may_follow h (Refitted room fit code) ok).3) (codes_are_placed h ok.0 r)
 codes_are_placed (h ▷ _) ok r = codes_are_placed h ok.0 r
 
 one_listed : (b : Bool) (codes : List ℕ) (code n : ℕ) → n ≡ length codes → cond b 1 0 + n ≡ length (when b (and_last code) codes)
@@ -129,4 +130,5 @@ pub codes_are_listed : (h : History) → Reached h → (r : ℕ) → count_by (�
 codes_are_listed (start t) ok r = listed_at_start t ok r
 codes_are_listed (h ▷ Install room kind code) ok r = issue_listed h room code r (fresh_has_no_row h code (may_follow h (Install room kind code) ok).2) (codes_are_listed h ok.0 r)
 codes_are_listed (h ▷ Issue party room number code) ok r = issue_listed h room code r (fresh_has_no_row h code (may_follow h (Issue party room number code) ok).6) (codes_are_listed h ok.0 r)
+codes_are_listed (h ▷ Refitted room fit code) ok r = issue_listed h room code r (fresh_has_no_row h code (may_follow h (Refitted room fit code) ok).3) (codes_are_listed h ok.0 r)
 codes_are_listed (h ▷ _) ok r = codes_are_listed h ok.0 r

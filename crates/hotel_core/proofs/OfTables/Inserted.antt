@@ -1,6 +1,7 @@
 -- What a look-up finds in a table, in the order of its keys, after a row was added.
 use Rattle.std.proofs.Common.{◌≡◌, Bool, true, false, cond, Option, Some, List, [], ◌∷◌, refl, ap, sym, ◌∙◌, is_eq, Ordering, Less, Equal, Greater}
 use Rattle.hotel_core.proofs.Names.{match_ordering, IsTotalOrder, is_at, insert_entry, lookup, alike_right}
+use Rattle.hotel_core.proofs.OfTables.Tests.{equal_tested}
 
 swap_tests : {X : Type 0} (a b : Bool) (x v rest : Option X) → (a ≡ true → b ≡ true → ⊥) → cond a x (cond b v rest) ≡ cond b v (cond a x rest)
 swap_tests true true x v rest h = absurd (h refl refl)
@@ -13,11 +14,6 @@ same_tests true true x v rest e = refl
 same_tests true false x v rest e = cc
 same_tests false true x v rest e = cc
 same_tests false false x v rest e = refl
-
-equal_tested : (o : Ordering) → is_eq o ≡ true → o ≡ Equal
-equal_tested Less h = cc
-equal_tested Equal h = refl
-equal_tested Greater h = cc
 
 not_both_keys : {K : Type 0} {cmp : K → K → Ordering} (total : IsTotalOrder cmp) (q k x : K) → cmp k x ≡ Greater → is_eq (cmp q x) ≡ true → is_eq (cmp q k) ≡ true → ⊥
 not_both_keys {K} {cmp} total q k x g s t =

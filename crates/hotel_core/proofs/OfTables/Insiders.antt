@@ -1,12 +1,13 @@
 -- The cards inside rooms: they stand in order, and being inside is standing in the list.
 use Rattle.std.proofs.Common.{ℕ, ◌≡◌, Bool, true, false, List, [], ◌∷◌, refl, ap, sym, ◌∙◌, ◌==◌, ◌&&◌, ◌||◌}
-use Rattle.hotel_core.proofs.Names.{insert_key, when, pair_cmp, is_one_of, Entered, Left, History, start, ◌▷◌, insiders, inside, those_in, Reached, moved, comes}
+use Rattle.hotel_core.proofs.Names.{insert_key, when, pair_cmp, is_one_of, Refitted, Entered, Left, History, start, ◌▷◌, insiders, inside, those_in, Reached, moved, comes}
 use Rattle.hotel_core.proofs.{OfTables.Pairs.pair_cmp_total, OfTables.Pairs.pair_is, Starts.StartCodes.orders}
-use Rattle.hotel_core.proofs.OfTables.KeysInOrder.{InOrder, has_key, in_order_inserted, in_order_removed, present_stays}
+use Rattle.hotel_core.proofs.OfTables.KeysInOrder.{InOrder, has_key, in_order_inserted, in_order_removed, in_order_filtered, present_stays}
 
 -- The cards inside rooms stand in order, none twice.
 pub insiders_in_order : (h : History) → Reached h → InOrder pair_cmp (insiders h)
 insiders_in_order (start t) ok = (orders t ok).inside
+insiders_in_order (h ▷ Refitted room fit code) ok = in_order_filtered pair_cmp _ (insiders h) (insiders_in_order h ok.0)
 insiders_in_order (h ▷ Entered room fit count number link at) ok = in_order_inserted pair_cmp pair_cmp_total (room, number) (insiders h) (insiders_in_order h ok.0)
 insiders_in_order (h ▷ Left room fit count number link at) ok = in_order_removed pair_cmp (room, number) (insiders h) (insiders_in_order h ok.0)
 insiders_in_order (h ▷ _) ok = insiders_in_order h ok.0

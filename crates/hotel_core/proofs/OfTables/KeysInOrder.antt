@@ -1,5 +1,5 @@
 -- Keys in order: what stays in order, and that a key that is there isn't added again.
-use Rattle.std.proofs.Common.{◌≡◌, Bool, true, false, cond, List, [], ◌∷◌, refl, ap, sym, ◌∙◌, ◌&&◌, ◌||◌, is_eq, is_lt, Ordering, Less, Equal, Greater}
+use Rattle.std.proofs.Common.{◌≡◌, Bool, true, false, cond, List, [], ◌∷◌, filter, refl, ap, sym, ◌∙◌, ◌&&◌, ◌||◌, is_eq, is_lt, Ordering, Less, Equal, Greater}
 use Rattle.hotel_core.proofs.Names.{match_ordering, ordering_reverse, list_any, IsTotalOrder, insert_entry, is_at, remove_key, insert_key, keys_of, are_in_order}
 
 -- each of these comes after the key
@@ -61,6 +61,23 @@ removed_by cmp false k x xs s ih = (after_removed cmp x k xs s.0, ih)
 pub in_order_removed : {K : Type 0} (cmp : K → K → Ordering) (k : K) (xs : List K) → InOrder cmp xs → InOrder cmp (remove_key (is_at (cmp k)) xs)
 in_order_removed cmp k [] s = tt
 in_order_removed cmp k (x ∷ xs) s = removed_by cmp (is_at (cmp k) x) k x xs s (in_order_removed cmp k xs s.1)
+
+after_filtered : {K : Type 0} (cmp : K → K → Ordering) (t : K → Bool) (x : K) (ys : List K) → AllAfter cmp x ys → AllAfter cmp x (filter t ys)
+after_filtered cmp t x [] a = tt
+after_filtered {K} cmp t x (y ∷ ys) a = by (t y) (after_filtered cmp t x ys a.1)
+  where
+    by : (b : Bool) → AllAfter cmp x (filter t ys) → AllAfter cmp x (cond b (y ∷ filter t ys) (filter t ys))
+    by true ih = (a.0, ih)
+    by false ih = ih
+
+-- keys in order, some of them
+pub in_order_filtered : {K : Type 0} (cmp : K → K → Ordering) (t : K → Bool) (xs : List K) → InOrder cmp xs → InOrder cmp (filter t xs)
+in_order_filtered cmp t [] s = tt
+in_order_filtered {K} cmp t (x ∷ xs) s = by (t x) (in_order_filtered cmp t xs s.1)
+  where
+    by : (b : Bool) → InOrder cmp (filter t xs) → InOrder cmp (cond b (x ∷ filter t xs) (filter t xs))
+    by true ih = (after_filtered cmp t x xs s.0, ih)
+    by false ih = ih
 
 not_after : {K : Type 0} (cmp : K → K → Ordering) (k : K) (xs : List K) → AllAfter cmp k xs → has_key cmp k xs ≡ false
 not_after cmp k [] a = refl

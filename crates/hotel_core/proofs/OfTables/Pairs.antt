@@ -1,7 +1,7 @@
 -- Pairs of numbers as keys.
-use Rattle.std.proofs.Common.{ℕ, ◌≡◌, refl, ap, ◌∙◌, ◌==◌, ◌&&◌, is_eq, nat_cmp, Ordering, Less, Equal, Greater}
+use Rattle.std.proofs.Common.{ℕ, ◌≡◌, true, refl, ap, ◌∙◌, ◌==◌, ◌&&◌, is_eq, nat_cmp, Ordering, Less, Equal, Greater}
 use Rattle.hotel_core.proofs.Names.{ordering_then, IsTotalOrder, nat_cmp_total, on_total, then_total, exact_unsigned, pair_cmp}
-use Rattle.hotel_core.proofs.OfTables.TableKeys.{at_is}
+use Rattle.hotel_core.proofs.{OfTables.Tests.equal_tested, OfTables.TableKeys.at_is}
 
 pub pair_cmp_total : IsTotalOrder pair_cmp
 pair_cmp_total = then_total (on_total (λ p. p.0) nat_cmp_total) (on_total (λ p. p.1) nat_cmp_total)
@@ -25,3 +25,6 @@ pub pair_exact : (a b : ℕ × ℕ) → pair_cmp a b ≡ Equal → a ≡ b
 pair_exact a b e =
     let p = equal_parts (nat_cmp a.0 b.0) (nat_cmp a.1 b.1) e in
     ap (λ z. (z, a.1)) (exact_unsigned a.0 b.0 p.0) ∙ ap (λ z. (b.0, z)) (exact_unsigned a.1 b.1 p.1)
+
+pub same_pair : (a b : ℕ × ℕ) → is_eq (pair_cmp a b) ≡ true → a ≡ b
+same_pair a b t = pair_exact a b (equal_tested (pair_cmp a b) t)

@@ -1,7 +1,7 @@
--- Tests that all rows of a table pass.
-use Rattle.std.proofs.Common.{ℕ, ◌≡◌, Bool, true, false, cond, Some, List, [], ◌∷◌, refl, ap, sym, ◌∙◌, ◌==◌, ◌&&◌, ◌||◌, not, map, nat_cmp, is_eq, Ordering, Less, Equal, Greater}
-use Rattle.hotel_core.proofs.Names.{match_ordering, ordering_reverse, IsTotalOrder, list_all, is_at, insert_entry, insert_key, lookup, keys_of, exact_unsigned, Stay, StayState, at_number, in_state, now_is}
-use Rattle.hotel_core.proofs.{OfTables.Tests.and_true, OfTables.TableKeys.same_number, OfTables.KeysInOrder.AllAfter, OfTables.KeysInOrder.InOrder, OfTables.KeysInOrder.has_key}
+-- Tests that all rows of a table pass, or any.
+use Rattle.std.proofs.Common.{ℕ, ◌≡◌, Bool, true, false, cond, Some, List, [], ◌∷◌, ◌++◌, refl, ap, sym, ◌∙◌, ◌==◌, ◌&&◌, ◌||◌, not, map, nat_cmp, is_eq, Ordering, Less, Equal, Greater}
+use Rattle.hotel_core.proofs.Names.{match_ordering, ordering_reverse, IsTotalOrder, list_all, list_any, when, and_last, is_at, insert_entry, insert_key, lookup, keys_of, exact_unsigned, Stay, StayState, at_number, in_state, now_is}
+use Rattle.hotel_core.proofs.{OfTables.Tests.and_true, OfTables.Tests.or_false, OfTables.Tests.equal_tested, OfTables.TableKeys.same_number, OfTables.KeysInOrder.AllAfter, OfTables.KeysInOrder.InOrder, OfTables.KeysInOrder.has_key}
 
 pub both : (a b : Bool) → a ≡ true → b ≡ true → (a && b) ≡ true
 both a b s t = ap (λ z. z && b) s ∙ t
@@ -22,6 +22,31 @@ where_so false rule f = refl
 pub all_weaker : {X : Type 0} (t u : X → Bool) → ((x : X) → t x ≡ true → u x ≡ true) → (xs : List X) → list_all t xs ≡ true → list_all u xs ≡ true
 all_weaker t u w [] h = refl
 all_weaker t u w (x ∷ xs) h = let p = and_true (t x) (list_all t xs) h in both (u x) _ (w x p.0) (all_weaker t u w xs p.1)
+
+-- where any of some passes, so does any of more
+pub any_before : {X : Type 0} (t : X → Bool) (xs ys : List X) → list_any t xs ≡ true → list_any t (xs ++ ys) ≡ true
+any_before t [] ys h = cc
+any_before {X} t (x ∷ xs) ys h = by (t x) h (any_before t xs ys)
+  where
+    by : (b : Bool) → (b || list_any t xs) ≡ true → (list_any t xs ≡ true → list_any t (xs ++ ys) ≡ true) → (b || list_any t (xs ++ ys)) ≡ true
+    by true g ih = refl
+    by false g ih = ih g
+
+pub any_last : {X : Type 0} (t : X → Bool) (xs : List X) (x : X) → t x ≡ true → list_any t (xs ++ x ∷ []) ≡ true
+any_last t [] x h = or_first (t x) false h
+any_last t (y ∷ xs) x h = or_later (t y) _ (any_last t xs x h)
+
+pub any_more : {X : Type 0} (b : Bool) (t : X → Bool) (xs : List X) (x : X) → list_any t xs ≡ true → list_any t (when b (and_last x) xs) ≡ true
+any_more true t xs x h = any_before t xs (x ∷ []) h
+any_more false t xs x h = h
+
+-- none of some passes, nor one more
+pub none_more : {X : Type 0} (b : Bool) (t : X → Bool) (xs : List X) (x : X) → list_any t xs ≡ false → (b ≡ true → t x ≡ false) → list_any t (when b (and_last x) xs) ≡ false
+none_more true t [] x none one = ap (λ z. z || false) (one refl)
+none_more true t (y ∷ xs) x none one =
+    let p = or_false (t y) (list_any t xs) none in
+    ap (λ z. z || list_any t (xs ++ x ∷ [])) p.0 ∙ none_more true t xs x p.1 one
+none_more false t xs x none one = none
 
 -- all rows of a table that was computed
 pub all_mapped : {X Y : Type 0} (t : Y → Bool) (f : X → Y) (xs : List X) → list_all t (map f xs) ≡ list_all (λ x. t (f x)) xs
@@ -75,11 +100,6 @@ reverse_same Greater e = cc
 is_self : {K : Type 0} (cmp : K → K → Ordering) (total : IsTotalOrder cmp) (k : K) → is_eq (cmp k k) ≡ true
 is_self cmp total k = ap is_eq (reverse_same (cmp k k) (total.antisymm k k))
 
-equal_tested : (o : Ordering) → is_eq o ≡ true → o ≡ Equal
-equal_tested Less h = cc
-equal_tested Equal h = refl
-equal_tested Greater h = cc
-
 -- a key before all of a table is none of it
 pub after_not_same : {K X : Type 0} (cmp : K → K → Ordering) (total : IsTotalOrder cmp) (k q : K) (v : X) (es : List (K × X)) → AllAfter cmp k (keys_of es) → lookup (is_at (cmp q)) es ≡ Some v → is_eq (cmp q k) ≡ false
 after_not_same cmp total k q v [] a h = cc
@@ -106,10 +126,14 @@ all_there cmp total t [] f = refl
 all_there cmp total t (x ∷ xs) f = both (t x) _ (f x (or_first _ _ (is_self cmp total x))) (all_there cmp total t xs (λ k h. f k (or_later (is_eq (cmp k x)) _ h)))
 
 -- a row that a look-up finds passes what all rows pass
-pub found_passes : {X : Type 0} (t : ℕ × X → Bool) (es : List (ℕ × X)) (q : ℕ) (v : X) → list_all t es ≡ true → at_number es q ≡ Some v → t (q, v) ≡ true
-found_passes t [] q v all h = cc
-found_passes {X} t (e ∷ es) q v all h = let p = and_true (t e) (list_all t es) all in by (is_at (nat_cmp q) e.0) refl h p.0 (found_passes t es q v p.1)
+pub found_passes_by : {K X : Type 0} (cmp : K → K → Ordering) (same : (a b : K) → is_eq (cmp a b) ≡ true → a ≡ b) (t : K × X → Bool) (es : List (K × X)) (q : K) (v : X) → list_all t es ≡ true → lookup (is_at (cmp q)) es ≡ Some v → t (q, v) ≡ true
+found_passes_by cmp same t [] q v all h = cc
+found_passes_by {K} {X} cmp same t (e ∷ es) q v all h = let p = and_true (t e) (list_all t es) all in by (is_eq (cmp q e.0)) refl h p.0 (found_passes_by cmp same t es q v p.1)
   where
-    by : (b : Bool) → is_at (nat_cmp q) e.0 ≡ b → cond b (Some e.1) (at_number es q) ≡ Some v → t e ≡ true → (at_number es q ≡ Some v → t (q, v) ≡ true) → t (q, v) ≡ true
-    by true s g here ih = let w : e.1 ≡ v = cc in ap (λ z. t (z, v)) (same_number q e.0 s) ∙ ap (λ z. t (e.0, z)) (sym w) ∙ here
+    by : (b : Bool) → is_eq (cmp q e.0) ≡ b → cond b (Some e.1) (lookup (is_at (cmp q)) es) ≡ Some v → t e ≡ true → (lookup (is_at (cmp q)) es ≡ Some v → t (q, v) ≡ true) → t (q, v) ≡ true
+    by true s g here ih = let w : e.1 ≡ v = cc in ap (λ z. t (z, v)) (same q e.0 s) ∙ ap (λ z. t (e.0, z)) (sym w) ∙ here
     by false s g here ih = ih g
+
+-- a row by number
+pub found_passes : {X : Type 0} (t : ℕ × X → Bool) (es : List (ℕ × X)) (q : ℕ) (v : X) → list_all t es ≡ true → at_number es q ≡ Some v → t (q, v) ≡ true
+found_passes t es q v all h = found_passes_by nat_cmp same_number t es q v all h

@@ -1,10 +1,7 @@
 -- Rows whose places say their numbers.
-use Rattle.std.proofs.Common.{ℕ, zero, suc, ◌≡◌, ◌+◌, ◌-◌, ◌≤◌, ◌<◌, false, cond, Some, List, [], ◌∷◌, ◌++◌, length, refl, ap, sym, ◌∙◌, arith, ◌==◌, slice_get, nat_cmp}
-use Rattle.hotel_core.proofs.Names.{enumerate_from, match_ordering, is_at, insert_entry, nat_tests, at_number}
-use Rattle.hotel_core.proofs.{OfTables.TableKeys.at_is, OfTables.TableKeys.is_at_self, OfTables.Counting.greater_is}
-
-apart : (n q : ℕ) → n < q → (n == q) ≡ false
-apart n q h = grind (arith, nat_tests)
+use Rattle.std.proofs.Common.{ℕ, zero, suc, ◌≡◌, ◌+◌, ◌-◌, ◌≤◌, cond, Some, List, [], ◌∷◌, ◌++◌, length, refl, ap, sym, ◌∙◌, arith, slice_get, nat_cmp}
+use Rattle.hotel_core.proofs.Names.{enumerate_from, match_ordering, is_at, insert_entry, at_number}
+use Rattle.hotel_core.proofs.{OfTables.Tests.not_higher, OfTables.TableKeys.at_is, OfTables.TableKeys.is_at_self, OfTables.Counting.greater_is}
 
 -- the row of a number is found at its place
 pub at_place : {X : Type 0} (n : ℕ) (xs : List X) (q : ℕ) → n ≤ q → at_number (enumerate_from n xs) q ≡ slice_get xs (q - n)
@@ -17,7 +14,7 @@ at_place {X} n (x ∷ xs) q h = by (q - n) refl (λ later. at_place (n + 1) xs q
         ap (λ z. cond (is_at (nat_cmp z) n) (Some x) (at_number (enumerate_from (n + 1) xs) z)) same ∙ ap (λ b. cond b (Some x) (at_number (enumerate_from (n + 1) xs) n)) (is_at_self n)
     by (suc k) e rest =
         let far : q - (n + 1) ≡ k = omega (arith, e) in
-        ap (λ b. cond b (Some x) (at_number (enumerate_from (n + 1) xs) q)) (at_is q n ∙ apart n q (omega (arith, e)))
+        ap (λ b. cond b (Some x) (at_number (enumerate_from (n + 1) xs) q)) (at_is q n ∙ not_higher n q (omega (arith, e)))
         ∙ rest (omega (arith, e)) ∙ ap (slice_get xs) far
 
 -- the row of the next number comes last

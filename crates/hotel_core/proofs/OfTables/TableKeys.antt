@@ -1,15 +1,10 @@
 -- Look-ups in a table after a row was added.
-use Rattle.std.proofs.Common.{ℕ, ◌≡◌, Bool, true, false, cond, Option, Some, None, List, [], ◌∷◌, ◌⊎◌, inl, inr, refl, ap, sym, ◌∙◌, subst, arith, ◌==◌, ◌||◌, is_some, nat_cmp, is_eq, Ordering, Less, Equal, Greater}
+use Rattle.std.proofs.Common.{ℕ, ◌≡◌, Bool, true, false, cond, Option, Some, None, List, [], ◌∷◌, ◌⊎◌, inl, inr, refl, ap, sym, ◌∙◌, subst, arith, ◌==◌, ◌||◌, is_some, nat_cmp, Ordering, Less, Equal, Greater}
 use Rattle.hotel_core.proofs.Names.{match_ordering, is_at, insert_entry, keys_of, exact_unsigned, nat_tests, is_one_of, at_number}
-use Rattle.hotel_core.proofs.OfTables.Tests.{eq_from, eq_self, same_bool}
-
-is_eq_true : (o : Ordering) → is_eq o ≡ true → o ≡ Equal
-is_eq_true Less h = cc
-is_eq_true Equal h = refl
-is_eq_true Greater h = cc
+use Rattle.hotel_core.proofs.OfTables.Tests.{eq_from, eq_self, same_bool, equal_tested}
 
 pub same_number : (q k : ℕ) → is_at (nat_cmp q) k ≡ true → q ≡ k
-same_number q k h = exact_unsigned q k (is_eq_true (nat_cmp q k) h)
+same_number q k h = exact_unsigned q k (equal_tested (nat_cmp q k) h)
 
 pub is_at_self : (k : ℕ) → is_at (nat_cmp k) k ≡ true
 is_at_self k = grind (arith, nat_tests)
@@ -36,7 +31,7 @@ at_inserted_by {X} Equal e es k v q c ih =
 at_inserted_by {X} Greater e es k v q c ih =
     ap (λ r. cond (is_at (nat_cmp q) e.0) (Some e.1) r) ih
     ∙ swap_tests (is_at (nat_cmp q) e.0) (is_at (nat_cmp q) k) (Some e.1) (Some v) (at_number es q)
-    (λ s t. apart (nat_cmp k e.0) c (ap (λ z. nat_cmp z e.0) (sym (same_number q k t)) ∙ is_eq_true (nat_cmp q e.0) s))
+    (λ s t. apart (nat_cmp k e.0) c (ap (λ z. nat_cmp z e.0) (sym (same_number q k t)) ∙ equal_tested (nat_cmp q e.0) s))
   where
     apart : (o : Ordering) → o ≡ Greater → o ≡ Equal → ⊥
     apart o g e = let w : ◌≡◌ {A = Ordering} Greater Equal = sym g ∙ e in cc

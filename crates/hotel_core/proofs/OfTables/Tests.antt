@@ -1,5 +1,5 @@
 -- Tests of numbers, and what they tell.
-use Rattle.std.proofs.Common.{ℕ, ◌≡◌, Bool, true, false, ◌⊎◌, inl, inr, Result, Ok, Err, OnOk, refl, sym, ◌∙◌, arith, ◌≤◌, ◌<◌, nat_le, nat_lt}
+use Rattle.std.proofs.Common.{ℕ, ◌≡◌, Bool, true, false, ◌⊎◌, inl, inr, Result, Ok, Err, OnOk, refl, sym, ◌∙◌, arith, ◌≤◌, ◌<◌, nat_le, nat_lt, not, is_eq, Ordering, Less, Equal, Greater}
 use Rattle.std.specs.Prelude.{◌==◌, ◌&&◌, ◌||◌}
 use Rattle.std.proofs.lemmas.Bool.{false≢true}
 use Rattle.std.proofs.lemmas.Bool.Decides.{nat_tests}
@@ -16,9 +16,45 @@ le_tested a b h = grind (arith, nat_tests)
 pub lt_tested : (a b : ℕ) → a < b → nat_lt a b ≡ true
 lt_tested a b h = grind (arith, nat_tests)
 
+pub le_self : (n : ℕ) → nat_le n n ≡ true
+le_self n = grind (arith, nat_tests)
+
+pub le_from : (a b : ℕ) → nat_le a b ≡ true → a ≤ b
+le_from a b e = grind (arith, nat_tests)
+
+pub lt_from : (a b : ℕ) → nat_lt a b ≡ true → a < b
+lt_from a b e = grind (arith, nat_tests)
+
+pub not_le : (a b : ℕ) → b < a → nat_le a b ≡ false
+not_le a b h = grind (arith, nat_tests)
+
+pub not_lt : (a b : ℕ) → b ≤ a → nat_lt a b ≡ false
+not_lt a b h = grind (arith, nat_tests)
+
+pub not_lt_from : (a b : ℕ) → nat_lt a b ≡ false → b ≤ a
+not_lt_from a b e = grind (arith, nat_tests)
+
+-- a number is none that is higher, and none that is lower
+pub not_higher : (a b : ℕ) → a < b → (a == b) ≡ false
+not_higher a b l = grind (arith, nat_tests)
+
+pub not_lower : (a b : ℕ) → b < a → (a == b) ≡ false
+not_lower a b l = grind (arith, nat_tests)
+
+-- keys that compare equal
+pub equal_tested : (o : Ordering) → is_eq o ≡ true → o ≡ Equal
+equal_tested Less h = cc
+equal_tested Equal h = refl
+equal_tested Greater h = cc
+
 -- a test that holds and fails
 pub not_both : {P : Type 0} (b : Bool) → b ≡ true → b ≡ false → P
 not_both b t f = absurd (false≢true (sym f ∙ t))
+
+-- a test whose opposite holds
+pub not_true : (b : Bool) → not b ≡ true → b ≡ false
+not_true true e = not_both false e refl
+not_true false e = refl
 
 -- a test holds or fails
 pub either_way : (b : Bool) → (b ≡ true) ⊎ (b ≡ false)

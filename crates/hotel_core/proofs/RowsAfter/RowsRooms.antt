@@ -1,8 +1,7 @@
 -- The rows after an event that touches one room.
 use Rattle.std.proofs.Common.{ℕ, ◌≡◌, ◌+◌, List, [], ◌∷◌, ◌++◌, Bool, true, false, cond, refl, ap, sym, ◌∙◌, subst, length, arith, ◌==◌, map}
-use Rattle.hotel_core.proofs.Names.{nat_tests, Link, Note, RoomRow, when, and_last, Moment, Left, History, ◌▷◌, notes, rooms, room_row, rows_of, room_changed}
-use Rattle.keycard_rules.specs.declared.note.Act.TheVariants as act
-use Rattle.hotel_core.proofs.{Facts.Follow.FollowsBy, Facts.Follow.ApartFrom, Facts.Follow.RoomsOnce, OfTables.Tests.eq_from, OfTables.Tests.eq_self}
+use Rattle.hotel_core.proofs.Names.{nat_tests, RoomRow, room_changed}
+use Rattle.hotel_core.proofs.{Facts.Follow.ApartFrom, Facts.Follow.RoomsOnce, OfTables.Tests.eq_from}
 
 pub eq_flip : (a b : ℕ) → (a == b) ≡ false → (b == a) ≡ false
 eq_flip a b h = grind (arith, nat_tests)
@@ -34,14 +33,3 @@ one_changed f g c room a s (e ∷ es) n =
 pub length_more : {X : Type 0} (xs : List X) (x : X) → length (xs ++ x ∷ []) ≡ length xs + 1
 length_more [] x = refl
 length_more (y ∷ ys) x = let p = length_more ys x in omega arith
-
--- a card leaves
-pub left_follows : (h : History) (room fit count number : ℕ) (link : Link) (at : Moment) → RoomsOnce (rooms h) → count ≡ length (notes h room) + 1 → FollowsBy h (Left room fit count number link at)
-left_follows h room fit count number link at once n =
-    let h' : History = h ▷ Left room fit count number link at in
-    let note : Note = record { room = room; fit = fit; count = count; act = act.Left number link; day = at.0; second = at.1 } in
-    ap (λ rs. record (rows_of h') { rooms = rs })
-    (one_changed (room_row h') (room_row h) _ room
-    (λ r k t. ap (λ b. record (room_row h r k) { notes = length (when b (and_last note) (notes h r)) }) t)
-    (λ k. ap (λ m. record (room_row h room k) { notes = m }) (ap (λ b. length (when b (and_last note) (notes h room))) (eq_self room) ∙ length_more (notes h room) note ∙ sym n))
-    (rooms h) once)

@@ -9,8 +9,9 @@ use Rattle.hotel_core.proofs.{SoundRows.SoundKinds.kinds_are_read, SoundRows.Sou
 use Rattle.hotel_core.proofs.SoundRows.SoundRoomRows.{rooms_numbered, locks_placed, few_codes, notes_numbered, secured_locks}
 use Rattle.hotel_core.proofs.SoundRows.SoundStays.{stays_numbered, guests_are_read, days_fit, rooms_of_stays}
 use Rattle.hotel_core.proofs.{Invariants.RoomsLeft.rows_not_oversold, SoundRows.SoundCodes.codes_fit, SoundRows.SoundCodes.code_rooms, SoundRows.SoundCodes.codes_once}
-use Rattle.hotel_core.proofs.SoundRows.SoundCardRows.{cards_numbered, card_parties, card_links, card_owners, codes_are_brought, newest_owned, last_are_newest}
-use Rattle.hotel_core.proofs.{SoundRows.SoundInside.all_inside_fit, SoundRows.SoundNotes.notes_are_counted, SoundRows.SoundNotes.notes_all_fit}
+use Rattle.hotel_core.proofs.SoundRows.SoundCardRows.{cards_numbered, card_parties, card_links, card_owners, codes_are_brought, fits_unlinked, newest_owned, last_are_newest}
+use Rattle.hotel_core.proofs.{SoundRows.SoundInside.all_inside_fit, SoundRows.SoundNotes.notes_are_counted, SoundRows.SoundNotes.notes_all_fit, SoundRows.SoundNotes.notes_all_of_fits}
+use Rattle.hotel_core.proofs.SoundRows.SoundFitRows.{fit_rooms, fits_numbered, firsts_first, places_rise, notes_rise, lasts_held, lasts_noted, fits_few, rows_of_lasts}
 
 -- The rows of a history that can be reached are sound.
 pub rows_sound : (h : History) → Reached h → IsSound (rows_of h)
@@ -40,11 +41,22 @@ rows_sound h ok = record {
   card_link = card_links h ok;
   card_one_party = card_owners h ok;
   card_neighbours = codes_are_brought h ok;
+  card_fits = fits_unlinked h ok;
   card_newest = newest_owned h ok;
   card_last = last_are_newest h ok;
   inside_fits = all_inside_fit h ok;
   note_counted = notes_are_counted h ok;
   note_fits = notes_all_fit h ok;
+  note_of_fit = notes_all_of_fits h ok;
+  fit_room = fit_rooms h ok;
+  fit_number = fits_numbered h ok;
+  fit_first = firsts_first h ok;
+  fit_places = places_rise h ok;
+  fit_notes = notes_rise h ok;
+  fit_held = lasts_held h ok;
+  fit_noted = lasts_noted h ok;
+  fit_few = fits_few h ok;
+  fit_of_room = rows_of_lasts h ok;
 }
 
 -- The change of an event makes the rows of the grown history, and fits.

@@ -1,6 +1,6 @@
 -- Tests that the rows of a table pass along each history: where each new row passes, and what passed goes on to pass.
-use Rattle.std.proofs.Common.{ℕ, ◌≡◌, Bool, true, List, Option, Some, None, refl, length}
-use Rattle.hotel_core.proofs.Names.{list_all, Card, Link, Note, Stay, StayState, CodeRow, Rows, Event, Install, Reserved, Cancelled, Issue, Spare, CheckOut, note_of, History, start, ◌▷◌, issued, all_issued, cards, card_of, with_spare, link_of_party, link_to, rooms, stays, now_is, all_notes, and_note, pair_cmp, Reached, IsSound}
+use Rattle.std.proofs.Common.{ℕ, ◌≡◌, Bool, true, List, Option, Some, None, refl, length, ◌+◌}
+use Rattle.hotel_core.proofs.Names.{list_all, Card, Link, Note, Stay, StayState, CodeRow, Rows, Event, Install, Reserved, Cancelled, Issue, Refitted, Spare, CheckOut, note_of, History, start, ◌▷◌, issued, all_issued, cards, card_of, with_spare, link_of_party, link_to, rooms, stays, now_is, all_notes, and_note, notes, fits, fit_row, FitRow, pair_cmp, Reached, IsSound}
 use Rattle.hotel_nights.specs.declared.stay.StayState.TheVariants as state
 use Rattle.hotel_core.proofs.OfTables.Pairs.{pair_exact}
 use Rattle.hotel_core.proofs.OfTables.RowTests.{all_weaker, all_inserted, all_added_by, all_in_state}
@@ -49,13 +49,16 @@ next_row h room = record { room = room; place = length (issued h room) }
 pub codes_pass : (t : History → ℕ × CodeRow → Bool) → GoesOn t → HoldsAtStart (λ h. list_all (t h) (all_issued h) ≡ true)
     → ((h : History) (room code : ℕ) (kind : List ℕ) → Reached (h ▷ Install room kind code) → t (h ▷ Install room kind code) (code, next_row h room) ≡ true)
     → ((h : History) (party room number code : ℕ) → Reached (h ▷ Issue party room number code) → t (h ▷ Issue party room number code) (code, next_row h room) ≡ true)
+    → ((h : History) (room fit code : ℕ) → Reached (h ▷ Refitted room fit code) → t (h ▷ Refitted room fit code) (code, next_row h room) ≡ true)
     → (h : History) → Reached h → list_all (t h) (all_issued h) ≡ true
-codes_pass t on first f g (start s) ok = first s ok
-codes_pass t on first f g (h ▷ Install room kind code) ok =
-    all_inserted _ (all_issued h) code _ (f h room code kind ok) (all_go_on t on h _ (all_issued h) ok (codes_pass t on first f g h ok.0))
-codes_pass t on first f g (h ▷ Issue party room number code) ok =
-    all_inserted _ (all_issued h) code _ (g h party room number code ok) (all_go_on t on h _ (all_issued h) ok (codes_pass t on first f g h ok.0))
-codes_pass t on first f g (h ▷ event) ok = all_go_on t on h event (all_issued h) ok (codes_pass t on first f g h ok.0)
+codes_pass t on first f g k (start s) ok = first s ok
+codes_pass t on first f g k (h ▷ Install room kind code) ok =
+    all_inserted _ (all_issued h) code _ (f h room code kind ok) (all_go_on t on h _ (all_issued h) ok (codes_pass t on first f g k h ok.0))
+codes_pass t on first f g k (h ▷ Issue party room number code) ok =
+    all_inserted _ (all_issued h) code _ (g h party room number code ok) (all_go_on t on h _ (all_issued h) ok (codes_pass t on first f g k h ok.0))
+codes_pass t on first f g k (h ▷ Refitted room fit code) ok =
+    all_inserted _ (all_issued h) code _ (k h room fit code ok) (all_go_on t on h _ (all_issued h) ok (codes_pass t on first f g k h ok.0))
+codes_pass t on first f g k (h ▷ event) ok = all_go_on t on h event (all_issued h) ok (codes_pass t on first f g k h ok.0)
 
 spare_passes : (o : Option Link) (t : ℕ × Card → Bool) (number party : ℕ) (all : List (ℕ × Card)) → ((link : Link) → o ≡ Some link → t (number, card_of number party link) ≡ true) → list_all t all ≡ true → list_all t (with_spare number party o all) ≡ true
 spare_passes (Some link) t number party all new passed = all_inserted t all number _ (new link refl) passed
@@ -72,13 +75,24 @@ cards_pass t on first f g (h ▷ Spare party number) ok =
     spare_passes (link_of_party h party) _ number party (cards h) (λ link e. g h party number link ok e) (all_go_on t on h _ (cards h) ok (cards_pass t on first f g h ok.0))
 cards_pass t on first f g (h ▷ event) ok = all_go_on t on h event (cards h) ok (cards_pass t on first f g h ok.0)
 
-note_passes : (o : Option Note) (t : (ℕ × ℕ) × Note → Bool) (all : List ((ℕ × ℕ) × Note)) → ((note : Note) → o ≡ Some note → t ((note.room, note.count), note) ≡ true) → list_all t all ≡ true → list_all t (and_note o all) ≡ true
-note_passes (Some note) t all new passed = all_added_by pair_cmp pair_exact t all (note.room, note.count) note (new note refl) passed
-note_passes None t all new passed = passed
+note_passes : (h : History) (o : Option Note) (t : (ℕ × ℕ) × Note → Bool) (all : List ((ℕ × ℕ) × Note)) → ((note : Note) → o ≡ Some note → t ((note.room, length (notes h note.room) + 1), note) ≡ true) → list_all t all ≡ true → list_all t (and_note h o all) ≡ true
+note_passes h (Some note) t all new passed = all_added_by pair_cmp pair_exact t all (note.room, length (notes h note.room) + 1) note (new note refl) passed
+note_passes h None t all new passed = passed
 
 pub notes_pass : (t : History → (ℕ × ℕ) × Note → Bool) → GoesOn t → HoldsAtStart (λ h. list_all (t h) (all_notes h) ≡ true)
-    → ((h : History) (event : Event) (note : Note) → Reached (h ▷ event) → note_of event ≡ Some note → t (h ▷ event) ((note.room, note.count), note) ≡ true)
+    → ((h : History) (event : Event) (note : Note) → Reached (h ▷ event) → note_of event ≡ Some note → t (h ▷ event) ((note.room, length (notes h note.room) + 1), note) ≡ true)
     → (h : History) → Reached h → list_all (t h) (all_notes h) ≡ true
 notes_pass t on first new (start s) ok = first s ok
 notes_pass t on first new (h ▷ event) ok =
-    note_passes (note_of event) (t (h ▷ event)) (all_notes h) (λ note e. new h event note ok e) (all_go_on t on h event (all_notes h) ok (notes_pass t on first new h ok.0))
+    note_passes h (note_of event) (t (h ▷ event)) (all_notes h) (λ note e. new h event note ok e) (all_go_on t on h event (all_notes h) ok (notes_pass t on first new h ok.0))
+
+pub fits_pass : (t : History → (ℕ × ℕ) × FitRow → Bool) → GoesOn t → HoldsAtStart (λ h. list_all (t h) (fits h) ≡ true)
+    → ((h : History) (room code : ℕ) (kind : List ℕ) → Reached (h ▷ Install room kind code) → t (h ▷ Install room kind code) ((room, 1), fit_row room 1 0 0) ≡ true)
+    → ((h : History) (room fit code : ℕ) → Reached (h ▷ Refitted room fit code) → t (h ▷ Refitted room fit code) ((room, fit), fit_row room fit (length (issued h room)) (length (notes h room))) ≡ true)
+    → (h : History) → Reached h → list_all (t h) (fits h) ≡ true
+fits_pass t on first f g (start s) ok = first s ok
+fits_pass t on first f g (h ▷ Install room kind code) ok =
+    all_added_by pair_cmp pair_exact _ (fits h) (room, 1) _ (f h room code kind ok) (all_go_on t on h _ (fits h) ok (fits_pass t on first f g h ok.0))
+fits_pass t on first f g (h ▷ Refitted room fit code) ok =
+    all_added_by pair_cmp pair_exact _ (fits h) (room, fit) _ (g h room fit code ok) (all_go_on t on h _ (fits h) ok (fits_pass t on first f g h ok.0))
+fits_pass t on first f g (h ▷ event) ok = all_go_on t on h event (fits h) ok (fits_pass t on first f g h ok.0)

@@ -1,14 +1,14 @@
 -- Cards: their numbers, parties and links.
-use Rattle.std.proofs.Common.{ℕ, ◌≡◌, Bool, true, false, cond, Option, Some, None, List, [], ◌∷◌, ◌++◌, length, refl, ap, sym, ◌∙◌, ◌==◌, ◌||◌, is_some, nat_cmp}
-use Rattle.hotel_core.proofs.Names.{is_at, insert_entry, list_any, nat_cmp_total, Card, Link, Stay, StayState, CodeRow, said_of, is_one_of, at_number, link_of_last_card, Event, Install, Reserved, Cancelled, Issue, Spare, CheckOut, History, ◌▷◌, cards, card_of, with_spare, link_of_party, link_to, registered, stays, in_state, rows_of, room_of_state, room_of, next_card, same_link, Reached, each_card, card_numbers, card_parties_there, links_are_neighbours, links_of_one_party, neighbours_are_links, is_newest, owns_newest, newest_of_party, has_newest, last_cards_newest, stands_at}
+use Rattle.std.proofs.Common.{ℕ, ◌≡◌, Bool, true, false, cond, Option, Some, None, List, [], ◌∷◌, length, refl, ap, sym, ◌∙◌, ◌==◌, ◌||◌, ◌&&◌, not, is_some, nat_cmp}
+use Rattle.hotel_core.proofs.Names.{is_at, insert_entry, keys_of, when, and_last, FitRow, fit_row, fits, fits_at, begins_fit, fits_without_links, notes, issued, all_issued, list_any, nat_cmp_total, Card, Link, Stay, StayState, CodeRow, said_of, is_one_of, at_number, link_of_last_card, Event, Install, Reserved, Cancelled, Issue, Refitted, Spare, CheckOut, History, ◌▷◌, cards, card_of, with_spare, link_of_party, link_to, registered, stays, in_state, rows_of, room_of_state, room_of, next_card, same_link, Reached, each_card, card_numbers, card_parties_there, links_are_neighbours, links_of_one_party, neighbours_are_links, is_newest, owns_newest, newest_of_party, has_newest, last_cards_newest, stands_at}
 use Rattle.hotel_nights.specs.declared.stay.StayState.TheVariants as state
-use Rattle.hotel_core.proofs.{OfTables.Tests.eq_self, OfTables.TableKeys.at_inserted, OfTables.TableKeys.is_key, OfTables.Grown.may_follow, Invariants.RoomCodes.others_have_none}
+use Rattle.hotel_core.proofs.{OfTables.Tests.eq_self, OfTables.Tests.eq_from, OfTables.KeysInOrder.InOrder, Starts.StartOrder.found_later, OfTables.TableKeys.is_at_self, OfTables.TableKeys.at_inserted, OfTables.TableKeys.is_key, OfTables.Grown.may_follow, Invariants.RoomCodes.others_have_none}
 use Rattle.hotel_core.proofs.{Invariants.RoomLinks.cards_have_links, Invariants.Numbering.same_keys, Invariants.Numbering.cards_count, Invariants.NumbersLeft.cards_fit}
 use Rattle.hotel_core.proofs.{Invariants.InHouse.has_stay, Invariants.InHouse.registered_in_house, Starts.StartRules.link_is}
 use Rattle.hotel_core.proofs.Invariants.LiftHomes as homes
 use Rattle.hotel_core.proofs.Invariants.CardParties.{cards_one_party, guests_have_cards}
-use Rattle.hotel_core.proofs.OfTables.RowTests.{both, or_first, or_later, where_so, all_found}
-use Rattle.hotel_core.proofs.{SoundRows.RowsPass.cards_pass, SoundRows.RowsPass.codes_pass, SoundRows.SoundKeys.cards_in_order, SoundRows.SoundKeys.stays_in_order}
+use Rattle.hotel_core.proofs.OfTables.RowTests.{both, or_first, or_later, where_so, any_before, any_last, any_more, all_found}
+use Rattle.hotel_core.proofs.{SoundRows.RowsPass.cards_pass, SoundRows.RowsPass.codes_pass, SoundRows.SoundKeys.cards_in_order, SoundRows.SoundKeys.codes_in_order, Invariants.FitsKept.fits_installed, Invariants.FitsKept.fits_refitted, Invariants.FitLinks.links_begin_none, SoundRows.SoundKeys.stays_in_order}
 use Rattle.hotel_core.proofs.{OfTables.Tests.le_tested, SoundRows.SoundRoomRows.each_room_is, SoundRows.SoundRoomRows.eq_tested, SoundRows.SoundStays.stay_has_number}
 use Rattle.hotel_core.proofs.SoundRows.SoundLinks.{said_some, new_at, link_stands, newest_tested, tested_newest, card_comes_last, last_cards}
 use Rattle.hotel_core.proofs.Starts.StartNumbers.{cards_numbered_at_start}
@@ -64,18 +64,6 @@ card_owners h ok =
     (λ m other f. where_so (same_link card.link other.link) _
     (λ t. eq_tested card.party other.party (cards_one_party h ok n m card other e f (ap (λ (l : Link). l.new_code) (link_is card.link other.link t))))))
 
-any_before : {X : Type 0} (t : X → Bool) (xs ys : List X) → list_any t xs ≡ true → list_any t (xs ++ ys) ≡ true
-any_before t [] ys h = cc
-any_before {X} t (x ∷ xs) ys h = by (t x) h (any_before t xs ys)
-  where
-    by : (b : Bool) → (b || list_any t xs) ≡ true → (list_any t xs ≡ true → list_any t (xs ++ ys) ≡ true) → (b || list_any t (xs ++ ys)) ≡ true
-    by true g ih = refl
-    by false g ih = ih g
-
-any_last : {X : Type 0} (t : X → Bool) (xs : List X) (y : X) → t y ≡ true → list_any t (xs ++ y ∷ []) ≡ true
-any_last t [] y h = or_first (t y) false h
-any_last t (x ∷ xs) y h = or_later (t x) _ (any_last t xs y h)
-
 -- a card of this new code is there
 abbrev pub brings : ℕ → ℕ × Card → Bool
 brings code e = e.1.link.new_code == code
@@ -97,20 +85,59 @@ new_brings h party room number code ok n =
     ap (list_any (brings code)) (card_comes_last h ok number (card_of number party (link_to h room code)) n)
     ∙ any_last (brings code) (cards h) (number, card_of number party (link_to h room code)) (eq_self code)
 
--- a code is the first of its room, or a card brings it
+-- a code is the first of its room, or a fit begins with it, or a card brings it
 abbrev pub is_first_or_brought : History → ℕ × CodeRow → Bool
-is_first_or_brought h e = (e.1.place == 0) || list_any (brings e.0) (cards h)
+is_first_or_brought h e = (e.1.place == 0) || begins_fit (rows_of h) e.1.room e.1.place || list_any (brings e.0) (cards h)
 
-goes_on_first : (b : Bool) (h : History) (event : Event) (code : ℕ) → Reached (h ▷ event) → (b || list_any (brings code) (cards h)) ≡ true → (b || list_any (brings code) (cards (h ▷ event))) ≡ true
-goes_on_first true h event code ok t = refl
-goes_on_first false h event code ok t = goes_on_brought h event code ok t
+goes_on_begun : (h : History) (event : Event) (r place : ℕ) → Reached (h ▷ event) → begins_fit (rows_of h) r place ≡ true → begins_fit (rows_of (h ▷ event)) r place ≡ true
+goes_on_begun h (Install room kind code) r place ok t =
+    ap (λ fs. list_any (λ (x : FitRow). x.place == place) fs) (fits_installed h room code kind r ok) ∙ any_more (room == r) (λ x. x.place == place) (fits_at (fits h) r) (fit_row room 1 0 0) t
+goes_on_begun h (Refitted room fit code) r place ok t =
+    ap (λ fs. list_any (λ (x : FitRow). x.place == place) fs) (fits_refitted h room fit code r ok)
+    ∙ any_more (room == r) (λ x. x.place == place) (fits_at (fits h) r) (fit_row room fit (length (issued h room)) (length (notes h room))) t
+goes_on_begun h _ r place ok t = t
 
--- Each code but the first of its room is the new code of a card.
+goes_on_first : (a b c d e : Bool) → (b ≡ true → d ≡ true) → (c ≡ true → e ≡ true) → (a || b || c) ≡ true → (a || d || e) ≡ true
+goes_on_first true b c d e f g t = refl
+goes_on_first false true c d e f g t = or_first d e (f refl)
+goes_on_first false false c d e f g t = or_later d e (g t)
+
+-- the code of a refit begins one
+refit_begins : (h : History) (room fit code : ℕ) → Reached (h ▷ Refitted room fit code) → begins_fit (rows_of (h ▷ Refitted room fit code)) room (length (issued h room)) ≡ true
+refit_begins h room fit code ok =
+    let row = fit_row room fit (length (issued h room)) (length (notes h room)) in
+    let t : FitRow → Bool = λ x. x.place == length (issued h room) in
+    ap (λ fs. list_any t fs) (fits_refitted h room fit code room ok ∙ ap (λ b. when b (and_last row) (fits_at (fits h) room)) (eq_self room)) ∙ any_last t (fits_at (fits h) room) row (eq_self (length (issued h room)))
+
+-- Each code but the first of its room and those that fits begin with is the new code of a card.
 pub codes_are_brought : (h : History) → Reached h → neighbours_are_links (rows_of h) ≡ true
 codes_are_brought h ok =
-    codes_pass is_first_or_brought (λ h event e ok. goes_on_first (e.1.place == 0) h event e.0 ok) (λ s ok. ok.card_neighbours)
-    (λ h room code kind ok. or_first _ _ (ap (λ (zs : List ℕ). length zs == 0) (others_have_none h ok.0 room (may_follow h (Install room kind code) ok).1).0))
-    (λ h party room number code ok. or_later _ _ (new_brings h party room number code ok.0 (may_follow h (Issue party room number code) ok).5)) h ok
+    codes_pass is_first_or_brought (λ h event e ok. goes_on_first (e.1.place == 0) _ _ _ _ (goes_on_begun h event e.1.room e.1.place ok) (goes_on_brought h event e.0 ok)) (λ s ok. ok.card_neighbours)
+    (λ h room code kind ok. or_first _ _ (or_first _ _ (ap (λ (zs : List ℕ). length zs == 0) (others_have_none h ok.0 room (may_follow h (Install room kind code) ok).1).0)))
+    (λ h party room number code ok. or_later _ _ (new_brings h party room number code ok.0 (may_follow h (Issue party room number code) ok).5))
+    (λ h room fit code ok. or_first _ _ (or_later _ _ (refit_begins h room fit code ok))) h ok
+
+-- a card that brings the code
+bringing : (code : ℕ) (es : List (ℕ × Card)) → InOrder nat_cmp (keys_of es) → list_any (brings code) es ≡ true → (n : ℕ) × (card : Card) × (at_number es n ≡ Some card) × (card.link.new_code ≡ code)
+bringing code [] s h = cc
+bringing code (e ∷ es) s h = by (brings code e) refl h (bringing code es s.1)
+  where
+    by : (b : Bool) → brings code e ≡ b → (b || list_any (brings code) es) ≡ true → (list_any (brings code) es ≡ true → (n : ℕ) × (card : Card) × (at_number es n ≡ Some card) × (card.link.new_code ≡ code))
+        → (n : ℕ) × (card : Card) × (at_number (e ∷ es) n ≡ Some card) × (card.link.new_code ≡ code)
+    by true t g ih = (e.0, e.1, ap (λ b. cond b (Some e.1) (at_number es e.0)) (is_at_self e.0), eq_from e.1.link.new_code code t)
+    by false t g ih = let c = ih g in (c.0, c.1, found_later e es c.0 c.1 s.0 c.2, c.3)
+
+not_brought : (b c : Bool) → (c ≡ true → b ≡ false) → not (b && c) ≡ true
+not_brought true true f = ap not (f refl)
+not_brought true false f = refl
+not_brought false c f = refl
+
+-- No code that a fit begins with is the new code of a card.
+pub fits_unlinked : (h : History) → Reached h → fits_without_links (rows_of h) ≡ true
+fits_unlinked h ok =
+    all_found nat_cmp nat_cmp_total (λ (e : ℕ × CodeRow). not (begins_fit (rows_of h) e.1.room e.1.place && list_any (brings e.0) (cards h))) (all_issued h) (codes_in_order h ok)
+    (λ code row e. not_brought (begins_fit (rows_of h) row.room row.place) (list_any (brings code) (cards h))
+    (λ t. let c = bringing code (cards h) (cards_in_order h ok) t in links_begin_none h ok c.0 c.1 row c.2 (ap (at_number (all_issued h)) c.3 ∙ e)))
 
 owner_tested : (h : History) → Reached h → (r : ℕ) (o : Option ℕ) → registered h r ≡ o → said_of o true (owns_newest (rows_of h) r) ≡ true
 owner_tested h ok r None e = refl

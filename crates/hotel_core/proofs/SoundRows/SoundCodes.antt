@@ -1,6 +1,6 @@
 -- Codes: their range, their rooms and their places.
 use Rattle.std.proofs.Common.{ℕ, ◌≡◌, ◌^◌, true, Some, List, length, ap, sym, ◌∙◌, is_some, nat_lt, nat_cmp}
-use Rattle.hotel_core.proofs.Names.{nat_cmp_total, CodeRow, at_number, Install, Issue, History, all_issued, rows_of, Reached, is_room, codes_in_range, code_rooms_there, places_once}
+use Rattle.hotel_core.proofs.Names.{nat_cmp_total, CodeRow, at_number, Install, Issue, Refitted, History, all_issued, rows_of, Reached, is_room, codes_in_range, code_rooms_there, places_once}
 use Rattle.hotel_core.proofs.{Invariants.EventRanges.last_in_range, Invariants.CodePlaces.places_have_codes, Invariants.OpenLocks.there_by_codes, Invariants.OpenLocks.not_empty}
 use Rattle.hotel_core.proofs.{RowsAfter.HasRows.room_has_row, OfTables.RowTests.both, OfTables.RowTests.all_mapped, OfTables.RowTests.all_found, SoundRows.RowsPass.codes_pass}
 use Rattle.hotel_core.proofs.{SoundRows.SoundKeys.codes_in_order, OfTables.Tests.lt_tested, SoundRows.SoundRoomRows.each_room_is, SoundRows.SoundRoomRows.eq_tested}
@@ -12,7 +12,8 @@ codes_fit h ok =
     all_mapped (λ code. nat_lt code (2 ^ 48)) (λ (e : ℕ × CodeRow). e.0) (all_issued h)
     ∙ codes_pass (λ h e. nat_lt e.0 (2 ^ 48)) (λ h event e ok t. t) (λ s ok. sym (all_mapped (λ code. nat_lt code (2 ^ 48)) (λ (e : ℕ × CodeRow). e.0) s.codes) ∙ ok.code_range)
     (λ h room code kind ok. lt_tested code (2 ^ 48) (last_in_range h (Install room kind code) ok).1)
-    (λ h party room number code ok. lt_tested code (2 ^ 48) (last_in_range h (Issue party room number code) ok)) h ok
+    (λ h party room number code ok. lt_tested code (2 ^ 48) (last_in_range h (Issue party room number code) ok))
+    (λ h room fit code ok. lt_tested code (2 ^ 48) (last_in_range h (Refitted room fit code) ok)) h ok
 
 -- the room of a code in the table is there
 pub code_room_there : (h : History) → Reached h → (code : ℕ) (row : CodeRow) → at_number (all_issued h) code ≡ Some row → is_room h row.room ≡ true

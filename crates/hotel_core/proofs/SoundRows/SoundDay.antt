@@ -1,5 +1,5 @@
 -- The day of a history's rows is in range, and is set before a kind is added.
-use Rattle.std.proofs.Common.{ℕ, ◌≡◌, ◌≤◌, ◌<◌, ◌+◌, true, Option, Some, None, refl, arith, length, ◌==◌, is_some, nat_le, nat_lt, option_map}
+use Rattle.std.proofs.Common.{ℕ, ◌≡◌, ◌+◌, true, Option, Some, None, refl, arith, length, ◌==◌, is_some, nat_lt, option_map}
 use Rattle.hotel_core.proofs.Names.{nat_tests, said_of, Begun, Kind, NextDay, History, start, ◌▷◌, day, kinds, rows_of, Reached, is_day, day_in_range, day_before_kinds}
 use Rattle.hotel_core.proofs.{OfTables.Grown.may_follow, OfTables.Tests.le_tested, Invariants.EventRanges.last_in_range, OfTables.RowTests.or_first}
 

@@ -1,9 +1,9 @@
 -- Links as the rows tell them: where they stand, and which is a room's newest and a party's last.
-use Rattle.std.proofs.Common.{ℕ, ◌≡◌, Bool, true, false, cond, Option, Some, None, List, [], ◌∷◌, ◌++◌, length, refl, ap, sym, ◌∙◌, append_assoc, arith, length-append, ◌==◌, if◌then◌else◌, nat_cmp}
-use Rattle.hotel_core.proofs.Names.{insert_entry, Card, Link, CodeRow, when, said_of, at_number, codes_at, last_link_of, or_else, link_of_last_card, Issue, Spare, History, start, ◌▷◌, issued, all_issued, cards, card_of, with_spare, link_of_party, link_to, newest_link, rows_of, next_card, same_link, Reached, code_is, stands_at, are_neighbours, is_newest}
+use Rattle.std.proofs.Common.{ℕ, ◌≡◌, Bool, true, false, cond, Option, Some, None, List, [], ◌∷◌, ◌++◌, length, refl, ap, sym, ◌∙◌, append_assoc, arith, length-append, ◌-◌, ◌==◌, if◌then◌else◌, nat_cmp}
+use Rattle.hotel_core.proofs.Names.{insert_entry, Card, Link, CodeRow, when, said_of, at_number, begins_fit, newest_link_at, last_link_of, or_else, link_of_last_card, Issue, Spare, History, start, ◌▷◌, issued, all_issued, cards, card_of, with_spare, link_of_party, link_to, newest_link, rows_of, next_card, same_link, Reached, code_is, stands_at, are_neighbours, is_newest}
 use Rattle.hotel_core.proofs.{Facts.CodeFacts.IsLinkOf, OfTables.Tests.eq_from, OfTables.Tests.eq_self, OfTables.Tests.not_both, OfTables.Grown.may_follow}
-use Rattle.hotel_core.proofs.{OfTables.Counting.comes_last, Invariants.Numbering.cards_count, Invariants.CodePlaces.codes_have_places, Invariants.RoomLinks.newest_are_last}
-use Rattle.hotel_core.proofs.{Invariants.NewestLinks.newest_is, Starts.StartRules.link_is, OfTables.RowTests.both, SoundRows.SoundRoomRows.eq_tested}
+use Rattle.hotel_core.proofs.{OfTables.Counting.comes_last, Invariants.Numbering.cards_count, Invariants.CodePlaces.codes_have_places}
+use Rattle.hotel_core.proofs.{Invariants.NewestLinks.newest_by_rows, Starts.StartRules.link_is, OfTables.RowTests.both, SoundRows.SoundRoomRows.eq_tested}
 use Rattle.hotel_core.proofs.OfTables.CodesByPlace.{codes_are_placed}
 
 pub said_some : {X : Type 0} (o : Option X) (x : X) (test : X → Bool) → o ≡ Some x → test x ≡ true → said_of o false test ≡ true
@@ -22,45 +22,25 @@ link_stands h ok r link l =
     (said_some (at_number (all_issued h) link.new_code) new (are_neighbours r old) (new_at h ok r link l)
     (both _ _ (both _ _ (eq_self r) (eq_self r)) (eq_tested _ _ (length-append l.0 (link.old_code ∷ [])))))
 
--- the codes of a link
-abbrev codes_of : Option Link → List ℕ
-codes_of (Some link) = link.old_code ∷ link.new_code ∷ []
-codes_of None = []
-
--- the last link of codes is their last two
-last_two : (codes : List ℕ) (link : Link) → last_link_of codes ≡ Some link → (front : List ℕ) × (codes ≡ front ++ link.old_code ∷ link.new_code ∷ [])
-last_two [] link e = cc
-last_two (c ∷ []) link e = cc
-last_two (c ∷ d ∷ []) link e =
-    let same : ◌≡◌ {A = Option Link} (Some (record { old_code = c; new_code = d })) (Some link) = e in
-    ([], ap codes_of same)
-last_two (c ∷ d ∷ f ∷ codes) link e = let p = last_two (d ∷ f ∷ codes) link e in (c ∷ p.0, ap (λ zs. c ∷ zs) p.1)
-
-two_last : (front : List ℕ) (a b : ℕ) → last_link_of (front ++ a ∷ b ∷ []) ≡ Some (record { old_code = a; new_code = b })
-two_last [] a b = refl
-two_last (c ∷ []) a b = refl
-two_last (c ∷ d ∷ []) a b = refl
-two_last (c ∷ d ∷ f ∷ front) a b = two_last (d ∷ f ∷ front) a b
+-- The newest link of a room is the one that the rows tell.
+pub newest_told : (h : History) → Reached h → (r : ℕ) → newest_link_at (rows_of h) r ≡ newest_link h r
+newest_told h ok r =
+    ap (λ (codes : List ℕ). if begins_fit (rows_of h) r (length codes - 1) then None else last_link_of codes) (codes_are_placed h ok r).1 ∙ sym (newest_by_rows h ok r)
 
 pub same_self : (link : Link) → same_link link link ≡ true
 same_self link = both _ _ (eq_self link.old_code) (eq_self link.new_code)
 
 -- A room's newest link is the newest of the rows.
 pub newest_tested : (h : History) → Reached h → (r : ℕ) (link : Link) → newest_link h r ≡ Some link → is_newest (rows_of h) r link ≡ true
-newest_tested h ok r link e =
-    let l = newest_are_last h ok r link e in
-    said_some (last_link_of (codes_at (rows_of h) r)) link (λ newest. same_link newest link)
-    (ap last_link_of ((codes_are_placed h ok r).1 ∙ l.1) ∙ two_last l.0 link.old_code link.new_code) (same_self link)
+newest_tested h ok r link e = said_some (newest_link_at (rows_of h) r) link (λ newest. same_link newest link) (newest_told h ok r ∙ e) (same_self link)
 
-newest_by : (h : History) → Reached h → (r : ℕ) (link : Link) (o : Option Link) → last_link_of (codes_at (rows_of h) r) ≡ o → said_of o false (λ newest. same_link newest link) ≡ true → newest_link h r ≡ Some link
-newest_by h ok r link (Some newest) e t =
-    let l = last_two (codes_at (rows_of h) r) newest e in
-    newest_is h ok r l.0 newest (sym (codes_are_placed h ok r).1 ∙ l.1) ∙ ap (λ z. Some z) (link_is newest link t)
+newest_by : (h : History) → Reached h → (r : ℕ) (link : Link) (o : Option Link) → newest_link_at (rows_of h) r ≡ o → said_of o false (λ newest. same_link newest link) ≡ true → newest_link h r ≡ Some link
+newest_by h ok r link (Some newest) e t = sym (newest_told h ok r) ∙ e ∙ ap (λ z. Some z) (link_is newest link t)
 newest_by h ok r link None e t = not_both false t refl
 
 -- and the other way
 pub tested_newest : (h : History) → Reached h → (r : ℕ) (link : Link) → is_newest (rows_of h) r link ≡ true → newest_link h r ≡ Some link
-tested_newest h ok r link t = newest_by h ok r link (last_link_of (codes_at (rows_of h) r)) refl t
+tested_newest h ok r link t = newest_by h ok r link (newest_link_at (rows_of h) r) refl t
 
 -- The next card comes last.
 pub card_comes_last : (h : History) → Reached h → (number : ℕ) (card : Card) → number ≡ next_card h → insert_entry nat_cmp (cards h) number card ≡ cards h ++ (number, card) ∷ []

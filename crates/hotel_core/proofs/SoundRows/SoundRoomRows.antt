@@ -1,14 +1,13 @@
 -- Rooms: their numbers, locks, counts of codes and notes, and which are secured.
-use Rattle.std.proofs.Common.{ℕ, ◌≡◌, ◌≤◌, ◌<◌, ◌+◌, ◌-◌, Bool, true, false, Some, List, [], ◌∷◌, ◌++◌, length, inl, inr, refl, ap, ◌∙◌, subst, arith, length-append, ◌==◌, ◌&&◌, nat_le, nat_cmp}
-use Rattle.hotel_core.proofs.Names.{nat_cmp_total, nat_tests, Link, Note, RoomRow, when, and_last, at_number, Install, Issue, Entered, Left, Recoded, History, start, ◌▷◌, issued, current, passed, awaited, held, secured, inside, are_none, rooms, notes, room_row, rows_of, is_room, Reached, each_room, room_numbers, lock_places, codes_few, note_counts, secured_hold_last}
-use Rattle.keycard_rules.specs.declared.note.Act.TheVariants as act
-use Rattle.hotel_core.proofs.{Facts.CodeFacts.IsLinkOf, OfTables.Tests.eq_from, OfTables.Tests.eq_self, OfTables.Tests.and_true, OfTables.Tests.not_both}
-use Rattle.hotel_core.proofs.{OfTables.Numbered.found_there, OfTables.Grown.may_follow, Invariants.EventRanges.last_in_range, Invariants.NumbersLeft.codes_fit}
-use Rattle.hotel_core.proofs.{Invariants.LedgerOrder.ledger_holds, Invariants.LedgerOrder.link_seen, Invariants.OpenLocks.link_of_room}
-use Rattle.hotel_core.proofs.Invariants.SecuredRooms.{secured_by, secured_rooms_fit}
+use Rattle.std.proofs.Common.{ℕ, ◌≡◌, ◌≤◌, ◌<◌, ◌-◌, not, cond, sym, Option, None, Bool, true, false, Some, List, [], ◌∷◌, ◌++◌, length, refl, ap, ◌∙◌, arith, length-append, ◌==◌, ◌&&◌, nat_le, nat_cmp}
+use Rattle.hotel_core.proofs.Names.{nat_cmp_total, nat_tests, Link, begins_fit, last_link_of, RoomRow, at_number, Install, History, issued, passed, awaited, held, secured, rooms, room_row, rows_of, is_room, Reached, each_room, room_numbers, lock_places, codes_few, note_counts, secured_hold_last}
+use Rattle.hotel_core.proofs.{OfTables.Tests.eq_self}
+use Rattle.hotel_core.proofs.{OfTables.Numbered.found_there, Invariants.EventRanges.last_in_range, Invariants.NumbersLeft.codes_fit}
+use Rattle.hotel_core.proofs.{Invariants.LedgerOrder.ledger_holds}
+use Rattle.hotel_core.proofs.Invariants.SecuredRooms.{secured_rooms_fit, secured_have_newest}
 use Rattle.hotel_core.proofs.{OfTables.RowTests.both, OfTables.RowTests.where_so, OfTables.RowTests.all_mapped, OfTables.RowTests.all_found, SoundRows.RowsPass.rooms_pass}
 use Rattle.hotel_core.proofs.{SoundRows.SoundKeys.rooms_in_order, OfTables.Tests.le_tested, OfTables.Tests.lt_tested}
-use Rattle.hotel_core.proofs.{Starts.StartRows.rooms_numbered_at_start, Starts.StartRows.few_notes_at_start, Starts.StartSecured.secured_have_two_at_start}
+use Rattle.hotel_core.proofs.{Starts.StartRows.rooms_numbered_at_start, Invariants.FitsOf.few_notes, Invariants.RoomLinks.newest_are_last, Invariants.NewestLinks.newest_by_rows}
 
 -- a rule of all rooms holds where it holds of each room's row
 pub each_room_is : (h : History) → Reached h → (rule : RoomRow → Bool) → ((r : ℕ) (kind : List ℕ) → at_number (rooms h) r ≡ Some kind → rule (room_row h r kind) ≡ true) → each_room (rows_of h) rule ≡ true
@@ -36,52 +35,28 @@ locks_placed h ok =
     each_room_is h ok _
     (λ r kind e. lt_tested (length (passed h r)) (length (issued h r)) (within_by (passed h r) (held h r) (awaited h r) (issued h r) (ledger_holds h ok r (listed_there h r kind e))))
 
--- A room has at most one code more than there are cards.
+-- A room has at most as many codes as there are cards, and those that its fits begin with.
 pub few_codes : (h : History) → Reached h → codes_few (rows_of h) ≡ true
 few_codes h ok = each_room_is h ok _ (λ r kind e. le_tested _ _ (codes_fit h ok r))
 
-one_more_by : (b : Bool) (note : Note) (taken : List Note) (count : ℕ) → (b ≡ true → count ≡ length taken + 1) → count ≤ 9999999 → length taken ≤ 9999999 → length (when b (and_last note) taken) ≤ 9999999
-one_more_by true note taken count n m few = let l = n refl in omega (arith, length-append taken (note ∷ []))
-one_more_by false note taken count n m few = few
-
--- A room has at most 9,999,999 notes.
-pub few_notes : (h : History) → Reached h → (r : ℕ) → length (notes h r) ≤ 9999999
-few_notes (start t) ok r = few_notes_at_start t ok r
-few_notes (h ▷ Entered room fit count number link at) ok r =
-    one_more_by (room == r) (record { room = room; fit = fit; count = count; act = act.Entered number link; day = at.0; second = at.1 }) (notes h r) count
-    (λ t. (may_follow h (Entered room fit count number link at) ok).0 ∙ ap (λ z. length (notes h z) + 1) (eq_from room r t)) (last_in_range h (Entered room fit count number link at) ok).0.1 (few_notes h ok.0 r)
-few_notes (h ▷ Left room fit count number link at) ok r =
-    one_more_by (room == r) (record { room = room; fit = fit; count = count; act = act.Left number link; day = at.0; second = at.1 }) (notes h r) count
-    (λ t. (may_follow h (Left room fit count number link at) ok).0 ∙ ap (λ z. length (notes h z) + 1) (eq_from room r t)) (last_in_range h (Left room fit count number link at) ok).0.1 (few_notes h ok.0 r)
-few_notes (h ▷ Recoded room fit count from to at) ok r =
-    one_more_by (room == r) (record { room = room; fit = fit; count = count; act = act.Recoded from to; day = at.0; second = at.1 }) (notes h r) count
-    (λ t. (may_follow h (Recoded room fit count from to at) ok).0 ∙ ap (λ z. length (notes h z) + 1) (eq_from room r t)) (last_in_range h (Recoded room fit count from to at) ok).0.1 (few_notes h ok.0 r)
-few_notes (h ▷ _) ok r = few_notes h ok.0 r
-
+-- A room has at most 99 times 9,999,999 notes.
 pub notes_numbered : (h : History) → Reached h → note_counts (rows_of h) ≡ true
-notes_numbered h ok = each_room_is h ok _ (λ r kind e. le_tested _ _ (few_notes h ok r))
+notes_numbered h ok = each_room_is h ok _ (λ r kind e. le_tested _ _ (few_notes h ok r (listed_there h r kind e)))
 
-two_of_link : (codes : List ℕ) (link : Link) → IsLinkOf codes link → 2 ≤ length codes
-two_of_link codes link l = let n = ap (λ (zs : List ℕ). length zs) l.2 in omega (arith, n, length-append l.0 (link.old_code ∷ link.new_code ∷ l.1))
+-- where a link is said, none is barred
+not_barred : (b : Bool) (o : Option Link) (link : Link) → cond b None o ≡ Some link → b ≡ false
+not_barred true o link e = absurd (let w : ◌≡◌ {A = Option Link} None (Some link) = e in cc)
+not_barred false o link e = refl
 
-issued_to : (b c : Bool) (codes : List ℕ) (code : ℕ) → (c ≡ true → 2 ≤ length codes) → when b (λ _. false) c ≡ true → 2 ≤ length (when b (and_last code) codes)
-issued_to true c codes code two e = not_both false e refl
-issued_to false c codes code two e = two e
-
--- A secured room has two codes or more.
-pub secured_have_two : (h : History) → Reached h → (r : ℕ) → secured h r ≡ true → 2 ≤ length (issued h r)
-secured_have_two (start t) ok r e = secured_have_two_at_start t ok r e
-secured_have_two (h ▷ Install room kind code) ok r e = issued_to (room == r) (secured h r) (issued h r) code (secured_have_two h ok.0 r) e
-secured_have_two (h ▷ Issue party room number code) ok r e = issued_to (room == r) (secured h r) (issued h r) code (secured_have_two h ok.0 r) e
-secured_have_two (h ▷ Entered room fit count number link at) ok r e =
-    elim (secured_by ((room == r) && (link.new_code == current h room) && are_none (inside h room)) (secured h r) e) [
-      | inl t ↦
-          let here = (and_true (room == r) (link.new_code == current h room) (and_true _ (are_none (inside h room)) t).0).0 in
-          let needs = may_follow h (Entered room fit count number link at) ok in
-          subst (λ z. 2 ≤ length (issued h z)) (eq_from room r here) (two_of_link (issued h room) link (link_of_room h ok.0 room link needs.1 (link_seen h number link ok.0 needs.2 needs.3) needs.4))
-      | inr s ↦ secured_have_two h ok.0 r s
-    ]
-secured_have_two (h ▷ _) ok r e = secured_have_two h ok.0 r e
+-- A secured room has two codes or more, and no fit begins with the last one.
+secured_two : (h : History) → Reached h → (r : ℕ) → secured h r ≡ true → (2 ≤ length (issued h r)) × (begins_fit (rows_of h) r (length (issued h r) - 1) ≡ false)
+secured_two h ok r e =
+    let newest = secured_have_newest h ok r e in
+    let l = newest_are_last h ok r newest.0 newest.1 in
+    let n = ap (λ (zs : List ℕ). length zs) l.1 in (
+      omega (arith, n, length-append l.0 (newest.0.old_code ∷ newest.0.new_code ∷ [])),
+      not_barred (begins_fit (rows_of h) r (length (issued h r) - 1)) (last_link_of (issued h r)) newest.0 (sym (newest_by_rows h ok r) ∙ newest.1),
+    )
 
 holds_last : (ps : List ℕ) (code : ℕ) (later codes : List ℕ) → ps ++ code ∷ later ≡ codes → later ≡ [] → length ps ≡ length codes - 1
 holds_last ps code later codes e none =
@@ -98,4 +73,4 @@ secured_locks h ok =
     each_room_is h ok _
     (λ r kind e. where_so (secured h r) _
     (λ s. let fit = secured_rooms_fit h ok r s in
-    both _ _ (eq_tested _ _ (holds_last (passed h r) (held h r) (awaited h r) (issued h r) (ledger_holds h ok r fit.0) fit.1)) (le_tested 2 _ (secured_have_two h ok r s))))
+    both _ _ (both _ _ (eq_tested _ _ (holds_last (passed h r) (held h r) (awaited h r) (issued h r) (ledger_holds h ok r fit.0) fit.1)) (le_tested 2 _ (secured_two h ok r s).0)) (ap not (secured_two h ok r s).1)))

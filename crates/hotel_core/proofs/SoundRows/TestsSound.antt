@@ -1,6 +1,6 @@
 -- Rows are sound exactly where they pass the test of all rules: a night that is fullest is the first of a stay.
 use Rattle.std.proofs.Common.{ℕ, zero, suc, ◌≡◌, ◌≤◌, Bool, true, false, cond, List, [], ◌∷◌, refl, sym, ◌∙◌, subst, arith, ◌==◌, ◌&&◌, ◌||◌, bytes_eq, nat_le, nat_lt, count_by}
-use Rattle.hotel_core.proofs.Names.{list_any, list_all, values_of, nat_tests, bytes_eq-Decides, Stay, takes, is_standing, Rows, day_in_range, day_before_kinds, kinds_read, room_numbers, lock_places, room_kinds_there, codes_few, note_counts, parties_in_house, secured_hold_last, stay_numbers, guests_read, stay_kinds_there, stay_days, stay_rooms, nights_fit, stays_on, rooms_with, codes_in_range, code_rooms_there, places_once, card_numbers, card_parties_there, links_are_neighbours, links_of_one_party, neighbours_are_links, newest_of_party, last_cards_newest, insides_fit, notes_counted, notes_fit, IsSound, passes_rules}
+use Rattle.hotel_core.proofs.Names.{list_any, list_all, values_of, nat_tests, bytes_eq-Decides, Stay, takes, is_standing, Rows, day_in_range, day_before_kinds, kinds_read, room_numbers, lock_places, room_kinds_there, codes_few, note_counts, parties_in_house, secured_hold_last, stay_numbers, guests_read, stay_kinds_there, stay_days, stay_rooms, nights_fit, stays_on, rooms_with, codes_in_range, code_rooms_there, places_once, card_numbers, card_parties_there, links_are_neighbours, links_of_one_party, neighbours_are_links, newest_of_party, last_cards_newest, insides_fit, notes_counted, notes_fit, IsSound, passes_rules, fits_without_links, notes_of_fits, fit_rooms_there, fit_numbers, first_fits, fit_places_rise, fit_notes_rise, last_fits_held, last_fits_noted, fit_notes_few, rows_of_last_fits}
 use Rattle.hotel_nights.specs.FullNight.{is_of_kind}
 use Rattle.hotel_core.proofs.{OfTables.Tests.eq_from, OfTables.Tests.and_true, OfTables.Tests.or_false, OfTables.Tests.not_both, Invariants.KindCounts.count_more}
 use Rattle.hotel_core.proofs.{OfTables.RowTests.both, OfTables.Tests.le_tested}
@@ -100,16 +100,27 @@ all_nights_fit rows all kind (suc d) = by (list_any (begins kind (suc d)) rows.s
 -- Sound rows pass the test.
 pub sound_pass : (rows : Rows) → IsSound rows → passes_rules rows ≡ true
 sound_pass rows s =
-    both _ _ (both _ _ (both _ _ (both _ _ (both _ _ (both _ _ (both _ _ (both _ _ (both _ _ (both _ _ (both _ _ (both _ _ (both _ _ (both _ _ (both _ _ (both _ _ (both _ _ (both _ _ (both _ _ (both _ _ (both _ _ (both _ _ (both _ _ (both _ _ (both _ _ (both _ _ (both _ _ (both _ _ (both _ _ s.keys s.meta_day) s.meta_kinds) s.kind_reads) s.room_number) s.room_lock_place) s.room_kind) s.room_codes) s.room_notes) s.room_party) s.room_secured) s.stay_number) s.stay_guest) s.stay_kind) s.stay_day) s.stay_room) (begins_fit rows s.stay_nights)) s.code_range) s.code_room) s.code_places) s.card_number) s.card_party) s.card_link) s.card_one_party) s.card_neighbours) s.card_newest) s.card_last) s.inside_fits) s.note_counted) s.note_fits
+    both _ _ (both _ _ (both _ _ (both _ _ (both _ _ (both _ _ (both _ _ (both _ _ (both _ _ (both _ _ (both _ _ (both _ _ (both _ _ (both _ _ (both _ _ (both _ _ (both _ _ (both _ _ (both _ _ (both _ _ (both _ _ (both _ _ (both _ _ (both _ _ (both _ _ (both _ _ (both _ _ (both _ _ (both _ _ (both _ _ (both _ _ (both _ _ (both _ _ (both _ _ (both _ _ (both _ _ (both _ _ (both _ _ (both _ _ (both _ _ s.keys s.meta_day) s.meta_kinds) s.kind_reads) s.room_number) s.room_lock_place) s.room_kind) s.room_codes) s.room_notes) s.room_party) s.room_secured) s.stay_number) s.stay_guest) s.stay_kind) s.stay_day) s.stay_room) (begins_fit rows s.stay_nights)) s.code_range) s.code_room) s.code_places) s.card_number) s.card_party) s.card_link) s.card_one_party) s.card_neighbours) s.card_fits) s.card_newest) s.card_last) s.inside_fits) s.note_counted) s.note_fits) s.note_of_fit) s.fit_room) s.fit_number) s.fit_first) s.fit_places) s.fit_notes) s.fit_held) s.fit_noted) s.fit_few) s.fit_of_room
 
 -- Rows that pass the test are sound.
 pub passing_are_sound : (rows : Rows) → passes_rules rows ≡ true → IsSound rows
 passing_are_sound rows t =
-    let p29 = and_true _ (notes_fit rows) t in
-    let p28 = and_true _ (notes_counted rows) p29.0 in
-    let p27 = and_true _ (insides_fit rows) p28.0 in
-    let p26 = and_true _ (last_cards_newest rows) p27.0 in
-    let p25 = and_true _ (newest_of_party rows) p26.0 in
+    let p40 = and_true _ (rows_of_last_fits rows) t in
+    let p39 = and_true _ (fit_notes_few rows) p40.0 in
+    let p38 = and_true _ (last_fits_noted rows) p39.0 in
+    let p37 = and_true _ (last_fits_held rows) p38.0 in
+    let p36 = and_true _ (fit_notes_rise rows) p37.0 in
+    let p35 = and_true _ (fit_places_rise rows) p36.0 in
+    let p34 = and_true _ (first_fits rows) p35.0 in
+    let p33 = and_true _ (fit_numbers rows) p34.0 in
+    let p32 = and_true _ (fit_rooms_there rows) p33.0 in
+    let p31 = and_true _ (notes_of_fits rows) p32.0 in
+    let p30 = and_true _ (notes_fit rows) p31.0 in
+    let p29 = and_true _ (notes_counted rows) p30.0 in
+    let p28 = and_true _ (insides_fit rows) p29.0 in
+    let p27 = and_true _ (last_cards_newest rows) p28.0 in
+    let p26 = and_true _ (newest_of_party rows) p27.0 in
+    let p25 = and_true _ (fits_without_links rows) p26.0 in
     let p24 = and_true _ (neighbours_are_links rows) p25.0 in
     let p23 = and_true _ (links_of_one_party rows) p24.0 in
     let p22 = and_true _ (links_are_neighbours rows) p23.0 in
@@ -160,9 +171,20 @@ passing_are_sound rows t =
       card_link = p22.1;
       card_one_party = p23.1;
       card_neighbours = p24.1;
-      card_newest = p25.1;
-      card_last = p26.1;
-      inside_fits = p27.1;
-      note_counted = p28.1;
-      note_fits = p29.1;
+      card_fits = p25.1;
+      card_newest = p26.1;
+      card_last = p27.1;
+      inside_fits = p28.1;
+      note_counted = p29.1;
+      note_fits = p30.1;
+      note_of_fit = p31.1;
+      fit_room = p32.1;
+      fit_number = p33.1;
+      fit_first = p34.1;
+      fit_places = p35.1;
+      fit_notes = p36.1;
+      fit_held = p37.1;
+      fit_noted = p38.1;
+      fit_few = p39.1;
+      fit_of_room = p40.1;
     }

@@ -1,9 +1,9 @@
 -- A start's ledger: the lock's place cuts a room's codes into passed, held and awaited ones.
 use Rattle.std.proofs.Common.{ℕ, zero, suc, ◌≡◌, ◌≤◌, ◌<◌, ◌+◌, Bool, true, false, None, List, [], ◌∷◌, ◌++◌, length, take, drop, refl, ap, sym, ◌∙◌, subst, arith, nat_le, is_some}
-use Rattle.hotel_core.proofs.Names.{RoomRow, Rows, at_number, codes_at, lock_place_of, first_of, start, is_room, IsSound, LedgerHolds}
+use Rattle.hotel_core.proofs.Names.{RoomRow, Rows, at_number, codes_at, lock_place_of, first_of, start, fits_at, is_room, IsSound, LedgerHolds}
 use Rattle.hotel_core.proofs.{Facts.CodeFacts.HasCodes, Facts.CodeFacts.RoomsHaveCodes, Facts.CodeFacts.OthersHaveNone, Facts.CodeFacts.CodesFit, OfTables.RowTests.found_passes}
-use Rattle.hotel_core.proofs.Starts.StartRules.{le_from, some_of}
-use Rattle.hotel_core.proofs.Starts.StartCodes.{counted, lock_within, no_codes_at, has_row, has_no_row, room_there_is}
+use Rattle.hotel_core.proofs.{OfTables.Tests.le_from, Starts.StartRules.some_of}
+use Rattle.hotel_core.proofs.Starts.StartCodes.{counted, room_is, lock_within, no_codes_at, has_row, has_no_row, room_there_is}
 
 -- a list cut at one of its places
 pub cut_at : (k : ℕ) (xs : List ℕ) → k < length xs → take k xs ++ first_of (drop k xs) ∷ drop (k + 1) xs ≡ xs
@@ -48,14 +48,15 @@ others_have_none_at_start t s r e =
     let none = no_codes_at t s r (not_there t r e) in
     (none, ap (take (lock_place_of t r)) none ∙ take_none (lock_place_of t r), ap (drop (lock_place_of t r + 1)) none ∙ drop_none (lock_place_of t r + 1))
 
--- A room has at most one code more than there are cards.
+-- A room has at most as many codes as there are cards, and those that its fits begin with.
 pub codes_fit_at_start : (t : Rows) → IsSound t → CodesFit (start t)
 codes_fit_at_start t s r = by (is_some (at_number t.rooms r)) refl
   where
-    by : (b : Bool) → is_some (at_number t.rooms r) ≡ b → length (codes_at t r) ≤ length t.cards + 1
+    by : (b : Bool) → is_some (at_number t.rooms r) ≡ b → length (codes_at t r) ≤ length t.cards + length (fits_at t.fits r)
     by true q =
         let row = some_of (at_number t.rooms r) q in
-        let few = le_from row.0.codes (length t.cards + 1) (found_passes (λ (e : ℕ × RoomRow). nat_le e.1.codes (length t.cards + 1)) t.rooms r row.0 s.room_codes row.1) in
+        let few = le_from row.0.codes (length t.cards + length (fits_at t.fits row.0.room)) (found_passes (λ (e : ℕ × RoomRow). nat_le e.1.codes (length t.cards + length (fits_at t.fits e.1.room))) t.rooms r row.0 s.room_codes row.1) in
+        let same = ap (λ z. length (fits_at t.fits z)) (room_is t s r row.0 row.1) in
         let many = (counted t s r row.0 row.1).many in
         omega arith
     by false q =

@@ -1,6 +1,6 @@
 -- The links of sound rows: a card's codes are neighbours at a room, and a link is one party's.
-use Rattle.std.proofs.Common.{ℕ, ◌≡◌, ◌+◌, Bool, true, false, cond, Option, Some, None, List, [], ◌∷◌, ◌++◌, length, refl, ap, sym, ◌∙◌, subst, arith, append_assoc, length-append, ◌==◌, ◌&&◌, ◌||◌, not, nat_cmp}
-use Rattle.hotel_core.proofs.Names.{list_all, keys_of, Card, Link, CodeRow, said_of, last_of, Rows, at_number, codes_at, last_link_of, link_of_last_card, or_else, start, same_link, stands_at, is_newest, IsSound}
+use Rattle.std.proofs.Common.{ℕ, ◌≡◌, ◌+◌, ◌-◌, Bool, true, false, cond, Option, Some, None, List, [], ◌∷◌, ◌++◌, length, refl, ap, sym, ◌∙◌, subst, arith, append_assoc, length-append, ◌==◌, ◌&&◌, ◌||◌, not, nat_cmp}
+use Rattle.hotel_core.proofs.Names.{list_all, keys_of, Card, Link, CodeRow, said_of, last_of, Rows, at_number, codes_at, last_link_of, newest_link_at, begins_fit, link_of_last_card, or_else, start, same_link, stands_at, is_newest, IsSound}
 use Rattle.hotel_core.proofs.Facts.CodeFacts.{IsLinkOf, CardsHaveLinks, PartiesHaveLinks, PartiesHaveCards, CardsOneParty, NewestAreLast}
 use Rattle.hotel_core.proofs.{OfTables.KeysInOrder.InOrder, OfTables.CodeLists.cut_alike, OfTables.CodeLists.last_more}
 use Rattle.hotel_core.proofs.{OfTables.Tests.eq_from, OfTables.Tests.eq_self, OfTables.Tests.and_true, OfTables.Tests.or_second, OfTables.TableKeys.is_at_self}
@@ -73,19 +73,14 @@ last_two (c ∷ d ∷ []) link e =
     (none, ap (λ (k : Link). k.old_code ∷ k.new_code ∷ []) w)
 last_two (c ∷ d ∷ x ∷ xs) link e = let l = last_two (d ∷ x ∷ xs) link e in (c ∷ l.0, ap (λ zs. c ∷ zs) l.1)
 
+-- a link that is there where no fit begins
+pub unless_begun : (b : Bool) (last : Option Link) (link : Link) → cond b None last ≡ Some link → last ≡ Some link
+unless_begun true last link e = absurd (let w : ◌≡◌ {A = Option Link} None (Some link) = e in cc)
+unless_begun false last link e = e
+
 -- The newest link of a room is its last two codes.
 pub newest_are_last_at_start : (t : Rows) → IsSound t → NewestAreLast (start t)
-newest_are_last_at_start t s r link e = last_two (codes_at t r) link e
-
-two_last : (front : List ℕ) (a b : ℕ) → last_link_of (front ++ a ∷ b ∷ []) ≡ Some (record { old_code = a; new_code = b })
-two_last [] a b = refl
-two_last (x ∷ []) a b = refl
-two_last (x ∷ y ∷ []) a b = refl
-two_last (x ∷ y ∷ z ∷ zs) a b = two_last (y ∷ z ∷ zs) a b
-
--- A room whose codes end with two has a newest link.
-pub two_have_newest_at_start : (t : Rows) (r : ℕ) (front : List ℕ) (a b : ℕ) → codes_at t r ≡ front ++ a ∷ b ∷ [] → (link : Link) × (last_link_of (codes_at t r) ≡ Some link)
-two_have_newest_at_start t r front a b e = (record { old_code = a; new_code = b }, ap last_link_of e ∙ two_last front a b)
+newest_are_last_at_start t s r link e = last_two (codes_at t r) link (unless_begun (begins_fit t r (length (codes_at t r) - 1)) (last_link_of (codes_at t r)) link e)
 
 link_self : (link : Link) → same_link link link ≡ true
 link_self link = ap (λ z. z && (link.new_code == link.new_code)) (eq_self link.old_code) ∙ eq_self link.new_code
@@ -115,7 +110,7 @@ cards_one_party_at_start t s n m a b e f same =
     eq_from a.party b.party (or_second (not (same_link a.link b.link)) (a.party == b.party) (ap not (ap (same_link a.link) (sym link) ∙ link_self a.link)) q)
 
 -- the newest link, as the rules say it
-pub newest_by_rule : (t : Rows) (room : ℕ) (link : Link) → is_newest t room link ≡ true → last_link_of (codes_at t room) ≡ Some link
+pub newest_by_rule : (t : Rows) (room : ℕ) (link : Link) → is_newest t room link ≡ true → newest_link_at t room ≡ Some link
 newest_by_rule t room link e =
-    let n = said_true (last_link_of (codes_at t room)) (λ newest. same_link newest link) e in
+    let n = said_true (newest_link_at t room) (λ newest. same_link newest link) e in
     n.1 ∙ ap (λ z. Some z) (link_is n.0 link n.2)

@@ -1,12 +1,12 @@
 -- The rows that stand for a start are the start's rows.
-use Rattle.std.proofs.Common.{ℕ, ◌≡◌, ◌≤◌, ◌<◌, ◌+◌, Bool, true, false, cond, Option, Some, None, List, [], ◌∷◌, length, take, refl, ap, sym, ◌∙◌, arith, ◌==◌, ◌&&◌, map, bytes_eq, nat_le, is_some, nat_cmp, is_eq, count_by}
-use Rattle.hotel_core.proofs.Names.{list_all, keys_of, values_of, RoomRow, Note, said_of, Rows, at_number, codes_at, lock_place_of, notes_at, start, room_row, rows_of, rooms, rooms_of, count_up, rooms_with, counts_at, IsSound}
+use Rattle.std.proofs.Common.{ℕ, ◌≡◌, ◌≤◌, ◌<◌, ◌+◌, Bool, true, false, cond, Option, Some, None, List, [], ◌∷◌, length, take, refl, ap, sym, ◌∙◌, arith, ◌==◌, ◌&&◌, map, bytes_eq, nat_le, nat_cmp, is_eq, count_by}
+use Rattle.hotel_core.proofs.Names.{list_all, keys_of, values_of, RoomRow, said_of, Rows, at_number, codes_at, lock_place_of, notes_at, start, room_row, rows_of, rooms, rooms_of, rooms_with, IsSound}
 use Rattle.std.proofs.lemmas.List.{length-take-le}
 use Rattle.hotel_core.proofs.{Facts.Follow.ApartFrom, Facts.Follow.RoomsOnce, OfTables.KeysInOrder.AllAfter, OfTables.KeysInOrder.InOrder, OfTables.StayCounts.count_first}
-use Rattle.hotel_core.proofs.{OfTables.Tests.eq_from, OfTables.Tests.eq_self, OfTables.Tests.and_true, OfTables.TableKeys.at_is, OfTables.TableKeys.is_at_self}
-use Rattle.hotel_core.proofs.{OfTables.RowTests.found_passes, OfTables.RowTests.all_weaker, OfTables.RowTests.both, Starts.StartOrder.found_later}
-use Rattle.hotel_core.proofs.Starts.StartCodes.{orders, room_is, counted, lock_within, room_there_is}
-use Rattle.hotel_core.proofs.{Starts.StartRules.le_from, Starts.StartRules.some_of, Starts.StartNotes.nothing_noted_at_start}
+use Rattle.hotel_core.proofs.{OfTables.Tests.eq_self, OfTables.Tests.and_true, OfTables.TableKeys.at_is, OfTables.TableKeys.is_at_self}
+use Rattle.hotel_core.proofs.{OfTables.RowTests.all_weaker, OfTables.RowTests.both, Starts.StartOrder.found_later}
+use Rattle.hotel_core.proofs.Starts.StartCodes.{orders, room_is, counted, lock_within}
+use Rattle.hotel_core.proofs.{Starts.StartNotes.numbers_said, Starts.StartNotes.as_many_numbers}
 
 -- a room and its kind
 abbrev with_kind : List (ℕ × RoomRow) → List (ℕ × List ℕ)
@@ -25,28 +25,12 @@ pub rooms_once_at_start : (t : Rows) → IsSound t → RoomsOnce (rooms (start t
 rooms_once_at_start t s = once_from t.rooms (orders t s).rooms
 
 -- a row of these columns
-abbrev row_by : ℕ → List ℕ → ℕ → ℕ → Bool → Option ℕ → ℕ → RoomRow
-row_by r k l c s p n = record { room = r; kind = k; lock_place = l; codes = c; secured = s; party = p; notes = n }
+abbrev row_by : ℕ → List ℕ → ℕ → ℕ → Bool → Option ℕ → ℕ → ℕ → ℕ → RoomRow
+row_by r k l c s p n f o = record { room = r; kind = k; lock_place = l; codes = c; secured = s; party = p; notes = n; fit = f; before = o }
 
-notes_counted : (t : Rows) → IsSound t → (r : ℕ) (row : RoomRow) → at_number t.rooms r ≡ Some row → length (notes_at t.notes r) ≡ row.notes
+pub notes_counted : (t : Rows) → IsSound t → (r : ℕ) (row : RoomRow) → at_number t.rooms r ≡ Some row → length (notes_at t.notes r) ≡ row.notes
 notes_counted t s r row e =
-    let a = found_passes (λ (e : ℕ × RoomRow). count_up 1 (counts_at (notes_at t.notes e.1.room)) && (length (notes_at t.notes e.1.room) == e.1.notes)) t.rooms r row s.note_counted e in
-    let b = and_true (count_up 1 (counts_at (notes_at t.notes row.room))) (length (notes_at t.notes row.room) == row.notes) a in
-    ap (λ z. length (notes_at t.notes z)) (sym (room_is t s r row e)) ∙ eq_from _ _ b.1
-
--- A room has at most 9,999,999 notes.
-pub few_notes_at_start : (t : Rows) → IsSound t → (r : ℕ) → length (notes_at t.notes r) ≤ 9999999
-few_notes_at_start t s r = by (is_some (at_number t.rooms r)) refl
-  where
-    by : (b : Bool) → is_some (at_number t.rooms r) ≡ b → length (notes_at t.notes r) ≤ 9999999
-    by true q =
-        let row = some_of (at_number t.rooms r) q in
-        let few = le_from row.0.notes 9999999 (found_passes (λ (e : ℕ × RoomRow). nat_le e.1.notes 9999999) t.rooms r row.0 s.room_notes row.1) in
-        let many = notes_counted t s r row.0 row.1 in
-        omega arith
-    by false q =
-        let none = ap (λ (zs : List Note). length zs) (nothing_noted_at_start t s r (room_there_is t r ∙ q)) in
-        omega arith
+    sym (as_many_numbers t.notes r) ∙ (numbers_said t s r row e).1
 
 weaker : (e : ℕ × RoomRow) → ((e.1.room == e.0) && nat_le 1 e.0 && nat_le e.0 9999) ≡ true → ((e.0 == e.0) && nat_le 1 e.0 && nat_le e.0 9999) ≡ true
 weaker e t =
@@ -76,12 +60,16 @@ row_back t s r row e =
     let b = said_of (at_number t.rooms r) false (λ row. row.secured) in
     let p : Option ℕ = said_of (at_number t.rooms r) None (λ row. row.party) in
     let n = length (notes_at t.notes r) in
-    ap (λ z. row_by z row.kind l c b p n) (sym (room_is t s r row e))
-    ∙ ap (λ z. row_by row.room row.kind z c b p n) (lock_is t s r row e)
-    ∙ ap (λ z. row_by row.room row.kind row.lock_place z b p n) (counted t s r row e).many
-    ∙ ap (λ z. row_by row.room row.kind row.lock_place row.codes z p n) (ap (λ o. said_of o false (λ row. row.secured)) e)
-    ∙ ap (λ z. row_by row.room row.kind row.lock_place row.codes row.secured z n) (ap (λ o. said_of o None (λ row. row.party)) e)
-    ∙ ap (λ z. row_by row.room row.kind row.lock_place row.codes row.secured row.party z) (notes_counted t s r row e)
+    let f = said_of (at_number t.rooms r) 0 (λ row. row.fit) in
+    let o = said_of (at_number t.rooms r) 0 (λ row. row.before) in
+    ap (λ z. row_by z row.kind l c b p n f o) (sym (room_is t s r row e))
+    ∙ ap (λ z. row_by row.room row.kind z c b p n f o) (lock_is t s r row e)
+    ∙ ap (λ z. row_by row.room row.kind row.lock_place z b p n f o) (counted t s r row e).many
+    ∙ ap (λ z. row_by row.room row.kind row.lock_place row.codes z p n f o) (ap (λ x. said_of x false (λ row. row.secured)) e)
+    ∙ ap (λ z. row_by row.room row.kind row.lock_place row.codes row.secured z n f o) (ap (λ x. said_of x None (λ row. row.party)) e)
+    ∙ ap (λ z. row_by row.room row.kind row.lock_place row.codes row.secured row.party z f o) (notes_counted t s r row e)
+    ∙ ap (λ z. row_by row.room row.kind row.lock_place row.codes row.secured row.party row.notes z o) (ap (λ x. said_of x 0 (λ row. row.fit)) e)
+    ∙ ap (λ z. row_by row.room row.kind row.lock_place row.codes row.secured row.party row.notes row.fit z) (ap (λ x. said_of x 0 (λ row. row.before)) e)
 
 all_back : (f : ℕ → List ℕ → RoomRow) (es : List (ℕ × RoomRow)) → InOrder nat_cmp (keys_of es) → ((r : ℕ) (row : RoomRow) → at_number es r ≡ Some row → f r row.kind ≡ row)
     → map (λ e. (e.0, f e.0 e.1)) (with_kind es) ≡ es

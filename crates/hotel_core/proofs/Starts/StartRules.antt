@@ -1,12 +1,6 @@
 -- What a test of all rows of a table tells of a row that is found there.
-use Rattle.std.proofs.Common.{ℕ, ◌≡◌, ◌≤◌, ◌<◌, Bool, true, false, Option, Some, None, refl, ap, sym, ◌∙◌, arith, ◌==◌, nat_le, nat_lt, is_some}
-use Rattle.hotel_core.proofs.{Names.nat_tests, Names.Link, Names.said_of, Names.is_that, Names.same_link, OfTables.Tests.eq_from, OfTables.Tests.and_true, OfTables.Tests.not_both}
-
-pub le_from : (a b : ℕ) → nat_le a b ≡ true → a ≤ b
-le_from a b e = grind (arith, nat_tests)
-
-pub lt_from : (a b : ℕ) → nat_lt a b ≡ true → a < b
-lt_from a b e = grind (arith, nat_tests)
+use Rattle.std.proofs.Common.{ℕ, ◌≡◌, Bool, true, false, Option, Some, None, refl, ap, sym, ◌∙◌, ◌==◌, is_some}
+use Rattle.hotel_core.proofs.{Names.Link, Names.said_of, Names.is_that, Names.same_link, OfTables.Tests.eq_from, OfTables.Tests.and_true, OfTables.Tests.not_both}
 
 -- what is said of a value that is there
 pub said_true : {X : Type 0} (o : Option X) (f : X → Bool) → said_of o false f ≡ true → (x : X) × (o ≡ Some x) × (f x ≡ true)

@@ -8,8 +8,8 @@ use Rattle.std.specs.Set.{remove_key}
 use Rattle.hotel_nights.specs.declared.stay.StayState.TheVariants as state
 use Rattle.hotel_core.specs.{declared.books.rows.RoomRow.RoomRow, declared.books.change.InsideMove.InsideMove, declared.books.change.Change.Change}
 use Rattle.hotel_core.specs.declared.books.change.InsideMove.TheVariants.{Same, Goes, Comes}
-use Rattle.hotel_core.specs.declared.books.change.Change.TheVariants.{Begin, DayTo, Kind, Room, Reserved, Cancelled, Issue, Spare, CheckedOut, Noted}
-use Rattle.hotel_core.specs.{Model.Words.said_of, Model.Words.pair_cmp, Model.Rows.Rows, Model.Rows.at_number, Model.Stays.in_state}
+use Rattle.hotel_core.specs.declared.books.change.Change.TheVariants.{Begin, DayTo, Kind, Room, Reserved, Cancelled, Issue, Spare, CheckedOut, Refit, Noted}
+use Rattle.hotel_core.specs.{Model.Words.said_of, Model.Words.pair_cmp, Model.Rows.Rows, Model.Rows.at_number, Model.Stays.in_state, Model.Guests.those_elsewhere, Model.Refits.fit_row}
 
 -- the rooms, with f done to the row of a number
 abbrev pub room_changed : ℕ → (RoomRow → RoomRow) → List (ℕ × RoomRow) → List (ℕ × RoomRow)
@@ -35,6 +35,13 @@ moved (Comes number) room pairs = insert_key pair_cmp pairs (room, number)
 abbrev pub codes_of : Rows → ℕ → ℕ
 codes_of rows room = said_of (at_number rows.rooms room) 0 (λ row. row.codes)
 
+-- how many notes a room has, and how many of them were taken before its present fit (0 where it isn't there)
+abbrev pub notes_in : Rows → ℕ → ℕ
+notes_in rows room = said_of (at_number rows.rooms room) 0 (λ row. row.notes)
+
+abbrev pub before_in : Rows → ℕ → ℕ
+before_in rows room = said_of (at_number rows.rooms room) 0 (λ row. row.before)
+
 -- The rows with those of the change added or altered, and no others.
 abbrev pub made : Change → Rows → Rows
 made (Begin day) rows = record rows { day = Some day }
@@ -42,8 +49,9 @@ made (DayTo day) rows = record rows { day = Some day }
 made (Kind kind) rows = record rows { kinds = insert_key (slice_cmp nat_cmp) rows.kinds kind }
 made (Room room kind code) rows = record rows {
   rooms = insert_entry nat_cmp rows.rooms room
-      (record { room = room; kind = kind; lock_place = 0; codes = 1; secured = false; party = None; notes = 0 });
+      (record { room = room; kind = kind; lock_place = 0; codes = 1; secured = false; party = None; notes = 0; fit = 1; before = 0 });
   codes = insert_entry nat_cmp rows.codes code (record { room = room; place = 0 });
+  fits = insert_entry pair_cmp rows.fits (room, 1) (fit_row room 1 0 0);
 }
 made (Reserved stay) rows = record rows { stays = insert_entry nat_cmp rows.stays stay.party stay }
 made (Cancelled party) rows = record rows { stays = in_state party state.Cancelled rows.stays }
@@ -58,8 +66,14 @@ made (CheckedOut party room) rows = record rows {
   rooms = without_party room rows.rooms;
   stays = in_state party state.Done rows.stays;
 }
+made (Refit room code fit) rows = record rows {
+  rooms = room_changed room (λ row. record row { lock_place = row.codes; codes = row.codes + 1; secured = false; fit = fit; before = row.notes }) rows.rooms;
+  codes = insert_entry nat_cmp rows.codes code (record { room = room; place = codes_of rows room });
+  inside = those_elsewhere room rows.inside;
+  fits = insert_entry pair_cmp rows.fits (room, fit) (fit_row room fit (codes_of rows room) (notes_in rows room));
+}
 made (Noted note lock_place secured insides) rows = record rows {
-  rooms = room_changed note.room (λ row. record row { lock_place = lock_place; secured = secured; notes = note.count }) rows.rooms;
+  rooms = room_changed note.room (λ row. record row { lock_place = lock_place; secured = secured; notes = row.before + note.count }) rows.rooms;
   inside = moved insides note.room rows.inside;
-  notes = insert_entry pair_cmp rows.notes (note.room, note.count) note;
+  notes = insert_entry pair_cmp rows.notes (note.room, before_in rows note.room + note.count) note;
 }

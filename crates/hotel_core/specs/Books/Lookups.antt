@@ -5,7 +5,7 @@ use Rattle.std.specs.Map.{lookup, keys_of, values_of}
 use Rattle.std.specs.BTreeMap.{is_at}
 use Rattle.keycard_rules.specs.{declared.card.Card.Card, Note.Note}
 use Rattle.hotel_nights.specs.{declared.stay.Stay.Stay, FullNight.is_full, FullNight.first_day}
-use Rattle.hotel_core.specs.{declared.books.rows.RoomRow.RoomRow, declared.books.rows.CodeRow.CodeRow, Model.Words.pair_cmp, Model.Rows.Rows, Model.Rows.at_number}
+use Rattle.hotel_core.specs.{declared.books.rows.RoomRow.RoomRow, declared.books.rows.CodeRow.CodeRow, Model.Words.pair_cmp, Model.Words.said_of, Model.Rows.Rows, Model.Rows.at_number, Model.Rows.fit_at}
 use Rattle.hotel_core.specs.Model.Guests.{those_in}
 
 abbrev pub room_at : Rows → ℕ → Option RoomRow
@@ -42,9 +42,18 @@ card_at rows number = at_number rows.cards number
 abbrev pub inside_at : Rows → ℕ → List ℕ
 inside_at rows room = those_in rows.inside room
 
--- the note of a count
-abbrev pub note_at : Rows → ℕ → ℕ → Option Note
-note_at rows room count = lookup (is_at (pair_cmp (room, count))) rows.notes
+-- the note, where it is of this fit
+abbrev pub of_fit : ℕ → Option Note → Option Note
+of_fit fit (Some note) = if note.fit == fit then Some note else None
+of_fit fit None = None
+
+-- the note of a number
+abbrev pub note_numbered : Rows → ℕ → ℕ → Option Note
+note_numbered rows room number = lookup (is_at (pair_cmp (room, number))) rows.notes
+
+-- the note of a count of a fit: its number is that of those before the fit and its count
+abbrev pub note_at : Rows → ℕ → ℕ → ℕ → Option Note
+note_at rows room fit count = said_of (fit_at rows room fit) None (λ f. of_fit fit (note_numbered rows room (f.before + count)))
 
 -- how many rooms a kind has
 abbrev pub rooms_of_kind : Rows → List ℕ → ℕ

@@ -4,7 +4,7 @@ use Rattle.hotel_core.specs.declared.command.Command.{Command}
 use Rattle.hotel_core.specs.declared.command.Command.TheVariants as command
 use Rattle.hotel_core.specs.declared.reply.Reply.TheVariants as reply
 use Rattle.hotel_core.specs.declared.reply.Refusal.{Refusal}
-use Rattle.hotel_core.specs.declared.reply.Refusal.TheVariants.{NotBegun, AlreadyBegun, KindExists, NoKind, RoomExists, NoRoom, NoParty, NotBooked, NotInHouse, TooEarly, StayOver, WrongKind, SameRoom, RoomTaken, PastArrival, PastEnd, KindFull, NumbersUsedUp, LastDay, Conflict, Gap, NoCard, CardDiffers, LockShut, NotInside, HeldDiffers, NotAwaited, NoFit}
+use Rattle.hotel_core.specs.declared.reply.Refusal.TheVariants.{NotBegun, AlreadyBegun, KindExists, NoKind, RoomExists, NoRoom, NoParty, NotBooked, NotInHouse, TooEarly, StayOver, WrongKind, SameRoom, RoomTaken, PastArrival, PastEnd, KindFull, NumbersUsedUp, LastDay, Conflict, Gap, NoCard, CardDiffers, LockShut, NotInside, HeldDiffers, NotAwaited, OldFit, NoFit, FitsUsedUp}
 use Rattle.keycard_rules.specs.declared.note.Act.{Act}
 use Rattle.keycard_rules.specs.declared.note.Act.TheVariants as act
 use Rattle.keycard_rules.specs.Note.{Note}
@@ -16,8 +16,9 @@ use Rattle.hotel_core.specs.Model.Cards.{card_of, link_to}
 use Rattle.hotel_core.specs.Model.Ledger.{awaited}
 use Rattle.hotel_core.specs.Model.Guests.{inside}
 use Rattle.hotel_core.specs.Model.Stays.{first_full}
-use Rattle.hotel_core.specs.Model.Notes.{Standing, Copy, Conflicting, Next, After, standing}
-use Rattle.hotel_core.specs.Model.Cases.{is_begun, today, is_kind, is_room, is_party, is_booked, is_in_house, is_early, is_over, is_of_kind, is_home, own_room, is_taken, parties_used_up, next_party, cards_used_up, next_card, last_card_of, is_later_fit, is_card, has_link, opens, holds}
+use Rattle.hotel_core.specs.Model.Refits.{is_fit, fits_used_up, next_fit}
+use Rattle.hotel_core.specs.Model.Standing.{Standing, Copy, Conflicting, OfOldFit, Next, After, standing}
+use Rattle.hotel_core.specs.Model.Cases.{is_begun, today, is_kind, is_room, is_party, own_room, is_booked, is_in_house, is_early, is_over, is_of_kind, is_home, is_taken, parties_used_up, next_party, cards_used_up, next_card, last_card_of, is_card, has_link, opens, holds}
 use Rattle.hotel_core.specs.Model.Outcome.{Outcome, needs, bars, unless, accepted, said, refused, with_fresh}
 
 -- The next note of a room: what it says must be so.
@@ -32,10 +33,11 @@ told h note (act.Recoded from to) =
     unless (needs (holds h note.room from) HeldDiffers ∷ needs (is_one_of to (awaited h note.room)) NotAwaited ∷ [])
     (accepted reply.Taken (event.Recoded note.room note.fit note.count from to (moment_of note)))
 
--- A copy was seen, another content is a conflict, a later count leaves a gap; only the next note is looked at.
+-- A copy was seen, another content is a conflict; an earlier fit takes no further note, a later count leaves a gap; only the next note is looked at.
 abbrev pub reported : History → Note → Standing → Outcome Event
 reported h note Copy = said reply.Seen
 reported h note Conflicting = refused Conflict
+reported h note OfOldFit = refused OldFit
 reported h note (After expected) = refused (Gap expected)
 reported h note Next = told h note note.act
 
@@ -64,8 +66,14 @@ checks h (command.Transfer party room) =
     ∷ needs (is_of_kind h room party) WrongKind ∷ bars (is_home h room party) SameRoom
     ∷ bars (is_taken h room) RoomTaken ∷ bars (cards_used_up h) NumbersUsedUp ∷ []
 checks h (command.CheckOut party) = needs (is_begun h) NotBegun ∷ needs (is_party h party) NoParty ∷ needs (is_in_house h party) NotInHouse ∷ []
+checks h (command.Refit room) =
+    needs (is_begun h) NotBegun ∷ needs (is_room h room) NoRoom ∷ bars (is_taken h room) RoomTaken ∷ bars (fits_used_up h room) FitsUsedUp ∷ []
 checks h command.NextDay = needs (is_begun h) NotBegun ∷ needs (nat_lt (today h) 36524) LastDay ∷ []
-checks h (command.Reported note) = needs (is_begun h) NotBegun ∷ needs (is_room h note.room) NoRoom ∷ bars (is_later_fit h note.room note.fit) NoFit ∷ []
+checks h (command.Reported note) = needs (is_begun h) NotBegun ∷ needs (is_room h note.room) NoRoom ∷ needs (is_fit h note.room note.fit) NoFit ∷ []
+
+-- a fresh code is issued at the room, and the party is given a card with it
+abbrev pub issues : History → List ℕ → ℕ → ℕ → Outcome Event
+issues h ahead party room = with_fresh h ahead (λ code. reply.Issued (card_of (next_card h) party (link_to h room code))) (λ code. event.Issue party room (next_card h) code)
 
 -- What comes of each command that passes its checks, where these are the source's next words.
 abbrev pub effect : History → List ℕ → Command → Outcome Event
@@ -74,12 +82,12 @@ effect h ahead (command.AddKind kind) = accepted reply.KindAdded (event.Kind kin
 effect h ahead (command.AddRoom room kind) = with_fresh h ahead (λ code. reply.RoomAdded code) (λ code. event.Install room kind code)
 effect h ahead (command.Reserve guest kind arrive nights) = accepted (reply.Reserved (next_party h)) (event.Reserved (next_party h) guest kind arrive (arrive + nights))
 effect h ahead (command.Cancel party) = accepted reply.Cancelled (event.Cancelled party)
-effect h ahead (command.CheckIn party room) = with_fresh h ahead (λ code. reply.Issued (card_of (next_card h) party (link_to h room code))) (λ code. event.Issue party room (next_card h) code)
+effect h ahead (command.CheckIn party room) = issues h ahead party room
 effect h ahead (command.Spare party) = accepted (reply.Issued (card_of (next_card h) party (last_card_of h party))) (event.Spare party (next_card h))
-effect h ahead (command.Reissue party) =
-    with_fresh h ahead (λ code. reply.Issued (card_of (next_card h) party (link_to h (own_room h party) code))) (λ code. event.Issue party (own_room h party) (next_card h) code)
-effect h ahead (command.Transfer party room) = with_fresh h ahead (λ code. reply.Issued (card_of (next_card h) party (link_to h room code))) (λ code. event.Issue party room (next_card h) code)
+effect h ahead (command.Reissue party) = issues h ahead party (own_room h party)
+effect h ahead (command.Transfer party room) = issues h ahead party room
 effect h ahead (command.CheckOut party) = accepted reply.CheckedOut (event.CheckOut party)
+effect h ahead (command.Refit room) = with_fresh h ahead (λ code. reply.Refitted code (next_fit h room)) (λ code. event.Refitted room (next_fit h room) code)
 effect h ahead command.NextDay = accepted (reply.DayIs (today h + 1)) event.NextDay
 effect h ahead (command.Reported note) = reported h note (standing h note)
 

@@ -5,8 +5,8 @@ use Rattle.std.specs.BTreeMap.{insert_entry}
 use Rattle.keycard_rules.specs.declared.card.Card.{Card}
 use Rattle.keycard_rules.specs.declared.card.Link.{Link}
 use Rattle.hotel_core.specs.Model.Words.{when}
-use Rattle.hotel_core.specs.Model.Rows.{codes_at, last_link_of, link_of_last_card}
-use Rattle.hotel_core.specs.Model.Event.{Issue, Spare}
+use Rattle.hotel_core.specs.Model.Rows.{newest_link_at, link_of_last_card}
+use Rattle.hotel_core.specs.Model.Event.{Issue, Refitted, Spare}
 use Rattle.hotel_core.specs.Model.History.{History, start, ◌▷◌}
 use Rattle.hotel_core.specs.Model.Issued.{current}
 
@@ -14,10 +14,11 @@ use Rattle.hotel_core.specs.Model.Issued.{current}
 abbrev pub link_to : History → ℕ → ℕ → Link
 link_to h room code = record { old_code = current h room; new_code = code }
 
--- The newest link of a room is that of the last card of a new code there.
+-- The newest link of a room is that of the last card with a new code there; after a refit there is none until the next such card.
 abbrev pub newest_link : History → ℕ → Option Link
-newest_link (start t) r = last_link_of (codes_at t r)
+newest_link (start t) r = newest_link_at t r
 newest_link (h ▷ Issue party room number code) r = when (room == r) (λ _. Some (link_to h room code)) (newest_link h r)
+newest_link (h ▷ Refitted room fit code) r = when (room == r) (λ _. None) (newest_link h r)
 newest_link (h ▷ _) r = newest_link h r
 
 -- The link of the card that a party was given last (a spare card has the same one again).
@@ -39,7 +40,7 @@ abbrev pub with_spare : ℕ → ℕ → Option Link → List (ℕ × Card) → L
 with_spare number party (Some link) all = insert_entry nat_cmp all number (card_of number party link)
 with_spare number party None all = all
 
--- All cards, by number: one of a new code has a new link, a spare card has the link of the party's last one.
+-- All cards, by number: one with a new code has a new link, a spare card has the link of the party's last one.
 abbrev pub cards : History → List (ℕ × Card)
 cards (start t) = t.cards
 cards (h ▷ Issue party room number code) = insert_entry nat_cmp (cards h) number (card_of number party (link_to h room code))

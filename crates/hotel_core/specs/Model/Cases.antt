@@ -1,5 +1,5 @@
 -- The cases on which the answers turn, each a question to the history.
-use Rattle.std.specs.Prelude.{ℕ, Bool, true, false, List, Option, Some, None, ◌+◌, ◌==◌, nat_lt, nat_le, length, is_some, bytes_eq}
+use Rattle.std.specs.Prelude.{ℕ, Bool, false, List, Option, None, ◌+◌, ◌==◌, nat_lt, nat_le, length, is_some, bytes_eq}
 use Rattle.std.specs.List.{list_any}
 use Rattle.std.specs.Map.{keys_of}
 use Rattle.keycard_rules.specs.declared.card.Link.{Link}
@@ -12,7 +12,6 @@ use Rattle.keycard_rules.specs.Lock.{turn}
 use Rattle.hotel_core.specs.Model.Lock.{held}
 use Rattle.hotel_core.specs.Model.Guests.{registered}
 use Rattle.hotel_core.specs.Model.Stays.{day, kinds, rooms, stays, is_booked_state, room_of_state}
-use Rattle.hotel_core.specs.Model.Notes.{present_fit}
 
 -- a day is set
 abbrev pub is_begun : History → Bool
@@ -42,7 +41,7 @@ stay_is h party test = said_of (at_number (stays h) party) false test
 abbrev pub room_of : History → ℕ → Option ℕ
 room_of h party = said_of (at_number (stays h) party) None (λ stay. room_of_state stay.state)
 
--- the room in which the party is in house (0 where it isn't)
+-- the room in which the party is in house (0 where it is in none)
 abbrev pub own_room : History → ℕ → ℕ
 own_room h party = said_of (room_of h party) 0 (λ room. room)
 
@@ -97,10 +96,6 @@ no_link = record { old_code = 0; new_code = 0 }
 -- the link of the card that the party was given last
 abbrev pub last_card_of : History → ℕ → Link
 last_card_of h party = said_of (link_of_party h party) no_link (λ link. link)
-
--- the number is after that of the room's present lock
-abbrev pub is_later_fit : History → ℕ → ℕ → Bool
-is_later_fit h room fit = nat_lt (present_fit h room) fit
 
 -- a card of the number was given
 abbrev pub is_card : History → ℕ → Bool

@@ -7,14 +7,15 @@ use Rattle.keycard_rules.specs.Words.{is_one_of}
 use Rattle.hotel_core.specs.declared.books.rows.CodeRow.{CodeRow}
 use Rattle.hotel_core.specs.Model.Words.{when, and_last, last_of}
 use Rattle.hotel_core.specs.Model.Rows.{codes_at}
-use Rattle.hotel_core.specs.Model.Event.{Install, Issue}
+use Rattle.hotel_core.specs.Model.Event.{Install, Issue, Refitted}
 use Rattle.hotel_core.specs.Model.History.{History, start, ◌▷◌}
 
--- The codes that were issued at a room, in order: a new room has its first one, and each card of a new code issues one.
+-- The codes that were issued at a room, in order: a new room, each card with a new code and each refit issue one.
 abbrev pub issued : History → ℕ → List ℕ
 issued (start t) r = codes_at t r
 issued (h ▷ Install room kind code) r = when (room == r) (and_last code) (issued h r)
 issued (h ▷ Issue party room number code) r = when (room == r) (and_last code) (issued h r)
+issued (h ▷ Refitted room fit code) r = when (room == r) (and_last code) (issued h r)
 issued (h ▷ _) r = issued h r
 
 -- The room's current code is the last one that was issued there.
@@ -26,6 +27,7 @@ abbrev pub all_issued : History → List (ℕ × CodeRow)
 all_issued (start t) = t.codes
 all_issued (h ▷ Install room kind code) = insert_entry nat_cmp (all_issued h) code (record { room = room; place = length (issued h room) })
 all_issued (h ▷ Issue party room number code) = insert_entry nat_cmp (all_issued h) code (record { room = room; place = length (issued h room) })
+all_issued (h ▷ Refitted room fit code) = insert_entry nat_cmp (all_issued h) code (record { room = room; place = length (issued h room) })
 all_issued (h ▷ _) = all_issued h
 
 -- The codes that were issued at any room.

@@ -1,5 +1,5 @@
--- The notes that were taken, and how a further one stands to them.
-use Rattle.std.specs.Prelude.{ℕ, Bool, false, List, [], ◌∷◌, Option, Some, None, ◌+◌, ◌-◌, ◌==◌, ◌&&◌, if◌then◌else◌, length, drop}
+-- The notes that were taken.
+use Rattle.std.specs.Prelude.{ℕ, Bool, false, List, Option, Some, None, ◌+◌, ◌==◌, ◌&&◌, length, filter}
 use Rattle.std.specs.BTreeMap.{insert_entry}
 use Rattle.keycard_rules.specs.declared.note.Act.{Act}
 use Rattle.keycard_rules.specs.declared.note.Act.TheVariants as act
@@ -20,15 +20,19 @@ abbrev pub notes : History → ℕ → List Note
 notes (start t) r = notes_at t.notes r
 notes (h ▷ event) r = with_note r (note_of event) (notes h r)
 
--- all notes by room and count, and the event's one
-abbrev pub and_note : Option Note → List ((ℕ × ℕ) × Note) → List ((ℕ × ℕ) × Note)
-and_note (Some note) taken = insert_entry pair_cmp taken (note.room, note.count) note
-and_note None taken = taken
+-- The notes of one fit of a room, in order.
+abbrev pub notes_of : History → ℕ → ℕ → List Note
+notes_of h r fit = filter (λ note. note.fit == fit) (notes h r)
 
--- All notes that were taken, by room and count.
+-- all notes by room and number, and the event's one under the number after those that its room has
+abbrev pub and_note : History → Option Note → List ((ℕ × ℕ) × Note) → List ((ℕ × ℕ) × Note)
+and_note h (Some note) taken = insert_entry pair_cmp taken (note.room, length (notes h note.room) + 1) note
+and_note h None taken = taken
+
+-- All notes that were taken, by room and number: those of a room are numbered over all its fits.
 abbrev pub all_notes : History → List ((ℕ × ℕ) × Note)
 all_notes (start t) = t.notes
-all_notes (h ▷ event) = and_note (note_of event) (all_notes h)
+all_notes (h ▷ event) = and_note h (note_of event) (all_notes h)
 
 -- Two notes say the same act, with equal numbers.
 abbrev pub same_act : Act → Act → Bool
@@ -40,27 +44,3 @@ same_act _ _ = false
 -- All fields of two notes are equal.
 abbrev pub same_note : Note → Note → Bool
 same_note a b = (a.room == b.room) && (a.fit == b.fit) && (a.count == b.count) && same_act a.act b.act && (a.day == b.day) && (a.second == b.second)
-
--- The number of a room's present lock: each room has its first one.
-abbrev pub present_fit : History → ℕ → ℕ
-present_fit h r = 1
-
--- How a note stands to those that its room has.
-pub data Standing : Type 0 where
-  -- it is the one of its count
-  Copy : Standing
-  -- another one has its count
-  Conflicting : Standing
-  -- it is the next one
-  Next : Standing
-  -- it comes after the next one, of this count
-  After : (expected : ℕ) → Standing
-
--- how a note stands to the notes from its count on, where so many were taken
-abbrev pub standing_among : ℕ → Note → List Note → Standing
-standing_among taken note (kept ∷ _) = if same_note kept note then Copy else Conflicting
-standing_among taken note [] = if note.count == taken + 1 then Next else After (taken + 1)
-
--- A note whose count was taken is a copy where it equals the note of that count, else a conflict. The next count is next, and any later one leaves a gap.
-abbrev pub standing : History → Note → Standing
-standing h note = standing_among (length (notes h note.room)) note (drop (note.count - 1) (notes h note.room))

@@ -8,7 +8,7 @@ use Rattle.hotel_core.specs.declared.command.Command.{Command}
 use Rattle.hotel_core.specs.declared.command.Command.TheVariants as command
 use Rattle.hotel_core.specs.declared.reply.Reply.{Reply}
 use Rattle.hotel_core.specs.declared.reply.Reply.TheVariants as reply
-use Rattle.hotel_core.specs.Model.Event.{Event, Begun, Kind, Install, Reserved, Issue, Entered, Left, Recoded}
+use Rattle.hotel_core.specs.Model.Event.{Event, Begun, Kind, Install, Reserved, Issue, Refitted, Entered, Left, Recoded}
 
 -- a day of the calendar
 abbrev pub IsDay : ℕ → Type 0
@@ -43,6 +43,7 @@ IsCommand _ = Unit {0}
 abbrev pub IsReply : Reply → Type 0
 IsReply (reply.RoomAdded code) = IsCode code
 IsReply (reply.Issued card) = IsCode card.link.new_code
+IsReply (reply.Refitted code fit) = IsCode code
 IsReply _ = Unit {0}
 
 -- the event's values are in their ranges
@@ -52,6 +53,7 @@ InRange (Kind kind) = is_kind kind ≡ true
 InRange (Install room kind code) = IsRoomNumber room × IsCode code
 InRange (Reserved party guest kind arrive depart) = (is_guest guest ≡ true) × (arrive < depart) × (depart ≤ arrive + 90) × IsDay depart
 InRange (Issue party room number code) = IsCode code
+InRange (Refitted room fit code) = IsCode code
 InRange (Entered room fit count number link at) = IsCount count × IsTimed at.0 at.1 × IsFit fit
 InRange (Left room fit count number link at) = IsCount count × IsTimed at.0 at.1 × IsFit fit
 InRange (Recoded room fit count from to at) = IsCount count × IsTimed at.0 at.1 × IsFit fit

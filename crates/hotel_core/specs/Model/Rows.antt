@@ -1,5 +1,5 @@
--- The rows of the books: eight lists in the order of their keys, and the words that say what stands in them.
-use Rattle.std.specs.Prelude.{ℕ, Bool, List, [], ◌∷◌, Option, Some, None, ◌==◌, if◌then◌else◌, bytes_eq}
+-- The rows of the books: nine lists in the order of their keys, and the words that say what stands in them.
+use Rattle.std.specs.Prelude.{ℕ, Bool, List, [], ◌∷◌, Option, Some, None, ◌-◌, ◌==◌, if◌then◌else◌, length, bytes_eq}
 use Rattle.std.specs.Ordering.{nat_cmp}
 use Rattle.std.specs.List.{list_any}
 use Rattle.std.specs.BTreeMap.{is_at, insert_entry}
@@ -10,9 +10,10 @@ use Rattle.keycard_rules.specs.Note.{Note}
 use Rattle.hotel_nights.specs.declared.stay.Stay.{Stay}
 use Rattle.hotel_core.specs.declared.books.rows.RoomRow.{RoomRow}
 use Rattle.hotel_core.specs.declared.books.rows.CodeRow.{CodeRow}
-use Rattle.hotel_core.specs.Model.Words.{when, said_of}
+use Rattle.hotel_core.specs.declared.books.rows.FitRow.{FitRow}
+use Rattle.hotel_core.specs.Model.Words.{when, said_of, pair_cmp}
 
--- The eight lists.
+-- The nine lists.
 pub record Rows : Type 0 where
   -- the business day, once it is set
   pub day : Option ℕ
@@ -28,12 +29,14 @@ pub record Rows : Type 0 where
   pub cards : List (ℕ × Card)
   -- the cards that are inside a room, by room and card
   pub inside : List (ℕ × ℕ)
-  -- the notes that were taken, by room and count
+  -- the notes that were taken, by room and number: those of a room are numbered over all its fits
   pub notes : List ((ℕ × ℕ) × Note)
+  -- the fits of the rooms, by room and fit
+  pub fits : List ((ℕ × ℕ) × FitRow)
 
 -- the rows of an empty desk
 abbrev pub no_rows : Rows
-no_rows = record { day = None; kinds = []; rooms = []; codes = []; stays = []; cards = []; inside = []; notes = [] }
+no_rows = record { day = None; kinds = []; rooms = []; codes = []; stays = []; cards = []; inside = []; notes = []; fits = [] }
 
 -- the kind is there
 abbrev pub has_kind : Rows → List ℕ → Bool
@@ -73,12 +76,35 @@ abbrev pub or_else : Option Link → Option Link → Option Link
 or_else (Some link) before = Some link
 or_else None before = before
 
+-- the fits of a room, in the order of their numbers
+abbrev pub fits_at : List ((ℕ × ℕ) × FitRow) → ℕ → List FitRow
+fits_at [] room = []
+fits_at (e ∷ es) room = when (e.0.0 == room) (λ fits. e.1 ∷ fits) (fits_at es room)
+
+-- the fit of a number of a room
+abbrev pub fit_at : Rows → ℕ → ℕ → Option FitRow
+fit_at rows room number = lookup (is_at (pair_cmp (room, number))) rows.fits
+
+-- the last of some fits
+abbrev pub last_fit : List FitRow → Option FitRow
+last_fit [] = None
+last_fit (f ∷ []) = Some f
+last_fit (f ∷ g ∷ fs) = last_fit (g ∷ fs)
+
+-- a fit of the room begins with the code at this place
+abbrev pub begins_fit : Rows → ℕ → ℕ → Bool
+begins_fit rows room place = list_any (λ (f : FitRow). f.place == place) (fits_at rows.fits room)
+
+-- the link of the room's last two codes, where it has two and no fit begins with the last one
+abbrev pub newest_link_at : Rows → ℕ → Option Link
+newest_link_at rows room = if begins_fit rows room (length (codes_at rows room) - 1) then None else last_link_of (codes_at rows room)
+
 -- the link of the party's card of the greatest number
 abbrev pub link_of_last_card : List (ℕ × Card) → ℕ → Option Link
 link_of_last_card [] party = None
 link_of_last_card (e ∷ es) party = or_else (link_of_last_card es party) (if e.1.party == party then Some e.1.link else None)
 
--- the notes of a room, in the order of their counts
+-- the notes of a room, in the order of their numbers
 abbrev pub notes_at : List ((ℕ × ℕ) × Note) → ℕ → List Note
 notes_at [] room = []
 notes_at (e ∷ es) room = when (e.0.0 == room) (λ notes. e.1 ∷ notes) (notes_at es room)

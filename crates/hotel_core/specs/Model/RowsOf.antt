@@ -1,4 +1,4 @@
--- The rows that stand for a history: eight lists read off what happened.
+-- The rows that stand for a history: nine lists read off what happened.
 use Rattle.std.specs.Prelude.{ℕ, List, map, length}
 use Rattle.hotel_core.specs.declared.books.rows.RoomRow.{RoomRow}
 use Rattle.hotel_core.specs.Model.Rows.{Rows}
@@ -9,6 +9,7 @@ use Rattle.hotel_core.specs.Model.Ledger.{passed}
 use Rattle.hotel_core.specs.Model.Guests.{registered, insiders, secured}
 use Rattle.hotel_core.specs.Model.Stays.{day, kinds, rooms, stays}
 use Rattle.hotel_core.specs.Model.Notes.{notes, all_notes}
+use Rattle.hotel_core.specs.Model.Refits.{present_fit, notes_before, fits}
 
 -- A room's row: its lock stands after the passed codes.
 abbrev pub room_row : History → ℕ → List ℕ → RoomRow
@@ -20,6 +21,8 @@ room_row h r kind = record {
   secured = secured h r;
   party = registered h r;
   notes = length (notes h r);
+  fit = present_fit h r;
+  before = notes_before h r;
 }
 
 -- The rows that stand for a history.
@@ -33,4 +36,5 @@ rows_of h = record {
   cards = cards h;
   inside = insiders h;
   notes = all_notes h;
+  fits = fits h;
 }

@@ -5,13 +5,17 @@ use Rattle.std.specs.Cmp.Lexicographic.{slice_cmp}
 use Rattle.std.specs.Map.{keys_of}
 use Rattle.hotel_core.specs.Model.Words.{pair_cmp}
 use Rattle.hotel_core.specs.Model.Rows.{Rows}
-use Rattle.hotel_core.specs.Model.SoundRooms.{are_in_order, day_in_range, day_before_kinds, kinds_read, room_numbers, lock_places, room_kinds_there, codes_few, note_counts, parties_in_house, secured_hold_last, stay_numbers, guests_read, stay_kinds_there, stay_days, stay_rooms, nights_fit, stays_on, rooms_with}
-use Rattle.hotel_core.specs.Model.SoundCards.{codes_in_range, code_rooms_there, places_once, card_numbers, card_parties_there, links_are_neighbours, links_of_one_party, neighbours_are_links, newest_of_party, last_cards_newest, insides_fit, notes_fit, notes_counted}
+use Rattle.hotel_core.specs.Model.SoundRooms.{are_in_order, day_in_range, day_before_kinds, kinds_read, room_numbers, lock_places, room_kinds_there, codes_few, note_counts, parties_in_house, secured_hold_last}
+use Rattle.hotel_core.specs.Model.SoundStays.{stay_numbers, guests_read, stay_kinds_there, stay_days, stay_rooms, nights_fit, stays_on, rooms_with}
+use Rattle.hotel_core.specs.Model.SoundCards.{codes_in_range, code_rooms_there, places_once, card_numbers, card_parties_there, links_are_neighbours, links_of_one_party, neighbours_are_links, fits_without_links, newest_of_party, last_cards_newest}
+use Rattle.hotel_core.specs.Model.SoundNotes.{insides_fit, notes_fit, notes_counted, notes_of_fits}
+use Rattle.hotel_core.specs.Model.SoundFits.{fit_rooms_there, fit_numbers, first_fits, fit_places_rise, fit_notes_rise, last_fits_held, last_fits_noted, fit_notes_few, rows_of_last_fits}
 
 -- Each table is in the order of its keys, and no key stands twice.
 abbrev pub keys_in_order : Rows → Bool
 keys_in_order rows = are_in_order (slice_cmp nat_cmp) rows.kinds && are_in_order nat_cmp (keys_of rows.rooms) && are_in_order nat_cmp (keys_of rows.codes)
     && are_in_order nat_cmp (keys_of rows.stays) && are_in_order nat_cmp (keys_of rows.cards) && are_in_order pair_cmp rows.inside && are_in_order pair_cmp (keys_of rows.notes)
+    && are_in_order pair_cmp (keys_of rows.fits)
 
 -- Rows are sound where each rule holds.
 pub record IsSound (rows : Rows) : Type 0 where
@@ -48,6 +52,7 @@ pub record IsSound (rows : Rows) : Type 0 where
   pub card_link : links_are_neighbours rows ≡ true
   pub card_one_party : links_of_one_party rows ≡ true
   pub card_neighbours : neighbours_are_links rows ≡ true
+  pub card_fits : fits_without_links rows ≡ true
   pub card_newest : newest_of_party rows ≡ true
   pub card_last : last_cards_newest rows ≡ true
   -- inside
@@ -55,6 +60,17 @@ pub record IsSound (rows : Rows) : Type 0 where
   -- note
   pub note_counted : notes_counted rows ≡ true
   pub note_fits : notes_fit rows ≡ true
+  pub note_of_fit : notes_of_fits rows ≡ true
+  -- fit
+  pub fit_room : fit_rooms_there rows ≡ true
+  pub fit_number : fit_numbers rows ≡ true
+  pub fit_first : first_fits rows ≡ true
+  pub fit_places : fit_places_rise rows ≡ true
+  pub fit_notes : fit_notes_rise rows ≡ true
+  pub fit_held : last_fits_held rows ≡ true
+  pub fit_noted : last_fits_noted rows ≡ true
+  pub fit_few : fit_notes_few rows ≡ true
+  pub fit_of_room : rows_of_last_fits rows ≡ true
 
 -- The rules as one test; the nights are looked at where a stay begins, for a fullest night is one of these.
 abbrev pub passes_rules : Rows → Bool
@@ -62,8 +78,9 @@ passes_rules rows =
     keys_in_order rows && day_in_range rows && day_before_kinds rows && kinds_read rows && room_numbers rows && lock_places rows && room_kinds_there rows
     && codes_few rows && note_counts rows && parties_in_house rows && secured_hold_last rows && stay_numbers rows && guests_read rows && stay_kinds_there rows
     && stay_days rows && stay_rooms rows && nights_fit rows && codes_in_range rows && code_rooms_there rows && places_once rows && card_numbers rows
-    && card_parties_there rows && links_are_neighbours rows && links_of_one_party rows && neighbours_are_links rows && newest_of_party rows
-    && last_cards_newest rows && insides_fit rows && notes_counted rows && notes_fit rows
+    && card_parties_there rows && links_are_neighbours rows && links_of_one_party rows && neighbours_are_links rows && fits_without_links rows && newest_of_party rows
+    && last_cards_newest rows && insides_fit rows && notes_counted rows && notes_fit rows && notes_of_fits rows && fit_rooms_there rows && fit_numbers rows
+    && first_fits rows && fit_places_rise rows && fit_notes_rise rows && last_fits_held rows && last_fits_noted rows && fit_notes_few rows && rows_of_last_fits rows
 
 -- Rows are sound exactly where they pass the test.
 abbrev pub RulesAreTested : Type 0

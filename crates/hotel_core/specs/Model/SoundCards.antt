@@ -1,31 +1,20 @@
--- The rules of sound rows, second part: codes, cards, insides and notes. Each rule is a test of all rows.
-use Rattle.std.specs.Prelude.{ℕ, Bool, true, false, List, [], ◌∷◌, ◌+◌, ◌^◌, ◌==◌, ◌&&◌, ◌||◌, not, nat_le, nat_lt, length, is_some, count_by}
+-- The rules of sound rows, third part: codes and cards. Each rule is a test of all rows.
+use Rattle.std.specs.Prelude.{ℕ, Bool, true, false, ◌+◌, ◌^◌, ◌==◌, ◌&&◌, ◌||◌, not, nat_le, nat_lt, length, is_some, count_by}
 use Rattle.std.specs.List.{list_any, list_all}
 use Rattle.std.specs.Map.{keys_of, values_of}
 use Rattle.keycard_rules.specs.declared.card.Card.{Card}
 use Rattle.keycard_rules.specs.declared.card.Link.{Link}
-use Rattle.keycard_rules.specs.Note.{Note}
-use Rattle.keycard_rules.specs.declared.note.Act.{Act}
-use Rattle.keycard_rules.specs.declared.note.Act.TheVariants as act
 use Rattle.hotel_core.specs.declared.books.rows.CodeRow.{CodeRow}
-use Rattle.hotel_core.specs.declared.books.rows.RoomRow.{RoomRow}
 use Rattle.hotel_core.specs.Model.Words.{said_of}
-use Rattle.hotel_core.specs.Model.Rows.{Rows, at_number, codes_by_place, codes_at, last_link_of, link_of_last_card, notes_at}
+use Rattle.hotel_core.specs.Model.Rows.{Rows, at_number, codes_by_place, codes_at, begins_fit, newest_link_at, link_of_last_card}
 use Rattle.hotel_core.specs.Model.Stays.{room_of_state}
 use Rattle.hotel_core.specs.Model.Cards.{same_link}
-use Rattle.hotel_core.specs.Model.SoundRooms.{count_up, each_room, each_stay, is_day}
-
--- whether the room is there, and its row so
-abbrev pub room_is : Rows → ℕ → (RoomRow → Bool) → Bool
-room_is rows room test = said_of (at_number rows.rooms room) false test
+use Rattle.hotel_core.specs.Model.SoundRooms.{count_up, each_room}
+use Rattle.hotel_core.specs.Model.SoundStays.{each_stay}
 
 -- whether the code is there, and its row so
 abbrev pub code_is : Rows → ℕ → (CodeRow → Bool) → Bool
 code_is rows code test = said_of (at_number rows.codes code) false test
-
--- whether the card is there, and so
-abbrev pub card_is : Rows → ℕ → (Card → Bool) → Bool
-card_is rows number test = said_of (at_number rows.cards number) false test
 
 -- ---- code
 
@@ -76,13 +65,21 @@ links_are_neighbours rows = each_card rows (λ card. code_is rows card.link.new_
 abbrev pub links_of_one_party : Rows → Bool
 links_of_one_party rows = each_card rows (λ card. each_card rows (λ other. not (same_link card.link other.link) || (card.party == other.party)))
 
--- each code but the first of its room is the new code of a card
+-- the code is the new code of a card
+abbrev pub is_new_code : Rows → ℕ → Bool
+is_new_code rows code = list_any (λ (c : ℕ × Card). c.1.link.new_code == code) rows.cards
+
+-- each code but the first of its room and those that fits begin with is the new code of a card
 abbrev pub neighbours_are_links : Rows → Bool
-neighbours_are_links rows = list_all (λ (e : ℕ × CodeRow). (e.1.place == 0) || list_any (λ (c : ℕ × Card). c.1.link.new_code == e.0) rows.cards) rows.codes
+neighbours_are_links rows = list_all (λ (e : ℕ × CodeRow). (e.1.place == 0) || begins_fit rows e.1.room e.1.place || is_new_code rows e.0) rows.codes
+
+-- no code that a fit begins with is the new code of a card
+abbrev pub fits_without_links : Rows → Bool
+fits_without_links rows = list_all (λ (e : ℕ × CodeRow). not (begins_fit rows e.1.room e.1.place && is_new_code rows e.0)) rows.codes
 
 -- the newest link of a room is this one
 abbrev pub is_newest : Rows → ℕ → Link → Bool
-is_newest rows room link = said_of (last_link_of (codes_at rows room)) false (λ newest. same_link newest link)
+is_newest rows room link = said_of (newest_link_at rows room) false (λ newest. same_link newest link)
 
 -- all cards of the room's newest link are this party's
 abbrev pub owns_newest : Rows → ℕ → ℕ → Bool
@@ -99,48 +96,3 @@ has_newest rows party room = said_of (link_of_last_card rows.cards party) false 
 -- a party in house has a card, and its last one has the newest link of its room
 abbrev pub last_cards_newest : Rows → Bool
 last_cards_newest rows = each_stay rows (λ stay. said_of (room_of_state stay.state) true (has_newest rows stay.party))
-
--- ---- inside
-
--- the card's link stands at the room, its new code not after the lock's; in a secured room it is the newest
-abbrev pub fits_inside : Rows → ℕ → RoomRow → Card → Bool
-fits_inside rows room row card =
-    stands_at rows room card.link && code_is rows card.link.new_code (λ new. nat_le new.place row.lock_place) && (not row.secured || is_newest rows room card.link)
-
--- what is inside is a card that fits its room
-abbrev pub insides_fit : Rows → Bool
-insides_fit rows = list_all (λ (e : ℕ × ℕ). room_is rows e.0 (λ row. card_is rows e.1 (fits_inside rows e.0 row))) rows.inside
-
--- ---- note
-
--- the card of the number has this link, which stands at the room
-abbrev pub has_link_at : Rows → ℕ → ℕ → Link → Bool
-has_link_at rows room number link = card_is rows number (λ card. same_link card.link link && stands_at rows room link)
-
--- the second of two codes stands at the room, after the first
-abbrev pub comes_later : ℕ → CodeRow → CodeRow → Bool
-comes_later room first second = (first.room == room) && (second.room == room) && nat_lt first.place second.place
-
--- what the note says of cards and codes fits the room
-abbrev pub act_fits : Rows → ℕ → Act → Bool
-act_fits rows room (act.Entered number link) = has_link_at rows room number link
-act_fits rows room (act.Left number link) = has_link_at rows room number link
-act_fits rows room (act.Recoded from to) = code_is rows from (λ first. code_is rows to (comes_later room first))
-
--- the note is of its room's first lock and of its key, its room is there, what it says fits the room, and its time is one
-abbrev pub note_fits : Rows → (ℕ × ℕ) × Note → Bool
-note_fits rows e =
-    (e.1.fit == 1) && (e.1.room == e.0.0) && (e.1.count == e.0.1) && is_some (at_number rows.rooms e.0.0) && act_fits rows e.0.0 e.1.act && is_day e.1.day && nat_le e.1.second 86399
-
--- each note fits
-abbrev pub notes_fit : Rows → Bool
-notes_fit rows = list_all (note_fits rows) rows.notes
-
--- the counts of a room's notes
-abbrev pub counts_at : List Note → List ℕ
-counts_at [] = []
-counts_at (note ∷ notes) = note.count ∷ counts_at notes
-
--- the counts of each room are 1 to its number of notes
-abbrev pub notes_counted : Rows → Bool
-notes_counted rows = each_room rows (λ row. count_up 1 (counts_at (notes_at rows.notes row.room)) && (length (notes_at rows.notes row.room) == row.notes))

@@ -1,16 +1,12 @@
--- The rules of sound rows, first part: the day, kinds, rooms and stays. Each rule is a test of all rows.
-use Rattle.std.specs.Prelude.{ℕ, Bool, true, false, List, [], ◌∷◌, ◌+◌, ◌-◌, ◌==◌, ◌&&◌, ◌||◌, not, nat_le, nat_lt, length, is_some, bytes_eq, count_by}
+-- The rules of sound rows, first part: the day, kinds and rooms. Each rule is a test of all rows.
+use Rattle.std.specs.Prelude.{ℕ, Bool, true, false, List, [], ◌∷◌, ◌+◌, ◌-◌, ◌==◌, ◌&&◌, ◌||◌, not, nat_le, nat_lt, length, is_some, bytes_eq}
 use Rattle.std.specs.Ordering.{is_lt}
 use Rattle.std.specs.declared.cmp.Ordering.{Ordering}
 use Rattle.std.specs.List.{list_all}
-use Rattle.std.specs.Map.{keys_of, values_of}
-use Rattle.hotel_nights.specs.declared.stay.Stay.{Stay}
 use Rattle.hotel_core.specs.declared.books.rows.RoomRow.{RoomRow}
 use Rattle.hotel_core.specs.Model.Words.{is_that, said_of}
-use Rattle.hotel_core.specs.Model.Rows.{Rows, at_number, has_kind}
+use Rattle.hotel_core.specs.Model.Rows.{Rows, at_number, has_kind, fits_at, begins_fit}
 use Rattle.hotel_core.specs.Model.Stays.{room_of_state}
-use Rattle.hotel_nights.specs.FullNight.{takes}
-use Rattle.hotel_nights.specs.Guests.{is_guest}
 use Rattle.hotel_nights.specs.Kinds.{is_kind}
 
 -- each key comes before the next one
@@ -60,13 +56,13 @@ lock_places rows = each_room rows (λ row. nat_lt row.lock_place row.codes)
 abbrev pub room_kinds_there : Rows → Bool
 room_kinds_there rows = each_room rows (λ row. has_kind rows row.kind)
 
--- a room has at most one code more than there are cards
+-- a room has at most as many codes as there are cards, and those that its fits begin with
 abbrev pub codes_few : Rows → Bool
-codes_few rows = each_room rows (λ row. nat_le row.codes (length rows.cards + 1))
+codes_few rows = each_room rows (λ row. nat_le row.codes (length rows.cards + length (fits_at rows.fits row.room)))
 
--- a room has at most 9,999,999 notes
+-- a room has at most 99 times 9,999,999 notes
 abbrev pub note_counts : Rows → Bool
-note_counts rows = each_room rows (λ row. nat_le row.notes 9999999)
+note_counts rows = each_room rows (λ row. nat_le row.notes 989999901)
 
 -- the party is in house at the row's room, and booked its kind
 abbrev pub is_home_of : Rows → RoomRow → ℕ → Bool
@@ -76,48 +72,6 @@ is_home_of rows row party = said_of (at_number rows.stays party) false (λ stay.
 abbrev pub parties_in_house : Rows → Bool
 parties_in_house rows = each_room rows (λ row. said_of row.party true (is_home_of rows row))
 
--- a secured room's lock holds its last code, which isn't its first
+-- a secured room's lock holds its last code, which isn't its first, nor the first of a fit
 abbrev pub secured_hold_last : Rows → Bool
-secured_hold_last rows = each_room rows (λ row. not row.secured || ((row.lock_place == row.codes - 1) && nat_le 2 row.codes))
-
--- ---- stay: rules of all stays
-
--- the rule holds of each stay
-abbrev pub each_stay : Rows → (Stay → Bool) → Bool
-each_stay rows rule = list_all (λ (e : ℕ × Stay). rule e.1) rows.stays
-
--- each row has the number that is its key; the numbers are 1 to n, n at most 9,999,999
-abbrev pub stay_numbers : Rows → Bool
-stay_numbers rows = list_all (λ (e : ℕ × Stay). e.1.party == e.0) rows.stays && count_up 1 (keys_of rows.stays) && nat_le (length rows.stays) 9999999
-
--- each guest reads as a guest's name: 1 to 60 bytes of UTF-8, no control character, no space first or last
-abbrev pub guests_read : Rows → Bool
-guests_read rows = each_stay rows (λ stay. is_guest stay.guest)
-
--- each stay's kind is there
-abbrev pub stay_kinds_there : Rows → Bool
-stay_kinds_there rows = each_stay rows (λ stay. has_kind rows stay.kind)
-
--- days in range, 1 to 90 nights
-abbrev pub stay_days : Rows → Bool
-stay_days rows = each_stay rows (λ stay. is_day stay.depart && nat_lt stay.arrive stay.depart && nat_le stay.depart (stay.arrive + 90))
-
--- the room is there, and has this party
-abbrev pub has_party : Rows → ℕ → ℕ → Bool
-has_party rows party room = said_of (at_number rows.rooms room) false (λ row. is_that row.party party)
-
--- the room of a stay in house has its party
-abbrev pub stay_rooms : Rows → Bool
-stay_rooms rows = each_stay rows (λ stay. said_of (room_of_state stay.state) true (has_party rows stay.party))
-
--- how many open stays of a kind take the night of a day
-abbrev pub stays_on : Rows → List ℕ → ℕ → ℕ
-stays_on rows kind d = count_by (takes kind d) (values_of rows.stays)
-
--- how many rooms a kind has
-abbrev pub rooms_with : Rows → List ℕ → ℕ
-rooms_with rows kind = count_by (λ (row : RoomRow). bytes_eq row.kind kind) (values_of rows.rooms)
-
--- on the first night of each stay, its kind isn't taken by more stays than it has rooms
-abbrev pub nights_fit : Rows → Bool
-nights_fit rows = each_stay rows (λ stay. nat_le (stays_on rows stay.kind stay.arrive) (rooms_with rows stay.kind))
+secured_hold_last rows = each_room rows (λ row. not row.secured || ((row.lock_place == row.codes - 1) && nat_le 2 row.codes && not (begins_fit rows row.room (row.codes - 1))))

@@ -6,7 +6,7 @@ use Rattle.hotel_nights.specs.declared.stay.StayState.TheVariants as state
 use Rattle.hotel_core.specs.{declared.books.change.InsideMove.InsideMove, declared.books.change.Change.Change, Model.Words.when, Model.Words.said_of, Model.Words.is_that, Model.Words.is_one_of}
 use Rattle.hotel_core.specs.declared.books.change.InsideMove.TheVariants.{Same, Goes, Comes}
 use Rattle.hotel_core.specs.declared.books.change.Change.TheVariants as change
-use Rattle.hotel_core.specs.Model.Event.{Event, Begun, Kind, Install, Reserved, Cancelled, Issue, Spare, CheckOut, NextDay, Entered, Left, Recoded}
+use Rattle.hotel_core.specs.Model.Event.{Event, Begun, Kind, Install, Reserved, Cancelled, Issue, Spare, CheckOut, Refitted, NextDay, Entered, Left, Recoded}
 use Rattle.hotel_core.specs.{Model.History.History, Model.History.◌▷◌, Model.Cards.card_of, Model.Cards.link_to, Model.Ledger.passed, Model.Guests.inside, Model.Guests.secured}
 use Rattle.hotel_core.specs.Model.Cases.{today, room_of, last_card_of}
 
@@ -34,6 +34,7 @@ change_of h (Cancelled party) = change.Cancelled party
 change_of h (Issue party room number code) = change.Issue (card_of number party (link_to h room code)) room (other_than room (room_of h party))
 change_of h (Spare party number) = change.Spare (card_of number party (last_card_of h party))
 change_of h (CheckOut party) = change.CheckedOut party (said_of (room_of h party) 0 (λ room. room))
+change_of h (Refitted room fit code) = change.Refit room code fit
 change_of h NextDay = change.DayTo (today h + 1)
 change_of h (Entered room fit count number link at) =
     noted h (Entered room fit count number link at) (record { room = room; fit = fit; count = count; act = act.Entered number link; day = at.0; second = at.1 })

@@ -9,7 +9,7 @@ use Rattle.hotel_core.specs.Model.Outcome.{Outcome, accepted}
 
 -- the note's room is there with this row, and no note of its count was taken
 abbrev pub IsUntaken : Note → RoomRow → Rows → Type 0
-IsUntaken note row rows = (room_at rows note.room ≡ Some row) × (note_at rows note.room note.count ≡ None)
+IsUntaken note row rows = (room_at rows note.room ≡ Some row) × (note_at rows note.room note.fit note.count ≡ None)
 
 -- a card of this link opened the door: it is inside from now on, and the lock holds the link's new code
 abbrev pub opened_on : Rows → Note → ℕ → Link → Outcome Change

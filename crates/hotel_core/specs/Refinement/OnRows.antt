@@ -9,7 +9,7 @@ use Rattle.hotel_core.specs.declared.books.change.Change.TheVariants as change
 use Rattle.hotel_core.specs.{declared.command.Command.Command, declared.reply.Reply.Reply, declared.reply.Refusal.Refusal, declared.books.rows.RoomRow.RoomRow}
 use Rattle.hotel_core.specs.declared.command.Command.TheVariants as command
 use Rattle.hotel_core.specs.declared.reply.Reply.TheVariants as reply
-use Rattle.hotel_core.specs.declared.reply.Refusal.TheVariants.{NotBegun, AlreadyBegun, KindExists, NoKind, RoomExists, NoRoom, NoParty, NotBooked, NotInHouse, TooEarly, StayOver, WrongKind, SameRoom, RoomTaken, PastArrival, PastEnd, KindFull, NumbersUsedUp, LastDay, Conflict, Gap, NoCard, CardDiffers, LockShut, NotInside, HeldDiffers, NotAwaited, NoFit}
+use Rattle.hotel_core.specs.declared.reply.Refusal.TheVariants.{NotBegun, AlreadyBegun, KindExists, NoKind, RoomExists, NoRoom, NoParty, NotBooked, NotInHouse, TooEarly, StayOver, WrongKind, SameRoom, RoomTaken, PastArrival, PastEnd, KindFull, NumbersUsedUp, LastDay, Conflict, Gap, NoCard, CardDiffers, LockShut, NotInside, HeldDiffers, NotAwaited, OldFit, NoFit, FitsUsedUp}
 use Rattle.hotel_core.specs.{Model.Words.said_of, Model.Words.is_one_of, Model.Words.is_that, Model.Rows.Rows, Model.Rows.has_kind, Model.Guests.are_none}
 use Rattle.hotel_core.specs.{Model.Notes.same_note, Model.Cards.same_link, Model.Cards.card_of, Model.Stays.is_booked_state, Model.Stays.room_of_state, Model.Cases.no_link}
 use Rattle.hotel_core.specs.{Books.Change.codes_of, Refinement.ChangeOf.comes}
@@ -28,13 +28,13 @@ stay_is_on rows party test = said_of (stay_at rows party) false test
 abbrev pub room_is_on : Rows → ℕ → (RoomRow → Bool) → Bool
 room_is_on rows room test = said_of (room_at rows room) false test
 
--- the number of a room's present lock
+-- the number of a room's present lock (0 where it isn't there)
 abbrev pub present_fit_on : Rows → ℕ → ℕ
-present_fit_on rows room = 1
+present_fit_on rows room = said_of (room_at rows room) 0 (λ row. row.fit)
 
--- the number is after that of the room's present lock
-abbrev pub is_later_fit_on : Rows → ℕ → ℕ → Bool
-is_later_fit_on rows room fit = nat_lt (present_fit_on rows room) fit
+-- the room has had the lock of that number
+abbrev pub is_fit_on : Rows → ℕ → ℕ → Bool
+is_fit_on rows room fit = nat_le fit (present_fit_on rows room)
 
 -- the room is of the kind of the party's stay
 abbrev pub kinds_agree_on : Rows → ℕ → ℕ → Bool
@@ -101,11 +101,16 @@ told_on rows note (act.Recoded from to) =
     unless (needs (held_on rows note.room == from) HeldDiffers ∷ needs (is_awaited_on rows note.room to) NotAwaited ∷ [])
     (accepted reply.Taken (change.Noted note (place_on rows to) (secured_on rows note.room) Same))
 
--- a note whose count was taken is a copy or a conflict; any other is the next one, or leaves a gap
+-- a note of a room of this row that wasn't taken: of its present lock it is the next one, or leaves a gap
+abbrev pub untaken_on : Rows → Note → RoomRow → Outcome Change
+untaken_on rows note row =
+    if note.fit == row.fit then (if note.count == row.notes - row.before + 1 then told_on rows note note.act else refused (Gap (row.notes - row.before + 1))) else refused OldFit
+
+-- a note whose count was taken under its lock is a copy or a conflict
 abbrev pub reported_on : Rows → Note → Option Note → Outcome Change
 reported_on rows note (Some kept) = if same_note kept note then said reply.Seen else refused Conflict
 reported_on rows note None =
-    said_of (room_at rows note.room) (refused NoRoom) (λ row. if note.count == row.notes + 1 then told_on rows note note.act else refused (Gap (row.notes + 1)))
+    said_of (room_at rows note.room) (refused NoRoom) (untaken_on rows note)
 
 -- the reply and the change of the first fresh code that these words give
 abbrev pub with_fresh_on : Rows → List ℕ → (ℕ → Reply) → (ℕ → Change) → Outcome Change
@@ -144,9 +149,12 @@ checks_on rows (command.Transfer party room) =
     ∷ bars (is_none (number_after (length rows.cards))) NumbersUsedUp ∷ []
 checks_on rows (command.CheckOut party) =
     needs (is_some rows.day) NotBegun ∷ needs (is_some (stay_at rows party)) NoParty ∷ needs (is_some (home_on rows party)) NotInHouse ∷ []
+checks_on rows (command.Refit room) =
+    needs (is_some rows.day) NotBegun ∷ needs (is_some (room_at rows room)) NoRoom ∷ bars (room_is_on rows room (λ row. is_some row.party)) RoomTaken
+    ∷ bars (nat_le 99 (present_fit_on rows room)) FitsUsedUp ∷ []
 checks_on rows command.NextDay = needs (is_some rows.day) NotBegun ∷ needs (nat_lt (day_on rows) 36524) LastDay ∷ []
 checks_on rows (command.Reported note) =
-    needs (is_some rows.day) NotBegun ∷ needs (is_some (room_at rows note.room)) NoRoom ∷ bars (is_later_fit_on rows note.room note.fit) NoFit ∷ []
+    needs (is_some rows.day) NotBegun ∷ needs (is_some (room_at rows note.room)) NoRoom ∷ needs (is_fit_on rows note.room note.fit) NoFit ∷ []
 
 -- what comes of each command that passes its checks, where these are the source's next words
 abbrev pub effect_on : Rows → List ℕ → Command → Outcome Change
@@ -169,8 +177,10 @@ effect_on rows ahead (command.Transfer party room) =
     with_fresh_on rows ahead (λ code. reply.Issued (card_of (length rows.cards + 1) party (link_on rows room code)))
     (λ code. change.Issue (card_of (length rows.cards + 1) party (link_on rows room code)) room (home_on rows party))
 effect_on rows ahead (command.CheckOut party) = accepted reply.CheckedOut (change.CheckedOut party (said_of (home_on rows party) 0 (λ room. room)))
+effect_on rows ahead (command.Refit room) =
+    with_fresh_on rows ahead (λ code. reply.Refitted code (present_fit_on rows room + 1)) (λ code. change.Refit room code (present_fit_on rows room + 1))
 effect_on rows ahead command.NextDay = accepted (reply.DayIs (day_on rows + 1)) (change.DayTo (day_on rows + 1))
-effect_on rows ahead (command.Reported note) = reported_on rows note (note_at rows note.room note.count)
+effect_on rows ahead (command.Reported note) = reported_on rows note (note_at rows note.room note.fit note.count)
 
 -- what comes of a command to books with these rows
 unfoldable pub outcome_on : Rows → List ℕ → Command → Outcome Change

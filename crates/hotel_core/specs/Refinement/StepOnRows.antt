@@ -27,7 +27,7 @@ pub record AreWhole (rows : Rows) : Type 0 where
   pub current : (room : ℕ) (row : RoomRow) → room_at rows room ≡ Some row → IsSome (code_at rows room (row.codes - 1))
   pub held : (room : ℕ) (row : RoomRow) → room_at rows room ≡ Some row → IsSome (code_at rows room row.lock_place)
   pub few : (room : ℕ) (row : RoomRow) → room_at rows room ≡ Some row → row.codes < 2 ^ 32 - 1
-  pub noted : (room count : ℕ) (row : RoomRow) → room_at rows room ≡ Some row → 1 ≤ count → count ≤ row.notes → IsSome (note_at rows room count)
+  pub noted : (room count : ℕ) (row : RoomRow) → room_at rows room ≡ Some row → 1 ≤ count → count ≤ row.notes - row.before → IsSome (note_at rows room row.fit count)
   pub homes : (party room : ℕ) → home_on rows party ≡ Some room → IsSome (room_at rows room) × IsSome (code_at rows room (codes_of rows room - 2))
   pub cards : (number : ℕ) (card : Card) → card_at rows number ≡ Some card → IsSome (code_place rows card.link.new_code)
 

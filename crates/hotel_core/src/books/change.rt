@@ -1,6 +1,6 @@
 //! The changes that books make.
 use hotel_nights::{Day, KindCode, Stay};
-use keycard_rules::{Card, CardNo, Code, LockNote, PartyNo, RoomNo};
+use keycard_rules::{Card, CardNo, Code, FitNo, LockNote, PartyNo, RoomNo};
 
 /// What a note does to the cards inside its room.
 #[derive(Clone, Copy, Debug)]
@@ -38,6 +38,12 @@ pub enum Change {
     CheckedOut {
         party: PartyNo,
         room: RoomNo,
+    },
+    /// A new lock of a room, which holds a new code: all earlier codes are passed, and no card is inside.
+    Refit {
+        room: RoomNo,
+        code: Code,
+        fit: FitNo,
     },
     /// A note that was taken, with the lock's place and the secured flag after it.
     Noted {

@@ -1,5 +1,5 @@
 //! What a note of a lock is compared with in the books.
-ghost use Rattle.std.specs.Prelude.{◌≡◌, Option, Some, None, IsSome, not};
+ghost use Rattle.std.specs.Prelude.{◌≡◌, ◌-◌, ◌==◌, ◌&&◌, nat_lt, Option, Some, None, IsSome, not};
 ghost use Rattle.hotel_core.specs.Refinement.Finds.{Finds, AnyRows};
 ghost use Rattle.hotel_core.specs.{Books.Lookups.room_at, Books.Lookups.code_place, Books.Lookups.inside_at, Books.Lookups.note_at, Model.Guests.are_none, Model.Cards.same_link};
 ghost use Rattle.hotel_core.specs.{Model.Words.is_one_of, declared.reply.Refusal.TheVariants.NotAwaited, declared.reply.Refusal.TheVariants.Store};
@@ -10,21 +10,42 @@ use crate::commands::look_ups::{known, there_or};
 use crate::reply::Refusal;
 use keycard_rules::{CardNo, Code, Link, LockNote, RoomNo};
 
-/// The note of the same room and count, where one was taken; none is asked for that comes after all that the room's row counts.
+/// How many notes of a room's present lock were taken.
+pub(crate) fn notes_of_present(row: &RoomRow) -> u32
+    ensures { result ≡ row.now.notes - row.now.before }
+{
+    row.notes.saturating_sub(row.before)
+}
+
+/// Whether a note is of a room's present lock.
+pub(crate) fn is_present(note: &LockNote, row: &RoomRow) -> bool
+    ensures { result ≡ (note.now.fit == row.now.fit) }
+{
+    note.fit() == row.fit
+}
+
+/// Whether a note comes after all that the room's row counts of its present lock.
+fn is_past(note: &LockNote, row: &RoomRow) -> bool
+    ensures { result ≡ (note.now.fit == row.now.fit) && nat_lt (row.now.notes - row.now.before) note.now.count }
+{
+    is_present(note, row) && notes_of_present(row) < note.count().value()
+}
+
+/// The note of the same room, lock and count, where one was taken; none is asked for that comes after all that the
+/// room's row counts of its present lock.
 pub(crate) fn kept_note<B: Books>(
     books: &mut B,
     note: &LockNote,
     row: &RoomRow,
 ) -> Result<Option<LockNote>, Refusal>
     requires { B.is_clean books.old → room_at (B.rows books.old) note.now.room ≡ Some row.now }
-    ensures { Finds B.Issued B.Books.own AnyRows Store (λ rows. Some (note_at rows note.now.room note.now.count)) books.old books.new result }
+    ensures { Finds B.Issued B.Books.own AnyRows Store (λ rows. Some (note_at rows note.now.room note.now.fit note.now.count)) books.old books.new result }
 {
     books.known_sound();
-    let count = note.count().value();
-    if count > row.notes {
+    if is_past(note, row) {
         return Ok(None);
     }
-    let kept = books.note(note.room(), note.count());
+    let kept = books.note(note.room(), note.fit(), note.count());
     known(kept)
 }
 

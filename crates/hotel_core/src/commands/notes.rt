@@ -1,5 +1,5 @@
 //! Notes of locks.
-ghost use Rattle.std.specs.Prelude.{◌≡◌, false, None, nat_lt};
+ghost use Rattle.std.specs.Prelude.{◌≡◌, false, None, nat_le};
 ghost use Rattle.rand_core.specs.Stream.{Stream};
 ghost use Rattle.keycard_rules.specs.Draw.{words};
 ghost use Rattle.hotel_core.specs.{Refinement.Answered.IsOutcome, Refinement.Finds.reply_of, Refinement.NotesOnRows.IsUntaken};
@@ -11,7 +11,7 @@ use crate::books::Books;
 use crate::books::rows::RoomRow;
 use crate::commands::entries::enter;
 use crate::commands::exits::leave;
-use crate::commands::lock_codes::kept_note;
+use crate::commands::lock_codes::{is_present, kept_note, notes_of_present};
 use crate::commands::look_ups::{room_there, today};
 use crate::commands::recodings::recode;
 use crate::reply::{Refusal, Reply};
@@ -23,11 +23,11 @@ fn same_note(kept: &LockNote, note: &LockNote) -> bool
     kept == note
 }
 
-/// Whether a note is of a later lock than a room's first one.
-fn is_later_fit(note: &LockNote) -> bool
-    ensures { result ≡ nat_lt 1 note.now.fit }
+/// Whether a note is of a lock that the room has, or had.
+fn is_fit(note: &LockNote, row: &RoomRow) -> bool
+    ensures { result ≡ nat_le note.now.fit row.now.fit }
 {
-    note.fit().value() > 1
+    note.fit() <= row.fit
 }
 
 /// Takes a note whose count wasn't taken.
@@ -36,12 +36,16 @@ fn take_new<B: Books>(books: &mut B, note: &LockNote, row: &RoomRow) -> Result<R
     requires outcome { B.is_clean books.old → IsOutcome (B.rows books.old) (reported_on (B.rows books.old) note.now None) }
     ensures { (source : Stream) → StepsAs B.Issued B.Books.own (λ rows. reported_on rows note.now None) books.old books.new source source (reply_of result) }
 {
+    if !is_present(note, row) {
+        return Err(Refusal::OldFit);
+    }
     let count = note.count().value();
-    if count <= row.notes {
+    let taken = notes_of_present(row);
+    if count <= taken {
         // Sound books have each note up to this count.
         return Err(Refusal::Store);
     }
-    let next = row.notes + 1;
+    let next = taken + 1;
     if next < count {
         return Err(Refusal::Gap(next));
     }
@@ -59,7 +63,7 @@ pub(crate) fn take_note<B: Books>(books: &mut B, note: &LockNote) -> Result<Repl
 {
     today(books)?;
     let row = room_there(books, note.room())?;
-    if is_later_fit(note) {
+    if !is_fit(note, &row) {
         return Err(Refusal::NoFit);
     }
     match kept_note(books, note, &row)? {

@@ -47,6 +47,7 @@ pub(crate) fn known_command(command: &Command)
         | Command::Reissue(_)
         | Command::Transfer { .. }
         | Command::CheckOut(_)
+        | Command::Refit(_)
         | Command::NextDay => {}
     }
 }
@@ -61,6 +62,9 @@ pub(crate) fn known_reply(reply: &Reply)
         }
         Reply::Issued(card) => {
             card.link.new_code.value();
+        }
+        Reply::Refitted { code, .. } => {
+            code.value();
         }
         _ => {}
     }

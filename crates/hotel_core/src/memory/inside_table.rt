@@ -1,6 +1,6 @@
 //! The cards inside rooms, found by room.
 ghost use Rattle.std.specs.Prelude.{◌≡◌, ℕ, [], not, IfOk, OnOk, OnErr};
-ghost use Rattle.hotel_core.specs.{Model.Words.is_one_of, Model.Guests.those_in, Model.Guests.are_none, Books.Change.moved};
+ghost use Rattle.hotel_core.specs.{Model.Words.is_one_of, Model.Guests.those_in, Model.Guests.are_none, Model.Guests.those_elsewhere, Books.Change.moved};
 
 use crate::books::change::InsideMove;
 use keycard_rules::{CardNo, Memory, RoomNo};
@@ -62,6 +62,13 @@ impl InsideTable {
         let most = CardNo::new(9_999_999).unwrap();
         let mut pairs = self.pairs.range((room, least)..=(room, most));
         pairs.next().is_some()
+    }
+
+    /// No card is inside the room any more.
+    pub(crate) fn clear(&mut self, room: RoomNo)
+        ensures { self.new ≡ those_elsewhere room self.old }
+    {
+        self.pairs.retain(|pair| pair.0 != room);
     }
 
     /// A card comes to a room, goes from it, or neither; a refusal changes nothing.

@@ -7,11 +7,13 @@ ghost use Rattle.hotel_core.specs.{Model.Rows.no_rows, Books.Lookups.codes_in, B
 use crate::books::Books;
 use crate::books::change::Change;
 use crate::books::list_rows::{BehindRow, ChainRow, HouseRow};
-use crate::books::rows::{CodeRow, NextNumbers, RoomRow};
+use crate::books::rows::{CodeRow, FitRow, NextNumbers, RoomRow};
 use crate::books::walks::{Sink, WalkFault, Walks};
 use crate::memory::tables::Tables;
 use hotel_nights::{Day, Guest, KindCode, Stay};
-use keycard_rules::{Card, CardNo, Code, Count, Issued, LockNote, LookFault, PartyNo, RoomNo};
+use keycard_rules::{
+    Card, CardNo, Code, Count, FitNo, Issued, LockNote, LookFault, PartyNo, RoomNo,
+};
 use std::alloc::Global;
 use std::marker::Model;
 
@@ -167,8 +169,17 @@ impl Books for ListBooks {
         Ok(self.tables.has_inside(room))
     }
 
-    fn note(&mut self, room: RoomNo, count: Count) -> Result<Option<LockNote>, LookFault> {
-        Ok(self.tables.note(room, count))
+    fn note(
+        &mut self,
+        room: RoomNo,
+        fit: FitNo,
+        count: Count,
+    ) -> Result<Option<LockNote>, LookFault> {
+        Ok(self.tables.note(room, fit, count))
+    }
+
+    fn fit(&mut self, room: RoomNo, fit: FitNo) -> Result<Option<FitRow>, LookFault> {
+        Ok(self.tables.fit(room, fit))
     }
 
     fn rooms_of_kind(&mut self, kind: &KindCode) -> Result<u32, LookFault> {

@@ -1,19 +1,19 @@
-//! The notes of the locks, found by room and count.
-ghost use Rattle.std.specs.Prelude.{◌≡◌, [], OnOk, OnErr, None};
+//! The notes of the locks, found by room and number.
+ghost use Rattle.std.specs.Prelude.{◌≡◌, ◌+◌, [], OnOk, OnErr, None};
 ghost use Rattle.std.specs.Map.{lookup, remove_entry};
 ghost use Rattle.std.specs.BTreeMap.{is_at, insert_entry};
 ghost use Rattle.hotel_core.specs.{Model.Words.pair_cmp, Model.Rows.notes_at, Books.Walks.Hands, Books.Walks.failure_of};
 
 use crate::books::walks::{Sink, WalkFault};
-use keycard_rules::{Count, LockNote, Memory, RoomNo};
+use keycard_rules::{LockNote, Memory, RoomNo};
 use std::alloc::Global;
 use std::collections::BTreeMap;
 use std::marker::Model;
 
-/// The notes by room and then by count.
+/// The notes by room and then by number.
 #[derive(Drop)]
 pub(crate) struct NoteTable {
-    notes: BTreeMap<(RoomNo, Count), LockNote>,
+    notes: BTreeMap<(RoomNo, u32), LockNote>,
 }
 
 impl Model for NoteTable {
@@ -37,33 +37,33 @@ impl NoteTable {
         }
     }
 
-    /// The note of a count of a room.
-    pub(crate) fn note(&self, room: RoomNo, count: Count) -> Option<LockNote>
-        ensures { result ≡ lookup (is_at (pair_cmp (room, count))) self.now }
+    /// The note of a room under the number `before + count`.
+    pub(crate) fn note(&self, room: RoomNo, before: u32, count: u32) -> Option<LockNote>
+        ensures { result ≡ lookup (is_at (pair_cmp (room, before + count))) self.now }
     {
-        self.notes.get(&(room, count)).copied()
+        let notes = &self.notes;
+        let number = before.checked_add(count)?;
+        notes.get(&(room, number)).copied()
     }
 
-    /// Keeps a note under its room and count; a refusal changes nothing.
-    pub(crate) fn insert(&mut self, note: &LockNote) -> Result<(), Memory>
-        ensures ok { OnOk result (self.new ≡ insert_entry pair_cmp self.old (note.now.room, note.now.count) note.now) }
+    /// Keeps a note under its room and a number; a refusal changes nothing.
+    pub(crate) fn insert(&mut self, number: u32, note: &LockNote) -> Result<(), Memory>
+        ensures ok { OnOk result (self.new ≡ insert_entry pair_cmp self.old (note.now.room, number) note.now) }
         ensures err { OnErr result (self.new ≡ self.old) }
     {
-        let count = note.count();
-        let _in_range = count.value();
-        let Ok(_) = self.notes.insert((note.room(), count), *note) else {
+        let Ok(_) = self.notes.insert((note.room(), number), *note) else {
             return Err(Memory);
         };
         Ok(())
     }
 
-    pub(crate) fn remove(&mut self, room: RoomNo, count: Count)
-        ensures { self.new ≡ remove_entry (is_at (pair_cmp (room, count))) self.old }
+    pub(crate) fn remove(&mut self, room: RoomNo, number: u32)
+        ensures { self.new ≡ remove_entry (is_at (pair_cmp (room, number))) self.old }
     {
-        self.notes.remove(&(room, count));
+        self.notes.remove(&(room, number));
     }
 
-    /// Walks the notes of a room by count.
+    /// Walks the notes of a room by number.
     pub(crate) fn walk<S: Sink<LockNote>>(
         &self,
         room: RoomNo,
@@ -72,9 +72,7 @@ impl NoteTable {
         ensures hands { Hands S.after S.after_stop (notes_at self.now room) sink.old sink.new result }
         ensures sure { failure_of result ≡ None }
     {
-        let least = Count::new(1).unwrap();
-        let most = Count::new(9_999_999).unwrap();
-        for (_, note) in self.notes.range((room, least)..=(room, most)) {
+        for (_, note) in self.notes.range((room, 0)..=(room, u32::MAX)) {
             sink.take(note)?;
         }
         Ok(())

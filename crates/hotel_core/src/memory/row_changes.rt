@@ -4,7 +4,7 @@ ghost use Rattle.hotel_core.specs.{Model.Words.said_of, Model.Rows.at_number, Bo
 
 use crate::books::rows::RoomRow;
 use hotel_nights::{Stay, StayState};
-use keycard_rules::{PartyNo, RoomNo};
+use keycard_rules::{FitNo, PartyNo, RoomNo};
 use std::collections::BTreeMap;
 
 /// How many codes were issued at a room; 0 where it isn't there.
@@ -14,6 +14,43 @@ pub(crate) fn codes_issued(rooms: &BTreeMap<RoomNo, RoomRow>, room: RoomNo) -> u
     match rooms.get(&room) {
         Some(row) => row.codes,
         None => 0,
+    }
+}
+
+/// How many notes a room has; 0 where it isn't there.
+pub(crate) fn notes_taken(rooms: &BTreeMap<RoomNo, RoomRow>, room: RoomNo) -> u32
+    ensures { result ≡ said_of (at_number rooms.now.entries room) 0 (λ row. row.notes) }
+{
+    match rooms.get(&room) {
+        Some(row) => row.notes,
+        None => 0,
+    }
+}
+
+/// How many notes of a room were taken before its present lock; 0 where it isn't there.
+pub(crate) fn notes_before(rooms: &BTreeMap<RoomNo, RoomRow>, room: RoomNo) -> u32
+    ensures { result ≡ said_of (at_number rooms.now.entries room) 0 (λ row. row.before) }
+{
+    match rooms.get(&room) {
+        Some(row) => row.before,
+        None => 0,
+    }
+}
+
+/// The room has a new lock, which holds a new code.
+pub(crate) fn refit_at(rooms: &mut BTreeMap<RoomNo, RoomRow>, room: RoomNo, fit: FitNo)
+    requires { said_of (at_number rooms.old.entries room) 0 (λ row. row.codes) < 2 ^ 32 - 1 }
+    ensures { rooms.new.entries ≡ room_changed room (λ row. record row { lock_place = row.codes; codes = row.codes + 1; secured = false; fit = fit; before = row.notes }) rooms.old.entries }
+{
+    if let Some(row) = rooms.get_mut(&room) {
+        *row = RoomRow {
+            lock_place: row.codes,
+            codes: row.codes + 1,
+            secured: false,
+            fit,
+            before: row.notes,
+            ..*row
+        };
     }
 }
 
@@ -55,12 +92,13 @@ pub(crate) fn note_at(
     secured: bool,
     count: u32,
 )
-    ensures { rooms.new.entries ≡ room_changed room (λ row. record row { lock_place = lock_place; secured = secured; notes = count }) rooms.old.entries }
+    requires { said_of (at_number rooms.old.entries room) 0 (λ row. row.before) + count < 2 ^ 32 }
+    ensures { rooms.new.entries ≡ room_changed room (λ row. record row { lock_place = lock_place; secured = secured; notes = row.before + count }) rooms.old.entries }
 {
     if let Some(row) = rooms.get_mut(&room) {
         row.lock_place = lock_place;
         row.secured = secured;
-        row.notes = count;
+        row.notes = row.before + count;
     }
 }
 

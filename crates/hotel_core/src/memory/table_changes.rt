@@ -4,17 +4,19 @@
 //! Rows that are there are changed last, which takes no memory.
 ghost use Rattle.std.specs.Prelude.{◌≡◌, ℕ, ◌+◌, ◌-◌, ◌^◌, ◌<◌, length, Some, None, true, false, IsSome, OnOk, OnErr, IsOk};
 ghost use Rattle.hotel_core.specs.declared.books.change.Change.TheVariants as change;
-ghost use Rattle.hotel_core.specs.{Books.Lookups.room_at, Books.Lookups.code_place, Books.Lookups.stay_at, Books.Lookups.note_at, Books.Change.made, Books.Change.codes_of};
+ghost use Rattle.hotel_core.specs.{Books.Lookups.room_at, Books.Lookups.code_place, Books.Lookups.stay_at, Books.Lookups.note_numbered, Books.Change.made, Books.Change.codes_of, Books.Change.before_in, Model.Rows.fit_at};
 ghost use Rattle.hotel_nights.specs.FullNight.{is_standing};
 ghost use Rattle.hotel_nights.specs.declared.stay.StayState.TheVariants as state;
 ghost use Rattle.hotel_core.specs.{Model.Words.said_of, Model.Rows.has_kind, Books.Fits.HasItsRows, Books.Fits.takes_memory};
 
 use crate::books::change::{Change, InsideMove};
-use crate::books::rows::{CodeRow, RoomRow};
-use crate::memory::row_changes::{codes_issued, issue_at, leave, leave_any, note_at};
+use crate::books::rows::{CodeRow, FitRow, RoomRow};
+use crate::memory::row_changes::{
+    codes_issued, issue_at, leave, leave_any, note_at, notes_before, notes_taken, refit_at,
+};
 use crate::memory::tables::Tables;
 use hotel_nights::{Day, KindCode, Stay, StayState};
-use keycard_rules::{Card, Code, LockNote, Memory, PartyNo, RoomNo};
+use keycard_rules::{Card, Code, FitNo, LockNote, Memory, PartyNo, RoomNo};
 
 impl Tables {
     /// Makes all of a change, or nothing.
@@ -46,6 +48,7 @@ impl Tables {
                 self.check_out(party, room);
                 Ok(())
             }
+            Change::Refit { room, code, fit } => self.refit(room, code, fit),
             Change::Noted {
                 note,
                 lock_place,
@@ -82,9 +85,11 @@ impl Tables {
         requires there { has_kind self.old kind ≡ true }
         requires new_room { room_at self.old room ≡ None }
         requires new_code { code_place self.old code ≡ None }
+        requires new_fit { fit_at self.old room 1 ≡ None }
         ensures ok { OnOk result (self.new ≡ made (change.Room room kind code) self.old) }
         ensures err { OnErr result (self.new ≡ self.old) }
     {
+        let fit = FitNo::new(1).unwrap();
         let row = RoomRow {
             room,
             kind,
@@ -93,11 +98,24 @@ impl Tables {
             secured: false,
             party: None,
             notes: 0,
+            fit,
+            before: 0,
         };
         let Ok(_) = self.rooms.insert(room, row) else {
             return Err(Memory);
         };
+        let first = FitRow {
+            room,
+            fit,
+            place: 0,
+            before: 0,
+        };
+        let Ok(_) = self.fits.insert((room, fit), first) else {
+            self.rooms.remove(&room);
+            return Err(Memory);
+        };
         let Ok(()) = self.codes.insert(code, CodeRow { room, place: 0 }) else {
+            self.fits.remove(&(room, fit));
             self.rooms.remove(&room);
             return Err(Memory);
         };
@@ -165,6 +183,35 @@ impl Tables {
         self.stays.end(party, StayState::Done);
     }
 
+    /// A new lock of a room, which holds a new code.
+    pub(crate) fn refit(&mut self, room: RoomNo, code: Code, fit: FitNo) -> Result<(), Memory>
+        requires there { IsSome (room_at self.old room) }
+        requires few { codes_of self.old room < 2 ^ 32 - 1 }
+        requires new_code { code_place self.old code ≡ None }
+        requires new_fit { fit_at self.old room fit ≡ None }
+        ensures ok { OnOk result (self.new ≡ made (change.Refit room code fit) self.old) }
+        ensures err { OnErr result (self.new ≡ self.old) }
+    {
+        let place = codes_issued(&self.rooms, room);
+        let before = notes_taken(&self.rooms, room);
+        let Ok(()) = self.codes.insert(code, CodeRow { room, place }) else {
+            return Err(Memory);
+        };
+        let row = FitRow {
+            room,
+            fit,
+            place,
+            before,
+        };
+        let Ok(_) = self.fits.insert((room, fit), row) else {
+            self.codes.remove(code, CodeRow { room, place });
+            return Err(Memory);
+        };
+        self.inside.clear(room);
+        refit_at(&mut self.rooms, room, fit);
+        Ok(())
+    }
+
     pub(crate) fn add_note(
         &mut self,
         note: &LockNote,
@@ -172,20 +219,22 @@ impl Tables {
         secured: bool,
         insides: InsideMove,
     ) -> Result<(), Memory>
-        requires { note_at self.old note.now.room note.now.count ≡ None }
+        requires untaken { note_numbered self.old note.now.room (before_in self.old note.now.room + note.now.count) ≡ None }
+        requires few { before_in self.old note.now.room + note.now.count < 2 ^ 32 }
         ensures ok { OnOk result (self.new ≡ made (change.Noted note.now lock_place secured insides) self.old) }
         ensures err { OnErr result (self.new ≡ self.old) }
     {
         let room = note.room();
-        let count = note.count();
-        let Ok(()) = self.notes.insert(note) else {
+        let count = note.count().value();
+        let number = notes_before(&self.rooms, room) + count;
+        let Ok(()) = self.notes.insert(number, note) else {
             return Err(Memory);
         };
         let Ok(()) = self.inside.change(room, insides) else {
-            self.notes.remove(room, count);
+            self.notes.remove(room, number);
             return Err(Memory);
         };
-        note_at(&mut self.rooms, room, lock_place, secured, count.value());
+        note_at(&mut self.rooms, room, lock_place, secured, count);
         Ok(())
     }
 }

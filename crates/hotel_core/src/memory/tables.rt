@@ -2,10 +2,10 @@
 ghost use Rattle.std.specs.Prelude.{◌≡◌, ◌-◌, ℕ, ◌^◌, ◌<◌, length, IfOk, not};
 ghost use Rattle.std.specs.Map.{keys_of};
 ghost use Rattle.keycard_rules.specs.Words.{is_one_of};
-ghost use Rattle.hotel_core.specs.{Model.Guests.are_none, Model.Rows.Rows, Model.Rows.no_rows, Model.Rows.at_number, Model.Rows.has_kind};
+ghost use Rattle.hotel_core.specs.{Model.Guests.are_none, Model.Rows.Rows, Model.Rows.no_rows, Model.Rows.at_number, Model.Rows.has_kind, Model.Rows.fit_at};
 ghost use Rattle.hotel_core.specs.Books.Lookups.{room_at, codes_in, code_place, code_at, stay_at, stays_of_kind, card_at, inside_at, note_at, rooms_of_kind, first_full_on, number_after};
 
-use crate::books::rows::{CodeRow, NextNumbers, RoomRow};
+use crate::books::rows::{CodeRow, FitRow, NextNumbers, RoomRow};
 use crate::kind_rooms::KindRooms;
 use crate::memory::card_table::CardTable;
 use crate::memory::code_table::CodeTable;
@@ -13,12 +13,12 @@ use crate::memory::inside_table::InsideTable;
 use crate::memory::note_table::NoteTable;
 use crate::memory::stay_table::StayTable;
 use hotel_nights::{Day, KindCode, Stay};
-use keycard_rules::{Card, CardNo, Code, Count, LockNote, Number, PartyNo, RoomNo};
+use keycard_rules::{Card, CardNo, Code, Count, FitNo, LockNote, Number, PartyNo, RoomNo};
 use std::alloc::{AllocError, Global};
 use std::collections::BTreeMap;
 use std::marker::Model;
 
-/// The eight tables.
+/// The nine tables.
 #[derive(Drop)]
 pub(crate) struct Tables {
     pub(crate) alloc: Global,
@@ -30,6 +30,7 @@ pub(crate) struct Tables {
     pub(crate) cards: CardTable,
     pub(crate) inside: InsideTable,
     pub(crate) notes: NoteTable,
+    pub(crate) fits: BTreeMap<(RoomNo, FitNo), FitRow>,
 }
 
 impl Model for Tables {
@@ -38,7 +39,7 @@ impl Model for Tables {
 
     ghost Value = { Rows };
 
-    ghost view = { λ t. record { day = t.day; kinds = keys_of t.kinds; rooms = t.rooms.entries; codes = t.codes; stays = t.stays; cards = t.cards; inside = t.inside; notes = t.notes } };
+    ghost view = { λ t. record { day = t.day; kinds = keys_of t.kinds; rooms = t.rooms.entries; codes = t.codes; stays = t.stays; cards = t.cards; inside = t.inside; notes = t.notes; fits = t.fits.entries } };
 
     ghost invariant = { λ t. TablesAgree t.kinds t.rooms.entries t.codes };
 }
@@ -67,6 +68,7 @@ impl Tables {
             cards: CardTable::empty(alloc),
             inside: InsideTable::empty(alloc),
             notes: NoteTable::empty(alloc),
+            fits: BTreeMap::new(alloc),
         }
     }
 
@@ -162,10 +164,23 @@ impl Tables {
         self.inside.has_any(room)
     }
 
-    pub(crate) fn note(&self, room: RoomNo, count: Count) -> Option<LockNote>
-        ensures { result ≡ note_at self.now room count }
+    /// A lock of a room, by its number.
+    pub(crate) fn fit(&self, room: RoomNo, fit: FitNo) -> Option<FitRow>
+        ensures { result ≡ fit_at self.now room fit }
     {
-        self.notes.note(room, count)
+        self.fits.get(&(room, fit)).copied()
+    }
+
+    /// A note, by its room, lock and count.
+    pub(crate) fn note(&self, room: RoomNo, fit: FitNo, count: Count) -> Option<LockNote>
+        ensures { result ≡ note_at self.now room fit count }
+    {
+        let row = self.fit(room, fit)?;
+        let note = self.notes.note(room, row.before, count.value())?;
+        if note.fit() != fit {
+            return None;
+        }
+        Some(note)
     }
 
     pub(crate) fn rooms_of_kind(&self, kind: &KindCode) -> u32

@@ -6,11 +6,13 @@ ghost use Rattle.hotel_core.specs.{Stops.counts, Books.Lookups.codes_in};
 
 use crate::books::Books;
 use crate::books::change::Change;
-use crate::books::rows::{CodeRow, NextNumbers, RoomRow};
+use crate::books::rows::{CodeRow, FitRow, NextNumbers, RoomRow};
 use crate::memory::list_books::ListBooks;
 use crate::stops::calls::Calls;
 use hotel_nights::{Day, Guest, KindCode, Stay};
-use keycard_rules::{Card, CardNo, Code, Count, Issued, LockNote, LookFault, PartyNo, RoomNo};
+use keycard_rules::{
+    Card, CardNo, Code, Count, FitNo, Issued, LockNote, LookFault, PartyNo, RoomNo,
+};
 use std::marker::Model;
 
 /// Books in memory of which one call fails, for tests.
@@ -225,9 +227,20 @@ impl Books for StoppingBooks {
         self.found(found)
     }
 
-    fn note(&mut self, room: RoomNo, count: Count) -> Result<Option<LockNote>, LookFault> {
+    fn note(
+        &mut self,
+        room: RoomNo,
+        fit: FitNo,
+        count: Count,
+    ) -> Result<Option<LockNote>, LookFault> {
         self.begin()?;
-        let found = self.books.note(room, count);
+        let found = self.books.note(room, fit, count);
+        self.found(found)
+    }
+
+    fn fit(&mut self, room: RoomNo, fit: FitNo) -> Result<Option<FitRow>, LookFault> {
+        self.begin()?;
+        let found = self.books.fit(room, fit);
         self.found(found)
     }
 

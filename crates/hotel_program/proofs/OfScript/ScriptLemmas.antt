@@ -3,6 +3,7 @@ use Rattle.std.proofs.Common.{◌≡◌, ℕ, zero, suc, ◌+◌, ◌≤◌, Lis
 use Rattle.std.proofs.Math.Seq.{take-append-add}
 use Rattle.std.proofs.lemmas.List.{length-drop}
 use Rattle.std.specs.List.{concat}
+use Rattle.std.specs.Result.{IfOk, OnOk}
 use Rattle.std.specs.Io.KnownBytes.{Appends}
 use Rattle.std.proofs.KnownBytes.{Appends-trans, Appends-nil}
 use Rattle.keycard_rules.specs.declared.issued.LookFault.{LookFault}
@@ -159,3 +160,9 @@ if_cut (Err (Write done)) P Q f p = f done p
 if_cut (Err Read) P Q f p = tt
 if_cut (Err TooLarge) P Q f p = tt
 if_cut (Err no.Memory) P Q f p = tt
+
+-- where all lines were answered, what follows of how many they are and of what they led to
+pub if_answered : {Clean Led : Type 0} (r : Result ScriptEnd ScriptFault) (P Q : ScriptEnd → Type 0)
+    → ((end : ScriptEnd) → P end → (Clean → Led) → Q end) → IfOk r P → (Clean → OnOk r Led) → IfOk r Q
+if_answered (Ok end) P Q f p led = f end p led
+if_answered (Err fault) P Q f p led = tt

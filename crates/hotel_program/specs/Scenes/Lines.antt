@@ -2,6 +2,7 @@
 use Rattle.std.specs.Prelude.{ℕ, ◌≡◌, Bool, true, false, List, [], ◌∷◌, ◌++◌, ◌*◌, map, take, drop, replicate}
 use Rattle.hotel_core.specs.declared.command.Command.{Command}
 use Rattle.hotel_core.specs.declared.reply.Reply.{Reply}
+use Rattle.keycard_rules.specs.Note.{Note}
 use Rattle.hotel_nights.specs.declared.stay.Stay.{Stay}
 use Rattle.hotel_core.specs.declared.books.list_rows.ChainRow.{ChainRow}
 use Rattle.hotel_core.specs.declared.books.list_rows.HouseRow.{HouseRow}
@@ -11,7 +12,7 @@ use Rattle.hotel_core.specs.Model.Event.{Event}
 use Rattle.hotel_core.specs.Model.History.{History, start}
 use Rattle.hotel_core.specs.Model.Outcome.{Outcome, grown}
 use Rattle.hotel_core.specs.Model.Answer.{answer_to}
-use Rattle.hotel_core.specs.Model.Lists.{arrivals, in_house, chain, left_behind}
+use Rattle.hotel_core.specs.Model.Lists.{arrivals, in_house, chain, left_behind, audit_of}
 use Rattle.hotel_core.specs.Model.Cases.{is_room}
 use Rattle.hotel_program.specs.Scenes.Kept.{rows_made, rows_read, always_kept}
 
@@ -25,6 +26,7 @@ pub data Line : Type 0 where
   InHouse : List HouseRow → Line
   Chain : (room : ℕ) → List ChainRow → Line
   LeftBehind : List BehindRow → Line
+  AuditOf : (room : ℕ) → List Note → Line
   -- the list of a room's codes, where the room isn't there
   NoChain : (room : ℕ) → Line
 
@@ -53,6 +55,7 @@ play h ahead (Arrivals day _ ∷ lines) = first_line (Arrivals day (arrivals h d
 play h ahead (InHouse _ ∷ lines) = first_line (InHouse (in_house h)) (play h ahead lines)
 play h ahead (Chain room _ ∷ lines) = first_line (chain_line (is_room h room) room (chain h room)) (play h ahead lines)
 play h ahead (LeftBehind _ ∷ lines) = first_line (LeftBehind (left_behind h)) (play h ahead lines)
+play h ahead (AuditOf room _ ∷ lines) = first_line (AuditOf room (audit_of h room)) (play h ahead lines)
 play h ahead (NoChain room ∷ lines) = first_line (chain_line (is_room h room) room (chain h room)) (play h ahead lines)
 
 -- the words that give these codes, and then the code that comes for ever

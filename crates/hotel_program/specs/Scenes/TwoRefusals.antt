@@ -13,7 +13,7 @@ use Rattle.hotel_core.specs.Model.Stays.{first_full}
 use Rattle.hotel_core.specs.Model.Outcome as outcome
 use Rattle.hotel_core.specs.Model.Answer.{answer_to}
 use Rattle.hotel_core.specs.Model.RowsOf.{rows_of}
-use Rattle.hotel_program.specs.Scenes.Words.{may, M, a0, a1, b0, b1, c0, c1, d0, d1, DBL, SGL, TWN, TPL, guest, begin, add_kind, add_room, reserve, cancel, check_in, spare, reissue, transfer, check_out, next_day, entered_by, left_by, recoded_by, entered, left, recoded, begun, kind_added, room_code, party, cancelled, card, day, taken, seen, refused}
+use Rattle.hotel_program.specs.Scenes.Words.{may, M, a0, a1, b0, b1, c0, c1, d0, d1, DBL, SGL, TWN, TPL, guest, begin, add_kind, add_room, reserve, cancel, check_in, spare, reissue, transfer, check_out, refit, next_day, entered_by, left_by, recoded_by, entered, left, recoded, begun, kind_added, room_code, party, cancelled, card, day, taken, seen, refused}
 use Rattle.hotel_program.specs.Scenes.Lines.{Line, ◌⇒◌, Played, play, source, AreAnswered, AreRefused}
 
 -- Nothing happened yet.
@@ -31,6 +31,7 @@ before_the_first_day =
     ∷ reissue 1 ⇒ refused NotBegun  -- NoParty
     ∷ transfer 1 101 ⇒ refused NotBegun  -- NoRoom
     ∷ check_out 1 ⇒ refused NotBegun  -- NoParty
+    ∷ refit 101 ⇒ refused NotBegun  -- NoRoom
     ∷ next_day ⇒ refused NotBegun
     ∷ entered 101 1 1 a0 a1 M ⇒ refused NotBegun  -- NoRoom
     ∷ entered_by 101 2 1 1 a0 a1 M ⇒ refused NotBegun  -- NoFit
@@ -101,6 +102,8 @@ of_guests =
     ∷ transfer 1 103 ⇒ refused RoomTaken  -- NoFreshCode
     ∷ check_out 9 ⇒ refused NoParty  -- NotInHouse
     ∷ check_out 6 ⇒ refused NotInHouse
+    ∷ refit 999 ⇒ refused NoRoom
+    ∷ refit 101 ⇒ refused RoomTaken  -- NoFreshCode
     ∷ []
 
 abbrev pub of_notes : List Line
@@ -180,3 +183,4 @@ TheScene =
     × AreRefused busy of_notes
     × AreRefused last_day on_the_last_day
     × FindsNoCode (add_room 104 DBL) × FindsNoCode (check_in 6 102) × FindsNoCode (reissue 1) × FindsNoCode (transfer 1 102)
+    × FindsNoCode (refit 102)

@@ -1,6 +1,8 @@
 -- The words of the scenes: commands and replies in the order of a script's words, days, codes, guests and the rows of lists.
 use Rattle.std.specs.Prelude.{ℕ, Bool, List, ◌+◌, codes}
 use Rattle.keycard_rules.specs.declared.card.Link.{Link}
+use Rattle.keycard_rules.specs.Note.{Note}
+use Rattle.keycard_rules.specs.declared.note.Act.{Act}
 use Rattle.keycard_rules.specs.declared.note.Act.TheVariants as act
 use Rattle.hotel_core.specs.Model.Event.{Moment}
 use Rattle.hotel_core.specs.declared.command.Command.{Command}
@@ -76,6 +78,11 @@ bo = codes "Bo"
 abbrev pub link : ℕ → ℕ → Link
 link old new = record { old_code = old; new_code = new }
 
+-- a note of a room's lock of this number
+abbrev pub note : ℕ → ℕ → ℕ → Act → Moment → Note
+note room fit count its_act at =
+    record { room = room; fit = fit; count = count; act = its_act; day = at.0; second = at.1 }
+
 -- ---- commands, as a script's line has them
 
 abbrev pub begin : ℕ → Command
@@ -108,21 +115,22 @@ transfer party room = command.Transfer party room
 abbrev pub check_out : ℕ → Command
 check_out party = command.CheckOut party
 
+abbrev pub refit : ℕ → Command
+refit room = command.Refit room
+
 abbrev pub next_day : Command
 next_day = command.NextDay
 
 -- notes of a room's lock of this number
 abbrev pub entered_by : ℕ → ℕ → ℕ → ℕ → ℕ → ℕ → Moment → Command
 entered_by room fit count number old new at =
-    command.Reported (record { room = room; fit = fit; count = count; act = act.Entered number (link old new); day = at.0; second = at.1 })
+    command.Reported (note room fit count (act.Entered number (link old new)) at)
 
 abbrev pub left_by : ℕ → ℕ → ℕ → ℕ → ℕ → ℕ → Moment → Command
-left_by room fit count number old new at =
-    command.Reported (record { room = room; fit = fit; count = count; act = act.Left number (link old new); day = at.0; second = at.1 })
+left_by room fit count number old new at = command.Reported (note room fit count (act.Left number (link old new)) at)
 
 abbrev pub recoded_by : ℕ → ℕ → ℕ → ℕ → ℕ → Moment → Command
-recoded_by room fit count from to at =
-    command.Reported (record { room = room; fit = fit; count = count; act = act.Recoded from to; day = at.0; second = at.1 })
+recoded_by room fit count from to at = command.Reported (note room fit count (act.Recoded from to) at)
 
 -- notes of a room's first lock
 abbrev pub entered : ℕ → ℕ → ℕ → ℕ → ℕ → Moment → Command
@@ -156,6 +164,9 @@ card number its_party old new = reply.Issued (record { number = number; party = 
 
 abbrev pub checked_out : Reply
 checked_out = reply.CheckedOut
+
+abbrev pub lock : ℕ → ℕ → Reply
+lock fit code = reply.Refitted code fit
 
 abbrev pub day : ℕ → Reply
 day number = reply.DayIs number

@@ -11,7 +11,7 @@ use hotel_asks::{ValueName, Verb};
 use std::alloc::{AllocError, Global};
 
 /// The verbs, in the order in which help lists them.
-static VERBS: [Verb; 19] = [
+static VERBS: [Verb; 20] = [
     Verb::Begin,
     Verb::AddKind,
     Verb::AddRoom,
@@ -22,6 +22,7 @@ static VERBS: [Verb; 19] = [
     Verb::Reissue,
     Verb::Transfer,
     Verb::CheckOut,
+    Verb::Refit,
     Verb::NextDay,
     Verb::Entered,
     Verb::Left,

@@ -15,6 +15,7 @@ pub fn about_verb<'a>(verb: Verb) -> &'a str {
         Verb::Reissue => "Print a card of a new code for a party that lost one: reissue 1",
         Verb::Transfer => "Move a party to another room of its kind: transfer 1 102",
         Verb::CheckOut => "Check a party out: check-out 1",
+        Verb::Refit => "Replace the lock of a room without a party and print its code: refit 101",
         Verb::NextDay => "Close the business day: next-day",
         Verb::Entered =>
             "Report that a card opened a lock: entered 101 1 1 OLD NEW 2031-05-01T15:00:00",

@@ -15,7 +15,8 @@ use Rattle.hotel_nights.specs.Kinds.{is_kind}
 use Rattle.hotel_core.specs.Model.Words.{is_that, said_of}
 use Rattle.hotel_core.specs.Model.Rows.{Rows, at_number, has_kind}
 use Rattle.hotel_core.specs.Model.Stays.{room_of_state}
-use Rattle.hotel_core.specs.Model.SoundRooms.{are_in_order, count_up, is_day, has_party, kinds_read, room_numbers}
+use Rattle.hotel_core.specs.Model.SoundRooms.{are_in_order, count_up, is_day, kinds_read, room_numbers}
+use Rattle.hotel_core.specs.Model.SoundStays.{has_party}
 use Rattle.hotel_core.specs.KindRooms.{is_there, rooms_in}
 use Rattle.hotel_core.specs.declared.books.rows.RoomRow.{RoomRow}
 use Rattle.hotel_core.proofs.OfTables.Tests.{and_true, either_way, not_both, eq_from, le_tested}
@@ -27,7 +28,8 @@ use Rattle.hotel_rows.specs.declared.stored.Stored.{Stored}
 use Rattle.hotel_rows.specs.Stored.{number_of, kind_text, rows_of, state_of, room_row, stay_row}
 use Rattle.hotel_rows.specs.Keys.{are_numbered, room_key, stay_key}
 use Rattle.hotel_rows.specs.Damage.{first_damaged_of, room_columns, stay_columns}
-use Rattle.hotel_rows.specs.RowTests.{are_stay_days, has_home, has_night, is_at_home, is_room_number, is_room_of_kind, is_secured_as_due, room_fits, stay_fits}
+use Rattle.hotel_rows.specs.RowTests.{are_stay_days, has_home, has_night, is_at_home, is_room_number, is_room_of_kind}
+use Rattle.hotel_rows.specs.RowTests.{is_secured_as_due, has_few_codes, room_fits, stay_fits}
 use Rattle.hotel_rows.specs.Counts.{KnowsKinds, are_rooms_of, is_number_up_to, names_kind, tells_state, tells_stay}
 use Rattle.hotel_rows.proofs.OfCounts.{named_kind}
 use Rattle.hotel_rows.proofs.OfDamage.FoundKeys.{passes_at}
@@ -137,10 +139,10 @@ stays_told s none =
 
 room_told : (s : Stored) (plain : PlainRoom) → room_fits s plain ≡ true → (is_room_number plain ≡ true) × (names_kind (string_bytes plain.kind) s.kinds.items ≡ true)
 room_told s plain h =
-    let secured = and_true _ (is_secured_as_due plain) h in
+    let secured = and_true _ (is_secured_as_due s plain) h in
     let home = and_true _ (is_at_home (rows_of s) (room_row plain)) secured.0 in
-    let notes = and_true _ (nat_le (number_of plain.notes) 9999999) home.0 in
-    let codes = and_true _ (nat_le (number_of plain.codes) (length s.cards.items + 1)) notes.0 in
+    let notes = and_true _ (nat_le (number_of plain.notes) 989999901) home.0 in
+    let codes = and_true _ (has_few_codes s plain) notes.0 in
     let kind = and_true _ (has_kind (rows_of s) (string_bytes plain.kind)) codes.0 in
     let lock = and_true _ (nat_lt (number_of plain.lock_place) (number_of plain.codes)) kind.0 in
     let number = and_true (room_columns plain) (is_room_number plain) lock.0 in

@@ -7,18 +7,21 @@ use Rattle.hotel_nights.specs.declared.stay.Stay.{Stay}
 use Rattle.hotel_core.specs.declared.books.rows.RoomRow.{RoomRow}
 use Rattle.hotel_core.specs.declared.books.rows.CodeRow.{CodeRow}
 use Rattle.hotel_core.specs.Model.Words.{said_of}
-use Rattle.hotel_core.specs.Model.Rows.{at_number}
+use Rattle.hotel_core.specs.Model.Rows.{at_number, begins_fit}
 use Rattle.hotel_core.specs.Model.Stays.{room_of_state}
 use Rattle.hotel_core.specs.Model.Cards.{same_link}
 use Rattle.hotel_core.specs.Model.SoundRooms.{are_in_order, count_up}
-use Rattle.hotel_core.specs.Model.SoundCards.{card_parties_there, links_are_neighbours, links_of_one_party, neighbours_are_links, newest_of_party, last_cards_newest, code_is, stands_at, is_newest, owns_newest, has_newest}
+use Rattle.hotel_core.specs.Model.SoundCards.{card_parties_there, links_are_neighbours, links_of_one_party}
+use Rattle.hotel_core.specs.Model.SoundCards.{neighbours_are_links, fits_without_links, newest_of_party}
+use Rattle.hotel_core.specs.Model.SoundCards.{last_cards_newest, code_is, stands_at, is_newest, owns_newest, has_newest}
 use Rattle.hotel_core.proofs.OfTables.RowTests.{all_mapped}
 use Rattle.hotel_rows.specs.declared.stored.Stored.{Stored}
-use Rattle.hotel_rows.specs.Stored.{number_of, rows_of, card_entry, card_row, link_row, code_entry, room_entry, stay_entry}
+use Rattle.hotel_rows.specs.Stored.{number_of, fits_of, rows_of, card_entry, card_row, link_row, code_entry, stay_entry}
 use Rattle.hotel_rows.specs.Keys.{are_numbered, card_key}
 use Rattle.hotel_rows.specs.Damage.{card_holds}
-use Rattle.hotel_rows.specs.RowTests.{card_fits, agrees, is_brought, is_owned, has_owner, has_last, links_hold}
-use Rattle.hotel_rows.proofs.OfDamage.RowsTogether.{keys_mapped, length_mapped, all_alike, left_and}
+use Rattle.hotel_rows.specs.RowTests.{card_fits, agrees, begins_one, is_brought, is_owned, has_owner, has_last}
+use Rattle.hotel_rows.specs.RowTests.{links_hold}
+use Rattle.hotel_rows.proofs.OfDamage.RowsTogether.{keys_mapped, length_mapped, all_and, all_alike, left_and, all_rooms}
 use Rattle.hotel_rows.proofs.OfDamage.StaysTogether.{own_keys}
 
 numbers_joined : (o e u w : Bool) → e ≡ true → (o && ((e && u) && w)) ≡ ((o && u) && w)
@@ -38,20 +41,33 @@ agree_together s =
     all_mapped (λ (e : ℕ × Card). list_all (λ (f : ℕ × Card). not (same_link e.1.link f.1.link) || (e.1.party == f.1.party)) (rows_of s).cards) card_entry s.cards.items
     ∙ all_alike _ (agrees s) s.cards.items (λ plain. all_mapped (λ (f : ℕ × Card). not (same_link (link_row plain) f.1.link) || (number_of plain.party == f.1.party)) card_entry s.cards.items)
 
-brought_together : (s : Stored) → neighbours_are_links (rows_of s) ≡ list_all (is_brought s) s.codes.items
+brought_together : (s : Stored) → (neighbours_are_links (rows_of s) && fits_without_links (rows_of s))
+    ≡ list_all (is_brought s) s.codes.items
 brought_together s =
-    all_mapped (λ (e : ℕ × CodeRow). (e.1.place == 0) || list_any (λ (c : ℕ × Card). c.1.link.new_code == e.0) (rows_of s).cards) code_entry s.codes.items
-    ∙ all_alike _ (is_brought s) s.codes.items (λ plain. ap (λ b. (number_of plain.place == 0) || b) (any_mapped (λ (c : ℕ × Card). c.1.link.new_code == number_of plain.code) card_entry s.cards.items))
+    let brought = λ (e : ℕ × CodeRow). list_any (λ (c : ℕ × Card). c.1.link.new_code == e.0) (rows_of s).cards in
+    let begun = λ (e : ℕ × CodeRow). begins_fit (rows_of s) e.1.room e.1.place in
+    ap (λ b. b && fits_without_links (rows_of s)) (all_mapped
+    (λ (e : ℕ × CodeRow). (e.1.place == 0) || begun e || brought e) code_entry s.codes.items)
+    ∙ all_and (λ plain. (number_of plain.place == 0) || begins_one s plain || brought (code_entry plain))
+    (λ plain. not (begins_one s plain && brought (code_entry plain))) s.codes.items _
+    (all_mapped (λ (e : ℕ × CodeRow). not (begun e && brought e)) code_entry s.codes.items)
+    ∙ all_alike _ (is_brought s) s.codes.items (λ plain.
+    ap (λ b. ((number_of plain.place == 0) || begins_one s plain || b) && not (begins_one s plain && b))
+    (any_mapped (λ (c : ℕ × Card). c.1.link.new_code == number_of plain.code) card_entry s.cards.items))
 
 owners_together : (s : Stored) → newest_of_party (rows_of s) ≡ list_all (has_owner s) s.rooms.items
 owners_together s =
-    all_mapped (λ (e : ℕ × RoomRow). said_of e.1.party true (owns_newest (rows_of s) e.1.room)) room_entry s.rooms.items
+    all_rooms (λ (e : ℕ × RoomRow). said_of e.1.party true (owns_newest (rows_of s) e.1.room)) (fits_of s) s.rooms.items
     ∙ all_alike _ (has_owner s) s.rooms.items (λ plain.
     said_alike (option_map number_of plain.party) true (owns_newest (rows_of s) (number_of plain.room)) (λ party. list_all (is_owned s (number_of plain.room) party) s.cards.items)
     (λ party. all_mapped (λ (e : ℕ × Card). not (is_newest (rows_of s) (number_of plain.room) e.1.link) || (e.1.party == party)) card_entry s.cards.items))
 
 lasts_together : (s : Stored) → last_cards_newest (rows_of s) ≡ list_all (has_last s) s.stays.items
 lasts_together s = all_mapped (λ (e : ℕ × Stay). said_of (room_of_state e.1.state) true (has_newest (rows_of s) e.1.party)) stay_entry s.stays.items
+
+both_first : (a b c d e : Bool) → ((((a && b) && c) && d) && e) ≡ (((a && (b && c)) && d) && e)
+both_first true b c d e = refl
+both_first false b c d e = refl
 
 joined : (a b c d e f : Bool) → (((((a && b) && c) && d) && e) && f) ≡ ((a && b) && (((c && d) && e) && f))
 joined true true c d e f = refl
@@ -66,16 +82,25 @@ cards_together s =
     let ks = map card_key plain_rows in
     let o = are_numbered ks in
     let own = list_all (λ (e : ℕ × Card). e.1.number == e.0) rows.cards in
-    ap (λ keys. are_in_order nat_cmp keys && (own && count_up 1 keys && nat_le (length rows.cards) 9999999) && card_parties_there rows && links_are_neighbours rows && links_of_one_party rows && neighbours_are_links rows && newest_of_party rows && last_cards_newest rows)
+    ap (λ keys. are_in_order nat_cmp keys && (own && count_up 1 keys && nat_le (length rows.cards) 9999999)
+    && card_parties_there rows && links_are_neighbours rows && links_of_one_party rows && neighbours_are_links rows
+    && fits_without_links rows && newest_of_party rows && last_cards_newest rows)
     (keys_mapped card_key card_row plain_rows)
-    ∙ ap (λ n. are_in_order nat_cmp ks && (own && count_up 1 ks && nat_le n 9999999) && card_parties_there rows && links_are_neighbours rows && links_of_one_party rows && neighbours_are_links rows && newest_of_party rows && last_cards_newest rows)
+    ∙ ap (λ n. are_in_order nat_cmp ks && (own && count_up 1 ks && nat_le n 9999999) && card_parties_there rows
+    && links_are_neighbours rows && links_of_one_party rows && neighbours_are_links rows && fits_without_links rows
+    && newest_of_party rows && last_cards_newest rows)
     (length_mapped card_entry plain_rows ∙ sym (length_mapped card_key plain_rows))
-    ∙ ap (λ b. b && card_parties_there rows && links_are_neighbours rows && links_of_one_party rows && neighbours_are_links rows && newest_of_party rows && last_cards_newest rows)
+    ∙ ap (λ b. b && card_parties_there rows && links_are_neighbours rows && links_of_one_party rows
+    && neighbours_are_links rows && fits_without_links rows && newest_of_party rows && last_cards_newest rows)
     (numbers_joined (are_in_order nat_cmp ks) own (count_up 1 ks) (nat_le (length ks) 9999999) (own_keys card_key card_row (λ (card : Card). card.number) (λ plain. refl) plain_rows))
-    ∙ ap (λ b. b && links_of_one_party rows && neighbours_are_links rows && newest_of_party rows && last_cards_newest rows)
+    ∙ ap (λ b. b && links_of_one_party rows && neighbours_are_links rows && fits_without_links rows
+    && newest_of_party rows && last_cards_newest rows)
     (left_and o card_entry (λ (e : ℕ × Card). code_is rows e.1.link.new_code (λ new. stands_at rows new.room e.1.link)) _ plain_rows _
     (ap (λ b. o && b) (all_mapped (λ (e : ℕ × Card). is_some (at_number rows.stays e.1.party)) card_entry plain_rows)))
-    ∙ ap (λ b. o && list_all (λ card. card_fits rows (card_row card)) plain_rows && b && neighbours_are_links rows && newest_of_party rows && last_cards_newest rows) (agree_together s)
+    ∙ ap (λ b. o && list_all (λ card. card_fits rows (card_row card)) plain_rows && b && neighbours_are_links rows
+    && fits_without_links rows && newest_of_party rows && last_cards_newest rows) (agree_together s)
+    ∙ both_first (o && list_all (λ card. card_fits rows (card_row card)) plain_rows && list_all (agrees s) plain_rows)
+    (neighbours_are_links rows) (fits_without_links rows) (newest_of_party rows) (last_cards_newest rows)
     ∙ ap (λ b. o && list_all (λ card. card_fits rows (card_row card)) plain_rows && list_all (agrees s) plain_rows && b && newest_of_party rows && last_cards_newest rows) (brought_together s)
     ∙ ap (λ b. o && list_all (λ card. card_fits rows (card_row card)) plain_rows && list_all (agrees s) plain_rows && list_all (is_brought s) s.codes.items && b && last_cards_newest rows) (owners_together s)
     ∙ ap (λ b. o && list_all (λ card. card_fits rows (card_row card)) plain_rows && list_all (agrees s) plain_rows && list_all (is_brought s) s.codes.items && list_all (has_owner s) s.rooms.items && b) (lasts_together s)

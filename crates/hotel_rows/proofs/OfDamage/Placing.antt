@@ -17,12 +17,12 @@ use Rattle.hotel_core.proofs.OfTables.RowTests.{all_mapped}
 use Rattle.hotel_rows.specs.declared.damage.placed.Placed.{Placed}
 use Rattle.hotel_rows.specs.declared.stored.PlainCode.{PlainCode}
 use Rattle.hotel_rows.specs.declared.stored.Stored.{Stored}
-use Rattle.hotel_rows.specs.Stored.{number_of, code_row, code_entry, room_entry, rows_of}
+use Rattle.hotel_rows.specs.Stored.{number_of, code_row, code_entry, fits_of, rows_of}
 use Rattle.hotel_rows.specs.Keys.{code_key}
 use Rattle.hotel_rows.specs.Placed.{places_in, listed_in, PlacesOf, placed_as_due}
 use Rattle.hotel_rows.specs.Damage.{code_holds}
 use Rattle.hotel_rows.specs.RowTests.{code_fits}
-use Rattle.hotel_rows.proofs.OfDamage.RowsTogether.{keys_mapped, all_and, and_more, all_alike}
+use Rattle.hotel_rows.proofs.OfDamage.RowsTogether.{keys_mapped, all_and, and_more, all_alike, all_rooms}
 
 -- what stands past the end of a list of codes
 abbrev pub no_code : PlainCode
@@ -53,8 +53,10 @@ at_back xs k d low =
 -- the rule on the places of all rooms
 pub places_as_due : (s : Stored) (placed : List (ℕ × Placed)) → PlacesOf placed s.codes.items → places_once (rows_of s) ≡ list_all (placed_as_due placed) s.rooms.items
 places_as_due s placed is =
-    all_mapped (λ (e : ℕ × RoomRow). count_up 0 (keys_of (codes_by_place (map code_entry s.codes.items) e.1.room)) && (length (values_of (codes_by_place (map code_entry s.codes.items) e.1.room)) == e.1.codes)
-    && (count_by (λ (row : CodeRow). row.room == e.1.room) (values_of (map code_entry s.codes.items)) == e.1.codes)) room_entry s.rooms.items
+    all_rooms (λ (e : ℕ × RoomRow). count_up 0 (keys_of (codes_by_place (map code_entry s.codes.items) e.1.room))
+    && (length (values_of (codes_by_place (map code_entry s.codes.items) e.1.room)) == e.1.codes)
+    && (count_by (λ (row : CodeRow). row.room == e.1.room) (values_of (map code_entry s.codes.items)) == e.1.codes))
+    (fits_of s) s.rooms.items
     ∙ all_alike _ (placed_as_due placed) s.rooms.items (λ plain.
     let r = number_of plain.room in
     ap (λ es. count_up 0 (keys_of es) && (length (values_of es) == number_of plain.codes) && (count_by (λ (row : CodeRow). row.room == r) (values_of (map code_entry s.codes.items)) == number_of plain.codes)) (sym (is r).0)

@@ -8,17 +8,19 @@ use Rattle.hotel_nights.specs.FullNight.{takes}
 use Rattle.hotel_nights.specs.Guests.{is_guest}
 use Rattle.hotel_core.specs.declared.books.rows.RoomRow.{RoomRow}
 use Rattle.hotel_core.specs.Model.Rows.{has_kind}
-use Rattle.hotel_core.specs.Model.SoundRooms.{are_in_order, count_up, is_day, guests_read, stay_kinds_there, stay_days, stay_rooms, nights_fit, stays_on, rooms_with}
+use Rattle.hotel_core.specs.Model.SoundRooms.{are_in_order, count_up, is_day}
+use Rattle.hotel_core.specs.Model.SoundStays.{guests_read, stay_kinds_there, stay_days, stay_rooms, nights_fit}
+use Rattle.hotel_core.specs.Model.SoundStays.{stays_on, rooms_with}
 use Rattle.hotel_core.proofs.OfTables.RowTests.{all_mapped}
 use Rattle.hotel_core.proofs.OfTables.MapEntries.{eq_self}
 use Rattle.hotel_core.proofs.OfTables.StayCounts.{count_first}
 use Rattle.hotel_rows.specs.declared.stored.Stored.{Stored}
 use Rattle.hotel_rows.specs.declared.stored.PlainStay.{PlainStay}
-use Rattle.hotel_rows.specs.Stored.{number_of, rows_of, stay_entry, stay_row, room_row}
+use Rattle.hotel_rows.specs.Stored.{number_of, fits_of, rows_of, stay_entry, stay_row, joined_row}
 use Rattle.hotel_rows.specs.Keys.{are_numbered, room_key, stay_key}
 use Rattle.hotel_rows.specs.Damage.{stay_columns, stay_holds}
 use Rattle.hotel_rows.specs.RowTests.{stay_fits, has_home, has_night, stay_has_home}
-use Rattle.hotel_rows.proofs.OfDamage.RowsTogether.{keys_mapped, length_mapped, all_alike, left_and}
+use Rattle.hotel_rows.proofs.OfDamage.RowsTogether.{keys_mapped, length_mapped, all_alike, left_and, rooms_are}
 
 all_yes : {L : Type 0} (ls : List L) → list_all (λ l. true) ls ≡ true
 all_yes [] = refl
@@ -55,7 +57,10 @@ nights_together s =
     ∙ all_alike _ (has_night s) s.stays.items (λ plain.
     ap (λ n. nat_le n (rooms_with (rows_of s) (string_bytes plain.kind))) (counted (takes (string_bytes plain.kind) (number_of plain.arrive)) stay_key stay_row s.stays.items)
     ∙ ap (λ n. nat_le (count_by (λ (stay : PlainStay). takes (string_bytes plain.kind) (number_of plain.arrive) (stay_row stay)) s.stays.items) n)
-    (counted (λ (row : RoomRow). bytes_eq row.kind (string_bytes plain.kind)) room_key room_row s.rooms.items))
+    (ap (λ es. count_by (λ (row : RoomRow). bytes_eq row.kind (string_bytes plain.kind)) (values_of es))
+    (rooms_are (fits_of s) s.rooms.items)
+    ∙ counted (λ (row : RoomRow). bytes_eq row.kind (string_bytes plain.kind)) room_key
+    (joined_row (fits_of s)) s.rooms.items))
 
 -- the rules of stays are tests of the keys and of each stay
 pub stays_together : (s : Stored) → stay_holds s ≡ (are_numbered (map stay_key s.stays.items) && list_all (stay_fits s) s.stays.items && list_all (has_night s) s.stays.items)

@@ -1,19 +1,34 @@
 -- Undamaged tables have sound rows, and the other way round.
-use Rattle.std.proofs.Common.{◌≡◌, Bool, true, false, cond, Option, Some, None, refl, nat_cmp}
+use Rattle.std.proofs.Common.{◌≡◌, ℕ, Bool, true, false, cond, ◌==◌, ◌&&◌, nat_le, Option, Some, None, refl, nat_cmp}
 use Rattle.std.specs.List.{list_all}
 use Rattle.std.specs.Map.{keys_of}
 use Rattle.hotel_core.specs.Model.Words.{pair_cmp}
-use Rattle.hotel_core.specs.Model.Sound.{keys_in_order, passes_rules}
-use Rattle.hotel_core.specs.Model.SoundRooms.{are_in_order, day_in_range, day_before_kinds, kinds_read, room_numbers, lock_places, room_kinds_there, codes_few, note_counts, parties_in_house, secured_hold_last, stay_numbers, guests_read, stay_kinds_there, stay_days, stay_rooms, nights_fit}
-use Rattle.hotel_core.specs.Model.SoundCards.{codes_in_range, code_rooms_there, places_once, card_numbers, card_parties_there, links_are_neighbours, links_of_one_party, neighbours_are_links, newest_of_party, last_cards_newest, insides_fit, notes_fit, notes_counted}
-use Rattle.hotel_core.proofs.OfTables.Tests.{and_true}
-use Rattle.hotel_core.proofs.OfTables.RowTests.{both}
+use Rattle.hotel_core.specs.declared.books.rows.RoomRow.{RoomRow}
+use Rattle.hotel_core.specs.Model.Rows.{Rows, at_number}
+use Rattle.hotel_core.specs.Model.Sound.{IsSound, keys_in_order, passes_rules}
+use Rattle.hotel_core.specs.Model.SoundRooms.{are_in_order, day_before_kinds, kinds_read, room_numbers, lock_places}
+use Rattle.hotel_core.specs.Model.SoundRooms.{room_kinds_there, codes_few, note_counts, parties_in_house}
+use Rattle.hotel_core.specs.Model.SoundRooms.{secured_hold_last}
+use Rattle.hotel_core.specs.Model.SoundStays.{stay_numbers, guests_read, stay_kinds_there, stay_days, stay_rooms}
+use Rattle.hotel_core.specs.Model.SoundStays.{nights_fit}
+use Rattle.hotel_core.specs.Model.SoundCards.{codes_in_range, code_rooms_there, places_once, card_numbers}
+use Rattle.hotel_core.specs.Model.SoundCards.{card_parties_there, links_are_neighbours, links_of_one_party}
+use Rattle.hotel_core.specs.Model.SoundCards.{neighbours_are_links, fits_without_links, newest_of_party}
+use Rattle.hotel_core.specs.Model.SoundCards.{last_cards_newest}
+use Rattle.hotel_core.specs.Model.SoundNotes.{insides_fit, notes_fit, notes_counted, notes_of_fits}
+use Rattle.hotel_core.specs.Model.SoundFits.{fit_rooms_there, fit_numbers, first_fits, fit_places_rise, fit_notes_rise}
+use Rattle.hotel_core.specs.Model.SoundFits.{last_fits_held, last_fits_noted, fit_notes_few, rows_of_last_fits}
+use Rattle.hotel_core.proofs.OfTables.Tests.{and_true, eq_from}
+use Rattle.hotel_core.proofs.OfTables.RowTests.{both, found_passes}
 use Rattle.hotel_core.proofs.SoundRows.TestsSound.{sound_pass, passing_are_sound}
 use Rattle.hotel_rows.specs.declared.stored.Stored.{Stored}
 use Rattle.hotel_rows.specs.declared.stored.TableName.{TableName}
 use Rattle.hotel_rows.specs.declared.stored.TableName.TheVariants as table
 use Rattle.hotel_rows.specs.Stored.{rows_of}
-use Rattle.hotel_rows.specs.Damage.{room_columns, stay_columns, note_columns, meta_holds, kind_holds, room_holds, stay_holds, code_holds, card_holds, inside_holds, note_holds, first_damaged_of, columns_fit, UndamagedIsSound}
+use Rattle.hotel_rows.specs.Damage.{room_columns, stay_columns, note_columns, meta_holds, kind_holds, room_holds}
+use Rattle.hotel_rows.specs.Damage.{stay_holds, code_holds, card_holds, inside_holds, note_holds, fit_holds}
+use Rattle.hotel_rows.specs.Damage.{first_damaged_of, columns_fit, UndamagedIsSound}
+use Rattle.hotel_rows.proofs.OfDamage.NotesOfFits.{of_fits, of_last_fits}
 
 -- each table holds
 pub record AllHold (s : Stored) : Type 0 where
@@ -25,6 +40,7 @@ pub record AllHold (s : Stored) : Type 0 where
   pub card : card_holds s ≡ true
   pub inside : inside_holds s ≡ true
   pub note : note_holds s ≡ true
+  pub fit : fit_holds s ≡ true
 
 passed : (b : Bool) (t : TableName) (rest : Option TableName) → cond b rest (Some t) ≡ None → (b ≡ true) × (rest ≡ None)
 passed true t rest e = (refl, e)
@@ -40,7 +56,18 @@ all_passed s e =
     let g = passed (card_holds s) table.Card _ f.1 in
     let h = passed (inside_holds s) table.Inside _ g.1 in
     let i = passed (note_holds s) table.Note _ h.1 in
-    record { meta = a.0; kind = b.0; room = c.0; stay = d.0; code = f.0; card = g.0; inside = h.0; note = i.0 }
+    let j = passed (fit_holds s) table.Fit _ i.1 in
+    record {
+      meta = a.0;
+      kind = b.0;
+      room = c.0;
+      stay = d.0;
+      code = f.0;
+      card = g.0;
+      inside = h.0;
+      note = i.0;
+      fit = j.0;
+    }
 
 pass_on : (b : Bool) (t : TableName) (rest : Option TableName) → b ≡ true → rest ≡ None → cond b rest (Some t) ≡ None
 pass_on true t rest h e = e
@@ -49,96 +76,140 @@ pass_on false t rest h e = absurd (let w : ◌≡◌ {A = Bool} false true = h i
 none_first : (s : Stored) → AllHold s → first_damaged_of s ≡ None
 none_first s h =
     pass_on (meta_holds s) table.Meta _ h.meta (pass_on (kind_holds s) table.Kind _ h.kind (pass_on (room_holds s) table.Room _ h.room (pass_on (stay_holds s) table.Stay _ h.stay
-    (pass_on (code_holds s) table.Code _ h.code (pass_on (card_holds s) table.Card _ h.card (pass_on (inside_holds s) table.Inside _ h.inside (pass_on (note_holds s) table.Note _ h.note refl)))))))
+    (pass_on (code_holds s) table.Code _ h.code (pass_on (card_holds s) table.Card _ h.card
+    (pass_on (inside_holds s) table.Inside _ h.inside (pass_on (note_holds s) table.Note _ h.note
+    (pass_on (fit_holds s) table.Fit _ h.fit refl))))))))
+
+room_is : (rows : Rows) → room_numbers rows ≡ true → (r : ℕ) (row : RoomRow) → at_number rows.rooms r ≡ Some row
+    → row.room ≡ r
+room_is rows numbers r row found =
+    let p = and_true ((row.room == r) && nat_le 1 r) (nat_le r 9999)
+    (found_passes (λ (e : ℕ × RoomRow). (e.1.room == e.0) && nat_le 1 e.0
+    && nat_le e.0 9999) rows.rooms r row numbers found) in
+    eq_from row.room r (and_true (row.room == r) (nat_le 1 r) p.0).0
+
+-- one test more that holds
+more : {a b : Bool} → a ≡ true → b ≡ true → (a && b) ≡ true
+more {a} {b} p q = both a b p q
 
 rules_passed : (s : Stored) → AllHold s → (passes_rules (rows_of s) ≡ true) × (columns_fit s ≡ true)
 rules_passed s h =
-    let meta_1 = and_true _ (day_before_kinds (rows_of s)) h.meta in
-    let kind_1 = and_true _ (kinds_read (rows_of s)) h.kind in
-    let room_8 = and_true _ (secured_hold_last (rows_of s)) h.room in
-    let room_7 = and_true _ (parties_in_house (rows_of s)) room_8.0 in
-    let room_6 = and_true _ (note_counts (rows_of s)) room_7.0 in
-    let room_5 = and_true _ (codes_few (rows_of s)) room_6.0 in
-    let room_4 = and_true _ (room_kinds_there (rows_of s)) room_5.0 in
-    let room_3 = and_true _ (lock_places (rows_of s)) room_4.0 in
-    let room_2 = and_true _ (room_numbers (rows_of s)) room_3.0 in
+    let rows = rows_of s in
+    let meta_1 = and_true _ (day_before_kinds rows) h.meta in
+    let kind_1 = and_true _ (kinds_read rows) h.kind in
+    let room_8 = and_true _ (secured_hold_last rows) h.room in
+    let room_7 = and_true _ (parties_in_house rows) room_8.0 in
+    let room_6 = and_true _ (note_counts rows) room_7.0 in
+    let room_5 = and_true _ (codes_few rows) room_6.0 in
+    let room_4 = and_true _ (room_kinds_there rows) room_5.0 in
+    let room_3 = and_true _ (lock_places rows) room_4.0 in
+    let room_2 = and_true _ (room_numbers rows) room_3.0 in
     let room_1 = and_true _ (list_all room_columns s.rooms.items) room_2.0 in
-    let stay_7 = and_true _ (nights_fit (rows_of s)) h.stay in
-    let stay_6 = and_true _ (stay_rooms (rows_of s)) stay_7.0 in
-    let stay_5 = and_true _ (stay_days (rows_of s)) stay_6.0 in
-    let stay_4 = and_true _ (stay_kinds_there (rows_of s)) stay_5.0 in
-    let stay_3 = and_true _ (guests_read (rows_of s)) stay_4.0 in
-    let stay_2 = and_true _ (stay_numbers (rows_of s)) stay_3.0 in
+    let stay_7 = and_true _ (nights_fit rows) h.stay in
+    let stay_6 = and_true _ (stay_rooms rows) stay_7.0 in
+    let stay_5 = and_true _ (stay_days rows) stay_6.0 in
+    let stay_4 = and_true _ (stay_kinds_there rows) stay_5.0 in
+    let stay_3 = and_true _ (guests_read rows) stay_4.0 in
+    let stay_2 = and_true _ (stay_numbers rows) stay_3.0 in
     let stay_1 = and_true _ (list_all stay_columns s.stays.items) stay_2.0 in
-    let code_3 = and_true _ (places_once (rows_of s)) h.code in
-    let code_2 = and_true _ (code_rooms_there (rows_of s)) code_3.0 in
-    let code_1 = and_true _ (codes_in_range (rows_of s)) code_2.0 in
-    let card_7 = and_true _ (last_cards_newest (rows_of s)) h.card in
-    let card_6 = and_true _ (newest_of_party (rows_of s)) card_7.0 in
-    let card_5 = and_true _ (neighbours_are_links (rows_of s)) card_6.0 in
-    let card_4 = and_true _ (links_of_one_party (rows_of s)) card_5.0 in
-    let card_3 = and_true _ (links_are_neighbours (rows_of s)) card_4.0 in
-    let card_2 = and_true _ (card_parties_there (rows_of s)) card_3.0 in
-    let card_1 = and_true _ (card_numbers (rows_of s)) card_2.0 in
-    let inside_1 = and_true _ (insides_fit (rows_of s)) h.inside in
-    let note_3 = and_true _ (notes_fit (rows_of s)) h.note in
-    let note_2 = and_true _ (notes_counted (rows_of s)) note_3.0 in
+    let code_3 = and_true _ (places_once rows) h.code in
+    let code_2 = and_true _ (code_rooms_there rows) code_3.0 in
+    let code_1 = and_true _ (codes_in_range rows) code_2.0 in
+    let card_8 = and_true _ (last_cards_newest rows) h.card in
+    let card_7 = and_true _ (newest_of_party rows) card_8.0 in
+    let card_6 = and_true _ (fits_without_links rows) card_7.0 in
+    let card_5 = and_true _ (neighbours_are_links rows) card_6.0 in
+    let card_4 = and_true _ (links_of_one_party rows) card_5.0 in
+    let card_3 = and_true _ (links_are_neighbours rows) card_4.0 in
+    let card_2 = and_true _ (card_parties_there rows) card_3.0 in
+    let card_1 = and_true _ (card_numbers rows) card_2.0 in
+    let inside_1 = and_true _ (insides_fit rows) h.inside in
+    let note_3 = and_true _ (notes_fit rows) h.note in
+    let note_2 = and_true _ (notes_counted rows) note_3.0 in
     let note_1 = and_true _ (list_all note_columns s.notes.items) note_2.0 in
-    let in_order : keys_in_order (rows_of s) ≡ true = (both _ _ (both _ _ (both _ _ (both _ _ (both _ _ (both _ _ kind_1.0 room_1.0) code_1.0) stay_1.0) card_1.0) inside_1.0) note_1.0) in
-    ((both _ _ (both _ _ (both _ _ (both _ _ (both _ _ (both _ _ (both _ _ (both _ _ (both _ _ (both _ _ (both _ _ (both _ _ (both _ _ (both _ _ (both _ _ (both _ _ (both _ _ (both _ _ (both _ _ (both _ _ (both _ _ (both _ _ (both _ _ (both _ _ (both _ _ (both _ _ (both _ _ (both _ _ (both _ _ in_order meta_1.0) meta_1.1) kind_1.1) room_2.1) room_3.1) room_4.1) room_5.1) room_6.1) room_7.1) room_8.1) stay_2.1) stay_3.1) stay_4.1) stay_5.1) stay_6.1) stay_7.1) code_1.1) code_2.1) code_3.1) card_1.1) card_2.1) card_3.1) card_4.1) card_5.1) card_6.1) card_7.1) inside_1.1) note_2.1) note_3.1), (both _ _ (both _ _ room_1.1 stay_1.1) note_1.1))
+    let fit_8 = and_true _ (fit_notes_few rows) h.fit in
+    let fit_7 = and_true _ (last_fits_noted rows) fit_8.0 in
+    let fit_6 = and_true _ (last_fits_held rows) fit_7.0 in
+    let fit_5 = and_true _ (fit_notes_rise rows) fit_6.0 in
+    let fit_4 = and_true _ (fit_places_rise rows) fit_5.0 in
+    let fit_3 = and_true _ (first_fits rows) fit_4.0 in
+    let fit_2 = and_true _ (fit_numbers rows) fit_3.0 in
+    let fit_1 = and_true _ (fit_rooms_there rows) fit_2.0 in
+    let of_fit = of_fits s note_2.1 note_3.1 fit_2.1 fit_3.1 (room_is rows room_2.1) in
+    let keys : keys_in_order rows ≡ true = more (more
+    (more (more (more (more (more kind_1.0 room_1.0) code_1.0) stay_1.0) card_1.0) inside_1.0) note_1.0) fit_1.0 in
+    let metas = more (more (more keys meta_1.0) meta_1.1) kind_1.1 in
+    let rooms = more (more (more (more (more (more (more metas room_2.1) room_3.1) room_4.1) room_5.1) room_6.1)
+    room_7.1) room_8.1 in
+    let stays = more (more (more (more (more (more rooms stay_2.1) stay_3.1) stay_4.1) stay_5.1) stay_6.1) stay_7.1 in
+    let codes = more (more (more stays code_1.1) code_2.1) code_3.1 in
+    let cards = more (more (more (more (more (more (more (more codes card_1.1) card_2.1) card_3.1) card_4.1) card_5.1)
+    card_6.1) card_7.1) card_8.1 in
+    let notes = more (more (more (more cards inside_1.1) note_2.1) note_3.1) of_fit in
+    let fits = more (more (more (more (more (more (more (more notes fit_1.1) fit_2.1) fit_3.1) fit_4.1) fit_5.1)
+    fit_6.1) fit_7.1) fit_8.1 in
+    (more fits (of_last_fits s), more (more room_1.1 stay_1.1) note_1.1)
 
-rules_hold : (s : Stored) → passes_rules (rows_of s) ≡ true → columns_fit s ≡ true → AllHold s
-rules_hold s t columns =
-    let p29 = and_true _ (notes_fit (rows_of s)) t in
-    let p28 = and_true _ (notes_counted (rows_of s)) p29.0 in
-    let p27 = and_true _ (insides_fit (rows_of s)) p28.0 in
-    let p26 = and_true _ (last_cards_newest (rows_of s)) p27.0 in
-    let p25 = and_true _ (newest_of_party (rows_of s)) p26.0 in
-    let p24 = and_true _ (neighbours_are_links (rows_of s)) p25.0 in
-    let p23 = and_true _ (links_of_one_party (rows_of s)) p24.0 in
-    let p22 = and_true _ (links_are_neighbours (rows_of s)) p23.0 in
-    let p21 = and_true _ (card_parties_there (rows_of s)) p22.0 in
-    let p20 = and_true _ (card_numbers (rows_of s)) p21.0 in
-    let p19 = and_true _ (places_once (rows_of s)) p20.0 in
-    let p18 = and_true _ (code_rooms_there (rows_of s)) p19.0 in
-    let p17 = and_true _ (codes_in_range (rows_of s)) p18.0 in
-    let p16 = and_true _ (nights_fit (rows_of s)) p17.0 in
-    let p15 = and_true _ (stay_rooms (rows_of s)) p16.0 in
-    let p14 = and_true _ (stay_days (rows_of s)) p15.0 in
-    let p13 = and_true _ (stay_kinds_there (rows_of s)) p14.0 in
-    let p12 = and_true _ (guests_read (rows_of s)) p13.0 in
-    let p11 = and_true _ (stay_numbers (rows_of s)) p12.0 in
-    let p10 = and_true _ (secured_hold_last (rows_of s)) p11.0 in
-    let p9 = and_true _ (parties_in_house (rows_of s)) p10.0 in
-    let p8 = and_true _ (note_counts (rows_of s)) p9.0 in
-    let p7 = and_true _ (codes_few (rows_of s)) p8.0 in
-    let p6 = and_true _ (room_kinds_there (rows_of s)) p7.0 in
-    let p5 = and_true _ (lock_places (rows_of s)) p6.0 in
-    let p4 = and_true _ (room_numbers (rows_of s)) p5.0 in
-    let p3 = and_true _ (kinds_read (rows_of s)) p4.0 in
-    let p2 = and_true _ (day_before_kinds (rows_of s)) p3.0 in
-    let p1 = and_true _ (day_in_range (rows_of s)) p2.0 in
-    let q6 = and_true _ (are_in_order pair_cmp (keys_of (rows_of s).notes)) p1.0 in
-    let q5 = and_true _ (are_in_order pair_cmp (rows_of s).inside) q6.0 in
-    let q4 = and_true _ (are_in_order nat_cmp (keys_of (rows_of s).cards)) q5.0 in
-    let q3 = and_true _ (are_in_order nat_cmp (keys_of (rows_of s).stays)) q4.0 in
-    let q2 = and_true _ (are_in_order nat_cmp (keys_of (rows_of s).codes)) q3.0 in
-    let q1 = and_true _ (are_in_order nat_cmp (keys_of (rows_of s).rooms)) q2.0 in
+-- the rule of nights, of rows that pass all rules
+nights_of : (rows : Rows) → passes_rules rows ≡ true → nights_fit rows ≡ true
+nights_of rows t =
+    let p = and_true _ (rows_of_last_fits rows) t in
+    let p = and_true _ (fit_notes_few rows) p.0 in
+    let p = and_true _ (last_fits_noted rows) p.0 in
+    let p = and_true _ (last_fits_held rows) p.0 in
+    let p = and_true _ (fit_notes_rise rows) p.0 in
+    let p = and_true _ (fit_places_rise rows) p.0 in
+    let p = and_true _ (first_fits rows) p.0 in
+    let p = and_true _ (fit_numbers rows) p.0 in
+    let p = and_true _ (fit_rooms_there rows) p.0 in
+    let p = and_true _ (notes_of_fits rows) p.0 in
+    let p = and_true _ (notes_fit rows) p.0 in
+    let p = and_true _ (notes_counted rows) p.0 in
+    let p = and_true _ (insides_fit rows) p.0 in
+    let p = and_true _ (last_cards_newest rows) p.0 in
+    let p = and_true _ (newest_of_party rows) p.0 in
+    let p = and_true _ (fits_without_links rows) p.0 in
+    let p = and_true _ (neighbours_are_links rows) p.0 in
+    let p = and_true _ (links_of_one_party rows) p.0 in
+    let p = and_true _ (links_are_neighbours rows) p.0 in
+    let p = and_true _ (card_parties_there rows) p.0 in
+    let p = and_true _ (card_numbers rows) p.0 in
+    let p = and_true _ (places_once rows) p.0 in
+    let p = and_true _ (code_rooms_there rows) p.0 in
+    let p = and_true _ (codes_in_range rows) p.0 in
+    (and_true _ (nights_fit rows) p.0).1
+
+rules_hold : (s : Stored) → IsSound (rows_of s) → columns_fit s ≡ true → AllHold s
+rules_hold s sound columns =
+    let rows = rows_of s in
+    let k7 = and_true _ (are_in_order pair_cmp (keys_of rows.fits)) sound.keys in
+    let k6 = and_true _ (are_in_order pair_cmp (keys_of rows.notes)) k7.0 in
+    let k5 = and_true _ (are_in_order pair_cmp rows.inside) k6.0 in
+    let k4 = and_true _ (are_in_order nat_cmp (keys_of rows.cards)) k5.0 in
+    let k3 = and_true _ (are_in_order nat_cmp (keys_of rows.stays)) k4.0 in
+    let k2 = and_true _ (are_in_order nat_cmp (keys_of rows.codes)) k3.0 in
+    let k1 = and_true _ (are_in_order nat_cmp (keys_of rows.rooms)) k2.0 in
     let c2 = and_true _ (list_all note_columns s.notes.items) columns in
     let c1 = and_true _ (list_all stay_columns s.stays.items) c2.0 in
+    let nights = nights_of rows (sound_pass rows sound) in
     record {
-      meta = (both _ _ p1.1 p2.1);
-      kind = (both _ _ q1.0 p3.1);
-      room = (both _ _ (both _ _ (both _ _ (both _ _ (both _ _ (both _ _ (both _ _ (both _ _ q1.1 c1.0) p4.1) p5.1) p6.1) p7.1) p8.1) p9.1) p10.1);
-      stay = (both _ _ (both _ _ (both _ _ (both _ _ (both _ _ (both _ _ (both _ _ q3.1 c1.1) p11.1) p12.1) p13.1) p14.1) p15.1) p16.1);
-      code = (both _ _ (both _ _ (both _ _ q2.1 p17.1) p18.1) p19.1);
-      card = (both _ _ (both _ _ (both _ _ (both _ _ (both _ _ (both _ _ (both _ _ q4.1 p20.1) p21.1) p22.1) p23.1) p24.1) p25.1) p26.1);
-      inside = (both _ _ q5.1 p27.1);
-      note = (both _ _ (both _ _ (both _ _ q6.1 c2.1) p28.1) p29.1);
+      meta = more sound.meta_day sound.meta_kinds;
+      kind = more k1.0 sound.kind_reads;
+      room = more (more (more (more (more (more (more (more k1.1 c1.0) sound.room_number) sound.room_lock_place)
+          sound.room_kind) sound.room_codes) sound.room_notes) sound.room_party) sound.room_secured;
+      stay = more (more (more (more (more (more (more k3.1 c1.1) sound.stay_number) sound.stay_guest) sound.stay_kind)
+          sound.stay_day) sound.stay_room) nights;
+      code = more (more (more k2.1 sound.code_range) sound.code_room) sound.code_places;
+      card = more (more (more (more (more (more (more (more k4.1 sound.card_number) sound.card_party) sound.card_link)
+          sound.card_one_party) sound.card_neighbours) sound.card_fits) sound.card_newest) sound.card_last;
+      inside = more k5.1 sound.inside_fits;
+      note = more (more (more k6.1 c2.1) sound.note_counted) sound.note_fits;
+      fit = more (more (more (more (more (more (more (more k7.1 sound.fit_room) sound.fit_number) sound.fit_first)
+          sound.fit_places) sound.fit_notes) sound.fit_held) sound.fit_noted) sound.fit_few;
     }
 
 pub undamaged_is_sound : UndamagedIsSound
 undamaged_is_sound s = (
   λ none. let p = rules_passed s (all_passed s none) in (passing_are_sound (rows_of s) p.0, p.1),
-  λ sound. none_first s (rules_hold s (sound_pass (rows_of s) sound.0) sound.1),
+  λ sound. none_first s (rules_hold s sound.0 sound.1),
 )

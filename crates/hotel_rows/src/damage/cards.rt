@@ -5,9 +5,11 @@ ghost use Rattle.hotel_rows.specs.Stored.{rows_of, card_row};
 ghost use Rattle.hotel_rows.specs.Places.{AreOf};
 ghost use Rattle.hotel_rows.specs.RowTests.{card_fits, stay_has_home, links_hold};
 ghost use Rattle.hotel_rows.specs.Damage.{card_holds};
+ghost use Rattle.hotel_rows.specs.FitRuns.{FitsOf};
 ghost use Rattle.hotel_rows.specs.Placed.{PlacesOf, placed_as_due};
 
 use crate::damage::codes::stands_at;
+use crate::damage::fit_runs::RoomFits;
 use crate::damage::found::{Places, card_keys, code_at, index_of, stay_at};
 use crate::damage::links::{all_brought, all_have_lasts, all_have_owners, brought_codes, lasts_of};
 use crate::damage::numbers::{are_numbered, number};
@@ -58,9 +60,11 @@ fn links_hold(
     places: &Places,
     stored: &Stored,
     placed: &BTreeMap<u64, Placed>,
+    fits: &RoomFits,
 ) -> Result<bool, Memory>
     requires places { AreOf places.now stored.now }
     requires placed { PlacesOf placed.now.entries stored.now.codes.items }
+    requires fits { FitsOf fits.now stored.now.fits.items }
     requires due { list_all (placed_as_due placed.now.entries) stored.now.rooms.items ≡ true }
     requires homes { list_all (stay_has_home stored.now) stored.now.stays.items ≡ true }
     ensures { IfOk result (λ hold. hold ≡ links_hold stored.now) }
@@ -72,13 +76,13 @@ fn links_hold(
     if !all_agree(&owners, stored) {
         return Ok(false);
     }
-    if !all_brought(&brought, stored) {
+    if !all_brought(&brought, fits, stored) {
         return Ok(false);
     }
-    if !all_have_owners(&owners, placed, stored) {
+    if !all_have_owners(&owners, placed, fits, stored) {
         return Ok(false);
     }
-    Ok(all_have_lasts(places, placed, stored, &lasts))
+    Ok(all_have_lasts(places, placed, fits, stored, &lasts))
 }
 
 /// Whether the rules of the table of cards hold, where those of the stays and codes do.
@@ -87,9 +91,11 @@ pub(crate) fn cards_hold(
     places: &Places,
     stored: &Stored,
     placed: &BTreeMap<u64, Placed>,
+    fits: &RoomFits,
 ) -> Result<bool, Memory>
     requires places { AreOf places.now stored.now }
     requires placed { PlacesOf placed.now.entries stored.now.codes.items }
+    requires fits { FitsOf fits.now stored.now.fits.items }
     requires due { list_all (placed_as_due placed.now.entries) stored.now.rooms.items ≡ true }
     requires homes { list_all (stay_has_home stored.now) stored.now.stays.items ≡ true }
     ensures { IfOk result (λ hold. hold ≡ card_holds stored.now) }
@@ -101,5 +107,5 @@ pub(crate) fn cards_hold(
     if !cards_fit(places, stored) {
         return Ok(false);
     }
-    links_hold(alloc, places, stored, placed)
+    links_hold(alloc, places, stored, placed, fits)
 }

@@ -3,13 +3,16 @@ ghost use Rattle.std.specs.Prelude.{◌≡◌, Bool, true, IfOk, IfSome, map, op
 ghost use Rattle.std.specs.List.{list_all};
 ghost use Rattle.std.specs.Option.{option_copied};
 ghost use Rattle.hotel_core.specs.Model.Rows.{at_number};
-ghost use Rattle.hotel_rows.specs.Stored.{number_of, rows_of, room_row, stay_row, code_row, card_row, inside_pair};
-ghost use Rattle.hotel_rows.specs.Keys.{Finds, room_key, stay_key, code_key, card_key, note_key};
+ghost use Rattle.hotel_rows.specs.Stored.{number_of, fits_of, rows_of, joined_row};
+ghost use Rattle.hotel_rows.specs.Stored.{stay_row, code_row, card_row, inside_pair};
+ghost use Rattle.hotel_rows.specs.Keys.{Finds, room_key, stay_key, code_key, card_key, note_key, fit_key};
 ghost use Rattle.hotel_rows.specs.Places.{AreOf};
 ghost use Rattle.hotel_rows.specs.declared.stored.PlainRoom.{PlainRoom};
 
 use crate::damage::numbers;
-use crate::stored::{PlainCard, PlainCode, PlainInside, PlainNote, PlainRoom, PlainStay, Stored};
+use crate::stored::{
+    PlainCard, PlainCode, PlainFit, PlainInside, PlainNote, PlainRoom, PlainStay, Stored,
+};
 use keycard_rules::Memory;
 use std::alloc::Global;
 use std::collections::BTreeMap;
@@ -100,13 +103,27 @@ pub(crate) fn inside_keys(alloc: Global, inside: &[PlainInside]) -> Result<Vec<(
     }
 }
 
-/// The rooms and counts of the notes.
+/// The rooms and numbers of the notes.
 pub(crate) fn note_keys(alloc: Global, notes: &[PlainNote]) -> Result<Vec<(u64, u64)>, Memory>
     ensures { IfOk result (λ keys. keys.items ≡ map note_key notes.now) }
 {
     match notes
         .iter()
         .map(|plain| (numbers::number(plain.room), numbers::number(plain.n)))
+        .collect(alloc)
+    {
+        Ok(keys) => Ok(keys),
+        Err(_) => Err(Memory),
+    }
+}
+
+/// The rooms and numbers of the fits.
+pub(crate) fn fit_keys(alloc: Global, fits: &[PlainFit]) -> Result<Vec<(u64, u64)>, Memory>
+    ensures { IfOk result (λ keys. keys.items ≡ map fit_key fits.now) }
+{
+    match fits
+        .iter()
+        .map(|plain| (numbers::number(plain.room), numbers::number(plain.fit)))
         .collect(alloc)
     {
         Ok(keys) => Ok(keys),
@@ -152,7 +169,8 @@ fn place_at(places: &BTreeMap<u64, usize>, key: u64) -> Option<usize>
 /// The room of a number.
 pub(crate) fn room_at<'a>(places: &Places, stored: &'a Stored, room: u64) -> Option<&'a PlainRoom>
     requires { AreOf places.now stored.now }
-    ensures row { option_map room_row (option_copied result) ≡ at_number (rows_of stored.now).rooms room }
+    ensures row { option_map (joined_row (fits_of stored.now)) (option_copied result)
+        ≡ at_number (rows_of stored.now).rooms room }
     ensures key { IfSome result (λ plain. number_of plain.now.room ≡ room) }
     ensures rules { IfSome result (λ plain. (t : PlainRoom → Bool) → list_all t stored.now.rooms.items ≡ true → t plain.now ≡ true) }
 {

@@ -1,32 +1,48 @@
 //! The rules of the table of cards that are inside.
 ghost use Rattle.std.specs.Prelude.{◌≡◌, true, IfOk};
 ghost use Rattle.std.specs.List.{list_all};
-ghost use Rattle.hotel_rows.specs.Stored.{number_of, rows_of, room_row, card_row, inside_pair};
-ghost use Rattle.hotel_core.specs.Model.SoundCards.{fits_inside};
+ghost use Rattle.hotel_rows.specs.Stored.{number_of, rows_of, room_row, code_row, card_row, inside_pair};
+ghost use Rattle.hotel_core.specs.Model.SoundNotes.{fits_inside, has_entered};
 ghost use Rattle.hotel_rows.specs.Damage.{inside_holds};
+ghost use Rattle.hotel_rows.specs.FitRuns.{FitsOf};
 ghost use Rattle.hotel_rows.specs.Placed.{PlacesOf, placed_as_due};
 ghost use Rattle.hotel_rows.specs.Places.{AreOf};
 ghost use Rattle.hotel_rows.specs.RowTests.{inside_fits};
 
 use crate::damage::codes::stands_at;
+use crate::damage::fit_runs::{RoomFits, last_place};
 use crate::damage::found::{Places, card_at, code_at, inside_keys, room_at};
 use crate::damage::numbers::{number, rise_in_pairs};
 use crate::damage::placed::{Placed, is_newest};
-use crate::stored::{PlainCard, PlainInside, PlainRoom, Stored};
+use crate::stored::{PlainCard, PlainCode, PlainInside, PlainRoom, Stored};
 use keycard_rules::Memory;
 use std::alloc::Global;
 use std::collections::BTreeMap;
 
-/// Whether the card's link stands at the room, its new code not after the lock's, and the newest in a secured room.
+/// Whether the code's place is after that of the room's last fit, and not after the lock's.
+fn has_entered(stored: &Stored, fits: &RoomFits, room: &PlainRoom, code: PlainCode) -> bool
+    requires { FitsOf fits.now stored.now.fits.items }
+    ensures { result
+        ≡ has_entered (rows_of stored.now) (number_of room.now.room) (room_row room.now) (code_row code) }
+{
+    let place = number(code.place);
+    let least = last_place(fits, number(room.room));
+    least < place && place <= number(room.lock_place)
+}
+
+/// Whether the card's link stands at the room, its new code was entered at the present lock, and is the newest in a
+/// secured room.
 fn fits_inside(
     places: &Places,
     stored: &Stored,
     placed: &BTreeMap<u64, Placed>,
+    fits: &RoomFits,
     room: &PlainRoom,
     card: PlainCard,
 ) -> bool
     requires places { AreOf places.now stored.now }
     requires placed { PlacesOf placed.now.entries stored.now.codes.items }
+    requires fits { FitsOf fits.now stored.now.fits.items }
     requires due { placed_as_due placed.now.entries room.now ≡ true }
     ensures { result ≡ fits_inside (rows_of stored.now) (number_of room.now.room) (room_row room.now) (card_row card) }
 {
@@ -38,23 +54,25 @@ fn fits_inside(
     let Some(code) = code_at(places, stored, new) else {
         return false;
     };
-    if number(code.place) > number(room.lock_place) {
+    if !has_entered(stored, fits, room, code) {
         return false;
     }
     if number(room.secured) != 1 {
         return true;
     }
-    is_newest(placed, stored, room, old, new)
+    is_newest(placed, fits, stored, room, old, new)
 }
 
 fn inside_fits(
     places: &Places,
     stored: &Stored,
     placed: &BTreeMap<u64, Placed>,
+    fits: &RoomFits,
     inside: &PlainInside,
 ) -> bool
     requires places { AreOf places.now stored.now }
     requires placed { PlacesOf placed.now.entries stored.now.codes.items }
+    requires fits { FitsOf fits.now stored.now.fits.items }
     requires due { list_all (placed_as_due placed.now.entries) stored.now.rooms.items ≡ true }
     ensures { result ≡ inside_fits (rows_of stored.now) (inside_pair inside.now) }
 {
@@ -65,17 +83,23 @@ fn inside_fits(
     let Some(card) = card_at(places, stored, number(inside.card)) else {
         return false;
     };
-    fits_inside(places, stored, placed, room, card)
+    fits_inside(places, stored, placed, fits, room, card)
 }
 
-fn insides_fit(places: &Places, stored: &Stored, placed: &BTreeMap<u64, Placed>) -> bool
+fn insides_fit(
+    places: &Places,
+    stored: &Stored,
+    placed: &BTreeMap<u64, Placed>,
+    fits: &RoomFits,
+) -> bool
     requires places { AreOf places.now stored.now }
     requires placed { PlacesOf placed.now.entries stored.now.codes.items }
+    requires fits { FitsOf fits.now stored.now.fits.items }
     requires due { list_all (placed_as_due placed.now.entries) stored.now.rooms.items ≡ true }
     ensures { result ≡ list_all (λ e. inside_fits (rows_of stored.now) (inside_pair e)) stored.now.inside.items }
 {
     for i in 0..stored.inside.len() {
-        if !inside_fits(places, stored, placed, &stored.inside[i]) {
+        if !inside_fits(places, stored, placed, fits, &stored.inside[i]) {
             return false;
         }
     }
@@ -88,9 +112,11 @@ pub(crate) fn insides_hold(
     places: &Places,
     stored: &Stored,
     placed: &BTreeMap<u64, Placed>,
+    fits: &RoomFits,
 ) -> Result<bool, Memory>
     requires places { AreOf places.now stored.now }
     requires placed { PlacesOf placed.now.entries stored.now.codes.items }
+    requires fits { FitsOf fits.now stored.now.fits.items }
     requires due { list_all (placed_as_due placed.now.entries) stored.now.rooms.items ≡ true }
     ensures { IfOk result (λ hold. hold ≡ inside_holds stored.now) }
 {
@@ -98,5 +124,5 @@ pub(crate) fn insides_hold(
     if !rise_in_pairs(&keys) {
         return Ok(false);
     }
-    Ok(insides_fit(places, stored, placed))
+    Ok(insides_fit(places, stored, placed, fits))
 }

@@ -9,9 +9,12 @@ ghost use Rattle.hotel_rows.specs.Owners.{OwnersOf, owner_in};
 ghost use Rattle.hotel_core.specs.Model.Words.{said_of};
 ghost use Rattle.hotel_rows.specs.Keys.{Finds, new_code_of};
 ghost use Rattle.hotel_rows.specs.Places.{AreOf};
+ghost use Rattle.hotel_rows.specs.FitRuns.{FitsOf};
 ghost use Rattle.hotel_rows.specs.Placed.{PlacesOf, are_due_at, placed_as_due};
-ghost use Rattle.hotel_rows.specs.RowTests.{agrees, is_brought, is_owned, has_owner, has_last, stay_has_home};
+ghost use Rattle.hotel_rows.specs.RowTests.{agrees, begins_one, is_brought, is_owned};
+ghost use Rattle.hotel_rows.specs.RowTests.{has_owner, has_last, stay_has_home};
 
+use crate::damage::fit_runs::{RoomFits, begins_fit, ends_with_fit};
 use crate::damage::found::{Places, room_at};
 use crate::damage::numbers::{number, number_if};
 use crate::damage::owners::owner_of;
@@ -49,23 +52,38 @@ fn has_brought(brought: &BTreeMap<u64, usize>, stored: &Stored, code: u64) -> bo
     brought.contains_key(&code)
 }
 
-fn is_brought(brought: &BTreeMap<u64, usize>, stored: &Stored, code: &PlainCode) -> bool
-    requires { Finds brought.now.entries (map new_code_of stored.now.cards.items) }
-    ensures { result ≡ is_brought stored.now code.now }
+fn begins_one(fits: &RoomFits, stored: &Stored, code: &PlainCode) -> bool
+    requires { FitsOf fits.now stored.now.fits.items }
+    ensures { result ≡ begins_one stored.now code.now }
 {
-    if is_first(code) {
-        return true;
-    }
-    has_brought(brought, stored, number(code.code))
+    begins_fit(fits, number(code.room), number(code.place))
 }
 
-/// Whether each code but the first of its room was brought by a card.
-pub(crate) fn all_brought(brought: &BTreeMap<u64, usize>, stored: &Stored) -> bool
-    requires { Finds brought.now.entries (map new_code_of stored.now.cards.items) }
+fn is_brought(
+    brought: &BTreeMap<u64, usize>,
+    fits: &RoomFits,
+    stored: &Stored,
+    code: &PlainCode,
+) -> bool
+    requires brought { Finds brought.now.entries (map new_code_of stored.now.cards.items) }
+    requires fits { FitsOf fits.now stored.now.fits.items }
+    ensures { result ≡ is_brought stored.now code.now }
+{
+    let has_card = has_brought(brought, stored, number(code.code));
+    if begins_one(fits, stored, code) {
+        return !has_card;
+    }
+    has_card || is_first(code)
+}
+
+/// Whether a card brought each code but the first of its room, and those that fits begin with, which none did.
+pub(crate) fn all_brought(brought: &BTreeMap<u64, usize>, fits: &RoomFits, stored: &Stored) -> bool
+    requires brought { Finds brought.now.entries (map new_code_of stored.now.cards.items) }
+    requires fits { FitsOf fits.now stored.now.fits.items }
     ensures { result ≡ list_all (is_brought stored.now) stored.now.codes.items }
 {
     for i in 0..stored.codes.len() {
-        if !is_brought(brought, stored, &stored.codes[i]) {
+        if !is_brought(brought, fits, stored, &stored.codes[i]) {
             return false;
         }
     }
@@ -92,6 +110,7 @@ fn is_link_of(
 fn all_owned(
     owners: &BTreeMap<(u64, u64), u64>,
     placed: &BTreeMap<u64, Placed>,
+    fits: &RoomFits,
     stored: &Stored,
     room: u64,
     codes: u64,
@@ -100,9 +119,13 @@ fn all_owned(
     requires owners { OwnersOf owners.now.entries stored.now.cards.items }
     requires own { list_all (agrees stored.now) stored.now.cards.items ≡ true }
     requires placed { PlacesOf placed.now.entries stored.now.codes.items }
+    requires fits { FitsOf fits.now stored.now.fits.items }
     requires due { are_due_at placed.now.entries room codes ≡ true }
     ensures { result ≡ list_all (is_owned stored.now room party) stored.now.cards.items }
 {
+    if ends_with_fit(fits, room, codes) {
+        return true;
+    }
     let Some(link) = newest_of(placed, room, codes) else {
         return true;
     };
@@ -112,12 +135,14 @@ fn all_owned(
 fn has_owner(
     owners: &BTreeMap<(u64, u64), u64>,
     placed: &BTreeMap<u64, Placed>,
+    fits: &RoomFits,
     stored: &Stored,
     room: &PlainRoom,
 ) -> bool
     requires owners { OwnersOf owners.now.entries stored.now.cards.items }
     requires own { list_all (agrees stored.now) stored.now.cards.items ≡ true }
     requires placed { PlacesOf placed.now.entries stored.now.codes.items }
+    requires fits { FitsOf fits.now stored.now.fits.items }
     requires due { placed_as_due placed.now.entries room.now ≡ true }
     ensures { result ≡ has_owner stored.now room.now }
 {
@@ -126,23 +151,25 @@ fn has_owner(
     };
     let named = number(room.room);
     let codes = number(room.codes);
-    all_owned(owners, placed, stored, named, codes, party)
+    all_owned(owners, placed, fits, stored, named, codes, party)
 }
 
 /// Whether the cards of each room's newest link are of its party, where it has one.
 pub(crate) fn all_have_owners(
     owners: &BTreeMap<(u64, u64), u64>,
     placed: &BTreeMap<u64, Placed>,
+    fits: &RoomFits,
     stored: &Stored,
 ) -> bool
     requires owners { OwnersOf owners.now.entries stored.now.cards.items }
     requires own { list_all (agrees stored.now) stored.now.cards.items ≡ true }
     requires placed { PlacesOf placed.now.entries stored.now.codes.items }
+    requires fits { FitsOf fits.now stored.now.fits.items }
     requires due { list_all (placed_as_due placed.now.entries) stored.now.rooms.items ≡ true }
     ensures { result ≡ list_all (has_owner stored.now) stored.now.rooms.items }
 {
     for i in 0..stored.rooms.len() {
-        if !has_owner(owners, placed, stored, &stored.rooms[i]) {
+        if !has_owner(owners, placed, fits, stored, &stored.rooms[i]) {
             return false;
         }
     }
@@ -190,12 +217,14 @@ fn last_of(lasts: &BTreeMap<u64, (u64, u64)>, party: u64) -> Option<(u64, u64)>
 fn is_newest_at(
     places: &Places,
     placed: &BTreeMap<u64, Placed>,
+    fits: &RoomFits,
     stored: &Stored,
     home: u64,
     link: (u64, u64),
 ) -> bool
     requires places { AreOf places.now stored.now }
     requires placed { PlacesOf placed.now.entries stored.now.codes.items }
+    requires fits { FitsOf fits.now stored.now.fits.items }
     requires due { list_all (placed_as_due placed.now.entries) stored.now.rooms.items ≡ true }
     requires there { is_some (at_number (rows_of stored.now).rooms home) ≡ true }
     ensures { result ≡ is_newest (rows_of stored.now) home (record { old_code = link.0; new_code = link.1 }) }
@@ -203,13 +232,14 @@ fn is_newest_at(
     let Some(room) = room_at(places, stored, home) else {
         return false;
     };
-    is_newest(placed, stored, room, link.0, link.1)
+    is_newest(placed, fits, stored, room, link.0, link.1)
 }
 
 /// Whether the last card of a party has the newest link of a room that is there.
 fn has_newest(
     places: &Places,
     placed: &BTreeMap<u64, Placed>,
+    fits: &RoomFits,
     stored: &Stored,
     lasts: &BTreeMap<u64, (u64, u64)>,
     party: u64,
@@ -217,6 +247,7 @@ fn has_newest(
 ) -> bool
     requires places { AreOf places.now stored.now }
     requires placed { PlacesOf placed.now.entries stored.now.codes.items }
+    requires fits { FitsOf fits.now stored.now.fits.items }
     requires due { list_all (placed_as_due placed.now.entries) stored.now.rooms.items ≡ true }
     requires lasts { LastsOf lasts.now.entries stored.now.cards.items }
     requires there { is_some (at_number (rows_of stored.now).rooms home) ≡ true }
@@ -225,18 +256,20 @@ fn has_newest(
     let Some(link) = last_of(lasts, party) else {
         return false;
     };
-    is_newest_at(places, placed, stored, home, link)
+    is_newest_at(places, placed, fits, stored, home, link)
 }
 
 fn has_last(
     places: &Places,
     placed: &BTreeMap<u64, Placed>,
+    fits: &RoomFits,
     stored: &Stored,
     lasts: &BTreeMap<u64, (u64, u64)>,
     stay: &PlainStay,
 ) -> bool
     requires places { AreOf places.now stored.now }
     requires placed { PlacesOf placed.now.entries stored.now.codes.items }
+    requires fits { FitsOf fits.now stored.now.fits.items }
     requires due { list_all (placed_as_due placed.now.entries) stored.now.rooms.items ≡ true }
     requires lasts { LastsOf lasts.now.entries stored.now.cards.items }
     requires home { stay_has_home stored.now stay.now ≡ true }
@@ -245,25 +278,35 @@ fn has_last(
     let Some(home) = home_of(stay) else {
         return true;
     };
-    has_newest(places, placed, stored, lasts, number(stay.party), home)
+    has_newest(
+        places,
+        placed,
+        fits,
+        stored,
+        lasts,
+        number(stay.party),
+        home,
+    )
 }
 
 /// Whether the last card of each party in house has the newest link of its room.
 pub(crate) fn all_have_lasts(
     places: &Places,
     placed: &BTreeMap<u64, Placed>,
+    fits: &RoomFits,
     stored: &Stored,
     lasts: &BTreeMap<u64, (u64, u64)>,
 ) -> bool
     requires places { AreOf places.now stored.now }
     requires placed { PlacesOf placed.now.entries stored.now.codes.items }
+    requires fits { FitsOf fits.now stored.now.fits.items }
     requires due { list_all (placed_as_due placed.now.entries) stored.now.rooms.items ≡ true }
     requires lasts { LastsOf lasts.now.entries stored.now.cards.items }
     requires homes { list_all (stay_has_home stored.now) stored.now.stays.items ≡ true }
     ensures { result ≡ list_all (has_last stored.now) stored.now.stays.items }
 {
     for i in 0..stored.stays.len() {
-        if !has_last(places, placed, stored, lasts, &stored.stays[i]) {
+        if !has_last(places, placed, fits, stored, lasts, &stored.stays[i]) {
             return false;
         }
     }

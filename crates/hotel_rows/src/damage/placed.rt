@@ -12,8 +12,10 @@ ghost use Rattle.hotel_core.specs.Model.SoundCards.{is_newest};
 ghost use Rattle.hotel_core.specs.Model.SoundRooms.{count_up};
 ghost use Rattle.hotel_rows.specs.Stored.{number_of, rows_of};
 ghost use Rattle.hotel_rows.specs.Lasts.{link_of_pair, link_of_both};
+ghost use Rattle.hotel_rows.specs.FitRuns.{FitsOf};
 ghost use Rattle.hotel_rows.specs.Placed.{places_in, listed_in, PlacesOf, placed_as_due, are_due_at, is_last_link};
 
+use crate::damage::fit_runs::{RoomFits, ends_with_fit};
 use crate::damage::numbers::number;
 use crate::stored::{PlainCode, PlainRoom, Stored};
 use keycard_rules::Memory;
@@ -148,7 +150,7 @@ fn is_at_place(placed: &BTreeMap<u64, Placed>, room: u64, place: u64, code: u64)
     there == code
 }
 
-/// Whether a link is the newest of a room with so many codes.
+/// Whether a link is that of the last two codes of a room with so many.
 fn is_newest_in(placed: &BTreeMap<u64, Placed>, room: u64, codes: u64, old: u64, new: u64) -> bool
     requires { are_due_at placed.now.entries room codes ≡ true }
     ensures { result ≡ is_last_link placed.now.entries room (record { old_code = old; new_code = new }) }
@@ -165,17 +167,22 @@ fn is_newest_in(placed: &BTreeMap<u64, Placed>, room: u64, codes: u64, old: u64,
 /// Whether a link is the newest of a room, whose codes are at the places that its row says.
 pub(crate) fn is_newest(
     placed: &BTreeMap<u64, Placed>,
+    fits: &RoomFits,
     stored: &Stored,
     room: &PlainRoom,
     old: u64,
     new: u64,
 ) -> bool
     requires placed { PlacesOf placed.now.entries stored.now.codes.items }
+    requires fits { FitsOf fits.now stored.now.fits.items }
     requires due { placed_as_due placed.now.entries room.now ≡ true }
     ensures { result ≡ is_newest (rows_of stored.now) (number_of room.now.room) (record { old_code = old; new_code = new }) }
 {
     let named = number(room.room);
     let codes = number(room.codes);
+    if ends_with_fit(fits, named, codes) {
+        return false;
+    }
     is_newest_in(placed, named, codes, old, new)
 }
 
@@ -188,7 +195,7 @@ fn code_of(placed: &BTreeMap<u64, Placed>, room: u64, place: u64) -> Option<u64>
     found.by_place.get(&place).copied()
 }
 
-/// The newest link of a room with so many codes.
+/// The link of the last two codes of a room with so many.
 pub(crate) fn newest_of(placed: &BTreeMap<u64, Placed>, room: u64, codes: u64) -> Option<(u64, u64)>
     requires { are_due_at placed.now.entries room codes ≡ true }
     ensures { option_map link_of_pair result ≡ last_link_of (values_of (places_in placed.now.entries room)) }

@@ -1,13 +1,16 @@
 //! The rules of the table of rooms.
-ghost use Rattle.std.specs.Prelude.{◌≡◌, nat_le, ◌+◌, true, IfOk};
+ghost use Rattle.std.specs.Prelude.{◌≡◌, true, IfOk};
 ghost use Rattle.std.specs.List.{list_all};
 ghost use Rattle.hotel_core.specs.Model.Stays.{room_of_state};
-ghost use Rattle.hotel_rows.specs.Stored.{number_of, rows_of, room_row, stay_row};
+ghost use Rattle.hotel_rows.specs.Stored.{rows_of, room_row, stay_row};
 ghost use Rattle.hotel_core.specs.Model.SoundRooms.{kinds_read};
 ghost use Rattle.hotel_rows.specs.Damage.{room_columns, room_holds};
 ghost use Rattle.hotel_rows.specs.Places.{AreOf};
-ghost use Rattle.hotel_rows.specs.RowTests.{is_room_number, is_secured_as_due, is_at_home, room_fits, KnowsKinds};
+ghost use Rattle.hotel_rows.specs.FitRuns.{FitsOf};
+ghost use Rattle.hotel_rows.specs.RowTests.{is_room_number, is_secured_as_due, has_few_codes, is_at_home};
+ghost use Rattle.hotel_rows.specs.RowTests.{room_fits, KnowsKinds};
 
+use crate::damage::fit_runs::{RoomFits, ends_with_fit, fits_of_room};
 use crate::damage::found::{Places, room_keys, stay_at};
 use crate::damage::kinds::has_kind;
 use crate::damage::numbers::{number, number_if, rise};
@@ -16,6 +19,9 @@ use hotel_nights::KindCode;
 use keycard_rules::Memory;
 use std::alloc::Global;
 use std::collections::BTreeMap;
+
+/// The most notes of a room: 99 times 9,999,999.
+const MOST_NOTES: u64 = 989_999_901;
 
 fn has_columns(room: &PlainRoom) -> bool
     ensures { result ≡ room_columns room.now }
@@ -30,22 +36,29 @@ fn has_number(room: &PlainRoom) -> bool
     named >= 1 && named <= 9999
 }
 
-fn has_few_codes(room: &PlainRoom, cards: usize) -> bool
-    ensures { result ≡ nat_le (number_of room.now.codes) (cards + 1) }
+/// Whether the room has at most as many codes as there are cards, and those that its fits begin with.
+fn has_few_codes(stored: &Stored, fits: &RoomFits, room: &PlainRoom) -> bool
+    requires { FitsOf fits.now stored.now.fits.items }
+    ensures { result ≡ has_few_codes stored.now room.now }
 {
     let codes = number(room.codes);
-    codes == 0 || codes - 1 <= cards as u64
+    let cards = stored.cards.len() as u64;
+    codes <= cards || codes - cards <= fits_of_room(fits, number(room.room))
 }
 
-/// Whether the lock holds the last code, not the first, if the room is secured.
-fn is_secured_as_due(room: &PlainRoom) -> bool
-    ensures { result ≡ is_secured_as_due room.now }
+/// Whether the lock holds the last code, not the first one nor that of a fit, if the room is secured.
+fn is_secured_as_due(stored: &Stored, fits: &RoomFits, room: &PlainRoom) -> bool
+    requires { FitsOf fits.now stored.now.fits.items }
+    ensures { result ≡ is_secured_as_due stored.now room.now }
 {
     if number(room.secured) != 1 {
         return true;
     }
     let codes = number(room.codes);
-    codes >= 2 && number(room.lock_place) == codes - 1
+    if codes < 2 || number(room.lock_place) != codes - 1 {
+        return false;
+    }
+    !ends_with_fit(fits, number(room.room), codes)
 }
 
 /// The room of a stay that is in house.
@@ -83,9 +96,11 @@ fn room_fits(
     places: &Places,
     stored: &Stored,
     known: &BTreeMap<KindCode, u32>,
+    fits: &RoomFits,
     room: &PlainRoom,
 ) -> bool
     requires places { AreOf places.now stored.now }
+    requires fits { FitsOf fits.now stored.now.fits.items }
     requires read { kinds_read (rows_of stored.now) ≡ true }
     requires known { KnowsKinds known.now.entries (rows_of stored.now).kinds }
     ensures { result ≡ room_fits stored.now room.now }
@@ -99,20 +114,29 @@ fn room_fits(
     if !has_kind(known, room.kind.as_str()) {
         return false;
     }
-    if !has_few_codes(room, stored.cards.len()) || number(room.notes) > 9_999_999 {
+    if !has_few_codes(stored, fits, room) {
         return false;
     }
-    has_guest(places, stored, room) && is_secured_as_due(room)
+    if number(room.notes) > MOST_NOTES {
+        return false;
+    }
+    has_guest(places, stored, room) && is_secured_as_due(stored, fits, room)
 }
 
-fn rooms_fit(places: &Places, stored: &Stored, known: &BTreeMap<KindCode, u32>) -> bool
+fn rooms_fit(
+    places: &Places,
+    stored: &Stored,
+    known: &BTreeMap<KindCode, u32>,
+    fits: &RoomFits,
+) -> bool
     requires places { AreOf places.now stored.now }
+    requires fits { FitsOf fits.now stored.now.fits.items }
     requires read { kinds_read (rows_of stored.now) ≡ true }
     requires known { KnowsKinds known.now.entries (rows_of stored.now).kinds }
     ensures { result ≡ list_all (room_fits stored.now) stored.now.rooms.items }
 {
     for i in 0..stored.rooms.len() {
-        if !room_fits(places, stored, known, &stored.rooms[i]) {
+        if !room_fits(places, stored, known, fits, &stored.rooms[i]) {
             return false;
         }
     }
@@ -125,8 +149,10 @@ pub(crate) fn rooms_hold(
     places: &Places,
     stored: &Stored,
     known: &BTreeMap<KindCode, u32>,
+    fits: &RoomFits,
 ) -> Result<bool, Memory>
     requires places { AreOf places.now stored.now }
+    requires fits { FitsOf fits.now stored.now.fits.items }
     requires read { kinds_read (rows_of stored.now) ≡ true }
     requires known { KnowsKinds known.now.entries (rows_of stored.now).kinds }
     ensures { IfOk result (λ hold. hold ≡ room_holds stored.now) }
@@ -135,5 +161,5 @@ pub(crate) fn rooms_hold(
     if !rise(&keys) {
         return Ok(false);
     }
-    Ok(rooms_fit(places, stored, known))
+    Ok(rooms_fit(places, stored, known, fits))
 }

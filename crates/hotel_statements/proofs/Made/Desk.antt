@@ -1,5 +1,6 @@
--- A desk of whose tables one is written: of the eight lists one moves.
-use Rattle.std.proofs.Common.{◌≡◌, ◌≢◌, true, inl, inr, refl, sym, ap, subst, ◌∙◌, List, [], ◌∷◌, ℕ, Option, IsTrue, arith, eqb}
+-- A desk of whose tables one is written: of the nine lists one moves, and those of rooms and notes with the fits.
+use Rattle.std.proofs.Common.{◌≡◌, ◌≢◌, true, inl, inr, refl, sym, ap, subst, ◌∙◌, List, [], ◌∷◌, map, ℕ, Option}
+use Rattle.std.proofs.Common.{IsTrue, arith, eqb}
 use Rattle.std.specs.Cmp.Lexicographic.{slice_cmp}
 use Rattle.std.specs.Ordering.{nat_cmp}
 use Rattle.std.specs.List.{AllByRecursion}
@@ -16,11 +17,18 @@ use Rattle.keycard_rules.specs.Note.{Note}
 use Rattle.hotel_nights.specs.declared.stay.Stay.{Stay}
 use Rattle.hotel_core.specs.declared.books.rows.RoomRow.{RoomRow}
 use Rattle.hotel_core.specs.declared.books.rows.CodeRow.{CodeRow}
+use Rattle.hotel_core.specs.declared.books.rows.FitRow.{FitRow}
 use Rattle.hotel_core.specs.Model.Words.{pair_cmp}
 use Rattle.hotel_core.specs.Model.Rows.{Rows}
+use Rattle.hotel_rows.specs.Joined.{with_fit, under_fit}
 use Rattle.hotel_statements.specs.Schema.{desk_schema}
-use Rattle.hotel_statements.specs.Columns.{meta_columns, meta_of, meta_written, kind_columns, kind_of, kind_written, room_columns, room_of, room_written, stay_columns, stay_of, stay_written, code_columns, code_of, code_written, card_columns, card_of, card_written, inside_columns, inside_of, inside_written, note_columns, note_of, note_written}
-use Rattle.hotel_statements.specs.Tables.{IsTable, AreTables, AreApartIds, HasId, rows_in, listed, by_key}
+use Rattle.hotel_statements.specs.Columns.{meta_columns, meta_of, meta_written, kind_columns, kind_of, kind_written}
+use Rattle.hotel_statements.specs.Columns.{room_columns, room_of, room_written, stay_columns, stay_of, stay_written}
+use Rattle.hotel_statements.specs.Columns.{code_columns, code_of, code_written, card_columns, card_of, card_written}
+use Rattle.hotel_statements.specs.Columns.{inside_columns, inside_of, inside_written, note_columns, note_of}
+use Rattle.hotel_statements.specs.Columns.{note_written, fit_columns, fit_of, fit_written}
+use Rattle.hotel_statements.specs.Tables.{IsTable, AreTables, AreApartIds, HasId, rows_in, fits_in, bare_rooms_in}
+use Rattle.hotel_statements.specs.Tables.{bare_notes_in, listed, by_key}
 use Rattle.hotel_statements.specs.Steps.{MovesRows}
 
 abbrev pub AreMetas : List Row → Type 0
@@ -47,6 +55,9 @@ AreInside rows = IsTable pair_cmp inside_columns inside_of inside_written rows
 abbrev pub AreNotes : List Row → Type 0
 AreNotes rows = IsTable (by_key pair_cmp) note_columns note_of note_written rows
 
+abbrev pub AreFits : List Row → Type 0
+AreFits rows = IsTable (by_key pair_cmp) fit_columns fit_of fit_written rows
+
 -- each table has the same rows in both
 abbrev pub Same : Trees → Trees → Type 0
 Same a b = AllByRecursion (λ (t : Table). b t.tree ≡ a t.tree) desk_schema.tables
@@ -60,7 +71,8 @@ same_desk a b same was =
     let code : b 6 ≡ a 6 = same.1.1.1.1.0 in
     let card : b 8 ≡ a 8 = same.1.1.1.1.1.0 in
     let inside : b 9 ≡ a 9 = same.1.1.1.1.1.1.0 in
-    let note : b 11 ≡ a 11 = same.1.1.1.1.1.1.1.0 in (
+    let note : b 11 ≡ a 11 = same.1.1.1.1.1.1.1.0 in
+    let fit : b 13 ≡ a 13 = same.1.1.1.1.1.1.1.1.0 in (
       record {
         meta = subst AreMetas (sym meta) was.meta;
         meta_row = (was.meta_row.0, ap (listed (by_key nat_cmp) (λ r. meta_of (meta_columns r))) meta ∙ was.meta_row.1);
@@ -73,8 +85,9 @@ same_desk a b same was =
         inside_numbered = subst (AllByRecursion HasId) (sym inside) was.inside_numbered;
         inside_ids = subst AreApartIds (sym inside) was.inside_ids;
         note = subst AreNotes (sym note) was.note;
+        fit = subst AreFits (sym fit) was.fit;
       },
-      rw (meta, kind, room, stay, code, card, inside, note) refl,
+      rw (meta, kind, room, stay, code, card, inside, note, fit) refl,
     )
 
 -- ---- one table written
@@ -114,57 +127,206 @@ steps {tree} {rows} old new make shown did now =
 -- ---- which list moves
 
 pub rooms_set : {db : Trees} {rows : List Row} {list : List (ℕ × RoomRow)} → AreTables db → AreRooms rows × (listed (by_key nat_cmp) (λ r. room_of (room_columns r)) rows ≡ list)
-    → AreTables (with_tree db 3 rows) × (rows_in (with_tree db 3 rows) ≡ record (rows_in db) { rooms = list })
+    → AreTables (with_tree db 3 rows) × (rows_in (with_tree db 3 rows)
+    ≡ record (rows_in db) { rooms = map (with_fit (fits_in db)) list })
 rooms_set {db} was made = (
-  record { meta = was.meta; meta_row = was.meta_row; kind = was.kind; room = made.0; stay = was.stay; code = was.code; card = was.card; inside = was.inside; inside_numbered = was.inside_numbered; inside_ids = was.inside_ids; note = was.note },
-  ap (λ rooms. record (rows_in db) { rooms = rooms }) made.1,
+  record {
+    meta = was.meta;
+    meta_row = was.meta_row;
+    kind = was.kind;
+    room = made.0;
+    stay = was.stay;
+    code = was.code;
+    card = was.card;
+    inside = was.inside;
+    inside_numbered = was.inside_numbered;
+    inside_ids = was.inside_ids;
+    note =
+        was.note;
+    fit = was.fit;
+  },
+  ap (λ rooms. record (rows_in db) { rooms = map (with_fit (fits_in db)) rooms }) made.1,
 )
 
 pub stays_set : {db : Trees} {rows : List Row} {list : List (ℕ × Stay)} → AreTables db → AreStays rows × (listed (by_key nat_cmp) (λ r. stay_of (stay_columns r)) rows ≡ list)
     → AreTables (with_tree db 5 rows) × (rows_in (with_tree db 5 rows) ≡ record (rows_in db) { stays = list })
 stays_set {db} was made = (
-  record { meta = was.meta; meta_row = was.meta_row; kind = was.kind; room = was.room; stay = made.0; code = was.code; card = was.card; inside = was.inside; inside_numbered = was.inside_numbered; inside_ids = was.inside_ids; note = was.note },
+  record {
+    meta = was.meta;
+    meta_row = was.meta_row;
+    kind = was.kind;
+    room = was.room;
+    stay = made.0;
+    code = was.code;
+    card = was.card;
+    inside = was.inside;
+    inside_numbered = was.inside_numbered;
+    inside_ids = was.inside_ids;
+    note =
+        was.note;
+    fit = was.fit;
+  },
   ap (λ stays. record (rows_in db) { stays = stays }) made.1,
 )
 
 pub codes_set : {db : Trees} {rows : List Row} {list : List (ℕ × CodeRow)} → AreTables db → AreCodes rows × (listed (by_key nat_cmp) (λ r. code_of (code_columns r)) rows ≡ list)
     → AreTables (with_tree db 6 rows) × (rows_in (with_tree db 6 rows) ≡ record (rows_in db) { codes = list })
 codes_set {db} was made = (
-  record { meta = was.meta; meta_row = was.meta_row; kind = was.kind; room = was.room; stay = was.stay; code = made.0; card = was.card; inside = was.inside; inside_numbered = was.inside_numbered; inside_ids = was.inside_ids; note = was.note },
+  record {
+    meta = was.meta;
+    meta_row = was.meta_row;
+    kind = was.kind;
+    room = was.room;
+    stay = was.stay;
+    code = made.0;
+    card = was.card;
+    inside = was.inside;
+    inside_numbered = was.inside_numbered;
+    inside_ids = was.inside_ids;
+    note =
+        was.note;
+    fit = was.fit;
+  },
   ap (λ codes. record (rows_in db) { codes = codes }) made.1,
 )
 
 pub cards_set : {db : Trees} {rows : List Row} {list : List (ℕ × Card)} → AreTables db → AreCards rows × (listed (by_key nat_cmp) (λ r. card_of (card_columns r)) rows ≡ list)
     → AreTables (with_tree db 8 rows) × (rows_in (with_tree db 8 rows) ≡ record (rows_in db) { cards = list })
 cards_set {db} was made = (
-  record { meta = was.meta; meta_row = was.meta_row; kind = was.kind; room = was.room; stay = was.stay; code = was.code; card = made.0; inside = was.inside; inside_numbered = was.inside_numbered; inside_ids = was.inside_ids; note = was.note },
+  record {
+    meta = was.meta;
+    meta_row = was.meta_row;
+    kind = was.kind;
+    room = was.room;
+    stay = was.stay;
+    code =
+        was.code;
+    card = made.0;
+    inside = was.inside;
+    inside_numbered = was.inside_numbered;
+    inside_ids = was.inside_ids;
+    note = was.note;
+    fit = was.fit;
+  },
   ap (λ cards. record (rows_in db) { cards = cards }) made.1,
 )
 
 pub kinds_set : {db : Trees} {rows : List Row} {list : List (List ℕ)} → AreTables db → AreKinds rows × (listed (slice_cmp nat_cmp) (λ r. kind_of (kind_columns r)) rows ≡ list)
     → AreTables (with_tree db 1 rows) × (rows_in (with_tree db 1 rows) ≡ record (rows_in db) { kinds = list })
 kinds_set {db} was made = (
-  record { meta = was.meta; meta_row = was.meta_row; kind = made.0; room = was.room; stay = was.stay; code = was.code; card = was.card; inside = was.inside; inside_numbered = was.inside_numbered; inside_ids = was.inside_ids; note = was.note },
+  record {
+    meta = was.meta;
+    meta_row = was.meta_row;
+    kind = made.0;
+    room = was.room;
+    stay = was.stay;
+    code = was.code;
+    card = was.card;
+    inside = was.inside;
+    inside_numbered = was.inside_numbered;
+    inside_ids = was.inside_ids;
+    note =
+        was.note;
+    fit = was.fit;
+  },
   ap (λ kinds. record (rows_in db) { kinds = kinds }) made.1,
 )
 
 pub notes_set : {db : Trees} {rows : List Row} {list : List ((ℕ × ℕ) × Note)} → AreTables db → AreNotes rows × (listed (by_key pair_cmp) (λ r. note_of (note_columns r)) rows ≡ list)
-    → AreTables (with_tree db 11 rows) × (rows_in (with_tree db 11 rows) ≡ record (rows_in db) { notes = list })
+    → AreTables (with_tree db 11 rows) × (rows_in (with_tree db 11 rows)
+    ≡ record (rows_in db) { notes = map (under_fit (fits_in db)) list })
 notes_set {db} was made = (
-  record { meta = was.meta; meta_row = was.meta_row; kind = was.kind; room = was.room; stay = was.stay; code = was.code; card = was.card; inside = was.inside; inside_numbered = was.inside_numbered; inside_ids = was.inside_ids; note = made.0 },
-  ap (λ notes. record (rows_in db) { notes = notes }) made.1,
+  record {
+    meta = was.meta;
+    meta_row = was.meta_row;
+    kind = was.kind;
+    room = was.room;
+    stay = was.stay;
+    code =
+        was.code;
+    card = was.card;
+    inside = was.inside;
+    inside_numbered = was.inside_numbered;
+    inside_ids =
+        was.inside_ids;
+    note = made.0;
+    fit = was.fit;
+  },
+  ap (λ notes. record (rows_in db) { notes = map (under_fit (fits_in db)) notes }) made.1,
+)
+
+pub fits_set : {db : Trees} {rows : List Row} {list : List ((ℕ × ℕ) × FitRow)} → AreTables db → AreFits rows
+    × (listed (by_key pair_cmp) (λ r. fit_of (fit_columns r)) rows ≡ list)
+    → AreTables (with_tree db 13 rows)
+    × (rows_in (with_tree db 13 rows) ≡ record (rows_in db) {
+      rooms = map (with_fit list) (bare_rooms_in db);
+      notes = map (under_fit list) (bare_notes_in db);
+      fits = list;
+    })
+fits_set {db} was made = (
+  record {
+    meta = was.meta;
+    meta_row = was.meta_row;
+    kind = was.kind;
+    room = was.room;
+    stay = was.stay;
+    code =
+        was.code;
+    card = was.card;
+    inside = was.inside;
+    inside_numbered = was.inside_numbered;
+    inside_ids =
+        was.inside_ids;
+    note = was.note;
+    fit = made.0;
+  },
+  ap (λ fits. record (rows_in db) {
+    rooms = map (with_fit fits) (bare_rooms_in db);
+    notes = map (under_fit fits)
+        (bare_notes_in db);
+    fits = fits;
+  }) made.1,
 )
 
 pub insides_set : {db : Trees} {rows : List Row} {list : List (ℕ × ℕ)} → AreTables db → AreInside rows × (listed pair_cmp (λ r. inside_of (inside_columns r)) rows ≡ list) → AllByRecursion HasId rows → AreApartIds rows
     → AreTables (with_tree db 9 rows) × (rows_in (with_tree db 9 rows) ≡ record (rows_in db) { inside = list })
 insides_set {db} was made numbered apart = (
-  record { meta = was.meta; meta_row = was.meta_row; kind = was.kind; room = was.room; stay = was.stay; code = was.code; card = was.card; inside = made.0; inside_numbered = numbered; inside_ids = apart; note = was.note },
+  record {
+    meta = was.meta;
+    meta_row = was.meta_row;
+    kind = was.kind;
+    room = was.room;
+    stay = was.stay;
+    code =
+        was.code;
+    card = was.card;
+    inside = made.0;
+    inside_numbered = numbered;
+    inside_ids = apart;
+    note = was.note;
+    fit = was.fit;
+  },
   ap (λ inside. record (rows_in db) { inside = inside }) made.1,
 )
 
-pub day_set : {db : Trees} {rows : List Row} {day : Option ℕ} → AreTables db → AreMetas rows × (listed (by_key nat_cmp) (λ r. meta_of (meta_columns r)) rows ≡ (1, (1, day)) ∷ [])
+pub day_set : {db : Trees} {rows : List Row} {day : Option ℕ} → AreTables db → AreMetas rows
+    × (listed (by_key nat_cmp) (λ r. meta_of (meta_columns r)) rows ≡ (1, (2, day)) ∷ [])
     → AreTables (with_tree db 0 rows) × (rows_in (with_tree db 0 rows) ≡ record (rows_in db) { day = day })
 day_set {day = day} was made = (
-  record { meta = made.0; meta_row = (day, made.1); kind = was.kind; room = was.room; stay = was.stay; code = was.code; card = was.card; inside = was.inside; inside_numbered = was.inside_numbered; inside_ids = was.inside_ids; note = was.note },
+  record {
+    meta = made.0;
+    meta_row = (day, made.1);
+    kind = was.kind;
+    room = was.room;
+    stay = was.stay;
+    code = was.code;
+    card = was.card;
+    inside = was.inside;
+    inside_numbered = was.inside_numbered;
+    inside_ids = was.inside_ids;
+    note =
+        was.note;
+    fit = was.fit;
+  },
   rw made.1 refl,
 )

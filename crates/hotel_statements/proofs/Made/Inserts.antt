@@ -1,11 +1,17 @@
 -- What each INSERT makes of the rows of a desk.
-use Rattle.std.proofs.Common.{◌≡◌, refl, ap, subst, ◌∙◌, List, [], ◌∷◌, ◌++◌, ◌/◌, length, ℕ, pos, None, Ok, inl, inr, true, false, is_eq, nat_cmp}
+use Rattle.std.proofs.Common.{◌≡◌, ◌+◌, ◌-◌, ◌&&◌, ◌||◌, not, refl, ap, ap₂, sym, subst, ◌∙◌, List, [], ◌∷◌, ◌++◌, ◌/◌}
+use Rattle.std.proofs.Common.{length, map, ℕ, pos, Bool, Option, None, Some, Ok, inl, inr, true, false, arith, eqb}
+use Rattle.std.proofs.Common.{is_eq, nat_cmp}
 use Rattle.std.specs.Cmp.{IsTotalOrder}
 use Rattle.std.specs.Cmp.Lexicographic.{slice_cmp}
-use Rattle.std.specs.List.{AllByRecursion}
+use Rattle.std.specs.List.{AllByRecursion, list_all}
 use Rattle.std.specs.Map.{lookup}
-use Rattle.std.specs.BTreeMap.{is_at}
+use Rattle.std.specs.BTreeMap.{is_at, insert_entry}
 use Rattle.std.specs.Str.{bytes_eq}
+use Rattle.std.specs.Prelude.{option_map, nat_lt}
+use Rattle.std.proofs.lemmas.Bool.Decides.{nat_tests}
+use Rattle.hotel_core.proofs.OfTables.Tests.{and_true, eq_from}
+use Rattle.hotel_core.proofs.OfTables.Pairs.{pair_is}
 use Rattle.std.proofs.lemmas.Bool.{cases_Bool}
 use Rattle.std.proofs.lemmas.Cmp.{on_total, then_total, nat_cmp_total, nat_list_cmp_total}
 use Rattle.std.proofs.lemmas.Map.Text.{is_eq-slice_cmp}
@@ -31,22 +37,40 @@ use Rattle.keycard_rules.specs.Note.{Note}
 use Rattle.hotel_nights.specs.declared.stay.Stay.{Stay}
 use Rattle.hotel_core.specs.declared.books.rows.RoomRow.{RoomRow}
 use Rattle.hotel_core.specs.declared.books.rows.CodeRow.{CodeRow}
-use Rattle.hotel_core.specs.Model.Words.{pair_cmp}
-use Rattle.hotel_core.specs.Model.Rows.{has_kind}
+use Rattle.hotel_core.specs.declared.books.rows.FitRow.{FitRow}
+use Rattle.hotel_core.specs.Model.Words.{pair_cmp, said_of}
+use Rattle.hotel_core.specs.Model.Rows.{has_kind, fits_at, last_fit}
 use Rattle.hotel_core.specs.Model.Stays.{room_of_state}
-use Rattle.hotel_statements.specs.Schema.{desk_schema, kind_table, note_table, room_table, stay_table, code_table, card_table}
+use Rattle.hotel_statements.specs.Schema.{desk_schema, kind_table, note_table, room_table, stay_table, code_table}
+use Rattle.hotel_statements.specs.Schema.{card_table, fit_table}
 use Rattle.hotel_statements.specs.Values.{int, maybe_int}
-use Rattle.hotel_statements.specs.Columns.{bit_of, state_number, act_number, act_card, act_first, act_second, kind_columns, kind_of, kind_written, note_columns, note_of, note_written, room_columns, room_of, room_written, stay_columns, stay_of, stay_written, code_columns, code_of, code_written, card_columns, card_of, card_written}
-use Rattle.hotel_statements.specs.Tables.{IsWrittenAs, by_key, rows_in}
-use Rattle.hotel_statements.specs.Steps.{IsMidWith, IsNewNote, MovesRows, any_rows, kind_added, note_added, room_added, code_added, stay_added, card_added}
-use Rattle.hotel_statements.specs.Texts.{insert_kind, insert_note, insert_room, insert_stay, insert_code, insert_card}
+use Rattle.hotel_statements.specs.Columns.{bit_of, state_number, act_number, act_card, act_first, act_second}
+use Rattle.hotel_statements.specs.Columns.{kind_columns, kind_of, kind_written, note_columns, note_of, note_written}
+use Rattle.hotel_statements.specs.Columns.{room_columns, room_of, room_written, stay_columns, stay_of, stay_written}
+use Rattle.hotel_statements.specs.Columns.{code_columns, code_of, code_written, card_columns, card_of, card_written}
+use Rattle.hotel_statements.specs.Columns.{fit_columns, fit_of, fit_written}
+use Rattle.hotel_rows.specs.Joined.{with_last, with_fit, with_count, under_fit, fit_of_number}
+use Rattle.hotel_statements.specs.Tables.{IsWrittenAs, by_key, rows_in, fits_in, bare_rooms_in}
+use Rattle.hotel_statements.specs.Tables.{bare_notes_in}
+use Rattle.hotel_statements.specs.Steps.{IsMidWith, IsNewNote, IsNextFit, IsWithoutFit, MovesRows, any_rows, bare_room}
+use Rattle.hotel_statements.specs.Steps.{counts_to, is_below, kind_added, note_added, fit_added, room_added, code_added}
+use Rattle.hotel_statements.specs.Steps.{stay_added, card_added}
+use Rattle.hotel_statements.specs.Texts.{insert_kind, insert_note, insert_fit, insert_room, insert_stay, insert_code}
+use Rattle.hotel_statements.specs.Texts.{insert_card}
 use Rattle.hotel_statements.proofs.Statements.Changes as changes
 use Rattle.hotel_statements.proofs.Statements.Terms.{Does}
 use Rattle.hotel_statements.proofs.Writing.{went, same_value, fresh_one, cast_null, cast_int, cast_maybe, cast_text}
 use Rattle.hotel_statements.proofs.Perm.{same_tie}
-use Rattle.hotel_statements.proofs.Made.Desk.{Changed, changed, steps, rooms_set, stays_set, codes_set, cards_set, kinds_set, notes_set}
+use Rattle.hotel_rows.proofs.OfJoined.{joined_at, room_put, note_joined, note_put}
+use Rattle.hotel_statements.proofs.Joins.{rooms_fitted, notes_kept, noted_bare}
+use Rattle.hotel_statements.proofs.Risen.{rooms_rise, fits_rise, keys_rise}
+use Rattle.hotel_statements.proofs.Made.Desk.{Changed, changed, steps, rooms_set, stays_set, codes_set, cards_set}
+use Rattle.hotel_statements.proofs.Made.Desk.{kinds_set, notes_set, fits_set}
 use Rattle.hotel_statements.proofs.Made.Entries.{insert_makes, put_keyed, entry_put, key_put, key_total}
-use Rattle.hotel_statements.proofs.Made.Reads.{room_stored, room_good, room_reads, room_numbered, stay_stored, stay_good, stay_reads, stay_numbered, code_stored, code_numbered, card_stored, card_numbered, kind_stored, note_stored, note_good, note_reads}
+use Rattle.hotel_statements.proofs.Made.Reads.{room_stored, room_good, room_reads, room_numbered, stay_stored}
+use Rattle.hotel_statements.proofs.Made.Reads.{stay_good, stay_reads, stay_numbered, code_stored, code_numbered}
+use Rattle.hotel_statements.proofs.Made.Reads.{card_stored, card_numbered, kind_stored, note_stored, note_good}
+use Rattle.hotel_statements.proofs.Made.Reads.{note_reads, bare_note, fit_stored}
 use Rattle.hotel_statements.proofs.Made.Writes.{at_place, IsOn, wrote}
 
 -- a row was put whose number no row had
@@ -95,13 +119,26 @@ code_step old new code at count h mid =
 
 pub room_step : (old new : State) (row : RoomRow) (count : ℕ)
     → ExecutesInside 0 insert_room (int row.room ∷ Text row.kind ∷ int row.lock_place ∷ int row.codes ∷ int (bit_of row.secured) ∷ maybe_int row.party ∷ int row.notes ∷ []) old new (Ok count)
-    → IsMidWith any_rows old → MovesRows old new (room_added row)
+    → IsMidWith (IsWithoutFit row.room) old → MovesRows old new (room_added row)
 room_step old new r count h mid =
-    let was = (mid h.1.was_open).0 in
+    let both = mid h.1.was_open in
+    let was = both.0 in
+    let db = old.now.trees in
     let row = room_stored r in
     let did : Put 3 row old new = put 3 room_table _ row row old new count changes.insert_room (λ _ does. does) refl
     (rw (cast_null, cast_int (pos r.room), cast_int (pos r.lock_place), cast_int (pos r.codes), cast_int (pos (bit_of r.secured)), cast_maybe r.party, cast_int (pos r.notes)) refl) was.schema h.0 in
-    steps old new (room_added r) h.1 did.changes (rooms_set was.tables (insert_makes room_columns room_of room_written room_numbered row r.room r _ was.tables.room (room_good r) (room_reads r) refl did.fresh))
+    let set = rooms_set was.tables (insert_makes room_columns room_of room_written room_numbered row r.room
+    (bare_room r) _ was.tables.room (room_good r) (room_reads r) refl did.fresh) in
+    let joined : map (with_fit (fits_in db)) (insert_entry nat_cmp (bare_rooms_in db) r.room (bare_room r))
+    ≡ insert_entry nat_cmp (map (with_fit (fits_in db)) (bare_rooms_in db)) r.room (bare_room r) =
+    room_put (fits_in db) (bare_rooms_in db) r.room (bare_room r)
+    ∙ ap (λ fs. insert_entry nat_cmp (map (with_fit (fits_in db)) (bare_rooms_in db)) r.room
+    (with_last (last_fit fs) (bare_room r))) both.1 in
+    steps old new (room_added r) h.1 did.changes (
+      set.0,
+      set.1
+          ∙ ap (λ rooms. record (rows_in db) { rooms = rooms }) joined,
+    )
 
 pub stay_step : (old new : State) (stay : Stay) (count : ℕ)
     → ExecutesInside 0 insert_stay (int stay.party ∷ Text stay.guest ∷ Text stay.kind ∷ int stay.arrive ∷ int stay.depart ∷ int (state_number stay.state) ∷ maybe_int (room_of_state stay.state) ∷ []) old new (Ok count)
@@ -150,24 +187,38 @@ not_at k (e ∷ es) none = elim (cases_Bool (is_eq (pair_cmp k e.0))) [
   | inr other ↦ (other, not_at k es (rw other at none))
 ]
 
--- no note has the count yet, and the note is of its room's first lock
-pub note_step : (old new : State) (note : Note) (count : ℕ)
-    → ExecutesInside 0 insert_note (int note.room ∷ int note.count ∷ int (act_number note.act) ∷ maybe_int (act_card note.act) ∷ int (act_first note.act) ∷ int (act_second note.act)
+-- the note of a number, by the fits that it is counted under
+reads_as : (n : Note) (number : ℕ) (of : Option FitRow) → said_of of false (counts_to n number) ≡ true
+    → with_count of number (bare_note number n) ≡ n
+reads_as n number None counted = absurd cc
+reads_as n number (Some f) counted =
+    let both = and_true (eqb f.fit n.fit) (eqb number (f.before + n.count)) counted in
+    let fit : f.fit ≡ n.fit = eq_from f.fit n.fit both.0 in
+    let counts_up = eq_from number (f.before + n.count) both.1 in
+    let count : number - f.before ≡ n.count = omega (arith, counts_up) in
+    ap₂ (λ fit count. record n { fit = fit; count = count }) fit count
+
+-- the room has no note of the number yet
+pub note_step : (old new : State) (note : Note) (number : ℕ) (count : ℕ)
+    → ExecutesInside 0 insert_note (int note.room ∷ int number ∷ int (act_number note.act)
+    ∷ maybe_int (act_card note.act) ∷ int (act_first note.act) ∷ int (act_second note.act)
     ∷ int note.day ∷ int note.second ∷ []) old new (Ok count)
-    → IsMidWith (IsNewNote note) old → MovesRows old new (note_added note)
-note_step old new n count h mid =
+    → IsMidWith (IsNewNote note number) old → MovesRows old new (note_added note number)
+note_step old new n number count h mid =
     let both = mid h.1.was_open in
     let was = both.0 in
-    let notes = (rows_in old.now.trees).notes in
+    let db = old.now.trees in
+    let k : ℕ × ℕ = (n.room, number) in
     let id = next_rowid (old.now.trees 11) in
-    let row = note_stored id n in
+    let row = note_stored id number n in
     let did : Put 11 row old new = put 11 note_table _
-    (Null ∷ int n.room ∷ int n.count ∷ int (act_number n.act) ∷ maybe_int (act_card n.act) ∷ int (act_first n.act) ∷ int (act_second n.act) ∷ int n.day ∷ int n.second ∷ []) row
+    (Null ∷ int n.room ∷ int number ∷ int (act_number n.act) ∷ maybe_int (act_card n.act) ∷ int (act_first n.act)
+    ∷ int (act_second n.act) ∷ int n.day ∷ int n.second ∷ []) row
     old new count changes.insert_note (λ _ does. does) refl
     (rw (
       cast_null,
       cast_int (pos n.room),
-      cast_int (pos n.count),
+      cast_int (pos number),
       cast_int (pos (act_number n.act)),
       cast_maybe (act_card n.act),
       cast_int (pos (act_first n.act)),
@@ -175,7 +226,64 @@ note_step old new n count h mid =
       cast_int (pos n.day),
       cast_int (pos n.second),
     ) refl) was.schema h.0 in
-    let apart = not_at (n.room, n.count) notes both.1.0 in
-    let made = put_keyed (by_key pair_cmp) (key_total pair_cmp pair_total) (IsWrittenAs note_columns note_of note_written) (λ r. note_of (note_columns r)) row ((n.room, n.count), n) _ was.tables.note
-    (note_good id n) (note_reads id n both.1.1) did.fresh apart in
-    steps old new (note_added n) h.1 did.changes (notes_set was.tables (made.0, made.1 ∙ entry_put pair_cmp (n.room, n.count) n notes apart))
+    let bare = bare_notes_in db in
+    let apart = not_at k bare (lost (joined_at (fits_in db) n.room number) (lookup (is_at (pair_cmp k)) bare)
+    (sym (note_joined (fits_in db) bare k) ∙ both.1.new)) in
+    let made = put_keyed (by_key pair_cmp) (key_total pair_cmp pair_total)
+    (IsWrittenAs note_columns note_of note_written) (λ r. note_of (note_columns r)) row (k, bare_note number n) _
+    was.tables.note
+    (note_good id number n) (note_reads id number n) did.fresh apart in
+    let set = notes_set was.tables (made.0, made.1 ∙ entry_put pair_cmp k (bare_note number n) bare apart) in
+    let joined : map (under_fit (fits_in db)) (insert_entry pair_cmp bare k (bare_note number n))
+    ≡ insert_entry pair_cmp (map (under_fit (fits_in db)) bare) k n =
+    note_put (fits_in db) bare k (bare_note number n)
+    ∙ ap (insert_entry pair_cmp (map (under_fit (fits_in db)) bare) k)
+    (reads_as n number (fit_of_number (fits_at (fits_in db) n.room) number) both.1.counted) in
+    steps old new (note_added n number) h.1 did.changes
+    (set.0, set.1 ∙ ap (λ notes. record (rows_in db) { notes = notes }) joined)
+  where
+    lost : {A B : Type 0} (f : A → B) (o : Option A) → option_map f o ≡ None → o ≡ None
+    lost f None none = refl
+    lost f (Some a) none = absurd cc
+
+-- a row of a table whose key it doesn't have
+none_at : {V : Type 0} (room number : ℕ) (es : List ((ℕ × ℕ) × V)) → list_all (is_below room number) es ≡ true
+    → AllByRecursion (λ e. is_eq (pair_cmp (room, number) e.0) ≡ false) es
+none_at room number [] later = tt
+none_at room number (e ∷ es) later =
+    let both = and_true (is_below room number e) (list_all (is_below room number) es) later in
+    (pair_is room number e.0 ∙ by (eqb e.0.0 room) both.0, none_at room number es both.1)
+  where
+    by : (b : Bool) → (not b || nat_lt e.0.1 number) ≡ true → (b && eqb e.0.1 number) ≡ false
+    by true low = grind (arith, nat_tests, low)
+    by false low = refl
+
+-- the next fit of a room
+pub fit_step : (old new : State) (fit : FitRow) (count : ℕ)
+    → ExecutesInside 0 insert_fit (int fit.room ∷ int fit.fit ∷ int fit.place ∷ int fit.before ∷ []) old new (Ok count)
+    → IsMidWith (IsNextFit fit) old → MovesRows old new (fit_added fit)
+fit_step old new f count h mid =
+    let both = mid h.1.was_open in
+    let was = both.0 in
+    let db = old.now.trees in
+    let fits = fits_in db in
+    let k : ℕ × ℕ = (f.room, f.fit) in
+    let id = next_rowid (old.now.trees 13) in
+    let row = fit_stored id f in
+    let did : Put 13 row old new = put 13 fit_table _ (Null ∷ int f.room ∷ int f.fit ∷ int f.place ∷ int f.before ∷ [])
+    row old new count changes.insert_fit (λ _ does. does) refl
+    (rw (cast_null, cast_int (pos f.room), cast_int (pos f.fit), cast_int (pos f.place), cast_int (pos f.before)) refl)
+    was.schema h.0 in
+    let apart = none_at f.room f.fit fits both.1.later in
+    let made = put_keyed (by_key pair_cmp) (key_total pair_cmp pair_total) (IsWrittenAs fit_columns fit_of fit_written)
+    (λ r. fit_of (fit_columns r)) row (k, f) _ was.tables.fit refl refl did.fresh apart in
+    let set = fits_set was.tables (made.0, made.1 ∙ entry_put pair_cmp k f fits apart) in
+    let up = keys_rise pair_cmp fits (fits_rise db was.tables) in
+    let rooms = rooms_fitted fits f up both.1.later (bare_rooms_in db) (rooms_rise db was.tables) in
+    let notes = notes_kept fits f up both.1.later (bare_notes_in db)
+    (noted_bare fits f (bare_notes_in db) both.1.noted) in
+    steps old new (fit_added f) h.1 did.changes (
+      set.0,
+      set.1 ∙ ap₂ (λ rooms notes. record (rows_in db)
+          { rooms = rooms; notes = notes; fits = insert_entry pair_cmp fits k f }) rooms notes,
+    )

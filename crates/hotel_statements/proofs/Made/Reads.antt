@@ -12,10 +12,12 @@ use Rattle.hotel_nights.specs.declared.stay.StayState.{StayState}
 use Rattle.hotel_nights.specs.declared.stay.StayState.TheVariants.{Booked, InHouse, Done, Cancelled}
 use Rattle.hotel_core.specs.declared.books.rows.RoomRow.{RoomRow}
 use Rattle.hotel_core.specs.declared.books.rows.CodeRow.{CodeRow}
+use Rattle.hotel_core.specs.declared.books.rows.FitRow.{FitRow}
 use Rattle.hotel_core.specs.Model.Stays.{room_of_state}
 use Rattle.hotel_statements.specs.Values.{option_of, int, maybe_int}
 use Rattle.hotel_statements.specs.Columns.{meta_columns, meta_of, meta_written, bit_of, room_columns, room_of, room_written, state_of, state_number, stay_columns, stay_of, stay_written, code_columns, code_of, code_written, card_columns, card_of, card_written, act_of, act_number, act_card, act_first, act_second, note_columns, note_of, note_written}
 use Rattle.hotel_statements.specs.Tables.{IsWrittenAs}
+use Rattle.hotel_statements.specs.Steps.{bare_room}
 
 maybe_reads : (o : Option ℕ) → option_of (maybe_int o) ≡ o
 maybe_reads None = refl
@@ -65,8 +67,9 @@ card_stored c = int c.number ∷ Null ∷ int c.party ∷ int c.link.old_code �
 pub meta_reads : (e : ℕ × (ℕ × Option ℕ)) → meta_of (meta_columns (meta_stored e)) ≡ e
 meta_reads e = ap (λ day. (e.0, (e.1.0, day))) (maybe_reads e.1.1)
 
-pub room_reads : (r : RoomRow) → room_of (room_columns (room_stored r)) ≡ (r.room, r)
-room_reads r = ap₂ (λ (s : Bool) (p : Option ℕ). (r.room, record r { secured = s; party = p })) (bit_reads r.secured) (maybe_reads r.party)
+pub room_reads : (r : RoomRow) → room_of (room_columns (room_stored r)) ≡ (r.room, bare_room r)
+room_reads r = ap₂ (λ (s : Bool) (p : Option ℕ). (r.room, record (bare_room r) { secured = s; party = p }))
+    (bit_reads r.secured) (maybe_reads r.party)
 
 pub stay_reads : (s : Stay) → stay_of (stay_columns (stay_stored s)) ≡ (s.party, s)
 stay_reads s = ap (λ (state : StayState). (s.party, record s { state = state })) (state_reads s.state)
@@ -75,7 +78,7 @@ pub meta_good : (e : ℕ × (ℕ × Option ℕ)) → IsWrittenAs meta_columns me
 meta_good e = good_from meta_columns meta_of meta_written (meta_stored e) e refl (meta_reads e)
 
 pub room_good : (r : RoomRow) → IsWrittenAs room_columns room_of room_written (room_stored r)
-room_good r = good_from room_columns room_of room_written (room_stored r) (r.room, r) refl (room_reads r)
+room_good r = good_from room_columns room_of room_written (room_stored r) (r.room, bare_room r) refl (room_reads r)
 
 pub stay_good : (s : Stay) → IsWrittenAs stay_columns stay_of stay_written (stay_stored s)
 stay_good s = good_from stay_columns stay_of stay_written (stay_stored s) (s.party, s) refl (stay_reads s)
@@ -105,14 +108,24 @@ kind_stored id kind = Int id ∷ Text kind ∷ []
 abbrev pub inside_stored : ℤ → ℕ × ℕ → Row
 inside_stored id e = Int id ∷ int e.0 ∷ int e.1 ∷ []
 
-abbrev pub note_stored : ℤ → Note → Row
-note_stored id n = Int id ∷ int n.room ∷ int n.count ∷ int (act_number n.act) ∷ maybe_int (act_card n.act) ∷ int (act_first n.act) ∷ int (act_second n.act) ∷ int n.day ∷ int n.second ∷ []
+abbrev pub note_stored : ℤ → ℕ → Note → Row
+note_stored id number n =
+    Int id ∷ int n.room ∷ int number ∷ int (act_number n.act) ∷ maybe_int (act_card n.act) ∷ int (act_first n.act)
+    ∷ int (act_second n.act) ∷ int n.day ∷ int n.second ∷ []
 
-first_reads : (id : ℤ) (n : Note) → note_of (note_columns (note_stored id n)) ≡ ((n.room, n.count), record n { fit = 1 })
-first_reads id n = ap (λ (act : Act). ((n.room, n.count), record n { fit = 1; act = act })) (act_reads n.act)
+abbrev pub fit_stored : ℤ → FitRow → Row
+fit_stored id f = Int id ∷ int f.room ∷ int f.fit ∷ int f.place ∷ int f.before ∷ []
 
-pub note_reads : (id : ℤ) (n : Note) → n.fit ≡ 1 → note_of (note_columns (note_stored id n)) ≡ ((n.room, n.count), n)
-note_reads id n first = first_reads id n ∙ ap (λ fit. ((n.room, n.count), record n { fit = fit })) (sym first)
+-- a note under its number, as its table has it
+abbrev pub bare_note : ℕ → Note → Note
+bare_note number n = record n { fit = 0; count = number }
 
-pub note_good : (id : ℤ) (n : Note) → IsWrittenAs note_columns note_of note_written (note_stored id n)
-note_good id n = good_from note_columns note_of note_written (note_stored id n) ((n.room, n.count), record n { fit = 1 }) refl (first_reads id n)
+pub note_reads : (id : ℤ) (number : ℕ) (n : Note) → note_of (note_columns (note_stored id number n))
+    ≡ ((n.room, number), bare_note number n)
+note_reads id number n = ap (λ (act : Act). ((n.room, number), record (bare_note number n) { act = act }))
+    (act_reads n.act)
+
+pub note_good : (id : ℤ) (number : ℕ) (n : Note) → IsWrittenAs note_columns note_of note_written
+    (note_stored id number n)
+note_good id number n = good_from note_columns note_of note_written (note_stored id number n)
+    ((n.room, number), bare_note number n) refl (note_reads id number n)

@@ -1,5 +1,6 @@
 -- What each UPDATE makes of the rows of a desk.
-use Rattle.std.proofs.Common.{if◌then◌else◌, ◌==◌, ◌≡◌, inl, inr, refl, ap, ap₂, subst, ◌∙◌, List, [], ◌∷◌, ℕ, pos, None, Some, Ok, false, Bool, drop, arith, eqb, nat_cmp}
+use Rattle.std.proofs.Common.{if◌then◌else◌, ◌==◌, ◌≡◌, inl, inr, refl, ap, ap₂, subst, ◌∙◌, List, [], ◌∷◌, ℕ, pos}
+use Rattle.std.proofs.Common.{Option, None, Some, Ok, false, Bool, drop, arith, eqb, nat_cmp}
 use Rattle.std.proofs.lemmas.Bool.Decides.{nat_tests}
 use Rattle.sqlite_value.specs.declared.value.Value.TheVariants.{Null, Text}
 use Rattle.sqlite.specs.Order.{Row, column}
@@ -22,14 +23,19 @@ use Rattle.sqlite.proofs.Callers.{one_step, statement_of}
 use Rattle.hotel_nights.specs.declared.stay.Stay.{Stay}
 use Rattle.hotel_nights.specs.declared.stay.StayState.{StayState}
 use Rattle.hotel_core.specs.declared.books.rows.RoomRow.{RoomRow}
+use Rattle.hotel_core.specs.declared.books.rows.FitRow.{FitRow}
 use Rattle.hotel_core.specs.Model.Stays.{room_of_state, in_state, now_is}
 use Rattle.hotel_core.specs.Books.Change.{room_changed}
 use Rattle.hotel_statements.specs.Schema.{desk_schema, meta_table, room_table, stay_table}
-use Rattle.hotel_statements.specs.Texts.{update_day, update_issued, update_party, update_noted, update_state}
+use Rattle.hotel_statements.specs.Texts.{update_day, update_issued, update_party, update_noted, update_refitted}
+use Rattle.hotel_statements.specs.Texts.{update_state}
 use Rattle.hotel_statements.specs.Values.{int, maybe_int}
 use Rattle.hotel_statements.specs.Columns.{bit_of, state_number, meta_columns, meta_of, meta_written, room_columns, room_of, room_written, stay_columns, stay_of, stay_written}
-use Rattle.hotel_statements.specs.Tables.{IsTable, IsWrittenAs, listed, by_key, rows_in}
-use Rattle.hotel_statements.specs.Steps.{IsMidWith, MovesRows, any_rows, day_set, room_issued, room_freed, room_noted, stay_set}
+use Rattle.hotel_statements.specs.Tables.{IsTable, IsWrittenAs, listed, by_key, rows_in, fits_in, bare_rooms_in}
+use Rattle.hotel_statements.specs.Steps.{IsMidWith, MovesRows, any_rows, day_set, room_issued, room_freed, room_noted}
+use Rattle.hotel_statements.specs.Steps.{room_refitted, stay_set}
+use Rattle.hotel_rows.specs.Joined.{with_last}
+use Rattle.hotel_statements.proofs.Joins.{room_moved}
 use Rattle.hotel_statements.proofs.Answers.{single, env}
 use Rattle.hotel_statements.proofs.Statements.Terms.{Does, by_rowid}
 use Rattle.hotel_statements.proofs.Statements.Changes as changes
@@ -119,13 +125,19 @@ rooms_same : (k : ℕ) (f : RoomRow → RoomRow) (es : List (ℕ × RoomRow)) �
 rooms_same k f [] = refl
 rooms_same k f (e ∷ es) = ap (λ rest. if e.0 == k then (e.0, f e.1) ∷ es else e ∷ rest) (rooms_same k f es)
 
+-- a fit without number
+abbrev no_fit : FitRow
+no_fit = record { room = 0; fit = 0; place = 0; before = 0 }
+
 rooms_step : {text : List ℕ} {terms : List Term} (room : ℕ) (more : Row) (f : RoomRow → RoomRow) (source : RoomRow → Row) (old new : State) (count : ℕ) → ((x : RoomRow) → (f x).room ≡ x.room)
+    → ((last : Option FitRow) (x : RoomRow) → with_last last (f x) ≡ f (with_last last x))
     → Does text (update 2 3 terms) → IsOn 3 room_table (statement_of text (understood desk_schema text)) (update 2 3 terms) old (int room ∷ more)
     → ((r : Row) → IsWrittenAs room_columns room_of room_written r → eval_all terms (env (int room ∷ more) r) ≡ source (room_of (room_columns r)).1) → ((x : RoomRow) → rowid (source x) ≡ int x.room)
     → ((x : RoomRow) → cast_row (at_place 3 room_table) (drop 1 (source x)) ≡ room_stored (f x)) → ExecutesInside 0 text (int room ∷ more) old new (Ok count) → IsMidWith any_rows old
     → MovesRows old new (λ rows. record rows { rooms = room_changed room f rows.rooms })
-rooms_step room more f source old new count same does on given number cast h mid =
+rooms_step room more f source old new count same apart does on given number cast h mid =
     let was = (mid h.1.was_open).0 in
+    let db = old.now.trees in
     let x = λ (r : Row). (room_of (room_columns r)).1 in
     let did = sets room_columns room_of room_written room_numbered 3 room_table room more f (λ r. source (x r)) (λ r. room_stored (f (x r))) old new count refl does on
     (record {
@@ -133,23 +145,30 @@ rooms_step room more f source old new count same does on given number cast h mid
       number = λ r. number (x r);
       cast = λ r. cast (x r);
       good = λ r. room_good (f (x r));
-      reads = λ r. room_reads (f (x r)) ∙ ap (λ n. (n, f (x r))) (same (x r));
+      reads = λ r. room_reads (f (x r)) ∙ ap₂ (λ n row. (n, row)) (same (x r)) (apart (Some no_fit) (x r));
       id = λ r. ap int (same (x r));
     }) was.schema was.tables.room h.0 in
-    steps old new _ h.1 did.changes (rooms_set was.tables (did.made.0, did.made.1 ∙ rooms_same room f (rows_in old.now.trees).rooms))
+    let set = rooms_set was.tables (did.made.0, did.made.1 ∙ rooms_same room f (bare_rooms_in db)) in
+    steps old new _ h.1 did.changes (
+      set.0,
+      set.1 ∙ ap (λ rooms. record (rows_in db) { rooms = rooms })
+          (room_moved (fits_in db) room f apart (bare_rooms_in db)),
+    )
 
 pub issued_step : (old new : State) (room codes party : ℕ) (count : ℕ) → ExecutesInside 0 update_issued (int room ∷ int codes ∷ int party ∷ []) old new (Ok count)
     → IsMidWith any_rows old → MovesRows old new (room_issued room codes party)
 issued_step old new room codes party count =
     rooms_step room _ (λ x. record x { codes = codes; secured = false; party = Some party })
-    (λ x. int x.room ∷ int x.room ∷ Null ∷ Text x.kind ∷ int x.lock_place ∷ int codes ∷ int 0 ∷ int party ∷ int x.notes ∷ []) old new count (λ x. refl) changes.update_issued (λ _ does. does)
+    (λ x. int x.room ∷ int x.room ∷ Null ∷ Text x.kind ∷ int x.lock_place ∷ int codes ∷ int 0 ∷ int party ∷ int x.notes
+    ∷ []) old new count (λ x. refl) (λ last x. refl) changes.update_issued (λ _ does. does)
     (λ r good. ap (λ (v : Row). column v 0 ∷ column v 0 ∷ Null ∷ column v 1 ∷ column v 2 ∷ int codes ∷ int 0 ∷ int party ∷ column v 6 ∷ []) good) (λ x. refl)
     (λ x. rw (cast_null, cast_int (pos x.room), cast_int (pos x.lock_place), cast_int (pos codes), cast_int (pos 0), cast_int (pos party), cast_int (pos x.notes)) refl)
 
 pub freed_step : (old new : State) (room : ℕ) (count : ℕ) → ExecutesInside 0 update_party (int room ∷ []) old new (Ok count) → IsMidWith any_rows old → MovesRows old new (room_freed room)
 freed_step old new room count =
     rooms_step room _ (λ x. record x { party = None })
-    (λ x. int x.room ∷ int x.room ∷ Null ∷ Text x.kind ∷ int x.lock_place ∷ int x.codes ∷ int (bit_of x.secured) ∷ Null ∷ int x.notes ∷ []) old new count (λ x. refl) changes.update_party (λ _ does. does)
+    (λ x. int x.room ∷ int x.room ∷ Null ∷ Text x.kind ∷ int x.lock_place ∷ int x.codes ∷ int (bit_of x.secured) ∷ Null
+    ∷ int x.notes ∷ []) old new count (λ x. refl) (λ last x. refl) changes.update_party (λ _ does. does)
     (λ r good. ap (λ (v : Row). column v 0 ∷ column v 0 ∷ Null ∷ column v 1 ∷ column v 2 ∷ column v 3 ∷ column v 4 ∷ Null ∷ column v 6 ∷ []) good) (λ x. refl)
     (λ x. rw (cast_null, cast_int (pos x.room), cast_int (pos x.lock_place), cast_int (pos x.codes), cast_int (pos (bit_of x.secured)), cast_int (pos x.notes)) refl)
 
@@ -157,9 +176,30 @@ pub noted_step : (old new : State) (room lock_place : ℕ) (secured : Bool) (not
     → IsMidWith any_rows old → MovesRows old new (room_noted room lock_place secured notes)
 noted_step old new room lock_place secured notes count =
     rooms_step room _ (λ x. record x { lock_place = lock_place; secured = secured; notes = notes })
-    (λ x. int x.room ∷ int x.room ∷ Null ∷ Text x.kind ∷ int lock_place ∷ int x.codes ∷ int (bit_of secured) ∷ maybe_int x.party ∷ int notes ∷ []) old new count (λ x. refl) changes.update_noted (λ _ does. does)
+    (λ x. int x.room ∷ int x.room ∷ Null ∷ Text x.kind ∷ int lock_place ∷ int x.codes ∷ int (bit_of secured)
+    ∷ maybe_int x.party ∷ int notes ∷ []) old new count (λ x. refl) (λ last x. refl) changes.update_noted
+    (λ _ does. does)
     (λ r good. ap (λ (v : Row). column v 0 ∷ column v 0 ∷ Null ∷ column v 1 ∷ int lock_place ∷ column v 3 ∷ int (bit_of secured) ∷ column v 5 ∷ int notes ∷ []) good) (λ x. refl)
     (λ x. rw (cast_null, cast_int (pos x.room), cast_int (pos lock_place), cast_int (pos x.codes), cast_int (pos (bit_of secured)), cast_maybe x.party, cast_int (pos notes)) refl)
+
+pub refitted_step : (old new : State) (room lock_place codes : ℕ) (count : ℕ)
+    → ExecutesInside 0 update_refitted (int room ∷ int lock_place ∷ int codes ∷ []) old new (Ok count)
+    → IsMidWith any_rows old → MovesRows old new (room_refitted room lock_place codes)
+refitted_step old new room lock_place codes count =
+    rooms_step room _ (λ x. record x { lock_place = lock_place; codes = codes; secured = false })
+    (λ x. int x.room ∷ int x.room ∷ Null ∷ Text x.kind ∷ int lock_place ∷ int codes ∷ int 0 ∷ maybe_int x.party
+    ∷ int x.notes ∷ []) old new count (λ x. refl) (λ last x. refl) changes.update_refitted (λ _ does. does)
+    (λ r good. ap (λ (v : Row). column v 0 ∷ column v 0 ∷ Null ∷ column v 1 ∷ int lock_place ∷ int codes ∷ int 0
+    ∷ column v 5 ∷ column v 6 ∷ []) good) (λ x. refl)
+    (λ x. rw (
+      cast_null,
+      cast_int (pos x.room),
+      cast_int (pos lock_place),
+      cast_int (pos codes),
+      cast_int (pos 0),
+      cast_maybe x.party,
+      cast_int (pos x.notes),
+    ) refl)
 
 -- ---- how a stay stands
 

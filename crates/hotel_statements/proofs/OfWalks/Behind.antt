@@ -28,22 +28,25 @@ use Rattle.sqlite_sql.specs.Term.{op2}
 use Rattle.sqlite.specs.Tree.{Trees, IsAscending}
 use Rattle.hotel_core.specs.declared.books.rows.CodeRow.{CodeRow}
 use Rattle.hotel_core.specs.declared.books.rows.RoomRow.{RoomRow}
+use Rattle.hotel_core.specs.declared.books.rows.FitRow.{FitRow}
 use Rattle.hotel_core.specs.declared.books.list_rows.BehindRow.{BehindRow}
 use Rattle.hotel_core.specs.Model.Words.{said_of}
-use Rattle.hotel_core.specs.Model.Rows.{Rows, at_number}
+use Rattle.hotel_core.specs.Model.Rows.{Rows, at_number, fits_at}
+use Rattle.hotel_core.specs.Model.SoundRooms.{count_up}
 use Rattle.hotel_core.specs.Model.Sound.{IsSound}
 use Rattle.hotel_core.specs.Refinement.ListsOnRows.{awaited_on, behind_row_on, left_behind_on}
 use Rattle.hotel_core.specs.Books.Lookups.{code_at}
 use Rattle.hotel_core.proofs.OfTables.Tests as tests
 use Rattle.hotel_core.proofs.OfTables.RowTests.{found_passes}
-use Rattle.hotel_core.proofs.Starts.StartRules.{le_from, lt_from}
+use Rattle.hotel_core.proofs.OfTables.Tests.{le_from, lt_from}
 use Rattle.hotel_core.proofs.Starts.StartCodes.{room_is}
 use Rattle.hotel_statements.specs.Schema.{compare}
 use Rattle.hotel_statements.specs.Values.{int}
 use Rattle.hotel_statements.specs.Columns.{room_columns, room_of, room_written, code_columns, code_of, code_written}
-use Rattle.hotel_statements.specs.Tables.{AreTables, IsWrittenAs, by_key, rows_in}
+use Rattle.hotel_statements.specs.Tables.{AreTables, IsWrittenAs, by_key, rows_in, bare_rooms_in}
 use Rattle.hotel_statements.specs.LookUps.{AnswersAll}
 use Rattle.hotel_statements.specs.Walks.{behind_row_of}
+use Rattle.hotel_statements.proofs.Joins.{fitted, joined_there, values_kept}
 use Rattle.hotel_statements.proofs.Answers.{fused}
 use Rattle.hotel_statements.proofs.Keys.{equals, and_true}
 use Rattle.hotel_statements.proofs.Perm.{sort_rises, every_shuffled}
@@ -121,6 +124,16 @@ grouped true true false d f = refl
 grouped true false c d f = refl
 grouped false b c d f = refl
 
+-- a room has few fits
+fits_low : (rows : Rows) → IsSound rows → (k : ℕ) (row : RoomRow) → at_number rows.rooms k ≡ Some row
+    → length (fits_at rows.fits row.room) ≤ 99
+fits_low rows sound k row there =
+    let all = (tests.and_true _ _ sound.fit_number).1 in
+    let one = found_passes (λ (e : Room). (count_up 1 (map (λ (f : FitRow). f.fit) (fits_at rows.fits e.1.room))
+    && nat_le 1 (length (fits_at rows.fits e.1.room))) && nat_le (length (fits_at rows.fits e.1.room)) 99)
+    rows.rooms k row all there in
+    le_from (length (fits_at rows.fits row.room)) 99 (tests.and_true _ _ one).1
+
 never : (a b : Bool) → (a && (b && false)) ≡ false
 never true true = refl
 never true false = refl
@@ -130,7 +143,11 @@ module _ (db : Trees) (t : AreTables db) (sound : IsSound (rows_in db)) where
   abbrev rows : Rows
   rows = rows_in db
 
-  rooms_rise : IsAscending (λ a b. by_key nat_cmp a b ≡ Less) rows.rooms
+  -- the rooms, as their table has them
+  abbrev rooms : List Room
+  rooms = bare_rooms_in db
+
+  rooms_rise : IsAscending (λ a b. by_key nat_cmp a b ≡ Less) rooms
   rooms_rise = sort_rises (by_key nat_cmp) (key_total nat_cmp_total) _ t.room.apart
 
   codes_rise : IsAscending (λ a b. by_key nat_cmp a b ≡ Less) rows.codes
@@ -138,16 +155,28 @@ module _ (db : Trees) (t : AreTables db) (sound : IsSound (rows_in db)) where
 
   -- each room is found by its number, and its lock stands at one of its codes, which are few
   abbrev Known : Room → Type 0
-  Known e = at_number rows.rooms e.0 ≡ Some e.1
+  Known e = at_number rooms e.0 ≡ Some e.1
+
+  -- with its last fit, it is among the rows
+  abbrev row_at : Room → RoomRow
+  row_at e = fitted rows.fits e.0 e.1
+
+  there : (e : Room) → Known e → at_number rows.rooms e.0 ≡ Some (row_at e)
+  there e known = joined_there rows.fits rooms e known
 
   lock_low : (e : Room) → Known e → e.1.lock_place < e.1.codes
-  lock_low e known = lt_from _ _ (found_passes (λ (e : Room). nat_lt e.1.lock_place e.1.codes) rows.rooms e.0 e.1 sound.room_lock_place known)
+  lock_low e known = lt_from _ _ (found_passes (λ (e : Room). nat_lt e.1.lock_place e.1.codes) rows.rooms e.0
+      (row_at e) sound.room_lock_place (there e known))
 
-  codes_low : (e : Room) → Known e → e.1.codes ≤ 10000000
+  codes_low : (e : Room) → Known e → e.1.codes ≤ 10000098
   codes_low e known =
-      let few = le_from e.1.codes (length rows.cards + 1) (found_passes (λ (e : Room). nat_le e.1.codes (length rows.cards + 1)) rows.rooms e.0 e.1 sound.room_codes known) in
-      let cards = le_from (length rows.cards) 9999999 (tests.and_true _ _ sound.card_number).1 in
-      omega (arith, few, cards)
+      let few = le_from e.1.codes (length rows.cards + length (fits_at rows.fits e.1.room))
+      (found_passes (λ (e : Room). nat_le e.1.codes (length rows.cards + length (fits_at rows.fits e.1.room)))
+      rows.rooms e.0 (row_at e) sound.room_codes (there e known)) in
+      let cards : length rows.cards ≤ 9999999 = le_from (length rows.cards) 9999999
+      (tests.and_true _ (nat_le (length rows.cards) 9999999) sound.card_number).1 in
+      let fits = fits_low rows sound e.0 (row_at e) (there e known) in
+      omega (arith, few, cards, fits)
 
   abbrev GoodRoom : Row → Type 0
   GoodRoom r = IsWrittenAs room_columns room_of room_written r × Known (room_of (room_columns r))
@@ -156,7 +185,8 @@ module _ (db : Trees) (t : AreTables db) (sound : IsSound (rows_in db)) where
   good_rooms =
       all_both _ _ GoodRoom (λ r good known. (good, known)) (db 3) t.room.good
       (all_unmap Known (λ r. room_of (room_columns r)) (db 3)
-      (every_shuffled Known rows.rooms (map (λ r. room_of (room_columns r)) (db 3)) (IsPermutation-sort_by (by_key nat_cmp) (key_total nat_cmp_total) _) (finds_itself rows.rooms rooms_rise)))
+      (every_shuffled Known rooms (map (λ r. room_of (room_columns r)) (db 3))
+      (IsPermutation-sort_by (by_key nat_cmp) (key_total nat_cmp_total) _) (finds_itself rooms rooms_rise)))
 
   tests_there : (r c d : Row) → GoodRoom r → IsWrittenAs code_columns code_of code_written c → IsWrittenAs code_columns code_of code_written d
       → list_all (holds ([] ∷ r ∷ c ∷ d ∷ [])) test ≡ are_there (room_of (room_columns r)) (code_of (code_columns c)) (code_of (code_columns d))
@@ -193,7 +223,8 @@ module _ (db : Trees) (t : AreTables db) (sound : IsSound (rows_in db)) where
   abbrev lefts_of : Room → List Output
   lefts_of e = flat_map (with_held e) rows.codes
 
-  matched : IsPermutation (map (output behind_query) (matches (overlay db []) test tables ([] ∷ []))) (flat_map lefts_of rows.rooms)
+  matched : IsPermutation (map (output behind_query) (matches (overlay db []) test tables ([] ∷ [])))
+      (flat_map lefts_of rooms)
   matched =
       one_more_table db test behind_query (by_key nat_cmp) (key_total nat_cmp_total) GoodRoom (λ r. room_of (room_columns r)) 3 (inner 6 (inner 6 end)) ([] ∷ [])
       lefts_of good_rooms (λ r room.
@@ -221,7 +252,8 @@ module _ (db : Trees) (t : AreTables db) (sound : IsSound (rows_in db)) where
     with_last x =
         where_it_passes (stands e.0 (e.1.codes - 1)) (λ (y : Placed). shown (e, (x.0, y.0)) ∷ []) rows.codes
         ∙ sym (flat_map-map (λ current. shown (e, (x.0, current)) ∷ []) (λ (y : Placed). y.0) lasts)
-        ∙ ap (flat_map (λ current. shown (e, (x.0, current)) ∷ [])) (standing rows sound codes_rise e.0 e.1 known (e.1.codes - 1))
+        ∙ ap (flat_map (λ current. shown (e, (x.0, current)) ∷ []))
+        (standing rows sound codes_rise e.0 (row_at e) (there e known) (e.1.codes - 1))
 
     one_held : (is_late : Bool) (x : Placed) → flat_map (λ y. if stands e.0 e.1.lock_place x && (stands e.0 (e.1.codes - 1) y && is_late) then shown (e, (x.0, y.0)) ∷ [] else []) rows.codes
         ≡ (if stands e.0 e.1.lock_place x then (if is_late then with_code (code_at rows e.0 (e.1.codes - 1)) x.0 else []) else [])
@@ -245,7 +277,7 @@ module _ (db : Trees) (t : AreTables db) (sound : IsSound (rows_in db)) where
         let made = λ (code : ℕ). if late e then with_code (code_at rows e.0 (e.1.codes - 1)) code else [] in
         flat_map_same_on _ _ (one_held (late e)) rows.codes ∙ where_it_passes (stands e.0 e.1.lock_place) (λ (x : Placed). made x.0) rows.codes
         ∙ sym (flat_map-map made (λ (x : Placed). x.0) (filter (stands e.0 e.1.lock_place) rows.codes))
-        ∙ ap (flat_map made) (standing rows sound codes_rise e.0 e.1 known e.1.lock_place)
+        ∙ ap (flat_map made) (standing rows sound codes_rise e.0 (row_at e) (there e known) e.1.lock_place)
         ∙ some_of (late e) (code_at rows e.0 e.1.lock_place) (code_at rows e.0 (e.1.codes - 1))
 
     -- what is said of it
@@ -266,7 +298,7 @@ module _ (db : Trees) (t : AreTables db) (sound : IsSound (rows_in db)) where
         said (late e) (code_at rows e.0 e.1.lock_place) (code_at rows e.0 (e.1.codes - 1))
         ∙ ap (λ b. if b then said_of (code_at rows e.0 e.1.lock_place) None (λ code. option_map (row_of e.0 code) (code_at rows e.0 (e.1.codes - 1))) else None) as_late
         ∙ ap (λ room. if nat_le 2 (awaited_on e.1) then said_of (code_at rows room e.1.lock_place) None (λ code. option_map (row_of room code) (code_at rows room (e.1.codes - 1))) else None)
-        (sym (room_is rows sound e.0 e.1 known))
+        (sym (room_is rows sound e.0 (row_at e) (there e known)))
 
   all_left : (es : List Room) → AllByRecursion Known es → flat_map lefts_of es ≡ map shown (filter_map pair es)
   all_left es known = each es known ∙ made_of_each pair shown es
@@ -286,12 +318,15 @@ module _ (db : Trees) (t : AreTables db) (sound : IsSound (rows_in db)) where
 
   pub behind_said : (all : List BehindRow) → AnswersAll behind_row_of behind_query [] db all → all ≡ left_behind_on rows
   behind_said all a =
-      let mine = filter_map pair rows.rooms in
-      let known = finds_itself rows.rooms rooms_rise in
+      let mine = filter_map pair rooms in
+      let known = finds_itself rooms rooms_rise in
       let up : IsAscending (λ x y. output_cmp behind_query x y ≡ Less) (map shown mine) =
       map_rises shown _ mine (ascending_weaker _ _ (λ x y less. then_nothing _ ∙ int_order x.0.0 y.0.0 ∙ less) mine
-      (rise_alike pair (λ (a b : Room). by_key nat_cmp a b ≡ Less) (λ (y : Left). y.0) of_room rows.rooms rooms_rise)) in
-      let same : IsPermutation (map (output behind_query) (matches (overlay db []) test tables ([] ∷ []))) (map shown mine) = subst (IsPermutation _) (all_left rows.rooms known) matched in
+      (rise_alike pair (λ (a b : Room). by_key nat_cmp a b ≡ Less) (λ (y : Left). y.0) of_room rooms rooms_rise)) in
+      let same : IsPermutation (map (output behind_query) (matches (overlay db []) test tables ([] ∷ [])))
+      (map shown mine) = subst (IsPermutation _) (all_left rooms known) matched in
       let shows = sorted_answer tables test project order (overlay db []) [] a.0 (map shown mine) a.1 same up in
       a.2 ∙ ap (map behind_row_of) (shows ∙ fused (λ (o : Output). o.1) shown mine) ∙ fused behind_row_of (λ y. (shown y).1) mine
-      ∙ said_of_each pair (λ y. behind_row_of (shown y).1) (behind_row_on rows) rows.rooms (all_weaker Known _ says rows.rooms known)
+      ∙ said_of_each pair (λ y. behind_row_of (shown y).1) (behind_row_on rows) rooms
+      (all_weaker Known _ says rooms known)
+      ∙ sym (values_kept rows.fits (behind_row_on rows) (λ last row. refl) rooms)

@@ -34,9 +34,10 @@ use Rattle.hotel_core.proofs.Starts.StartCodes.{room_is}
 use Rattle.hotel_statements.specs.Schema.{compare}
 use Rattle.hotel_statements.specs.Values.{int, maybe_int}
 use Rattle.hotel_statements.specs.Columns.{bit_of, room_columns, room_of, room_written, stay_columns, stay_of, stay_written}
-use Rattle.hotel_statements.specs.Tables.{AreTables, IsWrittenAs, by_key, rows_in}
+use Rattle.hotel_statements.specs.Tables.{AreTables, IsWrittenAs, by_key, rows_in, bare_rooms_in}
 use Rattle.hotel_statements.specs.LookUps.{AnswersAll}
 use Rattle.hotel_statements.specs.Walks.{house_row_of}
+use Rattle.hotel_statements.proofs.Joins.{fitted, joined_there, values_kept}
 use Rattle.hotel_statements.proofs.Answers.{fused}
 use Rattle.hotel_statements.proofs.Keys.{equals, and_true, is_key}
 use Rattle.hotel_statements.proofs.Perm.{sort_rises}
@@ -92,7 +93,11 @@ module _ (db : Trees) (t : AreTables db) (sound : IsSound (rows_in db)) where
   abbrev rows : Rows
   rows = rows_in db
 
-  rooms_rise : IsAscending (λ a b. by_key nat_cmp a b ≡ Less) rows.rooms
+  -- the rooms, as their table has them
+  abbrev rooms : List Room
+  rooms = bare_rooms_in db
+
+  rooms_rise : IsAscending (λ a b. by_key nat_cmp a b ≡ Less) rooms
   rooms_rise = sort_rises (by_key nat_cmp) (key_total nat_cmp_total) _ t.room.apart
 
   stays_rise : IsAscending (λ a b. by_key nat_cmp a b ≡ Less) rows.stays
@@ -111,7 +116,8 @@ module _ (db : Trees) (t : AreTables db) (sound : IsSound (rows_in db)) where
       → output house_query ([] ∷ r ∷ s ∷ []) ≡ shown (room_of (room_columns r), (stay_of (stay_columns s)).1)
   shows r s room stay = ap₂ from_columns room stay
 
-  matched : IsPermutation (map (output house_query) (matches (overlay db []) test tables ([] ∷ []))) (flat_map pairs_of rows.rooms)
+  matched : IsPermutation (map (output house_query) (matches (overlay db []) test tables ([] ∷ [])))
+      (flat_map pairs_of rooms)
   matched =
       one_more_table db test house_query (by_key nat_cmp) (key_total nat_cmp_total) (IsWrittenAs room_columns room_of room_written) (λ r. room_of (room_columns r)) 3 (inner 5 end) ([] ∷ [])
       pairs_of t.room.good (λ r room.
@@ -171,14 +177,15 @@ module _ (db : Trees) (t : AreTables db) (sound : IsSound (rows_in db)) where
       let b = tests.and_true _ _ a.0 in
       eq_from stay.party k (found_passes (λ (x : ℕ × Stay). x.1.party == x.0) rows.stays k stay b.0 found)
 
-  says : (e : Room) → at_number rows.rooms e.0 ≡ Some e.1 → option_map (λ y. house_row_of (shown y).1) (pair e) ≡ house_row_on rows e.1
+  says : (e : Room) → at_number rooms e.0 ≡ Some e.1 → option_map (λ y. house_row_of (shown y).1) (pair e)
+      ≡ house_row_on rows e.1
   says e found = by e.1.party refl
     where
       made : (k : ℕ) → e.1.party ≡ Some k → (o : Option Stay) → stay_at rows k ≡ o
           → option_map (λ y. house_row_of (shown y).1) (option_map (λ stay. (e, stay)) o) ≡ option_map (housed e.1) o
       made k at None is = refl
       made k at (Some stay) is =
-          let room = room_is rows sound e.0 e.1 found in
+          let room = room_is rows sound e.0 (fitted rows.fits e.0 e.1) (joined_there rows.fits rooms e found) in
           let party = party_is k stay is in
           let secured = bit_back e.1.secured in
           ap Some (rw (at, room, party, secured) refl)
@@ -190,12 +197,14 @@ module _ (db : Trees) (t : AreTables db) (sound : IsSound (rows_in db)) where
 
   pub house_said : (all : List HouseRow) → AnswersAll house_row_of house_query [] db all → all ≡ in_house_on rows
   house_said all a =
-      let mine = filter_map pair rows.rooms in
+      let mine = filter_map pair rooms in
       let up : IsAscending (λ x y. output_cmp house_query x y ≡ Less) (map shown mine) =
       map_rises shown _ mine (ascending_weaker _ _ (λ x y less. then_nothing _ ∙ int_order x.0.0 y.0.0 ∙ less) mine
-      (rise_alike pair (λ (a b : Room). by_key nat_cmp a b ≡ Less) (λ (y : Housed). y.0) of_room rows.rooms rooms_rise)) in
+      (rise_alike pair (λ (a b : Room). by_key nat_cmp a b ≡ Less) (λ (y : Housed). y.0) of_room rooms rooms_rise)) in
       let same : IsPermutation (map (output house_query) (matches (overlay db []) test tables ([] ∷ []))) (map shown mine) =
-      subst (IsPermutation _) (all_pairs rows.rooms) matched in
+      subst (IsPermutation _) (all_pairs rooms) matched in
       let shows = sorted_answer tables test project order (overlay db []) [] a.0 (map shown mine) a.1 same up in
       a.2 ∙ ap (map house_row_of) (shows ∙ fused (λ (o : Output). o.1) shown mine) ∙ fused house_row_of (λ y. (shown y).1) mine
-      ∙ said_of_each pair (λ y. house_row_of (shown y).1) (house_row_on rows) rows.rooms (all_weaker _ _ says rows.rooms (finds_itself rows.rooms rooms_rise))
+      ∙ said_of_each pair (λ y. house_row_of (shown y).1) (house_row_on rows) rooms
+      (all_weaker _ _ says rooms (finds_itself rooms rooms_rise))
+      ∙ sym (values_kept rows.fits (house_row_on rows) (λ last row. refl) rooms)

@@ -6,11 +6,12 @@ use Rattle.sqlite_value.specs.declared.value.Value.TheVariants.{Null, Int}
 use Rattle.sqlite.specs.Term.{lit, col}
 use Rattle.hotel_statements.specs.Texts as text
 use Rattle.hotel_statements.proofs.Answers.{single}
-use Rattle.hotel_statements.proofs.Statements.Terms.{Does, by_rowid, by_pair}
+use Rattle.hotel_statements.proofs.Statements.Terms.{Does, by_rowid, by_pair, column_is}
 use Rattle.sqlite.specs.Command.TheVariants.{Insert, Update, Delete}
 use Rattle.sqlite.specs.Source.TheVariants.{Values}
 
-pub insert_meta : Does text.insert_meta (Insert 0 (Values (lit (Int (pos 1)) ∷ lit Null ∷ lit (Int (pos 1)) ∷ lit Null ∷ []) 4))
+pub insert_meta : Does text.insert_meta (Insert 0 (Values
+    (lit (Int (pos 1)) ∷ lit Null ∷ lit (Int (pos 2)) ∷ lit Null ∷ []) 4))
 unfolding understood everything
 insert_meta = record { is = refl; plain = (refl, refl) }
 
@@ -42,6 +43,10 @@ pub insert_note : Does text.insert_note (Insert 7 (Values (lit Null ∷ col 0 0 
 unfolding understood everything
 insert_note = record { is = refl; plain = (refl, refl) }
 
+pub insert_fit : Does text.insert_fit (Insert 8 (Values (lit Null ∷ col 0 0 ∷ col 0 1 ∷ col 0 2 ∷ col 0 3 ∷ []) 5))
+unfolding understood everything
+insert_fit = record { is = refl; plain = (refl, refl) }
+
 pub update_day : Does text.update_day (Update 0 (record { lets = []; body = single 0 by_rowid (col 1 0 ∷ col 1 0 ∷ lit Null ∷ col 1 2 ∷ col 0 1 ∷ []) [] }))
 unfolding understood everything
 update_day = record { is = refl; plain = (refl, refl) }
@@ -61,6 +66,15 @@ pub update_noted : Does text.update_noted
 unfolding understood everything
 update_noted = record { is = refl; plain = (refl, refl) }
 
+pub update_refitted : Does text.update_refitted
+    (Update 2 (record {
+      lets = [];
+      body = single 3 by_rowid
+          (col 1 0 ∷ col 1 0 ∷ lit Null ∷ col 1 2 ∷ col 0 1 ∷ col 0 2 ∷ lit (Int (pos 0)) ∷ col 1 6 ∷ col 1 7 ∷ []) [];
+    }))
+unfolding understood everything
+update_refitted = record { is = refl; plain = (refl, refl) }
+
 pub update_state : Does text.update_state
     (Update 3 (record { lets = []; body = single 5 by_rowid (col 1 0 ∷ col 1 0 ∷ lit Null ∷ col 1 2 ∷ col 1 3 ∷ col 1 4 ∷ col 1 5 ∷ col 0 1 ∷ col 0 2 ∷ []) [] }))
 unfolding understood everything
@@ -69,3 +83,8 @@ update_state = record { is = refl; plain = (refl, refl) }
 pub delete_inside : Does text.delete_inside (Delete 6 (record { lets = []; body = single 9 (by_pair 1 2) (col 1 0 ∷ []) [] }))
 unfolding understood everything
 delete_inside = record { is = refl; plain = (refl, refl) }
+
+pub delete_insides : Does text.delete_insides (Delete 6
+    (record { lets = []; body = single 9 (column_is 1 0 ∷ []) (col 1 0 ∷ []) [] }))
+unfolding understood everything
+delete_insides = record { is = refl; plain = (refl, refl) }

@@ -41,3 +41,8 @@ read_inside = record { query = (_, refl); plain = (refl, refl); listing = refl }
 pub read_note : Asks text.read_note (single 11 [] all_eight ((col 1 1, ascending Binary) ∷ (col 1 2, ascending Binary) ∷ []))
 unfolding understood everything
 read_note = record { query = (_, refl); plain = (refl, refl); listing = refl }
+
+pub read_fit : Asks text.read_fit (single 13 [] (columns (1 ∷ 2 ∷ 3 ∷ 4 ∷ []))
+    ((col 1 1, ascending Binary) ∷ (col 1 2, ascending Binary) ∷ []))
+unfolding understood everything
+read_fit = record { query = (_, refl); plain = (refl, refl); listing = refl }

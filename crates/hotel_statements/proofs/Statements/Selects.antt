@@ -50,6 +50,10 @@ pub select_note : Asks text.select_note (single 11 (by_pair 1 2) all_eight [])
 unfolding understood everything
 select_note = record { query = (_, refl); plain = (refl, refl); listing = refl }
 
+pub select_fit : Asks text.select_fit (single 13 (by_pair 1 2) (columns (1 ∷ 2 ∷ 3 ∷ 4 ∷ [])) [])
+unfolding understood everything
+select_fit = record { query = (_, refl); plain = (refl, refl); listing = refl }
+
 pub select_last_party : Asks text.select_last_party (single 5 [] (columns (0 ∷ [])) ((col 1 0, record { collation = Binary; descending = true }) ∷ []))
 unfolding understood everything
 select_last_party = record { query = (_, refl); plain = (refl, refl); listing = refl }
@@ -65,3 +69,8 @@ select_stays_of_kind = record { query = (_, refl); plain = (refl, refl); listing
 pub select_cards_inside : Asks text.select_cards_inside (single 9 (column_is 1 0 ∷ []) (columns (2 ∷ [])) ((col 1 2, ascending Binary) ∷ []))
 unfolding understood everything
 select_cards_inside = record { query = (_, refl); plain = (refl, refl); listing = refl }
+
+pub select_fits : Asks text.select_fits (single 13 (column_is 1 0 ∷ []) (columns (1 ∷ 2 ∷ 3 ∷ 4 ∷ []))
+    ((col 1 2, ascending Binary) ∷ []))
+unfolding understood everything
+select_fits = record { query = (_, refl); plain = (refl, refl); listing = refl }

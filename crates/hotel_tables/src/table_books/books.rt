@@ -4,10 +4,10 @@ ghost use Rattle.sqlite.specs.Held.{state};
 ghost use Rattle.hotel_statements.specs.Tables.{rows_in};
 
 use crate::table_books::TableBooks;
-use hotel_core::{Books, Change, CodeRow, NextNumbers, RoomRow};
+use hotel_core::{Books, Change, CodeRow, FitRow, NextNumbers, RoomRow};
 use hotel_nights::{Day, Guest, KindCode, Stay};
 use hotel_statements::look_ups;
-use keycard_rules::{Card, CardNo, Code, Count, LockNote, LookFault, PartyNo, RoomNo};
+use keycard_rules::{Card, CardNo, Code, Count, FitNo, LockNote, LookFault, PartyNo, RoomNo};
 use sqlite::Alter;
 
 impl<S: Alter> Books for TableBooks<S> {
@@ -86,9 +86,19 @@ impl<S: Alter> Books for TableBooks<S> {
         self.counting(any)
     }
 
-    fn note(&mut self, room: RoomNo, count: Count) -> Result<Option<LockNote>, LookFault> {
-        let note = look_ups::note(self.alloc, &mut self.conn, room, count);
+    fn note(
+        &mut self,
+        room: RoomNo,
+        fit: FitNo,
+        count: Count,
+    ) -> Result<Option<LockNote>, LookFault> {
+        let note = look_ups::note(self.alloc, &mut self.conn, room, fit, count);
         self.counting(note)
+    }
+
+    fn fit(&mut self, room: RoomNo, fit: FitNo) -> Result<Option<FitRow>, LookFault> {
+        let row = look_ups::fit(self.alloc, &mut self.conn, room, fit);
+        self.counting(row)
     }
 
     fn rooms_of_kind(&mut self, kind: &KindCode) -> Result<u32, LookFault> {

@@ -1,4 +1,4 @@
-use Rattle.hotel_audit.proofs.{FilesCounted.files_counted, FilesCounted.notes_counted, NotesTaken.runs_take}
+use Rattle.hotel_audit.proofs.{CountsOfFits.notes_counted, FilesCounted.files_counted, NotesTaken.runs_take}
 use Rattle.hotel_audit.proofs.laws.files_counted.Goals as goal
 
 pub returns-clause-of_files : goal.returns-clause-of_files

@@ -4,9 +4,17 @@ use Rattle.std.specs.Str.{is_utf8, chars}
 use lib.Utf8.{encode}
 use Rattle.hotel_program.proofs.scenes.broken_rules.Goals as goal
 
-pub returns-clause-by_name : goal.returns-clause-by_name
+pub returns-clause-of_rooms : goal.returns-clause-of_rooms
 unfolding nights_taken first_day is_utf8 chars encode
-returns-clause-by_name c = ((refl, refl), (refl, refl), (refl, refl), (refl, refl), (refl, refl))
+returns-clause-of_rooms c = ((refl, refl), (refl, refl), (refl, refl))
+
+pub returns-clause-of_cards : goal.returns-clause-of_cards
+unfolding nights_taken first_day is_utf8 chars encode
+returns-clause-of_cards c = ((refl, refl), (refl, refl))
+
+pub returns-clause-of_fits : goal.returns-clause-of_fits
+unfolding nights_taken first_day is_utf8 chars encode
+returns-clause-of_fits c = ((refl, refl), (refl, refl), (refl, refl))
 
 pub returns-clause-sound : goal.returns-clause-sound
 unfolding nights_taken first_day is_utf8 chars encode

@@ -50,6 +50,18 @@ pub returns-clause-later_lock : goal.returns-clause-later_lock
 unfolding answer_to draw_from nights_taken first_day is_utf8 chars encode
 returns-clause-later_lock c = (refl, refl, refl)
 
+pub returns-clause-replaced_lock : goal.returns-clause-replaced_lock
+unfolding answer_to draw_from nights_taken first_day is_utf8 chars encode
+returns-clause-replaced_lock c = (refl, refl, refl)
+
+pub returns-clause-refit_passes_awaited : goal.returns-clause-refit_passes_awaited
+unfolding answer_to draw_from nights_taken first_day is_utf8 chars encode
+returns-clause-refit_passes_awaited c = (refl, refl, refl)
+
+pub returns-clause-fits_used_up : goal.returns-clause-fits_used_up
+unfolding answer_to draw_from nights_taken first_day is_utf8 chars encode
+returns-clause-fits_used_up c = ((refl, refl, refl), refl)
+
 pub returns-clause-audit_twice : goal.returns-clause-audit_twice
 unfolding answer_to draw_from nights_taken first_day is_utf8 chars encode
 returns-clause-audit_twice c = (refl, refl, refl)
@@ -57,6 +69,14 @@ returns-clause-audit_twice c = (refl, refl, refl)
 pub returns-clause-audit_gap_conflict : goal.returns-clause-audit_gap_conflict
 unfolding answer_to draw_from nights_taken first_day is_utf8 chars encode
 returns-clause-audit_gap_conflict c = (refl, refl, refl)
+
+pub returns-clause-audit_round_trip : goal.returns-clause-audit_round_trip
+unfolding answer_to draw_from nights_taken first_day is_utf8 chars encode
+returns-clause-audit_round_trip c = (refl, refl, refl)
+
+pub returns-clause-audit_list_comes_back_with_fits : goal.returns-clause-audit_list_comes_back_with_fits
+unfolding answer_to draw_from nights_taken first_day is_utf8 chars encode
+returns-clause-audit_list_comes_back_with_fits c = (refl, refl, refl)
 
 pub returns-clause-late_audit : goal.returns-clause-late_audit
 unfolding answer_to draw_from nights_taken first_day is_utf8 chars encode
@@ -85,3 +105,7 @@ returns-clause-desk_day c = (refl, refl, refl)
 pub returns-clause-note_refusals : goal.returns-clause-note_refusals
 unfolding answer_to draw_from nights_taken first_day is_utf8 chars encode
 returns-clause-note_refusals c = (refl, refl, refl)
+
+pub returns-clause-sound_start : goal.returns-clause-sound_start
+unfolding answer_to draw_from nights_taken first_day is_utf8 chars encode
+returns-clause-sound_start c = (refl, refl, refl)

@@ -21,7 +21,7 @@ use Rattle.hotel_program.proofs.scenes.two_refusals.Goals as goal
 
 pub returns-clause-at_once : goal.returns-clause-at_once
 unfolding answer_to draw_from nights_taken first_day is_utf8 chars encode
-returns-clause-at_once c = ((refl, refl, refl), refl, refl, refl, refl, refl, refl, refl, refl, refl)
+returns-clause-at_once c = ((refl, refl, refl), refl, refl, refl, refl, refl, refl, refl, refl, refl, refl)
 
 -- Where the numbers of cards are all that is left to check, and are used up.
 cards_end : (command : Command) (cards : List (ℕ × Card)) → length cards ≡ 9999999
@@ -51,3 +51,7 @@ parties_end stays full free = is_left stays ∙ ap (λ o. left (with_stays stays
 
 pub returns-clause-parties_used_up : goal.returns-clause-parties_used_up
 returns-clause-parties_used_up c = λ stays full. (night_full stays, parties_end stays full)
+
+pub returns-clause-of_fits : goal.returns-clause-of_fits
+unfolding answer_to draw_from nights_taken first_day is_utf8 chars encode
+returns-clause-of_fits c = ((refl, refl, refl), (refl, refl), (refl, refl), refl, refl, refl, refl, refl)

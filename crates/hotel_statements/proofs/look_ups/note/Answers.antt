@@ -1,26 +1,141 @@
-use Rattle.std.proofs.Common.{[], ◌∷◌, IfOk}
-use Rattle.std.proofs.lemmas.Result.{IfOk-weaker}
-use Rattle.sqlite.specs.Query.{Query}
+use Rattle.std.proofs.Common.{◌≡◌, ◌+◌, ◌==◌, ◌∙◌, sym, ap, ap₂, arith, rules, ℕ, true, false, None, Some}
+use Rattle.std.specs.Prelude.{option_map, if◌then◌else◌}
+use Rattle.std.specs.Map.{lookup}
+use Rattle.std.specs.BTreeMap.{is_at}
 use Rattle.sqlite.specs.Held.{state}
-use Rattle.hotel_statements.specs.Values.{int}
-use Rattle.hotel_statements.specs.Columns.{note_row_of}
-use Rattle.hotel_statements.specs.Books.{IsKept}
-use Rattle.hotel_statements.specs.LookUps.{Asks, AnswersFirst}
-use Rattle.hotel_statements.specs.Texts as text
-use Rattle.hotel_statements.proofs.Statements.Selects as selects
-use Rattle.hotel_statements.proofs.Keyed.{looks_to}
-use Rattle.hotel_statements.proofs.Finds.{note_finds}
+use Rattle.sqlite.specs.Effect.{Database}
+use Rattle.sqlite.specs.State.{HasCleanDisk}
+use Rattle.hotel_core.specs.declared.books.rows.FitRow.{FitRow}
+use Rattle.hotel_core.specs.Model.Words.{pair_cmp}
+use Rattle.hotel_rows.specs.Joined.{with_count, fit_of_number}
+use Rattle.hotel_statements.specs.Tables.{bare_notes_in}
+use Rattle.hotel_statements.specs.LookUps.{numbered_fit}
+use Rattle.hotel_statements.proofs.Keeps.{then_keeps, then_survives}
+use Rattle.hotel_statements.proofs.Fitted.{no_fit, no_note, note_is}
 use Rattle.hotel_statements.proofs.look_ups.note.Goals as goal
 
-pub look-requires-clause-asks : goal.look-requires-clause-asks
-look-requires-clause-asks g c = (_, selects.select_note)
+pub returns-in_default : goal.returns-in_default
+returns-in_default g c =
+    let old = state g.S.Store c.args.conn.now in
+    let fits = c.in_ok-fits.fits.items in
+    let lost : None ≡ numbered_fit fits c.args.fit = sym c.in_default.is ∙ c.numbered.ensures
+    ∙ ap (λ fs. numbered_fit fs c.args.fit) c.deref.ensures.value in
+    record {
+      books = c.in_ok-fits.ensures.books;
+      keeps = c.in_ok-fits.ensures.keeps;
+      found = λ kept. no_fit old.now.trees c.args.room c.args.fit c.args.count fits (c.in_ok-fits.ensures.found kept)
+          (ap (option_map (λ (f : FitRow). f.before + c.args.count)) lost);
+      open_on = c.in_ok-fits.ensures.open_on;
+      crash = c.in_ok-fits.ensures.crash;
+    }
+
+pub returns-in_default-2 : goal.returns-in_default-2
+returns-in_default-2 g c =
+    let old = state g.S.Store c.args.conn.now in
+    let mid = state g.S.Store c.fits_of_room.new.conn in
+    let new = state g.S.Store c.bare_note.new.conn in
+    let room = c.args.room in
+    let fit = c.args.fit in
+    let count = c.args.count in
+    let fits = c.in_ok-fits.fits.items in
+    let number = c.from.result + c.from-2.result in
+    let numbered : number ≡ c.in-Some.of.before + count = ap₂ (λ (a b : ℕ). a + b) c.from.ensures
+    (c.from-2.ensures ∙ c.value.ensures.same) in
+    let there : Some c.in-Some.of ≡ numbered_fit fits fit = sym c.in-Some.is ∙ c.numbered.ensures
+    ∙ ap (λ fs. numbered_fit fs fit) c.deref.ensures.value in
+    let is : Some number ≡ option_map (λ (f : FitRow). f.before + count) (numbered_fit fits fit) = ap Some numbered
+    ∙ ap (option_map (λ (f : FitRow). f.before + count)) there in
+    record {
+      books = c.in_ok-bare.ensures.books;
+      keeps = then_keeps old mid new c.in_ok-fits.ensures.keeps c.in_ok-bare.ensures.keeps;
+      found = λ kept.
+          let after = c.in_ok-bare.ensures.keeps kept in
+          let first = c.in_ok-fits.ensures.keeps after.0 in
+          let are = c.in_ok-fits.ensures.found after.0 in
+          let same = c.in_ok-bare.ensures.found kept
+          ∙ ap (λ (d : Database). lookup (is_at (pair_cmp (room, number))) (bare_notes_in d.trees)) first.1 in
+          no_note old.now.trees room fit count fits are number is (sym c.in_default-2.is ∙ same);
+      open_on = λ kept clean.
+          let before : HasCleanDisk mid = omega (arith, c.in_ok-bare.ensures.crash.clean, clean) in
+          c.in_ok-bare.ensures.open_on (before, c.in_ok-fits.ensures.open_on kept before) clean;
+      crash = then_survives old mid new c.in_ok-fits.ensures.open_on c.in_ok-fits.ensures.crash
+          c.in_ok-bare.ensures.crash;
+    }
+
+pub returns-then-eq : goal.returns-then-eq
+returns-then-eq g c =
+    let old = state g.S.Store c.args.conn.now in
+    let mid = state g.S.Store c.fits_of_room.new.conn in
+    let new = state g.S.Store c.bare_note.new.conn in
+    let room = c.args.room in
+    let fit = c.args.fit in
+    let count = c.args.count in
+    let fits = c.in_ok-fits.fits.items in
+    let number = c.from.result + c.from-2.result in
+    let numbered : number ≡ c.in-Some.of.before + count = ap₂ (λ (a b : ℕ). a + b) c.from.ensures
+    (c.from-2.ensures ∙ c.value.ensures.same) in
+    let there : Some c.in-Some.of ≡ numbered_fit fits fit = sym c.in-Some.is ∙ c.numbered.ensures
+    ∙ ap (λ fs. numbered_fit fs fit) c.deref.ensures.value in
+    let is : Some number ≡ option_map (λ (f : FitRow). f.before + count) (numbered_fit fits fit) = ap Some numbered
+    ∙ ap (option_map (λ (f : FitRow). f.before + count)) there in
+    let bare = c.in-Some-2.bare in
+    let note = c.in_ok-note.note in
+    let with : note ≡ with_count (fit_of_number fits bare.count) bare.count bare = c.in_ok-note.ensures
+    ∙ ap (λ fs. with_count (fit_of_number fs bare.count) bare.count bare) c.deref-2.ensures.value in
+    let of_it : (note.fit == fit) ≡ true = search rules in
+    record {
+      books = c.in_ok-bare.ensures.books;
+      keeps = then_keeps old mid new c.in_ok-fits.ensures.keeps c.in_ok-bare.ensures.keeps;
+      found = λ kept.
+          let after = c.in_ok-bare.ensures.keeps kept in
+          let first = c.in_ok-fits.ensures.keeps after.0 in
+          let are = c.in_ok-fits.ensures.found after.0 in
+          let same = c.in_ok-bare.ensures.found kept
+          ∙ ap (λ (d : Database). lookup (is_at (pair_cmp (room, number))) (bare_notes_in d.trees)) first.1 in
+          ap (λ b. if b then Some note else None) (sym of_it)
+          ∙ note_is old.now.trees room fit count fits are number is bare note (sym c.in-Some-2.is ∙ same) with;
+      open_on = λ kept clean.
+          let before : HasCleanDisk mid = omega (arith, c.in_ok-bare.ensures.crash.clean, clean) in
+          c.in_ok-bare.ensures.open_on (before, c.in_ok-fits.ensures.open_on kept before) clean;
+      crash = then_survives old mid new c.in_ok-fits.ensures.open_on c.in_ok-fits.ensures.crash
+          c.in_ok-bare.ensures.crash;
+    }
 
 pub returns : goal.returns
 returns g c =
     let old = state g.S.Store c.args.conn.now in
-    let new = state g.S.Store c.look.new.conn in
-    let finds : IsKept new → (p : Query) → Asks text.select_note p → IfOk c.look.result (AnswersFirst (note_row_of) p (int c.args.room ∷ int c.args.count ∷ []) old.now.trees) =
-    rw (c.small.ensures, c.small-2.ensures, c.value.ensures.same, c.value-2.ensures.same) at c.look.ensures.found in
-    looks_to text.select_note (int c.args.room ∷ int c.args.count ∷ []) old new (note_row_of) _ c.look.result c.look.result
-    (λ a. a) _ c.requires c.look.ensures.books c.look.ensures.keeps finds c.look.ensures.open_on c.look.ensures.crash selects.select_note
-    (λ kept tables. IfOk-weaker c.look.result _ _ (λ o a. note_finds old.now.trees tables c.args.room c.args.count o a))
+    let mid = state g.S.Store c.fits_of_room.new.conn in
+    let new = state g.S.Store c.bare_note.new.conn in
+    let room = c.args.room in
+    let fit = c.args.fit in
+    let count = c.args.count in
+    let fits = c.in_ok-fits.fits.items in
+    let number = c.from.result + c.from-2.result in
+    let numbered : number ≡ c.in-Some.of.before + count = ap₂ (λ (a b : ℕ). a + b) c.from.ensures
+    (c.from-2.ensures ∙ c.value.ensures.same) in
+    let there : Some c.in-Some.of ≡ numbered_fit fits fit = sym c.in-Some.is ∙ c.numbered.ensures
+    ∙ ap (λ fs. numbered_fit fs fit) c.deref.ensures.value in
+    let is : Some number ≡ option_map (λ (f : FitRow). f.before + count) (numbered_fit fits fit) = ap Some numbered
+    ∙ ap (option_map (λ (f : FitRow). f.before + count)) there in
+    let bare = c.in-Some-2.bare in
+    let note = c.in_ok-note.note in
+    let with : note ≡ with_count (fit_of_number fits bare.count) bare.count bare = c.in_ok-note.ensures
+    ∙ ap (λ fs. with_count (fit_of_number fs bare.count) bare.count bare) c.deref-2.ensures.value in
+    let of_other : (note.fit == fit) ≡ false = search rules in
+    record {
+      books = c.in_ok-bare.ensures.books;
+      keeps = then_keeps old mid new c.in_ok-fits.ensures.keeps c.in_ok-bare.ensures.keeps;
+      found = λ kept.
+          let after = c.in_ok-bare.ensures.keeps kept in
+          let first = c.in_ok-fits.ensures.keeps after.0 in
+          let are = c.in_ok-fits.ensures.found after.0 in
+          let same = c.in_ok-bare.ensures.found kept
+          ∙ ap (λ (d : Database). lookup (is_at (pair_cmp (room, number))) (bare_notes_in d.trees)) first.1 in
+          ap (λ b. if b then Some note else None) (sym of_other)
+          ∙ note_is old.now.trees room fit count fits are number is bare note (sym c.in-Some-2.is ∙ same) with;
+      open_on = λ kept clean.
+          let before : HasCleanDisk mid = omega (arith, c.in_ok-bare.ensures.crash.clean, clean) in
+          c.in_ok-bare.ensures.open_on (before, c.in_ok-fits.ensures.open_on kept before) clean;
+      crash = then_survives old mid new c.in_ok-fits.ensures.open_on c.in_ok-fits.ensures.crash
+          c.in_ok-bare.ensures.crash;
+    }

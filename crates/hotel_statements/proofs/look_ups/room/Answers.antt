@@ -1,26 +1,48 @@
-use Rattle.std.proofs.Common.{[], ◌∷◌, IfOk}
-use Rattle.std.proofs.lemmas.Result.{IfOk-weaker}
-use Rattle.sqlite.specs.Query.{Query}
+use Rattle.std.proofs.Common.{◌≡◌, ◌∙◌, sym, ap, arith, Some}
 use Rattle.sqlite.specs.Held.{state}
-use Rattle.hotel_statements.specs.Values.{int}
-use Rattle.hotel_statements.specs.Columns.{room_row_of}
-use Rattle.hotel_statements.specs.Books.{IsKept}
-use Rattle.hotel_statements.specs.LookUps.{Asks, AnswersFirst}
-use Rattle.hotel_statements.specs.Texts as text
-use Rattle.hotel_statements.proofs.Statements.Selects as selects
-use Rattle.hotel_statements.proofs.Keyed.{looks_to}
-use Rattle.hotel_statements.proofs.Finds.{room_finds}
+use Rattle.sqlite.specs.Effect.{Database}
+use Rattle.sqlite.specs.State.{HasCleanDisk}
+use Rattle.hotel_core.specs.Model.Rows.{at_number, fits_at, last_fit}
+use Rattle.hotel_rows.specs.Joined.{with_last}
+use Rattle.hotel_statements.specs.Tables.{fits_in, bare_rooms_in}
+use Rattle.hotel_statements.proofs.Keeps.{then_keeps, then_survives}
+use Rattle.hotel_statements.proofs.Fitted.{room_is, room_lost}
 use Rattle.hotel_statements.proofs.look_ups.room.Goals as goal
 
-pub look-requires-clause-asks : goal.look-requires-clause-asks
-look-requires-clause-asks g c = (_, selects.select_room)
+pub returns-in_default : goal.returns-in_default
+returns-in_default g c =
+    let old = state g.S.Store c.args.conn.now in
+    record {
+      books = c.in_ok-bare.ensures.books;
+      keeps = c.in_ok-bare.ensures.keeps;
+      found = λ kept. room_lost old.now.trees c.args.room (sym c.in_default.is ∙ c.in_ok-bare.ensures.found kept);
+      open_on = c.in_ok-bare.ensures.open_on;
+      crash = c.in_ok-bare.ensures.crash;
+    }
 
 pub returns : goal.returns
 returns g c =
     let old = state g.S.Store c.args.conn.now in
-    let new = state g.S.Store c.look.new.conn in
-    let finds : IsKept new → (p : Query) → Asks text.select_room p → IfOk c.look.result (AnswersFirst (room_row_of) p (int c.args.room ∷ []) old.now.trees) =
-    rw (c.small.ensures, c.value.ensures.same) at c.look.ensures.found in
-    looks_to text.select_room (int c.args.room ∷ []) old new (room_row_of) _ c.look.result c.look.result
-    (λ a. a) _ c.requires c.look.ensures.books c.look.ensures.keeps finds c.look.ensures.open_on c.look.ensures.crash selects.select_room
-    (λ kept tables. IfOk-weaker c.look.result _ _ (λ o a. room_finds old.now.trees tables c.args.room o a))
+    let mid = state g.S.Store c.bare_room.new.conn in
+    let new = state g.S.Store c.fits_of_room.new.conn in
+    let bare = c.in-Some.bare in
+    let fits = c.in_ok-fits.fits.items in
+    record {
+      books = c.in_ok-fits.ensures.books;
+      keeps = then_keeps old mid new c.in_ok-bare.ensures.keeps c.in_ok-fits.ensures.keeps;
+      found = λ kept.
+          let then = c.in_ok-fits.ensures.keeps kept in
+          let first = c.in_ok-bare.ensures.keeps then.0 in
+          let there : Some bare ≡ at_number (bare_rooms_in old.now.trees) c.args.room = sym c.in-Some.is
+          ∙ c.in_ok-bare.ensures.found then.0 in
+          let are : fits ≡ fits_at (fits_in old.now.trees) c.args.room = c.in_ok-fits.ensures.found kept
+          ∙ ap (λ (d : Database). fits_at (fits_in d.trees) c.args.room) first.1 in
+          let with : c.in_ok-room_with.field-0 ≡ with_last (last_fit fits) bare = c.in_ok-room_with.ensures
+          ∙ ap (λ fs. with_last (last_fit fs) bare) c.deref.ensures.value in
+          room_is old.now.trees c.args.room bare c.in_ok-room_with.field-0 fits there are with;
+      open_on = λ kept clean.
+          let before : HasCleanDisk mid = omega (arith, c.in_ok-fits.ensures.crash.clean, clean) in
+          c.in_ok-fits.ensures.open_on (before, c.in_ok-bare.ensures.open_on kept before) clean;
+      crash = then_survives old mid new c.in_ok-bare.ensures.open_on c.in_ok-bare.ensures.crash
+          c.in_ok-fits.ensures.crash;
+    }

@@ -2,8 +2,8 @@ use Rattle.std.proofs.Common.{arith}
 use Rattle.std.proofs.lemmas.Result.{on_ok_weaker}
 use Rattle.sqlite.specs.Held.{state}
 use Rattle.sqlite.specs.State.{HasCleanDisk}
-use Rattle.hotel_statements.specs.NewDesk.{IsBare, with_code, with_card, with_inside}
-use Rattle.hotel_statements.proofs.Makers.{make_code, make_card, make_inside, make_note}
+use Rattle.hotel_statements.specs.NewDesk.{IsBare, with_code, with_card}
+use Rattle.hotel_statements.proofs.Makers.{make_code, make_card}
 use Rattle.hotel_statements.proofs.InTurn.{answered, runs_then, runs_stopped}
 use Rattle.hotel_statements.proofs.new_desk.make_last.Goals as goal
 
@@ -11,27 +11,19 @@ pub returns-clause-made : goal.returns-clause-made
 returns-clause-made g c = λ clean.
     let s1 = state g.S.Store c.make.new.tx.conn.now in
     let s2 = state g.S.Store c.make-2.new.tx.conn.now in
-    let s3 = state g.S.Store c.make-3.new.tx.conn.now in
-    let k3 : HasCleanDisk s3 = omega (arith, c.make-4.ensures.survives.clean, clean) in
-    let k2 : HasCleanDisk s2 = omega (arith, c.make-3.ensures.survives.clean, k3) in
+    let k2 : HasCleanDisk s2 = omega (arith, c.make_of_locks.ensures.survives.clean, clean) in
     let k1 : HasCleanDisk s1 = omega (arith, c.make-2.ensures.survives.clean, k2) in
-    on_ok_weaker c.make-4.result (λ made bare.
+    on_ok_weaker c.make_of_locks.result (λ made bare.
     let b1 : IsBare with_code s1 = c.in_ok-make.ensures.made k1 _ _ make_code bare in
     let b2 : IsBare with_card s2 = c.in_ok-make-2.ensures.made k2 _ _ make_card (λ _. b1) in
-    let b3 : IsBare with_inside s3 = c.in_ok-make-3.ensures.made k3 _ _ make_inside (λ _. b2) in
-    made _ _ make_note (λ _. b3)) (c.make-4.ensures.made clean)
+    made (λ _. b2)) (c.make_of_locks.ensures.made clean)
 
 pub returns-in_err-make-2-clause-answers : goal.returns-in_err-make-2-clause-answers
 returns-in_err-make-2-clause-answers g c =
     runs_stopped _ c.from_residual-in_err-make-2.result (answered _ c.from_residual-in_err-make-2.ensures.1)
     (runs_then c.in_ok-make.ensures.answers c.in_err-make-2.ensures.survives c.in_err-make-2.ensures.answers)
 
-pub returns-in_err-make-3-clause-answers : goal.returns-in_err-make-3-clause-answers
-returns-in_err-make-3-clause-answers g c =
-    runs_stopped _ c.from_residual-in_err-make-3.result (answered _ c.from_residual-in_err-make-3.ensures.1)
-    (runs_then (runs_then c.in_ok-make.ensures.answers c.in_ok-make-2.ensures.survives c.in_ok-make-2.ensures.answers) c.in_err-make-3.ensures.survives c.in_err-make-3.ensures.answers)
-
 pub returns-clause-answers : goal.returns-clause-answers
 returns-clause-answers g c =
-    runs_then (runs_then (runs_then c.in_ok-make.ensures.answers c.in_ok-make-2.ensures.survives c.in_ok-make-2.ensures.answers) c.in_ok-make-3.ensures.survives c.in_ok-make-3.ensures.answers)
-    c.make-4.ensures.survives c.make-4.ensures.answers
+    runs_then (runs_then c.in_ok-make.ensures.answers c.in_ok-make-2.ensures.survives c.in_ok-make-2.ensures.answers)
+    c.make_of_locks.ensures.survives c.make_of_locks.ensures.answers

@@ -1,20 +1,52 @@
-use Rattle.std.proofs.Common.{List, [], ◌∷◌}
+use Rattle.std.proofs.Common.{◌≡◌, List, [], ◌∷◌, IsTrue, subst}
+use Rattle.sqlite.specs.Effect.{Database}
 use Rattle.sqlite.specs.Held.{state}
+use Rattle.sqlite.specs.State.{HasCleanDisk}
 use Rattle.keycard_rules.specs.Note.{Note}
+use Rattle.hotel_core.specs.Refinement.ListsOnRows.{audit_on}
+use Rattle.hotel_core.specs.Model.Rows.{fits_at}
 use Rattle.hotel_statements.specs.Values.{int}
-use Rattle.hotel_statements.specs.Columns.{note_row_of}
+use Rattle.hotel_statements.specs.Tables.{rows_in}
+use Rattle.hotel_statements.specs.Books.{IsKept}
+use Rattle.hotel_statements.specs.LookUps.{AnswersAll}
 use Rattle.hotel_statements.specs.Texts as text
-use Rattle.hotel_statements.specs.Walks.{SaysRows, WalksRows}
+use Rattle.hotel_statements.specs.Walks.{SaysRows, WalksRows, note_under}
 use Rattle.hotel_statements.proofs.Statements.Walks as walks
-use Rattle.hotel_statements.proofs.OfWalks.Single.{notes_said}
+use Rattle.hotel_statements.proofs.Walked.{then_walks, not_begun}
+use Rattle.hotel_statements.proofs.ByRoom.{notes_said, audit_query}
 use Rattle.hotel_statements.proofs.walks.audit.Goals as goal
 
 pub walk-requires-clause-asks : goal.walk-requires-clause-asks
 walk-requires-clause-asks g c = (_, walks.walk_audit)
 
-pub returns : goal.returns
-returns g c =
+pub returns-in-Ok : goal.returns-in-Ok
+returns-in-Ok g c =
     let old = state g.S.Store c.args.conn.now in
-    let walked : (rows : List Note) → SaysRows note_row_of text.walk_audit (int c.args.room ∷ []) old rows
-    → WalksRows g.K.Sink.after g.K.Sink.after_stop rows old (state g.S.Store c.walk.new.conn) c.args.sink.now c.walk.new.sink c.walk.result = rw c.numbered.ensures at c.walk.ensures in
-    walked _ (_, walks.walk_audit, λ kept all. notes_said old.now.trees (c.requires.desk kept).tables c.args.room all)
+    let mid = state g.S.Store c.fits_of_room.new.conn in
+    let fits = c.in-Ok.fits.items in
+    let rows = audit_on (rows_in old.now.trees) c.args.room in
+    let are : IsKept mid → fits ≡ fits_at (rows_in old.now.trees).fits c.args.room = λ kept. rw c.in-Ok.is at
+    (c.fits_of_room.ensures.found kept) in
+    let open_on : IsKept old → HasCleanDisk mid → IsTrue mid.is_open = λ kept clean. rw c.in-Ok.is at
+    (c.fits_of_room.ensures.open_on kept clean) in
+    let walked : (all : List Note) → SaysRows (note_under fits) text.walk_audit (int c.args.room ∷ []) mid all
+    → WalksRows g.K.Sink.after g.K.Sink.after_stop all mid (state g.S.Store c.walk.new.conn) c.args.sink.now
+    c.walk.new.sink c.walk.result = rw c.numbered.ensures at c.walk.ensures in
+    then_walks g.K.Sink.after g.K.Sink.after_stop rows old mid c.args.sink.now (state g.S.Store c.walk.new.conn)
+    c.walk.new.sink c.walk.result
+    c.fits_of_room.ensures.keeps open_on c.fits_of_room.ensures.crash
+    (walked rows (
+      _,
+      walks.walk_audit,
+      λ kept all answers.
+          let was = c.fits_of_room.ensures.keeps kept in
+          notes_said old.now.trees (c.requires.desk was.0).tables c.args.room fits (are kept) all
+          (subst (λ (d : Database). AnswersAll (note_under fits) audit_query (int c.args.room ∷ []) d.trees all) was.1
+          answers),
+    ))
+
+pub returns-in-Err : goal.returns-in-Err
+returns-in-Err g c =
+    not_begun g.K.Sink.after g.K.Sink.after_stop _ (state g.S.Store c.args.conn.now)
+    (state g.S.Store c.fits_of_room.new.conn) c.args.sink.now c.failed.result c.in-Err.cause c.failed.ensures
+    c.fits_of_room.ensures.books c.fits_of_room.ensures.keeps c.fits_of_room.ensures.crash

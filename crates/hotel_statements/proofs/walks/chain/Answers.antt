@@ -1,18 +1,26 @@
-use Rattle.std.proofs.Common.{◌≡◌, List, [], ◌∷◌, Some, IsTrue, sym, subst}
+use Rattle.std.proofs.Common.{◌≡◌, ◌∙◌, List, [], ◌∷◌, None, Some, IsTrue, refl, sym, ap, subst, option_map}
+use Rattle.std.specs.Prelude.{filter_map}
+use Rattle.std.specs.List.{range_with_len}
 use Rattle.sqlite.specs.Effect.{Database}
 use Rattle.sqlite.specs.Held.{state}
 use Rattle.sqlite.specs.State.{HasCleanDisk}
 use Rattle.hotel_core.specs.declared.books.list_rows.ChainRow.{ChainRow}
-use Rattle.hotel_core.specs.Refinement.ListsOnRows.{chain_on}
+use Rattle.hotel_core.specs.Refinement.ListsOnRows.{chain_row_on, chain_on}
+use Rattle.hotel_core.specs.declared.books.rows.RoomRow.{RoomRow}
+use Rattle.hotel_core.specs.Model.Words.{said_of}
+use Rattle.hotel_core.specs.Model.Rows.{at_number}
 use Rattle.hotel_core.specs.Books.Lookups.{room_at}
+use Rattle.hotel_rows.proofs.OfJoined.{room_joined}
 use Rattle.hotel_statements.specs.Values.{int}
-use Rattle.hotel_statements.specs.Tables.{rows_in}
+use Rattle.hotel_statements.specs.Tables.{rows_in, fits_in, bare_rooms_in}
 use Rattle.hotel_statements.specs.Books.{IsKept}
 use Rattle.hotel_statements.specs.LookUps.{AnswersAll}
 use Rattle.hotel_statements.specs.Texts as text
 use Rattle.hotel_statements.specs.Walks.{SaysRows, WalksRows, chain_row_of}
 use Rattle.hotel_statements.proofs.Statements.Walks as walks
 use Rattle.hotel_statements.proofs.Walked.{then_walks, not_begun}
+use Rattle.hotel_statements.proofs.Fitted.{room_lost}
+use Rattle.hotel_statements.proofs.Joins.{fitted}
 use Rattle.hotel_statements.proofs.OfWalks.Chain.{codes_said, chain_query}
 use Rattle.hotel_statements.proofs.walks.chain.Goals as goal
 
@@ -22,25 +30,54 @@ walk-requires-clause-asks g c = (_, walks.walk_chain)
 pub returns-in-Ok-Some : goal.returns-in-Ok-Some
 returns-in-Ok-Some g c =
     let old = state g.S.Store c.args.conn.now in
-    let mid = state g.S.Store c.room.new.conn in
-    let row = c.in-Ok-Some.row in
-    let rows = chain_on (rows_in old.now.trees) c.args.room in
-    let there : IsKept mid → Some row ≡ room_at (rows_in old.now.trees) c.args.room = λ kept. rw (c.in-Ok-Some.is, c.in-Ok-Some.field-0-is) at (c.room.ensures.found kept) in
-    let open_on : IsKept old → HasCleanDisk mid → IsTrue mid.is_open = λ kept clean. rw c.in-Ok-Some.is at (c.room.ensures.open_on kept clean) in
+    let mid = state g.S.Store c.bare_room.new.conn in
+    let db = old.now.trees in
+    let bare = c.in-Ok-Some.row in
+    let row = fitted (fits_in db) c.args.room bare in
+    let rows = chain_on (rows_in db) c.args.room in
+    let found : IsKept mid → Some bare ≡ at_number (bare_rooms_in db) c.args.room =
+    λ kept. rw (c.in-Ok-Some.is, c.in-Ok-Some.field-0-is) at (c.bare_room.ensures.found kept) in
+    let there : IsKept mid → Some row ≡ room_at (rows_in db) c.args.room =
+    λ kept. ap (option_map (fitted (fits_in db) c.args.room)) (found kept)
+    ∙ sym (room_joined (fits_in db) (bare_rooms_in db) c.args.room) in
+    let open_on : IsKept old → HasCleanDisk mid → IsTrue mid.is_open =
+    λ kept clean. rw c.in-Ok-Some.is at (c.bare_room.ensures.open_on kept clean) in
     let walked : (all : List ChainRow) → SaysRows (chain_row_of row.lock_place) text.walk_chain (int c.args.room ∷ []) mid all
-    → WalksRows g.K.Sink.after g.K.Sink.after_stop all mid (state g.S.Store c.walk.new.conn) c.args.sink.now c.walk.new.sink c.walk.result = rw c.numbered.ensures at c.walk.ensures in
+    → WalksRows g.K.Sink.after g.K.Sink.after_stop all mid (state g.S.Store c.walk.new.conn) c.args.sink.now
+    c.walk.new.sink
+    c.walk.result = rw (c.numbered.ensures, c.lock_place.ensures) at c.walk.ensures in
     then_walks g.K.Sink.after g.K.Sink.after_stop rows old mid c.args.sink.now (state g.S.Store c.walk.new.conn) c.walk.new.sink c.walk.result
-    c.room.ensures.keeps open_on c.room.ensures.crash
+    c.bare_room.ensures.keeps open_on c.bare_room.ensures.crash
     (walked rows (
       _,
       walks.walk_chain,
       λ kept all answers.
-          let was = c.room.ensures.keeps kept in
-          codes_said old.now.trees (c.requires.books.desk was.0).tables (c.requires.sound was.0) c.args.room row (sym (there kept)) all
+          let was = c.bare_room.ensures.keeps kept in
+          codes_said db (c.requires.books.desk was.0).tables (c.requires.sound was.0) c.args.room row
+          (sym (there kept)) all
           (subst (λ (d : Database). AnswersAll (chain_row_of row.lock_place) chain_query (int c.args.room ∷ []) d.trees all) was.1 answers),
     ))
 
+pub returns-in-Ok-None : goal.returns-in-Ok-None
+returns-in-Ok-None g c =
+    let db = (state g.S.Store c.args.conn.now).now.trees in
+    let none : IsKept (state g.S.Store c.bare_room.new.conn) → None ≡ room_at (rows_in db) c.args.room =
+    λ kept. room_lost db c.args.room (rw (c.in-Ok-None.is, c.in-Ok-None.field-0-is) at
+    (c.bare_room.ensures.found kept)) in
+    record {
+      books = c.bare_room.ensures.books;
+      keeps = c.bare_room.ensures.keeps;
+      hands = (
+        [],
+        refl,
+        λ kept. ap (λ o. said_of o []
+            (λ (row : RoomRow). filter_map (chain_row_on (rows_in db) row) (range_with_len 0 row.codes))) (none kept),
+      );
+      crash = c.bare_room.ensures.crash;
+    }
+
 pub returns-in-Err : goal.returns-in-Err
 returns-in-Err g c =
-    not_begun g.K.Sink.after g.K.Sink.after_stop _ (state g.S.Store c.args.conn.now) (state g.S.Store c.room.new.conn) c.args.sink.now c.failed.result c.in-Err.cause c.failed.ensures
-    c.room.ensures.books c.room.ensures.keeps c.room.ensures.crash
+    not_begun g.K.Sink.after g.K.Sink.after_stop _ (state g.S.Store c.args.conn.now)
+    (state g.S.Store c.bare_room.new.conn) c.args.sink.now c.failed.result c.in-Err.cause c.failed.ensures
+    c.bare_room.ensures.books c.bare_room.ensures.keeps c.bare_room.ensures.crash

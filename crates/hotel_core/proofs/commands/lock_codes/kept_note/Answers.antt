@@ -1,12 +1,16 @@
-use Rattle.std.proofs.Common.{◌<◌, Some, refl, ap, arith}
-use Rattle.hotel_core.proofs.OfCode.LaterNotes.{no_later_note}
+use Rattle.std.proofs.Common.{◌<◌, ◌-◌, ◌==◌, nat_lt, Some, refl, ap, sym, ◌∙◌, arith}
+use Rattle.hotel_core.proofs.{Names.note_at, OfCode.LaterNotes.no_later_note, OfTables.Tests.and_true, OfTables.Tests.eq_from, OfTables.Tests.lt_from}
 use Rattle.hotel_core.proofs.commands.lock_codes.kept_note.Goals as goal
 
-pub returns-then-count-row : goal.returns-then-count-row
-returns-then-count-row g c =
-    let later : c.args.row.now.notes < c.args.note.now.count = omega (arith, c.if-count-row.true, c.value-count.ensures.same, c.count.ensures) in
+pub returns-then-is_past : goal.returns-then-is_past
+returns-then-is_past g c =
+    let note = c.args.note.now in
+    let row = c.args.row.now in
+    let p = and_true (note.fit == row.fit) (nat_lt (row.notes - row.before) note.count) (sym c.is_past.ensures ∙ c.if-is_past.true) in
+    let later : row.notes - row.before < note.count = lt_from (row.notes - row.before) note.count p.1 in
     record {
-      answer = λ clean. ap Some (no_later_note (g.B.Books.rows c.args.books.now) (c.known_sound.ensures clean) c.args.note.now.room c.args.note.now.count c.args.row.now later (c.requires clean));
+      answer = λ clean. ap Some (ap (λ z. note_at (g.B.Books.rows c.args.books.now) note.room z note.count) (eq_from note.fit row.fit p.0)
+          ∙ no_later_note (g.B.Books.rows c.args.books.now) (c.known_sound.ensures clean) note.room note.count row (omega arith) later (c.requires clean));
       same = λ clean. refl;
       was_clean = λ clean. clean;
       counted = λ cause. omega arith;

@@ -1,7 +1,7 @@
 use Rattle.std.proofs.Common.{◌&&◌, map, ap, sym, ◌∙◌}
 use Rattle.hotel_core.specs.Model.Words.{pair_cmp}
 use Rattle.hotel_core.specs.Model.SoundRooms.{are_in_order}
-use Rattle.hotel_core.specs.Model.SoundCards.{insides_fit}
+use Rattle.hotel_core.specs.Model.SoundNotes.{insides_fit}
 use Rattle.hotel_core.proofs.OfTables.RowTests.{all_mapped}
 use Rattle.hotel_rows.specs.Stored.{rows_of, inside_pair}
 use Rattle.hotel_rows.specs.RowTests.{inside_fits}

@@ -1,4 +1,4 @@
-use Rattle.std.proofs.Common.{rules, ℕ, ◌≡◌, List, map, ap, sym, ◌∙◌}
+use Rattle.std.proofs.Common.{ℕ, ◌≡◌, List, map, ap, sym, ◌∙◌}
 use Rattle.hotel_core.proofs.Names.{Included, entries_between, rest_more, Note, pair_cmp, notes_at}
 use Rattle.std.specs.Map.Iter.{deref_pair}
 use Rattle.hotel_core.proofs.{OfCode.Walking.begun, OfCode.Walking.one_more, OfCode.Walking.as_rest, OfTables.RoomNotes.part_of_room}
@@ -6,14 +6,11 @@ use Rattle.hotel_core.proofs.memory.note_table.NoteTable.walk.Goals as goal
 
 pub loop-note-init : goal.loop-note-init
 loop-note-init g c =
-    let least : c.unwrap-least.result ≡ 1 = search rules in
-    let most : c.unwrap-most.result ≡ 9999999 = search rules in
     let notes : List ((ℕ × ℕ) × Note) → List Note = λ es. map (λ (p : (ℕ × ℕ) × Note). p.1) es in
     let part : ℕ × ℕ → ℕ × ℕ → List Note = λ low high. notes (entries_between pair_cmp (Included low) (Included high) c.self.inside.notes.entries) in
     let rows : notes_at c.args.self.now c.args.room ≡ notes c.into_iter-note-iterator.result =
-    sym (ap notes (c.into_iter-note-iterator.ensures.into_iter_gives ∙ c.range-note-items.ensures.between c.new-3.ensures.exhausted)
-    ∙ (λ i. part (c.new-3.ensures.start i) (c.new-3.ensures.end i))
-    ∙ (λ i. part (c.args.room, least i) (c.args.room, most i))
+    sym (ap notes (c.into_iter-note-iterator.ensures.into_iter_gives ∙ c.range-note-items.ensures.between c.new.ensures.exhausted)
+    ∙ (λ i. part (c.new.ensures.start i) (c.new.ensures.end i))
     ∙ sym (part_of_room c.args.room c.self.inside.notes.entries c.self.invariant)
     ∙ ap (λ es. notes_at es c.args.room) c.self.view_is) in
     as_rest g.S.Sink.after _ _ _ _ _ rows (begun g.S.Sink.after (notes_at c.args.self.now c.args.room) c.args.sink.now)

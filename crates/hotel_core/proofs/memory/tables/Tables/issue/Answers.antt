@@ -28,10 +28,10 @@ pub returns-in_default-push-clause-err : goal.returns-in_default-push-clause-err
 returns-in_default-push-clause-err c =
     let absent = ap (λ rows. code_place rows c.args.card.now.link.new_code) c.self.view_is ∙ c.requires.new_code in
     let t = c.self.inside in
-    let before : List (ℕ × CodeRow) → Rows = λ codes. record { day = t.day; kinds = keys_of t.kinds; rooms = t.rooms.entries; codes = codes; stays = t.stays; cards = c.push.new.self; inside = t.inside; notes = t.notes } in
+    let before : List (ℕ × CodeRow) → Rows = λ codes. record { day = t.day; kinds = keys_of t.kinds; rooms = t.rooms.entries; codes = codes; stays = t.stays; cards = c.push.new.self; inside = t.inside; notes = t.notes; fits = t.fits.entries } in
     ap before (c.remove.ensures ∙ ap (remove_entry (is_at (nat_cmp c.args.card.now.link.new_code))) c.in-Ok.ensures.ok
     ∙ taken_back nat_cmp nat_cmp_total c.args.card.now.link.new_code (record { room = c.args.room; place = c.codes_issued-place.result }) c.self.inside.codes absent)
-    ∙ ap (λ cards. let rows : Rows = record { day = t.day; kinds = keys_of t.kinds; rooms = t.rooms.entries; codes = t.codes; stays = t.stays; cards = cards; inside = t.inside; notes = t.notes } in rows) c.in_default-push.ensures.err
+    ∙ ap (λ cards. let rows : Rows = record { day = t.day; kinds = keys_of t.kinds; rooms = t.rooms.entries; codes = t.codes; stays = t.stays; cards = cards; inside = t.inside; notes = t.notes; fits = t.fits.entries } in rows) c.in_default-push.ensures.err
     ∙ c.self.view_is
 
 pub issue_at-requires : goal.issue_at-requires

@@ -1,0 +1,45 @@
+use Rattle.std.proofs.Common.{◌&&◌, map, ap, sym, ◌∙◌}
+use Rattle.std.specs.List.{list_all}
+use Rattle.hotel_core.specs.Model.Words.{pair_cmp}
+use Rattle.hotel_core.specs.Model.SoundRooms.{are_in_order}
+use Rattle.hotel_rows.specs.Stored.{rows_of}
+use Rattle.hotel_rows.specs.Keys.{fit_key}
+use Rattle.hotel_rows.specs.RowTests.{has_room}
+use Rattle.hotel_rows.specs.FitRuns.{fitted_as_due}
+use Rattle.hotel_rows.proofs.OfDamage.FitsTogether.{fits_together}
+use Rattle.hotel_rows.proofs.damage.fits.fits_hold.Goals as goal
+
+pub returns-then-not-rise_in_pairs : goal.returns-then-not-rise_in_pairs
+returns-then-not-rise_in_pairs c =
+    let s = c.args.stored.now in
+    let runs = c.args.fits.now.runs.entries in
+    let order = c.rise_in_pairs.ensures ∙ ap (are_in_order pair_cmp)
+    (c.deref-2.ensures.value ∙ c.in_ok-keys.ensures ∙ ap (map fit_key) c.deref.ensures.value) in
+    sym (fits_together s runs c.requires.fits.runs
+    ∙ ap (λ b. b && list_all (has_room (rows_of s)) s.fits.items && list_all (fitted_as_due runs) s.rooms.items)
+    (sym order ∙ c.if-not-rise_in_pairs.true))
+
+pub returns-then-not-fits_have_rooms : goal.returns-then-not-fits_have_rooms
+returns-then-not-fits_have_rooms c =
+    let s = c.args.stored.now in
+    let runs = c.args.fits.now.runs.entries in
+    let order = c.rise_in_pairs.ensures ∙ ap (are_in_order pair_cmp)
+    (c.deref-2.ensures.value ∙ c.in_ok-keys.ensures ∙ ap (map fit_key) c.deref.ensures.value) in
+    sym (fits_together s runs c.requires.fits.runs
+    ∙ ap (λ b. b && list_all (has_room (rows_of s)) s.fits.items && list_all (fitted_as_due runs) s.rooms.items)
+    (sym order ∙ c.if-not-rise_in_pairs.false)
+    ∙ ap (λ b. b && list_all (fitted_as_due runs) s.rooms.items)
+    (sym c.fits_have_rooms.ensures ∙ c.if-not-fits_have_rooms.true))
+
+pub returns : goal.returns
+returns c =
+    let s = c.args.stored.now in
+    let runs = c.args.fits.now.runs.entries in
+    let order = c.rise_in_pairs.ensures ∙ ap (are_in_order pair_cmp)
+    (c.deref-2.ensures.value ∙ c.in_ok-keys.ensures ∙ ap (map fit_key) c.deref.ensures.value) in
+    c.rooms_are_fitted.ensures
+    ∙ sym (fits_together s runs c.requires.fits.runs
+    ∙ ap (λ b. b && list_all (has_room (rows_of s)) s.fits.items && list_all (fitted_as_due runs) s.rooms.items)
+    (sym order ∙ c.if-not-rise_in_pairs.false)
+    ∙ ap (λ b. b && list_all (fitted_as_due runs) s.rooms.items)
+    (sym c.fits_have_rooms.ensures ∙ c.if-not-fits_have_rooms.false))

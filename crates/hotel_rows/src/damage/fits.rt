@@ -1,0 +1,68 @@
+//! The rules of the table of fits.
+ghost use Rattle.std.specs.Prelude.{◌≡◌, IfOk};
+ghost use Rattle.std.specs.List.{list_all};
+ghost use Rattle.hotel_rows.specs.Stored.{rows_of};
+ghost use Rattle.hotel_rows.specs.Damage.{fit_holds};
+ghost use Rattle.hotel_rows.specs.FitRuns.{FitsOf, fitted_as_due};
+ghost use Rattle.hotel_rows.specs.Places.{AreOf};
+ghost use Rattle.hotel_rows.specs.RowTests.{has_room};
+
+use crate::damage::fit_runs::{RoomFits, is_fitted};
+use crate::damage::found::{Places, fit_keys, room_at};
+use crate::damage::numbers::{number, rise_in_pairs};
+use crate::stored::{PlainFit, Stored};
+use keycard_rules::Memory;
+use std::alloc::Global;
+
+fn has_room(places: &Places, stored: &Stored, fit: &PlainFit) -> bool
+    requires { AreOf places.now stored.now }
+    ensures { result ≡ has_room (rows_of stored.now) fit.now }
+{
+    room_at(places, stored, number(fit.room)).is_some()
+}
+
+/// Whether the room of each fit is there.
+pub(crate) fn fits_have_rooms(places: &Places, stored: &Stored) -> bool
+    requires { AreOf places.now stored.now }
+    ensures { result ≡ list_all (has_room (rows_of stored.now)) stored.now.fits.items }
+{
+    for i in 0..stored.fits.len() {
+        if !has_room(places, stored, &stored.fits[i]) {
+            return false;
+        }
+    }
+    true
+}
+
+/// Whether the fits of each room are as they must be.
+pub(crate) fn rooms_are_fitted(fits: &RoomFits, stored: &Stored) -> bool
+    ensures { result ≡ list_all (fitted_as_due fits.now.runs.entries) stored.now.rooms.items }
+{
+    for i in 0..stored.rooms.len() {
+        if !is_fitted(fits, &stored.rooms[i]) {
+            return false;
+        }
+    }
+    true
+}
+
+/// Whether the rules of the table of fits hold.
+pub(crate) fn fits_hold(
+    alloc: Global,
+    places: &Places,
+    stored: &Stored,
+    fits: &RoomFits,
+) -> Result<bool, Memory>
+    requires places { AreOf places.now stored.now }
+    requires fits { FitsOf fits.now stored.now.fits.items }
+    ensures { IfOk result (λ hold. hold ≡ fit_holds stored.now) }
+{
+    let keys = fit_keys(alloc, &stored.fits)?;
+    if !rise_in_pairs(&keys) {
+        return Ok(false);
+    }
+    if !fits_have_rooms(places, stored) {
+        return Ok(false);
+    }
+    Ok(rooms_are_fitted(fits, stored))
+}

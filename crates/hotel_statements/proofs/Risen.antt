@@ -1,0 +1,31 @@
+-- The keys of a desk's tables rise.
+use Rattle.std.proofs.Common.{◌≡◌, List, [], ◌∷◌, Less, Ordering, nat_cmp}
+use Rattle.std.specs.List.{AllByRecursion}
+use Rattle.std.specs.Map.{keys_of}
+use Rattle.std.proofs.lemmas.Cmp.{nat_cmp_total}
+use Rattle.sqlite.specs.Tree.{Trees, IsAscending}
+use Rattle.hotel_core.specs.Model.Words.{pair_cmp}
+use Rattle.hotel_core.proofs.OfTables.Pairs.{pair_cmp_total}
+use Rattle.hotel_core.proofs.OfTables.KeysInOrder.{AllAfter, InOrder}
+use Rattle.hotel_statements.specs.Tables.{AreTables, by_key, fits_in, bare_rooms_in, bare_notes_in}
+use Rattle.hotel_statements.proofs.Perm.{sort_rises}
+use Rattle.hotel_statements.proofs.Keyed.{key_total}
+
+pub rooms_rise : (db : Trees) → AreTables db → IsAscending (λ a b. by_key nat_cmp a b ≡ Less) (bare_rooms_in db)
+rooms_rise db t = sort_rises (by_key nat_cmp) (key_total nat_cmp_total) _ t.room.apart
+
+pub notes_rise : (db : Trees) → AreTables db → IsAscending (λ a b. by_key pair_cmp a b ≡ Less) (bare_notes_in db)
+notes_rise db t = sort_rises (by_key pair_cmp) (key_total pair_cmp_total) _ t.note.apart
+
+pub fits_rise : (db : Trees) → AreTables db → IsAscending (λ a b. by_key pair_cmp a b ≡ Less) (fits_in db)
+fits_rise db t = sort_rises (by_key pair_cmp) (key_total pair_cmp_total) _ t.fit.apart
+
+after : {K V : Type 0} (cmp : K → K → Ordering) (e : K × V) (es : List (K × V))
+    → AllByRecursion (λ b. by_key cmp e b ≡ Less) es → AllAfter cmp e.0 (keys_of es)
+after cmp e [] all = tt
+after cmp e (x ∷ es) all = (all.0, after cmp e es all.1)
+
+pub keys_rise : {K V : Type 0} (cmp : K → K → Ordering) (es : List (K × V))
+    → IsAscending (λ a b. by_key cmp a b ≡ Less) es → InOrder cmp (keys_of es)
+keys_rise cmp [] up = tt
+keys_rise cmp (e ∷ es) up = (after cmp e es up.0, keys_rise cmp es up.1)

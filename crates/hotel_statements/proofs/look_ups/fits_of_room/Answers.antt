@@ -1,0 +1,33 @@
+use Rattle.std.proofs.Common.{[], ◌∷◌, IfOk}
+use Rattle.std.proofs.lemmas.Result.{IfOk-weaker}
+use Rattle.sqlite.specs.Query.{Query}
+use Rattle.sqlite.specs.Held.{state}
+use Rattle.hotel_statements.specs.Values.{int}
+use Rattle.hotel_statements.specs.Columns.{fit_row_of}
+use Rattle.hotel_statements.specs.Books.{IsKept}
+use Rattle.hotel_statements.specs.LookUps.{Asks, AnswersAll}
+use Rattle.hotel_statements.specs.Texts as text
+use Rattle.hotel_statements.proofs.Statements.Selects as selects
+use Rattle.hotel_statements.proofs.ByRoom.{fits_find}
+use Rattle.hotel_statements.proofs.look_ups.fits_of_room.Goals as goal
+
+pub look_all-requires-clause-asks : goal.look_all-requires-clause-asks
+look_all-requires-clause-asks g c = (_, selects.select_fits)
+
+pub returns : goal.returns
+returns g c =
+    let old = state g.S.Store c.args.conn.now in
+    let new = state g.S.Store c.look_all.new.conn in
+    let shown : IsKept new → (p : Query) → Asks text.select_fits p
+    → IfOk c.look_all.result (λ all. AnswersAll fit_row_of p (int c.args.room ∷ []) old.now.trees all.items) =
+    rw (c.small.ensures, c.value.ensures.same) at c.look_all.ensures.found in
+    record {
+      books = c.look_all.ensures.books;
+      keeps = c.look_all.ensures.keeps;
+      found = λ kept. IfOk-weaker c.look_all.result _ _
+          (λ all a. fits_find old.now.trees (c.requires.desk (c.look_all.ensures.keeps kept).0).tables c.args.room
+          all.items a)
+          (shown kept _ selects.select_fits);
+      open_on = c.look_all.ensures.open_on;
+      crash = c.look_all.ensures.crash;
+    }

@@ -1,0 +1,48 @@
+-- What is counted beside the connection, and what a walk over it hands over, said of the books' rows.
+use Rattle.std.proofs.Common.{◌≡◌, ◌-◌, ℕ, List, Option, Result, sym, ap, subst, ◌∙◌}
+use Rattle.std.specs.Map.{values_of}
+use Rattle.sqlite.specs.Held.{Held}
+use Rattle.sqlite.specs.State.{State}
+use Rattle.hotel_nights.specs.declared.stay.Stay.{Stay}
+use Rattle.hotel_nights.specs.FullNight.{is_full, first_day}
+use Rattle.hotel_core.specs.declared.books.walks.WalkFault.{WalkFault}
+use Rattle.hotel_core.specs.Model.Rows.{Rows}
+use Rattle.hotel_core.specs.Books.Lookups.{first_full_on, rooms_of_kind}
+use Rattle.hotel_core.specs.Books.Walks.{Hands}
+use Rattle.hotel_core.specs.KindRooms.{rooms_in}
+use Rattle.hotel_core.specs.NightIndex.{CountsNights}
+use Rattle.hotel_statements.specs.Books.{IsKept}
+use Rattle.hotel_statements.specs.Tables.{rows_in as all_rows_in}
+use Rattle.hotel_tables.specs.TableBooks.{Tabled, IsCounted}
+
+module _ {S : Type 0} (shown : Held S → State) (inside self : Tabled S) (same : inside ≡ self) where
+  -- the rows that the tables have
+  abbrev rows_by : Tabled S → Rows
+  rows_by b = all_rows_in (shown b.conn).now.trees
+
+  -- the first full night, by the counts that stand beside the connection
+  pub night_found : (kind : List ℕ) (rooms arrive depart : ℕ) (found : Option ℕ)
+      → (IsKept (shown inside.conn) → IsCounted inside.kinds inside.nights (rows_by inside))
+      → rooms ≡ rooms_in inside.kinds kind
+      → ((stays : List Stay) → CountsNights inside.nights stays
+      → found ≡ first_day (is_full stays kind rooms) arrive (depart - arrive))
+      → IsKept (shown self.conn) → found ≡ first_full_on (rows_by self) kind arrive (depart - arrive)
+  night_found kind rooms arrive depart found counted many found_is kept =
+      let stays = values_of (rows_by inside).stays in
+      let c = counted (subst (λ (b : Tabled S). IsKept (shown b.conn)) (sym same) kept) in
+      let as_many : rooms ≡ rooms_of_kind (rows_by inside) kind = many ∙ c.rooms kind in
+      found_is stays c.stays ∙ ap (λ n. first_day (is_full stays kind n) arrive (depart - arrive)) as_many
+      ∙ ap (λ (b : Tabled S). first_full_on (rows_by b) kind arrive (depart - arrive)) same
+
+  -- the rows of a list that a walk handed over, after which its end was counted
+  pub handed_over : {K R : Type 0} (after after_stop : K → R → K → Type 0) (list : Rows → List R) (conn : Held S)
+      (new : Tabled S) (sink end : K) (walked result : Result (Unit {0}) WalkFault) → new.conn ≡ conn → result ≡ walked
+      → (handed : List R) × Hands after after_stop handed sink end walked
+      × (IsKept (shown conn) → handed ≡ list (rows_by inside))
+      → (handed : List R) × Hands after after_stop handed sink end result
+      × (IsKept (shown new.conn) → handed ≡ list (rows_by self))
+  handed_over after after_stop list conn new sink end walked result at is h = (
+    h.0,
+    subst (λ (r : Result (Unit {0}) WalkFault). Hands after after_stop h.0 sink end r) (sym is) h.1,
+    λ kept. h.2 (subst (λ (c : Held S). IsKept (shown c)) at kept) ∙ ap (λ (b : Tabled S). list (rows_by b)) same,
+  )
