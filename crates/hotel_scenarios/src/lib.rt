@@ -5,6 +5,7 @@ pub mod chains;
 pub mod desks;
 pub mod line_asks;
 pub mod many_rows;
+pub mod replaced_locks;
 pub mod rooms_now;
 pub mod scenario_runs;
 pub mod scenarios;

@@ -1,9 +1,11 @@
-//! Look-ups that no command makes: those that answer several rows, and the number of a kind's rooms.
+//! Look-ups that no command makes: those that answer several rows, the number of a kind's rooms, and a room's locks with
+//! the notes of each.
 use crate::desks::{Desk, room};
+use crate::replaced_locks::REPLACED_LOCK;
 use crate::scenarios::{CHECKED_IN, OPENED, SPARE_KEEPS_ROOM_OPEN};
-use hotel_core::Books;
+use hotel_core::{Books, FitRow};
 use hotel_nights::{Day, Guest, KindCode, Stay, StayState};
-use keycard_rules::{CardNo, PartyNo};
+use keycard_rules::{Act, CardNo, Code, Count, FitNo, Link, LockNote, PartyNo};
 use std::alloc::Global;
 use std::test::Fail;
 
@@ -59,4 +61,84 @@ pub fn many_rows_are_found<B: Books + Drop>(alloc: Global, books: B) -> Result<b
     let are_counted = rooms_are_counted(&mut desk.books)?;
     let are_found = stays_are_found(alloc, &mut desk.books)? && insides_are_found(&mut desk.books)?;
     Ok(are_counted && are_found)
+}
+
+fn fit(number: u32) -> Result<FitNo, Fail> {
+    Ok(FitNo::new(number).ok_or("a fit")?)
+}
+
+/// The lock of a room of this number.
+fn lock<B: Books>(books: &mut B, its_room: u32, number: u32) -> Result<Option<FitRow>, Fail> {
+    Ok(books.fit(room(its_room)?, fit(number)?)?)
+}
+
+/// The note of this count of a lock of a room.
+fn note<B: Books>(
+    books: &mut B,
+    its_room: u32,
+    number: u32,
+    count: u32,
+) -> Result<Option<LockNote>, Fail> {
+    let count = Count::new(count).ok_or("a count")?;
+    Ok(books.note(room(its_room)?, fit(number)?, count)?)
+}
+
+/// The lock of room 101 of this number, whose first code stands at this place, behind so many notes.
+fn lock_of(number: u32, place: u32, before: u32) -> Result<FitRow, Fail> {
+    Ok(FitRow {
+        room: room(101)?,
+        fit: fit(number)?,
+        place,
+        before,
+    })
+}
+
+/// The first note of a lock of room 101: the entry of this card, whose codes are these, on 2031-05-01 at 15:00:00.
+fn entry_of(number: u32, card: u32, old_code: u64, new_code: u64) -> Result<LockNote, Fail> {
+    let link = Link {
+        old_code: Code::new(old_code).ok_or("a code")?,
+        new_code: Code::new(new_code).ok_or("a code")?,
+    };
+    let card = CardNo::new(card).ok_or("a card")?;
+    let count = Count::new(1).ok_or("a count")?;
+    let act = Act::Entered { card, link };
+    let entry = LockNote::new(room(101)?, fit(number)?, count, act, 11_443, 54_000);
+    Ok(entry.ok_or("a note")?)
+}
+
+/// Whether each lock of room 101 is found, and no other.
+fn locks_are_found<B: Books>(books: &mut B) -> Result<bool, Fail> {
+    let are_found = lock(books, 101, 1)? == Some(lock_of(1, 0, 0)?)
+        && lock(books, 101, 2)? == Some(lock_of(2, 2, 1)?);
+    let others = [
+        lock(books, 101, 3)?,
+        lock(books, 101, 99)?,
+        lock(books, 102, 1)?,
+    ];
+    Ok(are_found && others == [None; 3])
+}
+
+/// Whether the one note of each lock of room 101 is found, and no other.
+fn notes_are_found<B: Books>(books: &mut B) -> Result<bool, Fail> {
+    let are_found = note(books, 101, 1, 1)? == Some(entry_of(1, 1, 0xa0, 0xa1)?)
+        && note(books, 101, 2, 1)? == Some(entry_of(2, 2, 0xa2, 0xa3)?);
+    let others = [
+        note(books, 101, 1, 2)?,
+        note(books, 101, 2, 2)?,
+        note(books, 101, 3, 1)?,
+        note(books, 101, 1, 9_999_999)?,
+        note(books, 102, 1, 1)?,
+    ];
+    Ok(are_found && others == [None; 5])
+}
+
+/// Over these empty books, scenario `replaced-lock`: whether each lock of the room is found, with its first code's place
+/// and the number of notes before it, and so is each note by its lock and count; and what the room's row says of them.
+pub fn locks_and_notes_are_found<B: Books + Drop>(alloc: Global, books: B) -> Result<bool, Fail> {
+    let mut desk = Desk::over(alloc, books, &[0xa0, 0xa1, 0xa2, 0xa3])?;
+    desk.goes_through(&[OPENED, CHECKED_IN, REPLACED_LOCK])?;
+    let row = desk.books.room(room(101)?)?.ok_or("no row")?;
+    let is_last = row.fit == fit(2)? && row.before == 1 && row.notes == 2;
+    let are_found = locks_are_found(&mut desk.books)? && notes_are_found(&mut desk.books)?;
+    Ok(is_last && are_found)
 }

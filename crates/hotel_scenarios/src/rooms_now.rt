@@ -1,8 +1,8 @@
 //! What the books say of room 101, and what an audit file's lines are answered.
 use crate::desks::room;
 use hotel_audit::{LineAnswer, answer_text, import};
-use hotel_core::Books;
-use keycard_rules::{CardNo, Code, Count, LockNote, PartyNo, RoomNo};
+use hotel_core::{Books, FitRow};
+use keycard_rules::{CardNo, Code, Count, FitNo, LockNote, PartyNo, RoomNo};
 use std::alloc::Global;
 use std::test::Fail;
 
@@ -14,6 +14,7 @@ pub struct RoomNow {
     pub party: Option<PartyNo>,
     pub codes: Vec<Code>,
     pub inside: Vec<CardNo>,
+    pub fits: Vec<FitRow>,
     pub notes: Vec<LockNote>,
 }
 
@@ -31,17 +32,49 @@ fn codes_of<B: Books>(
     Ok(codes)
 }
 
-/// The room's first notes, so many.
-fn notes_of<B: Books>(
+/// The room's locks up to this one.
+fn fits_of<B: Books>(
     alloc: Global,
     books: &mut B,
     room: RoomNo,
+    last: FitNo,
+) -> Result<Vec<FitRow>, Fail> {
+    let mut fits = Vec::new(alloc);
+    for number in 1..=last.value() {
+        let fit = FitNo::new(number).ok_or("no lock")?;
+        fits.push(books.fit(room, fit)?.ok_or("no fit")?)?;
+    }
+    Ok(fits)
+}
+
+/// Appends the first notes of a lock, so many.
+fn push_notes<B: Books>(
+    books: &mut B,
+    lock: &FitRow,
     most: u32,
-) -> Result<Vec<LockNote>, Fail> {
-    let mut notes = Vec::new(alloc);
+    notes: &mut Vec<LockNote>,
+) -> Result<(), Fail> {
     for earlier in 0..most {
         let count = Count::new(earlier.saturating_add(1)).ok_or("no count")?;
-        notes.push(books.note(room, count)?.ok_or("no note")?)?;
+        notes.push(books.note(lock.room, lock.fit, count)?.ok_or("no note")?)?;
+    }
+    Ok(())
+}
+
+/// The notes of these locks, which are so many.
+fn notes_of<B: Books>(
+    alloc: Global,
+    books: &mut B,
+    fits: &[FitRow],
+    all: u32,
+) -> Result<Vec<LockNote>, Fail> {
+    let mut notes = Vec::new(alloc);
+    for (at, lock) in fits.iter().enumerate() {
+        let end = match fits.get(at.saturating_add(1)) {
+            Some(next) => next.before,
+            None => all,
+        };
+        push_notes(books, lock, end.saturating_sub(lock.before), &mut notes)?;
     }
     Ok(notes)
 }
@@ -59,7 +92,8 @@ impl RoomNow {
         let room = room(101)?;
         let row = books.room(room)?.ok_or("no row")?;
         let codes = codes_of(alloc, books, room, row.codes)?;
-        let notes = notes_of(alloc, books, room, row.notes)?;
+        let fits = fits_of(alloc, books, room, row.fit)?;
+        let notes = notes_of(alloc, books, fits.as_slice(), row.notes)?;
         let inside = books.inside(room)?;
         Ok(RoomNow {
             lock_place: row.lock_place,
@@ -67,6 +101,7 @@ impl RoomNow {
             party: row.party,
             codes,
             inside,
+            fits,
             notes,
         })
     }

@@ -42,6 +42,13 @@ impl<B: Walks> Desk<B> {
         }
     }
 
+    /// Whether a line of a script is answered so.
+    pub fn answers(&mut self, line: &[u8], answer: &[u8]) -> Result<bool, Fail> {
+        let mut writer = Vec::new(self.alloc);
+        self.line(line, &mut writer)?;
+        Ok(writer.as_slice() == answer)
+    }
+
     /// Answers a list, as a script's line says it.
     pub fn list(
         &mut self,

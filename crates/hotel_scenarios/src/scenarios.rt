@@ -261,44 +261,6 @@ pub const LOST_CARD: &[Step] = &[
     Step::Line(b"reissue 1", b"refused 9 NotInHouse\n"),
 ];
 
-/// A room without a second lock has no notes of one. Its first lock is meant with its number or without it.
-pub const LATER_LOCK: &[Step] = &[
-    Step::Line(
-        b"entered 101/2 1 1 a0 a1 2031-05-01T15:00:00",
-        b"refused 32 NoFit\n",
-    ),
-    Step::Line(b"entered 101/1 1 1 a0 a1 2031-05-01T15:00:00", b"taken\n"),
-    Step::Line(b"entered 101 1 1 a0 a1 2031-05-01T15:00:00", b"seen\n"),
-    Step::Line(
-        b"entered 101/2 1 1 a0 a1 2031-05-01T15:00:00",
-        b"refused 32 NoFit\n",
-    ),
-    Step::Line(
-        b"left 101/2 3 1 a0 a1 2031-05-01T15:00:00",
-        b"refused 32 NoFit\n",
-    ),
-    Step::Line(
-        b"recoded 101/99 2 a1 a0 2031-05-01T15:00:00",
-        b"refused 32 NoFit\n",
-    ),
-    Step::Line(
-        b"entered 102/2 1 1 a0 a1 2031-05-01T15:00:00",
-        b"refused 6 NoRoom\n",
-    ),
-    Step::Line(b"left 101/01 2 1 a0 a1 2031-05-01T15:00:00", b"taken\n"),
-    Step::Line(b"entered 101/ 3 1 a0 a1 2031-05-01T15:00:00", b"unread\n"),
-    Step::Line(b"left 101/0 3 1 a0 a1 2031-05-01T15:00:00", b"unread\n"),
-    Step::Line(b"recoded 101/100 3 a1 a0 2031-05-01T15:00:00", b"unread\n"),
-    Step::Line(
-        b"audit-of 101",
-        b"\
-room,fit,count,kind,card,old,new,at
-101,1,1,in,1,0000000000a0,0000000000a1,2031-05-01T15:00:00
-101,1,2,out,1,0000000000a0,0000000000a1,2031-05-01T15:00:00
-",
-    ),
-];
-
 /// The same notes again are seen.
 pub const AUDIT_TWICE: &[Step] = &[Step::Audit(TWO_NOTES, b"1 seen\n2 seen\n", 0)];
 
@@ -601,7 +563,7 @@ pub const WORDS_AND_EMPTIES: &[Step] = &[
 ];
 
 /// What locks do.
-pub static OF_LOCKS: [Scenario; 8] = [
+pub static OF_LOCKS: [Scenario; 7] = [
     Scenario {
         name: "two-entries",
         codes: &[0xa0, 0xa1],
@@ -657,12 +619,6 @@ pub static OF_LOCKS: [Scenario; 8] = [
             AFTER_TWO_ENTRIES,
             NOTE_REFUSALS,
         ],
-    },
-    Scenario {
-        name: "later-lock",
-        codes: &[0xa0],
-        last: 0xa1,
-        parts: &[OPENED, CHECKED_IN, LATER_LOCK],
     },
 ];
 

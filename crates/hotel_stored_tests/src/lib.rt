@@ -4,6 +4,8 @@
 #[cfg(test)]
 mod connections;
 #[cfg(test)]
+mod damaged_fits;
+#[cfg(test)]
 mod stored_rows;
 #[cfg(test)]
 mod tables;

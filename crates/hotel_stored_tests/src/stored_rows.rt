@@ -1,6 +1,6 @@
 //! The rows of a desk's tables, read by statements of the tests' own.
 use hotel_rows::{
-    PlainCard, PlainCode, PlainInside, PlainKind, PlainNote, PlainRoom, PlainStay, Stored,
+    PlainCard, PlainCode, PlainFit, PlainInside, PlainKind, PlainNote, PlainRoom, PlainStay, Stored,
 };
 use sqlite::{Alter, Connection, Error, Row};
 use std::alloc::Global;
@@ -90,6 +90,17 @@ impl OfRow for PlainNote {
     }
 }
 
+impl OfRow for PlainFit {
+    fn of_row(row: &Row) -> Result<PlainFit, Error> {
+        Ok(PlainFit {
+            room: row.get(0)?,
+            fit: row.get(1)?,
+            place: row.get(2)?,
+            before: row.get(3)?,
+        })
+    }
+}
+
 /// The rows that a statement shows.
 fn rows<L: OfRow + Drop, S: Alter>(
     alloc: Global,
@@ -103,7 +114,7 @@ fn rows<L: OfRow + Drop, S: Alter>(
     Ok(rows)
 }
 
-/// The rows of the eight tables.
+/// The rows of the nine tables.
 pub(crate) fn stored<S: Alter>(alloc: Global, conn: &mut Connection<S>) -> Result<Stored, Fail> {
     let meta = conn.query_row("SELECT version, day FROM meta WHERE id = 1", &[])?;
     Ok(Stored {
@@ -116,10 +127,11 @@ pub(crate) fn stored<S: Alter>(alloc: Global, conn: &mut Connection<S>) -> Resul
         cards: rows(alloc, conn, "SELECT * FROM card ORDER BY number")?,
         inside: rows(alloc, conn, "SELECT * FROM inside ORDER BY room, card")?,
         notes: rows(alloc, conn, "SELECT * FROM note ORDER BY room, n")?,
+        fits: rows(alloc, conn, "SELECT * FROM fit ORDER BY room, fit")?,
     })
 }
 
-/// The rows of the eight tables as a text.
+/// The rows of the nine tables as a text.
 pub(crate) fn rows_text<S: Alter>(alloc: Global, conn: &mut Connection<S>) -> Result<String, Fail> {
     let stored = stored(alloc, conn)?;
     Ok(format!(in alloc; "{stored:?}")?)

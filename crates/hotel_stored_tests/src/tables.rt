@@ -4,6 +4,8 @@ use crate::stored_rows::{rows_text, stored};
 use hotel_rows::{TableName, first_damaged};
 use hotel_scenarios::chains::{TWO_CODES, chain_reads, walks_end};
 use hotel_scenarios::desks::Desk;
+use hotel_scenarios::replaced_locks::REPLACED_LOCK;
+use hotel_scenarios::scenario_runs::desk_of;
 use hotel_scenarios::scenarios::{
     CHECKED_IN, LEFT_BEHIND_RECODED, NEXT_CHECKED_IN, OPENED, Step, TWO_ENTRIES,
 };
@@ -17,22 +19,25 @@ use std::test::Fail;
 const TWO_ENTRIES_MADE: &[&[Step]] = &[OPENED, CHECKED_IN, TWO_ENTRIES];
 
 /// The codes that the source of these desks gives.
-const CODES: &[u64] = &[0xa0, 0xa1, 0xa2];
+const CODES: &[u64] = &[0xa0, 0xa1, 0xa2, 0xa3, 0xa4];
 
 /// A desk over tables behind these parts.
-fn tables_behind(alloc: Global, parts: &[&[Step]]) -> Result<TableBooks<MemStore>, Fail> {
+pub(crate) fn tables_behind(
+    alloc: Global,
+    parts: &[&[Step]],
+) -> Result<TableBooks<MemStore>, Fail> {
     let mut desk = Desk::over(alloc, new_tables(alloc)?, CODES)?;
     desk.goes_through(parts)?;
     Ok(desk.books)
 }
 
 /// Changes the tables of a closed desk.
-fn change<S: Alter>(conn: &mut Connection<S>, statement: &str) -> Result<usize, Error> {
+pub(crate) fn change<S: Alter>(conn: &mut Connection<S>, statement: &str) -> Result<usize, Error> {
     conn.execute(statement, &[])
 }
 
 /// The fault of an opening.
-fn fault_of<S: Alter + Drop>(alloc: Global, conn: Connection<S>) -> Option<OpenFault> {
+pub(crate) fn fault_of<S: Alter + Drop>(alloc: Global, conn: Connection<S>) -> Option<OpenFault> {
     match opened(alloc, conn) {
         Ok(_) => None,
         Err(fault) => Some(fault),
@@ -40,7 +45,7 @@ fn fault_of<S: Alter + Drop>(alloc: Global, conn: Connection<S>) -> Option<OpenF
 }
 
 /// The first damaged table of the rows that the connection has.
-fn damaged_in<S: Alter>(
+pub(crate) fn damaged_in<S: Alter>(
     alloc: Global,
     conn: &mut Connection<S>,
 ) -> Result<Option<TableName>, Fail> {
@@ -89,6 +94,46 @@ fn opens_again<R: Abort + AllocGlobal>(
     Ok(books)
 }
 
+/// The rows of the table of fits: the room, the number, the place and the notes before it of each.
+fn fits_in<S: Alter>(
+    alloc: Global,
+    conn: &mut Connection<S>,
+) -> Result<Vec<(i64, i64, i64, i64)>, Fail> {
+    let mut fits = Vec::new(alloc);
+    for fit in &stored(alloc, conn)?.fits {
+        fits.push((fit.room, fit.fit, fit.place, fit.before))?;
+    }
+    Ok(fits)
+}
+
+/// Books with two locks of a room are closed and opened again: their rows are as they were, those of the locks too, and
+/// the notes of both are known.
+#[test]
+fn reopened_locks(rt: HostRuntime) -> Result<(), Fail> {
+    let books = tables_behind(rt.alloc(), &[OPENED, CHECKED_IN, REPLACED_LOCK])?;
+    let mut conn = keeps_rows(&rt, books)?;
+    let fits = fits_in(rt.alloc(), &mut conn)?;
+    assert!(rt; fits.as_slice() == [(101, 1, 0, 0), (101, 2, 2, 1)].as_slice());
+    let mut desk = desk_of(rt.alloc(), opened(rt.alloc(), conn)?, &[], 0xa4)?;
+    for (line, answer) in &REOPENED {
+        assert!(rt; desk.answers(line, answer)?);
+    }
+    Ok(())
+}
+
+/// What is asked of the opened desk, and its answers.
+static REOPENED: [(&[u8], &[u8]); 6] = [
+    (b"entered 101 1 1 a0 a1 2031-05-01T15:00:00", b"seen\n"),
+    (b"entered 101/2 1 2 a2 a3 2031-05-01T15:00:00", b"seen\n"),
+    (
+        b"left 101 2 1 a0 a1 2031-05-01T15:00:00",
+        b"refused 31 OldFit\n",
+    ),
+    (b"left 101/2 2 2 a2 a3 2031-05-01T15:00:00", b"taken\n"),
+    (b"check-out 2", b"checked out\n"),
+    (b"refit 101", b"lock 3 code 0000000000a4\n"),
+];
+
 /// No desk is made where one is.
 fn is_made_once<R: Abort + AllocGlobal>(rt: &R, conn: Connection<MemStore>) {
     let again = match created(rt.alloc(), conn) {
@@ -105,5 +150,26 @@ fn reopened_tables(rt: HostRuntime) -> Result<(), Fail> {
     is_made_once(&rt, tables_behind(rt.alloc(), &[OPENED])?.close());
     let bare = Connection::open_in_memory(rt.alloc())?;
     assert!(rt; fault_of(rt.alloc(), bare) == Some(OpenFault::NotADesk));
+    Ok(())
+}
+
+/// Statements after which the tables are those of no desk: of another version, of the second without the table of fits,
+/// of the first with it and without it.
+static NO_DESKS: [&[&str]; 4] = [
+    &["UPDATE meta SET version = 3"],
+    &["DROP TABLE fit"],
+    &["UPDATE meta SET version = 1"],
+    &["DROP TABLE fit", "UPDATE meta SET version = 1"],
+];
+
+#[test]
+fn no_desks(rt: HostRuntime) -> Result<(), Fail> {
+    for statements in &NO_DESKS {
+        let mut conn = tables_behind(rt.alloc(), TWO_ENTRIES_MADE)?.close();
+        for statement in *statements {
+            change(&mut conn, statement)?;
+        }
+        assert!(rt; fault_of(rt.alloc(), conn) == Some(OpenFault::NotADesk));
+    }
     Ok(())
 }

@@ -186,7 +186,7 @@ fn each_call_of_a_list_fails(rt: HostRuntime) -> Result<(), Fail> {
 }
 
 /// The refusal that a script has where a call of the books failed for this cause.
-fn refusal_of(cause: LookFault) -> &'static [u8] {
+pub(crate) fn refusal_of(cause: LookFault) -> &'static [u8] {
     match cause {
         LookFault::Memory => b"refused 29 Memory\n",
         LookFault::Store => b"refused 30 Store\n",

@@ -19,6 +19,8 @@ mod requests;
 #[cfg(test)]
 mod stopped_imports;
 #[cfg(test)]
+mod stopped_refits;
+#[cfg(test)]
 mod stops;
 #[cfg(test)]
 mod value_readers;

@@ -2,14 +2,22 @@
 
 use hotel_audit::{AuditFault, ImportFault, LineAnswer, import};
 use hotel_core::StoppingBooks;
-use hotel_scenarios::desks::Desk;
-use hotel_scenarios::sent_again::{CUT, Sent, TWICE, TWICE_WITH_FITS, comes_again};
+use hotel_scenarios::sent_again::{
+    CUT, LATE, REPLACED_TWICE, Sent, TWICE, TWICE_WITH_FITS, comes_again,
+};
 use keycard_rules::LookFault;
 use std::process::Abort;
 use std::test::Fail;
 
-/// How many lines were answered, where an import ended so; by the first of the two a note was taken.
-fn lines_answered<A: Abort>(rt: &A, end: Result<Vec<LineAnswer>, ImportFault>) -> usize {
+/// More calls of the books than an import of one of these files makes.
+const MOST_CALLS: u64 = 60;
+
+/// How many lines were answered, where an import of this file ended so; and it says whether a note of these was taken.
+fn lines_answered<A: Abort>(
+    rt: &A,
+    sent: &Sent,
+    end: Result<Vec<LineAnswer>, ImportFault>,
+) -> usize {
     match end {
         Ok(answers) => answers.len(),
         Err(ImportFault::File(why)) => {
@@ -17,8 +25,7 @@ fn lines_answered<A: Abort>(rt: &A, end: Result<Vec<LineAnswer>, ImportFault>) -
             0
         }
         Err(ImportFault::Memory { answered, taken } | ImportFault::Store { answered, taken }) => {
-            assert!(rt; answered < 2);
-            assert!(rt; taken == (answered > 0));
+            assert!(rt; sent.stops_behind(answered, taken));
             answered
         }
     }
@@ -50,10 +57,10 @@ fn cause_of(end: &Result<Vec<LineAnswer>, ImportFault>) -> Option<LookFault> {
     }
 }
 
-/// The import ended well, or by this cause; fewer than 20 calls are made.
+/// The import ended well, or by this cause; fewer calls are made than the most.
 fn ended_by<A: Abort>(rt: &A, ended: Option<LookFault>, cause: LookFault, call: u64) {
     if let Some(why) = ended {
-        assert!(rt; why == cause && call < 20);
+        assert!(rt; why == cause && call < MOST_CALLS);
     }
 }
 
@@ -62,11 +69,11 @@ fn ended_by<A: Abort>(rt: &A, ended: Option<LookFault>, cause: LookFault, call: 
 fn stopped_at(
     rt: &(impl Abort + AllocGlobal),
     books: &mut StoppingBooks,
-    file: &[u8],
+    sent: &Sent,
     cause: LookFault,
     call: u64,
 ) -> Option<usize> {
-    let end = import(rt.alloc(), books, file);
+    let end = import(rt.alloc(), books, sent.file);
     let ended = cause_of(&end);
     assert!(rt; counts(books) == counts_of(ended));
     ended_by(rt, ended, cause, call);
@@ -74,7 +81,7 @@ fn stopped_at(
         return None;
     }
     assert!(rt; ended.is_some());
-    Some(lines_answered(rt, end))
+    Some(lines_answered(rt, sent, end))
 }
 
 /// Imports the file into books of which this call fails, and sends it again where it was stopped.
@@ -84,9 +91,9 @@ fn stops_at_call(
     cause: LookFault,
     call: u64,
 ) -> Result<(), Fail> {
-    let books = Desk::of_one_guest(rt.alloc())?.books;
+    let books = sent.desk(rt.alloc())?.books;
     let mut books = StoppingBooks::new(books, call, cause);
-    match stopped_at(rt, &mut books, sent.file, cause, call) {
+    match stopped_at(rt, &mut books, sent, cause, call) {
         Some(answered) => {
             let again = comes_again(rt.alloc(), &mut books, sent, answered)?;
             assert!(rt; again);
@@ -98,15 +105,25 @@ fn stops_at_call(
 
 /// Each call of the books fails in turn, for want of memory or by the store; the answered lines stand. Then the file is
 /// sent again.
-#[test]
-fn failed_calls_of_the_books(rt: HostRuntime) -> Result<(), Fail> {
-    for call in 1..21u64 {
-        stops_at_call(&rt, &TWICE, LookFault::Memory, call)?;
-        stops_at_call(&rt, &TWICE, LookFault::Store, call)?;
-        stops_at_call(&rt, &TWICE_WITH_FITS, LookFault::Memory, call)?;
-        stops_at_call(&rt, &TWICE_WITH_FITS, LookFault::Store, call)?;
-        stops_at_call(&rt, &CUT, LookFault::Memory, call)?;
-        stops_at_call(&rt, &CUT, LookFault::Store, call)?;
+fn stops_in_turn(rt: &(impl Abort + AllocGlobal), sent: &Sent) -> Result<(), Fail> {
+    for call in 1..=MOST_CALLS {
+        stops_at_call(rt, sent, LookFault::Memory, call)?;
+        stops_at_call(rt, sent, LookFault::Store, call)?;
     }
     Ok(())
+}
+
+#[test]
+fn failed_calls_of_the_books(rt: HostRuntime) -> Result<(), Fail> {
+    for sent in [&TWICE, &TWICE_WITH_FITS, &CUT] {
+        stops_in_turn(&rt, sent)?;
+    }
+    Ok(())
+}
+
+/// The same of files with notes of a lock that was replaced.
+#[test]
+fn failed_calls_behind_a_refit(rt: HostRuntime) -> Result<(), Fail> {
+    stops_in_turn(&rt, &REPLACED_TWICE)?;
+    stops_in_turn(&rt, &LATE)
 }
