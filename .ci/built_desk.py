@@ -117,6 +117,21 @@ class Desk:
         self.begun(script)
         return shutil.copy(self.db, self.folder / name)
 
+    def edited(self, statements):
+        """The database as these statements of another program leave it."""
+        with sqlite3.connect(self.db) as db:
+            db.executescript(statements)
+        db.close()
+
+    def at_last_fit_but_one(self):
+        """A database on which room 101 has its 98th lock: card 1 is inside, and no party is there. The codes of the
+        earlier locks are 1 to 97."""
+        self.begun(CHECKED_IN + f"entered 101 1 1 {FIRST} {SECOND} 2031-05-01T15:00:00\ncheck-out 1\n".encode())
+        earlier = "".join(f"INSERT INTO code VALUES ({number}, 101, {number - 1});"
+                          f"INSERT INTO fit VALUES (101, {number}, {number - 1}, 0);" for number in range(1, 98))
+        self.edited("UPDATE code SET place = place + 97; UPDATE room SET codes = 99, lock_place = 98; DELETE FROM fit;"
+                    + earlier + "INSERT INTO fit VALUES (101, 98, 97, 0)")
+
     def rows(self):
         """The tables of the database and their rows, as another program finds them in its file and its log."""
         for file in self.folder.glob("read.db*"):

@@ -140,6 +140,7 @@ SCRIPTS = {
     "notes": lambda: notes(13000, 300),
     "crowd": lambda: crowd(9000),
     "spares": lambda: full_house(1)[0] + ["spare 1"] * 80000,
+    "refits": lambda: opened(1, 200)[0] + [f"refit {turn % 200 + 1}" for turn in range(19600)],
     "lost_cards": lambda: full_house(300)[0] + [f"reissue {turn % 300 + 1}" for turn in range(20000)],
     "in_house": lambda: full_house(300)[0] + ["in-house"] * 300,
     "arrivals": lambda: bookings(300, 1, 300, 1) + [f"arrivals {FIRST}"] * 300,
