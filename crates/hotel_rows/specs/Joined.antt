@@ -1,10 +1,11 @@
 -- The rows of rooms and notes, joined with the fits of their rooms: their tables have no columns for these.
-use Rattle.std.specs.Prelude.{ℕ, ◌-◌, List, Option, filter, nat_lt}
+use Rattle.std.specs.Prelude.{ℕ, ◌-◌, List, Option, map, filter, nat_lt}
 use Rattle.keycard_rules.specs.Note.{Note}
 use Rattle.hotel_core.specs.declared.books.rows.RoomRow.{RoomRow}
 use Rattle.hotel_core.specs.declared.books.rows.FitRow.{FitRow}
 use Rattle.hotel_core.specs.Model.Words.{said_of}
-use Rattle.hotel_core.specs.Model.Rows.{fits_at, last_fit}
+use Rattle.hotel_core.specs.Model.Rows.{Rows, fits_at, last_fit}
+use Rattle.hotel_core.specs.Model.Refits.{fit_row}
 
 -- a room's row with the number of its last fit and how many notes were taken before that; as it stands without one
 abbrev pub with_last : Option FitRow → RoomRow → RoomRow
@@ -27,3 +28,12 @@ with_count of n note =
 -- a note's entry with its fit and count, its number being that among all notes of the room
 abbrev pub under_fit : List ((ℕ × ℕ) × FitRow) → (ℕ × ℕ) × Note → (ℕ × ℕ) × Note
 under_fit fits e = (e.0, with_count (fit_of_number (fits_at fits e.0.0) e.0.1) e.0.1 e.1)
+
+-- rows whose rooms and notes are joined with these fits
+abbrev pub joined : List ((ℕ × ℕ) × FitRow) → Rows → Rows
+joined fits rows =
+    record rows { rooms = map (with_fit fits) rows.rooms; notes = map (under_fit fits) rows.notes; fits = fits }
+
+-- the fits of rooms of which each has the one that it began with
+abbrev pub first_fits : List (ℕ × RoomRow) → List ((ℕ × ℕ) × FitRow)
+first_fits rooms = map (λ e. ((e.0, 1), fit_row e.0 1 0 0)) rooms

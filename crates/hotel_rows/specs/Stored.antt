@@ -125,9 +125,17 @@ note_entry plain = ((number_of plain.room, number_of plain.n), note_row plain)
 abbrev pub fit_entry : PlainFit → (ℕ × ℕ) × FitRow
 fit_entry plain = ((number_of plain.room, number_of plain.fit), fit_row plain)
 
+-- the fit that a room begins with
+abbrev pub first_fit : PlainRoom → PlainFit
+first_fit plain = record { room = plain.room; fit = pos 1; place = pos 0; before = pos 0 }
+
+-- the fits; in the first version each room has the one that it began with
+abbrev pub plain_fits : Stored → List PlainFit
+plain_fits s = said_of s.fits (map first_fit s.rooms.items) (λ fits. fits.items)
+
 -- the fits of all rooms, by room and fit
 abbrev pub fits_of : Stored → List ((ℕ × ℕ) × FitRow)
-fits_of s = map fit_entry s.fits.items
+fits_of s = map fit_entry (plain_fits s)
 
 -- a room, joined with its last fit
 abbrev pub joined_row : List ((ℕ × ℕ) × FitRow) → PlainRoom → RoomRow

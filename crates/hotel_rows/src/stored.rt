@@ -110,5 +110,6 @@ pub struct Stored {
     pub cards: Vec<PlainCard>,
     pub inside: Vec<PlainInside>,
     pub notes: Vec<PlainNote>,
-    pub fits: Vec<PlainFit>,
+    /// None in tables of the first version, where each room has the one fit that it began with.
+    pub fits: Option<Vec<PlainFit>>,
 }

@@ -12,3 +12,4 @@ pub mod Walks
 pub mod PlainRows
 pub mod WholeTables
 pub mod SameSchema
+pub mod Upgrade

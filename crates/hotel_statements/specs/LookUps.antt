@@ -5,6 +5,7 @@ use Rattle.sqlite.specs.Order.{Row}
 use Rattle.sqlite.specs.Query.{Query, IsAnswer}
 use Rattle.sqlite.specs.Program.{overlay}
 use Rattle.sqlite.specs.Tree.{Trees}
+use Rattle.sqlite.specs.Schema.{Schema}
 use Rattle.sqlite.specs.Command.TheVariants.{Select}
 use Rattle.sqlite.specs.Listing.{understood, reads_listing}
 use Rattle.sqlite.specs.Given.{IsPlain}
@@ -35,11 +36,15 @@ abbrev pub IsQuery : Query → Result Compiled CompileError → Type 0
 IsQuery q (Ok c) = (names : List (List ℕ)) × (c.command ≡ Select (record { lets = []; body = q }) names)
 IsQuery q (Err e) = ⊥
 
--- A statement that a desk understands as a query of its tables alone.
-pub record Asks (text : List ℕ) (q : Query) : Type 0 where
-  pub query : IsQuery q (understood desk_schema text)
-  pub plain : IsPlain (understood desk_schema text)
-  pub listing : reads_listing desk_schema text ≡ false
+-- A statement that a database with these tables understands as a query of them alone.
+pub record AsksOf (schema : Schema) (text : List ℕ) (q : Query) : Type 0 where
+  pub query : IsQuery q (understood schema text)
+  pub plain : IsPlain (understood schema text)
+  pub listing : reads_listing schema text ≡ false
+
+-- one that a desk understands so
+abbrev pub Asks : List ℕ → Query → Type 0
+Asks = AsksOf desk_schema
 
 -- the first row of an answer, or none where it has none
 abbrev pub AnswersFirst : {A : Type 0} → (Row → A) → Query → Row → Trees → Option A → Type 0

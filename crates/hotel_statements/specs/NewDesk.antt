@@ -11,10 +11,11 @@ use Rattle.sqlite.proofs.Callers.{command_of, statement_of}
 use Rattle.sqlite.specs.Tree.{Trees}
 use Rattle.sqlite.specs.Schema.{Schema}
 use Rattle.sqlite.specs.State.{State}
+use Rattle.sqlite.specs.Change.{KeepsRows}
 use Rattle.sqlite_catalog.specs.Change.{created}
 use Rattle.hotel_core.specs.Model.Rows.{no_rows}
 use Rattle.hotel_statements.specs.Tables.{AreTables, rows_in}
-use Rattle.hotel_statements.specs.Schema.{desk_schema, no_schema, meta_table, kind_table, room_table, stay_table}
+use Rattle.hotel_statements.specs.Schema.{desk_schema, first_schema, no_schema, meta_table, kind_table, room_table, stay_table}
 use Rattle.hotel_statements.specs.Schema.{code_table, card_table, inside_table, note_table}
 
 abbrev pub AreEmpty : Schema → Trees → Type 0
@@ -55,8 +56,9 @@ with_card = created with_code card_table
 abbrev pub with_inside : Schema
 with_inside = created with_card inside_table
 
+-- the eight tables of the first version
 abbrev pub with_note : Schema
-with_note = created with_inside note_table
+with_note = first_schema
 
 -- Where the connection was open and the one held, the other holds.
 abbrev pub IfOpen : (State → Type 0) → (State → Type 0) → State → State → Type 0
@@ -69,6 +71,18 @@ IfOpenBare before after = IfOpen (IsBare before) (IsBare after)
 -- whatever tables are there, the text's table is made
 abbrev pub Makes : List ℕ → State → State → Type 0
 Makes text old new = (schema : Schema) (t : Table) → IsMaker schema text t → IfOpen (IsBare schema) (IsBare (created schema t)) old new
+
+-- Of eight tables with rows, all of the second version are made: the rows stay, and the ninth table has none.
+pub record HasNew (old new : State) : Type 0 where
+  pub inside : IsTrue new.in_transaction
+  pub was_open : IsTrue old.is_open
+  pub schema_is : new.now.schema ≡ desk_schema
+  pub rows : KeepsRows first_schema.tables old.now.trees new.now.trees
+  pub empty : new.now.trees 13 ≡ []
+
+-- if the connection was open and had the eight tables
+abbrev pub MakesNew : State → State → Type 0
+MakesNew old new = (IsTrue old.is_open → old.now.schema ≡ first_schema) → HasNew old new
 
 -- The trees of an empty desk: meta has its one row, and the other tables have none.
 pub record IsEmptyDesk (db : Trees) : Type 0 where

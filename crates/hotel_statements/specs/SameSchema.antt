@@ -1,5 +1,5 @@
 -- When the front desk takes two schemas for the same: `true` only where they are, and always where both are a desk's.
-use Rattle.std.specs.Prelude.{◌==◌, ◌&&◌, not, ℕ, Bool, true, false, List, [], ◌∷◌, Option, Some, None, length, bytes_eq}
+use Rattle.std.specs.Prelude.{◌==◌, ◌&&◌, not, ℕ, Bool, true, false, List, [], ◌∷◌, Option, Some, None, length, take, bytes_eq}
 use Rattle.std.specs.Ordering.{int_eq}
 use Rattle.sqlite_value.specs.declared.keys.Collation.{Collation}
 use Rattle.sqlite_value.specs.declared.keys.Collation.TheVariants.{Binary}
@@ -112,3 +112,9 @@ same_index a b =
 abbrev pub same_schema : Schema → Schema → Bool
 same_schema a b =
     same_all same_table a.tables b.tables && same_all same_index a.indexes b.indexes && length a.views == 0 && length b.views == 0
+
+-- the one is the other without its tables and indexes past the first so many
+abbrev pub same_front : ℕ → ℕ → Schema → Schema → Bool
+same_front tables indexes a b =
+    same_all same_table a.tables (take tables b.tables) && same_all same_index a.indexes (take indexes b.indexes)
+    && length a.views == 0 && length b.views == 0

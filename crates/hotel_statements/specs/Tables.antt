@@ -15,7 +15,9 @@ use Rattle.hotel_core.specs.declared.books.rows.RoomRow.{RoomRow}
 use Rattle.hotel_core.specs.declared.books.rows.FitRow.{FitRow}
 use Rattle.hotel_core.specs.Model.Words.{pair_cmp, said_of}
 use Rattle.hotel_core.specs.Model.Rows.{Rows, at_number}
-use Rattle.hotel_rows.specs.Joined.{with_fit, under_fit}
+use Rattle.hotel_rows.specs.Joined.{with_fit, under_fit, joined, first_fits}
+use Rattle.hotel_statements.specs.declared.version.Version.{Version}
+use Rattle.hotel_statements.specs.declared.version.Version.TheVariants.{First, Second}
 use Rattle.hotel_statements.specs.Columns.{meta_columns, meta_of, meta_written, kind_columns, kind_of, kind_written, room_columns, room_of, room_written, stay_columns, stay_of, stay_written}
 use Rattle.hotel_statements.specs.Columns.{code_columns, code_of, code_written, card_columns, card_of, card_written}
 use Rattle.hotel_statements.specs.Columns.{inside_columns, inside_of, inside_written, note_columns, note_of}
@@ -83,11 +85,30 @@ rows_in db = record {
   fits = fits_in db;
 }
 
--- The trees are those of the nine tables, written by the books.
-pub record AreTables (db : Trees) : Type 0 where
+-- the lists as their tables have them, without fits
+abbrev pub bare_rows_in : Trees → Rows
+bare_rows_in db = record (rows_in db) { rooms = bare_rooms_in db; notes = bare_notes_in db; fits = [] }
+
+-- The lists that the tables of a version hold: in the first each room has the one fit that it began with.
+abbrev pub rows_of_version : Version → Trees → Rows
+rows_of_version First db = joined (first_fits (bare_rooms_in db)) (bare_rows_in db)
+rows_of_version Second db = rows_in db
+
+-- the number of a version, which meta tells
+abbrev pub number_of_version : Version → ℕ
+number_of_version First = 1
+number_of_version Second = 2
+
+-- the table of the fits, which the first version doesn't have
+abbrev pub IsFitTable : Version → List Row → Type 0
+IsFitTable First rows = Unit {0}
+IsFitTable Second rows = IsTable (by_key pair_cmp) fit_columns fit_of fit_written rows
+
+-- The trees are those of the tables of a version, written by the books.
+pub record AreTablesOf (version : Version) (db : Trees) : Type 0 where
   pub meta : IsTable (by_key nat_cmp) meta_columns meta_of meta_written (db 0)
-  -- meta has one row, of the second version
-  pub meta_row : (day : Option ℕ) × (metas_in db ≡ (1, (2, day)) ∷ [])
+  -- meta has one row, of the version
+  pub meta_row : (day : Option ℕ) × (metas_in db ≡ (1, (number_of_version version, day)) ∷ [])
   pub kind : IsTable (slice_cmp nat_cmp) kind_columns kind_of kind_written (db 1)
   pub room : IsTable (by_key nat_cmp) room_columns room_of room_written (db 3)
   pub stay : IsTable (by_key nat_cmp) stay_columns stay_of stay_written (db 5)
@@ -98,4 +119,8 @@ pub record AreTables (db : Trees) : Type 0 where
   pub inside_numbered : AllByRecursion HasId (db 9)
   pub inside_ids : AreApartIds (db 9)
   pub note : IsTable (by_key pair_cmp) note_columns note_of note_written (db 11)
-  pub fit : IsTable (by_key pair_cmp) fit_columns fit_of fit_written (db 13)
+  pub fit : IsFitTable version (db 13)
+
+-- those of the second version, written by the books
+abbrev pub AreTables : Trees → Type 0
+AreTables = AreTablesOf Second

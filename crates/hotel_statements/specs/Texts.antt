@@ -30,6 +30,14 @@ create_note = codes "CREATE TABLE note (room INTEGER NOT NULL REFERENCES room, n
 abbrev pub create_fit : List ℕ
 create_fit = codes "CREATE TABLE fit (room INTEGER NOT NULL REFERENCES room, fit INTEGER NOT NULL, place INTEGER NOT NULL, before INTEGER NOT NULL, PRIMARY KEY (room, fit), UNIQUE (room, place)) STRICT"
 
+-- ---- the indexes, by which the rows that refer to a changed one are looked for
+
+abbrev pub create_stay_room : List ℕ
+create_stay_room = codes "CREATE INDEX stay_room ON stay (room)"
+
+abbrev pub create_card_party : List ℕ
+create_card_party = codes "CREATE INDEX card_party ON card (party)"
+
 -- ---- one row by its key
 
 abbrev pub select_day : List ℕ
@@ -113,6 +121,9 @@ insert_fit = codes "INSERT INTO fit (room, fit, place, before) VALUES (?1, ?2, ?
 
 abbrev pub update_day : List ℕ
 update_day = codes "UPDATE meta SET day = ?2 WHERE id = ?1"
+
+abbrev pub update_version : List ℕ
+update_version = codes "UPDATE meta SET version = ?2 WHERE id = ?1"
 
 abbrev pub update_issued : List ℕ
 update_issued = codes "UPDATE room SET codes = ?2, secured = 0, party = ?3 WHERE room = ?1"

@@ -1,5 +1,5 @@
 -- What is read of whole tables, and what the reading promises.
-use Rattle.std.specs.Prelude.{◌≡◌, ℕ, false, List, [], map, Result, IfOk, OnOk, IsTrue, Vec}
+use Rattle.std.specs.Prelude.{◌≡◌, ℕ, false, List, [], map, Option, Some, None, Result, IfOk, OnOk, IsTrue, Vec}
 use Rattle.std.specs.List.Sorted.{IsPermutation}
 use Rattle.std.specs.declared.alloc.Global.{Global}
 use Rattle.sqlite.specs.Order.{Row}
@@ -18,49 +18,57 @@ use Rattle.hotel_rows.specs.declared.stored.PlainFit.{PlainFit}
 use Rattle.hotel_statements.specs.declared.plain_rows.PlainMeta.{PlainMeta}
 use Rattle.hotel_statements.specs.declared.plain_rows.NumberedInside.{NumberedInside}
 use Rattle.hotel_statements.specs.declared.whole_tables.Tables.{Tables}
-use Rattle.hotel_statements.specs.Schema.{desk_schema}
+use Rattle.hotel_statements.specs.declared.version.Version.{Version}
+use Rattle.hotel_statements.specs.declared.version.Version.TheVariants.{First, Second}
+use Rattle.hotel_statements.specs.Schema.{schema_of}
 use Rattle.hotel_statements.specs.Columns.{meta_columns, kind_columns, room_columns, stay_columns, code_columns}
 use Rattle.hotel_statements.specs.Columns.{card_columns, note_columns, fit_columns}
 use Rattle.hotel_statements.specs.PlainRows.{meta_shown, kind_shown, room_shown, stay_shown, code_shown, card_shown}
 use Rattle.hotel_statements.specs.PlainRows.{numbered_columns, numbered_shown, note_shown, fit_shown, ArePlainRows}
-use Rattle.hotel_statements.specs.LookUps.{Asks}
+use Rattle.hotel_statements.specs.LookUps.{AsksOf}
 use Rattle.hotel_statements.specs.Books.{IsKept, KeepsRows}
 
--- A connection outside any transaction, over the tables of a desk, whatever their rows.
-pub record IsOurs (s : State) : Type 0 where
+-- A connection outside any transaction, over the tables of a desk of a version, whatever their rows.
+pub record IsOurs (version : Version) (s : State) : Type 0 where
   pub autocommit : s.in_transaction ≡ false
-  pub tables : IsKept s → (s.now.schema ≡ desk_schema) × (s.now ≡ s.committed)
+  pub tables : IsKept s → (s.now.schema ≡ schema_of version) × (s.now ≡ s.committed)
 
--- The text reads a whole table: to a desk it is a query, whose answer has the columns of the tree's rows, in some order.
-pub record IsWhole (text : List ℕ) (tree : ℕ) (columns cut : Row → Row) : Type 0 where
+-- The text reads a whole table of a desk of a version: to it that is a query, whose answer has the columns of the tree's rows, in some order.
+pub record IsWhole (version : Version) (text : List ℕ) (tree : ℕ) (columns cut : Row → Row) : Type 0 where
   pub query : Query
-  pub asks : Asks text query
+  pub asks : AsksOf (schema_of version) text query
   pub answers : (db : Trees) (rows : List Row) → IsAnswer query (overlay db []) [] rows → IsPermutation (map columns (db tree)) (map cut rows)
 
 -- What a reading of the tables promises, of a connection from old to new: what it says of the trees where the test holds at its end.
 -- It changes no row, and a crash in it leaves nothing new.
-pub record ReadsTo {R : Type 0} (Says : R → Trees → Type 0) (old new : State) (result : Result R LookFault) : Type 0 where
-  pub ours : IsOurs new
+pub record ReadsTo {R : Type 0} (version : Version) (Says : R → Trees → Type 0) (old new : State) (result : Result R LookFault) : Type 0 where
+  pub ours : IsOurs version new
   pub keeps : KeepsRows old new
   pub says : IsKept new → IfOk result (λ r. Says r old.now.trees)
   pub open_on : IsKept old → HasCleanDisk new → OnOk result (IsTrue new.is_open)
   pub crash : Survives old new (λ _. IsKept old → ⊥)
 
--- the rows of the first four tables, and of the other five
+-- the rows of the first four tables, and of the next four
 abbrev pub AreFirst : (Vec PlainMeta Global × Vec PlainKind Global) × (Vec PlainRoom Global × Vec PlainStay Global) → Trees → Type 0
 AreFirst r db =
     (ArePlainRows meta_columns meta_shown r.0.0.items (db 0) × ArePlainRows kind_columns kind_shown r.0.1.items (db 1))
     × (ArePlainRows room_columns room_shown r.1.0.items (db 3) × ArePlainRows stay_columns stay_shown r.1.1.items (db 5))
 
-abbrev pub AreLast : (Vec PlainCode Global × Vec PlainCard Global)
-    × ((Vec NumberedInside Global × Vec PlainNote Global) × Vec PlainFit Global) → Trees → Type 0
+abbrev pub AreLast : (Vec PlainCode Global × Vec PlainCard Global) × (Vec NumberedInside Global × Vec PlainNote Global)
+    → Trees → Type 0
 AreLast r db =
     (ArePlainRows code_columns code_shown r.0.0.items (db 6) × ArePlainRows card_columns card_shown r.0.1.items (db 8))
-    × ((ArePlainRows numbered_columns numbered_shown r.1.0.0.items (db 9)
-    × ArePlainRows note_columns note_shown r.1.0.1.items (db 11))
-    × ArePlainRows fit_columns fit_shown r.1.1.items (db 13))
+    × (ArePlainRows numbered_columns numbered_shown r.1.0.items (db 9)
+    × ArePlainRows note_columns note_shown r.1.1.items (db 11))
 
--- the rows of all
-abbrev pub AreRead : Tables → Trees → Type 0
-AreRead t db = AreFirst ((t.meta, t.kinds), (t.rooms, t.stays)) db
-    × AreLast ((t.codes, t.cards), ((t.inside, t.notes), t.fits)) db
+-- the rows of the fits, which the first version doesn't have
+abbrev pub AreFitRows : Version → Option (Vec PlainFit Global) → Trees → Type 0
+AreFitRows First fits db = fits ≡ None
+AreFitRows Second None db = ⊥
+AreFitRows Second (Some fits) db = ArePlainRows fit_columns fit_shown fits.items (db 13)
+
+-- the rows of all tables of a version
+abbrev pub AreRead : Version → Tables → Trees → Type 0
+AreRead version t db =
+    AreFirst ((t.meta, t.kinds), (t.rooms, t.stays)) db
+    × (AreLast ((t.codes, t.cards), (t.inside, t.notes)) db × AreFitRows version t.fits db)

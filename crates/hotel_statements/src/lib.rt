@@ -16,8 +16,11 @@ pub mod same_schema;
 mod statement;
 pub mod steps;
 mod texts;
+pub mod upgrade;
+mod version;
 mod walk;
 pub mod walks;
 pub mod whole_tables;
 
 pub use from_row::fault_of;
+pub use version::Version;

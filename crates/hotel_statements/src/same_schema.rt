@@ -1,7 +1,7 @@
 //! Whether two schemas are the same, of the forms that a desk's tables have.
 //!
 //! Of other forms, as a column with a default, the answer is no.
-ghost use Rattle.std.specs.Prelude.{◌≡◌, ◌==◌, ◌<◌, Bool, MatchOption, length, bytes_eq};
+ghost use Rattle.std.specs.Prelude.{◌≡◌, ◌==◌, ◌<◌, ◌≤◌, Bool, MatchOption, length, bytes_eq};
 ghost use Rattle.sqlite_sql.specs.Term.{lit};
 ghost use Rattle.sqlite_value.specs.declared.value.Value.TheVariants.{Null};
 ghost use Rattle.sqlite_schema.specs.Code.{op_term, term_to, terms_in};
@@ -286,6 +286,18 @@ impl Part for Index {
             && self.order.digits == other.order.digits
             && same_flag(self.is_unique, other.is_unique)
     }
+}
+
+/// Whether a schema is another without its tables and indexes past the first so many, and has no view.
+pub fn same_front(a: &Schema, b: &Schema, tables: usize, indexes: usize) -> bool
+    requires tables { tables ≤ length b.now.tables }
+    requires indexes { indexes ≤ length b.now.indexes }
+    ensures { result ≡ spec.same_front tables indexes a.now b.now }
+{
+    same_parts(a.tables.as_slice(), &b.tables.as_slice()[..tables])
+        && same_parts(a.indexes.as_slice(), &b.indexes.as_slice()[..indexes])
+        && a.views.len() == 0
+        && b.views.len() == 0
 }
 
 /// Whether two schemas are the same, and have no view.

@@ -28,6 +28,12 @@ pub(crate) const CREATE_NOTE: &str =
 pub(crate) const CREATE_FIT: &str =
     "CREATE TABLE fit (room INTEGER NOT NULL REFERENCES room, fit INTEGER NOT NULL, place INTEGER NOT NULL, before INTEGER NOT NULL, PRIMARY KEY (room, fit), UNIQUE (room, place)) STRICT";
 
+// The indexes, by which the rows that refer to a changed one are looked for.
+
+pub(crate) const CREATE_STAY_ROOM: &str = "CREATE INDEX stay_room ON stay (room)";
+
+pub(crate) const CREATE_CARD_PARTY: &str = "CREATE INDEX card_party ON card (party)";
+
 // One row by its key.
 
 pub(crate) const SELECT_DAY: &str = "SELECT day FROM meta WHERE id = ?1";
@@ -99,6 +105,8 @@ pub(crate) const INSERT_FIT: &str =
     "INSERT INTO fit (room, fit, place, before) VALUES (?1, ?2, ?3, ?4)";
 
 pub(crate) const UPDATE_DAY: &str = "UPDATE meta SET day = ?2 WHERE id = ?1";
+
+pub(crate) const UPDATE_VERSION: &str = "UPDATE meta SET version = ?2 WHERE id = ?1";
 
 pub(crate) const UPDATE_ISSUED: &str =
     "UPDATE room SET codes = ?2, secured = 0, party = ?3 WHERE room = ?1";

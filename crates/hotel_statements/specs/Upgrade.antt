@@ -1,0 +1,57 @@
+-- A desk of the first version, and what makes one of the second of it.
+use Rattle.std.specs.Prelude.{◌≡◌, ℕ, false, List, Result, OnOk, IsTrue}
+use Rattle.std.specs.Map.{keys_of}
+use Rattle.sqlite.specs.Tree.{Trees}
+use Rattle.sqlite_catalog.specs.Listing.{IsSound}
+use Rattle.sqlite.specs.Effect.{IsDatabase}
+use Rattle.sqlite.specs.State.{State, HasCleanDisk, KeepsCommit, Survives}
+use Rattle.sqlite.specs.declared.error.Error.{Error}
+use Rattle.hotel_statements.specs.declared.version.Version.TheVariants.{First}
+use Rattle.hotel_statements.specs.Schema.{first_schema, desk_schema}
+use Rattle.hotel_statements.specs.Tables.{AreTablesOf, AreTables, bare_rooms_in, rows_in, rows_of_version}
+use Rattle.hotel_statements.specs.Books.{IsKept}
+use Rattle.hotel_statements.specs.Steps.{IsMid}
+
+-- The tables are those of a desk of the first version, and nothing is left uncommitted.
+pub record IsFirstDesk (s : State) : Type 0 where
+  pub schema : s.now.schema ≡ first_schema
+  pub settled : s.now ≡ s.committed
+  pub tables : AreTablesOf First s.now.trees
+
+-- What is true of the connection to a desk of the first version, whatever has failed.
+pub record IsFirstBooks (s : State) : Type 0 where
+  pub autocommit : s.in_transaction ≡ false
+  pub desk : IsKept s → IsFirstDesk s
+
+-- Within a transaction, the tables are those of a desk of the first version.
+pub record IsFirstMid (s : State) : Type 0 where
+  pub schema : s.now.schema ≡ first_schema
+  pub inside : IsTrue s.in_transaction
+  pub tables : AreTablesOf First s.now.trees
+
+-- these are the rooms, in order
+abbrev pub AreRoomsIn : List ℕ → Trees → Type 0
+AreRoomsIn rooms db = rooms ≡ keys_of (bare_rooms_in db)
+
+-- Within one transaction, a desk of the first version became one of the second, with its rows.
+pub record IsUpgraded (old new : State) : Type 0 where
+  pub was_open : IsTrue old.is_open
+  pub is_open : IsTrue new.is_open
+  pub committed : new.committed ≡ old.committed
+  pub mid : IsMid new
+  -- the trees list the tables and indexes, and obey them
+  pub sound : IsDatabase new.now
+  pub rows_are : rows_in new.now.trees ≡ rows_of_version First old.now.trees
+
+-- The statements that make a desk of the second version of one of the first, whose rooms are these: nothing is committed, and a crash leaves
+-- nothing new.
+pub record Upgrades (rooms : List ℕ) (old new : State) (result : Result (Unit {0}) Error) : Type 0 where
+  pub made : HasCleanDisk new → OnOk result ((IsTrue old.is_open → IsFirstMid old × AreRoomsIn rooms old.now.trees) → IsUpgraded old new)
+  pub kept : HasCleanDisk new → KeepsCommit old new
+  pub survives : Survives old new (λ _. ⊥)
+
+-- The trees are the whole of a desk of the second version, with the rows of one of the first: an opening that finds them finds its schema.
+pub record IsUpgradeOf (old new : Trees) : Type 0 where
+  pub tables : AreTables new
+  pub sound : IsSound desk_schema new
+  pub rows_are : rows_in new ≡ rows_of_version First old
