@@ -1,16 +1,16 @@
-//! The statements that make a new desk, within a transaction: its nine tables and the one row of meta.
+//! The statements that make a new desk, within a transaction: its nine tables, two indexes and the one row of meta.
 ghost use Rattle.std.specs.Prelude.{◌≡◌, [], ◌∷◌, OnOk};
 ghost use Rattle.sqlite.specs.Held.{state};
 ghost use Rattle.sqlite.specs.State.{HasCleanDisk, KeepsCommit, Survives};
 ghost use Rattle.hotel_statements.specs.Schema.{no_schema, desk_schema};
 ghost use Rattle.hotel_statements.specs.Texts as texts;
 ghost use Rattle.hotel_statements.specs.Statements.{RunsStatements, makes_table};
-ghost use Rattle.hotel_statements.specs.NewDesk.{IfOpen, IfOpenBare, Makes, IsBare, IsMade, with_stay, with_card};
+ghost use Rattle.hotel_statements.specs.NewDesk.{IfOpen, IfOpenBare, Makes, MakesNew, IsBare, IsMade, with_stay, with_card, with_note};
 
 use crate::statement::run;
 use crate::texts::{
-    CREATE_CARD, CREATE_CODE, CREATE_FIT, CREATE_INSIDE, CREATE_KIND, CREATE_META, CREATE_NOTE,
-    CREATE_ROOM, CREATE_STAY, INSERT_META,
+    CREATE_CARD, CREATE_CARD_PARTY, CREATE_CODE, CREATE_FIT, CREATE_INSIDE, CREATE_KIND,
+    CREATE_META, CREATE_NOTE, CREATE_ROOM, CREATE_STAY, CREATE_STAY_ROOM, INSERT_META,
 };
 use sqlite::{Alter, Error, Transaction};
 
@@ -39,11 +39,31 @@ pub fn make_first<S: Alter>(tx: &mut Transaction<'_, S>) -> Result<(), Error>
     make(tx, CREATE_STAY)
 }
 
-/// Makes the tables of insides, notes and fits.
+/// Makes what the second version has beside the tables of the first: the table of fits and the two indexes.
+pub(crate) fn make_new<S: Alter>(tx: &mut Transaction<'_, S>) -> Result<(), Error>
+    ensures same_reference { tx.new.conn.ghost_name ≡ tx.old.conn.ghost_name }
+    ensures answers { RunsStatements S.Store
+        (makes_table texts.create_fit ∷ makes_table texts.create_stay_room ∷ makes_table texts.create_card_party ∷ [])
+        tx.old.conn.now tx.new.conn.now result }
+    ensures made { HasCleanDisk (state S.Store tx.new.conn.now) →
+        OnOk result (MakesNew (state S.Store tx.old.conn.now) (state S.Store tx.new.conn.now)) }
+    ensures bare { HasCleanDisk (state S.Store tx.new.conn.now) →
+        OnOk result (IfOpenBare with_note desk_schema (state S.Store tx.old.conn.now) (state S.Store tx.new.conn.now)) }
+    ensures kept { HasCleanDisk (state S.Store tx.new.conn.now) →
+        KeepsCommit (state S.Store tx.old.conn.now) (state S.Store tx.new.conn.now) }
+    ensures survives { Survives (state S.Store tx.old.conn.now) (state S.Store tx.new.conn.now) (λ _. ⊥) }
+{
+    make(tx, CREATE_FIT)?;
+    make(tx, CREATE_STAY_ROOM)?;
+    make(tx, CREATE_CARD_PARTY)
+}
+
+/// Makes the tables of insides, notes and fits, and the two indexes.
 fn make_of_locks<S: Alter>(tx: &mut Transaction<'_, S>) -> Result<(), Error>
     ensures same_reference { tx.new.conn.ghost_name ≡ tx.old.conn.ghost_name }
     ensures answers { RunsStatements S.Store
-        (makes_table texts.create_inside ∷ makes_table texts.create_note ∷ makes_table texts.create_fit ∷ [])
+        (makes_table texts.create_inside ∷ makes_table texts.create_note ∷ makes_table texts.create_fit
+        ∷ makes_table texts.create_stay_room ∷ makes_table texts.create_card_party ∷ [])
         tx.old.conn.now tx.new.conn.now result }
     ensures made { HasCleanDisk (state S.Store tx.new.conn.now) →
         OnOk result (IfOpenBare with_card desk_schema (state S.Store tx.old.conn.now) (state S.Store tx.new.conn.now)) }
@@ -53,15 +73,16 @@ fn make_of_locks<S: Alter>(tx: &mut Transaction<'_, S>) -> Result<(), Error>
 {
     make(tx, CREATE_INSIDE)?;
     make(tx, CREATE_NOTE)?;
-    make(tx, CREATE_FIT)
+    make_new(tx)
 }
 
-/// Makes the tables of codes, cards, insides, notes and fits.
+/// Makes the tables of codes, cards, insides, notes and fits, and the two indexes.
 pub fn make_last<S: Alter>(tx: &mut Transaction<'_, S>) -> Result<(), Error>
     ensures same_reference { tx.new.conn.ghost_name ≡ tx.old.conn.ghost_name }
     ensures answers { RunsStatements S.Store
         (makes_table texts.create_code ∷ makes_table texts.create_card ∷ makes_table texts.create_inside
-        ∷ makes_table texts.create_note ∷ makes_table texts.create_fit ∷ [])
+        ∷ makes_table texts.create_note ∷ makes_table texts.create_fit ∷ makes_table texts.create_stay_room
+        ∷ makes_table texts.create_card_party ∷ [])
         tx.old.conn.now tx.new.conn.now result }
     ensures made { HasCleanDisk (state S.Store tx.new.conn.now) → OnOk result (IfOpenBare with_stay desk_schema (state S.Store tx.old.conn.now) (state S.Store tx.new.conn.now)) }
     ensures kept { HasCleanDisk (state S.Store tx.new.conn.now) → KeepsCommit (state S.Store tx.old.conn.now) (state S.Store tx.new.conn.now) }

@@ -24,7 +24,11 @@ fn set_version<S: Alter>(tx: &mut Transaction<'_, S>) -> Result<(), Error>
 fn insert_first_fit<S: Alter>(tx: &mut Transaction<'_, S>, room: RoomNo) -> Result<(), Error>
     ensures same_reference { tx.new.conn.ghost_name ≡ tx.old.conn.ghost_name }
 {
-    run(tx, INSERT_FIT, &[numbered(room), small(1), small(0), small(0)])
+    run(
+        tx,
+        INSERT_FIT,
+        &[numbered(room), small(1), small(0), small(0)],
+    )
 }
 
 /// Makes the table of fits and the indexes, and has meta tell the second version.

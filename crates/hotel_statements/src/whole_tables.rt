@@ -4,11 +4,14 @@ ghost use Rattle.std.specs.List.{list_all};
 ghost use Rattle.std.specs.Ordering.{is_lt};
 ghost use Rattle.sqlite.specs.Held.{state};
 ghost use Rattle.hotel_core.specs.Model.SoundRooms.{are_in_order};
-ghost use Rattle.hotel_statements.specs.WholeTables.{IsOurs, IsWhole, ReadsTo, AreFirst, AreLast, AreRead};
+ghost use Rattle.hotel_statements.specs.declared.version.Version.{Version};
+ghost use Rattle.hotel_statements.specs.declared.version.Version.TheVariants as of;
+ghost use Rattle.hotel_statements.specs.WholeTables.{IsOurs, IsWhole, ReadsTo, AreFirst, AreLast, AreFitRows, AreRead};
 ghost use Rattle.hotel_statements.specs.PlainRows.{ArePlainRows};
 
 use crate::from_row::fault_of;
 use crate::plain_rows::{NumberedInside, Plain, PlainMeta, PlainRow};
+use crate::version::Version;
 use hotel_rows::{PlainCard, PlainCode, PlainFit, PlainKind, PlainNote, PlainRoom, PlainStay};
 use keycard_rules::LookFault;
 use sqlite::{Alter, Connection, Row};
@@ -35,10 +38,11 @@ fn plain_rows_of<L: PlainRow + Drop>(alloc: Global, rows: &[Row]) -> Result<Vec<
 fn read_table<S: Alter, L: PlainRow + Drop>(
     alloc: Global,
     conn: &mut Connection<S>,
+    version: Version,
 ) -> Result<Vec<L>, LookFault>
-    requires ours { IsOurs (state S.Store conn.old) }
-    requires whole { IsWhole L.PlainRow.text L.PlainRow.tree L.PlainRow.columns L.PlainRow.cut }
-    ensures { ReadsTo (λ plain_rows db. ArePlainRows L.PlainRow.columns L.PlainRow.shown plain_rows.items (db L.PlainRow.tree)) (state S.Store conn.old) (state S.Store conn.new) result }
+    requires ours { IsOurs version (state S.Store conn.old) }
+    requires whole { IsWhole version L.PlainRow.text L.PlainRow.tree L.PlainRow.columns L.PlainRow.cut }
+    ensures { ReadsTo version (λ plain_rows db. ArePlainRows L.PlainRow.columns L.PlainRow.shown plain_rows.items (db L.PlainRow.tree)) (state S.Store conn.old) (state S.Store conn.new) result }
 {
     match conn.query_all(L::text(), &[]) {
         Ok(rows) => plain_rows_of(alloc, &rows),
@@ -50,15 +54,16 @@ fn read_table<S: Alter, L: PlainRow + Drop>(
 fn read_two<S: Alter, A: PlainRow + Drop, B: PlainRow + Drop>(
     alloc: Global,
     conn: &mut Connection<S>,
+    version: Version,
 ) -> Result<(Vec<A>, Vec<B>), LookFault>
-    requires ours { IsOurs (state S.Store conn.old) }
-    requires first { IsWhole A.PlainRow.text A.PlainRow.tree A.PlainRow.columns A.PlainRow.cut }
-    requires second { IsWhole B.PlainRow.text B.PlainRow.tree B.PlainRow.columns B.PlainRow.cut }
-    ensures { ReadsTo (λ two db. ArePlainRows A.PlainRow.columns A.PlainRow.shown two.0.items (db A.PlainRow.tree) × ArePlainRows B.PlainRow.columns B.PlainRow.shown two.1.items (db B.PlainRow.tree))
+    requires ours { IsOurs version (state S.Store conn.old) }
+    requires first { IsWhole version A.PlainRow.text A.PlainRow.tree A.PlainRow.columns A.PlainRow.cut }
+    requires second { IsWhole version B.PlainRow.text B.PlainRow.tree B.PlainRow.columns B.PlainRow.cut }
+    ensures { ReadsTo version (λ two db. ArePlainRows A.PlainRow.columns A.PlainRow.shown two.0.items (db A.PlainRow.tree) × ArePlainRows B.PlainRow.columns B.PlainRow.shown two.1.items (db B.PlainRow.tree))
         (state S.Store conn.old) (state S.Store conn.new) result }
 {
-    let first = read_table(alloc, conn)?;
-    let second = read_table(alloc, conn)?;
+    let first = read_table(alloc, conn, version)?;
+    let second = read_table(alloc, conn, version)?;
     Ok((first, second))
 }
 
@@ -103,13 +108,15 @@ pub struct Tables {
     pub cards: Vec<PlainCard>,
     pub inside: Vec<NumberedInside>,
     pub notes: Vec<PlainNote>,
-    pub fits: Vec<PlainFit>,
+    /// None in the first version.
+    pub fits: Option<Vec<PlainFit>>,
 }
 
 /// The rows of meta, kinds, rooms and stays.
 fn read_first<S: Alter>(
     alloc: Global,
     conn: &mut Connection<S>,
+    version: Version,
 ) -> Result<
     (
         (Vec<PlainMeta>, Vec<PlainKind>),
@@ -117,43 +124,66 @@ fn read_first<S: Alter>(
     ),
     LookFault,
 >
-    requires { IsOurs (state S.Store conn.old) }
-    ensures { ReadsTo AreFirst (state S.Store conn.old) (state S.Store conn.new) result }
+    requires { IsOurs version (state S.Store conn.old) }
+    ensures { ReadsTo version AreFirst (state S.Store conn.old) (state S.Store conn.new) result }
 {
-    let first = read_two(alloc, conn)?;
-    let second = read_two(alloc, conn)?;
+    let first = read_two(alloc, conn, version)?;
+    let second = read_two(alloc, conn, version)?;
     Ok((first, second))
 }
 
-/// The rows of codes, cards, those inside, notes and fits.
+/// The rows of codes, cards, those inside and notes.
 fn read_last<S: Alter>(
     alloc: Global,
     conn: &mut Connection<S>,
+    version: Version,
 ) -> Result<
     (
         (Vec<PlainCode>, Vec<PlainCard>),
-        ((Vec<NumberedInside>, Vec<PlainNote>), Vec<PlainFit>),
+        (Vec<NumberedInside>, Vec<PlainNote>),
     ),
     LookFault,
 >
-    requires { IsOurs (state S.Store conn.old) }
-    ensures { ReadsTo AreLast (state S.Store conn.old) (state S.Store conn.new) result }
+    requires { IsOurs version (state S.Store conn.old) }
+    ensures { ReadsTo version AreLast (state S.Store conn.old) (state S.Store conn.new) result }
 {
-    let first = read_two(alloc, conn)?;
-    let second = read_two(alloc, conn)?;
-    let third = read_table(alloc, conn)?;
-    Ok((first, (second, third)))
+    let first = read_two(alloc, conn, version)?;
+    let second = read_two(alloc, conn, version)?;
+    Ok((first, second))
 }
 
-/// The rows of all tables.
-pub fn read_tables<S: Alter>(alloc: Global, conn: &mut Connection<S>) -> Result<Tables, LookFault>
-    requires { IsOurs (state S.Store conn.old) }
-    ensures { ReadsTo AreRead (state S.Store conn.old) (state S.Store conn.new) result }
+/// The rows of the fits, of which the first version has no table.
+fn read_fits<S: Alter>(
+    alloc: Global,
+    conn: &mut Connection<S>,
+    version: Version,
+) -> Result<Option<Vec<PlainFit>>, LookFault>
+    requires { IsOurs version (state S.Store conn.old) }
+    ensures { ReadsTo version (AreFitRows version) (state S.Store conn.old) (state S.Store conn.new) result }
 {
-    let first = read_first(alloc, conn)?;
-    let last = read_last(alloc, conn)?;
+    match version {
+        Version::First => Ok(None),
+        Version::Second => {
+            let fits = read_table(alloc, conn, Version::Second)?;
+            Ok(Some(fits))
+        }
+    }
+}
+
+/// The rows of all tables of a version.
+pub fn read_tables<S: Alter>(
+    alloc: Global,
+    conn: &mut Connection<S>,
+    version: Version,
+) -> Result<Tables, LookFault>
+    requires { IsOurs version (state S.Store conn.old) }
+    ensures { ReadsTo version (AreRead version) (state S.Store conn.old) (state S.Store conn.new) result }
+{
+    let first = read_first(alloc, conn, version)?;
+    let last = read_last(alloc, conn, version)?;
+    let fits = read_fits(alloc, conn, version)?;
     let ((meta, kinds), (rooms, stays)) = first;
-    let ((codes, cards), ((inside, notes), fits)) = last;
+    let ((codes, cards), (inside, notes)) = last;
     Ok(Tables {
         meta,
         kinds,
