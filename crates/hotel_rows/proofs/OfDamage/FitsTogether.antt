@@ -180,8 +180,8 @@ more_rooms s o t u b e =
 
 -- the rules of fits are a test of the keys, of each fit and of each room
 pub fits_together : (s : Stored) (runs : List (ℕ × FitRun)) → RunsOf runs (plain_fits s)
-    → fit_holds s ≡ (are_in_order pair_cmp (map fit_key (plain_fits s)) && list_all (has_room (rows_of s)) (plain_fits s)
-    && list_all (fitted_as_due runs) s.rooms.items)
+    → fit_holds s ≡ (are_in_order pair_cmp (map fit_key (plain_fits s))
+    && list_all (has_room (rows_of s)) (plain_fits s) && list_all (fitted_as_due runs) s.rooms.items)
 fits_together s runs is =
     let ls = plain_fits s in
     let rows = rows_of s in

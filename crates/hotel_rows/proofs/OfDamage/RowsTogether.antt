@@ -5,7 +5,8 @@ use Rattle.std.specs.List.{list_all}
 use Rattle.std.specs.Map.{keys_of}
 use Rattle.hotel_core.specs.declared.books.rows.RoomRow.{RoomRow}
 use Rattle.hotel_core.specs.Model.Rows.{has_kind, fits_at, begins_fit}
-use Rattle.hotel_core.specs.Model.SoundRooms.{are_in_order, room_numbers, lock_places, room_kinds_there, codes_few, parties_in_house, secured_hold_last}
+use Rattle.hotel_core.specs.Model.SoundRooms.{are_in_order, room_numbers, lock_places, room_kinds_there}
+use Rattle.hotel_core.specs.Model.SoundRooms.{codes_few, parties_in_house, secured_hold_last}
 use Rattle.hotel_core.proofs.OfTables.RowTests.{all_mapped}
 use Rattle.hotel_core.proofs.OfTables.MapEntries.{eq_self}
 use Rattle.hotel_rows.specs.declared.stored.PlainRoom.{PlainRoom}
@@ -81,7 +82,8 @@ rooms_together s =
     let rows = rows_of s in
     let fits = fits_of s in
     let o = are_in_order nat_cmp (map room_key plain_rows) in
-    ap (λ ks. are_in_order nat_cmp ks && list_all room_columns plain_rows && room_numbers rows && lock_places rows && room_kinds_there rows && codes_few rows && notes_few s && parties_in_house rows && secured_hold_last rows)
+    ap (λ ks. are_in_order nat_cmp ks && list_all room_columns plain_rows && room_numbers rows && lock_places rows
+    && room_kinds_there rows && codes_few rows && notes_few s && parties_in_house rows && secured_hold_last rows)
     (ap keys_of (rooms_are fits plain_rows) ∙ keys_mapped room_key (joined_row fits) plain_rows)
     ∙ left_rooms o fits (λ (e : ℕ × RoomRow). not e.1.secured
     || ((e.1.lock_place == e.1.codes - 1) && nat_le 2 e.1.codes && not (begins_fit rows e.1.room (e.1.codes - 1))))

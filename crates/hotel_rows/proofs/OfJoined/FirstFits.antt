@@ -1,6 +1,6 @@
 -- The fits of rows of the first version, and the rows of any version as rows joined with their fits.
 use Rattle.std.proofs.Common.{◌≡◌, List, [], ◌∷◌, map, Option, None, refl, ap, ◌∙◌}
-use Rattle.std.specs.Prelude.{Vec, option_map}
+use Rattle.std.specs.Prelude.{Vec}
 use Rattle.std.specs.declared.alloc.Global.{Global}
 use Rattle.hotel_core.specs.Model.Words.{said_of}
 use Rattle.hotel_core.specs.Model.Rows.{Rows}
@@ -9,8 +9,7 @@ use Rattle.hotel_rows.specs.declared.stored.PlainFit.{PlainFit}
 use Rattle.hotel_rows.specs.declared.stored.PlainRoom.{PlainRoom}
 use Rattle.hotel_rows.specs.declared.stored.Stored.{Stored}
 use Rattle.hotel_rows.specs.Joined.{joined, first_fits}
-use Rattle.hotel_rows.specs.Stored.{number_of, kind_text, room_entry, code_entry, stay_entry, card_entry, inside_pair}
-use Rattle.hotel_rows.specs.Stored.{note_entry, fit_entry, first_fit, fits_of, rows_of}
+use Rattle.hotel_rows.specs.Stored.{room_entry, note_entry, fit_entry, first_fit, fits_of, rows_of}
 use Rattle.hotel_rows.specs.Keys.{room_key}
 
 -- the fits that rooms begin with
