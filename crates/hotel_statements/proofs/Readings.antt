@@ -1,5 +1,5 @@
 -- What a reading of a whole table leaves of the connection.
-use Rattle.std.proofs.Common.{◌≡◌, inl, inr, refl, sym, ap, subst, ◌∙◌, List, [], ℕ, OnOk, IfOk, Ok, Err, Result, IsTrue, false, arith}
+use Rattle.std.proofs.Common.{◌≡◌, inl, inr, sym, ap, subst, ◌∙◌, List, [], ℕ, OnOk, IfOk, Ok, Err, Result, IsTrue, false, arith}
 use Rattle.sqlite_value.specs.declared.value.Value.TheVariants.{Null}
 use Rattle.sqlite.specs.Order.{Row}
 use Rattle.sqlite.specs.Tree.{Trees}
@@ -78,21 +78,3 @@ module _ (version : Version) (text : List ℕ) (q : Query) (old new : State) (ou
       let stays : HasCleanDisk new → IsKept old → Stays old new = λ clean kept. fails_stay text [] old new e (plain_in kept) (fails clean) in
       let opened : HasCleanDisk new → IsTrue new.is_open → IsTrue old.is_open = λ clean. fail_opened text [] old new e (fails clean) in
       record { ours = read_ours stays opened; keeps = read_keeps stays opened; says = λ _. tt; open_on = λ _ _. tt; crash = read_crash }
-
--- where nothing is read, nothing changes
-pub nothing_read : {R : Type 0} (version : Version) (Says : R → Trees → Type 0) (s : State) (r : R) → IsOurs version s
-    → Says r s.now.trees → ReadsTo version Says s s (Ok r)
-nothing_read version Says s r ours is = record {
-  ours = ours;
-  keeps = λ kept. (kept, refl);
-  says = λ _. is;
-  open_on = λ kept _. kept.1;
-  crash = record {
-    clean = omega (arith);
-    shield = λ shield. shield;
-    counts = omega (arith);
-    limit = refl;
-    closes = λ _ is_open. inl is_open;
-    crash = λ _ db left. inl left;
-  };
-}
