@@ -81,9 +81,8 @@ indexes schema text at t index old new count maker has_open h =
     let out = λ (tally : Tally). let r : Result (Tally × Database) (Option Error) = Ok (tally, new.now) in r in
     let ran = runs_as text [] old new schema has (CreateIndex at) maker.command maker.plain count h.0 in
     let w = subst (λ x. Writes old new None (CreateIndex at) x [] count) maker.whole ran in
-    let whole =
-    subst (λ s. Does old.step_limit (mode_of old) [] (record old.now { schema = s }) text None (CreateIndex at) (out w.tally))
-    has w.changed in
+    let run = λ (d : Database). Does old.step_limit (mode_of old) [] d text None (CreateIndex at) (out w.tally) in
+    let whole = subst (λ (s : Schema). run (record old.now { schema = s })) has w.changed in
     let made = went (subst (λ o. AtPlace (λ table. Defines (mode_of old) (MakesIndex text db table)) o (out w.tally))
     maker.there whole) in
     let did = made.1 in

@@ -65,8 +65,8 @@ module _ (version : Version) (text : List ℕ) (q : Query) (old new : State) (ou
         ours = read_ours stays opened;
         keeps = read_keeps stays opened;
         says = λ kept. let was = was_kept stays opened kept in is
-            ((reads_as text [] old new (schema_of version) (ours.tables was).0 _ (command_is q _ asks.query).1 asks.plain
-            asks.listing rows (shown kept.0)).answer Null);
+            ((reads_as text [] old new (schema_of version) (ours.tables was).0 _ (command_is q _ asks.query).1
+            asks.plain asks.listing rows (shown kept.0)).answer Null);
         open_on = λ kept clean. on_ok result (shown_is_open text [] old new rows (plain_in kept) (shown clean));
         crash = read_crash;
       }

@@ -33,8 +33,8 @@ pub record IsOurs (version : Version) (s : State) : Type 0 where
   pub autocommit : s.in_transaction ≡ false
   pub tables : IsKept s → (s.now.schema ≡ schema_of version) × (s.now ≡ s.committed)
 
--- The text reads a whole table of a desk of a version: to it that is a query, whose answer has the columns of the tree's
--- rows, in some order.
+-- The text reads a whole table of a desk of a version: to it that is a query, whose answer has the columns of the
+-- tree's rows, in some order.
 pub record IsWhole (version : Version) (text : List ℕ) (tree : ℕ) (columns cut : Row → Row) : Type 0 where
   pub query : Query
   pub asks : AsksOf (schema_of version) text query

@@ -19,7 +19,8 @@ returns-in-Ok g c =
     c.in-Ok.rows.items c.plain_rows_of.result c.in-Ok.ensures.ok
     (λ answer. IfOk-weaker c.plain_rows_of.result _ _ (λ plain_rows are.
     subst (IsPermutation (map g.L.PlainRow.columns (old.now.trees g.L.PlainRow.tree)))
-    (sym (are ∙ ap (map g.L.PlainRow.cut) c.deref.ensures.value)) (whole.answers old.now.trees c.in-Ok.rows.items answer))
+    (sym (are ∙ ap (map g.L.PlainRow.cut) c.deref.ensures.value))
+    (whole.answers old.now.trees c.in-Ok.rows.items answer))
     c.plain_rows_of.ensures)
 
 pub returns-in-Err : goal.returns-in-Err
