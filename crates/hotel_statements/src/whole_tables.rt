@@ -4,8 +4,6 @@ ghost use Rattle.std.specs.List.{list_all};
 ghost use Rattle.std.specs.Ordering.{is_lt};
 ghost use Rattle.sqlite.specs.Held.{state};
 ghost use Rattle.hotel_core.specs.Model.SoundRooms.{are_in_order};
-ghost use Rattle.hotel_statements.specs.declared.version.Version.{Version};
-ghost use Rattle.hotel_statements.specs.declared.version.Version.TheVariants as of;
 ghost use Rattle.hotel_statements.specs.WholeTables.{IsOurs, IsWhole, ReadsTo, AreFirst, AreLast, AreFitRows, AreRead};
 ghost use Rattle.hotel_statements.specs.PlainRows.{ArePlainRows};
 
