@@ -1,8 +1,8 @@
 -- A desk of the second version made of one of the first: its statements in turn, how their transaction ends, and what
 -- that leaves.
-use Rattle.std.proofs.Common.{◌≡◌, ◌<◌, ◌+◌, ◌++◌, inl, inr, refl, sym, ap, ap₂, subst, ◌∙◌, List, [], ◌∷◌, ℕ, zero, suc}
-use Rattle.std.proofs.Common.{take, length, get_or, map, true, false, Ok, Err, Result, OnOk, OnErr, IfErr, IsErr, IsTrue}
-use Rattle.std.proofs.Common.{true≢false, arith, nat_cmp, Less}
+use Rattle.std.proofs.Common.{◌≡◌, ◌<◌, ◌+◌, ◌++◌, inl, inr, refl, sym, ap, ap₂, subst, ◌∙◌, List, [], ◌∷◌, ℕ, zero}
+use Rattle.std.proofs.Common.{suc, take, length, get_or, map, true, false, Ok, Err, Result, OnOk, OnErr, IfErr, IsErr}
+use Rattle.std.proofs.Common.{IsTrue, true≢false, arith, nat_cmp}
 use Rattle.std.specs.List.{AllByRecursion}
 use Rattle.std.proofs.lemmas.Bool.Decides.{nat_tests}
 use Rattle.std.proofs.lemmas.List.{take_more, map_push}
@@ -93,7 +93,8 @@ version_then {a} {b} {c} {u} {r} tables kept survives next = record {
     go (Err e) makes commit did = tt
     go (Ok u) makes commit did = λ before.
         let first = makes (λ is_open. (before is_open).schema) in
-        let tables = same_tables {version = First} a.now.trees b.now.trees first.rows (before first.was_open).tables tt in
+        let was = before first.was_open in
+        let tables = same_tables {version = First} a.now.trees b.now.trees first.rows was.tables tt in
         let last = did (λ _. record {
           schema = first.schema_is;
           inside = first.inside;
@@ -161,7 +162,8 @@ room_then {rooms} {a} {b} {c} {u} {r} i room low is one two = record {
         let desk = before first.was_open in
         let up : InOrder nat_cmp rooms = subst (InOrder nat_cmp) (sym desk.1)
         (keys_rise nat_cmp (bare_rooms_in a.now.trees) (rooms_rise {version = First} a.now.trees desk.0.tables)) in
-        let earlier : AreEarlier room so_far = subst (λ x. AreEarlier x so_far) (sym is) (all_earlier room rooms i low up) in
+        let earlier : AreEarlier room so_far =
+        subst (λ x. AreEarlier x so_far) (sym is) (all_earlier room rooms i low up) in
         let last = next (λ _. record {
           mid = first.mid;
           earlier = subst (AreEarlier room) (sym first.fits_are) earlier;
@@ -309,7 +311,8 @@ module _ {rooms : List ℕ} {old start mid : State} {u : Unit {0}} (b : BeginsFi
 
   module _ {new : State} (r : Result (Unit {0}) Error) (zero : Survives old start (λ _. ⊥))
       (autocommit : new.in_transaction ≡ false) (ok : HasCleanDisk new → Committed new r)
-      (err : HasCleanDisk new → IfErr r (FailsToCommit mid new)) (two : Survives mid new (λ db. db ≡ mid.now.trees)) where
+      (err : HasCleanDisk new → IfErr r (FailsToCommit mid new))
+      (two : Survives mid new (λ db. db ≡ mid.now.trees)) where
     clean_mid : HasCleanDisk new → HasCleanDisk mid
     clean_mid clean = omega (arith, two.clean, clean)
 
