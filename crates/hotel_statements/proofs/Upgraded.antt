@@ -133,6 +133,9 @@ fits_more rooms i room low is =
     ap (λ x. map first_of (take i rooms) ++ first_of x ∷ []) is
     ∙ sym (ap (map first_of) (take_more rooms i room low) ∙ map_push first_of (take i rooms) (get_or rooms i room))
 
+abbrev AreEarlier : ℕ → Fits → Type 0
+AreEarlier room fits = AllByRecursion (λ (e : (ℕ × ℕ) × FitRow). e.0.0 < room) fits
+
 pub room_then : {rooms : List ℕ} {a b c : State} {u : Unit {0}} {r : Result (Unit {0}) Error} (i room : ℕ)
     → i < length rooms → room ≡ get_or rooms i room
     → GivesFits (IsFirstWith rooms) (map first_of (take i rooms)) a b (Ok u)
@@ -146,9 +149,6 @@ room_then {rooms} {a} {b} {c} {u} {r} i room low is one two = record {
   where
     was : HasCleanDisk c → HasCleanDisk b
     was clean = omega (arith, two.survives.clean, clean)
-
-    abbrev AreEarlier : ℕ → Fits → Type 0
-    AreEarlier room fits = AllByRecursion (λ (e : (ℕ × ℕ) × FitRow). e.0.0 < room) fits
 
     so_far : Fits
     so_far = map first_of (take i rooms)
@@ -260,15 +260,15 @@ pub given_up : {rooms : List ℕ} {old start mid new : State} {e : Error} (r : R
     → BeginsFirst rooms old start → Survives old start (λ _. ⊥) → Upgrades rooms start mid (Err e)
     → new.in_transaction ≡ false → (HasCleanDisk new → IsRolledBack mid new) → Survives mid new (λ _. ⊥)
     → Migrates old new r
-given_up (Ok u) is b zero did autocommit undone two = absurd cc
-given_up {rooms} {old} {start} {mid} {new} (Err e) is b zero did autocommit undone two = record {
+given_up (Ok u) is b began did autocommit undone two = absurd cc
+given_up {rooms} {old} {start} {mid} {new} (Err why) is b began did autocommit undone two = record {
   books = tt;
   left = record { autocommit = autocommit; desk = λ kept. (back kept).1.0 };
   was = λ kept. (back kept).0;
   made = λ kept. tt;
   same = λ kept. (back kept).1.1;
   crash = survives_then old mid new (λ _. ⊥) (λ _. ⊥) (IsUpgradeOf old.now.trees) (λ _ _ none. absurd none)
-      (λ _ _ none. absurd none) (none_new zero did.survives) two;
+      (λ _ _ none. absurd none) (none_new began did.survives) two;
 }
   where
     back : IsKept new → IsKept old × (IsFirstDesk new × (new.now ≡ old.now))
@@ -309,7 +309,7 @@ module _ {rooms : List ℕ} {old start mid : State} {u : Unit {0}} (b : BeginsFi
   Committed new r = OnOk r (IsTrue mid.in_transaction × Shows mid new mid.now mid.now false × KeepsCounts mid new
       × (new.marks ≡ []))
 
-  module _ {new : State} (r : Result (Unit {0}) Error) (zero : Survives old start (λ _. ⊥))
+  module _ {new : State} (r : Result (Unit {0}) Error) (began : Survives old start (λ _. ⊥))
       (autocommit : new.in_transaction ≡ false) (ok : HasCleanDisk new → Committed new r)
       (err : HasCleanDisk new → IfErr r (FailsToCommit mid new))
       (two : Survives mid new (λ db. db ≡ mid.now.trees)) where
@@ -356,7 +356,7 @@ module _ {rooms : List ℕ} {old start mid : State} {u : Unit {0}} (b : BeginsFi
       made = λ kept. made r (ends kept);
       same = λ kept. same r (ends kept);
       crash = survives_then old mid new (λ _. ⊥) (λ db. db ≡ mid.now.trees) (IsUpgradeOf old.now.trees)
-          (λ _ db none. absurd none) (λ clean db is. whole (clean_mid clean) db is) (none_new zero did.survives) two;
+          (λ _ db none. absurd none) (λ clean db is. whole (clean_mid clean) db is) (none_new began did.survives) two;
     }
       where
         books : (r : Result (Unit {0}) Error) → (IsKept new → Ended r) → OnOk r (IsBooks new)

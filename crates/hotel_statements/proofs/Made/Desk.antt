@@ -1,6 +1,6 @@
 -- A desk of whose tables one is written: of the nine lists one moves, and those of rooms and notes with the fits.
-use Rattle.std.proofs.Common.{◌≡◌, ◌≢◌, true, inl, inr, refl, sym, ap, ap₂, subst, ◌∙◌, List, [], ◌∷◌, map, ℕ, Option}
-use Rattle.std.proofs.Common.{IsTrue, arith, eqb}
+use Rattle.std.proofs.Common.{◌≡◌, ◌≢◌, true, inl, inr, refl, sym, ap, ap₂, subst, ◌∙◌, List, [], ◌∷◌, map, ℕ}
+use Rattle.std.proofs.Common.{Option, None, IsTrue, arith, eqb}
 use Rattle.std.specs.Cmp.Lexicographic.{slice_cmp}
 use Rattle.std.specs.Ordering.{nat_cmp}
 use Rattle.std.specs.List.{AllByRecursion}
@@ -19,8 +19,8 @@ use Rattle.hotel_nights.specs.declared.stay.Stay.{Stay}
 use Rattle.hotel_core.specs.declared.books.rows.RoomRow.{RoomRow}
 use Rattle.hotel_core.specs.declared.books.rows.CodeRow.{CodeRow}
 use Rattle.hotel_core.specs.declared.books.rows.FitRow.{FitRow}
-use Rattle.hotel_core.specs.Model.Words.{pair_cmp}
-use Rattle.hotel_core.specs.Model.Rows.{Rows}
+use Rattle.hotel_core.specs.Model.Words.{pair_cmp, said_of}
+use Rattle.hotel_core.specs.Model.Rows.{Rows, at_number}
 use Rattle.hotel_rows.specs.Joined.{with_fit, under_fit, joined}
 use Rattle.hotel_statements.specs.declared.version.Version.{Version}
 use Rattle.hotel_statements.specs.declared.version.Version.TheVariants.{First}
@@ -378,7 +378,10 @@ version_set {db} {rows} was empty made =
     let day = was.meta_row.0 in
     let no_fits : AreFits [] = record { good = tt; apart = tt } in
     let now : bare_rows_in (with_tree db 0 rows) ≡ record (bare_rows_in db) { day = day } = rw made.1 refl in
-    let before : bare_rows_in db ≡ record (bare_rows_in db) { day = day } = rw was.meta_row.1 refl in (
+    let before : bare_rows_in db ≡ record (bare_rows_in db) { day = day } =
+    ap (λ (metas : List (ℕ × (ℕ × Option ℕ))). let all : Rows = record (bare_rows_in db) {
+      day = said_of (at_number metas 1) None (λ meta. meta.1);
+    } in all) was.meta_row.1 in (
       record {
         meta = made.0;
         meta_row = (day, made.1);

@@ -5,6 +5,6 @@ use Rattle.hotel_statements.proofs.upgrade.upgrade.Goals as goal
 pub rooms-preserved : goal.rooms-preserved
 rooms-preserved g c = (
   search rules,
-  room_then c.rooms.i c.index-rooms-i.result (omega arith) c.index-rooms-i.is c.rooms.invariant.1
-  c.in_ok-insert_first_fit.ensures.makes,
+  room_then {rooms = c.args.rooms.now} c.rooms.i c.index-rooms-i.result (omega arith) c.index-rooms-i.is c.rooms.invariant.1
+      c.in_ok-insert_first_fit.ensures.makes,
 )
