@@ -1,11 +1,11 @@
 -- A desk of the second version made of one of the first: its statements in turn, how their transaction ends, and what
 -- that leaves.
-use Rattle.std.proofs.Common.{◌≡◌, ◌<◌, ◌+◌, ◌++◌, inl, inr, refl, sym, ap, ap₂, subst, ◌∙◌, List, [], ◌∷◌, ℕ, zero}
+use Rattle.std.proofs.Common.{◌≡◌, ◌<◌, ◌≤◌, ◌+◌, ◌++◌, inl, inr, refl, sym, ap, ap₂, subst, ◌∙◌, List, [], ◌∷◌, ℕ, zero}
 use Rattle.std.proofs.Common.{suc, take, length, get_or, map, true, false, Ok, Err, Result, OnOk, OnErr, IfErr, IsErr}
 use Rattle.std.proofs.Common.{IsTrue, true≢false, arith, nat_cmp}
 use Rattle.std.specs.List.{AllByRecursion}
 use Rattle.std.proofs.lemmas.Bool.Decides.{nat_tests}
-use Rattle.std.proofs.lemmas.List.{take_more, map_push}
+use Rattle.std.proofs.lemmas.List.{take_all, take_more, map_push}
 use Rattle.sqlite_catalog.specs.Listing.{IsSound}
 use Rattle.sqlite.specs.Tree.{Trees}
 use Rattle.sqlite.specs.Effect.{Database}
@@ -180,27 +180,25 @@ room_then {rooms} {a} {b} {c} {u} {r} i room low is one two = record {
         }
 
 -- all rooms have their fits
-pub all_given : {rooms : List ℕ} {a b : State} {r : Result (Unit {0}) Error}
-    → GivesFits (IsFirstWith rooms) (map first_of rooms) a b r → Upgrades rooms a b r
-all_given {rooms} {a} {b} {r} it =
-    record { made = λ clean. go r (it.made clean); kept = it.kept; survives = it.survives }
-  where
-    go : (r : Result (Unit {0}) Error) → OnOk r ((IsTrue a.is_open → IsFirstWith rooms a)
-        → HasFits (map first_of rooms) a b) → OnOk r ((IsTrue a.is_open → IsFirstWith rooms a) → IsUpgraded a b)
-    go (Err e) did = tt
-    go (Ok u) did = λ before.
-        let all = did before in
-        let rooms_are = (before all.was_open).1 in
-        let fits : map first_of rooms ≡ first_fits (bare_rooms_in a.now.trees) =
-        ap (map first_of) rooms_are ∙ fused first_of (λ e. e.0) (bare_rooms_in a.now.trees) in
-        record {
-          was_open = all.was_open;
-          is_open = all.is_open;
-          committed = all.committed;
-          mid = all.mid;
-          sound = all.sound;
-          rows_are = ap₂ joined (all.fits_are ∙ fits) all.bare_rows_are;
-        }
+pub all_given : {rooms : List ℕ} {a b : State} {u : Unit {0}} (i : ℕ) → length rooms ≤ i
+    → GivesFits (IsFirstWith rooms) (map first_of (take i rooms)) a b (Ok u) → Upgrades rooms a b (Ok u)
+all_given {rooms} {a} {b} i past it = record {
+  made = λ clean before.
+      let all = it.made clean before in
+      let fits : map first_of (take i rooms) ≡ first_fits (bare_rooms_in a.now.trees) =
+      ap (map first_of) (take_all i rooms past ∙ (before all.was_open).1)
+      ∙ fused first_of (λ e. e.0) (bare_rooms_in a.now.trees) in
+      record {
+        was_open = all.was_open;
+        is_open = all.is_open;
+        committed = all.committed;
+        mid = all.mid;
+        sound = all.sound;
+        rows_are = ap₂ joined (all.fits_are ∙ fits) all.bare_rows_are;
+      };
+  kept = it.kept;
+  survives = it.survives;
+}
 
 -- what failed promises no rows
 pub not_all : {Before : State → Type 0} {fits : Fits} {rooms : List ℕ} {a b : State} {e : Error}
