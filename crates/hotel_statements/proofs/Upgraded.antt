@@ -56,23 +56,6 @@ gives_one {Before} {text} {given} {fits} {old} {new} {r} params it step same =
     go (Err e) ran = tt
     go (Ok u) ran = step ran.0 (subst (λ ps. ExecutesInside 0 text ps old new (Ok ran.0)) same ran.1)
 
--- what failed promises no fits
-pub gives_none : {Before Others : State → Type 0} {fits others : Fits} {a b : State} {e : Error}
-    (r : Result (Unit {0}) Error) → IsErr r → GivesFits Before fits a b (Err e) → GivesFits Others others a b r
-gives_none (Ok u) is it = absurd cc
-gives_none (Err why) is it = record { made = λ clean. tt; kept = it.kept; survives = it.survives }
-
--- of a state that is such a one and more
-pub gives_from : {Before Others : State → Type 0} {fits : Fits} {a b : State} {r : Result (Unit {0}) Error}
-    → (Others a → Before a) → GivesFits Before fits a b r → GivesFits Others fits a b r
-gives_from {Before} {Others} {fits} {a} {b} {r} from it =
-    record { made = λ clean. go r (it.made clean); kept = it.kept; survives = it.survives }
-  where
-    go : (r : Result (Unit {0}) Error) → OnOk r ((IsTrue a.is_open → Before a) → HasFits fits a b)
-        → OnOk r ((IsTrue a.is_open → Others a) → HasFits fits a b)
-    go (Err e) did = tt
-    go (Ok u) did = λ before. did (λ is_open. from (before is_open))
-
 -- ---- the tables, and then the version
 
 pub version_then : {a b c : State} {u : Unit {0}} {r : Result (Unit {0}) Error} → (HasCleanDisk b → MakesNew a b)
@@ -199,12 +182,6 @@ all_given {rooms} {a} {b} i past it = record {
   kept = it.kept;
   survives = it.survives;
 }
-
--- what failed promises no rows
-pub not_all : {Before : State → Type 0} {fits : Fits} {rooms : List ℕ} {a b : State} {e : Error}
-    (r : Result (Unit {0}) Error) → IsErr r → GivesFits Before fits a b (Err e) → Upgrades rooms a b r
-not_all (Ok u) is it = absurd cc
-not_all (Err why) is it = record { made = λ clean. tt; kept = it.kept; survives = it.survives }
 
 -- ---- the transaction
 
