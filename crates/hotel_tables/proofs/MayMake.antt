@@ -328,7 +328,7 @@ known_row its_change tells None known e = absurd (let w : ◌≡◌ {A = Option 
 row_known : {X : Type 0} (its_change : Change) (tells : X → Known) (o : Option X) (x : X) → o ≡ Some x
     → can_count its_change (tells x) ≡ true → IsSome (counted_on its_change (option_map tells o))
 row_known its_change tells o x there can =
-    subst (λ o. IsSome (counted_on its_change (option_map tells o))) (sym there)
+    subst (λ found. IsSome (counted_on its_change (option_map tells found))) (sym there)
     (subst (λ b. IsSome (if b then Some (tells x) else None)) (sym can) refl)
 
 row_there : {X : Type 0} (o : Option X) → IsSome o → (x : X) × (o ≡ Some x)

@@ -1,4 +1,4 @@
-use Rattle.std.proofs.Common.{◌∙◌, sym, ap}
+use Rattle.std.proofs.Common.{◌∙◌, sym, ap, Some}
 use Rattle.std.specs.Prelude.{option_map}
 use Rattle.sqlite.specs.Held.{state}
 use Rattle.hotel_statements.specs.LookUps.{counts_of_row}
@@ -23,7 +23,8 @@ returns g c =
     record {
       books = c.in_ok-bare.ensures.books;
       keeps = c.in_ok-bare.ensures.keeps;
-      found = λ kept. ap (option_map counts_of_row) (sym c.in-Some.is ∙ c.in_ok-bare.ensures.found kept)
+      found = λ kept. ap Some c.counts.ensures
+          ∙ ap (option_map counts_of_row) (sym c.in-Some.is ∙ c.in_ok-bare.ensures.found kept)
           ∙ counts_are old.now.trees c.args.room;
       open_on = c.in_ok-bare.ensures.open_on;
       crash = c.in_ok-bare.ensures.crash;
