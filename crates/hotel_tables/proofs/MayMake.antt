@@ -31,7 +31,7 @@ use Rattle.hotel_rows.proofs.OfJoined.{number_of_last}
 use Rattle.hotel_statements.specs.Statements.{Known}
 use Rattle.hotel_statements.specs.Steps.{is_below, is_up_to, counts_to, IsNextFit, IsNewRoom, IsRefit, IsNewNote}
 use Rattle.hotel_statements.specs.Steps.{IsNumbered}
-use Rattle.hotel_tables.specs.Applied.{MayMake, can_count, known_by_room, known_by_fit, known_for}
+use Rattle.hotel_tables.specs.Applied.{MayMake, can_count, known_by_room, known_by_fit, told_for, counted_on, known_for}
 
 -- ---- tables before a row was put in
 
@@ -310,11 +310,7 @@ module _ (note : Note) (lock_place : ℕ) (secured : Bool) (insides : InsideMove
 
 -- ---- what is known for a change
 
--- what is known, where the change can count on from it
-abbrev counted_on : Change → Option Known → Option Known
-counted_on its_change o = said_of o None (λ known. if can_count its_change known then Some known else None)
-
--- it is what a row tells
+-- what is known is what a row tells
 known_row : {X : Type 0} (its_change : Change) (tells : X → Known) (o : Option X) (known : Known)
     → counted_on its_change (option_map tells o) ≡ Some known → (x : X) × (o ≡ Some x) × (tells x ≡ known)
 known_row its_change tells (Some x) known e = (x, refl, by (can_count its_change (tells x)) e)
@@ -349,7 +345,7 @@ code_known its_change rows room can some few =
     (subst (λ o. said_of o 0 (λ (x : RoomRow). x.codes) < 2 ^ 32 - 1) p.1 few))
 
 -- what a change that fits needs is known
-pub is_known : (its_change : Change) (rows : Rows) → Fits its_change rows → IsSome (known_for its_change rows)
+is_known : (its_change : Change) (rows : Rows) → Fits its_change rows → IsSome (known_for its_change rows)
 is_known (change.Issue card room leaves) rows fits =
     code_known (change.Issue card room leaves) rows room (λ k. refl) fits.0.0 fits.0.1
 is_known (change.Refit room code fit) rows fits =
@@ -360,6 +356,11 @@ is_known (change.Noted note lock_place secured insides) rows fits =
     row_known (change.Noted note lock_place secured insides) known_by_fit (fit_at rows note.room note.fit) f.0 f.1
     (below (f.0.before + note.count) (2 ^ 32) (subst (λ n. n + note.count < 2 ^ 32) (sym f.2) fits.0.2))
 is_known _ rows fits = refl
+
+pub is_known_by : (its_change : Change) (rows : Rows) → Fits its_change rows → (o : Option Known)
+    → told_for its_change rows ≡ o → IsSome (counted_on its_change o)
+is_known_by its_change rows fits o e = subst (λ found. IsSome (counted_on its_change found)) e
+    (is_known its_change rows fits)
 
 -- the statements of a change that fits have what they ask of the rows
 pub may_make : (its_change : Change) (known : Known) (rows : Rows) → Fits its_change rows

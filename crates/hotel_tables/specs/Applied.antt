@@ -52,10 +52,13 @@ can_count (Refit room code fit) known = nat_lt known.codes (2 ^ 32 - 1)
 can_count (Noted note lock_place secured insides) known = nat_lt (known.before + note.count) (2 ^ 32)
 can_count _ known = true
 
+-- what was told, where the change can count on from it
+abbrev pub counted_on : Change → Option Known → Option Known
+counted_on change o = said_of o None (λ known. if can_count change known then Some known else None)
+
 -- What is known for a change: none, where the row that tells it isn't there, or where what is added can't be counted.
 abbrev pub known_for : Change → Rows → Option Known
-known_for change rows =
-    said_of (told_for change rows) None (λ known. if can_count change known then Some known else None)
+known_for change rows = counted_on change (told_for change rows)
 
 -- A change, of the books' connection from old to new: it is made whole or not at all, and a crash leaves what it could leave before, or the change made.
 pub record Applies (change : Change) (old new : State) (result : Result (Unit {0}) LookFault) : Type 0 where
