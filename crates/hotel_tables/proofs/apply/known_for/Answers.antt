@@ -13,8 +13,8 @@ returns-in_default-clause-there g c = λ kept.
     is_known_by c.args.change.now (rows_in old.now.trees) (c.requires.fits (looks.keeps kept).0) None
     (sym (looks.found kept) ∙ ap (option_map told) c.in_default.is)
 
-pub returns-clause-there : goal.returns-clause-there
-returns-clause-there g c = λ kept.
+pub returns-else-can_count-clause-there : goal.returns-else-can_count-clause-there
+returns-else-can_count-clause-there g c = λ kept.
     let change = c.args.change.now in
     let old = state g.S.Store c.args.conn.now in
     let known = told c.in-Some.known in
