@@ -19,8 +19,10 @@ use Rattle.keycard_rules.specs.declared.issued.LookFault.{LookFault}
 use Rattle.keycard_rules.specs.declared.issued.LookFault.TheVariants as why
 use Rattle.hotel_core.specs.declared.books.rows.NextNumbers.{NextNumbers}
 use Rattle.hotel_core.specs.declared.books.rows.FitRow.{FitRow}
+use Rattle.hotel_core.specs.declared.books.rows.RoomRow.{RoomRow}
 use Rattle.hotel_core.specs.Books.Lookups.{number_after}
 use Rattle.hotel_core.specs.Model.Rows.{Rows}
+use Rattle.hotel_statements.specs.declared.look_ups.RoomCounts.{RoomCounts}
 use Rattle.hotel_statements.specs.Schema.{desk_schema}
 use Rattle.hotel_statements.specs.Tables.{rows_in}
 use Rattle.hotel_statements.specs.Books.{IsKept, IsBooks, KeepsRows}
@@ -87,3 +89,7 @@ numbered_fit (f ∷ fs) number = if f.fit == number then Some f else numbered_fi
 -- the numbers after the last party and the last card
 abbrev pub next_numbers_of : Rows → NextNumbers
 next_numbers_of rows = record { party = number_after (length rows.stays); card = number_after (length rows.cards) }
+
+-- how many codes and notes a room has, by its row
+abbrev pub counts_of_row : RoomRow → RoomCounts
+counts_of_row row = record { codes = row.codes; notes = row.notes }

@@ -1,6 +1,6 @@
 //! The look-ups of the books, each over the connection: one keyed statement, but for a room, a note and the next
 //! numbers, which are two.
-ghost use Rattle.std.specs.Prelude.{◌≡◌, ◌<◌, ◌^◌, not, length, true, unwrap_or};
+ghost use Rattle.std.specs.Prelude.{◌≡◌, ◌<◌, ◌^◌, not, length, true, option_map, unwrap_or};
 ghost use Rattle.std.specs.Map.{keys_of, lookup};
 ghost use Rattle.std.specs.BTreeMap.{is_at};
 ghost use Rattle.hotel_core.specs.Model.SoundRooms.{count_up};
@@ -11,7 +11,7 @@ ghost use Rattle.hotel_core.specs.Model.Words.{is_one_of, pair_cmp};
 ghost use Rattle.hotel_core.specs.Model.Guests.{are_none};
 ghost use Rattle.hotel_core.specs.Books.Lookups.{room_at, codes_in, code_place, code_at, stay_at, stays_of_kind, card_at, inside_at, note_at, number_after};
 ghost use Rattle.hotel_statements.specs.Books.{IsBooks, IsKept};
-ghost use Rattle.hotel_statements.specs.LookUps.{Looks, Finds, numbered_fit, next_numbers_of};
+ghost use Rattle.hotel_statements.specs.LookUps.{Looks, Finds, counts_of_row, numbered_fit, next_numbers_of};
 
 use crate::from_row::bare_rows::{BareNote, BareRoom, note_with, room_with};
 use crate::look::{look, look_all};
@@ -28,6 +28,15 @@ use keycard_rules::{
 };
 use sqlite::{Alter, Connection};
 use std::alloc::Global;
+
+/// How many codes and notes a room has.
+#[derive(Clone, Copy, Debug, PartialEq, Eq)]
+pub struct RoomCounts {
+    /// How many codes were issued at the room.
+    pub codes: u32,
+    /// How many notes of its locks were taken.
+    pub notes: u32,
+}
 
 /// The day of the desk, where one was set.
 pub fn day<S: Alter>(alloc: Global, conn: &mut Connection<S>) -> Result<Option<Day>, LookFault>
@@ -109,6 +118,22 @@ pub fn room<S: Alter>(
     };
     let fits = fits_of_room(alloc, conn, room)?;
     Ok(Some(room_with(&bare, &fits)?))
+}
+
+/// How many codes and notes a room has: its row alone says it, and no fit is read.
+pub fn room_counts<S: Alter>(
+    alloc: Global,
+    conn: &mut Connection<S>,
+    room: RoomNo,
+) -> Result<Option<RoomCounts>, LookFault>
+    requires { IsBooks (state S.Store conn.old) }
+    ensures { Looks (λ a. a) (λ rows. option_map counts_of_row (room_at rows room))
+        (state S.Store conn.old) (state S.Store conn.new) result }
+{
+    let Some(bare) = bare_room(alloc, conn, room)? else {
+        return Ok(None);
+    };
+    Ok(Some(bare.counts()))
 }
 
 /// The stay of a party.

@@ -1,7 +1,7 @@
 -- What a change that fits is to the statements that make it.
 use Rattle.std.proofs.Common.{ℕ, suc, ◌≡◌, ◌≤◌, ◌+◌, ◌-◌, Bool, true, false, cond, Option, Some, None, IsSome, refl, ap}
 use Rattle.std.proofs.Common.{sym, List, [], ◌∷◌, length, filter, ◌∙◌, subst, arith, ◌==◌, ◌&&◌, ◌||◌, not, nat_le, nat_lt}
-use Rattle.std.proofs.Common.{nat_cmp, is_eq, Ordering, Less, Equal, Greater, if◌then◌else◌}
+use Rattle.std.proofs.Common.{nat_cmp, is_eq, Ordering, Less, Equal, Greater, if◌then◌else◌, option_map, ◌<◌, ◌^◌}
 use Rattle.hotel_core.specs.declared.books.rows.RoomRow.{RoomRow}
 use Rattle.hotel_core.specs.declared.books.rows.FitRow.{FitRow}
 use Rattle.hotel_core.specs.declared.books.change.Change.{Change}
@@ -31,7 +31,7 @@ use Rattle.hotel_rows.proofs.OfJoined.{number_of_last}
 use Rattle.hotel_statements.specs.Statements.{Known}
 use Rattle.hotel_statements.specs.Steps.{is_below, is_up_to, counts_to, IsNextFit, IsNewRoom, IsRefit, IsNewNote}
 use Rattle.hotel_statements.specs.Steps.{IsNumbered}
-use Rattle.hotel_tables.specs.Applied.{MayMake, can_count, known_of, known_at, known_for}
+use Rattle.hotel_tables.specs.Applied.{MayMake, can_count, known_by_room, known_by_fit, told_for, counted_on, known_for}
 
 -- ---- tables before a row was put in
 
@@ -284,6 +284,14 @@ module _ (note : Note) (lock_place : ℕ) (secured : Bool) (insides : InsideMove
       found_under row.fit note _ (some_is _ found.0 found.1)
       (sym at ∙ note_of_fit_found after fits.1 note.room (noted_row row) there row.fit note.count least)
 
+  -- its fit is found, and tells how many notes the room had before
+  fit_known : (f : FitRow) × (fit_at rows note.room note.fit ≡ Some f) × (f.before ≡ before_in rows note.room)
+  fit_known = (
+    said.last.0,
+    ap (fit_at rows note.room) is_of_present ∙ present,
+    said.last.3 ∙ sym (ap (λ o. said_of o 0 (λ (x : RoomRow). x.before)) here),
+  )
+
   -- the note has its fit and its count by its number
   new_note : IsNewNote note number rows
   new_note =
@@ -300,18 +308,59 @@ module _ (note : Note) (lock_place : ℕ) (secured : Bool) (insides : InsideMove
         counted = ap (λ o. said_of o false (counts_to note number)) last ∙ counts;
       }
 
--- ---- what is known of a room
+-- ---- what is known for a change
 
-known_by : (b : Bool) (row : RoomRow) (known : Known) → (if b then Some (known_of row) else None) ≡ Some known
-    → known_of row ≡ known
-known_by true row known e = cc
-known_by false row known e = cc
+-- what is known is what a row tells
+known_row : {X : Type 0} (its_change : Change) (tells : X → Known) (o : Option X) (known : Known)
+    → counted_on its_change (option_map tells o) ≡ Some known → (x : X) × (o ≡ Some x) × (tells x ≡ known)
+known_row its_change tells (Some x) known e = (x, refl, by (can_count its_change (tells x)) e)
+  where
+    by : (b : Bool) → (if b then Some (tells x) else None) ≡ Some known → tells x ≡ known
+    by true e = cc
+    by false e = cc
+known_row its_change tells None known e = absurd (let w : ◌≡◌ {A = Option Known} None (Some known) = e in cc)
 
--- the row by which a room is known
-known_row : (its_change : Change) (o : Option RoomRow) (known : Known)
-    → said_of o None (known_at its_change) ≡ Some known → (row : RoomRow) × (o ≡ Some row) × (known_of row ≡ known)
-known_row its_change (Some row) known e = (row, refl, known_by (can_count its_change (known_of row)) row known e)
-known_row its_change None known e = absurd (let w : ◌≡◌ {A = Option Known} None (Some known) = e in cc)
+-- a row that is there tells it
+row_known : {X : Type 0} (its_change : Change) (tells : X → Known) (o : Option X) (x : X) → o ≡ Some x
+    → can_count its_change (tells x) ≡ true → IsSome (counted_on its_change (option_map tells o))
+row_known its_change tells o x there can =
+    subst (λ found. IsSome (counted_on its_change (option_map tells found))) (sym there)
+    (subst (λ b. IsSome (if b then Some (tells x) else None)) (sym can) refl)
+
+row_there : {X : Type 0} (o : Option X) → IsSome o → (x : X) × (o ≡ Some x)
+row_there (Some x) some = (x, refl)
+row_there None some = absurd (let w : false ≡ true = some in cc)
+
+below : (k n : ℕ) → k < n → nat_lt k n ≡ true
+below k n low = grind (arith, nat_tests)
+
+-- the room of a change that adds a code is known
+code_known : (its_change : Change) (rows : Rows) (room : ℕ)
+    → ((k : Known) → can_count its_change k ≡ nat_lt k.codes (2 ^ 32 - 1)) → IsSome (room_at rows room)
+    → codes_of rows room < 2 ^ 32 - 1 → IsSome (counted_on its_change (option_map known_by_room (room_at rows room)))
+code_known its_change rows room can some few =
+    let p = row_there (room_at rows room) some in
+    row_known its_change known_by_room (room_at rows room) p.0 p.1
+    (can (known_by_room p.0) ∙ below p.0.codes (2 ^ 32 - 1)
+    (subst (λ o. said_of o 0 (λ (x : RoomRow). x.codes) < 2 ^ 32 - 1) p.1 few))
+
+-- what a change that fits needs is known
+is_known : (its_change : Change) (rows : Rows) → Fits its_change rows → IsSome (known_for its_change rows)
+is_known (change.Issue card room leaves) rows fits =
+    code_known (change.Issue card room leaves) rows room (λ k. refl) fits.0.0 fits.0.1
+is_known (change.Refit room code fit) rows fits =
+    code_known (change.Refit room code fit) rows room (λ k. refl) fits.0.0 fits.0.1
+is_known (change.Noted note lock_place secured insides) rows fits =
+    let p = row_there (room_at rows note.room) fits.0.0 in
+    let f = fit_known note lock_place secured insides rows p.0 p.1 fits in
+    row_known (change.Noted note lock_place secured insides) known_by_fit (fit_at rows note.room note.fit) f.0 f.1
+    (below (f.0.before + note.count) (2 ^ 32) (subst (λ n. n + note.count < 2 ^ 32) (sym f.2) fits.0.2))
+is_known _ rows fits = refl
+
+pub is_known_by : (its_change : Change) (rows : Rows) → Fits its_change rows → (o : Option Known)
+    → told_for its_change rows ≡ o → IsSome (counted_on its_change o)
+is_known_by its_change rows fits o e = subst (λ found. IsSome (counted_on its_change found)) e
+    (is_known its_change rows fits)
 
 -- the statements of a change that fits have what they ask of the rows
 pub may_make : (its_change : Change) (known : Known) (rows : Rows) → Fits its_change rows
@@ -319,10 +368,10 @@ pub may_make : (its_change : Change) (known : Known) (rows : Rows) → Fits its_
 may_make (change.Kind kind) known rows fits e = fits.0
 may_make (change.Room room kind code) known rows fits e = new_room room kind code rows fits
 may_make (change.Issue card room leaves) known rows fits e =
-    let p = known_row (change.Issue card room leaves) (room_at rows room) known e in
+    let p = known_row (change.Issue card room leaves) known_by_room (room_at rows room) known e in
     ap (λ o. said_of o 0 (λ (x : RoomRow). x.codes)) p.1 ∙ ap (λ (k : Known). k.codes) p.2
 may_make (change.Refit room code fit) known rows fits e =
-    let p = known_row (change.Refit room code fit) (room_at rows room) known e in
+    let p = known_row (change.Refit room code fit) known_by_room (room_at rows room) known e in
     subst (λ (k : Known). IsRefit room fit k.codes k.notes rows) p.2
     (record {
       codes_are = ap (λ o. said_of o 0 (λ (x : RoomRow). x.codes)) p.1;
@@ -330,10 +379,14 @@ may_make (change.Refit room code fit) known rows fits e =
       next = next_fit room code fit rows p.0 p.1 fits;
     })
 may_make (change.Noted note lock_place secured insides) known rows fits e =
-    let p = known_row (change.Noted note lock_place secured insides) (room_at rows note.room) known e in
-    subst (λ (k : Known). IsNumbered note (k.before + note.count) rows) p.2
-    (record {
-      number_is = number_is note lock_place secured insides rows p.0 p.1 fits;
-      note_new = new_note note lock_place secured insides rows p.0 p.1 fits;
-    })
+    let p = row_there (room_at rows note.room) fits.0.0 in
+    let f = fit_known note lock_place secured insides rows p.0 p.1 fits in
+    let k =
+    known_row (change.Noted note lock_place secured insides) known_by_fit (fit_at rows note.room note.fit) known e in
+    let same : f.0 ≡ k.0 = let w : Some f.0 ≡ Some k.0 = sym f.1 ∙ k.1 in cc in
+    let before : before_in rows note.room ≡ known.before =
+    sym f.2 ∙ ap (λ (x : FitRow). x.before) same ∙ ap (λ (x : Known). x.before) k.2 in
+    let is = number_is note lock_place secured insides rows p.0 p.1 fits in
+    subst (λ n. IsNumbered note n rows) (sym is ∙ ap (λ n. n + note.count) before)
+    (record { number_is = is; note_new = new_note note lock_place secured insides rows p.0 p.1 fits })
 may_make _ known rows fits e = tt

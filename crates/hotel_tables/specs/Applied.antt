@@ -1,16 +1,17 @@
 -- What a change of the books needs beside its rows, to be made over tables, and what making it says.
 use Rattle.std.specs.Prelude.{ℕ, ◌≡◌, ◌+◌, ◌-◌, ◌^◌, Bool, true, false, Option, Some, None, Result, OnOk, OnErr}
-use Rattle.std.specs.Prelude.{if◌then◌else◌, nat_lt}
+use Rattle.std.specs.Prelude.{if◌then◌else◌, nat_lt, option_map}
 use Rattle.sqlite.specs.Tree.{Trees}
 use Rattle.sqlite.specs.State.{State, Survives}
 use Rattle.keycard_rules.specs.declared.issued.LookFault.{LookFault}
 use Rattle.hotel_core.specs.declared.books.rows.RoomRow.{RoomRow}
+use Rattle.hotel_core.specs.declared.books.rows.FitRow.{FitRow}
 use Rattle.hotel_core.specs.declared.books.change.Change.{Change}
 use Rattle.hotel_core.specs.declared.books.change.Change.TheVariants.{Kind, Room, Issue, Refit, Noted}
 use Rattle.hotel_core.specs.Model.Words.{said_of}
 use Rattle.hotel_core.specs.Books.Lookups.{room_at}
 use Rattle.hotel_core.specs.Books.Change.{made, codes_of}
-use Rattle.hotel_core.specs.Model.Rows.{Rows, has_kind}
+use Rattle.hotel_core.specs.Model.Rows.{Rows, has_kind, fit_at}
 use Rattle.hotel_statements.specs.Tables.{rows_in}
 use Rattle.hotel_statements.specs.Books.{IsBooks, IsKept}
 use Rattle.hotel_statements.specs.Steps.{IsMadeOf, IsNewRoom, IsRefit, IsNumbered}
@@ -30,16 +31,19 @@ MayMake (Refit room code fit) known rows = IsRefit room fit known.codes known.no
 MayMake (Noted note lock_place secured insides) known rows = IsNumbered note (known.before + note.count) rows
 MayMake _ known rows = Unit {0}
 
--- the room at which a change adds a code or a note
-abbrev pub room_of : Change → Option ℕ
-room_of (Issue card room leaves) = Some room
-room_of (Refit room code fit) = Some room
-room_of (Noted note lock_place secured insides) = Some note.room
-room_of _ = None
+-- what a room's row tells the statements of a change, and what the row of a fit does
+abbrev pub known_by_room : RoomRow → Known
+known_by_room row = record { codes = row.codes; notes = row.notes; before = 0 }
 
--- what a room's row says of it
-abbrev pub known_of : RoomRow → Known
-known_of row = record { codes = row.codes; notes = row.notes; before = row.before }
+abbrev pub known_by_fit : FitRow → Known
+known_by_fit fit = record { codes = 0; notes = 0; before = fit.before }
+
+-- what the row of a change's room, or of its note's fit, tells: nothing, where the change adds no code and no note
+abbrev pub told_for : Change → Rows → Option Known
+told_for (Issue card room leaves) rows = option_map known_by_room (room_at rows room)
+told_for (Refit room code fit) rows = option_map known_by_room (room_at rows room)
+told_for (Noted note lock_place secured insides) rows = option_map known_by_fit (fit_at rows note.room note.fit)
+told_for _ rows = Some (record { codes = 0; notes = 0; before = 0 })
 
 -- one more code can be counted at the room of a change that adds one, or the number of the note that one adds
 abbrev pub can_count : Change → Known → Bool
@@ -48,18 +52,13 @@ can_count (Refit room code fit) known = nat_lt known.codes (2 ^ 32 - 1)
 can_count (Noted note lock_place secured insides) known = nat_lt (known.before + note.count) (2 ^ 32)
 can_count _ known = true
 
--- of a room whose row is this, where the change can count on
-abbrev pub known_at : Change → RoomRow → Option Known
-known_at change row = if can_count change (known_of row) then Some (known_of row) else None
+-- what was told, where the change can count on from it
+abbrev pub counted_on : Change → Option Known → Option Known
+counted_on change o = said_of o None (λ known. if can_count change known then Some known else None)
 
--- nothing, where a change adds no code and no note
-abbrev pub nothing_known : Known
-nothing_known = record { codes = 0; notes = 0; before = 0 }
-
--- What is known of a change's room: none, where it isn't there, or where what is added can't be counted.
+-- What is known for a change: none, where the row that tells it isn't there, or where what is added can't be counted.
 abbrev pub known_for : Change → Rows → Option Known
-known_for change rows =
-    said_of (room_of change) (Some nothing_known) (λ room. said_of (room_at rows room) None (known_at change))
+known_for change rows = counted_on change (told_for change rows)
 
 -- A change, of the books' connection from old to new: it is made whole or not at all, and a crash leaves what it could leave before, or the change made.
 pub record Applies (change : Change) (old new : State) (result : Result (Unit {0}) LookFault) : Type 0 where

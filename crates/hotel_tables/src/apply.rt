@@ -3,15 +3,18 @@ ghost use Rattle.std.specs.Prelude.{◌≡◌, true, option_map, OnOk, OnErr, If
 ghost use Rattle.sqlite.specs.Held.{state};
 ghost use Rattle.sqlite.specs.State.{Survives};
 ghost use Rattle.hotel_core.specs.Books.Change.{made};
-ghost use Rattle.hotel_core.specs.Books.Fits.{Fits, HasItsRows};
+ghost use Rattle.hotel_core.specs.Books.Fits.{Fits};
+ghost use Rattle.hotel_core.specs.Books.Lookups.{room_at};
+ghost use Rattle.hotel_core.specs.Model.Rows.{fit_at};
 ghost use Rattle.hotel_statements.specs.Tables.{rows_in};
 ghost use Rattle.hotel_statements.specs.Books.{IsBooks, IsKept};
 ghost use Rattle.hotel_statements.specs.Steps.{IsMadeOf};
 ghost use Rattle.hotel_statements.specs.Statements.{WritesBy, statements_of};
 ghost use Rattle.hotel_statements.specs.LookUps.{Looks};
-ghost use Rattle.hotel_tables.specs.Applied.{MayMake, Applies, told, known_of, known_for, room_of, can_count};
+ghost use Rattle.hotel_tables.specs.Applied.{MayMake, Applies, told, known_by_room, known_by_fit, told_for, known_for};
+ghost use Rattle.hotel_tables.specs.Applied.{can_count};
 
-use hotel_core::{Change, RoomRow};
+use hotel_core::Change;
 use hotel_nights::StayState;
 use hotel_statements::changes::{add_room, end_stay};
 use hotel_statements::issue::issue;
@@ -19,18 +22,18 @@ use hotel_statements::lock_notes::take_note;
 use hotel_statements::refits::refit;
 use hotel_statements::steps::{insert_card, insert_kind, insert_stay, set_day, set_state};
 use hotel_statements::{fault_of, look_ups};
-use keycard_rules::{LookFault, RoomNo};
+use keycard_rules::{FitNo, LookFault, RoomNo};
 use sqlite::{Alter, Connection, Error, Transaction};
 use std::alloc::Global;
 
-/// What the statements of a change are told of its room; nothing, where it has none.
+/// What the statements of a change are told of its room; 0 is what they don't need.
 #[derive(Clone, Copy)]
 pub(crate) struct Known {
-    /// How many codes stand there.
+    /// How many codes stand there, of a change that adds one.
     pub codes: u32,
-    /// How many notes were taken there.
+    /// How many notes were taken there, of a change that adds a code.
     pub notes: u32,
-    /// How many of these were taken before the room's present lock.
+    /// How many notes were taken there before the fit of the note that a change adds.
     pub before: u32,
 }
 
@@ -91,28 +94,6 @@ fn make_change<S: Alter>(
     tx.commit()
 }
 
-/// The room at which a change adds a code or a note.
-fn room_of(change: &Change) -> Option<RoomNo>
-    ensures { result ≡ room_of change.now }
-{
-    match change {
-        Change::Issue { room, .. } => Some(*room),
-        Change::Refit { room, .. } => Some(*room),
-        Change::Noted { note, .. } => Some(note.room()),
-        _ => None,
-    }
-}
-
-fn known_of(row: &RoomRow) -> Known
-    ensures { told result ≡ known_of row.now }
-{
-    Known {
-        codes: row.codes,
-        notes: row.notes,
-        before: row.before,
-    }
-}
-
 /// Whether one more code can be counted at the room of a change that adds one, or the number of a note that one adds.
 fn can_count(change: &Change, known: Known) -> bool
     ensures { result ≡ can_count change.now (told known) }
@@ -125,32 +106,89 @@ fn can_count(change: &Change, known: Known) -> bool
     }
 }
 
-/// What the statements of a change are told of its room.
+/// What a room's row tells of it.
+fn known_by_room<S: Alter>(
+    alloc: Global,
+    conn: &mut Connection<S>,
+    room: RoomNo,
+) -> Result<Option<Known>, LookFault>
+    requires { IsBooks (state S.Store conn.old) }
+    ensures { Looks (λ known. option_map told known) (λ rows. option_map known_by_room (room_at rows room))
+        (state S.Store conn.old) (state S.Store conn.new) result }
+{
+    let Some(counts) = look_ups::room_counts(alloc, conn, room)? else {
+        return Ok(None);
+    };
+    Ok(Some(Known {
+        codes: counts.codes,
+        notes: counts.notes,
+        before: 0,
+    }))
+}
+
+/// What the row of a fit tells of it.
+fn known_by_fit<S: Alter>(
+    alloc: Global,
+    conn: &mut Connection<S>,
+    room: RoomNo,
+    number: FitNo,
+) -> Result<Option<Known>, LookFault>
+    requires { IsBooks (state S.Store conn.old) }
+    ensures { Looks (λ known. option_map told known) (λ rows. option_map known_by_fit (fit_at rows room number))
+        (state S.Store conn.old) (state S.Store conn.new) result }
+{
+    let Some(fit) = look_ups::fit(alloc, conn, room, number)? else {
+        return Ok(None);
+    };
+    Ok(Some(Known {
+        codes: 0,
+        notes: 0,
+        before: fit.before,
+    }))
+}
+
+/// What the row of a change's room, or of its note's fit, tells the statements of the change.
 ///
-/// None where the room isn't there or what is added can't be counted, which is so of no change that fits.
+/// None where there is no such row; nothing is looked up for a change that adds no code and no note.
+fn told_for<S: Alter>(
+    alloc: Global,
+    conn: &mut Connection<S>,
+    change: &Change,
+) -> Result<Option<Known>, LookFault>
+    requires { IsBooks (state S.Store conn.old) }
+    ensures { Looks (λ known. option_map told known) (told_for change.now) (state S.Store conn.old)
+        (state S.Store conn.new) result }
+{
+    match change {
+        Change::Issue { room, .. } => known_by_room(alloc, conn, *room),
+        Change::Refit { room, .. } => known_by_room(alloc, conn, *room),
+        Change::Noted { note, .. } => known_by_fit(alloc, conn, note.room(), note.fit()),
+        _ => Ok(Some(Known {
+            codes: 0,
+            notes: 0,
+            before: 0,
+        })),
+    }
+}
+
+/// What the statements of a change are told.
+///
+/// None where the row that tells it isn't there or what is added can't be counted, which is so of no change that fits.
 fn known_for<S: Alter>(
     alloc: Global,
     conn: &mut Connection<S>,
     change: &Change,
 ) -> Result<Option<Known>, LookFault>
     requires books { IsBooks (state S.Store conn.old) }
-    requires fits { IsKept (state S.Store conn.old) → HasItsRows change.now (rows_in (state S.Store conn.old).now.trees) }
+    requires fits { IsKept (state S.Store conn.old) → Fits change.now (rows_in (state S.Store conn.old).now.trees) }
     ensures looks { Looks (λ known. option_map told known) (known_for change.now) (state S.Store conn.old)
         (state S.Store conn.new) result }
     ensures counted { IfOk result (λ known. IfSome known (λ k. can_count change.now (told k) ≡ true)) }
     ensures there { IsKept (state S.Store conn.new) → IfOk result IsSome }
 {
-    let Some(room) = room_of(change) else {
-        return Ok(Some(Known {
-            codes: 0,
-            notes: 0,
-            before: 0,
-        }));
-    };
-    let Some(row) = look_ups::room(alloc, conn, room)? else {
+    let Some(known) = told_for(alloc, conn, change)? else {
         return Ok(None);
     };
-    let known = known_of(&row);
     if can_count(change, known) {
         Ok(Some(known))
     } else {

@@ -4,10 +4,12 @@ ghost use Rattle.sqlite.specs.Order.{Row as SqlRow};
 ghost use Rattle.hotel_core.specs.Model.Rows.{last_fit};
 ghost use Rattle.hotel_rows.specs.Joined.{with_last, with_count, fit_of_number};
 ghost use Rattle.hotel_statements.specs.Columns.{room_row_of, note_row_of};
+ghost use Rattle.hotel_statements.specs.LookUps.{counts_of_row};
 ghost use Rattle.hotel_statements.specs.Walks.{note_under};
 
 use super::list_rows::RowReader;
 use super::{FromRow, act, bit, counted, day_number, kind_code, maybe_counted, small_integer};
+use crate::look_ups::RoomCounts;
 use hotel_core::{FitRow, RoomRow};
 use hotel_nights::KindCode;
 use keycard_rules::{Act, Count, LockNote, LookFault, PartyNo, RoomNo};
@@ -51,6 +53,16 @@ impl BareRoom {
         ensures { result ≡ self.now.lock_place }
     {
         self.lock_place
+    }
+
+    /// How many codes and notes it has.
+    pub(crate) fn counts(&self) -> RoomCounts
+        ensures { result ≡ counts_of_row self.now }
+    {
+        RoomCounts {
+            codes: self.codes,
+            notes: self.notes,
+        }
     }
 }
 
