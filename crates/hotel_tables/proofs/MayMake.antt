@@ -12,7 +12,7 @@ use Rattle.hotel_core.specs.Model.Refits.{fit_row}
 use Rattle.hotel_core.specs.Books.Change.{room_changed, codes_of, notes_in, before_in}
 use Rattle.hotel_core.specs.Books.Fits.{Fits}
 use Rattle.hotel_core.proofs.Names.{nat_tests, match_ordering, insert_entry, is_at, lookup, list_all, Note, Rows}
-use Rattle.hotel_core.proofs.Names.{said_of, when, pair_cmp, at_number, fit_at, fits_at, last_fit, room_at, of_fit, note_at}
+use Rattle.hotel_core.proofs.Names.{said_of, when, pair_cmp, at_number, fit_at, fits_at, room_at, of_fit, note_at}
 use Rattle.hotel_core.proofs.Names.{note_numbered, made, is_room, start, present_fit, IsSound, is_of_fit}
 use Rattle.hotel_core.proofs.OfTables.Tests.{and_true, eq_from, eq_self, le_from, not_both}
 use Rattle.hotel_core.proofs.OfTables.RowTests.{both, all_weaker, where_so, found_passes_by}

@@ -198,8 +198,8 @@ fn known_for<S: Alter>(
 
 /// Makes all of a change, or nothing, also where a crash comes in it.
 ///
-/// The room of a change that fits is known; Store is answered where it isn't, which only a failure of the store can
-/// bring about.
+/// The row that a change that fits asks for is there; Store is answered where it isn't, which only a failure of the
+/// store can bring about.
 pub(crate) fn apply_change<S: Alter>(
     alloc: Global,
     conn: &mut Connection<S>,
