@@ -1,15 +1,15 @@
 -- A desk made in memory has a desk's tables, since memory is always clean and never fails as a disk does.
-use Rattle.std.proofs.Common.{◌≡◌, ◌≤◌, ◌∙◌, true, sym, subst, arith, inl, inr, IsTrue}
+use Rattle.std.proofs.Common.{◌≡◌, ◌≤◌, ◌∙◌, true, sym, ap, subst, length, take, arith, inl, inr, IsTrue}
 use Rattle.sqlite_trees.specs.declared.memory.MemStore.{MemStore}
 use Rattle.sqlite.specs.Held.{Held, state}
 use Rattle.sqlite.specs.Schema.{Schema}
 use Rattle.sqlite.specs.State.{Survives}
 use Rattle.sqlite.specs.Steps.{over_memory, IsEmpty}
 use Rattle.sqlite.proofs.Callers.{memory_is_clean}
-use Rattle.hotel_statements.specs.Schema.{desk_schema}
+use Rattle.hotel_statements.specs.Schema.{first_schema, desk_schema}
 use Rattle.hotel_statements.specs.Books.{IsBooks}
 use Rattle.hotel_statements.specs.NewDesk.{IsEmptyDesk}
-use Rattle.hotel_statements.specs.SameSchema.{same_schema}
+use Rattle.hotel_statements.specs.SameSchema.{same_schema, same_front}
 use Rattle.hotel_statements.proofs.SameSchema.{schema_is, desk_is_same}
 
 pub memory_has_desk : (old new : Held MemStore) → IsEmpty (state over_memory old) → Survives (state over_memory old) (state over_memory new) IsEmptyDesk → IsBooks (state over_memory new)
