@@ -6,7 +6,7 @@ ghost use Rattle.sqlite.specs.Tree.{Trees};
 ghost use Rattle.hotel_core.specs.Model.SoundRooms.{are_in_order};
 ghost use Rattle.hotel_rows.specs.Counts.{IsCountedOf};
 ghost use Rattle.hotel_rows.specs.Damage.{first_damaged_of};
-ghost use Rattle.hotel_rows.specs.Stored.{number_of};
+ghost use Rattle.hotel_rows.specs.Keys.{room_key};
 ghost use Rattle.hotel_statements.specs.declared.version.Version.{Version};
 ghost use Rattle.hotel_statements.specs.Tables.{AreApart, number_of_version};
 ghost use Rattle.hotel_statements.specs.WholeTables.{IsOurs, AreRead};
@@ -229,7 +229,7 @@ pub(crate) struct Found {
 /// What is found in the rows of tables, where none is damaged.
 fn sound_found(alloc: Global, stored: &Stored) -> Result<Found, OpenFault>
     ensures ok { IfOk result (λ found. IsCountedOf stored.now found.counts × (first_damaged_of stored.now ≡ None)
-        × (all_natural stored.now ≡ true) × (found.rooms.items ≡ map (λ r. number_of r.room) stored.now.rooms.items)) }
+        × (all_natural stored.now ≡ true) × (found.rooms.items ≡ map room_key stored.now.rooms.items)) }
     ensures err { (version : Version) (db : Trees) → AreStored version stored.now db → IfErr result (FaultFits version db) }
 {
     let counts = sound_counts(alloc, stored)?;
