@@ -7,6 +7,7 @@ pub mod NoteCounts
 pub mod KnownFits
 pub mod FitsTogether
 pub mod NotesOfFits
+pub mod FirstVersion
 pub mod Newest
 pub mod Links
 pub mod StaysTogether

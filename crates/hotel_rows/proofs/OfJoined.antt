@@ -16,6 +16,7 @@ use Rattle.hotel_core.proofs.OfTables.AtRoom.{is_before, picked_more, fits_are_p
 use Rattle.hotel_core.proofs.OfTables.FitLists.{last_more}
 use Rattle.hotel_rows.specs.Joined.{with_last, with_fit, fit_of_number, with_count, under_fit}
 pub mod Numbers
+pub mod FirstFits
 
 abbrev pub Fits : Type 0
 Fits = List ((ℕ × ℕ) × FitRow)

@@ -1,12 +1,12 @@
 -- The rules of each table, and the first table of which one fails.
-use Rattle.std.specs.Prelude.{◌≡◌, ◌↔◌, Bool, true, List, [], ◌∷◌, Option, Some, None, ◌==◌, ◌&&◌, not, nat_le, is_some, if◌then◌else◌}
+use Rattle.std.specs.Prelude.{ℕ, ◌≡◌, ◌↔◌, Bool, true, List, [], ◌∷◌, Option, Some, None, ◌==◌, ◌&&◌, not, nat_le, is_some, if◌then◌else◌}
 use Rattle.std.specs.List.{list_all}
 use Rattle.std.specs.Map.{keys_of}
 use Rattle.std.specs.Ordering.{nat_cmp}
 use Rattle.std.specs.Cmp.Lexicographic.{slice_cmp}
-use Rattle.hotel_core.specs.Model.Words.{pair_cmp}
+use Rattle.hotel_core.specs.Model.Words.{said_of, pair_cmp}
 use Rattle.hotel_core.specs.Model.SoundRooms.{are_in_order, day_in_range, day_before_kinds, kinds_read}
-use Rattle.hotel_core.specs.Model.SoundRooms.{room_numbers, lock_places, room_kinds_there, codes_few, note_counts}
+use Rattle.hotel_core.specs.Model.SoundRooms.{room_numbers, lock_places, room_kinds_there, codes_few, each_room}
 use Rattle.hotel_core.specs.Model.SoundRooms.{parties_in_house, secured_hold_last}
 use Rattle.hotel_core.specs.Model.SoundStays.{stay_numbers, guests_read, stay_kinds_there, stay_days}
 use Rattle.hotel_core.specs.Model.SoundStays.{stay_rooms, nights_fit}
@@ -44,10 +44,17 @@ meta_holds s = day_in_range (rows_of s) && day_before_kinds (rows_of s)
 abbrev pub kind_holds : Stored → Bool
 kind_holds s = are_in_order (slice_cmp nat_cmp) (rows_of s).kinds && kinds_read (rows_of s)
 
+-- the most notes of a room: those of 99 fits, or of one in the first version
+abbrev pub most_notes : Stored → ℕ
+most_notes s = said_of s.fits 9999999 (λ fits. 989999901)
+
+abbrev pub notes_few : Stored → Bool
+notes_few s = each_room (rows_of s) (λ row. nat_le row.notes (most_notes s))
+
 abbrev pub room_holds : Stored → Bool
 room_holds s =
     are_in_order nat_cmp (keys_of (rows_of s).rooms) && list_all room_columns s.rooms.items && room_numbers (rows_of s) && lock_places (rows_of s) && room_kinds_there (rows_of s)
-    && codes_few (rows_of s) && note_counts (rows_of s) && parties_in_house (rows_of s) && secured_hold_last (rows_of s)
+    && codes_few (rows_of s) && notes_few s && parties_in_house (rows_of s) && secured_hold_last (rows_of s)
 
 abbrev pub stay_holds : Stored → Bool
 stay_holds s =

@@ -27,7 +27,7 @@ use Rattle.hotel_rows.specs.declared.stored.PlainNote.{PlainNote}
 use Rattle.hotel_rows.specs.declared.stored.PlainFit.{PlainFit}
 use Rattle.hotel_rows.specs.declared.stored.Stored.{Stored}
 use Rattle.hotel_rows.specs.Stored.{number_of, room_row, stay_row, note_row, link_row, fits_of, rows_of}
-use Rattle.hotel_rows.specs.Damage.{room_columns, stay_columns, note_columns}
+use Rattle.hotel_rows.specs.Damage.{most_notes, room_columns, stay_columns, note_columns}
 
 -- the map has the kinds
 abbrev pub KnowsKinds : List (List ℕ × ℕ) → List (List ℕ) → Type 0
@@ -61,7 +61,7 @@ is_at_home rows row = said_of row.party true (is_home_of rows row)
 abbrev pub room_fits : Stored → PlainRoom → Bool
 room_fits s plain =
     room_columns plain && is_room_number plain && nat_lt (number_of plain.lock_place) (number_of plain.codes) && has_kind (rows_of s) (string_bytes plain.kind)
-    && has_few_codes s plain && nat_le (number_of plain.notes) 989999901 && is_at_home (rows_of s) (room_row plain)
+    && has_few_codes s plain && nat_le (number_of plain.notes) (most_notes s) && is_at_home (rows_of s) (room_row plain)
     && is_secured_as_due s plain
 
 -- ---- stay

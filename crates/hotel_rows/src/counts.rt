@@ -29,7 +29,7 @@ pub struct Counts {
     pub nights: NightIndex,
 }
 
-fn counted<K, const MOST: u32>(n: u64) -> Result<Number<K, MOST>, LookFault>
+pub(crate) fn counted<K, const MOST: u32>(n: u64) -> Result<Number<K, MOST>, LookFault>
     ensures ok { IfOk result (λ number. number ≡ n) }
     ensures err { IfErr result (λ why. why ≡ Store × (is_number_up_to MOST n ≡ false)) }
 {

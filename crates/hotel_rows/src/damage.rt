@@ -3,6 +3,7 @@ ghost use Rattle.std.specs.Prelude.{◌≡◌, ◌∷◌, [], true, IfOk};
 ghost use Rattle.hotel_rows.specs.declared.stored.TableName.TheVariants as table;
 ghost use Rattle.hotel_rows.specs.Damage.{UndamagedIsSound, first_damaged_of, first_of_tables, stay_holds};
 ghost use Rattle.hotel_rows.specs.FitRuns.{FitsOf};
+ghost use Rattle.hotel_rows.specs.Stored.{plain_fits};
 ghost use Rattle.hotel_rows.specs.Places.{AreOf};
 
 mod cards;
@@ -25,7 +26,7 @@ mod stays;
 use crate::damage::cards::cards_hold;
 use crate::damage::codes::codes_hold;
 use crate::damage::fit_runs::{RoomFits, room_fits};
-use crate::damage::fits::fits_hold;
+use crate::damage::fits::{first_fits, fits_hold};
 use crate::damage::found::{Places, places_of};
 use crate::damage::insides::insides_hold;
 use crate::damage::kinds::{kinds_hold, meta_holds};
@@ -33,7 +34,7 @@ use crate::damage::notes::notes_hold;
 use crate::damage::placed::place_codes;
 use crate::damage::rooms::rooms_hold;
 use crate::damage::stays::stays_hold;
-use crate::stored::{Stored, TableName};
+use crate::stored::{PlainFit, Stored, TableName};
 use keycard_rules::Memory;
 use std::alloc::Global;
 
@@ -42,10 +43,12 @@ fn first_of_later(
     alloc: Global,
     places: &Places,
     stored: &Stored,
+    plain: &[PlainFit],
     fits: &RoomFits,
 ) -> Result<Option<TableName>, Memory>
+    requires plain { plain.now ≡ plain_fits stored.now }
     requires places { AreOf places.now stored.now }
-    requires fits { FitsOf fits.now stored.now.fits.items }
+    requires fits { FitsOf fits.now (plain_fits stored.now) }
     requires stays { stay_holds stored.now ≡ true }
     ensures { IfOk result (λ first.
         first ≡ first_of_tables (table.Code ∷ table.Card ∷ table.Inside ∷ table.Note ∷ table.Fit ∷ []) stored.now) }
@@ -67,17 +70,20 @@ fn first_of_later(
     if !notes {
         return Ok(Some(TableName::Note));
     }
-    let fitted = fits_hold(alloc, places, stored, fits)?;
+    let fitted = fits_hold(alloc, places, stored, plain, fits)?;
     if !fitted {
         return Ok(Some(TableName::Fit));
     }
     Ok(None)
 }
 
-/// The first table, in the order of their names, of which a rule fails.
-///
-/// `Memory` only where a growth was refused.
-pub fn first_damaged(alloc: Global, stored: &Stored) -> Result<Option<TableName>, Memory>
+/// The first damaged table of rows whose fits are these.
+fn first_with(
+    alloc: Global,
+    stored: &Stored,
+    plain: &[PlainFit],
+) -> Result<Option<TableName>, Memory>
+    requires { plain.now ≡ plain_fits stored.now }
     ensures { IfOk result (λ first. first ≡ first_damaged_of stored.now) }
 {
     if !meta_holds(stored) {
@@ -88,7 +94,7 @@ pub fn first_damaged(alloc: Global, stored: &Stored) -> Result<Option<TableName>
         return Ok(Some(TableName::Kind));
     };
     let places = places_of(alloc, stored)?;
-    let fits = room_fits(alloc, &stored.fits)?;
+    let fits = room_fits(alloc, plain)?;
     let rooms = rooms_hold(alloc, &places, stored, &known, &fits)?;
     if !rooms {
         return Ok(Some(TableName::Room));
@@ -97,7 +103,20 @@ pub fn first_damaged(alloc: Global, stored: &Stored) -> Result<Option<TableName>
     if !stays {
         return Ok(Some(TableName::Stay));
     }
-    first_of_later(alloc, &places, stored, &fits)
+    first_of_later(alloc, &places, stored, plain, &fits)
+}
+
+/// The first table, in the order of their names, of which a rule fails.
+///
+/// `Memory` only where a growth was refused.
+pub fn first_damaged(alloc: Global, stored: &Stored) -> Result<Option<TableName>, Memory>
+    ensures { IfOk result (λ first. first ≡ first_damaged_of stored.now) }
+{
+    let Some(fits) = &stored.fits else {
+        let fits = first_fits(alloc, &stored.rooms)?;
+        return first_with(alloc, stored, &fits);
+    };
+    first_with(alloc, stored, fits)
 }
 
 /// A law, which makes no call: no table is damaged exactly where the rows are sound in the sense of the core and each

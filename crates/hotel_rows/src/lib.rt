@@ -4,10 +4,12 @@
 
 mod counts;
 mod damage;
+mod rooms;
 mod stored;
 
 pub use counts::{Counts, counts_of};
 pub use damage::{first_damaged, undamaged_is_sound};
+pub use rooms::rooms_of;
 pub use stored::{
     PlainCard, PlainCode, PlainFit, PlainInside, PlainKind, PlainNote, PlainRoom, PlainStay,
     Stored, TableName,

@@ -27,7 +27,7 @@ use Rattle.hotel_rows.specs.declared.stored.PlainStay.{PlainStay}
 use Rattle.hotel_rows.specs.declared.stored.Stored.{Stored}
 use Rattle.hotel_rows.specs.Stored.{number_of, kind_text, rows_of, state_of, room_row, stay_row}
 use Rattle.hotel_rows.specs.Keys.{are_numbered, room_key, stay_key}
-use Rattle.hotel_rows.specs.Damage.{first_damaged_of, room_columns, stay_columns}
+use Rattle.hotel_rows.specs.Damage.{first_damaged_of, most_notes, room_columns, stay_columns}
 use Rattle.hotel_rows.specs.RowTests.{are_stay_days, has_home, has_night, is_at_home, is_room_number, is_room_of_kind}
 use Rattle.hotel_rows.specs.RowTests.{is_secured_as_due, has_few_codes, room_fits, stay_fits}
 use Rattle.hotel_rows.specs.Counts.{KnowsKinds, are_rooms_of, is_number_up_to, names_kind, tells_state, tells_stay}
@@ -141,12 +141,18 @@ room_told : (s : Stored) (plain : PlainRoom) → room_fits s plain ≡ true → 
 room_told s plain h =
     let secured = and_true _ (is_secured_as_due s plain) h in
     let home = and_true _ (is_at_home (rows_of s) (room_row plain)) secured.0 in
-    let notes = and_true _ (nat_le (number_of plain.notes) 989999901) home.0 in
+    let notes = and_true _ (nat_le (number_of plain.notes) (most_notes s)) home.0 in
     let codes = and_true _ (has_few_codes s plain) notes.0 in
     let kind = and_true _ (has_kind (rows_of s) (string_bytes plain.kind)) codes.0 in
     let lock = and_true _ (nat_lt (number_of plain.lock_place) (number_of plain.codes)) kind.0 in
     let number = and_true (room_columns plain) (is_room_number plain) lock.0 in
     (number.1, named_kind (string_bytes plain.kind) s.kinds.items ∙ kind.1)
+
+-- rooms that fit have the numbers of rooms
+pub rooms_numbered : (s : Stored) → first_damaged_of s ≡ None → list_all is_room_number s.rooms.items ≡ true
+rooms_numbered s none = all_weaker (room_fits s) is_room_number (λ room h. (room_told s room h).0) s.rooms.items
+    (and_true (are_in_order nat_cmp (map room_key s.rooms.items)) (list_all (room_fits s) s.rooms.items)
+    (sym (rooms_together s) ∙ (all_passed s none).room)).1
 
 pub rooms_told : (s : Stored) → first_damaged_of s ≡ None → are_rooms_of s.kinds.items s.rooms.items ≡ true
 rooms_told s none =
@@ -155,7 +161,7 @@ rooms_told s none =
     let passed = and_true (are_in_order nat_cmp (map room_key s.rooms.items)) (list_all (room_fits s) s.rooms.items) (sym (rooms_together s) ∙ h.room) in
     let kinds : list_all (λ kind. is_kind (kind_text kind)) s.kinds.items ≡ true = sym (all_mapped is_kind kind_text s.kinds.items) ∙ sound.kind_reads in
     let named = all_weaker (room_fits s) (λ room. names_kind (string_bytes room.kind) s.kinds.items) (λ room h. (room_told s room h).1) s.rooms.items passed.1 in
-    let numbers = all_weaker (room_fits s) is_room_number (λ room h. (room_told s room h).0) s.rooms.items passed.1 in
+    let numbers = rooms_numbered s none in
     let few = few_rooms (map room_key s.rooms.items) (all_mapped (λ k. nat_le 1 k && nat_le k 9999) room_key s.rooms.items ∙ numbers) passed.0 in
     both _ _ (both _ _ kinds named) (le_tested (length s.rooms.items) 9999 (subst (λ n. n ≤ 9999) (length_mapped room_key s.rooms.items) few))
 

@@ -21,7 +21,7 @@ use Rattle.hotel_rows.specs.declared.damage.fit_runs.FitRun.{FitRun}
 use Rattle.hotel_rows.specs.declared.stored.PlainFit.{PlainFit}
 use Rattle.hotel_rows.specs.declared.stored.PlainRoom.{PlainRoom}
 use Rattle.hotel_rows.specs.declared.stored.Stored.{Stored}
-use Rattle.hotel_rows.specs.Stored.{number_of, fits_of, rows_of, fit_entry, joined_row}
+use Rattle.hotel_rows.specs.Stored.{number_of, plain_fits, fits_of, rows_of, fit_entry, joined_row}
 use Rattle.hotel_rows.specs.Keys.{fit_key, room_key}
 use Rattle.hotel_rows.specs.Damage.{fit_holds}
 use Rattle.hotel_rows.specs.RowTests.{has_room}
@@ -179,11 +179,11 @@ more_rooms s o t u b e =
     turned false b c = refl
 
 -- the rules of fits are a test of the keys, of each fit and of each room
-pub fits_together : (s : Stored) (runs : List (ℕ × FitRun)) → RunsOf runs s.fits.items
-    → fit_holds s ≡ (are_in_order pair_cmp (map fit_key s.fits.items) && list_all (has_room (rows_of s)) s.fits.items
+pub fits_together : (s : Stored) (runs : List (ℕ × FitRun)) → RunsOf runs (plain_fits s)
+    → fit_holds s ≡ (are_in_order pair_cmp (map fit_key (plain_fits s)) && list_all (has_room (rows_of s)) (plain_fits s)
     && list_all (fitted_as_due runs) s.rooms.items)
 fits_together s runs is =
-    let ls = s.fits.items in
+    let ls = plain_fits s in
     let rows = rows_of s in
     let fits = λ (q : ℕ). fits_at (map fit_entry ls) q in
     let order = are_in_order pair_cmp (map fit_key ls) in

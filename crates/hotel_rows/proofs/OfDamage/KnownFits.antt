@@ -13,7 +13,7 @@ use Rattle.hotel_rows.specs.declared.damage.fit_runs.FitRun.{FitRun}
 use Rattle.hotel_rows.specs.declared.stored.PlainFit.{PlainFit}
 use Rattle.hotel_rows.specs.declared.damage.placed.Placed.{Placed}
 use Rattle.hotel_rows.specs.declared.stored.Stored.{Stored}
-use Rattle.hotel_rows.specs.Stored.{number_of, fit_row, fit_entry, rows_of}
+use Rattle.hotel_rows.specs.Stored.{number_of, fit_row, fit_entry, plain_fits, rows_of}
 use Rattle.hotel_rows.specs.Placed.{places_in, listed_in, PlacesOf, are_due_at}
 use Rattle.hotel_rows.specs.FitRuns.{run_of, fits_in, last_place_in, last_after, begin_key, begins_in, RunsOf, BeginsOf}
 use Rattle.hotel_rows.proofs.OfDamage.Newest.{length_values, due_parts}
@@ -112,7 +112,7 @@ begins_more before after plain plain_rows is put room place =
 
 -- the newest link of a room, whose codes are at the places that its row says
 pub newest_known : (s : Stored) (placed : List (ℕ × Placed)) (begins : List ((ℕ × ℕ) × ℕ)) (room codes : ℕ)
-    → PlacesOf placed s.codes.items → BeginsOf begins s.fits.items → are_due_at placed room codes ≡ true
+    → PlacesOf placed s.codes.items → BeginsOf begins (plain_fits s) → are_due_at placed room codes ≡ true
     → newest_link_at (rows_of s) room ≡ cond (begins_in begins room (codes - 1)) None
     (last_link_of (values_of (places_in placed room)))
 newest_known s placed begins room codes is known due =

@@ -22,7 +22,8 @@ use Rattle.hotel_rows.specs.Joined.{with_last, fit_of_number}
 use Rattle.hotel_rows.specs.declared.stored.PlainFit.{PlainFit}
 use Rattle.hotel_rows.specs.declared.stored.PlainNote.{PlainNote}
 use Rattle.hotel_rows.specs.declared.stored.Stored.{Stored}
-use Rattle.hotel_rows.specs.Stored.{number_of, room_row, fit_entry, note_row, joined_note, fits_of, rows_of}
+use Rattle.hotel_rows.specs.Stored.{number_of, room_row, fit_entry, note_row, joined_note, plain_fits, fits_of}
+use Rattle.hotel_rows.specs.Stored.{rows_of}
 use Rattle.hotel_rows.specs.Keys.{note_key}
 use Rattle.hotel_rows.proofs.OfJoined.Numbers.{stands_at, has_fit, number_at, fit_found}
 use Rattle.hotel_rows.proofs.OfDamage.RowsTogether.{all_rooms}
@@ -146,7 +147,7 @@ numbered_at rows counted own r = by (at_number rows.rooms r) refl
         (from_one 1 (numbers_at rows.notes row.room) (omega arith) up) in
         subst (λ o. list_all (λ n. not (is_some o) || nat_le 1 n) (numbers_at rows.notes r) ≡ true) (sym e) ones
 
-all_from : {L : Type 0} (a b c : L → Bool) → ((l : L) → a l ≡ true → b l ≡ true → c l ≡ true) → (ls : List L)
+pub all_from : {L : Type 0} (a b c : L → Bool) → ((l : L) → a l ≡ true → b l ≡ true → c l ≡ true) → (ls : List L)
     → list_all a ls ≡ true → list_all b ls ≡ true → list_all c ls ≡ true
 all_from a b c f [] p q = refl
 all_from a b c f (l ∷ ls) p q =
@@ -170,7 +171,7 @@ pub of_fits : (s : Stored) → notes_counted (rows_of s) ≡ true → notes_fit 
     → notes_of_fits (rows_of s) ≡ true
 of_fits s counted fit numbers first own =
     let rows = rows_of s in
-    let ls = s.fits.items in
+    let ls = plain_fits s in
     let numbered = all_by_room (is_numbered rows) rows.notes (numbered_at rows counted own) in
     all_notes (is_of_fit rows) (fits_of s) s.notes.items
     ∙ all_from (λ plain. note_fits rows (note_key plain, joined_note (fits_of s) plain))
@@ -184,7 +185,7 @@ of_fits s counted fit numbers first own =
         → is_of_fit (rows_of s) (note_key plain, joined_note (fits_of s) plain) ≡ true
     of_one plain a b =
         let rows = rows_of s in
-        let ls = s.fits.items in
+        let ls = plain_fits s in
         let r = number_of plain.room in
         let n = number_of plain.n in
         let a4 = and_true _ (nat_le (number_of plain.second) 86399) a in

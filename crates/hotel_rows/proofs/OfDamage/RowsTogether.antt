@@ -5,7 +5,7 @@ use Rattle.std.specs.List.{list_all}
 use Rattle.std.specs.Map.{keys_of}
 use Rattle.hotel_core.specs.declared.books.rows.RoomRow.{RoomRow}
 use Rattle.hotel_core.specs.Model.Rows.{has_kind, fits_at, begins_fit}
-use Rattle.hotel_core.specs.Model.SoundRooms.{are_in_order, room_numbers, lock_places, room_kinds_there, codes_few, note_counts, parties_in_house, secured_hold_last}
+use Rattle.hotel_core.specs.Model.SoundRooms.{are_in_order, room_numbers, lock_places, room_kinds_there, codes_few, parties_in_house, secured_hold_last}
 use Rattle.hotel_core.proofs.OfTables.RowTests.{all_mapped}
 use Rattle.hotel_core.proofs.OfTables.MapEntries.{eq_self}
 use Rattle.hotel_rows.specs.declared.stored.PlainRoom.{PlainRoom}
@@ -13,7 +13,7 @@ use Rattle.hotel_rows.specs.declared.stored.Stored.{Stored}
 use Rattle.hotel_rows.specs.Joined.{with_fit}
 use Rattle.hotel_rows.specs.Stored.{number_of, fits_of, rows_of, room_entry, room_row, joined_row, card_entry}
 use Rattle.hotel_rows.specs.Keys.{room_key}
-use Rattle.hotel_rows.specs.Damage.{room_columns, room_holds}
+use Rattle.hotel_rows.specs.Damage.{most_notes, notes_few, room_columns, room_holds}
 use Rattle.hotel_rows.specs.RowTests.{room_fits, is_room_number, is_at_home, is_secured_as_due}
 use Rattle.hotel_rows.proofs.OfJoined.{Fits}
 
@@ -81,13 +81,13 @@ rooms_together s =
     let rows = rows_of s in
     let fits = fits_of s in
     let o = are_in_order nat_cmp (map room_key plain_rows) in
-    ap (λ ks. are_in_order nat_cmp ks && list_all room_columns plain_rows && room_numbers rows && lock_places rows && room_kinds_there rows && codes_few rows && note_counts rows && parties_in_house rows && secured_hold_last rows)
+    ap (λ ks. are_in_order nat_cmp ks && list_all room_columns plain_rows && room_numbers rows && lock_places rows && room_kinds_there rows && codes_few rows && notes_few s && parties_in_house rows && secured_hold_last rows)
     (ap keys_of (rooms_are fits plain_rows) ∙ keys_mapped room_key (joined_row fits) plain_rows)
     ∙ left_rooms o fits (λ (e : ℕ × RoomRow). not e.1.secured
     || ((e.1.lock_place == e.1.codes - 1) && nat_le 2 e.1.codes && not (begins_fit rows e.1.room (e.1.codes - 1))))
     _ plain_rows _
     (left_rooms o fits (λ (e : ℕ × RoomRow). is_at_home rows e.1) _ plain_rows _
-    (left_rooms o fits (λ (e : ℕ × RoomRow). nat_le e.1.notes 989999901) _ plain_rows _
+    (left_rooms o fits (λ (e : ℕ × RoomRow). nat_le e.1.notes (most_notes s)) _ plain_rows _
     (left_rooms o fits (λ (e : ℕ × RoomRow). nat_le e.1.codes (length rows.cards + length (fits_at rows.fits e.1.room)))
     _ plain_rows _
     (left_rooms o fits (λ (e : ℕ × RoomRow). has_kind rows e.1.kind) _ plain_rows _
@@ -97,9 +97,9 @@ rooms_together s =
     ∙ ap (λ b. o && b) (all_alike _ (room_fits s) plain_rows (λ plain.
     ap (λ b. room_columns plain && (b && nat_le 1 (number_of plain.room) && nat_le (number_of plain.room) 9999) && nat_lt (number_of plain.lock_place) (number_of plain.codes)
     && has_kind rows (string_bytes plain.kind) && nat_le (number_of plain.codes)
-    (length rows.cards + length (fits_at fits (number_of plain.room))) && nat_le (number_of plain.notes) 989999901
+    (length rows.cards + length (fits_at fits (number_of plain.room))) && nat_le (number_of plain.notes) (most_notes s)
     && is_at_home rows (room_row plain) && is_secured_as_due s plain) (eq_self (number_of plain.room))
     ∙ ap (λ n. room_columns plain && is_room_number plain && nat_lt (number_of plain.lock_place) (number_of plain.codes) && has_kind rows (string_bytes plain.kind)
     && nat_le (number_of plain.codes) (n + length (fits_at fits (number_of plain.room)))
-    && nat_le (number_of plain.notes) 989999901 && is_at_home rows (room_row plain) && is_secured_as_due s plain)
+    && nat_le (number_of plain.notes) (most_notes s) && is_at_home rows (room_row plain) && is_secured_as_due s plain)
     (length_mapped card_entry s.cards.items)))

@@ -7,7 +7,7 @@ use Rattle.hotel_core.specs.declared.books.rows.RoomRow.{RoomRow}
 use Rattle.hotel_core.specs.Model.Rows.{Rows, at_number}
 use Rattle.hotel_core.specs.Model.Sound.{IsSound, keys_in_order, passes_rules}
 use Rattle.hotel_core.specs.Model.SoundRooms.{are_in_order, day_before_kinds, kinds_read, room_numbers, lock_places}
-use Rattle.hotel_core.specs.Model.SoundRooms.{room_kinds_there, codes_few, note_counts, parties_in_house}
+use Rattle.hotel_core.specs.Model.SoundRooms.{room_kinds_there, codes_few, parties_in_house}
 use Rattle.hotel_core.specs.Model.SoundRooms.{secured_hold_last}
 use Rattle.hotel_core.specs.Model.SoundStays.{stay_numbers, guests_read, stay_kinds_there, stay_days, stay_rooms}
 use Rattle.hotel_core.specs.Model.SoundStays.{nights_fit}
@@ -27,7 +27,8 @@ use Rattle.hotel_rows.specs.declared.stored.TableName.TheVariants as table
 use Rattle.hotel_rows.specs.Stored.{rows_of}
 use Rattle.hotel_rows.specs.Damage.{room_columns, stay_columns, note_columns, meta_holds, kind_holds, room_holds}
 use Rattle.hotel_rows.specs.Damage.{stay_holds, code_holds, card_holds, inside_holds, note_holds, fit_holds}
-use Rattle.hotel_rows.specs.Damage.{first_damaged_of, columns_fit, UndamagedIsSound}
+use Rattle.hotel_rows.specs.Damage.{notes_few, first_damaged_of, columns_fit, UndamagedIsSound}
+use Rattle.hotel_rows.proofs.OfDamage.FirstVersion.{few_in_both, few_of_sound}
 use Rattle.hotel_rows.proofs.OfDamage.NotesOfFits.{of_fits, of_last_fits}
 
 -- each table holds
@@ -99,7 +100,7 @@ rules_passed s h =
     let kind_1 = and_true _ (kinds_read rows) h.kind in
     let room_8 = and_true _ (secured_hold_last rows) h.room in
     let room_7 = and_true _ (parties_in_house rows) room_8.0 in
-    let room_6 = and_true _ (note_counts rows) room_7.0 in
+    let room_6 = and_true _ (notes_few s) room_7.0 in
     let room_5 = and_true _ (codes_few rows) room_6.0 in
     let room_4 = and_true _ (room_kinds_there rows) room_5.0 in
     let room_3 = and_true _ (lock_places rows) room_4.0 in
@@ -139,8 +140,8 @@ rules_passed s h =
     let keys : keys_in_order rows ≡ true = more (more
     (more (more (more (more (more kind_1.0 room_1.0) code_1.0) stay_1.0) card_1.0) inside_1.0) note_1.0) fit_1.0 in
     let metas = more (more (more keys meta_1.0) meta_1.1) kind_1.1 in
-    let rooms = more (more (more (more (more (more (more metas room_2.1) room_3.1) room_4.1) room_5.1) room_6.1)
-    room_7.1) room_8.1 in
+    let rooms = more (more (more (more (more (more (more metas room_2.1) room_3.1) room_4.1) room_5.1)
+    (few_in_both s room_6.1)) room_7.1) room_8.1 in
     let stays = more (more (more (more (more (more rooms stay_2.1) stay_3.1) stay_4.1) stay_5.1) stay_6.1) stay_7.1 in
     let codes = more (more (more stays code_1.1) code_2.1) code_3.1 in
     let cards = more (more (more (more (more (more (more (more codes card_1.1) card_2.1) card_3.1) card_4.1) card_5.1)
@@ -196,7 +197,7 @@ rules_hold s sound columns =
       meta = more sound.meta_day sound.meta_kinds;
       kind = more k1.0 sound.kind_reads;
       room = more (more (more (more (more (more (more (more k1.1 c1.0) sound.room_number) sound.room_lock_place)
-          sound.room_kind) sound.room_codes) sound.room_notes) sound.room_party) sound.room_secured;
+          sound.room_kind) sound.room_codes) (few_of_sound s sound)) sound.room_party) sound.room_secured;
       stay = more (more (more (more (more (more (more k3.1 c1.1) sound.stay_number) sound.stay_guest) sound.stay_kind)
           sound.stay_day) sound.stay_room) nights;
       code = more (more (more k2.1 sound.code_range) sound.code_room) sound.code_places;

@@ -1,7 +1,7 @@
 //! The rules of the table of cards.
 ghost use Rattle.std.specs.Prelude.{◌≡◌, true, IfOk};
 ghost use Rattle.std.specs.List.{list_all};
-ghost use Rattle.hotel_rows.specs.Stored.{rows_of, card_row};
+ghost use Rattle.hotel_rows.specs.Stored.{plain_fits, rows_of, card_row};
 ghost use Rattle.hotel_rows.specs.Places.{AreOf};
 ghost use Rattle.hotel_rows.specs.RowTests.{card_fits, stay_has_home, links_hold};
 ghost use Rattle.hotel_rows.specs.Damage.{card_holds};
@@ -64,7 +64,7 @@ fn links_hold(
 ) -> Result<bool, Memory>
     requires places { AreOf places.now stored.now }
     requires placed { PlacesOf placed.now.entries stored.now.codes.items }
-    requires fits { FitsOf fits.now stored.now.fits.items }
+    requires fits { FitsOf fits.now (plain_fits stored.now) }
     requires due { list_all (placed_as_due placed.now.entries) stored.now.rooms.items ≡ true }
     requires homes { list_all (stay_has_home stored.now) stored.now.stays.items ≡ true }
     ensures { IfOk result (λ hold. hold ≡ links_hold stored.now) }
@@ -95,7 +95,7 @@ pub(crate) fn cards_hold(
 ) -> Result<bool, Memory>
     requires places { AreOf places.now stored.now }
     requires placed { PlacesOf placed.now.entries stored.now.codes.items }
-    requires fits { FitsOf fits.now stored.now.fits.items }
+    requires fits { FitsOf fits.now (plain_fits stored.now) }
     requires due { list_all (placed_as_due placed.now.entries) stored.now.rooms.items ≡ true }
     requires homes { list_all (stay_has_home stored.now) stored.now.stays.items ≡ true }
     ensures { IfOk result (λ hold. hold ≡ card_holds stored.now) }

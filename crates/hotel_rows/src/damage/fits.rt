@@ -1,7 +1,7 @@
 //! The rules of the table of fits.
-ghost use Rattle.std.specs.Prelude.{◌≡◌, IfOk};
+ghost use Rattle.std.specs.Prelude.{◌≡◌, map, IfOk};
 ghost use Rattle.std.specs.List.{list_all};
-ghost use Rattle.hotel_rows.specs.Stored.{rows_of};
+ghost use Rattle.hotel_rows.specs.Stored.{plain_fits, first_fit, rows_of};
 ghost use Rattle.hotel_rows.specs.Damage.{fit_holds};
 ghost use Rattle.hotel_rows.specs.FitRuns.{FitsOf, fitted_as_due};
 ghost use Rattle.hotel_rows.specs.Places.{AreOf};
@@ -10,9 +10,28 @@ ghost use Rattle.hotel_rows.specs.RowTests.{has_room};
 use crate::damage::fit_runs::{RoomFits, is_fitted};
 use crate::damage::found::{Places, fit_keys, room_at};
 use crate::damage::numbers::{number, rise_in_pairs};
-use crate::stored::{PlainFit, Stored};
+use crate::stored::{PlainFit, PlainRoom, Stored};
 use keycard_rules::Memory;
 use std::alloc::Global;
+
+/// The fits of rooms of which each has the one that it began with.
+pub(crate) fn first_fits(alloc: Global, rooms: &[PlainRoom]) -> Result<Vec<PlainFit>, Memory>
+    ensures { IfOk result (λ fits. fits.items ≡ map first_fit rooms.now) }
+{
+    match rooms
+        .iter()
+        .map(|room| PlainFit {
+            room: room.room,
+            fit: 1,
+            place: 0,
+            before: 0,
+        })
+        .collect(alloc)
+    {
+        Ok(fits) => Ok(fits),
+        Err(_) => Err(Memory),
+    }
+}
 
 fn has_room(places: &Places, stored: &Stored, fit: &PlainFit) -> bool
     requires { AreOf places.now stored.now }
@@ -22,12 +41,12 @@ fn has_room(places: &Places, stored: &Stored, fit: &PlainFit) -> bool
 }
 
 /// Whether the room of each fit is there.
-pub(crate) fn fits_have_rooms(places: &Places, stored: &Stored) -> bool
+fn fits_have_rooms(places: &Places, stored: &Stored, fits: &[PlainFit]) -> bool
     requires { AreOf places.now stored.now }
-    ensures { result ≡ list_all (has_room (rows_of stored.now)) stored.now.fits.items }
+    ensures { result ≡ list_all (has_room (rows_of stored.now)) fits.now }
 {
-    for i in 0..stored.fits.len() {
-        if !has_room(places, stored, &stored.fits[i]) {
+    for i in 0..fits.len() {
+        if !has_room(places, stored, &fits[i]) {
             return false;
         }
     }
@@ -51,17 +70,19 @@ pub(crate) fn fits_hold(
     alloc: Global,
     places: &Places,
     stored: &Stored,
+    plain: &[PlainFit],
     fits: &RoomFits,
 ) -> Result<bool, Memory>
     requires places { AreOf places.now stored.now }
-    requires fits { FitsOf fits.now stored.now.fits.items }
+    requires plain { plain.now ≡ plain_fits stored.now }
+    requires fits { FitsOf fits.now (plain_fits stored.now) }
     ensures { IfOk result (λ hold. hold ≡ fit_holds stored.now) }
 {
-    let keys = fit_keys(alloc, &stored.fits)?;
+    let keys = fit_keys(alloc, plain)?;
     if !rise_in_pairs(&keys) {
         return Ok(false);
     }
-    if !fits_have_rooms(places, stored) {
+    if !fits_have_rooms(places, stored, plain) {
         return Ok(false);
     }
     Ok(rooms_are_fitted(fits, stored))

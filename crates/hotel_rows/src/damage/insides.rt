@@ -1,7 +1,8 @@
 //! The rules of the table of cards that are inside.
 ghost use Rattle.std.specs.Prelude.{◌≡◌, true, IfOk};
 ghost use Rattle.std.specs.List.{list_all};
-ghost use Rattle.hotel_rows.specs.Stored.{number_of, rows_of, room_row, code_row, card_row, inside_pair};
+ghost use Rattle.hotel_rows.specs.Stored.{number_of, plain_fits, rows_of};
+ghost use Rattle.hotel_rows.specs.Stored.{room_row, code_row, card_row, inside_pair};
 ghost use Rattle.hotel_core.specs.Model.SoundNotes.{fits_inside, has_entered};
 ghost use Rattle.hotel_rows.specs.Damage.{inside_holds};
 ghost use Rattle.hotel_rows.specs.FitRuns.{FitsOf};
@@ -21,7 +22,7 @@ use std::collections::BTreeMap;
 
 /// Whether the code's place is after that of the room's last fit, and not after the lock's.
 fn has_entered(stored: &Stored, fits: &RoomFits, room: &PlainRoom, code: PlainCode) -> bool
-    requires { FitsOf fits.now stored.now.fits.items }
+    requires { FitsOf fits.now (plain_fits stored.now) }
     ensures { result
         ≡ has_entered (rows_of stored.now) (number_of room.now.room) (room_row room.now) (code_row code) }
 {
@@ -42,7 +43,7 @@ fn fits_inside(
 ) -> bool
     requires places { AreOf places.now stored.now }
     requires placed { PlacesOf placed.now.entries stored.now.codes.items }
-    requires fits { FitsOf fits.now stored.now.fits.items }
+    requires fits { FitsOf fits.now (plain_fits stored.now) }
     requires due { placed_as_due placed.now.entries room.now ≡ true }
     ensures { result ≡ fits_inside (rows_of stored.now) (number_of room.now.room) (room_row room.now) (card_row card) }
 {
@@ -72,7 +73,7 @@ fn inside_fits(
 ) -> bool
     requires places { AreOf places.now stored.now }
     requires placed { PlacesOf placed.now.entries stored.now.codes.items }
-    requires fits { FitsOf fits.now stored.now.fits.items }
+    requires fits { FitsOf fits.now (plain_fits stored.now) }
     requires due { list_all (placed_as_due placed.now.entries) stored.now.rooms.items ≡ true }
     ensures { result ≡ inside_fits (rows_of stored.now) (inside_pair inside.now) }
 {
@@ -94,7 +95,7 @@ fn insides_fit(
 ) -> bool
     requires places { AreOf places.now stored.now }
     requires placed { PlacesOf placed.now.entries stored.now.codes.items }
-    requires fits { FitsOf fits.now stored.now.fits.items }
+    requires fits { FitsOf fits.now (plain_fits stored.now) }
     requires due { list_all (placed_as_due placed.now.entries) stored.now.rooms.items ≡ true }
     ensures { result ≡ list_all (λ e. inside_fits (rows_of stored.now) (inside_pair e)) stored.now.inside.items }
 {
@@ -116,7 +117,7 @@ pub(crate) fn insides_hold(
 ) -> Result<bool, Memory>
     requires places { AreOf places.now stored.now }
     requires placed { PlacesOf placed.now.entries stored.now.codes.items }
-    requires fits { FitsOf fits.now stored.now.fits.items }
+    requires fits { FitsOf fits.now (plain_fits stored.now) }
     requires due { list_all (placed_as_due placed.now.entries) stored.now.rooms.items ≡ true }
     ensures { IfOk result (λ hold. hold ≡ inside_holds stored.now) }
 {

@@ -3,7 +3,7 @@ ghost use Rattle.std.specs.Prelude.{◌≡◌, ℕ, true, IfOk, OnOk, map, ◌==
 ghost use Rattle.std.specs.List.{list_all, list_any};
 ghost use Rattle.hotel_core.specs.Model.Rows.{at_number};
 ghost use Rattle.hotel_core.specs.Model.SoundCards.{has_newest, is_newest};
-ghost use Rattle.hotel_rows.specs.Stored.{number_of, rows_of};
+ghost use Rattle.hotel_rows.specs.Stored.{number_of, plain_fits, rows_of};
 ghost use Rattle.hotel_rows.specs.Lasts.{link_of_pair, link_pair, LastsOf};
 ghost use Rattle.hotel_rows.specs.Owners.{OwnersOf, owner_in};
 ghost use Rattle.hotel_core.specs.Model.Words.{said_of};
@@ -53,7 +53,7 @@ fn has_brought(brought: &BTreeMap<u64, usize>, stored: &Stored, code: u64) -> bo
 }
 
 fn begins_one(fits: &RoomFits, stored: &Stored, code: &PlainCode) -> bool
-    requires { FitsOf fits.now stored.now.fits.items }
+    requires { FitsOf fits.now (plain_fits stored.now) }
     ensures { result ≡ begins_one stored.now code.now }
 {
     begins_fit(fits, number(code.room), number(code.place))
@@ -66,7 +66,7 @@ fn is_brought(
     code: &PlainCode,
 ) -> bool
     requires brought { Finds brought.now.entries (map new_code_of stored.now.cards.items) }
-    requires fits { FitsOf fits.now stored.now.fits.items }
+    requires fits { FitsOf fits.now (plain_fits stored.now) }
     ensures { result ≡ is_brought stored.now code.now }
 {
     let has_card = has_brought(brought, stored, number(code.code));
@@ -79,7 +79,7 @@ fn is_brought(
 /// Whether a card brought each code but the first of its room, and those that fits begin with, which none did.
 pub(crate) fn all_brought(brought: &BTreeMap<u64, usize>, fits: &RoomFits, stored: &Stored) -> bool
     requires brought { Finds brought.now.entries (map new_code_of stored.now.cards.items) }
-    requires fits { FitsOf fits.now stored.now.fits.items }
+    requires fits { FitsOf fits.now (plain_fits stored.now) }
     ensures { result ≡ list_all (is_brought stored.now) stored.now.codes.items }
 {
     for i in 0..stored.codes.len() {
@@ -119,7 +119,7 @@ fn all_owned(
     requires owners { OwnersOf owners.now.entries stored.now.cards.items }
     requires own { list_all (agrees stored.now) stored.now.cards.items ≡ true }
     requires placed { PlacesOf placed.now.entries stored.now.codes.items }
-    requires fits { FitsOf fits.now stored.now.fits.items }
+    requires fits { FitsOf fits.now (plain_fits stored.now) }
     requires due { are_due_at placed.now.entries room codes ≡ true }
     ensures { result ≡ list_all (is_owned stored.now room party) stored.now.cards.items }
 {
@@ -142,7 +142,7 @@ fn has_owner(
     requires owners { OwnersOf owners.now.entries stored.now.cards.items }
     requires own { list_all (agrees stored.now) stored.now.cards.items ≡ true }
     requires placed { PlacesOf placed.now.entries stored.now.codes.items }
-    requires fits { FitsOf fits.now stored.now.fits.items }
+    requires fits { FitsOf fits.now (plain_fits stored.now) }
     requires due { placed_as_due placed.now.entries room.now ≡ true }
     ensures { result ≡ has_owner stored.now room.now }
 {
@@ -164,7 +164,7 @@ pub(crate) fn all_have_owners(
     requires owners { OwnersOf owners.now.entries stored.now.cards.items }
     requires own { list_all (agrees stored.now) stored.now.cards.items ≡ true }
     requires placed { PlacesOf placed.now.entries stored.now.codes.items }
-    requires fits { FitsOf fits.now stored.now.fits.items }
+    requires fits { FitsOf fits.now (plain_fits stored.now) }
     requires due { list_all (placed_as_due placed.now.entries) stored.now.rooms.items ≡ true }
     ensures { result ≡ list_all (has_owner stored.now) stored.now.rooms.items }
 {
@@ -224,7 +224,7 @@ fn is_newest_at(
 ) -> bool
     requires places { AreOf places.now stored.now }
     requires placed { PlacesOf placed.now.entries stored.now.codes.items }
-    requires fits { FitsOf fits.now stored.now.fits.items }
+    requires fits { FitsOf fits.now (plain_fits stored.now) }
     requires due { list_all (placed_as_due placed.now.entries) stored.now.rooms.items ≡ true }
     requires there { is_some (at_number (rows_of stored.now).rooms home) ≡ true }
     ensures { result ≡ is_newest (rows_of stored.now) home (record { old_code = link.0; new_code = link.1 }) }
@@ -247,7 +247,7 @@ fn has_newest(
 ) -> bool
     requires places { AreOf places.now stored.now }
     requires placed { PlacesOf placed.now.entries stored.now.codes.items }
-    requires fits { FitsOf fits.now stored.now.fits.items }
+    requires fits { FitsOf fits.now (plain_fits stored.now) }
     requires due { list_all (placed_as_due placed.now.entries) stored.now.rooms.items ≡ true }
     requires lasts { LastsOf lasts.now.entries stored.now.cards.items }
     requires there { is_some (at_number (rows_of stored.now).rooms home) ≡ true }
@@ -269,7 +269,7 @@ fn has_last(
 ) -> bool
     requires places { AreOf places.now stored.now }
     requires placed { PlacesOf placed.now.entries stored.now.codes.items }
-    requires fits { FitsOf fits.now stored.now.fits.items }
+    requires fits { FitsOf fits.now (plain_fits stored.now) }
     requires due { list_all (placed_as_due placed.now.entries) stored.now.rooms.items ≡ true }
     requires lasts { LastsOf lasts.now.entries stored.now.cards.items }
     requires home { stay_has_home stored.now stay.now ≡ true }
@@ -299,7 +299,7 @@ pub(crate) fn all_have_lasts(
 ) -> bool
     requires places { AreOf places.now stored.now }
     requires placed { PlacesOf placed.now.entries stored.now.codes.items }
-    requires fits { FitsOf fits.now stored.now.fits.items }
+    requires fits { FitsOf fits.now (plain_fits stored.now) }
     requires due { list_all (placed_as_due placed.now.entries) stored.now.rooms.items ≡ true }
     requires lasts { LastsOf lasts.now.entries stored.now.cards.items }
     requires homes { list_all (stay_has_home stored.now) stored.now.stays.items ≡ true }

@@ -2,9 +2,9 @@
 ghost use Rattle.std.specs.Prelude.{◌≡◌, true, IfOk};
 ghost use Rattle.std.specs.List.{list_all};
 ghost use Rattle.hotel_core.specs.Model.Stays.{room_of_state};
-ghost use Rattle.hotel_rows.specs.Stored.{rows_of, room_row, stay_row};
+ghost use Rattle.hotel_rows.specs.Stored.{plain_fits, rows_of, room_row, stay_row};
 ghost use Rattle.hotel_core.specs.Model.SoundRooms.{kinds_read};
-ghost use Rattle.hotel_rows.specs.Damage.{room_columns, room_holds};
+ghost use Rattle.hotel_rows.specs.Damage.{most_notes, room_columns, room_holds};
 ghost use Rattle.hotel_rows.specs.Places.{AreOf};
 ghost use Rattle.hotel_rows.specs.FitRuns.{FitsOf};
 ghost use Rattle.hotel_rows.specs.RowTests.{is_room_number, is_secured_as_due, has_few_codes, is_at_home};
@@ -20,8 +20,15 @@ use keycard_rules::Memory;
 use std::alloc::Global;
 use std::collections::BTreeMap;
 
-/// The most notes of a room: 99 times 9,999,999.
-const MOST_NOTES: u64 = 989_999_901;
+/// The most notes of a room: those of 99 fits, or of one in the first version.
+fn most_notes(stored: &Stored) -> u64
+    ensures { result ≡ most_notes stored.now }
+{
+    if stored.fits.is_none() {
+        return 9_999_999;
+    }
+    989_999_901
+}
 
 fn has_columns(room: &PlainRoom) -> bool
     ensures { result ≡ room_columns room.now }
@@ -38,7 +45,7 @@ fn has_number(room: &PlainRoom) -> bool
 
 /// Whether the room has at most as many codes as there are cards, and those that its fits begin with.
 fn has_few_codes(stored: &Stored, fits: &RoomFits, room: &PlainRoom) -> bool
-    requires { FitsOf fits.now stored.now.fits.items }
+    requires { FitsOf fits.now (plain_fits stored.now) }
     ensures { result ≡ has_few_codes stored.now room.now }
 {
     let codes = number(room.codes);
@@ -48,7 +55,7 @@ fn has_few_codes(stored: &Stored, fits: &RoomFits, room: &PlainRoom) -> bool
 
 /// Whether the lock holds the last code, not the first one nor that of a fit, if the room is secured.
 fn is_secured_as_due(stored: &Stored, fits: &RoomFits, room: &PlainRoom) -> bool
-    requires { FitsOf fits.now stored.now.fits.items }
+    requires { FitsOf fits.now (plain_fits stored.now) }
     ensures { result ≡ is_secured_as_due stored.now room.now }
 {
     if number(room.secured) != 1 {
@@ -100,7 +107,7 @@ fn room_fits(
     room: &PlainRoom,
 ) -> bool
     requires places { AreOf places.now stored.now }
-    requires fits { FitsOf fits.now stored.now.fits.items }
+    requires fits { FitsOf fits.now (plain_fits stored.now) }
     requires read { kinds_read (rows_of stored.now) ≡ true }
     requires known { KnowsKinds known.now.entries (rows_of stored.now).kinds }
     ensures { result ≡ room_fits stored.now room.now }
@@ -117,7 +124,7 @@ fn room_fits(
     if !has_few_codes(stored, fits, room) {
         return false;
     }
-    if number(room.notes) > MOST_NOTES {
+    if number(room.notes) > most_notes(stored) {
         return false;
     }
     has_guest(places, stored, room) && is_secured_as_due(stored, fits, room)
@@ -130,7 +137,7 @@ fn rooms_fit(
     fits: &RoomFits,
 ) -> bool
     requires places { AreOf places.now stored.now }
-    requires fits { FitsOf fits.now stored.now.fits.items }
+    requires fits { FitsOf fits.now (plain_fits stored.now) }
     requires read { kinds_read (rows_of stored.now) ≡ true }
     requires known { KnowsKinds known.now.entries (rows_of stored.now).kinds }
     ensures { result ≡ list_all (room_fits stored.now) stored.now.rooms.items }
@@ -152,7 +159,7 @@ pub(crate) fn rooms_hold(
     fits: &RoomFits,
 ) -> Result<bool, Memory>
     requires places { AreOf places.now stored.now }
-    requires fits { FitsOf fits.now stored.now.fits.items }
+    requires fits { FitsOf fits.now (plain_fits stored.now) }
     requires read { kinds_read (rows_of stored.now) ≡ true }
     requires known { KnowsKinds known.now.entries (rows_of stored.now).kinds }
     ensures { IfOk result (λ hold. hold ≡ room_holds stored.now) }

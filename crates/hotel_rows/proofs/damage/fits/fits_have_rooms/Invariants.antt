@@ -5,5 +5,5 @@ use Rattle.hotel_rows.specs.RowTests.{has_room}
 use Rattle.hotel_rows.proofs.damage.fits.fits_have_rooms.Given as goal
 
 abbrev pub invariant-loop-i : goal.invariant-loop-i
-invariant-loop-i l = list_all (has_room (rows_of l.stored)) l.stored.fits.items
-    ≡ list_all (has_room (rows_of l.stored)) (drop l.i l.stored.fits.items)
+invariant-loop-i l = list_all (has_room (rows_of l.stored)) l.fits
+    ≡ list_all (has_room (rows_of l.stored)) (drop l.i l.fits)

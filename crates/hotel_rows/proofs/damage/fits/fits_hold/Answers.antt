@@ -2,7 +2,7 @@ use Rattle.std.proofs.Common.{◌&&◌, map, ap, sym, ◌∙◌}
 use Rattle.std.specs.List.{list_all}
 use Rattle.hotel_core.specs.Model.Words.{pair_cmp}
 use Rattle.hotel_core.specs.Model.SoundRooms.{are_in_order}
-use Rattle.hotel_rows.specs.Stored.{rows_of}
+use Rattle.hotel_rows.specs.Stored.{plain_fits, rows_of}
 use Rattle.hotel_rows.specs.Keys.{fit_key}
 use Rattle.hotel_rows.specs.RowTests.{has_room}
 use Rattle.hotel_rows.specs.FitRuns.{fitted_as_due}
@@ -16,7 +16,7 @@ returns-then-not-rise_in_pairs c =
     let order = c.rise_in_pairs.ensures ∙ ap (are_in_order pair_cmp)
     (c.deref-2.ensures.value ∙ c.in_ok-keys.ensures ∙ ap (map fit_key) c.deref.ensures.value) in
     sym (fits_together s runs c.requires.fits.runs
-    ∙ ap (λ b. b && list_all (has_room (rows_of s)) s.fits.items && list_all (fitted_as_due runs) s.rooms.items)
+    ∙ ap (λ b. b && list_all (has_room (rows_of s)) (plain_fits s) && list_all (fitted_as_due runs) s.rooms.items)
     (sym order ∙ c.if-not-rise_in_pairs.true))
 
 pub returns-then-not-fits_have_rooms : goal.returns-then-not-fits_have_rooms
@@ -26,7 +26,7 @@ returns-then-not-fits_have_rooms c =
     let order = c.rise_in_pairs.ensures ∙ ap (are_in_order pair_cmp)
     (c.deref-2.ensures.value ∙ c.in_ok-keys.ensures ∙ ap (map fit_key) c.deref.ensures.value) in
     sym (fits_together s runs c.requires.fits.runs
-    ∙ ap (λ b. b && list_all (has_room (rows_of s)) s.fits.items && list_all (fitted_as_due runs) s.rooms.items)
+    ∙ ap (λ b. b && list_all (has_room (rows_of s)) (plain_fits s) && list_all (fitted_as_due runs) s.rooms.items)
     (sym order ∙ c.if-not-rise_in_pairs.false)
     ∙ ap (λ b. b && list_all (fitted_as_due runs) s.rooms.items)
     (sym c.fits_have_rooms.ensures ∙ c.if-not-fits_have_rooms.true))
@@ -39,7 +39,7 @@ returns c =
     (c.deref-2.ensures.value ∙ c.in_ok-keys.ensures ∙ ap (map fit_key) c.deref.ensures.value) in
     c.rooms_are_fitted.ensures
     ∙ sym (fits_together s runs c.requires.fits.runs
-    ∙ ap (λ b. b && list_all (has_room (rows_of s)) s.fits.items && list_all (fitted_as_due runs) s.rooms.items)
+    ∙ ap (λ b. b && list_all (has_room (rows_of s)) (plain_fits s) && list_all (fitted_as_due runs) s.rooms.items)
     (sym order ∙ c.if-not-rise_in_pairs.false)
     ∙ ap (λ b. b && list_all (fitted_as_due runs) s.rooms.items)
     (sym c.fits_have_rooms.ensures ∙ c.if-not-fits_have_rooms.false))

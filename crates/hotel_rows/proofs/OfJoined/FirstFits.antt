@@ -1,0 +1,42 @@
+-- The fits of rows of the first version, and the rows of any version as rows joined with their fits.
+use Rattle.std.proofs.Common.{◌≡◌, List, [], ◌∷◌, map, Option, None, refl, ap, ◌∙◌}
+use Rattle.std.specs.Prelude.{Vec, option_map}
+use Rattle.std.specs.declared.alloc.Global.{Global}
+use Rattle.hotel_core.specs.Model.Words.{said_of}
+use Rattle.hotel_core.specs.Model.Rows.{Rows}
+use Rattle.hotel_core.specs.Model.Refits.{fit_row}
+use Rattle.hotel_rows.specs.declared.stored.PlainFit.{PlainFit}
+use Rattle.hotel_rows.specs.declared.stored.PlainRoom.{PlainRoom}
+use Rattle.hotel_rows.specs.declared.stored.Stored.{Stored}
+use Rattle.hotel_rows.specs.Joined.{joined, first_fits}
+use Rattle.hotel_rows.specs.Stored.{number_of, kind_text, room_entry, code_entry, stay_entry, card_entry, inside_pair}
+use Rattle.hotel_rows.specs.Stored.{note_entry, fit_entry, first_fit, fits_of, rows_of}
+use Rattle.hotel_rows.specs.Keys.{room_key}
+
+-- the fits that rooms begin with
+pub first_entries : (ls : List PlainRoom) → map fit_entry (map first_fit ls) ≡ first_fits (map room_entry ls)
+first_entries [] = refl
+first_entries (l ∷ ls) = ap (λ es. ((room_key l, 1), fit_row (room_key l) 1 0 0) ∷ es) (first_entries ls)
+
+-- In the first version each room has the fit that it began with.
+pub first_fits_of : (s : Stored) → s.fits ≡ None → fits_of s ≡ first_fits (map room_entry s.rooms.items)
+first_fits_of s none =
+    ap (λ (o : Option (Vec PlainFit Global)).
+    map fit_entry (said_of o (map first_fit s.rooms.items) (λ fits. fits.items))) none ∙ first_entries s.rooms.items
+
+-- the rows as their tables have them, without fits
+abbrev pub bare_rows_of : Stored → Rows
+bare_rows_of s = record (rows_of s) {
+  rooms = map room_entry s.rooms.items;
+  notes = map note_entry s.notes.items;
+  fits = [];
+}
+
+-- The rows are joined with their fits.
+pub rows_joined : (s : Stored) → rows_of s ≡ joined (fits_of s) (bare_rows_of s)
+rows_joined s = refl
+
+-- The rows of the first version, by those of their tables.
+pub first_rows : (s : Stored) → s.fits ≡ None
+    → rows_of s ≡ joined (first_fits (map room_entry s.rooms.items)) (bare_rows_of s)
+first_rows s none = ap (λ fits. joined fits (bare_rows_of s)) (first_fits_of s none)
