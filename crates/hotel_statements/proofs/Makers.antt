@@ -1,22 +1,26 @@
--- What CREATE TABLE does.
-use Rattle.std.proofs.Common.{◌≡◌, refl, sym, ap, subst, ◌∙◌, List, [], ◌∷◌, ◌++◌, ℕ, false, None, Ok, IsTrue}
+-- What CREATE TABLE and CREATE INDEX do.
+use Rattle.std.proofs.Common.{◌≡◌, refl, sym, ap, subst, ◌∙◌, List, [], ◌∷◌, ◌++◌, ℕ, false, Option, None, Result, Ok, IsTrue}
 use Rattle.std.specs.List.{AllByRecursion}
 use Rattle.sqlite_tied.specs.Compute.{everything}
-use Rattle.sqlite.specs.Command.TheVariants.{CreateTable}
+use Rattle.sqlite.specs.Command.TheVariants.{CreateTable, CreateIndex}
 use Rattle.sqlite.specs.Table.{Table}
 use Rattle.sqlite.specs.Schema.{Schema}
 use Rattle.sqlite.specs.Tree.{Trees}
-use Rattle.sqlite.specs.Change.{created, next_tree, KeepsRows}
-use Rattle.sqlite.specs.Does.{Tally, lacks_sequence}
+use Rattle.sqlite.specs.Change.{created, indexed, next_tree, KeepsRows}
+use Rattle.sqlite.specs.Does.{Tally, lacks_sequence, Does, AtPlace, Defines, MakesIndex}
+use Rattle.sqlite_schema.specs.declared.schema.Index.{Index}
 use Rattle.sqlite.specs.Listing.{understood}
 use Rattle.sqlite.specs.Effect.{Database}
-use Rattle.sqlite.specs.State.{State, Writes, ExecutesIn, ExecutesInside}
+use Rattle.sqlite.specs.State.{State, mode_of, Writes, ExecutesIn, ExecutesInside}
+use Rattle.sqlite.specs.declared.error.Error.{Error}
 use Rattle.sqlite.proofs.Callers.{runs_as}
 use Rattle.hotel_statements.specs.Texts.{create_meta, create_kind, create_room, create_stay, create_code, create_card}
-use Rattle.hotel_statements.specs.Texts.{create_inside, create_note, create_fit}
-use Rattle.hotel_statements.specs.Schema.{no_schema, meta_table, kind_table, room_table, stay_table, code_table}
-use Rattle.hotel_statements.specs.Schema.{card_table, inside_table, note_table, fit_table}
-use Rattle.hotel_statements.specs.NewDesk.{IsMaker, IsBare, with_meta, with_kind, with_room, with_stay, with_code}
+use Rattle.hotel_statements.specs.Texts.{create_inside, create_note, create_fit, create_stay_room, create_card_party}
+use Rattle.hotel_statements.specs.Schema.{no_schema, first_schema, tables_schema, with_stay_index, desk_schema}
+use Rattle.hotel_statements.specs.Schema.{meta_table, kind_table, room_table, stay_table, code_table, card_table}
+use Rattle.hotel_statements.specs.Schema.{inside_table, note_table, fit_table, at_tree, stay_by_room, card_by_party}
+use Rattle.hotel_statements.specs.NewDesk.{IsMaker, IsIndexer, HasTable, HasIndex, HasNew, IsBare}
+use Rattle.hotel_statements.specs.NewDesk.{with_meta, with_kind, with_room, with_stay, with_code}
 use Rattle.hotel_statements.specs.NewDesk.{with_card, with_inside, with_note}
 use Rattle.hotel_statements.proofs.Writing.{went, same_value}
 
@@ -42,12 +46,97 @@ still_empty : (old new : Trees) (ts : List Table) (t : Table) → KeepsRows ts o
 still_empty old new [] t kept all none = (none, tt)
 still_empty old new (x ∷ ts) t kept all none = (kept.0 ∙ all.0, still_empty old new ts t kept.1 all.1 none)
 
+-- a step that makes a table, whatever the tables before and their rows are
+pub adds : (schema : Schema) (text : List ℕ) (t : Table) (old new : State) (count : ℕ) → IsMaker schema text t
+    → (IsTrue old.is_open → old.now.schema ≡ schema) → ExecutesInside 0 text [] old new (Ok count) → HasTable schema t old new
+adds schema text t old new count maker has h =
+    let did = creates schema text t old new count maker (has h.1.was_open) h.0 in
+    record { inside = subst IsTrue (sym h.1.mode) refl; was_open = h.1.was_open; schema_is = did.0; rows = did.2; empty = did.1 }
+
 -- a step of `create`, whatever the table is
 pub makes : (schema : Schema) (text : List ℕ) (t : Table) (old new : State) (count : ℕ) → IsMaker schema text t → IsBare schema old → ExecutesInside 0 text [] old new (Ok count)
     → IsBare (created schema t) new
 makes schema text t old new count maker bare h =
-    let did = creates schema text t old new count maker bare.schema_is h.0 in
-    record { inside = subst IsTrue (sym h.1.mode) refl; schema_is = did.0; empty = still_empty old.now.trees new.now.trees schema.tables _ did.2 bare.empty did.1 }
+    let did = adds schema text t old new count maker (λ _. bare.schema_is) h in record {
+      inside = did.inside;
+      schema_is = did.schema_is;
+      empty = still_empty old.now.trees new.now.trees schema.tables _ did.rows bare.empty did.empty;
+    }
+
+-- a step that makes an index, whatever the tables and their rows are
+pub indexes : (schema : Schema) (text : List ℕ) (at : ℕ) (t : Table) (index : Index) (old new : State) (count : ℕ)
+    → IsIndexer schema text at t index → (IsTrue old.is_open → old.now.schema ≡ schema)
+    → ExecutesInside 0 text [] old new (Ok count) → HasIndex schema t index old new
+indexes schema text at t index old new count maker has_open h =
+    let has = has_open h.1.was_open in
+    let db : Database = record old.now { schema = schema } in
+    let out = λ (tally : Tally). let r : Result (Tally × Database) (Option Error) = Ok (tally, new.now) in r in
+    let ran = runs_as text [] old new schema has (CreateIndex at) maker.command maker.plain count h.0 in
+    let w = subst (λ x. Writes old new None (CreateIndex at) x [] count) maker.whole ran in
+    let whole = subst (λ s. Does old.step_limit (mode_of old) [] (record old.now { schema = s }) text None (CreateIndex at)
+    (out w.tally)) has w.changed in
+    let made = went (subst (λ o. AtPlace (λ table. Defines (mode_of old) (MakesIndex text db table)) o (out w.tally))
+    maker.there whole) in
+    let did = made.1 in
+    let same : did.index ≡ index = same_value (sym did.defined ∙ maker.defines) in
+    let now : new.now ≡ made.0 = ap (λ (p : Tally × Database). p.1) (same_value made.2) in
+    record {
+      inside = subst IsTrue (sym h.1.mode) refl;
+      was_open = h.1.was_open;
+      schema_is = ap (λ (d : Database). d.schema) now ∙ did.is ∙ ap (indexed schema t) same;
+      rows = subst (λ (d : Database). KeepsRows schema.tables old.now.trees d.trees) (sym now) did.rows;
+    }
+
+-- ---- the second version
+
+keeps_then : (ts : List Table) (a b c : Trees) → KeepsRows ts a b → KeepsRows ts b c → KeepsRows ts a c
+keeps_then [] a b c one two = tt
+keeps_then (t ∷ ts) a b c one two = (two.0 ∙ one.0, keeps_then ts a b c one.1 two.1)
+
+keeps_front : (ts more : List Table) (a b : Trees) → KeepsRows (ts ++ more) a b → KeepsRows ts a b
+keeps_front [] more a b keeps = tt
+keeps_front (t ∷ ts) more a b keeps = (keeps.0, keeps_front ts more a b keeps.1)
+
+keeps_last : (ts : List Table) (t : Table) (a b : Trees) → KeepsRows (ts ++ t ∷ []) a b → b t.tree ≡ a t.tree
+keeps_last [] t a b keeps = keeps.0
+keeps_last (x ∷ ts) t a b keeps = keeps_last ts t a b keeps.1
+
+abbrev the_fits : Table
+the_fits = at_tree 13 fit_table
+
+-- the table of the fits and the two indexes, of eight tables with rows
+pub all_new : (a b c d : State) → HasTable first_schema fit_table a b
+    → HasIndex tables_schema (at_tree 5 stay_table) stay_by_room b c
+    → HasIndex with_stay_index (at_tree 8 card_table) card_by_party c d → HasNew a d
+all_new a b c d one two three =
+    let rows : KeepsRows tables_schema.tables b.now.trees d.now.trees =
+    keeps_then tables_schema.tables b.now.trees c.now.trees d.now.trees two.rows three.rows in
+    let front = keeps_front first_schema.tables (the_fits ∷ []) b.now.trees d.now.trees rows in
+    record {
+      inside = three.inside;
+      was_open = one.was_open;
+      schema_is = three.schema_is;
+      rows = keeps_then first_schema.tables a.now.trees b.now.trees d.now.trees one.rows front;
+      empty = keeps_last first_schema.tables the_fits b.now.trees d.now.trees rows ∙ one.empty;
+    }
+
+-- of eight empty tables
+pub new_bare : (old new : State) → HasNew old new → IsBare with_note old → IsBare desk_schema new
+new_bare old new did bare = record {
+  inside = did.inside;
+  schema_is = did.schema_is;
+  empty = still_empty old.now.trees new.now.trees first_schema.tables the_fits did.rows bare.empty did.empty;
+}
+
+pub make_stay_room : IsIndexer tables_schema create_stay_room 3 (at_tree 5 stay_table) stay_by_room
+unfolding understood everything
+make_stay_room = record { command = refl; whole = refl; plain = (refl, refl); there = refl; defines = refl }
+
+pub make_card_party : IsIndexer with_stay_index create_card_party 5 (at_tree 8 card_table) card_by_party
+unfolding understood everything
+make_card_party = record { command = refl; whole = refl; plain = (refl, refl); there = refl; defines = refl }
+
+-- ---- the tables
 
 pub make_meta : IsMaker no_schema create_meta meta_table
 unfolding understood everything

@@ -117,12 +117,13 @@ meta_entry l = (number_of l.id, (number_of l.version, option_map number_of l.day
 abbrev Good : {L X : Type 0} → (Row → X) → (X → Row) → (L → Row) → (L → X) → L → Type 0
 Good of written shown entry l = (shown l ≡ written (entry l)) × (of (shown l) ≡ entry l)
 
-pub meta_good : (l : PlainMeta) → l.id ≡ pos 1 → l.version ≡ pos 2 → may_be_natural l.day ≡ true
+pub meta_good : {number : ℕ} (l : PlainMeta) → l.id ≡ pos 1 → l.version ≡ pos number → may_be_natural l.day ≡ true
     → Good meta_of meta_written meta_shown meta_entry l
 meta_good l id version day =
-    let natural : (n : ℤ) (m : ℕ) → n ≡ pos m → is_natural n ≡ true = λ n m e. ap is_natural e in (
-      rw (is_int l.id (natural l.id 1 id), is_int l.version (natural l.version 2 version), is_maybe l.day day) refl,
-      rw (says l.id (natural l.id 1 id), says l.version (natural l.version 2 version), may_say l.day day) refl,
+    let one : is_natural l.id ≡ true = ap is_natural id in
+    let two : is_natural l.version ≡ true = ap is_natural version in (
+      rw (is_int l.id one, is_int l.version two, is_maybe l.day day) refl,
+      rw (says l.id one, says l.version two, may_say l.day day) refl,
     )
 
 pub kind_good : (l : PlainKind) → Good kind_of kind_written kind_shown kind_text l

@@ -1,5 +1,5 @@
 -- Two schemas that the test takes for the same are the same, and the test takes a desk's schema for itself.
-use Rattle.std.proofs.Common.{◌≡◌, refl, sym, ap, ◌∙◌, Bool, true, false, ℕ, List, [], ◌∷◌, Option, Some, None, length, arith}
+use Rattle.std.proofs.Common.{◌≡◌, refl, sym, ap, ◌∙◌, Bool, true, false, ℕ, List, [], ◌∷◌, Option, Some, None, length, take, arith}
 use Rattle.std.specs.Prelude.{◌==◌, bytes_eq}
 use Rattle.std.specs.Fmt.{digits}
 use Rattle.std.proofs.lemmas.Bool.{false≢true}
@@ -26,7 +26,7 @@ use Rattle.sqlite_schema.specs.declared.schema.Table.{Table}
 use Rattle.sqlite_schema.specs.declared.schema.Index.{Index}
 use Rattle.sqlite_schema.specs.declared.schema.Schema.{Schema}
 use Rattle.hotel_core.proofs.OfTables.Tests.{and_true, eq_from}
-use Rattle.hotel_statements.specs.Schema.{desk_schema}
+use Rattle.hotel_statements.specs.Schema.{first_schema, desk_schema}
 use Rattle.hotel_statements.specs.SameSchema as spec
 
 all_is : {A : Type 0} (same : A → A → Bool) → ((x y : A) → same x y ≡ true → x ≡ y) → (xs ys : List A) → spec.same_all same xs ys ≡ true → xs ≡ ys
@@ -205,3 +205,46 @@ schema_is a b e =
 pub desk_is_same : spec.same_schema desk_schema desk_schema ≡ true
 unfolding digits
 desk_is_same = refl
+
+-- ---- the first version
+
+-- a schema that the test takes for another's front is that
+pub front_is : (tables indexes : ℕ) (a b : Schema) → spec.same_front tables indexes a b ≡ true
+    → a ≡ record b { tables = take tables b.tables; indexes = take indexes b.indexes }
+front_is tables indexes a b e =
+    let p3 = and_true _ _ e in
+    let p2 = and_true _ _ p3.0 in
+    let p1 = and_true _ _ p2.0 in
+    λ i. record {
+      tables = all_is spec.same_table table_is a.tables (take tables b.tables) p1.0 i;
+      indexes = all_is spec.same_index index_is a.indexes (take indexes b.indexes) p1.1 i;
+      views = (none_of a.views p2.1 ∙ sym (none_of b.views p3.1)) i;
+    }
+
+-- the first version is the second's front
+pub first_is_front : spec.same_front 8 5 first_schema desk_schema ≡ true
+unfolding digits
+first_is_front = refl
+
+pub tables_of_first : take 8 desk_schema.tables ≡ first_schema.tables
+tables_of_first = refl
+
+pub indexes_of_first : take 5 desk_schema.indexes ≡ first_schema.indexes
+unfolding digits
+indexes_of_first = refl
+
+pub front_is_first : record desk_schema { tables = take 8 desk_schema.tables; indexes = take 5 desk_schema.indexes }
+    ≡ first_schema
+unfolding digits
+front_is_first = refl
+
+pub count_tables : length desk_schema.tables ≡ 9
+count_tables = refl
+
+pub count_indexes : length desk_schema.indexes ≡ 9
+count_indexes = refl
+
+-- the two are told apart
+pub not_both : (s : Schema) → s ≡ desk_schema → ¬ (s ≡ first_schema)
+not_both s second first =
+    let eight : 8 ≡ 9 = ap (λ (s : Schema). length s.tables) (sym first ∙ second) in absurd (omega (arith, eight))

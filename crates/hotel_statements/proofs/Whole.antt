@@ -14,6 +14,8 @@ use Rattle.hotel_statements.specs.Texts as text
 use Rattle.hotel_statements.specs.Columns.{meta_columns, kind_columns, room_columns, stay_columns, code_columns}
 use Rattle.hotel_statements.specs.Columns.{card_columns, note_columns, fit_columns}
 use Rattle.hotel_statements.specs.PlainRows.{numbered_columns, first_one, first_three, first_four, first_seven, first_eight}
+use Rattle.hotel_statements.specs.declared.version.Version.{Version}
+use Rattle.hotel_statements.specs.declared.version.Version.TheVariants.{Second}
 use Rattle.hotel_statements.specs.WholeTables.{IsWhole}
 use Rattle.hotel_statements.proofs.Statements.Terms.{columns, all_seven, all_eight}
 use Rattle.hotel_statements.proofs.Statements.Reads as reads
@@ -48,37 +50,67 @@ all_rows tree project order columns cut shows whole db rows a =
     let right : map (λ (x : Output). cut x.1) it.ordered ≡ map cut rows = sym (fused cut (λ (x : Output). x.1) it.ordered) ∙ ap (map cut) (sym it.shown) in
     subst (λ ys. IsPermutation (map columns (db tree)) ys) right (subst (λ xs. IsPermutation xs (map (λ (x : Output). cut x.1) it.ordered)) left mapped)
 
--- ---- the nine tables
+-- ---- the tables that both versions have
 
-pub meta_whole : IsWhole text.read_meta 0 meta_columns first_three
-meta_whole = record { query = single 0 [] (columns (0 ∷ 2 ∷ 3 ∷ [])) by_rowid; asks = reads.read_meta; answers = all_rows 0 (columns (0 ∷ 2 ∷ 3 ∷ [])) by_rowid meta_columns first_three (λ r. refl) (λ r. refl) }
+pub meta_whole : (version : Version) → IsWhole version text.read_meta 0 meta_columns first_three
+meta_whole version = record {
+  query = single 0 [] (columns (0 ∷ 2 ∷ 3 ∷ [])) by_rowid;
+  asks = reads.read_meta version;
+  answers = all_rows 0 (columns (0 ∷ 2 ∷ 3 ∷ [])) by_rowid meta_columns first_three (λ r. refl) (λ r. refl);
+}
 
-pub kind_whole : IsWhole text.read_kind 1 kind_columns first_one
-kind_whole = record { query = single 1 [] (columns (1 ∷ [])) by_first; asks = reads.read_kind; answers = all_rows 1 (columns (1 ∷ [])) by_first kind_columns first_one (λ r. refl) (λ r. refl) }
+pub kind_whole : (version : Version) → IsWhole version text.read_kind 1 kind_columns first_one
+kind_whole version = record {
+  query = single 1 [] (columns (1 ∷ [])) by_first;
+  asks = reads.read_kind version;
+  answers = all_rows 1 (columns (1 ∷ [])) by_first kind_columns first_one (λ r. refl) (λ r. refl);
+}
 
-pub room_whole : IsWhole text.read_room 3 room_columns first_seven
-room_whole = record { query = single 3 [] all_seven by_rowid; asks = reads.read_room; answers = all_rows 3 all_seven by_rowid room_columns first_seven (λ r. refl) (λ r. refl) }
+pub room_whole : (version : Version) → IsWhole version text.read_room 3 room_columns first_seven
+room_whole version = record {
+  query = single 3 [] all_seven by_rowid;
+  asks = reads.read_room version;
+  answers = all_rows 3 all_seven by_rowid room_columns first_seven (λ r. refl) (λ r. refl);
+}
 
-pub stay_whole : IsWhole text.read_stay 5 stay_columns first_seven
-stay_whole = record { query = single 5 [] all_seven by_rowid; asks = reads.read_stay; answers = all_rows 5 all_seven by_rowid stay_columns first_seven (λ r. refl) (λ r. refl) }
+pub stay_whole : (version : Version) → IsWhole version text.read_stay 5 stay_columns first_seven
+stay_whole version = record {
+  query = single 5 [] all_seven by_rowid;
+  asks = reads.read_stay version;
+  answers = all_rows 5 all_seven by_rowid stay_columns first_seven (λ r. refl) (λ r. refl);
+}
 
-pub code_whole : IsWhole text.read_code 6 code_columns first_three
-code_whole = record { query = single 6 [] (columns (0 ∷ 2 ∷ 3 ∷ [])) by_rowid; asks = reads.read_code; answers = all_rows 6 (columns (0 ∷ 2 ∷ 3 ∷ [])) by_rowid code_columns first_three (λ r. refl) (λ r. refl) }
+pub code_whole : (version : Version) → IsWhole version text.read_code 6 code_columns first_three
+code_whole version = record {
+  query = single 6 [] (columns (0 ∷ 2 ∷ 3 ∷ [])) by_rowid;
+  asks = reads.read_code version;
+  answers = all_rows 6 (columns (0 ∷ 2 ∷ 3 ∷ [])) by_rowid code_columns first_three (λ r. refl) (λ r. refl);
+}
 
-pub card_whole : IsWhole text.read_card 8 card_columns first_four
-card_whole = record {
+pub card_whole : (version : Version) → IsWhole version text.read_card 8 card_columns first_four
+card_whole version = record {
   query = single 8 [] (columns (0 ∷ 2 ∷ 3 ∷ 4 ∷ [])) by_rowid;
-  asks = reads.read_card;
+  asks = reads.read_card version;
   answers = all_rows 8 (columns (0 ∷ 2 ∷ 3 ∷ 4 ∷ [])) by_rowid card_columns first_four (λ r. refl) (λ r. refl);
 }
 
-pub inside_whole : IsWhole text.read_inside 9 numbered_columns first_three
-inside_whole = record { query = single 9 [] (columns (0 ∷ 1 ∷ 2 ∷ [])) by_two; asks = reads.read_inside; answers = all_rows 9 (columns (0 ∷ 1 ∷ 2 ∷ [])) by_two numbered_columns first_three (λ r. refl) (λ r. refl) }
+pub inside_whole : (version : Version) → IsWhole version text.read_inside 9 numbered_columns first_three
+inside_whole version = record {
+  query = single 9 [] (columns (0 ∷ 1 ∷ 2 ∷ [])) by_two;
+  asks = reads.read_inside version;
+  answers = all_rows 9 (columns (0 ∷ 1 ∷ 2 ∷ [])) by_two numbered_columns first_three (λ r. refl) (λ r. refl);
+}
 
-pub note_whole : IsWhole text.read_note 11 note_columns first_eight
-note_whole = record { query = single 11 [] all_eight by_two; asks = reads.read_note; answers = all_rows 11 all_eight by_two note_columns first_eight (λ r. refl) (λ r. refl) }
+pub note_whole : (version : Version) → IsWhole version text.read_note 11 note_columns first_eight
+note_whole version = record {
+  query = single 11 [] all_eight by_two;
+  asks = reads.read_note version;
+  answers = all_rows 11 all_eight by_two note_columns first_eight (λ r. refl) (λ r. refl);
+}
 
-pub fit_whole : IsWhole text.read_fit 13 fit_columns first_four
+-- ---- the table of the second version alone
+
+pub fit_whole : IsWhole Second text.read_fit 13 fit_columns first_four
 fit_whole = record {
   query = single 13 [] (columns (1 ∷ 2 ∷ 3 ∷ 4 ∷ [])) by_two;
   asks = reads.read_fit;

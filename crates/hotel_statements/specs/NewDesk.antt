@@ -1,9 +1,9 @@
 -- The making of tables, and an empty desk.
-use Rattle.std.specs.Prelude.{◌≡◌, List, [], ℕ, IsTrue, false, Ok}
+use Rattle.std.specs.Prelude.{◌≡◌, List, [], ℕ, IsTrue, false, Ok, Some, slice_get}
 use Rattle.std.specs.List.{AllByRecursion}
 use Rattle.sqlite.specs.Table.{Table}
-use Rattle.sqlite.specs.Compile.{table_defined_by}
-use Rattle.sqlite.specs.Command.TheVariants.{CreateTable}
+use Rattle.sqlite.specs.Compile.{table_defined_by, index_defined_by}
+use Rattle.sqlite.specs.Command.TheVariants.{CreateTable, CreateIndex}
 use Rattle.sqlite.specs.Does.{lacks_sequence}
 use Rattle.sqlite.specs.Listing.{understood}
 use Rattle.sqlite.specs.Given.{IsPlain}
@@ -11,8 +11,9 @@ use Rattle.sqlite.proofs.Callers.{command_of, statement_of}
 use Rattle.sqlite.specs.Tree.{Trees}
 use Rattle.sqlite.specs.Schema.{Schema}
 use Rattle.sqlite.specs.State.{State}
-use Rattle.sqlite.specs.Change.{KeepsRows}
-use Rattle.sqlite_catalog.specs.Change.{created}
+use Rattle.sqlite.specs.Change.{next_tree, KeepsRows}
+use Rattle.sqlite_schema.specs.declared.schema.Index.{Index}
+use Rattle.sqlite_catalog.specs.Change.{created, indexed}
 use Rattle.hotel_core.specs.Model.Rows.{no_rows}
 use Rattle.hotel_statements.specs.Tables.{AreTables, rows_in}
 use Rattle.hotel_statements.specs.Schema.{desk_schema, first_schema, no_schema, meta_table, kind_table, room_table, stay_table}
@@ -71,6 +72,41 @@ IfOpenBare before after = IfOpen (IsBare before) (IsBare after)
 -- whatever tables are there, the text's table is made
 abbrev pub Makes : List ℕ → State → State → Type 0
 Makes text old new = (schema : Schema) (t : Table) → IsMaker schema text t → IfOpen (IsBare schema) (IsBare (created schema t)) old new
+
+-- Within a transaction, a table was made, and no other table's rows changed.
+pub record HasTable (schema : Schema) (t : Table) (old new : State) : Type 0 where
+  pub inside : IsTrue new.in_transaction
+  pub was_open : IsTrue old.is_open
+  pub schema_is : new.now.schema ≡ created schema t
+  pub rows : KeepsRows schema.tables old.now.trees new.now.trees
+  pub empty : new.now.trees (next_tree schema) ≡ []
+
+-- whatever tables are there and whatever their rows, the text's table is made
+abbrev pub AddsTable : List ℕ → State → State → Type 0
+AddsTable text old new =
+    (schema : Schema) (t : Table) → IsMaker schema text t → (IsTrue old.is_open → old.now.schema ≡ schema)
+    → HasTable schema t old new
+
+-- The text makes this index of the table at this place of a database with these tables.
+pub record IsIndexer (schema : Schema) (text : List ℕ) (at : ℕ) (t : Table) (index : Index) : Type 0 where
+  pub command : command_of (understood schema text) ≡ CreateIndex at
+  pub whole : statement_of text (understood schema text) ≡ text
+  pub plain : IsPlain (understood schema text)
+  pub there : slice_get schema.tables at ≡ Some t
+  pub defines : index_defined_by t text ≡ Ok index
+
+-- Within a transaction, an index of a table was made, and no table's rows changed.
+pub record HasIndex (schema : Schema) (t : Table) (index : Index) (old new : State) : Type 0 where
+  pub inside : IsTrue new.in_transaction
+  pub was_open : IsTrue old.is_open
+  pub schema_is : new.now.schema ≡ indexed schema t index
+  pub rows : KeepsRows schema.tables old.now.trees new.now.trees
+
+-- whatever tables are there and whatever their rows, the text's index is made
+abbrev pub AddsIndex : List ℕ → State → State → Type 0
+AddsIndex text old new =
+    (schema : Schema) (at : ℕ) (t : Table) (index : Index) → IsIndexer schema text at t index
+    → (IsTrue old.is_open → old.now.schema ≡ schema) → HasIndex schema t index old new
 
 -- Of eight tables with rows, all of the second version are made: the rows stay, and the ninth table has none.
 pub record HasNew (old new : State) : Type 0 where

@@ -5,7 +5,8 @@ ghost use Rattle.sqlite.specs.State.{HasCleanDisk, KeepsCommit, Survives};
 ghost use Rattle.hotel_statements.specs.Schema.{no_schema, desk_schema};
 ghost use Rattle.hotel_statements.specs.Texts as texts;
 ghost use Rattle.hotel_statements.specs.Statements.{RunsStatements, makes_table};
-ghost use Rattle.hotel_statements.specs.NewDesk.{IfOpen, IfOpenBare, Makes, MakesNew, IsBare, IsMade, with_stay, with_card, with_note};
+ghost use Rattle.hotel_statements.specs.NewDesk.{IfOpen, IfOpenBare, Makes, AddsTable, AddsIndex, MakesNew, IsBare};
+ghost use Rattle.hotel_statements.specs.NewDesk.{IsMade, with_stay, with_card, with_note};
 
 use crate::statement::run;
 use crate::texts::{
@@ -19,7 +20,22 @@ fn make<S: Alter>(tx: &mut Transaction<'_, S>, text: &str) -> Result<(), Error>
     ensures same_reference { tx.new.conn.ghost_name ≡ tx.old.conn.ghost_name }
     ensures answers { RunsStatements S.Store (makes_table text.now ∷ []) tx.old.conn.now tx.new.conn.now result }
     ensures made { HasCleanDisk (state S.Store tx.new.conn.now) → OnOk result (Makes text.now (state S.Store tx.old.conn.now) (state S.Store tx.new.conn.now)) }
+    ensures added { HasCleanDisk (state S.Store tx.new.conn.now) →
+        OnOk result (AddsTable text.now (state S.Store tx.old.conn.now) (state S.Store tx.new.conn.now)) }
     ensures kept { HasCleanDisk (state S.Store tx.new.conn.now) → KeepsCommit (state S.Store tx.old.conn.now) (state S.Store tx.new.conn.now) }
+    ensures survives { Survives (state S.Store tx.old.conn.now) (state S.Store tx.new.conn.now) (λ _. ⊥) }
+{
+    run(tx, text, &[])
+}
+
+/// Makes an index.
+fn make_index<S: Alter>(tx: &mut Transaction<'_, S>, text: &str) -> Result<(), Error>
+    ensures same_reference { tx.new.conn.ghost_name ≡ tx.old.conn.ghost_name }
+    ensures answers { RunsStatements S.Store (makes_table text.now ∷ []) tx.old.conn.now tx.new.conn.now result }
+    ensures added { HasCleanDisk (state S.Store tx.new.conn.now) →
+        OnOk result (AddsIndex text.now (state S.Store tx.old.conn.now) (state S.Store tx.new.conn.now)) }
+    ensures kept { HasCleanDisk (state S.Store tx.new.conn.now) →
+        KeepsCommit (state S.Store tx.old.conn.now) (state S.Store tx.new.conn.now) }
     ensures survives { Survives (state S.Store tx.old.conn.now) (state S.Store tx.new.conn.now) (λ _. ⊥) }
 {
     run(tx, text, &[])
@@ -54,8 +70,8 @@ pub(crate) fn make_new<S: Alter>(tx: &mut Transaction<'_, S>) -> Result<(), Erro
     ensures survives { Survives (state S.Store tx.old.conn.now) (state S.Store tx.new.conn.now) (λ _. ⊥) }
 {
     make(tx, CREATE_FIT)?;
-    make(tx, CREATE_STAY_ROOM)?;
-    make(tx, CREATE_CARD_PARTY)
+    make_index(tx, CREATE_STAY_ROOM)?;
+    make_index(tx, CREATE_CARD_PARTY)
 }
 
 /// Makes the tables of insides, notes and fits, and the two indexes.
