@@ -24,6 +24,7 @@ pub mod Naturals
 mod Made
 pub mod Ends
 pub mod InTurn
+pub mod Upgraded
 mod Walked
 mod OfWalks
 pub mod SameSchema

@@ -12,3 +12,4 @@ pub mod Insides
 pub mod Deletes
 pub mod Emptied
 pub mod Alone
+pub mod FirstFits

@@ -1,14 +1,18 @@
 -- A desk of the first version, and what makes one of the second of it.
-use Rattle.std.specs.Prelude.{◌≡◌, ℕ, false, List, Result, OnOk, IsTrue}
+use Rattle.std.specs.Prelude.{◌≡◌, ◌<◌, ℕ, false, List, Result, OnOk, IsTrue}
+use Rattle.std.specs.List.{AllByRecursion}
 use Rattle.std.specs.Map.{keys_of}
 use Rattle.sqlite.specs.Tree.{Trees}
 use Rattle.sqlite_catalog.specs.Listing.{IsSound}
 use Rattle.sqlite.specs.Effect.{IsDatabase}
 use Rattle.sqlite.specs.State.{State, HasCleanDisk, KeepsCommit, Survives}
 use Rattle.sqlite.specs.declared.error.Error.{Error}
+use Rattle.hotel_core.specs.declared.books.rows.FitRow.{FitRow}
+use Rattle.hotel_core.specs.Model.Refits.{fit_row}
 use Rattle.hotel_statements.specs.declared.version.Version.TheVariants.{First}
 use Rattle.hotel_statements.specs.Schema.{first_schema, desk_schema}
-use Rattle.hotel_statements.specs.Tables.{AreTablesOf, AreTables, bare_rooms_in, rows_in, rows_of_version}
+use Rattle.hotel_statements.specs.Tables.{AreTablesOf, AreTables, bare_rooms_in, fits_in, rows_in, bare_rows_in}
+use Rattle.hotel_statements.specs.Tables.{rows_of_version}
 use Rattle.hotel_statements.specs.Books.{IsKept}
 use Rattle.hotel_statements.specs.Steps.{IsMid}
 
@@ -33,6 +37,10 @@ pub record IsFirstMid (s : State) : Type 0 where
 abbrev pub AreRoomsIn : List ℕ → Trees → Type 0
 AreRoomsIn rooms db = rooms ≡ keys_of (bare_rooms_in db)
 
+-- within a transaction, the tables are those of a desk of the first version, and these are its rooms
+abbrev pub IsFirstWith : List ℕ → State → Type 0
+IsFirstWith rooms s = IsFirstMid s × AreRoomsIn rooms s.now.trees
+
 -- Within one transaction, a desk of the first version became one of the second, with its rows.
 pub record IsUpgraded (old new : State) : Type 0 where
   pub was_open : IsTrue old.is_open
@@ -43,15 +51,55 @@ pub record IsUpgraded (old new : State) : Type 0 where
   pub sound : IsDatabase new.now
   pub rows_are : rows_in new.now.trees ≡ rows_of_version First old.now.trees
 
--- The statements that make a desk of the second version of one of the first, whose rooms are these: nothing is committed, and a crash leaves
--- nothing new.
+-- The statements that make a desk of the second version of one of the first, whose rooms are these: nothing is
+-- committed, and a crash leaves nothing new.
 pub record Upgrades (rooms : List ℕ) (old new : State) (result : Result (Unit {0}) Error) : Type 0 where
-  pub made : HasCleanDisk new → OnOk result ((IsTrue old.is_open → IsFirstMid old × AreRoomsIn rooms old.now.trees) → IsUpgraded old new)
+  pub made : HasCleanDisk new → OnOk result ((IsTrue old.is_open → IsFirstWith rooms old) → IsUpgraded old new)
   pub kept : HasCleanDisk new → KeepsCommit old new
   pub survives : Survives old new (λ _. ⊥)
 
--- The trees are the whole of a desk of the second version, with the rows of one of the first: an opening that finds them finds its schema.
+-- The trees are the whole of a desk of the second version, with the rows of one of the first: an opening that finds
+-- them finds its schema.
 pub record IsUpgradeOf (old new : Trees) : Type 0 where
   pub tables : AreTables new
   pub sound : IsSound desk_schema new
   pub rows_are : rows_in new ≡ rows_of_version First old
+
+-- ---- its statements
+
+-- Within a transaction, there are the tables of the second version, but meta tells the first one, and there is no fit.
+pub record IsOutdated (s : State) : Type 0 where
+  pub schema : s.now.schema ≡ desk_schema
+  pub inside : IsTrue s.in_transaction
+  pub tables : AreTablesOf First s.now.trees
+  pub empty : s.now.trees 13 ≡ []
+
+-- Within a transaction, the tables are those of a desk, whose fits are of rooms before this one.
+pub record IsBefore (room : ℕ) (s : State) : Type 0 where
+  pub mid : IsMid s
+  pub earlier : AllByRecursion (λ (e : (ℕ × ℕ) × FitRow). e.0.0 < room) (fits_in s.now.trees)
+
+abbrev pub Fits : Type 0
+Fits = List ((ℕ × ℕ) × FitRow)
+
+-- the fit that a room began with
+abbrev pub first_of : ℕ → (ℕ × ℕ) × FitRow
+first_of room = ((room, 1), fit_row room 1 0 0)
+
+-- The tables became those of a desk with these fits, and the other rows stayed; nothing is committed.
+pub record HasFits (fits : Fits) (old new : State) : Type 0 where
+  pub was_open : IsTrue old.is_open
+  pub is_open : IsTrue new.is_open
+  pub committed : new.committed ≡ old.committed
+  pub mid : IsMid new
+  pub sound : IsDatabase new.now
+  pub bare_rows_are : bare_rows_in new.now.trees ≡ bare_rows_in old.now.trees
+  pub fits_are : fits_in new.now.trees ≡ fits
+
+-- Statements of an upgrade, from old to new: where none failed, and old was such a state, the desk has these fits.
+-- Nothing is committed, and a crash leaves nothing new.
+pub record GivesFits (Before : State → Type 0) (fits : Fits) (old new : State) (result : Result (Unit {0}) Error)
+    : Type 0 where
+  pub made : HasCleanDisk new → OnOk result ((IsTrue old.is_open → Before old) → HasFits fits old new)
+  pub kept : HasCleanDisk new → KeepsCommit old new
+  pub survives : Survives old new (λ _. ⊥)

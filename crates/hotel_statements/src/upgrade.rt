@@ -1,7 +1,8 @@
 //! The statements that make a desk of the second version of one of the first, within a transaction.
-ghost use Rattle.std.specs.Prelude.{◌≡◌};
+ghost use Rattle.std.specs.Prelude.{◌≡◌, ◌++◌, [], ◌∷◌};
 ghost use Rattle.sqlite.specs.Held.{state};
-ghost use Rattle.hotel_statements.specs.Upgrade.{Upgrades};
+ghost use Rattle.hotel_statements.specs.Tables.{fits_in};
+ghost use Rattle.hotel_statements.specs.Upgrade.{Upgrades, GivesFits, IsOutdated, IsBefore, IsFirstMid, first_of};
 
 use crate::new_desk::make_new;
 use crate::number::{numbered, small};
@@ -16,6 +17,7 @@ const VERSION: u32 = 2;
 /// Has meta tell the second version.
 fn set_version<S: Alter>(tx: &mut Transaction<'_, S>) -> Result<(), Error>
     ensures same_reference { tx.new.conn.ghost_name ≡ tx.old.conn.ghost_name }
+    ensures makes { GivesFits IsOutdated [] (state S.Store tx.old.conn.now) (state S.Store tx.new.conn.now) result }
 {
     run(tx, UPDATE_VERSION, &[small(1), small(VERSION)])
 }
@@ -23,6 +25,8 @@ fn set_version<S: Alter>(tx: &mut Transaction<'_, S>) -> Result<(), Error>
 /// Adds the fit that a room began with.
 fn insert_first_fit<S: Alter>(tx: &mut Transaction<'_, S>, room: RoomNo) -> Result<(), Error>
     ensures same_reference { tx.new.conn.ghost_name ≡ tx.old.conn.ghost_name }
+    ensures makes { GivesFits (IsBefore room) (fits_in (state S.Store tx.old.conn.now).now.trees ++ first_of room ∷ [])
+        (state S.Store tx.old.conn.now) (state S.Store tx.new.conn.now) result }
 {
     run(
         tx,
@@ -34,6 +38,7 @@ fn insert_first_fit<S: Alter>(tx: &mut Transaction<'_, S>, room: RoomNo) -> Resu
 /// Makes the table of fits and the indexes, and has meta tell the second version.
 fn upgrade_tables<S: Alter>(tx: &mut Transaction<'_, S>) -> Result<(), Error>
     ensures same_reference { tx.new.conn.ghost_name ≡ tx.old.conn.ghost_name }
+    ensures makes { GivesFits IsFirstMid [] (state S.Store tx.old.conn.now) (state S.Store tx.new.conn.now) result }
 {
     make_new(tx)?;
     set_version(tx)

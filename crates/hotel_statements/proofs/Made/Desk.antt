@@ -1,6 +1,6 @@
 -- A desk of whose tables one is written: of the nine lists one moves, and those of rooms and notes with the fits.
-use Rattle.std.proofs.Common.{◌≡◌, ◌≢◌, true, inl, inr, refl, sym, ap, subst, ◌∙◌, List, [], ◌∷◌, map, ℕ, Option}
-use Rattle.std.proofs.Common.{IsTrue, arith, eqb}
+use Rattle.std.proofs.Common.{◌≡◌, ◌≢◌, true, inl, inr, refl, sym, ap, ap₂, subst, ◌∙◌, List, [], ◌∷◌, map, ℕ}
+use Rattle.std.proofs.Common.{Option, None, IsTrue, arith, eqb}
 use Rattle.std.specs.Cmp.Lexicographic.{slice_cmp}
 use Rattle.std.specs.Ordering.{nat_cmp}
 use Rattle.std.specs.List.{AllByRecursion}
@@ -10,6 +10,7 @@ use Rattle.sqlite.specs.Order.{Row}
 use Rattle.sqlite.specs.Tree.{Trees}
 use Rattle.sqlite_trees.specs.Tree.{with_tree}
 use Rattle.sqlite.specs.Table.{Table}
+use Rattle.sqlite.specs.Change.{KeepsRows}
 use Rattle.sqlite.specs.Effect.{Database}
 use Rattle.sqlite.specs.State.{State, Shows}
 use Rattle.keycard_rules.specs.declared.card.Card.{Card}
@@ -18,17 +19,19 @@ use Rattle.hotel_nights.specs.declared.stay.Stay.{Stay}
 use Rattle.hotel_core.specs.declared.books.rows.RoomRow.{RoomRow}
 use Rattle.hotel_core.specs.declared.books.rows.CodeRow.{CodeRow}
 use Rattle.hotel_core.specs.declared.books.rows.FitRow.{FitRow}
-use Rattle.hotel_core.specs.Model.Words.{pair_cmp}
-use Rattle.hotel_core.specs.Model.Rows.{Rows}
-use Rattle.hotel_rows.specs.Joined.{with_fit, under_fit}
-use Rattle.hotel_statements.specs.Schema.{desk_schema}
+use Rattle.hotel_core.specs.Model.Words.{pair_cmp, said_of}
+use Rattle.hotel_core.specs.Model.Rows.{Rows, at_number}
+use Rattle.hotel_rows.specs.Joined.{with_fit, under_fit, joined}
+use Rattle.hotel_statements.specs.declared.version.Version.{Version}
+use Rattle.hotel_statements.specs.declared.version.Version.TheVariants.{First}
+use Rattle.hotel_statements.specs.Schema.{desk_schema, first_schema}
 use Rattle.hotel_statements.specs.Columns.{meta_columns, meta_of, meta_written, kind_columns, kind_of, kind_written}
 use Rattle.hotel_statements.specs.Columns.{room_columns, room_of, room_written, stay_columns, stay_of, stay_written}
 use Rattle.hotel_statements.specs.Columns.{code_columns, code_of, code_written, card_columns, card_of, card_written}
 use Rattle.hotel_statements.specs.Columns.{inside_columns, inside_of, inside_written, note_columns, note_of}
 use Rattle.hotel_statements.specs.Columns.{note_written, fit_columns, fit_of, fit_written}
-use Rattle.hotel_statements.specs.Tables.{IsTable, AreTables, AreApartIds, HasId, rows_in, fits_in, bare_rooms_in}
-use Rattle.hotel_statements.specs.Tables.{bare_notes_in, listed, by_key}
+use Rattle.hotel_statements.specs.Tables.{IsTable, AreTables, AreTablesOf, IsFitTable, AreApartIds, HasId, rows_in}
+use Rattle.hotel_statements.specs.Tables.{fits_in, bare_rooms_in, bare_notes_in, bare_rows_in, listed, by_key}
 use Rattle.hotel_statements.specs.Steps.{MovesRows}
 
 abbrev pub AreMetas : List Row → Type 0
@@ -62,8 +65,32 @@ AreFits rows = IsTable (by_key pair_cmp) fit_columns fit_of fit_written rows
 abbrev pub Same : Trees → Trees → Type 0
 Same a b = AllByRecursion (λ (t : Table). b t.tree ≡ a t.tree) desk_schema.tables
 
-same_desk : (a b : Trees) → Same a b → AreTables a → AreTables b × (rows_in b ≡ rows_in a)
-same_desk a b same was =
+-- the tables of the first version have the same rows in both
+abbrev pub SameFront : Trees → Trees → Type 0
+SameFront a b = KeepsRows first_schema.tables a b
+
+pub same_tables : {version : Version} (a b : Trees) → SameFront a b → AreTablesOf version a → IsFitTable version (b 13)
+    → AreTablesOf version b
+same_tables a b same was fits = record {
+  meta = subst AreMetas (sym same.0) was.meta;
+  meta_row = (
+    was.meta_row.0,
+    ap (listed (by_key nat_cmp) (λ r. meta_of (meta_columns r))) same.0 ∙ was.meta_row.1,
+  );
+  kind = subst AreKinds (sym same.1.0) was.kind;
+  room = subst AreRooms (sym same.1.1.0) was.room;
+  stay = subst AreStays (sym same.1.1.1.0) was.stay;
+  code = subst AreCodes (sym same.1.1.1.1.0) was.code;
+  card = subst AreCards (sym same.1.1.1.1.1.0) was.card;
+  inside = subst AreInside (sym same.1.1.1.1.1.1.0) was.inside;
+  inside_numbered = subst (AllByRecursion HasId) (sym same.1.1.1.1.1.1.0) was.inside_numbered;
+  inside_ids = subst AreApartIds (sym same.1.1.1.1.1.1.0) was.inside_ids;
+  note = subst AreNotes (sym same.1.1.1.1.1.1.1.0) was.note;
+  fit = fits;
+}
+
+pub same_bare : (a b : Trees) → SameFront a b → bare_rows_in b ≡ bare_rows_in a
+same_bare a b same =
     let meta : b 0 ≡ a 0 = same.0 in
     let kind : b 1 ≡ a 1 = same.1.0 in
     let room : b 3 ≡ a 3 = same.1.1.0 in
@@ -72,22 +99,33 @@ same_desk a b same was =
     let card : b 8 ≡ a 8 = same.1.1.1.1.1.0 in
     let inside : b 9 ≡ a 9 = same.1.1.1.1.1.1.0 in
     let note : b 11 ≡ a 11 = same.1.1.1.1.1.1.1.0 in
-    let fit : b 13 ≡ a 13 = same.1.1.1.1.1.1.1.1.0 in (
-      record {
-        meta = subst AreMetas (sym meta) was.meta;
-        meta_row = (was.meta_row.0, ap (listed (by_key nat_cmp) (λ r. meta_of (meta_columns r))) meta ∙ was.meta_row.1);
-        kind = subst AreKinds (sym kind) was.kind;
-        room = subst AreRooms (sym room) was.room;
-        stay = subst AreStays (sym stay) was.stay;
-        code = subst AreCodes (sym code) was.code;
-        card = subst AreCards (sym card) was.card;
-        inside = subst AreInside (sym inside) was.inside;
-        inside_numbered = subst (AllByRecursion HasId) (sym inside) was.inside_numbered;
-        inside_ids = subst AreApartIds (sym inside) was.inside_ids;
-        note = subst AreNotes (sym note) was.note;
-        fit = subst AreFits (sym fit) was.fit;
-      },
-      rw (meta, kind, room, stay, code, card, inside, note, fit) refl,
+    rw (meta, kind, room, stay, code, card, inside, note) refl
+
+pub same_fits : (a b : Trees) → b 13 ≡ a 13 → fits_in b ≡ fits_in a
+same_fits a b same = ap (listed (by_key pair_cmp) (λ r. fit_of (fit_columns r))) same
+
+pub front_of : (a b : Trees) → Same a b → SameFront a b × (b 13 ≡ a 13)
+front_of a b same = (
+  (
+    same.0,
+    same.1.0,
+    same.1.1.0,
+    same.1.1.1.0,
+    same.1.1.1.1.0,
+    same.1.1.1.1.1.0,
+    same.1.1.1.1.1.1.0,
+    same.1.1.1.1.1.1.1.0,
+    tt,
+  ),
+  same.1.1.1.1.1.1.1.1.0,
+)
+
+-- the rows are those without the fits, joined with them
+pub same_desk : (a b : Trees) → Same a b → AreTables a → AreTables b × (rows_in b ≡ rows_in a)
+same_desk a b same was =
+    let front = front_of a b same in (
+      same_tables a b front.0 was (subst AreFits (sym front.1) was.fit),
+      ap₂ joined (same_fits a b front.1) (same_bare a b front.0),
     )
 
 -- ---- one table written
@@ -330,3 +368,34 @@ day_set {day = day} was made = (
   },
   rw made.1 refl,
 )
+
+-- the version of meta, where there are no fits
+pub version_set : {db : Trees} {rows : List Row} (was : AreTablesOf First db) → db 13 ≡ [] → AreMetas rows
+    × (listed (by_key nat_cmp) (λ r. meta_of (meta_columns r)) rows ≡ (1, (2, was.meta_row.0)) ∷ [])
+    → AreTables (with_tree db 0 rows) × (bare_rows_in (with_tree db 0 rows) ≡ bare_rows_in db)
+    × (fits_in (with_tree db 0 rows) ≡ [])
+version_set {db} {rows} was empty made =
+    let day = was.meta_row.0 in
+    let no_fits : AreFits [] = record { good = tt; apart = tt } in
+    let now : bare_rows_in (with_tree db 0 rows) ≡ record (bare_rows_in db) { day = day } = rw made.1 refl in
+    let before : bare_rows_in db ≡ record (bare_rows_in db) { day = day } =
+    ap (λ (metas : List (ℕ × (ℕ × Option ℕ))). let all : Rows = record (bare_rows_in db) {
+      day = said_of (at_number metas 1) None (λ meta. meta.1);
+    } in all) was.meta_row.1 in (
+      record {
+        meta = made.0;
+        meta_row = (day, made.1);
+        kind = was.kind;
+        room = was.room;
+        stay = was.stay;
+        code = was.code;
+        card = was.card;
+        inside = was.inside;
+        inside_numbered = was.inside_numbered;
+        inside_ids = was.inside_ids;
+        note = was.note;
+        fit = subst AreFits (sym empty) no_fits;
+      },
+      now ∙ sym before,
+      ap (listed (by_key pair_cmp) (λ r. fit_of (fit_columns r))) empty,
+    )

@@ -50,9 +50,9 @@ use Rattle.hotel_statements.specs.Columns.{room_columns, room_of, room_written, 
 use Rattle.hotel_statements.specs.Columns.{code_columns, code_of, code_written, card_columns, card_of, card_written}
 use Rattle.hotel_statements.specs.Columns.{fit_columns, fit_of, fit_written}
 use Rattle.hotel_rows.specs.Joined.{with_last, with_fit, with_count, under_fit, fit_of_number}
-use Rattle.hotel_statements.specs.Tables.{IsWrittenAs, by_key, rows_in, fits_in, bare_rooms_in}
-use Rattle.hotel_statements.specs.Tables.{bare_notes_in}
-use Rattle.hotel_statements.specs.Steps.{IsMidWith, IsNewNote, IsNextFit, IsWithoutFit, MovesRows, any_rows, bare_room}
+use Rattle.hotel_statements.specs.Tables.{IsWrittenAs, by_key, listed, rows_in, fits_in, bare_rooms_in, bare_notes_in}
+use Rattle.hotel_statements.specs.Steps.{IsMid, IsMidWith, IsNewNote, IsNextFit, IsWithoutFit, MovesRows, any_rows}
+use Rattle.hotel_statements.specs.Steps.{bare_room}
 use Rattle.hotel_statements.specs.Steps.{counts_to, is_below, kind_added, note_added, fit_added, room_added, code_added}
 use Rattle.hotel_statements.specs.Steps.{stay_added, card_added}
 use Rattle.hotel_statements.specs.Texts.{insert_kind, insert_note, insert_fit, insert_room, insert_stay, insert_code}
@@ -65,7 +65,7 @@ use Rattle.hotel_rows.proofs.OfJoined.{joined_at, room_put, note_joined, note_pu
 use Rattle.hotel_statements.proofs.Joins.{rooms_fitted, notes_kept, noted_bare}
 use Rattle.hotel_statements.proofs.Risen.{rooms_rise, fits_rise, keys_rise}
 use Rattle.hotel_statements.proofs.Made.Desk.{Changed, changed, steps, rooms_set, stays_set, codes_set, cards_set}
-use Rattle.hotel_statements.proofs.Made.Desk.{kinds_set, notes_set, fits_set}
+use Rattle.hotel_statements.proofs.Made.Desk.{AreFits, kinds_set, notes_set, fits_set}
 use Rattle.hotel_statements.proofs.Made.Entries.{insert_makes, put_keyed, entry_put, key_put, key_total}
 use Rattle.hotel_statements.proofs.Made.Reads.{room_stored, room_good, room_reads, room_numbered, stay_stored}
 use Rattle.hotel_statements.proofs.Made.Reads.{stay_good, stay_reads, stay_numbered, code_stored, code_numbered}
@@ -258,6 +258,34 @@ none_at room number (e ∷ es) later =
     by true low = grind (arith, nat_tests, low)
     by false low = refl
 
+-- A fit of a room was put: the table has it behind its key, and no other moved.
+pub record PutsFit (fit : FitRow) (old new : State) : Type 0 where
+  pub rows : List Row
+  pub changes : Changed 13 rows old new
+  pub made : AreFits rows × (listed (by_key pair_cmp) (λ r. fit_of (fit_columns r)) rows
+      ≡ insert_entry pair_cmp (fits_in old.now.trees) (fit.room, fit.fit) fit)
+
+-- one whose number no fit of the room has reached
+pub puts_fit : (old new : State) (fit : FitRow) (count : ℕ)
+    → ExecutesIn false insert_fit (int fit.room ∷ int fit.fit ∷ int fit.place ∷ int fit.before ∷ []) old new (Ok count)
+    → IsMid old → list_all (is_below fit.room fit.fit) (fits_in old.now.trees) ≡ true → PutsFit fit old new
+puts_fit old new f count h was later =
+    let fits = fits_in old.now.trees in
+    let k : ℕ × ℕ = (f.room, f.fit) in
+    let row = fit_stored (next_rowid (old.now.trees 13)) f in
+    let did : Put 13 row old new = put 13 fit_table _ (Null ∷ int f.room ∷ int f.fit ∷ int f.place ∷ int f.before ∷ [])
+    row old new count changes.insert_fit (λ _ does. does) refl
+    (rw (cast_null, cast_int (pos f.room), cast_int (pos f.fit), cast_int (pos f.place), cast_int (pos f.before)) refl)
+    was.schema h in
+    let apart = none_at f.room f.fit fits later in
+    let made = put_keyed (by_key pair_cmp) (key_total pair_cmp pair_total) (IsWrittenAs fit_columns fit_of fit_written)
+    (λ r. fit_of (fit_columns r)) row (k, f) _ was.tables.fit refl refl did.fresh apart in
+    record {
+      rows = put_row row (old.now.trees 13);
+      changes = did.changes;
+      made = (made.0, made.1 ∙ entry_put pair_cmp k f fits apart);
+    }
+
 -- the next fit of a room
 pub fit_step : (old new : State) (fit : FitRow) (count : ℕ)
     → ExecutesInside 0 insert_fit (int fit.room ∷ int fit.fit ∷ int fit.place ∷ int fit.before ∷ []) old new (Ok count)
@@ -267,17 +295,8 @@ fit_step old new f count h mid =
     let was = both.0 in
     let db = old.now.trees in
     let fits = fits_in db in
-    let k : ℕ × ℕ = (f.room, f.fit) in
-    let id = next_rowid (old.now.trees 13) in
-    let row = fit_stored id f in
-    let did : Put 13 row old new = put 13 fit_table _ (Null ∷ int f.room ∷ int f.fit ∷ int f.place ∷ int f.before ∷ [])
-    row old new count changes.insert_fit (λ _ does. does) refl
-    (rw (cast_null, cast_int (pos f.room), cast_int (pos f.fit), cast_int (pos f.place), cast_int (pos f.before)) refl)
-    was.schema h.0 in
-    let apart = none_at f.room f.fit fits both.1.later in
-    let made = put_keyed (by_key pair_cmp) (key_total pair_cmp pair_total) (IsWrittenAs fit_columns fit_of fit_written)
-    (λ r. fit_of (fit_columns r)) row (k, f) _ was.tables.fit refl refl did.fresh apart in
-    let set = fits_set was.tables (made.0, made.1 ∙ entry_put pair_cmp k f fits apart) in
+    let did = puts_fit old new f count h.0 was both.1.later in
+    let set = fits_set was.tables did.made in
     let up = keys_rise pair_cmp fits (fits_rise db was.tables) in
     let rooms = rooms_fitted fits f up both.1.later (bare_rooms_in db) (rooms_rise db was.tables) in
     let notes = notes_kept fits f up both.1.later (bare_notes_in db)
@@ -285,5 +304,5 @@ fit_step old new f count h mid =
     steps old new (fit_added f) h.1 did.changes (
       set.0,
       set.1 ∙ ap₂ (λ rooms notes. record (rows_in db)
-          { rooms = rooms; notes = notes; fits = insert_entry pair_cmp fits k f }) rooms notes,
+          { rooms = rooms; notes = notes; fits = insert_entry pair_cmp fits (f.room, f.fit) f }) rooms notes,
     )

@@ -7,7 +7,7 @@ use Rattle.sqlite.specs.Does.{Tally, OnRows, WritesRows}
 use Rattle.sqlite.specs.Does as calls
 use Rattle.sqlite.specs.Rows.{Written, Task}
 use Rattle.sqlite.specs.Listing.{understood}
-use Rattle.sqlite.specs.Effect.{Database}
+use Rattle.sqlite.specs.Effect.{Database, IsDatabase}
 use Rattle.sqlite.specs.State.{State, mode_of, Runs, Writes, ExecutesIn}
 use Rattle.sqlite.proofs.Callers.{runs_as, statement_of}
 use Rattle.hotel_statements.specs.Schema.{desk_schema}
@@ -36,3 +36,11 @@ wrote old new tree t text params command count does writes on has h =
     let whole = subst (λ s. calls.Does old.step_limit (mode_of old) params (record old.now { schema = s }) (statement_of text (understood desk_schema text)) None command (Ok (w.tally, new.now))) has w.changed in
     let done = went (on (Ok (w.tally, new.now)) whole) in
     (done.0, done.1, ap (λ (p : Tally × Database). p.1) (same_value (went (went done.2).2).2))
+
+-- the trees that it leaves list the schema, and obey it
+pub left_sound : (old new : State) (text : List ℕ) (params : Row) (command : Command) (count : ℕ) → Does text command
+    → (Runs old new None command (statement_of text (understood desk_schema text)) params count
+    → Writes old new None command (statement_of text (understood desk_schema text)) params count)
+    → old.now.schema ≡ desk_schema → ExecutesIn false text params old new (Ok count) → IsDatabase new.now
+left_sound old new text params command count does writes has h =
+    (writes (runs_as text params old new desk_schema has command does.is does.plain count h)).sound

@@ -51,6 +51,14 @@ pub update_day : Does text.update_day (Update 0 (record { lets = []; body = sing
 unfolding understood everything
 update_day = record { is = refl; plain = (refl, refl) }
 
+pub update_version : Does text.update_version
+    (Update 0 (record {
+      lets = [];
+      body = single 0 by_rowid (col 1 0 ∷ col 1 0 ∷ lit Null ∷ col 0 1 ∷ col 1 3 ∷ []) [];
+    }))
+unfolding understood everything
+update_version = record { is = refl; plain = (refl, refl) }
+
 pub update_issued : Does text.update_issued
     (Update 2 (record { lets = []; body = single 3 by_rowid (col 1 0 ∷ col 1 0 ∷ lit Null ∷ col 1 2 ∷ col 1 3 ∷ col 0 1 ∷ lit (Int (pos 0)) ∷ col 0 2 ∷ col 1 7 ∷ []) [] }))
 unfolding understood everything

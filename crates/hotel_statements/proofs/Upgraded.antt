@@ -1,0 +1,377 @@
+-- A desk of the second version made of one of the first: its statements in turn, how their transaction ends, and what
+-- that leaves.
+use Rattle.std.proofs.Common.{◌≡◌, ◌<◌, ◌+◌, ◌++◌, inl, inr, refl, sym, ap, ap₂, subst, ◌∙◌, List, [], ◌∷◌, ℕ, zero}
+use Rattle.std.proofs.Common.{suc, take, length, get_or, map, true, false, Ok, Err, Result, OnOk, OnErr, IfErr, IsErr}
+use Rattle.std.proofs.Common.{IsTrue, true≢false, arith, nat_cmp}
+use Rattle.std.specs.List.{AllByRecursion}
+use Rattle.std.proofs.lemmas.Bool.Decides.{nat_tests}
+use Rattle.std.proofs.lemmas.List.{take_more, map_push}
+use Rattle.sqlite_catalog.specs.Listing.{IsSound}
+use Rattle.sqlite.specs.Tree.{Trees}
+use Rattle.sqlite.specs.Effect.{Database}
+use Rattle.sqlite.specs.Order.{Row}
+use Rattle.sqlite.specs.State.{State, HasCleanDisk, IsRolledBack, KeepsCommit, Survives, Shows, KeepsCounts}
+use Rattle.sqlite.specs.State.{ExecutesInside}
+use Rattle.sqlite.specs.Steps.{FailsToCommit}
+use Rattle.sqlite.specs.declared.error.Error.{Error}
+use Rattle.sqlite.proofs.StateLemmas.{survives_then}
+use Rattle.hotel_core.specs.declared.books.rows.FitRow.{FitRow}
+use Rattle.hotel_core.proofs.OfTables.KeysInOrder.{AllAfter, InOrder}
+use Rattle.hotel_rows.specs.Joined.{joined, first_fits}
+use Rattle.hotel_statements.specs.declared.version.Version.TheVariants.{First}
+use Rattle.hotel_statements.specs.Schema.{desk_schema}
+use Rattle.hotel_statements.specs.Tables.{AreTables, AreTablesOf, rows_in, rows_of_version, fits_in, bare_rooms_in}
+use Rattle.hotel_statements.specs.Books.{IsDesk, IsKept, IsBooks}
+use Rattle.hotel_statements.specs.NewDesk.{MakesNew}
+use Rattle.hotel_statements.specs.Steps.{RunsStatement}
+use Rattle.hotel_statements.specs.Upgrade.{IsFirstDesk, IsFirstBooks, IsFirstMid, IsFirstWith, AreRoomsIn, IsUpgraded}
+use Rattle.hotel_statements.specs.Upgrade.{Upgrades, IsUpgradeOf, IsOutdated, IsBefore, Fits, first_of, HasFits}
+use Rattle.hotel_statements.specs.Upgrade.{GivesFits}
+use Rattle.hotel_statements.proofs.Answers.{fused}
+use Rattle.hotel_statements.proofs.Risen.{rooms_rise, keys_rise}
+use Rattle.hotel_statements.proofs.Made.Desk.{same_tables, same_bare}
+
+-- ---- statements, one after the other
+
+none_new : {a b c : State} → Survives a b (λ _. ⊥) → Survives b c (λ _. ⊥) → Survives a c (λ _. ⊥)
+none_new {a} {b} {c} one two =
+    survives_then a b c (λ _. ⊥) (λ _. ⊥) (λ _. ⊥) (λ _ _ none. none) (λ _ _ none. none) one two
+
+commit_then : {a b c : State} → KeepsCommit a b → KeepsCommit b c → KeepsCommit a c
+commit_then one two = record {
+  was_open = λ is_open. one.was_open (two.was_open is_open);
+  committed = λ is_open. two.committed is_open ∙ one.committed (two.was_open is_open);
+}
+
+-- one statement, given what it makes, and its parameters as they are bound
+pub gives_one : {Before : State → Type 0} {text : List ℕ} {given : Row} {fits : Fits} {old new : State}
+    {r : Result (Unit {0}) Error} (params : Row) → RunsStatement text given old new r
+    → ((count : ℕ) → ExecutesInside 0 text params old new (Ok count) → (IsTrue old.is_open → Before old)
+    → HasFits fits old new) → given ≡ params → GivesFits Before fits old new r
+gives_one {Before} {text} {given} {fits} {old} {new} {r} params it step same =
+    record { made = λ clean. go r (it.ran clean); kept = it.kept; survives = it.survives }
+  where
+    go : (r : Result (Unit {0}) Error) → OnOk r ((count : ℕ) × ExecutesInside 0 text given old new (Ok count))
+        → OnOk r ((IsTrue old.is_open → Before old) → HasFits fits old new)
+    go (Err e) ran = tt
+    go (Ok u) ran = step ran.0 (subst (λ ps. ExecutesInside 0 text ps old new (Ok ran.0)) same ran.1)
+
+-- what failed promises no fits
+pub gives_none : {Before Others : State → Type 0} {fits others : Fits} {a b : State} {e : Error}
+    (r : Result (Unit {0}) Error) → IsErr r → GivesFits Before fits a b (Err e) → GivesFits Others others a b r
+gives_none (Ok u) is it = absurd cc
+gives_none (Err why) is it = record { made = λ clean. tt; kept = it.kept; survives = it.survives }
+
+-- of a state that is such a one and more
+pub gives_from : {Before Others : State → Type 0} {fits : Fits} {a b : State} {r : Result (Unit {0}) Error}
+    → (Others a → Before a) → GivesFits Before fits a b r → GivesFits Others fits a b r
+gives_from {Before} {Others} {fits} {a} {b} {r} from it =
+    record { made = λ clean. go r (it.made clean); kept = it.kept; survives = it.survives }
+  where
+    go : (r : Result (Unit {0}) Error) → OnOk r ((IsTrue a.is_open → Before a) → HasFits fits a b)
+        → OnOk r ((IsTrue a.is_open → Others a) → HasFits fits a b)
+    go (Err e) did = tt
+    go (Ok u) did = λ before. did (λ is_open. from (before is_open))
+
+-- ---- the tables, and then the version
+
+pub version_then : {a b c : State} {u : Unit {0}} {r : Result (Unit {0}) Error} → (HasCleanDisk b → MakesNew a b)
+    → (HasCleanDisk b → KeepsCommit a b) → Survives a b (λ _. ⊥) → GivesFits IsOutdated [] b c r
+    → GivesFits IsFirstMid [] a c r
+version_then {a} {b} {c} {u} {r} tables kept survives next = record {
+  made = λ clean. go r (tables (was clean)) (kept (was clean)) (next.made clean);
+  kept = λ clean. commit_then (kept (was clean)) (next.kept clean);
+  survives = none_new survives next.survives;
+}
+  where
+    was : HasCleanDisk c → HasCleanDisk b
+    was clean = omega (arith, next.survives.clean, clean)
+
+    go : (r : Result (Unit {0}) Error) → MakesNew a b → KeepsCommit a b
+        → OnOk r ((IsTrue b.is_open → IsOutdated b) → HasFits [] b c)
+        → OnOk r ((IsTrue a.is_open → IsFirstMid a) → HasFits [] a c)
+    go (Err e) makes commit did = tt
+    go (Ok u) makes commit did = λ before.
+        let first = makes (λ is_open. (before is_open).schema) in
+        let was = before first.was_open in
+        let tables = same_tables {version = First} a.now.trees b.now.trees first.rows was.tables tt in
+        let last = did (λ _. record {
+          schema = first.schema_is;
+          inside = first.inside;
+          tables = tables;
+          empty = first.empty;
+        }) in
+        record {
+          was_open = first.was_open;
+          is_open = last.is_open;
+          committed = last.committed ∙ commit.committed last.was_open;
+          mid = last.mid;
+          sound = last.sound;
+          bare_rows_are = last.bare_rows_are ∙ same_bare a.now.trees b.now.trees first.rows;
+          fits_are = last.fits_are;
+        }
+
+-- ---- the rooms
+
+-- those before a room are below it
+all_earlier : (d : ℕ) (rooms : List ℕ) (i : ℕ) → i < length rooms → InOrder nat_cmp rooms
+    → AllByRecursion (λ (e : (ℕ × ℕ) × FitRow). e.0.0 < get_or rooms i d) (map first_of (take i rooms))
+all_earlier d [] i low up = absurd (omega (arith, low))
+all_earlier d (r ∷ rooms) zero low up = tt
+all_earlier d (r ∷ rooms) (suc i) low up =
+    let less : i < length rooms = omega (arith, low) in (below rooms i less up.0, all_earlier d rooms i less up.1)
+  where
+    below : (rooms : List ℕ) (i : ℕ) → i < length rooms → AllAfter nat_cmp r rooms → r < get_or rooms i d
+    below [] i low after = absurd (omega (arith, low))
+    below (x ∷ rooms) zero low after = let is = after.0 in grind (arith, nat_tests, is)
+    below (x ∷ rooms) (suc i) low after = below rooms i (omega (arith, low)) after.1
+
+-- the fits of those so far, and one more
+fits_more : (rooms : List ℕ) (i room : ℕ) → i < length rooms → room ≡ get_or rooms i room
+    → map first_of (take i rooms) ++ first_of room ∷ [] ≡ map first_of (take (i + 1) rooms)
+fits_more rooms i room low is =
+    ap (λ x. map first_of (take i rooms) ++ first_of x ∷ []) is
+    ∙ sym (ap (map first_of) (take_more rooms i room low) ∙ map_push first_of (take i rooms) (get_or rooms i room))
+
+abbrev AreEarlier : ℕ → Fits → Type 0
+AreEarlier room fits = AllByRecursion (λ (e : (ℕ × ℕ) × FitRow). e.0.0 < room) fits
+
+pub room_then : {rooms : List ℕ} {a b c : State} {u : Unit {0}} {r : Result (Unit {0}) Error} (i room : ℕ)
+    → i < length rooms → room ≡ get_or rooms i room
+    → GivesFits (IsFirstWith rooms) (map first_of (take i rooms)) a b (Ok u)
+    → GivesFits (IsBefore room) (fits_in b.now.trees ++ first_of room ∷ []) b c r
+    → GivesFits (IsFirstWith rooms) (map first_of (take (i + 1) rooms)) a c r
+room_then {rooms} {a} {b} {c} {u} {r} i room low is one two = record {
+  made = λ clean. go r (one.made (was clean)) (two.made clean);
+  kept = λ clean. commit_then (one.kept (was clean)) (two.kept clean);
+  survives = none_new one.survives two.survives;
+}
+  where
+    was : HasCleanDisk c → HasCleanDisk b
+    was clean = omega (arith, two.survives.clean, clean)
+
+    so_far : Fits
+    so_far = map first_of (take i rooms)
+
+    go : (r : Result (Unit {0}) Error) → ((IsTrue a.is_open → IsFirstWith rooms a) → HasFits so_far a b)
+        → OnOk r ((IsTrue b.is_open → IsBefore room b) → HasFits (fits_in b.now.trees ++ first_of room ∷ []) b c)
+        → OnOk r ((IsTrue a.is_open → IsFirstWith rooms a) → HasFits (map first_of (take (i + 1) rooms)) a c)
+    go (Err e) did next = tt
+    go (Ok u) did next = λ before.
+        let first = did before in
+        let desk = before first.was_open in
+        let up : InOrder nat_cmp rooms = subst (InOrder nat_cmp) (sym desk.1)
+        (keys_rise nat_cmp (bare_rooms_in a.now.trees) (rooms_rise {version = First} a.now.trees desk.0.tables)) in
+        let earlier : AreEarlier room so_far =
+        subst (λ x. AreEarlier x so_far) (sym is) (all_earlier room rooms i low up) in
+        let last = next (λ _. record {
+          mid = first.mid;
+          earlier = subst (AreEarlier room) (sym first.fits_are) earlier;
+        }) in
+        record {
+          was_open = first.was_open;
+          is_open = last.is_open;
+          committed = last.committed ∙ first.committed;
+          mid = last.mid;
+          sound = last.sound;
+          bare_rows_are = last.bare_rows_are ∙ first.bare_rows_are;
+          fits_are = last.fits_are ∙ ap (λ fits. fits ++ first_of room ∷ []) first.fits_are
+              ∙ fits_more rooms i room low is;
+        }
+
+-- all rooms have their fits
+pub all_given : {rooms : List ℕ} {a b : State} {r : Result (Unit {0}) Error}
+    → GivesFits (IsFirstWith rooms) (map first_of rooms) a b r → Upgrades rooms a b r
+all_given {rooms} {a} {b} {r} it =
+    record { made = λ clean. go r (it.made clean); kept = it.kept; survives = it.survives }
+  where
+    go : (r : Result (Unit {0}) Error) → OnOk r ((IsTrue a.is_open → IsFirstWith rooms a)
+        → HasFits (map first_of rooms) a b) → OnOk r ((IsTrue a.is_open → IsFirstWith rooms a) → IsUpgraded a b)
+    go (Err e) did = tt
+    go (Ok u) did = λ before.
+        let all = did before in
+        let rooms_are = (before all.was_open).1 in
+        let fits : map first_of rooms ≡ first_fits (bare_rooms_in a.now.trees) =
+        ap (map first_of) rooms_are ∙ fused first_of (λ e. e.0) (bare_rooms_in a.now.trees) in
+        record {
+          was_open = all.was_open;
+          is_open = all.is_open;
+          committed = all.committed;
+          mid = all.mid;
+          sound = all.sound;
+          rows_are = ap₂ joined (all.fits_are ∙ fits) all.bare_rows_are;
+        }
+
+-- what failed promises no rows
+pub not_all : {Before : State → Type 0} {fits : Fits} {rooms : List ℕ} {a b : State} {e : Error}
+    (r : Result (Unit {0}) Error) → IsErr r → GivesFits Before fits a b (Err e) → Upgrades rooms a b r
+not_all (Ok u) is it = absurd cc
+not_all (Err why) is it = record { made = λ clean. tt; kept = it.kept; survives = it.survives }
+
+-- ---- the transaction
+
+-- The transaction was begun on a connection to a desk of the first version, whose rooms are these.
+pub record BeginsFirst (rooms : List ℕ) (old start : State) : Type 1 where
+  pub books : IsFirstBooks old
+  pub rooms_are : IsKept old → AreRoomsIn rooms old.now.trees
+  pub begun : start ≡ record old { in_transaction = true }
+
+-- How an upgrade ends that was made in one transaction.
+pub record Migrates (old new : State) (r : Result (Unit {0}) Error) : Type 0 where
+  pub books : OnOk r (IsBooks new)
+  pub left : OnErr r (IsFirstBooks new)
+  pub was : IsKept new → IsKept old
+  pub made : IsKept new → OnOk r (rows_in new.now.trees ≡ rows_of_version First old.now.trees)
+  pub same : IsKept new → OnErr r (new.now ≡ old.now)
+  pub crash : Survives old new (IsUpgradeOf old.now.trees)
+
+start_kept : {rooms : List ℕ} (old start : State) → BeginsFirst rooms old start → HasCleanDisk start
+    → IsTrue start.is_open → IsKept old
+start_kept old start b clean is_open = (
+  subst (λ (s : State). HasCleanDisk s) b.begun clean,
+  subst (λ (s : State). IsTrue s.is_open) b.begun is_open,
+)
+
+start_mid : {rooms : List ℕ} (old start : State) → BeginsFirst rooms old start → HasCleanDisk start
+    → IsTrue start.is_open → IsFirstWith rooms start
+start_mid {rooms} old start b clean is_open =
+    let kept = start_kept old start b clean is_open in
+    let desk = b.books.desk kept in
+    subst (IsFirstWith rooms) (sym b.begun) (
+      record { schema = desk.schema; inside = refl; tables = desk.tables },
+      b.rooms_are kept,
+    )
+
+-- the desk as it was, where a state has its committed rows
+restored : (old new : State) → IsFirstDesk old → new.now ≡ old.committed → new.committed ≡ old.committed
+    → IsFirstDesk new × (new.now ≡ old.now)
+restored old new desk now committed =
+    let same : new.now ≡ old.now = now ∙ sym desk.settled in (
+      record {
+        schema = ap (λ (d : Database). d.schema) same ∙ desk.schema;
+        settled = now ∙ sym committed;
+        tables = subst (λ (d : Database). AreTablesOf First d.trees) (sym same) desk.tables;
+      },
+      same,
+    )
+
+-- a transaction that was given up for a statement that failed
+pub given_up : {rooms : List ℕ} {old start mid new : State} {e : Error} (r : Result (Unit {0}) Error) → IsErr r
+    → BeginsFirst rooms old start → Survives old start (λ _. ⊥) → Upgrades rooms start mid (Err e)
+    → new.in_transaction ≡ false → (HasCleanDisk new → IsRolledBack mid new) → Survives mid new (λ _. ⊥)
+    → Migrates old new r
+given_up (Ok u) is b began did autocommit undone two = absurd cc
+given_up {rooms} {old} {start} {mid} {new} (Err why) is b began did autocommit undone two = record {
+  books = tt;
+  left = record { autocommit = autocommit; desk = λ kept. (back kept).1.0 };
+  was = λ kept. (back kept).0;
+  made = λ kept. tt;
+  same = λ kept. (back kept).1.1;
+  crash = survives_then old mid new (λ _. ⊥) (λ _. ⊥) (IsUpgradeOf old.now.trees) (λ _ _ none. absurd none)
+      (λ _ _ none. absurd none) (none_new began did.survives) two;
+}
+  where
+    back : IsKept new → IsKept old × (IsFirstDesk new × (new.now ≡ old.now))
+    back kept =
+        let clean_mid : HasCleanDisk mid = omega (arith, two.clean, kept.0) in
+        let clean_start : HasCleanDisk start = omega (arith, did.survives.clean, clean_mid) in
+        let gone = undone kept.0 in
+        let open_mid = gone.was_open kept.1 in
+        let commit = did.kept clean_mid in
+        let was = start_kept old start b clean_start (commit.was_open open_mid) in
+        let same = commit.committed open_mid ∙ ap (λ (s : State). s.committed) b.begun in
+        let done = gone.undone kept.1 in
+        (was, restored old new (b.books.desk was) (done.0 ∙ same) (done.1 ∙ same))
+
+module _ {rooms : List ℕ} {old start mid : State} {u : Unit {0}} (b : BeginsFirst rooms old start)
+    (did : Upgrades rooms start mid (Ok u)) where
+  all_steps : HasCleanDisk mid → IsUpgraded start mid
+  all_steps clean =
+      let before : HasCleanDisk start = omega (arith, did.survives.clean, clean) in
+      did.made clean (start_mid old start b before)
+
+  was_kept : HasCleanDisk mid → IsKept old
+  was_kept clean = start_kept old start b (omega (arith, did.survives.clean, clean)) (all_steps clean).was_open
+
+  start_rows : rows_of_version First start.now.trees ≡ rows_of_version First old.now.trees
+  start_rows = ap (λ (s : State). rows_of_version First s.now.trees) b.begun
+
+  whole : HasCleanDisk mid → (db : Trees) → db ≡ mid.now.trees → IsUpgradeOf old.now.trees db
+  whole clean db is =
+      let all = all_steps clean in
+      record {
+        tables = subst AreTables (sym is) all.mid.tables;
+        sound = subst (IsSound desk_schema) (sym is) (subst (λ s. IsSound s mid.now.trees) all.mid.schema all.sound);
+        rows_are = ap rows_in is ∙ all.rows_are ∙ start_rows;
+      }
+
+  abbrev Committed : State → Result (Unit {0}) Error → Type 0
+  Committed new r = OnOk r (IsTrue mid.in_transaction × Shows mid new mid.now mid.now false × KeepsCounts mid new
+      × (new.marks ≡ []))
+
+  module _ {new : State} (r : Result (Unit {0}) Error) (began : Survives old start (λ _. ⊥))
+      (autocommit : new.in_transaction ≡ false) (ok : HasCleanDisk new → Committed new r)
+      (err : HasCleanDisk new → IfErr r (FailsToCommit mid new))
+      (two : Survives mid new (λ db. db ≡ mid.now.trees)) where
+    clean_mid : HasCleanDisk new → HasCleanDisk mid
+    clean_mid clean = omega (arith, two.clean, clean)
+
+    abbrev Ended : Result (Unit {0}) Error → Type 0
+    Ended r = OnOk r (IsDesk new × (rows_in new.now.trees ≡ rows_of_version First old.now.trees))
+        × OnErr r (IsFirstDesk new × (new.now ≡ old.now))
+
+    ends : IsKept new → Ended r
+    ends kept = go r (ok kept.0) (err kept.0)
+      where
+        did_all : IsUpgraded start mid
+        did_all = all_steps (clean_mid kept.0)
+
+        back : IsRolledBack mid new → IsFirstDesk new × (new.now ≡ old.now)
+        back undone =
+            let done = undone.undone kept.1 in
+            let same = did_all.committed ∙ ap (λ (s : State). s.committed) b.begun in
+            restored old new (b.books.desk (was_kept (clean_mid kept.0))) (done.0 ∙ same) (done.1 ∙ same)
+
+        go : (r : Result (Unit {0}) Error) → Committed new r → IfErr r (FailsToCommit mid new) → Ended r
+        go (Ok u) h k =
+            let now = h.1.now_is in (
+              (
+                record {
+                  schema = ap (λ (d : Database). d.schema) now ∙ did_all.mid.schema;
+                  settled = now ∙ sym h.1.committed_is;
+                  tables = subst (λ (d : Database). AreTables d.trees) (sym now) did_all.mid.tables;
+                },
+                ap (λ (d : Database). rows_in d.trees) now ∙ did_all.rows_are ∙ start_rows,
+              ),
+              tt,
+            )
+        go (Err e) h (inl fails) = (tt, back fails.3)
+        go (Err e) h (inr late) = absurd (true≢false (sym did_all.mid.inside ∙ late.1))
+
+    pub migrated : Migrates old new r
+    migrated = record {
+      books = books r ends;
+      left = left r ends;
+      was = λ kept. was_kept (clean_mid kept.0);
+      made = λ kept. made r (ends kept);
+      same = λ kept. same r (ends kept);
+      crash = survives_then old mid new (λ _. ⊥) (λ db. db ≡ mid.now.trees) (IsUpgradeOf old.now.trees)
+          (λ _ db none. absurd none) (λ clean db is. whole (clean_mid clean) db is) (none_new began did.survives) two;
+    }
+      where
+        books : (r : Result (Unit {0}) Error) → (IsKept new → Ended r) → OnOk r (IsBooks new)
+        books (Ok u) ends = record { autocommit = autocommit; desk = λ kept. (ends kept).0.0 }
+        books (Err e) ends = tt
+
+        left : (r : Result (Unit {0}) Error) → (IsKept new → Ended r) → OnErr r (IsFirstBooks new)
+        left (Ok u) ends = tt
+        left (Err e) ends = record { autocommit = autocommit; desk = λ kept. (ends kept).1.0 }
+
+        made : (r : Result (Unit {0}) Error) → Ended r
+            → OnOk r (rows_in new.now.trees ≡ rows_of_version First old.now.trees)
+        made (Ok u) it = it.0.1
+        made (Err e) it = tt
+
+        same : (r : Result (Unit {0}) Error) → Ended r → OnErr r (new.now ≡ old.now)
+        same (Ok u) it = tt
+        same (Err e) it = it.1.1
