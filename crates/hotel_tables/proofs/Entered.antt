@@ -20,7 +20,8 @@ use Rattle.hotel_tables.specs.declared.open_fault.OpenFault.TheVariants as fault
 use Rattle.hotel_tables.specs.declared.opening.Found.{Found}
 use Rattle.hotel_tables.specs.Applied.{LeavesAll}
 use Rattle.hotel_tables.specs.TableBooks.{IsCounted}
-use Rattle.hotel_tables.specs.Opening.{Opens, Enters, FaultFits, FaultFitsIn, IsUpgraded, IsSoundDesk, IsOfCall, fault_for}
+use Rattle.hotel_tables.specs.Opening.{Opens, Enters, FaultFits, FaultFitsIn, IsUpgraded, IsSoundDesk, IsOfCall}
+use Rattle.hotel_tables.specs.Opening.{fault_for}
 use Rattle.hotel_tables.proofs.Opened.{fault_fits}
 use Rattle.hotel_tables.proofs.Reread.{of_a_call, refused_fits}
 
@@ -29,8 +30,8 @@ pub ours_of : {version : Version} (s : State) → s.in_transaction ≡ false →
 ours_of s autocommit settled has = record { autocommit = autocommit; tables = λ kept. (has, settled kept.1) }
 
 -- a database has the tables of one version only
-fits_in : (version : Version) (db : Database) (why : OpenFault) → db.schema ≡ schema_of version → FaultFits version db.trees why
-    → FaultFitsIn db why
+fits_in : (version : Version) (db : Database) (why : OpenFault) → db.schema ≡ schema_of version
+    → FaultFits version db.trees why → FaultFitsIn db why
 fits_in First db why has fits First is = fits
 fits_in First db why has fits Second is = absurd (not_both db.schema is has)
 fits_in Second db why has fits First is = absurd (not_both db.schema has is)
@@ -73,7 +74,8 @@ entered_second {found} old new has opens = record {
   whole = λ first kept. absurd (not_both old.now.schema has first);
   same = λ _. tt;
   counted = λ kept.
-      subst (λ (d : Database). IsCounted found.counts.kinds found.counts.nights (rows_in d.trees)) (sym (opens.keeps kept).1)
+      subst (λ (d : Database). IsCounted found.counts.kinds found.counts.nights (rows_in d.trees))
+      (sym (opens.keeps kept).1)
       (opens.found kept).counted;
   fault = λ _ _. tt;
   crash = λ kept. survives_weaker old new _ _ (λ _ db none. absurd (none kept)) opens.crash;
@@ -81,7 +83,8 @@ entered_second {found} old new has opens = record {
 
 -- ---- a desk of the first version
 
-module _ {found : Found} {old mid : State} (has : old.now.schema ≡ first_schema) (opens : Opens First old mid (Ok found)) where
+module _ {found : Found} {old mid : State} (has : old.now.schema ≡ first_schema)
+    (opens : Opens First old mid (Ok found)) where
   -- its rows were read, and are those of such a desk
   pub first_books : IsFirstBooks mid
   first_books = record {
@@ -104,7 +107,8 @@ module _ {found : Found} {old mid : State} (has : old.now.schema ≡ first_schem
       (crash : Survives mid new (IsUpgradeOf mid.now.trees)) where
     crash_whole : IsKept old → Survives old new (IsUpgraded old.now)
     crash_whole kept =
-        survives_then old mid new (λ _. IsKept old → ⊥) (IsUpgradeOf mid.now.trees) (IsUpgraded old.now) (λ _ db none. absurd (none kept))
+        survives_then old mid new (λ _. IsKept old → ⊥) (IsUpgradeOf mid.now.trees) (IsUpgraded old.now)
+        (λ _ db none. absurd (none kept))
         (λ clean db whole.
         let before : HasCleanDisk mid = omega (arith, crash.clean, clean) in
         let same = (opens.keeps (before, opens.open_on kept before)).1 in
@@ -119,7 +123,8 @@ module _ {found : Found} {old mid : State} (has : old.now.schema ≡ first_schem
       continues = λ kept. inr (has, (books.desk kept).schema, rows kept);
       whole = λ _ kept. whole kept;
       same = λ _. tt;
-      counted = λ kept. subst (IsCounted found.counts.kinds found.counts.nights) (sym (rows kept)) (opens.found (was kept)).counted;
+      counted = λ kept.
+          subst (IsCounted found.counts.kinds found.counts.nights) (sym (rows kept)) (opens.found (was kept)).counted;
       fault = λ _ _. tt;
       crash = crash_whole;
     }

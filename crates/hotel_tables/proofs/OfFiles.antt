@@ -33,7 +33,9 @@ use Rattle.hotel_tables.proofs.Reopened.{files_keep_books}
 
 -- a desk of the first version has tables
 not_bare : (s : Schema) → s ≡ first_schema → ¬ (s ≡ no_schema)
-not_bare s first none = let eight : 8 ≡ 0 = ap (λ (s : Schema). length s.tables) (sym first ∙ none) in absurd (omega (arith, eight))
+not_bare s first none =
+    let eight : 8 ≡ 0 = ap (λ (s : Schema). length s.tables) (sym first ∙ none) in
+    absurd (omega (arith, eight))
 
 pub made_books : (old new : State) → old.now.schema ≡ no_schema → (IsKept new → rows_in new.now.trees ≡ no_rows) → Survives old new IsEmptyDesk → AreBooksOf old new
 made_books old new bare empty crash = record {
@@ -43,9 +45,10 @@ made_books old new bare empty crash = record {
   sound = λ kept. (empty_counted (rows_in new.now.trees) (empty kept)).sound;
 }
 
-pub found_books : (old new : State) → ¬ (old.now.schema ≡ no_schema) → IsOfVersion old.now.schema → (IsKept new → IsKept old)
-    → (IsKept new → Continues old.now new.now) → (IsKept old → Survives old new (IsUpgraded old.now))
-    → (old.now.schema ≡ first_schema → IsKept new → LeavesAll new) → (IsKept new → IsSound (rows_in new.now.trees)) → AreBooksOf old new
+pub found_books : (old new : State) → ¬ (old.now.schema ≡ no_schema) → IsOfVersion old.now.schema
+    → (IsKept new → IsKept old) → (IsKept new → Continues old.now new.now) → (IsKept old → Survives old new (IsUpgraded old.now))
+    → (old.now.schema ≡ first_schema → IsKept new → LeavesAll new)
+    → (IsKept new → IsSound (rows_in new.now.trees)) → AreBooksOf old new
 found_books old new other desk was continues crash whole sound = record {
   made = λ bare. absurd (other bare);
   found = λ _. (desk, λ kept. (was kept, continues kept), crash);
@@ -53,8 +56,9 @@ found_books old new other desk was continues crash whole sound = record {
   sound = sound;
 }
 
-pub left_database : {S : Type 0} (shown : Held S → State) (old : State) (why : OpenFault) (c : Held S) → ¬ (old.now.schema ≡ no_schema)
-    → (¬ IsOfVersion old.now.schema → NamesNoTable why) → LeavesDatabase old (shown c) why → IsWhyNone shown old why (Some c)
+pub left_database : {S : Type 0} (shown : Held S → State) (old : State) (why : OpenFault) (c : Held S)
+    → ¬ (old.now.schema ≡ no_schema) → (¬ IsOfVersion old.now.schema → NamesNoTable why) → LeavesDatabase old (shown c) why
+    → IsWhyNone shown old why (Some c)
 left_database shown old why c other foreign leaves = record { bare = λ bare. absurd (other bare); foreign = foreign; leaves = leaves }
 
 module _ {D : Type 0} {g : Ghosts D} where

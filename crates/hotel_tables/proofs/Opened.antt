@@ -1,6 +1,5 @@
 -- Tables that are read, undamaged and without numbers below 0 are tables of a desk.
-use Rattle.std.proofs.Common.{◌≡◌, refl, sym, ap, subst, ◌∙◌, List, [], ◌∷◌, map, ℕ, ℤ, pos, nat_cmp, true, false, Bool, Less, Ordering, is_eq, Option, None, Result, Ok, Err, IfOk, IfErr, IsTrue, Vec, arith}
-use Rattle.std.proofs.Common.{Some}
+use Rattle.std.proofs.Common.{◌≡◌, refl, sym, ap, subst, ◌∙◌, List, [], ◌∷◌, map, ℕ, ℤ, pos, nat_cmp, true, false, Bool, Less, Ordering, is_eq, Option, None, Result, Ok, Err, IfOk, IfErr, IsTrue, Vec, arith, Some}
 use Rattle.std.specs.Prelude.{◌+◌, option_map, bytes_eq}
 use Rattle.std.specs.List.{AllByRecursion, list_all, count_by}
 use Rattle.std.specs.List.Sorted.{IsPermutation, IsSorted}
@@ -46,19 +45,20 @@ use Rattle.hotel_tables.specs.declared.open_fault.OpenFault.{OpenFault}
 use Rattle.hotel_tables.specs.declared.open_fault.OpenFault.TheVariants as fault
 use Rattle.hotel_statements.specs.Columns.{meta_columns, meta_of, meta_written, kind_columns, kind_of, kind_written, room_columns, room_of, room_written, stay_columns, stay_of, stay_written}
 use Rattle.hotel_statements.specs.Columns.{code_columns, code_of, code_written, card_columns, card_of, card_written, inside_columns, inside_of, inside_written, note_columns, note_of, note_written, fit_columns, fit_of, fit_written}
-use Rattle.hotel_rows.specs.Stored.{number_of, kind_text, room_entry, stay_entry, code_entry, card_entry, inside_pair, note_entry, fit_entry, first_fit, fits_of, rows_of}
+use Rattle.hotel_rows.specs.Stored.{number_of, kind_text, room_entry, stay_entry, code_entry, card_entry, inside_pair}
+use Rattle.hotel_rows.specs.Stored.{note_entry, fit_entry, first_fit, fits_of, rows_of}
 use Rattle.hotel_rows.specs.Damage as damage
 use Rattle.hotel_rows.specs.Damage.{columns_fit, first_damaged_of}
 use Rattle.hotel_statements.specs.declared.version.Version.{Version}
 use Rattle.hotel_statements.specs.declared.version.Version.TheVariants.{First, Second}
-use Rattle.hotel_statements.specs.Tables.{AreApartIds, AreApart, AreTablesOf, IsFitTable, number_of_version, by_key, metas_in}
-use Rattle.hotel_statements.specs.Tables.{fits_in, bare_rooms_in, bare_rows_in, rows_of_version}
+use Rattle.hotel_statements.specs.Tables.{AreApartIds, AreApart, AreTablesOf, IsFitTable, number_of_version, by_key}
+use Rattle.hotel_statements.specs.Tables.{metas_in, fits_in, bare_rooms_in, bare_rows_in, rows_of_version}
 use Rattle.hotel_tables.specs.TableBooks.{IsCounted}
 use Rattle.hotel_statements.specs.PlainRows.{maybe, meta_shown, kind_shown, room_shown, stay_shown, code_shown, card_shown, inside_shown, numbered_shown, numbered_columns, note_shown, fit_shown, ArePlainRows}
 use Rattle.hotel_statements.specs.PlainRows.{may_be_natural, room_natural, stay_natural, code_natural, card_natural, inside_natural, note_natural, fit_natural}
 use Rattle.hotel_statements.specs.WholeTables.{ReadsTo, AreFitRows, AreRead}
-use Rattle.hotel_tables.specs.Opening.{AreStored, AreApartInside, IsMetaRow, IsFound, LacksRow, HasMetaRow, FaultFits, Told, Opens}
-use Rattle.hotel_tables.specs.Opening.{all_rise, fits_natural, all_natural, id_inside, plain_inside, fault_for}
+use Rattle.hotel_tables.specs.Opening.{AreStored, AreApartInside, IsMetaRow, IsFound, LacksRow, HasMetaRow, FaultFits}
+use Rattle.hotel_tables.specs.Opening.{Told, Opens, all_rise, fits_natural, all_natural, id_inside, plain_inside, fault_for}
 use Rattle.hotel_rows.specs.Counts.{IsCountedOf}
 use Rattle.hotel_rows.specs.Joined.{with_fit, under_fit, joined, first_fits}
 use Rattle.hotel_rows.proofs.OfCounts.{counted_rooms, named_kind}
@@ -82,7 +82,8 @@ one_version l row same is =
     head [] = []
     head (r ∷ rs) = r
 
-pub lacks_row : {version : Version} (db : Trees) (meta : List PlainMeta) → ArePlainRows meta_columns meta_shown meta (db 0)
+pub lacks_row : {version : Version} (db : Trees) (meta : List PlainMeta)
+    → ArePlainRows meta_columns meta_shown meta (db 0)
     → ((l : PlainMeta) → meta ≡ l ∷ [] → ¬ (l.version ≡ pos (number_of_version version))) → ¬ HasMetaRow version db
 lacks_row db [] plain_rows none has =
     let here : IsPermutation (map meta_columns (has.0 ∷ [])) [] = subst (λ rows. IsPermutation (map meta_columns rows) []) has.1 plain_rows in
@@ -164,8 +165,8 @@ inside_plain_rows plain_rows rows same =
     subst (IsPermutation (map inside_columns rows)) (plain_rows_of plain_rows)
     (subst (λ xs. IsPermutation xs (map last_two (map numbered_shown plain_rows))) (fused last_two numbered_columns rows) (IsPermutation-map last_two _ _ same))
 
-pub stored_are : {of : Version} (t : Tables) (db : Trees) (plain : PlainMeta) (version : ℤ) (inside : Vec PlainInside Global)
-    → version ≡ pos (number_of_version of) → AreRead of t db → IsMetaRow of t.meta.items plain
+pub stored_are : {of : Version} (t : Tables) (db : Trees) (plain : PlainMeta) (version : ℤ)
+    (inside : Vec PlainInside Global) → version ≡ pos (number_of_version of) → AreRead of t db → IsMetaRow of t.meta.items plain
     → inside.items ≡ map plain_inside t.inside.items
     → let s : Stored = record { version = version; day = plain.day; kinds = t.kinds; rooms = t.rooms; stays = t.stays; codes = t.codes; cards = t.cards; inside = inside; notes = t.notes; fits = t.fits } in
     all_rise s ≡ true → AreStored of s db
@@ -181,7 +182,9 @@ stored_are t db plain version inside first read meta same up =
       stays = read.0.1.1;
       codes = read.1.0.0.0;
       cards = read.1.0.0.1;
-      inside = subst (λ ls. ArePlainRows inside_columns inside_shown ls (db 9)) (sym same) (inside_plain_rows t.inside.items (db 9) read.1.0.1.0);
+      inside =
+          subst (λ ls. ArePlainRows inside_columns inside_shown ls (db 9)) (sym same)
+          (inside_plain_rows t.inside.items (db 9) read.1.0.1.0);
       notes = read.1.0.1.1;
       fits = read.1.1;
       rise = up;
@@ -220,7 +223,8 @@ abbrev pub fits_of_version : Version → Trees → List ((ℕ × ℕ) × FitRow)
 fits_of_version First db = first_fits (bare_rooms_in db)
 fits_of_version Second db = fits_in db
 
-joined_by_version : (version : Version) (db : Trees) → rows_of_version version db ≡ joined (fits_of_version version db) (bare_rows_in db)
+joined_by_version : (version : Version) (db : Trees)
+    → rows_of_version version db ≡ joined (fits_of_version version db) (bare_rows_in db)
 joined_by_version First db = refl
 joined_by_version Second db = refl
 
@@ -235,8 +239,8 @@ entries_of rooms fits = map fit_entry (said_of fits (map first_fit rooms) (λ f.
 abbrev AreFits : Version → Trees → List ((ℕ × ℕ) × FitRow) → Type 0
 AreFits version db fits = IsFitTable version (db 13) × (fits_of_version version db ≡ fits)
 
-are_fits : (version : Version) (rooms : List PlainRoom) (fits : Option (Vec PlainFit Global)) (db : Trees) → AreFitRows version fits db
-    → bare_rooms_in db ≡ map room_entry rooms → fits_natural fits ≡ true
+are_fits : (version : Version) (rooms : List PlainRoom) (fits : Option (Vec PlainFit Global)) (db : Trees)
+    → AreFitRows version fits db → bare_rooms_in db ≡ map room_entry rooms → fits_natural fits ≡ true
     → are_in_order pair_cmp (keys_of (entries_of rooms fits)) ≡ true → AreFits version db (entries_of rooms fits)
 are_fits First rooms None db are here natural up = (tt, ap first_fits here ∙ begun rooms)
 are_fits First rooms (Some fits) db are here natural up =
@@ -254,8 +258,8 @@ pub record AreDesk (version : Version) (s : Stored) (db : Trees) : Type 0 where
   pub rooms : bare_rooms_in db ≡ map room_entry s.rooms.items
   pub rows : rows_of_version version db ≡ rows_of s
 
-pub are_desk : {version : Version} (s : Stored) (db : Trees) → AreStored version s db → AreApartInside db → keys_in_order (rows_of s) ≡ true
-    → columns_fit s ≡ true → all_natural s ≡ true → AreDesk version s db
+pub are_desk : {version : Version} (s : Stored) (db : Trees) → AreStored version s db → AreApartInside db
+    → keys_in_order (rows_of s) ≡ true → columns_fit s ≡ true → all_natural s ≡ true → AreDesk version s db
 are_desk {version} s db a ids keys columns natural =
     let k7 = and_true _ (are_in_order pair_cmp (keys_of (rows_of s).fits)) keys in
     let k6 = and_true _ (are_in_order pair_cmp (keys_of (rows_of s).notes)) k7.0 in
@@ -341,7 +345,8 @@ joined_kinds kind fits (e ∷ es) =
     count_first (is_kind kind) e.1 (values_of es) ∙ ap (λ n. one_if (is_kind kind e.1) + n) (joined_kinds kind fits es)
     ∙ sym (count_first (is_kind kind) (with_fit fits e).1 (values_of (map (with_fit fits) es)))
 
-numbers_are : (rooms : List PlainRoom) → keys_of (map room_entry rooms) ≡ map (λ (r : PlainRoom). number_of r.room) rooms
+numbers_are : (rooms : List PlainRoom)
+    → keys_of (map room_entry rooms) ≡ map (λ (r : PlainRoom). number_of r.room) rooms
 numbers_are [] = refl
 numbers_are (r ∷ rooms) = ap (λ ns. number_of r.room ∷ ns) (numbers_are rooms)
 
@@ -351,8 +356,8 @@ IsFoundOf s found =
     IsCountedOf s found.counts × (first_damaged_of s ≡ None) × (all_natural s ≡ true)
     × (found.rooms.items ≡ map (λ (r : PlainRoom). number_of r.room) s.rooms.items)
 
-pub opened : {version : Version} (s : Stored) (db : Trees) (found : Found) → AreStored version s db × AreApartInside db → IsFoundOf s found
-    → IsFound version found db
+pub opened : {version : Version} (s : Stored) (db : Trees) (found : Found) → AreStored version s db × AreApartInside db
+    → IsFoundOf s found → IsFound version found db
 opened s db found a h =
     let sound = (undamaged_is_sound s).0 h.1 in
     let desk = are_desk s db a.0 a.1 sound.0.keys sound.1 h.2 in
@@ -399,8 +404,8 @@ opens_to old new t result reads ok err = record {
   crash = reads.crash;
 }
 
-pub opens_not : (version : Version) (old new : State) (why : LookFault) → ReadsTo version (AreRead version) old new (Err why)
-    → Opens version old new (Err (fault_for why))
+pub opens_not : (version : Version) (old new : State) (why : LookFault)
+    → ReadsTo version (AreRead version) old new (Err why) → Opens version old new (Err (fault_for why))
 opens_not version old new why reads = record {
   ours = reads.ours;
   keeps = reads.keeps;

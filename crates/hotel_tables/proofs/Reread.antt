@@ -43,17 +43,20 @@ use Rattle.hotel_tables.specs.declared.open_fault.OpenFault.TheVariants as fault
 use Rattle.hotel_statements.specs.Values.{int, maybe_int}
 use Rattle.hotel_statements.specs.Columns.{meta_columns, meta_of, meta_written, room_columns, room_of, room_written, bit_of, stay_columns, stay_of, stay_written, state_number}
 use Rattle.hotel_statements.specs.Columns.{code_columns, code_of, code_written, card_columns, card_of, card_written, inside_columns, inside_of, inside_written, note_columns, note_of, note_written, act_number, act_card, fit_columns, fit_of, fit_written}
-use Rattle.hotel_rows.specs.Stored.{number_of, kind_text, room_entry, stay_entry, code_entry, card_entry, inside_pair, note_entry, fit_entry, first_fit, fits_of, rows_of}
+use Rattle.hotel_rows.specs.Stored.{number_of, kind_text, room_entry, stay_entry, code_entry, card_entry, inside_pair}
+use Rattle.hotel_rows.specs.Stored.{note_entry, fit_entry, first_fit, fits_of, rows_of}
 use Rattle.hotel_rows.specs.Damage as damage
 use Rattle.hotel_rows.specs.Damage.{columns_fit}
 use Rattle.hotel_statements.specs.Books.{IsKept}
 use Rattle.hotel_statements.specs.declared.version.Version.{Version}
 use Rattle.hotel_statements.specs.declared.version.Version.TheVariants.{First, Second}
-use Rattle.hotel_statements.specs.Tables.{AreTablesOf, IsFitTable, IsWrittenAs, by_key, number_of_version, rows_of_version}
+use Rattle.hotel_statements.specs.Tables.{AreTablesOf, IsFitTable, IsWrittenAs, by_key, number_of_version}
+use Rattle.hotel_statements.specs.Tables.{rows_of_version}
 use Rattle.hotel_statements.specs.WholeTables.{AreFitRows}
 use Rattle.hotel_statements.specs.PlainRows.{maybe, is_natural, may_be_natural, room_shown, room_natural, stay_shown, stay_natural, code_shown, code_natural, card_shown, card_natural, inside_shown, inside_natural, note_shown, note_natural, fit_shown, fit_natural, ArePlainRows}
 use Rattle.hotel_statements.specs.PlainRows.{kind_natural, kind_order, room_order, stay_order, code_order, card_order, inside_order, note_order, fit_order}
-use Rattle.hotel_tables.specs.Opening.{AreStored, HasMetaRow, FaultFits, IsOfCall, Opens, fits_rise, fits_natural, all_natural}
+use Rattle.hotel_tables.specs.Opening.{AreStored, HasMetaRow, FaultFits, IsOfCall, Opens, fits_rise, fits_natural}
+use Rattle.hotel_tables.specs.Opening.{all_natural}
 use Rattle.hotel_tables.specs.Reopening.{ReadUndamaged}
 use Rattle.hotel_statements.proofs.Keyed.{key_total}
 use Rattle.hotel_statements.proofs.Perm.{every_shuffled}
@@ -177,16 +180,18 @@ record AreWritten (s : Stored) : Type 0 where
   natural : all_natural s ≡ true
   fit : columns_fit s ≡ true
 
-fits_pass : (version : Version) (fits : Option (Vec PlainFit Global)) (db : Trees) → IsFitTable version (db 13) → AreFitRows version fits db
-    → fits_natural fits ≡ true
+fits_pass : (version : Version) (fits : Option (Vec PlainFit Global)) (db : Trees)
+    → IsFitTable version (db 13) → AreFitRows version fits db → fits_natural fits ≡ true
 fits_pass First None db good are = refl
-fits_pass First (Some fits) db good are = absurd (let w : ◌≡◌ {A = Option (Vec PlainFit Global)} (Some fits) None = are in cc)
+fits_pass First (Some fits) db good are =
+    absurd (let w : ◌≡◌ {A = Option (Vec PlainFit Global)} (Some fits) None = are in cc)
 fits_pass Second None db good are = absurd are
 fits_pass Second (Some fits) db good are =
     all_pass _ fit_natural fit_plain fits.items
     (are_plain_rows fit_columns fit_of fit_written fit_shown fits.items (db 13) good.good are)
 
-are_written : {version : Version} (s : Stored) (db : Trees) → AreTablesOf version db → AreStored version s db → AreWritten s
+are_written : {version : Version} (s : Stored) (db : Trees) → AreTablesOf version db
+    → AreStored version s db → AreWritten s
 are_written {version} s db t a =
     let metas : AllByRecursion (λ (v : Row). v ≡ meta_written (meta_of v)) (map meta_columns (db 0)) = all_map (λ (v : Row). v ≡ meta_written (meta_of v)) meta_columns (db 0) t.meta.good in
     let meta = (subst (AllByRecursion (λ (v : Row). v ≡ meta_written (meta_of v))) a.meta metas).0 in
@@ -257,10 +262,12 @@ then_equal Equal = refl
 then_equal Greater = refl
 
 -- of rooms that rise, the fits that they began with rise too
-begun_rise : (rooms : List PlainRoom) → are_in_order pair_cmp (map (λ (l : PlainRoom). (number_of l.room, 1)) rooms) ≡ true
+begun_rise : (rooms : List PlainRoom)
+    → are_in_order pair_cmp (map (λ (l : PlainRoom). (number_of l.room, 1)) rooms) ≡ true
     → are_in_order pair_cmp (keys_of (map fit_entry (map first_fit rooms))) ≡ true
 begun_rise rooms up =
-    ap (are_in_order pair_cmp) (keys_are fit_entry (map first_fit rooms) ∙ fused (λ l. (fit_entry l).0) first_fit rooms) ∙ up
+    ap (are_in_order pair_cmp)
+    (keys_are fit_entry (map first_fit rooms) ∙ fused (λ l. (fit_entry l).0) first_fit rooms) ∙ up
 
 of_fit : (l : PlainFit) → fit_natural l ≡ true → (is_natural l.room ≡ true) × (is_natural l.fit ≡ true)
 of_fit l h =
@@ -268,8 +275,8 @@ of_fit l h =
     let b = and_true _ (is_natural l.place) c.0 in
     and_true (is_natural l.room) (is_natural l.fit) b.0
 
-fit_keys_rise : (rooms : List PlainRoom) (fits : Option (Vec PlainFit Global)) → fits_natural fits ≡ true → fits_rise fits ≡ true
-    → are_in_order pair_cmp (map (λ (l : PlainRoom). (number_of l.room, 1)) rooms) ≡ true
+fit_keys_rise : (rooms : List PlainRoom) (fits : Option (Vec PlainFit Global))
+    → fits_natural fits ≡ true → fits_rise fits ≡ true → are_in_order pair_cmp (map (λ (l : PlainRoom). (number_of l.room, 1)) rooms) ≡ true
     → are_in_order pair_cmp (keys_of (entries_of rooms fits)) ≡ true
 fit_keys_rise rooms None natural up first = begun_rise rooms first
 fit_keys_rise rooms (Some fits) natural up first =
@@ -277,7 +284,8 @@ fit_keys_rise rooms (Some fits) natural up first =
     (λ x y h k. let p = of_fit x h in let q = of_fit y k in same_pairs x.room x.fit y.room y.fit p.0 p.1 q.0 q.1)
     fits.items natural up
 
-keys_rise : {version : Version} (s : Stored) (db : Trees) → AreStored version s db → all_natural s ≡ true → keys_in_order (rows_of s) ≡ true
+keys_rise : {version : Version} (s : Stored) (db : Trees) → AreStored version s db
+    → all_natural s ≡ true → keys_in_order (rows_of s) ≡ true
 keys_rise s db a natural =
     let n7 = and_true _ (fits_natural s.fits) natural in
     let n6 = and_true _ (list_all note_natural s.notes.items) n7.0 in
@@ -304,7 +312,9 @@ keys_rise s db a natural =
     let notes = entries_rise note_order pair_cmp note_entry note_natural
     (λ x y h k. let p = of_note x h in let q = of_note y k in same_pairs x.room x.n y.room y.n p.0 p.1 q.0 q.1) s.notes.items n6.1 r6.1 in
     let began = rise_by room_order pair_cmp (λ (l : PlainRoom). (number_of l.room, 1)) room_natural
-    (λ x y h k. then_equal (int_cmp x.room y.room) ∙ same_pairs x.room (pos 1) y.room (pos 1) (of_room x h) refl (of_room y k) refl)
+    (λ x y h k.
+    then_equal (int_cmp x.room y.room)
+    ∙ same_pairs x.room (pos 1) y.room (pos 1) (of_room x h) refl (of_room y k) refl)
     s.rooms.items n1.1 r1.1 in
     let fits = fit_keys_rise s.rooms.items s.fits n7.1 r7.1 began in
     let joined_rooms = ap (are_in_order nat_cmp) (keys_with_fit (fits_of s) (map room_entry s.rooms.items)) ∙ rooms in
@@ -364,7 +374,8 @@ has_row {version} db t =
     told [] = 0
     told (e ∷ es) = e.1.0
 
-    only : (n : ℕ) (day : Option ℕ) (rows : List Row) → AllByRecursion (IsWrittenAs meta_columns meta_of meta_written) rows
+    only : (n : ℕ) (day : Option ℕ) (rows : List Row)
+        → AllByRecursion (IsWrittenAs meta_columns meta_of meta_written) rows
         → map (λ r. meta_of (meta_columns r)) rows ≡ (1, (n, day)) ∷ []
         → (row : Row) × (rows ≡ row ∷ []) × (column (meta_columns row) 1 ≡ Int (pos n))
     only n day [] good e = absurd (let w = ap length e in omega (arith, w))
@@ -383,8 +394,8 @@ read_undamaged version db t = (
 )
 
 -- a fault of sound tables is one of a call
-pub of_a_call : (version : Version) (db : Trees) (why : OpenFault) → AreTablesOf version db → IsSound (rows_of_version version db)
-    → FaultFits version db why → IsOfCall why
+pub of_a_call : (version : Version) (db : Trees) (why : OpenFault) → AreTablesOf version db
+    → IsSound (rows_of_version version db) → FaultFits version db why → IsOfCall why
 of_a_call version db fault.Memory t sound fits = tt
 of_a_call version db fault.Store t sound fits = tt
 of_a_call version db fault.NotADesk t sound fits = fits (read_undamaged version db t).0
@@ -395,8 +406,8 @@ of_a_call version db (fault.Damaged name) t sound fits =
 
 -- ---- an opening that was refused
 
-pub refused_fits : {version : Version} (old new : State) (why : OpenFault) → Opens version old new (Err why) → IsKept old → HasCleanDisk new
-    → FaultFits version old.now.trees why
+pub refused_fits : {version : Version} (old new : State) (why : OpenFault) → Opens version old new (Err why)
+    → IsKept old → HasCleanDisk new → FaultFits version old.now.trees why
 refused_fits old new fault.Memory opens kept clean = tt
 refused_fits old new fault.Store opens kept clean = tt
 refused_fits old new fault.NotADesk opens kept clean = opens.fault (clean, opens.open_on kept clean)

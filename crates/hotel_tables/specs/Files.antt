@@ -24,7 +24,8 @@ use Rattle.hotel_statements.specs.Books.{IsKept, KeepsRows}
 use Rattle.hotel_statements.specs.Tables.{rows_in}
 use Rattle.hotel_statements.specs.NewDesk.{IsEmptyDesk}
 use Rattle.hotel_tables.specs.Applied.{LeavesAll}
-use Rattle.hotel_tables.specs.Opening.{IsOfVersion, IsSoundDesk, Continues, IsUpgraded, FaultFitsIn, IsOfCall, NamesNoTable}
+use Rattle.hotel_tables.specs.Opening.{IsOfVersion, IsSoundDesk, Continues, IsUpgraded, FaultFitsIn}
+use Rattle.hotel_tables.specs.Opening.{IsOfCall, NamesNoTable}
 
 -- the fault of a file whose opening failed
 abbrev pub file_fault : Error → FileFault
@@ -40,7 +41,8 @@ file_fault _ = File
 pub record AreBooksOf (old new : State) : Type 0 where
   -- of a database that has nothing an empty desk is made; a crash leaves nothing or that desk
   pub made : old.now.schema ≡ no_schema → (IsKept new → rows_in new.now.trees ≡ no_rows) × Survives old new IsEmptyDesk
-  -- any other is a desk's of one of the versions, whose rows are kept; a crash leaves what it could leave before, or the whole desk of the second version that is made of one of the first
+  -- any other is a desk's, whose rows are kept; of one of the first version one of the second is made. A crash leaves
+  -- what it could leave before, or the whole of that
   pub found : ¬ (old.now.schema ≡ no_schema) → IsOfVersion old.now.schema
       × (IsKept new → IsKept old × Continues old.now new.now) × (IsKept old → Survives old new (IsUpgraded old.now))
   -- once that was made, a crash leaves it
@@ -50,7 +52,8 @@ pub record AreBooksOf (old new : State) : Type 0 where
 
 -- Why a database that had tables gave no books, from its state then to that in which it is left.
 pub record LeavesDatabase (old new : State) (why : OpenFault) : Type 0 where
-  -- no row is changed, and a crash leaves what it could leave before, or the whole desk of the second version that is made of one of the first
+  -- no row is changed, and a crash leaves what it could leave before, or the whole desk that was to be made of one of
+  -- the first version
   pub same : KeepsRows old new
   pub crash : IsKept old → Survives old new (IsUpgraded old.now)
   -- over a desk's tables: a table is called damaged where it is the first that is, and it is no desk's for want of meta's one row

@@ -17,8 +17,10 @@ use Rattle.hotel_core.specs.Model.SoundRooms.{are_in_order}
 use Rattle.hotel_rows.specs.declared.stored.Stored.{Stored}
 use Rattle.hotel_statements.specs.declared.plain_rows.PlainMeta.{PlainMeta}
 use Rattle.hotel_statements.specs.declared.plain_rows.NumberedInside.{NumberedInside}
-use Rattle.hotel_statements.specs.Columns.{meta_columns, kind_columns, room_columns, stay_columns, code_columns, card_columns, inside_columns, note_columns}
-use Rattle.hotel_statements.specs.PlainRows.{maybe, kind_shown, room_shown, stay_shown, code_shown, card_shown, inside_shown, note_shown, ArePlainRows}
+use Rattle.hotel_statements.specs.Columns.{meta_columns, kind_columns, room_columns, stay_columns}
+use Rattle.hotel_statements.specs.Columns.{code_columns, card_columns, inside_columns, note_columns}
+use Rattle.hotel_statements.specs.PlainRows.{maybe, kind_shown, room_shown, stay_shown, code_shown, card_shown}
+use Rattle.hotel_statements.specs.PlainRows.{inside_shown, note_shown, ArePlainRows}
 use Rattle.hotel_statements.specs.PlainRows.{kind_order, room_order, stay_order, code_order, card_order, inside_order, note_order, fit_order}
 use Rattle.hotel_statements.specs.PlainRows.{may_be_natural, room_natural, stay_natural, code_natural, card_natural, inside_natural, note_natural, fit_natural}
 use Rattle.hotel_tables.specs.declared.open_fault.OpenFault.{OpenFault}
@@ -168,7 +170,8 @@ pub record IsFound (version : Version) (found : Found) (db : Trees) : Type 0 whe
   pub counted : IsCounted found.counts.kinds found.counts.nights (rows_of_version version db)
   pub rooms : AreRoomsIn found.rooms.items db
 
--- What the reading of a version's tables promises, of a connection from old to new: what is found there, and what a fault says of the tables.
+-- What the reading of a version's tables promises, of a connection from old to new: what is found there, and what a
+-- fault says of the tables.
 -- It changes no row, and a crash in it leaves nothing new.
 pub record Opens (version : Version) (old new : State) (result : Result Found OpenFault) : Type 0 where
   pub ours : IsOurs version new
@@ -178,8 +181,9 @@ pub record Opens (version : Version) (old new : State) (result : Result Found Op
   pub open_on : IsKept old → HasCleanDisk new → Told result (IsTrue new.is_open)
   pub crash : Survives old new (λ _. IsKept old → ⊥)
 
--- What the opening of a desk promises, of a connection from old to new: its books, what is counted of their rows, and what a fault says of the tables.
--- A crash in it, or after it, leaves what it could leave before, or the whole desk of the second version that is made of one of the first.
+-- What the opening of a desk promises, of a connection from old to new: its books, what is counted of their rows, and
+-- what a fault says of the tables. A crash in it, or after it, leaves what it could leave before, or the whole desk that
+-- is made of one of the first version.
 pub record Enters (old new : State) (result : Result Counts OpenFault) : Type 0 where
   pub autocommit : new.in_transaction ≡ false
   pub books : OnOk result (IsBooks new)

@@ -17,7 +17,8 @@ use Rattle.hotel_rows.specs.Stored.{rows_of}
 use Rattle.hotel_rows.specs.Damage.{first_damaged_of}
 use Rattle.hotel_tables.specs.Opening.{AreStored, HasMetaRow, IsAlwaysClean}
 
--- What is read of the tables of a desk of either version: meta's one row is there, the rows read are those of the tables, and where these are sound no table is damaged.
+-- What is read of the tables of a desk of either version: meta's one row is there, the rows read are those of the
+-- tables, and where these are sound no table is damaged.
 abbrev pub ReadUndamaged : Type 0
 ReadUndamaged = (version : Version) (db : Trees) → AreTablesOf version db
     → HasMetaRow version db

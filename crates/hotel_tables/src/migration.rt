@@ -22,8 +22,10 @@ pub(crate) fn migrate<S: Alter>(conn: &mut Connection<S>, rooms: &[RoomNo]) -> R
     ensures made { IsKept (state S.Store conn.new) → OnOk result
         (rows_in (state S.Store conn.new).now.trees ≡ rows_of_version First (state S.Store conn.old).now.trees) }
     ensures whole { IsKept (state S.Store conn.new) → OnOk result (LeavesAll (state S.Store conn.new)) }
-    ensures same { IsKept (state S.Store conn.new) → OnErr result ((state S.Store conn.new).now ≡ (state S.Store conn.old).now) }
-    ensures crash { Survives (state S.Store conn.old) (state S.Store conn.new) (IsUpgradeOf (state S.Store conn.old).now.trees) }
+    ensures same { IsKept (state S.Store conn.new) → OnErr result
+        ((state S.Store conn.new).now ≡ (state S.Store conn.old).now) }
+    ensures crash { Survives (state S.Store conn.old) (state S.Store conn.new)
+        (IsUpgradeOf (state S.Store conn.old).now.trees) }
 {
     let mut tx = conn.transaction();
     upgrade(&mut tx, rooms)?;

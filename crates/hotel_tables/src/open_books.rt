@@ -7,7 +7,8 @@ ghost use Rattle.hotel_statements.specs.Schema.{first_schema};
 ghost use Rattle.hotel_statements.specs.Books.{IsBooks, IsKept, KeepsRows};
 ghost use Rattle.hotel_statements.specs.Tables.{rows_in};
 ghost use Rattle.hotel_tables.specs.Applied.{LeavesAll};
-ghost use Rattle.hotel_tables.specs.Opening.{Continues, IsUpgraded, FaultFitsIn, IsOfVersion, IsSoundDesk, IsAlwaysClean, IsOfCall, NamesNoTable};
+ghost use Rattle.hotel_tables.specs.Opening.{Continues, IsUpgraded, FaultFitsIn, IsOfVersion, IsSoundDesk};
+ghost use Rattle.hotel_tables.specs.Opening.{IsAlwaysClean, IsOfCall, NamesNoTable};
 
 use crate::desk_schema::version_of;
 use crate::entering::enter;
@@ -19,7 +20,7 @@ use std::alloc::Global;
 impl<S: Alter + Drop> TableBooks<S> {
     /// Books over the tables of a desk, which are read whole and tested.
     ///
-    /// Of a desk of the first version, where its rows are sound, one of the second is made in one transaction; no other row is changed.
+    /// Of a desk of the first version whose rows are sound one of the second is made, in one transaction; its rows stay.
     /// A database with other tables is no desk's. A desk is made in memory to compare them with.
     /// On a fault the connection is given back, and the store holds what it held.
     pub fn open_or_return(
@@ -28,19 +29,24 @@ impl<S: Alter + Drop> TableBooks<S> {
     ) -> Result<TableBooks<S>, (OpenFault, Connection<S>)>
         requires alone { (state S.Store conn).in_transaction ≡ false }
         ensures was { IfOk result (λ b. IsKept (state S.Store b.conn) → IsKept (state S.Store conn)) }
-        ensures continues { IfOk result (λ b. IsKept (state S.Store b.conn) → Continues (state S.Store conn).now (state S.Store b.conn).now) }
+        ensures continues { IfOk result (λ b. IsKept (state S.Store b.conn)
+            → Continues (state S.Store conn).now (state S.Store b.conn).now) }
         ensures sound { IfOk result (λ b. IsKept (state S.Store b.conn) → IsSound (rows_in (state S.Store b.conn).now.trees)) }
         ensures unfailed { IfOk result (λ b. (b.memory ≡ 0) × (b.store ≡ 0)) }
         ensures schema { IfOk result (λ _. IsOfVersion (state S.Store conn).now.schema) }
-        ensures crash { IsKept (state S.Store conn) → IfOk result (λ b. Survives (state S.Store conn) (state S.Store b.conn) (IsUpgraded (state S.Store conn).now)) }
+        ensures crash { IsKept (state S.Store conn)
+            → IfOk result (λ b. Survives (state S.Store conn) (state S.Store b.conn) (IsUpgraded (state S.Store conn).now)) }
         ensures whole { (state S.Store conn).now.schema ≡ first_schema
             → IfOk result (λ b. IsKept (state S.Store b.conn) → LeavesAll (state S.Store b.conn)) }
         ensures outside { IfErr result (λ e. (state S.Store e.1).in_transaction ≡ false) }
         ensures same { IfErr result (λ e. KeepsRows (state S.Store conn) (state S.Store e.1)) }
-        ensures left { IsKept (state S.Store conn) → IfErr result (λ e. Survives (state S.Store conn) (state S.Store e.1) (IsUpgraded (state S.Store conn).now)) }
+        ensures left { IsKept (state S.Store conn)
+            → IfErr result (λ e. Survives (state S.Store conn) (state S.Store e.1) (IsUpgraded (state S.Store conn).now)) }
         ensures foreign { ¬ IsOfVersion (state S.Store conn).now.schema → IfErr result (λ e. NamesNoTable e.0) }
-        ensures fault { IfErr result (λ e. IsKept (state S.Store conn) → HasCleanDisk (state S.Store e.1) → FaultFitsIn (state S.Store conn).now e.0) }
-        ensures kept { IfErr result (λ e. IsKept (state S.Store conn) → HasCleanDisk (state S.Store e.1) → IsSoundDesk (state S.Store conn) → IsOfCall e.0) }
+        ensures fault { IfErr result (λ e. IsKept (state S.Store conn) → HasCleanDisk (state S.Store e.1)
+            → FaultFitsIn (state S.Store conn).now e.0) }
+        ensures kept { IfErr result (λ e. IsKept (state S.Store conn) → HasCleanDisk (state S.Store e.1)
+            → IsSoundDesk (state S.Store conn) → IsOfCall e.0) }
     {
         // Outside a transaction nothing is uncommitted.
         let _settled = conn.is_autocommit();
@@ -65,16 +71,20 @@ impl<S: Alter + Drop> TableBooks<S> {
     pub fn open(alloc: Global, conn: Connection<S>) -> Result<TableBooks<S>, OpenFault>
         requires alone { (state S.Store conn).in_transaction ≡ false }
         ensures was { IfOk result (λ b. IsKept (state S.Store b.conn) → IsKept (state S.Store conn)) }
-        ensures continues { IfOk result (λ b. IsKept (state S.Store b.conn) → Continues (state S.Store conn).now (state S.Store b.conn).now) }
+        ensures continues { IfOk result (λ b. IsKept (state S.Store b.conn)
+            → Continues (state S.Store conn).now (state S.Store b.conn).now) }
         ensures sound { IfOk result (λ b. IsKept (state S.Store b.conn) → IsSound (rows_in (state S.Store b.conn).now.trees)) }
         ensures unfailed { IfOk result (λ b. (b.memory ≡ 0) × (b.store ≡ 0)) }
         ensures schema { IfOk result (λ _. IsOfVersion (state S.Store conn).now.schema) }
-        ensures fault { IsAlwaysClean (state S.Store) → IsKept (state S.Store conn) → IfErr result (FaultFitsIn (state S.Store conn).now) }
-        ensures crash { IsKept (state S.Store conn) → IfOk result (λ b. Survives (state S.Store conn) (state S.Store b.conn) (IsUpgraded (state S.Store conn).now)) }
+        ensures fault { IsAlwaysClean (state S.Store) → IsKept (state S.Store conn)
+            → IfErr result (FaultFitsIn (state S.Store conn).now) }
+        ensures crash { IsKept (state S.Store conn)
+            → IfOk result (λ b. Survives (state S.Store conn) (state S.Store b.conn) (IsUpgraded (state S.Store conn).now)) }
         ensures whole { (state S.Store conn).now.schema ≡ first_schema
             → IfOk result (λ b. IsKept (state S.Store b.conn) → LeavesAll (state S.Store b.conn)) }
         ensures foreign { ¬ IsOfVersion (state S.Store conn).now.schema → IfErr result NamesNoTable }
-        ensures kept { IsAlwaysClean (state S.Store) → IsKept (state S.Store conn) → IsSoundDesk (state S.Store conn) → IfErr result IsOfCall }
+        ensures kept { IsAlwaysClean (state S.Store) → IsKept (state S.Store conn)
+            → IsSoundDesk (state S.Store conn) → IfErr result IsOfCall }
     {
         match TableBooks::open_or_return(alloc, conn) {
             Ok(books) => Ok(books),

@@ -11,7 +11,8 @@ ghost use Rattle.hotel_statements.specs.declared.version.Version.{Version};
 ghost use Rattle.hotel_statements.specs.Tables.{AreApart, number_of_version};
 ghost use Rattle.hotel_statements.specs.WholeTables.{IsOurs, AreRead};
 ghost use Rattle.hotel_tables.specs.Opening.{AreStored, AreApartInside, IsMetaRow, IsFound, FaultFits, Opens, LacksRow};
-ghost use Rattle.hotel_tables.specs.Opening.{fits_rise, fits_natural, all_rise, all_natural, plain_inside, id_inside, fault_for};
+ghost use Rattle.hotel_tables.specs.Opening.{fits_rise, fits_natural, all_rise, all_natural, plain_inside, id_inside};
+ghost use Rattle.hotel_tables.specs.Opening.{fault_for};
 
 use crate::open_fault::OpenFault;
 use hotel_rows::{Counts, PlainFit, PlainInside, Stored, counts_of, first_damaged, rooms_of};
@@ -156,7 +157,8 @@ fn all_natural(stored: &Stored) -> bool
 ///
 /// Rows that aren't in order, which no query shows, are a failure of the store.
 fn stored_of(alloc: Global, tables: Tables, version: Version) -> Result<Stored, OpenFault>
-    ensures ok { (db : Trees) → AreRead version tables db → IfOk result (λ s. AreStored version s db × AreApartInside db) }
+    ensures ok { (db : Trees) → AreRead version tables db
+        → IfOk result (λ s. AreStored version s db × AreApartInside db) }
     ensures err { (db : Trees) → AreRead version tables db → IfErr result (FaultFits version db) }
 {
     let meta = meta_of(&tables, version)?;
@@ -201,7 +203,8 @@ pub(crate) fn open_fault(why: LookFault) -> OpenFault
 fn sound_counts(alloc: Global, stored: &Stored) -> Result<Counts, OpenFault>
     ensures ok { IfOk result (λ counts. IsCountedOf stored.now counts × (first_damaged_of stored.now ≡ None)
         × (all_natural stored.now ≡ true)) }
-    ensures err { (version : Version) (db : Trees) → AreStored version stored.now db → IfErr result (FaultFits version db) }
+    ensures err { (version : Version) (db : Trees) → AreStored version stored.now db
+        → IfErr result (FaultFits version db) }
 {
     match first_damaged(alloc, stored) {
         Ok(None) => {}
@@ -230,7 +233,8 @@ pub(crate) struct Found {
 fn sound_found(alloc: Global, stored: &Stored) -> Result<Found, OpenFault>
     ensures ok { IfOk result (λ found. IsCountedOf stored.now found.counts × (first_damaged_of stored.now ≡ None)
         × (all_natural stored.now ≡ true) × (found.rooms.items ≡ map room_key stored.now.rooms.items)) }
-    ensures err { (version : Version) (db : Trees) → AreStored version stored.now db → IfErr result (FaultFits version db) }
+    ensures err { (version : Version) (db : Trees) → AreStored version stored.now db
+        → IfErr result (FaultFits version db) }
 {
     let counts = sound_counts(alloc, stored)?;
     match rooms_of(alloc, &stored.rooms) {

@@ -9,7 +9,9 @@ pub same_front-requires-clause-indexes : goal.same_front-requires-clause-indexes
 same_front-requires-clause-indexes g c = has_indexes _ _ c.schema-2.ensures.value c.requires
 
 pub returns-clause-sound : goal.returns-clause-sound
-returns-clause-sound g c = λ e. front_is_shown _ _ _ _ c.schema.ensures.value c.schema-2.ensures.value c.requires (sym c.same_front.ensures ∙ e)
+returns-clause-sound g c = λ e.
+    front_is_shown _ _ _ _ c.schema.ensures.value c.schema-2.ensures.value c.requires (sym c.same_front.ensures ∙ e)
 
 pub returns-clause-full : goal.returns-clause-full
-returns-clause-full g c = λ e. c.same_front.ensures ∙ first_is_taken _ _ _ _ c.schema.ensures.value c.schema-2.ensures.value c.requires e
+returns-clause-full g c = λ e.
+    c.same_front.ensures ∙ first_is_taken _ _ _ _ c.schema.ensures.value c.schema-2.ensures.value c.requires e

@@ -7,7 +7,9 @@ use Rattle.hotel_tables.proofs.Entered.{first_books, first_rooms, entered_first,
 use Rattle.hotel_tables.proofs.entering.enter_first.Goals as goal
 
 pub returns-in-Err : goal.returns-in-Err
-returns-in-Err g c = entered_not First (state g.S.Store c.args.conn.now) (state g.S.Store c.find_counts.new.conn) c.in-Err.why c.requires.first c.in-Err.ensures
+returns-in-Err g c =
+    entered_not First (state g.S.Store c.args.conn.now) (state g.S.Store c.find_counts.new.conn)
+    c.in-Err.why c.requires.first c.in-Err.ensures
 
 pub migrate-requires-clause-books : goal.migrate-requires-clause-books
 migrate-requires-clause-books g c = first_books c.requires.first c.in-Ok.ensures
@@ -15,7 +17,8 @@ migrate-requires-clause-books g c = first_books c.requires.first c.in-Ok.ensures
 pub migrate-requires-clause-rooms : goal.migrate-requires-clause-rooms
 migrate-requires-clause-rooms g c = λ kept.
     let mid = state g.S.Store c.find_counts.new.conn in
-    subst (λ (rooms : List ℕ). AreRoomsIn rooms mid.now.trees) (sym c.deref.ensures.value) (first_rooms c.requires.first c.in-Ok.ensures kept)
+    subst (λ (rooms : List ℕ). AreRoomsIn rooms mid.now.trees) (sym c.deref.ensures.value)
+    (first_rooms c.requires.first c.in-Ok.ensures kept)
 
 pub returns-in-Ok-migrate : goal.returns-in-Ok-migrate
 returns-in-Ok-migrate g c =

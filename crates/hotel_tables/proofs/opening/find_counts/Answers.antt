@@ -10,7 +10,8 @@ returns-in-Ok g c =
     let version = c.args.version in
     let old = state g.S.Store c.args.conn.now in
     let new = state g.S.Store c.read_tables.new.conn in
-    opens_to old new c.in-Ok.tables c.found_in.result (subst (ReadsTo version (AreRead version) old new) c.in-Ok.is c.read_tables.ensures)
+    opens_to old new c.in-Ok.tables c.found_in.result
+    (subst (ReadsTo version (AreRead version) old new) c.in-Ok.is c.read_tables.ensures)
     c.found_in.ensures.ok c.found_in.ensures.err
 
 pub returns-in-Err : goal.returns-in-Err
@@ -19,4 +20,5 @@ returns-in-Err g c =
     let old = state g.S.Store c.args.conn.now in
     let new = state g.S.Store c.read_tables.new.conn in
     let reads = subst (ReadsTo version (AreRead version) old new) c.in-Err.is c.read_tables.ensures in
-    subst (λ why. Opens version old new (Err why)) (sym c.open_fault.ensures) (opens_not version old new c.in-Err.why reads)
+    subst (λ why. Opens version old new (Err why)) (sym c.open_fault.ensures)
+    (opens_not version old new c.in-Err.why reads)

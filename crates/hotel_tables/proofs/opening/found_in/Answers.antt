@@ -4,7 +4,8 @@ use Rattle.hotel_tables.proofs.opening.found_in.Goals as goal
 
 pub returns-clause-ok : goal.returns-clause-ok
 returns-clause-ok c = λ db read.
-    IfOk-weaker c.sound_found.result _ _ (λ found h. opened c.in_ok-stored.stored db found (c.in_ok-stored.ensures.ok db read) h)
+    IfOk-weaker c.sound_found.result _ _
+    (λ found h. opened c.in_ok-stored.stored db found (c.in_ok-stored.ensures.ok db read) h)
     c.sound_found.ensures.ok
 
 pub returns-clause-err : goal.returns-clause-err

@@ -12,6 +12,7 @@ returns-clause-ok c = λ db read.
     let is = c.in_ok-meta.ensures.ok in
     let apart = subst (λ (ls : List NumberedInside). c.in-Ok-true.field-0 ≡ true → AreApart int_cmp (map id_inside ls)) c.deref.ensures.value c.in-Ok-true.ensures.0 in
     let inside = c.in-Ok.ensures ∙ ap (map plain_inside) c.deref-2.ensures.value in (
-      stored_are {of = c.args.version} t db c.in_ok-meta.meta _ c.in-Ok.inside is.2 read is inside (sym c.all_rise.ensures ∙ c.if-not-all_rise.false),
+      stored_are {of = c.args.version} t db c.in_ok-meta.meta _ c.in-Ok.inside is.2 read is inside
+          (sym c.all_rise.ensures ∙ c.if-not-all_rise.false),
       ids_apart t.inside.items db read.1.0.1.0 (apart c.in-Ok-true.field-0-test),
     )

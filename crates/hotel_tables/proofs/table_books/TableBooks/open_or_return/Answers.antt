@@ -6,7 +6,8 @@ use Rattle.hotel_tables.proofs.table_books.TableBooks.open_or_return.Goals as go
 pub enter-requires-clause-ours : goal.enter-requires-clause-ours
 enter-requires-clause-ours g c =
     ours_of (state g.S.Store c.args.conn) c.requires.alone
-    (c.is_autocommit-settled.ensures.settled (c.is_autocommit-settled.ensures.value ∙ ap not c.requires.alone)) c.in-Ok.ensures.ok
+    (c.is_autocommit-settled.ensures.settled (c.is_autocommit-settled.ensures.value ∙ ap not c.requires.alone))
+    c.in-Ok.ensures.ok
 
 pub returns-in-Err-enter-clause-kept : goal.returns-in-Err-enter-clause-kept
 returns-in-Err-enter-clause-kept g c = λ kept clean desk.
