@@ -46,7 +46,8 @@ made_books old new bare empty crash = record {
 }
 
 pub found_books : (old new : State) → ¬ (old.now.schema ≡ no_schema) → IsOfVersion old.now.schema
-    → (IsKept new → IsKept old) → (IsKept new → Continues old.now new.now) → (IsKept old → Survives old new (IsUpgraded old.now))
+    → (IsKept new → IsKept old) → (IsKept new → Continues old.now new.now)
+    → (IsKept old → Survives old new (IsUpgraded old.now))
     → (old.now.schema ≡ first_schema → IsKept new → LeavesAll new)
     → (IsKept new → IsSound (rows_in new.now.trees)) → AreBooksOf old new
 found_books old new other desk was continues crash whole sound = record {
@@ -57,8 +58,8 @@ found_books old new other desk was continues crash whole sound = record {
 }
 
 pub left_database : {S : Type 0} (shown : Held S → State) (old : State) (why : OpenFault) (c : Held S)
-    → ¬ (old.now.schema ≡ no_schema) → (¬ IsOfVersion old.now.schema → NamesNoTable why) → LeavesDatabase old (shown c) why
-    → IsWhyNone shown old why (Some c)
+    → ¬ (old.now.schema ≡ no_schema) → (¬ IsOfVersion old.now.schema → NamesNoTable why)
+    → LeavesDatabase old (shown c) why → IsWhyNone shown old why (Some c)
 left_database shown old why c other foreign leaves = record { bare = λ bare. absurd (other bare); foreign = foreign; leaves = leaves }
 
 module _ {D : Type 0} {g : Ghosts D} where

@@ -1,5 +1,6 @@
 -- Tables that are read, undamaged and without numbers below 0 are tables of a desk.
-use Rattle.std.proofs.Common.{◌≡◌, refl, sym, ap, subst, ◌∙◌, List, [], ◌∷◌, map, ℕ, ℤ, pos, nat_cmp, true, false, Bool, Less, Ordering, is_eq, Option, None, Result, Ok, Err, IfOk, IfErr, IsTrue, Vec, arith, Some}
+use Rattle.std.proofs.Common.{◌≡◌, refl, sym, ap, subst, ◌∙◌, List, [], ◌∷◌, map, ℕ, ℤ, pos, nat_cmp, true, false}
+use Rattle.std.proofs.Common.{Bool, Less, Ordering, is_eq, Option, None, Result, Ok, Err, IfOk, IfErr, IsTrue, Vec, arith, Some}
 use Rattle.std.specs.Prelude.{◌+◌, option_map, bytes_eq}
 use Rattle.std.specs.List.{AllByRecursion, list_all, count_by}
 use Rattle.std.specs.List.Sorted.{IsPermutation, IsSorted}
@@ -58,7 +59,8 @@ use Rattle.hotel_statements.specs.PlainRows.{maybe, meta_shown, kind_shown, room
 use Rattle.hotel_statements.specs.PlainRows.{may_be_natural, room_natural, stay_natural, code_natural, card_natural, inside_natural, note_natural, fit_natural}
 use Rattle.hotel_statements.specs.WholeTables.{ReadsTo, AreFitRows, AreRead}
 use Rattle.hotel_tables.specs.Opening.{AreStored, AreApartInside, IsMetaRow, IsFound, LacksRow, HasMetaRow, FaultFits}
-use Rattle.hotel_tables.specs.Opening.{Told, Opens, all_rise, fits_natural, all_natural, id_inside, plain_inside, fault_for}
+use Rattle.hotel_tables.specs.Opening.{Told, Opens, all_rise, fits_natural, all_natural, id_inside, plain_inside}
+use Rattle.hotel_tables.specs.Opening.{fault_for}
 use Rattle.hotel_rows.specs.Counts.{IsCountedOf}
 use Rattle.hotel_rows.specs.Joined.{with_fit, under_fit, joined, first_fits}
 use Rattle.hotel_rows.proofs.OfCounts.{counted_rooms, named_kind}
@@ -166,7 +168,8 @@ inside_plain_rows plain_rows rows same =
     (subst (λ xs. IsPermutation xs (map last_two (map numbered_shown plain_rows))) (fused last_two numbered_columns rows) (IsPermutation-map last_two _ _ same))
 
 pub stored_are : {of : Version} (t : Tables) (db : Trees) (plain : PlainMeta) (version : ℤ)
-    (inside : Vec PlainInside Global) → version ≡ pos (number_of_version of) → AreRead of t db → IsMetaRow of t.meta.items plain
+    (inside : Vec PlainInside Global) → version ≡ pos (number_of_version of) → AreRead of t db
+    → IsMetaRow of t.meta.items plain
     → inside.items ≡ map plain_inside t.inside.items
     → let s : Stored = record { version = version; day = plain.day; kinds = t.kinds; rooms = t.rooms; stays = t.stays; codes = t.codes; cards = t.cards; inside = inside; notes = t.notes; fits = t.fits } in
     all_rise s ≡ true → AreStored of s db
@@ -280,7 +283,9 @@ are_desk {version} s db a ids keys columns natural =
     let plain : PlainMeta = record { id = pos 1; version = s.version; day = s.day } in
     let meta_plain : ArePlainRows meta_columns meta_shown (plain ∷ []) (db 0) = subst (λ xs. IsPermutation xs (meta_shown plain ∷ [])) (sym a.meta) (IsPermutation-refl (meta_shown plain ∷ [])) in
     let entry : PlainMeta → ℕ × (ℕ × Option ℕ) = λ l. (number_of l.id, (number_of l.version, option_map number_of l.day)) in
-    let meta = read_back (by_key nat_cmp) (key_total nat_cmp_total) meta_columns meta_of meta_written meta_shown entry (plain ∷ []) (db 0) meta_plain (meta_good plain refl a.version_is n1.0, tt) (tt, tt) in
+    let meta =
+    read_back (by_key nat_cmp) (key_total nat_cmp_total) meta_columns meta_of meta_written meta_shown entry (plain ∷ []) (db 0)
+    meta_plain (meta_good plain refl a.version_is n1.0, tt) (tt, tt) in
     let kind = read_back (slice_cmp nat_cmp) nat_list_cmp_total kind_columns kind_of kind_written kind_shown kind_text s.kinds.items (db 1) a.kinds (all_kinds s.kinds.items)
     (tested_order (slice_cmp nat_cmp) nat_list_cmp_total (map kind_text s.kinds.items) k1.0) in
     let room = read_back (by_key nat_cmp) (key_total nat_cmp_total) room_columns room_of room_written room_shown room_entry s.rooms.items (db 3) a.rooms

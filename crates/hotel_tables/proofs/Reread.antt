@@ -1,5 +1,6 @@
 -- What is read of a desk's tables: each plain row is one that the books write, they have the rows of the tables, and where these are sound no table is damaged.
-use Rattle.std.proofs.Common.{◌≡◌, ℕ, ℤ, pos, negsuc, Bool, true, false, cond, ◌&&◌, not, refl, sym, ap, subst, ◌∙◌, List, [], ◌∷◌, map, length, Option, None, Some, Ordering, Less, Greater, nat_cmp, is_lt, arith, inl, inr, Err, Vec, Equal}
+use Rattle.std.proofs.Common.{◌≡◌, ℕ, ℤ, pos, negsuc, Bool, true, false, cond, ◌&&◌, not, refl, sym, ap, subst, ◌∙◌}
+use Rattle.std.proofs.Common.{List, [], ◌∷◌, map, length, Option, None, Some, Ordering, Less, Greater, nat_cmp, is_lt, arith, inl, inr, Err, Vec, Equal}
 use Rattle.std.specs.Prelude.{nat_le, nat_lt, ◌==◌, is_some}
 use Rattle.std.specs.List.{AllByRecursion, list_all}
 use Rattle.std.specs.List.Sorted.{IsPermutation}
@@ -276,7 +277,8 @@ of_fit l h =
     and_true (is_natural l.room) (is_natural l.fit) b.0
 
 fit_keys_rise : (rooms : List PlainRoom) (fits : Option (Vec PlainFit Global))
-    → fits_natural fits ≡ true → fits_rise fits ≡ true → are_in_order pair_cmp (map (λ (l : PlainRoom). (number_of l.room, 1)) rooms) ≡ true
+    → fits_natural fits ≡ true → fits_rise fits ≡ true
+    → are_in_order pair_cmp (map (λ (l : PlainRoom). (number_of l.room, 1)) rooms) ≡ true
     → are_in_order pair_cmp (keys_of (entries_of rooms fits)) ≡ true
 fit_keys_rise rooms None natural up first = begun_rise rooms first
 fit_keys_rise rooms (Some fits) natural up first =

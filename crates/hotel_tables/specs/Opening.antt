@@ -182,8 +182,8 @@ pub record Opens (version : Version) (old new : State) (result : Result Found Op
   pub crash : Survives old new (λ _. IsKept old → ⊥)
 
 -- What the opening of a desk promises, of a connection from old to new: its books, what is counted of their rows, and
--- what a fault says of the tables. A crash in it, or after it, leaves what it could leave before, or the whole desk that
--- is made of one of the first version.
+-- what a fault says of the tables. A crash in it, or after it, leaves what it could leave before, or the whole desk
+-- that is made of one of the first version.
 pub record Enters (old new : State) (result : Result Counts OpenFault) : Type 0 where
   pub autocommit : new.in_transaction ≡ false
   pub books : OnOk result (IsBooks new)

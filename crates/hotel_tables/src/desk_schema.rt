@@ -45,7 +45,7 @@ fn has_tables_of<S: Alter>(conn: &Connection<S>, desk: &Connection<MemStore>) ->
     same_schema(conn.schema(), desk.schema())
 }
 
-/// Whether a database has the tables of the first version: the first ones of a desk, which is in memory, and their keys.
+/// Whether a database has the tables of the first version: those of a desk in memory but the last.
 fn has_first_tables_of<S: Alter>(conn: &Connection<S>, desk: &Connection<MemStore>) -> bool
     requires { (state over_memory desk.now).now.schema ≡ desk_schema }
     ensures sound { result ≡ true → (state S.Store conn.now).now.schema ≡ first_schema }

@@ -20,7 +20,7 @@ use std::alloc::Global;
 impl<S: Alter + Drop> TableBooks<S> {
     /// Books over the tables of a desk, which are read whole and tested.
     ///
-    /// Of a desk of the first version whose rows are sound one of the second is made, in one transaction; its rows stay.
+    /// Of a desk of the first version whose rows are sound one of the second is made in one transaction; its rows stay.
     /// A database with other tables is no desk's. A desk is made in memory to compare them with.
     /// On a fault the connection is given back, and the store holds what it held.
     pub fn open_or_return(
@@ -35,13 +35,15 @@ impl<S: Alter + Drop> TableBooks<S> {
         ensures unfailed { IfOk result (λ b. (b.memory ≡ 0) × (b.store ≡ 0)) }
         ensures schema { IfOk result (λ _. IsOfVersion (state S.Store conn).now.schema) }
         ensures crash { IsKept (state S.Store conn)
-            → IfOk result (λ b. Survives (state S.Store conn) (state S.Store b.conn) (IsUpgraded (state S.Store conn).now)) }
+            → IfOk result (λ b. Survives (state S.Store conn) (state S.Store b.conn)
+            (IsUpgraded (state S.Store conn).now)) }
         ensures whole { (state S.Store conn).now.schema ≡ first_schema
             → IfOk result (λ b. IsKept (state S.Store b.conn) → LeavesAll (state S.Store b.conn)) }
         ensures outside { IfErr result (λ e. (state S.Store e.1).in_transaction ≡ false) }
         ensures same { IfErr result (λ e. KeepsRows (state S.Store conn) (state S.Store e.1)) }
         ensures left { IsKept (state S.Store conn)
-            → IfErr result (λ e. Survives (state S.Store conn) (state S.Store e.1) (IsUpgraded (state S.Store conn).now)) }
+            → IfErr result (λ e. Survives (state S.Store conn) (state S.Store e.1)
+            (IsUpgraded (state S.Store conn).now)) }
         ensures foreign { ¬ IsOfVersion (state S.Store conn).now.schema → IfErr result (λ e. NamesNoTable e.0) }
         ensures fault { IfErr result (λ e. IsKept (state S.Store conn) → HasCleanDisk (state S.Store e.1)
             → FaultFitsIn (state S.Store conn).now e.0) }
@@ -79,7 +81,8 @@ impl<S: Alter + Drop> TableBooks<S> {
         ensures fault { IsAlwaysClean (state S.Store) → IsKept (state S.Store conn)
             → IfErr result (FaultFitsIn (state S.Store conn).now) }
         ensures crash { IsKept (state S.Store conn)
-            → IfOk result (λ b. Survives (state S.Store conn) (state S.Store b.conn) (IsUpgraded (state S.Store conn).now)) }
+            → IfOk result (λ b. Survives (state S.Store conn) (state S.Store b.conn)
+            (IsUpgraded (state S.Store conn).now)) }
         ensures whole { (state S.Store conn).now.schema ≡ first_schema
             → IfOk result (λ b. IsKept (state S.Store b.conn) → LeavesAll (state S.Store b.conn)) }
         ensures foreign { ¬ IsOfVersion (state S.Store conn).now.schema → IfErr result NamesNoTable }

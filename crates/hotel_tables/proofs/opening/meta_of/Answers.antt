@@ -14,4 +14,5 @@ returns-clause-ok c =
 pub returns-clause-err : goal.returns-clause-err
 returns-clause-err c = λ db read. IfErr-weaker c.meta_row.result _ _ (λ why lacks.
     fault_lacks c.args.version db c.args.tables.now.meta.items why read.0.0.0
-    (subst (λ (meta : List PlainMeta). LacksRow c.args.version meta why) c.deref.ensures.value lacks)) c.meta_row.ensures.err
+    (subst (λ (meta : List PlainMeta). LacksRow c.args.version meta why) c.deref.ensures.value lacks))
+    c.meta_row.ensures.err
