@@ -20,8 +20,8 @@ use Rattle.hotel_tables.specs.declared.open_fault.OpenFault.TheVariants as fault
 use Rattle.hotel_tables.specs.declared.opening.Found.{Found}
 use Rattle.hotel_tables.specs.Applied.{LeavesAll}
 use Rattle.hotel_tables.specs.TableBooks.{IsCounted}
-use Rattle.hotel_tables.specs.Opening.{Opens, Enters, FaultFits, FaultFitsIn, IsUpgraded, IsSoundDesk, IsOfCall}
-use Rattle.hotel_tables.specs.Opening.{fault_for}
+use Rattle.hotel_tables.specs.Opening.{Opens, Enters, FaultFits, FaultFitsIn, IsUpgraded, IsSoundDesk, IsOfVersion}
+use Rattle.hotel_tables.specs.Opening.{IsOfCall, fault_for}
 use Rattle.hotel_tables.proofs.Opened.{fault_fits}
 use Rattle.hotel_tables.proofs.Reread.{of_a_call, refused_fits}
 
@@ -36,6 +36,15 @@ fits_in First db why has fits First is = fits
 fits_in First db why has fits Second is = absurd (not_both db.schema is has)
 fits_in Second db why has fits First is = absurd (not_both db.schema has is)
 fits_in Second db why has fits Second is = fits
+
+-- the tables are of neither version
+pub of_neither : {schema : Schema} → ¬ (schema ≡ desk_schema) → ¬ (schema ≡ first_schema) → ¬ IsOfVersion schema
+of_neither second first (First, is) = first is
+of_neither second first (Second, is) = second is
+
+pub sound_of : (s : State) → IsSoundDesk s → IsOfVersion s.now.schema
+sound_of s (First, desk, sound) = (First, desk.schema)
+sound_of s (Second, desk, sound) = (Second, desk.schema)
 
 -- ---- an opening that was refused
 

@@ -1,6 +1,7 @@
 -- Tables that are read, undamaged and without numbers below 0 are tables of a desk.
 use Rattle.std.proofs.Common.{◌≡◌, refl, sym, ap, subst, ◌∙◌, List, [], ◌∷◌, map, ℕ, ℤ, pos, nat_cmp, true, false}
-use Rattle.std.proofs.Common.{Bool, Less, Ordering, is_eq, Option, None, Result, Ok, Err, IfOk, IfErr, IsTrue, Vec, arith, Some}
+use Rattle.std.proofs.Common.{Bool, Less, Ordering, is_eq, Option, None, Result, Ok, Err, IfOk, IfErr, IsTrue}
+use Rattle.std.proofs.Common.{Vec, arith, Some}
 use Rattle.std.specs.Prelude.{◌+◌, option_map, bytes_eq}
 use Rattle.std.specs.List.{AllByRecursion, list_all, count_by}
 use Rattle.std.specs.List.Sorted.{IsPermutation, IsSorted}
@@ -284,8 +285,8 @@ are_desk {version} s db a ids keys columns natural =
     let meta_plain : ArePlainRows meta_columns meta_shown (plain ∷ []) (db 0) = subst (λ xs. IsPermutation xs (meta_shown plain ∷ [])) (sym a.meta) (IsPermutation-refl (meta_shown plain ∷ [])) in
     let entry : PlainMeta → ℕ × (ℕ × Option ℕ) = λ l. (number_of l.id, (number_of l.version, option_map number_of l.day)) in
     let meta =
-    read_back (by_key nat_cmp) (key_total nat_cmp_total) meta_columns meta_of meta_written meta_shown entry (plain ∷ []) (db 0)
-    meta_plain (meta_good plain refl a.version_is n1.0, tt) (tt, tt) in
+    read_back (by_key nat_cmp) (key_total nat_cmp_total) meta_columns meta_of meta_written meta_shown entry
+    (plain ∷ []) (db 0) meta_plain (meta_good plain refl a.version_is n1.0, tt) (tt, tt) in
     let kind = read_back (slice_cmp nat_cmp) nat_list_cmp_total kind_columns kind_of kind_written kind_shown kind_text s.kinds.items (db 1) a.kinds (all_kinds s.kinds.items)
     (tested_order (slice_cmp nat_cmp) nat_list_cmp_total (map kind_text s.kinds.items) k1.0) in
     let room = read_back (by_key nat_cmp) (key_total nat_cmp_total) room_columns room_of room_written room_shown room_entry s.rooms.items (db 3) a.rooms

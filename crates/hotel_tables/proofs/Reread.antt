@@ -1,6 +1,7 @@
 -- What is read of a desk's tables: each plain row is one that the books write, they have the rows of the tables, and where these are sound no table is damaged.
 use Rattle.std.proofs.Common.{◌≡◌, ℕ, ℤ, pos, negsuc, Bool, true, false, cond, ◌&&◌, not, refl, sym, ap, subst, ◌∙◌}
-use Rattle.std.proofs.Common.{List, [], ◌∷◌, map, length, Option, None, Some, Ordering, Less, Greater, nat_cmp, is_lt, arith, inl, inr, Err, Vec, Equal}
+use Rattle.std.proofs.Common.{List, [], ◌∷◌, map, length, Option, None, Some, Ordering, Less, Equal, Greater}
+use Rattle.std.proofs.Common.{nat_cmp, is_lt, arith, inl, inr, Err, Vec}
 use Rattle.std.specs.Prelude.{nat_le, nat_lt, ◌==◌, is_some}
 use Rattle.std.specs.List.{AllByRecursion, list_all}
 use Rattle.std.specs.List.Sorted.{IsPermutation}
