@@ -309,6 +309,17 @@ are_desk {version} s db a ids keys columns natural =
     let said : number_of s.version ≡ number_of_version version = ap number_of a.version_is in
     let metas : metas_in db ≡ (1, (number_of_version version, option_map number_of s.day)) ∷ [] =
     meta.1 ∙ ap (λ n. (1, (n, option_map number_of s.day)) ∷ []) said in
+    let all : joined (fits_of_version version db) (bare_rows_in db) ≡ rows_of s = λ i. record {
+      day = ap (λ (m : List (ℕ × (ℕ × Option ℕ))). said_of (at_number m 1) None (λ e. e.1)) metas i;
+      kinds = kind.1 i;
+      rooms = map (with_fit (fit.1 i)) (room.1 i);
+      codes = code.1 i;
+      stays = stay.1 i;
+      cards = card.1 i;
+      inside = inside.1 i;
+      notes = map (under_fit (fit.1 i)) (note.1 i);
+      fits = fit.1 i;
+    } in
     record {
       tables = record {
         meta = meta.0;
@@ -325,17 +336,7 @@ are_desk {version} s db a ids keys columns natural =
         fit = fit.0;
       };
       rooms = room.1;
-      rows = joined_by_version version db ∙ (λ i. record {
-        day = ap (λ (m : List (ℕ × (ℕ × Option ℕ))). said_of (at_number m 1) None (λ e. e.1)) metas i;
-        kinds = kind.1 i;
-        rooms = map (with_fit (fit.1 i)) (room.1 i);
-        codes = code.1 i;
-        stays = stay.1 i;
-        cards = card.1 i;
-        inside = inside.1 i;
-        notes = map (under_fit (fit.1 i)) (note.1 i);
-        fits = fit.1 i;
-      });
+      rows = joined_by_version version db ∙ all;
     }
 
 -- ---- what is opened
