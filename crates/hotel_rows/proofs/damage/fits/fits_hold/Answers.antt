@@ -14,7 +14,7 @@ returns-then-not-rise_in_pairs c =
     let s = c.args.stored.now in
     let runs = c.args.fits.now.runs.entries in
     let order = c.rise_in_pairs.ensures ∙ ap (are_in_order pair_cmp)
-    (c.deref-2.ensures.value ∙ c.in_ok-keys.ensures ∙ ap (map fit_key) c.deref.ensures.value) in
+    (c.deref.ensures.value ∙ c.in_ok-keys.ensures ∙ ap (map fit_key) c.requires.plain) in
     sym (fits_together s runs c.requires.fits.runs
     ∙ ap (λ b. b && list_all (has_room (rows_of s)) (plain_fits s) && list_all (fitted_as_due runs) s.rooms.items)
     (sym order ∙ c.if-not-rise_in_pairs.true))
@@ -24,22 +24,24 @@ returns-then-not-fits_have_rooms c =
     let s = c.args.stored.now in
     let runs = c.args.fits.now.runs.entries in
     let order = c.rise_in_pairs.ensures ∙ ap (are_in_order pair_cmp)
-    (c.deref-2.ensures.value ∙ c.in_ok-keys.ensures ∙ ap (map fit_key) c.deref.ensures.value) in
+    (c.deref.ensures.value ∙ c.in_ok-keys.ensures ∙ ap (map fit_key) c.requires.plain) in
     sym (fits_together s runs c.requires.fits.runs
     ∙ ap (λ b. b && list_all (has_room (rows_of s)) (plain_fits s) && list_all (fitted_as_due runs) s.rooms.items)
     (sym order ∙ c.if-not-rise_in_pairs.false)
     ∙ ap (λ b. b && list_all (fitted_as_due runs) s.rooms.items)
-    (sym c.fits_have_rooms.ensures ∙ c.if-not-fits_have_rooms.true))
+    (ap (list_all (has_room (rows_of s))) (sym c.requires.plain) ∙ sym c.fits_have_rooms.ensures
+    ∙ c.if-not-fits_have_rooms.true))
 
 pub returns : goal.returns
 returns c =
     let s = c.args.stored.now in
     let runs = c.args.fits.now.runs.entries in
     let order = c.rise_in_pairs.ensures ∙ ap (are_in_order pair_cmp)
-    (c.deref-2.ensures.value ∙ c.in_ok-keys.ensures ∙ ap (map fit_key) c.deref.ensures.value) in
+    (c.deref.ensures.value ∙ c.in_ok-keys.ensures ∙ ap (map fit_key) c.requires.plain) in
     c.rooms_are_fitted.ensures
     ∙ sym (fits_together s runs c.requires.fits.runs
     ∙ ap (λ b. b && list_all (has_room (rows_of s)) (plain_fits s) && list_all (fitted_as_due runs) s.rooms.items)
     (sym order ∙ c.if-not-rise_in_pairs.false)
     ∙ ap (λ b. b && list_all (fitted_as_due runs) s.rooms.items)
-    (sym c.fits_have_rooms.ensures ∙ c.if-not-fits_have_rooms.false))
+    (ap (list_all (has_room (rows_of s))) (sym c.requires.plain) ∙ sym c.fits_have_rooms.ensures
+    ∙ c.if-not-fits_have_rooms.false))
