@@ -1,5 +1,6 @@
 -- What CREATE TABLE and CREATE INDEX do.
-use Rattle.std.proofs.Common.{◌≡◌, refl, sym, ap, subst, ◌∙◌, List, [], ◌∷◌, ◌++◌, ℕ, false, Option, None, Result, Ok, IsTrue}
+use Rattle.std.proofs.Common.{◌≡◌, refl, sym, ap, subst, ◌∙◌, List, [], ◌∷◌, ◌++◌, ℕ, false, IsTrue}
+use Rattle.std.proofs.Common.{Option, None, Result, Ok}
 use Rattle.std.specs.List.{AllByRecursion}
 use Rattle.sqlite_tied.specs.Compute.{everything}
 use Rattle.sqlite.specs.Command.TheVariants.{CreateTable, CreateIndex}
@@ -48,10 +49,17 @@ still_empty old new (x ∷ ts) t kept all none = (kept.0 ∙ all.0, still_empty 
 
 -- a step that makes a table, whatever the tables before and their rows are
 pub adds : (schema : Schema) (text : List ℕ) (t : Table) (old new : State) (count : ℕ) → IsMaker schema text t
-    → (IsTrue old.is_open → old.now.schema ≡ schema) → ExecutesInside 0 text [] old new (Ok count) → HasTable schema t old new
+    → (IsTrue old.is_open → old.now.schema ≡ schema) → ExecutesInside 0 text [] old new (Ok count)
+    → HasTable schema t old new
 adds schema text t old new count maker has h =
     let did = creates schema text t old new count maker (has h.1.was_open) h.0 in
-    record { inside = subst IsTrue (sym h.1.mode) refl; was_open = h.1.was_open; schema_is = did.0; rows = did.2; empty = did.1 }
+    record {
+      inside = subst IsTrue (sym h.1.mode) refl;
+      was_open = h.1.was_open;
+      schema_is = did.0;
+      rows = did.2;
+      empty = did.1;
+    }
 
 -- a step of `create`, whatever the table is
 pub makes : (schema : Schema) (text : List ℕ) (t : Table) (old new : State) (count : ℕ) → IsMaker schema text t → IsBare schema old → ExecutesInside 0 text [] old new (Ok count)
@@ -73,8 +81,8 @@ indexes schema text at t index old new count maker has_open h =
     let out = λ (tally : Tally). let r : Result (Tally × Database) (Option Error) = Ok (tally, new.now) in r in
     let ran = runs_as text [] old new schema has (CreateIndex at) maker.command maker.plain count h.0 in
     let w = subst (λ x. Writes old new None (CreateIndex at) x [] count) maker.whole ran in
-    let whole = subst (λ s. Does old.step_limit (mode_of old) [] (record old.now { schema = s }) text None (CreateIndex at)
-    (out w.tally)) has w.changed in
+    let run = λ (d : Database). Does old.step_limit (mode_of old) [] d text None (CreateIndex at) (out w.tally) in
+    let whole = subst (λ (s : Schema). run (record old.now { schema = s })) has w.changed in
     let made = went (subst (λ o. AtPlace (λ table. Defines (mode_of old) (MakesIndex text db table)) o (out w.tally))
     maker.there whole) in
     let did = made.1 in

@@ -1,5 +1,5 @@
 -- What a reading of a whole table leaves of the connection.
-use Rattle.std.proofs.Common.{◌≡◌, inl, inr, refl, sym, ap, subst, ◌∙◌, List, [], ℕ, OnOk, IfOk, Ok, Err, Result, IsTrue, false, arith}
+use Rattle.std.proofs.Common.{◌≡◌, inl, inr, sym, ap, subst, ◌∙◌, List, [], ℕ, OnOk, IfOk, Ok, Err, Result, IsTrue, false, arith}
 use Rattle.sqlite_value.specs.declared.value.Value.TheVariants.{Null}
 use Rattle.sqlite.specs.Order.{Row}
 use Rattle.sqlite.specs.Tree.{Trees}
@@ -56,7 +56,8 @@ module _ (version : Version) (text : List ℕ) (q : Query) (old new : State) (ou
     read_keeps kept = (was_kept kept, (after kept).1)
 
   pub reads_rows : {R : Type 0} (Says : R → Trees → Type 0) (rows : List Row) (result : Result R LookFault) → (HasCleanDisk new → Shown text [] old new rows)
-      → (IsAnswer q (overlay old.now.trees []) [] rows → IfOk result (λ r. Says r old.now.trees)) → ReadsTo version Says old new result
+      → (IsAnswer q (overlay old.now.trees []) [] rows → IfOk result (λ r. Says r old.now.trees))
+      → ReadsTo version Says old new result
   reads_rows Says rows result shown is =
       let stays : HasCleanDisk new → IsKept old → Stays old new = λ clean kept. shown_stay text [] old new rows (plain_in kept) (shown clean) in
       let opened : HasCleanDisk new → IsTrue new.is_open → IsTrue old.is_open = λ clean _. shown_opened text [] old new rows (shown clean) in
@@ -64,7 +65,8 @@ module _ (version : Version) (text : List ℕ) (q : Query) (old new : State) (ou
         ours = read_ours stays opened;
         keeps = read_keeps stays opened;
         says = λ kept. let was = was_kept stays opened kept in is
-            ((reads_as text [] old new (schema_of version) (ours.tables was).0 _ (command_is q _ asks.query).1 asks.plain asks.listing rows (shown kept.0)).answer Null);
+            ((reads_as text [] old new (schema_of version) (ours.tables was).0 _ (command_is q _ asks.query).1
+            asks.plain asks.listing rows (shown kept.0)).answer Null);
         open_on = λ kept clean. on_ok result (shown_is_open text [] old new rows (plain_in kept) (shown clean));
         crash = read_crash;
       }
@@ -73,26 +75,9 @@ module _ (version : Version) (text : List ℕ) (q : Query) (old new : State) (ou
       on_ok (Ok a) p = p
       on_ok (Err e) p = tt
 
-  pub reads_none : {R : Type 0} (Says : R → Trees → Type 0) (e : Error) (why : LookFault) → (HasCleanDisk new → FailsToQuery text [] old new e) → ReadsTo {R = R} version Says old new (Err why)
+  pub reads_none : {R : Type 0} (Says : R → Trees → Type 0) (e : Error) (why : LookFault)
+      → (HasCleanDisk new → FailsToQuery text [] old new e) → ReadsTo {R = R} version Says old new (Err why)
   reads_none Says e why fails =
       let stays : HasCleanDisk new → IsKept old → Stays old new = λ clean kept. fails_stay text [] old new e (plain_in kept) (fails clean) in
       let opened : HasCleanDisk new → IsTrue new.is_open → IsTrue old.is_open = λ clean. fail_opened text [] old new e (fails clean) in
       record { ours = read_ours stays opened; keeps = read_keeps stays opened; says = λ _. tt; open_on = λ _ _. tt; crash = read_crash }
-
--- where nothing is read, nothing changes
-pub nothing_read : {R : Type 0} (version : Version) (Says : R → Trees → Type 0) (s : State) (r : R) → IsOurs version s
-    → Says r s.now.trees → ReadsTo version Says s s (Ok r)
-nothing_read version Says s r ours is = record {
-  ours = ours;
-  keeps = λ kept. (kept, refl);
-  says = λ _. is;
-  open_on = λ kept _. kept.1;
-  crash = record {
-    clean = omega (arith);
-    shield = λ shield. shield;
-    counts = omega (arith);
-    limit = refl;
-    closes = λ _ is_open. inl is_open;
-    crash = λ _ db left. inl left;
-  };
-}

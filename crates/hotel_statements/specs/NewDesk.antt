@@ -16,8 +16,8 @@ use Rattle.sqlite_schema.specs.declared.schema.Index.{Index}
 use Rattle.sqlite_catalog.specs.Change.{created, indexed}
 use Rattle.hotel_core.specs.Model.Rows.{no_rows}
 use Rattle.hotel_statements.specs.Tables.{AreTables, rows_in}
-use Rattle.hotel_statements.specs.Schema.{desk_schema, first_schema, no_schema, meta_table, kind_table, room_table, stay_table}
-use Rattle.hotel_statements.specs.Schema.{code_table, card_table, inside_table, note_table}
+use Rattle.hotel_statements.specs.Schema.{desk_schema, first_schema, no_schema, meta_table, kind_table, room_table}
+use Rattle.hotel_statements.specs.Schema.{stay_table, code_table, card_table, inside_table, note_table}
 
 abbrev pub AreEmpty : Schema → Trees → Type 0
 AreEmpty schema db = AllByRecursion (λ (t : Table). db t.tree ≡ []) schema.tables

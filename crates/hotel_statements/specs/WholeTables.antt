@@ -33,7 +33,8 @@ pub record IsOurs (version : Version) (s : State) : Type 0 where
   pub autocommit : s.in_transaction ≡ false
   pub tables : IsKept s → (s.now.schema ≡ schema_of version) × (s.now ≡ s.committed)
 
--- The text reads a whole table of a desk of a version: to it that is a query, whose answer has the columns of the tree's rows, in some order.
+-- The text reads a whole table of a desk of a version: to it that is a query, whose answer has the columns of the
+-- tree's rows, in some order.
 pub record IsWhole (version : Version) (text : List ℕ) (tree : ℕ) (columns cut : Row → Row) : Type 0 where
   pub query : Query
   pub asks : AsksOf (schema_of version) text query
@@ -41,7 +42,8 @@ pub record IsWhole (version : Version) (text : List ℕ) (tree : ℕ) (columns c
 
 -- What a reading of the tables promises, of a connection from old to new: what it says of the trees where the test holds at its end.
 -- It changes no row, and a crash in it leaves nothing new.
-pub record ReadsTo {R : Type 0} (version : Version) (Says : R → Trees → Type 0) (old new : State) (result : Result R LookFault) : Type 0 where
+pub record ReadsTo {R : Type 0} (version : Version) (Says : R → Trees → Type 0) (old new : State)
+    (result : Result R LookFault) : Type 0 where
   pub ours : IsOurs version new
   pub keeps : KeepsRows old new
   pub says : IsKept new → IfOk result (λ r. Says r old.now.trees)

@@ -42,7 +42,9 @@ fn read_table<S: Alter, L: PlainRow + Drop>(
 ) -> Result<Vec<L>, LookFault>
     requires ours { IsOurs version (state S.Store conn.old) }
     requires whole { IsWhole version L.PlainRow.text L.PlainRow.tree L.PlainRow.columns L.PlainRow.cut }
-    ensures { ReadsTo version (λ plain_rows db. ArePlainRows L.PlainRow.columns L.PlainRow.shown plain_rows.items (db L.PlainRow.tree)) (state S.Store conn.old) (state S.Store conn.new) result }
+    ensures { ReadsTo version
+        (λ plain_rows db. ArePlainRows L.PlainRow.columns L.PlainRow.shown plain_rows.items (db L.PlainRow.tree))
+        (state S.Store conn.old) (state S.Store conn.new) result }
 {
     match conn.query_all(L::text(), &[]) {
         Ok(rows) => plain_rows_of(alloc, &rows),
@@ -59,7 +61,9 @@ fn read_two<S: Alter, A: PlainRow + Drop, B: PlainRow + Drop>(
     requires ours { IsOurs version (state S.Store conn.old) }
     requires first { IsWhole version A.PlainRow.text A.PlainRow.tree A.PlainRow.columns A.PlainRow.cut }
     requires second { IsWhole version B.PlainRow.text B.PlainRow.tree B.PlainRow.columns B.PlainRow.cut }
-    ensures { ReadsTo version (λ two db. ArePlainRows A.PlainRow.columns A.PlainRow.shown two.0.items (db A.PlainRow.tree) × ArePlainRows B.PlainRow.columns B.PlainRow.shown two.1.items (db B.PlainRow.tree))
+    ensures { ReadsTo version (λ two db.
+        ArePlainRows A.PlainRow.columns A.PlainRow.shown two.0.items (db A.PlainRow.tree)
+        × ArePlainRows B.PlainRow.columns B.PlainRow.shown two.1.items (db B.PlainRow.tree))
         (state S.Store conn.old) (state S.Store conn.new) result }
 {
     let first = read_table(alloc, conn, version)?;

@@ -1,4 +1,4 @@
-use Rattle.std.proofs.Common.{◌≡◌, arith, IsTrue, OnOk}
+use Rattle.std.proofs.Common.{arith}
 use Rattle.std.proofs.lemmas.Result.{on_ok_weaker}
 use Rattle.sqlite.specs.Held.{state}
 use Rattle.sqlite.specs.State.{HasCleanDisk}
@@ -17,7 +17,8 @@ returns-clause-made g c = λ clean.
     on_ok_weaker c.make_index-2.result (λ added has.
     let one = c.in_ok-make.ensures.added k1 _ _ make_fit has in
     let two = c.in_ok-make_index.ensures.added k2 _ _ _ _ make_stay_room (λ _. one.schema_is) in
-    all_new s0 s1 s2 s3 one two (added _ _ _ _ make_card_party (λ _. two.schema_is))) (c.make_index-2.ensures.added clean)
+    all_new s0 s1 s2 s3 one two (added _ _ _ _ make_card_party (λ _. two.schema_is)))
+    (c.make_index-2.ensures.added clean)
 
 pub returns-clause-bare : goal.returns-clause-bare
 returns-clause-bare g c = λ clean.
@@ -40,5 +41,6 @@ returns-in_err-make_index-clause-answers g c =
 
 pub returns-clause-answers : goal.returns-clause-answers
 returns-clause-answers g c =
-    runs_then (runs_then c.in_ok-make.ensures.answers c.in_ok-make_index.ensures.survives c.in_ok-make_index.ensures.answers)
+    runs_then
+    (runs_then c.in_ok-make.ensures.answers c.in_ok-make_index.ensures.survives c.in_ok-make_index.ensures.answers)
     c.make_index-2.ensures.survives c.make_index-2.ensures.answers

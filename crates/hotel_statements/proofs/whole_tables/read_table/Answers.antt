@@ -13,14 +13,22 @@ returns-in-Ok g c =
     let whole = c.requires.whole in
     let old = state g.S.Store c.args.conn.now in
     let asks = subst (λ t. AsksOf (schema_of c.args.version) t whole.query) (sym c.text.ensures) whole.asks in
-    reads_rows c.args.version c.text.result.now whole.query old (state g.S.Store c.query_all.new.self) c.requires.ours asks c.query_all.ensures.mode c.query_all.ensures.survives
-    (λ plain_rows db. ArePlainRows g.L.PlainRow.columns g.L.PlainRow.shown plain_rows.items (db g.L.PlainRow.tree)) c.in-Ok.rows.items c.plain_rows_of.result c.in-Ok.ensures.ok
-    (λ answer. IfOk-weaker c.plain_rows_of.result _ _ (λ plain_rows are. subst (IsPermutation (map g.L.PlainRow.columns (old.now.trees g.L.PlainRow.tree)))
-    (sym (are ∙ ap (map g.L.PlainRow.cut) c.deref.ensures.value)) (whole.answers old.now.trees c.in-Ok.rows.items answer)) c.plain_rows_of.ensures)
+    reads_rows c.args.version c.text.result.now whole.query old (state g.S.Store c.query_all.new.self) c.requires.ours
+    asks c.query_all.ensures.mode c.query_all.ensures.survives
+    (λ plain_rows db. ArePlainRows g.L.PlainRow.columns g.L.PlainRow.shown plain_rows.items (db g.L.PlainRow.tree))
+    c.in-Ok.rows.items c.plain_rows_of.result c.in-Ok.ensures.ok
+    (λ answer. IfOk-weaker c.plain_rows_of.result _ _ (λ plain_rows are.
+    subst (IsPermutation (map g.L.PlainRow.columns (old.now.trees g.L.PlainRow.tree)))
+    (sym (are ∙ ap (map g.L.PlainRow.cut) c.deref.ensures.value))
+    (whole.answers old.now.trees c.in-Ok.rows.items answer))
+    c.plain_rows_of.ensures)
 
 pub returns-in-Err : goal.returns-in-Err
 returns-in-Err g c =
     let whole = c.requires.whole in
+    let old = state g.S.Store c.args.conn.now in
     let asks = subst (λ t. AsksOf (schema_of c.args.version) t whole.query) (sym c.text.ensures) whole.asks in
-    reads_none c.args.version c.text.result.now whole.query (state g.S.Store c.args.conn.now) (state g.S.Store c.query_all.new.self) c.requires.ours asks c.query_all.ensures.mode
-    c.query_all.ensures.survives (λ plain_rows db. ArePlainRows g.L.PlainRow.columns g.L.PlainRow.shown plain_rows.items (db g.L.PlainRow.tree)) c.in-Err.error c.fault_of.result c.in-Err.ensures.err
+    reads_none c.args.version c.text.result.now whole.query old (state g.S.Store c.query_all.new.self) c.requires.ours
+    asks c.query_all.ensures.mode c.query_all.ensures.survives
+    (λ plain_rows db. ArePlainRows g.L.PlainRow.columns g.L.PlainRow.shown plain_rows.items (db g.L.PlainRow.tree))
+    c.in-Err.error c.fault_of.result c.in-Err.ensures.err
