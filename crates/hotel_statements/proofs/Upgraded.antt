@@ -1,11 +1,11 @@
 -- A desk of the second version made of one of the first: its statements in turn, how their transaction ends, and what
 -- that leaves.
-use Rattle.std.proofs.Common.{◌≡◌, ◌<◌, ◌+◌, ◌++◌, inl, inr, refl, sym, ap, ap₂, subst, ◌∙◌, List, [], ◌∷◌, ℕ, zero}
+use Rattle.std.proofs.Common.{◌≡◌, ◌<◌, ◌≤◌, ◌+◌, ◌++◌, inl, inr, refl, sym, ap, ap₂, subst, ◌∙◌, List, [], ◌∷◌, ℕ, zero}
 use Rattle.std.proofs.Common.{suc, take, length, get_or, map, true, false, Ok, Err, Result, OnOk, OnErr, IfErr, IsErr}
 use Rattle.std.proofs.Common.{IsTrue, true≢false, arith, nat_cmp}
 use Rattle.std.specs.List.{AllByRecursion}
 use Rattle.std.proofs.lemmas.Bool.Decides.{nat_tests}
-use Rattle.std.proofs.lemmas.List.{take_more, map_push}
+use Rattle.std.proofs.lemmas.List.{take_all, take_more, map_push}
 use Rattle.sqlite_catalog.specs.Listing.{IsSound}
 use Rattle.sqlite.specs.Tree.{Trees}
 use Rattle.sqlite.specs.Effect.{Database}
@@ -55,23 +55,6 @@ gives_one {Before} {text} {given} {fits} {old} {new} {r} params it step same =
         → OnOk r ((IsTrue old.is_open → Before old) → HasFits fits old new)
     go (Err e) ran = tt
     go (Ok u) ran = step ran.0 (subst (λ ps. ExecutesInside 0 text ps old new (Ok ran.0)) same ran.1)
-
--- what failed promises no fits
-pub gives_none : {Before Others : State → Type 0} {fits others : Fits} {a b : State} {e : Error}
-    (r : Result (Unit {0}) Error) → IsErr r → GivesFits Before fits a b (Err e) → GivesFits Others others a b r
-gives_none (Ok u) is it = absurd cc
-gives_none (Err why) is it = record { made = λ clean. tt; kept = it.kept; survives = it.survives }
-
--- of a state that is such a one and more
-pub gives_from : {Before Others : State → Type 0} {fits : Fits} {a b : State} {r : Result (Unit {0}) Error}
-    → (Others a → Before a) → GivesFits Before fits a b r → GivesFits Others fits a b r
-gives_from {Before} {Others} {fits} {a} {b} {r} from it =
-    record { made = λ clean. go r (it.made clean); kept = it.kept; survives = it.survives }
-  where
-    go : (r : Result (Unit {0}) Error) → OnOk r ((IsTrue a.is_open → Before a) → HasFits fits a b)
-        → OnOk r ((IsTrue a.is_open → Others a) → HasFits fits a b)
-    go (Err e) did = tt
-    go (Ok u) did = λ before. did (λ is_open. from (before is_open))
 
 -- ---- the tables, and then the version
 
@@ -180,33 +163,25 @@ room_then {rooms} {a} {b} {c} {u} {r} i room low is one two = record {
         }
 
 -- all rooms have their fits
-pub all_given : {rooms : List ℕ} {a b : State} {r : Result (Unit {0}) Error}
-    → GivesFits (IsFirstWith rooms) (map first_of rooms) a b r → Upgrades rooms a b r
-all_given {rooms} {a} {b} {r} it =
-    record { made = λ clean. go r (it.made clean); kept = it.kept; survives = it.survives }
-  where
-    go : (r : Result (Unit {0}) Error) → OnOk r ((IsTrue a.is_open → IsFirstWith rooms a)
-        → HasFits (map first_of rooms) a b) → OnOk r ((IsTrue a.is_open → IsFirstWith rooms a) → IsUpgraded a b)
-    go (Err e) did = tt
-    go (Ok u) did = λ before.
-        let all = did before in
-        let rooms_are = (before all.was_open).1 in
-        let fits : map first_of rooms ≡ first_fits (bare_rooms_in a.now.trees) =
-        ap (map first_of) rooms_are ∙ fused first_of (λ e. e.0) (bare_rooms_in a.now.trees) in
-        record {
-          was_open = all.was_open;
-          is_open = all.is_open;
-          committed = all.committed;
-          mid = all.mid;
-          sound = all.sound;
-          rows_are = ap₂ joined (all.fits_are ∙ fits) all.bare_rows_are;
-        }
-
--- what failed promises no rows
-pub not_all : {Before : State → Type 0} {fits : Fits} {rooms : List ℕ} {a b : State} {e : Error}
-    (r : Result (Unit {0}) Error) → IsErr r → GivesFits Before fits a b (Err e) → Upgrades rooms a b r
-not_all (Ok u) is it = absurd cc
-not_all (Err why) is it = record { made = λ clean. tt; kept = it.kept; survives = it.survives }
+pub all_given : {rooms : List ℕ} {a b : State} {u : Unit {0}} (i : ℕ) → length rooms ≤ i
+    → GivesFits (IsFirstWith rooms) (map first_of (take i rooms)) a b (Ok u) → Upgrades rooms a b (Ok u)
+all_given {rooms} {a} {b} i past it = record {
+  made = λ clean before.
+      let all = it.made clean before in
+      let fits : map first_of (take i rooms) ≡ first_fits (bare_rooms_in a.now.trees) =
+      ap (map first_of) (take_all i rooms past ∙ (before all.was_open).1)
+      ∙ fused first_of (λ e. e.0) (bare_rooms_in a.now.trees) in
+      record {
+        was_open = all.was_open;
+        is_open = all.is_open;
+        committed = all.committed;
+        mid = all.mid;
+        sound = all.sound;
+        rows_are = ap₂ joined (all.fits_are ∙ fits) all.bare_rows_are;
+      };
+  kept = it.kept;
+  survives = it.survives;
+}
 
 -- ---- the transaction
 

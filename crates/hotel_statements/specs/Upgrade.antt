@@ -1,5 +1,5 @@
 -- A desk of the first version, and what makes one of the second of it.
-use Rattle.std.specs.Prelude.{◌≡◌, ◌<◌, ℕ, false, List, Result, OnOk, IsTrue}
+use Rattle.std.specs.Prelude.{◌≡◌, ◌<◌, ℕ, false, List, [], Result, OnOk, IsTrue}
 use Rattle.std.specs.List.{AllByRecursion}
 use Rattle.std.specs.Map.{keys_of}
 use Rattle.sqlite.specs.Tree.{Trees}

@@ -105,20 +105,11 @@ pub same_fits : (a b : Trees) → b 13 ≡ a 13 → fits_in b ≡ fits_in a
 same_fits a b same = ap (listed (by_key pair_cmp) (λ r. fit_of (fit_columns r))) same
 
 pub front_of : (a b : Trees) → Same a b → SameFront a b × (b 13 ≡ a 13)
-front_of a b same = (
-  (
-    same.0,
-    same.1.0,
-    same.1.1.0,
-    same.1.1.1.0,
-    same.1.1.1.1.0,
-    same.1.1.1.1.1.0,
-    same.1.1.1.1.1.1.0,
-    same.1.1.1.1.1.1.1.0,
-    tt,
-  ),
-  same.1.1.1.1.1.1.1.1.0,
-)
+front_of a b same =
+    let last = same.1.1.1.1 in (
+      (same.0, (same.1.0, (same.1.1.0, (same.1.1.1.0, (last.0, (last.1.0, (last.1.1.0, (last.1.1.1.0, tt)))))))),
+      last.1.1.1.1.0,
+    )
 
 -- the rows are those without the fits, joined with them
 pub same_desk : (a b : Trees) → Same a b → AreTables a → AreTables b × (rows_in b ≡ rows_in a)

@@ -1,6 +1,6 @@
 -- What the statements of an upgrade make of the tables.
 use Rattle.std.proofs.Common.{◌≡◌, ◌<◌, ◌==◌, ◌++◌, refl, sym, ap, subst, ◌∙◌, List, [], ◌∷◌, ℕ, pos, Ok, true, false}
-use Rattle.std.proofs.Common.{arith, eqb, nat_cmp, Greater, IsTrue}
+use Rattle.std.proofs.Common.{arith, nat_cmp, Greater, IsTrue}
 use Rattle.std.specs.List.{AllByRecursion, list_all}
 use Rattle.std.specs.BTreeMap.{insert_entry}
 use Rattle.std.proofs.lemmas.Bool.Decides.{nat_tests}
