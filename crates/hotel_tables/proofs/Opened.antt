@@ -2,7 +2,7 @@
 use Rattle.std.proofs.Common.{◌≡◌, refl, sym, ap, subst, ◌∙◌, List, [], ◌∷◌, map, ℕ, ℤ, pos, nat_cmp, true, false}
 use Rattle.std.proofs.Common.{Bool, Less, Ordering, is_eq, Option, None, Result, Ok, Err, IfOk, IfErr, IsTrue}
 use Rattle.std.proofs.Common.{Vec, arith, Some}
-use Rattle.std.specs.Prelude.{◌+◌, option_map, bytes_eq}
+use Rattle.std.specs.Prelude.{◌+◌, ◌≤◌, option_map, bytes_eq}
 use Rattle.std.specs.List.{AllByRecursion, list_all, count_by}
 use Rattle.std.specs.List.Sorted.{IsPermutation, IsSorted}
 use Rattle.std.specs.Ordering.{int_cmp, is_lt}
@@ -85,16 +85,16 @@ one_version l row same is =
     head [] = []
     head (r ∷ rs) = r
 
-pub lacks_row : {version : Version} (db : Trees) (meta : List PlainMeta)
+pub lacks_row : (version : Version) (db : Trees) (meta : List PlainMeta)
     → ArePlainRows meta_columns meta_shown meta (db 0)
     → ((l : PlainMeta) → meta ≡ l ∷ [] → ¬ (l.version ≡ pos (number_of_version version))) → ¬ HasMetaRow version db
-lacks_row db [] plain_rows none has =
+lacks_row version db [] plain_rows none has =
     let here : IsPermutation (map meta_columns (has.0 ∷ [])) [] = subst (λ rows. IsPermutation (map meta_columns rows) []) has.1 plain_rows in
     absurd (omega (arith, length_permutation _ _ here))
-lacks_row db (l ∷ []) plain_rows none has =
+lacks_row version db (l ∷ []) plain_rows none has =
     let here : IsPermutation (meta_columns has.0 ∷ []) (meta_shown l ∷ []) = subst (λ rows. IsPermutation (map meta_columns rows) (meta_shown l ∷ [])) has.1 plain_rows in
     none l refl (one_version l has.0 (sym (one_permutation (meta_columns has.0) (meta_shown l ∷ []) here)) has.2)
-lacks_row db (l ∷ k ∷ meta) plain_rows none has =
+lacks_row version db (l ∷ k ∷ meta) plain_rows none has =
     let here : IsPermutation (map meta_columns (has.0 ∷ [])) (map meta_shown (l ∷ k ∷ meta)) = subst (λ rows. IsPermutation (map meta_columns rows) (map meta_shown (l ∷ k ∷ meta))) has.1 plain_rows in
     absurd (omega (arith, length_permutation _ _ here))
 
@@ -102,8 +102,12 @@ pub fault_lacks : (version : Version) (db : Trees) (meta : List PlainMeta) (why 
     → ArePlainRows meta_columns meta_shown meta (db 0) → LacksRow version meta why → FaultFits version db why
 fault_lacks version db meta fault.Memory plain_rows lacks = tt
 fault_lacks version db meta fault.Store plain_rows lacks = tt
-fault_lacks version db meta fault.NotADesk plain_rows lacks = lacks_row {version = version} db meta plain_rows lacks
+fault_lacks version db meta fault.NotADesk plain_rows lacks = lacks_row version db meta plain_rows lacks
 fault_lacks version db meta (fault.Damaged t) plain_rows lacks = absurd lacks
+
+pub small_number : (version : Version) → number_of_version version ≤ 2
+small_number First = omega arith
+small_number Second = omega arith
 
 -- ---- the rows inside, and their numbers
 
