@@ -7,15 +7,15 @@ ghost use Rattle.hotel_tables.specs.Opening.{IsOfVersion, IsOfCall, NamesNoTable
 
 use crate::create::make_desk;
 use crate::open_fault::OpenFault;
-use hotel_statements::Version;
-use hotel_statements::fault_of;
 use hotel_statements::same_schema::{same_front, same_schema};
+use hotel_statements::{Version, fault_of};
 use keycard_rules::LookFault;
 use sqlite::{Alter, Connection, MemStore};
 use std::alloc::Global;
 
 /// How many tables the first version has, and how many indexes of their keys.
 const FIRST_TABLES: usize = 8;
+
 const FIRST_INDEXES: usize = 5;
 
 /// An empty desk in memory.

@@ -10,8 +10,7 @@ use crate::migration::migrate;
 use crate::open_fault::OpenFault;
 use crate::opening::{find_counts, open_fault};
 use hotel_rows::Counts;
-use hotel_statements::Version;
-use hotel_statements::fault_of;
+use hotel_statements::{Version, fault_of};
 use sqlite::{Alter, Connection};
 use std::alloc::Global;
 
