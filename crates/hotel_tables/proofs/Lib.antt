@@ -7,5 +7,6 @@ mod Applied
 mod MayMake
 mod MemoryDesk
 mod Reread
+mod Entered
 mod Reopened
 mod OfFiles

@@ -1,5 +1,5 @@
 -- The books of a file, by what its opening answered, and its files after a close.
-use Rattle.std.proofs.Common.{◌≡◌, subst, Ok, Err, Result, Option, None, Some, ◌&&◌}
+use Rattle.std.proofs.Common.{◌≡◌, sym, ap, subst, ◌∙◌, length, Ok, Err, Result, Option, None, Some, ◌&&◌, arith}
 use Rattle.std.specs.Prelude.{IfOk, IfErr, IsTrue}
 use Rattle.sqlite_disk.specs.declared.Disk.{Ghosts}
 use Rattle.sqlite_disk.specs.declared.Files.{Files}
@@ -9,6 +9,7 @@ use Rattle.sqlite_trees.specs.View.{IsClean}
 use Rattle.sqlite.specs.declared.error.ErrorCode.TheVariants.{CannotOpen}
 use Rattle.sqlite.specs.declared.error.Error.{Error}
 use Rattle.sqlite.specs.declared.error.Error.TheVariants.{SqliteFailure}
+use Rattle.sqlite.specs.Schema.{Schema}
 use Rattle.sqlite.specs.State.{State, HasCleanDisk, IsLive, Survives}
 use Rattle.sqlite.specs.Held.{Held, IsNew}
 use Rattle.sqlite.specs.Opening.{is_open_error}
@@ -20,27 +21,44 @@ use Rattle.hotel_core.proofs.OfTables.RowTests.{both}
 use Rattle.hotel_tables.specs.declared.open_fault.OpenFault.{OpenFault}
 use Rattle.hotel_tables.specs.declared.files.FileFault.{FileFault}
 use Rattle.hotel_tables.specs.TableBooks.{Tabled}
-use Rattle.hotel_statements.specs.Schema.{no_schema, desk_schema}
-use Rattle.hotel_statements.specs.Books.{IsKept, IsBooks, KeepsRows}
+use Rattle.hotel_statements.specs.Schema.{no_schema, first_schema}
+use Rattle.hotel_statements.specs.Books.{IsKept, IsBooks}
 use Rattle.hotel_statements.specs.Tables.{rows_in}
 use Rattle.hotel_statements.specs.NewDesk.{IsEmptyDesk}
-use Rattle.hotel_tables.specs.Opening.{NamesNoTable}
+use Rattle.hotel_tables.specs.Applied.{LeavesAll}
+use Rattle.hotel_tables.specs.Opening.{IsOfVersion, Continues, IsUpgraded, NamesNoTable}
 use Rattle.hotel_tables.specs.Files.{file_fault, IsAnswer, AreBooksOf, AreOfOpening, LeavesDatabase, IsWhyNone, HoldBooks}
 use Rattle.hotel_tables.proofs.EmptyDesk.{empty_counted}
 use Rattle.hotel_tables.proofs.Reopened.{files_keep_books}
+
+-- a desk of the first version has tables
+not_bare : (s : Schema) → s ≡ first_schema → ¬ (s ≡ no_schema)
+not_bare s first none =
+    let eight : 8 ≡ 0 = ap (λ (s : Schema). length s.tables) (sym first ∙ none) in
+    absurd (omega (arith, eight))
 
 pub made_books : (old new : State) → old.now.schema ≡ no_schema → (IsKept new → rows_in new.now.trees ≡ no_rows) → Survives old new IsEmptyDesk → AreBooksOf old new
 made_books old new bare empty crash = record {
   made = λ _. (empty, crash);
   found = λ other. absurd (other bare);
+  whole = λ first. absurd (not_bare old.now.schema first bare);
   sound = λ kept. (empty_counted (rows_in new.now.trees) (empty kept)).sound;
 }
 
-pub found_books : (old new : State) → ¬ (old.now.schema ≡ no_schema) → old.now.schema ≡ desk_schema → KeepsRows old new → (IsKept old → Survives old new (λ _. ⊥))
+pub found_books : (old new : State) → ¬ (old.now.schema ≡ no_schema) → IsOfVersion old.now.schema
+    → (IsKept new → IsKept old) → (IsKept new → Continues old.now new.now)
+    → (IsKept old → Survives old new (IsUpgraded old.now))
+    → (old.now.schema ≡ first_schema → IsKept new → LeavesAll new)
     → (IsKept new → IsSound (rows_in new.now.trees)) → AreBooksOf old new
-found_books old new other desk keeps crash sound = record { made = λ bare. absurd (other bare); found = λ _. (desk, keeps, crash); sound = sound }
+found_books old new other desk was continues crash whole sound = record {
+  made = λ bare. absurd (other bare);
+  found = λ _. (desk, λ kept. (was kept, continues kept), crash);
+  whole = whole;
+  sound = sound;
+}
 
-pub left_database : {S : Type 0} (shown : Held S → State) (old : State) (why : OpenFault) (c : Held S) → ¬ (old.now.schema ≡ no_schema) → (¬ (old.now.schema ≡ desk_schema) → NamesNoTable why)
+pub left_database : {S : Type 0} (shown : Held S → State) (old : State) (why : OpenFault) (c : Held S)
+    → ¬ (old.now.schema ≡ no_schema) → (¬ IsOfVersion old.now.schema → NamesNoTable why)
     → LeavesDatabase old (shown c) why → IsWhyNone shown old why (Some c)
 left_database shown old why c other foreign leaves = record { bare = λ bare. absurd (other bare); foreign = foreign; leaves = leaves }
 

@@ -1,6 +1,8 @@
 -- Tables that are read, undamaged and without numbers below 0 are tables of a desk.
-use Rattle.std.proofs.Common.{◌≡◌, refl, sym, ap, subst, ◌∙◌, List, [], ◌∷◌, map, ℕ, ℤ, pos, nat_cmp, true, false, Bool, Less, Ordering, is_eq, Option, None, Result, Ok, Err, OnOk, IfOk, IfErr, IsTrue, Vec, arith}
-use Rattle.std.specs.Prelude.{◌+◌, option_map, bytes_eq}
+use Rattle.std.proofs.Common.{◌≡◌, refl, sym, ap, subst, ◌∙◌, List, [], ◌∷◌, map, ℕ, ℤ, pos, nat_cmp, true, false}
+use Rattle.std.proofs.Common.{Bool, Less, Ordering, is_eq, Option, None, Result, Ok, Err, IfOk, IfErr, IsTrue}
+use Rattle.std.proofs.Common.{Vec, arith, Some}
+use Rattle.std.specs.Prelude.{◌+◌, ◌≤◌, option_map, bytes_eq}
 use Rattle.std.specs.List.{AllByRecursion, list_all, count_by}
 use Rattle.std.specs.List.Sorted.{IsPermutation, IsSorted}
 use Rattle.std.specs.Ordering.{int_cmp, is_lt}
@@ -15,7 +17,6 @@ use Rattle.sqlite_rules.specs.Edit.{id_in}
 use Rattle.sqlite_trees.specs.Tree.{rowid}
 use Rattle.sqlite.specs.Order.{Row, column, value_cmp}
 use Rattle.sqlite.specs.Tree.{Trees, IsAscending}
-use Rattle.sqlite.specs.Effect.{Database}
 use Rattle.sqlite.specs.State.{State}
 use Rattle.sqlite.proofs.Callers.{one_permutation}
 use Rattle.sqlite_keyed.proofs.SortLemmas.{sorted_is-sort_by}
@@ -36,26 +37,33 @@ use Rattle.hotel_core.proofs.OfTables.Tests.{and_true}
 use Rattle.hotel_statements.specs.declared.plain_rows.PlainMeta.{PlainMeta}
 use Rattle.hotel_statements.specs.declared.plain_rows.NumberedInside.{NumberedInside}
 use Rattle.hotel_rows.specs.declared.stored.PlainKind.{PlainKind}
+use Rattle.hotel_rows.specs.declared.stored.PlainRoom.{PlainRoom}
+use Rattle.hotel_rows.specs.declared.stored.PlainFit.{PlainFit}
 use Rattle.hotel_rows.specs.declared.stored.PlainInside.{PlainInside}
 use Rattle.hotel_rows.specs.declared.stored.Stored.{Stored}
 use Rattle.hotel_statements.specs.declared.whole_tables.Tables.{Tables}
-use Rattle.hotel_rows.specs.declared.counts.Counts.{Counts}
+use Rattle.hotel_tables.specs.declared.opening.Found.{Found}
 use Rattle.hotel_tables.specs.declared.open_fault.OpenFault.{OpenFault}
 use Rattle.hotel_tables.specs.declared.open_fault.OpenFault.TheVariants as fault
 use Rattle.hotel_statements.specs.Columns.{meta_columns, meta_of, meta_written, kind_columns, kind_of, kind_written, room_columns, room_of, room_written, stay_columns, stay_of, stay_written}
 use Rattle.hotel_statements.specs.Columns.{code_columns, code_of, code_written, card_columns, card_of, card_written, inside_columns, inside_of, inside_written, note_columns, note_of, note_written, fit_columns, fit_of, fit_written}
-use Rattle.hotel_rows.specs.Stored.{number_of, kind_text, room_entry, stay_entry, code_entry, card_entry, inside_pair, note_entry, fit_entry, fits_of, rows_of}
+use Rattle.hotel_rows.specs.Stored.{number_of, kind_text, room_entry, stay_entry, code_entry, card_entry, inside_pair}
+use Rattle.hotel_rows.specs.Stored.{note_entry, fit_entry, first_fit, fits_of, rows_of}
 use Rattle.hotel_rows.specs.Damage as damage
 use Rattle.hotel_rows.specs.Damage.{columns_fit, first_damaged_of}
-use Rattle.hotel_statements.specs.Tables.{AreApartIds, AreApart, AreTables, by_key, metas_in, rows_in as all_rows_in}
+use Rattle.hotel_statements.specs.declared.version.Version.{Version}
+use Rattle.hotel_statements.specs.declared.version.Version.TheVariants.{First, Second}
+use Rattle.hotel_statements.specs.Tables.{AreApartIds, AreApart, AreTablesOf, IsFitTable, number_of_version, by_key}
+use Rattle.hotel_statements.specs.Tables.{metas_in, fits_in, bare_rooms_in, bare_rows_in, rows_of_version}
 use Rattle.hotel_tables.specs.TableBooks.{IsCounted}
-use Rattle.hotel_statements.specs.Books.{IsBooks}
 use Rattle.hotel_statements.specs.PlainRows.{maybe, meta_shown, kind_shown, room_shown, stay_shown, code_shown, card_shown, inside_shown, numbered_shown, numbered_columns, note_shown, fit_shown, ArePlainRows}
 use Rattle.hotel_statements.specs.PlainRows.{may_be_natural, room_natural, stay_natural, code_natural, card_natural, inside_natural, note_natural, fit_natural}
-use Rattle.hotel_statements.specs.WholeTables.{ReadsTo, AreRead}
-use Rattle.hotel_tables.specs.Opening.{AreStored, AreApartInside, IsMetaRow, LacksRow, HasMetaRow, FaultFits, Told, Opens, all_rise, all_natural, id_inside, plain_inside, fault_for}
+use Rattle.hotel_statements.specs.WholeTables.{ReadsTo, AreFitRows, AreRead}
+use Rattle.hotel_tables.specs.Opening.{AreStored, AreApartInside, IsMetaRow, IsFound, LacksRow, HasMetaRow, FaultFits}
+use Rattle.hotel_tables.specs.Opening.{Told, Opens, all_rise, fits_natural, all_natural, id_inside, plain_inside}
+use Rattle.hotel_tables.specs.Opening.{fault_for}
 use Rattle.hotel_rows.specs.Counts.{IsCountedOf}
-use Rattle.hotel_rows.specs.Joined.{with_fit, under_fit}
+use Rattle.hotel_rows.specs.Joined.{with_fit, under_fit, joined, first_fits}
 use Rattle.hotel_rows.proofs.OfCounts.{counted_rooms, named_kind}
 use Rattle.hotel_rows.proofs.OfJoined.{keys_with_fit, keys_under_fit}
 use Rattle.hotel_statements.proofs.Answers.{fused}
@@ -67,7 +75,8 @@ use Rattle.hotel_rows.proofs.OfDamage.Undamaged.{undamaged_is_sound}
 
 -- ---- the row of meta
 
-one_version : (l : PlainMeta) (row : Row) → meta_columns row ∷ [] ≡ meta_shown l ∷ [] → column (meta_columns row) 1 ≡ Int (pos 2) → l.version ≡ pos 2
+one_version : {n : ℕ} (l : PlainMeta) (row : Row) → meta_columns row ∷ [] ≡ meta_shown l ∷ []
+    → column (meta_columns row) 1 ≡ Int (pos n) → l.version ≡ pos n
 one_version l row same is =
     let e : column (meta_columns row) 1 ≡ Int l.version = ap (λ (rows : List Row). column (head rows) 1) same in
     ap id_in (sym e ∙ is)
@@ -76,22 +85,29 @@ one_version l row same is =
     head [] = []
     head (r ∷ rs) = r
 
-pub lacks_row : (db : Trees) (meta : List PlainMeta) → ArePlainRows meta_columns meta_shown meta (db 0) → ((l : PlainMeta) → meta ≡ l ∷ [] → ¬ (l.version ≡ pos 2)) → ¬ HasMetaRow db
-lacks_row db [] plain_rows none has =
+pub lacks_row : (version : Version) (db : Trees) (meta : List PlainMeta)
+    → ArePlainRows meta_columns meta_shown meta (db 0)
+    → ((l : PlainMeta) → meta ≡ l ∷ [] → ¬ (l.version ≡ pos (number_of_version version))) → ¬ HasMetaRow version db
+lacks_row version db [] plain_rows none has =
     let here : IsPermutation (map meta_columns (has.0 ∷ [])) [] = subst (λ rows. IsPermutation (map meta_columns rows) []) has.1 plain_rows in
     absurd (omega (arith, length_permutation _ _ here))
-lacks_row db (l ∷ []) plain_rows none has =
+lacks_row version db (l ∷ []) plain_rows none has =
     let here : IsPermutation (meta_columns has.0 ∷ []) (meta_shown l ∷ []) = subst (λ rows. IsPermutation (map meta_columns rows) (meta_shown l ∷ [])) has.1 plain_rows in
     none l refl (one_version l has.0 (sym (one_permutation (meta_columns has.0) (meta_shown l ∷ []) here)) has.2)
-lacks_row db (l ∷ k ∷ meta) plain_rows none has =
+lacks_row version db (l ∷ k ∷ meta) plain_rows none has =
     let here : IsPermutation (map meta_columns (has.0 ∷ [])) (map meta_shown (l ∷ k ∷ meta)) = subst (λ rows. IsPermutation (map meta_columns rows) (map meta_shown (l ∷ k ∷ meta))) has.1 plain_rows in
     absurd (omega (arith, length_permutation _ _ here))
 
-pub fault_lacks : (db : Trees) (meta : List PlainMeta) (why : OpenFault) → ArePlainRows meta_columns meta_shown meta (db 0) → LacksRow meta why → FaultFits db why
-fault_lacks db meta fault.Memory plain_rows lacks = tt
-fault_lacks db meta fault.Store plain_rows lacks = tt
-fault_lacks db meta fault.NotADesk plain_rows lacks = lacks_row db meta plain_rows lacks
-fault_lacks db meta (fault.Damaged t) plain_rows lacks = absurd lacks
+pub fault_lacks : (version : Version) (db : Trees) (meta : List PlainMeta) (why : OpenFault)
+    → ArePlainRows meta_columns meta_shown meta (db 0) → LacksRow version meta why → FaultFits version db why
+fault_lacks version db meta fault.Memory plain_rows lacks = tt
+fault_lacks version db meta fault.Store plain_rows lacks = tt
+fault_lacks version db meta fault.NotADesk plain_rows lacks = lacks_row version db meta plain_rows lacks
+fault_lacks version db meta (fault.Damaged t) plain_rows lacks = absurd lacks
+
+pub small_number : (version : Version) → number_of_version version ≤ 2
+small_number First = omega arith
+small_number Second = omega arith
 
 -- ---- the rows inside, and their numbers
 
@@ -156,25 +172,29 @@ inside_plain_rows plain_rows rows same =
     subst (IsPermutation (map inside_columns rows)) (plain_rows_of plain_rows)
     (subst (λ xs. IsPermutation xs (map last_two (map numbered_shown plain_rows))) (fused last_two numbered_columns rows) (IsPermutation-map last_two _ _ same))
 
-pub stored_are : (t : Tables) (db : Trees) (plain : PlainMeta) (version : ℤ) (inside : Vec PlainInside Global) → version ≡ pos 2 → AreRead t db → IsMetaRow t.meta.items plain
+pub stored_are : {of : Version} (t : Tables) (db : Trees) (plain : PlainMeta) (version : ℤ)
+    (inside : Vec PlainInside Global) → version ≡ pos (number_of_version of) → AreRead of t db
+    → IsMetaRow of t.meta.items plain
     → inside.items ≡ map plain_inside t.inside.items
     → let s : Stored = record { version = version; day = plain.day; kinds = t.kinds; rooms = t.rooms; stays = t.stays; codes = t.codes; cards = t.cards; inside = inside; notes = t.notes; fits = t.fits } in
-    all_rise s ≡ true → AreStored s db
+    all_rise s ≡ true → AreStored of s db
 stored_are t db plain version inside first read meta same up =
     let one : IsPermutation (map meta_columns (db 0)) (meta_shown plain ∷ []) = subst (λ ls. ArePlainRows meta_columns meta_shown ls (db 0)) meta.0 read.0.0.0 in
     let only : map meta_columns (db 0) ≡ meta_shown plain ∷ [] = one_permutation (meta_shown plain) _ (IsPermutation-sym _ _ one) in
     let named : meta_shown plain ≡ Int (pos 1) ∷ Int version ∷ maybe plain.day ∷ [] = ap (λ n. Int n ∷ Int plain.version ∷ maybe plain.day ∷ []) meta.1 ∙ ap (λ n. Int (pos 1) ∷ Int n ∷ maybe plain.day ∷ []) (meta.2 ∙ sym first) in
     record {
-      version = first;
+      version_is = first;
       meta = only ∙ ap (λ r. r ∷ []) named;
       kinds = read.0.0.1;
       rooms = read.0.1.0;
       stays = read.0.1.1;
-      codes = read.1.0.0;
-      cards = read.1.0.1;
-      inside = subst (λ ls. ArePlainRows inside_columns inside_shown ls (db 9)) (sym same) (inside_plain_rows t.inside.items (db 9) read.1.1.0.0);
-      notes = read.1.1.0.1;
-      fits = read.1.1.1;
+      codes = read.1.0.0.0;
+      cards = read.1.0.0.1;
+      inside =
+          subst (λ ls. ArePlainRows inside_columns inside_shown ls (db 9)) (sym same)
+          (inside_plain_rows t.inside.items (db 9) read.1.0.1.0);
+      notes = read.1.0.1.1;
+      fits = read.1.1;
       rise = up;
     }
 
@@ -204,12 +224,51 @@ rising : {K V L : Type 0} {cmp : K → K → Ordering} (total : Rattle.std.specs
     → IsAscending (λ a b. by_key cmp a b ≡ Less) (map entry ls)
 rising {K} {V} {L} {cmp} total entry ls e = tested_keys cmp total (λ (p : K × V). p.0) (map entry ls) (ap (are_in_order cmp) (sym (keys_mapped entry ls)) ∙ e)
 
-pub record AreDesk (s : Stored) (db : Trees) : Type 0 where
-  pub tables : AreTables db
-  pub rows : all_rows_in db ≡ rows_of s
+-- ---- the fits
 
-pub are_desk : (s : Stored) (db : Trees) → AreStored s db → AreApartInside db → keys_in_order (rows_of s) ≡ true → columns_fit s ≡ true → all_natural s ≡ true → AreDesk s db
-are_desk s db a ids keys columns natural =
+-- those that the tables of a version hold
+abbrev pub fits_of_version : Version → Trees → List ((ℕ × ℕ) × FitRow)
+fits_of_version First db = first_fits (bare_rooms_in db)
+fits_of_version Second db = fits_in db
+
+joined_by_version : (version : Version) (db : Trees)
+    → rows_of_version version db ≡ joined (fits_of_version version db) (bare_rows_in db)
+joined_by_version First db = refl
+joined_by_version Second db = refl
+
+-- the fits that stored rooms began with
+begun : (rooms : List PlainRoom) → first_fits (map room_entry rooms) ≡ map fit_entry (map first_fit rooms)
+begun [] = refl
+begun (l ∷ rooms) = ap (λ es. fit_entry (first_fit l) ∷ es) (begun rooms)
+
+abbrev pub entries_of : List PlainRoom → Option (Vec PlainFit Global) → List ((ℕ × ℕ) × FitRow)
+entries_of rooms fits = map fit_entry (said_of fits (map first_fit rooms) (λ f. f.items))
+
+abbrev AreFits : Version → Trees → List ((ℕ × ℕ) × FitRow) → Type 0
+AreFits version db fits = IsFitTable version (db 13) × (fits_of_version version db ≡ fits)
+
+are_fits : (version : Version) (rooms : List PlainRoom) (fits : Option (Vec PlainFit Global)) (db : Trees)
+    → AreFitRows version fits db → bare_rooms_in db ≡ map room_entry rooms → fits_natural fits ≡ true
+    → are_in_order pair_cmp (keys_of (entries_of rooms fits)) ≡ true → AreFits version db (entries_of rooms fits)
+are_fits First rooms None db are here natural up = (tt, ap first_fits here ∙ begun rooms)
+are_fits First rooms (Some fits) db are here natural up =
+    absurd (let w : ◌≡◌ {A = Option (Vec PlainFit Global)} (Some fits) None = are in cc)
+are_fits Second rooms None db are here natural up = absurd are
+are_fits Second rooms (Some fits) db are here natural up =
+    read_back (by_key pair_cmp) (key_total pair_cmp_total) fit_columns fit_of fit_written fit_shown fit_entry
+    fits.items (db 13) are
+    (each fit_natural _ fit_good fits.items natural) (rising pair_cmp_total fit_entry fits.items up)
+
+-- ---- the whole of the tables
+
+pub record AreDesk (version : Version) (s : Stored) (db : Trees) : Type 0 where
+  pub tables : AreTablesOf version db
+  pub rooms : bare_rooms_in db ≡ map room_entry s.rooms.items
+  pub rows : rows_of_version version db ≡ rows_of s
+
+pub are_desk : {version : Version} (s : Stored) (db : Trees) → AreStored version s db → AreApartInside db
+    → keys_in_order (rows_of s) ≡ true → columns_fit s ≡ true → all_natural s ≡ true → AreDesk version s db
+are_desk {version} s db a ids keys columns natural =
     let k7 = and_true _ (are_in_order pair_cmp (keys_of (rows_of s).fits)) keys in
     let k6 = and_true _ (are_in_order pair_cmp (keys_of (rows_of s).notes)) k7.0 in
     let k5 = and_true _ (are_in_order pair_cmp (rows_of s).inside) k6.0 in
@@ -217,7 +276,7 @@ are_desk s db a ids keys columns natural =
     let k3 = and_true _ (are_in_order nat_cmp (keys_of (rows_of s).stays)) k4.0 in
     let k2 = and_true _ (are_in_order nat_cmp (keys_of (rows_of s).codes)) k3.0 in
     let k1 = and_true (are_in_order (slice_cmp nat_cmp) (rows_of s).kinds) (are_in_order nat_cmp (keys_of (rows_of s).rooms)) k2.0 in
-    let n7 = and_true _ (list_all fit_natural s.fits.items) natural in
+    let n7 = and_true _ (fits_natural s.fits) natural in
     let n6 = and_true _ (list_all note_natural s.notes.items) n7.0 in
     let n5 = and_true _ (list_all inside_natural s.inside.items) n6.0 in
     let n4 = and_true _ (list_all card_natural s.cards.items) n5.0 in
@@ -229,7 +288,9 @@ are_desk s db a ids keys columns natural =
     let plain : PlainMeta = record { id = pos 1; version = s.version; day = s.day } in
     let meta_plain : ArePlainRows meta_columns meta_shown (plain ∷ []) (db 0) = subst (λ xs. IsPermutation xs (meta_shown plain ∷ [])) (sym a.meta) (IsPermutation-refl (meta_shown plain ∷ [])) in
     let entry : PlainMeta → ℕ × (ℕ × Option ℕ) = λ l. (number_of l.id, (number_of l.version, option_map number_of l.day)) in
-    let meta = read_back (by_key nat_cmp) (key_total nat_cmp_total) meta_columns meta_of meta_written meta_shown entry (plain ∷ []) (db 0) meta_plain (meta_good plain refl a.version n1.0, tt) (tt, tt) in
+    let meta =
+    read_back (by_key nat_cmp) (key_total nat_cmp_total) meta_columns meta_of meta_written meta_shown entry
+    (plain ∷ []) (db 0) meta_plain (meta_good plain refl a.version_is n1.0, tt) (tt, tt) in
     let kind = read_back (slice_cmp nat_cmp) nat_list_cmp_total kind_columns kind_of kind_written kind_shown kind_text s.kinds.items (db 1) a.kinds (all_kinds s.kinds.items)
     (tested_order (slice_cmp nat_cmp) nat_list_cmp_total (map kind_text s.kinds.items) k1.0) in
     let room = read_back (by_key nat_cmp) (key_total nat_cmp_total) room_columns room_of room_written room_shown room_entry s.rooms.items (db 3) a.rooms
@@ -248,12 +309,21 @@ are_desk s db a ids keys columns natural =
     (each_two note_natural damage.note_columns _ note_good s.notes.items n6.1 f2.1)
     (rising pair_cmp_total note_entry s.notes.items
     (ap (are_in_order pair_cmp) (sym (keys_under_fit (fits_of s) (map note_entry s.notes.items))) ∙ k6.1)) in
-    let fit =
-    read_back (by_key pair_cmp) (key_total pair_cmp_total) fit_columns fit_of fit_written fit_shown fit_entry
-    s.fits.items (db 13) a.fits
-    (each fit_natural _ fit_good s.fits.items n7.1) (rising pair_cmp_total fit_entry s.fits.items k7.1) in
-    let version : number_of s.version ≡ 2 = ap number_of a.version in
-    let metas : metas_in db ≡ (1, (2, option_map number_of s.day)) ∷ [] = meta.1 ∙ ap (λ n. (1, (n, option_map number_of s.day)) ∷ []) version in
+    let fit : AreFits version db (fits_of s) = are_fits version s.rooms.items s.fits db a.fits room.1 n7.1 k7.1 in
+    let said : number_of s.version ≡ number_of_version version = ap number_of a.version_is in
+    let metas : metas_in db ≡ (1, (number_of_version version, option_map number_of s.day)) ∷ [] =
+    meta.1 ∙ ap (λ n. (1, (n, option_map number_of s.day)) ∷ []) said in
+    let all : joined (fits_of_version version db) (bare_rows_in db) ≡ rows_of s = λ i. record {
+      day = ap (λ (m : List (ℕ × (ℕ × Option ℕ))). said_of (at_number m 1) None (λ e. e.1)) metas i;
+      kinds = kind.1 i;
+      rooms = map (with_fit (fit.1 i)) (room.1 i);
+      codes = code.1 i;
+      stays = stay.1 i;
+      cards = card.1 i;
+      inside = inside.1 i;
+      notes = map (under_fit (fit.1 i)) (note.1 i);
+      fits = fit.1 i;
+    } in
     record {
       tables = record {
         meta = meta.0;
@@ -269,17 +339,8 @@ are_desk s db a ids keys columns natural =
         note = note.0;
         fit = fit.0;
       };
-      rows = λ i. record {
-        day = ap (λ (m : List (ℕ × (ℕ × Option ℕ))). said_of (at_number m 1) None (λ e. e.1)) metas i;
-        kinds = kind.1 i;
-        rooms = map (with_fit (fit.1 i)) (room.1 i);
-        codes = code.1 i;
-        stays = stay.1 i;
-        cards = card.1 i;
-        inside = inside.1 i;
-        notes = map (under_fit (fit.1 i)) (note.1 i);
-        fits = fit.1 i;
-      };
+      rooms = room.1;
+      rows = joined_by_version version db ∙ all;
     }
 
 -- ---- what is opened
@@ -295,19 +356,34 @@ joined_kinds kind fits (e ∷ es) =
     count_first (is_kind kind) e.1 (values_of es) ∙ ap (λ n. one_if (is_kind kind e.1) + n) (joined_kinds kind fits es)
     ∙ sym (count_first (is_kind kind) (with_fit fits e).1 (values_of (map (with_fit fits) es)))
 
-pub opened : (s : Stored) (db : Trees) (counts : Counts) → AreStored s db × AreApartInside db → IsCountedOf s counts × (first_damaged_of s ≡ None) × (all_natural s ≡ true)
-    → AreTables db × IsCounted counts.kinds counts.nights (all_rows_in db)
-opened s db counts a h =
+numbers_are : (rooms : List PlainRoom)
+    → keys_of (map room_entry rooms) ≡ map (λ (r : PlainRoom). number_of r.room) rooms
+numbers_are [] = refl
+numbers_are (r ∷ rooms) = ap (λ ns. number_of r.room ∷ ns) (numbers_are rooms)
+
+-- what is found in stored rows that aren't damaged
+abbrev pub IsFoundOf : Stored → Found → Type 0
+IsFoundOf s found =
+    IsCountedOf s found.counts × (first_damaged_of s ≡ None) × (all_natural s ≡ true)
+    × (found.rooms.items ≡ map (λ (r : PlainRoom). number_of r.room) s.rooms.items)
+
+pub opened : {version : Version} (s : Stored) (db : Trees) (found : Found) → AreStored version s db × AreApartInside db
+    → IsFoundOf s found → IsFound version found db
+opened s db found a h =
     let sound = (undamaged_is_sound s).0 h.1 in
     let desk = are_desk s db a.0 a.1 sound.0.keys sound.1 h.2 in
-    let here : IsCounted counts.kinds counts.nights (rows_of s) = record {
+    let here : IsCounted found.counts.kinds found.counts.nights (rows_of s) = record {
       sound = sound.0;
       known = λ kind there. h.0.1.1 kind (named_kind kind s.kinds.items ∙ there);
       rooms = λ kind.
           h.0.0 kind ∙ counted_rooms kind s.rooms.items ∙ joined_kinds kind (fits_of s) (map room_entry s.rooms.items);
       stays = h.0.1.0;
     } in
-    (desk.tables, subst (IsCounted counts.kinds counts.nights) (sym desk.rows) here)
+    record {
+      tables = desk.tables;
+      counted = subst (IsCounted found.counts.kinds found.counts.nights) (sym desk.rows) here;
+      rooms = h.3 ∙ sym (numbers_are s.rooms.items) ∙ ap keys_of (sym desk.rooms);
+    }
 
 -- ---- the whole
 
@@ -318,47 +394,34 @@ told (Err fault.Store) p = tt
 told (Err fault.NotADesk) p = p
 told (Err (fault.Damaged t)) p = p
 
-pub fault_fits : (db : Trees) (why : LookFault) → FaultFits db (fault_for why)
-fault_fits db look.Memory = tt
-fault_fits db look.Store = tt
+pub fault_fits : (version : Version) (db : Trees) (why : LookFault) → FaultFits version db (fault_for why)
+fault_fits version db look.Memory = tt
+fault_fits version db look.Store = tt
 
 told_fault : (A P : Type 0) (why : LookFault) → Told {A = A} (Err (fault_for why)) P
 told_fault A P look.Memory = tt
 told_fault A P look.Store = tt
 
-pub opens_to : (old new : State) (t : Tables) (result : Result Counts OpenFault) → ReadsTo AreRead old new (Ok t)
-    → ((db : Trees) → AreRead t db → IfOk result (λ c. AreTables db × IsCounted c.kinds c.nights (all_rows_in db)))
-    → ((db : Trees) → AreRead t db → IfErr result (FaultFits db)) → Opens old new result
+pub opens_to : {version : Version} (old new : State) (t : Tables) (result : Result Found OpenFault)
+    → ReadsTo version (AreRead version) old new (Ok t)
+    → ((db : Trees) → AreRead version t db → IfOk result (λ found. IsFound version found db))
+    → ((db : Trees) → AreRead version t db → IfErr result (FaultFits version db)) → Opens version old new result
 opens_to old new t result reads ok err = record {
-  books = books result ok;
-  autocommit = reads.ours.autocommit;
+  ours = reads.ours;
   keeps = reads.keeps;
-  counted = λ kept. counted result (ok old.now.trees (reads.says kept));
+  found = λ kept. ok old.now.trees (reads.says kept);
   fault = λ kept. err old.now.trees (reads.says kept);
   open_on = λ kept clean. told result (reads.open_on kept clean);
   crash = reads.crash;
 }
-  where
-    counted : (r : Result Counts OpenFault) → IfOk r (λ c. AreTables old.now.trees × IsCounted c.kinds c.nights (all_rows_in old.now.trees)) → IfOk r (λ c. IsCounted c.kinds c.nights (all_rows_in old.now.trees))
-    counted (Ok c) h = h.1
-    counted (Err e) h = tt
 
-    books : (r : Result Counts OpenFault) → ((db : Trees) → AreRead t db → IfOk r (λ c. AreTables db × IsCounted c.kinds c.nights (all_rows_in db))) → OnOk r (IsBooks new)
-    books (Ok c) h = record {
-      autocommit = reads.ours.autocommit;
-      desk = λ kept.
-          let is = reads.ours.tables kept in
-          record { schema = is.0; settled = is.1; tables = subst (λ (d : Database). AreTables d.trees) (sym (reads.keeps kept).1) (h old.now.trees (reads.says kept)).0 };
-    }
-    books (Err e) h = tt
-
-pub opens_not : (old new : State) (why : LookFault) → ReadsTo AreRead old new (Err why) → Opens old new (Err (fault_for why))
-opens_not old new why reads = record {
-  books = tt;
-  autocommit = reads.ours.autocommit;
+pub opens_not : (version : Version) (old new : State) (why : LookFault)
+    → ReadsTo version (AreRead version) old new (Err why) → Opens version old new (Err (fault_for why))
+opens_not version old new why reads = record {
+  ours = reads.ours;
   keeps = reads.keeps;
-  counted = λ _. tt;
-  fault = λ kept. fault_fits old.now.trees why;
-  open_on = λ _ _. told_fault Counts (IsTrue new.is_open) why;
+  found = λ _. tt;
+  fault = λ kept. fault_fits version old.now.trees why;
+  open_on = λ _ _. told_fault Found (IsTrue new.is_open) why;
   crash = reads.crash;
 }

@@ -1,5 +1,7 @@
 -- What is read of a desk's tables: each plain row is one that the books write, they have the rows of the tables, and where these are sound no table is damaged.
-use Rattle.std.proofs.Common.{◌≡◌, ℕ, ℤ, pos, negsuc, Bool, true, false, cond, ◌&&◌, not, refl, sym, ap, subst, ◌∙◌, List, [], ◌∷◌, map, length, Option, None, Some, Ordering, nat_cmp, is_lt, arith, inl, inr, Err}
+use Rattle.std.proofs.Common.{◌≡◌, ℕ, ℤ, pos, negsuc, Bool, true, false, cond, ◌&&◌, not, refl, sym, ap, subst, ◌∙◌}
+use Rattle.std.proofs.Common.{List, [], ◌∷◌, map, length, Option, None, Some, Ordering, Less, Equal, Greater}
+use Rattle.std.proofs.Common.{nat_cmp, is_lt, arith, inl, inr, Err, Vec}
 use Rattle.std.specs.Prelude.{nat_le, nat_lt, ◌==◌, is_some}
 use Rattle.std.specs.List.{AllByRecursion, list_all}
 use Rattle.std.specs.List.Sorted.{IsPermutation}
@@ -7,6 +9,7 @@ use Rattle.std.specs.Ordering.{int_cmp, ordering_then}
 use Rattle.std.specs.Cmp.{nat_cmp_is}
 use Rattle.std.specs.Cmp.Lexicographic.{slice_cmp}
 use Rattle.std.specs.Map.{keys_of}
+use Rattle.std.specs.declared.alloc.Global.{Global}
 use Rattle.std.proofs.lemmas.Bool.{cases_Bool, false≢true, ltb-true, ltb-false}
 use Rattle.std.proofs.lemmas.Cmp.{nat_cmp_total}
 use Rattle.sqlite_value.specs.declared.value.Value.{Value}
@@ -42,18 +45,25 @@ use Rattle.hotel_tables.specs.declared.open_fault.OpenFault.TheVariants as fault
 use Rattle.hotel_statements.specs.Values.{int, maybe_int}
 use Rattle.hotel_statements.specs.Columns.{meta_columns, meta_of, meta_written, room_columns, room_of, room_written, bit_of, stay_columns, stay_of, stay_written, state_number}
 use Rattle.hotel_statements.specs.Columns.{code_columns, code_of, code_written, card_columns, card_of, card_written, inside_columns, inside_of, inside_written, note_columns, note_of, note_written, act_number, act_card, fit_columns, fit_of, fit_written}
-use Rattle.hotel_rows.specs.Stored.{number_of, kind_text, room_entry, stay_entry, code_entry, card_entry, inside_pair, note_entry, fit_entry, fits_of, rows_of}
+use Rattle.hotel_rows.specs.Stored.{number_of, kind_text, room_entry, stay_entry, code_entry, card_entry, inside_pair}
+use Rattle.hotel_rows.specs.Stored.{note_entry, fit_entry, first_fit, fits_of, rows_of}
 use Rattle.hotel_rows.specs.Damage as damage
 use Rattle.hotel_rows.specs.Damage.{columns_fit}
 use Rattle.hotel_statements.specs.Books.{IsKept}
-use Rattle.hotel_statements.specs.Tables.{AreTables, IsWrittenAs, by_key, rows_in as all_rows_in}
+use Rattle.hotel_statements.specs.declared.version.Version.{Version}
+use Rattle.hotel_statements.specs.declared.version.Version.TheVariants.{First, Second}
+use Rattle.hotel_statements.specs.Tables.{AreTablesOf, IsFitTable, IsWrittenAs, by_key, number_of_version}
+use Rattle.hotel_statements.specs.Tables.{rows_of_version}
+use Rattle.hotel_statements.specs.WholeTables.{AreFitRows}
 use Rattle.hotel_statements.specs.PlainRows.{maybe, is_natural, may_be_natural, room_shown, room_natural, stay_shown, stay_natural, code_shown, code_natural, card_shown, card_natural, inside_shown, inside_natural, note_shown, note_natural, fit_shown, fit_natural, ArePlainRows}
 use Rattle.hotel_statements.specs.PlainRows.{kind_natural, kind_order, room_order, stay_order, code_order, card_order, inside_order, note_order, fit_order}
-use Rattle.hotel_tables.specs.Opening.{AreStored, HasMetaRow, FaultFits, IsOfCall, Opens, all_natural}
+use Rattle.hotel_tables.specs.Opening.{AreStored, HasMetaRow, FaultFits, IsOfCall, Opens, fits_rise, fits_natural}
+use Rattle.hotel_tables.specs.Opening.{all_natural}
 use Rattle.hotel_tables.specs.Reopening.{ReadUndamaged}
 use Rattle.hotel_statements.proofs.Keyed.{key_total}
 use Rattle.hotel_statements.proofs.Perm.{every_shuffled}
-use Rattle.hotel_tables.proofs.Opened.{are_desk}
+use Rattle.hotel_tables.proofs.Opened.{are_desk, entries_of}
+use Rattle.hotel_statements.proofs.Answers.{fused}
 use Rattle.hotel_rows.proofs.OfJoined.{keys_with_fit, keys_under_fit}
 use Rattle.hotel_rows.proofs.OfDamage.Undamaged.{undamaged_is_sound}
 
@@ -172,8 +182,19 @@ record AreWritten (s : Stored) : Type 0 where
   natural : all_natural s ≡ true
   fit : columns_fit s ≡ true
 
-are_written : (s : Stored) (db : Trees) → AreTables db → AreStored s db → AreWritten s
-are_written s db t a =
+fits_pass : (version : Version) (fits : Option (Vec PlainFit Global)) (db : Trees)
+    → IsFitTable version (db 13) → AreFitRows version fits db → fits_natural fits ≡ true
+fits_pass First None db good are = refl
+fits_pass First (Some fits) db good are =
+    absurd (let w : ◌≡◌ {A = Option (Vec PlainFit Global)} (Some fits) None = are in cc)
+fits_pass Second None db good are = absurd are
+fits_pass Second (Some fits) db good are =
+    all_pass _ fit_natural fit_plain fits.items
+    (are_plain_rows fit_columns fit_of fit_written fit_shown fits.items (db 13) good.good are)
+
+are_written : {version : Version} (s : Stored) (db : Trees) → AreTablesOf version db
+    → AreStored version s db → AreWritten s
+are_written {version} s db t a =
     let metas : AllByRecursion (λ (v : Row). v ≡ meta_written (meta_of v)) (map meta_columns (db 0)) = all_map (λ (v : Row). v ≡ meta_written (meta_of v)) meta_columns (db 0) t.meta.good in
     let meta = (subst (AllByRecursion (λ (v : Row). v ≡ meta_written (meta_of v))) a.meta metas).0 in
     let day : may_be_natural s.day ≡ true = may_natural s.day _ (ap (λ (v : Row). column v 2) meta) in
@@ -183,14 +204,13 @@ are_written s db t a =
     let cards = are_plain_rows card_columns card_of card_written card_shown s.cards.items (db 8) t.card.good a.cards in
     let inside = are_plain_rows inside_columns inside_of inside_written inside_shown s.inside.items (db 9) t.inside.good a.inside in
     let notes = are_plain_rows note_columns note_of note_written note_shown s.notes.items (db 11) t.note.good a.notes in
-    let fits = are_plain_rows fit_columns fit_of fit_written fit_shown s.fits.items (db 13) t.fit.good a.fits in
     let room = all_pass _ room_natural room_plain s.rooms.items rooms in
     let stay = all_pass _ stay_natural stay_plain s.stays.items stays in
     let code = all_pass _ code_natural code_plain s.codes.items codes in
     let card = all_pass _ card_natural card_plain s.cards.items cards in
     let within = all_pass _ inside_natural inside_plain s.inside.items inside in
     let note = all_pass _ note_natural note_plain s.notes.items notes in
-    let fit = all_pass _ fit_natural fit_plain s.fits.items fits in
+    let fit = fits_pass version s.fits db t.fit a.fits in
     record {
       natural =
           let first = both _ _ (both _ _ (both _ _ day room) stay) code in
@@ -238,16 +258,46 @@ entries_rise : {L K V : Type 0} (order : L → L → Ordering) (cmp : K → K �
     → (ls : List L) → list_all test ls ≡ true → are_in_order order ls ≡ true → are_in_order cmp (keys_of (map entry ls)) ≡ true
 entries_rise order cmp entry test same ls all up = ap (are_in_order cmp) (keys_are entry ls) ∙ rise_by order cmp (λ l. (entry l).0) test same ls all up
 
-keys_rise : (s : Stored) (db : Trees) → AreStored s db → all_natural s ≡ true → keys_in_order (rows_of s) ≡ true
+then_equal : (o : Ordering) → o ≡ ordering_then o Equal
+then_equal Less = refl
+then_equal Equal = refl
+then_equal Greater = refl
+
+-- of rooms that rise, the fits that they began with rise too
+begun_rise : (rooms : List PlainRoom)
+    → are_in_order pair_cmp (map (λ (l : PlainRoom). (number_of l.room, 1)) rooms) ≡ true
+    → are_in_order pair_cmp (keys_of (map fit_entry (map first_fit rooms))) ≡ true
+begun_rise rooms up =
+    ap (are_in_order pair_cmp)
+    (keys_are fit_entry (map first_fit rooms) ∙ fused (λ l. (fit_entry l).0) first_fit rooms) ∙ up
+
+of_fit : (l : PlainFit) → fit_natural l ≡ true → (is_natural l.room ≡ true) × (is_natural l.fit ≡ true)
+of_fit l h =
+    let c = and_true _ (is_natural l.before) h in
+    let b = and_true _ (is_natural l.place) c.0 in
+    and_true (is_natural l.room) (is_natural l.fit) b.0
+
+fit_keys_rise : (rooms : List PlainRoom) (fits : Option (Vec PlainFit Global))
+    → fits_natural fits ≡ true → fits_rise fits ≡ true
+    → are_in_order pair_cmp (map (λ (l : PlainRoom). (number_of l.room, 1)) rooms) ≡ true
+    → are_in_order pair_cmp (keys_of (entries_of rooms fits)) ≡ true
+fit_keys_rise rooms None natural up first = begun_rise rooms first
+fit_keys_rise rooms (Some fits) natural up first =
+    entries_rise fit_order pair_cmp fit_entry fit_natural
+    (λ x y h k. let p = of_fit x h in let q = of_fit y k in same_pairs x.room x.fit y.room y.fit p.0 p.1 q.0 q.1)
+    fits.items natural up
+
+keys_rise : {version : Version} (s : Stored) (db : Trees) → AreStored version s db
+    → all_natural s ≡ true → keys_in_order (rows_of s) ≡ true
 keys_rise s db a natural =
-    let n7 = and_true _ (list_all fit_natural s.fits.items) natural in
+    let n7 = and_true _ (fits_natural s.fits) natural in
     let n6 = and_true _ (list_all note_natural s.notes.items) n7.0 in
     let n5 = and_true _ (list_all inside_natural s.inside.items) n6.0 in
     let n4 = and_true _ (list_all card_natural s.cards.items) n5.0 in
     let n3 = and_true _ (list_all code_natural s.codes.items) n4.0 in
     let n2 = and_true _ (list_all stay_natural s.stays.items) n3.0 in
     let n1 = and_true (may_be_natural s.day) (list_all room_natural s.rooms.items) n2.0 in
-    let r7 = and_true _ (are_in_order fit_order s.fits.items) a.rise in
+    let r7 = and_true _ (fits_rise s.fits) a.rise in
     let r6 = and_true _ (are_in_order note_order s.notes.items) r7.0 in
     let r5 = and_true _ (are_in_order inside_order s.inside.items) r6.0 in
     let r4 = and_true _ (are_in_order card_order s.cards.items) r5.0 in
@@ -264,9 +314,12 @@ keys_rise s db a natural =
     s.inside.items n5.1 r5.1 in
     let notes = entries_rise note_order pair_cmp note_entry note_natural
     (λ x y h k. let p = of_note x h in let q = of_note y k in same_pairs x.room x.n y.room y.n p.0 p.1 q.0 q.1) s.notes.items n6.1 r6.1 in
-    let fits = entries_rise fit_order pair_cmp fit_entry fit_natural
-    (λ x y h k. let p = of_fit x h in let q = of_fit y k in same_pairs x.room x.fit y.room y.fit p.0 p.1 q.0 q.1)
-    s.fits.items n7.1 r7.1 in
+    let began = rise_by room_order pair_cmp (λ (l : PlainRoom). (number_of l.room, 1)) room_natural
+    (λ x y h k.
+    then_equal (int_cmp x.room y.room)
+    ∙ same_pairs x.room (pos 1) y.room (pos 1) (of_room x h) refl (of_room y k) refl)
+    s.rooms.items n1.1 r1.1 in
+    let fits = fit_keys_rise s.rooms.items s.fits n7.1 r7.1 began in
     let joined_rooms = ap (are_in_order nat_cmp) (keys_with_fit (fits_of s) (map room_entry s.rooms.items)) ∙ rooms in
     let joined_notes = ap (are_in_order pair_cmp) (keys_under_fit (fits_of s) (map note_entry s.notes.items)) ∙ notes in
     let first = both _ _ (both _ _ (both _ _ kinds joined_rooms) codes) stays in
@@ -310,35 +363,32 @@ keys_rise s db a natural =
         let b = and_true _ (is_natural l.act) c.0 in
         and_true (is_natural l.room) (is_natural l.n) b.0
 
-    of_fit : (l : PlainFit) → fit_natural l ≡ true → (is_natural l.room ≡ true) × (is_natural l.fit ≡ true)
-    of_fit l h =
-        let c = and_true _ (is_natural l.before) h in
-        let b = and_true _ (is_natural l.place) c.0 in
-        and_true (is_natural l.room) (is_natural l.fit) b.0
-
 -- ---- the row of meta
 
-has_row : (db : Trees) → AreTables db → HasMetaRow db
-has_row db t =
+has_row : {version : Version} (db : Trees) → AreTablesOf version db → HasMetaRow version db
+has_row {version} db t =
+    let n = number_of_version version in
     let cmp = by_key {K = ℕ} {V = ℕ × Option ℕ} nat_cmp in
-    let shuffled : IsPermutation ((1, (2, t.meta_row.0)) ∷ []) (map (λ r. meta_of (meta_columns r)) (db 0)) =
+    let shuffled : IsPermutation ((1, (n, t.meta_row.0)) ∷ []) (map (λ r. meta_of (meta_columns r)) (db 0)) =
     subst (λ es. IsPermutation es (map (λ r. meta_of (meta_columns r)) (db 0))) t.meta_row.1 (IsPermutation-sort_by cmp (key_total nat_cmp_total) (map (λ r. meta_of (meta_columns r)) (db 0))) in
-    only t.meta_row.0 (db 0) t.meta.good (one_permutation (1, (2, t.meta_row.0)) _ shuffled)
+    only n t.meta_row.0 (db 0) t.meta.good (one_permutation (1, (n, t.meta_row.0)) _ shuffled)
   where
-    version : List (ℕ × (ℕ × Option ℕ)) → ℕ
-    version [] = 0
-    version (e ∷ es) = e.1.0
+    told : List (ℕ × (ℕ × Option ℕ)) → ℕ
+    told [] = 0
+    told (e ∷ es) = e.1.0
 
-    only : (day : Option ℕ) (rows : List Row) → AllByRecursion (IsWrittenAs meta_columns meta_of meta_written) rows → map (λ r. meta_of (meta_columns r)) rows ≡ (1, (2, day)) ∷ []
-        → (row : Row) × (rows ≡ row ∷ []) × (column (meta_columns row) 1 ≡ Int (pos 2))
-    only day [] good e = absurd (let w = ap length e in omega (arith, w))
-    only day (r ∷ []) good e = (r, refl, ap (λ (v : Row). column v 1) good.0 ∙ ap (λ n. int n) (ap version e))
-    only day (r ∷ q ∷ rows) good e = absurd (let w = ap length e in omega (arith, w))
+    only : (n : ℕ) (day : Option ℕ) (rows : List Row)
+        → AllByRecursion (IsWrittenAs meta_columns meta_of meta_written) rows
+        → map (λ r. meta_of (meta_columns r)) rows ≡ (1, (n, day)) ∷ []
+        → (row : Row) × (rows ≡ row ∷ []) × (column (meta_columns row) 1 ≡ Int (pos n))
+    only n day [] good e = absurd (let w = ap length e in omega (arith, w))
+    only n day (r ∷ []) good e = (r, refl, ap (λ (v : Row). column v 1) good.0 ∙ ap (λ n. int n) (ap told e))
+    only n day (r ∷ q ∷ rows) good e = absurd (let w = ap length e in omega (arith, w))
 
 -- ---- the whole
 
 pub read_undamaged : ReadUndamaged
-read_undamaged db t = (
+read_undamaged version db t = (
   has_row db t,
   λ s a.
       let w = are_written s db t a in
@@ -347,18 +397,20 @@ read_undamaged db t = (
 )
 
 -- a fault of sound tables is one of a call
-pub of_a_call : (db : Trees) (why : OpenFault) → AreTables db → IsSound (all_rows_in db) → FaultFits db why → IsOfCall why
-of_a_call db fault.Memory t sound fits = tt
-of_a_call db fault.Store t sound fits = tt
-of_a_call db fault.NotADesk t sound fits = fits (read_undamaged db t).0
-of_a_call db (fault.Damaged name) t sound fits =
-    let none = ((read_undamaged db t).1 fits.0 fits.1).1 sound in
+pub of_a_call : (version : Version) (db : Trees) (why : OpenFault) → AreTablesOf version db
+    → IsSound (rows_of_version version db) → FaultFits version db why → IsOfCall why
+of_a_call version db fault.Memory t sound fits = tt
+of_a_call version db fault.Store t sound fits = tt
+of_a_call version db fault.NotADesk t sound fits = fits (read_undamaged version db t).0
+of_a_call version db (fault.Damaged name) t sound fits =
+    let none = ((read_undamaged version db t).1 fits.0 fits.1).1 sound in
     let both_are : ◌≡◌ {A = Option _} None (Some name) = sym none ∙ fits.2 in
     cc
 
 -- ---- an opening that was refused
 
-pub refused_fits : (old new : State) (why : OpenFault) → Opens old new (Err why) → IsKept old → HasCleanDisk new → FaultFits old.now.trees why
+pub refused_fits : {version : Version} (old new : State) (why : OpenFault) → Opens version old new (Err why)
+    → IsKept old → HasCleanDisk new → FaultFits version old.now.trees why
 refused_fits old new fault.Memory opens kept clean = tt
 refused_fits old new fault.Store opens kept clean = tt
 refused_fits old new fault.NotADesk opens kept clean = opens.fault (clean, opens.open_on kept clean)

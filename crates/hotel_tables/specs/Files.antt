@@ -19,11 +19,13 @@ use Rattle.hotel_tables.specs.declared.open_fault.OpenFault.{OpenFault}
 use Rattle.hotel_tables.specs.declared.open_fault.OpenFault.TheVariants as fault
 use Rattle.hotel_tables.specs.declared.files.FileFault.{FileFault}
 use Rattle.hotel_tables.specs.declared.files.FileFault.TheVariants.{File, Desk}
-use Rattle.hotel_statements.specs.Schema.{no_schema, desk_schema}
-use Rattle.hotel_statements.specs.Books.{IsKept, IsDesk, KeepsRows}
+use Rattle.hotel_statements.specs.Schema.{no_schema, first_schema}
+use Rattle.hotel_statements.specs.Books.{IsKept, KeepsRows}
 use Rattle.hotel_statements.specs.Tables.{rows_in}
 use Rattle.hotel_statements.specs.NewDesk.{IsEmptyDesk}
-use Rattle.hotel_tables.specs.Opening.{FaultFits, IsOfCall, NamesNoTable}
+use Rattle.hotel_tables.specs.Applied.{LeavesAll}
+use Rattle.hotel_tables.specs.Opening.{IsOfVersion, IsSoundDesk, Continues, IsUpgraded, FaultFitsIn}
+use Rattle.hotel_tables.specs.Opening.{IsOfCall, NamesNoTable}
 
 -- the fault of a file whose opening failed
 abbrev pub file_fault : Error → FileFault
@@ -39,27 +41,32 @@ file_fault _ = File
 pub record AreBooksOf (old new : State) : Type 0 where
   -- of a database that has nothing an empty desk is made; a crash leaves nothing or that desk
   pub made : old.now.schema ≡ no_schema → (IsKept new → rows_in new.now.trees ≡ no_rows) × Survives old new IsEmptyDesk
-  -- any other is a desk's, whose rows are kept; a crash leaves nothing new
-  pub found : ¬ (old.now.schema ≡ no_schema) → (old.now.schema ≡ desk_schema) × KeepsRows old new × (IsKept old → Survives old new (λ _. ⊥))
+  -- any other is a desk's, whose rows are kept; of one of the first version one of the second is made. A crash leaves
+  -- what it could leave before, or the whole of that
+  pub found : ¬ (old.now.schema ≡ no_schema) → IsOfVersion old.now.schema
+      × (IsKept new → IsKept old × Continues old.now new.now) × (IsKept old → Survives old new (IsUpgraded old.now))
+  -- once that was made, a crash leaves it
+  pub whole : old.now.schema ≡ first_schema → IsKept new → LeavesAll new
   -- the rows are sound
   pub sound : IsKept new → IsSound (rows_in new.now.trees)
 
 -- Why a database that had tables gave no books, from its state then to that in which it is left.
 pub record LeavesDatabase (old new : State) (why : OpenFault) : Type 0 where
-  -- no row is changed, and a crash leaves nothing new
+  -- no row is changed, and a crash leaves what it could leave before, or the whole desk that was to be made of one of
+  -- the first version
   pub same : KeepsRows old new
-  pub crash : IsKept old → Survives old new (λ _. ⊥)
+  pub crash : IsKept old → Survives old new (IsUpgraded old.now)
   -- over a desk's tables: a table is called damaged where it is the first that is, and it is no desk's for want of meta's one row
-  pub fits : IsKept old → HasCleanDisk new → old.now.schema ≡ desk_schema → FaultFits old.now.trees why
+  pub fits : IsKept old → HasCleanDisk new → FaultFitsIn old.now why
   -- tables that books kept are never refused
-  pub kept : IsKept old → HasCleanDisk new → IsDesk old → IsSound (rows_in old.now.trees) → IsOfCall why
+  pub kept : IsKept old → HasCleanDisk new → IsSoundDesk old → IsOfCall why
 
 -- Why a database that was opened gave no books.
 pub record IsWhyNone {S : Type 0} (shown : Held S → State) (old : State) (why : OpenFault) (left : Option (Held S)) : Type 0 where
   -- it has nothing: memory was wanting, or a call of the store failed
   pub bare : old.now.schema ≡ no_schema → IsOfCall why
   -- its tables are no desk's: none is called damaged
-  pub foreign : ¬ (old.now.schema ≡ desk_schema) → NamesNoTable why
+  pub foreign : ¬ IsOfVersion old.now.schema → NamesNoTable why
   -- the connection is dropped only where the database had nothing
   pub leaves : MatchOption left (old.now.schema ≡ no_schema) (λ c. LeavesDatabase old (shown c) why)
 

@@ -1,53 +1,79 @@
 -- What is tested of the tables that are read when books are opened, and what opening promises.
-use Rattle.std.specs.Prelude.{◌≡◌, ◌&&◌, ℤ, pos, Bool, true, false, List, [], ◌∷◌, map, Some, Result, Ok, Err, IfOk, IfErr, OnOk, IsTrue}
+use Rattle.std.specs.Prelude.{◌≡◌, ◌⊎◌, ◌&&◌, ℤ, pos, Bool, true, false, List, [], ◌∷◌, map, Option, Some, None, Vec}
+use Rattle.std.specs.Prelude.{Result, Ok, Err, IfOk, IfErr, OnOk, OnErr, IsTrue}
 use Rattle.std.specs.List.{list_all, AllByRecursion}
+use Rattle.std.specs.declared.alloc.Global.{Global}
 use Rattle.sqlite_value.specs.declared.value.Value.TheVariants.{Int}
 use Rattle.sqlite.specs.Order.{Row, column}
 use Rattle.sqlite.specs.Tree.{Trees}
+use Rattle.sqlite.specs.Schema.{Schema}
+use Rattle.sqlite.specs.Effect.{Database}
 use Rattle.sqlite.specs.Held.{Held}
 use Rattle.sqlite.specs.State.{State, HasCleanDisk, Survives}
 use Rattle.keycard_rules.specs.declared.issued.LookFault.{LookFault}
 use Rattle.keycard_rules.specs.declared.issued.LookFault.TheVariants as look
+use Rattle.hotel_core.specs.Model.Sound.{IsSound}
 use Rattle.hotel_core.specs.Model.SoundRooms.{are_in_order}
 use Rattle.hotel_rows.specs.declared.stored.Stored.{Stored}
 use Rattle.hotel_statements.specs.declared.plain_rows.PlainMeta.{PlainMeta}
 use Rattle.hotel_statements.specs.declared.plain_rows.NumberedInside.{NumberedInside}
-use Rattle.hotel_statements.specs.Columns.{meta_columns, kind_columns, room_columns, stay_columns, code_columns, card_columns, inside_columns, note_columns, fit_columns}
-use Rattle.hotel_statements.specs.PlainRows.{maybe, kind_shown, room_shown, stay_shown, code_shown, card_shown, inside_shown, note_shown, fit_shown, ArePlainRows}
+use Rattle.hotel_statements.specs.Columns.{meta_columns, kind_columns, room_columns, stay_columns}
+use Rattle.hotel_statements.specs.Columns.{code_columns, card_columns, inside_columns, note_columns}
+use Rattle.hotel_statements.specs.PlainRows.{maybe, kind_shown, room_shown, stay_shown, code_shown, card_shown}
+use Rattle.hotel_statements.specs.PlainRows.{inside_shown, note_shown, ArePlainRows}
 use Rattle.hotel_statements.specs.PlainRows.{kind_order, room_order, stay_order, code_order, card_order, inside_order, note_order, fit_order}
 use Rattle.hotel_statements.specs.PlainRows.{may_be_natural, room_natural, stay_natural, code_natural, card_natural, inside_natural, note_natural, fit_natural}
 use Rattle.hotel_tables.specs.declared.open_fault.OpenFault.{OpenFault}
 use Rattle.hotel_tables.specs.declared.open_fault.OpenFault.TheVariants as fault
+use Rattle.hotel_tables.specs.declared.opening.Found.{Found}
 use Rattle.hotel_rows.specs.declared.counts.Counts.{Counts}
+use Rattle.hotel_rows.specs.declared.stored.PlainFit.{PlainFit}
 use Rattle.hotel_rows.specs.declared.stored.PlainInside.{PlainInside}
 use Rattle.hotel_rows.specs.Damage.{first_damaged_of}
-use Rattle.hotel_statements.specs.Tables.{HasId, AreApartIds, rows_in}
-use Rattle.hotel_statements.specs.Books.{IsKept, IsBooks, KeepsRows}
+use Rattle.hotel_statements.specs.declared.version.Version.{Version}
+use Rattle.hotel_statements.specs.declared.version.Version.TheVariants.{First, Second}
+use Rattle.hotel_statements.specs.Schema.{first_schema, desk_schema, schema_of}
+use Rattle.hotel_statements.specs.Tables.{HasId, AreApartIds, AreTablesOf, number_of_version, rows_in, rows_of_version}
+use Rattle.hotel_statements.specs.Books.{IsKept, IsBooks, IsDesk, KeepsRows}
+use Rattle.hotel_statements.specs.WholeTables.{IsOurs, AreFitRows}
+use Rattle.hotel_statements.specs.Upgrade.{IsFirstDesk, AreRoomsIn, IsUpgradeOf}
+use Rattle.hotel_tables.specs.Applied.{LeavesAll}
 use Rattle.hotel_tables.specs.TableBooks.{IsCounted}
+
+-- the fits are in the order of their key, where there is a table of them
+abbrev pub fits_rise : Option (Vec PlainFit Global) → Bool
+fits_rise None = true
+fits_rise (Some fits) = are_in_order fit_order fits.items
+
+abbrev pub fits_natural : Option (Vec PlainFit Global) → Bool
+fits_natural None = true
+fits_natural (Some fits) = list_all fit_natural fits.items
 
 -- each table is in the order of its key
 abbrev pub all_rise : Stored → Bool
 all_rise s =
     are_in_order kind_order s.kinds.items && are_in_order room_order s.rooms.items && are_in_order stay_order s.stays.items && are_in_order code_order s.codes.items
     && are_in_order card_order s.cards.items && are_in_order inside_order s.inside.items && are_in_order note_order s.notes.items
-    && are_in_order fit_order s.fits.items
+    && fits_rise s.fits
 
 -- no number is below 0
 abbrev pub all_natural : Stored → Bool
 all_natural s =
     may_be_natural s.day && list_all room_natural s.rooms.items && list_all stay_natural s.stays.items && list_all code_natural s.codes.items
     && list_all card_natural s.cards.items && list_all inside_natural s.inside.items && list_all note_natural s.notes.items
-    && list_all fit_natural s.fits.items
+    && fits_natural s.fits
 
--- the one row of meta, and that it isn't there
-abbrev pub IsMetaRow : List PlainMeta → PlainMeta → Type 0
-IsMetaRow meta plain = (meta ≡ plain ∷ []) × (plain.id ≡ pos 1) × (plain.version ≡ pos 2)
+-- the one row of meta, of a version, and that it isn't there
+abbrev pub IsMetaRow : Version → List PlainMeta → PlainMeta → Type 0
+IsMetaRow version meta plain =
+    (meta ≡ plain ∷ []) × (plain.id ≡ pos 1) × (plain.version ≡ pos (number_of_version version))
 
-abbrev pub LacksRow : List PlainMeta → OpenFault → Type 0
-LacksRow meta fault.Memory = Unit {0}
-LacksRow meta fault.Store = Unit {0}
-LacksRow meta fault.NotADesk = (plain : PlainMeta) → meta ≡ plain ∷ [] → ¬ (plain.version ≡ pos 2)
-LacksRow meta (fault.Damaged t) = ⊥
+abbrev pub LacksRow : Version → List PlainMeta → OpenFault → Type 0
+LacksRow version meta fault.Memory = Unit {0}
+LacksRow version meta fault.Store = Unit {0}
+LacksRow version meta fault.NotADesk =
+    (plain : PlainMeta) → meta ≡ plain ∷ [] → ¬ (plain.version ≡ pos (number_of_version version))
+LacksRow version meta (fault.Damaged t) = ⊥
 
 abbrev pub id_inside : NumberedInside → ℤ
 id_inside l = l.id
@@ -55,9 +81,9 @@ id_inside l = l.id
 abbrev pub plain_inside : NumberedInside → PlainInside
 plain_inside l = l.plain
 
--- The plain rows are those of the tables, each in the order of its key, and meta has its one row.
-pub record AreStored (s : Stored) (db : Trees) : Type 0 where
-  pub version : s.version ≡ pos 2
+-- The plain rows are those of the tables of a version, each in the order of its key, and meta has its one row.
+pub record AreStored (version : Version) (s : Stored) (db : Trees) : Type 0 where
+  pub version_is : s.version ≡ pos (number_of_version version)
   pub meta : map meta_columns (db 0) ≡ (Int (pos 1) ∷ Int s.version ∷ maybe s.day ∷ []) ∷ []
   pub kinds : ArePlainRows kind_columns kind_shown s.kinds.items (db 1)
   pub rooms : ArePlainRows room_columns room_shown s.rooms.items (db 3)
@@ -66,23 +92,51 @@ pub record AreStored (s : Stored) (db : Trees) : Type 0 where
   pub cards : ArePlainRows card_columns card_shown s.cards.items (db 8)
   pub inside : ArePlainRows inside_columns inside_shown s.inside.items (db 9)
   pub notes : ArePlainRows note_columns note_shown s.notes.items (db 11)
-  pub fits : ArePlainRows fit_columns fit_shown s.fits.items (db 13)
+  pub fits : AreFitRows version s.fits db
   pub rise : all_rise s ≡ true
 
 -- the rows of those inside have numbers, no two the same
 abbrev pub AreApartInside : Trees → Type 0
 AreApartInside db = AllByRecursion HasId (db 9) × AreApartIds (db 9)
 
--- meta has exactly one row, of version 2
-abbrev pub HasMetaRow : Trees → Type 0
-HasMetaRow db = (row : Row) × (db 0 ≡ row ∷ []) × (column (meta_columns row) 1 ≡ Int (pos 2))
+-- meta has exactly one row, of this version
+abbrev pub HasMetaRow : Version → Trees → Type 0
+HasMetaRow version db =
+    (row : Row) × (db 0 ≡ row ∷ []) × (column (meta_columns row) 1 ≡ Int (pos (number_of_version version)))
 
--- what a fault says of the tables
-abbrev pub FaultFits : Trees → OpenFault → Type 0
-FaultFits db fault.Memory = Unit {0}
-FaultFits db fault.Store = Unit {0}
-FaultFits db fault.NotADesk = ¬ HasMetaRow db
-FaultFits db (fault.Damaged t) = (s : Stored) × AreStored s db × (first_damaged_of s ≡ Some t)
+-- what a fault says of the tables of a version
+abbrev pub FaultFits : Version → Trees → OpenFault → Type 0
+FaultFits version db fault.Memory = Unit {0}
+FaultFits version db fault.Store = Unit {0}
+FaultFits version db fault.NotADesk = ¬ HasMetaRow version db
+FaultFits version db (fault.Damaged t) = (s : Stored) × AreStored version s db × (first_damaged_of s ≡ Some t)
+
+-- what a fault says of a database that has the tables of a version
+abbrev pub FaultFitsIn : Database → OpenFault → Type 0
+FaultFitsIn db why = (version : Version) → db.schema ≡ schema_of version → FaultFits version db.trees why
+
+-- the tables are those of a desk, of one of the versions
+abbrev pub IsOfVersion : Schema → Type 0
+IsOfVersion schema = (version : Version) × (schema ≡ schema_of version)
+
+-- The tables are those of a desk that books of a version left, and nothing is left uncommitted.
+abbrev pub IsDeskOf : Version → State → Type 0
+IsDeskOf First s = IsFirstDesk s
+IsDeskOf Second s = IsDesk s
+
+-- The tables are those of a desk of one of the versions, and what it holds is sound.
+abbrev pub IsSoundDesk : State → Type 0
+IsSoundDesk s = (version : Version) × IsDeskOf version s × IsSound (rows_of_version version s.now.trees)
+
+-- Of a desk of the first version one of the second was made, with its rows; one of the second is as it was.
+abbrev pub Continues : Database → Database → Type 0
+Continues old new =
+    ((old.schema ≡ desk_schema) × (new ≡ old))
+    ⊎ ((old.schema ≡ first_schema) × (new.schema ≡ desk_schema) × (rows_in new.trees ≡ rows_of_version First old.trees))
+
+-- the trees are the whole of the desk of the second version that is made of one of the first
+abbrev pub IsUpgraded : Database → Trees → Type 0
+IsUpgraded old db = (old.schema ≡ first_schema) × IsUpgradeOf old.trees db
 
 -- memory was wanting, or a call of the store failed
 abbrev pub IsOfCall : OpenFault → Type 0
@@ -110,16 +164,37 @@ Told (Err fault.Store) P = Unit {0}
 Told (Err fault.NotADesk) P = P
 Told (Err (fault.Damaged t)) P = P
 
--- What opening promises, of a connection from old to new: its books, what is counted of their rows, and what a fault says of the tables.
+-- What is found in the trees of a version's tables, whose rows are sound: what books count of these, and the rooms.
+pub record IsFound (version : Version) (found : Found) (db : Trees) : Type 0 where
+  pub tables : AreTablesOf version db
+  pub counted : IsCounted found.counts.kinds found.counts.nights (rows_of_version version db)
+  pub rooms : AreRoomsIn found.rooms.items db
+
+-- What the reading of a version's tables promises, of a connection from old to new: what is found there, and what a
+-- fault says of the tables.
 -- It changes no row, and a crash in it leaves nothing new.
-pub record Opens (old new : State) (result : Result Counts OpenFault) : Type 0 where
-  pub books : OnOk result (IsBooks new)
-  pub autocommit : new.in_transaction ≡ false
+pub record Opens (version : Version) (old new : State) (result : Result Found OpenFault) : Type 0 where
+  pub ours : IsOurs version new
   pub keeps : KeepsRows old new
-  pub counted : IsKept new → IfOk result (λ c. IsCounted c.kinds c.nights (rows_in old.now.trees))
-  pub fault : IsKept new → IfErr result (FaultFits old.now.trees)
+  pub found : IsKept new → IfOk result (λ found. IsFound version found old.now.trees)
+  pub fault : IsKept new → IfErr result (FaultFits version old.now.trees)
   pub open_on : IsKept old → HasCleanDisk new → Told result (IsTrue new.is_open)
   pub crash : Survives old new (λ _. IsKept old → ⊥)
+
+-- What the opening of a desk promises, of a connection from old to new: its books, what is counted of their rows, and
+-- what a fault says of the tables. A crash in it, or after it, leaves what it could leave before, or the whole desk
+-- that is made of one of the first version.
+pub record Enters (old new : State) (result : Result Counts OpenFault) : Type 0 where
+  pub autocommit : new.in_transaction ≡ false
+  pub books : OnOk result (IsBooks new)
+  pub was : IsKept new → IsKept old
+  pub continues : IsKept new → OnOk result (Continues old.now new.now)
+  -- once one of the second was made, a crash leaves that
+  pub whole : old.now.schema ≡ first_schema → IsKept new → OnOk result (LeavesAll new)
+  pub same : IsKept new → OnErr result (new.now ≡ old.now)
+  pub counted : IsKept new → IfOk result (λ c. IsCounted c.kinds c.nights (rows_in new.now.trees))
+  pub fault : IsKept old → HasCleanDisk new → IfErr result (FaultFitsIn old.now)
+  pub crash : IsKept old → Survives old new (IsUpgraded old.now)
 
 -- Over this store nothing but its own calls writes, as in memory: each state of a connection is clean.
 abbrev pub IsAlwaysClean : {S : Type 0} → (Held S → State) → Type 0

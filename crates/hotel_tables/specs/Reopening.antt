@@ -11,15 +11,19 @@ use Rattle.sqlite.specs.Closing.{IsCopied}
 use Rattle.hotel_core.specs.Model.Sound.{IsSound}
 use Rattle.hotel_rows.specs.declared.stored.Stored.{Stored}
 use Rattle.hotel_statements.specs.Books.{IsKept, IsBooks}
-use Rattle.hotel_statements.specs.Tables.{AreTables, rows_in}
+use Rattle.hotel_statements.specs.declared.version.Version.{Version}
+use Rattle.hotel_statements.specs.Tables.{AreTablesOf, rows_of_version}
 use Rattle.hotel_rows.specs.Stored.{rows_of}
 use Rattle.hotel_rows.specs.Damage.{first_damaged_of}
 use Rattle.hotel_tables.specs.Opening.{AreStored, HasMetaRow, IsAlwaysClean}
 
--- What is read of a desk's tables: meta's one row is there, the rows read are those of the tables, and where these are sound no table is damaged.
+-- What is read of the tables of a desk of either version: meta's one row is there, the rows read are those of the
+-- tables, and where these are sound no table is damaged.
 abbrev pub ReadUndamaged : Type 0
-ReadUndamaged = (db : Trees) → AreTables db
-    → HasMetaRow db × ((s : Stored) → AreStored s db → (rows_of s ≡ rows_in db) × (IsSound (rows_in db) → first_damaged_of s ≡ None))
+ReadUndamaged = (version : Version) (db : Trees) → AreTablesOf version db
+    → HasMetaRow version db
+    × ((s : Stored) → AreStored version s db
+    → (rows_of s ≡ rows_of_version version db) × (IsSound (rows_of_version version db) → first_damaged_of s ≡ None))
 
 -- Where a close copied the books' last commit into these files and an open found what they hold, the connection has the tables and rows of the books.
 abbrev pub FilesKeepBooks : {D : Type 0} → Ghosts D → Type 0

@@ -1,23 +1,27 @@
-//! Whether a database has the tables of a desk.
+//! Whether a database has the tables of a desk, and of which version.
 ghost use Rattle.std.specs.Prelude.{◌≡◌, true, IfOk, IfErr};
 ghost use Rattle.sqlite.specs.Held.{state};
 ghost use Rattle.sqlite.specs.Steps.{over_memory};
-ghost use Rattle.sqlite.specs.Tree.{Trees};
-ghost use Rattle.hotel_statements.specs.Schema.{desk_schema};
-ghost use Rattle.hotel_tables.specs.Opening.{FaultFits, NamesNoTable};
+ghost use Rattle.hotel_statements.specs.Schema.{first_schema, desk_schema, schema_of};
+ghost use Rattle.hotel_tables.specs.Opening.{IsOfVersion, IsOfCall, NamesNoTable};
 
 use crate::create::make_desk;
 use crate::open_fault::OpenFault;
-use hotel_statements::fault_of;
-use hotel_statements::same_schema::same_schema;
+use hotel_statements::same_schema::{same_front, same_schema};
+use hotel_statements::{Version, fault_of};
 use keycard_rules::LookFault;
 use sqlite::{Alter, Connection, MemStore};
 use std::alloc::Global;
 
+/// How many tables the first version has, and how many indexes of their keys.
+const FIRST_TABLES: usize = 8;
+
+const FIRST_INDEXES: usize = 5;
+
 /// An empty desk in memory.
 fn desk_in_memory(alloc: Global) -> Result<Connection<MemStore>, OpenFault>
     ensures ok { IfOk result (λ conn. (state over_memory conn).now.schema ≡ desk_schema) }
-    ensures err { (db : Trees) → IfErr result (FaultFits db) }
+    ensures err { IfErr result IsOfCall }
     ensures unnamed { IfErr result NamesNoTable }
 {
     let Ok(mut conn) = Connection::open_in_memory(alloc) else {
@@ -41,20 +45,35 @@ fn has_tables_of<S: Alter>(conn: &Connection<S>, desk: &Connection<MemStore>) ->
     same_schema(conn.schema(), desk.schema())
 }
 
-/// Finds out whether the database has the tables of a desk.
+/// Whether a database has the tables of the first version: those of a desk in memory but the last.
+fn has_first_tables_of<S: Alter>(conn: &Connection<S>, desk: &Connection<MemStore>) -> bool
+    requires { (state over_memory desk.now).now.schema ≡ desk_schema }
+    ensures sound { result ≡ true → (state S.Store conn.now).now.schema ≡ first_schema }
+    ensures full { (state S.Store conn.now).now.schema ≡ first_schema → result ≡ true }
+{
+    same_front(conn.schema(), desk.schema(), FIRST_TABLES, FIRST_INDEXES)
+}
+
+/// The version of the desk whose tables the database has.
 ///
 /// A desk is made in memory to compare them with.
-pub(crate) fn test_schema<S: Alter>(alloc: Global, conn: &Connection<S>) -> Result<(), OpenFault>
-    ensures ok { IfOk result (λ _. (state S.Store conn.now).now.schema ≡ desk_schema) }
-    ensures err { (state S.Store conn.now).now.schema ≡ desk_schema → (db : Trees) → IfErr result (FaultFits db) }
+pub(crate) fn version_of<S: Alter>(
+    alloc: Global,
+    conn: &Connection<S>,
+) -> Result<Version, OpenFault>
+    ensures ok { IfOk result (λ version. (state S.Store conn.now).now.schema ≡ schema_of version) }
+    ensures err { IsOfVersion (state S.Store conn.now).now.schema → IfErr result IsOfCall }
     ensures unnamed { IfErr result NamesNoTable }
 {
     let desk = match desk_in_memory(alloc) {
         Ok(desk) => desk,
         Err(why) => return Err(why),
     };
-    if !has_tables_of(conn, &desk) {
-        return Err(OpenFault::NotADesk);
+    if has_tables_of(conn, &desk) {
+        return Ok(Version::Second);
     }
-    Ok(())
+    if has_first_tables_of(conn, &desk) {
+        return Ok(Version::First);
+    }
+    Err(OpenFault::NotADesk)
 }

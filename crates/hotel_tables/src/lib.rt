@@ -1,13 +1,16 @@
 //! The desk's books over SQL tables: each look-up is one keyed statement, and no rows are kept in memory. The statements are those
-//! of `hotel_statements`; here are the transactions of a change and of a new desk, the counts beside the tables, and a desk's files.
+//! of `hotel_statements`; here are the transactions of a change, of a new desk and of a desk's new version, the counts
+//! beside the tables, and a desk's files.
 #![tactic(auto)]
 
 mod apply;
 mod counted;
 mod create;
 mod desk_schema;
+mod entering;
 mod files;
 mod laws;
+mod migration;
 mod open_books;
 mod open_fault;
 mod opening;

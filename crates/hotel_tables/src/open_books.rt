@@ -3,21 +3,24 @@ ghost use Rattle.std.specs.Prelude.{◌≡◌, false, IfOk, IfErr};
 ghost use Rattle.sqlite.specs.Held.{state};
 ghost use Rattle.sqlite.specs.State.{HasCleanDisk, IsLive, Survives};
 ghost use Rattle.hotel_core.specs.Model.Sound.{IsSound};
-ghost use Rattle.hotel_statements.specs.Schema.{desk_schema};
-ghost use Rattle.hotel_statements.specs.Books.{IsBooks, IsDesk, IsKept, KeepsRows};
+ghost use Rattle.hotel_statements.specs.Schema.{first_schema};
+ghost use Rattle.hotel_statements.specs.Books.{IsBooks, IsKept, KeepsRows};
 ghost use Rattle.hotel_statements.specs.Tables.{rows_in};
-ghost use Rattle.hotel_tables.specs.Opening.{FaultFits, IsAlwaysClean, IsOfCall, NamesNoTable};
+ghost use Rattle.hotel_tables.specs.Applied.{LeavesAll};
+ghost use Rattle.hotel_tables.specs.Opening.{Continues, IsUpgraded, FaultFitsIn, IsOfVersion, IsSoundDesk};
+ghost use Rattle.hotel_tables.specs.Opening.{IsAlwaysClean, IsOfCall, NamesNoTable};
 
-use crate::desk_schema::test_schema;
+use crate::desk_schema::version_of;
+use crate::entering::enter;
 use crate::open_fault::OpenFault;
-use crate::opening::find_counts;
 use crate::table_books::TableBooks;
 use sqlite::{Alter, Connection};
 use std::alloc::Global;
 
 impl<S: Alter + Drop> TableBooks<S> {
-    /// Books over the tables of a desk, which are read whole and tested; no row is changed.
+    /// Books over the tables of a desk, which are read whole and tested.
     ///
+    /// Of a desk of the first version whose rows are sound one of the second is made in one transaction; its rows stay.
     /// A database with other tables is no desk's. A desk is made in memory to compare them with.
     /// On a fault the connection is given back, and the store holds what it held.
     pub fn open_or_return(
@@ -25,26 +28,35 @@ impl<S: Alter + Drop> TableBooks<S> {
         mut conn: Connection<S>,
     ) -> Result<TableBooks<S>, (OpenFault, Connection<S>)>
         requires alone { (state S.Store conn).in_transaction ≡ false }
-        ensures keeps { IfOk result (λ b. KeepsRows (state S.Store conn) (state S.Store b.conn)) }
+        ensures was { IfOk result (λ b. IsKept (state S.Store b.conn) → IsKept (state S.Store conn)) }
+        ensures continues { IfOk result (λ b. IsKept (state S.Store b.conn)
+            → Continues (state S.Store conn).now (state S.Store b.conn).now) }
         ensures sound { IfOk result (λ b. IsKept (state S.Store b.conn) → IsSound (rows_in (state S.Store b.conn).now.trees)) }
         ensures unfailed { IfOk result (λ b. (b.memory ≡ 0) × (b.store ≡ 0)) }
-        ensures schema { IfOk result (λ _. (state S.Store conn).now.schema ≡ desk_schema) }
-        ensures crash { IsKept (state S.Store conn) → IfOk result (λ b. Survives (state S.Store conn) (state S.Store b.conn) (λ _. ⊥)) }
+        ensures schema { IfOk result (λ _. IsOfVersion (state S.Store conn).now.schema) }
+        ensures crash { IsKept (state S.Store conn)
+            → IfOk result (λ b. Survives (state S.Store conn) (state S.Store b.conn)
+            (IsUpgraded (state S.Store conn).now)) }
+        ensures whole { (state S.Store conn).now.schema ≡ first_schema
+            → IfOk result (λ b. IsKept (state S.Store b.conn) → LeavesAll (state S.Store b.conn)) }
         ensures outside { IfErr result (λ e. (state S.Store e.1).in_transaction ≡ false) }
         ensures same { IfErr result (λ e. KeepsRows (state S.Store conn) (state S.Store e.1)) }
-        ensures left { IsKept (state S.Store conn) → IfErr result (λ e. Survives (state S.Store conn) (state S.Store e.1) (λ _. ⊥)) }
-        ensures foreign { ¬ ((state S.Store conn).now.schema ≡ desk_schema) → IfErr result (λ e. NamesNoTable e.0) }
-        ensures fault { IfErr result (λ e. IsKept (state S.Store conn) → HasCleanDisk (state S.Store e.1) → (state S.Store conn).now.schema ≡ desk_schema
-            → FaultFits (state S.Store conn).now.trees e.0) }
-        ensures kept { IfErr result (λ e. IsKept (state S.Store conn) → HasCleanDisk (state S.Store e.1) → IsDesk (state S.Store conn)
-            → IsSound (rows_in (state S.Store conn).now.trees) → IsOfCall e.0) }
+        ensures left { IsKept (state S.Store conn)
+            → IfErr result (λ e. Survives (state S.Store conn) (state S.Store e.1)
+            (IsUpgraded (state S.Store conn).now)) }
+        ensures foreign { ¬ IsOfVersion (state S.Store conn).now.schema → IfErr result (λ e. NamesNoTable e.0) }
+        ensures fault { IfErr result (λ e. IsKept (state S.Store conn) → HasCleanDisk (state S.Store e.1)
+            → FaultFitsIn (state S.Store conn).now e.0) }
+        ensures kept { IfErr result (λ e. IsKept (state S.Store conn) → HasCleanDisk (state S.Store e.1)
+            → IsSoundDesk (state S.Store conn) → IsOfCall e.0) }
     {
         // Outside a transaction nothing is uncommitted.
         let _settled = conn.is_autocommit();
-        if let Err(why) = test_schema(alloc, &conn) {
-            return Err((why, conn));
-        }
-        match find_counts(alloc, &mut conn) {
+        let version = match version_of(alloc, &conn) {
+            Ok(version) => version,
+            Err(why) => return Err((why, conn)),
+        };
+        match enter(alloc, &mut conn, version) {
             Ok(counts) => Ok(TableBooks {
                 alloc,
                 conn,
@@ -60,16 +72,22 @@ impl<S: Alter + Drop> TableBooks<S> {
     /// As `open_or_return`; on a fault the connection is dropped.
     pub fn open(alloc: Global, conn: Connection<S>) -> Result<TableBooks<S>, OpenFault>
         requires alone { (state S.Store conn).in_transaction ≡ false }
-        ensures keeps { IfOk result (λ b. KeepsRows (state S.Store conn) (state S.Store b.conn)) }
+        ensures was { IfOk result (λ b. IsKept (state S.Store b.conn) → IsKept (state S.Store conn)) }
+        ensures continues { IfOk result (λ b. IsKept (state S.Store b.conn)
+            → Continues (state S.Store conn).now (state S.Store b.conn).now) }
         ensures sound { IfOk result (λ b. IsKept (state S.Store b.conn) → IsSound (rows_in (state S.Store b.conn).now.trees)) }
         ensures unfailed { IfOk result (λ b. (b.memory ≡ 0) × (b.store ≡ 0)) }
-        ensures schema { IfOk result (λ _. (state S.Store conn).now.schema ≡ desk_schema) }
-        ensures fault { IsAlwaysClean (state S.Store) → IsKept (state S.Store conn) → (state S.Store conn).now.schema ≡ desk_schema
-            → IfErr result (FaultFits (state S.Store conn).now.trees) }
-        ensures crash { IsKept (state S.Store conn) → IfOk result (λ b. Survives (state S.Store conn) (state S.Store b.conn) (λ _. ⊥)) }
-        ensures foreign { ¬ ((state S.Store conn).now.schema ≡ desk_schema) → IfErr result NamesNoTable }
-        ensures kept { IsAlwaysClean (state S.Store) → IsKept (state S.Store conn) → IsDesk (state S.Store conn) → IsSound (rows_in (state S.Store conn).now.trees)
-            → IfErr result IsOfCall }
+        ensures schema { IfOk result (λ _. IsOfVersion (state S.Store conn).now.schema) }
+        ensures fault { IsAlwaysClean (state S.Store) → IsKept (state S.Store conn)
+            → IfErr result (FaultFitsIn (state S.Store conn).now) }
+        ensures crash { IsKept (state S.Store conn)
+            → IfOk result (λ b. Survives (state S.Store conn) (state S.Store b.conn)
+            (IsUpgraded (state S.Store conn).now)) }
+        ensures whole { (state S.Store conn).now.schema ≡ first_schema
+            → IfOk result (λ b. IsKept (state S.Store b.conn) → LeavesAll (state S.Store b.conn)) }
+        ensures foreign { ¬ IsOfVersion (state S.Store conn).now.schema → IfErr result NamesNoTable }
+        ensures kept { IsAlwaysClean (state S.Store) → IsKept (state S.Store conn)
+            → IsSoundDesk (state S.Store conn) → IfErr result IsOfCall }
     {
         match TableBooks::open_or_return(alloc, conn) {
             Ok(books) => Ok(books),

@@ -1,33 +1,47 @@
 //! Books over tables that are there: the tables are read whole and tested, and what books keep in memory is counted.
-ghost use Rattle.std.specs.Prelude.{◌≡◌, ◌↔◌, None, true, map, IfOk, IfErr};
+ghost use Rattle.std.specs.Prelude.{◌≡◌, ◌↔◌, pos, None, true, map, IfOk, IfErr};
 ghost use Rattle.std.specs.Ordering.{int_cmp, is_lt};
 ghost use Rattle.sqlite.specs.Held.{state};
 ghost use Rattle.sqlite.specs.Tree.{Trees};
 ghost use Rattle.hotel_core.specs.Model.SoundRooms.{are_in_order};
 ghost use Rattle.hotel_rows.specs.Counts.{IsCountedOf};
 ghost use Rattle.hotel_rows.specs.Damage.{first_damaged_of};
-ghost use Rattle.hotel_statements.specs.Tables.{AreApart, AreTables, rows_in};
-ghost use Rattle.hotel_tables.specs.TableBooks.{IsCounted};
+ghost use Rattle.hotel_rows.specs.Keys.{room_key};
+ghost use Rattle.hotel_statements.specs.declared.version.Version.{Version};
+ghost use Rattle.hotel_statements.specs.Tables.{AreApart, number_of_version};
 ghost use Rattle.hotel_statements.specs.WholeTables.{IsOurs, AreRead};
-ghost use Rattle.hotel_tables.specs.Opening.{AreStored, AreApartInside, IsMetaRow, FaultFits, Opens, LacksRow, all_rise, all_natural, plain_inside, id_inside, fault_for};
+ghost use Rattle.hotel_tables.specs.Opening.{AreStored, AreApartInside, IsMetaRow, IsFound, FaultFits, Opens, LacksRow};
+ghost use Rattle.hotel_tables.specs.Opening.{fits_rise, fits_natural, all_rise, all_natural, plain_inside, id_inside};
+ghost use Rattle.hotel_tables.specs.Opening.{fault_for};
 
 use crate::open_fault::OpenFault;
-use hotel_rows::{Counts, PlainInside, Stored, counts_of, first_damaged};
+use hotel_rows::{Counts, PlainFit, PlainInside, Stored, counts_of, first_damaged, rooms_of};
+use hotel_statements::Version;
 use hotel_statements::plain_rows::{self, NumberedInside, PlainMeta};
 use hotel_statements::whole_tables::{self, Tables, read_tables, rise};
-use keycard_rules::{LookFault, Memory};
+use keycard_rules::{LookFault, Memory, RoomNo};
 use sqlite::{Alter, Connection};
 use std::alloc::Global;
 
-/// The one row of meta.
-fn meta_row(meta: &[PlainMeta]) -> Result<PlainMeta, OpenFault>
-    ensures ok { IfOk result (IsMetaRow meta.now) }
-    ensures err { IfErr result (LacksRow meta.now) }
+/// The number of a version, which meta tells.
+fn number_of(version: Version) -> i64
+    ensures { result ≡ pos (number_of_version version) }
+{
+    match version {
+        Version::First => 1,
+        Version::Second => 2,
+    }
+}
+
+/// The one row of meta, of a version.
+fn meta_row(meta: &[PlainMeta], version: Version) -> Result<PlainMeta, OpenFault>
+    ensures ok { IfOk result (IsMetaRow version meta.now) }
+    ensures err { IfErr result (LacksRow version meta.now) }
 {
     let [plain] = meta else {
         return Err(OpenFault::NotADesk);
     };
-    if plain.version != 2 {
+    if plain.version != number_of(version) {
         return Err(OpenFault::NotADesk);
     }
     if plain.id != 1 {
@@ -37,11 +51,11 @@ fn meta_row(meta: &[PlainMeta]) -> Result<PlainMeta, OpenFault>
 }
 
 /// The one row of meta; without it the tables are no desk's.
-fn meta_of(tables: &Tables) -> Result<PlainMeta, OpenFault>
-    ensures ok { IfOk result (IsMetaRow tables.now.meta.items) }
-    ensures err { (db : Trees) → AreRead tables.now db → IfErr result (FaultFits db) }
+fn meta_of(tables: &Tables, version: Version) -> Result<PlainMeta, OpenFault>
+    ensures ok { IfOk result (IsMetaRow version tables.now.meta.items) }
+    ensures err { (db : Trees) → AreRead version tables.now db → IfErr result (FaultFits version db) }
 {
-    meta_row(&tables.meta)
+    meta_row(&tables.meta, version)
 }
 
 /// The numbers of the rows.
@@ -92,6 +106,25 @@ fn plain_rows_inside(alloc: Global, inside: &[NumberedInside]) -> Result<Vec<Pla
     }
 }
 
+/// Whether the fits are in the order of their key, where there is a table of them.
+fn fits_rise(fits: &Option<Vec<PlainFit>>) -> bool
+    ensures { result ≡ fits_rise fits.now }
+{
+    match fits {
+        None => true,
+        Some(fits) => rise(fits),
+    }
+}
+
+fn fits_natural(fits: &Option<Vec<PlainFit>>) -> bool
+    ensures { result ≡ fits_natural fits.now }
+{
+    match fits {
+        None => true,
+        Some(fits) => whole_tables::all_natural(fits),
+    }
+}
+
 /// Whether each table is in the order of its key.
 fn all_rise(stored: &Stored) -> bool
     ensures { result ≡ all_rise stored.now }
@@ -103,7 +136,7 @@ fn all_rise(stored: &Stored) -> bool
         && rise(&stored.cards)
         && rise(&stored.inside)
         && rise(&stored.notes)
-        && rise(&stored.fits)
+        && fits_rise(&stored.fits)
 }
 
 /// Whether no number is below 0.
@@ -117,17 +150,18 @@ fn all_natural(stored: &Stored) -> bool
         && whole_tables::all_natural(&stored.cards)
         && whole_tables::all_natural(&stored.inside)
         && whole_tables::all_natural(&stored.notes)
-        && whole_tables::all_natural(&stored.fits)
+        && fits_natural(&stored.fits)
 }
 
 /// The rows of the tables, where meta has its one row and each table is in the order of its key.
 ///
 /// Rows that aren't in order, which no query shows, are a failure of the store.
-fn stored_of(alloc: Global, tables: Tables) -> Result<Stored, OpenFault>
-    ensures ok { (db : Trees) → AreRead tables db → IfOk result (λ s. AreStored s db × AreApartInside db) }
-    ensures err { (db : Trees) → AreRead tables db → IfErr result (FaultFits db) }
+fn stored_of(alloc: Global, tables: Tables, version: Version) -> Result<Stored, OpenFault>
+    ensures ok { (db : Trees) → AreRead version tables db
+        → IfOk result (λ s. AreStored version s db × AreApartInside db) }
+    ensures err { (db : Trees) → AreRead version tables db → IfErr result (FaultFits version db) }
 {
-    let meta = meta_of(&tables)?;
+    let meta = meta_of(&tables, version)?;
     match are_apart(alloc, &tables.inside) {
         Ok(true) => {}
         Ok(false) => return Err(OpenFault::Store),
@@ -154,7 +188,7 @@ fn stored_of(alloc: Global, tables: Tables) -> Result<Stored, OpenFault>
     Ok(stored)
 }
 
-fn open_fault(why: LookFault) -> OpenFault
+pub(crate) fn open_fault(why: LookFault) -> OpenFault
     ensures { result ≡ fault_for why }
 {
     match why {
@@ -167,8 +201,10 @@ fn open_fault(why: LookFault) -> OpenFault
 ///
 /// Sound rows have no number below 0, so the last test never fails.
 fn sound_counts(alloc: Global, stored: &Stored) -> Result<Counts, OpenFault>
-    ensures ok { IfOk result (λ counts. IsCountedOf stored.now counts × (first_damaged_of stored.now ≡ None) × (all_natural stored.now ≡ true)) }
-    ensures err { (db : Trees) → AreStored stored.now db → IfErr result (FaultFits db) }
+    ensures ok { IfOk result (λ counts. IsCountedOf stored.now counts × (first_damaged_of stored.now ≡ None)
+        × (all_natural stored.now ≡ true)) }
+    ensures err { (version : Version) (db : Trees) → AreStored version stored.now db
+        → IfErr result (FaultFits version db) }
 {
     match first_damaged(alloc, stored) {
         Ok(None) => {}
@@ -184,25 +220,49 @@ fn sound_counts(alloc: Global, stored: &Stored) -> Result<Counts, OpenFault>
     }
 }
 
-/// What is counted of tables that a desk may have.
-fn counts_in(alloc: Global, tables: Tables) -> Result<Counts, OpenFault>
-    ensures ok { (db : Trees) → AreRead tables db → IfOk result (λ counts. AreTables db × IsCounted counts.kinds counts.nights (rows_in db)) }
-    ensures err { (db : Trees) → AreRead tables db → IfErr result (FaultFits db) }
-{
-    let stored = stored_of(alloc, tables)?;
-    sound_counts(alloc, &stored)
+/// What a desk is opened with.
+#[derive(Drop)]
+pub(crate) struct Found {
+    /// What books count of the rows.
+    pub counts: Counts,
+    /// The rooms, in order.
+    pub rooms: Vec<RoomNo>,
 }
 
-/// Reads the tables of a desk and tests them.
+/// What is found in the rows of tables, where none is damaged.
+fn sound_found(alloc: Global, stored: &Stored) -> Result<Found, OpenFault>
+    ensures ok { IfOk result (λ found. IsCountedOf stored.now found.counts × (first_damaged_of stored.now ≡ None)
+        × (all_natural stored.now ≡ true) × (found.rooms.items ≡ map room_key stored.now.rooms.items)) }
+    ensures err { (version : Version) (db : Trees) → AreStored version stored.now db
+        → IfErr result (FaultFits version db) }
+{
+    let counts = sound_counts(alloc, stored)?;
+    match rooms_of(alloc, &stored.rooms) {
+        Ok(rooms) => Ok(Found { counts, rooms }),
+        Err(why) => Err(open_fault(why)),
+    }
+}
+
+/// What is found in tables that a desk of a version may have.
+fn found_in(alloc: Global, tables: Tables, version: Version) -> Result<Found, OpenFault>
+    ensures ok { (db : Trees) → AreRead version tables db → IfOk result (λ found. IsFound version found db) }
+    ensures err { (db : Trees) → AreRead version tables db → IfErr result (FaultFits version db) }
+{
+    let stored = stored_of(alloc, tables, version)?;
+    sound_found(alloc, &stored)
+}
+
+/// Reads the tables of a desk of a version and tests them.
 pub(crate) fn find_counts<S: Alter>(
     alloc: Global,
     conn: &mut Connection<S>,
-) -> Result<Counts, OpenFault>
-    requires { IsOurs (state S.Store conn.old) }
-    ensures { Opens (state S.Store conn.old) (state S.Store conn.new) result }
+    version: Version,
+) -> Result<Found, OpenFault>
+    requires { IsOurs version (state S.Store conn.old) }
+    ensures { Opens version (state S.Store conn.old) (state S.Store conn.new) result }
 {
-    match read_tables(alloc, conn) {
-        Ok(tables) => counts_in(alloc, tables),
+    match read_tables(alloc, conn, version) {
+        Ok(tables) => found_in(alloc, tables, version),
         Err(why) => Err(open_fault(why)),
     }
 }

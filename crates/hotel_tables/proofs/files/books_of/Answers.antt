@@ -14,7 +14,9 @@ returns-in-Ok-open_or_return-clause-books g c =
     let old = state g.S.Store c.in-Ok.conn in
     let was = c.in-Ok-open_or_return.ensures in
     let other : ¬ (old.now.schema ≡ no_schema) = λ bare. true≢false (sym (c.is_bare.ensures.1 bare) ∙ c.if-is_bare.false) in
-    let found = found_books old (state g.S.Store c.in-Ok-open_or_return.found.conn) other was.schema was.keeps was.crash was.sound in
+    let found =
+    found_books old (state g.S.Store c.in-Ok-open_or_return.found.conn) other was.schema
+    was.was was.continues was.crash was.whole was.sound in
     rw c.in-Ok.is found
 
 pub returns-in-Err-open_or_return-clause-fault : goal.returns-in-Err-open_or_return-clause-fault

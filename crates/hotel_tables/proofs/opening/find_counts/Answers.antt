@@ -7,12 +7,18 @@ use Rattle.hotel_tables.proofs.opening.find_counts.Goals as goal
 
 pub returns-in-Ok : goal.returns-in-Ok
 returns-in-Ok g c =
+    let version = c.args.version in
     let old = state g.S.Store c.args.conn.now in
     let new = state g.S.Store c.read_tables.new.conn in
-    opens_to old new c.in-Ok.tables c.counts_in.result (subst (ReadsTo AreRead old new) c.in-Ok.is c.read_tables.ensures) c.counts_in.ensures.ok c.counts_in.ensures.err
+    opens_to old new c.in-Ok.tables c.found_in.result
+    (subst (ReadsTo version (AreRead version) old new) c.in-Ok.is c.read_tables.ensures)
+    c.found_in.ensures.ok c.found_in.ensures.err
 
 pub returns-in-Err : goal.returns-in-Err
 returns-in-Err g c =
+    let version = c.args.version in
     let old = state g.S.Store c.args.conn.now in
     let new = state g.S.Store c.read_tables.new.conn in
-    subst (λ why. Opens old new (Err why)) (sym c.open_fault.ensures) (opens_not old new c.in-Err.why (subst (ReadsTo AreRead old new) c.in-Err.is c.read_tables.ensures))
+    let reads = subst (ReadsTo version (AreRead version) old new) c.in-Err.is c.read_tables.ensures in
+    subst (λ why. Opens version old new (Err why)) (sym c.open_fault.ensures)
+    (opens_not version old new c.in-Err.why reads)

@@ -6,8 +6,13 @@ use Rattle.hotel_tables.proofs.Opened.{fault_lacks}
 use Rattle.hotel_tables.proofs.opening.meta_of.Goals as goal
 
 pub returns-clause-ok : goal.returns-clause-ok
-returns-clause-ok c = IfOk-weaker c.meta_row.result _ _ (λ plain is. subst (λ (meta : List PlainMeta). IsMetaRow meta plain) c.deref.ensures.value is) c.meta_row.ensures.ok
+returns-clause-ok c =
+    IfOk-weaker c.meta_row.result _ _
+    (λ plain is. subst (λ (meta : List PlainMeta). IsMetaRow c.args.version meta plain) c.deref.ensures.value is)
+    c.meta_row.ensures.ok
 
 pub returns-clause-err : goal.returns-clause-err
 returns-clause-err c = λ db read. IfErr-weaker c.meta_row.result _ _ (λ why lacks.
-    fault_lacks db c.args.tables.now.meta.items why read.0.0.0 (subst (λ (meta : List PlainMeta). LacksRow meta why) c.deref.ensures.value lacks)) c.meta_row.ensures.err
+    fault_lacks c.args.version db c.args.tables.now.meta.items why read.0.0.0
+    (subst (λ (meta : List PlainMeta). LacksRow c.args.version meta why) c.deref.ensures.value lacks))
+    c.meta_row.ensures.err

@@ -4,9 +4,10 @@ use Rattle.hotel_tables.proofs.Opened.{fault_fits}
 use Rattle.hotel_tables.proofs.opening.sound_counts.Goals as goal
 
 pub returns-in-Ok-Some-clause-err : goal.returns-in-Ok-Some-clause-err
-returns-in-Ok-Some-clause-err c = λ db stored.
+returns-in-Ok-Some-clause-err c = λ version db stored.
     let h : c.in-Ok-Some.field-0 ≡ first_damaged_of c.args.stored.now = rw c.in-Ok-Some.is at c.first_damaged.ensures in
     (c.args.stored.now, stored, sym h ∙ c.in-Ok-Some.field-0-is)
 
 pub returns-in-Err-counts_of-clause-err : goal.returns-in-Err-counts_of-clause-err
-returns-in-Err-counts_of-clause-err c = λ db stored. rw c.open_fault.ensures (fault_fits db c.in-Err-counts_of.why)
+returns-in-Err-counts_of-clause-err c = λ version db stored.
+    rw c.open_fault.ensures (fault_fits version db c.in-Err-counts_of.why)

@@ -1,8 +1,8 @@
-use Rattle.std.proofs.Common.{◌≡◌, ◌∙◌, sym, ap, subst, map, true, refl, List}
+use Rattle.std.proofs.Common.{◌≡◌, ◌∙◌, sym, ap, subst, map, true, List, arith, rules, to_z-of_z}
 use Rattle.std.specs.Ordering.{int_cmp}
 use Rattle.hotel_statements.specs.declared.plain_rows.NumberedInside.{NumberedInside}
 use Rattle.hotel_tables.specs.Opening.{id_inside, plain_inside}
-use Rattle.hotel_tables.proofs.Opened.{stored_are, ids_apart}
+use Rattle.hotel_tables.proofs.Opened.{stored_are, ids_apart, small_number}
 use Rattle.hotel_statements.specs.Tables.{AreApart}
 use Rattle.hotel_tables.proofs.opening.stored_of.Goals as goal
 
@@ -12,6 +12,8 @@ returns-clause-ok c = λ db read.
     let is = c.in_ok-meta.ensures.ok in
     let apart = subst (λ (ls : List NumberedInside). c.in-Ok-true.field-0 ≡ true → AreApart int_cmp (map id_inside ls)) c.deref.ensures.value c.in-Ok-true.ensures.0 in
     let inside = c.in-Ok.ensures ∙ ap (map plain_inside) c.deref-2.ensures.value in (
-      stored_are t db c.in_ok-meta.meta _ c.in-Ok.inside (rw is.2 refl) read is inside (sym c.all_rise.ensures ∙ c.if-not-all_rise.false),
-      ids_apart t.inside.items db read.1.1.0.0 (apart c.in-Ok-true.field-0-test),
+      stored_are {of = c.args.version} t db c.in_ok-meta.meta _ c.in-Ok.inside
+          (first_of (search (rules, is.2), grind (arith, to_z-of_z, is.2, small_number c.args.version))) read is inside
+          (sym c.all_rise.ensures ∙ c.if-not-all_rise.false),
+      ids_apart t.inside.items db read.1.0.1.0 (apart c.in-Ok-true.field-0-test),
     )

@@ -1,17 +1,21 @@
+use Rattle.std.proofs.Common.{not, ap, ◌∙◌}
 use Rattle.sqlite.specs.Held.{state}
-use Rattle.hotel_tables.proofs.Reread.{of_a_call, refused_fits}
+use Rattle.hotel_tables.proofs.Entered.{ours_of, of_call, sound_of, fits_of_call}
 use Rattle.hotel_tables.proofs.table_books.TableBooks.open_or_return.Goals as goal
 
+pub enter-requires-clause-ours : goal.enter-requires-clause-ours
+enter-requires-clause-ours g c =
+    ours_of (state g.S.Store c.args.conn) c.requires.alone
+    (c.is_autocommit-settled.ensures.settled (c.is_autocommit-settled.ensures.value ∙ ap not c.requires.alone))
+    c.in-Ok.ensures.ok
+
+pub returns-in-Err-enter-clause-kept : goal.returns-in-Err-enter-clause-kept
+returns-in-Err-enter-clause-kept g c = λ kept clean desk.
+    of_call (state g.S.Store c.args.conn) c.in-Err-enter.why (c.in-Err-enter.ensures.fault kept clean) desk
+
 pub returns-in-Err-clause-fault : goal.returns-in-Err-clause-fault
-returns-in-Err-clause-fault g c = λ kept clean same. c.in-Err.ensures.err same (g.S.Store.view c.args.conn.store).trees
+returns-in-Err-clause-fault g c = λ kept clean version is.
+    fits_of_call (state g.S.Store c.args.conn).now c.in-Err.why (c.in-Err.ensures.err (version, is)) version is
 
 pub returns-in-Err-clause-kept : goal.returns-in-Err-clause-kept
-returns-in-Err-clause-kept g c = λ kept clean desk sound.
-    let db = (g.S.Store.view c.args.conn.store).trees in
-    of_a_call db c.in-Err.why desk.tables sound (c.in-Err.ensures.err desk.schema db)
-
-pub returns-in-Err-find_counts-clause-kept : goal.returns-in-Err-find_counts-clause-kept
-returns-in-Err-find_counts-clause-kept g c = λ kept clean desk sound.
-    let old = state g.S.Store c.args.conn in
-    of_a_call old.now.trees c.in-Err-find_counts.why desk.tables sound
-    (refused_fits old (state g.S.Store c.find_counts.new.conn) c.in-Err-find_counts.why c.in-Err-find_counts.ensures kept clean)
+returns-in-Err-clause-kept g c = λ kept clean desk. c.in-Err.ensures.err (sound_of (state g.S.Store c.args.conn) desk)

@@ -1,0 +1,39 @@
+use Rattle.std.proofs.Common.{ap, sym, ◌∙◌, OnOk, rules}
+use Rattle.std.proofs.lemmas.Result.{on_ok_weaker}
+use Rattle.sqlite.specs.Effect.{Database}
+use Rattle.sqlite.specs.Held.{state}
+use Rattle.sqlite.specs.State.{Survives}
+use Rattle.hotel_statements.specs.Books.{IsKept}
+use Rattle.hotel_tables.specs.Applied.{LeavesAll}
+use Rattle.hotel_statements.proofs.Upgraded.{BeginsFirst, Migrates, migrated}
+use Rattle.hotel_tables.proofs.migration.migrate.Goals as goal
+
+pub returns : goal.returns
+returns g c =
+    let old = state g.S.Store c.args.conn.now in
+    let start = state g.S.Store c.transaction-tx.result.conn.now in
+    let new = state g.S.Store c.commit.new.self.0 in
+    let begins : BeginsFirst c.args.rooms.now old start = record {
+      books = c.requires.books;
+      rooms_are = c.requires.rooms;
+      begun = ap (state g.S.Store) c.transaction-tx.ensures.begun;
+    } in
+    let zero : Survives old start (λ _. ⊥) = search rules in
+    let it : Migrates old new c.commit.result =
+    migrated begins c.in_ok-upgrade.ensures.makes c.commit.result zero
+    c.commit.ensures.ended c.commit.ensures.ok
+    c.commit.ensures.err c.commit.ensures.survives in
+    let whole : IsKept new → OnOk c.commit.result (LeavesAll new) = λ kept.
+    on_ok_weaker c.commit.result
+    (λ books db left.
+    g.met.S.Store.settled c.commit.new.self.0.store db kept.1 left
+    ∙ sym (ap (λ (d : Database). d.trees) (books.desk kept).settled)) it.books in
+    record {
+      books = search (rules, it.books);
+      left = search (rules, it.left);
+      was = search (rules, it.was);
+      made = search (rules, it.made);
+      whole = search (rules, whole);
+      same = search (rules, it.same);
+      crash = search (rules, it.crash);
+    }
