@@ -34,9 +34,9 @@ const WITHOUT_CARD: &[&str] = &[
     "INSERT INTO card VALUES (2, 1, 160, 161)",
 ];
 
-/// The scenario's damage; and the rules that look at fits, or at the version: how many codes and notes a room has, that it
-/// is secured by its last code and never by its first, that each code but the first is the later one of a card, and where
-/// the cards are that are inside. One note less than too many is a want of notes.
+/// The scenario's damage; and the rules that look at fits, or at the version: how many codes and notes a room has, that
+/// it is secured by its last code and never by its first, that each code but the first is the later one of a card, and
+/// where the cards are that are inside. One note less than too many is a want of notes.
 static DAMAGES: [Damage; 10] = [
     Damage {
         statements: &["UPDATE code SET place = 5 WHERE place = 1"],

@@ -1,4 +1,4 @@
-//! The opening of a desk of the first version over disks in memory, of which one takes so many calls and then fails each.
+//! The opening of a desk of the first version over disks in memory, of which one takes so many calls and then fails.
 use crate::connections::opened_or_left;
 use crate::first_desks::{first_desk, make_first, second_desk};
 use crate::stored_rows::database_text;
@@ -110,8 +110,8 @@ fn is_first<R: Abort + AllocGlobal>(
     Ok(is_first)
 }
 
-/// The opening of these files is stopped: what is left is a whole desk, with what was written since the last sync or without
-/// it, and behind an opened desk the second version. Whether it is opened, and whether the first version is left.
+/// The opening of these files is stopped: what is left is a whole desk, with what was written since the last sync or
+/// without it, and behind an opened desk the second version. Whether it is opened, and whether the first one is left.
 fn is_left_whole<R: Abort + AllocGlobal>(
     rt: &R,
     files: Files<Fuse<Memory>>,
@@ -127,7 +127,8 @@ fn is_left_whole<R: Abort + AllocGlobal>(
     Ok((is_opened, is_lost_first))
 }
 
-/// The log, or the database's file where it isn't the log, takes so many calls, and then one more, until the desk is opened.
+/// The log, or the database's file where it isn't the log, takes so many calls, and then one more, until the desk is
+/// opened.
 fn is_stopped_at_each<R: Abort + AllocGlobal>(rt: &R, of_log: bool) -> Result<(), Fail> {
     let versions = Versions {
         first: database_text(rt.alloc(), &mut first_desk(rt.alloc())?)?,

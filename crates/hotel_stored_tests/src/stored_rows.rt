@@ -150,7 +150,7 @@ pub(crate) fn rows_text<S: Alter>(alloc: Global, conn: &mut Connection<S>) -> Re
     Ok(format!(in alloc; "{stored:?}")?)
 }
 
-/// What a database has, as a text: the statements of its tables and indexes, in their order, and the rows of each table.
+/// What a database has, as a text: the statements of its tables and indexes, in their order, and each table's rows.
 pub(crate) fn database_text<S: Alter>(
     alloc: Global,
     conn: &mut Connection<S>,
