@@ -31,6 +31,18 @@ OPENING = b"begin 2031-05-01\nadd-kind DBL\nadd-room 101 DBL\nreserve DBL 2031-0
 OPENED = f"begun\nkind added\nroom code {FIRST}\nparty 1\n".encode()
 CHECKED_IN = OPENING + b"check-in 1 101\n"
 LISTS = b"in-house\nchain 101\naudit-of 101\n"
+# Desks of the first version of the tables, which an earlier program made: NAME.db, and what its lists answered over it,
+# NAME.lists.txt, in which `$` and the words of a call stand before each text.
+FIRST_DESKS = sorted((HERE / "version-1").glob("*.db"))
+# The statements that make a desk of the second version of one of the first.
+UPGRADE = """\
+CREATE TABLE fit (room INTEGER NOT NULL REFERENCES room, fit INTEGER NOT NULL, place INTEGER NOT NULL, \
+before INTEGER NOT NULL, PRIMARY KEY (room, fit), UNIQUE (room, place)) STRICT;
+CREATE INDEX stay_room ON stay (room);
+CREATE INDEX card_party ON card (party);
+INSERT INTO fit SELECT room, 1, 0, 0 FROM room ORDER BY room;
+UPDATE meta SET version = 2;
+"""
 # The same two notes under each header.
 NOTES = HEADER + f"""\
 101,1,1,in,1,{FIRST},{SECOND},2031-05-01T15:00:00
@@ -142,6 +154,15 @@ class Desk:
             rows = "\n".join(line for line in db.iterdump() if line.startswith(("CREATE", "INSERT")))
         db.close()
         return rows
+
+    def versions(self, start):
+        """The tables and rows of the desk of the first version that is in this file, and of that of the second which
+        comes of it. The database is then as it is in the file."""
+        self.laid(start)
+        self.edited(UPGRADE)
+        second = self.rows()
+        self.laid(start)
+        return self.rows(), second
 
     def sizes(self):
         """The sizes of the database file and of what lies beside it."""

@@ -15,6 +15,17 @@ pub(crate) fn opened<S: Alter + Drop>(
     TableBooks::open(alloc, conn)
 }
 
+/// The same; on a fault the connection is given back.
+pub(crate) fn opened_or_left<S: Alter + Drop>(
+    alloc: Global,
+    conn: Connection<S>,
+) -> Result<TableBooks<S>, (OpenFault, Connection<S>)> {
+    if !conn.is_autocommit() {
+        return Err((OpenFault::Store, conn));
+    }
+    TableBooks::open_or_return(alloc, conn)
+}
+
 /// A new desk on a connection.
 pub(crate) fn created<S: Alter + Drop>(
     alloc: Global,

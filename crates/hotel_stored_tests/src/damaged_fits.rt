@@ -2,11 +2,10 @@
 //! that look at fits.
 use crate::connections::new_tables;
 use crate::stored_rows::stored;
-use crate::tables::{change, damaged_in, fault_of, tables_behind};
+use crate::tables::{is_damaged, tables_behind};
 use hotel_rows::{PlainFit, TableName, first_damaged};
 use hotel_scenarios::desks::Desk;
 use hotel_scenarios::scenarios::{CHECKED_IN, OPENED, Step, TWO_ENTRIES};
-use hotel_tables::OpenFault;
 use sqlite::{Connection, MemStore};
 use std::alloc::Global;
 use std::process::Abort;
@@ -132,24 +131,6 @@ static OF_OTHERS: [Damage; 6] = [
     },
 ];
 
-/// The closed desk, which is whole, is damaged by these statements: the table is named, by its rows and by an opening.
-fn is_damaged<R: Abort + AllocGlobal>(
-    rt: &R,
-    mut conn: Connection<MemStore>,
-    statements: &[&str],
-    table: TableName,
-) -> Result<(), Fail> {
-    assert!(rt; damaged_in(rt.alloc(), &mut conn)? == None);
-    for statement in statements {
-        let changed = change(&mut conn, statement)?;
-        assert!(rt; changed > 0);
-    }
-    assert!(rt; damaged_in(rt.alloc(), &mut conn)? == Some(table));
-    let fault = fault_of(rt.alloc(), conn);
-    assert!(rt; fault == Some(OpenFault::Damaged(table)));
-    Ok(())
-}
-
 fn are_damaged<R: Abort + AllocGlobal>(rt: &R, damages: &[Damage]) -> Result<(), Fail> {
     for damage in damages {
         let conn = tables_behind(rt.alloc(), damage.parts)?.close();
@@ -168,7 +149,8 @@ fn rules_of_fits(rt: HostRuntime) -> Result<(), Fail> {
 fn a_fit_without_its_room(rt: HostRuntime) -> Result<(), Fail> {
     let mut conn = tables_behind(rt.alloc(), THREE_LOCKS)?.close();
     let mut rows = stored(rt.alloc(), &mut conn)?;
-    rows.fits.push(PlainFit {
+    let fits = rows.fits.as_mut().ok_or("no table of fits")?;
+    fits.push(PlainFit {
         room: 102,
         fit: 1,
         place: 0,

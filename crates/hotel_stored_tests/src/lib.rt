@@ -6,6 +6,12 @@ mod connections;
 #[cfg(test)]
 mod damaged_fits;
 #[cfg(test)]
+mod first_desks;
+#[cfg(test)]
+mod first_version;
+#[cfg(test)]
+mod stopped_openings;
+#[cfg(test)]
 mod stored_rows;
 #[cfg(test)]
 mod tables;

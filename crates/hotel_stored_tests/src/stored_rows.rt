@@ -114,11 +114,24 @@ fn rows<L: OfRow + Drop, S: Alter>(
     Ok(rows)
 }
 
-/// The rows of the nine tables.
+/// The fits, where the tables are of the second version.
+fn fits<S: Alter>(
+    alloc: Global,
+    conn: &mut Connection<S>,
+    version: i64,
+) -> Result<Option<Vec<PlainFit>>, Fail> {
+    if version == 1 {
+        return Ok(None);
+    }
+    Ok(Some(rows(alloc, conn, "SELECT * FROM fit ORDER BY room, fit")?))
+}
+
+/// The rows of a desk's tables, which are of the version that they tell.
 pub(crate) fn stored<S: Alter>(alloc: Global, conn: &mut Connection<S>) -> Result<Stored, Fail> {
     let meta = conn.query_row("SELECT version, day FROM meta WHERE id = 1", &[])?;
+    let version = meta.get(0)?;
     Ok(Stored {
-        version: meta.get(0)?,
+        version,
         day: meta.get(1)?,
         kinds: rows(alloc, conn, "SELECT * FROM kind ORDER BY kind")?,
         rooms: rows(alloc, conn, "SELECT * FROM room ORDER BY room")?,
@@ -127,12 +140,30 @@ pub(crate) fn stored<S: Alter>(alloc: Global, conn: &mut Connection<S>) -> Resul
         cards: rows(alloc, conn, "SELECT * FROM card ORDER BY number")?,
         inside: rows(alloc, conn, "SELECT * FROM inside ORDER BY room, card")?,
         notes: rows(alloc, conn, "SELECT * FROM note ORDER BY room, n")?,
-        fits: rows(alloc, conn, "SELECT * FROM fit ORDER BY room, fit")?,
+        fits: fits(alloc, conn, version)?,
     })
 }
 
-/// The rows of the nine tables as a text.
+/// The rows of a desk's tables as a text.
 pub(crate) fn rows_text<S: Alter>(alloc: Global, conn: &mut Connection<S>) -> Result<String, Fail> {
     let stored = stored(alloc, conn)?;
     Ok(format!(in alloc; "{stored:?}")?)
+}
+
+/// What a database has, as a text: the statements of its tables and indexes, in their order, and each table's rows.
+pub(crate) fn database_text<S: Alter>(
+    alloc: Global,
+    conn: &mut Connection<S>,
+) -> Result<String, Fail> {
+    let statements = conn.query_all("SELECT type, name, sql FROM sqlite_schema", &[])?;
+    let mut text = format!(in alloc; "{statements:?}")?;
+    let tables = conn.query_all("SELECT name FROM sqlite_schema WHERE type = 'table'", &[])?;
+    for table in &tables {
+        let name: String = table.get(0)?;
+        let query = format!(in alloc; "SELECT * FROM {name}")?;
+        let rows = conn.query_all(&query, &[])?;
+        let rows = format!(in alloc; "{rows:?}")?;
+        text.push_str(&rows)?;
+    }
+    Ok(text)
 }

@@ -1,6 +1,6 @@
 //! Desks over tables that are closed and opened again, as they were or after a statement that damages them.
-use crate::connections::{created, new_tables, opened};
-use crate::stored_rows::{rows_text, stored};
+use crate::connections::{created, new_tables, opened, opened_or_left};
+use crate::stored_rows::{database_text, rows_text, stored};
 use hotel_rows::{TableName, first_damaged};
 use hotel_scenarios::chains::{TWO_CODES, chain_reads, walks_end};
 use hotel_scenarios::desks::Desk;
@@ -52,15 +52,38 @@ pub(crate) fn damaged_in<S: Alter>(
     Ok(first_damaged(alloc, &stored(alloc, conn)?)?)
 }
 
-/// A code of the closed desk stands at a later place: the table is named, by its rows and by an opening.
-fn is_damaged<R: Abort + AllocGlobal>(rt: &R, mut conn: Connection<MemStore>) -> Result<(), Fail> {
+/// An opening of the database is refused so, and leaves it as it is.
+pub(crate) fn is_refused<R: Abort + AllocGlobal>(
+    rt: &R,
+    mut conn: Connection<MemStore>,
+    fault: OpenFault,
+) -> Result<(), Fail> {
+    let before = database_text(rt.alloc(), &mut conn)?;
+    match opened_or_left(rt.alloc(), conn) {
+        Ok(_) => Err(Fail::from("it is opened")),
+        Err((why, mut conn)) => {
+            assert!(rt; why == fault);
+            assert!(rt; database_text(rt.alloc(), &mut conn)? == before);
+            assert!(rt; fault_of(rt.alloc(), conn) == Some(fault));
+            Ok(())
+        }
+    }
+}
+
+/// The closed desk, which is whole, is damaged by these statements: the table is named, by its rows and by an opening.
+pub(crate) fn is_damaged<R: Abort + AllocGlobal>(
+    rt: &R,
+    mut conn: Connection<MemStore>,
+    statements: &[&str],
+    table: TableName,
+) -> Result<(), Fail> {
     assert!(rt; damaged_in(rt.alloc(), &mut conn)? == None);
-    let moved = change(&mut conn, "UPDATE code SET place = 5 WHERE place = 1");
-    assert!(rt; moved == Ok(1));
-    assert!(rt; damaged_in(rt.alloc(), &mut conn)? == Some(TableName::Code));
-    let fault = fault_of(rt.alloc(), conn);
-    assert!(rt; fault == Some(OpenFault::Damaged(TableName::Code)));
-    Ok(())
+    for statement in statements {
+        let changed = change(&mut conn, statement)?;
+        assert!(rt; changed > 0);
+    }
+    assert!(rt; damaged_in(rt.alloc(), &mut conn)? == Some(table));
+    is_refused(rt, conn, OpenFault::Damaged(table))
 }
 
 /// Over tables too a walk ends where its sink stops, and the next one is whole.
@@ -100,7 +123,8 @@ fn fits_in<S: Alter>(
     conn: &mut Connection<S>,
 ) -> Result<Vec<(i64, i64, i64, i64)>, Fail> {
     let mut fits = Vec::new(alloc);
-    for fit in &stored(alloc, conn)?.fits {
+    let rows = stored(alloc, conn)?;
+    for fit in rows.fits.as_ref().ok_or("no table of fits")? {
         fits.push((fit.room, fit.fit, fit.place, fit.before))?;
     }
     Ok(fits)
@@ -146,20 +170,25 @@ fn is_made_once<R: Abort + AllocGlobal>(rt: &R, conn: Connection<MemStore>) {
 #[test]
 fn reopened_tables(rt: HostRuntime) -> Result<(), Fail> {
     let books = opens_again(&rt, tables_behind(rt.alloc(), TWO_ENTRIES_MADE)?)?;
-    is_damaged(&rt, books.close())?;
+    let moved = ["UPDATE code SET place = 5 WHERE place = 1"];
+    is_damaged(&rt, books.close(), &moved, TableName::Code)?;
     is_made_once(&rt, tables_behind(rt.alloc(), &[OPENED])?.close());
     let bare = Connection::open_in_memory(rt.alloc())?;
     assert!(rt; fault_of(rt.alloc(), bare) == Some(OpenFault::NotADesk));
     Ok(())
 }
 
-/// Statements after which the tables are those of no desk: of another version, of the second without the table of fits,
-/// of the first with it and without it.
-static NO_DESKS: [&[&str]; 4] = [
+/// Statements after which the tables are those of no desk: of another version, of the second without what it has beside
+/// the first, or with that of the first and the first's number, or with an index of their own.
+static NO_DESKS: [&[&str]; 8] = [
     &["UPDATE meta SET version = 3"],
-    &["DROP TABLE fit"],
     &["UPDATE meta SET version = 1"],
+    &["DROP TABLE fit"],
+    &["DROP INDEX stay_room"],
+    &["DROP INDEX card_party"],
+    &["DROP INDEX stay_room", "DROP INDEX card_party"],
     &["DROP TABLE fit", "UPDATE meta SET version = 1"],
+    &["CREATE INDEX note_day ON note (day)"],
 ];
 
 #[test]
@@ -169,7 +198,7 @@ fn no_desks(rt: HostRuntime) -> Result<(), Fail> {
         for statement in *statements {
             change(&mut conn, statement)?;
         }
-        assert!(rt; fault_of(rt.alloc(), conn) == Some(OpenFault::NotADesk));
+        is_refused(&rt, conn, OpenFault::NotADesk)?;
     }
     Ok(())
 }
