@@ -32,7 +32,7 @@ import typing
 from stored_desk import DESK, HERE
 
 DAY = 11443  # 2031-05-01, counted from 2000-01-01
-ROOMS, GUESTS, LOOKS = 300, 150, 2000  # each guest checks into one room, and moves to another
+ROOMS, GUESTS, LOOKS = 300, 150, 20000  # each guest checks into one room, and moves to another
 TURNS, OPENINGS = 5, 3
 FIRST, SECOND = 1, 2
 SOURCE = HERE.parent / "crates" / "hotel_statements" / "src" / "texts.rt"
