@@ -51,7 +51,7 @@ class Times(typing.NamedTuple):
         return f"ratio {self.clock / other.clock:.2f} ({self.processor / other.processor:.2f})"
 
     def __str__(self):
-        if self.clock < 0.01:
+        if self.clock < 0.1:
             return f"{self.clock * 1e6:.0f} us ({self.processor * 1e6:.0f})"
         return f"{self.clock:.2f} s ({self.processor:.2f})"
 
@@ -208,8 +208,8 @@ def times_of_commands(bench, none, large, stays):
         later = at_last[kind]
         print(f"{kind}: over no stay {took}, over {stays} stays {later}: {later.ratio(took)}, wanted 1.2 at most")
     for kind, took in plain.items():
-        ours = at_first[kind]
-        print(f"{kind}: desk {ours}, C SQLite {took}: {ours.ratio(took)}, wanted 1.5 at most", flush=True)
+        ours, wanted = at_first[kind], ", wanted 1.5 at most" if kind == "a check-in" else ""
+        print(f"{kind}: desk {ours}, C SQLite {took}: {ours.ratio(took)}{wanted}", flush=True)
 
 
 def times_of_openings(bench, first, second):
