@@ -1,18 +1,26 @@
 #!/usr/bin/env python3
-"""Times the desk over a database file: changes and look-ups beside C SQLite, and a check-in and `open` over a large desk.
+"""Times the desk over a database file: each figure is a ratio of two things that are timed in the same run.
 
-usage: tables_speed.py [PROGRAM [STAYS]]      (the built hotel_desk and 300,000, where they aren't given)
+usage: tables_speed.py [PROGRAM [STAYS]]      (the built hotel_desk and 100,000, where they aren't given)
 
-Each time is the least of five runs that take turns (of two over the large desk): that of a script, less that of the same script without the lines in question.
-Beside it stands the processor's own time, which says more on a machine that has other work.
-- Changes: 200 bookings and 200 check-ins over a file with 300 rooms. Beside them the statements of hotel_statements' texts.rt by Python's sqlite3 over
-  a copy of the file, with the same journal (WAL), `synchronous` (FULL) and foreign keys, one transaction each.
-- Look-ups: 20,000 lines that ask for a room that isn't there, one keyed statement each, less the same lines over memory.
-- A check-in: 200 of them over a desk without stays, and over one with so many stays and cards and four notes for each card.
-- `open`: a script without a line over the large desk, with its greatest memory, beside `sqlite3 .dump` of the same file.
+Needs cc and SQLite's own header and library (libsqlite3-dev). The desks have 300 rooms; they are written as rows by
+Python's sqlite3, with the texts of hotel_statements' texts.rt, and a past stay has a card, a code and four notes.
+
+- Commands: six rounds of 150 of each kind over a desk of so many past stays, beside the same ones over a desk of none.
+  The first round finds few pages of the file in memory, and is told apart from the later ones.
+- Beside C SQLite: a check-in, a booking and a look-up, beside their statements run by sqlite_statements.c over the same
+  file, with the same journal (WAL) and `synchronous` (FULL) and with foreign keys. Each commit of both syncs the log.
+- `open`: a script without a line, beside the same file with one table more. There the connection is opened, which is
+  SQLite's own test of the whole file, and then the desk answers `not a desk`.
+- A migrating opening: one of the first version's tables, beside one of the second's with the same rows.
+
+A command's time is the mean of those of its kind by the clock, from answer to answer, and in brackets the processor's
+time as the kernel counts it for the process, which says more on a machine that has other work. Of an opening both are
+those of the whole process. Each is the least of some runs that take turns.
 """
 import os
 import pathlib
+import random
 import re
 import shutil
 import sqlite3
@@ -25,18 +33,14 @@ import typing
 from stored_desk import DESK, HERE
 
 DAY = 11443  # 2031-05-01, counted from 2000-01-01
-ROOMS, CHANGES = 100, 200  # rooms with past stays, and rooms without, of which each is checked into once
+ROOMS, GUESTS, ROUNDS = 300, 150, 6  # each guest of a round checks into one room, and moves to another
 LOOKS = 20000
-TURNS, LARGE_TURNS = 5, 2
+TURNS, OPENINGS = 5, 3
+FIRST, SECOND = 1, 2
 SOURCE = HERE.parent / "crates" / "hotel_statements" / "src" / "texts.rt"
 TEXTS = dict(re.findall(r'const (\w+): &str =\s*"([^"]*)"', SOURCE.read_text()))
-
-BOOKED = ["reserve K0 2031-05-01 1 G"] * CHANGES
-
-
-def checked_in(party):
-    """Lines that check in the parties after this one, each in a room that had none."""
-    return [f"check-in {party + turn} {ROOMS + turn}" for turn in range(1, CHANGES + 1)]
+MADE = {FIRST: ["META", "KIND", "ROOM", "STAY", "CODE", "CARD", "INSIDE", "NOTE"]}
+MADE[SECOND] = MADE[FIRST] + ["FIT", "STAY_ROOM", "CARD_PARTY"]
 
 
 class Times(typing.NamedTuple):
@@ -45,36 +49,116 @@ class Times(typing.NamedTuple):
     clock: float
     processor: float
 
-    def __sub__(self, other):
-        return Times(self.clock - other.clock, self.processor - other.processor)
-
     def ratio(self, other):
-        return f"{self.clock / other.clock:.2f} ({self.processor / other.processor:.2f})"
+        return f"ratio {self.clock / other.clock:.2f} ({self.processor / other.processor:.2f})"
 
-    def of(self, count):
-        return f"{self.clock / count * 1e6:.1f} us ({self.processor / count * 1e6:.1f})"
-
-
-def ran(words, given, taken):
-    """The times and the greatest memory in MB of a program that ends well."""
-    began = time.perf_counter()
-    child = subprocess.Popen(words, stdin=given, stdout=taken)
-    _, status, used = os.wait4(child.pid, 0)
-    took = time.perf_counter() - began
-    assert status == 0, f"ended with {status}"
-    return Times(took, used.ru_utime + used.ru_stime), used.ru_maxrss / 1024
+    def __str__(self):
+        if self.clock < 0.1:
+            return f"{self.clock * 1e6:.0f} us ({self.processor * 1e6:.0f})"
+        return f"{self.clock:.2f} s ({self.processor:.2f})"
 
 
-class Desk:
+def least(times):
+    return Times(*map(min, zip(*times)))
+
+
+def past_rows(stays):
+    """The rows of rooms that had so many stays in turn."""
+    codes = random.Random(1).sample(range(2**48), ROOMS + stays)
+    chains = {room: [codes.pop()] for room in range(1, ROOMS + 1)}
+    rows = {"STAY": [], "CARD": [], "NOTE": [], "CODE": [(chain[0], room, 0) for room, chain in chains.items()]}
+    for number in range(1, stays + 1):
+        room = (number - 1) % ROOMS + 1
+        chain, link = chains[room], (chains[room][-1], codes.pop())
+        rows["STAY"].append((number, "Guest", "K0", DAY - 10, DAY - 9, 2, None))
+        rows["CODE"].append((link[1], room, len(chain)))
+        rows["CARD"].append((number, number, *link))
+        taken = 4 * (len(chain) - 1)
+        rows["NOTE"] += [(room, taken + n, (n + 1) % 2, number, *link, DAY - 10, 60 * n) for n in range(1, 5)]
+        chain.append(link[1])
+    counts = [(room, len(chain)) for room, chain in chains.items()]
+    rows["ROOM"] = [(room, "K0", codes - 1, codes, 0, None, 4 * (codes - 1)) for room, codes in counts]
+    return rows
+
+
+def make_desk(db, version, stays):
+    """Writes a desk of a version, with so many past stays."""
+    rows = past_rows(stays)
+    rows["META"], rows["KIND"] = [(1, version, DAY)], [("K0",)]
+    rows["FIT"] = [(room, 1, 0, 0) for room in range(1, ROOMS + 1)]
+    file = sqlite3.connect(db, isolation_level=None)
+    file.execute("PRAGMA journal_mode = WAL")
+    file.execute("BEGIN")
+    for name in MADE[version]:
+        file.execute(TEXTS[f"CREATE_{name}"])
+    for name in MADE[version]:
+        for row in rows.get(name, [])[:1]:
+            values = ", ".join("?" * len(row))
+            file.executemany(f"INSERT INTO {name} VALUES ({values})", rows[name])
+    file.execute("COMMIT")
+    assert not file.execute("PRAGMA foreign_key_check").fetchall()
+    file.close()
+    return db
+
+
+def commands(stays):
+    """The lines of each kind and round, in the order in which they are carried out."""
+    guests = range(1, GUESTS + 1)
+    lines = {("no command", 0): ["chain 9999"] * 50, ("a look-up", 0): ["chain 9999"] * LOOKS}
+    for turn in range(ROUNDS):
+        party = stays + turn * GUESTS
+        lines |= {
+            ("a booking", turn): ["reserve K0 2031-05-01 2 Guest"] * GUESTS,
+            ("a check-in", turn): [f"check-in {party + guest} {guest}" for guest in guests],
+            ("a reissue", turn): [f"reissue {party + guest}" for guest in guests],
+            ("a transfer", turn): [f"transfer {party + guest} {GUESTS + guest}" for guest in guests],
+            ("a check-out", turn): [f"check-out {party + guest}" for guest in guests],
+            ("a refit", turn): [f"refit {room}" for room in guests],
+        }
+    return lines
+
+
+def statements(db):
+    """The same look-ups, bookings and check-ins as runs of statements, over a desk of no past stays."""
+    texts = ["BEGIN", "COMMIT"]
+
+    def run(text, *values):
+        if text not in texts:
+            texts.append(text)
+        words = ["-" if value is None else f"'{value}" if isinstance(value, str) else str(value) for value in values]
+        return " ".join(["r", str(texts.index(text)), *words])
+
+    def runs(*named):
+        return "\n".join(run(TEXTS.get(name, name), *values) for name, *values in named) + "\n."
+
+    file = sqlite3.connect(db)
+    first = dict(file.execute("SELECT room, code FROM code"))
+    file.close()
+    look = runs(("SELECT_ROOM", 9999))
+    last = [("SELECT_LAST_PARTY",), ("SELECT_LAST_CARD",)]
+    bookings, check_ins = [], []
+    for guest in range(1, GUESTS + 1):
+        stay = (guest, "Guest", "K0", DAY, DAY + 2, 0, None)
+        bookings.append(runs(
+            ("SELECT_DAY", 1), ("SELECT_KIND", "K0"), *last, ("BEGIN",), ("INSERT_STAY", *stay), ("COMMIT",)))
+        room, code = guest, 2**47 + guest
+        check_ins.append(runs(
+            ("SELECT_DAY", 1), ("SELECT_ROOM", room), ("SELECT_FITS", room), ("SELECT_STAY", guest), *last,
+            ("SELECT_CODE_AT", room, 0), ("SELECT_CODE", code), ("SELECT_ROOM", room),
+            ("BEGIN",), ("INSERT_CODE", code, room, 1), ("UPDATE_ISSUED", room, 2, guest),
+            ("INSERT_CARD", guest, guest, first[room], code), ("UPDATE_STATE", guest, 1, room), ("COMMIT",)))
+    return [f"t {text}" for text in texts], {
+        ("no command", 0): [look] * 50, ("a look-up", 0): [look] * LOOKS,
+        ("a booking", 0): bookings, ("a check-in", 0): check_ins}
+
+
+class Bench:
     def __init__(self, program, folder):
         self.program, self.folder = program, folder
-
-    def run(self, lines, *words):
-        """The times, the greatest memory in MB and the answers of a script."""
-        (self.folder / "script").write_text("".join(f"{line}\n" for line in lines))
-        with open(self.folder / "script") as given, open(self.folder / "answers", "wb") as taken:
-            took, memory = ran([self.program, *words, "script"], given, taken)
-        return took, memory, (self.folder / "answers").read_text()
+        self.plain = folder / "sqlite_statements"
+        source = HERE / "sqlite_statements.c"
+        subprocess.run(["cc", "-O2", "-o", self.plain, source, "-lsqlite3"], check=True)
+        (folder / "zeros").write_bytes(bytes(32))
 
     def copied(self, db):
         """A fresh copy of a database."""
@@ -82,141 +166,82 @@ class Desk:
             old.unlink()
         return shutil.copy(db, self.folder / "copy.db")
 
-    def done(self, db, lines):
-        """The times of a script over a copy of a file, of which no line is refused."""
-        took, _, said = self.run(lines, "--db", self.copied(db))
-        refused = re.findall("^(?:refused|unread).*", said, re.MULTILINE)
-        assert not refused, f"{len(refused)} lines, first {refused[0]}"
-        return took
+    def on(self, db):
+        return [self.program, "--db", db, "--seed-file", self.folder / "zeros", "script"]
 
-    def begun(self, name):
-        db = self.folder / name
-        self.run(["begin 2031-05-01", "add-kind K0", *(f"add-room {room} K0" for room in range(1, ROOMS + CHANGES + 1))], "--db", db)
-        return db
+    def answers(self, words, before, lines):
+        """The times of each kind of lines, of which none may be refused but those that look for a missing room."""
+        script = self.folder / "script"
+        script.write_text("\n".join([*before, *(line for kind in lines.values() for line in kind)]) + "\n")
+        times = {}
+        with open(script) as given, subprocess.Popen(words, stdin=given, stdout=subprocess.PIPE) as child:
+            used = pathlib.Path(f"/proc/{child.pid}/schedstat")
+            for kind, asked in lines.items():
+                began, ran = time.perf_counter(), int(used.read_text().split()[0])
+                for line in asked:
+                    said = child.stdout.readline()
+                    assert said and (line == "chain 9999" or not said.startswith(b"refused")), f"{line}: {said}"
+                took = time.perf_counter() - began, (int(used.read_text().split()[0]) - ran) / 1e9
+                times[kind] = Times(*(all / len(asked) for all in took))
+        assert child.returncode == 0
+        return times
 
-
-def least(*runs, turns=TURNS):
-    """The least of the times of each run, where they take turns."""
-    rounds = [[run() for run in runs] for _ in range(turns)]
-    return [Times(*map(min, zip(*times))) for times in zip(*rounds)]
-
-
-def opened_by_c(db):
-    file = sqlite3.connect(db, isolation_level=None)
-    for setting in ("journal_mode = WAL", "synchronous = FULL", "foreign_keys = ON"):
-        file.execute(f"PRAGMA {setting}")
-    return file
-
-
-def booking(file, number):
-    for text, *key in (("SELECT_DAY", 1), ("SELECT_KIND", "K0"), ("SELECT_LAST_PARTY",), ("SELECT_LAST_CARD",)):
-        file.execute(TEXTS[text], key).fetchone()
-    file.execute("BEGIN")
-    file.execute(TEXTS["INSERT_STAY"], (number, "G", "K0", DAY, DAY + 1, 0, None))
-    file.execute("COMMIT")
+    def opening(self, db, status=0):
+        """The times of a script without a line over a copy of a database, and its greatest memory in MB."""
+        words = self.on(self.copied(db))
+        began = time.perf_counter()
+        child = subprocess.Popen(words, stdin=subprocess.DEVNULL, stderr=subprocess.DEVNULL)
+        _, ended, used = os.wait4(child.pid, 0)
+        took = time.perf_counter() - began
+        assert os.waitstatus_to_exitcode(ended) == status, f"{db}: status {ended}"
+        return Times(took, used.ru_utime + used.ru_stime), used.ru_maxrss / 1024
 
 
-def check_in(file, number):
-    room, code = ROOMS + number, 2**47 + number
-    for text, *key in (("SELECT_DAY", 1), ("SELECT_ROOM", room), ("SELECT_STAY", number), ("SELECT_LAST_PARTY",), ("SELECT_LAST_CARD",)):
-        file.execute(TEXTS[text], key).fetchone()
-    (old,) = file.execute(TEXTS["SELECT_CODE_AT"], (room, 0)).fetchone()
-    file.execute(TEXTS["SELECT_CODE"], (code,)).fetchone()
-    file.execute("BEGIN")
-    file.execute(TEXTS["INSERT_CODE"], (code, room, 1))
-    file.execute(TEXTS["UPDATE_ISSUED"], (room, 2, number))
-    file.execute(TEXTS["INSERT_CARD"], (number, number, old, code))
-    file.execute(TEXTS["UPDATE_STATE"], (number, 1, room))
-    file.execute("COMMIT")
+def times_of_commands(bench, none, large, stays):
+    texts, plain_lines = statements(none)
+    runs = [
+        lambda: bench.answers(bench.on(bench.copied(none)), [], commands(0)),
+        lambda: bench.answers(bench.on(bench.copied(large)), [], commands(stays)),
+        lambda: bench.answers([bench.plain, bench.copied(none)], texts, plain_lines),
+    ]
+    rounds = [[run() for run in runs] for _ in range(TURNS)]
+    at_first, at_last, plain = [
+        {kind: least([times[kind] for times in turns]) for kind in turns[0]} for turns in zip(*rounds)]
+    for kind in dict.fromkeys(kind for kind, turn in at_first if turn):
+        took, later = [least([times[kind, turn] for turn in range(1, ROUNDS)]) for times in (at_first, at_last)]
+        print(f"{kind}: over no stay {took}, over {stays} stays {later}: {later.ratio(took)}, wanted 1.2 at most; "
+              f"in the first round {at_last[kind, 0].ratio(at_first[kind, 0])}")
+    for kind in ("a look-up", "a booking", "a check-in"):
+        ours, theirs = at_first[kind, 0], plain[kind, 0]
+        wanted = ", wanted 1.5 at most" if kind == "a check-in" else ""
+        print(f"{kind}: desk {ours}, C SQLite {theirs}: {ours.ratio(theirs)}{wanted}", flush=True)
 
 
-def no_room(file, _):
-    file.execute(TEXTS["SELECT_ROOM"], (9999,)).fetchone()
-
-
-def by_c(db, act, count):
-    """The times in which C SQLite does one thing so many times over a file."""
-    file = opened_by_c(db)
-    began = Times(time.perf_counter(), time.process_time())
-    for number in range(1, count + 1):
-        act(file, number)
-    took = Times(time.perf_counter(), time.process_time()) - began
+def times_of_openings(bench, first, second):
+    foreign = pathlib.Path(shutil.copy(second, bench.folder / "foreign.db"))
+    with sqlite3.connect(foreign) as file:
+        file.execute("CREATE TABLE other (x INTEGER) STRICT")
     file.close()
-    return took
-
-
-def enlarge(db, stays):
-    """Gives each of the first ROOMS rooms its share of stays that are done, their codes, cards and notes."""
-    each = stays // ROOMS
-    file = sqlite3.connect(db)
-    taken = {code for (code,) in file.execute("SELECT code FROM code")}
-    fresh = iter(code for code in range(1, 2 * stays + 10**6) if code not in taken)
-    number = 0
-    for room in range(1, ROOMS + 1):
-        (code,) = file.execute("SELECT code FROM code WHERE room = ?", (room,)).fetchone()
-        rows = {"stay": [], "code": [], "card": [], "note": []}
-        for place in range(1, each + 1):
-            number += 1
-            new = next(fresh)
-            rows["stay"].append((number, "Guest", "K0", DAY - 10, DAY - 9, 2, None))
-            rows["code"].append((new, room, place))
-            rows["card"].append((number, number, code, new))
-            for act in (0, 1, 0, 1):
-                rows["note"].append((room, len(rows["note"]) + 1, act, number, code, new, DAY - 10, 60))
-            code = new
-        for table, lines in rows.items():
-            file.executemany(f"INSERT INTO {table} VALUES ({', '.join('?' * len(lines[0]))})", lines)
-        file.execute("UPDATE room SET lock_place = ?, codes = ?, notes = ? WHERE room = ?", (each, each + 1, 4 * each, room))
-    file.commit()
-    file.execute("PRAGMA wal_checkpoint(TRUNCATE)")
-    file.close()
-    return number
-
-
-def times_of(name, count, desk, plain):
-    print(f"{name}: desk {desk.of(count)}, C SQLite through Python {plain.of(count)}, ratio {desk.ratio(plain)}", flush=True)
-
-
-def changes(desk, small):
-    """The times of the check-ins."""
-    after = checked_in(0)
-    none, booked, both, plain = least(lambda: desk.done(small, []), lambda: desk.done(small, BOOKED), lambda: desk.done(small, BOOKED + after),
-                                      lambda: by_c(desk.copied(small), booking, CHANGES))
-    times_of("a booking", CHANGES, booked - none, plain)
-    full = desk.folder / "booked.db"
-    shutil.copy(small, full)
-    by_c(full, booking, CHANGES)
-    (plain,) = least(lambda: by_c(desk.copied(full), check_in, CHANGES))
-    times_of("a check-in", CHANGES, both - booked, plain)
-    return both - booked
-
-
-def look_ups(desk, small):
-    asks = ["chain 9999"] * LOOKS
-    over_file, none, over_memory, nothing, plain = least(lambda: desk.run(asks, "--db", small)[0], lambda: desk.run([], "--db", small)[0],
-                                                         lambda: desk.run(asks)[0], lambda: desk.run([])[0], lambda: by_c(desk.copied(small), no_room, LOOKS))
-    times_of("a look-up", LOOKS, (over_file - none) - (over_memory - nothing), plain)
-
-
-def dumped(db):
-    return ran(["sqlite3", db, ".dump"], None, subprocess.DEVNULL)[0]
+    runs = [lambda: bench.opening(foreign, 5), lambda: bench.opening(second), lambda: bench.opening(first)]
+    rounds = [[run() for run in runs] for _ in range(OPENINGS)]
+    test, opened, migrated = [least([took for took, _ in turns]) for turns in zip(*rounds)]
+    memory = max(memory for _, memory in list(zip(*rounds))[1])
+    size = second.stat().st_size / 1e6
+    print(f"open of {size:.0f} MB: {opened}, {memory:.0f} MB of memory; SQLite's own test alone {test}: "
+          f"{opened.ratio(test)}, wanted 1.5 at most")
+    print(f"a migrating opening {migrated}: {migrated.ratio(opened)} to one that doesn't, wanted 1.2 at most")
 
 
 def main():
     program = pathlib.Path(sys.argv[1] if len(sys.argv) > 1 else DESK).resolve()
-    stays = int(sys.argv[2]) if len(sys.argv) > 2 else 300_000
+    stays = int(sys.argv[2]) if len(sys.argv) > 2 else 100_000
     with tempfile.TemporaryDirectory() as made:
-        desk = Desk(program, pathlib.Path(made))
-        small = desk.begun("small.db")
-        at_first = changes(desk, small)
-        look_ups(desk, small)
-        large = desk.folder / "large.db"
-        shutil.copy(small, large)
-        number = enlarge(large, stays)
-        took, booked, both, dump = least(lambda: desk.done(large, []), lambda: desk.done(large, BOOKED), lambda: desk.done(large, BOOKED + checked_in(number)), lambda: dumped(large), turns=LARGE_TURNS)
-        print(f"a check-in over {number} stays: {(both - booked).of(CHANGES)}, ratio to one without stays {(both - booked).ratio(at_first)}")
-        memory = desk.run([], "--db", large)[1]
-        print(f"open of {large.stat().st_size / 1e6:.0f} MB: {took.clock:.2f} s ({took.processor:.2f}), {memory:.0f} MB; .dump {dump.clock:.2f} s ({dump.processor:.2f}), ratio {took.ratio(dump)}")
+        folder = pathlib.Path(made)
+        bench = Bench(program, folder)
+        none = make_desk(folder / "none.db", SECOND, 0)
+        large = make_desk(folder / "large.db", SECOND, stays)
+        times_of_openings(bench, make_desk(folder / "first.db", FIRST, stays), large)
+        times_of_commands(bench, none, large, stays)
 
 
 if __name__ == "__main__":
