@@ -10,8 +10,6 @@ mod first_desks;
 #[cfg(test)]
 mod first_version;
 #[cfg(test)]
-mod stopped_openings;
-#[cfg(test)]
 mod stored_rows;
 #[cfg(test)]
 mod tables;
