@@ -5,6 +5,7 @@ pub mod NoteReplies
 pub mod Parts
 pub mod DrawParts
 pub mod FailuresCounted
+pub mod Happened
 pub mod Walking
 pub mod AnswerParts
 pub mod HandedOn

@@ -26,6 +26,9 @@ pub trait Books: Issued {
     /// The rows of the nine tables.
     ghost rows: { Self → Rows };
 
+    /// What a stop leaves in a change, or after it, from the first state to the second, which was answered so.
+    ghost leaves_change: { Change → Self → Self → Result (Unit {0}) LookFault → Type 0 };
+
     /// The business day, once it is set.
     fn day(&mut self) -> Result<Option<Day>, LookFault>
         ensures { LooksUp Self.Issued false (λ a. a) (rows self.old).day self.old self.new result };
@@ -114,6 +117,9 @@ pub trait Books: Issued {
         ensures ok { Self.is_clean self.new → OnOk result (rows self.new ≡ made change (rows self.old)) }
         ensures err { Self.is_clean self.new → OnErr result (rows self.new ≡ rows self.old) }
         ensures was_clean { Self.is_clean self.new → Self.is_clean self.old }
+        ensures was_honest { Self.is_honest self.new → Self.is_honest self.old }
+        ensures vouched { Self.is_honest self.new → OnOk result (Self.is_clean self.new) }
+        ensures stop { leaves_change change self.old self.new result }
         ensures counted { NoFewer (Self.failures self.old) (Self.failures self.new) }
         ensures fault { IfErr result (λ why. HasRisen (Self.failures self.old why) (Self.failures self.new why)) }
         ensures sure { Self.never_fails → takes_memory change ≡ false → IsOk result };

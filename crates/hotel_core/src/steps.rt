@@ -2,7 +2,7 @@
 ghost use Rattle.std.specs.Prelude.{◌≡◌, true, false};
 ghost use Rattle.rand_core.specs.Stream.{Stream};
 ghost use Rattle.keycard_rules.specs.{Draw.words, Rise.NoFewer};
-ghost use Rattle.hotel_core.specs.{Books.Failures.AreCounted, Books.Failures.failure_in, Model.Leads.Leads, Model.NoteReplies.IsNoteReply, Model.Run.Steps, Model.Run.is_failed};
+ghost use Rattle.hotel_core.specs.{Books.Failures.AreCounted, Books.Failures.failure_in, Model.Leads.Leads, Model.Leads.LeadsOn, Model.NoteReplies.IsNoteReply, Model.Run.Steps, Model.Run.is_failed};
 ghost use Rattle.hotel_core.specs.{Model.Ranges.IsCommand, Model.Ranges.IsReply, Refinement.Finds.reply_of, Refinement.OnRows.outcome_on, Refinement.StepOnRows.StepsAs};
 ghost use Rattle.hotel_core.specs.Books.Fits.{takes_none};
 ghost use Rattle.hotel_core.specs.declared.command.Command.TheVariants as command;
@@ -70,6 +70,10 @@ pub fn step<B: Books, R: Rng>(books: &mut B, source: &mut R, command: &Command) 
         (λ h h'. Steps h (R.stream source.old) command.now result h' (R.stream source.new)) (B.rows books.new) }
     ensures failed { B.is_clean books.new →
         AreCounted (B.failures books.old) (B.failures books.new) (failure_in result) }
+    ensures happened { B.is_honest books.new → LeadsOn (B.is_clean books.old) (B.rows books.old)
+        (λ h h'. Steps h (R.stream source.old) command.now result h' (R.stream source.new)) (B.is_clean books.new) (B.rows books.new) }
+    ensures vouched { B.is_honest books.new → is_failed result ≡ false → B.is_clean books.new }
+    ensures was_honest { B.is_honest books.new → B.is_honest books.old }
     ensures was_clean { B.is_clean books.new → B.is_clean books.old }
     ensures counted { NoFewer (B.failures books.old) (B.failures books.new) }
     ensures range { IsReply result }
@@ -91,6 +95,10 @@ pub fn report<B: Books>(books: &mut B, note: &LockNote) -> Reply
     ensures unchanged { B.is_clean books.new → is_failed result ≡ true → B.rows books.new ≡ B.rows books.old }
     ensures failed { B.is_clean books.new →
         AreCounted (B.failures books.old) (B.failures books.new) (failure_in result) }
+    ensures happened { B.is_honest books.new → (source : Stream) → LeadsOn (B.is_clean books.old) (B.rows books.old)
+        (λ h h'. Steps h source (command.Reported note.now) result h' source) (B.is_clean books.new) (B.rows books.new) }
+    ensures vouched { B.is_honest books.new → is_failed result ≡ false → B.is_clean books.new }
+    ensures was_honest { B.is_honest books.new → B.is_honest books.old }
     ensures was_clean { B.is_clean books.new → B.is_clean books.old }
     ensures counted { NoFewer (B.failures books.old) (B.failures books.new) }
 {

@@ -104,6 +104,7 @@ fits_start old start P b fits clean is_open = subst (λ (s : State). P (rows_in 
 pub record Ends (make : Rows → Rows) (old new : State) (r : Result (Unit {0}) Error) : Type 0 where
   pub books : IsBooks new
   pub was : IsKept new → IsKept old
+  pub open_on : HasCleanDisk new → OnOk r (IsTrue new.is_open)
   pub made : IsKept new → OnOk r (rows_in new.now.trees ≡ make (rows_in old.now.trees))
   pub same : IsKept new → OnErr r (new.now ≡ old.now)
   pub crash : Survives old new (IsMadeOf make old.now.trees)
@@ -151,10 +152,15 @@ module _ {fits : Rows → Type 0} {make : Rows → Rows} {old start mid : State}
         go (Err e) h (inl fails) = let it = back fails.3 in (it.0, tt, it.1)
         go (Err e) h (inr late) = absurd (true≢false (sym did_all.mid.inside ∙ late.1))
 
+    left_open : (r : Result (Unit {0}) Error) → OnOk r (IsTrue mid.in_transaction × Shows mid new mid.now mid.now false × KeepsCounts mid new × (new.marks ≡ [])) → OnOk r (IsTrue new.is_open)
+    left_open (Ok u) h = h.1.is_open
+    left_open (Err e) h = tt
+
     pub ended : Ends make old new r
     ended = record {
       books = record { autocommit = committed; desk = λ kept. (ends kept).0 };
       was = λ kept. was_kept (clean_mid kept.0);
+      open_on = λ clean. left_open r (ok clean);
       made = λ kept. (ends kept).1;
       same = λ kept. (ends kept).2;
       crash = survives_then old mid new (λ _. ⊥) (λ db. db ≡ mid.now.trees) (IsMadeOf make old.now.trees) (λ _ db none. absurd none)

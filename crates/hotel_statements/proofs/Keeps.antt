@@ -4,7 +4,10 @@ use Rattle.sqlite.specs.Order.{Row}
 use Rattle.sqlite.specs.Tree.{Trees}
 use Rattle.sqlite.specs.Effect.{Database}
 use Rattle.sqlite.specs.Listing.{understood}
-use Rattle.sqlite.specs.State.{State, HasCleanDisk, QueriesRow, Shown, FailsToQuery, IsNotRun, IsUnchanged, IsRolledBack, Survives, ShowsRows, FailsToShow}
+use Rattle.sqlite.specs.State.{State, HasCleanDisk, QueriesRow, Shown, FailsToQuery, IsNotRun, IsUnchanged, IsRolledBack, Survives, ShowsRows, FailsToShow, store_error}
+use Rattle.sqlite_trees.specs.declared.error.StoreError.{StoreError}
+use Rattle.sqlite_trees.specs.declared.error.StoreError.TheVariants.{OutOfMemory}
+use Rattle.sqlite.specs.declared.error.Error.TheVariants.{QueryReturnedNoRows}
 use Rattle.sqlite.specs.declared.error.Error.{Error}
 use Rattle.sqlite.proofs.Callers.{IsPlain}
 use Rattle.sqlite_schema.specs.declared.command.Returning.{Returning}
@@ -103,20 +106,41 @@ shown_stay sql params old new rows plain h =
     let none = (subst IsPlain h.1.is plain).0 in
     inl (subst (ShowsRows old new sql h.0 _ rows) none h.2).3
 
--- ---- a statement that showed rows left the connection open
+-- ---- a statement that showed rows left the connection open, whatever the text is
 
-pub shown_is_open : (sql : List ℕ) (params : Row) (old new : State) (rows : List Row) → IsPlain (understood old.now.schema sql) → Shown sql params old new rows
+show_is_open : (sql : List ℕ) (c : Compiled) (params : Row) (old new : State) (rows : List Row) (how : Option Returning) → ShowsRows old new sql c params rows how
     → IsTrue new.is_open
+show_is_open sql c params old new rows None h = h.3.0.is_open
+show_is_open sql c params old new rows (Some what) h = h.1.shown.is_open
+
+pub shown_is_open : (sql : List ℕ) (params : Row) (old new : State) (rows : List Row) → Shown sql params old new rows → IsTrue new.is_open
 unfolding Shown
-shown_is_open sql params old new rows plain h =
-    let none = (subst IsPlain h.1.is plain).0 in
-    (subst (ShowsRows old new sql h.0 _ rows) none h.2).3.0.is_open
+shown_is_open sql params old new rows h = show_is_open sql h.0 _ old new rows h.0.returning h.2
 
-pub first_is_open : (sql : List ℕ) (params : Row) (old new : State) (row : Row) → IsPlain (understood old.now.schema sql) → QueriesRow sql params old new (Ok row)
-    → IsTrue new.is_open
+pub first_is_open : (sql : List ℕ) (params : Row) (old new : State) (row : Row) → QueriesRow sql params old new (Ok row) → IsTrue new.is_open
 unfolding QueriesRow
-first_is_open sql params old new row plain (inl h) = h.1.0.is_open
-first_is_open sql params old new row plain (inr h) = shown_is_open sql params old new h.0 plain h.1
+first_is_open sql params old new row (inl h) = h.1.0.is_open
+first_is_open sql params old new row (inr h) = shown_is_open sql params old new h.0 h.1
+
+not_store : (cause : StoreError) → QueryReturnedNoRows ≡ store_error cause → ⊥
+not_store OutOfMemory e = absurd cc
+not_store _ e = absurd cc
+
+none_show_open : (sql : List ℕ) (c : Compiled) (params : Row) (old new : State) (how : Option Returning) → FailsToShow old new sql c params QueryReturnedNoRows how → IsTrue new.is_open
+none_show_open sql c params old new None h = h.3.0.is_open
+none_show_open sql c params old new (Some what) (inl h) = h.1.0.is_open
+none_show_open sql c params old new (Some what) (inr h) = absurd (not_store h.0 h.1)
+
+none_fail_open : (sql : List ℕ) (params : Row) (old new : State) → FailsToQuery sql params old new QueryReturnedNoRows → IsTrue new.is_open
+unfolding FailsToQuery IsNotRun
+none_fail_open sql params old new (inl (inl h)) = h.1.0.is_open
+none_fail_open sql params old new (inl (inr h)) = absurd (not_store h.0 h.1)
+none_fail_open sql params old new (inr h) = none_show_open sql h.0 _ old new h.0.returning h.2
+
+pub none_is_open : (sql : List ℕ) (params : Row) (old new : State) → QueriesRow sql params old new (Err QueryReturnedNoRows) → IsTrue new.is_open
+unfolding QueriesRow
+none_is_open sql params old new (inl h) = none_fail_open sql params old new h
+none_is_open sql params old new (inr h) = shown_is_open sql params old new [] h.1
 
 -- ---- two look-ups, the first of which was answered
 

@@ -115,14 +115,14 @@ module _ {V : Type 0} (tree : ℕ) (project : List Term) (columns : Row → Row)
 pub looks_to : {A B R : Type 0} (text : List ℕ) (params : Row) (old new : State) (out : Row → A) (q : Query) (found : Result (Option A) LookFault) (result : Result R LookFault)
     (said : R → B) (wanted : Rows → B)
     → IsBooks old → IsBooks new → KeepsRows old new → (IsKept new → (p : Query) → Asks text p → IfOk found (AnswersFirst out p params old.now.trees))
-    → (IsKept old → HasCleanDisk new → OnOk result (IsTrue new.is_open)) → Survives old new (λ _. IsKept old → ⊥) → Asks text q
+    → (HasCleanDisk new → OnOk result (IsTrue new.is_open)) → Survives old new (λ _. IsKept old → ⊥) → Asks text q
     → (IsKept old → AreTables old.now.trees → IfOk found (AnswersFirst out q params old.now.trees) → IfOk result (λ a. said a ≡ wanted (rows_in old.now.trees)))
     → Looks said wanted old new result
 looks_to text params old new out q found result said wanted was books keeps finds open_on crash asks is = record {
   books = books;
   keeps = keeps;
   found = λ kept. let before = (keeps kept).0 in is before (was.desk before).tables (finds kept q asks);
-  open_on = open_on;
+  open_on = λ _. open_on;
   crash = crash;
 }
 

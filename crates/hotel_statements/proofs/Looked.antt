@@ -19,7 +19,7 @@ use Rattle.sqlite.proofs.StateLemmas.{survives_weaker}
 use Rattle.hotel_statements.specs.Schema.{desk_schema}
 use Rattle.hotel_statements.specs.Books.{IsDesk, IsKept, IsBooks, KeepsRows}
 use Rattle.hotel_statements.specs.LookUps.{Asks, IsQuery, AnswersFirst, AnswersAll}
-use Rattle.hotel_statements.proofs.Keeps.{Stays, query_stays, query_opened, keeps_books, keeps_rows, shown_stay, shown_opened, shown_is_open, first_is_open, fails_stay, fail_opened}
+use Rattle.hotel_statements.proofs.Keeps.{Stays, query_stays, query_opened, keeps_books, keeps_rows, shown_stay, shown_opened, shown_is_open, first_is_open, none_is_open, fails_stay, fail_opened}
 
 -- no other failure is that no row was found
 not_read : (command : Command) (limit : Option ℕ) (db : Database) (params : Row) → RefusesToRead limit command db params QueryReturnedNoRows → ⊥
@@ -86,17 +86,11 @@ module _ (text : List ℕ) (params : Row) (old new : State) (r : Result Row Erro
       go desk (inl h) = absurd (not_failed text params old new (plain_in text q old asks desk) h)
       go desk (inr h) = (reads_as text params old new desk_schema desk.schema _ (command_is q _ asks.query).1 asks.plain asks.listing [] h.1).answer Null
 
-  pub look_open : (row : Row) → r ≡ Ok row → IsKept old → HasCleanDisk new → IsTrue new.is_open
-  look_open row is kept clean = first_is_open text params old new row (plain_in text asked.0 old asked.1 (books.desk kept))
-      (subst (QueriesRow text params old new) is (runs clean))
+  pub look_open : (row : Row) → r ≡ Ok row → HasCleanDisk new → IsTrue new.is_open
+  look_open row is clean = first_is_open text params old new row (subst (QueriesRow text params old new) is (runs clean))
 
-  pub none_open : r ≡ Err QueryReturnedNoRows → IsKept old → HasCleanDisk new → IsTrue new.is_open
-  unfolding QueriesRow
-  none_open is kept clean = go (plain_in text asked.0 old asked.1 (books.desk kept)) (subst (QueriesRow text params old new) is (runs clean))
-    where
-      go : IsPlain (understood old.now.schema text) → QueriesRow text params old new (Err QueryReturnedNoRows) → IsTrue new.is_open
-      go plain (inl h) = absurd (not_failed text params old new plain h)
-      go plain (inr h) = shown_is_open text params old new [] plain h.1
+  pub none_open : r ≡ Err QueryReturnedNoRows → HasCleanDisk new → IsTrue new.is_open
+  none_open is clean = none_is_open text params old new (subst (QueriesRow text params old new) is (runs clean))
 
 -- ---- all rows of an answer
 
@@ -123,8 +117,8 @@ module _ (text : List ℕ) (params : Row) (old new : State) (books : IsBooks old
         let desk = books.desk (all_keeps kept).0 in
         (rows, (reads_as text params old new desk_schema desk.schema _ (command_is q _ asks.query).1 asks.plain asks.listing rows (shown kept.0)).answer Null, reads)
 
-    pub all_open : IsKept old → HasCleanDisk new → IsTrue new.is_open
-    all_open kept clean = shown_is_open text params old new rows (plain_in text asked.0 old asked.1 (books.desk kept)) (shown clean)
+    pub all_open : HasCleanDisk new → IsTrue new.is_open
+    all_open clean = shown_is_open text params old new rows (shown clean)
 
   module _ (e : Error) (fails : HasCleanDisk new → FailsToQuery text params old new e) where
     fault_stays : HasCleanDisk new → IsDesk old → Stays old new

@@ -27,7 +27,7 @@ use Rattle.hotel_statements.specs.Schema.{desk_schema}
 use Rattle.hotel_statements.specs.Books.{IsDesk, IsKept, IsBooks, KeepsRows}
 use Rattle.hotel_statements.specs.LookUps.{Asks}
 use Rattle.hotel_statements.specs.Walks.{SaysRows, HandsOne, WalksRows}
-use Rattle.hotel_statements.proofs.Keeps.{Stays, keeps_books, keeps_rows, then_keeps, then_survives, shown_opened}
+use Rattle.hotel_statements.proofs.Keeps.{Stays, keeps_books, keeps_rows, then_keeps, then_survives, shown_opened, shown_is_open}
 use Rattle.hotel_statements.proofs.Looked.{command_is, plain_in, all_crash, fault_books, fault_keeps}
 
 -- the test holds, or it does not
@@ -83,6 +83,7 @@ pub record IsUnderWay {S A K : Type 0} (g : Ghosts S) (of : Row → A) (after : 
   pub books : IsBooks (state g now)
   pub keeps : KeepsRows (state g old) (state g now)
   pub crash : Survives (state g old) (state g now) (λ _. IsKept (state g old) → ⊥)
+  pub open_on : HasCleanDisk (state g now) → IsTrue (state g now).is_open
   pub taken : List A
   pub takes : Takes after taken sink end
   pub given : IsKept (state g now) → (rows : List Row) × HasGiven g text params now rows × (taken ≡ map of rows)
@@ -112,6 +113,7 @@ module _ {S A K : Type 0} (g : Ghosts S) (of : Row → A) (after after_stop : K 
           books = keeps_books (state g old) (state g new) _ books mode survives stays (λ clean is_open. begun_opened (begun clean));
           keeps = keeps;
           crash = all_crash text params (state g old) (state g new) books asks mode survives;
+          open_on = λ clean. begun_is_open (begun clean);
           taken = [];
           takes = refl;
           given = λ kept. ([], (begun_plain g text params old new (plain (books.desk (keeps kept).0)) (begun kept.0)).0, refl);
@@ -121,12 +123,17 @@ module _ {S A K : Type 0} (g : Ghosts S) (of : Row → A) (after after_stop : K 
         begun_opened (inl h) = h.1.0.was_open
         begun_opened (inr h) = shown_opened text params (state g old) (state g new) _ h.1
 
+        begun_is_open : HasBegun g text params old new → IsTrue (state g new).is_open
+        begun_is_open (inl h) = h.1.0.is_open
+        begun_is_open (inr h) = shown_is_open text params (state g old) (state g new) _ h.1
+
     pub refused : (rows : List A) (e : Error) → (HasCleanDisk (state g new) → FailsToQuery text params (state g old) (state g new) e)
         → (fault : WalkFault) (cause : LookFault) → failure_of (Err fault) ≡ Some cause
         → WalksRows after after_stop rows (state g old) (state g new) sink sink (Err fault)
     refused rows e fails fault cause is = record {
       books = fault_books text params (state g old) (state g new) books asks mode survives e fails;
       keeps = fault_keeps text params (state g old) (state g new) books asks mode survives e fails;
+      open_on = λ _ none. absurd (let k = is in cc);
       hands = (rows, failed_walk after after_stop rows sink sink fault cause is ([], rows, refl, refl), λ _. refl);
       crash = all_crash text params (state g old) (state g new) books asks mode survives;
     }
@@ -160,6 +167,9 @@ module _ {S A K : Type 0} (g : Ghosts S) (of : Row → A) (after after_stop : K 
     still_survives : Survives (state g old) (state g new.conn.now) (λ _. IsKept (state g old) → ⊥)
     still_survives = survives_then (state g old) (state g mid.conn.now) (state g new.conn.now) _ _ _ (λ _ db none. none) (λ _ db none. absurd none) so_far.crash moved.survives
 
+    answered_open : (r : Option (Bor Row)) → result ≡ Ok r → HasCleanDisk (state g new.conn.now) → IsTrue (state g new.conn.now).is_open
+    answered_open r is clean = (subst (λ x. OnOk x (IsUnchanged (state g mid.conn.now) (state g new.conn.now))) is (moved.same clean)).0.is_open
+
     module _ (row : Bor Row) (is : result ≡ Ok (Some row)) where
       given_more : IsKept (state g new.conn.now) → (rows : List Row) × HasGiven g text params new.conn.now (rows ++ row.now ∷ []) × (so_far.taken ≡ map of rows)
       given_more kept =
@@ -171,6 +181,7 @@ module _ {S A K : Type 0} (g : Ghosts S) (of : Row → A) (after after_stop : K 
         books = still_books;
         keeps = still_keeps;
         crash = still_survives;
+        open_on = answered_open (Some row) is;
         taken = so_far.taken ++ of row.now ∷ [];
         takes = all_taken after _ _ _ (one_more after (so_far.taken ++ of row.now ∷ []) (of row.now) [] _ _ _ (so_far.taken, refl, so_far.takes) took);
         given = λ kept. let it = given_more kept in (it.0 ++ row.now ∷ [], it.1, ap (λ ts. ts ++ of row.now ∷ []) it.2 ∙ sym (map-append of it.0 (row.now ∷ [])));
@@ -179,7 +190,7 @@ module _ {S A K : Type 0} (g : Ghosts S) (of : Row → A) (after after_stop : K 
       -- the row was not taken
       pub left : (rows : List A) → SaysRows of text params (state g old) rows → (end : K) (fault : WalkFault) → HandsOne after after_stop (of row.now) now end (Err fault)
           → WalksRows after after_stop rows (state g old) (state g new.conn.now) sink end (Err fault)
-      left rows says end fault hands = record { books = still_books; keeps = still_keeps; crash = still_survives; hands = go fault hands }
+      left rows says end fault hands = record { books = still_books; keeps = still_keeps; crash = still_survives; open_on = λ clean _. answered_open (Some row) is clean; hands = go fault hands }
         where
           value : A
           value = of row.now
@@ -212,6 +223,7 @@ module _ {S A K : Type 0} (g : Ghosts S) (of : Row → A) (after after_stop : K 
       books = still_books;
       keeps = still_keeps;
       crash = still_survives;
+      open_on = λ clean _. answered_open None is clean;
       hands = (
         so_far.taken,
         so_far.takes,
@@ -232,6 +244,7 @@ module _ {S A K : Type 0} (g : Ghosts S) (of : Row → A) (after after_stop : K 
           books = still_books;
           keeps = still_keeps;
           crash = still_survives;
+          open_on = λ _ none. absurd (let k = is in cc);
           hands = (so_far.taken ++ rest.0, failed_walk after after_stop _ sink now fault cause is (so_far.taken, rest.0, refl, so_far.takes), rest.1);
         }
 
@@ -244,6 +257,7 @@ module _ {S A K : Type 0} (g : Ghosts S) (of : Row → A) (after after_stop : K 
         books = so_far.books;
         keeps = so_far.keeps;
         crash = so_far.crash;
+        open_on = λ clean _. so_far.open_on clean;
         hands = (so_far.taken ++ rest.0, (so_far.taken, rest.0, refl, so_far.takes), rest.1);
       }
 
@@ -255,6 +269,7 @@ module _ {A K : Type 0} (after after_stop : K → A → K → Type 0) (rows : Li
   then_walks new end result keeps open_on crash walked = record {
     books = walked.books;
     keeps = then_keeps old mid new keeps walked.keeps;
+    open_on = walked.open_on;
     hands = walked.hands;
     crash = then_survives old mid new open_on crash walked.crash;
   }
@@ -264,6 +279,7 @@ module _ {A K : Type 0} (after after_stop : K → A → K → Type 0) (rows : Li
   not_begun fault cause is books keeps crash = record {
     books = books;
     keeps = keeps;
+    open_on = λ _ none. absurd (let k = is in cc);
     hands = (rows, failed_walk after after_stop rows sink sink fault cause is ([], rows, refl, refl), λ _. refl);
     crash = crash;
   }

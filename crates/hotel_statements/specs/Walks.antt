@@ -36,6 +36,7 @@ HandsOne after after_stop row sink end (Err why.Store) = end ≡ sink
 pub record WalksRows {S R : Type 0} (after after_stop : S → R → S → Type 0) (rows : List R) (old new : State) (sink end : S) (result : Result (Unit {0}) WalkFault) : Type 0 where
   pub books : IsBooks new
   pub keeps : KeepsRows old new
+  pub open_on : HasCleanDisk new → failure_of result ≡ None → IsTrue new.is_open
   pub hands : (handed : List R) × Hands after after_stop handed sink end result × (IsKept new → handed ≡ rows)
   pub crash : Survives old new (λ _. IsKept old → ⊥)
 

@@ -25,7 +25,7 @@ pub(crate) fn look<S: Alter, R: FromRow>(
     ensures books { IsBooks (state S.Store conn.new) }
     ensures keeps { KeepsRows (state S.Store conn.old) (state S.Store conn.new) }
     ensures found { IsKept (state S.Store conn.new) → FindsFirst R.FromRow.of text.now (bound params.now) (state S.Store conn.old) result }
-    ensures open_on { IsKept (state S.Store conn.old) → HasCleanDisk (state S.Store conn.new) → OnOk result (IsTrue (state S.Store conn.new).is_open) }
+    ensures open_on { HasCleanDisk (state S.Store conn.new) → OnOk result (IsTrue (state S.Store conn.new).is_open) }
     ensures crash { Survives (state S.Store conn.old) (state S.Store conn.new) (λ _. IsKept (state S.Store conn.old) → ⊥) }
 {
     match conn.query_row(text, params) {
@@ -61,7 +61,7 @@ pub(crate) fn look_all<S: Alter, R: FromRow + Drop>(
     ensures books { IsBooks (state S.Store conn.new) }
     ensures keeps { KeepsRows (state S.Store conn.old) (state S.Store conn.new) }
     ensures found { IsKept (state S.Store conn.new) → FindsAll (λ all. all.items) R.FromRow.of text.now (bound params.now) (state S.Store conn.old) result }
-    ensures open_on { IsKept (state S.Store conn.old) → HasCleanDisk (state S.Store conn.new) → OnOk result (IsTrue (state S.Store conn.new).is_open) }
+    ensures open_on { HasCleanDisk (state S.Store conn.new) → OnOk result (IsTrue (state S.Store conn.new).is_open) }
     ensures crash { Survives (state S.Store conn.old) (state S.Store conn.new) (λ _. IsKept (state S.Store conn.old) → ⊥) }
 {
     match conn.query_all(text, params) {

@@ -1,8 +1,8 @@
 -- What a change of the books needs beside its rows, to be made over tables, and what making it says.
-use Rattle.std.specs.Prelude.{◌≡◌, ◌+◌, ◌-◌, ◌^◌, Bool, true, false, Option, Some, None, Result, OnOk, OnErr}
+use Rattle.std.specs.Prelude.{◌≡◌, ◌+◌, ◌-◌, ◌^◌, Bool, true, false, Option, Some, None, Result, OnOk, OnErr, IsTrue}
 use Rattle.std.specs.Prelude.{if◌then◌else◌, nat_lt, option_map}
 use Rattle.sqlite.specs.Tree.{Trees}
-use Rattle.sqlite.specs.State.{State, Survives}
+use Rattle.sqlite.specs.State.{State, HasCleanDisk, Survives}
 use Rattle.keycard_rules.specs.declared.issued.LookFault.{LookFault}
 use Rattle.hotel_core.specs.declared.books.rows.RoomRow.{RoomRow}
 use Rattle.hotel_core.specs.declared.books.rows.FitRow.{FitRow}
@@ -66,8 +66,14 @@ pub record Applies (change : Change) (old new : State) (result : Result (Unit {0
   pub was : IsKept new → IsKept old
   pub whole : IsKept new → OnOk result (rows_in new.now.trees ≡ made change (rows_in old.now.trees))
   pub same : IsKept new → OnErr result (new.now ≡ old.now)
+  pub open_on : HasCleanDisk new → OnOk result (IsTrue new.is_open)
   pub crash : Survives old new (λ db. IsKept old → IsMadeOf (made change) old.now.trees db)
 
 -- a crash at this moment leaves the tables as they are
 abbrev pub LeavesAll : State → Type 0
 LeavesAll s = (db : Trees) → s.may_leave db → db ≡ s.now.trees
+
+-- A crash in a change or after it leaves what one could leave before, or the change made; and where it was answered and no failure shut the connection, the tables as they are.
+pub record LeavesChange (change : Change) (old new : State) : Type 0 where
+  pub crash : Survives old new (λ db. IsKept old → IsMadeOf (made change) old.now.trees db)
+  pub left : IsKept new → LeavesAll new

@@ -1,7 +1,7 @@
 //! A change of the books over the connection, one transaction.
-ghost use Rattle.std.specs.Prelude.{◌≡◌, true, option_map, OnOk, OnErr, IfOk, IfSome, IsSome};
+ghost use Rattle.std.specs.Prelude.{◌≡◌, true, option_map, OnOk, OnErr, IfOk, IfSome, IsSome, IsTrue};
 ghost use Rattle.sqlite.specs.Held.{state};
-ghost use Rattle.sqlite.specs.State.{Survives};
+ghost use Rattle.sqlite.specs.State.{HasCleanDisk, Survives};
 ghost use Rattle.hotel_core.specs.Books.Change.{made};
 ghost use Rattle.hotel_core.specs.Books.Fits.{Fits};
 ghost use Rattle.hotel_core.specs.Books.Lookups.{room_at};
@@ -85,6 +85,7 @@ fn make_change<S: Alter>(
         → MayMake change.now (told known) (rows_in (state S.Store conn.old).now.trees) }
     ensures books { IsBooks (state S.Store conn.new) }
     ensures was { IsKept (state S.Store conn.new) → IsKept (state S.Store conn.old) }
+    ensures open_on { HasCleanDisk (state S.Store conn.new) → OnOk result (IsTrue (state S.Store conn.new).is_open) }
     ensures made { IsKept (state S.Store conn.new) → OnOk result (rows_in (state S.Store conn.new).now.trees ≡ made change.now (rows_in (state S.Store conn.old).now.trees)) }
     ensures same { IsKept (state S.Store conn.new) → OnErr result ((state S.Store conn.new).now ≡ (state S.Store conn.old).now) }
     ensures crash { Survives (state S.Store conn.old) (state S.Store conn.new) (IsMadeOf (made change.now) (state S.Store conn.old).now.trees) }

@@ -2,7 +2,7 @@
 ghost use Rattle.std.specs.Prelude.{None, OnOk, OnErr};
 ghost use Rattle.sqlite.specs.Held.{state};
 ghost use Rattle.hotel_statements.specs.Books.{IsBooks};
-ghost use Rattle.hotel_statements.specs.LookUps.{Looks};
+ghost use Rattle.hotel_statements.specs.LookUps.{MayLook};
 ghost use Rattle.hotel_tables.specs.Counted.{booked_by, ended_by, CountsMore, CountsLess, KeepsRooms, HasItsKind, CountsItsRoom};
 
 use hotel_core::{Change, KindRooms, NightIndex};
@@ -19,7 +19,7 @@ pub(crate) fn ended_by<S: Alter>(
     change: &Change,
 ) -> Result<Option<Stay>, LookFault>
     requires { IsBooks (state S.Store conn.old) }
-    ensures { Looks (λ a. a) (ended_by change.now) (state S.Store conn.old) (state S.Store conn.new) result }
+    ensures { MayLook (λ a. a) (ended_by change.now) (state S.Store conn.old) (state S.Store conn.new) result }
 {
     match change {
         Change::Cancelled(party) => look_ups::stay(alloc, conn, *party),

@@ -4,7 +4,7 @@ ghost use Rattle.std.proofs.Common.{ap, ◌∙◌};
 ghost use Rattle.keycard_rules.specs.Rise.{HasRisen, NoFewer};
 ghost use Rattle.hotel_core.specs.Books.Lookups.{codes_in};
 ghost use Rattle.sqlite.specs.Held.{state};
-ghost use Rattle.sqlite.specs.State.{Survives};
+ghost use Rattle.sqlite.specs.State.{HasCleanDisk, Survives};
 ghost use Rattle.hotel_core.specs.Model.Rows.{no_rows};
 ghost use Rattle.hotel_statements.specs.Schema.{no_schema};
 ghost use Rattle.hotel_statements.specs.NewDesk.{IsEmptyDesk};
@@ -125,6 +125,10 @@ impl<S: Alter> Issued for TableBooks<S> {
 
     ghost is_clean = { λ b. IsKept (state S.Store b.conn) };
 
+    ghost is_honest = { λ b. HasCleanDisk (state S.Store b.conn) };
+
+    ghost leaves_no_more = { λ a b. LeavesNoMore (state S.Store a.conn) (state S.Store b.conn) };
+
     ghost is_kept = { λ a b. rows_in (state S.Store b.conn).now.trees ≡ rows_in (state S.Store a.conn).now.trees };
 
     ghost failures = { failed };
@@ -137,6 +141,8 @@ impl<S: Alter> Issued for TableBooks<S> {
     }
 
     ghost never_store = { λ a never. absurd never };
+
+    ghost clean_honest = { λ a kept. kept.0 };
 
     ghost kept_refl = { λ a. refl };
 

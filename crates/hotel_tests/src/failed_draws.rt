@@ -18,6 +18,10 @@ impl Issued for FailingCodes {
 
     ghost is_clean = { λ _. ⊥ };
 
+    ghost is_honest = { λ _. ⊥ };
+
+    ghost leaves_no_more = { λ _ _. Unit {0} };
+
     ghost is_kept = { λ _ _. Unit {0} };
 
     ghost failures = { λ codes _. codes.failures };
@@ -34,6 +38,8 @@ impl Issued for FailingCodes {
     }
 
     ghost never_store = { λ a never. absurd never };
+
+    ghost clean_honest = { λ a clean. clean };
 
     ghost kept_refl = { λ a. tt };
 

@@ -22,7 +22,7 @@ pub enum DrawFault {
 /// A word's code is its upper 48 bits. The source moves by the words that were examined, and on a fault of a look-up by no more
 /// than without it. Takes no memory of its own.
 pub fn draw_fresh<R: Rng, I: Issued>(source: &mut R, issued: &mut I) -> Result<Code, DrawFault>
-    ensures drawn { I.is_clean issued.new → Draws (I.issued issued.old) (R.stream source.old) result (R.stream source.new) }
+    ensures drawn { I.is_honest issued.new → Draws (I.issued issued.old) (R.stream source.old) result (R.stream source.new) }
     ensures fresh { I.is_clean issued.new → IfOk result (λ code. is_one_of code (I.issued issued.old) ≡ false) }
     ensures none_fresh { I.is_clean issued.new → result ≡ Err DrawFault.NoFreshCode → AllIssued (I.issued issued.old) (words 64 (R.stream source.old)) }
 
@@ -31,6 +31,8 @@ pub fn draw_fresh<R: Rng, I: Issued>(source: &mut R, issued: &mut I) -> Result<C
 
     ensures kept { I.is_clean issued.new → I.is_kept issued.old issued.new }
     ensures was_clean { I.is_clean issued.new → I.is_clean issued.old }
+    ensures was_honest { I.is_honest issued.new → I.is_honest issued.old }
+    ensures vouched { I.is_honest issued.new → fault_in result ≡ None → I.is_clean issued.new }
     ensures counted { NoFewer (I.failures issued.old) (I.failures issued.new) }
     ensures fault { IfSome (fault_in result) (λ why. HasRisen (I.failures issued.old why) (I.failures issued.new why)) }
     ensures sure { I.never_fails → fault_in result ≡ None }

@@ -1,5 +1,5 @@
 //! What knows the codes that were issued, asked before a new one is given out.
-ghost use Rattle.std.specs.Prelude.{◌≡◌, ℕ, List, IfOk, IfErr, IsOk, refl};
+ghost use Rattle.std.specs.Prelude.{◌≡◌, ℕ, List, IfOk, IfErr, OnOk, IsOk, refl};
 ghost use Rattle.std.proofs.Common.{◌∙◌};
 ghost use Rattle.keycard_rules.specs.{Words.is_one_of, Rise.HasRisen, Rise.NoFewer, declared.issued.LookFault.LookFault, declared.issued.LookFault.TheVariants.Store};
 
@@ -25,6 +25,13 @@ pub trait Issued {
     /// A test of the state: the clauses speak of calls at whose end it holds.
     ghost is_clean: { Self → Type 0 };
 
+    /// A weaker test of the state, which says nothing of failures: nobody else wrote what it is kept in, and what was
+    /// written is read back. Where it holds as a call ends, an answer that is no fault vouches that the state is clean.
+    ghost is_honest: { Self → Type 0 };
+
+    /// A stop at the second state leaves nothing that a stop at the first one couldn't have left.
+    ghost leaves_no_more: { Self → Self → Type 0 };
+
     /// The second state has what the first one has: all that a look-up may leave.
     ghost is_kept: { Self → Self → Type 0 };
 
@@ -39,12 +46,18 @@ pub trait Issued {
         ensures answer { is_clean self.new → IfOk result (λ yes. yes ≡ is_one_of code (issued self.old)) }
         ensures kept { is_clean self.new → is_kept self.old self.new }
         ensures was_clean { is_clean self.new → is_clean self.old }
+        ensures was_honest { is_honest self.new → is_honest self.old }
+        ensures vouched { is_honest self.new → OnOk result (is_clean self.new) }
+        ensures stop { leaves_no_more self.old self.new }
         ensures counted { NoFewer (failures self.old) (failures self.new) }
         ensures fault { IfErr result (λ why. HasRisen (failures self.old why) (failures self.new why)) }
         ensures sure { never_fails → IsOk result };
 
     // What never fails has no failure of the store.
     ghost never_store: { (a : Self) → never_fails → failures a Store ≡ 0 };
+
+    // What is clean is honest.
+    ghost clean_honest: { (a : Self) → is_clean a → is_honest a };
 
     ghost kept_refl: { (a : Self) → is_kept a a };
 
@@ -81,6 +94,10 @@ impl Issued for ListedCodes {
 
     ghost is_clean = { λ _. Unit {0} };
 
+    ghost is_honest = { λ _. Unit {0} };
+
+    ghost leaves_no_more = { λ _ _. Unit {0} };
+
     ghost is_kept = { λ before after. after ≡ before };
 
     ghost failures = { λ _ _. 0 };
@@ -92,6 +109,8 @@ impl Issued for ListedCodes {
     }
 
     ghost never_store = { λ a never. refl };
+
+    ghost clean_honest = { λ a clean. clean };
 
     ghost kept_refl = { λ a. refl };
 

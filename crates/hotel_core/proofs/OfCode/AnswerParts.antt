@@ -1,5 +1,5 @@
 -- What comes of a command on the books, as far as the command went.
-use Rattle.std.proofs.Common.{ℕ, ◌≡◌, Some, ap, sym, ◌∙◌, subst, Ok, option_map}
+use Rattle.std.proofs.Common.{Bool, ℕ, ◌≡◌, Some, ap, sym, ◌∙◌, subst, Ok, option_map}
 use Rattle.hotel_core.proofs.Names.{Stream, draw_from, words, Change, Reply, Refused, NoFreshCode, said_of, Rows, codes_in, DrawsCode, Outcome, accepted, by_draw, Ghosts as BooksOf}
 use Rattle.hotel_core.specs.Refinement.Answered.{IsOutcome, IsAnswered}
 use Rattle.hotel_core.proofs.OfCode.Parts.{SoFar}
@@ -10,14 +10,14 @@ pub comes_of : (rows : Rows) (a b : Outcome Change) → IsOutcome rows a → a �
 comes_of rows a b o e = subst (λ x. IsOutcome rows x) e o
 
 -- what comes of the command on the rows at its start comes of it on the rows as they are now
-pub comes_now : {S : Type 0} {I : IssuedOf S} {B : BooksOf S} {facts : Rows → Type 0} {start now : S} (outcome : Rows → Outcome Change)
-    → SoFar I B facts start now → (I.is_clean start → facts (B.rows start) → IsOutcome (B.rows start) (outcome (B.rows start)))
+pub comes_now : {S : Type 0} {I : IssuedOf S} {B : BooksOf S} {v : Bool} {facts : Rows → Type 0} {start now : S} (outcome : Rows → Outcome Change)
+    → SoFar I B v facts start now → (I.is_clean start → facts (B.rows start) → IsOutcome (B.rows start) (outcome (B.rows start)))
     → I.is_clean now → IsOutcome (B.rows now) (outcome (B.rows now))
 comes_now outcome s h clean = subst (λ rs. IsOutcome rs (outcome rs)) (sym (s.same clean)) (h (s.was_clean clean) (s.facts_hold clean))
 
 -- the command is accepted with this change and this reply
-pub answers : {S : Type 0} {I : IssuedOf S} {B : BooksOf S} {facts : Rows → Type 0} {start now : S} {change : Change} {reply : Reply}
-    → SoFar I B facts start now → (I.is_clean start → facts (B.rows start) → IsOutcome (B.rows start) (accepted reply change))
+pub answers : {S : Type 0} {I : IssuedOf S} {B : BooksOf S} {v : Bool} {facts : Rows → Type 0} {start now : S} {change : Change} {reply : Reply}
+    → SoFar I B v facts start now → (I.is_clean start → facts (B.rows start) → IsOutcome (B.rows start) (accepted reply change))
     → I.is_clean now → IsAnswered (B.rows now) change reply
 answers {change = change} {reply = reply} s h clean = (0, comes_now (λ rs. accepted reply change) s h clean)
 
@@ -29,8 +29,8 @@ drawn_answer rows o reply_with change_with source code e c =
     e ∙ ap (λ found. let x : Outcome Change = record { reply = said_of found (Refused NoFreshCode) reply_with; happens = option_map change_with found; examined = n } in x) c
 
 -- a code was drawn, and with it the command is accepted
-pub drawn_answers : {S : Type 0} {I : IssuedOf S} {B : BooksOf S} {facts : Rows → Type 0} {start old new : S} {source rest : Stream} {code : ℕ} (reply_with : ℕ → Reply) (change_with : ℕ → Change)
-    → SoFar I B facts start old → DrawsCode I B old new source rest (Ok code)
+pub drawn_answers : {S : Type 0} {I : IssuedOf S} {B : BooksOf S} {v : Bool} {facts : Rows → Type 0} {start old new : S} {source rest : Stream} {code : ℕ} (reply_with : ℕ → Reply) (change_with : ℕ → Change)
+    → SoFar I B v facts start old → DrawsCode I B old new source rest (Ok code)
     → (I.is_clean start → facts (B.rows start) → IsOutcome (B.rows start) (by_draw (draw_from (codes_in (B.rows start)) (words 64 source)) reply_with change_with))
     → I.is_clean new → IsAnswered (B.rows new) (change_with code) (reply_with code)
 drawn_answers {B = B} {start = start} {old = old} {source = source} {code = code} reply_with change_with s d h clean =

@@ -1,6 +1,7 @@
 -- A draw as a part of a step.
-use Rattle.std.proofs.Common.{ℕ, ◌≡◌, Bool, true, false, Some, None, Result, Ok, Err, IsErrAnd, List, refl, ap, sym, ◌∙◌, arith, subst, option_map, IfSome}
+use Rattle.std.proofs.Common.{ℕ, ◌≡◌, Bool, true, false, Some, None, Result, Ok, Err, IsErrAnd, List, refl, ap, sym, ◌∙◌, arith, subst, option_map, IfSome, inl, inr}
 use Rattle.hotel_core.proofs.Names.{false≢true, LookFault, Stream, HasRisen, NoFewer, Draw, Draws, fault_in, draw_from, drawn, words, past, Change, Reply, Refused, Refusal, NoFreshCode, said_of, Rows, codes_in, is_failed, Outcome, accepted, by_draw, made, GoesIf, made_by, AreWhole, StepsAs, DrawsCode, Drew, DrewNone, drawn_or, has_failed, refusal_of, reply_of, Ghosts as BooksOf}
+use Rattle.keycard_rules.specs.Draw.{MovedAtMost}
 use Rattle.keycard_rules.specs.declared.issued.LookFault.TheVariants as look
 use Rattle.keycard_rules.specs.{declared.draw.DrawFault.DrawFault, declared.issued.Issued.Ghosts as IssuedOf}
 use Rattle.keycard_rules.specs.declared.draw.DrawFault.TheVariants as fault
@@ -28,16 +29,34 @@ unfailed (Err fault.NoFreshCode) e = refl
 unfailed (Err fault.Memory) e = cc
 unfailed (Err fault.Store) e = cc
 
+unfaulted : (found : Result ℕ DrawFault) → has_failed (drawn_or found) ≡ false → fault_in found ≡ None
+unfaulted (Ok code) e = refl
+unfaulted (Err fault.NoFreshCode) e = refl
+unfaulted (Err fault.Memory) e = cc
+unfaulted (Err fault.Store) e = cc
+
+failed_moves : (found : Result ℕ DrawFault) (issued : List ℕ) (source rest : Stream) → has_failed (drawn_or found) ≡ true → Draws issued source found rest
+    → MovedAtMost (draw_from issued (words 64 source)).examined source rest
+unfolding drawn
+failed_moves (Ok code) issued source rest e d = absurd (false≢true e)
+failed_moves (Err fault.NoFreshCode) issued source rest e d = absurd (false≢true e)
+failed_moves (Err fault.Memory) issued source rest e d = d
+failed_moves (Err fault.Store) issued source rest e d = d
+
 -- a draw over books
 pub draws : {S : Type 0} {I : IssuedOf S} {B : BooksOf S} {is_kept : S → S → Type 0} {issued : S → List ℕ} {old new : S} {source rest : Stream} (found : Result ℕ DrawFault) (result : Result ℕ Refusal) → result ≡ drawn_or found
     → ((a b : S) → is_kept a b → B.rows b ≡ B.rows a) → ((a : S) → issued a ≡ codes_in (B.rows a))
-    → (I.is_clean new → Draws (issued old) source found rest) → (I.is_clean new → is_kept old new) → (I.is_clean new → I.is_clean old) → NoFewer (I.failures old) (I.failures new)
+    → (I.is_clean new → I.is_honest new) → (I.is_honest new → Draws (issued old) source found rest) → (I.is_clean new → is_kept old new) → (I.is_clean new → I.is_clean old)
+    → (I.is_honest new → I.is_honest old) → (I.is_honest new → fault_in found ≡ None → I.is_clean new) → NoFewer (I.failures old) (I.failures new)
     → IfSome (fault_in found) (λ cause. HasRisen (I.failures old cause) (I.failures new cause)) → (I.never_fails → fault_in found ≡ None)
     → DrawsCode I B old new source rest result
-draws {I = I} {B = B} {old = old} {new = new} {source = source} {rest = rest} found result e kept_rows issued_are d k w counted risen sure = subst (λ r. DrawsCode I B old new source rest r) (sym e) (record {
-  answer = λ clean. drew found _ source rest (subst (λ codes. Draws codes source found rest) (issued_are old) (d clean));
+draws {I = I} {B = B} {old = old} {new = new} {source = source} {rest = rest} found result e kept_rows issued_are ch d k w wh v counted risen sure = subst (λ r. DrawsCode I B old new source rest r) (sym e) (record {
+  answer = λ clean. drew found _ source rest (subst (λ codes. Draws codes source found rest) (issued_are old) (d (ch clean)));
   same = λ clean. kept_rows old new (k clean);
   was_clean = w;
+  was_honest = wh;
+  vouched = λ honest k. v honest (unfaulted found k);
+  moved = λ honest k. failed_moves found _ source rest k (subst (λ codes. Draws codes source found rest) (issued_are old) (d honest));
   counted = counted;
   fault = λ cause e. risen_of (λ x. HasRisen (I.failures old x) (I.failures new x)) found cause risen e;
   sure = λ n e. absurd (false≢true (sym (unfailed found (sure n)) ∙ e));
@@ -53,9 +72,15 @@ undrawn_at false o draw rows later source rest why reply_with change_with e same
   d.2 ∙ ap (λ x. past x.examined source) (sym e),
 )
 
+-- the source moved by at most what a draw examines, and so by what a step by it does
+examined_by : (o : Outcome Change) (mid draw : Draw) (source rest : Stream) (reply_with : ℕ → Reply) (change_with : ℕ → Change)
+    → o ≡ by_draw draw reply_with change_with → mid ≡ draw → MovedAtMost mid.examined source rest → MovedAtMost o.examined source rest
+examined_by o mid draw source rest reply_with change_with e same m =
+    subst (λ n. MovedAtMost n source rest) (ap (λ (x : Draw). x.examined) same ∙ ap (λ (x : Outcome Change). x.examined) (sym e)) m
+
 -- no code was drawn
 pub undrawn : {S : Type 0} {I : IssuedOf S} {B : BooksOf S} {facts : Rows → Type 0} {start old new : S} {source rest : Stream} {e : Refusal} {outcome : Rows → Outcome Change} (r : Result Reply Refusal) (reply_with : ℕ → Reply) (change_with : ℕ → Change)
-    → IsErrAnd r (λ x. x ≡ e) → SoFar I B facts start old → DrawsCode I B old new source rest (Err e)
+    → IsErrAnd r (λ x. x ≡ e) → SoFar I B true facts start old → DrawsCode I B old new source rest (Err e)
     → (facts (B.rows start) → outcome (B.rows start) ≡ by_draw (draw_from (codes_in (B.rows start)) (words 64 source)) reply_with change_with)
     → StepsAs I B outcome start new source rest (reply_of r)
 undrawn {I = I} {B = B} {start = start} {old = old} {new = new} {source = source} {rest = rest} {e = e} {outcome = outcome} r reply_with change_with p s d h =
@@ -66,6 +91,15 @@ undrawn {I = I} {B = B} {start = start} {old = old} {new = new} {source = source
           (h (s.facts_hold before)) (d.same clean ∙ s.same before)
           (subst (λ rs. DrewNone (is_failed (Refused e)) (draw_from (codes_in rs) (words 64 source)) source rest e) (s.same before) (d.answer clean));
       was_clean = λ clean. s.was_clean (d.was_clean clean);
+      was_honest = λ honest. s.was_honest (d.was_honest honest);
+      vouched = λ honest k. d.vouched honest k;
+      moved = λ honest k.
+          let before = s.vouched refl (d.was_honest honest) in
+          inr (
+            s.was_clean before,
+            examined_by (outcome (B.rows start)) (draw_from (codes_in (B.rows old)) (words 64 source)) (draw_from (codes_in (B.rows start)) (words 64 source)) source rest reply_with change_with
+                (h (s.facts_hold before)) (ap (λ rs. draw_from (codes_in rs) (words 64 source)) (s.same before)) (d.moved honest k),
+          );
       counted = λ cause. omega (arith, s.counted cause, d.counted cause);
       fault = λ clean w cause k. risen_later (I.failures start cause) (I.failures old cause) (I.failures new cause) (s.counted cause) (d.fault cause (cc)) (d.counted cause);
     })
@@ -82,8 +116,8 @@ made_after false o draw code reply_with change_with rows mid later source rest a
 )
 
 -- a code was drawn, and the change with it ended the step
-pub drawn_ends : {S : Type 0} {I : IssuedOf S} {B : BooksOf S} {facts : Rows → Type 0} {start old mid new : S} {source rest : Stream} {code : ℕ} {outcome : Rows → Outcome Change} {answer : Reply} (reply_with : ℕ → Reply) (change_with : ℕ → Change)
-    → SoFar I B facts start old → DrawsCode I B old mid source rest (Ok code)
+pub drawn_ends : {S : Type 0} {I : IssuedOf S} {B : BooksOf S} {v : Bool} {facts : Rows → Type 0} {start old mid new : S} {source rest : Stream} {code : ℕ} {outcome : Rows → Outcome Change} {answer : Reply} (reply_with : ℕ → Reply) (change_with : ℕ → Change)
+    → SoFar I B v facts start old → DrawsCode I B old mid source rest (Ok code)
     → StepsAs I B (λ _. accepted (reply_with code) (change_with code)) mid new rest rest answer
     → (facts (B.rows start) → outcome (B.rows start) ≡ by_draw (draw_from (codes_in (B.rows start)) (words 64 source)) reply_with change_with)
     → StepsAs I B outcome start new source rest answer
@@ -97,6 +131,16 @@ drawn_ends {I = I} {B = B} {start = start} {old = old} {mid = mid} {new = new} {
       (drawn.1 ∙ ap (λ rs. past (draw_from (codes_in rs) (words 64 source)).examined source) (s.same before))
       (d.same then ∙ s.same before) (t.goes clean);
   was_clean = λ clean. s.was_clean (d.was_clean (t.was_clean clean));
+  was_honest = λ honest. s.was_honest (d.was_honest (t.was_honest honest));
+  vouched = t.vouched;
+  moved = λ honest k.
+      let then = d.vouched (t.was_honest honest) refl in
+      let before = d.was_clean then in
+      inr (
+        s.was_clean before,
+        examined_by (outcome (B.rows start)) (draw_from (codes_in (B.rows old)) (words 64 source)) (draw_from (codes_in (B.rows start)) (words 64 source)) source rest reply_with change_with
+            (h (s.facts_hold before)) (ap (λ rs. draw_from (codes_in rs) (words 64 source)) (s.same before)) (_, omega arith, (d.answer then).1),
+      );
   counted = λ cause. omega (arith, s.counted cause, d.counted cause, t.counted cause);
   fault = λ clean w cause e.
       let then = t.was_clean clean in

@@ -25,23 +25,29 @@ pub link_is_there : (rows : Rows) (number : ℕ) (link : Link) → AreWhole rows
 link_is_there rows number link w h = there_at rows number link (card_at rows number) refl w h
 
 -- a failure that whole rows exclude
-pub excluded : {S : Type 0} {I : IssuedOf S} {B : BooksOf S} {facts : Rows → Type 0} {start now : S} {outcome : Rows → Outcome Change} {source : Stream}
-    → SoFar I B facts start now → (AreWhole (B.rows start) → facts (B.rows start) → ⊥)
+pub excluded : {S : Type 0} {I : IssuedOf S} {B : BooksOf S} {v : Bool} {facts : Rows → Type 0} {start now : S} {outcome : Rows → Outcome Change} {source : Stream}
+    → SoFar I B v facts start now → (AreWhole (B.rows start) → facts (B.rows start) → ⊥)
     → StepsAs I B outcome start now source source (Refused Store)
 excluded {source = source} s h = record {
   goes = λ clean. (s.same clean, (0, omega arith, sym (past-zero source)));
   was_clean = s.was_clean;
+  was_honest = s.was_honest;
+  vouched = λ honest k. absurd (false≢true (sym k));
+  moved = λ honest k. inl refl;
   counted = s.counted;
   fault = λ clean w cause e. absurd (h w (s.facts_hold clean));
 }
 
 -- an answer that changes nothing, where the checks come to it
 pub says : {S : Type 0} {I : IssuedOf S} {B : BooksOf S} {facts : Rows → Type 0} {start now : S} {outcome : Rows → Outcome Change} {source : Stream} (answer : Reply)
-    → is_failed answer ≡ false → SoFar I B facts start now → (facts (B.rows start) → outcome (B.rows start) ≡ said answer)
+    → is_failed answer ≡ false → SoFar I B true facts start now → (facts (B.rows start) → outcome (B.rows start) ≡ said answer)
     → StepsAs I B outcome start now source source answer
 says {B = B} {start = start} {now = now} {outcome = outcome} {source = source} answer k s h = record {
   goes = λ clean. said_at (is_failed answer) answer (outcome (B.rows start)) (B.rows start) (B.rows now) source k (h (s.facts_hold clean)) (s.same clean);
   was_clean = s.was_clean;
+  was_honest = s.was_honest;
+  vouched = λ honest _. s.vouched refl honest;
+  moved = λ honest e. absurd (false≢true (sym k ∙ e));
   counted = s.counted;
   fault = λ clean w cause e. absurd (false≢true (sym k ∙ (ap is_failed e ∙ faults cause)));
 }

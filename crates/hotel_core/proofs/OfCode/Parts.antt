@@ -1,15 +1,18 @@
 -- The parts of a step, one after the other.
-use Rattle.std.proofs.Common.{ℕ, ◌≡◌, ◌≤◌, Bool, true, false, Option, Some, None, Result, Ok, Err, refl, ap, sym, ◌∙◌, arith, subst, IsErrAnd, List, [], ◌∷◌, ◌++◌, ◌+◌, nat_lt, cond}
+use Rattle.std.proofs.Common.{ℕ, ◌≡◌, ◌≤◌, Bool, true, false, Option, Some, None, Result, Ok, Err, refl, ap, sym, ◌∙◌, arith, subst, IsErrAnd, List, [], ◌∷◌, ◌++◌, ◌+◌, ◌⊎◌, inl, inr, nat_lt, cond}
 use Rattle.hotel_core.proofs.Names.{false≢true, Stream, past, HasRisen, NoFewer, LookFault, Change, Reply, Refused, Refusal, Store, Rows, number_after, is_failed, Outcome, refused, accepted, unless, made, GoesIf, Goes, made_by, AreWhole, StepsAs, Finds, AnyRows, reply_of, refusal_of, first_refusal, Ghosts as BooksOf}
 use Rattle.keycard_rules.proofs.Drawing.{past-zero}
+use Rattle.keycard_rules.specs.Draw.{MovedAtMost}
 use Rattle.keycard_rules.specs.declared.issued.LookFault.TheVariants as look
 use Rattle.keycard_rules.specs.declared.issued.Issued.{Ghosts as IssuedOf}
 
--- From the state start to now no row changed, and this is known of the rows at the start, if the state is clean now.
-pub record SoFar {S : Type 0} (I : IssuedOf S) (B : BooksOf S) (facts : Rows → Type 0) (start now : S) : Type 0 where
+-- From the state start to now no row changed, and this is known of the rows at the start, if the state is clean now; and where v is true it is clean now if it is honest.
+pub record SoFar {S : Type 0} (I : IssuedOf S) (B : BooksOf S) (v : Bool) (facts : Rows → Type 0) (start now : S) : Type 0 where
   pub facts_hold : I.is_clean now → facts (B.rows start)
   pub same : I.is_clean now → B.rows now ≡ B.rows start
   pub was_clean : I.is_clean now → I.is_clean start
+  pub was_honest : I.is_honest now → I.is_honest start
+  pub vouched : v ≡ true → I.is_honest now → I.is_clean now
   pub counted : NoFewer (I.failures start) (I.failures now)
 
 -- a fault's refusal is a failure
@@ -18,26 +21,32 @@ faults look.Memory = refl
 faults look.Store = refl
 
 -- at the start nothing is known
-pub begun : {S : Type 0} {I : IssuedOf S} {B : BooksOf S} {start : S} → SoFar I B AnyRows start start
-begun = record { facts_hold = λ _. tt; same = λ _. refl; was_clean = λ clean. clean; counted = λ cause. omega arith }
+pub begun : {S : Type 0} {I : IssuedOf S} {B : BooksOf S} {start : S} → SoFar I B false AnyRows start start
+begun = record { facts_hold = λ _. tt; same = λ _. refl; was_clean = λ clean. clean; was_honest = λ honest. honest; vouched = λ e. absurd (false≢true e); counted = λ cause. omega arith }
 
 -- at the start this is known
-pub given : {S : Type 0} {I : IssuedOf S} {B : BooksOf S} (facts : Rows → Type 0) {start : S} → (I.is_clean start → facts (B.rows start)) → SoFar I B facts start start
-given facts h = record { facts_hold = h; same = λ _. refl; was_clean = λ clean. clean; counted = λ cause. omega arith }
+pub given : {S : Type 0} {I : IssuedOf S} {B : BooksOf S} (facts : Rows → Type 0) {start : S} → (I.is_clean start → facts (B.rows start)) → SoFar I B false facts start start
+given facts h = record { facts_hold = h; same = λ _. refl; was_clean = λ clean. clean; was_honest = λ honest. honest; vouched = λ e. absurd (false≢true e); counted = λ cause. omega arith }
+
+-- the same, at a state that is clean if it is honest
+pub given_vouched : {S : Type 0} {I : IssuedOf S} {B : BooksOf S} (facts : Rows → Type 0) {start : S} → (I.is_clean start → facts (B.rows start)) → (I.is_honest start → I.is_clean start) → SoFar I B true facts start start
+given_vouched facts h k = record { facts_hold = h; same = λ _. refl; was_clean = λ clean. clean; was_honest = λ honest. honest; vouched = λ _. k; counted = λ cause. omega arith }
 
 -- the facts, in the rows as they are now
-pub at_now : {S : Type 0} {I : IssuedOf S} {B : BooksOf S} {facts : Rows → Type 0} {start now : S}
-    → SoFar I B facts start now → I.is_clean now → facts (B.rows now)
+pub at_now : {S : Type 0} {I : IssuedOf S} {B : BooksOf S} {v : Bool} {facts : Rows → Type 0} {start now : S}
+    → SoFar I B v facts start now → I.is_clean now → facts (B.rows now)
 at_now {facts = facts} s clean = subst facts (sym (s.same clean)) (s.facts_hold clean)
 
 -- something was found
-pub then_found : {S A : Type 0} {I : IssuedOf S} {B : BooksOf S} {facts : Rows → Type 0} {are_whole : Rows → Type 0} {why : Refusal} {wanted : Rows → Option A} {start old new : S} {a : A}
-    → SoFar I B facts start old → Finds I B are_whole why wanted old new (Ok a)
-    → SoFar I B (λ rs. facts rs × (wanted rs ≡ Some a)) start new
+pub then_found : {S A : Type 0} {I : IssuedOf S} {B : BooksOf S} {v : Bool} {facts : Rows → Type 0} {are_whole : Rows → Type 0} {why : Refusal} {wanted : Rows → Option A} {start old new : S} {a : A}
+    → SoFar I B v facts start old → Finds I B are_whole why wanted old new (Ok a)
+    → SoFar I B true (λ rs. facts rs × (wanted rs ≡ Some a)) start new
 then_found {wanted = wanted} s f = record {
   facts_hold = λ clean. (s.facts_hold (f.was_clean clean), ap wanted (sym (s.same (f.was_clean clean))) ∙ f.answer clean);
   same = λ clean. f.same clean ∙ s.same (f.was_clean clean);
   was_clean = λ clean. s.was_clean (f.was_clean clean);
+  was_honest = λ honest. s.was_honest (f.was_honest honest);
+  vouched = λ _ honest. f.vouched honest refl;
   counted = λ cause. omega (arith, s.counted cause, f.counted cause);
 }
 
@@ -53,8 +62,8 @@ goes_at false o rows later source why h same =
     (sym (ap (λ x. x.reply) e), same ∙ ap (λ x. made_by x.happens rows) (sym e), sym (past-zero source) ∙ ap (λ x. past x.examined source) (sym e))
 
 -- nothing was found, or the search failed
-pub stopped_where : {S A : Type 0} {I : IssuedOf S} {B : BooksOf S} {facts : Rows → Type 0} {are_whole : Rows → Type 0} {why : Refusal} {wanted : Rows → Option A} {start old new : S} {e : Refusal} {outcome : Rows → Outcome Change} {source : Stream}
-    → SoFar I B facts start old → Finds I B are_whole why wanted old new (Err e)
+pub stopped_where : {S A : Type 0} {I : IssuedOf S} {B : BooksOf S} {v : Bool} {facts : Rows → Type 0} {are_whole : Rows → Type 0} {why : Refusal} {wanted : Rows → Option A} {start old new : S} {e : Refusal} {outcome : Rows → Outcome Change} {source : Stream}
+    → SoFar I B v facts start old → Finds I B are_whole why wanted old new (Err e)
     → (AreWhole (B.rows start) → facts (B.rows start) → are_whole (B.rows start))
     → (facts (B.rows start) → wanted (B.rows start) ≡ None → is_failed (Refused why) ≡ false → outcome (B.rows start) ≡ refused why)
     → StepsAs I B outcome start new source source (Refused e)
@@ -64,6 +73,9 @@ stopped_where {I = I} {B = B} {are_whole = are_whole} {wanted = wanted} {start =
       h (s.facts_hold (f.was_clean clean)) (ap wanted (sym (s.same (f.was_clean clean))) ∙ a.0) (ap (λ x. is_failed (Refused x)) (sym a.1) ∙ k) ∙ ap refused (sym a.1))
       (f.same clean ∙ s.same (f.was_clean clean));
   was_clean = λ clean. s.was_clean (f.was_clean clean);
+  was_honest = λ honest. s.was_honest (f.was_honest honest);
+  vouched = λ honest k. f.vouched honest k;
+  moved = λ honest k. inl refl;
   counted = λ cause. omega (arith, s.counted cause, f.counted cause);
   fault = λ clean w cause k. risen_later (I.failures start cause) (I.failures old cause) (I.failures new cause) (s.counted cause)
       (f.fault clean (subst are_whole (sym (s.same (f.was_clean clean))) (whole w (s.facts_hold (f.was_clean clean)))) cause (cc)) (f.counted cause);
@@ -74,8 +86,8 @@ pub passed_on : (r : Result Reply Refusal) (why : Refusal) → IsErrAnd r (λ e.
 passed_on (Ok answer) why h = absurd h
 passed_on (Err e) why h = ap Refused h
 
-pub stopped_whole : {S A : Type 0} {I : IssuedOf S} {B : BooksOf S} {facts : Rows → Type 0} {are_whole : Rows → Type 0} {why : Refusal} {wanted : Rows → Option A} {start old new : S} {e : Refusal} {outcome : Rows → Outcome Change} {source : Stream} (r : Result Reply Refusal)
-    → IsErrAnd r (λ x. x ≡ e) → SoFar I B facts start old → Finds I B are_whole why wanted old new (Err e)
+pub stopped_whole : {S A : Type 0} {I : IssuedOf S} {B : BooksOf S} {v : Bool} {facts : Rows → Type 0} {are_whole : Rows → Type 0} {why : Refusal} {wanted : Rows → Option A} {start old new : S} {e : Refusal} {outcome : Rows → Outcome Change} {source : Stream} (r : Result Reply Refusal)
+    → IsErrAnd r (λ x. x ≡ e) → SoFar I B v facts start old → Finds I B are_whole why wanted old new (Err e)
     → (AreWhole (B.rows start) → facts (B.rows start) → are_whole (B.rows start))
     → (facts (B.rows start) → wanted (B.rows start) ≡ None → is_failed (Refused why) ≡ false → outcome (B.rows start) ≡ refused why)
     → StepsAs I B outcome start new source source (reply_of r)
@@ -83,33 +95,44 @@ stopped_whole {I = I} {B = B} {start = start} {new = new} {e = e} {outcome = out
     subst (λ answer. StepsAs I B outcome start new source source answer) (sym (passed_on r e p)) (stopped_where s f whole h)
 
 -- what sound books have wasn't there, or the search failed
-pub halted : {S A : Type 0} {I : IssuedOf S} {B : BooksOf S} {facts : Rows → Type 0} {are_whole : Rows → Type 0} {wanted : Rows → Option A} {start old new : S} {e : Refusal} {outcome : Rows → Outcome Change} {source : Stream} (r : Result Reply Refusal)
-    → IsErrAnd r (λ x. x ≡ e) → SoFar I B facts start old → Finds I B are_whole Store wanted old new (Err e)
+pub halted : {S A : Type 0} {I : IssuedOf S} {B : BooksOf S} {v : Bool} {facts : Rows → Type 0} {are_whole : Rows → Type 0} {wanted : Rows → Option A} {start old new : S} {e : Refusal} {outcome : Rows → Outcome Change} {source : Stream} (r : Result Reply Refusal)
+    → IsErrAnd r (λ x. x ≡ e) → SoFar I B v facts start old → Finds I B are_whole Store wanted old new (Err e)
     → (AreWhole (B.rows start) → facts (B.rows start) → are_whole (B.rows start))
     → StepsAs I B outcome start new source source (reply_of r)
 halted r p s f whole = stopped_whole r p s f whole (λ k n x. absurd (false≢true (sym x)))
 
-pub stopped : {S A : Type 0} {I : IssuedOf S} {B : BooksOf S} {facts : Rows → Type 0} {why : Refusal} {wanted : Rows → Option A} {start old new : S} {e : Refusal} {outcome : Rows → Outcome Change} {source : Stream} (r : Result Reply Refusal)
-    → IsErrAnd r (λ x. x ≡ e) → SoFar I B facts start old → Finds I B AnyRows why wanted old new (Err e)
+pub stopped : {S A : Type 0} {I : IssuedOf S} {B : BooksOf S} {v : Bool} {facts : Rows → Type 0} {why : Refusal} {wanted : Rows → Option A} {start old new : S} {e : Refusal} {outcome : Rows → Outcome Change} {source : Stream} (r : Result Reply Refusal)
+    → IsErrAnd r (λ x. x ≡ e) → SoFar I B v facts start old → Finds I B AnyRows why wanted old new (Err e)
     → (facts (B.rows start) → wanted (B.rows start) ≡ None → outcome (B.rows start) ≡ refused why)
     → StepsAs I B outcome start new source source (reply_of r)
 stopped r p s f h = stopped_whole r p s f (λ w k. tt) (λ k n x. h k n)
 
 -- a refusal, where the checks come to it
 pub refuses : {S : Type 0} {I : IssuedOf S} {B : BooksOf S} {facts : Rows → Type 0} {start now : S} {outcome : Rows → Outcome Change} {source : Stream} (why : Refusal)
-    → is_failed (Refused why) ≡ false → SoFar I B facts start now
+    → is_failed (Refused why) ≡ false → SoFar I B true facts start now
     → (facts (B.rows start) → outcome (B.rows start) ≡ refused why)
     → StepsAs I B outcome start now source source (Refused why)
 refuses {B = B} {start = start} {now = now} {outcome = outcome} {source = source} why k s h = record {
   goes = λ clean. goes_at (is_failed (Refused why)) (outcome (B.rows start)) (B.rows start) (B.rows now) source why (λ _. h (s.facts_hold clean)) (s.same clean);
   was_clean = s.was_clean;
+  was_honest = s.was_honest;
+  vouched = λ honest _. s.vouched refl honest;
+  moved = λ honest e. absurd (false≢true (sym k ∙ e));
   counted = s.counted;
   fault = λ clean w cause e. absurd (false≢true (sym k ∙ (ap is_failed e ∙ faults cause)));
 }
 
+-- where the source moved by what a step examines, it did by what an equal one does
+abbrev MovedBy : Type 0 → ℕ → Stream → Stream → Type 0
+MovedBy was n source rest = (rest ≡ source) ⊎ (was × MovedAtMost n source rest)
+
+moved_as : (mid was : Type 0) (n m : ℕ) (source rest : Stream) → (mid → was × (n ≡ m)) → MovedBy mid n source rest → MovedBy was m source rest
+moved_as mid was n m source rest h (inl e) = inl e
+moved_as mid was n m source rest h (inr (c, k)) = let d = h c in inr (d.0, subst (λ x. MovedAtMost x source rest) d.1 k)
+
 -- the step goes on as one that ends it
-pub ends : {S : Type 0} {I : IssuedOf S} {B : BooksOf S} {facts : Rows → Type 0} {start old new : S} {outcome last : Rows → Outcome Change} {source rest : Stream} {answer : Reply}
-    → SoFar I B facts start old → StepsAs I B last old new source rest answer
+pub ends : {S : Type 0} {I : IssuedOf S} {B : BooksOf S} {v : Bool} {facts : Rows → Type 0} {start old new : S} {outcome last : Rows → Outcome Change} {source rest : Stream} {answer : Reply}
+    → SoFar I B v facts start old → StepsAs I B last old new source rest answer
     → (facts (B.rows start) → outcome (B.rows start) ≡ last (B.rows start))
     → StepsAs I B outcome start new source rest answer
 ends {I = I} {B = B} {start = start} {old = old} {new = new} {outcome = outcome} {last = last} {source = source} {rest = rest} {answer = answer} s t h = record {
@@ -118,6 +141,10 @@ ends {I = I} {B = B} {start = start} {old = old} {new = new} {outcome = outcome}
       let g : Goes (last (B.rows start)) (B.rows start) source answer (B.rows new) rest = subst (λ rs. Goes (last rs) rs source answer (B.rows new) rest) (s.same before) (t.goes clean) in
       subst (λ o. Goes o (B.rows start) source answer (B.rows new) rest) (sym (h (s.facts_hold before))) g;
   was_clean = λ clean. s.was_clean (t.was_clean clean);
+  was_honest = λ honest. s.was_honest (t.was_honest honest);
+  vouched = t.vouched;
+  moved = λ honest k. moved_as (I.is_clean old) (I.is_clean start) (last (B.rows old)).examined (outcome (B.rows start)).examined source rest
+      (λ before. (s.was_clean before, ap (λ rs. (last rs).examined) (s.same before) ∙ ap (λ (o : Outcome Change). o.examined) (sym (h (s.facts_hold before))))) (t.moved honest k);
   counted = λ cause. omega (arith, s.counted cause, t.counted cause);
   fault = λ clean w cause e.
       risen_later (I.failures start cause) (I.failures old cause) (I.failures new cause) (s.counted cause) (t.fault clean (subst AreWhole (sym (s.same (t.was_clean clean))) w) cause e) (t.counted cause);
@@ -132,11 +159,14 @@ made_at false answer change rows later source k same = (refl, same, sym (past-ze
 
 -- the change was made
 pub makes : {S : Type 0} {I : IssuedOf S} {B : BooksOf S} {old new : S} (answer : Reply) (change : Change) (source : Stream)
-    → is_failed answer ≡ false → (I.is_clean new → B.rows new ≡ made change (B.rows old)) → (I.is_clean new → I.is_clean old) → NoFewer (I.failures old) (I.failures new)
+    → is_failed answer ≡ false → (I.is_clean new → B.rows new ≡ made change (B.rows old)) → (I.is_clean new → I.is_clean old) → (I.is_honest new → I.is_honest old) → (I.is_honest new → I.is_clean new) → NoFewer (I.failures old) (I.failures new)
     → StepsAs I B (λ _. accepted answer change) old new source source answer
-makes {B = B} {old = old} {new = new} answer change source k m w counted = record {
+makes {B = B} {old = old} {new = new} answer change source k m w wh v counted = record {
   goes = λ clean. made_at (is_failed answer) answer change (B.rows old) (B.rows new) source k (m clean);
   was_clean = w;
+  was_honest = wh;
+  vouched = λ honest _. v honest;
+  moved = λ honest e. absurd (false≢true (sym k ∙ e));
   counted = counted;
   fault = λ clean whole cause e. absurd (false≢true (sym k ∙ (ap is_failed e ∙ faults cause)));
 }
@@ -149,19 +179,22 @@ same_fault look.Store look.Store e = refl
 
 -- a change that was not made
 pub fails : {S : Type 0} {I : IssuedOf S} {B : BooksOf S} {old new : S} (o : Outcome Change) (fault : LookFault) (why : Refusal) (source : Stream)
-    → why ≡ refusal_of fault → (I.is_clean new → B.rows new ≡ B.rows old) → (I.is_clean new → I.is_clean old) → NoFewer (I.failures old) (I.failures new) → HasRisen (I.failures old fault) (I.failures new fault)
+    → why ≡ refusal_of fault → (I.is_clean new → B.rows new ≡ B.rows old) → (I.is_clean new → I.is_clean old) → (I.is_honest new → I.is_honest old) → NoFewer (I.failures old) (I.failures new) → HasRisen (I.failures old fault) (I.failures new fault)
     → StepsAs I B (λ _. o) old new source source (Refused why)
-fails {I = I} {B = B} {old = old} {new = new} o fault why source e m w counted risen =
+fails {I = I} {B = B} {old = old} {new = new} o fault why source e m w wh counted risen =
     subst (λ r. StepsAs I B (λ _. o) old new source source (Refused r)) (sym e) (record {
       goes = λ clean. goes_at (is_failed (Refused (refusal_of fault))) o (B.rows old) (B.rows new) source (refusal_of fault) (λ k. absurd (false≢true (sym k ∙ faults fault))) (m clean);
       was_clean = w;
+      was_honest = wh;
+      vouched = λ honest k. absurd (false≢true (sym k ∙ faults fault));
+      moved = λ honest k. inl refl;
       counted = counted;
       fault = λ clean whole cause k. subst (λ x. HasRisen (I.failures old x) (I.failures new x)) (same_fault fault cause k) risen;
     })
 
 -- a refusal of the checks, passed on
 pub barred : {S : Type 0} {I : IssuedOf S} {B : BooksOf S} {facts : Rows → Type 0} {start now : S} {e : Refusal} {outcome : Rows → Outcome Change} {source : Stream} (r : Result Reply Refusal)
-    → IsErrAnd r (λ x. x ≡ e) → is_failed (Refused e) ≡ false → SoFar I B facts start now
+    → IsErrAnd r (λ x. x ≡ e) → is_failed (Refused e) ≡ false → SoFar I B true facts start now
     → (facts (B.rows start) → outcome (B.rows start) ≡ refused e)
     → StepsAs I B outcome start now source source (reply_of r)
 barred {I = I} {B = B} {start = start} {now = now} {e = e} {outcome = outcome} {source = source} r p k s h =

@@ -37,6 +37,9 @@ pub record WalksOver {B S R : Type 0} (I : IssuedOf B) (takes_memory : Bool) (af
   pub hands : (handed : List R) × Hands after after_stop handed sink end result × (I.is_clean new → handed ≡ rows)
   pub kept : I.is_clean new → I.is_kept old new
   pub was_clean : I.is_clean new → I.is_clean old
+  pub was_honest : I.is_honest new → I.is_honest old
+  pub vouched : I.is_honest new → failure_of result ≡ None → I.is_clean new
+  pub stop : I.leaves_no_more old new
   pub counted : NoFewer (I.failures old) (I.failures new)
   pub fault : IfSome (failure_of result) (λ cause. HasRisen (I.failures old cause) (I.failures new cause))
   pub sure : I.never_fails → takes_memory ≡ false → failure_of result ≡ None

@@ -40,6 +40,8 @@ pub record Finds {S A : Type 0} (I : IssuedOf S) (B : BooksOf S) (are_whole : Ro
   pub answer : I.is_clean new → Found why (wanted (B.rows old)) result
   pub same : I.is_clean new → B.rows new ≡ B.rows old
   pub was_clean : I.is_clean new → I.is_clean old
+  pub was_honest : I.is_honest new → I.is_honest old
+  pub vouched : I.is_honest new → has_failed result ≡ false → I.is_clean new
   pub counted : NoFewer (I.failures old) (I.failures new)
   pub fault : I.is_clean new → are_whole (B.rows old) → (cause : LookFault) → result ≡ Err (refusal_of cause) → HasRisen (I.failures old cause) (I.failures new cause)
 
@@ -69,6 +71,9 @@ pub record DrawsCode {S : Type 0} (I : IssuedOf S) (B : BooksOf S) (old new : S)
   pub answer : I.is_clean new → Drew (draw_from (codes_in (B.rows old)) (words 64 source)) source rest result
   pub same : I.is_clean new → B.rows new ≡ B.rows old
   pub was_clean : I.is_clean new → I.is_clean old
+  pub was_honest : I.is_honest new → I.is_honest old
+  pub vouched : I.is_honest new → has_failed result ≡ false → I.is_clean new
+  pub moved : I.is_honest new → has_failed result ≡ true → MovedAtMost (draw_from (codes_in (B.rows old)) (words 64 source)).examined source rest
   pub counted : NoFewer (I.failures old) (I.failures new)
   pub fault : (cause : LookFault) → result ≡ Err (refusal_of cause) → HasRisen (I.failures old cause) (I.failures new cause)
   pub sure : I.never_fails → has_failed result ≡ true → ⊥

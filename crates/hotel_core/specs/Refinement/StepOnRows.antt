@@ -1,5 +1,5 @@
 -- One step over books: it goes as the outcome says, or it fails and changes nothing.
-use Rattle.std.specs.Prelude.{ℕ, ◌≡◌, ◌≤◌, ◌<◌, ◌-◌, ◌^◌, Bool, true, false, Option, Some, None, IsSome}
+use Rattle.std.specs.Prelude.{ℕ, ◌⊎◌, ◌≡◌, ◌≤◌, ◌<◌, ◌-◌, ◌^◌, Bool, true, false, Option, Some, None, IsSome}
 use Rattle.keycard_rules.specs.{declared.issued.LookFault.LookFault, Draw.past, Draw.MovedAtMost, Rise.HasRisen, Rise.NoFewer, declared.card.Card.Card}
 use Rattle.rand_core.specs.Stream.{Stream}
 use Rattle.hotel_core.specs.{declared.books.change.Change.Change, declared.reply.Reply.Reply, declared.books.rows.RoomRow.RoomRow, Model.Rows.Rows}
@@ -35,5 +35,8 @@ pub record AreWhole (rows : Rows) : Type 0 where
 pub record StepsAs {S : Type 0} (I : IssuedOf S) (B : BooksOf S) (outcome : Rows → Outcome Change) (old new : S) (source rest : Stream) (answer : Reply) : Type 0 where
   pub goes : I.is_clean new → Goes (outcome (B.rows old)) (B.rows old) source answer (B.rows new) rest
   pub was_clean : I.is_clean new → I.is_clean old
+  pub was_honest : I.is_honest new → I.is_honest old
+  pub vouched : I.is_honest new → is_failed answer ≡ false → I.is_clean new
+  pub moved : I.is_honest new → is_failed answer ≡ true → (rest ≡ source) ⊎ (I.is_clean old × MovedAtMost (outcome (B.rows old)).examined source rest)
   pub counted : NoFewer (I.failures old) (I.failures new)
   pub fault : I.is_clean new → AreWhole (B.rows old) → (cause : LookFault) → answer ≡ reply.Refused (refusal_of cause) → HasRisen (I.failures old cause) (I.failures new cause)

@@ -32,6 +32,7 @@ fn secured_after<B: Books>(
     row: &RoomRow,
     place: u32,
 ) -> Result<bool, Refusal>
+    requires vouched { B.is_honest books.old → B.is_clean books.old }
     ensures { Finds B.Issued B.Books.own AnyRows Store (λ rows. Some (secured_by row.now place (are_none (inside_at rows room)))) books.old books.new result }
 {
     let is_current = u64::from(place) + 1 == u64::from(row.codes);

@@ -38,7 +38,8 @@ pub(crate) fn kept_note<B: Books>(
     note: &LockNote,
     row: &RoomRow,
 ) -> Result<Option<LockNote>, Refusal>
-    requires { B.is_clean books.old → room_at (B.rows books.old) note.now.room ≡ Some row.now }
+    requires there { B.is_clean books.old → room_at (B.rows books.old) note.now.room ≡ Some row.now }
+    requires vouched { B.is_honest books.old → B.is_clean books.old }
     ensures { Finds B.Issued B.Books.own AnyRows Store (λ rows. Some (note_at rows note.now.room note.now.fit note.now.count)) books.old books.new result }
 {
     books.known_sound();

@@ -32,6 +32,7 @@ fn is_fit(note: &LockNote, row: &RoomRow) -> bool
 
 /// Takes a note whose count wasn't taken.
 fn take_new<B: Books>(books: &mut B, note: &LockNote, row: &RoomRow) -> Result<Reply, Refusal>
+    requires vouched { B.is_honest books.old → B.is_clean books.old }
     requires untaken { B.is_clean books.old → IsUntaken note.now row.now (B.rows books.old) }
     requires outcome { B.is_clean books.old → IsOutcome (B.rows books.old) (reported_on (B.rows books.old) note.now None) }
     ensures { (source : Stream) → StepsAs B.Issued B.Books.own (λ rows. reported_on rows note.now None) books.old books.new source source (reply_of result) }

@@ -78,6 +78,10 @@ impl Issued for ListBooks {
 
     ghost is_clean = { λ _. Unit {0} };
 
+    ghost is_honest = { λ _. Unit {0} };
+
+    ghost leaves_no_more = { λ _ _. Unit {0} };
+
     ghost is_kept = { λ a b. b.rows ≡ a.rows };
 
     ghost failures = { λ b. of_memory b.failures };
@@ -90,6 +94,8 @@ impl Issued for ListBooks {
 
     ghost never_store = { λ a never. refl };
 
+    ghost clean_honest = { λ a clean. clean };
+
     ghost kept_refl = { λ a. refl };
 
     ghost kept_trans = { λ a b c h k. k ∙ h };
@@ -99,6 +105,8 @@ impl Issued for ListBooks {
 
 impl Books for ListBooks {
     ghost rows = { λ b. b.rows };
+
+    ghost leaves_change = { λ _ _ _ _. Unit {0} };
 
     fn day(&mut self) -> Result<Option<Day>, LookFault> {
         Ok(self.tables.day())

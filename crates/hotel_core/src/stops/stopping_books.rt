@@ -120,6 +120,10 @@ impl Issued for StoppingBooks {
 
     ghost is_clean = { λ _. Unit {0} };
 
+    ghost is_honest = { λ _. Unit {0} };
+
+    ghost leaves_no_more = { λ _ _. Unit {0} };
+
     ghost is_kept = { λ a b. b.rows ≡ a.rows };
 
     ghost failures = { counts };
@@ -134,6 +138,8 @@ impl Issued for StoppingBooks {
 
     ghost never_store = { λ a never. absurd never };
 
+    ghost clean_honest = { λ a clean. clean };
+
     ghost kept_refl = { λ a. refl };
 
     ghost kept_trans = { λ a b c h k. k ∙ h };
@@ -143,6 +149,8 @@ impl Issued for StoppingBooks {
 
 impl Books for StoppingBooks {
     ghost rows = { λ b. b.rows };
+
+    ghost leaves_change = { λ _ _ _ _. Unit {0} };
 
     fn day(&mut self) -> Result<Option<Day>, LookFault> {
         self.begin()?;

@@ -13,6 +13,8 @@ use sqlite::Alter;
 impl<S: Alter> Books for TableBooks<S> {
     ghost rows = { λ b. rows_in (state S.Store b.conn).now.trees };
 
+    ghost leaves_change = { λ change a b _. LeavesChange change (state S.Store a.conn) (state S.Store b.conn) };
+
     fn day(&mut self) -> Result<Option<Day>, LookFault> {
         let day = look_ups::day(self.alloc, &mut self.conn);
         self.counting(day)

@@ -1,7 +1,7 @@
 use Rattle.std.proofs.Common.{◌≡◌, ◌+◌, take, ◌++◌, ◌∷◌, [], sym, ap, ◌∙◌, arith, subst}
 use Rattle.hotel_core.proofs.{Names.take_more, Names.RunsTo, OfCode.FailuresCounted.counted_join, OfCode.FailuresCounted.failures_in-push}
 use Rattle.std.proofs.lemmas.List.{take_all}
-use Rattle.hotel_core.proofs.{Lifted.RunParts.runs_step, Invariants.Assurance.runs_safely}
+use Rattle.hotel_core.proofs.{Lifted.RunParts.runs_step, OfCode.Happened.RunsOn, OfCode.Happened.run_goes_on, Invariants.Assurance.runs_safely, Invariants.Assurance.assured}
 use Rattle.hotel_core.proofs.runs.run.Goals as goal
 
 pub loop-command-preserved : goal.loop-command-preserved
@@ -9,6 +9,13 @@ loop-command-preserved g c =
     let before = c.step-reply.ensures.was_clean in
     record {
       was_clean = λ clean. c.loop-command.invariant.was_clean (before clean);
+      was_honest = λ honest. c.loop-command.invariant.was_honest (c.step-reply.ensures.was_honest honest);
+      happened = λ honest h reached stands.
+          let r = run_goes_on _ _ h _ _ _ _ _ c.command-item.result c.step-reply.result (g.B.Books.rows c.step-reply.new.books) (g.R.Rng.stream c.step-reply.new.source) (c.loop-command.invariant.happened (c.step-reply.ensures.was_honest honest) h reached stands) (λ mid ok stands. let w = c.step-reply.ensures.happened honest mid ok stands in (w.0, w.1, w.2, w.3)) in
+          let xs = c.args.commands.now in
+          let i = c.loop-command.command-index in
+          let e : take (i + 1) xs ≡ take i xs ++ c.command-item.result ∷ [] = take_more xs i c.command-item.result c.loop-command-test.true ∙ ap (λ x. take i xs ++ x ∷ []) (sym c.command-item.is) in
+          rw (e, c.in-Ok-push.ensures.items) r;
       counted = λ cause. omega (arith, c.step-reply.ensures.counted cause, c.loop-command.invariant.counted cause);
       failed = λ clean.
           rw (c.in-Ok-push.ensures.items, failures_in-push c.loop-command.replies.items c.step-reply.result)
@@ -28,3 +35,10 @@ returns-clause-run g c = λ clean h stands.
     let all : take c.loop-command.command-index c.args.commands.now ≡ c.args.commands.now = take_all _ _ c.loop-command-test.false in
     runs_safely h _ _ _ _ _ (subst (λ xs. RunsTo h (g.R.Rng.stream c.args.source.now) xs c.loop-command.replies.items (g.B.Books.rows c.loop-command.books) (g.R.Rng.stream c.loop-command.source))
     all (c.loop-command.invariant.ran clean h stands))
+
+pub returns-clause-happened : goal.returns-clause-happened
+returns-clause-happened g c = λ honest h reached stands.
+    let all : take c.loop-command.command-index c.args.commands.now ≡ c.args.commands.now = take_all _ _ c.loop-command-test.false in
+    let it = subst (λ xs. RunsOn (g.B.Issued.is_clean c.loop-command.books) h (g.R.Rng.stream c.args.source.now) xs c.loop-command.replies.items (g.B.Books.rows c.loop-command.books) (g.R.Rng.stream c.loop-command.source))
+    all (c.loop-command.invariant.happened honest h reached stands) in
+    (it.0, it.1, it.2, it.3, assured it.0 it.1)

@@ -1,5 +1,6 @@
 use Rattle.std.proofs.Common.{◌≡◌, ◌≤◌, take, length, vec_len, vec_capacity}
-use Rattle.hotel_core.proofs.Names.{NoFewer, History, StandsFor, RunsTo, AreCounted, failures_in}
+use Rattle.hotel_core.proofs.Names.{NoFewer, History, Reached, rows_of, StandsFor, RunsTo, AreCounted, failures_in}
+use Rattle.hotel_core.proofs.OfCode.Happened.{RunsOn}
 use Rattle.hotel_core.proofs.runs.run.Given as goal
 
 abbrev pub invariant-loop-command : goal.invariant-loop-command
@@ -7,8 +8,12 @@ invariant-loop-command g l =
     let rows = g.B.Books.rows in
     let stream = g.R.Rng.stream in
     let is_clean = g.B.Issued.is_clean in
+    let is_honest = g.B.Issued.is_honest in
     record {
       was_clean : is_clean l.books → is_clean l.fn.books;
+      was_honest : is_honest l.books → is_honest l.fn.books;
+      happened : is_honest l.books → (h : History) → Reached h → (is_clean l.fn.books → rows l.fn.books ≡ rows_of h) →
+          RunsOn (is_clean l.books) h (stream l.fn.source) (take l.command-index l.commands) l.replies.items (rows l.books) (stream l.source);
       counted : NoFewer (g.B.Issued.failures l.fn.books) (g.B.Issued.failures l.books);
       failed : is_clean l.books → AreCounted (g.B.Issued.failures l.fn.books) (g.B.Issued.failures l.books) (failures_in l.replies.items);
       room : length l.commands ≤ vec_capacity l.replies;

@@ -1,5 +1,5 @@
 use Rattle.hotel_core.specs.declared.command.Command.TheVariants as command
-use Rattle.hotel_core.proofs.{Lifted.Runs.steps_lift, Invariants.Assurance.assured_too, OfCode.FailuresCounted.step_counted, OfCode.FailuresCounted.failed_same}
+use Rattle.hotel_core.proofs.{Lifted.Runs.steps_lift, Invariants.Assurance.assured_too, OfCode.FailuresCounted.step_counted, OfCode.Happened.step_happened, OfCode.FailuresCounted.failed_same}
 use Rattle.std.proofs.Common.{[]}
 use Rattle.rand_core.specs.Stream.{Stream}
 use Rattle.hotel_core.proofs.OfCode.NoteReplies.{note_reply}
@@ -27,3 +27,13 @@ returns-clause-was_clean g c = (c.take_note-taken.ensures silent).was_clean
 
 pub returns-clause-counted : goal.returns-clause-counted
 returns-clause-counted g c = (c.take_note-taken.ensures silent).counted
+
+pub returns-clause-happened : goal.returns-clause-happened
+returns-clause-happened g c = λ honest source h reached stands.
+    step_happened h (command.Reported c.args.note.now) c.reply_of-reply.result c.known_note.ensures c.known_reply.ensures c.reply_of-reply.ensures (c.take_note-taken.ensures source) honest reached stands
+
+pub returns-clause-vouched : goal.returns-clause-vouched
+returns-clause-vouched g c = λ honest k. (c.take_note-taken.ensures silent).vouched honest (rw c.reply_of-reply.ensures at k)
+
+pub returns-clause-was_honest : goal.returns-clause-was_honest
+returns-clause-was_honest g c = (c.take_note-taken.ensures silent).was_honest

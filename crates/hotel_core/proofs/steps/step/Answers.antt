@@ -1,4 +1,4 @@
-use Rattle.hotel_core.proofs.{Lifted.Runs.steps_lift, Invariants.Assurance.assured_too, OfCode.FailuresCounted.step_counted}
+use Rattle.hotel_core.proofs.{Lifted.Runs.steps_lift, Invariants.Assurance.assured_too, OfCode.FailuresCounted.step_counted, OfCode.Happened.step_happened}
 use Rattle.hotel_core.proofs.steps.step.Goals as goal
 
 pub returns-clause-step : goal.returns-clause-step
@@ -16,3 +16,13 @@ returns-clause-was_clean g c = c.carry_out-outcome.ensures.steps.was_clean
 
 pub returns-clause-counted : goal.returns-clause-counted
 returns-clause-counted g c = c.carry_out-outcome.ensures.steps.counted
+
+pub returns-clause-happened : goal.returns-clause-happened
+returns-clause-happened g c = λ honest h reached stands.
+    step_happened h c.args.command.now c.reply_of-reply.result c.known_command.ensures c.known_reply.ensures c.reply_of-reply.ensures c.carry_out-outcome.ensures.steps honest reached stands
+
+pub returns-clause-vouched : goal.returns-clause-vouched
+returns-clause-vouched g c = λ honest k. c.carry_out-outcome.ensures.steps.vouched honest (rw c.reply_of-reply.ensures at k)
+
+pub returns-clause-was_honest : goal.returns-clause-was_honest
+returns-clause-was_honest g c = c.carry_out-outcome.ensures.steps.was_honest

@@ -56,6 +56,6 @@ returns-in-Err g c =
       books = kept.0;
       keeps = kept.1;
       found = λ _ _ _. tt;
-      open_on = λ _ _. tt;
+      open_on = λ _. tt;
       crash = kept.2;
     }

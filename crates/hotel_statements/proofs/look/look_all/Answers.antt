@@ -36,6 +36,6 @@ returns-in-Err-clause-crash g c = all_crash c.args.text.now (bound c.args.params
     (state g.S.Store c.query_all.new.self) c.requires.books c.requires.asks c.query_all.ensures.mode c.query_all.ensures.survives
 
 pub returns-in-Ok-clause-open_on : goal.returns-in-Ok-clause-open_on
-returns-in-Ok-clause-open_on g c = λ kept clean. on_ok_always c.read_all.result (all_open c.args.text.now (bound c.args.params.now) (state g.S.Store c.args.conn.now)
-    (state g.S.Store c.query_all.new.self) c.requires.books c.requires.asks c.query_all.ensures.mode c.query_all.ensures.survives c.in-Ok.rows.items c.in-Ok.ensures.ok kept
+returns-in-Ok-clause-open_on g c = λ clean. on_ok_always c.read_all.result (all_open c.args.text.now (bound c.args.params.now) (state g.S.Store c.args.conn.now)
+    (state g.S.Store c.query_all.new.self) c.requires.books c.requires.asks c.query_all.ensures.mode c.query_all.ensures.survives c.in-Ok.rows.items c.in-Ok.ensures.ok
     clean)

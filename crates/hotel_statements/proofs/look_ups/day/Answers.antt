@@ -23,6 +23,6 @@ returns g c =
       books = c.look.ensures.books;
       keeps = c.look.ensures.keeps;
       found = λ kept. c.unwrap_or.ensures ∙ day_finds old.now.trees (c.requires.desk (c.look.ensures.keeps kept).0).tables c.in_ok-day.day (shown kept _ selects.select_day);
-      open_on = c.in_ok-day.ensures.open_on;
+      open_on = λ _. c.in_ok-day.ensures.open_on;
       crash = c.look.ensures.crash;
     }

@@ -24,6 +24,6 @@ returns g c =
       keeps = c.look.ensures.keeps;
       found = λ kept. c.is_some.ensures ∙ any_inside_finds old.now.trees (c.requires.desk (c.look.ensures.keeps kept).0).tables c.args.room c.in_ok-card.card
           (shown kept _ selects.select_any_inside);
-      open_on = c.in_ok-card.ensures.open_on;
+      open_on = λ _. c.in_ok-card.ensures.open_on;
       crash = c.look.ensures.crash;
     }

@@ -25,6 +25,6 @@ returns g c =
       keeps = c.look.ensures.keeps;
       found = λ kept. c.is_some.ensures ∙ kind_finds old.now.trees (c.requires.desk (c.look.ensures.keeps kept).0).tables c.args.kind.now c.in_ok-kind.kind
           (shown kept _ selects.select_kind);
-      open_on = c.in_ok-kind.ensures.open_on;
+      open_on = λ _. c.in_ok-kind.ensures.open_on;
       crash = c.look.ensures.crash;
     }

@@ -21,6 +21,6 @@ returns g c =
           IfOk-weaker c.look.result _ _ (λ o a. last_finds Card 8 card_columns card_of card_written old.now.trees (c.requires.books.desk was).tables.card (λ r. refl) (λ e. refl)
           (c.requires.numbered was) o a)
           (c.look.ensures.found kept _ selects.select_last_card);
-      open_on = c.look.ensures.open_on;
+      open_on = λ _. c.look.ensures.open_on;
       crash = c.look.ensures.crash;
     }

@@ -21,6 +21,6 @@ returns g c =
           IfOk-weaker c.look.result _ _ (λ o a. last_finds Stay 5 stay_columns stay_of stay_written old.now.trees (c.requires.books.desk was).tables.stay (λ r. refl) (λ e. refl)
           (c.requires.numbered was) o a)
           (c.look.ensures.found kept _ selects.select_last_party);
-      open_on = c.look.ensures.open_on;
+      open_on = λ _. c.look.ensures.open_on;
       crash = c.look.ensures.crash;
     }

@@ -26,6 +26,6 @@ returns g c =
       keeps = c.look_all.ensures.keeps;
       found = λ kept. IfOk-weaker c.look_all.result _ _
           (λ all a. stays_find old.now.trees (c.requires.desk (c.look_all.ensures.keeps kept).0).tables c.args.kind.now all.items a) (shown kept _ selects.select_stays_of_kind);
-      open_on = c.look_all.ensures.open_on;
+      open_on = λ _. c.look_all.ensures.open_on;
       crash = c.look_all.ensures.crash;
     }

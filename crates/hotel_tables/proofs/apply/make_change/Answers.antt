@@ -13,4 +13,4 @@ returns g c =
     let zero : Survives old start (λ _. ⊥) = search rules in
     let it : Ends (made c.args.change.now) old (state g.S.Store c.commit.new.self.0) c.commit.result =
     ended begins c.requires.fits c.in_ok-write_change.ensures.makes.rows c.commit.result zero c.commit.ensures.ended c.commit.ensures.ok c.commit.ensures.err c.commit.ensures.survives in
-    record { books = search (rules, it.books); was = search (rules, it.was); made = search (rules, it.made); same = search (rules, it.same); crash = search (rules, it.crash) }
+    record { books = search (rules, it.books); was = search (rules, it.was); open_on = search (rules, it.open_on); made = search (rules, it.made); same = search (rules, it.same); crash = search (rules, it.crash) }

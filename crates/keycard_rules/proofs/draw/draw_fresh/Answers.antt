@@ -8,26 +8,30 @@ loop-init g c = record {
   moved = sym (past-zero _);
   counted = λ why. omega arith;
   was_clean = λ h. h;
+  was_honest = λ h. h;
+  vouched = λ some honest. absurd (omega arith);
   kept = λ h. g.met.I.Issued.kept_refl _;
   so_far = λ h. so_far_none _ _;
 }
 
 pub returns-in-Ok-false-clause-drawn : goal.returns-in-Ok-false-clause-drawn
-returns-in-Ok-false-clause-drawn g c = λ clean.
+returns-in-Ok-false-clause-drawn g c = λ honest.
+    let clean = c.in-Ok-false.ensures.vouched honest in
+    let so_far = c.loop.invariant.so_far (c.is_issued.ensures.was_honest honest) in
     let before = c.is_issued.ensures.was_clean clean in
     let hit = answer_at _ _ _ _ _ _ (c.in-Ok-false.ensures.answer clean) c.in-Ok-false.field-0-test (g.met.I.Issued.kept_issued _ _ (c.loop.invariant.kept before)) c.of_word-code.ensures in
-    let d = found _ _ _ _ _ _ (c.loop.invariant.so_far before) c.loop-test.true c.next_u64.ensures hit in
-    let m = moved_on _ _ _ _ _ _ (c.loop.invariant.so_far before) c.loop-test.true c.next_u64.ensures in
+    let d = found _ _ _ _ _ _ so_far c.loop-test.true c.next_u64.ensures hit in
+    let m = moved_on _ _ _ _ _ _ so_far c.loop-test.true c.next_u64.ensures in
     draw_is _ _ _ _ _ (d ∙ ap (λ (x : ℕ). let r : Draw = record { code = Some x; examined = c.loop.counter + 1 } in r) (sym c.of_word-code.ensures)) m
 
 pub returns-in-Err-Memory-clause-drawn : goal.returns-in-Err-Memory-clause-drawn
-returns-in-Err-Memory-clause-drawn g c = λ clean.
-    let before = c.is_issued.ensures.was_clean clean in
+returns-in-Err-Memory-clause-drawn g c = λ honest.
+    let before = c.is_issued.ensures.was_honest honest in
     (_, examines _ _ _ _ _ _ (c.loop.invariant.so_far before) c.loop-test.true c.next_u64.ensures, moved_on _ _ _ _ _ _ (c.loop.invariant.so_far before) c.loop-test.true c.next_u64.ensures)
 
 pub returns-in-Err-Store-clause-drawn : goal.returns-in-Err-Store-clause-drawn
-returns-in-Err-Store-clause-drawn g c = λ clean.
-    let before = c.is_issued.ensures.was_clean clean in
+returns-in-Err-Store-clause-drawn g c = λ honest.
+    let before = c.is_issued.ensures.was_honest honest in
     (_, examines _ _ _ _ _ _ (c.loop.invariant.so_far before) c.loop-test.true c.next_u64.ensures, moved_on _ _ _ _ _ _ (c.loop.invariant.so_far before) c.loop-test.true c.next_u64.ensures)
 
 pub loop-preserved : goal.loop-preserved
@@ -35,12 +39,16 @@ loop-preserved g c = record {
   moved = past-next _ _ _ _ _ c.loop.invariant.moved c.next_u64.ensures;
   counted = λ why. omega (arith, c.loop.invariant.counted why, c.is_issued.ensures.counted why);
   was_clean = λ clean. c.loop.invariant.was_clean (c.is_issued.ensures.was_clean clean);
+  was_honest = λ honest. c.loop.invariant.was_honest (c.is_issued.ensures.was_honest honest);
+  vouched = λ some honest. c.in-Ok-true.ensures.vouched honest;
   kept = λ clean.
       g.met.I.Issued.kept_trans _ _ _ (c.loop.invariant.kept (c.is_issued.ensures.was_clean clean)) (c.is_issued.ensures.kept clean);
-  so_far = λ clean.
+  so_far = λ honest.
+      let clean = c.in-Ok-true.ensures.vouched honest in
+      let so_far = c.loop.invariant.so_far (c.is_issued.ensures.was_honest honest) in
       let before = c.is_issued.ensures.was_clean clean in
       let hit = answer_at _ _ _ _ _ _ (c.in-Ok-true.ensures.answer clean) c.in-Ok-true.field-0-test (g.met.I.Issued.kept_issued _ _ (c.loop.invariant.kept before)) c.of_word-code.ensures in
-      so_far_more _ _ _ _ _ _ (c.loop.invariant.so_far before) c.loop-test.true c.next_u64.ensures hit;
+      so_far_more _ _ _ _ _ _ so_far c.loop-test.true c.next_u64.ensures hit;
 }
 
 pub returns-clause-drawn : goal.returns-clause-drawn
@@ -50,7 +58,7 @@ returns-clause-drawn g c = λ clean.
 
 pub returns-clause-none_fresh : goal.returns-clause-none_fresh
 returns-clause-none_fresh g c = λ clean is.
-    let d = no_more _ _ _ _ (c.loop.invariant.so_far clean) c.loop-test.false in
+    let d = no_more _ _ _ _ (c.loop.invariant.so_far (g.met.I.Issued.clean_honest _ clean)) c.loop-test.false in
     drawn-none _ _ (ap (λ (x : Draw). x.code) d)
 
 pub returns-in-Ok-false-clause-moved : goal.returns-in-Ok-false-clause-moved
@@ -69,3 +77,6 @@ pub returns-clause-none_moved : goal.returns-clause-none_moved
 returns-clause-none_moved g c = λ is.
     let all : c.loop.counter ≡ 64 = omega arith in
     rw all at c.loop.invariant.moved
+
+pub returns-clause-vouched : goal.returns-clause-vouched
+returns-clause-vouched g c = λ honest none. c.loop.invariant.vouched (omega arith) honest

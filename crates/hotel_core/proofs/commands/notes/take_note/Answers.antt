@@ -51,5 +51,5 @@ returns-in-None g c = λ source.
     ends (then_found (then_found (then_found begun c.in_ok-today.ensures.finds) (rw c.room.ensures at c.in_ok-row.ensures)) c.in_ok-kept.ensures)
     (c.take_new.ensures source) (λ k. reported_there _ _ _ _ _ None k.0.0.1 k.0.1 (sym c.is_fit.ensures ∙ c.if-not-is_fit.false) (only k.1 ∙ c.in-None.is))
 
-pub kept_note-requires : goal.kept_note-requires
-kept_note-requires g c = λ clean. (at_now (then_found (then_found begun c.in_ok-today.ensures.finds) (rw c.room.ensures at c.in_ok-row.ensures)) clean).1
+pub kept_note-requires-clause-there : goal.kept_note-requires-clause-there
+kept_note-requires-clause-there g c = λ clean. (at_now (then_found (then_found begun c.in_ok-today.ensures.finds) (rw c.room.ensures at c.in_ok-row.ensures)) clean).1

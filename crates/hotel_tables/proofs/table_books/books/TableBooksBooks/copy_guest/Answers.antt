@@ -1,0 +1,16 @@
+use Rattle.std.proofs.Common.{arith, rules}
+use Rattle.std.proofs.lemmas.Result.{IfErr-weaker}
+use Rattle.hotel_core.proofs.OfCode.Parts.{risen_later}
+use Rattle.hotel_tables.proofs.table_books.books.TableBooksBooks.copy_guest.Goals as goal
+
+pub returns : goal.returns
+returns g c = record {
+  answer = search rules;
+  kept = search rules;
+  was_clean = search rules;
+  was_honest = search rules;
+  vouched = search rules;
+  counted = λ why. omega (arith, c.in_ok-ask.ensures.counted why, c.counting.ensures.counted why);
+  fault = rw c.counting.ensures.same (IfErr-weaker _ _ _ (λ why risen. risen_later _ _ _ (c.in_ok-ask.ensures.counted why) risen (c.counting.ensures.counted why)) c.counting.ensures.risen);
+  sure = λ never. absurd never;
+}
