@@ -1,7 +1,7 @@
 use Rattle.std.proofs.Common.{Err, rules, sym, ◌∙◌}
 use Rattle.hotel_lists.specs.declared.fault.ListFault.TheVariants.{Write}
 use Rattle.hotel_lists.proofs.CallsLemmas.{then_none_forgotten}
-use Rattle.hotel_lists.proofs.LinesWritten.{Ends, cut_ends, front_of_first, list_ended, list_written}
+use Rattle.hotel_lists.proofs.LinesWritten.{Ends, cut_ends, front_of_first, list_ended, list_vouches, list_written, store_failed}
 use Rattle.hotel_lists.proofs.write_lists.write_rows.Goals as goal
 
 pub returns-in_err-write_bytes-clause-text : goal.returns-in_err-write_bytes-clause-text
@@ -34,3 +34,15 @@ returns-clause-calls g c =
     let none = then_none_forgotten _ _ _ (rw (← c.new-lines.ensures.uncalled) at c.in_ok-write_bytes.ensures.calls) same.none_forgotten in
     let back = sym (same.calls ∙ c.new-lines.ensures.same_calls) in
     search rules
+
+pub returns-clause-books : goal.returns-clause-books
+returns-clause-books g c =
+    let walked = c.walk-walked.ensures in
+    record {
+      kept = walked.kept;
+      was_clean = walked.was_clean;
+      was_honest = walked.was_honest;
+      vouched = λ honest. list_vouches g.W.Write.contents _ _ _ c.walk-walked.result c.finish-end.result c.listed.result (walked.vouched honest) c.finish-end.ensures.ends c.listed.ensures;
+      counted = walked.counted;
+      store = λ e. let failed = store_failed g.W.Write.contents _ _ c.walk-walked.result c.finish-end.result c.listed.result c.finish-end.ensures.ends c.listed.ensures e in rw failed at walked.fault;
+    }
