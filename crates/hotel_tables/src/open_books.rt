@@ -62,6 +62,8 @@ impl<S: Alter + Drop> TableBooks<S> {
                 conn,
                 kinds: counts.kinds,
                 nights: counts.nights,
+                next: None,
+                answers: false,
                 memory: 0,
                 store: 0,
             }),
