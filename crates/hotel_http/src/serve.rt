@@ -5,10 +5,12 @@ ghost use Rattle.std.specs.Io.KnownBytes.{Appends};
 ghost use Rattle.rand_core.specs.Stream.{Stream};
 ghost use Rattle.keycard_rules.specs.Rise.{NoFewer};
 ghost use Rattle.hotel_core.specs.{Books.Failures.AreCounted, Model.Leads.Leads};
-ghost use Rattle.hotel_lists.specs.{Bytes.ReadsWhile, Calls.NoneForgotten};
+ghost use Rattle.hotel_lists.specs.Calls.{NoneForgotten};
 ghost use Rattle.hotel_asks.specs.Listings.{listing_on};
+ghost use Rattle.hotel_lists.specs.Bytes.{ReadsWhile};
+ghost use Rattle.hotel_http.specs.Request.{WantsMore};
 ghost use Rattle.hotel_asks.specs.declared.asks.Ask.TheVariants as ask;
-ghost use Rattle.hotel_http.specs.{Body.interim_where, Request.WantsMore, declared.serve.ServeFault.TheVariants.Read, declared.serve.ServeFault.TheVariants.Write};
+ghost use Rattle.hotel_http.specs.{Body.interim_where, declared.serve.ServeFault.TheVariants.Read, declared.serve.ServeFault.TheVariants.Write};
 ghost use Rattle.hotel_http.specs.Serve.{rejected, replied, is_accepted, taken_by, outcome, AskComes, FileComes, TaskComes, Comes, EndsAs, Answered, ended, IsListText, list_refusal, list_failures, text_in, Serves, IfUnwritten, serve_fault_of};
 
 use crate::answer::{rejection_status, reply_status, write_csv, write_rejection, write_reply};
@@ -286,9 +288,9 @@ pub fn serve_by<I: Read, W: Write, B: Walks, R: Rng>(
     ensures serves { Serves (I.remaining reader.old) (W.contents writer.old) (W.contents writer.new) ((books.new ≡ books.old) × (source.new ≡ source.old))
         (λ wanted awaited end. B.is_clean books.new → Leads (B.rows books.old) (Answered (Comes wanted) (R.stream source.old) (R.stream source.new) (interim_where awaited)
         (W.contents writer.old) (W.contents writer.new) (B.failures books.old) (B.failures books.new) end) (B.rows books.new)) result }
-    ensures wanted { ReadsWhile WantsMore (I.remaining reader.old) (I.remaining reader.new) }
     ensures was_clean { B.is_clean books.new → B.is_clean books.old }
     ensures counted { NoFewer (B.failures books.old) (B.failures books.new) }
+    ensures wanted { ReadsWhile WantsMore (I.remaining reader.old) (I.remaining reader.new) }
     ensures read_failed { IsErrOf result Read → calls.new.read_failed ≡ true }
     ensures write_failed { IfUnwritten result (calls.new.write_failed ≡ true) }
     ensures calls { NoneForgotten calls.old calls.new }
@@ -315,9 +317,9 @@ pub fn serve_one<I: Read, W: Write, B: Walks, R: Rng>(
     ensures serves { Serves (I.remaining reader.old) (W.contents writer.old) (W.contents writer.new) ((books.new ≡ books.old) × (source.new ≡ source.old))
         (λ wanted awaited end. B.is_clean books.new → Leads (B.rows books.old) (Answered (Comes wanted) (R.stream source.old) (R.stream source.new) (interim_where awaited)
         (W.contents writer.old) (W.contents writer.new) (B.failures books.old) (B.failures books.new) end) (B.rows books.new)) result }
-    ensures wanted { ReadsWhile WantsMore (I.remaining reader.old) (I.remaining reader.new) }
     ensures was_clean { B.is_clean books.new → B.is_clean books.old }
     ensures counted { NoFewer (B.failures books.old) (B.failures books.new) }
+    ensures wanted { ReadsWhile WantsMore (I.remaining reader.old) (I.remaining reader.new) }
 {
     let Ok(routes) = make_routes(alloc) else {
         return Err(ServeFault::Memory);
