@@ -307,6 +307,7 @@ pub fn serve_by<I: Read, W: Write, B: Walks, R: Rng>(
 /// The body is read whole before a command or an import begins. All memory but theirs is taken before it; their answers are written from
 /// buffers of fixed size, and a list's text is made whole before its answer begins. The interrupted reads and writes of the call are
 /// counted together; the thousandth is a fault. The writer is not flushed.
+#[tactic(auto, using(crate::proofs::RequestLemmas::none_read))]
 pub fn serve_one<I: Read, W: Write, B: Walks, R: Rng>(
     alloc: Global,
     reader: &mut I,

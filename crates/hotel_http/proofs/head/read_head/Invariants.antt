@@ -8,7 +8,7 @@ use Rattle.hotel_http.proofs.head.read_head.Given as goal
 abbrev pub invariant-pieces : goal.invariant-pieces
 invariant-pieces g l = record {
   taken : Consumes (g.R.Read.remaining l.initial.reader) (g.R.Read.remaining l.reader) l.bytes.items;
-  open : WantsHead l.bytes.items;
+  wants : WantsHead l.bytes.items;
   few : vec_len l.bytes ≤ 16384;
   room : length l.headers ≡ 64;
   calls : NoneForgotten l.initial.calls l.calls;
