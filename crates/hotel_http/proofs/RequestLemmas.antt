@@ -4,8 +4,8 @@ use Rattle.std.specs.Io.KnownBytes.{Consumes, Appends}
 use Rattle.std.proofs.KnownBytes.{Appends-nil, Consumes-kept, Consumes-nil, Consumes-trans}
 use Rattle.std.proofs.lemmas.List.{drop-append-le}
 use Rattle.httparse.specs.{Grammar.RequestHead, Spans.IsRequestAt, Spans.IsRequestOf, Spans.IsRequestWithin, declared.spans.HeaderSpan.HeaderSpan, declared.spans.RequestSpans.RequestSpans}
-use Rattle.hotel_lists.specs.Bytes.{ReadsWhile}
-use Rattle.hotel_lists.proofs.BytesLemmas.{reads_while}
+use Rattle.hotel_http.specs.Reads.{ReadsWhile}
+use Rattle.hotel_http.proofs.ReadLemmas.{reads_while}
 use Rattle.hotel_http.specs.{Body.ReadsBody, Body.interim_where, Head.BeginsWith, Head.IsJudged, Head.WantsHead, Head.most_bytes, Head.most_fields, Plan.plan_in, Plan.path_of}
 use Rattle.hotel_http.specs.Request.{Wanted, IsMeant, IsAsked, awaits, wanted_of, EndsBody, EndsHead, EndsRequest, ReadsBehind, WantsBody, WantsMore}
 use Rattle.hotel_http.proofs.HeadLemmas.{begins}
