@@ -11,6 +11,8 @@ ghost use Rattle.hotel_core.specs.Model.Words.{is_one_of, pair_cmp};
 ghost use Rattle.hotel_core.specs.Model.Guests.{are_none};
 ghost use Rattle.hotel_core.specs.Books.Lookups.{room_at, codes_in, code_place, code_at, stay_at, stays_of_kind, card_at, inside_at, note_at, number_after};
 ghost use Rattle.hotel_statements.specs.Books.{IsBooks, IsKept};
+ghost use Rattle.hotel_statements.specs.Failures.{BareNoteFails, BareRoomFails, CardFails, CodeAtFails, CodeFails, DayFails, FitFails, FitsFail, HasInsideFails};
+ghost use Rattle.hotel_statements.specs.Failures.{InsideFails, IsInsideFails, KindFails, LastCardFails, LastPartyFails, NoteFails, NumbersFail, RoomFails, StayFails, StaysFail};
 ghost use Rattle.hotel_statements.specs.LookUps.{Looks, Finds, counts_of_row, numbered_fit, next_numbers_of};
 
 use crate::from_row::bare_rows::{BareNote, BareRoom, note_with, room_with};
@@ -41,7 +43,7 @@ pub struct RoomCounts {
 /// The day of the desk, where one was set.
 pub fn day<S: Alter>(alloc: Global, conn: &mut Connection<S>) -> Result<Option<Day>, LookFault>
     requires { IsBooks (state S.Store conn.old) }
-    ensures { Looks (λ a. a) (λ rows. rows.day) (state S.Store conn.old) (state S.Store conn.new) result }
+    ensures { Looks DayFails (λ a. a) (λ rows. rows.day) (state S.Store conn.old) (state S.Store conn.new) result }
 {
     let day: Option<Option<Day>> = look(alloc, conn, SELECT_DAY, &[small(1)])?;
     Ok(day.unwrap_or(None))
@@ -54,7 +56,7 @@ pub fn kind<S: Alter>(
     kind: &KindCode,
 ) -> Result<bool, LookFault>
     requires { IsBooks (state S.Store conn.old) }
-    ensures { Looks (λ a. a) (λ rows. has_kind rows kind.now) (state S.Store conn.old) (state S.Store conn.new) result }
+    ensures { Looks (KindFails kind.now) (λ a. a) (λ rows. has_kind rows kind.now) (state S.Store conn.old) (state S.Store conn.new) result }
 {
     let kind: Option<KindCode> = look(alloc, conn, SELECT_KIND, &[text(kind.as_bytes())])?;
     Ok(kind.is_some())
@@ -67,7 +69,7 @@ pub fn fits_of_room<S: Alter>(
     room: RoomNo,
 ) -> Result<Vec<FitRow>, LookFault>
     requires { IsBooks (state S.Store conn.old) }
-    ensures { Looks (λ v. v.items) (λ rows. fits_at rows.fits room)
+    ensures { Looks (FitsFail room) (λ v. v.items) (λ rows. fits_at rows.fits room)
         (state S.Store conn.old) (state S.Store conn.new) result }
 {
     look_all(alloc, conn, SELECT_FITS, &[small(room.value())])
@@ -81,7 +83,7 @@ pub fn fit<S: Alter>(
     number: FitNo,
 ) -> Result<Option<FitRow>, LookFault>
     requires { IsBooks (state S.Store conn.old) }
-    ensures { Looks (λ a. a) (λ rows. fit_at rows room number)
+    ensures { Looks (FitFails room number) (λ a. a) (λ rows. fit_at rows room number)
         (state S.Store conn.old) (state S.Store conn.new) result }
 {
     look(
@@ -99,7 +101,7 @@ pub(crate) fn bare_room<S: Alter>(
     room: RoomNo,
 ) -> Result<Option<BareRoom>, LookFault>
     requires { IsBooks (state S.Store conn.old) }
-    ensures { Finds (λ db. at_number (bare_rooms_in db) room) (state S.Store conn.old) (state S.Store conn.new) result }
+    ensures { Finds (BareRoomFails room) (λ db. at_number (bare_rooms_in db) room) (state S.Store conn.old) (state S.Store conn.new) result }
 {
     look(alloc, conn, SELECT_ROOM, &[small(room.value())])
 }
@@ -111,7 +113,7 @@ pub fn room<S: Alter>(
     room: RoomNo,
 ) -> Result<Option<RoomRow>, LookFault>
     requires { IsBooks (state S.Store conn.old) }
-    ensures { Looks (λ a. a) (λ rows. room_at rows room) (state S.Store conn.old) (state S.Store conn.new) result }
+    ensures { Looks (RoomFails room) (λ a. a) (λ rows. room_at rows room) (state S.Store conn.old) (state S.Store conn.new) result }
 {
     let Some(bare) = bare_room(alloc, conn, room)? else {
         return Ok(None);
@@ -127,7 +129,7 @@ pub fn room_counts<S: Alter>(
     room: RoomNo,
 ) -> Result<Option<RoomCounts>, LookFault>
     requires { IsBooks (state S.Store conn.old) }
-    ensures { Looks (λ a. a) (λ rows. option_map counts_of_row (room_at rows room))
+    ensures { Looks (BareRoomFails room) (λ a. a) (λ rows. option_map counts_of_row (room_at rows room))
         (state S.Store conn.old) (state S.Store conn.new) result }
 {
     let Some(bare) = bare_room(alloc, conn, room)? else {
@@ -143,7 +145,7 @@ pub fn stay<S: Alter>(
     party: PartyNo,
 ) -> Result<Option<Stay>, LookFault>
     requires { IsBooks (state S.Store conn.old) }
-    ensures { Looks (λ a. a) (λ rows. stay_at rows party) (state S.Store conn.old) (state S.Store conn.new) result }
+    ensures { Looks (StayFails party) (λ a. a) (λ rows. stay_at rows party) (state S.Store conn.old) (state S.Store conn.new) result }
 {
     look(alloc, conn, SELECT_STAY, &[small(party.value())])
 }
@@ -155,7 +157,7 @@ pub fn code<S: Alter>(
     code: Code,
 ) -> Result<Option<CodeRow>, LookFault>
     requires { IsBooks (state S.Store conn.old) }
-    ensures { Looks (λ a. a) (λ rows. code_place rows code) (state S.Store conn.old) (state S.Store conn.new) result }
+    ensures { Looks (CodeFails code) (λ a. a) (λ rows. code_place rows code) (state S.Store conn.old) (state S.Store conn.new) result }
 {
     look(alloc, conn, SELECT_CODE, &[number(code.value())])
 }
@@ -167,7 +169,7 @@ pub fn card<S: Alter>(
     number: CardNo,
 ) -> Result<Option<Card>, LookFault>
     requires { IsBooks (state S.Store conn.old) }
-    ensures { Looks (λ a. a) (λ rows. card_at rows number) (state S.Store conn.old) (state S.Store conn.new) result }
+    ensures { Looks (CardFails number) (λ a. a) (λ rows. card_at rows number) (state S.Store conn.old) (state S.Store conn.new) result }
 {
     look(alloc, conn, SELECT_CARD, &[small(number.value())])
 }
@@ -181,7 +183,7 @@ fn bare_note<S: Alter>(
 ) -> Result<Option<BareNote>, LookFault>
     requires books { IsBooks (state S.Store conn.old) }
     requires low { at < 2 ^ 63 }
-    ensures { Finds (λ db. lookup (is_at (pair_cmp (room, at))) (bare_notes_in db))
+    ensures { Finds (BareNoteFails room at) (λ db. lookup (is_at (pair_cmp (room, at))) (bare_notes_in db))
         (state S.Store conn.old) (state S.Store conn.new) result }
 {
     look(alloc, conn, SELECT_NOTE, &[small(room.value()), number(at)])
@@ -209,7 +211,7 @@ pub fn note<S: Alter>(
     count: Count,
 ) -> Result<Option<LockNote>, LookFault>
     requires { IsBooks (state S.Store conn.old) }
-    ensures { Looks (λ a. a) (λ rows. note_at rows room fit count)
+    ensures { Looks (NoteFails room) (λ a. a) (λ rows. note_at rows room fit count)
         (state S.Store conn.old) (state S.Store conn.new) result }
 {
     let fits = fits_of_room(alloc, conn, room)?;
@@ -236,7 +238,7 @@ pub fn is_inside<S: Alter>(
     number: CardNo,
 ) -> Result<bool, LookFault>
     requires { IsBooks (state S.Store conn.old) }
-    ensures { Looks (λ a. a) (λ rows. is_one_of number (inside_at rows room)) (state S.Store conn.old) (state S.Store conn.new) result }
+    ensures { Looks (IsInsideFails room number) (λ a. a) (λ rows. is_one_of number (inside_at rows room)) (state S.Store conn.old) (state S.Store conn.new) result }
 {
     let card: Option<CardNo> = look(
         alloc,
@@ -254,7 +256,7 @@ pub fn has_inside<S: Alter>(
     room: RoomNo,
 ) -> Result<bool, LookFault>
     requires { IsBooks (state S.Store conn.old) }
-    ensures { Looks (λ a. a) (λ rows. not (are_none (inside_at rows room))) (state S.Store conn.old) (state S.Store conn.new) result }
+    ensures { Looks (HasInsideFails room) (λ a. a) (λ rows. not (are_none (inside_at rows room))) (state S.Store conn.old) (state S.Store conn.new) result }
 {
     let card: Option<CardNo> = look(alloc, conn, SELECT_ANY_INSIDE, &[small(room.value())])?;
     Ok(card.is_some())
@@ -268,7 +270,7 @@ pub fn code_at<S: Alter>(
     place: u32,
 ) -> Result<Option<Code>, LookFault>
     requires { IsBooks (state S.Store conn.old) }
-    ensures { Looks (λ a. a) (λ rows. code_at rows room place) (state S.Store conn.old) (state S.Store conn.new) result }
+    ensures { Looks (CodeAtFails room place) (λ a. a) (λ rows. code_at rows room place) (state S.Store conn.old) (state S.Store conn.new) result }
 {
     look(
         alloc,
@@ -285,7 +287,7 @@ pub fn stays_of_kind<S: Alter>(
     kind: &KindCode,
 ) -> Result<Vec<Stay>, LookFault>
     requires { IsBooks (state S.Store conn.old) }
-    ensures { Looks (λ v. v.items) (λ rows. stays_of_kind rows kind.now) (state S.Store conn.old) (state S.Store conn.new) result }
+    ensures { Looks (StaysFail kind.now) (λ v. v.items) (λ rows. stays_of_kind rows kind.now) (state S.Store conn.old) (state S.Store conn.new) result }
 {
     look_all(alloc, conn, SELECT_STAYS_OF_KIND, &[text(kind.as_bytes())])
 }
@@ -297,7 +299,7 @@ pub fn inside<S: Alter>(
     room: RoomNo,
 ) -> Result<Vec<CardNo>, LookFault>
     requires { IsBooks (state S.Store conn.old) }
-    ensures { Looks (λ v. v.items) (λ rows. inside_at rows room) (state S.Store conn.old) (state S.Store conn.new) result }
+    ensures { Looks (InsideFails room) (λ v. v.items) (λ rows. inside_at rows room) (state S.Store conn.old) (state S.Store conn.new) result }
 {
     look_all(alloc, conn, SELECT_CARDS_INSIDE, &[small(room.value())])
 }
@@ -309,7 +311,7 @@ pub fn is_issued<S: Alter>(
     number: Code,
 ) -> Result<bool, LookFault>
     requires { IsBooks (state S.Store conn.old) }
-    ensures { Looks (λ a. a) (λ rows. is_one_of number (codes_in rows)) (state S.Store conn.old) (state S.Store conn.new) result }
+    ensures { Looks (CodeFails number) (λ a. a) (λ rows. is_one_of number (codes_in rows)) (state S.Store conn.old) (state S.Store conn.new) result }
 {
     let place = code(alloc, conn, number)?;
     Ok(place.is_some())
@@ -322,7 +324,7 @@ fn last_party<S: Alter>(
 ) -> Result<Option<PartyNo>, LookFault>
     requires books { IsBooks (state S.Store conn.old) }
     requires numbered { IsKept (state S.Store conn.old) → count_up 1 (keys_of (rows_in (state S.Store conn.old).now.trees).stays) ≡ true }
-    ensures { Looks (λ o. unwrap_or o 0) (λ rows. length rows.stays) (state S.Store conn.old) (state S.Store conn.new) result }
+    ensures { Looks LastPartyFails (λ o. unwrap_or o 0) (λ rows. length rows.stays) (state S.Store conn.old) (state S.Store conn.new) result }
 {
     look(alloc, conn, SELECT_LAST_PARTY, &[])
 }
@@ -331,7 +333,7 @@ fn last_party<S: Alter>(
 fn last_card<S: Alter>(alloc: Global, conn: &mut Connection<S>) -> Result<Option<CardNo>, LookFault>
     requires books { IsBooks (state S.Store conn.old) }
     requires numbered { IsKept (state S.Store conn.old) → count_up 1 (keys_of (rows_in (state S.Store conn.old).now.trees).cards) ≡ true }
-    ensures { Looks (λ o. unwrap_or o 0) (λ rows. length rows.cards) (state S.Store conn.old) (state S.Store conn.new) result }
+    ensures { Looks LastCardFails (λ o. unwrap_or o 0) (λ rows. length rows.cards) (state S.Store conn.old) (state S.Store conn.new) result }
 {
     look(alloc, conn, SELECT_LAST_CARD, &[])
 }
@@ -354,7 +356,7 @@ pub fn next_numbers<S: Alter>(
     requires books { IsBooks (state S.Store conn.old) }
     requires parties { IsKept (state S.Store conn.old) → count_up 1 (keys_of (rows_in (state S.Store conn.old).now.trees).stays) ≡ true }
     requires cards { IsKept (state S.Store conn.old) → count_up 1 (keys_of (rows_in (state S.Store conn.old).now.trees).cards) ≡ true }
-    ensures { Looks (λ a. a) next_numbers_of (state S.Store conn.old) (state S.Store conn.new) result }
+    ensures { Looks NumbersFail (λ a. a) next_numbers_of (state S.Store conn.old) (state S.Store conn.new) result }
 {
     let party = last_party(alloc, conn)?;
     let card = last_card(alloc, conn)?;

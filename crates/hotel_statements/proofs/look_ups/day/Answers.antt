@@ -23,6 +23,23 @@ returns g c =
       books = c.look.ensures.books;
       keeps = c.look.ensures.keeps;
       found = λ kept. c.unwrap_or.ensures ∙ day_finds old.now.trees (c.requires.desk (c.look.ensures.keeps kept).0).tables c.in_ok-day.day (shown kept _ selects.select_day);
-      open_on = λ _. c.in_ok-day.ensures.open_on;
+      open_on = λ _ clean. (c.in_ok-day.ensures.unchanged clean).0.is_open;
+      unchanged = λ _. c.in_ok-day.ensures.unchanged;
+      cause = λ _. tt;
+      crash = c.look.ensures.crash;
+    }
+
+pub returns-in_err-day : goal.returns-in_err-day
+returns-in_err-day g c =
+    let old = state g.S.Store c.args.conn.now in
+    let new = state g.S.Store c.look.new.conn in
+    let cause : HasCause DayFails old new c.look.result = rw (c.small.ensures) at c.look.ensures.cause in
+    record {
+      books = c.look.ensures.books;
+      keeps = c.look.ensures.keeps;
+      found = search rules;
+      open_on = search rules;
+      unchanged = search rules;
+      cause = ?;
       crash = c.look.ensures.crash;
     }

@@ -25,6 +25,23 @@ returns g c =
       keeps = c.look.ensures.keeps;
       found = λ kept. c.is_some.ensures ∙ kind_finds old.now.trees (c.requires.desk (c.look.ensures.keeps kept).0).tables c.args.kind.now c.in_ok-kind.kind
           (shown kept _ selects.select_kind);
-      open_on = λ _. c.in_ok-kind.ensures.open_on;
+      open_on = λ _ clean. (c.in_ok-kind.ensures.unchanged clean).0.is_open;
+      unchanged = λ _. c.in_ok-kind.ensures.unchanged;
+      cause = λ _. tt;
+      crash = c.look.ensures.crash;
+    }
+
+pub returns-in_err-kind : goal.returns-in_err-kind
+returns-in_err-kind g c =
+    let old = state g.S.Store c.args.conn.now in
+    let new = state g.S.Store c.look.new.conn in
+    let cause : HasCause (KindFails c.args.kind.now) old new c.look.result = rw (c.text.ensures, c.as_bytes.ensures.same) at c.look.ensures.cause in
+    record {
+      books = c.look.ensures.books;
+      keeps = c.look.ensures.keeps;
+      found = search rules;
+      open_on = search rules;
+      unchanged = search rules;
+      cause = ?;
       crash = c.look.ensures.crash;
     }
