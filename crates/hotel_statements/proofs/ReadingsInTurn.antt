@@ -46,13 +46,13 @@ either_later version First Then first then old mid new was unchanged crash ours 
 -- another cause that this one is
 pub caused_so : {R was : Type 0} (version : Version) (First Then : State → State → Type 0) (Says : R → Trees → Type 0) (old new : State)
     (result : Result R LookFault) → (First old new → Then old new) → ReadsIf was version First Says old new result → ReadsIf was version Then Says old new result
-caused_so version First Then Says old new result as reads = record {
+caused_so version First Then Says old new result gives reads = record {
   ours = reads.ours;
   keeps = reads.keeps;
   says = reads.says;
   open_on = reads.open_on;
   unchanged = reads.unchanged;
-  cause = λ clean. IfErr-weaker result _ _ (λ fault fails other. as (fails other)) (reads.cause clean);
+  cause = λ clean. IfErr-weaker result _ _ (λ fault fails other. gives (fails other)) (reads.cause clean);
   crash = reads.crash;
 }
 

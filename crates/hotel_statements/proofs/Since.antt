@@ -124,8 +124,8 @@ clean_before old new crash clean = omega (arith, crash.clean, clean)
 -- rows that aren't read by one reader aren't by another
 pub walk_unread : (P Q : Row → Type 0) (text : List ℕ) (params : Row) (old new : State) → (IsKept old → (rows : List Row) → All Q rows → All P rows)
     → WalkFails P text params old new → WalkFails Q text params old new
-walk_unread P Q text params old new as (inl (inl h)) = inl (inl h)
-walk_unread P Q text params old new as (inl (inr h)) =
+walk_unread P Q text params old new gives (inl (inl h)) = inl (inl h)
+walk_unread P Q text params old new gives (inl (inr h)) =
     let shows = h.1 in
-    inl (inr (h.0, (shows.0, shows.1, shows.2, shows.3, λ all. shows.4 (as h.0 shows.2 all))))
-walk_unread P Q text params old new as (inr h) = inr h
+    inl (inr (h.0, (shows.0, shows.1, shows.2, shows.3, λ all. shows.4 (gives h.0 shows.2 all))))
+walk_unread P Q text params old new gives (inr h) = inr h

@@ -17,7 +17,7 @@ not_wanting e other is = other (ap fault_of is)
 -- what isn't read as one isn't read as less
 pub unread_so : {Is Has : Value → Type 0} → ((v : Value) → Has v → Is v) → (r : Row) (at : ℕ) (fault : LookFault) → FailsToRead Is r at fault
     → FailsToRead Has r at fault
-unread_so as r at fault fails other within has = fails other within (as _ has)
+unread_so gives r at fault fails other within has = fails other within (gives _ has)
 
 -- what `?` hands over is the error
 pub err_is : {T : Type 0} (r : Result T LookFault) (fault : LookFault) → IsErr r × IsErrAnd r (λ given. given ≡ fault) → r ≡ Err fault

@@ -1,5 +1,5 @@
 -- Why the look-ups fail: which statements each makes, and what else it may meet in the tables.
-use Rattle.std.specs.Prelude.{◌≡◌, ◌⊎◌, ◌<◌, ◌^◌, ℕ, List, [], ◌∷◌, Some}
+use Rattle.std.specs.Prelude.{◌≡◌, ◌⊎◌, ◌<◌, ◌^◌, ℕ, List, [], ◌∷◌, Some, None}
 use Rattle.std.specs.Map.{lookup}
 use Rattle.std.specs.BTreeMap.{is_at}
 use Rattle.sqlite_value.specs.declared.value.Value.TheVariants.{Text}
@@ -9,7 +9,7 @@ use Rattle.keycard_rules.specs.Note.{Note}
 use Rattle.hotel_core.specs.declared.books.rows.RoomRow.{RoomRow}
 use Rattle.hotel_core.specs.declared.books.rows.FitRow.{FitRow}
 use Rattle.hotel_core.specs.Model.Words.{pair_cmp}
-use Rattle.hotel_core.specs.Model.Rows.{at_number, fits_at}
+use Rattle.hotel_core.specs.Model.Rows.{at_number, fits_at, last_fit}
 use Rattle.hotel_statements.specs.Values.{int}
 use Rattle.hotel_statements.specs.Tables.{fits_in, bare_rooms_in, bare_notes_in}
 use Rattle.hotel_statements.specs.Books.{IsKept}
@@ -79,7 +79,7 @@ NumbersFail old new = LastPartyFails old new ⊎ LastCardFails old new
 
 -- a room that has no fit
 abbrev pub LacksFits : ℕ → Trees → Type 0
-LacksFits room db = (row : RoomRow) × (at_number (bare_rooms_in db) room ≡ Some row) × (fits_at (fits_in db) room ≡ [])
+LacksFits room db = (row : RoomRow) × (at_number (bare_rooms_in db) room ≡ Some row) × (last_fit (fits_at (fits_in db) room) ≡ None)
 
 abbrev pub RoomFails : ℕ → State → State → Type 0
 RoomFails room old new = BareRoomFails room old new ⊎ (FitsFail room old new ⊎ (IsKept old × LacksFits room old.now.trees))

@@ -1,5 +1,5 @@
 //! Rooms and notes as their tables have them, and what they are with the fits of their rooms.
-ghost use Rattle.std.specs.Prelude.{◌≡◌, ◌≢◌, [], IfOk, IfErr};
+ghost use Rattle.std.specs.Prelude.{◌≡◌, ◌≢◌, None, IfOk, IfErr};
 ghost use Rattle.sqlite.specs.Order.{Row as SqlRow};
 ghost use Rattle.hotel_core.specs.Model.Rows.{last_fit};
 ghost use Rattle.hotel_rows.specs.Joined.{with_last, with_count, fit_of_number};
@@ -157,7 +157,7 @@ fn fit_of(fits: &[FitRow], number: u32) -> Option<FitRow>
 /// One that has none is not read.
 pub(crate) fn room_with(room: &BareRoom, fits: &[FitRow]) -> Result<RoomRow, LookFault>
     ensures reads { IfOk result (λ row. row ≡ with_last (last_fit fits.now) room.now) }
-    ensures unread { IfErr result (λ why. fits.now ≡ []) }
+    ensures unread { IfErr result (λ why. last_fit fits.now ≡ None) }
 {
     let Some(last) = last_of(fits) else {
         return Err(LookFault::Store);

@@ -1,4 +1,4 @@
-use Rattle.std.proofs.Common.{◌≡◌, ◌∙◌, sym, ap, Some, inl, inr, [], ◌∷◌, rules}
+use Rattle.std.proofs.Common.{◌≡◌, ◌∙◌, sym, ap, None, Some, inl, inr, [], ◌∷◌, rules}
 use Rattle.sqlite.specs.Held.{state}
 use Rattle.sqlite.specs.Effect.{Database}
 use Rattle.hotel_core.specs.Model.Rows.{at_number, fits_at, last_fit}
@@ -94,8 +94,8 @@ returns-in_err-room_with g c =
           ∙ c.in_ok-bare.ensures.found then.0 in
           let are : fits ≡ fits_at (fits_in old.now.trees) c.args.room = c.in_ok-fits.ensures.found kept
           ∙ ap (λ (d : Database). fits_at (fits_in d.trees) c.args.room) first.1 in
-          let none : fits ≡ [] = ? in
-          inr (inr (first.0, (bare, sym there, sym are ∙ none)));
+          let none : last_fit fits ≡ None = ? in
+          inr (inr (first.0, (bare, sym there, ap last_fit (sym are) ∙ none)));
       crash = then_survives old mid new c.in_ok-bare.ensures.open_on c.in_ok-bare.ensures.crash
           c.in_ok-fits.ensures.crash;
     }
