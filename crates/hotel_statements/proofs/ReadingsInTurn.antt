@@ -10,11 +10,14 @@ use Rattle.sqlite.specs.State.{State, HasCleanDisk, IsUnchanged}
 use Rattle.sqlite.proofs.Callers.{IsPlain}
 use Rattle.keycard_rules.specs.declared.issued.LookFault.{LookFault}
 use Rattle.hotel_statements.specs.declared.version.Version.{Version}
+use Rattle.hotel_statements.specs.declared.version.Version.TheVariants.{First, Second}
 use Rattle.hotel_statements.specs.Schema.{schema_of}
 use Rattle.hotel_statements.specs.Books.{IsKept}
 use Rattle.hotel_statements.specs.LookUps.{AsksOf, ShowsUnread, FailsIn, LeavesNoMore}
-use Rattle.hotel_statements.specs.WholeTables.{IsOurs, ReadsIf, ReadsTo}
+use Rattle.hotel_statements.specs.WholeTables.{IsOurs, ReadsIf, ReadsTo, LastFail, FitRowsFail}
+use Rattle.hotel_statements.specs.Texts as texts
 use Rattle.hotel_statements.proofs.Keeps.{then_keeps, then_survives}
+use Rattle.hotel_statements.proofs.Whole.{code_whole, card_whole, inside_whole, note_whole, fit_whole}
 use Rattle.hotel_statements.proofs.Since.{query_then, unchanged_then, clean_before}
 
 -- a cause since an answered reading is one since before it
@@ -38,42 +41,44 @@ table_later version text q asks IsReadable old mid new was unchanged crash ours 
         let kept : IsKept old = (clean_before old mid crash h.0.0, same.0.was_open) in
         inr (kept, subst (λ (d : Database). ShowsUnread (schema_of version) IsReadable text [] d.trees) same.0.now_is h.1)
 
-pub either_later : (version : Version) (First Then : State → State → Type 0) → IsLater version First → IsLater version Then
-    → IsLater version (λ old new. First old new ⊎ Then old new)
-either_later version First Then first then old mid new was unchanged crash ours clean (inl h) = inl (first old mid new was unchanged crash ours clean h)
-either_later version First Then first then old mid new was unchanged crash ours clean (inr h) = inr (then old mid new was unchanged crash ours clean h)
+pub either_later : (version : Version) (Before Then : State → State → Type 0) → IsLater version Before → IsLater version Then
+    → IsLater version (λ old new. Before old new ⊎ Then old new)
+either_later version Before Then first then old mid new was unchanged crash ours clean (inl h) = inl (first old mid new was unchanged crash ours clean h)
+either_later version Before Then first then old mid new was unchanged crash ours clean (inr h) = inr (then old mid new was unchanged crash ours clean h)
 
--- another cause that this one is
-pub caused_so : {R was : Type 0} (version : Version) (First Then : State → State → Type 0) (Says : R → Trees → Type 0) (old new : State)
-    (result : Result R LookFault) → (First old new → Then old new) → ReadsIf was version First Says old new result → ReadsIf was version Then Says old new result
-caused_so version First Then Says old new result gives reads = record {
-  ours = reads.ours;
-  keeps = reads.keeps;
-  says = reads.says;
-  open_on = reads.open_on;
-  unchanged = reads.unchanged;
-  cause = λ clean. IfErr-weaker result _ _ (λ fault fails other. gives (fails other)) (reads.cause clean);
-  crash = reads.crash;
-}
+-- a reading that failed, as what another one was to be: its cause is one of the other's
+pub not_read : {A R was : Type 0} (version : Version) (Before Then : State → State → Type 0) (SaysFirst : A → Trees → Type 0) (Says : R → Trees → Type 0)
+    (old new : State) (fault : LookFault) (result : Result R LookFault) → result ≡ Err fault → (Before old new → Then old new)
+    → ReadsIf was version Before SaysFirst old new (Err fault) → ReadsIf was version Then Says old new result
+not_read {was = was} version Before Then SaysFirst Says old new fault result is gives reads =
+    subst (ReadsIf was version Then Says old new) (sym is) (record {
+      ours = reads.ours;
+      keeps = reads.keeps;
+      says = λ _. tt;
+      open_on = λ _ _. tt;
+      unchanged = λ _ _. tt;
+      cause = λ clean other. gives (reads.cause clean other);
+      crash = reads.crash;
+    })
 
-module _ {A B was : Type 0} (version : Version) (First Then : State → State → Type 0) (SaysFirst : A → Trees → Type 0) (SaysThen : B → Trees → Type 0)
-    (old mid new : State) (a : A) (first : ReadsTo version First SaysFirst old mid (Ok a)) where
-  pub second_failed : {R : Type 0} (Says : R → Trees → Type 0) (fault : LookFault) → IsLater version Then
-      → ReadsIf was version Then SaysThen mid new (Err fault) → ReadsTo {R = R} version (λ s t. First s t ⊎ Then s t) Says old new (Err fault)
-  second_failed Says fault later then = record {
+module _ {A B was : Type 0} (version : Version) (Before Then : State → State → Type 0) (SaysFirst : A → Trees → Type 0) (SaysThen : B → Trees → Type 0)
+    (old mid new : State) (a : A) (first : ReadsTo version Before SaysFirst old mid (Ok a)) where
+  pub second_failed : {R : Type 0} (Says : R → Trees → Type 0) (fault : LookFault) (result : Result R LookFault) → result ≡ Err fault → IsLater version Then
+      → ReadsIf was version Then SaysThen mid new (Err fault) → ReadsTo version (λ s t. Before s t ⊎ Then s t) Says old new result
+  second_failed Says fault result is later then = subst (ReadsTo version (λ s t. Before s t ⊎ Then s t) Says old new) (sym is) (record {
     ours = then.ours;
     keeps = then_keeps old mid new first.keeps then.keeps;
     says = λ _. tt;
     open_on = λ _ _. tt;
     unchanged = λ _ _. tt;
-    cause = λ clean cause. inr (later old mid new (clean_before mid new then.crash) (first.unchanged tt) first.crash first.ours clean
-        (then.cause clean cause));
+    cause = λ clean other. inr (later old mid new (clean_before mid new then.crash) (first.unchanged tt) first.crash first.ours clean
+        (then.cause clean other));
     crash = then_survives old mid new (first.open_on tt) first.crash then.crash;
-  }
+  })
 
   pub both_read : {R : Type 0} (Says : R → Trees → Type 0) (b : B) (r : R) → (HasCleanDisk mid → IsTrue mid.is_open → was)
       → ((db : Trees) → SaysFirst a db → SaysThen b db → Says r db) → ReadsIf was version Then SaysThen mid new (Ok b)
-      → ReadsTo version (λ s t. First s t ⊎ Then s t) Says old new (Ok r)
+      → ReadsTo version (λ s t. Before s t ⊎ Then s t) Says old new (Ok r)
   both_read Says b r asked says then =
       let was_clean = clean_before mid new then.crash in
       let unchanged : HasCleanDisk new → IsUnchanged old new = λ clean.
@@ -91,3 +96,20 @@ module _ {A B was : Type 0} (version : Version) (First Then : State → State �
         cause = λ _. tt;
         crash = then_survives old mid new (first.open_on tt) first.crash then.crash;
       }
+
+-- ---- the readings that come later
+
+pub last_later : (version : Version) → IsLater version (LastFail version)
+last_later version =
+    let code = code_whole version in
+    let card = card_whole version in
+    let inside = inside_whole version in
+    let note = note_whole version in
+    either_later version _ _
+    (either_later version _ _ (table_later version texts.read_code code.query code.asks _) (table_later version texts.read_card card.query card.asks _))
+    (either_later version _ _ (table_later version texts.read_inside inside.query inside.asks _) (table_later version texts.read_note note.query note.asks _))
+
+pub fits_later : (version : Version) → IsLater version (FitRowsFail version)
+fits_later First old mid new was unchanged crash ours clean fails = absurd fails
+fits_later Second old mid new was unchanged crash ours clean fails =
+    table_later Second texts.read_fit fit_whole.query fit_whole.asks _ old mid new was unchanged crash ours clean fails

@@ -107,8 +107,10 @@ LastFail version old new =
     (TableFails version text.read_code code_shown old new ⊎ TableFails version text.read_card card_shown old new)
     ⊎ (TableFails version text.read_inside numbered_shown old new ⊎ TableFails version text.read_note note_shown old new)
 
-abbrev pub FitRowsFail : State → State → Type 0
-FitRowsFail = TableFails Second text.read_fit fit_shown
+-- the first version has none that could fail
+abbrev pub FitRowsFail : Version → State → State → Type 0
+FitRowsFail First old new = ⊥
+FitRowsFail Second old new = TableFails Second text.read_fit fit_shown old new
 
 abbrev pub TablesFail : Version → State → State → Type 0
-TablesFail version old new = (FirstFail version old new ⊎ LastFail version old new) ⊎ FitRowsFail old new
+TablesFail version old new = (FirstFail version old new ⊎ LastFail version old new) ⊎ FitRowsFail version old new

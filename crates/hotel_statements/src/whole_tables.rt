@@ -165,7 +165,7 @@ fn read_fits<S: Alter>(
     version: Version,
 ) -> Result<Option<Vec<PlainFit>>, LookFault>
     requires { IsOurs version (state S.Store conn.old) }
-    ensures { MayRead version FitRowsFail (AreFitRows version) (state S.Store conn.old) (state S.Store conn.new) result }
+    ensures { MayRead version (FitRowsFail version) (AreFitRows version) (state S.Store conn.old) (state S.Store conn.new) result }
 {
     match version {
         Version::First => Ok(None),

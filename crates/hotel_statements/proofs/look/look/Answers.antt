@@ -1,7 +1,8 @@
 use Rattle.std.proofs.Common.{◌∙◌, ap, Err, rules}
 use Rattle.sqlite.specs.Held.{state}
 use Rattle.sqlite.specs.Values.{bound}
-use Rattle.hotel_statements.proofs.Looked.{looked, look_found, look_lost, look_unchanged, none_unchanged, look_failed, look_unread, is_store}
+use Rattle.hotel_statements.proofs.Looked.{looked, look_found, look_lost, look_unchanged, none_unchanged, look_failed, look_unread}
+use Rattle.hotel_statements.proofs.Unread.{cause_passed}
 use Rattle.hotel_statements.proofs.look.look.Goals as goal
 
 pub returns-in_err-from_row-in-Ok : goal.returns-in_err-from_row-in-Ok
@@ -13,7 +14,10 @@ returns-in_err-from_row-in-Ok g c =
       keeps = kept.1;
       found = search rules;
       unchanged = search rules;
-      cause = λ clean. ?;
+      cause = λ clean. cause_passed c.from_residual.result _ c.from_residual.ensures (λ other.
+          look_unread c.args.text.now (bound c.args.params.now) (state g.S.Store c.args.conn.now) (state g.S.Store c.query_row.new.self) c.query_row.result c.requires.books c.requires.asks c.query_row.ensures.row
+          c.query_row.ensures.mode c.query_row.ensures.survives
+          g.R.FromRow.is_readable c.in-Ok.row c.in-Ok.is (c.in_err-from_row-in-Ok.ensures.unread other) clean);
       crash = kept.2;
     }
 
@@ -61,6 +65,6 @@ returns-in-Err g c =
       found = λ _ _ _. tt;
       unchanged = λ _. tt;
       cause = λ clean cause. look_failed c.args.text.now (bound c.args.params.now) (state g.S.Store c.args.conn.now) (state g.S.Store c.query_row.new.self) c.query_row.result c.requires.books c.requires.asks c.query_row.ensures.row
-          c.query_row.ensures.mode c.query_row.ensures.survives g.R.FromRow.is_readable c.in-Err.error ? ? ? clean;
+          c.query_row.ensures.mode c.query_row.ensures.survives g.R.FromRow.is_readable c.in-Err.error c.in-Err.is (search rules) (λ e. cause (c.fault_of.ensures ∙ e)) clean;
       crash = kept.2;
     }

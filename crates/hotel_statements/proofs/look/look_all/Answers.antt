@@ -1,5 +1,5 @@
-use Rattle.std.proofs.Common.{◌∙◌, ap, map}
-use Rattle.std.proofs.lemmas.Result.{IfOk-weaker}
+use Rattle.std.proofs.Common.{◌∙◌, ap, subst, map, All}
+use Rattle.std.proofs.lemmas.Result.{IfOk-weaker, IfErr-weaker}
 use Rattle.sqlite.specs.Held.{state}
 use Rattle.sqlite.specs.Values.{bound}
 use Rattle.hotel_statements.proofs.Looked.{on_ok_always, all_crash, all_books, all_keeps, all_found, all_unchanged, all_unread, fault_books, fault_keeps, fault_cause}
@@ -41,7 +41,10 @@ returns-in-Ok-clause-unchanged g c = λ clean. on_ok_always c.read_all.result (a
     clean)
 
 pub returns-in-Ok-clause-cause : goal.returns-in-Ok-clause-cause
-returns-in-Ok-clause-cause g c = λ clean. ?
+returns-in-Ok-clause-cause g c = λ clean.
+    IfErr-weaker c.read_all.result _ _ (λ fault unread other. all_unread c.args.text.now (bound c.args.params.now) (state g.S.Store c.args.conn.now)
+    (state g.S.Store c.query_all.new.self) c.requires.books c.requires.asks c.query_all.ensures.mode c.query_all.ensures.survives c.in-Ok.rows.items c.in-Ok.ensures.ok
+    g.R.FromRow.is_readable (subst (λ rows. ¬ All g.R.FromRow.is_readable rows) c.deref.ensures.value (unread other)) clean) c.read_all.ensures.unread
 
 pub returns-in-Err-clause-cause : goal.returns-in-Err-clause-cause
 returns-in-Err-clause-cause g c = λ clean cause. fault_cause c.args.text.now (bound c.args.params.now) (state g.S.Store c.args.conn.now)

@@ -1,13 +1,15 @@
-use Rattle.std.proofs.Common.{◌∙◌, [], ◌∷◌}
+use Rattle.std.proofs.Common.{◌∙◌, [], ◌∷◌, rules}
 use Rattle.sqlite.specs.Order.{column}
 use Rattle.sqlite.specs.Query.{Query}
 use Rattle.sqlite.specs.Held.{state}
 use Rattle.hotel_statements.specs.Values.{int, number_of}
 use Rattle.hotel_statements.specs.Books.{IsKept}
-use Rattle.hotel_statements.specs.LookUps.{Asks, AnswersFirst}
+use Rattle.hotel_statements.specs.LookUps.{Asks, AnswersFirst, HasCause}
+use Rattle.hotel_statements.specs.Failures.{IsInsideFails}
 use Rattle.hotel_statements.specs.Texts as text
 use Rattle.hotel_statements.proofs.Statements.Selects as selects
 use Rattle.hotel_statements.proofs.Finds.{inside_finds}
+use Rattle.hotel_statements.proofs.Unread.{cause_of}
 use Rattle.hotel_statements.proofs.look_ups.is_inside.Goals as goal
 
 pub look-requires-clause-asks : goal.look-requires-clause-asks
@@ -42,6 +44,6 @@ returns-in_err-card g c =
       found = search rules;
       open_on = search rules;
       unchanged = search rules;
-      cause = ?;
+      cause = cause_of old new c.look.result c.from_residual.result _ c.in_err-card.was c.from_residual.ensures cause;
       crash = c.look.ensures.crash;
     }

@@ -9,6 +9,7 @@ use Rattle.hotel_statements.specs.Readable.{IsNumber, BeginsWith}
 use Rattle.hotel_statements.specs.Texts as text
 use Rattle.hotel_statements.proofs.Statements.Selects as selects
 use Rattle.hotel_statements.proofs.Since.{then_unchanged, fails_later, clean_before}
+use Rattle.hotel_statements.proofs.Unread.{cause_passed}
 use Rattle.hotel_statements.proofs.look_ups.next_numbers.Goals as goal
 
 pub returns-in_err-card : goal.returns-in_err-card
@@ -22,8 +23,9 @@ returns-in_err-card g c =
       found = search rules;
       open_on = search rules;
       unchanged = search rules;
-      cause = λ clean cause. inr (fails_later old mid new (clean_before mid new c.last_card.ensures.crash) (c.in_ok-party.ensures.unchanged tt) c.in_ok-party.ensures.crash
-          text.select_last_card [] _ selects.select_last_card c.in_ok-party.ensures.books clean (BeginsWith (IsNumber 9999999)) ?);
+      cause = λ clean. cause_passed c.from_residual-in_err-card.result _ c.from_residual-in_err-card.ensures (λ other.
+          inr (fails_later old mid new (clean_before mid new c.last_card.ensures.crash) (c.in_ok-party.ensures.unchanged tt) c.in_ok-party.ensures.crash
+          text.select_last_card [] _ selects.select_last_card c.in_ok-party.ensures.books clean (BeginsWith (IsNumber 9999999)) (c.in_err-card.ensures.cause clean other)));
       crash = then_survives old mid new (c.in_ok-party.ensures.open_on tt) c.in_ok-party.ensures.crash c.last_card.ensures.crash;
     }
 

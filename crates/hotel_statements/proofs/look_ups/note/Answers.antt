@@ -1,4 +1,4 @@
-use Rattle.std.proofs.Common.{◌≡◌, ◌+◌, ◌==◌, ◌∙◌, sym, ap, ap₂, arith, rules, inl, inr, [], ◌∷◌, ◌<◌, ◌^◌, ℕ, true, false, None, Some}
+use Rattle.std.proofs.Common.{◌≡◌, ◌+◌, ◌==◌, ◌∙◌, sym, ap, ap₂, subst, arith, rules, inl, inr, [], ◌∷◌, ◌<◌, ◌^◌, ℕ, true, false, None, Some}
 use Rattle.std.specs.Prelude.{option_map, if◌then◌else◌}
 use Rattle.std.specs.Map.{lookup}
 use Rattle.std.specs.BTreeMap.{is_at}
@@ -18,6 +18,7 @@ use Rattle.hotel_statements.specs.Readable.{IsNote, IsUnderFits}
 use Rattle.hotel_statements.specs.Texts as text
 use Rattle.hotel_statements.proofs.Statements.Selects as selects
 use Rattle.hotel_statements.proofs.Since.{then_unchanged, fails_later, clean_before}
+use Rattle.hotel_statements.proofs.Unread.{cause_passed}
 use Rattle.hotel_statements.proofs.look_ups.note.Goals as goal
 
 pub returns-in_default : goal.returns-in_default
@@ -157,16 +158,17 @@ returns-in_err-bare g c =
     let mid = state g.S.Store c.fits_of_room.new.conn in
     let new = state g.S.Store c.bare_note.new.conn in
     let number = c.from.result + c.from-2.result in
-    let low : number < 2 ^ 63 = ? in
+    let low : number < 2 ^ 63 = omega (arith, c.from.ensures, c.from-2.ensures, c.ranges.count) in
     record {
       books = c.bare_note.ensures.books;
       keeps = then_keeps old mid new c.in_ok-fits.ensures.keeps c.bare_note.ensures.keeps;
       found = search rules;
       open_on = search rules;
       unchanged = search rules;
-      cause = λ clean cause. inr (number, low, inl (fails_later old mid new (clean_before mid new c.bare_note.ensures.crash)
+      cause = λ clean. cause_passed c.from_residual-in_err-bare.result _ c.from_residual-in_err-bare.ensures (λ other.
+          inr (number, low, inl (fails_later old mid new (clean_before mid new c.bare_note.ensures.crash)
           (c.in_ok-fits.ensures.unchanged tt) c.in_ok-fits.ensures.crash text.select_note (int c.args.room ∷ int number ∷ []) _
-          selects.select_note c.in_ok-fits.ensures.books clean IsNote ?));
+          selects.select_note c.in_ok-fits.ensures.books clean IsNote (c.in_err-bare.ensures.cause clean other))));
       crash = then_survives old mid new (c.in_ok-fits.ensures.open_on tt) c.in_ok-fits.ensures.crash
           c.bare_note.ensures.crash;
     }
@@ -179,23 +181,23 @@ returns-in_err-note g c =
     let room = c.args.room in
     let fits = c.in_ok-fits.fits.items in
     let number = c.from.result + c.from-2.result in
-    let low : number < 2 ^ 63 = ? in
+    let low : number < 2 ^ 63 = omega (arith, c.from.ensures, c.from-2.ensures, c.ranges.count) in
     let bare = c.in-Some-2.bare in
-    let unread : ¬ IsUnderFits fits bare = ? in
+    let unread : ¬ IsUnderFits fits bare = subst (λ fs. ¬ IsUnderFits fs bare) c.deref-2.ensures.value c.in_err-note.ensures.unread in
     record {
       books = c.in_ok-bare.ensures.books;
       keeps = then_keeps old mid new c.in_ok-fits.ensures.keeps c.in_ok-bare.ensures.keeps;
       found = search rules;
       open_on = search rules;
       unchanged = search rules;
-      cause = λ clean cause.
+      cause = λ clean. cause_passed c.from_residual-in_err-note.result _ c.from_residual-in_err-note.ensures (λ other.
           let kept : IsKept new = (clean, c.in_ok-bare.ensures.open_on clean) in
           let after = c.in_ok-bare.ensures.keeps kept in
           let first = c.in_ok-fits.ensures.keeps after.0 in
           let are : fits ≡ fits_at (fits_in old.now.trees) room = c.in_ok-fits.ensures.found after.0 in
           let same = c.in_ok-bare.ensures.found kept
           ∙ ap (λ (d : Database). lookup (is_at (pair_cmp (room, number))) (bare_notes_in d.trees)) first.1 in
-          inr (number, low, inr (first.0, (bare, sym same ∙ c.in-Some-2.is, rw are at unread)));
+          inr (number, low, inr (first.0, (bare, sym same ∙ c.in-Some-2.is, subst (λ fs. ¬ IsUnderFits fs bare) are unread))));
       crash = then_survives old mid new (c.in_ok-fits.ensures.open_on tt) c.in_ok-fits.ensures.crash
           c.in_ok-bare.ensures.crash;
     }

@@ -12,6 +12,7 @@ use Rattle.hotel_statements.specs.Readable.{IsFit}
 use Rattle.hotel_statements.specs.Texts as text
 use Rattle.hotel_statements.proofs.Statements.Selects as selects
 use Rattle.hotel_statements.proofs.Since.{then_unchanged, fails_later, clean_before}
+use Rattle.hotel_statements.proofs.Unread.{cause_passed}
 use Rattle.hotel_statements.proofs.look_ups.room.Goals as goal
 
 pub returns-in_default : goal.returns-in_default
@@ -66,9 +67,10 @@ returns-in_err-fits g c =
       found = search rules;
       open_on = search rules;
       unchanged = search rules;
-      cause = λ clean cause. inr (inl (fails_later old mid new (clean_before mid new c.fits_of_room.ensures.crash)
+      cause = λ clean. cause_passed c.from_residual-in_err-fits.result _ c.from_residual-in_err-fits.ensures (λ other.
+          inr (inl (fails_later old mid new (clean_before mid new c.fits_of_room.ensures.crash)
           c.in_ok-bare.ensures.unchanged c.in_ok-bare.ensures.crash text.select_fits (int c.args.room ∷ []) _ selects.select_fits
-          c.in_ok-bare.ensures.books clean IsFit ?));
+          c.in_ok-bare.ensures.books clean IsFit (c.in_err-fits.ensures.cause clean other))));
       crash = then_survives old mid new c.in_ok-bare.ensures.open_on c.in_ok-bare.ensures.crash
           c.fits_of_room.ensures.crash;
     }
@@ -86,7 +88,7 @@ returns-in_err-room_with g c =
       found = search rules;
       open_on = search rules;
       unchanged = search rules;
-      cause = λ clean cause.
+      cause = λ clean. cause_passed c.from_residual-in_err-room_with.result _ c.from_residual-in_err-room_with.ensures (λ other.
           let kept : IsKept new = (clean, c.in_ok-fits.ensures.open_on tt clean) in
           let then = c.in_ok-fits.ensures.keeps kept in
           let first = c.in_ok-bare.ensures.keeps then.0 in
@@ -94,8 +96,8 @@ returns-in_err-room_with g c =
           ∙ c.in_ok-bare.ensures.found then.0 in
           let are : fits ≡ fits_at (fits_in old.now.trees) c.args.room = c.in_ok-fits.ensures.found kept
           ∙ ap (λ (d : Database). fits_at (fits_in d.trees) c.args.room) first.1 in
-          let none : last_fit fits ≡ None = ? in
-          inr (inr (first.0, (bare, sym there, ap last_fit (sym are) ∙ none)));
+          let none : last_fit fits ≡ None = ap last_fit (sym c.deref.ensures.value) ∙ c.in_err-room_with.ensures.unread in
+          inr (inr (first.0, (bare, sym there, ap last_fit (sym are) ∙ none))));
       crash = then_survives old mid new c.in_ok-bare.ensures.open_on c.in_ok-bare.ensures.crash
           c.in_ok-fits.ensures.crash;
     }

@@ -1,5 +1,5 @@
-use Rattle.std.proofs.Common.{◌∙◌, sym, ap, subst, map}
-use Rattle.std.proofs.lemmas.Result.{IfOk-weaker}
+use Rattle.std.proofs.Common.{◌∙◌, sym, ap, subst, map, All}
+use Rattle.std.proofs.lemmas.Result.{IfOk-weaker, IfErr-weaker}
 use Rattle.std.specs.List.Sorted.{IsPermutation}
 use Rattle.sqlite.specs.Held.{state}
 use Rattle.hotel_statements.specs.Schema.{schema_of}
@@ -24,7 +24,8 @@ returns-in-Ok g c =
     (sym (are ∙ ap (map g.L.PlainRow.cut) c.deref.ensures.value))
     (whole.answers old.now.trees c.in-Ok.rows.items answer))
     c.plain_rows_of.ensures.reads)
-    ?
+    (IfErr-weaker c.plain_rows_of.result _ _ (λ fault unread other. subst (λ rows. ¬ All (BeginsAs g.L.PlainRow.shown) rows)
+    c.deref.ensures.value (unread other)) c.plain_rows_of.ensures.unread)
 
 pub returns-in-Err : goal.returns-in-Err
 returns-in-Err g c =
