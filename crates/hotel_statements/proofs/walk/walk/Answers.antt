@@ -1,4 +1,4 @@
-use Rattle.std.proofs.Common.{◌≡◌, ◌∙◌, ap, refl, Err, Some, rules}
+use Rattle.std.proofs.Common.{◌≡◌, ◌∙◌, ap, refl, Err, Some, arith, rules}
 use Rattle.sqlite.specs.Held.{state}
 use Rattle.sqlite.specs.Values.{bound}
 use Rattle.hotel_core.specs.declared.books.walks.WalkFault.TheVariants as why
@@ -62,5 +62,5 @@ pub returns : goal.returns
 returns g c rows says =
     let done =
     cut g.S.Store (g.F.RowReader.says c.args.reader.now) (g.F.RowReader.is_readable c.args.reader.now) g.K.Sink.after g.K.Sink.after_stop c.args.text.now (bound c.args.params.now) c.args.conn.now c.args.sink.now
-    c.rows.rows.conn.now c.rows.sink c.rows._i (search rules) c.rows.invariant.1 rows says in
+    c.rows.rows.conn.now c.rows.sink c.rows._i (omega arith) c.rows.invariant.1 rows says in
     search rules
