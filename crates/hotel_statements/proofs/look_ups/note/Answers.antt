@@ -158,7 +158,7 @@ returns-in_err-bare g c =
     let mid = state g.S.Store c.fits_of_room.new.conn in
     let new = state g.S.Store c.bare_note.new.conn in
     let number = c.from.result + c.from-2.result in
-    let low : number < 2 ^ 63 = omega (arith, c.from.ensures, c.from-2.ensures, c.ranges.count) in
+    let low : c.from.result + c.from-2.result < 2 ^ 63 = omega arith in
     record {
       books = c.bare_note.ensures.books;
       keeps = then_keeps old mid new c.in_ok-fits.ensures.keeps c.bare_note.ensures.keeps;
@@ -181,7 +181,7 @@ returns-in_err-note g c =
     let room = c.args.room in
     let fits = c.in_ok-fits.fits.items in
     let number = c.from.result + c.from-2.result in
-    let low : number < 2 ^ 63 = omega (arith, c.from.ensures, c.from-2.ensures, c.ranges.count) in
+    let low : c.from.result + c.from-2.result < 2 ^ 63 = omega arith in
     let bare = c.in-Some-2.bare in
     let unread : ¬ IsUnderFits fits bare = subst (λ fs. ¬ IsUnderFits fs bare) c.deref-2.ensures.value c.in_err-note.ensures.unread in
     record {

@@ -29,7 +29,7 @@ returns-in_err-second g c =
     let one = room_whole version in
     let two = stay_whole version in
     second_failed version _ _ _ _ (state g.S.Store c.args.conn.now) (state g.S.Store c.read_two.new.conn)
-    (state g.S.Store c.read_two-second.new.conn) c.in_ok-first.first c.in_ok-first.ensures _ _ c.from_residual-in_err-second.result
+    (state g.S.Store c.read_two-2.new.conn) c.in_ok-first.first c.in_ok-first.ensures _ _ c.from_residual-in_err-second.result
     (err_is c.from_residual-in_err-second.result _ c.from_residual-in_err-second.ensures)
     (either_later version _ _ (table_later version text.read_room one.query one.asks _) (table_later version text.read_stay two.query two.asks _))
     c.in_err-second.ensures
@@ -37,5 +37,5 @@ returns-in_err-second g c =
 pub returns : goal.returns
 returns g c =
     both_read c.args.version _ _ _ _ (state g.S.Store c.args.conn.now) (state g.S.Store c.read_two.new.conn)
-    (state g.S.Store c.read_two-second.new.conn) c.in_ok-first.first c.in_ok-first.ensures _ c.in_ok-second.second
+    (state g.S.Store c.read_two-2.new.conn) c.in_ok-first.first c.in_ok-first.ensures _ c.in_ok-second.second
     (c.in_ok-first.first, c.in_ok-second.second) (λ _ _. tt) (λ db one two. (one, two)) c.in_ok-second.ensures

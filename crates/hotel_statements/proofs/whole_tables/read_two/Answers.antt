@@ -14,12 +14,12 @@ pub returns-in_err-second : goal.returns-in_err-second
 returns-in_err-second g c =
     let whole = c.requires.second in
     second_failed c.args.version _ _ _ _ (state g.S.Store c.args.conn.now) (state g.S.Store c.read_table.new.conn)
-    (state g.S.Store c.read_table-second.new.conn) c.in_ok-first.first c.in_ok-first.ensures _ _ c.from_residual-in_err-second.result
+    (state g.S.Store c.read_table-2.new.conn) c.in_ok-first.first c.in_ok-first.ensures _ _ c.from_residual-in_err-second.result
     (err_is c.from_residual-in_err-second.result _ c.from_residual-in_err-second.ensures)
     (table_later c.args.version g.B.PlainRow.text whole.query whole.asks (BeginsAs g.B.PlainRow.shown)) c.in_err-second.ensures
 
 pub returns : goal.returns
 returns g c =
     both_read c.args.version _ _ _ _ (state g.S.Store c.args.conn.now) (state g.S.Store c.read_table.new.conn)
-    (state g.S.Store c.read_table-second.new.conn) c.in_ok-first.first c.in_ok-first.ensures _ c.in_ok-second.second
+    (state g.S.Store c.read_table-2.new.conn) c.in_ok-first.first c.in_ok-first.ensures _ c.in_ok-second.second
     (c.in_ok-first.first, c.in_ok-second.second) (λ _ _. tt) (λ db one two. (one, two)) c.in_ok-second.ensures
