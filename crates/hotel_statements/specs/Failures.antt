@@ -79,10 +79,12 @@ NumbersFail old new = LastPartyFails old new ⊎ LastCardFails old new
 
 -- a room that has no fit
 abbrev pub LacksFits : ℕ → Trees → Type 0
-LacksFits room db = (row : RoomRow) × (at_number (bare_rooms_in db) room ≡ Some row) × (last_fit (fits_at (fits_in db) room) ≡ None)
+LacksFits room db =
+    (row : RoomRow) × (at_number (bare_rooms_in db) room ≡ Some row) × (last_fit (fits_at (fits_in db) room) ≡ None)
 
 abbrev pub RoomFails : ℕ → State → State → Type 0
-RoomFails room old new = BareRoomFails room old new ⊎ (FitsFail room old new ⊎ (IsKept old × LacksFits room old.now.trees))
+RoomFails room old new =
+    BareRoomFails room old new ⊎ (FitsFail room old new ⊎ (IsKept old × LacksFits room old.now.trees))
 
 -- a note of a room that is under no fit of it, or at no time
 abbrev pub LacksFit : ℕ → ℕ → Trees → Type 0
@@ -93,7 +95,8 @@ LacksFit room number db =
 -- of the note of this number among all of the room, which is below 2^63
 abbrev pub NoteFails : ℕ → State → State → Type 0
 NoteFails room old new =
-    FitsFail room old new ⊎ ((number : ℕ) × (number < 2 ^ 63) × (BareNoteFails room number old new ⊎ (IsKept old × LacksFit room number old.now.trees)))
+    FitsFail room old new
+    ⊎ ((number : ℕ) × (number < 2 ^ 63) × (BareNoteFails room number old new ⊎ (IsKept old × LacksFit room number old.now.trees)))
 
 -- ---- walks
 
@@ -115,4 +118,5 @@ IsNoteUnder fits row = IsNote row × IsUnderFits fits (note_row_of row)
 
 abbrev pub AuditFails : ℕ → State → State → Type 0
 AuditFails room old new =
-    FitsFail room old new ⊎ WalkFails (IsNoteUnder (fits_at (fits_in old.now.trees) room)) text.walk_audit (int room ∷ []) old new
+    FitsFail room old new
+    ⊎ WalkFails (IsNoteUnder (fits_at (fits_in old.now.trees) room)) text.walk_audit (int room ∷ []) old new

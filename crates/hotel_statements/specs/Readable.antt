@@ -65,22 +65,24 @@ IsAct act card = (((act ≡ int 0) ⊎ (act ≡ int 1)) × IsNumber 9999999 card
 -- ---- rows of columns
 
 abbrev pub IsStay : Row → Type 0
-IsStay r = (7 ≤ length r) × IsNumber 9999999 (column r 0) × IsGuest (column r 1) × IsKind (column r 2) × IsDay (column r 3)
-    × IsDay (column r 4) × IsState (column r 5) (column r 6)
+IsStay r = (7 ≤ length r) × IsNumber 9999999 (column r 0) × IsGuest (column r 1) × IsKind (column r 2)
+    × IsDay (column r 3) × IsDay (column r 4) × IsState (column r 5) (column r 6)
 
 abbrev pub IsCodeRow : Row → Type 0
 IsCodeRow r = (3 ≤ length r) × IsNumber 9999 (column r 1) × IsCount (column r 2)
 
 abbrev pub IsCard : Row → Type 0
-IsCard r = (4 ≤ length r) × IsNumber 9999999 (column r 0) × IsNumber 9999999 (column r 1) × IsCode (column r 2) × IsCode (column r 3)
+IsCard r = (4 ≤ length r) × IsNumber 9999999 (column r 0) × IsNumber 9999999 (column r 1)
+    × IsCode (column r 2) × IsCode (column r 3)
 
 abbrev pub IsFit : Row → Type 0
-IsFit r = (4 ≤ length r) × IsNumber 9999 (column r 0) × IsNumber 99 (column r 1) × IsCount (column r 2) × IsCount (column r 3)
+IsFit r = (4 ≤ length r) × IsNumber 9999 (column r 0) × IsNumber 99 (column r 1)
+    × IsCount (column r 2) × IsCount (column r 3)
 
 -- a room and a note as their tables have them
 abbrev pub IsRoom : Row → Type 0
-IsRoom r = (7 ≤ length r) × IsNumber 9999 (column r 0) × IsKind (column r 1) × IsCount (column r 2) × IsCount (column r 3)
-    × IsBit (column r 4) × OrNull (IsNumber 9999999) (column r 5) × IsCount (column r 6)
+IsRoom r = (7 ≤ length r) × IsNumber 9999 (column r 0) × IsKind (column r 1) × IsCount (column r 2)
+    × IsCount (column r 3) × IsBit (column r 4) × OrNull (IsNumber 9999999) (column r 5) × IsCount (column r 6)
 
 abbrev pub IsNote : Row → Type 0
 IsNote r = (8 ≤ length r) × IsNumber 9999 (column r 0) × IsCount (column r 1) × IsAct (column r 2) (column r 3)
@@ -100,10 +102,11 @@ abbrev pub IsOfChain : Row → Type 0
 IsOfChain r = (2 ≤ length r) × IsCount (column r 0) × IsCode (column r 1)
 
 abbrev pub IsBehind : Row → Type 0
-IsBehind r = (5 ≤ length r) × IsNumber 9999 (column r 0) × IsCode (column r 1) × IsCode (column r 2) × IsCount (column r 3)
-    × IsCount (column r 4)
+IsBehind r = (5 ≤ length r) × IsNumber 9999 (column r 0) × IsCode (column r 1) × IsCode (column r 2)
+    × IsCount (column r 3) × IsCount (column r 4)
 
 -- a note of this number and time is one of a room with these fits
 abbrev pub IsUnderFits : List FitRow → Note → Type 0
 IsUnderFits fits note =
-    (f : FitRow) × (fit_of_number fits note.count ≡ Some f) × IsNumberUpTo 9999999 (note.count - f.before) × IsTimed note.day note.second
+    (f : FitRow) × (fit_of_number fits note.count ≡ Some f)
+    × IsNumberUpTo 9999999 (note.count - f.before) × IsTimed note.day note.second

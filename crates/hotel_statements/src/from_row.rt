@@ -3,7 +3,8 @@ ghost use Rattle.std.specs.Prelude.{◌≡◌, ◌≢◌, ◌<◌, ◌≤◌, �
 ghost use Rattle.sqlite.specs.Order.{Row as SqlRow, column};
 ghost use Rattle.hotel_statements.specs.LookUps.{fault_of};
 ghost use Rattle.hotel_statements.specs.Values.{number_of, option_of, text_of};
-ghost use Rattle.hotel_statements.specs.Readable.{IsNatural, IsCount, IsText, IsNumber, IsCode, IsDay, IsBit, IsKind, IsGuest, OrNull};
+ghost use Rattle.hotel_statements.specs.Readable.{IsNatural, IsCount, IsText, IsNumber, IsCode, IsDay};
+ghost use Rattle.hotel_statements.specs.Readable.{IsBit, IsKind, IsGuest, OrNull};
 ghost use Rattle.hotel_statements.specs.Readable.{FailsToRead, IsState, IsAct};
 ghost use Rattle.hotel_statements.specs.Readable.{IsStay, IsCodeRow, IsCard, IsFit, BeginsWith};
 ghost use Rattle.hotel_statements.specs.Columns.{stay_row_of, code_row_of, card_row_of, fit_row_of, state_of, act_of};
@@ -129,7 +130,8 @@ fn code(row: &Row, at: usize) -> Result<Code, LookFault>
 fn link(row: &Row, at: usize) -> Result<Link, LookFault>
     requires { at < 100 }
     ensures reads { IfOk result (λ l. l ≡ record { old_code = number_of (column row.now at); new_code = number_of (column row.now (at + 1)) }) }
-    ensures unread { IfErr result (λ why. why ≢ LookFault.Memory → at + 1 < length row.now → ¬ (IsCode (column row.now at) × IsCode (column row.now (at + 1)))) }
+    ensures unread { IfErr result (λ why. why ≢ LookFault.Memory → at + 1 < length row.now
+        → ¬ (IsCode (column row.now at) × IsCode (column row.now (at + 1)))) }
 {
     Ok(Link {
         old_code: code(row, at)?,
@@ -198,7 +200,8 @@ fn bit(row: &Row, at: usize) -> Result<bool, LookFault>
 /// How a stay stands, from its number and its room, which is set exactly where it is in house.
 fn stay_state(row: &Row) -> Result<StayState, LookFault>
     ensures reads { IfOk result (λ state. state ≡ state_of (number_of (column row.now 5)) (option_of (column row.now 6))) }
-    ensures unread { IfErr result (λ why. why ≢ LookFault.Memory → 7 ≤ length row.now → ¬ IsState (column row.now 5) (column row.now 6)) }
+    ensures unread { IfErr result (λ why. why ≢ LookFault.Memory → 7 ≤ length row.now
+        → ¬ IsState (column row.now 5) (column row.now 6)) }
 {
     let number = small_integer(row, 5)?;
     let room = maybe_counted(row, 6)?;
@@ -214,7 +217,8 @@ fn stay_state(row: &Row) -> Result<StayState, LookFault>
 /// What happened, from the number of the act, the card and the codes.
 fn act(row: &Row) -> Result<Act, LookFault>
     ensures reads { IfOk result (λ act. act ≡ act_of (number_of (column row.now 2)) (option_of (column row.now 3)) (number_of (column row.now 4)) (number_of (column row.now 5))) }
-    ensures unread { IfErr result (λ why. why ≢ LookFault.Memory → 6 ≤ length row.now → ¬ (IsAct (column row.now 2) (column row.now 3) × IsCode (column row.now 4) × IsCode (column row.now 5))) }
+    ensures unread { IfErr result (λ why. why ≢ LookFault.Memory → 6 ≤ length row.now
+        → ¬ (IsAct (column row.now 2) (column row.now 3) × IsCode (column row.now 4) × IsCode (column row.now 5))) }
 {
     let number = small_integer(row, 2)?;
     let card = maybe_counted(row, 3)?;

@@ -25,8 +25,10 @@ pub(crate) fn look<S: Alter, R: FromRow>(
     ensures books { IsBooks (state S.Store conn.new) }
     ensures keeps { KeepsRows (state S.Store conn.old) (state S.Store conn.new) }
     ensures found { IsKept (state S.Store conn.new) → FindsFirst R.FromRow.of text.now (bound params.now) (state S.Store conn.old) result }
-    ensures unchanged { HasCleanDisk (state S.Store conn.new) → OnOk result (IsUnchanged (state S.Store conn.old) (state S.Store conn.new)) }
-    ensures cause { HasCause (FailsAt R.FromRow.is_readable text.now (bound params.now)) (state S.Store conn.old) (state S.Store conn.new) result }
+    ensures unchanged { HasCleanDisk (state S.Store conn.new) → OnOk result
+        (IsUnchanged (state S.Store conn.old) (state S.Store conn.new)) }
+    ensures cause { HasCause (FailsAt R.FromRow.is_readable text.now (bound params.now))
+        (state S.Store conn.old) (state S.Store conn.new) result }
     ensures crash { LeavesNoMore (state S.Store conn.old) (state S.Store conn.new) }
 {
     match conn.query_row(text, params) {
@@ -63,8 +65,10 @@ pub(crate) fn look_all<S: Alter, R: FromRow + Drop>(
     ensures books { IsBooks (state S.Store conn.new) }
     ensures keeps { KeepsRows (state S.Store conn.old) (state S.Store conn.new) }
     ensures found { IsKept (state S.Store conn.new) → FindsAll (λ all. all.items) R.FromRow.of text.now (bound params.now) (state S.Store conn.old) result }
-    ensures unchanged { HasCleanDisk (state S.Store conn.new) → OnOk result (IsUnchanged (state S.Store conn.old) (state S.Store conn.new)) }
-    ensures cause { HasCause (FailsAt R.FromRow.is_readable text.now (bound params.now)) (state S.Store conn.old) (state S.Store conn.new) result }
+    ensures unchanged { HasCleanDisk (state S.Store conn.new) → OnOk result
+        (IsUnchanged (state S.Store conn.old) (state S.Store conn.new)) }
+    ensures cause { HasCause (FailsAt R.FromRow.is_readable text.now (bound params.now))
+        (state S.Store conn.old) (state S.Store conn.new) result }
     ensures crash { LeavesNoMore (state S.Store conn.old) (state S.Store conn.new) }
 {
     match conn.query_all(text, params) {

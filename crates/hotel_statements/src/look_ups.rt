@@ -9,10 +9,13 @@ ghost use Rattle.sqlite.specs.Held.{state};
 ghost use Rattle.hotel_core.specs.Model.Rows.{has_kind, at_number, fit_at, fits_at};
 ghost use Rattle.hotel_core.specs.Model.Words.{is_one_of, pair_cmp};
 ghost use Rattle.hotel_core.specs.Model.Guests.{are_none};
-ghost use Rattle.hotel_core.specs.Books.Lookups.{room_at, codes_in, code_place, code_at, stay_at, stays_of_kind, card_at, inside_at, note_at, number_after};
+ghost use Rattle.hotel_core.specs.Books.Lookups.{room_at, codes_in, code_place, code_at, stay_at, stays_of_kind};
+ghost use Rattle.hotel_core.specs.Books.Lookups.{card_at, inside_at, note_at, number_after};
 ghost use Rattle.hotel_statements.specs.Books.{IsBooks, IsKept};
-ghost use Rattle.hotel_statements.specs.Failures.{BareNoteFails, BareRoomFails, CardFails, CodeAtFails, CodeFails, DayFails, FitFails, FitsFail, HasInsideFails};
-ghost use Rattle.hotel_statements.specs.Failures.{InsideFails, IsInsideFails, KindFails, LastCardFails, LastPartyFails, NoteFails, NumbersFail, RoomFails, StayFails, StaysFail};
+ghost use Rattle.hotel_statements.specs.Failures.{BareNoteFails, BareRoomFails, CardFails, CodeAtFails, CodeFails};
+ghost use Rattle.hotel_statements.specs.Failures.{DayFails, FitFails, FitsFail, HasInsideFails};
+ghost use Rattle.hotel_statements.specs.Failures.{InsideFails, IsInsideFails, KindFails, LastCardFails, LastPartyFails};
+ghost use Rattle.hotel_statements.specs.Failures.{NoteFails, NumbersFail, RoomFails, StayFails, StaysFail};
 ghost use Rattle.hotel_statements.specs.LookUps.{Looks, Finds, counts_of_row, numbered_fit, next_numbers_of};
 
 use crate::from_row::bare_rows::{BareNote, BareRoom, note_with, room_with};
@@ -56,7 +59,8 @@ pub fn kind<S: Alter>(
     kind: &KindCode,
 ) -> Result<bool, LookFault>
     requires { IsBooks (state S.Store conn.old) }
-    ensures { Looks (KindFails kind.now) (λ a. a) (λ rows. has_kind rows kind.now) (state S.Store conn.old) (state S.Store conn.new) result }
+    ensures { Looks (KindFails kind.now) (λ a. a) (λ rows. has_kind rows kind.now)
+        (state S.Store conn.old) (state S.Store conn.new) result }
 {
     let kind: Option<KindCode> = look(alloc, conn, SELECT_KIND, &[text(kind.as_bytes())])?;
     Ok(kind.is_some())
@@ -101,7 +105,8 @@ pub(crate) fn bare_room<S: Alter>(
     room: RoomNo,
 ) -> Result<Option<BareRoom>, LookFault>
     requires { IsBooks (state S.Store conn.old) }
-    ensures { Finds (BareRoomFails room) (λ db. at_number (bare_rooms_in db) room) (state S.Store conn.old) (state S.Store conn.new) result }
+    ensures { Finds (BareRoomFails room) (λ db. at_number (bare_rooms_in db) room)
+        (state S.Store conn.old) (state S.Store conn.new) result }
 {
     look(alloc, conn, SELECT_ROOM, &[small(room.value())])
 }
@@ -113,7 +118,8 @@ pub fn room<S: Alter>(
     room: RoomNo,
 ) -> Result<Option<RoomRow>, LookFault>
     requires { IsBooks (state S.Store conn.old) }
-    ensures { Looks (RoomFails room) (λ a. a) (λ rows. room_at rows room) (state S.Store conn.old) (state S.Store conn.new) result }
+    ensures { Looks (RoomFails room) (λ a. a) (λ rows. room_at rows room)
+        (state S.Store conn.old) (state S.Store conn.new) result }
 {
     let Some(bare) = bare_room(alloc, conn, room)? else {
         return Ok(None);
@@ -145,7 +151,8 @@ pub fn stay<S: Alter>(
     party: PartyNo,
 ) -> Result<Option<Stay>, LookFault>
     requires { IsBooks (state S.Store conn.old) }
-    ensures { Looks (StayFails party) (λ a. a) (λ rows. stay_at rows party) (state S.Store conn.old) (state S.Store conn.new) result }
+    ensures { Looks (StayFails party) (λ a. a) (λ rows. stay_at rows party)
+        (state S.Store conn.old) (state S.Store conn.new) result }
 {
     look(alloc, conn, SELECT_STAY, &[small(party.value())])
 }
@@ -157,7 +164,8 @@ pub fn code<S: Alter>(
     code: Code,
 ) -> Result<Option<CodeRow>, LookFault>
     requires { IsBooks (state S.Store conn.old) }
-    ensures { Looks (CodeFails code) (λ a. a) (λ rows. code_place rows code) (state S.Store conn.old) (state S.Store conn.new) result }
+    ensures { Looks (CodeFails code) (λ a. a) (λ rows. code_place rows code)
+        (state S.Store conn.old) (state S.Store conn.new) result }
 {
     look(alloc, conn, SELECT_CODE, &[number(code.value())])
 }
@@ -169,7 +177,8 @@ pub fn card<S: Alter>(
     number: CardNo,
 ) -> Result<Option<Card>, LookFault>
     requires { IsBooks (state S.Store conn.old) }
-    ensures { Looks (CardFails number) (λ a. a) (λ rows. card_at rows number) (state S.Store conn.old) (state S.Store conn.new) result }
+    ensures { Looks (CardFails number) (λ a. a) (λ rows. card_at rows number)
+        (state S.Store conn.old) (state S.Store conn.new) result }
 {
     look(alloc, conn, SELECT_CARD, &[small(number.value())])
 }
@@ -238,7 +247,8 @@ pub fn is_inside<S: Alter>(
     number: CardNo,
 ) -> Result<bool, LookFault>
     requires { IsBooks (state S.Store conn.old) }
-    ensures { Looks (IsInsideFails room number) (λ a. a) (λ rows. is_one_of number (inside_at rows room)) (state S.Store conn.old) (state S.Store conn.new) result }
+    ensures { Looks (IsInsideFails room number) (λ a. a) (λ rows. is_one_of number (inside_at rows room))
+        (state S.Store conn.old) (state S.Store conn.new) result }
 {
     let card: Option<CardNo> = look(
         alloc,
@@ -256,7 +266,8 @@ pub fn has_inside<S: Alter>(
     room: RoomNo,
 ) -> Result<bool, LookFault>
     requires { IsBooks (state S.Store conn.old) }
-    ensures { Looks (HasInsideFails room) (λ a. a) (λ rows. not (are_none (inside_at rows room))) (state S.Store conn.old) (state S.Store conn.new) result }
+    ensures { Looks (HasInsideFails room) (λ a. a) (λ rows. not (are_none (inside_at rows room)))
+        (state S.Store conn.old) (state S.Store conn.new) result }
 {
     let card: Option<CardNo> = look(alloc, conn, SELECT_ANY_INSIDE, &[small(room.value())])?;
     Ok(card.is_some())
@@ -270,7 +281,8 @@ pub fn code_at<S: Alter>(
     place: u32,
 ) -> Result<Option<Code>, LookFault>
     requires { IsBooks (state S.Store conn.old) }
-    ensures { Looks (CodeAtFails room place) (λ a. a) (λ rows. code_at rows room place) (state S.Store conn.old) (state S.Store conn.new) result }
+    ensures { Looks (CodeAtFails room place) (λ a. a) (λ rows. code_at rows room place)
+        (state S.Store conn.old) (state S.Store conn.new) result }
 {
     look(
         alloc,
@@ -287,7 +299,8 @@ pub fn stays_of_kind<S: Alter>(
     kind: &KindCode,
 ) -> Result<Vec<Stay>, LookFault>
     requires { IsBooks (state S.Store conn.old) }
-    ensures { Looks (StaysFail kind.now) (λ v. v.items) (λ rows. stays_of_kind rows kind.now) (state S.Store conn.old) (state S.Store conn.new) result }
+    ensures { Looks (StaysFail kind.now) (λ v. v.items) (λ rows. stays_of_kind rows kind.now)
+        (state S.Store conn.old) (state S.Store conn.new) result }
 {
     look_all(alloc, conn, SELECT_STAYS_OF_KIND, &[text(kind.as_bytes())])
 }
@@ -299,7 +312,8 @@ pub fn inside<S: Alter>(
     room: RoomNo,
 ) -> Result<Vec<CardNo>, LookFault>
     requires { IsBooks (state S.Store conn.old) }
-    ensures { Looks (InsideFails room) (λ v. v.items) (λ rows. inside_at rows room) (state S.Store conn.old) (state S.Store conn.new) result }
+    ensures { Looks (InsideFails room) (λ v. v.items) (λ rows. inside_at rows room)
+        (state S.Store conn.old) (state S.Store conn.new) result }
 {
     look_all(alloc, conn, SELECT_CARDS_INSIDE, &[small(room.value())])
 }
@@ -311,7 +325,8 @@ pub fn is_issued<S: Alter>(
     number: Code,
 ) -> Result<bool, LookFault>
     requires { IsBooks (state S.Store conn.old) }
-    ensures { Looks (CodeFails number) (λ a. a) (λ rows. is_one_of number (codes_in rows)) (state S.Store conn.old) (state S.Store conn.new) result }
+    ensures { Looks (CodeFails number) (λ a. a) (λ rows. is_one_of number (codes_in rows))
+        (state S.Store conn.old) (state S.Store conn.new) result }
 {
     let place = code(alloc, conn, number)?;
     Ok(place.is_some())
@@ -324,7 +339,8 @@ fn last_party<S: Alter>(
 ) -> Result<Option<PartyNo>, LookFault>
     requires books { IsBooks (state S.Store conn.old) }
     requires numbered { IsKept (state S.Store conn.old) → count_up 1 (keys_of (rows_in (state S.Store conn.old).now.trees).stays) ≡ true }
-    ensures { Looks LastPartyFails (λ o. unwrap_or o 0) (λ rows. length rows.stays) (state S.Store conn.old) (state S.Store conn.new) result }
+    ensures { Looks LastPartyFails (λ o. unwrap_or o 0) (λ rows. length rows.stays)
+        (state S.Store conn.old) (state S.Store conn.new) result }
 {
     look(alloc, conn, SELECT_LAST_PARTY, &[])
 }
@@ -333,7 +349,8 @@ fn last_party<S: Alter>(
 fn last_card<S: Alter>(alloc: Global, conn: &mut Connection<S>) -> Result<Option<CardNo>, LookFault>
     requires books { IsBooks (state S.Store conn.old) }
     requires numbered { IsKept (state S.Store conn.old) → count_up 1 (keys_of (rows_in (state S.Store conn.old).now.trees).cards) ≡ true }
-    ensures { Looks LastCardFails (λ o. unwrap_or o 0) (λ rows. length rows.cards) (state S.Store conn.old) (state S.Store conn.new) result }
+    ensures { Looks LastCardFails (λ o. unwrap_or o 0) (λ rows. length rows.cards)
+        (state S.Store conn.old) (state S.Store conn.new) result }
 {
     look(alloc, conn, SELECT_LAST_CARD, &[])
 }

@@ -4,8 +4,10 @@ ghost use Rattle.std.specs.List.{list_all};
 ghost use Rattle.std.specs.Ordering.{is_lt};
 ghost use Rattle.sqlite.specs.Held.{state};
 ghost use Rattle.hotel_core.specs.Model.SoundRooms.{are_in_order};
-ghost use Rattle.hotel_statements.specs.WholeTables.{IsOurs, IsWhole, ReadsTo, MayRead, AreFirst, AreLast, AreFitRows, AreRead};
-ghost use Rattle.hotel_statements.specs.WholeTables.{BeginsAs, TableFails, FirstFail, LastFail, FitRowsFail, TablesFail};
+ghost use Rattle.hotel_statements.specs.WholeTables.{IsOurs, IsWhole, ReadsTo, MayRead};
+ghost use Rattle.hotel_statements.specs.WholeTables.{AreFirst, AreLast, AreFitRows, AreRead};
+ghost use Rattle.hotel_statements.specs.WholeTables.{BeginsAs, TableFails};
+ghost use Rattle.hotel_statements.specs.WholeTables.{FirstFail, LastFail, FitRowsFail, TablesFail};
 ghost use Rattle.hotel_statements.specs.PlainRows.{ArePlainRows};
 
 use crate::from_row::fault_of;
@@ -62,7 +64,8 @@ fn read_two<S: Alter, A: PlainRow + Drop, B: PlainRow + Drop>(
     requires first { IsWhole version A.PlainRow.text A.PlainRow.tree A.PlainRow.columns A.PlainRow.cut }
     requires second { IsWhole version B.PlainRow.text B.PlainRow.tree B.PlainRow.columns B.PlainRow.cut }
     ensures { ReadsTo version
-        (λ old new. TableFails version A.PlainRow.text A.PlainRow.shown old new ⊎ TableFails version B.PlainRow.text B.PlainRow.shown old new)
+        (λ old new. TableFails version A.PlainRow.text A.PlainRow.shown old new
+        ⊎ TableFails version B.PlainRow.text B.PlainRow.shown old new)
         (λ two db.
         ArePlainRows A.PlainRow.columns A.PlainRow.shown two.0.items (db A.PlainRow.tree)
         × ArePlainRows B.PlainRow.columns B.PlainRow.shown two.1.items (db B.PlainRow.tree))
@@ -165,7 +168,8 @@ fn read_fits<S: Alter>(
     version: Version,
 ) -> Result<Option<Vec<PlainFit>>, LookFault>
     requires { IsOurs version (state S.Store conn.old) }
-    ensures { MayRead version (FitRowsFail version) (AreFitRows version) (state S.Store conn.old) (state S.Store conn.new) result }
+    ensures { MayRead version (FitRowsFail version) (AreFitRows version)
+        (state S.Store conn.old) (state S.Store conn.new) result }
 {
     match version {
         Version::First => Ok(None),
@@ -183,7 +187,8 @@ pub fn read_tables<S: Alter>(
     version: Version,
 ) -> Result<Tables, LookFault>
     requires { IsOurs version (state S.Store conn.old) }
-    ensures { ReadsTo version (TablesFail version) (AreRead version) (state S.Store conn.old) (state S.Store conn.new) result }
+    ensures { ReadsTo version (TablesFail version) (AreRead version)
+        (state S.Store conn.old) (state S.Store conn.new) result }
 {
     let first = read_first(alloc, conn, version)?;
     let last = read_last(alloc, conn, version)?;

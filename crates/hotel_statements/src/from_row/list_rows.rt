@@ -77,7 +77,8 @@ impl FromRow for HouseRow {
 /// How many codes come after the one that the lock holds.
 fn awaited(row: &Row) -> Result<u32, LookFault>
     ensures reads { IfOk result (λ n. n ≡ number_of (column row.now 4) - number_of (column row.now 3) - 1) }
-    ensures unread { IfErr result (λ why. why ≢ LookFault.Memory → 5 ≤ length row.now → ¬ (IsCount (column row.now 3) × IsCount (column row.now 4))) }
+    ensures unread { IfErr result (λ why. why ≢ LookFault.Memory → 5 ≤ length row.now
+        → ¬ (IsCount (column row.now 3) × IsCount (column row.now 4))) }
 {
     let lock_place = small_integer(row, 3)?;
     let codes = small_integer(row, 4)?;
