@@ -1,6 +1,7 @@
 -- What the look-ups by a key find.
 use Rattle.std.proofs.Common.{OnOk, IsTrue, ◌≡◌, ◌&&◌, refl, sym, ap, ap₂, subst, ◌∙◌, List, [], ◌∷◌, ℕ}
-use Rattle.std.proofs.Common.{None, Some, Option, map, filter, Ordering, Less, Equal, Greater, nat_cmp, is_eq, eqb, Result, Ok, Err, IfOk}
+use Rattle.std.proofs.Common.{None, Some, Option, map, filter, Ordering, Less, Equal, Greater, nat_cmp, is_eq, eqb}
+use Rattle.std.proofs.Common.{Result, Ok, Err, IfOk}
 use Rattle.std.specs.Prelude.{option_map}
 use Rattle.std.specs.Ordering.{ordering_then}
 use Rattle.std.specs.Map.{lookup}
@@ -113,7 +114,8 @@ module _ {V : Type 0} (tree : ℕ) (project : List Term) (columns : Row → Row)
 -- ---- a look-up whose statement finds what is wanted
 
 -- a connection that was left unchanged is open
-pub open_still : {R : Type 0} (old new : State) (result : Result R LookFault) → OnOk result (IsUnchanged old new) → OnOk result (IsTrue new.is_open)
+pub open_still : {R : Type 0} (old new : State) (result : Result R LookFault) → OnOk result (IsUnchanged old new)
+    → OnOk result (IsTrue new.is_open)
 open_still old new (Ok a) same = same.0.is_open
 open_still old new (Err e) same = tt
 

@@ -1,5 +1,6 @@
 -- One keyed statement, and the row that it finds.
-use Rattle.std.proofs.Common.{OnOk, ◌≡◌, ◌≢◌, inl, inr, refl, sym, subst, List, [], ◌∷◌, ℕ, None, Some, Option, Ok, Err, Result, IsTrue, false, map, All, arith}
+use Rattle.std.proofs.Common.{OnOk, ◌≡◌, ◌≢◌, inl, inr, refl, sym, subst, List, [], ◌∷◌, ℕ, None, Some, Option, Ok, Err}
+use Rattle.std.proofs.Common.{Result, IsTrue, false, map, All, arith}
 use Rattle.sqlite_value.specs.declared.value.Value.TheVariants.{Null}
 use Rattle.sqlite.specs.Order.{Row}
 use Rattle.sqlite.specs.Query.{Query}
@@ -9,7 +10,8 @@ use Rattle.sqlite.specs.Command.TheVariants.{Select, Rows}
 use Rattle.sqlite.specs.Listing.{understood}
 use Rattle.sqlite_trees.specs.declared.error.StoreError.{StoreError}
 use Rattle.sqlite_trees.specs.declared.error.StoreError.TheVariants.{OutOfMemory}
-use Rattle.sqlite.specs.State.{State, HasCleanDisk, QueriesRow, Shown, IsUnchanged, Survives, CommitsShowing, FailsToQuery, IsNotRun, FailsToShow, store_error}
+use Rattle.sqlite.specs.State.{State, HasCleanDisk, QueriesRow, Shown, IsUnchanged, Survives, CommitsShowing}
+use Rattle.sqlite.specs.State.{FailsToQuery, IsNotRun, FailsToShow, store_error}
 use Rattle.sqlite.specs.declared.error.Error.{Error}
 use Rattle.sqlite.specs.declared.error.Error.TheVariants.{QueryReturnedNoRows}
 use Rattle.sqlite_resolve.specs.declared.compiled.Compiled.{Compiled}
@@ -21,7 +23,9 @@ use Rattle.keycard_rules.specs.declared.issued.LookFault.TheVariants as why
 use Rattle.hotel_statements.specs.Schema.{desk_schema}
 use Rattle.hotel_statements.specs.Books.{IsDesk, IsKept, IsBooks, KeepsRows}
 use Rattle.hotel_statements.specs.LookUps.{Asks, IsQuery, AnswersFirst, AnswersAll, LeavesNoMore, fault_of, FailsAt}
-use Rattle.hotel_statements.proofs.Keeps.{Stays, query_stays, query_opened, keeps_books, keeps_rows, shown_stay, shown_opened, shown_is_open, first_is_open, none_is_open, shown_unchanged, first_unchanged}
+use Rattle.hotel_statements.proofs.Keeps.{Stays, query_stays, query_opened, keeps_books, keeps_rows, shown_stay}
+use Rattle.hotel_statements.proofs.Keeps.{shown_opened, shown_is_open, first_is_open, none_is_open, shown_unchanged}
+use Rattle.hotel_statements.proofs.Keeps.{first_unchanged}
 use Rattle.hotel_statements.proofs.Keeps.{fails_stay, fail_opened}
 
 -- no other failure is that no row was found
@@ -58,7 +62,8 @@ pub is_store : (fault : LookFault) → fault ≢ why.Memory → fault ≡ why.St
 is_store why.Memory other = absurd (other refl)
 is_store why.Store other = refl
 
-first_unread : (IsReadable : Row → Type 0) (row first : Row) (more : List Row) → row ≡ first → ¬ IsReadable row → ¬ All IsReadable (first ∷ more)
+first_unread : (IsReadable : Row → Type 0) (row first : Row) (more : List Row) → row ≡ first → ¬ IsReadable row
+    → ¬ All IsReadable (first ∷ more)
 first_unread IsReadable row first more is unread all = unread (subst IsReadable (sym is) (all 0 first (omega arith)))
 
 module _ (text : List ℕ) (params : Row) (old new : State) (r : Result Row Error) (books : IsBooks old) (asked : (q : Query) × Asks text q)
@@ -122,7 +127,8 @@ module _ (text : List ℕ) (params : Row) (old new : State) (r : Result Row Erro
 
   -- ---- why it failed
 
-  pub look_failed : (IsReadable : Row → Type 0) (e : Error) → r ≡ Err e → (e ≡ QueryReturnedNoRows → ⊥) → fault_of e ≢ why.Memory
+  pub look_failed : (IsReadable : Row → Type 0) (e : Error) → r ≡ Err e → (e ≡ QueryReturnedNoRows → ⊥)
+      → fault_of e ≢ why.Memory
       → HasCleanDisk new → FailsAt IsReadable text params old new
   unfolding QueriesRow
   look_failed IsReadable e is other cause clean = go (subst (QueriesRow text params old new) is (runs clean))
@@ -171,7 +177,8 @@ module _ (text : List ℕ) (params : Row) (old new : State) (books : IsBooks old
         let before = (all_keeps (clean, all_open clean)).0 in
         shown_unchanged text params old new rows (plain_in text asked.0 old asked.1 (books.desk before)) (shown clean)
 
-    pub all_unread : (IsReadable : Row → Type 0) → ¬ All IsReadable rows → HasCleanDisk new → FailsAt IsReadable text params old new
+    pub all_unread : (IsReadable : Row → Type 0) → ¬ All IsReadable rows → HasCleanDisk new
+        → FailsAt IsReadable text params old new
     all_unread IsReadable unread clean =
         let kept : IsKept new = (clean, all_open clean) in
         let before = (all_keeps kept).0 in
@@ -194,7 +201,8 @@ module _ (text : List ℕ) (params : Row) (old new : State) (books : IsBooks old
     pub fault_keeps : KeepsRows old new
     fault_keeps = keeps_rows old new _ books mode survives fault_stays fault_opened
 
-    pub fault_cause : (IsReadable : Row → Type 0) → fault_of e ≢ why.Memory → HasCleanDisk new → FailsAt IsReadable text params old new
+    pub fault_cause : (IsReadable : Row → Type 0) → fault_of e ≢ why.Memory → HasCleanDisk new
+        → FailsAt IsReadable text params old new
     fault_cause IsReadable cause clean = inl (e, is_store (fault_of e) cause, fails clean)
 
 pub on_ok_always : {A E P : Type 0} (r : Result A E) → P → OnOk r P

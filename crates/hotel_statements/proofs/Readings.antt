@@ -1,5 +1,6 @@
 -- What a reading of a whole table leaves of the connection.
-use Rattle.std.proofs.Common.{◌≡◌, inl, inr, sym, ap, subst, ◌∙◌, List, [], ℕ, OnOk, IfOk, IfErr, Ok, Err, Result, IsTrue, All, ◌≢◌, false, arith}
+use Rattle.std.proofs.Common.{◌≡◌, inl, inr, sym, ap, subst, ◌∙◌, List, [], ℕ, OnOk, IfOk, IfErr, Ok, Err, Result}
+use Rattle.std.proofs.Common.{IsTrue, All, ◌≢◌, false, arith}
 use Rattle.std.proofs.lemmas.Result.{IfErr-weaker}
 use Rattle.sqlite_value.specs.declared.value.Value.TheVariants.{Null}
 use Rattle.sqlite.specs.Order.{Row}
@@ -19,7 +20,8 @@ use Rattle.hotel_statements.specs.Schema.{schema_of}
 use Rattle.hotel_statements.specs.Books.{IsKept, KeepsRows}
 use Rattle.hotel_statements.specs.LookUps.{AsksOf, fault_of, FailsIn, LeavesNoMore}
 use Rattle.hotel_statements.specs.WholeTables.{IsOurs, ReadsTo}
-use Rattle.hotel_statements.proofs.Keeps.{Stays, shown_stay, shown_opened, shown_is_open, shown_unchanged, fails_stay, fail_opened}
+use Rattle.hotel_statements.proofs.Keeps.{Stays, shown_stay, shown_opened, shown_is_open, shown_unchanged, fails_stay}
+use Rattle.hotel_statements.proofs.Keeps.{fail_opened}
 use Rattle.hotel_statements.proofs.Looked.{command_is, is_store}
 
 abbrev HasTables : Version → State → Type 0

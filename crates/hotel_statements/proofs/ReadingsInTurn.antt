@@ -1,5 +1,6 @@
 -- Readings of tables that are made in turn.
-use Rattle.std.proofs.Common.{◌≡◌, ◌⊎◌, inl, inr, refl, sym, subst, List, [], ℕ, IfOk, IfErr, Ok, Err, Result, IsTrue, arith}
+use Rattle.std.proofs.Common.{◌≡◌, ◌⊎◌, inl, inr, refl, sym, subst, List, [], ℕ, IfOk, IfErr, Ok, Err, Result, IsTrue}
+use Rattle.std.proofs.Common.{arith}
 use Rattle.std.proofs.lemmas.Result.{IfErr-weaker}
 use Rattle.sqlite.specs.Order.{Row}
 use Rattle.sqlite.specs.Tree.{Trees}
@@ -25,7 +26,8 @@ abbrev pub IsLater : Version → (State → State → Type 0) → Type 1
 IsLater version Fails = (old mid new : State) → (HasCleanDisk new → HasCleanDisk mid) → (HasCleanDisk mid → IsUnchanged old mid)
     → LeavesNoMore old mid → IsOurs version mid → HasCleanDisk new → Fails mid new → Fails old new
 
-pub table_later : (version : Version) (text : List ℕ) (q : Query) → AsksOf (schema_of version) text q → (IsReadable : Row → Type 0)
+pub table_later : (version : Version) (text : List ℕ) (q : Query) → AsksOf (schema_of version) text q
+    → (IsReadable : Row → Type 0)
     → IsLater version (FailsIn (schema_of version) IsReadable text [])
 table_later version text q asks IsReadable old mid new was unchanged crash ours clean fails = go fails
   where
@@ -41,7 +43,8 @@ table_later version text q asks IsReadable old mid new was unchanged crash ours 
         let kept : IsKept old = (clean_before old mid crash h.0.0, same.0.was_open) in
         inr (kept, subst (λ (d : Database). ShowsUnread (schema_of version) IsReadable text [] d.trees) same.0.now_is h.1)
 
-pub either_later : (version : Version) (Before Then : State → State → Type 0) → IsLater version Before → IsLater version Then
+pub either_later : (version : Version) (Before Then : State → State → Type 0) → IsLater version Before
+    → IsLater version Then
     → IsLater version (λ old new. Before old new ⊎ Then old new)
 either_later version Before Then first then old mid new was unchanged crash ours clean (inl h) = inl (first old mid new was unchanged crash ours clean h)
 either_later version Before Then first then old mid new was unchanged crash ours clean (inr h) = inr (then old mid new was unchanged crash ours clean h)
@@ -63,8 +66,10 @@ not_read {was = was} version Before Then SaysFirst Says old new fault result is 
 
 module _ {A B was : Type 0} (version : Version) (Before Then : State → State → Type 0) (SaysFirst : A → Trees → Type 0) (SaysThen : B → Trees → Type 0)
     (old mid new : State) (a : A) (first : ReadsTo version Before SaysFirst old mid (Ok a)) where
-  pub second_failed : {R : Type 0} (Says : R → Trees → Type 0) (fault : LookFault) (result : Result R LookFault) → result ≡ Err fault → IsLater version Then
-      → ReadsIf was version Then SaysThen mid new (Err fault) → ReadsTo version (λ s t. Before s t ⊎ Then s t) Says old new result
+  pub second_failed : {R : Type 0} (Says : R → Trees → Type 0) (fault : LookFault) (result : Result R LookFault)
+      → result ≡ Err fault → IsLater version Then
+      → ReadsIf was version Then SaysThen mid new (Err fault)
+      → ReadsTo version (λ s t. Before s t ⊎ Then s t) Says old new result
   second_failed Says fault result is later then = subst (ReadsTo version (λ s t. Before s t ⊎ Then s t) Says old new) (sym is) (record {
     ours = then.ours;
     keeps = then_keeps old mid new first.keeps then.keeps;
@@ -76,7 +81,8 @@ module _ {A B was : Type 0} (version : Version) (Before Then : State → State �
     crash = then_survives old mid new (first.open_on tt) first.crash then.crash;
   })
 
-  pub both_read : {R : Type 0} (Says : R → Trees → Type 0) (b : B) (r : R) → (HasCleanDisk mid → IsTrue mid.is_open → was)
+  pub both_read : {R : Type 0} (Says : R → Trees → Type 0) (b : B) (r : R)
+      → (HasCleanDisk mid → IsTrue mid.is_open → was)
       → ((db : Trees) → SaysFirst a db → SaysThen b db → Says r db) → ReadsIf was version Then SaysThen mid new (Ok b)
       → ReadsTo version (λ s t. Before s t ⊎ Then s t) Says old new (Ok r)
   both_read Says b r asked says then =

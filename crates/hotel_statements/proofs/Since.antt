@@ -7,7 +7,8 @@ use Rattle.sqlite.specs.Order.{Row}
 use Rattle.sqlite.specs.Effect.{Database, RefusesToRead}
 use Rattle.sqlite.specs.Listing.{understood, reads_listing, IsSourceOf}
 use Rattle.sqlite.specs.Clock.{timed}
-use Rattle.sqlite.specs.State.{State, HasCleanDisk, IsUnchanged, IsRolledBack, IsNoStatement, IsStatement, IsNotRun, Fails}
+use Rattle.sqlite.specs.State.{State, HasCleanDisk, IsUnchanged, IsRolledBack, IsNoStatement, IsStatement, IsNotRun}
+use Rattle.sqlite.specs.State.{Fails}
 use Rattle.sqlite.specs.State.{FailsToShow, FailsToQuery}
 use Rattle.sqlite.specs.State as sqlite
 use Rattle.sqlite.specs.declared.error.Error.{Error}
@@ -68,7 +69,8 @@ module _ (old mid new : State) (same : IsUnchanged old mid) (crash : LeavesNoMor
     no_then : (e : Error) → IsNoStatement mid text params e → IsNoStatement old text params e
     no_then e h = subst (λ (d : Database). IsNoStatement (record mid { now = d }) text params e) same.0.now_is h
 
-    shows_then : (c : Compiled) (full : Row) (e : Error) → FailsToShow mid new text c full e None → FailsToShow old new text c full e None
+    shows_then : (c : Compiled) (full : Row) (e : Error) → FailsToShow mid new text c full e None
+        → FailsToShow old new text c full e None
     shows_then c full e h =
         let db = h.0 in
         let source = subst (λ (d : Database). IsSourceOf (reads_listing d.schema text) d db) same.0.now_is h.1 in
@@ -108,12 +110,14 @@ module _ (old mid new : State) (was_clean : HasCleanDisk new → HasCleanDisk mi
     pub error_later : (e : Error) → FailsToQuery text params mid new e → FailsToQuery text params old new e
     error_later e h = query_then old mid new same crash text params e plain h
 
-    pub fails_later : (IsReadable : Row → Type 0) → FailsAt IsReadable text params mid new → FailsAt IsReadable text params old new
+    pub fails_later : (IsReadable : Row → Type 0) → FailsAt IsReadable text params mid new
+        → FailsAt IsReadable text params old new
     fails_later IsReadable (inl h) = inl (h.0, h.1, error_later h.0 h.2)
     fails_later IsReadable (inr h) =
         inr (was_kept h.0, subst (λ (d : Database). ShowsUnread desk_schema IsReadable text params d.trees) same.0.now_is h.1)
 
-    pub walk_fails_later : (IsReadable : Row → Type 0) → WalkFails IsReadable text params mid new → WalkFails IsReadable text params old new
+    pub walk_fails_later : (IsReadable : Row → Type 0) → WalkFails IsReadable text params mid new
+        → WalkFails IsReadable text params old new
     walk_fails_later IsReadable (inl h) = inl (fails_later IsReadable h)
     walk_fails_later IsReadable (inr h) =
         inr (was_kept h.0, subst (λ (d : Database). ShowsMany text params d.trees) same.0.now_is h.1)
@@ -122,7 +126,8 @@ pub clean_before : (old new : State) → LeavesNoMore old new → HasCleanDisk n
 clean_before old new crash clean = omega (arith, crash.clean, clean)
 
 -- rows that aren't read by one reader aren't by another
-pub walk_unread : (P Q : Row → Type 0) (text : List ℕ) (params : Row) (old new : State) → (IsKept old → (rows : List Row) → All Q rows → All P rows)
+pub walk_unread : (P Q : Row → Type 0) (text : List ℕ) (params : Row) (old new : State)
+    → (IsKept old → (rows : List Row) → All Q rows → All P rows)
     → WalkFails P text params old new → WalkFails Q text params old new
 walk_unread P Q text params old new gives (inl (inl h)) = inl (inl h)
 walk_unread P Q text params old new gives (inl (inr h)) =

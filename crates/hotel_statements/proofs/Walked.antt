@@ -1,6 +1,8 @@
 -- One statement whose rows are handed over, one at a time.
-use Rattle.std.proofs.Common.{◌≡◌, ◌≢◌, ◌⊎◌, ◌≤◌, ◌+◌, ◌-◌, ◌^◌, inl, inr, refl, sym, ap, subst, ◌∙◌, List, [], ◌∷◌, ◌++◌, ℕ, suc, IsTrue, Bool, false, true}
-use Rattle.std.proofs.Common.{Option, Some, None, Ok, Err, Result, All, length, length-append, length-map, map, append_assoc, arith}
+use Rattle.std.proofs.Common.{◌≡◌, ◌≢◌, ◌⊎◌, ◌≤◌, ◌+◌, ◌-◌, ◌^◌, inl, inr, refl, sym, ap, subst, ◌∙◌, List, [], ◌∷◌}
+use Rattle.std.proofs.Common.{◌++◌, ℕ, suc, IsTrue, Bool, false, true}
+use Rattle.std.proofs.Common.{Option, Some, None, Ok, Err, Result, All, length, length-append, length-map, map}
+use Rattle.std.proofs.Common.{append_assoc, arith}
 use Rattle.std.specs.Prelude.{option_copied, OnOk, IfOk, IfErr}
 use Rattle.std.proofs.lemmas.List.{map-append}
 use Rattle.std.specs.Borrow.{Bor}
@@ -65,13 +67,16 @@ store_fault why.Stopped is = absurd (let k = is in cc)
 -- ---- the rows that a statement gives
 
 -- they begin an answer
-pub answers_on : (text : List ℕ) (params : Row) (q : Query) → Asks text q → (old s : State) → IsBooks s → IsKept s → s.now ≡ old.now
-    → (given : List Row) → Begins text params s given → (tail : List Row) × IsAnswer q (overlay old.now.trees []) params (given ++ tail)
+pub answers_on : (text : List ℕ) (params : Row) (q : Query) → Asks text q → (old s : State) → IsBooks s → IsKept s
+    → s.now ≡ old.now
+    → (given : List Row) → Begins text params s given
+    → (tail : List Row) × IsAnswer q (overlay old.now.trees []) params (given ++ tail)
 answers_on text params q asks old s books kept same given start =
     let first = (begins_as text params s s desk_schema (books.desk kept).schema _ (command_is q _ asks.query).1 asks.plain asks.listing given start).1 in
     (first.0, subst (λ (d : Database). IsAnswer q (overlay d.trees []) params (given ++ first.0)) same (first.1 Null))
 
-not_all : (P : Row → Type 0) (given : List Row) (row : Row) (tail : List Row) → ¬ P row → ¬ All P ((given ++ row ∷ []) ++ tail)
+not_all : (P : Row → Type 0) (given : List Row) (row : Row) (tail : List Row) → ¬ P row
+    → ¬ All P ((given ++ row ∷ []) ++ tail)
 not_all P [] row tail unread all = unread (all 0 row (omega arith))
 not_all P (r ∷ given) row tail unread all = not_all P given row tail unread (λ i d lt. all (suc i) d (omega (arith, lt)))
 
@@ -167,7 +172,8 @@ module _ {S A K : Type 0} (g : Ghosts S) (of : Row → A) (IsReadable : Row → 
     }
 
   -- the rows that were taken are a front
-  front : (rows : List A) → SaysRows of text params (state g old) rows → (mid : Held S) (now : K) (count : ℕ) (so_far : Walking mid now count)
+  front : (rows : List A) → SaysRows of text params (state g old) rows
+      → (mid : Held S) (now : K) (count : ℕ) (so_far : Walking mid now count)
       → HasCleanDisk (state g mid) → (rest : List A) × (rows ≡ so_far.taken ++ rest)
   front rows says mid now count so_far clean =
       let kept : IsKept (state g mid) = (clean, (so_far.unchanged clean).0.is_open) in
@@ -202,12 +208,14 @@ module _ {S A K : Type 0} (g : Ghosts S) (of : Row → A) (IsReadable : Row → 
     answered_open : (r : Option (Bor Row)) → result ≡ Ok r → HasCleanDisk (state g new.conn.now) → IsTrue (state g new.conn.now).is_open
     answered_open r is clean = (subst (λ x. OnOk x (IsUnchanged (state g mid.conn.now) (state g new.conn.now))) is (moved.same clean)).0.is_open
 
-    still_unchanged : (r : Option (Bor Row)) → result ≡ Ok r → HasCleanDisk (state g new.conn.now) → IsUnchanged (state g old) (state g new.conn.now)
+    still_unchanged : (r : Option (Bor Row)) → result ≡ Ok r → HasCleanDisk (state g new.conn.now)
+        → IsUnchanged (state g old) (state g new.conn.now)
     still_unchanged r is = then_unchanged (state g old) (state g mid.conn.now) (state g new.conn.now) was_clean so_far.unchanged so_far.crash
         (λ clean. subst (λ x. OnOk x (IsUnchanged (state g mid.conn.now) (state g new.conn.now))) is (moved.same clean))
 
     -- the rows that were given before, where the disk returned what was written
-    given_before : HasCleanDisk (state g new.conn.now) → IsKept (state g mid.conn.now) × (rows : List Row) × HasGiven g text params mid.conn.now rows
+    given_before : HasCleanDisk (state g new.conn.now)
+        → IsKept (state g mid.conn.now) × (rows : List Row) × HasGiven g text params mid.conn.now rows
     given_before clean =
         let kept : IsKept (state g mid.conn.now) = (was_clean clean, (so_far.unchanged (was_clean clean)).0.is_open) in
         let it = so_far.given kept in
@@ -233,7 +241,8 @@ module _ {S A K : Type 0} (g : Ghosts S) (of : Row → A) (IsReadable : Row → 
 
       -- the row was not taken
       pub left : (rows : List A) (says : SaysRows of text params (state g old) rows) (end : K) (fault : WalkFault)
-          → HandsOne after after_stop (of row.now) now end (Err fault) → (fault ≡ why.Store → ¬ IsReadable row.now) → Ends rows new.conn.now end (Err fault)
+          → HandsOne after after_stop (of row.now) now end (Err fault) → (fault ≡ why.Store → ¬ IsReadable row.now)
+          → Ends rows new.conn.now end (Err fault)
       left rows says end fault hands unread = record {
         books = still_books;
         keeps = still_keeps;
@@ -243,7 +252,8 @@ module _ {S A K : Type 0} (g : Ghosts S) (of : Row → A) (IsReadable : Row → 
         hands = go fault hands;
       }
         where
-          one_unread : HasCleanDisk (state g new.conn.now) → ¬ IsReadable row.now → IsKept (state g old) × ShowsUnread desk_schema IsReadable text params (state g old).now.trees
+          one_unread : HasCleanDisk (state g new.conn.now) → ¬ IsReadable row.now
+              → IsKept (state g old) × ShowsUnread desk_schema IsReadable text params (state g old).now.trees
           one_unread clean no =
               let kept : IsKept (state g new.conn.now) = (clean, answered_open (Some row) is clean) in
               let it = given_more kept in
@@ -278,7 +288,8 @@ module _ {S A K : Type 0} (g : Ghosts S) (of : Row → A) (IsReadable : Row → 
 
     -- ---- no further row
 
-    pub ended : result ≡ Ok None → (rows : List A) → SaysRows of text params (state g old) rows → Ends rows new.conn.now now (Ok tt)
+    pub ended : result ≡ Ok None → (rows : List A) → SaysRows of text params (state g old) rows
+        → Ends rows new.conn.now now (Ok tt)
     ended is rows says = record {
       books = still_books;
       keeps = still_keeps;
@@ -346,7 +357,8 @@ module _ {S A K : Type 0} (g : Ghosts S) (of : Row → A) (IsReadable : Row → 
 module _ {A K : Type 0} {Fails Then : State → State → Type 0} (after after_stop : K → A → K → Type 0) (rows : List A) (old mid : State) (sink : K) where
   pub then_walks : (new : State) (end : K) (result : Result (Unit {0}) WalkFault) → KeepsRows old mid → (HasCleanDisk mid → IsTrue mid.is_open)
       → LeavesNoMore old mid → ((HasCleanDisk new → HasCleanDisk mid) → HasCleanDisk new → Then mid new → Fails old new)
-      → WalksRows Then after after_stop rows mid new sink end result → WalksRows Fails after after_stop rows old new sink end result
+      → WalksRows Then after after_stop rows mid new sink end result
+      → WalksRows Fails after after_stop rows old new sink end result
   then_walks new end result keeps open_on crash later walked = record {
     books = walked.books;
     keeps = then_keeps old mid new keeps walked.keeps;
@@ -357,7 +369,8 @@ module _ {A K : Type 0} {Fails Then : State → State → Type 0} (after after_s
   }
 
   pub not_begun : (fault : WalkFault) (cause : LookFault) → failure_of (Err fault) ≡ Some cause → IsBooks mid → KeepsRows old mid → LeavesNoMore old mid
-      → (HasCleanDisk mid → cause ≢ look.Memory → Fails old mid) → WalksRows Fails after after_stop rows old mid sink sink (Err fault)
+      → (HasCleanDisk mid → cause ≢ look.Memory → Fails old mid)
+      → WalksRows Fails after after_stop rows old mid sink sink (Err fault)
   not_begun fault cause is books keeps crash fails = record {
     books = books;
     keeps = keeps;

@@ -1,5 +1,6 @@
 -- What a look-up promises.
-use Rattle.std.specs.Prelude.{◌≡◌, ◌≢◌, ◌⊎◌, ◌==◌, if◌then◌else◌, ℕ, false, length, List, [], ◌∷◌, map, Option, Some, None}
+use Rattle.std.specs.Prelude.{◌≡◌, ◌≢◌, ◌⊎◌, ◌==◌, if◌then◌else◌, ℕ, false, length, List, [], ◌∷◌, map, Option, Some}
+use Rattle.std.specs.Prelude.{None}
 use Rattle.std.specs.Prelude.{Result, IfOk, IfErr, OnOk, IsTrue, All}
 use Rattle.sqlite.specs.Order.{Row}
 use Rattle.sqlite.specs.Query.{Query, IsAnswer}
@@ -102,11 +103,13 @@ pub record LooksIf {A R : Type 0} (was : Type 0) (Fails : State → State → Ty
 
 -- The same of a look-up that is a statement: where it is answered over a disk that returned what was written,
 -- the connection is open.
-abbrev pub Looks : {A R : Type 0} → (State → State → Type 0) → (R → A) → (Rows → A) → State → State → Result R LookFault → Type 0
+abbrev pub Looks : {A R : Type 0} → (State → State → Type 0) → (R → A) → (Rows → A) → State → State
+    → Result R LookFault → Type 0
 Looks Fails said wanted old new result = LooksIf (Unit {0}) Fails said wanted old new result
 
 -- The same of one that may ask nothing: only a connection that was open is open.
-abbrev pub MayLook : {A R : Type 0} → (State → State → Type 0) → (R → A) → (Rows → A) → State → State → Result R LookFault → Type 0
+abbrev pub MayLook : {A R : Type 0} → (State → State → Type 0) → (R → A) → (Rows → A) → State → State
+    → Result R LookFault → Type 0
 MayLook Fails said wanted old new result = LooksIf (IsKept old) Fails said wanted old new result
 
 -- A look-up in the tables as they stand, which promises as much.

@@ -56,7 +56,8 @@ pub record WalksRows {S R : Type 0} (Fails : State → State → Type 0) (after 
   pub crash : LeavesNoMore old new
 
 -- a walk over a list of the rows that the tables have
-abbrev pub WalksList : {S R : Type 0} → (State → State → Type 0) → (S → R → S → Type 0) → (S → R → S → Type 0) → (Rows → List R) → State → State → S → S → Result (Unit {0}) WalkFault → Type 0
+abbrev pub WalksList : {S R : Type 0} → (State → State → Type 0) → (S → R → S → Type 0) → (S → R → S → Type 0)
+    → (Rows → List R) → State → State → S → S → Result (Unit {0}) WalkFault → Type 0
 WalksList Fails after after_stop list old new sink end result = WalksRows Fails after after_stop (list (rows_in old.now.trees)) old new sink end result
 
 -- ---- what rows of columns say

@@ -1,5 +1,6 @@
 -- What is read of whole tables, and what the reading promises.
-use Rattle.std.specs.Prelude.{◌≡◌, ◌⊎◌, ◌++◌, ℕ, false, List, [], map, Option, Some, None, Result, IfOk, OnOk, IsTrue, Vec}
+use Rattle.std.specs.Prelude.{◌≡◌, ◌⊎◌, ◌++◌, ℕ, false, List, [], map, Option, Some, None, Result, IfOk, OnOk, IsTrue}
+use Rattle.std.specs.Prelude.{Vec}
 use Rattle.std.specs.List.Sorted.{IsPermutation}
 use Rattle.std.specs.declared.alloc.Global.{Global}
 use Rattle.sqlite.specs.Order.{Row}
@@ -63,11 +64,13 @@ pub record ReadsIf {R : Type 0} (was : Type 0) (version : Version) (Fails : Stat
 
 -- The same of a reading that makes a statement: where it is answered over a disk that returned what was written, the connection
 -- is open.
-abbrev pub ReadsTo : {R : Type 0} → Version → (State → State → Type 0) → (R → Trees → Type 0) → State → State → Result R LookFault → Type 0
+abbrev pub ReadsTo : {R : Type 0} → Version → (State → State → Type 0) → (R → Trees → Type 0) → State → State
+    → Result R LookFault → Type 0
 ReadsTo version Fails Says old new result = ReadsIf (Unit {0}) version Fails Says old new result
 
 -- The same of one that may ask nothing: only a connection that was open is open.
-abbrev pub MayRead : {R : Type 0} → Version → (State → State → Type 0) → (R → Trees → Type 0) → State → State → Result R LookFault → Type 0
+abbrev pub MayRead : {R : Type 0} → Version → (State → State → Type 0) → (R → Trees → Type 0) → State → State
+    → Result R LookFault → Type 0
 MayRead version Fails Says old new result = ReadsIf (IsKept old) version Fails Says old new result
 
 -- the rows of the first four tables, and of the next four

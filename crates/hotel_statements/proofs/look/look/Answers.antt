@@ -1,7 +1,8 @@
 use Rattle.std.proofs.Common.{◌∙◌, ap, Err, rules}
 use Rattle.sqlite.specs.Held.{state}
 use Rattle.sqlite.specs.Values.{bound}
-use Rattle.hotel_statements.proofs.Looked.{looked, look_found, look_lost, look_unchanged, none_unchanged, look_failed, look_unread}
+use Rattle.hotel_statements.proofs.Looked.{looked, look_found, look_lost, look_unchanged, none_unchanged, look_failed}
+use Rattle.hotel_statements.proofs.Looked.{look_unread}
 use Rattle.hotel_statements.proofs.Unread.{cause_passed}
 use Rattle.hotel_statements.proofs.look.look.Goals as goal
 

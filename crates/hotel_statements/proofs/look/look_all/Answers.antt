@@ -2,7 +2,8 @@ use Rattle.std.proofs.Common.{◌∙◌, ap, subst, map, All}
 use Rattle.std.proofs.lemmas.Result.{IfOk-weaker, IfErr-weaker}
 use Rattle.sqlite.specs.Held.{state}
 use Rattle.sqlite.specs.Values.{bound}
-use Rattle.hotel_statements.proofs.Looked.{on_ok_always, all_crash, all_books, all_keeps, all_found, all_unchanged, all_unread, fault_books, fault_keeps, fault_cause}
+use Rattle.hotel_statements.proofs.Looked.{on_ok_always, all_crash, all_books, all_keeps, all_found, all_unchanged}
+use Rattle.hotel_statements.proofs.Looked.{all_unread, fault_books, fault_keeps, fault_cause}
 use Rattle.hotel_statements.proofs.look.look_all.Goals as goal
 
 pub returns-in-Ok-clause-books : goal.returns-in-Ok-clause-books

@@ -1,4 +1,5 @@
-use Rattle.std.proofs.Common.{◌≡◌, ◌+◌, ◌==◌, ◌∙◌, sym, ap, ap₂, subst, arith, rules, inl, inr, [], ◌∷◌, ◌<◌, ◌^◌, ℕ, true, false, None, Some}
+use Rattle.std.proofs.Common.{◌≡◌, ◌+◌, ◌==◌, ◌∙◌, sym, ap, ap₂, subst, arith, rules, inl, inr, [], ◌∷◌, ◌<◌, ◌^◌, ℕ}
+use Rattle.std.proofs.Common.{true, false, None, Some}
 use Rattle.std.specs.Prelude.{option_map, if◌then◌else◌}
 use Rattle.std.specs.Map.{lookup}
 use Rattle.std.specs.BTreeMap.{is_at}
