@@ -103,6 +103,12 @@ module _ {A B was : Type 0} (version : Version) (Before Then : State → State �
         crash = then_survives old mid new (first.open_on tt) first.crash then.crash;
       }
 
+  -- both, as a pair
+  pub pair_read : (b : B) → (HasCleanDisk mid → IsTrue mid.is_open → was) → ReadsIf was version Then SaysThen mid new (Ok b)
+      → ReadsTo version (λ s t. Before s t ⊎ Then s t) (λ (r : A × B) db. SaysFirst r.0 db × SaysThen r.1 db) old new (Ok (a, b))
+  pair_read b asked then =
+      both_read (λ (r : A × B) db. SaysFirst r.0 db × SaysThen r.1 db) b (a, b) asked (λ db one two. (one, two)) then
+
 -- ---- the readings that come later
 
 pub last_later : (version : Version) → IsLater version (LastFail version)

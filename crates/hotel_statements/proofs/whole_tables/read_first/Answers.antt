@@ -2,7 +2,7 @@ use Rattle.std.proofs.Common.{inl}
 use Rattle.sqlite.specs.Held.{state}
 use Rattle.hotel_statements.specs.Texts as text
 use Rattle.hotel_statements.proofs.Unread.{err_is}
-use Rattle.hotel_statements.proofs.ReadingsInTurn.{not_read, second_failed, both_read, table_later, either_later}
+use Rattle.hotel_statements.proofs.ReadingsInTurn.{not_read, second_failed, pair_read, table_later, either_later}
 use Rattle.hotel_statements.proofs.Whole.{meta_whole, kind_whole, room_whole, stay_whole}
 use Rattle.hotel_statements.proofs.whole_tables.read_first.Goals as goal
 
@@ -36,6 +36,5 @@ returns-in_err-second g c =
 
 pub returns : goal.returns
 returns g c =
-    both_read c.args.version _ _ _ _ (state g.S.Store c.args.conn.now) (state g.S.Store c.read_two.new.conn)
-    (state g.S.Store c.read_two-2.new.conn) c.in_ok-first.first c.in_ok-first.ensures _ c.in_ok-second.second
-    (c.in_ok-first.first, c.in_ok-second.second) (λ _ _. tt) (λ db one two. (one, two)) c.in_ok-second.ensures
+    pair_read c.args.version _ _ _ _ (state g.S.Store c.args.conn.now) (state g.S.Store c.read_two.new.conn)
+    (state g.S.Store c.read_two-2.new.conn) c.in_ok-first.first c.in_ok-first.ensures c.in_ok-second.second (λ _ _. tt) c.in_ok-second.ensures

@@ -2,7 +2,7 @@ use Rattle.std.proofs.Common.{inl, refl, Err}
 use Rattle.sqlite.specs.Held.{state}
 use Rattle.hotel_statements.specs.WholeTables.{AreFirst, AreLast, FirstFail, LastFail, FitRowsFail}
 use Rattle.hotel_statements.proofs.Unread.{err_is}
-use Rattle.hotel_statements.proofs.ReadingsInTurn.{not_read, second_failed, both_read, last_later, fits_later}
+use Rattle.hotel_statements.proofs.ReadingsInTurn.{not_read, second_failed, both_read, pair_read, last_later, fits_later}
 use Rattle.hotel_statements.proofs.whole_tables.read_tables.Goals as goal
 
 pub returns-in_err-first : goal.returns-in_err-first
@@ -30,9 +30,8 @@ returns-in_err-fits g c =
     let mid = state g.S.Store c.read_last.new.conn in
     let new = state g.S.Store c.read_fits.new.conn in
     let fault = c.in_err-fits.field-0.0 in
-    let both = both_read version (FirstFail version) (LastFail version) AreFirst AreLast old first mid c.in_ok-first.first c.in_ok-first.ensures
-    (λ two db. AreFirst two.0 db × AreLast two.1 db) c.in_ok-last.last (c.in_ok-first.first, c.in_ok-last.last) (λ _ _. tt) (λ db one two. (one, two))
-    c.in_ok-last.ensures in
+    let both = pair_read version (FirstFail version) (LastFail version) AreFirst AreLast old first mid c.in_ok-first.first c.in_ok-first.ensures
+    c.in_ok-last.last (λ _ _. tt) c.in_ok-last.ensures in
     second_failed version _ (FitRowsFail version) _ _ old mid new (c.in_ok-first.first, c.in_ok-last.last) both _ fault c.from_residual-in_err-fits.result
     (err_is c.from_residual-in_err-fits.result fault c.from_residual-in_err-fits.ensures) (fits_later version) c.in_err-fits.ensures
 
@@ -43,8 +42,7 @@ returns g c =
     let first = state g.S.Store c.read_first.new.conn in
     let mid = state g.S.Store c.read_last.new.conn in
     let new = state g.S.Store c.read_fits.new.conn in
-    let both = both_read version (FirstFail version) (LastFail version) AreFirst AreLast old first mid c.in_ok-first.first c.in_ok-first.ensures
-    (λ two db. AreFirst two.0 db × AreLast two.1 db) c.in_ok-last.last (c.in_ok-first.first, c.in_ok-last.last) (λ _ _. tt) (λ db one two. (one, two))
-    c.in_ok-last.ensures in
+    let both = pair_read version (FirstFail version) (LastFail version) AreFirst AreLast old first mid c.in_ok-first.first c.in_ok-first.ensures
+    c.in_ok-last.last (λ _ _. tt) c.in_ok-last.ensures in
     both_read version _ (FitRowsFail version) _ _ old mid new (c.in_ok-first.first, c.in_ok-last.last) both _ c.in_ok-fits.fits _
     (λ clean is_open. (clean, is_open)) (λ db two fits. (two.0, (two.1, fits))) c.in_ok-fits.ensures

@@ -2,7 +2,7 @@ use Rattle.std.proofs.Common.{inl}
 use Rattle.sqlite.specs.Held.{state}
 use Rattle.hotel_statements.specs.WholeTables.{BeginsAs}
 use Rattle.hotel_statements.proofs.Unread.{err_is}
-use Rattle.hotel_statements.proofs.ReadingsInTurn.{not_read, second_failed, both_read, table_later}
+use Rattle.hotel_statements.proofs.ReadingsInTurn.{not_read, second_failed, pair_read, table_later}
 use Rattle.hotel_statements.proofs.whole_tables.read_two.Goals as goal
 
 pub returns-in_err-first : goal.returns-in_err-first
@@ -20,6 +20,5 @@ returns-in_err-second g c =
 
 pub returns : goal.returns
 returns g c =
-    both_read c.args.version _ _ _ _ (state g.S.Store c.args.conn.now) (state g.S.Store c.read_table.new.conn)
-    (state g.S.Store c.read_table-2.new.conn) c.in_ok-first.first c.in_ok-first.ensures _ c.in_ok-second.second
-    (c.in_ok-first.first, c.in_ok-second.second) (λ _ _. tt) (λ db one two. (one, two)) c.in_ok-second.ensures
+    pair_read c.args.version _ _ _ _ (state g.S.Store c.args.conn.now) (state g.S.Store c.read_table.new.conn)
+    (state g.S.Store c.read_table-2.new.conn) c.in_ok-first.first c.in_ok-first.ensures c.in_ok-second.second (λ _ _. tt) c.in_ok-second.ensures
