@@ -1,8 +1,7 @@
 //! Connections that are answered one after the other.
 
 ghost use Rattle.std.specs.Prelude.{◌≡◌, ◌∷◌, [], List, Result, Some, length};
-ghost use Rattle.keycard_rules.specs.Rise.{NoFewer};
-ghost use Rattle.hotel_core.specs.Model.Leads.{Leads};
+ghost use Rattle.hotel_core.specs.Books.Happens.{Happens};
 ghost use Rattle.hotel_lists.specs.Calls.{NoneForgotten};
 ghost use Rattle.hotel_http.specs.declared.serve.Served.{Served};
 ghost use Rattle.hotel_http.specs.declared.serve.ServeFault.{ServeFault};
@@ -53,9 +52,7 @@ fn serve_stream<I: Read, W: Write, B: Walks, R: Rng>(
     source: &mut R,
 ) -> Result<(), Fault>
     ensures ends { (end : Result Served ServeFault) × (result ≡ serve_end end)
-        × (B.is_clean books.new → Leads (B.rows books.old) (ServesAll (Some end ∷ []) (R.stream source.old) (R.stream source.new)) (B.rows books.new)) }
-    ensures was_clean { B.is_clean books.new → B.is_clean books.old }
-    ensures counted { NoFewer (B.failures books.old) (B.failures books.new) }
+        × Happens B.Issued B.rows books.old (ServesAll (Some end ∷ []) (R.stream source.old) (R.stream source.new)) books.new }
 {
     match routes {
         Some(routes) => {
@@ -79,9 +76,7 @@ fn serve_connection<B: Walks, R: Rng>(
     source: &mut R,
 ) -> Result<(), Fault>
     ensures ends { (end : ConnectionEnd) × (result ≡ connection_end end)
-        × (B.is_clean books.new → Leads (B.rows books.old) (ServesAll (end ∷ []) (R.stream source.old) (R.stream source.new)) (B.rows books.new)) }
-    ensures was_clean { B.is_clean books.new → B.is_clean books.old }
-    ensures counted { NoFewer (B.failures books.old) (B.failures books.new) }
+        × Happens B.Issued B.rows books.old (ServesAll (end ∷ []) (R.stream source.old) (R.stream source.new)) books.new }
 {
     let Ok((stream, _)) = listener.accept() else {
         return Err(Fault::Closed);
@@ -103,9 +98,7 @@ fn serve_and_tell<B: Walks, R: Rng, F: FaultSink>(
     calls: &mut IoCalls,
 )
     ensures ends { (end : ConnectionEnd) × TellsAll F.told faults.old (faults_of (end ∷ [])) faults.new
-        × (B.is_clean books.new → Leads (B.rows books.old) (ServesAll (end ∷ []) (R.stream source.old) (R.stream source.new)) (B.rows books.new)) }
-    ensures was_clean { B.is_clean books.new → B.is_clean books.old }
-    ensures counted { NoFewer (B.failures books.old) (B.failures books.new) }
+        × Happens B.Issued B.rows books.old (ServesAll (end ∷ []) (R.stream source.old) (R.stream source.new)) books.new }
     ensures calls { NoneForgotten calls.old calls.new }
 {
     if let Err(fault) = serve_connection(alloc, routes, listener, books, source) {
@@ -127,9 +120,7 @@ pub fn serve_connections<B: Walks, R: Rng, F: FaultSink>(
 ) -> u8
     ensures status { result ≡ 0 }
     ensures ends { (ends : List ConnectionEnd) × (length ends ≡ count) × TellsAll F.told faults.old (faults_of ends) faults.new
-        × (B.is_clean books.new → Leads (B.rows books.old) (ServesAll ends (R.stream source.old) (R.stream source.new)) (B.rows books.new)) }
-    ensures was_clean { B.is_clean books.new → B.is_clean books.old }
-    ensures counted { NoFewer (B.failures books.old) (B.failures books.new) }
+        × Happens B.Issued B.rows books.old (ServesAll ends (R.stream source.old) (R.stream source.new)) books.new }
 {
     let made = make_routes(alloc).ok();
     let routes = made.as_ref();

@@ -19,6 +19,7 @@ returns-in-Err-clause-ends g c =
         went = e.imported;
         no_file = e.no_file;
         was_clean = e.was_clean;
+        was_honest = e.was_honest;
         counted = e.counted;
         failed = e.failed;
       },
@@ -38,6 +39,7 @@ returns-in-Ok-write_answers-clause-ends g c =
         went = e.imported;
         no_file = tt;
         was_clean = e.was_clean;
+        was_honest = e.was_honest;
         counted = e.counted;
         failed = tt;
       },
@@ -57,6 +59,7 @@ returns-clause-ends g c =
         went = e.imported;
         no_file = tt;
         was_clean = e.was_clean;
+        was_honest = e.was_honest;
         counted = e.counted;
         failed = tt;
       },
