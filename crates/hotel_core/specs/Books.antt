@@ -6,3 +6,4 @@ pub mod Fits
 pub mod Failures
 pub mod Walks
 pub mod Happens
+pub mod Shut
