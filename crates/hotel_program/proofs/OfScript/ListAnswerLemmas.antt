@@ -143,3 +143,11 @@ cut_answered listing old new fault.NoRoom e p grown = cc e
 cut_answered listing old new fault.Memory e p grown = cc e
 cut_answered listing old new fault.Store e p grown = cc e
 cut_answered listing old new fault.Write e p grown = write_failed listing old new p grown
+
+pub when_ok : {T E : Type 0} (r : Result T E) (P Q : Type 0) → (P → Q) → OnOk r P → OnOk r Q
+when_ok (Ok t) P Q f p = f p
+when_ok (Err e) P Q f p = p
+
+pub when_err : {T E : Type 0} (r : Result T E) (P Q : Type 0) → (P → Q) → OnErr r P → OnErr r Q
+when_err (Ok t) P Q f p = p
+when_err (Err e) P Q f p = f p
