@@ -16,27 +16,23 @@ use Rattle.hotel_program.specs.declared.faults.Fault.TheVariants.{Closed, Read, 
 abbrev pub ConnectionEnd : Type 0
 ConnectionEnd = Option (Result Served ServeFault)
 
--- What came of connections: from a history and a source to those at the end, with the failures, and how the books answered.
-abbrev pub Coming : Type 1
-Coming = History → Stream → List Refusal → List Bool → History → Stream → Type 0
-
--- Nothing was begun.
-abbrev pub NothingCame : Coming
+-- Nothing was begun: there are no failures, and the books weren't asked.
+abbrev pub NothingCame : History → Stream → List Refusal → List Bool → History → Stream → Type 0
 NothingCame h s failed answered h' s' = (failed ≡ []) × (answered ≡ []) × (h' ≡ h) × (s' ≡ s)
 
--- What a request asks for came, whose answer has this in it.
-abbrev pub RequestCame : (Outcome → Type 0) → Coming
+-- What a request asks for came, with these failures; its answer has this in it, and says how the books answered.
+abbrev pub RequestCame : (Outcome → Type 0) → History → Stream → List Refusal → List Bool → History → Stream → Type 0
 RequestCame said h s failed answered h' s' = (wanted : Wanted) × (out : Outcome) × Comes wanted h s out failed h' s' × said out × (answered ≡ out.answered)
 
 -- What came of a connection that ended so.
-abbrev pub ConnectionCame : ConnectionEnd → Coming
+abbrev pub ConnectionCame : ConnectionEnd → History → Stream → List Refusal → List Bool → History → Stream → Type 0
 ConnectionCame (Some (Ok served)) = RequestCame (λ out. (served.status ≡ out.status) × (served.acted ≡ out.acted))
 ConnectionCame (Some (Err (serve.Write acted))) =
     λ h s failed answered h' s'. RequestCame (λ out. acted ≡ out.acted) h s failed answered h' s' ⊎ ((acted ≡ false) × NothingCame h s failed answered h' s')
 ConnectionCame _ = NothingCame
 
 -- What came of connections that ended so, one after the other.
-abbrev pub AllCame : List ConnectionEnd → Coming
+abbrev pub AllCame : List ConnectionEnd → History → Stream → List Refusal → List Bool → History → Stream → Type 0
 AllCame [] h s failed answered h' s' = NothingCame h s failed answered h' s'
 AllCame (end ∷ ends) h s failed answered h' s' =
     (mid : History) × (t : Stream) × (first more : List Refusal) × (given later : List Bool) × ConnectionCame end h s first given mid t × AllCame ends mid t more later h' s'

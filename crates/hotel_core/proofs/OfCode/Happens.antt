@@ -1,5 +1,6 @@
 -- What went over books, made of its parts.
-use Rattle.std.proofs.Common.{◌≡◌, Bool, true, false, not, List, [], ◌∷◌, ◌++◌, refl, sym, ap, subst, ⊤}
+use Rattle.std.proofs.Common.{◌≡◌, Bool, true, false, not, List, [], ◌∷◌, ◌++◌, refl, arith}
+use Rattle.std.specs.Prelude.{⊤}
 use Rattle.std.proofs.lemmas.Bool.{not-true}
 use Rattle.hotel_core.proofs.Names.{false≢true, Stream, NoFewer, LookFault, AreCounted, failure_in, is_failed, Steps, Command, Reply, Refusal, Rows, History, Reached, rows_of, Assured}
 use Rattle.hotel_core.proofs.{Invariants.Assurance.assured, OfCode.FailuresCounted.none_counted, OfCode.FailuresCounted.counted_join}

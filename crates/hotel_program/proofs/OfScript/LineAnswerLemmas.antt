@@ -29,7 +29,7 @@ use Rattle.hotel_asks.specs.declared.lists.ListAsk.{ListAsk}
 use Rattle.hotel_asks.proofs.ListingLemmas.{listing_stands}
 use Rattle.hotel_program.specs.Script.Copies.{counted_in}
 use Rattle.hotel_program.specs.Script.Asks.{AsksCopy}
-use Rattle.hotel_program.specs.Script.LineAnswers.{AskEnds, AskGoes, Sure, answered_to, unread_text}
+use Rattle.hotel_program.specs.Script.LineAnswers.{AskAnswered, AskEnds, AskGoes, Sure, answered_to, unread_text}
 use Rattle.hotel_program.specs.Script.ListAnswers.{refusal_text, tells_failure, AnswersList, ListAnswered}
 use Rattle.hotel_program.proofs.OfScript.CountedLemmas.{known_counted}
 use Rattle.hotel_program.proofs.OfScript.ListAnswerLemmas.{Whole, reply_sure, told_failed}
@@ -68,6 +68,20 @@ either : {C : Type 0} (b : Bool) → (b ≡ true → C) → (b ≡ false → C) 
 either true f g = f refl
 either false f g = g refl
 
+-- the answer to a list is cut short, and nothing happens
+pub list_cut : {S : Type 0} {I : IssuedOf S} {rows : S → Rows} {a b : S} (its_list : ListAsk) (s : Stream) (old new : Option (List ℕ))
+    → ((x : S) → I.is_clean x → I.is_honest x) → (I.is_clean b → I.is_clean a) → (I.is_honest b → I.is_honest a) → NoFewer (I.failures a) (I.failures b) → (I.is_clean b → rows b ≡ rows a)
+    → (I.is_honest b → ListAnswered (listing_on (rows a) its_list) (AppendsFront old new) (AreCounted (I.failures a) (I.failures b)))
+    → HappensBy I rows a (λ kept. AskAnswered (λ text. kept) (AppendsFront old new) (λ text. false ∷ []) (Some (ask.List its_list)) s s) b
+list_cut {I = I} {rows = rows} {a = a} {b = b} its_list s old new honest_is was_clean was_honest counted same front =
+    so_by (λ kept kept' told told' h h' back more w. (w.0, w.1, ask_weaker (λ text. kept) (λ text. kept') (Some (ask.List its_list)) h h' s s w.0 w.1 (λ text now. back now) w.2, w.3, more w.1 (false ∷ []) w.4))
+    honest_is was_clean was_honest counted
+    (λ honest h reached stands.
+        let it = front honest in
+        let answers : I.is_clean b → AnswersList (listing_over h its_list) it.0 it.1 = λ clean. subst (λ (l : Option Listing). AnswersList l it.0 it.1) (listing_stands h (rows a) its_list (reached, stands (was_clean clean))) it.2 in
+        let told = tells_once false (λ clean. it.4) (λ k. absurd (false≢true k)) was_clean in
+        (h, reached, (λ clean. same clean ∙ stands (was_clean clean)), (it.0, it.1, (answers, refl, refl), it.3, told), assured h reached))
+
 -- a list is answered, and nothing happens
 pub list_ends : {S : Type 0} {I : IssuedOf S} {rows : S → Rows} {a b : S} (its_list : ListAsk) (s : Stream) (old new : Option (List ℕ)) (written : Result (Unit {0}) WriteFailed)
     → ((x : S) → I.is_clean x → I.is_honest x) → (I.is_clean b → I.is_clean a) → (I.is_honest b → I.is_honest a) → NoFewer (I.failures a) (I.failures b) → (I.is_clean b → rows b ≡ rows a)
@@ -81,13 +95,7 @@ list_ends {I = I} {rows = rows} {a = a} {b = b} its_list s old new (Ok done) hon
         let answers : I.is_clean b → AnswersList (listing_over h its_list) it.0 it.1 = λ clean. subst (λ (l : Option Listing). AnswersList l it.0 it.1) (listing_stands h (rows a) its_list (reached, stands (was_clean clean))) it.2 in
         let told = tells_once (not (tells_failure it.0)) (λ clean. it.4) (λ k. it.3.1 (not-true (tells_failure it.0) k)) was_clean in
         (h, reached, (λ clean. same clean ∙ stands (was_clean clean)), (it.0, it.1, ((λ sure. answers (either (tells_failure it.0) sure it.3.1)), refl, refl), it.3.0, told), assured h reached))
-list_ends {I = I} {rows = rows} {a = a} {b = b} its_list s old new (Err cut) honest_is was_clean was_honest counted same whole front =
-    so_by (ends_weaker (Some (ask.List its_list)) s s old new (Err cut)) honest_is was_clean was_honest counted
-    (λ honest h reached stands.
-        let it = front honest in
-        let answers : I.is_clean b → AnswersList (listing_over h its_list) it.0 it.1 = λ clean. subst (λ (l : Option Listing). AnswersList l it.0 it.1) (listing_stands h (rows a) its_list (reached, stands (was_clean clean))) it.2 in
-        let told = tells_once false (λ clean. it.4) (λ k. absurd (false≢true k)) was_clean in
-        (h, reached, (λ clean. same clean ∙ stands (was_clean clean)), (it.0, it.1, (answers, refl, refl), it.3, told), assured h reached))
+list_ends its_list s old new (Err cut) honest_is was_clean was_honest counted same whole front = list_cut its_list s old new honest_is was_clean was_honest counted same front
 
 -- nothing was asked of the books, and nothing happens
 quiet_ends : {S : Type 0} {I : IssuedOf S} {rows : S → Rows} (a : S) (wanted : Option Ask) (s : Stream) (text : List ℕ) (old new : Option (List ℕ)) (written : Result (Unit {0}) WriteFailed)

@@ -6,5 +6,7 @@ use Rattle.hotel_program.specs.Connections.{ConnectionEnd, ServesAll, faults_of}
 use Rattle.hotel_program.proofs.connections.serve_connections.Given as goal
 
 abbrev pub invariant-loop : goal.invariant-loop
-invariant-loop g l = (ends : List ConnectionEnd) × (length ends ≡ l.counter) × TellsAll g.F.FaultSink.told l.initial.faults (faults_of ends) l.faults
-    × Happens g.B.Issued g.B.Books.rows l.initial.books (ServesAll ends (g.R.Rng.stream l.initial.source) (g.R.Rng.stream l.source)) l.books
+invariant-loop g l = record {
+  ends : (ends : List ConnectionEnd) × (length ends ≡ l.counter) × TellsAll g.F.FaultSink.told l.initial.faults (faults_of ends) l.faults
+      × Happens g.B.Issued g.B.Books.rows l.initial.books (ServesAll ends (g.R.Rng.stream l.initial.source) (g.R.Rng.stream l.source)) l.books;
+}

@@ -6,7 +6,7 @@ use Rattle.hotel_lists.specs.declared.fault.ListFault.{ListFault}
 use Rattle.hotel_program.specs.Script.ListAnswers.{refusal_text}
 use Rattle.hotel_lists.specs.Listings.{ListEnds}
 use Rattle.hotel_asks.specs.Listings.{listing_on}
-use Rattle.hotel_program.proofs.OfScript.LineAnswerLemmas.{list_ends}
+use Rattle.hotel_program.proofs.OfScript.LineAnswerLemmas.{list_cut, list_ends}
 use Rattle.hotel_program.proofs.OfScript.ListAnswerLemmas.{refused_whole, refused_cut, whole_answered, cut_answered, when_ok, when_err}
 use Rattle.hotel_program.proofs.script.list_answers.answer_list.Goals as goal
 
@@ -48,8 +48,7 @@ returns-in_default-told_refusal-clause-went g c = λ s.
     let new = g.W.Write.contents c.write_list.new.writer in
     let books = c.write_list.ensures.books in
     let none = sym c.told_refusal.ensures ∙ c.in_default-told_refusal.is in
-    list_ends c.args.list.now s old new (Err _) g.met.B.Issued.clean_honest books.was_clean books.was_honest books.counted (λ clean. g.met.B.Books.kept_rows _ _ (books.kept clean))
-    (λ honest. tt)
+    list_cut c.args.list.now s old new g.met.B.Issued.clean_honest books.was_clean books.was_honest books.counted (λ clean. g.met.B.Books.kept_rows _ _ (books.kept clean))
     (λ honest.
         let written = subst (λ (r : Result (Unit {0}) ListFault). ListEnds [] listing old new r) c.in-Err.is (c.write_list.ensures.text honest) in
         cut_answered listing old new _ none written books.counted)
