@@ -7,6 +7,8 @@ ghost use Rattle.keycard_rules.specs.Rise.{NoFewer};
 ghost use Rattle.hotel_core.specs.{Books.Failures.AreCounted, Books.Happens.Happens};
 ghost use Rattle.hotel_lists.specs.Calls.{NoneForgotten};
 ghost use Rattle.hotel_asks.specs.Listings.{listing_on};
+ghost use Rattle.hotel_lists.specs.Bytes.{ReadsWhile};
+ghost use Rattle.hotel_http.specs.Request.{WantsMore};
 ghost use Rattle.hotel_asks.specs.declared.asks.Ask.TheVariants as ask;
 ghost use Rattle.hotel_http.specs.{Body.interim_where, declared.serve.ServeFault.TheVariants.Read, declared.serve.ServeFault.TheVariants.Write};
 ghost use Rattle.hotel_http.specs.Serve.{rejected, replied, is_accepted, is_answered, taken_by, outcome, AskComes, FileComes, TaskComes, Comes, EndsAs, Answered, ended, IsListText, list_refusal, list_failures, text_in, Serves, IfUnwritten, serve_fault_of};
@@ -281,6 +283,7 @@ pub fn serve_by<I: Read, W: Write, B: Walks, R: Rng>(
     ensures was_clean { B.is_clean books.new → B.is_clean books.old }
     ensures was_honest { B.is_honest books.new → B.is_honest books.old }
     ensures counted { NoFewer (B.failures books.old) (B.failures books.new) }
+    ensures wanted { ReadsWhile WantsMore (I.remaining reader.old) (I.remaining reader.new) }
     ensures read_failed { IsErrOf result Read → calls.new.read_failed ≡ true }
     ensures write_failed { IfUnwritten result (calls.new.write_failed ≡ true) }
     ensures calls { NoneForgotten calls.old calls.new }
@@ -297,6 +300,7 @@ pub fn serve_by<I: Read, W: Write, B: Walks, R: Rng>(
 /// The body is read whole before a command or an import begins. All memory but theirs is taken before it; their answers are written from
 /// buffers of fixed size, and a list's text is made whole before its answer begins. The interrupted reads and writes of the call are
 /// counted together; the thousandth is a fault. The writer is not flushed.
+#[tactic(auto, using(crate::proofs::RequestLemmas::none_read))]
 pub fn serve_one<I: Read, W: Write, B: Walks, R: Rng>(
     alloc: Global,
     reader: &mut I,
@@ -310,6 +314,7 @@ pub fn serve_one<I: Read, W: Write, B: Walks, R: Rng>(
     ensures was_clean { B.is_clean books.new → B.is_clean books.old }
     ensures was_honest { B.is_honest books.new → B.is_honest books.old }
     ensures counted { NoFewer (B.failures books.old) (B.failures books.new) }
+    ensures wanted { ReadsWhile WantsMore (I.remaining reader.old) (I.remaining reader.new) }
 {
     let Ok(routes) = make_routes(alloc) else {
         return Err(ServeFault::Memory);

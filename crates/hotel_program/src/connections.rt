@@ -10,23 +10,15 @@ ghost use Rattle.hotel_program.specs.Connections.{ConnectionEnd, ServesAll, conn
 
 use crate::faults::{Fault, FaultSink};
 use crate::statuses::DONE;
+use crate::timed::{TimedReader, TimedWriter, has_limits};
 use hotel_core::Walks;
 use hotel_http::{Routes, ServeFault, Served, make_routes, serve_by, serve_one};
 use hotel_lists::IoCalls;
 use rand_core::Rng;
 use std::alloc::Global;
 use std::io::{Read, Write};
-use std::net::{TcpListener, TcpStream};
-use std::time::Duration;
-
-/// How many seconds a read or a write of a connection may take.
-const PATIENCE: u64 = 10;
-
-/// Sets how long a read and a write of the connection may take: whether the system took both limits.
-fn has_limits(stream: &TcpStream) -> bool {
-    let limit = Some(Duration::from_secs(PATIENCE));
-    stream.set_read_timeout(limit).is_ok() && stream.set_write_timeout(limit).is_ok()
-}
+use std::net::TcpListener;
+use std::time::Clock;
 
 /// The fault of a request that was served so.
 fn serve_end(end: Result<Served, ServeFault>) -> Result<(), Fault>
@@ -68,10 +60,11 @@ fn serve_stream<I: Read, W: Write, B: Walks, R: Rng>(
 }
 
 /// Takes a connection and answers its request.
-fn serve_connection<B: Walks, R: Rng>(
+fn serve_connection<B: Walks, R: Rng, C: Clock>(
     alloc: Global,
     routes: Option<&Routes>,
     listener: &TcpListener,
+    clock: &C,
     books: &mut B,
     source: &mut R,
 ) -> Result<(), Fault>
@@ -84,14 +77,17 @@ fn serve_connection<B: Walks, R: Rng>(
     if !has_limits(&stream) {
         return Err(Fault::Closed);
     }
-    serve_stream(alloc, routes, &mut &stream, &mut &stream, books, source)
+    let mut reader = TimedReader::new(&stream, clock);
+    let mut writer = TimedWriter::new(&stream, clock);
+    serve_stream(alloc, routes, &mut reader, &mut writer, books, source)
 }
 
 /// Takes a connection, answers its request, and tells the fault that came instead.
-fn serve_and_tell<B: Walks, R: Rng, F: FaultSink>(
+fn serve_and_tell<B: Walks, R: Rng, F: FaultSink, C: Clock>(
     alloc: Global,
     routes: Option<&Routes>,
     listener: &TcpListener,
+    clock: &C,
     books: &mut B,
     source: &mut R,
     faults: &mut F,
@@ -101,18 +97,19 @@ fn serve_and_tell<B: Walks, R: Rng, F: FaultSink>(
         × Happens B.Issued B.rows books.old (ServesAll (end ∷ []) (R.stream source.old) (R.stream source.new)) books.new }
     ensures calls { NoneForgotten calls.old calls.new }
 {
-    if let Err(fault) = serve_connection(alloc, routes, listener, books, source) {
+    if let Err(fault) = serve_connection(alloc, routes, listener, clock, books, source) {
         faults.tell(&fault, calls);
     }
 }
 
 /// Takes so many connections, one after the other, and answers the request of each. A connection that
-/// fails is told as a fault, and the next one is taken. A peer that sends or takes nothing for ten
-/// seconds is given up. The table of routes is made once, before the first connection; where memory for
+/// fails is told as a fault, and the next one is taken. A connection has ten seconds in all for its
+/// request's bytes and ten for its answer's, whatever pieces come in; then its peer is given up. The table of routes is made once, before the first connection; where memory for
 /// it was wanting, each request makes its own. It answers 0.
-pub fn serve_connections<B: Walks, R: Rng, F: FaultSink>(
+pub fn serve_connections<B: Walks, R: Rng, F: FaultSink, C: Clock>(
     alloc: Global,
     listener: &TcpListener,
+    clock: &C,
     count: u32,
     books: &mut B,
     source: &mut R,
@@ -126,7 +123,9 @@ pub fn serve_connections<B: Walks, R: Rng, F: FaultSink>(
     let routes = made.as_ref();
     let mut calls = IoCalls::none();
     for _ in 0..count {
-        serve_and_tell(alloc, routes, listener, books, source, faults, &mut calls);
+        serve_and_tell(
+            alloc, routes, listener, clock, books, source, faults, &mut calls,
+        );
     }
     DONE
 }
