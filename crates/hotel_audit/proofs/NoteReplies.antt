@@ -29,9 +29,7 @@ answered_sure (reply.Refused why) answer e = by (is_failed (reply.Refused why)) 
     by : (b : Bool) → is_failed (reply.Refused why) ≡ b → is_failed (reply.Refused why) ≡ false
     by true q = let f = rw q at e in cc f
     by false q = q
-answered_sure reply.Taken answer e = refl
-answered_sure reply.Seen answer e = refl
-answered_sure _ answer e = cc e
+answered_sure _ answer e = refl
 
 -- a reply that a note may be given and that is no answer says that memory or the store failed
 pub failed_reply : (given : Reply) (why : LookFault) → Err why ≡ answer_of given → IsNoteReply given → is_failed given ≡ true
