@@ -1,11 +1,11 @@
 -- A request that is read in pieces is what the whole input asks for.
-use Rattle.std.proofs.Common.{◌≡◌, ℕ, ◌≤◌, ◌<◌, List, [], ◌++◌, append_assoc, length, take, drop, refl, sym, ap, ◌∙◌, subst, inl, inr, Option, Some, None, IfSome, Result, Ok, Err}
+use Rattle.std.proofs.Common.{◌≡◌, ℕ, ◌≤◌, ◌<◌, List, [], ◌++◌, append_assoc, arith, length, take, drop, refl, sym, ap, ◌∙◌, subst, inl, inr, Option, Some, None, IfSome, Result, Ok, Err}
 use Rattle.std.specs.Io.KnownBytes.{Consumes, Appends}
 use Rattle.std.proofs.KnownBytes.{Appends-nil, Consumes-kept, Consumes-nil, Consumes-trans}
 use Rattle.std.proofs.lemmas.List.{drop-append-le}
 use Rattle.httparse.specs.{Grammar.RequestHead, Spans.IsRequestAt, Spans.IsRequestOf, Spans.IsRequestWithin, declared.spans.HeaderSpan.HeaderSpan, declared.spans.RequestSpans.RequestSpans}
-use Rattle.hotel_lists.specs.Bytes.{ReadsWhile}
-use Rattle.hotel_lists.proofs.BytesLemmas.{reads_while}
+use Rattle.hotel_http.specs.Reads.{ReadsWhile}
+use Rattle.hotel_http.proofs.ReadLemmas.{reads_while}
 use Rattle.hotel_http.specs.{Body.ReadsBody, Body.interim_where, Head.BeginsWith, Head.IsJudged, Head.WantsHead, Head.most_bytes, Head.most_fields, Plan.plan_in, Plan.path_of}
 use Rattle.hotel_http.specs.Request.{Wanted, IsMeant, IsAsked, awaits, wanted_of, EndsBody, EndsHead, EndsRequest, ReadsBehind, WantsBody, WantsMore}
 use Rattle.hotel_http.proofs.HeadLemmas.{begins}
@@ -91,7 +91,7 @@ request_ends (Some input) (Some left) old new items front headers spans result t
 
 -- nothing was read
 pub none_read : (known : Option (List ℕ)) → ReadsWhile WantsMore known known
-none_read known = ([], [], tt, Consumes-nil known, inl (inl refl))
+none_read known = ([], [], omega arith, Consumes-nil known, inl (inl refl))
 
 -- a head alone was read
 pub head_read : (known mid : Option (List ℕ)) → ReadsWhile WantsHead known mid → ReadsWhile WantsMore known mid

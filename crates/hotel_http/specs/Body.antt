@@ -1,7 +1,7 @@
 -- The body of a request, and the interim answer before it.
 use Rattle.std.specs.Prelude.{◌≡◌, ◌<◌, ◌⊎◌, ◌++◌, ℕ, Bool, List, [], length, take, nat_lt, codes, if◌then◌else◌, Option}
 use Rattle.std.specs.Io.KnownBytes.{Keeps}
-use Rattle.hotel_lists.specs.Bytes.{ReadsWhile}
+use Rattle.hotel_http.specs.Reads.{ReadsWhile}
 
 -- These bytes are as good as all that follow the head: as many as are wanted are the same, or too few came.
 pub record HoldsBody (all : List ℕ) (size : ℕ) (body : List ℕ) : Type 0 where

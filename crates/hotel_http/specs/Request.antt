@@ -1,8 +1,9 @@
 -- What a request asks for. All is said of the whole input, and nothing of the pieces in which it came.
 use Rattle.std.specs.Prelude.{◌≡◌, ◌<◌, ◌⊎◌, ℕ, Bool, true, false, List, [], ◌++◌, length, take, drop, if◌then◌else◌, nat_lt, Option, Some, None, IfSome, Result, Ok, Err}
 use Rattle.std.specs.Io.KnownBytes.{Appends, Keeps}
+use Rattle.hotel_http.specs.Reads.{ReadsWhile}
 use Rattle.httparse.specs.Grammar.{RequestHead}
-use Rattle.hotel_lists.specs.{Bytes.AppendsFront, Bytes.ReadsWhile, declared.bytes.ReadFault.ReadFault}
+use Rattle.hotel_lists.specs.{Bytes.AppendsFront, declared.bytes.ReadFault.ReadFault}
 use Rattle.hotel_lists.specs.declared.bytes.ReadFault.TheVariants as more
 use Rattle.hotel_http.specs.{declared.plan.Plan.Plan, declared.rejection.Rejection.Rejection, declared.requests.Request.Request, declared.requests.RequestFault.RequestFault}
 use Rattle.hotel_http.specs.declared.rejection.Rejection.TheVariants as rejection

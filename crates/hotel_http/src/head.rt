@@ -2,7 +2,8 @@
 
 ghost use Rattle.std.specs.Prelude.{◌≡◌, ◌≢◌, ◌<◌, ◌≤◌, ℕ, List, [], ◌++◌, take, length, IfOk, OnOk, IfSome, IsErrOf, true};
 ghost use Rattle.std.specs.Io.KnownBytes.{Consumes};
-ghost use Rattle.hotel_lists.specs.{Bytes.ReadsWhile, Calls.NoneForgotten, declared.bytes.ReadFault.TheVariants.Read};
+ghost use Rattle.hotel_http.specs.Reads.{ReadsWhile};
+ghost use Rattle.hotel_lists.specs.{Calls.NoneForgotten, declared.bytes.ReadFault.TheVariants.Read};
 ghost use Rattle.httparse.specs.{Grammar.HasNoRequest, Grammar.MayBecomeRequest, declared.spans.HeaderSpan.HeaderSpan};
 ghost use Rattle.hotel_http.specs.Head.{IsParsed, IsJudged, IsUnended, LiesWithin, IsOpen, WantsHead};
 

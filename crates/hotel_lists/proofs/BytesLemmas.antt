@@ -5,9 +5,9 @@ use Rattle.std.proofs.lemmas.List.Concat.{flat_map-append}
 use Rattle.std.proofs.Math.Seq.{take-append-add}
 use Rattle.std.specs.Prelude.{Result, Ok, Err, OnErr}
 use Rattle.std.specs.Borrow.{Bor}
-use Rattle.hotel_lists.specs.Bytes.{AppendsFront, ConsumesAtMost, ReadsOnto, ReadsWhile, joined}
-use Rattle.std.specs.Io.KnownBytes.{Appends, Consumes}
-use Rattle.std.proofs.KnownBytes.{Appends-trans, Consumes-trans}
+use Rattle.hotel_lists.specs.Bytes.{AppendsFront, joined}
+use Rattle.std.specs.Io.KnownBytes.{Appends}
+use Rattle.std.proofs.KnownBytes.{Appends-trans}
 use lib.Seq.{take-add}
 
 -- first the front of a text, then more of it
@@ -40,16 +40,3 @@ parts_front a b c parts i d h first next =
     let whole : joined parts ≡ (joined (take i parts) ++ (get_or parts i d).now) ++ rest =
     ap joined (sym (take-append-drop (i + 1) parts)) ∙ flat_map-append (λ (p : Bor (List ℕ)). p.now) (take (i + 1) parts) (drop (i + 1) parts) ∙ ap (λ l. l ++ rest) more in
     subst (AppendsFront a c) (sym whole) (front_next a b c (joined (take i parts)) (get_or parts i d).now rest first next)
-
--- one more piece, which was lost
-pub then_lost : (wants : List ℕ → Type 0) (a b c : Option (List ℕ)) (before : List ℕ) → Consumes a b before → wants before → ConsumesAtMost 4096 b c → ReadsWhile wants a c
-then_lost wants a b c before taken wanted (last, most, next) = (before, last, most, Consumes-trans a b c before last taken next, wanted)
-
--- one more piece, which was put behind other bytes
-pub then_read : (wants : List ℕ → Type 0) (a b c : Option (List ℕ)) (before was grown : List ℕ) (n : ℕ) → Consumes a b before → wants before → ReadsOnto b c was grown n → n ≤ 4096 → ReadsWhile wants a c
-then_read wants a b c before was grown n taken wanted (last, long, next, added) most =
-    then_lost wants a b c before taken wanted (last, subst (λ (k : ℕ). k ≤ 4096) (sym long) most, next)
-
--- what wants more by one test does by another
-pub reads_while : (P Q : List ℕ → Type 0) (a b : Option (List ℕ)) → ((l : List ℕ) → P l → Q l) → ReadsWhile P a b → ReadsWhile Q a b
-reads_while P Q a b f (before, last, most, taken, wanted) = (before, last, most, taken, f before wanted)

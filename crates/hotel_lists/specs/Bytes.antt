@@ -15,10 +15,6 @@ AppendsFront old new bytes = (n : ℕ) × (n ≤ length bytes) × Appends old ne
 abbrev pub ConsumesAtMost : ℕ → Option (List ℕ) → Option (List ℕ) → Type 0
 ConsumesAtMost most old new = (bytes : List ℕ) × (length bytes ≤ most) × Consumes old new bytes
 
--- A reader lost bytes at its front, and more of them only while this held of those that had come: at most the last 4,096 came behind such bytes.
-abbrev pub ReadsWhile : (List ℕ → Type 0) → Option (List ℕ) → Option (List ℕ) → Type 0
-ReadsWhile wants old new = (before : List ℕ) × (last : List ℕ) × (length last ≤ 4096) × Consumes old new (before ++ last) × wants before
-
 -- A reader lost n bytes at its front, and they were put behind the bytes that were there.
 abbrev pub ReadsOnto : Option (List ℕ) → Option (List ℕ) → List ℕ → List ℕ → ℕ → Type 0
 ReadsOnto old new before after n = (bytes : List ℕ) × (length bytes ≡ n) × Consumes old new bytes × (after ≡ before ++ bytes)

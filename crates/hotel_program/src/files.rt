@@ -1,7 +1,7 @@
 //! What the program reads of files itself: a seed, and an audit file.
 
 ghost use Rattle.std.specs.Prelude.{◌≡◌, ◌<◌, ◌≤◌, ◌+◌, length, take, Err, IfOk, IfErr, IfSome};
-ghost use Rattle.hotel_lists.specs.Bytes.{ReadsWhile};
+ghost use Rattle.hotel_http.specs.Reads.{ReadsWhile};
 ghost use Rattle.hotel_program.specs.Faults.{IsOfFiles};
 ghost use Rattle.hotel_program.specs.Files.{IsFront, read_fault};
 ghost use Rattle.hotel_program.specs.declared.faults.Fault.TheVariants.{Seed};

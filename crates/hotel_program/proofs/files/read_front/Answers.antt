@@ -1,7 +1,7 @@
 use Rattle.std.proofs.Common.{◌≡◌, ◌∙◌, ◌≤◌, ◌+◌, length, length-append, arith, ap, sym, subst}
 use Rattle.std.specs.Io.KnownBytes.{Consumes}
 use Rattle.std.proofs.KnownBytes.{Consumes-trans}
-use Rattle.hotel_lists.proofs.BytesLemmas.{then_read}
+use Rattle.hotel_http.proofs.ReadLemmas.{then_read}
 use Rattle.hotel_program.proofs.files.read_front.Goals as goal
 
 pub loop-calls-preserved : goal.loop-calls-preserved

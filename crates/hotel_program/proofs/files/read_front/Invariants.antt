@@ -1,7 +1,7 @@
 -- the bytes so far are what was consumed
 use Rattle.std.proofs.Common.{◌+◌, ◌-◌, ◌≤◌, length, vec_len}
 use Rattle.std.specs.Io.KnownBytes.{Consumes}
-use Rattle.hotel_lists.specs.Bytes.{ReadsWhile}
+use Rattle.hotel_http.specs.Reads.{ReadsWhile}
 use Rattle.hotel_program.proofs.files.read_front.Given as goal
 
 abbrev pub invariant-loop-calls : goal.invariant-loop-calls
