@@ -411,7 +411,7 @@ opens_to old new t result reads ok err = record {
   keeps = reads.keeps;
   found = λ kept. ok old.now.trees (reads.says kept);
   fault = λ kept. err old.now.trees (reads.says kept);
-  open_on = λ kept clean. told result (reads.open_on kept clean);
+  open_on = λ kept clean. told result (reads.open_on tt clean);
   crash = reads.crash;
 }
 
