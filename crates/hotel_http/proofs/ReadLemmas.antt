@@ -1,5 +1,5 @@
 -- One more piece was read.
-use Rattle.std.proofs.Common.{ℕ, ◌≤◌, List, length, sym, subst, Option}
+use Rattle.std.proofs.Common.{ℕ, ◌≤◌, List, sym, subst, Option}
 use Rattle.std.specs.Io.KnownBytes.{Consumes}
 use Rattle.std.proofs.KnownBytes.{Consumes-trans}
 use Rattle.hotel_lists.specs.Bytes.{ConsumesAtMost, ReadsOnto}
