@@ -104,8 +104,9 @@ fn serve_and_tell<B: Walks, R: Rng, F: FaultSink, C: Clock>(
 
 /// Takes so many connections, one after the other, and answers the request of each. A connection that
 /// fails is told as a fault, and the next one is taken. A connection has ten seconds in all for its
-/// request's bytes and ten for its answer's, whatever pieces come in; then its peer is given up. The table of routes is made once, before the first connection; where memory for
-/// it was wanting, each request makes its own. It answers 0.
+/// request's bytes and ten for its answer's, whatever pieces come in; then its peer is given up. The
+/// table of routes is made once, before the first connection; where memory for it was wanting, each
+/// request makes its own. It answers 0.
 pub fn serve_connections<B: Walks, R: Rng, F: FaultSink, C: Clock>(
     alloc: Global,
     listener: &TcpListener,
