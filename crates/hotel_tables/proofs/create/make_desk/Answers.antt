@@ -1,6 +1,6 @@
-use Rattle.std.proofs.Common.{OnOk, Ok, Err, Result, IsTrue, inl, inr, ap, not, refl, sym, subst, ◌∙◌, rules}
+use Rattle.std.proofs.Common.{◌≡◌, OnOk, OnErr, Result, IsTrue, ap, not, sym, subst, ◌∙◌, rules}
 use Rattle.std.specs.Prelude.{IfErr}
-use Rattle.std.proofs.lemmas.Result.{on_ok_weaker, IfErr-weaker}
+use Rattle.std.proofs.lemmas.Result.{on_ok_weaker}
 use Rattle.sqlite.specs.Held.{state}
 use Rattle.sqlite.specs.State.{State, HasCleanDisk, Survives}
 use Rattle.sqlite.specs.declared.error.Error.{Error}
@@ -25,19 +25,53 @@ returns-in_err-write_desk-clause-crash g c =
     search (rules, survives_weaker _ _ (λ _. ⊥) IsEmptyDesk (λ _ _ none. absurd none) (none_then all c.drop-tx-in_err-write_desk.ensures.survives))
 
 pub returns-in_err-write_desk-clause-same : goal.returns-in_err-write_desk-clause-same
-returns-in_err-write_desk-clause-same g c = ?same
+returns-in_err-write_desk-clause-same g c =
+    let old = state g.S.Store c.args.conn.now in
+    let settled : IsTrue old.is_open → old.now ≡ old.committed =
+    c.is_autocommit-settled.ensures.settled (c.is_autocommit-settled.ensures.value ∙ ap not c.requires.alone) in
+    search (rules, undone old (state g.S.Store c.transaction-tx.result.conn.now) (state g.S.Store c.write_desk.new.tx.conn.now) _ _
+    (ap (state g.S.Store) c.transaction-tx.ensures.begun) settled c.write_desk.ensures.kept
+    c.drop-tx-in_err-write_desk.ensures.survives c.drop-tx-in_err-write_desk.ensures.undone)
 
 pub returns-in_err-write_desk-clause-failed : goal.returns-in_err-write_desk-clause-failed
-returns-in_err-write_desk-clause-failed g c = ?failed
+returns-in_err-write_desk-clause-failed g c =
+    let is = answered c.from_residual-in_err-write_desk.result c.from_residual-in_err-write_desk.ensures.1 in
+    subst (λ (r : Result (Unit {0}) Error). IfErr r (FailsToMake g.S.Store c.args.conn.now _)) (sym is)
+    (not_made g.S.Store c.args.conn.now c.transaction-tx.result.conn.now c.write_desk.new.tx.conn.now _
+    c.transaction-tx.ensures.begun _ c.in_err-write_desk.ensures.answers)
 
 pub returns-clause-made : goal.returns-clause-made
-returns-clause-made g c = ?made
+returns-clause-made g c =
+    let old = state g.S.Store c.args.conn.now in
+    let new = state g.S.Store c.commit.new.self.0 in
+    let made : HasCleanDisk new → OnOk c.commit.result (IsEmptyDesk new.now.trees) =
+    desk_made old (state g.S.Store c.transaction-tx.result.conn.now) (state g.S.Store c.write_desk.new.tx.conn.now) new _
+    (ap (state g.S.Store) c.transaction-tx.ensures.begun) c.requires.bare c.in_ok-write_desk.ensures.made
+    c.commit.ensures.survives c.commit.result c.commit.ensures.ok in
+    search (rules, λ (kept : IsKept new). made kept.0)
 
 pub returns-clause-open_on : goal.returns-clause-open_on
-returns-clause-open_on g c = ?open_on
+returns-clause-open_on g c =
+    let new = state g.S.Store c.commit.new.self.0 in
+    let open_on : HasCleanDisk new → OnOk c.commit.result (IsTrue new.is_open) = λ clean.
+    on_ok_weaker c.commit.result (λ did. did.1.is_open) (c.commit.ensures.ok clean) in
+    search (rules, open_on)
 
 pub returns-clause-same : goal.returns-clause-same
-returns-clause-same g c = ?same2
+returns-clause-same g c =
+    let old = state g.S.Store c.args.conn.now in
+    let new = state g.S.Store c.commit.new.self.0 in
+    let settled : IsTrue old.is_open → old.now ≡ old.committed =
+    c.is_autocommit-settled.ensures.settled (c.is_autocommit-settled.ensures.value ∙ ap not c.requires.alone) in
+    let same : IsKept new → OnErr c.commit.result (new.now ≡ old.now) =
+    commit_undone old (state g.S.Store c.transaction-tx.result.conn.now) (state g.S.Store c.write_desk.new.tx.conn.now) new _
+    (ap (state g.S.Store) c.transaction-tx.ensures.begun) c.requires.bare c.in_ok-write_desk.ensures.made
+    c.commit.ensures.survives c.commit.result settled c.write_desk.ensures.kept c.commit.ensures.err in
+    search (rules, same)
 
 pub returns-clause-failed : goal.returns-clause-failed
-returns-clause-failed g c = ?failed2
+returns-clause-failed g c =
+    let failed : IfErr c.commit.result (FailsToMake g.S.Store c.args.conn.now c.commit.new.self.0) =
+    not_committed g.S.Store c.args.conn.now c.transaction-tx.result.conn.now c.write_desk.new.tx.conn.now c.commit.new.self.0
+    c.transaction-tx.ensures.begun tt c.commit.result c.in_ok-write_desk.ensures.answers c.commit.ensures.err in
+    search (rules, failed)

@@ -18,6 +18,10 @@ returns-clause-made g c = λ clean.
     let b2 : IsBare desk_schema s2 = c.in_ok-make_last.ensures.made k2 (λ _. b1) in
     made (λ _. b2)) (c.enter_meta.ensures.made clean)
 
+pub returns-in_err-make_first-clause-answers : goal.returns-in_err-make_first-clause-answers
+returns-in_err-make_first-clause-answers g c =
+    runs_stopped _ c.from_residual.result (answered _ c.from_residual.ensures.1) c.in_err-make_first.ensures.answers
+
 pub returns-in_err-make_last-clause-answers : goal.returns-in_err-make_last-clause-answers
 returns-in_err-make_last-clause-answers g c =
     runs_stopped _ c.from_residual-in_err-make_last.result (answered _ c.from_residual-in_err-make_last.ensures.1)
