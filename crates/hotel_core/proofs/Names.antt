@@ -25,7 +25,7 @@ pub use Rattle.hotel_core.specs.Model.Ranges.{InRange, IsCommand, IsReply}
 pub use Rattle.hotel_core.specs.Model.Refits.{fit_row, fits, fits_used_up, is_fit, next_fit, notes_before, present_fit}
 pub use Rattle.hotel_core.specs.Model.Rows.{Rows, at_number, begins_fit, codes_at, codes_by_place, first_of, fit_at, fits_at, has_kind, last_fit, last_link_of, link_of_last_card, lock_place_of, newest_link_at, notes_at, or_else}
 pub use Rattle.hotel_core.specs.Model.RowsOf.{room_row, rows_of}
-pub use Rattle.hotel_core.specs.Model.Run.{Ran, Reached, Runs, StandsFor, Steps, StepsIf, answered, is_failed, run_on}
+pub use Rattle.hotel_core.specs.Model.Run.{Ran, Reached, Runs, StandsFor, Steps, StepsIf, answered, any_answered, is_failed, last_answered, run_on}
 pub use Rattle.hotel_core.specs.Model.Sound.{IsSound, keys_in_order, passes_rules}
 pub use Rattle.hotel_core.specs.Model.SoundCards.{are_neighbours, card_numbers, card_parties_there, code_is, code_rooms_there, codes_in_range, codes_listed, each_card, fits_without_links, has_newest, is_new_code, is_newest, last_cards_newest, links_are_neighbours, links_of_one_party, neighbours_are_links, newest_of_party, owns_newest, places_once, stands_at}
 pub use Rattle.hotel_core.specs.Model.SoundFits.{each_fitted, first_fits, first_is_first, fit_notes_few, fit_notes_rise, fit_numbers, fit_places_rise, fit_rooms_there, last_fits_held, last_fits_noted, none_fall, notes_before_each, rise_by_few, rows_of_last_fits}

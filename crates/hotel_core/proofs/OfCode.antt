@@ -6,6 +6,9 @@ pub mod Parts
 pub mod DrawParts
 pub mod FailuresCounted
 pub mod Happened
+pub mod LeadsOn
+pub mod ShutBooks
+pub mod RepliesAnswered
 pub mod Walking
 pub mod AnswerParts
 pub mod HandedOn

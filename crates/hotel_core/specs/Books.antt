@@ -5,3 +5,4 @@ pub mod Change
 pub mod Fits
 pub mod Failures
 pub mod Walks
+pub mod Shut

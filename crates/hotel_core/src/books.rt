@@ -1,9 +1,9 @@
 //! The books of the desk, however they are kept.
-ghost use Rattle.std.specs.Prelude.{◌≡◌, ◌-◌, List, Option, Some, None, Bool, true, false, OnOk, OnErr, IfErr, IsOk, Err, length, not};
-ghost use Rattle.keycard_rules.specs.{Rise.HasRisen, Rise.NoFewer, declared.issued.LookFault.TheVariants.Memory};
+ghost use Rattle.std.specs.Prelude.{◌≡◌, ◌-◌, List, Option, Some, None, Bool, true, false, OnOk, OnErr, IfErr, IsOk, Result, Err, length, not};
+ghost use Rattle.keycard_rules.specs.{Rise.HasRisen, Rise.NoFewer, declared.issued.LookFault.LookFault, declared.issued.LookFault.TheVariants.Memory};
 ghost use Rattle.hotel_core.specs.{Model.Words.is_one_of, Model.Rows.Rows, Model.Rows.has_kind, Model.Rows.fit_at, Model.Guests.are_none, Books.Reads.LooksUp, Books.Change.made};
 ghost use Rattle.hotel_core.specs.Books.Lookups.{room_at, codes_in, code_place, code_at, stay_at, stays_of_kind, card_at, inside_at, note_at, rooms_of_kind, first_full_on, number_after};
-ghost use Rattle.hotel_core.specs.{Books.Fits.Fits, Books.Fits.takes_memory, Model.Sound.IsSound};
+ghost use Rattle.hotel_core.specs.{Books.Fits.Fits, Books.Fits.takes_memory, Model.Sound.IsSound, declared.books.change.Change.Change};
 
 pub mod change;
 pub mod list_rows;
@@ -19,9 +19,10 @@ use keycard_rules::{
 
 /// The books of the desk: nine tables, each seen as the list of its rows in the order of their keys.
 ///
-/// A look-up changes nothing but the counts of failures. Each clause stands where the test of the state holds as the
-/// call ends, and then it held as the call began. What is answered for want of memory or by the store's failure is
-/// counted, each by its cause.
+/// A look-up changes nothing but the counts of failures. What is answered is so where the test of the state holds as
+/// the call ends, and then it held as the call began; where the state is honest as the call ends, an answer that is no
+/// fault says that the test holds. What is answered for want of memory or by the store's failure is counted, each by
+/// its cause.
 pub trait Books: Issued {
     /// The rows of the nine tables.
     ghost rows: { Self → Rows };

@@ -1,7 +1,9 @@
 //! Laws of the model, which make no call: what a caller may rest on beside the contracts of the calls.
 ghost use Rattle.hotel_core.specs.{Model.Headline.Assured, Model.History.History};
 ghost use Rattle.hotel_core.specs.{Model.Laws.RunsAgree, Model.Laws.RunsCompute, Model.Laws.RunsJoin, Model.Laws.RunsReach, Model.Laws.StartsStand, Model.Run.Reached};
-ghost use Rattle.hotel_core.specs.{Model.Sound.RulesAreTested, Refinement.Lift.AnswersLift, Refinement.Lift.ChangesFit, Refinement.ListsLift.ListsLift};
+ghost use Rattle.hotel_core.specs.{Books.Shut.FindsNothing, Books.Shut.ChangesNothing, Books.Shut.RepliesNothing, Model.Sound.RulesAreTested, Refinement.Lift.AnswersLift, Refinement.Lift.ChangesFit, Refinement.ListsLift.ListsLift};
+
+use crate::books::Books;
 
 /// The headline, and what is assured beside it, hold of each history that can be reached.
 pub fn assured()
@@ -41,4 +43,12 @@ pub fn rules_are_tested()
 /// Sound rows stand for a history.
 pub fn starts_stand()
     ensures { StartsStand }
+{}
+
+/// Books that were not clean as a call began answer nothing but `Memory` or `Store`, where nobody else wrote what they
+/// are kept in. The clauses `vouched` and `was_clean` of each call say so.
+pub fn shut_answers_nothing<B: Books, A, R>()
+    ensures look_up { FindsNothing B.Issued A R }
+    ensures change { ChangesNothing B.Issued }
+    ensures reply { RepliesNothing B.Issued }
 {}

@@ -1,7 +1,7 @@
 //! Commands one after the other, over any books.
-ghost use Rattle.std.specs.Prelude.{◌≡◌, IfOk, IfErr};
+ghost use Rattle.std.specs.Prelude.{◌≡◌, true, IfOk, IfErr};
 ghost use Rattle.keycard_rules.specs.Rise.{NoFewer};
-ghost use Rattle.hotel_core.specs.{Books.Failures.AreCounted, Books.Failures.failures_in, Model.Leads.Leads, Model.Leads.LeadsOn, Model.Run.Runs};
+ghost use Rattle.hotel_core.specs.{Books.Failures.AreCounted, Books.Failures.failures_in, Model.Leads.Leads, Model.Leads.LeadsOn, Model.Run.Runs, Model.Run.any_answered, Model.Run.last_answered};
 
 use crate::books::Books;
 use crate::command::Command;
@@ -33,6 +33,10 @@ pub fn run<B: Books, R: Rng>(
     ensures happened { IfOk result (λ replies. B.is_honest books.new → LeadsOn (B.is_clean books.old) (B.rows books.old)
         (λ h h'. Runs h (R.stream source.old) commands.now replies.items h' (R.stream source.new))
         (B.is_clean books.new) (B.rows books.new)) }
+    ensures vouched { IfOk result (λ replies. B.is_honest books.new →
+        any_answered replies.items ≡ true → B.is_clean books.old) }
+    ensures vouched_last { IfOk result (λ replies. B.is_honest books.new →
+        last_answered replies.items ≡ true → B.is_clean books.new) }
     ensures was_honest { B.is_honest books.new → B.is_honest books.old }
     ensures was_clean { B.is_clean books.new → B.is_clean books.old }
     ensures counted { NoFewer (B.failures books.old) (B.failures books.new) }

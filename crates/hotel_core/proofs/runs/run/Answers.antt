@@ -2,6 +2,7 @@ use Rattle.std.proofs.Common.{◌≡◌, ◌+◌, take, ◌++◌, ◌∷◌, [],
 use Rattle.hotel_core.proofs.{Names.take_more, Names.RunsTo, OfCode.FailuresCounted.counted_join, OfCode.FailuresCounted.failures_in-push}
 use Rattle.std.proofs.lemmas.List.{take_all}
 use Rattle.hotel_core.proofs.{Lifted.RunParts.runs_step, OfCode.Happened.RunsOn, OfCode.Happened.run_goes_on, Invariants.Assurance.runs_safely, Invariants.Assurance.assured}
+use Rattle.hotel_core.proofs.OfCode.RepliesAnswered.{any_answered-push, last_answered-push}
 use Rattle.hotel_core.proofs.runs.run.Goals as goal
 
 pub loop-command-preserved : goal.loop-command-preserved
@@ -16,6 +17,10 @@ loop-command-preserved g c =
           let i = c.loop-command.command-index in
           let e : take (i + 1) xs ≡ take i xs ++ c.command-item.result ∷ [] = take_more xs i c.command-item.result c.loop-command-test.true ∙ ap (λ x. take i xs ++ x ∷ []) (sym c.command-item.is) in
           rw (e, c.in-Ok-push.ensures.items) r;
+      vouched = λ honest k.
+          any_answered-push c.loop-command.replies.items c.step-reply.result (rw c.in-Ok-push.ensures.items at k) (c.loop-command.invariant.vouched (c.step-reply.ensures.was_honest honest))
+          (λ answered. c.loop-command.invariant.was_clean (before (c.step-reply.ensures.vouched honest answered)));
+      vouched_last = λ honest k. c.step-reply.ensures.vouched honest (last_answered-push c.loop-command.replies.items c.step-reply.result (rw c.in-Ok-push.ensures.items at k));
       counted = λ cause. omega (arith, c.step-reply.ensures.counted cause, c.loop-command.invariant.counted cause);
       failed = λ clean.
           rw (c.in-Ok-push.ensures.items, failures_in-push c.loop-command.replies.items c.step-reply.result)

@@ -1,5 +1,5 @@
-use Rattle.std.proofs.Common.{◌≡◌, ◌≤◌, take, length, vec_len, vec_capacity}
-use Rattle.hotel_core.proofs.Names.{NoFewer, History, Reached, rows_of, StandsFor, RunsTo, AreCounted, failures_in}
+use Rattle.std.proofs.Common.{◌≡◌, ◌≤◌, true, take, length, vec_len, vec_capacity}
+use Rattle.hotel_core.proofs.Names.{NoFewer, History, Reached, rows_of, StandsFor, RunsTo, AreCounted, any_answered, failures_in, last_answered}
 use Rattle.hotel_core.proofs.OfCode.Happened.{RunsOn}
 use Rattle.hotel_core.proofs.runs.run.Given as goal
 
@@ -14,6 +14,8 @@ invariant-loop-command g l =
       was_honest : is_honest l.books → is_honest l.fn.books;
       happened : is_honest l.books → (h : History) → Reached h → (is_clean l.fn.books → rows l.fn.books ≡ rows_of h) →
           RunsOn (is_clean l.books) h (stream l.fn.source) (take l.command-index l.commands) l.replies.items (rows l.books) (stream l.source);
+      vouched : is_honest l.books → any_answered l.replies.items ≡ true → is_clean l.fn.books;
+      vouched_last : is_honest l.books → last_answered l.replies.items ≡ true → is_clean l.books;
       counted : NoFewer (g.B.Issued.failures l.fn.books) (g.B.Issued.failures l.books);
       failed : is_clean l.books → AreCounted (g.B.Issued.failures l.fn.books) (g.B.Issued.failures l.books) (failures_in l.replies.items);
       room : length l.commands ≤ vec_capacity l.replies;

@@ -10,9 +10,11 @@ returns-then-is_past g c =
     let later : row.notes - row.before < note.count = lt_from (row.notes - row.before) note.count p.1 in
     record {
       answer = λ clean. ap Some (ap (λ z. note_at (g.B.Books.rows c.args.books.now) note.room z note.count) (eq_from note.fit row.fit p.0)
-          ∙ no_later_note (g.B.Books.rows c.args.books.now) (c.known_sound.ensures clean) note.room note.count row (omega arith) later (c.requires clean));
+          ∙ no_later_note (g.B.Books.rows c.args.books.now) (c.known_sound.ensures clean) note.room note.count row (omega arith) later (c.requires.there clean));
       same = λ clean. refl;
       was_clean = λ clean. clean;
+      was_honest = λ honest. honest;
+      vouched = λ honest _. c.requires.vouched honest;
       counted = λ cause. omega arith;
       fault = λ clean w cause e. cc;
     }

@@ -1,12 +1,12 @@
 use Rattle.std.proofs.Common.{◌≡◌, ◌+◌, ◌==◌, true, refl, subst, ap, sym, ◌∙◌, arith, IsSome}
-use Rattle.hotel_core.proofs.{Names.false≢true, Names.IsUntaken, Names.note_at, OfCode.Parts.given, OfCode.Parts.refuses, OfCode.Parts.ends}
+use Rattle.hotel_core.proofs.{Names.false≢true, Names.IsUntaken, Names.note_at, OfCode.Parts.given, OfCode.Parts.given_vouched, OfCode.Parts.refuses, OfCode.Parts.ends}
 use Rattle.hotel_core.specs.declared.reply.Refusal.TheVariants as refusal
 use Rattle.hotel_core.proofs.{OfCode.NoteParts.excluded, OfCode.NoteParts.old_told, OfCode.NoteParts.gap_told, OfCode.NoteParts.next_told, OfCode.AnswerParts.comes_of, OfTables.Tests.eq_from}
 use Rattle.hotel_core.proofs.commands.notes.take_new.Goals as goal
 
 pub returns-then-not-is_present : goal.returns-then-not-is_present
 returns-then-not-is_present g c = λ source.
-    refuses refusal.OldFit refl (given (IsUntaken c.args.note.now c.args.row.now) c.requires.untaken)
+    refuses refusal.OldFit refl (given_vouched (IsUntaken c.args.note.now c.args.row.now) c.requires.untaken c.requires.vouched)
     (λ k. old_told (g.B.Books.rows c.args.books.now) c.args.note.now c.args.row.now k.0 (sym c.is_present.ensures ∙ c.if-not-is_present.true))
 
 pub returns-then-count-taken : goal.returns-then-count-taken
@@ -21,7 +21,7 @@ returns-then-count-taken g c = λ source.
 pub returns-then-next-count : goal.returns-then-next-count
 returns-then-next-count g c = λ source.
     let count : c.value-count.result ≡ c.args.note.now.count = c.value-count.ensures.same ∙ c.count.ensures in
-    refuses (refusal.Gap (c.notes_of_present-taken.result + 1)) refl (given (IsUntaken c.args.note.now c.args.row.now) c.requires.untaken)
+    refuses (refusal.Gap (c.notes_of_present-taken.result + 1)) refl (given_vouched (IsUntaken c.args.note.now c.args.row.now) c.requires.untaken c.requires.vouched)
     (λ k. gap_told (g.B.Books.rows c.args.books.now) c.args.note.now c.args.row.now c.notes_of_present-taken.result k.0 (sym c.is_present.ensures ∙ c.if-not-is_present.false) c.notes_of_present-taken.ensures (omega (arith, count, c.if-next-count.true)))
 
 pub enter-requires-clause-outcome : goal.enter-requires-clause-outcome
