@@ -1,6 +1,6 @@
 -- The counts beside the tables are those of the rows, after a change as before it.
-use Rattle.std.proofs.Common.{ℕ, ◌≡◌, ◌+◌, ◌-◌, ◌<◌, ◌≤◌, ◌^◌, Bool, true, false, Option, Some, None, List, [], ◌∷◌, ◌⊎◌, inl, inr, length, IsSome, refl, ap, ap₂, sym, ◌∙◌, subst, arith, nat_le}
-use Rattle.std.specs.Prelude.{◌==◌, ◌&&◌, ◌||◌, bytes_eq, IfSome, option_map}
+use Rattle.std.proofs.Common.{ℕ, ◌≡◌, ◌+◌, ◌-◌, ◌<◌, ◌≤◌, ◌^◌, Bool, true, false, Option, Some, None, List, [], ◌∷◌, ◌⊎◌, inl, inr, length, IsSome, refl, ap, sym, ◌∙◌, subst, arith, nat_le}
+use Rattle.std.specs.Prelude.{◌==◌, ◌&&◌, ◌||◌, bytes_eq}
 use Rattle.std.specs.List.{AllByRecursion, list_any, list_all}
 use Rattle.std.specs.List.Sorted.{IsStrictlySortedBy}
 use Rattle.std.specs.Ordering.{nat_cmp, match_ordering}
@@ -16,21 +16,17 @@ use Rattle.hotel_nights.specs.declared.stay.Stay.{Stay}
 use Rattle.hotel_nights.specs.declared.stay.StayState.{StayState}
 use Rattle.hotel_nights.specs.declared.stay.StayState.TheVariants as state
 use Rattle.hotel_nights.specs.FullNight.{is_standing}
-use Rattle.hotel_core.specs.declared.books.rows.NextNumbers.{NextNumbers}
 use Rattle.hotel_core.specs.declared.books.rows.RoomRow.{RoomRow}
 use Rattle.hotel_core.specs.declared.books.change.Change.{Change}
 use Rattle.hotel_core.specs.declared.books.change.Change.TheVariants as change
 use Rattle.hotel_core.specs.Model.Rows.{Rows, has_kind}
-use Rattle.hotel_core.specs.Model.Sound.{IsSound}
 use Rattle.hotel_core.specs.Model.Stays.{in_state}
-use Rattle.hotel_core.specs.Books.Lookups.{stay_at, rooms_of_kind, number_after}
+use Rattle.hotel_core.specs.Books.Lookups.{stay_at, rooms_of_kind}
 use Rattle.hotel_core.specs.Books.Change.{made, freed_by}
 use Rattle.hotel_core.specs.Books.Fits.{HasItsRows, Fits}
 use Rattle.hotel_core.specs.KindRooms.{is_there, rooms_in}
 use Rattle.hotel_core.specs.NightIndex.{counted, CountsNights}
 use Rattle.hotel_core.specs.Memory.{HaveRoomNumbers, RoomsKnown, CountsNightsOf}
-use Rattle.hotel_core.proofs.Invariants.Numbering.{same_length}
-use Rattle.hotel_core.proofs.OfTables.Counting.{counts_more}
 use Rattle.hotel_core.proofs.OfTables.Tests.{and_true, or_true}
 use Rattle.hotel_core.proofs.OfTables.RowTests.{or_later}
 use Rattle.hotel_core.proofs.OfTables.KeysInOrder.{AllAfter, InOrder}
@@ -38,12 +34,10 @@ use Rattle.hotel_core.proofs.OfTables.StayCounts.{count_inserted}
 use Rattle.hotel_core.proofs.OfNights.NightsStanding.{counts_fit, stands_more, stands_less, stands_on}
 use Rattle.hotel_core.proofs.OfNights.RoomsByKind.{few_rooms, known_changed, known_left}
 use Rattle.hotel_core.proofs.Starts.StartCodes.{orders}
-use Rattle.hotel_core.proofs.Starts.StartNumbers.{stays_fit_at_start, stays_numbered_at_start, cards_numbered_at_start}
-use Rattle.hotel_statements.specs.LookUps.{next_numbers_of}
+use Rattle.hotel_core.proofs.Starts.StartNumbers.{stays_fit_at_start}
 use Rattle.hotel_tables.specs.TableBooks.{IsCounted}
 use Rattle.hotel_tables.proofs.MayMake.{new_row, refitted}
 use Rattle.hotel_tables.specs.Counted.{booked_by, ended_by, taken_by, CountsMore, CountsLess, KeepsRooms, HasItsKind, CountsItsRoom}
-use Rattle.hotel_tables.specs.Counted.{numbers_after}
 
 -- ---- the counts of sound rows are few
 
@@ -190,28 +184,3 @@ counted_after change rows kinds kinds' kinds'' nights nights' nights'' c fits ke
       rooms = rooms_after change rows kinds' kinds'' rooms_are known few fits.0 one;
       stays = stays_after change rows nights nights'' fits.0 c.stays (λ kind d. let m = more kind d (few_at_night c kind d) in let l = less kind d in omega (arith, m, l));
     }
-
--- ---- the next numbers
-
-abbrev numbers_by : ℕ → ℕ → NextNumbers
-numbers_by stays cards = record { party = number_after stays; card = number_after cards }
-
-numbers_made : (change : Change) (rows : Rows) → IsSound rows → HasItsRows change rows → numbers_after change (next_numbers_of rows) ≡ next_numbers_of (made change rows)
-numbers_made (change.Reserved stay) rows sound fits =
-    let more = (counts_more rows.stays stay.party stay (stays_numbered_at_start rows sound).1 fits.0).1 in
-    ap (λ n. numbers_by n (length rows.cards)) (fits.0 ∙ sym more)
-numbers_made (change.Cancelled party) rows sound fits = ap (λ n. numbers_by n (length rows.cards)) (sym (same_length party state.Cancelled rows.stays))
-numbers_made (change.CheckedOut party room) rows sound fits = ap (λ n. numbers_by n (length rows.cards)) (sym (same_length party state.Done rows.stays))
-numbers_made (change.Issue card room leaves) rows sound fits =
-    let more = (counts_more rows.cards card.number card (cards_numbered_at_start rows sound).1 fits.3).1 in
-    ap₂ numbers_by (sym (same_length card.party (state.InHouse room) rows.stays)) (fits.3 ∙ sym more)
-numbers_made (change.Spare card) rows sound fits =
-    let more = (counts_more rows.cards card.number card (cards_numbered_at_start rows sound).1 fits).1 in
-    ap (numbers_by (length rows.stays)) (fits ∙ sym more)
-numbers_made _ rows sound fits = refl
-
--- The next numbers after a change that was made.
-pub numbered_after : (change : Change) (rows : Rows) (next : Option NextNumbers) → IsSound rows → HasItsRows change rows → IfSome next (λ numbers. numbers ≡ next_numbers_of rows)
-    → IfSome (option_map (numbers_after change) next) (λ numbers. numbers ≡ next_numbers_of (made change rows))
-numbered_after change rows None sound fits is = tt
-numbered_after change rows (Some numbers) sound fits is = ap (numbers_after change) is ∙ numbers_made change rows sound fits

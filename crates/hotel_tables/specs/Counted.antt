@@ -5,10 +5,9 @@ use Rattle.hotel_nights.specs.declared.stay.Stay.{Stay}
 use Rattle.hotel_nights.specs.Block.{one_if}
 use Rattle.hotel_nights.specs.FullNight.{takes}
 use Rattle.hotel_core.specs.declared.books.change.Change.{Change}
-use Rattle.hotel_core.specs.declared.books.change.Change.TheVariants.{Kind, Room, Reserved, Cancelled, Issue, Spare, CheckedOut}
-use Rattle.hotel_core.specs.declared.books.rows.NextNumbers.{NextNumbers}
+use Rattle.hotel_core.specs.declared.books.change.Change.TheVariants.{Kind, Room, Reserved, Cancelled, CheckedOut}
 use Rattle.hotel_core.specs.Model.Rows.{Rows}
-use Rattle.hotel_core.specs.Books.Lookups.{stay_at, number_after}
+use Rattle.hotel_core.specs.Books.Lookups.{stay_at}
 use Rattle.hotel_core.specs.KindRooms.{is_there, rooms_in}
 use Rattle.hotel_core.specs.NightIndex.{counted}
 
@@ -55,10 +54,3 @@ pub record CountsRoom (kind : List ℕ) (old new : List (List ℕ × ℕ)) : Typ
 abbrev pub CountsItsRoom : Change → List (List ℕ × ℕ) → List (List ℕ × ℕ) → Type 0
 CountsItsRoom (Room room kind code) old new = CountsRoom kind old new
 CountsItsRoom _ old new = new ≡ old
-
--- the next numbers after a change
-abbrev pub numbers_after : Change → NextNumbers → NextNumbers
-numbers_after (Reserved stay) next = record next { party = number_after stay.party }
-numbers_after (Issue card room leaves) next = record next { card = number_after card.number }
-numbers_after (Spare card) next = record next { card = number_after card.number }
-numbers_after _ next = next

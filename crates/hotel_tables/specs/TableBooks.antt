@@ -1,12 +1,11 @@
 -- What books over tables are for their contracts, and what they keep true.
-use Rattle.std.specs.Prelude.{◌≡◌, ℕ, Bool, true, List, Option, IfSome, IsTrue, refl}
+use Rattle.std.specs.Prelude.{◌≡◌, ℕ, Bool, true, List, IsTrue, refl}
 use Rattle.std.specs.Coded.{Coded, code_by, coded×, coded_ℕ, coded_list}
 use Rattle.std.specs.Map.{values_of}
 use Rattle.sqlite.specs.Held.{Held, held_code}
 use Rattle.sqlite.specs.State.{State, HasCleanDisk}
 use Rattle.keycard_rules.specs.declared.issued.LookFault.{LookFault}
 use Rattle.keycard_rules.specs.declared.issued.LookFault.TheVariants.{Memory, Store}
-use Rattle.hotel_core.specs.declared.books.rows.NextNumbers.{NextNumbers}
 use Rattle.hotel_core.specs.Model.Rows.{Rows, has_kind}
 use Rattle.hotel_core.specs.Model.Sound.{IsSound}
 use Rattle.hotel_core.specs.Books.Lookups.{rooms_of_kind}
@@ -14,7 +13,6 @@ use Rattle.hotel_core.specs.NightIndex.{CountsNights}
 use Rattle.hotel_core.specs.KindRooms.{is_there, rooms_in}
 use Rattle.hotel_statements.specs.Tables.{rows_in}
 use Rattle.hotel_statements.specs.Books.{IsKept, IsBooks}
-use Rattle.hotel_statements.specs.LookUps.{next_numbers_of}
 
 -- the connection, the rooms of each kind and the standing stays of each night, counted, and how many calls failed
 pub record Tabled (S : Type 0) : Type 0 where
@@ -46,10 +44,8 @@ pub record IsCounted (kinds : List (List ℕ × ℕ)) (nights : List ((List ℕ 
   pub stays : CountsNights nights (values_of rows.stays)
 
 -- What books over tables keep true, whatever has failed.
-pub record IsTabled (s : State) (kinds : List (List ℕ × ℕ)) (nights : List ((List ℕ × ℕ) × List ℕ)) (next : Option NextNumbers) (answers : Bool) : Type 0 where
+pub record IsTabled (s : State) (kinds : List (List ℕ × ℕ)) (nights : List ((List ℕ × ℕ) × List ℕ)) (answers : Bool) : Type 0 where
   pub books : IsBooks s
   pub counted : IsKept s → IsCounted kinds nights (rows_in s.now.trees)
-  -- the next numbers, once they were looked up
-  pub numbered : IsKept s → IfSome next (λ numbers. numbers ≡ next_numbers_of (rows_in s.now.trees))
   -- a connection that answered when it was last asked is open
   pub answered : HasCleanDisk s → IsTrue answers → IsTrue s.is_open

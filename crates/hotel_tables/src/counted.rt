@@ -1,12 +1,11 @@
 //! The counts beside the tables, kept in step with the changes of the rows.
-ghost use Rattle.std.specs.Prelude.{◌≡◌, None, OnOk, OnErr, option_map};
+ghost use Rattle.std.specs.Prelude.{None, OnOk, OnErr};
 ghost use Rattle.sqlite.specs.Held.{state};
 ghost use Rattle.hotel_statements.specs.Books.{IsBooks};
 ghost use Rattle.hotel_statements.specs.LookUps.{MayLook};
 ghost use Rattle.hotel_tables.specs.Counted.{booked_by, ended_by, CountsMore, CountsLess, KeepsRooms, HasItsKind, CountsItsRoom};
-ghost use Rattle.hotel_tables.specs.Counted.{numbers_after};
 
-use hotel_core::{Change, KindRooms, NextNumbers, NightIndex};
+use hotel_core::{Change, KindRooms, NightIndex};
 use hotel_nights::Stay;
 use hotel_statements::look_ups;
 use keycard_rules::{LookFault, Memory};
@@ -74,28 +73,4 @@ pub(crate) fn uncount_added(nights: &mut NightIndex, change: &Change)
     if let Change::Reserved(stay) = change {
         nights.remove(stay);
     }
-}
-
-/// The next numbers, once they were looked up, after a change that was made.
-pub(crate) fn next_after(next: Option<NextNumbers>, change: &Change) -> Option<NextNumbers>
-    ensures { result ≡ option_map (numbers_after change.now) next }
-{
-    let Some(numbers) = next else {
-        return None;
-    };
-    Some(match change {
-        Change::Reserved(stay) => NextNumbers {
-            party: stay.party.next(),
-            card: numbers.card,
-        },
-        Change::Issue { card, .. } => NextNumbers {
-            party: numbers.party,
-            card: card.number.next(),
-        },
-        Change::Spare(card) => NextNumbers {
-            party: numbers.party,
-            card: card.number.next(),
-        },
-        _ => numbers,
-    })
 }

@@ -62,7 +62,6 @@ impl<S: Alter + Drop> TableBooks<S> {
                 conn,
                 kinds: counts.kinds,
                 nights: counts.nights,
-                next: None,
                 answers: false,
                 memory: 0,
                 store: 0,

@@ -21,7 +21,7 @@ mod walks;
 
 use crate::create::make_desk;
 use crate::open_fault::OpenFault;
-use hotel_core::{KindRooms, NextNumbers, NightIndex};
+use hotel_core::{KindRooms, NightIndex};
 use hotel_statements::{fault_of, look_ups};
 use keycard_rules::{Code, Issued, LookFault};
 use sqlite::{Alter, Connection};
@@ -30,16 +30,13 @@ use std::marker::Model;
 
 /// Books over the nine tables of a desk.
 ///
-/// No rows are kept in memory: beside the connection stand only how many rooms each kind has, how many stays take each
-/// night, and the next numbers.
+/// No rows are kept in memory: beside the connection stand only how many rooms each kind has and how many stays take each night.
 #[derive(Drop)]
 pub struct TableBooks<S: Alter> {
     pub(crate) alloc: Global,
     pub(crate) conn: Connection<S>,
     pub(crate) kinds: KindRooms,
     pub(crate) nights: NightIndex,
-    /// The numbers that the next party and the next card are given, once they were looked up.
-    pub(crate) next: Option<NextNumbers>,
     /// Whether the connection answered when it was last asked.
     pub(crate) answers: bool,
     pub(crate) memory: u64,
@@ -56,7 +53,7 @@ impl<S: Alter> Model for TableBooks<S> {
 
     ghost view = { λ b. record { conn = b.conn; kinds = b.kinds; nights = b.nights; memory = b.memory; store = b.store } };
 
-    ghost invariant = { λ b. IsTabled (state S.Store b.conn) b.kinds b.nights b.next b.answers };
+    ghost invariant = { λ b. IsTabled (state S.Store b.conn) b.kinds b.nights b.answers };
 }
 
 /// Whether the database has no tables, indexes or views: its file is missing or empty, or the making of a desk was cut short.
@@ -93,7 +90,6 @@ impl<S: Alter + Drop> TableBooks<S> {
             conn,
             kinds: KindRooms::empty(alloc),
             nights: NightIndex::empty(alloc),
-            next: None,
             answers: false,
             memory: 0,
             store: 0,

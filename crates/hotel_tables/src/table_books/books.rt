@@ -146,15 +146,9 @@ impl<S: Alter> Books for TableBooks<S> {
     }
 
     fn next_numbers(&mut self) -> Result<NextNumbers, LookFault> {
-        if let Some(numbers) = self.next {
-            self.ask()?;
-            return Ok(numbers);
-        }
         self.answers = false;
-        let found = look_ups::next_numbers(self.alloc, &mut self.conn);
-        let numbers = self.counting(found)?;
-        self.next = Some(numbers);
-        Ok(numbers)
+        let numbers = look_ups::next_numbers(self.alloc, &mut self.conn);
+        self.counting(numbers)
     }
 
     fn known_sound(&self) {

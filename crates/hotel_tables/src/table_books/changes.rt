@@ -7,7 +7,7 @@ ghost use Rattle.hotel_statements.specs.Books.{IsKept};
 ghost use Rattle.hotel_tables.specs.Applied.{Applies};
 
 use crate::apply::apply_change;
-use crate::counted::{count_added, count_ended, count_room, ended_by, next_after, uncount_added};
+use crate::counted::{count_added, count_ended, count_room, ended_by, uncount_added};
 use crate::table_books::TableBooks;
 use hotel_core::Change;
 use keycard_rules::LookFault;
@@ -30,7 +30,6 @@ impl<S: Alter> TableBooks<S> {
             Ok(()) => {
                 count_room(&mut self.kinds, change);
                 count_ended(&mut self.nights, ended);
-                self.next = next_after(self.next, change);
                 Ok(())
             }
             Err(why) => {

@@ -14,6 +14,5 @@ invariant_of-result g c = record {
       let rows : Rows = rows_in (state g.S.Store c.make_desk.new.conn).now.trees in
       let none = empty_counted rows (c.in_default.ensures.made kept).no_rows_are in
       subst (λ kinds. IsCounted kinds c.empty-2.result rows) (sym c.empty.ensures) (subst (λ nights. IsCounted [] nights rows) (sym c.empty-2.ensures) none);
-  numbered = λ kept. tt;
   answered = λ clean yes. absurd (false≢true yes);
 }
