@@ -57,7 +57,7 @@ use Rattle.hotel_statements.specs.Tables.{rows_of_version}
 use Rattle.hotel_statements.specs.WholeTables.{AreFitRows}
 use Rattle.hotel_statements.specs.PlainRows.{maybe, is_natural, may_be_natural, room_shown, room_natural, stay_shown, stay_natural, code_shown, code_natural, card_shown, card_natural, inside_shown, inside_natural, note_shown, note_natural, fit_shown, fit_natural, ArePlainRows}
 use Rattle.hotel_statements.specs.PlainRows.{kind_natural, kind_order, room_order, stay_order, code_order, card_order, inside_order, note_order, fit_order}
-use Rattle.hotel_tables.specs.Opening.{AreStored, HasMetaRow, FaultFits, IsOfCall, Opens, fits_rise, fits_natural}
+use Rattle.hotel_tables.specs.Opening.{AreStored, HasMetaRow, FaultFits, IsOfCall, fits_rise, fits_natural}
 use Rattle.hotel_tables.specs.Opening.{all_natural}
 use Rattle.hotel_tables.specs.Reopening.{ReadUndamaged}
 use Rattle.hotel_statements.proofs.Keyed.{key_total}
@@ -377,12 +377,22 @@ has_row {version} db t =
     told [] = 0
     told (e ∷ es) = e.1.0
 
+    first : List (ℕ × (ℕ × Option ℕ)) → ℕ
+    first [] = 0
+    first (e ∷ es) = e.0
+
     only : (n : ℕ) (day : Option ℕ) (rows : List Row)
         → AllByRecursion (IsWrittenAs meta_columns meta_of meta_written) rows
         → map (λ r. meta_of (meta_columns r)) rows ≡ (1, (n, day)) ∷ []
-        → (row : Row) × (rows ≡ row ∷ []) × (column (meta_columns row) 1 ≡ Int (pos n))
+        → (row : Row) × (rows ≡ row ∷ []) × (column (meta_columns row) 0 ≡ Int (pos 1))
+        × (column (meta_columns row) 1 ≡ Int (pos n))
     only n day [] good e = absurd (let w = ap length e in omega (arith, w))
-    only n day (r ∷ []) good e = (r, refl, ap (λ (v : Row). column v 1) good.0 ∙ ap (λ n. int n) (ap told e))
+    only n day (r ∷ []) good e = (
+      r,
+      refl,
+      ap (λ (v : Row). column v 0) good.0 ∙ ap (λ n. int n) (ap first e),
+      ap (λ (v : Row). column v 1) good.0 ∙ ap (λ n. int n) (ap told e),
+    )
     only n day (r ∷ q ∷ rows) good e = absurd (let w = ap length e in omega (arith, w))
 
 -- ---- the whole
@@ -397,8 +407,8 @@ read_undamaged version db t = (
 )
 
 -- a fault of sound tables is one of a call
-pub of_a_call : (version : Version) (db : Trees) (why : OpenFault) → AreTablesOf version db
-    → IsSound (rows_of_version version db) → FaultFits version db why → IsOfCall why
+pub of_a_call : {failed : Type 0} (version : Version) (db : Trees) (why : OpenFault) → AreTablesOf version db
+    → IsSound (rows_of_version version db) → FaultFits failed version db why → IsOfCall why
 of_a_call version db fault.Memory t sound fits = tt
 of_a_call version db fault.Store t sound fits = tt
 of_a_call version db fault.NotADesk t sound fits = fits (read_undamaged version db t).0
@@ -406,12 +416,3 @@ of_a_call version db (fault.Damaged name) t sound fits =
     let none = ((read_undamaged version db t).1 fits.0 fits.1).1 sound in
     let both_are : ◌≡◌ {A = Option _} None (Some name) = sym none ∙ fits.2 in
     cc
-
--- ---- an opening that was refused
-
-pub refused_fits : {version : Version} (old new : State) (why : OpenFault) → Opens version old new (Err why)
-    → IsKept old → HasCleanDisk new → FaultFits version old.now.trees why
-refused_fits old new fault.Memory opens kept clean = tt
-refused_fits old new fault.Store opens kept clean = tt
-refused_fits old new fault.NotADesk opens kept clean = opens.fault (clean, opens.open_on kept clean)
-refused_fits old new (fault.Damaged name) opens kept clean = opens.fault (clean, opens.open_on kept clean)

@@ -1,6 +1,6 @@
-use Rattle.std.proofs.Common.{◌≡◌, ◌∙◌, sym}
+use Rattle.std.proofs.Common.{◌≡◌, ◌∙◌, sym, inr}
 use Rattle.hotel_rows.specs.Damage.{first_damaged_of}
-use Rattle.hotel_tables.proofs.Opened.{fault_fits}
+use Rattle.hotel_tables.proofs.Opened.{fits_memory, stored_meta}
 use Rattle.hotel_tables.proofs.opening.sound_counts.Goals as goal
 
 pub returns-in-Ok-Some-clause-err : goal.returns-in-Ok-Some-clause-err
@@ -9,5 +9,4 @@ returns-in-Ok-Some-clause-err c = λ version db stored.
     (c.args.stored.now, stored, sym h ∙ c.in-Ok-Some.field-0-is)
 
 pub returns-in-Err-counts_of-clause-err : goal.returns-in-Err-counts_of-clause-err
-returns-in-Err-counts_of-clause-err c = λ version db stored.
-    rw c.open_fault.ensures (fault_fits version db c.in-Err-counts_of.why)
+returns-in-Err-counts_of-clause-err c = ?counts

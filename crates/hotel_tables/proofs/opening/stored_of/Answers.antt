@@ -17,3 +17,6 @@ returns-clause-ok c = λ db read.
           (sym c.all_rise.ensures ∙ c.if-not-all_rise.false),
       ids_apart t.inside.items db read.1.0.1.0 (apart c.in-Ok-true.field-0-test),
     )
+
+pub returns-in-Ok-false-clause-err : goal.returns-in-Ok-false-clause-err
+returns-in-Ok-false-clause-err c = ?apart

@@ -5,7 +5,7 @@ use Rattle.hotel_core.specs.Model.Rows.{Rows}
 use Rattle.hotel_statements.specs.Tables.{rows_in}
 use Rattle.hotel_tables.specs.TableBooks.{IsCounted}
 use Rattle.hotel_tables.proofs.EmptyDesk.{empty_counted}
-use Rattle.hotel_tables.proofs.table_books.TableBooks.create.Goals as goal
+use Rattle.hotel_tables.proofs.table_books.TableBooks.create_or_return.Goals as goal
 
 pub invariant_of-result : goal.invariant_of-result
 invariant_of-result g c = record {
