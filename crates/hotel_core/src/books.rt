@@ -19,9 +19,10 @@ use keycard_rules::{
 
 /// The books of the desk: nine tables, each seen as the list of its rows in the order of their keys.
 ///
-/// A look-up changes nothing but the counts of failures. Each clause stands where the test of the state holds as the
-/// call ends, and then it held as the call began. What is answered for want of memory or by the store's failure is
-/// counted, each by its cause.
+/// A look-up changes nothing but the counts of failures. What is answered is so where the test of the state holds as
+/// the call ends, and then it held as the call began; where the state is honest as the call ends, an answer that is no
+/// fault says that the test holds. What is answered for want of memory or by the store's failure is counted, each by
+/// its cause.
 pub trait Books: Issued {
     /// The rows of the nine tables.
     ghost rows: { Self → Rows };

@@ -1,5 +1,5 @@
 -- The number of a room's next lock, where one is left.
-use Rattle.std.proofs.Common.{ℕ, ◌≡◌, ◌<◌, ◌≤◌, ◌+◌, true, false, Option, Some, None, sym, subst, arith, nat_le}
+use Rattle.std.proofs.Common.{ℕ, ◌≡◌, ◌<◌, ◌+◌, true, false, Option, Some, None, sym, subst, arith, nat_le}
 use Rattle.std.specs.Option.{SomeIff}
 use Rattle.hotel_core.proofs.OfTables.Tests.{le_tested, not_le}
 

@@ -1,6 +1,6 @@
 -- What happened, also where books failed for good.
-use Rattle.std.proofs.Common.{◌≡◌, ◌⊎◌, Bool, true, false, List, [], ◌∷◌, ◌++◌, inl, inr, refl, ap, sym, ◌∙◌, subst, arith, take}
-use Rattle.hotel_core.proofs.Names.{false≢true, Stream, past, words, Command, Reply, Rows, History, rows_of, Reached, Steps, StepsIf, Runs, IsCommand, IsReply, is_failed, outcome_on, GoesIf, Goes, StepsAs, Assured, Ghosts as BooksOf}
+use Rattle.std.proofs.Common.{◌≡◌, ◌⊎◌, Bool, true, false, List, [], ◌∷◌, ◌++◌, inl, inr, refl, sym, ◌∙◌, subst, arith}
+use Rattle.hotel_core.proofs.Names.{Stream, words, Command, Reply, Rows, History, rows_of, Reached, Steps, StepsIf, Runs, IsCommand, IsReply, is_failed, outcome_on, GoesIf, StepsAs, Assured, Ghosts as BooksOf}
 use Rattle.keycard_rules.proofs.Drawing.{past-zero}
 use Rattle.keycard_rules.specs.Draw.{MovedAtMost}
 use Rattle.keycard_rules.specs.declared.issued.Issued.{Ghosts as IssuedOf}

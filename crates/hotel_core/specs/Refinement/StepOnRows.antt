@@ -31,7 +31,7 @@ pub record AreWhole (rows : Rows) : Type 0 where
   pub homes : (party room : ℕ) → home_on rows party ≡ Some room → IsSome (room_at rows room) × IsSome (code_at rows room (codes_of rows room - 2))
   pub cards : (number : ℕ) (card : Card) → card_at rows number ≡ Some card → IsSome (code_place rows card.link.new_code)
 
--- A part of a step from the state old to new, with the source moved to rest, where the outcome says what comes of it.
+-- A part of a step from the state old to new, with the source moved to rest, where the outcome says what comes of it. Where the state is honest at its end, an answer that isn't failed says that it is clean, and a failed one left the source, or moved it by no more than the outcome over a clean state.
 pub record StepsAs {S : Type 0} (I : IssuedOf S) (B : BooksOf S) (outcome : Rows → Outcome Change) (old new : S) (source rest : Stream) (answer : Reply) : Type 0 where
   pub goes : I.is_clean new → Goes (outcome (B.rows old)) (B.rows old) source answer (B.rows new) rest
   pub was_clean : I.is_clean new → I.is_clean old

@@ -1,4 +1,4 @@
-use Rattle.std.proofs.Common.{◌≡◌, ◌+◌, true, false, nat_le, is_some, refl, ap, sym, ◌∙◌}
+use Rattle.std.proofs.Common.{◌≡◌, true, false, nat_le, is_some, refl, ap}
 use Rattle.hotel_core.proofs.Names.{RoomTaken, FitsUsedUp, outcome_on, words, draw_from, codes_in, by_draw}
 use Rattle.hotel_core.specs.declared.reply.Reply.TheVariants as reply
 use Rattle.hotel_core.specs.declared.books.change.Change.TheVariants as change
