@@ -15,6 +15,7 @@ use Rattle.sqlite_resolve.specs.declared.compiled.Compiled.{Compiled}
 use Rattle.sqlite.proofs.StateLemmas.{survives_then}
 use Rattle.hotel_statements.specs.Books.{IsDesk, IsKept, IsBooks, KeepsRows}
 use Rattle.hotel_statements.specs.Tables.{AreTables}
+use Rattle.hotel_statements.specs.LookUps.{LeavesNoMore}
 
 abbrev pub Stays : State → State → Type 0
 Stays old new = IsUnchanged old new ⊎ IsRolledBack old new
@@ -150,9 +151,9 @@ then_keeps old mid new first then kept =
     let before = first after.0 in
     (before.0, after.1 ∙ before.1)
 
-pub then_survives : (old mid new : State) → (IsKept old → HasCleanDisk mid → IsTrue mid.is_open) → Survives old mid (λ _. IsKept old → ⊥)
-    → Survives mid new (λ _. IsKept mid → ⊥) → Survives old new (λ _. IsKept old → ⊥)
+pub then_survives : (old mid new : State) → (HasCleanDisk mid → IsTrue mid.is_open) → LeavesNoMore old mid → LeavesNoMore mid new
+    → LeavesNoMore old new
 then_survives old mid new open_on first then =
     survives_then old mid new _ _ _ (λ _ db none. none) (λ clean db none kept.
     let before : HasCleanDisk mid = omega (arith, then.clean, clean) in
-    none (before, open_on kept before)) first then
+    none (before, open_on before)) first then

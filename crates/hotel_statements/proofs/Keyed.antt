@@ -18,7 +18,7 @@ use Rattle.sqlite.specs.Order.{Row, column}
 use Rattle.sqlite.specs.Query.{Query}
 use Rattle.sqlite.specs.Term.{Term, eval_all}
 use Rattle.sqlite.specs.Tree.{Trees, IsAscending}
-use Rattle.sqlite.specs.State.{State, HasCleanDisk, Survives}
+use Rattle.sqlite.specs.State.{State, HasCleanDisk}
 use Rattle.keycard_rules.specs.declared.issued.LookFault.{LookFault}
 use Rattle.hotel_core.specs.Model.Words.{pair_cmp}
 use Rattle.hotel_core.specs.Model.Rows.{Rows, at_number}
@@ -26,7 +26,7 @@ use Rattle.hotel_core.proofs.OfTables.Pairs.{pair_cmp_total}
 use Rattle.hotel_statements.specs.Values.{number_of, int}
 use Rattle.hotel_statements.specs.Tables.{IsTable, IsWrittenAs, listed, by_key, rows_in, AreTables}
 use Rattle.hotel_statements.specs.Books.{IsKept, IsBooks, KeepsRows}
-use Rattle.hotel_statements.specs.LookUps.{Asks, AnswersFirst, Looks, Finds}
+use Rattle.hotel_statements.specs.LookUps.{Asks, AnswersFirst, Looks, Finds, LeavesNoMore}
 use Rattle.hotel_statements.proofs.Answers.{single, env, passes, fused}
 use Rattle.hotel_statements.proofs.Statements.Terms.{by_rowid, by_pair}
 use Rattle.hotel_statements.proofs.Keys.{equals, is_key, and_true}
@@ -115,7 +115,7 @@ module _ {V : Type 0} (tree : ℕ) (project : List Term) (columns : Row → Row)
 pub looks_to : {A B R : Type 0} (text : List ℕ) (params : Row) (old new : State) (out : Row → A) (q : Query) (found : Result (Option A) LookFault) (result : Result R LookFault)
     (said : R → B) (wanted : Rows → B)
     → IsBooks old → IsBooks new → KeepsRows old new → (IsKept new → (p : Query) → Asks text p → IfOk found (AnswersFirst out p params old.now.trees))
-    → (HasCleanDisk new → OnOk result (IsTrue new.is_open)) → Survives old new (λ _. IsKept old → ⊥) → Asks text q
+    → (HasCleanDisk new → OnOk result (IsTrue new.is_open)) → LeavesNoMore old new → Asks text q
     → (IsKept old → AreTables old.now.trees → IfOk found (AnswersFirst out q params old.now.trees) → IfOk result (λ a. said a ≡ wanted (rows_in old.now.trees)))
     → Looks said wanted old new result
 looks_to text params old new out q found result said wanted was books keeps finds open_on crash asks is = record {
@@ -131,8 +131,7 @@ pub finds_to : {A : Type 0} (text : List ℕ) (params : Row) (old new : State) (
     (result : Result (Option A) LookFault) (wanted : Trees → Option A)
     → IsBooks old → IsBooks new → KeepsRows old new
     → (IsKept new → (p : Query) → Asks text p → IfOk result (AnswersFirst out p params old.now.trees))
-    → (IsKept old → HasCleanDisk new → OnOk result (IsTrue new.is_open)) → Survives old new (λ _. IsKept old → ⊥)
-    → Asks text q
+    → (HasCleanDisk new → OnOk result (IsTrue new.is_open)) → LeavesNoMore old new → Asks text q
     → (AreTables old.now.trees → IfOk result (AnswersFirst out q params old.now.trees)
     → IfOk result (λ a. a ≡ wanted old.now.trees))
     → Finds wanted old new result

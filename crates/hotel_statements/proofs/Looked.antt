@@ -18,7 +18,7 @@ use Rattle.sqlite.proofs.Callers.{IsPlain, command_of, first_as, reads_as, never
 use Rattle.sqlite.proofs.StateLemmas.{survives_weaker}
 use Rattle.hotel_statements.specs.Schema.{desk_schema}
 use Rattle.hotel_statements.specs.Books.{IsDesk, IsKept, IsBooks, KeepsRows}
-use Rattle.hotel_statements.specs.LookUps.{Asks, IsQuery, AnswersFirst, AnswersAll}
+use Rattle.hotel_statements.specs.LookUps.{Asks, IsQuery, AnswersFirst, AnswersAll, LeavesNoMore}
 use Rattle.hotel_statements.proofs.Keeps.{Stays, query_stays, query_opened, keeps_books, keeps_rows, shown_stay, shown_opened, shown_is_open, first_is_open, none_is_open, fails_stay, fail_opened}
 
 -- no other failure is that no row was found
@@ -63,7 +63,7 @@ module _ (text : List ℕ) (params : Row) (old new : State) (r : Result Row Erro
   look_keeps : KeepsRows old new
   look_keeps = keeps_rows old new _ books mode survives stays opened
 
-  pub looked : IsBooks new × KeepsRows old new × Survives old new (λ _. IsKept old → ⊥)
+  pub looked : IsBooks new × KeepsRows old new × LeavesNoMore old new
   looked = (
     keeps_books old new _ books mode survives stays opened,
     look_keeps,
@@ -96,7 +96,7 @@ module _ (text : List ℕ) (params : Row) (old new : State) (r : Result Row Erro
 
 module _ (text : List ℕ) (params : Row) (old new : State) (books : IsBooks old) (asked : (q : Query) × Asks text q)
     (mode : old.in_transaction ≡ false → new.in_transaction ≡ false) (survives : Survives old new (CommitsShowing text params old)) where
-  pub all_crash : Survives old new (λ _. IsKept old → ⊥)
+  pub all_crash : LeavesNoMore old new
   all_crash = survives_weaker old new _ _ (λ _ db commits kept. never_commits text params old db (plain_in text asked.0 old asked.1 (books.desk kept)) commits) survives
 
   module _ (rows : List Row) (shown : HasCleanDisk new → Shown text params old new rows) where

@@ -15,7 +15,7 @@ use Rattle.keycard_rules.specs.declared.issued.LookFault.{LookFault}
 use Rattle.hotel_statements.specs.declared.version.Version.{Version}
 use Rattle.hotel_statements.specs.Schema.{schema_of}
 use Rattle.hotel_statements.specs.Books.{IsKept, KeepsRows}
-use Rattle.hotel_statements.specs.LookUps.{AsksOf}
+use Rattle.hotel_statements.specs.LookUps.{AsksOf, LeavesNoMore}
 use Rattle.hotel_statements.specs.WholeTables.{IsOurs, ReadsTo}
 use Rattle.hotel_statements.proofs.Keeps.{Stays, shown_stay, shown_opened, shown_is_open, fails_stay, fail_opened}
 use Rattle.hotel_statements.proofs.Looked.{command_is}
@@ -39,7 +39,7 @@ module _ (version : Version) (text : List ℕ) (q : Query) (old new : State) (ou
   plain_in : IsKept old → IsPlain (understood old.now.schema text)
   plain_in kept = subst (λ m. IsPlain (understood m text)) (sym (ours.tables kept).0) asks.plain
 
-  read_crash : Survives old new (λ _. IsKept old → ⊥)
+  read_crash : LeavesNoMore old new
   read_crash = survives_weaker old new _ _ (λ _ db commits kept. never_commits text [] old db (plain_in kept) commits) survives
 
   module _ (stays : HasCleanDisk new → IsKept old → Stays old new) (opened : HasCleanDisk new → IsTrue new.is_open → IsTrue old.is_open) where
@@ -67,7 +67,7 @@ module _ (version : Version) (text : List ℕ) (q : Query) (old new : State) (ou
         says = λ kept. let was = was_kept stays opened kept in is
             ((reads_as text [] old new (schema_of version) (ours.tables was).0 _ (command_is q _ asks.query).1
             asks.plain asks.listing rows (shown kept.0)).answer Null);
-        open_on = λ kept clean. on_ok result (shown_is_open text [] old new rows (plain_in kept) (shown clean));
+        open_on = λ _ clean. on_ok result (shown_is_open text [] old new rows (shown clean));
         crash = read_crash;
       }
     where

@@ -1,5 +1,5 @@
 -- One statement whose rows are handed over, one at a time.
-use Rattle.std.proofs.Common.{◌≡◌, ◌⊎◌, inl, inr, refl, sym, ap, subst, ◌∙◌, List, [], ◌∷◌, ◌++◌, ℕ, IsTrue, Bool, false, true, Option, Some, None, Ok, Err, Result, map, append_assoc}
+use Rattle.std.proofs.Common.{◌≡◌, ◌⊎◌, inl, inr, refl, sym, ap, subst, ◌∙◌, List, [], ◌∷◌, ◌++◌, ℕ, IsTrue, Bool, false, true, Option, Some, None, Ok, Err, Result, map, append_assoc, arith}
 use Rattle.std.specs.Prelude.{option_copied, OnOk, IfOk, IfErr}
 use Rattle.std.proofs.lemmas.List.{map-append}
 use Rattle.std.specs.Borrow.{Bor}
@@ -25,26 +25,26 @@ use Rattle.hotel_core.specs.Books.Walks.{Takes, TakesFront, Hands, failure_of}
 use Rattle.hotel_core.proofs.OfCode.Walking.{one_more, all_taken}
 use Rattle.hotel_statements.specs.Schema.{desk_schema}
 use Rattle.hotel_statements.specs.Books.{IsDesk, IsKept, IsBooks, KeepsRows}
-use Rattle.hotel_statements.specs.LookUps.{Asks}
+use Rattle.hotel_statements.specs.LookUps.{Asks, LeavesNoMore}
 use Rattle.hotel_statements.specs.Walks.{SaysRows, HandsOne, WalksRows}
 use Rattle.hotel_statements.proofs.Keeps.{Stays, keeps_books, keeps_rows, then_keeps, then_survives, shown_opened, shown_is_open}
 use Rattle.hotel_statements.proofs.Looked.{command_is, plain_in, all_crash, fault_books, fault_keeps}
 
--- the test holds, or it does not
-kept_or_not : (s : State) → IsKept s ⊎ (IsKept s → ⊥)
+-- the disk returned what was written, or it did not
+clean_or_not : (s : State) → HasCleanDisk s ⊎ (HasCleanDisk s → ⊥)
 unfolding doubt
-kept_or_not s = go s.is_clean s.is_open
+clean_or_not s = go s.is_clean
   where
-    go : (clean is_open : Bool) → ((doubt clean ≡ 0) × (is_open ≡ true)) ⊎ ((doubt clean ≡ 0) × (is_open ≡ true) → ⊥)
-    go true true = inl (refl, refl)
-    go true false = inr (λ k. let e = k.1 in cc)
-    go false is_open = inr (λ k. let e = k.0 in cc)
+    go : (clean : Bool) → (doubt clean ≡ 0) ⊎ (doubt clean ≡ 0 → ⊥)
+    go true = inl refl
+    go false = inr (λ e. cc)
 
--- the rows after some that are a front where the test holds
-pub chosen : {A : Type 0} (s : State) (taken rows : List A) → (IsKept s → (rest : List A) × (rows ≡ taken ++ rest)) → (rest : List A) × (IsKept s → taken ++ rest ≡ rows)
-chosen s taken rows front = elim (kept_or_not s) [
-  | inl kept ↦ let it = front kept in (it.0, λ _. sym it.1)
-  | inr other ↦ ([], λ kept. absurd (other kept))
+-- the rows after some that are a front where the disk returned what was written
+pub chosen : {A : Type 0} (s : State) (taken rows : List A) → (HasCleanDisk s → (rest : List A) × (rows ≡ taken ++ rest))
+    → (rest : List A) × (HasCleanDisk s → taken ++ rest ≡ rows)
+chosen s taken rows front = elim (clean_or_not s) [
+  | inl clean ↦ let it = front clean in (it.0, λ _. sym it.1)
+  | inr other ↦ ([], λ clean. absurd (other clean))
 ]
 
 -- what a failed walk handed over
@@ -82,7 +82,7 @@ module _ {A : Type 0} (of : Row → A) (text : List ℕ) (params : Row) (old : S
 pub record IsUnderWay {S A K : Type 0} (g : Ghosts S) (of : Row → A) (after : K → A → K → Type 0) (text : List ℕ) (params : Row) (old now : Held S) (sink end : K) : Type 0 where
   pub books : IsBooks (state g now)
   pub keeps : KeepsRows (state g old) (state g now)
-  pub crash : Survives (state g old) (state g now) (λ _. IsKept (state g old) → ⊥)
+  pub crash : LeavesNoMore (state g old) (state g now)
   pub open_on : HasCleanDisk (state g now) → IsTrue (state g now).is_open
   pub taken : List A
   pub takes : Takes after taken sink end
@@ -139,9 +139,10 @@ module _ {S A K : Type 0} (g : Ghosts S) (of : Row → A) (after after_stop : K 
     }
 
   -- the rows that were taken are a front
-  front : (rows : List A) → SaysRows of text params (state g old) rows → (mid : Held S) (now : K) (so_far : Walking mid now) → IsKept (state g mid)
-      → (rest : List A) × (rows ≡ so_far.taken ++ rest)
-  front rows says mid now so_far kept =
+  front : (rows : List A) → SaysRows of text params (state g old) rows → (mid : Held S) (now : K) (so_far : Walking mid now)
+      → HasCleanDisk (state g mid) → (rest : List A) × (rows ≡ so_far.taken ++ rest)
+  front rows says mid now so_far clean =
+      let kept : IsKept (state g mid) = (clean, so_far.open_on clean) in
       let it = so_far.given kept in
       let more = so_far.keeps kept in
       let rest = begins of text params (state g old) rows says (state g mid) so_far.books kept more.0 more.1 it.0 (given_begin g text params mid it.0 it.1) in
@@ -164,8 +165,11 @@ module _ {S A K : Type 0} (g : Ghosts S) (of : Row → A) (after after_stop : K 
     still_keeps : KeepsRows (state g old) (state g new.conn.now)
     still_keeps = then_keeps (state g old) (state g mid.conn.now) (state g new.conn.now) so_far.keeps one_keeps
 
-    still_survives : Survives (state g old) (state g new.conn.now) (λ _. IsKept (state g old) → ⊥)
+    still_survives : LeavesNoMore (state g old) (state g new.conn.now)
     still_survives = survives_then (state g old) (state g mid.conn.now) (state g new.conn.now) _ _ _ (λ _ db none. none) (λ _ db none. absurd none) so_far.crash moved.survives
+
+    was_clean : HasCleanDisk (state g new.conn.now) → HasCleanDisk (state g mid.conn.now)
+    was_clean clean = omega (arith, moved.survives.clean, clean)
 
     answered_open : (r : Option (Bor Row)) → result ≡ Ok r → HasCleanDisk (state g new.conn.now) → IsTrue (state g new.conn.now).is_open
     answered_open r is clean = (subst (λ x. OnOk x (IsUnchanged (state g mid.conn.now) (state g new.conn.now))) is (moved.same clean)).0.is_open
@@ -195,22 +199,23 @@ module _ {S A K : Type 0} (g : Ghosts S) (of : Row → A) (after after_stop : K 
           value : A
           value = of row.now
 
-          front : IsKept (state g new.conn.now) → (rest : List A) × (rows ≡ (so_far.taken ++ value ∷ []) ++ rest)
-          front kept =
+          front : HasCleanDisk (state g new.conn.now) → (rest : List A) × (rows ≡ (so_far.taken ++ value ∷ []) ++ rest)
+          front clean =
+              let kept : IsKept (state g new.conn.now) = (clean, answered_open (Some row) is clean) in
               let it = given_more kept in
               let more = still_keeps kept in
               let start = given_begin g text params new.conn.now (it.0 ++ row.now ∷ []) it.1 in
               let rest = begins of text params (state g old) rows says (state g new.conn.now) still_books kept more.0 more.1 (it.0 ++ row.now ∷ []) start in
               (rest.0, rest.1 ∙ ap (λ ts. ts ++ rest.0) (map-append of it.0 (row.now ∷ []) ∙ ap (λ ts. ts ++ value ∷ []) (sym it.2)))
 
-          rest : (rest : List A) × (IsKept (state g new.conn.now) → (so_far.taken ++ value ∷ []) ++ rest ≡ rows)
+          rest : (rest : List A) × (HasCleanDisk (state g new.conn.now) → (so_far.taken ++ value ∷ []) ++ rest ≡ rows)
           rest = chosen (state g new.conn.now) (so_far.taken ++ value ∷ []) rows front
 
-          are : IsKept (state g new.conn.now) → so_far.taken ++ value ∷ rest.0 ≡ rows
-          are kept = sym (append_assoc so_far.taken (value ∷ []) rest.0) ∙ rest.1 kept
+          are : HasCleanDisk (state g new.conn.now) → so_far.taken ++ value ∷ rest.0 ≡ rows
+          are clean = sym (append_assoc so_far.taken (value ∷ []) rest.0) ∙ rest.1 clean
 
           go : (w : WalkFault) → HandsOne after after_stop value now end (Err w)
-              → (handed : List A) × Hands after after_stop handed sink end (Err w) × (IsKept (state g new.conn.now) → handed ≡ rows)
+              → (handed : List A) × Hands after after_stop handed sink end (Err w) × (HasCleanDisk (state g new.conn.now) → handed ≡ rows)
           go why.Stopped stop = (so_far.taken ++ value ∷ rest.0, (so_far.taken, value, rest.0, refl, now, so_far.takes, stop), are)
           go why.Memory same = (so_far.taken ++ value ∷ rest.0, (so_far.taken, value ∷ rest.0, refl, subst (Takes after so_far.taken sink) (sym same) so_far.takes), are)
           go why.Store same = (so_far.taken ++ value ∷ rest.0, (so_far.taken, value ∷ rest.0, refl, subst (Takes after so_far.taken sink) (sym same) so_far.takes), are)
@@ -227,7 +232,8 @@ module _ {S A K : Type 0} (g : Ghosts S) (of : Row → A) (after after_stop : K 
       hands = (
         so_far.taken,
         so_far.takes,
-        λ kept.
+        λ clean.
+            let kept : IsKept (state g new.conn.now) = (clean, answered_open None is clean) in
             let before = (one_keeps kept).0 in
             let first = so_far.keeps before in
             let it = so_far.given before in
@@ -239,7 +245,7 @@ module _ {S A K : Type 0} (g : Ghosts S) (of : Row → A) (after after_stop : K 
     pub broken_off : (rows : List A) → SaysRows of text params (state g old) rows → (fault : WalkFault) (cause : LookFault) → failure_of (Err fault) ≡ Some cause
         → WalksRows after after_stop rows (state g old) (state g new.conn.now) sink now (Err fault)
     broken_off rows says fault cause is =
-        let rest = chosen (state g new.conn.now) so_far.taken rows (λ kept. front rows says mid.conn.now now so_far (one_keeps kept).0) in
+        let rest = chosen (state g new.conn.now) so_far.taken rows (λ clean. front rows says mid.conn.now now so_far (was_clean clean)) in
         record {
           books = still_books;
           keeps = still_keeps;
@@ -264,8 +270,8 @@ module _ {S A K : Type 0} (g : Ghosts S) (of : Row → A) (after after_stop : K 
 -- ---- a walk after a look-up, and a look-up that failed before it
 
 module _ {A K : Type 0} (after after_stop : K → A → K → Type 0) (rows : List A) (old mid : State) (sink : K) where
-  pub then_walks : (new : State) (end : K) (result : Result (Unit {0}) WalkFault) → KeepsRows old mid → (IsKept old → HasCleanDisk mid → IsTrue mid.is_open) → Survives old mid (λ _. IsKept old → ⊥)
-      → WalksRows after after_stop rows mid new sink end result → WalksRows after after_stop rows old new sink end result
+  pub then_walks : (new : State) (end : K) (result : Result (Unit {0}) WalkFault) → KeepsRows old mid → (HasCleanDisk mid → IsTrue mid.is_open)
+      → LeavesNoMore old mid → WalksRows after after_stop rows mid new sink end result → WalksRows after after_stop rows old new sink end result
   then_walks new end result keeps open_on crash walked = record {
     books = walked.books;
     keeps = then_keeps old mid new keeps walked.keeps;
@@ -274,7 +280,7 @@ module _ {A K : Type 0} (after after_stop : K → A → K → Type 0) (rows : Li
     crash = then_survives old mid new open_on crash walked.crash;
   }
 
-  pub not_begun : (fault : WalkFault) (cause : LookFault) → failure_of (Err fault) ≡ Some cause → IsBooks mid → KeepsRows old mid → Survives old mid (λ _. IsKept old → ⊥)
+  pub not_begun : (fault : WalkFault) (cause : LookFault) → failure_of (Err fault) ≡ Some cause → IsBooks mid → KeepsRows old mid → LeavesNoMore old mid
       → WalksRows after after_stop rows old mid sink sink (Err fault)
   not_begun fault cause is books keeps crash = record {
     books = books;

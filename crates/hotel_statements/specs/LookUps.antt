@@ -68,16 +68,18 @@ FindsAll said of text params old result = (q : Query) → Asks text q → IfOk r
 abbrev pub LeavesNoMore : State → State → Type 0
 LeavesNoMore old new = Survives old new (λ _. IsKept old → ⊥)
 
--- A look-up of the books, of a connection from old to new: where the test holds at its end, its answer says what is wanted of the rows.
--- It changes no row, and a crash in it leaves nothing new.
-pub record LooksIf {A R : Type 0} (was : Type 0) (said : R → A) (wanted : Rows → A) (old new : State) (result : Result R LookFault) : Type 0 where
+-- A look-up of the books, of a connection from old to new: where the test holds at its end, its answer says what is wanted of
+-- the rows. It changes no row, and a crash in it leaves nothing new.
+pub record LooksIf {A R : Type 0} (was : Type 0) (said : R → A) (wanted : Rows → A) (old new : State)
+    (result : Result R LookFault) : Type 0 where
   pub books : IsBooks new
   pub keeps : KeepsRows old new
   pub found : IsKept new → IfOk result (λ a. said a ≡ wanted (rows_in old.now.trees))
   pub open_on : was → HasCleanDisk new → OnOk result (IsTrue new.is_open)
   pub crash : LeavesNoMore old new
 
--- The same of a look-up that is a statement: where it is answered over a disk that returned what was written, the connection is open.
+-- The same of a look-up that is a statement: where it is answered over a disk that returned what was written,
+-- the connection is open.
 abbrev pub Looks : {A R : Type 0} → (R → A) → (Rows → A) → State → State → Result R LookFault → Type 0
 Looks said wanted old new result = LooksIf (Unit {0}) said wanted old new result
 
@@ -90,8 +92,8 @@ pub record Finds {R : Type 0} (wanted : Trees → R) (old new : State) (result :
   pub books : IsBooks new
   pub keeps : KeepsRows old new
   pub found : IsKept new → IfOk result (λ a. a ≡ wanted old.now.trees)
-  pub open_on : IsKept old → HasCleanDisk new → OnOk result (IsTrue new.is_open)
-  pub crash : Survives old new (λ _. IsKept old → ⊥)
+  pub open_on : HasCleanDisk new → OnOk result (IsTrue new.is_open)
+  pub crash : LeavesNoMore old new
 
 -- the first of some fits that has this number
 abbrev pub numbered_fit : List FitRow → ℕ → Option FitRow

@@ -1,8 +1,8 @@
 -- What the walks promise over a connection, and what the rows say that their statements show.
-use Rattle.std.specs.Prelude.{◌≡◌, ◌-◌, ◌==◌, ℕ, List, Result, Ok, Err}
+use Rattle.std.specs.Prelude.{◌≡◌, ◌-◌, ◌==◌, ℕ, List, None, Result, Ok, Err, IsTrue}
 use Rattle.sqlite.specs.Order.{Row, column}
 use Rattle.sqlite.specs.Query.{Query}
-use Rattle.sqlite.specs.State.{State, Survives}
+use Rattle.sqlite.specs.State.{State, HasCleanDisk}
 use Rattle.keycard_rules.specs.Note.{Note}
 use Rattle.hotel_core.specs.declared.books.rows.FitRow.{FitRow}
 use Rattle.hotel_core.specs.declared.books.walks.WalkFault.{WalkFault}
@@ -10,7 +10,7 @@ use Rattle.hotel_core.specs.declared.books.walks.WalkFault.TheVariants as why
 use Rattle.hotel_core.specs.declared.books.list_rows.HouseRow.{HouseRow}
 use Rattle.hotel_core.specs.declared.books.list_rows.ChainRow.{ChainRow}
 use Rattle.hotel_core.specs.declared.books.list_rows.BehindRow.{BehindRow}
-use Rattle.hotel_core.specs.Books.Walks.{Hands}
+use Rattle.hotel_core.specs.Books.Walks.{Hands, failure_of}
 use Rattle.hotel_core.specs.Model.Rows.{Rows}
 use Rattle.hotel_core.specs.Refinement.ListsOnRows.{state_at}
 use Rattle.hotel_statements.specs.Values.{number_of, text_of}
@@ -18,7 +18,7 @@ use Rattle.hotel_rows.specs.Joined.{with_count, fit_of_number}
 use Rattle.hotel_statements.specs.Columns.{note_row_of}
 use Rattle.hotel_statements.specs.Tables.{rows_in}
 use Rattle.hotel_statements.specs.Books.{IsKept, IsBooks, KeepsRows}
-use Rattle.hotel_statements.specs.LookUps.{Asks, AnswersAll}
+use Rattle.hotel_statements.specs.LookUps.{Asks, AnswersAll, LeavesNoMore}
 
 -- A text that a desk understands as a query, each answer to which says these rows in order.
 abbrev pub SaysRows : {A : Type 0} → (Row → A) → List ℕ → Row → State → List A → Type 0
@@ -32,13 +32,14 @@ HandsOne after after_stop row sink end (Err why.Memory) = end ≡ sink
 HandsOne after after_stop row sink end (Err why.Store) = end ≡ sink
 
 -- A walk over these rows, of a connection from old to new and a sink from its meaning to that at the end: it hands over some rows,
--- which are these where the test holds at its end. It changes no row, and a crash in it leaves nothing new.
+-- which are these where the disk returned what was written, also where a failure ended it. It changes no row, and a crash in it
+-- leaves nothing new.
 pub record WalksRows {S R : Type 0} (after after_stop : S → R → S → Type 0) (rows : List R) (old new : State) (sink end : S) (result : Result (Unit {0}) WalkFault) : Type 0 where
   pub books : IsBooks new
   pub keeps : KeepsRows old new
   pub open_on : HasCleanDisk new → failure_of result ≡ None → IsTrue new.is_open
-  pub hands : (handed : List R) × Hands after after_stop handed sink end result × (IsKept new → handed ≡ rows)
-  pub crash : Survives old new (λ _. IsKept old → ⊥)
+  pub hands : (handed : List R) × Hands after after_stop handed sink end result × (HasCleanDisk new → handed ≡ rows)
+  pub crash : LeavesNoMore old new
 
 -- a walk over a list of the rows that the tables have
 abbrev pub WalksList : {S R : Type 0} → (S → R → S → Type 0) → (S → R → S → Type 0) → (Rows → List R) → State → State → S → S → Result (Unit {0}) WalkFault → Type 0

@@ -6,7 +6,7 @@ use Rattle.sqlite.specs.Order.{Row}
 use Rattle.sqlite.specs.Tree.{Trees}
 use Rattle.sqlite.specs.Query.{Query, IsAnswer}
 use Rattle.sqlite.specs.Program.{overlay}
-use Rattle.sqlite.specs.State.{State, HasCleanDisk, Survives}
+use Rattle.sqlite.specs.State.{State, HasCleanDisk}
 use Rattle.keycard_rules.specs.declared.issued.LookFault.{LookFault}
 use Rattle.hotel_rows.specs.declared.stored.PlainKind.{PlainKind}
 use Rattle.hotel_rows.specs.declared.stored.PlainRoom.{PlainRoom}
@@ -25,7 +25,7 @@ use Rattle.hotel_statements.specs.Columns.{meta_columns, kind_columns, room_colu
 use Rattle.hotel_statements.specs.Columns.{card_columns, note_columns, fit_columns}
 use Rattle.hotel_statements.specs.PlainRows.{meta_shown, kind_shown, room_shown, stay_shown, code_shown, card_shown}
 use Rattle.hotel_statements.specs.PlainRows.{numbered_columns, numbered_shown, note_shown, fit_shown, ArePlainRows}
-use Rattle.hotel_statements.specs.LookUps.{AsksOf}
+use Rattle.hotel_statements.specs.LookUps.{AsksOf, LeavesNoMore}
 use Rattle.hotel_statements.specs.Books.{IsKept, KeepsRows}
 
 -- A connection outside any transaction, over the tables of a desk of a version, whatever their rows.
@@ -42,13 +42,22 @@ pub record IsWhole (version : Version) (text : List ℕ) (tree : ℕ) (columns c
 
 -- What a reading of the tables promises, of a connection from old to new: what it says of the trees where the test holds at its end.
 -- It changes no row, and a crash in it leaves nothing new.
-pub record ReadsTo {R : Type 0} (version : Version) (Says : R → Trees → Type 0) (old new : State)
+pub record ReadsIf {R : Type 0} (was : Type 0) (version : Version) (Says : R → Trees → Type 0) (old new : State)
     (result : Result R LookFault) : Type 0 where
   pub ours : IsOurs version new
   pub keeps : KeepsRows old new
   pub says : IsKept new → IfOk result (λ r. Says r old.now.trees)
-  pub open_on : IsKept old → HasCleanDisk new → OnOk result (IsTrue new.is_open)
-  pub crash : Survives old new (λ _. IsKept old → ⊥)
+  pub open_on : was → HasCleanDisk new → OnOk result (IsTrue new.is_open)
+  pub crash : LeavesNoMore old new
+
+-- The same of a reading that makes a statement: where it is answered over a disk that returned what was written, the connection
+-- is open.
+abbrev pub ReadsTo : {R : Type 0} → Version → (R → Trees → Type 0) → State → State → Result R LookFault → Type 0
+ReadsTo version Says old new result = ReadsIf (Unit {0}) version Says old new result
+
+-- The same of one that may ask nothing: only a connection that was open is open.
+abbrev pub MayRead : {R : Type 0} → Version → (R → Trees → Type 0) → State → State → Result R LookFault → Type 0
+MayRead version Says old new result = ReadsIf (IsKept old) version Says old new result
 
 -- the rows of the first four tables, and of the next four
 abbrev pub AreFirst : (Vec PlainMeta Global × Vec PlainKind Global) × (Vec PlainRoom Global × Vec PlainStay Global) → Trees → Type 0

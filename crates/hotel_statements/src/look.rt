@@ -1,11 +1,11 @@
 //! One keyed statement, and the row that it finds.
 ghost use Rattle.std.specs.Prelude.{◌≡◌, IfOk, OnOk, IsTrue, map};
 ghost use Rattle.sqlite.specs.Held.{state};
-ghost use Rattle.sqlite.specs.State.{HasCleanDisk, Survives};
+ghost use Rattle.sqlite.specs.State.{HasCleanDisk};
 ghost use Rattle.sqlite.specs.Query.{Query};
 ghost use Rattle.sqlite.specs.Values.{bound};
 ghost use Rattle.hotel_statements.specs.Books.{IsBooks, IsKept, KeepsRows};
-ghost use Rattle.hotel_statements.specs.LookUps.{Asks, FindsFirst, FindsAll};
+ghost use Rattle.hotel_statements.specs.LookUps.{Asks, FindsFirst, FindsAll, LeavesNoMore};
 
 use crate::from_row::{FromRow, fault_of};
 use keycard_rules::LookFault;
@@ -26,7 +26,7 @@ pub(crate) fn look<S: Alter, R: FromRow>(
     ensures keeps { KeepsRows (state S.Store conn.old) (state S.Store conn.new) }
     ensures found { IsKept (state S.Store conn.new) → FindsFirst R.FromRow.of text.now (bound params.now) (state S.Store conn.old) result }
     ensures open_on { HasCleanDisk (state S.Store conn.new) → OnOk result (IsTrue (state S.Store conn.new).is_open) }
-    ensures crash { Survives (state S.Store conn.old) (state S.Store conn.new) (λ _. IsKept (state S.Store conn.old) → ⊥) }
+    ensures crash { LeavesNoMore (state S.Store conn.old) (state S.Store conn.new) }
 {
     match conn.query_row(text, params) {
         Ok(row) => Ok(Some(R::from_row(alloc, &row)?)),
@@ -62,7 +62,7 @@ pub(crate) fn look_all<S: Alter, R: FromRow + Drop>(
     ensures keeps { KeepsRows (state S.Store conn.old) (state S.Store conn.new) }
     ensures found { IsKept (state S.Store conn.new) → FindsAll (λ all. all.items) R.FromRow.of text.now (bound params.now) (state S.Store conn.old) result }
     ensures open_on { HasCleanDisk (state S.Store conn.new) → OnOk result (IsTrue (state S.Store conn.new).is_open) }
-    ensures crash { Survives (state S.Store conn.old) (state S.Store conn.new) (λ _. IsKept (state S.Store conn.old) → ⊥) }
+    ensures crash { LeavesNoMore (state S.Store conn.old) (state S.Store conn.new) }
 {
     match conn.query_all(text, params) {
         Ok(rows) => read_all(alloc, &rows),

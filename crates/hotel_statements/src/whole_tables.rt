@@ -4,7 +4,7 @@ ghost use Rattle.std.specs.List.{list_all};
 ghost use Rattle.std.specs.Ordering.{is_lt};
 ghost use Rattle.sqlite.specs.Held.{state};
 ghost use Rattle.hotel_core.specs.Model.SoundRooms.{are_in_order};
-ghost use Rattle.hotel_statements.specs.WholeTables.{IsOurs, IsWhole, ReadsTo, AreFirst, AreLast, AreFitRows, AreRead};
+ghost use Rattle.hotel_statements.specs.WholeTables.{IsOurs, IsWhole, ReadsTo, MayRead, AreFirst, AreLast, AreFitRows, AreRead};
 ghost use Rattle.hotel_statements.specs.PlainRows.{ArePlainRows};
 
 use crate::from_row::fault_of;
@@ -161,7 +161,7 @@ fn read_fits<S: Alter>(
     version: Version,
 ) -> Result<Option<Vec<PlainFit>>, LookFault>
     requires { IsOurs version (state S.Store conn.old) }
-    ensures { ReadsTo version (AreFitRows version) (state S.Store conn.old) (state S.Store conn.new) result }
+    ensures { MayRead version (AreFitRows version) (state S.Store conn.old) (state S.Store conn.new) result }
 {
     match version {
         Version::First => Ok(None),

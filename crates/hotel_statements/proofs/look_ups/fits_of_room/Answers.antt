@@ -28,6 +28,6 @@ returns g c =
           (λ all a. fits_find old.now.trees (c.requires.desk (c.look_all.ensures.keeps kept).0).tables c.args.room
           all.items a)
           (shown kept _ selects.select_fits);
-      open_on = c.look_all.ensures.open_on;
+      open_on = λ _. c.look_all.ensures.open_on;
       crash = c.look_all.ensures.crash;
     }

@@ -17,7 +17,7 @@ returns-in_err-card g c =
       keeps = then_keeps old mid new c.in_ok-party.ensures.keeps c.last_card.ensures.keeps;
       found = search rules;
       open_on = search rules;
-      crash = then_survives old mid new (λ _. c.in_ok-party.ensures.open_on tt) c.in_ok-party.ensures.crash c.last_card.ensures.crash;
+      crash = then_survives old mid new (c.in_ok-party.ensures.open_on tt) c.in_ok-party.ensures.crash c.last_card.ensures.crash;
     }
 
 pub returns : goal.returns
@@ -34,6 +34,6 @@ returns g c =
           let party = c.number_after.ensures ∙ ap number_after (c.in_ok-party.ensures.found then.0) in
           let card = c.number_after-2.ensures ∙ ap number_after (c.in_ok-card.ensures.found kept ∙ ap (λ (d : Database). length (rows_in d.trees).cards) first.1) in
           ap₂ (λ p q. record { party = p; card = q }) party card;
-      open_on = λ _ clean. c.in_ok-card.ensures.open_on tt clean;
-      crash = then_survives old mid new (λ _. c.in_ok-party.ensures.open_on tt) c.in_ok-party.ensures.crash c.in_ok-card.ensures.crash;
+      open_on = c.in_ok-card.ensures.open_on;
+      crash = then_survives old mid new (c.in_ok-party.ensures.open_on tt) c.in_ok-party.ensures.crash c.in_ok-card.ensures.crash;
     }

@@ -1,10 +1,9 @@
-use Rattle.std.proofs.Common.{◌≡◌, ◌+◌, ◌==◌, ◌∙◌, sym, ap, ap₂, arith, rules, ℕ, true, false, None, Some}
+use Rattle.std.proofs.Common.{◌≡◌, ◌+◌, ◌==◌, ◌∙◌, sym, ap, ap₂, rules, ℕ, true, false, None, Some}
 use Rattle.std.specs.Prelude.{option_map, if◌then◌else◌}
 use Rattle.std.specs.Map.{lookup}
 use Rattle.std.specs.BTreeMap.{is_at}
 use Rattle.sqlite.specs.Held.{state}
 use Rattle.sqlite.specs.Effect.{Database}
-use Rattle.sqlite.specs.State.{HasCleanDisk}
 use Rattle.hotel_core.specs.declared.books.rows.FitRow.{FitRow}
 use Rattle.hotel_core.specs.Model.Words.{pair_cmp}
 use Rattle.hotel_rows.specs.Joined.{with_count, fit_of_number}
@@ -55,10 +54,8 @@ returns-in_default-2 g c =
           let same = c.in_ok-bare.ensures.found kept
           ∙ ap (λ (d : Database). lookup (is_at (pair_cmp (room, number))) (bare_notes_in d.trees)) first.1 in
           no_note old.now.trees room fit count fits are number is (sym c.in_default-2.is ∙ same);
-      open_on = λ kept clean.
-          let before : HasCleanDisk mid = omega (arith, c.in_ok-bare.ensures.crash.clean, clean) in
-          c.in_ok-bare.ensures.open_on (before, c.in_ok-fits.ensures.open_on kept before) clean;
-      crash = then_survives old mid new c.in_ok-fits.ensures.open_on c.in_ok-fits.ensures.crash
+      open_on = λ _. c.in_ok-bare.ensures.open_on;
+      crash = then_survives old mid new (c.in_ok-fits.ensures.open_on tt) c.in_ok-fits.ensures.crash
           c.in_ok-bare.ensures.crash;
     }
 
@@ -94,10 +91,8 @@ returns-then-eq g c =
           ∙ ap (λ (d : Database). lookup (is_at (pair_cmp (room, number))) (bare_notes_in d.trees)) first.1 in
           ap (λ b. if b then Some note else None) (sym of_it)
           ∙ note_is old.now.trees room fit count fits are number is bare note (sym c.in-Some-2.is ∙ same) with;
-      open_on = λ kept clean.
-          let before : HasCleanDisk mid = omega (arith, c.in_ok-bare.ensures.crash.clean, clean) in
-          c.in_ok-bare.ensures.open_on (before, c.in_ok-fits.ensures.open_on kept before) clean;
-      crash = then_survives old mid new c.in_ok-fits.ensures.open_on c.in_ok-fits.ensures.crash
+      open_on = λ _. c.in_ok-bare.ensures.open_on;
+      crash = then_survives old mid new (c.in_ok-fits.ensures.open_on tt) c.in_ok-fits.ensures.crash
           c.in_ok-bare.ensures.crash;
     }
 
@@ -133,9 +128,7 @@ returns g c =
           ∙ ap (λ (d : Database). lookup (is_at (pair_cmp (room, number))) (bare_notes_in d.trees)) first.1 in
           ap (λ b. if b then Some note else None) (sym of_other)
           ∙ note_is old.now.trees room fit count fits are number is bare note (sym c.in-Some-2.is ∙ same) with;
-      open_on = λ kept clean.
-          let before : HasCleanDisk mid = omega (arith, c.in_ok-bare.ensures.crash.clean, clean) in
-          c.in_ok-bare.ensures.open_on (before, c.in_ok-fits.ensures.open_on kept before) clean;
-      crash = then_survives old mid new c.in_ok-fits.ensures.open_on c.in_ok-fits.ensures.crash
+      open_on = λ _. c.in_ok-bare.ensures.open_on;
+      crash = then_survives old mid new (c.in_ok-fits.ensures.open_on tt) c.in_ok-fits.ensures.crash
           c.in_ok-bare.ensures.crash;
     }

@@ -1,7 +1,6 @@
-use Rattle.std.proofs.Common.{◌≡◌, ◌∙◌, sym, ap, arith, Some}
+use Rattle.std.proofs.Common.{◌≡◌, ◌∙◌, sym, ap, Some}
 use Rattle.sqlite.specs.Held.{state}
 use Rattle.sqlite.specs.Effect.{Database}
-use Rattle.sqlite.specs.State.{HasCleanDisk}
 use Rattle.hotel_core.specs.Model.Rows.{at_number, fits_at, last_fit}
 use Rattle.hotel_rows.specs.Joined.{with_last}
 use Rattle.hotel_statements.specs.Tables.{fits_in, bare_rooms_in}
@@ -16,7 +15,7 @@ returns-in_default g c =
       books = c.in_ok-bare.ensures.books;
       keeps = c.in_ok-bare.ensures.keeps;
       found = λ kept. room_lost old.now.trees c.args.room (sym c.in_default.is ∙ c.in_ok-bare.ensures.found kept);
-      open_on = c.in_ok-bare.ensures.open_on;
+      open_on = λ _. c.in_ok-bare.ensures.open_on;
       crash = c.in_ok-bare.ensures.crash;
     }
 
@@ -40,9 +39,7 @@ returns g c =
           let with : c.in_ok-room_with.field-0 ≡ with_last (last_fit fits) bare = c.in_ok-room_with.ensures
           ∙ ap (λ fs. with_last (last_fit fs) bare) c.deref.ensures.value in
           room_is old.now.trees c.args.room bare c.in_ok-room_with.field-0 fits there are with;
-      open_on = λ kept clean.
-          let before : HasCleanDisk mid = omega (arith, c.in_ok-fits.ensures.crash.clean, clean) in
-          c.in_ok-fits.ensures.open_on (before, c.in_ok-bare.ensures.open_on kept before) clean;
+      open_on = c.in_ok-fits.ensures.open_on;
       crash = then_survives old mid new c.in_ok-bare.ensures.open_on c.in_ok-bare.ensures.crash
           c.in_ok-fits.ensures.crash;
     }

@@ -13,7 +13,7 @@ returns-in_default g c =
       keeps = c.in_ok-bare.ensures.keeps;
       found = λ kept. ap (option_map counts_of_row) (sym c.in_default.is ∙ c.in_ok-bare.ensures.found kept)
           ∙ counts_are old.now.trees c.args.room;
-      open_on = c.in_ok-bare.ensures.open_on;
+      open_on = λ _. c.in_ok-bare.ensures.open_on;
       crash = c.in_ok-bare.ensures.crash;
     }
 
@@ -26,6 +26,6 @@ returns g c =
       found = λ kept. ap Some c.counts.ensures
           ∙ ap (option_map counts_of_row) (sym c.in-Some.is ∙ c.in_ok-bare.ensures.found kept)
           ∙ counts_are old.now.trees c.args.room;
-      open_on = c.in_ok-bare.ensures.open_on;
+      open_on = λ _. c.in_ok-bare.ensures.open_on;
       crash = c.in_ok-bare.ensures.crash;
     }

@@ -27,8 +27,8 @@ returns-in-Ok g c =
     let rows = audit_on (rows_in old.now.trees) c.args.room in
     let are : IsKept mid → fits ≡ fits_at (rows_in old.now.trees).fits c.args.room = λ kept. rw c.in-Ok.is at
     (c.fits_of_room.ensures.found kept) in
-    let open_on : IsKept old → HasCleanDisk mid → IsTrue mid.is_open = λ kept clean. rw c.in-Ok.is at
-    (c.fits_of_room.ensures.open_on kept clean) in
+    let open_on : HasCleanDisk mid → IsTrue mid.is_open = λ clean. rw c.in-Ok.is at
+    (c.fits_of_room.ensures.open_on tt clean) in
     let walked : (all : List Note) → SaysRows (note_under fits) text.walk_audit (int c.args.room ∷ []) mid all
     → WalksRows g.K.Sink.after g.K.Sink.after_stop all mid (state g.S.Store c.walk.new.conn) c.args.sink.now
     c.walk.new.sink c.walk.result = rw c.numbered.ensures at c.walk.ensures in

@@ -40,8 +40,8 @@ returns-in-Ok-Some g c =
     let there : IsKept mid → Some row ≡ room_at (rows_in db) c.args.room =
     λ kept. ap (option_map (fitted (fits_in db) c.args.room)) (found kept)
     ∙ sym (room_joined (fits_in db) (bare_rooms_in db) c.args.room) in
-    let open_on : IsKept old → HasCleanDisk mid → IsTrue mid.is_open =
-    λ kept clean. rw c.in-Ok-Some.is at (c.bare_room.ensures.open_on kept clean) in
+    let open_on : HasCleanDisk mid → IsTrue mid.is_open =
+    λ clean. rw c.in-Ok-Some.is at (c.bare_room.ensures.open_on clean) in
     let walked : (all : List ChainRow) → SaysRows (chain_row_of row.lock_place) text.walk_chain (int c.args.room ∷ []) mid all
     → WalksRows g.K.Sink.after g.K.Sink.after_stop all mid (state g.S.Store c.walk.new.conn) c.args.sink.now
     c.walk.new.sink
@@ -61,7 +61,10 @@ returns-in-Ok-Some g c =
 pub returns-in-Ok-None : goal.returns-in-Ok-None
 returns-in-Ok-None g c =
     let db = (state g.S.Store c.args.conn.now).now.trees in
-    let none : IsKept (state g.S.Store c.bare_room.new.conn) → None ≡ room_at (rows_in db) c.args.room =
+    let mid = state g.S.Store c.bare_room.new.conn in
+    let open_on : HasCleanDisk mid → IsTrue mid.is_open = λ clean. rw c.in-Ok-None.is at
+    (c.bare_room.ensures.open_on clean) in
+    let none : IsKept mid → None ≡ room_at (rows_in db) c.args.room =
     λ kept. room_lost db c.args.room (rw (c.in-Ok-None.is, c.in-Ok-None.field-0-is) at
     (c.bare_room.ensures.found kept)) in
     record {
@@ -70,9 +73,11 @@ returns-in-Ok-None g c =
       hands = (
         [],
         refl,
-        λ kept. ap (λ o. said_of o []
-            (λ (row : RoomRow). filter_map (chain_row_on (rows_in db) row) (range_with_len 0 row.codes))) (none kept),
+        λ clean. ap (λ o. said_of o []
+            (λ (row : RoomRow). filter_map (chain_row_on (rows_in db) row) (range_with_len 0 row.codes)))
+            (none (clean, open_on clean)),
       );
+      open_on = λ clean _. open_on clean;
       crash = c.bare_room.ensures.crash;
     }
 
