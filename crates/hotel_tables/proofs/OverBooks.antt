@@ -2,7 +2,7 @@
 use Rattle.std.proofs.Common.{◌≡◌, ◌-◌, ℕ, List, Option, Result, sym, ap, subst, ◌∙◌}
 use Rattle.std.specs.Map.{values_of}
 use Rattle.sqlite.specs.Held.{Held}
-use Rattle.sqlite.specs.State.{State}
+use Rattle.sqlite.specs.State.{State, HasCleanDisk}
 use Rattle.hotel_nights.specs.declared.stay.Stay.{Stay}
 use Rattle.hotel_nights.specs.FullNight.{is_full, first_day}
 use Rattle.hotel_core.specs.declared.books.walks.WalkFault.{WalkFault}
@@ -38,11 +38,11 @@ module _ {S : Type 0} (shown : Held S → State) (inside self : Tabled S) (same 
   pub handed_over : {K R : Type 0} (after after_stop : K → R → K → Type 0) (list : Rows → List R) (conn : Held S)
       (new : Tabled S) (sink end : K) (walked result : Result (Unit {0}) WalkFault) → new.conn ≡ conn → result ≡ walked
       → (handed : List R) × Hands after after_stop handed sink end walked
-      × (IsKept (shown conn) → handed ≡ list (rows_by inside))
+      × (HasCleanDisk (shown conn) → handed ≡ list (rows_by inside))
       → (handed : List R) × Hands after after_stop handed sink end result
       × (IsKept (shown new.conn) → handed ≡ list (rows_by self))
   handed_over after after_stop list conn new sink end walked result at is h = (
     h.0,
     subst (λ (r : Result (Unit {0}) WalkFault). Hands after after_stop h.0 sink end r) (sym is) h.1,
-    λ kept. h.2 (subst (λ (c : Held S). IsKept (shown c)) at kept) ∙ ap (λ (b : Tabled S). list (rows_by b)) same,
+    λ kept. h.2 (subst (λ (c : Held S). HasCleanDisk (shown c)) at kept.0) ∙ ap (λ (b : Tabled S). list (rows_by b)) same,
   )

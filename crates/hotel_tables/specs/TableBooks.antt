@@ -1,9 +1,9 @@
 -- What books over tables are for their contracts, and what they keep true.
-use Rattle.std.specs.Prelude.{◌≡◌, ℕ, true, List, refl}
+use Rattle.std.specs.Prelude.{◌≡◌, ℕ, Bool, true, List, IsTrue, refl}
 use Rattle.std.specs.Coded.{Coded, code_by, coded×, coded_ℕ, coded_list}
 use Rattle.std.specs.Map.{values_of}
 use Rattle.sqlite.specs.Held.{Held, held_code}
-use Rattle.sqlite.specs.State.{State}
+use Rattle.sqlite.specs.State.{State, HasCleanDisk}
 use Rattle.keycard_rules.specs.declared.issued.LookFault.{LookFault}
 use Rattle.keycard_rules.specs.declared.issued.LookFault.TheVariants.{Memory, Store}
 use Rattle.hotel_core.specs.Model.Rows.{Rows, has_kind}
@@ -44,6 +44,8 @@ pub record IsCounted (kinds : List (List ℕ × ℕ)) (nights : List ((List ℕ 
   pub stays : CountsNights nights (values_of rows.stays)
 
 -- What books over tables keep true, whatever has failed.
-pub record IsTabled (s : State) (kinds : List (List ℕ × ℕ)) (nights : List ((List ℕ × ℕ) × List ℕ)) : Type 0 where
+pub record IsTabled (s : State) (kinds : List (List ℕ × ℕ)) (nights : List ((List ℕ × ℕ) × List ℕ)) (answers : Bool) : Type 0 where
   pub books : IsBooks s
   pub counted : IsKept s → IsCounted kinds nights (rows_in s.now.trees)
+  -- a connection that answered when it was last asked is open
+  pub answered : HasCleanDisk s → IsTrue answers → IsTrue s.is_open

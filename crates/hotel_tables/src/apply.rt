@@ -10,7 +10,7 @@ ghost use Rattle.hotel_statements.specs.Tables.{rows_in};
 ghost use Rattle.hotel_statements.specs.Books.{IsBooks, IsKept};
 ghost use Rattle.hotel_statements.specs.Steps.{IsMadeOf};
 ghost use Rattle.hotel_statements.specs.Statements.{WritesBy, statements_of};
-ghost use Rattle.hotel_statements.specs.LookUps.{Looks};
+ghost use Rattle.hotel_statements.specs.LookUps.{Looks, MayLook};
 ghost use Rattle.hotel_tables.specs.Applied.{MayMake, Applies, told, known_by_room, known_by_fit, told_for, known_for};
 ghost use Rattle.hotel_tables.specs.Applied.{can_count};
 
@@ -157,7 +157,7 @@ fn told_for<S: Alter>(
     change: &Change,
 ) -> Result<Option<Known>, LookFault>
     requires { IsBooks (state S.Store conn.old) }
-    ensures { Looks (λ known. option_map told known) (told_for change.now) (state S.Store conn.old)
+    ensures { MayLook (λ known. option_map told known) (told_for change.now) (state S.Store conn.old)
         (state S.Store conn.new) result }
 {
     match change {
@@ -182,7 +182,7 @@ fn known_for<S: Alter>(
 ) -> Result<Option<Known>, LookFault>
     requires books { IsBooks (state S.Store conn.old) }
     requires fits { IsKept (state S.Store conn.old) → Fits change.now (rows_in (state S.Store conn.old).now.trees) }
-    ensures looks { Looks (λ known. option_map told known) (known_for change.now) (state S.Store conn.old)
+    ensures looks { MayLook (λ known. option_map told known) (known_for change.now) (state S.Store conn.old)
         (state S.Store conn.new) result }
     ensures counted { IfOk result (λ known. IfSome known (λ k. can_count change.now (told k) ≡ true)) }
     ensures there { IsKept (state S.Store conn.new) → IfOk result IsSome }

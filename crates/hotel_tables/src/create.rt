@@ -93,6 +93,7 @@ impl<S: Alter + Drop> TableBooks<S> {
             conn,
             kinds: KindRooms::empty(alloc),
             nights: NightIndex::empty(alloc),
+            answers: false,
             memory: 0,
             store: 0,
         })

@@ -54,6 +54,7 @@ impl<S: Alter + Drop> TableBooks<S> {
                 conn,
                 kinds: counts.kinds,
                 nights: counts.nights,
+                answers: false,
                 memory: 0,
                 store: 0,
             }),

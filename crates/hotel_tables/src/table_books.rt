@@ -1,11 +1,12 @@
 //! Books over tables.
-ghost use Rattle.std.specs.Prelude.{◌≡◌, IfErr, refl};
+ghost use Rattle.std.specs.Prelude.{◌≡◌, IfErr, OnOk, IsTrue, refl};
 ghost use Rattle.std.proofs.Common.{ap, ◌∙◌};
 ghost use Rattle.keycard_rules.specs.Rise.{HasRisen, NoFewer};
 ghost use Rattle.hotel_core.specs.Books.Lookups.{codes_in};
 ghost use Rattle.sqlite.specs.Held.{state};
 ghost use Rattle.sqlite.specs.State.{HasCleanDisk};
 ghost use Rattle.hotel_statements.specs.Books.{IsKept};
+ghost use Rattle.hotel_statements.specs.LookUps.{LeavesNoMore};
 ghost use Rattle.hotel_statements.specs.Tables.{rows_in};
 ghost use Rattle.hotel_tables.specs.TableBooks.{failed};
 
@@ -29,6 +30,8 @@ pub struct TableBooks<S: Alter> {
     pub(crate) conn: Connection<S>,
     pub(crate) kinds: KindRooms,
     pub(crate) nights: NightIndex,
+    /// Whether the connection answered when it was last asked.
+    pub(crate) answers: bool,
     pub(crate) memory: u64,
     pub(crate) store: u64,
 }
@@ -43,7 +46,7 @@ impl<S: Alter> Model for TableBooks<S> {
 
     ghost view = { λ b. record { conn = b.conn; kinds = b.kinds; nights = b.nights; memory = b.memory; store = b.store } };
 
-    ghost invariant = { λ b. IsTabled (state S.Store b.conn) b.kinds b.nights };
+    ghost invariant = { λ b. IsTabled (state S.Store b.conn) b.kinds b.nights b.answers };
 }
 
 impl<S: Alter> TableBooks<S> {
@@ -59,15 +62,18 @@ impl<S: Alter> TableBooks<S> {
         }
     }
 
-    /// What a call answered; a failure is counted by its cause.
+    /// What the connection answered when it was asked; a failure is counted by its cause.
     pub(crate) fn counting<T>(&mut self, found: Result<T, LookFault>) -> Result<T, LookFault>
+        requires answered { HasCleanDisk (state S.Store self.old.conn)
+            → OnOk found (IsTrue (state S.Store self.old.conn).is_open) }
         ensures same { result ≡ found }
         ensures conn { self.new.conn ≡ self.old.conn }
         ensures counted { NoFewer (failed self.old) (failed self.new) }
         ensures risen { IfErr found (λ why. HasRisen (failed self.old why) (failed self.new why)) }
     {
-        if let Err(why) = &found {
-            self.count(*why);
+        match &found {
+            Ok(_) => self.answers = true,
+            Err(why) => self.count(*why),
         }
         found
     }
@@ -89,6 +95,7 @@ impl<S: Alter> Issued for TableBooks<S> {
     ghost never_fails = { ⊥ };
 
     fn is_issued(&mut self, code: Code) -> Result<bool, LookFault> {
+        self.answers = false;
         let issued = look_ups::is_issued(self.alloc, &mut self.conn, code);
         self.counting(issued)
     }

@@ -1,6 +1,8 @@
 //! The walks over the lists' rows, each counted where it fails.
-ghost use Rattle.std.specs.Prelude.{◌≡◌, IfSome};
+ghost use Rattle.std.specs.Prelude.{◌≡◌, None, IfSome, IsTrue};
 ghost use Rattle.keycard_rules.specs.Rise.{HasRisen, NoFewer};
+ghost use Rattle.sqlite.specs.Held.{state};
+ghost use Rattle.sqlite.specs.State.{HasCleanDisk};
 ghost use Rattle.hotel_core.specs.Books.Walks.{failure_of};
 ghost use Rattle.hotel_tables.specs.TableBooks.{failed};
 
@@ -14,6 +16,8 @@ use sqlite::Alter;
 impl<S: Alter> TableBooks<S> {
     /// How a walk ended; a failure is counted by its cause.
     fn counting_walk(&mut self, end: Result<(), WalkFault>) -> Result<(), WalkFault>
+        requires answered { HasCleanDisk (state S.Store self.old.conn) → failure_of end ≡ None
+            → IsTrue (state S.Store self.old.conn).is_open }
         ensures same { result ≡ end }
         ensures conn { self.new.conn ≡ self.old.conn }
         ensures counted { NoFewer (failed self.old) (failed self.new) }
@@ -22,7 +26,7 @@ impl<S: Alter> TableBooks<S> {
         match end {
             Err(WalkFault::Memory) => self.count(LookFault::Memory),
             Err(WalkFault::Store) => self.count(LookFault::Store),
-            Ok(()) | Err(WalkFault::Stopped) => {}
+            Ok(()) | Err(WalkFault::Stopped) => self.answers = true,
         }
         end
     }
@@ -30,11 +34,13 @@ impl<S: Alter> TableBooks<S> {
 
 impl<S: Alter> Walks for TableBooks<S> {
     fn walk_arrivals<K: Sink<Stay>>(&mut self, day: Day, sink: &mut K) -> Result<(), WalkFault> {
+        self.answers = false;
         let end = walks::arrivals(self.alloc, &mut self.conn, day, sink);
         self.counting_walk(end)
     }
 
     fn walk_in_house<K: Sink<HouseRow>>(&mut self, sink: &mut K) -> Result<(), WalkFault> {
+        self.answers = false;
         let end = walks::in_house(self.alloc, &mut self.conn, sink);
         self.counting_walk(end)
     }
@@ -44,11 +50,13 @@ impl<S: Alter> Walks for TableBooks<S> {
         room: RoomNo,
         sink: &mut K,
     ) -> Result<(), WalkFault> {
+        self.answers = false;
         let end = walks::chain(self.alloc, &mut self.conn, room, sink);
         self.counting_walk(end)
     }
 
     fn walk_left_behind<K: Sink<BehindRow>>(&mut self, sink: &mut K) -> Result<(), WalkFault> {
+        self.answers = false;
         let end = walks::left_behind(self.alloc, &mut self.conn, sink);
         self.counting_walk(end)
     }
@@ -58,6 +66,7 @@ impl<S: Alter> Walks for TableBooks<S> {
         room: RoomNo,
         sink: &mut K,
     ) -> Result<(), WalkFault> {
+        self.answers = false;
         let end = walks::audit(self.alloc, &mut self.conn, room, sink);
         self.counting_walk(end)
     }

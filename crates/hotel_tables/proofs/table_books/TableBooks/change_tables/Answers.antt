@@ -1,4 +1,5 @@
 use Rattle.std.proofs.Common.{Err, ap, sym, ◌∙◌, subst}
+use Rattle.std.proofs.lemmas.Bool.{false≢true}
 use Rattle.sqlite.specs.Effect.{Database}
 use Rattle.sqlite.specs.Held.{state}
 use Rattle.hotel_core.specs.Model.Rows.{Rows}
@@ -21,6 +22,7 @@ invariant_of-self-in_default g c = record {
       let same = c.in_ok-ended.ensures.keeps kept in
       subst (λ (d : Database). IsCounted c.count_added.new.kinds c.count_added.new.nights (rows_in d.trees)) (sym same.1)
       (counted_still (c.self.invariant.counted same.0) c.count_added.new.kinds c.count_added.new.nights c.count_added.ensures.rooms c.in_default.ensures.err);
+  answered = λ clean yes. absurd (false≢true yes);
 }
 
 pub invariant_of-self-in-Ok-apply_change : goal.invariant_of-self-in-Ok-apply_change
@@ -38,6 +40,7 @@ invariant_of-self-in-Ok-apply_change g c = record {
       subst (IsCounted c.count_room.new.kinds c.count_ended.new.nights) (sym rows_are)
       (counted_after change rows c.self.inside.kinds c.count_added.new.kinds c.count_room.new.kinds c.self.inside.nights c.count_added.new.nights c.count_ended.new.nights
       (c.self.invariant.counted same.0) fits c.count_added.ensures.rooms c.in-Ok.ensures.kind c.in-Ok.ensures.stays c.count_room.ensures less);
+  answered = λ clean yes. absurd (false≢true yes);
 }
 
 pub invariant_of-self-in-Err : goal.invariant_of-self-in-Err
@@ -48,6 +51,7 @@ invariant_of-self-in-Err g c = record {
       subst (λ (d : Database). IsCounted c.count_added.new.kinds c.uncount_added.new.nights (rows_in d.trees)) (sym (c.in-Err.ensures.same kept ∙ same.1))
       (counted_back (c.self.invariant.counted same.0) (booked_by c.args.change.now) c.count_added.new.kinds c.count_added.new.nights c.uncount_added.new.nights
       c.count_added.ensures.rooms c.in-Ok.ensures.stays c.uncount_added.ensures);
+  answered = λ clean yes. absurd (false≢true yes);
 }
 
 pub invariant_of-self-in-Err-2 : goal.invariant_of-self-in-Err-2
@@ -58,6 +62,7 @@ invariant_of-self-in-Err-2 g c = record {
       subst (λ (d : Database). IsCounted c.count_added.new.kinds c.uncount_added.new.nights (rows_in d.trees)) (sym (c.in-Err.ensures.same kept ∙ same.1))
       (counted_back (c.self.invariant.counted same.0) (booked_by c.args.change.now) c.count_added.new.kinds c.count_added.new.nights c.uncount_added.new.nights
       c.count_added.ensures.rooms c.in-Ok.ensures.stays c.uncount_added.ensures);
+  answered = λ clean yes. absurd (false≢true yes);
 }
 
 pub returns-in-Err-clause-applies : goal.returns-in-Err-clause-applies

@@ -1,4 +1,5 @@
 use Rattle.std.proofs.Common.{sym, subst, []}
+use Rattle.std.proofs.lemmas.Bool.{false≢true}
 use Rattle.sqlite.specs.Held.{state}
 use Rattle.hotel_core.specs.Model.Rows.{Rows}
 use Rattle.hotel_statements.specs.Tables.{rows_in}
@@ -13,4 +14,5 @@ invariant_of-result g c = record {
       let rows : Rows = rows_in (state g.S.Store c.make_desk.new.conn).now.trees in
       let none = empty_counted rows (c.in_default.ensures.made kept).no_rows_are in
       subst (λ kinds. IsCounted kinds c.empty-2.result rows) (sym c.empty.ensures) (subst (λ nights. IsCounted [] nights rows) (sym c.empty-2.ensures) none);
+  answered = λ clean yes. absurd (false≢true yes);
 }

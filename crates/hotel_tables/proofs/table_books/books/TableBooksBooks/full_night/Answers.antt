@@ -1,16 +1,27 @@
-use Rattle.std.proofs.Common.{refl, arith}
+use Rattle.std.proofs.Common.{ap, ◌-◌, ◌∙◌, rules}
+use Rattle.sqlite.specs.Effect.{Database}
 use Rattle.sqlite.specs.Held.{state}
+use Rattle.hotel_core.specs.Books.Lookups.{first_full_on}
+use Rattle.hotel_statements.specs.Tables.{rows_in}
 use Rattle.hotel_tables.proofs.OverBooks.{night_found}
 use Rattle.hotel_tables.proofs.table_books.books.TableBooksBooks.full_night.Goals as goal
 
 pub returns : goal.returns
-returns g c = record {
-  answer = night_found (state g.S.Store) _ c.args.self.now c.self.view_is c.args.kind.now c.rooms-rooms.result
-      c.args.arrive c.args.depart c.full_night.result c.self.invariant.counted c.rooms-rooms.ensures
-      c.full_night.ensures;
-  kept = λ _. refl;
-  was_clean = λ clean. clean;
-  counted = λ why. omega arith;
-  fault = tt;
-  sure = λ never. absurd never;
-}
+returns g c =
+    let asked = c.in_ok-ask.ensures.looks in
+    record {
+      answer = λ kept.
+          night_found (state g.S.Store) _ c.ask.new.self c.self.view_is c.args.kind.now c.rooms-rooms.result
+          c.args.arrive c.args.depart c.full_night.result c.self.invariant.counted c.rooms-rooms.ensures
+          c.full_night.ensures kept
+          ∙ ap (λ (d : Database). first_full_on (rows_in d.trees) c.args.kind.now c.args.arrive (c.args.depart - c.args.arrive))
+          (asked.keeps kept).1;
+      kept = λ kept. ap (λ (d : Database). rows_in d.trees) (asked.keeps kept).1;
+      was_clean = λ kept. (asked.keeps kept).0;
+      was_honest = search rules;
+      vouched = search rules;
+      stop = asked.crash;
+      counted = c.in_ok-ask.ensures.counted;
+      fault = tt;
+      sure = λ never. absurd never;
+    }

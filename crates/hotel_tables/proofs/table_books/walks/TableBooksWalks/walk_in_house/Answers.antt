@@ -11,6 +11,9 @@ returns g c = record {
       c.counting_walk.result c.counting_walk.ensures.conn c.counting_walk.ensures.same c.in_house-end.ensures.hands;
   kept = search rules;
   was_clean = search rules;
+  was_honest = search rules;
+  vouched = search rules;
+  stop = search rules;
   counted = search rules;
   fault = search rules;
   sure = λ never. absurd never;

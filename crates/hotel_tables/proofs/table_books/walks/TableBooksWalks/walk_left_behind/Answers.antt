@@ -13,6 +13,9 @@ returns g c = record {
       c.left_behind-end.ensures.hands;
   kept = search rules;
   was_clean = search rules;
+  was_honest = search rules;
+  vouched = search rules;
+  stop = search rules;
   counted = search rules;
   fault = search rules;
   sure = λ never. absurd never;
