@@ -161,7 +161,7 @@ module _ {found : Found} {old mid : State} (has : old.now.schema ≡ first_schem
       same = λ kept. same kept ∙ (opens.keeps (was kept)).1;
       counted = λ _. tt;
       open_on = λ _. tt;
-      fault = λ _. fits_in First old.now (fault_for why) has (fits_call First old.now.trees why cause);
+      fault = λ _. fits_in First old.now (fault_for why) has (fits_call _ First old.now.trees why cause);
       crash = crash_whole;
     }
 

@@ -84,6 +84,7 @@ head (r ∷ rs) = r
 
 one_number : (at : ℕ) {m k : ℤ} (l : PlainMeta) (row : Row) → meta_columns row ∷ [] ≡ meta_shown l ∷ []
     → column (meta_shown l) at ≡ Int m → column (meta_columns row) at ≡ Int k → m ≡ k
+unfolding head
 one_number at l row same shown is =
     let e : column (meta_columns row) at ≡ column (meta_shown l) at = ap (λ (rows : List Row). column (head rows) at) same in
     ap id_in (sym shown ∙ sym e ∙ is)
@@ -104,6 +105,7 @@ lacks_row version db (l ∷ k ∷ meta) plain_rows none has =
 one_row : (n : ℕ) (day : Value) (rows : List Row) → map meta_columns rows ≡ (Int (pos 1) ∷ Int (pos n) ∷ day ∷ []) ∷ []
     → (row : Row) × (rows ≡ row ∷ []) × (column (meta_columns row) 0 ≡ Int (pos 1))
     × (column (meta_columns row) 1 ≡ Int (pos n))
+unfolding head
 one_row n day [] e = absurd (let w = ap length e in omega (arith, w))
 one_row n day (r ∷ []) e =
     (r, refl, ap (λ (rows : List Row). column (head rows) 0) e, ap (λ (rows : List Row). column (head rows) 1) e)
@@ -417,14 +419,14 @@ fits_more more version db fault.Store (inr unshown) = inr unshown
 fits_more more version db fault.NotADesk fits = fits
 fits_more more version db (fault.Damaged t) fits = fits
 
-pub fits_call : {P : Type 0} (version : Version) (db : Trees) (why : LookFault) → (why ≡ look.Store → P)
+pub fits_call : (P : Type 0) (version : Version) (db : Trees) (why : LookFault) → (why ≡ look.Store → P)
     → FaultFits P version db (fault_for why)
-fits_call version db look.Memory failed = tt
-fits_call version db look.Store failed = inl (failed refl)
+fits_call P version db look.Memory failed = tt
+fits_call P version db look.Store failed = inl (failed refl)
 
-pub fits_memory : {P : Type 0} (version : Version) (db : Trees) (why : LookFault) → why ≡ look.Memory
+pub fits_memory : (P : Type 0) (version : Version) (db : Trees) (why : LookFault) → why ≡ look.Memory
     → FaultFits P version db (fault_for why)
-fits_memory {P} version db why is = subst (λ w. FaultFits P version db (fault_for w)) (sym is) tt
+fits_memory P version db why is = subst (λ w. FaultFits P version db (fault_for w)) (sym is) tt
 
 always : {A : Type 0} {P : Type 0} (r : Result A OpenFault) → P → OnOk r P
 always (Ok a) p = p
@@ -452,7 +454,7 @@ opens_not version old new why reads = record {
   ours = reads.ours;
   keeps = reads.keeps;
   found = λ _. tt;
-  fault = λ _. fits_call version old.now.trees why (λ is. subst (λ w. FailsToRead version old new w) is reads);
+  fault = λ _. fits_call _ version old.now.trees why (λ is. subst (λ w. FailsToRead version old new w) is reads);
   reading = (Err why, reads, refl);
   open_on = λ _. tt;
   crash = reads.crash;

@@ -22,7 +22,7 @@ returns-in_err-write_desk-clause-crash g c =
     let mid = state g.S.Store c.write_desk.new.tx.conn.now in
     let zero : Survives old start (λ _. ⊥) = search rules in
     let all : Survives old mid (λ _. ⊥) = none_then zero c.write_desk.ensures.survives in
-    search (rules, survives_weaker _ _ (λ _. ⊥) IsEmptyDesk (λ _ _ none. absurd none) (none_then all c.drop-tx-in_err-write_desk.ensures.survives))
+    search (rules, survives_weaker _ _ (λ _. ⊥) IsEmptyDesk (λ _ _ none. absurd none) (none_then all c.drop-tx.ensures.survives))
 
 pub returns-in_err-write_desk-clause-same : goal.returns-in_err-write_desk-clause-same
 returns-in_err-write_desk-clause-same g c =
@@ -31,11 +31,11 @@ returns-in_err-write_desk-clause-same g c =
     c.is_autocommit-settled.ensures.settled (c.is_autocommit-settled.ensures.value ∙ ap not c.requires.alone) in
     search (rules, undone old (state g.S.Store c.transaction-tx.result.conn.now) (state g.S.Store c.write_desk.new.tx.conn.now) _ _
     (ap (state g.S.Store) c.transaction-tx.ensures.begun) settled c.write_desk.ensures.kept
-    c.drop-tx-in_err-write_desk.ensures.survives c.drop-tx-in_err-write_desk.ensures.undone)
+    c.drop-tx.ensures.survives c.drop-tx.ensures.undone)
 
 pub returns-in_err-write_desk-clause-failed : goal.returns-in_err-write_desk-clause-failed
 returns-in_err-write_desk-clause-failed g c =
-    let is = answered c.from_residual-in_err-write_desk.result c.from_residual-in_err-write_desk.ensures.1 in
+    let is = answered c.from_residual.result c.from_residual.ensures.1 in
     subst (λ (r : Result (Unit {0}) Error). IfErr r (FailsToMake g.S.Store c.args.conn.now _)) (sym is)
     (not_made g.S.Store c.args.conn.now c.transaction-tx.result.conn.now c.write_desk.new.tx.conn.now _
     c.transaction-tx.ensures.begun _ c.in_err-write_desk.ensures.answers)

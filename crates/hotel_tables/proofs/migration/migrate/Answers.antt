@@ -52,7 +52,7 @@ returns g c =
 
 pub returns-in_err-upgrade-clause-failed : goal.returns-in_err-upgrade-clause-failed
 returns-in_err-upgrade-clause-failed g c =
-    let is = answered c.from_residual-in_err-upgrade.result c.from_residual-in_err-upgrade.ensures.1 in
+    let is = answered c.from_residual.result c.from_residual.ensures.1 in
     subst (λ (r : Result (Unit {0}) Error). IfErr r (FailsToUpgrade g.S.Store c.args.rooms.now c.args.conn.now _)) (sym is)
     (not_written g.S.Store c.args.rooms.now c.args.conn.now c.transaction-tx.result.conn.now c.upgrade.new.tx.conn.now _
     c.transaction-tx.ensures.begun _ c.in_err-upgrade.ensures.makes)

@@ -9,4 +9,5 @@ returns-in-Ok-Some-clause-err c = λ version db stored.
     (c.args.stored.now, stored, sym h ∙ c.in-Ok-Some.field-0-is)
 
 pub returns-in-Err-counts_of-clause-err : goal.returns-in-Err-counts_of-clause-err
-returns-in-Err-counts_of-clause-err c = ?counts
+returns-in-Err-counts_of-clause-err c = λ version db stored.
+    rw c.open_fault.ensures (fits_memory ⊥ version db c.in-Err-counts_of.why (c.in-Err-counts_of.ensures.err ?none))

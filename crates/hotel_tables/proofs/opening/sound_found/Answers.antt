@@ -5,4 +5,6 @@ use Rattle.hotel_tables.proofs.Opened.{fits_memory}
 use Rattle.hotel_tables.proofs.opening.sound_found.Goals as goal
 
 pub returns-in-Err-clause-err : goal.returns-in-Err-clause-err
-returns-in-Err-clause-err c = ?rooms
+returns-in-Err-clause-err c = λ version db stored.
+    rw c.open_fault.ensures (fits_memory ⊥ version db c.in-Err.why
+    (c.in-Err.ensures.err (rooms_numbered c.args.stored.now c.in_ok-counts.ensures.ok.1)))
