@@ -1,6 +1,7 @@
 mod FieldsAt
 mod Records
 mod NoteReplies
+mod ImportEnds
 mod LineAnswers
 mod NotesKnown
 mod SentAgain

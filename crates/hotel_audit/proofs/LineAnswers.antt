@@ -1,13 +1,13 @@
 -- The lines of a file, one after the other.
-use Rattle.std.proofs.Common.{◌≡◌, List, [], ◌∷◌, ◌++◌, refl, ap, Ok, ◌||◌}
+use Rattle.std.proofs.Common.{◌≡◌, ◌≢◌, ◌∙◌, List, [], ◌∷◌, ◌++◌, refl, ap, Ok, ◌||◌}
 use Rattle.hotel_core.proofs.{Names.Stream, Names.Note, Names.Rows, Names.Steps, Invariants.Assurance.assured, Lifted.Runs.runs_join}
 use Rattle.hotel_core.specs.declared.command.Command.TheVariants as command
-use Rattle.hotel_core.specs.{declared.reply.Reply.Reply, Model.Leads.Leads}
+use Rattle.hotel_core.specs.{declared.reply.Reply.Reply, Model.Leads.LeadsOn}
 use Rattle.hotel_core.specs.declared.reply.Reply.TheVariants as reply
 use Rattle.hotel_audit.specs.{declared.answer.LineAnswer.LineAnswer, declared.line.Cause.Cause, declared.line.Line.Line}
 use Rattle.hotel_audit.specs.declared.answer.LineAnswer.TheVariants as answer
 use Rattle.hotel_audit.specs.declared.line.Line.TheVariants as line
-use Rattle.hotel_audit.specs.Import.{AreAnswered, LinesLeadTo, answer_of, commands_of, has_taken, replies_in}
+use Rattle.hotel_audit.specs.Import.{AreAnswered, LinesLeadOn, answer_of, commands_of, has_taken, replies_in}
 use Rattle.hotel_audit.proofs.NoteReplies.{answered_reply}
 
 commands_of-append : (lines more : List Line) → commands_of (lines ++ more) ≡ commands_of lines ++ commands_of more
@@ -36,25 +36,39 @@ has_taken-push (answer.Taken ∷ answers) a = refl
 has_taken-push (_ ∷ answers) a = has_taken-push answers a
 
 -- no lines change nothing
-pub lead-none : (rows : Rows) → LinesLeadTo rows [] [] rows
-lead-none rows source h stands = (h, stands, (refl, refl), assured h stands.0)
+pub lead-none : (was : Type 0) (rows : Rows) → LinesLeadOn was rows [] [] was rows
+lead-none was rows source h reached stands = (h, reached, stands, (refl, refl), assured h reached)
 
 -- an unread line changes nothing
-pub lead-unread : (rows : Rows) (cause : Cause) → LinesLeadTo rows (line.Unread cause ∷ []) (answer.Unread cause ∷ []) rows
-lead-unread rows cause source h stands = (h, stands, (refl, refl), assured h stands.0)
+pub lead-unread : (was : Type 0) (rows : Rows) (cause : Cause) → LinesLeadOn was rows (line.Unread cause ∷ []) (answer.Unread cause ∷ []) was rows
+lead-unread was rows cause source h reached stands = (h, reached, stands, (refl, refl), assured h reached)
 
 -- a note's line is one step
-pub lead-note : (rows later : Rows) (note : Note) (given : Reply) (a : LineAnswer) → Ok a ≡ answer_of given
-    → ((source : Stream) → Leads rows (λ h h'. Steps h source (command.Reported note) given h' source) later) → LinesLeadTo rows (line.Note note ∷ []) (a ∷ []) later
-lead-note rows later note given a e step source h stands =
-    let s = step source h stands in
-    rw ((answered_reply note given a e).1) (s.0, s.1, (s.0, source, s.2, (refl, refl)), s.3)
+pub lead-note : (was is : Type 0) (rows later : Rows) (note : Note) (given : Reply) (a : LineAnswer) → Ok a ≡ answer_of given
+    → ((source : Stream) → LeadsOn was rows (λ h h'. Steps h source (command.Reported note) given h' source) is later) → LinesLeadOn was rows (line.Note note ∷ []) (a ∷ []) is later
+lead-note was is rows later note given a e step source h reached stands =
+    let s = step source h reached stands in
+    rw ((answered_reply note given a e).1) (s.0, s.1, s.2, (s.0, source, s.3, (refl, refl)), s.4)
 
 -- further lines after some
-pub lead-join : (rows mid later : Rows) (lines more : List Line) (answers others : List LineAnswer) → LinesLeadTo rows lines answers mid → LinesLeadTo mid more others later
-    → LinesLeadTo rows (lines ++ more) (answers ++ others) later
-lead-join rows mid later lines more answers others first second source h stands =
-    let r = first source h stands in
-    let k = second source r.0 r.1 in
+pub lead-join : (was clean is : Type 0) (rows mid later : Rows) (lines more : List Line) (answers others : List LineAnswer) → LinesLeadOn was rows lines answers clean mid → LinesLeadOn clean mid more others is later
+    → LinesLeadOn was rows (lines ++ more) (answers ++ others) is later
+lead-join was clean is rows mid later lines more answers others first second source h reached stands =
+    let r = first source h reached stands in
+    let k = second source r.0 r.1 r.2 in
     rw (commands_of-append lines more, replies_in-append answers others)
-    (k.0, k.1, runs_join h r.0 k.0 source source source (commands_of lines) (commands_of more) (replies_in answers) (replies_in others) r.2 k.2, k.3)
+    (k.0, k.1, k.2, runs_join h r.0 k.0 source source source (commands_of lines) (commands_of more) (replies_in answers) (replies_in others) r.3 k.3, k.4)
+
+-- what changed no row leaves as much
+pub lead-same : (was clean is : Type 0) (rows mid later : Rows) (lines : List Line) (answers : List LineAnswer) → (is → clean) → (is → later ≡ mid) → LinesLeadOn was rows lines answers clean mid → LinesLeadOn was rows lines answers is later
+lead-same was clean is rows mid later lines answers before same on source h reached stands =
+    let k = on source h reached stands in
+    (k.0, k.1, (λ now. same now ∙ k.2 (before now)), k.3, k.4)
+
+-- one more answer vouches as those before it do where it is to no note
+pub vouched_next : (answers : List LineAnswer) (a : LineAnswer) (before now : Type 0) → (replies_in answers ≢ [] → before) → (replies_in (a ∷ []) ≡ [] → before → now) → (replies_in (a ∷ []) ≢ [] → now)
+    → replies_in (answers ++ a ∷ []) ≢ [] → now
+vouched_next answers (answer.Unread cause) before now first same last some = same refl (first (λ none. some (replies_in-append answers (answer.Unread cause ∷ []) ∙ ap (λ l. l ++ []) none)))
+vouched_next answers answer.Taken before now first same last some = last (λ none. cc none)
+vouched_next answers answer.Seen before now first same last some = last (λ none. cc none)
+vouched_next answers (answer.Refused why) before now first same last some = last (λ none. cc none)

@@ -22,6 +22,15 @@ answered_reply note (reply.Refused why) answer e = by (is_failed (reply.Refused 
     by false q = let f = rw q at e in let same : answer ≡ Refused why = cc f in rw same (q, refl)
 answered_reply note _ answer e = cc e
 
+-- a reply that is answered so is no failure
+pub answered_sure : (given : Reply) (answer : LineAnswer) → Ok answer ≡ answer_of given → is_failed given ≡ false
+answered_sure (reply.Refused why) answer e = by (is_failed (reply.Refused why)) refl
+  where
+    by : (b : Bool) → is_failed (reply.Refused why) ≡ b → is_failed (reply.Refused why) ≡ false
+    by true q = let f = rw q at e in cc f
+    by false q = q
+answered_sure _ answer e = refl
+
 -- a reply that a note may be given and that is no answer says that memory or the store failed
 pub failed_reply : (given : Reply) (why : LookFault) → Err why ≡ answer_of given → IsNoteReply given → is_failed given ≡ true
 failed_reply reply.Taken why e n = cc e

@@ -1,9 +1,9 @@
 -- The import of an audit file: its notes are reported in order, and its unread lines do nothing.
-use Rattle.std.specs.Prelude.{ℕ, ◌≡◌, ◌⊎◌, Bool, true, false, List, [], ◌∷◌, ◌++◌, length, if◌then◌else◌, Result, Ok, Err}
+use Rattle.std.specs.Prelude.{ℕ, ◌≡◌, ◌≢◌, ◌⊎◌, Bool, true, false, List, [], ◌∷◌, ◌++◌, length, if◌then◌else◌, Result, Ok, Err, OnOk}
 use Rattle.rand_core.specs.Stream.{Stream}
-use Rattle.keycard_rules.specs.declared.issued.LookFault.{LookFault}
+use Rattle.keycard_rules.specs.{declared.issued.LookFault.LookFault, declared.issued.Issued.Ghosts as IssuedOf}
 use Rattle.keycard_rules.specs.declared.issued.LookFault.TheVariants as look
-use Rattle.hotel_core.specs.{declared.command.Command.Command, declared.reply.Reply.Reply, declared.reply.Refusal.Refusal, Model.Leads.Leads, Model.Rows.Rows}
+use Rattle.hotel_core.specs.{declared.command.Command.Command, declared.reply.Reply.Reply, declared.reply.Refusal.Refusal, Model.Leads.Leads, Model.Leads.LeadsOn, Model.Rows.Rows}
 use Rattle.hotel_core.specs.declared.command.Command.TheVariants as command
 use Rattle.hotel_core.specs.declared.reply.Reply.TheVariants as reply
 use Rattle.hotel_core.specs.declared.reply.Refusal.TheVariants as refusal
@@ -48,6 +48,10 @@ AreAnswered (line ∷ lines) [] = ⊥
 abbrev pub LinesLeadTo : Rows → List Line → List LineAnswer → Rows → Type 0
 LinesLeadTo rows lines answers later = (source : Stream) → Leads rows (λ h h'. Runs h source (commands_of lines) (replies_in answers) h' source) later
 
+-- The same of books that may have failed for good: the rows are those of the history if they were kept before the first line, and the later ones if they are kept after the last.
+abbrev pub LinesLeadOn : Type 0 → Rows → List Line → List LineAnswer → Type 0 → Rows → Type 0
+LinesLeadOn was rows lines answers is later = (source : Stream) → LeadsOn was rows (λ h h'. Runs h source (commands_of lines) (replies_in answers) h' source) is later
+
 -- one of the answers is Taken
 abbrev pub has_taken : List LineAnswer → Bool
 has_taken [] = false
@@ -71,6 +75,18 @@ EndsAfter file (Ok given) lines answers = (file ≡ Ok lines) × (answers ≡ gi
 EndsAfter file (Err (File why)) lines answers = (lines ≡ []) × (answers ≡ []) × ((why ≡ fault.Memory) ⊎ (file ≡ Err why))
 EndsAfter file (Err (Memory answered taken)) lines answers = IsFrontOf file lines answers answered taken
 EndsAfter file (Err (Store answered taken)) lines answers = IsFrontOf file lines answers answered taken
+
+-- What lines with these answers show of books from old to new that may have failed for good, where an import of them ended so: the notes ran with these replies, and an answer to a note vouches that the books were clean before the first line, and, where no failure came behind it, that they are after the last.
+pub record Vouches {B : Type 0} (I : IssuedOf B) (rows : B → Rows) (lines : List Line) (answers : List LineAnswer) (old new : B) (outcome : Result (List LineAnswer) ImportFault) : Type 0 where
+  pub happened : LinesLeadOn (I.is_clean old) (rows old) lines answers (I.is_clean new) (rows new)
+  pub was_clean : replies_in answers ≢ [] → I.is_clean old
+  pub is_clean : OnOk outcome (replies_in answers ≢ [] → I.is_clean new)
+
+-- An import of a file into books from old to new ended so: some of its lines have these answers, by which the books went.
+abbrev pub Imports : {B : Type 0} → IssuedOf B → (B → Rows) → Result (List Line) AuditFault → B → B → Result (List LineAnswer) ImportFault → Type 0
+Imports I rows file old new outcome = (lines : List Line) × (answers : List LineAnswer) × AreAnswered lines answers × EndsAfter file outcome lines answers
+    × (I.is_clean new → LinesLeadTo (rows old) lines answers (rows new))
+    × (I.is_honest new → Vouches I rows lines answers old new outcome)
 
 -- The failure that stopped the import, which the books counted. That there was no memory to read the file or for its answers isn't counted.
 abbrev pub failures_of : ImportFault → List Refusal

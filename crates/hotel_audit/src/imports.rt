@@ -1,10 +1,9 @@
 //! The import of an audit file into any books.
-ghost use Rattle.std.specs.Prelude.{◌≡◌, ◌<◌, List, [], ◌∷◌, length, IfOk, IfErr, OnErr, Ok, Err};
-ghost use Rattle.rand_core.specs.Stream.{Stream};
+ghost use Rattle.std.specs.Prelude.{◌≡◌, ◌≢◌, ◌<◌, [], ◌∷◌, length, IfOk, IfErr, OnErr, Ok, Err};
 ghost use Rattle.keycard_rules.specs.Rise.{NoFewer};
-ghost use Rattle.hotel_core.specs.{Books.Failures.AreCounted, Books.Failures.refusal_of, Model.Leads.Leads, Model.Run.Runs};
-ghost use Rattle.hotel_audit.specs.{declared.answer.LineAnswer.LineAnswer, declared.audit_file.AuditFault.AuditFault, declared.line.Line.Line, AuditFile.audit_lines};
-ghost use Rattle.hotel_audit.specs.Import.{AreAnswered, EndsAfter, IsAnswerTo, LinesLeadTo, answer_of, commands_of, failures_of, outcome_of, replies_in};
+ghost use Rattle.hotel_core.specs.{Books.Failures.AreCounted, Books.Failures.refusal_of};
+ghost use Rattle.hotel_audit.specs.{declared.audit_file.AuditFault.AuditFault, AuditFile.audit_lines};
+ghost use Rattle.hotel_audit.specs.Import.{Imports, IsAnswerTo, LinesLeadOn, answer_of, failures_of, outcome_of, replies_in};
 
 use crate::answer::LineAnswer;
 use crate::audit_file::{AuditFault, read_notes};
@@ -43,10 +42,14 @@ const fn answer_of(reply: &Reply) -> Result<LineAnswer, LookFault>
 /// Carries out one line.
 fn answer_line<B: Books>(books: &mut B, line: &Line) -> Result<LineAnswer, LookFault>
     ensures answer { IfOk result (λ answer. IsAnswerTo line.now answer) }
-    ensures step { IfOk result (λ answer. B.is_clean books.new → LinesLeadTo (B.rows books.old) (line.now ∷ []) (answer ∷ []) (B.rows books.new)) }
+    ensures happened { IfOk result (λ answer. B.is_honest books.new →
+        LinesLeadOn (B.is_clean books.old) (B.rows books.old) (line.now ∷ []) (answer ∷ []) (B.is_clean books.new) (B.rows books.new)) }
+    ensures vouched { IfOk result (λ answer. B.is_honest books.new → replies_in (answer ∷ []) ≢ [] → B.is_clean books.new) }
+    ensures unasked { IfOk result (λ answer. replies_in (answer ∷ []) ≡ [] → books.new ≡ books.old) }
     ensures unchanged { OnErr result (B.is_clean books.new → B.rows books.new ≡ B.rows books.old) }
     ensures failed { IfErr result (λ why. B.is_clean books.new → AreCounted (B.failures books.old) (B.failures books.new) (refusal_of why ∷ [])) }
     ensures was_clean { B.is_clean books.new → B.is_clean books.old }
+    ensures was_honest { B.is_honest books.new → B.is_honest books.old }
     ensures counted { NoFewer (B.failures books.old) (B.failures books.new) }
 {
     match line {
@@ -61,12 +64,11 @@ fn import_lines<B: Books>(
     books: &mut B,
     lines: &[Line],
 ) -> Result<Vec<LineAnswer>, ImportFault>
-    ensures imported { (done : List Line) × (answers : List LineAnswer) × AreAnswered done answers
-        × EndsAfter (Ok lines.now) (outcome_of (λ v. v.items) result) done answers
-        × (B.is_clean books.new → LinesLeadTo (B.rows books.old) done answers (B.rows books.new)) }
+    ensures imported { Imports B.Issued B.rows (Ok lines.now) books.old books.new (outcome_of (λ v. v.items) result) }
     ensures no_file { IfErr result (λ f. (why : AuditFault) → f ≡ ImportFault.File why → books.new ≡ books.old) }
     ensures failed { IfErr result (λ f. B.is_clean books.new → AreCounted (B.failures books.old) (B.failures books.new) (failures_of f)) }
     ensures was_clean { B.is_clean books.new → B.is_clean books.old }
+    ensures was_honest { B.is_honest books.new → B.is_honest books.old }
     ensures counted { NoFewer (B.failures books.old) (B.failures books.new) }
 {
     let Ok(mut answers) = Vec::with_capacity(alloc, lines.len()) else {
@@ -97,15 +99,13 @@ pub fn import<B: Books>(
     books: &mut B,
     bytes: &[u8],
 ) -> Result<Vec<LineAnswer>, ImportFault>
-    ensures imported { (lines : List Line) × (answers : List LineAnswer) × AreAnswered lines answers
-        × EndsAfter (audit_lines bytes.now) (outcome_of (λ v. v.items) result) lines answers
-        × (B.is_clean books.new → (source : Stream) → Leads (B.rows books.old)
-        (λ h h'. Runs h source (commands_of lines) (replies_in answers) h' source) (B.rows books.new)) }
+    ensures imported { Imports B.Issued B.rows (audit_lines bytes.now) books.old books.new (outcome_of (λ v. v.items) result) }
     ensures large { 262144 < length bytes.now → result ≡ Err (ImportFault.File AuditFault.TooLarge) }
     ensures no_file { IfErr result (λ f. (why : AuditFault) → f ≡ ImportFault.File why → books.new ≡ books.old) }
     ensures failed { IfErr result (λ fault. B.is_clean books.new →
         AreCounted (B.failures books.old) (B.failures books.new) (failures_of fault)) }
     ensures was_clean { B.is_clean books.new → B.is_clean books.old }
+    ensures was_honest { B.is_honest books.new → B.is_honest books.old }
     ensures counted { NoFewer (B.failures books.old) (B.failures books.new) }
 {
     match read_notes(alloc, bytes) {

@@ -1,6 +1,7 @@
 -- The lines that a sink wrote along a walk.
-use Rattle.std.proofs.Common.{ℕ, ◌≡◌, Bool, true, false, List, [], ◌∷◌, ◌++◌, Option, Result, Ok, Err, Some, map, append_assoc, append-nil, length-append, ap, refl, sym, ◌∙◌, subst, arith, inl, inr, flat_map}
+use Rattle.std.proofs.Common.{ℕ, ◌≡◌, Bool, true, false, List, [], ◌∷◌, ◌++◌, Option, Result, Ok, Err, Some, None, map, append_assoc, append-nil, length-append, ap, refl, sym, ◌∙◌, subst, arith, inl, inr, flat_map}
 use Rattle.hotel_core.proofs.Names.{Takes, Hands}
+use Rattle.hotel_core.specs.Books.Walks.{failure_of}
 use Rattle.std.specs.List.{concat}
 use Rattle.std.proofs.lemmas.List.{map-append, take-append-le}
 use Rattle.std.proofs.lemmas.List.Concat.{flat_map-append}
@@ -9,7 +10,7 @@ use Rattle.std.proofs.KnownBytes.{Appends-trans, Appends-kept}
 use Rattle.hotel_core.specs.declared.books.walks.WalkFault.{WalkFault}
 use Rattle.hotel_core.specs.declared.books.walks.WalkFault.TheVariants as walk
 use Rattle.hotel_lists.specs.{Bytes.AppendsFront, LineSink.SameEnds, LineSink.Gathers, LineSink.StopsAtWrite, LineSink.Finishes, declared.lines.Lines.Lines}
-use Rattle.hotel_lists.specs.{declared.fault.ListFault.ListFault, Lines.StopsBy, Lines.listed, Listings.IsFront, Listings.ListEnds, Listings.listing}
+use Rattle.hotel_lists.specs.{declared.fault.ListFault.ListFault, Lines.StopsBy, Lines.Vouches, Lines.listed, Listings.IsFront, Listings.ListEnds, Listings.listing}
 use Rattle.hotel_lists.specs.declared.fault.ListFault.TheVariants as fault
 use Rattle.hotel_lists.proofs.{BytesLemmas.front_next, CallsLemmas.none_forgotten, CallsLemmas.then_none_forgotten}
 
@@ -37,6 +38,43 @@ err_is_ok h = cc
 
 store_is_memory : {A : Type 0} → (the : Result A WalkFault) → the ≡ Err walk.Store → the ≡ Err walk.Memory → ⊥
 store_is_memory the h k = cc
+
+-- a sink that stopped vouches for nothing
+stopped_vouches : (is_clean : Type 0) (failed : Bool) → Vouches is_clean (listed (Err walk.Stopped) failed)
+stopped_vouches is_clean true = tt
+stopped_vouches is_clean false = tt
+
+-- a list that was written in full vouches as its walk does
+pub list_vouches : {W : Type 0} (contents : W → Option (List ℕ)) (is_clean : Type 0) (b c : Lines W) (end result : Result (Unit {0}) WalkFault) (last : Result (Unit {0}) ListFault)
+    → (failure_of end ≡ None → is_clean) → Finishes contents b c end result → last ≡ listed result c.write_failed → Vouches is_clean last
+list_vouches contents is_clean b c end result last walked f e = subst (Vouches is_clean) (sym e) (by end result walked f)
+  where
+    by : (end result : Result (Unit {0}) WalkFault) → (failure_of end ≡ None → is_clean) → Finishes contents b c end result → Vouches is_clean (listed result c.write_failed)
+    by (Ok done) (Ok ended) walked f = walked refl
+    by (Err walk.Stopped) (Ok ended) walked f = absurd (err_is_ok (sym f.0))
+    by (Err walk.Memory) (Ok ended) walked f = absurd (err_is_ok (sym f.0))
+    by (Err walk.Store) (Ok ended) walked f = absurd (err_is_ok (sym f.0))
+    by _ (Err walk.Memory) walked f = tt
+    by _ (Err walk.Store) walked f = tt
+    by _ (Err walk.Stopped) walked f = stopped_vouches is_clean c.write_failed
+
+-- a list fails by the store only where its walk did
+pub store_failed : {W : Type 0} (contents : W → Option (List ℕ)) (b c : Lines W) (end result : Result (Unit {0}) WalkFault) (last : Result (Unit {0}) ListFault)
+    → Finishes contents b c end result → last ≡ listed result c.write_failed → last ≡ Err fault.Store → end ≡ Err walk.Store
+store_failed contents b c end result last f same e = by end result f (sym same ∙ e)
+  where
+    stopped : (failed : Bool) → listed (Err walk.Stopped) failed ≡ Err fault.Store → ⊥
+    stopped true e = cc e
+    stopped false e = cc e
+
+    by : (end result : Result (Unit {0}) WalkFault) → Finishes contents b c end result → listed result c.write_failed ≡ Err fault.Store → end ≡ Err walk.Store
+    by end (Ok done) f e = cc e
+    by end (Err walk.Memory) f e = cc e
+    by end (Err walk.Stopped) f e = absurd (stopped c.write_failed e)
+    by (Err walk.Store) (Err walk.Store) f e = refl
+    by (Err walk.Memory) (Err walk.Store) f e = absurd (store_is_memory (Err walk.Store) refl f.0)
+    by (Err walk.Stopped) (Err walk.Store) f e = cc f.0
+    by (Ok done) (Err walk.Store) f e = absurd (err_is_ok f.0)
 
 -- of rows in two parts, and of one more row
 regroup : {R : Type 0} (sent held : List R) (row : R) (rest : List R) → (sent ++ held) ++ row ∷ rest ≡ (sent ++ (held ++ row ∷ [])) ++ rest

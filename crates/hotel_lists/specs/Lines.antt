@@ -82,10 +82,18 @@ listed (Err walk.Memory) write_failed = Err fault.Memory
 listed (Err walk.Store) write_failed = Err fault.Store
 listed (Err walk.Stopped) write_failed = if write_failed then Err fault.Write else Err fault.Memory
 
--- A list left of the books what a look-up may leave; the store fails only where a failure of the store was counted.
+-- What the end of a list vouches for: that the books are clean, where it was written in full or its room isn't there.
+abbrev pub Vouches : Type 0 → Result (Unit {0}) ListFault → Type 0
+Vouches is_clean (Ok done) = is_clean
+Vouches is_clean (Err fault.NoRoom) = is_clean
+Vouches is_clean (Err _) = Unit {0}
+
+-- A list left of the books what a look-up may leave, and vouches for them where they are honest; the store fails only where a failure of the store was counted.
 pub record LooksAt {B : Type 0} (I : IssuedOf B) (old new : B) (result : Result (Unit {0}) ListFault) : Type 0 where
   pub kept : I.is_clean new → I.is_kept old new
   pub was_clean : I.is_clean new → I.is_clean old
+  pub was_honest : I.is_honest new → I.is_honest old
+  pub vouched : I.is_honest new → Vouches (I.is_clean new) result
   pub counted : NoFewer (I.failures old) (I.failures new)
   pub store : result ≡ Err fault.Store → HasRisen (I.failures old look.Store) (I.failures new look.Store)
 

@@ -31,7 +31,7 @@ const AUDIT: &[u8] = b"room,fit,count,kind,card,old,new,at\n";
 
 /// Whether the room is there, or why no list of it is written.
 fn find_room<B: Walks>(books: &mut B, room: RoomNo) -> Result<(), ListFault>
-    ensures room { B.is_clean books.new → FindsRoom (room_at (B.rows books.old) room) result }
+    ensures room { B.is_honest books.new → FindsRoom (room_at (B.rows books.old) room) result }
     ensures unwritten { result ≡ Err Write → ⊥ }
     ensures books { LooksAt B.Issued books.old books.new result }
 {
@@ -52,7 +52,7 @@ fn write_rows<B: Walks, L: Listing<B>, W: Write>(
     writer: &mut W,
     calls: &mut IoCalls,
 ) -> Result<(), ListFault>
-    ensures text { B.is_clean books.new → ListEnds [] (Some (listing header.now L.Row.line (L.rows list.now (B.rows books.old)))) (W.contents writer.old) (W.contents writer.new) result }
+    ensures text { B.is_honest books.new → ListEnds [] (Some (listing header.now L.Row.line (L.rows list.now (B.rows books.old)))) (W.contents writer.old) (W.contents writer.new) result }
     ensures no_room { result ≡ Err NoRoom → ⊥ }
     ensures books { LooksAt B.Issued books.old books.new result }
     ensures failed { result ≡ Err Write → calls.new.write_failed ≡ true }
@@ -76,7 +76,7 @@ fn write_room_rows<B: Walks, L: Listing<B>, W: Write>(
     writer: &mut W,
     calls: &mut IoCalls,
 ) -> Result<(), ListFault>
-    ensures text { B.is_clean books.new → ListEnds [] (of_room (is_some (room_at (B.rows books.old) room)) (listing header.now L.Row.line (L.rows list.now (B.rows books.old)))) (W.contents writer.old) (W.contents writer.new) result }
+    ensures text { B.is_honest books.new → ListEnds [] (of_room (is_some (room_at (B.rows books.old) room)) (listing header.now L.Row.line (L.rows list.now (B.rows books.old)))) (W.contents writer.old) (W.contents writer.new) result }
     ensures books { LooksAt B.Issued books.old books.new result }
     ensures failed { result ≡ Err Write → calls.new.write_failed ≡ true }
     ensures calls { NoneForgotten calls.old calls.new }
@@ -93,7 +93,7 @@ pub fn write_arrivals<B: Walks, W: Write>(
     writer: &mut W,
     calls: &mut IoCalls,
 ) -> Result<(), ListFault>
-    ensures text { B.is_clean books.new → ListEnds [] (Some (listing arrivals_header arrival_line (arrivals_on (B.rows books.old) day))) (W.contents writer.old) (W.contents writer.new) result }
+    ensures text { B.is_honest books.new → ListEnds [] (Some (listing arrivals_header arrival_line (arrivals_on (B.rows books.old) day))) (W.contents writer.old) (W.contents writer.new) result }
     ensures no_room { result ≡ Err NoRoom → ⊥ }
     ensures books { LooksAt B.Issued books.old books.new result }
     ensures failed { result ≡ Err Write → calls.new.write_failed ≡ true }
@@ -109,7 +109,7 @@ pub fn write_in_house<B: Walks, W: Write>(
     writer: &mut W,
     calls: &mut IoCalls,
 ) -> Result<(), ListFault>
-    ensures text { B.is_clean books.new → ListEnds [] (Some (listing in_house_header house_line (in_house_on (B.rows books.old)))) (W.contents writer.old) (W.contents writer.new) result }
+    ensures text { B.is_honest books.new → ListEnds [] (Some (listing in_house_header house_line (in_house_on (B.rows books.old)))) (W.contents writer.old) (W.contents writer.new) result }
     ensures no_room { result ≡ Err NoRoom → ⊥ }
     ensures books { LooksAt B.Issued books.old books.new result }
     ensures failed { result ≡ Err Write → calls.new.write_failed ≡ true }
@@ -126,7 +126,7 @@ pub fn write_chain_of<B: Walks, W: Write>(
     writer: &mut W,
     calls: &mut IoCalls,
 ) -> Result<(), ListFault>
-    ensures text { B.is_clean books.new → ListEnds [] (of_room (is_some (room_at (B.rows books.old) room)) (listing chain_header chain_line (chain_on (B.rows books.old) room))) (W.contents writer.old) (W.contents writer.new) result }
+    ensures text { B.is_honest books.new → ListEnds [] (of_room (is_some (room_at (B.rows books.old) room)) (listing chain_header chain_line (chain_on (B.rows books.old) room))) (W.contents writer.old) (W.contents writer.new) result }
     ensures books { LooksAt B.Issued books.old books.new result }
     ensures failed { result ≡ Err Write → calls.new.write_failed ≡ true }
     ensures calls { NoneForgotten calls.old calls.new }
@@ -141,7 +141,7 @@ pub fn write_left_behind<B: Walks, W: Write>(
     writer: &mut W,
     calls: &mut IoCalls,
 ) -> Result<(), ListFault>
-    ensures text { B.is_clean books.new → ListEnds [] (Some (listing left_behind_header behind_line (left_behind_on (B.rows books.old)))) (W.contents writer.old) (W.contents writer.new) result }
+    ensures text { B.is_honest books.new → ListEnds [] (Some (listing left_behind_header behind_line (left_behind_on (B.rows books.old)))) (W.contents writer.old) (W.contents writer.new) result }
     ensures no_room { result ≡ Err NoRoom → ⊥ }
     ensures books { LooksAt B.Issued books.old books.new result }
     ensures failed { result ≡ Err Write → calls.new.write_failed ≡ true }
@@ -158,7 +158,7 @@ pub fn write_audit_of<B: Walks, W: Write>(
     writer: &mut W,
     calls: &mut IoCalls,
 ) -> Result<(), ListFault>
-    ensures text { B.is_clean books.new → ListEnds [] (of_room (is_some (room_at (B.rows books.old) room)) (listing audit_header note_line (audit_on (B.rows books.old) room))) (W.contents writer.old) (W.contents writer.new) result }
+    ensures text { B.is_honest books.new → ListEnds [] (of_room (is_some (room_at (B.rows books.old) room)) (listing audit_header note_line (audit_on (B.rows books.old) room))) (W.contents writer.old) (W.contents writer.new) result }
     ensures books { LooksAt B.Issued books.old books.new result }
     ensures failed { result ≡ Err Write → calls.new.write_failed ≡ true }
     ensures calls { NoneForgotten calls.old calls.new }

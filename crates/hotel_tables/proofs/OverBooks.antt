@@ -40,9 +40,9 @@ module _ {S : Type 0} (shown : Held S → State) (inside self : Tabled S) (same 
       → (handed : List R) × Hands after after_stop handed sink end walked
       × (HasCleanDisk (shown conn) → handed ≡ list (rows_by inside))
       → (handed : List R) × Hands after after_stop handed sink end result
-      × (IsKept (shown new.conn) → handed ≡ list (rows_by self))
+      × (HasCleanDisk (shown new.conn) → handed ≡ list (rows_by self))
   handed_over after after_stop list conn new sink end walked result at is h = (
     h.0,
     subst (λ (r : Result (Unit {0}) WalkFault). Hands after after_stop h.0 sink end r) (sym is) h.1,
-    λ kept. h.2 (subst (λ (c : Held S). HasCleanDisk (shown c)) at kept.0) ∙ ap (λ (b : Tabled S). list (rows_by b)) same,
+    λ clean. h.2 (subst (λ (c : Held S). HasCleanDisk (shown c)) at clean) ∙ ap (λ (b : Tabled S). list (rows_by b)) same,
   )

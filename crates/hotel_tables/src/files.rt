@@ -14,6 +14,10 @@ use sqlite_disk::Disk;
 use std::alloc::Global;
 use std::hash::{BuildHasher, RandomState};
 
+/// How many pages the log has before it is copied into the database's file: 16 MB. Each copying writes a page once, however
+/// often the log has it, so that a longer log copies fewer pages for each change.
+const CHECKPOINT_FRAMES: usize = 4_000;
+
 /// Why a file gave no books.
 #[derive(Clone, Copy, Debug, PartialEq, Eq)]
 pub enum FileFault {
@@ -57,12 +61,15 @@ fn books_of<S: Alter + Drop>(
 
 /// The options of a connection, with a salt that is drawn at random for its log.
 fn drawn_options(rt: &HostRuntime) -> Result<Options, Error>
-    ensures { IfErr result (λ e. e ≡ Error.SqliteFailure ErrorCode.CannotOpen) }
+    ensures log { IfOk result (λ options. options.checkpoint_frames ≡ 4000) }
+    ensures refused { IfErr result (λ e. e ≡ Error.SqliteFailure ErrorCode.CannotOpen) }
 {
-    match RandomState::new(rt) {
-        Ok(state) => Ok(Options::new(state.hash_one(&0u8))),
-        Err(_) => Err(Error::SqliteFailure(ErrorCode::CannotOpen)),
-    }
+    let Ok(state) = RandomState::new(rt) else {
+        return Err(Error::SqliteFailure(ErrorCode::CannotOpen));
+    };
+    let mut options = Options::new(state.hash_one(&0u8));
+    options.checkpoint_frames = CHECKPOINT_FRAMES;
+    Ok(options)
 }
 
 /// What a database is opened with: the files at a path, and options.

@@ -1,6 +1,6 @@
-use Rattle.std.proofs.Common.{◌≡◌, ◌∙◌, refl, subst, Result, Ok, Err, IfOk, IfErr, OnErr}
+use Rattle.std.proofs.Common.{◌≡◌, ◌∙◌, refl, sym, subst, Result, Ok, Err, IfOk, IfErr, OnErr}
 use Rattle.hotel_core.proofs.Names.{AreCounted}
-use Rattle.hotel_audit.proofs.{LineAnswers.lead-note, LineAnswers.lead-unread, NoteReplies.answered_reply, NoteReplies.failed_reply, NoteReplies.failure_told}
+use Rattle.hotel_audit.proofs.{LineAnswers.lead-note, LineAnswers.lead-unread, NoteReplies.answered_reply, NoteReplies.answered_sure, NoteReplies.failed_reply, NoteReplies.failure_told}
 use Rattle.hotel_audit.proofs.imports.answer_line.Goals as goal
 
 if_ok : {A E : Type 0} (r : Result A E) (P : A → Type 0) → ((a : A) → Ok a ≡ r → P a) → IfOk r P
@@ -18,16 +18,28 @@ if_err (Err e) P h = h e refl
 pub returns-in-Unread-clause-answer : goal.returns-in-Unread-clause-answer
 returns-in-Unread-clause-answer g c = rw c.in-Unread.is refl
 
-pub returns-in-Unread-clause-step : goal.returns-in-Unread-clause-step
-returns-in-Unread-clause-step g c = λ clean. rw c.in-Unread.is (lead-unread (g.B.Books.rows c.args.books.now) c.in-Unread.cause)
+pub returns-in-Unread-clause-happened : goal.returns-in-Unread-clause-happened
+returns-in-Unread-clause-happened g c = λ honest. rw c.in-Unread.is (lead-unread (g.B.Issued.is_clean c.args.books.now) (g.B.Books.rows c.args.books.now) c.in-Unread.cause)
+
+pub returns-in-Unread-clause-vouched : goal.returns-in-Unread-clause-vouched
+returns-in-Unread-clause-vouched g c = λ honest some. absurd (some refl)
 
 pub returns-in-Note-clause-answer : goal.returns-in-Note-clause-answer
 returns-in-Note-clause-answer g c = rw c.in-Note.is (if_ok c.answer_of.result _ (λ a e. (answered_reply c.in-Note.note c.report.result a (e ∙ c.answer_of.ensures)).0))
 
-pub returns-in-Note-clause-step : goal.returns-in-Note-clause-step
-returns-in-Note-clause-step g c =
+pub returns-in-Note-clause-happened : goal.returns-in-Note-clause-happened
+returns-in-Note-clause-happened g c =
+    let is_clean = g.B.Issued.is_clean in
+    let rows = g.B.Books.rows in
     rw c.in-Note.is
-    (if_ok c.answer_of.result _ (λ a e clean. lead-note (g.B.Books.rows c.args.books.now) (g.B.Books.rows c.report.new.books) c.in-Note.note c.report.result a (e ∙ c.answer_of.ensures) (c.report.ensures.step clean)))
+    (if_ok c.answer_of.result _ (λ a e honest. lead-note (is_clean c.args.books.now) (is_clean c.report.new.books) (rows c.args.books.now) (rows c.report.new.books) c.in-Note.note c.report.result a (e ∙ c.answer_of.ensures)
+    (c.report.ensures.happened honest)))
+
+pub returns-in-Note-clause-vouched : goal.returns-in-Note-clause-vouched
+returns-in-Note-clause-vouched g c = if_ok c.answer_of.result _ (λ a e honest some. c.report.ensures.vouched honest (answered_sure c.report.result a (e ∙ c.answer_of.ensures)))
+
+pub returns-in-Note-clause-unasked : goal.returns-in-Note-clause-unasked
+returns-in-Note-clause-unasked g c = if_ok c.answer_of.result _ (λ a e none. let said = sym (answered_reply c.in-Note.note c.report.result a (e ∙ c.answer_of.ensures)).1 ∙ none in cc said)
 
 pub returns-in-Note-clause-unchanged : goal.returns-in-Note-clause-unchanged
 returns-in-Note-clause-unchanged g c =

@@ -1,8 +1,11 @@
-use Rattle.std.proofs.Common.{ℕ, ◌≡◌, ◌∙◌, ◌+◌, subst, Bool, false, Ok, List, [], ◌∷◌, ◌++◌, take, drop, length, arith, sym, refl, ap, inl, ◌||◌}
-use Rattle.hotel_core.proofs.{Names.Rows, Names.take_more, OfCode.FailuresCounted.counted_after}
-use Rattle.std.proofs.lemmas.List.{take-append-drop}
-use Rattle.hotel_audit.specs.{declared.answer.LineAnswer.LineAnswer, declared.answer.LineAnswer.TheVariants.Taken, declared.line.Line.Line, Import.AreAnswered, Import.IsFrontOf, Import.LinesLeadTo, Import.has_taken}
-use Rattle.hotel_audit.proofs.LineAnswers.{AreAnswered-append, has_taken-push, lead-join, lead-none}
+use Rattle.std.proofs.Common.{◌≡◌, ◌∙◌, ◌+◌, subst, false, Ok, [], ◌∷◌, ◌++◌, take, arith, sym, refl, ap, inl, ◌||◌}
+use Rattle.hotel_core.proofs.{Names.take_more, OfCode.FailuresCounted.counted_after}
+use Rattle.std.proofs.lemmas.List.{take_all}
+use Rattle.hotel_audit.specs.{declared.answer.LineAnswer.LineAnswer, declared.answer.LineAnswer.TheVariants.Taken, Import.AreAnswered, Import.LinesLeadOn, Import.has_taken}
+use Rattle.hotel_audit.specs.declared.audit_file.AuditFault.TheVariants as fault
+use Rattle.hotel_audit.specs.declared.imports.ImportFault.TheVariants.{Memory, Store}
+use Rattle.hotel_audit.proofs.LineAnswers.{AreAnswered-append, has_taken-push, lead-join, lead-none, vouched_next}
+use Rattle.hotel_audit.proofs.ImportEnds.{all_answered, answered_before, none_begun}
 use Rattle.hotel_audit.proofs.imports.import_lines.Goals as goal
 use Rattle.hotel_audit.proofs.imports.import_lines.Goals.{then-taken, else-taken+in-Taken, else-taken+in_default-matches}
 
@@ -10,18 +13,6 @@ use Rattle.hotel_audit.proofs.imports.import_lines.Goals.{then-taken, else-taken
 has_taken-other : (a : LineAnswer) → (a ≡ Taken → ⊥) → has_taken (a ∷ []) ≡ false
 has_taken-other Taken other = absurd (other refl)
 has_taken-other _ other = refl
-
--- a line failed: those before it were answered, and the rows are as these left them
-answered_before : (clean : Type 0) (old now later : Rows) (lines : List Line) (i : ℕ) (answers : List LineAnswer) (answered : ℕ) (taken : Bool)
-    → AreAnswered (take i lines) answers → length answers ≡ answered → taken ≡ has_taken answers → (clean → later ≡ now) → (clean → LinesLeadTo old (take i lines) answers now)
-    → (done : List Line) × (given : List LineAnswer) × AreAnswered done given × IsFrontOf (Ok lines) done given answered taken × (clean → LinesLeadTo old done given later)
-answered_before clean old now later lines i answers answered taken each count some same lead = (
-  take i lines,
-  answers,
-  each,
-  (drop i lines, ap (λ ls. Ok ls) (sym (take-append-drop i lines)), count, sym some),
-  λ here. subst (LinesLeadTo old (take i lines) answers) (sym (same here)) (lead here),
-)
 
 pub loop-line-init : goal.loop-line-init
 loop-line-init g c = record {
@@ -31,25 +22,39 @@ loop-line-init g c = record {
   number = c.in-Ok.ensures.len;
   taken = rw (c.in-Ok.ensures.items) refl;
   each = rw (c.in-Ok.ensures.items) tt;
-  lead = λ clean. rw (c.in-Ok.ensures.items) (lead-none (g.B.Books.rows c.args.books.now));
+  was_honest = λ honest. honest;
+  happened = λ honest. rw (c.in-Ok.ensures.items) (lead-none (g.B.Issued.is_clean c.args.books.now) (g.B.Books.rows c.args.books.now));
+  vouched = λ honest. rw (c.in-Ok.ensures.items) (λ noted. absurd (noted refl));
 }
 
 pub returns-in_default-clause-imported : goal.returns-in_default-clause-imported
-returns-in_default-clause-imported g c = ([], [], tt, (refl, refl, inl refl), λ clean. lead-none (g.B.Books.rows c.args.books.now))
+returns-in_default-clause-imported g c = none_begun g.B.Issued g.B.Books.rows c.args.books.now (g.met.B.Issued.clean_honest _) (Ok c.args.lines.now) fault.Memory (inl refl)
 
 pub returns-in-Err-Memory-clause-imported : goal.returns-in-Err-Memory-clause-imported
 returns-in-Err-Memory-clause-imported g c =
     let inv = c.loop-line.invariant in
     let f = c.in-Err-Memory.ensures in
-    answered_before (g.B.Issued.is_clean c.answer_line.new.books) (g.B.Books.rows c.args.books.now) (g.B.Books.rows c.loop-line.books) (g.B.Books.rows c.answer_line.new.books) c.args.lines.now c.loop-line.line-index
-    c.loop-line.answers.items c.len-answered.result c.loop-line.taken inv.each (omega (arith, c.len-answered.ensures)) inv.taken f.unchanged (λ clean. inv.lead (f.was_clean clean))
+    answered_before g.B.Issued g.B.Books.rows c.args.books.now c.answer_line.new.books (g.met.B.Issued.clean_honest _) c.loop-line.books c.args.lines.now c.loop-line.line-index c.loop-line.answers.items
+    c.len-answered.result c.loop-line.taken (Memory c.len-answered.result c.loop-line.taken) (λ front. front) inv.each (omega (arith, c.len-answered.ensures)) inv.taken f.was_clean f.was_honest inv.was_clean f.unchanged inv.happened
+    inv.vouched
 
 pub returns-in-Err-Store-clause-imported : goal.returns-in-Err-Store-clause-imported
 returns-in-Err-Store-clause-imported g c =
     let inv = c.loop-line.invariant in
     let f = c.in-Err-Store.ensures in
-    answered_before (g.B.Issued.is_clean c.answer_line.new.books) (g.B.Books.rows c.args.books.now) (g.B.Books.rows c.loop-line.books) (g.B.Books.rows c.answer_line.new.books) c.args.lines.now c.loop-line.line-index
-    c.loop-line.answers.items c.len-answered.result c.loop-line.taken inv.each (omega (arith, c.len-answered.ensures)) inv.taken f.unchanged (λ clean. inv.lead (f.was_clean clean))
+    answered_before g.B.Issued g.B.Books.rows c.args.books.now c.answer_line.new.books (g.met.B.Issued.clean_honest _) c.loop-line.books c.args.lines.now c.loop-line.line-index c.loop-line.answers.items
+    c.len-answered.result c.loop-line.taken (Store c.len-answered.result c.loop-line.taken) (λ front. front) inv.each (omega (arith, c.len-answered.ensures)) inv.taken f.was_clean f.was_honest inv.was_clean f.unchanged inv.happened
+    inv.vouched
+
+pub returns-clause-imported : goal.returns-clause-imported
+returns-clause-imported g c =
+    let inv = c.loop-line.invariant in
+    let all : take c.loop-line.line-index c.args.lines.now ≡ c.args.lines.now = take_all _ _ c.loop-line-test.false in
+    let is_clean = g.B.Issued.is_clean in
+    let rows = g.B.Books.rows in
+    all_answered g.B.Issued rows c.args.books.now c.loop-line.books (g.met.B.Issued.clean_honest _) c.args.lines.now c.loop-line.answers.items (subst (λ lines. AreAnswered lines c.loop-line.answers.items) all inv.each)
+    inv.was_clean
+    (λ honest. subst (λ lines. LinesLeadOn (is_clean c.args.books.now) (rows c.args.books.now) lines c.loop-line.answers.items (is_clean c.loop-line.books) (rows c.loop-line.books)) all (inv.happened honest)) inv.vouched
 
 pub returns-in-Err-Memory-clause-failed : goal.returns-in-Err-Memory-clause-failed
 returns-in-Err-Memory-clause-failed g c = λ clean. counted_after _ _ _ _ c.loop-line.invariant.counted (rw c.in-Err-Memory.field-0-is at (c.in-Err-Memory.ensures.failed clean))
@@ -61,6 +66,8 @@ pub loop-line-preserved : goal.loop-line-preserved
 loop-line-preserved g c =
     let inv = c.loop-line.invariant in
     let f = c.in-Ok-answer_line.ensures in
+    let is_clean = g.B.Issued.is_clean in
+    let rows = g.B.Books.rows in
     let xs = c.args.lines.now in
     let i = c.loop-line.line-index in
     let e : take (i + 1) xs ≡ take i xs ++ c.line-item.result ∷ [] = take_more xs i c.line-item.result c.loop-line-test.true ∙ ap (λ x. take i xs ++ x ∷ []) (sym c.line-item.is) in
@@ -77,9 +84,12 @@ loop-line-preserved g c =
       number = omega (arith, c.in-Ok-push.ensures.len, inv.number);
       taken = rw c.in-Ok-push.ensures.items (now ∙ sym (has_taken-push c.loop-line.answers.items c.in-Ok-answer_line.answer));
       each = rw (e, c.in-Ok-push.ensures.items) (AreAnswered-append (take i xs) (c.line-item.result ∷ []) c.loop-line.answers.items (c.in-Ok-answer_line.answer ∷ []) inv.each (f.answer, tt));
-      lead = λ clean. rw (e, c.in-Ok-push.ensures.items)
+      was_honest = λ honest. inv.was_honest (f.was_honest honest);
+      happened = λ honest. rw (e, c.in-Ok-push.ensures.items)
           (
-          lead-join (g.B.Books.rows c.args.books.now) (g.B.Books.rows c.loop-line.books) (g.B.Books.rows c.answer_line.new.books) (take i xs) (c.line-item.result ∷ []) c.loop-line.answers.items
-          (c.in-Ok-answer_line.answer ∷ []) (inv.lead (f.was_clean clean)) (f.step clean)
+          lead-join (is_clean c.args.books.now) (is_clean c.loop-line.books) (is_clean c.answer_line.new.books) (rows c.args.books.now) (rows c.loop-line.books) (rows c.answer_line.new.books) (take i xs) (c.line-item.result ∷ [])
+          c.loop-line.answers.items (c.in-Ok-answer_line.answer ∷ []) (inv.happened (f.was_honest honest)) (f.happened honest)
           );
+      vouched = λ honest. rw c.in-Ok-push.ensures.items
+          (vouched_next c.loop-line.answers.items c.in-Ok-answer_line.answer (is_clean c.loop-line.books) (is_clean c.answer_line.new.books) (inv.vouched (f.was_honest honest)) (λ none before. subst is_clean (sym (f.unasked none)) before) (f.vouched honest));
     }

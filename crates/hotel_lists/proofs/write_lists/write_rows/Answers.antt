@@ -1,20 +1,20 @@
 use Rattle.std.proofs.Common.{Err, rules, sym, ◌∙◌}
 use Rattle.hotel_lists.specs.declared.fault.ListFault.TheVariants.{Write}
 use Rattle.hotel_lists.proofs.CallsLemmas.{then_none_forgotten}
-use Rattle.hotel_lists.proofs.LinesWritten.{Ends, cut_ends, front_of_first, list_ended, list_written}
+use Rattle.hotel_lists.proofs.LinesWritten.{Ends, cut_ends, front_of_first, list_ended, list_vouches, list_written, store_failed}
 use Rattle.hotel_lists.proofs.write_lists.write_rows.Goals as goal
 
 pub returns-in_err-write_bytes-clause-text : goal.returns-in_err-write_bytes-clause-text
-returns-in_err-write_bytes-clause-text g c = λ clean.
+returns-in_err-write_bytes-clause-text g c = λ honest.
     let said : Ends g.L.Row.Line.line (g.W.Write.contents c.args.writer.now) (g.W.Write.contents c.write_bytes.new.writer) c.args.header.now (g.L.Listing.rows c.args.list.now (g.B.Books.rows c.args.books.now)) (Err Write) =
     cut_ends g.L.Row.Line.line _ _ c.args.header.now (g.L.Listing.rows c.args.list.now (g.B.Books.rows c.args.books.now)) (front_of_first _ _ c.args.header.now _ c.in_err-write_bytes.ensures.err) in
     search rules
 
 pub returns-clause-text : goal.returns-clause-text
-returns-clause-text g c = λ clean.
+returns-clause-text g c = λ honest.
     let (handed, hands, all) = c.walk-walked.ensures.hands in
     let (same, _) = list_ended g.W.Write.contents g.L.Row.Line.line handed _ _ _ _ _ _ hands c.finish-end.ensures.same c.finish-end.ensures.ends c.listed.ensures in
-    let written = list_written g.W.Write.contents g.L.Row.Line.line _ c.args.header.now _ handed _ _ _ _ _ (rw c.new-lines.ensures.unwritten c.in_ok-write_bytes.ensures.ok) (c.new-lines.ensures.gathered ∙ c.none-gathered.ensures) (all clean) hands c.finish-end.ensures.ends in
+    let written = list_written g.W.Write.contents g.L.Row.Line.line _ c.args.header.now _ handed _ _ _ _ _ (rw c.new-lines.ensures.unwritten c.in_ok-write_bytes.ensures.ok) (c.new-lines.ensures.gathered ∙ c.none-gathered.ensures) (all honest) hands c.finish-end.ensures.ends in
     let said : Ends g.L.Row.Line.line (g.W.Write.contents c.args.writer.now) (g.W.Write.contents c.finish-end.new.self.writer.now) c.args.header.now (g.L.Listing.rows c.args.list.now (g.B.Books.rows c.args.books.now)) c.listed.result = rw c.listed.ensures written in
     let back = sym (same.writer ∙ c.new-lines.ensures.same_writer) in
     search rules
@@ -34,3 +34,15 @@ returns-clause-calls g c =
     let none = then_none_forgotten _ _ _ (rw (← c.new-lines.ensures.uncalled) at c.in_ok-write_bytes.ensures.calls) same.none_forgotten in
     let back = sym (same.calls ∙ c.new-lines.ensures.same_calls) in
     search rules
+
+pub returns-clause-books : goal.returns-clause-books
+returns-clause-books g c =
+    let walked = c.walk-walked.ensures in
+    record {
+      kept = walked.kept;
+      was_clean = walked.was_clean;
+      was_honest = walked.was_honest;
+      vouched = λ honest. list_vouches g.W.Write.contents _ _ _ c.walk-walked.result c.finish-end.result c.listed.result (walked.vouched honest) c.finish-end.ensures.ends c.listed.ensures;
+      counted = walked.counted;
+      store = λ e. let failed = store_failed g.W.Write.contents _ _ c.walk-walked.result c.finish-end.result c.listed.result c.finish-end.ensures.ends c.listed.ensures e in rw failed at walked.fault;
+    }
