@@ -35,5 +35,5 @@ returns-in-Err-migrate g c =
     let failed = CallFails g.S.Store c.args.conn.now c.migrate.new.conn Store in
     subst (λ why. Enters failed old new (Err why)) (sym c.open_fault.ensures)
     (not_upgraded c.requires.first c.in-Ok.ensures did.left.autocommit did.was did.crash c.fault_of.result did.same
-    (λ is. upgrade_fails g.S.Store c.args.conn.now c.find_counts.new.conn c.migrate.new.conn c.deref.result.now
+    (λ is. upgrade_fails g.S.Store c.args.conn.now c.find_counts.new.conn c.migrate.new.conn _
     c.in-Err-migrate.error did.failed (sym c.fault_of.ensures ∙ is)))
