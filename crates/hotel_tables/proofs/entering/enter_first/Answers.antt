@@ -11,7 +11,7 @@ use Rattle.hotel_tables.proofs.entering.enter_first.Goals as goal
 pub returns-in-Err : goal.returns-in-Err
 returns-in-Err g c =
     entered_not First (state g.S.Store c.args.conn.now) (state g.S.Store c.find_counts.new.conn)
-    c.in-Err.why c.requires.first inl c.in-Err.ensures
+    c.in-Err.why c.requires.first (λ reads. inl reads) c.in-Err.ensures
 
 pub migrate-requires-clause-books : goal.migrate-requires-clause-books
 migrate-requires-clause-books g c = first_books c.requires.first c.in-Ok.ensures
