@@ -1,4 +1,5 @@
-use Rattle.std.proofs.Common.{◌≡◌, ◌∙◌, sym, ap, subst, map, true, false, true≢false, inl, inr, List, arith, rules, to_z-of_z}
+use Rattle.std.proofs.Common.{◌≡◌, ◌∙◌, sym, ap, subst, map, true, false, true≢false, inl, inr, List}
+use Rattle.std.proofs.Common.{arith, rules, to_z-of_z}
 use Rattle.std.specs.Ordering.{int_cmp}
 use Rattle.hotel_statements.specs.declared.plain_rows.NumberedInside.{NumberedInside}
 use Rattle.hotel_tables.specs.Opening.{id_inside, plain_inside}
@@ -33,6 +34,6 @@ returns-then-not-all_rise-clause-err c = λ db read.
     let plain = c.in_ok-meta.meta in
     let is = c.in_ok-meta.ensures.ok in
     let inside = c.in-Ok.ensures ∙ ap (map plain_inside) c.deref-2.ensures.value in
-    let stored = stored_are {in_order = false} {of = c.args.version} t db plain plain.version c.in-Ok.inside is.2 read is
-    inside (sym c.all_rise.ensures ∙ c.if-not-all_rise.true) in
+    let stored = stored_are {in_order = false} {of = c.args.version} t db plain plain.version c.in-Ok.inside is.2
+    read is inside (sym c.all_rise.ensures ∙ c.if-not-all_rise.true) in
     inr (read_meta c.args.version t db plain read is, inr (inl (_, stored)))
