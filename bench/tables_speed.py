@@ -6,8 +6,9 @@ usage: tables_speed.py [PROGRAM [STAYS]]      (the built hotel_desk and 100,000,
 Needs cc and SQLite's own header and library (libsqlite3-dev). The desks have 300 rooms; they are written as rows by
 Python's sqlite3, with the texts of hotel_statements' texts.rt, and a past stay has a card, a code and four notes.
 
-- Commands: six rounds of 150 of each kind over a desk of so many past stays, beside the same ones over a desk of none.
-  The first round finds few pages of the file in memory, and is told apart from the later ones.
+- Commands: twelve rounds of 150 of each kind over a desk of so many past stays, beside the same ones over a desk of
+  none. The first round finds few pages of the file in memory, and is told apart from the later ones. Of these the mean
+  counts: now and then a command copies the log into the file, for all that wrote to it.
 - Beside C SQLite: a check-in, a booking and a look-up, beside their statements run by sqlite_statements.c over the same
   file, with the same journal (WAL) and `synchronous` (FULL) and with foreign keys. Each commit of both syncs the log.
 - `open`: a script without a line, beside the same file with one table more. There the connection is opened, which is
@@ -24,6 +25,7 @@ import random
 import re
 import shutil
 import sqlite3
+import statistics
 import subprocess
 import sys
 import tempfile
@@ -33,7 +35,7 @@ import typing
 from stored_desk import DESK, HERE
 
 DAY = 11443  # 2031-05-01, counted from 2000-01-01
-ROOMS, GUESTS, ROUNDS = 300, 150, 6  # each guest of a round checks into one room, and moves to another
+ROOMS, GUESTS, ROUNDS = 300, 150, 12  # each guest of a round checks into one room, and moves to another
 LOOKS = 20000
 TURNS, OPENINGS = 5, 3
 FIRST, SECOND = 1, 2
@@ -60,6 +62,10 @@ class Times(typing.NamedTuple):
 
 def least(times):
     return Times(*map(min, zip(*times)))
+
+
+def mean(times):
+    return Times(*map(statistics.mean, zip(*times)))
 
 
 def past_rows(stays):
@@ -118,7 +124,7 @@ def commands(stays):
     return lines
 
 
-def statements(db):
+def plain_statements(db):
     """The same look-ups, bookings and check-ins as runs of statements, over a desk of no past stays."""
     texts = ["BEGIN", "COMMIT"]
 
@@ -198,7 +204,7 @@ class Bench:
 
 
 def times_of_commands(bench, none, large, stays):
-    texts, plain_lines = statements(none)
+    texts, plain_lines = plain_statements(none)
     runs = [
         lambda: bench.answers(bench.on(bench.copied(none)), [], commands(0)),
         lambda: bench.answers(bench.on(bench.copied(large)), [], commands(stays)),
@@ -208,7 +214,7 @@ def times_of_commands(bench, none, large, stays):
     at_first, at_last, plain = [
         {kind: least([times[kind] for times in turns]) for kind in turns[0]} for turns in zip(*rounds)]
     for kind in dict.fromkeys(kind for kind, turn in at_first if turn):
-        took, later = [least([times[kind, turn] for turn in range(1, ROUNDS)]) for times in (at_first, at_last)]
+        took, later = [mean([times[kind, turn] for turn in range(1, ROUNDS)]) for times in (at_first, at_last)]
         print(f"{kind}: over no stay {took}, over {stays} stays {later}: {later.ratio(took)}, wanted 1.2 at most; "
               f"in the first round {at_last[kind, 0].ratio(at_first[kind, 0])}")
     for kind in ("a look-up", "a booking", "a check-in"):

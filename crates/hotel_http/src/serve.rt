@@ -154,7 +154,7 @@ fn list_refusal(fault: ListFault) -> Refusal
 
 /// The text of a list, made whole in memory; or why it is refused.
 fn list_text<B: Walks>(alloc: Global, list: &ListAsk, books: &mut B) -> Result<Vec<u8>, Refusal>
-    ensures text { B.is_clean books.new → IsListText (listing_on (B.rows books.old) list.now) (text_in (λ t. t.items) result) }
+    ensures text { B.is_honest books.new → IsListText (listing_on (B.rows books.old) list.now) (text_in (λ t. t.items) result) }
     ensures kept { B.is_clean books.new → B.is_kept books.old books.new }
     ensures was_clean { B.is_clean books.new → B.is_clean books.old }
     ensures counted { NoFewer (B.failures books.old) (B.failures books.new) }

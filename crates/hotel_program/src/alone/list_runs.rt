@@ -24,7 +24,7 @@ fn write_list_or_refusal<W: Write, B: Walks>(
     books: &mut B,
     calls: &mut IoCalls,
 ) -> Result<(), ListFault>
-    ensures text { B.is_clean books.new → AnswerEnds (listing_on (B.rows books.old) list.now) (W.contents writer.old) (W.contents writer.new) result }
+    ensures text { B.is_honest books.new → AnswerEnds (listing_on (B.rows books.old) list.now) (W.contents writer.old) (W.contents writer.new) result }
     ensures books { LooksAt B.Issued books.old books.new result }
     ensures failed { IsErrOf result ListFault.Write → calls.new.write_failed ≡ true }
     ensures calls { NoneForgotten calls.old calls.new }

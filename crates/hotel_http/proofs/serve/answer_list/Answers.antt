@@ -11,10 +11,10 @@ returns-in-Ok-clause-went g c = λ clean.
     c.write_csv-written.ensures.err in
     list_came _ _ c.args.list.now (outcome (list_answer c.in-Ok.text.items) Success false) [] old new _ _ c.ended.result
     (g.met.B.Books.kept_rows _ _ (c.in-Ok.ensures.kept clean))
-    (list_there _ c.in-Ok.text.items (c.in-Ok.ensures.text clean))
+    (list_there _ c.in-Ok.text.items (c.in-Ok.ensures.text (g.met.B.Issued.clean_honest _ clean)))
     (subst (λ (t : List ℕ). EndsAs (outcome (list_answer t) Success false) [] old new c.ended.result) c.deref.ensures.value ends) c.in-Ok.ensures.failures
 
 pub returns-in-Err-clause-went : goal.returns-in-Err-clause-went
 returns-in-Err-clause-went g c = λ clean.
-    list_came _ _ c.args.list.now _ _ _ _ _ _ _ (g.met.B.Books.kept_rows _ _ (c.in-Err.ensures.kept clean)) (list_refused _ c.in-Err.refusal (c.in-Err.ensures.text clean))
+    list_came _ _ c.args.list.now _ _ _ _ _ _ _ (g.met.B.Books.kept_rows _ _ (c.in-Err.ensures.kept clean)) (list_refused _ c.in-Err.refusal (c.in-Err.ensures.text (g.met.B.Issued.clean_honest _ clean)))
     c.answer_reply.ensures.ends c.in-Err.ensures.failures

@@ -16,7 +16,7 @@ returns-in-Err-clause-ends g c =
       ap (λ f. Err f) c.import_fault.ensures.fault,
       refl,
       record {
-        went = e.imported;
+        went = let i = e.imported in (i.0, i.1, i.2, i.3, i.4);
         no_file = e.no_file;
         was_clean = e.was_clean;
         counted = e.counted;
@@ -35,7 +35,7 @@ returns-in-Ok-write_answers-clause-ends g c =
       ap (λ s. Ok s) (c.answers_status.ensures.status ∙ ap answers_status items),
       subst (λ (l : List LineAnswer). Appends old new (answers_text 1 l)) items c.in-Ok-write_answers.ensures.ok,
       record {
-        went = e.imported;
+        went = let i = e.imported in (i.0, i.1, i.2, i.3, i.4);
         no_file = tt;
         was_clean = e.was_clean;
         counted = e.counted;
@@ -54,7 +54,7 @@ returns-clause-ends g c =
       refl,
       subst (λ (l : List LineAnswer). AppendsFront old new (answers_text 1 l)) items c.in-Err-write_answers.ensures.err,
       record {
-        went = e.imported;
+        went = let i = e.imported in (i.0, i.1, i.2, i.3, i.4);
         no_file = tt;
         was_clean = e.was_clean;
         counted = e.counted;
