@@ -72,8 +72,3 @@ pub record Applies (change : Change) (old new : State) (result : Result (Unit {0
 -- a crash at this moment leaves the tables as they are
 abbrev pub LeavesAll : State → Type 0
 LeavesAll s = (db : Trees) → s.may_leave db → db ≡ s.now.trees
-
--- A crash in a change or after it leaves what one could leave before, or the change made; and where it was answered and no failure shut the connection, the tables as they are.
-pub record LeavesChange (change : Change) (old new : State) : Type 0 where
-  pub crash : Survives old new (λ db. IsKept old → IsMadeOf (made change) old.now.trees db)
-  pub left : IsKept new → LeavesAll new

@@ -1,10 +1,12 @@
 //! A change of the tables, and of the counts that stand beside them.
-ghost use Rattle.std.specs.Prelude.{◌≡◌};
+ghost use Rattle.std.specs.Prelude.{◌≡◌, IfErr};
+ghost use Rattle.keycard_rules.specs.Rise.{HasRisen, NoFewer};
 ghost use Rattle.sqlite.specs.Held.{state};
 ghost use Rattle.hotel_core.specs.Books.Fits.{Fits};
 ghost use Rattle.hotel_statements.specs.Tables.{rows_in};
 ghost use Rattle.hotel_statements.specs.Books.{IsKept};
-ghost use Rattle.hotel_tables.specs.Applied.{Applies};
+ghost use Rattle.hotel_tables.specs.Applied.{Applies, LeavesAll};
+ghost use Rattle.hotel_tables.specs.TableBooks.{failed};
 
 use crate::apply::apply_change;
 use crate::counted::{count_added, count_ended, count_room, ended_by, uncount_added};
@@ -15,7 +17,7 @@ use sqlite::Alter;
 
 impl<S: Alter> TableBooks<S> {
     /// Makes all of a change, or nothing, and keeps the counts in step.
-    pub(crate) fn change_tables(&mut self, change: &Change) -> Result<(), LookFault>
+    fn change_tables(&mut self, change: &Change) -> Result<(), LookFault>
         requires { IsKept (state S.Store self.old.conn) → Fits change.now (rows_in (state S.Store self.old.conn).now.trees) }
         ensures applies { Applies change.now (state S.Store self.old.conn) (state S.Store self.new.conn) result }
         ensures memory { self.new.memory ≡ self.old.memory }
@@ -37,5 +39,17 @@ impl<S: Alter> TableBooks<S> {
                 Err(why)
             }
         }
+    }
+
+    /// Makes all of a change that fits, or nothing, as `Books::apply` does, and says what a crash in it or after it leaves.
+    pub fn apply_kept(&mut self, change: &Change) -> Result<(), LookFault>
+        requires { IsKept (state S.Store self.old.conn) → Fits change.now (rows_in (state S.Store self.old.conn).now.trees) }
+        ensures applies { Applies change.now (state S.Store self.old.conn) (state S.Store self.new.conn) result }
+        ensures left { IsKept (state S.Store self.new.conn) → LeavesAll (state S.Store self.new.conn) }
+        ensures counted { NoFewer (failed self.old) (failed self.new) }
+        ensures fault { IfErr result (λ why. HasRisen (failed self.old why) (failed self.new why)) }
+    {
+        let applied = self.change_tables(change);
+        self.counting(applied)
     }
 }
