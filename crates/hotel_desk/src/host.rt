@@ -4,7 +4,9 @@ ghost use Rattle.std.specs.Prelude.{IfErr};
 ghost use Rattle.hotel_program.specs.Faults.{IsOfFiles};
 
 use crate::database::open_file;
-use hotel_program::{Fault, FileName, SEED_BYTES, Surroundings, audit_file_in, seed_in};
+use hotel_program::{
+    Databases, Fault, FileName, SEED_BYTES, Surroundings, audit_file_in, seed_in,
+};
 use hotel_tables::{PathDisk, TableBooks, close_file};
 use sqlite::FileStore;
 use std::alloc::Global;
@@ -51,13 +53,9 @@ impl<D: PathDisk> Host<D> {
 }
 
 impl<D: PathDisk> Surroundings for Host<D> {
-    type Books = TableBooks<FileStore<D>>;
-
     ghost seed_read = { λ _ _ _ _. Unit {0} };
 
     ghost file_read = { λ _ _ _ _. Unit {0} };
-
-    ghost books_opened = { λ _ _ _ _. Unit {0} };
 
     ghost port_bound = { λ _ _ _ _. Unit {0} };
 
@@ -81,6 +79,17 @@ impl<D: PathDisk> Surroundings for Host<D> {
         audit_file_in(alloc, &mut file)
     }
 
+    fn listen(&mut self, port: u16) -> Result<TcpListener, Fault> {
+        match TcpListener::bind(&self.rt, (Ipv4Addr::LOCALHOST, port)) {
+            Ok(listener) => Ok(listener),
+            Err(_) => Err(Fault::Port),
+        }
+    }
+}
+
+impl<D: PathDisk> Databases<TableBooks<FileStore<D>>> for Host<D> {
+    ghost books_opened = { λ _ _ _ _. Unit {0} };
+
     fn open_books(
         &mut self,
         _alloc: Global,
@@ -92,12 +101,5 @@ impl<D: PathDisk> Surroundings for Host<D> {
     fn close_books(&self, books: TableBooks<FileStore<D>>) {
         // A close that failed loses nothing: the log keeps what it did not copy, and the next opening finds it there.
         let _ = close_file(books);
-    }
-
-    fn listen(&mut self, port: u16) -> Result<TcpListener, Fault> {
-        match TcpListener::bind(&self.rt, (Ipv4Addr::LOCALHOST, port)) {
-            Ok(listener) => Ok(listener),
-            Err(_) => Err(Fault::Port),
-        }
     }
 }

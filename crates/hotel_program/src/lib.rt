@@ -22,4 +22,4 @@ pub use files::{SEED_BYTES, audit_file_in, seed_in};
 pub use program::run_program;
 pub use script::{ScriptEnd, ScriptFault, run_script};
 pub use statuses::status_of;
-pub use surroundings::Surroundings;
+pub use surroundings::{Databases, Surroundings};

@@ -15,8 +15,8 @@ use crate::command_line::{DeskAct, FileName, Plan, UsageFault, parse_words};
 use crate::faults::{Fault, FaultSink, finish};
 use crate::script::run_script;
 use crate::statuses::{DONE, USAGE};
-use crate::surroundings::Surroundings;
-use hotel_core::{Books, ListBooks};
+use crate::surroundings::{Databases, Surroundings};
+use hotel_core::{Books, ListBooks, Walks};
 use hotel_lists::{IoCalls, WriteFailed, write_bytes};
 use keycard_rules::Issued;
 use rand_chacha::ChaCha20Rng;
@@ -40,7 +40,7 @@ fn answer_script<I: Read, W: Write>(
 }
 
 /// Carries out an act over empty books in memory.
-fn run_in_memory<I: Read, W: Write, F: FaultSink, E: Surroundings>(
+fn run_in_memory<I: Read, W: Write, F: FaultSink, B: Walks + Drop, E: Databases<B>>(
     alloc: Global,
     act: &DeskAct,
     file: &[u8],
@@ -50,7 +50,7 @@ fn run_in_memory<I: Read, W: Write, F: FaultSink, E: Surroundings>(
     faults: &mut F,
     around: &mut E,
 ) -> u8
-    ensures ends { InMemory (outer_views W.contents F.told F.shown E.seed_read E.file_read E.books_opened E.port_bound ⟦<ListBooks as Issued>⟧ E.Books.Issued E.Books.rows)
+    ensures ends { InMemory (outer_views W.contents F.told F.shown E.seed_read E.file_read E.books_opened E.port_bound ⟦<ListBooks as Issued>⟧ B.Issued B.rows)
         (I.remaining reader.old) act.now file.now source.old around.old result
         (record { writer = writer.old; faults = faults.old; around = around.old }) (record { writer = writer.new; faults = faults.new; around = around.new }) }
     ensures no_usage { result ≢ 2 }
@@ -62,7 +62,7 @@ fn run_in_memory<I: Read, W: Write, F: FaultSink, E: Surroundings>(
 }
 
 /// Carries out an act over the books of a database.
-fn run_on_database<I: Read, W: Write, F: FaultSink, E: Surroundings>(
+fn run_on_database<I: Read, W: Write, F: FaultSink, B: Walks + Drop, E: Databases<B>>(
     alloc: Global,
     name: &FileName,
     act: &DeskAct,
@@ -73,7 +73,7 @@ fn run_on_database<I: Read, W: Write, F: FaultSink, E: Surroundings>(
     faults: &mut F,
     around: &mut E,
 ) -> u8
-    ensures ends { OverBooks (outer_views W.contents F.told F.shown E.seed_read E.file_read E.books_opened E.port_bound ⟦<ListBooks as Issued>⟧ E.Books.Issued E.Books.rows)
+    ensures ends { OverBooks (outer_views W.contents F.told F.shown E.seed_read E.file_read E.books_opened E.port_bound ⟦<ListBooks as Issued>⟧ B.Issued B.rows)
         (I.remaining reader.old) act.now file.now source.old (Some name.now) around.old result
         (record { writer = writer.old; faults = faults.old; around = around.old }) (record { writer = writer.new; faults = faults.new; around = around.new }) }
     ensures no_usage { result ≢ 2 }
@@ -90,7 +90,7 @@ fn run_on_database<I: Read, W: Write, F: FaultSink, E: Surroundings>(
 }
 
 /// Carries out an act over the books that are asked for: those of a database, or empty ones in memory.
-fn run_over_books<I: Read, W: Write, F: FaultSink, E: Surroundings>(
+fn run_over_books<I: Read, W: Write, F: FaultSink, B: Walks + Drop, E: Databases<B>>(
     alloc: Global,
     plan: &Plan,
     file: &[u8],
@@ -100,7 +100,7 @@ fn run_over_books<I: Read, W: Write, F: FaultSink, E: Surroundings>(
     faults: &mut F,
     around: &mut E,
 ) -> u8
-    ensures ends { OverBooks (outer_views W.contents F.told F.shown E.seed_read E.file_read E.books_opened E.port_bound ⟦<ListBooks as Issued>⟧ E.Books.Issued E.Books.rows)
+    ensures ends { OverBooks (outer_views W.contents F.told F.shown E.seed_read E.file_read E.books_opened E.port_bound ⟦<ListBooks as Issued>⟧ B.Issued B.rows)
         (I.remaining reader.old) plan.now.act file.now source.old plan.now.db around.old result
         (record { writer = writer.old; faults = faults.old; around = around.old }) (record { writer = writer.new; faults = faults.new; around = around.new }) }
     ensures no_usage { result ≢ 2 }
@@ -133,7 +133,7 @@ fn audit_file<E: Surroundings>(
 
 /// Carries out a plan. The seed is read first, then an audit file, then the books are opened, and then a port is listened on; the first
 /// fault is told and ends it.
-fn run_plan<I: Read, W: Write, F: FaultSink, E: Surroundings>(
+fn run_plan<I: Read, W: Write, F: FaultSink, B: Walks + Drop, E: Databases<B>>(
     alloc: Global,
     plan: &Plan,
     reader: &mut I,
@@ -141,7 +141,7 @@ fn run_plan<I: Read, W: Write, F: FaultSink, E: Surroundings>(
     faults: &mut F,
     around: &mut E,
 ) -> u8
-    ensures ends { PlanEnds (outer_views W.contents F.told F.shown E.seed_read E.file_read E.books_opened E.port_bound ⟦<ListBooks as Issued>⟧ E.Books.Issued E.Books.rows)
+    ensures ends { PlanEnds (outer_views W.contents F.told F.shown E.seed_read E.file_read E.books_opened E.port_bound ⟦<ListBooks as Issued>⟧ B.Issued B.rows)
         (I.remaining reader.old) plan.now result
         (record { writer = writer.old; faults = faults.old; around = around.old }) (record { writer = writer.new; faults = faults.new; around = around.new }) }
     ensures no_usage { result ≢ 2 }
@@ -187,7 +187,7 @@ fn say_usage<W: Write, F: FaultSink>(why: &UsageFault, writer: &mut W, faults: &
 }
 
 /// Carries out what the words ask for.
-fn run_words<I: Read, W: Write, F: FaultSink, E: Surroundings>(
+fn run_words<I: Read, W: Write, F: FaultSink, B: Walks + Drop, E: Databases<B>>(
     alloc: Global,
     words: &[String],
     reader: &mut I,
@@ -195,7 +195,7 @@ fn run_words<I: Read, W: Write, F: FaultSink, E: Surroundings>(
     faults: &mut F,
     around: &mut E,
 ) -> u8
-    ensures { WordsEnd (outer_views W.contents F.told F.shown E.seed_read E.file_read E.books_opened E.port_bound ⟦<ListBooks as Issued>⟧ E.Books.Issued E.Books.rows)
+    ensures { WordsEnd (outer_views W.contents F.told F.shown E.seed_read E.file_read E.books_opened E.port_bound ⟦<ListBooks as Issued>⟧ B.Issued B.rows)
         (I.remaining reader.old) (map string_bytes words.now) result
         (record { writer = writer.old; faults = faults.old; around = around.old }) (record { writer = writer.new; faults = faults.new; around = around.new }) }
 {
@@ -219,7 +219,7 @@ fn words_fault(why: &io::Error) -> Fault
 /// The program, whose exit status it answers. `words` are those after its name, or why one of them could not be read. Without words it
 /// answers the script that the reader has, over empty books in memory, with codes from a seed of 32 zero bytes. With words it carries
 /// out what they ask for, over the surroundings `around`. A fault is told to `faults`; where that goes wrong, nobody hears of it.
-pub fn run_program<I: Read, W: Write, F: FaultSink, E: Surroundings>(
+pub fn run_program<I: Read, W: Write, F: FaultSink, B: Walks + Drop, E: Databases<B>>(
     alloc: Global,
     words: io::Result<Vec<String>>,
     reader: &mut I,
@@ -231,7 +231,7 @@ pub fn run_program<I: Read, W: Write, F: FaultSink, E: Surroundings>(
     ensures memory { LacksMemory words → (result ≡ 4) × F.told faults.old Memory faults.new × (reader.new ≡ reader.old) × (writer.new ≡ writer.old) × (around.new ≡ around.old) }
     ensures script { HasNoWords words → (end : Result ScriptEnd ScriptFault) × (result ≡ end_status (script_end end)) × Tells F.told faults.old (script_end end) faults.new
         × EndsOverNewDesk W.contents (I.remaining reader.old) writer.old writer.new end × (around.new ≡ around.old) }
-    ensures words { IfWords words (λ texts. WordsEnd (outer_views W.contents F.told F.shown E.seed_read E.file_read E.books_opened E.port_bound ⟦<ListBooks as Issued>⟧ E.Books.Issued E.Books.rows)
+    ensures words { IfWords words (λ texts. WordsEnd (outer_views W.contents F.told F.shown E.seed_read E.file_read E.books_opened E.port_bound ⟦<ListBooks as Issued>⟧ B.Issued B.rows)
         (I.remaining reader.old) texts result
         (record { writer = writer.old; faults = faults.old; around = around.old }) (record { writer = writer.new; faults = faults.new; around = around.new })) }
 {

@@ -1,8 +1,7 @@
-//! What is around the program: files, databases and ports.
+//! What is around the program: files, ports and databases.
 
 use crate::command_line::FileName;
 use crate::faults::Fault;
-use hotel_core::Walks;
 use std::alloc::Global;
 use std::net::TcpListener;
 
@@ -13,17 +12,11 @@ pub trait Surroundings {
     ghost use Rattle.hotel_program.specs.Faults.{IsOfFiles};
     ghost use Rattle.hotel_program.specs.declared.faults.Fault.{Fault};
 
-    /// The books over a database.
-    type Books: Walks + Drop;
-
     /// The meanings that may follow one after a seed was read: of the named file, or of the system's source.
     ghost seed_read: { Self → Option (List ℕ) → Result (List ℕ) Fault → Self → Type 0 };
 
     /// The same of an audit file.
     ghost file_read: { Self → List ℕ → Result (List ℕ) Fault → Self → Type 0 };
-
-    /// The same of books that were opened.
-    ghost books_opened: { Self → List ℕ → Result Self.Books Fault → Self → Type 0 };
 
     /// The same of a port.
     ghost port_bound: { Self → ℕ → Result (Unit {0}) Fault → Self → Type 0 };
@@ -38,16 +31,28 @@ pub trait Surroundings {
         ensures read { file_read self.old name.now (result_map_both (λ bytes. bytes.items) (λ why. why) result) self.new }
         ensures fault { IfErr result IsOfFiles };
 
-    /// The books of a database, which is made a desk where it is missing or has no tables.
-    fn open_books(&mut self, alloc: Global, name: &FileName) -> Result<Self::Books, Fault>
-        ensures opened { books_opened self.old name.now result self.new }
-        ensures fault { IfErr result IsOfFiles };
-
-    /// Gives books back.
-    fn close_books(&self, books: Self::Books);
-
     /// Listens on a port of the loopback address.
     fn listen(&mut self, port: u16) -> Result<TcpListener, Fault>
         ensures bound { port_bound self.old port (result_map_both (λ listener. tt) (λ why. why) result) self.new }
         ensures fault { IfErr result IsOfFiles };
+}
+
+/// Surroundings with databases, over which books of the type `B` are opened.
+///
+/// `B` is a parameter, so that a caller has one way alone to name these books.
+pub trait Databases<B>: Surroundings {
+    ghost use Rattle.std.specs.Prelude.{ℕ, List, Result, IfErr};
+    ghost use Rattle.hotel_program.specs.Faults.{IsOfFiles};
+    ghost use Rattle.hotel_program.specs.declared.faults.Fault.{Fault};
+
+    /// The meanings that may follow one after books of the named database were opened.
+    ghost books_opened: { Self → List ℕ → Result B Fault → Self → Type 0 };
+
+    /// The books of a database, which is made a desk where it is missing or has no tables.
+    fn open_books(&mut self, alloc: Global, name: &FileName) -> Result<B, Fault>
+        ensures opened { books_opened self.old name.now result self.new }
+        ensures fault { IfErr result IsOfFiles };
+
+    /// Gives books back.
+    fn close_books(&self, books: B);
 }
