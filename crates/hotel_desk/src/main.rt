@@ -6,7 +6,8 @@ mod host;
 
 use host::{Host, words};
 use hotel_program::run_program;
-use hotel_tables::{PathDisk, SystemDisk};
+use hotel_tables::{PathDisk, SystemDisk, TableBooks};
+use sqlite::FileStore;
 use std::process::ExitCode;
 
 /// The program over the system's streams, with databases on these disks. It answers the exit status.
@@ -18,7 +19,7 @@ fn run_on<D: PathDisk>(rt: &HostRuntime) -> u8 {
     let mut faults = rt.stderr().lock();
     let mut around: Host<D> = Host::new(rt);
     let words = words(rt);
-    run_program(
+    run_program::<_, _, _, TableBooks<FileStore<D>>, _>(
         rt.alloc(),
         words,
         &mut reader,
