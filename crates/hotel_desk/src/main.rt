@@ -5,28 +5,34 @@ mod database;
 mod host;
 
 use host::{Host, words};
-use hotel_program::run_program;
+use hotel_program::{Databases, run_program};
 use hotel_tables::{PathDisk, SystemDisk, TableBooks};
-use sqlite::FileStore;
+use sqlite::{Alter, FileStore};
 use std::process::ExitCode;
 
-/// The program over the system's streams, with databases on these disks. It answers the exit status.
+/// The program over the system's streams, with books over these stores. It answers the exit status.
 ///
-/// `main` alone names a disk: over a type parameter the types of a store are compared as they stand here, and not with all that is below them.
-fn run_on<D: PathDisk>(rt: &HostRuntime) -> u8 {
+/// Here the store is a parameter, and in `run_on` the disk: what the books and the store know is compared as it stands here,
+/// and not with all that is below it.
+fn run_over<S: Alter + Drop, E: Databases<TableBooks<S>>>(rt: &HostRuntime, around: &mut E) -> u8 {
     let mut reader = rt.stdin().lock();
     let mut writer = rt.stdout().lock();
     let mut faults = rt.stderr().lock();
-    let mut around: Host<D> = Host::new(rt);
     let words = words(rt);
-    run_program::<_, _, _, TableBooks<FileStore<D>>, _>(
+    run_program::<_, _, _, TableBooks<S>, E>(
         rt.alloc(),
         words,
         &mut reader,
         &mut writer,
         &mut faults,
-        &mut around,
+        around,
     )
+}
+
+/// The program with databases in files on these disks.
+fn run_on<D: PathDisk>(rt: &HostRuntime) -> u8 {
+    let mut around: Host<D> = Host::new(rt);
+    run_over::<FileStore<D>, Host<D>>(rt, &mut around)
 }
 
 fn main(rt: HostRuntime) -> ExitCode {
