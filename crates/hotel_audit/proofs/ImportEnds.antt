@@ -13,20 +13,20 @@ module _ {B : Type 0} (I : IssuedOf B) (rows : B → Rows) (old new : B) (honest
   -- these lines have these answers, which are vouched for
   ended : (file : Result (List Line) AuditFault) (outcome : Result (List LineAnswer) ImportFault) (lines : List Line) (answers : List LineAnswer) → AreAnswered lines answers → EndsAfter file outcome lines answers
       → (I.is_honest new → LinesLeadOn (I.is_clean old) (rows old) lines answers (I.is_clean new) (rows new)) → (I.is_honest new → replies_in answers ≢ [] → I.is_clean old)
-      → (I.is_honest new → OnOk outcome (replies_in answers ≢ [] → I.is_clean new)) → Imports I rows file old new outcome
-  ended file outcome lines answers each ends happened was_clean is_clean = (
+      → (I.is_honest new → OnOk outcome (replies_in answers ≢ [] → I.is_clean new)) → OnOk outcome (replies_in answers ≡ [] → I.is_clean old → I.is_clean new) → Imports I rows file old new outcome
+  ended file outcome lines answers each ends happened was_clean is_clean unasked = (
     lines,
     answers,
     each,
     ends,
     (λ clean source. leads_of clean (happened (honest clean) source)),
-    (λ now. record { happened = happened now; was_clean = was_clean now; is_clean = is_clean now }),
+    (λ now. record { happened = happened now; was_clean = was_clean now; is_clean = is_clean now; unasked = unasked }),
   )
 
   pub all_answered : (lines : List Line) (answers : List LineAnswer) → AreAnswered lines answers → (I.is_clean new → I.is_clean old)
       → (I.is_honest new → LinesLeadOn (I.is_clean old) (rows old) lines answers (I.is_clean new) (rows new)) → (I.is_honest new → replies_in answers ≢ [] → I.is_clean new)
-      → Imports I rows (Ok lines) old new (Ok answers)
-  all_answered lines answers each was_clean happened vouched = ended (Ok lines) (Ok answers) lines answers each (refl, refl) happened (λ now noted. was_clean (vouched now noted)) vouched
+      → (replies_in answers ≡ [] → I.is_clean old → I.is_clean new) → Imports I rows (Ok lines) old new (Ok answers)
+  all_answered lines answers each was_clean happened vouched unasked = ended (Ok lines) (Ok answers) lines answers each (refl, refl) happened (λ now noted. was_clean (vouched now noted)) vouched unasked
 
   -- a line failed behind the state mid: those before it were answered, and what they led to stands
   pub answered_before : (mid : B) (lines : List Line) (i : ℕ) (answers : List LineAnswer) (answered : ℕ) (taken : Bool) (why : ImportFault)
@@ -38,10 +38,10 @@ module _ {B : Type 0} (I : IssuedOf B) (rows : B → Rows) (old new : B) (honest
   answered_before mid lines i answers answered taken why ends each count some clean_before honest_before began same happened vouched =
       ended (Ok lines) (Err why) (take i lines) answers each (ends (drop i lines, ap (λ ls. Ok ls) (sym (take-append-drop i lines)), count, sym some))
       (λ now. lead-same (I.is_clean old) (I.is_clean mid) (I.is_clean new) (rows old) (rows mid) (rows new) (take i lines) answers clean_before same (happened (honest_before now)))
-      (λ now noted. began (vouched (honest_before now) noted)) (λ now. tt)
+      (λ now noted. began (vouched (honest_before now) noted)) (λ now. tt) tt
 
 -- nothing was begun
 pub none_begun : {B : Type 0} (I : IssuedOf B) (rows : B → Rows) (old : B) → (I.is_clean old → I.is_honest old) → (file : Result (List Line) AuditFault) (why : AuditFault) → (why ≡ fault.Memory) ⊎ (file ≡ Err why)
     → Imports I rows file old old (Err (File why))
 none_begun I rows old honest file why because =
-    ended I rows old old honest file (Err (File why)) [] [] tt (refl, refl, because) (λ now. lead-none (I.is_clean old) (rows old)) (λ now noted. absurd (noted refl)) (λ now. tt)
+    ended I rows old old honest file (Err (File why)) [] [] tt (refl, refl, because) (λ now. lead-none (I.is_clean old) (rows old)) (λ now noted. absurd (noted refl)) (λ now. tt) tt

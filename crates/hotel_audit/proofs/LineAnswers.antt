@@ -72,3 +72,11 @@ vouched_next answers (answer.Unread cause) before now first same last some = sam
 vouched_next answers answer.Taken before now first same last some = last (λ none. cc none)
 vouched_next answers answer.Seen before now first same last some = last (λ none. cc none)
 vouched_next answers (answer.Refused why) before now first same last some = last (λ none. cc none)
+
+-- answers of which none is to a note
+pub unasked_both : (answers : List LineAnswer) (a : LineAnswer) → replies_in (answers ++ a ∷ []) ≡ [] → (replies_in answers ≡ []) × (replies_in (a ∷ []) ≡ [])
+unasked_both [] a none = (refl, none)
+unasked_both (answer.Unread cause ∷ answers) a none = unasked_both answers a none
+unasked_both (answer.Taken ∷ answers) a none = cc none
+unasked_both (answer.Seen ∷ answers) a none = cc none
+unasked_both (answer.Refused why ∷ answers) a none = cc none

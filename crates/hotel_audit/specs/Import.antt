@@ -81,6 +81,7 @@ pub record Vouches {B : Type 0} (I : IssuedOf B) (rows : B → Rows) (lines : Li
   pub happened : LinesLeadOn (I.is_clean old) (rows old) lines answers (I.is_clean new) (rows new)
   pub was_clean : replies_in answers ≢ [] → I.is_clean old
   pub is_clean : OnOk outcome (replies_in answers ≢ [] → I.is_clean new)
+  pub unasked : OnOk outcome (replies_in answers ≡ [] → I.is_clean old → I.is_clean new)
 
 -- An import of a file into books from old to new ended so: some of its lines have these answers, by which the books went.
 abbrev pub Imports : {B : Type 0} → IssuedOf B → (B → Rows) → Result (List Line) AuditFault → B → B → Result (List LineAnswer) ImportFault → Type 0

@@ -5,4 +5,5 @@ pub mod Change
 pub mod Fits
 pub mod Failures
 pub mod Walks
+pub mod Happens
 pub mod Shut

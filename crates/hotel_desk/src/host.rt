@@ -1,4 +1,4 @@
-//! The words, files, databases and ports of the system. No clause can say what they give, so the functions here do no more than ask.
+//! The words, files, databases, ports and the clock of the system. No clause can say what they give, so the functions here do no more than ask.
 
 ghost use Rattle.std.specs.Prelude.{IfErr};
 ghost use Rattle.hotel_program.specs.Faults.{IsOfFiles};
@@ -13,6 +13,7 @@ use std::alloc::Global;
 use std::fs::{self, File};
 use std::marker::PhantomData;
 use std::net::{Ipv4Addr, TcpListener};
+use std::time::{Clock, Duration};
 use std::{env, io};
 
 /// The file of random bytes, from which codes are drawn where no seed file is named.
@@ -49,6 +50,16 @@ impl<D: PathDisk> Host<D> {
             Ok(file) => Ok(file),
             Err(_) => Err(Fault::File),
         }
+    }
+}
+
+impl<D: PathDisk> Clock for Host<D> {
+    fn monotonic(&self) -> io::Result<Duration> {
+        self.rt.monotonic()
+    }
+
+    fn since_1970(&self) -> io::Result<Duration> {
+        self.rt.since_1970()
     }
 }
 

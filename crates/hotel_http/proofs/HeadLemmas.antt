@@ -59,10 +59,10 @@ cut n bytes more is short some end none =
     let all : bytes ≡ bytes ++ more = sym (ap (λ l. bytes ++ l) end ∙ append-nil bytes) in
     subst IsCut all (record { some = some; short = subst (λ (k : ℕ). length bytes ≤ k) is short; none = subst HasNoRequest (take_all n bytes short) none })
 
-pub whole : (n : ℕ) (bytes more : List ℕ) (headers : List HeaderSpan) (spans : RequestSpans) → n ≡ most_bytes → length headers ≡ most_fields
-    → IsRequestWithin (take n bytes) headers spans → IsRequestOf (take n bytes) headers spans
-    → (h : RequestHead) × BeginsWith (bytes ++ more) h (drop spans.len (bytes ++ more)) × IsRequestAt (take n bytes) headers spans h
-whole n bytes more headers spans is room within (h, at) =
+-- A head that the first bytes have is the one that all begin with.
+pub begins : (n : ℕ) (bytes more : List ℕ) (headers : List HeaderSpan) (spans : RequestSpans) (h : RequestHead) → n ≡ most_bytes → length headers ≡ most_fields
+    → IsRequestWithin (take n bytes) headers spans → IsRequestAt (take n bytes) headers spans h → BeginsWith (bytes ++ more) h (drop spans.len (bytes ++ more))
+begins n bytes more headers spans h is room within at =
     let front = take n bytes in
     let left = drop n bytes ++ more in
     let len = within.section.len_fits in
@@ -74,7 +74,12 @@ whole n bytes more headers spans is room within (h, at) =
     let written : length (take spans.headers headers) ≤ length headers = rw (length-take spans.headers headers) (omega arith) in
     let small : length (print_request h) ≤ n = subst (λ (k : ℕ). k ≤ n) at.len (omega arith) in
     let few : length h.fields ≤ most_fields = subst (λ (k : ℕ). k ≤ most_fields) covered (subst (λ (k : ℕ). length (take spans.headers headers) ≤ k) room written) in
-    (h, record { reads = along (λ (l : List ℕ). ReadsRequest l h (drop spans.len l)) n bytes more there; short = subst (λ (k : ℕ). length (print_request h) ≤ k) is small; few = few }, at)
+    record { reads = along (λ (l : List ℕ). ReadsRequest l h (drop spans.len l)) n bytes more there; short = subst (λ (k : ℕ). length (print_request h) ≤ k) is small; few = few }
+
+pub whole : (n : ℕ) (bytes more : List ℕ) (headers : List HeaderSpan) (spans : RequestSpans) → n ≡ most_bytes → length headers ≡ most_fields
+    → IsRequestWithin (take n bytes) headers spans → IsRequestOf (take n bytes) headers spans
+    → (h : RequestHead) × BeginsWith (bytes ++ more) h (drop spans.len (bytes ++ more)) × IsRequestAt (take n bytes) headers spans h
+whole n bytes more headers spans is room within (h, at) = (h, begins n bytes more headers spans h is room within at, at)
 
 -- What holds however the bytes go on holds of the input.
 of_input : (a b : Option (List ℕ)) (bytes : List ℕ) (at_end : Bool) (P : List ℕ → Type 0) → Consumes a b bytes → (at_end ≡ true → IsAtEnd b)

@@ -1,3 +1,4 @@
+pub mod ReadLemmas
 pub mod HeadLemmas
 pub mod FieldLemmas
 pub mod FormLemmas

@@ -1,11 +1,14 @@
 -- A request that is read in pieces is what the whole input asks for.
-use Rattle.std.proofs.Common.{◌≡◌, ℕ, ◌≤◌, List, ◌++◌, length, drop, refl, sym, ap, ◌∙◌, subst, inl, Option, Some, None, IfSome, Result, Ok, Err}
+use Rattle.std.proofs.Common.{◌≡◌, ℕ, ◌≤◌, ◌<◌, List, [], ◌++◌, append_assoc, arith, length, take, drop, refl, sym, ap, ◌∙◌, subst, inl, inr, Option, Some, None, IfSome, Result, Ok, Err}
 use Rattle.std.specs.Io.KnownBytes.{Consumes, Appends}
-use Rattle.std.proofs.KnownBytes.{Appends-nil}
+use Rattle.std.proofs.KnownBytes.{Appends-nil, Consumes-kept, Consumes-nil, Consumes-trans}
 use Rattle.std.proofs.lemmas.List.{drop-append-le}
-use Rattle.httparse.specs.{Grammar.RequestHead, Spans.IsRequestAt, Spans.IsRequestOf, declared.spans.HeaderSpan.HeaderSpan, declared.spans.RequestSpans.RequestSpans}
-use Rattle.hotel_http.specs.{Body.interim_where, Head.BeginsWith, Head.IsJudged, Plan.plan_in, Plan.path_of}
-use Rattle.hotel_http.specs.Request.{Wanted, IsMeant, IsAsked, awaits, wanted_of, EndsBody, EndsHead, EndsRequest}
+use Rattle.httparse.specs.{Grammar.RequestHead, Spans.IsRequestAt, Spans.IsRequestOf, Spans.IsRequestWithin, declared.spans.HeaderSpan.HeaderSpan, declared.spans.RequestSpans.RequestSpans}
+use Rattle.hotel_http.specs.Reads.{ReadsWhile}
+use Rattle.hotel_http.proofs.ReadLemmas.{reads_while}
+use Rattle.hotel_http.specs.{Body.ReadsBody, Body.interim_where, Head.BeginsWith, Head.IsJudged, Head.WantsHead, Head.most_bytes, Head.most_fields, Plan.plan_in, Plan.path_of}
+use Rattle.hotel_http.specs.Request.{Wanted, IsMeant, IsAsked, awaits, wanted_of, EndsBody, EndsHead, EndsRequest, ReadsBehind, WantsBody, WantsMore}
+use Rattle.hotel_http.proofs.HeadLemmas.{begins}
 use Rattle.hotel_http.specs.declared.head.Judged.TheVariants as judged
 use Rattle.hotel_http.specs.{declared.plan.Plan.Plan, declared.rejection.Rejection.Rejection, declared.requests.Request.Request, declared.requests.RequestFault.RequestFault}
 use Rattle.hotel_http.specs.declared.requests.RequestFault.TheVariants.{Closed, Read, Memory, Write}
@@ -85,3 +88,39 @@ request_ends None mid old new items front headers spans result taken found (head
 request_ends (Some input) None old new items front headers spans result taken found of ends = absurd taken
 request_ends (Some input) (Some left) old new items front headers spans result taken (head, begins, at) of ends =
     known_ends head spans.len input items left old new result taken begins (ends head at)
+
+-- nothing was read
+pub none_read : (known : Option (List ℕ)) → ReadsWhile WantsMore known known
+none_read known = ([], [], omega arith, Consumes-nil known, inl (inl refl))
+
+-- a head alone was read
+pub head_read : (known mid : Option (List ℕ)) → ReadsWhile WantsHead known mid → ReadsWhile WantsMore known mid
+head_read known mid read = reads_while WantsHead WantsMore known mid (λ l wanted. inl wanted) read
+
+-- the body of a head's plan was read
+pub body_read : (head : RequestHead) (plan : Plan) (bytes : List ℕ) (len : ℕ) (begun : List ℕ) (old new : Option (List ℕ)) → len ≤ length bytes
+    → plan_in head ≡ Ok plan → begun ≡ drop len bytes → ReadsBody begun plan.size old new → ReadsBehind head len bytes old new
+body_read head plan bytes len begun old new fits e b (inl kept) = inl kept
+body_read head plan bytes len begun old new fits e b (inr read) =
+    inr (reads_while (λ came. length (begun ++ came) < plan.size) (λ came. WantsBody (plan_in head) (drop len (bytes ++ came))) old new
+    (λ came short. subst (λ (r : Result Plan Rejection). WantsBody r (drop len (bytes ++ came))) (sym e)
+    (subst (λ (l : List ℕ). length l < plan.size) (ap (λ (l : List ℕ). l ++ came) b ∙ sym (drop-append-le len bytes came fits)) short)) read)
+
+then_behind : (head : RequestHead) (known mid new : Option (List ℕ)) (items : List ℕ) (len : ℕ) → ((more : List ℕ) → BeginsWith (items ++ more) head (drop len (items ++ more)))
+    → Consumes known mid items → ReadsWhile WantsHead known mid → ReadsBehind head len items mid new → ReadsWhile WantsMore known new
+then_behind head known mid new items len is taken (before, last, most, lost, wanted) (inl kept) =
+    (before, last, most, Consumes-kept known mid new (before ++ last) lost kept, inl wanted)
+then_behind head known mid new items len is taken read (inr (came, last, most, lost, wanted)) = (
+  items ++ came,
+  last,
+  most,
+  subst (Consumes known new) (sym (append_assoc items came last)) (Consumes-trans known mid new items (came ++ last) taken lost),
+  inr (head, drop len (items ++ came), is came, wanted),
+)
+
+-- a whole head was read, and then what is behind it
+pub request_read : (known mid new : Option (List ℕ)) (n : ℕ) (items : List ℕ) (headers : List HeaderSpan) (spans : RequestSpans) → n ≡ most_bytes → length headers ≡ most_fields
+    → IsRequestWithin (take n items) headers spans → IsRequestOf (take n items) headers spans → Consumes known mid items → ReadsWhile WantsHead known mid
+    → ((head : RequestHead) → IsRequestAt (take n items) headers spans head → ReadsBehind head spans.len items mid new) → ReadsWhile WantsMore known new
+request_read known mid new n items headers spans is room within (head, at) taken read ends =
+    then_behind head known mid new items spans.len (λ more. begins n items more headers spans head is room within at) taken read (ends head at)

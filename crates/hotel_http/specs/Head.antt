@@ -1,6 +1,6 @@
 -- The head that an input begins with. All is said of the whole input, and nothing of the pieces in which it came.
 use Rattle.std.specs.Prelude.{◌≡◌, ℕ, ◌<◌, ◌≤◌, ◌⊎◌, List, [], length, take, drop}
-use Rattle.httparse.specs.Grammar.{RequestHead, print_request, ReadsRequest, HasNoRequest, NeverHasRequest}
+use Rattle.httparse.specs.Grammar.{RequestHead, print_request, ReadsRequest, HasNoRequest, NeverHasRequest, MayBecomeRequest}
 use Rattle.httparse.specs.{Spans.IsRequestAt, Spans.IsRequestOf, Spans.IsRequestWithin, Spans.RequestOverflows, Spans.RequestExceeds, declared.spans.HeaderSpan.HeaderSpan}
 use Rattle.hotel_http.specs.{declared.head.Judged.Judged, declared.head.Parsed.Parsed}
 use Rattle.hotel_http.specs.declared.head.Judged.TheVariants.{More, Closed, Whole, Malformed, TooLarge}
@@ -68,6 +68,16 @@ LiesWithin bytes headers Closed = Unit {0}
 LiesWithin bytes headers Malformed = Unit {0}
 LiesWithin bytes headers TooLarge = Unit {0}
 
+-- These bytes are no head yet, and may become one.
+pub record IsUnended (bytes : List ℕ) : Type 0 where
+  pub short : length bytes ≤ most_bytes
+  pub none : HasNoRequest bytes
+  pub may : MayBecomeRequest bytes
+
+-- More bytes of a head are wanted behind these: there is none, or they are no head yet and may become one.
+abbrev pub WantsHead : List ℕ → Type 0
+WantsHead bytes = (bytes ≡ []) ⊎ IsUnended bytes
+
 -- The head isn't judged yet.
 abbrev pub IsOpen : Judged → Type 0
 IsOpen More = Unit {0}
@@ -79,6 +89,6 @@ IsOpen (Whole spans) = ⊥
 -- What the parser answered of these bytes.
 abbrev pub IsParsed : List ℕ → List HeaderSpan → Parsed → Type 0
 IsParsed bytes headers (parsed.Whole spans) = IsRequestWithin bytes headers spans × IsRequestOf bytes headers spans
-IsParsed bytes headers parsed.Part = HasNoRequest bytes
+IsParsed bytes headers parsed.Part = HasNoRequest bytes × MayBecomeRequest bytes
 IsParsed bytes headers parsed.TooMany = RequestOverflows most_fields bytes × RequestExceeds most_fields bytes
 IsParsed bytes headers parsed.Bad = NeverHasRequest bytes

@@ -1,3 +1,4 @@
+pub mod Reads
 pub mod Head
 pub mod Fields
 pub mod Form

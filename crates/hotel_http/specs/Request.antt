@@ -1,6 +1,7 @@
 -- What a request asks for. All is said of the whole input, and nothing of the pieces in which it came.
-use Rattle.std.specs.Prelude.{◌≡◌, ◌⊎◌, ℕ, Bool, true, false, List, [], ◌++◌, length, take, if◌then◌else◌, nat_lt, Option, Some, None, IfSome, Result, Ok, Err}
-use Rattle.std.specs.Io.KnownBytes.{Appends}
+use Rattle.std.specs.Prelude.{◌≡◌, ◌<◌, ◌⊎◌, ℕ, Bool, true, false, List, [], ◌++◌, length, take, drop, if◌then◌else◌, nat_lt, Option, Some, None, IfSome, Result, Ok, Err}
+use Rattle.std.specs.Io.KnownBytes.{Appends, Keeps}
+use Rattle.hotel_http.specs.Reads.{ReadsWhile}
 use Rattle.httparse.specs.Grammar.{RequestHead}
 use Rattle.hotel_lists.specs.{Bytes.AppendsFront, declared.bytes.ReadFault.ReadFault}
 use Rattle.hotel_lists.specs.declared.bytes.ReadFault.TheVariants as more
@@ -8,7 +9,7 @@ use Rattle.hotel_http.specs.{declared.plan.Plan.Plan, declared.rejection.Rejecti
 use Rattle.hotel_http.specs.declared.rejection.Rejection.TheVariants as rejection
 use Rattle.hotel_http.specs.declared.requests.RequestFault.TheVariants.{Closed, Read, Memory, Write}
 use Rattle.keycard_rules.specs.Results.{◌>>=◌}
-use Rattle.hotel_http.specs.{declared.tasks.Task.Task, Body.interim_text, Body.interim_where, Head.BeginsWith, Head.IsBad, Head.IsTooLarge, Plan.plan_in, Plan.path_of}
+use Rattle.hotel_http.specs.{declared.tasks.Task.Task, Body.interim_text, Body.interim_where, Head.BeginsWith, Head.IsBad, Head.IsTooLarge, Head.WantsHead, Plan.plan_in, Plan.path_of}
 use Rattle.hotel_http.specs.Tasks.{task_in, reads_form}
 
 -- What a request comes to: a task with the body that came with it, or why nothing is asked.
@@ -61,6 +62,19 @@ Requests input awaited wanted =
 -- The client of this input awaits an interim answer.
 abbrev pub IsAwaited : List ℕ → Type 0
 IsAwaited input = (head : RequestHead) × (rest : List ℕ) × BeginsWith input head rest × (awaits (plan_in head) ≡ true)
+
+-- More bytes of a body are wanted behind these: a plan has a body, of which they are not all.
+abbrev pub WantsBody : Result Plan Rejection → List ℕ → Type 0
+WantsBody (Err why) rest = ⊥
+WantsBody (Ok plan) rest = length rest < plan.size
+
+-- What was read behind bytes that begin with a head: nothing where none was wanted, and nothing more once its body was there.
+abbrev pub ReadsBehind : RequestHead → ℕ → List ℕ → Option (List ℕ) → Option (List ℕ) → Type 0
+ReadsBehind head len bytes old new = Keeps old new ⊎ ReadsWhile (λ came. WantsBody (plan_in head) (drop len (bytes ++ came))) old new
+
+-- More bytes of a request are wanted behind these: of its head, or of the body of its plan. Behind a head that is rejected none are.
+abbrev pub WantsMore : List ℕ → Type 0
+WantsMore bytes = WantsHead bytes ⊎ ((head : RequestHead) × (rest : List ℕ) × BeginsWith bytes head rest × WantsBody (plan_in head) rest)
 
 -- Nothing was written, or the interim answer where the client awaits it.
 abbrev pub AtMostInterim : Option (List ℕ) → Option (List ℕ) → Option (List ℕ) → Type 0

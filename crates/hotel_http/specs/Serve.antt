@@ -1,12 +1,11 @@
 -- What comes of a request: its answer, and the history of the books after it.
-use Rattle.std.specs.Prelude.{◌≡◌, ◌⊎◌, ℕ, Bool, true, false, List, [], ◌∷◌, ◌++◌, Option, Some, None, IfSome, Result, Ok, Err}
+use Rattle.std.specs.Prelude.{◌≡◌, ◌⊎◌, ℕ, Bool, true, false, not, List, [], ◌∷◌, ◌++◌, map, Option, Some, None, IfSome, Result, Ok, Err}
 use Rattle.std.specs.Io.KnownBytes.{Appends}
 use Rattle.rand_core.specs.Stream.{Stream}
-use Rattle.keycard_rules.specs.declared.issued.LookFault.{LookFault}
-use Rattle.hotel_core.specs.{declared.reply.Reply.Reply, declared.reply.Refusal.Refusal, Books.Failures.AreCounted, Books.Failures.failure_in, Model.History.History}
+use Rattle.hotel_core.specs.{declared.reply.Reply.Reply, declared.reply.Refusal.Refusal, Books.Failures.failure_in, Books.Happens.answered_by, Model.History.History}
 use Rattle.hotel_core.specs.declared.reply.Reply.TheVariants as reply
 use Rattle.hotel_core.specs.declared.reply.Refusal.TheVariants as refusal
-use Rattle.hotel_core.specs.Model.Run.{Steps, Runs}
+use Rattle.hotel_core.specs.Model.Run.{Steps, Runs, is_failed}
 use Rattle.hotel_lists.specs.{Bytes.AppendsFront, declared.calls.WriteFailed.WriteFailed, declared.fault.ListFault.ListFault}
 use Rattle.hotel_lists.specs.declared.fault.ListFault.TheVariants as list
 use Rattle.hotel_lists.specs.Listings.{Listing, in_full}
@@ -24,18 +23,19 @@ use Rattle.hotel_http.specs.Answer.{rejection_answer, rejection_status, reply_an
 use Rattle.hotel_http.specs.{AuditAnswer.lines_answer, AuditAnswer.fault_answer, AuditAnswer.fault_status, Body.interim_text}
 use Rattle.hotel_http.specs.{Request.Wanted, Request.Requests, Request.IsAwaited, Request.AtMostInterim, Status.number_of}
 
--- An answer: its bytes, its status, and whether the books took something of the request.
+-- An answer: its bytes, its status, and whether the books took something of the request; and of each time that they were asked for it whether they answered.
 pub record Outcome : Type 0 where
   pub text : List ℕ
   pub status : ℕ
   pub acted : Bool
+  pub answered : List Bool
 
 -- an answer of this status
-abbrev pub outcome : List ℕ → Status → Bool → Outcome
-outcome text status acted = record { text = text; status = number_of status; acted = acted }
+abbrev pub outcome : List ℕ → Status → Bool → List Bool → Outcome
+outcome text status acted answered = record { text = text; status = number_of status; acted = acted; answered = answered }
 
 abbrev pub rejected : Rejection → Outcome
-rejected why = outcome (rejection_answer why) (rejection_status why) false
+rejected why = outcome (rejection_answer why) (rejection_status why) false []
 
 -- a command with this reply was accepted
 abbrev pub is_accepted : Reply → Bool
@@ -43,12 +43,12 @@ is_accepted (reply.Refused why) = false
 is_accepted _ = true
 
 abbrev pub replied : Reply → Outcome
-replied given = outcome (reply_answer given) (reply_status given) (is_accepted given)
+replied given = outcome (reply_answer given) (reply_status given) (is_accepted given) (answered_by given)
 
 -- A list in full, or that its room isn't there.
 abbrev pub listed : Option Listing → Outcome
 listed None = replied (reply.Refused refusal.NoRoom)
-listed (Some listing) = outcome (list_answer (in_full [] (Some listing))) Success false
+listed (Some listing) = outcome (list_answer (in_full [] (Some listing))) Success false (true ∷ [])
 
 -- a line was taken before an import ended without answers
 abbrev pub taken_by : ImportFault → Bool
@@ -56,9 +56,20 @@ taken_by (import.File why) = false
 taken_by (import.Memory answered taken) = taken
 taken_by (import.Store answered taken) = taken
 
+-- the books failed behind a line that was taken, or behind none
+abbrev pub stopped_behind : Bool → List Bool
+stopped_behind true = true ∷ false ∷ []
+stopped_behind false = false ∷ []
+
+-- how the books answered in an import that ended without answers
+abbrev pub stopped_by : ImportFault → List Bool
+stopped_by (import.File why) = []
+stopped_by (import.Memory answered taken) = stopped_behind taken
+stopped_by (import.Store answered taken) = stopped_behind taken
+
 abbrev pub imported : Result (List LineAnswer) ImportFault → Outcome
-imported (Ok answers) = outcome (lines_answer answers) Success (has_taken answers)
-imported (Err why) = outcome (fault_answer why) (fault_status why) (taken_by why)
+imported (Ok answers) = outcome (lines_answer answers) Success (has_taken answers) (map (λ reply. true) (replies_in answers))
+imported (Err why) = outcome (fault_answer why) (fault_status why) (taken_by why) (stopped_by why)
 
 -- the failures that the books counted in an import that ended so
 abbrev pub import_failures : Result (List LineAnswer) ImportFault → List Refusal
@@ -104,11 +115,11 @@ abbrev pub EndsAs : Outcome → List ℕ → Option (List ℕ) → Option (List 
 EndsAs out before old new (Ok served) = (served.status ≡ out.status) × (served.acted ≡ out.acted) × Appends old new (before ++ out.text)
 EndsAs out before old new (Err cut) = (cut.acted ≡ out.acted) × AppendsFront old new (before ++ out.text)
 
--- This came, its answer was written so behind this text, and its failures were counted.
+-- This came, its answer was written so behind this text, and of its failures and the books' answers this is told.
 abbrev pub Answered : (History → Stream → Outcome → List Refusal → History → Stream → Type 0) → Stream → Stream → List ℕ → Option (List ℕ) → Option (List ℕ)
-    → (LookFault → ℕ) → (LookFault → ℕ) → AnswerEnd → History → History → Type 0
-Answered came s s' before old new counts counts' end h h' =
-    (out : Outcome) × (failed : List Refusal) × came h s out failed h' s' × EndsAs out before old new end × AreCounted counts counts' failed
+    → AnswerEnd → (List Refusal → List Bool → Type 0) → History → History → Type 0
+Answered came s s' before old new end told h h' =
+    (out : Outcome) × (failed : List Refusal) × came h s out failed h' s' × EndsAs out before old new end × told failed out.answered
 
 -- How an answer ends that was written or not.
 abbrev pub ended : Result (Unit {0}) WriteFailed → Status → Bool → Result Served Cut
@@ -138,6 +149,11 @@ list_refusal list.Store = refusal.Store
 abbrev pub list_failures : Result (List ℕ) Refusal → List Refusal
 list_failures (Err refusal.Store) = refusal.Store ∷ []
 list_failures _ = []
+
+-- the books answered for a list's text, also that its room isn't there
+abbrev pub is_answered : Result (List ℕ) Refusal → Bool
+is_answered (Ok text) = true
+is_answered (Err why) = not (is_failed (reply.Refused why))
 
 -- the text, where there is one
 abbrev pub text_in : {A : Type 0} → (A → List ℕ) → Result A Refusal → Result (List ℕ) Refusal

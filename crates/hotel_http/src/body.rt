@@ -3,7 +3,7 @@
 ghost use Rattle.std.specs.Prelude.{◌≡◌, ◌++◌, true, IfOk, OnOk, OnErr, IfSome, IsErrOf};
 ghost use Rattle.std.specs.Io.KnownBytes.{Appends, Keeps};
 ghost use Rattle.hotel_lists.specs.{Bytes.AppendsFront, Calls.NoneForgotten, declared.bytes.ReadFault.TheVariants.Read};
-ghost use Rattle.hotel_http.specs.Body.{HoldsBody, interim_text, interim_where};
+ghost use Rattle.hotel_http.specs.Body.{HoldsBody, ReadsBody, interim_text, interim_where};
 
 use hotel_lists::{IoCalls, ReadFault, WriteFailed, read_more, write_bytes};
 use std::alloc::Global;
@@ -35,6 +35,7 @@ fn fill_body<R: Read>(
     calls: &mut IoCalls,
 ) -> Result<(), ReadFault>
     ensures holds { OnOk result (IfSome (R.remaining reader.old) (λ left. HoldsBody (body.old.items ++ left) size body.new.items)) }
+    ensures wanted { ReadsBody body.old.items size (R.remaining reader.old) (R.remaining reader.new) }
     ensures failed { IsErrOf result Read → calls.new.read_failed ≡ true }
     ensures calls { NoneForgotten calls.old calls.new }
 {
@@ -56,6 +57,7 @@ pub fn read_body<R: Read>(
     calls: &mut IoCalls,
 ) -> Result<Vec<u8>, ReadFault>
     ensures holds { IfOk result (λ body. IfSome (R.remaining reader.old) (λ left. HoldsBody (begun.now ++ left) size body.items)) }
+    ensures wanted { ReadsBody begun.now size (R.remaining reader.old) (R.remaining reader.new) }
     ensures failed { IsErrOf result Read → calls.new.read_failed ≡ true }
     ensures calls { NoneForgotten calls.old calls.new }
 {

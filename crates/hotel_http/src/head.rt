@@ -2,9 +2,10 @@
 
 ghost use Rattle.std.specs.Prelude.{◌≡◌, ◌≢◌, ◌<◌, ◌≤◌, ℕ, List, [], ◌++◌, take, length, IfOk, OnOk, IfSome, IsErrOf, true};
 ghost use Rattle.std.specs.Io.KnownBytes.{Consumes};
+ghost use Rattle.hotel_http.specs.Reads.{ReadsWhile};
 ghost use Rattle.hotel_lists.specs.{Calls.NoneForgotten, declared.bytes.ReadFault.TheVariants.Read};
-ghost use Rattle.httparse.specs.{Grammar.HasNoRequest, declared.spans.HeaderSpan.HeaderSpan};
-ghost use Rattle.hotel_http.specs.Head.{IsParsed, IsJudged, LiesWithin, IsOpen};
+ghost use Rattle.httparse.specs.{Grammar.HasNoRequest, Grammar.MayBecomeRequest, declared.spans.HeaderSpan.HeaderSpan};
+ghost use Rattle.hotel_http.specs.Head.{IsParsed, IsJudged, IsUnended, LiesWithin, IsOpen, WantsHead};
 
 use hotel_lists::{IoCalls, ReadFault, read_more};
 use httparse::spans::{HeaderSpan, RequestSpans, parse_request};
@@ -84,7 +85,7 @@ fn judge_part(bytes: &[u8], at_end: bool) -> Judged
 /// Judges the head by the bytes so far, which are all where the input is at its end.
 fn judge(bytes: &[u8], at_end: bool, headers: &mut [HeaderSpan]) -> Judged
     requires { length headers.old ≡ 64 }
-    ensures open { IsOpen result → (length bytes.now ≤ 16384) × (at_end ≢ true) }
+    ensures open { IsOpen result → IsUnended bytes.now × (at_end ≢ true) }
     ensures within { LiesWithin (take 16384 bytes.now) headers.new result }
     ensures judged { (more : List ℕ) → (at_end ≡ true → more ≡ []) → IsJudged (bytes.now ++ more) (take 16384 bytes.now) headers.new result }
 {
@@ -106,6 +107,7 @@ pub fn read_head<R: Read>(
     requires room { length headers.old ≡ 64 }
     requires empty { bytes.old.items ≡ [] }
     ensures taken { OnOk result (Consumes (R.remaining reader.old) (R.remaining reader.new) bytes.new.items) }
+    ensures wanted { ReadsWhile WantsHead (R.remaining reader.old) (R.remaining reader.new) }
     ensures judged { IfOk result (λ judged. IfSome (R.remaining reader.old) (λ input. IsJudged input (take 16384 bytes.new.items) headers.new judged)) }
     ensures within { IfOk result (LiesWithin (take 16384 bytes.new.items) headers.new) }
     ensures done { IfOk result (λ judged. ¬ (IsOpen judged)) }

@@ -4,7 +4,9 @@ ghost use Rattle.std.specs.Prelude.{◌≡◌, ◌≢◌, ◌++◌, ◌≤◌, t
 ghost use Rattle.std.specs.Io.KnownBytes.{Appends, Keeps};
 ghost use Rattle.httparse.specs.{Grammar.RequestHead, Spans.IsRequestWithin, Spans.IsRequestAt, Spans.span_bytes};
 ghost use Rattle.hotel_lists.specs.Calls.{NoneForgotten};
-ghost use Rattle.hotel_http.specs.{Plan.plan_in, Request.request_fault_of, Request.IsMeant, Request.EndsBody, Request.wanted_of, Request.EndsHead, Request.EndsRequest};
+ghost use Rattle.hotel_http.specs.Reads.{ReadsWhile};
+ghost use Rattle.hotel_http.specs.{Body.ReadsBody, Plan.plan_in, Request.request_fault_of, Request.IsMeant, Request.EndsBody, Request.wanted_of, Request.EndsHead, Request.EndsRequest};
+ghost use Rattle.hotel_http.specs.Request.{ReadsBehind, WantsMore};
 ghost use Rattle.hotel_http.specs.declared.requests.RequestFault.TheVariants.{Write, Read, Memory};
 
 use crate::body::{read_body, write_interim};
@@ -113,6 +115,7 @@ fn read_planned<R: Read, W: Write>(
     calls: &mut IoCalls,
 ) -> Result<Result<Request, Rejection>, RequestFault>
     ensures ends { EndsBody plan path.now begun.now (R.remaining reader.old) (W.contents writer.old) (W.contents writer.new) result }
+    ensures wanted { ReadsBody begun.now plan.size (R.remaining reader.old) (R.remaining reader.new) }
     ensures read_failed { IsErrOf result Read → calls.new.read_failed ≡ true }
     ensures write_failed { IsErrOf result Write → calls.new.write_failed ≡ true }
     ensures calls { NoneForgotten calls.old calls.new }
@@ -144,6 +147,8 @@ fn read_behind_head<R: Read, W: Write>(
     requires { IsRequestWithin (take 16384 bytes.now) headers.now spans.now }
     ensures ends { (head : RequestHead) → IsRequestAt (take 16384 bytes.now) headers.now spans.now head
         → EndsHead head (λ left. drop spans.now.len (bytes.now ++ left)) (R.remaining reader.old) (W.contents writer.old) (W.contents writer.new) result }
+    ensures wanted { (head : RequestHead) → IsRequestAt (take 16384 bytes.now) headers.now spans.now head
+        → ReadsBehind head spans.now.len bytes.now (R.remaining reader.old) (R.remaining reader.new) }
     ensures read_failed { IsErrOf result Read → calls.new.read_failed ≡ true }
     ensures write_failed { IsErrOf result Write → calls.new.write_failed ≡ true }
     ensures calls { NoneForgotten calls.old calls.new }
@@ -160,6 +165,7 @@ fn read_behind_head<R: Read, W: Write>(
 }
 
 /// Reads a request, and writes the interim answer where the client awaits it before it sends the body.
+#[tactic(auto, using(crate::proofs::RequestLemmas::head_read))]
 pub fn read_request<R: Read, W: Write>(
     alloc: Global,
     routes: &Routes,
@@ -168,6 +174,7 @@ pub fn read_request<R: Read, W: Write>(
     calls: &mut IoCalls,
 ) -> Result<Result<Request, Rejection>, RequestFault>
     ensures ends { EndsRequest (R.remaining reader.old) (W.contents writer.old) (W.contents writer.new) result }
+    ensures wanted { ReadsWhile WantsMore (R.remaining reader.old) (R.remaining reader.new) }
     ensures read_failed { IsErrOf result Read → calls.new.read_failed ≡ true }
     ensures write_failed { IsErrOf result Write → calls.new.write_failed ≡ true }
     ensures calls { NoneForgotten calls.old calls.new }

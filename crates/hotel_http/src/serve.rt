@@ -4,12 +4,14 @@ ghost use Rattle.std.specs.Prelude.{◌≡◌, [], true, Ok, Err, Option, IsErrO
 ghost use Rattle.std.specs.Io.KnownBytes.{Appends};
 ghost use Rattle.rand_core.specs.Stream.{Stream};
 ghost use Rattle.keycard_rules.specs.Rise.{NoFewer};
-ghost use Rattle.hotel_core.specs.{Books.Failures.AreCounted, Model.Leads.Leads};
+ghost use Rattle.hotel_core.specs.{Books.Failures.AreCounted, Books.Happens.Happens};
 ghost use Rattle.hotel_lists.specs.Calls.{NoneForgotten};
 ghost use Rattle.hotel_asks.specs.Listings.{listing_on};
+ghost use Rattle.hotel_http.specs.Reads.{ReadsWhile};
+ghost use Rattle.hotel_http.specs.Request.{WantsMore};
 ghost use Rattle.hotel_asks.specs.declared.asks.Ask.TheVariants as ask;
 ghost use Rattle.hotel_http.specs.{Body.interim_where, declared.serve.ServeFault.TheVariants.Read, declared.serve.ServeFault.TheVariants.Write};
-ghost use Rattle.hotel_http.specs.Serve.{rejected, replied, is_accepted, taken_by, outcome, AskComes, FileComes, TaskComes, Comes, EndsAs, Answered, ended, IsListText, list_refusal, list_failures, text_in, Serves, IfUnwritten, serve_fault_of};
+ghost use Rattle.hotel_http.specs.Serve.{rejected, replied, is_accepted, is_answered, taken_by, outcome, AskComes, FileComes, TaskComes, Comes, EndsAs, Answered, ended, IsListText, list_refusal, list_failures, text_in, Serves, IfUnwritten, serve_fault_of};
 
 use crate::answer::{rejection_status, reply_status, write_csv, write_rejection, write_reply};
 use crate::audit_answer::{fault_status, has_taken, write_audit, write_fault};
@@ -130,10 +132,8 @@ fn answer_command<W: Write, B: Walks, R: Rng>(
     source: &mut R,
     calls: &mut IoCalls,
 ) -> Result<Served, Cut>
-    ensures went { B.is_clean books.new → Leads (B.rows books.old) (Answered (AskComes (ask.Command command.now)) (R.stream source.old) (R.stream source.new) []
-        (W.contents writer.old) (W.contents writer.new) (B.failures books.old) (B.failures books.new) result) (B.rows books.new) }
-    ensures was_clean { B.is_clean books.new → B.is_clean books.old }
-    ensures counted { NoFewer (B.failures books.old) (B.failures books.new) }
+    ensures went { Happens B.Issued B.rows books.old (Answered (AskComes (ask.Command command.now)) (R.stream source.old) (R.stream source.new) []
+        (W.contents writer.old) (W.contents writer.new) result) books.new }
     ensures failed { OnErr result (calls.new.write_failed ≡ true) }
     ensures calls { NoneForgotten calls.old calls.new }
 {
@@ -155,8 +155,10 @@ fn list_refusal(fault: ListFault) -> Refusal
 /// The text of a list, made whole in memory; or why it is refused.
 fn list_text<B: Walks>(alloc: Global, list: &ListAsk, books: &mut B) -> Result<Vec<u8>, Refusal>
     ensures text { B.is_honest books.new → IsListText (listing_on (B.rows books.old) list.now) (text_in (λ t. t.items) result) }
+    ensures vouched { B.is_honest books.new → is_answered (text_in (λ t. t.items) result) ≡ true → B.is_clean books.new }
     ensures kept { B.is_clean books.new → B.is_kept books.old books.new }
     ensures was_clean { B.is_clean books.new → B.is_clean books.old }
+    ensures was_honest { B.is_honest books.new → B.is_honest books.old }
     ensures counted { NoFewer (B.failures books.old) (B.failures books.new) }
     ensures failures { AreCounted (B.failures books.old) (B.failures books.new) (list_failures (text_in (λ t. t.items) result)) }
 {
@@ -174,10 +176,8 @@ fn answer_list<W: Write, B: Walks>(
     books: &mut B,
     calls: &mut IoCalls,
 ) -> Result<Served, Cut>
-    ensures went { B.is_clean books.new → (s : Stream) → Leads (B.rows books.old) (Answered (AskComes (ask.List list.now)) s s []
-        (W.contents writer.old) (W.contents writer.new) (B.failures books.old) (B.failures books.new) result) (B.rows books.new) }
-    ensures was_clean { B.is_clean books.new → B.is_clean books.old }
-    ensures counted { NoFewer (B.failures books.old) (B.failures books.new) }
+    ensures went { (s : Stream) → Happens B.Issued B.rows books.old (Answered (AskComes (ask.List list.now)) s s []
+        (W.contents writer.old) (W.contents writer.new) result) books.new }
     ensures failed { OnErr result (calls.new.write_failed ≡ true) }
     ensures calls { NoneForgotten calls.old calls.new }
 {
@@ -208,10 +208,8 @@ fn answer_audit<W: Write, B: Walks>(
     books: &mut B,
     calls: &mut IoCalls,
 ) -> Result<Served, Cut>
-    ensures went { B.is_clean books.new → (s : Stream) → Leads (B.rows books.old) (Answered (FileComes file.now) s s []
-        (W.contents writer.old) (W.contents writer.new) (B.failures books.old) (B.failures books.new) result) (B.rows books.new) }
-    ensures was_clean { B.is_clean books.new → B.is_clean books.old }
-    ensures counted { NoFewer (B.failures books.old) (B.failures books.new) }
+    ensures went { (s : Stream) → Happens B.Issued B.rows books.old (Answered (FileComes file.now) s s []
+        (W.contents writer.old) (W.contents writer.new) result) books.new }
     ensures failed { OnErr result (calls.new.write_failed ≡ true) }
     ensures calls { NoneForgotten calls.old calls.new }
 {
@@ -237,10 +235,8 @@ fn answer_ask<W: Write, B: Walks, R: Rng>(
     source: &mut R,
     calls: &mut IoCalls,
 ) -> Result<Served, Cut>
-    ensures went { B.is_clean books.new → Leads (B.rows books.old) (Answered (AskComes asked.now) (R.stream source.old) (R.stream source.new) []
-        (W.contents writer.old) (W.contents writer.new) (B.failures books.old) (B.failures books.new) result) (B.rows books.new) }
-    ensures was_clean { B.is_clean books.new → B.is_clean books.old }
-    ensures counted { NoFewer (B.failures books.old) (B.failures books.new) }
+    ensures went { Happens B.Issued B.rows books.old (Answered (AskComes asked.now) (R.stream source.old) (R.stream source.new) []
+        (W.contents writer.old) (W.contents writer.new) result) books.new }
     ensures failed { OnErr result (calls.new.write_failed ≡ true) }
     ensures calls { NoneForgotten calls.old calls.new }
 {
@@ -259,10 +255,8 @@ fn answer_request<W: Write, B: Walks, R: Rng>(
     source: &mut R,
     calls: &mut IoCalls,
 ) -> Result<Served, Cut>
-    ensures went { B.is_clean books.new → Leads (B.rows books.old) (Answered (TaskComes request.now.task request.now.body.items) (R.stream source.old) (R.stream source.new) []
-        (W.contents writer.old) (W.contents writer.new) (B.failures books.old) (B.failures books.new) result) (B.rows books.new) }
-    ensures was_clean { B.is_clean books.new → B.is_clean books.old }
-    ensures counted { NoFewer (B.failures books.old) (B.failures books.new) }
+    ensures went { Happens B.Issued B.rows books.old (Answered (TaskComes request.now.task request.now.body.items) (R.stream source.old) (R.stream source.new) []
+        (W.contents writer.old) (W.contents writer.new) result) books.new }
     ensures failed { OnErr result (calls.new.write_failed ≡ true) }
     ensures calls { NoneForgotten calls.old calls.new }
 {
@@ -284,10 +278,12 @@ pub fn serve_by<I: Read, W: Write, B: Walks, R: Rng>(
     calls: &mut IoCalls,
 ) -> Result<Served, ServeFault>
     ensures serves { Serves (I.remaining reader.old) (W.contents writer.old) (W.contents writer.new) ((books.new ≡ books.old) × (source.new ≡ source.old))
-        (λ wanted awaited end. B.is_clean books.new → Leads (B.rows books.old) (Answered (Comes wanted) (R.stream source.old) (R.stream source.new) (interim_where awaited)
-        (W.contents writer.old) (W.contents writer.new) (B.failures books.old) (B.failures books.new) end) (B.rows books.new)) result }
+        (λ wanted awaited end. Happens B.Issued B.rows books.old (Answered (Comes wanted) (R.stream source.old) (R.stream source.new) (interim_where awaited)
+        (W.contents writer.old) (W.contents writer.new) end) books.new) result }
     ensures was_clean { B.is_clean books.new → B.is_clean books.old }
+    ensures was_honest { B.is_honest books.new → B.is_honest books.old }
     ensures counted { NoFewer (B.failures books.old) (B.failures books.new) }
+    ensures wanted { ReadsWhile WantsMore (I.remaining reader.old) (I.remaining reader.new) }
     ensures read_failed { IsErrOf result Read → calls.new.read_failed ≡ true }
     ensures write_failed { IfUnwritten result (calls.new.write_failed ≡ true) }
     ensures calls { NoneForgotten calls.old calls.new }
@@ -304,6 +300,7 @@ pub fn serve_by<I: Read, W: Write, B: Walks, R: Rng>(
 /// The body is read whole before a command or an import begins. All memory but theirs is taken before it; their answers are written from
 /// buffers of fixed size, and a list's text is made whole before its answer begins. The interrupted reads and writes of the call are
 /// counted together; the thousandth is a fault. The writer is not flushed.
+#[tactic(auto, using(crate::proofs::RequestLemmas::none_read))]
 pub fn serve_one<I: Read, W: Write, B: Walks, R: Rng>(
     alloc: Global,
     reader: &mut I,
@@ -312,10 +309,12 @@ pub fn serve_one<I: Read, W: Write, B: Walks, R: Rng>(
     source: &mut R,
 ) -> Result<Served, ServeFault>
     ensures serves { Serves (I.remaining reader.old) (W.contents writer.old) (W.contents writer.new) ((books.new ≡ books.old) × (source.new ≡ source.old))
-        (λ wanted awaited end. B.is_clean books.new → Leads (B.rows books.old) (Answered (Comes wanted) (R.stream source.old) (R.stream source.new) (interim_where awaited)
-        (W.contents writer.old) (W.contents writer.new) (B.failures books.old) (B.failures books.new) end) (B.rows books.new)) result }
+        (λ wanted awaited end. Happens B.Issued B.rows books.old (Answered (Comes wanted) (R.stream source.old) (R.stream source.new) (interim_where awaited)
+        (W.contents writer.old) (W.contents writer.new) end) books.new) result }
     ensures was_clean { B.is_clean books.new → B.is_clean books.old }
+    ensures was_honest { B.is_honest books.new → B.is_honest books.old }
     ensures counted { NoFewer (B.failures books.old) (B.failures books.new) }
+    ensures wanted { ReadsWhile WantsMore (I.remaining reader.old) (I.remaining reader.new) }
 {
     let Ok(routes) = make_routes(alloc) else {
         return Err(ServeFault::Memory);

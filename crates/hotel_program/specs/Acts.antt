@@ -3,9 +3,8 @@ use Rattle.std.specs.Prelude.{◌≡◌, ◌≤◌, ◌<◌, ℕ, Bool, true, fa
 use Rattle.std.specs.Fmt.{decimal}
 use Rattle.std.specs.Io.KnownBytes.{Appends}
 use Rattle.rand_core.specs.Stream.{Stream}
-use Rattle.keycard_rules.specs.Rise.{NoFewer}
 use Rattle.keycard_rules.specs.declared.issued.Issued.{Ghosts as IssuedOf}
-use Rattle.hotel_core.specs.Model.Leads.{Leads}
+use Rattle.hotel_core.specs.Books.Happens.{Happens, HappensBy}
 use Rattle.hotel_core.specs.Model.Rows.{Rows}
 use Rattle.hotel_core.specs.declared.command.Command.{Command}
 use Rattle.hotel_core.specs.declared.reply.Reply.{Reply}
@@ -62,7 +61,7 @@ OneEnds v command status old new = (reply : Reply) × (write_failed : Bool) × E
 -- A list: its text over the history.
 abbrev pub AListEnds : {S R W F E : Type 0} → Views S R W F E → ListAsk → ℕ → Desk S R W F E → Desk S R W F E → Type 0
 AListEnds v its_list status old new = (end : Result (Unit {0}) ListFault) × EndsBy v (list_end end) status old new
-    × (v.issued.is_clean new.books → AnswerEndsFor (v.rows old.books) its_list (v.contents old.writer) (v.contents new.writer) end)
+    × (v.issued.is_honest new.books → AnswerEndsFor (v.rows old.books) its_list (v.contents old.writer) (v.contents new.writer) end)
     × LooksAt v.issued old.books new.books end × (new.source ≡ old.source) × (new.around ≡ old.around)
 
 -- An audit file of these bytes: its lines one after the other, and their answers.
@@ -75,15 +74,11 @@ AuditEnds v bytes status old new = (outcome : Result (List LineAnswer) ImportFau
 -- What came of a script that ended so, of which these bytes are known.
 pub record ScriptCame {S R W F E : Type 0} (v : Views S R W F E) (known : Option (List ℕ)) (end : Result ScriptEnd ScriptFault) (old new : Desk S R W F E) : Type 0 where
   pub answered : IfOk end (λ script_end. (script : List ℕ) × IsInput known script × (script_end.lines ≡ length (answered_lines script))
-      × (v.issued.is_clean new.books → Leads (v.rows old.books) (ScriptAnswered (answered_lines script) (v.stream old.source) (v.stream new.source)
-      (v.contents old.writer) (v.contents new.writer) (v.issued.failures old.books) (v.issued.failures new.books)) (v.rows new.books)))
+      × HappensBy v.issued v.rows old.books (ScriptAnswered (answered_lines script) (v.stream old.source) (v.stream new.source) (v.contents old.writer) (v.contents new.writer)) new.books)
   pub cut : IfCut end (λ done. (script : List ℕ) × IsInput known script × (1 ≤ done) × (done ≤ length (answered_lines script))
-      × (v.issued.is_clean new.books → Leads (v.rows old.books) (ScriptCut (take done (answered_lines script)) (v.stream old.source) (v.stream new.source)
-      (v.contents old.writer) (v.contents new.writer) (v.issued.failures old.books) (v.issued.failures new.books)) (v.rows new.books)))
+      × HappensBy v.issued v.rows old.books (ScriptCut (take done (answered_lines script)) (v.stream old.source) (v.stream new.source) (v.contents old.writer) (v.contents new.writer)) new.books)
   pub unbegun : IfUnbegun end (NothingBegun old.books new.books old.source new.source old.writer new.writer)
   pub large : IsErrOf end TooLarge → IfSome known (λ input. 1048576 < length input)
-  pub was_clean : v.issued.is_clean new.books → v.issued.is_clean old.books
-  pub counted : NoFewer (v.issued.failures old.books) (v.issued.failures new.books)
 
 -- A script: its lines one after the other, each answered before the next.
 abbrev pub ScriptEnds : {S R W F E : Type 0} → Views S R W F E → Option (List ℕ) → ℕ → Desk S R W F E → Desk S R W F E → Type 0
@@ -94,11 +89,9 @@ abbrev pub listening_text : ℕ → List ℕ
 listening_text port = codes "listening on 127.0.0.1:" ++ decimal port ++ codes "\n"
 
 -- Connections were served: this many, each to its end, and the faults of these ends were told.
-pub record Serves {S R W F E : Type 0} (v : Views S R W F E) (count : ℕ) (old new : Desk S R W F E) : Type 0 where
-  pub ends : (ends : List ConnectionEnd) × (length ends ≡ count) × TellsAll v.told old.faults (faults_of ends) new.faults
-      × (v.issued.is_clean new.books → Leads (v.rows old.books) (ServesAll ends (v.stream old.source) (v.stream new.source)) (v.rows new.books))
-  pub was_clean : v.issued.is_clean new.books → v.issued.is_clean old.books
-  pub counted : NoFewer (v.issued.failures old.books) (v.issued.failures new.books)
+abbrev pub Serves : {S R W F E : Type 0} → Views S R W F E → ℕ → Desk S R W F E → Desk S R W F E → Type 0
+Serves v count old new = (ends : List ConnectionEnd) × (length ends ≡ count) × TellsAll v.told old.faults (faults_of ends) new.faults
+    × Happens v.issued v.rows old.books (ServesAll ends (v.stream old.source) (v.stream new.source)) new.books
 
 -- Books and source are as they were.
 abbrev pub Untouched : {S R W F E : Type 0} → Desk S R W F E → Desk S R W F E → Type 0

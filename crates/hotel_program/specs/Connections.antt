@@ -1,5 +1,5 @@
 -- Connections that are answered one after the other.
-use Rattle.std.specs.Prelude.{◌≡◌, ◌⊎◌, false, List, [], ◌∷◌, Option, Some, None, Result, Ok, Err}
+use Rattle.std.specs.Prelude.{◌≡◌, ◌⊎◌, Bool, false, List, [], ◌∷◌, ◌++◌, Option, Some, None, Result, Ok, Err}
 use Rattle.std.specs.List.{flat_map}
 use Rattle.rand_core.specs.Stream.{Stream}
 use Rattle.hotel_core.specs.declared.reply.Refusal.{Refusal}
@@ -16,28 +16,31 @@ use Rattle.hotel_program.specs.declared.faults.Fault.TheVariants.{Closed, Read, 
 abbrev pub ConnectionEnd : Type 0
 ConnectionEnd = Option (Result Served ServeFault)
 
--- Nothing was begun.
-abbrev pub NothingCame : History → Stream → History → Stream → Type 0
-NothingCame h s h' s' = (h' ≡ h) × (s' ≡ s)
+-- Nothing was begun: there are no failures, and the books weren't asked.
+abbrev pub NothingCame : History → Stream → List Refusal → List Bool → History → Stream → Type 0
+NothingCame h s failed answered h' s' = (failed ≡ []) × (answered ≡ []) × (h' ≡ h) × (s' ≡ s)
 
--- What a request asks for came, whose answer has this in it.
-abbrev pub RequestCame : (Outcome → Type 0) → History → Stream → History → Stream → Type 0
-RequestCame told h s h' s' = (wanted : Wanted) × (out : Outcome) × (failed : List Refusal) × Comes wanted h s out failed h' s' × told out
+-- What a request asks for came, with these failures; its answer has this in it, and says how the books answered.
+abbrev pub RequestCame : (Outcome → Type 0) → History → Stream → List Refusal → List Bool → History → Stream → Type 0
+RequestCame said h s failed answered h' s' = (wanted : Wanted) × (out : Outcome) × Comes wanted h s out failed h' s' × said out × (answered ≡ out.answered)
 
 -- What came of a connection that ended so.
-abbrev pub ConnectionCame : ConnectionEnd → History → Stream → History → Stream → Type 0
+abbrev pub ConnectionCame : ConnectionEnd → History → Stream → List Refusal → List Bool → History → Stream → Type 0
 ConnectionCame (Some (Ok served)) = RequestCame (λ out. (served.status ≡ out.status) × (served.acted ≡ out.acted))
-ConnectionCame (Some (Err (serve.Write acted))) = λ h s h' s'. RequestCame (λ out. acted ≡ out.acted) h s h' s' ⊎ ((acted ≡ false) × NothingCame h s h' s')
+ConnectionCame (Some (Err (serve.Write acted))) =
+    λ h s failed answered h' s'. RequestCame (λ out. acted ≡ out.acted) h s failed answered h' s' ⊎ ((acted ≡ false) × NothingCame h s failed answered h' s')
 ConnectionCame _ = NothingCame
 
 -- What came of connections that ended so, one after the other.
-abbrev pub AllCame : List ConnectionEnd → History → Stream → History → Stream → Type 0
-AllCame [] h s h' s' = NothingCame h s h' s'
-AllCame (end ∷ ends) h s h' s' = (mid : History) × (t : Stream) × ConnectionCame end h s mid t × AllCame ends mid t h' s'
+abbrev pub AllCame : List ConnectionEnd → History → Stream → List Refusal → List Bool → History → Stream → Type 0
+AllCame [] h s failed answered h' s' = NothingCame h s failed answered h' s'
+AllCame (end ∷ ends) h s failed answered h' s' =
+    (mid : History) × (t : Stream) × (first more : List Refusal) × (given later : List Bool) × ConnectionCame end h s first given mid t × AllCame ends mid t more later h' s'
+    × (failed ≡ first ++ more) × (answered ≡ given ++ later)
 
--- Connections were served from one history to another.
-abbrev pub ServesAll : List ConnectionEnd → Stream → Stream → History → History → Type 0
-ServesAll ends s s' h h' = AllCame ends h s h' s'
+-- Connections were served from one history to another, and this is told of their failures and of the books' answers.
+abbrev pub ServesAll : List ConnectionEnd → Stream → Stream → (List Refusal → List Bool → Type 0) → History → History → Type 0
+ServesAll ends s s' told h h' = (failed : List Refusal) × (answered : List Bool) × AllCame ends h s failed answered h' s' × told failed answered
 
 -- The fault of a request that was served so.
 abbrev pub serve_end : Result Served ServeFault → Result (Unit {0}) Fault

@@ -13,7 +13,7 @@ use Rattle.hotel_program.specs.CommandLine.{desk}
 use Rattle.hotel_program.specs.Faults.{fault_status}
 use Rattle.hotel_program.specs.Plans.{IsRefusalOf, IsValueOrMemory, act_in}
 use Rattle.hotel_program.specs.declared.command_line.plan.DeskAct.{DeskAct}
-use Rattle.hotel_program.specs.declared.command_line.plan.DeskAct.TheVariants.{Audit}
+use Rattle.hotel_program.specs.declared.command_line.plan.DeskAct.TheVariants.{Audit, Script}
 use Rattle.hotel_program.specs.declared.command_line.plan.Plan.{Plan}
 use Rattle.hotel_program.specs.declared.command_line.plan.UsageFault.{UsageFault}
 use Rattle.hotel_program.specs.declared.command_line.plan.UsageFault.TheVariants.{Shown, Usage, Value, Memory}
@@ -114,6 +114,10 @@ pub record ParseTo (words : List Text) (parsed : Result Plan UsageFault) : Type 
   pub seed : IfOk parsed (λ p. p.seed_file ≡ first_of (codes "seed-file") (matches_of desk words))
   pub value : IfErr parsed (IsRefusalOf (act_in (subcommand_of desk words)))
   pub takes : takes desk words ≡ true → IfErr parsed IsValueOrMemory
+
+-- The words ask for a script, which alone reads what the reader has.
+abbrev pub AskForScript : List Text → Type 0
+AskForScript words = act_in (subcommand_of desk words) ≡ Some (Ok Script)
 
 -- Help was written; or a write of it failed.
 abbrev pub HelpEnds : {W F : Type 0} → (W → Option (List ℕ)) → (F → Fault → F → Type 0) → List ℕ → Bool → ℕ → W → W → F → F → Type 0

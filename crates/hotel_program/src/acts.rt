@@ -4,6 +4,7 @@ ghost use Rattle.std.specs.Prelude.{◌≡◌, ◌≢◌};
 ghost use Rattle.hotel_program.specs.Acts.{ActEnds};
 ghost use Rattle.hotel_program.specs.Faults.{end_status};
 ghost use Rattle.hotel_program.specs.Program.{script_end};
+ghost use Rattle.hotel_program.specs.declared.command_line.plan.DeskAct.TheVariants.{Script};
 
 use crate::alone::{run_audit, run_list, run_one};
 use crate::command_line::DeskAct;
@@ -48,6 +49,7 @@ pub fn run_act<B: Walks, R: Rng, I: Read, W: Write, F: FaultSink, E: Surrounding
     ensures ends { ActEnds (record { issued = B.Issued; rows = B.rows; stream = R.stream; contents = W.contents; told = F.told; bound = E.port_bound }) (I.remaining reader.old) file.now act.now result
         (record { books = books.old; source = source.old; writer = writer.old; faults = faults.old; around = around.old })
         (record { books = books.new; source = source.new; writer = writer.new; faults = faults.new; around = around.new }) }
+    ensures unread { act.now ≢ Script → reader.new ≡ reader.old }
     ensures no_usage { result ≢ 2 }
 {
     match act {

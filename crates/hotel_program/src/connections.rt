@@ -1,8 +1,7 @@
 //! Connections that are answered one after the other.
 
 ghost use Rattle.std.specs.Prelude.{◌≡◌, ◌∷◌, [], List, Result, Some, length};
-ghost use Rattle.keycard_rules.specs.Rise.{NoFewer};
-ghost use Rattle.hotel_core.specs.Model.Leads.{Leads};
+ghost use Rattle.hotel_core.specs.Books.Happens.{Happens};
 ghost use Rattle.hotel_lists.specs.Calls.{NoneForgotten};
 ghost use Rattle.hotel_http.specs.declared.serve.Served.{Served};
 ghost use Rattle.hotel_http.specs.declared.serve.ServeFault.{ServeFault};
@@ -11,23 +10,15 @@ ghost use Rattle.hotel_program.specs.Connections.{ConnectionEnd, ServesAll, conn
 
 use crate::faults::{Fault, FaultSink};
 use crate::statuses::DONE;
+use crate::timed::{TimedReader, TimedWriter, has_limits};
 use hotel_core::Walks;
 use hotel_http::{Routes, ServeFault, Served, make_routes, serve_by, serve_one};
 use hotel_lists::IoCalls;
 use rand_core::Rng;
 use std::alloc::Global;
 use std::io::{Read, Write};
-use std::net::{TcpListener, TcpStream};
-use std::time::Duration;
-
-/// How many seconds a read or a write of a connection may take.
-const PATIENCE: u64 = 10;
-
-/// Sets how long a read and a write of the connection may take: whether the system took both limits.
-fn has_limits(stream: &TcpStream) -> bool {
-    let limit = Some(Duration::from_secs(PATIENCE));
-    stream.set_read_timeout(limit).is_ok() && stream.set_write_timeout(limit).is_ok()
-}
+use std::net::TcpListener;
+use std::time::Clock;
 
 /// The fault of a request that was served so.
 fn serve_end(end: Result<Served, ServeFault>) -> Result<(), Fault>
@@ -53,9 +44,7 @@ fn serve_stream<I: Read, W: Write, B: Walks, R: Rng>(
     source: &mut R,
 ) -> Result<(), Fault>
     ensures ends { (end : Result Served ServeFault) × (result ≡ serve_end end)
-        × (B.is_clean books.new → Leads (B.rows books.old) (ServesAll (Some end ∷ []) (R.stream source.old) (R.stream source.new)) (B.rows books.new)) }
-    ensures was_clean { B.is_clean books.new → B.is_clean books.old }
-    ensures counted { NoFewer (B.failures books.old) (B.failures books.new) }
+        × Happens B.Issued B.rows books.old (ServesAll (Some end ∷ []) (R.stream source.old) (R.stream source.new)) books.new }
 {
     match routes {
         Some(routes) => {
@@ -71,17 +60,16 @@ fn serve_stream<I: Read, W: Write, B: Walks, R: Rng>(
 }
 
 /// Takes a connection and answers its request.
-fn serve_connection<B: Walks, R: Rng>(
+fn serve_connection<B: Walks, R: Rng, C: Clock>(
     alloc: Global,
     routes: Option<&Routes>,
     listener: &TcpListener,
+    clock: &C,
     books: &mut B,
     source: &mut R,
 ) -> Result<(), Fault>
     ensures ends { (end : ConnectionEnd) × (result ≡ connection_end end)
-        × (B.is_clean books.new → Leads (B.rows books.old) (ServesAll (end ∷ []) (R.stream source.old) (R.stream source.new)) (B.rows books.new)) }
-    ensures was_clean { B.is_clean books.new → B.is_clean books.old }
-    ensures counted { NoFewer (B.failures books.old) (B.failures books.new) }
+        × Happens B.Issued B.rows books.old (ServesAll (end ∷ []) (R.stream source.old) (R.stream source.new)) books.new }
 {
     let Ok((stream, _)) = listener.accept() else {
         return Err(Fault::Closed);
@@ -89,37 +77,40 @@ fn serve_connection<B: Walks, R: Rng>(
     if !has_limits(&stream) {
         return Err(Fault::Closed);
     }
-    serve_stream(alloc, routes, &mut &stream, &mut &stream, books, source)
+    let mut reader = TimedReader::new(&stream, clock);
+    let mut writer = TimedWriter::new(&stream, clock);
+    serve_stream(alloc, routes, &mut reader, &mut writer, books, source)
 }
 
 /// Takes a connection, answers its request, and tells the fault that came instead.
-fn serve_and_tell<B: Walks, R: Rng, F: FaultSink>(
+fn serve_and_tell<B: Walks, R: Rng, F: FaultSink, C: Clock>(
     alloc: Global,
     routes: Option<&Routes>,
     listener: &TcpListener,
+    clock: &C,
     books: &mut B,
     source: &mut R,
     faults: &mut F,
     calls: &mut IoCalls,
 )
     ensures ends { (end : ConnectionEnd) × TellsAll F.told faults.old (faults_of (end ∷ [])) faults.new
-        × (B.is_clean books.new → Leads (B.rows books.old) (ServesAll (end ∷ []) (R.stream source.old) (R.stream source.new)) (B.rows books.new)) }
-    ensures was_clean { B.is_clean books.new → B.is_clean books.old }
-    ensures counted { NoFewer (B.failures books.old) (B.failures books.new) }
+        × Happens B.Issued B.rows books.old (ServesAll (end ∷ []) (R.stream source.old) (R.stream source.new)) books.new }
     ensures calls { NoneForgotten calls.old calls.new }
 {
-    if let Err(fault) = serve_connection(alloc, routes, listener, books, source) {
+    if let Err(fault) = serve_connection(alloc, routes, listener, clock, books, source) {
         faults.tell(&fault, calls);
     }
 }
 
 /// Takes so many connections, one after the other, and answers the request of each. A connection that
-/// fails is told as a fault, and the next one is taken. A peer that sends or takes nothing for ten
-/// seconds is given up. The table of routes is made once, before the first connection; where memory for
-/// it was wanting, each request makes its own. It answers 0.
-pub fn serve_connections<B: Walks, R: Rng, F: FaultSink>(
+/// fails is told as a fault, and the next one is taken. A connection has ten seconds in all for its
+/// request's bytes and ten for its answer's, whatever pieces come in; then its peer is given up. The
+/// table of routes is made once, before the first connection; where memory for it was wanting, each
+/// request makes its own. It answers 0.
+pub fn serve_connections<B: Walks, R: Rng, F: FaultSink, C: Clock>(
     alloc: Global,
     listener: &TcpListener,
+    clock: &C,
     count: u32,
     books: &mut B,
     source: &mut R,
@@ -127,15 +118,15 @@ pub fn serve_connections<B: Walks, R: Rng, F: FaultSink>(
 ) -> u8
     ensures status { result ≡ 0 }
     ensures ends { (ends : List ConnectionEnd) × (length ends ≡ count) × TellsAll F.told faults.old (faults_of ends) faults.new
-        × (B.is_clean books.new → Leads (B.rows books.old) (ServesAll ends (R.stream source.old) (R.stream source.new)) (B.rows books.new)) }
-    ensures was_clean { B.is_clean books.new → B.is_clean books.old }
-    ensures counted { NoFewer (B.failures books.old) (B.failures books.new) }
+        × Happens B.Issued B.rows books.old (ServesAll ends (R.stream source.old) (R.stream source.new)) books.new }
 {
     let made = make_routes(alloc).ok();
     let routes = made.as_ref();
     let mut calls = IoCalls::none();
     for _ in 0..count {
-        serve_and_tell(alloc, routes, listener, books, source, faults, &mut calls);
+        serve_and_tell(
+            alloc, routes, listener, clock, books, source, faults, &mut calls,
+        );
     }
     DONE
 }

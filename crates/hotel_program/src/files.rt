@@ -1,6 +1,7 @@
 //! What the program reads of files itself: a seed, and an audit file.
 
-ghost use Rattle.std.specs.Prelude.{◌≡◌, ◌<◌, length, take, Err, IfOk, IfErr, IfSome};
+ghost use Rattle.std.specs.Prelude.{◌≡◌, ◌<◌, ◌≤◌, ◌+◌, length, take, Err, IfOk, IfErr, IfSome};
+ghost use Rattle.hotel_http.specs.Reads.{ReadsWhile};
 ghost use Rattle.hotel_program.specs.Faults.{IsOfFiles};
 ghost use Rattle.hotel_program.specs.Files.{IsFront, read_fault};
 ghost use Rattle.hotel_program.specs.declared.faults.Fault.TheVariants.{Seed};
@@ -18,7 +19,9 @@ pub const AUDIT_BYTES: usize = 262_144;
 
 /// Reads all the bytes that the reader has; or, where it has more than `most`, more than `most` of them.
 fn read_front<R: Read>(alloc: Global, reader: &mut R, most: usize) -> Result<Vec<u8>, ReadFault>
-    ensures { IfOk result (λ bytes. IfSome (R.remaining reader.old) (IsFront most bytes.items)) }
+    ensures front { IfOk result (λ bytes. IfSome (R.remaining reader.old) (IsFront most bytes.items)) }
+    ensures few { IfOk result (λ bytes. length bytes.items ≤ most + 4096) }
+    ensures wanted { ReadsWhile (λ came. length came ≤ most) (R.remaining reader.old) (R.remaining reader.new) }
 {
     let mut calls = IoCalls::none();
     let mut bytes = Vec::new(alloc);
@@ -45,6 +48,7 @@ fn read_fault(fault: ReadFault) -> Fault
 pub fn seed_in<R: Read>(alloc: Global, reader: &mut R) -> Result<[u8; SEED_BYTES], Fault>
     ensures seed { IfOk result (λ seed. IfSome (R.remaining reader.old) (λ input. seed ≡ take 32 input)) }
     ensures short { result ≡ Err Seed → IfSome (R.remaining reader.old) (λ input. length input < 32) }
+    ensures wanted { ReadsWhile (λ came. length came ≤ 31) (R.remaining reader.old) (R.remaining reader.new) }
     ensures fault { IfErr result IsOfFiles }
 {
     match read_front(alloc, reader, SEED_BYTES - 1) {
@@ -59,6 +63,8 @@ pub fn seed_in<R: Read>(alloc: Global, reader: &mut R) -> Result<[u8; SEED_BYTES
 /// The bytes of an audit file: all that the reader has; or, where it has more than such a file may have, more than that.
 pub fn audit_file_in<R: Read>(alloc: Global, reader: &mut R) -> Result<Vec<u8>, Fault>
     ensures bytes { IfOk result (λ bytes. IfSome (R.remaining reader.old) (IsFront 262144 bytes.items)) }
+    ensures few { IfOk result (λ bytes. length bytes.items ≤ 266240) }
+    ensures wanted { ReadsWhile (λ came. length came ≤ 262144) (R.remaining reader.old) (R.remaining reader.new) }
     ensures fault { IfErr result IsOfFiles }
 {
     match read_front(alloc, reader, AUDIT_BYTES) {

@@ -13,6 +13,7 @@ mod script;
 mod server;
 mod statuses;
 mod surroundings;
+mod timed;
 
 pub use alone::{run_audit, run_list, run_one};
 pub use command_line::{DeskAct, FileName, Plan, UsageFault, parse_words};

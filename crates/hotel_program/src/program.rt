@@ -4,10 +4,11 @@ ghost use Rattle.std.specs.Prelude.{◌≡◌, ◌≢◌, Ok, Err, Some, IfErr, 
 ghost use Rattle.std.specs.IoError.{error_kind};
 ghost use Rattle.std.specs.Result.{result_map_both};
 ghost use Rattle.hotel_program.specs.declared.faults.Fault.TheVariants.{Usage, Memory};
+ghost use Rattle.hotel_program.specs.declared.command_line.plan.DeskAct.TheVariants.{Script};
 ghost use Rattle.hotel_program.specs.declared.script.ScriptEnd.{ScriptEnd};
 ghost use Rattle.hotel_program.specs.declared.script.ScriptFault.{ScriptFault};
 ghost use Rattle.hotel_program.specs.Faults.{end_status, IsOfFiles, Tells};
-ghost use Rattle.hotel_program.specs.Plan.{outer_views, FileIsRead, InMemory, OverBooks, PlanEnds, UsageSaid, WordsEnd};
+ghost use Rattle.hotel_program.specs.Plan.{outer_views, AskForScript, FileIsRead, InMemory, OverBooks, PlanEnds, UsageSaid, WordsEnd};
 ghost use Rattle.hotel_program.specs.Program.{HasNoWords, IfWords, IsNoText, LacksMemory, EndsOverNewDesk, script_end};
 
 use crate::acts::{end_of_script, run_act};
@@ -53,6 +54,7 @@ fn run_in_memory<I: Read, W: Write, F: FaultSink, B: Walks + Drop, E: Databases<
     ensures ends { InMemory (outer_views W.contents F.told F.shown E.seed_read E.file_read E.books_opened E.port_bound ⟦<ListBooks as Issued>⟧ B.Issued B.rows)
         (I.remaining reader.old) act.now file.now source.old around.old result
         (record { writer = writer.old; faults = faults.old; around = around.old }) (record { writer = writer.new; faults = faults.new; around = around.new }) }
+    ensures unread { act.now ≢ Script → reader.new ≡ reader.old }
     ensures no_usage { result ≢ 2 }
 {
     let mut books = ListBooks::empty(alloc);
@@ -76,6 +78,7 @@ fn run_on_database<I: Read, W: Write, F: FaultSink, B: Walks + Drop, E: Database
     ensures ends { OverBooks (outer_views W.contents F.told F.shown E.seed_read E.file_read E.books_opened E.port_bound ⟦<ListBooks as Issued>⟧ B.Issued B.rows)
         (I.remaining reader.old) act.now file.now source.old (Some name.now) around.old result
         (record { writer = writer.old; faults = faults.old; around = around.old }) (record { writer = writer.new; faults = faults.new; around = around.new }) }
+    ensures unread { act.now ≢ Script → reader.new ≡ reader.old }
     ensures no_usage { result ≢ 2 }
 {
     let mut books = match around.open_books(alloc, name) {
@@ -103,6 +106,7 @@ fn run_over_books<I: Read, W: Write, F: FaultSink, B: Walks + Drop, E: Databases
     ensures ends { OverBooks (outer_views W.contents F.told F.shown E.seed_read E.file_read E.books_opened E.port_bound ⟦<ListBooks as Issued>⟧ B.Issued B.rows)
         (I.remaining reader.old) plan.now.act file.now source.old plan.now.db around.old result
         (record { writer = writer.old; faults = faults.old; around = around.old }) (record { writer = writer.new; faults = faults.new; around = around.new }) }
+    ensures unread { plan.now.act ≢ Script → reader.new ≡ reader.old }
     ensures no_usage { result ≢ 2 }
 {
     let act = &plan.act;
@@ -144,6 +148,7 @@ fn run_plan<I: Read, W: Write, F: FaultSink, B: Walks + Drop, E: Databases<B>>(
     ensures ends { PlanEnds (outer_views W.contents F.told F.shown E.seed_read E.file_read E.books_opened E.port_bound ⟦<ListBooks as Issued>⟧ B.Issued B.rows)
         (I.remaining reader.old) plan.now result
         (record { writer = writer.old; faults = faults.old; around = around.old }) (record { writer = writer.new; faults = faults.new; around = around.new }) }
+    ensures unread { plan.now.act ≢ Script → reader.new ≡ reader.old }
     ensures no_usage { result ≢ 2 }
 {
     let seed = match around.read_seed(alloc, plan.seed_file.as_ref()) {
@@ -195,9 +200,10 @@ fn run_words<I: Read, W: Write, F: FaultSink, B: Walks + Drop, E: Databases<B>>(
     faults: &mut F,
     around: &mut E,
 ) -> u8
-    ensures { WordsEnd (outer_views W.contents F.told F.shown E.seed_read E.file_read E.books_opened E.port_bound ⟦<ListBooks as Issued>⟧ B.Issued B.rows)
+    ensures ends { WordsEnd (outer_views W.contents F.told F.shown E.seed_read E.file_read E.books_opened E.port_bound ⟦<ListBooks as Issued>⟧ B.Issued B.rows)
         (I.remaining reader.old) (map string_bytes words.now) result
         (record { writer = writer.old; faults = faults.old; around = around.old }) (record { writer = writer.new; faults = faults.new; around = around.new }) }
+    ensures unread { ¬ (AskForScript (map string_bytes words.now)) → reader.new ≡ reader.old }
 {
     match parse_words(alloc, words) {
         Ok(plan) => run_plan(alloc, &plan, reader, writer, faults, around),
@@ -234,6 +240,7 @@ pub fn run_program<I: Read, W: Write, F: FaultSink, B: Walks + Drop, E: Database
     ensures words { IfWords words (λ texts. WordsEnd (outer_views W.contents F.told F.shown E.seed_read E.file_read E.books_opened E.port_bound ⟦<ListBooks as Issued>⟧ B.Issued B.rows)
         (I.remaining reader.old) texts result
         (record { writer = writer.old; faults = faults.old; around = around.old }) (record { writer = writer.new; faults = faults.new; around = around.new })) }
+    ensures unread { IfWords words (λ texts. ¬ (AskForScript texts) → reader.new ≡ reader.old) }
 {
     let words = match words {
         Ok(words) => words,

@@ -1,8 +1,7 @@
 //! Scripts: lines of commands and lists, each answered before the next.
 
 ghost use Rattle.std.specs.Prelude.{◌≡◌, ℕ, true, List, ◌≤◌, ◌<◌, length, take, IfSome, IfOk, IsErrOf, OnOk, OnErr};
-ghost use Rattle.keycard_rules.specs.Rise.{NoFewer};
-ghost use Rattle.hotel_core.specs.Model.Leads.{Leads};
+ghost use Rattle.hotel_core.specs.Books.Happens.{HappensBy};
 ghost use Rattle.hotel_lists.specs.Calls.{NoneForgotten};
 ghost use Rattle.hotel_program.specs.declared.script.ScriptFault.TheVariants.{TooLarge};
 ghost use Rattle.hotel_program.specs.Script.Lines.{answered_lines};
@@ -74,16 +73,12 @@ fn answer_lines<W: Write, B: Walks, R: Rng>(
 ) -> Result<ScriptEnd, ScriptFault>
     requires { length script.now ≤ 1048576 }
     ensures count { IfOk result (λ script_end. script_end.lines ≡ length (answered_lines script.now)) }
-    ensures ok { B.is_clean books.new → OnOk result (Leads (B.rows books.old)
-        (ScriptAnswered (answered_lines script.now) (R.stream source.old) (R.stream source.new) (W.contents writer.old)
-        (W.contents writer.new) (B.failures books.old) (B.failures books.new)) (B.rows books.new)) }
+    ensures ok { OnOk result (HappensBy B.Issued B.rows books.old (ScriptAnswered (answered_lines script.now)
+        (R.stream source.old) (R.stream source.new) (W.contents writer.old) (W.contents writer.new)) books.new) }
     ensures cut { IfCut result (λ done. (1 ≤ done) × (done ≤ length (answered_lines script.now))
-        × (B.is_clean books.new → Leads (B.rows books.old) (ScriptCut
-        (take done (answered_lines script.now)) (R.stream source.old) (R.stream source.new) (W.contents writer.old)
-        (W.contents writer.new) (B.failures books.old) (B.failures books.new)) (B.rows books.new))) }
+        × HappensBy B.Issued B.rows books.old (ScriptCut (take done (answered_lines script.now))
+        (R.stream source.old) (R.stream source.new) (W.contents writer.old) (W.contents writer.new)) books.new) }
     ensures sure { IfUnbegun result ⊥ }
-    ensures was_clean { B.is_clean books.new → B.is_clean books.old }
-    ensures counted { NoFewer (B.failures books.old) (B.failures books.new) }
     ensures failed { OnErr result (calls.new.write_failed ≡ true) }
     ensures calls { NoneForgotten calls.old calls.new }
 {
@@ -115,17 +110,15 @@ pub fn run_script<I: Read, W: Write, B: Walks, R: Rng>(
     source: &mut R,
 ) -> Result<ScriptEnd, ScriptFault>
     ensures ok { IfOk result (λ script_end. (script : List ℕ) × IsInput (I.remaining reader.old) script
-        × (script_end.lines ≡ length (answered_lines script)) × (B.is_clean books.new → Leads (B.rows books.old)
-        (ScriptAnswered (answered_lines script) (R.stream source.old) (R.stream source.new) (W.contents writer.old)
-        (W.contents writer.new) (B.failures books.old) (B.failures books.new)) (B.rows books.new))) }
+        × (script_end.lines ≡ length (answered_lines script))
+        × HappensBy B.Issued B.rows books.old (ScriptAnswered (answered_lines script)
+        (R.stream source.old) (R.stream source.new) (W.contents writer.old) (W.contents writer.new)) books.new) }
     ensures cut { IfCut result (λ done. (script : List ℕ) × IsInput (I.remaining reader.old) script × (1 ≤ done)
-        × (done ≤ length (answered_lines script)) × (B.is_clean books.new → Leads (B.rows books.old) (ScriptCut
-        (take done (answered_lines script)) (R.stream source.old) (R.stream source.new) (W.contents writer.old)
-        (W.contents writer.new) (B.failures books.old) (B.failures books.new)) (B.rows books.new))) }
+        × (done ≤ length (answered_lines script))
+        × HappensBy B.Issued B.rows books.old (ScriptCut (take done (answered_lines script))
+        (R.stream source.old) (R.stream source.new) (W.contents writer.old) (W.contents writer.new)) books.new) }
     ensures unbegun { IfUnbegun result (NothingBegun books.old books.new source.old source.new writer.old writer.new) }
     ensures large { IsErrOf result TooLarge → IfSome (I.remaining reader.old) (λ input. 1048576 < length input) }
-    ensures was_clean { B.is_clean books.new → B.is_clean books.old }
-    ensures counted { NoFewer (B.failures books.old) (B.failures books.new) }
 {
     let mut calls = IoCalls::none();
     let script = read_whole(alloc, reader, SCRIPT_LIMIT, &mut calls)?;

@@ -54,7 +54,7 @@ pub fn run_serve<B: Walks, R: Rng, W: Write, F: FaultSink, E: Surroundings>(
         Err(why) => return finish(Err(why), faults, &mut calls),
     };
     match write_listening(writer, port, &mut calls) {
-        Ok(()) => serve_connections(alloc, &listener, count, books, source, faults),
+        Ok(()) => serve_connections(alloc, &listener, &*around, count, books, source, faults),
         Err(WriteFailed) => finish(Err(Fault::Write), faults, &mut calls),
     }
 }

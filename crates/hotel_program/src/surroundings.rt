@@ -1,12 +1,13 @@
-//! What is around the program: files, ports and databases.
+//! What is around the program: files, ports, a clock and databases.
 
 use crate::command_line::FileName;
 use crate::faults::Fault;
 use std::alloc::Global;
 use std::net::TcpListener;
+use std::time::Clock;
 
 /// What is around the program. What it holds is not known to contracts: they say what was asked of it, and in which order.
-pub trait Surroundings {
+pub trait Surroundings: Clock {
     ghost use Rattle.std.specs.Prelude.{ℕ, List, Option, Result, IfErr, option_map};
     ghost use Rattle.std.specs.Result.{result_map_both};
     ghost use Rattle.hotel_program.specs.Faults.{IsOfFiles};

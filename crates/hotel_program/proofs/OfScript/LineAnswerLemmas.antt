@@ -1,53 +1,132 @@
 -- The answer to what a line asks for, as it is written.
-use Rattle.std.proofs.Common.{◌≡◌, ℕ, List, [], refl, sym, subst, Option, Some, None}
+use Rattle.std.proofs.Common.{◌≡◌, ◌∙◌, ℕ, Bool, true, false, not, List, [], ◌∷◌, arith, refl, sym, subst, Option, Some, None, Result, Ok, Err, OnOk, OnErr}
+use Rattle.std.specs.Io.KnownBytes.{Appends}
+use Rattle.std.proofs.lemmas.Bool.{not-true}
 use Rattle.rand_core.specs.Stream.{Stream}
+use Rattle.keycard_rules.specs.Rise.{NoFewer}
+use Rattle.keycard_rules.specs.declared.issued.Issued.{Ghosts as IssuedOf}
+use Rattle.hotel_core.proofs.Names.{false≢true}
 use Rattle.hotel_core.proofs.Invariants.Assurance.{assured}
+use Rattle.hotel_core.proofs.OfCode.FailuresCounted.{none_counted}
+use Rattle.hotel_core.proofs.OfCode.Happens.{so_by, tells_none, tells_once}
+use Rattle.hotel_core.specs.Books.Failures.{AreCounted, failure_in}
+use Rattle.hotel_core.specs.Books.Happens.{HappensBy, Tells}
 use Rattle.hotel_core.specs.declared.command.Command.{Command}
 use Rattle.hotel_core.specs.declared.reply.Reply.{Reply}
 use Rattle.hotel_core.specs.declared.reply.Refusal.{Refusal}
 use Rattle.hotel_core.specs.declared.reply.Refusal.TheVariants as refusal
-use Rattle.hotel_program.specs.Script.Copies.{counted_in}
-use Rattle.hotel_core.specs.Model.Leads.{Leads}
+use Rattle.hotel_core.specs.Model.History.{History}
+use Rattle.hotel_core.specs.Model.Leads.{LeadsOn}
 use Rattle.hotel_core.specs.Model.Rows.{Rows}
-use Rattle.hotel_core.specs.Model.Run.{StandsFor, Steps}
-use Rattle.hotel_asks.specs.Asks.{copies, ask_copies}
+use Rattle.hotel_core.specs.Model.Run.{Steps, is_failed}
 use Rattle.hotel_core.specs.Texts.{reply_text}
+use Rattle.hotel_lists.specs.{Bytes.AppendsFront, declared.calls.WriteFailed.WriteFailed, Listings.Listing}
+use Rattle.hotel_asks.specs.Asks.{copies, ask_copies}
+use Rattle.hotel_asks.specs.Listings.{listing_on, listing_over}
 use Rattle.hotel_asks.specs.declared.asks.Ask.{Ask}
 use Rattle.hotel_asks.specs.declared.asks.Ask.TheVariants as ask
 use Rattle.hotel_asks.specs.declared.lists.ListAsk.{ListAsk}
-use Rattle.hotel_program.specs.Script.Asks.{AsksCopy}
-use Rattle.hotel_program.specs.Script.LineAnswers.{AskGoes, AskAnswered, unread_text}
-use Rattle.hotel_program.specs.Script.ListAnswers.{refusal_text, AnswersList, ListAnswered}
-use Rattle.hotel_lists.specs.Listings.{Listing}
-use Rattle.hotel_asks.specs.Listings.{listing_on}
 use Rattle.hotel_asks.proofs.ListingLemmas.{listing_stands}
-use Rattle.hotel_program.proofs.OfScript.ScriptLemmas.{ask_without_memory}
+use Rattle.hotel_program.specs.Script.Copies.{counted_in}
+use Rattle.hotel_program.specs.Script.Asks.{AsksCopy}
+use Rattle.hotel_program.specs.Script.LineAnswers.{AskAnswered, AskEnds, AskGoes, Sure, answered_to, unread_text}
+use Rattle.hotel_program.specs.Script.ListAnswers.{refusal_text, tells_failure, AnswersList, ListAnswered}
+use Rattle.hotel_program.proofs.OfScript.CountedLemmas.{known_counted}
+use Rattle.hotel_program.proofs.OfScript.ListAnswerLemmas.{Whole, reply_sure, told_failed}
+use Rattle.hotel_program.proofs.OfScript.ScriptLemmas.{ask_weaker, ask_without_memory}
+
+-- where more is told and known, it ended so too
+ends_weaker : (wanted : Option Ask) (s s' : Stream) (old new : Option (List ℕ)) (written : Result (Unit {0}) WriteFailed) (kept kept' : Type 0) (told told' : List Refusal → List Bool → Type 0) (h h' : History)
+    → (kept' → kept) → ((failed : List Refusal) (answered : List Bool) → told failed answered → told' failed answered)
+    → AskEnds wanted s s' old new written kept told h h' → AskEnds wanted s s' old new written kept' told' h h'
+ends_weaker wanted s s' old new (Ok done) kept kept' told told' h h' back more a =
+    (a.0, a.1, ask_weaker (Sure kept) (Sure kept') wanted h h' s s' a.0 a.1 (λ text sure tells. back (sure tells)) a.2, a.3, more a.1 (answered_to wanted a.0) a.4)
+ends_weaker wanted s s' old new (Err failed) kept kept' told told' h h' back more a =
+    (a.0, a.1, ask_weaker (λ text. kept) (λ text. kept') wanted h h' s s' a.0 a.1 (λ text now. back now) a.2, a.3, more a.1 (false ∷ []) a.4)
 
 -- a command is carried out
-pub command_answered : (rows after : Rows) (s t : Stream) (command : Command) (reply : Reply) (wrote : List ℕ → Type 0) (counted : List Refusal → Type 0)
-    → Leads rows (λ h h'. Steps h s command reply h' t) after → counted (counted_in reply (copies command)) → wrote (reply_text reply)
-    → Leads rows (AskAnswered (Some (ask.Command command)) s t wrote counted) after
-command_answered rows after s t command reply wrote counted step failed written = λ h stands.
-    let p = step h stands in
-    (p.0, p.1, (reply_text reply, counted_in reply (copies command), (reply, p.2, refl, refl), written, failed), p.3)
+pub command_ends : {S : Type 0} {I : IssuedOf S} {rows : S → Rows} {a b : S} (s t : Stream) (command : Command) (reply : Reply) (old new : Option (List ℕ)) (written : Result (Unit {0}) WriteFailed)
+    → ((x : S) → I.is_clean x → I.is_honest x) → (I.is_clean b → I.is_clean a) → (I.is_honest b → I.is_honest a) → NoFewer (I.failures a) (I.failures b)
+    → (I.is_honest b → LeadsOn (I.is_clean a) (rows a) (λ h h'. Steps h s command reply h' t) (I.is_clean b) (rows b))
+    → (I.is_clean b → AreCounted (I.failures a) (I.failures b) (failure_in reply)) → (I.is_honest b → is_failed reply ≡ false → I.is_clean b)
+    → OnOk written (Appends old new (reply_text reply)) → OnErr written (AppendsFront old new (reply_text reply)) → HappensBy I rows a (AskEnds (Some (ask.Command command)) s t old new written) b
+command_ends {I = I} {a = a} {b = b} s t command reply old new (Ok done) honest_is was_clean was_honest counted step failed vouched whole front =
+    so_by (ends_weaker (Some (ask.Command command)) s t old new (Ok done)) honest_is was_clean was_honest counted
+    (λ honest h reached stands.
+        let p = step honest h reached stands in
+        let told = tells_once (not (tells_failure (reply_text reply))) (λ clean. known_counted (I.failures a) (I.failures b) reply (copies command) counted (failed clean))
+            (λ k. vouched honest (reply_sure reply (not-true (tells_failure (reply_text reply)) k))) was_clean in
+        (p.0, p.1, p.2, (reply_text reply, counted_in reply (copies command), (reply, p.3, refl, refl), whole, told), p.4))
+command_ends {I = I} {a = a} {b = b} s t command reply old new (Err cut) honest_is was_clean was_honest counted step failed vouched whole front =
+    so_by (ends_weaker (Some (ask.Command command)) s t old new (Err cut)) honest_is was_clean was_honest counted
+    (λ honest h reached stands.
+        let p = step honest h reached stands in
+        let told = tells_once false (λ clean. known_counted (I.failures a) (I.failures b) reply (copies command) counted (failed clean)) (λ k. absurd (false≢true k)) was_clean in
+        (p.0, p.1, p.2, (reply_text reply, counted_in reply (copies command), (reply, p.3, refl, refl), front, told), p.4))
+
+either : {C : Type 0} (b : Bool) → (b ≡ true → C) → (b ≡ false → C) → C
+either true f g = f refl
+either false f g = g refl
+
+-- the answer to a list is cut short, and nothing happens
+pub list_cut : {S : Type 0} {I : IssuedOf S} {rows : S → Rows} {a b : S} (its_list : ListAsk) (s : Stream) (old new : Option (List ℕ))
+    → ((x : S) → I.is_clean x → I.is_honest x) → (I.is_clean b → I.is_clean a) → (I.is_honest b → I.is_honest a) → NoFewer (I.failures a) (I.failures b) → (I.is_clean b → rows b ≡ rows a)
+    → (I.is_honest b → ListAnswered (listing_on (rows a) its_list) (AppendsFront old new) (AreCounted (I.failures a) (I.failures b)))
+    → HappensBy I rows a (λ kept. AskAnswered (λ text. kept) (AppendsFront old new) (λ text. false ∷ []) (Some (ask.List its_list)) s s) b
+list_cut {I = I} {rows = rows} {a = a} {b = b} its_list s old new honest_is was_clean was_honest counted same front =
+    so_by (λ kept kept' told told' h h' back more w. (w.0, w.1, ask_weaker (λ text. kept) (λ text. kept') (Some (ask.List its_list)) h h' s s w.0 w.1 (λ text now. back now) w.2, w.3, more w.1 (false ∷ []) w.4))
+    honest_is was_clean was_honest counted
+    (λ honest h reached stands.
+        let it = front honest in
+        let answers : I.is_clean b → AnswersList (listing_over h its_list) it.0 it.1 = λ clean. subst (λ (l : Option Listing). AnswersList l it.0 it.1) (listing_stands h (rows a) its_list (reached, stands (was_clean clean))) it.2 in
+        let told = tells_once false (λ clean. it.4) (λ k. absurd (false≢true k)) was_clean in
+        (h, reached, (λ clean. same clean ∙ stands (was_clean clean)), (it.0, it.1, (answers, refl, refl), it.3, told), assured h reached))
 
 -- a list is answered, and nothing happens
-pub list_answered : (wanted : Option Ask) (rows after : Rows) (s : Stream) (its_list : ListAsk) (wrote : List ℕ → Type 0) (counted : List Refusal → Type 0)
-    → Some (ask.List its_list) ≡ wanted → after ≡ rows → ListAnswered (listing_on rows its_list) wrote counted → Leads rows (AskAnswered wanted s s wrote counted) after
-list_answered wanted rows after s its_list wrote counted e same p = λ h stands.
-    let said = subst (λ (l : Option Listing). AnswersList l p.0 p.1) (listing_stands h rows its_list stands) p.2 in
-    let goes : AskGoes (Some (ask.List its_list)) h s p.0 p.1 h s = (said, refl, refl) in
-    (h, subst (λ (r : Rows). StandsFor h r) (sym same) stands, (p.0, p.1, subst (λ (w : Option Ask). AskGoes w h s p.0 p.1 h s) e goes, p.3, p.4), assured h stands.0)
+pub list_ends : {S : Type 0} {I : IssuedOf S} {rows : S → Rows} {a b : S} (its_list : ListAsk) (s : Stream) (old new : Option (List ℕ)) (written : Result (Unit {0}) WriteFailed)
+    → ((x : S) → I.is_clean x → I.is_honest x) → (I.is_clean b → I.is_clean a) → (I.is_honest b → I.is_honest a) → NoFewer (I.failures a) (I.failures b) → (I.is_clean b → rows b ≡ rows a)
+    → (I.is_honest b → OnOk written (ListAnswered (listing_on (rows a) its_list) (Whole old new (I.is_clean b)) (AreCounted (I.failures a) (I.failures b))))
+    → (I.is_honest b → OnErr written (ListAnswered (listing_on (rows a) its_list) (AppendsFront old new) (AreCounted (I.failures a) (I.failures b))))
+    → HappensBy I rows a (AskEnds (Some (ask.List its_list)) s s old new written) b
+list_ends {I = I} {rows = rows} {a = a} {b = b} its_list s old new (Ok done) honest_is was_clean was_honest counted same whole front =
+    so_by (ends_weaker (Some (ask.List its_list)) s s old new (Ok done)) honest_is was_clean was_honest counted
+    (λ honest h reached stands.
+        let it = whole honest in
+        let answers : I.is_clean b → AnswersList (listing_over h its_list) it.0 it.1 = λ clean. subst (λ (l : Option Listing). AnswersList l it.0 it.1) (listing_stands h (rows a) its_list (reached, stands (was_clean clean))) it.2 in
+        let told = tells_once (not (tells_failure it.0)) (λ clean. it.4) (λ k. it.3.1 (not-true (tells_failure it.0) k)) was_clean in
+        (h, reached, (λ clean. same clean ∙ stands (was_clean clean)), (it.0, it.1, ((λ sure. answers (either (tells_failure it.0) sure it.3.1)), refl, refl), it.3.0, told), assured h reached))
+list_ends its_list s old new (Err cut) honest_is was_clean was_honest counted same whole front = list_cut its_list s old new honest_is was_clean was_honest counted same front
 
--- an unread line is answered, and nothing happens
-pub unread_answered : (wanted : Option Ask) (rows : Rows) (s : Stream) (wrote : List ℕ → Type 0) (counted : List Refusal → Type 0)
-    → None ≡ wanted → counted [] → wrote unread_text → Leads rows (AskAnswered wanted s s wrote counted) rows
-unread_answered wanted rows s wrote counted e none p = λ h stands.
-    let goes : AskGoes None h s unread_text [] h s = (refl, refl, refl, refl) in
-    (h, stands, (unread_text, [], subst (λ (w : Option Ask). AskGoes w h s unread_text [] h s) e goes, p, none), assured h stands.0)
+-- nothing was asked of the books, and nothing happens
+quiet_ends : {S : Type 0} {I : IssuedOf S} {rows : S → Rows} (a : S) (wanted : Option Ask) (s : Stream) (text : List ℕ) (old new : Option (List ℕ)) (written : Result (Unit {0}) WriteFailed)
+    → ((x : S) → I.is_clean x → I.is_honest x) → ((sure : List ℕ → Type 0) (h : History) → AskGoes sure wanted h s text [] h s) → Tells I a a [] (answered_to wanted text)
+    → OnOk written (Appends old new text) → OnErr written (AppendsFront old new text) → HappensBy I rows a (AskEnds wanted s s old new written) a
+quiet_ends {I = I} a wanted s text old new (Ok done) honest_is goes tells whole front =
+    so_by (ends_weaker wanted s s old new (Ok done)) honest_is (λ clean. clean) (λ honest. honest) (λ cause. omega arith)
+    (λ honest h reached stands. (h, reached, stands, (text, [], goes (Sure (I.is_clean a)) h, whole, tells), assured h reached))
+quiet_ends {I = I} a wanted s text old new (Err cut) honest_is goes tells whole front =
+    so_by (ends_weaker wanted s s old new (Err cut)) honest_is (λ clean. clean) (λ honest. honest) (λ cause. omega arith)
+    (λ honest h reached stands.
+        let told = tells_once false (λ clean. none_counted (I.failures a) (I.failures a) (λ cause. omega arith)) (λ k. absurd (false≢true k)) (λ clean. clean) in
+        (h, reached, stands, (text, [], goes (λ t. I.is_clean a) h, front, told), assured h reached))
 
--- a line for which there was no memory is answered, and nothing happens
-pub memory_answered : (wanted : Option Ask) (rows : Rows) (s : Stream) (wrote : List ℕ → Type 0) (counted : List Refusal → Type 0)
-    → AsksCopy ask_copies wanted → counted [] → wrote (refusal_text refusal.Memory) → Leads rows (AskAnswered wanted s s wrote counted) rows
-memory_answered wanted rows s wrote counted copied none p = λ h stands.
-    (h, stands, (refusal_text refusal.Memory, [], ask_without_memory wanted h s copied, p, none), assured h stands.0)
+-- an unread line is answered
+pub unread_ends : {S : Type 0} {I : IssuedOf S} {rows : S → Rows} (a : S) (wanted : Option Ask) (s : Stream) (old new : Option (List ℕ)) (written : Result (Unit {0}) WriteFailed)
+    → ((x : S) → I.is_clean x → I.is_honest x) → None ≡ wanted → OnOk written (Appends old new unread_text) → OnErr written (AppendsFront old new unread_text)
+    → HappensBy I rows a (AskEnds wanted s s old new written) a
+unread_ends {I = I} {rows = rows} a wanted s old new written honest_is e whole front =
+    subst (λ (w : Option Ask). HappensBy I rows a (AskEnds w s s old new written) a) e
+    (quiet_ends a None s unread_text old new written honest_is (λ sure h. (refl, refl, refl, refl)) (tells_none I a) whole front)
+
+without_memory_tells : {S : Type 0} {I : IssuedOf S} (a : S) (wanted : Option Ask) → AsksCopy ask_copies wanted → Tells I a a [] (answered_to wanted (refusal_text refusal.Memory))
+without_memory_tells a None copied = absurd copied
+without_memory_tells {I = I} a (Some given) copied =
+    tells_once (not (tells_failure (refusal_text refusal.Memory))) (λ clean. none_counted (I.failures a) (I.failures a) (λ cause. omega arith))
+    (λ k. absurd (false≢true (sym (not-true (tells_failure (refusal_text refusal.Memory)) k) ∙ told_failed [] refusal.Memory refl))) (λ clean. clean)
+
+-- a line for which there was no memory is answered
+pub memory_ends : {S : Type 0} {I : IssuedOf S} {rows : S → Rows} (a : S) (wanted : Option Ask) (s : Stream) (old new : Option (List ℕ)) (written : Result (Unit {0}) WriteFailed)
+    → ((x : S) → I.is_clean x → I.is_honest x) → AsksCopy ask_copies wanted → OnOk written (Appends old new (refusal_text refusal.Memory)) → OnErr written (AppendsFront old new (refusal_text refusal.Memory))
+    → HappensBy I rows a (AskEnds wanted s s old new written) a
+memory_ends a wanted s old new written honest_is copied whole front =
+    quiet_ends a wanted s (refusal_text refusal.Memory) old new written honest_is (λ sure h. ask_without_memory sure wanted h s copied) (without_memory_tells a wanted copied) whole front

@@ -1,6 +1,7 @@
 -- The answer to a list, as it is written.
-use Rattle.std.proofs.Common.{◌≡◌, ℕ, List, [], ◌∷◌, ◌++◌, true, refl, sym, ap, subst, Option, Some, None, Result, Ok, Err, inl, inr}
-use Rattle.std.specs.Prelude.{OnOk, OnErr}
+use Rattle.std.proofs.Common.{◌≡◌, ◌∙◌, ℕ, ◌-◌, Bool, true, false, ◌||◌, List, [], ◌∷◌, ◌++◌, length, drop, arith, length-append, refl, sym, ap, subst, Option, Some, None, Result, Ok, Err, inl, inr}
+use Rattle.std.proofs.Math.Seq.{drop-append_seam}
+use Rattle.std.specs.Prelude.{OnOk, OnErr, bytes_eq}
 use Rattle.std.specs.Io.KnownBytes.{Appends}
 use Rattle.std.proofs.KnownBytes.{Appends-trans}
 use Rattle.keycard_rules.specs.declared.issued.LookFault.TheVariants as look
@@ -10,15 +11,18 @@ use Rattle.hotel_core.specs.declared.reply.Reply.TheVariants.{Refused}
 use Rattle.hotel_core.specs.declared.reply.Refusal.{Refusal}
 use Rattle.hotel_core.specs.declared.reply.Refusal.TheVariants as refusal
 use Rattle.hotel_core.specs.Model.Run.{is_failed}
+use Rattle.hotel_core.proofs.Names.{false≢true}
+use Rattle.hotel_core.specs.declared.reply.Reply.{Reply}
+use Rattle.hotel_core.specs.Texts.{reply_text}
 use Rattle.hotel_core.specs.Books.Failures.{AreCounted}
 use Rattle.hotel_core.proofs.OfCode.FailuresCounted.{none_counted, one_counted}
 use Rattle.keycard_rules.specs.declared.issued.Issued.{Ghosts as IssuedOf}
 use Rattle.hotel_lists.specs.Bytes.{AppendsFront}
-use Rattle.hotel_lists.specs.Lines.{LooksAt}
+use Rattle.hotel_lists.specs.Lines.{LooksAt, Vouches}
 use Rattle.hotel_lists.specs.declared.fault.ListFault.{ListFault}
 use Rattle.hotel_lists.specs.declared.fault.ListFault.TheVariants as fault
 use Rattle.hotel_lists.specs.Listings.{Listing, ListEnds}
-use Rattle.hotel_program.specs.Script.ListAnswers.{refusal_text, told_refusal, failure_of, AnswersList, ListAnswered}
+use Rattle.hotel_program.specs.Script.ListAnswers.{refusal_text, told_refusal, failure_of, ends_by, tells_failure, AnswersList, ListAnswered}
 use Rattle.hotel_program.proofs.OfScript.ScriptLemmas.{appends_front}
 
 -- the failures that the books counted where a list ended by a fault
@@ -62,14 +66,55 @@ counted_by I {old = old} {new = new} fault.Write looks = none_counted (I.failure
 counted_by I {old = old} {new = new} fault.Store looks =
     one_counted (I.failures old) (I.failures new) look.Store looks.counted (looks.store refl)
 
+-- a text that a failure's line ends tells it
+or_first : (a b : Bool) → a ≡ true → (a || b) ≡ true
+or_first true b k = refl
+or_first false b k = absurd (false≢true k)
+
+or_then : (a b : Bool) → b ≡ true → (a || b) ≡ true
+or_then true b k = refl
+or_then false b k = k
+
+its_end : (front end : List ℕ) → drop (length (front ++ end) - length end) (front ++ end) ≡ end
+its_end front end =
+    let n : length (front ++ end) - length end ≡ length front = omega (arith, length-append front end) in
+    ap (λ (k : ℕ). drop k (front ++ end)) n ∙ drop-append_seam front end
+
+by_its_end : (front end : List ℕ) → ends_by end end ≡ true → ends_by end (front ++ end) ≡ true
+by_its_end front end k =
+    let same : drop (length (front ++ end) - length end) (front ++ end) ≡ drop (length end - length end) end = its_end front end ∙ sym (its_end [] end) in
+    ap (λ (l : List ℕ). bytes_eq l end) same ∙ k
+
+pub told_failed : (front : List ℕ) (why : Refusal) → is_failed (Refused why) ≡ true → tells_failure (front ++ refusal_text why) ≡ true
+told_failed front refusal.Memory k = or_first (ends_by (refusal_text refusal.Memory) (front ++ refusal_text refusal.Memory)) _ (by_its_end front (refusal_text refusal.Memory) refl)
+told_failed front refusal.Store k = or_then _ (ends_by (refusal_text refusal.Store) (front ++ refusal_text refusal.Store)) (by_its_end front (refusal_text refusal.Store) refl)
+told_failed front _ k = absurd (false≢true k)
+
+-- a reply whose text tells no failure is none
+pub reply_sure : (reply : Reply) → tells_failure (reply_text reply) ≡ false → is_failed reply ≡ false
+reply_sure (Refused refusal.Memory) k = absurd (false≢true (sym k ∙ told_failed [] refusal.Memory refl))
+reply_sure (Refused refusal.Store) k = absurd (false≢true (sym k ∙ told_failed [] refusal.Store refl))
+reply_sure _ k = refl
+
+-- where the answer tells no failure the books are kept
+refusal_vouches : (is_clean : Type 0) (front : List ℕ) (why_not : ListFault) (why : Refusal) → told_refusal why_not ≡ Some why → Vouches is_clean (Err why_not) → tells_failure (front ++ refusal_text why) ≡ false → is_clean
+refusal_vouches is_clean front fault.NoRoom why e v k = v
+refusal_vouches is_clean front fault.Memory why e v k = let same : refusal.Memory ≡ why = cc e in absurd (false≢true (sym k ∙ subst (λ (w : Refusal). tells_failure (front ++ refusal_text w) ≡ true) same (told_failed front refusal.Memory refl)))
+refusal_vouches is_clean front fault.Store why e v k = let same : refusal.Store ≡ why = cc e in absurd (false≢true (sym k ∙ subst (λ (w : Refusal). tells_failure (front ++ refusal_text w) ≡ true) same (told_failed front refusal.Store refl)))
+refusal_vouches is_clean front fault.Write why e v k = cc e
+
+-- An answer to a list that was written whole: these bytes, and what it vouches for.
+abbrev pub Whole : Option (List ℕ) → Option (List ℕ) → Type 0 → List ℕ → Type 0
+Whole old new is_clean text = Appends old new text × (tells_failure text ≡ false → is_clean)
+
 -- the whole answer of a list that was refused
 pub refused_whole : {B : Type 0} (I : IssuedOf B) {b c : B}
     (listing : Option Listing) (old mid new : Option (List ℕ)) (why_not : ListFault) (why : Refusal) → told_refusal why_not ≡ Some why
-    → ListEnds [] listing old mid (Err why_not) → LooksAt I b c (Err why_not) → Appends mid new (refusal_text why)
-    → ListAnswered listing (Appends old new) (AreCounted (I.failures b) (I.failures c))
-refused_whole I listing old mid new why_not why e p looks written =
+    → ListEnds [] listing old mid (Err why_not) → LooksAt I b c (Err why_not) → I.is_honest c → Appends mid new (refusal_text why)
+    → ListAnswered listing (Whole old new (I.is_clean c)) (AreCounted (I.failures b) (I.failures c))
+refused_whole I {c = c} listing old mid new why_not why e p looks honest written =
     let r = refused_front listing old mid why_not why e p in
-    (r.0 ++ refusal_text why, failed_by why_not, r.1, Appends-trans old mid new r.0 (refusal_text why) r.2 written, counted_by I why_not looks)
+    (r.0 ++ refusal_text why, failed_by why_not, r.1, (Appends-trans old mid new r.0 (refusal_text why) r.2 written, refusal_vouches (I.is_clean c) r.0 why_not why e (looks.vouched honest)), counted_by I why_not looks)
 
 -- a front of the answer of a list that was refused
 pub refused_cut : {B : Type 0} (I : IssuedOf B) {b c : B}
@@ -81,10 +126,10 @@ refused_cut I listing old mid new why_not why e p looks written =
     (r.0 ++ refusal_text why, failed_by why_not, r.1, appends_front old mid new r.0 (refusal_text why) written r.2, counted_by I why_not looks)
 
 -- a list that was written whole
-pub whole_answered : {a b : LookFault → ℕ} (listing : Option Listing) (old new : Option (List ℕ)) → ListEnds [] listing old new (Ok tt) → NoFewer a b
-    → ListAnswered listing (Appends old new) (AreCounted a b)
-whole_answered {a} {b} None old new p grown = cc p.0
-whole_answered {a} {b} (Some listing) old new p grown = (_, [], inl (refl, refl), p.1, none_counted a b grown)
+pub whole_answered : {a b : LookFault → ℕ} (is_clean : Type 0) (listing : Option Listing) (old new : Option (List ℕ)) → ListEnds [] listing old new (Ok tt) → is_clean → NoFewer a b
+    → ListAnswered listing (Whole old new is_clean) (AreCounted a b)
+whole_answered {a} {b} is_clean None old new p clean grown = cc p.0
+whole_answered {a} {b} is_clean (Some listing) old new p clean grown = (_, [], inl (refl, refl), (p.1, λ k. clean), none_counted a b grown)
 
 write_failed : {a b : LookFault → ℕ} (listing : Option Listing) (old new : Option (List ℕ)) → ListEnds [] listing old new (Err fault.Write) → NoFewer a b
     → ListAnswered listing (AppendsFront old new) (AreCounted a b)

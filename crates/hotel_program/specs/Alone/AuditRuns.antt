@@ -9,8 +9,7 @@ use Rattle.hotel_core.specs.Books.Failures.{AreCounted}
 use Rattle.hotel_lists.specs.Bytes.{AppendsFront}
 use Rattle.hotel_audit.specs.Answers.{answers_text}
 use Rattle.hotel_audit.specs.AuditFile.{audit_lines}
-use Rattle.hotel_audit.specs.Import.{AreAnswered, EndsAfter, LinesLeadTo, failures_of}
-use Rattle.hotel_audit.specs.declared.line.Line.{Line}
+use Rattle.hotel_audit.specs.Import.{Imports, failures_of}
 use Rattle.hotel_audit.specs.declared.answer.LineAnswer.{LineAnswer}
 use Rattle.hotel_audit.specs.declared.answer.LineAnswer.TheVariants.{Taken, Seen, Unread, Refused}
 use Rattle.hotel_audit.specs.declared.audit_file.AuditFault.{AuditFault}
@@ -53,15 +52,11 @@ WritesAnswers contents old new (Ok answers) false = Appends (contents old) (cont
 WritesAnswers contents old new (Ok answers) true = AppendsFront (contents old) (contents new) (answers_text 1 answers)
 WritesAnswers contents old new (Err why) write_failed = new ≡ old
 
--- The books went by lines of the file, which have these answers: by all of them, or by those before a fault.
-abbrev pub GoesBy : {B : Type 0} → IssuedOf B → (B → Rows) → List ℕ → B → B → Result (List LineAnswer) ImportFault → Type 0
-GoesBy I rows bytes old new outcome = (lines : List Line) × (answers : List LineAnswer) × AreAnswered lines answers × EndsAfter (audit_lines bytes) outcome lines answers
-    × (I.is_clean new → LinesLeadTo (rows old) lines answers (rows new))
-
--- An import of the file ended so: the books went by it, or are as they were where it is none; a failure of the store, or of memory after the first line, was counted.
+-- An import of the file ended so: the books went by its lines, all of them or those before a fault, or are as they were where it is none; a failure of the store, or of memory after the first line, was counted.
 pub record ImportEnds {B : Type 0} (I : IssuedOf B) (rows : B → Rows) (bytes : List ℕ) (old new : B) (outcome : Result (List LineAnswer) ImportFault) : Type 0 where
-  pub went : GoesBy I rows bytes old new outcome
+  pub went : Imports I rows (audit_lines bytes) old new outcome
   pub no_file : IfErr outcome (λ fault. (why : AuditFault) → fault ≡ File why → new ≡ old)
   pub was_clean : I.is_clean new → I.is_clean old
+  pub was_honest : I.is_honest new → I.is_honest old
   pub counted : NoFewer (I.failures old) (I.failures new)
   pub failed : IfErr outcome (λ why. I.is_clean new → AreCounted (I.failures old) (I.failures new) (failures_of why))

@@ -2,12 +2,9 @@
 use Rattle.std.specs.Prelude.{ℕ, Bool, true, false, List, Option, Result, Ok, Err}
 use Rattle.std.specs.Io.KnownBytes.{Appends}
 use Rattle.rand_core.specs.Stream.{Stream}
-use Rattle.keycard_rules.specs.Rise.{NoFewer}
 use Rattle.keycard_rules.specs.declared.issued.Issued.{Ghosts as IssuedOf}
-use Rattle.hotel_core.specs.Books.Failures.{AreCounted, failure_in}
-use Rattle.hotel_core.specs.Model.Leads.{Leads}
+use Rattle.hotel_core.specs.Books.Happens.{Happens, StepTold}
 use Rattle.hotel_core.specs.Model.Rows.{Rows}
-use Rattle.hotel_core.specs.Model.Run.{Steps}
 use Rattle.hotel_core.specs.Texts.{reply_text}
 use Rattle.hotel_core.specs.declared.command.Command.{Command}
 use Rattle.hotel_core.specs.declared.reply.Reply.{Reply}
@@ -26,9 +23,6 @@ abbrev pub WritesReply : Option (List ℕ) → Option (List ℕ) → Reply → B
 WritesReply old new reply false = Appends old new (reply_text reply)
 WritesReply old new reply true = AppendsFront old new (reply_text reply)
 
--- The books took one step of the model by the command, with the reply, whose failure was counted.
-pub record CommandEnds {B : Type 0} (I : IssuedOf B) (rows : B → Rows) (command : Command) (reply : Reply) (old new : B) (source later : Stream) : Type 0 where
-  pub went : I.is_clean new → Leads (rows old) (λ h h'. Steps h source command reply h' later) (rows new)
-  pub was_clean : I.is_clean new → I.is_clean old
-  pub failed : I.is_clean new → AreCounted (I.failures old) (I.failures new) (failure_in reply)
-  pub counted : NoFewer (I.failures old) (I.failures new)
+-- The books took one step of the model by the command, with the reply, whose failure was counted, and which vouches for them where it is none.
+abbrev pub CommandEnds : {B : Type 0} → IssuedOf B → (B → Rows) → Command → Reply → B → B → Stream → Stream → Type 0
+CommandEnds I rows command reply old new source later = Happens I rows old (StepTold source command reply later) new

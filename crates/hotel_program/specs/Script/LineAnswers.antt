@@ -1,5 +1,6 @@
 -- What a script's line comes to.
-use Rattle.std.specs.Prelude.{◌≡◌, ℕ, List, [], ◌∷◌, ◌++◌, Option, Some, None, codes}
+use Rattle.std.specs.Prelude.{◌≡◌, ℕ, Bool, true, false, not, List, [], ◌∷◌, ◌++◌, Option, Some, None, codes, Result, Ok, Err}
+use Rattle.std.specs.Io.KnownBytes.{Appends}
 use Rattle.rand_core.specs.Stream.{Stream}
 use Rattle.hotel_core.specs.declared.reply.Reply.{Reply}
 use Rattle.hotel_core.specs.declared.reply.Refusal.{Refusal}
@@ -9,7 +10,8 @@ use Rattle.hotel_asks.specs.Asks.{copies}
 use Rattle.hotel_program.specs.Script.Copies.{counted_in}
 use Rattle.hotel_core.specs.Texts.{reply_text}
 use Rattle.hotel_program.specs.Script.Asks.{ask_in}
-use Rattle.hotel_program.specs.Script.ListAnswers.{AnswersList}
+use Rattle.hotel_lists.specs.{Bytes.AppendsFront, declared.calls.WriteFailed.WriteFailed}
+use Rattle.hotel_program.specs.Script.ListAnswers.{AnswersList, tells_failure}
 use Rattle.hotel_asks.specs.Listings.{listing_over}
 use Rattle.hotel_asks.specs.declared.asks.Ask.{Ask}
 use Rattle.hotel_asks.specs.declared.asks.Ask.TheVariants as ask
@@ -25,20 +27,31 @@ abbrev pub answer_text : ScriptAnswer → List ℕ
 answer_text (Replied reply) = reply_text reply
 answer_text Unread = unread_text
 
--- What is asked goes with this answer and these failures, which the books counted: a command is a step that gives the reply of that text; a list is answered, and where nothing is asked the line is unread, and then nothing happens.
-abbrev pub AskGoes : Option Ask → History → Stream → List ℕ → List Refusal → History → Stream → Type 0
-AskGoes (Some (ask.Command command)) h s text failed h' s' = (reply : Reply) × Steps h s command reply h' s' × (text ≡ reply_text reply) × (failed ≡ counted_in reply (copies command))
-AskGoes (Some (ask.List its_list)) h s text failed h' s' = AnswersList (listing_over h its_list) text failed × (h' ≡ h) × (s' ≡ s)
-AskGoes None h s text failed h' s' = (text ≡ unread_text) × (failed ≡ []) × (h' ≡ h) × (s' ≡ s)
+-- What is asked goes with this answer and these failures, which the books counted: a command is a step that gives the reply of that text; a list is answered, surely where the condition holds of its text; and where nothing is asked the line is unread. Of the last two nothing happens.
+abbrev pub AskGoes : (List ℕ → Type 0) → Option Ask → History → Stream → List ℕ → List Refusal → History → Stream → Type 0
+AskGoes sure (Some (ask.Command command)) h s text failed h' s' = (reply : Reply) × Steps h s command reply h' s' × (text ≡ reply_text reply) × (failed ≡ counted_in reply (copies command))
+AskGoes sure (Some (ask.List its_list)) h s text failed h' s' = (sure text → AnswersList (listing_over h its_list) text failed) × (h' ≡ h) × (s' ≡ s)
+AskGoes sure None h s text failed h' s' = (text ≡ unread_text) × (failed ≡ []) × (h' ≡ h) × (s' ≡ s)
 
 -- A line goes with this answer as what it asks for does.
-abbrev pub LineGoes : History → Stream → List ℕ → List ℕ → List Refusal → History → Stream → Type 0
-LineGoes h s line text failed h' s' = AskGoes (ask_in line) h s text failed h' s'
+abbrev pub LineGoes : (List ℕ → Type 0) → History → Stream → List ℕ → List ℕ → List Refusal → History → Stream → Type 0
+LineGoes sure h s line text failed h' s' = AskGoes sure (ask_in line) h s text failed h' s'
 
--- What is asked went with an answer that was written so and failures that were counted so.
-abbrev pub AskAnswered : Option Ask → Stream → Stream → (List ℕ → Type 0) → (List Refusal → Type 0) → History → History → Type 0
-AskAnswered wanted s s' written counted h h' = (text : List ℕ) × (failed : List Refusal) × AskGoes wanted h s text failed h' s' × written text × counted failed
+-- how the books answered for what is asked, where this is the answer: not at all where nothing is asked, and they failed where it says so
+abbrev pub answered_to : Option Ask → List ℕ → List Bool
+answered_to None text = []
+answered_to (Some wanted) text = not (tells_failure text) ∷ []
 
--- The same of what a line asks for.
-abbrev pub LineAnswered : List ℕ → Stream → Stream → (List ℕ → Type 0) → (List Refusal → Type 0) → History → History → Type 0
-LineAnswered line s s' written counted h h' = AskAnswered (ask_in line) s s' written counted h h'
+-- What is asked went with an answer that was written so, and this is told of its failures and how the books answered.
+abbrev pub AskAnswered : (List ℕ → Type 0) → (List ℕ → Type 0) → (List ℕ → List Bool) → Option Ask → Stream → Stream → (List Refusal → List Bool → Type 0) → History → History → Type 0
+AskAnswered sure written answered wanted s s' told h h' =
+    (text : List ℕ) × (failed : List Refusal) × AskGoes sure wanted h s text failed h' s' × written text × told failed (answered text)
+
+-- what is surely answered: also over books that failed for good what tells no failure, and the rest where they are kept
+abbrev pub Sure : Type 0 → List ℕ → Type 0
+Sure kept text = tells_failure text ≡ true → kept
+
+-- What is asked was answered: the answer was written whole; or a front of it, which vouches for nothing.
+abbrev pub AskEnds : Option Ask → Stream → Stream → Option (List ℕ) → Option (List ℕ) → Result (Unit {0}) WriteFailed → Type 0 → (List Refusal → List Bool → Type 0) → History → History → Type 0
+AskEnds wanted s s' old new (Ok done) kept = AskAnswered (Sure kept) (Appends old new) (answered_to wanted) wanted s s'
+AskEnds wanted s s' old new (Err failed) kept = AskAnswered (λ text. kept) (AppendsFront old new) (λ text. false ∷ []) wanted s s'

@@ -1,5 +1,5 @@
 -- The answer to a line that asks for a list.
-use Rattle.std.specs.Prelude.{◌≡◌, ◌⊎◌, ℕ, true, List, [], ◌++◌, Option, Some, None}
+use Rattle.std.specs.Prelude.{◌≡◌, ◌⊎◌, ℕ, ◌-◌, Bool, true, ◌||◌, List, [], ◌++◌, length, drop, bytes_eq, Option, Some, None}
 use Rattle.hotel_core.specs.declared.reply.Reply.TheVariants.{Refused}
 use Rattle.hotel_core.specs.declared.reply.Refusal.{Refusal}
 use Rattle.hotel_core.specs.declared.reply.Refusal.TheVariants as refusal
@@ -26,6 +26,14 @@ IsCutShort listing text failed =
 -- The answer to a list: it in full, or the line that its room isn't there; or it is cut short.
 abbrev pub AnswersList : Option Listing → List ℕ → List Refusal → Type 0
 AnswersList listing text failed = ((text ≡ in_full (refusal_text refusal.NoRoom) listing) × (failed ≡ [])) ⊎ IsCutShort listing text failed
+
+-- a text ends by this one
+abbrev pub ends_by : List ℕ → List ℕ → Bool
+ends_by end text = bytes_eq (drop (length text - length end) text) end
+
+-- The answer ends by the line that memory or the store failed.
+abbrev pub tells_failure : List ℕ → Bool
+tells_failure text = ends_by (refusal_text refusal.Memory) text || ends_by (refusal_text refusal.Store) text
 
 -- Such an answer was written so, and its failures were counted so.
 abbrev pub ListAnswered : Option Listing → (List ℕ → Type 0) → (List Refusal → Type 0) → Type 0

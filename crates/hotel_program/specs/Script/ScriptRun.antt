@@ -1,5 +1,5 @@
 -- A script as a run of its commands.
-use Rattle.std.specs.Prelude.{◌≡◌, ℕ, List, [], ◌∷◌, ◌++◌, map, Option, Some, None}
+use Rattle.std.specs.Prelude.{◌≡◌, ℕ, Bool, true, List, [], ◌∷◌, ◌++◌, map, Option, Some, None}
 use Rattle.rand_core.specs.Stream.{Stream}
 use Rattle.hotel_core.specs.declared.command.Command.{Command}
 use Rattle.hotel_core.specs.declared.reply.Reply.{Reply}
@@ -49,15 +49,15 @@ LinesRun h s lines texts failed h' s' =
     (replies : List Reply) × (lists : List (List ℕ × List Refusal)) × Runs h s (commands_of (map ask_in lines)) replies h' s'
     × (texts ≡ texts_of (map ask_in lines) replies lists) × (failed ≡ failed_of (map ask_in lines) replies lists)
 
--- The lines of a script are a run of their commands.
+-- The lines of a script are a run of their commands, whatever test of the texts says which lists are surely answered.
 abbrev pub ScriptsRun : Type 0
-ScriptsRun = (h h' : History) (s s' : Stream) (lines texts : List (List ℕ)) (failed : List Refusal)
-    → ScriptGoes h s lines texts failed h' s' → LinesRun h s lines texts failed h' s'
+ScriptsRun = (sure : List ℕ → Bool) (h h' : History) (s s' : Stream) (lines texts : List (List ℕ)) (failed : List Refusal)
+    → ScriptGoes (λ text. sure text ≡ true) h s lines texts failed h' s' → LinesRun h s lines texts failed h' s'
 
--- Where a line asks for a list, the lines before it are a run to some history, the list is answered over that history, and the lines after it are a run from there.
+-- Where a line asks for a list, the lines before it are a run to some history, the list is answered over that history where that is sure, and the lines after it are a run from there.
 abbrev pub ListsBetween : Type 0
-ListsBetween = (h h' : History) (s s' : Stream) (before later : List (List ℕ)) (line : List ℕ) (its_list : ListAsk) (texts : List (List ℕ)) (failed : List Refusal)
-    → ScriptGoes h s (before ++ line ∷ later) texts failed h' s' → ask_in line ≡ Some (ask.List its_list)
+ListsBetween = (sure : List ℕ → Bool) (h h' : History) (s s' : Stream) (before later : List (List ℕ)) (line : List ℕ) (its_list : ListAsk) (texts : List (List ℕ)) (failed : List Refusal)
+    → ScriptGoes (λ text. sure text ≡ true) h s (before ++ line ∷ later) texts failed h' s' → ask_in line ≡ Some (ask.List its_list)
     → (mid : History) × (source : Stream) × (first : List (List ℕ)) × (text : List ℕ) × (rest : List (List ℕ)) × (failed_first failed_text failed_rest : List Refusal)
-    × LinesRun h s before first failed_first mid source × AnswersList (listing_over mid its_list) text failed_text × LinesRun mid source later rest failed_rest h' s'
+    × LinesRun h s before first failed_first mid source × (sure text ≡ true → AnswersList (listing_over mid its_list) text failed_text) × LinesRun mid source later rest failed_rest h' s'
     × (texts ≡ first ++ text ∷ rest) × (failed ≡ failed_first ++ failed_text ++ failed_rest)

@@ -1,13 +1,12 @@
 -- A script: its answered lines, one after the other.
-use Rattle.std.specs.Prelude.{◌≡◌, ◌≤◌, ℕ, length, take, List, [], ◌∷◌, ◌++◌, Option, IfSome, Result, Ok, Err, ⊤}
+use Rattle.std.specs.Prelude.{◌≡◌, ◌≤◌, ℕ, Bool, false, length, take, List, [], ◌∷◌, ◌++◌, Option, IfSome, Result, Ok, Err, ⊤}
 use Rattle.std.specs.List.{concat}
 use Rattle.std.specs.Io.KnownBytes.{Appends}
 use Rattle.rand_core.specs.Stream.{Stream}
-use Rattle.keycard_rules.specs.declared.issued.LookFault.{LookFault}
 use Rattle.hotel_core.specs.declared.reply.Refusal.{Refusal}
-use Rattle.hotel_core.specs.Books.Failures.{AreCounted}
 use Rattle.hotel_core.specs.Model.History.{History}
-use Rattle.hotel_program.specs.Script.LineAnswers.{LineGoes}
+use Rattle.hotel_program.specs.Script.Asks.{ask_in}
+use Rattle.hotel_program.specs.Script.LineAnswers.{LineGoes, Sure, answered_to}
 use Rattle.hotel_program.specs.declared.script.ScriptEnd.{ScriptEnd}
 use Rattle.hotel_program.specs.declared.script.ScriptFault.{ScriptFault}
 use Rattle.hotel_program.specs.declared.script.ScriptFault.TheVariants.{Read, TooLarge, Memory, Write}
@@ -15,24 +14,30 @@ use Rattle.hotel_lists.specs.declared.bytes.WholeFault.{WholeFault}
 use Rattle.hotel_lists.specs.declared.bytes.WholeFault.TheVariants as whole
 
 -- The lines go in their order, each with its answer; the failures are theirs, in order.
-unfoldable pub ScriptGoes : History → Stream → List (List ℕ) → List (List ℕ) → List Refusal → History → Stream → Type 0
-ScriptGoes h s [] [] failed h' s' = (failed ≡ []) × (h' ≡ h) × (s' ≡ s)
-ScriptGoes h s (line ∷ later) (text ∷ texts) failed h' s' =
+unfoldable pub ScriptGoes : (List ℕ → Type 0) → History → Stream → List (List ℕ) → List (List ℕ) → List Refusal → History → Stream → Type 0
+ScriptGoes sure h s [] [] failed h' s' = (failed ≡ []) × (h' ≡ h) × (s' ≡ s)
+ScriptGoes sure h s (line ∷ later) (text ∷ texts) failed h' s' =
     (mid : History) × (source : Stream) × (first : List Refusal) × (more : List Refusal)
-    × LineGoes h s line text first mid source × ScriptGoes mid source later texts more h' s' × (failed ≡ first ++ more)
-ScriptGoes h s [] (text ∷ texts) failed h' s' = ⊥
-ScriptGoes h s (line ∷ later) [] failed h' s' = ⊥
+    × LineGoes sure h s line text first mid source × ScriptGoes sure mid source later texts more h' s' × (failed ≡ first ++ more)
+ScriptGoes sure h s [] (text ∷ texts) failed h' s' = ⊥
+ScriptGoes sure h s (line ∷ later) [] failed h' s' = ⊥
 
--- Lines were answered: they went, their answers were written whole, and their failures were counted.
-abbrev pub ScriptAnswered : List (List ℕ) → Stream → Stream → Option (List ℕ) → Option (List ℕ) → (LookFault → ℕ) → (LookFault → ℕ) → History → History → Type 0
-ScriptAnswered lines s s' old new counts counts' h h' =
-    (texts : List (List ℕ)) × (failed : List Refusal) × ScriptGoes h s lines texts failed h' s' × Appends old new (concat texts) × AreCounted counts counts' failed
+-- how the books answered for lines with these answers, in order
+unfoldable pub answers_to : List (List ℕ) → List (List ℕ) → List Bool
+answers_to (line ∷ lines) (text ∷ texts) = answered_to (ask_in line) text ++ answers_to lines texts
+answers_to [] texts = []
+answers_to (line ∷ lines) [] = []
 
--- Lines were cut short at the last one: they went, and their answers were written whole, but for the last one, of which a front was written.
-abbrev pub ScriptCut : List (List ℕ) → Stream → Stream → Option (List ℕ) → Option (List ℕ) → (LookFault → ℕ) → (LookFault → ℕ) → History → History → Type 0
-ScriptCut lines s s' old new counts counts' h h' =
-    (texts : List (List ℕ)) × (last : List ℕ) × (failed : List Refusal) × ScriptGoes h s lines (texts ++ last ∷ []) failed h' s'
-    × (n : ℕ) × (n ≤ length last) × Appends old new (concat texts ++ take n last) × AreCounted counts counts' failed
+-- Lines were answered: they went, their answers were written whole, and this is told of their failures and how the books answered.
+abbrev pub ScriptAnswered : List (List ℕ) → Stream → Stream → Option (List ℕ) → Option (List ℕ) → Type 0 → (List Refusal → List Bool → Type 0) → History → History → Type 0
+ScriptAnswered lines s s' old new kept told h h' =
+    (texts : List (List ℕ)) × (failed : List Refusal) × ScriptGoes (Sure kept) h s lines texts failed h' s' × Appends old new (concat texts) × told failed (answers_to lines texts)
+
+-- Lines were cut short at the last one: they went, and their answers were written whole, but for the last one, of which a front was written, and which vouches for nothing.
+abbrev pub ScriptCut : List (List ℕ) → Stream → Stream → Option (List ℕ) → Option (List ℕ) → Type 0 → (List Refusal → List Bool → Type 0) → History → History → Type 0
+ScriptCut lines s s' old new kept told h h' =
+    (texts : List (List ℕ)) × (last : List ℕ) × (failed : List Refusal) × ScriptGoes (λ text. kept) h s lines (texts ++ last ∷ []) failed h' s'
+    × (n : ℕ) × (n ≤ length last) × Appends old new (concat texts ++ take n last) × told failed (answers_to lines texts ++ false ∷ [])
 
 -- The script is what the reader had, where its bytes are known, and at most 1,048,576 bytes.
 abbrev pub IsInput : Option (List ℕ) → List ℕ → Type 0

@@ -64,7 +64,7 @@ pub fn run_list<B: Walks, W: Write, F: FaultSink>(
     faults: &mut F,
 ) -> u8
     ensures ends { (end : Result (Unit {0}) ListFault) × (result ≡ end_status (list_end end)) × Tells F.told faults.old (list_end end) faults.new
-        × (B.is_clean books.new → AnswerEndsFor (B.rows books.old) list.now (W.contents writer.old) (W.contents writer.new) end)
+        × (B.is_honest books.new → AnswerEndsFor (B.rows books.old) list.now (W.contents writer.old) (W.contents writer.new) end)
         × LooksAt B.Issued books.old books.new end }
     ensures no_usage { result ≢ 2 }
 {

@@ -3,12 +3,10 @@
 ghost use Rattle.std.specs.Prelude.{◌≡◌, ◌≤◌, true, Some, OnOk, OnErr};
 ghost use Rattle.hotel_asks.specs.declared.asks.Ask.TheVariants as ask;
 ghost use Rattle.std.specs.Io.KnownBytes.{Appends};
-ghost use Rattle.keycard_rules.specs.Rise.{NoFewer};
-ghost use Rattle.hotel_core.specs.Books.Failures.{AreCounted};
+ghost use Rattle.hotel_core.specs.Books.Happens.{HappensBy};
 ghost use Rattle.hotel_lists.specs.Bytes.{AppendsFront};
 ghost use Rattle.hotel_lists.specs.Calls.{NoneForgotten};
-ghost use Rattle.hotel_core.specs.Model.Leads.{Leads};
-ghost use Rattle.hotel_program.specs.Script.LineAnswers.{LineAnswered, AskAnswered, answer_text};
+ghost use Rattle.hotel_program.specs.Script.{Asks.ask_in, LineAnswers.AskEnds, LineAnswers.answer_text};
 
 use crate::script::asks::{LineFault, read_line};
 use crate::script::list_answers::answer_list;
@@ -53,14 +51,8 @@ fn answer_command<W: Write, B: Walks, R: Rng>(
     source: &mut R,
     calls: &mut IoCalls,
 ) -> Result<(), WriteFailed>
-    ensures ok { B.is_clean books.new → OnOk result (Leads (B.rows books.old)
-        (AskAnswered (Some (ask.Command command.now)) (R.stream source.old) (R.stream source.new)
-        (Appends (W.contents writer.old) (W.contents writer.new)) (AreCounted (B.failures books.old) (B.failures books.new))) (B.rows books.new)) }
-    ensures err { B.is_clean books.new → OnErr result (Leads (B.rows books.old)
-        (AskAnswered (Some (ask.Command command.now)) (R.stream source.old) (R.stream source.new)
-        (AppendsFront (W.contents writer.old) (W.contents writer.new)) (AreCounted (B.failures books.old) (B.failures books.new))) (B.rows books.new)) }
-    ensures was_clean { B.is_clean books.new → B.is_clean books.old }
-    ensures counted { NoFewer (B.failures books.old) (B.failures books.new) }
+    ensures went { HappensBy B.Issued B.rows books.old (AskEnds (Some (ask.Command command.now)) (R.stream source.old) (R.stream source.new)
+        (W.contents writer.old) (W.contents writer.new) result) books.new }
     ensures failed { OnErr result (calls.new.write_failed ≡ true) }
     ensures calls { NoneForgotten calls.old calls.new }
 {
@@ -79,14 +71,8 @@ pub fn answer_line<W: Write, B: Walks, R: Rng>(
     source: &mut R,
     calls: &mut IoCalls,
 ) -> Result<(), WriteFailed>
-    ensures ok { B.is_clean books.new → OnOk result (Leads (B.rows books.old)
-        (LineAnswered line.now (R.stream source.old) (R.stream source.new)
-        (Appends (W.contents writer.old) (W.contents writer.new)) (AreCounted (B.failures books.old) (B.failures books.new))) (B.rows books.new)) }
-    ensures err { B.is_clean books.new → OnErr result (Leads (B.rows books.old)
-        (LineAnswered line.now (R.stream source.old) (R.stream source.new)
-        (AppendsFront (W.contents writer.old) (W.contents writer.new)) (AreCounted (B.failures books.old) (B.failures books.new))) (B.rows books.new)) }
-    ensures was_clean { B.is_clean books.new → B.is_clean books.old }
-    ensures counted { NoFewer (B.failures books.old) (B.failures books.new) }
+    ensures went { HappensBy B.Issued B.rows books.old (AskEnds (ask_in line.now) (R.stream source.old) (R.stream source.new)
+        (W.contents writer.old) (W.contents writer.new) result) books.new }
     ensures failed { OnErr result (calls.new.write_failed ≡ true) }
     ensures calls { NoneForgotten calls.old calls.new }
 {

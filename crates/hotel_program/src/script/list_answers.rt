@@ -1,13 +1,11 @@
 //! The answer to a line that asks for a list.
 
-ghost use Rattle.std.specs.Prelude.{◌≡◌, ◌≤◌, true, OnOk, OnErr};
-ghost use Rattle.std.specs.Io.KnownBytes.{Appends};
-ghost use Rattle.keycard_rules.specs.Rise.{NoFewer};
-ghost use Rattle.hotel_core.specs.Books.Failures.{AreCounted};
-ghost use Rattle.hotel_lists.specs.Bytes.{AppendsFront};
+ghost use Rattle.std.specs.Prelude.{◌≡◌, true, Some, OnErr};
+ghost use Rattle.rand_core.specs.Stream.{Stream};
+ghost use Rattle.hotel_core.specs.Books.Happens.{HappensBy};
+ghost use Rattle.hotel_asks.specs.declared.asks.Ask.TheVariants as ask;
 ghost use Rattle.hotel_lists.specs.Calls.{NoneForgotten};
-ghost use Rattle.hotel_program.specs.Script.ListAnswers.{ListAnswered, told_refusal};
-ghost use Rattle.hotel_asks.specs.Listings.{listing_on};
+ghost use Rattle.hotel_program.specs.Script.{LineAnswers.AskEnds, ListAnswers.told_refusal};
 
 use hotel_asks::{ListAsk, write_list};
 use hotel_core::{Refusal, Reply, Walks, reply_text};
@@ -37,13 +35,7 @@ pub fn answer_list<W: Write, B: Walks>(
     books: &mut B,
     calls: &mut IoCalls,
 ) -> Result<(), WriteFailed>
-    ensures ok { B.is_clean books.new → OnOk result (ListAnswered (listing_on (B.rows books.old) list.now) (Appends (W.contents writer.old) (W.contents writer.new))
-        (AreCounted (B.failures books.old) (B.failures books.new))) }
-    ensures err { B.is_clean books.new → OnErr result (ListAnswered (listing_on (B.rows books.old) list.now) (AppendsFront (W.contents writer.old) (W.contents writer.new))
-        (AreCounted (B.failures books.old) (B.failures books.new))) }
-    ensures kept { B.is_clean books.new → B.is_kept books.old books.new }
-    ensures was_clean { B.is_clean books.new → B.is_clean books.old }
-    ensures counted { NoFewer (B.failures books.old) (B.failures books.new) }
+    ensures went { (s : Stream) → HappensBy B.Issued B.rows books.old (AskEnds (Some (ask.List list.now)) s s (W.contents writer.old) (W.contents writer.new) result) books.new }
     ensures failed { OnErr result (calls.new.write_failed ≡ true) }
     ensures calls { NoneForgotten calls.old calls.new }
 {

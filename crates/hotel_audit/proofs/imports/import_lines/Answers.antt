@@ -4,7 +4,7 @@ use Rattle.std.proofs.lemmas.List.{take_all}
 use Rattle.hotel_audit.specs.{declared.answer.LineAnswer.LineAnswer, declared.answer.LineAnswer.TheVariants.Taken, Import.AreAnswered, Import.LinesLeadOn, Import.has_taken}
 use Rattle.hotel_audit.specs.declared.audit_file.AuditFault.TheVariants as fault
 use Rattle.hotel_audit.specs.declared.imports.ImportFault.TheVariants.{Memory, Store}
-use Rattle.hotel_audit.proofs.LineAnswers.{AreAnswered-append, has_taken-push, lead-join, lead-none, vouched_next}
+use Rattle.hotel_audit.proofs.LineAnswers.{AreAnswered-append, has_taken-push, lead-join, lead-none, unasked_both, vouched_next}
 use Rattle.hotel_audit.proofs.ImportEnds.{all_answered, answered_before, none_begun}
 use Rattle.hotel_audit.proofs.imports.import_lines.Goals as goal
 use Rattle.hotel_audit.proofs.imports.import_lines.Goals.{then-taken, else-taken+in-Taken, else-taken+in_default-matches}
@@ -25,6 +25,7 @@ loop-line-init g c = record {
   was_honest = λ honest. honest;
   happened = λ honest. rw (c.in-Ok.ensures.items) (lead-none (g.B.Issued.is_clean c.args.books.now) (g.B.Books.rows c.args.books.now));
   vouched = λ honest. rw (c.in-Ok.ensures.items) (λ noted. absurd (noted refl));
+  unasked = λ none clean. clean;
 }
 
 pub returns-in_default-clause-imported : goal.returns-in_default-clause-imported
@@ -54,7 +55,7 @@ returns-clause-imported g c =
     let rows = g.B.Books.rows in
     all_answered g.B.Issued rows c.args.books.now c.loop-line.books (g.met.B.Issued.clean_honest _) c.args.lines.now c.loop-line.answers.items (subst (λ lines. AreAnswered lines c.loop-line.answers.items) all inv.each)
     inv.was_clean
-    (λ honest. subst (λ lines. LinesLeadOn (is_clean c.args.books.now) (rows c.args.books.now) lines c.loop-line.answers.items (is_clean c.loop-line.books) (rows c.loop-line.books)) all (inv.happened honest)) inv.vouched
+    (λ honest. subst (λ lines. LinesLeadOn (is_clean c.args.books.now) (rows c.args.books.now) lines c.loop-line.answers.items (is_clean c.loop-line.books) (rows c.loop-line.books)) all (inv.happened honest)) inv.vouched inv.unasked
 
 pub returns-in-Err-Memory-clause-failed : goal.returns-in-Err-Memory-clause-failed
 returns-in-Err-Memory-clause-failed g c = λ clean. counted_after _ _ _ _ c.loop-line.invariant.counted (rw c.in-Err-Memory.field-0-is at (c.in-Err-Memory.ensures.failed clean))
@@ -92,4 +93,6 @@ loop-line-preserved g c =
           );
       vouched = λ honest. rw c.in-Ok-push.ensures.items
           (vouched_next c.loop-line.answers.items c.in-Ok-answer_line.answer (is_clean c.loop-line.books) (is_clean c.answer_line.new.books) (inv.vouched (f.was_honest honest)) (λ none before. subst is_clean (sym (f.unasked none)) before) (f.vouched honest));
+      unasked = rw c.in-Ok-push.ensures.items
+          (λ none was. let each = unasked_both c.loop-line.answers.items c.in-Ok-answer_line.answer none in subst is_clean (sym (f.unasked each.1)) (inv.unasked each.0 was));
     }

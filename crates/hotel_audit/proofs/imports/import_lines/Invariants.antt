@@ -18,4 +18,5 @@ invariant-loop-line g l =
       each : AreAnswered (take l.line-index l.lines) l.answers.items;
       happened : is_honest l.books → LinesLeadOn (is_clean l.fn.books) (rows l.fn.books) (take l.line-index l.lines) l.answers.items (is_clean l.books) (rows l.books);
       vouched : is_honest l.books → replies_in l.answers.items ≢ [] → is_clean l.books;
+      unasked : replies_in l.answers.items ≡ [] → is_clean l.fn.books → is_clean l.books;
     }

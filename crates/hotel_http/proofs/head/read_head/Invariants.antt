@@ -2,11 +2,13 @@
 use Rattle.std.proofs.Common.{◌≡◌, ◌-◌, ◌≤◌, length, vec_len}
 use Rattle.std.specs.Io.KnownBytes.{Consumes}
 use Rattle.hotel_lists.specs.Calls.{NoneForgotten}
+use Rattle.hotel_http.specs.Head.{WantsHead}
 use Rattle.hotel_http.proofs.head.read_head.Given as goal
 
 abbrev pub invariant-pieces : goal.invariant-pieces
 invariant-pieces g l = record {
   taken : Consumes (g.R.Read.remaining l.initial.reader) (g.R.Read.remaining l.reader) l.bytes.items;
+  wants : WantsHead l.bytes.items;
   few : vec_len l.bytes ≤ 16384;
   room : length l.headers ≡ 64;
   calls : NoneForgotten l.initial.calls l.calls;

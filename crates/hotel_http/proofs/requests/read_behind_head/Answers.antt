@@ -1,7 +1,8 @@
-use Rattle.std.proofs.Common.{◌≤◌, ◌∙◌, arith, sym, ap, subst, length-take, drop, ◌++◌, ℕ, List, length, IsUtf8}
+use Rattle.std.proofs.Common.{◌≤◌, ◌∙◌, arith, inl, sym, ap, subst, length-take, drop, ◌++◌, ℕ, List, length, IsUtf8}
+use Rattle.std.proofs.KnownBytes.{Keeps-refl}
 use Rattle.httparse.specs.Spans.{IsRequestAt}
 use Rattle.hotel_http.specs.Plan.{path_of}
-use Rattle.hotel_http.proofs.RequestLemmas.{head_ends, head_rejected}
+use Rattle.hotel_http.proofs.RequestLemmas.{body_read, head_ends, head_rejected}
 use Rattle.hotel_http.proofs.requests.read_behind_head.Goals as goal
 
 pub behind-begun-requires : goal.behind-begun-requires
@@ -20,3 +21,12 @@ returns-in-Ok-clause-ends g c head at =
     head_ends head c.in-Ok.plan _ c.args.bytes.now c.args.spans.now.len _ _ _ _ c.read_planned.result fits (sym (c.in-Ok.ensures head here))
     (c.path_part-path.ensures ∙ ap path_of (text ∙ here.path))
     c.behind-begun.ensures c.read_planned.ensures.ends
+
+pub returns-in-Err-clause-wanted : goal.returns-in-Err-clause-wanted
+returns-in-Err-clause-wanted g c head at = inl (Keeps-refl _)
+
+pub returns-in-Ok-clause-wanted : goal.returns-in-Ok-clause-wanted
+returns-in-Ok-clause-wanted g c head at =
+    let here = subst (λ (l : List ℕ). IsRequestAt l c.args.headers.now c.args.spans.now head) (sym c.head_part-front.ensures) at in
+    let fits : c.args.spans.now.len ≤ length c.args.bytes.now = omega (arith, length-take 16384 c.args.bytes.now, c.requires.section.len_fits) in
+    body_read head c.in-Ok.plan c.args.bytes.now c.args.spans.now.len _ _ _ fits (sym (c.in-Ok.ensures head here)) c.behind-begun.ensures c.read_planned.ensures.wanted

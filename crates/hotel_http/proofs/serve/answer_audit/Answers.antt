@@ -1,33 +1,33 @@
-use Rattle.std.proofs.Common.{◌≡◌, [], subst, List, Ok, Err, Bool}
+use Rattle.std.proofs.Common.{◌≡◌, [], subst, List, map, Ok, Err, Bool, true}
 use Rattle.hotel_core.proofs.OfCode.FailuresCounted.{none_counted}
-use Rattle.hotel_audit.specs.{Import.has_taken, declared.answer.LineAnswer.LineAnswer}
-use Rattle.hotel_http.specs.{AuditAnswer.lines_answer, AuditAnswer.fault_answer, AuditAnswer.fault_status, Serve.imported, Serve.ended, Serve.taken_by, Serve.EndsAs}
+use Rattle.hotel_audit.specs.{Import.has_taken, Import.replies_in, declared.answer.LineAnswer.LineAnswer}
+use Rattle.hotel_http.specs.{AuditAnswer.lines_answer, AuditAnswer.fault_answer, AuditAnswer.fault_status, Serve.imported, Serve.ended, Serve.stopped_by, Serve.taken_by, Serve.EndsAs}
 use Rattle.hotel_http.specs.{declared.status.Status.Status, declared.status.Status.TheVariants.Success}
 use Rattle.hotel_http.proofs.ServeLemmas.{ends_as, file_came}
 use Rattle.hotel_http.proofs.serve.answer_audit.Goals as goal
 
 pub returns-in-Ok-clause-went : goal.returns-in-Ok-clause-went
-returns-in-Ok-clause-went g c = λ clean.
+returns-in-Ok-clause-went g c =
     let old = g.W.Write.contents c.args.writer.now in
     let new = g.W.Write.contents c.write_audit-written.new.writer in
-    let i = c.in-Ok.ensures.imported in
+    let it = c.in-Ok.ensures in
     let slice = c.as_slice-answers.result.now in
     let written = c.write_audit-written.result in
-    let ends = ends_as (lines_answer slice) Success (has_taken slice) written old new c.ended.result
+    let ends = ends_as (lines_answer slice) Success (has_taken slice) (map (λ reply. true) (replies_in slice)) written old new c.ended.result
     (subst (λ (b : Bool). c.ended.result ≡ ended written Success b) c.has_taken.ensures c.ended.ensures)
     c.write_audit-written.ensures.ok c.write_audit-written.ensures.err in
-    file_came _ _ c.args.file.now (Ok c.in-Ok.answers.items) i.0 i.1 old new _ _ c.ended.result i.2 i.3 (i.4 clean)
-    (subst (λ (l : List LineAnswer). EndsAs (imported (Ok l)) [] old new c.ended.result) c.as_slice-answers.ensures.value ends) (none_counted _ _ c.in-Ok.ensures.counted)
+    file_came c.args.file.now (Ok c.in-Ok.answers.items) old new c.ended.result g.met.B.Issued.clean_honest it.was_clean it.was_honest it.counted it.imported (λ why e. cc e) (λ clean. none_counted _ _ it.counted)
+    (subst (λ (l : List LineAnswer). EndsAs (imported (Ok l)) [] old new c.ended.result) c.as_slice-answers.ensures.value ends)
 
 pub returns-in-Err-clause-went : goal.returns-in-Err-clause-went
-returns-in-Err-clause-went g c = λ clean.
+returns-in-Err-clause-went g c =
     let old = g.W.Write.contents c.args.writer.now in
     let new = g.W.Write.contents c.write_fault-written.new.writer in
-    let i = c.in-Err.ensures.imported in
+    let it = c.in-Err.ensures in
     let why = c.in-Err.why in
     let written = c.write_fault-written.result in
-    let ends = ends_as (fault_answer why) (fault_status why) (taken_by why) written old new c.ended-in-Err.result
+    let ends = ends_as (fault_answer why) (fault_status why) (taken_by why) (stopped_by why) written old new c.ended-in-Err.result
     (subst (λ (b : Bool). c.ended-in-Err.result ≡ ended written (fault_status why) b) c.taken_by.ensures
     (subst (λ (s : Status). c.ended-in-Err.result ≡ ended written s c.taken_by.result) c.fault_status.ensures c.ended-in-Err.ensures))
     c.write_fault-written.ensures.ok c.write_fault-written.ensures.err in
-    file_came _ _ c.args.file.now (Err why) i.0 i.1 old new _ _ c.ended-in-Err.result i.2 i.3 (i.4 clean) ends (c.in-Err.ensures.failed clean)
+    file_came c.args.file.now (Err why) old new c.ended-in-Err.result g.met.B.Issued.clean_honest it.was_clean it.was_honest it.counted it.imported (λ fault e. it.no_file fault (cc e)) it.failed ends

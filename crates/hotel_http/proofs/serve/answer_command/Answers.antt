@@ -1,6 +1,9 @@
+use Rattle.hotel_core.proofs.OfCode.Happens.{step_happens}
 use Rattle.hotel_http.proofs.ServeLemmas.{command_came}
 use Rattle.hotel_http.proofs.serve.answer_command.Goals as goal
 
 pub returns-clause-went : goal.returns-clause-went
-returns-clause-went g c = λ clean.
-    command_came _ _ _ _ c.args.command.now c.step-reply.result _ _ _ _ _ (c.step-reply.ensures.step clean) c.answer_reply.ensures.ends (c.step-reply.ensures.failed clean)
+returns-clause-went g c =
+    let step = c.step-reply.ensures in
+    command_came _ _ c.args.command.now c.step-reply.result _ _ _
+    (step_happens _ _ c.args.command.now c.step-reply.result g.met.B.Issued.clean_honest step.was_clean step.was_honest step.counted step.happened step.failed step.vouched) c.answer_reply.ensures.ends

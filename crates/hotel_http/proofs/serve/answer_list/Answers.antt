@@ -1,20 +1,28 @@
-use Rattle.std.proofs.Common.{[], ℕ, List, subst, false}
-use Rattle.hotel_http.specs.{Answer.list_answer, Serve.outcome, Serve.EndsAs, declared.status.Status.TheVariants.Success}
-use Rattle.hotel_http.proofs.ServeLemmas.{ends_as, list_came, list_there, list_refused}
+use Rattle.std.proofs.Common.{[], ◌∷◌, ℕ, List, refl, subst, true, false, not, Ok, Err}
+use Rattle.hotel_core.specs.Model.Run.{is_failed}
+use Rattle.hotel_core.specs.declared.reply.Reply.TheVariants.{Refused}
+use Rattle.hotel_asks.specs.Listings.{listing_on}
+use Rattle.hotel_http.specs.{Answer.list_answer, Serve.outcome, Serve.replied, Serve.EndsAs, declared.status.Status.TheVariants.Success}
+use Rattle.hotel_http.proofs.ServeLemmas.{ends_as, list_came, list_comes, list_there, list_failed, list_refused}
 use Rattle.hotel_http.proofs.serve.answer_list.Goals as goal
 
 pub returns-in-Ok-clause-went : goal.returns-in-Ok-clause-went
-returns-in-Ok-clause-went g c = λ clean.
+returns-in-Ok-clause-went g c =
+    let made = c.in-Ok.ensures in
     let old = g.W.Write.contents c.args.writer.now in
     let new = g.W.Write.contents c.write_csv-written.new.writer in
-    let ends = ends_as (list_answer c.deref.result.now) Success false c.write_csv-written.result old new c.ended.result c.ended.ensures c.write_csv-written.ensures.ok
+    let out = outcome (list_answer c.in-Ok.text.items) Success false (true ∷ []) in
+    let ends = ends_as (list_answer c.deref.result.now) Success false (true ∷ []) c.write_csv-written.result old new c.ended.result c.ended.ensures c.write_csv-written.ensures.ok
     c.write_csv-written.ensures.err in
-    list_came _ _ c.args.list.now (outcome (list_answer c.in-Ok.text.items) Success false) [] old new _ _ c.ended.result
-    (g.met.B.Books.kept_rows _ _ (c.in-Ok.ensures.kept clean))
-    (list_there _ c.in-Ok.text.items (c.in-Ok.ensures.text (g.met.B.Issued.clean_honest _ clean)))
-    (subst (λ (t : List ℕ). EndsAs (outcome (list_answer t) Success false) [] old new c.ended.result) c.deref.ensures.value ends) c.in-Ok.ensures.failures
+    list_came c.args.list.now out true [] old new c.ended.result g.met.B.Issued.clean_honest made.was_clean made.was_honest made.counted (λ clean. g.met.B.Books.kept_rows _ _ (made.kept clean)) made.vouched refl
+    (λ listing same honest. list_comes (listing_on (g.B.Books.rows c.args.books.now) c.args.list.now) listing (Ok c.in-Ok.text.items) out made.text made.vouched same honest (λ l is. list_there l c.in-Ok.text.items is) (λ k. cc k))
+    (subst (λ (t : List ℕ). EndsAs (outcome (list_answer t) Success false (true ∷ [])) [] old new c.ended.result) c.deref.ensures.value ends) made.failures
 
 pub returns-in-Err-clause-went : goal.returns-in-Err-clause-went
-returns-in-Err-clause-went g c = λ clean.
-    list_came _ _ c.args.list.now _ _ _ _ _ _ _ (g.met.B.Books.kept_rows _ _ (c.in-Err.ensures.kept clean)) (list_refused _ c.in-Err.refusal (c.in-Err.ensures.text (g.met.B.Issued.clean_honest _ clean)))
-    c.answer_reply.ensures.ends c.in-Err.ensures.failures
+returns-in-Err-clause-went g c =
+    let made = c.in-Err.ensures in
+    let why = c.in-Err.refusal in
+    list_came c.args.list.now (replied (Refused why)) (not (is_failed (Refused why))) _ _ _ _ g.met.B.Issued.clean_honest made.was_clean made.was_honest made.counted (λ clean. g.met.B.Books.kept_rows _ _ (made.kept clean))
+    made.vouched refl
+    (λ listing same honest. list_comes (listing_on (g.B.Books.rows c.args.books.now) c.args.list.now) listing (Err why) (replied (Refused why)) made.text made.vouched same honest (λ l is. list_refused l why is) (λ k. list_failed listing why k))
+    c.answer_reply.ensures.ends made.failures

@@ -1,6 +1,5 @@
-use Rattle.std.proofs.Common.{arith, sym, subst, ◌≡◌, Result, Ok, Err, inl, Bool}
-use Rattle.hotel_core.proofs.OfCode.FailuresCounted.{none_counted}
-use Rattle.hotel_core.specs.Model.Leads.{Leads}
+use Rattle.std.proofs.Common.{sym, subst, ◌≡◌, Result, Ok, Err, inl, Bool}
+use Rattle.hotel_core.specs.Books.Happens.{Happens}
 use Rattle.hotel_http.specs.{Body.interim_where, Request.Wanted, Request.EndsRequest, Serve.Answered, Serve.Comes, Serve.Serves, declared.rejection.Rejection.Rejection}
 use Rattle.hotel_http.specs.{declared.requests.Request.Request, declared.serve.Cut.Cut, declared.serve.Served.Served, declared.serve.ServeFault.ServeFault}
 use Rattle.hotel_http.proofs.ServeLemmas.{request_served, rejection_served, is_cut}
@@ -12,7 +11,7 @@ returns-in_ok-answer_request-in-Ok-clause-serves g c =
     let old = g.W.Write.contents c.args.writer.now in
     let mid = g.W.Write.contents c.read_request.new.writer in
     let read = subst (λ (got : Result Request Rejection). EndsRequest known old mid (Ok got)) c.in-Ok.is c.in_ok-request.ensures.ends in
-    request_served _ _ _ _ known old mid _ _ _ c.in-Ok.request (Ok c.in_ok-answer_request-in-Ok.field-0) _ read c.in_ok-answer_request-in-Ok.ensures.went
+    request_served g.B.Issued g.B.Books.rows _ _ _ _ known old mid _ c.in-Ok.request (Ok c.in_ok-answer_request-in-Ok.field-0) read c.in_ok-answer_request-in-Ok.ensures.went
 
 pub returns-in_err-answer_request-in-Ok-clause-serves : goal.returns-in_err-answer_request-in-Ok-clause-serves
 returns-in_err-answer_request-in-Ok-clause-serves g c =
@@ -21,13 +20,12 @@ returns-in_err-answer_request-in-Ok-clause-serves g c =
     let mid = g.W.Write.contents c.read_request.new.writer in
     let new = g.W.Write.contents c.answer_request.new.writer in
     let same = (c.answer_request.new.books ≡ c.args.books.now) × (c.answer_request.new.source ≡ c.args.source.now) in
-    let went : Wanted → Bool → Result Served Cut → Type 0 = λ wanted awaited end. g.B.Issued.is_clean c.answer_request.new.books → Leads (g.B.Books.rows c.args.books.now)
-    (Answered (Comes wanted) (g.R.Rng.stream c.args.source.now) (g.R.Rng.stream c.answer_request.new.source) (interim_where awaited) old new
-    (g.B.Issued.failures c.args.books.now) (g.B.Issued.failures c.answer_request.new.books) end) (g.B.Books.rows c.answer_request.new.books) in
+    let went : Wanted → Bool → Result Served Cut → Type 0 = λ wanted awaited end. Happens g.B.Issued g.B.Books.rows c.args.books.now
+    (Answered (Comes wanted) (g.R.Rng.stream c.args.source.now) (g.R.Rng.stream c.answer_request.new.source) (interim_where awaited) old new end) c.answer_request.new.books in
     let read = subst (λ (got : Result Request Rejection). EndsRequest known old mid (Ok got)) c.in-Ok.is c.in_ok-request.ensures.ends in
     subst (λ (r : Result Served ServeFault). Serves known old new same went r) (sym
     (is_cut c.from_residual-in_err-answer_request-in-Ok.result _ c.from_residual-in_err-answer_request-in-Ok.ensures.1))
-    (inl (request_served _ _ _ _ known old mid new _ _ c.in-Ok.request (Err c.in_err-answer_request-in-Ok.field-0.0) _ read c.in_err-answer_request-in-Ok.ensures.went))
+    (inl (request_served g.B.Issued g.B.Books.rows _ _ _ _ known old mid new c.in-Ok.request (Err c.in_err-answer_request-in-Ok.field-0.0) read c.in_err-answer_request-in-Ok.ensures.went))
 
 pub returns-in_ok-answer_rejection-in-Err-clause-serves : goal.returns-in_ok-answer_rejection-in-Err-clause-serves
 returns-in_ok-answer_rejection-in-Err-clause-serves g c =
@@ -35,8 +33,7 @@ returns-in_ok-answer_rejection-in-Err-clause-serves g c =
     let old = g.W.Write.contents c.args.writer.now in
     let mid = g.W.Write.contents c.read_request.new.writer in
     let read = subst (λ (got : Result Request Rejection). EndsRequest known old mid (Ok got)) c.in-Err.is c.in_ok-request.ensures.ends in
-    rejection_served _ _ known old mid _ _ c.in-Err.why (Ok c.in_ok-answer_rejection-in-Err.field-0) _ read c.in_ok-answer_rejection-in-Err.ensures.ends
-    (none_counted _ _ (omega arith))
+    rejection_served g.B.Issued g.B.Books.rows _ _ known old mid _ c.in-Err.why (Ok c.in_ok-answer_rejection-in-Err.field-0) read c.in_ok-answer_rejection-in-Err.ensures.ends
 
 pub returns-in_err-answer_rejection-in-Err-clause-serves : goal.returns-in_err-answer_rejection-in-Err-clause-serves
 returns-in_err-answer_rejection-in-Err-clause-serves g c =
@@ -45,13 +42,28 @@ returns-in_err-answer_rejection-in-Err-clause-serves g c =
     let mid = g.W.Write.contents c.read_request.new.writer in
     let new = g.W.Write.contents c.answer_rejection.new.writer in
     let s = g.R.Rng.stream c.args.source.now in
-    let rows = g.B.Books.rows c.args.books.now in
-    let counts = g.B.Issued.failures c.args.books.now in
     let same = (c.args.books.now ≡ c.args.books.now) × (c.args.source.now ≡ c.args.source.now) in
-    let went : Wanted → Bool → Result Served Cut → Type 0 = λ wanted awaited end. g.B.Issued.is_clean c.args.books.now → Leads rows
-    (Answered (Comes wanted) s s (interim_where awaited) old new counts counts end) rows in
+    let went : Wanted → Bool → Result Served Cut → Type 0 = λ wanted awaited end. Happens g.B.Issued g.B.Books.rows c.args.books.now
+    (Answered (Comes wanted) s s (interim_where awaited) old new end) c.args.books.now in
     let read = subst (λ (got : Result Request Rejection). EndsRequest known old mid (Ok got)) c.in-Err.is c.in_ok-request.ensures.ends in
     subst (λ (r : Result Served ServeFault). Serves known old new same went r) (sym
     (is_cut c.from_residual-in_err-answer_rejection-in-Err.result _ c.from_residual-in_err-answer_rejection-in-Err.ensures.1))
-    (inl (rejection_served rows s known old mid new counts c.in-Err.why (Err c.in_err-answer_rejection-in-Err.field-0.0) _ read c.in_err-answer_rejection-in-Err.ensures.ends
-    (none_counted _ _ (omega arith))))
+    (inl (rejection_served g.B.Issued g.B.Books.rows c.args.books.now s known old mid new c.in-Err.why (Err c.in_err-answer_rejection-in-Err.field-0.0) read c.in_err-answer_rejection-in-Err.ensures.ends))
+
+pub returns-in_ok-answer_request-in-Ok-clause-was_clean : goal.returns-in_ok-answer_request-in-Ok-clause-was_clean
+returns-in_ok-answer_request-in-Ok-clause-was_clean g c = c.in_ok-answer_request-in-Ok.ensures.went.was_clean
+
+pub returns-in_ok-answer_request-in-Ok-clause-was_honest : goal.returns-in_ok-answer_request-in-Ok-clause-was_honest
+returns-in_ok-answer_request-in-Ok-clause-was_honest g c = c.in_ok-answer_request-in-Ok.ensures.went.was_honest
+
+pub returns-in_ok-answer_request-in-Ok-clause-counted : goal.returns-in_ok-answer_request-in-Ok-clause-counted
+returns-in_ok-answer_request-in-Ok-clause-counted g c = c.in_ok-answer_request-in-Ok.ensures.went.counted
+
+pub returns-in_err-answer_request-in-Ok-clause-was_clean : goal.returns-in_err-answer_request-in-Ok-clause-was_clean
+returns-in_err-answer_request-in-Ok-clause-was_clean g c = c.in_err-answer_request-in-Ok.ensures.went.was_clean
+
+pub returns-in_err-answer_request-in-Ok-clause-was_honest : goal.returns-in_err-answer_request-in-Ok-clause-was_honest
+returns-in_err-answer_request-in-Ok-clause-was_honest g c = c.in_err-answer_request-in-Ok.ensures.went.was_honest
+
+pub returns-in_err-answer_request-in-Ok-clause-counted : goal.returns-in_err-answer_request-in-Ok-clause-counted
+returns-in_err-answer_request-in-Ok-clause-counted g c = c.in_err-answer_request-in-Ok.ensures.went.counted

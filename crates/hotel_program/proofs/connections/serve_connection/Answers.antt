@@ -1,12 +1,12 @@
 use Rattle.std.proofs.Common.{refl, None, Some}
-use Rattle.hotel_program.proofs.ConnectionsLemmas.{nothing_came, one_served}
+use Rattle.hotel_program.proofs.ConnectionsLemmas.{idle_served}
 use Rattle.hotel_program.proofs.connections.serve_connection.Goals as goal
 
-pub returns-in_default-clause-ends : goal.returns-in_default-clause-ends
-returns-in_default-clause-ends g c = (None, refl, λ clean. one_served _ _ _ _ None (nothing_came _ _))
+pub returns-in_default : goal.returns-in_default
+returns-in_default g c = record { ends = (None, refl, idle_served g.B.Issued g.B.Books.rows g.R.Rng.stream None _ _ _ _ (λ h s. (refl, refl, refl, refl)) refl refl) }
 
-pub returns-then-not-has_limits-clause-ends : goal.returns-then-not-has_limits-clause-ends
-returns-then-not-has_limits-clause-ends g c = (None, refl, λ clean. one_served _ _ _ _ None (nothing_came _ _))
+pub returns-then-not-has_limits : goal.returns-then-not-has_limits
+returns-then-not-has_limits g c = record { ends = (None, refl, idle_served g.B.Issued g.B.Books.rows g.R.Rng.stream None _ _ _ _ (λ h s. (refl, refl, refl, refl)) refl refl) }
 
-pub returns-clause-ends : goal.returns-clause-ends
-returns-clause-ends g c = let e = c.serve_stream.ensures.ends in (Some e.0, e.1, e.2)
+pub returns : goal.returns
+returns g c = let e = c.serve_stream.ensures.ends in record { ends = (Some e.0, e.1, e.2) }

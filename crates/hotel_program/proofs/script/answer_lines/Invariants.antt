@@ -1,7 +1,6 @@
 -- the lines that are done were answered, and the others are left
 use Rattle.std.proofs.Common.{◌≡◌, ◌+◌, ◌≤◌, length, take, drop}
-use Rattle.keycard_rules.specs.Rise.{NoFewer}
-use Rattle.hotel_core.specs.Model.Leads.{Leads}
+use Rattle.hotel_core.specs.Books.Happens.{HappensBy}
 use Rattle.hotel_lists.specs.Calls.{NoneForgotten}
 use Rattle.hotel_program.specs.Script.Lines.{answered_lines}
 use Rattle.hotel_program.specs.Script.WholeScript.{ScriptAnswered}
@@ -12,10 +11,8 @@ invariant-loop-line g l = record {
   fits : l.done + length l.rest ≤ length l.script;
   within : l.done ≤ length (answered_lines l.script);
   left : drop l.done (answered_lines l.script) ≡ answered_lines l.rest;
-  clean : g.B.Issued.is_clean l.books → g.B.Issued.is_clean l.initial.books;
-  went : g.B.Issued.is_clean l.books → Leads (g.B.Books.rows l.initial.books) (ScriptAnswered (take l.done (answered_lines l.script)) (g.R.Rng.stream l.initial.source) (g.R.Rng.stream l.source)
-      (g.W.Write.contents l.initial.writer) (g.W.Write.contents l.writer) (g.B.Issued.failures l.initial.books) (g.B.Issued.failures l.books)) (g.B.Books.rows l.books);
-  counted : NoFewer (g.B.Issued.failures l.initial.books) (g.B.Issued.failures l.books);
+  went : HappensBy g.B.Issued g.B.Books.rows l.initial.books (ScriptAnswered (take l.done (answered_lines l.script)) (g.R.Rng.stream l.initial.source) (g.R.Rng.stream l.source)
+      (g.W.Write.contents l.initial.writer) (g.W.Write.contents l.writer)) l.books;
   calls : NoneForgotten l.initial.calls l.calls;
 }
 

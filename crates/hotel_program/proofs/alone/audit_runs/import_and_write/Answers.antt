@@ -16,9 +16,10 @@ returns-in-Err-clause-ends g c =
       ap (λ f. Err f) c.import_fault.ensures.fault,
       refl,
       record {
-        went = let i = e.imported in (i.0, i.1, i.2, i.3, i.4);
+        went = e.imported;
         no_file = e.no_file;
         was_clean = e.was_clean;
+        was_honest = e.was_honest;
         counted = e.counted;
         failed = e.failed;
       },
@@ -35,9 +36,10 @@ returns-in-Ok-write_answers-clause-ends g c =
       ap (λ s. Ok s) (c.answers_status.ensures.status ∙ ap answers_status items),
       subst (λ (l : List LineAnswer). Appends old new (answers_text 1 l)) items c.in-Ok-write_answers.ensures.ok,
       record {
-        went = let i = e.imported in (i.0, i.1, i.2, i.3, i.4);
+        went = e.imported;
         no_file = tt;
         was_clean = e.was_clean;
+        was_honest = e.was_honest;
         counted = e.counted;
         failed = tt;
       },
@@ -54,9 +56,10 @@ returns-clause-ends g c =
       refl,
       subst (λ (l : List LineAnswer). AppendsFront old new (answers_text 1 l)) items c.in-Err-write_answers.ensures.err,
       record {
-        went = let i = e.imported in (i.0, i.1, i.2, i.3, i.4);
+        went = e.imported;
         no_file = tt;
         was_clean = e.was_clean;
+        was_honest = e.was_honest;
         counted = e.counted;
         failed = tt;
       },

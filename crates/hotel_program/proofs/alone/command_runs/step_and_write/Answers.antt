@@ -1,5 +1,6 @@
 use Rattle.std.proofs.Common.{◌∙◌, true, false, refl, ap, subst, List, ℕ, Ok}
 use Rattle.std.specs.Io.KnownBytes.{Appends}
+use Rattle.hotel_core.proofs.OfCode.Happens.{step_happens}
 use Rattle.hotel_lists.specs.Bytes.{AppendsFront}
 use Rattle.hotel_program.proofs.alone.command_runs.step_and_write.Goals as goal
 
@@ -11,7 +12,7 @@ returns-in-Ok-clause-ends g c =
       false,
       ap Ok c.status_of.ensures.status,
       subst (λ (t : List ℕ). Appends (g.W.Write.contents c.args.writer.now) (g.W.Write.contents c.write_bytes.new.writer) t) text c.in-Ok.ensures.ok,
-      record { went = e.step; was_clean = e.was_clean; failed = e.failed; counted = e.counted },
+      step_happens _ _ c.args.command.now c.step-reply.result g.met.B.Issued.clean_honest e.was_clean e.was_honest e.counted e.happened e.failed e.vouched,
     )
 
 pub returns-in-Err-clause-ends : goal.returns-in-Err-clause-ends
@@ -22,5 +23,5 @@ returns-in-Err-clause-ends g c =
       true,
       refl,
       subst (λ (t : List ℕ). AppendsFront (g.W.Write.contents c.args.writer.now) (g.W.Write.contents c.write_bytes.new.writer) t) text c.in-Err.ensures.err,
-      record { went = e.step; was_clean = e.was_clean; failed = e.failed; counted = e.counted },
+      step_happens _ _ c.args.command.now c.step-reply.result g.met.B.Issued.clean_honest e.was_clean e.was_honest e.counted e.happened e.failed e.vouched,
     )

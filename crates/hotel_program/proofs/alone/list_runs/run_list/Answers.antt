@@ -11,6 +11,6 @@ returns-clause-ends g c =
       c.write_list_or_refusal-end.result,
       c.finish.ensures.status ∙ ap end_status end,
       subst (λ (e : Result ℕ Fault). Tells g.F.FaultSink.told c.args.faults.now e c.finish.new.faults) end c.finish.ensures.told,
-      λ clean. answer_ends _ c.args.list.now _ _ _ (ended.text (g.met.B.Issued.clean_honest _ clean)),
+      λ honest. answer_ends _ c.args.list.now _ _ _ (ended.text honest),
       ended.books,
     )

@@ -1,47 +1,36 @@
-use Rattle.std.proofs.Common.{◌∙◌, Ok, Err, ap, subst, arith}
-use Rattle.hotel_core.proofs.OfCode.FailuresCounted.{none_counted}
+use Rattle.std.proofs.Common.{◌∙◌, Ok, Err, Option, ap, subst}
+use Rattle.hotel_core.specs.Books.Happens.{HappensBy}
 use Rattle.hotel_asks.specs.declared.asks.Ask.{Ask}
 use Rattle.hotel_program.specs.declared.script.asks.LineFault.{LineFault}
 use Rattle.hotel_asks.specs.Asks.{ask_copies}
 use Rattle.hotel_program.specs.Script.Asks.{ask_in, IsLineRead}
-use Rattle.hotel_program.proofs.OfScript.LineAnswerLemmas.{list_answered, unread_answered, memory_answered}
-use Rattle.hotel_program.proofs.OfScript.ListAnswerLemmas.{when_ok, when_err}
+use Rattle.hotel_program.specs.Script.LineAnswers.{AskEnds}
+use Rattle.hotel_program.proofs.OfScript.LineAnswerLemmas.{unread_ends, memory_ends}
 use Rattle.hotel_program.proofs.script.line_answers.answer_line.Goals as goal
 
-pub returns-in-Ok-List-clause-ok : goal.returns-in-Ok-List-clause-ok
-returns-in-Ok-List-clause-ok g c = λ clean.
+pub returns-in-Ok-Command-clause-went : goal.returns-in-Ok-Command-clause-went
+returns-in-Ok-Command-clause-went g c =
+    let read = c.in-Ok-Command.is ∙ ap (λ (a : Ask). Ok a) c.in-Ok-Command.field-0-is in
+    let wanted = subst (IsLineRead ask_copies (ask_in c.args.line.now)) read c.read_line.ensures in
+    subst (λ (w : Option Ask). HappensBy g.B.Issued g.B.Books.rows c.args.books.now (AskEnds w (g.R.Rng.stream c.args.source.now) (g.R.Rng.stream c.answer_command.new.source)
+    (g.W.Write.contents c.args.writer.now) (g.W.Write.contents c.answer_command.new.writer) c.answer_command.result) c.answer_command.new.books) wanted c.answer_command.ensures.went
+
+pub returns-in-Ok-List-clause-went : goal.returns-in-Ok-List-clause-went
+returns-in-Ok-List-clause-went g c =
     let read = c.in-Ok-List.is ∙ ap (λ (a : Ask). Ok a) c.in-Ok-List.field-0-is in
     let wanted = subst (IsLineRead ask_copies (ask_in c.args.line.now)) read c.read_line.ensures in
-    let same = g.met.B.Books.kept_rows _ _ (c.answer_list.ensures.kept clean) in
-    when_ok _ _ _ (list_answered (ask_in c.args.line.now) _ _ _ _ _ _ wanted same) (c.answer_list.ensures.ok clean)
+    let s = g.R.Rng.stream c.args.source.now in
+    subst (λ (w : Option Ask). HappensBy g.B.Issued g.B.Books.rows c.args.books.now (AskEnds w s s
+    (g.W.Write.contents c.args.writer.now) (g.W.Write.contents c.answer_list.new.writer) c.answer_list.result) c.answer_list.new.books) wanted (c.answer_list.ensures.went s)
 
-pub returns-in-Err-Unread-clause-ok : goal.returns-in-Err-Unread-clause-ok
-returns-in-Err-Unread-clause-ok g c = λ clean.
+pub returns-in-Err-Unread-clause-went : goal.returns-in-Err-Unread-clause-went
+returns-in-Err-Unread-clause-went g c =
     let read = c.in-Err-Unread.is ∙ ap (λ (f : LineFault). Err f) c.in-Err-Unread.field-0-is in
     let wanted = subst (IsLineRead ask_copies (ask_in c.args.line.now)) read c.read_line.ensures in
-    when_ok _ _ _ (unread_answered (ask_in c.args.line.now) _ _ _ _ wanted (none_counted _ _ (omega arith))) c.write_answer.ensures.ok
+    unread_ends c.args.books.now (ask_in c.args.line.now) _ _ _ c.write_answer.result g.met.B.Issued.clean_honest wanted c.write_answer.ensures.ok c.write_answer.ensures.err
 
-pub returns-in-Err-Memory-clause-ok : goal.returns-in-Err-Memory-clause-ok
-returns-in-Err-Memory-clause-ok g c = λ clean.
+pub returns-in-Err-Memory-clause-went : goal.returns-in-Err-Memory-clause-went
+returns-in-Err-Memory-clause-went g c =
     let read = c.in-Err-Memory.is ∙ ap (λ (f : LineFault). Err f) c.in-Err-Memory.field-0-is in
     let some = subst (IsLineRead ask_copies (ask_in c.args.line.now)) read c.read_line.ensures in
-    when_ok _ _ _ (memory_answered (ask_in c.args.line.now) _ _ _ _ some (none_counted _ _ (omega arith))) c.write_answer-in-Err-Memory.ensures.ok
-
-pub returns-in-Ok-List-clause-err : goal.returns-in-Ok-List-clause-err
-returns-in-Ok-List-clause-err g c = λ clean.
-    let read = c.in-Ok-List.is ∙ ap (λ (a : Ask). Ok a) c.in-Ok-List.field-0-is in
-    let wanted = subst (IsLineRead ask_copies (ask_in c.args.line.now)) read c.read_line.ensures in
-    let same = g.met.B.Books.kept_rows _ _ (c.answer_list.ensures.kept clean) in
-    when_err _ _ _ (list_answered (ask_in c.args.line.now) _ _ _ _ _ _ wanted same) (c.answer_list.ensures.err clean)
-
-pub returns-in-Err-Unread-clause-err : goal.returns-in-Err-Unread-clause-err
-returns-in-Err-Unread-clause-err g c = λ clean.
-    let read = c.in-Err-Unread.is ∙ ap (λ (f : LineFault). Err f) c.in-Err-Unread.field-0-is in
-    let wanted = subst (IsLineRead ask_copies (ask_in c.args.line.now)) read c.read_line.ensures in
-    when_err _ _ _ (unread_answered (ask_in c.args.line.now) _ _ _ _ wanted (none_counted _ _ (omega arith))) c.write_answer.ensures.err
-
-pub returns-in-Err-Memory-clause-err : goal.returns-in-Err-Memory-clause-err
-returns-in-Err-Memory-clause-err g c = λ clean.
-    let read = c.in-Err-Memory.is ∙ ap (λ (f : LineFault). Err f) c.in-Err-Memory.field-0-is in
-    let some = subst (IsLineRead ask_copies (ask_in c.args.line.now)) read c.read_line.ensures in
-    when_err _ _ _ (memory_answered (ask_in c.args.line.now) _ _ _ _ some (none_counted _ _ (omega arith))) c.write_answer-in-Err-Memory.ensures.err
+    memory_ends c.args.books.now (ask_in c.args.line.now) _ _ _ c.write_answer-in-Err-Memory.result g.met.B.Issued.clean_honest some c.write_answer-in-Err-Memory.ensures.ok c.write_answer-in-Err-Memory.ensures.err

@@ -1,0 +1,12 @@
+use Rattle.std.proofs.Common.{◌≡◌, sym, ap, subst, ◌∙◌, Err, Result}
+use Rattle.hotel_core.specs.declared.reply.Refusal.{Refusal}
+use Rattle.hotel_lists.specs.{Lines.Vouches, declared.fault.ListFault.ListFault}
+use Rattle.hotel_http.specs.Serve.{is_answered}
+use Rattle.hotel_http.proofs.ServeLemmas.{text_vouched}
+use Rattle.hotel_http.proofs.serve.list_text.Goals as goal
+
+pub returns-in-Err-clause-vouched : goal.returns-in-Err-clause-vouched
+returns-in-Err-clause-vouched g c = λ honest answered.
+    let clean = g.B.Issued.is_clean c.write_list.new.books in
+    let vouched = subst (λ (r : Result (Unit {0}) ListFault). Vouches clean r) c.in-Err.is (c.write_list.ensures.books.vouched honest) in
+    text_vouched c.in-Err.fault clean vouched (sym (ap (λ (why : Refusal). is_answered (Err why)) c.list_refusal.ensures) ∙ answered)
