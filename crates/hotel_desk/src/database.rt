@@ -28,8 +28,8 @@ pub fn open_file<D: PathDisk>(
     rt: &HostRuntime,
     path: &str,
 ) -> Result<TableBooks<FileStore<D>>, Fault>
-    ensures books { IfOk result (λ b. AreOfOpening b.conn) }
-    ensures fault { IfErr result (IsOfFile D.Disk) }
+    ensures books { IfOk result (λ b. AreOfOpening D.PathDisk.is_part b.conn) }
+    ensures fault { IfErr result (IsOfFile D.Disk D.PathDisk.is_part) }
     ensures kind { IfErr result IsOfFiles }
 {
     match hotel_tables::open_file(rt, path) {

@@ -1,5 +1,6 @@
 -- What is counted of plain rows: the rooms of each kind, and the nights of the stays; and which rows can be counted.
-use Rattle.std.specs.Prelude.{◌≡◌, ◌==◌, ◌&&◌, ℕ, Bool, true, not, nat_le, length, List, map, Option, option_map, bytes_eq, string_bytes}
+use Rattle.std.specs.Prelude.{◌≡◌, ◌+◌, ◌-◌, ◌^◌, ◌==◌, ◌&&◌, ℕ, Bool, true, not, nat_le, nat_lt, length}
+use Rattle.std.specs.Prelude.{List, map, Option, option_map, bytes_eq, string_bytes}
 use Rattle.std.specs.List.{list_all, list_any, count_by}
 use Rattle.std.specs.Map.{values_of}
 use Rattle.hotel_nights.specs.Guests.{is_guest}
@@ -28,6 +29,13 @@ KnowsKinds counts plain_rows = (kind : List ℕ) → names_kind kind plain_rows 
 abbrev pub IsCountedOf : Stored → Counts → Type 0
 IsCountedOf s c =
     ((kind : List ℕ) → kinds.rooms_in c.kinds kind ≡ count_by (is_room_of_kind kind) s.rooms.items) × (CountsNights c.nights (values_of (map stay_entry s.stays.items)) × KnowsKinds c.kinds s.kinds.items)
+
+-- The counts tell whether a stay has its first night: its kind reads, its first night and the day after it are days,
+-- and its kind has fewer rooms than the greatest count.
+abbrev pub tells_night : Counts → PlainStay → Bool
+tells_night c plain =
+    is_kind (string_bytes plain.kind) && is_day (number_of plain.arrive + 1)
+    && nat_lt (kinds.rooms_in c.kinds (string_bytes plain.kind)) (2 ^ 32 - 1)
 
 -- ---- rows that can be counted
 

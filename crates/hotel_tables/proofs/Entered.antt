@@ -1,10 +1,15 @@
 -- What is entered: a desk of the second version as it is, and one of the first of which one of the second is made.
-use Rattle.std.proofs.Common.{◌≡◌, inl, inr, sym, ap, subst, ◌∙◌, false, Ok, Err, IsTrue, arith}
+use Rattle.std.proofs.Common.{◌≡◌, inl, inr, refl, sym, ap, subst, ◌∙◌, ℕ, List, false, Ok, Err, IsTrue, arith}
 use Rattle.sqlite.specs.Schema.{Schema}
 use Rattle.sqlite.specs.Effect.{Database}
 use Rattle.sqlite.specs.State.{State, HasCleanDisk, Survives}
 use Rattle.sqlite.proofs.StateLemmas.{survives_then, survives_weaker}
+use Rattle.sqlite_trees.specs.declared.store.Store.{Ghosts}
+use Rattle.sqlite.specs.declared.error.Error.{Error}
+use Rattle.sqlite.specs.Held.{Held, state}
 use Rattle.keycard_rules.specs.declared.issued.LookFault.{LookFault}
+use Rattle.keycard_rules.specs.declared.issued.LookFault.TheVariants as look
+use Rattle.hotel_statements.specs.LookUps.{fault_of}
 use Rattle.hotel_statements.specs.declared.version.Version.{Version}
 use Rattle.hotel_statements.specs.declared.version.Version.TheVariants.{First, Second}
 use Rattle.hotel_statements.specs.Schema.{first_schema, desk_schema, schema_of}
@@ -19,21 +24,22 @@ use Rattle.hotel_tables.specs.declared.opening.Found.{Found}
 use Rattle.hotel_tables.specs.Applied.{LeavesAll}
 use Rattle.hotel_tables.specs.TableBooks.{IsCounted}
 use Rattle.hotel_tables.specs.Opening.{Opens, Enters, FaultFits, FaultFitsIn, IsUpgraded, IsSoundDesk, IsOfVersion}
-use Rattle.hotel_tables.specs.Opening.{IsOfCall, fault_for}
-use Rattle.hotel_tables.proofs.Opened.{fault_fits}
-use Rattle.hotel_tables.proofs.Reread.{of_a_call, refused_fits}
+use Rattle.hotel_tables.specs.Opening.{IsOfCall, IsNoDesk, FailsToRead, fault_for}
+use Rattle.hotel_tables.specs.Exits.{FailsToUpgrade, CallFails, LeavesDatabase}
+use Rattle.hotel_tables.proofs.Opened.{fits_more, fits_call}
+use Rattle.hotel_tables.proofs.Reread.{of_a_call}
 
 pub ours_of : {version : Version} (s : State) → s.in_transaction ≡ false → (IsTrue s.is_open → s.now ≡ s.committed)
     → s.now.schema ≡ schema_of version → IsOurs version s
 ours_of s autocommit settled has = record { autocommit = autocommit; tables = λ kept. (has, settled kept.1) }
 
 -- a database has the tables of one version only
-fits_in : (version : Version) (db : Database) (why : OpenFault) → db.schema ≡ schema_of version
-    → FaultFits version db.trees why → FaultFitsIn db why
-fits_in First db why has fits First is = fits
-fits_in First db why has fits Second is = absurd (not_both db.schema is has)
-fits_in Second db why has fits First is = absurd (not_both db.schema has is)
-fits_in Second db why has fits Second is = fits
+fits_in : (failed : Version → Type 0) (version : Version) (db : Database) (why : OpenFault)
+    → db.schema ≡ schema_of version → FaultFits (failed version) version db.trees why → FaultFitsIn failed db why
+fits_in failed First db why has fits First is = fits
+fits_in failed First db why has fits Second is = absurd (not_both db.schema is has)
+fits_in failed Second db why has fits First is = absurd (not_both db.schema has is)
+fits_in failed Second db why has fits Second is = fits
 
 -- the tables are of neither version
 pub of_neither : {schema : Schema} → ¬ (schema ≡ desk_schema) → ¬ (schema ≡ first_schema) → ¬ IsOfVersion schema
@@ -46,9 +52,10 @@ sound_of s (Second, desk, sound) = (Second, desk.schema)
 
 -- ---- an opening that was refused
 
-pub entered_not : (version : Version) (old new : State) (why : OpenFault) → old.now.schema ≡ schema_of version
-    → Opens version old new (Err why) → Enters old new (Err why)
-entered_not version old new why has opens = record {
+pub entered_not : {failed : Version → Type 0} (version : Version) (old new : State) (why : OpenFault)
+    → old.now.schema ≡ schema_of version → (FailsToRead version old new look.Store → failed version)
+    → Opens version old new (Err why) → Enters failed old new (Err why)
+entered_not {failed} version old new why has read opens = record {
   autocommit = opens.ours.autocommit;
   books = tt;
   was = λ kept. (opens.keeps kept).0;
@@ -56,15 +63,17 @@ entered_not version old new why has opens = record {
   whole = λ _ _. tt;
   same = λ kept. (opens.keeps kept).1;
   counted = λ _. tt;
-  fault = λ kept clean. fits_in version old.now why has (refused_fits old new why opens kept clean);
+  open_on = λ _. tt;
+  fault = λ clean.
+      fits_in failed version old.now why has (fits_more read version old.now.trees why (opens.fault clean));
   crash = λ kept. survives_weaker old new _ _ (λ _ db none. absurd (none kept)) opens.crash;
 }
 
 -- ---- a desk of the second version
 
-pub entered_second : {found : Found} (old new : State) → old.now.schema ≡ desk_schema → Opens Second old new (Ok found)
-    → Enters old new (Ok found.counts)
-entered_second {found} old new has opens = record {
+pub entered_second : {failed : Version → Type 0} {found : Found} (old new : State) → old.now.schema ≡ desk_schema
+    → Opens Second old new (Ok found) → Enters failed old new (Ok found.counts)
+entered_second {failed} {found} old new has opens = record {
   autocommit = opens.ours.autocommit;
   books = record {
     autocommit = opens.ours.autocommit;
@@ -84,7 +93,8 @@ entered_second {found} old new has opens = record {
       subst (λ (d : Database). IsCounted found.counts.kinds found.counts.nights (rows_in d.trees))
       (sym (opens.keeps kept).1)
       (opens.found kept).counted;
-  fault = λ _ _. tt;
+  open_on = opens.open_on;
+  fault = λ _. tt;
   crash = λ kept. survives_weaker old new _ _ (λ _ db none. absurd (none kept)) opens.crash;
 }
 
@@ -118,12 +128,14 @@ module _ {found : Found} {old mid : State} (has : old.now.schema ≡ first_schem
         (λ _ db none. absurd (none kept))
         (λ clean db whole.
         let before : HasCleanDisk mid = omega (arith, crash.clean, clean) in
-        let same = (opens.keeps (before, opens.open_on kept before)).1 in
+        let same = (opens.keeps (before, opens.open_on before)).1 in
         (has, subst (λ (d : Database). IsUpgradeOf d.trees db) same whole)) opens.crash crash
 
-    pub entered_first : IsBooks new → (IsKept new → rows_in new.now.trees ≡ rows_of_version First mid.now.trees)
-        → (IsKept new → LeavesAll new) → Enters old new (Ok found.counts)
-    entered_first books made whole = record {
+    pub entered_first : {failed : Version → Type 0} → IsBooks new
+        → (IsKept new → rows_in new.now.trees ≡ rows_of_version First mid.now.trees)
+        → (IsKept new → LeavesAll new) → (HasCleanDisk new → IsTrue new.is_open)
+        → Enters failed old new (Ok found.counts)
+    entered_first books made whole open_on = record {
       autocommit = autocommit;
       books = books;
       was = λ kept. (opens.keeps (was kept)).0;
@@ -132,15 +144,17 @@ module _ {found : Found} {old mid : State} (has : old.now.schema ≡ first_schem
       same = λ _. tt;
       counted = λ kept.
           subst (IsCounted found.counts.kinds found.counts.nights) (sym (rows kept)) (opens.found (was kept)).counted;
-      fault = λ _ _. tt;
+      open_on = open_on;
+      fault = λ _. tt;
       crash = crash_whole;
     }
       where
         rows : IsKept new → rows_in new.now.trees ≡ rows_of_version First old.now.trees
         rows kept = made kept ∙ ap (λ (d : Database). rows_of_version First d.trees) (opens.keeps (was kept)).1
 
-    pub not_upgraded : (why : LookFault) → (IsKept new → new.now ≡ mid.now) → Enters old new (Err (fault_for why))
-    not_upgraded why same = record {
+    pub not_upgraded : {failed : Version → Type 0} (why : LookFault) → (IsKept new → new.now ≡ mid.now)
+        → (why ≡ look.Store → failed First) → Enters failed old new (Err (fault_for why))
+    not_upgraded {failed} why same cause = record {
       autocommit = autocommit;
       books = tt;
       was = λ kept. (opens.keeps (was kept)).0;
@@ -148,18 +162,50 @@ module _ {found : Found} {old mid : State} (has : old.now.schema ≡ first_schem
       whole = λ _ _. tt;
       same = λ kept. same kept ∙ (opens.keeps (was kept)).1;
       counted = λ _. tt;
-      fault = λ _ _ version _. fault_fits version old.now.trees why;
+      open_on = λ _. tt;
+      fault = λ _.
+          fits_in failed First old.now (fault_for why) has (fits_call (failed First) First old.now.trees why cause);
       crash = crash_whole;
     }
 
 -- ---- a fault of sound tables is one of a call
 
-pub of_call : (s : State) (why : OpenFault) → FaultFitsIn s.now why → IsSoundDesk s → IsOfCall why
-of_call s why fits (First, desk, sound) = of_a_call First s.now.trees why desk.tables sound (fits First desk.schema)
-of_call s why fits (Second, desk, sound) = of_a_call Second s.now.trees why desk.tables sound (fits Second desk.schema)
+pub of_call : (failed : Version → Type 0) (s : State) (why : OpenFault) → FaultFitsIn failed s.now why → IsSoundDesk s
+    → IsOfCall why
+of_call failed s why fits (First, desk, sound) =
+    of_a_call (failed First) First s.now.trees why desk.tables sound (fits First desk.schema)
+of_call failed s why fits (Second, desk, sound) =
+    of_a_call (failed Second) Second s.now.trees why desk.tables sound (fits Second desk.schema)
 
-pub fits_of_call : (db : Database) (why : OpenFault) → IsOfCall why → FaultFitsIn db why
-fits_of_call db fault.Memory call version has = tt
-fits_of_call db fault.Store call version has = tt
-fits_of_call db fault.NotADesk call version has = absurd call
-fits_of_call db (fault.Damaged t) call version has = absurd call
+module _ {S : Type 0} (g : Ghosts S) where
+  -- the making of a desk of the second version failed
+  pub upgrade_fails : (old mid new : Held S) (rooms : List ℕ) (e : Error) → FailsToUpgrade g rooms mid new e
+      → fault_of e ≡ look.Store → CallFails g old new look.Store First
+  upgrade_fails old mid new rooms e fails is = inr (refl, mid, rooms, e, sym is, fails)
+
+  -- nothing was read: the tables are no desk's, or memory was wanting
+  pub unread : (c : Held S) (why : OpenFault) → c.in_transaction ≡ false
+      → (IsOfVersion (state g c).now.schema → why ≡ fault.Memory) → IsNoDesk why
+      → Survives (state g c) (state g c) (λ _. ⊥) → LeavesDatabase g c c why
+  unread c why alone memory none still = record {
+    outside = alone;
+    same = λ kept. (kept, refl);
+    crash = λ _. survives_weaker (state g c) (state g c) _ _ (λ _ db no. absurd no) still;
+    foreign = λ _. none;
+    fits = λ _ version is.
+        subst (FaultFits (CallFails g c c look.Store version) version (state g c).now.trees)
+        (sym (memory (version, is))) tt;
+    kept = λ _ desk. subst IsOfCall (sym (memory (sound_of (state g c) desk))) tt;
+  }
+
+  -- its tables gave no books
+  pub left_of : (version : Version) (old new : Held S) (why : OpenFault) → (state g old).now.schema ≡ schema_of version
+      → Enters (CallFails g old new look.Store) (state g old) (state g new) (Err why) → LeavesDatabase g old new why
+  left_of version old new why has enters = record {
+    outside = enters.autocommit;
+    same = λ kept. (enters.was kept, enters.same kept);
+    crash = enters.crash;
+    foreign = λ none. absurd (none (version, has));
+    fits = enters.fault;
+    kept = λ clean desk. of_call (CallFails g old new look.Store) (state g old) why (enters.fault clean) desk;
+  }

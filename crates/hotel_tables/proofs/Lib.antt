@@ -7,6 +7,7 @@ mod Applied
 mod MayMake
 mod MemoryDesk
 mod Reread
+mod NotUpgraded
 mod Entered
 mod Reopened
 mod OfFiles

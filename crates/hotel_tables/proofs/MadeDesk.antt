@@ -1,11 +1,20 @@
--- The desk that is made, by the statements that make it and the commit of their transaction.
-use Rattle.std.proofs.Common.{◌≡◌, true, false, [], refl, sym, subst, Ok, Err, Result, OnOk, IsTrue, arith}
+-- The desk that is made, by the statements that make it and the commit of their transaction; and the database that is
+-- left where none is made.
+use Rattle.std.proofs.Common.{◌≡◌, true, false, true≢false, [], refl, sym, ap, subst, ◌∙◌, inl, inr, Ok, Err}
+use Rattle.std.proofs.Common.{Result, OnOk, OnErr, IsTrue, arith}
+use Rattle.sqlite_trees.specs.declared.store.Store.{Ghosts}
+use Rattle.sqlite.specs.Held.{Held, state}
 use Rattle.sqlite.specs.Effect.{Database}
 use Rattle.sqlite.specs.Tree.{Trees}
-use Rattle.sqlite.specs.State.{State, HasCleanDisk, Survives, Shows, KeepsCounts}
+use Rattle.sqlite.specs.State.{State, HasCleanDisk, Survives, Shows, KeepsCounts, KeepsCommit, IsRolledBack}
+use Rattle.sqlite.specs.Steps.{FailsToCommit}
 use Rattle.sqlite.specs.declared.error.Error.{Error}
-use Rattle.hotel_statements.specs.Schema.{no_schema, desk_schema}
-use Rattle.hotel_statements.specs.NewDesk.{IsBare, IsMade, IsEmptyDesk, IfOpen, IfOpenBare, with_stay}
+use Rattle.std.specs.Prelude.{IfErr}
+use Rattle.hotel_statements.specs.Schema.{no_schema}
+use Rattle.hotel_statements.specs.Books.{IsKept}
+use Rattle.hotel_statements.specs.NewDesk.{IsBare, IsMade, IsEmptyDesk, IfOpen}
+use Rattle.hotel_statements.specs.Statements.{RunsStatements}
+use Rattle.hotel_tables.specs.Exits.{makes_desk, FailsToMake}
 
 -- what a commit promises that was answered
 abbrev IsCommitted : State → State → Type 0
@@ -19,20 +28,60 @@ bare_start old start begun bare =
     subst (λ (s : State). IsTrue s.is_open → IsBare no_schema s) (sym begun)
     (λ is_open. record { inside = refl; schema_is = bare is_open; empty = tt })
 
-pub desk_made : (old start one two three new : State) (P Q R : Trees → Type 0) (r : Result (Unit {0}) Error)
-    → start ≡ record old { in_transaction = true } → (IsTrue old.is_open → old.now.schema ≡ no_schema)
-    → (HasCleanDisk one → IfOpenBare no_schema with_stay start one)
-    → (HasCleanDisk two → IfOpenBare with_stay desk_schema one two)
-    → (HasCleanDisk three → IfOpen (IsBare desk_schema) IsMade two three)
-    → Survives one two P → Survives two three Q → Survives three new R
-    → (HasCleanDisk new → OnOk r (IsCommitted three new)) → HasCleanDisk new → OnOk r (IsEmptyDesk new.now.trees)
-desk_made old start one two three new P Q R r begun bare first last meta to_two to_three to_new ok clean =
-    let clean_three : HasCleanDisk three = omega (arith, to_new.clean, clean) in
-    let clean_two : HasCleanDisk two = omega (arith, to_three.clean, clean_three) in
-    let clean_one : HasCleanDisk one = omega (arith, to_two.clean, clean_two) in
-    go r (meta clean_three (λ _. last clean_two (λ _. first clean_one (bare_start old start begun bare)))) (ok clean)
-  where
-    go : (r : Result (Unit {0}) Error) → IsMade three → OnOk r (IsCommitted three new)
-        → OnOk r (IsEmptyDesk new.now.trees)
-    go (Ok u) made did = subst (λ (d : Database). IsEmptyDesk d.trees) (sym did.1.now_is) made.empty
-    go (Err e) made did = tt
+-- what was not committed is undone
+pub undone : (old start ended new : State) (P : Trees → Type 0) → start ≡ record old { in_transaction = true }
+    → (IsTrue old.is_open → old.now ≡ old.committed) → (HasCleanDisk ended → KeepsCommit start ended)
+    → Survives ended new P → (HasCleanDisk new → IsRolledBack ended new) → IsKept new → new.now ≡ old.now
+undone old start ended new P begun settled kept survives back is =
+    let clean : HasCleanDisk ended = omega (arith, survives.clean, is.0) in
+    let rolled = back is.0 in
+    let ended_open = rolled.was_open is.1 in
+    let start_open = (kept clean).was_open ended_open in
+    let old_open : IsTrue old.is_open = subst (λ (s : State). IsTrue s.is_open) begun start_open in
+    (rolled.undone is.1).0 ∙ (kept clean).committed ended_open ∙ ap (λ (s : State). s.committed) begun
+    ∙ sym (settled old_open)
+
+module _ (old start ended new : State) (P : Trees → Type 0) (begun : start ≡ record old { in_transaction = true })
+    (bare : IsTrue old.is_open → old.now.schema ≡ no_schema)
+    (made : HasCleanDisk ended → IfOpen (IsBare no_schema) IsMade start ended) (survives : Survives ended new P) where
+  written : HasCleanDisk new → IsMade ended
+  written clean =
+      let clean_ended : HasCleanDisk ended = omega (arith, survives.clean, clean) in
+      made clean_ended (bare_start old start begun bare)
+
+  pub desk_made : (r : Result (Unit {0}) Error) → (HasCleanDisk new → OnOk r (IsCommitted ended new)) → HasCleanDisk new
+      → OnOk r (IsEmptyDesk new.now.trees)
+  desk_made r ok clean = go r (written clean) (ok clean)
+    where
+      go : (r : Result (Unit {0}) Error) → IsMade ended → OnOk r (IsCommitted ended new)
+          → OnOk r (IsEmptyDesk new.now.trees)
+      go (Ok u) made did = subst (λ (d : Database). IsEmptyDesk d.trees) (sym did.1.now_is) made.empty
+      go (Err e) made did = tt
+
+  -- where the commit failed, the database is as it was
+  pub commit_undone : (r : Result (Unit {0}) Error) → (IsTrue old.is_open → old.now ≡ old.committed)
+      → (HasCleanDisk ended → KeepsCommit start ended) → (HasCleanDisk new → IfErr r (FailsToCommit ended new))
+      → IsKept new → OnErr r (new.now ≡ old.now)
+  commit_undone (Ok u) settled kept err is = tt
+  commit_undone (Err e) settled kept err is =
+      undone old start ended new P begun settled kept survives (λ clean. back (written clean) (err clean)) is
+    where
+      back : IsMade ended → FailsToCommit ended new e → IsRolledBack ended new
+      back made (inl fails) = fails.3
+      back made (inr late) = absurd (true≢false (sym made.inside ∙ late.1))
+
+module _ {S : Type 0} (g : Ghosts S) (old start ended new : Held S)
+    (begun : start ≡ record old { in_transaction = true }) where
+  -- a statement failed
+  pub not_made : {e : Error} (r : Result (Unit {0}) Error) → r ≡ Err e → RunsStatements g makes_desk start ended (Err e)
+      → IfErr r (FailsToMake g old new)
+  not_made {e} r is ran =
+      subst (λ (r : Result (Unit {0}) Error). IfErr r (FailsToMake g old new)) (sym is)
+      (record { start = start; begun = begun; ended = ended; failed = inl ran })
+
+  -- or the commit
+  pub not_committed : (u : Unit {0}) (r : Result (Unit {0}) Error) → RunsStatements g makes_desk start ended (Ok u)
+      → (HasCleanDisk (state g new) → IfErr r (FailsToCommit (state g ended) (state g new)))
+      → IfErr r (FailsToMake g old new)
+  not_committed u (Ok v) ran err = tt
+  not_committed u (Err e) ran err = record { start = start; begun = begun; ended = ended; failed = inr (ran, err) }

@@ -1,33 +1,33 @@
 -- The books of a file, by what its opening answered, and its files after a close.
-use Rattle.std.proofs.Common.{◌≡◌, sym, ap, subst, ◌∙◌, length, Ok, Err, Result, Option, None, Some, ◌&&◌, arith}
+use Rattle.std.proofs.Common.{◌≡◌, refl, sym, ap, subst, ◌∙◌, inl, inr, length, Ok, Err, Result, ◌&&◌, arith}
 use Rattle.std.specs.Prelude.{IfOk, IfErr, IsTrue}
-use Rattle.sqlite_disk.specs.declared.Disk.{Ghosts}
+use Rattle.sqlite_disk.specs.declared.Disk as disk
+use Rattle.sqlite_trees.specs.declared.store.Store.{Ghosts}
 use Rattle.sqlite_disk.specs.declared.Files.{Files}
 use Rattle.sqlite_store.specs.declared.store.FileStore.{FileStore}
 use Rattle.sqlite_store.specs.FileStore.{view}
 use Rattle.sqlite_trees.specs.View.{IsClean}
-use Rattle.sqlite.specs.declared.error.ErrorCode.TheVariants.{CannotOpen}
 use Rattle.sqlite.specs.declared.error.Error.{Error}
-use Rattle.sqlite.specs.declared.error.Error.TheVariants.{SqliteFailure}
 use Rattle.sqlite.specs.Schema.{Schema}
 use Rattle.sqlite.specs.State.{State, HasCleanDisk, IsLive, Survives}
-use Rattle.sqlite.specs.Held.{Held, IsNew}
+use Rattle.sqlite.specs.Held.{Held, state}
 use Rattle.sqlite.specs.Opening.{is_open_error}
-use Rattle.sqlite.specs.Files.{file_state, IsOpened, IsClosed, FailsToClose}
+use Rattle.sqlite.specs.Files.{file_state, IsClosed, FailsToClose}
 use Rattle.sqlite.specs.Closing.{IsCopied}
 use Rattle.hotel_core.specs.Model.Rows.{no_rows}
 use Rattle.hotel_core.specs.Model.Sound.{IsSound}
 use Rattle.hotel_core.proofs.OfTables.RowTests.{both}
 use Rattle.hotel_tables.specs.declared.open_fault.OpenFault.{OpenFault}
-use Rattle.hotel_tables.specs.declared.files.FileFault.{FileFault}
 use Rattle.hotel_tables.specs.TableBooks.{Tabled}
 use Rattle.hotel_statements.specs.Schema.{no_schema, first_schema}
 use Rattle.hotel_statements.specs.Books.{IsKept, IsBooks}
 use Rattle.hotel_statements.specs.Tables.{rows_in}
 use Rattle.hotel_statements.specs.NewDesk.{IsEmptyDesk}
 use Rattle.hotel_tables.specs.Applied.{LeavesAll}
-use Rattle.hotel_tables.specs.Opening.{IsOfVersion, Continues, IsUpgraded, NamesNoTable}
-use Rattle.hotel_tables.specs.Files.{file_fault, IsAnswer, AreBooksOf, AreOfOpening, LeavesDatabase, IsWhyNone, HoldBooks}
+use Rattle.hotel_tables.specs.Opening.{IsOfVersion, Continues, IsUpgraded}
+use Rattle.hotel_tables.specs.Exits.{LeavesBare, LeavesDatabase}
+use Rattle.hotel_tables.specs.Paths.{IsPathError}
+use Rattle.hotel_tables.specs.Files.{AreBooksOf, IsWhyNone, HoldBooks}
 use Rattle.hotel_tables.proofs.EmptyDesk.{empty_counted}
 use Rattle.hotel_tables.proofs.Reopened.{files_keep_books}
 
@@ -37,49 +37,72 @@ not_bare s first none =
     let eight : 8 ≡ 0 = ap (λ (s : Schema). length s.tables) (sym first ∙ none) in
     absurd (omega (arith, eight))
 
-pub made_books : (old new : State) → old.now.schema ≡ no_schema → (IsKept new → rows_in new.now.trees ≡ no_rows) → Survives old new IsEmptyDesk → AreBooksOf old new
-made_books old new bare empty crash = record {
+made_books : (old new : State) → old.now.schema ≡ no_schema → (IsKept new → rows_in new.now.trees ≡ no_rows)
+    → Survives old new IsEmptyDesk → (HasCleanDisk new → IsKept new) → AreBooksOf old new
+made_books old new bare empty crash vouched = record {
   made = λ _. (empty, crash);
   found = λ other. absurd (other bare);
   whole = λ first. absurd (not_bare old.now.schema first bare);
   sound = λ kept. (empty_counted (rows_in new.now.trees) (empty kept)).sound;
+  vouched = vouched;
 }
 
-pub found_books : (old new : State) → ¬ (old.now.schema ≡ no_schema) → IsOfVersion old.now.schema
+found_books : (old new : State) → ¬ (old.now.schema ≡ no_schema) → IsOfVersion old.now.schema
     → (IsKept new → IsKept old) → (IsKept new → Continues old.now new.now)
     → (IsKept old → Survives old new (IsUpgraded old.now))
     → (old.now.schema ≡ first_schema → IsKept new → LeavesAll new)
-    → (IsKept new → IsSound (rows_in new.now.trees)) → AreBooksOf old new
-found_books old new other desk was continues crash whole sound = record {
+    → (IsKept new → IsSound (rows_in new.now.trees)) → (HasCleanDisk new → IsKept new) → AreBooksOf old new
+found_books old new other desk was continues crash whole sound vouched = record {
   made = λ bare. absurd (other bare);
   found = λ _. (desk, λ kept. (was kept, continues kept), crash);
   whole = whole;
   sound = sound;
+  vouched = vouched;
 }
 
-pub left_database : {S : Type 0} (shown : Held S → State) (old : State) (why : OpenFault) (c : Held S)
-    → ¬ (old.now.schema ≡ no_schema) → (¬ IsOfVersion old.now.schema → NamesNoTable why)
-    → LeavesDatabase old (shown c) why → IsWhyNone shown old why (Some c)
-left_database shown old why c other foreign leaves = record { bare = λ bare. absurd (other bare); foreign = foreign; leaves = leaves }
+module _ {S : Type 0} (g : Ghosts S) (old : Held S) where
+  abbrev pub Answer : Type 0
+  Answer = Result (Tabled S) (OpenFault × Held S)
 
-module _ {D : Type 0} {g : Ghosts D} where
-  pub answered : (r : Result (Held (FileStore D g)) Error) → IfErr r (λ e. IsTrue (is_open_error e)) → IfOk r IsNew → IfOk r (λ c. HasCleanDisk (file_state c) → IsOpened c) → IsAnswer r
-  answered (Ok c) named fresh opened = (fresh, opened)
-  answered (Err e) named fresh opened = named
+  abbrev pub OfBooks : Answer → (State → Type 0) → Type 0
+  OfBooks r P = IfOk r (λ b. P (state g b.conn))
 
-  -- of these books a failed opening says that they are none
-  abbrev pub IsNotOf : Result (Held (FileStore D g)) Error → Tabled (FileStore D g) → Type 0
-  IsNotOf r b = IfErr r (λ e. ◌≡◌ {A = Result (Tabled (FileStore D g)) (FileFault × Option (Held (FileStore D g)))} (Ok b) (Err (file_fault e, None)))
+  -- the books that were made of a database that has nothing
+  pub all_made : (r : Answer) → (state g old).now.schema ≡ no_schema
+      → OfBooks r (λ new. IsKept new → rows_in new.now.trees ≡ no_rows)
+      → OfBooks r (λ new. Survives (state g old) new IsEmptyDesk) → OfBooks r (λ new. HasCleanDisk new → IsKept new)
+      → OfBooks r (AreBooksOf (state g old))
+  all_made (Ok b) bare empty crash vouched = made_books (state g old) (state g b.conn) bare empty crash vouched
+  all_made (Err e) bare empty crash vouched = tt
 
-  -- books come of an opening that gave a connection
-  pub of_opening : (r : Result (Held (FileStore D g)) Error) (b : Tabled (FileStore D g)) → IsAnswer r → IfOk r (λ c. AreBooksOf (file_state c) (file_state b.conn)) → IsNotOf r b
-      → AreOfOpening b.conn
-  of_opening (Ok c) b is are none = (c, is, are)
-  of_opening (Err e) b is are none = absurd cc
+  -- those that were found in one that has tables
+  pub all_found : (r : Answer) → ¬ ((state g old).now.schema ≡ no_schema)
+      → IfOk r (λ _. IsOfVersion (state g old).now.schema) → OfBooks r (λ new. IsKept new → IsKept (state g old))
+      → OfBooks r (λ new. IsKept new → Continues (state g old).now new.now)
+      → (IsKept (state g old) → OfBooks r (λ new. Survives (state g old) new (IsUpgraded (state g old).now)))
+      → ((state g old).now.schema ≡ first_schema → OfBooks r (λ new. IsKept new → LeavesAll new))
+      → OfBooks r (λ new. IsKept new → IsSound (rows_in new.now.trees))
+      → OfBooks r (λ new. HasCleanDisk new → IsKept new)
+      → OfBooks r (AreBooksOf (state g old))
+  all_found (Ok b) other desk was continues crash whole sound vouched =
+      found_books (state g old) (state g b.conn) other desk was continues crash whole sound vouched
+  all_found (Err e) other desk was continues crash whole sound vouched = tt
 
-  pub not_in_memory : (r : Result (Held (FileStore D g)) Error) (b : Tabled (FileStore D g)) → r ≡ Err (SqliteFailure CannotOpen) → ¬ IsNotOf r b
-  not_in_memory r b is none = let it = subst (λ r. IsNotOf r b) is none in cc
+  pub none_made : (new : Held S) (why : OpenFault) → (state g old).now.schema ≡ no_schema → LeavesBare g old new why
+      → IsWhyNone g old new why
+  none_made new why bare left = record { bare = λ _. left; found = λ other. absurd (other bare) }
 
+  pub none_found : (new : Held S) (why : OpenFault) → ¬ ((state g old).now.schema ≡ no_schema)
+      → LeavesDatabase g old new why → IsWhyNone g old new why
+  none_found new why other left = record { bare = λ bare. absurd (other bare); found = λ _. left }
+
+-- an error of a path is one that openings have
+pub path_error_opens : (e : Error) → IsPathError e → IsTrue (is_open_error e)
+path_error_opens e (inl is) = subst (λ e. IsTrue (is_open_error e)) (sym is) refl
+path_error_opens e (inr (inl is)) = subst (λ e. IsTrue (is_open_error e)) (sym is) refl
+path_error_opens e (inr (inr is)) = subst (λ e. IsTrue (is_open_error e)) (sym is) refl
+
+module _ {D : Type 0} {g : disk.Ghosts D} where
   -- what was closed is the books' connection, and its files are as the close promises
   pub holds_books : (conn closed : Held (FileStore D g)) (files : Files D) → closed ≡ conn → IsBooks (file_state closed) → IsLive (file_state closed)
       → (IsTrue (g.is_clean files.log && g.is_clean files.db) → IsCopied closed files) → HoldBooks conn files

@@ -1,6 +1,8 @@
 -- Tables that are read, undamaged and without numbers below 0 are tables of a desk.
 use Rattle.std.proofs.Common.{◌≡◌, refl, sym, ap, subst, ◌∙◌, List, [], ◌∷◌, map, ℕ, ℤ, pos, nat_cmp, true, false}
-use Rattle.std.proofs.Common.{Bool, Less, Ordering, is_eq, Option, None, Result, Ok, Err, IfOk, IfErr, IsTrue}
+use Rattle.std.proofs.Common.{Bool, Less, Ordering, is_eq, Option, None, Result, Ok, Err, IfOk, IfErr, OnOk}
+use Rattle.std.proofs.Common.{inl, inr, length}
+use Rattle.std.proofs.lemmas.Result.{IfErr-weaker}
 use Rattle.std.proofs.Common.{Vec, arith, Some}
 use Rattle.std.specs.Prelude.{◌+◌, ◌≤◌, option_map, bytes_eq}
 use Rattle.std.specs.List.{AllByRecursion, list_all, count_by}
@@ -11,6 +13,7 @@ use Rattle.std.specs.Map.{keys_of, values_of}
 use Rattle.std.specs.declared.alloc.Global.{Global}
 use Rattle.std.proofs.lemmas.Cmp.{nat_cmp_total, int_cmp_total, nat_list_cmp_total}
 use Rattle.std.proofs.lemmas.List.Sorted.{IsPermutation-map, IsPermutation-sym, IsPermutation-refl, length_permutation}
+use Rattle.sqlite_value.specs.declared.value.Value.{Value}
 use Rattle.sqlite_value.specs.declared.value.Value.TheVariants.{Int}
 use Rattle.sqlite_value.proofs.OrderLemmas.{value_cmp_total, value_cmp-Int}
 use Rattle.sqlite_rules.specs.Edit.{id_in}
@@ -59,9 +62,9 @@ use Rattle.hotel_tables.specs.TableBooks.{IsCounted}
 use Rattle.hotel_statements.specs.PlainRows.{maybe, meta_shown, kind_shown, room_shown, stay_shown, code_shown, card_shown, inside_shown, numbered_shown, numbered_columns, note_shown, fit_shown, ArePlainRows}
 use Rattle.hotel_statements.specs.PlainRows.{may_be_natural, room_natural, stay_natural, code_natural, card_natural, inside_natural, note_natural, fit_natural}
 use Rattle.hotel_statements.specs.WholeTables.{ReadsTo, AreFitRows, AreRead}
-use Rattle.hotel_tables.specs.Opening.{AreStored, AreApartInside, IsMetaRow, IsFound, LacksRow, HasMetaRow, FaultFits}
-use Rattle.hotel_tables.specs.Opening.{Told, Opens, all_rise, fits_natural, all_natural, id_inside, plain_inside}
-use Rattle.hotel_tables.specs.Opening.{fault_for}
+use Rattle.hotel_tables.specs.Opening.{AreStoredAs, AreStored, AreApartInside, IsMetaRow, IsFound, LacksRow, HasMetaRow}
+use Rattle.hotel_tables.specs.Opening.{FaultFits, FailsToRead, Opens, all_rise, fits_natural, all_natural, id_inside}
+use Rattle.hotel_tables.specs.Opening.{plain_inside, fault_for}
 use Rattle.hotel_rows.specs.Counts.{IsCountedOf}
 use Rattle.hotel_rows.specs.Joined.{with_fit, under_fit, joined, first_fits}
 use Rattle.hotel_rows.proofs.OfCounts.{counted_rooms, named_kind}
@@ -75,35 +78,63 @@ use Rattle.hotel_rows.proofs.OfDamage.Undamaged.{undamaged_is_sound}
 
 -- ---- the row of meta
 
-one_version : {n : ℕ} (l : PlainMeta) (row : Row) → meta_columns row ∷ [] ≡ meta_shown l ∷ []
-    → column (meta_columns row) 1 ≡ Int (pos n) → l.version ≡ pos n
-one_version l row same is =
-    let e : column (meta_columns row) 1 ≡ Int l.version = ap (λ (rows : List Row). column (head rows) 1) same in
-    ap id_in (sym e ∙ is)
-  where
-    head : List Row → Row
-    head [] = []
-    head (r ∷ rs) = r
+head : List Row → Row
+head [] = []
+head (r ∷ rs) = r
+
+one_number : (at : ℕ) {m k : ℤ} (l : PlainMeta) (row : Row) → meta_columns row ∷ [] ≡ meta_shown l ∷ []
+    → column (meta_shown l) at ≡ Int m → column (meta_columns row) at ≡ Int k → m ≡ k
+unfolding head
+one_number at l row same shown is =
+    let e : column (meta_columns row) at ≡ column (meta_shown l) at =
+    ap (λ (rows : List Row). column (head rows) at) same in
+    ap id_in (sym shown ∙ sym e ∙ is)
 
 pub lacks_row : (version : Version) (db : Trees) (meta : List PlainMeta)
-    → ArePlainRows meta_columns meta_shown meta (db 0)
-    → ((l : PlainMeta) → meta ≡ l ∷ [] → ¬ (l.version ≡ pos (number_of_version version))) → ¬ HasMetaRow version db
+    → ArePlainRows meta_columns meta_shown meta (db 0) → LacksRow version meta → ¬ HasMetaRow version db
 lacks_row version db [] plain_rows none has =
     let here : IsPermutation (map meta_columns (has.0 ∷ [])) [] = subst (λ rows. IsPermutation (map meta_columns rows) []) has.1 plain_rows in
     absurd (omega (arith, length_permutation _ _ here))
 lacks_row version db (l ∷ []) plain_rows none has =
     let here : IsPermutation (meta_columns has.0 ∷ []) (meta_shown l ∷ []) = subst (λ rows. IsPermutation (map meta_columns rows) (meta_shown l ∷ [])) has.1 plain_rows in
-    none l refl (one_version l has.0 (sym (one_permutation (meta_columns has.0) (meta_shown l ∷ []) here)) has.2)
+    let same = sym (one_permutation (meta_columns has.0) (meta_shown l ∷ []) here) in
+    none l (refl, one_number 0 l has.0 same refl has.2, one_number 1 l has.0 same refl has.3)
 lacks_row version db (l ∷ k ∷ meta) plain_rows none has =
     let here : IsPermutation (map meta_columns (has.0 ∷ [])) (map meta_shown (l ∷ k ∷ meta)) = subst (λ rows. IsPermutation (map meta_columns rows) (map meta_shown (l ∷ k ∷ meta))) has.1 plain_rows in
     absurd (omega (arith, length_permutation _ _ here))
 
-pub fault_lacks : (version : Version) (db : Trees) (meta : List PlainMeta) (why : OpenFault)
-    → ArePlainRows meta_columns meta_shown meta (db 0) → LacksRow version meta why → FaultFits version db why
-fault_lacks version db meta fault.Memory plain_rows lacks = tt
-fault_lacks version db meta fault.Store plain_rows lacks = tt
-fault_lacks version db meta fault.NotADesk plain_rows lacks = lacks_row version db meta plain_rows lacks
-fault_lacks version db meta (fault.Damaged t) plain_rows lacks = absurd lacks
+one_row : (n : ℕ) (day : Value) (rows : List Row) → map meta_columns rows ≡ (Int (pos 1) ∷ Int (pos n) ∷ day ∷ []) ∷ []
+    → (row : Row) × (rows ≡ row ∷ []) × (column (meta_columns row) 0 ≡ Int (pos 1))
+    × (column (meta_columns row) 1 ≡ Int (pos n))
+unfolding head
+one_row n day [] e = absurd (let w = ap length e in omega (arith, w))
+one_row n day (r ∷ []) e =
+    (r, refl, ap (λ (rows : List Row). column (head rows) 0) e, ap (λ (rows : List Row). column (head rows) 1) e)
+one_row n day (r ∷ q ∷ rows) e = absurd (let w = ap length e in omega (arith, w))
+
+-- stored rows have that of meta
+pub stored_meta : {in_order : Bool} {version : Version} (s : Stored) (db : Trees) → AreStoredAs in_order version s db
+    → HasMetaRow version db
+stored_meta {in_order} {version} s db stored =
+    one_row (number_of_version version) (maybe s.day) (db 0)
+    (stored.meta ∙ ap (λ n. (Int (pos 1) ∷ Int n ∷ maybe s.day ∷ []) ∷ []) stored.version_is)
+
+-- and so have those that were read
+meta_only : (of : Version) (t : Tables) (db : Trees) (plain : PlainMeta) → AreRead of t db
+    → IsMetaRow of t.meta.items plain
+    → map meta_columns (db 0) ≡ (Int (pos 1) ∷ Int (pos (number_of_version of)) ∷ maybe plain.day ∷ []) ∷ []
+meta_only of t db plain read meta =
+    let one : IsPermutation (map meta_columns (db 0)) (meta_shown plain ∷ []) =
+    subst (λ ls. ArePlainRows meta_columns meta_shown ls (db 0)) meta.0 read.0.0.0 in
+    let only : map meta_columns (db 0) ≡ meta_shown plain ∷ [] =
+    one_permutation (meta_shown plain) _ (IsPermutation-sym _ _ one) in
+    only ∙ ap (λ n. (Int n ∷ Int plain.version ∷ maybe plain.day ∷ []) ∷ []) meta.1
+    ∙ ap (λ n. (Int (pos 1) ∷ Int n ∷ maybe plain.day ∷ []) ∷ []) meta.2
+
+pub read_meta : (of : Version) (t : Tables) (db : Trees) (plain : PlainMeta) → AreRead of t db
+    → IsMetaRow of t.meta.items plain → HasMetaRow of db
+read_meta of t db plain read meta =
+    one_row (number_of_version of) (maybe plain.day) (db 0) (meta_only of t db plain read meta)
 
 pub small_number : (version : Version) → number_of_version version ≤ 2
 small_number First = omega arith
@@ -172,31 +203,27 @@ inside_plain_rows plain_rows rows same =
     subst (IsPermutation (map inside_columns rows)) (plain_rows_of plain_rows)
     (subst (λ xs. IsPermutation xs (map last_two (map numbered_shown plain_rows))) (fused last_two numbered_columns rows) (IsPermutation-map last_two _ _ same))
 
-pub stored_are : {of : Version} (t : Tables) (db : Trees) (plain : PlainMeta) (version : ℤ)
+pub stored_are : {in_order : Bool} {of : Version} (t : Tables) (db : Trees) (plain : PlainMeta) (version : ℤ)
     (inside : Vec PlainInside Global) → version ≡ pos (number_of_version of) → AreRead of t db
     → IsMetaRow of t.meta.items plain
     → inside.items ≡ map plain_inside t.inside.items
     → let s : Stored = record { version = version; day = plain.day; kinds = t.kinds; rooms = t.rooms; stays = t.stays; codes = t.codes; cards = t.cards; inside = inside; notes = t.notes; fits = t.fits } in
-    all_rise s ≡ true → AreStored of s db
-stored_are t db plain version inside first read meta same up =
-    let one : IsPermutation (map meta_columns (db 0)) (meta_shown plain ∷ []) = subst (λ ls. ArePlainRows meta_columns meta_shown ls (db 0)) meta.0 read.0.0.0 in
-    let only : map meta_columns (db 0) ≡ meta_shown plain ∷ [] = one_permutation (meta_shown plain) _ (IsPermutation-sym _ _ one) in
-    let named : meta_shown plain ≡ Int (pos 1) ∷ Int version ∷ maybe plain.day ∷ [] = ap (λ n. Int n ∷ Int plain.version ∷ maybe plain.day ∷ []) meta.1 ∙ ap (λ n. Int (pos 1) ∷ Int n ∷ maybe plain.day ∷ []) (meta.2 ∙ sym first) in
-    record {
-      version_is = first;
-      meta = only ∙ ap (λ r. r ∷ []) named;
-      kinds = read.0.0.1;
-      rooms = read.0.1.0;
-      stays = read.0.1.1;
-      codes = read.1.0.0.0;
-      cards = read.1.0.0.1;
-      inside =
-          subst (λ ls. ArePlainRows inside_columns inside_shown ls (db 9)) (sym same)
-          (inside_plain_rows t.inside.items (db 9) read.1.0.1.0);
-      notes = read.1.0.1.1;
-      fits = read.1.1;
-      rise = up;
-    }
+    all_rise s ≡ in_order → AreStoredAs in_order of s db
+stored_are {in_order} {of} t db plain version inside first read meta same up = record {
+  version_is = first;
+  meta = meta_only of t db plain read meta ∙ ap (λ n. (Int (pos 1) ∷ Int n ∷ maybe plain.day ∷ []) ∷ []) (sym first);
+  kinds = read.0.0.1;
+  rooms = read.0.1.0;
+  stays = read.0.1.1;
+  codes = read.1.0.0.0;
+  cards = read.1.0.0.1;
+  inside =
+      subst (λ ls. ArePlainRows inside_columns inside_shown ls (db 9)) (sym same)
+      (inside_plain_rows t.inside.items (db 9) read.1.0.1.0);
+  notes = read.1.0.1.1;
+  fits = read.1.1;
+  rise = up;
+}
 
 -- ---- the tables
 
@@ -387,31 +414,41 @@ opened s db found a h =
 
 -- ---- the whole
 
-told : {A : Type 0} {P : Type 0} (r : Result A OpenFault) → P → Told r P
-told (Ok a) p = p
-told (Err fault.Memory) p = tt
-told (Err fault.Store) p = tt
-told (Err fault.NotADesk) p = p
-told (Err (fault.Damaged t)) p = p
+-- of more calls that may have failed
+pub fits_more : {P Q : Type 0} → (P → Q) → (version : Version) (db : Trees) (why : OpenFault)
+    → FaultFits P version db why → FaultFits Q version db why
+fits_more more version db fault.Memory fits = tt
+fits_more more version db fault.Store (inl failed) = inl (more failed)
+fits_more more version db fault.Store (inr unshown) = inr unshown
+fits_more more version db fault.NotADesk fits = fits
+fits_more more version db (fault.Damaged t) fits = fits
 
-pub fault_fits : (version : Version) (db : Trees) (why : LookFault) → FaultFits version db (fault_for why)
-fault_fits version db look.Memory = tt
-fault_fits version db look.Store = tt
+pub fits_call : (P : Type 0) (version : Version) (db : Trees) (why : LookFault) → (why ≡ look.Store → P)
+    → FaultFits P version db (fault_for why)
+fits_call P version db look.Memory failed = tt
+fits_call P version db look.Store failed = inl (failed refl)
 
-told_fault : (A P : Type 0) (why : LookFault) → Told {A = A} (Err (fault_for why)) P
-told_fault A P look.Memory = tt
-told_fault A P look.Store = tt
+pub fits_memory : (P : Type 0) (version : Version) (db : Trees) (why : LookFault) → why ≡ look.Memory
+    → FaultFits P version db (fault_for why)
+fits_memory P version db why is = subst (λ w. FaultFits P version db (fault_for w)) (sym is) tt
+
+always : {A : Type 0} {P : Type 0} (r : Result A OpenFault) → P → OnOk r P
+always (Ok a) p = p
+always (Err e) p = tt
 
 pub opens_to : {version : Version} (old new : State) (t : Tables) (result : Result Found OpenFault)
     → ReadsTo version (AreRead version) old new (Ok t)
     → ((db : Trees) → AreRead version t db → IfOk result (λ found. IsFound version found db))
-    → ((db : Trees) → AreRead version t db → IfErr result (FaultFits version db)) → Opens version old new result
-opens_to old new t result reads ok err = record {
+    → ((db : Trees) → AreRead version t db → IfErr result (FaultFits ⊥ version db)) → Opens version old new result
+opens_to {version} old new t result reads ok err = record {
   ours = reads.ours;
   keeps = reads.keeps;
   found = λ kept. ok old.now.trees (reads.says kept);
-  fault = λ kept. err old.now.trees (reads.says kept);
-  open_on = λ kept clean. told result (reads.open_on tt clean);
+  fault = λ clean.
+      IfErr-weaker result _ _ (λ why. fits_more (λ none. absurd none) version old.now.trees why)
+      (err old.now.trees (reads.says (clean, reads.open_on tt clean)));
+  reading = (Ok t, reads, tt);
+  open_on = λ clean. always result (reads.open_on tt clean);
   crash = reads.crash;
 }
 
@@ -421,7 +458,8 @@ opens_not version old new why reads = record {
   ours = reads.ours;
   keeps = reads.keeps;
   found = λ _. tt;
-  fault = λ kept. fault_fits version old.now.trees why;
-  open_on = λ _ _. told_fault Found (IsTrue new.is_open) why;
+  fault = λ _. fits_call _ version old.now.trees why (λ is. subst (λ w. FailsToRead version old new w) is reads);
+  reading = (Err why, reads, refl);
+  open_on = λ _. tt;
   crash = reads.crash;
 }

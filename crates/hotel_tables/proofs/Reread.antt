@@ -1,7 +1,7 @@
 -- What is read of a desk's tables: each plain row is one that the books write, they have the rows of the tables, and where these are sound no table is damaged.
 use Rattle.std.proofs.Common.{◌≡◌, ℕ, ℤ, pos, negsuc, Bool, true, false, cond, ◌&&◌, not, refl, sym, ap, subst, ◌∙◌}
 use Rattle.std.proofs.Common.{List, [], ◌∷◌, map, length, Option, None, Some, Ordering, Less, Equal, Greater}
-use Rattle.std.proofs.Common.{nat_cmp, is_lt, arith, inl, inr, Err, Vec}
+use Rattle.std.proofs.Common.{nat_cmp, is_lt, arith, inl, inr, Vec}
 use Rattle.std.specs.Prelude.{nat_le, nat_lt, ◌==◌, is_some}
 use Rattle.std.specs.List.{AllByRecursion, list_all}
 use Rattle.std.specs.List.Sorted.{IsPermutation}
@@ -17,7 +17,6 @@ use Rattle.sqlite_value.specs.declared.value.Value.TheVariants.{Null, Int}
 use Rattle.sqlite_rules.specs.Edit.{id_in}
 use Rattle.sqlite.specs.Order.{Row, column}
 use Rattle.sqlite.specs.Tree.{Trees}
-use Rattle.sqlite.specs.State.{State, HasCleanDisk}
 use Rattle.sqlite.proofs.Callers.{one_permutation}
 use Rattle.sqlite_keyed.proofs.ListLemmas.{all_map, all_unmap}
 use Rattle.sqlite_keyed.proofs.SortLemmas.{IsPermutation-sort_by}
@@ -49,7 +48,6 @@ use Rattle.hotel_rows.specs.Stored.{number_of, kind_text, room_entry, stay_entry
 use Rattle.hotel_rows.specs.Stored.{note_entry, fit_entry, first_fit, fits_of, rows_of}
 use Rattle.hotel_rows.specs.Damage as damage
 use Rattle.hotel_rows.specs.Damage.{columns_fit}
-use Rattle.hotel_statements.specs.Books.{IsKept}
 use Rattle.hotel_statements.specs.declared.version.Version.{Version}
 use Rattle.hotel_statements.specs.declared.version.Version.TheVariants.{First, Second}
 use Rattle.hotel_statements.specs.Tables.{AreTablesOf, IsFitTable, IsWrittenAs, by_key, number_of_version}
@@ -57,7 +55,7 @@ use Rattle.hotel_statements.specs.Tables.{rows_of_version}
 use Rattle.hotel_statements.specs.WholeTables.{AreFitRows}
 use Rattle.hotel_statements.specs.PlainRows.{maybe, is_natural, may_be_natural, room_shown, room_natural, stay_shown, stay_natural, code_shown, code_natural, card_shown, card_natural, inside_shown, inside_natural, note_shown, note_natural, fit_shown, fit_natural, ArePlainRows}
 use Rattle.hotel_statements.specs.PlainRows.{kind_natural, kind_order, room_order, stay_order, code_order, card_order, inside_order, note_order, fit_order}
-use Rattle.hotel_tables.specs.Opening.{AreStored, HasMetaRow, FaultFits, IsOfCall, Opens, fits_rise, fits_natural}
+use Rattle.hotel_tables.specs.Opening.{AreStored, HasMetaRow, FaultFits, IsOfCall, fits_rise, fits_natural}
 use Rattle.hotel_tables.specs.Opening.{all_natural}
 use Rattle.hotel_tables.specs.Reopening.{ReadUndamaged}
 use Rattle.hotel_statements.proofs.Keyed.{key_total}
@@ -377,12 +375,22 @@ has_row {version} db t =
     told [] = 0
     told (e ∷ es) = e.1.0
 
+    first : List (ℕ × (ℕ × Option ℕ)) → ℕ
+    first [] = 0
+    first (e ∷ es) = e.0
+
     only : (n : ℕ) (day : Option ℕ) (rows : List Row)
         → AllByRecursion (IsWrittenAs meta_columns meta_of meta_written) rows
         → map (λ r. meta_of (meta_columns r)) rows ≡ (1, (n, day)) ∷ []
-        → (row : Row) × (rows ≡ row ∷ []) × (column (meta_columns row) 1 ≡ Int (pos n))
+        → (row : Row) × (rows ≡ row ∷ []) × (column (meta_columns row) 0 ≡ Int (pos 1))
+        × (column (meta_columns row) 1 ≡ Int (pos n))
     only n day [] good e = absurd (let w = ap length e in omega (arith, w))
-    only n day (r ∷ []) good e = (r, refl, ap (λ (v : Row). column v 1) good.0 ∙ ap (λ n. int n) (ap told e))
+    only n day (r ∷ []) good e = (
+      r,
+      refl,
+      ap (λ (v : Row). column v 0) good.0 ∙ ap (λ n. int n) (ap first e),
+      ap (λ (v : Row). column v 1) good.0 ∙ ap (λ n. int n) (ap told e),
+    )
     only n day (r ∷ q ∷ rows) good e = absurd (let w = ap length e in omega (arith, w))
 
 -- ---- the whole
@@ -397,21 +405,12 @@ read_undamaged version db t = (
 )
 
 -- a fault of sound tables is one of a call
-pub of_a_call : (version : Version) (db : Trees) (why : OpenFault) → AreTablesOf version db
-    → IsSound (rows_of_version version db) → FaultFits version db why → IsOfCall why
-of_a_call version db fault.Memory t sound fits = tt
-of_a_call version db fault.Store t sound fits = tt
-of_a_call version db fault.NotADesk t sound fits = fits (read_undamaged version db t).0
-of_a_call version db (fault.Damaged name) t sound fits =
+pub of_a_call : (failed : Type 0) (version : Version) (db : Trees) (why : OpenFault) → AreTablesOf version db
+    → IsSound (rows_of_version version db) → FaultFits failed version db why → IsOfCall why
+of_a_call failed version db fault.Memory t sound fits = tt
+of_a_call failed version db fault.Store t sound fits = tt
+of_a_call failed version db fault.NotADesk t sound fits = fits (read_undamaged version db t).0
+of_a_call failed version db (fault.Damaged name) t sound fits =
     let none = ((read_undamaged version db t).1 fits.0 fits.1).1 sound in
     let both_are : ◌≡◌ {A = Option _} None (Some name) = sym none ∙ fits.2 in
     cc
-
--- ---- an opening that was refused
-
-pub refused_fits : {version : Version} (old new : State) (why : OpenFault) → Opens version old new (Err why)
-    → IsKept old → HasCleanDisk new → FaultFits version old.now.trees why
-refused_fits old new fault.Memory opens kept clean = tt
-refused_fits old new fault.Store opens kept clean = tt
-refused_fits old new fault.NotADesk opens kept clean = opens.fault (clean, opens.open_on kept clean)
-refused_fits old new (fault.Damaged name) opens kept clean = opens.fault (clean, opens.open_on kept clean)

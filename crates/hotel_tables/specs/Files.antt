@@ -1,6 +1,6 @@
 -- What the opening of a database file gives: its books, or why there are none. And what a close leaves of its files.
-use Rattle.std.specs.Prelude.{◌≡◌, Result, Ok, Err, Option, MatchOption, IsTrue}
-use Rattle.sqlite_disk.specs.declared.Disk.{Ghosts}
+use Rattle.std.specs.Prelude.{◌≡◌, ◌⊎◌, Bool, Result, Ok, Err, Option, MatchOption, IsTrue}
+use Rattle.sqlite_disk.specs.declared.Disk as disk
 use Rattle.sqlite_disk.specs.declared.Files.{Files}
 use Rattle.sqlite_store.specs.declared.store.FileStore.{FileStore}
 use Rattle.sqlite_store.specs.FileStore.{view}
@@ -9,9 +9,12 @@ use Rattle.sqlite.specs.declared.error.ErrorCode.TheVariants.{NotADatabase, Data
 use Rattle.sqlite.specs.declared.error.Error.{Error}
 use Rattle.sqlite.specs.declared.error.Error.TheVariants.{SqliteFailure}
 use Rattle.sqlite.specs.State.{State, HasCleanDisk, Survives}
-use Rattle.sqlite.specs.Held.{Held, IsNew}
+use Rattle.sqlite_trees.specs.declared.store.Store.{Ghosts}
+use Rattle.sqlite.specs.declared.file.Leftover.{Leftover}
+use Rattle.sqlite.specs.Held.{Held, state, IsNew}
 use Rattle.sqlite.specs.Opening.{is_open_error}
-use Rattle.sqlite.specs.Files.{file_state, IsOpened, Finds, IsClosed, FailsToClose}
+use Rattle.sqlite.specs.Files.{over_files, file_state, IsOpened, Finds, IsClosed, FailsToClose}
+use Rattle.sqlite.specs.Files.{IsCleanLeft, FailsToOpenFiles, LeavesFiles}
 use Rattle.sqlite.specs.Closing.{IsCopied}
 use Rattle.hotel_core.specs.Model.Rows.{no_rows}
 use Rattle.hotel_core.specs.Model.Sound.{IsSound}
@@ -20,12 +23,13 @@ use Rattle.hotel_tables.specs.declared.open_fault.OpenFault.TheVariants as fault
 use Rattle.hotel_tables.specs.declared.files.FileFault.{FileFault}
 use Rattle.hotel_tables.specs.declared.files.FileFault.TheVariants.{File, Desk}
 use Rattle.hotel_statements.specs.Schema.{no_schema, first_schema}
-use Rattle.hotel_statements.specs.Books.{IsKept, KeepsRows}
+use Rattle.hotel_statements.specs.Books.{IsKept}
 use Rattle.hotel_statements.specs.Tables.{rows_in}
 use Rattle.hotel_statements.specs.NewDesk.{IsEmptyDesk}
 use Rattle.hotel_tables.specs.Applied.{LeavesAll}
-use Rattle.hotel_tables.specs.Opening.{IsOfVersion, IsSoundDesk, Continues, IsUpgraded, FaultFitsIn}
-use Rattle.hotel_tables.specs.Opening.{IsOfCall, NamesNoTable}
+use Rattle.hotel_tables.specs.Opening.{IsOfVersion, Continues, IsUpgraded}
+use Rattle.hotel_tables.specs.Exits.{LeavesBare, LeavesDatabase}
+use Rattle.hotel_tables.specs.Paths.{IsPathError, AreParts}
 
 -- the fault of a file whose opening failed
 abbrev pub file_fault : Error → FileFault
@@ -49,42 +53,34 @@ pub record AreBooksOf (old new : State) : Type 0 where
   pub whole : old.now.schema ≡ first_schema → IsKept new → LeavesAll new
   -- the rows are sound
   pub sound : IsKept new → IsSound (rows_in new.now.trees)
+  -- the connection is open where its disk returned what was written
+  pub vouched : HasCleanDisk new → IsKept new
 
--- Why a database that had tables gave no books, from its state then to that in which it is left.
-pub record LeavesDatabase (old new : State) (why : OpenFault) : Type 0 where
-  -- no row is changed, and a crash leaves what it could leave before, or the whole desk that was to be made of one of
-  -- the first version
-  pub same : KeepsRows old new
-  pub crash : IsKept old → Survives old new (IsUpgraded old.now)
-  -- over a desk's tables: a table is called damaged where it is the first that is, and it is no desk's for want of meta's one row
-  pub fits : IsKept old → HasCleanDisk new → FaultFitsIn old.now why
-  -- tables that books kept are never refused
-  pub kept : IsKept old → HasCleanDisk new → IsSoundDesk old → IsOfCall why
+-- Why a database that was opened gave no books, from its connection to the one that is given back.
+pub record IsWhyNone {S : Type 0} (g : Ghosts S) (old new : Held S) (why : OpenFault) : Type 0 where
+  -- it has nothing: no desk could be made of it
+  pub bare : (state g old).now.schema ≡ no_schema → LeavesBare g old new why
+  -- it has tables
+  pub found : ¬ ((state g old).now.schema ≡ no_schema) → LeavesDatabase g old new why
 
--- Why a database that was opened gave no books.
-pub record IsWhyNone {S : Type 0} (shown : Held S → State) (old : State) (why : OpenFault) (left : Option (Held S)) : Type 0 where
-  -- it has nothing: memory was wanting, or a call of the store failed
-  pub bare : old.now.schema ≡ no_schema → IsOfCall why
-  -- its tables are no desk's: none is called damaged
-  pub foreign : ¬ IsOfVersion old.now.schema → NamesNoTable why
-  -- the connection is dropped only where the database had nothing
-  pub leaves : MatchOption left (old.now.schema ≡ no_schema) (λ c. LeavesDatabase old (shown c) why)
-
--- Why there are no books, by what the opening answered: the fault of its error, or why its database gave none. So File comes of an error alone.
-abbrev pub IsFaultOf : {S : Type 0} → (Held S → State) → Result (Held S) Error → FileFault → Option (Held S) → Type 0
-IsFaultOf shown (Err e) f left = f ≡ file_fault e
-IsFaultOf shown (Ok c) f left = (why : OpenFault) × (f ≡ Desk why) × IsWhyNone shown (shown c) why left
-
-module _ {D : Type 0} {g : Ghosts D} where
-  -- what an opening promises of its answer: an error is one that openings have, and a connection is new, and open with nothing uncommitted where its disk is clean
-  abbrev pub IsAnswer : Result (Held (FileStore D g)) Error → Type 0
-  IsAnswer (Ok c) = IsNew c × (HasCleanDisk (file_state c) → IsOpened c)
-  IsAnswer (Err e) = IsTrue (is_open_error e)
+module _ {D : Type 0} {g : disk.Ghosts D} (is_part : Bool → D → Type 0) where
+  -- What an opening promises of its answer. A connection is new, over a log and a database's file; where its disk is
+  -- clean it is open, with nothing uncommitted, and has what the files held. An error comes before there are files, or
+  -- has its cause in what they hold or in a call of theirs that failed, and says what is left of them.
+  abbrev pub IsAnswer : Result (Held (FileStore D g)) (Error × Option (Leftover D g)) → Type 0
+  IsAnswer (Ok c) =
+      (files : Files D) × AreParts is_part files × IsNew c
+      × (HasCleanDisk (file_state c) → IsOpened c × Finds files c)
+  IsAnswer (Err e) =
+      IsTrue (is_open_error e.0)
+      × MatchOption e.1 (IsPathError e.0) (λ left. (files : Files D) × AreParts is_part files
+      × (IsCleanLeft left → FailsToOpenFiles files left e.0 × LeavesFiles files left))
 
   -- the books' connection is that of an opening
   abbrev pub AreOfOpening : Held (FileStore D g) → Type 0
   AreOfOpening conn = (opened : Held (FileStore D g)) × IsAnswer (Ok opened) × AreBooksOf (file_state opened) (file_state conn)
 
+module _ {D : Type 0} {g : disk.Ghosts D} where
   -- Where the disks of both files gave back what was written: the files hold what the connection last committed, and so does each connection that an opening finds in them.
   abbrev pub HoldBooks : Held (FileStore D g) → Files D → Type 0
   HoldBooks conn files =
@@ -99,6 +95,10 @@ module _ {D : Type 0} {g : Ghosts D} where
   abbrev pub FailsToCopy : Held (FileStore D g) → Error → Type 0
   FailsToCopy conn e = (last : FileStore D g) × LeavesLog conn last e
 
--- the fault is that of an opening
-abbrev pub IsOfOpening : {D : Type 0} → Ghosts D → FileFault → Type 0
-IsOfOpening {D} g f = (opened : Result (Held (FileStore D g)) Error) × (left : Option (Held (FileStore D g))) × IsAnswer opened × IsFaultOf file_state opened f left
+-- The fault is that of an opening: of its error, so that File comes of an error alone, or of why the database that it
+-- gave has no books, with the connection as it is then dropped.
+abbrev pub IsOfOpening : {D : Type 0} → disk.Ghosts D → (Bool → D → Type 0) → FileFault → Type 0
+IsOfOpening {D} g is_part f =
+    ((e : Error × Option (Leftover D g)) × IsAnswer is_part (Err e) × (f ≡ file_fault e.0))
+    ⊎ ((opened last : Held (FileStore D g)) × (why : OpenFault) × IsAnswer is_part (Ok opened) × (f ≡ Desk why)
+    × IsWhyNone over_files opened last why)

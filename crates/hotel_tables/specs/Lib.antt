@@ -6,5 +6,7 @@ pub mod Applied
 pub mod Counted
 pub mod TableBooks
 pub mod Opening
+pub mod Exits
 pub mod Reopening
+pub mod Paths
 pub mod Files

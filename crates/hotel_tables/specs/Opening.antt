@@ -1,7 +1,8 @@
 -- What is tested of the tables that are read when books are opened, and what opening promises.
 use Rattle.std.specs.Prelude.{◌≡◌, ◌⊎◌, ◌&&◌, ℤ, pos, Bool, true, false, List, [], ◌∷◌, map, Option, Some, None, Vec}
-use Rattle.std.specs.Prelude.{Result, Ok, Err, IfOk, IfErr, OnOk, OnErr, IsTrue}
+use Rattle.std.specs.Prelude.{Result, Err, IfOk, IfErr, OnOk, OnErr, IsTrue}
 use Rattle.std.specs.List.{list_all, AllByRecursion}
+use Rattle.std.specs.Ordering.{int_cmp}
 use Rattle.std.specs.declared.alloc.Global.{Global}
 use Rattle.sqlite_value.specs.declared.value.Value.TheVariants.{Int}
 use Rattle.sqlite.specs.Order.{Row, column}
@@ -33,9 +34,12 @@ use Rattle.hotel_rows.specs.Damage.{first_damaged_of}
 use Rattle.hotel_statements.specs.declared.version.Version.{Version}
 use Rattle.hotel_statements.specs.declared.version.Version.TheVariants.{First, Second}
 use Rattle.hotel_statements.specs.Schema.{first_schema, desk_schema, schema_of}
-use Rattle.hotel_statements.specs.Tables.{HasId, AreApartIds, AreTablesOf, number_of_version, rows_in, rows_of_version}
+use Rattle.hotel_statements.specs.Tables.{HasId, AreApart, AreApartIds, AreTablesOf, number_of_version, rows_in}
+use Rattle.hotel_statements.specs.Tables.{rows_of_version}
 use Rattle.hotel_statements.specs.Books.{IsKept, IsBooks, IsDesk, KeepsRows}
-use Rattle.hotel_statements.specs.WholeTables.{IsOurs, AreFitRows}
+use Rattle.hotel_statements.specs.LookUps.{LeavesNoMore}
+use Rattle.hotel_statements.specs.WholeTables.{IsOurs, AreFitRows, AreRead, ReadsTo}
+use Rattle.hotel_statements.specs.declared.whole_tables.Tables.{Tables}
 use Rattle.hotel_statements.specs.Upgrade.{IsFirstDesk, AreRoomsIn, IsUpgradeOf}
 use Rattle.hotel_tables.specs.Applied.{LeavesAll}
 use Rattle.hotel_tables.specs.TableBooks.{IsCounted}
@@ -68,12 +72,8 @@ abbrev pub IsMetaRow : Version → List PlainMeta → PlainMeta → Type 0
 IsMetaRow version meta plain =
     (meta ≡ plain ∷ []) × (plain.id ≡ pos 1) × (plain.version ≡ pos (number_of_version version))
 
-abbrev pub LacksRow : Version → List PlainMeta → OpenFault → Type 0
-LacksRow version meta fault.Memory = Unit {0}
-LacksRow version meta fault.Store = Unit {0}
-LacksRow version meta fault.NotADesk =
-    (plain : PlainMeta) → meta ≡ plain ∷ [] → ¬ (plain.version ≡ pos (number_of_version version))
-LacksRow version meta (fault.Damaged t) = ⊥
+abbrev pub LacksRow : Version → List PlainMeta → Type 0
+LacksRow version meta = (plain : PlainMeta) → ¬ IsMetaRow version meta plain
 
 abbrev pub id_inside : NumberedInside → ℤ
 id_inside l = l.id
@@ -81,8 +81,9 @@ id_inside l = l.id
 abbrev pub plain_inside : NumberedInside → PlainInside
 plain_inside l = l.plain
 
--- The plain rows are those of the tables of a version, each in the order of its key, and meta has its one row.
-pub record AreStored (version : Version) (s : Stored) (db : Trees) : Type 0 where
+-- The plain rows are those of the tables of a version, and meta has its one row; whether each table is in the order of
+-- its key.
+pub record AreStoredAs (in_order : Bool) (version : Version) (s : Stored) (db : Trees) : Type 0 where
   pub version_is : s.version ≡ pos (number_of_version version)
   pub meta : map meta_columns (db 0) ≡ (Int (pos 1) ∷ Int s.version ∷ maybe s.day ∷ []) ∷ []
   pub kinds : ArePlainRows kind_columns kind_shown s.kinds.items (db 1)
@@ -93,27 +94,46 @@ pub record AreStored (version : Version) (s : Stored) (db : Trees) : Type 0 wher
   pub inside : ArePlainRows inside_columns inside_shown s.inside.items (db 9)
   pub notes : ArePlainRows note_columns note_shown s.notes.items (db 11)
   pub fits : AreFitRows version s.fits db
-  pub rise : all_rise s ≡ true
+  pub rise : all_rise s ≡ in_order
+
+-- each is in the order of its key
+abbrev pub AreStored : Version → Stored → Trees → Type 0
+AreStored = AreStoredAs true
 
 -- the rows of those inside have numbers, no two the same
 abbrev pub AreApartInside : Trees → Type 0
 AreApartInside db = AllByRecursion HasId (db 9) × AreApartIds (db 9)
 
--- meta has exactly one row, of this version
+-- meta has exactly one row, the first, of this version
 abbrev pub HasMetaRow : Version → Trees → Type 0
 HasMetaRow version db =
-    (row : Row) × (db 0 ≡ row ∷ []) × (column (meta_columns row) 1 ≡ Int (pos (number_of_version version)))
+    (row : Row) × (db 0 ≡ row ∷ []) × (column (meta_columns row) 0 ≡ Int (pos 1))
+    × (column (meta_columns row) 1 ≡ Int (pos (number_of_version version)))
 
--- what a fault says of the tables of a version
-abbrev pub FaultFits : Version → Trees → OpenFault → Type 0
-FaultFits version db fault.Memory = Unit {0}
-FaultFits version db fault.Store = Unit {0}
-FaultFits version db fault.NotADesk = ¬ HasMetaRow version db
-FaultFits version db (fault.Damaged t) = (s : Stored) × AreStored version s db × (first_damaged_of s ≡ Some t)
+-- What was read is nothing that a query shows of the tables of a version, or that the rules leave: two rows inside have
+-- one number, a table isn't in the order of its key, or a number is below 0 though no table is damaged.
+abbrev pub IsUnshown : Version → Trees → Type 0
+IsUnshown version db =
+    ((t : Tables) × AreRead version t db × (¬ AreApart int_cmp (map id_inside t.inside.items)))
+    ⊎ (((s : Stored) × AreStoredAs false version s db)
+    ⊎ ((s : Stored) × AreStored version s db × (first_damaged_of s ≡ None) × (all_natural s ≡ false)))
 
--- what a fault says of a database that has the tables of a version
-abbrev pub FaultFitsIn : Database → OpenFault → Type 0
-FaultFitsIn db why = (version : Version) → db.schema ≡ schema_of version → FaultFits version db.trees why
+-- What a fault says of the tables of a version, where this is what it says of the calls: Store is told where a call
+-- failed, or of rows that no query shows; and never of tables that lack the row of meta.
+abbrev pub FaultFits : Type 0 → Version → Trees → OpenFault → Type 0
+FaultFits failed version db fault.Memory = Unit {0}
+FaultFits failed version db fault.Store = failed ⊎ (HasMetaRow version db × IsUnshown version db)
+FaultFits failed version db fault.NotADesk = ¬ HasMetaRow version db
+FaultFits failed version db (fault.Damaged t) = (s : Stored) × AreStored version s db × (first_damaged_of s ≡ Some t)
+
+-- what a fault says of a database that has the tables of a version, where this is what it says of the calls
+abbrev pub FaultFitsIn : (Version → Type 0) → Database → OpenFault → Type 0
+FaultFitsIn failed db why =
+    (version : Version) → db.schema ≡ schema_of version → FaultFits (failed version) version db.trees why
+
+-- the reading of the tables of a version failed for this cause
+abbrev pub FailsToRead : Version → State → State → LookFault → Type 0
+FailsToRead version old new why = ReadsTo version (AreRead version) old new (Err why)
 
 -- the tables are those of a desk, of one of the versions
 abbrev pub IsOfVersion : Schema → Type 0
@@ -145,24 +165,16 @@ IsOfCall fault.Store = Unit {0}
 IsOfCall fault.NotADesk = ⊥
 IsOfCall (fault.Damaged t) = ⊥
 
--- no table is called damaged
-abbrev pub NamesNoTable : OpenFault → Type 0
-NamesNoTable fault.Memory = Unit {0}
-NamesNoTable fault.Store = Unit {0}
-NamesNoTable fault.NotADesk = Unit {0}
-NamesNoTable (fault.Damaged t) = ⊥
+-- it is no desk's, or memory was wanting
+abbrev pub IsNoDesk : OpenFault → Type 0
+IsNoDesk fault.Memory = Unit {0}
+IsNoDesk fault.Store = ⊥
+IsNoDesk fault.NotADesk = Unit {0}
+IsNoDesk (fault.Damaged t) = ⊥
 
 abbrev pub fault_for : LookFault → OpenFault
 fault_for look.Memory = fault.Memory
 fault_for look.Store = fault.Store
-
--- the fact, but where memory was wanting or the store failed
-abbrev pub Told : {A : Type 0} → Result A OpenFault → Type 0 → Type 0
-Told (Ok a) P = P
-Told (Err fault.Memory) P = Unit {0}
-Told (Err fault.Store) P = Unit {0}
-Told (Err fault.NotADesk) P = P
-Told (Err (fault.Damaged t)) P = P
 
 -- What is found in the trees of a version's tables, whose rows are sound: what books count of these, and the rooms.
 pub record IsFound (version : Version) (found : Found) (db : Trees) : Type 0 where
@@ -171,20 +183,24 @@ pub record IsFound (version : Version) (found : Found) (db : Trees) : Type 0 whe
   pub rooms : AreRoomsIn found.rooms.items db
 
 -- What the reading of a version's tables promises, of a connection from old to new: what is found there, and what a
--- fault says of the tables.
+-- fault says of the tables. Where it is answered over a disk that returned what was written, the connection is open.
 -- It changes no row, and a crash in it leaves nothing new.
 pub record Opens (version : Version) (old new : State) (result : Result Found OpenFault) : Type 0 where
   pub ours : IsOurs version new
   pub keeps : KeepsRows old new
   pub found : IsKept new → IfOk result (λ found. IsFound version found old.now.trees)
-  pub fault : IsKept new → IfErr result (FaultFits version old.now.trees)
-  pub open_on : IsKept old → HasCleanDisk new → Told result (IsTrue new.is_open)
-  pub crash : Survives old new (λ _. IsKept old → ⊥)
+  pub fault : HasCleanDisk new → IfErr result (FaultFits (FailsToRead version old new look.Store) version old.now.trees)
+  -- a reading that failed is told by its cause
+  pub reading : (r : Result Tables LookFault) × ReadsTo version (AreRead version) old new r
+      × IfErr r (λ why. result ≡ Err (fault_for why))
+  pub open_on : HasCleanDisk new → OnOk result (IsTrue new.is_open)
+  pub crash : LeavesNoMore old new
 
 -- What the opening of a desk promises, of a connection from old to new: its books, what is counted of their rows, and
--- what a fault says of the tables. A crash in it, or after it, leaves what it could leave before, or the whole desk
--- that is made of one of the first version.
-pub record Enters (old new : State) (result : Result Counts OpenFault) : Type 0 where
+-- what a fault says of the tables, where this is what it says of the calls. Where it is answered over a disk that
+-- returned what was written, the connection is open. A crash in it, or after it, leaves what it could leave before, or
+-- the whole desk that is made of one of the first version.
+pub record Enters (failed : Version → Type 0) (old new : State) (result : Result Counts OpenFault) : Type 0 where
   pub autocommit : new.in_transaction ≡ false
   pub books : OnOk result (IsBooks new)
   pub was : IsKept new → IsKept old
@@ -193,7 +209,8 @@ pub record Enters (old new : State) (result : Result Counts OpenFault) : Type 0 
   pub whole : old.now.schema ≡ first_schema → IsKept new → OnOk result (LeavesAll new)
   pub same : IsKept new → OnErr result (new.now ≡ old.now)
   pub counted : IsKept new → IfOk result (λ c. IsCounted c.kinds c.nights (rows_in new.now.trees))
-  pub fault : IsKept old → HasCleanDisk new → IfErr result (FaultFitsIn old.now)
+  pub open_on : HasCleanDisk new → OnOk result (IsTrue new.is_open)
+  pub fault : HasCleanDisk new → IfErr result (FaultFitsIn failed old.now)
   pub crash : IsKept old → Survives old new (IsUpgraded old.now)
 
 -- Over this store nothing but its own calls writes, as in memory: each state of a connection is clean.

@@ -1,13 +1,39 @@
 //! A new desk: nine tables, two indexes and the one row of meta, in one transaction.
-ghost use Rattle.std.specs.Prelude.{◌≡◌, IsTrue, OnOk, false};
+ghost use Rattle.std.specs.Prelude.{◌≡◌, ◌↔◌, IsTrue, OnOk, OnErr, IfOk, IfErr, Err, false};
 ghost use Rattle.sqlite.specs.Held.{state};
-ghost use Rattle.sqlite.specs.State.{Survives};
+ghost use Rattle.sqlite.specs.State.{HasCleanDisk, KeepsCommit, Survives};
+ghost use Rattle.hotel_core.specs.Model.Rows.{no_rows};
 ghost use Rattle.hotel_statements.specs.Schema.{no_schema};
 ghost use Rattle.hotel_statements.specs.Books.{IsKept, IsBooks};
-ghost use Rattle.hotel_statements.specs.NewDesk.{IsEmptyDesk};
+ghost use Rattle.hotel_statements.specs.NewDesk.{IfOpen, IsBare, IsMade, IsEmptyDesk};
+ghost use Rattle.hotel_statements.specs.Statements.{RunsStatements};
+ghost use Rattle.hotel_statements.specs.Tables.{rows_in};
+ghost use Rattle.hotel_tables.specs.declared.open_fault.OpenFault.TheVariants.{NotADesk};
+ghost use Rattle.hotel_tables.specs.Exits.{makes_desk, FailsToMake, LeavesBare};
 
+use crate::open_fault::OpenFault;
+use crate::opening::open_fault;
+use crate::table_books::TableBooks;
+use hotel_core::{KindRooms, NightIndex};
+use hotel_statements::fault_of;
 use hotel_statements::new_desk::{enter_meta, make_first, make_last};
-use sqlite::{Alter, Connection, Error};
+use sqlite::{Alter, Connection, Error, Transaction};
+use std::alloc::Global;
+
+/// Runs the statements that make a desk, within a transaction.
+fn write_desk<S: Alter>(tx: &mut Transaction<'_, S>) -> Result<(), Error>
+    ensures same_reference { tx.new.conn.ghost_name ≡ tx.old.conn.ghost_name }
+    ensures answers { RunsStatements S.Store makes_desk tx.old.conn.now tx.new.conn.now result }
+    ensures made { HasCleanDisk (state S.Store tx.new.conn.now) → OnOk result
+        (IfOpen (IsBare no_schema) IsMade (state S.Store tx.old.conn.now) (state S.Store tx.new.conn.now)) }
+    ensures kept { HasCleanDisk (state S.Store tx.new.conn.now) →
+        KeepsCommit (state S.Store tx.old.conn.now) (state S.Store tx.new.conn.now) }
+    ensures survives { Survives (state S.Store tx.old.conn.now) (state S.Store tx.new.conn.now) (λ _. ⊥) }
+{
+    make_first(tx)?;
+    make_last(tx)?;
+    enter_meta(tx)
+}
 
 /// Makes an empty desk of a database that has nothing, or leaves it so.
 pub(crate) fn make_desk<S: Alter>(conn: &mut Connection<S>) -> Result<(), Error>
@@ -16,11 +42,62 @@ pub(crate) fn make_desk<S: Alter>(conn: &mut Connection<S>) -> Result<(), Error>
     ensures books { OnOk result (IsBooks (state S.Store conn.new)) }
     ensures made { IsKept (state S.Store conn.new) → OnOk result (IsEmptyDesk (state S.Store conn.new).now.trees) }
     ensures was { IsKept (state S.Store conn.new) → IsKept (state S.Store conn.old) }
+    ensures open_on { HasCleanDisk (state S.Store conn.new) → OnOk result (IsTrue (state S.Store conn.new).is_open) }
     ensures crash { Survives (state S.Store conn.old) (state S.Store conn.new) IsEmptyDesk }
+    ensures outside { conn.new.in_transaction ≡ false }
+    ensures same { IsKept (state S.Store conn.new) → OnErr result
+        ((state S.Store conn.new).now ≡ (state S.Store conn.old).now) }
+    ensures failed { IfErr result (FailsToMake S.Store conn.old conn.new) }
 {
+    // Outside a transaction nothing is uncommitted.
+    let _settled = conn.is_autocommit();
     let mut tx = conn.transaction();
-    make_first(&mut tx)?;
-    make_last(&mut tx)?;
-    enter_meta(&mut tx)?;
+    write_desk(&mut tx)?;
     tx.commit()
+}
+
+/// Whether the database has no tables, indexes or views: its file is missing or empty, or the making of a desk was cut
+/// short.
+pub(crate) fn is_bare<S: Alter>(conn: &Connection<S>) -> bool
+    ensures { IsTrue result ↔ ((state S.Store conn.now).now.schema ≡ no_schema) }
+{
+    let schema = conn.schema();
+    schema.tables.len() == 0 && schema.indexes.len() == 0 && schema.views.len() == 0
+}
+
+impl<S: Alter + Drop> TableBooks<S> {
+    /// Makes an empty desk of a database that has nothing, in one transaction.
+    ///
+    /// On a fault the connection is given back.
+    pub fn create_or_return(
+        alloc: Global,
+        mut conn: Connection<S>,
+    ) -> Result<TableBooks<S>, (OpenFault, Connection<S>)>
+        requires { (state S.Store conn).in_transaction ≡ false }
+        ensures empty { IfOk result (λ b. IsKept (state S.Store b.conn)
+            → rows_in (state S.Store b.conn).now.trees ≡ no_rows) }
+        ensures unfailed { IfOk result (λ b. (b.memory ≡ 0) × (b.store ≡ 0)) }
+        ensures was { IfOk result (λ b. IsKept (state S.Store b.conn) → IsKept (state S.Store conn)) }
+        ensures vouched { IfOk result (λ b. HasCleanDisk (state S.Store b.conn) → IsKept (state S.Store b.conn)) }
+        ensures crash { IfOk result (λ b. Survives (state S.Store conn) (state S.Store b.conn) IsEmptyDesk) }
+        ensures left { (state S.Store conn).now.schema ≡ no_schema
+            → IfErr result (λ e. LeavesBare S.Store conn e.1 e.0) }
+        ensures taken { ¬ ((state S.Store conn).now.schema ≡ no_schema) → result ≡ Err (NotADesk, conn) }
+    {
+        if !is_bare(&conn) {
+            return Err((OpenFault::NotADesk, conn));
+        }
+        if let Err(error) = make_desk(&mut conn) {
+            return Err((open_fault(fault_of(error)), conn));
+        }
+        Ok(TableBooks {
+            alloc,
+            conn,
+            kinds: KindRooms::empty(alloc),
+            nights: NightIndex::empty(alloc),
+            answers: false,
+            memory: 0,
+            store: 0,
+        })
+    }
 }

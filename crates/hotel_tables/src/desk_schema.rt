@@ -3,13 +3,14 @@ ghost use Rattle.std.specs.Prelude.{◌≡◌, true, IfOk, IfErr};
 ghost use Rattle.sqlite.specs.Held.{state};
 ghost use Rattle.sqlite.specs.Steps.{over_memory};
 ghost use Rattle.hotel_statements.specs.Schema.{first_schema, desk_schema, schema_of};
-ghost use Rattle.hotel_tables.specs.Opening.{IsOfVersion, IsOfCall, NamesNoTable};
+ghost use Rattle.hotel_tables.specs.declared.open_fault.OpenFault.TheVariants as fault;
+ghost use Rattle.hotel_tables.specs.Opening.{IsOfVersion, IsNoDesk};
 
 use crate::create::make_desk;
 use crate::open_fault::OpenFault;
+use hotel_statements::Version;
 use hotel_statements::same_schema::{same_front, same_schema};
-use hotel_statements::{Version, fault_of};
-use keycard_rules::LookFault;
+use keycard_rules::Memory;
 use sqlite::{Alter, Connection, MemStore};
 use std::alloc::Global;
 
@@ -19,20 +20,16 @@ const FIRST_TABLES: usize = 8;
 const FIRST_INDEXES: usize = 5;
 
 /// An empty desk in memory.
-fn desk_in_memory(alloc: Global) -> Result<Connection<MemStore>, OpenFault>
+fn desk_in_memory(alloc: Global) -> Result<Connection<MemStore>, Memory>
     ensures ok { IfOk result (λ conn. (state over_memory conn).now.schema ≡ desk_schema) }
-    ensures err { IfErr result IsOfCall }
-    ensures unnamed { IfErr result NamesNoTable }
 {
     let Ok(mut conn) = Connection::open_in_memory(alloc) else {
-        return Err(OpenFault::Memory);
+        return Err(Memory);
     };
     match make_desk(&mut conn) {
         Ok(()) => Ok(conn),
-        Err(error) => Err(match fault_of(error) {
-            LookFault::Memory => OpenFault::Memory,
-            LookFault::Store => OpenFault::Store,
-        }),
+        // A store in memory fails for want of memory alone.
+        Err(_) => Err(Memory),
     }
 }
 
@@ -62,12 +59,11 @@ pub(crate) fn version_of<S: Alter>(
     conn: &Connection<S>,
 ) -> Result<Version, OpenFault>
     ensures ok { IfOk result (λ version. (state S.Store conn.now).now.schema ≡ schema_of version) }
-    ensures err { IsOfVersion (state S.Store conn.now).now.schema → IfErr result IsOfCall }
-    ensures unnamed { IfErr result NamesNoTable }
+    ensures err { IsOfVersion (state S.Store conn.now).now.schema → IfErr result (λ why. why ≡ fault.Memory) }
+    ensures foreign { IfErr result IsNoDesk }
 {
-    let desk = match desk_in_memory(alloc) {
-        Ok(desk) => desk,
-        Err(why) => return Err(why),
+    let Ok(desk) = desk_in_memory(alloc) else {
+        return Err(OpenFault::Memory);
     };
     if has_tables_of(conn, &desk) {
         return Ok(Version::Second);

@@ -1,15 +1,15 @@
 //! The books of a database file, opened and closed.
-ghost use Rattle.std.specs.Prelude.{◌≡◌, codes, false, Err, None, IsTrue, IfOk, IfErr};
-ghost use Rattle.sqlite.specs.State.{HasCleanDisk};
-ghost use Rattle.sqlite.specs.Held.{state, IsNew};
-ghost use Rattle.sqlite.specs.Opening.{is_open_error};
-ghost use Rattle.sqlite.specs.Files.{file_state, IsOpened};
-ghost use Rattle.hotel_tables.specs.Files.{file_fault, AreBooksOf, IsFaultOf, AreOfOpening, IsOfOpening, HoldBooks, LeavesLog, FailsToCopy};
+ghost use Rattle.std.specs.Prelude.{◌≡◌, false, Err, None, IsTrue, IfOk, IfErr};
+ghost use Rattle.sqlite.specs.Held.{state};
+ghost use Rattle.hotel_tables.specs.Paths.{is_no_path, IsPathError, AreParts};
+ghost use Rattle.hotel_tables.specs.Files.{file_fault, AreBooksOf, IsWhyNone, IsAnswer, AreOfOpening, IsOfOpening};
+ghost use Rattle.hotel_tables.specs.Files.{HoldBooks, LeavesLog, FailsToCopy};
 
+use crate::create::is_bare;
 use crate::open_fault::OpenFault;
 use crate::path_disk::PathDisk;
-use crate::table_books::{TableBooks, is_bare};
-use sqlite::{Alter, Connection, Error, ErrorCode, FileStore, Files, Options};
+use crate::table_books::TableBooks;
+use sqlite::{Alter, Connection, Error, ErrorCode, FileStore, Files, Leftover, Options};
 use sqlite_disk::Disk;
 use std::alloc::Global;
 use std::hash::{BuildHasher, RandomState};
@@ -42,40 +42,27 @@ fn file_fault(error: Error) -> FileFault
     }
 }
 
-/// The books over what the opening of a database answered. Where the database has nothing, they are made.
-///
-/// With a fault comes the connection, where the database had something. It holds what it held.
+/// The books over a database that was opened. Where it has nothing, they are made.
 fn books_of<S: Alter + Drop>(
     alloc: Global,
-    opened: Result<Connection<S>, Error>,
-) -> Result<TableBooks<S>, (FileFault, Option<Connection<S>>)>
-    requires alone { IfOk opened (λ c. (state S.Store c).in_transaction ≡ false) }
-    ensures books { IfOk result (λ b. IfOk opened (λ c. AreBooksOf (state S.Store c) (state S.Store b.conn))) }
+    conn: Connection<S>,
+) -> Result<TableBooks<S>, (OpenFault, Connection<S>)>
+    requires alone { (state S.Store conn).in_transaction ≡ false }
+    ensures books { IfOk result (λ b. AreBooksOf (state S.Store conn) (state S.Store b.conn)) }
     ensures unfailed { IfOk result (λ b. (b.memory ≡ 0) × (b.store ≡ 0)) }
-    ensures fault { IfErr result (λ e. IsFaultOf (state S.Store) opened e.0 e.1) }
-    ensures failed { IfErr opened (λ e. result ≡ Err (file_fault e, None)) }
+    ensures fault { IfErr result (λ e. IsWhyNone S.Store conn e.1 e.0) }
 {
-    let conn = match opened {
-        Ok(conn) => conn,
-        Err(error) => return Err((file_fault(error), None)),
-    };
     if is_bare(&conn) {
-        match TableBooks::create(alloc, conn) {
-            Ok(made) => Ok(made),
-            Err(why) => Err((FileFault::Desk(why), None)),
-        }
+        TableBooks::create_or_return(alloc, conn)
     } else {
-        match TableBooks::open_or_return(alloc, conn) {
-            Ok(found) => Ok(found),
-            Err((why, conn)) => Err((FileFault::Desk(why), Some(conn))),
-        }
+        TableBooks::open_or_return(alloc, conn)
     }
 }
 
 /// The options of a connection, with a salt that is drawn at random for its log.
 fn drawn_options(rt: &HostRuntime) -> Result<Options, Error>
     ensures log { IfOk result (λ options. options.checkpoint_frames ≡ 4000) }
-    ensures named { IfErr result (λ e. IsTrue (is_open_error e)) }
+    ensures refused { IfErr result (λ e. e ≡ Error.SqliteFailure ErrorCode.CannotOpen) }
 {
     let Ok(state) = RandomState::new(rt) else {
         return Err(Error::SqliteFailure(ErrorCode::CannotOpen));
@@ -85,39 +72,61 @@ fn drawn_options(rt: &HostRuntime) -> Result<Options, Error>
     Ok(options)
 }
 
-/// The connection to the database of the files at a path.
-fn connect<D: PathDisk>(rt: &HostRuntime, path: &str) -> Result<Connection<FileStore<D>>, Error>
-    ensures memory { path.now ≡ codes ":memory:" → result ≡ Err (Error.SqliteFailure ErrorCode.CannotOpen) }
-    ensures named { IfErr result (λ e. IsTrue (is_open_error e)) }
-    ensures opened { IfOk result (λ c. HasCleanDisk (file_state c) → IsOpened c) }
-    ensures fresh { IfOk result IsNew }
+/// What a database is opened with: the files at a path, and options.
+fn files_at<D: PathDisk>(rt: &HostRuntime, path: &str) -> Result<(Files<D>, Options), Error>
+    ensures refused { IsTrue (is_no_path path.now) → result ≡ Err (Error.SqliteFailure ErrorCode.CannotOpen) }
+    ensures kind { IfErr result IsPathError }
+    ensures parts { IfOk result (λ opened. AreParts D.PathDisk.is_part opened.0) }
+    ensures log { IfOk result (λ opened. IsTrue (D.Disk.is_usable opened.0.log)) }
+    ensures db { IfOk result (λ opened. IsTrue (D.Disk.is_usable opened.0.db)) }
 {
     let files = D::open(rt, path)?;
     let options = drawn_options(rt)?;
+    Ok((files, options))
+}
+
+/// The connection to the database of the files at a path; with an error comes what is left of the files, once they were
+/// opened.
+fn connect<D: PathDisk>(
+    rt: &HostRuntime,
+    path: &str,
+) -> Result<Connection<FileStore<D>>, (Error, Option<Leftover<D>>)>
+    ensures refused { IsTrue (is_no_path path.now) → result ≡ Err (Error.SqliteFailure ErrorCode.CannotOpen, None) }
+    ensures answer { IsAnswer D.PathDisk.is_part result }
+{
+    let (files, options) = match files_at(rt, path) {
+        Ok(opened) => opened,
+        Err(error) => return Err((error, None)),
+    };
     match Connection::open_files(rt.alloc(), files, options) {
         Ok(conn) => Ok(conn),
-        Err((error, _left)) => Err(error),
+        Err((error, left)) => Err((error, Some(left))),
     }
 }
 
 /// Opens the books of a file, and makes them where it is missing or its database has nothing.
 ///
-/// Its clauses speak of an answer of `Connection::open_files`, or of an error before it, which `books_of` turns into books or a fault. No clause says
-/// that it is the answer for the file at the path (but for `:memory:`), nor when an opening answers an error: the kit gives no cause
-/// for `CannotOpen` and `DatabaseBusy`, which are `FileFault::File`. So a body that always answers a fault of openings is refused in `books_of`,
-/// where the answer is given, and by no clause here. Nor does a clause say that the disk of an opened file is clean, which is the premise of what is said of its rows.
+/// Its clauses speak of an answer of the opening of some log and some database's file. No clause says that they are the
+/// files at the path, as a file of the system carries no name, nor when the system opens a file: `CannotOpen` and
+/// `DatabaseBusy`, which are `FileFault::File`, have no cause. So a body that always answers a fault of openings is
+/// refused in `connect` and `books_of`, where the answers are given, and by no clause here. Nor does a clause say that the
+/// disk of an opened file is clean, which is the premise of what is said of its rows.
 pub fn open_file<D: PathDisk>(
     rt: &HostRuntime,
     path: &str,
 ) -> Result<TableBooks<FileStore<D>>, FileFault>
-    ensures books { IfOk result (λ b. AreOfOpening b.conn) }
+    ensures books { IfOk result (λ b. AreOfOpening D.PathDisk.is_part b.conn) }
     ensures unfailed { IfOk result (λ b. (b.memory ≡ 0) × (b.store ≡ 0)) }
-    ensures fault { IfErr result (IsOfOpening D.Disk) }
-    ensures memory { path.now ≡ codes ":memory:" → result ≡ Err FileFault.File }
+    ensures fault { IfErr result (IsOfOpening D.Disk D.PathDisk.is_part) }
+    ensures refused { IsTrue (is_no_path path.now) → result ≡ Err FileFault.File }
 {
-    match books_of(rt.alloc(), connect(rt, path)) {
+    let conn = match connect(rt, path) {
+        Ok(conn) => conn,
+        Err((error, _left)) => return Err(file_fault(error)),
+    };
+    match books_of(rt.alloc(), conn) {
         Ok(books) => Ok(books),
-        Err((fault, _conn)) => Err(fault),
+        Err((why, _conn)) => Err(FileFault::Desk(why)),
     }
 }
 

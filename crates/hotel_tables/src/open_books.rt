@@ -4,11 +4,11 @@ ghost use Rattle.sqlite.specs.Held.{state};
 ghost use Rattle.sqlite.specs.State.{HasCleanDisk, IsLive, Survives};
 ghost use Rattle.hotel_core.specs.Model.Sound.{IsSound};
 ghost use Rattle.hotel_statements.specs.Schema.{first_schema};
-ghost use Rattle.hotel_statements.specs.Books.{IsBooks, IsKept, KeepsRows};
+ghost use Rattle.hotel_statements.specs.Books.{IsBooks, IsKept};
 ghost use Rattle.hotel_statements.specs.Tables.{rows_in};
 ghost use Rattle.hotel_tables.specs.Applied.{LeavesAll};
-ghost use Rattle.hotel_tables.specs.Opening.{Continues, IsUpgraded, FaultFitsIn, IsOfVersion, IsSoundDesk};
-ghost use Rattle.hotel_tables.specs.Opening.{IsAlwaysClean, IsOfCall, NamesNoTable};
+ghost use Rattle.hotel_tables.specs.Opening.{Continues, IsUpgraded, IsOfVersion};
+ghost use Rattle.hotel_tables.specs.Exits.{LeavesDatabase};
 
 use crate::desk_schema::version_of;
 use crate::entering::enter;
@@ -22,7 +22,7 @@ impl<S: Alter + Drop> TableBooks<S> {
     ///
     /// Of a desk of the first version whose rows are sound one of the second is made in one transaction; its rows stay.
     /// A database with other tables is no desk's. A desk is made in memory to compare them with.
-    /// On a fault the connection is given back, and the store holds what it held.
+    /// On a fault the connection is given back.
     pub fn open_or_return(
         alloc: Global,
         mut conn: Connection<S>,
@@ -39,16 +39,8 @@ impl<S: Alter + Drop> TableBooks<S> {
             (IsUpgraded (state S.Store conn).now)) }
         ensures whole { (state S.Store conn).now.schema ≡ first_schema
             → IfOk result (λ b. IsKept (state S.Store b.conn) → LeavesAll (state S.Store b.conn)) }
-        ensures outside { IfErr result (λ e. (state S.Store e.1).in_transaction ≡ false) }
-        ensures same { IfErr result (λ e. KeepsRows (state S.Store conn) (state S.Store e.1)) }
-        ensures left { IsKept (state S.Store conn)
-            → IfErr result (λ e. Survives (state S.Store conn) (state S.Store e.1)
-            (IsUpgraded (state S.Store conn).now)) }
-        ensures foreign { ¬ IsOfVersion (state S.Store conn).now.schema → IfErr result (λ e. NamesNoTable e.0) }
-        ensures fault { IfErr result (λ e. IsKept (state S.Store conn) → HasCleanDisk (state S.Store e.1)
-            → FaultFitsIn (state S.Store conn).now e.0) }
-        ensures kept { IfErr result (λ e. IsKept (state S.Store conn) → HasCleanDisk (state S.Store e.1)
-            → IsSoundDesk (state S.Store conn) → IsOfCall e.0) }
+        ensures vouched { IfOk result (λ b. HasCleanDisk (state S.Store b.conn) → IsKept (state S.Store b.conn)) }
+        ensures left { IfErr result (λ e. LeavesDatabase S.Store conn e.1 e.0) }
     {
         // Outside a transaction nothing is uncommitted.
         let _settled = conn.is_autocommit();
@@ -79,16 +71,13 @@ impl<S: Alter + Drop> TableBooks<S> {
         ensures sound { IfOk result (λ b. IsKept (state S.Store b.conn) → IsSound (rows_in (state S.Store b.conn).now.trees)) }
         ensures unfailed { IfOk result (λ b. (b.memory ≡ 0) × (b.store ≡ 0)) }
         ensures schema { IfOk result (λ _. IsOfVersion (state S.Store conn).now.schema) }
-        ensures fault { IsAlwaysClean (state S.Store) → IsKept (state S.Store conn)
-            → IfErr result (FaultFitsIn (state S.Store conn).now) }
         ensures crash { IsKept (state S.Store conn)
             → IfOk result (λ b. Survives (state S.Store conn) (state S.Store b.conn)
             (IsUpgraded (state S.Store conn).now)) }
         ensures whole { (state S.Store conn).now.schema ≡ first_schema
             → IfOk result (λ b. IsKept (state S.Store b.conn) → LeavesAll (state S.Store b.conn)) }
-        ensures foreign { ¬ IsOfVersion (state S.Store conn).now.schema → IfErr result NamesNoTable }
-        ensures kept { IsAlwaysClean (state S.Store) → IsKept (state S.Store conn)
-            → IsSoundDesk (state S.Store conn) → IfErr result IsOfCall }
+        ensures vouched { IfOk result (λ b. HasCleanDisk (state S.Store b.conn) → IsKept (state S.Store b.conn)) }
+        ensures left { IfErr result (λ why. (last : _) × LeavesDatabase S.Store conn last why) }
     {
         match TableBooks::open_or_return(alloc, conn) {
             Ok(books) => Ok(books),

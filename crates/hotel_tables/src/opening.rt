@@ -10,6 +10,7 @@ ghost use Rattle.hotel_rows.specs.Keys.{room_key};
 ghost use Rattle.hotel_statements.specs.declared.version.Version.{Version};
 ghost use Rattle.hotel_statements.specs.Tables.{AreApart, number_of_version};
 ghost use Rattle.hotel_statements.specs.WholeTables.{IsOurs, AreRead};
+ghost use Rattle.hotel_tables.specs.declared.open_fault.OpenFault.TheVariants.{NotADesk};
 ghost use Rattle.hotel_tables.specs.Opening.{AreStored, AreApartInside, IsMetaRow, IsFound, FaultFits, Opens, LacksRow};
 ghost use Rattle.hotel_tables.specs.Opening.{fits_rise, fits_natural, all_rise, all_natural, plain_inside, id_inside};
 ghost use Rattle.hotel_tables.specs.Opening.{fault_for};
@@ -36,16 +37,13 @@ fn number_of(version: Version) -> i64
 /// The one row of meta, of a version.
 fn meta_row(meta: &[PlainMeta], version: Version) -> Result<PlainMeta, OpenFault>
     ensures ok { IfOk result (IsMetaRow version meta.now) }
-    ensures err { IfErr result (LacksRow version meta.now) }
+    ensures err { IfErr result (λ why. (why ≡ NotADesk) × LacksRow version meta.now) }
 {
     let [plain] = meta else {
         return Err(OpenFault::NotADesk);
     };
-    if plain.version != number_of(version) {
+    if plain.id != 1 || plain.version != number_of(version) {
         return Err(OpenFault::NotADesk);
-    }
-    if plain.id != 1 {
-        return Err(OpenFault::Store);
     }
     Ok(*plain)
 }
@@ -53,7 +51,7 @@ fn meta_row(meta: &[PlainMeta], version: Version) -> Result<PlainMeta, OpenFault
 /// The one row of meta; without it the tables are no desk's.
 fn meta_of(tables: &Tables, version: Version) -> Result<PlainMeta, OpenFault>
     ensures ok { IfOk result (IsMetaRow version tables.now.meta.items) }
-    ensures err { (db : Trees) → AreRead version tables.now db → IfErr result (FaultFits version db) }
+    ensures err { (db : Trees) → AreRead version tables.now db → IfErr result (FaultFits ⊥ version db) }
 {
     meta_row(&tables.meta, version)
 }
@@ -159,7 +157,7 @@ fn all_natural(stored: &Stored) -> bool
 fn stored_of(alloc: Global, tables: Tables, version: Version) -> Result<Stored, OpenFault>
     ensures ok { (db : Trees) → AreRead version tables db
         → IfOk result (λ s. AreStored version s db × AreApartInside db) }
-    ensures err { (db : Trees) → AreRead version tables db → IfErr result (FaultFits version db) }
+    ensures err { (db : Trees) → AreRead version tables db → IfErr result (FaultFits ⊥ version db) }
 {
     let meta = meta_of(&tables, version)?;
     match are_apart(alloc, &tables.inside) {
@@ -204,7 +202,7 @@ fn sound_counts(alloc: Global, stored: &Stored) -> Result<Counts, OpenFault>
     ensures ok { IfOk result (λ counts. IsCountedOf stored.now counts × (first_damaged_of stored.now ≡ None)
         × (all_natural stored.now ≡ true)) }
     ensures err { (version : Version) (db : Trees) → AreStored version stored.now db
-        → IfErr result (FaultFits version db) }
+        → IfErr result (FaultFits ⊥ version db) }
 {
     match first_damaged(alloc, stored) {
         Ok(None) => {}
@@ -234,7 +232,7 @@ fn sound_found(alloc: Global, stored: &Stored) -> Result<Found, OpenFault>
     ensures ok { IfOk result (λ found. IsCountedOf stored.now found.counts × (first_damaged_of stored.now ≡ None)
         × (all_natural stored.now ≡ true) × (found.rooms.items ≡ map room_key stored.now.rooms.items)) }
     ensures err { (version : Version) (db : Trees) → AreStored version stored.now db
-        → IfErr result (FaultFits version db) }
+        → IfErr result (FaultFits ⊥ version db) }
 {
     let counts = sound_counts(alloc, stored)?;
     match rooms_of(alloc, &stored.rooms) {
@@ -246,7 +244,7 @@ fn sound_found(alloc: Global, stored: &Stored) -> Result<Found, OpenFault>
 /// What is found in tables that a desk of a version may have.
 fn found_in(alloc: Global, tables: Tables, version: Version) -> Result<Found, OpenFault>
     ensures ok { (db : Trees) → AreRead version tables db → IfOk result (λ found. IsFound version found db) }
-    ensures err { (db : Trees) → AreRead version tables db → IfErr result (FaultFits version db) }
+    ensures err { (db : Trees) → AreRead version tables db → IfErr result (FaultFits ⊥ version db) }
 {
     let stored = stored_of(alloc, tables, version)?;
     sound_found(alloc, &stored)

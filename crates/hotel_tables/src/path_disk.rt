@@ -1,6 +1,7 @@
 //! Disks that are opened at a path.
-ghost use Rattle.std.specs.Prelude.{◌≡◌, codes, Err, IsTrue, IfOk, IfErr};
-ghost use Rattle.sqlite.specs.Opening.{is_open_error};
+ghost use Rattle.std.specs.Prelude.{◌≡◌, Bool, Err, IsTrue, IfOk, IfErr};
+ghost use Rattle.sqlite_std_file.specs.File.{IsFresh};
+ghost use Rattle.hotel_tables.specs.Paths.{is_no_path, IsPathError, AreParts};
 
 use crate::system_disk::SystemDisk;
 use sqlite::{Error, ErrorCode, Files, Unknown};
@@ -10,19 +11,31 @@ use std::io::ErrorKind;
 
 /// A disk that is opened at a path.
 pub trait PathDisk: Disk + Drop {
+    /// The disk is that of a log, or that of a database's file, as it was opened.
+    ghost is_part: { Bool → Self → Type 0 };
+
     /// The database's file at the path, and its log beside it. Each is made where it is missing, and nobody else may have them meanwhile.
     ///
-    /// It refuses `:memory:` and names that begin with `file:`, which are no paths to SQLite.
+    /// It refuses `:memory:` and names that begin with `file:`, which are no paths to SQLite. That the files are those of
+    /// the path is in no clause: a file of the system carries no name.
     fn open(rt: &HostRuntime, path: &str) -> Result<Files<Self>, Error>
-        ensures memory { path.now ≡ codes ":memory:" → result ≡ Err (Error.SqliteFailure ErrorCode.CannotOpen) }
-        ensures named { IfErr result (λ e. IsTrue (is_open_error e)) }
+        ensures refused { IsTrue (is_no_path path.now) → result ≡ Err (Error.SqliteFailure ErrorCode.CannotOpen) }
+        ensures kind { IfErr result IsPathError }
+        ensures parts { IfOk result (AreParts is_part) }
         ensures log { IfOk result (λ files. IsTrue (Self.Disk.is_usable files.log)) }
         ensures db { IfOk result (λ files. IsTrue (Self.Disk.is_usable files.db)) };
 }
 
+/// Whether SQLite takes the name for a database in memory, or for a URI.
+fn is_no_path(path: &str) -> bool
+    ensures { result ≡ is_no_path path.now }
+{
+    path == ":memory:" || path.as_bytes().starts_with(b"file:")
+}
+
 /// The error of files that could not be opened, by SQLite's name.
 fn path_error(error: OpenError) -> Error
-    ensures { IsTrue (is_open_error result) }
+    ensures { IsPathError result }
 {
     match error {
         OpenError::OutOfMemory => Error::SqliteFailure(ErrorCode::OutOfMemory),
@@ -35,8 +48,10 @@ fn path_error(error: OpenError) -> Error
 }
 
 impl PathDisk for SystemDisk {
+    ghost is_part = { λ is_log d. IsFresh is_log d.file };
+
     fn open(rt: &HostRuntime, path: &str) -> Result<Files<SystemDisk>, Error> {
-        if path == ":memory:" || path.starts_with("file:") {
+        if is_no_path(path) {
             return Err(Error::SqliteFailure(ErrorCode::CannotOpen));
         }
         match sqlite_std_file::open(rt, path, Unknown) {

@@ -1,15 +1,10 @@
 //! Books over tables.
-ghost use Rattle.std.specs.Prelude.{◌≡◌, ◌↔◌, IfOk, IfErr, OnOk, Err, IsTrue, false, refl};
+ghost use Rattle.std.specs.Prelude.{◌≡◌, IfErr, OnOk, IsTrue, refl};
 ghost use Rattle.std.proofs.Common.{ap, ◌∙◌};
 ghost use Rattle.keycard_rules.specs.Rise.{HasRisen, NoFewer};
 ghost use Rattle.hotel_core.specs.Books.Lookups.{codes_in};
 ghost use Rattle.sqlite.specs.Held.{state};
-ghost use Rattle.sqlite.specs.State.{HasCleanDisk, Survives};
-ghost use Rattle.hotel_core.specs.Model.Rows.{no_rows};
-ghost use Rattle.hotel_statements.specs.Schema.{no_schema};
-ghost use Rattle.hotel_statements.specs.NewDesk.{IsEmptyDesk};
-ghost use Rattle.hotel_tables.specs.Opening.{IsOfCall};
-ghost use Rattle.hotel_tables.specs.declared.open_fault.OpenFault.TheVariants.{NotADesk};
+ghost use Rattle.sqlite.specs.State.{HasCleanDisk};
 ghost use Rattle.hotel_statements.specs.Books.{IsKept};
 ghost use Rattle.hotel_statements.specs.LookUps.{LeavesNoMore};
 ghost use Rattle.hotel_statements.specs.Tables.{rows_in};
@@ -19,10 +14,8 @@ mod books;
 mod changes;
 mod walks;
 
-use crate::create::make_desk;
-use crate::open_fault::OpenFault;
 use hotel_core::{KindRooms, NightIndex};
-use hotel_statements::{fault_of, look_ups};
+use hotel_statements::look_ups;
 use keycard_rules::{Code, Issued, LookFault};
 use sqlite::{Alter, Connection};
 use std::alloc::Global;
@@ -54,47 +47,6 @@ impl<S: Alter> Model for TableBooks<S> {
     ghost view = { λ b. record { conn = b.conn; kinds = b.kinds; nights = b.nights; memory = b.memory; store = b.store } };
 
     ghost invariant = { λ b. IsTabled (state S.Store b.conn) b.kinds b.nights b.answers };
-}
-
-/// Whether the database has no tables, indexes or views: its file is missing or empty, or the making of a desk was cut short.
-pub(crate) fn is_bare<S: Alter>(conn: &Connection<S>) -> bool
-    ensures { IsTrue result ↔ ((state S.Store conn.now).now.schema ≡ no_schema) }
-{
-    let schema = conn.schema();
-    schema.tables.len() == 0 && schema.indexes.len() == 0 && schema.views.len() == 0
-}
-
-impl<S: Alter + Drop> TableBooks<S> {
-    /// Makes an empty desk of a database that has nothing, in one transaction.
-    ///
-    /// On a fault the connection is dropped; that the store then holds what it held is in no clause of this call.
-    pub fn create(alloc: Global, mut conn: Connection<S>) -> Result<TableBooks<S>, OpenFault>
-        requires { (state S.Store conn).in_transaction ≡ false }
-        ensures empty { IfOk result (λ b. IsKept (state S.Store b.conn) → rows_in (state S.Store b.conn).now.trees ≡ no_rows) }
-        ensures unfailed { IfOk result (λ b. (b.memory ≡ 0) × (b.store ≡ 0)) }
-        ensures crash { IfOk result (λ b. Survives (state S.Store conn) (state S.Store b.conn) IsEmptyDesk) }
-        ensures fault { (state S.Store conn).now.schema ≡ no_schema → IfErr result IsOfCall }
-        ensures taken { ¬ ((state S.Store conn).now.schema ≡ no_schema) → result ≡ Err NotADesk }
-    {
-        if !is_bare(&conn) {
-            return Err(OpenFault::NotADesk);
-        }
-        if let Err(error) = make_desk(&mut conn) {
-            return Err(match fault_of(error) {
-                LookFault::Memory => OpenFault::Memory,
-                LookFault::Store => OpenFault::Store,
-            });
-        }
-        Ok(TableBooks {
-            alloc,
-            conn,
-            kinds: KindRooms::empty(alloc),
-            nights: NightIndex::empty(alloc),
-            answers: false,
-            memory: 0,
-            store: 0,
-        })
-    }
 }
 
 impl<S: Alter> TableBooks<S> {

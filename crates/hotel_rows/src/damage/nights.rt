@@ -1,11 +1,12 @@
 //! The nights that the stays take, against the rooms that there are.
-ghost use Rattle.std.specs.Prelude.{◌≡◌, IfOk, IfSome};
+ghost use Rattle.std.specs.Prelude.{◌≡◌, None, true, false, IfOk, IfSome, IsSome};
 ghost use Rattle.std.specs.List.{list_all, count_by};
 ghost use Rattle.hotel_nights.specs.FullNight.{takes};
 ghost use Rattle.hotel_rows.specs.Stored.{stay_row};
 ghost use Rattle.hotel_rows.specs.RowTests.{is_room_of_kind, has_night};
 ghost use Rattle.hotel_rows.specs.declared.stored.Stored.{Stored as Rows};
-ghost use Rattle.hotel_rows.specs.Counts.{IsCountedOf};
+ghost use Rattle.hotel_rows.specs.Damage.{first_damaged_of};
+ghost use Rattle.hotel_rows.specs.Counts.{IsCountedOf, tells_night};
 
 use crate::counts::{Counts, counts_of, day, kind_code};
 use crate::damage::numbers::number;
@@ -56,7 +57,9 @@ fn rooms_with(rooms: &[PlainRoom], kind: &str) -> usize
     count
 }
 
-fn has_night(stored: &Stored, stay: &PlainStay) -> bool
+/// Whether a stay's kind has a room for it on its first night, looked up among all stays: only where no counts tell it.
+fn has_night_among(_counts: Option<&Counts>, stored: &Stored, stay: &PlainStay) -> bool
+    requires untold { IfSome _counts (λ counts. tells_night counts.now stay.now ≡ false) }
     ensures { result ≡ has_night stored.now stay.now }
 {
     let kind = stay.kind.as_str();
@@ -64,9 +67,10 @@ fn has_night(stored: &Stored, stay: &PlainStay) -> bool
     taken <= rooms_with(&stored.rooms, kind)
 }
 
-/// Whether a stay's kind has a room for it on its first night, by the counts; none where they don't tell it.
+/// The same by the counts; none where they don't tell it.
 fn has_night_by(counts: &Counts, stay: &PlainStay) -> Option<bool>
-    ensures { (s : Rows) → IsCountedOf s counts.now → IfSome result (λ has. has ≡ has_night s stay.now) }
+    ensures told { tells_night counts.now stay.now ≡ true → IsSome result }
+    ensures has { (s : Rows) → IsCountedOf s counts.now → IfSome result (λ has. has ≡ has_night s stay.now) }
 {
     let Ok(kind) = kind_code(stay.kind.as_str()) else {
         return None;
@@ -95,17 +99,18 @@ fn has_night_of(counts: Option<&Counts>, stored: &Stored, stay: &PlainStay) -> b
     ensures { result ≡ has_night stored.now stay.now }
 {
     let Some(counts) = counts else {
-        return has_night(stored, stay);
+        return has_night_among(None, stored, stay);
     };
     match has_night_by(counts, stay) {
         Some(has) => has,
-        None => has_night(stored, stay),
+        None => has_night_among(Some(counts), stored, stay),
     }
 }
 
-/// Whether each stay has its first night, by the counts where there are any.
+/// Whether each stay has its first night, by the counts; there are none only of rows of which a table is damaged.
 fn nights_fit_by(counts: Option<&Counts>, stored: &Stored) -> bool
-    requires { IfSome counts (λ counts. IsCountedOf stored.now counts.now) }
+    requires counted { IfSome counts (λ counts. IsCountedOf stored.now counts.now) }
+    requires damaged { counts ≡ None → ¬ (first_damaged_of stored.now ≡ None) }
     ensures { result ≡ list_all (has_night stored.now) stored.now.stays.items }
 {
     for i in 0..stored.stays.len() {

@@ -1,3 +1,4 @@
+use Rattle.std.proofs.Common.{inl}
 use Rattle.sqlite.specs.Held.{state}
 use Rattle.hotel_statements.specs.declared.version.Version.TheVariants.{Second}
 use Rattle.hotel_tables.proofs.Entered.{entered_second, entered_not}
@@ -11,4 +12,4 @@ returns-in-Ok g c =
 pub returns-in-Err : goal.returns-in-Err
 returns-in-Err g c =
     entered_not Second (state g.S.Store c.args.conn.now) (state g.S.Store c.find_counts.new.conn)
-    c.in-Err.why c.requires.second c.in-Err.ensures
+    c.in-Err.why c.requires.second (λ reads. inl reads) c.in-Err.ensures

@@ -1,14 +1,13 @@
-use Rattle.hotel_tables.proofs.OfFiles.{answered, of_opening, not_in_memory}
+use Rattle.std.proofs.Common.{refl, inl, inr}
 use Rattle.hotel_tables.proofs.files.open_file.Goals as goal
 
-pub returns-in-Ok-clause-books : goal.returns-in-Ok-clause-books
-returns-in-Ok-clause-books g c =
-    let is = answered c.connect.result c.connect.ensures.named c.connect.ensures.fresh c.connect.ensures.opened in
-    of_opening c.connect.result c.in-Ok.books is c.in-Ok.ensures.books c.in-Ok.ensures.failed
-
-pub returns-in-Ok-clause-memory : goal.returns-in-Ok-clause-memory
-returns-in-Ok-clause-memory g c = λ named. absurd (not_in_memory c.connect.result c.in-Ok.books (c.connect.ensures.memory named) c.in-Ok.ensures.failed)
+pub returns-in-Ok-books_of-clause-books : goal.returns-in-Ok-books_of-clause-books
+returns-in-Ok-books_of-clause-books g c = (c.in-Ok.conn, c.in-Ok.ensures.answer, c.in-Ok-books_of.ensures.books)
 
 pub returns-in-Err-clause-fault : goal.returns-in-Err-clause-fault
-returns-in-Err-clause-fault g c =
-    (c.connect.result, c.in-Err._conn, answered c.connect.result c.connect.ensures.named c.connect.ensures.fresh c.connect.ensures.opened, c.in-Err.ensures.fault)
+returns-in-Err-clause-fault g c = inl ((c.in-Err.error, c.in-Err._left), c.in-Err.ensures.answer, c.file_fault.ensures)
+
+pub returns-in-Err-books_of-clause-fault : goal.returns-in-Err-books_of-clause-fault
+returns-in-Err-books_of-clause-fault g c =
+    let no = c.in-Err-books_of in
+    inr (c.in-Ok.conn, no._conn, no.why, c.in-Ok.ensures.answer, refl, no.ensures.fault)

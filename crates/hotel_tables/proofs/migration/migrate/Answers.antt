@@ -1,10 +1,14 @@
-use Rattle.std.proofs.Common.{ap, sym, ◌∙◌, OnOk, rules}
+use Rattle.std.proofs.Common.{ap, sym, ◌∙◌, OnOk, IsTrue, rules}
+use Rattle.std.specs.Prelude.{IfErr}
 use Rattle.std.proofs.lemmas.Result.{on_ok_weaker}
 use Rattle.sqlite.specs.Effect.{Database}
 use Rattle.sqlite.specs.Held.{state}
-use Rattle.sqlite.specs.State.{Survives}
+use Rattle.sqlite.specs.State.{HasCleanDisk, Survives}
 use Rattle.hotel_statements.specs.Books.{IsKept}
 use Rattle.hotel_tables.specs.Applied.{LeavesAll}
+use Rattle.hotel_tables.specs.Exits.{FailsToUpgrade}
+use Rattle.hotel_tables.proofs.NotUpgraded.{not_written, not_committed}
+use Rattle.hotel_statements.proofs.InTurn.{answered}
 use Rattle.hotel_statements.proofs.Upgraded.{BeginsFirst, Migrates, migrated}
 use Rattle.hotel_tables.proofs.migration.migrate.Goals as goal
 
@@ -28,6 +32,12 @@ returns g c =
     (λ books db left.
     g.met.S.Store.settled c.commit.new.self.0.store db kept.1 left
     ∙ sym (ap (λ (d : Database). d.trees) (books.desk kept).settled)) it.books in
+    let open_on : HasCleanDisk new → OnOk c.commit.result (IsTrue new.is_open) = λ clean.
+    on_ok_weaker c.commit.result (λ did. did.1.is_open) (c.commit.ensures.ok clean) in
+    let failed : IfErr c.commit.result (FailsToUpgrade g.S.Store c.args.rooms.now c.args.conn.now c.commit.new.self.0) =
+    not_committed g.S.Store c.args.rooms.now c.args.conn.now c.transaction-tx.result.conn.now c.upgrade.new.tx.conn.now
+    c.commit.new.self.0 c.transaction-tx.ensures.begun tt c.commit.result c.in_ok-upgrade.ensures.makes
+    c.commit.ensures.err in
     record {
       books = search (rules, it.books);
       left = search (rules, it.left);
@@ -35,5 +45,13 @@ returns g c =
       made = search (rules, it.made);
       whole = search (rules, whole);
       same = search (rules, it.same);
+      open_on = search (rules, open_on);
+      failed = search (rules, failed);
       crash = search (rules, it.crash);
     }
+
+pub returns-in_err-upgrade-clause-failed : goal.returns-in_err-upgrade-clause-failed
+returns-in_err-upgrade-clause-failed g c =
+    not_written g.S.Store c.args.rooms.now c.args.conn.now c.transaction-tx.result.conn.now c.upgrade.new.tx.conn.now _
+    c.transaction-tx.ensures.begun c.from_residual.result (answered c.from_residual.result c.from_residual.ensures.1)
+    c.in_err-upgrade.ensures.makes

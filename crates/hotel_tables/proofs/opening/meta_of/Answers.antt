@@ -1,8 +1,8 @@
 use Rattle.std.proofs.lemmas.Result.{IfErr-weaker, IfOk-weaker}
-use Rattle.std.proofs.Common.{subst, List}
+use Rattle.std.proofs.Common.{subst, sym, List}
 use Rattle.hotel_statements.specs.declared.plain_rows.PlainMeta.{PlainMeta}
-use Rattle.hotel_tables.specs.Opening.{IsMetaRow, LacksRow}
-use Rattle.hotel_tables.proofs.Opened.{fault_lacks}
+use Rattle.hotel_tables.specs.Opening.{IsMetaRow, LacksRow, FaultFits}
+use Rattle.hotel_tables.proofs.Opened.{lacks_row}
 use Rattle.hotel_tables.proofs.opening.meta_of.Goals as goal
 
 pub returns-clause-ok : goal.returns-clause-ok
@@ -13,6 +13,7 @@ returns-clause-ok c =
 
 pub returns-clause-err : goal.returns-clause-err
 returns-clause-err c = λ db read. IfErr-weaker c.meta_row.result _ _ (λ why lacks.
-    fault_lacks c.args.version db c.args.tables.now.meta.items why read.0.0.0
-    (subst (λ (meta : List PlainMeta). LacksRow c.args.version meta why) c.deref.ensures.value lacks))
+    subst (FaultFits ⊥ c.args.version db) (sym lacks.0)
+    (lacks_row c.args.version db c.args.tables.now.meta.items read.0.0.0
+    (subst (λ (meta : List PlainMeta). LacksRow c.args.version meta) c.deref.ensures.value lacks.1)))
     c.meta_row.ensures.err

@@ -1,6 +1,6 @@
-use Rattle.std.proofs.Common.{◌≡◌, ◌∙◌, sym}
+use Rattle.std.proofs.Common.{◌≡◌, ◌∙◌, sym, inr}
 use Rattle.hotel_rows.specs.Damage.{first_damaged_of}
-use Rattle.hotel_tables.proofs.Opened.{fault_fits}
+use Rattle.hotel_tables.proofs.Opened.{fits_memory, stored_meta}
 use Rattle.hotel_tables.proofs.opening.sound_counts.Goals as goal
 
 pub returns-in-Ok-Some-clause-err : goal.returns-in-Ok-Some-clause-err
@@ -10,4 +10,15 @@ returns-in-Ok-Some-clause-err c = λ version db stored.
 
 pub returns-in-Err-counts_of-clause-err : goal.returns-in-Err-counts_of-clause-err
 returns-in-Err-counts_of-clause-err c = λ version db stored.
-    rw c.open_fault.ensures (fault_fits version db c.in-Err-counts_of.why)
+    let h : c.in-Ok-None.field-0 ≡ first_damaged_of c.args.stored.now = rw c.in-Ok-None.is at c.first_damaged.ensures in
+    let none = sym h ∙ c.in-Ok-None.field-0-is in
+    rw c.open_fault.ensures (fits_memory ⊥ version db c.in-Err-counts_of.why (c.in-Err-counts_of.ensures.err none))
+
+pub returns-then-not-all_natural-clause-err : goal.returns-then-not-all_natural-clause-err
+returns-then-not-all_natural-clause-err c = λ version db stored.
+    let h : c.in-Ok-None.field-0 ≡ first_damaged_of c.args.stored.now = rw c.in-Ok-None.is at c.first_damaged.ensures in
+    let none = sym h ∙ c.in-Ok-None.field-0-is in
+    inr (
+      stored_meta c.args.stored.now db stored,
+      inr (inr (c.args.stored.now, stored, none, sym c.all_natural.ensures ∙ c.if-not-all_natural.true)),
+    )

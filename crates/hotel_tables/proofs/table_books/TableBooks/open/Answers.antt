@@ -1,7 +1,4 @@
 use Rattle.hotel_tables.proofs.table_books.TableBooks.open.Goals as goal
 
-pub returns-in-Err-clause-fault : goal.returns-in-Err-clause-fault
-returns-in-Err-clause-fault g c = λ always kept. c.in-Err.ensures.fault kept (always c.in-Err._conn)
-
-pub returns-in-Err-clause-kept : goal.returns-in-Err-clause-kept
-returns-in-Err-clause-kept g c = λ always kept desk. c.in-Err.ensures.kept kept (always c.in-Err._conn) desk
+pub returns-in-Err-clause-left : goal.returns-in-Err-clause-left
+returns-in-Err-clause-left g c = (c.in-Err._conn, c.in-Err.ensures.left)

@@ -1,6 +1,6 @@
-use Rattle.std.proofs.Common.{not, ap, ◌∙◌}
+use Rattle.std.proofs.Common.{not, ap, ◌∙◌, rules}
 use Rattle.sqlite.specs.Held.{state}
-use Rattle.hotel_tables.proofs.Entered.{ours_of, of_call, sound_of, fits_of_call}
+use Rattle.hotel_tables.proofs.Entered.{ours_of, unread, left_of}
 use Rattle.hotel_tables.proofs.table_books.TableBooks.open_or_return.Goals as goal
 
 pub enter-requires-clause-ours : goal.enter-requires-clause-ours
@@ -9,13 +9,12 @@ enter-requires-clause-ours g c =
     (c.is_autocommit-settled.ensures.settled (c.is_autocommit-settled.ensures.value ∙ ap not c.requires.alone))
     c.in-Ok.ensures.ok
 
-pub returns-in-Err-enter-clause-kept : goal.returns-in-Err-enter-clause-kept
-returns-in-Err-enter-clause-kept g c = λ kept clean desk.
-    of_call (state g.S.Store c.args.conn) c.in-Err-enter.why (c.in-Err-enter.ensures.fault kept clean) desk
+pub returns-in-Err-enter-clause-left : goal.returns-in-Err-enter-clause-left
+returns-in-Err-enter-clause-left g c =
+    left_of g.S.Store c.in-Ok.version c.args.conn c.enter.new.conn c.in-Err-enter.why
+    c.in-Ok.ensures.ok c.in-Err-enter.ensures
 
-pub returns-in-Err-clause-fault : goal.returns-in-Err-clause-fault
-returns-in-Err-clause-fault g c = λ kept clean version is.
-    fits_of_call (state g.S.Store c.args.conn).now c.in-Err.why (c.in-Err.ensures.err (version, is)) version is
-
-pub returns-in-Err-clause-kept : goal.returns-in-Err-clause-kept
-returns-in-Err-clause-kept g c = λ kept clean desk. c.in-Err.ensures.err (sound_of (state g.S.Store c.args.conn) desk)
+pub returns-in-Err-clause-left : goal.returns-in-Err-clause-left
+returns-in-Err-clause-left g c =
+    unread g.S.Store c.args.conn c.in-Err.why c.requires.alone
+    c.in-Err.ensures.err c.in-Err.ensures.foreign (search rules)

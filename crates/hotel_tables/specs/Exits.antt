@@ -1,0 +1,82 @@
+-- What is left of a connection's database where no books come of it, and why none come.
+use Rattle.std.specs.Prelude.{◌≡◌, ◌⊎◌, true, false, ℕ, List, [], ◌∷◌, Ok, Err}
+use Rattle.sqlite_trees.specs.declared.store.Store.{Ghosts}
+use Rattle.sqlite.specs.declared.error.Error.{Error}
+use Rattle.sqlite.specs.Held.{Held, state}
+use Rattle.sqlite.specs.State.{HasCleanDisk, Survives}
+use Rattle.sqlite.specs.Steps.{FailsToCommit}
+use Rattle.hotel_statements.specs.Texts as text
+use Rattle.hotel_statements.specs.Books.{IsKept, KeepsRows}
+use Rattle.hotel_statements.specs.LookUps.{fault_of}
+use Rattle.hotel_statements.specs.NewDesk.{IsEmptyDesk}
+use Rattle.hotel_statements.specs.Statements.{Statement, RunsStatements, makes_table}
+use Rattle.hotel_statements.specs.Upgrade.{Upgrades}
+use Rattle.hotel_tables.specs.declared.open_fault.OpenFault.{OpenFault}
+use Rattle.hotel_statements.specs.declared.version.Version.{Version}
+use Rattle.hotel_statements.specs.declared.version.Version.TheVariants.{First}
+use Rattle.keycard_rules.specs.declared.issued.LookFault.{LookFault}
+use Rattle.keycard_rules.specs.declared.issued.LookFault.TheVariants as look
+use Rattle.hotel_tables.specs.Opening.{fault_for, FailsToRead, FaultFitsIn, IsNoDesk, IsOfCall, IsOfVersion}
+use Rattle.hotel_tables.specs.Opening.{IsSoundDesk, IsUpgraded}
+
+-- the statements that make a desk, in the order in which they run
+abbrev pub makes_desk : List Statement
+makes_desk =
+    makes_table text.create_meta ∷ makes_table text.create_kind ∷ makes_table text.create_room
+    ∷ makes_table text.create_stay ∷ makes_table text.create_code ∷ makes_table text.create_card
+    ∷ makes_table text.create_inside ∷ makes_table text.create_note ∷ makes_table text.create_fit
+    ∷ makes_table text.create_stay_room ∷ makes_table text.create_card_party ∷ (text.insert_meta, []) ∷ []
+
+module _ {S : Type 0} (g : Ghosts S) where
+  -- No desk was made, of a connection from old to new: one of the statements of the transaction answered this error, or
+  -- its commit.
+  pub record FailsToMake (old new : Held S) (e : Error) : Type 0 where
+    pub start : Held S
+    pub begun : start ≡ record old { in_transaction = true }
+    pub ended : Held S
+    pub failed : RunsStatements g makes_desk start ended (Err e)
+        ⊎ (RunsStatements g makes_desk start ended (Ok tt)
+        × (HasCleanDisk (state g new) → FailsToCommit (state g ended) (state g new) e))
+
+  -- Why no desk was made of a database that has nothing, from the connection to it to the one that is given back,
+  -- outside any transaction: a call of the store answered an error, which is told by its name. No row is changed, and a
+  -- crash leaves what it could leave before, or the whole of a new desk.
+  pub record LeavesBare (old new : Held S) (why : OpenFault) : Type 0 where
+    pub outside : new.in_transaction ≡ false
+    pub same : KeepsRows (state g old) (state g new)
+    pub crash : Survives (state g old) (state g new) IsEmptyDesk
+    pub error : Error
+    pub told : why ≡ fault_for (fault_of error)
+    pub failed : FailsToMake old new error
+
+  -- No desk of the second version was made of one of the first with these rooms, of a connection from old to new: the
+  -- statements of the transaction answered this error, or its commit.
+  pub record FailsToUpgrade (rooms : List ℕ) (old new : Held S) (e : Error) : Type 0 where
+    pub start : Held S
+    pub begun : start ≡ record old { in_transaction = true }
+    pub ended : Held S
+    pub failed : Upgrades rooms (state g start) (state g ended) (Err e)
+        ⊎ (Upgrades rooms (state g start) (state g ended) (Ok tt)
+        × (HasCleanDisk (state g new) → FailsToCommit (state g ended) (state g new) e))
+
+  -- of the tables of a version, their reading failed for this cause, or the making of a desk of the second version did
+  abbrev pub CallFails : Held S → Held S → LookFault → Version → Type 0
+  CallFails old new why version =
+      FailsToRead version (state g old) (state g new) why
+      ⊎ ((version ≡ First) × (mid : Held S) × (rooms : List ℕ) × (e : Error) × (why ≡ fault_of e)
+      × FailsToUpgrade rooms mid new e)
+
+  -- Why a database gave no books, from the connection to it to the one that is given back, outside any transaction. No
+  -- row is changed, and a crash leaves what it could leave before, or the whole desk that was to be made of one of the
+  -- first version.
+  pub record LeavesDatabase (old new : Held S) (why : OpenFault) : Type 0 where
+    pub outside : new.in_transaction ≡ false
+    pub same : KeepsRows (state g old) (state g new)
+    pub crash : IsKept (state g old) → Survives (state g old) (state g new) (IsUpgraded (state g old).now)
+    -- tables that are no desk's are called so, unless memory was wanting
+    pub foreign : ¬ IsOfVersion (state g old).now.schema → IsNoDesk why
+    -- over a desk's tables: a table is called damaged where it is the first that is, it is no desk's for want of meta's
+    -- one row, and Store is told of a call that failed or of rows that no query shows
+    pub fits : HasCleanDisk (state g new) → FaultFitsIn (CallFails old new look.Store) (state g old).now why
+    -- tables that books kept are never refused
+    pub kept : HasCleanDisk (state g new) → IsSoundDesk (state g old) → IsOfCall why
