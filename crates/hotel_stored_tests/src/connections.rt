@@ -34,7 +34,10 @@ pub(crate) fn created<S: Alter + Drop>(
     if !conn.is_autocommit() {
         return Err(OpenFault::Store);
     }
-    TableBooks::create(alloc, conn)
+    match TableBooks::create_or_return(alloc, conn) {
+        Ok(books) => Ok(books),
+        Err((why, _conn)) => Err(why),
+    }
 }
 
 /// A new desk over tables in memory.
