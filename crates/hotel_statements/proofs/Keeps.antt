@@ -143,6 +143,23 @@ unfolding QueriesRow
 none_is_open sql params old new (inl h) = none_fail_open sql params old new h
 none_is_open sql params old new (inr h) = shown_is_open sql params old new [] h.1
 
+-- ---- a plain statement that was answered changed nothing
+
+pub shown_unchanged : (sql : List ℕ) (params : Row) (old new : State) (rows : List Row)
+    → IsPlain (understood old.now.schema sql)
+    → Shown sql params old new rows → IsUnchanged old new
+unfolding Shown
+shown_unchanged sql params old new rows plain h =
+    let none = (subst IsPlain h.1.is plain).0 in
+    (subst (ShowsRows old new sql h.0 _ rows) none h.2).3
+
+pub first_unchanged : (sql : List ℕ) (params : Row) (old new : State) (row : Row)
+    → IsPlain (understood old.now.schema sql)
+    → QueriesRow sql params old new (Ok row) → IsUnchanged old new
+unfolding QueriesRow
+first_unchanged sql params old new row plain (inl h) = h.1
+first_unchanged sql params old new row plain (inr h) = shown_unchanged sql params old new h.0 plain h.1
+
 -- ---- two look-ups, the first of which was answered
 
 pub then_keeps : (old mid new : State) → KeepsRows old mid → KeepsRows mid new → KeepsRows old new

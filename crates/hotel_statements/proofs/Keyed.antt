@@ -1,6 +1,7 @@
 -- What the look-ups by a key find.
 use Rattle.std.proofs.Common.{OnOk, IsTrue, ◌≡◌, ◌&&◌, refl, sym, ap, ap₂, subst, ◌∙◌, List, [], ◌∷◌, ℕ}
-use Rattle.std.proofs.Common.{None, Some, Option, map, filter, Ordering, Less, Equal, Greater, nat_cmp, is_eq, eqb, Result, IfOk}
+use Rattle.std.proofs.Common.{None, Some, Option, map, filter, Ordering, Less, Equal, Greater, nat_cmp, is_eq, eqb}
+use Rattle.std.proofs.Common.{Result, Ok, Err, IfOk}
 use Rattle.std.specs.Prelude.{option_map}
 use Rattle.std.specs.Ordering.{ordering_then}
 use Rattle.std.specs.Map.{lookup}
@@ -18,7 +19,7 @@ use Rattle.sqlite.specs.Order.{Row, column}
 use Rattle.sqlite.specs.Query.{Query}
 use Rattle.sqlite.specs.Term.{Term, eval_all}
 use Rattle.sqlite.specs.Tree.{Trees, IsAscending}
-use Rattle.sqlite.specs.State.{State, HasCleanDisk}
+use Rattle.sqlite.specs.State.{State, HasCleanDisk, IsUnchanged}
 use Rattle.keycard_rules.specs.declared.issued.LookFault.{LookFault}
 use Rattle.hotel_core.specs.Model.Words.{pair_cmp}
 use Rattle.hotel_core.specs.Model.Rows.{Rows, at_number}
@@ -26,7 +27,7 @@ use Rattle.hotel_core.proofs.OfTables.Pairs.{pair_cmp_total}
 use Rattle.hotel_statements.specs.Values.{number_of, int}
 use Rattle.hotel_statements.specs.Tables.{IsTable, IsWrittenAs, listed, by_key, rows_in, AreTables}
 use Rattle.hotel_statements.specs.Books.{IsKept, IsBooks, KeepsRows}
-use Rattle.hotel_statements.specs.LookUps.{Asks, AnswersFirst, Looks, Finds, LeavesNoMore}
+use Rattle.hotel_statements.specs.LookUps.{Asks, AnswersFirst, LooksUp, Finds, HasCause, LeavesNoMore}
 use Rattle.hotel_statements.proofs.Answers.{single, env, passes, fused}
 use Rattle.hotel_statements.proofs.Statements.Terms.{by_rowid, by_pair}
 use Rattle.hotel_statements.proofs.Keys.{equals, is_key, and_true}
@@ -112,33 +113,43 @@ module _ {V : Type 0} (tree : ℕ) (project : List Term) (columns : Row → Row)
 
 -- ---- a look-up whose statement finds what is wanted
 
-pub looks_to : {A B R : Type 0} (text : List ℕ) (params : Row) (old new : State) (out : Row → A) (q : Query) (found : Result (Option A) LookFault) (result : Result R LookFault)
+-- a connection that was left unchanged is open
+pub open_still : {R : Type 0} (old new : State) (result : Result R LookFault) → OnOk result (IsUnchanged old new)
+    → OnOk result (IsTrue new.is_open)
+open_still old new (Ok a) same = same.0.is_open
+open_still old new (Err e) same = tt
+
+pub looks_to : {A B R : Type 0} {Fails : State → State → Type 0} (text : List ℕ) (params : Row) (old new : State) (out : Row → A) (q : Query) (found : Result (Option A) LookFault) (result : Result R LookFault)
     (said : R → B) (wanted : Rows → B)
     → IsBooks old → IsBooks new → KeepsRows old new → (IsKept new → (p : Query) → Asks text p → IfOk found (AnswersFirst out p params old.now.trees))
-    → (HasCleanDisk new → OnOk result (IsTrue new.is_open)) → LeavesNoMore old new → Asks text q
+    → (HasCleanDisk new → OnOk result (IsUnchanged old new)) → HasCause Fails old new result → LeavesNoMore old new → Asks text q
     → (IsKept old → AreTables old.now.trees → IfOk found (AnswersFirst out q params old.now.trees) → IfOk result (λ a. said a ≡ wanted (rows_in old.now.trees)))
-    → Looks said wanted old new result
-looks_to text params old new out q found result said wanted was books keeps finds open_on crash asks is = record {
+    → LooksUp Fails said wanted old new result
+looks_to text params old new out q found result said wanted was books keeps finds unchanged cause crash asks is = record {
   books = books;
   keeps = keeps;
   found = λ kept. let before = (keeps kept).0 in is before (was.desk before).tables (finds kept q asks);
-  open_on = λ _. open_on;
+  open_on = λ _ clean. open_still old new result (unchanged clean);
+  unchanged = λ _. unchanged;
+  cause = cause;
   crash = crash;
 }
 
 -- the same of the tables as they stand
-pub finds_to : {A : Type 0} (text : List ℕ) (params : Row) (old new : State) (out : Row → A) (q : Query)
+pub finds_to : {A : Type 0} {Fails : State → State → Type 0} (text : List ℕ) (params : Row) (old new : State) (out : Row → A) (q : Query)
     (result : Result (Option A) LookFault) (wanted : Trees → Option A)
     → IsBooks old → IsBooks new → KeepsRows old new
     → (IsKept new → (p : Query) → Asks text p → IfOk result (AnswersFirst out p params old.now.trees))
-    → (HasCleanDisk new → OnOk result (IsTrue new.is_open)) → LeavesNoMore old new → Asks text q
+    → (HasCleanDisk new → OnOk result (IsUnchanged old new)) → HasCause Fails old new result → LeavesNoMore old new → Asks text q
     → (AreTables old.now.trees → IfOk result (AnswersFirst out q params old.now.trees)
     → IfOk result (λ a. a ≡ wanted old.now.trees))
-    → Finds wanted old new result
-finds_to text params old new out q result wanted was books keeps finds open_on crash asks is = record {
+    → Finds Fails wanted old new result
+finds_to text params old new out q result wanted was books keeps finds unchanged cause crash asks is = record {
   books = books;
   keeps = keeps;
   found = λ kept. is (was.desk (keeps kept).0).tables (finds kept q asks);
-  open_on = open_on;
+  open_on = λ clean. open_still old new result (unchanged clean);
+  unchanged = unchanged;
+  cause = cause;
   crash = crash;
 }

@@ -4,7 +4,9 @@ pub mod Joins
 mod Keys
 mod Found
 mod Keeps
+mod Unread
 mod Looked
+pub mod Since
 mod Writing
 mod Makers
 mod Ordered
@@ -19,6 +21,7 @@ mod NewDesk
 mod Statements
 mod Whole
 mod Readings
+mod ReadingsInTurn
 pub mod ReadBack
 pub mod Naturals
 mod Made

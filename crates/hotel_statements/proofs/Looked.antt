@@ -1,5 +1,6 @@
 -- One keyed statement, and the row that it finds.
-use Rattle.std.proofs.Common.{OnOk, ◌≡◌, inl, inr, sym, subst, List, [], ℕ, None, Some, Option, Ok, Err, Result, IsTrue, false, map}
+use Rattle.std.proofs.Common.{OnOk, ◌≡◌, ◌≢◌, inl, inr, refl, sym, subst, List, [], ◌∷◌, ℕ, None, Some, Option, Ok, Err}
+use Rattle.std.proofs.Common.{Result, IsTrue, false, map, All, arith}
 use Rattle.sqlite_value.specs.declared.value.Value.TheVariants.{Null}
 use Rattle.sqlite.specs.Order.{Row}
 use Rattle.sqlite.specs.Query.{Query}
@@ -9,17 +10,23 @@ use Rattle.sqlite.specs.Command.TheVariants.{Select, Rows}
 use Rattle.sqlite.specs.Listing.{understood}
 use Rattle.sqlite_trees.specs.declared.error.StoreError.{StoreError}
 use Rattle.sqlite_trees.specs.declared.error.StoreError.TheVariants.{OutOfMemory}
-use Rattle.sqlite.specs.State.{State, HasCleanDisk, QueriesRow, Shown, Survives, CommitsShowing, FailsToQuery, IsNotRun, FailsToShow, store_error}
+use Rattle.sqlite.specs.State.{State, HasCleanDisk, QueriesRow, Shown, IsUnchanged, Survives, CommitsShowing}
+use Rattle.sqlite.specs.State.{FailsToQuery, IsNotRun, FailsToShow, store_error}
 use Rattle.sqlite.specs.declared.error.Error.{Error}
 use Rattle.sqlite.specs.declared.error.Error.TheVariants.{QueryReturnedNoRows}
 use Rattle.sqlite_resolve.specs.declared.compiled.Compiled.{Compiled}
 use Rattle.sqlite_resolve.specs.declared.error.CompileError.{CompileError}
 use Rattle.sqlite.proofs.Callers.{IsPlain, command_of, first_as, reads_as, never_commits}
 use Rattle.sqlite.proofs.StateLemmas.{survives_weaker}
+use Rattle.keycard_rules.specs.declared.issued.LookFault.{LookFault}
+use Rattle.keycard_rules.specs.declared.issued.LookFault.TheVariants as why
 use Rattle.hotel_statements.specs.Schema.{desk_schema}
 use Rattle.hotel_statements.specs.Books.{IsDesk, IsKept, IsBooks, KeepsRows}
-use Rattle.hotel_statements.specs.LookUps.{Asks, IsQuery, AnswersFirst, AnswersAll, LeavesNoMore}
-use Rattle.hotel_statements.proofs.Keeps.{Stays, query_stays, query_opened, keeps_books, keeps_rows, shown_stay, shown_opened, shown_is_open, first_is_open, none_is_open, fails_stay, fail_opened}
+use Rattle.hotel_statements.specs.LookUps.{Asks, IsQuery, AnswersFirst, AnswersAll, LeavesNoMore, fault_of, FailsAt}
+use Rattle.hotel_statements.proofs.Keeps.{Stays, query_stays, query_opened, keeps_books, keeps_rows, shown_stay}
+use Rattle.hotel_statements.proofs.Keeps.{shown_opened, shown_is_open, first_is_open, none_is_open, shown_unchanged}
+use Rattle.hotel_statements.proofs.Keeps.{first_unchanged}
+use Rattle.hotel_statements.proofs.Keeps.{fails_stay, fail_opened}
 
 -- no other failure is that no row was found
 not_read : (command : Command) (limit : Option ℕ) (db : Database) (params : Row) → RefusesToRead limit command db params QueryReturnedNoRows → ⊥
@@ -50,6 +57,14 @@ command_is q (Err e) is = absurd is
 
 pub plain_in : (text : List ℕ) (q : Query) (s : State) → Asks text q → IsDesk s → IsPlain (understood s.now.schema text)
 plain_in text q s asks desk = subst (λ m. IsPlain (understood m text)) (sym desk.schema) asks.plain
+
+pub is_store : (fault : LookFault) → fault ≢ why.Memory → fault ≡ why.Store
+is_store why.Memory other = absurd (other refl)
+is_store why.Store other = refl
+
+first_unread : (IsReadable : Row → Type 0) (row first : Row) (more : List Row) → row ≡ first → ¬ IsReadable row
+    → ¬ All IsReadable (first ∷ more)
+first_unread IsReadable row first more is unread all = unread (subst IsReadable (sym is) (all 0 first (omega arith)))
 
 module _ (text : List ℕ) (params : Row) (old new : State) (r : Result Row Error) (books : IsBooks old) (asked : (q : Query) × Asks text q)
     (runs : HasCleanDisk new → QueriesRow text params old new r) (mode : old.in_transaction ≡ false → new.in_transaction ≡ false)
@@ -86,11 +101,48 @@ module _ (text : List ℕ) (params : Row) (old new : State) (r : Result Row Erro
       go desk (inl h) = absurd (not_failed text params old new (plain_in text q old asks desk) h)
       go desk (inr h) = (reads_as text params old new desk_schema desk.schema _ (command_is q _ asks.query).1 asks.plain asks.listing [] h.1).answer Null
 
-  pub look_open : (row : Row) → r ≡ Ok row → HasCleanDisk new → IsTrue new.is_open
+  look_open : (row : Row) → r ≡ Ok row → HasCleanDisk new → IsTrue new.is_open
   look_open row is clean = first_is_open text params old new row (subst (QueriesRow text params old new) is (runs clean))
 
-  pub none_open : r ≡ Err QueryReturnedNoRows → HasCleanDisk new → IsTrue new.is_open
+  none_open : r ≡ Err QueryReturnedNoRows → HasCleanDisk new → IsTrue new.is_open
   none_open is clean = none_is_open text params old new (subst (QueriesRow text params old new) is (runs clean))
+
+  plain_then : HasCleanDisk new → IsTrue new.is_open → IsPlain (understood old.now.schema text)
+  plain_then clean is_open = plain_in text asked.0 old asked.1 (books.desk (look_keeps (clean, is_open)).0)
+
+  pub look_unchanged : (row : Row) → r ≡ Ok row → HasCleanDisk new → IsUnchanged old new
+  look_unchanged row is clean = first_unchanged text params old new row (plain_then clean (look_open row is clean))
+      (subst (QueriesRow text params old new) is (runs clean))
+
+  pub none_unchanged : r ≡ Err QueryReturnedNoRows → HasCleanDisk new → IsUnchanged old new
+  unfolding QueriesRow
+  none_unchanged is clean = go (subst (QueriesRow text params old new) is (runs clean))
+    where
+      plain : IsPlain (understood old.now.schema text)
+      plain = plain_then clean (none_open is clean)
+
+      go : QueriesRow text params old new (Err QueryReturnedNoRows) → IsUnchanged old new
+      go (inl h) = absurd (not_failed text params old new plain h)
+      go (inr h) = shown_unchanged text params old new [] plain h.1
+
+  -- ---- why it failed
+
+  pub look_failed : (IsReadable : Row → Type 0) (e : Error) → r ≡ Err e → (e ≡ QueryReturnedNoRows → ⊥)
+      → fault_of e ≢ why.Memory
+      → HasCleanDisk new → FailsAt IsReadable text params old new
+  unfolding QueriesRow
+  look_failed IsReadable e is other cause clean = go (subst (QueriesRow text params old new) is (runs clean))
+    where
+      go : QueriesRow text params old new (Err e) → FailsAt IsReadable text params old new
+      go (inl h) = inl (e, is_store (fault_of e) cause, h)
+      go (inr h) = absurd (other h.0)
+
+  pub look_unread : (IsReadable : Row → Type 0) (row : Row) → r ≡ Ok row → ¬ IsReadable row → HasCleanDisk new
+      → FailsAt IsReadable text params old new
+  look_unread IsReadable row is unread clean =
+      let kept : IsKept new = (clean, look_open row is clean) in
+      let got = look_found (λ v. v) row row is refl kept asked.0 asked.1 in
+      inr ((look_keeps kept).0, (asked.0, asked.1, got.0 ∷ got.1, got.2, first_unread IsReadable row got.0 got.1 got.3 unread))
 
 -- ---- all rows of an answer
 
@@ -117,8 +169,24 @@ module _ (text : List ℕ) (params : Row) (old new : State) (books : IsBooks old
         let desk = books.desk (all_keeps kept).0 in
         (rows, (reads_as text params old new desk_schema desk.schema _ (command_is q _ asks.query).1 asks.plain asks.listing rows (shown kept.0)).answer Null, reads)
 
-    pub all_open : HasCleanDisk new → IsTrue new.is_open
+    all_open : HasCleanDisk new → IsTrue new.is_open
     all_open clean = shown_is_open text params old new rows (shown clean)
+
+    pub all_unchanged : HasCleanDisk new → IsUnchanged old new
+    all_unchanged clean =
+        let before = (all_keeps (clean, all_open clean)).0 in
+        shown_unchanged text params old new rows (plain_in text asked.0 old asked.1 (books.desk before)) (shown clean)
+
+    pub all_unread : (IsReadable : Row → Type 0) → ¬ All IsReadable rows → HasCleanDisk new
+        → FailsAt IsReadable text params old new
+    all_unread IsReadable unread clean =
+        let kept : IsKept new = (clean, all_open clean) in
+        let before = (all_keeps kept).0 in
+        let q = asked.0 in
+        let asks = asked.1 in
+        let answer = (reads_as text params old new desk_schema (books.desk before).schema _ (command_is q _ asks.query).1 asks.plain
+        asks.listing rows (shown clean)).answer Null in
+        inr (before, (q, asks, rows, answer, unread))
 
   module _ (e : Error) (fails : HasCleanDisk new → FailsToQuery text params old new e) where
     fault_stays : HasCleanDisk new → IsDesk old → Stays old new
@@ -132,6 +200,10 @@ module _ (text : List ℕ) (params : Row) (old new : State) (books : IsBooks old
 
     pub fault_keeps : KeepsRows old new
     fault_keeps = keeps_rows old new _ books mode survives fault_stays fault_opened
+
+    pub fault_cause : (IsReadable : Row → Type 0) → fault_of e ≢ why.Memory → HasCleanDisk new
+        → FailsAt IsReadable text params old new
+    fault_cause IsReadable cause clean = inl (e, is_store (fault_of e) cause, fails clean)
 
 pub on_ok_always : {A E P : Type 0} (r : Result A E) → P → OnOk r P
 on_ok_always (Ok a) p = p

@@ -1,5 +1,7 @@
 -- What a reading of a whole table leaves of the connection.
-use Rattle.std.proofs.Common.{◌≡◌, inl, inr, sym, ap, subst, ◌∙◌, List, [], ℕ, OnOk, IfOk, Ok, Err, Result, IsTrue, false, arith}
+use Rattle.std.proofs.Common.{◌≡◌, inl, inr, sym, ap, subst, ◌∙◌, List, [], ℕ, OnOk, IfOk, IfErr, Ok, Err, Result}
+use Rattle.std.proofs.Common.{IsTrue, All, ◌≢◌, false, arith}
+use Rattle.std.proofs.lemmas.Result.{IfErr-weaker}
 use Rattle.sqlite_value.specs.declared.value.Value.TheVariants.{Null}
 use Rattle.sqlite.specs.Order.{Row}
 use Rattle.sqlite.specs.Tree.{Trees}
@@ -12,13 +14,15 @@ use Rattle.sqlite.specs.declared.error.Error.{Error}
 use Rattle.sqlite.proofs.Callers.{IsPlain, reads_as, never_commits}
 use Rattle.sqlite.proofs.StateLemmas.{survives_weaker}
 use Rattle.keycard_rules.specs.declared.issued.LookFault.{LookFault}
+use Rattle.keycard_rules.specs.declared.issued.LookFault.TheVariants as why
 use Rattle.hotel_statements.specs.declared.version.Version.{Version}
 use Rattle.hotel_statements.specs.Schema.{schema_of}
 use Rattle.hotel_statements.specs.Books.{IsKept, KeepsRows}
-use Rattle.hotel_statements.specs.LookUps.{AsksOf, LeavesNoMore}
-use Rattle.hotel_statements.specs.WholeTables.{IsOurs, ReadsTo}
-use Rattle.hotel_statements.proofs.Keeps.{Stays, shown_stay, shown_opened, shown_is_open, fails_stay, fail_opened}
-use Rattle.hotel_statements.proofs.Looked.{command_is}
+use Rattle.hotel_statements.specs.LookUps.{AsksOf, fault_of, FailsIn, LeavesNoMore}
+use Rattle.hotel_statements.specs.WholeTables.{IsOurs, ReadsPart}
+use Rattle.hotel_statements.proofs.Keeps.{Stays, shown_stay, shown_opened, shown_is_open, shown_unchanged, fails_stay}
+use Rattle.hotel_statements.proofs.Keeps.{fail_opened}
+use Rattle.hotel_statements.proofs.Looked.{command_is, is_store}
 
 abbrev HasTables : Version → State → Type 0
 HasTables version s = (s.now.schema ≡ schema_of version) × (s.now ≡ s.committed)
@@ -55,29 +59,50 @@ module _ (version : Version) (text : List ℕ) (q : Query) (old new : State) (ou
     read_keeps : KeepsRows old new
     read_keeps kept = (was_kept kept, (after kept).1)
 
-  pub reads_rows : {R : Type 0} (Says : R → Trees → Type 0) (rows : List Row) (result : Result R LookFault) → (HasCleanDisk new → Shown text [] old new rows)
+  -- of a statement whose text is said to be this one
+  pub reads_rows : {R : Type 0} (named : List ℕ) → text ≡ named
+      → (IsReadable : Row → Type 0) (Says : R → Trees → Type 0) (rows : List Row) (result : Result R LookFault)
+      → (HasCleanDisk new → Shown text [] old new rows)
       → (IsAnswer q (overlay old.now.trees []) [] rows → IfOk result (λ r. Says r old.now.trees))
-      → ReadsTo version Says old new result
-  reads_rows Says rows result shown is =
+      → IfErr result (λ fault. fault ≢ why.Memory → ¬ All IsReadable rows)
+      → ReadsPart version (FailsIn (schema_of version) IsReadable named []) Says old new result
+  reads_rows named same IsReadable Says rows result shown is unread =
       let stays : HasCleanDisk new → IsKept old → Stays old new = λ clean kept. shown_stay text [] old new rows (plain_in kept) (shown clean) in
       let opened : HasCleanDisk new → IsTrue new.is_open → IsTrue old.is_open = λ clean _. shown_opened text [] old new rows (shown clean) in
-      record {
+      let open_still : HasCleanDisk new → IsKept new = λ clean. (clean, shown_is_open text [] old new rows (shown clean)) in
+      let answered : HasCleanDisk new → IsAnswer q (overlay old.now.trees []) [] rows = λ clean.
+      (reads_as text [] old new (schema_of version) (ours.tables (was_kept stays opened (open_still clean))).0 _
+      (command_is q _ asks.query).1 asks.plain asks.listing rows (shown clean)).answer Null in
+      subst (λ (t : List ℕ). ReadsPart version (FailsIn (schema_of version) IsReadable t []) Says old new result) same (record {
         ours = read_ours stays opened;
         keeps = read_keeps stays opened;
-        says = λ kept. let was = was_kept stays opened kept in is
-            ((reads_as text [] old new (schema_of version) (ours.tables was).0 _ (command_is q _ asks.query).1
-            asks.plain asks.listing rows (shown kept.0)).answer Null);
+        says = λ kept. is (answered kept.0);
         open_on = λ _ clean. on_ok result (shown_is_open text [] old new rows (shown clean));
+        unchanged = λ _ clean. on_ok result (shown_unchanged text [] old new rows (plain_in (was_kept stays opened (open_still clean)))
+            (shown clean));
+        cause = λ clean. IfErr-weaker result _ _
+            (λ fault fails cause. inr (was_kept stays opened (open_still clean), (q, asks, rows, answered clean, fails cause)))
+            unread;
         crash = read_crash;
-      }
+      })
     where
       on_ok : {A : Type 0} {P : Type 0} (r : Result A LookFault) → P → OnOk r P
       on_ok (Ok a) p = p
       on_ok (Err e) p = tt
 
-  pub reads_none : {R : Type 0} (Says : R → Trees → Type 0) (e : Error) (why : LookFault)
-      → (HasCleanDisk new → FailsToQuery text [] old new e) → ReadsTo {R = R} version Says old new (Err why)
-  reads_none Says e why fails =
+  pub reads_none : {R : Type 0} (named : List ℕ) → text ≡ named
+      → (IsReadable : Row → Type 0) (Says : R → Trees → Type 0) (e : Error) (fault : LookFault) → fault ≡ fault_of e
+      → (HasCleanDisk new → FailsToQuery text [] old new e)
+      → ReadsPart {R = R} version (FailsIn (schema_of version) IsReadable named []) Says old new (Err fault)
+  reads_none {R = R} named same IsReadable Says e fault is fails =
       let stays : HasCleanDisk new → IsKept old → Stays old new = λ clean kept. fails_stay text [] old new e (plain_in kept) (fails clean) in
       let opened : HasCleanDisk new → IsTrue new.is_open → IsTrue old.is_open = λ clean. fail_opened text [] old new e (fails clean) in
-      record { ours = read_ours stays opened; keeps = read_keeps stays opened; says = λ _. tt; open_on = λ _ _. tt; crash = read_crash }
+      subst (λ (t : List ℕ). ReadsPart {R = R} version (FailsIn (schema_of version) IsReadable t []) Says old new (Err fault)) same (record {
+        ours = read_ours stays opened;
+        keeps = read_keeps stays opened;
+        says = λ _. tt;
+        open_on = λ _ _. tt;
+        unchanged = λ _ _. tt;
+        cause = λ clean cause. inl (e, sym is ∙ is_store fault cause, fails clean);
+        crash = read_crash;
+      })

@@ -1,7 +1,10 @@
 -- One statement whose rows are handed over, one at a time.
-use Rattle.std.proofs.Common.{◌≡◌, ◌⊎◌, inl, inr, refl, sym, ap, subst, ◌∙◌, List, [], ◌∷◌, ◌++◌, ℕ, IsTrue, Bool, false, true, Option, Some, None, Ok, Err, Result, map, append_assoc, arith}
+use Rattle.std.proofs.Common.{◌≡◌, ◌≢◌, ◌⊎◌, ◌≤◌, ◌+◌, ◌-◌, ◌^◌, inl, inr, refl, sym, ap, subst, ◌∙◌, List, [], ◌∷◌}
+use Rattle.std.proofs.Common.{◌++◌, ℕ, suc, IsTrue, Bool, false, true}
+use Rattle.std.proofs.Common.{Option, Some, None, Ok, Err, Result, All, length, length-append, map}
+use Rattle.std.proofs.Common.{append_assoc, arith}
 use Rattle.std.specs.Prelude.{option_copied, OnOk, IfOk, IfErr}
-use Rattle.std.proofs.lemmas.List.{map-append}
+use Rattle.std.proofs.lemmas.List.{map-append, length-map}
 use Rattle.std.specs.Borrow.{Bor}
 use Rattle.sqlite_value.specs.declared.value.Value.TheVariants.{Null}
 use Rattle.sqlite_trees.specs.declared.store.Store.{Ghosts}
@@ -11,7 +14,7 @@ use Rattle.sqlite.specs.Query.{Query, IsAnswer}
 use Rattle.sqlite.specs.Program.{overlay}
 use Rattle.sqlite.specs.Effect.{Database}
 use Rattle.sqlite.specs.Held.{Held, state}
-use Rattle.sqlite.specs.Given.{HasGiven, HasBegun, Advances}
+use Rattle.sqlite.specs.Given.{HasGiven, HasBegun, Advances, FailsToAdvance}
 use Rattle.sqlite.specs.Next.{HasMoved}
 use Rattle.sqlite.specs.State.{State, HasCleanDisk, IsUnchanged, Fails, Survives, CommitsShowing, Shown, Begins, FailsToQuery}
 use Rattle.sqlite.specs.declared.error.Error.{Error}
@@ -19,15 +22,17 @@ use Rattle.sqlite.specs.declared.rows.stream.Rows.{Rows}
 use Rattle.sqlite.proofs.Callers.{begins_as, reads_as, begun_plain, given_begin}
 use Rattle.sqlite.proofs.StateLemmas.{survives_then}
 use Rattle.keycard_rules.specs.declared.issued.LookFault.{LookFault}
+use Rattle.keycard_rules.specs.declared.issued.LookFault.TheVariants as look
 use Rattle.hotel_core.specs.declared.books.walks.WalkFault.{WalkFault}
 use Rattle.hotel_core.specs.declared.books.walks.WalkFault.TheVariants as why
 use Rattle.hotel_core.specs.Books.Walks.{Takes, TakesFront, Hands, failure_of}
 use Rattle.hotel_core.proofs.OfCode.Walking.{one_more, all_taken}
 use Rattle.hotel_statements.specs.Schema.{desk_schema}
 use Rattle.hotel_statements.specs.Books.{IsDesk, IsKept, IsBooks, KeepsRows}
-use Rattle.hotel_statements.specs.LookUps.{Asks, LeavesNoMore}
-use Rattle.hotel_statements.specs.Walks.{SaysRows, HandsOne, WalksRows}
+use Rattle.hotel_statements.specs.LookUps.{Asks, LeavesNoMore, fault_of, ShowsUnread}
+use Rattle.hotel_statements.specs.Walks.{SaysRows, HandsOne, WalkFails, WalksRows}
 use Rattle.hotel_statements.proofs.Keeps.{Stays, keeps_books, keeps_rows, then_keeps, then_survives, shown_opened, shown_is_open}
+use Rattle.hotel_statements.proofs.Since.{then_unchanged, error_later, clean_before}
 use Rattle.hotel_statements.proofs.Looked.{command_is, plain_in, all_crash, fault_books, fault_keeps}
 
 -- the disk returned what was written, or it did not
@@ -54,7 +59,26 @@ failed_walk after after_stop rows sink end why.Memory cause is front = front
 failed_walk after after_stop rows sink end why.Store cause is front = front
 failed_walk after after_stop rows sink end why.Stopped cause is front = absurd cc
 
+store_fault : (fault : WalkFault) → failure_of (Err fault) ≡ Some look.Store → fault ≡ why.Store
+store_fault why.Memory is = absurd (let k = is in cc)
+store_fault why.Store is = refl
+store_fault why.Stopped is = absurd (let k = is in cc)
+
 -- ---- the rows that a statement gives
+
+-- they begin an answer
+pub answers_on : (text : List ℕ) (params : Row) (q : Query) → Asks text q → (old s : State) → IsBooks s → IsKept s
+    → s.now ≡ old.now
+    → (given : List Row) → Begins text params s given
+    → (tail : List Row) × IsAnswer q (overlay old.now.trees []) params (given ++ tail)
+answers_on text params q asks old s books kept same given start =
+    let first = (begins_as text params s s desk_schema (books.desk kept).schema _ (command_is q _ asks.query).1 asks.plain asks.listing given start).1 in
+    (first.0, subst (λ (d : Database). IsAnswer q (overlay d.trees []) params (given ++ first.0)) same (first.1 Null))
+
+not_all : (P : Row → Type 0) (given : List Row) (row : Row) (tail : List Row) → ¬ P row
+    → ¬ All P ((given ++ row ∷ []) ++ tail)
+not_all P [] row tail unread all = unread (all 0 row (omega arith))
+not_all P (r ∷ given) row tail unread all = not_all P given row tail unread (λ i d lt. all (suc i) d (omega (arith, lt)))
 
 module _ {A : Type 0} (of : Row → A) (text : List ℕ) (params : Row) (old : State) (rows : List A) (says : SaysRows of text params old rows) where
   -- those so far are a front
@@ -63,9 +87,9 @@ module _ {A : Type 0} (of : Row → A) (text : List ℕ) (params : Row) (old : S
   begins s books kept was same given start =
       let q = says.0 in
       let asks = says.1 in
-      let first = (begins_as text params s s desk_schema (books.desk kept).schema _ (command_is q _ asks.query).1 asks.plain asks.listing given start).1 in
-      let tail = first.0 in
-      let answer : IsAnswer q (overlay old.now.trees []) params (given ++ tail) = subst (λ (d : Database). IsAnswer q (overlay d.trees []) params (given ++ tail)) same (first.1 Null) in
+      let all = answers_on text params q asks old s books kept same given start in
+      let tail = all.0 in
+      let answer = all.1 in
       (map of tail, sym (says.2 was (map of (given ++ tail)) (given ++ tail, answer, refl)) ∙ map-append of given tail)
 
   -- and at the end all of them
@@ -78,13 +102,15 @@ module _ {A : Type 0} (of : Row → A) (text : List ℕ) (params : Row) (old : S
 
 -- ---- part-way through a walk
 
--- What the sink took are the rows that the statement gave; the books are as they were.
-pub record IsUnderWay {S A K : Type 0} (g : Ghosts S) (of : Row → A) (after : K → A → K → Type 0) (text : List ℕ) (params : Row) (old now : Held S) (sink end : K) : Type 0 where
+-- What the sink took are the rows that the statement gave, so many; the books are as they were.
+pub record IsUnderWay {S A K : Type 0} (g : Ghosts S) (of : Row → A) (after : K → A → K → Type 0) (text : List ℕ) (params : Row)
+    (old now : Held S) (sink end : K) (count : ℕ) : Type 0 where
   pub books : IsBooks (state g now)
   pub keeps : KeepsRows (state g old) (state g now)
   pub crash : LeavesNoMore (state g old) (state g now)
-  pub open_on : HasCleanDisk (state g now) → IsTrue (state g now).is_open
+  pub unchanged : HasCleanDisk (state g now) → IsUnchanged (state g old) (state g now)
   pub taken : List A
+  pub counted : length taken ≡ count
   pub takes : Takes after taken sink end
   pub given : IsKept (state g now) → (rows : List Row) × HasGiven g text params now rows × (taken ≡ map of rows)
 
@@ -96,15 +122,19 @@ opened : (old new : State) → Stays old new → IsTrue new.is_open → IsTrue o
 opened old new (inl same) is_open = same.0.was_open
 opened old new (inr back) is_open = back.was_open is_open
 
-module _ {S A K : Type 0} (g : Ghosts S) (of : Row → A) (after after_stop : K → A → K → Type 0) (text : List ℕ) (params : Row) (old : Held S) (sink : K) where
-  abbrev Walking : Held S → K → Type 0
-  Walking now end = IsUnderWay g of after text params old now sink end
+module _ {S A K : Type 0} (g : Ghosts S) (of : Row → A) (IsReadable : Row → Type 0) (after after_stop : K → A → K → Type 0) (text : List ℕ)
+    (params : Row) (old : Held S) (sink : K) where
+  abbrev Walking : Held S → K → ℕ → Type 0
+  Walking now end count = IsUnderWay g of after text params old now sink end count
+
+  abbrev Ends : List A → Held S → K → Result (Unit {0}) WalkFault → Type 0
+  Ends rows now end result = WalksRows (WalkFails IsReadable text params) after after_stop rows (state g old) (state g now) sink end result
 
   -- ---- the query begins, or is refused
 
   module _ (books : IsBooks (state g old)) (asks : (q : Query) × Asks text q) (new : Held S) (mode : old.in_transaction ≡ false → new.in_transaction ≡ false)
       (survives : Survives (state g old) (state g new) (CommitsShowing text params (state g old))) where
-    pub starts : (HasCleanDisk (state g new) → HasBegun g text params old new) → Walking new sink
+    pub starts : (HasCleanDisk (state g new) → HasBegun g text params old new) → Walking new sink 0
     starts begun =
         let plain = λ (desk : IsDesk (state g old)). plain_in text asks.0 (state g old) asks.1 desk in
         let stays : HasCleanDisk (state g new) → IsDesk (state g old) → Stays (state g old) (state g new) = λ clean desk. inl (begun_plain g text params old new (plain desk) (begun clean)).1 in
@@ -113,7 +143,10 @@ module _ {S A K : Type 0} (g : Ghosts S) (of : Row → A) (after after_stop : K 
           books = keeps_books (state g old) (state g new) _ books mode survives stays (λ clean is_open. begun_opened (begun clean));
           keeps = keeps;
           crash = all_crash text params (state g old) (state g new) books asks mode survives;
-          open_on = λ clean. begun_is_open (begun clean);
+          unchanged = λ clean.
+              let before = (keeps (clean, begun_is_open (begun clean))).0 in
+              (begun_plain g text params old new (plain (books.desk before)) (begun clean)).1;
+          counted = refl;
           taken = [];
           takes = refl;
           given = λ kept. ([], (begun_plain g text params old new (plain (books.desk (keeps kept).0)) (begun kept.0)).0, refl);
@@ -128,21 +161,22 @@ module _ {S A K : Type 0} (g : Ghosts S) (of : Row → A) (after after_stop : K 
         begun_is_open (inr h) = shown_is_open text params (state g old) (state g new) _ h.1
 
     pub refused : (rows : List A) (e : Error) → (HasCleanDisk (state g new) → FailsToQuery text params (state g old) (state g new) e)
-        → (fault : WalkFault) (cause : LookFault) → failure_of (Err fault) ≡ Some cause
-        → WalksRows after after_stop rows (state g old) (state g new) sink sink (Err fault)
-    refused rows e fails fault cause is = record {
+        → (fault : WalkFault) → failure_of (Err fault) ≡ Some (fault_of e) → Ends rows new sink (Err fault)
+    refused rows e fails fault is = record {
       books = fault_books text params (state g old) (state g new) books asks mode survives e fails;
       keeps = fault_keeps text params (state g old) (state g new) books asks mode survives e fails;
       open_on = λ _ none. absurd (let k = is in cc);
-      hands = (rows, failed_walk after after_stop rows sink sink fault cause is ([], rows, refl, refl), λ _. refl);
+      cause = λ clean store. inl (inl (e, let k = is in cc, fails clean));
+      hands = (rows, failed_walk after after_stop rows sink sink fault (fault_of e) is ([], rows, refl, refl), λ _. refl);
       crash = all_crash text params (state g old) (state g new) books asks mode survives;
     }
 
   -- the rows that were taken are a front
-  front : (rows : List A) → SaysRows of text params (state g old) rows → (mid : Held S) (now : K) (so_far : Walking mid now)
+  front : (rows : List A) → SaysRows of text params (state g old) rows
+      → (mid : Held S) (now : K) (count : ℕ) (so_far : Walking mid now count)
       → HasCleanDisk (state g mid) → (rest : List A) × (rows ≡ so_far.taken ++ rest)
-  front rows says mid now so_far clean =
-      let kept : IsKept (state g mid) = (clean, so_far.open_on clean) in
+  front rows says mid now count so_far clean =
+      let kept : IsKept (state g mid) = (clean, (so_far.unchanged clean).0.is_open) in
       let it = so_far.given kept in
       let more = so_far.keeps kept in
       let rest = begins of text params (state g old) rows says (state g mid) so_far.books kept more.0 more.1 it.0 (given_begin g text params mid it.0 it.1) in
@@ -150,7 +184,7 @@ module _ {S A K : Type 0} (g : Ghosts S) (of : Row → A) (after after_stop : K 
 
   -- ---- one more row
 
-  module _ (mid new : Rows S g) (result : Result (Option (Bor Row)) Error) (moved : HasMoved g mid result new) (now : K) (so_far : Walking mid.conn.now now) where
+  module _ (mid new : Rows S g) (result : Result (Option (Bor Row)) Error) (moved : HasMoved g mid result new) (now : K) (count : ℕ) (so_far : Walking mid.conn.now now count) where
     after_next : HasCleanDisk (state g new.conn.now) → Stays (state g mid.conn.now) (state g new.conn.now)
     after_next clean = stays_after (state g mid.conn.now) (state g new.conn.now) result (moved.same clean) (moved.kept clean)
 
@@ -174,28 +208,60 @@ module _ {S A K : Type 0} (g : Ghosts S) (of : Row → A) (after after_stop : K 
     answered_open : (r : Option (Bor Row)) → result ≡ Ok r → HasCleanDisk (state g new.conn.now) → IsTrue (state g new.conn.now).is_open
     answered_open r is clean = (subst (λ x. OnOk x (IsUnchanged (state g mid.conn.now) (state g new.conn.now))) is (moved.same clean)).0.is_open
 
+    still_unchanged : (r : Option (Bor Row)) → result ≡ Ok r → HasCleanDisk (state g new.conn.now)
+        → IsUnchanged (state g old) (state g new.conn.now)
+    still_unchanged r is = then_unchanged (state g old) (state g mid.conn.now) (state g new.conn.now) was_clean so_far.unchanged so_far.crash
+        (λ clean. subst (λ x. OnOk x (IsUnchanged (state g mid.conn.now) (state g new.conn.now))) is (moved.same clean))
+
+    -- the rows that were given before, where the disk returned what was written
+    given_before : HasCleanDisk (state g new.conn.now)
+        → IsKept (state g mid.conn.now) × (rows : List Row) × HasGiven g text params mid.conn.now rows
+    given_before clean =
+        let kept : IsKept (state g mid.conn.now) = (was_clean clean, (so_far.unchanged (was_clean clean)).0.is_open) in
+        let it = so_far.given kept in
+        (kept, it.0, it.1)
+
     module _ (row : Bor Row) (is : result ≡ Ok (Some row)) where
       given_more : IsKept (state g new.conn.now) → (rows : List Row) × HasGiven g text params new.conn.now (rows ++ row.now ∷ []) × (so_far.taken ≡ map of rows)
       given_more kept =
           let it = so_far.given (one_keeps kept).0 in
           (it.0, subst (λ r. IfOk r (λ row. Advances g mid.conn.now new.conn.now (option_copied row))) is (moved.ok kept.0) text params it.0 it.1, it.2)
 
-      pub goes_on : (end : K) → after now (of row.now) end → Walking new.conn.now end
+      pub goes_on : (end : K) → after now (of row.now) end → Walking new.conn.now end (count + 1)
       goes_on end took = record {
         books = still_books;
         keeps = still_keeps;
         crash = still_survives;
-        open_on = answered_open (Some row) is;
+        unchanged = still_unchanged (Some row) is;
+        counted = length-append so_far.taken (of row.now ∷ []) ∙ ap (λ n. n + 1) so_far.counted;
         taken = so_far.taken ++ of row.now ∷ [];
         takes = all_taken after _ _ _ (one_more after (so_far.taken ++ of row.now ∷ []) (of row.now) [] _ _ _ (so_far.taken, refl, so_far.takes) took);
         given = λ kept. let it = given_more kept in (it.0 ++ row.now ∷ [], it.1, ap (λ ts. ts ++ of row.now ∷ []) it.2 ∙ sym (map-append of it.0 (row.now ∷ [])));
       }
 
       -- the row was not taken
-      pub left : (rows : List A) → SaysRows of text params (state g old) rows → (end : K) (fault : WalkFault) → HandsOne after after_stop (of row.now) now end (Err fault)
-          → WalksRows after after_stop rows (state g old) (state g new.conn.now) sink end (Err fault)
-      left rows says end fault hands = record { books = still_books; keeps = still_keeps; crash = still_survives; open_on = λ clean _. answered_open (Some row) is clean; hands = go fault hands }
+      pub left : (rows : List A) (says : SaysRows of text params (state g old) rows) (end : K) (fault : WalkFault)
+          → HandsOne after after_stop (of row.now) now end (Err fault) → (fault ≡ why.Store → ¬ IsReadable row.now)
+          → Ends rows new.conn.now end (Err fault)
+      left rows says end fault hands unread = record {
+        books = still_books;
+        keeps = still_keeps;
+        crash = still_survives;
+        open_on = λ clean _. answered_open (Some row) is clean;
+        cause = λ clean store. inl (inr (one_unread clean (unread (store_fault fault store))));
+        hands = go fault hands;
+      }
         where
+          one_unread : HasCleanDisk (state g new.conn.now) → ¬ IsReadable row.now
+              → IsKept (state g old) × ShowsUnread desk_schema IsReadable text params (state g old).now.trees
+          one_unread clean unreadable =
+              let kept : IsKept (state g new.conn.now) = (clean, answered_open (Some row) is clean) in
+              let it = given_more kept in
+              let more = still_keeps kept in
+              let start = given_begin g text params new.conn.now (it.0 ++ row.now ∷ []) it.1 in
+              let all = answers_on text params says.0 says.1 (state g old) (state g new.conn.now) still_books kept more.1 (it.0 ++ row.now ∷ []) start in
+              (more.0, (says.0, says.1, (it.0 ++ row.now ∷ []) ++ all.0, all.1, not_all IsReadable it.0 row.now all.0 unreadable))
+
           value : A
           value = of row.now
 
@@ -223,12 +289,13 @@ module _ {S A K : Type 0} (g : Ghosts S) (of : Row → A) (after after_stop : K 
     -- ---- no further row
 
     pub ended : result ≡ Ok None → (rows : List A) → SaysRows of text params (state g old) rows
-        → WalksRows after after_stop rows (state g old) (state g new.conn.now) sink now (Ok tt)
+        → Ends rows new.conn.now now (Ok tt)
     ended is rows says = record {
       books = still_books;
       keeps = still_keeps;
       crash = still_survives;
       open_on = λ clean _. answered_open None is clean;
+      cause = λ _ store. absurd (let k = store in cc);
       hands = (
         so_far.taken,
         so_far.takes,
@@ -242,50 +309,73 @@ module _ {S A K : Type 0} (g : Ghosts S) (of : Row → A) (after after_stop : K 
       );
     }
 
-    pub broken_off : (rows : List A) → SaysRows of text params (state g old) rows → (fault : WalkFault) (cause : LookFault) → failure_of (Err fault) ≡ Some cause
-        → WalksRows after after_stop rows (state g old) (state g new.conn.now) sink now (Err fault)
-    broken_off rows says fault cause is =
-        let rest = chosen (state g new.conn.now) so_far.taken rows (λ clean. front rows says mid.conn.now now so_far (was_clean clean)) in
+    pub broken_off : (rows : List A) → SaysRows of text params (state g old) rows → (e : Error) → result ≡ Err e
+        → (fault : WalkFault) → failure_of (Err fault) ≡ Some (fault_of e) → Ends rows new.conn.now now (Err fault)
+    broken_off rows says e failed fault is =
+        let rest = chosen (state g new.conn.now) so_far.taken rows (λ clean. front rows says mid.conn.now now count so_far (was_clean clean)) in
         record {
           books = still_books;
           keeps = still_keeps;
           crash = still_survives;
           open_on = λ _ none. absurd (let k = is in cc);
-          hands = (so_far.taken ++ rest.0, failed_walk after after_stop _ sink now fault cause is (so_far.taken, rest.0, refl, so_far.takes), rest.1);
+          cause = λ clean store.
+              let it = given_before clean in
+              let fails = subst (λ x. IfErr x (FailsToAdvance g mid.conn.now new.conn.now)) failed (moved.err clean) text params it.1 it.2 in
+              inl (inl (
+                e,
+                let k = is in cc,
+                error_later (state g old) (state g mid.conn.now) (state g new.conn.now) was_clean so_far.unchanged so_far.crash text params
+                    says.0 says.1 so_far.books clean e fails,
+              ));
+          hands = (so_far.taken ++ rest.0, failed_walk after after_stop _ sink now fault (fault_of e) is (so_far.taken, rest.0, refl, so_far.takes), rest.1);
         }
 
   -- after as many rows as a counter counts
-  pub cut : (mid : Held S) (now : K) → Walking mid now → (rows : List A) → SaysRows of text params (state g old) rows
-      → WalksRows after after_stop rows (state g old) (state g mid) sink now (Err why.Store)
-  cut mid now so_far rows says =
-      let rest = chosen (state g mid) so_far.taken rows (front rows says mid now so_far) in
+  pub cut : (mid : Held S) (now : K) (count : ℕ) → 2 ^ 64 - 1 ≤ count → Walking mid now count → (rows : List A)
+      → SaysRows of text params (state g old) rows → Ends rows mid now (Err why.Store)
+  cut mid now count many so_far rows says =
+      let rest = chosen (state g mid) so_far.taken rows (front rows says mid now count so_far) in
       record {
         books = so_far.books;
         keeps = so_far.keeps;
         crash = so_far.crash;
-        open_on = λ clean _. so_far.open_on clean;
+        open_on = λ clean _. (so_far.unchanged clean).0.is_open;
+        cause = λ clean _.
+            let kept : IsKept (state g mid) = (clean, (so_far.unchanged clean).0.is_open) in
+            let it = so_far.given kept in
+            let more = so_far.keeps kept in
+            let start = given_begin g text params mid it.0 it.1 in
+            let all = answers_on text params says.0 says.1 (state g old) (state g mid) so_far.books kept more.1 it.0 start in
+            let long : 2 ^ 64 - 1 ≤ length (it.0 ++ all.0) =
+            omega (arith, many, so_far.counted, ap length it.2, length-map it.0 of, length-append it.0 all.0) in
+            inr (more.0, (says.0, says.1, it.0 ++ all.0, all.1, long));
         hands = (so_far.taken ++ rest.0, (so_far.taken, rest.0, refl, so_far.takes), rest.1);
       }
 
 -- ---- a walk after a look-up, and a look-up that failed before it
 
-module _ {A K : Type 0} (after after_stop : K → A → K → Type 0) (rows : List A) (old mid : State) (sink : K) where
-  pub then_walks : (new : State) (end : K) (result : Result (Unit {0}) WalkFault) → KeepsRows old mid → (HasCleanDisk mid → IsTrue mid.is_open)
-      → LeavesNoMore old mid → WalksRows after after_stop rows mid new sink end result → WalksRows after after_stop rows old new sink end result
-  then_walks new end result keeps open_on crash walked = record {
+module _ {A K : Type 0} {Fails : State → State → Type 0} (after after_stop : K → A → K → Type 0) (rows : List A) (old mid : State) (sink : K) where
+  pub then_walks : {Then : State → State → Type 0} (new : State) (end : K) (result : Result (Unit {0}) WalkFault) → KeepsRows old mid → (HasCleanDisk mid → IsTrue mid.is_open)
+      → LeavesNoMore old mid → ((HasCleanDisk new → HasCleanDisk mid) → HasCleanDisk new → Then mid new → Fails old new)
+      → WalksRows Then after after_stop rows mid new sink end result
+      → WalksRows Fails after after_stop rows old new sink end result
+  then_walks new end result keeps open_on crash later walked = record {
     books = walked.books;
     keeps = then_keeps old mid new keeps walked.keeps;
     open_on = walked.open_on;
+    cause = λ clean store. later (clean_before mid new walked.crash) clean (walked.cause clean store);
     hands = walked.hands;
     crash = then_survives old mid new open_on crash walked.crash;
   }
 
   pub not_begun : (fault : WalkFault) (cause : LookFault) → failure_of (Err fault) ≡ Some cause → IsBooks mid → KeepsRows old mid → LeavesNoMore old mid
-      → WalksRows after after_stop rows old mid sink sink (Err fault)
-  not_begun fault cause is books keeps crash = record {
+      → (HasCleanDisk mid → cause ≢ look.Memory → Fails old mid)
+      → WalksRows Fails after after_stop rows old mid sink sink (Err fault)
+  not_begun fault cause is books keeps crash fails = record {
     books = books;
     keeps = keeps;
     open_on = λ _ none. absurd (let k = is in cc);
+    cause = λ clean store. fails clean (λ memory. let k = is in cc);
     hands = (rows, failed_walk after after_stop rows sink sink fault cause is ([], rows, refl, refl), λ _. refl);
     crash = crash;
   }

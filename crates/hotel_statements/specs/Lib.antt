@@ -2,6 +2,7 @@ pub mod Schema
 pub mod Texts
 pub mod Values
 pub mod Columns
+pub mod Readable
 pub mod Tables
 pub mod Books
 pub mod NewDesk
@@ -9,6 +10,7 @@ pub mod LookUps
 pub mod Steps
 pub mod Statements
 pub mod Walks
+pub mod Failures
 pub mod PlainRows
 pub mod WholeTables
 pub mod SameSchema

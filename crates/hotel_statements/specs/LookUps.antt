@@ -1,6 +1,7 @@
 -- What a look-up promises.
-use Rattle.std.specs.Prelude.{◌≡◌, ◌==◌, if◌then◌else◌, ℕ, false, length, List, [], ◌∷◌, map, Option, Some, None}
-use Rattle.std.specs.Prelude.{Result, IfOk, OnOk, IsTrue}
+use Rattle.std.specs.Prelude.{◌≡◌, ◌≢◌, ◌⊎◌, ◌==◌, if◌then◌else◌, ℕ, false, length, List, [], ◌∷◌, map, Option, Some}
+use Rattle.std.specs.Prelude.{None}
+use Rattle.std.specs.Prelude.{Result, IfOk, IfErr, OnOk, IsTrue, All}
 use Rattle.sqlite.specs.Order.{Row}
 use Rattle.sqlite.specs.Query.{Query, IsAnswer}
 use Rattle.sqlite.specs.Program.{overlay}
@@ -9,7 +10,7 @@ use Rattle.sqlite.specs.Schema.{Schema}
 use Rattle.sqlite.specs.Command.TheVariants.{Select}
 use Rattle.sqlite.specs.Listing.{understood, reads_listing}
 use Rattle.sqlite.specs.Given.{IsPlain}
-use Rattle.sqlite.specs.State.{State, HasCleanDisk, Survives}
+use Rattle.sqlite.specs.State.{State, HasCleanDisk, IsUnchanged, FailsToQuery, Survives}
 use Rattle.sqlite.specs.declared.error.ErrorCode.TheVariants.{OutOfMemory}
 use Rattle.sqlite.specs.declared.error.Error.{Error}
 use Rattle.sqlite.specs.declared.error.Error.TheVariants.{SqliteFailure}
@@ -68,6 +69,27 @@ FindsAll said of text params old result = (q : Query) → Asks text q → IfOk r
 abbrev pub LeavesNoMore : State → State → Type 0
 LeavesNoMore old new = Survives old new (λ _. IsKept old → ⊥)
 
+-- an answer of the statement has a row that can't be read
+abbrev pub ShowsUnread : Schema → (Row → Type 0) → List ℕ → Row → Trees → Type 0
+ShowsUnread schema IsReadable text params db =
+    (q : Query) × AsksOf schema text q × (rows : List Row) × IsAnswer q (overlay db []) params rows
+    × ¬ All IsReadable rows
+
+-- Why a statement over these tables has no answer, but for want of memory: sqlite gives an error of it, or one of
+-- its rows can't be read.
+abbrev pub FailsIn : Schema → (Row → Type 0) → List ℕ → Row → State → State → Type 0
+FailsIn schema IsReadable text params old new =
+    ((e : Error) × (fault_of e ≡ why.Store) × FailsToQuery text params old new e)
+    ⊎ (IsKept old × ShowsUnread schema IsReadable text params old.now.trees)
+
+-- of one that a desk understands
+abbrev pub FailsAt : (Row → Type 0) → List ℕ → Row → State → State → Type 0
+FailsAt = FailsIn desk_schema
+
+-- Memory may be wanting at any time; any other failure has this cause.
+abbrev pub HasCause : {R : Type 0} → (State → State → Type 0) → State → State → Result R LookFault → Type 0
+HasCause Fails old new result = HasCleanDisk new → IfErr result (λ fault. fault ≢ why.Memory → Fails old new)
+
 -- A look-up of the books, of a connection from old to new: where the test holds at its end, its answer says what is wanted of
 -- the rows. It changes no row, and a crash in it leaves nothing new.
 pub record LooksIf {A R : Type 0} (was : Type 0) (said : R → A) (wanted : Rows → A) (old new : State)
@@ -87,12 +109,27 @@ Looks said wanted old new result = LooksIf (Unit {0}) said wanted old new result
 abbrev pub MayLook : {A R : Type 0} → (R → A) → (Rows → A) → State → State → Result R LookFault → Type 0
 MayLook said wanted old new result = LooksIf (IsKept old) said wanted old new result
 
+-- All that a look-up which is a statement promises, and why it fails: where it is answered over a disk that returned
+-- what was written, it left the connection unchanged.
+pub record LooksUp {A R : Type 0} (Fails : State → State → Type 0) (said : R → A) (wanted : Rows → A) (old new : State)
+    (result : Result R LookFault) : Type 0 where
+  pub books : IsBooks new
+  pub keeps : KeepsRows old new
+  pub found : IsKept new → IfOk result (λ a. said a ≡ wanted (rows_in old.now.trees))
+  pub open_on : Unit {0} → HasCleanDisk new → OnOk result (IsTrue new.is_open)
+  pub unchanged : Unit {0} → HasCleanDisk new → OnOk result (IsUnchanged old new)
+  pub cause : HasCause Fails old new result
+  pub crash : LeavesNoMore old new
+
 -- A look-up in the tables as they stand, which promises as much.
-pub record Finds {R : Type 0} (wanted : Trees → R) (old new : State) (result : Result R LookFault) : Type 0 where
+pub record Finds {R : Type 0} (Fails : State → State → Type 0) (wanted : Trees → R) (old new : State)
+    (result : Result R LookFault) : Type 0 where
   pub books : IsBooks new
   pub keeps : KeepsRows old new
   pub found : IsKept new → IfOk result (λ a. a ≡ wanted old.now.trees)
   pub open_on : HasCleanDisk new → OnOk result (IsTrue new.is_open)
+  pub unchanged : HasCleanDisk new → OnOk result (IsUnchanged old new)
+  pub cause : HasCause Fails old new result
   pub crash : LeavesNoMore old new
 
 -- the first of some fits that has this number

@@ -1,8 +1,11 @@
 -- What the walks promise over a connection, and what the rows say that their statements show.
-use Rattle.std.specs.Prelude.{◌≡◌, ◌-◌, ◌==◌, ℕ, List, None, Result, Ok, Err, IsTrue}
+use Rattle.std.specs.Prelude.{◌≡◌, ◌⊎◌, ◌≤◌, ◌-◌, ◌^◌, ◌==◌, ℕ, List, [], length, Some, None, Result, Ok, Err, IsTrue}
 use Rattle.sqlite.specs.Order.{Row, column}
-use Rattle.sqlite.specs.Query.{Query}
+use Rattle.sqlite.specs.Query.{Query, IsAnswer}
+use Rattle.sqlite.specs.Program.{overlay}
+use Rattle.sqlite.specs.Tree.{Trees}
 use Rattle.sqlite.specs.State.{State, HasCleanDisk}
+use Rattle.keycard_rules.specs.declared.issued.LookFault.TheVariants as fault
 use Rattle.keycard_rules.specs.Note.{Note}
 use Rattle.hotel_core.specs.declared.books.rows.FitRow.{FitRow}
 use Rattle.hotel_core.specs.declared.books.walks.WalkFault.{WalkFault}
@@ -18,7 +21,7 @@ use Rattle.hotel_rows.specs.Joined.{with_count, fit_of_number}
 use Rattle.hotel_statements.specs.Columns.{note_row_of}
 use Rattle.hotel_statements.specs.Tables.{rows_in}
 use Rattle.hotel_statements.specs.Books.{IsKept, IsBooks, KeepsRows}
-use Rattle.hotel_statements.specs.LookUps.{Asks, AnswersAll, LeavesNoMore}
+use Rattle.hotel_statements.specs.LookUps.{Asks, AnswersAll, FailsAt, LeavesNoMore}
 
 -- A text that a desk understands as a query, each answer to which says these rows in order.
 abbrev pub SaysRows : {A : Type 0} → (Row → A) → List ℕ → Row → State → List A → Type 0
@@ -31,19 +34,33 @@ HandsOne after after_stop row sink end (Err why.Stopped) = after_stop sink row e
 HandsOne after after_stop row sink end (Err why.Memory) = end ≡ sink
 HandsOne after after_stop row sink end (Err why.Store) = end ≡ sink
 
+-- an answer of the statement has at least so many rows as a walk counts
+abbrev pub ShowsMany : List ℕ → Row → Trees → Type 0
+ShowsMany text params db =
+    (q : Query) × Asks text q × (rows : List Row) × IsAnswer q (overlay db []) params rows × (2 ^ 64 - 1 ≤ length rows)
+
+-- why a walk ends early, but for want of memory and a sink that stops
+abbrev pub WalkFails : (Row → Type 0) → List ℕ → Row → State → State → Type 0
+WalkFails IsReadable text params old new =
+    FailsAt IsReadable text params old new ⊎ (IsKept old × ShowsMany text params old.now.trees)
+
 -- A walk over these rows, of a connection from old to new and a sink from its meaning to that at the end: it hands over some rows,
 -- which are these where the disk returned what was written, also where a failure ended it. It changes no row, and a crash in it
 -- leaves nothing new.
-pub record WalksRows {S R : Type 0} (after after_stop : S → R → S → Type 0) (rows : List R) (old new : State) (sink end : S) (result : Result (Unit {0}) WalkFault) : Type 0 where
+pub record WalksRows {S R : Type 0} (Fails : State → State → Type 0) (after after_stop : S → R → S → Type 0)
+    (rows : List R) (old new : State) (sink end : S) (result : Result (Unit {0}) WalkFault) : Type 0 where
   pub books : IsBooks new
   pub keeps : KeepsRows old new
   pub open_on : HasCleanDisk new → failure_of result ≡ None → IsTrue new.is_open
+  pub cause : HasCleanDisk new → failure_of result ≡ Some fault.Store → Fails old new
   pub hands : (handed : List R) × Hands after after_stop handed sink end result × (HasCleanDisk new → handed ≡ rows)
   pub crash : LeavesNoMore old new
 
 -- a walk over a list of the rows that the tables have
-abbrev pub WalksList : {S R : Type 0} → (S → R → S → Type 0) → (S → R → S → Type 0) → (Rows → List R) → State → State → S → S → Result (Unit {0}) WalkFault → Type 0
-WalksList after after_stop list old new sink end result = WalksRows after after_stop (list (rows_in old.now.trees)) old new sink end result
+abbrev pub WalksList : {S R : Type 0} → (State → State → Type 0) → (S → R → S → Type 0) → (S → R → S → Type 0)
+    → (Rows → List R) → State → State → S → S → Result (Unit {0}) WalkFault → Type 0
+WalksList Fails after after_stop list old new sink end result =
+    WalksRows Fails after after_stop (list (rows_in old.now.trees)) old new sink end result
 
 -- ---- what rows of columns say
 

@@ -1,12 +1,13 @@
 -- What is read of whole tables, and what the reading promises.
-use Rattle.std.specs.Prelude.{◌≡◌, ℕ, false, List, [], map, Option, Some, None, Result, IfOk, OnOk, IsTrue, Vec}
+use Rattle.std.specs.Prelude.{◌≡◌, ◌⊎◌, ◌++◌, ℕ, false, List, [], map, Option, Some, None, Result, IfOk, OnOk, IsTrue}
+use Rattle.std.specs.Prelude.{Vec}
 use Rattle.std.specs.List.Sorted.{IsPermutation}
 use Rattle.std.specs.declared.alloc.Global.{Global}
 use Rattle.sqlite.specs.Order.{Row}
 use Rattle.sqlite.specs.Tree.{Trees}
 use Rattle.sqlite.specs.Query.{Query, IsAnswer}
 use Rattle.sqlite.specs.Program.{overlay}
-use Rattle.sqlite.specs.State.{State, HasCleanDisk}
+use Rattle.sqlite.specs.State.{State, HasCleanDisk, IsUnchanged}
 use Rattle.keycard_rules.specs.declared.issued.LookFault.{LookFault}
 use Rattle.hotel_rows.specs.declared.stored.PlainKind.{PlainKind}
 use Rattle.hotel_rows.specs.declared.stored.PlainRoom.{PlainRoom}
@@ -25,7 +26,8 @@ use Rattle.hotel_statements.specs.Columns.{meta_columns, kind_columns, room_colu
 use Rattle.hotel_statements.specs.Columns.{card_columns, note_columns, fit_columns}
 use Rattle.hotel_statements.specs.PlainRows.{meta_shown, kind_shown, room_shown, stay_shown, code_shown, card_shown}
 use Rattle.hotel_statements.specs.PlainRows.{numbered_columns, numbered_shown, note_shown, fit_shown, ArePlainRows}
-use Rattle.hotel_statements.specs.LookUps.{AsksOf, LeavesNoMore}
+use Rattle.hotel_statements.specs.LookUps.{AsksOf, FailsIn, HasCause, LeavesNoMore}
+use Rattle.hotel_statements.specs.Texts as text
 use Rattle.hotel_statements.specs.Books.{IsKept, KeepsRows}
 
 -- A connection outside any transaction, over the tables of a desk of a version, whatever their rows.
@@ -40,24 +42,37 @@ pub record IsWhole (version : Version) (text : List ℕ) (tree : ℕ) (columns c
   pub asks : AsksOf (schema_of version) text query
   pub answers : (db : Trees) (rows : List Row) → IsAnswer query (overlay db []) [] rows → IsPermutation (map columns (db tree)) (map cut rows)
 
+-- a row that begins with the columns of a plain row
+abbrev pub BeginsAs : {L : Type 0} → (L → Row) → Row → Type 0
+BeginsAs {L} shown row = (l : L) × (more : Row) × (shown l ++ more ≡ row)
+
+-- why a table of a version isn't read, but for want of memory
+abbrev pub TableFails : {L : Type 0} → Version → List ℕ → (L → Row) → State → State → Type 0
+TableFails version text shown = FailsIn (schema_of version) (BeginsAs shown) text []
+
 -- What a reading of the tables promises, of a connection from old to new: what it says of the trees where the test holds at its end.
 -- It changes no row, and a crash in it leaves nothing new.
-pub record ReadsIf {R : Type 0} (was : Type 0) (version : Version) (Says : R → Trees → Type 0) (old new : State)
+pub record ReadsIf {R : Type 0} (was : Type 0) (version : Version) (Fails : State → State → Type 0)
+    (Says : R → Trees → Type 0) (old new : State)
     (result : Result R LookFault) : Type 0 where
   pub ours : IsOurs version new
   pub keeps : KeepsRows old new
   pub says : IsKept new → IfOk result (λ r. Says r old.now.trees)
   pub open_on : was → HasCleanDisk new → OnOk result (IsTrue new.is_open)
+  pub unchanged : was → HasCleanDisk new → OnOk result (IsUnchanged old new)
+  pub cause : HasCause Fails old new result
   pub crash : LeavesNoMore old new
 
 -- The same of a reading that makes a statement: where it is answered over a disk that returned what was written, the connection
 -- is open.
-abbrev pub ReadsTo : {R : Type 0} → Version → (R → Trees → Type 0) → State → State → Result R LookFault → Type 0
-ReadsTo version Says old new result = ReadsIf (Unit {0}) version Says old new result
+abbrev pub ReadsPart : {R : Type 0} → Version → (State → State → Type 0) → (R → Trees → Type 0) → State → State
+    → Result R LookFault → Type 0
+ReadsPart version Fails Says old new result = ReadsIf (Unit {0}) version Fails Says old new result
 
 -- The same of one that may ask nothing: only a connection that was open is open.
-abbrev pub MayRead : {R : Type 0} → Version → (R → Trees → Type 0) → State → State → Result R LookFault → Type 0
-MayRead version Says old new result = ReadsIf (IsKept old) version Says old new result
+abbrev pub MayRead : {R : Type 0} → Version → (State → State → Type 0) → (R → Trees → Type 0) → State → State
+    → Result R LookFault → Type 0
+MayRead version Fails Says old new result = ReadsIf (IsKept old) version Fails Says old new result
 
 -- the rows of the first four tables, and of the next four
 abbrev pub AreFirst : (Vec PlainMeta Global × Vec PlainKind Global) × (Vec PlainRoom Global × Vec PlainStay Global) → Trees → Type 0
@@ -83,3 +98,28 @@ abbrev pub AreRead : Version → Tables → Trees → Type 0
 AreRead version t db =
     AreFirst ((t.meta, t.kinds), (t.rooms, t.stays)) db
     × (AreLast ((t.codes, t.cards), (t.inside, t.notes)) db × AreFitRows version t.fits db)
+
+-- ---- why they aren't read
+
+abbrev pub FirstFail : Version → State → State → Type 0
+FirstFail version old new =
+    (TableFails version text.read_meta meta_shown old new ⊎ TableFails version text.read_kind kind_shown old new)
+    ⊎ (TableFails version text.read_room room_shown old new ⊎ TableFails version text.read_stay stay_shown old new)
+
+abbrev pub LastFail : Version → State → State → Type 0
+LastFail version old new =
+    (TableFails version text.read_code code_shown old new ⊎ TableFails version text.read_card card_shown old new)
+    ⊎ (TableFails version text.read_inside numbered_shown old new
+    ⊎ TableFails version text.read_note note_shown old new)
+
+-- the first version has none that could fail
+abbrev pub FitRowsFail : Version → State → State → Type 0
+FitRowsFail First old new = ⊥
+FitRowsFail Second old new = TableFails Second text.read_fit fit_shown old new
+
+abbrev pub TablesFail : Version → State → State → Type 0
+TablesFail version old new = (FirstFail version old new ⊎ LastFail version old new) ⊎ FitRowsFail version old new
+
+-- The same of a reading of all tables: it fails only where one of them isn't read.
+abbrev pub ReadsTo : {R : Type 0} → Version → (R → Trees → Type 0) → State → State → Result R LookFault → Type 0
+ReadsTo version Says old new result = ReadsPart version (TablesFail version) Says old new result

@@ -1,8 +1,12 @@
 //! What is read from the columns that a statement shows.
-ghost use Rattle.std.specs.Prelude.{◌≡◌, ◌<◌, ◌+◌, ◌==◌, IfOk, string_bytes};
+ghost use Rattle.std.specs.Prelude.{◌≡◌, ◌≢◌, ◌<◌, ◌≤◌, ◌+◌, ◌==◌, length, IfOk, IfErr, string_bytes};
 ghost use Rattle.sqlite.specs.Order.{Row as SqlRow, column};
 ghost use Rattle.hotel_statements.specs.LookUps.{fault_of};
 ghost use Rattle.hotel_statements.specs.Values.{number_of, option_of, text_of};
+ghost use Rattle.hotel_statements.specs.Readable.{IsNatural, IsCount, IsText, IsNumber, IsCode, IsDay};
+ghost use Rattle.hotel_statements.specs.Readable.{IsBit, IsKind, IsGuest, OrNull};
+ghost use Rattle.hotel_statements.specs.Readable.{FailsToRead, IsState, IsAct};
+ghost use Rattle.hotel_statements.specs.Readable.{IsStay, IsCodeRow, IsCard, IsFit, BeginsWith};
 ghost use Rattle.hotel_statements.specs.Columns.{stay_row_of, code_row_of, card_row_of, fit_row_of, state_of, act_of};
 
 pub(crate) mod bare_rows;
@@ -31,13 +35,18 @@ pub(crate) trait FromRow: Sized {
     /// What a row with these columns says.
     ghost of: { SqlRow → Self };
 
+    /// It says one.
+    ghost is_readable: { SqlRow → Type 0 };
+
     fn from_row(alloc: Global, row: &Row) -> Result<Self, LookFault>
-        ensures { IfOk result (λ value. value ≡ of row.now) };
+        ensures reads { IfOk result (λ value. value ≡ of row.now) }
+        ensures unread { IfErr result (λ why. why ≢ LookFault.Memory → ¬ is_readable row.now) };
 }
 
 /// The number of a column.
 fn integer(row: &Row, at: usize) -> Result<u64, LookFault>
-    ensures { IfOk result (λ n. number_of (column row.now at) ≡ n) }
+    ensures reads { IfOk result (λ n. number_of (column row.now at) ≡ n) }
+    ensures unread { IfErr result (FailsToRead IsNatural row.now at) }
 {
     match row.get::<u64>(at) {
         Ok(n) => Ok(n),
@@ -47,7 +56,8 @@ fn integer(row: &Row, at: usize) -> Result<u64, LookFault>
 
 /// The number of a column, at most the greatest `u32`.
 fn small_integer(row: &Row, at: usize) -> Result<u32, LookFault>
-    ensures { IfOk result (λ n. number_of (column row.now at) ≡ n) }
+    ensures reads { IfOk result (λ n. number_of (column row.now at) ≡ n) }
+    ensures unread { IfErr result (FailsToRead IsCount row.now at) }
 {
     match row.get::<u32>(at) {
         Ok(n) => Ok(n),
@@ -57,7 +67,8 @@ fn small_integer(row: &Row, at: usize) -> Result<u32, LookFault>
 
 /// The number of a column that may be null.
 fn maybe_integer(row: &Row, at: usize) -> Result<Option<u32>, LookFault>
-    ensures { IfOk result (λ n. option_of (column row.now at) ≡ n) }
+    ensures reads { IfOk result (λ n. option_of (column row.now at) ≡ n) }
+    ensures unread { IfErr result (FailsToRead (OrNull IsCount) row.now at) }
 {
     match row.get::<Option<u32>>(at) {
         Ok(n) => Ok(n),
@@ -67,7 +78,8 @@ fn maybe_integer(row: &Row, at: usize) -> Result<Option<u32>, LookFault>
 
 /// The text of a column.
 fn text(row: &Row, at: usize) -> Result<String, LookFault>
-    ensures { IfOk result (λ text. text_of (column row.now at) ≡ string_bytes text) }
+    ensures reads { IfOk result (λ text. text_of (column row.now at) ≡ string_bytes text) }
+    ensures unread { IfErr result (FailsToRead IsText row.now at) }
 {
     match row.get::<String>(at) {
         Ok(text) => Ok(text),
@@ -77,7 +89,8 @@ fn text(row: &Row, at: usize) -> Result<String, LookFault>
 
 /// A number from 1 up to a greatest one.
 fn counted<K, const MOST: u32>(row: &Row, at: usize) -> Result<Number<K, MOST>, LookFault>
-    ensures { IfOk result (λ n. n ≡ number_of (column row.now at)) }
+    ensures reads { IfOk result (λ n. n ≡ number_of (column row.now at)) }
+    ensures unread { IfErr result (FailsToRead (IsNumber MOST) row.now at) }
 {
     let n = small_integer(row, at)?;
     match Number::new(n) {
@@ -91,7 +104,8 @@ fn maybe_counted<K, const MOST: u32>(
     row: &Row,
     at: usize,
 ) -> Result<Option<Number<K, MOST>>, LookFault>
-    ensures { IfOk result (λ n. n ≡ option_of (column row.now at)) }
+    ensures reads { IfOk result (λ n. n ≡ option_of (column row.now at)) }
+    ensures unread { IfErr result (FailsToRead (OrNull (IsNumber MOST)) row.now at) }
 {
     let Some(n) = maybe_integer(row, at)? else {
         return Ok(None);
@@ -103,7 +117,8 @@ fn maybe_counted<K, const MOST: u32>(
 }
 
 fn code(row: &Row, at: usize) -> Result<Code, LookFault>
-    ensures { IfOk result (λ c. c ≡ number_of (column row.now at)) }
+    ensures reads { IfOk result (λ c. c ≡ number_of (column row.now at)) }
+    ensures unread { IfErr result (FailsToRead IsCode row.now at) }
 {
     let n = integer(row, at)?;
     match Code::new(n) {
@@ -114,7 +129,11 @@ fn code(row: &Row, at: usize) -> Result<Code, LookFault>
 
 fn link(row: &Row, at: usize) -> Result<Link, LookFault>
     requires { at < 100 }
-    ensures { IfOk result (λ l. l ≡ record { old_code = number_of (column row.now at); new_code = number_of (column row.now (at + 1)) }) }
+    ensures reads { IfOk result (λ l. l ≡ record {
+        old_code = number_of (column row.now at);
+        new_code = number_of (column row.now (at + 1)) }) }
+    ensures unread { IfErr result (λ why. why ≢ LookFault.Memory → at + 1 < length row.now
+        → ¬ (IsCode (column row.now at) × IsCode (column row.now (at + 1)))) }
 {
     Ok(Link {
         old_code: code(row, at)?,
@@ -124,7 +143,8 @@ fn link(row: &Row, at: usize) -> Result<Link, LookFault>
 
 /// A day's number, which may be one of no day.
 fn day_number(row: &Row, at: usize) -> Result<u16, LookFault>
-    ensures { IfOk result (λ n. n ≡ number_of (column row.now at)) }
+    ensures reads { IfOk result (λ n. n ≡ number_of (column row.now at)) }
+    ensures unread { IfErr result (FailsToRead IsDay row.now at) }
 {
     let n = small_integer(row, at)?;
     if n > 36_524 {
@@ -134,7 +154,8 @@ fn day_number(row: &Row, at: usize) -> Result<u16, LookFault>
 }
 
 fn day(row: &Row, at: usize) -> Result<Day, LookFault>
-    ensures { IfOk result (λ d. d ≡ number_of (column row.now at)) }
+    ensures reads { IfOk result (λ d. d ≡ number_of (column row.now at)) }
+    ensures unread { IfErr result (FailsToRead IsDay row.now at) }
 {
     let n = day_number(row, at)?;
     match Day::new(n) {
@@ -144,7 +165,8 @@ fn day(row: &Row, at: usize) -> Result<Day, LookFault>
 }
 
 fn kind_code(row: &Row, at: usize) -> Result<KindCode, LookFault>
-    ensures { IfOk result (λ k. k ≡ text_of (column row.now at)) }
+    ensures reads { IfOk result (λ k. k ≡ text_of (column row.now at)) }
+    ensures unread { IfErr result (FailsToRead IsKind row.now at) }
 {
     let text = text(row, at)?;
     match KindCode::read(text.as_bytes()) {
@@ -154,7 +176,8 @@ fn kind_code(row: &Row, at: usize) -> Result<KindCode, LookFault>
 }
 
 fn guest(alloc: Global, row: &Row, at: usize) -> Result<Guest, LookFault>
-    ensures { IfOk result (λ g. g ≡ text_of (column row.now at)) }
+    ensures reads { IfOk result (λ g. g ≡ text_of (column row.now at)) }
+    ensures unread { IfErr result (FailsToRead IsGuest row.now at) }
 {
     let text = text(row, at)?;
     match Guest::read(alloc, text.as_str()) {
@@ -166,7 +189,8 @@ fn guest(alloc: Global, row: &Row, at: usize) -> Result<Guest, LookFault>
 
 /// Whether the column is 1 and not 0.
 fn bit(row: &Row, at: usize) -> Result<bool, LookFault>
-    ensures { IfOk result (λ b. b ≡ (number_of (column row.now at) == 1)) }
+    ensures reads { IfOk result (λ b. b ≡ (number_of (column row.now at) == 1)) }
+    ensures unread { IfErr result (FailsToRead IsBit row.now at) }
 {
     match small_integer(row, at)? {
         0 => Ok(false),
@@ -177,7 +201,10 @@ fn bit(row: &Row, at: usize) -> Result<bool, LookFault>
 
 /// How a stay stands, from its number and its room, which is set exactly where it is in house.
 fn stay_state(row: &Row) -> Result<StayState, LookFault>
-    ensures { IfOk result (λ state. state ≡ state_of (number_of (column row.now 5)) (option_of (column row.now 6))) }
+    ensures reads { IfOk result
+        (λ state. state ≡ state_of (number_of (column row.now 5)) (option_of (column row.now 6))) }
+    ensures unread { IfErr result (λ why. why ≢ LookFault.Memory → 7 ≤ length row.now
+        → ¬ IsState (column row.now 5) (column row.now 6)) }
 {
     let number = small_integer(row, 5)?;
     let room = maybe_counted(row, 6)?;
@@ -192,7 +219,11 @@ fn stay_state(row: &Row) -> Result<StayState, LookFault>
 
 /// What happened, from the number of the act, the card and the codes.
 fn act(row: &Row) -> Result<Act, LookFault>
-    ensures { IfOk result (λ act. act ≡ act_of (number_of (column row.now 2)) (option_of (column row.now 3)) (number_of (column row.now 4)) (number_of (column row.now 5))) }
+    ensures reads { IfOk result
+        (λ act. act ≡ act_of (number_of (column row.now 2)) (option_of (column row.now 3))
+        (number_of (column row.now 4)) (number_of (column row.now 5))) }
+    ensures unread { IfErr result (λ why. why ≢ LookFault.Memory → 6 ≤ length row.now
+        → ¬ (IsAct (column row.now 2) (column row.now 3) × IsCode (column row.now 4) × IsCode (column row.now 5))) }
 {
     let number = small_integer(row, 2)?;
     let card = maybe_counted(row, 3)?;
@@ -211,6 +242,8 @@ fn act(row: &Row) -> Result<Act, LookFault>
 impl FromRow for Stay {
     ghost of = { stay_row_of };
 
+    ghost is_readable = { IsStay };
+
     fn from_row(alloc: Global, row: &Row) -> Result<Stay, LookFault> {
         Ok(Stay {
             party: counted(row, 0)?,
@@ -226,6 +259,8 @@ impl FromRow for Stay {
 impl FromRow for CodeRow {
     ghost of = { code_row_of };
 
+    ghost is_readable = { IsCodeRow };
+
     fn from_row(_: Global, row: &Row) -> Result<CodeRow, LookFault> {
         Ok(CodeRow {
             room: counted(row, 1)?,
@@ -236,6 +271,8 @@ impl FromRow for CodeRow {
 
 impl FromRow for Card {
     ghost of = { card_row_of };
+
+    ghost is_readable = { IsCard };
 
     fn from_row(_: Global, row: &Row) -> Result<Card, LookFault> {
         Ok(Card {
@@ -248,6 +285,8 @@ impl FromRow for Card {
 
 impl FromRow for FitRow {
     ghost of = { fit_row_of };
+
+    ghost is_readable = { IsFit };
 
     fn from_row(_: Global, row: &Row) -> Result<FitRow, LookFault> {
         Ok(FitRow {
@@ -263,6 +302,8 @@ impl FromRow for FitRow {
 impl FromRow for Code {
     ghost of = { λ v. number_of (column v 0) };
 
+    ghost is_readable = { BeginsWith IsCode };
+
     fn from_row(_: Global, row: &Row) -> Result<Code, LookFault> {
         code(row, 0)
     }
@@ -271,6 +312,8 @@ impl FromRow for Code {
 /// A number alone.
 impl<K, const MOST: u32> FromRow for Number<K, MOST> {
     ghost of = { λ v. number_of (column v 0) };
+
+    ghost is_readable = { BeginsWith (IsNumber MOST) };
 
     fn from_row(_: Global, row: &Row) -> Result<Number<K, MOST>, LookFault> {
         counted(row, 0)
@@ -281,6 +324,8 @@ impl<K, const MOST: u32> FromRow for Number<K, MOST> {
 impl FromRow for KindCode {
     ghost of = { λ v. text_of (column v 0) };
 
+    ghost is_readable = { BeginsWith IsKind };
+
     fn from_row(_: Global, row: &Row) -> Result<KindCode, LookFault> {
         kind_code(row, 0)
     }
@@ -289,6 +334,8 @@ impl FromRow for KindCode {
 /// A day that may be null.
 impl FromRow for Option<Day> {
     ghost of = { λ v. option_of (column v 0) };
+
+    ghost is_readable = { BeginsWith (OrNull IsDay) };
 
     fn from_row(_: Global, row: &Row) -> Result<Option<Day>, LookFault> {
         let Some(n) = maybe_integer(row, 0)? else {

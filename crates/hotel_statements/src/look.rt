@@ -1,11 +1,11 @@
 //! One keyed statement, and the row that it finds.
-ghost use Rattle.std.specs.Prelude.{◌≡◌, IfOk, OnOk, IsTrue, map};
+ghost use Rattle.std.specs.Prelude.{◌≡◌, ◌≢◌, IfOk, IfErr, OnOk, All, map};
 ghost use Rattle.sqlite.specs.Held.{state};
-ghost use Rattle.sqlite.specs.State.{HasCleanDisk};
+ghost use Rattle.sqlite.specs.State.{HasCleanDisk, IsUnchanged};
 ghost use Rattle.sqlite.specs.Query.{Query};
 ghost use Rattle.sqlite.specs.Values.{bound};
 ghost use Rattle.hotel_statements.specs.Books.{IsBooks, IsKept, KeepsRows};
-ghost use Rattle.hotel_statements.specs.LookUps.{Asks, FindsFirst, FindsAll, LeavesNoMore};
+ghost use Rattle.hotel_statements.specs.LookUps.{Asks, FindsFirst, FindsAll, FailsAt, HasCause, LeavesNoMore};
 
 use crate::from_row::{FromRow, fault_of};
 use keycard_rules::LookFault;
@@ -25,7 +25,10 @@ pub(crate) fn look<S: Alter, R: FromRow>(
     ensures books { IsBooks (state S.Store conn.new) }
     ensures keeps { KeepsRows (state S.Store conn.old) (state S.Store conn.new) }
     ensures found { IsKept (state S.Store conn.new) → FindsFirst R.FromRow.of text.now (bound params.now) (state S.Store conn.old) result }
-    ensures open_on { HasCleanDisk (state S.Store conn.new) → OnOk result (IsTrue (state S.Store conn.new).is_open) }
+    ensures unchanged { HasCleanDisk (state S.Store conn.new) → OnOk result
+        (IsUnchanged (state S.Store conn.old) (state S.Store conn.new)) }
+    ensures cause { HasCause (FailsAt R.FromRow.is_readable text.now (bound params.now))
+        (state S.Store conn.old) (state S.Store conn.new) result }
     ensures crash { LeavesNoMore (state S.Store conn.old) (state S.Store conn.new) }
 {
     match conn.query_row(text, params) {
@@ -37,7 +40,8 @@ pub(crate) fn look<S: Alter, R: FromRow>(
 
 /// What each row says.
 fn read_all<R: FromRow + Drop>(alloc: Global, rows: &[Row]) -> Result<Vec<R>, LookFault>
-    ensures { IfOk result (λ all. all.items ≡ map R.FromRow.of rows.now) }
+    ensures reads { IfOk result (λ all. all.items ≡ map R.FromRow.of rows.now) }
+    ensures unread { IfErr result (λ fault. fault ≢ LookFault.Memory → ¬ All R.FromRow.is_readable rows.now) }
 {
     let mut all = Vec::new(alloc);
     'rows: for i in 0..rows.len() {
@@ -61,7 +65,10 @@ pub(crate) fn look_all<S: Alter, R: FromRow + Drop>(
     ensures books { IsBooks (state S.Store conn.new) }
     ensures keeps { KeepsRows (state S.Store conn.old) (state S.Store conn.new) }
     ensures found { IsKept (state S.Store conn.new) → FindsAll (λ all. all.items) R.FromRow.of text.now (bound params.now) (state S.Store conn.old) result }
-    ensures open_on { HasCleanDisk (state S.Store conn.new) → OnOk result (IsTrue (state S.Store conn.new).is_open) }
+    ensures unchanged { HasCleanDisk (state S.Store conn.new) → OnOk result
+        (IsUnchanged (state S.Store conn.old) (state S.Store conn.new)) }
+    ensures cause { HasCause (FailsAt R.FromRow.is_readable text.now (bound params.now))
+        (state S.Store conn.old) (state S.Store conn.new) result }
     ensures crash { LeavesNoMore (state S.Store conn.old) (state S.Store conn.new) }
 {
     match conn.query_all(text, params) {

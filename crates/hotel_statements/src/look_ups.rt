@@ -9,9 +9,14 @@ ghost use Rattle.sqlite.specs.Held.{state};
 ghost use Rattle.hotel_core.specs.Model.Rows.{has_kind, at_number, fit_at, fits_at};
 ghost use Rattle.hotel_core.specs.Model.Words.{is_one_of, pair_cmp};
 ghost use Rattle.hotel_core.specs.Model.Guests.{are_none};
-ghost use Rattle.hotel_core.specs.Books.Lookups.{room_at, codes_in, code_place, code_at, stay_at, stays_of_kind, card_at, inside_at, note_at, number_after};
+ghost use Rattle.hotel_core.specs.Books.Lookups.{room_at, codes_in, code_place, code_at, stay_at, stays_of_kind};
+ghost use Rattle.hotel_core.specs.Books.Lookups.{card_at, inside_at, note_at, number_after};
 ghost use Rattle.hotel_statements.specs.Books.{IsBooks, IsKept};
-ghost use Rattle.hotel_statements.specs.LookUps.{Looks, Finds, counts_of_row, numbered_fit, next_numbers_of};
+ghost use Rattle.hotel_statements.specs.Failures.{BareNoteFails, BareRoomFails, CardFails, CodeAtFails, CodeFails};
+ghost use Rattle.hotel_statements.specs.Failures.{DayFails, FitFails, FitsFail, HasInsideFails};
+ghost use Rattle.hotel_statements.specs.Failures.{InsideFails, IsInsideFails, KindFails, LastCardFails, LastPartyFails};
+ghost use Rattle.hotel_statements.specs.Failures.{NoteFails, NumbersFail, RoomFails, StayFails, StaysFail};
+ghost use Rattle.hotel_statements.specs.LookUps.{LooksUp, Finds, counts_of_row, numbered_fit, next_numbers_of};
 
 use crate::from_row::bare_rows::{BareNote, BareRoom, note_with, room_with};
 use crate::look::{look, look_all};
@@ -41,7 +46,7 @@ pub struct RoomCounts {
 /// The day of the desk, where one was set.
 pub fn day<S: Alter>(alloc: Global, conn: &mut Connection<S>) -> Result<Option<Day>, LookFault>
     requires { IsBooks (state S.Store conn.old) }
-    ensures { Looks (λ a. a) (λ rows. rows.day) (state S.Store conn.old) (state S.Store conn.new) result }
+    ensures { LooksUp DayFails (λ a. a) (λ rows. rows.day) (state S.Store conn.old) (state S.Store conn.new) result }
 {
     let day: Option<Option<Day>> = look(alloc, conn, SELECT_DAY, &[small(1)])?;
     Ok(day.unwrap_or(None))
@@ -54,7 +59,8 @@ pub fn kind<S: Alter>(
     kind: &KindCode,
 ) -> Result<bool, LookFault>
     requires { IsBooks (state S.Store conn.old) }
-    ensures { Looks (λ a. a) (λ rows. has_kind rows kind.now) (state S.Store conn.old) (state S.Store conn.new) result }
+    ensures { LooksUp (KindFails kind.now) (λ a. a) (λ rows. has_kind rows kind.now)
+        (state S.Store conn.old) (state S.Store conn.new) result }
 {
     let kind: Option<KindCode> = look(alloc, conn, SELECT_KIND, &[text(kind.as_bytes())])?;
     Ok(kind.is_some())
@@ -67,7 +73,7 @@ pub fn fits_of_room<S: Alter>(
     room: RoomNo,
 ) -> Result<Vec<FitRow>, LookFault>
     requires { IsBooks (state S.Store conn.old) }
-    ensures { Looks (λ v. v.items) (λ rows. fits_at rows.fits room)
+    ensures { LooksUp (FitsFail room) (λ v. v.items) (λ rows. fits_at rows.fits room)
         (state S.Store conn.old) (state S.Store conn.new) result }
 {
     look_all(alloc, conn, SELECT_FITS, &[small(room.value())])
@@ -81,7 +87,7 @@ pub fn fit<S: Alter>(
     number: FitNo,
 ) -> Result<Option<FitRow>, LookFault>
     requires { IsBooks (state S.Store conn.old) }
-    ensures { Looks (λ a. a) (λ rows. fit_at rows room number)
+    ensures { LooksUp (FitFails room number) (λ a. a) (λ rows. fit_at rows room number)
         (state S.Store conn.old) (state S.Store conn.new) result }
 {
     look(
@@ -99,7 +105,8 @@ pub(crate) fn bare_room<S: Alter>(
     room: RoomNo,
 ) -> Result<Option<BareRoom>, LookFault>
     requires { IsBooks (state S.Store conn.old) }
-    ensures { Finds (λ db. at_number (bare_rooms_in db) room) (state S.Store conn.old) (state S.Store conn.new) result }
+    ensures { Finds (BareRoomFails room) (λ db. at_number (bare_rooms_in db) room)
+        (state S.Store conn.old) (state S.Store conn.new) result }
 {
     look(alloc, conn, SELECT_ROOM, &[small(room.value())])
 }
@@ -111,7 +118,8 @@ pub fn room<S: Alter>(
     room: RoomNo,
 ) -> Result<Option<RoomRow>, LookFault>
     requires { IsBooks (state S.Store conn.old) }
-    ensures { Looks (λ a. a) (λ rows. room_at rows room) (state S.Store conn.old) (state S.Store conn.new) result }
+    ensures { LooksUp (RoomFails room) (λ a. a) (λ rows. room_at rows room)
+        (state S.Store conn.old) (state S.Store conn.new) result }
 {
     let Some(bare) = bare_room(alloc, conn, room)? else {
         return Ok(None);
@@ -127,7 +135,7 @@ pub fn room_counts<S: Alter>(
     room: RoomNo,
 ) -> Result<Option<RoomCounts>, LookFault>
     requires { IsBooks (state S.Store conn.old) }
-    ensures { Looks (λ a. a) (λ rows. option_map counts_of_row (room_at rows room))
+    ensures { LooksUp (BareRoomFails room) (λ a. a) (λ rows. option_map counts_of_row (room_at rows room))
         (state S.Store conn.old) (state S.Store conn.new) result }
 {
     let Some(bare) = bare_room(alloc, conn, room)? else {
@@ -143,7 +151,8 @@ pub fn stay<S: Alter>(
     party: PartyNo,
 ) -> Result<Option<Stay>, LookFault>
     requires { IsBooks (state S.Store conn.old) }
-    ensures { Looks (λ a. a) (λ rows. stay_at rows party) (state S.Store conn.old) (state S.Store conn.new) result }
+    ensures { LooksUp (StayFails party) (λ a. a) (λ rows. stay_at rows party)
+        (state S.Store conn.old) (state S.Store conn.new) result }
 {
     look(alloc, conn, SELECT_STAY, &[small(party.value())])
 }
@@ -155,7 +164,8 @@ pub fn code<S: Alter>(
     code: Code,
 ) -> Result<Option<CodeRow>, LookFault>
     requires { IsBooks (state S.Store conn.old) }
-    ensures { Looks (λ a. a) (λ rows. code_place rows code) (state S.Store conn.old) (state S.Store conn.new) result }
+    ensures { LooksUp (CodeFails code) (λ a. a) (λ rows. code_place rows code)
+        (state S.Store conn.old) (state S.Store conn.new) result }
 {
     look(alloc, conn, SELECT_CODE, &[number(code.value())])
 }
@@ -167,7 +177,8 @@ pub fn card<S: Alter>(
     number: CardNo,
 ) -> Result<Option<Card>, LookFault>
     requires { IsBooks (state S.Store conn.old) }
-    ensures { Looks (λ a. a) (λ rows. card_at rows number) (state S.Store conn.old) (state S.Store conn.new) result }
+    ensures { LooksUp (CardFails number) (λ a. a) (λ rows. card_at rows number)
+        (state S.Store conn.old) (state S.Store conn.new) result }
 {
     look(alloc, conn, SELECT_CARD, &[small(number.value())])
 }
@@ -181,7 +192,7 @@ fn bare_note<S: Alter>(
 ) -> Result<Option<BareNote>, LookFault>
     requires books { IsBooks (state S.Store conn.old) }
     requires low { at < 2 ^ 63 }
-    ensures { Finds (λ db. lookup (is_at (pair_cmp (room, at))) (bare_notes_in db))
+    ensures { Finds (BareNoteFails room at) (λ db. lookup (is_at (pair_cmp (room, at))) (bare_notes_in db))
         (state S.Store conn.old) (state S.Store conn.new) result }
 {
     look(alloc, conn, SELECT_NOTE, &[small(room.value()), number(at)])
@@ -209,7 +220,7 @@ pub fn note<S: Alter>(
     count: Count,
 ) -> Result<Option<LockNote>, LookFault>
     requires { IsBooks (state S.Store conn.old) }
-    ensures { Looks (λ a. a) (λ rows. note_at rows room fit count)
+    ensures { LooksUp (NoteFails room) (λ a. a) (λ rows. note_at rows room fit count)
         (state S.Store conn.old) (state S.Store conn.new) result }
 {
     let fits = fits_of_room(alloc, conn, room)?;
@@ -236,7 +247,8 @@ pub fn is_inside<S: Alter>(
     number: CardNo,
 ) -> Result<bool, LookFault>
     requires { IsBooks (state S.Store conn.old) }
-    ensures { Looks (λ a. a) (λ rows. is_one_of number (inside_at rows room)) (state S.Store conn.old) (state S.Store conn.new) result }
+    ensures { LooksUp (IsInsideFails room number) (λ a. a) (λ rows. is_one_of number (inside_at rows room))
+        (state S.Store conn.old) (state S.Store conn.new) result }
 {
     let card: Option<CardNo> = look(
         alloc,
@@ -254,7 +266,8 @@ pub fn has_inside<S: Alter>(
     room: RoomNo,
 ) -> Result<bool, LookFault>
     requires { IsBooks (state S.Store conn.old) }
-    ensures { Looks (λ a. a) (λ rows. not (are_none (inside_at rows room))) (state S.Store conn.old) (state S.Store conn.new) result }
+    ensures { LooksUp (HasInsideFails room) (λ a. a) (λ rows. not (are_none (inside_at rows room)))
+        (state S.Store conn.old) (state S.Store conn.new) result }
 {
     let card: Option<CardNo> = look(alloc, conn, SELECT_ANY_INSIDE, &[small(room.value())])?;
     Ok(card.is_some())
@@ -268,7 +281,8 @@ pub fn code_at<S: Alter>(
     place: u32,
 ) -> Result<Option<Code>, LookFault>
     requires { IsBooks (state S.Store conn.old) }
-    ensures { Looks (λ a. a) (λ rows. code_at rows room place) (state S.Store conn.old) (state S.Store conn.new) result }
+    ensures { LooksUp (CodeAtFails room place) (λ a. a) (λ rows. code_at rows room place)
+        (state S.Store conn.old) (state S.Store conn.new) result }
 {
     look(
         alloc,
@@ -285,7 +299,8 @@ pub fn stays_of_kind<S: Alter>(
     kind: &KindCode,
 ) -> Result<Vec<Stay>, LookFault>
     requires { IsBooks (state S.Store conn.old) }
-    ensures { Looks (λ v. v.items) (λ rows. stays_of_kind rows kind.now) (state S.Store conn.old) (state S.Store conn.new) result }
+    ensures { LooksUp (StaysFail kind.now) (λ v. v.items) (λ rows. stays_of_kind rows kind.now)
+        (state S.Store conn.old) (state S.Store conn.new) result }
 {
     look_all(alloc, conn, SELECT_STAYS_OF_KIND, &[text(kind.as_bytes())])
 }
@@ -297,7 +312,8 @@ pub fn inside<S: Alter>(
     room: RoomNo,
 ) -> Result<Vec<CardNo>, LookFault>
     requires { IsBooks (state S.Store conn.old) }
-    ensures { Looks (λ v. v.items) (λ rows. inside_at rows room) (state S.Store conn.old) (state S.Store conn.new) result }
+    ensures { LooksUp (InsideFails room) (λ v. v.items) (λ rows. inside_at rows room)
+        (state S.Store conn.old) (state S.Store conn.new) result }
 {
     look_all(alloc, conn, SELECT_CARDS_INSIDE, &[small(room.value())])
 }
@@ -309,7 +325,8 @@ pub fn is_issued<S: Alter>(
     number: Code,
 ) -> Result<bool, LookFault>
     requires { IsBooks (state S.Store conn.old) }
-    ensures { Looks (λ a. a) (λ rows. is_one_of number (codes_in rows)) (state S.Store conn.old) (state S.Store conn.new) result }
+    ensures { LooksUp (CodeFails number) (λ a. a) (λ rows. is_one_of number (codes_in rows))
+        (state S.Store conn.old) (state S.Store conn.new) result }
 {
     let place = code(alloc, conn, number)?;
     Ok(place.is_some())
@@ -322,7 +339,8 @@ fn last_party<S: Alter>(
 ) -> Result<Option<PartyNo>, LookFault>
     requires books { IsBooks (state S.Store conn.old) }
     requires numbered { IsKept (state S.Store conn.old) → count_up 1 (keys_of (rows_in (state S.Store conn.old).now.trees).stays) ≡ true }
-    ensures { Looks (λ o. unwrap_or o 0) (λ rows. length rows.stays) (state S.Store conn.old) (state S.Store conn.new) result }
+    ensures { LooksUp LastPartyFails (λ o. unwrap_or o 0) (λ rows. length rows.stays)
+        (state S.Store conn.old) (state S.Store conn.new) result }
 {
     look(alloc, conn, SELECT_LAST_PARTY, &[])
 }
@@ -331,7 +349,8 @@ fn last_party<S: Alter>(
 fn last_card<S: Alter>(alloc: Global, conn: &mut Connection<S>) -> Result<Option<CardNo>, LookFault>
     requires books { IsBooks (state S.Store conn.old) }
     requires numbered { IsKept (state S.Store conn.old) → count_up 1 (keys_of (rows_in (state S.Store conn.old).now.trees).cards) ≡ true }
-    ensures { Looks (λ o. unwrap_or o 0) (λ rows. length rows.cards) (state S.Store conn.old) (state S.Store conn.new) result }
+    ensures { LooksUp LastCardFails (λ o. unwrap_or o 0) (λ rows. length rows.cards)
+        (state S.Store conn.old) (state S.Store conn.new) result }
 {
     look(alloc, conn, SELECT_LAST_CARD, &[])
 }
@@ -354,7 +373,7 @@ pub fn next_numbers<S: Alter>(
     requires books { IsBooks (state S.Store conn.old) }
     requires parties { IsKept (state S.Store conn.old) → count_up 1 (keys_of (rows_in (state S.Store conn.old).now.trees).stays) ≡ true }
     requires cards { IsKept (state S.Store conn.old) → count_up 1 (keys_of (rows_in (state S.Store conn.old).now.trees).cards) ≡ true }
-    ensures { Looks (λ a. a) next_numbers_of (state S.Store conn.old) (state S.Store conn.new) result }
+    ensures { LooksUp NumbersFail (λ a. a) next_numbers_of (state S.Store conn.old) (state S.Store conn.new) result }
 {
     let party = last_party(alloc, conn)?;
     let card = last_card(alloc, conn)?;

@@ -6,7 +6,7 @@ ghost use Rattle.sqlite.specs.Values.{bound};
 ghost use Rattle.hotel_core.specs.Books.Walks.{failure_of};
 ghost use Rattle.hotel_statements.specs.Books.{IsBooks};
 ghost use Rattle.hotel_statements.specs.LookUps.{Asks};
-ghost use Rattle.hotel_statements.specs.Walks.{SaysRows, HandsOne, WalksRows};
+ghost use Rattle.hotel_statements.specs.Walks.{SaysRows, HandsOne, WalkFails, WalksRows};
 
 use crate::from_row::fault_of;
 use crate::from_row::list_rows::RowReader;
@@ -33,7 +33,9 @@ fn hand_over<R: Drop, F: RowReader<R>, K: Sink<R>>(
     row: &Row,
     sink: &mut K,
 ) -> Result<(), WalkFault>
-    ensures { HandsOne K.Sink.after K.Sink.after_stop (F.RowReader.says reader.now row.now) sink.old sink.new result }
+    ensures hands { HandsOne K.Sink.after K.Sink.after_stop (F.RowReader.says reader.now row.now)
+        sink.old sink.new result }
+    ensures unread { result ≡ Err WalkFault.Store → ¬ F.RowReader.is_readable reader.now row.now }
 {
     match reader.read(alloc, row) {
         Ok(value) => Ok(sink.take(&value)?),
@@ -53,13 +55,14 @@ pub(crate) fn walk<S: Alter, R: Drop, F: RowReader<R>, K: Sink<R>>(
     requires books { IsBooks (state S.Store conn.old) }
     requires asks { (q : Query) × Asks text.now q }
     ensures { (rows : List R) → SaysRows (F.RowReader.says reader.now) text.now (bound params.now) (state S.Store conn.old) rows
-        → WalksRows K.Sink.after K.Sink.after_stop rows (state S.Store conn.old) (state S.Store conn.new) sink.old sink.new result }
+        → WalksRows (WalkFails (F.RowReader.is_readable reader.now) text.now (bound params.now))
+        K.Sink.after K.Sink.after_stop rows (state S.Store conn.old) (state S.Store conn.new) sink.old sink.new result }
 {
     let mut rows = match conn.query(text, params) {
         Ok(rows) => rows,
         Err(error) => return Err(failed(fault_of(error))),
     };
-    'rows: for _ in 0..u64::MAX {
+    'rows: for _i in 0..u64::MAX {
         match rows.next() {
             Ok(Some(row)) => hand_over(alloc, reader, row, sink)?,
             Ok(None) => return Ok(()),

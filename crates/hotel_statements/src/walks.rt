@@ -6,6 +6,7 @@ ghost use Rattle.hotel_core.specs.Refinement.ListsOnRows.{arrivals_on, in_house_
 ghost use Rattle.hotel_statements.specs.Books.{IsBooks, IsKept};
 ghost use Rattle.hotel_statements.specs.Tables.{rows_in};
 ghost use Rattle.hotel_statements.specs.Walks.{WalksList};
+ghost use Rattle.hotel_statements.specs.Failures.{ArrivalsFail, AuditFails, ChainFails, InHouseFails, LeftBehindFails};
 
 use crate::from_row::bare_rows::UnderFits;
 use crate::from_row::list_rows::{Alone, AtLock};
@@ -27,7 +28,8 @@ pub fn arrivals<S: Alter, K: Sink<Stay>>(
     sink: &mut K,
 ) -> Result<(), WalkFault>
     requires { IsBooks (state S.Store conn.old) }
-    ensures { WalksList K.Sink.after K.Sink.after_stop (λ rows. arrivals_on rows day) (state S.Store conn.old) (state S.Store conn.new) sink.old sink.new result }
+    ensures { WalksList (ArrivalsFail day) K.Sink.after K.Sink.after_stop (λ rows. arrivals_on rows day)
+        (state S.Store conn.old) (state S.Store conn.new) sink.old sink.new result }
 {
     walk(alloc, conn, WALK_ARRIVALS, &[dated(day)], &Alone, sink)
 }
@@ -40,7 +42,8 @@ pub fn audit<S: Alter, K: Sink<LockNote>>(
     sink: &mut K,
 ) -> Result<(), WalkFault>
     requires { IsBooks (state S.Store conn.old) }
-    ensures { WalksList K.Sink.after K.Sink.after_stop (λ rows. audit_on rows room) (state S.Store conn.old) (state S.Store conn.new) sink.old sink.new result }
+    ensures { WalksList (AuditFails room) K.Sink.after K.Sink.after_stop (λ rows. audit_on rows room)
+        (state S.Store conn.old) (state S.Store conn.new) sink.old sink.new result }
 {
     match look_ups::fits_of_room(alloc, conn, room) {
         Ok(fits) => {
@@ -60,7 +63,8 @@ pub fn chain<S: Alter, K: Sink<ChainRow>>(
 ) -> Result<(), WalkFault>
     requires books { IsBooks (state S.Store conn.old) }
     requires sound { IsKept (state S.Store conn.old) → IsSound (rows_in (state S.Store conn.old).now.trees) }
-    ensures { WalksList K.Sink.after K.Sink.after_stop (λ rows. chain_on rows room) (state S.Store conn.old) (state S.Store conn.new) sink.old sink.new result }
+    ensures { WalksList (ChainFails room) K.Sink.after K.Sink.after_stop (λ rows. chain_on rows room)
+        (state S.Store conn.old) (state S.Store conn.new) sink.old sink.new result }
 {
     match look_ups::bare_room(alloc, conn, room) {
         Ok(Some(row)) => {
@@ -82,7 +86,8 @@ pub fn in_house<S: Alter, K: Sink<HouseRow>>(
 ) -> Result<(), WalkFault>
     requires books { IsBooks (state S.Store conn.old) }
     requires sound { IsKept (state S.Store conn.old) → IsSound (rows_in (state S.Store conn.old).now.trees) }
-    ensures { WalksList K.Sink.after K.Sink.after_stop in_house_on (state S.Store conn.old) (state S.Store conn.new) sink.old sink.new result }
+    ensures { WalksList InHouseFails K.Sink.after K.Sink.after_stop in_house_on
+        (state S.Store conn.old) (state S.Store conn.new) sink.old sink.new result }
 {
     walk(alloc, conn, WALK_IN_HOUSE, &[], &Alone, sink)
 }
@@ -95,7 +100,8 @@ pub fn left_behind<S: Alter, K: Sink<BehindRow>>(
 ) -> Result<(), WalkFault>
     requires books { IsBooks (state S.Store conn.old) }
     requires sound { IsKept (state S.Store conn.old) → IsSound (rows_in (state S.Store conn.old).now.trees) }
-    ensures { WalksList K.Sink.after K.Sink.after_stop left_behind_on (state S.Store conn.old) (state S.Store conn.new) sink.old sink.new result }
+    ensures { WalksList LeftBehindFails K.Sink.after K.Sink.after_stop left_behind_on
+        (state S.Store conn.old) (state S.Store conn.new) sink.old sink.new result }
 {
     walk(alloc, conn, WALK_LEFT_BEHIND, &[], &Alone, sink)
 }

@@ -1,10 +1,13 @@
 //! The tables, read whole.
-ghost use Rattle.std.specs.Prelude.{◌≡◌, map, IfOk};
+ghost use Rattle.std.specs.Prelude.{◌≡◌, ◌≢◌, ◌⊎◌, map, IfOk, IfErr, All};
 ghost use Rattle.std.specs.List.{list_all};
 ghost use Rattle.std.specs.Ordering.{is_lt};
 ghost use Rattle.sqlite.specs.Held.{state};
 ghost use Rattle.hotel_core.specs.Model.SoundRooms.{are_in_order};
-ghost use Rattle.hotel_statements.specs.WholeTables.{IsOurs, IsWhole, ReadsTo, MayRead, AreFirst, AreLast, AreFitRows, AreRead};
+ghost use Rattle.hotel_statements.specs.WholeTables.{IsOurs, IsWhole, ReadsPart, ReadsTo, MayRead};
+ghost use Rattle.hotel_statements.specs.WholeTables.{AreFirst, AreLast, AreFitRows, AreRead};
+ghost use Rattle.hotel_statements.specs.WholeTables.{BeginsAs, TableFails};
+ghost use Rattle.hotel_statements.specs.WholeTables.{FirstFail, LastFail, FitRowsFail};
 ghost use Rattle.hotel_statements.specs.PlainRows.{ArePlainRows};
 
 use crate::from_row::fault_of;
@@ -17,7 +20,8 @@ use std::alloc::Global;
 
 /// The rows that were shown, as plain data.
 fn plain_rows_of<L: PlainRow + Drop>(alloc: Global, rows: &[Row]) -> Result<Vec<L>, LookFault>
-    ensures { IfOk result (λ plain_rows. map L.PlainRow.shown plain_rows.items ≡ map L.PlainRow.cut rows.now) }
+    ensures reads { IfOk result (λ plain_rows. map L.PlainRow.shown plain_rows.items ≡ map L.PlainRow.cut rows.now) }
+    ensures unread { IfErr result (λ fault. fault ≢ LookFault.Memory → ¬ All (BeginsAs L.PlainRow.shown) rows.now) }
 {
     let mut plain_rows = Vec::new(alloc);
     'rows: for i in 0..rows.len() {
@@ -40,7 +44,7 @@ fn read_table<S: Alter, L: PlainRow + Drop>(
 ) -> Result<Vec<L>, LookFault>
     requires ours { IsOurs version (state S.Store conn.old) }
     requires whole { IsWhole version L.PlainRow.text L.PlainRow.tree L.PlainRow.columns L.PlainRow.cut }
-    ensures { ReadsTo version
+    ensures { ReadsPart version (TableFails version L.PlainRow.text L.PlainRow.shown)
         (λ plain_rows db. ArePlainRows L.PlainRow.columns L.PlainRow.shown plain_rows.items (db L.PlainRow.tree))
         (state S.Store conn.old) (state S.Store conn.new) result }
 {
@@ -59,7 +63,10 @@ fn read_two<S: Alter, A: PlainRow + Drop, B: PlainRow + Drop>(
     requires ours { IsOurs version (state S.Store conn.old) }
     requires first { IsWhole version A.PlainRow.text A.PlainRow.tree A.PlainRow.columns A.PlainRow.cut }
     requires second { IsWhole version B.PlainRow.text B.PlainRow.tree B.PlainRow.columns B.PlainRow.cut }
-    ensures { ReadsTo version (λ two db.
+    ensures { ReadsPart version
+        (λ old new. TableFails version A.PlainRow.text A.PlainRow.shown old new
+        ⊎ TableFails version B.PlainRow.text B.PlainRow.shown old new)
+        (λ two db.
         ArePlainRows A.PlainRow.columns A.PlainRow.shown two.0.items (db A.PlainRow.tree)
         × ArePlainRows B.PlainRow.columns B.PlainRow.shown two.1.items (db B.PlainRow.tree))
         (state S.Store conn.old) (state S.Store conn.new) result }
@@ -127,7 +134,7 @@ fn read_first<S: Alter>(
     LookFault,
 >
     requires { IsOurs version (state S.Store conn.old) }
-    ensures { ReadsTo version AreFirst (state S.Store conn.old) (state S.Store conn.new) result }
+    ensures { ReadsPart version (FirstFail version) AreFirst (state S.Store conn.old) (state S.Store conn.new) result }
 {
     let first = read_two(alloc, conn, version)?;
     let second = read_two(alloc, conn, version)?;
@@ -147,7 +154,7 @@ fn read_last<S: Alter>(
     LookFault,
 >
     requires { IsOurs version (state S.Store conn.old) }
-    ensures { ReadsTo version AreLast (state S.Store conn.old) (state S.Store conn.new) result }
+    ensures { ReadsPart version (LastFail version) AreLast (state S.Store conn.old) (state S.Store conn.new) result }
 {
     let first = read_two(alloc, conn, version)?;
     let second = read_two(alloc, conn, version)?;
@@ -161,7 +168,8 @@ fn read_fits<S: Alter>(
     version: Version,
 ) -> Result<Option<Vec<PlainFit>>, LookFault>
     requires { IsOurs version (state S.Store conn.old) }
-    ensures { MayRead version (AreFitRows version) (state S.Store conn.old) (state S.Store conn.new) result }
+    ensures { MayRead version (FitRowsFail version) (AreFitRows version)
+        (state S.Store conn.old) (state S.Store conn.new) result }
 {
     match version {
         Version::First => Ok(None),

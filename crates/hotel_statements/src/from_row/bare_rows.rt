@@ -1,10 +1,12 @@
 //! Rooms and notes as their tables have them, and what they are with the fits of their rooms.
-ghost use Rattle.std.specs.Prelude.{◌≡◌, IfOk};
+ghost use Rattle.std.specs.Prelude.{◌≡◌, None, IfOk, IfErr};
 ghost use Rattle.sqlite.specs.Order.{Row as SqlRow};
 ghost use Rattle.hotel_core.specs.Model.Rows.{last_fit};
 ghost use Rattle.hotel_rows.specs.Joined.{with_last, with_count, fit_of_number};
 ghost use Rattle.hotel_statements.specs.Columns.{room_row_of, note_row_of};
 ghost use Rattle.hotel_statements.specs.LookUps.{counts_of_row};
+ghost use Rattle.hotel_statements.specs.Readable.{IsRoom, IsNote, IsUnderFits};
+ghost use Rattle.hotel_statements.specs.Failures.{IsNoteUnder};
 ghost use Rattle.hotel_statements.specs.Walks.{note_under};
 
 use super::list_rows::RowReader;
@@ -94,6 +96,8 @@ impl Model for BareNote {
 impl FromRow for BareRoom {
     ghost of = { room_row_of };
 
+    ghost is_readable = { IsRoom };
+
     fn from_row(_: Global, row: &Row) -> Result<BareRoom, LookFault> {
         Ok(BareRoom {
             room: counted(row, 0)?,
@@ -109,6 +113,8 @@ impl FromRow for BareRoom {
 
 impl FromRow for BareNote {
     ghost of = { note_row_of };
+
+    ghost is_readable = { IsNote };
 
     fn from_row(_: Global, row: &Row) -> Result<BareNote, LookFault> {
         Ok(BareNote {
@@ -150,7 +156,8 @@ fn fit_of(fits: &[FitRow], number: u32) -> Option<FitRow>
 ///
 /// One that has none is not read.
 pub(crate) fn room_with(room: &BareRoom, fits: &[FitRow]) -> Result<RoomRow, LookFault>
-    ensures { IfOk result (λ row. row ≡ with_last (last_fit fits.now) room.now) }
+    ensures reads { IfOk result (λ row. row ≡ with_last (last_fit fits.now) room.now) }
+    ensures unread { IfErr result (λ why. last_fit fits.now ≡ None) }
 {
     let Some(last) = last_of(fits) else {
         return Err(LookFault::Store);
@@ -172,7 +179,9 @@ pub(crate) fn room_with(room: &BareRoom, fits: &[FitRow]) -> Result<RoomRow, Loo
 ///
 /// One that has none is not read.
 pub(crate) fn note_with(note: &BareNote, fits: &[FitRow]) -> Result<LockNote, LookFault>
-    ensures { IfOk result (λ with. with ≡ with_count (fit_of_number fits.now note.now.count) note.now.count note.now) }
+    ensures unread { IfErr result (λ why. ¬ IsUnderFits fits.now note.now) }
+    ensures reads { IfOk result
+        (λ with. with ≡ with_count (fit_of_number fits.now note.now.count) note.now.count note.now) }
 {
     let Some(fit) = fit_of(fits, note.number) else {
         return Err(LookFault::Store);
@@ -194,6 +203,8 @@ pub(crate) struct UnderFits {
 
 impl RowReader<LockNote> for UnderFits {
     ghost says = { λ reader. note_under reader.fits.items };
+
+    ghost is_readable = { λ reader. IsNoteUnder reader.fits.items };
 
     fn read(&self, alloc: Global, row: &Row) -> Result<LockNote, LookFault> {
         let note = BareNote::from_row(alloc, row)?;

@@ -1,7 +1,8 @@
 //! The rows of lists, from the columns that the walks' statements show.
-ghost use Rattle.std.specs.Prelude.{◌≡◌, ◌-◌, IfOk};
+ghost use Rattle.std.specs.Prelude.{◌≡◌, ◌≢◌, ◌≤◌, ◌-◌, length, IfOk, IfErr};
 ghost use Rattle.sqlite.specs.Order.{Row as SqlRow, column};
 ghost use Rattle.hotel_statements.specs.Values.{number_of};
+ghost use Rattle.hotel_statements.specs.Readable.{IsCount, IsOfChain, IsInHouse, IsBehind};
 ghost use Rattle.hotel_statements.specs.Walks.{house_row_of, chain_row_of, behind_row_of};
 
 use super::{FromRow, bit, code, counted, day, guest, kind_code, small_integer};
@@ -15,8 +16,12 @@ pub(crate) trait RowReader<R> {
     /// What a row with these columns says.
     ghost says: { Self → SqlRow → R };
 
+    /// It says one.
+    ghost is_readable: { Self → SqlRow → Type 0 };
+
     fn read(&self, alloc: Global, row: &Row) -> Result<R, LookFault>
-        ensures { IfOk result (λ value. value ≡ says self.now row.now) };
+        ensures reads { IfOk result (λ value. value ≡ says self.now row.now) }
+        ensures unread { IfErr result (λ why. why ≢ LookFault.Memory → ¬ is_readable self.now row.now) };
 }
 
 /// Reads what the columns say by themselves.
@@ -25,6 +30,8 @@ pub(crate) struct Alone;
 
 impl<R: FromRow> RowReader<R> for Alone {
     ghost says = { λ _. R.FromRow.of };
+
+    ghost is_readable = { λ _. R.FromRow.is_readable };
 
     fn read(&self, alloc: Global, row: &Row) -> Result<R, LookFault> {
         R::from_row(alloc, row)
@@ -40,6 +47,8 @@ pub(crate) struct AtLock {
 impl RowReader<ChainRow> for AtLock {
     ghost says = { λ lock. chain_row_of lock.place };
 
+    ghost is_readable = { λ _. IsOfChain };
+
     fn read(&self, _: Global, row: &Row) -> Result<ChainRow, LookFault> {
         let place = small_integer(row, 0)?;
         let code = code(row, 1)?;
@@ -50,6 +59,8 @@ impl RowReader<ChainRow> for AtLock {
 
 impl FromRow for HouseRow {
     ghost of = { house_row_of };
+
+    ghost is_readable = { IsInHouse };
 
     fn from_row(alloc: Global, row: &Row) -> Result<HouseRow, LookFault> {
         Ok(HouseRow {
@@ -65,7 +76,9 @@ impl FromRow for HouseRow {
 
 /// How many codes come after the one that the lock holds.
 fn awaited(row: &Row) -> Result<u32, LookFault>
-    ensures { IfOk result (λ n. n ≡ number_of (column row.now 4) - number_of (column row.now 3) - 1) }
+    ensures reads { IfOk result (λ n. n ≡ number_of (column row.now 4) - number_of (column row.now 3) - 1) }
+    ensures unread { IfErr result (λ why. why ≢ LookFault.Memory → 5 ≤ length row.now
+        → ¬ (IsCount (column row.now 3) × IsCount (column row.now 4))) }
 {
     let lock_place = small_integer(row, 3)?;
     let codes = small_integer(row, 4)?;
@@ -74,6 +87,8 @@ fn awaited(row: &Row) -> Result<u32, LookFault>
 
 impl FromRow for BehindRow {
     ghost of = { behind_row_of };
+
+    ghost is_readable = { IsBehind };
 
     fn from_row(_: Global, row: &Row) -> Result<BehindRow, LookFault> {
         Ok(BehindRow {

@@ -1,7 +1,9 @@
 use Rattle.std.proofs.Common.{◌∙◌, ap, Err, rules}
 use Rattle.sqlite.specs.Held.{state}
 use Rattle.sqlite.specs.Values.{bound}
-use Rattle.hotel_statements.proofs.Looked.{looked, look_found, look_lost, look_open, none_open}
+use Rattle.hotel_statements.proofs.Looked.{looked, look_found, look_lost, look_unchanged, none_unchanged, look_failed}
+use Rattle.hotel_statements.proofs.Looked.{look_unread}
+use Rattle.hotel_statements.proofs.Unread.{cause_passed}
 use Rattle.hotel_statements.proofs.look.look.Goals as goal
 
 pub returns-in_err-from_row-in-Ok : goal.returns-in_err-from_row-in-Ok
@@ -12,7 +14,11 @@ returns-in_err-from_row-in-Ok g c =
       books = kept.0;
       keeps = kept.1;
       found = search rules;
-      open_on = search rules;
+      unchanged = search rules;
+      cause = λ clean. cause_passed c.from_residual.result _ c.from_residual.ensures (λ other.
+          look_unread c.args.text.now (bound c.args.params.now) (state g.S.Store c.args.conn.now) (state g.S.Store c.query_row.new.self) c.query_row.result c.requires.books c.requires.asks c.query_row.ensures.row
+          c.query_row.ensures.mode c.query_row.ensures.survives
+          g.R.FromRow.is_readable c.in-Ok.row c.in-Ok.is (c.in_err-from_row-in-Ok.ensures.unread other) clean);
       crash = kept.2;
     }
 
@@ -26,7 +32,8 @@ returns-in_ok-from_row-in-Ok g c =
       found = λ still q asks. look_found c.args.text.now (bound c.args.params.now) (state g.S.Store c.args.conn.now) (state g.S.Store c.query_row.new.self) c.query_row.result c.requires.books c.requires.asks c.query_row.ensures.row
           c.query_row.ensures.mode c.query_row.ensures.survives
           g.R.FromRow.of c.in-Ok.row c.in_ok-from_row-in-Ok.field-0 c.in-Ok.is (search rules) still q asks;
-      open_on = look_open c.args.text.now (bound c.args.params.now) (state g.S.Store c.args.conn.now) (state g.S.Store c.query_row.new.self) c.query_row.result c.requires.books c.requires.asks c.query_row.ensures.row
+      cause = search rules;
+      unchanged = look_unchanged c.args.text.now (bound c.args.params.now) (state g.S.Store c.args.conn.now) (state g.S.Store c.query_row.new.self) c.query_row.result c.requires.books c.requires.asks c.query_row.ensures.row
           c.query_row.ensures.mode c.query_row.ensures.survives
           c.in-Ok.row c.in-Ok.is;
       crash = kept.2;
@@ -42,7 +49,8 @@ returns-in-Err-QueryReturnedNoRows g c =
       found = λ still q asks. look_lost c.args.text.now (bound c.args.params.now) (state g.S.Store c.args.conn.now) (state g.S.Store c.query_row.new.self) c.query_row.result c.requires.books c.requires.asks c.query_row.ensures.row
           c.query_row.ensures.mode c.query_row.ensures.survives
           g.R.FromRow.of (c.in-Err-QueryReturnedNoRows.is ∙ ap Err c.in-Err-QueryReturnedNoRows.field-0-is) still q asks;
-      open_on = none_open c.args.text.now (bound c.args.params.now) (state g.S.Store c.args.conn.now) (state g.S.Store c.query_row.new.self) c.query_row.result c.requires.books c.requires.asks c.query_row.ensures.row
+      cause = search rules;
+      unchanged = none_unchanged c.args.text.now (bound c.args.params.now) (state g.S.Store c.args.conn.now) (state g.S.Store c.query_row.new.self) c.query_row.result c.requires.books c.requires.asks c.query_row.ensures.row
           c.query_row.ensures.mode c.query_row.ensures.survives
           (c.in-Err-QueryReturnedNoRows.is ∙ ap Err c.in-Err-QueryReturnedNoRows.field-0-is);
       crash = kept.2;
@@ -56,6 +64,8 @@ returns-in-Err g c =
       books = kept.0;
       keeps = kept.1;
       found = λ _ _ _. tt;
-      open_on = λ _. tt;
+      unchanged = λ _. tt;
+      cause = λ clean cause. look_failed c.args.text.now (bound c.args.params.now) (state g.S.Store c.args.conn.now) (state g.S.Store c.query_row.new.self) c.query_row.result c.requires.books c.requires.asks c.query_row.ensures.row
+          c.query_row.ensures.mode c.query_row.ensures.survives g.R.FromRow.is_readable c.in-Err.error c.in-Err.is (search rules) (λ e. cause (c.fault_of.ensures ∙ e)) clean;
       crash = kept.2;
     }

@@ -5,7 +5,8 @@ use Rattle.sqlite.specs.Held.{state}
 use Rattle.hotel_statements.specs.Values.{int}
 use Rattle.hotel_statements.specs.Columns.{card_row_of}
 use Rattle.hotel_statements.specs.Books.{IsKept}
-use Rattle.hotel_statements.specs.LookUps.{Asks, AnswersFirst}
+use Rattle.hotel_statements.specs.LookUps.{Asks, AnswersFirst, HasCause}
+use Rattle.hotel_statements.specs.Failures.{CardFails}
 use Rattle.hotel_statements.specs.Texts as text
 use Rattle.hotel_statements.proofs.Statements.Selects as selects
 use Rattle.hotel_statements.proofs.Keyed.{looks_to}
@@ -21,6 +22,7 @@ returns g c =
     let new = state g.S.Store c.look.new.conn in
     let finds : IsKept new → (p : Query) → Asks text.select_card p → IfOk c.look.result (AnswersFirst (card_row_of) p (int c.args.number ∷ []) old.now.trees) =
     rw (c.small.ensures, c.value.ensures.same) at c.look.ensures.found in
+    let cause : HasCause (CardFails c.args.number) old new c.look.result = rw (c.small.ensures, c.value.ensures.same) at c.look.ensures.cause in
     looks_to text.select_card (int c.args.number ∷ []) old new (card_row_of) _ c.look.result c.look.result
-    (λ a. a) _ c.requires c.look.ensures.books c.look.ensures.keeps finds c.look.ensures.open_on c.look.ensures.crash selects.select_card
+    (λ a. a) _ c.requires c.look.ensures.books c.look.ensures.keeps finds c.look.ensures.unchanged cause c.look.ensures.crash selects.select_card
     (λ kept tables. IfOk-weaker c.look.result _ _ (λ o a. card_finds old.now.trees tables c.args.number o a))

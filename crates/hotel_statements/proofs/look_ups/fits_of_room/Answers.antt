@@ -5,7 +5,9 @@ use Rattle.sqlite.specs.Held.{state}
 use Rattle.hotel_statements.specs.Values.{int}
 use Rattle.hotel_statements.specs.Columns.{fit_row_of}
 use Rattle.hotel_statements.specs.Books.{IsKept}
-use Rattle.hotel_statements.specs.LookUps.{Asks, AnswersAll}
+use Rattle.hotel_statements.specs.LookUps.{Asks, AnswersAll, HasCause}
+use Rattle.hotel_statements.specs.Failures.{FitsFail}
+use Rattle.hotel_statements.proofs.Keyed.{open_still}
 use Rattle.hotel_statements.specs.Texts as text
 use Rattle.hotel_statements.proofs.Statements.Selects as selects
 use Rattle.hotel_statements.proofs.ByRoom.{fits_find}
@@ -21,6 +23,7 @@ returns g c =
     let shown : IsKept new → (p : Query) → Asks text.select_fits p
     → IfOk c.look_all.result (λ all. AnswersAll fit_row_of p (int c.args.room ∷ []) old.now.trees all.items) =
     rw (c.small.ensures, c.value.ensures.same) at c.look_all.ensures.found in
+    let cause : HasCause (FitsFail c.args.room) old new c.look_all.result = rw (c.small.ensures, c.value.ensures.same) at c.look_all.ensures.cause in
     record {
       books = c.look_all.ensures.books;
       keeps = c.look_all.ensures.keeps;
@@ -28,6 +31,8 @@ returns g c =
           (λ all a. fits_find old.now.trees (c.requires.desk (c.look_all.ensures.keeps kept).0).tables c.args.room
           all.items a)
           (shown kept _ selects.select_fits);
-      open_on = λ _. c.look_all.ensures.open_on;
+      open_on = λ _ clean. open_still old new c.look_all.result (c.look_all.ensures.unchanged clean);
+      unchanged = λ _. c.look_all.ensures.unchanged;
+      cause = cause;
       crash = c.look_all.ensures.crash;
     }

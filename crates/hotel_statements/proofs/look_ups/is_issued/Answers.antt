@@ -13,5 +13,7 @@ returns g c =
       keeps = c.in_ok-place.ensures.keeps;
       found = λ kept. c.is_some.ensures ∙ ap is_some (c.in_ok-place.ensures.found kept) ∙ issued_where_found c.args.number (rows_in old.now.trees);
       open_on = c.in_ok-place.ensures.open_on;
+      unchanged = c.in_ok-place.ensures.unchanged;
+      cause = λ _. tt;
       crash = c.in_ok-place.ensures.crash;
     }

@@ -5,6 +5,7 @@ use Rattle.sqlite.specs.Held.{state}
 use Rattle.hotel_statements.specs.Columns.{stay_columns, stay_of, stay_written}
 use Rattle.hotel_statements.proofs.Statements.Selects as selects
 use Rattle.hotel_statements.proofs.Last.{last_finds}
+use Rattle.hotel_statements.proofs.Keyed.{open_still}
 use Rattle.hotel_statements.proofs.look_ups.last_party.Goals as goal
 
 pub look-requires-clause-asks : goal.look-requires-clause-asks
@@ -21,6 +22,8 @@ returns g c =
           IfOk-weaker c.look.result _ _ (λ o a. last_finds Stay 5 stay_columns stay_of stay_written old.now.trees (c.requires.books.desk was).tables.stay (λ r. refl) (λ e. refl)
           (c.requires.numbered was) o a)
           (c.look.ensures.found kept _ selects.select_last_party);
-      open_on = λ _. c.look.ensures.open_on;
+      open_on = λ _ clean. open_still old (state g.S.Store c.look.new.conn) c.look.result (c.look.ensures.unchanged clean);
+      unchanged = λ _. c.look.ensures.unchanged;
+      cause = c.look.ensures.cause;
       crash = c.look.ensures.crash;
     }

@@ -1,10 +1,15 @@
-use Rattle.std.proofs.Common.{◌∙◌, ap, ap₂, rules}
+use Rattle.std.proofs.Common.{◌∙◌, ap, ap₂, rules, inr, []}
 use Rattle.std.specs.Prelude.{length}
 use Rattle.sqlite.specs.Held.{state}
 use Rattle.sqlite.specs.Effect.{Database}
 use Rattle.hotel_core.specs.Books.Lookups.{number_after}
 use Rattle.hotel_statements.specs.Tables.{rows_in}
 use Rattle.hotel_statements.proofs.Keeps.{then_keeps, then_survives}
+use Rattle.hotel_statements.specs.Readable.{IsNumber, BeginsWith}
+use Rattle.hotel_statements.specs.Texts as text
+use Rattle.hotel_statements.proofs.Statements.Selects as selects
+use Rattle.hotel_statements.proofs.Since.{then_unchanged, fails_later, clean_before}
+use Rattle.hotel_statements.proofs.Unread.{cause_passed}
 use Rattle.hotel_statements.proofs.look_ups.next_numbers.Goals as goal
 
 pub returns-in_err-card : goal.returns-in_err-card
@@ -17,6 +22,10 @@ returns-in_err-card g c =
       keeps = then_keeps old mid new c.in_ok-party.ensures.keeps c.last_card.ensures.keeps;
       found = search rules;
       open_on = search rules;
+      unchanged = search rules;
+      cause = λ clean. cause_passed c.from_residual-in_err-card.result _ c.from_residual-in_err-card.ensures (λ other.
+          inr (fails_later old mid new (clean_before mid new c.last_card.ensures.crash) (c.in_ok-party.ensures.unchanged tt) c.in_ok-party.ensures.crash
+          text.select_last_card [] _ selects.select_last_card c.in_ok-party.ensures.books clean (BeginsWith (IsNumber 9999999)) (c.in_err-card.ensures.cause clean other)));
       crash = then_survives old mid new (c.in_ok-party.ensures.open_on tt) c.in_ok-party.ensures.crash c.last_card.ensures.crash;
     }
 
@@ -35,5 +44,8 @@ returns g c =
           let card = c.number_after-2.ensures ∙ ap number_after (c.in_ok-card.ensures.found kept ∙ ap (λ (d : Database). length (rows_in d.trees).cards) first.1) in
           ap₂ (λ p q. record { party = p; card = q }) party card;
       open_on = c.in_ok-card.ensures.open_on;
+      unchanged = λ _. then_unchanged old mid new (clean_before mid new c.in_ok-card.ensures.crash) (c.in_ok-party.ensures.unchanged tt)
+          c.in_ok-party.ensures.crash (c.in_ok-card.ensures.unchanged tt);
+      cause = λ _. tt;
       crash = then_survives old mid new (c.in_ok-party.ensures.open_on tt) c.in_ok-party.ensures.crash c.in_ok-card.ensures.crash;
     }

@@ -14,6 +14,8 @@ returns-in_default g c =
       found = λ kept. ap (option_map counts_of_row) (sym c.in_default.is ∙ c.in_ok-bare.ensures.found kept)
           ∙ counts_are old.now.trees c.args.room;
       open_on = λ _. c.in_ok-bare.ensures.open_on;
+      unchanged = λ _. c.in_ok-bare.ensures.unchanged;
+      cause = λ _. tt;
       crash = c.in_ok-bare.ensures.crash;
     }
 
@@ -27,5 +29,7 @@ returns g c =
           ∙ ap (option_map counts_of_row) (sym c.in-Some.is ∙ c.in_ok-bare.ensures.found kept)
           ∙ counts_are old.now.trees c.args.room;
       open_on = λ _. c.in_ok-bare.ensures.open_on;
+      unchanged = λ _. c.in_ok-bare.ensures.unchanged;
+      cause = λ _. tt;
       crash = c.in_ok-bare.ensures.crash;
     }

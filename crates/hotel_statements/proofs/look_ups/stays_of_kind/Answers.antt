@@ -5,7 +5,9 @@ use Rattle.sqlite.specs.Query.{Query}
 use Rattle.sqlite.specs.Held.{state}
 use Rattle.hotel_statements.specs.Columns.{stay_row_of}
 use Rattle.hotel_statements.specs.Books.{IsKept}
-use Rattle.hotel_statements.specs.LookUps.{Asks, AnswersAll}
+use Rattle.hotel_statements.specs.LookUps.{Asks, AnswersAll, HasCause}
+use Rattle.hotel_statements.specs.Failures.{StaysFail}
+use Rattle.hotel_statements.proofs.Keyed.{open_still}
 use Rattle.hotel_statements.specs.Texts as text
 use Rattle.hotel_statements.proofs.Statements.Selects as selects
 use Rattle.hotel_statements.proofs.Lists.{stays_find}
@@ -21,11 +23,14 @@ returns g c =
     let shown : IsKept new → (p : Query) → Asks text.select_stays_of_kind p
     → IfOk c.look_all.result (λ all. AnswersAll (stay_row_of) p (Text c.args.kind.now ∷ []) old.now.trees all.items) =
     rw (c.text.ensures, c.as_bytes.ensures.same) at c.look_all.ensures.found in
+    let cause : HasCause (StaysFail c.args.kind.now) old new c.look_all.result = rw (c.text.ensures, c.as_bytes.ensures.same) at c.look_all.ensures.cause in
     record {
       books = c.look_all.ensures.books;
       keeps = c.look_all.ensures.keeps;
       found = λ kept. IfOk-weaker c.look_all.result _ _
           (λ all a. stays_find old.now.trees (c.requires.desk (c.look_all.ensures.keeps kept).0).tables c.args.kind.now all.items a) (shown kept _ selects.select_stays_of_kind);
-      open_on = λ _. c.look_all.ensures.open_on;
+      open_on = λ _ clean. open_still old new c.look_all.result (c.look_all.ensures.unchanged clean);
+      unchanged = λ _. c.look_all.ensures.unchanged;
+      cause = cause;
       crash = c.look_all.ensures.crash;
     }

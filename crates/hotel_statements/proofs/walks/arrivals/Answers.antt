@@ -4,6 +4,7 @@ use Rattle.hotel_nights.specs.declared.stay.Stay.{Stay}
 use Rattle.hotel_statements.specs.Values.{int}
 use Rattle.hotel_statements.specs.Columns.{stay_row_of}
 use Rattle.hotel_statements.specs.Texts as text
+use Rattle.hotel_statements.specs.Failures.{ArrivalsFail}
 use Rattle.hotel_statements.specs.Walks.{SaysRows, WalksRows}
 use Rattle.hotel_statements.proofs.Statements.Walks as walks
 use Rattle.hotel_statements.proofs.OfWalks.Single.{arrivals_said}
@@ -16,5 +17,5 @@ pub returns : goal.returns
 returns g c =
     let old = state g.S.Store c.args.conn.now in
     let walked : (rows : List Stay) → SaysRows stay_row_of text.walk_arrivals (int c.args.day ∷ []) old rows
-    → WalksRows g.K.Sink.after g.K.Sink.after_stop rows old (state g.S.Store c.walk.new.conn) c.args.sink.now c.walk.new.sink c.walk.result = rw c.dated.ensures at c.walk.ensures in
+    → WalksRows (ArrivalsFail c.args.day) g.K.Sink.after g.K.Sink.after_stop rows old (state g.S.Store c.walk.new.conn) c.args.sink.now c.walk.new.sink c.walk.result = rw c.dated.ensures at c.walk.ensures in
     walked _ (_, walks.walk_arrivals, λ kept all. arrivals_said old.now.trees (c.requires.desk kept).tables c.args.day all)

@@ -1,7 +1,7 @@
-use Rattle.std.proofs.Common.{◌≡◌, List, [], ◌∷◌, IsTrue, subst}
+use Rattle.std.proofs.Common.{◌≡◌, List, [], ◌∷◌, All, inl, inr, sym, subst}
 use Rattle.sqlite.specs.Effect.{Database}
 use Rattle.sqlite.specs.Held.{state}
-use Rattle.sqlite.specs.State.{HasCleanDisk}
+use Rattle.sqlite.specs.State.{HasCleanDisk, IsUnchanged}
 use Rattle.keycard_rules.specs.Note.{Note}
 use Rattle.hotel_core.specs.Refinement.ListsOnRows.{audit_on}
 use Rattle.hotel_core.specs.Model.Rows.{fits_at}
@@ -10,8 +10,10 @@ use Rattle.hotel_statements.specs.Tables.{rows_in}
 use Rattle.hotel_statements.specs.Books.{IsKept}
 use Rattle.hotel_statements.specs.LookUps.{AnswersAll}
 use Rattle.hotel_statements.specs.Texts as text
-use Rattle.hotel_statements.specs.Walks.{SaysRows, WalksRows, note_under}
+use Rattle.hotel_statements.specs.Failures.{IsNoteUnder}
+use Rattle.hotel_statements.specs.Walks.{SaysRows, WalkFails, WalksRows, note_under}
 use Rattle.hotel_statements.proofs.Statements.Walks as walks
+use Rattle.hotel_statements.proofs.Since.{walk_fails_later, walk_unread}
 use Rattle.hotel_statements.proofs.Walked.{then_walks, not_begun}
 use Rattle.hotel_statements.proofs.ByRoom.{notes_said, audit_query}
 use Rattle.hotel_statements.proofs.walks.audit.Goals as goal
@@ -27,14 +29,20 @@ returns-in-Ok g c =
     let rows = audit_on (rows_in old.now.trees) c.args.room in
     let are : IsKept mid → fits ≡ fits_at (rows_in old.now.trees).fits c.args.room = λ kept. rw c.in-Ok.is at
     (c.fits_of_room.ensures.found kept) in
-    let open_on : HasCleanDisk mid → IsTrue mid.is_open = λ clean. rw c.in-Ok.is at
-    (c.fits_of_room.ensures.open_on tt clean) in
+    let unchanged : HasCleanDisk mid → IsUnchanged old mid = λ clean. rw c.in-Ok.is at
+    (c.fits_of_room.ensures.unchanged tt clean) in
     let walked : (all : List Note) → SaysRows (note_under fits) text.walk_audit (int c.args.room ∷ []) mid all
-    → WalksRows g.K.Sink.after g.K.Sink.after_stop all mid (state g.S.Store c.walk.new.conn) c.args.sink.now
+    → WalksRows (WalkFails (IsNoteUnder fits) text.walk_audit (int c.args.room ∷ [])) g.K.Sink.after g.K.Sink.after_stop all mid (state g.S.Store c.walk.new.conn) c.args.sink.now
     c.walk.new.sink c.walk.result = rw c.numbered.ensures at c.walk.ensures in
     then_walks g.K.Sink.after g.K.Sink.after_stop rows old mid c.args.sink.now (state g.S.Store c.walk.new.conn)
     c.walk.new.sink c.walk.result
-    c.fits_of_room.ensures.keeps open_on c.fits_of_room.ensures.crash
+    c.fits_of_room.ensures.keeps (λ clean. (unchanged clean).0.is_open) c.fits_of_room.ensures.crash
+    (λ was clean fails.
+    let still = walk_fails_later old mid (state g.S.Store c.walk.new.conn) was unchanged c.fits_of_room.ensures.crash
+    text.walk_audit (int c.args.room ∷ []) _ walks.walk_audit c.fits_of_room.ensures.books clean (IsNoteUnder fits) fails in
+    let same : fits ≡ fits_at (rows_in old.now.trees).fits c.args.room = are (was clean, (unchanged (was clean)).0.is_open) in
+    inr (walk_unread (IsNoteUnder fits) (IsNoteUnder (fits_at (rows_in old.now.trees).fits c.args.room)) text.walk_audit
+    (int c.args.room ∷ []) old (state g.S.Store c.walk.new.conn) (λ _ rows all. subst (λ fs. All (IsNoteUnder fs) rows) (sym same) all) still))
     (walked rows (
       _,
       walks.walk_audit,
@@ -50,3 +58,4 @@ returns-in-Err g c =
     not_begun g.K.Sink.after g.K.Sink.after_stop _ (state g.S.Store c.args.conn.now)
     (state g.S.Store c.fits_of_room.new.conn) c.args.sink.now c.failed.result c.in-Err.cause c.failed.ensures
     c.fits_of_room.ensures.books c.fits_of_room.ensures.keeps c.fits_of_room.ensures.crash
+    (λ clean cause. inl ((rw c.in-Err.is at (c.fits_of_room.ensures.cause clean)) cause))

@@ -1,9 +1,9 @@
-use Rattle.std.proofs.Common.{◌≡◌, ◌∙◌, List, [], ◌∷◌, None, Some, IsTrue, refl, sym, ap, subst, option_map}
+use Rattle.std.proofs.Common.{◌≡◌, ◌∙◌, List, [], ◌∷◌, None, Some, IsTrue, inl, inr, refl, sym, ap, subst, option_map}
 use Rattle.std.specs.Prelude.{filter_map}
 use Rattle.std.specs.List.{range_with_len}
 use Rattle.sqlite.specs.Effect.{Database}
 use Rattle.sqlite.specs.Held.{state}
-use Rattle.sqlite.specs.State.{HasCleanDisk}
+use Rattle.sqlite.specs.State.{HasCleanDisk, IsUnchanged}
 use Rattle.hotel_core.specs.declared.books.list_rows.ChainRow.{ChainRow}
 use Rattle.hotel_core.specs.Refinement.ListsOnRows.{chain_row_on, chain_on}
 use Rattle.hotel_core.specs.declared.books.rows.RoomRow.{RoomRow}
@@ -16,8 +16,10 @@ use Rattle.hotel_statements.specs.Tables.{rows_in, fits_in, bare_rooms_in}
 use Rattle.hotel_statements.specs.Books.{IsKept}
 use Rattle.hotel_statements.specs.LookUps.{AnswersAll}
 use Rattle.hotel_statements.specs.Texts as text
-use Rattle.hotel_statements.specs.Walks.{SaysRows, WalksRows, chain_row_of}
+use Rattle.hotel_statements.specs.Readable.{IsOfChain}
+use Rattle.hotel_statements.specs.Walks.{SaysRows, WalkFails, WalksRows, chain_row_of}
 use Rattle.hotel_statements.proofs.Statements.Walks as walks
+use Rattle.hotel_statements.proofs.Since.{walk_fails_later}
 use Rattle.hotel_statements.proofs.Walked.{then_walks, not_begun}
 use Rattle.hotel_statements.proofs.Fitted.{room_lost}
 use Rattle.hotel_statements.proofs.Joins.{fitted}
@@ -40,14 +42,17 @@ returns-in-Ok-Some g c =
     let there : IsKept mid → Some row ≡ room_at (rows_in db) c.args.room =
     λ kept. ap (option_map (fitted (fits_in db) c.args.room)) (found kept)
     ∙ sym (room_joined (fits_in db) (bare_rooms_in db) c.args.room) in
-    let open_on : HasCleanDisk mid → IsTrue mid.is_open =
-    λ clean. rw c.in-Ok-Some.is at (c.bare_room.ensures.open_on clean) in
+    let unchanged : HasCleanDisk mid → IsUnchanged old mid =
+    λ clean. rw c.in-Ok-Some.is at (c.bare_room.ensures.unchanged clean) in
     let walked : (all : List ChainRow) → SaysRows (chain_row_of row.lock_place) text.walk_chain (int c.args.room ∷ []) mid all
-    → WalksRows g.K.Sink.after g.K.Sink.after_stop all mid (state g.S.Store c.walk.new.conn) c.args.sink.now
+    → WalksRows (WalkFails IsOfChain text.walk_chain (int c.args.room ∷ [])) g.K.Sink.after g.K.Sink.after_stop all mid (state g.S.Store c.walk.new.conn) c.args.sink.now
     c.walk.new.sink
     c.walk.result = rw (c.numbered.ensures, c.lock_place.ensures) at c.walk.ensures in
     then_walks g.K.Sink.after g.K.Sink.after_stop rows old mid c.args.sink.now (state g.S.Store c.walk.new.conn) c.walk.new.sink c.walk.result
-    c.bare_room.ensures.keeps open_on c.bare_room.ensures.crash
+    c.bare_room.ensures.keeps (λ clean. (unchanged clean).0.is_open) c.bare_room.ensures.crash
+    (λ was clean fails. inr (walk_fails_later old mid (state g.S.Store c.walk.new.conn) was unchanged
+    c.bare_room.ensures.crash text.walk_chain (int c.args.room ∷ []) _ walks.walk_chain c.bare_room.ensures.books clean
+    IsOfChain fails))
     (walked rows (
       _,
       walks.walk_chain,
@@ -78,6 +83,7 @@ returns-in-Ok-None g c =
             (none (clean, open_on clean)),
       );
       open_on = λ clean _. open_on clean;
+      cause = λ _ store. absurd (let k = store in cc);
       crash = c.bare_room.ensures.crash;
     }
 
@@ -86,3 +92,4 @@ returns-in-Err g c =
     not_begun g.K.Sink.after g.K.Sink.after_stop _ (state g.S.Store c.args.conn.now)
     (state g.S.Store c.bare_room.new.conn) c.args.sink.now c.failed.result c.in-Err.cause c.failed.ensures
     c.bare_room.ensures.books c.bare_room.ensures.keeps c.bare_room.ensures.crash
+    (λ clean cause. inl ((rw c.in-Err.is at (c.bare_room.ensures.cause clean)) cause))
