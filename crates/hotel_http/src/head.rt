@@ -4,7 +4,7 @@ ghost use Rattle.std.specs.Prelude.{◌≡◌, ◌≢◌, ◌<◌, ◌≤◌, �
 ghost use Rattle.std.specs.Io.KnownBytes.{Consumes};
 ghost use Rattle.hotel_http.specs.Reads.{ReadsWhile};
 ghost use Rattle.hotel_lists.specs.{Calls.NoneForgotten, declared.bytes.ReadFault.TheVariants.Read};
-ghost use Rattle.httparse.specs.{Grammar.HasNoRequest, Grammar.MayBecomeRequest, declared.spans.HeaderSpan.HeaderSpan};
+ghost use Rattle.httparse.specs.{Grammar.HasNoRequest, declared.spans.HeaderSpan.HeaderSpan};
 ghost use Rattle.hotel_http.specs.Head.{IsParsed, IsJudged, IsUnended, LiesWithin, IsOpen, WantsHead};
 
 use hotel_lists::{IoCalls, ReadFault, read_more};

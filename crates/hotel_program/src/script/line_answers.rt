@@ -1,6 +1,6 @@
 //! The answer to a line of a script.
 
-ghost use Rattle.std.specs.Prelude.{◌≡◌, ◌≤◌, true, Some, OnOk, OnErr};
+ghost use Rattle.std.specs.Prelude.{◌≡◌, true, Some, OnOk, OnErr};
 ghost use Rattle.hotel_asks.specs.declared.asks.Ask.TheVariants as ask;
 ghost use Rattle.std.specs.Io.KnownBytes.{Appends};
 ghost use Rattle.hotel_core.specs.Books.Happens.{HappensBy};

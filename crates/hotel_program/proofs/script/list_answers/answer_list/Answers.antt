@@ -1,4 +1,4 @@
-use Rattle.std.proofs.Common.{◌≡◌, ◌∙◌, [], sym, subst, Result, ℕ, List, Ok, Err, OnOk, OnErr}
+use Rattle.std.proofs.Common.{◌≡◌, ◌∙◌, [], sym, subst, Result, ℕ, List, Ok}
 use Rattle.std.specs.Io.KnownBytes.{Appends}
 use Rattle.hotel_lists.specs.Bytes.{AppendsFront}
 use Rattle.hotel_lists.specs.Lines.{LooksAt, Vouches}
