@@ -4,9 +4,7 @@ ghost use Rattle.std.specs.Prelude.{IfErr};
 ghost use Rattle.hotel_program.specs.Faults.{IsOfFiles};
 
 use crate::database::open_file;
-use hotel_program::{
-    Databases, Fault, FileName, SEED_BYTES, Surroundings, audit_file_in, seed_in,
-};
+use hotel_program::{Databases, Fault, FileName, SEED_BYTES, Surroundings, audit_file_in, seed_in};
 use hotel_tables::{PathDisk, TableBooks, close_file};
 use sqlite::FileStore;
 use std::alloc::Global;

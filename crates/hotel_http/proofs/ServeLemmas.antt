@@ -51,9 +51,9 @@ pub list_came : {S : Type 0} {I : IssuedOf S} {rows : S → Rows} {a b : S} (its
 list_came {I = I} {rows = rows} {a = a} {b = b} its_list out answers failed old new end honest_is was_clean was_honest counted same vouched said comes ends are_counted s =
     happens_so (answered_weaker (AskComes (ask.List its_list)) s s [] old new end) honest_is was_clean was_honest counted
     (λ honest h reached stands.
-        let told = subst (λ (l : List Bool). Tells I a b failed l) (sym said) (tells_once answers (λ clean. are_counted) (vouched honest) was_clean) in
-        let its = comes (listing_over h its_list) (λ clean. sym (listing_stands h (rows a) its_list (reached, stands (was_clean clean)))) honest in
-        (h, reached, (λ clean. same clean ∙ stands (was_clean clean)), (out, failed, (its, refl, refl), ends, told), assured h reached))
+    let told = subst (λ (l : List Bool). Tells I a b failed l) (sym said) (tells_once answers (λ clean. are_counted) (vouched honest) was_clean) in
+    let its = comes (listing_over h its_list) (λ clean. sym (listing_stands h (rows a) its_list (reached, stands (was_clean clean)))) honest in
+    (h, reached, (λ clean. same clean ∙ stands (was_clean clean)), (out, failed, (its, refl, refl), ends, told), assured h reached))
 
 -- the text of a list that was made
 pub list_there : (listing : Option Listing) (text : List ℕ) → IsListText listing (Ok text) → ListComes listing (outcome (list_answer text) Success false (true ∷ [])) []
@@ -101,10 +101,20 @@ pub file_came : {S : Type 0} {I : IssuedOf S} {rows : S → Rows} {a b : S} (fil
 file_came file import_end old new end honest_is was_clean was_honest counted i same failed ends s =
     happens_so (answered_weaker (FileComes file) s s [] old new end) honest_is was_clean was_honest counted
     (λ honest h reached stands.
-        let v = i.5 honest in
-        let p = v.happened s h reached stands in
-        (p.0, p.1, p.2, (imported import_end, import_failures import_end, (import_end, i.0, i.1, i.2, i.3, p.3, refl, refl, refl), ends,
-        import_tells (audit_lines file) import_end i.0 i.1 i.3 v same failed), p.4))
+    let v = i.5 honest in
+    let p = v.happened s h reached stands in (
+      p.0,
+      p.1,
+      p.2,
+      (
+        imported import_end,
+        import_failures import_end,
+        (import_end, i.0, i.1, i.2, i.3, p.3, refl, refl, refl),
+        ends,
+        import_tells (audit_lines file) import_end i.0 i.1 i.3 v same failed,
+      ),
+      p.4,
+    ))
 
 -- a rejection changes nothing
 pub rejection_came : {S : Type 0} (I : IssuedOf S) (rows : S → Rows) (a : S) (s : Stream) (why : Rejection) (old new : Option (List ℕ)) (end : Result Served Cut)

@@ -130,8 +130,9 @@ fn code(row: &Row, at: usize) -> Result<Code, LookFault>
 fn link(row: &Row, at: usize) -> Result<Link, LookFault>
     requires { at < 100 }
     ensures reads { IfOk result (λ l. l ≡ record {
-        old_code = number_of (column row.now at);
-        new_code = number_of (column row.now (at + 1)) }) }
+      old_code = number_of (column row.now at);
+      new_code = number_of (column row.now (at + 1));
+    }) }
     ensures unread { IfErr result (λ why. why ≢ LookFault.Memory → at + 1 < length row.now
         → ¬ (IsCode (column row.now at) × IsCode (column row.now (at + 1)))) }
 {

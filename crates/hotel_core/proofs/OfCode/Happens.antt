@@ -99,13 +99,13 @@ then_by {I = I} {rows = rows} {old = old} {mid = mid} {new = new} {went = went} 
       let p = a.leads (b.was_clean clean) h stands in
       let q = b.leads clean p.0 p.1 in
       let told = join ⊤ ⊤ (λ failed answered. AreCounted (I.failures old) (I.failures new) failed) (λ failed answered. AreCounted (I.failures old) (I.failures mid) failed) (λ failed answered. AreCounted (I.failures mid) (I.failures new) failed)
-          h p.0 q.0 (λ any. any) (λ failed more answered later x y. counted_join (I.failures old) (I.failures mid) (I.failures new) failed more b.counted x y) p.2 q.2 in
+      h p.0 q.0 (λ any. any) (λ failed more answered later x y. counted_join (I.failures old) (I.failures mid) (I.failures new) failed more b.counted x y) p.2 q.2 in
       (q.0, q.1, told, q.3);
   happened = λ honest h reached stands.
       let p = a.happened (b.was_honest honest) h reached stands in
       let q = b.happened honest p.0 p.1 p.2 in
       let told = join (I.is_clean mid) (I.is_clean new) (Tells I old new) (Tells I old mid) (Tells I mid new)
-          h p.0 q.0 b.was_clean (λ failed more answered later x y. tells_join failed more answered later b.counted b.was_clean a.was_clean x y) p.3 q.3 in
+      h p.0 q.0 b.was_clean (λ failed more answered later x y. tells_join failed more answered later b.counted b.was_clean a.was_clean x y) p.3 q.3 in
       (q.0, q.1, q.2, told, q.4);
   was_clean = λ clean. a.was_clean (b.was_clean clean);
   was_honest = λ honest. a.was_honest (b.was_honest honest);
@@ -141,5 +141,5 @@ pub step_happens : {S : Type 0} {I : IssuedOf S} {rows : S → Rows} {old new : 
 step_happens s s' command reply clean_honest was_clean was_honest counted step failed vouched =
     happens_so (λ told told' h h' more went. (went.0, more _ _ went.1)) clean_honest was_clean was_honest counted
     (λ honest h reached stands.
-        let p = step honest h reached stands in
-        (p.0, p.1, p.2, (p.3, tells_once (not (is_failed reply)) failed (λ k. vouched honest (not-true (is_failed reply) k)) was_clean), p.4))
+    let p = step honest h reached stands in
+    (p.0, p.1, p.2, (p.3, tells_once (not (is_failed reply)) failed (λ k. vouched honest (not-true (is_failed reply) k)) was_clean), p.4))

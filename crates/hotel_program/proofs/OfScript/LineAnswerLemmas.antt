@@ -53,16 +53,16 @@ pub command_ends : {S : Type 0} {I : IssuedOf S} {rows : S → Rows} {a b : S} (
 command_ends {I = I} {a = a} {b = b} s t command reply old new (Ok done) honest_is was_clean was_honest counted step failed vouched whole front =
     so_by (ends_weaker (Some (ask.Command command)) s t old new (Ok done)) honest_is was_clean was_honest counted
     (λ honest h reached stands.
-        let p = step honest h reached stands in
-        let told = tells_once (not (tells_failure (reply_text reply))) (λ clean. known_counted (I.failures a) (I.failures b) reply (copies command) counted (failed clean))
-            (λ k. vouched honest (reply_sure reply (not-true (tells_failure (reply_text reply)) k))) was_clean in
-        (p.0, p.1, p.2, (reply_text reply, counted_in reply (copies command), (reply, p.3, refl, refl), whole, told), p.4))
+    let p = step honest h reached stands in
+    let told = tells_once (not (tells_failure (reply_text reply))) (λ clean. known_counted (I.failures a) (I.failures b) reply (copies command) counted (failed clean))
+    (λ k. vouched honest (reply_sure reply (not-true (tells_failure (reply_text reply)) k))) was_clean in
+    (p.0, p.1, p.2, (reply_text reply, counted_in reply (copies command), (reply, p.3, refl, refl), whole, told), p.4))
 command_ends {I = I} {a = a} {b = b} s t command reply old new (Err cut) honest_is was_clean was_honest counted step failed vouched whole front =
     so_by (ends_weaker (Some (ask.Command command)) s t old new (Err cut)) honest_is was_clean was_honest counted
     (λ honest h reached stands.
-        let p = step honest h reached stands in
-        let told = tells_once false (λ clean. known_counted (I.failures a) (I.failures b) reply (copies command) counted (failed clean)) (λ k. absurd (false≢true k)) was_clean in
-        (p.0, p.1, p.2, (reply_text reply, counted_in reply (copies command), (reply, p.3, refl, refl), front, told), p.4))
+    let p = step honest h reached stands in
+    let told = tells_once false (λ clean. known_counted (I.failures a) (I.failures b) reply (copies command) counted (failed clean)) (λ k. absurd (false≢true k)) was_clean in
+    (p.0, p.1, p.2, (reply_text reply, counted_in reply (copies command), (reply, p.3, refl, refl), front, told), p.4))
 
 either : {C : Type 0} (b : Bool) → (b ≡ true → C) → (b ≡ false → C) → C
 either true f g = f refl
@@ -77,10 +77,10 @@ list_cut {I = I} {rows = rows} {a = a} {b = b} its_list s old new honest_is was_
     so_by (λ kept kept' told told' h h' back more w. (w.0, w.1, ask_weaker (λ text. kept) (λ text. kept') (Some (ask.List its_list)) h h' s s w.0 w.1 (λ text now. back now) w.2, w.3, more w.1 (false ∷ []) w.4))
     honest_is was_clean was_honest counted
     (λ honest h reached stands.
-        let it = front honest in
-        let answers : I.is_clean b → AnswersList (listing_over h its_list) it.0 it.1 = λ clean. subst (λ (l : Option Listing). AnswersList l it.0 it.1) (listing_stands h (rows a) its_list (reached, stands (was_clean clean))) it.2 in
-        let told = tells_once false (λ clean. it.4) (λ k. absurd (false≢true k)) was_clean in
-        (h, reached, (λ clean. same clean ∙ stands (was_clean clean)), (it.0, it.1, (answers, refl, refl), it.3, told), assured h reached))
+    let it = front honest in
+    let answers : I.is_clean b → AnswersList (listing_over h its_list) it.0 it.1 = λ clean. subst (λ (l : Option Listing). AnswersList l it.0 it.1) (listing_stands h (rows a) its_list (reached, stands (was_clean clean))) it.2 in
+    let told = tells_once false (λ clean. it.4) (λ k. absurd (false≢true k)) was_clean in
+    (h, reached, (λ clean. same clean ∙ stands (was_clean clean)), (it.0, it.1, (answers, refl, refl), it.3, told), assured h reached))
 
 -- a list is answered, and nothing happens
 pub list_ends : {S : Type 0} {I : IssuedOf S} {rows : S → Rows} {a b : S} (its_list : ListAsk) (s : Stream) (old new : Option (List ℕ)) (written : Result (Unit {0}) WriteFailed)
@@ -91,10 +91,10 @@ pub list_ends : {S : Type 0} {I : IssuedOf S} {rows : S → Rows} {a b : S} (its
 list_ends {I = I} {rows = rows} {a = a} {b = b} its_list s old new (Ok done) honest_is was_clean was_honest counted same whole front =
     so_by (ends_weaker (Some (ask.List its_list)) s s old new (Ok done)) honest_is was_clean was_honest counted
     (λ honest h reached stands.
-        let it = whole honest in
-        let answers : I.is_clean b → AnswersList (listing_over h its_list) it.0 it.1 = λ clean. subst (λ (l : Option Listing). AnswersList l it.0 it.1) (listing_stands h (rows a) its_list (reached, stands (was_clean clean))) it.2 in
-        let told = tells_once (not (tells_failure it.0)) (λ clean. it.4) (λ k. it.3.1 (not-true (tells_failure it.0) k)) was_clean in
-        (h, reached, (λ clean. same clean ∙ stands (was_clean clean)), (it.0, it.1, ((λ sure. answers (either (tells_failure it.0) sure it.3.1)), refl, refl), it.3.0, told), assured h reached))
+    let it = whole honest in
+    let answers : I.is_clean b → AnswersList (listing_over h its_list) it.0 it.1 = λ clean. subst (λ (l : Option Listing). AnswersList l it.0 it.1) (listing_stands h (rows a) its_list (reached, stands (was_clean clean))) it.2 in
+    let told = tells_once (not (tells_failure it.0)) (λ clean. it.4) (λ k. it.3.1 (not-true (tells_failure it.0) k)) was_clean in
+    (h, reached, (λ clean. same clean ∙ stands (was_clean clean)), (it.0, it.1, ((λ sure. answers (either (tells_failure it.0) sure it.3.1)), refl, refl), it.3.0, told), assured h reached))
 list_ends its_list s old new (Err cut) honest_is was_clean was_honest counted same whole front = list_cut its_list s old new honest_is was_clean was_honest counted same front
 
 -- nothing was asked of the books, and nothing happens
@@ -107,8 +107,8 @@ quiet_ends {I = I} a wanted s text old new (Ok done) honest_is goes tells whole 
 quiet_ends {I = I} a wanted s text old new (Err cut) honest_is goes tells whole front =
     so_by (ends_weaker wanted s s old new (Err cut)) honest_is (λ clean. clean) (λ honest. honest) (λ cause. omega arith)
     (λ honest h reached stands.
-        let told = tells_once false (λ clean. none_counted (I.failures a) (I.failures a) (λ cause. omega arith)) (λ k. absurd (false≢true k)) (λ clean. clean) in
-        (h, reached, stands, (text, [], goes (λ t. I.is_clean a) h, front, told), assured h reached))
+    let told = tells_once false (λ clean. none_counted (I.failures a) (I.failures a) (λ cause. omega arith)) (λ k. absurd (false≢true k)) (λ clean. clean) in
+    (h, reached, stands, (text, [], goes (λ t. I.is_clean a) h, front, told), assured h reached))
 
 -- an unread line is answered
 pub unread_ends : {S : Type 0} {I : IssuedOf S} {rows : S → Rows} (a : S) (wanted : Option Ask) (s : Stream) (old new : Option (List ℕ)) (written : Result (Unit {0}) WriteFailed)

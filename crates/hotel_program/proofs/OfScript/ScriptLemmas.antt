@@ -129,14 +129,14 @@ pub answered_next : {S : Type 0} {I : IssuedOf S} {rows : S → Rows} {a b c : S
     → HappensBy I rows a (ScriptAnswered (take (done + 1) all) s u old new) c
 answered_next s t u all done line later old mid new first e next =
     then_by (λ before kept told one two h k h' back join f n.
-        let went = goes_weaker (Sure before) (Sure kept) (take done all) f.0 h k s t f.1 (λ text sure tells. back (sure tells)) f.2 in
-        let answers = ap (λ (ls : List (List ℕ)). answers_to ls (f.0 ++ n.0 ∷ [])) (next_line all done line later e).2 ∙ answers_push (Sure before) (take done all) f.0 h k s t f.1 line n.0 f.2 in (
-          f.0 ++ n.0 ∷ [],
-          f.1 ++ n.1,
-          went_next (Sure kept) h k h' s t u all done line later f.0 n.0 f.1 n.1 e went n.2,
-          subst (Appends old new) (sym (concat-push f.0 n.0)) (Appends-trans old mid new (concat f.0) n.0 f.3 n.3),
-          subst (λ (l : List Bool). told (f.1 ++ n.1) l) (sym answers) (join f.1 n.1 (answers_to (take done all) f.0) (answered_to (ask_in line) n.0) f.4 n.4),
-        )) first next
+    let went = goes_weaker (Sure before) (Sure kept) (take done all) f.0 h k s t f.1 (λ text sure tells. back (sure tells)) f.2 in
+    let answers = ap (λ (ls : List (List ℕ)). answers_to ls (f.0 ++ n.0 ∷ [])) (next_line all done line later e).2 ∙ answers_push (Sure before) (take done all) f.0 h k s t f.1 line n.0 f.2 in (
+      f.0 ++ n.0 ∷ [],
+      f.1 ++ n.1,
+      went_next (Sure kept) h k h' s t u all done line later f.0 n.0 f.1 n.1 e went n.2,
+      subst (Appends old new) (sym (concat-push f.0 n.0)) (Appends-trans old mid new (concat f.0) n.0 f.3 n.3),
+      subst (λ (l : List Bool). told (f.1 ++ n.1) l) (sym answers) (join f.1 n.1 (answers_to (take done all) f.0) (answered_to (ask_in line) n.0) f.4 n.4),
+    )) first next
 
 -- the next line is cut short
 pub cut_next : {S : Type 0} {I : IssuedOf S} {rows : S → Rows} {a b c : S} (s t u : Stream) (all : List (List ℕ)) (done : ℕ) (line : List ℕ) (later : List (List ℕ)) (old mid new : Option (List ℕ)) (failed : WriteFailed)
@@ -144,18 +144,18 @@ pub cut_next : {S : Type 0} {I : IssuedOf S} {rows : S → Rows} {a b c : S} (s 
     → HappensBy I rows a (ScriptCut (take (done + 1) all) s u old new) c
 cut_next s t u all done line later old mid new failed first e next =
     then_by (λ before kept told one two h k h' back join f n.
-        let front = n.3 in
-        let went = goes_weaker (Sure before) (λ text. kept) (take done all) f.0 h k s t f.1 (λ text sure tells. back sure) f.2 in
-        let answers = ap (λ (ls : List (List ℕ)). answers_to ls f.0) (next_line all done line later e).2 ∙ answers_before (Sure before) (take done all) f.0 h k s t f.1 line f.2 in (
-          f.0,
-          n.0,
-          f.1 ++ n.1,
-          went_next (λ text. kept) h k h' s t u all done line later f.0 n.0 f.1 n.1 e went n.2,
-          front.0,
-          front.1,
-          Appends-trans old mid new (concat f.0) (take front.0 n.0) f.3 front.2,
-          subst (λ (l : List Bool). told (f.1 ++ n.1) (l ++ false ∷ [])) (sym answers) (join f.1 n.1 (answers_to (take done all) f.0) (false ∷ []) f.4 n.4),
-        )) first next
+    let front = n.3 in
+    let went = goes_weaker (Sure before) (λ text. kept) (take done all) f.0 h k s t f.1 (λ text sure tells. back sure) f.2 in
+    let answers = ap (λ (ls : List (List ℕ)). answers_to ls f.0) (next_line all done line later e).2 ∙ answers_before (Sure before) (take done all) f.0 h k s t f.1 line f.2 in (
+      f.0,
+      n.0,
+      f.1 ++ n.1,
+      went_next (λ text. kept) h k h' s t u all done line later f.0 n.0 f.1 n.1 e went n.2,
+      front.0,
+      front.1,
+      Appends-trans old mid new (concat f.0) (take front.0 n.0) f.3 front.2,
+      subst (λ (l : List Bool). told (f.1 ++ n.1) (l ++ false ∷ [])) (sym answers) (join f.1 n.1 (answers_to (take done all) f.0) (false ∷ []) f.4 n.4),
+    )) first next
 
 -- no line is answered yet
 pub none_answered : {S : Type 0} (I : IssuedOf S) (rows : S → Rows) (a : S) (s : Stream) (known : Option (List ℕ)) → HappensBy I rows a (ScriptAnswered [] s s known known) a

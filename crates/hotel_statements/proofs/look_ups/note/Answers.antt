@@ -167,9 +167,13 @@ returns-in_err-bare g c =
       open_on = search rules;
       unchanged = search rules;
       cause = λ clean. cause_passed c.from_residual-in_err-bare.result _ c.from_residual-in_err-bare.ensures (λ other.
-          inr (number, low, inl (fails_later old mid new (clean_before mid new c.bare_note.ensures.crash)
-          (c.in_ok-fits.ensures.unchanged tt) c.in_ok-fits.ensures.crash text.select_note (int c.args.room ∷ int number ∷ []) _
-          selects.select_note c.in_ok-fits.ensures.books clean IsNote (c.in_err-bare.ensures.cause clean other))));
+          inr (
+            number,
+            low,
+            inl (fails_later old mid new (clean_before mid new c.bare_note.ensures.crash)
+                (c.in_ok-fits.ensures.unchanged tt) c.in_ok-fits.ensures.crash text.select_note (int c.args.room ∷ int number ∷ []) _
+                selects.select_note c.in_ok-fits.ensures.books clean IsNote (c.in_err-bare.ensures.cause clean other)),
+          ));
       crash = then_survives old mid new (c.in_ok-fits.ensures.open_on tt) c.in_ok-fits.ensures.crash
           c.bare_note.ensures.crash;
     }
