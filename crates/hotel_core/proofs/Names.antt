@@ -8,34 +8,41 @@ pub use Rattle.hotel_core.specs.Refinement.Finds.{AnyRows, DrawsCode, Drew, Drew
 pub use Rattle.hotel_core.specs.Refinement.StepOnRows.{StepsAs}
 pub use Rattle.hotel_core.specs.Stops.{EndsAs, Stopping, StopsEither}
 pub use Rattle.hotel_core.specs.declared.books.Books.{Ghosts}
-pub use Rattle.hotel_model.proofs.Names.{accepted, Act, After, after, All-head, All-tail, AlreadyBegun, and_last}
-pub use Rattle.hotel_model.proofs.Names.{answered, any_answered, are_none, AreWhole, arrivals_on, arrives_on, Assured}
-pub use Rattle.hotel_model.proofs.Names.{at_number, audit_on, awaited, bars_to_check_in, bars_to_transfer, before_in}
-pub use Rattle.hotel_model.proofs.Names.{Begun, behind_row_on, by_draw, bytes_eq-Decides, Card, card_at, card_of, cards}
-pub use Rattle.hotel_model.proofs.Names.{chain_on, chain_row_on, Change, checks, checks_on, code_place, CodeRow}
-pub use Rattle.hotel_model.proofs.Names.{codes_in, codes_of, comes, Command, Conflicting, cons_option, Copy, count_up}
-pub use Rattle.hotel_model.proofs.Names.{day, Draw, effect, Event, exact_unsigned, false≢true, first_code_at}
-pub use Rattle.hotel_model.proofs.Names.{first_is_first, fit_at, FitRow, fits, fits_at, FitsUsedUp, freed_by, Gap, Goes}
-pub use Rattle.hotel_model.proofs.Names.{GoesIf, grown, has_kind, has_link, has_link_on, held, held_on, History}
-pub use Rattle.hotel_model.proofs.Names.{house_row_on, in_house_on, in_state, insert_entry, insert_key, inside}
-pub use Rattle.hotel_model.proofs.Names.{inside_at, insiders, Install, is_at, is_awaited_on, is_begun, is_booked_state}
-pub use Rattle.hotel_model.proofs.Names.{is_card, is_failed, is_fit, is_fit_on, is_full, is_of_fit, is_one_of, is_room}
-pub use Rattle.hotel_model.proofs.Names.{is_standing, IsCommand, IsReply, IsSound, issued_codes, issued_on, IsTimed}
-pub use Rattle.hotel_model.proofs.Names.{IsTotalOrder, IsUntaken, keys_of, KindExists, last_answered, last_fit, LastDay}
-pub use Rattle.hotel_model.proofs.Names.{left_behind_on, Link, list_all, list_any, lock_place_on, lookup, made, made_by}
-pub use Rattle.hotel_model.proofs.Names.{match_ordering, Memory, moment_of, moved, nat_cmp_total, nat_tests, needs}
-pub use Rattle.hotel_model.proofs.Names.{Next, next_card, next_fit, NextDay, NoFit, NoFreshCode, NoKind, none_fall}
-pub use Rattle.hotel_model.proofs.Names.{NoRoom, NotBegun, Note, note_at, note_numbered, note_of, notes, notes_at}
-pub use Rattle.hotel_model.proofs.Names.{notes_before, notes_before_each, notes_of, now_is, number_after, of_fit}
-pub use Rattle.hotel_model.proofs.Names.{OfOldFit, OldFit, on_total, opened_on, opens, ordering_then, Outcome, own_room}
-pub use Rattle.hotel_model.proofs.Names.{pair_cmp, place_on, present_fit, present_fit_on, range_with_len, Reached}
-pub use Rattle.hotel_model.proofs.Names.{Refitted, Refusal, refused, Refused, remove_key, Reply, reported, reported_on}
-pub use Rattle.hotel_model.proofs.Names.{room_at, room_changed, room_of_state, RoomExists, RoomRow, rooms_of_kind}
-pub use Rattle.hotel_model.proofs.Names.{RoomTaken, Rows, rows_of, Runs, RunsTo, said, said_of, same_link, same_note}
-pub use Rattle.hotel_model.proofs.Names.{secured_after_on, secured_on, slice_cmp, Standing, standing, standing_among}
-pub use Rattle.hotel_model.proofs.Names.{StandsFor, start, Stay, stays_of_kind, StayState, Steps, StepsIf, Store}
-pub use Rattle.hotel_model.proofs.Names.{Stream, takes, then_total, those_elsewhere, those_in, told, told_on, turn}
-pub use Rattle.hotel_model.proofs.Names.{turns, unless, untaken_on, values_of, when, with_note, without, ◌▷◌}
+pub use Rattle.hotel_model.specs.declared.change.Change.{Change}
+pub use Rattle.hotel_model.specs.declared.rows.CodeRow.{CodeRow}
+pub use Rattle.hotel_model.specs.declared.rows.FitRow.{FitRow}
+pub use Rattle.hotel_model.specs.declared.rows.RoomRow.{RoomRow}
+pub use Rattle.hotel_model.specs.declared.command.Command.{Command}
+pub use Rattle.hotel_model.specs.declared.reply.Refusal.{Refusal}
+pub use Rattle.hotel_model.specs.declared.reply.Refusal.TheVariants.{AlreadyBegun, FitsUsedUp, Gap, KindExists, LastDay, Memory, NoFit, NoFreshCode, NoKind, NoRoom, NotBegun, OldFit, RoomExists, RoomTaken, Store}
+pub use Rattle.hotel_model.specs.declared.reply.Reply.{Reply}
+pub use Rattle.hotel_model.specs.declared.reply.Reply.TheVariants.{Refused}
+pub use Rattle.hotel_model.proofs.Names.{accepted, Act, After, after, All-head, All-tail, and_last, answered}
+pub use Rattle.hotel_model.proofs.Names.{any_answered, are_none, AreWhole, arrivals_on, arrives_on, Assured, at_number}
+pub use Rattle.hotel_model.proofs.Names.{audit_on, awaited, bars_to_check_in, bars_to_transfer, before_in, Begun}
+pub use Rattle.hotel_model.proofs.Names.{behind_row_on, by_draw, bytes_eq-Decides, Card, card_at, card_of, cards}
+pub use Rattle.hotel_model.proofs.Names.{chain_on, chain_row_on, checks, checks_on, code_place, codes_in, codes_of}
+pub use Rattle.hotel_model.proofs.Names.{comes, Conflicting, cons_option, Copy, count_up, day, Draw, effect, Event}
+pub use Rattle.hotel_model.proofs.Names.{exact_unsigned, false≢true, first_code_at, first_is_first, fit_at, fits}
+pub use Rattle.hotel_model.proofs.Names.{fits_at, freed_by, Goes, GoesIf, grown, has_kind, has_link, has_link_on, held}
+pub use Rattle.hotel_model.proofs.Names.{held_on, History, house_row_on, in_house_on, in_state, insert_entry}
+pub use Rattle.hotel_model.proofs.Names.{insert_key, inside, inside_at, insiders, Install, is_at, is_awaited_on}
+pub use Rattle.hotel_model.proofs.Names.{is_begun, is_booked_state, is_card, is_failed, is_fit, is_fit_on, is_full}
+pub use Rattle.hotel_model.proofs.Names.{is_of_fit, is_one_of, is_room, is_standing, IsCommand, IsReply, IsSound}
+pub use Rattle.hotel_model.proofs.Names.{issued_codes, issued_on, IsTimed, IsTotalOrder, IsUntaken, keys_of}
+pub use Rattle.hotel_model.proofs.Names.{last_answered, last_fit, left_behind_on, Link, list_all, list_any}
+pub use Rattle.hotel_model.proofs.Names.{lock_place_on, lookup, made, made_by, match_ordering, moment_of, moved}
+pub use Rattle.hotel_model.proofs.Names.{nat_cmp_total, nat_tests, needs, Next, next_card, next_fit, NextDay, none_fall}
+pub use Rattle.hotel_model.proofs.Names.{Note, note_at, note_numbered, note_of, notes, notes_at, notes_before}
+pub use Rattle.hotel_model.proofs.Names.{notes_before_each, notes_of, now_is, number_after, of_fit, OfOldFit, on_total}
+pub use Rattle.hotel_model.proofs.Names.{opened_on, opens, ordering_then, Outcome, own_room, pair_cmp, place_on}
+pub use Rattle.hotel_model.proofs.Names.{present_fit, present_fit_on, range_with_len, Reached, Refitted, refused}
+pub use Rattle.hotel_model.proofs.Names.{remove_key, reported, reported_on, room_at, room_changed, room_of_state}
+pub use Rattle.hotel_model.proofs.Names.{rooms_of_kind, Rows, rows_of, Runs, RunsTo, said, said_of, same_link}
+pub use Rattle.hotel_model.proofs.Names.{same_note, secured_after_on, secured_on, slice_cmp, Standing, standing}
+pub use Rattle.hotel_model.proofs.Names.{standing_among, StandsFor, start, Stay, stays_of_kind, StayState, Steps}
+pub use Rattle.hotel_model.proofs.Names.{StepsIf, Stream, takes, then_total, those_elsewhere, those_in, told, told_on}
+pub use Rattle.hotel_model.proofs.Names.{turn, turns, unless, untaken_on, values_of, when, with_note, without, ◌▷◌}
 unfoldable pub use Rattle.hotel_model.proofs.Names.{answer_to, draw_from, first_day, nights_taken, outcome_on, past}
 unfoldable pub use Rattle.hotel_model.proofs.Names.{words}
 pub use Rattle.hotel_nights.specs.Block.{one_if}

@@ -5,8 +5,8 @@ ghost use Rattle.hotel_core.specs.{Books.Failures.AreCounted, Books.Failures.fai
 ghost use Rattle.hotel_model.specs.{Leads.Leads, Leads.LeadsOn, Run.Runs, Run.any_answered, Run.last_answered};
 
 use crate::books::Books;
-use hotel_model::{Command, Reply};
 use crate::steps::step;
+use hotel_model::{Command, Reply};
 use rand_core::Rng;
 use std::alloc::Global;
 

@@ -10,7 +10,6 @@ ghost use Rattle.hotel_model.specs.Refinement.Fits.{takes_none};
 ghost use Rattle.hotel_model.specs.declared.command.Command.TheVariants as command;
 
 use crate::books::Books;
-use hotel_model::{Command, Refusal, Reply};
 use crate::commands::bookings::{cancel, reserve};
 use crate::commands::calendar::{begin, next_day};
 use crate::commands::guest_moves::{check_in, check_out, reissue, spare, transfer};
@@ -18,6 +17,7 @@ use crate::commands::kinds_and_rooms::{add_kind, add_room};
 use crate::commands::notes::take_note;
 use crate::commands::ranges::{known_command, known_note, known_reply};
 use crate::commands::refits::refit;
+use hotel_model::{Command, Refusal, Reply};
 use keycard_rules::LockNote;
 use rand_core::Rng;
 

@@ -9,10 +9,10 @@ ghost use Rattle.hotel_core.specs.{Refinement.StepOnRows.StepsAs};
 ghost use Rattle.hotel_model.specs.declared.command.Command.TheVariants as command;
 
 use crate::books::Books;
-use hotel_model::{Change, Refusal, Reply};
 use crate::commands::changes::make;
 use crate::commands::guest_moves::is_booked;
 use crate::commands::look_ups::{is_kind, known, next_party, stay_there, today};
+use hotel_model::{Change, Refusal, Reply};
 use hotel_nights::{Day, Guest, KindCode, Nights, Stay, StayState};
 use keycard_rules::PartyNo;
 

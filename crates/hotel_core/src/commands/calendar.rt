@@ -7,9 +7,9 @@ ghost use Rattle.hotel_model.specs.{Run.is_failed, Refinement.OnRows.outcome_on,
 ghost use Rattle.hotel_model.specs.declared.command.Command.TheVariants as command;
 
 use crate::books::Books;
-use hotel_model::{Change, Refusal, Reply};
 use crate::commands::changes::make;
 use crate::commands::look_ups::{day_if_set, today};
+use hotel_model::{Change, Refusal, Reply};
 use hotel_nights::Day;
 
 /// Sets the first business day.

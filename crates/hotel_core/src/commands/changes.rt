@@ -6,9 +6,9 @@ ghost use Rattle.hotel_core.specs.{Refinement.Finds.reply_of};
 ghost use Rattle.hotel_core.specs.Refinement.StepOnRows.{StepsAs};
 
 use crate::books::Books;
-use hotel_model::{Change, Refusal, Reply};
 use crate::commands::look_ups::refusal_of;
 use crate::commands::ranges::known_reply;
+use hotel_model::{Change, Refusal, Reply};
 
 /// Makes the change that comes of a command, and answers so where it was made.
 pub(crate) fn make<B: Books>(books: &mut B, change: Change, reply: Reply) -> Result<Reply, Refusal>

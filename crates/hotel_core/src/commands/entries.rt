@@ -11,11 +11,11 @@ ghost use Rattle.hotel_model.specs.{Refinement.OnRows.told_on, Refinement.OnRows
 ghost use Rattle.hotel_core.specs.{Refinement.StepOnRows.StepsAs};
 
 use crate::books::Books;
-use hotel_model::{Change, InsideMove, Refusal, Reply, RoomRow};
 use crate::commands::changes::make;
 use crate::commands::lock_codes::{has_inside, is_inside, issued_place, same_link};
 use crate::commands::look_ups::card_there;
 use crate::commands::room_cards::code_in;
+use hotel_model::{Change, InsideMove, Refusal, Reply, RoomRow};
 use keycard_rules::{CardNo, Code, Link, LockNote, RoomNo, turn};
 
 /// Whether a lock that holds a code opens to a card of the link.

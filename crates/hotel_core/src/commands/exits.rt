@@ -6,10 +6,10 @@ ghost use Rattle.hotel_model.specs.{Refinement.Answered.IsOutcome, Refinement.No
 ghost use Rattle.hotel_core.specs.{Refinement.Finds.reply_of, Refinement.StepOnRows.StepsAs};
 
 use crate::books::Books;
-use hotel_model::{Change, InsideMove, Refusal, Reply, RoomRow};
 use crate::commands::changes::make;
 use crate::commands::lock_codes::{is_inside, same_link};
 use crate::commands::look_ups::card_there;
+use hotel_model::{Change, InsideMove, Refusal, Reply, RoomRow};
 use keycard_rules::{CardNo, Link, LockNote};
 
 /// Takes the next note of a room: a card left.

@@ -9,10 +9,10 @@ ghost use Rattle.hotel_core.specs.{Refinement.StepOnRows.StepsAs};
 ghost use Rattle.hotel_model.specs.declared.command.Command.TheVariants as command;
 
 use crate::books::Books;
-use hotel_model::{Change, Refusal, Reply, RoomRow};
 use crate::commands::changes::make;
 use crate::commands::look_ups::{next_card, room_there, row_of, stay_there, today};
 use crate::commands::room_cards::{issue, last_link};
+use hotel_model::{Change, Refusal, Reply, RoomRow};
 use hotel_nights::{Day, KindCode, Stay, StayState};
 use keycard_rules::{Card, PartyNo, RoomNo};
 use rand_core::Rng;

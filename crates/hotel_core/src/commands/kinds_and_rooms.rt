@@ -7,10 +7,10 @@ ghost use Rattle.hotel_model.specs.{Refinement.OnRows.outcome_on, Ranges.IsComma
 ghost use Rattle.hotel_model.specs.declared.command.Command.TheVariants as command;
 
 use crate::books::Books;
-use hotel_model::{Change, Refusal, Reply};
 use crate::commands::changes::make;
 use crate::commands::fresh_codes::fresh;
 use crate::commands::look_ups::{is_kind, room_if_there, today};
+use hotel_model::{Change, Refusal, Reply};
 use hotel_nights::KindCode;
 use keycard_rules::RoomNo;
 use rand_core::Rng;

@@ -5,8 +5,8 @@ ghost use Rattle.hotel_model.specs.{Refinement.Lookups.room_at, Refinement.Looku
 ghost use Rattle.hotel_model.specs.{Words.is_one_of, declared.reply.Refusal.TheVariants.NotAwaited, declared.reply.Refusal.TheVariants.Store};
 
 use crate::books::Books;
-use hotel_model::{CodeRow, Refusal, RoomRow};
 use crate::commands::look_ups::{known, there_or};
+use hotel_model::{CodeRow, Refusal, RoomRow};
 use keycard_rules::{CardNo, Code, Link, LockNote, RoomNo};
 
 /// How many notes of a room's present lock were taken.

@@ -10,12 +10,12 @@ ghost use Rattle.hotel_core.specs.{Refinement.StepOnRows.StepsAs};
 ghost use Rattle.hotel_model.specs.declared.command.Command.TheVariants as command;
 
 use crate::books::Books;
-use hotel_model::{Refusal, Reply, RoomRow};
 use crate::commands::entries::enter;
 use crate::commands::exits::leave;
 use crate::commands::lock_codes::{is_present, kept_note, notes_of_present};
 use crate::commands::look_ups::{room_there, today};
 use crate::commands::recodings::recode;
+use hotel_model::{Refusal, Reply, RoomRow};
 use keycard_rules::{Act, LockNote};
 
 fn same_note(kept: &LockNote, note: &LockNote) -> bool

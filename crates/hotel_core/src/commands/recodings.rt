@@ -6,10 +6,10 @@ ghost use Rattle.hotel_model.specs.{Refinement.Answered.IsOutcome, Refinement.No
 ghost use Rattle.hotel_core.specs.{Refinement.Finds.reply_of, Refinement.StepOnRows.StepsAs};
 
 use crate::books::Books;
-use hotel_model::{Change, CodeRow, InsideMove, Refusal, Reply, RoomRow};
 use crate::commands::changes::make;
 use crate::commands::lock_codes::awaited_place;
 use crate::commands::room_cards::code_in;
+use hotel_model::{Change, CodeRow, InsideMove, Refusal, Reply, RoomRow};
 use keycard_rules::{Code, LockNote, RoomNo};
 
 /// Whether a code that stands here comes after the one that the room's lock holds.

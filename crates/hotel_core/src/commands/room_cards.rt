@@ -8,10 +8,10 @@ ghost use Rattle.hotel_model.specs.{Refinement.Lookups.room_at, Refinement.Looku
 ghost use Rattle.hotel_core.specs.{Refinement.StepOnRows.StepsAs};
 
 use crate::books::Books;
-use hotel_model::{Change, Refusal, Reply, RoomRow};
 use crate::commands::changes::make;
 use crate::commands::fresh_codes::fresh;
 use crate::commands::look_ups::{next_card, row_of, there_or};
+use hotel_model::{Change, Refusal, Reply, RoomRow};
 use keycard_rules::{Card, Code, Link, PartyNo, RoomNo};
 use rand_core::Rng;
 

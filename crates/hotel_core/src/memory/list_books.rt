@@ -6,9 +6,9 @@ ghost use Rattle.hotel_model.specs.{Rows.no_rows, Refinement.Lookups.codes_in};
 ghost use Rattle.hotel_core.specs.{Books.Walks.failure_of, declared.books.walks.WalkFault.TheVariants.Store};
 
 use crate::books::Books;
-use hotel_model::{BehindRow, ChainRow, Change, CodeRow, FitRow, HouseRow, NextNumbers, RoomRow};
 use crate::books::walks::{Sink, WalkFault, Walks};
 use crate::memory::tables::Tables;
+use hotel_model::{BehindRow, ChainRow, Change, CodeRow, FitRow, HouseRow, NextNumbers, RoomRow};
 use hotel_nights::{Day, Guest, KindCode, Stay};
 use keycard_rules::{
     Card, CardNo, Code, Count, FitNo, Issued, LockNote, LookFault, PartyNo, RoomNo,

@@ -9,11 +9,11 @@ ghost use Rattle.hotel_nights.specs.FullNight.{is_standing};
 ghost use Rattle.hotel_nights.specs.declared.stay.StayState.TheVariants as state;
 ghost use Rattle.hotel_model.specs.{Words.said_of, Rows.has_kind, Refinement.Fits.HasItsRows, Refinement.Fits.takes_memory};
 
-use hotel_model::{Change, CodeRow, FitRow, InsideMove, RoomRow};
 use crate::memory::row_changes::{
     codes_issued, issue_at, leave, leave_any, note_at, notes_before, notes_taken, refit_at,
 };
 use crate::memory::tables::Tables;
+use hotel_model::{Change, CodeRow, FitRow, InsideMove, RoomRow};
 use hotel_nights::{Day, KindCode, Stay, StayState};
 use keycard_rules::{Card, Code, FitNo, LockNote, Memory, PartyNo, RoomNo};
 

@@ -5,13 +5,13 @@ ghost use Rattle.keycard_rules.specs.Words.{is_one_of};
 ghost use Rattle.hotel_model.specs.{Guests.are_none, Rows.Rows, Rows.no_rows, Rows.at_number, Rows.has_kind, Rows.fit_at};
 ghost use Rattle.hotel_model.specs.Refinement.Lookups.{room_at, codes_in, code_place, code_at, stay_at, stays_of_kind, card_at, inside_at, note_at, rooms_of_kind, first_full_on, number_after};
 
-use hotel_model::{CodeRow, FitRow, NextNumbers, RoomRow};
 use crate::kind_rooms::KindRooms;
 use crate::memory::card_table::CardTable;
 use crate::memory::code_table::CodeTable;
 use crate::memory::inside_table::InsideTable;
 use crate::memory::note_table::NoteTable;
 use crate::memory::stay_table::StayTable;
+use hotel_model::{CodeRow, FitRow, NextNumbers, RoomRow};
 use hotel_nights::{Day, KindCode, Stay};
 use keycard_rules::{Card, CardNo, Code, Count, FitNo, LockNote, Number, PartyNo, RoomNo};
 use std::alloc::{AllocError, Global};

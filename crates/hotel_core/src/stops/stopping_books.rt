@@ -6,9 +6,9 @@ ghost use Rattle.hotel_core.specs.{Stops.counts};
 ghost use Rattle.hotel_model.specs.{Refinement.Lookups.codes_in};
 
 use crate::books::Books;
-use hotel_model::{Change, CodeRow, FitRow, NextNumbers, RoomRow};
 use crate::memory::list_books::ListBooks;
 use crate::stops::calls::Calls;
+use hotel_model::{Change, CodeRow, FitRow, NextNumbers, RoomRow};
 use hotel_nights::{Day, Guest, KindCode, Stay};
 use keycard_rules::{
     Card, CardNo, Code, Count, FitNo, Issued, LockNote, LookFault, PartyNo, RoomNo,
