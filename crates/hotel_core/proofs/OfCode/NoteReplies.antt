@@ -7,7 +7,7 @@ use Rattle.hotel_model.specs.{declared.change.InsideMove.TheVariants.Same, decla
 use Rattle.hotel_model.specs.declared.command.Command.TheVariants as command
 use Rattle.hotel_model.specs.declared.reply.Reply.TheVariants as reply
 use Rattle.hotel_model.specs.declared.reply.Refusal.TheVariants as refusal
-use Rattle.hotel_core.specs.Refinement.StepOnRows as step
+use Rattle.hotel_model.specs.Refinement.GoesOnRows as step
 
 -- the first refusal of some checks is one, and so is what comes otherwise
 unless_reply : (checks : List (Option Refusal)) (o : Outcome Change) → IsNoteReply o.reply → IsNoteReply (unless checks o).reply
