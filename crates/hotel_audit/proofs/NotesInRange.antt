@@ -1,7 +1,7 @@
 -- The notes that a file's lines are have their values in range.
 use Rattle.std.proofs.Common.{◌≡◌, ◌≤◌, ℕ, Bool, true, false, List, [], ◌∷◌, ◌++◌, Option, Some, None, Result, Ok, Err, refl, subst, arith, map, option_and_then, ◌&&◌, ◌+◌, ◌*◌, ◌==◌, ◌||◌, nat_le, nat_lt, if◌then◌else◌, slice_index, slice_range, length, All}
 use Rattle.hotel_core.proofs.{Names.IsTimed, Names.IsNumberUpTo, Names.IsCommand}
-use Rattle.hotel_model.proofs.{OfTables.Tests.and_true}
+use Rattle.hotel_model.proofs.OfTables.Tests.{and_true}
 use Rattle.std.specs.Option.{ok_or}
 use Rattle.std.proofs.lemmas.Bool.{leb-true}
 use Rattle.std.proofs.lemmas.List.Elements.{All-cons, All-nil}

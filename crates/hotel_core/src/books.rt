@@ -2,7 +2,7 @@
 ghost use Rattle.std.specs.Prelude.{◌≡◌, ◌-◌, List, Option, Some, None, Bool, true, false, OnOk, OnErr, IfErr, IsOk, Result, Err, length, not};
 ghost use Rattle.keycard_rules.specs.{Rise.HasRisen, Rise.NoFewer, declared.issued.LookFault.LookFault, declared.issued.LookFault.TheVariants.Memory};
 ghost use Rattle.hotel_model.specs.{Words.is_one_of, Rows.Rows, Rows.has_kind, Rows.fit_at, Guests.are_none, Refinement.Change.made};
-ghost use Rattle.hotel_core.specs.{Books.Reads.LooksUp};
+ghost use Rattle.hotel_core.specs.Books.Reads.{LooksUp};
 ghost use Rattle.hotel_model.specs.Refinement.Lookups.{room_at, codes_in, code_place, code_at, stay_at, stays_of_kind, card_at, inside_at, note_at, rooms_of_kind, first_full_on, number_after};
 ghost use Rattle.hotel_model.specs.{Refinement.Fits.Fits, Refinement.Fits.takes_memory, Sound.IsSound, declared.change.Change.Change};
 

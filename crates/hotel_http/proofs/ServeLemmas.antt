@@ -1,7 +1,7 @@
 -- What comes of a request, as it is answered.
 use Rattle.std.proofs.Common.{◌≡◌, ◌≢◌, ◌∙◌, ℕ, List, [], ◌∷◌, ◌++◌, map, refl, sym, ap, subst, inl, inr, append-nil, Option, Some, None, Result, Ok, Err, Bool, true, false, OnOk, OnErr}
 use Rattle.hotel_core.proofs.{Names.false≢true, Names.Stream, Names.NoFewer, Names.AreCounted, Names.failure_in, Names.History, Names.Rows}
-use Rattle.hotel_model.proofs.{Invariants.Assurance.assured}
+use Rattle.hotel_model.proofs.Invariants.Assurance.{assured}
 use Rattle.hotel_core.proofs.OfCode.Happens.{happens_as, happens_idle, happens_so, tells_once}
 use Rattle.std.specs.Result.{IsErrAnd}
 use Rattle.std.specs.Io.KnownBytes.{Appends}

@@ -1,8 +1,8 @@
 -- The bytes of answers.
 use Rattle.std.specs.Prelude.{ℕ, List, [], ◌++◌, length, codes, Option, Some, None}
 use Rattle.std.specs.Fmt.{decimal}
-use Rattle.hotel_model.specs.{declared.reply.Reply.Reply}
-use Rattle.hotel_core.specs.{Texts.reply_text}
+use Rattle.hotel_model.specs.declared.reply.Reply.{Reply}
+use Rattle.hotel_core.specs.Texts.{reply_text}
 use Rattle.hotel_model.specs.declared.reply.Reply.TheVariants as reply
 use Rattle.hotel_model.specs.declared.reply.Refusal.TheVariants as refusal
 use Rattle.hotel_http.specs.{declared.rejection.Method.Method, declared.rejection.Method.TheVariants.Get, declared.rejection.Method.TheVariants.Post}

@@ -10,7 +10,7 @@ use Rattle.hotel_model.specs.Event.{moment_of}
 use Rattle.hotel_nights.specs.{Days.day_text, Moments.moment_text, declared.stay.Stay.Stay}
 use Rattle.hotel_model.specs.{declared.rows.RoomRow.RoomRow, declared.list_rows.HouseRow.HouseRow, declared.list_rows.ChainRow.ChainRow}
 use Rattle.hotel_model.specs.{declared.list_rows.BehindRow.BehindRow, declared.list_rows.CodeState.CodeState}
-use Rattle.hotel_core.specs.{declared.books.walks.WalkFault.WalkFault}
+use Rattle.hotel_core.specs.declared.books.walks.WalkFault.{WalkFault}
 use Rattle.hotel_model.specs.declared.list_rows.CodeState.TheVariants as state
 use Rattle.hotel_core.specs.declared.books.walks.WalkFault.TheVariants as walk
 use Rattle.hotel_lists.specs.{Bytes.AppendsFront, declared.fault.ListFault.ListFault}

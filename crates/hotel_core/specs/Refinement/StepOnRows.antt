@@ -5,7 +5,7 @@ use Rattle.rand_core.specs.Stream.{Stream}
 use Rattle.hotel_model.specs.{declared.change.Change.Change, declared.reply.Reply.Reply, Rows.Rows}
 use Rattle.hotel_model.specs.declared.reply.Reply.TheVariants as reply
 use Rattle.hotel_model.specs.{Refinement.GoesOnRows.Goes, Refinement.GoesOnRows.AreWhole, Outcome.Outcome, Run.is_failed}
-use Rattle.hotel_core.specs.{Books.Failures.refusal_of}
+use Rattle.hotel_core.specs.Books.Failures.{refusal_of}
 use Rattle.keycard_rules.specs.declared.issued.Issued.{Ghosts as IssuedOf}
 use Rattle.hotel_core.specs.declared.books.Books.{Ghosts as BooksOf}
 

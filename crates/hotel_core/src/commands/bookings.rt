@@ -5,7 +5,7 @@ ghost use Rattle.keycard_rules.specs.Draw.{words};
 ghost use Rattle.hotel_model.specs.{Refinement.Lookups.first_full_on, Refinement.OnRows.outcome_on};
 ghost use Rattle.hotel_core.specs.{Refinement.Finds.Finds, Refinement.Finds.AnyRows, Refinement.Finds.reply_of};
 ghost use Rattle.hotel_model.specs.{Ranges.IsCommand, declared.reply.Refusal.TheVariants.Store};
-ghost use Rattle.hotel_core.specs.{Refinement.StepOnRows.StepsAs};
+ghost use Rattle.hotel_core.specs.Refinement.StepOnRows.{StepsAs};
 ghost use Rattle.hotel_model.specs.declared.command.Command.TheVariants as command;
 
 use crate::books::Books;

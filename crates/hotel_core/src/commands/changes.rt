@@ -2,7 +2,7 @@
 ghost use Rattle.std.specs.Prelude.{◌≡◌, false};
 ghost use Rattle.rand_core.specs.Stream.{Stream};
 ghost use Rattle.hotel_model.specs.{Refinement.Answered.IsAnswered, Refinement.Fits.takes_memory, Outcome.accepted, Run.is_failed};
-ghost use Rattle.hotel_core.specs.{Refinement.Finds.reply_of};
+ghost use Rattle.hotel_core.specs.Refinement.Finds.{reply_of};
 ghost use Rattle.hotel_core.specs.Refinement.StepOnRows.{StepsAs};
 
 use crate::books::Books;

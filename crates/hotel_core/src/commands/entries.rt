@@ -8,7 +8,7 @@ ghost use Rattle.hotel_core.specs.{Refinement.Finds.Finds, Refinement.Finds.AnyR
 ghost use Rattle.hotel_model.specs.{Guests.are_none, declared.reply.Refusal.TheVariants.Store};
 ghost use Rattle.hotel_model.specs.{Refinement.NotesOnRows.IsUntaken, Refinement.NotesOnRows.opened_on, Refinement.NotesOnRows.secured_by, Refinement.ChangeOf.comes};
 ghost use Rattle.hotel_model.specs.{Refinement.OnRows.told_on, Refinement.OnRows.has_link_on, Words.is_one_of};
-ghost use Rattle.hotel_core.specs.{Refinement.StepOnRows.StepsAs};
+ghost use Rattle.hotel_core.specs.Refinement.StepOnRows.{StepsAs};
 
 use crate::books::Books;
 use crate::commands::changes::make;

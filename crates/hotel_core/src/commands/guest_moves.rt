@@ -3,9 +3,8 @@ ghost use Rattle.std.specs.Prelude.{◌≡◌, false, Option, Some, None, bytes_
 ghost use Rattle.rand_core.specs.Stream.{Stream};
 ghost use Rattle.keycard_rules.specs.Draw.{words};
 ghost use Rattle.hotel_model.specs.{Stays.is_booked_state, Stays.room_of_state};
-ghost use Rattle.hotel_core.specs.{Refinement.Finds.reply_of, Refinement.Finds.Passes};
+ghost use Rattle.hotel_core.specs.{Refinement.Finds.reply_of, Refinement.Finds.Passes, Refinement.StepOnRows.StepsAs};
 ghost use Rattle.hotel_model.specs.{Refinement.CardsOnRows.bars_to_check_in, Refinement.CardsOnRows.bars_to_transfer, Refinement.OnRows.outcome_on};
-ghost use Rattle.hotel_core.specs.{Refinement.StepOnRows.StepsAs};
 ghost use Rattle.hotel_model.specs.declared.command.Command.TheVariants as command;
 
 use crate::books::Books;

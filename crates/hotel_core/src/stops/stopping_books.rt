@@ -2,8 +2,8 @@
 ghost use Rattle.std.specs.Prelude.{◌≡◌, IfErr, refl};
 ghost use Rattle.std.proofs.Common.{ap, ◌∙◌};
 ghost use Rattle.keycard_rules.specs.Rise.{HasRisen, NoFewer};
-ghost use Rattle.hotel_core.specs.{Stops.counts};
-ghost use Rattle.hotel_model.specs.{Refinement.Lookups.codes_in};
+ghost use Rattle.hotel_core.specs.Stops.{counts};
+ghost use Rattle.hotel_model.specs.Refinement.Lookups.{codes_in};
 
 use crate::books::Books;
 use crate::memory::list_books::ListBooks;

@@ -1,9 +1,8 @@
 -- Rooms: their numbers, locks, counts of codes and notes, and which are secured.
 use Rattle.std.proofs.Common.{ℕ, ◌≡◌, ◌≤◌, ◌<◌, ◌-◌, not, cond, sym, Option, None, Bool, true, false, Some, List, [], ◌∷◌, ◌++◌, length, refl, ap, ◌∙◌, arith, length-append, ◌==◌, ◌&&◌, nat_le, nat_cmp}
 use Rattle.hotel_model.proofs.Names.{nat_cmp_total, nat_tests, Link, begins_fit, last_link_of, RoomRow, at_number, Install, History, issued, passed, awaited, held, secured, rooms, room_row, rows_of, is_room, Reached, each_room, room_numbers, lock_places, codes_few, note_counts, secured_hold_last}
-use Rattle.hotel_model.proofs.{OfTables.Tests.eq_self}
 use Rattle.hotel_model.proofs.{OfTables.Numbered.found_there, Invariants.EventRanges.last_in_range, Invariants.NumbersLeft.codes_fit}
-use Rattle.hotel_model.proofs.{Invariants.LedgerOrder.ledger_holds}
+use Rattle.hotel_model.proofs.{Invariants.LedgerOrder.ledger_holds, OfTables.Tests.eq_self}
 use Rattle.hotel_model.proofs.Invariants.SecuredRooms.{secured_rooms_fit, secured_have_newest}
 use Rattle.hotel_model.proofs.{OfTables.RowTests.both, OfTables.RowTests.where_so, OfTables.RowTests.all_mapped, OfTables.RowTests.all_found, SoundRows.RowsPass.rooms_pass}
 use Rattle.hotel_model.proofs.{SoundRows.SoundKeys.rooms_in_order, OfTables.Tests.le_tested, OfTables.Tests.lt_tested}
