@@ -17,7 +17,7 @@ use Rattle.hotel_statements.specs.declared.version.Version.TheVariants.{First}
 use Rattle.keycard_rules.specs.declared.issued.LookFault.{LookFault}
 use Rattle.keycard_rules.specs.declared.issued.LookFault.TheVariants as look
 use Rattle.hotel_tables.specs.Opening.{fault_for, FailsToRead, FaultFitsIn, IsNoDesk, IsOfCall, IsOfVersion}
-use Rattle.hotel_tables.specs.Opening.{IsSoundDesk, IsUpgraded}
+use Rattle.hotel_tables.specs.Opening.{MemoryFitsIn, IsSoundDesk, IsUpgraded}
 
 -- the statements that make a desk, in the order in which they run
 abbrev pub makes_desk : List Statement
@@ -78,5 +78,7 @@ module _ {S : Type 0} (g : Ghosts S) where
     -- over a desk's tables: a table is called damaged where it is the first that is, it is no desk's for want of meta's
     -- one row, and Store is told of a call that failed or of rows that no query shows
     pub fits : HasCleanDisk (state g new) → FaultFitsIn (CallFails old new look.Store) (state g old).now why
+    -- Memory is told of a call that failed for want of it, or where none failed: nothing was read, or all was
+    pub memory : (new ≡ old) ⊎ MemoryFitsIn (CallFails old new look.Memory) (state g old) (state g new) why
     -- tables that books kept are never refused
     pub kept : HasCleanDisk (state g new) → IsSoundDesk (state g old) → IsOfCall why

@@ -1,6 +1,6 @@
 -- What is tested of the tables that are read when books are opened, and what opening promises.
 use Rattle.std.specs.Prelude.{◌≡◌, ◌⊎◌, ◌&&◌, ℤ, pos, Bool, true, false, List, [], ◌∷◌, map, Option, Some, None, Vec}
-use Rattle.std.specs.Prelude.{Result, Err, IfOk, IfErr, OnOk, OnErr, IsTrue}
+use Rattle.std.specs.Prelude.{Result, Ok, Err, IfOk, IfErr, OnOk, OnErr, IsTrue}
 use Rattle.std.specs.List.{list_all, AllByRecursion}
 use Rattle.std.specs.Ordering.{int_cmp}
 use Rattle.std.specs.declared.alloc.Global.{Global}
@@ -135,6 +135,13 @@ FaultFitsIn failed db why =
 abbrev pub FailsToRead : Version → State → State → LookFault → Type 0
 FailsToRead version old new why = ReadsTo version (AreRead version) old new (Err why)
 
+-- Memory is told of the tables of a version where a call failed for want of it, as this says, or once they were all
+-- read.
+abbrev pub MemoryFitsIn : (Version → Type 0) → State → State → OpenFault → Type 0
+MemoryFitsIn failed old new why =
+    why ≡ fault.Memory → (version : Version) → old.now.schema ≡ schema_of version
+    → failed version ⊎ ((t : Tables) × ReadsTo version (AreRead version) old new (Ok t))
+
 -- the tables are those of a desk, of one of the versions
 abbrev pub IsOfVersion : Schema → Type 0
 IsOfVersion schema = (version : Version) × (schema ≡ schema_of version)
@@ -197,10 +204,11 @@ pub record Opens (version : Version) (old new : State) (result : Result Found Op
   pub crash : LeavesNoMore old new
 
 -- What the opening of a desk promises, of a connection from old to new: its books, what is counted of their rows, and
--- what a fault says of the tables, where this is what it says of the calls. Where it is answered over a disk that
--- returned what was written, the connection is open. A crash in it, or after it, leaves what it could leave before, or
--- the whole desk that is made of one of the first version.
-pub record Enters (failed : Version → Type 0) (old new : State) (result : Result Counts OpenFault) : Type 0 where
+-- what a fault says of the tables, where this is what it says of the calls by their cause. Where it is answered over a
+-- disk that returned what was written, the connection is open. A crash in it, or after it, leaves what it could leave
+-- before, or the whole desk that is made of one of the first version.
+pub record Enters (fails : LookFault → Version → Type 0) (old new : State) (result : Result Counts OpenFault)
+    : Type 0 where
   pub autocommit : new.in_transaction ≡ false
   pub books : OnOk result (IsBooks new)
   pub was : IsKept new → IsKept old
@@ -210,7 +218,8 @@ pub record Enters (failed : Version → Type 0) (old new : State) (result : Resu
   pub same : IsKept new → OnErr result (new.now ≡ old.now)
   pub counted : IsKept new → IfOk result (λ c. IsCounted c.kinds c.nights (rows_in new.now.trees))
   pub open_on : HasCleanDisk new → OnOk result (IsTrue new.is_open)
-  pub fault : HasCleanDisk new → IfErr result (FaultFitsIn failed old.now)
+  pub fault : HasCleanDisk new → IfErr result (FaultFitsIn (fails look.Store) old.now)
+  pub memory : IfErr result (MemoryFitsIn (fails look.Memory) old new)
   pub crash : IsKept old → Survives old new (IsUpgraded old.now)
 
 -- Over this store nothing but its own calls writes, as in memory: each state of a connection is clean.

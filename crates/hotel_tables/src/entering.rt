@@ -4,7 +4,6 @@ ghost use Rattle.sqlite.specs.Held.{state};
 ghost use Rattle.hotel_statements.specs.declared.version.Version.TheVariants as of;
 ghost use Rattle.hotel_statements.specs.Schema.{first_schema, desk_schema, schema_of};
 ghost use Rattle.hotel_statements.specs.WholeTables.{IsOurs};
-ghost use Rattle.keycard_rules.specs.declared.issued.LookFault.TheVariants.{Store};
 ghost use Rattle.hotel_tables.specs.Opening.{Enters};
 ghost use Rattle.hotel_tables.specs.Exits.{CallFails};
 
@@ -20,8 +19,7 @@ use std::alloc::Global;
 fn enter_second<S: Alter>(alloc: Global, conn: &mut Connection<S>) -> Result<Counts, OpenFault>
     requires ours { IsOurs of.Second (state S.Store conn.old) }
     requires second { (state S.Store conn.old).now.schema ≡ desk_schema }
-    ensures { Enters (CallFails S.Store conn.old conn.new Store)
-        (state S.Store conn.old) (state S.Store conn.new) result }
+    ensures { Enters (CallFails S.Store conn.old conn.new) (state S.Store conn.old) (state S.Store conn.new) result }
 {
     match find_counts(alloc, conn, Version::Second) {
         Ok(found) => Ok(found.counts),
@@ -35,8 +33,7 @@ fn enter_second<S: Alter>(alloc: Global, conn: &mut Connection<S>) -> Result<Cou
 fn enter_first<S: Alter>(alloc: Global, conn: &mut Connection<S>) -> Result<Counts, OpenFault>
     requires ours { IsOurs of.First (state S.Store conn.old) }
     requires first { (state S.Store conn.old).now.schema ≡ first_schema }
-    ensures { Enters (CallFails S.Store conn.old conn.new Store)
-        (state S.Store conn.old) (state S.Store conn.new) result }
+    ensures { Enters (CallFails S.Store conn.old conn.new) (state S.Store conn.old) (state S.Store conn.new) result }
 {
     let found = match find_counts(alloc, conn, Version::First) {
         Ok(found) => found,
@@ -56,8 +53,7 @@ pub(crate) fn enter<S: Alter>(
 ) -> Result<Counts, OpenFault>
     requires ours { IsOurs version (state S.Store conn.old) }
     requires has { (state S.Store conn.old).now.schema ≡ schema_of version }
-    ensures { Enters (CallFails S.Store conn.old conn.new Store)
-        (state S.Store conn.old) (state S.Store conn.new) result }
+    ensures { Enters (CallFails S.Store conn.old conn.new) (state S.Store conn.old) (state S.Store conn.new) result }
 {
     match version {
         Version::First => enter_first(alloc, conn),

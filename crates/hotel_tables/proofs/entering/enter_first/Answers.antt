@@ -3,7 +3,6 @@ use Rattle.sqlite.specs.Held.{state}
 use Rattle.hotel_statements.specs.declared.version.Version.TheVariants.{First}
 use Rattle.hotel_statements.specs.Upgrade.{AreRoomsIn}
 use Rattle.hotel_tables.specs.Opening.{Enters}
-use Rattle.keycard_rules.specs.declared.issued.LookFault.TheVariants.{Store}
 use Rattle.hotel_tables.specs.Exits.{CallFails}
 use Rattle.hotel_tables.proofs.Entered.{first_books, first_rooms, entered_first, entered_not, not_upgraded}
 use Rattle.hotel_tables.proofs.Entered.{upgrade_fails}
@@ -12,7 +11,7 @@ use Rattle.hotel_tables.proofs.entering.enter_first.Goals as goal
 pub returns-in-Err : goal.returns-in-Err
 returns-in-Err g c =
     entered_not First (state g.S.Store c.args.conn.now) (state g.S.Store c.find_counts.new.conn)
-    c.in-Err.why c.requires.first (λ reads. inl reads) c.in-Err.ensures
+    c.in-Err.why c.requires.first (λ cause reads. inl reads) c.in-Err.ensures
 
 pub migrate-requires-clause-books : goal.migrate-requires-clause-books
 migrate-requires-clause-books g c = first_books c.requires.first c.in-Ok.ensures
@@ -34,8 +33,8 @@ returns-in-Err-migrate g c =
     let did = c.in-Err-migrate.ensures in
     let old = state g.S.Store c.args.conn.now in
     let new = state g.S.Store c.migrate.new.conn in
-    let failed = CallFails g.S.Store c.args.conn.now c.migrate.new.conn Store in
-    subst (λ why. Enters failed old new (Err why)) (sym c.open_fault.ensures)
+    let fails = CallFails g.S.Store c.args.conn.now c.migrate.new.conn in
+    subst (λ why. Enters fails old new (Err why)) (sym c.open_fault.ensures)
     (not_upgraded c.requires.first c.in-Ok.ensures did.left.autocommit did.was did.crash c.fault_of.result did.same
-    (λ is. upgrade_fails g.S.Store c.args.conn.now c.find_counts.new.conn c.migrate.new.conn _
-    c.in-Err-migrate.error did.failed (sym c.fault_of.ensures ∙ is)))
+    (λ cause is. upgrade_fails g.S.Store c.args.conn.now c.find_counts.new.conn c.migrate.new.conn _
+    c.in-Err-migrate.error did.failed cause (sym c.fault_of.ensures ∙ is)))

@@ -12,4 +12,4 @@ returns-in-Ok g c =
 pub returns-in-Err : goal.returns-in-Err
 returns-in-Err g c =
     entered_not Second (state g.S.Store c.args.conn.now) (state g.S.Store c.find_counts.new.conn)
-    c.in-Err.why c.requires.second (λ reads. inl reads) c.in-Err.ensures
+    c.in-Err.why c.requires.second (λ cause reads. inl reads) c.in-Err.ensures
