@@ -3,8 +3,8 @@ use Rattle.std.specs.Prelude.{ℕ, Bool, true, false, List, [], ◌∷◌, Resul
 use Rattle.keycard_rules.specs.Results.{◌>>=◌}
 use Rattle.keycard_rules.specs.{declared.card.Link.Link, declared.note.Act.Act}
 use Rattle.keycard_rules.specs.declared.note.Act.TheVariants as act
-use Rattle.hotel_core.specs.declared.command.Command.{Command}
-use Rattle.hotel_core.specs.declared.command.Command.TheVariants as command
+use Rattle.hotel_model.specs.declared.command.Command.{Command}
+use Rattle.hotel_model.specs.declared.command.Command.TheVariants as command
 use Rattle.hotel_asks.specs.{declared.asks.Ask.Ask, declared.notes.CardNote.CardNote, declared.values.Lock.Lock, declared.values.ValueFault.ValueFault, declared.values.ValueFault.TheVariants.Number}
 use Rattle.hotel_asks.specs.declared.asks.Ask.TheVariants as ask
 use Rattle.hotel_asks.specs.declared.lists.ListAsk.TheVariants as list

@@ -2,10 +2,10 @@
 use Rattle.std.proofs.Common.{◌≡◌, ◌∙◌, false, List, [], ◌∷◌, ◌++◌, inl, inr, refl, ap, sym, subst, All}
 use Rattle.hotel_core.proofs.Names.{Stream, words, Note, Event, History, ◌▷◌, grown, IsReply, Reached, Runs, StepsIf}
 use Rattle.std.proofs.lemmas.List.Elements.{All-cons, All-nil}
-use Rattle.hotel_core.specs.declared.command.Command.TheVariants as command
-use Rattle.hotel_core.specs.declared.reply.Reply.{Reply}
-use Rattle.hotel_core.specs.declared.reply.Reply.TheVariants as reply
-use Rattle.hotel_core.proofs.Lifted.Runs.{runs_reach}
+use Rattle.hotel_model.specs.declared.command.Command.TheVariants as command
+use Rattle.hotel_model.specs.declared.reply.Reply.{Reply}
+use Rattle.hotel_model.specs.declared.reply.Reply.TheVariants as reply
+use Rattle.hotel_model.proofs.Lifted.Runs.{runs_reach}
 use Rattle.hotel_audit.specs.{declared.answer.LineAnswer.LineAnswer, declared.line.Line.Line, Import.AreAnswered, Import.commands_of, Import.replies_in}
 use Rattle.hotel_audit.specs.declared.answer.LineAnswer.TheVariants.{Taken, Seen, Unread, Refused}
 use Rattle.hotel_audit.specs.declared.line.Line.TheVariants as line

@@ -5,10 +5,10 @@ use Rattle.std.proofs.lemmas.List.Elements.{filter-append}
 use Rattle.hotel_core.proofs.Names.{Stream, words, Note, answer_to, reported, is_begun, is_room, is_fit, present_fit, Event, note_of, History, ◌▷◌, notes, notes_of, same_note, standing, standing_among, with_note, Outcome, grown, needs, Runs, StepsIf, and_last, when}
 use Rattle.keycard_rules.specs.declared.note.Act.{Act}
 use Rattle.keycard_rules.specs.declared.note.Act.TheVariants as act
-use Rattle.hotel_core.specs.declared.command.Command.TheVariants as command
-use Rattle.hotel_core.specs.{declared.reply.Reply.Reply, declared.reply.Refusal.TheVariants.NotBegun, declared.reply.Refusal.TheVariants.NoRoom, declared.reply.Refusal.TheVariants.NoFit}
-use Rattle.hotel_core.specs.declared.reply.Reply.TheVariants as reply
-use Rattle.hotel_core.proofs.OfTables.Tests.{eq_from, eq_self}
+use Rattle.hotel_model.specs.declared.command.Command.TheVariants as command
+use Rattle.hotel_model.specs.{declared.reply.Reply.Reply, declared.reply.Refusal.TheVariants.NotBegun, declared.reply.Refusal.TheVariants.NoRoom, declared.reply.Refusal.TheVariants.NoFit}
+use Rattle.hotel_model.specs.declared.reply.Reply.TheVariants as reply
+use Rattle.hotel_model.proofs.OfTables.Tests.{eq_from, eq_self}
 use Rattle.hotel_audit.specs.{declared.answer.LineAnswer.LineAnswer, declared.line.Line.Line, FilesCounted.event_by, FilesCounted.event_of}
 use Rattle.hotel_audit.specs.declared.answer.LineAnswer.TheVariants.{Taken, Seen, Unread, Refused}
 use Rattle.hotel_audit.specs.declared.line.Line.TheVariants as line

@@ -1,6 +1,7 @@
 -- How an import ends: with all lines answered, with those before one that failed, or before the first.
 use Rattle.std.proofs.Common.{ℕ, ◌≡◌, ◌≢◌, ◌⊎◌, Bool, List, [], Result, Ok, Err, OnOk, take, drop, length, sym, refl, ap}
-use Rattle.hotel_core.proofs.{Names.Rows, OfCode.LeadsOn.leads_of}
+use Rattle.hotel_core.proofs.Names.{Rows}
+use Rattle.hotel_model.proofs.LeadsOn.{leads_of}
 use Rattle.keycard_rules.specs.declared.issued.Issued.{Ghosts as IssuedOf}
 use Rattle.std.proofs.lemmas.List.{take-append-drop}
 use Rattle.hotel_audit.specs.{declared.answer.LineAnswer.LineAnswer, declared.audit_file.AuditFault.AuditFault, declared.imports.ImportFault.ImportFault, declared.line.Line.Line}

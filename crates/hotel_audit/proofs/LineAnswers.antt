@@ -1,9 +1,10 @@
 -- The lines of a file, one after the other.
 use Rattle.std.proofs.Common.{◌≡◌, ◌≢◌, ◌∙◌, List, [], ◌∷◌, ◌++◌, refl, ap, Ok, ◌||◌}
-use Rattle.hotel_core.proofs.{Names.Stream, Names.Note, Names.Rows, Names.Steps, Invariants.Assurance.assured, Lifted.Runs.runs_join}
-use Rattle.hotel_core.specs.declared.command.Command.TheVariants as command
-use Rattle.hotel_core.specs.{declared.reply.Reply.Reply, Model.Leads.LeadsOn}
-use Rattle.hotel_core.specs.declared.reply.Reply.TheVariants as reply
+use Rattle.hotel_core.proofs.{Names.Stream, Names.Note, Names.Rows, Names.Steps}
+use Rattle.hotel_model.proofs.{Invariants.Assurance.assured, Lifted.Runs.runs_join}
+use Rattle.hotel_model.specs.declared.command.Command.TheVariants as command
+use Rattle.hotel_model.specs.{declared.reply.Reply.Reply, Leads.LeadsOn}
+use Rattle.hotel_model.specs.declared.reply.Reply.TheVariants as reply
 use Rattle.hotel_audit.specs.{declared.answer.LineAnswer.LineAnswer, declared.line.Cause.Cause, declared.line.Line.Line}
 use Rattle.hotel_audit.specs.declared.answer.LineAnswer.TheVariants as answer
 use Rattle.hotel_audit.specs.declared.line.Line.TheVariants as line

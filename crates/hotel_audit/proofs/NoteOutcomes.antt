@@ -4,10 +4,10 @@ use Rattle.hotel_core.proofs.Names.{is_fit, present_fit, notes_of, Note, answer_
 use Rattle.std.proofs.lemmas.Bool.{eqb-true}
 use Rattle.keycard_rules.specs.declared.note.Act.{Act}
 use Rattle.keycard_rules.specs.declared.note.Act.TheVariants as act
-use Rattle.hotel_core.specs.declared.command.Command.TheVariants as command
-use Rattle.hotel_core.specs.declared.reply.Reply.TheVariants as reply
-use Rattle.hotel_core.specs.{declared.reply.Refusal.Refusal, Model.Cases.holds}
-use Rattle.hotel_core.specs.declared.reply.Refusal.TheVariants.{NotBegun, NoRoom, NoFit, NoCard, CardDiffers, LockShut, NotInside, HeldDiffers, NotAwaited}
+use Rattle.hotel_model.specs.declared.command.Command.TheVariants as command
+use Rattle.hotel_model.specs.declared.reply.Reply.TheVariants as reply
+use Rattle.hotel_model.specs.{declared.reply.Refusal.Refusal, Cases.holds}
+use Rattle.hotel_model.specs.declared.reply.Refusal.TheVariants.{NotBegun, NoRoom, NoFit, NoCard, CardDiffers, LockShut, NotInside, HeldDiffers, NotAwaited}
 use Rattle.hotel_audit.specs.FilesCounted.{event_by, event_of}
 
 -- the note is of the room's present fit, and the one after so many

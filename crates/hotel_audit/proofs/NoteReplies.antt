@@ -3,9 +3,9 @@ use Rattle.std.proofs.Common.{◌≡◌, Bool, true, false, [], ◌∷◌, refl,
 use Rattle.hotel_core.proofs.Names.{Note, is_failed, failure_in, refusal_of}
 use Rattle.keycard_rules.specs.declared.issued.LookFault.{LookFault}
 use Rattle.keycard_rules.specs.declared.issued.LookFault.TheVariants as look
-use Rattle.hotel_core.specs.{declared.reply.Reply.Reply, Model.NoteReplies.IsNoteReply}
-use Rattle.hotel_core.specs.declared.reply.Reply.TheVariants as reply
-use Rattle.hotel_core.specs.declared.reply.Refusal.TheVariants as refusal
+use Rattle.hotel_model.specs.{declared.reply.Reply.Reply, NoteReplies.IsNoteReply}
+use Rattle.hotel_model.specs.declared.reply.Reply.TheVariants as reply
+use Rattle.hotel_model.specs.declared.reply.Refusal.TheVariants as refusal
 use Rattle.hotel_audit.specs.declared.answer.LineAnswer.{LineAnswer}
 use Rattle.hotel_audit.specs.declared.answer.LineAnswer.TheVariants.{Taken, Seen, Refused}
 use Rattle.hotel_audit.specs.declared.line.Line.TheVariants as line

@@ -7,12 +7,12 @@ use Rattle.std.proofs.lemmas.List.Elements.{filter-append}
 use Rattle.std.proofs.Math.Seq.{drop-append_seam}
 use Rattle.keycard_rules.specs.{declared.card.Link.Link, declared.note.Act.Act}
 use Rattle.keycard_rules.specs.declared.note.Act.TheVariants as act
-use Rattle.hotel_core.specs.{declared.command.Command.Command, declared.reply.Reply.Reply, declared.reply.Refusal.Refusal, Model.Cases.holds, Model.Notes.same_act}
-use Rattle.hotel_core.specs.declared.command.Command.TheVariants as command
-use Rattle.hotel_core.specs.declared.reply.Reply.TheVariants as reply
-use Rattle.hotel_core.specs.declared.reply.Refusal.TheVariants.{NotBegun, NoRoom, NoFit, NoCard, CardDiffers, LockShut, NotInside, HeldDiffers, NotAwaited}
-use Rattle.hotel_core.specs.Model.Event as event
-use Rattle.hotel_core.proofs.{Facts.Follow.MayFollow, Invariants.Following.answers_follow, Invariants.HomeRooms.not_added, OfTables.Tests.eq_from, OfTables.Tests.not_both}
+use Rattle.hotel_model.specs.{declared.command.Command.Command, declared.reply.Reply.Reply, declared.reply.Refusal.Refusal, Cases.holds, Notes.same_act}
+use Rattle.hotel_model.specs.declared.command.Command.TheVariants as command
+use Rattle.hotel_model.specs.declared.reply.Reply.TheVariants as reply
+use Rattle.hotel_model.specs.declared.reply.Refusal.TheVariants.{NotBegun, NoRoom, NoFit, NoCard, CardDiffers, LockShut, NotInside, HeldDiffers, NotAwaited}
+use Rattle.hotel_model.specs.Event as event
+use Rattle.hotel_model.proofs.{Facts.Follow.MayFollow, Invariants.Following.answers_follow, Invariants.HomeRooms.not_added, OfTables.Tests.eq_from, OfTables.Tests.not_both}
 
 -- the first of these notes is the note
 abbrev pub BeginsWith : List Note → Note → Type 0

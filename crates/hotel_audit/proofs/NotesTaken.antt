@@ -1,11 +1,11 @@
 -- In a run a room's notes grow by those that were answered Taken.
 use Rattle.std.proofs.Common.{◌≡◌, ◌∙◌, ℕ, Bool, true, false, List, [], ◌∷◌, ◌++◌, Option, Some, None, inl, inr, refl, ap, sym, subst, append_assoc, append-nil, ◌==◌}
 use Rattle.hotel_core.proofs.Names.{Stream, draw_from, words, Note, answer_to, checks, effect, next_card, next_fit, own_room, Event, note_of, History, issued_codes, notes, with_note, grown, Steps, StepsIf, answered, is_failed, and_last, when}
-use Rattle.hotel_core.specs.{declared.command.Command.Command, declared.reply.Reply.Reply}
-use Rattle.hotel_core.specs.declared.command.Command.TheVariants as command
-use Rattle.hotel_core.specs.declared.reply.Reply.TheVariants as reply
-use Rattle.hotel_core.specs.Model.Event as event
-use Rattle.hotel_core.proofs.Invariants.Following.{from_draw, passed_all, same_event}
+use Rattle.hotel_model.specs.{declared.command.Command.Command, declared.reply.Reply.Reply}
+use Rattle.hotel_model.specs.declared.command.Command.TheVariants as command
+use Rattle.hotel_model.specs.declared.reply.Reply.TheVariants as reply
+use Rattle.hotel_model.specs.Event as event
+use Rattle.hotel_model.proofs.Invariants.Following.{from_draw, passed_all, same_event}
 use Rattle.hotel_audit.specs.FilesCounted.{RunsTake, and_before, note_taken, notes_taken}
 use Rattle.hotel_audit.proofs.{IdleNotes.noted, NoteOutcomes.note_outcome}
 

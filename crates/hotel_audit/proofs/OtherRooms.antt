@@ -3,8 +3,8 @@ use Rattle.std.proofs.Common.{◌≡◌, ℕ, Bool, true, false, List, [], ◌�
 use Rattle.hotel_core.proofs.Names.{insert_key, match_ordering, is_at, remove_key, Note, answer_to, told, reported, cards, is_begun, is_room, present_fit, insiders, inside, those_in, History, ◌▷◌, awaited, turns, held, Standing, Copy, Conflicting, OfOldFit, Next, After, notes, standing, and_last, pair_cmp, when, without, after}
 use Rattle.keycard_rules.specs.declared.note.Act.{Act}
 use Rattle.keycard_rules.specs.declared.note.Act.TheVariants as act
-use Rattle.hotel_core.specs.declared.command.Command.TheVariants as command
-use Rattle.hotel_core.proofs.{OfTables.Pairs.pair_is, OfTables.Tests.and_true, OfTables.Tests.eq_from}
+use Rattle.hotel_model.specs.declared.command.Command.TheVariants as command
+use Rattle.hotel_model.proofs.{OfTables.Pairs.pair_is, OfTables.Tests.and_true, OfTables.Tests.eq_from}
 use Rattle.hotel_audit.specs.FilesCounted.{event_by, event_of}
 
 -- two histories agree on all that the notes of a room turn on

@@ -1,7 +1,7 @@
 -- The texts of the answers to an audit file's lines.
 use Rattle.std.specs.Prelude.{ℕ, List, [], ◌∷◌, ◌++◌, ◌+◌, codes}
 use Rattle.std.specs.Fmt.{decimal}
-use Rattle.hotel_core.specs.declared.reply.Reply.TheVariants as reply
+use Rattle.hotel_model.specs.declared.reply.Reply.TheVariants as reply
 use Rattle.hotel_core.specs.Texts.{reply_text}
 use Rattle.hotel_audit.specs.{declared.answer.LineAnswer.LineAnswer, declared.line.Cause.Cause}
 use Rattle.hotel_audit.specs.declared.answer.LineAnswer.TheVariants.{Taken, Seen, Unread, Refused}

@@ -4,11 +4,11 @@ use Rattle.std.specs.List.{range_with_len, slice_get}
 use Rattle.rand_core.specs.Stream.{Stream}
 use Rattle.keycard_rules.specs.{Note.Note, declared.note.Act.Act}
 use Rattle.keycard_rules.specs.declared.note.Act.TheVariants as act
-use Rattle.hotel_core.specs.{declared.command.Command.Command, declared.reply.Reply.Reply, Model.Event.moment_of}
-use Rattle.hotel_core.specs.declared.command.Command.TheVariants as command
-use Rattle.hotel_core.specs.declared.reply.Reply.TheVariants as reply
-use Rattle.hotel_core.specs.{Model.Event.Event, Model.Event.Entered, Model.Event.Left, Model.Event.Recoded, Model.History.History, Model.History.◌▷◌, Books.Lookups.note_at}
-use Rattle.hotel_core.specs.{Model.Notes.notes, Model.Notes.notes_of, Model.RowsOf.rows_of, Model.Run.Reached, Model.Run.Runs, Model.Words.when}
+use Rattle.hotel_model.specs.{declared.command.Command.Command, declared.reply.Reply.Reply, Event.moment_of}
+use Rattle.hotel_model.specs.declared.command.Command.TheVariants as command
+use Rattle.hotel_model.specs.declared.reply.Reply.TheVariants as reply
+use Rattle.hotel_model.specs.{Event.Event, Event.Entered, Event.Left, Event.Recoded, History.History, History.◌▷◌, Refinement.Lookups.note_at}
+use Rattle.hotel_model.specs.{Notes.notes, Notes.notes_of, RowsOf.rows_of, Run.Reached, Run.Runs, Words.when}
 use Rattle.hotel_audit.specs.{declared.answer.LineAnswer.LineAnswer, declared.answer.LineAnswer.TheVariants.Taken, declared.line.Line.Line, AuditFile.audit_lines}
 use Rattle.hotel_audit.specs.declared.line.Line.TheVariants as line
 use Rattle.hotel_audit.specs.SentAgain.{LinesLead}

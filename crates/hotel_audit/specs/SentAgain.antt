@@ -1,7 +1,7 @@
 -- What a file does that is sent again.
 use Rattle.std.specs.Prelude.{◌≡◌, List, All, map}
 use Rattle.rand_core.specs.Stream.{Stream}
-use Rattle.hotel_core.specs.{declared.command.Command.Command, declared.reply.Reply.Reply, Model.History.History, Model.Run.Runs}
+use Rattle.hotel_model.specs.{declared.command.Command.Command, declared.reply.Reply.Reply, History.History, Run.Runs}
 use Rattle.hotel_audit.specs.{declared.answer.LineAnswer.LineAnswer, declared.answer.LineAnswer.TheVariants.Taken, declared.answer.LineAnswer.TheVariants.Seen}
 use Rattle.hotel_audit.specs.{declared.line.Line.Line, Import.AreAnswered, Import.commands_of, Import.replies_in}
 

@@ -2,7 +2,7 @@
 use Rattle.std.specs.Prelude.{◌≡◌, ◌≤◌, List, [], ◌∷◌, ◌++◌}
 use Rattle.rand_core.specs.Stream.{Stream}
 use Rattle.keycard_rules.specs.Note.{Note}
-use Rattle.hotel_core.specs.Model.History.{History}
+use Rattle.hotel_model.specs.History.{History}
 use Rattle.hotel_audit.specs.{declared.answer.LineAnswer.LineAnswer, declared.line.Line.Line, SentAgain.LinesLead}
 use Rattle.hotel_audit.specs.declared.line.Line.TheVariants as line
 

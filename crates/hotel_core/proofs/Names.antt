@@ -1,92 +1,63 @@
--- The names that the proofs of this crate cite most, passed on from one place. Declares nothing.
-pub use Rattle.hotel_core.specs.Books.Change.{before_in, codes_of, freed_by, made, moved, notes_in, room_changed, without_party}
+-- The names that the proofs of this crate cite most, and those of the model among them, passed on from one place. Declares nothing.
 pub use Rattle.hotel_core.specs.Books.Failures.{AreCounted, failure_in, failures_in, times, refusal_of}
-pub use Rattle.hotel_core.specs.Books.Fits.{HasItsRows}
-pub use Rattle.hotel_core.specs.Books.Lookups.{card_at, code_at, code_place, codes_in, first_code_at, first_full_on, inside_at, note_at, note_numbered, number_after, of_fit, room_at, rooms_of_kind, stay_at, stays_of_kind}
 pub use Rattle.hotel_core.specs.Books.Walks.{Hands, StopsAt, Takes, TakesFront, failure_of}
 pub use Rattle.hotel_core.specs.KindRooms.{is_there, rooms_in}
 pub use Rattle.hotel_core.specs.Memory.{HaveCardNumbers, HaveCounts, HaveRoomNumbers, LaterPlacesFree, PlacesAgree, RoomsKnown, CountsNightsOf, TablesAgree}
-pub use Rattle.hotel_core.specs.Model.Answer.{checks, effect, reported, told}
-unfoldable pub use Rattle.hotel_core.specs.Model.Answer.{answer_to}
-pub use Rattle.hotel_core.specs.Model.Cards.{card_of, cards, link_of_party, link_to, newest_link, same_link, with_spare}
-pub use Rattle.hotel_core.specs.Model.Cases.{cards_used_up, has_link, is_begun, is_booked, is_card, is_home, is_in_house, is_kind, is_of_kind, is_party, is_room, is_taken, last_card_of, next_card, next_party, no_link, opens, own_room, parties_used_up, room_of, stay_is, today}
-pub use Rattle.hotel_core.specs.Model.Stays.{day, first_full, in_state, is_booked_state, kinds, nights, now_is, room_of_state, rooms, rooms_of, stays}
-pub use Rattle.hotel_core.specs.Model.Event.{Begun, Cancelled, Issue, CheckOut, Entered, Event, Install, Kind, Left, Moment, NextDay, Recoded, Refitted, Reserved, Spare, note_of, moment_of}
-pub use Rattle.hotel_core.specs.Model.Guests.{are_none, inside, insiders, leaves, registered, secured, those_elsewhere, those_in}
-pub use Rattle.hotel_core.specs.Model.Headline.{Assured, Headline, LedgerHolds, NewestOpens, NoCodeTwice, OpensOwnRoom, SafeRoom, TakesTheFirst}
-pub use Rattle.hotel_core.specs.Model.History.{History, start, ◌▷◌}
-pub use Rattle.hotel_core.specs.Model.Issued.{all_issued, current, is_fresh, issued, issued_codes}
-pub use Rattle.hotel_core.specs.Model.Laws.{IsRun, NoneFailed, RunsTo}
-pub use Rattle.hotel_core.specs.Model.Ledger.{awaited, passed, turns}
-pub use Rattle.hotel_core.specs.Model.Lock.{held}
-pub use Rattle.hotel_core.specs.Model.Notes.{all_notes, and_note, notes, notes_of, same_note, with_note}
-pub use Rattle.hotel_core.specs.Model.Outcome.{Outcome, accepted, bars, by_draw, grown, needs, refused, said, unless}
-pub use Rattle.hotel_core.specs.Model.Ranges.{InRange, IsCommand, IsReply}
-pub use Rattle.hotel_core.specs.Model.Refits.{fit_row, fits, fits_used_up, is_fit, next_fit, notes_before, present_fit}
-pub use Rattle.hotel_core.specs.Model.Rows.{Rows, at_number, begins_fit, codes_at, codes_by_place, first_of, fit_at, fits_at, has_kind, last_fit, last_link_of, link_of_last_card, lock_place_of, newest_link_at, notes_at, or_else}
-pub use Rattle.hotel_core.specs.Model.RowsOf.{room_row, rows_of}
-pub use Rattle.hotel_core.specs.Model.Run.{Ran, Reached, Runs, StandsFor, Steps, StepsIf, answered, any_answered, is_failed, last_answered, run_on}
-pub use Rattle.hotel_core.specs.Model.Sound.{IsSound, keys_in_order, passes_rules}
-pub use Rattle.hotel_core.specs.Model.SoundCards.{are_neighbours, card_numbers, card_parties_there, code_is, code_rooms_there, codes_in_range, codes_listed, each_card, fits_without_links, has_newest, is_new_code, is_newest, last_cards_newest, links_are_neighbours, links_of_one_party, neighbours_are_links, newest_of_party, owns_newest, places_once, stands_at}
-pub use Rattle.hotel_core.specs.Model.SoundFits.{each_fitted, first_fits, first_is_first, fit_notes_few, fit_notes_rise, fit_numbers, fit_places_rise, fit_rooms_there, last_fits_held, last_fits_noted, none_fall, notes_before_each, rise_by_few, rows_of_last_fits}
-pub use Rattle.hotel_core.specs.Model.SoundNotes.{act_fits, card_is, comes_later, fit_is, fits_inside, has_entered, has_link_at, insides_fit, is_of_fit, last_fit_place, note_fits, notes_counted, notes_fit, notes_of_fits, numbers_at, room_is}
-pub use Rattle.hotel_core.specs.Model.SoundRooms.{are_in_order, codes_few, count_up, day_before_kinds, day_in_range, each_room, is_day, is_home_of, kinds_read, lock_places, note_counts, parties_in_house, room_kinds_there, room_numbers, secured_hold_last}
-pub use Rattle.hotel_core.specs.Model.SoundStays.{guests_read, has_party, nights_fit, rooms_with, stay_days, stay_kinds_there, stay_numbers, stay_rooms, stays_on}
-pub use Rattle.hotel_core.specs.Model.Standing.{After, Conflicting, Copy, Next, OfOldFit, Standing, standing, standing_among, standing_to}
-pub use Rattle.hotel_core.specs.Model.Words.{after, and_last, before, is_one_of, is_that, last_of, pair_cmp, said_of, when, without}
 pub use Rattle.hotel_core.specs.NightIndex.{block_at, block_cmp, counted, spans}
-pub use Rattle.hotel_core.specs.Refinement.ChangeOf.{change_of, comes, other_than}
 pub use Rattle.hotel_core.specs.Refinement.Finds.{AnyRows, DrawsCode, Drew, DrewNone, Finds, drawn_or, first_refusal, has_failed, reply_of}
-pub use Rattle.hotel_core.specs.Refinement.CardsOnRows.{HasLink, bars_to_check_in, bars_to_transfer, issued_on}
-pub use Rattle.hotel_core.specs.Refinement.Lift.{Lifts, as_change}
-pub use Rattle.hotel_core.specs.Refinement.ListsOnRows.{arrivals_on, arrives_on, audit_on, awaited_on, behind_row_on, chain_on, chain_row_on, house_row_on, housed, in_house_on, left_behind_on, state_at}
-pub use Rattle.hotel_core.specs.Refinement.NotesOnRows.{IsUntaken, opened_on}
-pub use Rattle.hotel_core.specs.Refinement.OnRows.{checks_on, effect_on, has_link_on, held_on, home_link_on, home_on, is_awaited_on, is_fit_on, kinds_agree_on, link_on, lock_place_on, own_room_on, place_on, present_fit_on, reported_on, room_is_on, said_code_at, secured_after_on, secured_on, told_on, untaken_on}
-unfoldable pub use Rattle.hotel_core.specs.Refinement.OnRows.{outcome_on}
-pub use Rattle.hotel_core.specs.Refinement.StepOnRows.{AreWhole, Goes, GoesIf, StepsAs, made_by}
+pub use Rattle.hotel_core.specs.Refinement.StepOnRows.{StepsAs}
 pub use Rattle.hotel_core.specs.Stops.{EndsAs, Stopping, StopsEither}
 pub use Rattle.hotel_core.specs.declared.books.Books.{Ghosts}
-pub use Rattle.hotel_core.specs.declared.books.change.Change.{Change}
-pub use Rattle.hotel_core.specs.declared.books.rows.CodeRow.{CodeRow}
-pub use Rattle.hotel_core.specs.declared.books.rows.FitRow.{FitRow}
-pub use Rattle.hotel_core.specs.declared.books.rows.RoomRow.{RoomRow}
-pub use Rattle.hotel_core.specs.declared.command.Command.{Command}
-pub use Rattle.hotel_core.specs.declared.reply.Refusal.{Refusal}
-pub use Rattle.hotel_core.specs.declared.reply.Refusal.TheVariants.{AlreadyBegun, CardDiffers, Conflict, FitsUsedUp, Gap, HeldDiffers, KindExists, KindFull, LastDay, LockShut, Memory, NoCard, NoFit, NoFreshCode, NoKind, NoParty, NoRoom, NotAwaited, NotBegun, NotBooked, NotInHouse, NotInside, NumbersUsedUp, OldFit, RoomExists, RoomTaken, SameRoom, Store, WrongKind}
-pub use Rattle.hotel_core.specs.declared.reply.Reply.{Reply}
-pub use Rattle.hotel_core.specs.declared.reply.Reply.TheVariants.{Refused}
+pub use Rattle.hotel_model.specs.declared.change.Change.{Change}
+pub use Rattle.hotel_model.specs.declared.rows.CodeRow.{CodeRow}
+pub use Rattle.hotel_model.specs.declared.rows.FitRow.{FitRow}
+pub use Rattle.hotel_model.specs.declared.rows.RoomRow.{RoomRow}
+pub use Rattle.hotel_model.specs.declared.command.Command.{Command}
+pub use Rattle.hotel_model.specs.declared.reply.Refusal.{Refusal}
+pub use Rattle.hotel_model.specs.declared.reply.Refusal.TheVariants.{AlreadyBegun, FitsUsedUp, Gap, KindExists, LastDay, Memory, NoFit, NoFreshCode, NoKind, NoRoom, NotBegun, OldFit, RoomExists, RoomTaken, Store}
+pub use Rattle.hotel_model.specs.declared.reply.Reply.{Reply}
+pub use Rattle.hotel_model.specs.declared.reply.Reply.TheVariants.{Refused}
+pub use Rattle.hotel_model.proofs.Names.{accepted, Act, After, after, All-head, All-tail, and_last, answered}
+pub use Rattle.hotel_model.proofs.Names.{any_answered, are_none, AreWhole, arrivals_on, arrives_on, Assured, at_number}
+pub use Rattle.hotel_model.proofs.Names.{audit_on, awaited, bars_to_check_in, bars_to_transfer, before_in, Begun}
+pub use Rattle.hotel_model.proofs.Names.{behind_row_on, by_draw, bytes_eq-Decides, Card, card_at, card_of, cards}
+pub use Rattle.hotel_model.proofs.Names.{chain_on, chain_row_on, checks, checks_on, code_place, codes_in, codes_of}
+pub use Rattle.hotel_model.proofs.Names.{comes, Conflicting, cons_option, Copy, count_up, day, Draw, effect, Event}
+pub use Rattle.hotel_model.proofs.Names.{exact_unsigned, false≢true, first_code_at, first_is_first, fit_at, fits}
+pub use Rattle.hotel_model.proofs.Names.{fits_at, freed_by, Goes, GoesIf, grown, has_kind, has_link, has_link_on, held}
+pub use Rattle.hotel_model.proofs.Names.{held_on, History, house_row_on, in_house_on, in_state, insert_entry}
+pub use Rattle.hotel_model.proofs.Names.{insert_key, inside, inside_at, insiders, Install, is_at, is_awaited_on}
+pub use Rattle.hotel_model.proofs.Names.{is_begun, is_booked_state, is_card, is_failed, is_fit, is_fit_on, is_full}
+pub use Rattle.hotel_model.proofs.Names.{is_of_fit, is_one_of, is_room, is_standing, IsCommand, IsReply, IsSound}
+pub use Rattle.hotel_model.proofs.Names.{issued_codes, issued_on, IsTimed, IsTotalOrder, IsUntaken, keys_of}
+pub use Rattle.hotel_model.proofs.Names.{last_answered, last_fit, left_behind_on, Link, list_all, list_any}
+pub use Rattle.hotel_model.proofs.Names.{lock_place_on, lookup, made, made_by, match_ordering, moment_of, moved}
+pub use Rattle.hotel_model.proofs.Names.{nat_cmp_total, nat_tests, needs, Next, next_card, next_fit, NextDay, none_fall}
+pub use Rattle.hotel_model.proofs.Names.{Note, note_at, note_numbered, note_of, notes, notes_at, notes_before}
+pub use Rattle.hotel_model.proofs.Names.{notes_before_each, notes_of, now_is, number_after, of_fit, OfOldFit, on_total}
+pub use Rattle.hotel_model.proofs.Names.{opened_on, opens, ordering_then, Outcome, own_room, pair_cmp, place_on}
+pub use Rattle.hotel_model.proofs.Names.{present_fit, present_fit_on, range_with_len, Reached, Refitted, refused}
+pub use Rattle.hotel_model.proofs.Names.{remove_key, reported, reported_on, room_at, room_changed, room_of_state}
+pub use Rattle.hotel_model.proofs.Names.{rooms_of_kind, Rows, rows_of, Runs, RunsTo, said, said_of, same_link}
+pub use Rattle.hotel_model.proofs.Names.{same_note, secured_after_on, secured_on, slice_cmp, Standing, standing}
+pub use Rattle.hotel_model.proofs.Names.{standing_among, StandsFor, start, Stay, stays_of_kind, StayState, Steps}
+pub use Rattle.hotel_model.proofs.Names.{StepsIf, Stream, takes, then_total, those_elsewhere, those_in, told, told_on}
+pub use Rattle.hotel_model.proofs.Names.{turn, turns, unless, untaken_on, values_of, when, with_note, without, ◌▷◌}
+unfoldable pub use Rattle.hotel_model.proofs.Names.{answer_to, draw_from, first_day, nights_taken, outcome_on, past}
+unfoldable pub use Rattle.hotel_model.proofs.Names.{words}
 pub use Rattle.hotel_nights.specs.Block.{one_if}
-pub use Rattle.hotel_nights.specs.FullNight.{is_full, is_standing, takes}
-unfoldable pub use Rattle.hotel_nights.specs.FullNight.{first_day, nights_taken}
-pub use Rattle.hotel_nights.specs.declared.stay.Stay.{Stay}
-pub use Rattle.hotel_nights.specs.declared.stay.StayState.{StayState}
-pub use Rattle.keycard_rules.specs.Draw.{Draw, Draws, code_of, fault_in, one_more}
-unfoldable pub use Rattle.keycard_rules.specs.Draw.{draw_from, drawn, past, words}
-pub use Rattle.keycard_rules.specs.Lock.{turn}
-pub use Rattle.keycard_rules.specs.Note.{IsTimed, Note}
+pub use Rattle.keycard_rules.specs.Draw.{Draws, fault_in}
+unfoldable pub use Rattle.keycard_rules.specs.Draw.{drawn}
 pub use Rattle.keycard_rules.specs.Numbers.{IsNumberUpTo}
 pub use Rattle.keycard_rules.specs.Rise.{HasRisen, HasRisenBy, NoFewer}
-pub use Rattle.keycard_rules.specs.declared.card.Card.{Card}
-pub use Rattle.keycard_rules.specs.declared.card.Link.{Link}
 pub use Rattle.keycard_rules.specs.declared.issued.LookFault.{LookFault}
-pub use Rattle.keycard_rules.specs.declared.note.Act.{Act}
-pub use Rattle.rand_core.specs.Stream.{Stream, next_u64}
-pub use Rattle.std.proofs.lemmas.Bool.{false≢true}
-pub use Rattle.std.proofs.lemmas.Bool.Decides.{nat_tests}
-pub use Rattle.std.proofs.lemmas.Cmp.{alike_right, nat_cmp_total, nat_list_cmp_total, on_total, then_total, tied_itself}
+pub use Rattle.std.proofs.lemmas.Cmp.{tied_itself}
 pub use Rattle.std.proofs.lemmas.List.{length-map, take_more}
-pub use Rattle.std.proofs.lemmas.List.Elements.{All-head, All-tail, Contains-append_right, filter_map-append}
-pub use Rattle.std.proofs.lemmas.List.Sums.{count_by-le-length, sum_by-cons}
+pub use Rattle.std.proofs.lemmas.List.Sums.{count_by-le-length}
 pub use Rattle.std.proofs.lemmas.Map.Iter.{rest_more}
-pub use Rattle.std.proofs.lemmas.Map.Lookups.{exact_unsigned}
-pub use Rattle.std.proofs.lemmas.Slice.Eq.{bytes_eq-Decides}
-pub use Rattle.std.specs.BTreeMap.{insert_entry, is_at}
 pub use Rattle.std.specs.BTreeMap.Range.{entries_between, range_contains}
-pub use Rattle.std.specs.BTreeSet.{insert_key}
-pub use Rattle.std.specs.Cmp.{Equal-is, IsTotalOrder, ranks}
-pub use Rattle.std.specs.Cmp.Lexicographic.{slice_cmp}
-pub use Rattle.std.specs.List.{AllByRecursion, cons_option, enumerate_from, list_all, list_any, position_or_len, range_with_len}
-pub use Rattle.std.specs.Map.{keys_of, lookup, remove_entry, set_value, values_of}
-pub use Rattle.std.specs.Ordering.{MatchOrdering, match_ordering, ordering_reverse, ordering_then}
-pub use Rattle.std.specs.Set.{remove_key}
+pub use Rattle.std.specs.Cmp.{Equal-is, ranks}
+pub use Rattle.std.specs.List.{AllByRecursion, enumerate_from}
+pub use Rattle.std.specs.Map.{remove_entry, set_value}
+pub use Rattle.std.specs.Ordering.{MatchOrdering}
 pub use Rattle.std.specs.declared.ops.Bound.TheVariants.{Included}

@@ -7,7 +7,6 @@ pub mod DrawParts
 pub mod FailuresCounted
 pub mod Happened
 pub mod Happens
-pub mod LeadsOn
 pub mod ShutBooks
 pub mod RepliesAnswered
 pub mod Walking

@@ -1,8 +1,5 @@
 -- What books promise.
-pub mod Lookups
 pub mod Reads
-pub mod Change
-pub mod Fits
 pub mod Failures
 pub mod Walks
 pub mod Happens

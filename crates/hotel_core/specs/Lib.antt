@@ -1,4 +1,3 @@
-pub mod Model
 pub mod Books
 pub mod Refinement
 pub mod Memory

@@ -2,7 +2,8 @@
 use Rattle.std.specs.Prelude.{ℕ, ◌≡◌, ◌⊎◌, Bool, true, false, Result, Ok, Err, IsSome}
 use Rattle.keycard_rules.specs.declared.issued.LookFault.{LookFault}
 use Rattle.keycard_rules.specs.declared.issued.LookFault.TheVariants as look
-use Rattle.hotel_core.specs.{declared.books.walks.WalkFault.WalkFault, Books.Walks.failure_of, Model.Rows.Rows}
+use Rattle.hotel_core.specs.{declared.books.walks.WalkFault.WalkFault, Books.Walks.failure_of}
+use Rattle.hotel_model.specs.Rows.{Rows}
 use Rattle.hotel_core.specs.declared.books.walks.WalkFault.TheVariants as why
 
 -- the rows, how many calls were made, and how many of them failed for want of memory and by the store

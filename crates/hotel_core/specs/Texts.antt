@@ -3,9 +3,9 @@ use Rattle.std.specs.Prelude.{ℕ, List, [], ◌∷◌, ◌++◌, codes}
 use Rattle.std.specs.Fmt.{decimal}
 use Rattle.keycard_rules.specs.Numerals.{code_text}
 use Rattle.hotel_nights.specs.Days.{day_text}
-use Rattle.hotel_core.specs.{declared.reply.Reply.Reply, declared.reply.Refusal.Refusal}
-use Rattle.hotel_core.specs.declared.reply.Reply.TheVariants as reply
-use Rattle.hotel_core.specs.declared.reply.Refusal.TheVariants as refusal
+use Rattle.hotel_model.specs.{declared.reply.Reply.Reply, declared.reply.Refusal.Refusal}
+use Rattle.hotel_model.specs.declared.reply.Reply.TheVariants as reply
+use Rattle.hotel_model.specs.declared.reply.Refusal.TheVariants as refusal
 
 -- the number and the name of a refusal
 abbrev pub refusal_name : Refusal → List ℕ

@@ -1,17 +1,14 @@
 //! The books of the desk, however they are kept.
 ghost use Rattle.std.specs.Prelude.{◌≡◌, ◌-◌, List, Option, Some, None, Bool, true, false, OnOk, OnErr, IfErr, IsOk, Result, Err, length, not};
 ghost use Rattle.keycard_rules.specs.{Rise.HasRisen, Rise.NoFewer, declared.issued.LookFault.LookFault, declared.issued.LookFault.TheVariants.Memory};
-ghost use Rattle.hotel_core.specs.{Model.Words.is_one_of, Model.Rows.Rows, Model.Rows.has_kind, Model.Rows.fit_at, Model.Guests.are_none, Books.Reads.LooksUp, Books.Change.made};
-ghost use Rattle.hotel_core.specs.Books.Lookups.{room_at, codes_in, code_place, code_at, stay_at, stays_of_kind, card_at, inside_at, note_at, rooms_of_kind, first_full_on, number_after};
-ghost use Rattle.hotel_core.specs.{Books.Fits.Fits, Books.Fits.takes_memory, Model.Sound.IsSound, declared.books.change.Change.Change};
+ghost use Rattle.hotel_model.specs.{Words.is_one_of, Rows.Rows, Rows.has_kind, Rows.fit_at, Guests.are_none, Refinement.Change.made};
+ghost use Rattle.hotel_core.specs.Books.Reads.{LooksUp};
+ghost use Rattle.hotel_model.specs.Refinement.Lookups.{room_at, codes_in, code_place, code_at, stay_at, stays_of_kind, card_at, inside_at, note_at, rooms_of_kind, first_full_on, number_after};
+ghost use Rattle.hotel_model.specs.{Refinement.Fits.Fits, Refinement.Fits.takes_memory, Sound.IsSound, declared.change.Change.Change};
 
-pub mod change;
-pub mod list_rows;
-pub mod rows;
 pub mod walks;
 
-use crate::books::change::Change;
-use crate::books::rows::{CodeRow, FitRow, NextNumbers, RoomRow};
+use hotel_model::{Change, CodeRow, FitRow, NextNumbers, RoomRow};
 use hotel_nights::{Day, Guest, KindCode, Stay};
 use keycard_rules::{
     Card, CardNo, Code, Count, FitNo, Issued, LockNote, LookFault, PartyNo, RoomNo,

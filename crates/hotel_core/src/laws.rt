@@ -1,49 +1,7 @@
-//! Laws of the model, which make no call: what a caller may rest on beside the contracts of the calls.
-ghost use Rattle.hotel_core.specs.{Model.Headline.Assured, Model.History.History};
-ghost use Rattle.hotel_core.specs.{Model.Laws.RunsAgree, Model.Laws.RunsCompute, Model.Laws.RunsJoin, Model.Laws.RunsReach, Model.Laws.StartsStand, Model.Run.Reached};
-ghost use Rattle.hotel_core.specs.{Books.Shut.FindsNothing, Books.Shut.ChangesNothing, Books.Shut.RepliesNothing, Model.Sound.RulesAreTested, Refinement.Lift.AnswersLift, Refinement.Lift.ChangesFit, Refinement.ListsLift.ListsLift};
+//! A law of books, which makes no call: what a caller may rest on beside the contracts of the calls.
+ghost use Rattle.hotel_core.specs.Books.Shut.{FindsNothing, ChangesNothing, RepliesNothing};
 
 use crate::books::Books;
-
-/// The headline, and what is assured beside it, hold of each history that can be reached.
-pub fn assured()
-    ensures { (h : History) → Reached h → Assured h }
-{}
-
-/// What comes of a command on the rows of a history, and the rows of the lists computed on them, are those of the
-/// history.
-pub fn answers_lift()
-    ensures answers { AnswersLift }
-    ensures lists { (h : History) → Reached h → ListsLift h }
-{}
-
-/// The rows after one more event are those that its change makes, and the change fits.
-pub fn changes_fit()
-    ensures { ChangesFit }
-{}
-
-/// A run after a run is a run; runs in which nothing failed are determined by the commands and the source; a run ends
-/// in a history that can be reached.
-pub fn runs_join()
-    ensures join { RunsJoin }
-    ensures agree { RunsAgree }
-    ensures reach { RunsReach }
-{}
-
-/// A run as it is computed from a source's words is a run, in which nothing failed.
-pub fn runs_compute()
-    ensures { RunsCompute }
-{}
-
-/// The rules of sound rows hold exactly where their test passes.
-pub fn rules_are_tested()
-    ensures { RulesAreTested }
-{}
-
-/// Sound rows stand for a history.
-pub fn starts_stand()
-    ensures { StartsStand }
-{}
 
 /// Books that were not clean as a call began answer nothing but `Memory` or `Store`, where nobody else wrote what they
 /// are kept in. The clauses `vouched` and `was_clean` of each call say so.

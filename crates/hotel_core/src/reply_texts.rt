@@ -1,10 +1,10 @@
 //! The text of a reply.
 ghost use Rattle.std.specs.Prelude.{◌≡◌, [], ◌∷◌, ◌++◌, ◌+◌, ◌≤◌, length};
 ghost use Rattle.keycard_rules.specs.Numerals.{code_text};
-ghost use Rattle.hotel_core.specs.declared.reply.Reply.TheVariants as reply;
+ghost use Rattle.hotel_model.specs.declared.reply.Reply.TheVariants as reply;
 ghost use Rattle.hotel_core.specs.Texts.{refusal_name, reply_line, reply_text};
 
-use crate::reply::{Refusal, Reply};
+use hotel_model::{Refusal, Reply};
 use keycard_rules::{Card, Code, ShortText};
 
 /// The text of a reply: at most 64 bytes, the line feed included.

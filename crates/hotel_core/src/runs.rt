@@ -1,12 +1,12 @@
 //! Commands one after the other, over any books.
 ghost use Rattle.std.specs.Prelude.{◌≡◌, true, IfOk, IfErr};
 ghost use Rattle.keycard_rules.specs.Rise.{NoFewer};
-ghost use Rattle.hotel_core.specs.{Books.Failures.AreCounted, Books.Failures.failures_in, Model.Leads.Leads, Model.Leads.LeadsOn, Model.Run.Runs, Model.Run.any_answered, Model.Run.last_answered};
+ghost use Rattle.hotel_core.specs.{Books.Failures.AreCounted, Books.Failures.failures_in};
+ghost use Rattle.hotel_model.specs.{Leads.Leads, Leads.LeadsOn, Run.Runs, Run.any_answered, Run.last_answered};
 
 use crate::books::Books;
-use crate::command::Command;
-use crate::reply::Reply;
 use crate::steps::step;
+use hotel_model::{Command, Reply};
 use rand_core::Rng;
 use std::alloc::Global;
 

@@ -2,13 +2,14 @@
 ghost use Rattle.std.specs.Prelude.{◌≡◌, true, false};
 ghost use Rattle.rand_core.specs.Stream.{Stream};
 ghost use Rattle.keycard_rules.specs.{Draw.words, Rise.NoFewer};
-ghost use Rattle.hotel_core.specs.{Books.Failures.AreCounted, Books.Failures.failure_in, Model.Leads.Leads, Model.Leads.LeadsOn, Model.NoteReplies.IsNoteReply, Model.Run.Steps, Model.Run.is_failed};
-ghost use Rattle.hotel_core.specs.{Model.Ranges.IsCommand, Model.Ranges.IsReply, Refinement.Finds.reply_of, Refinement.OnRows.outcome_on, Refinement.StepOnRows.StepsAs};
-ghost use Rattle.hotel_core.specs.Books.Fits.{takes_none};
-ghost use Rattle.hotel_core.specs.declared.command.Command.TheVariants as command;
+ghost use Rattle.hotel_core.specs.{Books.Failures.AreCounted, Books.Failures.failure_in};
+ghost use Rattle.hotel_model.specs.{Leads.Leads, Leads.LeadsOn, NoteReplies.IsNoteReply, Run.Steps, Run.is_failed};
+ghost use Rattle.hotel_model.specs.{Ranges.IsCommand, Ranges.IsReply, Refinement.OnRows.outcome_on};
+ghost use Rattle.hotel_core.specs.{Refinement.Finds.reply_of, Refinement.StepOnRows.StepsAs};
+ghost use Rattle.hotel_model.specs.Refinement.Fits.{takes_none};
+ghost use Rattle.hotel_model.specs.declared.command.Command.TheVariants as command;
 
 use crate::books::Books;
-use crate::command::Command;
 use crate::commands::bookings::{cancel, reserve};
 use crate::commands::calendar::{begin, next_day};
 use crate::commands::guest_moves::{check_in, check_out, reissue, spare, transfer};
@@ -16,7 +17,7 @@ use crate::commands::kinds_and_rooms::{add_kind, add_room};
 use crate::commands::notes::take_note;
 use crate::commands::ranges::{known_command, known_note, known_reply};
 use crate::commands::refits::refit;
-use crate::reply::{Refusal, Reply};
+use hotel_model::{Command, Refusal, Reply};
 use keycard_rules::LockNote;
 use rand_core::Rng;
 

@@ -1,14 +1,16 @@
 -- What comes of a request, as it is answered.
 use Rattle.std.proofs.Common.{◌≡◌, ◌≢◌, ◌∙◌, ℕ, List, [], ◌∷◌, ◌++◌, map, refl, sym, ap, subst, inl, inr, append-nil, Option, Some, None, Result, Ok, Err, Bool, true, false, OnOk, OnErr}
-use Rattle.hotel_core.proofs.{Names.false≢true, Names.Stream, Names.NoFewer, Names.AreCounted, Names.failure_in, Names.History, Names.Rows, Invariants.Assurance.assured}
+use Rattle.hotel_core.proofs.{Names.false≢true, Names.Stream, Names.NoFewer, Names.AreCounted, Names.failure_in, Names.History, Names.Rows}
+use Rattle.hotel_model.proofs.Invariants.Assurance.{assured}
 use Rattle.hotel_core.proofs.OfCode.Happens.{happens_as, happens_idle, happens_so, tells_once}
 use Rattle.std.specs.Result.{IsErrAnd}
 use Rattle.std.specs.Io.KnownBytes.{Appends}
 use Rattle.std.proofs.KnownBytes.{Appends-trans}
 use Rattle.keycard_rules.specs.declared.issued.Issued.{Ghosts as IssuedOf}
-use Rattle.hotel_core.specs.{declared.command.Command.Command, declared.reply.Reply.Reply, declared.reply.Refusal.Refusal, Books.Happens.Happens, Books.Happens.StepTold, Books.Happens.Tells}
-use Rattle.hotel_core.specs.declared.reply.Reply.TheVariants as reply
-use Rattle.hotel_core.specs.declared.reply.Refusal.TheVariants as refusal
+use Rattle.hotel_model.specs.{declared.command.Command.Command, declared.reply.Reply.Reply, declared.reply.Refusal.Refusal}
+use Rattle.hotel_core.specs.{Books.Happens.Happens, Books.Happens.StepTold, Books.Happens.Tells}
+use Rattle.hotel_model.specs.declared.reply.Reply.TheVariants as reply
+use Rattle.hotel_model.specs.declared.reply.Refusal.TheVariants as refusal
 use Rattle.hotel_lists.specs.{Bytes.AppendsFront, declared.calls.WriteFailed.WriteFailed}
 use Rattle.hotel_lists.proofs.BytesLemmas.{front_next}
 use Rattle.hotel_asks.specs.declared.asks.Ask.TheVariants as ask

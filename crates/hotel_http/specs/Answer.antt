@@ -1,9 +1,10 @@
 -- The bytes of answers.
 use Rattle.std.specs.Prelude.{ℕ, List, [], ◌++◌, length, codes, Option, Some, None}
 use Rattle.std.specs.Fmt.{decimal}
-use Rattle.hotel_core.specs.{declared.reply.Reply.Reply, Texts.reply_text}
-use Rattle.hotel_core.specs.declared.reply.Reply.TheVariants as reply
-use Rattle.hotel_core.specs.declared.reply.Refusal.TheVariants as refusal
+use Rattle.hotel_model.specs.declared.reply.Reply.{Reply}
+use Rattle.hotel_core.specs.Texts.{reply_text}
+use Rattle.hotel_model.specs.declared.reply.Reply.TheVariants as reply
+use Rattle.hotel_model.specs.declared.reply.Refusal.TheVariants as refusal
 use Rattle.hotel_http.specs.{declared.rejection.Method.Method, declared.rejection.Method.TheVariants.Get, declared.rejection.Method.TheVariants.Post}
 use Rattle.hotel_http.specs.{declared.rejection.Rejection.Rejection, declared.status.Status.Status, declared.answer.Media.Media}
 use Rattle.hotel_http.specs.declared.rejection.Rejection.TheVariants as rejection

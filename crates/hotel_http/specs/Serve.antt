@@ -2,10 +2,11 @@
 use Rattle.std.specs.Prelude.{◌≡◌, ◌⊎◌, ℕ, Bool, true, false, not, List, [], ◌∷◌, ◌++◌, map, Option, Some, None, IfSome, Result, Ok, Err}
 use Rattle.std.specs.Io.KnownBytes.{Appends}
 use Rattle.rand_core.specs.Stream.{Stream}
-use Rattle.hotel_core.specs.{declared.reply.Reply.Reply, declared.reply.Refusal.Refusal, Books.Failures.failure_in, Books.Happens.answered_by, Model.History.History}
-use Rattle.hotel_core.specs.declared.reply.Reply.TheVariants as reply
-use Rattle.hotel_core.specs.declared.reply.Refusal.TheVariants as refusal
-use Rattle.hotel_core.specs.Model.Run.{Steps, Runs, is_failed}
+use Rattle.hotel_model.specs.{declared.reply.Reply.Reply, declared.reply.Refusal.Refusal, History.History}
+use Rattle.hotel_core.specs.{Books.Failures.failure_in, Books.Happens.answered_by}
+use Rattle.hotel_model.specs.declared.reply.Reply.TheVariants as reply
+use Rattle.hotel_model.specs.declared.reply.Refusal.TheVariants as refusal
+use Rattle.hotel_model.specs.Run.{Steps, Runs, is_failed}
 use Rattle.hotel_lists.specs.{Bytes.AppendsFront, declared.calls.WriteFailed.WriteFailed, declared.fault.ListFault.ListFault}
 use Rattle.hotel_lists.specs.declared.fault.ListFault.TheVariants as list
 use Rattle.hotel_lists.specs.Listings.{Listing, in_full}

@@ -6,11 +6,12 @@ use Rattle.csv.specs.Writing.{default_writer, row_text}
 use Rattle.keycard_rules.specs.{Rise.HasRisen, Rise.NoFewer, declared.issued.Issued.Ghosts as IssuedOf, Numerals.code_text, Note.Note, declared.note.Act.Act}
 use Rattle.keycard_rules.specs.declared.issued.LookFault.TheVariants as look
 use Rattle.keycard_rules.specs.declared.note.Act.TheVariants.{Entered, Left, Recoded}
-use Rattle.hotel_core.specs.Model.Event.{moment_of}
+use Rattle.hotel_model.specs.Event.{moment_of}
 use Rattle.hotel_nights.specs.{Days.day_text, Moments.moment_text, declared.stay.Stay.Stay}
-use Rattle.hotel_core.specs.{declared.books.rows.RoomRow.RoomRow, declared.books.list_rows.HouseRow.HouseRow, declared.books.list_rows.ChainRow.ChainRow}
-use Rattle.hotel_core.specs.{declared.books.list_rows.BehindRow.BehindRow, declared.books.list_rows.CodeState.CodeState, declared.books.walks.WalkFault.WalkFault}
-use Rattle.hotel_core.specs.declared.books.list_rows.CodeState.TheVariants as state
+use Rattle.hotel_model.specs.{declared.rows.RoomRow.RoomRow, declared.list_rows.HouseRow.HouseRow, declared.list_rows.ChainRow.ChainRow}
+use Rattle.hotel_model.specs.{declared.list_rows.BehindRow.BehindRow, declared.list_rows.CodeState.CodeState}
+use Rattle.hotel_core.specs.declared.books.walks.WalkFault.{WalkFault}
+use Rattle.hotel_model.specs.declared.list_rows.CodeState.TheVariants as state
 use Rattle.hotel_core.specs.declared.books.walks.WalkFault.TheVariants as walk
 use Rattle.hotel_lists.specs.{Bytes.AppendsFront, declared.fault.ListFault.ListFault}
 use Rattle.hotel_lists.specs.declared.fault.ListFault.TheVariants as fault

@@ -1,7 +1,8 @@
 //! The five lists: which rows each has, and the walk that hands them over.
 ghost use Rattle.std.specs.Prelude.{List, Bool, true, false};
-ghost use Rattle.hotel_core.specs.{Model.Rows.Rows, Books.Walks.WalksOver};
-ghost use Rattle.hotel_core.specs.Refinement.ListsOnRows.{arrivals_on, in_house_on, chain_on, left_behind_on, audit_on};
+ghost use Rattle.hotel_model.specs.Rows.{Rows};
+ghost use Rattle.hotel_core.specs.Books.Walks.{WalksOver};
+ghost use Rattle.hotel_model.specs.Refinement.ListsOnRows.{arrivals_on, in_house_on, chain_on, left_behind_on, audit_on};
 
 use crate::line::Line;
 use hotel_core::{BehindRow, ChainRow, HouseRow, Sink, WalkFault, Walks};

@@ -5,9 +5,9 @@ use Rattle.rand_core.specs.Stream.{Stream}
 use Rattle.keycard_rules.specs.declared.issued.Issued.{Ghosts as IssuedOf}
 use Rattle.hotel_core.proofs.OfCode.Happens.{happens_as, happens_idle, happens_then}
 use Rattle.hotel_core.specs.Books.Happens.{Happens}
-use Rattle.hotel_core.specs.Model.History.{History}
-use Rattle.hotel_core.specs.Model.Rows.{Rows}
-use Rattle.hotel_core.specs.declared.reply.Refusal.{Refusal}
+use Rattle.hotel_model.specs.History.{History}
+use Rattle.hotel_model.specs.Rows.{Rows}
+use Rattle.hotel_model.specs.declared.reply.Refusal.{Refusal}
 use Rattle.hotel_http.specs.Serve.{Answered, Comes, Serves}
 use Rattle.hotel_http.specs.declared.serve.Served.{Served}
 use Rattle.hotel_http.specs.declared.serve.ServeFault.{ServeFault}

@@ -7,12 +7,12 @@ use Rattle.keycard_rules.specs.Rise.{of_memory}
 use Rattle.keycard_rules.specs.declared.issued.Issued.{Ghosts as IssuedOf}
 use Rattle.hotel_core.specs.Books.Failures.{AreCounted}
 use Rattle.hotel_core.specs.Books.Happens.{HappensBy}
-use Rattle.hotel_core.specs.declared.reply.Refusal.{Refusal}
-use Rattle.hotel_core.specs.Model.Rows.{Rows, no_rows}
-use Rattle.hotel_core.specs.Model.History.{History, start}
-use Rattle.hotel_core.specs.Model.Leads.{Leads}
-use Rattle.hotel_core.specs.Model.Sound.{IsSound}
-use Rattle.hotel_core.proofs.Starts.StartRows.{rows_of_start}
+use Rattle.hotel_model.specs.declared.reply.Refusal.{Refusal}
+use Rattle.hotel_model.specs.Rows.{Rows, no_rows}
+use Rattle.hotel_model.specs.History.{History, start}
+use Rattle.hotel_model.specs.Leads.{Leads}
+use Rattle.hotel_model.specs.Sound.{IsSound}
+use Rattle.hotel_model.proofs.Starts.StartRows.{rows_of_start}
 use Rattle.hotel_program.specs.declared.script.ScriptEnd.{ScriptEnd}
 use Rattle.hotel_program.specs.declared.script.ScriptFault.{ScriptFault}
 use Rattle.hotel_program.specs.declared.script.ScriptFault.TheVariants.{Read, TooLarge, Memory, Write}

@@ -3,7 +3,6 @@ pub mod Program
 pub mod Statuses
 pub mod Faults
 pub mod Alone
-pub mod Scenes
 pub mod CommandLine
 pub mod Plans
 pub mod Connections

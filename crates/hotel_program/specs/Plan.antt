@@ -6,7 +6,7 @@ use Rattle.rand_core.specs.Steps.{steps_u32, stream_of}
 use Rattle.rand_chacha.specs.ChaCha.{ChaCha, of_seed, next_word}
 use Rattle.keycard_rules.specs.declared.issued.Issued.{Ghosts as IssuedOf}
 use Rattle.hotel_core.specs.Memory.{Listed}
-use Rattle.hotel_core.specs.Model.Rows.{Rows, no_rows}
+use Rattle.hotel_model.specs.Rows.{Rows, no_rows}
 use Rattle.hotel_lists.specs.Bytes.{AppendsFront}
 use Rattle.hotel_program.specs.Acts.{ActEnds, Desk, Views}
 use Rattle.hotel_program.specs.CommandLine.{desk}

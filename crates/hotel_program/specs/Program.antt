@@ -7,12 +7,12 @@ use Rattle.std.specs.declared.io.ErrorKind.TheVariants.{OutOfMemory}
 use Rattle.rand_core.specs.Stream.{Stream}
 use Rattle.rand_core.specs.Steps.{steps_u32, stream_of}
 use Rattle.rand_chacha.specs.ChaCha.{of_seed, next_word}
-use Rattle.hotel_core.specs.declared.reply.Refusal.{Refusal}
+use Rattle.hotel_model.specs.declared.reply.Refusal.{Refusal}
 use Rattle.hotel_core.specs.Books.Failures.{AreCounted}
 use Rattle.keycard_rules.specs.Rise.{of_memory}
-use Rattle.hotel_core.specs.Model.Rows.{no_rows}
-use Rattle.hotel_core.specs.Model.History.{History, start}
-use Rattle.hotel_core.specs.Model.Headline.{Assured}
+use Rattle.hotel_model.specs.Rows.{no_rows}
+use Rattle.hotel_model.specs.History.{History, start}
+use Rattle.hotel_model.specs.Headline.{Assured}
 use Rattle.hotel_program.specs.declared.faults.Fault.{Fault}
 use Rattle.hotel_program.specs.declared.faults.Fault.TheVariants as fault
 use Rattle.hotel_program.specs.declared.script.ScriptEnd.{ScriptEnd}

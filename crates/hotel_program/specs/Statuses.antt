@@ -1,9 +1,9 @@
 -- The exit status of a reply.
 use Rattle.std.specs.Prelude.{ℕ}
-use Rattle.hotel_core.specs.declared.reply.Reply.{Reply}
-use Rattle.hotel_core.specs.declared.reply.Reply.TheVariants.{Refused}
-use Rattle.hotel_core.specs.declared.reply.Refusal.{Refusal}
-use Rattle.hotel_core.specs.declared.reply.Refusal.TheVariants.{Memory, Store}
+use Rattle.hotel_model.specs.declared.reply.Reply.{Reply}
+use Rattle.hotel_model.specs.declared.reply.Reply.TheVariants.{Refused}
+use Rattle.hotel_model.specs.declared.reply.Refusal.{Refusal}
+use Rattle.hotel_model.specs.declared.reply.Refusal.TheVariants.{Memory, Store}
 
 -- The status of a refusal: 4 where memory or the store failed, else 3.
 abbrev pub refusal_status : Refusal → ℕ

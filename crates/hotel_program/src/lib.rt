@@ -8,7 +8,6 @@ mod connections;
 mod faults;
 mod files;
 mod program;
-mod scenes;
 mod script;
 mod server;
 mod statuses;

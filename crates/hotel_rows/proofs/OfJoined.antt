@@ -5,15 +5,15 @@ use Rattle.std.proofs.Common.{option_map, is_eq, Ordering, Less, Equal, Greater}
 use Rattle.hotel_core.proofs.Names.{match_ordering, insert_entry, is_at, lookup, list_all, keys_of, nat_tests}
 use Rattle.hotel_core.proofs.Names.{exact_unsigned, Note, said_of, when, and_last, pair_cmp, at_number, fits_at}
 use Rattle.hotel_core.proofs.Names.{last_fit}
-use Rattle.hotel_core.specs.declared.books.rows.RoomRow.{RoomRow}
-use Rattle.hotel_core.specs.declared.books.rows.FitRow.{FitRow}
-use Rattle.hotel_core.specs.Books.Change.{room_changed}
-use Rattle.hotel_core.proofs.OfTables.Tests.{eq_from, eq_self, and_true}
-use Rattle.hotel_core.proofs.OfTables.KeysInOrder.{AllAfter, InOrder}
-use Rattle.hotel_core.proofs.OfTables.Pairs.{pair_exact, pair_is}
+use Rattle.hotel_model.specs.declared.rows.RoomRow.{RoomRow}
+use Rattle.hotel_model.specs.declared.rows.FitRow.{FitRow}
+use Rattle.hotel_model.specs.Refinement.Change.{room_changed}
+use Rattle.hotel_model.proofs.OfTables.Tests.{eq_from, eq_self, and_true}
+use Rattle.hotel_model.proofs.OfTables.KeysInOrder.{AllAfter, InOrder}
+use Rattle.hotel_model.proofs.OfTables.Pairs.{pair_exact, pair_is}
 use Rattle.hotel_core.proofs.OfTables.MapEntries.{at_is}
-use Rattle.hotel_core.proofs.OfTables.AtRoom.{is_before, picked_more, fits_are_picked}
-use Rattle.hotel_core.proofs.OfTables.FitLists.{last_more}
+use Rattle.hotel_model.proofs.OfTables.AtRoom.{is_before, picked_more, fits_are_picked}
+use Rattle.hotel_model.proofs.OfTables.FitLists.{last_more}
 use Rattle.hotel_rows.specs.Joined.{with_last, with_fit, fit_of_number, with_count, under_fit}
 pub mod Numbers
 pub mod FirstFits

@@ -5,8 +5,8 @@ use Rattle.std.specs.List.{list_all, list_any, count_by}
 use Rattle.std.specs.Map.{values_of}
 use Rattle.hotel_nights.specs.Guests.{is_guest}
 use Rattle.hotel_nights.specs.Kinds.{is_kind}
-use Rattle.hotel_core.specs.Model.Words.{said_of}
-use Rattle.hotel_core.specs.Model.SoundRooms.{is_day}
+use Rattle.hotel_model.specs.Words.{said_of}
+use Rattle.hotel_model.specs.SoundRooms.{is_day}
 use Rattle.hotel_core.specs.KindRooms as kinds
 use Rattle.hotel_core.specs.NightIndex.{CountsNights}
 use Rattle.hotel_rows.specs.declared.stored.PlainKind.{PlainKind}

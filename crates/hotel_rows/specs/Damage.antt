@@ -5,20 +5,20 @@ use Rattle.std.specs.List.{list_all}
 use Rattle.std.specs.Map.{keys_of}
 use Rattle.std.specs.Ordering.{nat_cmp}
 use Rattle.std.specs.Cmp.Lexicographic.{slice_cmp}
-use Rattle.hotel_core.specs.Model.Words.{said_of, pair_cmp}
-use Rattle.hotel_core.specs.Model.SoundRooms.{are_in_order, day_in_range, day_before_kinds, kinds_read}
-use Rattle.hotel_core.specs.Model.SoundRooms.{room_numbers, lock_places, room_kinds_there, codes_few, each_room}
-use Rattle.hotel_core.specs.Model.SoundRooms.{parties_in_house, secured_hold_last}
-use Rattle.hotel_core.specs.Model.SoundStays.{stay_numbers, guests_read, stay_kinds_there, stay_days}
-use Rattle.hotel_core.specs.Model.SoundStays.{stay_rooms, nights_fit}
-use Rattle.hotel_core.specs.Model.SoundCards.{codes_in_range, code_rooms_there, places_once, card_numbers}
-use Rattle.hotel_core.specs.Model.SoundCards.{card_parties_there, links_are_neighbours, links_of_one_party}
-use Rattle.hotel_core.specs.Model.SoundCards.{neighbours_are_links, fits_without_links}
-use Rattle.hotel_core.specs.Model.SoundCards.{newest_of_party, last_cards_newest}
-use Rattle.hotel_core.specs.Model.SoundNotes.{insides_fit, notes_fit, notes_counted}
-use Rattle.hotel_core.specs.Model.SoundFits.{fit_rooms_there, fit_numbers, first_fits, fit_places_rise, fit_notes_rise}
-use Rattle.hotel_core.specs.Model.SoundFits.{last_fits_held, last_fits_noted, fit_notes_few}
-use Rattle.hotel_core.specs.Model.Sound.{IsSound}
+use Rattle.hotel_model.specs.Words.{said_of, pair_cmp}
+use Rattle.hotel_model.specs.SoundRooms.{are_in_order, day_in_range, day_before_kinds, kinds_read}
+use Rattle.hotel_model.specs.SoundRooms.{room_numbers, lock_places, room_kinds_there, codes_few, each_room}
+use Rattle.hotel_model.specs.SoundRooms.{parties_in_house, secured_hold_last}
+use Rattle.hotel_model.specs.SoundStays.{stay_numbers, guests_read, stay_kinds_there, stay_days}
+use Rattle.hotel_model.specs.SoundStays.{stay_rooms, nights_fit}
+use Rattle.hotel_model.specs.SoundCards.{codes_in_range, code_rooms_there, places_once, card_numbers}
+use Rattle.hotel_model.specs.SoundCards.{card_parties_there, links_are_neighbours, links_of_one_party}
+use Rattle.hotel_model.specs.SoundCards.{neighbours_are_links, fits_without_links}
+use Rattle.hotel_model.specs.SoundCards.{newest_of_party, last_cards_newest}
+use Rattle.hotel_model.specs.SoundNotes.{insides_fit, notes_fit, notes_counted}
+use Rattle.hotel_model.specs.SoundFits.{fit_rooms_there, fit_numbers, first_fits, fit_places_rise, fit_notes_rise}
+use Rattle.hotel_model.specs.SoundFits.{last_fits_held, last_fits_noted, fit_notes_few}
+use Rattle.hotel_model.specs.Sound.{IsSound}
 use Rattle.hotel_rows.specs.declared.stored.PlainRoom.{PlainRoom}
 use Rattle.hotel_rows.specs.declared.stored.PlainStay.{PlainStay}
 use Rattle.hotel_rows.specs.declared.stored.PlainNote.{PlainNote}

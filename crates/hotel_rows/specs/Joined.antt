@@ -1,11 +1,11 @@
 -- The rows of rooms and notes, joined with the fits of their rooms: their tables have no columns for these.
 use Rattle.std.specs.Prelude.{ℕ, ◌-◌, List, Option, map, filter, nat_lt}
 use Rattle.keycard_rules.specs.Note.{Note}
-use Rattle.hotel_core.specs.declared.books.rows.RoomRow.{RoomRow}
-use Rattle.hotel_core.specs.declared.books.rows.FitRow.{FitRow}
-use Rattle.hotel_core.specs.Model.Words.{said_of}
-use Rattle.hotel_core.specs.Model.Rows.{Rows, fits_at, last_fit}
-use Rattle.hotel_core.specs.Model.Refits.{fit_row}
+use Rattle.hotel_model.specs.declared.rows.RoomRow.{RoomRow}
+use Rattle.hotel_model.specs.declared.rows.FitRow.{FitRow}
+use Rattle.hotel_model.specs.Words.{said_of}
+use Rattle.hotel_model.specs.Rows.{Rows, fits_at, last_fit}
+use Rattle.hotel_model.specs.Refits.{fit_row}
 
 -- a room's row with the number of its last fit and how many notes were taken before that; as it stands without one
 abbrev pub with_last : Option FitRow → RoomRow → RoomRow

@@ -1,8 +1,8 @@
 -- Keys of rows, and where they stand.
 use Rattle.std.specs.Prelude.{ℕ, ◌≡◌, ◌==◌, ◌&&◌, nat_le, length, Bool, List, [], ◌∷◌, Option, Some, None, option_map, suc, if◌then◌else◌}
 use Rattle.std.specs.Ordering.{nat_cmp}
-use Rattle.hotel_core.specs.Model.SoundRooms.{are_in_order, count_up}
-use Rattle.hotel_core.specs.Model.Rows.{at_number}
+use Rattle.hotel_model.specs.SoundRooms.{are_in_order, count_up}
+use Rattle.hotel_model.specs.Rows.{at_number}
 use Rattle.hotel_rows.specs.declared.stored.PlainRoom.{PlainRoom}
 use Rattle.hotel_rows.specs.declared.stored.PlainStay.{PlainStay}
 use Rattle.hotel_rows.specs.declared.stored.PlainCode.{PlainCode}

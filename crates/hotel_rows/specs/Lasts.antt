@@ -1,7 +1,7 @@
 -- The link of each party's last card.
 use Rattle.std.specs.Prelude.{ℕ, ◌≡◌, List, map, Option, Some, None, option_map}
 use Rattle.keycard_rules.specs.declared.card.Link.{Link}
-use Rattle.hotel_core.specs.Model.Rows.{at_number, link_of_last_card}
+use Rattle.hotel_model.specs.Rows.{at_number, link_of_last_card}
 use Rattle.hotel_rows.specs.declared.stored.PlainCard.{PlainCard}
 use Rattle.hotel_rows.specs.Stored.{number_of, card_entry}
 

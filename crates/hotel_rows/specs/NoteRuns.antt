@@ -1,9 +1,9 @@
 -- The numbers of each room's notes.
 use Rattle.std.specs.Prelude.{ℕ, ◌≡◌, ◌==◌, ◌&&◌, Bool, List, [], ◌∷◌, map, Option, Some, None}
-use Rattle.hotel_core.specs.Model.Words.{said_of, last_of}
-use Rattle.hotel_core.specs.Model.Rows.{at_number}
-use Rattle.hotel_core.specs.Model.SoundRooms.{count_up}
-use Rattle.hotel_core.specs.Model.SoundNotes.{numbers_at}
+use Rattle.hotel_model.specs.Words.{said_of, last_of}
+use Rattle.hotel_model.specs.Rows.{at_number}
+use Rattle.hotel_model.specs.SoundRooms.{count_up}
+use Rattle.hotel_model.specs.SoundNotes.{numbers_at}
 use Rattle.hotel_rows.specs.declared.damage.note_runs.NoteRun.{NoteRun}
 use Rattle.hotel_rows.specs.declared.stored.PlainNote.{PlainNote}
 use Rattle.hotel_rows.specs.declared.stored.PlainRoom.{PlainRoom}

@@ -3,8 +3,8 @@ use Rattle.std.specs.Prelude.{ℕ, ◌≡◌, Bool, List, [], ◌∷◌, Option,
 use Rattle.std.specs.BTreeMap.{is_at}
 use Rattle.std.specs.Map.{lookup}
 use Rattle.keycard_rules.specs.declared.card.Link.{Link}
-use Rattle.hotel_core.specs.Model.Words.{pair_cmp, is_that}
-use Rattle.hotel_core.specs.Model.Cards.{same_link}
+use Rattle.hotel_model.specs.Words.{pair_cmp, is_that}
+use Rattle.hotel_model.specs.Cards.{same_link}
 use Rattle.hotel_rows.specs.declared.stored.PlainCard.{PlainCard}
 use Rattle.hotel_rows.specs.Stored.{number_of, link_row}
 

@@ -2,12 +2,12 @@
 use Rattle.std.specs.Prelude.{ℕ, ◌≡◌, ◌==◌, ◌&&◌, Bool, false, List, [], map, length}
 use Rattle.std.specs.List.{count_by}
 use Rattle.std.specs.Map.{keys_of, values_of}
-use Rattle.hotel_core.specs.declared.books.rows.CodeRow.{CodeRow}
-use Rattle.hotel_core.specs.Model.Words.{said_of}
-use Rattle.hotel_core.specs.Model.Rows.{at_number, codes_by_place, last_link_of}
-use Rattle.hotel_core.specs.Model.Cards.{same_link}
+use Rattle.hotel_model.specs.declared.rows.CodeRow.{CodeRow}
+use Rattle.hotel_model.specs.Words.{said_of}
+use Rattle.hotel_model.specs.Rows.{at_number, codes_by_place, last_link_of}
+use Rattle.hotel_model.specs.Cards.{same_link}
 use Rattle.keycard_rules.specs.declared.card.Link.{Link}
-use Rattle.hotel_core.specs.Model.SoundRooms.{count_up}
+use Rattle.hotel_model.specs.SoundRooms.{count_up}
 use Rattle.hotel_rows.specs.declared.damage.placed.Placed.{Placed}
 use Rattle.hotel_rows.specs.declared.stored.PlainCode.{PlainCode}
 use Rattle.hotel_rows.specs.declared.stored.PlainRoom.{PlainRoom}

@@ -9,20 +9,20 @@ use Rattle.std.specs.Map.{lookup}
 use Rattle.keycard_rules.specs.declared.card.Card.{Card}
 use Rattle.hotel_nights.specs.declared.stay.Stay.{Stay}
 use Rattle.hotel_nights.specs.Guests.{is_guest}
-use Rattle.hotel_core.specs.declared.books.rows.RoomRow.{RoomRow}
-use Rattle.hotel_core.specs.declared.books.rows.CodeRow.{CodeRow}
-use Rattle.hotel_core.specs.Model.Words.{said_of}
-use Rattle.hotel_core.specs.Model.Rows.{Rows, has_kind, at_number, fits_at, begins_fit}
-use Rattle.hotel_core.specs.Model.Stays.{room_of_state}
-use Rattle.hotel_core.specs.Model.SoundRooms.{is_home_of, is_day}
-use Rattle.hotel_core.specs.Model.SoundStays.{has_party}
-use Rattle.hotel_core.specs.Model.SoundCards.{are_neighbours, code_is, stands_at, is_newest, has_newest}
-use Rattle.hotel_core.specs.Model.SoundNotes.{comes_later, room_is, card_is, act_fits, fits_inside}
+use Rattle.hotel_model.specs.declared.rows.RoomRow.{RoomRow}
+use Rattle.hotel_model.specs.declared.rows.CodeRow.{CodeRow}
+use Rattle.hotel_model.specs.Words.{said_of}
+use Rattle.hotel_model.specs.Rows.{Rows, has_kind, at_number, fits_at, begins_fit}
+use Rattle.hotel_model.specs.Stays.{room_of_state}
+use Rattle.hotel_model.specs.SoundRooms.{is_home_of, is_day}
+use Rattle.hotel_model.specs.SoundStays.{has_party}
+use Rattle.hotel_model.specs.SoundCards.{are_neighbours, code_is, stands_at, is_newest, has_newest}
+use Rattle.hotel_model.specs.SoundNotes.{comes_later, room_is, card_is, act_fits, fits_inside}
 use Rattle.hotel_rows.specs.declared.stored.PlainRoom.{PlainRoom}
 use Rattle.hotel_rows.specs.declared.stored.PlainStay.{PlainStay}
 use Rattle.hotel_rows.specs.declared.stored.PlainCode.{PlainCode}
 use Rattle.hotel_rows.specs.declared.stored.PlainCard.{PlainCard}
-use Rattle.hotel_core.specs.Model.Cards.{same_link}
+use Rattle.hotel_model.specs.Cards.{same_link}
 use Rattle.hotel_rows.specs.declared.stored.PlainNote.{PlainNote}
 use Rattle.hotel_rows.specs.declared.stored.PlainFit.{PlainFit}
 use Rattle.hotel_rows.specs.declared.stored.Stored.{Stored}

@@ -7,7 +7,7 @@ ghost use Rattle.keycard_rules.specs.declared.issued.LookFault.TheVariants.{Memo
 ghost use Rattle.hotel_nights.specs.Block.{one_if};
 ghost use Rattle.hotel_nights.specs.Guests.{is_guest};
 ghost use Rattle.hotel_nights.specs.Kinds.{is_kind};
-ghost use Rattle.hotel_core.specs.Model.SoundRooms.{is_day};
+ghost use Rattle.hotel_model.specs.SoundRooms.{is_day};
 ghost use Rattle.hotel_core.specs.KindRooms.{is_there, rooms_in};
 ghost use Rattle.hotel_core.specs.NightIndex.{CountsNights};
 ghost use Rattle.hotel_rows.specs.Stored.{state_of, kind_text, stay_row, stay_entry};

@@ -19,11 +19,11 @@ use Rattle.sqlite.specs.Program.{overlay}
 use Rattle.sqlite.specs.Term.{Term, col, eval_all}
 use Rattle.sqlite.specs.Tree.{Trees, IsAscending}
 use Rattle.keycard_rules.specs.Note.{Note}
-use Rattle.hotel_core.specs.declared.books.rows.FitRow.{FitRow}
-use Rattle.hotel_core.specs.Model.Words.{pair_cmp}
-use Rattle.hotel_core.specs.Model.Rows.{notes_at, fits_at, fit_at}
-use Rattle.hotel_core.specs.Refinement.ListsOnRows.{audit_on}
-use Rattle.hotel_core.proofs.OfTables.Pairs.{pair_cmp_total, pair_is}
+use Rattle.hotel_model.specs.declared.rows.FitRow.{FitRow}
+use Rattle.hotel_model.specs.Words.{pair_cmp}
+use Rattle.hotel_model.specs.Rows.{notes_at, fits_at, fit_at}
+use Rattle.hotel_model.specs.Refinement.ListsOnRows.{audit_on}
+use Rattle.hotel_model.proofs.OfTables.Pairs.{pair_cmp_total, pair_is}
 use Rattle.hotel_rows.specs.Joined.{with_count, fit_of_number, under_fit}
 use Rattle.hotel_statements.specs.Values.{int}
 use Rattle.hotel_statements.specs.Columns.{note_columns, note_row_of, note_of, note_written, fit_columns, fit_row_of}

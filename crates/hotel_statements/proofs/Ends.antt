@@ -6,7 +6,7 @@ use Rattle.sqlite.specs.State.{State, HasCleanDisk, IsRolledBack, Survives, Show
 use Rattle.sqlite.specs.Steps.{FailsToCommit}
 use Rattle.sqlite.specs.declared.error.Error.{Error}
 use Rattle.sqlite.proofs.StateLemmas.{survives_then}
-use Rattle.hotel_core.specs.Model.Rows.{Rows}
+use Rattle.hotel_model.specs.Rows.{Rows}
 use Rattle.hotel_statements.specs.Tables.{AreTables, rows_in}
 use Rattle.hotel_statements.specs.Books.{IsDesk, IsKept, IsBooks}
 use Rattle.hotel_statements.specs.Steps.{IsMid, IsMidWith, MovesRows, RunsStatement, MakesRows, any_rows, IsMadeOf}

@@ -18,14 +18,14 @@ use Rattle.sqlite.specs.Tree.{Trees}
 use Rattle.keycard_rules.specs.declared.card.Card.{Card}
 use Rattle.keycard_rules.specs.Note.{Note}
 use Rattle.hotel_nights.specs.declared.stay.Stay.{Stay}
-use Rattle.hotel_core.specs.declared.books.rows.RoomRow.{RoomRow}
-use Rattle.hotel_core.specs.declared.books.rows.CodeRow.{CodeRow}
-use Rattle.hotel_core.specs.declared.books.rows.FitRow.{FitRow}
-use Rattle.hotel_core.specs.Model.Words.{pair_cmp, is_one_of, said_of}
-use Rattle.hotel_core.specs.Model.Guests.{those_in, are_none}
-use Rattle.hotel_core.specs.Model.Rows.{Rows, has_kind, at_number, fit_at}
-use Rattle.hotel_core.specs.Books.Lookups.{codes_in, code_place, stay_at, card_at, inside_at}
-use Rattle.hotel_core.proofs.OfTables.Pairs.{pair_cmp_total}
+use Rattle.hotel_model.specs.declared.rows.RoomRow.{RoomRow}
+use Rattle.hotel_model.specs.declared.rows.CodeRow.{CodeRow}
+use Rattle.hotel_model.specs.declared.rows.FitRow.{FitRow}
+use Rattle.hotel_model.specs.Words.{pair_cmp, is_one_of, said_of}
+use Rattle.hotel_model.specs.Guests.{those_in, are_none}
+use Rattle.hotel_model.specs.Rows.{Rows, has_kind, at_number, fit_at}
+use Rattle.hotel_model.specs.Refinement.Lookups.{codes_in, code_place, stay_at, card_at, inside_at}
+use Rattle.hotel_model.proofs.OfTables.Pairs.{pair_cmp_total}
 use Rattle.hotel_statements.specs.Values.{number_of, option_of, text_of, int}
 use Rattle.hotel_statements.specs.Columns.{meta_columns, meta_written, kind_columns, kind_of, kind_written, room_columns, room_row_of, room_written, stay_columns, stay_row_of, stay_written}
 use Rattle.hotel_statements.specs.Columns.{code_columns, code_row_of, code_written, card_columns, card_row_of}

@@ -8,12 +8,12 @@ use Rattle.std.specs.BTreeMap.{is_at}
 use Rattle.sqlite.specs.Order.{Row}
 use Rattle.sqlite.specs.Tree.{Trees}
 use Rattle.keycard_rules.specs.Note.{Note}
-use Rattle.hotel_core.specs.declared.books.rows.RoomRow.{RoomRow}
-use Rattle.hotel_core.specs.declared.books.rows.FitRow.{FitRow}
-use Rattle.hotel_core.specs.Model.Words.{pair_cmp, said_of}
-use Rattle.hotel_core.specs.Model.Rows.{at_number, fits_at, fit_at, last_fit}
-use Rattle.hotel_core.specs.Books.Lookups.{room_at, of_fit, note_numbered, note_at}
-use Rattle.hotel_core.proofs.OfTables.Pairs.{pair_cmp_total, pair_exact}
+use Rattle.hotel_model.specs.declared.rows.RoomRow.{RoomRow}
+use Rattle.hotel_model.specs.declared.rows.FitRow.{FitRow}
+use Rattle.hotel_model.specs.Words.{pair_cmp, said_of}
+use Rattle.hotel_model.specs.Rows.{at_number, fits_at, fit_at, last_fit}
+use Rattle.hotel_model.specs.Refinement.Lookups.{room_at, of_fit, note_numbered, note_at}
+use Rattle.hotel_model.proofs.OfTables.Pairs.{pair_cmp_total, pair_exact}
 use Rattle.hotel_rows.specs.Joined.{with_last, with_count, fit_of_number}
 use Rattle.hotel_statements.specs.Columns.{note_columns, note_of, note_written}
 use Rattle.hotel_statements.specs.Tables.{IsWrittenAs, by_key, rows_in, fits_in, bare_rooms_in, bare_notes_in}

@@ -11,14 +11,14 @@ use Rattle.std.proofs.lemmas.Bool.Decides.{nat_tests}
 use Rattle.std.proofs.lemmas.List.{take_more}
 use Rattle.sqlite.specs.Tree.{IsAscending}
 use Rattle.keycard_rules.specs.Note.{Note}
-use Rattle.hotel_core.specs.declared.books.rows.RoomRow.{RoomRow}
-use Rattle.hotel_core.specs.declared.books.rows.FitRow.{FitRow}
-use Rattle.hotel_core.specs.Model.Words.{pair_cmp}
-use Rattle.hotel_core.specs.Model.Rows.{at_number, fits_at, last_fit}
-use Rattle.hotel_core.specs.Books.Change.{room_changed}
-use Rattle.hotel_core.proofs.OfTables.Tests.{and_true}
-use Rattle.hotel_core.proofs.OfTables.KeysInOrder.{InOrder}
-use Rattle.hotel_core.proofs.OfTables.FitLists.{last_more}
+use Rattle.hotel_model.specs.declared.rows.RoomRow.{RoomRow}
+use Rattle.hotel_model.specs.declared.rows.FitRow.{FitRow}
+use Rattle.hotel_model.specs.Words.{pair_cmp}
+use Rattle.hotel_model.specs.Rows.{at_number, fits_at, last_fit}
+use Rattle.hotel_model.specs.Refinement.Change.{room_changed}
+use Rattle.hotel_model.proofs.OfTables.Tests.{and_true}
+use Rattle.hotel_model.proofs.OfTables.KeysInOrder.{InOrder}
+use Rattle.hotel_model.proofs.OfTables.FitLists.{last_more}
 use Rattle.hotel_rows.specs.Joined.{with_last, with_fit, fit_of_number, under_fit}
 use Rattle.hotel_rows.proofs.OfJoined.{HasOneMore, fit_put, is_earlier, notes_stay, once_in_order, refit_joined}
 use Rattle.hotel_rows.proofs.OfJoined.{room_joined, room_change_joined, number_before, number_after}

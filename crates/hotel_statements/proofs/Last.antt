@@ -20,7 +20,7 @@ use Rattle.sqlite.specs.Query.{Query, IsAnswer, Output}
 use Rattle.sqlite.specs.Program.{overlay}
 use Rattle.sqlite.specs.Term.{Term, col}
 use Rattle.sqlite.specs.Tree.{Trees, IsAscending}
-use Rattle.hotel_core.specs.Model.SoundRooms.{count_up}
+use Rattle.hotel_model.specs.SoundRooms.{count_up}
 use Rattle.hotel_statements.specs.Values.{number_of, int}
 use Rattle.hotel_statements.specs.Tables.{IsTable, IsWrittenAs, listed, by_key}
 use Rattle.hotel_statements.specs.LookUps.{AnswersFirst}

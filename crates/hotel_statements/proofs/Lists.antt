@@ -22,11 +22,11 @@ use Rattle.sqlite.specs.Program.{overlay}
 use Rattle.sqlite.specs.Term.{Term, col}
 use Rattle.sqlite.specs.Tree.{Trees, IsAscending}
 use Rattle.hotel_nights.specs.declared.stay.Stay.{Stay}
-use Rattle.hotel_core.specs.declared.books.rows.CodeRow.{CodeRow}
-use Rattle.hotel_core.specs.Model.Words.{pair_cmp}
-use Rattle.hotel_core.specs.Model.Guests.{those_in}
-use Rattle.hotel_core.specs.Books.Lookups.{code_at, first_code_at, stays_of_kind, inside_at}
-use Rattle.hotel_core.proofs.OfTables.Pairs.{pair_cmp_total}
+use Rattle.hotel_model.specs.declared.rows.CodeRow.{CodeRow}
+use Rattle.hotel_model.specs.Words.{pair_cmp}
+use Rattle.hotel_model.specs.Guests.{those_in}
+use Rattle.hotel_model.specs.Refinement.Lookups.{code_at, first_code_at, stays_of_kind, inside_at}
+use Rattle.hotel_model.proofs.OfTables.Pairs.{pair_cmp_total}
 use Rattle.hotel_statements.specs.Values.{number_of, int}
 use Rattle.hotel_statements.specs.Columns.{stay_columns, stay_row_of, stay_of, stay_written, code_columns, code_of, code_written, inside_columns, inside_of, inside_written}
 use Rattle.hotel_statements.specs.Tables.{AreTables, IsWrittenAs, by_key, rows_in}

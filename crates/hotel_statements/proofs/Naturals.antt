@@ -5,8 +5,8 @@ use Rattle.std.proofs.lemmas.Bool.{cases_Bool, false≢true}
 use Rattle.std.proofs.lemmas.Bool.Decides.{nat_tests}
 use Rattle.sqlite_value.specs.declared.value.Value.TheVariants.{Int}
 use Rattle.sqlite.specs.Order.{Row}
-use Rattle.hotel_core.specs.Model.Stays.{room_of_state}
-use Rattle.hotel_core.proofs.OfTables.Tests.{and_true}
+use Rattle.hotel_model.specs.Stays.{room_of_state}
+use Rattle.hotel_model.proofs.OfTables.Tests.{and_true}
 use Rattle.hotel_statements.specs.declared.plain_rows.PlainMeta.{PlainMeta}
 use Rattle.hotel_rows.specs.declared.stored.PlainKind.{PlainKind}
 use Rattle.hotel_rows.specs.declared.stored.PlainRoom.{PlainRoom}
@@ -26,7 +26,7 @@ use Rattle.hotel_statements.specs.Columns as columns
 use Rattle.hotel_rows.specs.Stored.{number_of, state_of, act_of, no_number, kind_text, room_entry, stay_entry}
 use Rattle.hotel_rows.specs.Stored.{code_entry, card_entry, inside_pair, note_entry, fit_entry}
 use Rattle.hotel_rows.specs.Damage.{room_columns, stay_columns, note_columns}
-use Rattle.hotel_core.specs.Model.Words.{said_of}
+use Rattle.hotel_model.specs.Words.{said_of}
 use Rattle.hotel_statements.specs.PlainRows.{maybe, is_natural, may_be_natural, meta_shown, kind_shown, room_shown}
 use Rattle.hotel_statements.specs.PlainRows.{room_natural, stay_shown, stay_natural, code_shown, code_natural}
 use Rattle.hotel_statements.specs.PlainRows.{card_shown, card_natural, inside_shown, inside_natural, note_shown}

@@ -8,9 +8,9 @@ use Rattle.sqlite.specs.Order.{Row}
 use Rattle.sqlite.specs.Tree.{IsAscending}
 use Rattle.sqlite_keyed.proofs.ListLemmas.{all_unmap, ascending_weaker}
 use Rattle.sqlite_keyed.proofs.SortLemmas.{sorted_is-sort_by}
-use Rattle.hotel_core.specs.Model.SoundRooms.{are_in_order}
-use Rattle.hotel_core.proofs.OfTables.KeysInOrder.{AllAfter, InOrder}
-use Rattle.hotel_core.proofs.Starts.StartOrder.{in_order_from}
+use Rattle.hotel_model.specs.SoundRooms.{are_in_order}
+use Rattle.hotel_model.proofs.OfTables.KeysInOrder.{AllAfter, InOrder}
+use Rattle.hotel_model.proofs.Starts.StartOrder.{in_order_from}
 use Rattle.hotel_statements.specs.Tables.{IsTable, IsWrittenAs, AreApart, listed}
 use Rattle.hotel_statements.specs.PlainRows.{ArePlainRows}
 use Rattle.hotel_statements.proofs.Answers.{fused}

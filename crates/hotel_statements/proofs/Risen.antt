@@ -4,9 +4,9 @@ use Rattle.std.specs.List.{AllByRecursion}
 use Rattle.std.specs.Map.{keys_of}
 use Rattle.std.proofs.lemmas.Cmp.{nat_cmp_total}
 use Rattle.sqlite.specs.Tree.{Trees, IsAscending}
-use Rattle.hotel_core.specs.Model.Words.{pair_cmp}
-use Rattle.hotel_core.proofs.OfTables.Pairs.{pair_cmp_total}
-use Rattle.hotel_core.proofs.OfTables.KeysInOrder.{AllAfter, InOrder}
+use Rattle.hotel_model.specs.Words.{pair_cmp}
+use Rattle.hotel_model.proofs.OfTables.Pairs.{pair_cmp_total}
+use Rattle.hotel_model.proofs.OfTables.KeysInOrder.{AllAfter, InOrder}
 use Rattle.hotel_statements.specs.declared.version.Version.{Version}
 use Rattle.hotel_statements.specs.Tables.{AreTables, AreTablesOf, by_key, fits_in, bare_rooms_in, bare_notes_in}
 use Rattle.hotel_statements.proofs.Perm.{sort_rises}

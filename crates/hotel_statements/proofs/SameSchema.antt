@@ -26,7 +26,7 @@ use Rattle.sqlite_schema.specs.declared.schema.Stamps.{Stamps}
 use Rattle.sqlite_schema.specs.declared.schema.Table.{Table}
 use Rattle.sqlite_schema.specs.declared.schema.Index.{Index}
 use Rattle.sqlite_schema.specs.declared.schema.Schema.{Schema}
-use Rattle.hotel_core.proofs.OfTables.Tests.{and_true, eq_from}
+use Rattle.hotel_model.proofs.OfTables.Tests.{and_true, eq_from}
 use Rattle.hotel_statements.specs.Schema.{first_schema, desk_schema}
 use Rattle.hotel_statements.specs.SameSchema as spec
 

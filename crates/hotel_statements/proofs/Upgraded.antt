@@ -15,8 +15,8 @@ use Rattle.sqlite.specs.State.{ExecutesInside}
 use Rattle.sqlite.specs.Steps.{FailsToCommit}
 use Rattle.sqlite.specs.declared.error.Error.{Error}
 use Rattle.sqlite.proofs.StateLemmas.{survives_then}
-use Rattle.hotel_core.specs.declared.books.rows.FitRow.{FitRow}
-use Rattle.hotel_core.proofs.OfTables.KeysInOrder.{AllAfter, InOrder}
+use Rattle.hotel_model.specs.declared.rows.FitRow.{FitRow}
+use Rattle.hotel_model.proofs.OfTables.KeysInOrder.{AllAfter, InOrder}
 use Rattle.hotel_rows.specs.Joined.{joined, first_fits}
 use Rattle.hotel_statements.specs.declared.version.Version.TheVariants.{First}
 use Rattle.hotel_statements.specs.Schema.{desk_schema}

@@ -9,10 +9,10 @@ use Rattle.keycard_rules.specs.Note.{Note}
 use Rattle.hotel_nights.specs.declared.stay.Stay.{Stay}
 use Rattle.hotel_nights.specs.declared.stay.StayState.{StayState}
 use Rattle.hotel_nights.specs.declared.stay.StayState.TheVariants.{Booked, InHouse, Done, Cancelled}
-use Rattle.hotel_core.specs.declared.books.rows.RoomRow.{RoomRow}
-use Rattle.hotel_core.specs.declared.books.rows.CodeRow.{CodeRow}
-use Rattle.hotel_core.specs.declared.books.rows.FitRow.{FitRow}
-use Rattle.hotel_core.specs.Model.Stays.{room_of_state}
+use Rattle.hotel_model.specs.declared.rows.RoomRow.{RoomRow}
+use Rattle.hotel_model.specs.declared.rows.CodeRow.{CodeRow}
+use Rattle.hotel_model.specs.declared.rows.FitRow.{FitRow}
+use Rattle.hotel_model.specs.Stays.{room_of_state}
 use Rattle.hotel_statements.specs.Values.{number_of, option_of, text_of, int, maybe_int}
 
 -- An integer key stands first in a stored row, and nothing in its own column; `.._columns` are the columns as they are declared.

@@ -14,7 +14,7 @@ use Rattle.sqlite.specs.State.{State}
 use Rattle.sqlite.specs.Change.{next_tree, KeepsRows}
 use Rattle.sqlite_schema.specs.declared.schema.Index.{Index}
 use Rattle.sqlite_catalog.specs.Change.{created, indexed}
-use Rattle.hotel_core.specs.Model.Rows.{no_rows}
+use Rattle.hotel_model.specs.Rows.{no_rows}
 use Rattle.hotel_statements.specs.Tables.{AreTables, rows_in}
 use Rattle.hotel_statements.specs.Schema.{desk_schema, first_schema, no_schema, meta_table, kind_table, room_table}
 use Rattle.hotel_statements.specs.Schema.{stay_table, code_table, card_table, inside_table}

@@ -9,7 +9,7 @@ use Rattle.keycard_rules.specs.Numbers.{IsNumberUpTo}
 use Rattle.keycard_rules.specs.Note.{Note, IsTimed}
 use Rattle.hotel_nights.specs.Kinds.{is_kind}
 use Rattle.hotel_nights.specs.Guests.{is_guest}
-use Rattle.hotel_core.specs.declared.books.rows.FitRow.{FitRow}
+use Rattle.hotel_model.specs.declared.rows.FitRow.{FitRow}
 use Rattle.hotel_rows.specs.Joined.{fit_of_number}
 use Rattle.hotel_statements.specs.Values.{int}
 

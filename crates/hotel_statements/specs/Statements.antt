@@ -5,16 +5,16 @@ use Rattle.keycard_rules.specs.Note.{Note}
 use Rattle.hotel_nights.specs.declared.stay.Stay.{Stay}
 use Rattle.hotel_nights.specs.declared.stay.StayState.{StayState}
 use Rattle.hotel_nights.specs.declared.stay.StayState.TheVariants as state
-use Rattle.hotel_core.specs.declared.books.rows.RoomRow.{RoomRow}
-use Rattle.hotel_core.specs.declared.books.rows.CodeRow.{CodeRow}
-use Rattle.hotel_core.specs.declared.books.rows.FitRow.{FitRow}
-use Rattle.hotel_core.specs.declared.books.change.InsideMove.{InsideMove}
-use Rattle.hotel_core.specs.declared.books.change.InsideMove.TheVariants.{Same, Goes, Comes}
-use Rattle.hotel_core.specs.declared.books.change.Change.{Change}
-use Rattle.hotel_core.specs.declared.books.change.Change.TheVariants.{Begin, DayTo, Kind, Room, Reserved, Cancelled}
-use Rattle.hotel_core.specs.declared.books.change.Change.TheVariants.{Issue, Spare, CheckedOut, Refit, Noted}
-use Rattle.hotel_core.specs.Model.Stays.{room_of_state}
-use Rattle.hotel_core.specs.Model.Refits.{fit_row}
+use Rattle.hotel_model.specs.declared.rows.RoomRow.{RoomRow}
+use Rattle.hotel_model.specs.declared.rows.CodeRow.{CodeRow}
+use Rattle.hotel_model.specs.declared.rows.FitRow.{FitRow}
+use Rattle.hotel_model.specs.declared.change.InsideMove.{InsideMove}
+use Rattle.hotel_model.specs.declared.change.InsideMove.TheVariants.{Same, Goes, Comes}
+use Rattle.hotel_model.specs.declared.change.Change.{Change}
+use Rattle.hotel_model.specs.declared.change.Change.TheVariants.{Begin, DayTo, Kind, Room, Reserved, Cancelled}
+use Rattle.hotel_model.specs.declared.change.Change.TheVariants.{Issue, Spare, CheckedOut, Refit, Noted}
+use Rattle.hotel_model.specs.Stays.{room_of_state}
+use Rattle.hotel_model.specs.Refits.{fit_row}
 use Rattle.sqlite.specs.Order.{Row}
 use Rattle.sqlite.specs.State.{HasCleanDisk, ExecutesInside}
 use Rattle.sqlite.specs.Held as held
@@ -23,7 +23,7 @@ use Rattle.sqlite_trees.specs.declared.store.Store.{Ghosts}
 use Rattle.sqlite.specs.declared.error.Error.{Error}
 use Rattle.sqlite.specs.declared.error.Error.TheVariants.{SqliteFailure}
 use Rattle.sqlite.specs.declared.error.ErrorCode.TheVariants.{TransactionState}
-use Rattle.hotel_core.specs.Model.Rows.{Rows}
+use Rattle.hotel_model.specs.Rows.{Rows}
 use Rattle.hotel_statements.specs.Texts as text
 use Rattle.hotel_statements.specs.Values.{int, maybe_int}
 use Rattle.hotel_statements.specs.Columns.{bit_of, state_number, kind_written, room_written, stay_written, code_written}

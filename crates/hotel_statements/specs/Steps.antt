@@ -12,21 +12,21 @@ use Rattle.keycard_rules.specs.Note.{Note}
 use Rattle.hotel_nights.specs.declared.stay.Stay.{Stay}
 use Rattle.hotel_nights.specs.declared.stay.StayState.{StayState}
 use Rattle.hotel_nights.specs.declared.stay.StayState.TheVariants as state
-use Rattle.hotel_core.specs.declared.books.rows.RoomRow.{RoomRow}
-use Rattle.hotel_core.specs.declared.books.rows.CodeRow.{CodeRow}
-use Rattle.hotel_core.specs.declared.books.rows.FitRow.{FitRow}
-use Rattle.hotel_core.specs.Model.Words.{pair_cmp, said_of}
-use Rattle.hotel_core.specs.Model.Stays.{in_state}
-use Rattle.hotel_core.specs.Model.Guests.{those_elsewhere}
-use Rattle.hotel_core.specs.Model.Refits.{fit_row}
-use Rattle.hotel_core.specs.Books.Lookups.{note_numbered}
-use Rattle.hotel_core.specs.Books.Change.{room_changed, without_party, freed_by, codes_of, notes_in, before_in}
+use Rattle.hotel_model.specs.declared.rows.RoomRow.{RoomRow}
+use Rattle.hotel_model.specs.declared.rows.CodeRow.{CodeRow}
+use Rattle.hotel_model.specs.declared.rows.FitRow.{FitRow}
+use Rattle.hotel_model.specs.Words.{pair_cmp, said_of}
+use Rattle.hotel_model.specs.Stays.{in_state}
+use Rattle.hotel_model.specs.Guests.{those_elsewhere}
+use Rattle.hotel_model.specs.Refits.{fit_row}
+use Rattle.hotel_model.specs.Refinement.Lookups.{note_numbered}
+use Rattle.hotel_model.specs.Refinement.Change.{room_changed, without_party, freed_by, codes_of, notes_in, before_in}
 use Rattle.hotel_rows.specs.Joined.{fit_of_number}
 use Rattle.sqlite.specs.Tree.{Trees}
 use Rattle.sqlite.specs.Order.{Row}
 use Rattle.sqlite.specs.State.{State, HasCleanDisk, KeepsCommit, Survives, ExecutesInside}
 use Rattle.sqlite.specs.declared.error.Error.{Error}
-use Rattle.hotel_core.specs.Model.Rows.{Rows, fits_at}
+use Rattle.hotel_model.specs.Rows.{Rows, fits_at}
 use Rattle.hotel_statements.specs.Schema.{desk_schema}
 use Rattle.hotel_statements.specs.Tables.{AreTables, rows_in}
 

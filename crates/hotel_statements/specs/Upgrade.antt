@@ -7,8 +7,8 @@ use Rattle.sqlite_catalog.specs.Listing.{IsSound}
 use Rattle.sqlite.specs.Effect.{IsDatabase}
 use Rattle.sqlite.specs.State.{State, HasCleanDisk, KeepsCommit, Survives}
 use Rattle.sqlite.specs.declared.error.Error.{Error}
-use Rattle.hotel_core.specs.declared.books.rows.FitRow.{FitRow}
-use Rattle.hotel_core.specs.Model.Refits.{fit_row}
+use Rattle.hotel_model.specs.declared.rows.FitRow.{FitRow}
+use Rattle.hotel_model.specs.Refits.{fit_row}
 use Rattle.hotel_statements.specs.declared.version.Version.TheVariants.{First}
 use Rattle.hotel_statements.specs.Schema.{first_schema, desk_schema}
 use Rattle.hotel_statements.specs.Tables.{AreTablesOf, AreTables, bare_rooms_in, fits_in, rows_in, bare_rows_in}

@@ -7,15 +7,15 @@ use Rattle.sqlite.specs.Tree.{Trees}
 use Rattle.sqlite.specs.State.{State, HasCleanDisk}
 use Rattle.keycard_rules.specs.declared.issued.LookFault.TheVariants as fault
 use Rattle.keycard_rules.specs.Note.{Note}
-use Rattle.hotel_core.specs.declared.books.rows.FitRow.{FitRow}
+use Rattle.hotel_model.specs.declared.rows.FitRow.{FitRow}
 use Rattle.hotel_core.specs.declared.books.walks.WalkFault.{WalkFault}
 use Rattle.hotel_core.specs.declared.books.walks.WalkFault.TheVariants as why
-use Rattle.hotel_core.specs.declared.books.list_rows.HouseRow.{HouseRow}
-use Rattle.hotel_core.specs.declared.books.list_rows.ChainRow.{ChainRow}
-use Rattle.hotel_core.specs.declared.books.list_rows.BehindRow.{BehindRow}
+use Rattle.hotel_model.specs.declared.list_rows.HouseRow.{HouseRow}
+use Rattle.hotel_model.specs.declared.list_rows.ChainRow.{ChainRow}
+use Rattle.hotel_model.specs.declared.list_rows.BehindRow.{BehindRow}
 use Rattle.hotel_core.specs.Books.Walks.{Hands, failure_of}
-use Rattle.hotel_core.specs.Model.Rows.{Rows}
-use Rattle.hotel_core.specs.Refinement.ListsOnRows.{state_at}
+use Rattle.hotel_model.specs.Rows.{Rows}
+use Rattle.hotel_model.specs.Refinement.ListsOnRows.{state_at}
 use Rattle.hotel_statements.specs.Values.{number_of, text_of}
 use Rattle.hotel_rows.specs.Joined.{with_count, fit_of_number}
 use Rattle.hotel_statements.specs.Columns.{note_row_of}

@@ -1,7 +1,7 @@
 //! The changes of the books that are two statements or three, within a transaction.
 ghost use Rattle.std.specs.Prelude.{◌≡◌};
-ghost use Rattle.hotel_core.specs.Books.Change.{made};
-ghost use Rattle.hotel_core.specs.declared.books.change.Change.TheVariants as change;
+ghost use Rattle.hotel_model.specs.Refinement.Change.{made};
+ghost use Rattle.hotel_model.specs.declared.change.Change.TheVariants as change;
 ghost use Rattle.hotel_statements.specs.Statements.{WritesBy, opens_room, ends_stay};
 ghost use Rattle.hotel_statements.specs.Steps.{IsNewRoom, any_rows};
 

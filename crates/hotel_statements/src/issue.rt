@@ -1,7 +1,7 @@
 //! The issue of a card of a new code, within a transaction.
 ghost use Rattle.std.specs.Prelude.{◌≡◌, ◌<◌, ◌-◌, ◌^◌};
-ghost use Rattle.hotel_core.specs.Books.Change.{made, codes_of};
-ghost use Rattle.hotel_core.specs.declared.books.change.Change.TheVariants as change;
+ghost use Rattle.hotel_model.specs.Refinement.Change.{made, codes_of};
+ghost use Rattle.hotel_model.specs.declared.change.Change.TheVariants as change;
 ghost use Rattle.hotel_statements.specs.Statements.{WritesBy, gives_code, gives_card, issues_card};
 ghost use Rattle.hotel_statements.specs.Steps.{any_rows, code_given, card_given};
 

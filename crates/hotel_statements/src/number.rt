@@ -5,7 +5,7 @@ ghost use Rattle.sqlite_value.specs.declared.value.Value.TheVariants.{Text};
 ghost use Rattle.hotel_statements.specs.Values.{int, maybe_int};
 ghost use Rattle.hotel_statements.specs.Columns.{bit_of, state_number};
 ghost use Rattle.hotel_statements.specs.Columns as columns;
-ghost use Rattle.hotel_core.specs.Model.Stays.{room_of_state};
+ghost use Rattle.hotel_model.specs.Stays.{room_of_state};
 
 use hotel_nights::{Day, StayState};
 use keycard_rules::{Act, Code, Number};

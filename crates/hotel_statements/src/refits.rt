@@ -1,7 +1,7 @@
 //! A lock that is replaced, within a transaction.
 ghost use Rattle.std.specs.Prelude.{◌≡◌, ◌<◌, ◌-◌, ◌^◌};
-ghost use Rattle.hotel_core.specs.Books.Change.{made};
-ghost use Rattle.hotel_core.specs.declared.books.change.Change.TheVariants as change;
+ghost use Rattle.hotel_model.specs.Refinement.Change.{made};
+ghost use Rattle.hotel_model.specs.declared.change.Change.TheVariants as change;
 ghost use Rattle.hotel_statements.specs.Statements.{WritesBy, replaces_lock, refits_room};
 ghost use Rattle.hotel_statements.specs.Steps.{IsRefit, any_rows, lock_replaced};
 

@@ -1,6 +1,6 @@
 //! The statements of a transaction: each adds or changes one row, but for the one that takes all cards out of a room.
 ghost use Rattle.std.specs.Prelude.{◌≡◌, false, [], ◌∷◌};
-ghost use Rattle.hotel_core.specs.Model.Rows.{has_kind};
+ghost use Rattle.hotel_model.specs.Rows.{has_kind};
 ghost use Rattle.hotel_statements.specs.Statements.{WritesBy, sets_day, adds_kind, adds_room, adds_code, adds_stay};
 ghost use Rattle.hotel_statements.specs.Statements.{adds_card, adds_note, adds_fit, adds_inside, removes_inside};
 ghost use Rattle.hotel_statements.specs.Statements.{removes_insides, sets_issued, frees_room, sets_noted};

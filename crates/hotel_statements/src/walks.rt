@@ -1,8 +1,8 @@
 //! The walks of the books over the connection: one statement each, but for a room's codes and its notes, before which
 //! the room's row or its fits are looked up.
 ghost use Rattle.sqlite.specs.Held.{state};
-ghost use Rattle.hotel_core.specs.Model.Sound.{IsSound};
-ghost use Rattle.hotel_core.specs.Refinement.ListsOnRows.{arrivals_on, in_house_on, chain_on, left_behind_on, audit_on};
+ghost use Rattle.hotel_model.specs.Sound.{IsSound};
+ghost use Rattle.hotel_model.specs.Refinement.ListsOnRows.{arrivals_on, in_house_on, chain_on, left_behind_on, audit_on};
 ghost use Rattle.hotel_statements.specs.Books.{IsBooks, IsKept};
 ghost use Rattle.hotel_statements.specs.Tables.{rows_in};
 ghost use Rattle.hotel_statements.specs.Walks.{WalksList};

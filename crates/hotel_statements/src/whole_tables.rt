@@ -3,7 +3,7 @@ ghost use Rattle.std.specs.Prelude.{◌≡◌, ◌≢◌, ◌⊎◌, map, IfOk, 
 ghost use Rattle.std.specs.List.{list_all};
 ghost use Rattle.std.specs.Ordering.{is_lt};
 ghost use Rattle.sqlite.specs.Held.{state};
-ghost use Rattle.hotel_core.specs.Model.SoundRooms.{are_in_order};
+ghost use Rattle.hotel_model.specs.SoundRooms.{are_in_order};
 ghost use Rattle.hotel_statements.specs.WholeTables.{IsOurs, IsWhole, ReadsPart, ReadsTo, MayRead};
 ghost use Rattle.hotel_statements.specs.WholeTables.{AreFirst, AreLast, AreFitRows, AreRead};
 ghost use Rattle.hotel_statements.specs.WholeTables.{BeginsAs, TableFails};

@@ -4,9 +4,9 @@ use Rattle.sqlite.specs.Effect.{Database}
 use Rattle.sqlite.specs.State.{State, HasCleanDisk}
 use Rattle.sqlite.proofs.StateLemmas.{survives_then}
 use Rattle.keycard_rules.specs.declared.issued.LookFault.{LookFault}
-use Rattle.hotel_core.specs.declared.books.change.Change.{Change}
-use Rattle.hotel_core.specs.Model.Rows.{Rows}
-use Rattle.hotel_core.specs.Books.Change.{made}
+use Rattle.hotel_model.specs.declared.change.Change.{Change}
+use Rattle.hotel_model.specs.Rows.{Rows}
+use Rattle.hotel_model.specs.Refinement.Change.{made}
 use Rattle.hotel_statements.specs.Tables.{rows_in}
 use Rattle.hotel_statements.specs.Books.{IsKept}
 use Rattle.hotel_statements.specs.LookUps.{LooksIf}

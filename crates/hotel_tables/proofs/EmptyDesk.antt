@@ -1,8 +1,8 @@
 -- An empty desk is sound, and nothing is counted there.
 use Rattle.std.proofs.Common.{◌≡◌, refl, sym, subst, [], arith}
 use Rattle.std.proofs.lemmas.Bool.{false≢true}
-use Rattle.hotel_core.specs.Model.Rows.{Rows, no_rows}
-use Rattle.hotel_core.specs.Model.Sound.{IsSound}
+use Rattle.hotel_model.specs.Rows.{Rows, no_rows}
+use Rattle.hotel_model.specs.Sound.{IsSound}
 use Rattle.hotel_core.proofs.OfNights.NightsStanding.{none_stand}
 use Rattle.hotel_tables.specs.TableBooks.{IsCounted}
 

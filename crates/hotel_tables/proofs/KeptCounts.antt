@@ -16,25 +16,25 @@ use Rattle.hotel_nights.specs.declared.stay.Stay.{Stay}
 use Rattle.hotel_nights.specs.declared.stay.StayState.{StayState}
 use Rattle.hotel_nights.specs.declared.stay.StayState.TheVariants as state
 use Rattle.hotel_nights.specs.FullNight.{is_standing}
-use Rattle.hotel_core.specs.declared.books.rows.RoomRow.{RoomRow}
-use Rattle.hotel_core.specs.declared.books.change.Change.{Change}
-use Rattle.hotel_core.specs.declared.books.change.Change.TheVariants as change
-use Rattle.hotel_core.specs.Model.Rows.{Rows, has_kind}
-use Rattle.hotel_core.specs.Model.Stays.{in_state}
-use Rattle.hotel_core.specs.Books.Lookups.{stay_at, rooms_of_kind}
-use Rattle.hotel_core.specs.Books.Change.{made, freed_by}
-use Rattle.hotel_core.specs.Books.Fits.{HasItsRows, Fits}
+use Rattle.hotel_model.specs.declared.rows.RoomRow.{RoomRow}
+use Rattle.hotel_model.specs.declared.change.Change.{Change}
+use Rattle.hotel_model.specs.declared.change.Change.TheVariants as change
+use Rattle.hotel_model.specs.Rows.{Rows, has_kind}
+use Rattle.hotel_model.specs.Stays.{in_state}
+use Rattle.hotel_model.specs.Refinement.Lookups.{stay_at, rooms_of_kind}
+use Rattle.hotel_model.specs.Refinement.Change.{made, freed_by}
+use Rattle.hotel_model.specs.Refinement.Fits.{HasItsRows, Fits}
 use Rattle.hotel_core.specs.KindRooms.{is_there, rooms_in}
 use Rattle.hotel_core.specs.NightIndex.{counted, CountsNights}
 use Rattle.hotel_core.specs.Memory.{HaveRoomNumbers, RoomsKnown, CountsNightsOf}
-use Rattle.hotel_core.proofs.OfTables.Tests.{and_true, or_true}
-use Rattle.hotel_core.proofs.OfTables.RowTests.{or_later}
-use Rattle.hotel_core.proofs.OfTables.KeysInOrder.{AllAfter, InOrder}
-use Rattle.hotel_core.proofs.OfTables.StayCounts.{count_inserted}
+use Rattle.hotel_model.proofs.OfTables.Tests.{and_true, or_true}
+use Rattle.hotel_model.proofs.OfTables.RowTests.{or_later}
+use Rattle.hotel_model.proofs.OfTables.KeysInOrder.{AllAfter, InOrder}
+use Rattle.hotel_model.proofs.OfTables.StayCounts.{count_inserted}
 use Rattle.hotel_core.proofs.OfNights.NightsStanding.{counts_fit, stands_more, stands_less, stands_on}
 use Rattle.hotel_core.proofs.OfNights.RoomsByKind.{few_rooms, known_changed, known_left}
-use Rattle.hotel_core.proofs.Starts.StartCodes.{orders}
-use Rattle.hotel_core.proofs.Starts.StartNumbers.{stays_fit_at_start}
+use Rattle.hotel_model.proofs.Starts.StartCodes.{orders}
+use Rattle.hotel_model.proofs.Starts.StartNumbers.{stays_fit_at_start}
 use Rattle.hotel_tables.specs.TableBooks.{IsCounted}
 use Rattle.hotel_tables.proofs.MayMake.{new_row, refitted}
 use Rattle.hotel_tables.specs.Counted.{booked_by, ended_by, taken_by, CountsMore, CountsLess, KeepsRooms, HasItsKind, CountsItsRoom}

@@ -2,31 +2,31 @@
 use Rattle.std.proofs.Common.{ℕ, suc, ◌≡◌, ◌≤◌, ◌+◌, ◌-◌, Bool, true, false, cond, Option, Some, None, IsSome, refl, ap}
 use Rattle.std.proofs.Common.{sym, List, [], ◌∷◌, length, filter, ◌∙◌, subst, arith, ◌==◌, ◌&&◌, ◌||◌, not, nat_le, nat_lt}
 use Rattle.std.proofs.Common.{nat_cmp, is_eq, Ordering, Less, Equal, Greater, if◌then◌else◌, option_map, ◌<◌, ◌^◌}
-use Rattle.hotel_core.specs.declared.books.rows.RoomRow.{RoomRow}
-use Rattle.hotel_core.specs.declared.books.rows.FitRow.{FitRow}
-use Rattle.hotel_core.specs.declared.books.change.Change.{Change}
-use Rattle.hotel_core.specs.declared.books.change.Change.TheVariants as change
-use Rattle.hotel_core.specs.declared.books.change.InsideMove.{InsideMove}
-use Rattle.hotel_core.specs.Model.Rows.{notes_at}
-use Rattle.hotel_core.specs.Model.Refits.{fit_row}
-use Rattle.hotel_core.specs.Books.Change.{room_changed, codes_of, notes_in, before_in}
-use Rattle.hotel_core.specs.Books.Fits.{Fits}
+use Rattle.hotel_model.specs.declared.rows.RoomRow.{RoomRow}
+use Rattle.hotel_model.specs.declared.rows.FitRow.{FitRow}
+use Rattle.hotel_model.specs.declared.change.Change.{Change}
+use Rattle.hotel_model.specs.declared.change.Change.TheVariants as change
+use Rattle.hotel_model.specs.declared.change.InsideMove.{InsideMove}
+use Rattle.hotel_model.specs.Rows.{notes_at}
+use Rattle.hotel_model.specs.Refits.{fit_row}
+use Rattle.hotel_model.specs.Refinement.Change.{room_changed, codes_of, notes_in, before_in}
+use Rattle.hotel_model.specs.Refinement.Fits.{Fits}
 use Rattle.hotel_core.proofs.Names.{nat_tests, match_ordering, insert_entry, is_at, lookup, list_all, Note, Rows}
 use Rattle.hotel_core.proofs.Names.{said_of, when, pair_cmp, at_number, fit_at, fits_at, room_at, of_fit, note_at}
 use Rattle.hotel_core.proofs.Names.{note_numbered, made, is_room, start, present_fit, IsSound, is_of_fit}
-use Rattle.hotel_core.proofs.OfTables.Tests.{and_true, eq_from, eq_self, le_from, not_both}
-use Rattle.hotel_core.proofs.OfTables.RowTests.{both, all_weaker, where_so, found_passes_by}
-use Rattle.hotel_core.proofs.OfTables.Pairs.{pair_cmp_total, same_pair}
+use Rattle.hotel_model.proofs.OfTables.Tests.{and_true, eq_from, eq_self, le_from, not_both}
+use Rattle.hotel_model.proofs.OfTables.RowTests.{both, all_weaker, where_so, found_passes_by}
+use Rattle.hotel_model.proofs.OfTables.Pairs.{pair_cmp_total, same_pair}
 use Rattle.hotel_core.proofs.OfTables.MapEntries.{missed, at_is, at_self, pair_is}
-use Rattle.hotel_core.proofs.OfTables.TableKeys.{row_added}
-use Rattle.hotel_core.proofs.OfTables.Inserted.{found_inserted}
-use Rattle.hotel_core.proofs.OfTables.AtRoom.{there_at}
-use Rattle.hotel_core.proofs.OfTables.FitLists.{FitsFor, last_is_at}
-use Rattle.hotel_core.proofs.Starts.StartFits.{fits_said, fits_kept_at_start}
-use Rattle.hotel_core.proofs.Starts.StartNotes.{numbers_within_at_start}
-use Rattle.hotel_core.proofs.Starts.StartNotesOfFits.{notes_for_at_start, note_of_fit_found}
-use Rattle.hotel_core.proofs.Starts.StartRows.{notes_counted}
-use Rattle.hotel_core.proofs.Invariants.FitsKept.{fit_found}
+use Rattle.hotel_model.proofs.OfTables.TableKeys.{row_added}
+use Rattle.hotel_model.proofs.OfTables.Inserted.{found_inserted}
+use Rattle.hotel_model.proofs.OfTables.AtRoom.{there_at}
+use Rattle.hotel_model.proofs.OfTables.FitLists.{FitsFor, last_is_at}
+use Rattle.hotel_model.proofs.Starts.StartFits.{fits_said, fits_kept_at_start}
+use Rattle.hotel_model.proofs.Starts.StartNotes.{numbers_within_at_start}
+use Rattle.hotel_model.proofs.Starts.StartNotesOfFits.{notes_for_at_start, note_of_fit_found}
+use Rattle.hotel_model.proofs.Starts.StartRows.{notes_counted}
+use Rattle.hotel_model.proofs.Invariants.FitsKept.{fit_found}
 use Rattle.hotel_rows.proofs.OfJoined.{number_of_last}
 use Rattle.hotel_statements.specs.Statements.{Known}
 use Rattle.hotel_statements.specs.Steps.{is_below, is_up_to, counts_to, IsNextFit, IsNewRoom, IsRefit, IsNewNote}

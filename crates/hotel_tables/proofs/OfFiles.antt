@@ -14,9 +14,9 @@ use Rattle.sqlite.specs.Held.{Held, state}
 use Rattle.sqlite.specs.Opening.{is_open_error}
 use Rattle.sqlite.specs.Files.{file_state, IsClosed, FailsToClose}
 use Rattle.sqlite.specs.Closing.{IsCopied}
-use Rattle.hotel_core.specs.Model.Rows.{no_rows}
-use Rattle.hotel_core.specs.Model.Sound.{IsSound}
-use Rattle.hotel_core.proofs.OfTables.RowTests.{both}
+use Rattle.hotel_model.specs.Rows.{no_rows}
+use Rattle.hotel_model.specs.Sound.{IsSound}
+use Rattle.hotel_model.proofs.OfTables.RowTests.{both}
 use Rattle.hotel_tables.specs.declared.open_fault.OpenFault.{OpenFault}
 use Rattle.hotel_tables.specs.TableBooks.{Tabled}
 use Rattle.hotel_statements.specs.Schema.{no_schema, first_schema}

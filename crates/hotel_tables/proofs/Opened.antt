@@ -27,16 +27,16 @@ use Rattle.sqlite_keyed.proofs.ListLemmas.{all_unmap, ascending_weaker, ascendin
 use Rattle.keycard_rules.specs.declared.issued.LookFault.{LookFault}
 use Rattle.keycard_rules.specs.declared.issued.LookFault.TheVariants as look
 use Rattle.hotel_nights.specs.Block.{one_if}
-use Rattle.hotel_core.specs.declared.books.rows.RoomRow.{RoomRow}
-use Rattle.hotel_core.specs.declared.books.rows.FitRow.{FitRow}
-use Rattle.hotel_core.specs.Model.Words.{pair_cmp, said_of}
-use Rattle.hotel_core.specs.Model.Rows.{at_number}
-use Rattle.hotel_core.specs.Model.Sound.{keys_in_order}
-use Rattle.hotel_core.specs.Model.SoundRooms.{are_in_order}
-use Rattle.hotel_core.proofs.OfTables.Pairs.{pair_cmp_total}
-use Rattle.hotel_core.proofs.OfTables.RowTests.{both}
-use Rattle.hotel_core.proofs.OfTables.StayCounts.{count_first}
-use Rattle.hotel_core.proofs.OfTables.Tests.{and_true}
+use Rattle.hotel_model.specs.declared.rows.RoomRow.{RoomRow}
+use Rattle.hotel_model.specs.declared.rows.FitRow.{FitRow}
+use Rattle.hotel_model.specs.Words.{pair_cmp, said_of}
+use Rattle.hotel_model.specs.Rows.{at_number}
+use Rattle.hotel_model.specs.Sound.{keys_in_order}
+use Rattle.hotel_model.specs.SoundRooms.{are_in_order}
+use Rattle.hotel_model.proofs.OfTables.Pairs.{pair_cmp_total}
+use Rattle.hotel_model.proofs.OfTables.RowTests.{both}
+use Rattle.hotel_model.proofs.OfTables.StayCounts.{count_first}
+use Rattle.hotel_model.proofs.OfTables.Tests.{and_true}
 use Rattle.hotel_statements.specs.declared.plain_rows.PlainMeta.{PlainMeta}
 use Rattle.hotel_statements.specs.declared.plain_rows.NumberedInside.{NumberedInside}
 use Rattle.hotel_rows.specs.declared.stored.PlainKind.{PlainKind}

@@ -6,8 +6,8 @@ use Rattle.sqlite.specs.State.{State, HasCleanDisk}
 use Rattle.hotel_nights.specs.declared.stay.Stay.{Stay}
 use Rattle.hotel_nights.specs.FullNight.{is_full, first_day}
 use Rattle.hotel_core.specs.declared.books.walks.WalkFault.{WalkFault}
-use Rattle.hotel_core.specs.Model.Rows.{Rows}
-use Rattle.hotel_core.specs.Books.Lookups.{first_full_on, rooms_of_kind}
+use Rattle.hotel_model.specs.Rows.{Rows}
+use Rattle.hotel_model.specs.Refinement.Lookups.{first_full_on, rooms_of_kind}
 use Rattle.hotel_core.specs.Books.Walks.{Hands}
 use Rattle.hotel_core.specs.KindRooms.{rooms_in}
 use Rattle.hotel_core.specs.NightIndex.{CountsNights}

@@ -10,7 +10,7 @@ use Rattle.sqlite_pool.proofs.StateLemmas.{clean_is}
 use Rattle.sqlite.specs.Effect.{Database}
 use Rattle.sqlite.specs.Files.{file_state}
 use Rattle.sqlite.proofs.Callers.{finds_again}
-use Rattle.hotel_core.proofs.OfTables.RowTests.{both}
+use Rattle.hotel_model.proofs.OfTables.RowTests.{both}
 use Rattle.hotel_statements.specs.Schema.{desk_schema}
 use Rattle.hotel_statements.specs.Tables.{AreTables}
 use Rattle.hotel_tables.specs.Reopening.{FilesKeepBooks, FilesAreClean}

@@ -24,12 +24,12 @@ use Rattle.keycard_rules.specs.declared.note.Act.{Act}
 use Rattle.keycard_rules.specs.declared.note.Act.TheVariants.{Entered, Left, Recoded}
 use Rattle.hotel_nights.specs.declared.stay.StayState.{StayState}
 use Rattle.hotel_nights.specs.declared.stay.StayState.TheVariants.{Booked, InHouse, Done, Cancelled}
-use Rattle.hotel_core.specs.Model.Words.{pair_cmp}
-use Rattle.hotel_core.specs.Model.Stays.{room_of_state}
-use Rattle.hotel_core.specs.Model.Sound.{IsSound, keys_in_order}
-use Rattle.hotel_core.specs.Model.SoundRooms.{are_in_order}
-use Rattle.hotel_core.proofs.OfTables.Tests.{and_true}
-use Rattle.hotel_core.proofs.OfTables.RowTests.{both}
+use Rattle.hotel_model.specs.Words.{pair_cmp}
+use Rattle.hotel_model.specs.Stays.{room_of_state}
+use Rattle.hotel_model.specs.Sound.{IsSound, keys_in_order}
+use Rattle.hotel_model.specs.SoundRooms.{are_in_order}
+use Rattle.hotel_model.proofs.OfTables.Tests.{and_true}
+use Rattle.hotel_model.proofs.OfTables.RowTests.{both}
 use Rattle.hotel_rows.specs.declared.stored.PlainKind.{PlainKind}
 use Rattle.hotel_rows.specs.declared.stored.PlainRoom.{PlainRoom}
 use Rattle.hotel_rows.specs.declared.stored.PlainStay.{PlainStay}

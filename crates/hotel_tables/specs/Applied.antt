@@ -4,14 +4,14 @@ use Rattle.std.specs.Prelude.{if◌then◌else◌, nat_lt, option_map}
 use Rattle.sqlite.specs.Tree.{Trees}
 use Rattle.sqlite.specs.State.{State, HasCleanDisk, Survives}
 use Rattle.keycard_rules.specs.declared.issued.LookFault.{LookFault}
-use Rattle.hotel_core.specs.declared.books.rows.RoomRow.{RoomRow}
-use Rattle.hotel_core.specs.declared.books.rows.FitRow.{FitRow}
-use Rattle.hotel_core.specs.declared.books.change.Change.{Change}
-use Rattle.hotel_core.specs.declared.books.change.Change.TheVariants.{Kind, Room, Issue, Refit, Noted}
-use Rattle.hotel_core.specs.Model.Words.{said_of}
-use Rattle.hotel_core.specs.Books.Lookups.{room_at}
-use Rattle.hotel_core.specs.Books.Change.{made, codes_of}
-use Rattle.hotel_core.specs.Model.Rows.{Rows, has_kind, fit_at}
+use Rattle.hotel_model.specs.declared.rows.RoomRow.{RoomRow}
+use Rattle.hotel_model.specs.declared.rows.FitRow.{FitRow}
+use Rattle.hotel_model.specs.declared.change.Change.{Change}
+use Rattle.hotel_model.specs.declared.change.Change.TheVariants.{Kind, Room, Issue, Refit, Noted}
+use Rattle.hotel_model.specs.Words.{said_of}
+use Rattle.hotel_model.specs.Refinement.Lookups.{room_at}
+use Rattle.hotel_model.specs.Refinement.Change.{made, codes_of}
+use Rattle.hotel_model.specs.Rows.{Rows, has_kind, fit_at}
 use Rattle.hotel_statements.specs.Tables.{rows_in}
 use Rattle.hotel_statements.specs.Books.{IsBooks, IsKept}
 use Rattle.hotel_statements.specs.Steps.{IsMadeOf, IsNewRoom, IsRefit, IsNumbered}

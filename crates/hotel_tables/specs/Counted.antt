@@ -4,10 +4,10 @@ use Rattle.std.specs.Map.{keys_of}
 use Rattle.hotel_nights.specs.declared.stay.Stay.{Stay}
 use Rattle.hotel_nights.specs.Block.{one_if}
 use Rattle.hotel_nights.specs.FullNight.{takes}
-use Rattle.hotel_core.specs.declared.books.change.Change.{Change}
-use Rattle.hotel_core.specs.declared.books.change.Change.TheVariants.{Kind, Room, Reserved, Cancelled, CheckedOut}
-use Rattle.hotel_core.specs.Model.Rows.{Rows}
-use Rattle.hotel_core.specs.Books.Lookups.{stay_at}
+use Rattle.hotel_model.specs.declared.change.Change.{Change}
+use Rattle.hotel_model.specs.declared.change.Change.TheVariants.{Kind, Room, Reserved, Cancelled, CheckedOut}
+use Rattle.hotel_model.specs.Rows.{Rows}
+use Rattle.hotel_model.specs.Refinement.Lookups.{stay_at}
 use Rattle.hotel_core.specs.KindRooms.{is_there, rooms_in}
 use Rattle.hotel_core.specs.NightIndex.{counted}
 

@@ -16,8 +16,8 @@ use Rattle.sqlite.specs.Opening.{is_open_error}
 use Rattle.sqlite.specs.Files.{over_files, file_state, IsOpened, Finds, IsClosed, FailsToClose}
 use Rattle.sqlite.specs.Files.{IsCleanLeft, FailsToOpenFiles, LeavesFiles}
 use Rattle.sqlite.specs.Closing.{IsCopied}
-use Rattle.hotel_core.specs.Model.Rows.{no_rows}
-use Rattle.hotel_core.specs.Model.Sound.{IsSound}
+use Rattle.hotel_model.specs.Rows.{no_rows}
+use Rattle.hotel_model.specs.Sound.{IsSound}
 use Rattle.hotel_tables.specs.declared.open_fault.OpenFault.{OpenFault}
 use Rattle.hotel_tables.specs.declared.open_fault.OpenFault.TheVariants as fault
 use Rattle.hotel_tables.specs.declared.files.FileFault.{FileFault}

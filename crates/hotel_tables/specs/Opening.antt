@@ -13,8 +13,8 @@ use Rattle.sqlite.specs.Held.{Held}
 use Rattle.sqlite.specs.State.{State, HasCleanDisk, Survives}
 use Rattle.keycard_rules.specs.declared.issued.LookFault.{LookFault}
 use Rattle.keycard_rules.specs.declared.issued.LookFault.TheVariants as look
-use Rattle.hotel_core.specs.Model.Sound.{IsSound}
-use Rattle.hotel_core.specs.Model.SoundRooms.{are_in_order}
+use Rattle.hotel_model.specs.Sound.{IsSound}
+use Rattle.hotel_model.specs.SoundRooms.{are_in_order}
 use Rattle.hotel_rows.specs.declared.stored.Stored.{Stored}
 use Rattle.hotel_statements.specs.declared.plain_rows.PlainMeta.{PlainMeta}
 use Rattle.hotel_statements.specs.declared.plain_rows.NumberedInside.{NumberedInside}

@@ -8,7 +8,7 @@ use Rattle.sqlite.specs.Held.{Held}
 use Rattle.sqlite.specs.State.{HasCleanDisk, IsLive}
 use Rattle.sqlite.specs.Files.{file_state, IsOpened, Finds}
 use Rattle.sqlite.specs.Closing.{IsCopied}
-use Rattle.hotel_core.specs.Model.Sound.{IsSound}
+use Rattle.hotel_model.specs.Sound.{IsSound}
 use Rattle.hotel_rows.specs.declared.stored.Stored.{Stored}
 use Rattle.hotel_statements.specs.Books.{IsKept, IsBooks}
 use Rattle.hotel_statements.specs.declared.version.Version.{Version}

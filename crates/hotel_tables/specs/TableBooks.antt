@@ -6,9 +6,9 @@ use Rattle.sqlite.specs.Held.{Held, held_code}
 use Rattle.sqlite.specs.State.{State, HasCleanDisk}
 use Rattle.keycard_rules.specs.declared.issued.LookFault.{LookFault}
 use Rattle.keycard_rules.specs.declared.issued.LookFault.TheVariants.{Memory, Store}
-use Rattle.hotel_core.specs.Model.Rows.{Rows, has_kind}
-use Rattle.hotel_core.specs.Model.Sound.{IsSound}
-use Rattle.hotel_core.specs.Books.Lookups.{rooms_of_kind}
+use Rattle.hotel_model.specs.Rows.{Rows, has_kind}
+use Rattle.hotel_model.specs.Sound.{IsSound}
+use Rattle.hotel_model.specs.Refinement.Lookups.{rooms_of_kind}
 use Rattle.hotel_core.specs.NightIndex.{CountsNights}
 use Rattle.hotel_core.specs.KindRooms.{is_there, rooms_in}
 use Rattle.hotel_statements.specs.Tables.{rows_in}

@@ -2,10 +2,10 @@
 ghost use Rattle.std.specs.Prelude.{◌≡◌, true, option_map, OnOk, OnErr, IfOk, IfSome, IsSome, IsTrue};
 ghost use Rattle.sqlite.specs.Held.{state};
 ghost use Rattle.sqlite.specs.State.{HasCleanDisk, Survives};
-ghost use Rattle.hotel_core.specs.Books.Change.{made};
-ghost use Rattle.hotel_core.specs.Books.Fits.{Fits};
-ghost use Rattle.hotel_core.specs.Books.Lookups.{room_at};
-ghost use Rattle.hotel_core.specs.Model.Rows.{fit_at};
+ghost use Rattle.hotel_model.specs.Refinement.Change.{made};
+ghost use Rattle.hotel_model.specs.Refinement.Fits.{Fits};
+ghost use Rattle.hotel_model.specs.Refinement.Lookups.{room_at};
+ghost use Rattle.hotel_model.specs.Rows.{fit_at};
 ghost use Rattle.hotel_statements.specs.Tables.{rows_in};
 ghost use Rattle.hotel_statements.specs.Books.{IsBooks, IsKept};
 ghost use Rattle.hotel_statements.specs.Steps.{IsMadeOf};

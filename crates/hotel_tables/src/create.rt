@@ -2,7 +2,7 @@
 ghost use Rattle.std.specs.Prelude.{◌≡◌, ◌↔◌, IsTrue, OnOk, OnErr, IfOk, IfErr, Err, false};
 ghost use Rattle.sqlite.specs.Held.{state};
 ghost use Rattle.sqlite.specs.State.{HasCleanDisk, KeepsCommit, Survives};
-ghost use Rattle.hotel_core.specs.Model.Rows.{no_rows};
+ghost use Rattle.hotel_model.specs.Rows.{no_rows};
 ghost use Rattle.hotel_statements.specs.Schema.{no_schema};
 ghost use Rattle.hotel_statements.specs.Books.{IsKept, IsBooks};
 ghost use Rattle.hotel_statements.specs.NewDesk.{IfOpen, IsBare, IsMade, IsEmptyDesk};

@@ -3,7 +3,7 @@ ghost use Rattle.std.specs.Prelude.{◌≡◌, ◌↔◌, pos, None, true, map, 
 ghost use Rattle.std.specs.Ordering.{int_cmp, is_lt};
 ghost use Rattle.sqlite.specs.Held.{state};
 ghost use Rattle.sqlite.specs.Tree.{Trees};
-ghost use Rattle.hotel_core.specs.Model.SoundRooms.{are_in_order};
+ghost use Rattle.hotel_model.specs.SoundRooms.{are_in_order};
 ghost use Rattle.hotel_rows.specs.Counts.{IsCountedOf};
 ghost use Rattle.hotel_rows.specs.Damage.{first_damaged_of};
 ghost use Rattle.hotel_rows.specs.Keys.{room_key};

@@ -2,7 +2,7 @@
 use Rattle.std.proofs.Common.{ℕ, ◌≡◌, ◌+◌, Bool, true, false, List, [], ◌∷◌, ◌++◌, inl, inr, arith, refl, sym, append_assoc, append-nil, ap, ◌∙◌}
 use Rattle.hotel_core.proofs.Names.{false≢true, LookFault, Stream, HasRisen, HasRisenBy, NoFewer, Change, Reply, Refused, Refusal, Memory, Store, Rows, IsSound, start, Outcome, is_failed, AreWhole, GoesIf, Goes, StepsAs, failure_in, failures_in, times, AreCounted, refusal_of, Ghosts as BooksOf}
 use Rattle.keycard_rules.specs.declared.issued.LookFault.TheVariants as look
-use Rattle.hotel_core.proofs.{Starts.StartRows.rows_of_start, Lifted.Whole.rows_are_whole}
+use Rattle.hotel_model.proofs.{Starts.StartRows.rows_of_start, Lifted.Whole.rows_are_whole}
 use Rattle.keycard_rules.specs.declared.issued.Issued.{Ghosts as IssuedOf}
 
 -- sound rows are whole, since a desk can start with them

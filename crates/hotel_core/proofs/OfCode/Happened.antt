@@ -4,7 +4,8 @@ use Rattle.hotel_core.proofs.Names.{Stream, words, Command, Reply, Rows, History
 use Rattle.keycard_rules.proofs.Drawing.{past-zero}
 use Rattle.keycard_rules.specs.Draw.{MovedAtMost}
 use Rattle.keycard_rules.specs.declared.issued.Issued.{Ghosts as IssuedOf}
-use Rattle.hotel_core.proofs.{Lifted.Runs.steps_lift, Lifted.Runs.runs_join, Invariants.Assurance.assured, OfCode.FailuresCounted.failed_same}
+use Rattle.hotel_model.proofs.{Lifted.Runs.steps_lift, Lifted.Runs.runs_join, Invariants.Assurance.assured}
+use Rattle.hotel_core.proofs.OfCode.FailuresCounted.{failed_same}
 
 -- a step that didn't fail ended clean and went from the history; one that failed moved the source by no more than it may
 step_went : {S : Type 0} {I : IssuedOf S} {B : BooksOf S} {old new : S} (h : History) (s s' : Stream) (command : Command) (reply : Reply)

@@ -3,8 +3,9 @@ use Rattle.std.proofs.Common.{◌≡◌, Bool, true, false, not, List, [], ◌�
 use Rattle.std.specs.Prelude.{⊤}
 use Rattle.std.proofs.lemmas.Bool.{not-true}
 use Rattle.hotel_core.proofs.Names.{false≢true, Stream, NoFewer, AreCounted, failure_in, is_failed, Steps, Command, Reply, Refusal, Rows, History}
-use Rattle.hotel_core.proofs.{Invariants.Assurance.assured, OfCode.FailuresCounted.none_counted, OfCode.FailuresCounted.counted_join}
-use Rattle.hotel_core.specs.Model.Leads.{LeadsOn}
+use Rattle.hotel_model.proofs.Invariants.Assurance.{assured}
+use Rattle.hotel_core.proofs.{OfCode.FailuresCounted.none_counted, OfCode.FailuresCounted.counted_join}
+use Rattle.hotel_model.specs.Leads.{LeadsOn}
 use Rattle.hotel_core.specs.Books.Happens.{Happens, HappensBy, StepTold, Tells, has_answer, known_after}
 use Rattle.keycard_rules.specs.declared.issued.Issued.{Ghosts as IssuedOf}
 

@@ -15,7 +15,7 @@ use Rattle.std.proofs.lemmas.Slice.Eq.{bytes_eq-Decides}
 use Rattle.hotel_nights.specs.Block.{one_if}
 use Rattle.hotel_core.specs.KindRooms.{is_there, rooms_in}
 use Rattle.hotel_core.proofs.OfTables.MapEntries.{same_bool, known_by}
-use Rattle.hotel_core.proofs.OfTables.RowTests.{or_later}
+use Rattle.hotel_model.proofs.OfTables.RowTests.{or_later}
 use Rattle.hotel_core.proofs.OfNights.NightCounts.{taken_in, more_by}
 
 bytes_turned : (xs ys : List ℕ) → bytes_eq xs ys ≡ bytes_eq ys xs

@@ -1,7 +1,8 @@
 -- The index after a stay was added or changed its state.
 use Rattle.std.proofs.Common.{ℕ, ◌≡◌, ◌+◌, ◌-◌, ◌<◌, ◌^◌, Bool, true, false, cond, Option, Some, None, List, [], ◌∷◌, length, refl, ap, sym, ◌∙◌, subst, arith, nat_le, nat_lt, count_by, ◌==◌, ◌&&◌, bytes_eq, nat_cmp}
 use Rattle.hotel_core.proofs.Names.{insert_entry, values_of, length-map, count_by-le-length, Stay, StayState, one_if, takes, is_standing, nights_taken, said_of, at_number, in_state, now_is, counted, spans, CountsNightsOf}
-use Rattle.hotel_core.proofs.{OfTables.StayCounts.count_first, OfTables.StayCounts.count_inserted, OfTables.TableKeys.at_is, OfTables.RowsChanged.stay_absent}
+use Rattle.hotel_model.proofs.{OfTables.StayCounts.count_first, OfTables.StayCounts.count_inserted, OfTables.TableKeys.at_is}
+use Rattle.hotel_core.proofs.OfTables.RowsChanged.{stay_absent}
 
 -- a stay that stands takes the nights that it holds, and another none
 pub takes_by : (stay : Stay) (kind : List ℕ) (d : ℕ) → is_standing stay.state ≡ true → takes kind d stay ≡ spans stay.kind stay.arrive stay.depart kind d

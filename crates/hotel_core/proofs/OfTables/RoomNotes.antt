@@ -1,7 +1,8 @@
 -- The notes of a room, as a part of all notes in order.
 use Rattle.std.proofs.Common.{◌≤◌, ◌&&◌, Option, Some, None, ℕ, ◌≡◌, Bool, true, false, cond, List, [], ◌∷◌, map, refl, ap, sym, ◌∙◌, ◌==◌, ◌<◌, ◌^◌, not, is_le, is_lt, nat_cmp, arith, Ordering, Less, Equal, Greater}
 use Rattle.hotel_core.proofs.Names.{lookup, match_ordering, Included, is_at, insert_entry, entries_between, range_contains, ranks, MatchOrdering, remove_entry, Note, pair_cmp, when, notes_at, HaveCounts}
-use Rattle.hotel_core.proofs.{OfTables.Tests.not_higher, OfTables.CardsInside.part_by, OfTables.MapEntries.at_is, OfTables.MapEntries.pair_is}
+use Rattle.hotel_model.proofs.OfTables.Tests.{not_higher}
+use Rattle.hotel_core.proofs.{OfTables.CardsInside.part_by, OfTables.MapEntries.at_is, OfTables.MapEntries.pair_is}
 
 pub counts_removed : (es : List ((ℕ × ℕ) × Note)) (key : ℕ × ℕ) → HaveCounts es → HaveCounts (remove_entry (is_at (pair_cmp key)) es)
 counts_removed [] key h = tt

@@ -3,8 +3,9 @@ use Rattle.std.specs.Prelude.{◌≡◌, Bool, true, false, not, List, [], ◌�
 use Rattle.keycard_rules.specs.Rise.{NoFewer}
 use Rattle.keycard_rules.specs.declared.issued.Issued.{Ghosts as IssuedOf}
 use Rattle.rand_core.specs.Stream.{Stream}
-use Rattle.hotel_core.specs.{declared.command.Command.Command, declared.reply.Reply.Reply, declared.reply.Refusal.Refusal, Books.Failures.AreCounted, Books.Failures.failure_in}
-use Rattle.hotel_core.specs.{Model.History.History, Model.Leads.Leads, Model.Leads.LeadsOn, Model.Rows.Rows, Model.Run.Steps, Model.Run.is_failed}
+use Rattle.hotel_model.specs.{declared.command.Command.Command, declared.reply.Reply.Reply, declared.reply.Refusal.Refusal}
+use Rattle.hotel_core.specs.{Books.Failures.AreCounted, Books.Failures.failure_in}
+use Rattle.hotel_model.specs.{History.History, Leads.Leads, Leads.LeadsOn, Rows.Rows, Run.Steps, Run.is_failed}
 
 -- how the books answered, where this is the reply: they did, or memory or the store failed
 abbrev pub answered_by : Reply → List Bool

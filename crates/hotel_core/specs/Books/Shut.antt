@@ -1,8 +1,8 @@
 -- What books answer that were not clean as a call began, where nobody else wrote what they are kept in.
 use Rattle.std.specs.Prelude.{◌≡◌, Bool, true, false, Result, OnOk, IsErr}
 use Rattle.keycard_rules.specs.{declared.issued.LookFault.LookFault, declared.issued.Issued.Ghosts as IssuedOf}
-use Rattle.hotel_core.specs.declared.reply.Reply.{Reply}
-use Rattle.hotel_core.specs.Model.Run.{is_failed}
+use Rattle.hotel_model.specs.declared.reply.Reply.{Reply}
+use Rattle.hotel_model.specs.Run.{is_failed}
 use Rattle.hotel_core.specs.Books.Reads.{LooksUp}
 
 -- A call from the state old to new ended honest, and didn't begin clean.

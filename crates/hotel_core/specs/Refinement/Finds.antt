@@ -4,10 +4,11 @@ use Rattle.rand_core.specs.Stream.{Stream}
 use Rattle.keycard_rules.specs.{Draw.Draw, Draw.words, Draw.past, Draw.draw_from, Draw.MovedAtMost, Rise.HasRisen, Rise.NoFewer, declared.issued.LookFault.LookFault}
 use Rattle.keycard_rules.specs.{declared.draw.DrawFault.DrawFault, declared.issued.Issued.Ghosts as IssuedOf}
 use Rattle.keycard_rules.specs.declared.draw.DrawFault.TheVariants as draw
-use Rattle.hotel_core.specs.{declared.reply.Reply.Reply, declared.reply.Refusal.Refusal}
-use Rattle.hotel_core.specs.declared.reply.Reply.TheVariants as reply
-use Rattle.hotel_core.specs.{declared.reply.Refusal.TheVariants.Memory, declared.reply.Refusal.TheVariants.Store, declared.reply.Refusal.TheVariants.NoFreshCode, Model.Rows.Rows}
-use Rattle.hotel_core.specs.{Books.Lookups.codes_in, Books.Failures.refusal_of, Model.Run.is_failed, declared.books.Books.Ghosts as BooksOf}
+use Rattle.hotel_model.specs.{declared.reply.Reply.Reply, declared.reply.Refusal.Refusal}
+use Rattle.hotel_model.specs.declared.reply.Reply.TheVariants as reply
+use Rattle.hotel_model.specs.{declared.reply.Refusal.TheVariants.Memory, declared.reply.Refusal.TheVariants.Store, declared.reply.Refusal.TheVariants.NoFreshCode, Rows.Rows}
+use Rattle.hotel_model.specs.{Refinement.Lookups.codes_in, Run.is_failed}
+use Rattle.hotel_core.specs.{Books.Failures.refusal_of, declared.books.Books.Ghosts as BooksOf}
 
 -- what was looked up, with its fault as a refusal
 abbrev pub known : {A : Type 0} → Result A LookFault → Result A Refusal

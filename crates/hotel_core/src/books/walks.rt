@@ -1,10 +1,10 @@
 //! Walks over the rows of the lists, which are handed to a sink one after the other.
 ghost use Rattle.std.specs.Prelude.{◌≡◌, true, false, OnOk, OnErr};
-ghost use Rattle.hotel_core.specs.Refinement.ListsOnRows.{arrivals_on, in_house_on, chain_on, left_behind_on, audit_on};
+ghost use Rattle.hotel_model.specs.Refinement.ListsOnRows.{arrivals_on, in_house_on, chain_on, left_behind_on, audit_on};
 ghost use Rattle.hotel_core.specs.{Books.Walks.WalksOver, declared.books.walks.WalkFault.TheVariants.Memory, declared.books.walks.WalkFault.TheVariants.Stopped};
 
 use crate::books::Books;
-use crate::books::list_rows::{BehindRow, ChainRow, HouseRow};
+use hotel_model::{BehindRow, ChainRow, HouseRow};
 use hotel_nights::{Day, Stay};
 use keycard_rules::{LockNote, RoomNo};
 use std::alloc::AllocError;

@@ -2,16 +2,17 @@
 ghost use Rattle.std.specs.Prelude.{◌≡◌, ◌-◌, false, true, Option, Some};
 ghost use Rattle.rand_core.specs.Stream.{Stream};
 ghost use Rattle.keycard_rules.specs.Draw.{words};
-ghost use Rattle.hotel_core.specs.{Books.Lookups.first_full_on, Refinement.Finds.Finds, Refinement.Finds.AnyRows, Refinement.Finds.reply_of, Refinement.OnRows.outcome_on};
-ghost use Rattle.hotel_core.specs.{Model.Ranges.IsCommand, Refinement.StepOnRows.StepsAs, declared.reply.Refusal.TheVariants.Store};
-ghost use Rattle.hotel_core.specs.declared.command.Command.TheVariants as command;
+ghost use Rattle.hotel_model.specs.{Refinement.Lookups.first_full_on, Refinement.OnRows.outcome_on};
+ghost use Rattle.hotel_core.specs.{Refinement.Finds.Finds, Refinement.Finds.AnyRows, Refinement.Finds.reply_of};
+ghost use Rattle.hotel_model.specs.{Ranges.IsCommand, declared.reply.Refusal.TheVariants.Store};
+ghost use Rattle.hotel_core.specs.Refinement.StepOnRows.{StepsAs};
+ghost use Rattle.hotel_model.specs.declared.command.Command.TheVariants as command;
 
 use crate::books::Books;
-use crate::books::change::Change;
 use crate::commands::changes::make;
 use crate::commands::guest_moves::is_booked;
 use crate::commands::look_ups::{is_kind, known, next_party, stay_there, today};
-use crate::reply::{Refusal, Reply};
+use hotel_model::{Change, Refusal, Reply};
 use hotel_nights::{Day, Guest, KindCode, Nights, Stay, StayState};
 use keycard_rules::PartyNo;
 

@@ -1,14 +1,14 @@
 //! The end of a command: its change is made.
 ghost use Rattle.std.specs.Prelude.{◌≡◌, false};
 ghost use Rattle.rand_core.specs.Stream.{Stream};
-ghost use Rattle.hotel_core.specs.{Refinement.Answered.IsAnswered, Books.Fits.takes_memory, Refinement.Finds.reply_of, Model.Outcome.accepted, Model.Run.is_failed};
+ghost use Rattle.hotel_model.specs.{Refinement.Answered.IsAnswered, Refinement.Fits.takes_memory, Outcome.accepted, Run.is_failed};
+ghost use Rattle.hotel_core.specs.Refinement.Finds.{reply_of};
 ghost use Rattle.hotel_core.specs.Refinement.StepOnRows.{StepsAs};
 
 use crate::books::Books;
-use crate::books::change::Change;
 use crate::commands::look_ups::refusal_of;
 use crate::commands::ranges::known_reply;
-use crate::reply::{Refusal, Reply};
+use hotel_model::{Change, Refusal, Reply};
 
 /// Makes the change that comes of a command, and answers so where it was made.
 pub(crate) fn make<B: Books>(books: &mut B, change: Change, reply: Reply) -> Result<Reply, Refusal>

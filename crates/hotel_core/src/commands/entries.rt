@@ -3,19 +3,19 @@ ghost use Rattle.std.specs.Prelude.{◌≡◌, ◌+◌, true, false, is_some, So
 ghost use Rattle.rand_core.specs.Stream.{Stream};
 ghost use Rattle.keycard_rules.specs.Lock.{turn};
 ghost use Rattle.keycard_rules.specs.declared.note.Act.TheVariants as act;
-ghost use Rattle.hotel_core.specs.{Refinement.Answered.IsOutcome, Refinement.Finds.Finds, Refinement.Finds.AnyRows, Refinement.Finds.reply_of, Books.Lookups.inside_at};
-ghost use Rattle.hotel_core.specs.{Model.Guests.are_none, declared.reply.Refusal.TheVariants.Store};
-ghost use Rattle.hotel_core.specs.{Refinement.NotesOnRows.IsUntaken, Refinement.NotesOnRows.opened_on, Refinement.NotesOnRows.secured_by, Refinement.ChangeOf.comes};
-ghost use Rattle.hotel_core.specs.{Refinement.OnRows.told_on, Refinement.OnRows.has_link_on, Refinement.StepOnRows.StepsAs, Model.Words.is_one_of};
+ghost use Rattle.hotel_model.specs.{Refinement.Answered.IsOutcome, Refinement.Lookups.inside_at};
+ghost use Rattle.hotel_core.specs.{Refinement.Finds.Finds, Refinement.Finds.AnyRows, Refinement.Finds.reply_of};
+ghost use Rattle.hotel_model.specs.{Guests.are_none, declared.reply.Refusal.TheVariants.Store};
+ghost use Rattle.hotel_model.specs.{Refinement.NotesOnRows.IsUntaken, Refinement.NotesOnRows.opened_on, Refinement.NotesOnRows.secured_by, Refinement.ChangeOf.comes};
+ghost use Rattle.hotel_model.specs.{Refinement.OnRows.told_on, Refinement.OnRows.has_link_on, Words.is_one_of};
+ghost use Rattle.hotel_core.specs.Refinement.StepOnRows.{StepsAs};
 
 use crate::books::Books;
-use crate::books::change::{Change, InsideMove};
-use crate::books::rows::RoomRow;
 use crate::commands::changes::make;
 use crate::commands::lock_codes::{has_inside, is_inside, issued_place, same_link};
 use crate::commands::look_ups::card_there;
 use crate::commands::room_cards::code_in;
-use crate::reply::{Refusal, Reply};
+use hotel_model::{Change, InsideMove, Refusal, Reply, RoomRow};
 use keycard_rules::{CardNo, Code, Link, LockNote, RoomNo, turn};
 
 /// Whether a lock that holds a code opens to a card of the link.

@@ -2,15 +2,14 @@
 ghost use Rattle.std.specs.Prelude.{◌≡◌, false};
 ghost use Rattle.rand_core.specs.Stream.{Stream};
 ghost use Rattle.keycard_rules.specs.declared.note.Act.TheVariants as act;
-ghost use Rattle.hotel_core.specs.{Refinement.Answered.IsOutcome, Refinement.Finds.reply_of, Refinement.NotesOnRows.IsUntaken, Refinement.OnRows.told_on, Refinement.StepOnRows.StepsAs};
+ghost use Rattle.hotel_model.specs.{Refinement.Answered.IsOutcome, Refinement.NotesOnRows.IsUntaken, Refinement.OnRows.told_on};
+ghost use Rattle.hotel_core.specs.{Refinement.Finds.reply_of, Refinement.StepOnRows.StepsAs};
 
 use crate::books::Books;
-use crate::books::change::{Change, InsideMove};
-use crate::books::rows::RoomRow;
 use crate::commands::changes::make;
 use crate::commands::lock_codes::{is_inside, same_link};
 use crate::commands::look_ups::card_there;
-use crate::reply::{Refusal, Reply};
+use hotel_model::{Change, InsideMove, Refusal, Reply, RoomRow};
 use keycard_rules::{CardNo, Link, LockNote};
 
 /// Takes the next note of a room: a card left.

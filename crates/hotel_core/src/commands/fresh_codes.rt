@@ -3,7 +3,7 @@ ghost use Rattle.std.specs.Prelude.{◌≡◌};
 ghost use Rattle.hotel_core.specs.Refinement.Finds.{DrawsCode, drawn_or};
 
 use crate::books::Books;
-use crate::reply::Refusal;
+use hotel_model::Refusal;
 use keycard_rules::{Code, DrawFault, draw_fresh};
 use rand_core::Rng;
 

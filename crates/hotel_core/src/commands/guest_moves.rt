@@ -2,17 +2,16 @@
 ghost use Rattle.std.specs.Prelude.{◌≡◌, false, Option, Some, None, bytes_eq};
 ghost use Rattle.rand_core.specs.Stream.{Stream};
 ghost use Rattle.keycard_rules.specs.Draw.{words};
-ghost use Rattle.hotel_core.specs.{Model.Stays.is_booked_state, Model.Stays.room_of_state, Refinement.Finds.reply_of, Refinement.Finds.Passes};
-ghost use Rattle.hotel_core.specs.{Refinement.CardsOnRows.bars_to_check_in, Refinement.CardsOnRows.bars_to_transfer, Refinement.OnRows.outcome_on, Refinement.StepOnRows.StepsAs};
-ghost use Rattle.hotel_core.specs.declared.command.Command.TheVariants as command;
+ghost use Rattle.hotel_model.specs.{Stays.is_booked_state, Stays.room_of_state};
+ghost use Rattle.hotel_core.specs.{Refinement.Finds.reply_of, Refinement.Finds.Passes, Refinement.StepOnRows.StepsAs};
+ghost use Rattle.hotel_model.specs.{Refinement.CardsOnRows.bars_to_check_in, Refinement.CardsOnRows.bars_to_transfer, Refinement.OnRows.outcome_on};
+ghost use Rattle.hotel_model.specs.declared.command.Command.TheVariants as command;
 
 use crate::books::Books;
-use crate::books::change::Change;
-use crate::books::rows::RoomRow;
 use crate::commands::changes::make;
 use crate::commands::look_ups::{next_card, room_there, row_of, stay_there, today};
 use crate::commands::room_cards::{issue, last_link};
-use crate::reply::{Refusal, Reply};
+use hotel_model::{Change, Refusal, Reply, RoomRow};
 use hotel_nights::{Day, KindCode, Stay, StayState};
 use keycard_rules::{Card, PartyNo, RoomNo};
 use rand_core::Rng;

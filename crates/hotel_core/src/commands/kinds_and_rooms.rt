@@ -2,15 +2,15 @@
 ghost use Rattle.std.specs.Prelude.{false};
 ghost use Rattle.rand_core.specs.Stream.{Stream};
 ghost use Rattle.keycard_rules.specs.Draw.{words};
-ghost use Rattle.hotel_core.specs.{Refinement.Finds.reply_of, Refinement.OnRows.outcome_on, Model.Ranges.IsCommand, Refinement.StepOnRows.StepsAs};
-ghost use Rattle.hotel_core.specs.declared.command.Command.TheVariants as command;
+ghost use Rattle.hotel_core.specs.{Refinement.Finds.reply_of, Refinement.StepOnRows.StepsAs};
+ghost use Rattle.hotel_model.specs.{Refinement.OnRows.outcome_on, Ranges.IsCommand};
+ghost use Rattle.hotel_model.specs.declared.command.Command.TheVariants as command;
 
 use crate::books::Books;
-use crate::books::change::Change;
 use crate::commands::changes::make;
 use crate::commands::fresh_codes::fresh;
 use crate::commands::look_ups::{is_kind, room_if_there, today};
-use crate::reply::{Refusal, Reply};
+use hotel_model::{Change, Refusal, Reply};
 use hotel_nights::KindCode;
 use keycard_rules::RoomNo;
 use rand_core::Rng;

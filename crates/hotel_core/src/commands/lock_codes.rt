@@ -1,13 +1,12 @@
 //! What a note of a lock is compared with in the books.
 ghost use Rattle.std.specs.Prelude.{◌≡◌, ◌-◌, ◌==◌, ◌&&◌, nat_lt, Option, Some, None, IsSome, not};
 ghost use Rattle.hotel_core.specs.Refinement.Finds.{Finds, AnyRows};
-ghost use Rattle.hotel_core.specs.{Books.Lookups.room_at, Books.Lookups.code_place, Books.Lookups.inside_at, Books.Lookups.note_at, Model.Guests.are_none, Model.Cards.same_link};
-ghost use Rattle.hotel_core.specs.{Model.Words.is_one_of, declared.reply.Refusal.TheVariants.NotAwaited, declared.reply.Refusal.TheVariants.Store};
+ghost use Rattle.hotel_model.specs.{Refinement.Lookups.room_at, Refinement.Lookups.code_place, Refinement.Lookups.inside_at, Refinement.Lookups.note_at, Guests.are_none, Cards.same_link};
+ghost use Rattle.hotel_model.specs.{Words.is_one_of, declared.reply.Refusal.TheVariants.NotAwaited, declared.reply.Refusal.TheVariants.Store};
 
 use crate::books::Books;
-use crate::books::rows::{CodeRow, RoomRow};
 use crate::commands::look_ups::{known, there_or};
-use crate::reply::Refusal;
+use hotel_model::{CodeRow, Refusal, RoomRow};
 use keycard_rules::{CardNo, Code, Link, LockNote, RoomNo};
 
 /// How many notes of a room's present lock were taken.

@@ -1,13 +1,12 @@
 //! What commands find in the books, or the refusal where it isn't there.
 ghost use Rattle.std.specs.Prelude.{◌≡◌, Option, Some, None, false, Result, Ok, Err, IsSome, length};
-ghost use Rattle.hotel_core.specs.{Books.Lookups.room_at, Books.Lookups.stay_at, Books.Lookups.card_at, Books.Lookups.number_after, Model.Rows.has_kind};
+ghost use Rattle.hotel_model.specs.{Refinement.Lookups.room_at, Refinement.Lookups.stay_at, Refinement.Lookups.card_at, Refinement.Lookups.number_after, Rows.has_kind};
 ghost use Rattle.hotel_core.specs.Refinement.Finds.{Finds, AnyRows, has_failed, known, there_or};
 ghost use Rattle.hotel_core.specs.Books.Failures.{refusal_of};
-ghost use Rattle.hotel_core.specs.declared.reply.Refusal.TheVariants.{NotBegun, NoRoom, NoParty, NoCard, NumbersUsedUp, Store};
+ghost use Rattle.hotel_model.specs.declared.reply.Refusal.TheVariants.{NotBegun, NoRoom, NoParty, NoCard, NumbersUsedUp, Store};
 
 use crate::books::Books;
-use crate::books::rows::RoomRow;
-use crate::reply::Refusal;
+use hotel_model::{Refusal, RoomRow};
 use hotel_nights::{Day, KindCode, Stay};
 use keycard_rules::{Card, CardNo, LookFault, PartyNo, RoomNo};
 

@@ -2,19 +2,18 @@
 ghost use Rattle.std.specs.Prelude.{◌≡◌, false, None, nat_le};
 ghost use Rattle.rand_core.specs.Stream.{Stream};
 ghost use Rattle.keycard_rules.specs.Draw.{words};
-ghost use Rattle.hotel_core.specs.{Refinement.Answered.IsOutcome, Refinement.Finds.reply_of, Refinement.NotesOnRows.IsUntaken};
-ghost use Rattle.hotel_core.specs.{Model.Cards.same_link, Model.Notes.same_act, Model.Notes.same_note, Refinement.OnRows.outcome_on, Refinement.OnRows.reported_on};
-ghost use Rattle.hotel_core.specs.{Model.Ranges.IsCommand, Refinement.StepOnRows.StepsAs};
-ghost use Rattle.hotel_core.specs.declared.command.Command.TheVariants as command;
+ghost use Rattle.hotel_model.specs.{Refinement.Answered.IsOutcome, Refinement.NotesOnRows.IsUntaken, Ranges.IsCommand};
+ghost use Rattle.hotel_model.specs.{Cards.same_link, Notes.same_act, Notes.same_note, Refinement.OnRows.outcome_on, Refinement.OnRows.reported_on};
+ghost use Rattle.hotel_core.specs.{Refinement.StepOnRows.StepsAs, Refinement.Finds.reply_of};
+ghost use Rattle.hotel_model.specs.declared.command.Command.TheVariants as command;
 
 use crate::books::Books;
-use crate::books::rows::RoomRow;
 use crate::commands::entries::enter;
 use crate::commands::exits::leave;
 use crate::commands::lock_codes::{is_present, kept_note, notes_of_present};
 use crate::commands::look_ups::{room_there, today};
 use crate::commands::recodings::recode;
-use crate::reply::{Refusal, Reply};
+use hotel_model::{Refusal, Reply, RoomRow};
 use keycard_rules::{Act, LockNote};
 
 fn same_note(kept: &LockNote, note: &LockNote) -> bool

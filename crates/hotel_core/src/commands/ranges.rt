@@ -1,9 +1,8 @@
 //! The ranges of the values in commands and replies, as their types hold them.
-ghost use Rattle.hotel_core.specs.Model.Ranges.{IsCommand, IsReply};
-ghost use Rattle.hotel_core.specs.declared.command.Command.TheVariants as command;
+ghost use Rattle.hotel_model.specs.Ranges.{IsCommand, IsReply};
+ghost use Rattle.hotel_model.specs.declared.command.Command.TheVariants as command;
 
-use crate::command::Command;
-use crate::reply::Reply;
+use hotel_model::{Command, Reply};
 use keycard_rules::LockNote;
 
 /// Does nothing: a note's values are in their ranges.

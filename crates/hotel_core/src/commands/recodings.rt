@@ -2,15 +2,14 @@
 ghost use Rattle.std.specs.Prelude.{◌≡◌, ◌==◌, ◌&&◌, nat_lt, false};
 ghost use Rattle.rand_core.specs.Stream.{Stream};
 ghost use Rattle.keycard_rules.specs.declared.note.Act.TheVariants as act;
-ghost use Rattle.hotel_core.specs.{Refinement.Answered.IsOutcome, Refinement.Finds.reply_of, Refinement.NotesOnRows.IsUntaken, Refinement.OnRows.told_on, Refinement.StepOnRows.StepsAs};
+ghost use Rattle.hotel_model.specs.{Refinement.Answered.IsOutcome, Refinement.NotesOnRows.IsUntaken, Refinement.OnRows.told_on};
+ghost use Rattle.hotel_core.specs.{Refinement.Finds.reply_of, Refinement.StepOnRows.StepsAs};
 
 use crate::books::Books;
-use crate::books::change::{Change, InsideMove};
-use crate::books::rows::{CodeRow, RoomRow};
 use crate::commands::changes::make;
 use crate::commands::lock_codes::awaited_place;
 use crate::commands::room_cards::code_in;
-use crate::reply::{Refusal, Reply};
+use hotel_model::{Change, CodeRow, InsideMove, Refusal, Reply, RoomRow};
 use keycard_rules::{Code, LockNote, RoomNo};
 
 /// Whether a code that stands here comes after the one that the room's lock holds.

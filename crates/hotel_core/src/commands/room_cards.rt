@@ -1,17 +1,16 @@
 //! Cards of new codes.
 ghost use Rattle.std.specs.Prelude.{◌≡◌, ◌<◌, ◌-◌, ◌^◌, false, Option, Some, IsSome, OnOk};
 ghost use Rattle.keycard_rules.specs.Draw.{words};
-ghost use Rattle.hotel_core.specs.{Refinement.Answered.IsOutcome, Refinement.Finds.Finds, Refinement.Finds.reply_of};
-ghost use Rattle.hotel_core.specs.Refinement.CardsOnRows.{issued_on, HasCurrent, HasLink, last_link_on};
-ghost use Rattle.hotel_core.specs.{Books.Lookups.room_at, Books.Lookups.code_at, Refinement.StepOnRows.StepsAs, declared.reply.Refusal.TheVariants.Store};
+ghost use Rattle.hotel_model.specs.Refinement.Answered.{IsOutcome};
+ghost use Rattle.hotel_core.specs.{Refinement.Finds.Finds, Refinement.Finds.reply_of, Refinement.StepOnRows.StepsAs};
+ghost use Rattle.hotel_model.specs.Refinement.CardsOnRows.{issued_on, HasCurrent, HasLink, last_link_on};
+ghost use Rattle.hotel_model.specs.{Refinement.Lookups.room_at, Refinement.Lookups.code_at, declared.reply.Refusal.TheVariants.Store};
 
 use crate::books::Books;
-use crate::books::change::Change;
-use crate::books::rows::RoomRow;
 use crate::commands::changes::make;
 use crate::commands::fresh_codes::fresh;
 use crate::commands::look_ups::{next_card, row_of, there_or};
-use crate::reply::{Refusal, Reply};
+use hotel_model::{Change, Refusal, Reply, RoomRow};
 use keycard_rules::{Card, Code, Link, PartyNo, RoomNo};
 use rand_core::Rng;
 

@@ -2,7 +2,7 @@
 ghost use Rattle.std.specs.Prelude.{◌≡◌, ◌+◌, [], length, OnOk, OnErr};
 ghost use Rattle.std.specs.Ordering.{nat_cmp};
 ghost use Rattle.std.specs.BTreeMap.{insert_entry};
-ghost use Rattle.hotel_core.specs.Model.Rows.{at_number};
+ghost use Rattle.hotel_model.specs.Rows.{at_number};
 
 use keycard_rules::{Card, CardNo, Memory};
 use std::alloc::Global;

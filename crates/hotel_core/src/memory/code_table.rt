@@ -4,9 +4,9 @@ ghost use Rattle.std.specs.Ordering.{nat_cmp};
 ghost use Rattle.std.specs.BTreeMap.{is_at, insert_entry};
 ghost use Rattle.std.specs.Map.{remove_entry, keys_of};
 ghost use Rattle.keycard_rules.specs.Words.{is_one_of};
-ghost use Rattle.hotel_core.specs.{Model.Rows.at_number, Books.Lookups.first_code_at};
+ghost use Rattle.hotel_model.specs.{Rows.at_number, Refinement.Lookups.first_code_at};
 
-use crate::books::rows::CodeRow;
+use hotel_model::CodeRow;
 use keycard_rules::{Code, Memory, RoomNo};
 use std::alloc::Global;
 use std::collections::BTreeMap;
@@ -21,7 +21,8 @@ pub(crate) struct CodeTable {
 
 impl Model for CodeTable {
     ghost use Rattle.std.specs.Prelude.{ℕ, List};
-    ghost use Rattle.hotel_core.specs.{declared.books.rows.CodeRow.CodeRow, Memory.PlacesAgree};
+    ghost use Rattle.hotel_model.specs.{declared.rows.CodeRow.CodeRow};
+    ghost use Rattle.hotel_core.specs.{Memory.PlacesAgree};
 
     ghost Value = { List (ℕ × CodeRow) };
 

@@ -1,8 +1,8 @@
 //! The cards inside rooms, found by room.
 ghost use Rattle.std.specs.Prelude.{◌≡◌, ℕ, [], not, IfOk, OnOk, OnErr};
-ghost use Rattle.hotel_core.specs.{Model.Words.is_one_of, Model.Guests.those_in, Model.Guests.are_none, Model.Guests.those_elsewhere, Books.Change.moved};
+ghost use Rattle.hotel_model.specs.{Words.is_one_of, Guests.those_in, Guests.are_none, Guests.those_elsewhere, Refinement.Change.moved};
 
-use crate::books::change::InsideMove;
+use hotel_model::InsideMove;
 use keycard_rules::{CardNo, Memory, RoomNo};
 use std::alloc::{AllocError, Global};
 use std::collections::BTreeSet;

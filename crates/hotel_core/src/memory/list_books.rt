@@ -2,14 +2,13 @@
 ghost use Rattle.std.specs.Prelude.{◌≡◌, Err, IfSome, refl};
 ghost use Rattle.std.proofs.Common.{ap, ◌∙◌};
 ghost use Rattle.keycard_rules.specs.{Rise.HasRisen, Rise.NoFewer, Rise.of_memory, declared.issued.LookFault.TheVariants.Memory};
-ghost use Rattle.hotel_core.specs.{Model.Rows.no_rows, Books.Lookups.codes_in, Books.Walks.failure_of, declared.books.walks.WalkFault.TheVariants.Store};
+ghost use Rattle.hotel_model.specs.{Rows.no_rows, Refinement.Lookups.codes_in};
+ghost use Rattle.hotel_core.specs.{Books.Walks.failure_of, declared.books.walks.WalkFault.TheVariants.Store};
 
 use crate::books::Books;
-use crate::books::change::Change;
-use crate::books::list_rows::{BehindRow, ChainRow, HouseRow};
-use crate::books::rows::{CodeRow, FitRow, NextNumbers, RoomRow};
 use crate::books::walks::{Sink, WalkFault, Walks};
 use crate::memory::tables::Tables;
+use hotel_model::{BehindRow, ChainRow, Change, CodeRow, FitRow, HouseRow, NextNumbers, RoomRow};
 use hotel_nights::{Day, Guest, KindCode, Stay};
 use keycard_rules::{
     Card, CardNo, Code, Count, FitNo, Issued, LockNote, LookFault, PartyNo, RoomNo,
@@ -27,7 +26,8 @@ pub struct ListBooks {
 }
 
 impl Model for ListBooks {
-    ghost use Rattle.hotel_core.specs.{Memory.Listed, Model.Sound.IsSound};
+    ghost use Rattle.hotel_core.specs.{Memory.Listed};
+    ghost use Rattle.hotel_model.specs.{Sound.IsSound};
 
     ghost Value = { Listed };
 

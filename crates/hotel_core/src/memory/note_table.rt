@@ -2,7 +2,8 @@
 ghost use Rattle.std.specs.Prelude.{◌≡◌, ◌+◌, [], OnOk, OnErr, None};
 ghost use Rattle.std.specs.Map.{lookup, remove_entry};
 ghost use Rattle.std.specs.BTreeMap.{is_at, insert_entry};
-ghost use Rattle.hotel_core.specs.{Model.Words.pair_cmp, Model.Rows.notes_at, Books.Walks.Hands, Books.Walks.failure_of};
+ghost use Rattle.hotel_model.specs.{Words.pair_cmp, Rows.notes_at};
+ghost use Rattle.hotel_core.specs.{Books.Walks.Hands, Books.Walks.failure_of};
 
 use crate::books::walks::{Sink, WalkFault};
 use keycard_rules::{LockNote, Memory, RoomNo};

@@ -1,8 +1,8 @@
 //! Changes of rows that are there: they take no memory.
 ghost use Rattle.std.specs.Prelude.{◌≡◌, ℕ, ◌+◌, ◌-◌, ◌^◌, ◌<◌, Some, None, false};
-ghost use Rattle.hotel_core.specs.{Model.Words.said_of, Model.Rows.at_number, Books.Change.room_changed, Books.Change.without_party, Books.Change.freed_by, Model.Stays.in_state};
+ghost use Rattle.hotel_model.specs.{Words.said_of, Rows.at_number, Refinement.Change.room_changed, Refinement.Change.without_party, Refinement.Change.freed_by, Stays.in_state};
 
-use crate::books::rows::RoomRow;
+use hotel_model::RoomRow;
 use hotel_nights::{Stay, StayState};
 use keycard_rules::{FitNo, PartyNo, RoomNo};
 use std::collections::BTreeMap;

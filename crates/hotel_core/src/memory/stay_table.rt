@@ -5,7 +5,7 @@ ghost use Rattle.std.specs.BTreeMap.{insert_entry};
 ghost use Rattle.std.specs.Map.{values_of};
 ghost use Rattle.hotel_nights.specs.FullNight.{first_day, is_full, is_standing};
 ghost use Rattle.hotel_nights.specs.declared.stay.StayState.TheVariants as state;
-ghost use Rattle.hotel_core.specs.{Model.Words.said_of, Model.Rows.at_number, Model.Stays.in_state};
+ghost use Rattle.hotel_model.specs.{Words.said_of, Rows.at_number, Stays.in_state};
 
 use crate::memory::row_changes::set_state;
 use crate::night_index::NightIndex;

@@ -3,18 +3,17 @@
 //! New rows come first, since they may want memory; what was put in is taken out again where a later one finds none.
 //! Rows that are there are changed last, which takes no memory.
 ghost use Rattle.std.specs.Prelude.{◌≡◌, ℕ, ◌+◌, ◌-◌, ◌^◌, ◌<◌, length, Some, None, true, false, IsSome, OnOk, OnErr, IsOk};
-ghost use Rattle.hotel_core.specs.declared.books.change.Change.TheVariants as change;
-ghost use Rattle.hotel_core.specs.{Books.Lookups.room_at, Books.Lookups.code_place, Books.Lookups.stay_at, Books.Lookups.note_numbered, Books.Change.made, Books.Change.codes_of, Books.Change.before_in, Model.Rows.fit_at};
+ghost use Rattle.hotel_model.specs.declared.change.Change.TheVariants as change;
+ghost use Rattle.hotel_model.specs.{Refinement.Lookups.room_at, Refinement.Lookups.code_place, Refinement.Lookups.stay_at, Refinement.Lookups.note_numbered, Refinement.Change.made, Refinement.Change.codes_of, Refinement.Change.before_in, Rows.fit_at};
 ghost use Rattle.hotel_nights.specs.FullNight.{is_standing};
 ghost use Rattle.hotel_nights.specs.declared.stay.StayState.TheVariants as state;
-ghost use Rattle.hotel_core.specs.{Model.Words.said_of, Model.Rows.has_kind, Books.Fits.HasItsRows, Books.Fits.takes_memory};
+ghost use Rattle.hotel_model.specs.{Words.said_of, Rows.has_kind, Refinement.Fits.HasItsRows, Refinement.Fits.takes_memory};
 
-use crate::books::change::{Change, InsideMove};
-use crate::books::rows::{CodeRow, FitRow, RoomRow};
 use crate::memory::row_changes::{
     codes_issued, issue_at, leave, leave_any, note_at, notes_before, notes_taken, refit_at,
 };
 use crate::memory::tables::Tables;
+use hotel_model::{Change, CodeRow, FitRow, InsideMove, RoomRow};
 use hotel_nights::{Day, KindCode, Stay, StayState};
 use keycard_rules::{Card, Code, FitNo, LockNote, Memory, PartyNo, RoomNo};
 

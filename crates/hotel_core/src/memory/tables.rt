@@ -2,16 +2,16 @@
 ghost use Rattle.std.specs.Prelude.{◌≡◌, ◌-◌, ℕ, ◌^◌, ◌<◌, length, IfOk, not};
 ghost use Rattle.std.specs.Map.{keys_of};
 ghost use Rattle.keycard_rules.specs.Words.{is_one_of};
-ghost use Rattle.hotel_core.specs.{Model.Guests.are_none, Model.Rows.Rows, Model.Rows.no_rows, Model.Rows.at_number, Model.Rows.has_kind, Model.Rows.fit_at};
-ghost use Rattle.hotel_core.specs.Books.Lookups.{room_at, codes_in, code_place, code_at, stay_at, stays_of_kind, card_at, inside_at, note_at, rooms_of_kind, first_full_on, number_after};
+ghost use Rattle.hotel_model.specs.{Guests.are_none, Rows.Rows, Rows.no_rows, Rows.at_number, Rows.has_kind, Rows.fit_at};
+ghost use Rattle.hotel_model.specs.Refinement.Lookups.{room_at, codes_in, code_place, code_at, stay_at, stays_of_kind, card_at, inside_at, note_at, rooms_of_kind, first_full_on, number_after};
 
-use crate::books::rows::{CodeRow, FitRow, NextNumbers, RoomRow};
 use crate::kind_rooms::KindRooms;
 use crate::memory::card_table::CardTable;
 use crate::memory::code_table::CodeTable;
 use crate::memory::inside_table::InsideTable;
 use crate::memory::note_table::NoteTable;
 use crate::memory::stay_table::StayTable;
+use hotel_model::{CodeRow, FitRow, NextNumbers, RoomRow};
 use hotel_nights::{Day, KindCode, Stay};
 use keycard_rules::{Card, CardNo, Code, Count, FitNo, LockNote, Number, PartyNo, RoomNo};
 use std::alloc::{AllocError, Global};
@@ -34,7 +34,8 @@ pub(crate) struct Tables {
 }
 
 impl Model for Tables {
-    ghost use Rattle.hotel_core.specs.{Model.Rows.Rows, Memory.TablesAgree};
+    ghost use Rattle.hotel_model.specs.{Rows.Rows};
+    ghost use Rattle.hotel_core.specs.{Memory.TablesAgree};
     ghost use Rattle.std.specs.Map.{keys_of};
 
     ghost Value = { Rows };

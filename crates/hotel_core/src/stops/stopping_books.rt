@@ -2,13 +2,13 @@
 ghost use Rattle.std.specs.Prelude.{◌≡◌, IfErr, refl};
 ghost use Rattle.std.proofs.Common.{ap, ◌∙◌};
 ghost use Rattle.keycard_rules.specs.Rise.{HasRisen, NoFewer};
-ghost use Rattle.hotel_core.specs.{Stops.counts, Books.Lookups.codes_in};
+ghost use Rattle.hotel_core.specs.Stops.{counts};
+ghost use Rattle.hotel_model.specs.Refinement.Lookups.{codes_in};
 
 use crate::books::Books;
-use crate::books::change::Change;
-use crate::books::rows::{CodeRow, FitRow, NextNumbers, RoomRow};
 use crate::memory::list_books::ListBooks;
 use crate::stops::calls::Calls;
+use hotel_model::{Change, CodeRow, FitRow, NextNumbers, RoomRow};
 use hotel_nights::{Day, Guest, KindCode, Stay};
 use keycard_rules::{
     Card, CardNo, Code, Count, FitNo, Issued, LockNote, LookFault, PartyNo, RoomNo,

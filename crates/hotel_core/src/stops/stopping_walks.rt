@@ -3,10 +3,10 @@ ghost use Rattle.std.specs.Prelude.{◌≡◌, Err, IfSome, Some};
 ghost use Rattle.keycard_rules.specs.Rise.{HasRisen, NoFewer};
 ghost use Rattle.hotel_core.specs.{Books.Walks.failure_of, Stops.EndsAs, Stops.counts};
 
-use crate::books::list_rows::{BehindRow, ChainRow, HouseRow};
 use crate::books::walks::{Sink, Stop, WalkFault, Walks};
 use crate::stops::calls::Calls;
 use crate::stops::stopping_books::StoppingBooks;
+use hotel_model::{BehindRow, ChainRow, HouseRow};
 use hotel_nights::{Day, Stay};
 use keycard_rules::{LockNote, LookFault, RoomNo};
 

@@ -6,19 +6,19 @@ use Rattle.rand_core.specs.Stream.{Stream}
 use Rattle.keycard_rules.specs.Rise.{NoFewer}
 use Rattle.keycard_rules.specs.declared.issued.Issued.{Ghosts as IssuedOf}
 use Rattle.hotel_core.proofs.Names.{false≢true}
-use Rattle.hotel_core.proofs.Invariants.Assurance.{assured}
+use Rattle.hotel_model.proofs.Invariants.Assurance.{assured}
 use Rattle.hotel_core.proofs.OfCode.FailuresCounted.{none_counted}
 use Rattle.hotel_core.proofs.OfCode.Happens.{so_by, tells_none, tells_once}
 use Rattle.hotel_core.specs.Books.Failures.{AreCounted, failure_in}
 use Rattle.hotel_core.specs.Books.Happens.{HappensBy, Tells}
-use Rattle.hotel_core.specs.declared.command.Command.{Command}
-use Rattle.hotel_core.specs.declared.reply.Reply.{Reply}
-use Rattle.hotel_core.specs.declared.reply.Refusal.{Refusal}
-use Rattle.hotel_core.specs.declared.reply.Refusal.TheVariants as refusal
-use Rattle.hotel_core.specs.Model.History.{History}
-use Rattle.hotel_core.specs.Model.Leads.{LeadsOn}
-use Rattle.hotel_core.specs.Model.Rows.{Rows}
-use Rattle.hotel_core.specs.Model.Run.{Steps, is_failed}
+use Rattle.hotel_model.specs.declared.command.Command.{Command}
+use Rattle.hotel_model.specs.declared.reply.Reply.{Reply}
+use Rattle.hotel_model.specs.declared.reply.Refusal.{Refusal}
+use Rattle.hotel_model.specs.declared.reply.Refusal.TheVariants as refusal
+use Rattle.hotel_model.specs.History.{History}
+use Rattle.hotel_model.specs.Leads.{LeadsOn}
+use Rattle.hotel_model.specs.Rows.{Rows}
+use Rattle.hotel_model.specs.Run.{Steps, is_failed}
 use Rattle.hotel_core.specs.Texts.{reply_text}
 use Rattle.hotel_lists.specs.{Bytes.AppendsFront, declared.calls.WriteFailed.WriteFailed, Listings.Listing}
 use Rattle.hotel_asks.specs.Asks.{copies, ask_copies}

@@ -7,12 +7,12 @@ use Rattle.std.proofs.KnownBytes.{Appends-trans}
 use Rattle.keycard_rules.specs.declared.issued.LookFault.TheVariants as look
 use Rattle.keycard_rules.specs.declared.issued.LookFault.{LookFault}
 use Rattle.keycard_rules.specs.Rise.{NoFewer}
-use Rattle.hotel_core.specs.declared.reply.Reply.TheVariants.{Refused}
-use Rattle.hotel_core.specs.declared.reply.Refusal.{Refusal}
-use Rattle.hotel_core.specs.declared.reply.Refusal.TheVariants as refusal
-use Rattle.hotel_core.specs.Model.Run.{is_failed}
+use Rattle.hotel_model.specs.declared.reply.Reply.TheVariants.{Refused}
+use Rattle.hotel_model.specs.declared.reply.Refusal.{Refusal}
+use Rattle.hotel_model.specs.declared.reply.Refusal.TheVariants as refusal
+use Rattle.hotel_model.specs.Run.{is_failed}
 use Rattle.hotel_core.proofs.Names.{false≢true}
-use Rattle.hotel_core.specs.declared.reply.Reply.{Reply}
+use Rattle.hotel_model.specs.declared.reply.Reply.{Reply}
 use Rattle.hotel_core.specs.Texts.{reply_text}
 use Rattle.hotel_core.specs.Books.Failures.{AreCounted}
 use Rattle.hotel_core.proofs.OfCode.FailuresCounted.{none_counted, one_counted}

@@ -1,10 +1,10 @@
 -- A script as a run of its commands.
 use Rattle.std.proofs.Common.{◌≡◌, ℕ, true, List, [], ◌∷◌, ◌++◌, map, refl, sym, ap, subst, ◌∙◌, append_assoc, Option, Some, None}
 use Rattle.rand_core.specs.Stream.{Stream}
-use Rattle.hotel_core.specs.declared.reply.Reply.{Reply}
-use Rattle.hotel_core.specs.declared.reply.Refusal.{Refusal}
-use Rattle.hotel_core.specs.Model.History.{History}
-use Rattle.hotel_core.specs.Model.Run.{Runs}
+use Rattle.hotel_model.specs.declared.reply.Reply.{Reply}
+use Rattle.hotel_model.specs.declared.reply.Refusal.{Refusal}
+use Rattle.hotel_model.specs.History.{History}
+use Rattle.hotel_model.specs.Run.{Runs}
 use Rattle.hotel_asks.specs.Asks.{copies}
 use Rattle.hotel_program.specs.Script.Copies.{counted_in}
 use Rattle.hotel_program.specs.Script.Asks.{ask_in}

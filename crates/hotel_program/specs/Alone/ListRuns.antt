@@ -1,9 +1,9 @@
 -- What a list that is asked for alone comes to.
 use Rattle.std.specs.Prelude.{ℕ, List, Option, Result, Ok, Err}
-use Rattle.hotel_core.specs.declared.reply.Refusal.TheVariants as refusal
-use Rattle.hotel_core.specs.Model.Rows.{Rows}
-use Rattle.hotel_core.specs.Model.History.{History}
-use Rattle.hotel_core.specs.Model.Run.{StandsFor}
+use Rattle.hotel_model.specs.declared.reply.Refusal.TheVariants as refusal
+use Rattle.hotel_model.specs.Rows.{Rows}
+use Rattle.hotel_model.specs.History.{History}
+use Rattle.hotel_model.specs.Run.{StandsFor}
 use Rattle.hotel_lists.specs.declared.fault.ListFault.{ListFault}
 use Rattle.hotel_lists.specs.declared.fault.ListFault.TheVariants as fault
 use Rattle.hotel_asks.specs.declared.lists.ListAsk.{ListAsk}

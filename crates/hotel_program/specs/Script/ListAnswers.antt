@@ -1,9 +1,9 @@
 -- The answer to a line that asks for a list.
 use Rattle.std.specs.Prelude.{◌≡◌, ◌⊎◌, ℕ, ◌-◌, Bool, true, ◌||◌, List, [], ◌++◌, length, drop, bytes_eq, Option, Some, None}
-use Rattle.hotel_core.specs.declared.reply.Reply.TheVariants.{Refused}
-use Rattle.hotel_core.specs.declared.reply.Refusal.{Refusal}
-use Rattle.hotel_core.specs.declared.reply.Refusal.TheVariants as refusal
-use Rattle.hotel_core.specs.Model.Run.{is_failed}
+use Rattle.hotel_model.specs.declared.reply.Reply.TheVariants.{Refused}
+use Rattle.hotel_model.specs.declared.reply.Refusal.{Refusal}
+use Rattle.hotel_model.specs.declared.reply.Refusal.TheVariants as refusal
+use Rattle.hotel_model.specs.Run.{is_failed}
 use Rattle.hotel_program.specs.Script.Copies.{counted_in}
 use Rattle.hotel_core.specs.Texts.{reply_text}
 use Rattle.hotel_lists.specs.declared.fault.ListFault.{ListFault}

@@ -1,7 +1,7 @@
 //! One command that is carried out alone: its reply on one writer, and what went wrong on another.
 
 ghost use Rattle.std.specs.Prelude.{◌≡◌, ◌≢◌, ℕ, Bool, true, IsErrOf, Result};
-ghost use Rattle.hotel_core.specs.declared.reply.Reply.{Reply};
+ghost use Rattle.hotel_model.specs.declared.reply.Reply.{Reply};
 ghost use Rattle.hotel_lists.specs.Calls.{NoneForgotten};
 ghost use Rattle.hotel_program.specs.Alone.CommandRuns.{command_end, CommandEnds, WritesReply};
 ghost use Rattle.hotel_program.specs.Faults.{end_status, Tells};

@@ -12,15 +12,15 @@ use Rattle.keycard_rules.specs.declared.issued.LookFault.{LookFault}
 use Rattle.keycard_rules.specs.declared.issued.LookFault.TheVariants.{Memory, Store}
 use Rattle.hotel_nights.specs.Guests.{is_guest}
 use Rattle.hotel_nights.specs.Kinds.{is_kind}
-use Rattle.hotel_core.specs.Model.Words.{is_that, said_of}
-use Rattle.hotel_core.specs.Model.Rows.{Rows, at_number, has_kind}
-use Rattle.hotel_core.specs.Model.Stays.{room_of_state}
-use Rattle.hotel_core.specs.Model.SoundRooms.{are_in_order, count_up, is_day, kinds_read, room_numbers}
-use Rattle.hotel_core.specs.Model.SoundStays.{has_party}
+use Rattle.hotel_model.specs.Words.{is_that, said_of}
+use Rattle.hotel_model.specs.Rows.{Rows, at_number, has_kind}
+use Rattle.hotel_model.specs.Stays.{room_of_state}
+use Rattle.hotel_model.specs.SoundRooms.{are_in_order, count_up, is_day, kinds_read, room_numbers}
+use Rattle.hotel_model.specs.SoundStays.{has_party}
 use Rattle.hotel_core.specs.KindRooms.{is_there, rooms_in}
-use Rattle.hotel_core.specs.declared.books.rows.RoomRow.{RoomRow}
-use Rattle.hotel_core.proofs.OfTables.Tests.{and_true, either_way, not_both, eq_from, le_tested}
-use Rattle.hotel_core.proofs.OfTables.RowTests.{both, all_weaker, all_mapped, found_passes}
+use Rattle.hotel_model.specs.declared.rows.RoomRow.{RoomRow}
+use Rattle.hotel_model.proofs.OfTables.Tests.{and_true, either_way, not_both, eq_from, le_tested}
+use Rattle.hotel_model.proofs.OfTables.RowTests.{both, all_weaker, all_mapped, found_passes}
 use Rattle.hotel_rows.specs.declared.stored.PlainKind.{PlainKind}
 use Rattle.hotel_rows.specs.declared.stored.PlainRoom.{PlainRoom}
 use Rattle.hotel_rows.specs.declared.stored.PlainStay.{PlainStay}

@@ -4,17 +4,17 @@ use Rattle.std.specs.Prelude.{nat_le, is_some, not, ◌||◌, option_map}
 use Rattle.std.specs.List.{list_all, list_any}
 use Rattle.keycard_rules.specs.declared.card.Card.{Card}
 use Rattle.hotel_nights.specs.declared.stay.Stay.{Stay}
-use Rattle.hotel_core.specs.declared.books.rows.RoomRow.{RoomRow}
-use Rattle.hotel_core.specs.declared.books.rows.CodeRow.{CodeRow}
-use Rattle.hotel_core.specs.Model.Words.{said_of}
-use Rattle.hotel_core.specs.Model.Rows.{at_number, begins_fit}
-use Rattle.hotel_core.specs.Model.Stays.{room_of_state}
-use Rattle.hotel_core.specs.Model.Cards.{same_link}
-use Rattle.hotel_core.specs.Model.SoundRooms.{are_in_order, count_up}
-use Rattle.hotel_core.specs.Model.SoundCards.{card_parties_there, links_are_neighbours, links_of_one_party}
-use Rattle.hotel_core.specs.Model.SoundCards.{neighbours_are_links, fits_without_links, newest_of_party}
-use Rattle.hotel_core.specs.Model.SoundCards.{last_cards_newest, code_is, stands_at, is_newest, owns_newest, has_newest}
-use Rattle.hotel_core.proofs.OfTables.RowTests.{all_mapped}
+use Rattle.hotel_model.specs.declared.rows.RoomRow.{RoomRow}
+use Rattle.hotel_model.specs.declared.rows.CodeRow.{CodeRow}
+use Rattle.hotel_model.specs.Words.{said_of}
+use Rattle.hotel_model.specs.Rows.{at_number, begins_fit}
+use Rattle.hotel_model.specs.Stays.{room_of_state}
+use Rattle.hotel_model.specs.Cards.{same_link}
+use Rattle.hotel_model.specs.SoundRooms.{are_in_order, count_up}
+use Rattle.hotel_model.specs.SoundCards.{card_parties_there, links_are_neighbours, links_of_one_party}
+use Rattle.hotel_model.specs.SoundCards.{neighbours_are_links, fits_without_links, newest_of_party}
+use Rattle.hotel_model.specs.SoundCards.{last_cards_newest, code_is, stands_at, is_newest, owns_newest, has_newest}
+use Rattle.hotel_model.proofs.OfTables.RowTests.{all_mapped}
 use Rattle.hotel_rows.specs.declared.stored.Stored.{Stored}
 use Rattle.hotel_rows.specs.Stored.{number_of, fits_of, rows_of, card_entry, card_row, link_row, code_entry, stay_entry}
 use Rattle.hotel_rows.specs.Keys.{are_numbered, card_key}

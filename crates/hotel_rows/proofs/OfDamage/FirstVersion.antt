@@ -5,15 +5,15 @@ use Rattle.std.specs.Prelude.{Vec}
 use Rattle.std.specs.declared.alloc.Global.{Global}
 use Rattle.std.specs.List.{list_all}
 use Rattle.std.proofs.lemmas.Bool.Decides.{nat_tests}
-use Rattle.hotel_core.specs.declared.books.rows.RoomRow.{RoomRow}
-use Rattle.hotel_core.specs.declared.books.rows.FitRow.{FitRow}
-use Rattle.hotel_core.specs.Model.Words.{when, said_of}
-use Rattle.hotel_core.specs.Model.Rows.{fits_at}
-use Rattle.hotel_core.specs.Model.Sound.{IsSound}
-use Rattle.hotel_core.specs.Model.SoundRooms.{count_up, note_counts}
-use Rattle.hotel_core.specs.Model.SoundFits.{notes_before_each, rise_by_few}
-use Rattle.hotel_core.proofs.OfTables.Tests.{and_true, eq_from, le_tested}
-use Rattle.hotel_core.proofs.OfTables.RowTests.{both, all_weaker}
+use Rattle.hotel_model.specs.declared.rows.RoomRow.{RoomRow}
+use Rattle.hotel_model.specs.declared.rows.FitRow.{FitRow}
+use Rattle.hotel_model.specs.Words.{when, said_of}
+use Rattle.hotel_model.specs.Rows.{fits_at}
+use Rattle.hotel_model.specs.Sound.{IsSound}
+use Rattle.hotel_model.specs.SoundRooms.{count_up, note_counts}
+use Rattle.hotel_model.specs.SoundFits.{notes_before_each, rise_by_few}
+use Rattle.hotel_model.proofs.OfTables.Tests.{and_true, eq_from, le_tested}
+use Rattle.hotel_model.proofs.OfTables.RowTests.{both, all_weaker}
 use Rattle.hotel_rows.specs.declared.stored.PlainFit.{PlainFit}
 use Rattle.hotel_rows.specs.declared.stored.PlainRoom.{PlainRoom}
 use Rattle.hotel_rows.specs.declared.stored.Stored.{Stored}

@@ -6,17 +6,17 @@ use Rattle.std.specs.List.{list_all}
 use Rattle.std.specs.Ordering.{is_lt}
 use Rattle.std.specs.Map.{keys_of}
 use Rattle.std.proofs.lemmas.Bool.Decides.{nat_tests}
-use Rattle.hotel_core.specs.declared.books.rows.RoomRow.{RoomRow}
-use Rattle.hotel_core.specs.declared.books.rows.FitRow.{FitRow}
-use Rattle.hotel_core.specs.Model.Words.{said_of, pair_cmp}
-use Rattle.hotel_core.specs.Model.Rows.{at_number, fits_at, last_fit}
-use Rattle.hotel_core.specs.Model.SoundRooms.{are_in_order, count_up}
-use Rattle.hotel_core.specs.Model.SoundFits.{fit_rooms_there, fit_numbers, first_fits, first_is_first, fit_places_rise}
-use Rattle.hotel_core.specs.Model.SoundFits.{none_fall, notes_before_each, fit_notes_rise, last_fits_held}
-use Rattle.hotel_core.specs.Model.SoundFits.{last_fits_noted, rise_by_few, fit_notes_few}
-use Rattle.hotel_core.proofs.OfTables.Tests.{and_true, eq_from, eq_self}
+use Rattle.hotel_model.specs.declared.rows.RoomRow.{RoomRow}
+use Rattle.hotel_model.specs.declared.rows.FitRow.{FitRow}
+use Rattle.hotel_model.specs.Words.{said_of, pair_cmp}
+use Rattle.hotel_model.specs.Rows.{at_number, fits_at, last_fit}
+use Rattle.hotel_model.specs.SoundRooms.{are_in_order, count_up}
+use Rattle.hotel_model.specs.SoundFits.{fit_rooms_there, fit_numbers, first_fits, first_is_first, fit_places_rise}
+use Rattle.hotel_model.specs.SoundFits.{none_fall, notes_before_each, fit_notes_rise, last_fits_held}
+use Rattle.hotel_model.specs.SoundFits.{last_fits_noted, rise_by_few, fit_notes_few}
+use Rattle.hotel_model.proofs.OfTables.Tests.{and_true, eq_from, eq_self}
 use Rattle.hotel_core.proofs.OfTables.MapEntries.{same_bool}
-use Rattle.hotel_core.proofs.OfTables.RowTests.{both, all_mapped}
+use Rattle.hotel_model.proofs.OfTables.RowTests.{both, all_mapped}
 use Rattle.hotel_rows.specs.declared.damage.fit_runs.FitRun.{FitRun}
 use Rattle.hotel_rows.specs.declared.stored.PlainFit.{PlainFit}
 use Rattle.hotel_rows.specs.declared.stored.PlainRoom.{PlainRoom}

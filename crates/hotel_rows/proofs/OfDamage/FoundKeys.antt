@@ -4,8 +4,8 @@ use Rattle.std.specs.Prelude.{option_map, is_some}
 use Rattle.std.specs.Ordering.{nat_cmp}
 use Rattle.std.specs.BTreeMap.{insert_entry}
 use Rattle.std.specs.List.{list_all}
-use Rattle.hotel_core.specs.Model.Rows.{at_number}
-use Rattle.hotel_core.proofs.OfTables.Numbered.{at_inserted}
+use Rattle.hotel_model.specs.Rows.{at_number}
+use Rattle.hotel_model.proofs.OfTables.Numbered.{at_inserted}
 use Rattle.hotel_core.proofs.OfTables.MapEntries.{at_is, eq_from}
 use Rattle.hotel_rows.specs.Keys.{place_in, Finds}
 

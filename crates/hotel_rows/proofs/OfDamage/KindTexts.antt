@@ -9,7 +9,7 @@ use Rattle.std.proofs.lemmas.Map.Text.{is_eq-slice_cmp}
 use Rattle.std.proofs.lemmas.Slice.Eq.{bytes_eq-Decides}
 use Rattle.std.proofs.lemmas.List.{length-drop}
 use Rattle.hotel_nights.specs.Kinds.{is_kind, read_kind}
-use Rattle.hotel_core.specs.Model.SoundRooms.{are_in_order}
+use Rattle.hotel_model.specs.SoundRooms.{are_in_order}
 use Rattle.hotel_rows.specs.RowTests.{KnowsKinds}
 use Rattle.hotel_rows.proofs.OfDamage.Rising.{short_in_order}
 

@@ -2,14 +2,14 @@
 use Rattle.std.proofs.Common.{◌≡◌, ℕ, suc, ◌+◌, ◌<◌, ◌≤◌, Bool, true, false, cond, ◌==◌, ◌&&◌, List, [], ◌∷◌, length, Some, None, refl, sym, ap, ◌∙◌, arith}
 use Rattle.std.specs.Map.{keys_of, values_of}
 use Rattle.keycard_rules.specs.declared.card.Link.{Link}
-use Rattle.hotel_core.specs.Model.Words.{said_of, is_that}
-use Rattle.hotel_core.specs.Model.Rows.{at_number, last_link_of}
-use Rattle.hotel_core.specs.Model.Cards.{same_link}
-use Rattle.hotel_core.specs.Model.SoundRooms.{count_up}
+use Rattle.hotel_model.specs.Words.{said_of, is_that}
+use Rattle.hotel_model.specs.Rows.{at_number, last_link_of}
+use Rattle.hotel_model.specs.Cards.{same_link}
+use Rattle.hotel_model.specs.SoundRooms.{count_up}
 use Rattle.hotel_core.proofs.OfTables.MapEntries.{at_is, eq_from}
 use Rattle.hotel_rows.specs.Lasts.{link_of_both}
-use Rattle.hotel_core.proofs.OfTables.Numbered.{apart_by}
-use Rattle.hotel_core.proofs.SoundRows.SoundRoomRows.{eq_tested}
+use Rattle.hotel_model.proofs.OfTables.Numbered.{apart_by}
+use Rattle.hotel_model.proofs.SoundRows.SoundRoomRows.{eq_tested}
 
 both_parts : (a b : Bool) → (a && b) ≡ true → (a ≡ true) × (b ≡ true)
 both_parts true b h = (refl, h)

@@ -4,12 +4,12 @@ use Rattle.std.specs.Prelude.{is_some, nat_le}
 use Rattle.std.specs.List.{list_all}
 use Rattle.std.specs.Map.{keys_of}
 use Rattle.keycard_rules.specs.Note.{Note}
-use Rattle.hotel_core.specs.declared.books.rows.RoomRow.{RoomRow}
-use Rattle.hotel_core.specs.Model.Words.{when, last_of, said_of, pair_cmp}
-use Rattle.hotel_core.specs.Model.Rows.{at_number}
-use Rattle.hotel_core.specs.Model.SoundRooms.{are_in_order, count_up, is_day}
-use Rattle.hotel_core.specs.Model.SoundNotes.{numbers_at, notes_counted, notes_fit, note_fits, act_fits}
-use Rattle.hotel_core.proofs.OfTables.RowTests.{all_mapped}
+use Rattle.hotel_model.specs.declared.rows.RoomRow.{RoomRow}
+use Rattle.hotel_model.specs.Words.{when, last_of, said_of, pair_cmp}
+use Rattle.hotel_model.specs.Rows.{at_number}
+use Rattle.hotel_model.specs.SoundRooms.{are_in_order, count_up, is_day}
+use Rattle.hotel_model.specs.SoundNotes.{numbers_at, notes_counted, notes_fit, note_fits, act_fits}
+use Rattle.hotel_model.proofs.OfTables.RowTests.{all_mapped}
 use Rattle.hotel_core.proofs.OfTables.MapEntries.{eq_from, eq_self, eq_turned}
 use Rattle.hotel_rows.specs.declared.damage.note_runs.NoteRun.{NoteRun}
 use Rattle.hotel_rows.specs.declared.stored.PlainNote.{PlainNote}

@@ -7,17 +7,17 @@ use Rattle.std.specs.BTreeMap.{is_at}
 use Rattle.std.specs.Map.{lookup}
 use Rattle.std.proofs.lemmas.Bool.Decides.{nat_tests}
 use Rattle.keycard_rules.specs.Note.{Note}
-use Rattle.hotel_core.specs.declared.books.rows.RoomRow.{RoomRow}
-use Rattle.hotel_core.specs.declared.books.rows.FitRow.{FitRow}
-use Rattle.hotel_core.specs.Model.Words.{when, said_of, pair_cmp}
-use Rattle.hotel_core.specs.Model.Rows.{Rows, at_number, fits_at, last_fit}
-use Rattle.hotel_core.specs.Model.SoundRooms.{count_up}
-use Rattle.hotel_core.specs.Model.SoundNotes.{numbers_at, note_fits, notes_fit, notes_counted, is_of_fit, notes_of_fits}
-use Rattle.hotel_core.specs.Model.SoundNotes.{act_fits}
-use Rattle.hotel_core.specs.Model.SoundFits.{fit_numbers, first_fits, first_is_first, rows_of_last_fits}
-use Rattle.hotel_core.proofs.OfTables.Tests.{and_true, eq_from, eq_self, not_both}
-use Rattle.hotel_core.proofs.OfTables.RowTests.{both, found_passes}
-use Rattle.hotel_core.proofs.OfTables.AtRoom.{first_in}
+use Rattle.hotel_model.specs.declared.rows.RoomRow.{RoomRow}
+use Rattle.hotel_model.specs.declared.rows.FitRow.{FitRow}
+use Rattle.hotel_model.specs.Words.{when, said_of, pair_cmp}
+use Rattle.hotel_model.specs.Rows.{Rows, at_number, fits_at, last_fit}
+use Rattle.hotel_model.specs.SoundRooms.{count_up}
+use Rattle.hotel_model.specs.SoundNotes.{numbers_at, note_fits, notes_fit, notes_counted, is_of_fit, notes_of_fits}
+use Rattle.hotel_model.specs.SoundNotes.{act_fits}
+use Rattle.hotel_model.specs.SoundFits.{fit_numbers, first_fits, first_is_first, rows_of_last_fits}
+use Rattle.hotel_model.proofs.OfTables.Tests.{and_true, eq_from, eq_self, not_both}
+use Rattle.hotel_model.proofs.OfTables.RowTests.{both, found_passes}
+use Rattle.hotel_model.proofs.OfTables.AtRoom.{first_in}
 use Rattle.hotel_rows.specs.Joined.{with_last, fit_of_number}
 use Rattle.hotel_rows.specs.declared.stored.PlainFit.{PlainFit}
 use Rattle.hotel_rows.specs.declared.stored.PlainNote.{PlainNote}

@@ -6,14 +6,14 @@ use Rattle.std.specs.Map.{keys_of, values_of}
 use Rattle.std.specs.BTreeMap.{insert_entry}
 use Rattle.std.proofs.lemmas.List.{drop_more}
 use Rattle.hotel_nights.specs.Block.{one_if}
-use Rattle.hotel_core.specs.declared.books.rows.CodeRow.{CodeRow}
-use Rattle.hotel_core.specs.declared.books.rows.RoomRow.{RoomRow}
-use Rattle.hotel_core.specs.Model.Words.{when}
-use Rattle.hotel_core.specs.Model.Rows.{at_number, codes_by_place}
-use Rattle.hotel_core.specs.Model.SoundRooms.{are_in_order, count_up}
-use Rattle.hotel_core.specs.Model.SoundCards.{places_once, code_rooms_there}
-use Rattle.hotel_core.proofs.OfTables.StayCounts.{count_first}
-use Rattle.hotel_core.proofs.OfTables.RowTests.{all_mapped}
+use Rattle.hotel_model.specs.declared.rows.CodeRow.{CodeRow}
+use Rattle.hotel_model.specs.declared.rows.RoomRow.{RoomRow}
+use Rattle.hotel_model.specs.Words.{when}
+use Rattle.hotel_model.specs.Rows.{at_number, codes_by_place}
+use Rattle.hotel_model.specs.SoundRooms.{are_in_order, count_up}
+use Rattle.hotel_model.specs.SoundCards.{places_once, code_rooms_there}
+use Rattle.hotel_model.proofs.OfTables.StayCounts.{count_first}
+use Rattle.hotel_model.proofs.OfTables.RowTests.{all_mapped}
 use Rattle.hotel_rows.specs.declared.damage.placed.Placed.{Placed}
 use Rattle.hotel_rows.specs.declared.stored.PlainCode.{PlainCode}
 use Rattle.hotel_rows.specs.declared.stored.Stored.{Stored}

@@ -3,7 +3,7 @@ use Rattle.std.proofs.Common.{◌≡◌, ℕ, ◌+◌, ◌-◌, ◌<◌, ◌≤�
 use Rattle.std.specs.Ordering.{is_lt}
 use Rattle.std.specs.declared.cmp.Ordering.{Ordering}
 use Rattle.std.proofs.lemmas.List.{drop_more, length-drop}
-use Rattle.hotel_core.specs.Model.SoundRooms.{are_in_order}
+use Rattle.hotel_model.specs.SoundRooms.{are_in_order}
 
 module _ {K : Type 0} (cmp : K → K → Ordering) where
   pub next_in_order : (d : K) (keys : List K) (i : ℕ) → 0 < i → i < length keys → are_in_order cmp (drop (i - 1) keys) ≡ (is_lt (cmp (get_or keys (i - 1) d) (get_or keys i d)) && are_in_order cmp (drop i keys))

@@ -3,11 +3,11 @@ use Rattle.std.proofs.Common.{◌≡◌, ℕ, suc, ◌+◌, ◌-◌, Bool, true,
 use Rattle.std.specs.Prelude.{nat_le, nat_lt, string_bytes, not, ◌||◌}
 use Rattle.std.specs.List.{list_all}
 use Rattle.std.specs.Map.{keys_of}
-use Rattle.hotel_core.specs.declared.books.rows.RoomRow.{RoomRow}
-use Rattle.hotel_core.specs.Model.Rows.{has_kind, fits_at, begins_fit}
-use Rattle.hotel_core.specs.Model.SoundRooms.{are_in_order, room_numbers, lock_places, room_kinds_there}
-use Rattle.hotel_core.specs.Model.SoundRooms.{codes_few, parties_in_house, secured_hold_last}
-use Rattle.hotel_core.proofs.OfTables.RowTests.{all_mapped}
+use Rattle.hotel_model.specs.declared.rows.RoomRow.{RoomRow}
+use Rattle.hotel_model.specs.Rows.{has_kind, fits_at, begins_fit}
+use Rattle.hotel_model.specs.SoundRooms.{are_in_order, room_numbers, lock_places, room_kinds_there}
+use Rattle.hotel_model.specs.SoundRooms.{codes_few, parties_in_house, secured_hold_last}
+use Rattle.hotel_model.proofs.OfTables.RowTests.{all_mapped}
 use Rattle.hotel_core.proofs.OfTables.MapEntries.{eq_self}
 use Rattle.hotel_rows.specs.declared.stored.PlainRoom.{PlainRoom}
 use Rattle.hotel_rows.specs.declared.stored.Stored.{Stored}

@@ -6,14 +6,14 @@ use Rattle.std.specs.Map.{values_of}
 use Rattle.hotel_nights.specs.declared.stay.Stay.{Stay}
 use Rattle.hotel_nights.specs.FullNight.{takes}
 use Rattle.hotel_nights.specs.Guests.{is_guest}
-use Rattle.hotel_core.specs.declared.books.rows.RoomRow.{RoomRow}
-use Rattle.hotel_core.specs.Model.Rows.{has_kind}
-use Rattle.hotel_core.specs.Model.SoundRooms.{are_in_order, count_up, is_day}
-use Rattle.hotel_core.specs.Model.SoundStays.{guests_read, stay_kinds_there, stay_days, stay_rooms, nights_fit}
-use Rattle.hotel_core.specs.Model.SoundStays.{stays_on, rooms_with}
-use Rattle.hotel_core.proofs.OfTables.RowTests.{all_mapped}
+use Rattle.hotel_model.specs.declared.rows.RoomRow.{RoomRow}
+use Rattle.hotel_model.specs.Rows.{has_kind}
+use Rattle.hotel_model.specs.SoundRooms.{are_in_order, count_up, is_day}
+use Rattle.hotel_model.specs.SoundStays.{guests_read, stay_kinds_there, stay_days, stay_rooms, nights_fit}
+use Rattle.hotel_model.specs.SoundStays.{stays_on, rooms_with}
+use Rattle.hotel_model.proofs.OfTables.RowTests.{all_mapped}
 use Rattle.hotel_core.proofs.OfTables.MapEntries.{eq_self}
-use Rattle.hotel_core.proofs.OfTables.StayCounts.{count_first}
+use Rattle.hotel_model.proofs.OfTables.StayCounts.{count_first}
 use Rattle.hotel_rows.specs.declared.stored.Stored.{Stored}
 use Rattle.hotel_rows.specs.declared.stored.PlainStay.{PlainStay}
 use Rattle.hotel_rows.specs.Stored.{number_of, fits_of, rows_of, stay_entry, stay_row, joined_row}

@@ -2,25 +2,25 @@
 use Rattle.std.proofs.Common.{◌≡◌, ℕ, Bool, true, false, cond, ◌==◌, ◌&&◌, nat_le, Option, Some, None, refl, nat_cmp}
 use Rattle.std.specs.List.{list_all}
 use Rattle.std.specs.Map.{keys_of}
-use Rattle.hotel_core.specs.Model.Words.{pair_cmp}
-use Rattle.hotel_core.specs.declared.books.rows.RoomRow.{RoomRow}
-use Rattle.hotel_core.specs.Model.Rows.{Rows, at_number}
-use Rattle.hotel_core.specs.Model.Sound.{IsSound, keys_in_order, passes_rules}
-use Rattle.hotel_core.specs.Model.SoundRooms.{are_in_order, day_before_kinds, kinds_read, room_numbers, lock_places}
-use Rattle.hotel_core.specs.Model.SoundRooms.{room_kinds_there, codes_few, parties_in_house}
-use Rattle.hotel_core.specs.Model.SoundRooms.{secured_hold_last}
-use Rattle.hotel_core.specs.Model.SoundStays.{stay_numbers, guests_read, stay_kinds_there, stay_days, stay_rooms}
-use Rattle.hotel_core.specs.Model.SoundStays.{nights_fit}
-use Rattle.hotel_core.specs.Model.SoundCards.{codes_in_range, code_rooms_there, places_once, card_numbers}
-use Rattle.hotel_core.specs.Model.SoundCards.{card_parties_there, links_are_neighbours, links_of_one_party}
-use Rattle.hotel_core.specs.Model.SoundCards.{neighbours_are_links, fits_without_links, newest_of_party}
-use Rattle.hotel_core.specs.Model.SoundCards.{last_cards_newest}
-use Rattle.hotel_core.specs.Model.SoundNotes.{insides_fit, notes_fit, notes_counted, notes_of_fits}
-use Rattle.hotel_core.specs.Model.SoundFits.{fit_rooms_there, fit_numbers, first_fits, fit_places_rise, fit_notes_rise}
-use Rattle.hotel_core.specs.Model.SoundFits.{last_fits_held, last_fits_noted, fit_notes_few, rows_of_last_fits}
-use Rattle.hotel_core.proofs.OfTables.Tests.{and_true, eq_from}
-use Rattle.hotel_core.proofs.OfTables.RowTests.{both, found_passes}
-use Rattle.hotel_core.proofs.SoundRows.TestsSound.{sound_pass, passing_are_sound}
+use Rattle.hotel_model.specs.Words.{pair_cmp}
+use Rattle.hotel_model.specs.declared.rows.RoomRow.{RoomRow}
+use Rattle.hotel_model.specs.Rows.{Rows, at_number}
+use Rattle.hotel_model.specs.Sound.{IsSound, keys_in_order, passes_rules}
+use Rattle.hotel_model.specs.SoundRooms.{are_in_order, day_before_kinds, kinds_read, room_numbers, lock_places}
+use Rattle.hotel_model.specs.SoundRooms.{room_kinds_there, codes_few, parties_in_house}
+use Rattle.hotel_model.specs.SoundRooms.{secured_hold_last}
+use Rattle.hotel_model.specs.SoundStays.{stay_numbers, guests_read, stay_kinds_there, stay_days, stay_rooms}
+use Rattle.hotel_model.specs.SoundStays.{nights_fit}
+use Rattle.hotel_model.specs.SoundCards.{codes_in_range, code_rooms_there, places_once, card_numbers}
+use Rattle.hotel_model.specs.SoundCards.{card_parties_there, links_are_neighbours, links_of_one_party}
+use Rattle.hotel_model.specs.SoundCards.{neighbours_are_links, fits_without_links, newest_of_party}
+use Rattle.hotel_model.specs.SoundCards.{last_cards_newest}
+use Rattle.hotel_model.specs.SoundNotes.{insides_fit, notes_fit, notes_counted, notes_of_fits}
+use Rattle.hotel_model.specs.SoundFits.{fit_rooms_there, fit_numbers, first_fits, fit_places_rise, fit_notes_rise}
+use Rattle.hotel_model.specs.SoundFits.{last_fits_held, last_fits_noted, fit_notes_few, rows_of_last_fits}
+use Rattle.hotel_model.proofs.OfTables.Tests.{and_true, eq_from}
+use Rattle.hotel_model.proofs.OfTables.RowTests.{both, found_passes}
+use Rattle.hotel_model.proofs.SoundRows.TestsSound.{sound_pass, passing_are_sound}
 use Rattle.hotel_rows.specs.declared.stored.Stored.{Stored}
 use Rattle.hotel_rows.specs.declared.stored.TableName.{TableName}
 use Rattle.hotel_rows.specs.declared.stored.TableName.TheVariants as table

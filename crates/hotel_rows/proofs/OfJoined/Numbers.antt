@@ -3,12 +3,12 @@ use Rattle.std.proofs.Common.{ℕ, zero, suc, ◌≡◌, ◌≤◌, ◌<◌, ◌
 use Rattle.std.proofs.Common.{Bool, true, false, cond, ◌==◌, nat_le, nat_lt}
 use Rattle.std.proofs.Common.{Option, Some, None, option_map, List, [], ◌∷◌, map, filter, drop, length}
 use Rattle.keycard_rules.specs.Note.{Note}
-use Rattle.hotel_core.specs.declared.books.rows.FitRow.{FitRow}
-use Rattle.hotel_core.specs.Books.Lookups.{of_fit}
+use Rattle.hotel_model.specs.declared.rows.FitRow.{FitRow}
+use Rattle.hotel_model.specs.Refinement.Lookups.{of_fit}
 use Rattle.hotel_core.proofs.Names.{nat_tests, list_all, is_at, lookup, said_of, when, pair_cmp, fits_at, last_fit}
 use Rattle.hotel_core.proofs.Names.{count_up, none_fall, notes_before_each, first_is_first}
-use Rattle.hotel_core.proofs.OfTables.Tests.{eq_from, eq_self, and_true, not_both}
-use Rattle.hotel_core.proofs.OfTables.AtRoom.{first_in, none_in, keys_at, found_at, fits_are_picked}
+use Rattle.hotel_model.proofs.OfTables.Tests.{eq_from, eq_self, and_true, not_both}
+use Rattle.hotel_model.proofs.OfTables.AtRoom.{first_in, none_in, keys_at, found_at, fits_are_picked}
 use Rattle.hotel_rows.specs.Joined.{fit_of_number, under_fit}
 use Rattle.hotel_rows.proofs.OfJoined.{Fits, joined_at, note_joined}
 

@@ -1,7 +1,7 @@
 //! The rules of the table of codes, and where links stand.
 ghost use Rattle.std.specs.Prelude.{◌≡◌, IfOk, is_some};
 ghost use Rattle.std.specs.List.{list_all};
-ghost use Rattle.hotel_core.specs.Model.SoundCards.{stands_at};
+ghost use Rattle.hotel_model.specs.SoundCards.{stands_at};
 ghost use Rattle.hotel_rows.specs.Stored.{rows_of, code_row};
 ghost use Rattle.hotel_rows.specs.Damage.{code_holds};
 ghost use Rattle.hotel_rows.specs.Placed.{PlacesOf};

@@ -2,9 +2,9 @@
 ghost use Rattle.std.specs.Prelude.{◌≡◌, ◌<◌, ◌^◌, ◌-◌, ℕ, List, ◌∷◌, ◌==◌, if◌then◌else◌, IfOk, OnOk, Some};
 ghost use Rattle.std.specs.BTreeMap.{is_at};
 ghost use Rattle.std.specs.Map.{lookup};
-ghost use Rattle.hotel_core.specs.declared.books.rows.FitRow.{FitRow};
-ghost use Rattle.hotel_core.specs.Model.Words.{said_of, pair_cmp};
-ghost use Rattle.hotel_core.specs.Model.Rows.{at_number};
+ghost use Rattle.hotel_model.specs.declared.rows.FitRow.{FitRow};
+ghost use Rattle.hotel_model.specs.Words.{said_of, pair_cmp};
+ghost use Rattle.hotel_model.specs.Rows.{at_number};
 ghost use Rattle.hotel_rows.specs.Stored.{number_of, fit_row};
 ghost use Rattle.hotel_rows.specs.FitRuns.{run_of, first_in, comes_next, begin_key, RunsOf, BeginsOf, FitsOf};
 ghost use Rattle.hotel_rows.specs.FitRuns.{fits_in, last_place_in, begins_in, is_begun, is_ended, fitted_as_due};

@@ -2,7 +2,7 @@
 ghost use Rattle.std.specs.Prelude.{◌≡◌, Bool, true, IfOk, IfSome, map, option_map};
 ghost use Rattle.std.specs.List.{list_all};
 ghost use Rattle.std.specs.Option.{option_copied};
-ghost use Rattle.hotel_core.specs.Model.Rows.{at_number};
+ghost use Rattle.hotel_model.specs.Rows.{at_number};
 ghost use Rattle.hotel_rows.specs.Stored.{number_of, fits_of, rows_of, joined_row};
 ghost use Rattle.hotel_rows.specs.Stored.{stay_row, code_row, card_row, inside_pair};
 ghost use Rattle.hotel_rows.specs.Keys.{Finds, room_key, stay_key, code_key, card_key, note_key, fit_key};

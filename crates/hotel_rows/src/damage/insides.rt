@@ -3,7 +3,7 @@ ghost use Rattle.std.specs.Prelude.{◌≡◌, true, IfOk};
 ghost use Rattle.std.specs.List.{list_all};
 ghost use Rattle.hotel_rows.specs.Stored.{number_of, plain_fits, rows_of};
 ghost use Rattle.hotel_rows.specs.Stored.{room_row, code_row, card_row, inside_pair};
-ghost use Rattle.hotel_core.specs.Model.SoundNotes.{fits_inside, has_entered};
+ghost use Rattle.hotel_model.specs.SoundNotes.{fits_inside, has_entered};
 ghost use Rattle.hotel_rows.specs.Damage.{inside_holds};
 ghost use Rattle.hotel_rows.specs.FitRuns.{FitsOf};
 ghost use Rattle.hotel_rows.specs.Placed.{PlacesOf, placed_as_due};

@@ -4,7 +4,7 @@ ghost use Rattle.std.specs.List.{list_all, list_any};
 ghost use Rattle.std.specs.Ordering.{nat_cmp, is_lt};
 ghost use Rattle.std.specs.Cmp.Lexicographic.{slice_cmp};
 ghost use Rattle.hotel_nights.specs.Kinds.{is_kind};
-ghost use Rattle.hotel_core.specs.Model.SoundRooms.{are_in_order, kinds_read};
+ghost use Rattle.hotel_model.specs.SoundRooms.{are_in_order, kinds_read};
 ghost use Rattle.hotel_rows.specs.Stored.{kind_text, rows_of};
 ghost use Rattle.hotel_rows.specs.Damage.{kind_holds, meta_holds};
 ghost use Rattle.hotel_rows.specs.RowTests.{KnowsKinds};

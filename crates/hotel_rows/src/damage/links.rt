@@ -1,12 +1,12 @@
 //! The rules on links of cards: whose they are, and which are the newest of rooms.
 ghost use Rattle.std.specs.Prelude.{◌≡◌, ℕ, true, IfOk, OnOk, map, ◌==◌, Some, None, is_some, if◌then◌else◌};
 ghost use Rattle.std.specs.List.{list_all, list_any};
-ghost use Rattle.hotel_core.specs.Model.Rows.{at_number};
-ghost use Rattle.hotel_core.specs.Model.SoundCards.{has_newest, is_newest};
+ghost use Rattle.hotel_model.specs.Rows.{at_number};
+ghost use Rattle.hotel_model.specs.SoundCards.{has_newest, is_newest};
 ghost use Rattle.hotel_rows.specs.Stored.{number_of, plain_fits, rows_of};
 ghost use Rattle.hotel_rows.specs.Lasts.{link_of_pair, link_pair, LastsOf};
 ghost use Rattle.hotel_rows.specs.Owners.{OwnersOf, owner_in};
-ghost use Rattle.hotel_core.specs.Model.Words.{said_of};
+ghost use Rattle.hotel_model.specs.Words.{said_of};
 ghost use Rattle.hotel_rows.specs.Keys.{Finds, new_code_of};
 ghost use Rattle.hotel_rows.specs.Places.{AreOf};
 ghost use Rattle.hotel_rows.specs.FitRuns.{FitsOf};

@@ -1,7 +1,7 @@
 //! The counts of each room's notes.
 ghost use Rattle.std.specs.Prelude.{◌≡◌, ℕ, List, ◌∷◌, ◌==◌, if◌then◌else◌, IfOk, OnOk, Some};
 ghost use Rattle.std.specs.List.{list_all};
-ghost use Rattle.hotel_core.specs.Model.Rows.{at_number};
+ghost use Rattle.hotel_model.specs.Rows.{at_number};
 ghost use Rattle.hotel_rows.specs.Stored.{number_of};
 ghost use Rattle.hotel_rows.specs.NoteRuns.{run_of, RunsOf, counted_as_due};
 

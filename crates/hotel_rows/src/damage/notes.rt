@@ -1,8 +1,8 @@
 //! The rules of the table of lock notes.
 ghost use Rattle.std.specs.Prelude.{◌≡◌, ◌&&◌, nat_le, IfOk};
 ghost use Rattle.std.specs.List.{list_all};
-ghost use Rattle.hotel_core.specs.Model.SoundNotes.{act_fits, has_link_at};
-ghost use Rattle.hotel_core.specs.Model.SoundRooms.{is_day};
+ghost use Rattle.hotel_model.specs.SoundNotes.{act_fits, has_link_at};
+ghost use Rattle.hotel_model.specs.SoundRooms.{is_day};
 ghost use Rattle.hotel_rows.specs.Damage.{note_columns, note_holds};
 ghost use Rattle.hotel_rows.specs.Stored.{rows_of, number_of, note_row};
 ghost use Rattle.hotel_rows.specs.Places.{AreOf};

@@ -1,8 +1,8 @@
 //! Stored numbers as the rules read them.
 ghost use Rattle.std.specs.Prelude.{◌≡◌, option_map};
 ghost use Rattle.std.specs.Ordering.{nat_cmp, is_lt};
-ghost use Rattle.hotel_core.specs.Model.Words.{pair_cmp};
-ghost use Rattle.hotel_core.specs.Model.SoundRooms.{are_in_order, count_up};
+ghost use Rattle.hotel_model.specs.Words.{pair_cmp};
+ghost use Rattle.hotel_model.specs.SoundRooms.{are_in_order, count_up};
 ghost use Rattle.hotel_rows.specs.Keys.{are_numbered};
 ghost use Rattle.hotel_rows.specs.Stored.{number_of};
 

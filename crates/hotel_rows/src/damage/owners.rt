@@ -3,7 +3,7 @@ ghost use Rattle.std.specs.Prelude.{◌≡◌, ℕ, true, Some, IfOk, OnOk, if�
 ghost use Rattle.std.specs.List.{list_all};
 ghost use Rattle.std.specs.BTreeMap.{is_at};
 ghost use Rattle.std.specs.Map.{lookup};
-ghost use Rattle.hotel_core.specs.Model.Words.{pair_cmp};
+ghost use Rattle.hotel_model.specs.Words.{pair_cmp};
 ghost use Rattle.hotel_rows.specs.Stored.{number_of};
 ghost use Rattle.hotel_rows.specs.Lasts.{link_pair};
 ghost use Rattle.hotel_rows.specs.Owners.{OwnersOf, is_own};

@@ -1,9 +1,9 @@
 //! The rules of the table of rooms.
 ghost use Rattle.std.specs.Prelude.{◌≡◌, true, IfOk};
 ghost use Rattle.std.specs.List.{list_all};
-ghost use Rattle.hotel_core.specs.Model.Stays.{room_of_state};
+ghost use Rattle.hotel_model.specs.Stays.{room_of_state};
 ghost use Rattle.hotel_rows.specs.Stored.{plain_fits, rows_of, room_row, stay_row};
-ghost use Rattle.hotel_core.specs.Model.SoundRooms.{kinds_read};
+ghost use Rattle.hotel_model.specs.SoundRooms.{kinds_read};
 ghost use Rattle.hotel_rows.specs.Damage.{most_notes, room_columns, room_holds};
 ghost use Rattle.hotel_rows.specs.Places.{AreOf};
 ghost use Rattle.hotel_rows.specs.FitRuns.{FitsOf};

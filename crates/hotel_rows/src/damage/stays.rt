@@ -2,7 +2,7 @@
 ghost use Rattle.std.specs.Prelude.{◌≡◌, true, IfOk};
 ghost use Rattle.std.specs.List.{list_all};
 ghost use Rattle.hotel_nights.specs.Guests.{is_guest};
-ghost use Rattle.hotel_core.specs.Model.SoundRooms.{kinds_read};
+ghost use Rattle.hotel_model.specs.SoundRooms.{kinds_read};
 ghost use Rattle.hotel_rows.specs.Stored.{rows_of, stay_row};
 ghost use Rattle.hotel_rows.specs.Damage.{stay_columns, stay_holds};
 ghost use Rattle.hotel_rows.specs.Places.{AreOf};

@@ -15,7 +15,7 @@ use Rattle.sqlite_value.specs.declared.value.Value.TheVariants.{Int}
 use Rattle.sqlite.specs.Ops.{binary}
 use Rattle.sqlite_keyed.proofs.SortLemmas.{IsPermutation-sort_by}
 use Rattle.sqlite_keyed.proofs.ListLemmas.{none_from_any, all_both, all_map}
-use Rattle.hotel_core.specs.Model.Words.{pair_cmp}
+use Rattle.hotel_model.specs.Words.{pair_cmp}
 use Rattle.hotel_statements.specs.Tables.{HasId, listed}
 use Rattle.hotel_statements.proofs.Keys.{truly}
 use Rattle.hotel_statements.proofs.Made.Inserts.{pair_total}

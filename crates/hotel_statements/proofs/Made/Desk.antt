@@ -16,11 +16,11 @@ use Rattle.sqlite.specs.State.{State, Shows}
 use Rattle.keycard_rules.specs.declared.card.Card.{Card}
 use Rattle.keycard_rules.specs.Note.{Note}
 use Rattle.hotel_nights.specs.declared.stay.Stay.{Stay}
-use Rattle.hotel_core.specs.declared.books.rows.RoomRow.{RoomRow}
-use Rattle.hotel_core.specs.declared.books.rows.CodeRow.{CodeRow}
-use Rattle.hotel_core.specs.declared.books.rows.FitRow.{FitRow}
-use Rattle.hotel_core.specs.Model.Words.{pair_cmp, said_of}
-use Rattle.hotel_core.specs.Model.Rows.{Rows, at_number}
+use Rattle.hotel_model.specs.declared.rows.RoomRow.{RoomRow}
+use Rattle.hotel_model.specs.declared.rows.CodeRow.{CodeRow}
+use Rattle.hotel_model.specs.declared.rows.FitRow.{FitRow}
+use Rattle.hotel_model.specs.Words.{pair_cmp, said_of}
+use Rattle.hotel_model.specs.Rows.{Rows, at_number}
 use Rattle.hotel_rows.specs.Joined.{with_fit, under_fit, joined}
 use Rattle.hotel_statements.specs.declared.version.Version.{Version}
 use Rattle.hotel_statements.specs.declared.version.Version.TheVariants.{First}

@@ -24,7 +24,7 @@ use Rattle.sqlite.specs.Rows.{Written}
 use Rattle.sqlite.specs.Tree.{Trees}
 use Rattle.sqlite.specs.State.{State, mode_of, ExecutesInside}
 use Rattle.sqlite.proofs.Callers.{one_step}
-use Rattle.hotel_core.specs.Model.Words.{pair_cmp}
+use Rattle.hotel_model.specs.Words.{pair_cmp}
 use Rattle.hotel_statements.specs.Schema.{desk_schema, inside_table, at_tree}
 use Rattle.hotel_statements.specs.Values.{int}
 use Rattle.hotel_statements.specs.Texts.{delete_insides}

@@ -9,9 +9,9 @@ use Rattle.sqlite_trees.specs.Tree.{with_tree}
 use Rattle.sqlite.specs.Order.{Row, column}
 use Rattle.sqlite.specs.Effect.{IsDatabase}
 use Rattle.sqlite.specs.State.{State, Shows, ExecutesInside}
-use Rattle.hotel_core.specs.declared.books.rows.FitRow.{FitRow}
-use Rattle.hotel_core.specs.Model.Words.{pair_cmp}
-use Rattle.hotel_core.specs.Model.Refits.{fit_row}
+use Rattle.hotel_model.specs.declared.rows.FitRow.{FitRow}
+use Rattle.hotel_model.specs.Words.{pair_cmp}
+use Rattle.hotel_model.specs.Refits.{fit_row}
 use Rattle.hotel_statements.specs.Schema.{meta_table}
 use Rattle.hotel_statements.specs.Texts.{update_version, insert_fit}
 use Rattle.hotel_statements.specs.Values.{int, maybe_int}

@@ -10,8 +10,8 @@ use Rattle.std.specs.BTreeMap.{is_at, insert_entry}
 use Rattle.std.specs.Str.{bytes_eq}
 use Rattle.std.specs.Prelude.{option_map, nat_lt}
 use Rattle.std.proofs.lemmas.Bool.Decides.{nat_tests}
-use Rattle.hotel_core.proofs.OfTables.Tests.{and_true, eq_from}
-use Rattle.hotel_core.proofs.OfTables.Pairs.{pair_is}
+use Rattle.hotel_model.proofs.OfTables.Tests.{and_true, eq_from}
+use Rattle.hotel_model.proofs.OfTables.Pairs.{pair_is}
 use Rattle.std.proofs.lemmas.Bool.{cases_Bool}
 use Rattle.std.proofs.lemmas.Cmp.{on_total, then_total, nat_cmp_total, nat_list_cmp_total}
 use Rattle.std.proofs.lemmas.Map.Text.{is_eq-slice_cmp}
@@ -35,12 +35,12 @@ use Rattle.sqlite.proofs.Callers.{one_step, statement_of}
 use Rattle.keycard_rules.specs.declared.card.Card.{Card}
 use Rattle.keycard_rules.specs.Note.{Note}
 use Rattle.hotel_nights.specs.declared.stay.Stay.{Stay}
-use Rattle.hotel_core.specs.declared.books.rows.RoomRow.{RoomRow}
-use Rattle.hotel_core.specs.declared.books.rows.CodeRow.{CodeRow}
-use Rattle.hotel_core.specs.declared.books.rows.FitRow.{FitRow}
-use Rattle.hotel_core.specs.Model.Words.{pair_cmp, said_of}
-use Rattle.hotel_core.specs.Model.Rows.{has_kind, fits_at, last_fit}
-use Rattle.hotel_core.specs.Model.Stays.{room_of_state}
+use Rattle.hotel_model.specs.declared.rows.RoomRow.{RoomRow}
+use Rattle.hotel_model.specs.declared.rows.CodeRow.{CodeRow}
+use Rattle.hotel_model.specs.declared.rows.FitRow.{FitRow}
+use Rattle.hotel_model.specs.Words.{pair_cmp, said_of}
+use Rattle.hotel_model.specs.Rows.{has_kind, fits_at, last_fit}
+use Rattle.hotel_model.specs.Stays.{room_of_state}
 use Rattle.hotel_statements.specs.Schema.{desk_schema, kind_table, note_table, room_table, stay_table, code_table}
 use Rattle.hotel_statements.specs.Schema.{card_table, fit_table}
 use Rattle.hotel_statements.specs.Values.{int, maybe_int}

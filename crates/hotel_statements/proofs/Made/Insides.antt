@@ -10,7 +10,7 @@ use Rattle.sqlite_trees.specs.Tree.{rowid}
 use Rattle.sqlite.specs.Order.{Row, value_cmp}
 use Rattle.sqlite.specs.Tree.{put_row}
 use Rattle.sqlite.specs.State.{State, ExecutesInside}
-use Rattle.hotel_core.specs.Model.Words.{pair_cmp}
+use Rattle.hotel_model.specs.Words.{pair_cmp}
 use Rattle.hotel_statements.specs.Schema.{inside_table}
 use Rattle.hotel_statements.specs.Values.{int}
 use Rattle.hotel_statements.specs.Texts.{insert_inside}

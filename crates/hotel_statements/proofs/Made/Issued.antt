@@ -2,11 +2,11 @@
 use Rattle.std.proofs.Common.{◌≡◌, ◌+◌, inl, inr, refl, sym, ap, ap₂, ◌∙◌, List, [], ◌∷◌, ℕ, true, false, Option, None, Some, eqb, is_eq, nat_cmp}
 use Rattle.std.proofs.lemmas.Bool.{cases_Bool}
 use Rattle.keycard_rules.specs.declared.card.Card.{Card}
-use Rattle.hotel_core.specs.declared.books.rows.RoomRow.{RoomRow}
-use Rattle.hotel_core.specs.declared.books.change.Change.TheVariants as change
-use Rattle.hotel_core.specs.Model.Words.{said_of}
-use Rattle.hotel_core.specs.Model.Rows.{Rows, at_number}
-use Rattle.hotel_core.specs.Books.Change.{made, codes_of, room_changed, without_party, freed_by}
+use Rattle.hotel_model.specs.declared.rows.RoomRow.{RoomRow}
+use Rattle.hotel_model.specs.declared.change.Change.TheVariants as change
+use Rattle.hotel_model.specs.Words.{said_of}
+use Rattle.hotel_model.specs.Rows.{Rows, at_number}
+use Rattle.hotel_model.specs.Refinement.Change.{made, codes_of, room_changed, without_party, freed_by}
 use Rattle.hotel_statements.specs.Steps.{code_given, card_given}
 use Rattle.hotel_statements.proofs.Keys.{is_key}
 

@@ -6,14 +6,14 @@ use Rattle.std.specs.BTreeMap.{insert_entry}
 use Rattle.std.proofs.lemmas.Bool.{cases_Bool}
 use Rattle.std.proofs.lemmas.Bool.Decides.{nat_tests}
 use Rattle.keycard_rules.specs.Note.{Note}
-use Rattle.hotel_core.specs.declared.books.rows.RoomRow.{RoomRow}
-use Rattle.hotel_core.specs.declared.books.change.InsideMove.{InsideMove}
-use Rattle.hotel_core.specs.declared.books.change.Change.TheVariants as change
-use Rattle.hotel_core.specs.Model.Words.{said_of, pair_cmp}
-use Rattle.hotel_core.specs.Model.Rows.{Rows, at_number}
-use Rattle.hotel_core.specs.Model.Refits.{fit_row}
-use Rattle.hotel_core.specs.Books.Change.{made, moved, room_changed}
-use Rattle.hotel_core.proofs.OfTables.Tests.{eq_self}
+use Rattle.hotel_model.specs.declared.rows.RoomRow.{RoomRow}
+use Rattle.hotel_model.specs.declared.change.InsideMove.{InsideMove}
+use Rattle.hotel_model.specs.declared.change.Change.TheVariants as change
+use Rattle.hotel_model.specs.Words.{said_of, pair_cmp}
+use Rattle.hotel_model.specs.Rows.{Rows, at_number}
+use Rattle.hotel_model.specs.Refits.{fit_row}
+use Rattle.hotel_model.specs.Refinement.Change.{made, moved, room_changed}
+use Rattle.hotel_model.proofs.OfTables.Tests.{eq_self}
 use Rattle.hotel_statements.specs.Steps.{IsNewRoom, IsNextFit, IsRefit, IsNumbered, bare_room, room_added, code_added}
 use Rattle.hotel_statements.specs.Steps.{fit_added, lock_replaced, note_given}
 use Rattle.hotel_statements.proofs.Keys.{is_key}

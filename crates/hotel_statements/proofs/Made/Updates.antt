@@ -22,10 +22,10 @@ use Rattle.sqlite.specs.State.{State, mode_of, ExecutesIn, ExecutesInside}
 use Rattle.sqlite.proofs.Callers.{one_step, statement_of}
 use Rattle.hotel_nights.specs.declared.stay.Stay.{Stay}
 use Rattle.hotel_nights.specs.declared.stay.StayState.{StayState}
-use Rattle.hotel_core.specs.declared.books.rows.RoomRow.{RoomRow}
-use Rattle.hotel_core.specs.declared.books.rows.FitRow.{FitRow}
-use Rattle.hotel_core.specs.Model.Stays.{room_of_state, in_state, now_is}
-use Rattle.hotel_core.specs.Books.Change.{room_changed}
+use Rattle.hotel_model.specs.declared.rows.RoomRow.{RoomRow}
+use Rattle.hotel_model.specs.declared.rows.FitRow.{FitRow}
+use Rattle.hotel_model.specs.Stays.{room_of_state, in_state, now_is}
+use Rattle.hotel_model.specs.Refinement.Change.{room_changed}
 use Rattle.hotel_statements.specs.Schema.{desk_schema, meta_table, room_table, stay_table}
 use Rattle.hotel_statements.specs.Texts.{update_day, update_issued, update_party, update_noted, update_refitted}
 use Rattle.hotel_statements.specs.Texts.{update_state}

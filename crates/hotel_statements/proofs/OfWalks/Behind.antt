@@ -26,20 +26,20 @@ use Rattle.sqlite.specs.Program.{overlay}
 use Rattle.sqlite.specs.Term.{Term, lit, col, holds}
 use Rattle.sqlite_sql.specs.Term.{op2}
 use Rattle.sqlite.specs.Tree.{Trees, IsAscending}
-use Rattle.hotel_core.specs.declared.books.rows.CodeRow.{CodeRow}
-use Rattle.hotel_core.specs.declared.books.rows.RoomRow.{RoomRow}
-use Rattle.hotel_core.specs.declared.books.rows.FitRow.{FitRow}
-use Rattle.hotel_core.specs.declared.books.list_rows.BehindRow.{BehindRow}
-use Rattle.hotel_core.specs.Model.Words.{said_of}
-use Rattle.hotel_core.specs.Model.Rows.{Rows, at_number, fits_at}
-use Rattle.hotel_core.specs.Model.SoundRooms.{count_up}
-use Rattle.hotel_core.specs.Model.Sound.{IsSound}
-use Rattle.hotel_core.specs.Refinement.ListsOnRows.{awaited_on, behind_row_on, left_behind_on}
-use Rattle.hotel_core.specs.Books.Lookups.{code_at}
-use Rattle.hotel_core.proofs.OfTables.Tests as tests
-use Rattle.hotel_core.proofs.OfTables.RowTests.{found_passes}
-use Rattle.hotel_core.proofs.OfTables.Tests.{le_from, lt_from}
-use Rattle.hotel_core.proofs.Starts.StartCodes.{room_is}
+use Rattle.hotel_model.specs.declared.rows.CodeRow.{CodeRow}
+use Rattle.hotel_model.specs.declared.rows.RoomRow.{RoomRow}
+use Rattle.hotel_model.specs.declared.rows.FitRow.{FitRow}
+use Rattle.hotel_model.specs.declared.list_rows.BehindRow.{BehindRow}
+use Rattle.hotel_model.specs.Words.{said_of}
+use Rattle.hotel_model.specs.Rows.{Rows, at_number, fits_at}
+use Rattle.hotel_model.specs.SoundRooms.{count_up}
+use Rattle.hotel_model.specs.Sound.{IsSound}
+use Rattle.hotel_model.specs.Refinement.ListsOnRows.{awaited_on, behind_row_on, left_behind_on}
+use Rattle.hotel_model.specs.Refinement.Lookups.{code_at}
+use Rattle.hotel_model.proofs.OfTables.Tests as tests
+use Rattle.hotel_model.proofs.OfTables.RowTests.{found_passes}
+use Rattle.hotel_model.proofs.OfTables.Tests.{le_from, lt_from}
+use Rattle.hotel_model.proofs.Starts.StartCodes.{room_is}
 use Rattle.hotel_statements.specs.Schema.{compare}
 use Rattle.hotel_statements.specs.Values.{int}
 use Rattle.hotel_statements.specs.Columns.{room_columns, room_of, room_written, code_columns, code_of, code_written}

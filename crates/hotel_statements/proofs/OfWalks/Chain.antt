@@ -20,16 +20,16 @@ use Rattle.sqlite.specs.Order.{Row, column}
 use Rattle.sqlite.specs.Query.{Query, Output, output_cmp}
 use Rattle.sqlite.specs.Term.{Term, col}
 use Rattle.sqlite.specs.Tree.{Trees, IsAscending}
-use Rattle.hotel_core.specs.declared.books.rows.CodeRow.{CodeRow}
-use Rattle.hotel_core.specs.declared.books.rows.RoomRow.{RoomRow}
-use Rattle.hotel_core.specs.declared.books.list_rows.ChainRow.{ChainRow}
-use Rattle.hotel_core.specs.Model.Words.{said_of}
-use Rattle.hotel_core.specs.Model.Rows.{Rows}
-use Rattle.hotel_core.specs.Model.Sound.{IsSound}
-use Rattle.hotel_core.specs.Refinement.ListsOnRows.{state_at, chain_row_on, chain_on}
-use Rattle.hotel_core.specs.Books.Lookups.{room_at, code_at}
-use Rattle.hotel_core.proofs.OfTables.Tests.{eq_from}
-use Rattle.hotel_core.proofs.Starts.StartCodes.{counted, room_is}
+use Rattle.hotel_model.specs.declared.rows.CodeRow.{CodeRow}
+use Rattle.hotel_model.specs.declared.rows.RoomRow.{RoomRow}
+use Rattle.hotel_model.specs.declared.list_rows.ChainRow.{ChainRow}
+use Rattle.hotel_model.specs.Words.{said_of}
+use Rattle.hotel_model.specs.Rows.{Rows}
+use Rattle.hotel_model.specs.Sound.{IsSound}
+use Rattle.hotel_model.specs.Refinement.ListsOnRows.{state_at, chain_row_on, chain_on}
+use Rattle.hotel_model.specs.Refinement.Lookups.{room_at, code_at}
+use Rattle.hotel_model.proofs.OfTables.Tests.{eq_from}
+use Rattle.hotel_model.proofs.Starts.StartCodes.{counted, room_is}
 use Rattle.hotel_statements.specs.Values.{int}
 use Rattle.hotel_statements.specs.Columns.{code_columns, code_of, code_written}
 use Rattle.hotel_statements.specs.Tables.{AreTables, IsWrittenAs, by_key, rows_in}

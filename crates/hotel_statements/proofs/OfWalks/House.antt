@@ -20,17 +20,17 @@ use Rattle.sqlite.specs.Program.{overlay}
 use Rattle.sqlite.specs.Term.{Term, col, holds}
 use Rattle.sqlite.specs.Tree.{Trees, IsAscending}
 use Rattle.hotel_nights.specs.declared.stay.Stay.{Stay}
-use Rattle.hotel_core.specs.declared.books.rows.RoomRow.{RoomRow}
-use Rattle.hotel_core.specs.declared.books.list_rows.HouseRow.{HouseRow}
-use Rattle.hotel_core.specs.Model.Words.{said_of}
-use Rattle.hotel_core.specs.Model.Rows.{Rows, at_number}
-use Rattle.hotel_core.specs.Model.Sound.{IsSound}
-use Rattle.hotel_core.specs.Refinement.ListsOnRows.{housed, house_row_on, in_house_on}
-use Rattle.hotel_core.specs.Books.Lookups.{stay_at}
-use Rattle.hotel_core.proofs.OfTables.Tests.{eq_from}
-use Rattle.hotel_core.proofs.OfTables.Tests as tests
-use Rattle.hotel_core.proofs.OfTables.RowTests.{found_passes}
-use Rattle.hotel_core.proofs.Starts.StartCodes.{room_is}
+use Rattle.hotel_model.specs.declared.rows.RoomRow.{RoomRow}
+use Rattle.hotel_model.specs.declared.list_rows.HouseRow.{HouseRow}
+use Rattle.hotel_model.specs.Words.{said_of}
+use Rattle.hotel_model.specs.Rows.{Rows, at_number}
+use Rattle.hotel_model.specs.Sound.{IsSound}
+use Rattle.hotel_model.specs.Refinement.ListsOnRows.{housed, house_row_on, in_house_on}
+use Rattle.hotel_model.specs.Refinement.Lookups.{stay_at}
+use Rattle.hotel_model.proofs.OfTables.Tests.{eq_from}
+use Rattle.hotel_model.proofs.OfTables.Tests as tests
+use Rattle.hotel_model.proofs.OfTables.RowTests.{found_passes}
+use Rattle.hotel_model.proofs.Starts.StartCodes.{room_is}
 use Rattle.hotel_statements.specs.Schema.{compare}
 use Rattle.hotel_statements.specs.Values.{int, maybe_int}
 use Rattle.hotel_statements.specs.Columns.{bit_of, room_columns, room_of, room_written, stay_columns, stay_of, stay_written}

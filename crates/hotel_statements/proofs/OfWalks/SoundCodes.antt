@@ -8,18 +8,18 @@ use Rattle.std.proofs.lemmas.Bool.{cases_Bool}
 use Rattle.std.proofs.lemmas.Bool.Decides.{nat_tests}
 use Rattle.std.proofs.lemmas.Cmp.{nat_cmp_total}
 use Rattle.sqlite.specs.Tree.{IsAscending}
-use Rattle.hotel_core.specs.declared.books.rows.CodeRow.{CodeRow}
-use Rattle.hotel_core.specs.declared.books.rows.RoomRow.{RoomRow}
-use Rattle.hotel_core.specs.Model.Words.{said_of}
-use Rattle.hotel_core.specs.Model.Rows.{Rows, at_number, codes_by_place, codes_at}
-use Rattle.hotel_core.specs.Model.Sound.{IsSound}
-use Rattle.hotel_core.specs.Books.Lookups.{code_at, first_code_at}
-use Rattle.hotel_core.proofs.OfTables.Tests.{eq_from, eq_self, same_bool, and_true}
-use Rattle.hotel_core.proofs.OfTables.TableKeys.{is_at_self, same_number}
-use Rattle.hotel_core.proofs.Starts.StartCodes.{orders, counted}
-use Rattle.hotel_core.proofs.Starts.StartPlaces.{is_placed}
-use Rattle.hotel_core.proofs.Starts.StartSplits.{SplitsAt, split_at, length_values}
-use Rattle.hotel_core.proofs.Starts.StartSearch.{found_is_row, found_at_start}
+use Rattle.hotel_model.specs.declared.rows.CodeRow.{CodeRow}
+use Rattle.hotel_model.specs.declared.rows.RoomRow.{RoomRow}
+use Rattle.hotel_model.specs.Words.{said_of}
+use Rattle.hotel_model.specs.Rows.{Rows, at_number, codes_by_place, codes_at}
+use Rattle.hotel_model.specs.Sound.{IsSound}
+use Rattle.hotel_model.specs.Refinement.Lookups.{code_at, first_code_at}
+use Rattle.hotel_model.proofs.OfTables.Tests.{eq_from, eq_self, same_bool, and_true}
+use Rattle.hotel_model.proofs.OfTables.TableKeys.{is_at_self, same_number}
+use Rattle.hotel_model.proofs.Starts.StartCodes.{orders, counted}
+use Rattle.hotel_model.proofs.Starts.StartPlaces.{is_placed}
+use Rattle.hotel_model.proofs.Starts.StartSplits.{SplitsAt, split_at, length_values}
+use Rattle.hotel_model.proofs.Starts.StartSearch.{found_is_row, found_at_start}
 use Rattle.hotel_statements.specs.Tables.{by_key}
 use Rattle.hotel_statements.proofs.{Found.one_entry, Lists.stands_at}
 

@@ -1,7 +1,7 @@
 //! Rooms and notes as their tables have them, and what they are with the fits of their rooms.
 ghost use Rattle.std.specs.Prelude.{◌≡◌, None, IfOk, IfErr};
 ghost use Rattle.sqlite.specs.Order.{Row as SqlRow};
-ghost use Rattle.hotel_core.specs.Model.Rows.{last_fit};
+ghost use Rattle.hotel_model.specs.Rows.{last_fit};
 ghost use Rattle.hotel_rows.specs.Joined.{with_last, with_count, fit_of_number};
 ghost use Rattle.hotel_statements.specs.Columns.{room_row_of, note_row_of};
 ghost use Rattle.hotel_statements.specs.LookUps.{counts_of_row};
@@ -32,7 +32,7 @@ pub(crate) struct BareRoom {
 }
 
 impl Model for BareRoom {
-    ghost use Rattle.hotel_core.specs.declared.books.rows.RoomRow.{RoomRow};
+    ghost use Rattle.hotel_model.specs.declared.rows.RoomRow.{RoomRow};
 
     ghost Value = { RoomRow };
 

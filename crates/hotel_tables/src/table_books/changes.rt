@@ -1,7 +1,7 @@
 //! A change of the tables, and of the counts that stand beside them.
 ghost use Rattle.std.specs.Prelude.{◌≡◌};
 ghost use Rattle.sqlite.specs.Held.{state};
-ghost use Rattle.hotel_core.specs.Books.Fits.{Fits};
+ghost use Rattle.hotel_model.specs.Refinement.Fits.{Fits};
 ghost use Rattle.hotel_statements.specs.Tables.{rows_in};
 ghost use Rattle.hotel_statements.specs.Books.{IsKept};
 ghost use Rattle.hotel_tables.specs.Applied.{Applies};

@@ -1,7 +1,7 @@
 -- A booking of which all but the guest was read is refused as its guest is.
 use Rattle.std.proofs.Common.{rules, ◌≡◌, ℕ, List, true, Result, Ok, Err, ap, refl, subst, sym}
 use Rattle.keycard_rules.specs.Results.{◌>>=◌}
-use Rattle.hotel_core.specs.declared.command.Command.TheVariants as command
+use Rattle.hotel_model.specs.declared.command.Command.TheVariants as command
 use Rattle.hotel_asks.specs.{declared.asks.Ask.Ask, declared.values.AskFault.AskFault, declared.values.AskFault.TheVariants.Values, declared.values.AskFault.TheVariants.Memory}
 use Rattle.hotel_asks.specs.{declared.values.ValueFault.ValueFault, declared.values.ValueName.TheVariants.Arrive, declared.verbs.Verb.Verb, declared.verbs.Verb.TheVariants.Reserve}
 use Rattle.hotel_asks.specs.declared.asks.Ask.TheVariants as ask

@@ -1,7 +1,8 @@
 use Rattle.std.proofs.Common.{◌≡◌, ◌+◌, take, ◌++◌, ◌∷◌, [], sym, ap, ◌∙◌, arith, subst}
 use Rattle.hotel_core.proofs.{Names.take_more, Names.RunsTo, OfCode.FailuresCounted.counted_join, OfCode.FailuresCounted.failures_in-push}
 use Rattle.std.proofs.lemmas.List.{take_all}
-use Rattle.hotel_core.proofs.{Lifted.RunParts.runs_step, OfCode.Happened.RunsOn, OfCode.Happened.run_goes_on, Invariants.Assurance.runs_safely, Invariants.Assurance.assured}
+use Rattle.hotel_model.proofs.{Lifted.RunParts.runs_step, Invariants.Assurance.runs_safely, Invariants.Assurance.assured}
+use Rattle.hotel_core.proofs.{OfCode.Happened.RunsOn, OfCode.Happened.run_goes_on}
 use Rattle.hotel_core.proofs.OfCode.RepliesAnswered.{any_answered-push, last_answered-push}
 use Rattle.hotel_core.proofs.runs.run.Goals as goal
 

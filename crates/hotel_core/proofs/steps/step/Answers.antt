@@ -1,4 +1,5 @@
-use Rattle.hotel_core.proofs.{Lifted.Runs.steps_lift, Invariants.Assurance.assured_too, OfCode.FailuresCounted.step_counted, OfCode.Happened.step_happened}
+use Rattle.hotel_model.proofs.{Lifted.Runs.steps_lift, Invariants.Assurance.assured_too}
+use Rattle.hotel_core.proofs.{OfCode.FailuresCounted.step_counted, OfCode.Happened.step_happened}
 use Rattle.hotel_core.proofs.steps.step.Goals as goal
 
 pub returns-clause-step : goal.returns-clause-step

@@ -1,5 +1,5 @@
 use Rattle.std.proofs.Common.{sym, ap, subst, ◌∙◌, Err, Result}
-use Rattle.hotel_core.specs.declared.reply.Refusal.{Refusal}
+use Rattle.hotel_model.specs.declared.reply.Refusal.{Refusal}
 use Rattle.hotel_lists.specs.{Lines.Vouches, declared.fault.ListFault.ListFault}
 use Rattle.hotel_http.specs.Serve.{is_answered}
 use Rattle.hotel_http.proofs.ServeLemmas.{text_vouched}

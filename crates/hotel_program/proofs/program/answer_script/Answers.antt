@@ -2,8 +2,8 @@
 use Rattle.std.proofs.Common.{◌≡◌, refl, subst}
 use Rattle.rand_core.specs.Steps.{steps_u32, stream_of}
 use Rattle.rand_chacha.specs.ChaCha.{next_word}
-use Rattle.hotel_core.specs.Model.Rows.{no_rows}
-use Rattle.hotel_core.specs.Model.Sound.{IsSound}
+use Rattle.hotel_model.specs.Rows.{no_rows}
+use Rattle.hotel_model.specs.Sound.{IsSound}
 use Rattle.hotel_program.specs.Program.{zero_seeded}
 use Rattle.hotel_program.proofs.ProgramLemmas.{script_ends}
 use Rattle.hotel_program.proofs.program.answer_script.Goals as goal

@@ -1,5 +1,5 @@
 use Rattle.std.proofs.Common.{◌≡◌, [], ◌∷◌, refl, subst, rules}
-use Rattle.hotel_core.specs.Model.Refits.{fit_row}
+use Rattle.hotel_model.specs.Refits.{fit_row}
 use Rattle.hotel_statements.specs.Statements.{WritesBy, adds_fit}
 use Rattle.hotel_statements.specs.Steps.{IsNewRoom, IsNextFit, fit_added}
 use Rattle.hotel_statements.proofs.InTurn.{writes_then, writes_then_if, writes_stopped, writes_as}

@@ -1,7 +1,7 @@
 use Rattle.std.proofs.Common.{[], ◌∷◌, sym, subst}
-use Rattle.hotel_core.specs.Books.Change.{made}
-use Rattle.hotel_core.specs.declared.books.change.Change.TheVariants as change
-use Rattle.hotel_core.specs.declared.books.change.InsideMove.TheVariants.{Same, Goes, Comes}
+use Rattle.hotel_model.specs.Refinement.Change.{made}
+use Rattle.hotel_model.specs.declared.change.Change.TheVariants as change
+use Rattle.hotel_model.specs.declared.change.InsideMove.TheVariants.{Same, Goes, Comes}
 use Rattle.hotel_statements.specs.Statements.{WritesBy, takes_note, removes_inside, adds_inside}
 use Rattle.hotel_statements.specs.Steps.{IsNumbered, any_rows, inside_gone, inside_added}
 use Rattle.hotel_statements.proofs.InTurn.{writes_then, writes_stopped, writes_as}

@@ -2,7 +2,7 @@ use Rattle.std.proofs.Common.{◌∙◌, ap, ap₂, rules, inr, []}
 use Rattle.std.specs.Prelude.{length}
 use Rattle.sqlite.specs.Held.{state}
 use Rattle.sqlite.specs.Effect.{Database}
-use Rattle.hotel_core.specs.Books.Lookups.{number_after}
+use Rattle.hotel_model.specs.Refinement.Lookups.{number_after}
 use Rattle.hotel_statements.specs.Tables.{rows_in}
 use Rattle.hotel_statements.proofs.Keeps.{then_keeps, then_survives}
 use Rattle.hotel_statements.specs.Readable.{IsNumber, BeginsWith}

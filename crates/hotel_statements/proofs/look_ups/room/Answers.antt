@@ -1,7 +1,7 @@
 use Rattle.std.proofs.Common.{◌≡◌, ◌∙◌, sym, ap, None, Some, inl, inr, [], ◌∷◌, rules}
 use Rattle.sqlite.specs.Held.{state}
 use Rattle.sqlite.specs.Effect.{Database}
-use Rattle.hotel_core.specs.Model.Rows.{at_number, fits_at, last_fit}
+use Rattle.hotel_model.specs.Rows.{at_number, fits_at, last_fit}
 use Rattle.hotel_rows.specs.Joined.{with_last}
 use Rattle.hotel_statements.specs.Tables.{fits_in, bare_rooms_in}
 use Rattle.hotel_statements.proofs.Keeps.{then_keeps, then_survives}

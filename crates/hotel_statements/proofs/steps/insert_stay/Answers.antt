@@ -1,6 +1,6 @@
 use Rattle.std.proofs.Common.{[], ◌∷◌, refl}
 use Rattle.sqlite_value.specs.declared.value.Value.TheVariants.{Text}
-use Rattle.hotel_core.specs.Model.Stays.{room_of_state}
+use Rattle.hotel_model.specs.Stays.{room_of_state}
 use Rattle.hotel_statements.specs.Values.{int, maybe_int}
 use Rattle.hotel_statements.specs.Columns.{state_number}
 use Rattle.hotel_statements.proofs.InTurn.{writes_row}

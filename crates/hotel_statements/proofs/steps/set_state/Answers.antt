@@ -1,5 +1,5 @@
 use Rattle.std.proofs.Common.{[], ◌∷◌, refl}
-use Rattle.hotel_core.specs.Model.Stays.{room_of_state}
+use Rattle.hotel_model.specs.Stays.{room_of_state}
 use Rattle.hotel_statements.specs.Values.{int, maybe_int}
 use Rattle.hotel_statements.specs.Columns.{state_number}
 use Rattle.hotel_statements.proofs.InTurn.{writes_row}

@@ -3,8 +3,8 @@ use Rattle.sqlite.specs.Effect.{Database}
 use Rattle.sqlite.specs.Held.{state}
 use Rattle.sqlite.specs.State.{HasCleanDisk, IsUnchanged}
 use Rattle.keycard_rules.specs.Note.{Note}
-use Rattle.hotel_core.specs.Refinement.ListsOnRows.{audit_on}
-use Rattle.hotel_core.specs.Model.Rows.{fits_at}
+use Rattle.hotel_model.specs.Refinement.ListsOnRows.{audit_on}
+use Rattle.hotel_model.specs.Rows.{fits_at}
 use Rattle.hotel_statements.specs.Values.{int}
 use Rattle.hotel_statements.specs.Tables.{rows_in}
 use Rattle.hotel_statements.specs.Books.{IsKept}

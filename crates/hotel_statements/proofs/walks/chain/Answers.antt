@@ -4,12 +4,12 @@ use Rattle.std.specs.List.{range_with_len}
 use Rattle.sqlite.specs.Effect.{Database}
 use Rattle.sqlite.specs.Held.{state}
 use Rattle.sqlite.specs.State.{HasCleanDisk, IsUnchanged}
-use Rattle.hotel_core.specs.declared.books.list_rows.ChainRow.{ChainRow}
-use Rattle.hotel_core.specs.Refinement.ListsOnRows.{chain_row_on, chain_on}
-use Rattle.hotel_core.specs.declared.books.rows.RoomRow.{RoomRow}
-use Rattle.hotel_core.specs.Model.Words.{said_of}
-use Rattle.hotel_core.specs.Model.Rows.{at_number}
-use Rattle.hotel_core.specs.Books.Lookups.{room_at}
+use Rattle.hotel_model.specs.declared.list_rows.ChainRow.{ChainRow}
+use Rattle.hotel_model.specs.Refinement.ListsOnRows.{chain_row_on, chain_on}
+use Rattle.hotel_model.specs.declared.rows.RoomRow.{RoomRow}
+use Rattle.hotel_model.specs.Words.{said_of}
+use Rattle.hotel_model.specs.Rows.{at_number}
+use Rattle.hotel_model.specs.Refinement.Lookups.{room_at}
 use Rattle.hotel_rows.proofs.OfJoined.{room_joined}
 use Rattle.hotel_statements.specs.Values.{int}
 use Rattle.hotel_statements.specs.Tables.{rows_in, fits_in, bare_rooms_in}

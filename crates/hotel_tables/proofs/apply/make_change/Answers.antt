@@ -1,7 +1,7 @@
 use Rattle.std.proofs.Common.{ap, rules}
 use Rattle.sqlite.specs.Held.{state}
 use Rattle.sqlite.specs.State.{Survives}
-use Rattle.hotel_core.specs.Books.Change.{made}
+use Rattle.hotel_model.specs.Refinement.Change.{made}
 use Rattle.hotel_statements.proofs.Ends.{Begins, Ends, ended}
 use Rattle.hotel_tables.proofs.apply.make_change.Goals as goal
 

@@ -1,7 +1,7 @@
 use Rattle.std.proofs.Common.{◌∙◌, sym, ap, subst, map, List, ℤ}
 use Rattle.std.specs.List.Sorted.{IsPermutation}
 use Rattle.std.specs.Ordering.{int_cmp}
-use Rattle.hotel_core.specs.Model.SoundRooms.{are_in_order}
+use Rattle.hotel_model.specs.SoundRooms.{are_in_order}
 use Rattle.hotel_tables.specs.Opening.{id_inside}
 use Rattle.hotel_tables.proofs.Opened.{apart_ids, apart_in_order}
 use Rattle.hotel_tables.proofs.opening.are_apart.Goals as goal

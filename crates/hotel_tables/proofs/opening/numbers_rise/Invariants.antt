@@ -1,6 +1,6 @@
 use Rattle.std.proofs.Common.{◌≡◌, ◌-◌, drop}
 use Rattle.std.specs.Ordering.{int_cmp}
-use Rattle.hotel_core.specs.Model.SoundRooms.{are_in_order}
+use Rattle.hotel_model.specs.SoundRooms.{are_in_order}
 use Rattle.hotel_tables.proofs.opening.numbers_rise.Given as goal
 
 abbrev pub invariant-loop-i : goal.invariant-loop-i

@@ -2,7 +2,7 @@ use Rattle.std.proofs.Common.{◌≡◌, true, false, refl, is_some, []}
 use Rattle.hotel_core.proofs.Names.{AlreadyBegun, outcome_on}
 use Rattle.hotel_core.proofs.OfCode.Parts.{begun, then_found, stopped, refuses, ends, only}
 use Rattle.hotel_core.proofs.OfCode.AnswerParts.{answers}
-use Rattle.hotel_core.specs.declared.command.Command.TheVariants as command
+use Rattle.hotel_model.specs.declared.command.Command.TheVariants as command
 use Rattle.hotel_core.proofs.commands.calendar.begin.Goals as goal
 
 pub returns-in_err-day_if_set-clause-steps : goal.returns-in_err-day_if_set-clause-steps

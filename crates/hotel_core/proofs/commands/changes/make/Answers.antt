@@ -1,5 +1,6 @@
-use Rattle.hotel_core.proofs.{OfCode.Parts.makes, OfCode.Parts.fails, RowsAfter.FitsAfter.fits_after}
-use Rattle.hotel_core.specs.Model.Outcome.{accepted}
+use Rattle.hotel_core.proofs.{OfCode.Parts.makes, OfCode.Parts.fails}
+use Rattle.hotel_model.proofs.RowsAfter.FitsAfter.{fits_after}
+use Rattle.hotel_model.specs.Outcome.{accepted}
 use Rattle.hotel_core.proofs.commands.changes.make.Goals as goal
 
 pub apply-requires : goal.apply-requires

@@ -1,6 +1,6 @@
 use Rattle.std.proofs.Common.{◌≡◌, true, false, is_some, refl, sym, ◌∙◌}
 use Rattle.hotel_core.proofs.Names.{turn, same_link, IsUntaken, opened_on, refused}
-use Rattle.hotel_core.specs.declared.reply.Refusal.TheVariants as refusal
+use Rattle.hotel_model.specs.declared.reply.Refusal.TheVariants as refusal
 use Rattle.hotel_core.proofs.OfCode.Parts.{given, then_found, at_now, stopped, halted, refuses, ends}
 use Rattle.hotel_core.proofs.OfCode.AnswerParts.{comes_now, comes_of}
 use Rattle.hotel_core.proofs.commands.entries.enter.Goals as goal

@@ -1,6 +1,6 @@
 use Rattle.std.proofs.Common.{◌≡◌, true, false, refl, sym, ◌∙◌}
 use Rattle.hotel_core.proofs.Names.{same_link, IsUntaken, refused}
-use Rattle.hotel_core.specs.declared.reply.Refusal.TheVariants as refusal
+use Rattle.hotel_model.specs.declared.reply.Refusal.TheVariants as refusal
 use Rattle.hotel_core.proofs.OfCode.Parts.{given, then_found, stopped, refuses, ends, only}
 use Rattle.hotel_core.proofs.OfCode.AnswerParts.{answers, comes_of}
 use Rattle.hotel_core.proofs.commands.exits.leave.Goals as goal

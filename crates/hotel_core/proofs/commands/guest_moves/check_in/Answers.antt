@@ -1,7 +1,7 @@
 use Rattle.std.proofs.Common.{refl, None}
 use Rattle.hotel_core.proofs.{Names.outcome_on, Names.bars_to_check_in, Names.words, Names.issued_on, OfCode.AnswerParts.comes_now}
 use Rattle.hotel_core.proofs.OfCode.Parts.{begun, then_found, at_now, stopped, barred, ends, bars_refuse, bars_pass}
-use Rattle.hotel_core.specs.declared.command.Command.TheVariants as command
+use Rattle.hotel_model.specs.declared.command.Command.TheVariants as command
 use Rattle.hotel_core.proofs.commands.guest_moves.check_in.Goals as goal
 
 pub returns-in_err-day : goal.returns-in_err-day

@@ -1,9 +1,9 @@
 use Rattle.std.proofs.Common.{◌≡◌, Some, None, refl, []}
 use Rattle.hotel_core.proofs.Names.{room_of_state, outcome_on}
-use Rattle.hotel_core.specs.declared.reply.Refusal.TheVariants as refusal
+use Rattle.hotel_model.specs.declared.reply.Refusal.TheVariants as refusal
 use Rattle.hotel_core.proofs.OfCode.Parts.{begun, then_found, stopped, halted, refuses, ends}
 use Rattle.hotel_core.proofs.OfCode.AnswerParts.{answers}
-use Rattle.hotel_core.specs.declared.command.Command.TheVariants as command
+use Rattle.hotel_model.specs.declared.command.Command.TheVariants as command
 use Rattle.hotel_core.proofs.commands.guest_moves.check_out.Goals as goal
 
 pub returns-in_err-today : goal.returns-in_err-today

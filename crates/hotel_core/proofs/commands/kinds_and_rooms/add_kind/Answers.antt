@@ -2,7 +2,7 @@ use Rattle.std.proofs.Common.{refl, []}
 use Rattle.hotel_core.proofs.Names.{KindExists, outcome_on}
 use Rattle.hotel_core.proofs.OfCode.Parts.{begun, then_found, stopped, refuses, ends, only}
 use Rattle.hotel_core.proofs.OfCode.AnswerParts.{answers}
-use Rattle.hotel_core.specs.declared.command.Command.TheVariants as command
+use Rattle.hotel_model.specs.declared.command.Command.TheVariants as command
 use Rattle.hotel_core.proofs.commands.kinds_and_rooms.add_kind.Goals as goal
 
 pub returns-in_err-today : goal.returns-in_err-today

@@ -1,10 +1,10 @@
 use Rattle.std.proofs.Common.{◌≡◌, true, false, is_some, refl}
 use Rattle.hotel_core.proofs.Names.{NoKind, RoomExists, outcome_on, words}
-use Rattle.hotel_core.specs.declared.reply.Reply.TheVariants as reply
-use Rattle.hotel_core.specs.declared.books.change.Change.TheVariants as change
+use Rattle.hotel_model.specs.declared.reply.Reply.TheVariants as reply
+use Rattle.hotel_model.specs.declared.change.Change.TheVariants as change
 use Rattle.hotel_core.proofs.OfCode.Parts.{begun, then_found, stopped, refuses, only}
 use Rattle.hotel_core.proofs.{OfCode.DrawParts.undrawn, OfCode.DrawParts.drawn_ends, OfCode.AnswerParts.drawn_answers}
-use Rattle.hotel_core.specs.declared.command.Command.TheVariants as command
+use Rattle.hotel_model.specs.declared.command.Command.TheVariants as command
 use Rattle.hotel_core.proofs.commands.kinds_and_rooms.add_room.Goals as goal
 
 pub returns-in_err-today : goal.returns-in_err-today

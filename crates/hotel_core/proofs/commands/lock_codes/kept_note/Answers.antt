@@ -1,5 +1,6 @@
 use Rattle.std.proofs.Common.{◌<◌, ◌-◌, ◌==◌, nat_lt, Some, refl, ap, sym, ◌∙◌, arith}
-use Rattle.hotel_core.proofs.{Names.note_at, OfCode.LaterNotes.no_later_note, OfTables.Tests.and_true, OfTables.Tests.eq_from, OfTables.Tests.lt_from}
+use Rattle.hotel_core.proofs.{Names.note_at, OfCode.LaterNotes.no_later_note}
+use Rattle.hotel_model.proofs.{OfTables.Tests.and_true, OfTables.Tests.eq_from, OfTables.Tests.lt_from}
 use Rattle.hotel_core.proofs.commands.lock_codes.kept_note.Goals as goal
 
 pub returns-then-is_past : goal.returns-then-is_past

@@ -5,9 +5,9 @@ use Rattle.std.specs.Ordering.{nat_cmp}
 use Rattle.std.specs.Cmp.Lexicographic.{slice_cmp}
 use Rattle.std.specs.Map.{keys_of}
 use Rattle.hotel_core.specs.KindRooms.{is_there, rooms_in}
-use Rattle.hotel_core.proofs.OfTables.Tests.{when_ok}
+use Rattle.hotel_model.proofs.OfTables.Tests.{when_ok}
 use Rattle.hotel_core.proofs.OfNights.KindKeys.{there_itself}
-use Rattle.hotel_core.proofs.SoundRows.SoundKinds.{any_key_inserted}
+use Rattle.hotel_model.proofs.SoundRows.SoundKinds.{any_key_inserted}
 use Rattle.hotel_core.proofs.kind_rooms.KindRooms.know_kind.Goals as goal
 
 -- what follows where it was added, and where nothing changed

@@ -1,5 +1,5 @@
 use Rattle.std.proofs.Common.{◌+◌, ap, sym, ◌∙◌}
-use Rattle.hotel_core.specs.declared.books.rows.RoomRow.{RoomRow}
+use Rattle.hotel_model.specs.declared.rows.RoomRow.{RoomRow}
 use Rattle.hotel_core.proofs.OfTables.RowsChanged.{room_written, room_absent}
 use Rattle.hotel_core.proofs.memory.row_changes.note_at.Goals as goal
 

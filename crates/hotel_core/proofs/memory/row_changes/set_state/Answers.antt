@@ -1,5 +1,5 @@
 use Rattle.std.proofs.Common.{ap, sym, ◌∙◌}
-use Rattle.hotel_core.specs.Model.Stays.{now_is}
+use Rattle.hotel_model.specs.Stays.{now_is}
 use Rattle.hotel_core.proofs.OfTables.RowsChanged.{stay_written, stay_absent}
 use Rattle.hotel_core.proofs.memory.row_changes.set_state.Goals as goal
 

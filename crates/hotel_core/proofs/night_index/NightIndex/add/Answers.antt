@@ -2,7 +2,7 @@ use Rattle.std.proofs.Common.{ℕ, ◌≡◌, ◌+◌, ◌<◌, ◌^◌, List, a
 use Rattle.hotel_nights.specs.Block.{one_if}
 use Rattle.hotel_nights.specs.FullNight.{takes}
 use Rattle.hotel_core.specs.NightIndex.{counted, spans}
-use Rattle.hotel_core.proofs.OfTables.Tests.{when_ok}
+use Rattle.hotel_model.proofs.OfTables.Tests.{when_ok}
 use Rattle.hotel_core.proofs.OfNights.NightsStanding.{takes_by, takes_none}
 use Rattle.hotel_core.proofs.night_index.NightIndex.add.Goals as goal
 

@@ -1,6 +1,6 @@
 use Rattle.std.proofs.Common.{◌≡◌, ◌∙◌, [], subst, sym, ap, Result, Err, ℕ, List}
 use Rattle.std.specs.Io.KnownBytes.{Appends}
-use Rattle.hotel_core.specs.declared.reply.Refusal.TheVariants as refusal
+use Rattle.hotel_model.specs.declared.reply.Refusal.TheVariants as refusal
 use Rattle.hotel_lists.specs.Bytes.{AppendsFront}
 use Rattle.hotel_lists.specs.declared.fault.ListFault.{ListFault}
 use Rattle.hotel_program.specs.Script.ListAnswers.{refusal_text}

@@ -1,7 +1,7 @@
 use Rattle.std.proofs.Common.{◌&&◌, map, nat_cmp, ap, sym, ◌∙◌}
 use Rattle.std.specs.List.{list_all}
-use Rattle.hotel_core.specs.Model.SoundRooms.{are_in_order}
-use Rattle.hotel_core.specs.Model.SoundCards.{places_once}
+use Rattle.hotel_model.specs.SoundRooms.{are_in_order}
+use Rattle.hotel_model.specs.SoundCards.{places_once}
 use Rattle.hotel_rows.specs.Stored.{rows_of}
 use Rattle.hotel_rows.specs.Keys.{code_key}
 use Rattle.hotel_rows.specs.RowTests.{code_fits}

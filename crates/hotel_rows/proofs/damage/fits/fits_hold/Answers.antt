@@ -1,7 +1,7 @@
 use Rattle.std.proofs.Common.{◌&&◌, map, ap, sym, ◌∙◌}
 use Rattle.std.specs.List.{list_all}
-use Rattle.hotel_core.specs.Model.Words.{pair_cmp}
-use Rattle.hotel_core.specs.Model.SoundRooms.{are_in_order}
+use Rattle.hotel_model.specs.Words.{pair_cmp}
+use Rattle.hotel_model.specs.SoundRooms.{are_in_order}
 use Rattle.hotel_rows.specs.Stored.{plain_fits, rows_of}
 use Rattle.hotel_rows.specs.Keys.{fit_key}
 use Rattle.hotel_rows.specs.RowTests.{has_room}

@@ -1,6 +1,6 @@
 use Rattle.std.proofs.Common.{rules, ◌≡◌, None, Some, ap, sym, ◌∙◌, arith}
 use Rattle.hotel_rows.specs.declared.stored.PlainRoom.{PlainRoom}
-use Rattle.hotel_core.specs.Model.Rows.{at_number}
+use Rattle.hotel_model.specs.Rows.{at_number}
 use Rattle.hotel_rows.specs.Stored.{number_of, fits_of, joined_row}
 use Rattle.hotel_rows.specs.Keys.{room_key}
 use Rattle.hotel_rows.proofs.OfDamage.FoundKeys.{none_found, one_found, one_bound, plain_found, passes_at}

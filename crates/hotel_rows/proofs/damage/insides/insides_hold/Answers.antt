@@ -1,8 +1,8 @@
 use Rattle.std.proofs.Common.{◌&&◌, map, ap, sym, ◌∙◌}
-use Rattle.hotel_core.specs.Model.Words.{pair_cmp}
-use Rattle.hotel_core.specs.Model.SoundRooms.{are_in_order}
-use Rattle.hotel_core.specs.Model.SoundNotes.{insides_fit}
-use Rattle.hotel_core.proofs.OfTables.RowTests.{all_mapped}
+use Rattle.hotel_model.specs.Words.{pair_cmp}
+use Rattle.hotel_model.specs.SoundRooms.{are_in_order}
+use Rattle.hotel_model.specs.SoundNotes.{insides_fit}
+use Rattle.hotel_model.proofs.OfTables.RowTests.{all_mapped}
 use Rattle.hotel_rows.specs.Stored.{rows_of, inside_pair}
 use Rattle.hotel_rows.specs.RowTests.{inside_fits}
 use Rattle.hotel_rows.proofs.damage.insides.insides_hold.Goals as goal

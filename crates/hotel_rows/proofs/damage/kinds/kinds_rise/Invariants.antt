@@ -1,6 +1,6 @@
 use Rattle.std.proofs.Common.{◌≡◌, ◌-◌, drop, map, nat_cmp}
 use Rattle.std.specs.Cmp.Lexicographic.{slice_cmp}
-use Rattle.hotel_core.specs.Model.SoundRooms.{are_in_order}
+use Rattle.hotel_model.specs.SoundRooms.{are_in_order}
 use Rattle.hotel_rows.specs.Stored.{kind_text}
 use Rattle.hotel_rows.proofs.damage.kinds.kinds_rise.Given as goal
 

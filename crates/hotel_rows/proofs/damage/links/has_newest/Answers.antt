@@ -1,7 +1,7 @@
 use Rattle.std.proofs.Common.{rules, ◌≡◌, None, false, ap, sym, ◌∙◌}
 use Rattle.std.specs.Prelude.{option_map}
-use Rattle.hotel_core.specs.Model.Words.{said_of}
-use Rattle.hotel_core.specs.Model.SoundCards.{is_newest}
+use Rattle.hotel_model.specs.Words.{said_of}
+use Rattle.hotel_model.specs.SoundCards.{is_newest}
 use Rattle.hotel_rows.specs.Stored.{rows_of}
 use Rattle.hotel_rows.specs.Lasts.{link_of_pair}
 use Rattle.hotel_rows.proofs.damage.links.has_newest.Goals as goal

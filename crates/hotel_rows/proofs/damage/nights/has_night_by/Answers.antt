@@ -4,8 +4,8 @@ use Rattle.std.specs.Prelude.{◌-◌, ◌^◌, nat_lt, string_bytes}
 use Rattle.std.proofs.lemmas.Bool.Decides.{nat_tests}
 use Rattle.hotel_nights.specs.Kinds.{is_kind}
 use Rattle.hotel_core.specs.KindRooms.{rooms_in}
-use Rattle.hotel_core.specs.Model.SoundRooms.{is_day}
-use Rattle.hotel_core.proofs.OfTables.Tests.{and_true}
+use Rattle.hotel_model.specs.SoundRooms.{is_day}
+use Rattle.hotel_model.proofs.OfTables.Tests.{and_true}
 use Rattle.hotel_rows.specs.declared.stored.PlainStay.{PlainStay}
 use Rattle.hotel_rows.specs.declared.counts.Counts.{Counts}
 use Rattle.hotel_rows.specs.Counts.{tells_night}

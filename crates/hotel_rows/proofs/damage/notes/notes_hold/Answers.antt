@@ -1,8 +1,8 @@
 use Rattle.std.proofs.Common.{◌&&◌, map, ap, sym, subst, ◌∙◌}
 use Rattle.std.specs.List.{list_all}
-use Rattle.hotel_core.specs.Model.Words.{pair_cmp}
-use Rattle.hotel_core.specs.Model.SoundRooms.{are_in_order}
-use Rattle.hotel_core.specs.Model.SoundNotes.{notes_counted}
+use Rattle.hotel_model.specs.Words.{pair_cmp}
+use Rattle.hotel_model.specs.SoundRooms.{are_in_order}
+use Rattle.hotel_model.specs.SoundNotes.{notes_counted}
 use Rattle.hotel_rows.specs.Stored.{rows_of}
 use Rattle.hotel_rows.specs.Keys.{note_key}
 use Rattle.hotel_rows.specs.NoteRuns.{RunsOf}

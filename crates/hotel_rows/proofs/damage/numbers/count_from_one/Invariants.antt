@@ -1,5 +1,5 @@
 use Rattle.std.proofs.Common.{◌≡◌, ◌+◌, drop}
-use Rattle.hotel_core.specs.Model.SoundRooms.{count_up}
+use Rattle.hotel_model.specs.SoundRooms.{count_up}
 use Rattle.hotel_rows.proofs.damage.numbers.count_from_one.Given as goal
 
 abbrev pub invariant-loop-i : goal.invariant-loop-i

@@ -1,6 +1,6 @@
 use Rattle.std.proofs.Common.{◌≡◌, ◌+◌, length}
 use Rattle.std.specs.Map.{keys_of}
-use Rattle.hotel_core.specs.Model.SoundRooms.{count_up}
+use Rattle.hotel_model.specs.SoundRooms.{count_up}
 use Rattle.hotel_rows.proofs.damage.placed.count_from_zero.Given as goal
 
 abbrev pub invariant-loop-place : goal.invariant-loop-place

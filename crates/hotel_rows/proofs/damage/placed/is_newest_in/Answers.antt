@@ -1,7 +1,7 @@
 use Rattle.std.proofs.Common.{◌-◌, ◌&&◌, ap, sym, ◌∙◌, arith}
 use Rattle.keycard_rules.specs.declared.card.Link.{Link}
-use Rattle.hotel_core.specs.Model.Words.{is_that}
-use Rattle.hotel_core.specs.Model.Rows.{at_number}
+use Rattle.hotel_model.specs.Words.{is_that}
+use Rattle.hotel_model.specs.Rows.{at_number}
 use Rattle.hotel_rows.specs.Placed.{places_in, listed_in}
 use Rattle.hotel_rows.proofs.OfDamage.Newest.{newest_at, none_newest, due_parts}
 use Rattle.hotel_rows.proofs.damage.placed.is_newest_in.Goals as goal

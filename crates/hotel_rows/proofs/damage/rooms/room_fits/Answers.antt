@@ -1,7 +1,7 @@
 use Rattle.std.proofs.Common.{◌≡◌, Bool, true, false, ◌&&◌, ap, sym, ◌∙◌, refl, nat_le, nat_lt}
 use Rattle.std.specs.Prelude.{bytes_eq, string_bytes}
 use Rattle.std.specs.List.{list_any}
-use Rattle.hotel_core.specs.Model.Rows.{has_kind}
+use Rattle.hotel_model.specs.Rows.{has_kind}
 use Rattle.hotel_rows.specs.Stored.{number_of, room_row, rows_of}
 use Rattle.hotel_rows.specs.Damage.{most_notes, room_columns}
 use Rattle.hotel_rows.specs.RowTests.{is_room_number, has_few_codes, is_at_home, is_secured_as_due}

@@ -1,6 +1,6 @@
 use Rattle.std.proofs.Common.{◌&&◌, map, nat_cmp, ap, sym, ◌∙◌}
 use Rattle.std.specs.List.{list_all}
-use Rattle.hotel_core.specs.Model.SoundRooms.{are_in_order}
+use Rattle.hotel_model.specs.SoundRooms.{are_in_order}
 use Rattle.hotel_rows.specs.Keys.{room_key}
 use Rattle.hotel_rows.specs.RowTests.{room_fits}
 use Rattle.hotel_rows.proofs.OfDamage.RowsTogether.{rooms_together}

@@ -1,5 +1,5 @@
 use Rattle.std.proofs.Common.{◌≡◌, take}
-use Rattle.hotel_core.specs.Model.Rows.{last_fit}
+use Rattle.hotel_model.specs.Rows.{last_fit}
 use Rattle.hotel_statements.proofs.from_row.bare_rows.last_of.Given as goal
 
 abbrev pub invariant-fits : goal.invariant-fits

@@ -2,9 +2,9 @@ use Rattle.std.proofs.Common.{Err, ap, sym, ◌∙◌, subst}
 use Rattle.std.proofs.lemmas.Bool.{false≢true}
 use Rattle.sqlite.specs.Effect.{Database}
 use Rattle.sqlite.specs.Held.{state}
-use Rattle.hotel_core.specs.Model.Rows.{Rows}
-use Rattle.hotel_core.specs.Books.Change.{made}
-use Rattle.hotel_core.specs.Books.Fits.{Fits}
+use Rattle.hotel_model.specs.Rows.{Rows}
+use Rattle.hotel_model.specs.Refinement.Change.{made}
+use Rattle.hotel_model.specs.Refinement.Fits.{Fits}
 use Rattle.hotel_statements.specs.Tables.{rows_in}
 use Rattle.hotel_statements.specs.Books.{IsKept}
 use Rattle.hotel_tables.specs.Counted.{booked_by, CountsLess}

@@ -1,7 +1,7 @@
 use Rattle.std.proofs.Common.{sym, ap, ◌∙◌, subst, []}
 use Rattle.std.proofs.lemmas.Bool.{false≢true}
 use Rattle.sqlite.specs.Held.{state}
-use Rattle.hotel_core.specs.Model.Rows.{Rows}
+use Rattle.hotel_model.specs.Rows.{Rows}
 use Rattle.hotel_statements.specs.Tables.{rows_in}
 use Rattle.hotel_tables.specs.TableBooks.{IsCounted}
 use Rattle.hotel_tables.specs.Opening.{fault_for}

@@ -1,5 +1,5 @@
 use Rattle.std.proofs.Common.{ℕ, ◌≡◌, ◌++◌, map}
-use Rattle.hotel_core.specs.Model.Guests.{those_in}
+use Rattle.hotel_model.specs.Guests.{those_in}
 use Rattle.hotel_core.proofs.memory.inside_table.InsideTable.at.Given as goal
 
 abbrev pub invariant-loop-pair : goal.invariant-loop-pair

@@ -1,5 +1,5 @@
 use Rattle.std.proofs.Common.{map}
-use Rattle.hotel_core.specs.Model.Rows.{notes_at}
+use Rattle.hotel_model.specs.Rows.{notes_at}
 use Rattle.hotel_core.proofs.OfCode.Walking.{SoFar}
 use Rattle.hotel_core.proofs.memory.note_table.NoteTable.walk.Given as goal
 

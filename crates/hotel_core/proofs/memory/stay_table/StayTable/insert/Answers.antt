@@ -1,7 +1,7 @@
 use Rattle.std.proofs.Common.{rules, ℕ, List, ◌≡◌, ◌+◌, ap, sym, ◌∙◌, subst, length, ◌^◌, ◌<◌}
 use Rattle.hotel_nights.specs.Block.{one_if}
 use Rattle.hotel_nights.specs.FullNight.{takes}
-use Rattle.hotel_core.specs.Model.Rows.{at_number}
+use Rattle.hotel_model.specs.Rows.{at_number}
 use Rattle.hotel_core.specs.NightIndex.{counted}
 use Rattle.hotel_core.specs.Memory.{CountsNightsOf}
 use Rattle.hotel_core.proofs.OfNights.NightsStanding.{counts_fit, stands_more}

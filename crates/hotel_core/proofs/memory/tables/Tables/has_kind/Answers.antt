@@ -1,5 +1,5 @@
 use Rattle.std.proofs.Common.{ap, ◌∙◌}
-use Rattle.hotel_core.specs.Model.Rows.{Rows, has_kind}
+use Rattle.hotel_model.specs.Rows.{Rows, has_kind}
 use Rattle.hotel_core.proofs.memory.tables.Tables.has_kind.Goals as goal
 
 pub returns : goal.returns

@@ -1,5 +1,5 @@
 use Rattle.std.specs.Prelude.{filter_map}
-use Rattle.hotel_core.specs.Refinement.ListsOnRows.{left_behind_on, behind_row_on}
+use Rattle.hotel_model.specs.Refinement.ListsOnRows.{left_behind_on, behind_row_on}
 use Rattle.hotel_core.proofs.OfCode.Walking.{SoFar}
 use Rattle.hotel_core.proofs.memory.tables.Tables.walk_left_behind.Given as goal
 

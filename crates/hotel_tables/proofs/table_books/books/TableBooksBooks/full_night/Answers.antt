@@ -1,7 +1,7 @@
 use Rattle.std.proofs.Common.{ap, ◌-◌, ◌∙◌, rules}
 use Rattle.sqlite.specs.Effect.{Database}
 use Rattle.sqlite.specs.Held.{state}
-use Rattle.hotel_core.specs.Books.Lookups.{first_full_on}
+use Rattle.hotel_model.specs.Refinement.Lookups.{first_full_on}
 use Rattle.hotel_statements.specs.Tables.{rows_in}
 use Rattle.hotel_tables.proofs.OverBooks.{night_found}
 use Rattle.hotel_tables.proofs.table_books.books.TableBooksBooks.full_night.Goals as goal

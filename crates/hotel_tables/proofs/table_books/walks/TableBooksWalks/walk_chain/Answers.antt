@@ -1,6 +1,6 @@
 use Rattle.std.proofs.Common.{rules}
 use Rattle.sqlite.specs.Held.{state}
-use Rattle.hotel_core.specs.Refinement.ListsOnRows.{chain_on}
+use Rattle.hotel_model.specs.Refinement.ListsOnRows.{chain_on}
 use Rattle.hotel_tables.proofs.OverBooks.{handed_over}
 use Rattle.hotel_tables.proofs.table_books.walks.TableBooksWalks.walk_chain.Goals as goal
 

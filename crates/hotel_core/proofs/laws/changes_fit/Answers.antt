@@ -1,5 +1,0 @@
-use Rattle.hotel_core.proofs.SoundRows.AllSound.{rows_follow}
-use Rattle.hotel_core.proofs.laws.changes_fit.Goals as goal
-
-pub returns : goal.returns
-returns c = rows_follow

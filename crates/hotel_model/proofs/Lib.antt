@@ -1,0 +1,9 @@
+pub mod Names
+pub mod Facts
+pub mod OfTables
+pub mod Invariants
+pub mod RowsAfter
+pub mod Starts
+pub mod SoundRows
+pub mod Lifted
+pub mod LeadsOn

@@ -1,0 +1,62 @@
+-- The rows of the five lists, read off the rows of the books.
+use Rattle.std.specs.Prelude.{ℕ, Bool, List, [], Option, None, ◌-◌, ◌==◌, ◌&&◌, if◌then◌else◌, nat_le, nat_lt, filter, filter_map, option_map}
+use Rattle.std.specs.List.{range_with_len}
+use Rattle.std.specs.Map.{values_of}
+use Rattle.keycard_rules.specs.Note.{Note}
+use Rattle.hotel_nights.specs.declared.stay.Stay.{Stay}
+use Rattle.hotel_model.specs.{declared.rows.RoomRow.RoomRow, declared.list_rows.HouseRow.HouseRow, declared.list_rows.ChainRow.ChainRow}
+use Rattle.hotel_model.specs.{declared.list_rows.BehindRow.BehindRow, declared.list_rows.CodeState.CodeState, Words.said_of, Stays.is_booked_state}
+use Rattle.hotel_model.specs.declared.list_rows.CodeState.TheVariants.{Passed, Held, Awaited}
+use Rattle.hotel_model.specs.{Rows.Rows, Rows.notes_at, Refinement.Lookups.room_at, Refinement.Lookups.stay_at, Refinement.Lookups.code_at}
+
+-- a booked stay that takes the night of a day
+abbrev pub arrives_on : ℕ → Stay → Bool
+arrives_on day stay = is_booked_state stay.state && nat_le stay.arrive day && nat_lt day stay.depart
+
+-- Booked stays that take the night of a day, by party.
+abbrev pub arrivals_on : Rows → ℕ → List Stay
+arrivals_on rows day = filter (arrives_on day) (values_of rows.stays)
+
+-- a room with its party's stay
+abbrev pub housed : RoomRow → Stay → HouseRow
+housed row stay = record { room = row.room; party = stay.party; guest = stay.guest; kind = stay.kind; depart = stay.depart; secured = row.secured }
+
+-- the row of a room's party, where one is registered there
+abbrev pub house_row_on : Rows → RoomRow → Option HouseRow
+house_row_on rows row = said_of row.party None (λ party. option_map (housed row) (stay_at rows party))
+
+-- Rooms with a registered party, by room.
+abbrev pub in_house_on : Rows → List HouseRow
+in_house_on rows = filter_map (house_row_on rows) (values_of rows.rooms)
+
+-- how the code at a place stands, where the lock stands at another
+abbrev pub state_at : ℕ → ℕ → CodeState
+state_at lock_place place = if nat_lt place lock_place then Passed else if place == lock_place then Held else Awaited
+
+-- the row of a room's code at a place, where one is there
+abbrev pub chain_row_on : Rows → RoomRow → ℕ → Option ChainRow
+chain_row_on rows row place = option_map (λ code. let r : ChainRow = record { place = place; code = code; state = state_at row.lock_place place } in r) (code_at rows row.room place)
+
+-- A room's codes with their places and states, by place.
+abbrev pub chain_on : Rows → ℕ → List ChainRow
+chain_on rows room = said_of (room_at rows room) [] (λ row. filter_map (chain_row_on rows row) (range_with_len 0 row.codes))
+
+-- how many codes come after the one that the room's lock holds
+abbrev pub awaited_on : RoomRow → ℕ
+awaited_on row = row.codes - row.lock_place - 1
+
+-- a room that is left behind, with the codes that its lock holds and that were issued last
+abbrev pub behind_at : RoomRow → ℕ → ℕ → BehindRow
+behind_at row held current = record { room = row.room; held = held; current = current; awaited = awaited_on row }
+
+-- the row of a room with two awaited codes or more
+abbrev pub behind_row_on : Rows → RoomRow → Option BehindRow
+behind_row_on rows row = if nat_le 2 (awaited_on row) then said_of (code_at rows row.room row.lock_place) None (λ held. option_map (behind_at row held) (code_at rows row.room (row.codes - 1))) else None
+
+-- Rooms with two awaited codes or more, by room.
+abbrev pub left_behind_on : Rows → List BehindRow
+left_behind_on rows = filter_map (behind_row_on rows) (values_of rows.rooms)
+
+-- A room's notes, by count.
+abbrev pub audit_on : Rows → ℕ → List Note
+audit_on rows room = notes_at rows.notes room

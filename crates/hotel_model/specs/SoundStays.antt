@@ -1,0 +1,52 @@
+-- The rules of sound rows, second part: the stays. Each rule is a test of all rows.
+use Rattle.std.specs.Prelude.{ℕ, Bool, true, false, List, ◌+◌, ◌==◌, ◌&&◌, nat_le, nat_lt, length, bytes_eq, count_by}
+use Rattle.std.specs.List.{list_all}
+use Rattle.std.specs.Map.{keys_of, values_of}
+use Rattle.hotel_nights.specs.declared.stay.Stay.{Stay}
+use Rattle.hotel_model.specs.declared.rows.RoomRow.{RoomRow}
+use Rattle.hotel_model.specs.Words.{is_that, said_of}
+use Rattle.hotel_model.specs.Rows.{Rows, at_number, has_kind}
+use Rattle.hotel_model.specs.Stays.{room_of_state}
+use Rattle.hotel_model.specs.SoundRooms.{count_up, is_day}
+use Rattle.hotel_nights.specs.FullNight.{takes}
+use Rattle.hotel_nights.specs.Guests.{is_guest}
+
+-- the rule holds of each stay
+abbrev pub each_stay : Rows → (Stay → Bool) → Bool
+each_stay rows rule = list_all (λ (e : ℕ × Stay). rule e.1) rows.stays
+
+-- each row has the number that is its key; the numbers are 1 to n, n at most 9,999,999
+abbrev pub stay_numbers : Rows → Bool
+stay_numbers rows = list_all (λ (e : ℕ × Stay). e.1.party == e.0) rows.stays && count_up 1 (keys_of rows.stays) && nat_le (length rows.stays) 9999999
+
+-- each guest reads as a guest's name: 1 to 60 bytes of UTF-8, no control character, no space first or last
+abbrev pub guests_read : Rows → Bool
+guests_read rows = each_stay rows (λ stay. is_guest stay.guest)
+
+-- each stay's kind is there
+abbrev pub stay_kinds_there : Rows → Bool
+stay_kinds_there rows = each_stay rows (λ stay. has_kind rows stay.kind)
+
+-- days in range, 1 to 90 nights
+abbrev pub stay_days : Rows → Bool
+stay_days rows = each_stay rows (λ stay. is_day stay.depart && nat_lt stay.arrive stay.depart && nat_le stay.depart (stay.arrive + 90))
+
+-- the room is there, and has this party
+abbrev pub has_party : Rows → ℕ → ℕ → Bool
+has_party rows party room = said_of (at_number rows.rooms room) false (λ row. is_that row.party party)
+
+-- the room of a stay in house has its party
+abbrev pub stay_rooms : Rows → Bool
+stay_rooms rows = each_stay rows (λ stay. said_of (room_of_state stay.state) true (has_party rows stay.party))
+
+-- how many open stays of a kind take the night of a day
+abbrev pub stays_on : Rows → List ℕ → ℕ → ℕ
+stays_on rows kind d = count_by (takes kind d) (values_of rows.stays)
+
+-- how many rooms a kind has
+abbrev pub rooms_with : Rows → List ℕ → ℕ
+rooms_with rows kind = count_by (λ (row : RoomRow). bytes_eq row.kind kind) (values_of rows.rooms)
+
+-- on the first night of each stay, its kind isn't taken by more stays than it has rooms
+abbrev pub nights_fit : Rows → Bool
+nights_fit rows = each_stay rows (λ stay. nat_le (stays_on rows stay.kind stay.arrive) (rooms_with rows stay.kind))
