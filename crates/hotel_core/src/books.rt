@@ -1,6 +1,6 @@
 //! The books of the desk, however they are kept.
 ghost use Rattle.std.specs.Prelude.{◌≡◌, ◌-◌, List, Option, Some, None, Bool, true, false, OnOk, OnErr, IfErr, IsOk, Result, Err, length, not};
-ghost use Rattle.keycard_rules.specs.{Rise.HasRisen, Rise.NoFewer, declared.issued.LookFault.LookFault, declared.issued.LookFault.TheVariants.Memory};
+ghost use Rattle.keycard_rules.specs.{Rise.HasRisen, Rise.NoFewer, declared.issued.LookFault.LookFault, declared.issued.LookFault.TheVariants.Store};
 ghost use Rattle.hotel_model.specs.{Words.is_one_of, Rows.Rows, Rows.has_kind, Rows.fit_at, Guests.are_none, Refinement.Change.made};
 ghost use Rattle.hotel_core.specs.Books.Reads.{LooksUp};
 ghost use Rattle.hotel_model.specs.Refinement.Lookups.{room_at, codes_in, code_place, code_at, stay_at, stays_of_kind, card_at, inside_at, note_at, rooms_of_kind, first_full_on, number_after};
@@ -26,6 +26,9 @@ pub trait Books: Issued {
 
     /// What a stop leaves in a change, or after it, from the first state to the second, which was answered so.
     ghost leaves_change: { Change → Self → Self → Result (Unit {0}) LookFault → Type 0 };
+
+    /// Why a change from the first state to the second isn't made, but for want of memory: a call of the store failed.
+    ghost change_fails: { Change → Self → Self → Type 0 };
 
     /// The business day, once it is set.
     fn day(&mut self) -> Result<Option<Day>, LookFault>
@@ -120,6 +123,7 @@ pub trait Books: Issued {
         ensures stop { leaves_change change self.old self.new result }
         ensures counted { NoFewer (Self.failures self.old) (Self.failures self.new) }
         ensures fault { IfErr result (λ why. HasRisen (Self.failures self.old why) (Self.failures self.new why)) }
+        ensures cause { Self.is_honest self.new → IfErr result (λ why. why ≡ Store → change_fails change self.old self.new) }
         ensures sure { Self.never_fails → takes_memory change ≡ false → IsOk result };
 
     // What a look-up leaves has the same rows, and the issued codes are those of the rows.

@@ -1,6 +1,7 @@
 //! Commands one after the other, over any books.
-ghost use Rattle.std.specs.Prelude.{◌≡◌, true, IfOk, IfErr};
+ghost use Rattle.std.specs.Prelude.{◌≡◌, true, IfOk, IfErr, length, zip};
 ghost use Rattle.keycard_rules.specs.Rise.{NoFewer};
+ghost use Rattle.hotel_core.specs.Books.Happens.{CommandHappens, Passes};
 ghost use Rattle.hotel_core.specs.{Books.Failures.AreCounted, Books.Failures.failures_in};
 ghost use Rattle.hotel_model.specs.{Leads.Leads, Leads.LeadsOn, Run.Runs, Run.any_answered, Run.last_answered};
 
@@ -37,6 +38,9 @@ pub fn run<B: Books, R: Rng>(
         any_answered replies.items ≡ true → B.is_clean books.old) }
     ensures vouched_last { IfOk result (λ replies. B.is_honest books.new →
         last_answered replies.items ≡ true → B.is_clean books.new) }
+    ensures through { IfOk result (λ replies. (length replies.items ≡ length commands.now)
+        × Passes (CommandHappens B.Issued B.rows R.stream) (books.old, source.old)
+        (zip commands.now replies.items) (books.new, source.new)) }
     ensures was_honest { B.is_honest books.new → B.is_honest books.old }
     ensures was_clean { B.is_clean books.new → B.is_clean books.old }
     ensures counted { NoFewer (B.failures books.old) (B.failures books.new) }

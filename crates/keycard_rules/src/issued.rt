@@ -32,6 +32,10 @@ pub trait Issued {
     /// A stop at the second state leaves nothing that a stop at the first one couldn't have left.
     ghost leaves_no_more: { Self → Self → Type 0 };
 
+    /// Why a look-up or a walk from the first state to the second has no answer, but for want of memory: a call of the
+    /// store failed, or what it showed can't be read.
+    ghost look_up_fails: { Self → Self → Type 0 };
+
     /// The second state has what the first one has: all that a look-up may leave.
     ghost is_kept: { Self → Self → Type 0 };
 
@@ -51,6 +55,7 @@ pub trait Issued {
         ensures stop { leaves_no_more self.old self.new }
         ensures counted { NoFewer (failures self.old) (failures self.new) }
         ensures fault { IfErr result (λ why. HasRisen (failures self.old why) (failures self.new why)) }
+        ensures cause { is_honest self.new → IfErr result (λ why. why ≡ Store → look_up_fails self.old self.new) }
         ensures sure { never_fails → IsOk result };
 
     // What never fails has no failure of the store.
@@ -97,6 +102,8 @@ impl Issued for ListedCodes {
     ghost is_honest = { λ _. Unit {0} };
 
     ghost leaves_no_more = { λ _ _. Unit {0} };
+
+    ghost look_up_fails = { λ _ _. ⊥ };
 
     ghost is_kept = { λ before after. after ≡ before };
 

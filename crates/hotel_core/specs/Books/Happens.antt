@@ -44,3 +44,12 @@ Happens I rows old went new = HappensBy I rows old (λ kept. went) new
 -- A command went with this reply, of which this is told.
 abbrev pub StepTold : Stream → Command → Reply → Stream → (List Refusal → List Bool → Type 0) → History → History → Type 0
 StepTold s command reply s' told h h' = Steps h s command reply h' s' × told (failure_in reply) (answered_by reply)
+
+-- There are states between: each of these was asked in its turn, in the state that the one before it left.
+abbrev pub Passes : {S A : Type 0} → (S → A → S → Type 0) → S → List A → S → Type 0
+Passes asks old [] new = new ≡ old
+Passes {S = S} asks old (asked ∷ later) new = (mid : S) × asks old asked mid × Passes asks mid later new
+
+-- A command was carried out with this reply, by books and a source of words.
+abbrev pub CommandHappens : {S R : Type 0} → IssuedOf S → (S → Rows) → (R → Stream) → S × R → Command × Reply → S × R → Type 0
+CommandHappens I rows stream old asked new = Happens I rows old.0 (StepTold (stream old.1) asked.0 asked.1 (stream new.1)) new.0

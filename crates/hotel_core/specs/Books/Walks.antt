@@ -32,7 +32,7 @@ failure_of (Err why.Stopped) = None
 failure_of (Err why.Memory) = Some look.Memory
 failure_of (Err why.Store) = Some look.Store
 
--- A walk over these rows, of books from old to new and a sink from its meaning to that at the end: it hands over some rows, which are these where the state is honest at its end, and leaves what a look-up may leave where the test of the state holds then; memory or the store fails only where a failure of that cause was counted. In memory no store fails, and a walk that takes no memory doesn't fail at all. Where the state is honest at its end and neither failed, the test holds.
+-- A walk over these rows, of books from old to new and a sink from its meaning to that at the end: it hands over some rows, which are these where the state is honest at its end, and leaves what a look-up may leave where the test of the state holds then; memory or the store fails only where a failure of that cause was counted, and the store only for a cause of its own. In memory no store fails, and a walk that takes no memory doesn't fail at all. Where the state is honest at its end and neither failed, the test holds.
 pub record WalksOver {B S R : Type 0} (I : IssuedOf B) (takes_memory : Bool) (after after_stop : S → R → S → Type 0) (rows : List R) (old new : B) (sink end : S) (result : Result (Unit {0}) WalkFault) : Type 0 where
   pub hands : (handed : List R) × Hands after after_stop handed sink end result × (I.is_honest new → handed ≡ rows)
   pub kept : I.is_clean new → I.is_kept old new
@@ -42,4 +42,5 @@ pub record WalksOver {B S R : Type 0} (I : IssuedOf B) (takes_memory : Bool) (af
   pub stop : I.leaves_no_more old new
   pub counted : NoFewer (I.failures old) (I.failures new)
   pub fault : IfSome (failure_of result) (λ cause. HasRisen (I.failures old cause) (I.failures new cause))
+  pub cause : I.is_honest new → failure_of result ≡ Some look.Store → I.look_up_fails old new
   pub sure : I.never_fails → takes_memory ≡ false → failure_of result ≡ None
