@@ -82,6 +82,8 @@ impl Issued for ListBooks {
 
     ghost leaves_no_more = { λ _ _. Unit {0} };
 
+    ghost look_up_fails = { λ _ _. ⊥ };
+
     ghost is_kept = { λ a b. b.rows ≡ a.rows };
 
     ghost failures = { λ b. of_memory b.failures };
@@ -107,6 +109,8 @@ impl Books for ListBooks {
     ghost rows = { λ b. b.rows };
 
     ghost leaves_change = { λ _ _ _ _. Unit {0} };
+
+    ghost change_fails = { λ _ _ _. ⊥ };
 
     fn day(&mut self) -> Result<Option<Day>, LookFault> {
         Ok(self.tables.day())

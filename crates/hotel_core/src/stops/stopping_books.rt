@@ -124,6 +124,8 @@ impl Issued for StoppingBooks {
 
     ghost leaves_no_more = { λ _ _. Unit {0} };
 
+    ghost look_up_fails = { λ _ _. Unit {0} };
+
     ghost is_kept = { λ a b. b.rows ≡ a.rows };
 
     ghost failures = { counts };
@@ -151,6 +153,8 @@ impl Books for StoppingBooks {
     ghost rows = { λ b. b.rows };
 
     ghost leaves_change = { λ _ _ _ _. Unit {0} };
+
+    ghost change_fails = { λ _ _ _. Unit {0} };
 
     fn day(&mut self) -> Result<Option<Day>, LookFault> {
         self.begin()?;

@@ -1,9 +1,11 @@
-use Rattle.std.proofs.Common.{◌≡◌, ◌+◌, take, ◌++◌, ◌∷◌, [], sym, ap, ◌∙◌, arith, subst}
+use Rattle.std.proofs.Common.{◌≡◌, ◌+◌, take, length, zip, ◌++◌, ◌∷◌, [], sym, ap, ◌∙◌, arith, subst}
 use Rattle.hotel_core.proofs.{Names.take_more, Names.RunsTo, OfCode.FailuresCounted.counted_join, OfCode.FailuresCounted.failures_in-push}
-use Rattle.std.proofs.lemmas.List.{take_all}
+use Rattle.std.proofs.lemmas.List.{take_all, length-take-le}
 use Rattle.hotel_model.proofs.{Lifted.RunParts.runs_step, Invariants.Assurance.runs_safely, Invariants.Assurance.assured}
 use Rattle.hotel_core.proofs.{OfCode.Happened.RunsOn, OfCode.Happened.run_goes_on}
 use Rattle.hotel_core.proofs.OfCode.RepliesAnswered.{any_answered-push, last_answered-push}
+use Rattle.hotel_core.proofs.OfCode.Happens.{passes_push, step_happens, zip-push}
+use Rattle.hotel_core.specs.Books.Happens.{CommandHappens}
 use Rattle.hotel_core.proofs.runs.run.Goals as goal
 
 pub loop-command-preserved : goal.loop-command-preserved
@@ -12,6 +14,16 @@ loop-command-preserved g c =
     record {
       was_clean = λ clean. c.loop-command.invariant.was_clean (before clean);
       was_honest = λ honest. c.loop-command.invariant.was_honest (c.step-reply.ensures.was_honest honest);
+      through =
+          let step = c.step-reply.ensures in
+          let xs = c.args.commands.now in
+          let i = c.loop-command.command-index in
+          let replies = c.loop-command.replies in
+          let e : take (i + 1) xs ≡ take i xs ++ c.command-item.result ∷ [] = take_more xs i c.command-item.result c.loop-command-test.true ∙ ap (λ x. take i xs ++ x ∷ []) (sym c.command-item.is) in
+          let n : length replies.items ≡ length (take i xs) = omega (arith, length-take-le i xs (omega (arith, c.loop-command-test.true)), replies.ok.0, c.loop-command.invariant.answered) in
+          let went = step_happens _ _ c.command-item.result c.step-reply.result g.met.B.Issued.clean_honest step.was_clean step.was_honest step.counted step.happened step.failed step.vouched in
+          rw (e, c.in-Ok-push.ensures.items, zip-push (take i xs) replies.items c.command-item.result c.step-reply.result n)
+          (passes_push (CommandHappens g.B.Issued g.B.Books.rows g.R.Rng.stream) _ (zip (take i xs) replies.items) c.loop-command.invariant.through went);
       happened = λ honest h reached stands.
           let r = run_goes_on _ _ h _ _ _ _ _ c.command-item.result c.step-reply.result (g.B.Books.rows c.step-reply.new.books) (g.R.Rng.stream c.step-reply.new.source) (c.loop-command.invariant.happened (c.step-reply.ensures.was_honest honest) h reached stands) (λ mid ok stands. let w = c.step-reply.ensures.happened honest mid ok stands in (w.0, w.1, w.2, w.3)) in
           let xs = c.args.commands.now in
@@ -48,3 +60,11 @@ returns-clause-happened g c = λ honest h reached stands.
     let it = subst (λ xs. RunsOn (g.B.Issued.is_clean c.loop-command.books) h (g.R.Rng.stream c.args.source.now) xs c.loop-command.replies.items (g.B.Books.rows c.loop-command.books) (g.R.Rng.stream c.loop-command.source))
     all (c.loop-command.invariant.happened honest h reached stands) in
     (it.0, it.1, it.2, it.3, assured it.0 it.1)
+
+pub returns-clause-through : goal.returns-clause-through
+returns-clause-through g c =
+    let xs = c.args.commands.now in
+    let replies = c.loop-command.replies in
+    let all : take c.loop-command.command-index xs ≡ xs = take_all _ _ c.loop-command-test.false in
+    let n : length replies.items ≡ length xs = omega (arith, replies.ok.0, c.loop-command.invariant.answered, c.loop-command-test.false, c.loop-command.auto.command-index-end) in
+    (n, rw all at c.loop-command.invariant.through)

@@ -1,6 +1,7 @@
-use Rattle.std.proofs.Common.{◌≡◌, ◌≤◌, true, take, length, vec_len, vec_capacity}
+use Rattle.std.proofs.Common.{◌≡◌, ◌≤◌, true, take, length, vec_len, vec_capacity, zip}
 use Rattle.hotel_core.proofs.Names.{NoFewer, History, Reached, rows_of, StandsFor, RunsTo, AreCounted, any_answered, failures_in, last_answered}
 use Rattle.hotel_core.proofs.OfCode.Happened.{RunsOn}
+use Rattle.hotel_core.specs.Books.Happens.{CommandHappens, Passes}
 use Rattle.hotel_core.proofs.runs.run.Given as goal
 
 abbrev pub invariant-loop-command : goal.invariant-loop-command
@@ -12,6 +13,7 @@ invariant-loop-command g l =
     record {
       was_clean : is_clean l.books → is_clean l.fn.books;
       was_honest : is_honest l.books → is_honest l.fn.books;
+      through : Passes (CommandHappens g.B.Issued rows stream) (l.fn.books, l.fn.source) (zip (take l.command-index l.commands) l.replies.items) (l.books, l.source);
       happened : is_honest l.books → (h : History) → Reached h → (is_clean l.fn.books → rows l.fn.books ≡ rows_of h) →
           RunsOn (is_clean l.books) h (stream l.fn.source) (take l.command-index l.commands) l.replies.items (rows l.books) (stream l.source);
       vouched : is_honest l.books → any_answered l.replies.items ≡ true → is_clean l.fn.books;
