@@ -13,3 +13,4 @@ pub mod SoundNotes
 pub mod SoundFitRows
 pub mod AllSound
 pub mod TestsSound
+pub mod NoRows
