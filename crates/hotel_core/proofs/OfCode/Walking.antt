@@ -1,7 +1,10 @@
 -- A walk part-way through the rows of a list: what the sink took, and the rows that are still to come.
-use Rattle.std.proofs.Common.{ℕ, suc, ◌≡◌, ◌<◌, ◌+◌, ◌-◌, ◌++◌, Bool, true, false, cond, Option, Some, None, List, [], ◌∷◌, filter, append_assoc, refl, ap, sym, ◌∙◌, subst, arith, filter_map}
-use Rattle.hotel_core.proofs.Names.{range_with_len, cons_option, Takes, TakesFront, StopsAt}
+use Rattle.std.proofs.Common.{ℕ, suc, ◌≡◌, ◌<◌, ◌+◌, ◌-◌, ◌++◌, Bool, true, false, cond, Option, Some, None, List, [], ◌∷◌, Result, Ok, Err, filter, append_assoc, refl, ap, sym, ◌∙◌, subst, arith, filter_map}
+use Rattle.hotel_core.proofs.Names.{range_with_len, cons_option, Takes, TakesFront, StopsAt, failure_of}
 use Rattle.std.proofs.lemmas.List.{append-nil}
+use Rattle.keycard_rules.specs.declared.issued.LookFault.TheVariants as look
+use Rattle.hotel_core.specs.declared.books.walks.WalkFault.{WalkFault}
+use Rattle.hotel_core.specs.declared.books.walks.WalkFault.TheVariants as why
 
 -- The sink took some of the rows, and the rest is to come.
 abbrev pub SoFar : {S R : Type 0} → (S → R → S → Type 0) → List R → List R → S → S → Type 0
@@ -52,3 +55,10 @@ made_none f x xs e = ap (λ o. cons_option o (filter_map f xs)) (sym e)
 -- the next of the numbers from one on
 pub next_place : (place end : ℕ) → place < end → range_with_len place (end - place) ≡ place ∷ range_with_len (place + 1) (end - (place + 1))
 next_place place end n = let e : end - place ≡ suc (end - (place + 1)) = omega arith in ap (range_with_len place) e
+
+-- a walk that the store didn't end
+pub not_store : (end : Result (Unit {0}) WalkFault) → (end ≡ Err why.Store → ⊥) → failure_of end ≡ Some look.Store → ⊥
+not_store (Ok done) other failed = cc
+not_store (Err why.Stopped) other failed = cc
+not_store (Err why.Memory) other failed = cc
+not_store (Err why.Store) other failed = other refl
