@@ -4,7 +4,8 @@ use Rattle.hotel_model.specs.{Rows.Rows, Refinement.Lookups.room_at, History.His
 use Rattle.hotel_model.specs.Lists.{arrivals, in_house, chain, left_behind, audit_of}
 use Rattle.hotel_model.specs.Refinement.ListsOnRows.{arrivals_on, in_house_on, chain_on, left_behind_on, audit_on}
 use Rattle.hotel_lists.specs.Listings.{Listing, listing, of_room}
-use Rattle.hotel_lists.specs.Lines.{arrivals_header, in_house_header, chain_header, left_behind_header, audit_header, arrival_line, house_line, chain_line, behind_line, note_line}
+use Rattle.hotel_lists.specs.Lines.{arrivals_header, in_house_header, chain_header, left_behind_header, audit_header}
+use Rattle.hotel_lists.specs.Lines.{arrival_line, house_line, chain_line, behind_line, note_line}
 use Rattle.hotel_asks.specs.declared.lists.ListAsk.{ListAsk}
 use Rattle.hotel_asks.specs.declared.lists.ListAsk.TheVariants.{Arrivals, InHouse, ChainOf, LeftBehind, AuditOf}
 

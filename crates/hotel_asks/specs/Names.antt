@@ -1,7 +1,8 @@
 -- The words of verbs, and the names of their values, as users read them.
 use Rattle.std.specs.Prelude.{ℕ, List, [], ◌∷◌, codes}
 use Rattle.hotel_asks.specs.{declared.values.ValueName.ValueName, declared.verbs.Verb.Verb}
-use Rattle.hotel_asks.specs.declared.values.ValueName.TheVariants.{Day, Kind, Arrive, Nights, Guest, Room, Lock, Party, Card, Count, Old, New, From, To, Moment, File, Port}
+use Rattle.hotel_asks.specs.declared.values.ValueName.TheVariants.{Day, Kind, Arrive, Nights, Guest, Room, Lock, Party}
+use Rattle.hotel_asks.specs.declared.values.ValueName.TheVariants.{Card, Count, Old, New, From, To, Moment, File, Port}
 use Rattle.hotel_asks.specs.declared.verbs.Verb.TheVariants as verb
 
 -- The name of a value, in capital letters.

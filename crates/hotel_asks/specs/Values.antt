@@ -1,14 +1,18 @@
 -- The values of verbs: each is what its reader makes of a text, or refused by its name.
-use Rattle.std.specs.Prelude.{◌≡◌, ℕ, ◌+◌, ◌==◌, ◌&&◌, Bool, true, List, length, take, drop, if◌then◌else◌, Option, Some, Result, Ok, Err}
+use Rattle.std.specs.Prelude.{◌≡◌, ℕ, ◌+◌, ◌==◌, ◌&&◌, Bool, true, List, length, take, drop, if◌then◌else◌, Option}
+use Rattle.std.specs.Prelude.{Some, Result, Ok, Err}
 use Rattle.std.specs.List.{position_or_len}
 use Rattle.std.specs.Option.{ok_or}
 use Rattle.std.specs.Str.{is_utf8}
 use Rattle.keycard_rules.specs.Numerals.{number_up_to, read_code}
 use Rattle.hotel_nights.specs.{Days.read_day, Guests.is_guest, Kinds.read_kind, Moments.read_moment}
-use Rattle.hotel_asks.specs.{declared.values.ValueFault.ValueFault, declared.values.ValueFault.TheVariants.Value, declared.values.AskFault.AskFault}
-use Rattle.hotel_asks.specs.{declared.values.AskFault.TheVariants.Values, declared.values.AskFault.TheVariants.Memory, declared.values.ValueName.ValueName, declared.values.Lock.Lock}
+use Rattle.hotel_asks.specs.{declared.values.ValueFault.ValueFault, declared.values.ValueFault.TheVariants.Value}
+use Rattle.hotel_asks.specs.{declared.values.AskFault.AskFault}
+use Rattle.hotel_asks.specs.{declared.values.AskFault.TheVariants.Values, declared.values.AskFault.TheVariants.Memory}
+use Rattle.hotel_asks.specs.{declared.values.ValueName.ValueName, declared.values.Lock.Lock}
 use Rattle.keycard_rules.specs.Results.{◌>>=◌}
-use Rattle.hotel_asks.specs.declared.values.ValueName.TheVariants.{Kind, Nights, Guest, Room, Lock as LockName, Party, Card, Count, Moment}
+use Rattle.hotel_asks.specs.declared.values.ValueName.TheVariants.{Kind, Nights, Guest, Room, Lock as LockName, Party}
+use Rattle.hotel_asks.specs.declared.values.ValueName.TheVariants.{Card, Count, Moment}
 
 -- A day, as the value of that name.
 abbrev pub day_in : ValueName → List ℕ → Result ℕ ValueFault
@@ -38,7 +42,8 @@ slash_in text = position_or_len (λ b. b == 47) text
 abbrev pub fit_after : List ℕ → ℕ → Option ℕ
 fit_after text slash = if slash == length text then Some 1 else number_up_to 99 (drop (slash + 1) text)
 
--- A lock: a room, or a room, a slash and the number of the room's lock. Without that number it is the room's first lock.
+-- A lock: a room, or a room, a slash and the number of the room's lock. Without that number it is the room's first
+-- lock.
 abbrev pub lock_in : List ℕ → Result Lock ValueFault
 lock_in text = do
   r ← ok_or (number_up_to 9999 (take (slash_in text) text)) (Value LockName)

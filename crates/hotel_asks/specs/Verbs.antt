@@ -2,7 +2,9 @@
 use Rattle.std.specs.Prelude.{ℕ, List, codes, if◌then◌else◌, Option, Some, None}
 use Rattle.std.specs.Str.{bytes_eq}
 use Rattle.hotel_asks.specs.declared.verbs.Verb.{Verb}
-use Rattle.hotel_asks.specs.declared.verbs.Verb.TheVariants.{Begin, AddKind, AddRoom, Reserve, Cancel, CheckIn, Spare, Reissue, Transfer, CheckOut, Refit, NextDay, Entered, Left, Recoded, Arrivals, InHouse, ChainOf, LeftBehind, AuditOf}
+use Rattle.hotel_asks.specs.declared.verbs.Verb.TheVariants.{Begin, AddKind, AddRoom, Reserve, Cancel, CheckIn, Spare}
+use Rattle.hotel_asks.specs.declared.verbs.Verb.TheVariants.{Reissue, Transfer, CheckOut, Refit, NextDay, Entered, Left}
+use Rattle.hotel_asks.specs.declared.verbs.Verb.TheVariants.{Recoded, Arrivals, InHouse, ChainOf, LeftBehind, AuditOf}
 
 -- The verb that a word is.
 unfoldable pub read_verb : List ℕ → Option Verb

@@ -1,7 +1,8 @@
 //! What a verb and the texts of its values ask for.
 
 ghost use Rattle.std.specs.Prelude.{◌≡◌, Err, length, map};
-ghost use Rattle.hotel_asks.specs.{Values.IsReading, Names.names_of, declared.values.AskFault.TheVariants.Values, declared.values.ValueFault.TheVariants.Number};
+ghost use Rattle.hotel_asks.specs.{Values.IsReading, Names.names_of, declared.values.AskFault.TheVariants.Values};
+ghost use Rattle.hotel_asks.specs.{declared.values.ValueFault.TheVariants.Number};
 ghost use Rattle.hotel_asks.specs.Asks.{ask_copies, of_none, of_one, of_two, of_four, of_five, of_six, ask_of};
 
 use crate::lists::ListAsk;

@@ -1,5 +1,5 @@
-//! What a verb and the texts of its values ask of the desk, however they came: as a line, as words or as a form. A list that is asked
-//! for is written here.
+//! What a verb and the texts of its values ask of the desk, however they came: as a line, as words or as a form. A list
+//! that is asked for is written here.
 #![tactic(auto)]
 
 mod asks;

@@ -2,7 +2,8 @@
 
 ghost use Rattle.std.specs.Prelude.{◌≡◌, ◌≤◌, true, length};
 ghost use Rattle.hotel_asks.specs.{Names.name_text, declared.values.AskFault.TheVariants.Values};
-ghost use Rattle.hotel_asks.specs.Values.{day_in, code_in, kind_in, nights_in, guest_in, room_in, slash_in, fit_after, lock_in, party_in, card_in, count_in, moment_in, IsReading};
+ghost use Rattle.hotel_asks.specs.Values.{day_in, code_in, kind_in, nights_in, guest_in, room_in, slash_in, fit_after};
+ghost use Rattle.hotel_asks.specs.Values.{lock_in, party_in, card_in, count_in, moment_in, IsReading};
 
 use hotel_nights::{Day, Guest, GuestFault, KindCode, Moment, Nights};
 use keycard_rules::{CardNo, Code, Count, FitNo, PartyNo, RoomNo};
@@ -149,8 +150,8 @@ fn fit_after(text: &[u8], slash: usize) -> Option<FitNo>
     FitNo::read(&text[slash + 1..])
 }
 
-/// Reads a lock: a room's number, or that, a slash and the number of the room's lock, 1 to 99. Without a slash it is the
-/// room's first lock. What isn't read is refused as `ValueName::Lock`.
+/// Reads a lock: a room's number, or that, a slash and the number of the room's lock, 1 to 99. Without a slash it is
+/// the room's first lock. What isn't read is refused as `ValueName::Lock`.
 pub fn read_lock(text: &[u8]) -> Result<Lock, ValueFault>
     ensures { result ≡ lock_in text.now }
 {

@@ -5,11 +5,16 @@ use Rattle.hotel_model.specs.declared.reply.Reply.{Reply}
 use Rattle.hotel_core.specs.Texts.{reply_text}
 use Rattle.hotel_model.specs.declared.reply.Reply.TheVariants as reply
 use Rattle.hotel_model.specs.declared.reply.Refusal.TheVariants as refusal
-use Rattle.hotel_http.specs.{declared.rejection.Method.Method, declared.rejection.Method.TheVariants.Get, declared.rejection.Method.TheVariants.Post}
-use Rattle.hotel_http.specs.{declared.rejection.Rejection.Rejection, declared.status.Status.Status, declared.answer.Media.Media}
+use Rattle.hotel_http.specs.{declared.rejection.Method.Method, declared.rejection.Method.TheVariants.Get}
+use Rattle.hotel_http.specs.{declared.rejection.Method.TheVariants.Post}
+use Rattle.hotel_http.specs.{declared.rejection.Rejection.Rejection, declared.status.Status.Status}
+use Rattle.hotel_http.specs.{declared.answer.Media.Media}
 use Rattle.hotel_http.specs.declared.rejection.Rejection.TheVariants as rejection
-use Rattle.hotel_http.specs.declared.status.Status.TheVariants.{Success, BadRequest, NotFound, MethodNotAllowed, Conflict, ContentTooLarge, HeadTooLarge, NotImplemented, Unavailable}
-use Rattle.hotel_http.specs.{declared.answer.Media.TheVariants.Plain, declared.answer.Media.TheVariants.Csv, Status.number_of, Status.phrase_of}
+use Rattle.hotel_http.specs.declared.status.Status.TheVariants.{Success, BadRequest, NotFound, MethodNotAllowed}
+use Rattle.hotel_http.specs.declared.status.Status.TheVariants.{Conflict, ContentTooLarge, HeadTooLarge, NotImplemented}
+use Rattle.hotel_http.specs.declared.status.Status.TheVariants.{Unavailable}
+use Rattle.hotel_http.specs.{declared.answer.Media.TheVariants.Plain, declared.answer.Media.TheVariants.Csv}
+use Rattle.hotel_http.specs.{Status.number_of, Status.phrase_of}
 
 -- the type of a body
 abbrev pub media_type : Media → List ℕ

@@ -1,7 +1,8 @@
 -- The answer to an audit file.
 use Rattle.std.specs.Prelude.{ℕ, List, ◌++◌, codes, None}
 use Rattle.std.specs.Fmt.{decimal}
-use Rattle.hotel_audit.specs.{Answers.answers_text, declared.answer.LineAnswer.LineAnswer, declared.imports.ImportFault.ImportFault}
+use Rattle.hotel_audit.specs.{Answers.answers_text, declared.answer.LineAnswer.LineAnswer}
+use Rattle.hotel_audit.specs.{declared.imports.ImportFault.ImportFault}
 use Rattle.hotel_audit.specs.declared.audit_file.AuditFault.TheVariants as file
 use Rattle.hotel_audit.specs.declared.imports.ImportFault.TheVariants as fault
 use Rattle.hotel_http.specs.{declared.answer.Media.TheVariants.Plain, declared.status.Status.Status, Answer.answer_text}

@@ -1,5 +1,6 @@
 -- What the field lines of a head say of the body.
-use Rattle.std.specs.Prelude.{◌≡◌, ℕ, ◌<◌, Bool, true, false, ◌&&◌, List, [], ◌∷◌, length, map, filter, if◌then◌else◌, ◌==◌, nat_lt, codes, Result, Ok, Err}
+use Rattle.std.specs.Prelude.{◌≡◌, ℕ, ◌<◌, Bool, true, false, ◌&&◌, List, [], ◌∷◌, length, map, filter, if◌then◌else◌}
+use Rattle.std.specs.Prelude.{◌==◌, nat_lt, codes, Result, Ok, Err}
 use Rattle.std.specs.List.{list_all, list_any}
 use Rattle.std.specs.Char.{is_ascii_digit}
 use Rattle.std.specs.Str.{str_eq_ignore_ascii_case}

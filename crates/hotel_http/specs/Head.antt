@@ -1,7 +1,9 @@
 -- The head that an input begins with. All is said of the whole input, and nothing of the pieces in which it came.
 use Rattle.std.specs.Prelude.{◌≡◌, ℕ, ◌<◌, ◌≤◌, ◌⊎◌, List, [], length, take, drop}
-use Rattle.httparse.specs.Grammar.{RequestHead, print_request, ReadsRequest, HasNoRequest, NeverHasRequest, MayBecomeRequest}
-use Rattle.httparse.specs.{Spans.IsRequestAt, Spans.IsRequestOf, Spans.IsRequestWithin, Spans.RequestOverflows, Spans.RequestExceeds, declared.spans.HeaderSpan.HeaderSpan}
+use Rattle.httparse.specs.Grammar.{RequestHead, print_request, ReadsRequest, HasNoRequest, NeverHasRequest}
+use Rattle.httparse.specs.Grammar.{MayBecomeRequest}
+use Rattle.httparse.specs.{Spans.IsRequestAt, Spans.IsRequestOf, Spans.IsRequestWithin, Spans.RequestOverflows}
+use Rattle.httparse.specs.{Spans.RequestExceeds, declared.spans.HeaderSpan.HeaderSpan}
 use Rattle.hotel_http.specs.{declared.head.Judged.Judged, declared.head.Parsed.Parsed}
 use Rattle.hotel_http.specs.declared.head.Judged.TheVariants.{More, Closed, Whole, Malformed, TooLarge}
 use Rattle.hotel_http.specs.declared.head.Parsed.TheVariants as parsed

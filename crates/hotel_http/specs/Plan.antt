@@ -1,11 +1,14 @@
 -- What the head of a request asks for, by its checks in order.
-use Rattle.std.specs.Prelude.{ℕ, Bool, ◌&&◌, List, take, map, Option, Some, None, Result, Ok, Err, ◌==◌, nat_lt, codes, if◌then◌else◌, slice_index}
+use Rattle.std.specs.Prelude.{ℕ, Bool, ◌&&◌, List, take, map, Option, Some, None, Result, Ok, Err, ◌==◌, nat_lt, codes}
+use Rattle.std.specs.Prelude.{if◌then◌else◌, slice_index}
 use Rattle.std.specs.List.{position_or_len}
 use Rattle.std.specs.Str.{bytes_eq}
 use Rattle.keycard_rules.specs.Results.{◌>>=◌}
 use Rattle.httparse.specs.{Grammar.RequestHead, Spans.name_and_value}
-use Rattle.hotel_http.specs.{Fields.Pair, Fields.framing, Fields.expects_continue, Routes.target_of, Routes.method_of, declared.rejection.Method.Method}
-use Rattle.hotel_http.specs.{declared.rejection.Method.TheVariants.Get, declared.rejection.Method.TheVariants.Post, declared.rejection.Rejection.Rejection}
+use Rattle.hotel_http.specs.{Fields.Pair, Fields.framing, Fields.expects_continue, Routes.target_of, Routes.method_of}
+use Rattle.hotel_http.specs.{declared.rejection.Method.Method}
+use Rattle.hotel_http.specs.{declared.rejection.Method.TheVariants.Get, declared.rejection.Method.TheVariants.Post}
+use Rattle.hotel_http.specs.{declared.rejection.Rejection.Rejection}
 use Rattle.hotel_http.specs.declared.rejection.Rejection.TheVariants.{BadRequest, NotFound, WrongMethod}
 use Rattle.hotel_http.specs.{declared.routes.Target.Target, declared.plan.Plan.Plan}
 

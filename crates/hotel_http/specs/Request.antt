@@ -1,15 +1,18 @@
 -- What a request asks for. All is said of the whole input, and nothing of the pieces in which it came.
-use Rattle.std.specs.Prelude.{◌≡◌, ◌<◌, ◌⊎◌, ℕ, Bool, true, false, List, [], ◌++◌, length, take, drop, if◌then◌else◌, nat_lt, Option, Some, None, IfSome, Result, Ok, Err}
+use Rattle.std.specs.Prelude.{◌≡◌, ◌<◌, ◌⊎◌, ℕ, Bool, true, false, List, [], ◌++◌, length, take, drop, if◌then◌else◌}
+use Rattle.std.specs.Prelude.{nat_lt, Option, Some, None, IfSome, Result, Ok, Err}
 use Rattle.std.specs.Io.KnownBytes.{Appends, Keeps}
 use Rattle.hotel_http.specs.Reads.{ReadsWhile}
 use Rattle.httparse.specs.Grammar.{RequestHead}
 use Rattle.hotel_lists.specs.{Bytes.AppendsFront, declared.bytes.ReadFault.ReadFault}
 use Rattle.hotel_lists.specs.declared.bytes.ReadFault.TheVariants as more
-use Rattle.hotel_http.specs.{declared.plan.Plan.Plan, declared.rejection.Rejection.Rejection, declared.requests.Request.Request, declared.requests.RequestFault.RequestFault}
+use Rattle.hotel_http.specs.{declared.plan.Plan.Plan, declared.rejection.Rejection.Rejection}
+use Rattle.hotel_http.specs.{declared.requests.Request.Request, declared.requests.RequestFault.RequestFault}
 use Rattle.hotel_http.specs.declared.rejection.Rejection.TheVariants as rejection
 use Rattle.hotel_http.specs.declared.requests.RequestFault.TheVariants.{Closed, Read, Memory, Write}
 use Rattle.keycard_rules.specs.Results.{◌>>=◌}
-use Rattle.hotel_http.specs.{declared.tasks.Task.Task, Body.interim_text, Body.interim_where, Head.BeginsWith, Head.IsBad, Head.IsTooLarge, Head.WantsHead, Plan.plan_in, Plan.path_of}
+use Rattle.hotel_http.specs.{declared.tasks.Task.Task, Body.interim_text, Body.interim_where, Head.BeginsWith}
+use Rattle.hotel_http.specs.{Head.IsBad, Head.IsTooLarge, Head.WantsHead, Plan.plan_in, Plan.path_of}
 use Rattle.hotel_http.specs.Tasks.{task_in, reads_form}
 
 -- What a request comes to: a task with the body that came with it, or why nothing is asked.
@@ -53,7 +56,8 @@ awaits (Ok plan) = plan.awaited
 abbrev pub IsHeadless : List ℕ → Wanted → Type 0
 IsHeadless input wanted = (IsBad input × (wanted ≡ Err rejection.BadRequest)) ⊎ (IsTooLarge input × (wanted ≡ Err rejection.HeadTooLarge))
 
--- The input asks for this, with an interim answer before it or not: by its head and what stands behind that; or it has no head.
+-- The input asks for this, with an interim answer before it or not: by its head and what stands behind that; or it has
+-- no head.
 abbrev pub Requests : List ℕ → Bool → Wanted → Type 0
 Requests input awaited wanted =
     ((head : RequestHead) × (rest : List ℕ) × BeginsWith input head rest × (awaited ≡ awaits (plan_in head)) × IsAsked (plan_in head) (path_of head.target) rest wanted)
@@ -68,11 +72,13 @@ abbrev pub WantsBody : Result Plan Rejection → List ℕ → Type 0
 WantsBody (Err why) rest = ⊥
 WantsBody (Ok plan) rest = length rest < plan.size
 
--- What was read behind bytes that begin with a head: nothing where none was wanted, and nothing more once its body was there.
+-- What was read behind bytes that begin with a head: nothing where none was wanted, and nothing more once its body was
+-- there.
 abbrev pub ReadsBehind : RequestHead → ℕ → List ℕ → Option (List ℕ) → Option (List ℕ) → Type 0
 ReadsBehind head len bytes old new = Keeps old new ⊎ ReadsWhile (λ came. WantsBody (plan_in head) (drop len (bytes ++ came))) old new
 
--- More bytes of a request are wanted behind these: of its head, or of the body of its plan. Behind a head that is rejected none are.
+-- More bytes of a request are wanted behind these: of its head, or of the body of its plan. Behind a head that is
+-- rejected none are.
 abbrev pub WantsMore : List ℕ → Type 0
 WantsMore bytes = WantsHead bytes ⊎ ((head : RequestHead) × (rest : List ℕ) × BeginsWith bytes head rest × WantsBody (plan_in head) rest)
 

@@ -1,9 +1,12 @@
 -- The routes: which paths there are, and what each asks for.
-use Rattle.std.specs.Prelude.{ℕ, List, [], ◌∷◌, Bool, true, false, ◌&&◌, is_none, Option, Some, None, Result, Ok, Err, codes, map}
+use Rattle.std.specs.Prelude.{ℕ, List, [], ◌∷◌, Bool, true, false, ◌&&◌, is_none, Option, Some, None, Result, Ok, Err}
+use Rattle.std.specs.Prelude.{codes, map}
 use Rattle.std.specs.Borrow.{Bor}
-use Rattle.matchit.specs.{Rows.RowsOf, Order.placed, Route.parse_route, Route.Scan, Router.RouteOf, Router.nearest, Router.route_from, Seek.first, declared.error.InsertError.InsertError}
+use Rattle.matchit.specs.{Rows.RowsOf, Order.placed, Route.parse_route, Route.Scan, Router.RouteOf, Router.nearest}
+use Rattle.matchit.specs.{Router.route_from, Seek.first, declared.error.InsertError.InsertError}
 use Rattle.hotel_asks.specs.declared.verbs.Verb.TheVariants as verb
-use Rattle.hotel_http.specs.{declared.rejection.Method.Method, declared.rejection.Method.TheVariants.Get, declared.rejection.Method.TheVariants.Post, declared.routes.Target.Target}
+use Rattle.hotel_http.specs.{declared.rejection.Method.Method, declared.rejection.Method.TheVariants.Get}
+use Rattle.hotel_http.specs.{declared.rejection.Method.TheVariants.Post, declared.routes.Target.Target}
 use Rattle.hotel_http.specs.declared.routes.Target.TheVariants.{Asks, Audit}
 
 -- each path and what it asks for

@@ -1,5 +1,6 @@
 -- What comes of a request: its answer, and the history of the books after it.
-use Rattle.std.specs.Prelude.{◌≡◌, ◌⊎◌, ℕ, Bool, true, false, not, List, [], ◌∷◌, ◌++◌, map, Option, Some, None, IfSome, Result, Ok, Err}
+use Rattle.std.specs.Prelude.{◌≡◌, ◌⊎◌, ℕ, Bool, true, false, not, List, [], ◌∷◌, ◌++◌, map, Option, Some, None, IfSome}
+use Rattle.std.specs.Prelude.{Result, Ok, Err}
 use Rattle.std.specs.Io.KnownBytes.{Appends}
 use Rattle.rand_core.specs.Stream.{Stream}
 use Rattle.hotel_model.specs.{declared.reply.Reply.Reply, declared.reply.Refusal.Refusal, History.History}
@@ -7,24 +8,32 @@ use Rattle.hotel_core.specs.{Books.Failures.failure_in, Books.Happens.answered_b
 use Rattle.hotel_model.specs.declared.reply.Reply.TheVariants as reply
 use Rattle.hotel_model.specs.declared.reply.Refusal.TheVariants as refusal
 use Rattle.hotel_model.specs.Run.{Steps, Runs, is_failed}
-use Rattle.hotel_lists.specs.{Bytes.AppendsFront, declared.calls.WriteFailed.WriteFailed, declared.fault.ListFault.ListFault}
+use Rattle.hotel_lists.specs.{Bytes.AppendsFront, declared.calls.WriteFailed.WriteFailed}
+use Rattle.hotel_lists.specs.{declared.fault.ListFault.ListFault}
 use Rattle.hotel_lists.specs.declared.fault.ListFault.TheVariants as list
 use Rattle.hotel_lists.specs.Listings.{Listing, in_full}
 use Rattle.hotel_asks.specs.{declared.asks.Ask.Ask, Listings.listing_over}
 use Rattle.hotel_asks.specs.declared.asks.Ask.TheVariants as ask
-use Rattle.hotel_audit.specs.{AuditFile.audit_lines, Import.AreAnswered, Import.EndsAfter, Import.commands_of, Import.replies_in, Import.has_taken, Import.failures_of}
-use Rattle.hotel_audit.specs.{declared.answer.LineAnswer.LineAnswer, declared.imports.ImportFault.ImportFault, declared.line.Line.Line}
+use Rattle.hotel_audit.specs.{AuditFile.audit_lines, Import.AreAnswered, Import.EndsAfter, Import.commands_of}
+use Rattle.hotel_audit.specs.{Import.replies_in, Import.has_taken, Import.failures_of}
+use Rattle.hotel_audit.specs.{declared.answer.LineAnswer.LineAnswer, declared.imports.ImportFault.ImportFault}
+use Rattle.hotel_audit.specs.{declared.line.Line.Line}
 use Rattle.hotel_audit.specs.declared.imports.ImportFault.TheVariants as import
-use Rattle.hotel_http.specs.{declared.rejection.Rejection.Rejection, declared.serve.Cut.Cut, declared.serve.Served.Served, declared.serve.ServeFault.ServeFault}
+use Rattle.hotel_http.specs.{declared.rejection.Rejection.Rejection, declared.serve.Cut.Cut}
+use Rattle.hotel_http.specs.{declared.serve.Served.Served, declared.serve.ServeFault.ServeFault}
 use Rattle.hotel_http.specs.declared.serve.ServeFault.TheVariants.{Closed, Read, Memory, Write}
-use Rattle.hotel_http.specs.{declared.requests.RequestFault.RequestFault, declared.status.Status.Status, declared.status.Status.TheVariants.Success, declared.tasks.Task.Task}
+use Rattle.hotel_http.specs.{declared.requests.RequestFault.RequestFault, declared.status.Status.Status}
+use Rattle.hotel_http.specs.{declared.status.Status.TheVariants.Success, declared.tasks.Task.Task}
 use Rattle.hotel_http.specs.declared.requests.RequestFault.TheVariants as unread
 use Rattle.hotel_http.specs.declared.tasks.Task.TheVariants as task
 use Rattle.hotel_http.specs.Answer.{rejection_answer, rejection_status, reply_answer, reply_status, list_answer}
-use Rattle.hotel_http.specs.{AuditAnswer.lines_answer, AuditAnswer.fault_answer, AuditAnswer.fault_status, Body.interim_text}
-use Rattle.hotel_http.specs.{Request.Wanted, Request.Requests, Request.IsAwaited, Request.AtMostInterim, Status.number_of}
+use Rattle.hotel_http.specs.{AuditAnswer.lines_answer, AuditAnswer.fault_answer, AuditAnswer.fault_status}
+use Rattle.hotel_http.specs.{Body.interim_text}
+use Rattle.hotel_http.specs.{Request.Wanted, Request.Requests, Request.IsAwaited, Request.AtMostInterim}
+use Rattle.hotel_http.specs.{Status.number_of}
 
--- An answer: its bytes, its status, and whether the books took something of the request; and of each time that they were asked for it whether they answered.
+-- An answer: its bytes, its status, and whether the books took something of the request; and of each time that they
+-- were asked for it whether they answered.
 pub record Outcome : Type 0 where
   pub text : List ℕ
   pub status : ℕ
@@ -77,8 +86,8 @@ abbrev pub import_failures : Result (List LineAnswer) ImportFault → List Refus
 import_failures (Ok answers) = []
 import_failures (Err why) = failures_of why
 
--- The answer to a list, with the failures that the books counted: it in full or that its room isn't there, or that memory or the store failed. The memory of the list's text is
--- its own: want of it isn't counted.
+-- The answer to a list, with the failures that the books counted: it in full or that its room isn't there, or that
+-- memory or the store failed. The memory of the list's text is its own: want of it isn't counted.
 abbrev pub ListComes : Option Listing → Outcome → List Refusal → Type 0
 ListComes listing out failed =
     ((out ≡ listed listing) × (failed ≡ []))
@@ -161,11 +170,13 @@ abbrev pub text_in : {A : Type 0} → (A → List ℕ) → Result A Refusal → 
 text_in items (Ok text) = Ok (items text)
 text_in items (Err why) = Err why
 
--- A request was read and answered: this holds of what it asks for, whether there was an interim answer, and how its answer ended.
+-- A request was read and answered: this holds of what it asks for, whether there was an interim answer, and how its
+-- answer ended.
 abbrev pub WasAnswered : Option (List ℕ) → (Wanted → Bool → AnswerEnd → Type 0) → AnswerEnd → Type 0
 WasAnswered known went end = (wanted : Wanted) × (awaited : Bool) × IfSome known (λ input. Requests input awaited wanted) × went wanted awaited end
 
--- How a request was served: it was answered; or its answer or the interim one was cut short; or no request was read. Where it wasn't begun, this is the same as before.
+-- How a request was served: it was answered; or its answer or the interim one was cut short; or no request was read.
+-- Where it wasn't begun, this is the same as before.
 abbrev pub Serves : Option (List ℕ) → Option (List ℕ) → Option (List ℕ) → Type 0 → (Wanted → Bool → AnswerEnd → Type 0) → Result Served ServeFault → Type 0
 Serves known old new same went (Ok served) = WasAnswered known went (Ok served)
 Serves known old new same went (Err (Write acted)) =

@@ -1,7 +1,9 @@
 -- The numbers and phrases of statuses.
 use Rattle.std.specs.Prelude.{ℕ, List, codes}
 use Rattle.hotel_http.specs.declared.status.Status.{Status}
-use Rattle.hotel_http.specs.declared.status.Status.TheVariants.{Success, BadRequest, NotFound, MethodNotAllowed, Conflict, ContentTooLarge, HeadTooLarge, NotImplemented, Unavailable}
+use Rattle.hotel_http.specs.declared.status.Status.TheVariants.{Success, BadRequest, NotFound, MethodNotAllowed}
+use Rattle.hotel_http.specs.declared.status.Status.TheVariants.{Conflict, ContentTooLarge, HeadTooLarge, NotImplemented}
+use Rattle.hotel_http.specs.declared.status.Status.TheVariants.{Unavailable}
 
 -- the number of a status
 abbrev pub number_of : Status → ℕ

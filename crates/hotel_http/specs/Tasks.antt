@@ -1,9 +1,13 @@
 -- What a route asks for, by its path and the form behind the head.
-use Rattle.std.specs.Prelude.{ℕ, ◌+◌, ◌==◌, Bool, true, false, List, [], ◌∷◌, take, drop, codes, Option, Some, None, Result, Ok, Err}
+use Rattle.std.specs.Prelude.{ℕ, ◌+◌, ◌==◌, Bool, true, false, List, [], ◌∷◌, take, drop, codes, Option, Some, None}
+use Rattle.std.specs.Prelude.{Result, Ok, Err}
 use Rattle.std.specs.List.{position_or_len}
 use Rattle.hotel_nights.specs.Days.{◌>>=◌}
-use Rattle.hotel_asks.specs.{declared.asks.Ask.Ask, declared.verbs.Verb.Verb, declared.values.ValueFault.ValueFault, Asks.ask_of}
-use Rattle.hotel_asks.specs.declared.verbs.Verb.TheVariants.{Begin, AddKind, AddRoom, Reserve, Cancel, CheckIn, Spare, Reissue, Transfer, CheckOut, Refit, NextDay, Entered, Left, Recoded, Arrivals, InHouse, ChainOf, LeftBehind, AuditOf}
+use Rattle.hotel_asks.specs.{declared.asks.Ask.Ask, declared.verbs.Verb.Verb, declared.values.ValueFault.ValueFault}
+use Rattle.hotel_asks.specs.{Asks.ask_of}
+use Rattle.hotel_asks.specs.declared.verbs.Verb.TheVariants.{Begin, AddKind, AddRoom, Reserve, Cancel, CheckIn, Spare}
+use Rattle.hotel_asks.specs.declared.verbs.Verb.TheVariants.{Reissue, Transfer, CheckOut, Refit, NextDay, Entered, Left}
+use Rattle.hotel_asks.specs.declared.verbs.Verb.TheVariants.{Recoded, Arrivals, InHouse, ChainOf, LeftBehind, AuditOf}
 use Rattle.hotel_http.specs.{declared.routes.Target.Target, declared.tasks.Task.Task, Form.form_text}
 use Rattle.hotel_http.specs.declared.routes.Target.TheVariants as target
 use Rattle.hotel_http.specs.declared.tasks.Task.TheVariants as task

@@ -5,7 +5,9 @@ ghost use Rattle.std.specs.Io.KnownBytes.{Appends};
 ghost use Rattle.hotel_lists.specs.{Bytes.AppendsFront, Calls.NoneForgotten};
 ghost use Rattle.hotel_http.specs.declared.answer.Media.TheVariants.{Plain};
 ghost use Rattle.hotel_http.specs.Answer as spec;
-ghost use Rattle.hotel_http.specs.Answer.{media_type, allow_field, status_line, head_text, answer_text, rejection_status, rejection_body, allowed_by, rejection_answer, reply_status, reply_answer, list_answer};
+ghost use Rattle.hotel_http.specs.Answer.{media_type, allow_field, status_line, head_text, answer_text};
+ghost use Rattle.hotel_http.specs.Answer.{rejection_status, rejection_body, allowed_by, rejection_answer, reply_status};
+ghost use Rattle.hotel_http.specs.Answer.{reply_answer, list_answer};
 
 use crate::buffer::HeadText;
 use crate::rejection::{Method, Rejection};

@@ -47,8 +47,8 @@ fn fill_body<R: Read>(
     Ok(())
 }
 
-/// Reads the body, of which the bytes that are begun came with the head. More bytes than its size may be read, and fewer where the input
-/// ends.
+/// Reads the body, of which the bytes that are begun came with the head. More bytes than its size may be read, and
+/// fewer where the input ends.
 pub fn read_body<R: Read>(
     alloc: Global,
     reader: &mut R,

@@ -2,7 +2,8 @@
 
 ghost use Rattle.std.specs.Prelude.{◌≡◌, length, map, All};
 ghost use Rattle.httparse.specs.Spans.{IsHeaderWithin, header_bytes};
-ghost use Rattle.hotel_http.specs.{Plan.path_of, Plan.method_name, Plan.planned, Plan.routed, Plan.allowed, Plan.size_read, Plan.is_awaited};
+ghost use Rattle.hotel_http.specs.{Plan.path_of, Plan.method_name, Plan.planned, Plan.routed, Plan.allowed};
+ghost use Rattle.hotel_http.specs.{Plan.size_read, Plan.is_awaited};
 
 use crate::fields::{expects_continue, read_framing};
 use crate::rejection::{Method, Rejection};
@@ -79,8 +80,8 @@ fn is_awaited(minor: u8, size: usize, bytes: &[u8], headers: &[HeaderSpan]) -> b
     minor == 1 && size > 0 && expects_continue(bytes, headers)
 }
 
-/// What a head asks for, or the first rejection. The headers are those of the head that the bytes begin with, `minor` is its minor
-/// version of HTTP/1.
+/// What a head asks for, or the first rejection. The headers are those of the head that the bytes begin with, `minor`
+/// is its minor version of HTTP/1.
 #[tactic(auto, unfolding(crate::specs::Plan::planned))]
 pub fn make_plan(
     routes: &Routes,

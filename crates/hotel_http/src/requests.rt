@@ -1,11 +1,13 @@
 //! What a request asks for: its head, then its body, each checked in turn.
 
-ghost use Rattle.std.specs.Prelude.{◌≡◌, ◌≢◌, ◌++◌, ◌≤◌, true, List, ℕ, length, take, drop, IfOk, OnOk, OnErr, IfSome, IsErrOf, IsUtf8};
+ghost use Rattle.std.specs.Prelude.{◌≡◌, ◌≢◌, ◌++◌, ◌≤◌, true, List, ℕ, length, take, drop, IfOk, OnOk, OnErr, IfSome};
+ghost use Rattle.std.specs.Prelude.{IsErrOf, IsUtf8};
 ghost use Rattle.std.specs.Io.KnownBytes.{Appends, Keeps};
 ghost use Rattle.httparse.specs.{Grammar.RequestHead, Spans.IsRequestWithin, Spans.IsRequestAt, Spans.span_bytes};
 ghost use Rattle.hotel_lists.specs.Calls.{NoneForgotten};
 ghost use Rattle.hotel_http.specs.Reads.{ReadsWhile};
-ghost use Rattle.hotel_http.specs.{Body.ReadsBody, Plan.plan_in, Request.request_fault_of, Request.IsMeant, Request.EndsBody, Request.wanted_of, Request.EndsHead, Request.EndsRequest};
+ghost use Rattle.hotel_http.specs.{Body.ReadsBody, Plan.plan_in, Request.request_fault_of, Request.IsMeant};
+ghost use Rattle.hotel_http.specs.{Request.EndsBody, Request.wanted_of, Request.EndsHead, Request.EndsRequest};
 ghost use Rattle.hotel_http.specs.Request.{ReadsBehind, WantsMore};
 ghost use Rattle.hotel_http.specs.declared.requests.RequestFault.TheVariants.{Write, Read, Memory};
 
@@ -104,7 +106,8 @@ fn read_meaning(alloc: Global, plan: Plan, path: &str, body: Vec<u8>) -> Result<
     }
 }
 
-/// Reads the body of a plan, after the interim answer where the client awaits it. The bytes that are begun came with the head.
+/// Reads the body of a plan, after the interim answer where the client awaits it. The bytes that are begun came with
+/// the head.
 fn read_planned<R: Read, W: Write>(
     alloc: Global,
     reader: &mut R,

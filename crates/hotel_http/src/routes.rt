@@ -54,8 +54,8 @@ fn add_all(router: &mut Router<Target>, routes: &[(&str, Target)]) -> Result<(),
     Ok(())
 }
 
-/// Makes the table of routes. No two of them conflict, so it fails only by want of memory. A server makes it once, and serves each
-/// request by it.
+/// Makes the table of routes. No two of them conflict, so it fails only by want of memory. A server makes it once, and
+/// serves each request by it.
 #[tactic(auto, unfolding(crate::specs::Routes::hotel_routes))]
 pub fn make_routes(alloc: Global) -> Result<Routes, InsertError>
     ensures fault { IfErr result (λ fault. fault ≡ OutOfMemory) }

@@ -10,8 +10,11 @@ ghost use Rattle.hotel_asks.specs.Listings.{listing_on};
 ghost use Rattle.hotel_http.specs.Reads.{ReadsWhile};
 ghost use Rattle.hotel_http.specs.Request.{WantsMore};
 ghost use Rattle.hotel_asks.specs.declared.asks.Ask.TheVariants as ask;
-ghost use Rattle.hotel_http.specs.{Body.interim_where, declared.serve.ServeFault.TheVariants.Read, declared.serve.ServeFault.TheVariants.Write};
-ghost use Rattle.hotel_http.specs.Serve.{rejected, replied, is_accepted, is_answered, taken_by, outcome, AskComes, FileComes, TaskComes, Comes, EndsAs, Answered, ended, IsListText, list_refusal, list_failures, text_in, Serves, IfUnwritten, serve_fault_of};
+ghost use Rattle.hotel_http.specs.{Body.interim_where, declared.serve.ServeFault.TheVariants.Read};
+ghost use Rattle.hotel_http.specs.{declared.serve.ServeFault.TheVariants.Write};
+ghost use Rattle.hotel_http.specs.Serve.{rejected, replied, is_accepted, is_answered, taken_by, outcome, AskComes};
+ghost use Rattle.hotel_http.specs.Serve.{FileComes, TaskComes, Comes, EndsAs, Answered, ended, IsListText};
+ghost use Rattle.hotel_http.specs.Serve.{list_refusal, list_failures, text_in, Serves, IfUnwritten, serve_fault_of};
 
 use crate::answer::{rejection_status, reply_status, write_csv, write_rejection, write_reply};
 use crate::audit_answer::{fault_status, has_taken, write_audit, write_fault};
@@ -141,7 +144,8 @@ fn answer_command<W: Write, B: Walks, R: Rng>(
     answer_reply(&reply, writer, calls)
 }
 
-/// The refusal that a list's fault is answered by. Its text is written in memory, where a write fails for want of memory alone.
+/// The refusal that a list's fault is answered by. Its text is written in memory, where a write fails for want of
+/// memory alone.
 fn list_refusal(fault: ListFault) -> Refusal
     ensures { result ≡ list_refusal fault }
 {
@@ -266,8 +270,8 @@ fn answer_request<W: Write, B: Walks, R: Rng>(
     }
 }
 
-/// Reads one request, carries out what it asks for, and answers, as `serve_one` does. The caller made the table of routes, once for
-/// all its requests, and no memory is taken for it here. The reads and writes are added to the calls.
+/// Reads one request, carries out what it asks for, and answers, as `serve_one` does. The caller made the table of
+/// routes, once for all its requests, and no memory is taken for it here. The reads and writes are added to the calls.
 pub fn serve_by<I: Read, W: Write, B: Walks, R: Rng>(
     alloc: Global,
     routes: &Routes,
@@ -294,12 +298,12 @@ pub fn serve_by<I: Read, W: Write, B: Walks, R: Rng>(
     }
 }
 
-/// Makes the table of routes, reads one request, carries out what it asks for, and answers. A server makes the table once, and calls
-/// `serve_by` with it.
+/// Makes the table of routes, reads one request, carries out what it asks for, and answers. A server makes the table
+/// once, and calls `serve_by` with it.
 ///
-/// The body is read whole before a command or an import begins. All memory but theirs is taken before it; their answers are written from
-/// buffers of fixed size, and a list's text is made whole before its answer begins. The interrupted reads and writes of the call are
-/// counted together; the thousandth is a fault. The writer is not flushed.
+/// The body is read whole before a command or an import begins. All memory but theirs is taken before it; their answers
+/// are written from buffers of fixed size, and a list's text is made whole before its answer begins. The interrupted
+/// reads and writes of the call are counted together; the thousandth is a fault. The writer is not flushed.
 #[tactic(auto, using(crate::proofs::RequestLemmas::none_read))]
 pub fn serve_one<I: Read, W: Write, B: Walks, R: Rng>(
     alloc: Global,

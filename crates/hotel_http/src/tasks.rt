@@ -2,7 +2,9 @@
 
 ghost use Rattle.std.specs.Prelude.{◌≡◌, true, List, [], ◌∷◌, map, IfOk, OnErr};
 ghost use Rattle.hotel_asks.specs.{Asks.ask_of, Asks.ask_copies, Values.IsCopy};
-ghost use Rattle.hotel_http.specs.Tasks.{after_slash, before_slash, second_part, asked, of_field, of_part, of_part_and_room, of_room_and_kind, of_reservation, ask_in, has_fields, task_in, reads_form};
+ghost use Rattle.hotel_http.specs.Tasks.{after_slash, before_slash, second_part, asked, of_field, of_part};
+ghost use Rattle.hotel_http.specs.Tasks.{of_part_and_room, of_room_and_kind, of_reservation, ask_in, has_fields};
+ghost use Rattle.hotel_http.specs.Tasks.{task_in, reads_form};
 
 use crate::form::read_form;
 use crate::routes::Target;
@@ -158,7 +160,8 @@ fn ask_reservation(alloc: Global, verb: Verb, body: &[u8]) -> Result<Option<Ask>
     )
 }
 
-/// What a route's verb asks for, its values from the path or the form. None where one of them is missing, stands twice or is refused.
+/// What a route's verb asks for, its values from the path or the form. None where one of them is missing, stands twice
+/// or is refused.
 fn ask_by_verb(
     alloc: Global,
     verb: Verb,

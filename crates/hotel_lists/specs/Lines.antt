@@ -1,14 +1,17 @@
 -- The lines of the five lists, and how a sink of lines and a look-up of a room end.
-use Rattle.std.specs.Prelude.{ℕ, ◌≡◌, Bool, true, false, List, [], ◌∷◌, ◌++◌, codes, if◌then◌else◌, Option, Some, None, Result, Ok, Err}
+use Rattle.std.specs.Prelude.{ℕ, ◌≡◌, Bool, true, false, List, [], ◌∷◌, ◌++◌, codes, if◌then◌else◌, Option, Some, None}
+use Rattle.std.specs.Prelude.{Result, Ok, Err}
 use Rattle.std.specs.Fmt.{decimal}
 use Rattle.std.specs.Io.KnownBytes.{Keeps}
 use Rattle.csv.specs.Writing.{default_writer, row_text}
-use Rattle.keycard_rules.specs.{Rise.HasRisen, Rise.NoFewer, declared.issued.Issued.Ghosts as IssuedOf, Numerals.code_text, Note.Note, declared.note.Act.Act}
+use Rattle.keycard_rules.specs.{Rise.HasRisen, Rise.NoFewer, declared.issued.Issued.Ghosts as IssuedOf}
+use Rattle.keycard_rules.specs.{Numerals.code_text, Note.Note, declared.note.Act.Act}
 use Rattle.keycard_rules.specs.declared.issued.LookFault.TheVariants as look
 use Rattle.keycard_rules.specs.declared.note.Act.TheVariants.{Entered, Left, Recoded}
 use Rattle.hotel_model.specs.Event.{moment_of}
 use Rattle.hotel_nights.specs.{Days.day_text, Moments.moment_text, declared.stay.Stay.Stay}
-use Rattle.hotel_model.specs.{declared.rows.RoomRow.RoomRow, declared.list_rows.HouseRow.HouseRow, declared.list_rows.ChainRow.ChainRow}
+use Rattle.hotel_model.specs.{declared.rows.RoomRow.RoomRow, declared.list_rows.HouseRow.HouseRow}
+use Rattle.hotel_model.specs.{declared.list_rows.ChainRow.ChainRow}
 use Rattle.hotel_model.specs.{declared.list_rows.BehindRow.BehindRow, declared.list_rows.CodeState.CodeState}
 use Rattle.hotel_core.specs.declared.books.walks.WalkFault.{WalkFault}
 use Rattle.hotel_model.specs.declared.list_rows.CodeState.TheVariants as state
@@ -89,7 +92,8 @@ Vouches is_clean (Ok done) = is_clean
 Vouches is_clean (Err fault.NoRoom) = is_clean
 Vouches is_clean (Err _) = Unit {0}
 
--- A list left of the books what a look-up may leave, and vouches for them where they are honest; the store fails only where a failure of the store was counted.
+-- A list left of the books what a look-up may leave, and vouches for them where they are honest; the store fails only
+-- where a failure of the store was counted.
 pub record LooksAt {B : Type 0} (I : IssuedOf B) (old new : B) (result : Result (Unit {0}) ListFault) : Type 0 where
   pub kept : I.is_clean new → I.is_kept old new
   pub was_clean : I.is_clean new → I.is_clean old

@@ -1,5 +1,6 @@
 -- What a list has, its header and its lines, or nothing where its room isn't there; and how it was written.
-use Rattle.std.specs.Prelude.{◌≡◌, ◌≢◌, ◌⊎◌, ℕ, Bool, true, false, List, [], ◌++◌, map, Option, Some, None, is_some, Result, Ok, Err}
+use Rattle.std.specs.Prelude.{◌≡◌, ◌≢◌, ◌⊎◌, ℕ, Bool, true, false, List, [], ◌++◌, map, Option, Some, None, is_some}
+use Rattle.std.specs.Prelude.{Result, Ok, Err}
 use Rattle.std.specs.List.{concat}
 use Rattle.std.specs.Io.KnownBytes.{Appends}
 use Rattle.hotel_lists.specs.{Bytes.AppendsFront, declared.fault.ListFault.ListFault}
@@ -29,7 +30,8 @@ abbrev pub IsFront : Option Listing → List ℕ → Type 0
 IsFront None text = text ≡ []
 IsFront (Some listing) text = (text ≡ []) ⊎ ((taken : List (List ℕ)) × (rest : List (List ℕ)) × (listing.lines ≡ taken ++ rest) × (text ≡ listing.header ++ concat taken))
 
--- What a writer took of a list that ended so, where this is said if its room isn't there: all; a front after a write of it failed, if there was anything to write; whole lines where memory or the store failed.
+-- What a writer took of a list that ended so, where this is said if its room isn't there: all; a front after a write of
+-- it failed, if there was anything to write; whole lines where memory or the store failed.
 abbrev pub ListEnds : List ℕ → Option Listing → Option (List ℕ) → Option (List ℕ) → Result (Unit {0}) ListFault → Type 0
 ListEnds no_room listing old new (Ok done) = (is_some listing ≡ true) × Appends old new (in_full no_room listing)
 ListEnds no_room listing old new (Err fault.NoRoom) = (is_some listing ≡ false) × Appends old new (in_full no_room listing)

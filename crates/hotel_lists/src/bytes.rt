@@ -2,7 +2,8 @@
 
 ghost use Rattle.std.specs.Prelude.{◌≡◌, true, IfSome, IsErrOf, ◌<◌, ◌≤◌, length, IfOk, OnOk, OnErr};
 ghost use Rattle.std.specs.Io.KnownBytes.{Appends, Consumes, IsAtEnd, Keeps};
-ghost use Rattle.hotel_lists.specs.{Calls.NoneForgotten, Bytes.AppendsFront, Bytes.joined, Bytes.ReadsOnto, Bytes.ConsumesAtMost, Bytes.whole_fault};
+ghost use Rattle.hotel_lists.specs.{Calls.NoneForgotten, Bytes.AppendsFront, Bytes.joined, Bytes.ReadsOnto};
+ghost use Rattle.hotel_lists.specs.{Bytes.ConsumesAtMost, Bytes.whole_fault};
 ghost use Rattle.hotel_lists.specs.declared.bytes.ReadFault.TheVariants.{Read, Memory};
 
 use crate::calls::{IoCalls, ReadFailed, WriteFailed, read_some, write_some};

@@ -4,7 +4,8 @@ ghost use Rattle.std.specs.Fmt.{decimal};
 ghost use Rattle.keycard_rules.specs.Numerals.{code_text};
 ghost use Rattle.hotel_nights.specs.Moments.{moment_text};
 ghost use Rattle.hotel_model.specs.Event.{moment_of};
-ghost use Rattle.hotel_lists.specs.Lines.{line_of, arrival_line, house_line, chain_line, behind_line, note_line, yes_or_no, state_text};
+ghost use Rattle.hotel_lists.specs.Lines.{line_of, arrival_line, house_line, chain_line, behind_line, note_line};
+ghost use Rattle.hotel_lists.specs.Lines.{yes_or_no, state_text};
 
 use crate::gathered::Gathered;
 use hotel_core::{BehindRow, ChainRow, CodeState, HouseRow};

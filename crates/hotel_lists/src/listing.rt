@@ -2,7 +2,8 @@
 ghost use Rattle.std.specs.Prelude.{List, Bool, true, false};
 ghost use Rattle.hotel_model.specs.Rows.{Rows};
 ghost use Rattle.hotel_core.specs.Books.Walks.{WalksOver};
-ghost use Rattle.hotel_model.specs.Refinement.ListsOnRows.{arrivals_on, in_house_on, chain_on, left_behind_on, audit_on};
+ghost use Rattle.hotel_model.specs.Refinement.ListsOnRows.{arrivals_on, in_house_on, chain_on, left_behind_on};
+ghost use Rattle.hotel_model.specs.Refinement.ListsOnRows.{audit_on};
 
 use crate::line::Line;
 use hotel_core::{BehindRow, ChainRow, HouseRow, Sink, WalkFault, Walks};

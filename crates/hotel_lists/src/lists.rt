@@ -1,9 +1,11 @@
 //! The five lists as text: a header, and a line for each row.
 ghost use Rattle.std.specs.Prelude.{◌≡◌, [], Some, is_some, Err};
 ghost use Rattle.hotel_model.specs.Refinement.Lookups.{room_at};
-ghost use Rattle.hotel_model.specs.Refinement.ListsOnRows.{arrivals_on, in_house_on, chain_on, left_behind_on, audit_on};
+ghost use Rattle.hotel_model.specs.Refinement.ListsOnRows.{arrivals_on, in_house_on, chain_on, left_behind_on};
+ghost use Rattle.hotel_model.specs.Refinement.ListsOnRows.{audit_on};
 ghost use Rattle.hotel_lists.specs.Listings.{ListEnds, listing, of_room};
-ghost use Rattle.hotel_lists.specs.Lines.{LooksAt, arrivals_header, in_house_header, chain_header, left_behind_header, audit_header, arrival_line, house_line, chain_line, behind_line, note_line};
+ghost use Rattle.hotel_lists.specs.Lines.{LooksAt, arrivals_header, in_house_header, chain_header, left_behind_header};
+ghost use Rattle.hotel_lists.specs.Lines.{audit_header, arrival_line, house_line, chain_line, behind_line, note_line};
 ghost use Rattle.hotel_lists.specs.declared.fault.ListFault.TheVariants.{NoRoom};
 
 use crate::calls::IoCalls;

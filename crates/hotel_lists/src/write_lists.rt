@@ -1,10 +1,14 @@
 //! The five lists as text, within a call whose reads and writes are counted. The writes of a list are added to them.
 ghost use Rattle.std.specs.Prelude.{◌≡◌, true, [], Some, is_some, Err};
 ghost use Rattle.hotel_model.specs.Refinement.Lookups.{room_at};
-ghost use Rattle.hotel_model.specs.Refinement.ListsOnRows.{arrivals_on, in_house_on, chain_on, left_behind_on, audit_on};
-ghost use Rattle.hotel_lists.specs.{Calls.NoneForgotten, declared.fault.ListFault.TheVariants.NoRoom, declared.fault.ListFault.TheVariants.Write};
+ghost use Rattle.hotel_model.specs.Refinement.ListsOnRows.{arrivals_on, in_house_on, chain_on, left_behind_on};
+ghost use Rattle.hotel_model.specs.Refinement.ListsOnRows.{audit_on};
+ghost use Rattle.hotel_lists.specs.{Calls.NoneForgotten, declared.fault.ListFault.TheVariants.NoRoom};
+ghost use Rattle.hotel_lists.specs.{declared.fault.ListFault.TheVariants.Write};
 ghost use Rattle.hotel_lists.specs.Listings.{ListEnds, listing, of_room};
-ghost use Rattle.hotel_lists.specs.Lines.{LooksAt, FindsRoom, arrivals_header, in_house_header, chain_header, left_behind_header, audit_header, arrival_line, house_line, chain_line, behind_line, note_line};
+ghost use Rattle.hotel_lists.specs.Lines.{LooksAt, FindsRoom, arrivals_header, in_house_header, chain_header};
+ghost use Rattle.hotel_lists.specs.Lines.{left_behind_header, audit_header, arrival_line, house_line, chain_line};
+ghost use Rattle.hotel_lists.specs.Lines.{behind_line, note_line};
 
 use crate::bytes::write_bytes;
 use crate::calls::IoCalls;

@@ -1,5 +1,6 @@
 -- Days from 2000-01-01 to 2099-12-31: their texts and their numbers.
-use Rattle.std.specs.Prelude.{ℕ, zero, suc, ◌+◌, ◌-◌, ◌&&◌, ◌==◌, Bool, List, ◌∷◌, ◌++◌, length, if◌then◌else◌, nat_le, nat_lt, Option, Some, None, option_and_then, slice_index, slice_range, pos}
+use Rattle.std.specs.Prelude.{ℕ, zero, suc, ◌+◌, ◌-◌, ◌&&◌, ◌==◌, Bool, List, ◌∷◌, ◌++◌, length, if◌then◌else◌, nat_le}
+use Rattle.std.specs.Prelude.{nat_lt, Option, Some, None, option_and_then, slice_index, slice_range, pos}
 use Rattle.jiff_core.specs.Calendar.{days_in_month, day_count}
 use Rattle.keycard_rules.specs.Numerals.{numeral, fixed_text}
 

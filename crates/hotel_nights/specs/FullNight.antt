@@ -1,5 +1,6 @@
 -- Nights that stays take, and the first night of a kind that is full.
-use Rattle.std.specs.Prelude.{◌≡◌, ◌<◌, ◌≤◌, ℕ, zero, suc, Bool, true, false, ◌&&◌, List, Option, Some, None, if◌then◌else◌, nat_le, nat_lt}
+use Rattle.std.specs.Prelude.{◌≡◌, ◌<◌, ◌≤◌, ℕ, zero, suc, Bool, true, false, ◌&&◌, List, Option, Some, None}
+use Rattle.std.specs.Prelude.{if◌then◌else◌, nat_le, nat_lt}
 use Rattle.std.specs.Str.{bytes_eq}
 use Rattle.std.specs.List.{count_by}
 use Rattle.hotel_nights.specs.{declared.stay.Stay.Stay, declared.stay.StayState.StayState}
@@ -33,7 +34,8 @@ unfoldable pub first_day : (ℕ → Bool) → ℕ → ℕ → Option ℕ
 first_day test d zero = None
 first_day test d (suc n) = if test d then Some d else first_day test (suc d) n
 
--- what the first day is that passes the test, from a day on and before another: it passes, and no earlier one does; or none does
+-- what the first day is that passes the test, from a day on and before another: it passes, and no earlier one does; or
+-- none does
 abbrev pub IsFirst : (ℕ → Bool) → ℕ → ℕ → Option ℕ → Type 0
 IsFirst test from after None = (d : ℕ) → from ≤ d → d < after → test d ≡ false
 IsFirst test from after (Some r) = (from ≤ r) × (r < after) × (test r ≡ true) × ((d : ℕ) → from ≤ d → d < r → test d ≡ false)

@@ -1,5 +1,6 @@
 -- Moments: a day and a second of it.
-use Rattle.std.specs.Prelude.{ℕ, ◌+◌, ◌*◌, ◌/◌, ◌%◌, ◌&&◌, ◌||◌, ◌==◌, List, ◌∷◌, ◌++◌, length, if◌then◌else◌, nat_le, Option, Some, None, slice_index, slice_range}
+use Rattle.std.specs.Prelude.{ℕ, ◌+◌, ◌*◌, ◌/◌, ◌%◌, ◌&&◌, ◌||◌, ◌==◌, List, ◌∷◌, ◌++◌, length, if◌then◌else◌, nat_le}
+use Rattle.std.specs.Prelude.{Option, Some, None, slice_index, slice_range}
 use Rattle.keycard_rules.specs.Numerals.{numeral, fixed_text}
 use Rattle.hotel_nights.specs.Days.{read_day, day_text, ◌>>=◌}
 
@@ -17,7 +18,8 @@ read_time text =
       if nat_le h 23 && nat_le m 59 && nat_le s 59 then Some (h * 3600 + m * 60 + s) else None)
     else None
 
--- the moment that `YYYY-MM-DDTHH:MM:SS` writes: 19 bytes, with `T` (byte 84) or a space (byte 32) between a day and a time
+-- the moment that `YYYY-MM-DDTHH:MM:SS` writes: 19 bytes, with `T` (byte 84) or a space (byte 32) between a day and a
+-- time
 abbrev pub read_moment : List ℕ → Option (ℕ × ℕ)
 read_moment text =
     if (length text == 19) && ((slice_index text 10 == 84) || (slice_index text 10 == 32)) then (do

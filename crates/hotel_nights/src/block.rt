@@ -2,7 +2,8 @@
 
 ghost use Rattle.std.specs.Prelude.{◌≡◌, ℕ, ◌+◌, ◌-◌, ◌<◌, ◌≤◌, ◌^◌, slice_index};
 ghost use Rattle.std.specs.List.{count_by};
-ghost use Rattle.hotel_nights.specs.{FullNight.is_full, FullNight.first_day, FullNight.is_of_kind, Block.begins, Block.ends, Block.one_if};
+ghost use Rattle.hotel_nights.specs.{FullNight.is_full, FullNight.first_day, FullNight.is_of_kind, Block.begins};
+ghost use Rattle.hotel_nights.specs.{Block.ends, Block.one_if};
 
 use crate::kind::KindCode;
 use crate::stay::Stay;

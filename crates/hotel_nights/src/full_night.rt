@@ -30,10 +30,11 @@ fn first_of_blocks(
     None
 }
 
-/// The first full night `d` with `arrive <= d < depart`: one that at least `rooms` booked or in-house stays of the kind take.
+/// The first full night `d` with `arrive <= d < depart`: one that at least `rooms` booked or in-house stays of the kind
+/// take.
 ///
-/// `None` where no night of these is full, and where `depart` isn't after `arrive`. With no rooms each night is full. It takes no
-/// memory, and goes over the stays once for each 90 nights.
+/// `None` where no night of these is full, and where `depart` isn't after `arrive`. With no rooms each night is full.
+/// It takes no memory, and goes over the stays once for each 90 nights.
 pub fn first_full_night(
     stays: &[Stay],
     kind: &KindCode,

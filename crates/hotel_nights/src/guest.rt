@@ -20,11 +20,11 @@ pub enum GuestFault {
     Memory,
 }
 
-/// The name of a guest: 1 to 60 bytes of UTF-8 with no control character (U+0000 to U+001F and U+007F to U+009F) and no space
-/// (U+0020) first or last.
+/// The name of a guest: 1 to 60 bytes of UTF-8 with no control character (U+0000 to U+001F and U+007F to U+009F) and no
+/// space (U+0020) first or last.
 ///
-/// Contracts see a guest as the bytes of the name. A copy takes memory, so `clone` answers a `Result`; a copy that was made is
-/// the same guest.
+/// Contracts see a guest as the bytes of the name. A copy takes memory, so `clone` answers a `Result`; a copy that was
+/// made is the same guest.
 #[derive(Clone, Debug, Drop)]
 pub struct Guest {
     text: String,

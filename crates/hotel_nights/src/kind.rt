@@ -15,8 +15,9 @@ use std::marker::Model;
 
 /// The code of a kind of rooms, as `DBL`: one to eight of the letters A to Z and the digits 0 to 9.
 ///
-/// Contracts see a code as its bytes. Codes are equal where these are, and ordered as texts are: by the first byte that differs,
-/// and a code before each longer one that begins with it. So a `BTreeSet` of codes is a list of texts in this order.
+/// Contracts see a code as its bytes. Codes are equal where these are, and ordered as texts are: by the first byte that
+/// differs, and a code before each longer one that begins with it. So a `BTreeSet` of codes is a list of texts in this
+/// order.
 #[derive(Clone, Copy, Debug)]
 pub struct KindCode {
     /// The code, and zeros after it.

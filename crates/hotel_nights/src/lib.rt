@@ -1,8 +1,8 @@
 //! Days, moments, kinds of rooms, guests, stays, and the first night on which a kind of rooms is full.
 //!
-//! Contracts see a day and a number of nights as numbers, a moment as a pair of numbers, and a kind and a guest as bytes. Each
-//! reader of bytes answers the value that one function of `specs/` gives for them, so it takes exactly that function's texts. Only
-//! `Guest::read` and the copies of guests and stays take memory.
+//! Contracts see a day and a number of nights as numbers, a moment as a pair of numbers, and a kind and a guest as
+//! bytes. Each reader of bytes answers the value that one function of `specs/` gives for them, so it takes exactly that
+//! function's texts. Only `Guest::read` and the copies of guests and stays take memory.
 #![tactic(auto)]
 
 mod block;

@@ -83,8 +83,8 @@ impl Moment {
         self.second
     }
 
-    /// Reads `YYYY-MM-DDTHH:MM:SS`, 19 bytes, where one space may stand for the `T`: a date as `Day::read` takes it, hours 00 to
-    /// 23, minutes and seconds 00 to 59.
+    /// Reads `YYYY-MM-DDTHH:MM:SS`, 19 bytes, where one space may stand for the `T`: a date as `Day::read` takes it,
+    /// hours 00 to 23, minutes and seconds 00 to 59.
     ///
     /// `None` for any other text, as for the second 60 of a leap second.
     pub fn read(text: &[u8]) -> Option<Moment>

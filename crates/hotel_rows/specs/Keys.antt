@@ -1,5 +1,6 @@
 -- Keys of rows, and where they stand.
-use Rattle.std.specs.Prelude.{ℕ, ◌≡◌, ◌==◌, ◌&&◌, nat_le, length, Bool, List, [], ◌∷◌, Option, Some, None, option_map, suc, if◌then◌else◌}
+use Rattle.std.specs.Prelude.{ℕ, ◌≡◌, ◌==◌, ◌&&◌, nat_le, length, Bool, List, [], ◌∷◌, Option, Some, None, option_map}
+use Rattle.std.specs.Prelude.{suc, if◌then◌else◌}
 use Rattle.std.specs.Ordering.{nat_cmp}
 use Rattle.hotel_model.specs.SoundRooms.{are_in_order, count_up}
 use Rattle.hotel_model.specs.Rows.{at_number}

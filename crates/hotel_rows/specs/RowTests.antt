@@ -1,5 +1,6 @@
 -- What is tested of each row by itself.
-use Rattle.std.specs.Prelude.{ℕ, ◌≡◌, ◌+◌, ◌-◌, ◌^◌, Bool, true, List, ◌==◌, ◌&&◌, ◌||◌, not, nat_le, nat_lt, is_some, length, bytes_eq, string_bytes, option_map}
+use Rattle.std.specs.Prelude.{ℕ, ◌≡◌, ◌+◌, ◌-◌, ◌^◌, Bool, true, List, ◌==◌, ◌&&◌, ◌||◌, not, nat_le, nat_lt, is_some}
+use Rattle.std.specs.Prelude.{length, bytes_eq, string_bytes, option_map}
 use Rattle.std.specs.List.{list_all, list_any, count_by}
 use Rattle.hotel_nights.specs.FullNight.{takes}
 use Rattle.std.specs.Ordering.{nat_cmp}

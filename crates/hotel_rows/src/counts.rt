@@ -13,7 +13,8 @@ ghost use Rattle.hotel_core.specs.NightIndex.{CountsNights};
 ghost use Rattle.hotel_rows.specs.Stored.{state_of, kind_text, stay_row, stay_entry};
 ghost use Rattle.hotel_rows.specs.Damage.{first_damaged_of};
 ghost use Rattle.hotel_rows.specs.RowTests.{is_room_of_kind};
-ghost use Rattle.hotel_rows.specs.Counts.{IsCountedOf, KnowsKinds, are_rooms_of, is_number_up_to, tells_state, tells_stay};
+ghost use Rattle.hotel_rows.specs.Counts.{IsCountedOf, KnowsKinds, are_rooms_of, is_number_up_to, tells_state};
+ghost use Rattle.hotel_rows.specs.Counts.{tells_stay};
 
 use crate::damage::numbers::{number, number_if};
 use crate::stored::{PlainKind, PlainRoom, PlainStay, Stored};

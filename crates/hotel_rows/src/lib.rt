@@ -1,5 +1,5 @@
-//! The rows of a desk's tables as plain data: whether they are sound, which table is damaged first, and what books count of
-//! them. How they are read and written `hotel_statements` knows; here is no store.
+//! The rows of a desk's tables as plain data: whether they are sound, which table is damaged first, and what books
+//! count of them. How they are read and written `hotel_statements` knows; here is no store.
 #![tactic(auto)]
 
 mod counts;
