@@ -39,6 +39,7 @@ pub runs_nothing : {S R : Type 0} (I : IssuedOf S) (rows : S → Rows) (stream :
 runs_nothing I rows stream old new [] p shut = tt
 runs_nothing I rows stream old new (a ∷ later) p shut =
     let honest = passes_honest I rows stream p.0 new later p.2 shut.0 in
-    let w = p.1.happened honest (start no_rows) none_sound (λ was. absurd (shut.1 was)) in
-    (no_answer (is_failed a.1) (λ k. shut.1 (w.3.1.began k)),
-    runs_nothing I rows stream p.0 new later p.2 (shut.0, λ clean. shut.1 (p.1.was_clean clean)))
+    let w = p.1.happened honest (start no_rows) none_sound (λ was. absurd (shut.1 was)) in (
+      no_answer (is_failed a.1) (λ k. shut.1 (w.3.1.began k)),
+      runs_nothing I rows stream p.0 new later p.2 (shut.0, λ clean. shut.1 (p.1.was_clean clean)),
+    )
