@@ -3,13 +3,14 @@
 
 usage: openapi_routes.py [PROGRAM [FILE]]      (the built hotel_desk and docs/openapi.yaml where they aren't given)
 
-It needs PyYAML: apt-get install python3-yaml. Whether the file is OpenAPI 3.1 is for a validator to say, such as that of
-PyPI: openapi-spec-validator docs/openapi.yaml. This script looks that the file's paths are those of the table of routes,
-that each example has the form of its schema, and that the desk, over memory and a seed of zeros, answers as it says:
+It needs PyYAML: apt-get install python3-yaml. Whether the file is OpenAPI 3.1 is for a validator to say, such as that
+of PyPI: openapi-spec-validator docs/openapi.yaml. This script looks that the file's paths are those of the table of
+routes, and that each example has the form of its schema. Then it sends to two desks, over memory and a seed of zeros:
 
-- One desk gets the examples in the order of `x-order`. Each answer is that of its example.
-- Another one gets, on each route, requests that go wrong in one way (WRONG), and each text of TEXTS as each value. A text
-  that has the form of the value's schema is read, and any other is answered 400.
+- To the one, the examples in the order of `x-order`. Each answer is that of its example.
+- To the other, on each route: requests that go wrong in one way (WRONG); its first example in other forms, which aren't
+  looked at (in_other_forms); and each text of TEXTS as each value. A text that has the form of the value's schema is
+  read, and any other is answered 400.
 
 Prints what differs, then the examples that weren't tried (those of 503), and at last 'N answers as described'. Status 1
 where something differs.
@@ -32,6 +33,7 @@ ROUTES = TOP / "crates" / "hotel_http" / "specs" / "Routes.antt"
 FORM = "application/x-www-form-urlencoded"
 METHODS = ["GET", "POST", "HEAD", "PUT", "DELETE", "OPTIONS", "BEGIN"]
 UNTRIED = "503"
+BEGUN = b"HTTP/1.1\r\nHost: desk\r\n"
 # The limits of requests, which the file says in words alone.
 MOST_BODY, MOST_HEAD, MOST_FIELDS = 262_144, 16_384, 64
 
@@ -145,10 +147,31 @@ def with_bad_head(operation):
     in_path, body = operation.good()
     yield operation.request(in_path, body, fields=["Host: desk", "Host: desk"])
     yield operation.request(in_path, body, fields=[])
-    yield operation.request(in_path, body, length="+1")
+    yield operation.request(in_path, body, fields=["Host: desk", f"Content-Length: {len(encoded(body))}"])
+    for length in ("", "+1", "1x"):
+        yield operation.request(in_path, body, length=length)
+    for line in (b"HTTP/2.0\r\nHost: desk\r\n", b"HTTP/1.0\r\nHost: desk\r\nHost: desk\r\n"):
+        yield operation.request(in_path, body).replace(BEGUN, line, 1)
     yield request(operation.method, "http://desk" + operation.target(in_path), encoded(body))
     if operation.method == "POST":
         yield operation.request(in_path, body, length=len(encoded(body)) + 1)
+
+
+def in_other_forms(operation):
+    """Requests that differ from the first example in what isn't looked at."""
+    in_path, body = operation.good()
+    for fields in (["Host:"], ["Host: page.example:80"], ["hOST: desk", "Content-Type: text/plain"],
+                   ["Host: desk", "Origin: http://page.example", "Cookie: a=b", "Referer: http://page.example/"],
+                   ["Host: desk", "Connection: upgrade, keep-alive", "Upgrade: h2c"], ["Host: desk", "Expect: b"],
+                   ["Host: desk", "Expect: 100-Continue"], ["Host: desk", *["A: b"] * (MOST_FIELDS - 2)]):
+        yield operation.request(in_path, body, fields=fields)
+    good = operation.request(in_path, body)
+    yield good.replace(BEGUN, b"HTTP/1.0\r\n", 1)
+    yield good + good
+    yield request(operation.method, operation.target(in_path) + "?a=b/?", encoded(body))
+    if operation.method == "GET":
+        yield operation.request(in_path, "a=b")
+        yield operation.request(in_path, "", length=MOST_BODY)
 
 
 def with_fields_amiss(operation):
@@ -232,6 +255,8 @@ def wrong_sent(operations):
         for status, name in sorted(tried):
             for number, made in enumerate(WRONG[status, name](operation), 1):
                 yield Sent(f"{name} {number}", made, operation, {status}, name)
+        for number, made in enumerate(in_other_forms(operation), 1):
+            yield Sent(f"form {number}", made, operation, {"200", "409"} & set(operation.responses), None)
         yield from values_sent(operation)
 
 
