@@ -34,8 +34,7 @@ returns-in-Note-clause-answer g c = rw c.in-Note.is (if_ok c.answer_of.result _ 
 pub returns-in-Note-clause-went : goal.returns-in-Note-clause-went
 returns-in-Note-clause-went g c =
     let f = c.report.ensures in
-    rw c.in-Note.is
-    (
+    rw c.in-Note.is (
       c.report.result,
       c.answer_of.ensures,
       (λ source. step_happens source source (command.Reported c.in-Note.note) c.report.result g.met.B.Issued.clean_honest f.was_clean f.was_honest f.counted (λ honest. f.happened honest source) f.failed f.vouched),
