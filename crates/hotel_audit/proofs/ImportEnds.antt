@@ -1,5 +1,6 @@
 -- How an import ends: with all lines answered, with those before one that failed, or before the first.
-use Rattle.std.proofs.Common.{ℕ, ◌≡◌, ◌≢◌, ◌⊎◌, Bool, List, [], Result, Ok, Err, OnOk, take, drop, length, sym, refl, ap}
+use Rattle.std.proofs.Common.{ℕ, ◌≡◌, ◌≢◌, ◌⊎◌, ◌+◌, ◌∙◌, Bool, List, [], ◌∷◌, ◌++◌, Result, Ok, Err, OnOk, take, drop, length, sym, refl, ap, append_assoc}
+use Rattle.std.specs.Prelude.{zip}
 use Rattle.hotel_core.proofs.Names.{Rows}
 use Rattle.hotel_model.proofs.LeadsOn.{leads_of}
 use Rattle.keycard_rules.specs.declared.issued.Issued.{Ghosts as IssuedOf}
@@ -7,27 +8,43 @@ use Rattle.std.proofs.lemmas.List.{take-append-drop}
 use Rattle.hotel_audit.specs.{declared.answer.LineAnswer.LineAnswer, declared.audit_file.AuditFault.AuditFault, declared.imports.ImportFault.ImportFault, declared.line.Line.Line}
 use Rattle.hotel_audit.specs.declared.audit_file.AuditFault.TheVariants as fault
 use Rattle.hotel_audit.specs.declared.imports.ImportFault.TheVariants.{File}
-use Rattle.hotel_audit.specs.Import.{AreAnswered, EndsAfter, Imports, IsFrontOf, LinesLeadOn, has_taken, replies_in}
+use Rattle.keycard_rules.specs.declared.issued.LookFault.{LookFault}
+use Rattle.hotel_core.specs.Books.Happens.{Passes}
+use Rattle.hotel_audit.specs.Import.{AreAnswered, EndsAfter, Imports, IsFrontOf, LeavesBehind, LineGoes, LineHappens, LinesLeadOn, NextFails, has_taken, replies_in}
 use Rattle.hotel_audit.proofs.LineAnswers.{lead-none, lead-same}
+
+-- the lines of a file, with one in their midst
+around : (lines : List Line) (i : ℕ) (next : Line) → take (i + 1) lines ≡ take i lines ++ next ∷ [] → lines ≡ take i lines ++ next ∷ drop (i + 1) lines
+around lines i next more = sym (take-append-drop (i + 1) lines) ∙ ap (λ front. front ++ drop (i + 1) lines) more ∙ append_assoc (take i lines) (next ∷ []) (drop (i + 1) lines)
 
 module _ {B : Type 0} (I : IssuedOf B) (rows : B → Rows) (old new : B) (honest : I.is_clean new → I.is_honest new) where
   -- these lines have these answers, which are vouched for
   ended : (file : Result (List Line) AuditFault) (outcome : Result (List LineAnswer) ImportFault) (lines : List Line) (answers : List LineAnswer) → AreAnswered lines answers → EndsAfter file outcome lines answers
       → (I.is_honest new → LinesLeadOn (I.is_clean old) (rows old) lines answers (I.is_clean new) (rows new)) → (I.is_honest new → replies_in answers ≢ [] → I.is_clean old)
-      → (I.is_honest new → OnOk outcome (replies_in answers ≢ [] → I.is_clean new)) → OnOk outcome (replies_in answers ≡ [] → I.is_clean old → I.is_clean new) → Imports I rows file old new outcome
-  ended file outcome lines answers each ends happened was_clean is_clean unasked = (
+      → (I.is_honest new → OnOk outcome (replies_in answers ≢ [] → I.is_clean new)) → OnOk outcome (replies_in answers ≡ [] → I.is_clean old → I.is_clean new)
+      → (behind : B) → Passes (LineHappens I rows) old (zip lines answers) behind → LeavesBehind I rows file lines behind outcome new → Imports I rows file old new outcome
+  ended file outcome lines answers each ends happened was_clean is_clean unasked behind through leaves = (
     lines,
     answers,
     each,
     ends,
     (λ clean source. leads_of clean (happened (honest clean) source)),
     (λ now. record { happened = happened now; was_clean = was_clean now; is_clean = is_clean now; unasked = unasked }),
+    behind,
+    through,
+    leaves,
   )
 
   pub all_answered : (lines : List Line) (answers : List LineAnswer) → AreAnswered lines answers → (I.is_clean new → I.is_clean old)
       → (I.is_honest new → LinesLeadOn (I.is_clean old) (rows old) lines answers (I.is_clean new) (rows new)) → (I.is_honest new → replies_in answers ≢ [] → I.is_clean new)
-      → (replies_in answers ≡ [] → I.is_clean old → I.is_clean new) → Imports I rows (Ok lines) old new (Ok answers)
-  all_answered lines answers each was_clean happened vouched unasked = ended (Ok lines) (Ok answers) lines answers each (refl, refl) happened (λ now noted. was_clean (vouched now noted)) vouched unasked
+      → (replies_in answers ≡ [] → I.is_clean old → I.is_clean new) → Passes (LineHappens I rows) old (zip lines answers) new → Imports I rows (Ok lines) old new (Ok answers)
+  all_answered lines answers each was_clean happened vouched unasked through =
+      ended (Ok lines) (Ok answers) lines answers each (refl, refl) happened (λ now noted. was_clean (vouched now noted)) vouched unasked new through refl
+
+  -- the line at this place failed
+  pub next_fails : (mid : B) (lines : List Line) (i : ℕ) (next : Line) (why : LookFault) → take (i + 1) lines ≡ take i lines ++ next ∷ [] → LineGoes I rows mid next (Err why) new
+      → NextFails I rows (Ok lines) (take i lines) mid why new
+  next_fails mid lines i next why more fails = (next, drop (i + 1) lines, ap (λ ls. Ok ls) (around lines i next more), fails)
 
   -- a line failed behind the state mid: those before it were answered, and what they led to stands
   pub answered_before : (mid : B) (lines : List Line) (i : ℕ) (answers : List LineAnswer) (answered : ℕ) (taken : Bool) (why : ImportFault)
@@ -35,14 +52,14 @@ module _ {B : Type 0} (I : IssuedOf B) (rows : B → Rows) (old new : B) (honest
       → AreAnswered (take i lines) answers → length answers ≡ answered → taken ≡ has_taken answers → (I.is_clean new → I.is_clean mid)
       → (I.is_honest new → I.is_honest mid) → (I.is_clean mid → I.is_clean old) → (I.is_clean new → rows new ≡ rows mid)
       → (I.is_honest mid → LinesLeadOn (I.is_clean old) (rows old) (take i lines) answers (I.is_clean mid) (rows mid)) → (I.is_honest mid → replies_in answers ≢ [] → I.is_clean mid)
-      → Imports I rows (Ok lines) old new (Err why)
-  answered_before mid lines i answers answered taken why ends each count some clean_before honest_before began same happened vouched =
+      → Passes (LineHappens I rows) old (zip (take i lines) answers) mid → LeavesBehind I rows (Ok lines) (take i lines) mid (Err why) new → Imports I rows (Ok lines) old new (Err why)
+  answered_before mid lines i answers answered taken why ends each count some clean_before honest_before began same happened vouched through fails =
       ended (Ok lines) (Err why) (take i lines) answers each (ends (drop i lines, ap (λ ls. Ok ls) (sym (take-append-drop i lines)), count, sym some))
       (λ now. lead-same (I.is_clean old) (I.is_clean mid) (I.is_clean new) (rows old) (rows mid) (rows new) (take i lines) answers clean_before same (happened (honest_before now)))
-      (λ now noted. began (vouched (honest_before now) noted)) (λ now. tt) tt
+      (λ now noted. began (vouched (honest_before now) noted)) (λ now. tt) tt mid through fails
 
 -- nothing was begun
 pub none_begun : {B : Type 0} (I : IssuedOf B) (rows : B → Rows) (old : B) → (I.is_clean old → I.is_honest old) → (file : Result (List Line) AuditFault) (why : AuditFault) → (why ≡ fault.Memory) ⊎ (file ≡ Err why)
     → Imports I rows file old old (Err (File why))
 none_begun I rows old honest file why because =
-    ended I rows old old honest file (Err (File why)) [] [] tt (refl, refl, because) (λ now. lead-none (I.is_clean old) (rows old)) (λ now noted. absurd (noted refl)) (λ now. tt) tt
+    ended I rows old old honest file (Err (File why)) [] [] tt (refl, refl, because) (λ now. lead-none (I.is_clean old) (rows old)) (λ now noted. absurd (noted refl)) (λ now. tt) tt old refl refl

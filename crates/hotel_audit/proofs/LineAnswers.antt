@@ -1,6 +1,8 @@
 -- The lines of a file, one after the other.
-use Rattle.std.proofs.Common.{◌≡◌, ◌≢◌, ◌∙◌, List, [], ◌∷◌, ◌++◌, refl, ap, Ok, ◌||◌}
-use Rattle.hotel_core.proofs.{Names.Stream, Names.Note, Names.Rows, Names.Steps}
+use Rattle.std.proofs.Common.{◌≡◌, ◌≢◌, ◌∙◌, List, [], ◌∷◌, ◌++◌, refl, ap, arith, length, Ok, ◌||◌}
+use Rattle.std.specs.Prelude.{zip}
+use Rattle.hotel_core.proofs.{Names.Stream, Names.Note, Names.Rows, Names.Steps, OfCode.Happens.passes_push, OfCode.Happens.zip-push}
+use Rattle.hotel_core.specs.Books.Happens.{Passes}
 use Rattle.hotel_model.proofs.{Invariants.Assurance.assured, Lifted.Runs.runs_join}
 use Rattle.hotel_model.specs.declared.command.Command.TheVariants as command
 use Rattle.hotel_model.specs.{declared.reply.Reply.Reply, Leads.LeadsOn}
@@ -81,3 +83,15 @@ unasked_both (answer.Unread cause ∷ answers) a none = unasked_both answers a n
 unasked_both (answer.Taken ∷ answers) a none = cc none
 unasked_both (answer.Seen ∷ answers) a none = cc none
 unasked_both (answer.Refused why ∷ answers) a none = cc none
+
+-- there are as many answers as lines
+as_many : (lines : List Line) (answers : List LineAnswer) → AreAnswered lines answers → length answers ≡ length lines
+as_many [] [] each = refl
+as_many (l ∷ lines) (a ∷ answers) each = omega (arith, as_many lines answers each.1)
+as_many [] (a ∷ answers) each = absurd each
+as_many (l ∷ lines) [] each = absurd each
+
+-- one more line was answered
+pub passes_next : {B : Type 0} (asks : B → Line × LineAnswer → B → Type 0) (old : B) {mid new : B} (lines : List Line) (answers : List LineAnswer) (l : Line) (a : LineAnswer)
+    → AreAnswered lines answers → Passes asks old (zip lines answers) mid → asks mid (l, a) new → Passes asks old (zip (lines ++ l ∷ []) (answers ++ a ∷ [])) new
+passes_next asks old lines answers l a each before asked = rw (zip-push lines answers l a (as_many lines answers each)) (passes_push asks old (zip lines answers) before asked)

@@ -1,5 +1,6 @@
 -- The import of an audit file: its notes are reported in order, and its unread lines do nothing.
-use Rattle.std.specs.Prelude.{ℕ, ◌≡◌, ◌≢◌, ◌⊎◌, Bool, true, false, List, [], ◌∷◌, ◌++◌, length, if◌then◌else◌, Result, Ok, Err, OnOk}
+use Rattle.std.specs.Prelude.{ℕ, ◌≡◌, ◌≢◌, ◌⊎◌, Bool, true, false, List, [], ◌∷◌, ◌++◌, length, zip, if◌then◌else◌}
+use Rattle.std.specs.Prelude.{Result, Ok, Err, OnOk}
 use Rattle.rand_core.specs.Stream.{Stream}
 use Rattle.keycard_rules.specs.{declared.issued.LookFault.LookFault, declared.issued.Issued.Ghosts as IssuedOf}
 use Rattle.keycard_rules.specs.declared.issued.LookFault.TheVariants as look
@@ -8,6 +9,7 @@ use Rattle.hotel_model.specs.declared.command.Command.TheVariants as command
 use Rattle.hotel_model.specs.declared.reply.Reply.TheVariants as reply
 use Rattle.hotel_model.specs.declared.reply.Refusal.TheVariants as refusal
 use Rattle.hotel_model.specs.Run.{Runs, is_failed}
+use Rattle.hotel_core.specs.Books.Happens.{Happens, Passes, StepTold}
 use Rattle.hotel_audit.specs.{declared.answer.LineAnswer.LineAnswer, declared.audit_file.AuditFault.AuditFault, declared.imports.ImportFault.ImportFault}
 use Rattle.hotel_audit.specs.declared.answer.LineAnswer.TheVariants.{Taken, Seen, Unread, Refused}
 use Rattle.hotel_audit.specs.declared.audit_file.AuditFault.TheVariants as fault
@@ -83,18 +85,6 @@ pub record Vouches {B : Type 0} (I : IssuedOf B) (rows : B → Rows) (lines : Li
   pub is_clean : OnOk outcome (replies_in answers ≢ [] → I.is_clean new)
   pub unasked : OnOk outcome (replies_in answers ≡ [] → I.is_clean old → I.is_clean new)
 
--- An import of a file into books from old to new ended so: some of its lines have these answers, by which the books went.
-abbrev pub Imports : {B : Type 0} → IssuedOf B → (B → Rows) → Result (List Line) AuditFault → B → B → Result (List LineAnswer) ImportFault → Type 0
-Imports I rows file old new outcome = (lines : List Line) × (answers : List LineAnswer) × AreAnswered lines answers × EndsAfter file outcome lines answers
-    × (I.is_clean new → LinesLeadTo (rows old) lines answers (rows new))
-    × (I.is_honest new → Vouches I rows lines answers old new outcome)
-
--- The failure that stopped the import, which the books counted. That there was no memory to read the file or for its answers isn't counted.
-abbrev pub failures_of : ImportFault → List Refusal
-failures_of (Store answered taken) = refusal.Store ∷ []
-failures_of (Memory answered taken) = refusal.Memory ∷ []
-failures_of (File why) = []
-
 -- which of the two failed, by the refusal that says so
 abbrev pub failed_by : Refusal → LookFault
 failed_by refusal.Memory = look.Memory
@@ -106,3 +96,46 @@ answer_of reply.Taken = Ok Taken
 answer_of reply.Seen = Ok Seen
 answer_of (reply.Refused refusal) = if is_failed (reply.Refused refusal) then Err (failed_by refusal) else Ok (Refused refusal)
 answer_of _ = Err look.Store
+
+-- A line was carried out, and this came of it: by the reply to its note, which was reported; an unread line asked
+-- nothing of the books.
+abbrev pub LineGoes : {B : Type 0} → IssuedOf B → (B → Rows) → B → Line → Result LineAnswer LookFault → B → Type 0
+LineGoes I rows old (line.Unread cause) came new = (came ≡ Ok (Unread cause)) × (new ≡ old)
+LineGoes I rows old (line.Note note) came new = (given : Reply) × (came ≡ answer_of given)
+    × ((source : Stream) → Happens I rows old (StepTold source (command.Reported note) given source) new)
+
+-- A line was carried out with this answer.
+abbrev pub LineHappens : {B : Type 0} → IssuedOf B → (B → Rows) → B → Line × LineAnswer → B → Type 0
+LineHappens I rows old asked new = LineGoes I rows old asked.0 (Ok asked.1) new
+
+-- Behind these lines of the file there is one more, which failed for this cause.
+abbrev pub NextFails : {B : Type 0} → IssuedOf B → (B → Rows) → Result (List Line) AuditFault → List Line
+    → B → LookFault → B → Type 0
+NextFails I rows file lines old why new =
+    (next : Line) × (rest : List Line) × (file ≡ Ok (lines ++ next ∷ rest)) × LineGoes I rows old next (Err why) new
+
+-- What became of books that were so behind these lines of the file, where the import ended so: it left them, or the
+-- next line failed.
+abbrev pub LeavesBehind : {B : Type 0} → IssuedOf B → (B → Rows) → Result (List Line) AuditFault → List Line
+    → B → Result (List LineAnswer) ImportFault → B → Type 0
+LeavesBehind I rows file lines old (Ok given) new = new ≡ old
+LeavesBehind I rows file lines old (Err (File why)) new = new ≡ old
+LeavesBehind I rows file lines old (Err (Memory answered taken)) new = NextFails I rows file lines old look.Memory new
+LeavesBehind I rows file lines old (Err (Store answered taken)) new = NextFails I rows file lines old look.Store new
+
+-- An import of a file into books from old to new ended so: some of its lines have these answers, by which the books
+-- went, from line to line.
+abbrev pub Imports : {B : Type 0} → IssuedOf B → (B → Rows) → Result (List Line) AuditFault → B → B
+    → Result (List LineAnswer) ImportFault → Type 0
+Imports {B = B} I rows file old new outcome =
+    (lines : List Line) × (answers : List LineAnswer) × AreAnswered lines answers × EndsAfter file outcome lines answers
+    × (I.is_clean new → LinesLeadTo (rows old) lines answers (rows new))
+    × (I.is_honest new → Vouches I rows lines answers old new outcome)
+    × (behind : B) × Passes (LineHappens I rows) old (zip lines answers) behind
+    × LeavesBehind I rows file lines behind outcome new
+
+-- The failure that stopped the import, which the books counted. That there was no memory to read the file or for its answers isn't counted.
+abbrev pub failures_of : ImportFault → List Refusal
+failures_of (Store answered taken) = refusal.Store ∷ []
+failures_of (Memory answered taken) = refusal.Memory ∷ []
+failures_of (File why) = []

@@ -3,7 +3,8 @@ ghost use Rattle.std.specs.Prelude.{◌≡◌, ◌≢◌, ◌<◌, [], ◌∷◌
 ghost use Rattle.keycard_rules.specs.Rise.{NoFewer};
 ghost use Rattle.hotel_core.specs.{Books.Failures.AreCounted, Books.Failures.refusal_of};
 ghost use Rattle.hotel_audit.specs.{declared.audit_file.AuditFault.AuditFault, AuditFile.audit_lines};
-ghost use Rattle.hotel_audit.specs.Import.{Imports, IsAnswerTo, LinesLeadOn, answer_of, failures_of, outcome_of, replies_in};
+ghost use Rattle.hotel_audit.specs.Import.{Imports, IsAnswerTo, LineGoes, LinesLeadOn};
+ghost use Rattle.hotel_audit.specs.Import.{answer_of, failures_of, outcome_of, replies_in};
 
 use crate::answer::LineAnswer;
 use crate::audit_file::{AuditFault, read_notes};
@@ -42,6 +43,7 @@ const fn answer_of(reply: &Reply) -> Result<LineAnswer, LookFault>
 /// Carries out one line.
 fn answer_line<B: Books>(books: &mut B, line: &Line) -> Result<LineAnswer, LookFault>
     ensures answer { IfOk result (λ answer. IsAnswerTo line.now answer) }
+    ensures went { LineGoes B.Issued B.rows books.old line.now result books.new }
     ensures happened { IfOk result (λ answer. B.is_honest books.new →
         LinesLeadOn (B.is_clean books.old) (B.rows books.old) (line.now ∷ []) (answer ∷ []) (B.is_clean books.new) (B.rows books.new)) }
     ensures vouched { IfOk result (λ answer. B.is_honest books.new → replies_in (answer ∷ []) ≢ [] → B.is_clean books.new) }

@@ -1,6 +1,7 @@
 use Rattle.std.proofs.Common.{◌≡◌, ◌∙◌, refl, sym, subst, Result, Ok, Err, IfOk, IfErr, OnErr}
-use Rattle.hotel_core.proofs.Names.{AreCounted}
+use Rattle.hotel_core.proofs.{Names.AreCounted, OfCode.Happens.step_happens}
 use Rattle.hotel_audit.proofs.{LineAnswers.lead-note, LineAnswers.lead-unread, NoteReplies.answered_reply, NoteReplies.answered_sure, NoteReplies.failed_reply, NoteReplies.failure_told}
+use Rattle.hotel_model.specs.declared.command.Command.TheVariants as command
 use Rattle.hotel_audit.proofs.imports.answer_line.Goals as goal
 
 if_ok : {A E : Type 0} (r : Result A E) (P : A → Type 0) → ((a : A) → Ok a ≡ r → P a) → IfOk r P
@@ -18,6 +19,9 @@ if_err (Err e) P h = h e refl
 pub returns-in-Unread-clause-answer : goal.returns-in-Unread-clause-answer
 returns-in-Unread-clause-answer g c = rw c.in-Unread.is refl
 
+pub returns-in-Unread-clause-went : goal.returns-in-Unread-clause-went
+returns-in-Unread-clause-went g c = rw c.in-Unread.is (refl, refl)
+
 pub returns-in-Unread-clause-happened : goal.returns-in-Unread-clause-happened
 returns-in-Unread-clause-happened g c = λ honest. rw c.in-Unread.is (lead-unread (g.B.Issued.is_clean c.args.books.now) (g.B.Books.rows c.args.books.now) c.in-Unread.cause)
 
@@ -26,6 +30,15 @@ returns-in-Unread-clause-vouched g c = λ honest some. absurd (some refl)
 
 pub returns-in-Note-clause-answer : goal.returns-in-Note-clause-answer
 returns-in-Note-clause-answer g c = rw c.in-Note.is (if_ok c.answer_of.result _ (λ a e. (answered_reply c.in-Note.note c.report.result a (e ∙ c.answer_of.ensures)).0))
+
+pub returns-in-Note-clause-went : goal.returns-in-Note-clause-went
+returns-in-Note-clause-went g c =
+    let f = c.report.ensures in
+    rw c.in-Note.is (
+      c.report.result,
+      c.answer_of.ensures,
+      (λ source. step_happens source source (command.Reported c.in-Note.note) c.report.result g.met.B.Issued.clean_honest f.was_clean f.was_honest f.counted (λ honest. f.happened honest source) f.failed f.vouched),
+    )
 
 pub returns-in-Note-clause-happened : goal.returns-in-Note-clause-happened
 returns-in-Note-clause-happened g c =

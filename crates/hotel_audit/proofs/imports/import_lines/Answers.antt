@@ -1,11 +1,14 @@
 use Rattle.std.proofs.Common.{◌≡◌, ◌∙◌, ◌+◌, subst, false, Ok, [], ◌∷◌, ◌++◌, take, arith, sym, refl, ap, inl, ◌||◌}
 use Rattle.hotel_core.proofs.{Names.take_more, OfCode.FailuresCounted.counted_after}
 use Rattle.std.proofs.lemmas.List.{take_all}
-use Rattle.hotel_audit.specs.{declared.answer.LineAnswer.LineAnswer, declared.answer.LineAnswer.TheVariants.Taken, Import.AreAnswered, Import.LinesLeadOn, Import.has_taken}
+use Rattle.hotel_audit.specs.{declared.answer.LineAnswer.LineAnswer, declared.answer.LineAnswer.TheVariants.Taken, Import.AreAnswered, Import.LineHappens, Import.LinesLeadOn, Import.has_taken}
+use Rattle.std.specs.Prelude.{zip}
+use Rattle.hotel_core.specs.Books.Happens.{Passes}
+use Rattle.keycard_rules.specs.declared.issued.LookFault.TheVariants as look
 use Rattle.hotel_audit.specs.declared.audit_file.AuditFault.TheVariants as fault
 use Rattle.hotel_audit.specs.declared.imports.ImportFault.TheVariants.{Memory, Store}
-use Rattle.hotel_audit.proofs.LineAnswers.{AreAnswered-append, has_taken-push, lead-join, lead-none, unasked_both, vouched_next}
-use Rattle.hotel_audit.proofs.ImportEnds.{all_answered, answered_before, none_begun}
+use Rattle.hotel_audit.proofs.LineAnswers.{AreAnswered-append, has_taken-push, lead-join, lead-none, passes_next, unasked_both, vouched_next}
+use Rattle.hotel_audit.proofs.ImportEnds.{all_answered, answered_before, next_fails, none_begun}
 use Rattle.hotel_audit.proofs.imports.import_lines.Goals as goal
 use Rattle.hotel_audit.proofs.imports.import_lines.Goals.{then-taken, else-taken+in-Taken, else-taken+in_default-matches}
 
@@ -22,6 +25,7 @@ loop-line-init g c = record {
   number = c.in-Ok.ensures.len;
   taken = rw (c.in-Ok.ensures.items) refl;
   each = rw (c.in-Ok.ensures.items) tt;
+  through = refl;
   was_honest = λ honest. honest;
   happened = λ honest. rw (c.in-Ok.ensures.items) (lead-none (g.B.Issued.is_clean c.args.books.now) (g.B.Books.rows c.args.books.now));
   vouched = λ honest. rw (c.in-Ok.ensures.items) (λ noted. absurd (noted refl));
@@ -35,17 +39,23 @@ pub returns-in-Err-Memory-clause-imported : goal.returns-in-Err-Memory-clause-im
 returns-in-Err-Memory-clause-imported g c =
     let inv = c.loop-line.invariant in
     let f = c.in-Err-Memory.ensures in
+    let xs = c.args.lines.now in
+    let i = c.loop-line.line-index in
+    let more : take (i + 1) xs ≡ take i xs ++ c.line-item.result ∷ [] = take_more xs i c.line-item.result c.loop-line-test.true ∙ ap (λ x. take i xs ++ x ∷ []) (sym c.line-item.is) in
     answered_before g.B.Issued g.B.Books.rows c.args.books.now c.answer_line.new.books (g.met.B.Issued.clean_honest _) c.loop-line.books c.args.lines.now c.loop-line.line-index c.loop-line.answers.items
     c.len-answered.result c.loop-line.taken (Memory c.len-answered.result c.loop-line.taken) (λ front. front) inv.each (omega (arith, c.len-answered.ensures)) inv.taken f.was_clean f.was_honest inv.was_clean f.unchanged inv.happened
-    inv.vouched
+    inv.vouched inv.through (next_fails g.B.Issued g.B.Books.rows c.args.books.now c.answer_line.new.books (g.met.B.Issued.clean_honest _) c.loop-line.books xs i c.line-item.result look.Memory more (rw c.in-Err-Memory.field-0-is at f.went))
 
 pub returns-in-Err-Store-clause-imported : goal.returns-in-Err-Store-clause-imported
 returns-in-Err-Store-clause-imported g c =
     let inv = c.loop-line.invariant in
     let f = c.in-Err-Store.ensures in
+    let xs = c.args.lines.now in
+    let i = c.loop-line.line-index in
+    let more : take (i + 1) xs ≡ take i xs ++ c.line-item.result ∷ [] = take_more xs i c.line-item.result c.loop-line-test.true ∙ ap (λ x. take i xs ++ x ∷ []) (sym c.line-item.is) in
     answered_before g.B.Issued g.B.Books.rows c.args.books.now c.answer_line.new.books (g.met.B.Issued.clean_honest _) c.loop-line.books c.args.lines.now c.loop-line.line-index c.loop-line.answers.items
     c.len-answered.result c.loop-line.taken (Store c.len-answered.result c.loop-line.taken) (λ front. front) inv.each (omega (arith, c.len-answered.ensures)) inv.taken f.was_clean f.was_honest inv.was_clean f.unchanged inv.happened
-    inv.vouched
+    inv.vouched inv.through (next_fails g.B.Issued g.B.Books.rows c.args.books.now c.answer_line.new.books (g.met.B.Issued.clean_honest _) c.loop-line.books xs i c.line-item.result look.Store more (rw c.in-Err-Store.field-0-is at f.went))
 
 pub returns-clause-imported : goal.returns-clause-imported
 returns-clause-imported g c =
@@ -56,6 +66,7 @@ returns-clause-imported g c =
     all_answered g.B.Issued rows c.args.books.now c.loop-line.books (g.met.B.Issued.clean_honest _) c.args.lines.now c.loop-line.answers.items (subst (λ lines. AreAnswered lines c.loop-line.answers.items) all inv.each)
     inv.was_clean
     (λ honest. subst (λ lines. LinesLeadOn (is_clean c.args.books.now) (rows c.args.books.now) lines c.loop-line.answers.items (is_clean c.loop-line.books) (rows c.loop-line.books)) all (inv.happened honest)) inv.vouched inv.unasked
+    (subst (λ lines. Passes (LineHappens g.B.Issued rows) c.args.books.now (zip lines c.loop-line.answers.items) c.loop-line.books) all inv.through)
 
 pub returns-in-Err-Memory-clause-failed : goal.returns-in-Err-Memory-clause-failed
 returns-in-Err-Memory-clause-failed g c = λ clean. counted_after _ _ _ _ c.loop-line.invariant.counted (rw c.in-Err-Memory.field-0-is at (c.in-Err-Memory.ensures.failed clean))
@@ -85,6 +96,7 @@ loop-line-preserved g c =
       number = omega (arith, c.in-Ok-push.ensures.len, inv.number);
       taken = rw c.in-Ok-push.ensures.items (now ∙ sym (has_taken-push c.loop-line.answers.items c.in-Ok-answer_line.answer));
       each = rw (e, c.in-Ok-push.ensures.items) (AreAnswered-append (take i xs) (c.line-item.result ∷ []) c.loop-line.answers.items (c.in-Ok-answer_line.answer ∷ []) inv.each (f.answer, tt));
+      through = rw (e, c.in-Ok-push.ensures.items) (passes_next (LineHappens g.B.Issued rows) c.args.books.now (take i xs) c.loop-line.answers.items c.line-item.result c.in-Ok-answer_line.answer inv.each inv.through f.went);
       was_honest = λ honest. inv.was_honest (f.was_honest honest);
       happened = λ honest. rw (e, c.in-Ok-push.ensures.items)
           (

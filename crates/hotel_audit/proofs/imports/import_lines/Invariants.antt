@@ -1,6 +1,8 @@
 use Rattle.std.proofs.Common.{◌≡◌, ◌≢◌, ◌≤◌, [], take, length, vec_len, vec_capacity}
+use Rattle.std.specs.Prelude.{zip}
 use Rattle.keycard_rules.specs.Rise.{NoFewer}
-use Rattle.hotel_audit.specs.Import.{AreAnswered, LinesLeadOn, has_taken, replies_in}
+use Rattle.hotel_core.specs.Books.Happens.{Passes}
+use Rattle.hotel_audit.specs.Import.{AreAnswered, LineHappens, LinesLeadOn, has_taken, replies_in}
 use Rattle.hotel_audit.proofs.imports.import_lines.Given as goal
 
 abbrev pub invariant-loop-line : goal.invariant-loop-line
@@ -16,6 +18,7 @@ invariant-loop-line g l =
       number : vec_len l.answers ≡ l.line-index;
       taken : l.taken ≡ has_taken l.answers.items;
       each : AreAnswered (take l.line-index l.lines) l.answers.items;
+      through : Passes (LineHappens g.B.Issued rows) l.fn.books (zip (take l.line-index l.lines) l.answers.items) l.books;
       happened : is_honest l.books → LinesLeadOn (is_clean l.fn.books) (rows l.fn.books) (take l.line-index l.lines) l.answers.items (is_clean l.books) (rows l.books);
       vouched : is_honest l.books → replies_in l.answers.items ≢ [] → is_clean l.books;
       unasked : replies_in l.answers.items ≡ [] → is_clean l.fn.books → is_clean l.books;
