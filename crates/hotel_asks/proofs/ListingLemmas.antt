@@ -2,9 +2,11 @@
 use Rattle.std.proofs.Common.{◌≡◌, ℕ, List, Bool, true, false, sym, ap, ◌∙◌, Some, inl, inr, is_some}
 use Rattle.hotel_core.proofs.Names.{Rows, rows_of, History, is_room, Reached, StandsFor, room_at, chain_on, audit_on}
 use Rattle.std.proofs.lemmas.Bool.{cases_Bool}
-use Rattle.hotel_model.proofs.{Lifted.ListRows.lists_lift, OfTables.RoomNumbers.room_there, OfTables.RoomNumbers.room_not_there}
+use Rattle.hotel_model.proofs.{Lifted.ListRows.lists_lift, OfTables.RoomNumbers.room_there}
+use Rattle.hotel_model.proofs.{OfTables.RoomNumbers.room_not_there}
 use Rattle.hotel_model.specs.Lists.{chain, audit_of}
-use Rattle.hotel_lists.specs.Lines.{arrivals_header, in_house_header, chain_header, left_behind_header, audit_header, arrival_line, house_line, chain_line, behind_line, note_line}
+use Rattle.hotel_lists.specs.Lines.{arrivals_header, in_house_header, chain_header, left_behind_header, audit_header}
+use Rattle.hotel_lists.specs.Lines.{arrival_line, house_line, chain_line, behind_line, note_line}
 use Rattle.hotel_lists.specs.Listings.{listing, of_room}
 use Rattle.hotel_asks.specs.{declared.lists.ListAsk.ListAsk, Listings.listing_on, Listings.listing_over}
 use Rattle.hotel_asks.specs.declared.lists.ListAsk.TheVariants.{Arrivals, InHouse, ChainOf, LeftBehind, AuditOf}

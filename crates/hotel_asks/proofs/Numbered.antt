@@ -1,16 +1,23 @@
 -- As many texts as a verb has values are never refused for their number.
-use Rattle.std.proofs.Common.{◌≡◌, ℕ, ◌&&◌, Bool, true, false, if◌then◌else◌, List, [], ◌∷◌, length, take, arith, Option, Some, None, Result, Ok, Err, subst, sym}
+use Rattle.std.proofs.Common.{◌≡◌, ℕ, ◌&&◌, Bool, true, false, if◌then◌else◌, List, [], ◌∷◌, length, take, arith}
+use Rattle.std.proofs.Common.{Option, Some, None, Result, Ok, Err, subst, sym}
 use Rattle.std.specs.Option.{ok_or}
 use Rattle.std.specs.Str.{is_utf8}
 use Rattle.keycard_rules.specs.Results.{◌>>=◌}
 use Rattle.hotel_nights.specs.{Days.read_day, Guests.is_guest, Kinds.read_kind, Moments.read_moment}
-use Rattle.hotel_asks.specs.{Asks.ask_of, Asks.link_in, Asks.card_note_of, Names.names_of, Values.IsReading, Values.guest_in, Values.slash_in, Values.fit_after, Values.lock_in, declared.asks.Ask.Ask}
+use Rattle.hotel_asks.specs.{Asks.ask_of, Asks.link_in, Asks.card_note_of, Names.names_of, Values.IsReading}
+use Rattle.hotel_asks.specs.{Values.guest_in, Values.slash_in, Values.fit_after, Values.lock_in, declared.asks.Ask.Ask}
 use Rattle.keycard_rules.specs.Numerals.{number_up_to, read_code}
-use Rattle.hotel_asks.specs.declared.values.ValueName.TheVariants.{Day, Kind, Arrive, Nights, Guest, Room, Lock, Party, Card, Count, Old, New, From, To, Moment}
-use Rattle.hotel_asks.specs.{declared.values.AskFault.AskFault, declared.values.AskFault.TheVariants.Values, declared.values.ValueFault.ValueFault}
-use Rattle.hotel_asks.specs.{declared.values.ValueFault.TheVariants.Number, declared.values.ValueFault.TheVariants.Value, declared.values.ValueName.ValueName}
+use Rattle.hotel_asks.specs.declared.values.ValueName.TheVariants.{Day, Kind, Arrive, Nights, Guest, Room, Lock, Party}
+use Rattle.hotel_asks.specs.declared.values.ValueName.TheVariants.{Card, Count, Old, New, From, To, Moment}
+use Rattle.hotel_asks.specs.{declared.values.AskFault.AskFault, declared.values.AskFault.TheVariants.Values}
+use Rattle.hotel_asks.specs.{declared.values.ValueFault.ValueFault}
+use Rattle.hotel_asks.specs.{declared.values.ValueFault.TheVariants.Number}
+use Rattle.hotel_asks.specs.{declared.values.ValueFault.TheVariants.Value, declared.values.ValueName.ValueName}
 use Rattle.hotel_asks.specs.declared.verbs.Verb.{Verb}
-use Rattle.hotel_asks.specs.declared.verbs.Verb.TheVariants.{Begin, AddKind, AddRoom, Reserve, Cancel, CheckIn, Spare, Reissue, Transfer, CheckOut, Refit, NextDay, Entered, Left, Recoded, Arrivals, InHouse, ChainOf, LeftBehind, AuditOf}
+use Rattle.hotel_asks.specs.declared.verbs.Verb.TheVariants.{Begin, AddKind, AddRoom, Reserve, Cancel, CheckIn, Spare}
+use Rattle.hotel_asks.specs.declared.verbs.Verb.TheVariants.{Reissue, Transfer, CheckOut, Refit, NextDay, Entered, Left}
+use Rattle.hotel_asks.specs.declared.verbs.Verb.TheVariants.{Recoded, Arrivals, InHouse, ChainOf, LeftBehind, AuditOf}
 
 -- whether it isn't the number of texts that is refused
 abbrev pub IsNumbered : {A : Type 0} → Result A ValueFault → Type 0

@@ -1,10 +1,13 @@
--- The names that the proofs of this crate cite most, and those of the model among them, passed on from one place. Declares nothing.
+-- The names that the proofs of this crate cite most, and those of the model among them, passed on from one place.
+-- Declares nothing.
 pub use Rattle.hotel_core.specs.Books.Failures.{AreCounted, failure_in, failures_in, times, refusal_of}
 pub use Rattle.hotel_core.specs.Books.Walks.{Hands, StopsAt, Takes, TakesFront, failure_of}
 pub use Rattle.hotel_core.specs.KindRooms.{is_there, rooms_in}
-pub use Rattle.hotel_core.specs.Memory.{HaveCardNumbers, HaveCounts, HaveRoomNumbers, LaterPlacesFree, PlacesAgree, RoomsKnown, CountsNightsOf, TablesAgree}
+pub use Rattle.hotel_core.specs.Memory.{HaveCardNumbers, HaveCounts, HaveRoomNumbers, LaterPlacesFree, PlacesAgree}
+pub use Rattle.hotel_core.specs.Memory.{RoomsKnown, CountsNightsOf, TablesAgree}
 pub use Rattle.hotel_core.specs.NightIndex.{block_at, block_cmp, counted, spans}
-pub use Rattle.hotel_core.specs.Refinement.Finds.{AnyRows, DrawsCode, Drew, DrewNone, Finds, drawn_or, first_refusal, has_failed, reply_of}
+pub use Rattle.hotel_core.specs.Refinement.Finds.{AnyRows, DrawsCode, Drew, DrewNone, Finds, drawn_or, first_refusal}
+pub use Rattle.hotel_core.specs.Refinement.Finds.{has_failed, reply_of}
 pub use Rattle.hotel_core.specs.Refinement.StepOnRows.{StepsAs}
 pub use Rattle.hotel_core.specs.Stops.{EndsAs, Stopping, StopsEither}
 pub use Rattle.hotel_core.specs.declared.books.Books.{Ghosts}
@@ -14,7 +17,9 @@ pub use Rattle.hotel_model.specs.declared.rows.FitRow.{FitRow}
 pub use Rattle.hotel_model.specs.declared.rows.RoomRow.{RoomRow}
 pub use Rattle.hotel_model.specs.declared.command.Command.{Command}
 pub use Rattle.hotel_model.specs.declared.reply.Refusal.{Refusal}
-pub use Rattle.hotel_model.specs.declared.reply.Refusal.TheVariants.{AlreadyBegun, FitsUsedUp, Gap, KindExists, LastDay, Memory, NoFit, NoFreshCode, NoKind, NoRoom, NotBegun, OldFit, RoomExists, RoomTaken, Store}
+pub use Rattle.hotel_model.specs.declared.reply.Refusal.TheVariants.{AlreadyBegun, FitsUsedUp, Gap, KindExists, LastDay}
+pub use Rattle.hotel_model.specs.declared.reply.Refusal.TheVariants.{Memory, NoFit, NoFreshCode, NoKind, NoRoom}
+pub use Rattle.hotel_model.specs.declared.reply.Refusal.TheVariants.{NotBegun, OldFit, RoomExists, RoomTaken, Store}
 pub use Rattle.hotel_model.specs.declared.reply.Reply.{Reply}
 pub use Rattle.hotel_model.specs.declared.reply.Reply.TheVariants.{Refused}
 pub use Rattle.hotel_model.proofs.Names.{accepted, Act, After, after, All-head, All-tail, and_last, answered}

@@ -5,7 +5,8 @@ use Rattle.std.specs.Map.{lookup, values_of}
 use Rattle.std.specs.BTreeMap.{is_at}
 use Rattle.keycard_rules.specs.{Note.Note, Numbers.IsNumberUpTo}
 use Rattle.hotel_nights.specs.declared.stay.Stay.{Stay}
-use Rattle.hotel_model.specs.{declared.rows.RoomRow.RoomRow, declared.rows.CodeRow.CodeRow, Words.said_of, Words.pair_cmp}
+use Rattle.hotel_model.specs.{declared.rows.RoomRow.RoomRow, declared.rows.CodeRow.CodeRow, Words.said_of}
+use Rattle.hotel_model.specs.{Words.pair_cmp}
 use Rattle.hotel_model.specs.{Rows.Rows, Rows.at_number, Refinement.Lookups.first_code_at}
 use Rattle.hotel_core.specs.{NightIndex.CountsNights, KindRooms.rooms_in}
 

@@ -1,10 +1,16 @@
 //! The books of the desk, however they are kept.
-ghost use Rattle.std.specs.Prelude.{◌≡◌, ◌-◌, List, Option, Some, None, Bool, true, false, OnOk, OnErr, IfErr, IsOk, Result, Err, length, not};
-ghost use Rattle.keycard_rules.specs.{Rise.HasRisen, Rise.NoFewer, declared.issued.LookFault.LookFault, declared.issued.LookFault.TheVariants.Store};
-ghost use Rattle.hotel_model.specs.{Words.is_one_of, Rows.Rows, Rows.has_kind, Rows.fit_at, Guests.are_none, Refinement.Change.made};
+ghost use Rattle.std.specs.Prelude.{◌≡◌, ◌-◌, List, Option, Some, None, Bool, true, false, OnOk, OnErr, IfErr, IsOk};
+ghost use Rattle.std.specs.Prelude.{Result, Err, length, not};
+ghost use Rattle.keycard_rules.specs.{Rise.HasRisen, Rise.NoFewer, declared.issued.LookFault.LookFault};
+ghost use Rattle.keycard_rules.specs.{declared.issued.LookFault.TheVariants.Store};
+ghost use Rattle.hotel_model.specs.{Words.is_one_of, Rows.Rows, Rows.has_kind, Rows.fit_at, Guests.are_none};
+ghost use Rattle.hotel_model.specs.{Refinement.Change.made};
 ghost use Rattle.hotel_core.specs.Books.Reads.{LooksUp};
-ghost use Rattle.hotel_model.specs.Refinement.Lookups.{room_at, codes_in, code_place, code_at, stay_at, stays_of_kind, card_at, inside_at, note_at, rooms_of_kind, first_full_on, number_after};
-ghost use Rattle.hotel_model.specs.{Refinement.Fits.Fits, Refinement.Fits.takes_memory, Sound.IsSound, declared.change.Change.Change};
+ghost use Rattle.hotel_model.specs.Refinement.Lookups.{room_at, codes_in, code_place, code_at, stay_at, stays_of_kind};
+ghost use Rattle.hotel_model.specs.Refinement.Lookups.{card_at, inside_at, note_at, rooms_of_kind, first_full_on};
+ghost use Rattle.hotel_model.specs.Refinement.Lookups.{number_after};
+ghost use Rattle.hotel_model.specs.{Refinement.Fits.Fits, Refinement.Fits.takes_memory, Sound.IsSound};
+ghost use Rattle.hotel_model.specs.{declared.change.Change.Change};
 
 pub mod walks;
 
@@ -58,7 +64,8 @@ pub trait Books: Issued {
     fn stays_of_kind(&mut self, kind: &KindCode) -> Result<Vec<Stay>, LookFault>
         ensures { LooksUp Self.Issued true (λ v. v.items) (stays_of_kind (rows self.old) kind.now) self.old self.new result };
 
-    /// The first night from `arrive` on and before `depart` on which the kind's booked and in-house stays take all its rooms.
+    /// The first night from `arrive` on and before `depart` on which the kind's booked and in-house stays take all its
+    /// rooms.
     fn full_night(
         &mut self,
         kind: &KindCode,

@@ -12,7 +12,8 @@ pub(crate) fn more(counts: &mut [usize; 32], from: usize, to: usize)
     }
 }
 
-/// One stay less takes each night from the place `from` on and before `to`, where any does. Whether a stay takes any night.
+/// One stay less takes each night from the place `from` on and before `to`, where any does. Whether a stay takes any
+/// night.
 pub(crate) fn less(counts: &mut [usize; 32], from: usize, to: usize) -> bool
     requires { to ≤ 32 }
     ensures counts { (j : ℕ) → slice_index counts.new j ≡ slice_index counts.old j - one_if (nat_le from j && nat_lt j to) }

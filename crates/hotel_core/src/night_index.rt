@@ -1,6 +1,7 @@
 //! How many stays take each night, found by kind and night.
 ghost use Rattle.std.specs.Prelude.{◌≡◌, ℕ, ◌+◌, ◌-◌, ◌*◌, ◌/◌, ◌^◌, ◌<◌, ◌≤◌, List, [], nat_le, OnOk, OnErr};
-ghost use Rattle.hotel_nights.specs.{Block.one_if, FullNight.first_day, FullNight.is_full, FullNight.takes, declared.stay.Stay.Stay};
+ghost use Rattle.hotel_nights.specs.{Block.one_if, FullNight.first_day, FullNight.is_full, FullNight.takes};
+ghost use Rattle.hotel_nights.specs.{declared.stay.Stay.Stay};
 ghost use Rattle.hotel_core.specs.NightIndex.{counted, spans, CountsNights};
 
 use crate::night_counts::{less, more};
@@ -12,7 +13,8 @@ use std::marker::Model;
 
 /// How many booked and in-house stays of each kind take each night.
 ///
-/// It keeps counts alone, so that books of any form can keep it beside their stays: of each kind those of 32 nights together, and none
+/// It keeps counts alone, so that books of any form can keep it beside their stays: of each kind those of 32 nights
+/// together, and none
 /// of 32 that no stay takes. A night is named by its day's number.
 #[derive(Drop)]
 pub struct NightIndex {
@@ -116,7 +118,8 @@ impl NightIndex {
         Ok(())
     }
 
-    /// Counts a stay at each night that it takes: none, where it doesn't stand. Where memory is refused, no count changes.
+    /// Counts a stay at each night that it takes: none, where it doesn't stand. Where memory is refused, no count
+    /// changes.
     ///
     /// A count that has reached its greatest value stays there, so what is said holds of counts below 2^63.
     pub fn add(&mut self, stay: &Stay) -> Result<(), Memory>
@@ -176,7 +179,8 @@ impl NightIndex {
         None
     }
 
-    /// The first night from `arrive` on and before `depart` that so many of the stays, or more, take in rooms of the kind,
+    /// The first night from `arrive` on and before `depart` that so many of the stays, or more, take in rooms of the
+    /// kind,
     /// where these are the stays that are counted. It takes no memory.
     pub fn full_night(&self, kind: &KindCode, rooms: u32, arrive: Day, depart: Day) -> Option<Day>
         ensures { (stays : List Stay) → CountsNights self.now stays → result ≡ first_day (is_full stays kind.now rooms) arrive (depart - arrive) }

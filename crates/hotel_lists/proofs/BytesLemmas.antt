@@ -1,5 +1,7 @@
 -- Bytes that went in two pieces.
-use Rattle.std.proofs.Common.{◌≡◌, ℕ, ◌+◌, ◌-◌, ◌<◌, ◌≤◌, List, [], ◌∷◌, ◌++◌, get_or, append_assoc, append-nil, length-append, take-append-drop, length, take, drop, sym, ap, subst, arith, Option, length-drop, ◌∙◌}
+use Rattle.std.proofs.Common.{◌≡◌, ℕ, ◌+◌, ◌-◌, ◌<◌, ◌≤◌, List, [], ◌∷◌, ◌++◌, get_or, append_assoc, append-nil}
+use Rattle.std.proofs.Common.{length-append, take-append-drop, length, take, drop, sym, ap, subst, arith, Option}
+use Rattle.std.proofs.Common.{length-drop, ◌∙◌}
 use Rattle.std.proofs.lemmas.List.{take_rest, take_more, take-append-le}
 use Rattle.std.proofs.lemmas.List.Concat.{flat_map-append}
 use Rattle.std.proofs.Math.Seq.{take-append-add}

@@ -1,5 +1,7 @@
 -- The lines that a sink wrote along a walk.
-use Rattle.std.proofs.Common.{ℕ, ◌≡◌, Bool, true, false, List, [], ◌∷◌, ◌++◌, Option, Result, Ok, Err, Some, None, map, append_assoc, append-nil, length-append, ap, refl, sym, ◌∙◌, subst, arith, inl, inr, flat_map}
+use Rattle.std.proofs.Common.{ℕ, ◌≡◌, Bool, true, false, List, [], ◌∷◌, ◌++◌, Option, Result, Ok, Err, Some, None, map}
+use Rattle.std.proofs.Common.{append_assoc, append-nil, length-append, ap, refl, sym, ◌∙◌, subst, arith, inl, inr}
+use Rattle.std.proofs.Common.{flat_map}
 use Rattle.hotel_core.proofs.Names.{Takes, Hands}
 use Rattle.hotel_core.specs.Books.Walks.{failure_of}
 use Rattle.std.specs.List.{concat}
@@ -9,8 +11,10 @@ use Rattle.std.specs.Io.KnownBytes.{Appends}
 use Rattle.std.proofs.KnownBytes.{Appends-trans, Appends-kept}
 use Rattle.hotel_core.specs.declared.books.walks.WalkFault.{WalkFault}
 use Rattle.hotel_core.specs.declared.books.walks.WalkFault.TheVariants as walk
-use Rattle.hotel_lists.specs.{Bytes.AppendsFront, LineSink.SameEnds, LineSink.Gathers, LineSink.StopsAtWrite, LineSink.Finishes, declared.lines.Lines.Lines}
-use Rattle.hotel_lists.specs.{declared.fault.ListFault.ListFault, Lines.StopsBy, Lines.Vouches, Lines.listed, Listings.IsFront, Listings.ListEnds, Listings.listing}
+use Rattle.hotel_lists.specs.{Bytes.AppendsFront, LineSink.SameEnds, LineSink.Gathers, LineSink.StopsAtWrite}
+use Rattle.hotel_lists.specs.{LineSink.Finishes, declared.lines.Lines.Lines}
+use Rattle.hotel_lists.specs.{declared.fault.ListFault.ListFault, Lines.StopsBy, Lines.Vouches, Lines.listed}
+use Rattle.hotel_lists.specs.{Listings.IsFront, Listings.ListEnds, Listings.listing}
 use Rattle.hotel_lists.specs.declared.fault.ListFault.TheVariants as fault
 use Rattle.hotel_lists.proofs.{BytesLemmas.front_next, CallsLemmas.none_forgotten, CallsLemmas.then_none_forgotten}
 

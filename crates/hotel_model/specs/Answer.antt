@@ -1,10 +1,16 @@
--- What the desk answers after a history: the first refusal of the command's row whose case holds, else the accepted reply and its event.
+-- What the desk answers after a history: the first refusal of the command's row whose case holds, else the accepted
+-- reply and its event.
 use Rattle.std.specs.Prelude.{ℕ, List, [], ◌∷◌, Option, ◌+◌, nat_lt, option_map}
 use Rattle.hotel_model.specs.declared.command.Command.{Command}
 use Rattle.hotel_model.specs.declared.command.Command.TheVariants as command
 use Rattle.hotel_model.specs.declared.reply.Reply.TheVariants as reply
 use Rattle.hotel_model.specs.declared.reply.Refusal.{Refusal}
-use Rattle.hotel_model.specs.declared.reply.Refusal.TheVariants.{NotBegun, AlreadyBegun, KindExists, NoKind, RoomExists, NoRoom, NoParty, NotBooked, NotInHouse, TooEarly, StayOver, WrongKind, SameRoom, RoomTaken, PastArrival, PastEnd, KindFull, NumbersUsedUp, LastDay, Conflict, Gap, NoCard, CardDiffers, LockShut, NotInside, HeldDiffers, NotAwaited, OldFit, NoFit, FitsUsedUp}
+use Rattle.hotel_model.specs.declared.reply.Refusal.TheVariants.{NotBegun, AlreadyBegun, KindExists, NoKind, RoomExists}
+use Rattle.hotel_model.specs.declared.reply.Refusal.TheVariants.{NoRoom, NoParty, NotBooked, NotInHouse, TooEarly}
+use Rattle.hotel_model.specs.declared.reply.Refusal.TheVariants.{StayOver, WrongKind, SameRoom, RoomTaken, PastArrival}
+use Rattle.hotel_model.specs.declared.reply.Refusal.TheVariants.{PastEnd, KindFull, NumbersUsedUp, LastDay, Conflict}
+use Rattle.hotel_model.specs.declared.reply.Refusal.TheVariants.{Gap, NoCard, CardDiffers, LockShut, NotInside}
+use Rattle.hotel_model.specs.declared.reply.Refusal.TheVariants.{HeldDiffers, NotAwaited, OldFit, NoFit, FitsUsedUp}
 use Rattle.keycard_rules.specs.declared.note.Act.{Act}
 use Rattle.keycard_rules.specs.declared.note.Act.TheVariants as act
 use Rattle.keycard_rules.specs.Note.{Note}
@@ -18,7 +24,9 @@ use Rattle.hotel_model.specs.Guests.{inside}
 use Rattle.hotel_model.specs.Stays.{first_full}
 use Rattle.hotel_model.specs.Refits.{is_fit, fits_used_up, next_fit}
 use Rattle.hotel_model.specs.Standing.{Standing, Copy, Conflicting, OfOldFit, Next, After, standing}
-use Rattle.hotel_model.specs.Cases.{is_begun, today, is_kind, is_room, is_party, own_room, is_booked, is_in_house, is_early, is_over, is_of_kind, is_home, is_taken, parties_used_up, next_party, cards_used_up, next_card, last_card_of, is_card, has_link, opens, holds}
+use Rattle.hotel_model.specs.Cases.{is_begun, today, is_kind, is_room, is_party, own_room, is_booked, is_in_house}
+use Rattle.hotel_model.specs.Cases.{is_early, is_over, is_of_kind, is_home, is_taken, parties_used_up, next_party}
+use Rattle.hotel_model.specs.Cases.{cards_used_up, next_card, last_card_of, is_card, has_link, opens, holds}
 use Rattle.hotel_model.specs.Outcome.{Outcome, needs, bars, unless, accepted, said, refused, with_fresh}
 
 -- The next note of a room: what it says must be so.
@@ -33,7 +41,8 @@ told h note (act.Recoded from to) =
     unless (needs (holds h note.room from) HeldDiffers ∷ needs (is_one_of to (awaited h note.room)) NotAwaited ∷ [])
     (accepted reply.Taken (event.Recoded note.room note.fit note.count from to (moment_of note)))
 
--- A copy was seen, another content is a conflict; an earlier fit takes no further note, a later count leaves a gap; only the next note is looked at.
+-- A copy was seen, another content is a conflict; an earlier fit takes no further note, a later count leaves a gap;
+-- only the next note is looked at.
 abbrev pub reported : History → Note → Standing → Outcome Event
 reported h note Copy = said reply.Seen
 reported h note Conflicting = refused Conflict

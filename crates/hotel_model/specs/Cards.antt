@@ -14,7 +14,8 @@ use Rattle.hotel_model.specs.Issued.{current}
 abbrev pub link_to : History → ℕ → ℕ → Link
 link_to h room code = record { old_code = current h room; new_code = code }
 
--- The newest link of a room is that of the last card with a new code there; after a refit there is none until the next such card.
+-- The newest link of a room is that of the last card with a new code there; after a refit there is none until the next
+-- such card.
 abbrev pub newest_link : History → ℕ → Option Link
 newest_link (start t) r = newest_link_at t r
 newest_link (h ▷ Issue party room number code) r = when (room == r) (λ _. Some (link_to h room code)) (newest_link h r)

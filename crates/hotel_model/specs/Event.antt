@@ -24,7 +24,8 @@ pub data Event : Type 0 where
   Reserved : (party : ℕ) (guest kind : List ℕ) (arrive depart : ℕ) → Event
   -- a booking is given up
   Cancelled : (party : ℕ) → Event
-  -- a party is given a card with a new code at a room, and is registered there and at no other room: it arrives, or goes to another room, or has lost a card
+  -- a party is given a card with a new code at a room, and is registered there and at no other room: it arrives, or
+  -- goes to another room, or has lost a card
   Issue : (party room number code : ℕ) → Event
   -- a party is given one more card with the link of its last one
   Spare : (party number : ℕ) → Event

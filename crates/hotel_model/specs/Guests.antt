@@ -46,7 +46,8 @@ abbrev pub are_none : List ℕ → Bool
 are_none [] = true
 are_none (n ∷ ns) = false
 
--- A room is secured when, since a code was last issued there, a card with the current code entered while nobody was inside.
+-- A room is secured when, since a code was last issued there, a card with the current code entered while nobody was
+-- inside.
 abbrev pub secured : History → ℕ → Bool
 secured (start t) r = said_of (at_number t.rooms r) false (λ row. row.secured)
 secured (h ▷ Install room kind code) r = when (room == r) (λ _. false) (secured h r)

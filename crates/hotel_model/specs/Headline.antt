@@ -41,7 +41,8 @@ OpensOwnRoom h = (r number : ℕ) (card : Card) → is_room h r ≡ true → at_
 abbrev pub NewestOpens : History → Type 0
 NewestOpens h = (r : ℕ) (link : Link) → newest_link h r ≡ Some link → IsSome (turn (held h r) link) ↔ (length (awaited h r) ≤ 1)
 
--- In a secured room with a registered party the lock holds the current code, and each card inside has the newest link and is that party's.
+-- In a secured room with a registered party the lock holds the current code, and each card inside has the newest link
+-- and is that party's.
 abbrev pub SafeRoom : History → Type 0
 SafeRoom h = (r party : ℕ) → secured h r ≡ true → registered h r ≡ Some party → (held h r ≡ current h r)
     × ((number : ℕ) → Contains (inside h r) number → (card : Card) × (at_number (cards h) number ≡ Some card) × (newest_link h r ≡ Some card.link) × (card.party ≡ party))
@@ -56,7 +57,8 @@ pub record Headline (h : History) : Type 0 where
   pub safe_room : SafeRoom h
   pub rows_sound : IsSound (rows_of h)
 
--- What is assured after each step: the headline; that each note moved exactly the codes that it records; and that on no night more stays of a kind are booked and in house than the kind has rooms.
+-- What is assured after each step: the headline; that each note moved exactly the codes that it records; and that on no
+-- night more stays of a kind are booked and in house than the kind has rooms.
 pub record Assured (h : History) : Type 0 where
   pub headline : Headline h
   pub notes_move : NotesMove h

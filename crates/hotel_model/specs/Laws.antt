@@ -19,7 +19,8 @@ abbrev pub RunsJoin : Type 0
 RunsJoin = (h mid h' : History) (s source s' : Stream) (commands later : List Command) (replies more : List Reply) → Runs h s commands replies mid source
     → Runs mid source later more h' s' → Runs h s (commands ++ later) (replies ++ more) h' s'
 
--- A run from a history that can be reached ends in one that can be reached, where the commands' and replies' values are in their ranges.
+-- A run from a history that can be reached ends in one that can be reached, where the commands' and replies' values are
+-- in their ranges.
 abbrev pub RunsReach : Type 0
 RunsReach = (h h' : History) (s s' : Stream) (commands : List Command) (replies : List Reply) → Reached h → All IsCommand commands → All IsReply replies → Runs h s commands replies h' s' → Reached h'
 
@@ -32,7 +33,8 @@ NoneFailed (reply ∷ replies) = (is_failed reply ≡ false) × NoneFailed repli
 abbrev pub RunsTo : History → Stream → List Command → List Reply → Rows → Stream → Type 0
 RunsTo h s commands replies rows s' = (h' : History) × StandsFor h' rows × Runs h s commands replies h' s'
 
--- Two runs of the same commands in which nothing failed, over whichever books, have the same replies, and come to the same rows and the same source.
+-- Two runs of the same commands in which nothing failed, over whichever books, have the same replies, and come to the
+-- same rows and the same source.
 abbrev pub RunsAgree : Type 0
 RunsAgree = (h : History) (s : Stream) (commands : List Command) (replies replies' : List Reply) (rows rows' : Rows) (rest rest' : Stream)
     → NoneFailed replies → NoneFailed replies' → RunsTo h s commands replies rows rest → RunsTo h s commands replies' rows' rest'

@@ -11,7 +11,8 @@ use Rattle.hotel_model.specs.Lock.{held}
 abbrev pub turns : History → ℕ → Link → Bool
 turns h room link = held h room == link.old_code
 
--- The codes that a room's lock hasn't taken yet: a new code is awaited, an entry that turns the lock takes its new code out, a recoding takes out all up to its new code, a refit all.
+-- The codes that a room's lock hasn't taken yet: a new code is awaited, an entry that turns the lock takes its new code
+-- out, a recoding takes out all up to its new code, a refit all.
 abbrev pub awaited : History → ℕ → List ℕ
 awaited (start t) r = drop (lock_place_of t r + 1) (codes_at t r)
 awaited (h ▷ Issue party room number code) r = when (room == r) (and_last code) (awaited h r)
@@ -20,7 +21,8 @@ awaited (h ▷ Entered room fit count number link at) r = when ((room == r) && t
 awaited (h ▷ Recoded room fit count from to at) r = when (room == r) (after to) (awaited h r)
 awaited (h ▷ _) r = awaited h r
 
--- The codes that a room's lock has passed: an entry that turns the lock passes its old code, a recoding passes the code that was held and each awaited one before its new code, a refit the code that was held and all awaited ones.
+-- The codes that a room's lock has passed: an entry that turns the lock passes its old code, a recoding passes the code
+-- that was held and each awaited one before its new code, a refit the code that was held and all awaited ones.
 abbrev pub passed : History → ℕ → List ℕ
 passed (start t) r = take (lock_place_of t r) (codes_at t r)
 passed (h ▷ Refitted room fit code) r = when (room == r) (λ codes. codes ++ held h room ∷ awaited h room) (passed h r)

@@ -19,7 +19,8 @@ Stands h h' r = ledger h' r ≡ ledger h r
 abbrev pub OthersStand : History → History → ℕ → Type 0
 OthersStand h h' room = (r : ℕ) → (room == r) ≡ false → Stands h h' r
 
--- An entry by a link moved its two codes where the lock held the old one: this passed, and the new one, which was awaited first, is held. Else the lock held the new one, and no code moved.
+-- An entry by a link moved its two codes where the lock held the old one: this passed, and the new one, which was
+-- awaited first, is held. Else the lock held the new one, and no code moved.
 abbrev pub EntryMoves : History → History → ℕ → Link → Type 0
 EntryMoves h h' room link =
     (turns h room link ≡ true → (later : List ℕ)
@@ -27,7 +28,8 @@ EntryMoves h h' room link =
     × (ledger h' room ≡ record { passed = passed h room ++ link.old_code ∷ []; held = link.new_code; awaited = later }))
     × (turns h room link ≡ false → (held h room ≡ link.new_code) × Stands h h' room)
 
--- A recoding moved the codes from the one up to the other: the one, which was held, and those awaited between them passed, and the other is held.
+-- A recoding moved the codes from the one up to the other: the one, which was held, and those awaited between them
+-- passed, and the other is held.
 abbrev pub RecodingMoves : History → History → ℕ → ℕ → ℕ → Type 0
 RecodingMoves h h' room from to = (between : List ℕ) × (later : List ℕ)
     × (ledger h room ≡ record { passed = passed h room; held = from; awaited = between ++ to ∷ later })

@@ -1,4 +1,5 @@
--- What comes of a command: its reply, what happens where it was accepted, and how many words of the source were examined.
+-- What comes of a command: its reply, what happens where it was accepted, and how many words of the source were
+-- examined.
 use Rattle.std.specs.Prelude.{ℕ, Bool, true, false, List, [], ◌∷◌, Option, Some, None, option_map}
 use Rattle.hotel_model.specs.declared.reply.Reply.{Reply}
 use Rattle.hotel_model.specs.declared.reply.Reply.TheVariants as reply

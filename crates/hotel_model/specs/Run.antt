@@ -16,7 +16,8 @@ use Rattle.keycard_rules.specs.Draw.{words, past, MovedAtMost}
 use Rattle.hotel_model.specs.Outcome.{Outcome, grown}
 use Rattle.hotel_model.specs.Answer.{answer_to}
 
--- The history can be reached: it starts with sound rows, each event was accepted after those before it, and the event's values are in their ranges.
+-- The history can be reached: it starts with sound rows, each event was accepted after those before it, and the event's
+-- values are in their ranges.
 abbrev pub Reached : History → Type 0
 Reached (start t) = IsSound t
 Reached (h ▷ event) = Reached h × (ahead : List ℕ) × (command : Command) × ((answer_to h ahead command).happens ≡ Some event) × InRange event
@@ -45,13 +46,15 @@ last_answered [] = false
 last_answered (reply ∷ []) = not (is_failed reply)
 last_answered (first ∷ reply ∷ replies) = last_answered (reply ∷ replies)
 
--- A failed command: nothing happened, and the source moved by at most the words of its draw. Any other: the answer, its event, and the words that it examined.
+-- A failed command: nothing happened, and the source moved by at most the words of its draw. Any other: the answer, its
+-- event, and the words that it examined.
 abbrev pub StepsIf : Bool → History → Stream → Command → Reply → History → Stream → Type 0
 StepsIf true h s command reply h' s' = (h' ≡ h) × MovedAtMost (answered h s command).examined s s'
 StepsIf false h s command reply h' s' =
     (reply ≡ (answered h s command).reply) × (h' ≡ grown h (answered h s command).happens) × (s' ≡ past (answered h s command).examined s)
 
--- A command may be given this reply, after which these are the history and the source. Memory or Store may stand in place of any answer.
+-- A command may be given this reply, after which these are the history and the source. Memory or Store may stand in
+-- place of any answer.
 abbrev pub Steps : History → Stream → Command → Reply → History → Stream → Type 0
 Steps h s command reply h' s' = StepsIf (is_failed reply) h s command reply h' s'
 

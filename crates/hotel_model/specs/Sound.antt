@@ -5,11 +5,17 @@ use Rattle.std.specs.Cmp.Lexicographic.{slice_cmp}
 use Rattle.std.specs.Map.{keys_of}
 use Rattle.hotel_model.specs.Words.{pair_cmp}
 use Rattle.hotel_model.specs.Rows.{Rows}
-use Rattle.hotel_model.specs.SoundRooms.{are_in_order, day_in_range, day_before_kinds, kinds_read, room_numbers, lock_places, room_kinds_there, codes_few, note_counts, parties_in_house, secured_hold_last}
-use Rattle.hotel_model.specs.SoundStays.{stay_numbers, guests_read, stay_kinds_there, stay_days, stay_rooms, nights_fit, stays_on, rooms_with}
-use Rattle.hotel_model.specs.SoundCards.{codes_in_range, code_rooms_there, places_once, card_numbers, card_parties_there, links_are_neighbours, links_of_one_party, neighbours_are_links, fits_without_links, newest_of_party, last_cards_newest}
+use Rattle.hotel_model.specs.SoundRooms.{are_in_order, day_in_range, day_before_kinds, kinds_read, room_numbers}
+use Rattle.hotel_model.specs.SoundRooms.{lock_places, room_kinds_there, codes_few, note_counts, parties_in_house}
+use Rattle.hotel_model.specs.SoundRooms.{secured_hold_last}
+use Rattle.hotel_model.specs.SoundStays.{stay_numbers, guests_read, stay_kinds_there, stay_days, stay_rooms, nights_fit}
+use Rattle.hotel_model.specs.SoundStays.{stays_on, rooms_with}
+use Rattle.hotel_model.specs.SoundCards.{codes_in_range, code_rooms_there, places_once, card_numbers}
+use Rattle.hotel_model.specs.SoundCards.{card_parties_there, links_are_neighbours, links_of_one_party}
+use Rattle.hotel_model.specs.SoundCards.{neighbours_are_links, fits_without_links, newest_of_party, last_cards_newest}
 use Rattle.hotel_model.specs.SoundNotes.{insides_fit, notes_fit, notes_counted, notes_of_fits}
-use Rattle.hotel_model.specs.SoundFits.{fit_rooms_there, fit_numbers, first_fits, fit_places_rise, fit_notes_rise, last_fits_held, last_fits_noted, fit_notes_few, rows_of_last_fits}
+use Rattle.hotel_model.specs.SoundFits.{fit_rooms_there, fit_numbers, first_fits, fit_places_rise, fit_notes_rise}
+use Rattle.hotel_model.specs.SoundFits.{last_fits_held, last_fits_noted, fit_notes_few, rows_of_last_fits}
 
 -- Each table is in the order of its keys, and no key stands twice.
 abbrev pub keys_in_order : Rows → Bool

@@ -1,12 +1,14 @@
 -- The rules of sound rows, third part: codes and cards. Each rule is a test of all rows.
-use Rattle.std.specs.Prelude.{ℕ, Bool, true, false, ◌+◌, ◌^◌, ◌==◌, ◌&&◌, ◌||◌, not, nat_le, nat_lt, length, is_some, count_by}
+use Rattle.std.specs.Prelude.{ℕ, Bool, true, false, ◌+◌, ◌^◌, ◌==◌, ◌&&◌, ◌||◌, not, nat_le, nat_lt, length, is_some}
+use Rattle.std.specs.Prelude.{count_by}
 use Rattle.std.specs.List.{list_any, list_all}
 use Rattle.std.specs.Map.{keys_of, values_of}
 use Rattle.keycard_rules.specs.declared.card.Card.{Card}
 use Rattle.keycard_rules.specs.declared.card.Link.{Link}
 use Rattle.hotel_model.specs.declared.rows.CodeRow.{CodeRow}
 use Rattle.hotel_model.specs.Words.{said_of}
-use Rattle.hotel_model.specs.Rows.{Rows, at_number, codes_by_place, codes_at, begins_fit, newest_link_at, link_of_last_card}
+use Rattle.hotel_model.specs.Rows.{Rows, at_number, codes_by_place, codes_at, begins_fit, newest_link_at}
+use Rattle.hotel_model.specs.Rows.{link_of_last_card}
 use Rattle.hotel_model.specs.Stays.{room_of_state}
 use Rattle.hotel_model.specs.Cards.{same_link}
 use Rattle.hotel_model.specs.SoundRooms.{count_up, each_room}

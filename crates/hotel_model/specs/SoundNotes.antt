@@ -1,5 +1,6 @@
 -- The rules of sound rows, fourth part: insides and notes. Each rule is a test of all rows.
-use Rattle.std.specs.Prelude.{ℕ, Bool, true, false, List, [], ◌∷◌, ◌+◌, ◌==◌, ◌&&◌, ◌||◌, not, nat_le, nat_lt, length, is_some}
+use Rattle.std.specs.Prelude.{ℕ, Bool, true, false, List, [], ◌∷◌, ◌+◌, ◌==◌, ◌&&◌, ◌||◌, not, nat_le, nat_lt, length}
+use Rattle.std.specs.Prelude.{is_some}
 use Rattle.std.specs.List.{list_all}
 use Rattle.keycard_rules.specs.declared.card.Card.{Card}
 use Rattle.keycard_rules.specs.declared.card.Link.{Link}
@@ -33,7 +34,8 @@ last_fit_place rows room = said_of (last_fit (fits_at rows.fits room)) 0 (λ f. 
 abbrev pub has_entered : Rows → ℕ → RoomRow → CodeRow → Bool
 has_entered rows room row new = nat_lt (last_fit_place rows room) new.place && nat_le new.place row.lock_place
 
--- the card's link stands at the room, its new code after the last fit's first one and not after the lock's; in a secured room it is the newest
+-- the card's link stands at the room, its new code after the last fit's first one and not after the lock's; in a
+-- secured room it is the newest
 abbrev pub fits_inside : Rows → ℕ → RoomRow → Card → Bool
 fits_inside rows room row card =
     stands_at rows room card.link && code_is rows card.link.new_code (has_entered rows room row) && (not row.secured || is_newest rows room card.link)

@@ -1,5 +1,6 @@
 -- The business day, the kinds and rooms, the stays, and how full the nights are.
-use Rattle.std.specs.Prelude.{ℕ, Bool, true, false, List, [], ◌∷◌, Option, Some, None, ◌+◌, ◌==◌, if◌then◌else◌, map, count_by, option_map, bytes_eq}
+use Rattle.std.specs.Prelude.{ℕ, Bool, true, false, List, [], ◌∷◌, Option, Some, None, ◌+◌, ◌==◌, if◌then◌else◌, map}
+use Rattle.std.specs.Prelude.{count_by, option_map, bytes_eq}
 use Rattle.std.specs.Ordering.{nat_cmp}
 use Rattle.std.specs.Cmp.Lexicographic.{slice_cmp}
 use Rattle.std.specs.BTreeMap.{insert_entry}

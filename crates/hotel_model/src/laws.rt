@@ -1,7 +1,9 @@
 //! Laws of the model, which make no call: what a caller may rest on beside the contracts of the calls.
 ghost use Rattle.hotel_model.specs.{Headline.Assured, History.History};
-ghost use Rattle.hotel_model.specs.{Laws.RunsAgree, Laws.RunsCompute, Laws.RunsJoin, Laws.RunsReach, Laws.StartsStand, Run.Reached};
-ghost use Rattle.hotel_model.specs.{Sound.RulesAreTested, Refinement.Lift.AnswersLift, Refinement.Lift.ChangesFit, Refinement.ListsLift.ListsLift};
+ghost use Rattle.hotel_model.specs.{Laws.RunsAgree, Laws.RunsCompute, Laws.RunsJoin, Laws.RunsReach, Laws.StartsStand};
+ghost use Rattle.hotel_model.specs.{Run.Reached};
+ghost use Rattle.hotel_model.specs.{Sound.RulesAreTested, Refinement.Lift.AnswersLift, Refinement.Lift.ChangesFit};
+ghost use Rattle.hotel_model.specs.{Refinement.ListsLift.ListsLift};
 
 /// The headline, and what is assured beside it, hold of each history that can be reached.
 pub fn assured()

@@ -1,5 +1,6 @@
 -- The rooms of each kind and the nights of the stays, counted row by row.
-use Rattle.std.proofs.Common.{◌≡◌, refl, sym, ap, subst, ◌∙◌, List, [], ◌∷◌, map, ℕ, true, false, Bool, Option, None, Some, arith, ◌+◌, ◌<◌, length, take, get_or, inl, inr, cond}
+use Rattle.std.proofs.Common.{◌≡◌, refl, sym, ap, subst, ◌∙◌, List, [], ◌∷◌, map, ℕ, true, false, Bool, Option, None}
+use Rattle.std.proofs.Common.{Some, arith, ◌+◌, ◌<◌, length, take, get_or, inl, inr, cond}
 use Rattle.std.specs.Prelude.{◌||◌, bytes_eq, string_bytes, not, is_some, nat_le, ◌-◌}
 use Rattle.std.proofs.lemmas.Bool.Decides.{nat_tests}
 use Rattle.std.proofs.lemmas.Bool.{cases_Bool}

@@ -1,5 +1,7 @@
 -- The three lists of a place in a list of codes.
-use Rattle.std.proofs.Common.{◌≡◌, ℕ, zero, suc, ◌+◌, ◌-◌, ◌<◌, ◌≤◌, ◌==◌, Bool, true, false, not, nat_eq, nat_lt, List, [], ◌∷◌, ◌++◌, length, take, drop, get_or, arith, refl, sym, ap, ◌∙◌, add-one, None, inl, inr, length-append, append_assoc}
+use Rattle.std.proofs.Common.{◌≡◌, ℕ, zero, suc, ◌+◌, ◌-◌, ◌<◌, ◌≤◌, ◌==◌, Bool, true, false, not, nat_eq, nat_lt, List}
+use Rattle.std.proofs.Common.{[], ◌∷◌, ◌++◌, length, take, drop, get_or, arith, refl, sym, ap, ◌∙◌, add-one, None, inl}
+use Rattle.std.proofs.Common.{inr, length-append, append_assoc}
 use Rattle.std.proofs.Math.Seq.{take-add, drop-cons, get_or-append_seam}
 use Rattle.std.proofs.lemmas.List.{get_or-append-add, drop-drop, get_or-drop, take-append-drop}
 use Rattle.std.proofs.lemmas.List.Sums.{prefix_len_stops, prefix_len-le-length}

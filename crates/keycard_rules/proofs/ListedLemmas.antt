@@ -1,8 +1,10 @@
 -- The words of a list, one after the other.
-use Rattle.std.proofs.Common.{◌≡◌, ℕ, zero, suc, ◌-◌, ◌<◌, ◌≤◌, List, [], ◌∷◌, ◌++◌, length, take, replicate, arith, refl, sym, ap, ◌∙◌}
+use Rattle.std.proofs.Common.{◌≡◌, ℕ, zero, suc, ◌-◌, ◌<◌, ◌≤◌, List, [], ◌∷◌, ◌++◌, length, take, replicate, arith}
+use Rattle.std.proofs.Common.{refl, sym, ap, ◌∙◌}
 use Rattle.rand_core.specs.{Stream.Stream, Steps.steps_u64_low}
 use Rattle.rand_core.proofs.StepsLemmas.{next_u64-stream_of}
-use Rattle.keycard_rules.specs.{Draw.words, ListedWords.next_listed, ListedWords.listed_stream, ListedWords.last_listed, ListedWords.first_listed}
+use Rattle.keycard_rules.specs.{Draw.words, ListedWords.next_listed, ListedWords.listed_stream, ListedWords.last_listed}
+use Rattle.keycard_rules.specs.{ListedWords.first_listed}
 use Rattle.keycard_rules.proofs.Drawing.{words-zero, words-suc}
 
 -- more at the end than is taken

@@ -1,5 +1,6 @@
 -- Facts about numerals.
-use Rattle.std.proofs.Common.{◌≡◌, ℕ, zero, suc, ◌+◌, ◌-◌, ◌*◌, ◌/◌, ◌%◌, ◌^◌, ◌<◌, ◌≤◌, List, [], ◌∷◌, ◌++◌, length, take, drop, set, get_or, arith, refl, ◌∙◌, append_assoc, add-one, length-append}
+use Rattle.std.proofs.Common.{◌≡◌, ℕ, zero, suc, ◌+◌, ◌-◌, ◌*◌, ◌/◌, ◌%◌, ◌^◌, ◌<◌, ◌≤◌, List, [], ◌∷◌, ◌++◌, length}
+use Rattle.std.proofs.Common.{take, drop, set, get_or, arith, refl, ◌∙◌, append_assoc, add-one, length-append}
 use Rattle.std.proofs.Math.Nat.{pow-zero, pow-suc, mul-le-mul_right, pow-le-pow_right}
 use Rattle.std.proofs.Math.Seq.{take-suc}
 use Rattle.std.proofs.lemmas.Nat.{div_below, div-add-mod'}
@@ -7,7 +8,8 @@ use Rattle.std.proofs.lemmas.List.{length-take-le, length-set}
 use Rattle.std.proofs.lemmas.List.Elements.{All-head, All-tail, All-nil, All-push}
 use Rattle.std.proofs.lemmas.Grind.{common_steps}
 use Rattle.std.specs.List.{All}
-use Rattle.keycard_rules.specs.{Numerals.digit_value, Numerals.number_of, Numerals.fixed_text, Numerals.digit_byte, Numerals.is_numeral, Numerals.numeral, Numerals.IsNumeral}
+use Rattle.keycard_rules.specs.{Numerals.digit_value, Numerals.number_of, Numerals.fixed_text, Numerals.digit_byte}
+use Rattle.keycard_rules.specs.{Numerals.is_numeral, Numerals.numeral, Numerals.IsNumeral}
 use Rattle.std.specs.Option.{SomeIff}
 use Rattle.std.proofs.lemmas.List.Sums.{AllPass-from_list_all, list_all-from_AllPass}
 use Rattle.std.proofs.lemmas.List.Elements.{All-weaker}

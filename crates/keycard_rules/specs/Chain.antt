@@ -1,7 +1,10 @@
--- A room's codes in order of issue: those that the lock has passed, the one that it holds, and those that it has not seen.
-use Rattle.std.specs.Prelude.{◌≡◌, ℕ, ◌==◌, ◌&&◌, ◌||◌, Bool, false, not, List, [], ◌∷◌, ◌++◌, Option, Some, None, Result, Ok, Err, if◌then◌else◌}
+-- A room's codes in order of issue: those that the lock has passed, the one that it holds, and those that it has not
+-- seen.
+use Rattle.std.specs.Prelude.{◌≡◌, ℕ, ◌==◌, ◌&&◌, ◌||◌, Bool, false, not, List, [], ◌∷◌, ◌++◌, Option, Some, None}
+use Rattle.std.specs.Prelude.{Result, Ok, Err, if◌then◌else◌}
 use Rattle.std.specs.List.{position_or_len}
-use Rattle.keycard_rules.specs.{Words.is_one_of, Words.before, Words.after, declared.card.Link.Link, declared.chain.Turned.Turned, declared.chain.RecodeFault.RecodeFault}
+use Rattle.keycard_rules.specs.{Words.is_one_of, Words.before, Words.after, declared.card.Link.Link}
+use Rattle.keycard_rules.specs.{declared.chain.Turned.Turned, declared.chain.RecodeFault.RecodeFault}
 use Rattle.keycard_rules.specs.declared.chain.RecodeFault.TheVariants.{HeldDiffers, NotAwaited}
 
 -- passed, held and awaited codes

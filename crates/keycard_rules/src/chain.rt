@@ -3,7 +3,8 @@
 ghost use Rattle.std.specs.Prelude.{◌≡◌, [], ◌∷◌, ◌++◌, length, Ok, IfOk, OnOk, OnErr, option_map, false, nat_eq};
 ghost use Rattle.std.specs.List.{IsDistinct};
 ghost use Rattle.keycard_rules.specs.{Words.is_one_of, Lock.turn};
-ghost use Rattle.keycard_rules.specs.Chain.{Ledger, IsLinkOf, issued, current, installed, with_issued, entered, turned, recode_answer, recoded, refitted, place_in};
+ghost use Rattle.keycard_rules.specs.Chain.{Ledger, IsLinkOf, issued, current, installed, with_issued, entered, turned};
+ghost use Rattle.keycard_rules.specs.Chain.{recode_answer, recoded, refitted, place_in};
 
 use crate::card::Link;
 use crate::code::Code;
@@ -95,7 +96,8 @@ impl Chain {
 
     /// Shows a card of the link to the lock: `None` where it stays shut.
     ///
-    /// A link that the chain issued opens as the lock's rule says. A link from elsewhere that has the held code as its old one stays
+    /// A link that the chain issued opens as the lock's rule says. A link from elsewhere that has the held code as its
+    /// old one stays
     /// shut unless its new code is the first awaited one.
     pub fn enter(&mut self, link: &Link) -> Option<Turned>
         ensures answer { result ≡ turned self.old link.now }

@@ -1,6 +1,7 @@
 //! Drawing a code that was never issued.
 ghost use Rattle.std.specs.Prelude.{◌≡◌, false, Err, IfOk, IfSome, None};
-ghost use Rattle.keycard_rules.specs.{Words.is_one_of, Draw.words, Draw.past, Draw.MovedAtMost, Draw.Draws, Draw.AllIssued, Draw.fault_in, Rise.HasRisen, Rise.NoFewer};
+ghost use Rattle.keycard_rules.specs.{Words.is_one_of, Draw.words, Draw.past, Draw.MovedAtMost, Draw.Draws};
+ghost use Rattle.keycard_rules.specs.{Draw.AllIssued, Draw.fault_in, Rise.HasRisen, Rise.NoFewer};
 
 use crate::code::Code;
 use crate::issued::{Issued, LookFault};
@@ -19,7 +20,8 @@ pub enum DrawFault {
 
 /// Draws a code that wasn't issued: the first such one among the codes of the source's next 64 words.
 ///
-/// A word's code is its upper 48 bits. The source moves by the words that were examined, and on a fault of a look-up by no more
+/// A word's code is its upper 48 bits. The source moves by the words that were examined, and on a fault of a look-up by
+/// no more
 /// than without it. Takes no memory of its own.
 pub fn draw_fresh<R: Rng, I: Issued>(source: &mut R, issued: &mut I) -> Result<Code, DrawFault>
     ensures drawn { I.is_honest issued.new → Draws (I.issued issued.old) (R.stream source.old) result (R.stream source.new) }

@@ -1,7 +1,8 @@
 //! What knows the codes that were issued, asked before a new one is given out.
 ghost use Rattle.std.specs.Prelude.{◌≡◌, ℕ, List, IfOk, IfErr, OnOk, IsOk, refl};
 ghost use Rattle.std.proofs.Common.{◌∙◌};
-ghost use Rattle.keycard_rules.specs.{Words.is_one_of, Rise.HasRisen, Rise.NoFewer, declared.issued.LookFault.LookFault, declared.issued.LookFault.TheVariants.Store};
+ghost use Rattle.keycard_rules.specs.{Words.is_one_of, Rise.HasRisen, Rise.NoFewer};
+ghost use Rattle.keycard_rules.specs.{declared.issued.LookFault.LookFault, declared.issued.LookFault.TheVariants.Store};
 
 use crate::code::Code;
 use std::marker::Model;
@@ -17,7 +18,8 @@ pub enum LookFault {
 
 /// What knows the codes that were issued: a list in memory, or tables in a store.
 ///
-/// An implementation counts its failures by their cause: a look-up answers a fault only where that cause's count rose, or was at its greatest value.
+/// An implementation counts its failures by their cause: a look-up answers a fault only where that cause's count rose,
+/// or was at its greatest value.
 pub trait Issued {
     /// The codes that were issued.
     ghost issued: { Self → List ℕ };

@@ -1,4 +1,5 @@
-//! Codes, cards and locks: the two-code rule of a door that stands alone, one room's chain of codes, and the drawing of codes.
+//! Codes, cards and locks: the two-code rule of a door that stands alone, one room's chain of codes, and the drawing of
+//! codes.
 #![tactic(auto)]
 
 mod card;

@@ -1,7 +1,8 @@
 //! A source of words for tests.
 ghost use Rattle.std.specs.Prelude.{◌≡◌, ℕ, ◌<◌, length, IfSome};
 ghost use Rattle.std.specs.Option.{SomeIff};
-ghost use Rattle.keycard_rules.specs.{Draw.words, ListedWords.next_listed, ListedWords.listed_stream, ListedWords.first_listed};
+ghost use Rattle.keycard_rules.specs.{Draw.words, ListedWords.next_listed, ListedWords.listed_stream};
+ghost use Rattle.keycard_rules.specs.{ListedWords.first_listed};
 
 use rand_core::utils::NextWord;
 use rand_core::{Rng, utils};

@@ -2,7 +2,8 @@
 
 ghost use Rattle.std.specs.Prelude.{◌≡◌, ◌^◌, ◌<◌, ◌≤◌, length};
 ghost use Rattle.std.specs.Option.{SomeIff};
-ghost use Rattle.keycard_rules.specs.{Numerals.digit_value, Numerals.digit_byte, Numerals.number_of, Numerals.numeral, Numerals.fixed_text, Numerals.IsNumeral};
+ghost use Rattle.keycard_rules.specs.{Numerals.digit_value, Numerals.digit_byte, Numerals.number_of, Numerals.numeral};
+ghost use Rattle.keycard_rules.specs.{Numerals.fixed_text, Numerals.IsNumeral};
 
 /// What a digit of either case stands for, and 255 at any other byte.
 #[tactic(auto, unfolding(crate::specs::Numerals::digit_value))]
@@ -17,7 +18,8 @@ const fn value_of_digit(byte: u8) -> u8
     }
 }
 
-/// The number that the text writes in the base, or `None` where it isn't one to `most` digits of it. Letters may be of either case.
+/// The number that the text writes in the base, or `None` where it isn't one to `most` digits of it. Letters may be of
+/// either case.
 pub fn read_numeral(text: &[u8], base: u64, most: usize) -> Option<u64>
     requires least { 2 ≤ base }
     requires known { base ≤ 16 }

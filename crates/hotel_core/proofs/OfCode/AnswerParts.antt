@@ -1,6 +1,7 @@
 -- What comes of a command on the books, as far as the command went.
 use Rattle.std.proofs.Common.{Bool, ℕ, ◌≡◌, Some, ap, sym, ◌∙◌, subst, Ok, option_map}
-use Rattle.hotel_core.proofs.Names.{Stream, draw_from, words, Change, Reply, Refused, NoFreshCode, said_of, Rows, codes_in, DrawsCode, Outcome, accepted, by_draw, Ghosts as BooksOf}
+use Rattle.hotel_core.proofs.Names.{Stream, draw_from, words, Change, Reply, Refused, NoFreshCode, said_of, Rows}
+use Rattle.hotel_core.proofs.Names.{codes_in, DrawsCode, Outcome, accepted, by_draw, Ghosts as BooksOf}
 use Rattle.hotel_model.specs.Refinement.Answered.{IsOutcome, IsAnswered}
 use Rattle.hotel_core.proofs.OfCode.Parts.{SoFar}
 use Rattle.keycard_rules.specs.declared.issued.Issued.{Ghosts as IssuedOf}

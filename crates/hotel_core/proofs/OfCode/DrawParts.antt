@@ -1,6 +1,11 @@
 -- A draw as a part of a step.
-use Rattle.std.proofs.Common.{ℕ, ◌≡◌, Bool, true, false, Some, None, Result, Ok, Err, IsErrAnd, List, refl, ap, sym, ◌∙◌, arith, subst, option_map, IfSome, inr}
-use Rattle.hotel_core.proofs.Names.{false≢true, LookFault, Stream, HasRisen, NoFewer, Draw, Draws, fault_in, draw_from, drawn, words, past, Change, Reply, Refused, Refusal, NoFreshCode, said_of, Rows, codes_in, is_failed, Outcome, accepted, by_draw, made, GoesIf, made_by, AreWhole, StepsAs, DrawsCode, Drew, DrewNone, drawn_or, has_failed, refusal_of, reply_of, Ghosts as BooksOf}
+use Rattle.std.proofs.Common.{ℕ, ◌≡◌, Bool, true, false, Some, None, Result, Ok, Err, IsErrAnd, List, refl, ap, sym}
+use Rattle.std.proofs.Common.{◌∙◌, arith, subst, option_map, IfSome, inr}
+use Rattle.hotel_core.proofs.Names.{false≢true, LookFault, Stream, HasRisen, NoFewer, Draw, Draws, fault_in, draw_from}
+use Rattle.hotel_core.proofs.Names.{drawn, words, past, Change, Reply, Refused, Refusal, NoFreshCode, said_of, Rows}
+use Rattle.hotel_core.proofs.Names.{codes_in, is_failed, Outcome, accepted, by_draw, made, GoesIf, made_by, AreWhole}
+use Rattle.hotel_core.proofs.Names.{StepsAs, DrawsCode, Drew, DrewNone, drawn_or, has_failed, refusal_of, reply_of}
+use Rattle.hotel_core.proofs.Names.{Ghosts as BooksOf}
 use Rattle.keycard_rules.specs.Draw.{MovedAtMost}
 use Rattle.keycard_rules.specs.declared.issued.LookFault.TheVariants as look
 use Rattle.keycard_rules.specs.{declared.draw.DrawFault.DrawFault, declared.issued.Issued.Ghosts as IssuedOf}

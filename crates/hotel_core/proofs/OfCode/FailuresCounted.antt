@@ -1,6 +1,10 @@
 -- A failed part of a step over sound rows was counted.
-use Rattle.std.proofs.Common.{ℕ, ◌≡◌, ◌+◌, Bool, true, false, List, [], ◌∷◌, ◌++◌, inl, inr, arith, refl, sym, append_assoc, append-nil, ap, ◌∙◌}
-use Rattle.hotel_core.proofs.Names.{false≢true, LookFault, Stream, HasRisen, HasRisenBy, NoFewer, Change, Reply, Refused, Refusal, Memory, Store, Rows, IsSound, start, Outcome, is_failed, AreWhole, GoesIf, Goes, StepsAs, failure_in, failures_in, times, AreCounted, refusal_of, Ghosts as BooksOf}
+use Rattle.std.proofs.Common.{ℕ, ◌≡◌, ◌+◌, Bool, true, false, List, [], ◌∷◌, ◌++◌, inl, inr, arith, refl, sym}
+use Rattle.std.proofs.Common.{append_assoc, append-nil, ap, ◌∙◌}
+use Rattle.hotel_core.proofs.Names.{false≢true, LookFault, Stream, HasRisen, HasRisenBy, NoFewer, Change, Reply}
+use Rattle.hotel_core.proofs.Names.{Refused, Refusal, Memory, Store, Rows, IsSound, start, Outcome, is_failed, AreWhole}
+use Rattle.hotel_core.proofs.Names.{GoesIf, Goes, StepsAs, failure_in, failures_in, times, AreCounted, refusal_of}
+use Rattle.hotel_core.proofs.Names.{Ghosts as BooksOf}
 use Rattle.keycard_rules.specs.declared.issued.LookFault.TheVariants as look
 use Rattle.hotel_model.proofs.{Starts.StartRows.rows_of_start, Lifted.Whole.rows_are_whole}
 use Rattle.keycard_rules.specs.declared.issued.Issued.{Ghosts as IssuedOf}

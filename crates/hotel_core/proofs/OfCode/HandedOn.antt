@@ -1,5 +1,6 @@
 -- What a sink is handed on by another one that stands before it, up to a call that fails.
-use Rattle.std.proofs.Common.{◌≡◌, Bool, true, false, List, [], ◌∷◌, ◌++◌, Result, Ok, Err, ap, sym, ◌∙◌, subst, inl, inr, IsSome}
+use Rattle.std.proofs.Common.{◌≡◌, Bool, true, false, List, [], ◌∷◌, ◌++◌, Result, Ok, Err, ap, sym, ◌∙◌, subst, inl}
+use Rattle.std.proofs.Common.{inr, IsSome}
 use Rattle.hotel_core.proofs.Names.{false≢true, Takes, TakesFront, Hands, failure_of, EndsAs, StopsEither}
 use Rattle.std.proofs.lemmas.List.{append-nil}
 use Rattle.hotel_core.specs.{declared.books.walks.WalkFault.WalkFault, declared.stops.stopping_walks.Passing.Passing}

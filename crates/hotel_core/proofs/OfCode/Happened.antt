@@ -1,13 +1,16 @@
 -- What happened, also where books failed for good.
 use Rattle.std.proofs.Common.{◌≡◌, ◌⊎◌, Bool, true, false, List, [], ◌∷◌, ◌++◌, inl, inr, refl, sym, ◌∙◌, subst, arith}
-use Rattle.hotel_core.proofs.Names.{Stream, words, Command, Reply, Rows, History, rows_of, Reached, Steps, StepsIf, Runs, IsCommand, IsReply, is_failed, outcome_on, GoesIf, StepsAs, Assured, Ghosts as BooksOf}
+use Rattle.hotel_core.proofs.Names.{Stream, words, Command, Reply, Rows, History, rows_of, Reached, Steps, StepsIf}
+use Rattle.hotel_core.proofs.Names.{Runs, IsCommand, IsReply, is_failed, outcome_on, GoesIf, StepsAs, Assured}
+use Rattle.hotel_core.proofs.Names.{Ghosts as BooksOf}
 use Rattle.keycard_rules.proofs.Drawing.{past-zero}
 use Rattle.keycard_rules.specs.Draw.{MovedAtMost}
 use Rattle.keycard_rules.specs.declared.issued.Issued.{Ghosts as IssuedOf}
 use Rattle.hotel_model.proofs.{Lifted.Runs.steps_lift, Lifted.Runs.runs_join, Invariants.Assurance.assured}
 use Rattle.hotel_core.proofs.OfCode.FailuresCounted.{failed_same}
 
--- a step that didn't fail ended clean and went from the history; one that failed moved the source by no more than it may
+-- a step that didn't fail ended clean and went from the history; one that failed moved the source by no more than it
+-- may
 step_went : {S : Type 0} {I : IssuedOf S} {B : BooksOf S} {old new : S} (h : History) (s s' : Stream) (command : Command) (reply : Reply)
     → IsCommand command → IsReply reply → StepsAs I B (λ rows. outcome_on rows (words 64 s) command) old new s s' reply → I.is_honest new
     → Reached h → (I.is_clean old → B.rows old ≡ rows_of h)

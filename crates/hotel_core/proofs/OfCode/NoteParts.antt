@@ -1,6 +1,11 @@
 -- Parts of a step that takes a note of a lock.
-use Rattle.std.proofs.Common.{ℕ, ◌≡◌, ◌==◌, ◌<◌, ◌≤◌, Bool, true, false, not, ◌&&◌, Option, Some, None, is_some, List, [], ◌∷◌, ◌+◌, ◌-◌, nat_le, if◌then◌else◌, refl, ap, sym, ◌∙◌, subst, arith, IsSome, inl}
-use Rattle.hotel_core.proofs.Names.{false≢true, nat_tests, Stream, past, Card, Link, Act, Note, Change, Reply, Refused, NotBegun, NoRoom, NoFit, OldFit, Gap, Store, RoomRow, said_of, Rows, room_at, card_at, code_place, note_at, same_link, has_link_on, told_on, untaken_on, is_fit_on, present_fit_on, reported_on, outcome_on, AreWhole, GoesIf, made_by, StepsAs, Outcome, said, refused, needs, unless, is_failed, Ghosts as BooksOf}
+use Rattle.std.proofs.Common.{ℕ, ◌≡◌, ◌==◌, ◌<◌, ◌≤◌, Bool, true, false, not, ◌&&◌, Option, Some, None, is_some, List}
+use Rattle.std.proofs.Common.{[], ◌∷◌, ◌+◌, ◌-◌, nat_le, if◌then◌else◌, refl, ap, sym, ◌∙◌, subst, arith, IsSome, inl}
+use Rattle.hotel_core.proofs.Names.{false≢true, nat_tests, Stream, past, Card, Link, Act, Note, Change, Reply, Refused}
+use Rattle.hotel_core.proofs.Names.{NotBegun, NoRoom, NoFit, OldFit, Gap, Store, RoomRow, said_of, Rows, room_at}
+use Rattle.hotel_core.proofs.Names.{card_at, code_place, note_at, same_link, has_link_on, told_on, untaken_on}
+use Rattle.hotel_core.proofs.Names.{is_fit_on, present_fit_on, reported_on, outcome_on, AreWhole, GoesIf, made_by}
+use Rattle.hotel_core.proofs.Names.{StepsAs, Outcome, said, refused, needs, unless, is_failed, Ghosts as BooksOf}
 use Rattle.keycard_rules.proofs.Drawing.{past-zero}
 use Rattle.hotel_model.specs.declared.command.Command.TheVariants as command
 use Rattle.hotel_core.proofs.OfCode.Parts.{SoFar, faults}

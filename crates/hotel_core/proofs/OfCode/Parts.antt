@@ -1,12 +1,17 @@
 -- The parts of a step, one after the other.
-use Rattle.std.proofs.Common.{ℕ, ◌≡◌, ◌≤◌, Bool, true, false, Option, Some, None, Result, Ok, Err, refl, ap, sym, ◌∙◌, arith, subst, IsErrAnd, List, [], ◌∷◌, ◌++◌, ◌+◌, ◌⊎◌, inl, inr, nat_lt, cond}
-use Rattle.hotel_core.proofs.Names.{false≢true, Stream, past, HasRisen, NoFewer, LookFault, Change, Reply, Refused, Refusal, Store, Rows, number_after, is_failed, Outcome, refused, accepted, unless, made, GoesIf, Goes, made_by, AreWhole, StepsAs, Finds, AnyRows, reply_of, refusal_of, first_refusal, Ghosts as BooksOf}
+use Rattle.std.proofs.Common.{ℕ, ◌≡◌, ◌≤◌, Bool, true, false, Option, Some, None, Result, Ok, Err, refl, ap, sym, ◌∙◌}
+use Rattle.std.proofs.Common.{arith, subst, IsErrAnd, List, [], ◌∷◌, ◌++◌, ◌+◌, ◌⊎◌, inl, inr, nat_lt, cond}
+use Rattle.hotel_core.proofs.Names.{false≢true, Stream, past, HasRisen, NoFewer, LookFault, Change, Reply, Refused}
+use Rattle.hotel_core.proofs.Names.{Refusal, Store, Rows, number_after, is_failed, Outcome, refused, accepted, unless}
+use Rattle.hotel_core.proofs.Names.{made, GoesIf, Goes, made_by, AreWhole, StepsAs, Finds, AnyRows, reply_of}
+use Rattle.hotel_core.proofs.Names.{refusal_of, first_refusal, Ghosts as BooksOf}
 use Rattle.keycard_rules.proofs.Drawing.{past-zero}
 use Rattle.keycard_rules.specs.Draw.{MovedAtMost}
 use Rattle.keycard_rules.specs.declared.issued.LookFault.TheVariants as look
 use Rattle.keycard_rules.specs.declared.issued.Issued.{Ghosts as IssuedOf}
 
--- From the state start to now no row changed, and this is known of the rows at the start, if the state is clean now; and where v is true it is clean now if it is honest.
+-- From the state start to now no row changed, and this is known of the rows at the start, if the state is clean now;
+-- and where v is true it is clean now if it is honest.
 pub record SoFar {S : Type 0} (I : IssuedOf S) (B : BooksOf S) (v : Bool) (facts : Rows → Type 0) (start now : S) : Type 0 where
   pub facts_hold : I.is_clean now → facts (B.rows start)
   pub same : I.is_clean now → B.rows now ≡ B.rows start

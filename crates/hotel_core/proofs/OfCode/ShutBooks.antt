@@ -1,5 +1,6 @@
 -- Books that were not clean as a call began answer with failures.
-use Rattle.std.proofs.Common.{◌≡◌, Bool, true, false, not, List, [], ◌∷◌, Result, Ok, Err, OnOk, IsErr, refl, subst, sym}
+use Rattle.std.proofs.Common.{◌≡◌, Bool, true, false, not, List, [], ◌∷◌, Result, Ok, Err, OnOk, IsErr, refl, subst}
+use Rattle.std.proofs.Common.{sym}
 use Rattle.hotel_core.proofs.Names.{Command, LookFault, Reply, Rows, Stream, is_failed, start}
 use Rattle.hotel_model.specs.Rows.{no_rows}
 use Rattle.hotel_model.proofs.SoundRows.NoRows.{none_sound}

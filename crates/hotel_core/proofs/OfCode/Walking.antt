@@ -1,5 +1,6 @@
 -- A walk part-way through the rows of a list: what the sink took, and the rows that are still to come.
-use Rattle.std.proofs.Common.{ℕ, suc, ◌≡◌, ◌<◌, ◌+◌, ◌-◌, ◌++◌, Bool, true, false, cond, Option, Some, None, List, [], ◌∷◌, Result, Ok, Err, filter, append_assoc, refl, ap, sym, ◌∙◌, subst, arith, filter_map}
+use Rattle.std.proofs.Common.{ℕ, suc, ◌≡◌, ◌<◌, ◌+◌, ◌-◌, ◌++◌, Bool, true, false, cond, Option, Some, None, List, []}
+use Rattle.std.proofs.Common.{◌∷◌, Result, Ok, Err, filter, append_assoc, refl, ap, sym, ◌∙◌, subst, arith, filter_map}
 use Rattle.hotel_core.proofs.Names.{range_with_len, cons_option, Takes, TakesFront, StopsAt, failure_of}
 use Rattle.std.proofs.lemmas.List.{append-nil}
 use Rattle.keycard_rules.specs.declared.issued.LookFault.TheVariants as look

@@ -1,6 +1,8 @@
 -- Kinds as keys, and the counts at them.
-use Rattle.std.proofs.Common.{ℕ, ◌≡◌, ◌+◌, Bool, true, false, cond, Option, Some, None, List, [], ◌∷◌, refl, ap, sym, ◌∙◌, ◌||◌, bytes_eq, is_some, nat_cmp, Ordering, Less, Equal, Greater}
-use Rattle.hotel_core.proofs.Names.{match_ordering, slice_cmp, is_at, insert_entry, insert_key, lookup, keys_of, bytes_eq-Decides, one_if, is_there, rooms_in}
+use Rattle.std.proofs.Common.{ℕ, ◌≡◌, ◌+◌, Bool, true, false, cond, Option, Some, None, List, [], ◌∷◌, refl, ap, sym}
+use Rattle.std.proofs.Common.{◌∙◌, ◌||◌, bytes_eq, is_some, nat_cmp, Ordering, Less, Equal, Greater}
+use Rattle.hotel_core.proofs.Names.{match_ordering, slice_cmp, is_at, insert_entry, insert_key, lookup, keys_of}
+use Rattle.hotel_core.proofs.Names.{bytes_eq-Decides, one_if, is_there, rooms_in}
 use Rattle.std.specs.Option.{unwrap_or}
 use Rattle.std.specs.List.{list_any}
 use Rattle.std.specs.Ordering.{nat_cmp, match_ordering, is_eq}

@@ -1,9 +1,13 @@
 -- Counts at nights, after those of one block were changed.
-use Rattle.std.proofs.Common.{ℕ, ◌≡◌, ◌+◌, ◌-◌, ◌*◌, ◌/◌, ◌%◌, ◌≤◌, ◌<◌, Bool, true, false, cond, Option, Some, None, List, [], zero, suc, get_or, replicate, refl, ap, sym, ◌∙◌, arith, nat_le, nat_lt, subst, ◌==◌, ◌&&◌, bytes_eq, slice_index, nat_cmp, is_eq}
-use Rattle.hotel_core.proofs.Names.{slice_cmp, is_at, lookup, nat_tests, bytes_eq-Decides, one_if, block_cmp, block_at, counted, spans}
+use Rattle.std.proofs.Common.{ℕ, ◌≡◌, ◌+◌, ◌-◌, ◌*◌, ◌/◌, ◌%◌, ◌≤◌, ◌<◌, Bool, true, false, cond, Option, Some, None}
+use Rattle.std.proofs.Common.{List, [], zero, suc, get_or, replicate, refl, ap, sym, ◌∙◌, arith, nat_le, nat_lt, subst}
+use Rattle.std.proofs.Common.{◌==◌, ◌&&◌, bytes_eq, slice_index, nat_cmp, is_eq}
+use Rattle.hotel_core.proofs.Names.{slice_cmp, is_at, lookup, nat_tests, bytes_eq-Decides, one_if, block_cmp, block_at}
+use Rattle.hotel_core.proofs.Names.{counted, spans}
 use Rattle.std.specs.Option.{unwrap_or}
 use Rattle.std.proofs.lemmas.Map.Text.{is_eq-slice_cmp}
-use Rattle.hotel_core.proofs.{OfTables.MapEntries.both_equal, OfTables.MapEntries.at_is, OfTables.MapEntries.eq_from, OfTables.PlacedCodes.both_true}
+use Rattle.hotel_core.proofs.{OfTables.MapEntries.both_equal, OfTables.MapEntries.at_is, OfTables.MapEntries.eq_from}
+use Rattle.hotel_core.proofs.{OfTables.PlacedCodes.both_true}
 
 -- ---- the test of a key
 
@@ -41,7 +45,8 @@ both_false false y h = refl
 place_other : (from to d : ℕ) → from < to → to ≤ from / 32 * 32 + 32 → (d / 32 == from / 32) ≡ false → (nat_le from d && nat_lt d to) ≡ false
 place_other from to d lt one other = both_false (nat_le from d) (nat_lt d to) (λ low. grind (arith, nat_tests))
 
--- the counts of some nights of one block are changed, as `Turns` says of the count before, whether it is one of the nights, and the count after; each other is as it was
+-- the counts of some nights of one block are changed, as `Turns` says of the count before, whether it is one of the
+-- nights, and the count after; each other is as it was
 pub part_changed : (Turns : ℕ → ℕ → ℕ → Type 0) → ((x : ℕ) → Turns x 0 x) → (before after : List ((List ℕ × ℕ) × List ℕ)) (kind : List ℕ) (from to : ℕ) (w : Option (List ℕ)) → from < to → to ≤ from / 32 * 32 + 32
     → Sets before after kind (from / 32) w
     → ((j : ℕ) → Turns (slice_index (block_at before kind (from / 32)) j) (one_if (nat_le (from % 32) j && nat_lt j (from % 32 + (to - from)))) (slice_index (unwrap_or w []) j))

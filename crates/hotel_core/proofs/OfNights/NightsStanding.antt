@@ -1,7 +1,12 @@
 -- The index after a stay was added or changed its state.
-use Rattle.std.proofs.Common.{ℕ, ◌≡◌, ◌+◌, ◌-◌, ◌<◌, ◌^◌, Bool, true, false, cond, Option, Some, None, List, [], ◌∷◌, length, refl, ap, sym, ◌∙◌, subst, arith, nat_le, nat_lt, count_by, ◌==◌, ◌&&◌, bytes_eq, nat_cmp}
-use Rattle.hotel_core.proofs.Names.{insert_entry, values_of, length-map, count_by-le-length, Stay, StayState, one_if, takes, is_standing, nights_taken, said_of, at_number, in_state, now_is, counted, spans, CountsNightsOf}
-use Rattle.hotel_model.proofs.{OfTables.StayCounts.count_first, OfTables.StayCounts.count_inserted, OfTables.TableKeys.at_is}
+use Rattle.std.proofs.Common.{ℕ, ◌≡◌, ◌+◌, ◌-◌, ◌<◌, ◌^◌, Bool, true, false, cond, Option, Some, None, List, [], ◌∷◌}
+use Rattle.std.proofs.Common.{length, refl, ap, sym, ◌∙◌, subst, arith, nat_le, nat_lt, count_by, ◌==◌, ◌&&◌, bytes_eq}
+use Rattle.std.proofs.Common.{nat_cmp}
+use Rattle.hotel_core.proofs.Names.{insert_entry, values_of, length-map, count_by-le-length, Stay, StayState, one_if}
+use Rattle.hotel_core.proofs.Names.{takes, is_standing, nights_taken, said_of, at_number, in_state, now_is, counted}
+use Rattle.hotel_core.proofs.Names.{spans, CountsNightsOf}
+use Rattle.hotel_model.proofs.{OfTables.StayCounts.count_first, OfTables.StayCounts.count_inserted}
+use Rattle.hotel_model.proofs.{OfTables.TableKeys.at_is}
 use Rattle.hotel_core.proofs.OfTables.RowsChanged.{stay_absent}
 
 -- a stay that stands takes the nights that it holds, and another none

@@ -1,6 +1,10 @@
 -- The rooms of each kind: as many as are counted, and fewer than a count holds.
-use Rattle.std.proofs.Common.{ℕ, ◌≡◌, ◌+◌, ◌-◌, ◌^◌, ◌≤◌, ◌<◌, Bool, true, false, cond, Option, Some, None, List, [], ◌∷◌, length, refl, ap, ◌∙◌, arith, sym, ◌==◌, bytes_eq, count_by, nat_cmp, Ordering, Less, Equal, Greater}
-use Rattle.hotel_core.proofs.Names.{AllByRecursion, MatchOrdering, match_ordering, ranks, insert_entry, keys_of, values_of, length-map, count_by-le-length, IsNumberUpTo, one_if, RoomRow, at_number, room_changed, freed_by, rooms_in, HaveRoomNumbers, RoomsKnown}
+use Rattle.std.proofs.Common.{ℕ, ◌≡◌, ◌+◌, ◌-◌, ◌^◌, ◌≤◌, ◌<◌, Bool, true, false, cond, Option, Some, None, List, []}
+use Rattle.std.proofs.Common.{◌∷◌, length, refl, ap, ◌∙◌, arith, sym, ◌==◌, bytes_eq, count_by, nat_cmp, Ordering, Less}
+use Rattle.std.proofs.Common.{Equal, Greater}
+use Rattle.hotel_core.proofs.Names.{AllByRecursion, MatchOrdering, match_ordering, ranks, insert_entry, keys_of}
+use Rattle.hotel_core.proofs.Names.{values_of, length-map, count_by-le-length, IsNumberUpTo, one_if, RoomRow, at_number}
+use Rattle.hotel_core.proofs.Names.{room_changed, freed_by, rooms_in, HaveRoomNumbers, RoomsKnown}
 use Rattle.std.specs.List.Sorted.{IsStrictlySortedBy}
 use Rattle.hotel_model.proofs.OfTables.StayCounts.{count_first, count_inserted}
 

@@ -1,6 +1,10 @@
 -- The cards inside a room, as a part of the pairs in order.
-use Rattle.std.proofs.Common.{ℕ, ◌≡◌, ◌≤◌, ◌<◌, Bool, true, false, cond, Option, Some, None, is_some, List, [], ◌∷◌, map, filter, refl, ap, sym, ◌∙◌, arith, ◌==◌, ◌&&◌, ◌||◌, not, nat_cmp, is_le, is_lt, is_eq, Ordering, Less, Equal, Greater}
-use Rattle.hotel_core.proofs.Names.{ordering_then, match_ordering, MatchOrdering, Included, is_at, range_contains, insert_key, ranks, remove_key, IsNumberUpTo, list_any, pair_cmp, when, those_in, are_none, HaveCardNumbers}
+use Rattle.std.proofs.Common.{ℕ, ◌≡◌, ◌≤◌, ◌<◌, Bool, true, false, cond, Option, Some, None, is_some, List, [], ◌∷◌}
+use Rattle.std.proofs.Common.{map, filter, refl, ap, sym, ◌∙◌, arith, ◌==◌, ◌&&◌, ◌||◌, not, nat_cmp, is_le, is_lt}
+use Rattle.std.proofs.Common.{is_eq, Ordering, Less, Equal, Greater}
+use Rattle.hotel_core.proofs.Names.{ordering_then, match_ordering, MatchOrdering, Included, is_at, range_contains}
+use Rattle.hotel_core.proofs.Names.{insert_key, ranks, remove_key, IsNumberUpTo, list_any, pair_cmp, when, those_in}
+use Rattle.hotel_core.proofs.Names.{are_none, HaveCardNumbers}
 use Rattle.std.specs.Map.Iter.{TakesFirst}
 use Rattle.keycard_rules.specs.Words.{is_one_of}
 use Rattle.hotel_core.proofs.OfTables.MapEntries.{at_is, pair_is}

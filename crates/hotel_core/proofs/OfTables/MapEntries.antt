@@ -1,6 +1,9 @@
 -- Maps as lists of entries: what a key's test says, and an entry that is taken back.
-use Rattle.std.proofs.Common.{ℕ, ◌≡◌, Bool, true, false, cond, Option, Some, None, List, [], ◌∷◌, refl, ap, sym, ◌∙◌, arith, ◌==◌, ◌&&◌, ◌||◌, is_some, nat_cmp, is_eq, Ordering, Less, Equal, Greater}
-use Rattle.hotel_core.proofs.Names.{nat_tests, match_ordering, ordering_then, IsTotalOrder, Equal-is, is_at, insert_entry, lookup, remove_entry, keys_of, nat_cmp_total, on_total, then_total, tied_itself, exact_unsigned, pair_cmp, at_number}
+use Rattle.std.proofs.Common.{ℕ, ◌≡◌, Bool, true, false, cond, Option, Some, None, List, [], ◌∷◌, refl, ap, sym, ◌∙◌}
+use Rattle.std.proofs.Common.{arith, ◌==◌, ◌&&◌, ◌||◌, is_some, nat_cmp, is_eq, Ordering, Less, Equal, Greater}
+use Rattle.hotel_core.proofs.Names.{nat_tests, match_ordering, ordering_then, IsTotalOrder, Equal-is, is_at}
+use Rattle.hotel_core.proofs.Names.{insert_entry, lookup, remove_entry, keys_of, nat_cmp_total, on_total, then_total}
+use Rattle.hotel_core.proofs.Names.{tied_itself, exact_unsigned, pair_cmp, at_number}
 use Rattle.keycard_rules.specs.Words.{is_one_of}
 
 -- ---- numbers and pairs as keys

@@ -1,6 +1,8 @@
 -- Codes by their places, when a code is added or taken out.
-use Rattle.std.proofs.Common.{ℕ, ◌≡◌, Bool, true, false, cond, Option, Some, None, List, [], ◌∷◌, refl, ap, sym, ◌∙◌, subst, ◌==◌, ◌&&◌, nat_cmp, is_eq, Ordering, Less, Equal, Greater}
-use Rattle.hotel_core.proofs.Names.{match_ordering, is_at, insert_entry, lookup, remove_entry, CodeRow, pair_cmp, at_number, first_code_at, PlacesAgree}
+use Rattle.std.proofs.Common.{ℕ, ◌≡◌, Bool, true, false, cond, Option, Some, None, List, [], ◌∷◌, refl, ap, sym, ◌∙◌}
+use Rattle.std.proofs.Common.{subst, ◌==◌, ◌&&◌, nat_cmp, is_eq, Ordering, Less, Equal, Greater}
+use Rattle.hotel_core.proofs.Names.{match_ordering, is_at, insert_entry, lookup, remove_entry, CodeRow, pair_cmp}
+use Rattle.hotel_core.proofs.Names.{at_number, first_code_at, PlacesAgree}
 use Rattle.hotel_core.proofs.OfTables.MapEntries.{missed, pair_is, eq_from, eq_turned}
 
 -- the row is of this place

@@ -1,6 +1,10 @@
 -- The notes of a room, as a part of all notes in order.
-use Rattle.std.proofs.Common.{◌≤◌, ◌&&◌, Option, Some, None, ℕ, ◌≡◌, Bool, true, false, cond, List, [], ◌∷◌, map, refl, ap, sym, ◌∙◌, ◌==◌, ◌<◌, ◌^◌, not, is_le, is_lt, nat_cmp, arith, Ordering, Less, Equal, Greater}
-use Rattle.hotel_core.proofs.Names.{lookup, match_ordering, Included, is_at, insert_entry, entries_between, range_contains, ranks, MatchOrdering, remove_entry, Note, pair_cmp, when, notes_at, HaveCounts}
+use Rattle.std.proofs.Common.{◌≤◌, ◌&&◌, Option, Some, None, ℕ, ◌≡◌, Bool, true, false, cond, List, [], ◌∷◌, map, refl}
+use Rattle.std.proofs.Common.{ap, sym, ◌∙◌, ◌==◌, ◌<◌, ◌^◌, not, is_le, is_lt, nat_cmp, arith, Ordering, Less, Equal}
+use Rattle.std.proofs.Common.{Greater}
+use Rattle.hotel_core.proofs.Names.{lookup, match_ordering, Included, is_at, insert_entry, entries_between}
+use Rattle.hotel_core.proofs.Names.{range_contains, ranks, MatchOrdering, remove_entry, Note, pair_cmp, when, notes_at}
+use Rattle.hotel_core.proofs.Names.{HaveCounts}
 use Rattle.hotel_model.proofs.OfTables.Tests.{not_higher}
 use Rattle.hotel_core.proofs.{OfTables.CardsInside.part_by, OfTables.MapEntries.at_is, OfTables.MapEntries.pair_is}
 

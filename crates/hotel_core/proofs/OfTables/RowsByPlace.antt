@@ -1,7 +1,9 @@
 -- Rows whose places say their numbers.
-use Rattle.std.proofs.Common.{ℕ, zero, suc, ◌≡◌, ◌+◌, ◌-◌, ◌≤◌, cond, Some, List, [], ◌∷◌, ◌++◌, length, refl, ap, sym, ◌∙◌, arith, slice_get, nat_cmp}
+use Rattle.std.proofs.Common.{ℕ, zero, suc, ◌≡◌, ◌+◌, ◌-◌, ◌≤◌, cond, Some, List, [], ◌∷◌, ◌++◌, length, refl, ap, sym}
+use Rattle.std.proofs.Common.{◌∙◌, arith, slice_get, nat_cmp}
 use Rattle.hotel_core.proofs.Names.{enumerate_from, match_ordering, is_at, insert_entry, at_number}
-use Rattle.hotel_model.proofs.{OfTables.Tests.not_higher, OfTables.TableKeys.at_is, OfTables.TableKeys.is_at_self, OfTables.Counting.greater_is}
+use Rattle.hotel_model.proofs.{OfTables.Tests.not_higher, OfTables.TableKeys.at_is, OfTables.TableKeys.is_at_self}
+use Rattle.hotel_model.proofs.{OfTables.Counting.greater_is}
 
 -- the row of a number is found at its place
 pub at_place : {X : Type 0} (n : ℕ) (xs : List X) (q : ℕ) → n ≤ q → at_number (enumerate_from n xs) q ≡ slice_get xs (q - n)

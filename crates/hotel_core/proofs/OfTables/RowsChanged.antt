@@ -1,6 +1,8 @@
 -- A row that is written over is the row changed.
-use Rattle.std.proofs.Common.{ℕ, ◌≡◌, Bool, true, false, cond, Option, Some, None, List, [], ◌∷◌, refl, ap, sym, ◌∙◌, ◌==◌, nat_cmp}
-use Rattle.hotel_core.proofs.Names.{is_at, set_value, Stay, StayState, RoomRow, at_number, room_changed, in_state, now_is}
+use Rattle.std.proofs.Common.{ℕ, ◌≡◌, Bool, true, false, cond, Option, Some, None, List, [], ◌∷◌, refl, ap, sym, ◌∙◌}
+use Rattle.std.proofs.Common.{◌==◌, nat_cmp}
+use Rattle.hotel_core.proofs.Names.{is_at, set_value, Stay, StayState, RoomRow, at_number, room_changed, in_state}
+use Rattle.hotel_core.proofs.Names.{now_is}
 use Rattle.hotel_core.proofs.OfTables.MapEntries.{missed, at_is}
 
 -- the values, with f done to that of a number

@@ -2,7 +2,8 @@
 use Rattle.std.specs.Prelude.{ℕ, ◌+◌, List, [], ◌∷◌, ◌++◌}
 use Rattle.keycard_rules.specs.{Rise.HasRisenBy, declared.issued.LookFault.LookFault}
 use Rattle.keycard_rules.specs.declared.issued.LookFault.TheVariants as look
-use Rattle.hotel_model.specs.{declared.reply.Reply.Reply, declared.reply.Reply.TheVariants.Refused, declared.reply.Refusal.Refusal}
+use Rattle.hotel_model.specs.{declared.reply.Reply.Reply, declared.reply.Reply.TheVariants.Refused}
+use Rattle.hotel_model.specs.{declared.reply.Refusal.Refusal}
 use Rattle.hotel_model.specs.declared.reply.Refusal.TheVariants.{Memory, Store}
 
 -- the refusal that tells this cause

@@ -3,7 +3,8 @@ use Rattle.std.specs.Prelude.{◌≡◌, Bool, true, false, not, List, [], ◌�
 use Rattle.keycard_rules.specs.Rise.{NoFewer}
 use Rattle.keycard_rules.specs.declared.issued.Issued.{Ghosts as IssuedOf}
 use Rattle.rand_core.specs.Stream.{Stream}
-use Rattle.hotel_model.specs.{declared.command.Command.Command, declared.reply.Reply.Reply, declared.reply.Refusal.Refusal}
+use Rattle.hotel_model.specs.{declared.command.Command.Command, declared.reply.Reply.Reply}
+use Rattle.hotel_model.specs.{declared.reply.Refusal.Refusal}
 use Rattle.hotel_core.specs.{Books.Failures.AreCounted, Books.Failures.failure_in}
 use Rattle.hotel_model.specs.{History.History, Leads.Leads, Leads.LeadsOn, Rows.Rows, Run.Steps, Run.is_failed}
 
@@ -17,19 +18,24 @@ has_answer [] = false
 has_answer (true ∷ later) = true
 has_answer (false ∷ later) = has_answer later
 
--- What is known of books that were so before they answered (true) or failed (false) in turn: they are kept after an answer. After a failure nothing is known.
+-- What is known of books that were so before they answered (true) or failed (false) in turn: they are kept after an
+-- answer. After a failure nothing is known.
 abbrev pub known_after : Type 0 → List Bool → Type 0
 known_after was [] = was
 known_after was (true ∷ later) = known_after ⊤ later
 known_after was (false ∷ later) = known_after ⊥ later
 
--- What failures and answers tell of books from old to new: the failures were counted, where the books are kept; each answer vouches that they were kept as it began, and the last one, where no failure came behind it, that they still are.
+-- What failures and answers tell of books from old to new: the failures were counted, where the books are kept; each
+-- answer vouches that they were kept as it began, and the last one, where no failure came behind it, that they still
+-- are.
 pub record Tells {S : Type 0} (I : IssuedOf S) (old new : S) (failed : List Refusal) (answered : List Bool) : Type 0 where
   pub counted : I.is_clean new → AreCounted (I.failures old) (I.failures new) failed
   pub began : has_answer answered ≡ true → I.is_clean old
   pub ends : known_after (I.is_clean old) answered → I.is_clean new
 
--- What went over books from old to new: for each history that they stand for as it begins it went to one that they stand for as it ends, where they are kept then; and where they are only honest, it went so too, and its answers vouch for them. What went is said by what is known only of kept books, and by what is told of failures and answers.
+-- What went over books from old to new: for each history that they stand for as it begins it went to one that they
+-- stand for as it ends, where they are kept then; and where they are only honest, it went so too, and its answers vouch
+-- for them. What went is said by what is known only of kept books, and by what is told of failures and answers.
 pub record HappensBy {S : Type 0} (I : IssuedOf S) (rows : S → Rows) (old : S) (went : Type 0 → (List Refusal → List Bool → Type 0) → History → History → Type 0) (new : S) : Type 0 where
   pub leads : I.is_clean new → Leads (rows old) (went ⊤ (λ failed answered. AreCounted (I.failures old) (I.failures new) failed)) (rows new)
   pub happened : I.is_honest new → LeadsOn (I.is_clean old) (rows old) (went (I.is_clean new) (Tells I old new)) (I.is_clean new) (rows new)

@@ -1,6 +1,7 @@
 -- What a walk over the rows of a list hands to a sink.
 use Rattle.std.specs.Prelude.{◌≡◌, Bool, false, List, [], ◌∷◌, ◌++◌, Result, Ok, Err, Option, Some, None, IfSome}
-use Rattle.keycard_rules.specs.{declared.issued.LookFault.LookFault, Rise.HasRisen, Rise.NoFewer, declared.issued.Issued.Ghosts as IssuedOf}
+use Rattle.keycard_rules.specs.{declared.issued.LookFault.LookFault, Rise.HasRisen, Rise.NoFewer}
+use Rattle.keycard_rules.specs.{declared.issued.Issued.Ghosts as IssuedOf}
 use Rattle.keycard_rules.specs.declared.issued.LookFault.TheVariants as look
 use Rattle.hotel_core.specs.declared.books.walks.WalkFault.{WalkFault}
 use Rattle.hotel_core.specs.declared.books.walks.WalkFault.TheVariants as why
@@ -18,7 +19,8 @@ TakesFront {R = R} after rows sink end = (taken : List R) × (rest : List R) × 
 abbrev pub StopsAt : {S R : Type 0} → (S → R → S → Type 0) → (S → R → S → Type 0) → List R → S → S → Type 0
 StopsAt {S = S} {R = R} after after_stop rows sink end = (taken : List R) × (row : R) × (rest : List R) × (rows ≡ taken ++ row ∷ rest) × (last : S) × Takes after taken sink last × after_stop last row end
 
--- What the sink took: all rows, or those before the one at which it stopped; or a front of them, where memory or the store failed.
+-- What the sink took: all rows, or those before the one at which it stopped; or a front of them, where memory or the
+-- store failed.
 abbrev pub Hands : {S R : Type 0} → (S → R → S → Type 0) → (S → R → S → Type 0) → List R → S → S → Result (Unit {0}) WalkFault → Type 0
 Hands after after_stop rows sink end (Ok done) = Takes after rows sink end
 Hands after after_stop rows sink end (Err why.Stopped) = StopsAt after after_stop rows sink end
@@ -32,7 +34,11 @@ failure_of (Err why.Stopped) = None
 failure_of (Err why.Memory) = Some look.Memory
 failure_of (Err why.Store) = Some look.Store
 
--- A walk over these rows, of books from old to new and a sink from its meaning to that at the end: it hands over some rows, which are these where the state is honest at its end, and leaves what a look-up may leave where the test of the state holds then; memory or the store fails only where a failure of that cause was counted, and the store only for a cause of its own. In memory no store fails, and a walk that takes no memory doesn't fail at all. Where the state is honest at its end and neither failed, the test holds.
+-- A walk over these rows, of books from old to new and a sink from its meaning to that at the end: it hands over some
+-- rows, which are these where the state is honest at its end, and leaves what a look-up may leave where the test of the
+-- state holds then; memory or the store fails only where a failure of that cause was counted, and the store only for a
+-- cause of its own. In memory no store fails, and a walk that takes no memory doesn't fail at all. Where the state is
+-- honest at its end and neither failed, the test holds.
 pub record WalksOver {B S R : Type 0} (I : IssuedOf B) (takes_memory : Bool) (after after_stop : S → R → S → Type 0) (rows : List R) (old new : B) (sink end : S) (result : Result (Unit {0}) WalkFault) : Type 0 where
   pub hands : (handed : List R) × Hands after after_stop handed sink end result × (I.is_honest new → handed ≡ rows)
   pub kept : I.is_clean new → I.is_kept old new

@@ -1,12 +1,14 @@
 -- What a part of a step finds in the books: what stands there, or a refusal where nothing does.
 use Rattle.std.specs.Prelude.{ℕ, ◌≡◌, Bool, true, false, List, [], ◌∷◌, Option, Some, None, Result, Ok, Err}
 use Rattle.rand_core.specs.Stream.{Stream}
-use Rattle.keycard_rules.specs.{Draw.Draw, Draw.words, Draw.past, Draw.draw_from, Draw.MovedAtMost, Rise.HasRisen, Rise.NoFewer, declared.issued.LookFault.LookFault}
+use Rattle.keycard_rules.specs.{Draw.Draw, Draw.words, Draw.past, Draw.draw_from, Draw.MovedAtMost, Rise.HasRisen}
+use Rattle.keycard_rules.specs.{Rise.NoFewer, declared.issued.LookFault.LookFault}
 use Rattle.keycard_rules.specs.{declared.draw.DrawFault.DrawFault, declared.issued.Issued.Ghosts as IssuedOf}
 use Rattle.keycard_rules.specs.declared.draw.DrawFault.TheVariants as draw
 use Rattle.hotel_model.specs.{declared.reply.Reply.Reply, declared.reply.Refusal.Refusal}
 use Rattle.hotel_model.specs.declared.reply.Reply.TheVariants as reply
-use Rattle.hotel_model.specs.{declared.reply.Refusal.TheVariants.Memory, declared.reply.Refusal.TheVariants.Store, declared.reply.Refusal.TheVariants.NoFreshCode, Rows.Rows}
+use Rattle.hotel_model.specs.{declared.reply.Refusal.TheVariants.Memory, declared.reply.Refusal.TheVariants.Store}
+use Rattle.hotel_model.specs.{declared.reply.Refusal.TheVariants.NoFreshCode, Rows.Rows}
 use Rattle.hotel_model.specs.{Refinement.Lookups.codes_in, Run.is_failed}
 use Rattle.hotel_core.specs.{Books.Failures.refusal_of, declared.books.Books.Ghosts as BooksOf}
 
@@ -36,7 +38,8 @@ abbrev pub Found : {A : Type 0} → Refusal → Option A → Result A Refusal �
 Found why wanted (Ok a) = wanted ≡ Some a
 Found why wanted (Err other) = is_failed (reply.Refused other) ≡ false → (wanted ≡ None) × (other ≡ why)
 
--- A search from the state old to new, which changes no row; for whole rows, it fails only where a failure of that cause was counted, and in memory no store fails.
+-- A search from the state old to new, which changes no row; for whole rows, it fails only where a failure of that cause
+-- was counted, and in memory no store fails.
 pub record Finds {S A : Type 0} (I : IssuedOf S) (B : BooksOf S) (are_whole : Rows → Type 0) (why : Refusal) (wanted : Rows → Option A) (old new : S) (result : Result A Refusal) : Type 0 where
   pub answer : I.is_clean new → Found why (wanted (B.rows old)) result
   pub same : I.is_clean new → B.rows new ≡ B.rows old
@@ -57,7 +60,8 @@ drawn_or (Err draw.NoFreshCode) = Err NoFreshCode
 drawn_or (Err draw.Memory) = Err Memory
 drawn_or (Err draw.Store) = Err Store
 
--- no code was drawn: all words give issued codes; or it failed, and the source moved by at most the words that were examined
+-- no code was drawn: all words give issued codes; or it failed, and the source moved by at most the words that were
+-- examined
 abbrev pub DrewNone : Bool → Draw → Stream → Stream → Refusal → Type 0
 DrewNone true draw source rest why = MovedAtMost draw.examined source rest
 DrewNone false draw source rest why = (why ≡ NoFreshCode) × (draw.code ≡ None) × (rest ≡ past draw.examined source)
@@ -86,6 +90,6 @@ first_refusal (Some why ∷ checks) = Some why
 first_refusal (None ∷ checks) = first_refusal checks
 
 -- the checks pass, or this is their first refusal
-abbrev pub Passes : List (Option Refusal) → Result (Unit {0}) Refusal → Type 0
-Passes checks (Ok done) = first_refusal checks ≡ None
-Passes checks (Err why) = (first_refusal checks ≡ Some why) × (is_failed (reply.Refused why) ≡ false)
+abbrev pub IsChecked : List (Option Refusal) → Result (Unit {0}) Refusal → Type 0
+IsChecked checks (Ok done) = first_refusal checks ≡ None
+IsChecked checks (Err why) = (first_refusal checks ≡ Some why) × (is_failed (reply.Refused why) ≡ false)

@@ -4,12 +4,15 @@ use Rattle.keycard_rules.specs.{declared.issued.LookFault.LookFault, Draw.MovedA
 use Rattle.rand_core.specs.Stream.{Stream}
 use Rattle.hotel_model.specs.{declared.change.Change.Change, declared.reply.Reply.Reply, Rows.Rows}
 use Rattle.hotel_model.specs.declared.reply.Reply.TheVariants as reply
-use Rattle.hotel_model.specs.{Refinement.GoesOnRows.Goes, Refinement.GoesOnRows.AreWhole, Outcome.Outcome, Run.is_failed}
+use Rattle.hotel_model.specs.{Refinement.GoesOnRows.Goes, Refinement.GoesOnRows.AreWhole, Outcome.Outcome}
+use Rattle.hotel_model.specs.{Run.is_failed}
 use Rattle.hotel_core.specs.Books.Failures.{refusal_of}
 use Rattle.keycard_rules.specs.declared.issued.Issued.{Ghosts as IssuedOf}
 use Rattle.hotel_core.specs.declared.books.Books.{Ghosts as BooksOf}
 
--- A part of a step from the state old to new, with the source moved to rest, where the outcome says what comes of it. Where the state is honest at its end, an answer that isn't failed says that it is clean, and a failed one left the source, or moved it by no more than the outcome over a clean state.
+-- A part of a step from the state old to new, with the source moved to rest, where the outcome says what comes of it.
+-- Where the state is honest at its end, an answer that isn't failed says that it is clean, and a failed one left the
+-- source, or moved it by no more than the outcome over a clean state.
 pub record StepsAs {S : Type 0} (I : IssuedOf S) (B : BooksOf S) (outcome : Rows → Outcome Change) (old new : S) (source rest : Stream) (answer : Reply) : Type 0 where
   pub goes : I.is_clean new → Goes (outcome (B.rows old)) (B.rows old) source answer (B.rows new) rest
   pub was_clean : I.is_clean new → I.is_clean old

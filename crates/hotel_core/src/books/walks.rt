@@ -1,7 +1,9 @@
 //! Walks over the rows of the lists, which are handed to a sink one after the other.
 ghost use Rattle.std.specs.Prelude.{◌≡◌, true, false, OnOk, OnErr};
-ghost use Rattle.hotel_model.specs.Refinement.ListsOnRows.{arrivals_on, in_house_on, chain_on, left_behind_on, audit_on};
-ghost use Rattle.hotel_core.specs.{Books.Walks.WalksOver, declared.books.walks.WalkFault.TheVariants.Memory, declared.books.walks.WalkFault.TheVariants.Stopped};
+ghost use Rattle.hotel_model.specs.Refinement.ListsOnRows.{arrivals_on, in_house_on, chain_on, left_behind_on};
+ghost use Rattle.hotel_model.specs.Refinement.ListsOnRows.{audit_on};
+ghost use Rattle.hotel_core.specs.{Books.Walks.WalksOver, declared.books.walks.WalkFault.TheVariants.Memory};
+ghost use Rattle.hotel_core.specs.{declared.books.walks.WalkFault.TheVariants.Stopped};
 
 use crate::books::Books;
 use hotel_model::{BehindRow, ChainRow, HouseRow};
@@ -56,8 +58,10 @@ pub trait Sink<Row> {
 
 /// Books whose lists can be walked.
 ///
-/// A walk hands the rows of a list to a sink in their order, and ends at the first row at which the sink stops. The rows
-/// that it handed over are a front of the list's rows, and all of them on `Ok`. It leaves of the books what a look-up does.
+/// A walk hands the rows of a list to a sink in their order, and ends at the first row at which the sink stops. The
+/// rows
+/// that it handed over are a front of the list's rows, and all of them on `Ok`. It leaves of the books what a look-up
+/// does.
 pub trait Walks: Books {
     /// The booked stays that take the night of a day, by party.
     fn walk_arrivals<S: Sink<Stay>>(&mut self, day: Day, sink: &mut S) -> Result<(), WalkFault>

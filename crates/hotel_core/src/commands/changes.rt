@@ -1,7 +1,8 @@
 //! The end of a command: its change is made.
 ghost use Rattle.std.specs.Prelude.{◌≡◌, false};
 ghost use Rattle.rand_core.specs.Stream.{Stream};
-ghost use Rattle.hotel_model.specs.{Refinement.Answered.IsAnswered, Refinement.Fits.takes_memory, Outcome.accepted, Run.is_failed};
+ghost use Rattle.hotel_model.specs.{Refinement.Answered.IsAnswered, Refinement.Fits.takes_memory, Outcome.accepted};
+ghost use Rattle.hotel_model.specs.{Run.is_failed};
 ghost use Rattle.hotel_core.specs.Refinement.Finds.{reply_of};
 ghost use Rattle.hotel_core.specs.Refinement.StepOnRows.{StepsAs};
 

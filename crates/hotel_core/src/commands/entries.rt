@@ -6,7 +6,8 @@ ghost use Rattle.keycard_rules.specs.declared.note.Act.TheVariants as act;
 ghost use Rattle.hotel_model.specs.{Refinement.Answered.IsOutcome, Refinement.Lookups.inside_at};
 ghost use Rattle.hotel_core.specs.{Refinement.Finds.Finds, Refinement.Finds.AnyRows, Refinement.Finds.reply_of};
 ghost use Rattle.hotel_model.specs.{Guests.are_none, declared.reply.Refusal.TheVariants.Store};
-ghost use Rattle.hotel_model.specs.{Refinement.NotesOnRows.IsUntaken, Refinement.NotesOnRows.opened_on, Refinement.NotesOnRows.secured_by, Refinement.ChangeOf.comes};
+ghost use Rattle.hotel_model.specs.{Refinement.NotesOnRows.IsUntaken, Refinement.NotesOnRows.opened_on};
+ghost use Rattle.hotel_model.specs.{Refinement.NotesOnRows.secured_by, Refinement.ChangeOf.comes};
 ghost use Rattle.hotel_model.specs.{Refinement.OnRows.told_on, Refinement.OnRows.has_link_on, Words.is_one_of};
 ghost use Rattle.hotel_core.specs.Refinement.StepOnRows.{StepsAs};
 
@@ -25,7 +26,8 @@ fn opens(held: Code, link: &Link) -> bool
     turn(held, link).is_some()
 }
 
-/// Whether a room is secured after an entry by the code at a place. The cards inside are asked for only where they decide it.
+/// Whether a room is secured after an entry by the code at a place. The cards inside are asked for only where they
+/// decide it.
 fn secured_after<B: Books>(
     books: &mut B,
     room: RoomNo,

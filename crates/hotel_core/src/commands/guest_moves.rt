@@ -3,8 +3,10 @@ ghost use Rattle.std.specs.Prelude.{◌≡◌, false, Option, Some, None, bytes_
 ghost use Rattle.rand_core.specs.Stream.{Stream};
 ghost use Rattle.keycard_rules.specs.Draw.{words};
 ghost use Rattle.hotel_model.specs.{Stays.is_booked_state, Stays.room_of_state};
-ghost use Rattle.hotel_core.specs.{Refinement.Finds.reply_of, Refinement.Finds.Passes, Refinement.StepOnRows.StepsAs};
-ghost use Rattle.hotel_model.specs.{Refinement.CardsOnRows.bars_to_check_in, Refinement.CardsOnRows.bars_to_transfer, Refinement.OnRows.outcome_on};
+ghost use Rattle.hotel_core.specs.{Refinement.Finds.reply_of, Refinement.Finds.IsChecked};
+ghost use Rattle.hotel_core.specs.{Refinement.StepOnRows.StepsAs};
+ghost use Rattle.hotel_model.specs.{Refinement.CardsOnRows.bars_to_check_in, Refinement.CardsOnRows.bars_to_transfer};
+ghost use Rattle.hotel_model.specs.{Refinement.OnRows.outcome_on};
 ghost use Rattle.hotel_model.specs.declared.command.Command.TheVariants as command;
 
 use crate::books::Books;
@@ -39,7 +41,7 @@ const fn home_of(stay: &Stay) -> Option<RoomNo>
 }
 
 fn may_check_in(day: Day, row: &RoomRow, stay: &Stay) -> Result<(), Refusal>
-    ensures { Passes (bars_to_check_in day row.now stay.now) result }
+    ensures { IsChecked (bars_to_check_in day row.now stay.now) result }
 {
     if !is_booked(stay) {
         return Err(Refusal::NotBooked);
@@ -60,7 +62,7 @@ fn may_check_in(day: Day, row: &RoomRow, stay: &Stay) -> Result<(), Refusal>
 }
 
 fn may_transfer(party: PartyNo, row: &RoomRow, stay: &Stay) -> Result<(), Refusal>
-    ensures { Passes (bars_to_transfer party row.now stay.now) result }
+    ensures { IsChecked (bars_to_transfer party row.now stay.now) result }
 {
     if !same_kind(&row.kind, &stay.kind) {
         return Err(Refusal::WrongKind);

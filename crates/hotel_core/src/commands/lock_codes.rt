@@ -1,8 +1,11 @@
 //! What a note of a lock is compared with in the books.
 ghost use Rattle.std.specs.Prelude.{◌≡◌, ◌-◌, ◌==◌, ◌&&◌, nat_lt, Option, Some, None, IsSome, not};
 ghost use Rattle.hotel_core.specs.Refinement.Finds.{Finds, AnyRows};
-ghost use Rattle.hotel_model.specs.{Refinement.Lookups.room_at, Refinement.Lookups.code_place, Refinement.Lookups.inside_at, Refinement.Lookups.note_at, Guests.are_none, Cards.same_link};
-ghost use Rattle.hotel_model.specs.{Words.is_one_of, declared.reply.Refusal.TheVariants.NotAwaited, declared.reply.Refusal.TheVariants.Store};
+ghost use Rattle.hotel_model.specs.{Refinement.Lookups.room_at, Refinement.Lookups.code_place};
+ghost use Rattle.hotel_model.specs.{Refinement.Lookups.inside_at, Refinement.Lookups.note_at, Guests.are_none};
+ghost use Rattle.hotel_model.specs.{Cards.same_link};
+ghost use Rattle.hotel_model.specs.{Words.is_one_of, declared.reply.Refusal.TheVariants.NotAwaited};
+ghost use Rattle.hotel_model.specs.{declared.reply.Refusal.TheVariants.Store};
 
 use crate::books::Books;
 use crate::commands::look_ups::{known, there_or};

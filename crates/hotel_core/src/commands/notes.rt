@@ -3,7 +3,8 @@ ghost use Rattle.std.specs.Prelude.{◌≡◌, false, None, nat_le};
 ghost use Rattle.rand_core.specs.Stream.{Stream};
 ghost use Rattle.keycard_rules.specs.Draw.{words};
 ghost use Rattle.hotel_model.specs.{Refinement.Answered.IsOutcome, Refinement.NotesOnRows.IsUntaken, Ranges.IsCommand};
-ghost use Rattle.hotel_model.specs.{Cards.same_link, Notes.same_act, Notes.same_note, Refinement.OnRows.outcome_on, Refinement.OnRows.reported_on};
+ghost use Rattle.hotel_model.specs.{Cards.same_link, Notes.same_act, Notes.same_note, Refinement.OnRows.outcome_on};
+ghost use Rattle.hotel_model.specs.{Refinement.OnRows.reported_on};
 ghost use Rattle.hotel_core.specs.{Refinement.StepOnRows.StepsAs, Refinement.Finds.reply_of};
 ghost use Rattle.hotel_model.specs.declared.command.Command.TheVariants as command;
 

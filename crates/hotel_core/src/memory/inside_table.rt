@@ -1,6 +1,7 @@
 //! The cards inside rooms, found by room.
 ghost use Rattle.std.specs.Prelude.{◌≡◌, ℕ, [], not, IfOk, OnOk, OnErr};
-ghost use Rattle.hotel_model.specs.{Words.is_one_of, Guests.those_in, Guests.are_none, Guests.those_elsewhere, Refinement.Change.moved};
+ghost use Rattle.hotel_model.specs.{Words.is_one_of, Guests.those_in, Guests.are_none, Guests.those_elsewhere};
+ghost use Rattle.hotel_model.specs.{Refinement.Change.moved};
 
 use hotel_model::InsideMove;
 use keycard_rules::{CardNo, Memory, RoomNo};

@@ -1,7 +1,8 @@
 //! Books in memory.
 ghost use Rattle.std.specs.Prelude.{◌≡◌, Err, IfSome, refl};
 ghost use Rattle.std.proofs.Common.{ap, ◌∙◌};
-ghost use Rattle.keycard_rules.specs.{Rise.HasRisen, Rise.NoFewer, Rise.of_memory, declared.issued.LookFault.TheVariants.Memory};
+ghost use Rattle.keycard_rules.specs.{Rise.HasRisen, Rise.NoFewer, Rise.of_memory};
+ghost use Rattle.keycard_rules.specs.{declared.issued.LookFault.TheVariants.Memory};
 ghost use Rattle.hotel_model.specs.{Rows.no_rows, Refinement.Lookups.codes_in};
 ghost use Rattle.hotel_core.specs.{Books.Walks.failure_of, declared.books.walks.WalkFault.TheVariants.Store};
 

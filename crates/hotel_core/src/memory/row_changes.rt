@@ -1,6 +1,7 @@
 //! Changes of rows that are there: they take no memory.
 ghost use Rattle.std.specs.Prelude.{◌≡◌, ℕ, ◌+◌, ◌-◌, ◌^◌, ◌<◌, Some, None, false};
-ghost use Rattle.hotel_model.specs.{Words.said_of, Rows.at_number, Refinement.Change.room_changed, Refinement.Change.without_party, Refinement.Change.freed_by, Stays.in_state};
+ghost use Rattle.hotel_model.specs.{Words.said_of, Rows.at_number, Refinement.Change.room_changed};
+ghost use Rattle.hotel_model.specs.{Refinement.Change.without_party, Refinement.Change.freed_by, Stays.in_state};
 
 use hotel_model::RoomRow;
 use hotel_nights::{Stay, StayState};

@@ -90,7 +90,8 @@ impl StayTable {
         set_state(&mut self.stays, party, state);
     }
 
-    /// The first night from `arrive` on and before `depart` that so many stays of the kind, or more, take. It takes no memory.
+    /// The first night from `arrive` on and before `depart` that so many stays of the kind, or more, take. It takes no
+    /// memory.
     pub(crate) fn full_night(
         &self,
         kind: &KindCode,

@@ -2,12 +2,17 @@
 //!
 //! New rows come first, since they may want memory; what was put in is taken out again where a later one finds none.
 //! Rows that are there are changed last, which takes no memory.
-ghost use Rattle.std.specs.Prelude.{◌≡◌, ℕ, ◌+◌, ◌-◌, ◌^◌, ◌<◌, length, Some, None, true, false, IsSome, OnOk, OnErr, IsOk};
+ghost use Rattle.std.specs.Prelude.{◌≡◌, ℕ, ◌+◌, ◌-◌, ◌^◌, ◌<◌, length, Some, None, true, false, IsSome, OnOk, OnErr};
+ghost use Rattle.std.specs.Prelude.{IsOk};
 ghost use Rattle.hotel_model.specs.declared.change.Change.TheVariants as change;
-ghost use Rattle.hotel_model.specs.{Refinement.Lookups.room_at, Refinement.Lookups.code_place, Refinement.Lookups.stay_at, Refinement.Lookups.note_numbered, Refinement.Change.made, Refinement.Change.codes_of, Refinement.Change.before_in, Rows.fit_at};
+ghost use Rattle.hotel_model.specs.{Refinement.Lookups.room_at, Refinement.Lookups.code_place};
+ghost use Rattle.hotel_model.specs.{Refinement.Lookups.stay_at, Refinement.Lookups.note_numbered};
+ghost use Rattle.hotel_model.specs.{Refinement.Change.made, Refinement.Change.codes_of, Refinement.Change.before_in};
+ghost use Rattle.hotel_model.specs.{Rows.fit_at};
 ghost use Rattle.hotel_nights.specs.FullNight.{is_standing};
 ghost use Rattle.hotel_nights.specs.declared.stay.StayState.TheVariants as state;
-ghost use Rattle.hotel_model.specs.{Words.said_of, Rows.has_kind, Refinement.Fits.HasItsRows, Refinement.Fits.takes_memory};
+ghost use Rattle.hotel_model.specs.{Words.said_of, Rows.has_kind, Refinement.Fits.HasItsRows};
+ghost use Rattle.hotel_model.specs.{Refinement.Fits.takes_memory};
 
 use crate::memory::row_changes::{
     codes_issued, issue_at, leave, leave_any, note_at, notes_before, notes_taken, refit_at,
@@ -137,7 +142,8 @@ impl Tables {
         self.stays.end(party, StayState::Cancelled);
     }
 
-    /// Adds a new code and a card with it; the card's party comes to the room, and leaves another one where that is named.
+    /// Adds a new code and a card with it; the card's party comes to the room, and leaves another one where that is
+    /// named.
     pub(crate) fn issue(
         &mut self,
         card: &Card,

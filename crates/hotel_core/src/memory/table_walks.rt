@@ -1,8 +1,11 @@
 //! Walks over the tables in memory.
 ghost use Rattle.std.specs.Prelude.{◌≡◌, IfOk, Err, None, filter_map};
 ghost use Rattle.std.specs.List.{range_with_len};
-ghost use Rattle.hotel_model.specs.Refinement.ListsOnRows.{arrivals_on, arrives_on, in_house_on, chain_on, left_behind_on, audit_on, house_row_on, chain_row_on, behind_row_on};
-ghost use Rattle.hotel_core.specs.{Books.Walks.Hands, Books.Walks.failure_of, declared.books.walks.WalkFault.TheVariants.Store};
+ghost use Rattle.hotel_model.specs.Refinement.ListsOnRows.{arrivals_on, arrives_on, in_house_on, chain_on};
+ghost use Rattle.hotel_model.specs.Refinement.ListsOnRows.{left_behind_on, audit_on, house_row_on, chain_row_on};
+ghost use Rattle.hotel_model.specs.Refinement.ListsOnRows.{behind_row_on};
+ghost use Rattle.hotel_core.specs.{Books.Walks.Hands, Books.Walks.failure_of};
+ghost use Rattle.hotel_core.specs.{declared.books.walks.WalkFault.TheVariants.Store};
 
 use crate::books::walks::{Sink, WalkFault};
 use crate::memory::tables::Tables;

@@ -2,8 +2,11 @@
 ghost use Rattle.std.specs.Prelude.{◌≡◌, ◌-◌, ℕ, ◌^◌, ◌<◌, length, IfOk, not};
 ghost use Rattle.std.specs.Map.{keys_of};
 ghost use Rattle.keycard_rules.specs.Words.{is_one_of};
-ghost use Rattle.hotel_model.specs.{Guests.are_none, Rows.Rows, Rows.no_rows, Rows.at_number, Rows.has_kind, Rows.fit_at};
-ghost use Rattle.hotel_model.specs.Refinement.Lookups.{room_at, codes_in, code_place, code_at, stay_at, stays_of_kind, card_at, inside_at, note_at, rooms_of_kind, first_full_on, number_after};
+ghost use Rattle.hotel_model.specs.{Guests.are_none, Rows.Rows, Rows.no_rows, Rows.at_number, Rows.has_kind};
+ghost use Rattle.hotel_model.specs.{Rows.fit_at};
+ghost use Rattle.hotel_model.specs.Refinement.Lookups.{room_at, codes_in, code_place, code_at, stay_at, stays_of_kind};
+ghost use Rattle.hotel_model.specs.Refinement.Lookups.{card_at, inside_at, note_at, rooms_of_kind, first_full_on};
+ghost use Rattle.hotel_model.specs.Refinement.Lookups.{number_after};
 
 use crate::kind_rooms::KindRooms;
 use crate::memory::card_table::CardTable;
@@ -132,7 +135,8 @@ impl Tables {
         Ok(found)
     }
 
-    /// The first night from `arrive` on and before `depart` on which the kind's rooms are all taken. It takes no memory.
+    /// The first night from `arrive` on and before `depart` on which the kind's rooms are all taken. It takes no
+    /// memory.
     pub(crate) fn full_night(&self, kind: &KindCode, arrive: Day, depart: Day) -> Option<Day>
         ensures { result ≡ first_full_on self.now kind.now arrive (depart - arrive) }
     {

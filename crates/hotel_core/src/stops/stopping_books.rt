@@ -17,8 +17,10 @@ use std::marker::Model;
 
 /// Books in memory of which one call fails, for tests.
 ///
-/// The call that fails changes no row, and is counted by its cause; the calls after it are carried out. A walk makes a call
-/// before each row that it hands over, and one at its end: so it can fail before its first row, between two, or after its last.
+/// The call that fails changes no row, and is counted by its cause; the calls after it are carried out. A walk makes a
+/// call
+/// before each row that it hands over, and one at its end: so it can fail before its first row, between two, or after
+/// its last.
 #[derive(Drop)]
 pub struct StoppingBooks {
     pub(crate) books: ListBooks,

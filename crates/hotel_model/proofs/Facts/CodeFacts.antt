@@ -1,6 +1,8 @@
 -- What holds of the codes, cards and rooms of each history that can be reached: the steps to the headline.
 use Rattle.std.proofs.Common.{ℕ, ◌≡◌, ◌≤◌, ◌+◌, true, false, List, [], ◌∷◌, ◌++◌, Some, length}
-use Rattle.hotel_model.proofs.Names.{keys_of, Card, Link, CodeRow, is_one_of, at_number, History, issued, all_issued, passed, awaited, cards, newest_link, link_of_party, registered, inside, secured, stays, count_up, rows_of, code_at, is_room, fits, fits_at}
+use Rattle.hotel_model.proofs.Names.{keys_of, Card, Link, CodeRow, is_one_of, at_number, History, issued, all_issued}
+use Rattle.hotel_model.proofs.Names.{passed, awaited, cards, newest_link, link_of_party, registered, inside, secured}
+use Rattle.hotel_model.proofs.Names.{stays, count_up, rows_of, code_at, is_room, fits, fits_at}
 pub use Rattle.keycard_rules.specs.Chain.{IsLinkOf}
 
 -- The cards' numbers are 1, 2 and so on.

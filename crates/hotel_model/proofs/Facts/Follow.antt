@@ -1,6 +1,11 @@
 -- What an accepted event needs of the history before it. A consequence of the answers, for proofs.
 use Rattle.std.proofs.Common.{ℕ, ◌≡◌, ◌⊎◌, Bool, true, false, List, Some, None, ◌+◌, nat_lt, [], ◌∷◌, ◌==◌, length}
-use Rattle.hotel_model.proofs.Names.{is_one_of, Event, Begun, Kind, Install, Reserved, Cancelled, Issue, Spare, CheckOut, NextDay, Entered, Left, Recoded, Refitted, notes_of, present_fit, History, ◌▷◌, rows_of, made, change_of, is_fresh, awaited, inside, first_full, is_begun, today, is_kind, is_room, is_party, is_booked, is_in_house, is_of_kind, is_taken, room_of, is_card, has_link, opens, next_card, next_party, stay_is, is_standing}
+use Rattle.hotel_model.proofs.Names.{is_one_of, Event, Begun, Kind, Install, Reserved, Cancelled, Issue, Spare}
+use Rattle.hotel_model.proofs.Names.{CheckOut, NextDay, Entered, Left, Recoded, Refitted, notes_of, present_fit}
+use Rattle.hotel_model.proofs.Names.{History, ◌▷◌, rows_of, made, change_of, is_fresh, awaited, inside, first_full}
+use Rattle.hotel_model.proofs.Names.{is_begun, today, is_kind, is_room, is_party, is_booked, is_in_house, is_of_kind}
+use Rattle.hotel_model.proofs.Names.{is_taken, room_of, is_card, has_link, opens, next_card, next_party, stay_is}
+use Rattle.hotel_model.proofs.Names.{is_standing}
 use Rattle.hotel_model.specs.Cases.{holds}
 
 -- the party is booked, or in house

@@ -1,10 +1,17 @@
 -- All cards of a link are one party's: that of the card that brought the link.
-use Rattle.std.proofs.Common.{ℕ, ◌≡◌, Bool, true, false, Option, Some, None, List, [], ◌∷◌, ◌++◌, length, inl, inr, refl, ap, sym, ◌∙◌, subst, append_assoc, ◌==◌, nat_cmp, is_some}
-use Rattle.hotel_model.proofs.Names.{insert_entry, Card, Link, CodeRow, when, is_that, at_number, Issue, Refitted, is_taken, Spare, CheckOut, History, start, ◌▷◌, is_fresh, cards, card_of, with_spare, link_of_party, link_to, newest_link, registered, leaves, next_card, Reached}
+use Rattle.std.proofs.Common.{ℕ, ◌≡◌, Bool, true, false, Option, Some, None, List, [], ◌∷◌, ◌++◌, length, inl, inr}
+use Rattle.std.proofs.Common.{refl, ap, sym, ◌∙◌, subst, append_assoc, ◌==◌, nat_cmp, is_some}
+use Rattle.hotel_model.proofs.Names.{insert_entry, Card, Link, CodeRow, when, is_that, at_number, Issue, Refitted}
+use Rattle.hotel_model.proofs.Names.{is_taken, Spare, CheckOut, History, start, ◌▷◌, is_fresh, cards, card_of}
+use Rattle.hotel_model.proofs.Names.{with_spare, link_of_party, link_to, newest_link, registered, leaves, next_card}
+use Rattle.hotel_model.proofs.Names.{Reached}
 use Rattle.hotel_model.proofs.Facts.CodeFacts.{IsLink, HasCard, PartiesHaveCards, CardsOneParty, GuestsHaveCards}
-use Rattle.hotel_model.proofs.{OfTables.Tests.eq_from, OfTables.Tests.not_both, OfTables.TableKeys.row_inserted, OfTables.TableKeys.row_kept, OfTables.TableKeys.row_added, OfTables.Grown.may_follow}
-use Rattle.hotel_model.proofs.{Invariants.Numbering.next_card_free, Invariants.CodePlaces.codes_have_places, Invariants.CodePlaces.fresh_has_no_row}
-use Rattle.hotel_model.proofs.{Invariants.RoomLinks.cards_have_links, Starts.StartLinks.parties_have_cards_at_start, Starts.StartLinks.cards_one_party_at_start}
+use Rattle.hotel_model.proofs.{OfTables.Tests.eq_from, OfTables.Tests.not_both, OfTables.TableKeys.row_inserted}
+use Rattle.hotel_model.proofs.{OfTables.TableKeys.row_kept, OfTables.TableKeys.row_added, OfTables.Grown.may_follow}
+use Rattle.hotel_model.proofs.{Invariants.Numbering.next_card_free, Invariants.CodePlaces.codes_have_places}
+use Rattle.hotel_model.proofs.{Invariants.CodePlaces.fresh_has_no_row}
+use Rattle.hotel_model.proofs.{Invariants.RoomLinks.cards_have_links, Starts.StartLinks.parties_have_cards_at_start}
+use Rattle.hotel_model.proofs.{Starts.StartLinks.cards_one_party_at_start}
 use Rattle.hotel_model.proofs.Starts.StartGuests.{guests_have_cards_at_start}
 
 -- a card that was there is there when one more is made

@@ -1,8 +1,12 @@
 -- Each code stands at one place of one room.
-use Rattle.std.proofs.Common.{ℕ, ◌≡◌, Bool, true, false, Some, None, List, [], ◌∷◌, ◌++◌, length, inl, inr, refl, ap, sym, ◌∙◌, append_assoc, ◌==◌, nat_cmp}
-use Rattle.hotel_model.proofs.Names.{insert_entry, CodeRow, when, and_last, at_number, Install, Issue, Refitted, History, start, ◌▷◌, issued, all_issued, issued_codes, is_fresh, Reached, NoCodeTwice}
+use Rattle.std.proofs.Common.{ℕ, ◌≡◌, Bool, true, false, Some, None, List, [], ◌∷◌, ◌++◌, length, inl, inr, refl, ap}
+use Rattle.std.proofs.Common.{sym, ◌∙◌, append_assoc, ◌==◌, nat_cmp}
+use Rattle.hotel_model.proofs.Names.{insert_entry, CodeRow, when, and_last, at_number, Install, Issue, Refitted}
+use Rattle.hotel_model.proofs.Names.{History, start, ◌▷◌, issued, all_issued, issued_codes, is_fresh, Reached}
+use Rattle.hotel_model.proofs.Names.{NoCodeTwice}
 use Rattle.keycard_rules.specs.Words.{is_one_of}
-use Rattle.hotel_model.proofs.{Facts.CodeFacts.CodesHavePlaces, Facts.CodeFacts.PlacesHaveCodes, OfTables.Tests.eq_from, OfTables.Tests.eq_self, OfTables.Tests.not_true}
+use Rattle.hotel_model.proofs.{Facts.CodeFacts.CodesHavePlaces, Facts.CodeFacts.PlacesHaveCodes, OfTables.Tests.eq_from}
+use Rattle.hotel_model.proofs.{OfTables.Tests.eq_self, OfTables.Tests.not_true}
 use Rattle.hotel_model.proofs.OfTables.TableKeys.{row_inserted, row_kept, row_added, no_key}
 use Rattle.hotel_model.proofs.{OfTables.CodeLists.snoc_split, OfTables.CodeLists.cut_alike, OfTables.Grown.may_follow}
 use Rattle.hotel_model.proofs.Starts.StartCodes.{places_at_start, rows_at_start}

@@ -1,10 +1,16 @@
 -- The held code, the current one and an awaited one, by their places.
-use Rattle.std.proofs.Common.{ℕ, ◌≡◌, ◌+◌, ◌-◌, ◌<◌, Bool, true, false, Option, Some, None, List, [], ◌∷◌, ◌++◌, length, refl, ap, sym, ◌∙◌, arith, append_assoc, length-append, ◌==◌, ◌&&◌, ◌||◌, nat_lt}
-use Rattle.hotel_model.proofs.Names.{nat_tests, Link, CodeRow, when, is_one_of, before, after, said_of, last_of, at_number, rows_of, code_at, Moment, Entered, Recoded, History, ◌▷◌, issued, all_issued, current, newest_link, held, passed, awaited, is_room, Reached}
-use Rattle.hotel_model.proofs.{Facts.Follow.MayFollow, OfTables.Tests.eq_from, OfTables.Tests.eq_self, OfTables.Tests.and_true, OfTables.Tests.not_both, OfTables.Tests.same_bool}
-use Rattle.hotel_model.proofs.{OfTables.CodeLists.length_more, OfTables.CodeLists.last_more, OfTables.CodeLists.parted, Invariants.RoomCodes.rooms_have_codes}
+use Rattle.std.proofs.Common.{ℕ, ◌≡◌, ◌+◌, ◌-◌, ◌<◌, Bool, true, false, Option, Some, None, List, [], ◌∷◌, ◌++◌, length}
+use Rattle.std.proofs.Common.{refl, ap, sym, ◌∙◌, arith, append_assoc, length-append, ◌==◌, ◌&&◌, ◌||◌, nat_lt}
+use Rattle.hotel_model.proofs.Names.{nat_tests, Link, CodeRow, when, is_one_of, before, after, said_of, last_of}
+use Rattle.hotel_model.proofs.Names.{at_number, rows_of, code_at, Moment, Entered, Recoded, History, ◌▷◌, issued}
+use Rattle.hotel_model.proofs.Names.{all_issued, current, newest_link, held, passed, awaited, is_room, Reached}
+use Rattle.hotel_model.proofs.{Facts.Follow.MayFollow, OfTables.Tests.eq_from, OfTables.Tests.eq_self}
+use Rattle.hotel_model.proofs.{OfTables.Tests.and_true, OfTables.Tests.not_both, OfTables.Tests.same_bool}
+use Rattle.hotel_model.proofs.{OfTables.CodeLists.length_more, OfTables.CodeLists.last_more, OfTables.CodeLists.parted}
+use Rattle.hotel_model.proofs.{Invariants.RoomCodes.rooms_have_codes}
 use Rattle.hotel_model.proofs.Invariants.CodePlaces.{codes_have_places, places_have_codes, same_place}
-use Rattle.hotel_model.proofs.{OfTables.CodeSearch.codes_are_found, Invariants.RoomLinks.ends_with_current, Invariants.RoomLinks.newest_are_last}
+use Rattle.hotel_model.proofs.{OfTables.CodeSearch.codes_are_found, Invariants.RoomLinks.ends_with_current}
+use Rattle.hotel_model.proofs.{Invariants.RoomLinks.newest_are_last}
 use Rattle.hotel_model.proofs.Invariants.LedgerOrder.{ledger_holds, entered_case, link_seen}
 
 -- the code that a room's lock holds

@@ -1,6 +1,12 @@
 -- The event of an answer to a command in range, with a reply in range, is in range.
-use Rattle.std.proofs.Common.{ℕ, ◌≡◌, ◌≤◌, ◌+◌, false, Option, Some, None, List, [], ◌∷◌, refl, sym, subst, arith, nat_lt}
-use Rattle.hotel_model.proofs.Names.{Act, Note, draw_from, Command, Reply, Refusal, NoCard, CardDiffers, LockShut, NotInside, HeldDiffers, NotAwaited, is_one_of, Event, History, ◌▷◌, IsCommand, IsReply, InRange, issued_codes, card_of, link_to, inside, awaited, Standing, Next, standing, is_card, has_link, opens, next_card, next_fit, own_room, Outcome, unless, needs, by_draw, accepted, grown, answer_to, checks, effect, reported, told, moment_of, Reached}
+use Rattle.std.proofs.Common.{ℕ, ◌≡◌, ◌≤◌, ◌+◌, false, Option, Some, None, List, [], ◌∷◌, refl, sym, subst, arith}
+use Rattle.std.proofs.Common.{nat_lt}
+use Rattle.hotel_model.proofs.Names.{Act, Note, draw_from, Command, Reply, Refusal, NoCard, CardDiffers, LockShut}
+use Rattle.hotel_model.proofs.Names.{NotInside, HeldDiffers, NotAwaited, is_one_of, Event, History, ◌▷◌, IsCommand}
+use Rattle.hotel_model.proofs.Names.{IsReply, InRange, issued_codes, card_of, link_to, inside, awaited, Standing, Next}
+use Rattle.hotel_model.proofs.Names.{standing, is_card, has_link, opens, next_card, next_fit, own_room, Outcome, unless}
+use Rattle.hotel_model.proofs.Names.{needs, by_draw, accepted, grown, answer_to, checks, effect, reported, told}
+use Rattle.hotel_model.proofs.Names.{moment_of, Reached}
 use Rattle.std.proofs.lemmas.Bool.{ltb-false}
 use Rattle.keycard_rules.specs.declared.note.Act.TheVariants as act
 use Rattle.hotel_model.specs.declared.command.Command.TheVariants as command

@@ -1,12 +1,20 @@
 -- No card's new code begins a fit.
-use Rattle.std.proofs.Common.{ℕ, ◌≡◌, ◌<◌, Bool, true, false, cond, Option, Some, None, List, [], ◌∷◌, ◌++◌, length, inl, inr, refl, ap, sym, ◌∙◌, subst, append_assoc, arith, length-append, ◌==◌, ◌&&◌, ◌||◌, not, nat_cmp}
-use Rattle.hotel_model.proofs.Names.{list_any, is_at, insert_entry, Card, Link, CodeRow, FitRow, fit_row, fits, fits_at, begins_fit, notes, at_number, Install, Issue, Refitted, Spare, History, start, ◌▷◌, issued, all_issued, cards, card_of, with_spare, link_of_party, link_to, is_room, rows_of, Rows, IsSound, Reached}
+use Rattle.std.proofs.Common.{ℕ, ◌≡◌, ◌<◌, Bool, true, false, cond, Option, Some, None, List, [], ◌∷◌, ◌++◌, length}
+use Rattle.std.proofs.Common.{inl, inr, refl, ap, sym, ◌∙◌, subst, append_assoc, arith, length-append, ◌==◌, ◌&&◌, ◌||◌}
+use Rattle.std.proofs.Common.{not, nat_cmp}
+use Rattle.hotel_model.proofs.Names.{list_any, is_at, insert_entry, Card, Link, CodeRow, FitRow, fit_row, fits, fits_at}
+use Rattle.hotel_model.proofs.Names.{begins_fit, notes, at_number, Install, Issue, Refitted, Spare, History, start, ◌▷◌}
+use Rattle.hotel_model.proofs.Names.{issued, all_issued, cards, card_of, with_spare, link_of_party, link_to, is_room}
+use Rattle.hotel_model.proofs.Names.{rows_of, Rows, IsSound, Reached}
 use Rattle.hotel_model.proofs.OfTables.Tests.{eq_from, eq_self, not_lower, not_both}
 use Rattle.hotel_model.proofs.OfTables.RowTests.{found_passes, or_first, or_later, none_more}
 use Rattle.hotel_model.proofs.OfTables.TableKeys.{row_inserted, row_kept, row_added}
-use Rattle.hotel_model.proofs.{OfTables.Grown.may_follow, Invariants.CodePlaces.codes_have_places, Invariants.CodePlaces.fresh_has_no_row}
-use Rattle.hotel_model.proofs.{Invariants.RoomLinks.cards_have_links, Invariants.CardParties.parties_have_cards, Invariants.OpenLocks.there_by_codes, Invariants.OpenLocks.not_empty}
-use Rattle.hotel_model.proofs.{Invariants.FitsKept.fits_installed, Invariants.FitsKept.fits_refitted, Invariants.FitsOf.none_begins_at}
+use Rattle.hotel_model.proofs.{OfTables.Grown.may_follow, Invariants.CodePlaces.codes_have_places}
+use Rattle.hotel_model.proofs.{Invariants.CodePlaces.fresh_has_no_row}
+use Rattle.hotel_model.proofs.{Invariants.RoomLinks.cards_have_links, Invariants.CardParties.parties_have_cards}
+use Rattle.hotel_model.proofs.{Invariants.OpenLocks.there_by_codes, Invariants.OpenLocks.not_empty}
+use Rattle.hotel_model.proofs.{Invariants.FitsKept.fits_installed, Invariants.FitsKept.fits_refitted}
+use Rattle.hotel_model.proofs.{Invariants.FitsOf.none_begins_at}
 
 -- where a card's new code stands, no fit begins
 abbrev pub LinksBeginNoFit : History → Type 0

@@ -1,10 +1,19 @@
 -- The table of fits: each row is of its key, of a room that is there, and not after the room's present fit.
-use Rattle.std.proofs.Common.{ℕ, ◌≡◌, ◌+◌, Bool, true, false, None, List, [], ◌∷◌, drop, map, length, refl, ap, sym, ◌∙◌, arith, ◌==◌, ◌&&◌, ◌||◌, not, nat_le, nat_lt}
-use Rattle.hotel_model.proofs.Names.{nat_tests, list_all, is_at, lookup, FitRow, fit_row, fits, fits_at, fit_at, present_fit, notes, when, and_last, pair_cmp, count_up, Event, Install, Refitted, History, ◌▷◌, rooms, issued, is_room, rows_of, Reached}
-use Rattle.hotel_model.proofs.{OfTables.Tests.eq_from, OfTables.Tests.eq_self, OfTables.Tests.and_true, OfTables.Tests.not_both, OfTables.Tests.le_self, OfTables.RowTests.both, OfTables.RowTests.or_first, OfTables.RowTests.all_weaker}
-use Rattle.hotel_model.proofs.OfTables.AtRoom.{picked, is_before, picked_more, fits_are_picked, found_at, first_in, keys_at}
-use Rattle.hotel_model.proofs.{OfTables.TableKeys.key_inserted, OfTables.Grown.may_follow, Invariants.HomeRooms.apart_rooms, Invariants.HomeRooms.new_is_apart, Invariants.HomeRooms.room_goes_on}
-use Rattle.hotel_model.proofs.{SoundRows.RowsPass.fits_pass, SoundRows.SoundKeys.fits_in_order, Starts.StartFits.fits_kept_at_start}
+use Rattle.std.proofs.Common.{ℕ, ◌≡◌, ◌+◌, Bool, true, false, None, List, [], ◌∷◌, drop, map, length, refl, ap, sym}
+use Rattle.std.proofs.Common.{◌∙◌, arith, ◌==◌, ◌&&◌, ◌||◌, not, nat_le, nat_lt}
+use Rattle.hotel_model.proofs.Names.{nat_tests, list_all, is_at, lookup, FitRow, fit_row, fits, fits_at, fit_at}
+use Rattle.hotel_model.proofs.Names.{present_fit, notes, when, and_last, pair_cmp, count_up, Event, Install, Refitted}
+use Rattle.hotel_model.proofs.Names.{History, ◌▷◌, rooms, issued, is_room, rows_of, Reached}
+use Rattle.hotel_model.proofs.{OfTables.Tests.eq_from, OfTables.Tests.eq_self, OfTables.Tests.and_true}
+use Rattle.hotel_model.proofs.{OfTables.Tests.not_both, OfTables.Tests.le_self, OfTables.RowTests.both}
+use Rattle.hotel_model.proofs.{OfTables.RowTests.or_first, OfTables.RowTests.all_weaker}
+use Rattle.hotel_model.proofs.OfTables.AtRoom.{picked, is_before, picked_more, fits_are_picked, found_at, first_in}
+use Rattle.hotel_model.proofs.OfTables.AtRoom.{keys_at}
+use Rattle.hotel_model.proofs.{OfTables.TableKeys.key_inserted, OfTables.Grown.may_follow}
+use Rattle.hotel_model.proofs.{Invariants.HomeRooms.apart_rooms, Invariants.HomeRooms.new_is_apart}
+use Rattle.hotel_model.proofs.{Invariants.HomeRooms.room_goes_on}
+use Rattle.hotel_model.proofs.{SoundRows.RowsPass.fits_pass, SoundRows.SoundKeys.fits_in_order}
+use Rattle.hotel_model.proofs.{Starts.StartFits.fits_kept_at_start}
 
 -- the row is of its key, of a room that is there, and not after the room's present fit
 abbrev pub is_kept_fit : History → (ℕ × ℕ) × FitRow → Bool

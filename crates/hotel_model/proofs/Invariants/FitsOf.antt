@@ -1,13 +1,25 @@
 -- The fits of each room: numbered from 1 to the present one, each after the others.
-use Rattle.std.proofs.Common.{ℕ, ◌≡◌, ◌≤◌, ◌<◌, ◌+◌, ◌*◌, ◌-◌, Bool, true, false, Some, None, List, [], ◌∷◌, ◌++◌, map, length, inl, inr, refl, ap, sym, ◌∙◌, subst, arith, length-append, ◌==◌, ◌&&◌, nat_le}
+use Rattle.std.proofs.Common.{ℕ, ◌≡◌, ◌≤◌, ◌<◌, ◌+◌, ◌*◌, ◌-◌, Bool, true, false, Some, None, List, [], ◌∷◌, ◌++◌, map}
+use Rattle.std.proofs.Common.{length, inl, inr, refl, ap, sym, ◌∙◌, subst, arith, length-append, ◌==◌, ◌&&◌, nat_le}
 use Rattle.std.proofs.lemmas.Bool.{leb-false}
-use Rattle.hotel_model.proofs.Names.{list_any, Note, FitRow, fit_row, fits, fits_at, fit_at, begins_fit, present_fit, notes_before, notes, when, and_last, before, last_fit_place, said_of, first_is_first, notes_before_each, rise_by_few, Event, Install, Refitted, Entered, Left, Recoded, History, start, ◌▷◌, rooms, issued, held, passed, awaited, turns, is_room, rows_of, Reached}
+use Rattle.hotel_model.proofs.Names.{list_any, Note, FitRow, fit_row, fits, fits_at, fit_at, begins_fit, present_fit}
+use Rattle.hotel_model.proofs.Names.{notes_before, notes, when, and_last, before, last_fit_place, said_of}
+use Rattle.hotel_model.proofs.Names.{first_is_first, notes_before_each, rise_by_few, Event, Install, Refitted, Entered}
+use Rattle.hotel_model.proofs.Names.{Left, Recoded, History, start, ◌▷◌, rooms, issued, held, passed, awaited, turns}
+use Rattle.hotel_model.proofs.Names.{is_room, rows_of, Reached}
 use Rattle.keycard_rules.specs.declared.note.Act.TheVariants as act
-use Rattle.hotel_model.proofs.{OfTables.Tests.eq_from, OfTables.Tests.either_way, OfTables.Tests.and_true, OfTables.Tests.le_from, OfTables.Tests.or_second, OfTables.TableKeys.key_inserted}
-use Rattle.hotel_model.proofs.OfTables.FitLists.{FitsFor, first_fits_for, refit_for, noted_for, passed_for, none_begins, last_is_at, length_mapped}
-use Rattle.hotel_model.proofs.{OfTables.NotesKept.none_past, OfTables.Grown.may_follow, Invariants.EventRanges.last_in_range, Invariants.FitsKept.fits_installed, Invariants.FitsKept.fits_refitted}
-use Rattle.hotel_model.proofs.{Invariants.FitsKept.no_fits, Invariants.FitsKept.fit_found, Invariants.NotesOfFits.next_number, Invariants.NotesOfFits.nothing_before, Invariants.LedgerOrder.ledger_holds, Invariants.NumbersLeft.has_number}
-use Rattle.hotel_model.proofs.{Invariants.NoRooms.nothing_passed, Invariants.NoRooms.nothing_noted, Starts.StartFits.fits_for_at_start}
+use Rattle.hotel_model.proofs.{OfTables.Tests.eq_from, OfTables.Tests.either_way, OfTables.Tests.and_true}
+use Rattle.hotel_model.proofs.{OfTables.Tests.le_from, OfTables.Tests.or_second, OfTables.TableKeys.key_inserted}
+use Rattle.hotel_model.proofs.OfTables.FitLists.{FitsFor, first_fits_for, refit_for, noted_for, passed_for, none_begins}
+use Rattle.hotel_model.proofs.OfTables.FitLists.{last_is_at, length_mapped}
+use Rattle.hotel_model.proofs.{OfTables.NotesKept.none_past, OfTables.Grown.may_follow}
+use Rattle.hotel_model.proofs.{Invariants.EventRanges.last_in_range, Invariants.FitsKept.fits_installed}
+use Rattle.hotel_model.proofs.{Invariants.FitsKept.fits_refitted}
+use Rattle.hotel_model.proofs.{Invariants.FitsKept.no_fits, Invariants.FitsKept.fit_found}
+use Rattle.hotel_model.proofs.{Invariants.NotesOfFits.next_number, Invariants.NotesOfFits.nothing_before}
+use Rattle.hotel_model.proofs.{Invariants.LedgerOrder.ledger_holds, Invariants.NumbersLeft.has_number}
+use Rattle.hotel_model.proofs.{Invariants.NoRooms.nothing_passed, Invariants.NoRooms.nothing_noted}
+use Rattle.hotel_model.proofs.{Starts.StartFits.fits_for_at_start}
 
 -- what holds of the fits of a room
 abbrev pub FitsOf : History → ℕ → Type 0

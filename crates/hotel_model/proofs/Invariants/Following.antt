@@ -1,13 +1,22 @@
 -- What an accepted event needs.
-use Rattle.std.proofs.Common.{ℕ, ◌≡◌, List, [], ◌∷◌, Bool, true, false, Option, Some, None, refl, ap, subst, nat_lt, option_map, not, cond, length, drop, ◌+◌, ◌-◌, ◌==◌, is_some, inl, inr}
-use Rattle.hotel_model.proofs.Names.{at_number, said_of, own_room, room_of, stays, Command, Refusal, KindFull, NoCard, CardDiffers, LockShut, NotInside, HeldDiffers, NotAwaited, Act, inside, awaited, Note, Event, History, is_fresh, issued_codes, draw_from, one_more, code_of, Outcome, accepted, unless, needs, bars, answer_to, checks, effect, reported, told, moment_of, is_begun, today, is_kind, is_room, is_party, is_booked, is_in_house, is_of_kind, is_taken, is_card, has_link, opens, next_card, first_full, Standing, Copy, Conflicting, Next, After, standing, standing_among, notes_of, present_fit, next_fit, same_note}
+use Rattle.std.proofs.Common.{ℕ, ◌≡◌, List, [], ◌∷◌, Bool, true, false, Option, Some, None, refl, ap, subst, nat_lt}
+use Rattle.std.proofs.Common.{option_map, not, cond, length, drop, ◌+◌, ◌-◌, ◌==◌, is_some, inl, inr}
+use Rattle.hotel_model.proofs.Names.{at_number, said_of, own_room, room_of, stays, Command, Refusal, KindFull, NoCard}
+use Rattle.hotel_model.proofs.Names.{CardDiffers, LockShut, NotInside, HeldDiffers, NotAwaited, Act, inside, awaited}
+use Rattle.hotel_model.proofs.Names.{Note, Event, History, is_fresh, issued_codes, draw_from, one_more, code_of}
+use Rattle.hotel_model.proofs.Names.{Outcome, accepted, unless, needs, bars, answer_to, checks, effect, reported, told}
+use Rattle.hotel_model.proofs.Names.{moment_of, is_begun, today, is_kind, is_room, is_party, is_booked, is_in_house}
+use Rattle.hotel_model.proofs.Names.{is_of_kind, is_taken, is_card, has_link, opens, next_card, first_full, Standing}
+use Rattle.hotel_model.proofs.Names.{Copy, Conflicting, Next, After, standing, standing_among, notes_of, present_fit}
+use Rattle.hotel_model.proofs.Names.{next_fit, same_note}
 use Rattle.hotel_model.specs.declared.command.Command.TheVariants as command
 use Rattle.hotel_model.specs.declared.reply.Reply.TheVariants as reply
 use Rattle.keycard_rules.specs.declared.note.Act.TheVariants as act
 use Rattle.hotel_model.specs.Event as event
 use Rattle.keycard_rules.specs.Words.{is_one_of}
 use Rattle.hotel_model.specs.Cases.{holds}
-use Rattle.hotel_model.proofs.{Facts.Follow.MayFollow, OfTables.Tests.eq_from, OfTables.StayStates.stands_booked, OfTables.StayStates.stands_home}
+use Rattle.hotel_model.proofs.{Facts.Follow.MayFollow, OfTables.Tests.eq_from, OfTables.StayStates.stands_booked}
+use Rattle.hotel_model.proofs.{OfTables.StayStates.stands_home}
 
 -- none of the checks refused
 abbrev pub AllPass : List (Option Refusal) → Type 0

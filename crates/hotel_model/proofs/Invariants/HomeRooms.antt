@@ -1,8 +1,14 @@
--- Rooms that are there: they stay; the room of a party in house is one, and so is one at which a card of a new code is given.
-use Rattle.std.proofs.Common.{ℕ, ◌≡◌, Bool, true, false, Option, Some, None, List, refl, ap, sym, ◌∙◌, subst, ◌==◌, inl, inr}
-use Rattle.hotel_model.proofs.Names.{when, Event, Install, Issue, CheckOut, History, start, ◌▷◌, registered, leaves, rooms, room_of, Reached, is_room}
-use Rattle.hotel_model.proofs.{OfTables.Numbered.true_is_not_false, OfTables.Numbered.apart_by, OfTables.Grown.may_follow, OfTables.Tests.or_false, OfTables.TableKeys.key_inserted, OfTables.RowTests.or_later}
-use Rattle.hotel_model.proofs.{Facts.Follow.OrAtHome, Invariants.InHouse.HomesMatch, Invariants.InHouse.homes_match, Starts.StartGuests.nobody_at_start}
+-- Rooms that are there: they stay; the room of a party in house is one, and so is one at which a card of a new code is
+-- given.
+use Rattle.std.proofs.Common.{ℕ, ◌≡◌, Bool, true, false, Option, Some, None, List, refl, ap, sym, ◌∙◌, subst, ◌==◌, inl}
+use Rattle.std.proofs.Common.{inr}
+use Rattle.hotel_model.proofs.Names.{when, Event, Install, Issue, CheckOut, History, start, ◌▷◌, registered, leaves}
+use Rattle.hotel_model.proofs.Names.{rooms, room_of, Reached, is_room}
+use Rattle.hotel_model.proofs.{OfTables.Numbered.true_is_not_false, OfTables.Numbered.apart_by}
+use Rattle.hotel_model.proofs.{OfTables.Grown.may_follow, OfTables.Tests.or_false, OfTables.TableKeys.key_inserted}
+use Rattle.hotel_model.proofs.{OfTables.RowTests.or_later}
+use Rattle.hotel_model.proofs.{Facts.Follow.OrAtHome, Invariants.InHouse.HomesMatch, Invariants.InHouse.homes_match}
+use Rattle.hotel_model.proofs.{Starts.StartGuests.nobody_at_start}
 
 -- a room is apart from what is no room, and that from it
 pub apart_rooms : (h : History) (room r : ℕ) → is_room h room ≡ true → is_room h r ≡ false → (room == r) ≡ false

@@ -1,6 +1,7 @@
 -- Who is registered where, and who is in house where: two functions that say the same.
 use Rattle.std.proofs.Common.{ℕ, ◌≡◌, Bool, true, false, cond, Option, Some, None, refl, ap, sym, ◌∙◌, ◌==◌}
-use Rattle.hotel_model.proofs.{Names.when, Names.leaves, RowsAfter.RowsRooms.eq_flip, OfTables.Numbered.true_is_not_false, OfTables.Tests.eq_from, OfTables.Tests.eq_self}
+use Rattle.hotel_model.proofs.{Names.when, Names.leaves, RowsAfter.RowsRooms.eq_flip}
+use Rattle.hotel_model.proofs.{OfTables.Numbered.true_is_not_false, OfTables.Tests.eq_from, OfTables.Tests.eq_self}
 
 -- A party is registered at a room exactly where that is its home.
 pub record Match (at : ℕ → Option ℕ) (home : ℕ → Option ℕ) : Type 0 where

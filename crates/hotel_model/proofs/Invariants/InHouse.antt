@@ -1,11 +1,14 @@
 -- A party is registered at a room exactly where it is in house there.
-use Rattle.std.proofs.Common.{ℕ, ◌≡◌, Bool, true, false, cond, Option, Some, None, refl, ap, sym, ◌∙◌, subst, ◌==◌, is_some, inl, inr}
-use Rattle.hotel_model.proofs.Names.{at_number, Reserved, Cancelled, Issue, CheckOut, History, start, ◌▷◌, registered, leaves, is_taken, stays, room_of, is_party, is_booked, Reached}
+use Rattle.std.proofs.Common.{ℕ, ◌≡◌, Bool, true, false, cond, Option, Some, None, refl, ap, sym, ◌∙◌, subst, ◌==◌}
+use Rattle.std.proofs.Common.{is_some, inl, inr}
+use Rattle.hotel_model.proofs.Names.{at_number, Reserved, Cancelled, Issue, CheckOut, History, start, ◌▷◌, registered}
+use Rattle.hotel_model.proofs.Names.{leaves, is_taken, stays, room_of, is_party, is_booked, Reached}
 use Rattle.hotel_nights.specs.declared.stay.StayState.TheVariants as state
 use Rattle.hotel_model.proofs.{OfTables.Numbered.is_there, Invariants.Numbering.next_party_free}
 use Rattle.hotel_model.proofs.OfTables.StayStates.{home_of, home_changed, home_added, booked_has_no_home}
 use Rattle.hotel_model.proofs.Invariants.Homes.{Match, itself_leaves, match_left, match_came, match_same}
-use Rattle.hotel_model.proofs.{Facts.Follow.OrAtHome, OfTables.Tests.eq_from, OfTables.Grown.may_follow, Starts.StartGuests.homes_match_at_start}
+use Rattle.hotel_model.proofs.{Facts.Follow.OrAtHome, OfTables.Tests.eq_from, OfTables.Grown.may_follow}
+use Rattle.hotel_model.proofs.{Starts.StartGuests.homes_match_at_start}
 
 pub none_is : (o : Option ℕ) → is_some o ≡ false → o ≡ None
 none_is (Some x) h = cc

@@ -1,8 +1,10 @@
 -- A party in house was given a card.
 use Rattle.std.proofs.Common.{ℕ, ◌≡◌, Bool, true, false, cond, Option, Some, None, refl, ap, sym, ◌∙◌, ◌==◌, is_some}
-use Rattle.hotel_model.proofs.Names.{Link, when, Reserved, Cancelled, Issue, CheckOut, History, start, ◌▷◌, link_of_party, link_to, stays, room_of, is_in_house, Reached}
+use Rattle.hotel_model.proofs.Names.{Link, when, Reserved, Cancelled, Issue, CheckOut, History, start, ◌▷◌}
+use Rattle.hotel_model.proofs.Names.{link_of_party, link_to, stays, room_of, is_in_house, Reached}
 use Rattle.hotel_nights.specs.declared.stay.StayState.TheVariants as state
-use Rattle.hotel_model.proofs.{OfTables.StayStates.home_changed, OfTables.StayStates.home_added, Invariants.InHouse.has_stay, OfTables.Grown.may_follow}
+use Rattle.hotel_model.proofs.{OfTables.StayStates.home_changed, OfTables.StayStates.home_added}
+use Rattle.hotel_model.proofs.{Invariants.InHouse.has_stay, OfTables.Grown.may_follow}
 use Rattle.hotel_model.proofs.Starts.StartGuests.{in_house_has_link_at_start}
 
 was_some : (b : Bool) (o : Option ℕ) → is_some (cond b None o) ≡ true → is_some o ≡ true

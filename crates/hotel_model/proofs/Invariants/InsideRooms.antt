@@ -1,6 +1,9 @@
 -- Who is inside a room after a card came in or left.
-use Rattle.std.proofs.Common.{ℕ, zero, suc, ◌≡◌, ◌<◌, Bool, true, false, cond, List, [], ◌∷◌, length, ◌⊎◌, inl, inr, refl, ap, ◌∙◌, arith, ◌==◌, ◌||◌, not, Contains, slice_index_or, Ordering, Less, Equal, Greater}
-use Rattle.hotel_model.proofs.Names.{match_ordering, insert_key, is_at, remove_key, when, is_one_of, pair_cmp, those_elsewhere, those_in, are_none}
+use Rattle.std.proofs.Common.{ℕ, zero, suc, ◌≡◌, ◌<◌, Bool, true, false, cond, List, [], ◌∷◌, length, ◌⊎◌, inl, inr}
+use Rattle.std.proofs.Common.{refl, ap, ◌∙◌, arith, ◌==◌, ◌||◌, not, Contains, slice_index_or, Ordering, Less, Equal}
+use Rattle.std.proofs.Common.{Greater}
+use Rattle.hotel_model.proofs.Names.{match_ordering, insert_key, is_at, remove_key, when, is_one_of, pair_cmp}
+use Rattle.hotel_model.proofs.Names.{those_elsewhere, those_in, are_none}
 use Rattle.hotel_model.proofs.OfTables.Tests.{eq_from, eq_self, or_true, not_both}
 
 pub one_of_when : (b : Bool) (m x : ℕ) (ns : List ℕ) → is_one_of m (when b (λ numbers. x ∷ numbers) ns) ≡ true → ((b ≡ true) × (x ≡ m)) ⊎ (is_one_of m ns ≡ true)

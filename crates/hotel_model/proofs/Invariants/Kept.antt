@@ -1,8 +1,12 @@
 -- What the rows have stays there: codes and cards.
-use Rattle.std.proofs.Common.{ℕ, ◌≡◌, Bool, true, false, Option, Some, None, List, [], ◌∷◌, ◌++◌, refl, ap, ◌∙◌, append_assoc, ◌==◌}
-use Rattle.hotel_model.proofs.Names.{Card, CodeRow, when, and_last, said_of, at_number, Event, Install, Issue, Refitted, Spare, History, ◌▷◌, issued, all_issued, cards, card_of, link_of_party, link_to, rows_of, Reached, code_is, card_is}
+use Rattle.std.proofs.Common.{ℕ, ◌≡◌, Bool, true, false, Option, Some, None, List, [], ◌∷◌, ◌++◌, refl, ap, ◌∙◌}
+use Rattle.std.proofs.Common.{append_assoc, ◌==◌}
+use Rattle.hotel_model.proofs.Names.{Card, CodeRow, when, and_last, said_of, at_number, Event, Install, Issue, Refitted}
+use Rattle.hotel_model.proofs.Names.{Spare, History, ◌▷◌, issued, all_issued, cards, card_of, link_of_party, link_to}
+use Rattle.hotel_model.proofs.Names.{rows_of, Reached, code_is, card_is}
 use Rattle.hotel_model.proofs.{OfTables.Tests.not_both, OfTables.TableKeys.row_kept, OfTables.Grown.may_follow}
-use Rattle.hotel_model.proofs.{Invariants.CodePlaces.fresh_has_no_row, Invariants.CardParties.card_kept, Invariants.CardParties.card_kept_spare}
+use Rattle.hotel_model.proofs.{Invariants.CodePlaces.fresh_has_no_row, Invariants.CardParties.card_kept}
+use Rattle.hotel_model.proofs.{Invariants.CardParties.card_kept_spare}
 use Rattle.hotel_model.proofs.SoundRows.SoundLinks.{said_some}
 
 -- a code's row stays

@@ -1,6 +1,7 @@
 -- Counts over the rows: how many rooms a kind has, and the nights that its stays take.
 use Rattle.std.proofs.Common.{ℕ, ◌≡◌, ◌+◌, Bool, cond, List, [], ◌∷◌, refl, ap, sym, ◌∙◌, map, bytes_eq, count_by}
-use Rattle.hotel_model.proofs.Names.{values_of, sum_by-cons, is_full, first_day, RoomRow, History, rooms, stays, rooms_of, first_full, room_row, rows_of, rooms_of_kind, first_full_on}
+use Rattle.hotel_model.proofs.Names.{values_of, sum_by-cons, is_full, first_day, RoomRow, History, rooms, stays}
+use Rattle.hotel_model.proofs.Names.{rooms_of, first_full, room_row, rows_of, rooms_of_kind, first_full_on}
 
 -- how many pass a test, with one more
 pub count_more : {X : Type 0} (p : X → Bool) (x : X) (xs : List X) → count_by p (x ∷ xs) ≡ cond (p x) 1 0 + count_by p xs

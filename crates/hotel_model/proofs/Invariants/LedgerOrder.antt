@@ -1,9 +1,16 @@
 -- The ledger of each room's codes.
-use Rattle.std.proofs.Common.{ℕ, ◌≡◌, Bool, true, false, cond, Option, Some, None, List, [], ◌∷◌, ◌++◌, refl, ap, sym, ◌∙◌, subst, append_assoc, ◌==◌, ◌&&◌, ◌||◌, is_some}
-use Rattle.hotel_model.proofs.Names.{Card, Link, turn, when, and_last, is_one_of, before, after, without, said_of, at_number, Install, Issue, Refitted, Entered, Recoded, History, start, ◌▷◌, issued, cards, held, passed, awaited, turns, rooms, same_link, is_room, is_card, has_link, opens, Reached, LedgerHolds, TakesTheFirst}
-use Rattle.hotel_model.proofs.{Facts.CodeFacts.IsLink, OfTables.Tests.eq_from, OfTables.Tests.not_both, OfTables.Tests.or_second}
-use Rattle.hotel_model.proofs.{OfTables.TableKeys.key_inserted, OfTables.TableKeys.row_of_key, OfTables.CodeLists.first_out, OfTables.CodeLists.parted, OfTables.Grown.may_follow}
-use Rattle.hotel_model.proofs.{Invariants.RoomCodes.others_have_none, Invariants.CodePlaces.same_place, Invariants.RoomLinks.cards_have_links, Starts.StartLedger.ledger_at_start}
+use Rattle.std.proofs.Common.{ℕ, ◌≡◌, Bool, true, false, cond, Option, Some, None, List, [], ◌∷◌, ◌++◌, refl, ap, sym}
+use Rattle.std.proofs.Common.{◌∙◌, subst, append_assoc, ◌==◌, ◌&&◌, ◌||◌, is_some}
+use Rattle.hotel_model.proofs.Names.{Card, Link, turn, when, and_last, is_one_of, before, after, without, said_of}
+use Rattle.hotel_model.proofs.Names.{at_number, Install, Issue, Refitted, Entered, Recoded, History, start, ◌▷◌, issued}
+use Rattle.hotel_model.proofs.Names.{cards, held, passed, awaited, turns, rooms, same_link, is_room, is_card, has_link}
+use Rattle.hotel_model.proofs.Names.{opens, Reached, LedgerHolds, TakesTheFirst}
+use Rattle.hotel_model.proofs.{Facts.CodeFacts.IsLink, OfTables.Tests.eq_from, OfTables.Tests.not_both}
+use Rattle.hotel_model.proofs.{OfTables.Tests.or_second}
+use Rattle.hotel_model.proofs.{OfTables.TableKeys.key_inserted, OfTables.TableKeys.row_of_key}
+use Rattle.hotel_model.proofs.{OfTables.CodeLists.first_out, OfTables.CodeLists.parted, OfTables.Grown.may_follow}
+use Rattle.hotel_model.proofs.{Invariants.RoomCodes.others_have_none, Invariants.CodePlaces.same_place}
+use Rattle.hotel_model.proofs.{Invariants.RoomLinks.cards_have_links, Starts.StartLedger.ledger_at_start}
 use Rattle.hotel_model.proofs.Starts.StartRules.{link_is}
 
 -- the ledger of one room

@@ -1,9 +1,17 @@
 -- The newest link of a room, by its codes and its fits.
-use Rattle.std.proofs.Common.{ℕ, ◌≡◌, ◌-◌, Bool, true, false, cond, Option, Some, None, List, [], ◌∷◌, ◌++◌, length, refl, ap, sym, ◌∙◌, arith, append_assoc, ◌==◌}
-use Rattle.hotel_model.proofs.Names.{list_any, Card, Link, CodeRow, FitRow, fit_row, fits, fits_at, begins_fit, notes, when, and_last, last_link_of, at_number, all_issued, cards, Install, Issue, Refitted, History, start, ◌▷◌, issued, newest_link, link_to, is_room, rows_of, Reached}
-use Rattle.hotel_model.proofs.{OfTables.Tests.eq_from, OfTables.Tests.eq_self, OfTables.RowTests.any_last, OfTables.CodeLists.length_more}
-use Rattle.hotel_model.proofs.{Invariants.RoomCodes.others_have_none, Invariants.RoomCodes.rooms_have_codes, Invariants.RoomLinks.new_last_two, Invariants.CodePlaces.codes_have_places}
-use Rattle.hotel_model.proofs.{OfTables.Grown.may_follow, Invariants.HomeRooms.comes_to_room, Invariants.FitsKept.fits_installed, Invariants.FitsKept.fits_refitted, Invariants.FitsOf.none_begins_at, Invariants.FitLinks.links_begin_none}
+use Rattle.std.proofs.Common.{ℕ, ◌≡◌, ◌-◌, Bool, true, false, cond, Option, Some, None, List, [], ◌∷◌, ◌++◌, length}
+use Rattle.std.proofs.Common.{refl, ap, sym, ◌∙◌, arith, append_assoc, ◌==◌}
+use Rattle.hotel_model.proofs.Names.{list_any, Card, Link, CodeRow, FitRow, fit_row, fits, fits_at, begins_fit, notes}
+use Rattle.hotel_model.proofs.Names.{when, and_last, last_link_of, at_number, all_issued, cards, Install, Issue}
+use Rattle.hotel_model.proofs.Names.{Refitted, History, start, ◌▷◌, issued, newest_link, link_to, is_room, rows_of}
+use Rattle.hotel_model.proofs.Names.{Reached}
+use Rattle.hotel_model.proofs.{OfTables.Tests.eq_from, OfTables.Tests.eq_self, OfTables.RowTests.any_last}
+use Rattle.hotel_model.proofs.{OfTables.CodeLists.length_more}
+use Rattle.hotel_model.proofs.{Invariants.RoomCodes.others_have_none, Invariants.RoomCodes.rooms_have_codes}
+use Rattle.hotel_model.proofs.{Invariants.RoomLinks.new_last_two, Invariants.CodePlaces.codes_have_places}
+use Rattle.hotel_model.proofs.{OfTables.Grown.may_follow, Invariants.HomeRooms.comes_to_room}
+use Rattle.hotel_model.proofs.{Invariants.FitsKept.fits_installed, Invariants.FitsKept.fits_refitted}
+use Rattle.hotel_model.proofs.{Invariants.FitsOf.none_begins_at, Invariants.FitLinks.links_begin_none}
 
 -- the link of the last two codes, where no fit begins with the last one
 abbrev pub by_fits : List FitRow → List ℕ → Option Link

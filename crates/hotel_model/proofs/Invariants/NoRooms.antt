@@ -1,9 +1,11 @@
 -- Nothing happened at a number that is no room's.
 use Rattle.std.proofs.Common.{ℕ, ◌≡◌, false, [], ap, ◌∙◌}
-use Rattle.hotel_model.proofs.Names.{Note, when, and_last, Install, Entered, Left, Recoded, History, start, ◌▷◌, issued, passed, notes, Reached, is_room}
+use Rattle.hotel_model.proofs.Names.{Note, when, and_last, Install, Entered, Left, Recoded, History, start, ◌▷◌, issued}
+use Rattle.hotel_model.proofs.Names.{passed, notes, Reached, is_room}
 use Rattle.keycard_rules.specs.declared.note.Act.TheVariants as act
 use Rattle.hotel_model.proofs.OfTables.Grown.{may_follow}
-use Rattle.hotel_model.proofs.{Invariants.RoomCodes.others_have_none, Invariants.HomeRooms.apart_rooms, Invariants.HomeRooms.not_added, Starts.StartNotes.nothing_noted_at_start}
+use Rattle.hotel_model.proofs.{Invariants.RoomCodes.others_have_none, Invariants.HomeRooms.apart_rooms}
+use Rattle.hotel_model.proofs.{Invariants.HomeRooms.not_added, Starts.StartNotes.nothing_noted_at_start}
 
 pub nothing_issued : (h : History) → Reached h → (r : ℕ) → is_room h r ≡ false → issued h r ≡ []
 nothing_issued h ok r e = (others_have_none h ok r e).0

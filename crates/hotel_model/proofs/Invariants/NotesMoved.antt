@@ -1,9 +1,11 @@
 -- Each note moved exactly the codes that it records.
 use Rattle.std.proofs.Common.{ℕ, ◌≡◌, true, List, refl, ap, sym, ◌∙◌, eq-eqb, ◌==◌}
-use Rattle.hotel_model.proofs.Names.{Link, before, after, without, Event, Moment, Entered, Left, Recoded, History, start, ◌▷◌, held, awaited, Reached}
+use Rattle.hotel_model.proofs.Names.{Link, before, after, without, Event, Moment, Entered, Left, Recoded, History}
+use Rattle.hotel_model.proofs.Names.{start, ◌▷◌, held, awaited, Reached}
 use Rattle.keycard_rules.specs.Chain.{Ledger}
 use Rattle.hotel_model.specs.Moved.{EntryMoves, RecodingMoves, Moves, NotesMove}
-use Rattle.hotel_model.proofs.{OfTables.Tests.eq_from, OfTables.CodeLists.first_out, OfTables.CodeLists.parted, OfTables.Grown.may_follow}
+use Rattle.hotel_model.proofs.{OfTables.Tests.eq_from, OfTables.CodeLists.first_out, OfTables.CodeLists.parted}
+use Rattle.hotel_model.proofs.{OfTables.Grown.may_follow}
 use Rattle.hotel_model.proofs.Invariants.LedgerOrder.{first_awaited, holds_new, link_seen, ledger_holds}
 
 codes_same : (p q : List ℕ) (x y : ℕ) (a b : List ℕ) → p ≡ q → x ≡ y → a ≡ b → (let c : Ledger = record { passed = p; held = x; awaited = a } in c) ≡ record { passed = q; held = y; awaited = b }

@@ -1,9 +1,16 @@
 -- The notes of a room's present fit: those after the ones that were taken before it.
-use Rattle.std.proofs.Common.{ℕ, ◌≡◌, ◌+◌, Bool, true, false, cond, List, [], ◌∷◌, ◌++◌, filter, length, refl, ap, sym, ◌∙◌, subst, arith, length-append, ◌==◌, nat_le}
-use Rattle.hotel_model.proofs.Names.{nat_tests, list_all, Note, when, and_last, present_fit, notes_before, notes, notes_of, Install, Refitted, Entered, Left, Recoded, History, start, ◌▷◌, is_room, Reached}
+use Rattle.std.proofs.Common.{ℕ, ◌≡◌, ◌+◌, Bool, true, false, cond, List, [], ◌∷◌, ◌++◌, filter, length, refl, ap, sym}
+use Rattle.std.proofs.Common.{◌∙◌, subst, arith, length-append, ◌==◌, nat_le}
+use Rattle.hotel_model.proofs.Names.{nat_tests, list_all, Note, when, and_last, present_fit, notes_before, notes}
+use Rattle.hotel_model.proofs.Names.{notes_of, Install, Refitted, Entered, Left, Recoded, History, start, ◌▷◌, is_room}
+use Rattle.hotel_model.proofs.Names.{Reached}
 use Rattle.keycard_rules.specs.declared.note.Act.TheVariants as act
-use Rattle.hotel_model.proofs.{OfTables.Tests.eq_from, OfTables.Tests.eq_self, OfTables.Tests.and_true, OfTables.Tests.le_self, OfTables.RowTests.both, OfTables.RowTests.all_weaker}
-use Rattle.hotel_model.proofs.{OfTables.Grown.may_follow, Invariants.NoRooms.nothing_noted, Invariants.HomeRooms.not_added, Invariants.HomeRooms.apart_rooms, Starts.StartNotesOfFits.notes_for_at_start, Starts.StartFits.nothing_before_at_start, OfTables.FitLists.NotesFor}
+use Rattle.hotel_model.proofs.{OfTables.Tests.eq_from, OfTables.Tests.eq_self, OfTables.Tests.and_true}
+use Rattle.hotel_model.proofs.{OfTables.Tests.le_self, OfTables.RowTests.both, OfTables.RowTests.all_weaker}
+use Rattle.hotel_model.proofs.{OfTables.Grown.may_follow, Invariants.NoRooms.nothing_noted}
+use Rattle.hotel_model.proofs.{Invariants.HomeRooms.not_added, Invariants.HomeRooms.apart_rooms}
+use Rattle.hotel_model.proofs.{Starts.StartNotesOfFits.notes_for_at_start, Starts.StartFits.nothing_before_at_start}
+use Rattle.hotel_model.proofs.{OfTables.FitLists.NotesFor}
 
 all_snoc : (t : Note → Bool) (taken : List Note) (note : Note) → list_all t taken ≡ true → t note ≡ true → list_all t (taken ++ note ∷ []) ≡ true
 all_snoc t [] note all one = both _ _ one refl

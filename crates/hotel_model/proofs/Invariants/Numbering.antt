@@ -1,8 +1,12 @@
 -- The cards and the stays are numbered 1, 2 and so on.
-use Rattle.std.proofs.Common.{ℕ, ◌≡◌, ◌+◌, Bool, true, false, cond, Option, Some, None, List, [], ◌∷◌, length, refl, ap, ◌∙◌, arith, ◌==◌}
-use Rattle.hotel_model.proofs.Names.{keys_of, Card, Link, Stay, StayState, count_up, at_number, Reserved, Cancelled, Issue, Spare, CheckOut, History, start, ◌▷◌, cards, card_of, with_spare, link_of_party, link_to, stays, in_state, now_is, Reached}
+use Rattle.std.proofs.Common.{ℕ, ◌≡◌, ◌+◌, Bool, true, false, cond, Option, Some, None, List, [], ◌∷◌, length, refl, ap}
+use Rattle.std.proofs.Common.{◌∙◌, arith, ◌==◌}
+use Rattle.hotel_model.proofs.Names.{keys_of, Card, Link, Stay, StayState, count_up, at_number, Reserved, Cancelled}
+use Rattle.hotel_model.proofs.Names.{Issue, Spare, CheckOut, History, start, ◌▷◌, cards, card_of, with_spare}
+use Rattle.hotel_model.proofs.Names.{link_of_party, link_to, stays, in_state, now_is, Reached}
 use Rattle.hotel_nights.specs.declared.stay.StayState.TheVariants as state
-use Rattle.hotel_model.proofs.{Facts.CodeFacts.CardsCount, Facts.CodeFacts.StaysCount, OfTables.Counting.counts_more, OfTables.Counting.next_is_free, OfTables.Grown.may_follow}
+use Rattle.hotel_model.proofs.{Facts.CodeFacts.CardsCount, Facts.CodeFacts.StaysCount, OfTables.Counting.counts_more}
+use Rattle.hotel_model.proofs.{OfTables.Counting.next_is_free, OfTables.Grown.may_follow}
 use Rattle.hotel_model.proofs.Starts.StartNumbers.{cards_count_at_start, stays_count_at_start}
 
 keys_by : (b : Bool) (e : ℕ × Stay) (s : Stay) (es later : List (ℕ × Stay)) → keys_of later ≡ keys_of es → keys_of (cond b ((e.0, s) ∷ es) (e ∷ later)) ≡ e.0 ∷ keys_of es

@@ -1,6 +1,13 @@
 -- Cards and stays have numbers up to the greatest, and a room has few codes.
-use Rattle.std.proofs.Common.{ℕ, ◌≡◌, ◌+◌, ◌≤◌, ◌<◌, Bool, true, false, Option, Some, None, List, [], ◌∷◌, length, refl, ap, subst, arith, length-append, ◌==◌, nat_le, option_map, nat_cmp}
-use Rattle.hotel_model.proofs.Names.{insert_entry, Card, Link, Act, Note, draw_from, Command, Refusal, NoCard, CardDiffers, LockShut, NotInside, HeldDiffers, NotAwaited, when, and_last, is_one_of, Event, History, start, ◌▷◌, issued, issued_codes, cards, card_of, with_spare, link_of_party, link_to, inside, awaited, stays, Standing, Next, standing, is_card, has_link, opens, next_card, next_fit, fits_used_up, FitRow, fit_row, fits, fits_at, notes, own_room, parties_used_up, cards_used_up, accepted, needs, bars, answer_to, checks, effect, reported, told, moment_of, Reached}
+use Rattle.std.proofs.Common.{ℕ, ◌≡◌, ◌+◌, ◌≤◌, ◌<◌, Bool, true, false, Option, Some, None, List, [], ◌∷◌, length, refl}
+use Rattle.std.proofs.Common.{ap, subst, arith, length-append, ◌==◌, nat_le, option_map, nat_cmp}
+use Rattle.hotel_model.proofs.Names.{insert_entry, Card, Link, Act, Note, draw_from, Command, Refusal, NoCard}
+use Rattle.hotel_model.proofs.Names.{CardDiffers, LockShut, NotInside, HeldDiffers, NotAwaited, when, and_last}
+use Rattle.hotel_model.proofs.Names.{is_one_of, Event, History, start, ◌▷◌, issued, issued_codes, cards, card_of}
+use Rattle.hotel_model.proofs.Names.{with_spare, link_of_party, link_to, inside, awaited, stays, Standing, Next}
+use Rattle.hotel_model.proofs.Names.{standing, is_card, has_link, opens, next_card, next_fit, fits_used_up, FitRow}
+use Rattle.hotel_model.proofs.Names.{fit_row, fits, fits_at, notes, own_room, parties_used_up, cards_used_up, accepted}
+use Rattle.hotel_model.proofs.Names.{needs, bars, answer_to, checks, effect, reported, told, moment_of, Reached}
 use Rattle.std.proofs.lemmas.Bool.{leb-false}
 use Rattle.keycard_rules.specs.declared.note.Act.TheVariants as act
 use Rattle.hotel_nights.specs.declared.stay.StayState.TheVariants as state
@@ -9,9 +16,13 @@ use Rattle.hotel_model.specs.declared.reply.Reply.TheVariants as reply
 use Rattle.hotel_model.specs.Event as event
 use Rattle.hotel_model.specs.Cases.{holds}
 use Rattle.hotel_model.proofs.{Facts.CodeFacts.CardsFit, Facts.CodeFacts.StaysFit, Facts.CodeFacts.CodesFit}
-use Rattle.hotel_model.proofs.{Invariants.Following.AllPass, Invariants.Following.passed_all, OfTables.Counting.counts_more, OfTables.CodeLists.length_more}
-use Rattle.hotel_model.proofs.{Invariants.Numbering.cards_count, Invariants.Numbering.stays_count, Invariants.Numbering.same_length, Invariants.FitsKept.fits_installed, Invariants.FitsKept.fits_refitted}
-use Rattle.hotel_model.proofs.{OfTables.Grown.may_follow, Starts.StartNumbers.cards_fit_at_start, Starts.StartNumbers.stays_fit_at_start, Starts.StartLedger.codes_fit_at_start}
+use Rattle.hotel_model.proofs.{Invariants.Following.AllPass, Invariants.Following.passed_all}
+use Rattle.hotel_model.proofs.{OfTables.Counting.counts_more, OfTables.CodeLists.length_more}
+use Rattle.hotel_model.proofs.{Invariants.Numbering.cards_count, Invariants.Numbering.stays_count}
+use Rattle.hotel_model.proofs.{Invariants.Numbering.same_length, Invariants.FitsKept.fits_installed}
+use Rattle.hotel_model.proofs.{Invariants.FitsKept.fits_refitted}
+use Rattle.hotel_model.proofs.{OfTables.Grown.may_follow, Starts.StartNumbers.cards_fit_at_start}
+use Rattle.hotel_model.proofs.{Starts.StartNumbers.stays_fit_at_start, Starts.StartLedger.codes_fit_at_start}
 
 -- an event that uses a number finds one left
 abbrev pub HasNumber : History → Event → Type 0

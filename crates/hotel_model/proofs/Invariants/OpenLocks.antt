@@ -1,9 +1,15 @@
 -- Which cards open a lock.
-use Rattle.std.proofs.Common.{ℕ, ◌≡◌, ◌≤◌, Bool, true, false, cond, Some, None, List, [], ◌∷◌, ◌++◌, length, ◌⊎◌, inl, inr, refl, ap, sym, ◌∙◌, subst, append_assoc, arith, length-append, ◌==◌, ◌||◌, is_some, Contains}
-use Rattle.hotel_model.proofs.Names.{Contains-append_right, Link, turn, History, issued, newest_link, held, passed, awaited, is_room, Reached, OpensOwnRoom, NewestOpens}
-use Rattle.hotel_model.proofs.{Facts.CodeFacts.IsLink, Facts.CodeFacts.IsLinkOf, OfTables.Tests.eq_from, OfTables.Tests.eq_self, OfTables.Tests.not_both, OfTables.Tests.either_way}
-use Rattle.hotel_model.proofs.{OfTables.CodeLists.cut_alike, Invariants.RoomCodes.others_have_none, Invariants.CodePlaces.same_place}
-use Rattle.hotel_model.proofs.{Invariants.RoomLinks.cards_have_links, Invariants.RoomLinks.newest_are_last, Invariants.LedgerOrder.ledger_holds}
+use Rattle.std.proofs.Common.{ℕ, ◌≡◌, ◌≤◌, Bool, true, false, cond, Some, None, List, [], ◌∷◌, ◌++◌, length, ◌⊎◌, inl}
+use Rattle.std.proofs.Common.{inr, refl, ap, sym, ◌∙◌, subst, append_assoc, arith, length-append, ◌==◌, ◌||◌, is_some}
+use Rattle.std.proofs.Common.{Contains}
+use Rattle.hotel_model.proofs.Names.{Contains-append_right, Link, turn, History, issued, newest_link, held, passed}
+use Rattle.hotel_model.proofs.Names.{awaited, is_room, Reached, OpensOwnRoom, NewestOpens}
+use Rattle.hotel_model.proofs.{Facts.CodeFacts.IsLink, Facts.CodeFacts.IsLinkOf, OfTables.Tests.eq_from}
+use Rattle.hotel_model.proofs.{OfTables.Tests.eq_self, OfTables.Tests.not_both, OfTables.Tests.either_way}
+use Rattle.hotel_model.proofs.{OfTables.CodeLists.cut_alike, Invariants.RoomCodes.others_have_none}
+use Rattle.hotel_model.proofs.{Invariants.CodePlaces.same_place}
+use Rattle.hotel_model.proofs.{Invariants.RoomLinks.cards_have_links, Invariants.RoomLinks.newest_are_last}
+use Rattle.hotel_model.proofs.{Invariants.LedgerOrder.ledger_holds}
 
 one_holds : (a b : Bool) (new : ℕ) → is_some (cond (a || b) (Some new) None) ≡ true → (a ≡ true) ⊎ (b ≡ true)
 one_holds true b new e = inl refl

@@ -1,9 +1,14 @@
 -- A room has codes exactly where it is there.
 use Rattle.std.proofs.Common.{ℕ, ◌≡◌, Bool, true, false, List, [], ◌∷◌, ◌++◌, inl, inr, refl, ap, sym, ◌∙◌, ◌==◌, ◌&&◌}
-use Rattle.hotel_model.proofs.Names.{when, and_last, without, before, after, Install, Issue, Refitted, held, Entered, Recoded, History, start, ◌▷◌, issued, passed, awaited, turns, rooms, is_room, Reached}
+use Rattle.hotel_model.proofs.Names.{when, and_last, without, before, after, Install, Issue, Refitted, held, Entered}
+use Rattle.hotel_model.proofs.Names.{Recoded, History, start, ◌▷◌, issued, passed, awaited, turns, rooms, is_room}
+use Rattle.hotel_model.proofs.Names.{Reached}
 use Rattle.hotel_model.proofs.Facts.CodeFacts.{HasCodes, RoomsHaveCodes, OthersHaveNone}
-use Rattle.hotel_model.proofs.{OfTables.Tests.eq_from, OfTables.Tests.or_true, OfTables.Tests.or_false, OfTables.Tests.not_both, OfTables.TableKeys.key_inserted}
-use Rattle.hotel_model.proofs.{Invariants.HomeRooms.comes_to_room, OfTables.Grown.may_follow, OfTables.Grown.not_here, Starts.StartLedger.rooms_have_codes_at_start, Starts.StartLedger.others_have_none_at_start}
+use Rattle.hotel_model.proofs.{OfTables.Tests.eq_from, OfTables.Tests.or_true, OfTables.Tests.or_false}
+use Rattle.hotel_model.proofs.{OfTables.Tests.not_both, OfTables.TableKeys.key_inserted}
+use Rattle.hotel_model.proofs.{Invariants.HomeRooms.comes_to_room, OfTables.Grown.may_follow, OfTables.Grown.not_here}
+use Rattle.hotel_model.proofs.{Starts.StartLedger.rooms_have_codes_at_start}
+use Rattle.hotel_model.proofs.{Starts.StartLedger.others_have_none_at_start}
 
 -- one more code at another room
 no_code_here : (b : Bool) (h : History) (code r : ℕ) → b ≡ false → issued h r ≡ [] → when b (and_last code) (issued h r) ≡ []

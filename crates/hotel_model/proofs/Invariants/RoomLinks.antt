@@ -1,10 +1,17 @@
 -- Links of cards are neighbours among a room's codes.
-use Rattle.std.proofs.Common.{ℕ, ◌≡◌, Bool, true, false, Option, Some, None, List, [], ◌∷◌, ◌++◌, inl, inr, refl, ap, sym, ◌∙◌, subst, append_assoc, ◌==◌, nat_cmp}
-use Rattle.hotel_model.proofs.Names.{insert_entry, Card, Link, when, and_last, last_of, at_number, Install, Issue, Refitted, Spare, History, start, ◌▷◌, issued, current, cards, card_of, with_spare, link_of_party, link_to, newest_link, is_room, Reached}
-use Rattle.hotel_model.proofs.Facts.CodeFacts.{IsLinkOf, IsLink, CardsHaveLinks, PartiesHaveLinks, NewestAreLast, HasCodes}
-use Rattle.hotel_model.proofs.{OfTables.Tests.eq_from, OfTables.Tests.eq_self, OfTables.TableKeys.row_inserted, OfTables.CodeLists.last_split, Invariants.HomeRooms.comes_to_room, OfTables.Grown.may_follow}
+use Rattle.std.proofs.Common.{ℕ, ◌≡◌, Bool, true, false, Option, Some, None, List, [], ◌∷◌, ◌++◌, inl, inr, refl, ap}
+use Rattle.std.proofs.Common.{sym, ◌∙◌, subst, append_assoc, ◌==◌, nat_cmp}
+use Rattle.hotel_model.proofs.Names.{insert_entry, Card, Link, when, and_last, last_of, at_number, Install, Issue}
+use Rattle.hotel_model.proofs.Names.{Refitted, Spare, History, start, ◌▷◌, issued, current, cards, card_of, with_spare}
+use Rattle.hotel_model.proofs.Names.{link_of_party, link_to, newest_link, is_room, Reached}
+use Rattle.hotel_model.proofs.Facts.CodeFacts.{IsLinkOf, IsLink, CardsHaveLinks, PartiesHaveLinks, NewestAreLast}
+use Rattle.hotel_model.proofs.Facts.CodeFacts.{HasCodes}
+use Rattle.hotel_model.proofs.{OfTables.Tests.eq_from, OfTables.Tests.eq_self, OfTables.TableKeys.row_inserted}
+use Rattle.hotel_model.proofs.{OfTables.CodeLists.last_split, Invariants.HomeRooms.comes_to_room}
+use Rattle.hotel_model.proofs.{OfTables.Grown.may_follow}
 use Rattle.hotel_model.proofs.Invariants.RoomCodes.{rooms_have_codes, others_have_none}
-use Rattle.hotel_model.proofs.Starts.StartLinks.{cards_have_links_at_start, parties_have_links_at_start, newest_are_last_at_start}
+use Rattle.hotel_model.proofs.Starts.StartLinks.{cards_have_links_at_start, parties_have_links_at_start}
+use Rattle.hotel_model.proofs.Starts.StartLinks.{newest_are_last_at_start}
 
 -- neighbours stay neighbours
 still_at : (b : Bool) (new : ℕ) (codes : List ℕ) (link : Link) → IsLinkOf codes link → IsLinkOf (when b (and_last new) codes) link

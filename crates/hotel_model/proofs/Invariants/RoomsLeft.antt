@@ -1,11 +1,18 @@
 -- On no night are more stays of a kind than rooms.
-use Rattle.std.proofs.Common.{ℕ, ◌≡◌, ◌≤◌, ◌<◌, ◌+◌, Bool, true, false, cond, Some, None, List, refl, ap, sym, ◌∙◌, subst, arith, ◌&&◌, nat_le, nat_lt, bytes_eq, count_by}
-use Rattle.hotel_model.proofs.Names.{values_of, bytes_eq-Decides, Stay, takes, is_standing, is_full, nights_taken, said_of, at_number, Install, Reserved, Cancelled, Issue, CheckOut, History, start, ◌▷◌, stays, rooms, rooms_of, nights, now_is, first_full, Reached, rows_of, stays_on, rooms_with}
+use Rattle.std.proofs.Common.{ℕ, ◌≡◌, ◌≤◌, ◌<◌, ◌+◌, Bool, true, false, cond, Some, None, List, refl, ap, sym, ◌∙◌}
+use Rattle.std.proofs.Common.{subst, arith, ◌&&◌, nat_le, nat_lt, bytes_eq, count_by}
+use Rattle.hotel_model.proofs.Names.{values_of, bytes_eq-Decides, Stay, takes, is_standing, is_full, nights_taken}
+use Rattle.hotel_model.proofs.Names.{said_of, at_number, Install, Reserved, Cancelled, Issue, CheckOut, History, start}
+use Rattle.hotel_model.proofs.Names.{◌▷◌, stays, rooms, rooms_of, nights, now_is, first_full, Reached, rows_of}
+use Rattle.hotel_model.proofs.Names.{stays_on, rooms_with}
 use Rattle.std.proofs.lemmas.Bool.{leb-false}
 use Rattle.hotel_nights.specs.declared.stay.StayState.TheVariants as state
-use Rattle.hotel_model.proofs.{OfTables.Tests.and_true, OfTables.Tests.not_both, OfTables.TableKeys.no_key, OfTables.Grown.may_follow, Invariants.Numbering.next_party_free}
-use Rattle.hotel_model.proofs.{OfTables.StayCounts.count_inserted, OfTables.StayCounts.count_changed, OfTables.StayCounts.none_passes, Starts.StartRows.rooms_of_start}
-use Rattle.hotel_model.proofs.{Facts.Follow.stays_now, OfTables.Tests.le_from, OfTables.Tests.lt_from, Invariants.KindCounts.rooms_counted}
+use Rattle.hotel_model.proofs.{OfTables.Tests.and_true, OfTables.Tests.not_both, OfTables.TableKeys.no_key}
+use Rattle.hotel_model.proofs.{OfTables.Grown.may_follow, Invariants.Numbering.next_party_free}
+use Rattle.hotel_model.proofs.{OfTables.StayCounts.count_inserted, OfTables.StayCounts.count_changed}
+use Rattle.hotel_model.proofs.{OfTables.StayCounts.none_passes, Starts.StartRows.rooms_of_start}
+use Rattle.hotel_model.proofs.{Facts.Follow.stays_now, OfTables.Tests.le_from, OfTables.Tests.lt_from}
+use Rattle.hotel_model.proofs.{Invariants.KindCounts.rooms_counted}
 
 -- on no night are more stays of a kind than rooms
 abbrev pub RoomsSuffice : History → Type 0

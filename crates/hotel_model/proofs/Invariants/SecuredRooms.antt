@@ -1,12 +1,20 @@
 -- Who is inside a secured room.
-use Rattle.std.proofs.Common.{ℕ, ◌≡◌, Bool, true, false, Option, None, Some, List, [], ◌∷◌, ◌++◌, ◌⊎◌, inl, inr, refl, ap, sym, ◌∙◌, subst, append_assoc, ◌==◌, ◌&&◌, ◌||◌, ◌+◌, length, nat_cmp}
-use Rattle.hotel_model.proofs.Names.{insert_entry, Card, Link, when, and_last, is_one_of, after, without, last_of, at_number, Moment, Install, Issue, Refitted, Spare, Entered, Left, Recoded, History, start, ◌▷◌, issued, current, cards, card_of, link_to, newest_link, link_of_party, held, passed, awaited, turns, insiders, inside, those_in, those_elsewhere, secured, are_none, rooms, is_room, Reached, SafeRoom}
+use Rattle.std.proofs.Common.{ℕ, ◌≡◌, Bool, true, false, Option, None, Some, List, [], ◌∷◌, ◌++◌, ◌⊎◌, inl, inr, refl}
+use Rattle.std.proofs.Common.{ap, sym, ◌∙◌, subst, append_assoc, ◌==◌, ◌&&◌, ◌||◌, ◌+◌, length, nat_cmp}
+use Rattle.hotel_model.proofs.Names.{insert_entry, Card, Link, when, and_last, is_one_of, after, without, last_of}
+use Rattle.hotel_model.proofs.Names.{at_number, Moment, Install, Issue, Refitted, Spare, Entered, Left, Recoded}
+use Rattle.hotel_model.proofs.Names.{History, start, ◌▷◌, issued, current, cards, card_of, link_to, newest_link}
+use Rattle.hotel_model.proofs.Names.{link_of_party, held, passed, awaited, turns, insiders, inside, those_in}
+use Rattle.hotel_model.proofs.Names.{those_elsewhere, secured, are_none, rooms, is_room, Reached, SafeRoom}
 use Rattle.hotel_model.proofs.{Facts.Follow.MayFollow, Facts.CodeFacts.SecuredRoomsFit}
 use Rattle.hotel_model.proofs.OfTables.Tests.{eq_from, eq_self, and_true, either_way, not_both}
-use Rattle.hotel_model.proofs.{OfTables.TableKeys.key_inserted, OfTables.CodeLists.last_more, OfTables.Grown.may_follow, Invariants.RoomCodes.rooms_have_codes}
-use Rattle.hotel_model.proofs.{Invariants.CodePlaces.same_place, Invariants.RoomLinks.ends_with_current, Invariants.RoomLinks.newest_are_last}
+use Rattle.hotel_model.proofs.{OfTables.TableKeys.key_inserted, OfTables.CodeLists.last_more, OfTables.Grown.may_follow}
+use Rattle.hotel_model.proofs.{Invariants.RoomCodes.rooms_have_codes}
+use Rattle.hotel_model.proofs.{Invariants.CodePlaces.same_place, Invariants.RoomLinks.ends_with_current}
+use Rattle.hotel_model.proofs.{Invariants.RoomLinks.newest_are_last}
 use Rattle.hotel_model.proofs.Invariants.LedgerOrder.{ledger_holds, link_seen, card_seen}
-use Rattle.hotel_model.proofs.{Invariants.OpenLocks.opened_by, Invariants.OpenLocks.link_of_room, Invariants.CodesFound.entered_in_order, Invariants.NewestLinks.newest_of_card}
+use Rattle.hotel_model.proofs.{Invariants.OpenLocks.opened_by, Invariants.OpenLocks.link_of_room}
+use Rattle.hotel_model.proofs.{Invariants.CodesFound.entered_in_order, Invariants.NewestLinks.newest_of_card}
 use Rattle.hotel_model.proofs.Invariants.InsideRooms.{came_in, left_out, elsewhere_in, nobody_in, one_of_these}
 use Rattle.hotel_model.proofs.Invariants.CardParties.{card_kept, card_kept_spare, cards_one_party, guests_have_cards}
 use Rattle.hotel_model.proofs.Starts.StartSecured.{secured_rooms_fit_at_start, secured_have_newest_at_start}
@@ -180,7 +188,8 @@ secured_have_newest (h ▷ Entered room fit count number link at) ok r e =
     ]
 secured_have_newest (h ▷ _) ok r e = secured_have_newest h ok.0 r e
 
--- In a secured room with a registered party the lock holds the current code, and each card inside has the newest link and is that party's.
+-- In a secured room with a registered party the lock holds the current code, and each card inside has the newest link
+-- and is that party's.
 pub safe_room : (h : History) → Reached h → SafeRoom h
 safe_room h ok r party s g =
     let was = secured_rooms_fit h ok r s in

@@ -1,6 +1,10 @@
 -- No answer of the model says that memory or the store failed.
 use Rattle.std.proofs.Common.{ℕ, ◌≡◌, Bool, true, false, Option, Some, None, List, [], ◌∷◌, refl, option_map}
-use Rattle.hotel_model.proofs.Names.{Act, draw_from, Note, Command, Reply, Refusal, KindFull, NoFreshCode, NoCard, CardDiffers, LockShut, NotInside, HeldDiffers, NotAwaited, said_of, is_one_of, Event, History, issued_codes, awaited, inside, first_full, is_card, has_link, opens, Standing, Next, standing, Outcome, accepted, needs, bars, unless, answer_to, checks, effect, reported, told, moment_of, is_failed}
+use Rattle.hotel_model.proofs.Names.{Act, draw_from, Note, Command, Reply, Refusal, KindFull, NoFreshCode, NoCard}
+use Rattle.hotel_model.proofs.Names.{CardDiffers, LockShut, NotInside, HeldDiffers, NotAwaited, said_of, is_one_of}
+use Rattle.hotel_model.proofs.Names.{Event, History, issued_codes, awaited, inside, first_full, is_card, has_link}
+use Rattle.hotel_model.proofs.Names.{opens, Standing, Next, standing, Outcome, accepted, needs, bars, unless, answer_to}
+use Rattle.hotel_model.proofs.Names.{checks, effect, reported, told, moment_of, is_failed}
 use Rattle.keycard_rules.specs.declared.note.Act.TheVariants as act
 use Rattle.hotel_model.specs.declared.command.Command.TheVariants as command
 use Rattle.hotel_model.specs.declared.reply.Reply.TheVariants as reply

@@ -1,6 +1,8 @@
 -- A run as it is computed from a source's words is a run.
-use Rattle.std.proofs.Common.{ℕ, zero, suc, ◌≡◌, ◌-◌, ◌≤◌, false, List, [], ◌∷◌, take, drop, length, refl, ap, sym, ◌∙◌, subst, arith}
-use Rattle.hotel_model.proofs.Names.{Stream, next_u64, words, past, Command, Event, History, Outcome, grown, answer_to, Ran, run_on, answered, is_failed, Steps, StepsIf, IsRun}
+use Rattle.std.proofs.Common.{ℕ, zero, suc, ◌≡◌, ◌-◌, ◌≤◌, false, List, [], ◌∷◌, take, drop, length, refl, ap, sym, ◌∙◌}
+use Rattle.std.proofs.Common.{subst, arith}
+use Rattle.hotel_model.proofs.Names.{Stream, next_u64, words, past, Command, Event, History, Outcome, grown, answer_to}
+use Rattle.hotel_model.proofs.Names.{Ran, run_on, answered, is_failed, Steps, StepsIf, IsRun}
 use Rattle.std.proofs.lemmas.List.{length-drop}
 use Rattle.hotel_model.proofs.Lifted.AnswersTell.{answers_tell}
 

@@ -1,8 +1,12 @@
 -- Every command, lifted.
-use Rattle.hotel_model.proofs.{Names.Command, Names.History, Names.Reached, Names.IsCommand, Names.Lifts, Lifted.LiftFacts.CodesFound, Lifted.LiftFound.codes_found}
+use Rattle.hotel_model.proofs.{Names.Command, Names.History, Names.Reached, Names.IsCommand, Names.Lifts}
+use Rattle.hotel_model.proofs.{Lifted.LiftFacts.CodesFound, Lifted.LiftFound.codes_found}
 use Rattle.hotel_model.specs.declared.command.Command.TheVariants as command
-use Rattle.hotel_model.proofs.Lifted.LiftEasy.{begin_lifts, add_kind_lifts, next_day_lifts, cancel_lifts, check_out_lifts, add_room_lifts, refit_lifts, reserve_lifts}
-use Rattle.hotel_model.proofs.{Lifted.LiftGuests.check_in_lifts, Lifted.LiftGuests.transfer_lifts, Lifted.LiftGuests.spare_lifts, Lifted.LiftGuests.reissue_lifts, Lifted.LiftNotes.note_lifts}
+use Rattle.hotel_model.proofs.Lifted.LiftEasy.{begin_lifts, add_kind_lifts, next_day_lifts, cancel_lifts}
+use Rattle.hotel_model.proofs.Lifted.LiftEasy.{check_out_lifts, add_room_lifts, refit_lifts, reserve_lifts}
+use Rattle.hotel_model.proofs.{Lifted.LiftGuests.check_in_lifts, Lifted.LiftGuests.transfer_lifts}
+use Rattle.hotel_model.proofs.{Lifted.LiftGuests.spare_lifts, Lifted.LiftGuests.reissue_lifts}
+use Rattle.hotel_model.proofs.{Lifted.LiftNotes.note_lifts}
 use Rattle.hotel_model.proofs.{Invariants.InHouse.homes_match, Invariants.HomeRooms.home_is_room}
 
 answers_lift_where : (h : History) (command : Command) → Reached h → CodesFound h → IsCommand command → Lifts h command

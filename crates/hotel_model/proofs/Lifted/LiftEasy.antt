@@ -1,11 +1,15 @@
 -- The commands that read no room's row, lifted.
 use Rattle.std.proofs.Common.{ℕ, ◌≡◌, Option, Some, None, List, refl, ap, ◌∙◌, ◌+◌, nat_le, length, option_map, is_some}
-use Rattle.hotel_model.proofs.Names.{draw_from, by_draw, next_fit, NoParty, NoRoom, RoomTaken, FitsUsedUp, RoomExists, KindFull, NumbersUsedUp, at_number, History, issued_codes, stays, rooms, room_row, rows_of, is_room, needs, bars, room_at, Lifts}
+use Rattle.hotel_model.proofs.Names.{draw_from, by_draw, next_fit, NoParty, NoRoom, RoomTaken, FitsUsedUp, RoomExists}
+use Rattle.hotel_model.proofs.Names.{KindFull, NumbersUsedUp, at_number, History, issued_codes, stays, rooms, room_row}
+use Rattle.hotel_model.proofs.Names.{rows_of, is_room, needs, bars, room_at, Lifts}
 use Rattle.hotel_model.specs.declared.command.Command.TheVariants as command
 use Rattle.hotel_model.specs.declared.reply.Reply.TheVariants as reply
 use Rattle.hotel_model.specs.declared.change.Change.TheVariants as change
 use Rattle.hotel_model.specs.Event as event
-use Rattle.hotel_model.proofs.{Lifted.LiftTools.lifts_by, Lifted.LiftTools.alike, Lifted.LiftTools.needed, Lifted.LiftTools.draw_lifts, Lifted.LiftRooms.fit_said, Lifted.LiftRooms.taken_said, OfTables.Numbered.is_there, Invariants.KindCounts.full_night_counted}
+use Rattle.hotel_model.proofs.{Lifted.LiftTools.lifts_by, Lifted.LiftTools.alike, Lifted.LiftTools.needed}
+use Rattle.hotel_model.proofs.{Lifted.LiftTools.draw_lifts, Lifted.LiftRooms.fit_said, Lifted.LiftRooms.taken_said}
+use Rattle.hotel_model.proofs.{OfTables.Numbered.is_there, Invariants.KindCounts.full_night_counted}
 use Rattle.hotel_model.proofs.{Lifted.LiftRooms.last_number, OfTables.RoomNumbers.room_found}
 
 pub begin_lifts : (h : History) (day : ℕ) → Lifts h (command.Begin day)

@@ -1,6 +1,8 @@
 -- What the lifts of commands need: what look-ups of codes find in the rows of a history.
 use Rattle.std.proofs.Common.{ℕ, ◌≡◌, ◌+◌, ◌-◌, ◌==◌, true, Some, length}
-use Rattle.hotel_model.proofs.Names.{Link, is_one_of, Moment, Entered, Recoded, History, ◌▷◌, issued, current, link_of_party, registered, held, passed, awaited, rows_of, is_room, room_of, is_card, has_link, opens, code_at, place_on, is_awaited_on, home_link_on}
+use Rattle.hotel_model.proofs.Names.{Link, is_one_of, Moment, Entered, Recoded, History, ◌▷◌, issued, current}
+use Rattle.hotel_model.proofs.Names.{link_of_party, registered, held, passed, awaited, rows_of, is_room, room_of}
+use Rattle.hotel_model.proofs.Names.{is_card, has_link, opens, code_at, place_on, is_awaited_on, home_link_on}
 use Rattle.hotel_model.specs.Cases.{holds}
 
 -- the code that a room's lock holds stands after those that it passed

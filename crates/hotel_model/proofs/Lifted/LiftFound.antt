@@ -1,6 +1,7 @@
 -- Look-ups of codes find what the lifts of commands need.
 use Rattle.std.proofs.Common.{◌+◌, false, Option, refl, ap, sym, ◌∙◌, length, ◌==◌, ◌&&◌, nat_lt}
-use Rattle.hotel_model.proofs.Names.{CodeRow, said_of, at_number, Moment, History, issued, all_issued, notes_of, present_fit, Reached}
+use Rattle.hotel_model.proofs.Names.{CodeRow, said_of, at_number, Moment, History, issued, all_issued, notes_of}
+use Rattle.hotel_model.proofs.Names.{present_fit, Reached}
 use Rattle.hotel_model.proofs.Invariants.CodesFound as found
 use Rattle.hotel_model.proofs.Lifted.LiftFacts.{CodesFound, AwaitedFound, EnteredPlace, EnteredCurrent, RecodedPlace}
 use Rattle.hotel_model.proofs.{Invariants.LiftHomes.home_link_found, Lifted.LiftRooms.place_said}

@@ -1,14 +1,21 @@
 -- The commands by which a party comes to a room, lifted.
 use Rattle.std.proofs.Common.{ℕ, ◌≡◌, true, false, Option, Some, None, refl, ap, sym, ◌∙◌, length, is_some}
-use Rattle.hotel_model.proofs.Names.{said_of, draw_from, Draw, Link, Change, NoRoom, NoParty, NotBooked, NotInHouse, WrongKind, SameRoom, RoomTaken, NumbersUsedUp, History, issued_codes, card_of, cards, link_to, stays, rows_of, is_room, is_booked, is_in_house, is_taken, next_card, own_room, room_of, other_than, last_card_of, no_link, Outcome, needs, bars, accepted, by_draw, link_on, home_link_on, Lifts}
+use Rattle.hotel_model.proofs.Names.{said_of, draw_from, Draw, Link, Change, NoRoom, NoParty, NotBooked, NotInHouse}
+use Rattle.hotel_model.proofs.Names.{WrongKind, SameRoom, RoomTaken, NumbersUsedUp, History, issued_codes, card_of}
+use Rattle.hotel_model.proofs.Names.{cards, link_to, stays, rows_of, is_room, is_booked, is_in_house, is_taken}
+use Rattle.hotel_model.proofs.Names.{next_card, own_room, room_of, other_than, last_card_of, no_link, Outcome, needs}
+use Rattle.hotel_model.proofs.Names.{bars, accepted, by_draw, link_on, home_link_on, Lifts}
 use Rattle.hotel_model.specs.declared.change.Change.TheVariants as change
 use Rattle.hotel_model.specs.declared.command.Command.TheVariants as command
 use Rattle.hotel_model.specs.declared.reply.Reply.TheVariants as reply
 use Rattle.hotel_model.specs.Event as event
-use Rattle.hotel_model.proofs.{OfTables.Numbered.is_there, Lifted.LiftTools.lifts_by, Lifted.LiftTools.alike, Lifted.LiftTools.draw_lifts, Lifted.LiftTools.needed, Lifted.LiftEasy.room_is_there}
+use Rattle.hotel_model.proofs.{OfTables.Numbered.is_there, Lifted.LiftTools.lifts_by, Lifted.LiftTools.alike}
+use Rattle.hotel_model.proofs.{Lifted.LiftTools.draw_lifts, Lifted.LiftTools.needed, Lifted.LiftEasy.room_is_there}
 use Rattle.hotel_model.proofs.Lifted.LiftRooms.{last_number, taken_said, home_said, kind_said, link_said}
 use Rattle.hotel_model.proofs.Lifted.LiftFacts.{CurrentFound, HomeLink, AtHome}
-use Rattle.hotel_model.proofs.{Invariants.Following.barred, Invariants.Following.some_number, Invariants.Homes.itself_leaves, Invariants.Homes.not_leaving, Invariants.InHouse.booked_nowhere}
+use Rattle.hotel_model.proofs.{Invariants.Following.barred, Invariants.Following.some_number}
+use Rattle.hotel_model.proofs.{Invariants.Homes.itself_leaves, Invariants.Homes.not_leaving}
+use Rattle.hotel_model.proofs.{Invariants.InHouse.booked_nowhere}
 
 -- a card of a new code, and the change that makes it, where the link of each code is this
 abbrev issue_by : History → ℕ → ℕ → Option ℕ → Draw → (ℕ → Link) → Outcome Change

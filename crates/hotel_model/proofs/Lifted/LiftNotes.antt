@@ -1,17 +1,28 @@
 -- A note of a lock, lifted.
-use Rattle.std.proofs.Common.{ℕ, ◌≡◌, ◌+◌, ◌≤◌, Bool, true, false, cond, Option, Some, None, [], ◌∷◌, refl, ap, sym, ◌∙◌, length, ◌==◌, ◌&&◌, ◌-◌, nat_le, arith, is_some}
-use Rattle.hotel_model.proofs.Names.{Link, Act, Note, turn, NoRoom, NoCard, CardDiffers, LockShut, NotInside, HeldDiffers, NotAwaited, Conflict, Gap, OldFit, NoFit, when, said_of, is_one_of, History, ◌▷◌, current, cards, held, awaited, inside, secured, are_none, Copy, Conflicting, Next, After, notes, notes_of, notes_before, present_fit, same_note, rows_of, is_room, is_card, has_link, opens, card_at, note_at, inside_at, needs, accepted, said, refused, told, reported, moment_of, comes, told_on, untaken_on, reported_on, held_on, said_code_at, place_on, lock_place_on, secured_on, secured_after_on, is_awaited_on, has_link_on, Reached, Lifts, as_change}
+use Rattle.std.proofs.Common.{ℕ, ◌≡◌, ◌+◌, ◌≤◌, Bool, true, false, cond, Option, Some, None, [], ◌∷◌, refl, ap, sym}
+use Rattle.std.proofs.Common.{◌∙◌, length, ◌==◌, ◌&&◌, ◌-◌, nat_le, arith, is_some}
+use Rattle.hotel_model.proofs.Names.{Link, Act, Note, turn, NoRoom, NoCard, CardDiffers, LockShut, NotInside}
+use Rattle.hotel_model.proofs.Names.{HeldDiffers, NotAwaited, Conflict, Gap, OldFit, NoFit, when, said_of, is_one_of}
+use Rattle.hotel_model.proofs.Names.{History, ◌▷◌, current, cards, held, awaited, inside, secured, are_none, Copy}
+use Rattle.hotel_model.proofs.Names.{Conflicting, Next, After, notes, notes_of, notes_before, present_fit, same_note}
+use Rattle.hotel_model.proofs.Names.{rows_of, is_room, is_card, has_link, opens, card_at, note_at, inside_at, needs}
+use Rattle.hotel_model.proofs.Names.{accepted, said, refused, told, reported, moment_of, comes, told_on, untaken_on}
+use Rattle.hotel_model.proofs.Names.{reported_on, held_on, said_code_at, place_on, lock_place_on, secured_on}
+use Rattle.hotel_model.proofs.Names.{secured_after_on, is_awaited_on, has_link_on, Reached, Lifts, as_change}
 use Rattle.keycard_rules.specs.declared.note.Act.TheVariants as act
-use Rattle.hotel_model.specs.{declared.change.InsideMove.InsideMove, declared.change.InsideMove.TheVariants.Same, declared.change.InsideMove.TheVariants.Goes}
+use Rattle.hotel_model.specs.{declared.change.InsideMove.InsideMove, declared.change.InsideMove.TheVariants.Same}
+use Rattle.hotel_model.specs.{declared.change.InsideMove.TheVariants.Goes}
 use Rattle.hotel_model.specs.declared.change.Change.TheVariants as change
 use Rattle.hotel_model.specs.declared.command.Command.TheVariants as command
 use Rattle.hotel_model.specs.declared.reply.Reply.TheVariants as reply
 use Rattle.hotel_model.specs.Event as event
 use Rattle.hotel_model.specs.Cases.{holds}
-use Rattle.hotel_model.proofs.{Lifted.LiftFacts.CodesFound, OfTables.Tests.eq_self, OfTables.Numbered.is_there, OfTables.RoomNumbers.room_there}
+use Rattle.hotel_model.proofs.{Lifted.LiftFacts.CodesFound, OfTables.Tests.eq_self, OfTables.Numbered.is_there}
+use Rattle.hotel_model.proofs.{OfTables.RoomNumbers.room_there}
 use Rattle.hotel_model.proofs.Lifted.NotesFound.{standing_on, standing_by_lookup}
 use Rattle.hotel_model.proofs.{Invariants.NotesOfFits.notes_for, OfTables.Tests.eq_from}
-use Rattle.hotel_model.proofs.{Lifted.LiftTools.lifts_by, Lifted.LiftTools.alike, Lifted.LiftTools.same_unless, Lifted.LiftTools.after_checks, Lifted.LiftTools.needed, Lifted.LiftEasy.room_is_there}
+use Rattle.hotel_model.proofs.{Lifted.LiftTools.lifts_by, Lifted.LiftTools.alike, Lifted.LiftTools.same_unless}
+use Rattle.hotel_model.proofs.{Lifted.LiftTools.after_checks, Lifted.LiftTools.needed, Lifted.LiftEasy.room_is_there}
 use Rattle.hotel_model.proofs.Lifted.LiftRooms.{codes_said, place_said, secured_said, fit_said}
 
 -- the code that the row of a room says its lock holds

@@ -1,7 +1,12 @@
 -- What a room's row says, and the next numbers.
-use Rattle.std.proofs.Common.{ℕ, ◌≡◌, ◌+◌, ◌-◌, Bool, true, false, cond, Option, Some, None, List, refl, ap, sym, ◌∙◌, arith, length, option_map, is_none, is_some, nat_lt, nat_le, bytes_eq}
-use Rattle.hotel_model.proofs.Names.{nat_tests, Stay, said_of, is_that, at_number, History, issued, link_to, passed, secured, stays, rooms, room_row, rows_of, is_room, is_of_kind, is_taken, is_home, number_after, codes_of, room_is_on, kinds_agree_on, lock_place_on, secured_on, present_fit, present_fit_on, said_code_at, link_on}
-use Rattle.hotel_model.proofs.{OfTables.RoomNumbers.room_found, OfTables.RoomNumbers.room_there, Lifted.LiftFacts.CurrentFound}
+use Rattle.std.proofs.Common.{ℕ, ◌≡◌, ◌+◌, ◌-◌, Bool, true, false, cond, Option, Some, None, List, refl, ap, sym, ◌∙◌}
+use Rattle.std.proofs.Common.{arith, length, option_map, is_none, is_some, nat_lt, nat_le, bytes_eq}
+use Rattle.hotel_model.proofs.Names.{nat_tests, Stay, said_of, is_that, at_number, History, issued, link_to, passed}
+use Rattle.hotel_model.proofs.Names.{secured, stays, rooms, room_row, rows_of, is_room, is_of_kind, is_taken, is_home}
+use Rattle.hotel_model.proofs.Names.{number_after, codes_of, room_is_on, kinds_agree_on, lock_place_on, secured_on}
+use Rattle.hotel_model.proofs.Names.{present_fit, present_fit_on, said_code_at, link_on}
+use Rattle.hotel_model.proofs.{OfTables.RoomNumbers.room_found, OfTables.RoomNumbers.room_there}
+use Rattle.hotel_model.proofs.{Lifted.LiftFacts.CurrentFound}
 
 none_after : (b c : Bool) (n : ℕ) → (b ≡ true → c ≡ false) → (b ≡ false → c ≡ true) → is_none (cond b (Some n) None) ≡ c
 none_after true c n f g = sym (f refl)

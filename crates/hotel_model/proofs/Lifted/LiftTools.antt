@@ -1,6 +1,8 @@
 -- Outcomes compared check by check, each where those before it passed.
 use Rattle.std.proofs.Common.{ℕ, ◌≡◌, Bool, true, false, Option, Some, None, List, [], ◌∷◌, refl, ap, ◌∙◌, option_map}
-use Rattle.hotel_model.proofs.Names.{Draw, Command, Reply, Refusal, Event, History, rows_of, Outcome, needs, unless, by_draw, answer_to, checks, effect, change_of, outcome_on, checks_on, effect_on, as_change}
+use Rattle.hotel_model.proofs.Names.{Draw, Command, Reply, Refusal, Event, History, rows_of, Outcome, needs, unless}
+use Rattle.hotel_model.proofs.Names.{by_draw, answer_to, checks, effect, change_of, outcome_on, checks_on, effect_on}
+use Rattle.hotel_model.proofs.Names.{as_change}
 
 -- Each check is as the other list's, where those before it passed, and so is what comes after them.
 abbrev pub Alike : {X : Type 0} → List (Option Refusal) → List (Option Refusal) → Outcome X → Outcome X → Type 0

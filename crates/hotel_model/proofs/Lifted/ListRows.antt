@@ -1,11 +1,20 @@
 -- The rows of the lists, on the rows of a history and on the history itself.
-use Rattle.std.proofs.Common.{ℕ, zero, suc, ◌≡◌, ◌≤◌, ◌<◌, ◌+◌, Bool, true, false, Option, Some, None, List, [], ◌∷◌, ◌++◌, length, map, refl, ap, sym, ◌∙◌, arith, append_assoc, append-nil, length-append, ◌==◌, ◌||◌, filter_map, option_map, nat_lt, nat_le, if◌then◌else◌}
-use Rattle.hotel_model.proofs.Names.{range_with_len, cons_option, keys_of, values_of, nat_tests, filter_map-append, RoomRow, is_one_of, said_of, at_number, History, room_row, rows_of, issued, current, held, passed, awaited, registered, rooms, stays, is_room, Reached, housed, house_row_on, in_house_on, state_at, chain_row_on, chain_on, awaited_on, behind_row_on, left_behind_on}
-use Rattle.hotel_model.specs.{declared.list_rows.BehindRow.BehindRow, declared.list_rows.CodeState.CodeState, Refinement.ListsLift.ListsLift}
+use Rattle.std.proofs.Common.{ℕ, zero, suc, ◌≡◌, ◌≤◌, ◌<◌, ◌+◌, Bool, true, false, Option, Some, None, List, [], ◌∷◌}
+use Rattle.std.proofs.Common.{◌++◌, length, map, refl, ap, sym, ◌∙◌, arith, append_assoc, append-nil, length-append}
+use Rattle.std.proofs.Common.{◌==◌, ◌||◌, filter_map, option_map, nat_lt, nat_le, if◌then◌else◌}
+use Rattle.hotel_model.proofs.Names.{range_with_len, cons_option, keys_of, values_of, nat_tests, filter_map-append}
+use Rattle.hotel_model.proofs.Names.{RoomRow, is_one_of, said_of, at_number, History, room_row, rows_of, issued}
+use Rattle.hotel_model.proofs.Names.{current, held, passed, awaited, registered, rooms, stays, is_room, Reached, housed}
+use Rattle.hotel_model.proofs.Names.{house_row_on, in_house_on, state_at, chain_row_on, chain_on, awaited_on}
+use Rattle.hotel_model.proofs.Names.{behind_row_on, left_behind_on}
+use Rattle.hotel_model.specs.{declared.list_rows.BehindRow.BehindRow, declared.list_rows.CodeState.CodeState}
+use Rattle.hotel_model.specs.{Refinement.ListsLift.ListsLift}
 use Rattle.hotel_model.specs.declared.list_rows.CodeState.TheVariants.{Passed, Held, Awaited}
 use Rattle.hotel_model.specs.Lists.{house_row, house_row_of, in_house, in_places, chain, behind_row, left_behind}
-use Rattle.hotel_model.proofs.{OfTables.Tests.eq_self, OfTables.RoomNumbers.room_there, Invariants.LedgerOrder.ledger_holds, OfTables.CodeSearch.codes_are_found}
-use Rattle.hotel_model.proofs.{Invariants.CodesFound.held_found, Invariants.CodesFound.current_found, OfTables.NotesListed.notes_are_listed}
+use Rattle.hotel_model.proofs.{OfTables.Tests.eq_self, OfTables.RoomNumbers.room_there}
+use Rattle.hotel_model.proofs.{Invariants.LedgerOrder.ledger_holds, OfTables.CodeSearch.codes_are_found}
+use Rattle.hotel_model.proofs.{Invariants.CodesFound.held_found, Invariants.CodesFound.current_found}
+use Rattle.hotel_model.proofs.{OfTables.NotesListed.notes_are_listed}
 
 or_right : (a b : Bool) → b ≡ true → (a || b) ≡ true
 or_right true b e = refl

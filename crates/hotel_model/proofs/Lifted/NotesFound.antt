@@ -1,7 +1,12 @@
 -- A note is found by its room, its fit and its count, and its standing is read off what is found.
-use Rattle.std.proofs.Common.{ℕ, ◌≡◌, ◌≤◌, ◌+◌, ◌-◌, Bool, true, false, Option, Some, None, List, [], ◌∷◌, length, filter, drop, refl, ap, sym, ◌∙◌, ◌==◌, if◌then◌else◌}
-use Rattle.hotel_model.proofs.Names.{Note, Standing, Copy, Conflicting, OfOldFit, Next, After, History, notes_of, present_fit, same_note, standing, standing_among, rows_of, note_at, is_room, Reached}
-use Rattle.hotel_model.proofs.{OfTables.AtRoom.first_in, OfTables.NotesListed.notes_are_listed, OfTables.RoomNumbers.room_there, Starts.StartNotesOfFits.note_of_fit_found, SoundRows.AllSound.rows_sound}
+use Rattle.std.proofs.Common.{ℕ, ◌≡◌, ◌≤◌, ◌+◌, ◌-◌, Bool, true, false, Option, Some, None, List, [], ◌∷◌, length}
+use Rattle.std.proofs.Common.{filter, drop, refl, ap, sym, ◌∙◌, ◌==◌, if◌then◌else◌}
+use Rattle.hotel_model.proofs.Names.{Note, Standing, Copy, Conflicting, OfOldFit, Next, After, History, notes_of}
+use Rattle.hotel_model.proofs.Names.{present_fit, same_note, standing, standing_among, rows_of, note_at, is_room}
+use Rattle.hotel_model.proofs.Names.{Reached}
+use Rattle.hotel_model.proofs.{OfTables.AtRoom.first_in, OfTables.NotesListed.notes_are_listed}
+use Rattle.hotel_model.proofs.{OfTables.RoomNumbers.room_there, Starts.StartNotesOfFits.note_of_fit_found}
+use Rattle.hotel_model.proofs.{SoundRows.AllSound.rows_sound}
 
 -- The note of a count that is 1 or more is the one of that place among the notes of its fit.
 pub note_found : (h : History) → Reached h → (room fit count : ℕ) → is_room h room ≡ true → 1 ≤ count → note_at (rows_of h) room fit count ≡ first_in (drop (count - 1) (notes_of h room fit))

@@ -1,6 +1,7 @@
 -- A run goes on by a step over the books that it has come to.
 use Rattle.std.proofs.Common.{List, [], ◌∷◌, ◌++◌, refl}
-use Rattle.hotel_model.proofs.{Names.Stream, Names.Command, Names.Reply, Names.Rows, Names.History, Names.StandsFor, Names.Steps, Names.RunsTo, Lifted.Runs.runs_join}
+use Rattle.hotel_model.proofs.{Names.Stream, Names.Command, Names.Reply, Names.Rows, Names.History, Names.StandsFor}
+use Rattle.hotel_model.proofs.{Names.Steps, Names.RunsTo, Lifted.Runs.runs_join}
 
 pub runs_step : (h : History) (s : Stream) (commands : List Command) (replies : List Reply) (rows : Rows) (source : Stream) (command : Command) (reply : Reply) (later : Rows) (rest : Stream)
     → RunsTo h s commands replies rows source → ((mid : History) → StandsFor mid rows → (h' : History) × StandsFor h' later × Steps mid source command reply h' rest)

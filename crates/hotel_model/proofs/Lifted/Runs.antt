@@ -1,7 +1,12 @@
 -- Runs: one after the other, one command more, and that they are determined where nothing failed.
-use Rattle.std.proofs.Common.{◌≡◌, Bool, true, false, Option, Some, None, List, [], ◌∷◌, ◌++◌, refl, ap, sym, ◌∙◌, subst, All, option_map}
-use Rattle.hotel_model.proofs.Names.{All-head, All-tail, Stream, words, past, Command, Reply, Rows, Event, History, rows_of, Outcome, grown, change_of, outcome_on, made_by, GoesIf, Goes, Reached, StandsFor, answered, is_failed, StepsIf, Steps, Runs, IsCommand, IsReply, RunsTo, NoneFailed, as_change}
-use Rattle.hotel_model.proofs.{Invariants.EventRanges.step_keeps, RowsAfter.RowsFollow.made_follow, Lifted.LiftAll.answers_lift}
+use Rattle.std.proofs.Common.{◌≡◌, Bool, true, false, Option, Some, None, List, [], ◌∷◌, ◌++◌, refl, ap, sym, ◌∙◌}
+use Rattle.std.proofs.Common.{subst, All, option_map}
+use Rattle.hotel_model.proofs.Names.{All-head, All-tail, Stream, words, past, Command, Reply, Rows, Event, History}
+use Rattle.hotel_model.proofs.Names.{rows_of, Outcome, grown, change_of, outcome_on, made_by, GoesIf, Goes, Reached}
+use Rattle.hotel_model.proofs.Names.{StandsFor, answered, is_failed, StepsIf, Steps, Runs, IsCommand, IsReply, RunsTo}
+use Rattle.hotel_model.proofs.Names.{NoneFailed, as_change}
+use Rattle.hotel_model.proofs.{Invariants.EventRanges.step_keeps, RowsAfter.RowsFollow.made_follow}
+use Rattle.hotel_model.proofs.{Lifted.LiftAll.answers_lift}
 
 -- a run after a run
 pub runs_join : (h mid h' : History) (s source s' : Stream) (commands later : List Command) (replies more : List Reply) → Runs h s commands replies mid source

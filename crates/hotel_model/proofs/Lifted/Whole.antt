@@ -1,9 +1,16 @@
 -- The rows of a history are whole: what they point to is there.
-use Rattle.std.proofs.Common.{ℕ, ◌≡◌, ◌+◌, ◌-◌, ◌<◌, ◌≤◌, ◌^◌, true, Some, None, List, [], ◌∷◌, ◌++◌, ap, sym, ◌∙◌, subst, arith, length, append_assoc, is_some, IsSome}
-use Rattle.hotel_model.proofs.Names.{Card, RoomRow, Rows, at_number, History, issued, all_issued, cards, notes, notes_of, notes_before, present_fit, fits, fits_at, room_row, rows_of, is_room, room_of, room_at, code_at, note_at, codes_of, AreWhole, Reached, StandsFor}
-use Rattle.hotel_model.proofs.{OfTables.RoomNumbers.room_there, Lifted.NotesFound.note_found, Invariants.NotesOfFits.notes_for, Invariants.FitsOf.fits_of, OfTables.AtRoom.there_at, Invariants.NumbersLeft.cards_fit, Invariants.NumbersLeft.codes_fit}
-use Rattle.hotel_model.proofs.{Invariants.CodePlaces.codes_have_places, Invariants.CodesFound.held_found, Invariants.CodesFound.current_found, Invariants.CodesFound.newest_found}
-use Rattle.hotel_model.proofs.{Invariants.OpenLocks.there_by_link, Invariants.RoomLinks.cards_have_links, Lifted.LiftEasy.room_is_there, Lifted.LiftRooms.codes_said}
+use Rattle.std.proofs.Common.{ℕ, ◌≡◌, ◌+◌, ◌-◌, ◌<◌, ◌≤◌, ◌^◌, true, Some, None, List, [], ◌∷◌, ◌++◌, ap, sym, ◌∙◌}
+use Rattle.std.proofs.Common.{subst, arith, length, append_assoc, is_some, IsSome}
+use Rattle.hotel_model.proofs.Names.{Card, RoomRow, Rows, at_number, History, issued, all_issued, cards, notes}
+use Rattle.hotel_model.proofs.Names.{notes_of, notes_before, present_fit, fits, fits_at, room_row, rows_of, is_room}
+use Rattle.hotel_model.proofs.Names.{room_of, room_at, code_at, note_at, codes_of, AreWhole, Reached, StandsFor}
+use Rattle.hotel_model.proofs.{OfTables.RoomNumbers.room_there, Lifted.NotesFound.note_found}
+use Rattle.hotel_model.proofs.{Invariants.NotesOfFits.notes_for, Invariants.FitsOf.fits_of, OfTables.AtRoom.there_at}
+use Rattle.hotel_model.proofs.{Invariants.NumbersLeft.cards_fit, Invariants.NumbersLeft.codes_fit}
+use Rattle.hotel_model.proofs.{Invariants.CodePlaces.codes_have_places, Invariants.CodesFound.held_found}
+use Rattle.hotel_model.proofs.{Invariants.CodesFound.current_found, Invariants.CodesFound.newest_found}
+use Rattle.hotel_model.proofs.{Invariants.OpenLocks.there_by_link, Invariants.RoomLinks.cards_have_links}
+use Rattle.hotel_model.proofs.{Lifted.LiftEasy.room_is_there, Lifted.LiftRooms.codes_said}
 use Rattle.hotel_model.proofs.Invariants.LiftHomes.{home_has_newest}
 
 there : (h : History) (room : ℕ) (row : RoomRow) → room_at (rows_of h) room ≡ Some row → is_room h room ≡ true

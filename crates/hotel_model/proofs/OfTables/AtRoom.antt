@@ -1,8 +1,14 @@
 -- Tables by room and number: what stands at one room, in the order of the numbers.
-use Rattle.std.proofs.Common.{ℕ, zero, suc, ◌≡◌, ◌<◌, ◌+◌, Bool, true, false, cond, Option, Some, None, List, [], ◌∷◌, ◌++◌, drop, length, refl, ap, sym, ◌∙◌, subst, arith, ◌==◌, ◌&&◌, ◌||◌, not, nat_lt, nat_cmp, Ordering, Less, Equal, Greater}
-use Rattle.hotel_model.proofs.Names.{ordering_then, match_ordering, insert_entry, is_at, lookup, list_all, keys_of, nat_tests, Note, FitRow, when, and_last, pair_cmp, notes_at, fits_at, numbers_at, count_up}
-use Rattle.hotel_model.proofs.{OfTables.Tests.eq_from, OfTables.Tests.eq_self, OfTables.Tests.and_true, OfTables.Tests.not_higher, OfTables.RowTests.both}
-use Rattle.hotel_model.proofs.{OfTables.KeysInOrder.AllAfter, OfTables.KeysInOrder.InOrder, OfTables.Pairs.pair_cmp_total, OfTables.Pairs.pair_exact, OfTables.Pairs.pair_is}
+use Rattle.std.proofs.Common.{ℕ, zero, suc, ◌≡◌, ◌<◌, ◌+◌, Bool, true, false, cond, Option, Some, None, List, [], ◌∷◌}
+use Rattle.std.proofs.Common.{◌++◌, drop, length, refl, ap, sym, ◌∙◌, subst, arith, ◌==◌, ◌&&◌, ◌||◌, not, nat_lt}
+use Rattle.std.proofs.Common.{nat_cmp, Ordering, Less, Equal, Greater}
+use Rattle.hotel_model.proofs.Names.{ordering_then, match_ordering, insert_entry, is_at, lookup, list_all, keys_of}
+use Rattle.hotel_model.proofs.Names.{nat_tests, Note, FitRow, when, and_last, pair_cmp, notes_at, fits_at, numbers_at}
+use Rattle.hotel_model.proofs.Names.{count_up}
+use Rattle.hotel_model.proofs.{OfTables.Tests.eq_from, OfTables.Tests.eq_self, OfTables.Tests.and_true}
+use Rattle.hotel_model.proofs.{OfTables.Tests.not_higher, OfTables.RowTests.both}
+use Rattle.hotel_model.proofs.{OfTables.KeysInOrder.AllAfter, OfTables.KeysInOrder.InOrder}
+use Rattle.hotel_model.proofs.{OfTables.Pairs.pair_cmp_total, OfTables.Pairs.pair_exact, OfTables.Pairs.pair_is}
 
 -- what f says of the rows of a room, in the order of their keys
 abbrev pub picked : {X Y : Type 0} → ((ℕ × ℕ) × X → Y) → List ((ℕ × ℕ) × X) → ℕ → List Y

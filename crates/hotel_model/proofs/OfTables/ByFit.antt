@@ -1,5 +1,6 @@
 -- The note of a fit's count is the one after those of earlier fits.
-use Rattle.std.proofs.Common.{ℕ, zero, suc, ◌≡◌, ◌≤◌, ◌<◌, ◌+◌, Bool, true, false, cond, Some, None, List, [], ◌∷◌, drop, filter, refl, ap, sym, ◌∙◌, arith, ◌==◌, nat_lt}
+use Rattle.std.proofs.Common.{ℕ, zero, suc, ◌≡◌, ◌≤◌, ◌<◌, ◌+◌, Bool, true, false, cond, Some, None, List, [], ◌∷◌}
+use Rattle.std.proofs.Common.{drop, filter, refl, ap, sym, ◌∙◌, arith, ◌==◌, nat_lt}
 use Rattle.std.proofs.lemmas.Bool.Decides.{nat_tests}
 use Rattle.keycard_rules.specs.Note.{Note}
 use Rattle.hotel_model.specs.Words.{when}
@@ -74,6 +75,7 @@ from : (fit g c : ℕ) (notes : List Note) → FitsRise g notes → of_fit fit (
 from fit g c [] r = ap (of_fit fit) (none_in (0 + c)) ∙ sym (none_in c)
 from fit g c (note ∷ notes) r = found_by (nat_lt note.fit fit) fit g c note notes refl r (from fit note.fit c notes r.1)
 
--- Where the fits of notes don't fall, the note after those of earlier fits and c more, where it is of this fit, is the note after c of this fit.
+-- Where the fits of notes don't fall, the note after those of earlier fits and c more, where it is of this fit, is the
+-- note after c of this fit.
 pub notes_by_fit : (fit c : ℕ) (notes : List Note) → FitsRise 0 notes → of_fit fit (first_in (drop (notes_under fit notes + c) notes)) ≡ first_in (drop c (filter (λ note. note.fit == fit) notes))
 notes_by_fit fit c notes r = from fit 0 c notes r

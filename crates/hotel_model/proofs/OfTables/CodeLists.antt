@@ -1,5 +1,6 @@
 -- A code at a place of a list.
-use Rattle.std.proofs.Common.{ℕ, suc, ◌≡◌, ◌+◌, Bool, true, false, cond, List, [], ◌∷◌, ◌++◌, length, ◌⊎◌, inl, inr, refl, ap, sym, ◌∙◌, subst, take, drop, arith, ◌==◌, not}
+use Rattle.std.proofs.Common.{ℕ, suc, ◌≡◌, ◌+◌, Bool, true, false, cond, List, [], ◌∷◌, ◌++◌, length, ◌⊎◌, inl, inr}
+use Rattle.std.proofs.Common.{refl, ap, sym, ◌∙◌, subst, take, drop, arith, ◌==◌, not}
 use Rattle.hotel_model.proofs.Names.{position_or_len, false≢true, is_one_of, before, after, without, last_of}
 use Rattle.hotel_model.proofs.OfTables.Tests.{eq_from, eq_self, or_second}
 

@@ -1,9 +1,16 @@
 -- What a search for a place among the codes finds.
-use Rattle.std.proofs.Common.{ℕ, ◌≡◌, ◌+◌, ◌≤◌, Bool, true, false, cond, Option, Some, None, List, [], ◌∷◌, ◌++◌, length, inl, inr, refl, ap, sym, ◌∙◌, arith, ◌==◌, ◌&&◌, nat_cmp, is_eq, Ordering, Less, Equal, Greater}
-use Rattle.hotel_model.proofs.Names.{match_ordering, is_at, insert_entry, CodeRow, when, and_last, at_number, first_code_at, Install, Issue, Refitted, History, start, ◌▷◌, issued, all_issued, Reached}
-use Rattle.hotel_model.proofs.{Facts.CodeFacts.CodesAreFound, OfTables.Tests.eq_from, OfTables.Tests.eq_self, OfTables.Tests.and_true, OfTables.Tests.not_both}
-use Rattle.hotel_model.proofs.{OfTables.TableKeys.swap_tests, OfTables.CodeLists.snoc_split, OfTables.CodeLists.length_more}
-use Rattle.hotel_model.proofs.{Invariants.CodePlaces.next_place, Invariants.CodePlaces.fresh_has_no_row, OfTables.Grown.may_follow}
+use Rattle.std.proofs.Common.{ℕ, ◌≡◌, ◌+◌, ◌≤◌, Bool, true, false, cond, Option, Some, None, List, [], ◌∷◌, ◌++◌}
+use Rattle.std.proofs.Common.{length, inl, inr, refl, ap, sym, ◌∙◌, arith, ◌==◌, ◌&&◌, nat_cmp, is_eq, Ordering, Less}
+use Rattle.std.proofs.Common.{Equal, Greater}
+use Rattle.hotel_model.proofs.Names.{match_ordering, is_at, insert_entry, CodeRow, when, and_last, at_number}
+use Rattle.hotel_model.proofs.Names.{first_code_at, Install, Issue, Refitted, History, start, ◌▷◌, issued, all_issued}
+use Rattle.hotel_model.proofs.Names.{Reached}
+use Rattle.hotel_model.proofs.{Facts.CodeFacts.CodesAreFound, OfTables.Tests.eq_from, OfTables.Tests.eq_self}
+use Rattle.hotel_model.proofs.{OfTables.Tests.and_true, OfTables.Tests.not_both}
+use Rattle.hotel_model.proofs.{OfTables.TableKeys.swap_tests, OfTables.CodeLists.snoc_split}
+use Rattle.hotel_model.proofs.{OfTables.CodeLists.length_more}
+use Rattle.hotel_model.proofs.{Invariants.CodePlaces.next_place, Invariants.CodePlaces.fresh_has_no_row}
+use Rattle.hotel_model.proofs.{OfTables.Grown.may_follow}
 use Rattle.hotel_model.proofs.Starts.StartSearch.{free_at_start, found_at_start}
 
 abbrev pub is_here : CodeRow → ℕ → ℕ → Bool

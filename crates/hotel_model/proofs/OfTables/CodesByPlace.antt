@@ -1,11 +1,20 @@
 -- The table of codes has each room's codes at the places 0 and on, in the order of issue.
-use Rattle.std.proofs.Common.{ℕ, ◌≡◌, ◌<◌, ◌+◌, Bool, true, false, cond, Some, None, List, [], ◌∷◌, ◌++◌, length, refl, ap, sym, ◌∙◌, subst, arith, length-append, ◌==◌, ◌&&◌, not, nat_cmp, Ordering, Less, Equal, Greater, count_by}
-use Rattle.hotel_model.proofs.Names.{match_ordering, is_at, insert_entry, list_all, keys_of, values_of, nat_tests, nat_cmp_total, exact_unsigned, CodeRow, when, and_last, at_number, codes_by_place, Install, Issue, Refitted, History, start, ◌▷◌, issued, all_issued, Reached, count_up}
-use Rattle.hotel_model.proofs.{OfTables.Tests.eq_from, OfTables.Tests.eq_self, OfTables.Tests.and_true, OfTables.TableKeys.is_at_self, OfTables.Grown.may_follow}
-use Rattle.hotel_model.proofs.{OfTables.Counting.comes_last, OfTables.Counting.counts_on, OfTables.CodeLists.length_more}
+use Rattle.std.proofs.Common.{ℕ, ◌≡◌, ◌<◌, ◌+◌, Bool, true, false, cond, Some, None, List, [], ◌∷◌, ◌++◌, length, refl}
+use Rattle.std.proofs.Common.{ap, sym, ◌∙◌, subst, arith, length-append, ◌==◌, ◌&&◌, not, nat_cmp, Ordering, Less}
+use Rattle.std.proofs.Common.{Equal, Greater, count_by}
+use Rattle.hotel_model.proofs.Names.{match_ordering, is_at, insert_entry, list_all, keys_of, values_of, nat_tests}
+use Rattle.hotel_model.proofs.Names.{nat_cmp_total, exact_unsigned, CodeRow, when, and_last, at_number, codes_by_place}
+use Rattle.hotel_model.proofs.Names.{Install, Issue, Refitted, History, start, ◌▷◌, issued, all_issued, Reached}
+use Rattle.hotel_model.proofs.Names.{count_up}
+use Rattle.hotel_model.proofs.{OfTables.Tests.eq_from, OfTables.Tests.eq_self, OfTables.Tests.and_true}
+use Rattle.hotel_model.proofs.{OfTables.TableKeys.is_at_self, OfTables.Grown.may_follow}
+use Rattle.hotel_model.proofs.{OfTables.Counting.comes_last, OfTables.Counting.counts_on}
+use Rattle.hotel_model.proofs.{OfTables.CodeLists.length_more}
 use Rattle.hotel_model.proofs.Invariants.CodePlaces.{places_have_codes, fresh_has_no_row, next_place}
-use Rattle.hotel_model.proofs.{OfTables.KeysInOrder.InOrder, OfTables.KeysInOrder.in_order_inserted, OfTables.KeysInOrder.keys_inserted, OfTables.SameTables.added_in_any_order}
-use Rattle.hotel_model.proofs.{OfTables.RowTests.all_found, SoundRows.SoundKeys.codes_in_order, OfTables.StayCounts.count_inserted}
+use Rattle.hotel_model.proofs.{OfTables.KeysInOrder.InOrder, OfTables.KeysInOrder.in_order_inserted}
+use Rattle.hotel_model.proofs.{OfTables.KeysInOrder.keys_inserted, OfTables.SameTables.added_in_any_order}
+use Rattle.hotel_model.proofs.{OfTables.RowTests.all_found, SoundRows.SoundKeys.codes_in_order}
+use Rattle.hotel_model.proofs.{OfTables.StayCounts.count_inserted}
 use Rattle.hotel_model.proofs.Starts.StartCodes.{places_count_up, listed_at_start}
 
 -- the row isn't at this place of the room

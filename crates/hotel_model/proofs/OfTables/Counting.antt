@@ -1,7 +1,9 @@
 -- Tables whose numbers are 1, 2 and so on.
-use Rattle.std.proofs.Common.{ℕ, ◌≡◌, ◌≤◌, ◌<◌, ◌+◌, Bool, true, false, None, List, [], ◌∷◌, ◌++◌, length, ◌⊎◌, inl, inr, refl, ap, ◌∙◌, arith, ◌==◌, ◌&&◌, ◌||◌, nat_cmp, Greater}
+use Rattle.std.proofs.Common.{ℕ, ◌≡◌, ◌≤◌, ◌<◌, ◌+◌, Bool, true, false, None, List, [], ◌∷◌, ◌++◌, length, ◌⊎◌, inl}
+use Rattle.std.proofs.Common.{inr, refl, ap, ◌∙◌, arith, ◌==◌, ◌&&◌, ◌||◌, nat_cmp, Greater}
 use Rattle.hotel_model.proofs.Names.{match_ordering, insert_entry, keys_of, nat_tests, is_one_of, at_number, count_up}
-use Rattle.hotel_model.proofs.{OfTables.Tests.eq_from, OfTables.Tests.eq_self, OfTables.Tests.and_true, OfTables.TableKeys.no_key}
+use Rattle.hotel_model.proofs.{OfTables.Tests.eq_from, OfTables.Tests.eq_self, OfTables.Tests.and_true}
+use Rattle.hotel_model.proofs.{OfTables.TableKeys.no_key}
 
 pub greater_is : (k n : ℕ) → n < k → nat_cmp k n ≡ Greater
 greater_is k n lt = grind (arith, nat_tests)

@@ -1,6 +1,9 @@
 -- The fits of one room, as a list: what holds of them, and of one more.
-use Rattle.std.proofs.Common.{ℕ, suc, ◌≡◌, ◌≤◌, ◌<◌, ◌+◌, ◌-◌, true, false, Option, Some, List, [], ◌∷◌, ◌++◌, drop, map, length, refl, ap, sym, ◌∙◌, arith, length-append, filter, ◌==◌, ◌||◌, nat_le, nat_cmp, is_lt}
-use Rattle.hotel_model.proofs.Names.{nat_tests, list_all, list_any, Note, FitRow, fit_row, last_fit, count_up, are_in_order, first_is_first, none_fall, notes_before_each, rise_by_few}
+use Rattle.std.proofs.Common.{ℕ, suc, ◌≡◌, ◌≤◌, ◌<◌, ◌+◌, ◌-◌, true, false, Option, Some, List, [], ◌∷◌, ◌++◌, drop}
+use Rattle.std.proofs.Common.{map, length, refl, ap, sym, ◌∙◌, arith, length-append, filter, ◌==◌, ◌||◌, nat_le}
+use Rattle.std.proofs.Common.{nat_cmp, is_lt}
+use Rattle.hotel_model.proofs.Names.{nat_tests, list_all, list_any, Note, FitRow, fit_row, last_fit, count_up}
+use Rattle.hotel_model.proofs.Names.{are_in_order, first_is_first, none_fall, notes_before_each, rise_by_few}
 use Rattle.hotel_model.proofs.OfTables.Tests.{le_from, le_tested, not_higher, and_true}
 use Rattle.hotel_model.proofs.{OfTables.RowTests.both, OfTables.AtRoom.first_in, OfTables.AtRoom.counts_next}
 
@@ -58,7 +61,8 @@ first_more : (fs : List FitRow) (x : FitRow) → 1 ≤ length fs → first_is_fi
 first_more [] x l e = absurd (omega arith)
 first_more (a ∷ fs) x l e = e
 
--- What holds of the fits of a room: its present one is this, so many notes were taken before it, so many codes are passed, so many notes taken.
+-- What holds of the fits of a room: its present one is this, so many notes were taken before it, so many codes are
+-- passed, so many notes taken.
 pub record FitsFor (fs : List FitRow) (present before passed taken : ℕ) : Type 0 where
   pub numbers : count_up 1 (map (λ (f : FitRow). f.fit) fs) ≡ true
   pub many : length fs ≡ present

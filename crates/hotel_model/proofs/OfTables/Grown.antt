@@ -1,6 +1,7 @@
 -- How what is read off a history changes with one more event.
 use Rattle.std.proofs.Common.{ℕ, ◌≡◌, Bool, true, false, refl, sym, ap, ◌∙◌}
-use Rattle.hotel_model.proofs.{Names.Event, Names.History, Names.◌▷◌, Names.is_room, Names.Reached, Facts.Follow.MayFollow, Invariants.Following.answers_follow}
+use Rattle.hotel_model.proofs.{Names.Event, Names.History, Names.◌▷◌, Names.is_room, Names.Reached}
+use Rattle.hotel_model.proofs.{Facts.Follow.MayFollow, Invariants.Following.answers_follow}
 use Rattle.hotel_model.proofs.OfTables.Tests.{not_both}
 
 -- what the last event needed

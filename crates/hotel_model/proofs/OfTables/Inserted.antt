@@ -1,5 +1,6 @@
 -- What a look-up finds in a table, in the order of its keys, after a row was added.
-use Rattle.std.proofs.Common.{◌≡◌, Bool, true, false, cond, Option, Some, List, [], ◌∷◌, refl, ap, sym, ◌∙◌, is_eq, Ordering, Less, Equal, Greater}
+use Rattle.std.proofs.Common.{◌≡◌, Bool, true, false, cond, Option, Some, List, [], ◌∷◌, refl, ap, sym, ◌∙◌, is_eq}
+use Rattle.std.proofs.Common.{Ordering, Less, Equal, Greater}
 use Rattle.hotel_model.proofs.Names.{match_ordering, IsTotalOrder, is_at, insert_entry, lookup, alike_right}
 use Rattle.hotel_model.proofs.OfTables.Tests.{equal_tested}
 

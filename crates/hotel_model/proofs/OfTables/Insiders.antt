@@ -1,8 +1,10 @@
 -- The cards inside rooms: they stand in order, and being inside is standing in the list.
 use Rattle.std.proofs.Common.{ℕ, ◌≡◌, Bool, true, false, List, [], ◌∷◌, refl, ap, sym, ◌∙◌, ◌==◌, ◌&&◌, ◌||◌}
-use Rattle.hotel_model.proofs.Names.{insert_key, when, pair_cmp, is_one_of, Refitted, Entered, Left, History, start, ◌▷◌, insiders, inside, those_in, Reached, moved, comes}
+use Rattle.hotel_model.proofs.Names.{insert_key, when, pair_cmp, is_one_of, Refitted, Entered, Left, History, start}
+use Rattle.hotel_model.proofs.Names.{◌▷◌, insiders, inside, those_in, Reached, moved, comes}
 use Rattle.hotel_model.proofs.{OfTables.Pairs.pair_cmp_total, OfTables.Pairs.pair_is, Starts.StartCodes.orders}
-use Rattle.hotel_model.proofs.OfTables.KeysInOrder.{InOrder, has_key, in_order_inserted, in_order_removed, in_order_filtered, present_stays}
+use Rattle.hotel_model.proofs.OfTables.KeysInOrder.{InOrder, has_key, in_order_inserted, in_order_removed}
+use Rattle.hotel_model.proofs.OfTables.KeysInOrder.{in_order_filtered, present_stays}
 
 -- The cards inside rooms stand in order, none twice.
 pub insiders_in_order : (h : History) → Reached h → InOrder pair_cmp (insiders h)

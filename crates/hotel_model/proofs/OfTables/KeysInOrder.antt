@@ -1,6 +1,8 @@
 -- Keys in order: what stays in order, and that a key that is there isn't added again.
-use Rattle.std.proofs.Common.{◌≡◌, Bool, true, false, cond, List, [], ◌∷◌, filter, refl, ap, sym, ◌∙◌, ◌&&◌, ◌||◌, is_eq, is_lt, Ordering, Less, Equal, Greater}
-use Rattle.hotel_model.proofs.Names.{match_ordering, ordering_reverse, list_any, IsTotalOrder, insert_entry, is_at, remove_key, insert_key, keys_of, are_in_order}
+use Rattle.std.proofs.Common.{◌≡◌, Bool, true, false, cond, List, [], ◌∷◌, filter, refl, ap, sym, ◌∙◌, ◌&&◌, ◌||◌}
+use Rattle.std.proofs.Common.{is_eq, is_lt, Ordering, Less, Equal, Greater}
+use Rattle.hotel_model.proofs.Names.{match_ordering, ordering_reverse, list_any, IsTotalOrder, insert_entry, is_at}
+use Rattle.hotel_model.proofs.Names.{remove_key, insert_key, keys_of, are_in_order}
 
 -- each of these comes after the key
 abbrev pub AllAfter : {K : Type 0} → (K → K → Ordering) → K → List K → Type 0

@@ -1,6 +1,7 @@
 -- A note is found by its room and its number.
 use Rattle.std.proofs.Common.{ℕ, zero, suc, ◌≡◌, ◌≤◌, ◌+◌, None, List, [], ◌∷◌, length, drop, ap, sym, ◌∙◌, arith}
-use Rattle.hotel_model.proofs.Names.{is_at, lookup, count_up, pair_cmp, History, notes, all_notes, rows_of, note_numbered, Reached}
+use Rattle.hotel_model.proofs.Names.{is_at, lookup, count_up, pair_cmp, History, notes, all_notes, rows_of}
+use Rattle.hotel_model.proofs.Names.{note_numbered, Reached}
 use Rattle.hotel_model.proofs.{OfTables.NotesListed.notes_are_listed, OfTables.NotesListed.notes_numbered}
 use Rattle.hotel_model.proofs.OfTables.AtRoom.{first_in, none_in, found_at, notes_are_picked, numbers_are_picked}
 

@@ -1,9 +1,15 @@
 -- The table of notes has each room's notes in order, and their numbers are 1, 2 and so on.
-use Rattle.std.proofs.Common.{ℕ, ◌≡◌, ◌≤◌, ◌<◌, ◌+◌, Bool, true, false, Option, Some, None, List, [], ◌∷◌, ◌++◌, length, refl, ap, sym, ◌∙◌, subst, arith, length-append, ◌==◌, ◌||◌, not, nat_le, nat_lt}
-use Rattle.hotel_model.proofs.Names.{list_all, nat_tests, Note, when, and_last, notes_at, numbers_at, Event, note_of, History, start, ◌▷◌, notes, all_notes, with_note, and_note, Reached, count_up}
-use Rattle.hotel_model.proofs.{OfTables.Tests.eq_from, OfTables.Tests.eq_self, OfTables.Tests.and_true, OfTables.RowTests.both}
-use Rattle.hotel_model.proofs.OfTables.AtRoom.{is_before, picked_more, notes_are_picked, numbers_are_picked, counts_next}
-use Rattle.hotel_model.proofs.{SoundRows.RowsPass.notes_pass, SoundRows.SoundKeys.notes_in_order, Starts.StartNotes.numbers_count_at_start, Starts.StartNotes.numbers_within_at_start, Starts.StartNotes.as_many_numbers}
+use Rattle.std.proofs.Common.{ℕ, ◌≡◌, ◌≤◌, ◌<◌, ◌+◌, Bool, true, false, Option, Some, None, List, [], ◌∷◌, ◌++◌, length}
+use Rattle.std.proofs.Common.{refl, ap, sym, ◌∙◌, subst, arith, length-append, ◌==◌, ◌||◌, not, nat_le, nat_lt}
+use Rattle.hotel_model.proofs.Names.{list_all, nat_tests, Note, when, and_last, notes_at, numbers_at, Event, note_of}
+use Rattle.hotel_model.proofs.Names.{History, start, ◌▷◌, notes, all_notes, with_note, and_note, Reached, count_up}
+use Rattle.hotel_model.proofs.{OfTables.Tests.eq_from, OfTables.Tests.eq_self, OfTables.Tests.and_true}
+use Rattle.hotel_model.proofs.{OfTables.RowTests.both}
+use Rattle.hotel_model.proofs.OfTables.AtRoom.{is_before, picked_more, notes_are_picked, numbers_are_picked}
+use Rattle.hotel_model.proofs.OfTables.AtRoom.{counts_next}
+use Rattle.hotel_model.proofs.{SoundRows.RowsPass.notes_pass, SoundRows.SoundKeys.notes_in_order}
+use Rattle.hotel_model.proofs.{Starts.StartNotes.numbers_count_at_start, Starts.StartNotes.numbers_within_at_start}
+use Rattle.hotel_model.proofs.{Starts.StartNotes.as_many_numbers}
 
 notes_grow : (o : Option Note) (r : ℕ) (taken : List Note) → length taken ≤ length (with_note r o taken)
 notes_grow (Some note) r taken = by (note.room == r)

@@ -1,7 +1,10 @@
 -- Tables by number: what a look-up finds, which numbers are there, and what an added row changes.
-use Rattle.std.proofs.Common.{ℕ, ◌≡◌, Bool, true, false, cond, Option, Some, List, [], ◌∷◌, refl, ap, sym, ◌∙◌, ◌==◌, is_some, map, option_map, nat_cmp}
-use Rattle.hotel_model.proofs.{Names.is_at, Names.insert_entry, Names.keys_of, Names.is_one_of, Names.at_number, Names.nat_cmp_total, OfTables.Inserted.found_inserted}
-use Rattle.hotel_model.proofs.{OfTables.TableKeys.at_is, OfTables.TableKeys.is_key, OfTables.Tests.eq_from, OfTables.Tests.not_both}
+use Rattle.std.proofs.Common.{ℕ, ◌≡◌, Bool, true, false, cond, Option, Some, List, [], ◌∷◌, refl, ap, sym, ◌∙◌, ◌==◌}
+use Rattle.std.proofs.Common.{is_some, map, option_map, nat_cmp}
+use Rattle.hotel_model.proofs.{Names.is_at, Names.insert_entry, Names.keys_of, Names.is_one_of, Names.at_number}
+use Rattle.hotel_model.proofs.{Names.nat_cmp_total, OfTables.Inserted.found_inserted}
+use Rattle.hotel_model.proofs.{OfTables.TableKeys.at_is, OfTables.TableKeys.is_key, OfTables.Tests.eq_from}
+use Rattle.hotel_model.proofs.{OfTables.Tests.not_both}
 
 -- a test that holds and fails
 pub true_is_not_false : {b : Bool} → b ≡ true → b ≡ false → ⊥

@@ -1,6 +1,7 @@
 -- Pairs of numbers as keys.
 use Rattle.std.proofs.Common.{ℕ, ◌≡◌, true, refl, ap, ◌∙◌, ◌==◌, ◌&&◌, is_eq, nat_cmp, Ordering, Less, Equal, Greater}
-use Rattle.hotel_model.proofs.Names.{ordering_then, IsTotalOrder, nat_cmp_total, on_total, then_total, exact_unsigned, pair_cmp}
+use Rattle.hotel_model.proofs.Names.{ordering_then, IsTotalOrder, nat_cmp_total, on_total, then_total, exact_unsigned}
+use Rattle.hotel_model.proofs.Names.{pair_cmp}
 use Rattle.hotel_model.proofs.{OfTables.Tests.equal_tested, OfTables.TableKeys.at_is}
 
 pub pair_cmp_total : IsTotalOrder pair_cmp

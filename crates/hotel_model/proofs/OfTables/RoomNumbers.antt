@@ -1,8 +1,12 @@
 -- The numbers of rooms: none stands twice, and what a look-up of a room finds.
-use Rattle.std.proofs.Common.{ℕ, ◌≡◌, true, false, Some, None, List, [], ◌∷◌, ap, ◌∙◌, ◌==◌, option_map, nat_cmp, Ordering, Less, Equal, Greater}
-use Rattle.hotel_model.proofs.Names.{match_ordering, insert_entry, keys_of, is_one_of, at_number, Install, History, start, ◌▷◌, rooms, room_row, rows_of, Reached, is_room}
-use Rattle.hotel_model.proofs.{Facts.Follow.ApartFrom, Facts.Follow.RoomsOnce, RowsAfter.RowsRooms.eq_flip, OfTables.Numbered.at_mapped, OfTables.Grown.may_follow}
-use Rattle.hotel_model.proofs.{OfTables.Tests.or_false, OfTables.TableKeys.row_of_key, OfTables.TableKeys.no_key, Starts.StartRows.rooms_once_at_start}
+use Rattle.std.proofs.Common.{ℕ, ◌≡◌, true, false, Some, None, List, [], ◌∷◌, ap, ◌∙◌, ◌==◌, option_map, nat_cmp}
+use Rattle.std.proofs.Common.{Ordering, Less, Equal, Greater}
+use Rattle.hotel_model.proofs.Names.{match_ordering, insert_entry, keys_of, is_one_of, at_number, Install, History}
+use Rattle.hotel_model.proofs.Names.{start, ◌▷◌, rooms, room_row, rows_of, Reached, is_room}
+use Rattle.hotel_model.proofs.{Facts.Follow.ApartFrom, Facts.Follow.RoomsOnce, RowsAfter.RowsRooms.eq_flip}
+use Rattle.hotel_model.proofs.{OfTables.Numbered.at_mapped, OfTables.Grown.may_follow}
+use Rattle.hotel_model.proofs.{OfTables.Tests.or_false, OfTables.TableKeys.row_of_key, OfTables.TableKeys.no_key}
+use Rattle.hotel_model.proofs.{Starts.StartRows.rooms_once_at_start}
 
 pub apart_from : (n : ℕ) (es : List (ℕ × List ℕ)) → is_one_of n (keys_of es) ≡ false → ApartFrom n es
 apart_from n [] h = tt

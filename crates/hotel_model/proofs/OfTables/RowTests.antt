@@ -1,7 +1,12 @@
 -- Tests that all rows of a table pass, or any.
-use Rattle.std.proofs.Common.{ℕ, ◌≡◌, Bool, true, false, cond, Some, List, [], ◌∷◌, ◌++◌, refl, ap, sym, ◌∙◌, ◌==◌, ◌&&◌, ◌||◌, not, map, nat_cmp, is_eq, Ordering, Less, Equal, Greater}
-use Rattle.hotel_model.proofs.Names.{match_ordering, ordering_reverse, IsTotalOrder, list_all, list_any, when, and_last, is_at, insert_entry, insert_key, lookup, keys_of, exact_unsigned, Stay, StayState, at_number, in_state, now_is}
-use Rattle.hotel_model.proofs.{OfTables.Tests.and_true, OfTables.Tests.or_false, OfTables.Tests.equal_tested, OfTables.TableKeys.same_number, OfTables.KeysInOrder.AllAfter, OfTables.KeysInOrder.InOrder, OfTables.KeysInOrder.has_key}
+use Rattle.std.proofs.Common.{ℕ, ◌≡◌, Bool, true, false, cond, Some, List, [], ◌∷◌, ◌++◌, refl, ap, sym, ◌∙◌, ◌==◌}
+use Rattle.std.proofs.Common.{◌&&◌, ◌||◌, not, map, nat_cmp, is_eq, Ordering, Less, Equal, Greater}
+use Rattle.hotel_model.proofs.Names.{match_ordering, ordering_reverse, IsTotalOrder, list_all, list_any, when, and_last}
+use Rattle.hotel_model.proofs.Names.{is_at, insert_entry, insert_key, lookup, keys_of, exact_unsigned, Stay, StayState}
+use Rattle.hotel_model.proofs.Names.{at_number, in_state, now_is}
+use Rattle.hotel_model.proofs.{OfTables.Tests.and_true, OfTables.Tests.or_false, OfTables.Tests.equal_tested}
+use Rattle.hotel_model.proofs.{OfTables.TableKeys.same_number, OfTables.KeysInOrder.AllAfter}
+use Rattle.hotel_model.proofs.{OfTables.KeysInOrder.InOrder, OfTables.KeysInOrder.has_key}
 
 pub both : (a b : Bool) → a ≡ true → b ≡ true → (a && b) ≡ true
 both a b s t = ap (λ z. z && b) s ∙ t

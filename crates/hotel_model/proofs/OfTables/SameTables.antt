@@ -1,5 +1,6 @@
 -- Tables in the order of their keys that have the same rows are the same, so rows can be added in any order.
-use Rattle.std.proofs.Common.{ℕ, ◌≡◌, Bool, true, false, cond, Option, Some, None, List, [], ◌∷◌, refl, ap, sym, ◌∙◌, subst, nat_cmp, Ordering, Less, Greater}
+use Rattle.std.proofs.Common.{ℕ, ◌≡◌, Bool, true, false, cond, Option, Some, None, List, [], ◌∷◌, refl, ap, sym, ◌∙◌}
+use Rattle.std.proofs.Common.{subst, nat_cmp, Ordering, Less, Greater}
 use Rattle.hotel_model.proofs.Names.{ordering_reverse, is_at, insert_entry, keys_of, nat_cmp_total, at_number}
 use Rattle.hotel_model.proofs.OfTables.TableKeys.{at_inserted, is_at_self, same_number, swap_tests}
 use Rattle.hotel_model.proofs.OfTables.KeysInOrder.{AllAfter, InOrder, in_order_inserted, keys_inserted}

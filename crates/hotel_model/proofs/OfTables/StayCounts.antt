@@ -1,6 +1,9 @@
 -- How many rows pass a test, after one of them was added or changed.
-use Rattle.std.proofs.Common.{ℕ, zero, suc, ◌≡◌, ◌≤◌, ◌<◌, ◌+◌, Bool, true, false, cond, Option, Some, None, List, [], ◌∷◌, ◌⊎◌, inl, inr, refl, ap, sym, ◌∙◌, arith, ◌==◌, count_by, nat_cmp, is_eq, Ordering, Less, Equal, Greater}
-use Rattle.hotel_model.proofs.Names.{match_ordering, is_at, insert_entry, values_of, sum_by-cons, Stay, StayState, first_day, at_number, in_state, now_is}
+use Rattle.std.proofs.Common.{ℕ, zero, suc, ◌≡◌, ◌≤◌, ◌<◌, ◌+◌, Bool, true, false, cond, Option, Some, None, List, []}
+use Rattle.std.proofs.Common.{◌∷◌, ◌⊎◌, inl, inr, refl, ap, sym, ◌∙◌, arith, ◌==◌, count_by, nat_cmp, is_eq, Ordering}
+use Rattle.std.proofs.Common.{Less, Equal, Greater}
+use Rattle.hotel_model.proofs.Names.{match_ordering, is_at, insert_entry, values_of, sum_by-cons, Stay, StayState}
+use Rattle.hotel_model.proofs.Names.{first_day, at_number, in_state, now_is}
 use Rattle.hotel_model.proofs.{OfTables.Tests.not_both, OfTables.TableKeys.at_is}
 
 pub count_first : {X : Type 0} (p : X → Bool) (x : X) (xs : List X) → count_by p (x ∷ xs) ≡ cond (p x) 1 0 + count_by p xs

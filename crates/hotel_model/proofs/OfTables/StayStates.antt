@@ -1,8 +1,11 @@
 -- Look-ups of stays after one of them changed its state.
-use Rattle.std.proofs.Common.{ℕ, ◌≡◌, Bool, true, false, cond, Option, Some, None, List, [], ◌∷◌, refl, ap, sym, ◌∙◌, ◌==◌, option_map, is_some, nat_cmp}
-use Rattle.hotel_model.proofs.Names.{is_at, insert_entry, Stay, StayState, said_of, at_number, in_state, now_is, room_of_state, is_booked_state, is_standing}
+use Rattle.std.proofs.Common.{ℕ, ◌≡◌, Bool, true, false, cond, Option, Some, None, List, [], ◌∷◌, refl, ap, sym, ◌∙◌}
+use Rattle.std.proofs.Common.{◌==◌, option_map, is_some, nat_cmp}
+use Rattle.hotel_model.proofs.Names.{is_at, insert_entry, Stay, StayState, said_of, at_number, in_state, now_is}
+use Rattle.hotel_model.proofs.Names.{room_of_state, is_booked_state, is_standing}
 use Rattle.hotel_nights.specs.declared.stay.StayState.TheVariants as state
-use Rattle.hotel_model.proofs.{OfTables.Numbered.true_is_not_false, OfTables.Numbered.at_inserted, OfTables.Tests.eq_from, OfTables.TableKeys.at_is}
+use Rattle.hotel_model.proofs.{OfTables.Numbered.true_is_not_false, OfTables.Numbered.at_inserted}
+use Rattle.hotel_model.proofs.{OfTables.Tests.eq_from, OfTables.TableKeys.at_is}
 
 -- the room of a stay in house
 abbrev pub home_of : Option Stay → Option ℕ

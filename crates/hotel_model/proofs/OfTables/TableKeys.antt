@@ -1,6 +1,8 @@
 -- Look-ups in a table after a row was added.
-use Rattle.std.proofs.Common.{ℕ, ◌≡◌, Bool, true, false, cond, Option, Some, None, List, [], ◌∷◌, ◌⊎◌, inl, inr, refl, ap, sym, ◌∙◌, subst, arith, ◌==◌, ◌||◌, is_some, nat_cmp, Ordering, Less, Equal, Greater}
-use Rattle.hotel_model.proofs.Names.{match_ordering, is_at, insert_entry, keys_of, exact_unsigned, nat_tests, is_one_of, at_number}
+use Rattle.std.proofs.Common.{ℕ, ◌≡◌, Bool, true, false, cond, Option, Some, None, List, [], ◌∷◌, ◌⊎◌, inl, inr, refl}
+use Rattle.std.proofs.Common.{ap, sym, ◌∙◌, subst, arith, ◌==◌, ◌||◌, is_some, nat_cmp, Ordering, Less, Equal, Greater}
+use Rattle.hotel_model.proofs.Names.{match_ordering, is_at, insert_entry, keys_of, exact_unsigned, nat_tests, is_one_of}
+use Rattle.hotel_model.proofs.Names.{at_number}
 use Rattle.hotel_model.proofs.OfTables.Tests.{eq_from, eq_self, same_bool, equal_tested}
 
 pub same_number : (q k : ℕ) → is_at (nat_cmp q) k ≡ true → q ≡ k

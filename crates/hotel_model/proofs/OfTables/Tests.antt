@@ -1,5 +1,6 @@
 -- Tests of numbers, and what they tell.
-use Rattle.std.proofs.Common.{ℕ, ◌≡◌, Bool, true, false, ◌⊎◌, inl, inr, Result, Ok, Err, OnOk, refl, sym, ◌∙◌, arith, ◌≤◌, ◌<◌, nat_le, nat_lt, not, is_eq, Ordering, Less, Equal, Greater}
+use Rattle.std.proofs.Common.{ℕ, ◌≡◌, Bool, true, false, ◌⊎◌, inl, inr, Result, Ok, Err, OnOk, refl, sym, ◌∙◌, arith}
+use Rattle.std.proofs.Common.{◌≤◌, ◌<◌, nat_le, nat_lt, not, is_eq, Ordering, Less, Equal, Greater}
 use Rattle.std.specs.Prelude.{◌==◌, ◌&&◌, ◌||◌}
 use Rattle.std.proofs.lemmas.Bool.{false≢true}
 use Rattle.std.proofs.lemmas.Bool.Decides.{nat_tests}

@@ -1,8 +1,10 @@
 -- The change that comes of a command on sound rows fits them.
 use Rattle.std.proofs.Common.{◌≡◌, Option, Some, None, refl, ap, sym, ◌∙◌, subst, option_map}
-use Rattle.hotel_model.proofs.Names.{Change, Reply, Rows, IsSound, IsReply, start, ◌▷◌, rows_of, Reached, Outcome, answer_to, change_of, outcome_on, as_change}
+use Rattle.hotel_model.proofs.Names.{Change, Reply, Rows, IsSound, IsReply, start, ◌▷◌, rows_of, Reached, Outcome}
+use Rattle.hotel_model.proofs.Names.{answer_to, change_of, outcome_on, as_change}
 use Rattle.hotel_model.specs.{Refinement.Fits.Fits, Refinement.Answered.IsAnswered}
-use Rattle.hotel_model.proofs.{SoundRows.AllSound.rows_follow, Invariants.EventRanges.event_in_range, Lifted.LiftAll.answers_lift, Starts.StartRows.rows_of_start}
+use Rattle.hotel_model.proofs.{SoundRows.AllSound.rows_follow, Invariants.EventRanges.event_in_range}
+use Rattle.hotel_model.proofs.{Lifted.LiftAll.answers_lift, Starts.StartRows.rows_of_start}
 
 -- a change that comes of an event
 of_event : {X Y : Type 0} (f : X → Y) (o : Option X) (y : Y) → option_map f o ≡ Some y → (x : X) × (o ≡ Some x) × (f x ≡ y)

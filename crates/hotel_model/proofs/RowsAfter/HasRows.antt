@@ -1,11 +1,22 @@
 -- The change of an event has its rows.
-use Rattle.std.proofs.Common.{ℕ, ◌≡◌, ◌<◌, ◌≤◌, ◌+◌, ◌-◌, ◌^◌, true, false, Option, Some, None, length, refl, ap, ◌∙◌, arith, is_some}
-use Rattle.hotel_model.proofs.Names.{Event, Begun, Kind, Install, Reserved, Cancelled, Issue, Refitted, Spare, CheckOut, NextDay, Entered, Left, Recoded, History, ◌▷◌, issued, cards, day, stays, at_number, Stay, is_standing, is_room, room_of, is_in_house, fits, fits_at, fit_at, notes_before, before_in, note_numbered, rows_of, room_at, stay_at, codes_of, change_of, HasItsRows, Reached, said_of, notes}
-use Rattle.hotel_model.proofs.{Facts.Follow.MayFollow, OfTables.RoomNumbers.room_there, OfTables.RoomNumbers.room_not_there, RowsAfter.RowsIssue.codes_said}
-use Rattle.hotel_model.proofs.{RowsAfter.RowsLeft.home_there, Invariants.HomeRooms.home_is_room, Invariants.HomeRooms.comes_to_room, Invariants.InHouse.has_stay}
-use Rattle.hotel_model.proofs.{OfTables.NotesKept.next_not_found, Invariants.NumbersLeft.HasNumber, Invariants.NumbersLeft.has_number, Invariants.NumbersLeft.codes_fit, Invariants.NumbersLeft.cards_fit, Invariants.NotesOfFits.next_number}
-use Rattle.hotel_model.proofs.{Invariants.FitsOf.fits_of, Invariants.FitsOf.few_notes, Invariants.FitsOf.next_fit_free, Invariants.FitsKept.no_fit_found, RowsAfter.RowsNoted.number_said}
-use Rattle.hotel_model.proofs.{Invariants.Numbering.next_party_free, Invariants.CodePlaces.fresh_has_no_row, OfTables.Grown.may_follow}
+use Rattle.std.proofs.Common.{ℕ, ◌≡◌, ◌<◌, ◌≤◌, ◌+◌, ◌-◌, ◌^◌, true, false, Option, Some, None, length, refl, ap, ◌∙◌}
+use Rattle.std.proofs.Common.{arith, is_some}
+use Rattle.hotel_model.proofs.Names.{Event, Begun, Kind, Install, Reserved, Cancelled, Issue, Refitted, Spare, CheckOut}
+use Rattle.hotel_model.proofs.Names.{NextDay, Entered, Left, Recoded, History, ◌▷◌, issued, cards, day, stays}
+use Rattle.hotel_model.proofs.Names.{at_number, Stay, is_standing, is_room, room_of, is_in_house, fits, fits_at, fit_at}
+use Rattle.hotel_model.proofs.Names.{notes_before, before_in, note_numbered, rows_of, room_at, stay_at, codes_of}
+use Rattle.hotel_model.proofs.Names.{change_of, HasItsRows, Reached, said_of, notes}
+use Rattle.hotel_model.proofs.{Facts.Follow.MayFollow, OfTables.RoomNumbers.room_there}
+use Rattle.hotel_model.proofs.{OfTables.RoomNumbers.room_not_there, RowsAfter.RowsIssue.codes_said}
+use Rattle.hotel_model.proofs.{RowsAfter.RowsLeft.home_there, Invariants.HomeRooms.home_is_room}
+use Rattle.hotel_model.proofs.{Invariants.HomeRooms.comes_to_room, Invariants.InHouse.has_stay}
+use Rattle.hotel_model.proofs.{OfTables.NotesKept.next_not_found, Invariants.NumbersLeft.HasNumber}
+use Rattle.hotel_model.proofs.{Invariants.NumbersLeft.has_number, Invariants.NumbersLeft.codes_fit}
+use Rattle.hotel_model.proofs.{Invariants.NumbersLeft.cards_fit, Invariants.NotesOfFits.next_number}
+use Rattle.hotel_model.proofs.{Invariants.FitsOf.fits_of, Invariants.FitsOf.few_notes, Invariants.FitsOf.next_fit_free}
+use Rattle.hotel_model.proofs.{Invariants.FitsKept.no_fit_found, RowsAfter.RowsNoted.number_said}
+use Rattle.hotel_model.proofs.{Invariants.Numbering.next_party_free, Invariants.CodePlaces.fresh_has_no_row}
+use Rattle.hotel_model.proofs.{OfTables.Grown.may_follow}
 
 no_day : (o : Option ℕ) → is_some o ≡ false → o ≡ None
 no_day (Some d) h = cc

@@ -1,6 +1,7 @@
 -- The rows after events that touch no room.
 use Rattle.std.proofs.Common.{ℕ, ◌≡◌, ◌+◌, List, true, Option, Some, None, refl, ap, option_map, is_some, nat_cmp}
-use Rattle.hotel_model.proofs.Names.{Link, Card, said_of, NextDay, Spare, History, rows_of, cards, with_spare, link_of_party, card_of, is_begun, no_link, day, insert_entry}
+use Rattle.hotel_model.proofs.Names.{Link, Card, said_of, NextDay, Spare, History, rows_of, cards, with_spare}
+use Rattle.hotel_model.proofs.Names.{link_of_party, card_of, is_begun, no_link, day, insert_entry}
 use Rattle.hotel_model.proofs.Facts.Follow.{FollowsBy}
 
 next_day : (o : Option ℕ) → is_some o ≡ true → option_map (λ d. d + 1) o ≡ Some (said_of o 0 (λ d. d) + 1)

@@ -1,10 +1,15 @@
 -- The rows after one more event are those that its change makes.
 use Rattle.std.proofs.Common.{refl}
-use Rattle.hotel_model.proofs.Names.{Event, Begun, Kind, Install, Reserved, Cancelled, Issue, Refitted, Spare, CheckOut, NextDay, Entered, Left, Recoded, History, ◌▷◌, Reached}
+use Rattle.hotel_model.proofs.Names.{Event, Begun, Kind, Install, Reserved, Cancelled, Issue, Refitted, Spare, CheckOut}
+use Rattle.hotel_model.proofs.Names.{NextDay, Entered, Left, Recoded, History, ◌▷◌, Reached}
 use Rattle.hotel_model.proofs.{Facts.Follow.FollowsBy, Facts.Follow.MayFollow, OfTables.RoomNumbers.rooms_once}
-use Rattle.hotel_model.proofs.{RowsAfter.RowsEasy.next_day_follows, RowsAfter.RowsEasy.spare_follows, RowsAfter.RowsIssue.install_follows}
-use Rattle.hotel_model.proofs.{RowsAfter.RowsLeft.check_out_follows, RowsAfter.RowsLeft.issue_follows, RowsAfter.RowsNoted.entered_follows, RowsAfter.RowsNoted.recoded_follows}
-use Rattle.hotel_model.proofs.{RowsAfter.RowsNoted.left_follows, RowsAfter.RowsRefit.refit_follows, Invariants.NotesOfFits.next_number, Invariants.HomeRooms.comes_to_room, Invariants.InHouseLinks.in_house_has_link, OfTables.Grown.may_follow}
+use Rattle.hotel_model.proofs.{RowsAfter.RowsEasy.next_day_follows, RowsAfter.RowsEasy.spare_follows}
+use Rattle.hotel_model.proofs.{RowsAfter.RowsIssue.install_follows}
+use Rattle.hotel_model.proofs.{RowsAfter.RowsLeft.check_out_follows, RowsAfter.RowsLeft.issue_follows}
+use Rattle.hotel_model.proofs.{RowsAfter.RowsNoted.entered_follows, RowsAfter.RowsNoted.recoded_follows}
+use Rattle.hotel_model.proofs.{RowsAfter.RowsNoted.left_follows, RowsAfter.RowsRefit.refit_follows}
+use Rattle.hotel_model.proofs.{Invariants.NotesOfFits.next_number, Invariants.HomeRooms.comes_to_room}
+use Rattle.hotel_model.proofs.{Invariants.InHouseLinks.in_house_has_link, OfTables.Grown.may_follow}
 
 follows_where : (h : History) (event : Event) → Reached h → MayFollow h event → FollowsBy h event
 follows_where h (Begun day) ok n = refl

@@ -1,10 +1,15 @@
 -- The rows after a room was added, and the row of a room to which a party came.
-use Rattle.std.proofs.Common.{ℕ, ◌≡◌, ◌+◌, Bool, true, false, Option, Some, None, List, [], ◌∷◌, refl, ap, ◌∙◌, length, ◌==◌, nat_cmp, Ordering, Less, Equal, Greater}
-use Rattle.hotel_model.proofs.Names.{match_ordering, insert_entry, exact_unsigned, RoomRow, when, and_last, said_of, Install, History, ◌▷◌, issued, all_issued, secured, present_fit, fits, fit_row, pair_cmp, rooms, room_row, rows_of, is_room, Reached, codes_of}
+use Rattle.std.proofs.Common.{ℕ, ◌≡◌, ◌+◌, Bool, true, false, Option, Some, None, List, [], ◌∷◌, refl, ap, ◌∙◌, length}
+use Rattle.std.proofs.Common.{◌==◌, nat_cmp, Ordering, Less, Equal, Greater}
+use Rattle.hotel_model.proofs.Names.{match_ordering, insert_entry, exact_unsigned, RoomRow, when, and_last, said_of}
+use Rattle.hotel_model.proofs.Names.{Install, History, ◌▷◌, issued, all_issued, secured, present_fit, fits, fit_row}
+use Rattle.hotel_model.proofs.Names.{pair_cmp, rooms, room_row, rows_of, is_room, Reached, codes_of}
 use Rattle.hotel_model.proofs.{Facts.Follow.FollowsBy, Facts.Follow.ApartFrom, OfTables.Numbered.true_is_not_false}
 use Rattle.hotel_model.proofs.RowsAfter.RowsRooms.{eq_flip, rows_by, others}
 use Rattle.hotel_model.proofs.OfTables.RoomNumbers.{apart_from, room_there}
-use Rattle.hotel_model.proofs.{Invariants.NoRooms.nothing_issued, Invariants.NoRooms.nothing_passed, Invariants.NoRooms.nothing_noted, Invariants.NotesOfFits.nothing_before, Invariants.HomeRooms.nobody_registered}
+use Rattle.hotel_model.proofs.{Invariants.NoRooms.nothing_issued, Invariants.NoRooms.nothing_passed}
+use Rattle.hotel_model.proofs.{Invariants.NoRooms.nothing_noted, Invariants.NotesOfFits.nothing_before}
+use Rattle.hotel_model.proofs.{Invariants.HomeRooms.nobody_registered}
 use Rattle.hotel_model.proofs.OfTables.Tests.{eq_self}
 
 new_room_by : (o : Ordering) (f g : ℕ → List ℕ → RoomRow) (room : ℕ) (kind : List ℕ) (e : ℕ × List ℕ) (es : List (ℕ × List ℕ))

@@ -1,9 +1,16 @@
 -- The rows after a party left for good, and after it was given a card of a new code at a room.
-use Rattle.std.proofs.Common.{ℕ, ◌≡◌, true, false, Option, Some, None, List, refl, ap, sym, ◌∙◌, length, ◌==◌, is_some, nat_cmp}
-use Rattle.hotel_model.proofs.Names.{insert_entry, RoomRow, when, and_last, said_of, Issue, CheckOut, History, ◌▷◌, issued, all_issued, registered, secured, leaves, rooms, room_row, rows_of, is_room, is_in_house, room_of, Reached, room_changed, without_party, freed_by, other_than}
-use Rattle.hotel_model.proofs.{Facts.Follow.FollowsBy, RowsAfter.RowsRooms.rows_by, RowsAfter.RowsRooms.one_changed, RowsAfter.RowsRooms.length_more}
-use Rattle.hotel_model.proofs.{OfTables.Numbered.true_is_not_false, OfTables.RoomNumbers.rooms_once, RowsAfter.RowsIssue.came_to, RowsAfter.RowsIssue.codes_said}
-use Rattle.hotel_model.proofs.{Invariants.Homes.itself_leaves, Invariants.Homes.not_leaving, Invariants.Homes.others_stay, Invariants.Homes.stays_on, Invariants.InHouse.homes_match, OfTables.Tests.eq_self}
+use Rattle.std.proofs.Common.{ℕ, ◌≡◌, true, false, Option, Some, None, List, refl, ap, sym, ◌∙◌, length, ◌==◌, is_some}
+use Rattle.std.proofs.Common.{nat_cmp}
+use Rattle.hotel_model.proofs.Names.{insert_entry, RoomRow, when, and_last, said_of, Issue, CheckOut, History, ◌▷◌}
+use Rattle.hotel_model.proofs.Names.{issued, all_issued, registered, secured, leaves, rooms, room_row, rows_of, is_room}
+use Rattle.hotel_model.proofs.Names.{is_in_house, room_of, Reached, room_changed, without_party, freed_by, other_than}
+use Rattle.hotel_model.proofs.{Facts.Follow.FollowsBy, RowsAfter.RowsRooms.rows_by, RowsAfter.RowsRooms.one_changed}
+use Rattle.hotel_model.proofs.{RowsAfter.RowsRooms.length_more}
+use Rattle.hotel_model.proofs.{OfTables.Numbered.true_is_not_false, OfTables.RoomNumbers.rooms_once}
+use Rattle.hotel_model.proofs.{RowsAfter.RowsIssue.came_to, RowsAfter.RowsIssue.codes_said}
+use Rattle.hotel_model.proofs.{Invariants.Homes.itself_leaves, Invariants.Homes.not_leaving}
+use Rattle.hotel_model.proofs.{Invariants.Homes.others_stay, Invariants.Homes.stays_on, Invariants.InHouse.homes_match}
+use Rattle.hotel_model.proofs.{OfTables.Tests.eq_self}
 
 some_home : (o : Option ℕ) → is_some o ≡ true → (room : ℕ) × (o ≡ Some room)
 some_home (Some room) h = (room, refl)

@@ -1,8 +1,12 @@
 -- The rows after a card entered a room, and after staff recoded a lock.
 use Rattle.std.proofs.Common.{ℕ, ◌≡◌, ◌+◌, ◌++◌, ◌∷◌, ap, sym, ◌∙◌, length, ◌==◌, ◌&&◌, Bool, true}
-use Rattle.hotel_model.proofs.Names.{Link, Note, RoomRow, when, and_last, before, Moment, Entered, Left, Recoded, said_of, before_in, History, ◌▷◌, current, passed, turns, awaited, inside, secured, are_none, notes, rooms, room_row, rows_of, is_room, is_one_of, insiders, moved, comes, insert_entry, pair_cmp, all_notes, notes_before, Reached, room_changed}
+use Rattle.hotel_model.proofs.Names.{Link, Note, RoomRow, when, and_last, before, Moment, Entered, Left, Recoded}
+use Rattle.hotel_model.proofs.Names.{said_of, before_in, History, ◌▷◌, current, passed, turns, awaited, inside, secured}
+use Rattle.hotel_model.proofs.Names.{are_none, notes, rooms, room_row, rows_of, is_room, is_one_of, insiders, moved}
+use Rattle.hotel_model.proofs.Names.{comes, insert_entry, pair_cmp, all_notes, notes_before, Reached, room_changed}
 use Rattle.keycard_rules.specs.declared.note.Act.TheVariants as act
-use Rattle.hotel_model.proofs.{Facts.Follow.FollowsBy, RowsAfter.RowsRooms.one_changed, RowsAfter.RowsRooms.length_more, OfTables.RoomNumbers.rooms_once, OfTables.RoomNumbers.room_there, Facts.Follow.RoomsOnce}
+use Rattle.hotel_model.proofs.{Facts.Follow.FollowsBy, RowsAfter.RowsRooms.one_changed, RowsAfter.RowsRooms.length_more}
+use Rattle.hotel_model.proofs.{OfTables.RoomNumbers.rooms_once, OfTables.RoomNumbers.room_there, Facts.Follow.RoomsOnce}
 use Rattle.hotel_model.proofs.{OfTables.Insiders.card_came, OfTables.Tests.eq_self}
 
 -- the row of a room after a note

@@ -1,7 +1,12 @@
 -- The rows after a lock was replaced.
 use Rattle.std.proofs.Common.{ℕ, ◌≡◌, ◌+◌, ◌++◌, ◌∷◌, [], true, false, List, ap, sym, ◌∙◌, length, nat_cmp}
-use Rattle.hotel_model.proofs.Names.{insert_entry, pair_cmp, said_of, RoomRow, when, and_last, Refitted, History, ◌▷◌, held, passed, awaited, issued, all_issued, secured, notes, present_fit, notes_before, fits, fit_row, rooms, room_row, rows_of, is_room, Reached, room_changed, codes_of, notes_in}
-use Rattle.hotel_model.proofs.{Facts.Follow.FollowsBy, RowsAfter.RowsRooms.one_changed, RowsAfter.RowsRooms.length_more, RowsAfter.RowsIssue.codes_said, OfTables.RoomNumbers.rooms_once, OfTables.RoomNumbers.room_there}
+use Rattle.hotel_model.proofs.Names.{insert_entry, pair_cmp, said_of, RoomRow, when, and_last, Refitted, History, ◌▷◌}
+use Rattle.hotel_model.proofs.Names.{held, passed, awaited, issued, all_issued, secured, notes, present_fit}
+use Rattle.hotel_model.proofs.Names.{notes_before, fits, fit_row, rooms, room_row, rows_of, is_room, Reached}
+use Rattle.hotel_model.proofs.Names.{room_changed, codes_of, notes_in}
+use Rattle.hotel_model.proofs.{Facts.Follow.FollowsBy, RowsAfter.RowsRooms.one_changed, RowsAfter.RowsRooms.length_more}
+use Rattle.hotel_model.proofs.{RowsAfter.RowsIssue.codes_said, OfTables.RoomNumbers.rooms_once}
+use Rattle.hotel_model.proofs.{OfTables.RoomNumbers.room_there}
 use Rattle.hotel_model.proofs.{Invariants.LedgerOrder.ledger_holds, OfTables.Tests.eq_self}
 
 -- the row of a room with a new lock

@@ -1,5 +1,6 @@
 -- The rows after an event that touches one room.
-use Rattle.std.proofs.Common.{ℕ, ◌≡◌, ◌+◌, List, [], ◌∷◌, ◌++◌, Bool, true, false, cond, refl, ap, sym, ◌∙◌, subst, length, arith, ◌==◌, map}
+use Rattle.std.proofs.Common.{ℕ, ◌≡◌, ◌+◌, List, [], ◌∷◌, ◌++◌, Bool, true, false, cond, refl, ap, sym, ◌∙◌, subst}
+use Rattle.std.proofs.Common.{length, arith, ◌==◌, map}
 use Rattle.hotel_model.proofs.Names.{nat_tests, RoomRow, room_changed}
 use Rattle.hotel_model.proofs.{Facts.Follow.ApartFrom, Facts.Follow.RoomsOnce, OfTables.Tests.eq_from}
 

@@ -2,16 +2,25 @@
 use Rattle.std.proofs.Common.{◌≡◌, subst}
 use Rattle.hotel_model.proofs.Names.{Event, History, ◌▷◌, rows_of, made, change_of, IsSound, Headline, Reached}
 use Rattle.hotel_model.specs.Refinement.Fits.{Fits}
-use Rattle.hotel_model.proofs.{Invariants.CodePlaces.no_code_twice, Invariants.LedgerOrder.ledger_holds, Invariants.LedgerOrder.takes_the_first}
-use Rattle.hotel_model.proofs.{Invariants.OpenLocks.opens_own_room, Invariants.OpenLocks.newest_opens, Invariants.SecuredRooms.safe_room, RowsAfter.RowsFollow.made_follow}
-use Rattle.hotel_model.proofs.{RowsAfter.HasRows.changes_have_rows, SoundRows.SoundKeys.rows_in_order, SoundRows.SoundDay.day_fits, SoundRows.SoundDay.day_before}
-use Rattle.hotel_model.proofs.{SoundRows.SoundKinds.kinds_are_read, SoundRows.SoundKinds.room_kinds, SoundRows.SoundKinds.stay_kinds, SoundRows.SoundHomes.parties_at_home}
-use Rattle.hotel_model.proofs.SoundRows.SoundRoomRows.{rooms_numbered, locks_placed, few_codes, notes_numbered, secured_locks}
+use Rattle.hotel_model.proofs.{Invariants.CodePlaces.no_code_twice, Invariants.LedgerOrder.ledger_holds}
+use Rattle.hotel_model.proofs.{Invariants.LedgerOrder.takes_the_first}
+use Rattle.hotel_model.proofs.{Invariants.OpenLocks.opens_own_room, Invariants.OpenLocks.newest_opens}
+use Rattle.hotel_model.proofs.{Invariants.SecuredRooms.safe_room, RowsAfter.RowsFollow.made_follow}
+use Rattle.hotel_model.proofs.{RowsAfter.HasRows.changes_have_rows, SoundRows.SoundKeys.rows_in_order}
+use Rattle.hotel_model.proofs.{SoundRows.SoundDay.day_fits, SoundRows.SoundDay.day_before}
+use Rattle.hotel_model.proofs.{SoundRows.SoundKinds.kinds_are_read, SoundRows.SoundKinds.room_kinds}
+use Rattle.hotel_model.proofs.{SoundRows.SoundKinds.stay_kinds, SoundRows.SoundHomes.parties_at_home}
+use Rattle.hotel_model.proofs.SoundRows.SoundRoomRows.{rooms_numbered, locks_placed, few_codes, notes_numbered}
+use Rattle.hotel_model.proofs.SoundRows.SoundRoomRows.{secured_locks}
 use Rattle.hotel_model.proofs.SoundRows.SoundStays.{stays_numbered, guests_are_read, days_fit, rooms_of_stays}
-use Rattle.hotel_model.proofs.{Invariants.RoomsLeft.rows_not_oversold, SoundRows.SoundCodes.codes_fit, SoundRows.SoundCodes.code_rooms, SoundRows.SoundCodes.codes_once}
-use Rattle.hotel_model.proofs.SoundRows.SoundCardRows.{cards_numbered, card_parties, card_links, card_owners, codes_are_brought, fits_unlinked, newest_owned, last_are_newest}
-use Rattle.hotel_model.proofs.{SoundRows.SoundInside.all_inside_fit, SoundRows.SoundNotes.notes_are_counted, SoundRows.SoundNotes.notes_all_fit, SoundRows.SoundNotes.notes_all_of_fits}
-use Rattle.hotel_model.proofs.SoundRows.SoundFitRows.{fit_rooms, fits_numbered, firsts_first, places_rise, notes_rise, lasts_held, lasts_noted, fits_few, rows_of_lasts}
+use Rattle.hotel_model.proofs.{Invariants.RoomsLeft.rows_not_oversold, SoundRows.SoundCodes.codes_fit}
+use Rattle.hotel_model.proofs.{SoundRows.SoundCodes.code_rooms, SoundRows.SoundCodes.codes_once}
+use Rattle.hotel_model.proofs.SoundRows.SoundCardRows.{cards_numbered, card_parties, card_links, card_owners}
+use Rattle.hotel_model.proofs.SoundRows.SoundCardRows.{codes_are_brought, fits_unlinked, newest_owned, last_are_newest}
+use Rattle.hotel_model.proofs.{SoundRows.SoundInside.all_inside_fit, SoundRows.SoundNotes.notes_are_counted}
+use Rattle.hotel_model.proofs.{SoundRows.SoundNotes.notes_all_fit, SoundRows.SoundNotes.notes_all_of_fits}
+use Rattle.hotel_model.proofs.SoundRows.SoundFitRows.{fit_rooms, fits_numbered, firsts_first, places_rise, notes_rise}
+use Rattle.hotel_model.proofs.SoundRows.SoundFitRows.{lasts_held, lasts_noted, fits_few, rows_of_lasts}
 
 -- The rows of a history that can be reached are sound.
 pub rows_sound : (h : History) → Reached h → IsSound (rows_of h)

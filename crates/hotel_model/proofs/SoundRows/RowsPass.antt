@@ -1,6 +1,10 @@
 -- Tests that the rows of a table pass along each history: where each new row passes, and what passed goes on to pass.
 use Rattle.std.proofs.Common.{ℕ, ◌≡◌, Bool, true, List, Option, Some, None, refl, length, ◌+◌}
-use Rattle.hotel_model.proofs.Names.{list_all, Card, Link, Note, Stay, StayState, CodeRow, Rows, Event, Install, Reserved, Cancelled, Issue, Refitted, Spare, CheckOut, note_of, History, start, ◌▷◌, issued, all_issued, cards, card_of, with_spare, link_of_party, link_to, rooms, stays, now_is, all_notes, and_note, notes, fits, fit_row, FitRow, pair_cmp, Reached, IsSound}
+use Rattle.hotel_model.proofs.Names.{list_all, Card, Link, Note, Stay, StayState, CodeRow, Rows, Event, Install}
+use Rattle.hotel_model.proofs.Names.{Reserved, Cancelled, Issue, Refitted, Spare, CheckOut, note_of, History, start}
+use Rattle.hotel_model.proofs.Names.{◌▷◌, issued, all_issued, cards, card_of, with_spare, link_of_party, link_to, rooms}
+use Rattle.hotel_model.proofs.Names.{stays, now_is, all_notes, and_note, notes, fits, fit_row, FitRow, pair_cmp}
+use Rattle.hotel_model.proofs.Names.{Reached, IsSound}
 use Rattle.hotel_nights.specs.declared.stay.StayState.TheVariants as state
 use Rattle.hotel_model.proofs.OfTables.Pairs.{pair_exact}
 use Rattle.hotel_model.proofs.OfTables.RowTests.{all_weaker, all_inserted, all_added_by, all_in_state}

@@ -1,16 +1,36 @@
 -- Cards: their numbers, parties and links.
-use Rattle.std.proofs.Common.{ℕ, ◌≡◌, Bool, true, false, cond, Option, Some, None, List, [], ◌∷◌, length, refl, ap, sym, ◌∙◌, ◌==◌, ◌||◌, ◌&&◌, not, is_some, nat_cmp}
-use Rattle.hotel_model.proofs.Names.{is_at, insert_entry, keys_of, when, and_last, FitRow, fit_row, fits, fits_at, begins_fit, fits_without_links, notes, issued, all_issued, list_any, nat_cmp_total, Card, Link, Stay, StayState, CodeRow, said_of, is_one_of, at_number, link_of_last_card, Event, Install, Reserved, Cancelled, Issue, Refitted, Spare, CheckOut, History, ◌▷◌, cards, card_of, with_spare, link_of_party, link_to, registered, stays, in_state, rows_of, room_of_state, room_of, next_card, same_link, Reached, each_card, card_numbers, card_parties_there, links_are_neighbours, links_of_one_party, neighbours_are_links, is_newest, owns_newest, newest_of_party, has_newest, last_cards_newest, stands_at}
+use Rattle.std.proofs.Common.{ℕ, ◌≡◌, Bool, true, false, cond, Option, Some, None, List, [], ◌∷◌, length, refl, ap, sym}
+use Rattle.std.proofs.Common.{◌∙◌, ◌==◌, ◌||◌, ◌&&◌, not, is_some, nat_cmp}
+use Rattle.hotel_model.proofs.Names.{is_at, insert_entry, keys_of, when, and_last, FitRow, fit_row, fits, fits_at}
+use Rattle.hotel_model.proofs.Names.{begins_fit, fits_without_links, notes, issued, all_issued, list_any, nat_cmp_total}
+use Rattle.hotel_model.proofs.Names.{Card, Link, Stay, StayState, CodeRow, said_of, is_one_of, at_number}
+use Rattle.hotel_model.proofs.Names.{link_of_last_card, Event, Install, Reserved, Cancelled, Issue, Refitted, Spare}
+use Rattle.hotel_model.proofs.Names.{CheckOut, History, ◌▷◌, cards, card_of, with_spare, link_of_party, link_to}
+use Rattle.hotel_model.proofs.Names.{registered, stays, in_state, rows_of, room_of_state, room_of, next_card, same_link}
+use Rattle.hotel_model.proofs.Names.{Reached, each_card, card_numbers, card_parties_there, links_are_neighbours}
+use Rattle.hotel_model.proofs.Names.{links_of_one_party, neighbours_are_links, is_newest, owns_newest, newest_of_party}
+use Rattle.hotel_model.proofs.Names.{has_newest, last_cards_newest, stands_at}
 use Rattle.hotel_nights.specs.declared.stay.StayState.TheVariants as state
-use Rattle.hotel_model.proofs.{OfTables.Tests.eq_self, OfTables.Tests.eq_from, OfTables.KeysInOrder.InOrder, Starts.StartOrder.found_later, OfTables.TableKeys.is_at_self, OfTables.TableKeys.at_inserted, OfTables.TableKeys.is_key, OfTables.Grown.may_follow, Invariants.RoomCodes.others_have_none}
-use Rattle.hotel_model.proofs.{Invariants.RoomLinks.cards_have_links, Invariants.Numbering.same_keys, Invariants.Numbering.cards_count, Invariants.NumbersLeft.cards_fit}
-use Rattle.hotel_model.proofs.{Invariants.InHouse.has_stay, Invariants.InHouse.registered_in_house, Starts.StartRules.link_is}
+use Rattle.hotel_model.proofs.{OfTables.Tests.eq_self, OfTables.Tests.eq_from, OfTables.KeysInOrder.InOrder}
+use Rattle.hotel_model.proofs.{Starts.StartOrder.found_later, OfTables.TableKeys.is_at_self}
+use Rattle.hotel_model.proofs.{OfTables.TableKeys.at_inserted, OfTables.TableKeys.is_key, OfTables.Grown.may_follow}
+use Rattle.hotel_model.proofs.{Invariants.RoomCodes.others_have_none}
+use Rattle.hotel_model.proofs.{Invariants.RoomLinks.cards_have_links, Invariants.Numbering.same_keys}
+use Rattle.hotel_model.proofs.{Invariants.Numbering.cards_count, Invariants.NumbersLeft.cards_fit}
+use Rattle.hotel_model.proofs.{Invariants.InHouse.has_stay, Invariants.InHouse.registered_in_house}
+use Rattle.hotel_model.proofs.{Starts.StartRules.link_is}
 use Rattle.hotel_model.proofs.Invariants.LiftHomes as homes
 use Rattle.hotel_model.proofs.Invariants.CardParties.{cards_one_party, guests_have_cards}
-use Rattle.hotel_model.proofs.OfTables.RowTests.{both, or_first, or_later, where_so, any_before, any_last, any_more, all_found}
-use Rattle.hotel_model.proofs.{SoundRows.RowsPass.cards_pass, SoundRows.RowsPass.codes_pass, SoundRows.SoundKeys.cards_in_order, SoundRows.SoundKeys.codes_in_order, Invariants.FitsKept.fits_installed, Invariants.FitsKept.fits_refitted, Invariants.FitLinks.links_begin_none, SoundRows.SoundKeys.stays_in_order}
-use Rattle.hotel_model.proofs.{OfTables.Tests.le_tested, SoundRows.SoundRoomRows.each_room_is, SoundRows.SoundRoomRows.eq_tested, SoundRows.SoundStays.stay_has_number}
-use Rattle.hotel_model.proofs.SoundRows.SoundLinks.{said_some, new_at, link_stands, newest_tested, tested_newest, card_comes_last, last_cards}
+use Rattle.hotel_model.proofs.OfTables.RowTests.{both, or_first, or_later, where_so, any_before, any_last, any_more}
+use Rattle.hotel_model.proofs.OfTables.RowTests.{all_found}
+use Rattle.hotel_model.proofs.{SoundRows.RowsPass.cards_pass, SoundRows.RowsPass.codes_pass}
+use Rattle.hotel_model.proofs.{SoundRows.SoundKeys.cards_in_order, SoundRows.SoundKeys.codes_in_order}
+use Rattle.hotel_model.proofs.{Invariants.FitsKept.fits_installed, Invariants.FitsKept.fits_refitted}
+use Rattle.hotel_model.proofs.{Invariants.FitLinks.links_begin_none, SoundRows.SoundKeys.stays_in_order}
+use Rattle.hotel_model.proofs.{OfTables.Tests.le_tested, SoundRows.SoundRoomRows.each_room_is}
+use Rattle.hotel_model.proofs.{SoundRows.SoundRoomRows.eq_tested, SoundRows.SoundStays.stay_has_number}
+use Rattle.hotel_model.proofs.SoundRows.SoundLinks.{said_some, new_at, link_stands, newest_tested, tested_newest}
+use Rattle.hotel_model.proofs.SoundRows.SoundLinks.{card_comes_last, last_cards}
 use Rattle.hotel_model.proofs.Starts.StartNumbers.{cards_numbered_at_start}
 
 -- a rule of all cards holds where it holds of each that a look-up finds

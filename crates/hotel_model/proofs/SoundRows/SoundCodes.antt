@@ -1,9 +1,13 @@
 -- Codes: their range, their rooms and their places.
 use Rattle.std.proofs.Common.{ℕ, ◌≡◌, ◌^◌, true, Some, List, length, ap, sym, ◌∙◌, is_some, nat_lt, nat_cmp}
-use Rattle.hotel_model.proofs.Names.{nat_cmp_total, CodeRow, at_number, Install, Issue, Refitted, History, all_issued, rows_of, Reached, is_room, codes_in_range, code_rooms_there, places_once}
-use Rattle.hotel_model.proofs.{Invariants.EventRanges.last_in_range, Invariants.CodePlaces.places_have_codes, Invariants.OpenLocks.there_by_codes, Invariants.OpenLocks.not_empty}
-use Rattle.hotel_model.proofs.{RowsAfter.HasRows.room_has_row, OfTables.RowTests.both, OfTables.RowTests.all_mapped, OfTables.RowTests.all_found, SoundRows.RowsPass.codes_pass}
-use Rattle.hotel_model.proofs.{SoundRows.SoundKeys.codes_in_order, OfTables.Tests.lt_tested, SoundRows.SoundRoomRows.each_room_is, SoundRows.SoundRoomRows.eq_tested}
+use Rattle.hotel_model.proofs.Names.{nat_cmp_total, CodeRow, at_number, Install, Issue, Refitted, History, all_issued}
+use Rattle.hotel_model.proofs.Names.{rows_of, Reached, is_room, codes_in_range, code_rooms_there, places_once}
+use Rattle.hotel_model.proofs.{Invariants.EventRanges.last_in_range, Invariants.CodePlaces.places_have_codes}
+use Rattle.hotel_model.proofs.{Invariants.OpenLocks.there_by_codes, Invariants.OpenLocks.not_empty}
+use Rattle.hotel_model.proofs.{RowsAfter.HasRows.room_has_row, OfTables.RowTests.both, OfTables.RowTests.all_mapped}
+use Rattle.hotel_model.proofs.{OfTables.RowTests.all_found, SoundRows.RowsPass.codes_pass}
+use Rattle.hotel_model.proofs.{SoundRows.SoundKeys.codes_in_order, OfTables.Tests.lt_tested}
+use Rattle.hotel_model.proofs.{SoundRows.SoundRoomRows.each_room_is, SoundRows.SoundRoomRows.eq_tested}
 use Rattle.hotel_model.proofs.OfTables.CodesByPlace.{codes_are_placed, codes_are_listed}
 
 -- Each code has 48 bits.

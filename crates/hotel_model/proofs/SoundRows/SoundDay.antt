@@ -1,7 +1,10 @@
 -- The day of a history's rows is in range, and is set before a kind is added.
-use Rattle.std.proofs.Common.{ℕ, ◌≡◌, ◌+◌, true, Option, Some, None, refl, arith, length, ◌==◌, is_some, nat_lt, option_map}
-use Rattle.hotel_model.proofs.Names.{nat_tests, said_of, Begun, Kind, NextDay, History, start, ◌▷◌, day, kinds, rows_of, Reached, is_day, day_in_range, day_before_kinds}
-use Rattle.hotel_model.proofs.{OfTables.Grown.may_follow, OfTables.Tests.le_tested, Invariants.EventRanges.last_in_range, OfTables.RowTests.or_first}
+use Rattle.std.proofs.Common.{ℕ, ◌≡◌, ◌+◌, true, Option, Some, None, refl, arith, length, ◌==◌, is_some, nat_lt}
+use Rattle.std.proofs.Common.{option_map}
+use Rattle.hotel_model.proofs.Names.{nat_tests, said_of, Begun, Kind, NextDay, History, start, ◌▷◌, day, kinds, rows_of}
+use Rattle.hotel_model.proofs.Names.{Reached, is_day, day_in_range, day_before_kinds}
+use Rattle.hotel_model.proofs.{OfTables.Grown.may_follow, OfTables.Tests.le_tested}
+use Rattle.hotel_model.proofs.{Invariants.EventRanges.last_in_range, OfTables.RowTests.or_first}
 
 next_by : (o : Option ℕ) → nat_lt (said_of o 0 (λ d. d)) 36524 ≡ true → said_of (option_map (λ d. d + 1) o) true is_day ≡ true
 next_by (Some d) h = grind (arith, nat_tests)

@@ -1,8 +1,13 @@
--- Fits: each is of its key and its room is there; those of a room are numbered from 1 on, and each comes after the others.
+-- Fits: each is of its key and its room is there; those of a room are numbered from 1 on, and each comes after the
+-- others.
 use Rattle.std.proofs.Common.{ℕ, ◌≡◌, Bool, true, Option, Some, ap, sym, ◌∙◌, ◌==◌, ◌&&◌, nat_le, is_some}
-use Rattle.hotel_model.proofs.Names.{FitRow, said_of, at_number, History, fits, present_fit, is_room, rows_of, Reached, fit_rooms_there, fit_numbers, first_fits, fit_places_rise, fit_notes_rise, last_fits_held, last_fits_noted, fit_notes_few, rows_of_last_fits}
-use Rattle.hotel_model.proofs.{OfTables.Tests.eq_from, OfTables.Tests.and_true, OfTables.Tests.le_tested, OfTables.RowTests.both, OfTables.RowTests.all_weaker}
-use Rattle.hotel_model.proofs.{Invariants.FitsKept.is_kept_fit, Invariants.FitsKept.fits_kept, Invariants.FitsOf.fits_of, RowsAfter.HasRows.room_has_row}
+use Rattle.hotel_model.proofs.Names.{FitRow, said_of, at_number, History, fits, present_fit, is_room, rows_of, Reached}
+use Rattle.hotel_model.proofs.Names.{fit_rooms_there, fit_numbers, first_fits, fit_places_rise, fit_notes_rise}
+use Rattle.hotel_model.proofs.Names.{last_fits_held, last_fits_noted, fit_notes_few, rows_of_last_fits}
+use Rattle.hotel_model.proofs.{OfTables.Tests.eq_from, OfTables.Tests.and_true, OfTables.Tests.le_tested}
+use Rattle.hotel_model.proofs.{OfTables.RowTests.both, OfTables.RowTests.all_weaker}
+use Rattle.hotel_model.proofs.{Invariants.FitsKept.is_kept_fit, Invariants.FitsKept.fits_kept}
+use Rattle.hotel_model.proofs.{Invariants.FitsOf.fits_of, RowsAfter.HasRows.room_has_row}
 use Rattle.hotel_model.proofs.SoundRows.SoundRoomRows.{each_room_is, listed_there, eq_tested}
 
 parts : (h : History) (e : (ℕ × ℕ) × FitRow) → is_kept_fit h e ≡ true → (((e.1.room == e.0.0) && (e.1.fit == e.0.1)) ≡ true) × (is_room h e.1.room ≡ true)

@@ -1,11 +1,17 @@
 -- Rooms and the stays in house: each has the other, and they are of one kind.
-use Rattle.std.proofs.Common.{ℕ, ◌≡◌, Bool, true, false, cond, Option, Some, None, List, ◌⊎◌, inl, inr, refl, ap, sym, ◌∙◌, subst, ◌==◌, ◌&&◌, option_map, bytes_eq, nat_cmp}
-use Rattle.hotel_model.proofs.Names.{insert_entry, Stay, StayState, said_of, is_that, at_number, Install, Reserved, Cancelled, Issue, CheckOut, History, start, ◌▷◌, registered, rooms, stays, in_state, now_is, room_row, rows_of, room_of_state, is_of_kind, Reached, is_home_of, parties_in_house}
+use Rattle.std.proofs.Common.{ℕ, ◌≡◌, Bool, true, false, cond, Option, Some, None, List, ◌⊎◌, inl, inr, refl, ap, sym}
+use Rattle.std.proofs.Common.{◌∙◌, subst, ◌==◌, ◌&&◌, option_map, bytes_eq, nat_cmp}
+use Rattle.hotel_model.proofs.Names.{insert_entry, Stay, StayState, said_of, is_that, at_number, Install, Reserved}
+use Rattle.hotel_model.proofs.Names.{Cancelled, Issue, CheckOut, History, start, ◌▷◌, registered, rooms, stays}
+use Rattle.hotel_model.proofs.Names.{in_state, now_is, room_row, rows_of, room_of_state, is_of_kind, Reached}
+use Rattle.hotel_model.proofs.Names.{is_home_of, parties_in_house}
 use Rattle.hotel_nights.specs.declared.stay.StayState.TheVariants as state
 use Rattle.hotel_model.proofs.OfTables.Tests.{eq_from, eq_self, not_both}
 use Rattle.hotel_model.proofs.OfTables.TableKeys.{row_inserted, row_kept, no_key}
-use Rattle.hotel_model.proofs.{Facts.Follow.OrAtHome, OfTables.StayStates.stay_changed, OfTables.StayStates.home_of, OfTables.Grown.may_follow, Invariants.InHouse.registered_in_house}
-use Rattle.hotel_model.proofs.{OfTables.RowTests.both, SoundRows.SoundRoomRows.each_room_is, Starts.StartGuests.homes_of_kind_at_start}
+use Rattle.hotel_model.proofs.{Facts.Follow.OrAtHome, OfTables.StayStates.stay_changed, OfTables.StayStates.home_of}
+use Rattle.hotel_model.proofs.{OfTables.Grown.may_follow, Invariants.InHouse.registered_in_house}
+use Rattle.hotel_model.proofs.{OfTables.RowTests.both, SoundRows.SoundRoomRows.each_room_is}
+use Rattle.hotel_model.proofs.{Starts.StartGuests.homes_of_kind_at_start}
 
 -- the room is there, and of this kind
 abbrev pub room_of_kind : List (ℕ × List ℕ) → ℕ → List ℕ → Bool

@@ -1,14 +1,29 @@
 -- What is inside a room is a card of this room that the lock has seen.
-use Rattle.std.proofs.Common.{ℕ, ◌≡◌, ◌≢◌, ◌<◌, ◌≤◌, ◌+◌, [], refl, true, false, Option, Some, List, [], ◌∷◌, ◌++◌, length, inl, inr, ap, sym, ◌∙◌, subst, append_assoc, arith, length-append, ◌==◌}
-use Rattle.hotel_model.proofs.Names.{Card, Link, when, and_last, is_one_of, pair_cmp, at_number, Event, Moment, Install, Refitted, Entered, Left, list_any, said_of, FitRow, fit_row, fits, fits_at, last_fit, last_fit_place, begins_fit, has_entered, notes, all_issued, those_in, those_elsewhere, History, start, ◌▷◌, issued, cards, passed, awaited, insiders, inside, secured, room_row, rows_of, is_room, Reached, room_is, card_is, fits_inside, insides_fit}
-use Rattle.hotel_model.proofs.{Facts.Follow.MayFollow, Facts.CodeFacts.IsLinkOf, OfTables.Grown.may_follow, OfTables.Pairs.pair_cmp_total, OfTables.Insiders.inside_is}
-use Rattle.hotel_model.proofs.{Invariants.InsideRooms.came_in, Invariants.InsideRooms.left_out, Invariants.InsideRooms.elsewhere_in, Invariants.InsideRooms.none_inside, Invariants.CodePlaces.same_place, Invariants.CodesFound.entered_in_order}
-use Rattle.hotel_model.proofs.{Invariants.HomeRooms.new_is_apart, Invariants.LedgerOrder.card_seen, Invariants.LedgerOrder.link_seen, Invariants.OpenLocks.link_of_room, OfTables.RoomNumbers.room_there}
-use Rattle.hotel_model.proofs.{Invariants.SecuredRooms.secured_rooms_fit, OfTables.RowTests.both, OfTables.RowTests.where_so, OfTables.RowTests.all_there}
+use Rattle.std.proofs.Common.{ℕ, ◌≡◌, ◌≢◌, ◌<◌, ◌≤◌, ◌+◌, [], refl, true, false, Option, Some, List, [], ◌∷◌, ◌++◌}
+use Rattle.std.proofs.Common.{length, inl, inr, ap, sym, ◌∙◌, subst, append_assoc, arith, length-append, ◌==◌}
+use Rattle.hotel_model.proofs.Names.{Card, Link, when, and_last, is_one_of, pair_cmp, at_number, Event, Moment, Install}
+use Rattle.hotel_model.proofs.Names.{Refitted, Entered, Left, list_any, said_of, FitRow, fit_row, fits, fits_at}
+use Rattle.hotel_model.proofs.Names.{last_fit, last_fit_place, begins_fit, has_entered, notes, all_issued, those_in}
+use Rattle.hotel_model.proofs.Names.{those_elsewhere, History, start, ◌▷◌, issued, cards, passed, awaited, insiders}
+use Rattle.hotel_model.proofs.Names.{inside, secured, room_row, rows_of, is_room, Reached, room_is, card_is}
+use Rattle.hotel_model.proofs.Names.{fits_inside, insides_fit}
+use Rattle.hotel_model.proofs.{Facts.Follow.MayFollow, Facts.CodeFacts.IsLinkOf, OfTables.Grown.may_follow}
+use Rattle.hotel_model.proofs.{OfTables.Pairs.pair_cmp_total, OfTables.Insiders.inside_is}
+use Rattle.hotel_model.proofs.{Invariants.InsideRooms.came_in, Invariants.InsideRooms.left_out}
+use Rattle.hotel_model.proofs.{Invariants.InsideRooms.elsewhere_in, Invariants.InsideRooms.none_inside}
+use Rattle.hotel_model.proofs.{Invariants.CodePlaces.same_place, Invariants.CodesFound.entered_in_order}
+use Rattle.hotel_model.proofs.{Invariants.HomeRooms.new_is_apart, Invariants.LedgerOrder.card_seen}
+use Rattle.hotel_model.proofs.{Invariants.LedgerOrder.link_seen, Invariants.OpenLocks.link_of_room}
+use Rattle.hotel_model.proofs.{OfTables.RoomNumbers.room_there}
+use Rattle.hotel_model.proofs.{Invariants.SecuredRooms.secured_rooms_fit, OfTables.RowTests.both}
+use Rattle.hotel_model.proofs.{OfTables.RowTests.where_so, OfTables.RowTests.all_there}
 use Rattle.hotel_model.proofs.OfTables.Tests.{le_tested, lt_tested, eq_from, eq_self, not_both, or_false, either_way}
-use Rattle.hotel_model.proofs.{Invariants.FitsOf.passed_grow, Invariants.FitsOf.fits_of, Invariants.FitsOf.last_place, Invariants.FitLinks.links_begin_none, Invariants.FitsKept.fits_installed, Invariants.FitsKept.fits_refitted}
+use Rattle.hotel_model.proofs.{Invariants.FitsOf.passed_grow, Invariants.FitsOf.fits_of, Invariants.FitsOf.last_place}
+use Rattle.hotel_model.proofs.{Invariants.FitLinks.links_begin_none, Invariants.FitsKept.fits_installed}
+use Rattle.hotel_model.proofs.{Invariants.FitsKept.fits_refitted}
 use Rattle.hotel_model.proofs.SoundRows.SoundLinks.{said_some, new_at, link_stands, newest_tested}
-use Rattle.hotel_model.proofs.{Invariants.HomeRooms.room_goes_on, Invariants.Kept.card_goes_on, Invariants.Kept.link_goes_on, Starts.StartInside.insiders_seen_at_start}
+use Rattle.hotel_model.proofs.{Invariants.HomeRooms.room_goes_on, Invariants.Kept.card_goes_on}
+use Rattle.hotel_model.proofs.{Invariants.Kept.link_goes_on, Starts.StartInside.insiders_seen_at_start}
 
 -- the link's codes are neighbours at the room, and its lock came to the new one
 abbrev pub HasSeen : History → ℕ → Link → Type 0

@@ -1,10 +1,17 @@
 -- Each table of a history's rows is in the order of its keys, and no key stands twice.
-use Rattle.std.proofs.Common.{ℕ, ◌≡◌, true, List, [], ◌∷◌, Option, Some, None, refl, ap, sym, ◌∙◌, subst, map, nat_cmp, length, ◌+◌}
-use Rattle.hotel_model.proofs.Names.{slice_cmp, keys_of, insert_entry, nat_list_cmp_total, Card, Link, Note, Stay, StayState, pair_cmp, Kind, Install, Reserved, Cancelled, Issue, Refitted, Spare, CheckOut, note_of, History, start, ◌▷◌, all_issued, cards, card_of, with_spare, link_of_party, link_to, insiders, kinds, rooms, stays, in_state, all_notes, and_note, notes, fits, room_row, rows_of, Reached, are_in_order, keys_in_order}
+use Rattle.std.proofs.Common.{ℕ, ◌≡◌, true, List, [], ◌∷◌, Option, Some, None, refl, ap, sym, ◌∙◌, subst, map, nat_cmp}
+use Rattle.std.proofs.Common.{length, ◌+◌}
+use Rattle.hotel_model.proofs.Names.{slice_cmp, keys_of, insert_entry, nat_list_cmp_total, Card, Link, Note, Stay}
+use Rattle.hotel_model.proofs.Names.{StayState, pair_cmp, Kind, Install, Reserved, Cancelled, Issue, Refitted, Spare}
+use Rattle.hotel_model.proofs.Names.{CheckOut, note_of, History, start, ◌▷◌, all_issued, cards, card_of, with_spare}
+use Rattle.hotel_model.proofs.Names.{link_of_party, link_to, insiders, kinds, rooms, stays, in_state, all_notes}
+use Rattle.hotel_model.proofs.Names.{and_note, notes, fits, room_row, rows_of, Reached, are_in_order, keys_in_order}
 use Rattle.hotel_nights.specs.declared.stay.StayState.TheVariants as state
 use Rattle.hotel_model.proofs.OfTables.KeysInOrder.{InOrder, in_order_inserted, keys_inserted, in_order_tested}
-use Rattle.hotel_model.proofs.{OfTables.Insiders.insiders_in_order, OfTables.Pairs.pair_cmp_total, Invariants.Numbering.same_keys, OfTables.RowTests.both}
-use Rattle.hotel_model.proofs.{OfTables.SameTables.in_order_with, Starts.StartCodes.orders, Starts.StartCodes.same_room_keys}
+use Rattle.hotel_model.proofs.{OfTables.Insiders.insiders_in_order, OfTables.Pairs.pair_cmp_total}
+use Rattle.hotel_model.proofs.{Invariants.Numbering.same_keys, OfTables.RowTests.both}
+use Rattle.hotel_model.proofs.{OfTables.SameTables.in_order_with, Starts.StartCodes.orders}
+use Rattle.hotel_model.proofs.{Starts.StartCodes.same_room_keys}
 
 -- a table's keys stand in order
 abbrev pub AreInOrder : {X : Type 0} → List (ℕ × X) → Type 0

@@ -1,6 +1,9 @@
 -- Kinds read as codes, and the kinds of rooms and stays are there.
-use Rattle.std.proofs.Common.{ℕ, ◌≡◌, Bool, true, false, List, [], ◌∷◌, refl, ◌∙◌, ◌||◌, bytes_eq, nat_cmp, Ordering, Less, Equal, Greater}
-use Rattle.hotel_model.proofs.Names.{match_ordering, slice_cmp, list_any, insert_key, Event, Kind, Install, Reserved, History, start, ◌▷◌, kinds, rooms, room_row, rows_of, is_kind, Reached, kinds_read, room_kinds_there, stay_kinds_there}
+use Rattle.std.proofs.Common.{ℕ, ◌≡◌, Bool, true, false, List, [], ◌∷◌, refl, ◌∙◌, ◌||◌, bytes_eq, nat_cmp, Ordering}
+use Rattle.std.proofs.Common.{Less, Equal, Greater}
+use Rattle.hotel_model.proofs.Names.{match_ordering, slice_cmp, list_any, insert_key, Event, Kind, Install, Reserved}
+use Rattle.hotel_model.proofs.Names.{History, start, ◌▷◌, kinds, rooms, room_row, rows_of, is_kind, Reached, kinds_read}
+use Rattle.hotel_model.proofs.Names.{room_kinds_there, stay_kinds_there}
 use Rattle.hotel_nights.specs.Kinds as nights
 use Rattle.hotel_model.proofs.{OfTables.Grown.may_follow, Invariants.EventRanges.last_in_range}
 use Rattle.hotel_model.proofs.OfTables.RowTests.{or_later, all_mapped, all_keys_inserted}

@@ -1,9 +1,17 @@
 -- Links as the rows tell them: where they stand, and which is a room's newest and a party's last.
-use Rattle.std.proofs.Common.{ℕ, ◌≡◌, Bool, true, false, cond, Option, Some, None, List, [], ◌∷◌, ◌++◌, length, refl, ap, sym, ◌∙◌, append_assoc, arith, length-append, ◌-◌, ◌==◌, if◌then◌else◌, nat_cmp}
-use Rattle.hotel_model.proofs.Names.{insert_entry, Card, Link, CodeRow, when, said_of, at_number, begins_fit, newest_link_at, last_link_of, or_else, link_of_last_card, Issue, Spare, History, start, ◌▷◌, issued, all_issued, cards, card_of, with_spare, link_of_party, link_to, newest_link, rows_of, next_card, same_link, Reached, code_is, stands_at, are_neighbours, is_newest}
-use Rattle.hotel_model.proofs.{Facts.CodeFacts.IsLinkOf, OfTables.Tests.eq_from, OfTables.Tests.eq_self, OfTables.Tests.not_both, OfTables.Grown.may_follow}
-use Rattle.hotel_model.proofs.{OfTables.Counting.comes_last, Invariants.Numbering.cards_count, Invariants.CodePlaces.codes_have_places}
-use Rattle.hotel_model.proofs.{Invariants.NewestLinks.newest_by_rows, Starts.StartRules.link_is, OfTables.RowTests.both, SoundRows.SoundRoomRows.eq_tested}
+use Rattle.std.proofs.Common.{ℕ, ◌≡◌, Bool, true, false, cond, Option, Some, None, List, [], ◌∷◌, ◌++◌, length, refl}
+use Rattle.std.proofs.Common.{ap, sym, ◌∙◌, append_assoc, arith, length-append, ◌-◌, ◌==◌, if◌then◌else◌, nat_cmp}
+use Rattle.hotel_model.proofs.Names.{insert_entry, Card, Link, CodeRow, when, said_of, at_number, begins_fit}
+use Rattle.hotel_model.proofs.Names.{newest_link_at, last_link_of, or_else, link_of_last_card, Issue, Spare, History}
+use Rattle.hotel_model.proofs.Names.{start, ◌▷◌, issued, all_issued, cards, card_of, with_spare, link_of_party, link_to}
+use Rattle.hotel_model.proofs.Names.{newest_link, rows_of, next_card, same_link, Reached, code_is, stands_at}
+use Rattle.hotel_model.proofs.Names.{are_neighbours, is_newest}
+use Rattle.hotel_model.proofs.{Facts.CodeFacts.IsLinkOf, OfTables.Tests.eq_from, OfTables.Tests.eq_self}
+use Rattle.hotel_model.proofs.{OfTables.Tests.not_both, OfTables.Grown.may_follow}
+use Rattle.hotel_model.proofs.{OfTables.Counting.comes_last, Invariants.Numbering.cards_count}
+use Rattle.hotel_model.proofs.{Invariants.CodePlaces.codes_have_places}
+use Rattle.hotel_model.proofs.{Invariants.NewestLinks.newest_by_rows, Starts.StartRules.link_is, OfTables.RowTests.both}
+use Rattle.hotel_model.proofs.{SoundRows.SoundRoomRows.eq_tested}
 use Rattle.hotel_model.proofs.OfTables.CodesByPlace.{codes_are_placed}
 
 pub said_some : {X : Type 0} (o : Option X) (x : X) (test : X → Bool) → o ≡ Some x → test x ≡ true → said_of o false test ≡ true

@@ -1,18 +1,40 @@
 -- Notes: their counts, and that what they say fits their rooms.
-use Rattle.std.proofs.Common.{ℕ, ◌≡◌, ◌<◌, ◌≤◌, ◌+◌, ◌==◌, Bool, true, false, cond, Option, Some, None, List, [], ◌∷◌, ◌++◌, length, refl, is_eq, ap, sym, ◌∙◌, subst, append_assoc, arith, length-append, ◌&&◌, is_some, nat_le}
-use Rattle.hotel_model.proofs.Names.{Card, Link, Act, Note, IsTimed, CodeRow, is_one_of, before, after, at_number, Event, Moment, Entered, Left, Recoded, note_of, History, ◌▷◌, issued, all_issued, cards, held, passed, awaited, same_link, rows_of, is_room, Reached, is_day, code_is, are_neighbours, stands_at, comes_later, has_link_at, act_fits, note_fits, notes_fit, is_of_fit, notes_of_fits, notes_counted, notes, notes_before, present_fit, all_notes, fits, fit_at, FitRow, fit_row, start, Install, Refitted, is_at, lookup, insert_entry, pair_cmp, said_of, list_all}
+use Rattle.std.proofs.Common.{ℕ, ◌≡◌, ◌<◌, ◌≤◌, ◌+◌, ◌==◌, Bool, true, false, cond, Option, Some, None, List, [], ◌∷◌}
+use Rattle.std.proofs.Common.{◌++◌, length, refl, is_eq, ap, sym, ◌∙◌, subst, append_assoc, arith, length-append, ◌&&◌}
+use Rattle.std.proofs.Common.{is_some, nat_le}
+use Rattle.hotel_model.proofs.Names.{Card, Link, Act, Note, IsTimed, CodeRow, is_one_of, before, after, at_number}
+use Rattle.hotel_model.proofs.Names.{Event, Moment, Entered, Left, Recoded, note_of, History, ◌▷◌, issued, all_issued}
+use Rattle.hotel_model.proofs.Names.{cards, held, passed, awaited, same_link, rows_of, is_room, Reached, is_day}
+use Rattle.hotel_model.proofs.Names.{code_is, are_neighbours, stands_at, comes_later, has_link_at, act_fits, note_fits}
+use Rattle.hotel_model.proofs.Names.{notes_fit, is_of_fit, notes_of_fits, notes_counted, notes, notes_before}
+use Rattle.hotel_model.proofs.Names.{present_fit, all_notes, fits, fit_at, FitRow, fit_row, start, Install, Refitted}
+use Rattle.hotel_model.proofs.Names.{is_at, lookup, insert_entry, pair_cmp, said_of, list_all}
 use Rattle.keycard_rules.specs.declared.note.Act.TheVariants as act
-use Rattle.hotel_model.proofs.{Facts.CodeFacts.IsLinkOf, OfTables.Tests.eq_from, OfTables.Tests.eq_self, OfTables.Tests.and_true, OfTables.Tests.not_both, OfTables.Grown.may_follow}
-use Rattle.hotel_model.proofs.{Invariants.EventRanges.last_in_range, OfTables.CodeLists.parted, Invariants.CodePlaces.codes_have_places}
-use Rattle.hotel_model.proofs.{Invariants.LedgerOrder.ledger_holds, Invariants.LedgerOrder.card_seen, Invariants.LedgerOrder.link_seen, Invariants.OpenLocks.link_of_room}
-use Rattle.hotel_model.proofs.{RowsAfter.HasRows.room_has_row, Lifted.LiftEasy.room_is_there, OfTables.RowTests.both, SoundRows.RowsPass.notes_pass}
-use Rattle.hotel_model.proofs.{OfTables.Tests.le_tested, OfTables.Tests.lt_tested, SoundRows.SoundRoomRows.each_room_is, SoundRows.SoundRoomRows.eq_tested}
+use Rattle.hotel_model.proofs.{Facts.CodeFacts.IsLinkOf, OfTables.Tests.eq_from, OfTables.Tests.eq_self}
+use Rattle.hotel_model.proofs.{OfTables.Tests.and_true, OfTables.Tests.not_both, OfTables.Grown.may_follow}
+use Rattle.hotel_model.proofs.{Invariants.EventRanges.last_in_range, OfTables.CodeLists.parted}
+use Rattle.hotel_model.proofs.{Invariants.CodePlaces.codes_have_places}
+use Rattle.hotel_model.proofs.{Invariants.LedgerOrder.ledger_holds, Invariants.LedgerOrder.card_seen}
+use Rattle.hotel_model.proofs.{Invariants.LedgerOrder.link_seen, Invariants.OpenLocks.link_of_room}
+use Rattle.hotel_model.proofs.{RowsAfter.HasRows.room_has_row, Lifted.LiftEasy.room_is_there, OfTables.RowTests.both}
+use Rattle.hotel_model.proofs.{SoundRows.RowsPass.notes_pass}
+use Rattle.hotel_model.proofs.{OfTables.Tests.le_tested, OfTables.Tests.lt_tested, SoundRows.SoundRoomRows.each_room_is}
+use Rattle.hotel_model.proofs.{SoundRows.SoundRoomRows.eq_tested}
 use Rattle.hotel_model.proofs.SoundRows.SoundLinks.{said_some, link_stands, same_self}
 use Rattle.hotel_model.proofs.SoundRows.SoundInside.{insiders_seen, one_card}
-use Rattle.hotel_model.proofs.{Invariants.HomeRooms.room_goes_on, Invariants.Kept.code_is_on, Invariants.Kept.card_is_on}
-use Rattle.hotel_model.proofs.{OfTables.NotesListed.notes_numbered, OfTables.NotesListed.is_within, OfTables.NotesListed.within_goes_on, OfTables.NotesListed.one_more_note, Starts.StartRows.rows_of_start}
-use Rattle.hotel_model.proofs.{Invariants.FitsKept.is_kept_fit, Invariants.FitsKept.fits_kept, Invariants.FitsKept.no_fit_found, Invariants.FitsOf.fits_of, Invariants.FitsOf.present_found, Invariants.FitsOf.next_fit_free, Invariants.NotesOfFits.next_number}
-use Rattle.hotel_model.proofs.{OfTables.Inserted.found_inserted, OfTables.Pairs.pair_cmp_total, OfTables.Pairs.same_pair, OfTables.RowTests.found_passes_by, OfTables.RowTests.all_weaker, Starts.StartRules.said_true, Starts.StartNotes.numbers_within_at_start}
+use Rattle.hotel_model.proofs.{Invariants.HomeRooms.room_goes_on, Invariants.Kept.code_is_on}
+use Rattle.hotel_model.proofs.{Invariants.Kept.card_is_on}
+use Rattle.hotel_model.proofs.{OfTables.NotesListed.notes_numbered, OfTables.NotesListed.is_within}
+use Rattle.hotel_model.proofs.{OfTables.NotesListed.within_goes_on, OfTables.NotesListed.one_more_note}
+use Rattle.hotel_model.proofs.{Starts.StartRows.rows_of_start}
+use Rattle.hotel_model.proofs.{Invariants.FitsKept.is_kept_fit, Invariants.FitsKept.fits_kept}
+use Rattle.hotel_model.proofs.{Invariants.FitsKept.no_fit_found, Invariants.FitsOf.fits_of}
+use Rattle.hotel_model.proofs.{Invariants.FitsOf.present_found, Invariants.FitsOf.next_fit_free}
+use Rattle.hotel_model.proofs.{Invariants.NotesOfFits.next_number}
+use Rattle.hotel_model.proofs.{OfTables.Inserted.found_inserted, OfTables.Pairs.pair_cmp_total}
+use Rattle.hotel_model.proofs.{OfTables.Pairs.same_pair, OfTables.RowTests.found_passes_by}
+use Rattle.hotel_model.proofs.{OfTables.RowTests.all_weaker, Starts.StartRules.said_true}
+use Rattle.hotel_model.proofs.{Starts.StartNotes.numbers_within_at_start}
 
 -- The numbers of each room's notes are 1 to how many there are.
 pub notes_are_counted : (h : History) → Reached h → notes_counted (rows_of h) ≡ true

@@ -1,12 +1,19 @@
 -- Rooms: their numbers, locks, counts of codes and notes, and which are secured.
-use Rattle.std.proofs.Common.{ℕ, ◌≡◌, ◌≤◌, ◌<◌, ◌-◌, not, cond, sym, Option, None, Bool, true, false, Some, List, [], ◌∷◌, ◌++◌, length, refl, ap, ◌∙◌, arith, length-append, ◌==◌, ◌&&◌, nat_le, nat_cmp}
-use Rattle.hotel_model.proofs.Names.{nat_cmp_total, nat_tests, Link, begins_fit, last_link_of, RoomRow, at_number, Install, History, issued, passed, awaited, held, secured, rooms, room_row, rows_of, is_room, Reached, each_room, room_numbers, lock_places, codes_few, note_counts, secured_hold_last}
-use Rattle.hotel_model.proofs.{OfTables.Numbered.found_there, Invariants.EventRanges.last_in_range, Invariants.NumbersLeft.codes_fit}
+use Rattle.std.proofs.Common.{ℕ, ◌≡◌, ◌≤◌, ◌<◌, ◌-◌, not, cond, sym, Option, None, Bool, true, false, Some, List, []}
+use Rattle.std.proofs.Common.{◌∷◌, ◌++◌, length, refl, ap, ◌∙◌, arith, length-append, ◌==◌, ◌&&◌, nat_le, nat_cmp}
+use Rattle.hotel_model.proofs.Names.{nat_cmp_total, nat_tests, Link, begins_fit, last_link_of, RoomRow, at_number}
+use Rattle.hotel_model.proofs.Names.{Install, History, issued, passed, awaited, held, secured, rooms, room_row, rows_of}
+use Rattle.hotel_model.proofs.Names.{is_room, Reached, each_room, room_numbers, lock_places, codes_few, note_counts}
+use Rattle.hotel_model.proofs.Names.{secured_hold_last}
+use Rattle.hotel_model.proofs.{OfTables.Numbered.found_there, Invariants.EventRanges.last_in_range}
+use Rattle.hotel_model.proofs.{Invariants.NumbersLeft.codes_fit}
 use Rattle.hotel_model.proofs.{Invariants.LedgerOrder.ledger_holds, OfTables.Tests.eq_self}
 use Rattle.hotel_model.proofs.Invariants.SecuredRooms.{secured_rooms_fit, secured_have_newest}
-use Rattle.hotel_model.proofs.{OfTables.RowTests.both, OfTables.RowTests.where_so, OfTables.RowTests.all_mapped, OfTables.RowTests.all_found, SoundRows.RowsPass.rooms_pass}
+use Rattle.hotel_model.proofs.{OfTables.RowTests.both, OfTables.RowTests.where_so, OfTables.RowTests.all_mapped}
+use Rattle.hotel_model.proofs.{OfTables.RowTests.all_found, SoundRows.RowsPass.rooms_pass}
 use Rattle.hotel_model.proofs.{SoundRows.SoundKeys.rooms_in_order, OfTables.Tests.le_tested, OfTables.Tests.lt_tested}
-use Rattle.hotel_model.proofs.{Starts.StartRows.rooms_numbered_at_start, Invariants.FitsOf.few_notes, Invariants.RoomLinks.newest_are_last, Invariants.NewestLinks.newest_by_rows}
+use Rattle.hotel_model.proofs.{Starts.StartRows.rooms_numbered_at_start, Invariants.FitsOf.few_notes}
+use Rattle.hotel_model.proofs.{Invariants.RoomLinks.newest_are_last, Invariants.NewestLinks.newest_by_rows}
 
 -- a rule of all rooms holds where it holds of each room's row
 pub each_room_is : (h : History) → Reached h → (rule : RoomRow → Bool) → ((r : ℕ) (kind : List ℕ) → at_number (rooms h) r ≡ Some kind → rule (room_row h r kind) ≡ true) → each_room (rows_of h) rule ≡ true

@@ -1,11 +1,18 @@
 -- Stays: their numbers, guests, days and rooms.
-use Rattle.std.proofs.Common.{ℕ, ◌≡◌, ◌+◌, true, false, Option, Some, None, refl, ap, ◌∙◌, ◌==◌, ◌&&◌, nat_le, nat_lt, nat_cmp}
-use Rattle.hotel_model.proofs.Names.{nat_cmp_total, Stay, RoomRow, said_of, is_that, at_number, Reserved, History, stays, rows_of, room_of_state, room_of, Reached, is_day, stay_numbers, guests_read, stay_days, has_party, stay_rooms}
+use Rattle.std.proofs.Common.{ℕ, ◌≡◌, ◌+◌, true, false, Option, Some, None, refl, ap, ◌∙◌, ◌==◌, ◌&&◌, nat_le, nat_lt}
+use Rattle.std.proofs.Common.{nat_cmp}
+use Rattle.hotel_model.proofs.Names.{nat_cmp_total, Stay, RoomRow, said_of, is_that, at_number, Reserved, History}
+use Rattle.hotel_model.proofs.Names.{stays, rows_of, room_of_state, room_of, Reached, is_day, stay_numbers, guests_read}
+use Rattle.hotel_model.proofs.Names.{stay_days, has_party, stay_rooms}
 use Rattle.hotel_nights.specs.Guests.{is_guest}
-use Rattle.hotel_model.proofs.{OfTables.Tests.eq_from, OfTables.Tests.eq_self, Invariants.EventRanges.last_in_range, Invariants.Numbering.stays_count}
-use Rattle.hotel_model.proofs.{Invariants.NumbersLeft.stays_fit, OfTables.RoomNumbers.room_there, Invariants.InHouse.registered_in_house, Invariants.HomeRooms.home_is_room}
-use Rattle.hotel_model.proofs.{OfTables.RowTests.both, OfTables.RowTests.all_found, OfTables.RowTests.found_passes, SoundRows.RowsPass.stays_pass}
-use Rattle.hotel_model.proofs.{SoundRows.SoundKeys.stays_in_order, OfTables.Tests.le_tested, OfTables.Tests.lt_tested, Starts.StartNumbers.stays_numbered_at_start}
+use Rattle.hotel_model.proofs.{OfTables.Tests.eq_from, OfTables.Tests.eq_self, Invariants.EventRanges.last_in_range}
+use Rattle.hotel_model.proofs.{Invariants.Numbering.stays_count}
+use Rattle.hotel_model.proofs.{Invariants.NumbersLeft.stays_fit, OfTables.RoomNumbers.room_there}
+use Rattle.hotel_model.proofs.{Invariants.InHouse.registered_in_house, Invariants.HomeRooms.home_is_room}
+use Rattle.hotel_model.proofs.{OfTables.RowTests.both, OfTables.RowTests.all_found, OfTables.RowTests.found_passes}
+use Rattle.hotel_model.proofs.{SoundRows.RowsPass.stays_pass}
+use Rattle.hotel_model.proofs.{SoundRows.SoundKeys.stays_in_order, OfTables.Tests.le_tested, OfTables.Tests.lt_tested}
+use Rattle.hotel_model.proofs.{Starts.StartNumbers.stays_numbered_at_start}
 
 -- the stay of a number has it
 pub stay_has_number : (h : History) → Reached h → (p : ℕ) (stay : Stay) → at_number (stays h) p ≡ Some stay → stay.party ≡ p

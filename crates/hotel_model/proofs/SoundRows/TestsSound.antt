@@ -1,8 +1,19 @@
 -- Rows are sound exactly where they pass the test of all rules: a night that is fullest is the first of a stay.
-use Rattle.std.proofs.Common.{ℕ, zero, suc, ◌≡◌, ◌≤◌, Bool, true, false, cond, List, [], ◌∷◌, refl, sym, ◌∙◌, subst, arith, ◌==◌, ◌&&◌, ◌||◌, bytes_eq, nat_le, nat_lt, count_by}
-use Rattle.hotel_model.proofs.Names.{list_any, list_all, values_of, nat_tests, bytes_eq-Decides, Stay, takes, is_standing, Rows, day_in_range, day_before_kinds, kinds_read, room_numbers, lock_places, room_kinds_there, codes_few, note_counts, parties_in_house, secured_hold_last, stay_numbers, guests_read, stay_kinds_there, stay_days, stay_rooms, nights_fit, stays_on, rooms_with, codes_in_range, code_rooms_there, places_once, card_numbers, card_parties_there, links_are_neighbours, links_of_one_party, neighbours_are_links, newest_of_party, last_cards_newest, insides_fit, notes_counted, notes_fit, IsSound, passes_rules, fits_without_links, notes_of_fits, fit_rooms_there, fit_numbers, first_fits, fit_places_rise, fit_notes_rise, last_fits_held, last_fits_noted, fit_notes_few, rows_of_last_fits}
+use Rattle.std.proofs.Common.{ℕ, zero, suc, ◌≡◌, ◌≤◌, Bool, true, false, cond, List, [], ◌∷◌, refl, sym, ◌∙◌, subst}
+use Rattle.std.proofs.Common.{arith, ◌==◌, ◌&&◌, ◌||◌, bytes_eq, nat_le, nat_lt, count_by}
+use Rattle.hotel_model.proofs.Names.{list_any, list_all, values_of, nat_tests, bytes_eq-Decides, Stay, takes}
+use Rattle.hotel_model.proofs.Names.{is_standing, Rows, day_in_range, day_before_kinds, kinds_read, room_numbers}
+use Rattle.hotel_model.proofs.Names.{lock_places, room_kinds_there, codes_few, note_counts, parties_in_house}
+use Rattle.hotel_model.proofs.Names.{secured_hold_last, stay_numbers, guests_read, stay_kinds_there, stay_days}
+use Rattle.hotel_model.proofs.Names.{stay_rooms, nights_fit, stays_on, rooms_with, codes_in_range, code_rooms_there}
+use Rattle.hotel_model.proofs.Names.{places_once, card_numbers, card_parties_there, links_are_neighbours}
+use Rattle.hotel_model.proofs.Names.{links_of_one_party, neighbours_are_links, newest_of_party, last_cards_newest}
+use Rattle.hotel_model.proofs.Names.{insides_fit, notes_counted, notes_fit, IsSound, passes_rules, fits_without_links}
+use Rattle.hotel_model.proofs.Names.{notes_of_fits, fit_rooms_there, fit_numbers, first_fits, fit_places_rise}
+use Rattle.hotel_model.proofs.Names.{fit_notes_rise, last_fits_held, last_fits_noted, fit_notes_few, rows_of_last_fits}
 use Rattle.hotel_nights.specs.FullNight.{is_of_kind}
-use Rattle.hotel_model.proofs.{OfTables.Tests.eq_from, OfTables.Tests.and_true, OfTables.Tests.or_false, OfTables.Tests.not_both, Invariants.KindCounts.count_more}
+use Rattle.hotel_model.proofs.{OfTables.Tests.eq_from, OfTables.Tests.and_true, OfTables.Tests.or_false}
+use Rattle.hotel_model.proofs.{OfTables.Tests.not_both, Invariants.KindCounts.count_more}
 use Rattle.hotel_model.proofs.{OfTables.RowTests.both, OfTables.Tests.le_tested}
 
 -- each first night of a stay fits, where all nights do

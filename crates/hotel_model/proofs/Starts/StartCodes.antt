@@ -1,9 +1,17 @@
 -- The codes of sound rows: each stands at one place of one room, and the places of a room are counted.
-use Rattle.std.proofs.Common.{ℕ, ◌≡◌, ◌<◌, ◌+◌, Bool, true, false, cond, Option, Some, None, List, [], ◌∷◌, ◌++◌, length, refl, ap, sym, ◌∙◌, subst, arith, ◌==◌, ◌&&◌, nat_le, nat_lt, is_some, map, nat_cmp}
-use Rattle.hotel_model.proofs.Names.{list_all, insert_entry, keys_of, values_of, slice_cmp, nat_cmp_total, nat_list_cmp_total, CodeRow, RoomRow, when, pair_cmp, is_one_of, said_of, Rows, at_number, codes_by_place, codes_at, lock_place_of, start, is_room, count_up, are_in_order, codes_listed, IsSound}
-use Rattle.hotel_model.proofs.{Facts.CodeFacts.CodesHavePlaces, Facts.CodeFacts.PlacesHaveCodes, OfTables.KeysInOrder.InOrder, OfTables.CodeLists.nothing_in_nil}
-use Rattle.hotel_model.proofs.{OfTables.Pairs.pair_cmp_total, OfTables.Tests.eq_from, OfTables.Tests.and_true, OfTables.Tests.not_both, OfTables.TableKeys.is_key}
-use Rattle.hotel_model.proofs.{OfTables.RowTests.found_passes, Starts.StartRules.some_of, OfTables.Tests.lt_from, Starts.StartOrder.in_order_from}
+use Rattle.std.proofs.Common.{ℕ, ◌≡◌, ◌<◌, ◌+◌, Bool, true, false, cond, Option, Some, None, List, [], ◌∷◌, ◌++◌}
+use Rattle.std.proofs.Common.{length, refl, ap, sym, ◌∙◌, subst, arith, ◌==◌, ◌&&◌, nat_le, nat_lt, is_some, map}
+use Rattle.std.proofs.Common.{nat_cmp}
+use Rattle.hotel_model.proofs.Names.{list_all, insert_entry, keys_of, values_of, slice_cmp, nat_cmp_total}
+use Rattle.hotel_model.proofs.Names.{nat_list_cmp_total, CodeRow, RoomRow, when, pair_cmp, is_one_of, said_of, Rows}
+use Rattle.hotel_model.proofs.Names.{at_number, codes_by_place, codes_at, lock_place_of, start, is_room, count_up}
+use Rattle.hotel_model.proofs.Names.{are_in_order, codes_listed, IsSound}
+use Rattle.hotel_model.proofs.{Facts.CodeFacts.CodesHavePlaces, Facts.CodeFacts.PlacesHaveCodes}
+use Rattle.hotel_model.proofs.{OfTables.KeysInOrder.InOrder, OfTables.CodeLists.nothing_in_nil}
+use Rattle.hotel_model.proofs.{OfTables.Pairs.pair_cmp_total, OfTables.Tests.eq_from, OfTables.Tests.and_true}
+use Rattle.hotel_model.proofs.{OfTables.Tests.not_both, OfTables.TableKeys.is_key}
+use Rattle.hotel_model.proofs.{OfTables.RowTests.found_passes, Starts.StartRules.some_of, OfTables.Tests.lt_from}
+use Rattle.hotel_model.proofs.{Starts.StartOrder.in_order_from}
 use Rattle.hotel_model.proofs.Starts.StartPlaces.{listed, one_listed, is_placed, placed_back}
 use Rattle.hotel_model.proofs.Starts.StartSplits.{SplitsAt, split_at, found_at, length_values}
 

@@ -1,8 +1,14 @@
 -- The fits of sound rows.
-use Rattle.std.proofs.Common.{ℕ, ◌≡◌, ◌≤◌, ◌+◌, Bool, true, false, Option, Some, None, List, [], ◌∷◌, ◌++◌, map, length, refl, ap, sym, ◌∙◌, subst, arith, ◌==◌, ◌&&◌, ◌||◌, not, nat_le, nat_cmp, is_some}
-use Rattle.hotel_model.proofs.Names.{list_all, RoomRow, FitRow, Rows, at_number, said_of, when, fits_at, last_fit, count_up, are_in_order, first_is_first, none_fall, notes_before_each, rise_by_few, start, passed, notes, present_fit, notes_before, is_room, IsSound}
-use Rattle.hotel_model.proofs.{OfTables.Tests.eq_from, OfTables.Tests.eq_self, OfTables.Tests.and_true, OfTables.Tests.not_both, OfTables.Tests.le_tested, OfTables.RowTests.both, OfTables.RowTests.found_passes, OfTables.FitLists.FitsFor}
-use Rattle.hotel_model.proofs.{OfTables.Tests.le_from, Starts.StartRules.said_at, Starts.StartCodes.room_is, Starts.StartCodes.room_there_is, Starts.StartCodes.has_row}
+use Rattle.std.proofs.Common.{ℕ, ◌≡◌, ◌≤◌, ◌+◌, Bool, true, false, Option, Some, None, List, [], ◌∷◌, ◌++◌, map, length}
+use Rattle.std.proofs.Common.{refl, ap, sym, ◌∙◌, subst, arith, ◌==◌, ◌&&◌, ◌||◌, not, nat_le, nat_cmp, is_some}
+use Rattle.hotel_model.proofs.Names.{list_all, RoomRow, FitRow, Rows, at_number, said_of, when, fits_at, last_fit}
+use Rattle.hotel_model.proofs.Names.{count_up, are_in_order, first_is_first, none_fall, notes_before_each, rise_by_few}
+use Rattle.hotel_model.proofs.Names.{start, passed, notes, present_fit, notes_before, is_room, IsSound}
+use Rattle.hotel_model.proofs.{OfTables.Tests.eq_from, OfTables.Tests.eq_self, OfTables.Tests.and_true}
+use Rattle.hotel_model.proofs.{OfTables.Tests.not_both, OfTables.Tests.le_tested, OfTables.RowTests.both}
+use Rattle.hotel_model.proofs.{OfTables.RowTests.found_passes, OfTables.FitLists.FitsFor}
+use Rattle.hotel_model.proofs.{OfTables.Tests.le_from, Starts.StartRules.said_at, Starts.StartCodes.room_is}
+use Rattle.hotel_model.proofs.{Starts.StartCodes.room_there_is, Starts.StartCodes.has_row}
 use Rattle.hotel_model.proofs.{Starts.StartLedger.not_there, Starts.StartRows.lock_is, Starts.StartRows.notes_counted}
 
 -- numbers that go up end with the last

@@ -1,9 +1,15 @@
 -- The guests of sound rows: who is registered is in house there, and has a card of the room's newest link.
-use Rattle.std.proofs.Common.{ℕ, ◌≡◌, true, false, Option, Some, None, refl, ap, sym, ◌∙◌, ◌&&◌, is_some, bytes_eq, option_map}
-use Rattle.hotel_model.proofs.Names.{Link, Stay, RoomRow, said_of, is_that, Rows, at_number, link_of_last_card, start, registered, newest_link, link_of_party, is_room, room_of, room_of_state, is_in_house, is_newest, IsSound, is_home_of, rooms}
-use Rattle.hotel_model.proofs.{Facts.CodeFacts.GuestsHaveCards, OfTables.Tests.and_true, Invariants.Homes.Match, OfTables.RowTests.found_passes}
-use Rattle.hotel_model.proofs.{Starts.StartRules.said_true, Starts.StartRules.said_at, Starts.StartRules.some_of, Starts.StartRules.that_is, Starts.StartCodes.room_is}
-use Rattle.hotel_model.proofs.{Starts.StartNumbers.party_is, Starts.StartLedger.not_there, Starts.StartLinks.newest_by_rule, Starts.StartLinks.parties_have_cards_at_start}
+use Rattle.std.proofs.Common.{ℕ, ◌≡◌, true, false, Option, Some, None, refl, ap, sym, ◌∙◌, ◌&&◌, is_some, bytes_eq}
+use Rattle.std.proofs.Common.{option_map}
+use Rattle.hotel_model.proofs.Names.{Link, Stay, RoomRow, said_of, is_that, Rows, at_number, link_of_last_card, start}
+use Rattle.hotel_model.proofs.Names.{registered, newest_link, link_of_party, is_room, room_of, room_of_state}
+use Rattle.hotel_model.proofs.Names.{is_in_house, is_newest, IsSound, is_home_of, rooms}
+use Rattle.hotel_model.proofs.{Facts.CodeFacts.GuestsHaveCards, OfTables.Tests.and_true, Invariants.Homes.Match}
+use Rattle.hotel_model.proofs.{OfTables.RowTests.found_passes}
+use Rattle.hotel_model.proofs.{Starts.StartRules.said_true, Starts.StartRules.said_at, Starts.StartRules.some_of}
+use Rattle.hotel_model.proofs.{Starts.StartRules.that_is, Starts.StartCodes.room_is}
+use Rattle.hotel_model.proofs.{Starts.StartNumbers.party_is, Starts.StartLedger.not_there}
+use Rattle.hotel_model.proofs.{Starts.StartLinks.newest_by_rule, Starts.StartLinks.parties_have_cards_at_start}
 use Rattle.hotel_model.proofs.OfTables.Numbered.{at_mapped}
 
 said_some : {X : Type 0} (o : Option X) (f : X → Option ℕ) (n : ℕ) → said_of o None f ≡ Some n → (x : X) × (o ≡ Some x) × (f x ≡ Some n)

@@ -1,8 +1,13 @@
 -- The cards inside rooms of sound rows: the room's lock came to their new code.
-use Rattle.std.proofs.Common.{ℕ, ◌≡◌, ◌≤◌, ◌+◌, true, Some, None, List, [], ◌∷◌, ◌++◌, length, take, ap, sym, ◌∙◌, arith, append_assoc, length-append, ◌&&◌, ◌||◌, not, nat_le, nat_lt, is_some}
-use Rattle.hotel_model.proofs.Names.{Card, Link, CodeRow, RoomRow, is_one_of, Rows, at_number, codes_at, lock_place_of, start, those_in, is_room, room_is, card_is, code_is, stands_at, is_newest, fits_inside, has_entered, last_fit_place, IsSound}
-use Rattle.hotel_model.proofs.{Facts.CodeFacts.IsLinkOf, OfTables.Tests.and_true, Starts.StartRules.said_true, OfTables.Tests.le_from, OfTables.Tests.lt_from}
-use Rattle.hotel_model.proofs.{Starts.StartCodes.room_there_is, Starts.StartCodes.place_is_row, Starts.StartLinks.stands_is, Starts.StartSecured.inside_passes}
+use Rattle.std.proofs.Common.{ℕ, ◌≡◌, ◌≤◌, ◌+◌, true, Some, None, List, [], ◌∷◌, ◌++◌, length, take, ap, sym, ◌∙◌}
+use Rattle.std.proofs.Common.{arith, append_assoc, length-append, ◌&&◌, ◌||◌, not, nat_le, nat_lt, is_some}
+use Rattle.hotel_model.proofs.Names.{Card, Link, CodeRow, RoomRow, is_one_of, Rows, at_number, codes_at, lock_place_of}
+use Rattle.hotel_model.proofs.Names.{start, those_in, is_room, room_is, card_is, code_is, stands_at, is_newest}
+use Rattle.hotel_model.proofs.Names.{fits_inside, has_entered, last_fit_place, IsSound}
+use Rattle.hotel_model.proofs.{Facts.CodeFacts.IsLinkOf, OfTables.Tests.and_true, Starts.StartRules.said_true}
+use Rattle.hotel_model.proofs.{OfTables.Tests.le_from, OfTables.Tests.lt_from}
+use Rattle.hotel_model.proofs.{Starts.StartCodes.room_there_is, Starts.StartCodes.place_is_row}
+use Rattle.hotel_model.proofs.{Starts.StartLinks.stands_is, Starts.StartSecured.inside_passes}
 use Rattle.hotel_model.proofs.Starts.StartRows.{lock_is}
 
 -- the link's codes are neighbours at the room, and its lock came to the new one

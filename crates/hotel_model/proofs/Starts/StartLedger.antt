@@ -1,9 +1,13 @@
 -- A start's ledger: the lock's place cuts a room's codes into passed, held and awaited ones.
-use Rattle.std.proofs.Common.{ℕ, zero, suc, ◌≡◌, ◌≤◌, ◌<◌, ◌+◌, Bool, true, false, None, List, [], ◌∷◌, ◌++◌, length, take, drop, refl, ap, sym, ◌∙◌, subst, arith, nat_le, is_some}
-use Rattle.hotel_model.proofs.Names.{RoomRow, Rows, at_number, codes_at, lock_place_of, first_of, start, fits_at, is_room, IsSound, LedgerHolds}
-use Rattle.hotel_model.proofs.{Facts.CodeFacts.HasCodes, Facts.CodeFacts.RoomsHaveCodes, Facts.CodeFacts.OthersHaveNone, Facts.CodeFacts.CodesFit, OfTables.RowTests.found_passes}
+use Rattle.std.proofs.Common.{ℕ, zero, suc, ◌≡◌, ◌≤◌, ◌<◌, ◌+◌, Bool, true, false, None, List, [], ◌∷◌, ◌++◌, length}
+use Rattle.std.proofs.Common.{take, drop, refl, ap, sym, ◌∙◌, subst, arith, nat_le, is_some}
+use Rattle.hotel_model.proofs.Names.{RoomRow, Rows, at_number, codes_at, lock_place_of, first_of, start, fits_at}
+use Rattle.hotel_model.proofs.Names.{is_room, IsSound, LedgerHolds}
+use Rattle.hotel_model.proofs.{Facts.CodeFacts.HasCodes, Facts.CodeFacts.RoomsHaveCodes, Facts.CodeFacts.OthersHaveNone}
+use Rattle.hotel_model.proofs.{Facts.CodeFacts.CodesFit, OfTables.RowTests.found_passes}
 use Rattle.hotel_model.proofs.{OfTables.Tests.le_from, Starts.StartRules.some_of}
-use Rattle.hotel_model.proofs.Starts.StartCodes.{counted, room_is, lock_within, no_codes_at, has_row, has_no_row, room_there_is}
+use Rattle.hotel_model.proofs.Starts.StartCodes.{counted, room_is, lock_within, no_codes_at, has_row, has_no_row}
+use Rattle.hotel_model.proofs.Starts.StartCodes.{room_there_is}
 
 -- a list cut at one of its places
 pub cut_at : (k : ℕ) (xs : List ℕ) → k < length xs → take k xs ++ first_of (drop k xs) ∷ drop (k + 1) xs ≡ xs

@@ -1,10 +1,17 @@
 -- The links of sound rows: a card's codes are neighbours at a room, and a link is one party's.
-use Rattle.std.proofs.Common.{ℕ, ◌≡◌, ◌+◌, ◌-◌, Bool, true, false, cond, Option, Some, None, List, [], ◌∷◌, ◌++◌, length, refl, ap, sym, ◌∙◌, subst, arith, append_assoc, length-append, ◌==◌, ◌&&◌, ◌||◌, not, nat_cmp}
-use Rattle.hotel_model.proofs.Names.{list_all, keys_of, Card, Link, CodeRow, said_of, last_of, Rows, at_number, codes_at, last_link_of, newest_link_at, begins_fit, link_of_last_card, or_else, start, same_link, stands_at, is_newest, IsSound}
-use Rattle.hotel_model.proofs.Facts.CodeFacts.{IsLinkOf, CardsHaveLinks, PartiesHaveLinks, PartiesHaveCards, CardsOneParty, NewestAreLast}
+use Rattle.std.proofs.Common.{ℕ, ◌≡◌, ◌+◌, ◌-◌, Bool, true, false, cond, Option, Some, None, List, [], ◌∷◌, ◌++◌}
+use Rattle.std.proofs.Common.{length, refl, ap, sym, ◌∙◌, subst, arith, append_assoc, length-append, ◌==◌, ◌&&◌, ◌||◌}
+use Rattle.std.proofs.Common.{not, nat_cmp}
+use Rattle.hotel_model.proofs.Names.{list_all, keys_of, Card, Link, CodeRow, said_of, last_of, Rows, at_number}
+use Rattle.hotel_model.proofs.Names.{codes_at, last_link_of, newest_link_at, begins_fit, link_of_last_card, or_else}
+use Rattle.hotel_model.proofs.Names.{start, same_link, stands_at, is_newest, IsSound}
+use Rattle.hotel_model.proofs.Facts.CodeFacts.{IsLinkOf, CardsHaveLinks, PartiesHaveLinks, PartiesHaveCards}
+use Rattle.hotel_model.proofs.Facts.CodeFacts.{CardsOneParty, NewestAreLast}
 use Rattle.hotel_model.proofs.{OfTables.KeysInOrder.InOrder, OfTables.CodeLists.cut_alike, OfTables.CodeLists.last_more}
-use Rattle.hotel_model.proofs.{OfTables.Tests.eq_from, OfTables.Tests.eq_self, OfTables.Tests.and_true, OfTables.Tests.or_second, OfTables.TableKeys.is_at_self}
-use Rattle.hotel_model.proofs.{OfTables.RowTests.found_passes, Starts.StartRules.said_true, Starts.StartRules.link_is, Starts.StartOrder.found_later, Starts.StartSplits.SplitsAt}
+use Rattle.hotel_model.proofs.{OfTables.Tests.eq_from, OfTables.Tests.eq_self, OfTables.Tests.and_true}
+use Rattle.hotel_model.proofs.{OfTables.Tests.or_second, OfTables.TableKeys.is_at_self}
+use Rattle.hotel_model.proofs.{OfTables.RowTests.found_passes, Starts.StartRules.said_true, Starts.StartRules.link_is}
+use Rattle.hotel_model.proofs.{Starts.StartOrder.found_later, Starts.StartSplits.SplitsAt}
 use Rattle.hotel_model.proofs.Starts.StartCodes.{orders, row_is_place, place_is_row}
 
 neighbours : (xs : List ℕ) (a b p q : ℕ) → SplitsAt xs a p → SplitsAt xs b q → q ≡ p + 1 → (before : List ℕ) × (later : List ℕ) × (xs ≡ before ++ a ∷ b ∷ later)

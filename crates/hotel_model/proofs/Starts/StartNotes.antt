@@ -1,11 +1,14 @@
 -- The notes of sound rows: the note of a room's number is the one of that place.
-use Rattle.std.proofs.Common.{ℕ, zero, suc, ◌≡◌, ◌≤◌, ◌+◌, Bool, true, false, Some, None, List, [], ◌∷◌, drop, refl, ap, sym, ◌∙◌, arith, ◌==◌, ◌&&◌, is_some, nat_le, length}
-use Rattle.hotel_model.proofs.Names.{is_at, list_all, lookup, Note, RoomRow, when, pair_cmp, Rows, at_number, notes_at, numbers_at, start, notes, is_room, count_up, is_day, act_fits, note_fits, IsSound}
+use Rattle.std.proofs.Common.{ℕ, zero, suc, ◌≡◌, ◌≤◌, ◌+◌, Bool, true, false, Some, None, List, [], ◌∷◌, drop, refl, ap}
+use Rattle.std.proofs.Common.{sym, ◌∙◌, arith, ◌==◌, ◌&&◌, is_some, nat_le, length}
+use Rattle.hotel_model.proofs.Names.{is_at, list_all, lookup, Note, RoomRow, when, pair_cmp, Rows, at_number, notes_at}
+use Rattle.hotel_model.proofs.Names.{numbers_at, start, notes, is_room, count_up, is_day, act_fits, note_fits, IsSound}
 use Rattle.hotel_model.proofs.OfTables.Pairs.{pair_cmp_total}
 use Rattle.hotel_model.proofs.OfTables.Tests.{eq_from, and_true, not_both, le_tested}
 use Rattle.hotel_model.proofs.{OfTables.RowTests.found_passes, OfTables.RowTests.all_found, Starts.StartRules.some_of}
 use Rattle.hotel_model.proofs.OfTables.AtRoom.{first_in, some_left, found_at, notes_are_picked, numbers_are_picked}
-use Rattle.hotel_model.proofs.{Starts.StartCodes.room_is, Starts.StartCodes.has_no_row, Starts.StartCodes.orders, Starts.StartLedger.not_there}
+use Rattle.hotel_model.proofs.{Starts.StartCodes.room_is, Starts.StartCodes.has_no_row, Starts.StartCodes.orders}
+use Rattle.hotel_model.proofs.{Starts.StartLedger.not_there}
 
 -- each note has a room that is there
 abbrev Kept : Rows → List ((ℕ × ℕ) × Note) → Type 0

@@ -1,13 +1,21 @@
 -- The notes of sound rows by their fits: a fit's notes are the ones after those that were taken before it.
-use Rattle.std.proofs.Common.{ℕ, zero, suc, ◌≡◌, ◌≤◌, ◌<◌, ◌+◌, ◌-◌, Bool, true, false, cond, Option, Some, None, List, [], ◌∷◌, filter, length, drop, ◌⊎◌, inl, inr, refl, ap, sym, ◌∙◌, subst, arith, ◌==◌, ◌&&◌, nat_le, nat_lt, is_some}
-use Rattle.hotel_model.proofs.Names.{nat_tests, list_all, is_at, lookup, pair_cmp, FitRow, RoomRow, Note, Rows, at_number, said_of, when, fit_at, fits_at, count_up, none_fall, notes_before_each, notes_at, numbers_at, is_of_fit, note_at, note_numbered, of_fit, start, notes, present_fit, notes_before, IsSound}
-use Rattle.hotel_model.proofs.OfTables.Tests.{eq_from, le_from, lt_from, le_tested, lt_tested, not_lt, not_lt_from, not_higher, not_lower, and_true, not_both, either_way}
+use Rattle.std.proofs.Common.{ℕ, zero, suc, ◌≡◌, ◌≤◌, ◌<◌, ◌+◌, ◌-◌, Bool, true, false, cond, Option, Some, None, List}
+use Rattle.std.proofs.Common.{[], ◌∷◌, filter, length, drop, ◌⊎◌, inl, inr, refl, ap, sym, ◌∙◌, subst, arith, ◌==◌}
+use Rattle.std.proofs.Common.{◌&&◌, nat_le, nat_lt, is_some}
+use Rattle.hotel_model.proofs.Names.{nat_tests, list_all, is_at, lookup, pair_cmp, FitRow, RoomRow, Note, Rows}
+use Rattle.hotel_model.proofs.Names.{at_number, said_of, when, fit_at, fits_at, count_up, none_fall, notes_before_each}
+use Rattle.hotel_model.proofs.Names.{notes_at, numbers_at, is_of_fit, note_at, note_numbered, of_fit, start, notes}
+use Rattle.hotel_model.proofs.Names.{present_fit, notes_before, IsSound}
+use Rattle.hotel_model.proofs.OfTables.Tests.{eq_from, le_from, lt_from, le_tested, lt_tested, not_lt, not_lt_from}
+use Rattle.hotel_model.proofs.OfTables.Tests.{not_higher, not_lower, and_true, not_both, either_way}
 use Rattle.hotel_model.proofs.{OfTables.RowTests.both, OfTables.Pairs.pair_is, OfTables.Numbered.apart_by}
 use Rattle.hotel_model.proofs.OfTables.FitLists.{NotesFor, last_is_at}
 use Rattle.hotel_model.proofs.OfTables.AtRoom.{first_in, none_in, some_left, there_at, keys_at}
 use Rattle.hotel_model.proofs.OfTables.ByFit.{FitsRise, notes_under, notes_by_fit}
 use Rattle.hotel_model.proofs.{Starts.StartRules.said_true, Starts.StartRules.said_at, Starts.StartCodes.room_there_is}
-use Rattle.hotel_model.proofs.{Starts.StartNotes.numbers_count_at_start, Starts.StartNotes.nothing_noted_at_start, Starts.StartNotes.note_kept_at_start, Starts.StartRows.notes_counted, Starts.StartFits.fits_said, Starts.StartFits.fits_kept_at_start}
+use Rattle.hotel_model.proofs.{Starts.StartNotes.numbers_count_at_start, Starts.StartNotes.nothing_noted_at_start}
+use Rattle.hotel_model.proofs.{Starts.StartNotes.note_kept_at_start, Starts.StartRows.notes_counted}
+use Rattle.hotel_model.proofs.{Starts.StartFits.fits_said, Starts.StartFits.fits_kept_at_start}
 use Rattle.hotel_model.proofs.{Invariants.FitsKept.fit_found, Invariants.FitsKept.numbers_of_fits}
 
 -- ---- the fits of a room: their numbers, and how many notes were taken before each

@@ -2,7 +2,8 @@
 use Rattle.std.proofs.Common.{ℕ, ◌≡◌, Bool, true, Some, length, ◌==◌, ◌&&◌, nat_le}
 use Rattle.hotel_model.proofs.Names.{list_all, keys_of, Card, Stay, Rows, at_number, start, count_up, IsSound}
 use Rattle.hotel_model.proofs.Facts.CodeFacts.{CardsCount, StaysCount, CardsFit, StaysFit}
-use Rattle.hotel_model.proofs.{OfTables.Tests.and_true, OfTables.Tests.eq_from, OfTables.RowTests.found_passes, OfTables.Tests.le_from}
+use Rattle.hotel_model.proofs.{OfTables.Tests.and_true, OfTables.Tests.eq_from, OfTables.RowTests.found_passes}
+use Rattle.hotel_model.proofs.{OfTables.Tests.le_from}
 
 three_true : (a b c : Bool) → (a && b && c) ≡ true → (a ≡ true) × (b ≡ true) × (c ≡ true)
 three_true a b c t = let p = and_true (a && b) c t in let q = and_true a b p.0 in (q.0, q.1, p.1)

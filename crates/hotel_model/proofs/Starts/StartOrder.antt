@@ -1,7 +1,9 @@
 -- Tables whose keys pass the test of order: each row is the one that a look-up finds.
-use Rattle.std.proofs.Common.{ℕ, ◌≡◌, Bool, true, false, cond, Option, Some, None, List, [], ◌∷◌, refl, ap, sym, ◌∙◌, nat_cmp, is_eq, is_lt, Ordering, Less, Equal, Greater}
+use Rattle.std.proofs.Common.{ℕ, ◌≡◌, Bool, true, false, cond, Option, Some, None, List, [], ◌∷◌, refl, ap, sym, ◌∙◌}
+use Rattle.std.proofs.Common.{nat_cmp, is_eq, is_lt, Ordering, Less, Equal, Greater}
 use Rattle.hotel_model.proofs.Names.{IsTotalOrder, is_at, keys_of, at_number, are_in_order}
-use Rattle.hotel_model.proofs.{OfTables.KeysInOrder.AllAfter, OfTables.KeysInOrder.InOrder, OfTables.KeysInOrder.all_after, OfTables.Tests.and_true, OfTables.Tests.not_both}
+use Rattle.hotel_model.proofs.{OfTables.KeysInOrder.AllAfter, OfTables.KeysInOrder.InOrder}
+use Rattle.hotel_model.proofs.{OfTables.KeysInOrder.all_after, OfTables.Tests.and_true, OfTables.Tests.not_both}
 use Rattle.hotel_model.proofs.OfTables.TableKeys.{same_number}
 
 is_less : (o : Ordering) → is_lt o ≡ true → o ≡ Less

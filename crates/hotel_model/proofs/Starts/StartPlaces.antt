@@ -1,8 +1,12 @@
 -- The codes of a room in the order of their places: each code of the table at its place, and no other.
-use Rattle.std.proofs.Common.{ℕ, ◌≡◌, ◌≤◌, ◌+◌, Bool, true, false, cond, Option, Some, None, List, [], ◌∷◌, length, inl, inr, refl, ap, sym, ◌∙◌, subst, arith, ◌==◌, ◌||◌, nat_cmp, Ordering, Less, Equal, Greater, count_by}
-use Rattle.hotel_model.proofs.Names.{match_ordering, is_at, insert_entry, insert_key, keys_of, values_of, nat_cmp_total, sum_by-cons, CodeRow, when, at_number, codes_by_place}
+use Rattle.std.proofs.Common.{ℕ, ◌≡◌, ◌≤◌, ◌+◌, Bool, true, false, cond, Option, Some, None, List, [], ◌∷◌, length, inl}
+use Rattle.std.proofs.Common.{inr, refl, ap, sym, ◌∙◌, subst, arith, ◌==◌, ◌||◌, nat_cmp, Ordering, Less, Equal}
+use Rattle.std.proofs.Common.{Greater, count_by}
+use Rattle.hotel_model.proofs.Names.{match_ordering, is_at, insert_entry, insert_key, keys_of, values_of, nat_cmp_total}
+use Rattle.hotel_model.proofs.Names.{sum_by-cons, CodeRow, when, at_number, codes_by_place}
 use Rattle.hotel_model.proofs.OfTables.KeysInOrder.{InOrder, has_key, in_order_inserted, keys_inserted, present_stays}
-use Rattle.hotel_model.proofs.{OfTables.Tests.eq_from, OfTables.Tests.eq_self, OfTables.Tests.not_both, Starts.StartOrder.found_later}
+use Rattle.hotel_model.proofs.{OfTables.Tests.eq_from, OfTables.Tests.eq_self, OfTables.Tests.not_both}
+use Rattle.hotel_model.proofs.{Starts.StartOrder.found_later}
 use Rattle.hotel_model.proofs.OfTables.TableKeys.{same_number, is_at_self, row_inserted, row_kept, row_added}
 
 -- how many codes of a room stand in a table

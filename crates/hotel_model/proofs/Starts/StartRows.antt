@@ -1,9 +1,15 @@
 -- The rows that stand for a start are the start's rows.
-use Rattle.std.proofs.Common.{ℕ, ◌≡◌, ◌≤◌, ◌<◌, ◌+◌, Bool, true, false, cond, Option, Some, None, List, [], ◌∷◌, length, take, refl, ap, sym, ◌∙◌, arith, ◌==◌, ◌&&◌, map, bytes_eq, nat_le, nat_cmp, is_eq, count_by}
-use Rattle.hotel_model.proofs.Names.{list_all, keys_of, values_of, RoomRow, said_of, Rows, at_number, codes_at, lock_place_of, notes_at, start, room_row, rows_of, rooms, rooms_of, rooms_with, IsSound}
+use Rattle.std.proofs.Common.{ℕ, ◌≡◌, ◌≤◌, ◌<◌, ◌+◌, Bool, true, false, cond, Option, Some, None, List, [], ◌∷◌, length}
+use Rattle.std.proofs.Common.{take, refl, ap, sym, ◌∙◌, arith, ◌==◌, ◌&&◌, map, bytes_eq, nat_le, nat_cmp, is_eq}
+use Rattle.std.proofs.Common.{count_by}
+use Rattle.hotel_model.proofs.Names.{list_all, keys_of, values_of, RoomRow, said_of, Rows, at_number, codes_at}
+use Rattle.hotel_model.proofs.Names.{lock_place_of, notes_at, start, room_row, rows_of, rooms, rooms_of, rooms_with}
+use Rattle.hotel_model.proofs.Names.{IsSound}
 use Rattle.std.proofs.lemmas.List.{length-take-le}
-use Rattle.hotel_model.proofs.{Facts.Follow.ApartFrom, Facts.Follow.RoomsOnce, OfTables.KeysInOrder.AllAfter, OfTables.KeysInOrder.InOrder, OfTables.StayCounts.count_first}
-use Rattle.hotel_model.proofs.{OfTables.Tests.eq_self, OfTables.Tests.and_true, OfTables.TableKeys.at_is, OfTables.TableKeys.is_at_self}
+use Rattle.hotel_model.proofs.{Facts.Follow.ApartFrom, Facts.Follow.RoomsOnce, OfTables.KeysInOrder.AllAfter}
+use Rattle.hotel_model.proofs.{OfTables.KeysInOrder.InOrder, OfTables.StayCounts.count_first}
+use Rattle.hotel_model.proofs.{OfTables.Tests.eq_self, OfTables.Tests.and_true, OfTables.TableKeys.at_is}
+use Rattle.hotel_model.proofs.{OfTables.TableKeys.is_at_self}
 use Rattle.hotel_model.proofs.{OfTables.RowTests.all_weaker, OfTables.RowTests.both, Starts.StartOrder.found_later}
 use Rattle.hotel_model.proofs.Starts.StartCodes.{orders, room_is, counted, lock_within}
 use Rattle.hotel_model.proofs.{Starts.StartNotes.numbers_said, Starts.StartNotes.as_many_numbers}

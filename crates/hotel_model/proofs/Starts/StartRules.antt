@@ -1,6 +1,7 @@
 -- What a test of all rows of a table tells of a row that is found there.
 use Rattle.std.proofs.Common.{ℕ, ◌≡◌, Bool, true, false, Option, Some, None, refl, ap, sym, ◌∙◌, ◌==◌, is_some}
-use Rattle.hotel_model.proofs.{Names.Link, Names.said_of, Names.is_that, Names.same_link, OfTables.Tests.eq_from, OfTables.Tests.and_true, OfTables.Tests.not_both}
+use Rattle.hotel_model.proofs.{Names.Link, Names.said_of, Names.is_that, Names.same_link, OfTables.Tests.eq_from}
+use Rattle.hotel_model.proofs.{OfTables.Tests.and_true, OfTables.Tests.not_both}
 
 -- what is said of a value that is there
 pub said_true : {X : Type 0} (o : Option X) (f : X → Bool) → said_of o false f ≡ true → (x : X) × (o ≡ Some x) × (f x ≡ true)

@@ -1,9 +1,13 @@
 -- What a search for a place among the codes of sound rows finds.
-use Rattle.std.proofs.Common.{ℕ, ◌≡◌, ◌≤◌, Bool, true, false, cond, Option, Some, None, List, [], ◌∷◌, ◌++◌, length, refl, ap, sym, ◌∙◌, arith, length-append, ◌==◌, ◌&&◌, nat_cmp}
+use Rattle.std.proofs.Common.{ℕ, ◌≡◌, ◌≤◌, Bool, true, false, cond, Option, Some, None, List, [], ◌∷◌, ◌++◌, length}
+use Rattle.std.proofs.Common.{refl, ap, sym, ◌∙◌, arith, length-append, ◌==◌, ◌&&◌, nat_cmp}
 use Rattle.hotel_model.proofs.Names.{is_at, keys_of, CodeRow, Rows, at_number, codes_at, first_code_at, start, IsSound}
-use Rattle.hotel_model.proofs.{Facts.CodeFacts.CodesAreFound, OfTables.KeysInOrder.InOrder, OfTables.CodeLists.cut_alike}
-use Rattle.hotel_model.proofs.{OfTables.Tests.eq_from, OfTables.Tests.eq_self, OfTables.Tests.and_true, OfTables.TableKeys.is_at_self, Starts.StartOrder.found_later}
-use Rattle.hotel_model.proofs.{Starts.StartCodes.orders, Starts.StartCodes.row_is_place, Starts.StartCodes.place_is_row, Starts.StartPlaces.none_or}
+use Rattle.hotel_model.proofs.{Facts.CodeFacts.CodesAreFound, OfTables.KeysInOrder.InOrder}
+use Rattle.hotel_model.proofs.{OfTables.CodeLists.cut_alike}
+use Rattle.hotel_model.proofs.{OfTables.Tests.eq_from, OfTables.Tests.eq_self, OfTables.Tests.and_true}
+use Rattle.hotel_model.proofs.{OfTables.TableKeys.is_at_self, Starts.StartOrder.found_later}
+use Rattle.hotel_model.proofs.{Starts.StartCodes.orders, Starts.StartCodes.row_is_place, Starts.StartCodes.place_is_row}
+use Rattle.hotel_model.proofs.{Starts.StartPlaces.none_or}
 
 here_by : (b : Bool) (e : ℕ × CodeRow) (es : List (ℕ × CodeRow)) (room place code : ℕ) → (b ≡ true → (e.1.room ≡ room) × (e.1.place ≡ place))
     → (first_code_at es room place ≡ Some code → at_number (e ∷ es) code ≡ Some (record { room = room; place = place })) → cond b (Some e.0) (first_code_at es room place) ≡ Some code

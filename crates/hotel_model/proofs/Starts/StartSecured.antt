@@ -1,10 +1,17 @@
 -- Secured rooms of sound rows: nothing is awaited there, and the cards inside have the newest link.
-use Rattle.std.proofs.Common.{ℕ, ◌≡◌, ◌≤◌, ◌-◌, ◌+◌, Bool, true, false, cond, None, Some, List, [], ◌∷◌, length, inl, inr, refl, ap, sym, ◌∙◌, arith, ◌==◌, ◌&&◌, ◌||◌, not, nat_le, is_some}
-use Rattle.hotel_model.proofs.Names.{list_all, RoomRow, Card, is_one_of, Rows, at_number, codes_at, lock_place_of, last_link_of, newest_link_at, begins_fit, Link, has_entered, start, those_in, secured, room_is, card_is, code_is, stands_at, is_newest, fits_inside, IsSound}
+use Rattle.std.proofs.Common.{ℕ, ◌≡◌, ◌≤◌, ◌-◌, ◌+◌, Bool, true, false, cond, None, Some, List, [], ◌∷◌, length, inl}
+use Rattle.std.proofs.Common.{inr, refl, ap, sym, ◌∙◌, arith, ◌==◌, ◌&&◌, ◌||◌, not, nat_le, is_some}
+use Rattle.hotel_model.proofs.Names.{list_all, RoomRow, Card, is_one_of, Rows, at_number, codes_at, lock_place_of}
+use Rattle.hotel_model.proofs.Names.{last_link_of, newest_link_at, begins_fit, Link, has_entered, start, those_in}
+use Rattle.hotel_model.proofs.Names.{secured, room_is, card_is, code_is, stands_at, is_newest, fits_inside, IsSound}
 use Rattle.std.proofs.Math.ListN.{drop_of_length-le}
-use Rattle.hotel_model.proofs.{Facts.CodeFacts.SecuredRoomsFit, OfTables.Tests.eq_from, OfTables.Tests.and_true, OfTables.Tests.or_second, OfTables.Tests.not_true, OfTables.Tests.not_both}
-use Rattle.hotel_model.proofs.{Invariants.InsideRooms.one_of_when, OfTables.RowTests.found_passes, Starts.StartRules.said_true, Starts.StartRules.said_at, OfTables.Tests.le_from}
-use Rattle.hotel_model.proofs.{Starts.StartCodes.room_there_is, Starts.StartCodes.room_is as its_number, Starts.StartCodes.counted, Starts.StartCodes.lock_within, Starts.StartLinks.newest_by_rule}
+use Rattle.hotel_model.proofs.{Facts.CodeFacts.SecuredRoomsFit, OfTables.Tests.eq_from, OfTables.Tests.and_true}
+use Rattle.hotel_model.proofs.{OfTables.Tests.or_second, OfTables.Tests.not_true, OfTables.Tests.not_both}
+use Rattle.hotel_model.proofs.{Invariants.InsideRooms.one_of_when, OfTables.RowTests.found_passes}
+use Rattle.hotel_model.proofs.{Starts.StartRules.said_true, Starts.StartRules.said_at, OfTables.Tests.le_from}
+use Rattle.hotel_model.proofs.{Starts.StartCodes.room_there_is, Starts.StartCodes.room_is as its_number}
+use Rattle.hotel_model.proofs.{Starts.StartCodes.counted, Starts.StartCodes.lock_within}
+use Rattle.hotel_model.proofs.{Starts.StartLinks.newest_by_rule}
 
 -- a card inside a room passes the test of all insides
 pub inside_passes : (test : ℕ × ℕ → Bool) (es : List (ℕ × ℕ)) (r n : ℕ) → list_all test es ≡ true → is_one_of n (those_in es r) ≡ true → test (r, n) ≡ true

@@ -1,6 +1,8 @@
 -- A list of pairs whose numbers count up: the pair of a number is the one of that place.
-use Rattle.std.proofs.Common.{ℕ, ◌≡◌, ◌<◌, ◌+◌, Bool, true, false, cond, Option, Some, None, List, [], ◌∷◌, ◌++◌, length, refl, ap, ◌∙◌, arith, ◌==◌, nat_cmp}
-use Rattle.hotel_model.proofs.{Names.is_at, Names.keys_of, Names.values_of, Names.at_number, Names.count_up, OfTables.Tests.eq_from, OfTables.Tests.eq_self, OfTables.Tests.and_true}
+use Rattle.std.proofs.Common.{ℕ, ◌≡◌, ◌<◌, ◌+◌, Bool, true, false, cond, Option, Some, None, List, [], ◌∷◌, ◌++◌}
+use Rattle.std.proofs.Common.{length, refl, ap, ◌∙◌, arith, ◌==◌, nat_cmp}
+use Rattle.hotel_model.proofs.{Names.is_at, Names.keys_of, Names.values_of, Names.at_number, Names.count_up}
+use Rattle.hotel_model.proofs.{OfTables.Tests.eq_from, OfTables.Tests.eq_self, OfTables.Tests.and_true}
 use Rattle.hotel_model.proofs.OfTables.TableKeys.{at_is, same_number}
 
 -- the value stands in the list, after so many others

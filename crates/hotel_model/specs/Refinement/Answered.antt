@@ -1,6 +1,7 @@
 -- What comes of a command on rows, whichever command it was.
 use Rattle.std.specs.Prelude.{ℕ, ◌≡◌, List, Some}
-use Rattle.hotel_model.specs.{declared.change.Change.Change, declared.command.Command.Command, declared.reply.Reply.Reply, Rows.Rows, Ranges.IsCommand}
+use Rattle.hotel_model.specs.{declared.change.Change.Change, declared.command.Command.Command}
+use Rattle.hotel_model.specs.{declared.reply.Reply.Reply, Rows.Rows, Ranges.IsCommand}
 use Rattle.hotel_model.specs.{Refinement.OnRows.outcome_on, Outcome.Outcome}
 
 -- This comes of some command on these rows, with some words ahead in the source.

@@ -1,12 +1,16 @@
 -- What comes of a card for a room, once the checks of the party and the room have passed.
-use Rattle.std.specs.Prelude.{ℕ, ◌<◌, ◌+◌, ◌-◌, ◌^◌, List, [], ◌∷◌, Option, IsSome, is_some, is_none, nat_lt, nat_le, bytes_eq, length}
+use Rattle.std.specs.Prelude.{ℕ, ◌<◌, ◌+◌, ◌-◌, ◌^◌, List, [], ◌∷◌, Option, IsSome, is_some, is_none, nat_lt, nat_le}
+use Rattle.std.specs.Prelude.{bytes_eq, length}
 use Rattle.keycard_rules.specs.declared.card.Link.{Link}
 use Rattle.hotel_nights.specs.declared.stay.Stay.{Stay}
-use Rattle.hotel_model.specs.{declared.change.Change.Change, declared.reply.Refusal.Refusal, declared.rows.RoomRow.RoomRow, Words.is_that}
+use Rattle.hotel_model.specs.{declared.change.Change.Change, declared.reply.Refusal.Refusal}
+use Rattle.hotel_model.specs.{declared.rows.RoomRow.RoomRow, Words.is_that}
 use Rattle.hotel_model.specs.declared.change.Change.TheVariants as change
 use Rattle.hotel_model.specs.declared.reply.Reply.TheVariants as reply
-use Rattle.hotel_model.specs.declared.reply.Refusal.TheVariants.{NotBooked, TooEarly, StayOver, WrongKind, SameRoom, RoomTaken, NumbersUsedUp}
-use Rattle.hotel_model.specs.{Stays.is_booked_state, Rows.Rows, Refinement.Lookups.room_at, Refinement.Lookups.code_at, Refinement.Lookups.number_after, Cards.card_of}
+use Rattle.hotel_model.specs.declared.reply.Refusal.TheVariants.{NotBooked, TooEarly, StayOver, WrongKind, SameRoom}
+use Rattle.hotel_model.specs.declared.reply.Refusal.TheVariants.{RoomTaken, NumbersUsedUp}
+use Rattle.hotel_model.specs.{Stays.is_booked_state, Rows.Rows, Refinement.Lookups.room_at, Refinement.Lookups.code_at}
+use Rattle.hotel_model.specs.{Refinement.Lookups.number_after, Cards.card_of}
 use Rattle.hotel_model.specs.{Refinement.Change.codes_of, Outcome.Outcome, Outcome.needs, Outcome.bars, Outcome.unless}
 use Rattle.hotel_model.specs.Refinement.OnRows.{with_fresh_on, link_on, said_code_at}
 

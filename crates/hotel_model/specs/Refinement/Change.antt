@@ -6,10 +6,13 @@ use Rattle.std.specs.BTreeMap.{insert_entry, is_at}
 use Rattle.std.specs.BTreeSet.{insert_key}
 use Rattle.std.specs.Set.{remove_key}
 use Rattle.hotel_nights.specs.declared.stay.StayState.TheVariants as state
-use Rattle.hotel_model.specs.{declared.rows.RoomRow.RoomRow, declared.change.InsideMove.InsideMove, declared.change.Change.Change}
+use Rattle.hotel_model.specs.{declared.rows.RoomRow.RoomRow, declared.change.InsideMove.InsideMove}
+use Rattle.hotel_model.specs.{declared.change.Change.Change}
 use Rattle.hotel_model.specs.declared.change.InsideMove.TheVariants.{Same, Goes, Comes}
-use Rattle.hotel_model.specs.declared.change.Change.TheVariants.{Begin, DayTo, Kind, Room, Reserved, Cancelled, Issue, Spare, CheckedOut, Refit, Noted}
-use Rattle.hotel_model.specs.{Words.said_of, Words.pair_cmp, Rows.Rows, Rows.at_number, Stays.in_state, Guests.those_elsewhere, Refits.fit_row}
+use Rattle.hotel_model.specs.declared.change.Change.TheVariants.{Begin, DayTo, Kind, Room, Reserved, Cancelled, Issue}
+use Rattle.hotel_model.specs.declared.change.Change.TheVariants.{Spare, CheckedOut, Refit, Noted}
+use Rattle.hotel_model.specs.{Words.said_of, Words.pair_cmp, Rows.Rows, Rows.at_number, Stays.in_state}
+use Rattle.hotel_model.specs.{Guests.those_elsewhere, Refits.fit_row}
 
 -- the rooms, with f done to the row of a number
 abbrev pub room_changed : ℕ → (RoomRow → RoomRow) → List (ℕ × RoomRow) → List (ℕ × RoomRow)

@@ -3,11 +3,14 @@ use Rattle.std.specs.Prelude.{ℕ, Bool, true, false, Option, None, ◌+◌, len
 use Rattle.keycard_rules.specs.Note.{Note}
 use Rattle.keycard_rules.specs.declared.note.Act.TheVariants as act
 use Rattle.hotel_nights.specs.declared.stay.StayState.TheVariants as state
-use Rattle.hotel_model.specs.{declared.change.InsideMove.InsideMove, declared.change.Change.Change, Words.when, Words.said_of, Words.is_that, Words.is_one_of}
+use Rattle.hotel_model.specs.{declared.change.InsideMove.InsideMove, declared.change.Change.Change, Words.when}
+use Rattle.hotel_model.specs.{Words.said_of, Words.is_that, Words.is_one_of}
 use Rattle.hotel_model.specs.declared.change.InsideMove.TheVariants.{Same, Goes, Comes}
 use Rattle.hotel_model.specs.declared.change.Change.TheVariants as change
-use Rattle.hotel_model.specs.Event.{Event, Begun, Kind, Install, Reserved, Cancelled, Issue, Spare, CheckOut, Refitted, NextDay, Entered, Left, Recoded}
-use Rattle.hotel_model.specs.{History.History, History.◌▷◌, Cards.card_of, Cards.link_to, Ledger.passed, Guests.inside, Guests.secured}
+use Rattle.hotel_model.specs.Event.{Event, Begun, Kind, Install, Reserved, Cancelled, Issue, Spare, CheckOut, Refitted}
+use Rattle.hotel_model.specs.Event.{NextDay, Entered, Left, Recoded}
+use Rattle.hotel_model.specs.{History.History, History.◌▷◌, Cards.card_of, Cards.link_to, Ledger.passed, Guests.inside}
+use Rattle.hotel_model.specs.{Guests.secured}
 use Rattle.hotel_model.specs.Cases.{today, room_of, last_card_of}
 
 -- what a note leaves of its room's row, and who moves

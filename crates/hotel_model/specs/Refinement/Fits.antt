@@ -6,7 +6,9 @@ use Rattle.hotel_model.specs.declared.command.Command.{Command}
 use Rattle.hotel_model.specs.declared.command.Command.TheVariants as command
 use Rattle.hotel_nights.specs.declared.stay.StayState.TheVariants as state
 use Rattle.hotel_nights.specs.FullNight.{is_standing}
-use Rattle.hotel_model.specs.{Refinement.Lookups.room_at, Refinement.Lookups.code_place, Refinement.Lookups.stay_at, Refinement.Lookups.note_numbered, Refinement.Change.made, Refinement.Change.codes_of, Refinement.Change.before_in, Rows.fit_at}
+use Rattle.hotel_model.specs.{Refinement.Lookups.room_at, Refinement.Lookups.code_place, Refinement.Lookups.stay_at}
+use Rattle.hotel_model.specs.{Refinement.Lookups.note_numbered, Refinement.Change.made, Refinement.Change.codes_of}
+use Rattle.hotel_model.specs.{Refinement.Change.before_in, Rows.fit_at}
 use Rattle.hotel_model.specs.Sound.{IsSound}
 
 -- The rows that the change names are there, and those that it adds are new; parties and cards are numbered on.

@@ -2,9 +2,11 @@
 use Rattle.std.specs.Prelude.{ℕ, ◌≡◌, ◌≤◌, ◌<◌, ◌-◌, ◌^◌, Bool, true, false, Option, Some, None, IsSome}
 use Rattle.keycard_rules.specs.{Draw.past, Draw.MovedAtMost, declared.card.Card.Card}
 use Rattle.rand_core.specs.Stream.{Stream}
-use Rattle.hotel_model.specs.{declared.change.Change.Change, declared.reply.Reply.Reply, declared.rows.RoomRow.RoomRow, Rows.Rows}
+use Rattle.hotel_model.specs.{declared.change.Change.Change, declared.reply.Reply.Reply, declared.rows.RoomRow.RoomRow}
+use Rattle.hotel_model.specs.{Rows.Rows}
 use Rattle.hotel_model.specs.Refinement.Lookups.{room_at, code_at, code_place, card_at, note_at}
-use Rattle.hotel_model.specs.{Refinement.Change.made, Refinement.Change.codes_of, Refinement.OnRows.home_on, Outcome.Outcome, Run.is_failed}
+use Rattle.hotel_model.specs.{Refinement.Change.made, Refinement.Change.codes_of, Refinement.OnRows.home_on}
+use Rattle.hotel_model.specs.{Outcome.Outcome, Run.is_failed}
 
 -- the rows after what happened, where something did
 abbrev pub made_by : Option Change → Rows → Rows
@@ -19,7 +21,8 @@ GoesIf false o rows source reply later rest = (reply ≡ o.reply) × (later ≡ 
 abbrev pub Goes : Outcome Change → Rows → Stream → Reply → Rows → Stream → Type 0
 Goes o rows source reply later rest = GoesIf (is_failed reply) o rows source reply later rest
 
--- Each room's current and held codes are there, its codes are fewer than a count of 32 bits holds, and each of its notes is there; the room of a party in house has two codes; the new code of each card is there.
+-- Each room's current and held codes are there, its codes are fewer than a count of 32 bits holds, and each of its
+-- notes is there; the room of a party in house has two codes; the new code of each card is there.
 pub record AreWhole (rows : Rows) : Type 0 where
   pub current : (room : ℕ) (row : RoomRow) → room_at rows room ≡ Some row → IsSome (code_at rows room (row.codes - 1))
   pub held : (room : ℕ) (row : RoomRow) → room_at rows room ≡ Some row → IsSome (code_at rows room row.lock_place)

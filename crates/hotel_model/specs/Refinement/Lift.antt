@@ -1,7 +1,8 @@
 -- What the books compute on rows, lifted to what the desk answers after a history.
 use Rattle.std.specs.Prelude.{ℕ, ◌≡◌, List, option_map}
 use Rattle.hotel_model.specs.{declared.change.Change.Change, declared.command.Command.Command, Event.Event}
-use Rattle.hotel_model.specs.{Ranges.IsCommand, History.History, History.◌▷◌, RowsOf.rows_of, Outcome.Outcome, Answer.answer_to}
+use Rattle.hotel_model.specs.{Ranges.IsCommand, History.History, History.◌▷◌, RowsOf.rows_of, Outcome.Outcome}
+use Rattle.hotel_model.specs.{Answer.answer_to}
 use Rattle.hotel_model.specs.{Run.Reached, Refinement.Change.made, Refinement.Fits.Fits, Refinement.ChangeOf.change_of}
 use Rattle.hotel_model.specs.Refinement.OnRows.{outcome_on}
 

@@ -4,7 +4,8 @@ use Rattle.hotel_model.specs.{History.History, RowsOf.rows_of, Cases.is_room}
 use Rattle.hotel_model.specs.Lists.{arrivals, in_house, chain, left_behind, audit_of}
 use Rattle.hotel_model.specs.Refinement.ListsOnRows.{arrivals_on, in_house_on, chain_on, left_behind_on, audit_on}
 
--- The lists read off the rows that stand for a history are those read off the history; the codes of a room, where it is there.
+-- The lists read off the rows that stand for a history are those read off the history; the codes of a room, where it is
+-- there.
 pub record ListsLift (h : History) : Type 0 where
   pub of_arrivals : (day : ℕ) → arrivals_on (rows_of h) day ≡ arrivals h day
   pub of_house : in_house_on (rows_of h) ≡ in_house h

@@ -1,13 +1,17 @@
 -- The rows of the five lists, read off the rows of the books.
-use Rattle.std.specs.Prelude.{ℕ, Bool, List, [], Option, None, ◌-◌, ◌==◌, ◌&&◌, if◌then◌else◌, nat_le, nat_lt, filter, filter_map, option_map}
+use Rattle.std.specs.Prelude.{ℕ, Bool, List, [], Option, None, ◌-◌, ◌==◌, ◌&&◌, if◌then◌else◌, nat_le, nat_lt, filter}
+use Rattle.std.specs.Prelude.{filter_map, option_map}
 use Rattle.std.specs.List.{range_with_len}
 use Rattle.std.specs.Map.{values_of}
 use Rattle.keycard_rules.specs.Note.{Note}
 use Rattle.hotel_nights.specs.declared.stay.Stay.{Stay}
-use Rattle.hotel_model.specs.{declared.rows.RoomRow.RoomRow, declared.list_rows.HouseRow.HouseRow, declared.list_rows.ChainRow.ChainRow}
-use Rattle.hotel_model.specs.{declared.list_rows.BehindRow.BehindRow, declared.list_rows.CodeState.CodeState, Words.said_of, Stays.is_booked_state}
+use Rattle.hotel_model.specs.{declared.rows.RoomRow.RoomRow, declared.list_rows.HouseRow.HouseRow}
+use Rattle.hotel_model.specs.{declared.list_rows.ChainRow.ChainRow}
+use Rattle.hotel_model.specs.{declared.list_rows.BehindRow.BehindRow, declared.list_rows.CodeState.CodeState}
+use Rattle.hotel_model.specs.{Words.said_of, Stays.is_booked_state}
 use Rattle.hotel_model.specs.declared.list_rows.CodeState.TheVariants.{Passed, Held, Awaited}
-use Rattle.hotel_model.specs.{Rows.Rows, Rows.notes_at, Refinement.Lookups.room_at, Refinement.Lookups.stay_at, Refinement.Lookups.code_at}
+use Rattle.hotel_model.specs.{Rows.Rows, Rows.notes_at, Refinement.Lookups.room_at, Refinement.Lookups.stay_at}
+use Rattle.hotel_model.specs.{Refinement.Lookups.code_at}
 
 -- a booked stay that takes the night of a day
 abbrev pub arrives_on : ℕ → Stay → Bool

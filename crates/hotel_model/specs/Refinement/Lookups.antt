@@ -1,11 +1,13 @@
 -- What the look-ups of the books answer, read off the rows.
-use Rattle.std.specs.Prelude.{ℕ, List, [], ◌∷◌, Option, Some, None, ◌+◌, ◌==◌, ◌&&◌, if◌then◌else◌, nat_lt, filter, bytes_eq}
+use Rattle.std.specs.Prelude.{ℕ, List, [], ◌∷◌, Option, Some, None, ◌+◌, ◌==◌, ◌&&◌, if◌then◌else◌, nat_lt, filter}
+use Rattle.std.specs.Prelude.{bytes_eq}
 use Rattle.std.specs.List.{count_by}
 use Rattle.std.specs.Map.{lookup, keys_of, values_of}
 use Rattle.std.specs.BTreeMap.{is_at}
 use Rattle.keycard_rules.specs.{declared.card.Card.Card, Note.Note}
 use Rattle.hotel_nights.specs.{declared.stay.Stay.Stay, FullNight.is_full, FullNight.first_day}
-use Rattle.hotel_model.specs.{declared.rows.RoomRow.RoomRow, declared.rows.CodeRow.CodeRow, Words.pair_cmp, Words.said_of, Rows.Rows, Rows.at_number, Rows.fit_at}
+use Rattle.hotel_model.specs.{declared.rows.RoomRow.RoomRow, declared.rows.CodeRow.CodeRow, Words.pair_cmp}
+use Rattle.hotel_model.specs.{Words.said_of, Rows.Rows, Rows.at_number, Rows.fit_at}
 use Rattle.hotel_model.specs.Guests.{those_in}
 
 abbrev pub room_at : Rows → ℕ → Option RoomRow

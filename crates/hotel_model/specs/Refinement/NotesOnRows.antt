@@ -1,10 +1,12 @@
 -- A note of a lock that is the next one of its room.
 use Rattle.std.specs.Prelude.{ℕ, ◌≡◌, Bool, true, Some, None, ◌+◌, ◌==◌, ◌&&◌, if◌then◌else◌}
 use Rattle.keycard_rules.specs.{declared.card.Link.Link, Note.Note}
-use Rattle.hotel_model.specs.{declared.change.Change.Change, declared.rows.RoomRow.RoomRow, Words.is_one_of, Rows.Rows, Refinement.ChangeOf.comes}
+use Rattle.hotel_model.specs.{declared.change.Change.Change, declared.rows.RoomRow.RoomRow, Words.is_one_of, Rows.Rows}
+use Rattle.hotel_model.specs.{Refinement.ChangeOf.comes}
 use Rattle.hotel_model.specs.declared.change.Change.TheVariants as change
 use Rattle.hotel_model.specs.declared.reply.Reply.TheVariants as reply
-use Rattle.hotel_model.specs.{Refinement.Lookups.room_at, Refinement.Lookups.inside_at, Refinement.Lookups.note_at, Refinement.OnRows.place_on, Refinement.OnRows.secured_after_on}
+use Rattle.hotel_model.specs.{Refinement.Lookups.room_at, Refinement.Lookups.inside_at, Refinement.Lookups.note_at}
+use Rattle.hotel_model.specs.{Refinement.OnRows.place_on, Refinement.OnRows.secured_after_on}
 use Rattle.hotel_model.specs.Outcome.{Outcome, accepted}
 
 -- the note's room is there with this row, and no note of its count was taken

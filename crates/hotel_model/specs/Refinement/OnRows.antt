@@ -1,19 +1,30 @@
--- What comes of each command, by the look-ups of the rows: the columns of the answers once more, in the terms in which the code asks.
-use Rattle.std.specs.Prelude.{ℕ, Bool, true, false, List, [], ◌∷◌, Option, Some, None, ◌+◌, ◌-◌, ◌==◌, ◌&&◌, if◌then◌else◌, nat_lt, nat_le, is_some, is_none, option_map, length, bytes_eq}
+-- What comes of each command, by the look-ups of the rows: the columns of the answers once more, in the terms in which
+-- the code asks.
+use Rattle.std.specs.Prelude.{ℕ, Bool, true, false, List, [], ◌∷◌, Option, Some, None, ◌+◌, ◌-◌, ◌==◌, ◌&&◌}
+use Rattle.std.specs.Prelude.{if◌then◌else◌, nat_lt, nat_le, is_some, is_none, option_map, length, bytes_eq}
 use Rattle.keycard_rules.specs.{declared.card.Link.Link, declared.note.Act.Act, Note.Note, Lock.turn, Draw.draw_from}
 use Rattle.keycard_rules.specs.declared.note.Act.TheVariants as act
 use Rattle.hotel_nights.specs.declared.stay.Stay.{Stay}
 use Rattle.hotel_nights.specs.declared.stay.StayState.TheVariants as state
-use Rattle.hotel_model.specs.{declared.change.Change.Change, declared.change.InsideMove.TheVariants.Same, declared.change.InsideMove.TheVariants.Goes}
+use Rattle.hotel_model.specs.{declared.change.Change.Change, declared.change.InsideMove.TheVariants.Same}
+use Rattle.hotel_model.specs.{declared.change.InsideMove.TheVariants.Goes}
 use Rattle.hotel_model.specs.declared.change.Change.TheVariants as change
-use Rattle.hotel_model.specs.{declared.command.Command.Command, declared.reply.Reply.Reply, declared.reply.Refusal.Refusal, declared.rows.RoomRow.RoomRow}
+use Rattle.hotel_model.specs.{declared.command.Command.Command, declared.reply.Reply.Reply}
+use Rattle.hotel_model.specs.{declared.reply.Refusal.Refusal, declared.rows.RoomRow.RoomRow}
 use Rattle.hotel_model.specs.declared.command.Command.TheVariants as command
 use Rattle.hotel_model.specs.declared.reply.Reply.TheVariants as reply
-use Rattle.hotel_model.specs.declared.reply.Refusal.TheVariants.{NotBegun, AlreadyBegun, KindExists, NoKind, RoomExists, NoRoom, NoParty, NotBooked, NotInHouse, TooEarly, StayOver, WrongKind, SameRoom, RoomTaken, PastArrival, PastEnd, KindFull, NumbersUsedUp, LastDay, Conflict, Gap, NoCard, CardDiffers, LockShut, NotInside, HeldDiffers, NotAwaited, OldFit, NoFit, FitsUsedUp}
+use Rattle.hotel_model.specs.declared.reply.Refusal.TheVariants.{NotBegun, AlreadyBegun, KindExists, NoKind, RoomExists}
+use Rattle.hotel_model.specs.declared.reply.Refusal.TheVariants.{NoRoom, NoParty, NotBooked, NotInHouse, TooEarly}
+use Rattle.hotel_model.specs.declared.reply.Refusal.TheVariants.{StayOver, WrongKind, SameRoom, RoomTaken, PastArrival}
+use Rattle.hotel_model.specs.declared.reply.Refusal.TheVariants.{PastEnd, KindFull, NumbersUsedUp, LastDay, Conflict}
+use Rattle.hotel_model.specs.declared.reply.Refusal.TheVariants.{Gap, NoCard, CardDiffers, LockShut, NotInside}
+use Rattle.hotel_model.specs.declared.reply.Refusal.TheVariants.{HeldDiffers, NotAwaited, OldFit, NoFit, FitsUsedUp}
 use Rattle.hotel_model.specs.{Words.said_of, Words.is_one_of, Words.is_that, Rows.Rows, Rows.has_kind, Guests.are_none}
-use Rattle.hotel_model.specs.{Notes.same_note, Cards.same_link, Cards.card_of, Stays.is_booked_state, Stays.room_of_state, Cases.no_link}
+use Rattle.hotel_model.specs.{Notes.same_note, Cards.same_link, Cards.card_of, Stays.is_booked_state}
+use Rattle.hotel_model.specs.{Stays.room_of_state, Cases.no_link}
 use Rattle.hotel_model.specs.{Refinement.Change.codes_of, Refinement.ChangeOf.comes}
-use Rattle.hotel_model.specs.Refinement.Lookups.{room_at, codes_in, code_place, code_at, stay_at, card_at, inside_at, note_at, first_full_on, number_after}
+use Rattle.hotel_model.specs.Refinement.Lookups.{room_at, codes_in, code_place, code_at, stay_at, card_at, inside_at}
+use Rattle.hotel_model.specs.Refinement.Lookups.{note_at, first_full_on, number_after}
 use Rattle.hotel_model.specs.Outcome.{Outcome, needs, bars, unless, accepted, said, refused, by_draw}
 
 -- the business day (0 where none is set)

@@ -1,7 +1,9 @@
 -- The scenario "away-and-back": a party moves away and back; its first card doesn't secure the room.
 use Rattle.std.specs.Prelude.{List, [], ◌∷◌, true, false}
 use Rattle.hotel_model.specs.declared.reply.Refusal.TheVariants.{LockShut}
-use Rattle.hotel_model.specs.Scenes.Words.{may, M, a0, a1, a2, a3, b0, b1, DBL, ann_lee, bo, begin, add_kind, add_room, reserve, check_in, transfer, check_out, entered, left, begun, kind_added, room_code, party, card, checked_out, taken, refused, house}
+use Rattle.hotel_model.specs.Scenes.Words.{may, M, a0, a1, a2, a3, b0, b1, DBL, ann_lee, bo, begin, add_kind, add_room}
+use Rattle.hotel_model.specs.Scenes.Words.{reserve, check_in, transfer, check_out, entered, left, begun, kind_added}
+use Rattle.hotel_model.specs.Scenes.Words.{room_code, party, card, checked_out, taken, refused, house}
 use Rattle.hotel_model.specs.Scenes.Lines.{Line, ◌⇒◌, InHouse, Holds}
 
 abbrev pub lines : List Line

@@ -1,8 +1,11 @@
 -- The scenario "desk-day": days, kinds, states: each refusal of check-in and its neighbours.
 use Rattle.std.specs.Prelude.{List, [], ◌∷◌, codes}
-use Rattle.hotel_model.specs.declared.reply.Refusal.TheVariants.{NoParty, NotBooked, NotInHouse, TooEarly, StayOver, WrongKind, SameRoom, RoomTaken}
+use Rattle.hotel_model.specs.declared.reply.Refusal.TheVariants.{NoParty, NotBooked, NotInHouse, TooEarly, StayOver}
+use Rattle.hotel_model.specs.declared.reply.Refusal.TheVariants.{WrongKind, SameRoom, RoomTaken}
 use Rattle.hotel_nights.specs.declared.stay.StayState.TheVariants.{Booked}
-use Rattle.hotel_model.specs.Scenes.Words.{may, a0, a1, b0, c0, DBL, SGL, bo, begin, add_kind, add_room, reserve, cancel, check_in, spare, transfer, check_out, next_day, begun, kind_added, room_code, party, cancelled, card, day, refused}
+use Rattle.hotel_model.specs.Scenes.Words.{may, a0, a1, b0, c0, DBL, SGL, bo, begin, add_kind, add_room, reserve}
+use Rattle.hotel_model.specs.Scenes.Words.{cancel, check_in, spare, transfer, check_out, next_day, begun, kind_added}
+use Rattle.hotel_model.specs.Scenes.Words.{room_code, party, cancelled, card, day, refused}
 use Rattle.hotel_model.specs.Scenes.Lines.{Line, ◌⇒◌, Arrivals, Holds}
 
 abbrev pub lines : List Line

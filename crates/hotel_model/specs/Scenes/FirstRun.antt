@@ -1,6 +1,7 @@
 -- The scenario "first-run": the stored run, from a seed of 32 zero bytes.
 use Rattle.std.specs.Prelude.{List, [], ◌∷◌}
-use Rattle.hotel_model.specs.Scenes.Words.{may, M, DBL, ann_lee, begin, add_kind, add_room, reserve, check_in, entered, begun, kind_added, room_code, party, card, taken}
+use Rattle.hotel_model.specs.Scenes.Words.{may, M, DBL, ann_lee, begin, add_kind, add_room, reserve, check_in, entered}
+use Rattle.hotel_model.specs.Scenes.Words.{begun, kind_added, room_code, party, card, taken}
 use Rattle.hotel_model.specs.Scenes.Lines.{Line, ◌⇒◌, Holds}
 
 abbrev pub lines : List Line

@@ -1,4 +1,5 @@
--- Tests of the statements along a history, for computing: each step's rows against its change's, and what the headline says of each room.
+-- Tests of the statements along a history, for computing: each step's rows against its change's, and what the headline
+-- says of each room.
 use Rattle.std.specs.Prelude.{ℕ, Bool, true, false, List, [], ◌∷◌, ◌++◌, ◌+◌, ◌==◌, ◌&&◌, ◌||◌, Option, Some, None, not}
 use Rattle.std.specs.Prelude.{is_some, nat_le, length, bytes_eq}
 use Rattle.std.specs.List.{list_all}

@@ -1,7 +1,8 @@
 -- The scenario "kind-full": a stay that ends on a night doesn't take it; the first full night is named.
 use Rattle.std.specs.Prelude.{List, [], ◌∷◌, codes}
 use Rattle.hotel_model.specs.declared.reply.Refusal.TheVariants.{PastArrival, KindFull}
-use Rattle.hotel_model.specs.Scenes.Words.{may, a0, DBL, begin, add_kind, add_room, reserve, begun, kind_added, room_code, party, refused}
+use Rattle.hotel_model.specs.Scenes.Words.{may, a0, DBL, begin, add_kind, add_room, reserve, begun, kind_added}
+use Rattle.hotel_model.specs.Scenes.Words.{room_code, party, refused}
 use Rattle.hotel_model.specs.Scenes.Lines.{Line, ◌⇒◌, Holds}
 
 abbrev pub lines : List Line

@@ -1,4 +1,5 @@
--- The scenario "later-lock": a room has its first lock alone. That lock's notes are taken, and a note of a later lock is refused before its count is looked at.
+-- The scenario "later-lock": a room has its first lock alone. That lock's notes are taken, and a note of a later lock
+-- is refused before its count is looked at.
 use Rattle.std.specs.Prelude.{List, [], ◌∷◌, ◌++◌}
 use Rattle.hotel_model.specs.declared.reply.Refusal.TheVariants.{NoRoom, NoFit}
 use Rattle.hotel_model.specs.Scenes.Words.{M, a0, a1, entered, entered_by, left_by, recoded_by, taken, seen, refused}

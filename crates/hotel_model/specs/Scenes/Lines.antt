@@ -30,7 +30,8 @@ pub data Line : Type 0 where
   -- the list of a room's codes, where the room isn't there
   NoChain : (room : ℕ) → Line
 
--- what playing lines comes to: the same lines with the model's answers, the history at their end, and the words that are left
+-- what playing lines comes to: the same lines with the model's answers, the history at their end, and the words that
+-- are left
 pub record Played : Type 0 where
   pub lines : List Line
   pub history : History
@@ -47,7 +48,8 @@ abbrev pub chain_line : Bool → ℕ → List ChainRow → Line
 chain_line true room rows = Chain room rows
 chain_line false room rows = NoChain room
 
--- The lines with the answers that the model gives, where these are the source's words; a draw looks at the next 64 of them.
+-- The lines with the answers that the model gives, where these are the source's words; a draw looks at the next 64 of
+-- them.
 abbrev pub play : History → List ℕ → List Line → Played
 play h ahead [] = record { lines = []; history = h; ahead = ahead }
 play h ahead ((command ⇒ _) ∷ lines) = go_on command (answer_to h (take 64 ahead) command) (λ outcome. play (grown h outcome.happens) (drop outcome.examined ahead) lines)
@@ -70,6 +72,7 @@ AreAnswered lines played = (played.lines ≡ lines) × (rows_made played.history
 abbrev pub Holds : List ℕ → ℕ → List Line → Type 0
 Holds codes last lines = AreAnswered lines (play (start no_rows) (source codes last) lines)
 
--- Each line is refused so, or seen, after what was played before: nothing happens, and no word of the source is examined.
+-- Each line is refused so, or seen, after what was played before: nothing happens, and no word of the source is
+-- examined.
 abbrev pub AreRefused : Played → List Line → Type 0
 AreRefused before lines = play before.history before.ahead lines ≡ record before { lines = lines }

@@ -1,7 +1,9 @@
--- The scenario "lost-card": a party whose card was lost gets one of a new code for its own room; once it has entered, the lost one opens no more.
+-- The scenario "lost-card": a party whose card was lost gets one of a new code for its own room; once it has entered,
+-- the lost one opens no more.
 use Rattle.std.specs.Prelude.{List, [], ◌∷◌, ◌++◌, true, false}
 use Rattle.hotel_model.specs.declared.reply.Refusal.TheVariants.{LockShut, NotInHouse}
-use Rattle.hotel_model.specs.Scenes.Words.{may, M, a0, a1, a2, ann_lee, spare, reissue, check_out, entered, left, card, checked_out, taken, refused, house}
+use Rattle.hotel_model.specs.Scenes.Words.{may, M, a0, a1, a2, ann_lee, spare, reissue, check_out, entered, left, card}
+use Rattle.hotel_model.specs.Scenes.Words.{checked_out, taken, refused, house}
 use Rattle.hotel_model.specs.Scenes.Lines.{Line, ◌⇒◌, InHouse, Holds}
 use Rattle.hotel_model.specs.Scenes.Openings.{opened, checked_in}
 

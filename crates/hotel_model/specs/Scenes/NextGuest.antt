@@ -1,4 +1,5 @@
--- The scenario "next-guest", from the end of "two-entries": after the next guest's entry the earlier card opens nothing.
+-- The scenario "next-guest", from the end of "two-entries": after the next guest's entry the earlier card opens
+-- nothing.
 use Rattle.std.specs.Prelude.{List, [], ◌∷◌, ◌++◌}
 use Rattle.hotel_model.specs.declared.reply.Refusal.TheVariants.{LockShut}
 use Rattle.hotel_model.specs.Scenes.TwoEntries.{lines as lines_before}

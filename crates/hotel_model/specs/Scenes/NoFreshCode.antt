@@ -1,7 +1,8 @@
 -- The scenario "no-fresh-code": 64 words give issued codes.
 use Rattle.std.specs.Prelude.{List, [], ◌∷◌}
 use Rattle.hotel_model.specs.declared.reply.Refusal.TheVariants.{NoFreshCode}
-use Rattle.hotel_model.specs.Scenes.Words.{may, a0, DBL, begin, add_kind, add_room, begun, kind_added, room_code, refused}
+use Rattle.hotel_model.specs.Scenes.Words.{may, a0, DBL, begin, add_kind, add_room, begun, kind_added, room_code}
+use Rattle.hotel_model.specs.Scenes.Words.{refused}
 use Rattle.hotel_model.specs.Scenes.Lines.{Line, ◌⇒◌, NoChain, Holds}
 
 abbrev pub lines : List Line

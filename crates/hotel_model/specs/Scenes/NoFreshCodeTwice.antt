@@ -1,8 +1,10 @@
--- The scenario "no-fresh-code" twice: each refusal moves the source by 64 words, and the word after them is the next one.
+-- The scenario "no-fresh-code" twice: each refusal moves the source by 64 words, and the word after them is the next
+-- one.
 use Rattle.std.specs.Prelude.{List, [], ◌∷◌}
 use Rattle.hotel_model.specs.declared.reply.Refusal.TheVariants.{NoFreshCode}
 use Rattle.std.specs.Prelude.{replicate}
-use Rattle.hotel_model.specs.Scenes.Words.{may, a0, b0, DBL, begin, add_kind, add_room, begun, kind_added, room_code, refused}
+use Rattle.hotel_model.specs.Scenes.Words.{may, a0, b0, DBL, begin, add_kind, add_room, begun, kind_added, room_code}
+use Rattle.hotel_model.specs.Scenes.Words.{refused}
 use Rattle.hotel_model.specs.Scenes.Lines.{Line, ◌⇒◌, Holds}
 
 abbrev pub lines : List Line

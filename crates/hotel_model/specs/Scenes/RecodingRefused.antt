@@ -1,4 +1,5 @@
--- The scenario "recoding-refused", from the end of "late-audit": recodings to a passed code, another room's, the held one; from another.
+-- The scenario "recoding-refused", from the end of "late-audit": recodings to a passed code, another room's, the held
+-- one; from another.
 use Rattle.std.specs.Prelude.{List, [], ◌∷◌, ◌++◌}
 use Rattle.hotel_model.specs.declared.reply.Refusal.TheVariants.{HeldDiffers, NotAwaited}
 use Rattle.hotel_model.specs.Scenes.LateAudit.{lines as lines_before}

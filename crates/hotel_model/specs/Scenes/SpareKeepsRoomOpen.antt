@@ -1,6 +1,7 @@
 -- The scenario "spare-keeps-room-open": one card's leaving doesn't empty a room where another stays.
 use Rattle.std.specs.Prelude.{List, [], ◌∷◌, ◌++◌, true, false}
-use Rattle.hotel_model.specs.Scenes.Words.{may, M, a0, a1, a2, DBL, bo, reserve, check_in, spare, check_out, entered, left, party, card, checked_out, taken, house}
+use Rattle.hotel_model.specs.Scenes.Words.{may, M, a0, a1, a2, DBL, bo, reserve, check_in, spare, check_out, entered}
+use Rattle.hotel_model.specs.Scenes.Words.{left, party, card, checked_out, taken, house}
 use Rattle.hotel_model.specs.Scenes.Lines.{Line, ◌⇒◌, InHouse, Holds}
 use Rattle.hotel_model.specs.Scenes.Openings.{opened, checked_in}
 

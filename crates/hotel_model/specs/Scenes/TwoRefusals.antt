@@ -1,10 +1,18 @@
--- Two refusals at once. Two reasons to be refused hold of each line: the first in the order of the command's checks is the reply, and the other stands beside it.
--- Of two neighbours in that order these can't hold together: a kind is there only once a day is set (AddKind); today isn't before a stay and after it (CheckIn: TooEarly, StayOver);
--- a party is in a room of its kind alone (Transfer: WrongKind, SameRoom); without a day today isn't the last one (NextDay); a count isn't both taken and after the next one (Conflict, Gap).
+-- Two refusals at once. Two reasons to be refused hold of each line: the first in the order of the command's checks is
+-- the reply, and the other stands beside it.
+-- Of two neighbours in that order these can't hold together: a kind is there only once a day is set (AddKind); today
+-- isn't before a stay and after it (CheckIn: TooEarly, StayOver);
+-- a party is in a room of its kind alone (Transfer: WrongKind, SameRoom); without a day today isn't the last one
+-- (NextDay); a count isn't both taken and after the next one (Conflict, Gap).
 use Rattle.std.specs.Prelude.{ℕ, ◌≡◌, List, [], ◌∷◌, Some, None, length}
 use Rattle.keycard_rules.specs.declared.card.Card.{Card}
 use Rattle.hotel_nights.specs.declared.stay.Stay.{Stay}
-use Rattle.hotel_model.specs.declared.reply.Refusal.TheVariants.{NotBegun, AlreadyBegun, KindExists, NoKind, RoomExists, NoRoom, NoParty, NotBooked, NotInHouse, TooEarly, StayOver, WrongKind, SameRoom, RoomTaken, PastArrival, PastEnd, KindFull, NumbersUsedUp, NoFreshCode, LastDay, Conflict, Gap, NoCard, CardDiffers, LockShut, NotInside, HeldDiffers, NotAwaited, NoFit}
+use Rattle.hotel_model.specs.declared.reply.Refusal.TheVariants.{NotBegun, AlreadyBegun, KindExists, NoKind, RoomExists}
+use Rattle.hotel_model.specs.declared.reply.Refusal.TheVariants.{NoRoom, NoParty, NotBooked, NotInHouse, TooEarly}
+use Rattle.hotel_model.specs.declared.reply.Refusal.TheVariants.{StayOver, WrongKind, SameRoom, RoomTaken, PastArrival}
+use Rattle.hotel_model.specs.declared.reply.Refusal.TheVariants.{PastEnd, KindFull, NumbersUsedUp, NoFreshCode, LastDay}
+use Rattle.hotel_model.specs.declared.reply.Refusal.TheVariants.{Conflict, Gap, NoCard, CardDiffers, LockShut}
+use Rattle.hotel_model.specs.declared.reply.Refusal.TheVariants.{NotInside, HeldDiffers, NotAwaited, NoFit}
 use Rattle.hotel_model.specs.declared.reply.Refusal.{Refusal}
 use Rattle.hotel_model.specs.declared.command.Command.{Command}
 use Rattle.hotel_model.specs.Rows.{no_rows}
@@ -13,7 +21,11 @@ use Rattle.hotel_model.specs.Stays.{first_full}
 use Rattle.hotel_model.specs.Outcome as outcome
 use Rattle.hotel_model.specs.Answer.{answer_to}
 use Rattle.hotel_model.specs.RowsOf.{rows_of}
-use Rattle.hotel_model.specs.Scenes.Words.{may, M, a0, a1, b0, b1, c0, c1, d0, d1, DBL, SGL, TWN, TPL, guest, begin, add_kind, add_room, reserve, cancel, check_in, spare, reissue, transfer, check_out, refit, next_day, entered_by, left_by, recoded_by, entered, left, recoded, begun, kind_added, room_code, party, cancelled, card, day, taken, seen, refused}
+use Rattle.hotel_model.specs.Scenes.Words.{may, M, a0, a1, b0, b1, c0, c1, d0, d1, DBL, SGL, TWN, TPL, guest, begin}
+use Rattle.hotel_model.specs.Scenes.Words.{add_kind, add_room, reserve, cancel, check_in, spare, reissue, transfer}
+use Rattle.hotel_model.specs.Scenes.Words.{check_out, refit, next_day, entered_by, left_by, recoded_by, entered, left}
+use Rattle.hotel_model.specs.Scenes.Words.{recoded, begun, kind_added, room_code, party, cancelled, card, day, taken}
+use Rattle.hotel_model.specs.Scenes.Words.{seen, refused}
 use Rattle.hotel_model.specs.Scenes.Lines.{Line, ◌⇒◌, Played, play, source, AreAnswered, AreRefused}
 
 -- Nothing happened yet.
@@ -37,7 +49,8 @@ before_the_first_day =
     ∷ entered_by 101 2 1 1 a0 a1 M ⇒ refused NotBegun  -- NoFit
     ∷ []
 
--- The kind TWN has no rooms, and TPL is not there. A day on which parties 1, 7 and 5 are in rooms 101, 103 and 201, party 2 never came and its stay is over, party 3 is cancelled, party 4 arrives tomorrow, and party 6 today.
+-- The kind TWN has no rooms, and TPL is not there. A day on which parties 1, 7 and 5 are in rooms 101, 103 and 201,
+-- party 2 never came and its stay is over, party 3 is cancelled, party 4 arrives tomorrow, and party 6 today.
 abbrev pub moves : List Line
 moves =
     begin (may 1) ⇒ begun

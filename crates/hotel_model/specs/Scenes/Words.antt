@@ -1,4 +1,5 @@
--- The words of the scenes: commands and replies in the order of a script's words, days, codes, guests and the rows of lists.
+-- The words of the scenes: commands and replies in the order of a script's words, days, codes, guests and the rows of
+-- lists.
 use Rattle.std.specs.Prelude.{ℕ, Bool, List, ◌+◌, codes}
 use Rattle.keycard_rules.specs.declared.card.Link.{Link}
 use Rattle.keycard_rules.specs.Note.{Note}

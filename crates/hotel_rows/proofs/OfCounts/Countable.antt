@@ -1,5 +1,7 @@
 -- Rows of which no table is damaged can be counted.
-use Rattle.std.proofs.Common.{◌≡◌, ◌≤◌, ◌<◌, ◌+◌, ◌-◌, ◌^◌, ◌∙◌, refl, sym, subst, arith, ℕ, Bool, true, false, inl, inr, cond, not, ◌==◌, ◌&&◌, List, [], ◌∷◌, map, take, get_or, length, Result, Ok, Err, Option, Some, None, nat_cmp, nat_le, nat_lt}
+use Rattle.std.proofs.Common.{◌≡◌, ◌≤◌, ◌<◌, ◌+◌, ◌-◌, ◌^◌, ◌∙◌, refl, sym, subst, arith, ℕ, Bool, true, false, inl}
+use Rattle.std.proofs.Common.{inr, cond, not, ◌==◌, ◌&&◌, List, [], ◌∷◌, map, take, get_or, length, Result, Ok, Err}
+use Rattle.std.proofs.Common.{Option, Some, None, nat_cmp, nat_le, nat_lt}
 use Rattle.std.specs.Prelude.{ℤ, is_some, option_map, string_bytes}
 use Rattle.std.specs.List.{list_all, count_by}
 use Rattle.std.specs.Result.{IfErr, IsErrAnd}

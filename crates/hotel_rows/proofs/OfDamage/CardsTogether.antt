@@ -1,5 +1,6 @@
 -- The rules of cards as tests of each row.
-use Rattle.std.proofs.Common.{◌≡◌, ℕ, Bool, true, false, ◌&&◌, ◌==◌, List, [], ◌∷◌, map, length, Option, Some, None, refl, sym, ap, ◌∙◌, nat_cmp}
+use Rattle.std.proofs.Common.{◌≡◌, ℕ, Bool, true, false, ◌&&◌, ◌==◌, List, [], ◌∷◌, map, length, Option, Some, None}
+use Rattle.std.proofs.Common.{refl, sym, ap, ◌∙◌, nat_cmp}
 use Rattle.std.specs.Prelude.{nat_le, is_some, not, ◌||◌, option_map}
 use Rattle.std.specs.List.{list_all, list_any}
 use Rattle.keycard_rules.specs.declared.card.Card.{Card}

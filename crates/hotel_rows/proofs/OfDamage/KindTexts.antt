@@ -1,5 +1,6 @@
 -- Texts of kinds in a map.
-use Rattle.std.proofs.Common.{◌≡◌, ◌-◌, ◌≤◌, ℕ, suc, Bool, true, false, cond, ◌&&◌, ◌++◌, List, [], ◌∷◌, map, length, drop, Option, Some, None, refl, sym, ap, subst, ◌∙◌, nat_cmp, arith}
+use Rattle.std.proofs.Common.{◌≡◌, ◌-◌, ◌≤◌, ℕ, suc, Bool, true, false, cond, ◌&&◌, ◌++◌, List, [], ◌∷◌, map, length}
+use Rattle.std.proofs.Common.{drop, Option, Some, None, refl, sym, ap, subst, ◌∙◌, nat_cmp, arith}
 use Rattle.std.specs.Prelude.{◌||◌, bytes_eq, is_some}
 use Rattle.std.specs.List.{list_all, list_any}
 use Rattle.std.specs.Cmp.Lexicographic.{slice_cmp}

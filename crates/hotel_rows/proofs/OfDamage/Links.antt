@@ -1,5 +1,6 @@
 -- Links of cards.
-use Rattle.std.proofs.Common.{◌≡◌, ℕ, pos, suc, Bool, true, false, cond, ◌==◌, List, [], ◌∷◌, map, Option, Some, None, refl, ap, ◌∙◌}
+use Rattle.std.proofs.Common.{◌≡◌, ℕ, pos, suc, Bool, true, false, cond, ◌==◌, List, [], ◌∷◌, map, Option, Some, None}
+use Rattle.std.proofs.Common.{refl, ap, ◌∙◌}
 use Rattle.std.specs.Prelude.{is_some, option_map, ◌||◌}
 use Rattle.std.specs.List.{list_any}
 use Rattle.hotel_model.specs.Rows.{at_number, or_else}

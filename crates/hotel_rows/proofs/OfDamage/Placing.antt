@@ -1,5 +1,6 @@
 -- Codes put at their places, from the last one on.
-use Rattle.std.proofs.Common.{◌≡◌, ℕ, pos, ◌+◌, ◌-◌, ◌<◌, ◌^◌, Bool, true, false, ◌==◌, ◌&&◌, List, ◌∷◌, map, length, drop, get_or, refl, sym, ap, ◌∙◌, nat_cmp, arith}
+use Rattle.std.proofs.Common.{◌≡◌, ℕ, pos, ◌+◌, ◌-◌, ◌<◌, ◌^◌, Bool, true, false, ◌==◌, ◌&&◌, List, ◌∷◌, map, length}
+use Rattle.std.proofs.Common.{drop, get_or, refl, sym, ap, ◌∙◌, nat_cmp, arith}
 use Rattle.std.specs.Prelude.{nat_lt, is_some}
 use Rattle.std.specs.List.{list_all, count_by}
 use Rattle.std.specs.Map.{keys_of, values_of}

@@ -1,5 +1,6 @@
 -- Rules of all rows of a table as one test of each row.
-use Rattle.std.proofs.Common.{◌≡◌, ℕ, suc, ◌+◌, ◌-◌, Bool, true, false, ◌&&◌, ◌==◌, List, [], ◌∷◌, map, length, refl, ap, ◌∙◌, nat_cmp}
+use Rattle.std.proofs.Common.{◌≡◌, ℕ, suc, ◌+◌, ◌-◌, Bool, true, false, ◌&&◌, ◌==◌, List, [], ◌∷◌, map, length, refl}
+use Rattle.std.proofs.Common.{ap, ◌∙◌, nat_cmp}
 use Rattle.std.specs.Prelude.{nat_le, nat_lt, string_bytes, not, ◌||◌}
 use Rattle.std.specs.List.{list_all}
 use Rattle.std.specs.Map.{keys_of}

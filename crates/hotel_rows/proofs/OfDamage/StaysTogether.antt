@@ -1,5 +1,6 @@
 -- The rules of stays as tests of each stay.
-use Rattle.std.proofs.Common.{◌≡◌, ℕ, ◌+◌, Bool, true, false, cond, ◌&&◌, ◌==◌, List, [], ◌∷◌, map, length, refl, sym, ap, ◌∙◌, nat_cmp}
+use Rattle.std.proofs.Common.{◌≡◌, ℕ, ◌+◌, Bool, true, false, cond, ◌&&◌, ◌==◌, List, [], ◌∷◌, map, length, refl, sym}
+use Rattle.std.proofs.Common.{ap, ◌∙◌, nat_cmp}
 use Rattle.std.specs.Prelude.{nat_le, nat_lt, string_bytes, bytes_eq}
 use Rattle.std.specs.List.{list_all, count_by}
 use Rattle.std.specs.Map.{values_of}

@@ -1,10 +1,14 @@
 -- A guest's text is UTF-8 and its reader takes it.
-use Rattle.std.proofs.Common.{◌≡◌, ℕ, List, Bool, IsUtf8, true, false, ◌&&◌, refl, sym, ap, ap₂, subst, inl, inr, Result, Ok, Err, ◌∙◌, if◌then◌else◌}
+use Rattle.std.proofs.Common.{◌≡◌, ℕ, List, Bool, IsUtf8, true, false, ◌&&◌, refl, sym, ap, ap₂, subst, inl, inr}
+use Rattle.std.proofs.Common.{Result, Ok, Err, ◌∙◌, if◌then◌else◌}
 use Rattle.std.proofs.lemmas.Bool.{cases_Bool}
 use Rattle.std.proofs.lemmas.Str.{IsUtf8-from_is_utf8, is_utf8-from_IsUtf8}
 use Rattle.std.specs.Str.{is_utf8}
-use Rattle.hotel_nights.specs.{Guests.is_guest, declared.guest.GuestFault.GuestFault, declared.guest.GuestFault.TheVariants.Unread, declared.guest.GuestFault.TheVariants.Memory}
-use Rattle.hotel_asks.specs.{declared.values.ValueFault.ValueFault, declared.values.ValueFault.TheVariants.Value, declared.values.ValueName.TheVariants.Guest}
+use Rattle.hotel_nights.specs.{Guests.is_guest, declared.guest.GuestFault.GuestFault}
+use Rattle.hotel_nights.specs.{declared.guest.GuestFault.TheVariants.Unread}
+use Rattle.hotel_nights.specs.{declared.guest.GuestFault.TheVariants.Memory}
+use Rattle.hotel_asks.specs.{declared.values.ValueFault.ValueFault, declared.values.ValueFault.TheVariants.Value}
+use Rattle.hotel_asks.specs.{declared.values.ValueName.TheVariants.Guest}
 use Rattle.hotel_asks.specs.Values.{guest_in, IsCopy}
 use Rattle.hotel_asks.proofs.values.read_guest.Goals as goal
 

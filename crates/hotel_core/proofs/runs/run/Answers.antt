@@ -1,7 +1,9 @@
 use Rattle.std.proofs.Common.{◌≡◌, ◌+◌, take, length, zip, ◌++◌, ◌∷◌, [], sym, ap, ◌∙◌, arith, subst}
-use Rattle.hotel_core.proofs.{Names.take_more, Names.RunsTo, OfCode.FailuresCounted.counted_join, OfCode.FailuresCounted.failures_in-push}
+use Rattle.hotel_core.proofs.{Names.take_more, Names.RunsTo, OfCode.FailuresCounted.counted_join}
+use Rattle.hotel_core.proofs.{OfCode.FailuresCounted.failures_in-push}
 use Rattle.std.proofs.lemmas.List.{take_all, length-take-le}
-use Rattle.hotel_model.proofs.{Lifted.RunParts.runs_step, Invariants.Assurance.runs_safely, Invariants.Assurance.assured}
+use Rattle.hotel_model.proofs.{Lifted.RunParts.runs_step, Invariants.Assurance.runs_safely}
+use Rattle.hotel_model.proofs.{Invariants.Assurance.assured}
 use Rattle.hotel_core.proofs.{OfCode.Happened.RunsOn, OfCode.Happened.run_goes_on}
 use Rattle.hotel_core.proofs.OfCode.RepliesAnswered.{any_answered-push, last_answered-push}
 use Rattle.hotel_core.proofs.OfCode.Happens.{passes_push, step_happens, zip-push}

@@ -1,5 +1,6 @@
 use Rattle.std.proofs.Common.{◌≡◌, ◌≤◌, true, take, length, vec_len, vec_capacity, zip}
-use Rattle.hotel_core.proofs.Names.{NoFewer, History, Reached, rows_of, StandsFor, RunsTo, AreCounted, any_answered, failures_in, last_answered}
+use Rattle.hotel_core.proofs.Names.{NoFewer, History, Reached, rows_of, StandsFor, RunsTo, AreCounted, any_answered}
+use Rattle.hotel_core.proofs.Names.{failures_in, last_answered}
 use Rattle.hotel_core.proofs.OfCode.Happened.{RunsOn}
 use Rattle.hotel_core.specs.Books.Happens.{CommandHappens, Passes}
 use Rattle.hotel_core.proofs.runs.run.Given as goal

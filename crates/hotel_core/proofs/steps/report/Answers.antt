@@ -1,6 +1,7 @@
 use Rattle.hotel_model.specs.declared.command.Command.TheVariants as command
 use Rattle.hotel_model.proofs.{Lifted.Runs.steps_lift, Invariants.Assurance.assured_too}
-use Rattle.hotel_core.proofs.{OfCode.FailuresCounted.step_counted, OfCode.Happened.step_happened, OfCode.FailuresCounted.failed_same}
+use Rattle.hotel_core.proofs.{OfCode.FailuresCounted.step_counted, OfCode.Happened.step_happened}
+use Rattle.hotel_core.proofs.{OfCode.FailuresCounted.failed_same}
 use Rattle.std.proofs.Common.{[]}
 use Rattle.rand_core.specs.Stream.{Stream}
 use Rattle.hotel_core.proofs.OfCode.NoteReplies.{note_reply}

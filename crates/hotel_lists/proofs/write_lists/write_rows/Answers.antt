@@ -1,7 +1,8 @@
 use Rattle.std.proofs.Common.{Err, rules, sym, ◌∙◌}
 use Rattle.hotel_lists.specs.declared.fault.ListFault.TheVariants.{Write}
 use Rattle.hotel_lists.proofs.CallsLemmas.{then_none_forgotten}
-use Rattle.hotel_lists.proofs.LinesWritten.{Ends, cut_ends, front_of_first, list_ended, list_vouches, list_written, store_failed}
+use Rattle.hotel_lists.proofs.LinesWritten.{Ends, cut_ends, front_of_first, list_ended, list_vouches, list_written}
+use Rattle.hotel_lists.proofs.LinesWritten.{store_failed}
 use Rattle.hotel_lists.proofs.write_lists.write_rows.Goals as goal
 
 pub returns-in_err-write_bytes-clause-text : goal.returns-in_err-write_bytes-clause-text

@@ -1,6 +1,7 @@
 use Rattle.std.proofs.Common.{◌≡◌, ℕ, sym, ap, ◌∙◌, arith, ◌+◌, Some}
 use Rattle.keycard_rules.specs.Draw.{Draw}
-use Rattle.keycard_rules.proofs.Drawing.{past-zero, past-next, so_far_none, so_far_more, found, examines, moved_on, no_more, answer_at, draw_is, drawn-none}
+use Rattle.keycard_rules.proofs.Drawing.{past-zero, past-next, so_far_none, so_far_more, found, examines, moved_on}
+use Rattle.keycard_rules.proofs.Drawing.{no_more, answer_at, draw_is, drawn-none}
 use Rattle.keycard_rules.proofs.draw.draw_fresh.Goals as goal
 
 pub loop-init : goal.loop-init

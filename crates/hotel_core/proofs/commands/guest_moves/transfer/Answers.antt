@@ -1,7 +1,9 @@
 use Rattle.std.proofs.Common.{◌≡◌, Some, None, refl}
-use Rattle.hotel_core.proofs.{Names.room_of_state, Names.outcome_on, Names.bars_to_transfer, Names.words, Names.issued_on, OfCode.AnswerParts.comes_now}
+use Rattle.hotel_core.proofs.{Names.room_of_state, Names.outcome_on, Names.bars_to_transfer, Names.words}
+use Rattle.hotel_core.proofs.{Names.issued_on, OfCode.AnswerParts.comes_now}
 use Rattle.hotel_model.specs.declared.reply.Refusal.TheVariants as refusal
-use Rattle.hotel_core.proofs.OfCode.Parts.{begun, then_found, at_now, stopped, refuses, barred, ends, bars_refuse, bars_pass}
+use Rattle.hotel_core.proofs.OfCode.Parts.{begun, then_found, at_now, stopped, refuses, barred, ends, bars_refuse}
+use Rattle.hotel_core.proofs.OfCode.Parts.{bars_pass}
 use Rattle.hotel_model.specs.declared.command.Command.TheVariants as command
 use Rattle.hotel_core.proofs.commands.guest_moves.transfer.Goals as goal
 

@@ -1,7 +1,9 @@
 use Rattle.std.proofs.Common.{◌≡◌, ◌+◌, ◌==◌, true, refl, subst, ap, sym, ◌∙◌, arith, IsSome}
-use Rattle.hotel_core.proofs.{Names.false≢true, Names.IsUntaken, Names.note_at, OfCode.Parts.given, OfCode.Parts.given_vouched, OfCode.Parts.refuses, OfCode.Parts.ends}
+use Rattle.hotel_core.proofs.{Names.false≢true, Names.IsUntaken, Names.note_at, OfCode.Parts.given}
+use Rattle.hotel_core.proofs.{OfCode.Parts.given_vouched, OfCode.Parts.refuses, OfCode.Parts.ends}
 use Rattle.hotel_model.specs.declared.reply.Refusal.TheVariants as refusal
-use Rattle.hotel_core.proofs.{OfCode.NoteParts.excluded, OfCode.NoteParts.old_told, OfCode.NoteParts.gap_told, OfCode.NoteParts.next_told, OfCode.AnswerParts.comes_of}
+use Rattle.hotel_core.proofs.{OfCode.NoteParts.excluded, OfCode.NoteParts.old_told, OfCode.NoteParts.gap_told}
+use Rattle.hotel_core.proofs.{OfCode.NoteParts.next_told, OfCode.AnswerParts.comes_of}
 use Rattle.hotel_model.proofs.OfTables.Tests.{eq_from}
 use Rattle.hotel_core.proofs.commands.notes.take_new.Goals as goal
 

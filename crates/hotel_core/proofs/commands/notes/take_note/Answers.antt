@@ -3,7 +3,8 @@ use Rattle.hotel_core.proofs.Names.{outcome_on, reported_on, said, refused}
 use Rattle.hotel_model.specs.declared.reply.Refusal.TheVariants as refusal
 use Rattle.hotel_model.specs.declared.reply.Reply.TheVariants as reply
 use Rattle.hotel_core.proofs.OfCode.Parts.{begun, at_now, then_found, stopped, refuses, ends, only}
-use Rattle.hotel_core.proofs.{OfCode.NoteParts.reported_there, OfCode.NoteParts.later_there, OfCode.NoteParts.says, OfCode.AnswerParts.comes_now}
+use Rattle.hotel_core.proofs.{OfCode.NoteParts.reported_there, OfCode.NoteParts.later_there, OfCode.NoteParts.says}
+use Rattle.hotel_core.proofs.{OfCode.AnswerParts.comes_now}
 use Rattle.hotel_model.specs.declared.command.Command.TheVariants as command
 use Rattle.hotel_core.proofs.commands.notes.take_note.Goals as goal
 

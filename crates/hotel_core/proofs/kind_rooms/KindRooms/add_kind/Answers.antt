@@ -1,5 +1,6 @@
 use Rattle.std.proofs.Common.{◌≡◌, false, ap, ◌∙◌, nat_cmp}
-use Rattle.hotel_core.proofs.{Names.slice_cmp, Names.insert_key, Names.keys_of, Names.is_there, Names.rooms_in, OfNights.KindKeys.keys_inserted, OfNights.KindKeys.new_kind}
+use Rattle.hotel_core.proofs.{Names.slice_cmp, Names.insert_key, Names.keys_of, Names.is_there, Names.rooms_in}
+use Rattle.hotel_core.proofs.{OfNights.KindKeys.keys_inserted, OfNights.KindKeys.new_kind}
 use Rattle.hotel_core.proofs.kind_rooms.KindRooms.add_kind.Goals as goal
 
 pub returns-clause-kinds : goal.returns-clause-kinds

@@ -1,5 +1,6 @@
 use Rattle.std.proofs.Common.{◌-◌, ap, sym, ◌∙◌, arith}
-use Rattle.hotel_core.proofs.{Names.one_if, Names.counted, Names.spans, OfNights.NightsStanding.takes_by, OfNights.NightsStanding.takes_none}
+use Rattle.hotel_core.proofs.{Names.one_if, Names.counted, Names.spans, OfNights.NightsStanding.takes_by}
+use Rattle.hotel_core.proofs.{OfNights.NightsStanding.takes_none}
 use Rattle.hotel_core.proofs.night_index.NightIndex.remove.Goals as goal
 
 pub returns-then-is_standing : goal.returns-then-is_standing

@@ -1,4 +1,5 @@
-use Rattle.std.proofs.Common.{rules, ◌≡◌, ℕ, ◌+◌, ◌-◌, ◌/◌, ◌&&◌, Some, None, [], nat_le, nat_lt, ap, ◌∙◌, sym, arith, slice_index}
+use Rattle.std.proofs.Common.{rules, ◌≡◌, ℕ, ◌+◌, ◌-◌, ◌/◌, ◌&&◌, Some, None, [], nat_le, nat_lt, ap, ◌∙◌, sym, arith}
+use Rattle.std.proofs.Common.{slice_index}
 use Rattle.hotel_core.proofs.Names.{one_if, block_at, counted, spans}
 use Rattle.std.specs.Option.{unwrap_or}
 use Rattle.hotel_core.proofs.OfNights.NightCounts.{Sets, sets_twice, part_changed, part_absent}

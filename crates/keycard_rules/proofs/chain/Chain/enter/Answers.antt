@@ -3,7 +3,8 @@ use Rattle.std.proofs.lemmas.List.{get_or_read}
 use Rattle.std.proofs.lemmas.Bool.Decides.{nat_tests}
 use Rattle.keycard_rules.proofs.ChainLemmas.{shut}
 use Rattle.keycard_rules.proofs.chain.Chain.enter.Goals as goal
-use Rattle.keycard_rules.proofs.chain.Chain.enter.Goals.{then-ne-via-then-ne, then-ne-via-else-ne+then-next-len, then-ne-via-else-ne+else-next-len+then-ne-2}
+use Rattle.keycard_rules.proofs.chain.Chain.enter.Goals.{then-ne-via-then-ne, then-ne-via-else-ne+then-next-len}
+use Rattle.keycard_rules.proofs.chain.Chain.enter.Goals.{then-ne-via-else-ne+else-next-len+then-ne-2}
 
 pub returns-then-ne-clause-lock_rule : goal.returns-then-ne-clause-lock_rule
 returns-then-ne-clause-lock_rule c =

@@ -1,5 +1,6 @@
 use Rattle.std.proofs.Common.{ap, sym, ◌∙◌, subst}
-use Rattle.hotel_core.proofs.{Names.at_number, Names.first_code_at, Names.PlacesAgree, OfTables.PlacedCodes.agree_after, OfTables.PlacedCodes.agree_again}
+use Rattle.hotel_core.proofs.{Names.at_number, Names.first_code_at, Names.PlacesAgree, OfTables.PlacedCodes.agree_after}
+use Rattle.hotel_core.proofs.{OfTables.PlacedCodes.agree_again}
 use Rattle.hotel_core.proofs.memory.code_table.CodeTable.insert.Goals as goal
 
 pub invariant_of-self-in-Ok-insert : goal.invariant_of-self-in-Ok-insert

@@ -1,5 +1,6 @@
 use Rattle.std.proofs.Common.{ap, sym, ◌∙◌, subst, nat_cmp}
-use Rattle.hotel_core.proofs.{Names.is_at, Names.remove_entry, Names.at_number, Names.first_code_at, Names.PlacesAgree, OfTables.PlacedCodes.agree_without}
+use Rattle.hotel_core.proofs.{Names.is_at, Names.remove_entry, Names.at_number, Names.first_code_at, Names.PlacesAgree}
+use Rattle.hotel_core.proofs.{OfTables.PlacedCodes.agree_without}
 use Rattle.hotel_core.proofs.memory.code_table.CodeTable.remove.Goals as goal
 
 pub invariant_of-self : goal.invariant_of-self

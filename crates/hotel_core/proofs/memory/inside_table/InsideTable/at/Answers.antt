@@ -1,5 +1,6 @@
 use Rattle.std.proofs.Common.{rules, ℕ, ◌≡◌, ◌++◌, List, map, filter, ap, sym, ◌∙◌}
-use Rattle.hotel_core.proofs.{Names.Included, Names.range_contains, Names.pair_cmp, Names.those_in, OfTables.CardsInside.part_of_room}
+use Rattle.hotel_core.proofs.{Names.Included, Names.range_contains, Names.pair_cmp, Names.those_in}
+use Rattle.hotel_core.proofs.{OfTables.CardsInside.part_of_room}
 use Rattle.hotel_core.proofs.memory.inside_table.InsideTable.at.Goals as goal
 
 pub loop-pair-init : goal.loop-pair-init

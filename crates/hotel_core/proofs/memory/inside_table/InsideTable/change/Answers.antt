@@ -1,5 +1,6 @@
 use Rattle.std.proofs.Common.{ap, sym, ◌∙◌, subst}
-use Rattle.hotel_core.proofs.{Names.IsNumberUpTo, Names.moved, Names.HaveCardNumbers, OfTables.CardsInside.numbers_removed, OfTables.CardsInside.numbers_added}
+use Rattle.hotel_core.proofs.{Names.IsNumberUpTo, Names.moved, Names.HaveCardNumbers}
+use Rattle.hotel_core.proofs.{OfTables.CardsInside.numbers_removed, OfTables.CardsInside.numbers_added}
 use Rattle.hotel_model.specs.declared.change.InsideMove.{InsideMove}
 use Rattle.hotel_core.proofs.memory.inside_table.InsideTable.change.Goals as goal
 

@@ -1,7 +1,8 @@
 use Rattle.std.proofs.Common.{ℕ, ◌≡◌, List, map, ap, sym, ◌∙◌}
 use Rattle.hotel_core.proofs.Names.{Included, entries_between, rest_more, Note, pair_cmp, notes_at}
 use Rattle.std.specs.Map.Iter.{deref_pair}
-use Rattle.hotel_core.proofs.{OfCode.Walking.begun, OfCode.Walking.one_more, OfCode.Walking.as_rest, OfTables.RoomNotes.part_of_room}
+use Rattle.hotel_core.proofs.{OfCode.Walking.begun, OfCode.Walking.one_more, OfCode.Walking.as_rest}
+use Rattle.hotel_core.proofs.{OfTables.RoomNotes.part_of_room}
 use Rattle.hotel_core.proofs.memory.note_table.NoteTable.walk.Goals as goal
 
 pub loop-note-init : goal.loop-note-init

@@ -1,5 +1,6 @@
 use Rattle.std.proofs.Common.{ap, sym, ◌∙◌, subst}
-use Rattle.hotel_core.proofs.{Names.at_number, Names.CountsNightsOf, OfTables.RowsChanged.stay_absent, OfNights.NightsStanding.stands_less}
+use Rattle.hotel_core.proofs.{Names.at_number, Names.CountsNightsOf, OfTables.RowsChanged.stay_absent}
+use Rattle.hotel_core.proofs.{OfNights.NightsStanding.stands_less}
 use Rattle.hotel_core.proofs.memory.stay_table.StayTable.end.Goals as goal
 
 pub returns-in_default : goal.returns-in_default

@@ -1,5 +1,6 @@
 use Rattle.std.proofs.Common.{ap, sym, ◌∙◌, subst, true, refl}
-use Rattle.hotel_core.proofs.{Names.is_standing, Names.said_of, Names.at_number, Names.CountsNightsOf, OfNights.NightsStanding.stands_on}
+use Rattle.hotel_core.proofs.{Names.is_standing, Names.said_of, Names.at_number, Names.CountsNightsOf}
+use Rattle.hotel_core.proofs.{OfNights.NightsStanding.stands_on}
 use Rattle.hotel_nights.specs.declared.stay.StayState.TheVariants as state
 use Rattle.hotel_core.proofs.memory.stay_table.StayTable.stand_on.Goals as goal
 

@@ -1,6 +1,8 @@
 use Rattle.std.proofs.Common.{◌≡◌, ◌≤◌, ◌+◌, ℕ, List, refl, ap, sym, ◌∙◌, subst, arith}
-use Rattle.hotel_core.proofs.Names.{is_at, at_number, said_of, insert_entry, remove_entry, keys_of, Note, RoomRow, pair_cmp, Rows, note_numbered, before_in, LaterPlacesFree, RoomsKnown}
-use Rattle.hotel_core.proofs.{OfTables.MapEntries.taken_back, OfTables.MapEntries.pair_total, OfTables.LaterPlaces.free_on, OfTables.LaterPlaces.codes_changed}
+use Rattle.hotel_core.proofs.Names.{is_at, at_number, said_of, insert_entry, remove_entry, keys_of, Note, RoomRow}
+use Rattle.hotel_core.proofs.Names.{pair_cmp, Rows, note_numbered, before_in, LaterPlacesFree, RoomsKnown}
+use Rattle.hotel_core.proofs.{OfTables.MapEntries.taken_back, OfTables.MapEntries.pair_total}
+use Rattle.hotel_core.proofs.{OfTables.LaterPlaces.free_on, OfTables.LaterPlaces.codes_changed}
 use Rattle.hotel_core.proofs.OfNights.RoomsByKind.{known_changed}
 use Rattle.hotel_core.proofs.memory.tables.Tables.add_note.Goals as goal
 

@@ -1,5 +1,7 @@
 use Rattle.std.proofs.Common.{rules, ◌≡◌, ℕ, List, None, false, ap, sym, ◌∙◌, subst, arith, nat_cmp}
-use Rattle.hotel_core.proofs.Names.{FitRow, CodeRow, pair_cmp, lookup, fit_at, is_at, remove_entry, keys_of, nat_cmp_total, RoomRow, said_of, IsNumberUpTo, Rows, has_kind, room_at, code_place, LaterPlacesFree, RoomsKnown, TablesAgree}
+use Rattle.hotel_core.proofs.Names.{FitRow, CodeRow, pair_cmp, lookup, fit_at, is_at, remove_entry, keys_of}
+use Rattle.hotel_core.proofs.Names.{nat_cmp_total, RoomRow, said_of, IsNumberUpTo, Rows, has_kind, room_at, code_place}
+use Rattle.hotel_core.proofs.Names.{LaterPlacesFree, RoomsKnown, TablesAgree}
 use Rattle.hotel_core.proofs.OfTables.MapEntries.{taken_back, pair_total}
 use Rattle.hotel_core.proofs.OfTables.LaterPlaces.{free_after, codes_added, codes_new, codes_there}
 use Rattle.hotel_core.proofs.OfNights.RoomsByKind.{few_rooms, known_added}

@@ -1,5 +1,6 @@
 use Rattle.std.proofs.Common.{◌≤◌, None, refl, sym, subst, arith}
-use Rattle.hotel_core.proofs.{Names.RoomRow, Names.LaterPlacesFree, Names.RoomsKnown, OfTables.LaterPlaces.free_on, OfTables.LaterPlaces.codes_changed}
+use Rattle.hotel_core.proofs.{Names.RoomRow, Names.LaterPlacesFree, Names.RoomsKnown, OfTables.LaterPlaces.free_on}
+use Rattle.hotel_core.proofs.{OfTables.LaterPlaces.codes_changed}
 use Rattle.hotel_core.proofs.OfNights.RoomsByKind.{known_changed}
 use Rattle.hotel_core.proofs.memory.tables.Tables.check_out.Goals as goal
 

@@ -1,7 +1,12 @@
-use Rattle.std.proofs.Common.{◌≤◌, ◌<◌, ◌+◌, ◌-◌, ◌^◌, ℕ, List, Some, false, IsSome, refl, ap, sym, ◌∙◌, subst, arith, nat_cmp}
-use Rattle.hotel_core.proofs.Names.{is_at, remove_entry, keys_of, nat_cmp_total, RoomRow, CodeRow, Rows, at_number, room_at, code_place, first_code_at, codes_of, freed_by, room_changed, LaterPlacesFree, RoomsKnown, TablesAgree}
-use Rattle.hotel_core.proofs.{OfTables.MapEntries.taken_back, OfTables.MapEntries.found, OfNights.RoomsByKind.known_changed, OfNights.RoomsByKind.known_left}
-use Rattle.hotel_core.proofs.OfTables.LaterPlaces.{free_after, codes_left, codes_changed, codes_there, one_more_code, there_left}
+use Rattle.std.proofs.Common.{◌≤◌, ◌<◌, ◌+◌, ◌-◌, ◌^◌, ℕ, List, Some, false, IsSome, refl, ap, sym, ◌∙◌, subst, arith}
+use Rattle.std.proofs.Common.{nat_cmp}
+use Rattle.hotel_core.proofs.Names.{is_at, remove_entry, keys_of, nat_cmp_total, RoomRow, CodeRow, Rows, at_number}
+use Rattle.hotel_core.proofs.Names.{room_at, code_place, first_code_at, codes_of, freed_by, room_changed}
+use Rattle.hotel_core.proofs.Names.{LaterPlacesFree, RoomsKnown, TablesAgree}
+use Rattle.hotel_core.proofs.{OfTables.MapEntries.taken_back, OfTables.MapEntries.found}
+use Rattle.hotel_core.proofs.{OfNights.RoomsByKind.known_changed, OfNights.RoomsByKind.known_left}
+use Rattle.hotel_core.proofs.OfTables.LaterPlaces.{free_after, codes_left, codes_changed, codes_there, one_more_code}
+use Rattle.hotel_core.proofs.OfTables.LaterPlaces.{there_left}
 use Rattle.hotel_core.proofs.memory.tables.Tables.issue.Goals as goal
 
 pub remove-requires-clause-there : goal.remove-requires-clause-there

@@ -1,6 +1,9 @@
 use Rattle.std.proofs.Common.{◌≤◌, ◌<◌, ◌+◌, ℕ, List, false, IsSome, refl, ap, sym, ◌∙◌, subst, arith, nat_cmp}
-use Rattle.hotel_core.proofs.Names.{is_at, remove_entry, keys_of, nat_cmp_total, RoomRow, CodeRow, FitRow, Rows, at_number, room_at, code_place, first_code_at, LaterPlacesFree, RoomsKnown, TablesAgree}
-use Rattle.hotel_core.proofs.{OfTables.MapEntries.taken_back, OfTables.MapEntries.found, OfNights.RoomsByKind.known_changed}
+use Rattle.hotel_core.proofs.Names.{is_at, remove_entry, keys_of, nat_cmp_total, RoomRow, CodeRow, FitRow, Rows}
+use Rattle.hotel_core.proofs.Names.{at_number, room_at, code_place, first_code_at, LaterPlacesFree, RoomsKnown}
+use Rattle.hotel_core.proofs.Names.{TablesAgree}
+use Rattle.hotel_core.proofs.{OfTables.MapEntries.taken_back, OfTables.MapEntries.found}
+use Rattle.hotel_core.proofs.{OfNights.RoomsByKind.known_changed}
 use Rattle.hotel_core.proofs.OfTables.LaterPlaces.{free_after, codes_changed, codes_there, one_more_code}
 use Rattle.hotel_core.proofs.memory.tables.Tables.refit.Goals as goal
 

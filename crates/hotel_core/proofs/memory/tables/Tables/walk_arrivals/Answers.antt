@@ -1,5 +1,6 @@
 use Rattle.std.proofs.Common.{filter, ap, sym, ◌∙◌}
-use Rattle.hotel_core.proofs.{Names.rest_more, Names.arrives_on, OfCode.Walking.one_more, OfCode.Walking.as_rest, OfCode.Walking.passing}
+use Rattle.hotel_core.proofs.{Names.rest_more, Names.arrives_on, OfCode.Walking.one_more, OfCode.Walking.as_rest}
+use Rattle.hotel_core.proofs.{OfCode.Walking.passing}
 use Rattle.hotel_core.proofs.memory.tables.Tables.walk_arrivals.Goals as goal
 
 pub loop-stay-preserved-in-Continue-1 : goal.loop-stay-preserved-in-Continue-1

@@ -1,5 +1,6 @@
 use Rattle.std.proofs.Common.{ap, sym, ◌∙◌, filter_map}
-use Rattle.hotel_core.proofs.{Names.rest_more, Names.house_row_on, OfCode.Walking.one_more, OfCode.Walking.as_rest, OfCode.Walking.made_row}
+use Rattle.hotel_core.proofs.{Names.rest_more, Names.house_row_on, OfCode.Walking.one_more, OfCode.Walking.as_rest}
+use Rattle.hotel_core.proofs.{OfCode.Walking.made_row}
 use Rattle.hotel_core.proofs.memory.tables.Tables.walk_in_house.Goals as goal
 
 pub loop-row-preserved-in-Some-2 : goal.loop-row-preserved-in-Some-2

@@ -1,5 +1,6 @@
 use Rattle.std.proofs.Common.{ap, sym, ◌∙◌, filter_map}
-use Rattle.hotel_core.proofs.{Names.rest_more, Names.behind_row_on, OfCode.Walking.one_more, OfCode.Walking.as_rest, OfCode.Walking.made_row}
+use Rattle.hotel_core.proofs.{Names.rest_more, Names.behind_row_on, OfCode.Walking.one_more, OfCode.Walking.as_rest}
+use Rattle.hotel_core.proofs.{OfCode.Walking.made_row}
 use Rattle.hotel_core.proofs.memory.tables.Tables.walk_left_behind.Goals as goal
 
 pub loop-row-preserved-in-Continue-1 : goal.loop-row-preserved-in-Continue-1

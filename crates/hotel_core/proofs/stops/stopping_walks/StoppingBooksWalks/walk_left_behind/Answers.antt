@@ -1,5 +1,6 @@
 use Rattle.std.proofs.Common.{◌∙◌, ap, sym, rules}
-use Rattle.hotel_core.proofs.{Names.left_behind_on, Names.Stopping, OfCode.HandedOn.handed_on, OfCode.HandedOn.same_sink}
+use Rattle.hotel_core.proofs.{Names.left_behind_on, Names.Stopping, OfCode.HandedOn.handed_on}
+use Rattle.hotel_core.proofs.{OfCode.HandedOn.same_sink}
 use Rattle.hotel_core.proofs.stops.stopping_walks.StoppingBooksWalks.walk_left_behind.Goals as goal
 
 pub returns : goal.returns
