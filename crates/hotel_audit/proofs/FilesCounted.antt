@@ -6,11 +6,14 @@ use Rattle.hotel_model.specs.declared.command.Command.TheVariants as command
 use Rattle.hotel_model.specs.declared.reply.Reply.{Reply}
 use Rattle.hotel_model.specs.declared.reply.Reply.TheVariants as reply
 use Rattle.hotel_model.proofs.Lifted.Runs.{runs_reach}
-use Rattle.hotel_audit.specs.{declared.answer.LineAnswer.LineAnswer, declared.line.Line.Line, Import.AreAnswered, Import.commands_of, Import.replies_in}
+use Rattle.hotel_audit.specs.{declared.answer.LineAnswer.LineAnswer, declared.line.Line.Line, Import.AreAnswered}
+use Rattle.hotel_audit.specs.{Import.commands_of, Import.replies_in}
 use Rattle.hotel_audit.specs.declared.answer.LineAnswer.TheVariants.{Taken, Seen, Unread, Refused}
 use Rattle.hotel_audit.specs.declared.line.Line.TheVariants as line
-use Rattle.hotel_audit.specs.FilesCounted.{AnsweredFile, FilesCounted, FilesLead, all_events_taken, event_of, events_taken, followed_by}
-use Rattle.hotel_audit.proofs.{CountsOfFits.notes_counted, NoteOutcomes.note_outcome, NotesInRange.commands_in_range, NotesInRange.file_in_range, NotesInRange.front_in_range}
+use Rattle.hotel_audit.specs.FilesCounted.{AnsweredFile, FilesCounted, FilesLead, all_events_taken, event_of}
+use Rattle.hotel_audit.specs.FilesCounted.{events_taken, followed_by}
+use Rattle.hotel_audit.proofs.{CountsOfFits.notes_counted, NoteOutcomes.note_outcome, NotesInRange.commands_in_range}
+use Rattle.hotel_audit.proofs.{NotesInRange.file_in_range, NotesInRange.front_in_range}
 
 -- a note that was answered Taken happened
 taken_step : (h : History) (s : Stream) (note : Note) (h' : History) (s' : Stream) → StepsIf false h s (command.Reported note) reply.Taken h' s' → h' ≡ h ▷ event_of note

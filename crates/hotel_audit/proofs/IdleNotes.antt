@@ -1,20 +1,27 @@
 -- Notes that would not be taken, and that they stay so.
-use Rattle.std.proofs.Common.{◌≡◌, ◌∙◌, ◌<◌, ◌≤◌, ℕ, zero, suc, Bool, true, false, List, [], ◌∷◌, ◌++◌, Some, None, inl, inr, length, drop, refl, ap, sym, subst, arith, length-append, eq-eqb, ◌==◌, ◌+◌, ◌-◌}
+use Rattle.std.proofs.Common.{◌≡◌, ◌∙◌, ◌<◌, ◌≤◌, ℕ, zero, suc, Bool, true, false, List, [], ◌∷◌, ◌++◌, Some, None, inl}
+use Rattle.std.proofs.Common.{inr, length, drop, refl, ap, sym, subst, arith, length-append, eq-eqb, ◌==◌, ◌+◌, ◌-◌}
 use Rattle.std.proofs.lemmas.Bool.Decides.{nat_tests}
 use Rattle.std.proofs.lemmas.List.Elements.{filter-append}
-use Rattle.hotel_core.proofs.Names.{Stream, words, Note, answer_to, reported, is_begun, is_room, is_fit, present_fit, Event, note_of, History, ◌▷◌, notes, notes_of, same_note, standing, standing_among, with_note, Outcome, grown, needs, Runs, StepsIf, and_last, when}
+use Rattle.hotel_core.proofs.Names.{Stream, words, Note, answer_to, reported, is_begun, is_room, is_fit, present_fit}
+use Rattle.hotel_core.proofs.Names.{Event, note_of, History, ◌▷◌, notes, notes_of, same_note, standing, standing_among}
+use Rattle.hotel_core.proofs.Names.{with_note, Outcome, grown, needs, Runs, StepsIf, and_last, when}
 use Rattle.keycard_rules.specs.declared.note.Act.{Act}
 use Rattle.keycard_rules.specs.declared.note.Act.TheVariants as act
 use Rattle.hotel_model.specs.declared.command.Command.TheVariants as command
-use Rattle.hotel_model.specs.{declared.reply.Reply.Reply, declared.reply.Refusal.TheVariants.NotBegun, declared.reply.Refusal.TheVariants.NoRoom, declared.reply.Refusal.TheVariants.NoFit}
+use Rattle.hotel_model.specs.{declared.reply.Reply.Reply, declared.reply.Refusal.TheVariants.NotBegun}
+use Rattle.hotel_model.specs.{declared.reply.Refusal.TheVariants.NoRoom, declared.reply.Refusal.TheVariants.NoFit}
 use Rattle.hotel_model.specs.declared.reply.Reply.TheVariants as reply
 use Rattle.hotel_model.proofs.OfTables.Tests.{eq_from, eq_self}
-use Rattle.hotel_audit.specs.{declared.answer.LineAnswer.LineAnswer, declared.line.Line.Line, FilesCounted.event_by, FilesCounted.event_of}
+use Rattle.hotel_audit.specs.{declared.answer.LineAnswer.LineAnswer, declared.line.Line.Line, FilesCounted.event_by}
+use Rattle.hotel_audit.specs.{FilesCounted.event_of}
 use Rattle.hotel_audit.specs.declared.answer.LineAnswer.TheVariants.{Taken, Seen, Unread, Refused}
 use Rattle.hotel_audit.specs.declared.line.Line.TheVariants as line
-use Rattle.hotel_audit.specs.{Import.AreAnswered, Import.commands_of, Import.replies_in, SentAtOnce.CountsDoNotFall, SentAtOnce.NoneLower}
+use Rattle.hotel_audit.specs.{Import.AreAnswered, Import.commands_of, Import.replies_in, SentAtOnce.CountsDoNotFall}
+use Rattle.hotel_audit.specs.{SentAtOnce.NoneLower}
 use Rattle.hotel_audit.proofs.NotesKnown.{under}
-use Rattle.hotel_audit.proofs.NoteOutcomes.{IsIdle, IsNext, idle_beside, idle_checked, note_outcome, refused_not_taken, same_words}
+use Rattle.hotel_audit.proofs.NoteOutcomes.{IsIdle, IsNext, idle_beside, idle_checked, note_outcome, refused_not_taken}
+use Rattle.hotel_audit.proofs.NoteOutcomes.{same_words}
 use Rattle.hotel_audit.proofs.OtherRooms.{answered_same, other_room}
 
 -- what comes of a note

@@ -1,16 +1,19 @@
 -- How an import ends: with all lines answered, with those before one that failed, or before the first.
-use Rattle.std.proofs.Common.{ℕ, ◌≡◌, ◌≢◌, ◌⊎◌, ◌+◌, ◌∙◌, Bool, List, [], ◌∷◌, ◌++◌, Result, Ok, Err, OnOk, take, drop, length, sym, refl, ap, append_assoc}
+use Rattle.std.proofs.Common.{ℕ, ◌≡◌, ◌≢◌, ◌⊎◌, ◌+◌, ◌∙◌, Bool, List, [], ◌∷◌, ◌++◌, Result, Ok, Err, OnOk, take, drop}
+use Rattle.std.proofs.Common.{length, sym, refl, ap, append_assoc}
 use Rattle.std.specs.Prelude.{zip}
 use Rattle.hotel_core.proofs.Names.{Rows}
 use Rattle.hotel_model.proofs.LeadsOn.{leads_of}
 use Rattle.keycard_rules.specs.declared.issued.Issued.{Ghosts as IssuedOf}
 use Rattle.std.proofs.lemmas.List.{take-append-drop}
-use Rattle.hotel_audit.specs.{declared.answer.LineAnswer.LineAnswer, declared.audit_file.AuditFault.AuditFault, declared.imports.ImportFault.ImportFault, declared.line.Line.Line}
+use Rattle.hotel_audit.specs.{declared.answer.LineAnswer.LineAnswer, declared.audit_file.AuditFault.AuditFault}
+use Rattle.hotel_audit.specs.{declared.imports.ImportFault.ImportFault, declared.line.Line.Line}
 use Rattle.hotel_audit.specs.declared.audit_file.AuditFault.TheVariants as fault
 use Rattle.hotel_audit.specs.declared.imports.ImportFault.TheVariants.{File}
 use Rattle.keycard_rules.specs.declared.issued.LookFault.{LookFault}
 use Rattle.hotel_core.specs.Books.Happens.{Passes}
-use Rattle.hotel_audit.specs.Import.{AreAnswered, EndsAfter, Imports, IsFrontOf, LeavesBehind, LineGoes, LineHappens, LinesLeadOn, NextFails, has_taken, replies_in}
+use Rattle.hotel_audit.specs.Import.{AreAnswered, EndsAfter, Imports, IsFrontOf, LeavesBehind, LineGoes, LineHappens}
+use Rattle.hotel_audit.specs.Import.{LinesLeadOn, NextFails, has_taken, replies_in}
 use Rattle.hotel_audit.proofs.LineAnswers.{lead-none, lead-same}
 
 -- the lines of a file, with one in their midst

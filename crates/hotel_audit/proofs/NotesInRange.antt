@@ -1,5 +1,7 @@
 -- The notes that a file's lines are have their values in range.
-use Rattle.std.proofs.Common.{◌≡◌, ◌≤◌, ℕ, Bool, true, false, List, [], ◌∷◌, ◌++◌, Option, Some, None, Result, Ok, Err, refl, subst, arith, map, option_and_then, ◌&&◌, ◌+◌, ◌*◌, ◌==◌, ◌||◌, nat_le, nat_lt, if◌then◌else◌, slice_index, slice_range, length, All}
+use Rattle.std.proofs.Common.{◌≡◌, ◌≤◌, ℕ, Bool, true, false, List, [], ◌∷◌, ◌++◌, Option, Some, None, Result, Ok, Err}
+use Rattle.std.proofs.Common.{refl, subst, arith, map, option_and_then, ◌&&◌, ◌+◌, ◌*◌, ◌==◌, ◌||◌, nat_le, nat_lt}
+use Rattle.std.proofs.Common.{if◌then◌else◌, slice_index, slice_range, length, All}
 use Rattle.hotel_core.proofs.{Names.IsTimed, Names.IsNumberUpTo, Names.IsCommand}
 use Rattle.hotel_model.proofs.OfTables.Tests.{and_true}
 use Rattle.std.specs.Option.{ok_or}
@@ -12,9 +14,11 @@ use Rattle.hotel_nights.specs.Moments.{read_moment, read_time}
 use Rattle.hotel_nights.proofs.DayLemmas.{count-high, first_count}
 use Rattle.hotel_model.specs.declared.command.Command.TheVariants as command
 use Rattle.hotel_model.specs.Ranges.{IsCount, IsFit}
-use Rattle.hotel_audit.specs.{declared.audit_file.AuditFault.TheVariants.TooLarge, declared.line.Cause.Cause, declared.header.Columns.Columns}
+use Rattle.hotel_audit.specs.{declared.audit_file.AuditFault.TheVariants.TooLarge, declared.line.Cause.Cause}
+use Rattle.hotel_audit.specs.{declared.header.Columns.Columns}
 use Rattle.hotel_audit.specs.declared.line.Cause.TheVariants.{BadRoom, BadFit, BadCount, BadOld, BadNew, BadMoment}
-use Rattle.hotel_audit.specs.{declared.line.Happening.Happening, declared.line.Line.Line, AuditFile.audit_lines, AuditFile.file_records, AuditFile.lines_of, AuditFile.lines_under}
+use Rattle.hotel_audit.specs.{declared.line.Happening.Happening, declared.line.Line.Line, AuditFile.audit_lines}
+use Rattle.hotel_audit.specs.{AuditFile.file_records, AuditFile.lines_of, AuditFile.lines_under}
 use Rattle.hotel_audit.specs.declared.line.Line.TheVariants as line
 use Rattle.hotel_audit.specs.{Fields.FieldTexts, Fields.fields_under, Header.columns_of, Import.commands_of}
 use Rattle.keycard_rules.specs.Results.{◌>>=◌}

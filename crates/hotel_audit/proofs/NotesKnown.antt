@@ -1,18 +1,28 @@
 -- A note that was taken stays so, and is seen when it comes again, also when its room has a later fit.
-use Rattle.std.proofs.Common.{◌≡◌, ◌∙◌, ℕ, zero, suc, Bool, true, false, List, [], ◌∷◌, ◌++◌, Option, Some, None, length, drop, filter, sym, refl, subst, ap, arith, eq-eqb, ◌==◌, ◌+◌, ◌-◌, nat_le, is_some, option_map, if◌then◌else◌}
-use Rattle.hotel_core.proofs.Names.{Stream, Note, words, answer_to, moment_of, told, reported, is_begun, is_card, is_room, has_link, opens, inside, awaited, Event, Begun, NextDay, Install, Refitted, note_of, History, ◌▷◌, Copy, Conflicting, Next, After, notes, notes_of, with_note, same_note, same_link, is_fit, present_fit, standing, standing_among, Outcome, accepted, grown, needs, said, unless, Runs, Steps, StepsIf, answered, is_failed, day, and_last, is_one_of, when}
+use Rattle.std.proofs.Common.{◌≡◌, ◌∙◌, ℕ, zero, suc, Bool, true, false, List, [], ◌∷◌, ◌++◌, Option, Some, None}
+use Rattle.std.proofs.Common.{length, drop, filter, sym, refl, subst, ap, arith, eq-eqb, ◌==◌, ◌+◌, ◌-◌, nat_le}
+use Rattle.std.proofs.Common.{is_some, option_map, if◌then◌else◌}
+use Rattle.hotel_core.proofs.Names.{Stream, Note, words, answer_to, moment_of, told, reported, is_begun, is_card}
+use Rattle.hotel_core.proofs.Names.{is_room, has_link, opens, inside, awaited, Event, Begun, NextDay, Install, Refitted}
+use Rattle.hotel_core.proofs.Names.{note_of, History, ◌▷◌, Copy, Conflicting, Next, After, notes, notes_of, with_note}
+use Rattle.hotel_core.proofs.Names.{same_note, same_link, is_fit, present_fit, standing, standing_among, Outcome}
+use Rattle.hotel_core.proofs.Names.{accepted, grown, needs, said, unless, Runs, Steps, StepsIf, answered, is_failed}
+use Rattle.hotel_core.proofs.Names.{day, and_last, is_one_of, when}
 use Rattle.std.proofs.lemmas.Bool.{eqb-true}
 use Rattle.std.proofs.lemmas.Bool.Decides.{nat_tests}
 use Rattle.std.proofs.lemmas.List.Elements.{filter-append}
 use Rattle.std.proofs.Math.Seq.{drop-append_seam}
 use Rattle.keycard_rules.specs.{declared.card.Link.Link, declared.note.Act.Act}
 use Rattle.keycard_rules.specs.declared.note.Act.TheVariants as act
-use Rattle.hotel_model.specs.{declared.command.Command.Command, declared.reply.Reply.Reply, declared.reply.Refusal.Refusal, Cases.holds, Notes.same_act}
+use Rattle.hotel_model.specs.{declared.command.Command.Command, declared.reply.Reply.Reply}
+use Rattle.hotel_model.specs.{declared.reply.Refusal.Refusal, Cases.holds, Notes.same_act}
 use Rattle.hotel_model.specs.declared.command.Command.TheVariants as command
 use Rattle.hotel_model.specs.declared.reply.Reply.TheVariants as reply
-use Rattle.hotel_model.specs.declared.reply.Refusal.TheVariants.{NotBegun, NoRoom, NoFit, NoCard, CardDiffers, LockShut, NotInside, HeldDiffers, NotAwaited}
+use Rattle.hotel_model.specs.declared.reply.Refusal.TheVariants.{NotBegun, NoRoom, NoFit, NoCard, CardDiffers, LockShut}
+use Rattle.hotel_model.specs.declared.reply.Refusal.TheVariants.{NotInside, HeldDiffers, NotAwaited}
 use Rattle.hotel_model.specs.Event as event
-use Rattle.hotel_model.proofs.{Facts.Follow.MayFollow, Invariants.Following.answers_follow, Invariants.HomeRooms.not_added, OfTables.Tests.eq_from, OfTables.Tests.not_both}
+use Rattle.hotel_model.proofs.{Facts.Follow.MayFollow, Invariants.Following.answers_follow}
+use Rattle.hotel_model.proofs.{Invariants.HomeRooms.not_added, OfTables.Tests.eq_from, OfTables.Tests.not_both}
 
 -- the first of these notes is the note
 abbrev pub BeginsWith : List Note → Note → Type 0

@@ -1,7 +1,9 @@
 -- The records that a reader came to are all the records of its text, and no others.
-use Rattle.std.proofs.Common.{◌≡◌, ◌≤◌, ◌+◌, ℕ, zero, suc, Bool, true, false, List, [], ◌∷◌, length, Some, None, arith, ap, refl}
+use Rattle.std.proofs.Common.{◌≡◌, ◌≤◌, ◌+◌, ℕ, zero, suc, Bool, true, false, List, [], ◌∷◌, length, Some, None, arith}
+use Rattle.std.proofs.Common.{ap, refl}
 use Rattle.csv.specs.Machine.{Read, next_record, step, is_end, ends_at_end, fields_after, field_after}
-use Rattle.csv.specs.{Reading.AreRecords, Reading.Reached, Reading.records_from, Reading.records, declared.parser.Config.Config, declared.parser.State.State}
+use Rattle.csv.specs.{Reading.AreRecords, Reading.Reached, Reading.records_from, Reading.records}
+use Rattle.csv.specs.{declared.parser.Config.Config, declared.parser.State.State}
 use Rattle.csv.specs.declared.parser.State.TheVariants as st
 
 -- the bytes after a record are no more than those before it

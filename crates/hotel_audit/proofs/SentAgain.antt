@@ -1,10 +1,12 @@
 -- Lines that were all Taken or Seen are seen when they come again.
 use Rattle.std.proofs.Common.{◌≡◌, ◌∙◌, List, [], ◌∷◌, map, false, sym, refl, subst, ap, All}
-use Rattle.hotel_core.proofs.Names.{All-head, All-tail, Stream, Note, words, Event, History, Outcome, grown, Runs, StepsIf}
+use Rattle.hotel_core.proofs.Names.{All-head, All-tail, Stream, Note, words, Event, History, Outcome, grown, Runs}
+use Rattle.hotel_core.proofs.Names.{StepsIf}
 use Rattle.hotel_model.specs.{declared.command.Command.Command, declared.reply.Reply.Reply}
 use Rattle.hotel_model.specs.declared.command.Command.TheVariants as command
 use Rattle.hotel_model.specs.declared.reply.Reply.TheVariants as reply
-use Rattle.hotel_audit.specs.{declared.answer.LineAnswer.LineAnswer, declared.line.Line.Line, Import.AreAnswered, Import.commands_of, Import.replies_in}
+use Rattle.hotel_audit.specs.{declared.answer.LineAnswer.LineAnswer, declared.line.Line.Line, Import.AreAnswered}
+use Rattle.hotel_audit.specs.{Import.commands_of, Import.replies_in}
 use Rattle.hotel_audit.specs.declared.answer.LineAnswer.TheVariants.{Taken, Seen, Unread, Refused}
 use Rattle.hotel_audit.specs.declared.line.Line.TheVariants as line
 use Rattle.hotel_audit.specs.SentAgain.{IsTakenOrSeen, SeenAgain}

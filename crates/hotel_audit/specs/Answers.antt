@@ -5,7 +5,8 @@ use Rattle.hotel_model.specs.declared.reply.Reply.TheVariants as reply
 use Rattle.hotel_core.specs.Texts.{reply_text}
 use Rattle.hotel_audit.specs.{declared.answer.LineAnswer.LineAnswer, declared.line.Cause.Cause}
 use Rattle.hotel_audit.specs.declared.answer.LineAnswer.TheVariants.{Taken, Seen, Unread, Refused}
-use Rattle.hotel_audit.specs.declared.line.Cause.TheVariants.{FieldCount, BadRoom, BadFit, BadCount, BadKind, BadCard, BadOld, BadNew, BadMoment}
+use Rattle.hotel_audit.specs.declared.line.Cause.TheVariants.{FieldCount, BadRoom, BadFit, BadCount, BadKind, BadCard}
+use Rattle.hotel_audit.specs.declared.line.Cause.TheVariants.{BadOld, BadNew, BadMoment}
 
 -- the name of a cause
 abbrev pub cause_name : Cause → List ℕ

@@ -1,7 +1,8 @@
 -- An audit file: its records are those of `csv`, the first is the header, each later one is a line.
 use Rattle.std.specs.Prelude.{ℕ, List, [], ◌∷◌, Option, Some, None, length, map, nat_lt, if◌then◌else◌, Result, Ok, Err}
 use Rattle.csv.specs.Reading.{default_config, records, strip_bom}
-use Rattle.hotel_audit.specs.{declared.audit_file.AuditFault.AuditFault, declared.line.Line.Line, declared.header.Columns.Columns, Header.columns_of, Line.read_line}
+use Rattle.hotel_audit.specs.{declared.audit_file.AuditFault.AuditFault, declared.line.Line.Line}
+use Rattle.hotel_audit.specs.{declared.header.Columns.Columns, Header.columns_of, Line.read_line}
 use Rattle.hotel_audit.specs.declared.audit_file.AuditFault.TheVariants.{TooLarge, NoHeader, WrongHeader}
 
 -- the records of the bytes, without a byte order mark at their start

@@ -7,9 +7,11 @@ use Rattle.keycard_rules.specs.declared.note.Act.TheVariants as act
 use Rattle.hotel_model.specs.{declared.command.Command.Command, declared.reply.Reply.Reply, Event.moment_of}
 use Rattle.hotel_model.specs.declared.command.Command.TheVariants as command
 use Rattle.hotel_model.specs.declared.reply.Reply.TheVariants as reply
-use Rattle.hotel_model.specs.{Event.Event, Event.Entered, Event.Left, Event.Recoded, History.History, History.◌▷◌, Refinement.Lookups.note_at}
+use Rattle.hotel_model.specs.{Event.Event, Event.Entered, Event.Left, Event.Recoded, History.History, History.◌▷◌}
+use Rattle.hotel_model.specs.{Refinement.Lookups.note_at}
 use Rattle.hotel_model.specs.{Notes.notes, Notes.notes_of, RowsOf.rows_of, Run.Reached, Run.Runs, Words.when}
-use Rattle.hotel_audit.specs.{declared.answer.LineAnswer.LineAnswer, declared.answer.LineAnswer.TheVariants.Taken, declared.line.Line.Line, AuditFile.audit_lines}
+use Rattle.hotel_audit.specs.{declared.answer.LineAnswer.LineAnswer, declared.answer.LineAnswer.TheVariants.Taken}
+use Rattle.hotel_audit.specs.{declared.line.Line.Line, AuditFile.audit_lines}
 use Rattle.hotel_audit.specs.declared.line.Line.TheVariants as line
 use Rattle.hotel_audit.specs.SentAgain.{LinesLead}
 
@@ -61,7 +63,8 @@ AreNumbered h = (r fit : ℕ)
     → (map (λ note. note.count) (notes_of h r fit) ≡ range_with_len 1 (length (notes_of h r fit)))
     × ((count : ℕ) → 1 ≤ count → note_at (rows_of h) r fit count ≡ slice_get (notes_of h r fit) (count - 1))
 
--- Any files, cut, overlapping or repeated, lead to the history before them and then the events of the notes that were taken, and the notes are counted.
+-- Any files, cut, overlapping or repeated, lead to the history before them and then the events of the notes that were
+-- taken, and the notes are counted.
 abbrev pub FilesCounted : Type 0
 FilesCounted = (h h' : History) (files : List AnsweredFile) → Reached h → FilesLead h files h' → Reached h' × (h' ≡ followed_by h (all_events_taken files)) × AreNumbered h'
 
@@ -84,6 +87,7 @@ abbrev pub notes_taken : ℕ → List Command → List Reply → List Note
 notes_taken r (command ∷ commands) (reply ∷ replies) = and_before r (note_taken command reply) (notes_taken r commands replies)
 notes_taken r commands replies = []
 
--- In any run, files and other commands in any mixture, a room's notes are those before it and then those that were answered Taken, in order.
+-- In any run, files and other commands in any mixture, a room's notes are those before it and then those that were
+-- answered Taken, in order.
 abbrev pub RunsTake : Type 0
 RunsTake = (h h' : History) (s s' : Stream) (commands : List Command) (replies : List Reply) (r : ℕ) → Runs h s commands replies h' s' → notes h' r ≡ notes h r ++ notes_taken r commands replies

@@ -1,7 +1,8 @@
 -- The header of an audit file.
 use Rattle.std.specs.Prelude.{ℕ, Bool, true, false, ◌&&◌, List, [], ◌∷◌, Option, Some, None, if◌then◌else◌, codes}
 use Rattle.std.specs.Str.{bytes_eq}
-use Rattle.hotel_audit.specs.{declared.header.Columns.Columns, declared.header.Columns.TheVariants.WithFit, declared.header.Columns.TheVariants.WithoutFit}
+use Rattle.hotel_audit.specs.{declared.header.Columns.Columns, declared.header.Columns.TheVariants.WithFit}
+use Rattle.hotel_audit.specs.{declared.header.Columns.TheVariants.WithoutFit}
 
 -- the names of the columns that the lines have: one of them is the number of the room's lock, or none is
 abbrev pub names_of : Columns → List (List ℕ)

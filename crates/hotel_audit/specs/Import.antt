@@ -4,13 +4,15 @@ use Rattle.std.specs.Prelude.{Result, Ok, Err, OnOk}
 use Rattle.rand_core.specs.Stream.{Stream}
 use Rattle.keycard_rules.specs.{declared.issued.LookFault.LookFault, declared.issued.Issued.Ghosts as IssuedOf}
 use Rattle.keycard_rules.specs.declared.issued.LookFault.TheVariants as look
-use Rattle.hotel_model.specs.{declared.command.Command.Command, declared.reply.Reply.Reply, declared.reply.Refusal.Refusal, Leads.Leads, Leads.LeadsOn, Rows.Rows}
+use Rattle.hotel_model.specs.{declared.command.Command.Command, declared.reply.Reply.Reply}
+use Rattle.hotel_model.specs.{declared.reply.Refusal.Refusal, Leads.Leads, Leads.LeadsOn, Rows.Rows}
 use Rattle.hotel_model.specs.declared.command.Command.TheVariants as command
 use Rattle.hotel_model.specs.declared.reply.Reply.TheVariants as reply
 use Rattle.hotel_model.specs.declared.reply.Refusal.TheVariants as refusal
 use Rattle.hotel_model.specs.Run.{Runs, is_failed}
 use Rattle.hotel_core.specs.Books.Happens.{Happens, Passes, StepTold}
-use Rattle.hotel_audit.specs.{declared.answer.LineAnswer.LineAnswer, declared.audit_file.AuditFault.AuditFault, declared.imports.ImportFault.ImportFault}
+use Rattle.hotel_audit.specs.{declared.answer.LineAnswer.LineAnswer, declared.audit_file.AuditFault.AuditFault}
+use Rattle.hotel_audit.specs.{declared.imports.ImportFault.ImportFault}
 use Rattle.hotel_audit.specs.declared.answer.LineAnswer.TheVariants.{Taken, Seen, Unread, Refused}
 use Rattle.hotel_audit.specs.declared.audit_file.AuditFault.TheVariants as fault
 use Rattle.hotel_audit.specs.declared.imports.ImportFault.TheVariants.{File, Memory, Store}
@@ -46,11 +48,13 @@ AreAnswered (line ∷ lines) (answer ∷ answers) = IsAnswerTo line answer × Ar
 AreAnswered [] (answer ∷ answers) = ⊥
 AreAnswered (line ∷ lines) [] = ⊥
 
--- The lines with these answers lead from rows to later ones: their notes ran, with these replies, and no word of a source was taken.
+-- The lines with these answers lead from rows to later ones: their notes ran, with these replies, and no word of a
+-- source was taken.
 abbrev pub LinesLeadTo : Rows → List Line → List LineAnswer → Rows → Type 0
 LinesLeadTo rows lines answers later = (source : Stream) → Leads rows (λ h h'. Runs h source (commands_of lines) (replies_in answers) h' source) later
 
--- The same of books that may have failed for good: the rows are those of the history if they were kept before the first line, and the later ones if they are kept after the last.
+-- The same of books that may have failed for good: the rows are those of the history if they were kept before the first
+-- line, and the later ones if they are kept after the last.
 abbrev pub LinesLeadOn : Type 0 → Rows → List Line → List LineAnswer → Type 0 → Rows → Type 0
 LinesLeadOn was rows lines answers is later = (source : Stream) → LeadsOn was rows (λ h h'. Runs h source (commands_of lines) (replies_in answers) h' source) is later
 
@@ -71,14 +75,17 @@ outcome_of answers (Err why) = Err why
 abbrev pub IsFrontOf : Result (List Line) AuditFault → List Line → List LineAnswer → ℕ → Bool → Type 0
 IsFrontOf file lines answers answered taken = (rest : List Line) × (file ≡ Ok (lines ++ rest)) × (length answers ≡ answered) × (has_taken answers ≡ taken)
 
--- An import of a file ended so after these lines with these answers: with all of its lines; with none, where it is no file or there was no memory to read it; or it was stopped after some.
+-- An import of a file ended so after these lines with these answers: with all of its lines; with none, where it is no
+-- file or there was no memory to read it; or it was stopped after some.
 abbrev pub EndsAfter : Result (List Line) AuditFault → Result (List LineAnswer) ImportFault → List Line → List LineAnswer → Type 0
 EndsAfter file (Ok given) lines answers = (file ≡ Ok lines) × (answers ≡ given)
 EndsAfter file (Err (File why)) lines answers = (lines ≡ []) × (answers ≡ []) × ((why ≡ fault.Memory) ⊎ (file ≡ Err why))
 EndsAfter file (Err (Memory answered taken)) lines answers = IsFrontOf file lines answers answered taken
 EndsAfter file (Err (Store answered taken)) lines answers = IsFrontOf file lines answers answered taken
 
--- What lines with these answers show of books from old to new that may have failed for good, where an import of them ended so: the notes ran with these replies, and an answer to a note vouches that the books were clean before the first line, and, where no failure came behind it, that they are after the last.
+-- What lines with these answers show of books from old to new that may have failed for good, where an import of them
+-- ended so: the notes ran with these replies, and an answer to a note vouches that the books were clean before the
+-- first line, and, where no failure came behind it, that they are after the last.
 pub record Vouches {B : Type 0} (I : IssuedOf B) (rows : B → Rows) (lines : List Line) (answers : List LineAnswer) (old new : B) (outcome : Result (List LineAnswer) ImportFault) : Type 0 where
   pub happened : LinesLeadOn (I.is_clean old) (rows old) lines answers (I.is_clean new) (rows new)
   pub was_clean : replies_in answers ≢ [] → I.is_clean old
@@ -134,7 +141,8 @@ Imports {B = B} I rows file old new outcome =
     × (behind : B) × Passes (LineHappens I rows) old (zip lines answers) behind
     × LeavesBehind I rows file lines behind outcome new
 
--- The failure that stopped the import, which the books counted. That there was no memory to read the file or for its answers isn't counted.
+-- The failure that stopped the import, which the books counted. That there was no memory to read the file or for its
+-- answers isn't counted.
 abbrev pub failures_of : ImportFault → List Refusal
 failures_of (Store answered taken) = refusal.Store ∷ []
 failures_of (Memory answered taken) = refusal.Memory ∷ []

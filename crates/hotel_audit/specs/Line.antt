@@ -2,13 +2,16 @@
 use Rattle.std.specs.Prelude.{ℕ, List, ◌==◌, length, codes, if◌then◌else◌, Option, Some, None, Result, Ok, Err}
 use Rattle.std.specs.Option.{ok_or}
 use Rattle.std.specs.Str.{bytes_eq}
-use Rattle.keycard_rules.specs.{Note.Note, Numerals.number_up_to, Numerals.read_code, declared.card.Link.Link, declared.note.Act.Act}
+use Rattle.keycard_rules.specs.{Note.Note, Numerals.number_up_to, Numerals.read_code, declared.card.Link.Link}
+use Rattle.keycard_rules.specs.{declared.note.Act.Act}
 use Rattle.keycard_rules.specs.declared.note.Act.TheVariants.{Entered, Left, Recoded}
 use Rattle.keycard_rules.specs.Results.{◌>>=◌}
 use Rattle.hotel_nights.specs.Moments.{read_moment}
 use Rattle.hotel_audit.specs.{declared.line.Cause.Cause, declared.line.Happening.Happening}
-use Rattle.hotel_audit.specs.declared.line.Cause.TheVariants.{FieldCount, BadRoom, BadFit, BadCount, BadKind, BadCard, BadOld, BadNew, BadMoment}
-use Rattle.hotel_audit.specs.{declared.line.Happening.TheVariants.In, declared.line.Happening.TheVariants.Out, declared.line.Happening.TheVariants.Recode, declared.line.Line.Line}
+use Rattle.hotel_audit.specs.declared.line.Cause.TheVariants.{FieldCount, BadRoom, BadFit, BadCount, BadKind, BadCard}
+use Rattle.hotel_audit.specs.declared.line.Cause.TheVariants.{BadOld, BadNew, BadMoment}
+use Rattle.hotel_audit.specs.{declared.line.Happening.TheVariants.In, declared.line.Happening.TheVariants.Out}
+use Rattle.hotel_audit.specs.{declared.line.Happening.TheVariants.Recode, declared.line.Line.Line}
 use Rattle.hotel_audit.specs.declared.line.Line.TheVariants as line
 use Rattle.hotel_audit.specs.{declared.header.Columns.Columns, Fields.FieldTexts, Fields.fields_under}
 
@@ -28,7 +31,8 @@ happening kind card =
     else if bytes_eq kind (codes "recode") then (if length card == 0 then Ok Recode else Err BadCard)
     else Err BadKind
 
--- what happened at the lock: a card came in or went out by its link, or the lock was recoded from the old code to the new one
+-- what happened at the lock: a card came in or went out by its link, or the lock was recoded from the old code to the
+-- new one
 abbrev pub act_of : Happening → Link → Act
 act_of (In card) link = Entered card link
 act_of (Out card) link = Left card link

@@ -18,7 +18,8 @@ use std::alloc::Global;
 pub enum ImportFault {
     /// The bytes are no audit file, or there was no memory to read it or for its answers. Nothing was begun.
     File(AuditFault),
-    /// A growth of the books' memory was refused. So many lines were answered, which stand, and `taken` says whether one of them was
+    /// A growth of the books' memory was refused. So many lines were answered, which stand, and `taken` says whether
+    /// one of them was
     /// Taken; the next one changed nothing.
     Memory { answered: usize, taken: bool },
     /// A call of the store failed. So many lines were answered, which stand, and `taken` says whether one of them was

@@ -1,5 +1,6 @@
 //! Laws of audit files, which make no call.
-ghost use Rattle.hotel_audit.specs.{FilesCounted.FilesCounted, FilesCounted.NotesCounted, FilesCounted.RunsTake, Readings.GivesFileRecords, Readings.HasOneReading};
+ghost use Rattle.hotel_audit.specs.{FilesCounted.FilesCounted, FilesCounted.NotesCounted, FilesCounted.RunsTake};
+ghost use Rattle.hotel_audit.specs.{Readings.GivesFileRecords, Readings.HasOneReading};
 ghost use Rattle.hotel_audit.specs.{SentAgain.SeenAgain, SentAtOnce.SentAtOnce, SentAtOnce.StoppedAndSent};
 
 /// A reading of bytes as CSV gives the file's records, so that two readings of the same bytes are the same.
@@ -20,7 +21,8 @@ pub fn sent_again_at_once()
     ensures { SentAtOnce }
 {}
 
-/// Such a file comes to the same history, and so to the same tables, whether it is sent once or, after a front of its lines, whole again with no command between.
+/// Such a file comes to the same history, and so to the same tables, whether it is sent once or, after a front of its
+/// lines, whole again with no command between.
 pub fn stopped_and_sent_again()
     ensures { StoppedAndSent }
 {}
@@ -28,7 +30,8 @@ pub fn stopped_and_sent_again()
 /// However the notes come, in files that are cut, overlap or repeat, those of each fit of a room are taken with the
 /// counts 1, 2 and so on, each once.
 ///
-/// The history is then the one before the files and the events of the notes that were answered Taken, in order, so that the tables are those of these events.
+/// The history is then the one before the files and the events of the notes that were answered Taken, in order, so that
+/// the tables are those of these events.
 /// The last two clauses speak of other commands between the files too.
 pub fn files_counted()
     ensures of_files { FilesCounted }

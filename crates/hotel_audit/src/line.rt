@@ -2,7 +2,8 @@
 
 ghost use Rattle.std.specs.Prelude.{◌≡◌, map, option_map};
 ghost use Rattle.csv.specs.Records.{fields_of};
-ghost use Rattle.hotel_audit.specs.{Fields.texts_of, Line.act_of, Line.card_in, Line.happening, Line.note_of, Line.read_line};
+ghost use Rattle.hotel_audit.specs.{Fields.texts_of, Line.act_of, Line.card_in, Line.happening, Line.note_of};
+ghost use Rattle.hotel_audit.specs.{Line.read_line};
 
 use crate::fields::{Fields, fields_of_record};
 use crate::header::Columns;

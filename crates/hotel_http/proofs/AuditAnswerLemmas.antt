@@ -1,5 +1,6 @@
 -- The answer to an audit file: its head, and then the texts of its lines.
-use Rattle.std.proofs.Common.{◌≡◌, ℕ, ◌+◌, ◌<◌, List, [], ◌++◌, length, take, get_or, arith, sym, ap, subst, ◌∙◌, append-nil, length-append, Option}
+use Rattle.std.proofs.Common.{◌≡◌, ℕ, ◌+◌, ◌<◌, List, [], ◌++◌, length, take, get_or, arith, sym, ap, subst, ◌∙◌}
+use Rattle.std.proofs.Common.{append-nil, length-append, Option}
 use Rattle.std.proofs.lemmas.List.{take-append-le}
 use Rattle.std.specs.Prelude.{Result, Ok, Err, OnOk, OnErr}
 use Rattle.std.specs.Io.KnownBytes.{Appends}

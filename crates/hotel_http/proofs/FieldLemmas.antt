@@ -1,5 +1,6 @@
 -- Field lines that are looked at one after the other.
-use Rattle.std.proofs.Common.{◌≡◌, ℕ, ◌+◌, ◌*◌, ◌-◌, ◌<◌, ◌≤◌, List, [], ◌∷◌, ◌++◌, length, take, take_all, map, get_or, min, sym, ap, ◌∙◌, subst, refl, arith, cond, Bool, true, false, append-nil, ◌||◌, filter}
+use Rattle.std.proofs.Common.{◌≡◌, ℕ, ◌+◌, ◌*◌, ◌-◌, ◌<◌, ◌≤◌, List, [], ◌∷◌, ◌++◌, length, take, take_all, map, get_or}
+use Rattle.std.proofs.Common.{min, sym, ap, ◌∙◌, subst, refl, arith, cond, Bool, true, false, append-nil, ◌||◌, filter}
 use Rattle.hotel_core.proofs.Names.{take_more, list_any}
 use Rattle.std.proofs.lemmas.List.{map-append}
 use Rattle.std.proofs.lemmas.List.Elements.{filter-append}
@@ -8,7 +9,8 @@ use Rattle.std.proofs.lemmas.Int.Digits.{digits_value_more}
 use Rattle.std.proofs.lemmas.Str.{digit_value_digit}
 use Rattle.std.specs.Int.{IsInRange}
 use Rattle.std.specs.Str.Parse.{digits_value}
-use Rattle.hotel_http.specs.{Fields.Pair, Fields.is_named, Fields.values_named, Fields.Tells, Fields.is_expectation, Fields.expects_continue, declared.fields.Named.Named}
+use Rattle.hotel_http.specs.{Fields.Pair, Fields.is_named, Fields.values_named, Fields.Tells, Fields.is_expectation}
+use Rattle.hotel_http.specs.{Fields.expects_continue, declared.fields.Named.Named}
 
 one_value : (p : Pair → Bool) (field : Pair) → map (λ (f : Pair). f.1) (filter p (field ∷ [])) ≡ cond (p field) (field.1 ∷ []) []
 one_value p field =

@@ -1,5 +1,6 @@
 -- The fields of a form that are looked at one after the other.
-use Rattle.std.proofs.Common.{◌≡◌, ℕ, List, [], ◌∷◌, ◌++◌, map, sym, ap, ◌∙◌, refl, cond, true, false, append_assoc, append-nil, subst, Result, Ok, IfOk, filter}
+use Rattle.std.proofs.Common.{◌≡◌, ℕ, List, [], ◌∷◌, ◌++◌, map, sym, ap, ◌∙◌, refl, cond, true, false, append_assoc}
+use Rattle.std.proofs.Common.{append-nil, subst, Result, Ok, IfOk, filter}
 use Rattle.std.specs.Str.{bytes_eq}
 use Rattle.std.specs.Str.Lossy.{utf8_lossy}
 use Rattle.std.specs.Cow.{cow_str_bytes}
@@ -7,7 +8,8 @@ use Rattle.std.specs.declared.alloc.AllocError.{AllocError}
 use Rattle.std.specs.declared.alloc.Global.{Global}
 use Rattle.std.specs.declared.borrow.CowStr.{CowStr}
 use Rattle.form_urlencoded.specs.Form.{decode, DecodesTo}
-use Rattle.hotel_http.specs.{Fields.Pair, Form.decoded, Form.texts_named, Form.text_of_field, Form.TellsTexts, declared.form.Texts.Texts}
+use Rattle.hotel_http.specs.{Fields.Pair, Form.decoded, Form.texts_named, Form.text_of_field, Form.TellsTexts}
+use Rattle.hotel_http.specs.{declared.form.Texts.Texts}
 
 texts_cons : (name : List ℕ) (p : Pair) (rest : List Pair) → texts_named name (p ∷ rest) ≡ text_of_field name (decoded p.0) (decoded p.1) ++ texts_named name rest
 unfolding texts_named

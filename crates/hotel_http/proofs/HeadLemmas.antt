@@ -1,5 +1,6 @@
 -- What the first bytes of an input say of all of it.
-use Rattle.std.proofs.Common.{◌≡◌, ℕ, ◌<◌, ◌≤◌, List, [], ◌++◌, length, take, drop, sym, ap, ◌∙◌, subst, arith, append_assoc, append-nil, length-append, length-take, take-append-drop, take_all}
+use Rattle.std.proofs.Common.{◌≡◌, ℕ, ◌<◌, ◌≤◌, List, [], ◌++◌, length, take, drop, sym, ap, ◌∙◌, subst, arith}
+use Rattle.std.proofs.Common.{append_assoc, append-nil, length-append, length-take, take-append-drop, take_all}
 use Rattle.std.specs.Prelude.{Option, Some, None, IfSome, Bool, true}
 use Rattle.std.specs.Io.KnownBytes.{Consumes, IsAtEnd}
 use Rattle.std.proofs.KnownBytes.{Consumes-trans}
@@ -7,11 +8,13 @@ use Rattle.std.proofs.lemmas.Bool.{eqb-true}
 use Rattle.std.proofs.lemmas.List.{length-map, take-append-le, drop-append-le}
 use lib.Dec.{eqb}
 use Rattle.httparse.specs.Grammar.{RequestHead, print_request, ReadsRequest, HasNoRequest, NeverHasRequest}
-use Rattle.httparse.specs.{Spans.IsRequestAt, Spans.IsRequestOf, Spans.IsRequestWithin, Spans.RequestOverflows, Spans.RequestExceeds, declared.spans.HeaderSpan.HeaderSpan}
+use Rattle.httparse.specs.{Spans.IsRequestAt, Spans.IsRequestOf, Spans.IsRequestWithin, Spans.RequestOverflows}
+use Rattle.httparse.specs.{Spans.RequestExceeds, declared.spans.HeaderSpan.HeaderSpan}
 use Rattle.httparse.specs.declared.spans.RequestSpans.{RequestSpans}
 use Rattle.hotel_lists.specs.Bytes.{ReadsOnto}
 use Rattle.hotel_http.specs.declared.head.Judged.{Judged}
-use Rattle.hotel_http.specs.Head.{BeginsWith, HasNoHead, IsCut, IsMalformed, IsTooLong, HasTooManyFields, IsJudged, most_bytes, most_fields}
+use Rattle.hotel_http.specs.Head.{BeginsWith, HasNoHead, IsCut, IsMalformed, IsTooLong, HasTooManyFields, IsJudged}
+use Rattle.hotel_http.specs.Head.{most_bytes, most_fields}
 
 -- A head stays one where more follows.
 reads_longer : (front more : List ℕ) (h : RequestHead) (rest : List ℕ) → ReadsRequest front h rest → ReadsRequest (front ++ more) h (rest ++ more)

@@ -1,16 +1,21 @@
 -- A request that is read in pieces is what the whole input asks for.
-use Rattle.std.proofs.Common.{◌≡◌, ℕ, ◌≤◌, ◌<◌, List, [], ◌++◌, append_assoc, arith, length, take, drop, refl, sym, ap, ◌∙◌, subst, inl, inr, Option, Some, None, IfSome, Result, Ok, Err}
+use Rattle.std.proofs.Common.{◌≡◌, ℕ, ◌≤◌, ◌<◌, List, [], ◌++◌, append_assoc, arith, length, take, drop, refl, sym, ap}
+use Rattle.std.proofs.Common.{◌∙◌, subst, inl, inr, Option, Some, None, IfSome, Result, Ok, Err}
 use Rattle.std.specs.Io.KnownBytes.{Consumes, Appends}
 use Rattle.std.proofs.KnownBytes.{Appends-nil, Consumes-kept, Consumes-nil, Consumes-trans}
 use Rattle.std.proofs.lemmas.List.{drop-append-le}
-use Rattle.httparse.specs.{Grammar.RequestHead, Spans.IsRequestAt, Spans.IsRequestOf, Spans.IsRequestWithin, declared.spans.HeaderSpan.HeaderSpan, declared.spans.RequestSpans.RequestSpans}
+use Rattle.httparse.specs.{Grammar.RequestHead, Spans.IsRequestAt, Spans.IsRequestOf, Spans.IsRequestWithin}
+use Rattle.httparse.specs.{declared.spans.HeaderSpan.HeaderSpan, declared.spans.RequestSpans.RequestSpans}
 use Rattle.hotel_http.specs.Reads.{ReadsWhile}
 use Rattle.hotel_http.proofs.ReadLemmas.{reads_while}
-use Rattle.hotel_http.specs.{Body.ReadsBody, Body.interim_where, Head.BeginsWith, Head.IsJudged, Head.WantsHead, Head.most_bytes, Head.most_fields, Plan.plan_in, Plan.path_of}
-use Rattle.hotel_http.specs.Request.{Wanted, IsMeant, IsAsked, awaits, wanted_of, EndsBody, EndsHead, EndsRequest, ReadsBehind, WantsBody, WantsMore}
+use Rattle.hotel_http.specs.{Body.ReadsBody, Body.interim_where, Head.BeginsWith, Head.IsJudged, Head.WantsHead}
+use Rattle.hotel_http.specs.{Head.most_bytes, Head.most_fields, Plan.plan_in, Plan.path_of}
+use Rattle.hotel_http.specs.Request.{Wanted, IsMeant, IsAsked, awaits, wanted_of, EndsBody, EndsHead, EndsRequest}
+use Rattle.hotel_http.specs.Request.{ReadsBehind, WantsBody, WantsMore}
 use Rattle.hotel_http.proofs.HeadLemmas.{begins}
 use Rattle.hotel_http.specs.declared.head.Judged.TheVariants as judged
-use Rattle.hotel_http.specs.{declared.plan.Plan.Plan, declared.rejection.Rejection.Rejection, declared.requests.Request.Request, declared.requests.RequestFault.RequestFault}
+use Rattle.hotel_http.specs.{declared.plan.Plan.Plan, declared.rejection.Rejection.Rejection}
+use Rattle.hotel_http.specs.{declared.requests.Request.Request, declared.requests.RequestFault.RequestFault}
 use Rattle.hotel_http.specs.declared.requests.RequestFault.TheVariants.{Closed, Read, Memory, Write}
 
 pub if_some : (P Q : List ℕ → Type 0) (o : Option (List ℕ)) → ((l : List ℕ) → P l → Q l) → IfSome o P → IfSome o Q

@@ -1,7 +1,9 @@
 -- Routes that are added one after the other.
 use Rattle.std.proofs.Common.{◌≡◌, ◌∙◌, refl, true, Option, Some, is_none, Result, Ok, Err, OnOk, IfErr, IsErrAnd}
-use Rattle.matchit.specs.{Rows.RowsOf, Route.Scan, Router.RouteOf, Router.InsertsRead, declared.error.InsertError.InsertError}
-use Rattle.matchit.specs.declared.error.InsertError.TheVariants.{Conflict, InvalidParam, InvalidParamSegment, InvalidCatchAll, OutOfMemory}
+use Rattle.matchit.specs.{Rows.RowsOf, Route.Scan, Router.RouteOf, Router.InsertsRead}
+use Rattle.matchit.specs.{declared.error.InsertError.InsertError}
+use Rattle.matchit.specs.declared.error.InsertError.TheVariants.{Conflict, InvalidParam, InvalidParamSegment}
+use Rattle.matchit.specs.declared.error.InsertError.TheVariants.{InvalidCatchAll, OutOfMemory}
 use Rattle.hotel_http.specs.{Routes.added, Routes.is_free_in, declared.routes.Target.Target}
 
 pub added_rows : (read : Result Scan InsertError) (target : Target) (old new : RowsOf (RouteOf Target)) (r : Result (Unit {0}) InsertError) → InsertsRead read target old new r

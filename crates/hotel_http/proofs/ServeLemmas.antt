@@ -1,13 +1,16 @@
 -- What comes of a request, as it is answered.
-use Rattle.std.proofs.Common.{◌≡◌, ◌≢◌, ◌∙◌, ℕ, List, [], ◌∷◌, ◌++◌, map, refl, sym, ap, subst, inl, inr, append-nil, Option, Some, None, Result, Ok, Err, Bool, true, false, OnOk, OnErr}
-use Rattle.hotel_core.proofs.{Names.false≢true, Names.Stream, Names.NoFewer, Names.AreCounted, Names.failure_in, Names.History, Names.Rows}
+use Rattle.std.proofs.Common.{◌≡◌, ◌≢◌, ◌∙◌, ℕ, List, [], ◌∷◌, ◌++◌, map, refl, sym, ap, subst, inl, inr, append-nil}
+use Rattle.std.proofs.Common.{Option, Some, None, Result, Ok, Err, Bool, true, false, OnOk, OnErr}
+use Rattle.hotel_core.proofs.{Names.false≢true, Names.Stream, Names.NoFewer, Names.AreCounted, Names.failure_in}
+use Rattle.hotel_core.proofs.{Names.History, Names.Rows}
 use Rattle.hotel_model.proofs.Invariants.Assurance.{assured}
 use Rattle.hotel_core.proofs.OfCode.Happens.{happens_as, happens_idle, happens_so, tells_once}
 use Rattle.std.specs.Result.{IsErrAnd}
 use Rattle.std.specs.Io.KnownBytes.{Appends}
 use Rattle.std.proofs.KnownBytes.{Appends-trans}
 use Rattle.keycard_rules.specs.declared.issued.Issued.{Ghosts as IssuedOf}
-use Rattle.hotel_model.specs.{declared.command.Command.Command, declared.reply.Reply.Reply, declared.reply.Refusal.Refusal}
+use Rattle.hotel_model.specs.{declared.command.Command.Command, declared.reply.Reply.Reply}
+use Rattle.hotel_model.specs.{declared.reply.Refusal.Refusal}
 use Rattle.hotel_core.specs.{Books.Happens.Happens, Books.Happens.StepTold, Books.Happens.Tells}
 use Rattle.hotel_model.specs.declared.reply.Reply.TheVariants as reply
 use Rattle.hotel_model.specs.declared.reply.Refusal.TheVariants as refusal
@@ -18,14 +21,21 @@ use Rattle.hotel_lists.specs.{Listings.Listing, Lines.Vouches, declared.fault.Li
 use Rattle.hotel_lists.specs.declared.fault.ListFault.TheVariants as fault
 use Rattle.hotel_asks.specs.{declared.lists.ListAsk.ListAsk, Listings.listing_on, Listings.listing_over}
 use Rattle.hotel_asks.proofs.ListingLemmas.{listing_stands}
-use Rattle.hotel_audit.specs.{AuditFile.audit_lines, Import.EndsAfter, Import.Imports, Import.Vouches as FileVouches, Import.has_taken, Import.replies_in, declared.answer.LineAnswer.LineAnswer, declared.audit_file.AuditFault.AuditFault}
+use Rattle.hotel_audit.specs.{AuditFile.audit_lines, Import.EndsAfter, Import.Imports, Import.Vouches as FileVouches}
+use Rattle.hotel_audit.specs.{Import.has_taken, Import.replies_in, declared.answer.LineAnswer.LineAnswer}
+use Rattle.hotel_audit.specs.{declared.audit_file.AuditFault.AuditFault}
 use Rattle.hotel_audit.specs.{declared.imports.ImportFault.ImportFault, declared.line.Line.Line}
 use Rattle.hotel_audit.specs.declared.answer.LineAnswer.TheVariants as answer
 use Rattle.hotel_audit.specs.declared.imports.ImportFault.TheVariants as import
-use Rattle.hotel_http.specs.{declared.rejection.Rejection.Rejection, declared.serve.Cut.Cut, declared.serve.Served.Served, declared.status.Status.Status}
-use Rattle.hotel_http.specs.{declared.status.Status.TheVariants.Success, declared.requests.Request.Request, declared.serve.ServeFault.ServeFault}
-use Rattle.hotel_http.specs.{declared.serve.ServeFault.TheVariants.Write, Answer.list_answer, Body.interim_where, Request.EndsRequest}
-use Rattle.hotel_http.specs.Serve.{Outcome, outcome, rejected, replied, imported, import_failures, stopped_behind, ListComes, AskComes, FileComes, TaskComes, Comes, EndsAs, Answered, ended, IsListText, is_answered, list_failures, list_refusal, WasAnswered}
+use Rattle.hotel_http.specs.{declared.rejection.Rejection.Rejection, declared.serve.Cut.Cut}
+use Rattle.hotel_http.specs.{declared.serve.Served.Served, declared.status.Status.Status}
+use Rattle.hotel_http.specs.{declared.status.Status.TheVariants.Success, declared.requests.Request.Request}
+use Rattle.hotel_http.specs.{declared.serve.ServeFault.ServeFault}
+use Rattle.hotel_http.specs.{declared.serve.ServeFault.TheVariants.Write, Answer.list_answer, Body.interim_where}
+use Rattle.hotel_http.specs.{Request.EndsRequest}
+use Rattle.hotel_http.specs.Serve.{Outcome, outcome, rejected, replied, imported, import_failures, stopped_behind}
+use Rattle.hotel_http.specs.Serve.{ListComes, AskComes, FileComes, TaskComes, Comes, EndsAs, Answered, ended}
+use Rattle.hotel_http.specs.Serve.{IsListText, is_answered, list_failures, list_refusal, WasAnswered}
 
 -- an answer that was written or not
 pub ends_as : (text : List ℕ) (status : Status) (acted : Bool) (answered : List Bool) (written : Result (Unit {0}) WriteFailed) (old new : Option (List ℕ)) (end : Result Served Cut)

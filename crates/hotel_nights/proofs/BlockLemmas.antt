@@ -1,8 +1,10 @@
 -- Counts of stays that begin and end at a night.
-use Rattle.std.proofs.Common.{◌≡◌, ℕ, zero, suc, ◌+◌, ◌-◌, ◌<◌, ◌≤◌, ◌&&◌, not, Bool, true, false, List, [], ◌∷◌, get_or, arith, refl, count_by, nat_lt, nat_le, replicate}
+use Rattle.std.proofs.Common.{◌≡◌, ℕ, zero, suc, ◌+◌, ◌-◌, ◌<◌, ◌≤◌, ◌&&◌, not, Bool, true, false, List, [], ◌∷◌}
+use Rattle.std.proofs.Common.{get_or, arith, refl, count_by, nat_lt, nat_le, replicate}
 use Rattle.std.proofs.lemmas.Bool.Decides.{nat_tests}
 use Rattle.std.proofs.lemmas.List.Sums.{sum_by-cons}
-use Rattle.hotel_nights.specs.{declared.stay.Stay.Stay, FullNight.takes, FullNight.is_full, FullNight.nights_taken, Block.was_taken, Block.begins, Block.ends, Block.one_if}
+use Rattle.hotel_nights.specs.{declared.stay.Stay.Stay, FullNight.takes, FullNight.is_full, FullNight.nights_taken}
+use Rattle.hotel_nights.specs.{Block.was_taken, Block.begins, Block.ends, Block.one_if}
 
 -- what pass `p` and what pass `q` alone are what pass `q` and what pass `p` alone
 both_ways : (p q : Bool) → one_if p + one_if (q && not p) ≡ one_if q + one_if (p && not q)

@@ -1,15 +1,20 @@
 -- The order of dates in range, and the dates of day numbers.
-use Rattle.std.proofs.Common.{◌≡◌, ℕ, zero, suc, ◌+◌, ◌-◌, ◌<◌, ◌≤◌, ◌⊎◌, inl, inr, refl, sym, ◌∙◌, arith, ℤ, pos, ◌+ℤ◌, true, false, Some, List, [], ◌∷◌, get_or, nat_le, nat_lt}
+use Rattle.std.proofs.Common.{◌≡◌, ℕ, zero, suc, ◌+◌, ◌-◌, ◌<◌, ◌≤◌, ◌⊎◌, inl, inr, refl, sym, ◌∙◌, arith, ℤ, pos, ◌+ℤ◌}
+use Rattle.std.proofs.Common.{true, false, Some, List, [], ◌∷◌, get_or, nat_le, nat_lt}
 use Rattle.std.proofs.lemmas.Bool.{cases_Bool}
 use Rattle.std.proofs.lemmas.Int.{by_lt_z}
 use Rattle.std.proofs.lemmas.Bool.Decides.{nat_tests}
 use Rattle.std.specs.Int.{IsInRange}
-use Rattle.jiff_core.specs.Calendar.{IsCivilDate, days_in_month, day_count, days_from_civil, days_of_years, days_of_months}
-use Rattle.jiff_core.proofs.CalendarLemmas.{days_from_civil-day_count, day_count-day_of_year, day_count-later_year, day_count-lt_year, day_count-lt_month, day_count-day, day_count-next_month, day_count-next_year, day_count-last_of_year, days_in_month_bounds}
+use Rattle.jiff_core.specs.Calendar.{IsCivilDate, days_in_month, day_count, days_from_civil, days_of_years}
+use Rattle.jiff_core.specs.Calendar.{days_of_months}
+use Rattle.jiff_core.proofs.CalendarLemmas.{days_from_civil-day_count, day_count-day_of_year, day_count-later_year}
+use Rattle.jiff_core.proofs.CalendarLemmas.{day_count-lt_year, day_count-lt_month, day_count-day, day_count-next_month}
+use Rattle.jiff_core.proofs.CalendarLemmas.{day_count-next_year, day_count-last_of_year, days_in_month_bounds}
 use Rattle.jiff_core.proofs.SignedLemmas.{signed_arith}
 use Rattle.keycard_rules.specs.Numerals.{numeral, fixed_text}
 use Rattle.keycard_rules.proofs.NumeralLemmas.{numeral-fixed_text}
-use Rattle.hotel_nights.specs.Days.{Ymd, ymd, read_ymd, read_day, date_text, day_text, is_date, is_in_range, number_of_date, next_date, date_of}
+use Rattle.hotel_nights.specs.Days.{Ymd, ymd, read_ymd, read_day, date_text, day_text, is_date, is_in_range}
+use Rattle.hotel_nights.specs.Days.{number_of_date, next_date, date_of}
 
 -- 2000-01-01 and 2100-01-01 in day counts
 pub first_count : day_count (pos 2000) 1 1 ≡ 4382910

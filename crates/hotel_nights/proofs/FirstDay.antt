@@ -1,5 +1,6 @@
 -- The first day of some that a test takes.
-use Rattle.std.proofs.Common.{◌≡◌, ℕ, zero, suc, ◌+◌, ◌-◌, ◌<◌, ◌≤◌, Bool, true, false, arith, refl, sym, subst, ◌⊎◌, ◌∙◌, Option, Some, None, nat_lt, nat_le, add-one, inl, inr}
+use Rattle.std.proofs.Common.{◌≡◌, ℕ, zero, suc, ◌+◌, ◌-◌, ◌<◌, ◌≤◌, Bool, true, false, arith, refl, sym, subst, ◌⊎◌}
+use Rattle.std.proofs.Common.{◌∙◌, Option, Some, None, nat_lt, nat_le, add-one, inl, inr}
 use Rattle.std.proofs.lemmas.Bool.{cases_Bool}
 use Rattle.std.proofs.lemmas.Bool.Decides.{nat_tests}
 use Rattle.hotel_nights.specs.{Days.day_of_number, FullNight.first_day, FullNight.IsFirst}

@@ -2,7 +2,8 @@
 use Rattle.std.proofs.Common.{◌≡◌, ℕ, ◌+◌, ◌*◌, ◌/◌, ◌%◌, ◌≤◌, List, [], ◌∷◌, get_or, arith, refl, Some, nat_le, true}
 use Rattle.keycard_rules.specs.Numerals.{numeral, fixed_text}
 use Rattle.keycard_rules.proofs.NumeralLemmas.{numeral-fixed_text}
-use Rattle.hotel_nights.specs.{Days.day_text, Moments.read_time, Moments.read_moment, Moments.time_text, Moments.moment_text}
+use Rattle.hotel_nights.specs.{Days.day_text, Moments.read_time, Moments.read_moment, Moments.time_text}
+use Rattle.hotel_nights.specs.{Moments.moment_text}
 use Rattle.hotel_nights.proofs.DayLemmas.{read_day-day_text, leb-of}
 
 whole : (s : ℕ) → s / 3600 * 3600 + s / 60 % 60 * 60 + s % 60 ≡ s

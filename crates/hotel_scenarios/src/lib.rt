@@ -1,4 +1,5 @@
-//! For tests: the worked scenarios, each once as steps on a desk over any books. What is public here has no clauses of its own.
+//! For tests: the worked scenarios, each once as steps on a desk over any books. What is public here has no clauses of
+//! its own.
 #![tactic(auto)]
 
 pub mod chains;

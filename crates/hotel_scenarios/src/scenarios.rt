@@ -1,5 +1,6 @@
 //! The worked scenarios: what is asked of a desk with empty books, step by step, and what each step answers. The
-//! computed scenes of the model have the same names, codes and lines, in the same order, and `.ci/scenes` compares them; a
+//! computed scenes of the model have the same names, codes and lines, in the same order, and `.ci/scenes` compares
+//! them; a
 //! scenario may have lists and lines that aren't read which its scene lacks.
 use crate::chains::TWO_CODES;
 
@@ -282,7 +283,8 @@ room,count,kind,card,old,new,at
     ),
 ];
 
-/// Recodings to a passed code, another room's, the held one; from another. Then one that is taken, which the lists show.
+/// Recodings to a passed code, another room's, the held one; from another. Then one that is taken, which the lists
+/// show.
 pub const RECODING_REFUSED: &[Step] = &[
     Step::Line(b"add-room 102 DBL", b"room code 0000000000b0\n"),
     Step::Line(

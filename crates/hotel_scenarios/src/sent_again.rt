@@ -7,7 +7,8 @@ use hotel_core::Books;
 use std::alloc::Global;
 use std::test::Fail;
 
-/// A file, and what came before it. By how many lines were answered: how many notes the room has then, and what the file
+/// A file, and what came before it. By how many lines were answered: how many notes the room has then, and what the
+/// file
 /// is answered when it comes again.
 #[derive(Clone, Copy)]
 pub struct Sent {
@@ -122,7 +123,8 @@ fn once(alloc: Global, sent: &Sent) -> Result<RoomNow, Fail> {
     RoomNow::of(alloc, &mut desk.books)
 }
 
-/// After so many answered lines the file comes again: whether the answered lines stand, the others are answered for, and
+/// After so many answered lines the file comes again: whether the answered lines stand, the others are answered for,
+/// and
 /// the tables are those of the whole file.
 pub fn comes_again<B: Books>(
     alloc: Global,

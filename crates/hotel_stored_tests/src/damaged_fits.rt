@@ -1,4 +1,5 @@
-//! Tables of desks with several locks that statements damage: each rule of the table of fits, and the rules of other tables
+//! Tables of desks with several locks that statements damage: each rule of the table of fits, and the rules of other
+//! tables
 //! that look at fits.
 use crate::connections::new_tables;
 use crate::stored_rows::stored;
@@ -96,7 +97,8 @@ static OF_FITS: [Damage; 10] = [
     },
 ];
 
-/// The rules of other tables: how many codes a room has; that no card has secured a new lock; that a fit's first code is
+/// The rules of other tables: how many codes a room has; that no card has secured a new lock; that a fit's first code
+/// is
 /// the later one of no card, and any other code is that of one; and that no card of an earlier lock is inside.
 static OF_OTHERS: [Damage; 6] = [
     Damage {

@@ -9,7 +9,8 @@ use std::alloc::Global;
 use std::process::Abort;
 use std::test::Fail;
 
-/// Room 101 was never entered, and its second guest is in house; the guest of room 102 came and went out; and one more is to
+/// Room 101 was never entered, and its second guest is in house; the guest of room 102 came and went out; and one more
+/// is to
 /// arrive two days later.
 static ALL_LISTS: [&[u8]; 14] = [
     b"begin 2031-05-01",
@@ -35,7 +36,8 @@ fn listed_desk(alloc: Global) -> Result<Desk, Fail> {
     Ok(desk)
 }
 
-/// A list: the line that asks for it, its text, how many calls of the books it makes (one before each row and one behind the
+/// A list: the line that asks for it, its text, how many calls of the books it makes (one before each row and one
+/// behind the
 /// last one; and a room is looked up first), and how many lines stand before the first of these.
 #[derive(Clone, Copy)]
 struct Asked {
@@ -202,7 +204,8 @@ fn joined(alloc: Global, texts: &[&[u8]]) -> Result<Vec<u8>, Fail> {
     Ok(all)
 }
 
-/// A script asks for the list twice. The call of this number fails for this cause: the first lines before it are followed by the
+/// A script asks for the list twice. The call of this number fails for this cause: the first lines before it are
+/// followed by the
 /// refusal, and then the list is whole.
 fn fails_in_script(
     rt: &(impl Abort + AllocGlobal),

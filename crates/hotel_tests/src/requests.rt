@@ -1,4 +1,5 @@
-//! The scenario `http-check-in` over books in memory; `.ci/bytes` asks each route, and damages requests, at the built program.
+//! The scenario `http-check-in` over books in memory; `.ci/bytes` asks each route, and damages requests, at the built
+//! program.
 use hotel_core::Walks;
 use hotel_http::{ServeFault, Served, serve_one};
 use hotel_scenarios::desks::Desk;

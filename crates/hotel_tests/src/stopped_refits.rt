@@ -33,7 +33,8 @@ fn stopping(desk: Desk, call: u64, cause: LookFault) -> Desk<StoppingBooks> {
     }
 }
 
-/// The calls of the books that a refit makes, in order, and what the refit that is asked for again behind their failure is
+/// The calls of the books that a refit makes, in order, and what the refit that is asked for again behind their failure
+/// is
 /// answered: a word that was examined is gone.
 static CALLS: [(&str, &[u8]); 4] = [
     ("the day", b"lock 2 code 0000000000a2\n"),
@@ -49,7 +50,8 @@ fn is_refitted<A: Abort>(rt: &A, now: &RoomNow) {
     assert!(rt; now.fits.len() == 2 && now.notes.len() == 1);
 }
 
-/// The refit of which the call of this number fails for this cause is refused so and changes nothing; asked for again it is
+/// The refit of which the call of this number fails for this cause is refused so and changes nothing; asked for again
+/// it is
 /// answered so.
 fn fails_at(
     rt: &(impl Abort + AllocGlobal),
@@ -88,7 +90,8 @@ fn no_later_call_of_a_refit(rt: HostRuntime) -> Result<(), Fail> {
     Ok(())
 }
 
-/// A refit that is refused, of a desk that hasn't begun or one on which party 1 is in room 101; and how many calls of the
+/// A refit that is refused, of a desk that hasn't begun or one on which party 1 is in room 101; and how many calls of
+/// the
 /// books come before.
 static REFUSED: [(&[&[Step]], &[u8], &[u8], u64); 3] = [
     (&[], b"refit 101", b"refused 1 NotBegun\n", 1),

@@ -1,7 +1,8 @@
 use Rattle.std.proofs.Common.{Bor, ap, List, ℕ, ◌≡◌, ◌∙◌, sym, refl, rules, inl, inr, true, map, Some, ◌∷◌, []}
 use Rattle.std.specs.Result.{is_ok}
 use Rattle.std.proofs.lemmas.List.{map-append}
-use Rattle.csv.specs.{Reading.Reached, Reading.with_flexible, Reading.default_config, Reading.strip_bom, Records.fields_of}
+use Rattle.csv.specs.{Reading.Reached, Reading.with_flexible, Reading.default_config, Reading.strip_bom}
+use Rattle.csv.specs.{Records.fields_of}
 use Rattle.csv.specs.declared.parser.State.TheVariants as st
 use Rattle.csv.proofs.ReadFacts.{rows-end, rows-more}
 use Rattle.hotel_audit.proofs.Records.{AreRecords-records}

@@ -1,5 +1,6 @@
 use Rattle.std.proofs.Common.{◌≡◌, ◌<◌, ℕ, List, Some, map}
-use Rattle.csv.specs.{Reading.Reached, Reading.Ready, Reading.default_config, Reading.source_of, Reading.strip_bom, Records.fields_of}
+use Rattle.csv.specs.{Reading.Reached, Reading.Ready, Reading.default_config, Reading.source_of, Reading.strip_bom}
+use Rattle.csv.specs.{Records.fields_of}
 use Rattle.csv.specs.declared.parser.State.TheVariants as st
 use Rattle.csv.specs.declared.reader.Trim.TheVariants as trim
 use Rattle.hotel_audit.proofs.audit_file.read_records.Given as goal

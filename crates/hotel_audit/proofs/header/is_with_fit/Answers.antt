@@ -5,7 +5,9 @@ use Rattle.hotel_audit.specs.{Fields.FieldTexts, Fields.eight_fields, Header.are
 use Rattle.hotel_audit.specs.declared.header.Columns.TheVariants.{WithFit}
 use Rattle.std.specs.Str.{bytes_eq}
 use Rattle.hotel_audit.proofs.header.is_with_fit.Goals as goal
-use Rattle.hotel_audit.proofs.header.is_with_fit.Goals.{then-eq, else-eq, then-eq-2, else-eq-2, then-eq-3, else-eq-3, then-eq-4, else-eq-4, then-eq-5, else-eq-5, then-eq-6, else-eq-6}
+use Rattle.hotel_audit.proofs.header.is_with_fit.Goals.{then-eq, else-eq, then-eq-2, else-eq-2, then-eq-3, else-eq-3}
+use Rattle.hotel_audit.proofs.header.is_with_fit.Goals.{then-eq-4, else-eq-4, then-eq-5, else-eq-5, then-eq-6}
+use Rattle.hotel_audit.proofs.header.is_with_fit.Goals.{else-eq-6}
 
 -- where not all of seven hold, not all of these and more hold
 not_all-more : (a b c d e f g rest : Bool) → (a && b && c && d && e && f && g) ≡ false → false ≡ (a && (b && (c && (d && (e && (f && (g && rest)))))))

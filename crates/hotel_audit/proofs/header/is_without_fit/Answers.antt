@@ -5,7 +5,8 @@ use Rattle.hotel_audit.specs.{Fields.FieldTexts, Fields.seven_fields, Header.are
 use Rattle.hotel_audit.specs.declared.header.Columns.TheVariants.{WithoutFit}
 use Rattle.std.specs.Str.{bytes_eq}
 use Rattle.hotel_audit.proofs.header.is_without_fit.Goals as goal
-use Rattle.hotel_audit.proofs.header.is_without_fit.Goals.{then-eq, else-eq, then-eq-2, else-eq-2, then-eq-3, else-eq-3, then-eq-4, else-eq-4, then-eq-5, else-eq-5}
+use Rattle.hotel_audit.proofs.header.is_without_fit.Goals.{then-eq, else-eq, then-eq-2, else-eq-2, then-eq-3, else-eq-3}
+use Rattle.hotel_audit.proofs.header.is_without_fit.Goals.{then-eq-4, else-eq-4, then-eq-5, else-eq-5}
 
 -- where not all of six hold, not all of these and more hold
 not_all-more : (a b c d e f rest : Bool) → (a && b && c && d && e && f) ≡ false → false ≡ (a && (b && (c && (d && (e && (f && rest))))))

@@ -1,6 +1,7 @@
 use Rattle.std.proofs.Common.{◌≡◌, ◌∙◌, refl, sym, subst, Result, Ok, Err, IfOk, IfErr, OnErr}
 use Rattle.hotel_core.proofs.{Names.AreCounted, OfCode.Happens.step_happens}
-use Rattle.hotel_audit.proofs.{LineAnswers.lead-note, LineAnswers.lead-unread, NoteReplies.answered_reply, NoteReplies.answered_sure, NoteReplies.failed_reply, NoteReplies.failure_told}
+use Rattle.hotel_audit.proofs.{LineAnswers.lead-note, LineAnswers.lead-unread, NoteReplies.answered_reply}
+use Rattle.hotel_audit.proofs.{NoteReplies.answered_sure, NoteReplies.failed_reply, NoteReplies.failure_told}
 use Rattle.hotel_model.specs.declared.command.Command.TheVariants as command
 use Rattle.hotel_audit.proofs.imports.answer_line.Goals as goal
 

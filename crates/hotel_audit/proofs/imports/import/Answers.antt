@@ -1,5 +1,6 @@
 use Rattle.std.proofs.Common.{◌≡◌, Err, ap, refl, inl, inr, ◌≢◌, ◌⊎◌}
-use Rattle.hotel_audit.specs.{declared.audit_file.AuditFault.AuditFault, AuditFile.audit_lines, declared.imports.ImportFault.TheVariants.File}
+use Rattle.hotel_audit.specs.{declared.audit_file.AuditFault.AuditFault, AuditFile.audit_lines}
+use Rattle.hotel_audit.specs.{declared.imports.ImportFault.TheVariants.File}
 use Rattle.hotel_audit.specs.declared.audit_file.AuditFault.TheVariants.{TooLarge, NoHeader, WrongHeader, Memory}
 use Rattle.hotel_audit.proofs.ImportEnds.{none_begun}
 use Rattle.hotel_audit.proofs.imports.import.Goals as goal

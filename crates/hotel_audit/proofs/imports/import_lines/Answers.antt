@@ -1,16 +1,19 @@
 use Rattle.std.proofs.Common.{◌≡◌, ◌∙◌, ◌+◌, subst, false, Ok, [], ◌∷◌, ◌++◌, take, arith, sym, refl, ap, inl, ◌||◌}
 use Rattle.hotel_core.proofs.{Names.take_more, OfCode.FailuresCounted.counted_after}
 use Rattle.std.proofs.lemmas.List.{take_all}
-use Rattle.hotel_audit.specs.{declared.answer.LineAnswer.LineAnswer, declared.answer.LineAnswer.TheVariants.Taken, Import.AreAnswered, Import.LineHappens, Import.LinesLeadOn, Import.has_taken}
+use Rattle.hotel_audit.specs.{declared.answer.LineAnswer.LineAnswer, declared.answer.LineAnswer.TheVariants.Taken}
+use Rattle.hotel_audit.specs.{Import.AreAnswered, Import.LineHappens, Import.LinesLeadOn, Import.has_taken}
 use Rattle.std.specs.Prelude.{zip}
 use Rattle.hotel_core.specs.Books.Happens.{Passes}
 use Rattle.keycard_rules.specs.declared.issued.LookFault.TheVariants as look
 use Rattle.hotel_audit.specs.declared.audit_file.AuditFault.TheVariants as fault
 use Rattle.hotel_audit.specs.declared.imports.ImportFault.TheVariants.{Memory, Store}
-use Rattle.hotel_audit.proofs.LineAnswers.{AreAnswered-append, has_taken-push, lead-join, lead-none, passes_next, unasked_both, vouched_next}
+use Rattle.hotel_audit.proofs.LineAnswers.{AreAnswered-append, has_taken-push, lead-join, lead-none, passes_next}
+use Rattle.hotel_audit.proofs.LineAnswers.{unasked_both, vouched_next}
 use Rattle.hotel_audit.proofs.ImportEnds.{all_answered, answered_before, next_fails, none_begun}
 use Rattle.hotel_audit.proofs.imports.import_lines.Goals as goal
-use Rattle.hotel_audit.proofs.imports.import_lines.Goals.{then-taken, else-taken+in-Taken, else-taken+in_default-matches}
+use Rattle.hotel_audit.proofs.imports.import_lines.Goals.{then-taken, else-taken+in-Taken}
+use Rattle.hotel_audit.proofs.imports.import_lines.Goals.{else-taken+in_default-matches}
 
 -- an answer other than Taken
 has_taken-other : (a : LineAnswer) → (a ≡ Taken → ⊥) → has_taken (a ∷ []) ≡ false

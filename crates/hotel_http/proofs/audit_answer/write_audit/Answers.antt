@@ -1,7 +1,8 @@
 use Rattle.std.proofs.Common.{◌∙◌, ap, None}
 use Rattle.hotel_lists.proofs.BytesLemmas.{on_err}
 use Rattle.hotel_audit.specs.Answers.{answers_text}
-use Rattle.hotel_http.specs.{Answer.answer_text, Answer.head_text, declared.answer.Media.TheVariants.Plain, declared.status.Status.TheVariants.Success}
+use Rattle.hotel_http.specs.{Answer.answer_text, Answer.head_text, declared.answer.Media.TheVariants.Plain}
+use Rattle.hotel_http.specs.{declared.status.Status.TheVariants.Success}
 use Rattle.hotel_http.proofs.AuditAnswerLemmas.{front_of_head, then_ok, then_err}
 use Rattle.hotel_http.proofs.audit_answer.write_audit.Goals as goal
 

@@ -1,6 +1,7 @@
 use Rattle.std.proofs.Common.{arith, refl, sym, subst, take, drop, ◌++◌, ℕ, List, IfSome}
 use Rattle.httparse.specs.{Grammar.RequestHead, Spans.IsRequestWithin, Spans.IsRequestAt}
-use Rattle.hotel_http.specs.{Head.LiesWithin, Head.IsJudged, Request.EndsHead, Request.ReadsBehind, declared.head.Judged.Judged}
+use Rattle.hotel_http.specs.{Head.LiesWithin, Head.IsJudged, Request.EndsHead, Request.ReadsBehind}
+use Rattle.hotel_http.specs.{declared.head.Judged.Judged}
 use Rattle.hotel_http.proofs.RequestLemmas.{request_ends, request_read}
 use Rattle.hotel_http.proofs.requests.read_request.Goals as goal
 

@@ -1,7 +1,8 @@
 use Rattle.std.proofs.Common.{◌≡◌, [], subst, List, map, Ok, Err, Bool, true}
 use Rattle.hotel_core.proofs.OfCode.FailuresCounted.{none_counted}
 use Rattle.hotel_audit.specs.{Import.has_taken, Import.replies_in, declared.answer.LineAnswer.LineAnswer}
-use Rattle.hotel_http.specs.{AuditAnswer.lines_answer, AuditAnswer.fault_answer, AuditAnswer.fault_status, Serve.imported, Serve.ended, Serve.stopped_by, Serve.taken_by, Serve.EndsAs}
+use Rattle.hotel_http.specs.{AuditAnswer.lines_answer, AuditAnswer.fault_answer, AuditAnswer.fault_status}
+use Rattle.hotel_http.specs.{Serve.imported, Serve.ended, Serve.stopped_by, Serve.taken_by, Serve.EndsAs}
 use Rattle.hotel_http.specs.{declared.status.Status.Status, declared.status.Status.TheVariants.Success}
 use Rattle.hotel_http.proofs.ServeLemmas.{ends_as, file_came}
 use Rattle.hotel_http.proofs.serve.answer_audit.Goals as goal

@@ -2,7 +2,8 @@ use Rattle.std.proofs.Common.{[], ◌∷◌, ℕ, List, refl, subst, true, false
 use Rattle.hotel_model.specs.Run.{is_failed}
 use Rattle.hotel_model.specs.declared.reply.Reply.TheVariants.{Refused}
 use Rattle.hotel_asks.specs.Listings.{listing_on}
-use Rattle.hotel_http.specs.{Answer.list_answer, Serve.outcome, Serve.replied, Serve.EndsAs, declared.status.Status.TheVariants.Success}
+use Rattle.hotel_http.specs.{Answer.list_answer, Serve.outcome, Serve.replied, Serve.EndsAs}
+use Rattle.hotel_http.specs.{declared.status.Status.TheVariants.Success}
 use Rattle.hotel_http.proofs.ServeLemmas.{ends_as, list_came, list_comes, list_there, list_failed, list_refused}
 use Rattle.hotel_http.proofs.serve.answer_list.Goals as goal
 

@@ -1,7 +1,9 @@
 use Rattle.std.proofs.Common.{sym, subst, ◌≡◌, Result, Ok, Err, inl, Bool}
 use Rattle.hotel_core.specs.Books.Happens.{Happens}
-use Rattle.hotel_http.specs.{Body.interim_where, Request.Wanted, Request.EndsRequest, Serve.Answered, Serve.Comes, Serve.Serves, declared.rejection.Rejection.Rejection}
-use Rattle.hotel_http.specs.{declared.requests.Request.Request, declared.serve.Cut.Cut, declared.serve.Served.Served, declared.serve.ServeFault.ServeFault}
+use Rattle.hotel_http.specs.{Body.interim_where, Request.Wanted, Request.EndsRequest, Serve.Answered, Serve.Comes}
+use Rattle.hotel_http.specs.{Serve.Serves, declared.rejection.Rejection.Rejection}
+use Rattle.hotel_http.specs.{declared.requests.Request.Request, declared.serve.Cut.Cut, declared.serve.Served.Served}
+use Rattle.hotel_http.specs.{declared.serve.ServeFault.ServeFault}
 use Rattle.hotel_http.proofs.ServeLemmas.{request_served, rejection_served, is_cut}
 use Rattle.hotel_http.proofs.serve.serve_by.Goals as goal
 
