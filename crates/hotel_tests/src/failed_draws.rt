@@ -22,6 +22,8 @@ impl Issued for FailingCodes {
 
     ghost leaves_no_more = { λ _ _. Unit {0} };
 
+    ghost look_up_fails = { λ _ _. Unit {0} };
+
     ghost is_kept = { λ _ _. Unit {0} };
 
     ghost failures = { λ codes _. codes.failures };
