@@ -1,5 +1,6 @@
 -- What the program's acts come to over books.
-use Rattle.std.specs.Prelude.{◌≡◌, ◌≤◌, ◌<◌, ℕ, Bool, true, false, List, ◌++◌, codes, length, take, Option, IfSome, IfOk, IsErrOf, Result, Ok, Err}
+use Rattle.std.specs.Prelude.{◌≡◌, ◌≤◌, ◌<◌, ℕ, Bool, true, false, List, ◌++◌, codes, length, take, Option, IfSome}
+use Rattle.std.specs.Prelude.{IfOk, IsErrOf, Result, Ok, Err}
 use Rattle.std.specs.Fmt.{decimal}
 use Rattle.std.specs.Io.KnownBytes.{Appends}
 use Rattle.rand_core.specs.Stream.{Stream}
@@ -20,7 +21,8 @@ use Rattle.hotel_program.specs.Faults.{end_status, Tells, TellsAll}
 use Rattle.hotel_program.specs.Script.Lines.{answered_lines}
 use Rattle.hotel_program.specs.Alone.ListRuns.{AnswerEndsFor, list_end}
 use Rattle.hotel_program.specs.Program.{script_end}
-use Rattle.hotel_program.specs.Script.WholeScript.{ScriptAnswered, ScriptCut, LinesPass, IsInput, IfCut, IfUnbegun, NothingBegun}
+use Rattle.hotel_program.specs.Script.WholeScript.{ScriptAnswered, ScriptCut, LinesPass, IsInput, IfCut, IfUnbegun}
+use Rattle.hotel_program.specs.Script.WholeScript.{NothingBegun}
 use Rattle.hotel_program.specs.Connections.{ConnectionEnd, ConnectionHappens, ServesAll, faults_of}
 use Rattle.hotel_program.specs.declared.command_line.plan.DeskAct.{DeskAct}
 use Rattle.hotel_program.specs.declared.command_line.plan.DeskAct.TheVariants.{One, List as AList, Audit, Script, Serve}

@@ -6,7 +6,8 @@ ghost use Rattle.hotel_lists.specs.Calls.{NoneForgotten};
 ghost use Rattle.hotel_http.specs.declared.serve.Served.{Served};
 ghost use Rattle.hotel_http.specs.declared.serve.ServeFault.{ServeFault};
 ghost use Rattle.hotel_program.specs.Faults.{TellsAll};
-ghost use Rattle.hotel_program.specs.Connections.{ConnectionEnd, ConnectionHappens, ServesAll, connection_end, faults_of, serve_end};
+ghost use Rattle.hotel_program.specs.Connections.{ConnectionEnd, ConnectionHappens, ServesAll, connection_end};
+ghost use Rattle.hotel_program.specs.Connections.{faults_of, serve_end};
 
 use crate::faults::{Fault, FaultSink};
 use crate::statuses::DONE;
@@ -33,7 +34,8 @@ fn serve_end(end: Result<Served, ServeFault>) -> Result<(), Fault>
     }
 }
 
-/// Answers the request of a connection, by the table of routes that was made for all connections. Where it wasn't made, the request
+/// Answers the request of a connection, by the table of routes that was made for all connections. Where it wasn't made,
+/// the request
 /// makes its own.
 fn serve_stream<I: Read, W: Write, B: Walks, R: Rng>(
     alloc: Global,

@@ -5,7 +5,8 @@ ghost use Rattle.hotel_core.specs.Books.Happens.{HappensBy, Passes};
 ghost use Rattle.hotel_lists.specs.Calls.{NoneForgotten};
 ghost use Rattle.hotel_program.specs.declared.script.ScriptFault.TheVariants.{TooLarge};
 ghost use Rattle.hotel_program.specs.Script.Lines.{answered_lines};
-ghost use Rattle.hotel_program.specs.Script.WholeScript.{IfCut, IfUnbegun, IsInput, NothingBegun, ScriptAnswered, ScriptCut};
+ghost use Rattle.hotel_program.specs.Script.WholeScript.{IfCut, IfUnbegun, IsInput, NothingBegun, ScriptAnswered};
+ghost use Rattle.hotel_program.specs.Script.WholeScript.{ScriptCut};
 ghost use Rattle.hotel_program.specs.Script.WholeScript.{LineHappens, LinesCut, LinesPass, fault_of};
 
 mod asks;

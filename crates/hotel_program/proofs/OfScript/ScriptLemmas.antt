@@ -1,5 +1,7 @@
 -- Lines of a script, answered one after the other.
-use Rattle.std.proofs.Common.{◌≡◌, ℕ, Bool, zero, suc, ◌+◌, ◌≤◌, List, [], ◌∷◌, ◌++◌, length, take, drop, arith, refl, sym, ap, subst, ◌∙◌, append_assoc, append-nil, length-append, take-append-drop, add-one, Option, Some, None, false, Result, Ok, Err}
+use Rattle.std.proofs.Common.{◌≡◌, ℕ, Bool, zero, suc, ◌+◌, ◌≤◌, List, [], ◌∷◌, ◌++◌, length, take, drop, arith, refl}
+use Rattle.std.proofs.Common.{sym, ap, subst, ◌∙◌, append_assoc, append-nil, length-append, take-append-drop, add-one}
+use Rattle.std.proofs.Common.{Option, Some, None, false, Result, Ok, Err}
 use Rattle.std.proofs.Math.Seq.{take-append-add}
 use Rattle.std.proofs.lemmas.List.{length-drop}
 use Rattle.std.specs.List.{concat}
@@ -24,7 +26,8 @@ use Rattle.hotel_core.specs.Texts.{reply_text}
 use Rattle.hotel_lists.specs.{Bytes.AppendsFront, declared.calls.WriteFailed.WriteFailed}
 use Rattle.hotel_program.specs.Script.Lines.{lines, without_return, is_silent, answered_lines}
 use Rattle.hotel_program.specs.Script.LineAnswers.{AskEnds, AskGoes, LineGoes, Sure, answered_to}
-use Rattle.hotel_program.specs.Script.WholeScript.{ScriptGoes, ScriptAnswered, ScriptCut, LineHappens, LinesCut, LinesPass, IsInput, IfCut, answers_to}
+use Rattle.hotel_program.specs.Script.WholeScript.{ScriptGoes, ScriptAnswered, ScriptCut, LineHappens, LinesCut}
+use Rattle.hotel_program.specs.Script.WholeScript.{LinesPass, IsInput, IfCut, answers_to}
 use Rattle.hotel_program.specs.declared.script.ScriptEnd.{ScriptEnd}
 use Rattle.hotel_program.specs.declared.script.ScriptFault.{ScriptFault}
 use Rattle.hotel_program.specs.declared.script.ScriptFault.TheVariants.{Read, TooLarge, Write}

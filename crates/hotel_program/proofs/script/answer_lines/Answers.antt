@@ -6,7 +6,8 @@ use Rattle.hotel_program.specs.Script.Asks.{ask_in}
 use Rattle.hotel_program.specs.Script.LineAnswers.{AskEnds}
 use Rattle.hotel_program.specs.Script.Lines.{answered_lines, is_silent}
 use Rattle.hotel_program.specs.Script.WholeScript.{LineHappens, ScriptAnswered}
-use Rattle.hotel_program.proofs.OfScript.ScriptLemmas.{none_answered, answered_next, cut_next, next_line, all_done, answered_more, passes_next, passes_cut}
+use Rattle.hotel_program.proofs.OfScript.ScriptLemmas.{none_answered, answered_next, cut_next, next_line, all_done}
+use Rattle.hotel_program.proofs.OfScript.ScriptLemmas.{answered_more, passes_next, passes_cut}
 use Rattle.hotel_program.proofs.script.answer_lines.Goals as goal
 
 pub loop-line-init : goal.loop-line-init
