@@ -1,4 +1,5 @@
-//! The words, files, databases, ports and the clock of the system. No clause can say what they give, so the functions here do no more than ask.
+//! The words, files, databases, ports and the clock of the system. No clause can say what they give, so the functions
+//! here do no more than ask.
 
 ghost use Rattle.std.specs.Prelude.{IfErr};
 ghost use Rattle.hotel_program.specs.Faults.{IsOfFiles};

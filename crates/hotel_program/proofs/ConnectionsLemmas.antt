@@ -1,5 +1,6 @@
 -- Connections, one more at a time.
-use Rattle.std.proofs.Common.{◌≡◌, ◌∙◌, ℕ, Bool, List, [], ◌∷◌, ◌++◌, refl, sym, ap, subst, append_assoc, append-nil, Option, Some, Result, Ok, Err, inl, inr}
+use Rattle.std.proofs.Common.{◌≡◌, ◌∙◌, ℕ, Bool, List, [], ◌∷◌, ◌++◌, refl, sym, ap, subst, append_assoc, append-nil}
+use Rattle.std.proofs.Common.{Option, Some, Result, Ok, Err, inl, inr}
 use Rattle.std.proofs.lemmas.Grind.{flat_map-append}
 use Rattle.rand_core.specs.Stream.{Stream}
 use Rattle.keycard_rules.specs.declared.issued.Issued.{Ghosts as IssuedOf}
@@ -13,7 +14,8 @@ use Rattle.hotel_http.specs.declared.serve.Served.{Served}
 use Rattle.hotel_http.specs.declared.serve.ServeFault.{ServeFault}
 use Rattle.hotel_http.specs.declared.serve.ServeFault.TheVariants.{Closed, Read, Memory, Write}
 use Rattle.hotel_program.specs.Faults.{TellsAll}
-use Rattle.hotel_program.specs.Connections.{AllCame, ConnectionCame, ConnectionEnd, ServesAll, connection_end, fault_in, faults_of}
+use Rattle.hotel_program.specs.Connections.{AllCame, ConnectionCame, ConnectionEnd, ServesAll, connection_end, fault_in}
+use Rattle.hotel_program.specs.Connections.{faults_of}
 use Rattle.hotel_program.specs.declared.faults.Fault.{Fault}
 
 -- No connection was served.

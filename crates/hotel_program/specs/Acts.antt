@@ -1,10 +1,11 @@
 -- What the program's acts come to over books.
-use Rattle.std.specs.Prelude.{◌≡◌, ◌≤◌, ◌<◌, ℕ, Bool, true, false, List, ◌++◌, codes, length, take, Option, IfSome, IfOk, IsErrOf, Result, Ok, Err}
+use Rattle.std.specs.Prelude.{◌≡◌, ◌≤◌, ◌<◌, ℕ, Bool, true, false, List, ◌++◌, codes, length, take, Option, IfSome}
+use Rattle.std.specs.Prelude.{IfOk, IsErrOf, Result, Ok, Err}
 use Rattle.std.specs.Fmt.{decimal}
 use Rattle.std.specs.Io.KnownBytes.{Appends}
 use Rattle.rand_core.specs.Stream.{Stream}
 use Rattle.keycard_rules.specs.declared.issued.Issued.{Ghosts as IssuedOf}
-use Rattle.hotel_core.specs.Books.Happens.{Happens, HappensBy}
+use Rattle.hotel_core.specs.Books.Happens.{Happens, HappensBy, Passes}
 use Rattle.hotel_model.specs.Rows.{Rows}
 use Rattle.hotel_model.specs.declared.command.Command.{Command}
 use Rattle.hotel_model.specs.declared.reply.Reply.{Reply}
@@ -20,8 +21,9 @@ use Rattle.hotel_program.specs.Faults.{end_status, Tells, TellsAll}
 use Rattle.hotel_program.specs.Script.Lines.{answered_lines}
 use Rattle.hotel_program.specs.Alone.ListRuns.{AnswerEndsFor, list_end}
 use Rattle.hotel_program.specs.Program.{script_end}
-use Rattle.hotel_program.specs.Script.WholeScript.{ScriptAnswered, ScriptCut, IsInput, IfCut, IfUnbegun, NothingBegun}
-use Rattle.hotel_program.specs.Connections.{ConnectionEnd, ServesAll, faults_of}
+use Rattle.hotel_program.specs.Script.WholeScript.{ScriptAnswered, ScriptCut, LinesPass, IsInput, IfCut, IfUnbegun}
+use Rattle.hotel_program.specs.Script.WholeScript.{NothingBegun}
+use Rattle.hotel_program.specs.Connections.{ConnectionEnd, ConnectionHappens, ServesAll, faults_of}
 use Rattle.hotel_program.specs.declared.command_line.plan.DeskAct.{DeskAct}
 use Rattle.hotel_program.specs.declared.command_line.plan.DeskAct.TheVariants.{One, List as AList, Audit, Script, Serve}
 use Rattle.hotel_program.specs.declared.faults.Fault.{Fault}
@@ -77,6 +79,7 @@ pub record ScriptCame {S R W F E : Type 0} (v : Views S R W F E) (known : Option
       × HappensBy v.issued v.rows old.books (ScriptAnswered (answered_lines script) (v.stream old.source) (v.stream new.source) (v.contents old.writer) (v.contents new.writer)) new.books)
   pub cut : IfCut end (λ done. (script : List ℕ) × IsInput known script × (1 ≤ done) × (done ≤ length (answered_lines script))
       × HappensBy v.issued v.rows old.books (ScriptCut (take done (answered_lines script)) (v.stream old.source) (v.stream new.source) (v.contents old.writer) (v.contents new.writer)) new.books)
+  pub through : LinesPass v.issued v.rows v.stream v.contents known end (old.books, old.source, old.writer) (new.books, new.source, new.writer)
   pub unbegun : IfUnbegun end (NothingBegun old.books new.books old.source new.source old.writer new.writer)
   pub large : IsErrOf end TooLarge → IfSome known (λ input. 1048576 < length input)
 
@@ -92,6 +95,7 @@ listening_text port = codes "listening on 127.0.0.1:" ++ decimal port ++ codes "
 abbrev pub Serves : {S R W F E : Type 0} → Views S R W F E → ℕ → Desk S R W F E → Desk S R W F E → Type 0
 Serves v count old new = (ends : List ConnectionEnd) × (length ends ≡ count) × TellsAll v.told old.faults (faults_of ends) new.faults
     × Happens v.issued v.rows old.books (ServesAll ends (v.stream old.source) (v.stream new.source)) new.books
+    × Passes (ConnectionHappens v.issued v.rows v.stream) (old.books, old.source) ends (new.books, new.source)
 
 -- Books and source are as they were.
 abbrev pub Untouched : {S R W F E : Type 0} → Desk S R W F E → Desk S R W F E → Type 0

@@ -6,7 +6,9 @@ use Rattle.hotel_asks.specs.Names.{name_text, names_of, word_of}
 use Rattle.hotel_asks.specs.declared.values.ValueName.{ValueName}
 use Rattle.hotel_asks.specs.declared.values.ValueName.TheVariants.{File, Port, Count}
 use Rattle.hotel_asks.specs.declared.verbs.Verb.{Verb}
-use Rattle.hotel_asks.specs.declared.verbs.Verb.TheVariants.{Begin, AddKind, AddRoom, Reserve, Cancel, CheckIn, Spare, Reissue, Transfer, CheckOut, Refit, NextDay, Entered, Left, Recoded, Arrivals, InHouse, ChainOf, LeftBehind, AuditOf}
+use Rattle.hotel_asks.specs.declared.verbs.Verb.TheVariants.{Begin, AddKind, AddRoom, Reserve, Cancel, CheckIn, Spare}
+use Rattle.hotel_asks.specs.declared.verbs.Verb.TheVariants.{Reissue, Transfer, CheckOut, Refit, NextDay, Entered, Left}
+use Rattle.hotel_asks.specs.declared.verbs.Verb.TheVariants.{Recoded, Arrivals, InHouse, ChainOf, LeftBehind, AuditOf}
 
 -- A value that is always given.
 abbrev pub value_rule : ValueName → Rule

@@ -2,8 +2,11 @@
 use Rattle.std.specs.Prelude.{◌≡◌, ◌⊎◌, Bool, false, List, [], ◌∷◌, ◌++◌, Option, Some, None, Result, Ok, Err}
 use Rattle.std.specs.List.{flat_map}
 use Rattle.rand_core.specs.Stream.{Stream}
+use Rattle.keycard_rules.specs.declared.issued.Issued.{Ghosts as IssuedOf}
+use Rattle.hotel_core.specs.Books.Happens.{Happens}
 use Rattle.hotel_model.specs.declared.reply.Refusal.{Refusal}
 use Rattle.hotel_model.specs.History.{History}
+use Rattle.hotel_model.specs.Rows.{Rows}
 use Rattle.hotel_http.specs.declared.serve.Served.{Served}
 use Rattle.hotel_http.specs.declared.serve.ServeFault.{ServeFault}
 use Rattle.hotel_http.specs.declared.serve.ServeFault.TheVariants as serve
@@ -41,6 +44,10 @@ AllCame (end ∷ ends) h s failed answered h' s' =
 -- Connections were served from one history to another, and this is told of their failures and of the books' answers.
 abbrev pub ServesAll : List ConnectionEnd → Stream → Stream → (List Refusal → List Bool → Type 0) → History → History → Type 0
 ServesAll ends s s' told h h' = (failed : List Refusal) × (answered : List Bool) × AllCame ends h s failed answered h' s' × told failed answered
+
+-- A connection was served to this end, by books and a source of words.
+abbrev pub ConnectionHappens : {S R : Type 0} → IssuedOf S → (S → Rows) → (R → Stream) → S × R → ConnectionEnd → S × R → Type 0
+ConnectionHappens I rows stream old end new = Happens I rows old.0 (ServesAll (end ∷ []) (stream old.1) (stream new.1)) new.0
 
 -- The fault of a request that was served so.
 abbrev pub serve_end : Result Served ServeFault → Result (Unit {0}) Fault

@@ -7,7 +7,9 @@ use Rattle.hotel_asks.specs.Names.{name_text}
 use Rattle.hotel_rows.specs.declared.stored.TableName.{TableName}
 use Rattle.hotel_rows.specs.declared.stored.TableName.TheVariants as table
 use Rattle.hotel_program.specs.declared.faults.Fault.{Fault}
-use Rattle.hotel_program.specs.declared.faults.Fault.TheVariants.{Usage, Unread, Memory, Store, Read, Write, TooLarge, NoHeader, WrongHeader, Stopped, NotADesk, Damaged, Seed, File, Port, Closed}
+use Rattle.hotel_program.specs.declared.faults.Fault.TheVariants.{Usage, Unread, Memory, Store, Read, Write, TooLarge}
+use Rattle.hotel_program.specs.declared.faults.Fault.TheVariants.{NoHeader, WrongHeader, Stopped, NotADesk, Damaged}
+use Rattle.hotel_program.specs.declared.faults.Fault.TheVariants.{Seed, File, Port, Closed}
 
 -- What stopped an import, and the end of the line.
 abbrev pub cause_text : LookFault → List ℕ
@@ -45,7 +47,8 @@ fault_text File = codes "file\n"
 fault_text Port = codes "port\n"
 fault_text Closed = codes "closed\n"
 
--- The exit status: 2 where the program was given words that it doesn't take, 4 where memory or the store failed, else 5.
+-- The exit status: 2 where the program was given words that it doesn't take, 4 where memory or the store failed, else
+-- 5.
 abbrev pub fault_status : Fault → ℕ
 fault_status Usage = 2
 fault_status (Unread name) = 2

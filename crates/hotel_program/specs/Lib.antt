@@ -9,3 +9,4 @@ pub mod Connections
 pub mod Files
 pub mod Acts
 pub mod Plan
+pub mod Timed

@@ -1,5 +1,6 @@
 -- What the program does by its words.
-use Rattle.std.specs.Prelude.{◌≡◌, ◌↔◌, ℕ, Bool, true, false, List, [], Option, Some, None, Result, Ok, Err, IfOk, IfErr, codes, string_bytes}
+use Rattle.std.specs.Prelude.{◌≡◌, ◌↔◌, ℕ, Bool, true, false, List, [], Option, Some, None, Result, Ok, Err, IfOk}
+use Rattle.std.specs.Prelude.{IfErr, codes, string_bytes}
 use Rattle.std.specs.Io.KnownBytes.{Appends}
 use Rattle.clap.specs.Words.{Text, first_of, matches_of, subcommand_of, takes}
 use Rattle.rand_core.specs.Steps.{steps_u32, stream_of}
@@ -102,7 +103,8 @@ AfterSeed {D} {W} {F} {E} v known plan (Ok seed) at status old new =
     (file : Result (List ℕ) Fault) × (then : E) × FileIsRead v.file_read plan.act at file then × AfterFile v known plan (of_seed seed) file then status old new
 AfterSeed v known plan (Err why) at status old new = StopsBy v why at status old new
 
--- A plan was carried out: the seed was asked for, then the audit file, then the database, then the port; the first fault ended it.
+-- A plan was carried out: the seed was asked for, then the audit file, then the database, then the port; the first
+-- fault ended it.
 abbrev pub PlanEnds : {D W F E : Type 0} → OuterViews D W F E → Option (List ℕ) → Plan → ℕ → Outer W F E → Outer W F E → Type 0
 PlanEnds {D} {W} {F} {E} v known plan status old new =
     (seed : Result (List ℕ) Fault) × (then : E) × v.seed_read old.around plan.seed_file seed then × AfterSeed v known plan seed then status old new

@@ -33,7 +33,8 @@ pub fn end_of_script(end: Result<ScriptEnd, ScriptFault>) -> Result<u8, Fault>
     }
 }
 
-/// Carries out an act over books, and tells the fault that came instead. `file` has the bytes of an audit file where that is what is asked
+/// Carries out an act over books, and tells the fault that came instead. `file` has the bytes of an audit file where
+/// that is what is asked
 /// for. It answers the exit status.
 pub fn run_act<B: Walks, R: Rng, I: Read, W: Write, F: FaultSink, E: Surroundings>(
     alloc: Global,

@@ -1,12 +1,13 @@
 //! Connections that are answered one after the other.
 
 ghost use Rattle.std.specs.Prelude.{◌≡◌, ◌∷◌, [], List, Result, Some, length};
-ghost use Rattle.hotel_core.specs.Books.Happens.{Happens};
+ghost use Rattle.hotel_core.specs.Books.Happens.{Happens, Passes};
 ghost use Rattle.hotel_lists.specs.Calls.{NoneForgotten};
 ghost use Rattle.hotel_http.specs.declared.serve.Served.{Served};
 ghost use Rattle.hotel_http.specs.declared.serve.ServeFault.{ServeFault};
 ghost use Rattle.hotel_program.specs.Faults.{TellsAll};
-ghost use Rattle.hotel_program.specs.Connections.{ConnectionEnd, ServesAll, connection_end, faults_of, serve_end};
+ghost use Rattle.hotel_program.specs.Connections.{ConnectionEnd, ConnectionHappens, ServesAll, connection_end};
+ghost use Rattle.hotel_program.specs.Connections.{faults_of, serve_end};
 
 use crate::faults::{Fault, FaultSink};
 use crate::statuses::DONE;
@@ -33,7 +34,8 @@ fn serve_end(end: Result<Served, ServeFault>) -> Result<(), Fault>
     }
 }
 
-/// Answers the request of a connection, by the table of routes that was made for all connections. Where it wasn't made, the request
+/// Answers the request of a connection, by the table of routes that was made for all connections. Where it wasn't made,
+/// the request
 /// makes its own.
 fn serve_stream<I: Read, W: Write, B: Walks, R: Rng>(
     alloc: Global,
@@ -118,7 +120,8 @@ pub fn serve_connections<B: Walks, R: Rng, F: FaultSink, C: Clock>(
 ) -> u8
     ensures status { result ≡ 0 }
     ensures ends { (ends : List ConnectionEnd) × (length ends ≡ count) × TellsAll F.told faults.old (faults_of ends) faults.new
-        × Happens B.Issued B.rows books.old (ServesAll ends (R.stream source.old) (R.stream source.new)) books.new }
+        × Happens B.Issued B.rows books.old (ServesAll ends (R.stream source.old) (R.stream source.new)) books.new
+        × Passes (ConnectionHappens B.Issued B.rows R.stream) (books.old, source.old) ends (books.new, source.new) }
 {
     let made = make_routes(alloc).ok();
     let routes = made.as_ref();

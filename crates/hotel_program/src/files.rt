@@ -60,7 +60,8 @@ pub fn seed_in<R: Read>(alloc: Global, reader: &mut R) -> Result<[u8; SEED_BYTES
     }
 }
 
-/// The bytes of an audit file: all that the reader has; or, where it has more than such a file may have, more than that.
+/// The bytes of an audit file: all that the reader has; or, where it has more than such a file may have, more than
+/// that.
 pub fn audit_file_in<R: Read>(alloc: Global, reader: &mut R) -> Result<Vec<u8>, Fault>
     ensures bytes { IfOk result (λ bytes. IfSome (R.remaining reader.old) (IsFront 262144 bytes.items)) }
     ensures few { IfOk result (λ bytes. length bytes.items ≤ 266240) }

@@ -8,7 +8,8 @@ ghost use Rattle.hotel_program.specs.declared.command_line.plan.DeskAct.TheVaria
 ghost use Rattle.hotel_program.specs.declared.script.ScriptEnd.{ScriptEnd};
 ghost use Rattle.hotel_program.specs.declared.script.ScriptFault.{ScriptFault};
 ghost use Rattle.hotel_program.specs.Faults.{end_status, IsOfFiles, Tells};
-ghost use Rattle.hotel_program.specs.Plan.{outer_views, AskForScript, FileIsRead, InMemory, OverBooks, PlanEnds, UsageSaid, WordsEnd};
+ghost use Rattle.hotel_program.specs.Plan.{outer_views, AskForScript, FileIsRead, InMemory, OverBooks, PlanEnds};
+ghost use Rattle.hotel_program.specs.Plan.{UsageSaid, WordsEnd};
 ghost use Rattle.hotel_program.specs.Program.{HasNoWords, IfWords, IsNoText, LacksMemory, EndsOverNewDesk, script_end};
 
 use crate::acts::{end_of_script, run_act};
@@ -135,7 +136,8 @@ fn audit_file<E: Surroundings>(
     }
 }
 
-/// Carries out a plan. The seed is read first, then an audit file, then the books are opened, and then a port is listened on; the first
+/// Carries out a plan. The seed is read first, then an audit file, then the books are opened, and then a port is
+/// listened on; the first
 /// fault is told and ends it.
 fn run_plan<I: Read, W: Write, F: FaultSink, B: Walks + Drop, E: Databases<B>>(
     alloc: Global,
@@ -222,9 +224,12 @@ fn words_fault(why: &io::Error) -> Fault
     }
 }
 
-/// The program, whose exit status it answers. `words` are those after its name, or why one of them could not be read. Without words it
-/// answers the script that the reader has, over empty books in memory, with codes from a seed of 32 zero bytes. With words it carries
-/// out what they ask for, over the surroundings `around`. A fault is told to `faults`; where that goes wrong, nobody hears of it.
+/// The program, whose exit status it answers. `words` are those after its name, or why one of them could not be read.
+/// Without words it
+/// answers the script that the reader has, over empty books in memory, with codes from a seed of 32 zero bytes. With
+/// words it carries
+/// out what they ask for, over the surroundings `around`. A fault is told to `faults`; where that goes wrong, nobody
+/// hears of it.
 pub fn run_program<I: Read, W: Write, F: FaultSink, B: Walks + Drop, E: Databases<B>>(
     alloc: Global,
     words: io::Result<Vec<String>>,

@@ -1,11 +1,13 @@
 //! Scripts: lines of commands and lists, each answered before the next.
 
 ghost use Rattle.std.specs.Prelude.{◌≡◌, ℕ, true, List, ◌≤◌, ◌<◌, length, take, IfSome, IfOk, IsErrOf, OnOk, OnErr};
-ghost use Rattle.hotel_core.specs.Books.Happens.{HappensBy};
+ghost use Rattle.hotel_core.specs.Books.Happens.{HappensBy, Passes};
 ghost use Rattle.hotel_lists.specs.Calls.{NoneForgotten};
 ghost use Rattle.hotel_program.specs.declared.script.ScriptFault.TheVariants.{TooLarge};
 ghost use Rattle.hotel_program.specs.Script.Lines.{answered_lines};
-ghost use Rattle.hotel_program.specs.Script.WholeScript.{ScriptAnswered, ScriptCut, IsInput, IfCut, IfUnbegun, NothingBegun, fault_of};
+ghost use Rattle.hotel_program.specs.Script.WholeScript.{IfCut, IfUnbegun, IsInput, NothingBegun, ScriptAnswered};
+ghost use Rattle.hotel_program.specs.Script.WholeScript.{ScriptCut};
+ghost use Rattle.hotel_program.specs.Script.WholeScript.{LineHappens, LinesCut, LinesPass, fault_of};
 
 mod asks;
 mod line_answers;
@@ -78,6 +80,10 @@ fn answer_lines<W: Write, B: Walks, R: Rng>(
     ensures cut { IfCut result (λ done. (1 ≤ done) × (done ≤ length (answered_lines script.now))
         × HappensBy B.Issued B.rows books.old (ScriptCut (take done (answered_lines script.now))
         (R.stream source.old) (R.stream source.new) (W.contents writer.old) (W.contents writer.new)) books.new) }
+    ensures through { OnOk result (Passes (LineHappens B.Issued B.rows R.stream W.contents)
+        (books.old, source.old, writer.old) (answered_lines script.now) (books.new, source.new, writer.new)) }
+    ensures through_cut { IfCut result (λ done. LinesCut B.Issued B.rows R.stream W.contents
+        (books.old, source.old, writer.old) (take done (answered_lines script.now)) (books.new, source.new, writer.new)) }
     ensures sure { IfUnbegun result ⊥ }
     ensures failed { OnErr result (calls.new.write_failed ≡ true) }
     ensures calls { NoneForgotten calls.old calls.new }
@@ -117,6 +123,8 @@ pub fn run_script<I: Read, W: Write, B: Walks, R: Rng>(
         × (done ≤ length (answered_lines script))
         × HappensBy B.Issued B.rows books.old (ScriptCut (take done (answered_lines script))
         (R.stream source.old) (R.stream source.new) (W.contents writer.old) (W.contents writer.new)) books.new) }
+    ensures through { LinesPass B.Issued B.rows R.stream W.contents (I.remaining reader.old) result
+        (books.old, source.old, writer.old) (books.new, source.new, writer.new) }
     ensures unbegun { IfUnbegun result (NothingBegun books.old books.new source.old source.new writer.old writer.new) }
     ensures large { IsErrOf result TooLarge → IfSome (I.remaining reader.old) (λ input. 1048576 < length input) }
 {

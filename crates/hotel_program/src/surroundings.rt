@@ -6,7 +6,8 @@ use std::alloc::Global;
 use std::net::TcpListener;
 use std::time::Clock;
 
-/// What is around the program. What it holds is not known to contracts: they say what was asked of it, and in which order.
+/// What is around the program. What it holds is not known to contracts: they say what was asked of it, and in which
+/// order.
 pub trait Surroundings: Clock {
     ghost use Rattle.std.specs.Prelude.{ℕ, List, Option, Result, IfErr, option_map};
     ghost use Rattle.std.specs.Result.{result_map_both};

@@ -1,5 +1,6 @@
 -- The answer to a list, as it is written.
-use Rattle.std.proofs.Common.{◌≡◌, ◌∙◌, ℕ, ◌-◌, Bool, true, false, ◌||◌, List, [], ◌∷◌, ◌++◌, length, drop, arith, length-append, refl, sym, ap, subst, Option, Some, None, Result, Ok, Err, inl, inr}
+use Rattle.std.proofs.Common.{◌≡◌, ◌∙◌, ℕ, ◌-◌, Bool, true, false, ◌||◌, List, [], ◌∷◌, ◌++◌, length, drop, arith}
+use Rattle.std.proofs.Common.{length-append, refl, sym, ap, subst, Option, Some, None, Result, Ok, Err, inl, inr}
 use Rattle.std.proofs.Math.Seq.{drop-append_seam}
 use Rattle.std.specs.Prelude.{OnOk, OnErr, bytes_eq}
 use Rattle.std.specs.Io.KnownBytes.{Appends}
@@ -22,7 +23,8 @@ use Rattle.hotel_lists.specs.Lines.{LooksAt, Vouches}
 use Rattle.hotel_lists.specs.declared.fault.ListFault.{ListFault}
 use Rattle.hotel_lists.specs.declared.fault.ListFault.TheVariants as fault
 use Rattle.hotel_lists.specs.Listings.{Listing, ListEnds}
-use Rattle.hotel_program.specs.Script.ListAnswers.{refusal_text, told_refusal, failure_of, ends_by, tells_failure, AnswersList, ListAnswered}
+use Rattle.hotel_program.specs.Script.ListAnswers.{refusal_text, told_refusal, failure_of, ends_by, tells_failure}
+use Rattle.hotel_program.specs.Script.ListAnswers.{AnswersList, ListAnswered}
 use Rattle.hotel_program.proofs.OfScript.ScriptLemmas.{appends_front}
 
 -- the failures that the books counted where a list ended by a fault

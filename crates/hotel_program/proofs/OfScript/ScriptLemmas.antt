@@ -1,5 +1,7 @@
 -- Lines of a script, answered one after the other.
-use Rattle.std.proofs.Common.{◌≡◌, ℕ, Bool, zero, suc, ◌+◌, ◌≤◌, List, [], ◌∷◌, ◌++◌, length, take, drop, arith, refl, sym, ap, subst, ◌∙◌, append_assoc, append-nil, length-append, take-append-drop, add-one, Option, Some, None, false, Result, Ok, Err}
+use Rattle.std.proofs.Common.{◌≡◌, ℕ, Bool, zero, suc, ◌+◌, ◌≤◌, List, [], ◌∷◌, ◌++◌, length, take, drop, arith, refl}
+use Rattle.std.proofs.Common.{sym, ap, subst, ◌∙◌, append_assoc, append-nil, length-append, take-append-drop, add-one}
+use Rattle.std.proofs.Common.{Option, Some, None, false, Result, Ok, Err}
 use Rattle.std.proofs.Math.Seq.{take-append-add}
 use Rattle.std.proofs.lemmas.List.{length-drop}
 use Rattle.std.specs.List.{concat}
@@ -9,8 +11,8 @@ use Rattle.std.proofs.KnownBytes.{Appends-trans, Appends-nil}
 use Rattle.keycard_rules.specs.declared.issued.Issued.{Ghosts as IssuedOf}
 use Rattle.rand_core.specs.Stream.{Stream}
 use Rattle.keycard_rules.proofs.Drawing.{past-zero}
-use Rattle.hotel_core.proofs.OfCode.Happens.{idle_by, then_by}
-use Rattle.hotel_core.specs.Books.Happens.{HappensBy}
+use Rattle.hotel_core.proofs.OfCode.Happens.{idle_by, passes_push, then_by}
+use Rattle.hotel_core.specs.Books.Happens.{HappensBy, Passes}
 use Rattle.hotel_asks.specs.declared.asks.Ask.{Ask}
 use Rattle.hotel_asks.specs.declared.asks.Ask.TheVariants as ask
 use Rattle.hotel_model.specs.declared.reply.Reply.TheVariants.{Refused}
@@ -24,7 +26,8 @@ use Rattle.hotel_core.specs.Texts.{reply_text}
 use Rattle.hotel_lists.specs.{Bytes.AppendsFront, declared.calls.WriteFailed.WriteFailed}
 use Rattle.hotel_program.specs.Script.Lines.{lines, without_return, is_silent, answered_lines}
 use Rattle.hotel_program.specs.Script.LineAnswers.{AskEnds, AskGoes, LineGoes, Sure, answered_to}
-use Rattle.hotel_program.specs.Script.WholeScript.{ScriptGoes, ScriptAnswered, ScriptCut, IfCut, answers_to}
+use Rattle.hotel_program.specs.Script.WholeScript.{ScriptGoes, ScriptAnswered, ScriptCut, LineHappens, LinesCut}
+use Rattle.hotel_program.specs.Script.WholeScript.{LinesPass, IsInput, IfCut, answers_to}
 use Rattle.hotel_program.specs.declared.script.ScriptEnd.{ScriptEnd}
 use Rattle.hotel_program.specs.declared.script.ScriptFault.{ScriptFault}
 use Rattle.hotel_program.specs.declared.script.ScriptFault.TheVariants.{Read, TooLarge, Write}
@@ -162,6 +165,33 @@ pub none_answered : {S : Type 0} (I : IssuedOf S) (rows : S → Rows) (a : S) (s
 unfolding ScriptGoes answers_to
 none_answered I rows a s known = idle_by I rows a (ScriptAnswered [] s s known known) (λ kept told h none. ([], [], (refl, refl, refl), Appends-nil known, none))
 
+-- one line is all that is answered
+one_answered : {S : Type 0} {I : IssuedOf S} {rows : S → Rows} {a b : S} (s t : Stream) (line : List ℕ) (old new : Option (List ℕ))
+    → HappensBy I rows a (AskEnds (ask_in line) s t old new (Ok tt)) b → HappensBy I rows a (ScriptAnswered (line ∷ []) s t old new) b
+one_answered {I = I} {rows = rows} {a = a} s t line old new = answered_next s s t (line ∷ []) 0 line [] old old new (none_answered I rows a s old) refl
+
+-- one line is cut short
+one_cut : {S : Type 0} {I : IssuedOf S} {rows : S → Rows} {a b : S} (s t : Stream) (line : List ℕ) (old new : Option (List ℕ)) (failed : WriteFailed)
+    → HappensBy I rows a (AskEnds (ask_in line) s t old new (Err failed)) b → HappensBy I rows a (ScriptCut (line ∷ []) s t old new) b
+one_cut {I = I} {rows = rows} {a = a} s t line old new failed = cut_next s s t (line ∷ []) 0 line [] old old new failed (none_answered I rows a s old) refl
+
+-- one more line is answered, in the state that those before it left
+pub passes_next : {S R W : Type 0} (I : IssuedOf S) (rows : S → Rows) (stream : R → Stream) (contents : W → Option (List ℕ)) (all : List (List ℕ)) (done : ℕ) (line : List ℕ) (later : List (List ℕ)) (old mid new : S × R × W)
+    → Passes (LineHappens I rows stream contents) old (take done all) mid → drop done all ≡ line ∷ later
+    → HappensBy I rows mid.0 (AskEnds (ask_in line) (stream mid.1) (stream new.1) (contents mid.2) (contents new.2) (Ok tt)) new.0
+    → Passes (LineHappens I rows stream contents) old (take (done + 1) all) new
+passes_next I rows stream contents all done line later old mid new before e next =
+    subst (λ (ls : List (List ℕ)). Passes (LineHappens I rows stream contents) old ls new) (sym (next_line all done line later e).2)
+    (passes_push (LineHappens I rows stream contents) old (take done all) before (one_answered (stream mid.1) (stream new.1) line (contents mid.2) (contents new.2) next))
+
+-- the next line is cut short, in the state that those before it left
+pub passes_cut : {S R W : Type 0} (I : IssuedOf S) (rows : S → Rows) (stream : R → Stream) (contents : W → Option (List ℕ)) (all : List (List ℕ)) (done : ℕ) (line : List ℕ) (later : List (List ℕ)) (old mid new : S × R × W) (failed : WriteFailed)
+    → Passes (LineHappens I rows stream contents) old (take done all) mid → drop done all ≡ line ∷ later
+    → HappensBy I rows mid.0 (AskEnds (ask_in line) (stream mid.1) (stream new.1) (contents mid.2) (contents new.2) (Err failed)) new.0
+    → LinesCut I rows stream contents old (take (done + 1) all) new
+passes_cut I rows stream contents all done line later old mid new failed before e next =
+    (take done all, line, (next_line all done line later e).2, mid, before, one_cut (stream mid.1) (stream new.1) line (contents mid.2) (contents new.2) failed next)
+
 -- bytes, and then a front of some more
 pub appends_front : (a b c : Option (List ℕ)) (output text : List ℕ) → AppendsFront b c text → Appends a b output → AppendsFront a c (output ++ text)
 appends_front a b c output text (n, within, next) first =
@@ -187,3 +217,14 @@ pub if_answered : {Led : Type 0} (r : Result ScriptEnd ScriptFault) (P Q : Scrip
     → ((end : ScriptEnd) → P end → Led → Q end) → IfOk r P → OnOk r Led → IfOk r Q
 if_answered (Ok end) P Q f p led = f end p led
 if_answered (Err fault) P Q f p led = tt
+
+-- lines that passed so are those of the script that was read
+pub lines_pass : {S R W : Type 0} (I : IssuedOf S) (rows : S → Rows) (stream : R → Stream) (contents : W → Option (List ℕ)) (known : Option (List ℕ)) (script : List ℕ) (r : Result ScriptEnd ScriptFault) (old new : S × R × W)
+    → IsInput known script → IfOk r (λ end. end.lines ≡ length (answered_lines script)) → OnOk r (Passes (LineHappens I rows stream contents) old (answered_lines script) new)
+    → IfCut r (λ done. done ≤ length (answered_lines script)) → IfCut r (λ done. LinesCut I rows stream contents old (take done (answered_lines script)) new)
+    → LinesPass I rows stream contents known r old new
+lines_pass I rows stream contents known script (Ok end) old new input count went within cut = (script, input, count, went)
+lines_pass I rows stream contents known script (Err (Write done)) old new input count went within cut = (script, input, within, cut)
+lines_pass I rows stream contents known script (Err Read) old new input count went within cut = tt
+lines_pass I rows stream contents known script (Err TooLarge) old new input count went within cut = tt
+lines_pass I rows stream contents known script (Err no.Memory) old new input count went within cut = tt

@@ -3,7 +3,8 @@ use Rattle.std.proofs.Common.{◌≡◌, ℕ, suc, ◌+◌, ◌==◌, List, [], 
 use Rattle.std.proofs.lemmas.Bool.{cases_Bool}
 use Rattle.std.proofs.lemmas.Bool.Decides.{nat_tests}
 use Rattle.std.specs.List.{prefix_len, position_or_len}
-use Rattle.hotel_program.specs.Script.Words.{words, next_word, words_from, trimmed_start, first_word, after_word, with_first}
+use Rattle.hotel_program.specs.Script.Words.{words, next_word, words_from, trimmed_start, first_word, after_word}
+use Rattle.hotel_program.specs.Script.Words.{with_first}
 
 spaces-skip : (b : ℕ) (rest : List ℕ) → (b == 32) ≡ true → trimmed_start (b ∷ rest) ≡ trimmed_start rest
 unfolding trimmed_start

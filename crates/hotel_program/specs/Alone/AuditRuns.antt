@@ -40,19 +40,22 @@ import_fault (File why) = file_fault why
 import_fault (Memory answered taken) = fault.Stopped answered look.Memory
 import_fault (Store answered taken) = fault.Stopped answered look.Store
 
--- The exit status of an import with these answers or this fault, or the fault that is told: also where a write of its answers failed.
+-- The exit status of an import with these answers or this fault, or the fault that is told: also where a write of its
+-- answers failed.
 abbrev pub audit_end : Result (List LineAnswer) ImportFault → Bool → Result ℕ Fault
 audit_end (Ok answers) false = Ok (answers_status answers)
 audit_end (Ok answers) true = Err fault.Write
 audit_end (Err why) write_failed = Err (import_fault why)
 
--- What a writer took of an import: the texts of its answers, a line each; a front of them where a write failed; nothing where it has no answers.
+-- What a writer took of an import: the texts of its answers, a line each; a front of them where a write failed; nothing
+-- where it has no answers.
 abbrev pub WritesAnswers : {W : Type 0} → (W → Option (List ℕ)) → W → W → Result (List LineAnswer) ImportFault → Bool → Type 0
 WritesAnswers contents old new (Ok answers) false = Appends (contents old) (contents new) (answers_text 1 answers)
 WritesAnswers contents old new (Ok answers) true = AppendsFront (contents old) (contents new) (answers_text 1 answers)
 WritesAnswers contents old new (Err why) write_failed = new ≡ old
 
--- An import of the file ended so: the books went by its lines, all of them or those before a fault, or are as they were where it is none; a failure of the store, or of memory after the first line, was counted.
+-- An import of the file ended so: the books went by its lines, all of them or those before a fault, or are as they were
+-- where it is none; a failure of the store, or of memory after the first line, was counted.
 pub record ImportEnds {B : Type 0} (I : IssuedOf B) (rows : B → Rows) (bytes : List ℕ) (old new : B) (outcome : Result (List LineAnswer) ImportFault) : Type 0 where
   pub went : Imports I rows (audit_lines bytes) old new outcome
   pub no_file : IfErr outcome (λ fault. (why : AuditFault) → fault ≡ File why → new ≡ old)

@@ -23,6 +23,7 @@ abbrev pub WritesReply : Option (List ℕ) → Option (List ℕ) → Reply → B
 WritesReply old new reply false = Appends old new (reply_text reply)
 WritesReply old new reply true = AppendsFront old new (reply_text reply)
 
--- The books took one step of the model by the command, with the reply, whose failure was counted, and which vouches for them where it is none.
+-- The books took one step of the model by the command, with the reply, whose failure was counted, and which vouches for
+-- them where it is none.
 abbrev pub CommandEnds : {B : Type 0} → IssuedOf B → (B → Rows) → Command → Reply → B → B → Stream → Stream → Type 0
 CommandEnds I rows command reply old new source later = Happens I rows old (StepTold source command reply later) new

@@ -1,5 +1,6 @@
 -- What a script's line asks for.
-use Rattle.std.specs.Prelude.{◌≡◌, ℕ, zero, suc, Bool, true, List, [], ◌∷◌, if◌then◌else◌, Option, Some, None, Result, Ok, Err}
+use Rattle.std.specs.Prelude.{◌≡◌, ℕ, zero, suc, Bool, true, List, [], ◌∷◌, if◌then◌else◌, Option, Some, None, Result}
+use Rattle.std.specs.Prelude.{Ok, Err}
 use Rattle.hotel_asks.specs.declared.asks.Ask.{Ask}
 use Rattle.hotel_asks.specs.declared.values.ValueFault.{ValueFault}
 use Rattle.hotel_asks.specs.declared.verbs.Verb.{Verb}
@@ -21,7 +22,8 @@ abbrev pub words_and_rest : ℕ → List ℕ → List (List ℕ)
 words_and_rest zero text = trimmed text ∷ []
 words_and_rest (suc n) text = with_word (next_word text) (λ later. words_and_rest n later)
 
--- The values that a line has after its verb: its words, but of a reservation three words and the rest of the line, which is the guest.
+-- The values that a line has after its verb: its words, but of a reservation three words and the rest of the line,
+-- which is the guest.
 abbrev pub values_after : Verb → List ℕ → List (List ℕ)
 values_after Reserve text = words_and_rest 3 text
 values_after _ text = words text
@@ -50,7 +52,8 @@ abbrev pub AsksCopy : {A : Type 0} → (A → Bool) → Option A → Type 0
 AsksCopy copied None = ⊥
 AsksCopy copied (Some given) = copied given ≡ true
 
--- A line is read as wanted: what it asks for, or that it is unread, or that there was no memory to copy a text of what it asks for.
+-- A line is read as wanted: what it asks for, or that it is unread, or that there was no memory to copy a text of what
+-- it asks for.
 abbrev pub IsLineRead : {A : Type 0} → (A → Bool) → Option A → Result A LineFault → Type 0
 IsLineRead copied wanted (Ok given) = Some given ≡ wanted
 IsLineRead copied wanted (Err Unread) = None ≡ wanted

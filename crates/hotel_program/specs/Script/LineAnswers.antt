@@ -1,5 +1,6 @@
 -- What a script's line comes to.
-use Rattle.std.specs.Prelude.{◌≡◌, ℕ, Bool, true, false, not, List, [], ◌∷◌, ◌++◌, Option, Some, None, codes, Result, Ok, Err}
+use Rattle.std.specs.Prelude.{◌≡◌, ℕ, Bool, true, false, not, List, [], ◌∷◌, ◌++◌, Option, Some, None, codes, Result}
+use Rattle.std.specs.Prelude.{Ok, Err}
 use Rattle.std.specs.Io.KnownBytes.{Appends}
 use Rattle.rand_core.specs.Stream.{Stream}
 use Rattle.hotel_model.specs.declared.reply.Reply.{Reply}
@@ -27,7 +28,9 @@ abbrev pub answer_text : ScriptAnswer → List ℕ
 answer_text (Replied reply) = reply_text reply
 answer_text Unread = unread_text
 
--- What is asked goes with this answer and these failures, which the books counted: a command is a step that gives the reply of that text; a list is answered, surely where the condition holds of its text; and where nothing is asked the line is unread. Of the last two nothing happens.
+-- What is asked goes with this answer and these failures, which the books counted: a command is a step that gives the
+-- reply of that text; a list is answered, surely where the condition holds of its text; and where nothing is asked the
+-- line is unread. Of the last two nothing happens.
 abbrev pub AskGoes : (List ℕ → Type 0) → Option Ask → History → Stream → List ℕ → List Refusal → History → Stream → Type 0
 AskGoes sure (Some (ask.Command command)) h s text failed h' s' = (reply : Reply) × Steps h s command reply h' s' × (text ≡ reply_text reply) × (failed ≡ counted_in reply (copies command))
 AskGoes sure (Some (ask.List its_list)) h s text failed h' s' = (sure text → AnswersList (listing_over h its_list) text failed) × (h' ≡ h) × (s' ≡ s)
@@ -37,7 +40,8 @@ AskGoes sure None h s text failed h' s' = (text ≡ unread_text) × (failed ≡ 
 abbrev pub LineGoes : (List ℕ → Type 0) → History → Stream → List ℕ → List ℕ → List Refusal → History → Stream → Type 0
 LineGoes sure h s line text failed h' s' = AskGoes sure (ask_in line) h s text failed h' s'
 
--- how the books answered for what is asked, where this is the answer: not at all where nothing is asked, and they failed where it says so
+-- how the books answered for what is asked, where this is the answer: not at all where nothing is asked, and they
+-- failed where it says so
 abbrev pub answered_to : Option Ask → List ℕ → List Bool
 answered_to None text = []
 answered_to (Some wanted) text = not (tells_failure text) ∷ []

@@ -1,5 +1,6 @@
 -- The answer to a line that asks for a list.
-use Rattle.std.specs.Prelude.{◌≡◌, ◌⊎◌, ℕ, ◌-◌, Bool, true, ◌||◌, List, [], ◌++◌, length, drop, bytes_eq, Option, Some, None}
+use Rattle.std.specs.Prelude.{◌≡◌, ◌⊎◌, ℕ, ◌-◌, Bool, true, ◌||◌, List, [], ◌++◌, length, drop, bytes_eq, Option, Some}
+use Rattle.std.specs.Prelude.{None}
 use Rattle.hotel_model.specs.declared.reply.Reply.TheVariants.{Refused}
 use Rattle.hotel_model.specs.declared.reply.Refusal.{Refusal}
 use Rattle.hotel_model.specs.declared.reply.Refusal.TheVariants as refusal
@@ -14,7 +15,8 @@ use Rattle.hotel_lists.specs.Listings.{Listing, IsFront, in_full}
 abbrev pub refusal_text : Refusal → List ℕ
 refusal_text refusal = reply_text (Refused refusal)
 
--- The failures that the books counted where a list failed so. The memory of a row's text is the list's own: want of it isn't counted.
+-- The failures that the books counted where a list failed so. The memory of a row's text is the list's own: want of it
+-- isn't counted.
 abbrev pub failure_of : Refusal → List Refusal
 failure_of why = counted_in (Refused why) true
 

@@ -54,7 +54,8 @@ abbrev pub ScriptsRun : Type 0
 ScriptsRun = (sure : List ℕ → Bool) (h h' : History) (s s' : Stream) (lines texts : List (List ℕ)) (failed : List Refusal)
     → ScriptGoes (λ text. sure text ≡ true) h s lines texts failed h' s' → LinesRun h s lines texts failed h' s'
 
--- Where a line asks for a list, the lines before it are a run to some history, the list is answered over that history where that is sure, and the lines after it are a run from there.
+-- Where a line asks for a list, the lines before it are a run to some history, the list is answered over that history
+-- where that is sure, and the lines after it are a run from there.
 abbrev pub ListsBetween : Type 0
 ListsBetween = (sure : List ℕ → Bool) (h h' : History) (s s' : Stream) (before later : List (List ℕ)) (line : List ℕ) (its_list : ListAsk) (texts : List (List ℕ)) (failed : List Refusal)
     → ScriptGoes (λ text. sure text ≡ true) h s (before ++ line ∷ later) texts failed h' s' → ask_in line ≡ Some (ask.List its_list)

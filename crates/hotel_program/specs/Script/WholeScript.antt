@@ -1,11 +1,16 @@
 -- A script: its answered lines, one after the other.
-use Rattle.std.specs.Prelude.{◌≡◌, ◌≤◌, ℕ, Bool, false, length, take, List, [], ◌∷◌, ◌++◌, Option, IfSome, Result, Ok, Err, ⊤}
+use Rattle.std.specs.Prelude.{◌≡◌, ◌≤◌, ℕ, Bool, false, length, take, List, [], ◌∷◌, ◌++◌, Option, IfSome, Result, Ok}
+use Rattle.std.specs.Prelude.{Err, ⊤}
 use Rattle.std.specs.List.{concat}
 use Rattle.std.specs.Io.KnownBytes.{Appends}
 use Rattle.rand_core.specs.Stream.{Stream}
+use Rattle.keycard_rules.specs.declared.issued.Issued.{Ghosts as IssuedOf}
+use Rattle.hotel_core.specs.Books.Happens.{HappensBy, Passes}
 use Rattle.hotel_model.specs.declared.reply.Refusal.{Refusal}
 use Rattle.hotel_model.specs.History.{History}
+use Rattle.hotel_model.specs.Rows.{Rows}
 use Rattle.hotel_program.specs.Script.Asks.{ask_in}
+use Rattle.hotel_program.specs.Script.Lines.{answered_lines}
 use Rattle.hotel_program.specs.Script.LineAnswers.{LineGoes, Sure, answered_to}
 use Rattle.hotel_program.specs.declared.script.ScriptEnd.{ScriptEnd}
 use Rattle.hotel_program.specs.declared.script.ScriptFault.{ScriptFault}
@@ -28,16 +33,30 @@ answers_to (line ∷ lines) (text ∷ texts) = answered_to (ask_in line) text ++
 answers_to [] texts = []
 answers_to (line ∷ lines) [] = []
 
--- Lines were answered: they went, their answers were written whole, and this is told of their failures and how the books answered.
+-- Lines were answered: they went, their answers were written whole, and this is told of their failures and how the
+-- books answered.
 abbrev pub ScriptAnswered : List (List ℕ) → Stream → Stream → Option (List ℕ) → Option (List ℕ) → Type 0 → (List Refusal → List Bool → Type 0) → History → History → Type 0
 ScriptAnswered lines s s' old new kept told h h' =
     (texts : List (List ℕ)) × (failed : List Refusal) × ScriptGoes (Sure kept) h s lines texts failed h' s' × Appends old new (concat texts) × told failed (answers_to lines texts)
 
--- Lines were cut short at the last one: they went, and their answers were written whole, but for the last one, of which a front was written, and which vouches for nothing.
+-- Lines were cut short at the last one: they went, and their answers were written whole, but for the last one, of which
+-- a front was written, and which vouches for nothing.
 abbrev pub ScriptCut : List (List ℕ) → Stream → Stream → Option (List ℕ) → Option (List ℕ) → Type 0 → (List Refusal → List Bool → Type 0) → History → History → Type 0
 ScriptCut lines s s' old new kept told h h' =
     (texts : List (List ℕ)) × (last : List ℕ) × (failed : List Refusal) × ScriptGoes (λ text. kept) h s lines (texts ++ last ∷ []) failed h' s'
     × (n : ℕ) × (n ≤ length last) × Appends old new (concat texts ++ take n last) × told failed (answers_to lines texts ++ false ∷ [])
+
+-- A line was answered, by books, a source of words and a writer.
+abbrev pub LineHappens : {S R W : Type 0} → IssuedOf S → (S → Rows) → (R → Stream) → (W → Option (List ℕ)) → S × R × W → List ℕ → S × R × W → Type 0
+LineHappens I rows stream contents old line new =
+    HappensBy I rows old.0 (ScriptAnswered (line ∷ []) (stream old.1) (stream new.1) (contents old.2) (contents new.2)) new.0
+
+-- Lines were cut short at the last one: those before it were answered, each in its turn, and then of the last one's
+-- answer a front was written.
+abbrev pub LinesCut : {S R W : Type 0} → IssuedOf S → (S → Rows) → (R → Stream) → (W → Option (List ℕ)) → S × R × W → List (List ℕ) → S × R × W → Type 0
+LinesCut {S = S} {R = R} {W = W} I rows stream contents old lines new = (before : List (List ℕ)) × (last : List ℕ) × (lines ≡ before ++ last ∷ [])
+    × (mid : S × R × W) × Passes (LineHappens I rows stream contents) old before mid
+    × HappensBy I rows mid.0 (ScriptCut (last ∷ []) (stream mid.1) (stream new.1) (contents mid.2) (contents new.2)) new.0
 
 -- The script is what the reader had, where its bytes are known, and at most 1,048,576 bytes.
 abbrev pub IsInput : Option (List ℕ) → List ℕ → Type 0
@@ -47,6 +66,15 @@ IsInput known script = (length script ≤ 1048576) × IfSome known (λ input. sc
 abbrev pub IfCut : Result ScriptEnd ScriptFault → (ℕ → Type 0) → Type 0
 IfCut (Err (Write done)) P = P done
 IfCut _ P = ⊤
+
+-- The lines of a script that ended so were each answered in its turn; after a failed write, those that were carried
+-- out, cut short at the last one.
+abbrev pub LinesPass : {S R W : Type 0} → IssuedOf S → (S → Rows) → (R → Stream) → (W → Option (List ℕ)) → Option (List ℕ) → Result ScriptEnd ScriptFault → S × R × W → S × R × W → Type 0
+LinesPass I rows stream contents known (Ok end) old new = (script : List ℕ) × IsInput known script × (end.lines ≡ length (answered_lines script))
+    × Passes (LineHappens I rows stream contents) old (answered_lines script) new
+LinesPass I rows stream contents known (Err (Write done)) old new = (script : List ℕ) × IsInput known script × (done ≤ length (answered_lines script))
+    × LinesCut I rows stream contents old (take done (answered_lines script)) new
+LinesPass I rows stream contents known (Err fault) old new = ⊤
 
 -- Where the script was not read whole, and so no line was begun, this holds.
 abbrev pub IfUnbegun : Result ScriptEnd ScriptFault → Type 0 → Type 0

@@ -5,7 +5,8 @@ ghost use Rattle.hotel_lists.specs.Calls.{NoneForgotten};
 ghost use Rattle.hotel_audit.specs.declared.answer.LineAnswer.{LineAnswer};
 ghost use Rattle.hotel_audit.specs.declared.imports.ImportFault.{ImportFault};
 ghost use Rattle.hotel_program.specs.Faults.{end_status, IsOfFiles, Tells};
-ghost use Rattle.hotel_program.specs.Alone.AuditRuns.{answers_status, file_fault, import_fault, audit_end, WritesAnswers, ImportEnds};
+ghost use Rattle.hotel_program.specs.Alone.AuditRuns.{answers_status, file_fault, import_fault, audit_end};
+ghost use Rattle.hotel_program.specs.Alone.AuditRuns.{WritesAnswers, ImportEnds};
 
 use crate::faults::{Fault, FaultSink, finish};
 use crate::statuses::{DONE, REFUSED};

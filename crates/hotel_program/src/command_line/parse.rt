@@ -1,10 +1,13 @@
 //! From words to a plan.
 
-ghost use Rattle.std.specs.Prelude.{◌≡◌, ◌<◌, ◌^◌, ℕ, Some, None, Ok, Err, IfOk, IfErr, codes, option_map, string_bytes, map, true};
-ghost use Rattle.clap.specs.Words.{first_of, found_of, has_subcommand, rows_of, subcommand_rows_of, subcommand_of, matches_of, takes, kind_of};
+ghost use Rattle.std.specs.Prelude.{◌≡◌, ◌<◌, ◌^◌, ℕ, Some, None, Ok, Err, IfOk, IfErr, codes, option_map};
+ghost use Rattle.std.specs.Prelude.{string_bytes, map, true};
+ghost use Rattle.clap.specs.Words.{first_of, found_of, has_subcommand, rows_of, subcommand_rows_of, subcommand_of};
+ghost use Rattle.clap.specs.Words.{matches_of, takes, kind_of};
 ghost use Rattle.hotel_asks.specs.Names.{name_text};
 ghost use Rattle.hotel_program.specs.CommandLine.{desk};
-ghost use Rattle.hotel_program.specs.Plans.{text_in, texts_in, number_in, verb_act, serve_act, own_act, act_of, act_in, IsRead, IsRefusalOf, IsValueOrMemory, refused_value};
+ghost use Rattle.hotel_program.specs.Plans.{text_in, texts_in, number_in, verb_act, serve_act, own_act, act_of, act_in};
+ghost use Rattle.hotel_program.specs.Plans.{IsRead, IsRefusalOf, IsValueOrMemory, refused_value};
 
 use super::command::desk_command;
 use super::plan::{DeskAct, FileName, Plan, UsageFault};
@@ -170,7 +173,8 @@ fn plan(alloc: Global, matches: &ArgMatches) -> Result<Plan, UsageFault>
     Ok(Plan { db, seed_file, act })
 }
 
-/// The meaning of the words after the program's name: what `clap` finds in them, its values read from left to right. Help that was asked
+/// The meaning of the words after the program's name: what `clap` finds in them, its values read from left to right.
+/// Help that was asked
 /// for, and what `clap` says of words that it doesn't take, come as texts.
 pub fn parse_words(alloc: Global, words: &[String]) -> Result<Plan, UsageFault>
     ensures act { IfOk result (λ p. act_in (subcommand_of desk (map string_bytes words.now)) ≡ Some (Ok p.act)) }

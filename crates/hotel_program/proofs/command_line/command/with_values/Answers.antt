@@ -1,5 +1,6 @@
 -- One value more of a subcommand.
-use Rattle.std.proofs.Common.{arith, ◌≡◌, map, true, [], ℕ, ◌+◌, ◌<◌, take, ap, ap₂, ◌||◌, refl, ◌∙◌, List, ◌∷◌, ◌++◌, sym, length, get_or}
+use Rattle.std.proofs.Common.{arith, ◌≡◌, map, true, [], ℕ, ◌+◌, ◌<◌, take, ap, ap₂, ◌||◌, refl, ◌∙◌, List, ◌∷◌, ◌++◌}
+use Rattle.std.proofs.Common.{sym, length, get_or}
 use Rattle.std.proofs.lemmas.List.{map-append}
 use Rattle.std.proofs.lemmas.Grind.{take_at_read}
 use Rattle.clap.specs.Words.{rule_of, App, Rule, with_rule, Text, new_rule}

@@ -1,7 +1,8 @@
 use Rattle.std.proofs.Common.{◌≡◌, ◌-◌, ◌<◌, arith, length, get_or}
 use Rattle.hotel_program.proofs.OfScript.ReturnLemmas.{cr-at-end, no-cr}
 use Rattle.hotel_program.proofs.script.lines.without_return.Goals as goal
-use Rattle.hotel_program.proofs.script.lines.without_return.Goals.{else-len-gt0-via-then-len-gt0+else-line-len-eq13, else-len-gt0-via-else-len-gt0}
+use Rattle.hotel_program.proofs.script.lines.without_return.Goals.{else-len-gt0-via-then-len-gt0+else-line-len-eq13}
+use Rattle.hotel_program.proofs.script.lines.without_return.Goals.{else-len-gt0-via-else-len-gt0}
 
 pub returns-then-line-len-eq13 : goal.returns-then-line-len-eq13
 returns-then-line-len-eq13 c = cr-at-end c.args.line.now c.if-len-gt0.true c.if-line-len-eq13.true

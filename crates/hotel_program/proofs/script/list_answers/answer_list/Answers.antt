@@ -7,7 +7,8 @@ use Rattle.hotel_program.specs.Script.ListAnswers.{refusal_text}
 use Rattle.hotel_lists.specs.Listings.{ListEnds}
 use Rattle.hotel_asks.specs.Listings.{listing_on}
 use Rattle.hotel_program.proofs.OfScript.LineAnswerLemmas.{list_cut, list_ends}
-use Rattle.hotel_program.proofs.OfScript.ListAnswerLemmas.{refused_whole, refused_cut, whole_answered, cut_answered, when_ok, when_err}
+use Rattle.hotel_program.proofs.OfScript.ListAnswerLemmas.{refused_whole, refused_cut, whole_answered, cut_answered}
+use Rattle.hotel_program.proofs.OfScript.ListAnswerLemmas.{when_ok, when_err}
 use Rattle.hotel_program.proofs.script.list_answers.answer_list.Goals as goal
 
 pub returns-clause-went : goal.returns-clause-went
