@@ -6,6 +6,7 @@ usage: hostile.py [PROGRAM [RANDOM]]      (the built hotel_desk and 1,000,000 ra
 Each run has to end with a status and a fault that the desk names, and a database file has to be whole afterwards, or as it was. Prints
 what isn't so, and at last how many runs of each were as wanted. `.ci/bytes` cuts and damages each of them byte by byte.
 """
+import errno
 import pathlib
 import random
 import re
@@ -66,7 +67,9 @@ def answer_to(port, sent):
             client.shutdown(socket.SHUT_WR)
             while piece := client.recv(4096):
                 said += piece
-        except (BrokenPipeError, ConnectionResetError):
+        except OSError as fault:
+            if fault.errno not in (errno.EPIPE, errno.ECONNRESET, errno.ENOTCONN):
+                raise
             is_cut = True
     return said, is_cut
 

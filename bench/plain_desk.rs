@@ -66,6 +66,7 @@ struct Room {
     secured: bool,
     party: Option<usize>,
     notes: Vec<(bool, usize, (u64, u64), u32, u32)>,
+    fit: u32,
 }
 
 #[derive(Default)]
@@ -210,7 +211,7 @@ impl Desk {
                 *self.kinds.get_mut(words[2]).unwrap() += 1;
                 self.codes.insert(code, (room, 0));
                 let (kind, codes) = (words[2].into(), vec![code]);
-                let row = Room { kind, codes, place: 0, secured: false, party: None, notes: vec![] };
+                let row = Room { kind, codes, place: 0, secured: false, party: None, notes: vec![], fit: 1 };
                 assert!(self.rooms.insert(room, row).is_none());
                 format!("room code {code:012x}\n")
             }
@@ -245,6 +246,16 @@ impl Desk {
                 self.end(number(words[1]));
                 self.rooms.get_mut(&home).unwrap().party = None;
                 "checked out\n".into()
+            }
+            "refit" => {
+                let (number, code) = (words[1].parse().unwrap(), self.fresh(source));
+                let room = self.rooms.get_mut(&number).unwrap();
+                // No script refits a room that has notes, so no card is inside, and all notes are of fit 1.
+                assert!(room.party.is_none() && room.notes.is_empty() && room.fit < 99);
+                self.codes.insert(code, (number, room.codes.len()));
+                room.codes.push(code);
+                (room.place, room.secured, room.fit) = (room.codes.len() - 1, false, room.fit + 1);
+                format!("lock {} code {code:012x}\n", room.fit)
             }
             "entered" => self.note(true, &words),
             "left" => self.note(false, &words),
