@@ -23,5 +23,6 @@ returns g c =
       stop = asked.crash;
       counted = c.in_ok-ask.ensures.counted;
       fault = tt;
+      cause = λ _. tt;
       sure = λ never. absurd never;
     }
