@@ -49,6 +49,13 @@ pub passed : {R P Q : Type 0} (fault : LookFault) (result : Result R LookFault)
 passed fault (Ok answer) h more fails = tt
 passed fault (Err given) h more fails = λ store. more (of_store fault fails (sym h.1 ∙ store))
 
+-- or hands over what one answered
+pub handed : {R P : Type 0} (fault : LookFault) (result : Result R LookFault)
+    → IsErr result × IsErrAnd result (λ given. given ≡ fault) → (fault ≡ why.Store → P)
+    → IfErr result (λ given. given ≡ why.Store → P)
+handed fault (Ok answer) h fails = tt
+handed fault (Err given) h fails = λ store. fails (sym h.1 ∙ store)
+
 -- ---- changes
 
 module _ {S : Type 0} (g : Ghosts S) where

@@ -1,6 +1,6 @@
 -- What is counted beside the connection, and what a walk over it hands over, said of the books' rows.
 use Rattle.std.proofs.Common.{◌≡◌, ◌-◌, ℕ, List, Option, Some, Result, sym, ap, subst, ◌∙◌}
-use Rattle.std.specs.Prelude.{IfErr}
+use Rattle.std.specs.Prelude.{IfOk, IfErr}
 use Rattle.std.specs.Map.{values_of}
 use Rattle.sqlite.specs.Held.{Held}
 use Rattle.sqlite.specs.State.{State, HasCleanDisk}
@@ -78,3 +78,14 @@ module _ {S : Type 0} (shown : Held S → State) (inside self : Tabled S) (same 
         let fails = more (cause before (ap failure_of (sym is) ∙ failed)) in
         subst (λ (b : Tabled S). LookUpFails (shown b.conn) (shown new.conn)) same
         (subst (λ (c : Held S). LookUpFails (shown inside.conn) (shown c)) (sym at) fails)
+
+  -- what a look-up found, whose answer was counted
+  pub look_up_found : {R A : Type 0} (said : R → A) (wanted : Rows → A) (conn : Held S) (new : Tabled S) → new.conn ≡ conn
+      → (answer result : Result R LookFault) → result ≡ answer
+      → (IsKept (shown conn) → IfOk answer (λ a. said a ≡ wanted (rows_by inside))) → IsKept (shown new.conn)
+      → IfOk result (λ a. said a ≡ wanted (rows_by self))
+  look_up_found {R = R} said wanted conn new at answer result is found kept =
+      let here = found (subst (λ (c : Held S). IsKept (shown c)) at kept) in
+      let all : IfOk result (λ a. said a ≡ wanted (rows_by inside)) =
+      subst (λ (r : Result R LookFault). IfOk r (λ a. said a ≡ wanted (rows_by inside))) (sym is) here in
+      subst (λ (b : Tabled S). IfOk result (λ a. said a ≡ wanted (rows_by b))) same all

@@ -1,4 +1,5 @@
-use Rattle.std.proofs.Common.{◌≡◌, inl, inr, Err, ap, sym, ◌∙◌, subst, arith, rules}
+use Rattle.std.proofs.Common.{◌≡◌, inl, inr, Err, ap, sym, ◌∙◌, subst, arith}
+use Rattle.std.specs.Prelude.{IfErr}
 use Rattle.std.proofs.lemmas.Bool.{false≢true}
 use Rattle.sqlite.specs.Effect.{Database}
 use Rattle.sqlite.specs.Held.{state}
@@ -83,7 +84,11 @@ returns-in-Err-clause-applies g c =
 
 pub returns-in_err-ended-clause-cause : goal.returns-in_err-ended-clause-cause
 returns-in_err-ended-clause-cause g c =
-    search (rules, λ clean. passed _ c.from_residual.result c.from_residual.ensures inl (c.in_err-ended.ensures.cause clean))
+    let fails : HasCleanDisk (state g.S.Store c.ended_by.new.conn) → IfErr c.from_residual.result
+    (λ fault. fault ≡ why.Store → ChangeFails g.S.Store c.args.change.now c.self.inside.conn c.ended_by.new.conn) = λ clean.
+    passed _ c.from_residual.result c.from_residual.ensures inl (c.in_err-ended.ensures.cause clean) in
+    subst (λ (b : Tabled g.row.S.Denot). HasCleanDisk (state g.S.Store c.ended_by.new.conn) → IfErr c.from_residual.result
+    (λ fault. fault ≡ why.Store → ChangeFails g.S.Store c.args.change.now b.conn c.ended_by.new.conn)) c.self.view_is fails
 
 pub returns-in-Err-clause-cause : goal.returns-in-Err-clause-cause
 returns-in-Err-clause-cause g c =

@@ -4,6 +4,7 @@ use Rattle.sqlite.specs.Held.{state}
 use Rattle.hotel_model.specs.Refinement.Lookups.{first_full_on}
 use Rattle.hotel_statements.specs.Tables.{rows_in}
 use Rattle.hotel_tables.proofs.OverBooks.{night_found}
+use Rattle.hotel_tables.proofs.Causes.{handed}
 use Rattle.hotel_tables.proofs.table_books.books.TableBooksBooks.full_night.Goals as goal
 
 pub returns : goal.returns
@@ -26,3 +27,17 @@ returns g c =
       cause = λ _. tt;
       sure = λ never. absurd never;
     }
+
+pub returns-in_err-ask : goal.returns-in_err-ask
+returns-in_err-ask g c = record {
+  answer = search rules;
+  kept = search rules;
+  was_clean = search rules;
+  was_honest = search rules;
+  vouched = search rules;
+  stop = search rules;
+  counted = search rules;
+  fault = search rules;
+  cause = λ clean. handed _ c.from_residual.result c.from_residual.ensures (c.in_err-ask.ensures.cause clean);
+  sure = λ never. absurd never;
+}
