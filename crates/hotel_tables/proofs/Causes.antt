@@ -1,5 +1,6 @@
 -- Why a look-up, a walk or a change answers Store.
-use Rattle.std.proofs.Common.{◌≡◌, ◌≢◌, ◌⊎◌, inl, inr, true, refl, sym, ap, subst, ◌∙◌, List, Option, Some, None, Result, Ok, Err, OnOk, arith}
+use Rattle.std.proofs.Common.{◌≡◌, ◌≢◌, ◌⊎◌, inl, inr, true, refl, sym, ap, subst, ◌∙◌, List, Option, Some, None}
+use Rattle.std.proofs.Common.{Result, Ok, Err, OnOk, arith}
 use Rattle.std.specs.Prelude.{IfOk, IfErr}
 use Rattle.std.specs.Result.{IsErr, IsErrAnd}
 use Rattle.sqlite_trees.specs.declared.store.Store.{Ghosts}
@@ -35,7 +36,8 @@ pub looked : {R : Type 0} (Fails More : State → State → Type 0) (old new : S
     → result ≡ r → (Fails old new → More old new) → HasCause Fails old new r → HasCleanDisk new
     → IfErr result (λ fault. fault ≡ why.Store → More old new)
 looked {R = R} Fails More old new r result is more cause clean =
-    subst (λ (x : Result R LookFault). IfErr x (λ fault. fault ≡ why.Store → More old new)) (sym is) (go r (cause clean))
+    subst (λ (x : Result R LookFault). IfErr x (λ fault. fault ≡ why.Store → More old new)) (sym is) (go r (cause
+    clean))
   where
     go : (x : Result R LookFault) → IfErr x (λ fault. fault ≢ why.Memory → Fails old new)
         → IfErr x (λ fault. fault ≡ why.Store → More old new)
@@ -181,8 +183,10 @@ module _ {S : Type 0} (g : Ghosts S) where
   asked_then : {old mid new : Held S} → (mid ≡ old) ⊎ IsAsked g old mid → (new ≡ mid) ⊎ IsAsked g mid new
       → (new ≡ old) ⊎ IsAsked g old new
   asked_then (inl same) (inl more) = inl (more ∙ same)
-  asked_then {old = old} {mid = mid} {new = new} (inl same) (inr more) = inr (subst (λ (h : Held S). IsAsked g h new) same more)
-  asked_then {old = old} {mid = mid} {new = new} (inr asked) (inl more) = inr (subst (λ (h : Held S). IsAsked g old h) (sym more) asked)
+  asked_then {old = old} {mid = mid} {new = new} (inl same) (inr more) = inr (subst (λ (h : Held S). IsAsked g h new)
+      same more)
+  asked_then {old = old} {mid = mid} {new = new} (inr asked) (inl more) = inr (subst (λ (h : Held S). IsAsked g old
+      h) (sym more) asked)
   asked_then {old = old} {mid = mid} {new = new} (inr asked) (inr more) =
       let a = state g old in
       let b = state g mid in

@@ -50,7 +50,8 @@ module _ {S : Type 0} (shown : Held S → State) (inside self : Tabled S) (same 
   handed_over after after_stop list conn new sink end walked result at is h = (
     h.0,
     subst (λ (r : Result (Unit {0}) WalkFault). Hands after after_stop h.0 sink end r) (sym is) h.1,
-    λ clean. h.2 (subst (λ (c : Held S). HasCleanDisk (shown c)) at clean) ∙ ap (λ (b : Tabled S). list (rows_by b)) same,
+    λ clean. h.2 (subst (λ (c : Held S). HasCleanDisk (shown c)) at clean) ∙ ap (λ (b : Tabled S). list (rows_by b))
+        same,
   )
 
   module _ (Fails : State → State → Type 0) (conn : Held S) (new : Tabled S) (at : new.conn ≡ conn)
@@ -63,7 +64,8 @@ module _ {S : Type 0} (shown : Held S → State) (inside self : Tabled S) (same 
         let before = subst (λ (c : Held S). HasCleanDisk (shown c)) at clean in
         let all : IfErr result (λ fault. fault ≡ why.Store → LookUpFails (shown inside.conn) (shown conn)) =
         looked Fails LookUpFails (shown inside.conn) (shown conn) answer result is more cause before in
-        subst (λ (b : Tabled S). IfErr result (λ fault. fault ≡ why.Store → LookUpFails (shown b.conn) (shown new.conn)))
+        subst (λ (b : Tabled S). IfErr result (λ fault. fault ≡ why.Store → LookUpFails (shown b.conn) (shown
+        new.conn)))
         same
         (subst (λ (c : Held S). IfErr result (λ fault. fault ≡ why.Store → LookUpFails (shown inside.conn) (shown c)))
         (sym at) all)
@@ -80,7 +82,8 @@ module _ {S : Type 0} (shown : Held S → State) (inside self : Tabled S) (same 
         (subst (λ (c : Held S). LookUpFails (shown inside.conn) (shown c)) (sym at) fails)
 
   -- what a look-up found, whose answer was counted
-  pub look_up_found : {R A : Type 0} (said : R → A) (wanted : Rows → A) (conn : Held S) (new : Tabled S) → new.conn ≡ conn
+  pub look_up_found : {R A : Type 0} (said : R → A) (wanted : Rows → A) (conn : Held S) (new : Tabled S) → new.conn ≡
+      conn
       → (answer result : Result R LookFault) → result ≡ answer
       → (IsKept (shown conn) → IfOk answer (λ a. said a ≡ wanted (rows_by inside))) → IsKept (shown new.conn)
       → IfOk result (λ a. said a ≡ wanted (rows_by self))

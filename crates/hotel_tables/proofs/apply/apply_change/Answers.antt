@@ -26,7 +26,8 @@ returns-in_err-known-clause-cause g c = λ clean.
     passed _ c.from_residual.result c.from_residual.ensures inl (c.in_err-known.ensures.cause clean)
 
 pub returns-in_default-clause-cause : goal.returns-in_default-clause-cause
-returns-in_default-clause-cause g c = λ clean. absurd (false≢true (subst IsSome c.in_default.is (c.in_ok-known.ensures.there clean)))
+returns-in_default-clause-cause g c = λ clean. absurd (false≢true (subst IsSome c.in_default.is
+    (c.in_ok-known.ensures.there clean)))
 
 pub returns-in-Err-clause-cause : goal.returns-in-Err-clause-cause
 returns-in-Err-clause-cause g c = λ clean is.

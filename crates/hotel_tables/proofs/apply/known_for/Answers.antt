@@ -13,7 +13,8 @@ returns-in_default-clause-there g c = λ clean.
     let old = state g.S.Store c.args.conn.now in
     let looks = c.in_ok-known.ensures.looks in
     let none = ap (λ o. counted_on change (option_map told o)) c.in_default.is in
-    let kept = shows_open g.S.Store _ c.args.conn.now c.told_for.new.conn change none (c.in_ok-known.ensures.asks clean) clean in
+    let kept = shows_open g.S.Store _ c.args.conn.now c.told_for.new.conn change none (c.in_ok-known.ensures.asks
+    clean) clean in
     is_known_by change (rows_in old.now.trees) (c.requires.fits (looks.keeps kept).0) None
     (sym (looks.found kept) ∙ ap (option_map told) c.in_default.is)
 
@@ -22,7 +23,8 @@ returns-in_default-clause-known g c = λ clean.
     let change = c.args.change.now in
     let none = ap (λ o. counted_on change (option_map told o)) c.in_default.is in
     sym none
-    ∙ ap (counted_on change) (told_is g.S.Store _ c.args.conn.now c.told_for.new.conn clean change (c.in_ok-known.ensures.asks clean) c.in_ok-known.ensures.looks.found)
+    ∙ ap (counted_on change) (told_is g.S.Store _ c.args.conn.now c.told_for.new.conn clean change
+    (c.in_ok-known.ensures.asks clean) c.in_ok-known.ensures.looks.found)
 
 pub returns-in_default-clause-asked : goal.returns-in_default-clause-asked
 returns-in_default-clause-asked g c = λ clean.
@@ -37,7 +39,8 @@ returns-else-can_count-clause-there g c = λ clean.
     let cannot : can_count change known ≡ false = search rules in
     let none = ap (λ o. counted_on change (option_map told o)) c.in-Some.is
     ∙ ap (λ b. if b then Some known else None) cannot in
-    let kept = shows_open g.S.Store _ c.args.conn.now c.told_for.new.conn change none (c.in_ok-known.ensures.asks clean) clean in
+    let kept = shows_open g.S.Store _ c.args.conn.now c.told_for.new.conn change none (c.in_ok-known.ensures.asks
+    clean) clean in
     subst (λ b. IsSome (if b then Some known else None)) cannot
     (is_known_by change (rows_in old.now.trees) (c.requires.fits (looks.keeps kept).0) (Some known)
     (sym (looks.found kept) ∙ ap (option_map told) c.in-Some.is))
@@ -50,7 +53,8 @@ returns-else-can_count-clause-known g c = λ clean.
     let none = ap (λ o. counted_on change (option_map told o)) c.in-Some.is
     ∙ ap (λ b. if b then Some known else None) cannot in
     sym none
-    ∙ ap (counted_on change) (told_is g.S.Store _ c.args.conn.now c.told_for.new.conn clean change (c.in_ok-known.ensures.asks clean) c.in_ok-known.ensures.looks.found)
+    ∙ ap (counted_on change) (told_is g.S.Store _ c.args.conn.now c.told_for.new.conn clean change
+    (c.in_ok-known.ensures.asks clean) c.in_ok-known.ensures.looks.found)
 
 pub returns-else-can_count-clause-asked : goal.returns-else-can_count-clause-asked
 returns-else-can_count-clause-asked g c = λ clean.

@@ -21,13 +21,28 @@ pub returns : goal.returns
 returns g c =
     let old = state g.S.Store c.args.conn.now in
     let start = state g.S.Store c.transaction-tx.result.conn.now in
-    let begins : Begins old start = record { books = c.requires.books; begun = ap (state g.S.Store) c.transaction-tx.ensures.begun } in
+    let begins : Begins old start = record {
+      books = c.requires.books;
+      begun = ap (state g.S.Store)
+          c.transaction-tx.ensures.begun;
+    } in
     let zero : Survives old start (λ _. ⊥) = search rules in
     let it : Ends (made c.args.change.now) old (state g.S.Store c.commit.new.self.0) c.commit.result =
-    ended begins c.requires.fits c.in_ok-write_change.ensures.makes.rows c.commit.result zero c.commit.ensures.ended c.commit.ensures.ok c.commit.ensures.err c.commit.ensures.survives in
+    ended begins c.requires.fits c.in_ok-write_change.ensures.makes.rows c.commit.result zero c.commit.ensures.ended
+    c.commit.ensures.ok c.commit.ensures.err c.commit.ensures.survives in
     let failed : HasCleanDisk (state g.S.Store c.commit.new.self.0)
-    → IfErr c.commit.result (FailsToWrite g.S.Store (statements_of c.args.change.now (told c.args.known)) c.args.conn.now c.commit.new.self.0) =
+    → IfErr c.commit.result (FailsToWrite g.S.Store (statements_of c.args.change.now (told c.args.known))
+    c.args.conn.now c.commit.new.self.0) =
     not_committed g.S.Store c.args.conn.now c.transaction-tx.result.conn.now c.write_change.new.tx.conn.now
     c.commit.new.self.0 tt c.commit.result c.transaction-tx.ensures.begun c.in_ok-write_change.ensures.makes.runs
     c.commit.ensures.survives c.commit.ensures.err in
-    record { books = search (rules, it.books); was = search (rules, it.was); open_on = search (rules, it.open_on); made = search (rules, it.made); same = search (rules, it.same); crash = search (rules, it.crash); failed = search (rules, failed) }
+    record {
+      books = search (rules, it.books);
+      was = search (rules, it.was);
+      open_on = search (rules, it.open_on);
+      made = search (rules, it.made);
+      same = search (rules, it.same);
+      crash = search (rules, it.crash);
+      failed =
+          search (rules, failed);
+    }

@@ -6,6 +6,7 @@ use Rattle.hotel_tables.proofs.table_books.TableBooksIssued.is_issued.Goals as g
 
 pub returns-clause-cause : goal.returns-clause-cause
 returns-clause-cause g c =
-    look_up_failed (state g.S.Store) _ c.args.self.now c.self.view_is (CodeFails c.args.code) c.is_issued-issued.new.conn
+    look_up_failed (state g.S.Store) _ c.args.self.now c.self.view_is (CodeFails c.args.code)
+    c.is_issued-issued.new.conn
     c.counting.new.self c.counting.ensures.conn (of_code c.args.code) c.is_issued-issued.result c.counting.result
     c.counting.ensures.same c.is_issued-issued.ensures.cause

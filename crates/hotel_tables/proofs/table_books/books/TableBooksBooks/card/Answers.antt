@@ -18,8 +18,10 @@ returns g c = record {
   stop = search rules;
   counted = search rules;
   fault = search rules;
-  cause = look_up_failed (state g.S.Store) _ c.args.self.now c.self.view_is (CardFails c.args.number) c.card-card.new.conn
-      c.counting.new.self c.counting.ensures.conn (of_card c.args.number) c.card-card.result c.counting.result c.counting.ensures.same
+  cause = look_up_failed (state g.S.Store) _ c.args.self.now c.self.view_is (CardFails c.args.number)
+      c.card-card.new.conn
+      c.counting.new.self c.counting.ensures.conn (of_card c.args.number) c.card-card.result c.counting.result
+      c.counting.ensures.same
       c.card-card.ensures.cause;
   sure = λ never. absurd never;
 }

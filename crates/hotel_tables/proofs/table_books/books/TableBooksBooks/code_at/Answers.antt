@@ -15,8 +15,10 @@ returns g c = record {
   stop = search rules;
   counted = search rules;
   fault = search rules;
-  cause = look_up_failed (state g.S.Store) _ c.args.self.now c.self.view_is (CodeAtFails c.args.room c.args.place) c.code_at-code.new.conn
-      c.counting.new.self c.counting.ensures.conn (of_code_at c.args.room c.args.place) c.code_at-code.result c.counting.result c.counting.ensures.same
+  cause = look_up_failed (state g.S.Store) _ c.args.self.now c.self.view_is (CodeAtFails c.args.room c.args.place)
+      c.code_at-code.new.conn
+      c.counting.new.self c.counting.ensures.conn (of_code_at c.args.room c.args.place) c.code_at-code.result
+      c.counting.result c.counting.ensures.same
       c.code_at-code.ensures.cause;
   sure = λ never. absurd never;
 }

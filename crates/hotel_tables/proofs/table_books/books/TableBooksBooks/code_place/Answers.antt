@@ -18,8 +18,10 @@ returns g c = record {
   stop = search rules;
   counted = search rules;
   fault = search rules;
-  cause = look_up_failed (state g.S.Store) _ c.args.self.now c.self.view_is (CodeFails c.args.code) c.code-place.new.conn
-      c.counting.new.self c.counting.ensures.conn (of_code c.args.code) c.code-place.result c.counting.result c.counting.ensures.same
+  cause = look_up_failed (state g.S.Store) _ c.args.self.now c.self.view_is (CodeFails c.args.code)
+      c.code-place.new.conn
+      c.counting.new.self c.counting.ensures.conn (of_code c.args.code) c.code-place.result c.counting.result
+      c.counting.ensures.same
       c.code-place.ensures.cause;
   sure = λ never. absurd never;
 }

@@ -13,7 +13,8 @@ returns g c = record {
   vouched = search rules;
   stop = search rules;
   counted = λ why. omega (arith, c.in_ok-ask.ensures.counted why, c.counting.ensures.counted why);
-  fault = rw c.counting.ensures.same (IfErr-weaker _ _ _ (λ why risen. risen_later _ _ _ (c.in_ok-ask.ensures.counted why) risen (c.counting.ensures.counted why)) c.counting.ensures.risen);
+  fault = rw c.counting.ensures.same (IfErr-weaker _ _ _ (λ why risen. risen_later _ _ _ (c.in_ok-ask.ensures.counted
+      why) risen (c.counting.ensures.counted why)) c.counting.ensures.risen);
   cause = search rules;
   sure = λ never. absurd never;
 }

@@ -18,8 +18,10 @@ returns g c = record {
   stop = search rules;
   counted = search rules;
   fault = search rules;
-  cause = look_up_failed (state g.S.Store) _ c.args.self.now c.self.view_is (FitFails c.args.room c.args.fit) c.fit-row.new.conn
-      c.counting.new.self c.counting.ensures.conn (of_fit c.args.room c.args.fit) c.fit-row.result c.counting.result c.counting.ensures.same
+  cause = look_up_failed (state g.S.Store) _ c.args.self.now c.self.view_is (FitFails c.args.room c.args.fit)
+      c.fit-row.new.conn
+      c.counting.new.self c.counting.ensures.conn (of_fit c.args.room c.args.fit) c.fit-row.result c.counting.result
+      c.counting.ensures.same
       c.fit-row.ensures.cause;
   sure = λ never. absurd never;
 }

@@ -15,7 +15,8 @@ returns g c =
           night_found (state g.S.Store) _ c.ask.new.self c.self.view_is c.args.kind.now c.rooms-rooms.result
           c.args.arrive c.args.depart c.full_night.result c.self.invariant.counted c.rooms-rooms.ensures
           c.full_night.ensures kept
-          ∙ ap (λ (d : Database). first_full_on (rows_in d.trees) c.args.kind.now c.args.arrive (c.args.depart - c.args.arrive))
+          ∙ ap (λ (d : Database). first_full_on (rows_in d.trees) c.args.kind.now c.args.arrive (c.args.depart -
+          c.args.arrive))
           (asked.keeps kept).1;
       kept = λ kept. ap (λ (d : Database). rows_in d.trees) (asked.keeps kept).1;
       was_clean = λ kept. (asked.keeps kept).0;

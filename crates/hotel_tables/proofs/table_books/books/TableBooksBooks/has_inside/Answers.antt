@@ -15,8 +15,10 @@ returns g c = record {
   stop = search rules;
   counted = search rules;
   fault = search rules;
-  cause = look_up_failed (state g.S.Store) _ c.args.self.now c.self.view_is (HasInsideFails c.args.room) c.has_inside-any.new.conn
-      c.counting.new.self c.counting.ensures.conn (of_has_inside c.args.room) c.has_inside-any.result c.counting.result c.counting.ensures.same
+  cause = look_up_failed (state g.S.Store) _ c.args.self.now c.self.view_is (HasInsideFails c.args.room)
+      c.has_inside-any.new.conn
+      c.counting.new.self c.counting.ensures.conn (of_has_inside c.args.room) c.has_inside-any.result
+      c.counting.result c.counting.ensures.same
       c.has_inside-any.ensures.cause;
   sure = λ never. absurd never;
 }

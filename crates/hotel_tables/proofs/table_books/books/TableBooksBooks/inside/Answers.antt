@@ -15,8 +15,10 @@ returns g c = record {
   stop = search rules;
   counted = search rules;
   fault = search rules;
-  cause = look_up_failed (state g.S.Store) _ c.args.self.now c.self.view_is (InsideFails c.args.room) c.inside-numbers.new.conn
-      c.counting.new.self c.counting.ensures.conn (of_inside c.args.room) c.inside-numbers.result c.counting.result c.counting.ensures.same
+  cause = look_up_failed (state g.S.Store) _ c.args.self.now c.self.view_is (InsideFails c.args.room)
+      c.inside-numbers.new.conn
+      c.counting.new.self c.counting.ensures.conn (of_inside c.args.room) c.inside-numbers.result c.counting.result
+      c.counting.ensures.same
       c.inside-numbers.ensures.cause;
   sure = λ never. absurd never;
 }

@@ -15,8 +15,10 @@ returns g c = record {
   stop = search rules;
   counted = search rules;
   fault = search rules;
-  cause = look_up_failed (state g.S.Store) _ c.args.self.now c.self.view_is (IsInsideFails c.args.room c.args.number) c.is_inside-inside.new.conn
-      c.counting.new.self c.counting.ensures.conn (of_is_inside c.args.room c.args.number) c.is_inside-inside.result c.counting.result c.counting.ensures.same
+  cause = look_up_failed (state g.S.Store) _ c.args.self.now c.self.view_is (IsInsideFails c.args.room c.args.number)
+      c.is_inside-inside.new.conn
+      c.counting.new.self c.counting.ensures.conn (of_is_inside c.args.room c.args.number) c.is_inside-inside.result
+      c.counting.result c.counting.ensures.same
       c.is_inside-inside.ensures.cause;
   sure = λ never. absurd never;
 }

@@ -15,8 +15,10 @@ returns g c = record {
   stop = search rules;
   counted = search rules;
   fault = search rules;
-  cause = look_up_failed (state g.S.Store) _ c.args.self.now c.self.view_is (KindFails c.args.kind.now) c.kind-there.new.conn
-      c.counting.new.self c.counting.ensures.conn (of_kind c.args.kind.now) c.kind-there.result c.counting.result c.counting.ensures.same
+  cause = look_up_failed (state g.S.Store) _ c.args.self.now c.self.view_is (KindFails c.args.kind.now)
+      c.kind-there.new.conn
+      c.counting.new.self c.counting.ensures.conn (of_kind c.args.kind.now) c.kind-there.result c.counting.result
+      c.counting.ensures.same
       c.kind-there.ensures.cause;
   sure = λ never. absurd never;
 }

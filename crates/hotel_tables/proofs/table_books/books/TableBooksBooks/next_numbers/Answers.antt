@@ -16,7 +16,8 @@ returns g c = record {
   counted = search rules;
   fault = search rules;
   cause = look_up_failed (state g.S.Store) _ c.args.self.now c.self.view_is NumbersFail c.next_numbers-numbers.new.conn
-      c.counting.new.self c.counting.ensures.conn of_numbers c.next_numbers-numbers.result c.counting.result c.counting.ensures.same
+      c.counting.new.self c.counting.ensures.conn of_numbers c.next_numbers-numbers.result c.counting.result
+      c.counting.ensures.same
       c.next_numbers-numbers.ensures.cause;
   sure = λ never. absurd never;
 }

@@ -9,7 +9,8 @@ use Rattle.hotel_tables.proofs.table_books.books.TableBooksBooks.note.Goals as g
 pub returns : goal.returns
 returns g c = record {
   answer = look_up_found (state g.S.Store) _ c.args.self.now c.self.view_is (λ a. a)
-      (λ rows. note_at rows c.args.room c.args.fit c.args.count) c.note-note.new.conn c.counting.new.self c.counting.ensures.conn
+      (λ rows. note_at rows c.args.room c.args.fit c.args.count) c.note-note.new.conn c.counting.new.self
+      c.counting.ensures.conn
       c.note-note.result c.counting.result c.counting.ensures.same c.note-note.ensures.found;
   kept = search rules;
   was_clean = search rules;
@@ -19,7 +20,8 @@ returns g c = record {
   counted = search rules;
   fault = search rules;
   cause = look_up_failed (state g.S.Store) _ c.args.self.now c.self.view_is (NoteFails c.args.room) c.note-note.new.conn
-      c.counting.new.self c.counting.ensures.conn (of_note c.args.room) c.note-note.result c.counting.result c.counting.ensures.same
+      c.counting.new.self c.counting.ensures.conn (of_note c.args.room) c.note-note.result c.counting.result
+      c.counting.ensures.same
       c.note-note.ensures.cause;
   sure = λ never. absurd never;
 }

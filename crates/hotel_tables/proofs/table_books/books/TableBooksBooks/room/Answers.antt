@@ -19,7 +19,8 @@ returns g c = record {
   counted = search rules;
   fault = search rules;
   cause = look_up_failed (state g.S.Store) _ c.args.self.now c.self.view_is (RoomFails c.args.room) c.room-row.new.conn
-      c.counting.new.self c.counting.ensures.conn (of_room c.args.room) c.room-row.result c.counting.result c.counting.ensures.same
+      c.counting.new.self c.counting.ensures.conn (of_room c.args.room) c.room-row.result c.counting.result
+      c.counting.ensures.same
       c.room-row.ensures.cause;
   sure = λ never. absurd never;
 }

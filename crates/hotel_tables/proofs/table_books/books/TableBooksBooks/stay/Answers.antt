@@ -18,8 +18,10 @@ returns g c = record {
   stop = search rules;
   counted = search rules;
   fault = search rules;
-  cause = look_up_failed (state g.S.Store) _ c.args.self.now c.self.view_is (StayFails c.args.party) c.stay-stay.new.conn
-      c.counting.new.self c.counting.ensures.conn (of_stay c.args.party) c.stay-stay.result c.counting.result c.counting.ensures.same
+  cause = look_up_failed (state g.S.Store) _ c.args.self.now c.self.view_is (StayFails c.args.party)
+      c.stay-stay.new.conn
+      c.counting.new.self c.counting.ensures.conn (of_stay c.args.party) c.stay-stay.result c.counting.result
+      c.counting.ensures.same
       c.stay-stay.ensures.cause;
   sure = λ never. absurd never;
 }

@@ -15,8 +15,10 @@ returns g c = record {
   stop = search rules;
   counted = search rules;
   fault = search rules;
-  cause = look_up_failed (state g.S.Store) _ c.args.self.now c.self.view_is (StaysFail c.args.kind.now) c.stays_of_kind-stays.new.conn
-      c.counting.new.self c.counting.ensures.conn (of_stays c.args.kind.now) c.stays_of_kind-stays.result c.counting.result c.counting.ensures.same
+  cause = look_up_failed (state g.S.Store) _ c.args.self.now c.self.view_is (StaysFail c.args.kind.now)
+      c.stays_of_kind-stays.new.conn
+      c.counting.new.self c.counting.ensures.conn (of_stays c.args.kind.now) c.stays_of_kind-stays.result
+      c.counting.result c.counting.ensures.same
       c.stays_of_kind-stays.ensures.cause;
   sure = λ never. absurd never;
 }

@@ -19,7 +19,8 @@ returns g c = record {
   counted = search rules;
   fault = search rules;
   cause = walk_failed (state g.S.Store) _ c.args.self.now c.self.view_is InHouseFails
-      c.in_house-end.new.conn c.counting_walk.new.self c.counting_walk.ensures.conn of_in_house c.in_house-end.result c.counting_walk.result
+      c.in_house-end.new.conn c.counting_walk.new.self c.counting_walk.ensures.conn of_in_house c.in_house-end.result
+      c.counting_walk.result
       c.counting_walk.ensures.same c.in_house-end.ensures.cause;
   sure = λ never. absurd never;
 }

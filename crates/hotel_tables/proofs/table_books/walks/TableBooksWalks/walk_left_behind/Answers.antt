@@ -21,7 +21,8 @@ returns g c = record {
   counted = search rules;
   fault = search rules;
   cause = walk_failed (state g.S.Store) _ c.args.self.now c.self.view_is LeftBehindFails
-      c.left_behind-end.new.conn c.counting_walk.new.self c.counting_walk.ensures.conn of_left_behind c.left_behind-end.result c.counting_walk.result
+      c.left_behind-end.new.conn c.counting_walk.new.self c.counting_walk.ensures.conn of_left_behind
+      c.left_behind-end.result c.counting_walk.result
       c.counting_walk.ensures.same c.left_behind-end.ensures.cause;
   sure = λ never. absurd never;
 }
