@@ -9,6 +9,7 @@ ghost use Rattle.hotel_statements.specs.Books.{IsKept};
 ghost use Rattle.hotel_statements.specs.LookUps.{LeavesNoMore};
 ghost use Rattle.hotel_statements.specs.Tables.{rows_in};
 ghost use Rattle.hotel_tables.specs.TableBooks.{failed};
+ghost use Rattle.hotel_tables.specs.Causes.{LookUpFails};
 
 mod books;
 mod changes;
@@ -87,6 +88,8 @@ impl<S: Alter> Issued for TableBooks<S> {
     ghost is_honest = { λ b. HasCleanDisk (state S.Store b.conn) };
 
     ghost leaves_no_more = { λ a b. LeavesNoMore (state S.Store a.conn) (state S.Store b.conn) };
+
+    ghost look_up_fails = { λ a b. LookUpFails (state S.Store a.conn) (state S.Store b.conn) };
 
     ghost is_kept = { λ a b. rows_in (state S.Store b.conn).now.trees ≡ rows_in (state S.Store a.conn).now.trees };
 
