@@ -4,7 +4,8 @@ ghost use Rattle.sqlite.specs.Held.{state};
 ghost use Rattle.hotel_statements.specs.Books.{IsBooks};
 ghost use Rattle.sqlite.specs.State.{HasCleanDisk};
 ghost use Rattle.hotel_statements.specs.LookUps.{MayLook, HasCause};
-ghost use Rattle.hotel_tables.specs.Counted.{booked_by, ended_by, CountsMore, CountsLess, KeepsRooms, HasItsKind, CountsItsRoom};
+ghost use Rattle.hotel_tables.specs.Counted.{booked_by, ended_by, CountsMore, CountsLess, KeepsRooms, HasItsKind};
+ghost use Rattle.hotel_tables.specs.Counted.{CountsItsRoom};
 ghost use Rattle.hotel_tables.specs.Causes.{EndedFails, AsksEnded};
 
 use hotel_core::{Change, KindRooms, NightIndex};

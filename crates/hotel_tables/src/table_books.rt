@@ -24,7 +24,8 @@ use std::marker::Model;
 
 /// Books over the nine tables of a desk.
 ///
-/// No rows are kept in memory: beside the connection stand only how many rooms each kind has and how many stays take each night.
+/// No rows are kept in memory: beside the connection stand only how many rooms each kind has and how many stays take
+/// each night.
 #[derive(Drop)]
 pub struct TableBooks<S: Alter> {
     pub(crate) alloc: Global,
