@@ -1,13 +1,13 @@
 -- Why a look-up, a walk or a change answers Store.
 use Rattle.std.proofs.Common.{◌≡◌, ◌≢◌, ◌⊎◌, inl, inr, true, refl, sym, ap, subst, ◌∙◌, List, Option, Some, None}
-use Rattle.std.proofs.Common.{Result, Ok, Err, OnOk, arith}
-use Rattle.std.specs.Prelude.{IfOk, IfErr}
+use Rattle.std.proofs.Common.{Result, Ok, Err, arith}
+use Rattle.std.specs.Prelude.{IfErr}
 use Rattle.std.specs.Result.{IsErr, IsErrAnd}
 use Rattle.sqlite_trees.specs.declared.store.Store.{Ghosts}
 use Rattle.sqlite.specs.Effect.{Database}
 use Rattle.sqlite.specs.Tree.{Trees}
 use Rattle.sqlite.specs.Held.{Held, state}
-use Rattle.sqlite.specs.State.{State, HasCleanDisk, Survives, IsUnchanged}
+use Rattle.sqlite.specs.State.{State, HasCleanDisk, Survives}
 use Rattle.sqlite.specs.Steps.{FailsToCommit}
 use Rattle.sqlite.specs.declared.error.Error.{Error}
 use Rattle.sqlite.proofs.StateLemmas.{survives_then}
@@ -22,7 +22,7 @@ use Rattle.hotel_statements.specs.Failures.{BareRoomFails, FitFails}
 use Rattle.hotel_statements.specs.Statements.{Statement, Known, RunsStatements}
 use Rattle.hotel_statements.proofs.Since.{unchanged_then}
 use Rattle.hotel_tables.specs.Applied.{counted_on, told_for, known_for}
-use Rattle.hotel_tables.specs.Causes.{LookUpFails, ToldFails, IsAsked, AsksEnded, AsksTold, FailsToWrite, WriteFails}
+use Rattle.hotel_tables.specs.Causes.{ToldFails, IsAsked, AsksEnded, AsksTold, FailsToWrite}
 use Rattle.hotel_tables.specs.Causes.{MakingFails}
 
 -- ---- look-ups

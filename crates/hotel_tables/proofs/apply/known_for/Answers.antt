@@ -1,8 +1,8 @@
-use Rattle.std.proofs.Common.{◌≡◌, ◌∙◌, sym, ap, subst, rules, true, false, Some, None}
+use Rattle.std.proofs.Common.{◌≡◌, ◌∙◌, sym, ap, subst, rules, false, Some, None}
 use Rattle.std.specs.Prelude.{option_map, IsSome, if◌then◌else◌}
 use Rattle.sqlite.specs.Held.{state}
 use Rattle.hotel_statements.specs.Tables.{rows_in}
-use Rattle.hotel_tables.specs.Applied.{told, told_for, can_count, counted_on}
+use Rattle.hotel_tables.specs.Applied.{told, can_count, counted_on}
 use Rattle.hotel_tables.proofs.MayMake.{is_known_by}
 use Rattle.hotel_tables.proofs.Causes.{shows_open, told_is, told_asked}
 use Rattle.hotel_tables.proofs.apply.known_for.Goals as goal
