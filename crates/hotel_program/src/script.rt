@@ -5,9 +5,8 @@ ghost use Rattle.hotel_core.specs.Books.Happens.{HappensBy, Passes};
 ghost use Rattle.hotel_lists.specs.Calls.{NoneForgotten};
 ghost use Rattle.hotel_program.specs.declared.script.ScriptFault.TheVariants.{TooLarge};
 ghost use Rattle.hotel_program.specs.Script.Lines.{answered_lines};
-ghost use Rattle.hotel_program.specs.Script.WholeScript.{IfCut, IfUnbegun, IsInput, NothingBegun, ScriptAnswered};
-ghost use Rattle.hotel_program.specs.Script.WholeScript.{ScriptCut};
-ghost use Rattle.hotel_program.specs.Script.WholeScript.{LineHappens, LinesCut, LinesPass, fault_of};
+ghost use Rattle.hotel_program.specs.Script.WholeScript.{IfCut, IfUnbegun, IsInput, NothingBegun, fault_of};
+ghost use Rattle.hotel_program.specs.Script.WholeScript.{LineHappens, LinesCut, LinesPass, ScriptAnswered, ScriptCut};
 
 mod asks;
 mod line_answers;
@@ -83,7 +82,8 @@ fn answer_lines<W: Write, B: Walks, R: Rng>(
     ensures through { OnOk result (Passes (LineHappens B.Issued B.rows R.stream W.contents)
         (books.old, source.old, writer.old) (answered_lines script.now) (books.new, source.new, writer.new)) }
     ensures through_cut { IfCut result (λ done. LinesCut B.Issued B.rows R.stream W.contents
-        (books.old, source.old, writer.old) (take done (answered_lines script.now)) (books.new, source.new, writer.new)) }
+        (books.old, source.old, writer.old) (take done (answered_lines script.now))
+        (books.new, source.new, writer.new)) }
     ensures sure { IfUnbegun result ⊥ }
     ensures failed { OnErr result (calls.new.write_failed ≡ true) }
     ensures calls { NoneForgotten calls.old calls.new }

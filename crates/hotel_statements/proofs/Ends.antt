@@ -1,5 +1,6 @@
 -- The statements of a change, how their transaction ends, and what that leaves of the books.
-use Rattle.std.proofs.Common.{◌≡◌, inl, inr, refl, sym, ap, subst, ◌∙◌, List, [], ℕ, true, false, Ok, Err, Result, OnOk, OnErr, IfErr, IsErr, IsTrue, true≢false, arith}
+use Rattle.std.proofs.Common.{◌≡◌, inl, inr, refl, sym, ap, subst, ◌∙◌, List, [], ℕ, true, false, Ok, Err, Result, OnOk}
+use Rattle.std.proofs.Common.{OnErr, IfErr, IsErr, IsTrue, true≢false, arith}
 use Rattle.sqlite.specs.Effect.{Database}
 use Rattle.sqlite.specs.Order.{Row}
 use Rattle.sqlite.specs.State.{State, HasCleanDisk, IsRolledBack, Survives, Shows, KeepsCounts, ExecutesInside}

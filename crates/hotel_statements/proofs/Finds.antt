@@ -1,5 +1,6 @@
 -- What each look-up of the books finds in its table.
-use Rattle.std.proofs.Common.{◌≡◌, ◌&&◌, ◌||◌, refl, ap, ap₂, ◌∙◌, List, [], ◌∷◌, ℕ, Bool, None, Some, Option, not, eqb, is_eq, nat_cmp, inl, inr}
+use Rattle.std.proofs.Common.{◌≡◌, ◌&&◌, ◌||◌, refl, ap, ap₂, ◌∙◌, List, [], ◌∷◌, ℕ, Bool, None, Some, Option, not, eqb}
+use Rattle.std.proofs.Common.{is_eq, nat_cmp, inl, inr}
 use Rattle.std.specs.Prelude.{is_some, unwrap_or, option_map, bytes_eq}
 use Rattle.std.specs.List.{list_any}
 use Rattle.std.specs.Cmp.Lexicographic.{slice_cmp}
@@ -27,7 +28,9 @@ use Rattle.hotel_model.specs.Rows.{Rows, has_kind, at_number, fit_at}
 use Rattle.hotel_model.specs.Refinement.Lookups.{codes_in, code_place, stay_at, card_at, inside_at}
 use Rattle.hotel_model.proofs.OfTables.Pairs.{pair_cmp_total}
 use Rattle.hotel_statements.specs.Values.{number_of, option_of, text_of, int}
-use Rattle.hotel_statements.specs.Columns.{meta_columns, meta_written, kind_columns, kind_of, kind_written, room_columns, room_row_of, room_written, stay_columns, stay_row_of, stay_written}
+use Rattle.hotel_statements.specs.Columns.{meta_columns, meta_written, kind_columns, kind_of, kind_written}
+use Rattle.hotel_statements.specs.Columns.{room_columns, room_row_of, room_written, stay_columns, stay_row_of}
+use Rattle.hotel_statements.specs.Columns.{stay_written}
 use Rattle.hotel_statements.specs.Columns.{code_columns, code_row_of, code_written, card_columns, card_row_of}
 use Rattle.hotel_statements.specs.Columns.{card_written, inside_columns, inside_of, inside_written, note_columns}
 use Rattle.hotel_statements.specs.Columns.{note_row_of, note_written, fit_columns, fit_row_of, fit_written}

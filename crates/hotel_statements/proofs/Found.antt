@@ -1,6 +1,7 @@
 -- What a look-up finds in a table, whatever the order of its tree.
 use Rattle.std.proofs.Common.{◌≡◌, ◌+◌, inl, inr, refl, sym, ap, ap₂, subst, ◌∙◌, List, [], ◌∷◌, length, ℕ}
-use Rattle.std.proofs.Common.{true, false, Bool, None, Some, Option, map, filter, arith, Less, Equal, Greater, Ordering, is_eq, true≢false}
+use Rattle.std.proofs.Common.{true, false, Bool, None, Some, Option, map, filter, arith, Less, Equal, Greater, Ordering}
+use Rattle.std.proofs.Common.{is_eq, true≢false}
 use Rattle.std.specs.List.{AllByRecursion, list_any}
 use Rattle.std.specs.Option.{option_to_list}
 use Rattle.std.specs.Prelude.{is_some, unwrap_or, cond}

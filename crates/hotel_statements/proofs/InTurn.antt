@@ -1,5 +1,6 @@
 -- Statements that are run in turn.
-use Rattle.std.proofs.Common.{◌≡◌, inl, inr, subst, ◌∙◌, ap, false, IsTrue, List, [], ◌∷◌, ◌++◌, ℕ, Ok, Err, Result, IsErr, IsErrAnd, arith}
+use Rattle.std.proofs.Common.{◌≡◌, inl, inr, subst, ◌∙◌, ap, false, IsTrue, List, [], ◌∷◌, ◌++◌, ℕ, Ok, Err, Result}
+use Rattle.std.proofs.Common.{IsErr, IsErrAnd, arith}
 use Rattle.std.proofs.lemmas.Bool.{cases_Bool}
 use Rattle.sqlite.specs.Order.{Row}
 use Rattle.sqlite.specs.Tree.{Trees}

@@ -1,10 +1,12 @@
 -- What a look-up leaves of the books.
-use Rattle.std.proofs.Common.{◌≡◌, ◌⊎◌, inl, inr, sym, ap, subst, ◌∙◌, List, [], ℕ, false, Option, None, Some, Ok, Err, Result, IsTrue, arith}
+use Rattle.std.proofs.Common.{◌≡◌, ◌⊎◌, inl, inr, sym, ap, subst, ◌∙◌, List, [], ℕ, false, Option, None, Some, Ok, Err}
+use Rattle.std.proofs.Common.{Result, IsTrue, arith}
 use Rattle.sqlite.specs.Order.{Row}
 use Rattle.sqlite.specs.Tree.{Trees}
 use Rattle.sqlite.specs.Effect.{Database}
 use Rattle.sqlite.specs.Listing.{understood}
-use Rattle.sqlite.specs.State.{State, HasCleanDisk, QueriesRow, Shown, FailsToQuery, IsNotRun, IsUnchanged, IsRolledBack, Survives, ShowsRows, FailsToShow, store_error}
+use Rattle.sqlite.specs.State.{State, HasCleanDisk, QueriesRow, Shown, FailsToQuery, IsNotRun, IsUnchanged}
+use Rattle.sqlite.specs.State.{IsRolledBack, Survives, ShowsRows, FailsToShow, store_error}
 use Rattle.sqlite_trees.specs.declared.error.StoreError.{StoreError}
 use Rattle.sqlite_trees.specs.declared.error.StoreError.TheVariants.{OutOfMemory}
 use Rattle.sqlite.specs.declared.error.Error.TheVariants.{QueryReturnedNoRows}

@@ -1,5 +1,6 @@
 -- Tests of columns in statements.
-use Rattle.std.proofs.Common.{◌≡◌, ◌&&◌, refl, ap, ◌∙◌, List, ℕ, pos, true, false, Bool, Some, arith, is_eq, nat_cmp, eqb}
+use Rattle.std.proofs.Common.{◌≡◌, ◌&&◌, refl, ap, ◌∙◌, List, ℕ, pos, true, false, Bool, Some, arith, is_eq, nat_cmp}
+use Rattle.std.proofs.Common.{eqb}
 use Rattle.std.specs.Str.{bytes_eq}
 use Rattle.std.proofs.lemmas.Bool.Decides.{nat_tests}
 use Rattle.std.proofs.lemmas.Map.Text.{is_eq-slice_cmp}

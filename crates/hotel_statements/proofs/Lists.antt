@@ -1,5 +1,7 @@
--- What the look-ups of some rows in order find: a code at a place, the stays of a kind, the cards inside a room, and the last number.
-use Rattle.std.proofs.Common.{◌≡◌, ◌&&◌, inl, inr, refl, sym, ap, ap₂, subst, ◌∙◌, List, [], ◌∷◌, ℕ, true, Bool, None, Some, Option, map, filter, arith, Less, Equal, nat_cmp, eqb}
+-- What the look-ups of some rows in order find: a code at a place, the stays of a kind, the cards inside a room, and
+-- the last number.
+use Rattle.std.proofs.Common.{◌≡◌, ◌&&◌, inl, inr, refl, sym, ap, ap₂, subst, ◌∙◌, List, [], ◌∷◌, ℕ, true, Bool, None}
+use Rattle.std.proofs.Common.{Some, Option, map, filter, arith, Less, Equal, nat_cmp, eqb}
 use Rattle.std.specs.Prelude.{option_map, bytes_eq}
 use Rattle.std.specs.Map.{values_of}
 use Rattle.std.specs.List.{AllByRecursion}
@@ -28,7 +30,8 @@ use Rattle.hotel_model.specs.Guests.{those_in}
 use Rattle.hotel_model.specs.Refinement.Lookups.{code_at, first_code_at, stays_of_kind, inside_at}
 use Rattle.hotel_model.proofs.OfTables.Pairs.{pair_cmp_total}
 use Rattle.hotel_statements.specs.Values.{number_of, int}
-use Rattle.hotel_statements.specs.Columns.{stay_columns, stay_row_of, stay_of, stay_written, code_columns, code_of, code_written, inside_columns, inside_of, inside_written}
+use Rattle.hotel_statements.specs.Columns.{stay_columns, stay_row_of, stay_of, stay_written, code_columns, code_of}
+use Rattle.hotel_statements.specs.Columns.{code_written, inside_columns, inside_of, inside_written}
 use Rattle.hotel_statements.specs.Tables.{AreTables, IsWrittenAs, by_key, rows_in}
 use Rattle.hotel_statements.specs.LookUps.{AnswersFirst, AnswersAll}
 use Rattle.hotel_statements.proofs.Answers.{single, passes, fused}

@@ -1,5 +1,6 @@
 -- The rows of a query in the order that it asks for.
-use Rattle.std.proofs.Common.{◌≡◌, refl, sym, ap, ap₂, subst, ◌∙◌, List, [], ◌∷◌, ℕ, pos, Bool, map, filter, arith, Less, Equal, Greater, Ordering, nat_cmp}
+use Rattle.std.proofs.Common.{◌≡◌, refl, sym, ap, ap₂, subst, ◌∙◌, List, [], ◌∷◌, ℕ, pos, Bool, map, filter, arith}
+use Rattle.std.proofs.Common.{Less, Equal, Greater, Ordering, nat_cmp}
 use Rattle.std.specs.List.{AllByRecursion}
 use Rattle.std.specs.Ordering.{ordering_then}
 use Rattle.std.specs.List.Sorted.{IsPermutation}

@@ -1,12 +1,14 @@
 -- Tables as sorted lists, whatever the order of their trees.
 use Rattle.std.proofs.Common.{◌≡◌, ◌<◌, not, inl, inr, refl, sym, ap, subst, ◌∙◌, List, [], ◌∷◌, ◌+◌, length, ℕ, zero}
-use Rattle.std.proofs.Common.{suc, true, false, Bool, cond, map, filter, arith, Ordering, Less, Equal, Greater, is_eq, is_lt, is_gt, true≢false, get_or, add-one}
+use Rattle.std.proofs.Common.{suc, true, false, Bool, cond, map, filter, arith, Ordering, Less, Equal, Greater, is_eq}
+use Rattle.std.proofs.Common.{is_lt, is_gt, true≢false, get_or, add-one}
 use Rattle.std.specs.Ordering.{match_ordering, ordering_reverse}
 use Rattle.std.specs.Cmp.{IsTotalOrder}
 use Rattle.std.specs.List.{AllByRecursion}
 use Rattle.std.specs.List.Sorted.{IsPermutation, IsSorted}
 use Rattle.std.proofs.lemmas.Bool.{cases_Bool}
-use Rattle.std.proofs.lemmas.List.Sorted.{IsPermutation-refl, IsPermutation-sym, IsPermutation-trans, IsPermutation-cons, IsPermutation-middle, IsPermutation-map, All-permutation}
+use Rattle.std.proofs.lemmas.List.Sorted.{IsPermutation-refl, IsPermutation-sym, IsPermutation-trans}
+use Rattle.std.proofs.lemmas.List.Sorted.{IsPermutation-cons, IsPermutation-middle, IsPermutation-map, All-permutation}
 use Rattle.sqlite_value.specs.Order.{Row, value_cmp}
 use Rattle.sqlite_trees.specs.Tree.{IsAscending, rowid, put_row, has_rowid, without_rowid}
 use Rattle.sqlite_rules.specs.Edit.{is_taken, id_in}
@@ -15,7 +17,8 @@ use Rattle.sqlite_value.proofs.OrderLemmas.{value_cmp_total}
 use Rattle.sqlite_value.specs.declared.value.Value.TheVariants.{Int}
 use Rattle.sqlite_keyed.specs.Lists.{insert_sorted, sort_by}
 use Rattle.std.proofs.lemmas.List.Elements.{recursion_from_All, All-from_recursion}
-use Rattle.sqlite_keyed.proofs.ListLemmas.{all_weaker, all-filter, along_permutation, IsPermutation-filter, ascending-filter}
+use Rattle.sqlite_keyed.proofs.ListLemmas.{all_weaker, all-filter, along_permutation, IsPermutation-filter}
+use Rattle.sqlite_keyed.proofs.ListLemmas.{ascending-filter}
 use Rattle.hotel_statements.specs.Tables.{IsTableOf, listed, AreApartIds, HasId}
 use Rattle.sqlite_keyed.proofs.SortLemmas.{HasNoTies, sorted_is-sort_by, sorted_unique, IsPermutation-sort_by}
 

@@ -1,6 +1,7 @@
 -- A desk of the second version made of one of the first: its statements in turn, how their transaction ends, and what
 -- that leaves.
-use Rattle.std.proofs.Common.{◌≡◌, ◌<◌, ◌≤◌, ◌+◌, ◌++◌, inl, inr, refl, sym, ap, ap₂, subst, ◌∙◌, List, [], ◌∷◌, ℕ, zero}
+use Rattle.std.proofs.Common.{◌≡◌, ◌<◌, ◌≤◌, ◌+◌, ◌++◌, inl, inr, refl, sym, ap, ap₂, subst, ◌∙◌, List, [], ◌∷◌, ℕ}
+use Rattle.std.proofs.Common.{zero}
 use Rattle.std.proofs.Common.{suc, take, length, get_or, map, true, false, Ok, Err, Result, OnOk, OnErr, IfErr, IsErr}
 use Rattle.std.proofs.Common.{IsTrue, true≢false, arith, nat_cmp}
 use Rattle.std.specs.List.{AllByRecursion}

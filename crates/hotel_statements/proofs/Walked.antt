@@ -16,7 +16,8 @@ use Rattle.sqlite.specs.Effect.{Database}
 use Rattle.sqlite.specs.Held.{Held, state}
 use Rattle.sqlite.specs.Given.{HasGiven, HasBegun, Advances, FailsToAdvance}
 use Rattle.sqlite.specs.Next.{HasMoved}
-use Rattle.sqlite.specs.State.{State, HasCleanDisk, IsUnchanged, Fails, Survives, CommitsShowing, Shown, Begins, FailsToQuery}
+use Rattle.sqlite.specs.State.{State, HasCleanDisk, IsUnchanged, Fails, Survives, CommitsShowing, Shown, Begins}
+use Rattle.sqlite.specs.State.{FailsToQuery}
 use Rattle.sqlite.specs.declared.error.Error.{Error}
 use Rattle.sqlite.specs.declared.rows.stream.Rows.{Rows}
 use Rattle.sqlite.proofs.Callers.{begins_as, reads_as, begun_plain, given_begin}
@@ -31,7 +32,8 @@ use Rattle.hotel_statements.specs.Schema.{desk_schema}
 use Rattle.hotel_statements.specs.Books.{IsDesk, IsKept, IsBooks, KeepsRows}
 use Rattle.hotel_statements.specs.LookUps.{Asks, LeavesNoMore, fault_of, ShowsUnread}
 use Rattle.hotel_statements.specs.Walks.{SaysRows, HandsOne, WalkFails, WalksRows}
-use Rattle.hotel_statements.proofs.Keeps.{Stays, keeps_books, keeps_rows, then_keeps, then_survives, shown_opened, shown_is_open}
+use Rattle.hotel_statements.proofs.Keeps.{Stays, keeps_books, keeps_rows, then_keeps, then_survives, shown_opened}
+use Rattle.hotel_statements.proofs.Keeps.{shown_is_open}
 use Rattle.hotel_statements.proofs.Since.{then_unchanged, error_later, clean_before}
 use Rattle.hotel_statements.proofs.Looked.{command_is, plain_in, all_crash, fault_books, fault_keeps}
 

@@ -13,7 +13,8 @@ use Rattle.sqlite.specs.Tree.{Trees}
 use Rattle.hotel_statements.specs.Texts as text
 use Rattle.hotel_statements.specs.Columns.{meta_columns, kind_columns, room_columns, stay_columns, code_columns}
 use Rattle.hotel_statements.specs.Columns.{card_columns, note_columns, fit_columns}
-use Rattle.hotel_statements.specs.PlainRows.{numbered_columns, first_one, first_three, first_four, first_seven, first_eight}
+use Rattle.hotel_statements.specs.PlainRows.{numbered_columns, first_one, first_three, first_four, first_seven}
+use Rattle.hotel_statements.specs.PlainRows.{first_eight}
 use Rattle.hotel_statements.specs.declared.version.Version.{Version}
 use Rattle.hotel_statements.specs.declared.version.Version.TheVariants.{Second}
 use Rattle.hotel_statements.specs.WholeTables.{IsWhole}

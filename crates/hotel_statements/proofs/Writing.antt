@@ -1,6 +1,7 @@
 -- What a write is put together of.
 use Rattle.std.proofs.Common.{◌≡◌, ◌⊎◌, inl, inr, ℕ, ℤ, pos, Bool, true, false, List, cond, Option}
-use Rattle.std.proofs.Common.{None, Some, Ok, Err, Result, OnOk, IsErr, not, ◌&&◌, sym, ◌∙◌, subst, true≢false, refl, IsTrue}
+use Rattle.std.proofs.Common.{None, Some, Ok, Err, Result, OnOk, IsErr, not, ◌&&◌, sym, ◌∙◌, subst, true≢false, refl}
+use Rattle.std.proofs.Common.{IsTrue}
 use Rattle.sqlite_value.specs.declared.value.Value.{Value}
 use Rattle.sqlite_value.specs.declared.value.Value.TheVariants.{Null, Int, Text}
 use Rattle.sqlite.specs.Ops.{unary}

@@ -15,7 +15,8 @@ use Rattle.hotel_model.specs.declared.rows.FitRow.{FitRow}
 use Rattle.hotel_model.specs.Stays.{room_of_state}
 use Rattle.hotel_statements.specs.Values.{number_of, option_of, text_of, int, maybe_int}
 
--- An integer key stands first in a stored row, and nothing in its own column; `.._columns` are the columns as they are declared.
+-- An integer key stands first in a stored row, and nothing in its own column; `.._columns` are the columns as they are
+-- declared.
 
 -- ---- meta
 

@@ -90,7 +90,8 @@ FailsAt = FailsIn desk_schema
 abbrev pub HasCause : {R : Type 0} → (State → State → Type 0) → State → State → Result R LookFault → Type 0
 HasCause Fails old new result = HasCleanDisk new → IfErr result (λ fault. fault ≢ why.Memory → Fails old new)
 
--- A look-up of the books, of a connection from old to new: where the test holds at its end, its answer says what is wanted of
+-- A look-up of the books, of a connection from old to new: where the test holds at its end, its answer says what is
+-- wanted of
 -- the rows. It changes no row, and a crash in it leaves nothing new.
 pub record LooksIf {A R : Type 0} (was : Type 0) (said : R → A) (wanted : Rows → A) (old new : State)
     (result : Result R LookFault) : Type 0 where

@@ -1,5 +1,6 @@
 -- Plain rows of the tables, as the columns that a statement shows of them, and in which order they come.
-use Rattle.std.specs.Prelude.{ℤ, pos, negsuc, ◌&&◌, Bool, true, false, List, [], ◌∷◌, Option, Some, None, map, string_bytes}
+use Rattle.std.specs.Prelude.{ℤ, pos, negsuc, ◌&&◌, Bool, true, false, List, [], ◌∷◌, Option, Some, None, map}
+use Rattle.std.specs.Prelude.{string_bytes}
 use Rattle.std.specs.Ordering.{nat_cmp, int_cmp, ordering_then}
 use Rattle.std.specs.declared.cmp.Ordering.{Ordering}
 use Rattle.std.specs.Cmp.Lexicographic.{slice_cmp}

@@ -54,7 +54,8 @@ pub record RunsStatement (text : List ℕ) (params : Row) (old new : State) (res
 abbrev pub IsMidWith : (Rows → Type 0) → State → Type 0
 IsMidWith fits s = IsTrue s.is_open → IsMid s × fits (rows_in s.now.trees)
 
--- Statements of a transaction, from old to new: where none failed, and the rows fit, the rows are what is made of those before. Nothing is committed, and a crash leaves nothing new.
+-- Statements of a transaction, from old to new: where none failed, and the rows fit, the rows are what is made of those
+-- before. Nothing is committed, and a crash leaves nothing new.
 pub record MakesRows (fits : Rows → Type 0) (make : Rows → Rows) (old new : State) (result : Result (Unit {0}) Error) : Type 0 where
   pub made : HasCleanDisk new → OnOk result (IsMidWith fits old → MovesRows old new make)
   pub kept : HasCleanDisk new → KeepsCommit old new

@@ -1,4 +1,5 @@
--- What the trees of a desk's tables hold: for each table the list of its rows in the order of the key, whatever the order of the tree.
+-- What the trees of a desk's tables hold: for each table the list of its rows in the order of the key, whatever the
+-- order of the tree.
 use Rattle.std.specs.Prelude.{ℕ, ◌≡◌, false, List, [], ◌∷◌, map, Option, None}
 use Rattle.std.specs.Ordering.{nat_cmp, is_eq}
 use Rattle.std.specs.declared.cmp.Ordering.{Ordering}
@@ -18,7 +19,8 @@ use Rattle.hotel_model.specs.Rows.{Rows, at_number}
 use Rattle.hotel_rows.specs.Joined.{with_fit, under_fit, joined, first_fits}
 use Rattle.hotel_statements.specs.declared.version.Version.{Version}
 use Rattle.hotel_statements.specs.declared.version.Version.TheVariants.{First, Second}
-use Rattle.hotel_statements.specs.Columns.{meta_columns, meta_of, meta_written, kind_columns, kind_of, kind_written, room_columns, room_of, room_written, stay_columns, stay_of, stay_written}
+use Rattle.hotel_statements.specs.Columns.{meta_columns, meta_of, meta_written, kind_columns, kind_of, kind_written}
+use Rattle.hotel_statements.specs.Columns.{room_columns, room_of, room_written, stay_columns, stay_of, stay_written}
 use Rattle.hotel_statements.specs.Columns.{code_columns, code_of, code_written, card_columns, card_of, card_written}
 use Rattle.hotel_statements.specs.Columns.{inside_columns, inside_of, inside_written, note_columns, note_of}
 use Rattle.hotel_statements.specs.Columns.{note_written, fit_columns, fit_of, fit_written}

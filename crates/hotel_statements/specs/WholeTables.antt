@@ -50,7 +50,8 @@ BeginsAs {L} shown row = (l : L) × (more : Row) × (shown l ++ more ≡ row)
 abbrev pub TableFails : {L : Type 0} → Version → List ℕ → (L → Row) → State → State → Type 0
 TableFails version text shown = FailsIn (schema_of version) (BeginsAs shown) text []
 
--- What a reading of the tables promises, of a connection from old to new: what it says of the trees where the test holds at its end.
+-- What a reading of the tables promises, of a connection from old to new: what it says of the trees where the test
+-- holds at its end.
 -- It changes no row, and a crash in it leaves nothing new.
 pub record ReadsIf {R : Type 0} (was : Type 0) (version : Version) (Fails : State → State → Type 0)
     (Says : R → Trees → Type 0) (old new : State)
@@ -63,7 +64,8 @@ pub record ReadsIf {R : Type 0} (was : Type 0) (version : Version) (Fails : Stat
   pub cause : HasCause Fails old new result
   pub crash : LeavesNoMore old new
 
--- The same of a reading that makes a statement: where it is answered over a disk that returned what was written, the connection
+-- The same of a reading that makes a statement: where it is answered over a disk that returned what was written, the
+-- connection
 -- is open.
 abbrev pub ReadsPart : {R : Type 0} → Version → (State → State → Type 0) → (R → Trees → Type 0) → State → State
     → Result R LookFault → Type 0

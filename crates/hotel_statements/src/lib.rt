@@ -1,5 +1,7 @@
-//! The desk's SQL statements over one connection: look-ups, the steps of a change and of the making of a desk, walks, the reading
-//! of whole tables, and the comparing of schemas. `hotel_tables` makes books of them; here no transaction is begun or committed.
+//! The desk's SQL statements over one connection: look-ups, the steps of a change and of the making of a desk, walks,
+//! the reading
+//! of whole tables, and the comparing of schemas. `hotel_tables` makes books of them; here no transaction is begun or
+//! committed.
 #![tactic(auto)]
 
 pub mod changes;

@@ -11,3 +11,4 @@ mod NotUpgraded
 mod Entered
 mod Reopened
 mod OfFiles
+mod Causes

@@ -1,6 +1,7 @@
 -- What a change that fits is to the statements that make it.
 use Rattle.std.proofs.Common.{ℕ, suc, ◌≡◌, ◌≤◌, ◌+◌, ◌-◌, Bool, true, false, cond, Option, Some, None, IsSome, refl, ap}
-use Rattle.std.proofs.Common.{sym, List, [], ◌∷◌, length, filter, ◌∙◌, subst, arith, ◌==◌, ◌&&◌, ◌||◌, not, nat_le, nat_lt}
+use Rattle.std.proofs.Common.{sym, List, [], ◌∷◌, length, filter, ◌∙◌, subst, arith, ◌==◌, ◌&&◌, ◌||◌, not, nat_le}
+use Rattle.std.proofs.Common.{nat_lt}
 use Rattle.std.proofs.Common.{nat_cmp, is_eq, Ordering, Less, Equal, Greater, if◌then◌else◌, option_map, ◌<◌, ◌^◌}
 use Rattle.hotel_model.specs.declared.rows.RoomRow.{RoomRow}
 use Rattle.hotel_model.specs.declared.rows.FitRow.{FitRow}

@@ -48,8 +48,11 @@ use Rattle.hotel_statements.specs.declared.whole_tables.Tables.{Tables}
 use Rattle.hotel_tables.specs.declared.opening.Found.{Found}
 use Rattle.hotel_tables.specs.declared.open_fault.OpenFault.{OpenFault}
 use Rattle.hotel_tables.specs.declared.open_fault.OpenFault.TheVariants as fault
-use Rattle.hotel_statements.specs.Columns.{meta_columns, meta_of, meta_written, kind_columns, kind_of, kind_written, room_columns, room_of, room_written, stay_columns, stay_of, stay_written}
-use Rattle.hotel_statements.specs.Columns.{code_columns, code_of, code_written, card_columns, card_of, card_written, inside_columns, inside_of, inside_written, note_columns, note_of, note_written, fit_columns, fit_of, fit_written}
+use Rattle.hotel_statements.specs.Columns.{meta_columns, meta_of, meta_written, kind_columns, kind_of, kind_written}
+use Rattle.hotel_statements.specs.Columns.{room_columns, room_of, room_written, stay_columns, stay_of, stay_written}
+use Rattle.hotel_statements.specs.Columns.{code_columns, code_of, code_written, card_columns, card_of, card_written}
+use Rattle.hotel_statements.specs.Columns.{inside_columns, inside_of, inside_written, note_columns, note_of}
+use Rattle.hotel_statements.specs.Columns.{note_written, fit_columns, fit_of, fit_written}
 use Rattle.hotel_rows.specs.Stored.{number_of, kind_text, room_entry, stay_entry, code_entry, card_entry, inside_pair}
 use Rattle.hotel_rows.specs.Stored.{note_entry, fit_entry, first_fit, fits_of, rows_of}
 use Rattle.hotel_rows.specs.Damage as damage
@@ -59,8 +62,11 @@ use Rattle.hotel_statements.specs.declared.version.Version.TheVariants.{First, S
 use Rattle.hotel_statements.specs.Tables.{AreApartIds, AreApart, AreTablesOf, IsFitTable, number_of_version, by_key}
 use Rattle.hotel_statements.specs.Tables.{metas_in, fits_in, bare_rooms_in, bare_rows_in, rows_of_version}
 use Rattle.hotel_tables.specs.TableBooks.{IsCounted}
-use Rattle.hotel_statements.specs.PlainRows.{maybe, meta_shown, kind_shown, room_shown, stay_shown, code_shown, card_shown, inside_shown, numbered_shown, numbered_columns, note_shown, fit_shown, ArePlainRows}
-use Rattle.hotel_statements.specs.PlainRows.{may_be_natural, room_natural, stay_natural, code_natural, card_natural, inside_natural, note_natural, fit_natural}
+use Rattle.hotel_statements.specs.PlainRows.{maybe, meta_shown, kind_shown, room_shown, stay_shown, code_shown}
+use Rattle.hotel_statements.specs.PlainRows.{card_shown, inside_shown, numbered_shown, numbered_columns, note_shown}
+use Rattle.hotel_statements.specs.PlainRows.{fit_shown, ArePlainRows}
+use Rattle.hotel_statements.specs.PlainRows.{may_be_natural, room_natural, stay_natural, code_natural, card_natural}
+use Rattle.hotel_statements.specs.PlainRows.{inside_natural, note_natural, fit_natural}
 use Rattle.hotel_statements.specs.WholeTables.{ReadsTo, AreFitRows, AreRead}
 use Rattle.hotel_tables.specs.Opening.{AreStoredAs, AreStored, AreApartInside, IsMetaRow, IsFound, LacksRow, HasMetaRow}
 use Rattle.hotel_tables.specs.Opening.{FaultFits, FailsToRead, Opens, all_rise, fits_natural, all_natural, id_inside}
@@ -73,7 +79,8 @@ use Rattle.hotel_statements.proofs.Answers.{fused}
 use Rattle.hotel_statements.proofs.Keyed.{key_total}
 use Rattle.hotel_statements.proofs.Perm.{every_shuffled, apart_permuted, sort_rises}
 use Rattle.hotel_statements.proofs.ReadBack.{read_back, tested_keys, tested_order}
-use Rattle.hotel_statements.proofs.Naturals.{meta_good, kind_good, room_good, stay_good, code_good, card_good, inside_good, note_good, fit_good}
+use Rattle.hotel_statements.proofs.Naturals.{meta_good, kind_good, room_good, stay_good, code_good, card_good}
+use Rattle.hotel_statements.proofs.Naturals.{inside_good, note_good, fit_good}
 use Rattle.hotel_rows.proofs.OfDamage.Undamaged.{undamaged_is_sound}
 
 -- ---- the row of meta

@@ -1,4 +1,5 @@
--- What is read of a desk's tables: each plain row is one that the books write, they have the rows of the tables, and where these are sound no table is damaged.
+-- What is read of a desk's tables: each plain row is one that the books write, they have the rows of the tables, and
+-- where these are sound no table is damaged.
 use Rattle.std.proofs.Common.{◌≡◌, ℕ, ℤ, pos, negsuc, Bool, true, false, cond, ◌&&◌, not, refl, sym, ap, subst, ◌∙◌}
 use Rattle.std.proofs.Common.{List, [], ◌∷◌, map, length, Option, None, Some, Ordering, Less, Equal, Greater}
 use Rattle.std.proofs.Common.{nat_cmp, is_lt, arith, inl, inr, Vec}
@@ -42,8 +43,11 @@ use Rattle.hotel_rows.specs.declared.stored.Stored.{Stored}
 use Rattle.hotel_tables.specs.declared.open_fault.OpenFault.{OpenFault}
 use Rattle.hotel_tables.specs.declared.open_fault.OpenFault.TheVariants as fault
 use Rattle.hotel_statements.specs.Values.{int, maybe_int}
-use Rattle.hotel_statements.specs.Columns.{meta_columns, meta_of, meta_written, room_columns, room_of, room_written, bit_of, stay_columns, stay_of, stay_written, state_number}
-use Rattle.hotel_statements.specs.Columns.{code_columns, code_of, code_written, card_columns, card_of, card_written, inside_columns, inside_of, inside_written, note_columns, note_of, note_written, act_number, act_card, fit_columns, fit_of, fit_written}
+use Rattle.hotel_statements.specs.Columns.{meta_columns, meta_of, meta_written, room_columns, room_of, room_written}
+use Rattle.hotel_statements.specs.Columns.{bit_of, stay_columns, stay_of, stay_written, state_number}
+use Rattle.hotel_statements.specs.Columns.{code_columns, code_of, code_written, card_columns, card_of, card_written}
+use Rattle.hotel_statements.specs.Columns.{inside_columns, inside_of, inside_written, note_columns, note_of}
+use Rattle.hotel_statements.specs.Columns.{note_written, act_number, act_card, fit_columns, fit_of, fit_written}
 use Rattle.hotel_rows.specs.Stored.{number_of, kind_text, room_entry, stay_entry, code_entry, card_entry, inside_pair}
 use Rattle.hotel_rows.specs.Stored.{note_entry, fit_entry, first_fit, fits_of, rows_of}
 use Rattle.hotel_rows.specs.Damage as damage
@@ -53,8 +57,12 @@ use Rattle.hotel_statements.specs.declared.version.Version.TheVariants.{First, S
 use Rattle.hotel_statements.specs.Tables.{AreTablesOf, IsFitTable, IsWrittenAs, by_key, number_of_version}
 use Rattle.hotel_statements.specs.Tables.{rows_of_version}
 use Rattle.hotel_statements.specs.WholeTables.{AreFitRows}
-use Rattle.hotel_statements.specs.PlainRows.{maybe, is_natural, may_be_natural, room_shown, room_natural, stay_shown, stay_natural, code_shown, code_natural, card_shown, card_natural, inside_shown, inside_natural, note_shown, note_natural, fit_shown, fit_natural, ArePlainRows}
-use Rattle.hotel_statements.specs.PlainRows.{kind_natural, kind_order, room_order, stay_order, code_order, card_order, inside_order, note_order, fit_order}
+use Rattle.hotel_statements.specs.PlainRows.{maybe, is_natural, may_be_natural, room_shown, room_natural, stay_shown}
+use Rattle.hotel_statements.specs.PlainRows.{stay_natural, code_shown, code_natural, card_shown, card_natural}
+use Rattle.hotel_statements.specs.PlainRows.{inside_shown, inside_natural, note_shown, note_natural, fit_shown}
+use Rattle.hotel_statements.specs.PlainRows.{fit_natural, ArePlainRows}
+use Rattle.hotel_statements.specs.PlainRows.{kind_natural, kind_order, room_order, stay_order, code_order, card_order}
+use Rattle.hotel_statements.specs.PlainRows.{inside_order, note_order, fit_order}
 use Rattle.hotel_tables.specs.Opening.{AreStored, HasMetaRow, FaultFits, IsOfCall, fits_rise, fits_natural}
 use Rattle.hotel_tables.specs.Opening.{all_natural}
 use Rattle.hotel_tables.specs.Reopening.{ReadUndamaged}

@@ -5,7 +5,8 @@ use Rattle.sqlite_disk.specs.declared.Files.{Files}
 use Rattle.sqlite_store.specs.declared.store.FileStore.{FileStore}
 use Rattle.sqlite_store.specs.FileStore.{view}
 use Rattle.sqlite_trees.specs.View.{IsClean}
-use Rattle.sqlite.specs.declared.error.ErrorCode.TheVariants.{NotADatabase, DatabaseCorrupt, OutOfMemory, SystemIoFailure, DiskFull, Closed}
+use Rattle.sqlite.specs.declared.error.ErrorCode.TheVariants.{NotADatabase, DatabaseCorrupt, OutOfMemory}
+use Rattle.sqlite.specs.declared.error.ErrorCode.TheVariants.{SystemIoFailure, DiskFull, Closed}
 use Rattle.sqlite.specs.declared.error.Error.{Error}
 use Rattle.sqlite.specs.declared.error.Error.TheVariants.{SqliteFailure}
 use Rattle.sqlite.specs.State.{State, HasCleanDisk, Survives}
@@ -81,13 +82,15 @@ module _ {D : Type 0} {g : disk.Ghosts D} (is_part : Bool → D → Type 0) wher
   AreOfOpening conn = (opened : Held (FileStore D g)) × IsAnswer (Ok opened) × AreBooksOf (file_state opened) (file_state conn)
 
 module _ {D : Type 0} {g : disk.Ghosts D} where
-  -- Where the disks of both files gave back what was written: the files hold what the connection last committed, and so does each connection that an opening finds in them.
+  -- Where the disks of both files gave back what was written: the files hold what the connection last committed, and so
+  -- does each connection that an opening finds in them.
   abbrev pub HoldBooks : Held (FileStore D g) → Files D → Type 0
   HoldBooks conn files =
       IsTrue (g.is_clean files.log) → IsTrue (g.is_clean files.db)
       → IsCopied conn files × ((again : Held (FileStore D g)) → IsOpened again → Finds files again → HasCleanDisk (file_state again) → (file_state again).now ≡ (file_state conn).now)
 
-  -- The store is that of the connection after a close that failed so: a crash finds nothing but what it could find before.
+  -- The store is that of the connection after a close that failed so: a crash finds nothing but what it could find
+  -- before.
   abbrev pub LeavesLog : Held (FileStore D g) → FileStore D g → Error → Type 0
   LeavesLog conn last e = IsClosed conn last × (IsClean (view last) → FailsToClose conn last e)
 

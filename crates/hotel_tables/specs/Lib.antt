@@ -5,6 +5,7 @@ pub use Rattle.hotel_statements.specs.NewDesk
 pub mod Applied
 pub mod Counted
 pub mod TableBooks
+pub mod Causes
 pub mod Opening
 pub mod Exits
 pub mod Reopening

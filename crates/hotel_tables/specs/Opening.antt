@@ -22,8 +22,10 @@ use Rattle.hotel_statements.specs.Columns.{meta_columns, kind_columns, room_colu
 use Rattle.hotel_statements.specs.Columns.{code_columns, card_columns, inside_columns, note_columns}
 use Rattle.hotel_statements.specs.PlainRows.{maybe, kind_shown, room_shown, stay_shown, code_shown, card_shown}
 use Rattle.hotel_statements.specs.PlainRows.{inside_shown, note_shown, ArePlainRows}
-use Rattle.hotel_statements.specs.PlainRows.{kind_order, room_order, stay_order, code_order, card_order, inside_order, note_order, fit_order}
-use Rattle.hotel_statements.specs.PlainRows.{may_be_natural, room_natural, stay_natural, code_natural, card_natural, inside_natural, note_natural, fit_natural}
+use Rattle.hotel_statements.specs.PlainRows.{kind_order, room_order, stay_order, code_order, card_order, inside_order}
+use Rattle.hotel_statements.specs.PlainRows.{note_order, fit_order}
+use Rattle.hotel_statements.specs.PlainRows.{may_be_natural, room_natural, stay_natural, code_natural, card_natural}
+use Rattle.hotel_statements.specs.PlainRows.{inside_natural, note_natural, fit_natural}
 use Rattle.hotel_tables.specs.declared.open_fault.OpenFault.{OpenFault}
 use Rattle.hotel_tables.specs.declared.open_fault.OpenFault.TheVariants as fault
 use Rattle.hotel_tables.specs.declared.opening.Found.{Found}

@@ -25,7 +25,8 @@ ReadUndamaged = (version : Version) (db : Trees) → AreTablesOf version db
     × ((s : Stored) → AreStored version s db
     → (rows_of s ≡ rows_of_version version db) × (IsSound (rows_of_version version db) → first_damaged_of s ≡ None))
 
--- Where a close copied the books' last commit into these files and an open found what they hold, the connection has the tables and rows of the books.
+-- Where a close copied the books' last commit into these files and an open found what they hold, the connection has the
+-- tables and rows of the books.
 abbrev pub FilesKeepBooks : {D : Type 0} → Ghosts D → Type 0
 FilesKeepBooks {D} g =
     (old again : Held (FileStore D g)) (files : Files D) → IsBooks (file_state old) → IsLive (file_state old) → IsCopied old files → IsOpened again → Finds files again

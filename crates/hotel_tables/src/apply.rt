@@ -1,5 +1,6 @@
 //! A change of the books over the connection, one transaction.
-ghost use Rattle.std.specs.Prelude.{◌≡◌, true, option_map, OnOk, OnErr, IfOk, IfSome, IsSome, IsTrue};
+ghost use Rattle.std.specs.Prelude.{◌≡◌, ◌⊎◌, true, option_map, OnOk, OnErr, IfOk, IfErr, IfSome, IsSome, IsTrue};
+ghost use Rattle.keycard_rules.specs.declared.issued.LookFault.TheVariants.{Store};
 ghost use Rattle.sqlite.specs.Held.{state};
 ghost use Rattle.sqlite.specs.State.{HasCleanDisk, Survives};
 ghost use Rattle.hotel_model.specs.Refinement.Change.{made};
@@ -10,9 +11,11 @@ ghost use Rattle.hotel_statements.specs.Tables.{rows_in};
 ghost use Rattle.hotel_statements.specs.Books.{IsBooks, IsKept};
 ghost use Rattle.hotel_statements.specs.Steps.{IsMadeOf};
 ghost use Rattle.hotel_statements.specs.Statements.{WritesBy, statements_of};
-ghost use Rattle.hotel_statements.specs.LookUps.{Looks, MayLook};
+ghost use Rattle.hotel_statements.specs.LookUps.{LooksUp, MayLook, HasCause};
+ghost use Rattle.hotel_statements.specs.Failures.{BareRoomFails, FitFails};
 ghost use Rattle.hotel_tables.specs.Applied.{MayMake, Applies, told, known_by_room, known_by_fit, told_for, known_for};
 ghost use Rattle.hotel_tables.specs.Applied.{can_count};
+ghost use Rattle.hotel_tables.specs.Causes.{ToldFails, AsksTold, IsAsked, FailsToWrite, MakingFails};
 
 use hotel_core::Change;
 use hotel_nights::StayState;
@@ -89,6 +92,8 @@ fn make_change<S: Alter>(
     ensures made { IsKept (state S.Store conn.new) → OnOk result (rows_in (state S.Store conn.new).now.trees ≡ made change.now (rows_in (state S.Store conn.old).now.trees)) }
     ensures same { IsKept (state S.Store conn.new) → OnErr result ((state S.Store conn.new).now ≡ (state S.Store conn.old).now) }
     ensures crash { Survives (state S.Store conn.old) (state S.Store conn.new) (IsMadeOf (made change.now) (state S.Store conn.old).now.trees) }
+    ensures failed { HasCleanDisk (state S.Store conn.new)
+        → IfErr result (FailsToWrite S.Store (statements_of change.now (told known)) conn.old conn.new) }
 {
     let mut tx = conn.transaction();
     write_change(&mut tx, change, known)?;
@@ -114,7 +119,8 @@ fn known_by_room<S: Alter>(
     room: RoomNo,
 ) -> Result<Option<Known>, LookFault>
     requires { IsBooks (state S.Store conn.old) }
-    ensures { Looks (λ known. option_map told known) (λ rows. option_map known_by_room (room_at rows room))
+    ensures { LooksUp (BareRoomFails room) (λ known. option_map told known)
+        (λ rows. option_map known_by_room (room_at rows room))
         (state S.Store conn.old) (state S.Store conn.new) result }
 {
     let Some(counts) = look_ups::room_counts(alloc, conn, room)? else {
@@ -135,7 +141,8 @@ fn known_by_fit<S: Alter>(
     number: FitNo,
 ) -> Result<Option<Known>, LookFault>
     requires { IsBooks (state S.Store conn.old) }
-    ensures { Looks (λ known. option_map told known) (λ rows. option_map known_by_fit (fit_at rows room number))
+    ensures { LooksUp (FitFails room number) (λ known. option_map told known)
+        (λ rows. option_map known_by_fit (fit_at rows room number))
         (state S.Store conn.old) (state S.Store conn.new) result }
 {
     let Some(fit) = look_ups::fit(alloc, conn, room, number)? else {
@@ -157,8 +164,11 @@ fn told_for<S: Alter>(
     change: &Change,
 ) -> Result<Option<Known>, LookFault>
     requires { IsBooks (state S.Store conn.old) }
-    ensures { MayLook (λ known. option_map told known) (told_for change.now) (state S.Store conn.old)
+    ensures looks { MayLook (λ known. option_map told known) (told_for change.now) (state S.Store conn.old)
         (state S.Store conn.new) result }
+    ensures cause { HasCause (ToldFails change.now) (state S.Store conn.old) (state S.Store conn.new) result }
+    ensures asks { HasCleanDisk (state S.Store conn.new)
+        → IfOk result (λ known. AsksTold S.Store change.now (option_map told known) conn.old conn.new) }
 {
     match change {
         Change::Issue { room, .. } => known_by_room(alloc, conn, *room),
@@ -185,7 +195,12 @@ fn known_for<S: Alter>(
     ensures looks { MayLook (λ known. option_map told known) (known_for change.now) (state S.Store conn.old)
         (state S.Store conn.new) result }
     ensures counted { IfOk result (λ known. IfSome known (λ k. can_count change.now (told k) ≡ true)) }
-    ensures there { IsKept (state S.Store conn.new) → IfOk result IsSome }
+    ensures there { HasCleanDisk (state S.Store conn.new) → IfOk result IsSome }
+    ensures cause { HasCause (ToldFails change.now) (state S.Store conn.old) (state S.Store conn.new) result }
+    ensures known { HasCleanDisk (state S.Store conn.new) → IfOk result (λ known.
+        option_map told known ≡ known_for change.now (rows_in (state S.Store conn.old).now.trees)) }
+    ensures asked { HasCleanDisk (state S.Store conn.new)
+        → OnOk result ((conn.new ≡ conn.old) ⊎ IsAsked S.Store conn.old conn.new) }
 {
     let Some(known) = told_for(alloc, conn, change)? else {
         return Ok(None);
@@ -208,7 +223,9 @@ pub(crate) fn apply_change<S: Alter>(
 ) -> Result<(), LookFault>
     requires books { IsBooks (state S.Store conn.old) }
     requires fits { IsKept (state S.Store conn.old) → Fits change.now (rows_in (state S.Store conn.old).now.trees) }
-    ensures { Applies change.now (state S.Store conn.old) (state S.Store conn.new) result }
+    ensures applies { Applies change.now (state S.Store conn.old) (state S.Store conn.new) result }
+    ensures cause { HasCleanDisk (state S.Store conn.new)
+        → IfErr result (λ why. why ≡ Store → MakingFails S.Store change.now conn.old conn.new) }
 {
     let Some(known) = known_for(alloc, conn, change)? else {
         return Err(LookFault::Store);

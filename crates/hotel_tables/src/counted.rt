@@ -2,8 +2,11 @@
 ghost use Rattle.std.specs.Prelude.{None, OnOk, OnErr};
 ghost use Rattle.sqlite.specs.Held.{state};
 ghost use Rattle.hotel_statements.specs.Books.{IsBooks};
-ghost use Rattle.hotel_statements.specs.LookUps.{MayLook};
-ghost use Rattle.hotel_tables.specs.Counted.{booked_by, ended_by, CountsMore, CountsLess, KeepsRooms, HasItsKind, CountsItsRoom};
+ghost use Rattle.sqlite.specs.State.{HasCleanDisk};
+ghost use Rattle.hotel_statements.specs.LookUps.{MayLook, HasCause};
+ghost use Rattle.hotel_tables.specs.Counted.{booked_by, ended_by, CountsMore, CountsLess, KeepsRooms, HasItsKind};
+ghost use Rattle.hotel_tables.specs.Counted.{CountsItsRoom};
+ghost use Rattle.hotel_tables.specs.Causes.{EndedFails, AsksEnded};
 
 use hotel_core::{Change, KindRooms, NightIndex};
 use hotel_nights::Stay;
@@ -19,7 +22,10 @@ pub(crate) fn ended_by<S: Alter>(
     change: &Change,
 ) -> Result<Option<Stay>, LookFault>
     requires { IsBooks (state S.Store conn.old) }
-    ensures { MayLook (λ a. a) (ended_by change.now) (state S.Store conn.old) (state S.Store conn.new) result }
+    ensures looks { MayLook (λ a. a) (ended_by change.now) (state S.Store conn.old) (state S.Store conn.new) result }
+    ensures cause { HasCause (EndedFails change.now) (state S.Store conn.old) (state S.Store conn.new) result }
+    ensures asks { HasCleanDisk (state S.Store conn.new)
+        → OnOk result (AsksEnded S.Store change.now conn.old conn.new) }
 {
     match change {
         Change::Cancelled(party) => look_ups::stay(alloc, conn, *party),

@@ -14,7 +14,8 @@ use sqlite_disk::Disk;
 use std::alloc::Global;
 use std::hash::{BuildHasher, RandomState};
 
-/// How many pages the log has before it is copied into the database's file: 16 MB. Each copying writes a page once, however
+/// How many pages the log has before it is copied into the database's file: 16 MB. Each copying writes a page once,
+/// however
 /// often the log has it, so that a longer log copies fewer pages for each change.
 const CHECKPOINT_FRAMES: usize = 4_000;
 
@@ -109,7 +110,8 @@ fn connect<D: PathDisk>(
 /// Its clauses speak of an answer of the opening of some log and some database's file. No clause says that they are the
 /// files at the path, as a file of the system carries no name, nor when the system opens a file: `CannotOpen` and
 /// `DatabaseBusy`, which are `FileFault::File`, have no cause. So a body that always answers a fault of openings is
-/// refused in `connect` and `books_of`, where the answers are given, and by no clause here. Nor does a clause say that the
+/// refused in `connect` and `books_of`, where the answers are given, and by no clause here. Nor does a clause say that
+/// the
 /// disk of an opened file is clean, which is the premise of what is said of its rows.
 pub fn open_file<D: PathDisk>(
     rt: &HostRuntime,
@@ -130,7 +132,8 @@ pub fn open_file<D: PathDisk>(
     }
 }
 
-/// Closes books: what their log has is copied into the database's file, and the files are given back, or an error with the store.
+/// Closes books: what their log has is copied into the database's file, and the files are given back, or an error with
+/// the store.
 fn closed<D: Disk + Drop>(
     books: TableBooks<FileStore<D>>,
 ) -> Result<Files<D>, (Error, FileStore<D>)>
@@ -142,7 +145,8 @@ fn closed<D: Disk + Drop>(
 
 /// Closes the books of a file: what its log has is copied into it, and the files are given back.
 ///
-/// Where that goes wrong, an error is given back, and a crash finds nothing but what it could find before: the log keeps what was not copied.
+/// Where that goes wrong, an error is given back, and a crash finds nothing but what it could find before: the log
+/// keeps what was not copied.
 pub fn close_file<D: Disk + Drop>(books: TableBooks<FileStore<D>>) -> Result<Files<D>, Error>
     ensures copied { IfOk result (HoldBooks books.conn) }
     ensures left { IfErr result (FailsToCopy books.conn) }

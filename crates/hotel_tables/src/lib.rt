@@ -1,4 +1,5 @@
-//! The desk's books over SQL tables: each look-up is one keyed statement, and no rows are kept in memory. The statements are those
+//! The desk's books over SQL tables: each look-up is one keyed statement, and no rows are kept in memory. The
+//! statements are those
 //! of `hotel_statements`; here are the transactions of a change, of a new desk and of a desk's new version, the counts
 //! beside the tables, and a desk's files.
 #![tactic(auto)]

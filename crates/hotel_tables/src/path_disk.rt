@@ -14,9 +14,11 @@ pub trait PathDisk: Disk + Drop {
     /// The disk is that of a log, or that of a database's file, as it was opened.
     ghost is_part: { Bool → Self → Type 0 };
 
-    /// The database's file at the path, and its log beside it. Each is made where it is missing, and nobody else may have them meanwhile.
+    /// The database's file at the path, and its log beside it. Each is made where it is missing, and nobody else may
+    /// have them meanwhile.
     ///
-    /// It refuses `:memory:` and names that begin with `file:`, which are no paths to SQLite. That the files are those of
+    /// It refuses `:memory:` and names that begin with `file:`, which are no paths to SQLite. That the files are those
+    /// of
     /// the path is in no clause: a file of the system carries no name.
     fn open(rt: &HostRuntime, path: &str) -> Result<Files<Self>, Error>
         ensures refused { IsTrue (is_no_path path.now) → result ≡ Err (Error.SqliteFailure ErrorCode.CannotOpen) }

@@ -9,6 +9,7 @@ ghost use Rattle.hotel_statements.specs.Books.{IsKept};
 ghost use Rattle.hotel_statements.specs.LookUps.{LeavesNoMore};
 ghost use Rattle.hotel_statements.specs.Tables.{rows_in};
 ghost use Rattle.hotel_tables.specs.TableBooks.{failed};
+ghost use Rattle.hotel_tables.specs.Causes.{LookUpFails};
 
 mod books;
 mod changes;
@@ -23,7 +24,8 @@ use std::marker::Model;
 
 /// Books over the nine tables of a desk.
 ///
-/// No rows are kept in memory: beside the connection stand only how many rooms each kind has and how many stays take each night.
+/// No rows are kept in memory: beside the connection stand only how many rooms each kind has and how many stays take
+/// each night.
 #[derive(Drop)]
 pub struct TableBooks<S: Alter> {
     pub(crate) alloc: Global,
@@ -87,6 +89,8 @@ impl<S: Alter> Issued for TableBooks<S> {
     ghost is_honest = { λ b. HasCleanDisk (state S.Store b.conn) };
 
     ghost leaves_no_more = { λ a b. LeavesNoMore (state S.Store a.conn) (state S.Store b.conn) };
+
+    ghost look_up_fails = { λ a b. LookUpFails (state S.Store a.conn) (state S.Store b.conn) };
 
     ghost is_kept = { λ a b. rows_in (state S.Store b.conn).now.trees ≡ rows_in (state S.Store a.conn).now.trees };
 

@@ -1,5 +1,7 @@
 -- What the DELETE of a card that leaves a room makes of the rows of a desk.
-use Rattle.std.proofs.Common.{◌≡◌, ◌⊎◌, ◌&&◌, not, inl, inr, refl, sym, ap, ap₂, subst, ◌∙◌, List, [], ◌∷◌, ℕ, true, false, Bool, Ok, map, filter, arith, eqb, nat_cmp, Less, Equal, Greater, Ordering, is_eq, true≢false}
+use Rattle.std.proofs.Common.{◌≡◌, ◌⊎◌, ◌&&◌, not, inl, inr, refl, sym, ap, ap₂, subst, ◌∙◌, List, [], ◌∷◌, ℕ, true}
+use Rattle.std.proofs.Common.{false, Bool, Ok, map, filter, arith, eqb, nat_cmp, Less, Equal, Greater, Ordering, is_eq}
+use Rattle.std.proofs.Common.{true≢false}
 use Rattle.std.specs.List.{AllByRecursion}
 use Rattle.std.specs.List.Sorted.{IsPermutation}
 use Rattle.std.specs.Ordering.{ordering_then}

@@ -1,5 +1,7 @@
 -- A row that is added to a table, and a row that is changed in its place.
-use Rattle.std.proofs.Common.{if◌then◌else◌, ◌==◌, ◌≡◌, ◌⊎◌, ◌<◌, not, inl, inr, refl, sym, ap, ap₂, subst, ◌∙◌, List, [], ◌∷◌, ℕ, pos, true, false, Bool, map, filter, arith, eqb, Ordering, Less, Equal, Greater, nat_cmp, is_eq, is_gt, true≢false}
+use Rattle.std.proofs.Common.{if◌then◌else◌, ◌==◌, ◌≡◌, ◌⊎◌, ◌<◌, not, inl, inr, refl, sym, ap, ap₂, subst, ◌∙◌, List}
+use Rattle.std.proofs.Common.{[], ◌∷◌, ℕ, pos, true, false, Bool, map, filter, arith, eqb, Ordering, Less, Equal}
+use Rattle.std.proofs.Common.{Greater, nat_cmp, is_eq, is_gt, true≢false}
 use Rattle.std.specs.Ordering.{match_ordering}
 use Rattle.std.specs.Cmp.{IsTotalOrder}
 use Rattle.std.specs.List.{AllByRecursion}
@@ -15,7 +17,8 @@ use Rattle.sqlite_value.specs.Order.{Row, column, value_cmp}
 use Rattle.sqlite_trees.specs.Tree.{IsAscending, rowid, put_row, without_rowid, has_rowid}
 use Rattle.sqlite_rules.specs.Edit.{is_taken}
 use Rattle.sqlite_keyed.specs.Lists.{insert_sorted}
-use Rattle.sqlite_keyed.proofs.ListLemmas.{all_weaker, all_both, all_map, none_from_any, any_from_none, ascending_weaker, all-filter, IsPermutation-filter}
+use Rattle.sqlite_keyed.proofs.ListLemmas.{all_weaker, all_both, all_map, none_from_any, any_from_none}
+use Rattle.sqlite_keyed.proofs.ListLemmas.{ascending_weaker, all-filter, IsPermutation-filter}
 use Rattle.sqlite_keyed.proofs.SortLemmas.{IsPermutation-sort_by}
 use Rattle.hotel_statements.specs.Values.{int}
 use Rattle.hotel_statements.specs.Tables.{IsTableOf, IsTable, IsWrittenAs, listed, by_key}

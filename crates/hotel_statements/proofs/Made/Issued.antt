@@ -1,5 +1,6 @@
 -- The steps of an issue make the change.
-use Rattle.std.proofs.Common.{◌≡◌, ◌+◌, inl, inr, refl, sym, ap, ap₂, ◌∙◌, List, [], ◌∷◌, ℕ, true, false, Option, None, Some, eqb, is_eq, nat_cmp}
+use Rattle.std.proofs.Common.{◌≡◌, ◌+◌, inl, inr, refl, sym, ap, ap₂, ◌∙◌, List, [], ◌∷◌, ℕ, true, false, Option, None}
+use Rattle.std.proofs.Common.{Some, eqb, is_eq, nat_cmp}
 use Rattle.std.proofs.lemmas.Bool.{cases_Bool}
 use Rattle.keycard_rules.specs.declared.card.Card.{Card}
 use Rattle.hotel_model.specs.declared.rows.RoomRow.{RoomRow}

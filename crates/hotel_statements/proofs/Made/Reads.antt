@@ -1,5 +1,6 @@
 -- What the books write of an entry says that entry, and how its row is stored.
-use Rattle.std.proofs.Common.{◌≡◌, ◌==◌, refl, sym, ap, ap₂, ◌∙◌, List, [], ◌∷◌, ℕ, ℤ, true, false, Bool, Option, None, Some}
+use Rattle.std.proofs.Common.{◌≡◌, ◌==◌, refl, sym, ap, ap₂, ◌∙◌, List, [], ◌∷◌, ℕ, ℤ, true, false, Bool, Option, None}
+use Rattle.std.proofs.Common.{Some}
 use Rattle.sqlite_value.specs.declared.value.Value.TheVariants.{Null, Int, Text}
 use Rattle.sqlite.specs.Order.{Row, column}
 use Rattle.sqlite.specs.Values.{bound_value}
@@ -15,7 +16,11 @@ use Rattle.hotel_model.specs.declared.rows.CodeRow.{CodeRow}
 use Rattle.hotel_model.specs.declared.rows.FitRow.{FitRow}
 use Rattle.hotel_model.specs.Stays.{room_of_state}
 use Rattle.hotel_statements.specs.Values.{option_of, int, maybe_int}
-use Rattle.hotel_statements.specs.Columns.{meta_columns, meta_of, meta_written, bit_of, room_columns, room_of, room_written, state_of, state_number, stay_columns, stay_of, stay_written, code_columns, code_of, code_written, card_columns, card_of, card_written, act_of, act_number, act_card, act_first, act_second, note_columns, note_of, note_written}
+use Rattle.hotel_statements.specs.Columns.{meta_columns, meta_of, meta_written, bit_of, room_columns, room_of}
+use Rattle.hotel_statements.specs.Columns.{room_written, state_of, state_number, stay_columns, stay_of, stay_written}
+use Rattle.hotel_statements.specs.Columns.{code_columns, code_of, code_written, card_columns, card_of, card_written}
+use Rattle.hotel_statements.specs.Columns.{act_of, act_number, act_card, act_first, act_second, note_columns, note_of}
+use Rattle.hotel_statements.specs.Columns.{note_written}
 use Rattle.hotel_statements.specs.Tables.{IsWrittenAs}
 use Rattle.hotel_statements.specs.Steps.{bare_room}
 

@@ -30,7 +30,8 @@ use Rattle.hotel_statements.specs.Schema.{desk_schema, meta_table, room_table, s
 use Rattle.hotel_statements.specs.Texts.{update_day, update_issued, update_party, update_noted, update_refitted}
 use Rattle.hotel_statements.specs.Texts.{update_state}
 use Rattle.hotel_statements.specs.Values.{int, maybe_int}
-use Rattle.hotel_statements.specs.Columns.{bit_of, state_number, meta_columns, meta_of, meta_written, room_columns, room_of, room_written, stay_columns, stay_of, stay_written}
+use Rattle.hotel_statements.specs.Columns.{bit_of, state_number, meta_columns, meta_of, meta_written, room_columns}
+use Rattle.hotel_statements.specs.Columns.{room_of, room_written, stay_columns, stay_of, stay_written}
 use Rattle.hotel_statements.specs.Tables.{IsTable, IsWrittenAs, listed, by_key, rows_in, fits_in, bare_rooms_in}
 use Rattle.hotel_statements.specs.Steps.{IsMidWith, MovesRows, any_rows, day_set, room_issued, room_freed, room_noted}
 use Rattle.hotel_statements.specs.Steps.{room_refitted, stay_set}
@@ -44,7 +45,9 @@ use Rattle.hotel_statements.proofs.Made.Desk as desk
 use Rattle.hotel_statements.proofs.Made.Desk.{Changed, changed, steps, rooms_set, stays_set}
 use Rattle.hotel_statements.proofs.Made.Entries.{Updated, update_makes, changed_at, filter_passes}
 use Rattle.hotel_statements.proofs.Made.Sources.{sourced}
-use Rattle.hotel_statements.proofs.Made.Reads.{meta_stored, meta_good, meta_reads, meta_numbered, room_stored, room_good, room_reads, room_numbered, stay_stored, stay_good, stay_reads, stay_numbered}
+use Rattle.hotel_statements.proofs.Made.Reads.{meta_stored, meta_good, meta_reads, meta_numbered, room_stored}
+use Rattle.hotel_statements.proofs.Made.Reads.{room_good, room_reads, room_numbered, stay_stored, stay_good, stay_reads}
+use Rattle.hotel_statements.proofs.Made.Reads.{stay_numbered}
 use Rattle.hotel_statements.proofs.Made.Writes.{at_place, IsOn, wrote}
 
 -- the UPDATE of the row whose number is the first parameter

@@ -1,5 +1,7 @@
 -- The walk over the rooms that are left behind.
-use Rattle.std.proofs.Common.{if◌then◌else◌, ◌≡◌, ◌&&◌, ◌∙◌, refl, sym, ap, ap₂, subst, List, [], ◌∷◌, ◌++◌, ℕ, suc, ◌+◌, ◌-◌, ◌<◌, ◌≤◌, ◌^◌, pos, Bool, true, false, Option, Some, None, map, filter, flat_map, length, Less, nat_cmp, eqb, arith}
+use Rattle.std.proofs.Common.{if◌then◌else◌, ◌≡◌, ◌&&◌, ◌∙◌, refl, sym, ap, ap₂, subst, List, [], ◌∷◌, ◌++◌, ℕ, suc}
+use Rattle.std.proofs.Common.{◌+◌, ◌-◌, ◌<◌, ◌≤◌, ◌^◌, pos, Bool, true, false, Option, Some, None, map, filter}
+use Rattle.std.proofs.Common.{flat_map, length, Less, nat_cmp, eqb, arith}
 use Rattle.std.specs.Prelude.{filter_map, option_map, nat_le, nat_lt}
 use Rattle.std.specs.List.{AllByRecursion, list_all}
 use Rattle.std.specs.Option.{option_to_list}
@@ -8,7 +10,8 @@ use Rattle.std.proofs.lemmas.Bool.Decides.{nat_tests}
 use Rattle.std.proofs.lemmas.Cmp.{nat_cmp_total}
 use Rattle.std.specs.Prelude.{◌-ℤ◌}
 use Rattle.std.proofs.Math.IntN.{pos-+ℤ-pos, -ℤ_one}
-use Rattle.sqlite_keyed.proofs.ListLemmas.{ascending_weaker, all_weaker, all_unmap, flat_map_none, flat_map_same_on, flat_map-map}
+use Rattle.sqlite_keyed.proofs.ListLemmas.{ascending_weaker, all_weaker, all_unmap, flat_map_none, flat_map_same_on}
+use Rattle.sqlite_keyed.proofs.ListLemmas.{flat_map-map}
 use Rattle.sqlite_keyed.proofs.SortLemmas.{IsPermutation-sort_by}
 use Rattle.sqlite_value.specs.declared.value.Value.{Value}
 use Rattle.sqlite_value.specs.declared.value.Value.TheVariants.{Int}
@@ -55,7 +58,8 @@ use Rattle.hotel_statements.proofs.Lists.{map_rises}
 use Rattle.hotel_statements.proofs.Ordered.{int_order, then_nothing}
 use Rattle.hotel_statements.proofs.OfWalks.Compared.{less_than}
 use Rattle.hotel_statements.proofs.OfWalks.SoundCodes.{all_both, finds_itself, standing}
-use Rattle.hotel_statements.proofs.OfWalks.Joined.{over, sorted_answer, one_more_table, last_table, where_it_passes, made_of_each, rise_alike, said_of_each}
+use Rattle.hotel_statements.proofs.OfWalks.Joined.{over, sorted_answer, one_more_table, last_table, where_it_passes}
+use Rattle.hotel_statements.proofs.OfWalks.Joined.{made_of_each, rise_alike, said_of_each}
 
 -- ---- sums of numbers in statements, where 64 bits hold them
 

@@ -1,5 +1,7 @@
 -- The walk over a room's codes: in the order of their places, they are those at the places 0 and on.
-use Rattle.std.proofs.Common.{ℕ, zero, suc, ◌≡◌, ◌≤◌, ◌<◌, ◌+◌, Bool, false, Option, Some, List, [], ◌∷◌, ◌++◌, length, map, filter, inl, inr, refl, ap, ap₂, sym, ◌∙◌, arith, Less, Ordering, nat_cmp, is_eq, length-append, eqb}
+use Rattle.std.proofs.Common.{ℕ, zero, suc, ◌≡◌, ◌≤◌, ◌<◌, ◌+◌, Bool, false, Option, Some, List, [], ◌∷◌, ◌++◌, length}
+use Rattle.std.proofs.Common.{map, filter, inl, inr, refl, ap, ap₂, sym, ◌∙◌, arith, Less, Ordering, nat_cmp, is_eq}
+use Rattle.std.proofs.Common.{length-append, eqb}
 use Rattle.std.specs.Prelude.{filter_map, option_map}
 use Rattle.std.specs.List.{AllByRecursion, range_with_len, cons_option}
 use Rattle.std.specs.Map.{values_of}

@@ -1,5 +1,6 @@
 -- The walk over the rooms with a registered party.
-use Rattle.std.proofs.Common.{if◌then◌else◌, ◌≡◌, ◌∙◌, refl, sym, ap, ap₂, subst, List, [], ◌∷◌, ◌++◌, ℕ, Bool, true, false, Option, Some, None, map, flat_map, Less, nat_cmp, eqb}
+use Rattle.std.proofs.Common.{if◌then◌else◌, ◌≡◌, ◌∙◌, refl, sym, ap, ap₂, subst, List, [], ◌∷◌, ◌++◌, ℕ, Bool, true}
+use Rattle.std.proofs.Common.{false, Option, Some, None, map, flat_map, Less, nat_cmp, eqb}
 use Rattle.std.specs.Prelude.{filter_map, option_map, ◌==◌}
 use Rattle.std.specs.List.{list_all}
 use Rattle.std.specs.Option.{option_to_list}
@@ -33,7 +34,8 @@ use Rattle.hotel_model.proofs.OfTables.RowTests.{found_passes}
 use Rattle.hotel_model.proofs.Starts.StartCodes.{room_is}
 use Rattle.hotel_statements.specs.Schema.{compare}
 use Rattle.hotel_statements.specs.Values.{int, maybe_int}
-use Rattle.hotel_statements.specs.Columns.{bit_of, room_columns, room_of, room_written, stay_columns, stay_of, stay_written}
+use Rattle.hotel_statements.specs.Columns.{bit_of, room_columns, room_of, room_written, stay_columns, stay_of}
+use Rattle.hotel_statements.specs.Columns.{stay_written}
 use Rattle.hotel_statements.specs.Tables.{AreTables, IsWrittenAs, by_key, rows_in, bare_rooms_in}
 use Rattle.hotel_statements.specs.LookUps.{AnswersAll}
 use Rattle.hotel_statements.specs.Walks.{house_row_of}
@@ -46,7 +48,8 @@ use Rattle.hotel_statements.proofs.Found.{one_entry}
 use Rattle.hotel_statements.proofs.Lists.{map_rises}
 use Rattle.hotel_statements.proofs.Ordered.{int_order, then_nothing}
 use Rattle.hotel_statements.proofs.OfWalks.SoundCodes.{finds_itself}
-use Rattle.hotel_statements.proofs.OfWalks.Joined.{over, sorted_answer, one_more_table, last_table, where_it_passes, made_of_each, rise_alike, said_of_each}
+use Rattle.hotel_statements.proofs.OfWalks.Joined.{over, sorted_answer, one_more_table, last_table, where_it_passes}
+use Rattle.hotel_statements.proofs.OfWalks.Joined.{made_of_each, rise_alike, said_of_each}
 
 equals_maybe : (n : ℕ) (o : Option ℕ) → is_true (binary (Compare Eq Binary) (int n) (maybe_int o)) ≡ said_of o false (λ k. eqb n k)
 unfolding binary

@@ -1,5 +1,6 @@
 -- The codes of sound rows: each is found by its number and at its place, and no other code stands there.
-use Rattle.std.proofs.Common.{ℕ, ◌≡◌, Bool, true, false, cond, Option, Some, None, List, [], ◌∷◌, length, map, filter, inl, inr, refl, ap, ap₂, sym, ◌∙◌, subst, arith, Less, nat_cmp, true≢false}
+use Rattle.std.proofs.Common.{ℕ, ◌≡◌, Bool, true, false, cond, Option, Some, None, List, [], ◌∷◌, length, map, filter}
+use Rattle.std.proofs.Common.{inl, inr, refl, ap, ap₂, sym, ◌∙◌, subst, arith, Less, nat_cmp, true≢false}
 use Rattle.std.specs.Prelude.{◌&&◌, ◌==◌}
 use Rattle.std.specs.List.{AllByRecursion}
 use Rattle.std.specs.Option.{option_to_list}

@@ -1,10 +1,13 @@
 //! The look-ups and the changes, each counted where it fails.
-ghost use Rattle.std.specs.Prelude.{IfErr, refl};
+ghost use Rattle.std.specs.Prelude.{◌≡◌, IfErr, refl};
+ghost use Rattle.keycard_rules.specs.declared.issued.LookFault.TheVariants.{Store};
 ghost use Rattle.keycard_rules.specs.Rise.{HasRisen, NoFewer};
 ghost use Rattle.sqlite.specs.Held.{state};
+ghost use Rattle.sqlite.specs.State.{HasCleanDisk};
 ghost use Rattle.hotel_statements.specs.Tables.{rows_in};
 ghost use Rattle.hotel_statements.specs.LookUps.{Looks};
 ghost use Rattle.hotel_tables.specs.Applied.{LeavesChange};
+ghost use Rattle.hotel_tables.specs.Causes.{ChangeFails, LookUpFails};
 ghost use Rattle.hotel_tables.specs.TableBooks.{failed};
 
 use crate::table_books::TableBooks;
@@ -20,6 +23,8 @@ impl<S: Alter> TableBooks<S> {
     /// It comes before each answer from memory: a connection that a failure shut answers nothing.
     fn ask(&mut self) -> Result<(), LookFault>
         ensures looks { Looks (λ a. a) (λ _. tt) (state S.Store self.old.conn) (state S.Store self.new.conn) result }
+        ensures cause { HasCleanDisk (state S.Store self.new.conn) → IfErr result (λ why. why ≡ Store
+            → LookUpFails (state S.Store self.old.conn) (state S.Store self.new.conn)) }
         ensures counted { NoFewer (failed self.old) (failed self.new) }
         ensures fault { IfErr result (λ why. HasRisen (failed self.old why) (failed self.new why)) }
     {
@@ -36,6 +41,8 @@ impl<S: Alter> Books for TableBooks<S> {
     ghost rows = { λ b. rows_in (state S.Store b.conn).now.trees };
 
     ghost leaves_change = { λ change a b _. LeavesChange change (state S.Store a.conn) (state S.Store b.conn) };
+
+    ghost change_fails = { λ change a b. ChangeFails S.Store change a.conn b.conn };
 
     fn day(&mut self) -> Result<Option<Day>, LookFault> {
         self.answers = false;

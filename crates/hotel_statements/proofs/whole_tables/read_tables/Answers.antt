@@ -2,7 +2,8 @@ use Rattle.std.proofs.Common.{inl, refl, Err}
 use Rattle.sqlite.specs.Held.{state}
 use Rattle.hotel_statements.specs.WholeTables.{AreFirst, AreLast, FirstFail, LastFail, FitRowsFail}
 use Rattle.hotel_statements.proofs.Unread.{err_is}
-use Rattle.hotel_statements.proofs.ReadingsInTurn.{not_read, second_failed, both_read, pair_read, last_later, fits_later}
+use Rattle.hotel_statements.proofs.ReadingsInTurn.{not_read, second_failed, both_read, pair_read, last_later}
+use Rattle.hotel_statements.proofs.ReadingsInTurn.{fits_later}
 use Rattle.hotel_statements.proofs.whole_tables.read_tables.Goals as goal
 
 pub returns-in_err-first : goal.returns-in_err-first

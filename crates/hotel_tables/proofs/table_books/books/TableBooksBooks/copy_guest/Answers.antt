@@ -1,6 +1,7 @@
 use Rattle.std.proofs.Common.{arith, rules}
 use Rattle.std.proofs.lemmas.Result.{IfErr-weaker}
 use Rattle.hotel_core.proofs.OfCode.Parts.{risen_later}
+use Rattle.hotel_tables.proofs.Causes.{handed}
 use Rattle.hotel_tables.proofs.table_books.books.TableBooksBooks.copy_guest.Goals as goal
 
 pub returns : goal.returns
@@ -12,6 +13,22 @@ returns g c = record {
   vouched = search rules;
   stop = search rules;
   counted = λ why. omega (arith, c.in_ok-ask.ensures.counted why, c.counting.ensures.counted why);
-  fault = rw c.counting.ensures.same (IfErr-weaker _ _ _ (λ why risen. risen_later _ _ _ (c.in_ok-ask.ensures.counted why) risen (c.counting.ensures.counted why)) c.counting.ensures.risen);
+  fault = rw c.counting.ensures.same (IfErr-weaker _ _ _ (λ why risen. risen_later _ _ _ (c.in_ok-ask.ensures.counted
+      why) risen (c.counting.ensures.counted why)) c.counting.ensures.risen);
+  cause = search rules;
+  sure = λ never. absurd never;
+}
+
+pub returns-in_err-ask : goal.returns-in_err-ask
+returns-in_err-ask g c = record {
+  answer = search rules;
+  kept = search rules;
+  was_clean = search rules;
+  was_honest = search rules;
+  vouched = search rules;
+  stop = search rules;
+  counted = search rules;
+  fault = search rules;
+  cause = λ clean. handed _ c.from_residual.result c.from_residual.ensures (c.in_err-ask.ensures.cause clean);
   sure = λ never. absurd never;
 }

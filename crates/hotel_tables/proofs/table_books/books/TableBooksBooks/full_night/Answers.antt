@@ -4,6 +4,7 @@ use Rattle.sqlite.specs.Held.{state}
 use Rattle.hotel_model.specs.Refinement.Lookups.{first_full_on}
 use Rattle.hotel_statements.specs.Tables.{rows_in}
 use Rattle.hotel_tables.proofs.OverBooks.{night_found}
+use Rattle.hotel_tables.proofs.Causes.{handed}
 use Rattle.hotel_tables.proofs.table_books.books.TableBooksBooks.full_night.Goals as goal
 
 pub returns : goal.returns
@@ -14,7 +15,8 @@ returns g c =
           night_found (state g.S.Store) _ c.ask.new.self c.self.view_is c.args.kind.now c.rooms-rooms.result
           c.args.arrive c.args.depart c.full_night.result c.self.invariant.counted c.rooms-rooms.ensures
           c.full_night.ensures kept
-          ∙ ap (λ (d : Database). first_full_on (rows_in d.trees) c.args.kind.now c.args.arrive (c.args.depart - c.args.arrive))
+          ∙ ap (λ (d : Database). first_full_on (rows_in d.trees) c.args.kind.now c.args.arrive (c.args.depart -
+          c.args.arrive))
           (asked.keeps kept).1;
       kept = λ kept. ap (λ (d : Database). rows_in d.trees) (asked.keeps kept).1;
       was_clean = λ kept. (asked.keeps kept).0;
@@ -23,5 +25,20 @@ returns g c =
       stop = asked.crash;
       counted = c.in_ok-ask.ensures.counted;
       fault = tt;
+      cause = λ _. tt;
       sure = λ never. absurd never;
     }
+
+pub returns-in_err-ask : goal.returns-in_err-ask
+returns-in_err-ask g c = record {
+  answer = search rules;
+  kept = search rules;
+  was_clean = search rules;
+  was_honest = search rules;
+  vouched = search rules;
+  stop = search rules;
+  counted = search rules;
+  fault = search rules;
+  cause = λ clean. handed _ c.from_residual.result c.from_residual.ensures (c.in_err-ask.ensures.cause clean);
+  sure = λ never. absurd never;
+}
