@@ -24,4 +24,5 @@ listing_on rows (Arrivals day) = Some (listing arrivals_header arrival_line (arr
 listing_on rows InHouse = Some (listing in_house_header house_line (in_house_on rows))
 listing_on rows (ChainOf room) = of_room (is_some (room_at rows room)) (listing chain_header chain_line (chain_on rows room))
 listing_on rows LeftBehind = Some (listing left_behind_header behind_line (left_behind_on rows))
-listing_on rows (AuditOf room) = of_room (is_some (room_at rows room)) (listing audit_header note_line (notes_at rows.notes room))
+listing_on rows (AuditOf room) =
+    of_room (is_some (room_at rows room)) (listing audit_header note_line (notes_at rows.notes room))

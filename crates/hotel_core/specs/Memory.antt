@@ -19,7 +19,8 @@ PlacesAgree codes places = (room place : ℕ) → lookup (is_at (pair_cmp (room,
 
 -- At each room, the places from its number of codes on are free (all places, where the room isn't there).
 abbrev pub LaterPlacesFree : List (ℕ × RoomRow) → List (ℕ × CodeRow) → Type 0
-LaterPlacesFree rooms codes = (room place : ℕ) → column_at rooms room (λ row. row.codes) ≤ place → first_code_at codes room place ≡ None
+LaterPlacesFree rooms codes =
+    (room place : ℕ) → column_at rooms room (λ row. row.codes) ≤ place → first_code_at codes room place ≡ None
 
 -- Each room is kept under a room's number.
 abbrev pub HaveRoomNumbers : List (ℕ × RoomRow) → Type 0

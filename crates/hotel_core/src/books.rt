@@ -3,8 +3,8 @@ ghost use Rattle.std.specs.Prelude.{◌≡◌, ◌-◌, List, Option, Some, None
 ghost use Rattle.std.specs.Prelude.{Result, Err, length, not};
 ghost use Rattle.keycard_rules.specs.{Rise.HasRisen, Rise.NoFewer, declared.issued.LookFault.LookFault};
 ghost use Rattle.keycard_rules.specs.{declared.issued.LookFault.TheVariants.Store};
-ghost use Rattle.hotel_model.specs.{Words.is_one_of, Rows.Rows, Rows.has_kind, Rows.fit_at, Rows.rooms_of_kind, Guests.are_none};
-ghost use Rattle.hotel_model.specs.{Refinement.Change.made};
+ghost use Rattle.hotel_model.specs.{Words.is_one_of, Rows.Rows, Rows.has_kind, Rows.fit_at, Rows.rooms_of_kind};
+ghost use Rattle.hotel_model.specs.{Guests.are_none, Refinement.Change.made};
 ghost use Rattle.hotel_core.specs.Books.Reads.{LooksUp};
 ghost use Rattle.hotel_model.specs.Refinement.Lookups.{room_at, codes_in, code_place, code_at, stay_at, stays_of_kind};
 ghost use Rattle.hotel_model.specs.Refinement.Lookups.{card_at, inside_at, note_at, first_full_on};

@@ -53,8 +53,8 @@ pub use Rattle.hotel_model.specs.SoundRooms.{parties_in_house, room_kinds_there,
 pub use Rattle.hotel_model.specs.SoundStays.{guests_read, has_party, nights_fit, stay_days}
 pub use Rattle.hotel_model.specs.SoundStays.{stay_kinds_there, stay_numbers, stay_rooms}
 pub use Rattle.hotel_model.specs.Standing.{After, Conflicting, Copy, Next, OfOldFit, Standing, standing, standing_among}
-pub use Rattle.hotel_model.specs.Words.{after, and_last, before, is_one_of, is_that, last_of, other_than, pair_cmp, said_of}
-pub use Rattle.hotel_model.specs.Words.{when, without}
+pub use Rattle.hotel_model.specs.Words.{after, and_last, before, is_one_of, is_that, last_of, other_than, pair_cmp}
+pub use Rattle.hotel_model.specs.Words.{said_of, when, without}
 pub use Rattle.hotel_model.specs.Refinement.ChangeOf.{change_of, comes}
 pub use Rattle.hotel_model.specs.Refinement.CardsOnRows.{HasLink, bars_to_check_in, bars_to_transfer, issued_on}
 pub use Rattle.hotel_model.specs.Refinement.Lift.{Lifts, as_change}

@@ -45,7 +45,8 @@ pub data Event : Type 0 where
 
 -- the note of a room's lock, by its count and what it says at a moment
 abbrev pub note_from : ℕ → ℕ → ℕ → Act → Moment → Note
-note_from room fit count its_act at = record { room = room; fit = fit; count = count; act = its_act; day = at.0; second = at.1 }
+note_from room fit count its_act at =
+    record { room = room; fit = fit; count = count; act = its_act; day = at.0; second = at.1 }
 
 -- the note that an event took, where it took one
 abbrev pub note_of : Event → Option Note

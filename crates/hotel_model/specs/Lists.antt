@@ -1,6 +1,6 @@
 -- The rows of the five lists, read off a history.
-use Rattle.std.specs.Prelude.{ℕ, Bool, List, [], ◌∷◌, ◌++◌, Option, Some, None, ◌+◌, ◌&&◌, if◌then◌else◌, nat_le, nat_lt}
-use Rattle.std.specs.Prelude.{length, filter, filter_map}
+use Rattle.std.specs.Prelude.{ℕ, Bool, List, [], ◌∷◌, ◌++◌, Option, Some, None, ◌+◌, ◌&&◌, if◌then◌else◌, nat_le}
+use Rattle.std.specs.Prelude.{nat_lt, length, filter, filter_map}
 use Rattle.std.specs.Map.{keys_of, values_of}
 use Rattle.hotel_nights.specs.declared.stay.Stay.{Stay}
 use Rattle.hotel_model.specs.declared.list_rows.HouseRow.{HouseRow}

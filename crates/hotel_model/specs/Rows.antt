@@ -1,5 +1,6 @@
 -- The rows of the books: nine lists in the order of their keys, and the words that say what stands in them.
-use Rattle.std.specs.Prelude.{ℕ, Bool, false, List, [], ◌∷◌, Option, Some, None, ◌-◌, ◌==◌, if◌then◌else◌, length, bytes_eq}
+use Rattle.std.specs.Prelude.{ℕ, Bool, false, List, [], ◌∷◌, Option, Some, None, ◌-◌, ◌==◌, if◌then◌else◌, length}
+use Rattle.std.specs.Prelude.{bytes_eq}
 use Rattle.std.specs.Ordering.{nat_cmp}
 use Rattle.std.specs.List.{list_any, count_by}
 use Rattle.std.specs.BTreeMap.{is_at, insert_entry}

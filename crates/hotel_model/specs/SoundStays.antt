@@ -40,4 +40,6 @@ stay_rooms rows = each_stay rows (λ stay. said_of (room_of_state stay.state) tr
 
 -- on the first night of each stay, its kind isn't taken by more stays than it has rooms
 abbrev pub nights_fit : Rows → Bool
-nights_fit rows = each_stay rows (λ stay. nat_le (nights_taken (values_of rows.stays) stay.kind stay.arrive) (rooms_of_kind rows.rooms stay.kind))
+nights_fit rows =
+    each_stay rows (λ stay.
+    nat_le (nights_taken (values_of rows.stays) stay.kind stay.arrive) (rooms_of_kind rows.rooms stay.kind))

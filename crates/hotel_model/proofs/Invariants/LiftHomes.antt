@@ -2,8 +2,8 @@
 use Rattle.std.proofs.Common.{ℕ, ◌≡◌, ◌-◌, Bool, true, false, Option, Some, None, refl, ap, sym, ◌∙◌, length, ◌==◌}
 use Rattle.std.proofs.Common.{is_some}
 use Rattle.hotel_model.proofs.Names.{Link, when, said_of, Issue, Refitted, CheckOut, History, start, ◌▷◌, link_to}
-use Rattle.hotel_model.proofs.Names.{newest_link, link_of_party, registered, other_than, issued, rows_of, room_of, no_link}
-use Rattle.hotel_model.proofs.Names.{codes_of, said_code_at, home_link_on, last_link_on, Reached}
+use Rattle.hotel_model.proofs.Names.{newest_link, link_of_party, registered, other_than, issued, rows_of, room_of}
+use Rattle.hotel_model.proofs.Names.{no_link, codes_of, said_code_at, home_link_on, last_link_on, Reached}
 use Rattle.hotel_model.proofs.{OfTables.Tests.eq_self, OfTables.Grown.may_follow, Invariants.CardParties.not_taken_here}
 use Rattle.hotel_model.proofs.{Invariants.Homes.stays_on}
 use Rattle.hotel_model.proofs.{Invariants.InHouse.registered_in_house, Invariants.InHouseLinks.in_house_has_link}

@@ -36,7 +36,8 @@ change_of h (CheckOut party) = change.CheckedOut party (own_room h party)
 change_of h (Refitted room fit code) = change.Refit room code fit
 change_of h NextDay = change.DayTo (today h + 1)
 change_of h (Entered room fit count number link at) =
-    noted h (Entered room fit count number link at) (note_from room fit count (act.Entered number link) at) (comes (is_one_of number (inside h room)) number)
+    noted h (Entered room fit count number link at) (note_from room fit count (act.Entered number link) at)
+    (comes (is_one_of number (inside h room)) number)
 change_of h (Left room fit count number link at) =
     noted h (Left room fit count number link at) (note_from room fit count (act.Left number link) at) (Goes number)
 change_of h (Recoded room fit count from to at) =

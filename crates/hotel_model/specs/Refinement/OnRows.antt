@@ -73,7 +73,10 @@ link_on rows room code = record { old_code = said_code_at rows room (codes_of ro
 
 -- the link of a room's last two codes
 abbrev pub last_link_on : Rows → ℕ → Link
-last_link_on rows room = record { old_code = said_code_at rows room (codes_of rows room - 2); new_code = said_code_at rows room (codes_of rows room - 1) }
+last_link_on rows room = record {
+  old_code = said_code_at rows room (codes_of rows room - 2);
+  new_code = said_code_at rows room (codes_of rows room - 1);
+}
 
 -- the link of the last two codes of the room in which the party is in house
 abbrev pub home_link_on : Rows → ℕ → Link
@@ -85,7 +88,8 @@ place_on rows code = said_of (code_place rows code) 0 (λ row. row.place)
 
 -- the code stands at the room, after the one that the lock holds
 abbrev pub is_awaited_on : Rows → ℕ → ℕ → Bool
-is_awaited_on rows room code = said_of (code_place rows code) false (λ row. (row.room == room) && nat_lt (lock_place_of rows room) row.place)
+is_awaited_on rows room code =
+    said_of (code_place rows code) false (λ row. (row.room == room) && nat_lt (lock_place_of rows room) row.place)
 
 -- the card of the number has this link
 abbrev pub has_link_on : Rows → ℕ → Link → Bool
@@ -99,7 +103,8 @@ secured_after_on rows room link =
 -- a card of this link opened the door: it is inside from now on, and the lock holds the link's new code
 abbrev pub opened_on : Rows → Note → ℕ → Link → Outcome Change
 opened_on rows note number link =
-    accepted reply.Taken (change.Noted note (place_on rows link.new_code) (secured_after_on rows note.room link) (comes (is_one_of number (inside_at rows note.room)) number))
+    accepted reply.Taken (change.Noted note (place_on rows link.new_code) (secured_after_on rows note.room link)
+    (comes (is_one_of number (inside_at rows note.room)) number))
 
 -- the next note of a room: what it says must be so
 abbrev pub told_on : Rows → Note → Act → Outcome Change
@@ -163,13 +168,14 @@ checks_on rows (command.Reissue party) = further_card_checks_on rows party
 checks_on rows (command.Transfer party room) =
     needs (is_some rows.day) NotBegun ∷ needs (is_some (room_at rows room)) NoRoom ∷ needs (is_some (stay_at rows party)) NoParty
     ∷ needs (is_some (home_on rows party)) NotInHouse ∷ needs (kinds_agree_on rows room party) WrongKind
-    ∷ bars (room_is rows room (λ row. is_that row.party party)) SameRoom ∷ bars (room_is rows room (λ row. is_some row.party)) RoomTaken
+    ∷ bars (room_is rows room (λ row. is_that row.party party)) SameRoom
+    ∷ bars (room_is rows room (λ row. is_some row.party)) RoomTaken
     ∷ bars (is_none (number_after (length rows.cards))) NumbersUsedUp ∷ []
 checks_on rows (command.CheckOut party) =
     needs (is_some rows.day) NotBegun ∷ needs (is_some (stay_at rows party)) NoParty ∷ needs (is_some (home_on rows party)) NotInHouse ∷ []
 checks_on rows (command.Refit room) =
-    needs (is_some rows.day) NotBegun ∷ needs (is_some (room_at rows room)) NoRoom ∷ bars (room_is rows room (λ row. is_some row.party)) RoomTaken
-    ∷ bars (nat_le 99 (present_fit_on rows room)) FitsUsedUp ∷ []
+    needs (is_some rows.day) NotBegun ∷ needs (is_some (room_at rows room)) NoRoom
+    ∷ bars (room_is rows room (λ row. is_some row.party)) RoomTaken ∷ bars (nat_le 99 (present_fit_on rows room)) FitsUsedUp ∷ []
 checks_on rows command.NextDay = needs (is_some rows.day) NotBegun ∷ needs (nat_lt (day_on rows) 36524) LastDay ∷ []
 checks_on rows (command.Reported note) =
     needs (is_some rows.day) NotBegun ∷ needs (is_some (room_at rows note.room)) NoRoom ∷ needs (is_fit_on rows note.room note.fit) NoFit ∷ []
@@ -188,7 +194,8 @@ effect_on rows ahead (command.Spare party) =
     accepted (reply.Issued (card_of (length rows.cards + 1) party (home_link_on rows party))) (change.Spare (card_of (length rows.cards + 1) party (home_link_on rows party)))
 effect_on rows ahead (command.Reissue party) = issues_on rows ahead party (own_room_on rows party) None
 effect_on rows ahead (command.Transfer party room) = issues_on rows ahead party room (home_on rows party)
-effect_on rows ahead (command.CheckOut party) = accepted reply.CheckedOut (change.CheckedOut party (own_room_on rows party))
+effect_on rows ahead (command.CheckOut party) =
+    accepted reply.CheckedOut (change.CheckedOut party (own_room_on rows party))
 effect_on rows ahead (command.Refit room) =
     with_fresh_on rows ahead (λ code. reply.Refitted code (present_fit_on rows room + 1)) (λ code. change.Refit room code (present_fit_on rows room + 1))
 effect_on rows ahead command.NextDay = accepted (reply.DayIs (day_on rows + 1)) (change.DayTo (day_on rows + 1))

@@ -87,4 +87,6 @@ IsRefused h ahead command refusal = answer_to h ahead command ≡ refused refusa
 
 -- After what was played all other checks pass, and the draw examines 64 words, each of which gives an issued code.
 abbrev pub FindsNoCode : Played → Command → Type 0
-FindsNoCode before command = answer_to before.history before.ahead command ≡ record { reply = reply.Refused NoFreshCode; happens = None; examined = 64 }
+FindsNoCode before command =
+    answer_to before.history before.ahead command
+    ≡ record { reply = reply.Refused NoFreshCode; happens = None; examined = 64 }

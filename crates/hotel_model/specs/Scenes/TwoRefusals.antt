@@ -164,17 +164,23 @@ with_stays stays = start (record (rows_of busy.history) { stays = stays })
 abbrev pub CardsEnd : Type 0
 CardsEnd =
     (cards : List (ℕ × Card)) → length cards ≡ 9999999
-    → IsRefused (with_cards cards) busy.ahead (check_in 6 101) RoomTaken × IsRefused (with_cards cards) busy.ahead (check_in 6 102) NumbersUsedUp
-    × IsRefused (with_cards cards) busy.ahead (spare 6) NotInHouse × IsRefused (with_cards cards) busy.ahead (spare 1) NumbersUsedUp
-    × IsRefused (with_cards cards) busy.ahead (reissue 6) NotInHouse × IsRefused (with_cards cards) busy.ahead (reissue 1) NumbersUsedUp
-    × IsRefused (with_cards cards) busy.ahead (transfer 1 103) RoomTaken × IsRefused (with_cards cards) busy.ahead (transfer 1 102) NumbersUsedUp
+    → IsRefused (with_cards cards) busy.ahead (check_in 6 101) RoomTaken
+    × IsRefused (with_cards cards) busy.ahead (check_in 6 102) NumbersUsedUp
+    × IsRefused (with_cards cards) busy.ahead (spare 6) NotInHouse
+    × IsRefused (with_cards cards) busy.ahead (spare 1) NumbersUsedUp
+    × IsRefused (with_cards cards) busy.ahead (reissue 6) NotInHouse
+    × IsRefused (with_cards cards) busy.ahead (reissue 1) NumbersUsedUp
+    × IsRefused (with_cards cards) busy.ahead (transfer 1 103) RoomTaken
+    × IsRefused (with_cards cards) busy.ahead (transfer 1 102) NumbersUsedUp
 
 -- Where 9,999,999 parties were given: KindFull comes before.
 abbrev pub PartiesEnd : Type 0
 PartiesEnd =
     (stays : List (ℕ × Stay)) → length stays ≡ 9999999
-    → (first_full (with_stays stays) DBL (may 2) 1 ≡ Some (may 2) → IsRefused (with_stays stays) busy.ahead (reserve DBL (may 2) 1 guest) (KindFull (may 2)))
-    × (first_full (with_stays stays) DBL (may 2) 1 ≡ None → IsRefused (with_stays stays) busy.ahead (reserve DBL (may 2) 1 guest) NumbersUsedUp)
+    → (first_full (with_stays stays) DBL (may 2) 1 ≡ Some (may 2)
+    → IsRefused (with_stays stays) busy.ahead (reserve DBL (may 2) 1 guest) (KindFull (may 2)))
+    × (first_full (with_stays stays) DBL (may 2) 1 ≡ None
+    → IsRefused (with_stays stays) busy.ahead (reserve DBL (may 2) 1 guest) NumbersUsedUp)
 
 abbrev pub TheScene : Type 0
 TheScene =
@@ -184,5 +190,5 @@ TheScene =
     × AreRefused busy of_guests
     × AreRefused busy of_notes
     × AreRefused last_day on_the_last_day
-    × FindsNoCode busy (add_room 104 DBL) × FindsNoCode busy (check_in 6 102) × FindsNoCode busy (reissue 1) × FindsNoCode busy (transfer 1 102)
-    × FindsNoCode busy (refit 102)
+    × FindsNoCode busy (add_room 104 DBL) × FindsNoCode busy (check_in 6 102) × FindsNoCode busy (reissue 1)
+    × FindsNoCode busy (transfer 1 102) × FindsNoCode busy (refit 102)
