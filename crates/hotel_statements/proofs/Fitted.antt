@@ -15,6 +15,7 @@ use Rattle.hotel_model.specs.Rows.{at_number, fits_at, fit_at, last_fit}
 use Rattle.hotel_model.specs.Refinement.Lookups.{room_at, of_fit, note_numbered, note_at}
 use Rattle.hotel_model.proofs.OfTables.Pairs.{pair_cmp_total, pair_exact}
 use Rattle.hotel_rows.specs.Joined.{with_last, with_count, fit_of_number}
+use Rattle.hotel_statements.specs.Trees.{note_tree}
 use Rattle.hotel_statements.specs.Columns.{note_columns, note_of, note_written}
 use Rattle.hotel_statements.specs.Tables.{IsWrittenAs, by_key, rows_in, fits_in, bare_rooms_in, bare_notes_in}
 use Rattle.hotel_statements.specs.LookUps.{numbered_fit, counts_of_row}
@@ -105,7 +106,7 @@ module _ (db : Trees) (room fit count : ℕ) (fits : List FitRow) (are : fits �
     note_is bare note there with =
         let all = all_listed (by_key pair_cmp) (key_total pair_cmp_total)
         (IsWrittenAs note_columns note_of note_written) (λ r. note_of (note_columns r)) (λ e. e.1.count ≡ e.0.1)
-        (db 11) (numbers (db 11)) in
+        (db note_tree) (numbers (db note_tree)) in
         let count_is : bare.count ≡ number = number_is (room, number) (bare_notes_in db) all bare (sym there) in
         let read : note ≡ joined_at (fits_in db) room number bare = with
         ∙ ap (λ n. with_count (fit_of_number fits n) n bare) count_is

@@ -19,6 +19,8 @@ use Rattle.hotel_model.specs.Rows.{Rows, at_number}
 use Rattle.hotel_rows.specs.Joined.{with_fit, under_fit, joined, first_fits}
 use Rattle.hotel_statements.specs.declared.version.Version.{Version}
 use Rattle.hotel_statements.specs.declared.version.Version.TheVariants.{First, Second}
+use Rattle.hotel_statements.specs.Trees.{meta_tree, kind_tree, room_tree, stay_tree, code_tree, card_tree, inside_tree}
+use Rattle.hotel_statements.specs.Trees.{note_tree, fit_tree}
 use Rattle.hotel_statements.specs.Columns.{meta_columns, meta_of, meta_written, kind_columns, kind_of, kind_written}
 use Rattle.hotel_statements.specs.Columns.{room_columns, room_of, room_written, stay_columns, stay_of, stay_written}
 use Rattle.hotel_statements.specs.Columns.{code_columns, code_of, code_written, card_columns, card_of, card_written}
@@ -60,29 +62,29 @@ AreApartIds = IsAscending (λ a b. is_eq (value_cmp (rowid a) (rowid b)) ≡ fal
 -- ---- the trees of the tables; the numbers between are those of their indexes
 
 abbrev pub metas_in : Trees → List (ℕ × (ℕ × Option ℕ))
-metas_in db = listed (by_key nat_cmp) (λ r. meta_of (meta_columns r)) (db 0)
+metas_in db = listed (by_key nat_cmp) (λ r. meta_of (meta_columns r)) (db meta_tree)
 
 -- the fits of all rooms
 abbrev pub fits_in : Trees → List ((ℕ × ℕ) × FitRow)
-fits_in db = listed (by_key pair_cmp) (λ r. fit_of (fit_columns r)) (db 13)
+fits_in db = listed (by_key pair_cmp) (λ r. fit_of (fit_columns r)) (db fit_tree)
 
 -- the rooms and the notes as their tables have them
 abbrev pub bare_rooms_in : Trees → List (ℕ × RoomRow)
-bare_rooms_in db = listed (by_key nat_cmp) (λ r. room_of (room_columns r)) (db 3)
+bare_rooms_in db = listed (by_key nat_cmp) (λ r. room_of (room_columns r)) (db room_tree)
 
 abbrev pub bare_notes_in : Trees → List ((ℕ × ℕ) × Note)
-bare_notes_in db = listed (by_key pair_cmp) (λ r. note_of (note_columns r)) (db 11)
+bare_notes_in db = listed (by_key pair_cmp) (λ r. note_of (note_columns r)) (db note_tree)
 
 -- The nine lists that the trees hold, those of rooms and notes joined with the fits.
 abbrev pub rows_in : Trees → Rows
 rows_in db = record {
   day = said_of (at_number (metas_in db) 1) None (λ meta. meta.1);
-  kinds = listed (slice_cmp nat_cmp) (λ r. kind_of (kind_columns r)) (db 1);
+  kinds = listed (slice_cmp nat_cmp) (λ r. kind_of (kind_columns r)) (db kind_tree);
   rooms = map (with_fit (fits_in db)) (bare_rooms_in db);
-  stays = listed (by_key nat_cmp) (λ r. stay_of (stay_columns r)) (db 5);
-  codes = listed (by_key nat_cmp) (λ r. code_of (code_columns r)) (db 6);
-  cards = listed (by_key nat_cmp) (λ r. card_of (card_columns r)) (db 8);
-  inside = listed pair_cmp (λ r. inside_of (inside_columns r)) (db 9);
+  stays = listed (by_key nat_cmp) (λ r. stay_of (stay_columns r)) (db stay_tree);
+  codes = listed (by_key nat_cmp) (λ r. code_of (code_columns r)) (db code_tree);
+  cards = listed (by_key nat_cmp) (λ r. card_of (card_columns r)) (db card_tree);
+  inside = listed pair_cmp (λ r. inside_of (inside_columns r)) (db inside_tree);
   notes = map (under_fit (fits_in db)) (bare_notes_in db);
   fits = fits_in db;
 }
@@ -108,20 +110,20 @@ IsFitTable Second rows = IsTable (by_key pair_cmp) fit_columns fit_of fit_writte
 
 -- The trees are those of the tables of a version, written by the books.
 pub record AreTablesOf (version : Version) (db : Trees) : Type 0 where
-  pub meta : IsTable (by_key nat_cmp) meta_columns meta_of meta_written (db 0)
+  pub meta : IsTable (by_key nat_cmp) meta_columns meta_of meta_written (db meta_tree)
   -- meta has one row, of the version
   pub meta_row : (day : Option ℕ) × (metas_in db ≡ (1, (number_of_version version, day)) ∷ [])
-  pub kind : IsTable (slice_cmp nat_cmp) kind_columns kind_of kind_written (db 1)
-  pub room : IsTable (by_key nat_cmp) room_columns room_of room_written (db 3)
-  pub stay : IsTable (by_key nat_cmp) stay_columns stay_of stay_written (db 5)
-  pub code : IsTable (by_key nat_cmp) code_columns code_of code_written (db 6)
-  pub card : IsTable (by_key nat_cmp) card_columns card_of card_written (db 8)
-  pub inside : IsTable pair_cmp inside_columns inside_of inside_written (db 9)
+  pub kind : IsTable (slice_cmp nat_cmp) kind_columns kind_of kind_written (db kind_tree)
+  pub room : IsTable (by_key nat_cmp) room_columns room_of room_written (db room_tree)
+  pub stay : IsTable (by_key nat_cmp) stay_columns stay_of stay_written (db stay_tree)
+  pub code : IsTable (by_key nat_cmp) code_columns code_of code_written (db code_tree)
+  pub card : IsTable (by_key nat_cmp) card_columns card_of card_written (db card_tree)
+  pub inside : IsTable pair_cmp inside_columns inside_of inside_written (db inside_tree)
   -- the numbers of its rows, by which one is deleted
-  pub inside_numbered : AllByRecursion HasId (db 9)
-  pub inside_ids : AreApartIds (db 9)
-  pub note : IsTable (by_key pair_cmp) note_columns note_of note_written (db 11)
-  pub fit : IsFitTable version (db 13)
+  pub inside_numbered : AllByRecursion HasId (db inside_tree)
+  pub inside_ids : AreApartIds (db inside_tree)
+  pub note : IsTable (by_key pair_cmp) note_columns note_of note_written (db note_tree)
+  pub fit : IsFitTable version (db fit_tree)
 
 -- those of the second version, written by the books
 abbrev pub AreTables : Trees → Type 0

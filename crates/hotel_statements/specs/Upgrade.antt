@@ -10,6 +10,7 @@ use Rattle.sqlite.specs.declared.error.Error.{Error}
 use Rattle.hotel_model.specs.declared.rows.FitRow.{FitRow}
 use Rattle.hotel_model.specs.Refits.{fit_row}
 use Rattle.hotel_statements.specs.declared.version.Version.TheVariants.{First}
+use Rattle.hotel_statements.specs.Trees.{fit_tree}
 use Rattle.hotel_statements.specs.Schema.{first_schema, desk_schema}
 use Rattle.hotel_statements.specs.Tables.{AreTablesOf, AreTables, bare_rooms_in, fits_in, rows_in, bare_rows_in}
 use Rattle.hotel_statements.specs.Tables.{rows_of_version}
@@ -72,7 +73,7 @@ pub record IsOutdated (s : State) : Type 0 where
   pub schema : s.now.schema ≡ desk_schema
   pub inside : IsTrue s.in_transaction
   pub tables : AreTablesOf First s.now.trees
-  pub empty : s.now.trees 13 ≡ []
+  pub empty : s.now.trees fit_tree ≡ []
 
 -- Within a transaction, the tables are those of a desk, whose fits are of rooms before this one.
 pub record IsBefore (room : ℕ) (s : State) : Type 0 where

@@ -12,6 +12,7 @@ use Rattle.sqlite.specs.State.{State, Shows, ExecutesInside}
 use Rattle.hotel_model.specs.declared.rows.FitRow.{FitRow}
 use Rattle.hotel_model.specs.Words.{pair_cmp}
 use Rattle.hotel_model.specs.Refits.{fit_row}
+use Rattle.hotel_statements.specs.Trees.{meta_tree}
 use Rattle.hotel_statements.specs.Schema.{meta_table}
 use Rattle.hotel_statements.specs.Texts.{update_version, insert_fit}
 use Rattle.hotel_statements.specs.Values.{int, maybe_int}
@@ -58,7 +59,7 @@ version_step old new count h before =
     let was = before h.1.was_open in
     let e = λ (r : Row). meta_of (meta_columns r) in
     let stored = λ (r : Row). meta_stored ((e r).0, (2, (e r).1.1)) in
-    let did = sets meta_columns meta_of meta_written meta_numbered 0 meta_table 1 (int 2 ∷ []) (λ x. (2, x.1))
+    let did = sets meta_columns meta_of meta_written meta_numbered meta_tree meta_table 1 (int 2 ∷ []) (λ x. (2, x.1))
     (λ r. int (e r).0 ∷ int (e r).0 ∷ Null ∷ int 2 ∷ maybe_int (e r).1.1 ∷ []) stored old new count refl
     changes.update_version (λ _ does. does)
     (record {

@@ -26,6 +26,7 @@ use Rattle.hotel_model.specs.declared.rows.RoomRow.{RoomRow}
 use Rattle.hotel_model.specs.declared.rows.FitRow.{FitRow}
 use Rattle.hotel_model.specs.Stays.{room_of_state, in_state, now_is}
 use Rattle.hotel_model.specs.Refinement.Change.{room_changed}
+use Rattle.hotel_statements.specs.Trees.{meta_tree, room_tree, stay_tree}
 use Rattle.hotel_statements.specs.Schema.{desk_schema, meta_table, room_table, stay_table}
 use Rattle.hotel_statements.specs.Texts.{update_day, update_issued, update_party, update_noted, update_refitted}
 use Rattle.hotel_statements.specs.Texts.{update_state}
@@ -110,7 +111,7 @@ day_step old new day count h mid =
     let was = (mid h.1.was_open).0 in
     let e = λ (r : Row). meta_of (meta_columns r) in
     let stored = λ (r : Row). meta_stored ((e r).0, ((e r).1.0, Some day)) in
-    let did = sets meta_columns meta_of meta_written meta_numbered 0 meta_table 1 (int day ∷ []) (λ x. (x.0, Some day)) (λ r. int (e r).0 ∷ int (e r).0 ∷ Null ∷ int (e r).1.0 ∷ int day ∷ []) stored old new count refl
+    let did = sets meta_columns meta_of meta_written meta_numbered meta_tree meta_table 1 (int day ∷ []) (λ x. (x.0, Some day)) (λ r. int (e r).0 ∷ int (e r).0 ∷ Null ∷ int (e r).1.0 ∷ int day ∷ []) stored old new count refl
     changes.update_day (λ _ does. does)
     (record {
       given = λ r good. ap (λ (v : Row). column v 0 ∷ column v 0 ∷ Null ∷ column v 1 ∷ int day ∷ []) good;
@@ -134,15 +135,15 @@ no_fit = record { room = 0; fit = 0; place = 0; before = 0 }
 
 rooms_step : {text : List ℕ} {terms : List Term} (room : ℕ) (more : Row) (f : RoomRow → RoomRow) (source : RoomRow → Row) (old new : State) (count : ℕ) → ((x : RoomRow) → (f x).room ≡ x.room)
     → ((last : Option FitRow) (x : RoomRow) → with_last last (f x) ≡ f (with_last last x))
-    → Does text (update 2 3 terms) → IsOn 3 room_table (statement_of text (understood desk_schema text)) (update 2 3 terms) old (int room ∷ more)
+    → Does text (update 2 room_tree terms) → IsOn room_tree room_table (statement_of text (understood desk_schema text)) (update 2 room_tree terms) old (int room ∷ more)
     → ((r : Row) → IsWrittenAs room_columns room_of room_written r → eval_all terms (env (int room ∷ more) r) ≡ source (room_of (room_columns r)).1) → ((x : RoomRow) → rowid (source x) ≡ int x.room)
-    → ((x : RoomRow) → cast_row (at_place 3 room_table) (drop 1 (source x)) ≡ room_stored (f x)) → ExecutesInside 0 text (int room ∷ more) old new (Ok count) → IsMidWith any_rows old
+    → ((x : RoomRow) → cast_row (at_place room_tree room_table) (drop 1 (source x)) ≡ room_stored (f x)) → ExecutesInside 0 text (int room ∷ more) old new (Ok count) → IsMidWith any_rows old
     → MovesRows old new (λ rows. record rows { rooms = room_changed room f rows.rooms })
 rooms_step room more f source old new count same apart does on given number cast h mid =
     let was = (mid h.1.was_open).0 in
     let db = old.now.trees in
     let x = λ (r : Row). (room_of (room_columns r)).1 in
-    let did = sets room_columns room_of room_written room_numbered 3 room_table room more f (λ r. source (x r)) (λ r. room_stored (f (x r))) old new count refl does on
+    let did = sets room_columns room_of room_written room_numbered room_tree room_table room more f (λ r. source (x r)) (λ r. room_stored (f (x r))) old new count refl does on
     (record {
       given = given;
       number = λ r. number (x r);
@@ -216,7 +217,7 @@ state_step old new party state count h mid =
     let was = (mid h.1.was_open).0 in
     let x = λ (r : Row). (stay_of (stay_columns r)).1 in
     let now = int (state_number state) ∷ maybe_int (room_of_state state) ∷ [] in
-    let did = sets stay_columns stay_of stay_written stay_numbered 5 stay_table party now (now_is state)
+    let did = sets stay_columns stay_of stay_written stay_numbered stay_tree stay_table party now (now_is state)
     (λ r. int (x r).party ∷ int (x r).party ∷ Null ∷ Text (x r).guest ∷ Text (x r).kind ∷ int (x r).arrive ∷ int (x r).depart ∷ now) (λ r. stay_stored (now_is state (x r))) old new count refl
     changes.update_state (λ _ does. does)
     (record {
