@@ -39,7 +39,8 @@ use Rattle.hotel_statements.specs.Values.{int}
 use Rattle.hotel_statements.specs.Texts.{delete_inside}
 use Rattle.hotel_statements.specs.Columns.{inside_columns, inside_of, inside_written}
 use Rattle.hotel_statements.specs.Tables.{IsWrittenAs, AreApart, AreApartIds, HasId, listed}
-use Rattle.hotel_statements.specs.Steps.{IsMidWith, MovesRows, any_rows, inside_gone}
+use Rattle.hotel_core.specs.Refinement.Finds.{AnyRows}
+use Rattle.hotel_statements.specs.Steps.{IsMidWith, MovesRows, inside_gone}
 use Rattle.hotel_statements.proofs.Answers.{answered, single, env, passes}
 use Rattle.hotel_statements.proofs.Keys.{equals, and_true, is_key}
 use Rattle.hotel_statements.proofs.Perm.{gone_one, apart_filtered, apart_permuted, filter_makes}
@@ -153,7 +154,7 @@ removed room card (e ∷ es) apart = elim (cases_Bool (is_pair room card e)) [
   | inr other ↦ let lost : is_at (pair_cmp (room, card)) e ≡ false = at_pair room card e ∙ other in rw (other, lost) (ap (λ rest. e ∷ rest) (removed room card es apart.1))
 ]
 
-pub gone_step : (old new : State) (room card count : ℕ) → ExecutesInside 0 delete_inside (int room ∷ int card ∷ []) old new (Ok count) → IsMidWith any_rows old → MovesRows old new (inside_gone room card)
+pub gone_step : (old new : State) (room card count : ℕ) → ExecutesInside 0 delete_inside (int room ∷ int card ∷ []) old new (Ok count) → IsMidWith AnyRows old → MovesRows old new (inside_gone room card)
 gone_step old new room card count h mid =
     let was = (mid h.1.was_open).0 in
     let db = old.now.trees in

@@ -30,7 +30,8 @@ use Rattle.hotel_statements.specs.Schema.{desk_schema, inside_table, at_tree}
 use Rattle.hotel_statements.specs.Values.{int}
 use Rattle.hotel_statements.specs.Texts.{delete_insides}
 use Rattle.hotel_statements.specs.Tables.{AreApartIds, HasId}
-use Rattle.hotel_statements.specs.Steps.{IsMidWith, MovesRows, any_rows, insides_gone}
+use Rattle.hotel_core.specs.Refinement.Finds.{AnyRows}
+use Rattle.hotel_statements.specs.Steps.{IsMidWith, MovesRows, insides_gone}
 use Rattle.hotel_statements.proofs.Answers.{answered, single, env, passes, fused}
 use Rattle.hotel_statements.proofs.Keyed.{column_equals}
 use Rattle.hotel_statements.proofs.Keys.{and_true}
@@ -146,7 +147,7 @@ shown_left room db rows keyed ids a =
     ∙ passing (test room) (db inside_tree) ids keyed
 
 pub emptied_step : (old new : State) (room count : ℕ)
-    → ExecutesInside 0 delete_insides (int room ∷ []) old new (Ok count) → IsMidWith any_rows old
+    → ExecutesInside 0 delete_insides (int room ∷ []) old new (Ok count) → IsMidWith AnyRows old
     → MovesRows old new (insides_gone room)
 emptied_step old new room count h mid =
     let was = (mid h.1.was_open).0 in

@@ -52,7 +52,8 @@ use Rattle.hotel_statements.specs.Columns.{code_columns, code_of, code_written, 
 use Rattle.hotel_statements.specs.Columns.{fit_columns, fit_of, fit_written}
 use Rattle.hotel_rows.specs.Joined.{with_last, with_fit, with_count, under_fit, fit_of_number}
 use Rattle.hotel_statements.specs.Tables.{IsWrittenAs, by_key, listed, rows_in, fits_in, bare_rooms_in, bare_notes_in}
-use Rattle.hotel_statements.specs.Steps.{IsMid, IsMidWith, IsNewNote, IsNextFit, IsWithoutFit, MovesRows, any_rows}
+use Rattle.hotel_core.specs.Refinement.Finds.{AnyRows}
+use Rattle.hotel_statements.specs.Steps.{IsMid, IsMidWith, IsNewNote, IsNextFit, IsWithoutFit, MovesRows}
 use Rattle.hotel_statements.specs.Steps.{bare_room}
 use Rattle.hotel_statements.specs.Steps.{counts_to, is_below, kind_added, note_added, fit_added, room_added, code_added}
 use Rattle.hotel_statements.specs.Steps.{stay_added, card_added}
@@ -111,7 +112,7 @@ put {at} {width} {text} {terms} tree t params source row old new count does on s
 -- ---- the tables whose rows have their key for a number
 
 pub code_step : (old new : State) (code : ℕ) (at : CodeRow) (count : ℕ) → ExecutesInside 0 insert_code (int code ∷ int at.room ∷ int at.place ∷ []) old new (Ok count)
-    → IsMidWith any_rows old → MovesRows old new (code_added code at)
+    → IsMidWith AnyRows old → MovesRows old new (code_added code at)
 code_step old new code at count h mid =
     let was = (mid h.1.was_open).0 in
     let row = code_stored code at in
@@ -143,7 +144,7 @@ room_step old new r count h mid =
 
 pub stay_step : (old new : State) (stay : Stay) (count : ℕ)
     → ExecutesInside 0 insert_stay (int stay.party ∷ Text stay.guest ∷ Text stay.kind ∷ int stay.arrive ∷ int stay.depart ∷ int (state_number stay.state) ∷ maybe_int (room_of_state stay.state) ∷ []) old new (Ok count)
-    → IsMidWith any_rows old → MovesRows old new (stay_added stay)
+    → IsMidWith AnyRows old → MovesRows old new (stay_added stay)
 stay_step old new s count h mid =
     let was = (mid h.1.was_open).0 in
     let row = stay_stored s in
@@ -152,7 +153,7 @@ stay_step old new s count h mid =
     steps old new (stay_added s) h.1 did.changes (stays_set was.tables (insert_makes stay_columns stay_of stay_written stay_numbered row s.party s _ was.tables.stay (stay_good s) (stay_reads s) refl did.fresh))
 
 pub card_step : (old new : State) (card : Card) (count : ℕ) → ExecutesInside 0 insert_card (int card.number ∷ int card.party ∷ int card.link.old_code ∷ int card.link.new_code ∷ []) old new (Ok count)
-    → IsMidWith any_rows old → MovesRows old new (card_added card)
+    → IsMidWith AnyRows old → MovesRows old new (card_added card)
 card_step old new c count h mid =
     let was = (mid h.1.was_open).0 in
     let row = card_stored c in

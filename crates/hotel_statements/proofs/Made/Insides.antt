@@ -17,7 +17,8 @@ use Rattle.hotel_statements.specs.Values.{int}
 use Rattle.hotel_statements.specs.Texts.{insert_inside}
 use Rattle.hotel_statements.specs.Columns.{inside_columns, inside_of, inside_written}
 use Rattle.hotel_statements.specs.Tables.{IsWrittenAs, AreApartIds, HasId, rows_in}
-use Rattle.hotel_statements.specs.Steps.{IsMidWith, MovesRows, any_rows, inside_added}
+use Rattle.hotel_core.specs.Refinement.Finds.{AnyRows}
+use Rattle.hotel_statements.specs.Steps.{IsMidWith, MovesRows, inside_added}
 use Rattle.hotel_statements.proofs.Statements.Changes as changes
 use Rattle.hotel_statements.proofs.Writing.{cast_null, cast_int}
 use Rattle.hotel_statements.proofs.Perm.{same_tie, put_fresh, apart_permuted, every_shuffled}
@@ -33,7 +34,7 @@ put_ids new rows fresh apart =
     apart_permuted (λ a b. value_cmp (rowid a) (rowid b)) (on_total rowid value_cmp_total) (new ∷ rows) (put_row new rows) (IsPermutation-sym _ _ (put_fresh new rows fresh)) (flipped, apart)
 
 pub inside_step : (old new : State) (room number count : ℕ) → ExecutesInside 0 insert_inside (int room ∷ int number ∷ []) old new (Ok count)
-    → IsMidWith any_rows old → MovesRows old new (inside_added room number)
+    → IsMidWith AnyRows old → MovesRows old new (inside_added room number)
 inside_step old new room number count h mid =
     let was = (mid h.1.was_open).0 in
     let e : ℕ × ℕ = (room, number) in
