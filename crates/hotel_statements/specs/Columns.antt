@@ -1,5 +1,5 @@
 -- The rows of the nine tables: which columns each has, what a row with these columns says, and how the books write it.
-use Rattle.std.specs.Prelude.{ℕ, Bool, true, false, List, [], ◌∷◌, Option, Some, None, ◌==◌, if◌then◌else◌, unwrap_or}
+use Rattle.std.specs.Prelude.{ℕ, Bool, true, false, List, [], ◌∷◌, Option, Some, None, ◌==◌}
 use Rattle.sqlite_value.specs.declared.value.Value.TheVariants.{Text}
 use Rattle.sqlite.specs.Order.{Row, column}
 use Rattle.keycard_rules.specs.declared.card.Card.{Card}
@@ -13,6 +13,7 @@ use Rattle.hotel_model.specs.declared.rows.RoomRow.{RoomRow}
 use Rattle.hotel_model.specs.declared.rows.CodeRow.{CodeRow}
 use Rattle.hotel_model.specs.declared.rows.FitRow.{FitRow}
 use Rattle.hotel_model.specs.Stays.{room_of_state}
+use Rattle.hotel_rows.specs.Stored.{state_of, act_of}
 use Rattle.hotel_statements.specs.Values.{number_of, option_of, text_of, int, maybe_int}
 
 -- An integer key stands first in a stored row, and nothing in its own column; `.._columns` are the columns as they are
@@ -71,9 +72,6 @@ abbrev pub room_written : ℕ × RoomRow → Row
 room_written e = int e.0 ∷ Text e.1.kind ∷ int e.1.lock_place ∷ int e.1.codes ∷ int (bit_of e.1.secured) ∷ maybe_int e.1.party ∷ int e.1.notes ∷ []
 
 -- ---- stay
-
-abbrev pub state_of : ℕ → Option ℕ → StayState
-state_of n room = if n == 0 then Booked else if n == 1 then InHouse (unwrap_or room 0) else if n == 2 then Done else Cancelled
 
 abbrev pub state_number : StayState → ℕ
 state_number Booked = 0
@@ -144,12 +142,6 @@ abbrev pub inside_written : ℕ × ℕ → Row
 inside_written e = int e.0 ∷ int e.1 ∷ []
 
 -- ---- note
-
--- what happened, by the number of the act, the card (none where staff recoded the lock) and the two codes
-abbrev pub act_of : ℕ → Option ℕ → ℕ → ℕ → Act
-act_of n card first second =
-    if n == 0 then Entered (unwrap_or card 0) (record { old_code = first; new_code = second })
-    else if n == 1 then Left (unwrap_or card 0) (record { old_code = first; new_code = second }) else Recoded first second
 
 abbrev pub act_number : Act → ℕ
 act_number (Entered card link) = 0

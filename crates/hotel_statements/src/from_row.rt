@@ -7,7 +7,8 @@ ghost use Rattle.hotel_statements.specs.Readable.{IsNatural, IsCount, IsText, Is
 ghost use Rattle.hotel_statements.specs.Readable.{IsBit, IsKind, IsGuest, OrNull};
 ghost use Rattle.hotel_statements.specs.Readable.{FailsToRead, IsState, IsAct};
 ghost use Rattle.hotel_statements.specs.Readable.{IsStay, IsCodeRow, IsCard, IsFit, BeginsWith};
-ghost use Rattle.hotel_statements.specs.Columns.{stay_row_of, code_row_of, card_row_of, fit_row_of, state_of, act_of};
+ghost use Rattle.hotel_statements.specs.Columns.{stay_row_of, code_row_of, card_row_of, fit_row_of};
+ghost use Rattle.hotel_rows.specs.Stored.{state_of, act_of};
 
 pub(crate) mod bare_rows;
 pub(crate) mod list_rows;
