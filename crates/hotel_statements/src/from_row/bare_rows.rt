@@ -10,7 +10,7 @@ ghost use Rattle.hotel_statements.specs.Failures.{IsNoteUnder};
 ghost use Rattle.hotel_statements.specs.Walks.{note_under};
 
 use super::list_rows::RowReader;
-use super::{FromRow, act, bit, counted, day_number, kind_code, maybe_counted, small_integer};
+use super::{FromRow, act, bit, counted, day, kind_code, maybe_counted, small_integer};
 use crate::look_ups::RoomCounts;
 use hotel_core::{FitRow, RoomRow};
 use hotel_nights::KindCode;
@@ -121,7 +121,7 @@ impl FromRow for BareNote {
             room: counted(row, 0)?,
             number: small_integer(row, 1)?,
             act: act(row)?,
-            day: day_number(row, 6)?,
+            day: day(row, 6)?.number(),
             second: small_integer(row, 7)?,
         })
     }
