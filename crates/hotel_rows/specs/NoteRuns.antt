@@ -16,7 +16,8 @@ note_run_of (n ∷ ns) = Some (record { first = n; last = last_of (n ∷ ns); co
 
 -- the map has what the numbers of each room's notes are
 abbrev pub NoteRunsOf : List (ℕ × NoteRun) → List PlainNote → Type 0
-NoteRunsOf runs plain_rows = (room : ℕ) → at_number runs room ≡ note_run_of (numbers_at (map note_entry plain_rows) room)
+NoteRunsOf runs plain_rows = (room : ℕ)
+    → at_number runs room ≡ note_run_of (numbers_at (map note_entry plain_rows) room)
 
 -- the numbers of the room's notes are 1 and on, as many as the room's row says
 abbrev pub counted_as_due : List (ℕ × NoteRun) → PlainRoom → Bool

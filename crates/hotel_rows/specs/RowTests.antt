@@ -32,7 +32,8 @@ use Rattle.hotel_rows.specs.Damage.{most_notes, room_columns, stay_columns, note
 
 -- the map has exactly these kinds
 abbrev pub HasKinds : List (List ℕ × ℕ) → List (List ℕ) → Type 0
-HasKinds known kinds = (q : List ℕ) → is_some (lookup (is_at (slice_cmp nat_cmp q)) known) ≡ list_any (λ k. bytes_eq k q) kinds
+HasKinds known kinds = (q : List ℕ)
+    → is_some (lookup (is_at (slice_cmp nat_cmp q)) known) ≡ list_any (λ k. bytes_eq k q) kinds
 
 -- ---- room
 

@@ -97,7 +97,8 @@ module _ (db : Trees) (t : AreTables db) where
       let up : IsAscending (λ x y. output_cmp code_query x y ≡ Less) (map shown_number fs) =
       map_rises shown_number _ fs (ascending_weaker _ _ (λ x y less. then_nothing _ ∙ int_order x.0 y.0 ∙ less) fs (ascending-filter _ (stands_at room place) es rises)) in
       let all : (rows : List Row) → IsAnswer code_query (overlay db []) (int room ∷ int place ∷ []) rows → rows ≡ map (λ e. (shown_number e).1) fs = λ rows answer.
-      ordered_rows (by_key nat_cmp) (key_total nat_cmp_total) (IsWrittenAs code_columns code_of code_written) (λ r. code_of (code_columns r)) code_tree (by_pair 2 3)
+      ordered_rows (by_key nat_cmp) (key_total nat_cmp_total) (IsWrittenAs code_columns code_of code_written)
+      (λ r. code_of (code_columns r)) code_tree (by_pair 2 3)
       (columns (0 ∷ [])) by_code (int room ∷ int place ∷ []) (stands_at room place) shown_number db rows fs
       t.code (place_tests room place) (λ r good. ap (λ v. (v ∷ [], v ∷ [])) (ap (λ v. column v 0) good)) (IsPermutation-refl fs) up answer in
       go o a all ∙ first_standing room place es
@@ -145,11 +146,13 @@ module _ (db : Trees) (t : AreTables db) where
       let up : IsAscending (λ x y. output_cmp stay_query x y ≡ Less) (map shown_stay_row fs) =
       map_rises shown_stay_row _ fs (ascending_weaker _ _ (λ x y less. then_nothing _ ∙ int_order x.0 y.0 ∙ less) fs (ascending-filter _ (is_of kind) es rises)) in
       let rows : a.0 ≡ map stay_written fs =
-      ordered_rows (by_key nat_cmp) (key_total nat_cmp_total) (IsWrittenAs stay_columns stay_of stay_written) (λ r. stay_of (stay_columns r)) stay_tree
+      ordered_rows (by_key nat_cmp) (key_total nat_cmp_total) (IsWrittenAs stay_columns stay_of stay_written)
+      (λ r. stay_of (stay_columns r)) stay_tree
       (column_is 3 0 ∷ []) all_seven by_code (Text kind ∷ []) (is_of kind) shown_stay_row db a.0 fs
       t.stay (of_kind_tests kind) (λ r good. ap₂ (λ v w. (v ∷ [], w)) (ap (λ v. column v 0) good) good) (IsPermutation-refl fs) up a.1 in
       let reads = all-filter _ (is_of kind) es (all_listed (by_key nat_cmp) (key_total nat_cmp_total) (IsWrittenAs stay_columns stay_of stay_written)
-      (λ r. stay_of (stay_columns r)) (λ e. stay_row_of (stay_written e) ≡ e.1) (db stay_tree) (read_rows (db stay_tree) t.stay.good)) in
+      (λ r. stay_of (stay_columns r)) (λ e. stay_row_of (stay_written e) ≡ e.1) (db stay_tree)
+      (read_rows (db stay_tree) t.stay.good)) in
       a.2 ∙ ap (map stay_row_of) rows ∙ fused stay_row_of stay_written fs ∙ map_all (λ e. stay_row_of (stay_written e)) (λ e. e.1) fs reads ∙ of_values kind es
 
   -- ---- the cards inside a room
@@ -201,7 +204,8 @@ module _ (db : Trees) (t : AreTables db) where
       let up : IsAscending (λ x y. output_cmp inside_query x y ≡ Less) (map shown_card fs) =
       map_rises shown_card _ fs (ascending_weaker _ _ (λ x y less. then_nothing _ ∙ int_order x.1 y.1 ∙ less) fs (room_rises room es rises)) in
       let rows : a.0 ≡ map (λ e. (shown_card e).1) fs =
-      ordered_rows pair_cmp pair_cmp_total (IsWrittenAs inside_columns inside_of inside_written) (λ r. inside_of (inside_columns r)) inside_tree (column_is 1 0 ∷ [])
+      ordered_rows pair_cmp pair_cmp_total (IsWrittenAs inside_columns inside_of inside_written)
+      (λ r. inside_of (inside_columns r)) inside_tree (column_is 1 0 ∷ [])
       (columns (2 ∷ [])) by_card (int room ∷ []) (is_in room) shown_card db a.0 fs
       t.inside (room_tests db t room) (λ r good. ap (λ v. (v ∷ [], v ∷ [])) (ap (λ v. column v 1) good)) (IsPermutation-refl fs) up a.1 in
       a.2 ∙ ap (map (λ v. number_of (column v 0))) rows ∙ fused (λ v. number_of (column v 0)) (λ e. (shown_card e).1) fs ∙ those_listed room es

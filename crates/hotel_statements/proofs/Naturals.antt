@@ -75,18 +75,30 @@ record IsState (n : ℕ) (room : Option ℕ) : Type 0 where
 
 is_state : (n : ℕ) (room : Option ℕ) → nat_le n 3 ≡ true → (cond (is_some room) (n == 1) (not (n == 1))) ≡ true → IsState n room
 is_state n None low h = elim (cases_Bool (eqb n 0)) [
-  | inl zero_is ↦ record { number = rw zero_is (grind (arith, nat_tests)); home = rw zero_is refl }
+  | inl zero_is ↦ record {
+    number = rw zero_is (grind (arith, nat_tests));
+    home = rw zero_is refl;
+  }
   | inr not_zero ↦ elim (cases_Bool (eqb n 1)) [
     | inl one_is ↦ absurd (let w = rw one_is at h in false≢true w)
     | inr not_one ↦ elim (cases_Bool (eqb n 2)) [
-      | inl two_is ↦ record { number = rw (not_zero, not_one, two_is) (grind (arith, nat_tests)); home = rw (not_zero, not_one, two_is) refl }
-      | inr not_two ↦ record { number = rw (not_zero, not_one, not_two) (grind (arith, nat_tests)); home = rw (not_zero, not_one, not_two) refl }
+      | inl two_is ↦ record {
+        number = rw (not_zero, not_one, two_is) (grind (arith, nat_tests));
+        home = rw (not_zero, not_one, two_is) refl;
+      }
+      | inr not_two ↦ record {
+        number = rw (not_zero, not_one, not_two) (grind (arith, nat_tests));
+        home = rw (not_zero, not_one, not_two) refl;
+      }
     ]
   ]
 ]
 is_state n (Some room) low h =
     let not_zero : eqb n 0 ≡ false = grind (arith, nat_tests) in
-    record { number = rw (not_zero, h) (grind (arith, nat_tests)); home = rw (not_zero, h) refl }
+    record {
+      number = rw (not_zero, h) (grind (arith, nat_tests));
+      home = rw (not_zero, h) refl;
+    }
 
 record IsAct (n : ℕ) (card : Option ℕ) (first second : ℕ) : Type 0 where
   number : n ≡ act_number (act_of n card first second)
@@ -98,12 +110,27 @@ is_act : (n : ℕ) (card : Option ℕ) (first second : ℕ) → (cond (is_some c
 is_act n None first second h =
     let not_zero : eqb n 0 ≡ false = grind (arith, nat_tests) in
     let not_one : eqb n 1 ≡ false = grind (arith, nat_tests) in
-    record { number = rw (not_zero, not_one) (grind (arith, nat_tests)); by = rw (not_zero, not_one) refl; from = rw (not_zero, not_one) refl; to = rw (not_zero, not_one) refl }
+    record {
+      number = rw (not_zero, not_one) (grind (arith, nat_tests));
+      by = rw (not_zero, not_one) refl;
+      from = rw (not_zero, not_one) refl;
+      to = rw (not_zero, not_one) refl;
+    }
 is_act n (Some card) first second h = elim (cases_Bool (eqb n 0)) [
-  | inl zero_is ↦ record { number = rw zero_is (grind (arith, nat_tests)); by = rw zero_is refl; from = rw zero_is refl; to = rw zero_is refl }
+  | inl zero_is ↦ record {
+    number = rw zero_is (grind (arith, nat_tests));
+    by = rw zero_is refl;
+    from = rw zero_is refl;
+    to = rw zero_is refl;
+  }
   | inr not_zero ↦
       let one_is : eqb n 1 ≡ true = grind (arith, nat_tests) in
-      record { number = rw (not_zero, one_is) (grind (arith, nat_tests)); by = rw (not_zero, one_is) refl; from = rw (not_zero, one_is) refl; to = rw (not_zero, one_is) refl }
+      record {
+        number = rw (not_zero, one_is) (grind (arith, nat_tests));
+        by = rw (not_zero, one_is) refl;
+        from = rw (not_zero, one_is) refl;
+        to = rw (not_zero, one_is) refl;
+      }
 ]
 
 -- ---- the rows of the tables
@@ -206,6 +233,14 @@ note_good l h fits =
     let to : Int l.second_code ≡ int (act_second (act_of n card first second)) =
     is_int l.second_code e.1 ∙ ap int it.to in (
       rw (is_int l.room a.0, is_int l.n a.1, number, carded, from, to, is_int l.day f.1, is_int l.second i.1) refl,
-      rw (says l.room a.0, says l.n a.1, says l.act b.1, may_say l.card k.1, says l.first_code d.1,
-      says l.second_code e.1, says l.day f.1, says l.second i.1) refl,
+      rw (
+        says l.room a.0,
+        says l.n a.1,
+        says l.act b.1,
+        may_say l.card k.1,
+        says l.first_code d.1,
+        says l.second_code e.1,
+        says l.day f.1,
+        says l.second i.1,
+      ) refl,
     )

@@ -78,7 +78,8 @@ enters old new count has h =
       fit = at fit_tree ∙ applied.tables.1.1.1.1.1.1.1.1.0 (λ e. omega (arith, e));
     }
 
-empty_desk : (db : Trees) → db meta_tree ≡ meta_row ∷ [] → db kind_tree ≡ [] → db room_tree ≡ [] → db stay_tree ≡ [] → db code_tree ≡ [] → db card_tree ≡ [] → db inside_tree
+empty_desk : (db : Trees) → db meta_tree ≡ meta_row ∷ [] → db kind_tree ≡ [] → db room_tree ≡ [] → db stay_tree ≡ []
+    → db code_tree ≡ [] → db card_tree ≡ [] → db inside_tree
     ≡ [] → db note_tree ≡ [] → db fit_tree ≡ [] → IsEmptyDesk db
 empty_desk db meta kind room stay code card inside note fit = record {
   tables = record {

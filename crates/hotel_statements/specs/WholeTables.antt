@@ -81,13 +81,16 @@ MayRead version Fails Says old new result = ReadsIf (IsKept old) version Fails S
 -- the rows of the first four tables, and of the next four
 abbrev pub AreFirst : (Vec PlainMeta Global × Vec PlainKind Global) × (Vec PlainRoom Global × Vec PlainStay Global) → Trees → Type 0
 AreFirst r db =
-    (ArePlainRows meta_columns meta_shown r.0.0.items (db meta_tree) × ArePlainRows kind_columns kind_shown r.0.1.items (db kind_tree))
-    × (ArePlainRows room_columns room_shown r.1.0.items (db room_tree) × ArePlainRows stay_columns stay_shown r.1.1.items (db stay_tree))
+    (ArePlainRows meta_columns meta_shown r.0.0.items (db meta_tree)
+    × ArePlainRows kind_columns kind_shown r.0.1.items (db kind_tree))
+    × (ArePlainRows room_columns room_shown r.1.0.items (db room_tree)
+    × ArePlainRows stay_columns stay_shown r.1.1.items (db stay_tree))
 
 abbrev pub AreLast : (Vec PlainCode Global × Vec PlainCard Global) × (Vec NumberedInside Global × Vec PlainNote Global)
     → Trees → Type 0
 AreLast r db =
-    (ArePlainRows code_columns code_shown r.0.0.items (db code_tree) × ArePlainRows card_columns card_shown r.0.1.items (db card_tree))
+    (ArePlainRows code_columns code_shown r.0.0.items (db code_tree)
+    × ArePlainRows card_columns card_shown r.0.1.items (db card_tree))
     × (ArePlainRows numbered_columns numbered_shown r.1.0.items (db inside_tree)
     × ArePlainRows note_columns note_shown r.1.1.items (db note_tree))
 

@@ -55,7 +55,8 @@ pub fn end_stay<S: Alter>(
     room: RoomNo,
 ) -> Result<(), Error>
     ensures same_reference { tx.new.conn.ghost_name ≡ tx.old.conn.ghost_name }
-    ensures makes { WritesBy S.Store (ends_stay party room) AnyRows (made (change.CheckedOut party room)) tx.old.conn.now tx.new.conn.now result }
+    ensures makes { WritesBy S.Store (ends_stay party room) AnyRows (made (change.CheckedOut party room))
+        tx.old.conn.now tx.new.conn.now result }
 {
     set_state(tx, party, StayState::Done)?;
     free_room(tx, room)

@@ -20,7 +20,8 @@ fn give_code<S: Alter>(
     at: CodeRow,
 ) -> Result<(), Error>
     ensures same_reference { tx.new.conn.ghost_name ≡ tx.old.conn.ghost_name }
-    ensures makes { WritesBy S.Store (gives_code leaves code at) AnyRows (code_given leaves code at) tx.old.conn.now tx.new.conn.now result }
+    ensures makes { WritesBy S.Store (gives_code leaves code at) AnyRows (code_given leaves code at) tx.old.conn.now
+        tx.new.conn.now result }
 {
     match leaves {
         Some(left) => {
@@ -39,7 +40,8 @@ fn give_card<S: Alter>(
     codes: u32,
 ) -> Result<(), Error>
     ensures same_reference { tx.new.conn.ghost_name ≡ tx.old.conn.ghost_name }
-    ensures makes { WritesBy S.Store (gives_card card room codes) AnyRows (card_given card room codes) tx.old.conn.now tx.new.conn.now result }
+    ensures makes { WritesBy S.Store (gives_card card room codes) AnyRows (card_given card room codes) tx.old.conn.now
+        tx.new.conn.now result }
 {
     let party = card.party;
     set_issued(tx, room, codes, party)?;

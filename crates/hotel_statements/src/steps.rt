@@ -71,7 +71,8 @@ pub(crate) fn insert_code<S: Alter>(
     at: CodeRow,
 ) -> Result<(), Error>
     ensures same_reference { tx.new.conn.ghost_name ≡ tx.old.conn.ghost_name }
-    ensures makes { WritesBy S.Store (adds_code code at ∷ []) AnyRows (code_added code at) tx.old.conn.now tx.new.conn.now result }
+    ensures makes { WritesBy S.Store (adds_code code at ∷ []) AnyRows (code_added code at) tx.old.conn.now
+        tx.new.conn.now result }
 {
     run(
         tx,
@@ -83,7 +84,8 @@ pub(crate) fn insert_code<S: Alter>(
 /// Adds a stay.
 pub fn insert_stay<S: Alter>(tx: &mut Transaction<'_, S>, stay: &Stay) -> Result<(), Error>
     ensures same_reference { tx.new.conn.ghost_name ≡ tx.old.conn.ghost_name }
-    ensures makes { WritesBy S.Store (adds_stay stay.now ∷ []) AnyRows (stay_added stay.now) tx.old.conn.now tx.new.conn.now result }
+    ensures makes { WritesBy S.Store (adds_stay stay.now ∷ []) AnyRows (stay_added stay.now) tx.old.conn.now
+        tx.new.conn.now result }
 {
     run(
         tx,
@@ -103,7 +105,8 @@ pub fn insert_stay<S: Alter>(tx: &mut Transaction<'_, S>, stay: &Stay) -> Result
 /// Adds a card.
 pub fn insert_card<S: Alter>(tx: &mut Transaction<'_, S>, card: Card) -> Result<(), Error>
     ensures same_reference { tx.new.conn.ghost_name ≡ tx.old.conn.ghost_name }
-    ensures makes { WritesBy S.Store (adds_card card ∷ []) AnyRows (card_added card) tx.old.conn.now tx.new.conn.now result }
+    ensures makes { WritesBy S.Store (adds_card card ∷ []) AnyRows (card_added card) tx.old.conn.now tx.new.conn.now
+        result }
 {
     run(
         tx,
@@ -169,7 +172,8 @@ pub(crate) fn insert_inside<S: Alter>(
     card: CardNo,
 ) -> Result<(), Error>
     ensures same_reference { tx.new.conn.ghost_name ≡ tx.old.conn.ghost_name }
-    ensures makes { WritesBy S.Store (adds_inside room card ∷ []) AnyRows (inside_added room card) tx.old.conn.now tx.new.conn.now result }
+    ensures makes { WritesBy S.Store (adds_inside room card ∷ []) AnyRows (inside_added room card) tx.old.conn.now
+        tx.new.conn.now result }
 {
     run(tx, INSERT_INSIDE, &[numbered(room), numbered(card)])
 }
@@ -181,7 +185,8 @@ pub(crate) fn delete_inside<S: Alter>(
     card: CardNo,
 ) -> Result<(), Error>
     ensures same_reference { tx.new.conn.ghost_name ≡ tx.old.conn.ghost_name }
-    ensures makes { WritesBy S.Store (removes_inside room card ∷ []) AnyRows (inside_gone room card) tx.old.conn.now tx.new.conn.now result }
+    ensures makes { WritesBy S.Store (removes_inside room card ∷ []) AnyRows (inside_gone room card) tx.old.conn.now
+        tx.new.conn.now result }
 {
     run(tx, DELETE_INSIDE, &[numbered(room), numbered(card)])
 }
@@ -206,7 +211,8 @@ pub(crate) fn set_issued<S: Alter>(
     party: PartyNo,
 ) -> Result<(), Error>
     ensures same_reference { tx.new.conn.ghost_name ≡ tx.old.conn.ghost_name }
-    ensures makes { WritesBy S.Store (sets_issued room codes party ∷ []) AnyRows (room_issued room codes party) tx.old.conn.now tx.new.conn.now result }
+    ensures makes { WritesBy S.Store (sets_issued room codes party ∷ []) AnyRows (room_issued room codes party)
+        tx.old.conn.now tx.new.conn.now result }
 {
     run(
         tx,
@@ -218,7 +224,8 @@ pub(crate) fn set_issued<S: Alter>(
 /// Leaves a room without a party.
 pub fn free_room<S: Alter>(tx: &mut Transaction<'_, S>, room: RoomNo) -> Result<(), Error>
     ensures same_reference { tx.new.conn.ghost_name ≡ tx.old.conn.ghost_name }
-    ensures makes { WritesBy S.Store (frees_room room ∷ []) AnyRows (room_freed room) tx.old.conn.now tx.new.conn.now result }
+    ensures makes { WritesBy S.Store (frees_room room ∷ []) AnyRows (room_freed room) tx.old.conn.now tx.new.conn.now
+        result }
 {
     run(tx, UPDATE_PARTY, &[numbered(room)])
 }
@@ -232,7 +239,8 @@ pub(crate) fn set_noted<S: Alter>(
     notes: u32,
 ) -> Result<(), Error>
     ensures same_reference { tx.new.conn.ghost_name ≡ tx.old.conn.ghost_name }
-    ensures makes { WritesBy S.Store (sets_noted room lock_place secured notes ∷ []) AnyRows (room_noted room lock_place secured notes) tx.old.conn.now tx.new.conn.now result }
+    ensures makes { WritesBy S.Store (sets_noted room lock_place secured notes ∷ [])
+        AnyRows (room_noted room lock_place secured notes) tx.old.conn.now tx.new.conn.now result }
 {
     run(
         tx,
@@ -271,7 +279,8 @@ pub fn set_state<S: Alter>(
     state_now: StayState,
 ) -> Result<(), Error>
     ensures same_reference { tx.new.conn.ghost_name ≡ tx.old.conn.ghost_name }
-    ensures makes { WritesBy S.Store (sets_state party state_now ∷ []) AnyRows (stay_set party state_now) tx.old.conn.now tx.new.conn.now result }
+    ensures makes { WritesBy S.Store (sets_state party state_now ∷ []) AnyRows (stay_set party state_now)
+        tx.old.conn.now tx.new.conn.now result }
 {
     run(
         tx,

@@ -174,7 +174,8 @@ first_ids : (plain_rows : List NumberedInside) → map (λ (v : Row). column v 0
 first_ids [] = refl
 first_ids (l ∷ plain_rows) = ap (λ vs. Int l.id ∷ vs) (first_ids plain_rows)
 
-pub ids_apart : (plain_rows : List NumberedInside) (db : Trees) → ArePlainRows numbered_columns numbered_shown plain_rows (db inside_tree)
+pub ids_apart : (plain_rows : List NumberedInside) (db : Trees)
+    → ArePlainRows numbered_columns numbered_shown plain_rows (db inside_tree)
     → IsAscending (λ a b. is_eq (int_cmp a b) ≡ false) (map id_inside plain_rows) → AreApartInside db
 ids_apart plain_rows db same apart =
     let rows = db inside_tree in
@@ -322,26 +323,35 @@ are_desk {version} s db a ids keys columns natural =
     let f2 = and_true _ (list_all damage.note_columns s.notes.items) columns in
     let f1 = and_true (list_all damage.room_columns s.rooms.items) (list_all damage.stay_columns s.stays.items) f2.0 in
     let plain : PlainMeta = record { id = pos 1; version = s.version; day = s.day } in
-    let meta_plain : ArePlainRows meta_columns meta_shown (plain ∷ []) (db meta_tree) = subst (λ xs. IsPermutation xs (meta_shown plain ∷ [])) (sym a.meta) (IsPermutation-refl (meta_shown plain ∷ [])) in
+    let meta_plain : ArePlainRows meta_columns meta_shown (plain ∷ []) (db meta_tree) =
+    subst (λ xs. IsPermutation xs (meta_shown plain ∷ [])) (sym a.meta)
+    (IsPermutation-refl (meta_shown plain ∷ [])) in
     let entry : PlainMeta → ℕ × (ℕ × Option ℕ) = λ l. (number_of l.id, (number_of l.version, option_map number_of l.day)) in
     let meta =
     read_back (by_key nat_cmp) (key_total nat_cmp_total) meta_columns meta_of meta_written meta_shown entry
     (plain ∷ []) (db meta_tree) meta_plain (meta_good plain refl a.version_is n1.0, tt) (tt, tt) in
-    let kind = read_back (slice_cmp nat_cmp) nat_list_cmp_total kind_columns kind_of kind_written kind_shown kind_text s.kinds.items (db kind_tree) a.kinds (all_kinds s.kinds.items)
+    let kind = read_back (slice_cmp nat_cmp) nat_list_cmp_total kind_columns kind_of kind_written kind_shown kind_text
+    s.kinds.items (db kind_tree) a.kinds (all_kinds s.kinds.items)
     (tested_order (slice_cmp nat_cmp) nat_list_cmp_total (map kind_text s.kinds.items) k1.0) in
-    let room = read_back (by_key nat_cmp) (key_total nat_cmp_total) room_columns room_of room_written room_shown room_entry s.rooms.items (db room_tree) a.rooms
+    let room = read_back (by_key nat_cmp) (key_total nat_cmp_total) room_columns room_of room_written room_shown
+    room_entry s.rooms.items (db room_tree) a.rooms
     (each_two room_natural damage.room_columns _ room_good s.rooms.items n1.1 f1.0)
     (rising nat_cmp_total room_entry s.rooms.items
     (ap (are_in_order nat_cmp) (sym (keys_with_fit (fits_of s) (map room_entry s.rooms.items))) ∙ k1.1)) in
-    let stay = read_back (by_key nat_cmp) (key_total nat_cmp_total) stay_columns stay_of stay_written stay_shown stay_entry s.stays.items (db stay_tree) a.stays
+    let stay = read_back (by_key nat_cmp) (key_total nat_cmp_total) stay_columns stay_of stay_written stay_shown
+    stay_entry s.stays.items (db stay_tree) a.stays
     (each_two stay_natural damage.stay_columns _ stay_good s.stays.items n2.1 f1.1) (rising nat_cmp_total stay_entry s.stays.items k3.1) in
-    let code = read_back (by_key nat_cmp) (key_total nat_cmp_total) code_columns code_of code_written code_shown code_entry s.codes.items (db code_tree) a.codes
+    let code = read_back (by_key nat_cmp) (key_total nat_cmp_total) code_columns code_of code_written code_shown
+    code_entry s.codes.items (db code_tree) a.codes
     (each code_natural _ code_good s.codes.items n3.1) (rising nat_cmp_total code_entry s.codes.items k2.1) in
-    let card = read_back (by_key nat_cmp) (key_total nat_cmp_total) card_columns card_of card_written card_shown card_entry s.cards.items (db card_tree) a.cards
+    let card = read_back (by_key nat_cmp) (key_total nat_cmp_total) card_columns card_of card_written card_shown
+    card_entry s.cards.items (db card_tree) a.cards
     (each card_natural _ card_good s.cards.items n4.1) (rising nat_cmp_total card_entry s.cards.items k4.1) in
-    let inside = read_back pair_cmp pair_cmp_total inside_columns inside_of inside_written inside_shown inside_pair s.inside.items (db inside_tree) a.inside
+    let inside = read_back pair_cmp pair_cmp_total inside_columns inside_of inside_written inside_shown inside_pair
+    s.inside.items (db inside_tree) a.inside
     (each inside_natural _ inside_good s.inside.items n5.1) (tested_order pair_cmp pair_cmp_total (map inside_pair s.inside.items) k5.1) in
-    let note = read_back (by_key pair_cmp) (key_total pair_cmp_total) note_columns note_of note_written note_shown note_entry s.notes.items (db note_tree) a.notes
+    let note = read_back (by_key pair_cmp) (key_total pair_cmp_total) note_columns note_of note_written note_shown
+    note_entry s.notes.items (db note_tree) a.notes
     (each_two note_natural damage.note_columns _ note_good s.notes.items n6.1 f2.1)
     (rising pair_cmp_total note_entry s.notes.items
     (ap (are_in_order pair_cmp) (sym (keys_under_fit (fits_of s) (map note_entry s.notes.items))) ∙ k6.1)) in

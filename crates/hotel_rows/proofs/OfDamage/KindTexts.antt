@@ -57,7 +57,8 @@ some_by true v o = refl
 some_by false v o = refl
 
 -- a kind more
-pub knows_more : (known later : List (List ℕ × ℕ)) (kinds : List (List ℕ)) (kind : List ℕ) (v : ℕ) → HasKinds known kinds
+pub knows_more : (known later : List (List ℕ × ℕ)) (kinds : List (List ℕ)) (kind : List ℕ) (v : ℕ)
+    → HasKinds known kinds
     → ((q : List ℕ) → lookup (is_at (slice_cmp nat_cmp q)) later ≡ cond (is_at (slice_cmp nat_cmp kind) q) (Some v) (lookup (is_at (slice_cmp nat_cmp q)) known))
     → HasKinds later (kinds ++ kind ∷ [])
 knows_more known later kinds kind v knows put q =

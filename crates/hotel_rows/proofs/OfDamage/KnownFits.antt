@@ -15,7 +15,8 @@ use Rattle.hotel_rows.specs.declared.damage.placed.Placed.{Placed}
 use Rattle.hotel_rows.specs.declared.stored.Stored.{Stored}
 use Rattle.hotel_rows.specs.Stored.{number_of, fit_row, fit_entry, plain_fits, rows_of}
 use Rattle.hotel_rows.specs.Placed.{places_in, listed_in, PlacesOf, are_due_at}
-use Rattle.hotel_rows.specs.FitRuns.{fit_run_of, fits_in, last_place_in, last_after, begin_key, begins_in, FitRunsOf, BeginsOf}
+use Rattle.hotel_rows.specs.FitRuns.{fit_run_of, fits_in, last_place_in, last_after, begin_key, begins_in, FitRunsOf}
+use Rattle.hotel_rows.specs.FitRuns.{BeginsOf}
 use Rattle.hotel_rows.proofs.OfDamage.Newest.{length_values, due_parts}
 
 -- what stands past the end of a list of fits
@@ -26,9 +27,11 @@ no_fit = record { room = pos 0; fit = pos 0; place = pos 0; before = pos 0 }
 
 more_by : (b : Bool) (plain : PlainFit) (plain_rows : List PlainFit) (before : List (ℕ × FitRun)) (r : ℕ)
     → (number_of plain.room == r) ≡ b → FitRunsOf before plain_rows
-    → cond b (fit_run_of (fit_row plain ∷ fits_at (map fit_entry plain_rows) (number_of plain.room))) (at_number before r)
+    → cond b (fit_run_of (fit_row plain ∷ fits_at (map fit_entry plain_rows) (number_of plain.room)))
+    (at_number before r)
     ≡ fit_run_of (when b (λ fits. fit_row plain ∷ fits) (fits_at (map fit_entry plain_rows) r))
-more_by true plain plain_rows before r e is = ap (λ q. fit_run_of (fit_row plain ∷ fits_at (map fit_entry plain_rows) q))
+more_by true plain plain_rows before r e is =
+    ap (λ q. fit_run_of (fit_row plain ∷ fits_at (map fit_entry plain_rows) q))
     (eq_from (number_of plain.room) r e)
 more_by false plain plain_rows before r e is = is r
 

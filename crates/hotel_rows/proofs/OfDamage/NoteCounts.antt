@@ -28,7 +28,8 @@ use Rattle.hotel_rows.proofs.OfJoined.{Fits}
 abbrev pub no_note : PlainNote
 no_note = record { room = pos 0; n = pos 0; act = pos 0; card = None; first_code = pos 0; second_code = pos 0; day = pos 0; second = pos 0 }
 
-more_by : (b : Bool) (plain : PlainNote) (plain_rows : List PlainNote) (before : List (ℕ × NoteRun)) (r : ℕ) → (number_of plain.room == r) ≡ b → NoteRunsOf before plain_rows
+more_by : (b : Bool) (plain : PlainNote) (plain_rows : List PlainNote) (before : List (ℕ × NoteRun)) (r : ℕ)
+    → (number_of plain.room == r) ≡ b → NoteRunsOf before plain_rows
     → cond b (note_run_of (number_of plain.n ∷ numbers_at (map note_entry plain_rows) (number_of plain.room)))
     (at_number before r)
     ≡ note_run_of (when b (λ numbers. number_of plain.n ∷ numbers) (numbers_at (map note_entry plain_rows) r))
@@ -37,8 +38,10 @@ more_by true plain plain_rows before r e is = ap (λ q. note_run_of
 more_by false plain plain_rows before r e is = is r
 
 -- a note more, before the others
-pub runs_more : (before after : List (ℕ × NoteRun)) (plain : PlainNote) (plain_rows : List PlainNote) → NoteRunsOf before plain_rows
-    → ((r : ℕ) (ns : List ℕ) → at_number before (number_of plain.room) ≡ note_run_of ns → at_number after r ≡ cond (r == number_of plain.room) (note_run_of (number_of plain.n ∷ ns)) (at_number before r))
+pub runs_more : (before after : List (ℕ × NoteRun)) (plain : PlainNote) (plain_rows : List PlainNote)
+    → NoteRunsOf before plain_rows
+    → ((r : ℕ) (ns : List ℕ) → at_number before (number_of plain.room) ≡ note_run_of ns
+    → at_number after r ≡ cond (r == number_of plain.room) (note_run_of (number_of plain.n ∷ ns)) (at_number before r))
     → NoteRunsOf after (plain ∷ plain_rows)
 runs_more before after plain plain_rows is put r =
     let ns = numbers_at (map note_entry plain_rows) (number_of plain.room) in
@@ -70,7 +73,9 @@ due_by true false n ns m e f = ap (λ z. z && (suc (length ns) == m)) (ap (λ q.
 due_by false true n ns m e f = refl
 due_by false false n ns m e f = refl
 
-pub due_as_counted : (ns : List ℕ) (m : ℕ) → (count_up 1 ns && (length ns == m)) ≡ said_of (note_run_of ns) (m == 0) (λ run. run.counted && (run.first == 1) && (run.last == m))
+pub due_as_counted : (ns : List ℕ) (m : ℕ)
+    → (count_up 1 ns && (length ns == m))
+    ≡ said_of (note_run_of ns) (m == 0) (λ run. run.counted && (run.first == 1) && (run.last == m))
 due_as_counted [] m = eq_turned 0 m
 due_as_counted (n ∷ ns) m =
     due_by (n == 1) (count_up (n + 1) ns) n ns m refl refl
@@ -83,7 +88,8 @@ numbers_joined fits [] r = refl
 numbers_joined fits (e ∷ es) r = ap (λ ns. when (e.0.0 == r) (λ numbers. e.0.1 ∷ numbers) ns) (numbers_joined fits es r)
 
 -- the rule on the numbers of all rooms
-pub counts_as_due : (s : Stored) (runs : List (ℕ × NoteRun)) → NoteRunsOf runs s.notes.items → notes_counted (rows_of s) ≡ list_all (counted_as_due runs) s.rooms.items
+pub counts_as_due : (s : Stored) (runs : List (ℕ × NoteRun)) → NoteRunsOf runs s.notes.items
+    → notes_counted (rows_of s) ≡ list_all (counted_as_due runs) s.rooms.items
 counts_as_due s runs is =
     all_rooms (λ (e : ℕ × RoomRow). count_up 1 (numbers_at (rows_of s).notes e.1.room)
     && (length (numbers_at (rows_of s).notes e.1.room) == e.1.notes)) (fits_of s) s.rooms.items

@@ -90,7 +90,8 @@ fn with_first(run: Option<FitRun>, fit: &PlainFit) -> FitRun
 
 fn add_fit(runs: &mut BTreeMap<u64, FitRun>, fit: &PlainFit) -> Result<(), Memory>
     requires { fits_in runs.old.entries (number_of fit.now.room) < 2 ^ 63 }
-    ensures { OnOk result ((r : ℕ) (fs : List FitRow) → at_number runs.old.entries (number_of fit.now.room) ≡ fit_run_of fs
+    ensures { OnOk result ((r : ℕ) (fs : List FitRow)
+        → at_number runs.old.entries (number_of fit.now.room) ≡ fit_run_of fs
         → at_number runs.new.entries r
         ≡ (if r == number_of fit.now.room then fit_run_of (fit_row fit.now ∷ fs) else at_number runs.old.entries r)) }
 {

@@ -45,7 +45,9 @@ fn with_first(run: Option<NoteRun>, n: u64) -> NoteRun
 
 fn add_note(runs: &mut BTreeMap<u64, NoteRun>, note: &PlainNote) -> Result<(), Memory>
     ensures { OnOk result ((r : ℕ) (ns : List ℕ) → at_number runs.old.entries (number_of note.now.room) ≡ note_run_of ns
-        → at_number runs.new.entries r ≡ (if r == number_of note.now.room then note_run_of (number_of note.now.n ∷ ns) else at_number runs.old.entries r)) }
+        → at_number runs.new.entries r
+        ≡ (if r == number_of note.now.room then note_run_of (number_of note.now.n ∷ ns)
+        else at_number runs.old.entries r)) }
 {
     let room = number(note.room);
     let count = number(note.n);

@@ -71,7 +71,8 @@ Same a b = AllByRecursion (λ (t : Table). b t.tree ≡ a t.tree) desk_schema.ta
 abbrev pub SameFront : Trees → Trees → Type 0
 SameFront a b = KeepsRows first_schema.tables a b
 
-pub same_tables : {version : Version} (a b : Trees) → SameFront a b → AreTablesOf version a → IsFitTable version (b fit_tree)
+pub same_tables : {version : Version} (a b : Trees) → SameFront a b → AreTablesOf version a
+    → IsFitTable version (b fit_tree)
     → AreTablesOf version b
 same_tables a b same was fits = record {
   meta = subst AreMetas (sym same.0) was.meta;
@@ -180,7 +181,8 @@ rooms_set {db} was made = (
 )
 
 pub stays_set : {db : Trees} {rows : List Row} {list : List (ℕ × Stay)} → AreTables db → AreStays rows × (listed (by_key nat_cmp) (λ r. stay_of (stay_columns r)) rows ≡ list)
-    → AreTables (with_tree db stay_tree rows) × (rows_in (with_tree db stay_tree rows) ≡ record (rows_in db) { stays = list })
+    → AreTables (with_tree db stay_tree rows)
+    × (rows_in (with_tree db stay_tree rows) ≡ record (rows_in db) { stays = list })
 stays_set {db} was made = (
   record {
     meta = was.meta;
@@ -201,7 +203,8 @@ stays_set {db} was made = (
 )
 
 pub codes_set : {db : Trees} {rows : List Row} {list : List (ℕ × CodeRow)} → AreTables db → AreCodes rows × (listed (by_key nat_cmp) (λ r. code_of (code_columns r)) rows ≡ list)
-    → AreTables (with_tree db code_tree rows) × (rows_in (with_tree db code_tree rows) ≡ record (rows_in db) { codes = list })
+    → AreTables (with_tree db code_tree rows)
+    × (rows_in (with_tree db code_tree rows) ≡ record (rows_in db) { codes = list })
 codes_set {db} was made = (
   record {
     meta = was.meta;
@@ -222,7 +225,8 @@ codes_set {db} was made = (
 )
 
 pub cards_set : {db : Trees} {rows : List Row} {list : List (ℕ × Card)} → AreTables db → AreCards rows × (listed (by_key nat_cmp) (λ r. card_of (card_columns r)) rows ≡ list)
-    → AreTables (with_tree db card_tree rows) × (rows_in (with_tree db card_tree rows) ≡ record (rows_in db) { cards = list })
+    → AreTables (with_tree db card_tree rows)
+    × (rows_in (with_tree db card_tree rows) ≡ record (rows_in db) { cards = list })
 cards_set {db} was made = (
   record {
     meta = was.meta;
@@ -243,7 +247,8 @@ cards_set {db} was made = (
 )
 
 pub kinds_set : {db : Trees} {rows : List Row} {list : List (List ℕ)} → AreTables db → AreKinds rows × (listed (slice_cmp nat_cmp) (λ r. kind_of (kind_columns r)) rows ≡ list)
-    → AreTables (with_tree db kind_tree rows) × (rows_in (with_tree db kind_tree rows) ≡ record (rows_in db) { kinds = list })
+    → AreTables (with_tree db kind_tree rows)
+    × (rows_in (with_tree db kind_tree rows) ≡ record (rows_in db) { kinds = list })
 kinds_set {db} was made = (
   record {
     meta = was.meta;
@@ -320,7 +325,8 @@ fits_set {db} was made = (
 )
 
 pub insides_set : {db : Trees} {rows : List Row} {list : List (ℕ × ℕ)} → AreTables db → AreInside rows × (listed pair_cmp (λ r. inside_of (inside_columns r)) rows ≡ list) → AllByRecursion HasId rows → AreApartIds rows
-    → AreTables (with_tree db inside_tree rows) × (rows_in (with_tree db inside_tree rows) ≡ record (rows_in db) { inside = list })
+    → AreTables (with_tree db inside_tree rows)
+    × (rows_in (with_tree db inside_tree rows) ≡ record (rows_in db) { inside = list })
 insides_set {db} was made numbered apart = (
   record {
     meta = was.meta;
@@ -342,7 +348,8 @@ insides_set {db} was made numbered apart = (
 
 pub day_set : {db : Trees} {rows : List Row} {day : Option ℕ} → AreTables db → AreMetas rows
     × (listed (by_key nat_cmp) (λ r. meta_of (meta_columns r)) rows ≡ (1, (2, day)) ∷ [])
-    → AreTables (with_tree db meta_tree rows) × (rows_in (with_tree db meta_tree rows) ≡ record (rows_in db) { day = day })
+    → AreTables (with_tree db meta_tree rows)
+    × (rows_in (with_tree db meta_tree rows) ≡ record (rows_in db) { day = day })
 day_set {day = day} was made = (
   record {
     meta = made.0;

@@ -128,12 +128,14 @@ filter_alike p q same (r ∷ rows) = rw (same r) (ap (λ rest. cond (q r) (r ∷
 abbrev table : Table
 table = at_tree inside_tree inside_table
 
-shown_left : (room : ℕ) (db : Trees) (rows : List Row) → AllByRecursion HasId (db inside_tree) → AreApartIds (db inside_tree)
+shown_left : (room : ℕ) (db : Trees) (rows : List Row) → AllByRecursion HasId (db inside_tree)
+    → AreApartIds (db inside_tree)
     → IsAnswer (single inside_tree (column_is 1 0 ∷ []) (col 1 0 ∷ []) []) (overlay db []) (int room ∷ []) rows
     → edited db (edit_of db table (ids_of rows) Given 0 []) ≡ filter (λ r. not (test room r)) (db inside_tree)
 shown_left room db rows keyed ids a =
     let it = answered inside_tree (column_is 1 0 ∷ []) (col 1 0 ∷ []) [] (overlay db []) (int room ∷ []) rows a in
-    let outs : Row → Output = λ r. output (single inside_tree (column_is 1 0 ∷ []) (col 1 0 ∷ []) []) (env (int room ∷ []) r) in
+    let outs : Row → Output = λ r. output (single inside_tree (column_is 1 0 ∷ []) (col 1 0 ∷ []) [])
+    (env (int room ∷ []) r) in
     let number : Output → ℤ = λ o. own o.1 in
     let some = filter (test room) (db inside_tree) in
     let same : IsPermutation (map own some) (map number it.ordered) = subst

@@ -116,7 +116,9 @@ pub code_step : (old new : State) (code : ℕ) (at : CodeRow) (count : ℕ) → 
 code_step old new code at count h mid =
     let was = (mid h.1.was_open).0 in
     let row = code_stored code at in
-    let did : Put code_tree row old new = put code_tree code_table _ row row old new count changes.insert_code (λ _ does. does) refl (rw (cast_null, cast_int (pos code), cast_int (pos at.room), cast_int (pos at.place)) refl) was.schema h.0 in
+    let did : Put code_tree row old new =
+    put code_tree code_table _ row row old new count changes.insert_code (λ _ does. does) refl
+    (rw (cast_null, cast_int (pos code), cast_int (pos at.room), cast_int (pos at.place)) refl) was.schema h.0 in
     steps old new (code_added code at) h.1 did.changes (codes_set was.tables (insert_makes code_columns code_of code_written code_numbered row code at _ was.tables.code refl refl refl did.fresh))
 
 pub room_step : (old new : State) (row : RoomRow) (count : ℕ)
@@ -127,7 +129,8 @@ room_step old new r count h mid =
     let was = both.0 in
     let db = old.now.trees in
     let row = room_stored r in
-    let did : Put room_tree row old new = put room_tree room_table _ row row old new count changes.insert_room (λ _ does. does) refl
+    let did : Put room_tree row old new =
+    put room_tree room_table _ row row old new count changes.insert_room (λ _ does. does) refl
     (rw (cast_null, cast_int (pos r.room), cast_int (pos r.lock_place), cast_int (pos r.codes), cast_int (pos (bit_of r.secured)), cast_maybe r.party, cast_int (pos r.notes)) refl) was.schema h.0 in
     let set = rooms_set was.tables (insert_makes room_columns room_of room_written room_numbered row r.room
     (bare_room r) _ was.tables.room (room_good r) (room_reads r) refl did.fresh) in
@@ -148,7 +151,8 @@ pub stay_step : (old new : State) (stay : Stay) (count : ℕ)
 stay_step old new s count h mid =
     let was = (mid h.1.was_open).0 in
     let row = stay_stored s in
-    let did : Put stay_tree row old new = put stay_tree stay_table _ row row old new count changes.insert_stay (λ _ does. does) refl
+    let did : Put stay_tree row old new =
+    put stay_tree stay_table _ row row old new count changes.insert_stay (λ _ does. does) refl
     (rw (cast_null, cast_int (pos s.party), cast_int (pos s.arrive), cast_int (pos s.depart), cast_int (pos (state_number s.state)), cast_maybe (room_of_state s.state)) refl) was.schema h.0 in
     steps old new (stay_added s) h.1 did.changes (stays_set was.tables (insert_makes stay_columns stay_of stay_written stay_numbered row s.party s _ was.tables.stay (stay_good s) (stay_reads s) refl did.fresh))
 
@@ -157,7 +161,8 @@ pub card_step : (old new : State) (card : Card) (count : ℕ) → ExecutesInside
 card_step old new c count h mid =
     let was = (mid h.1.was_open).0 in
     let row = card_stored c in
-    let did : Put card_tree row old new = put card_tree card_table _ row row old new count changes.insert_card (λ _ does. does) refl
+    let did : Put card_tree row old new =
+    put card_tree card_table _ row row old new count changes.insert_card (λ _ does. does) refl
     (rw (cast_null, cast_int (pos c.number), cast_int (pos c.party), cast_int (pos c.link.old_code), cast_int (pos c.link.new_code)) refl) was.schema h.0 in
     steps old new (card_added c) h.1 did.changes (cards_set was.tables (insert_makes card_columns card_of card_written card_numbered row c.number c _ was.tables.card refl refl refl did.fresh))
 
@@ -174,7 +179,9 @@ kind_step old new kind count h mid =
     let was = both.0 in
     let kinds = (rows_in old.now.trees).kinds in
     let row = kind_stored (next_rowid (old.now.trees kind_tree)) kind in
-    let did : Put kind_tree row old new = put kind_tree kind_table _ (Null ∷ Text kind ∷ []) row old new count changes.insert_kind (λ _ does. does) refl (rw (cast_null, cast_text kind) refl) was.schema h.0 in
+    let did : Put kind_tree row old new =
+    put kind_tree kind_table _ (Null ∷ Text kind ∷ []) row old new count changes.insert_kind (λ _ does. does) refl
+    (rw (cast_null, cast_text kind) refl) was.schema h.0 in
     let apart = kind_apart kind kinds (none_from_any (λ k. bytes_eq k kind) kinds both.1) in
     let made = put_keyed (slice_cmp nat_cmp) nat_list_cmp_total (IsWrittenAs kind_columns kind_of kind_written) (λ r. kind_of (kind_columns r)) row kind _ was.tables.kind refl refl did.fresh apart in
     steps old new (kind_added kind) h.1 did.changes (kinds_set was.tables (made.0, made.1 ∙ key_put (slice_cmp nat_cmp) kind kinds apart))
@@ -275,7 +282,8 @@ puts_fit old new f count h was later =
     let fits = fits_in old.now.trees in
     let k : ℕ × ℕ = (f.room, f.fit) in
     let row = fit_stored (next_rowid (old.now.trees fit_tree)) f in
-    let did : Put fit_tree row old new = put fit_tree fit_table _ (Null ∷ int f.room ∷ int f.fit ∷ int f.place ∷ int f.before ∷ [])
+    let did : Put fit_tree row old new =
+    put fit_tree fit_table _ (Null ∷ int f.room ∷ int f.fit ∷ int f.place ∷ int f.before ∷ [])
     row old new count changes.insert_fit (λ _ does. does) refl
     (rw (cast_null, cast_int (pos f.room), cast_int (pos f.fit), cast_int (pos f.place), cast_int (pos f.before)) refl)
     was.schema h in

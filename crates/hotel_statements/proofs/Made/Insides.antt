@@ -40,7 +40,9 @@ inside_step old new room number count h mid =
     let e : ℕ × ℕ = (room, number) in
     let rows = old.now.trees inside_tree in
     let row = inside_stored (next_rowid rows) e in
-    let did : Put inside_tree row old new = put inside_tree inside_table _ (Null ∷ int room ∷ int number ∷ []) row old new count changes.insert_inside (λ _ does. does) refl
+    let did : Put inside_tree row old new =
+    put inside_tree inside_table _ (Null ∷ int room ∷ int number ∷ []) row old new count changes.insert_inside
+    (λ _ does. does) refl
     (rw (cast_null, cast_int (pos room), cast_int (pos number)) refl) was.schema h.0 in
     let out = alone did.next room number (next_rowid rows) rows was.tables.inside.good was.tables.inside_numbered did.fits did.next_is did.fresh in
     let made = put_keyed pair_cmp pair_total (IsWrittenAs inside_columns inside_of inside_written) (λ r. inside_of (inside_columns r)) row e rows was.tables.inside refl refl did.fresh out in

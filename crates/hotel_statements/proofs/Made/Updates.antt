@@ -107,12 +107,15 @@ module _ {X : Type 0} (columns : Row → Row) (of : Row → ℕ × X) (written :
 
 -- ---- the day of meta
 
-pub day_step : (old new : State) (day count : ℕ) → ExecutesInside 0 update_day (int 1 ∷ int day ∷ []) old new (Ok count) → IsMidWith AnyRows old → MovesRows old new (day_set day)
+pub day_step : (old new : State) (day count : ℕ) → ExecutesInside 0 update_day (int 1 ∷ int day ∷ []) old new (Ok count)
+    → IsMidWith AnyRows old → MovesRows old new (day_set day)
 day_step old new day count h mid =
     let was = (mid h.1.was_open).0 in
     let e = λ (r : Row). meta_of (meta_columns r) in
     let stored = λ (r : Row). meta_stored ((e r).0, ((e r).1.0, Some day)) in
-    let did = sets meta_columns meta_of meta_written meta_numbered meta_tree meta_table 1 (int day ∷ []) (λ x. (x.0, Some day)) (λ r. int (e r).0 ∷ int (e r).0 ∷ Null ∷ int (e r).1.0 ∷ int day ∷ []) stored old new count refl
+    let did = sets meta_columns meta_of meta_written meta_numbered meta_tree meta_table 1 (int day ∷ [])
+    (λ x. (x.0, Some day)) (λ r. int (e r).0 ∷ int (e r).0 ∷ Null ∷ int (e r).1.0 ∷ int day ∷ []) stored old new
+    count refl
     changes.update_day (λ _ does. does)
     (record {
       given = λ r good. ap (λ (v : Row). column v 0 ∷ column v 0 ∷ Null ∷ column v 1 ∷ int day ∷ []) good;
@@ -136,15 +139,19 @@ no_fit = record { room = 0; fit = 0; place = 0; before = 0 }
 
 rooms_step : {text : List ℕ} {terms : List Term} (room : ℕ) (more : Row) (f : RoomRow → RoomRow) (source : RoomRow → Row) (old new : State) (count : ℕ) → ((x : RoomRow) → (f x).room ≡ x.room)
     → ((last : Option FitRow) (x : RoomRow) → with_last last (f x) ≡ f (with_last last x))
-    → Does text (update 2 room_tree terms) → IsOn room_tree room_table (statement_of text (understood desk_schema text)) (update 2 room_tree terms) old (int room ∷ more)
+    → Does text (update 2 room_tree terms)
+    → IsOn room_tree room_table (statement_of text (understood desk_schema text)) (update 2 room_tree terms) old
+    (int room ∷ more)
     → ((r : Row) → IsWrittenAs room_columns room_of room_written r → eval_all terms (env (int room ∷ more) r) ≡ source (room_of (room_columns r)).1) → ((x : RoomRow) → rowid (source x) ≡ int x.room)
-    → ((x : RoomRow) → cast_row (at_place room_tree room_table) (drop 1 (source x)) ≡ room_stored (f x)) → ExecutesInside 0 text (int room ∷ more) old new (Ok count) → IsMidWith AnyRows old
+    → ((x : RoomRow) → cast_row (at_place room_tree room_table) (drop 1 (source x)) ≡ room_stored (f x))
+    → ExecutesInside 0 text (int room ∷ more) old new (Ok count) → IsMidWith AnyRows old
     → MovesRows old new (λ rows. record rows { rooms = room_changed room f rows.rooms })
 rooms_step room more f source old new count same apart does on given number cast h mid =
     let was = (mid h.1.was_open).0 in
     let db = old.now.trees in
     let x = λ (r : Row). (room_of (room_columns r)).1 in
-    let did = sets room_columns room_of room_written room_numbered room_tree room_table room more f (λ r. source (x r)) (λ r. room_stored (f (x r))) old new count refl does on
+    let did = sets room_columns room_of room_written room_numbered room_tree room_table room more f (λ r. source (x r))
+    (λ r. room_stored (f (x r))) old new count refl does on
     (record {
       given = given;
       number = λ r. number (x r);
@@ -169,7 +176,9 @@ issued_step old new room codes party count =
     (λ r good. ap (λ (v : Row). column v 0 ∷ column v 0 ∷ Null ∷ column v 1 ∷ column v 2 ∷ int codes ∷ int 0 ∷ int party ∷ column v 6 ∷ []) good) (λ x. refl)
     (λ x. rw (cast_null, cast_int (pos x.room), cast_int (pos x.lock_place), cast_int (pos codes), cast_int (pos 0), cast_int (pos party), cast_int (pos x.notes)) refl)
 
-pub freed_step : (old new : State) (room : ℕ) (count : ℕ) → ExecutesInside 0 update_party (int room ∷ []) old new (Ok count) → IsMidWith AnyRows old → MovesRows old new (room_freed room)
+pub freed_step : (old new : State) (room : ℕ) (count : ℕ)
+    → ExecutesInside 0 update_party (int room ∷ []) old new (Ok count) → IsMidWith AnyRows old
+    → MovesRows old new (room_freed room)
 freed_step old new room count =
     rooms_step room _ (λ x. record x { party = None })
     (λ x. int x.room ∷ int x.room ∷ Null ∷ Text x.kind ∷ int x.lock_place ∷ int x.codes ∷ int (bit_of x.secured) ∷ Null

@@ -231,11 +231,15 @@ module _ (db : Trees) (t : AreTables db) (sound : IsSound (rows_in db)) where
   matched : IsPermutation (map (output behind_query) (matches (overlay db []) test tables ([] ∷ [])))
       (flat_map lefts_of rooms)
   matched =
-      one_more_table db test behind_query (by_key nat_cmp) (key_total nat_cmp_total) GoodRoom (λ r. room_of (room_columns r)) room_tree (inner code_tree (inner code_tree end)) ([] ∷ [])
+      one_more_table db test behind_query (by_key nat_cmp) (key_total nat_cmp_total) GoodRoom
+      (λ r. room_of (room_columns r)) room_tree (inner code_tree (inner code_tree end)) ([] ∷ [])
       lefts_of good_rooms (λ r room.
-      one_more_table db test behind_query (by_key nat_cmp) (key_total nat_cmp_total) (IsWrittenAs code_columns code_of code_written) (λ c. code_of (code_columns c)) code_tree (inner code_tree end) ([] ∷ r ∷ [])
+      one_more_table db test behind_query (by_key nat_cmp) (key_total nat_cmp_total)
+      (IsWrittenAs code_columns code_of code_written) (λ c. code_of (code_columns c)) code_tree (inner code_tree end)
+      ([] ∷ r ∷ [])
       (with_held (room_of (room_columns r))) t.code.good (λ c held.
-      one_more_table db test behind_query (by_key nat_cmp) (key_total nat_cmp_total) (IsWrittenAs code_columns code_of code_written) (λ d. code_of (code_columns d)) code_tree end ([] ∷ r ∷ c ∷ [])
+      one_more_table db test behind_query (by_key nat_cmp) (key_total nat_cmp_total)
+      (IsWrittenAs code_columns code_of code_written) (λ d. code_of (code_columns d)) code_tree end ([] ∷ r ∷ c ∷ [])
       (λ y. if are_there (room_of (room_columns r)) (code_of (code_columns c)) y then shown (room_of (room_columns r), ((code_of (code_columns c)).0, y.0)) ∷ [] else []) t.code.good
       (λ d last. last_table db test behind_query ([] ∷ r ∷ c ∷ d ∷ []) _ _ (tests_there r c d room held last) (shows r c d room held last))))
 

@@ -123,9 +123,12 @@ module _ (db : Trees) (t : AreTables db) (sound : IsSound (rows_in db)) where
   matched : IsPermutation (map (output house_query) (matches (overlay db []) test tables ([] ∷ [])))
       (flat_map pairs_of rooms)
   matched =
-      one_more_table db test house_query (by_key nat_cmp) (key_total nat_cmp_total) (IsWrittenAs room_columns room_of room_written) (λ r. room_of (room_columns r)) room_tree (inner stay_tree end) ([] ∷ [])
+      one_more_table db test house_query (by_key nat_cmp) (key_total nat_cmp_total)
+      (IsWrittenAs room_columns room_of room_written) (λ r. room_of (room_columns r)) room_tree (inner stay_tree end)
+      ([] ∷ [])
       pairs_of t.room.good (λ r room.
-      one_more_table db test house_query (by_key nat_cmp) (key_total nat_cmp_total) (IsWrittenAs stay_columns stay_of stay_written) (λ s. stay_of (stay_columns s)) stay_tree end ([] ∷ r ∷ [])
+      one_more_table db test house_query (by_key nat_cmp) (key_total nat_cmp_total)
+      (IsWrittenAs stay_columns stay_of stay_written) (λ s. stay_of (stay_columns s)) stay_tree end ([] ∷ r ∷ [])
       (λ x. if is_there (room_of (room_columns r)) x then shown (room_of (room_columns r), x.1) ∷ [] else []) t.stay.good (λ s stay.
       last_table db test house_query ([] ∷ r ∷ s ∷ []) _ _ (tests_there r s room stay) (shows r s room stay)))
 

@@ -32,7 +32,8 @@ pub select_code : Asks text.select_code (single code_tree by_rowid (columns (0 �
 unfolding understood everything
 select_code = record { query = (_, refl); plain = (refl, refl); listing = refl }
 
-pub select_code_at : Asks text.select_code_at (single code_tree (by_pair 2 3) (columns (0 ∷ [])) ((col 1 0, ascending Binary) ∷ []))
+pub select_code_at : Asks text.select_code_at
+    (single code_tree (by_pair 2 3) (columns (0 ∷ [])) ((col 1 0, ascending Binary) ∷ []))
 unfolding understood everything
 select_code_at = record { query = (_, refl); plain = (refl, refl); listing = refl }
 
@@ -56,19 +57,23 @@ pub select_fit : Asks text.select_fit (single fit_tree (by_pair 1 2) (columns (1
 unfolding understood everything
 select_fit = record { query = (_, refl); plain = (refl, refl); listing = refl }
 
-pub select_last_party : Asks text.select_last_party (single stay_tree [] (columns (0 ∷ [])) ((col 1 0, record { collation = Binary; descending = true }) ∷ []))
+pub select_last_party : Asks text.select_last_party
+    (single stay_tree [] (columns (0 ∷ [])) ((col 1 0, record { collation = Binary; descending = true }) ∷ []))
 unfolding understood everything
 select_last_party = record { query = (_, refl); plain = (refl, refl); listing = refl }
 
-pub select_last_card : Asks text.select_last_card (single card_tree [] (columns (0 ∷ [])) ((col 1 0, record { collation = Binary; descending = true }) ∷ []))
+pub select_last_card : Asks text.select_last_card
+    (single card_tree [] (columns (0 ∷ [])) ((col 1 0, record { collation = Binary; descending = true }) ∷ []))
 unfolding understood everything
 select_last_card = record { query = (_, refl); plain = (refl, refl); listing = refl }
 
-pub select_stays_of_kind : Asks text.select_stays_of_kind (single stay_tree (column_is 3 0 ∷ []) all_seven ((col 1 0, ascending Binary) ∷ []))
+pub select_stays_of_kind : Asks text.select_stays_of_kind
+    (single stay_tree (column_is 3 0 ∷ []) all_seven ((col 1 0, ascending Binary) ∷ []))
 unfolding understood everything
 select_stays_of_kind = record { query = (_, refl); plain = (refl, refl); listing = refl }
 
-pub select_cards_inside : Asks text.select_cards_inside (single inside_tree (column_is 1 0 ∷ []) (columns (2 ∷ [])) ((col 1 2, ascending Binary) ∷ []))
+pub select_cards_inside : Asks text.select_cards_inside
+    (single inside_tree (column_is 1 0 ∷ []) (columns (2 ∷ [])) ((col 1 2, ascending Binary) ∷ []))
 unfolding understood everything
 select_cards_inside = record { query = (_, refl); plain = (refl, refl); listing = refl }
 

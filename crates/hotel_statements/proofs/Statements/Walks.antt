@@ -19,20 +19,24 @@ use Rattle.sqlite_sql.specs.declared.ops.CompareOp.TheVariants.{Eq, Lt, Le}
 use Rattle.hotel_statements.specs.Schema.{compare}
 
 pub walk_arrivals : Asks text.walk_arrivals
-    (single stay_tree (compare Eq (col 1 6) (lit (Int (pos 0))) ∷ compare Le (col 1 4) (col 0 0) ∷ compare Lt (col 0 0) (col 1 5) ∷ []) all_seven ((col 1 0, ascending Binary) ∷ []))
+    (single stay_tree (compare Eq (col 1 6) (lit (Int (pos 0))) ∷ compare Le (col 1 4) (col 0 0)
+    ∷ compare Lt (col 0 0) (col 1 5) ∷ []) all_seven ((col 1 0, ascending Binary) ∷ []))
 unfolding understood everything
 walk_arrivals = record { query = (_, refl); plain = (refl, refl); listing = refl }
 
-pub walk_chain : Asks text.walk_chain (single code_tree (column_is 2 0 ∷ []) (columns (3 ∷ 0 ∷ [])) ((col 1 3, ascending Binary) ∷ []))
+pub walk_chain : Asks text.walk_chain
+    (single code_tree (column_is 2 0 ∷ []) (columns (3 ∷ 0 ∷ [])) ((col 1 3, ascending Binary) ∷ []))
 unfolding understood everything
 walk_chain = record { query = (_, refl); plain = (refl, refl); listing = refl }
 
-pub walk_audit : Asks text.walk_audit (single note_tree (column_is 1 0 ∷ []) all_eight ((col 1 2, ascending Binary) ∷ []))
+pub walk_audit : Asks text.walk_audit
+    (single note_tree (column_is 1 0 ∷ []) all_eight ((col 1 2, ascending Binary) ∷ []))
 unfolding understood everything
 walk_audit = record { query = (_, refl); plain = (refl, refl); listing = refl }
 
 pub walk_in_house : Asks text.walk_in_house
-    (record (single room_tree (compare Eq (col 2 0) (col 1 6) ∷ []) (col 1 0 ∷ col 1 6 ∷ col 2 2 ∷ col 2 3 ∷ col 2 5 ∷ col 1 5 ∷ []) ((col 1 0, ascending Binary) ∷ []))
+    (record (single room_tree (compare Eq (col 2 0) (col 1 6) ∷ [])
+    (col 1 0 ∷ col 1 6 ∷ col 2 2 ∷ col 2 3 ∷ col 2 5 ∷ col 1 5 ∷ []) ((col 1 0, ascending Binary) ∷ []))
     { from = inner room_tree (inner stay_tree end) })
 unfolding understood everything
 walk_in_house = record { query = (_, refl); plain = (refl, refl); listing = refl }
@@ -40,6 +44,7 @@ walk_in_house = record { query = (_, refl); plain = (refl, refl); listing = refl
 pub walk_left_behind : Asks text.walk_left_behind (record (single room_tree
     (compare Eq (col 2 2) (col 1 0) ∷ compare Eq (col 2 3) (col 1 3) ∷ compare Eq (col 3 2) (col 1 0) ∷ compare Eq (col 3 3)
     (op2 (Arith Sub) (col 1 4) (lit (Int (pos 1)))) ∷ compare Lt (op2 (Arith Add) (col 1 3) (lit (Int (pos 2)))) (col 1 4) ∷ [])
-    (col 1 0 ∷ col 2 0 ∷ col 3 0 ∷ col 1 3 ∷ col 1 4 ∷ []) ((col 1 0, ascending Binary) ∷ [])) { from = inner room_tree (inner code_tree (inner code_tree end)) })
+    (col 1 0 ∷ col 2 0 ∷ col 3 0 ∷ col 1 3 ∷ col 1 4 ∷ []) ((col 1 0, ascending Binary) ∷ []))
+    { from = inner room_tree (inner code_tree (inner code_tree end)) })
 unfolding understood everything
 walk_left_behind = record { query = (_, refl); plain = (refl, refl); listing = refl }
