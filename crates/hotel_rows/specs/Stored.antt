@@ -23,7 +23,7 @@ use Rattle.hotel_rows.specs.declared.stored.PlainInside.{PlainInside}
 use Rattle.hotel_rows.specs.declared.stored.PlainNote.{PlainNote}
 use Rattle.hotel_rows.specs.declared.stored.PlainFit.{PlainFit}
 use Rattle.hotel_rows.specs.declared.stored.Stored.{Stored}
-use Rattle.hotel_rows.specs.Joined.{with_fit, under_fit}
+use Rattle.hotel_rows.specs.Joined.{with_fit, under_fit, FitKey, NoteKey, FitEntries}
 
 -- A stored number; one below 0 is read as a number that no rule takes.
 abbrev pub number_of : ℤ → ℕ
@@ -124,10 +124,10 @@ card_entry plain = (number_of plain.number, card_row plain)
 abbrev pub inside_pair : PlainInside → ℕ × ℕ
 inside_pair plain = (number_of plain.room, number_of plain.card)
 
-abbrev pub note_entry : PlainNote → (ℕ × ℕ) × Note
+abbrev pub note_entry : PlainNote → NoteKey × Note
 note_entry plain = ((number_of plain.room, number_of plain.n), note_row plain)
 
-abbrev pub fit_entry : PlainFit → (ℕ × ℕ) × FitRow
+abbrev pub fit_entry : PlainFit → FitKey × FitRow
 fit_entry plain = ((number_of plain.room, number_of plain.fit), fit_row plain)
 
 -- the fit that a room begins with
@@ -139,15 +139,15 @@ abbrev pub plain_fits : Stored → List PlainFit
 plain_fits s = said_of s.fits (map first_fit s.rooms.items) (λ fits. fits.items)
 
 -- the fits of all rooms, by room and fit
-abbrev pub fits_of : Stored → List ((ℕ × ℕ) × FitRow)
+abbrev pub fits_of : Stored → FitEntries
 fits_of s = map fit_entry (plain_fits s)
 
 -- a room, joined with its last fit
-abbrev pub joined_row : List ((ℕ × ℕ) × FitRow) → PlainRoom → RoomRow
+abbrev pub joined_row : FitEntries → PlainRoom → RoomRow
 joined_row fits plain = (with_fit fits (room_entry plain)).1
 
 -- a note, joined with its fit
-abbrev pub joined_note : List ((ℕ × ℕ) × FitRow) → PlainNote → Note
+abbrev pub joined_note : FitEntries → PlainNote → Note
 joined_note fits plain = (under_fit fits (note_entry plain)).1
 
 -- The stored rows as the rows of the books, whatever they are; those of rooms and notes are joined with the fits.

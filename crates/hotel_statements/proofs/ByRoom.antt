@@ -24,7 +24,7 @@ use Rattle.hotel_model.specs.Words.{pair_cmp}
 use Rattle.hotel_model.specs.Rows.{notes_at, fits_at, fit_at}
 use Rattle.hotel_model.specs.Refinement.ListsOnRows.{audit_on}
 use Rattle.hotel_model.proofs.OfTables.Pairs.{pair_cmp_total, pair_is}
-use Rattle.hotel_rows.specs.Joined.{with_count, fit_of_number, under_fit}
+use Rattle.hotel_rows.specs.Joined.{with_count, fit_of_number, under_fit, FitEntries}
 use Rattle.hotel_statements.specs.Trees.{note_tree, fit_tree}
 use Rattle.hotel_statements.specs.Values.{int}
 use Rattle.hotel_statements.specs.Columns.{note_columns, note_row_of, note_of, note_written, fit_columns, fit_row_of}
@@ -111,7 +111,7 @@ module _ {V : Type 0} (tree : ℕ) (project : List Term) (columns : Row → Row)
 abbrev pub fits_query : Query
 fits_query = single fit_tree (column_is 1 0 ∷ []) (columns (1 ∷ 2 ∷ 3 ∷ 4 ∷ [])) by_count
 
-fits_listed : (room : ℕ) (es : List ((ℕ × ℕ) × FitRow)) → map (λ (e : (ℕ × ℕ) × FitRow). e.1) (filter (is_in room) es)
+fits_listed : (room : ℕ) (es : FitEntries) → map (λ (e : (ℕ × ℕ) × FitRow). e.1) (filter (is_in room) es)
     ≡ fits_at es room
 fits_listed room [] = refl
 fits_listed room (e ∷ es) = elim (cases_Bool (is_in room e)) [
@@ -140,7 +140,7 @@ keyed : (rows : List Row) → AllByRecursion (λ (e : (ℕ × ℕ) × FitRow). e
 keyed [] = tt
 keyed (r ∷ rows) = (refl, keyed rows)
 
-numbered : (room number : ℕ) (es : List ((ℕ × ℕ) × FitRow))
+numbered : (room number : ℕ) (es : FitEntries)
     → AllByRecursion (λ (e : (ℕ × ℕ) × FitRow). e.1.fit ≡ e.0.1) es → lookup (is_at (pair_cmp (room, number))) es
     ≡ numbered_fit (fits_at es room) number
 numbered room number [] all = refl
@@ -167,7 +167,7 @@ audit_query = single note_tree (column_is 1 0 ∷ []) all_eight by_count
 abbrev noted : List FitRow → (ℕ × ℕ) × Note → Note
 noted fits e = with_count (fit_of_number fits e.0.1) e.0.1 e.1
 
-notes_listed : (fits : List ((ℕ × ℕ) × FitRow)) (room : ℕ) (es : List ((ℕ × ℕ) × Note))
+notes_listed : (fits : FitEntries) (room : ℕ) (es : List ((ℕ × ℕ) × Note))
     → map (noted (fits_at fits room)) (filter (is_in room) es) ≡ notes_at (map (under_fit fits) es) room
 notes_listed fits room [] = refl
 notes_listed fits room (e ∷ es) = elim (cases_Bool (is_in room e)) [

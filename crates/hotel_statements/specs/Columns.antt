@@ -14,6 +14,7 @@ use Rattle.hotel_model.specs.declared.rows.CodeRow.{CodeRow}
 use Rattle.hotel_model.specs.declared.rows.FitRow.{FitRow}
 use Rattle.hotel_model.specs.Stays.{room_of_state}
 use Rattle.hotel_rows.specs.Stored.{state_of, act_of}
+use Rattle.hotel_rows.specs.Joined.{FitKey, NoteKey}
 use Rattle.hotel_statements.specs.Values.{number_of, option_of, text_of, int, maybe_int}
 
 -- An integer key stands first in a stored row, and nothing in its own column; `.._columns` are the columns as they are
@@ -177,10 +178,10 @@ note_row_of v = record {
   second = number_of (column v 7);
 }
 
-abbrev pub note_of : Row → (ℕ × ℕ) × Note
+abbrev pub note_of : Row → NoteKey × Note
 note_of v = ((number_of (column v 0), number_of (column v 1)), note_row_of v)
 
-abbrev pub note_written : (ℕ × ℕ) × Note → Row
+abbrev pub note_written : NoteKey × Note → Row
 note_written e =
     int e.0.0 ∷ int e.0.1 ∷ int (act_number e.1.act) ∷ maybe_int (act_card e.1.act) ∷ int (act_first e.1.act) ∷ int (act_second e.1.act) ∷ int e.1.day ∷ int e.1.second ∷ []
 
@@ -197,8 +198,8 @@ fit_row_of v = record {
   before = number_of (column v 3);
 }
 
-abbrev pub fit_of : Row → (ℕ × ℕ) × FitRow
+abbrev pub fit_of : Row → FitKey × FitRow
 fit_of v = ((number_of (column v 0), number_of (column v 1)), fit_row_of v)
 
-abbrev pub fit_written : (ℕ × ℕ) × FitRow → Row
+abbrev pub fit_written : FitKey × FitRow → Row
 fit_written e = int e.0.0 ∷ int e.0.1 ∷ int e.1.place ∷ int e.1.before ∷ []

@@ -13,10 +13,9 @@ use Rattle.sqlite_value.specs.declared.value.Value.TheVariants.{Int}
 use Rattle.sqlite_keyed.specs.Lists.{sort_by}
 use Rattle.keycard_rules.specs.Note.{Note}
 use Rattle.hotel_model.specs.declared.rows.RoomRow.{RoomRow}
-use Rattle.hotel_model.specs.declared.rows.FitRow.{FitRow}
 use Rattle.hotel_model.specs.Words.{pair_cmp, said_of}
 use Rattle.hotel_model.specs.Rows.{Rows, at_number}
-use Rattle.hotel_rows.specs.Joined.{with_fit, under_fit, joined, first_fits}
+use Rattle.hotel_rows.specs.Joined.{with_fit, under_fit, joined, first_fits, NoteKey, FitEntries}
 use Rattle.hotel_statements.specs.declared.version.Version.{Version}
 use Rattle.hotel_statements.specs.declared.version.Version.TheVariants.{First, Second}
 use Rattle.hotel_statements.specs.Trees.{meta_tree, kind_tree, room_tree, stay_tree, code_tree, card_tree, inside_tree}
@@ -65,14 +64,14 @@ abbrev pub metas_in : Trees → List (ℕ × (ℕ × Option ℕ))
 metas_in db = listed (by_key nat_cmp) (λ r. meta_of (meta_columns r)) (db meta_tree)
 
 -- the fits of all rooms
-abbrev pub fits_in : Trees → List ((ℕ × ℕ) × FitRow)
+abbrev pub fits_in : Trees → FitEntries
 fits_in db = listed (by_key pair_cmp) (λ r. fit_of (fit_columns r)) (db fit_tree)
 
 -- the rooms and the notes as their tables have them
 abbrev pub bare_rooms_in : Trees → List (ℕ × RoomRow)
 bare_rooms_in db = listed (by_key nat_cmp) (λ r. room_of (room_columns r)) (db room_tree)
 
-abbrev pub bare_notes_in : Trees → List ((ℕ × ℕ) × Note)
+abbrev pub bare_notes_in : Trees → List (NoteKey × Note)
 bare_notes_in db = listed (by_key pair_cmp) (λ r. note_of (note_columns r)) (db note_tree)
 
 -- The nine lists that the trees hold, those of rooms and notes joined with the fits.

@@ -28,7 +28,6 @@ use Rattle.keycard_rules.specs.declared.issued.LookFault.{LookFault}
 use Rattle.keycard_rules.specs.declared.issued.LookFault.TheVariants as look
 use Rattle.hotel_nights.specs.Block.{one_if}
 use Rattle.hotel_model.specs.declared.rows.RoomRow.{RoomRow}
-use Rattle.hotel_model.specs.declared.rows.FitRow.{FitRow}
 use Rattle.hotel_model.specs.Words.{pair_cmp, said_of}
 use Rattle.hotel_model.specs.Rows.{at_number}
 use Rattle.hotel_model.specs.Sound.{keys_in_order}
@@ -74,7 +73,7 @@ use Rattle.hotel_tables.specs.Opening.{AreStoredAs, AreStored, AreApartInside, I
 use Rattle.hotel_tables.specs.Opening.{FaultFits, FailsToRead, Opens, all_rise, fits_natural, all_natural, id_inside}
 use Rattle.hotel_tables.specs.Opening.{plain_inside, fault_for}
 use Rattle.hotel_rows.specs.Counts.{IsCountedOf}
-use Rattle.hotel_rows.specs.Joined.{with_fit, under_fit, joined, first_fits}
+use Rattle.hotel_rows.specs.Joined.{with_fit, under_fit, joined, first_fits, FitEntries}
 use Rattle.hotel_rows.proofs.OfCounts.{counted_rooms, named_kind}
 use Rattle.hotel_rows.proofs.OfJoined.{keys_with_fit, keys_under_fit}
 use Rattle.hotel_statements.proofs.Answers.{fused}
@@ -264,7 +263,7 @@ rising {K} {V} {L} {cmp} total entry ls e = tested_keys cmp total (λ (p : K × 
 -- ---- the fits
 
 -- those that the tables of a version hold
-abbrev pub fits_of_version : Version → Trees → List ((ℕ × ℕ) × FitRow)
+abbrev pub fits_of_version : Version → Trees → FitEntries
 fits_of_version First db = first_fits (bare_rooms_in db)
 fits_of_version Second db = fits_in db
 
@@ -278,10 +277,10 @@ begun : (rooms : List PlainRoom) → first_fits (map room_entry rooms) ≡ map f
 begun [] = refl
 begun (l ∷ rooms) = ap (λ es. fit_entry (first_fit l) ∷ es) (begun rooms)
 
-abbrev pub entries_of : List PlainRoom → Option (Vec PlainFit Global) → List ((ℕ × ℕ) × FitRow)
+abbrev pub entries_of : List PlainRoom → Option (Vec PlainFit Global) → FitEntries
 entries_of rooms fits = map fit_entry (said_of fits (map first_fit rooms) (λ f. f.items))
 
-abbrev AreFits : Version → Trees → List ((ℕ × ℕ) × FitRow) → Type 0
+abbrev AreFits : Version → Trees → FitEntries → Type 0
 AreFits version db fits = IsFitTable version (db fit_tree) × (fits_of_version version db ≡ fits)
 
 are_fits : (version : Version) (rooms : List PlainRoom) (fits : Option (Vec PlainFit Global)) (db : Trees)
@@ -395,7 +394,7 @@ abbrev is_kind : List ℕ → RoomRow → Bool
 is_kind kind row = bytes_eq row.kind kind
 
 -- rooms that are joined with their fits are of their kinds
-joined_kinds : (kind : List ℕ) (fits : List ((ℕ × ℕ) × FitRow)) (es : List (ℕ × RoomRow))
+joined_kinds : (kind : List ℕ) (fits : FitEntries) (es : List (ℕ × RoomRow))
     → count_by (is_kind kind) (values_of es) ≡ count_by (is_kind kind) (values_of (map (with_fit fits) es))
 joined_kinds kind fits [] = refl
 joined_kinds kind fits (e ∷ es) =

@@ -15,14 +15,13 @@ use Rattle.hotel_core.proofs.OfTables.MapEntries.{eq_from, eq_self, eq_turned}
 use Rattle.hotel_rows.specs.declared.damage.note_runs.NoteRun.{NoteRun}
 use Rattle.hotel_rows.specs.declared.stored.PlainNote.{PlainNote}
 use Rattle.hotel_rows.specs.declared.stored.Stored.{Stored}
-use Rattle.hotel_rows.specs.Joined.{under_fit}
+use Rattle.hotel_rows.specs.Joined.{under_fit, FitEntries}
 use Rattle.hotel_rows.specs.Stored.{number_of, note_row, note_entry, joined_note, fits_of, rows_of}
 use Rattle.hotel_rows.specs.Keys.{note_key}
 use Rattle.hotel_rows.specs.Damage.{note_columns, note_holds}
 use Rattle.hotel_rows.specs.RowTests.{plain_note_fits}
 use Rattle.hotel_rows.specs.NoteRuns.{note_run_of, NoteRunsOf, counted_as_due}
 use Rattle.hotel_rows.proofs.OfDamage.RowsTogether.{all_and, all_alike, all_rooms}
-use Rattle.hotel_rows.proofs.OfJoined.{Fits}
 
 -- what stands past the end of a list of notes
 abbrev pub no_note : PlainNote
@@ -82,7 +81,7 @@ due_as_counted (n ∷ ns) m =
     ∙ sym (ap (λ z. (z && count_up (n + 1) ns) && (n == 1) && (last_of (n ∷ ns) == m)) (eq_self n))
 
 -- the numbers of a room's notes are those of the table
-numbers_joined : (fits : Fits) (es : List ((ℕ × ℕ) × Note)) (r : ℕ)
+numbers_joined : (fits : FitEntries) (es : List ((ℕ × ℕ) × Note)) (r : ℕ)
     → numbers_at (map (under_fit fits) es) r ≡ numbers_at es r
 numbers_joined fits [] r = refl
 numbers_joined fits (e ∷ es) r = ap (λ ns. when (e.0.0 == r) (λ numbers. e.0.1 ∷ numbers) ns) (numbers_joined fits es r)
@@ -118,13 +117,13 @@ plain_fits true a t x d s e = ap (λ z. (((z && t) && x) && d) && s) e
 plain_fits false a t x d s e = refl
 
 -- the notes, joined with their fits
-pub notes_are : (fits : Fits) (ls : List PlainNote)
+pub notes_are : (fits : FitEntries) (ls : List PlainNote)
     → map (under_fit fits) (map note_entry ls) ≡ map (λ l. (note_key l, joined_note fits l)) ls
 notes_are fits [] = refl
 notes_are fits (l ∷ ls) = ap (λ es. (note_key l, joined_note fits l) ∷ es) (notes_are fits ls)
 
 -- a rule of all notes, joined with their fits
-pub all_notes : (t : (ℕ × ℕ) × Note → Bool) (fits : Fits) (ls : List PlainNote)
+pub all_notes : (t : (ℕ × ℕ) × Note → Bool) (fits : FitEntries) (ls : List PlainNote)
     → list_all t (map (under_fit fits) (map note_entry ls)) ≡ list_all (λ l. t (note_key l, joined_note fits l)) ls
 all_notes t fits ls = ap (list_all t) (notes_are fits ls) ∙ all_mapped t (λ l. (note_key l, joined_note fits l)) ls
 

@@ -18,10 +18,9 @@ use Rattle.keycard_rules.specs.Note.{Note}
 use Rattle.hotel_nights.specs.declared.stay.Stay.{Stay}
 use Rattle.hotel_model.specs.declared.rows.RoomRow.{RoomRow}
 use Rattle.hotel_model.specs.declared.rows.CodeRow.{CodeRow}
-use Rattle.hotel_model.specs.declared.rows.FitRow.{FitRow}
 use Rattle.hotel_model.specs.Words.{pair_cmp, said_of}
 use Rattle.hotel_model.specs.Rows.{Rows, at_number}
-use Rattle.hotel_rows.specs.Joined.{with_fit, under_fit, joined}
+use Rattle.hotel_rows.specs.Joined.{with_fit, under_fit, joined, FitEntries}
 use Rattle.hotel_statements.specs.declared.version.Version.{Version}
 use Rattle.hotel_statements.specs.declared.version.Version.TheVariants.{First}
 use Rattle.hotel_statements.specs.Trees.{meta_tree, kind_tree, room_tree, stay_tree, code_tree, card_tree, inside_tree}
@@ -291,7 +290,7 @@ notes_set {db} was made = (
   ap (λ notes. record (rows_in db) { notes = map (under_fit (fits_in db)) notes }) made.1,
 )
 
-pub fits_set : {db : Trees} {rows : List Row} {list : List ((ℕ × ℕ) × FitRow)} → AreTables db → AreFits rows
+pub fits_set : {db : Trees} {rows : List Row} {list : FitEntries} → AreTables db → AreFits rows
     × (listed (by_key pair_cmp) (λ r. fit_of (fit_columns r)) rows ≡ list)
     → AreTables (with_tree db fit_tree rows)
     × (rows_in (with_tree db fit_tree rows) ≡ record (rows_in db) {
