@@ -30,10 +30,11 @@ use Rattle.hotel_model.proofs.Starts.StartRows.{notes_counted}
 use Rattle.hotel_model.proofs.Invariants.FitsKept.{fit_found}
 use Rattle.hotel_rows.proofs.OfJoined.{number_of_last}
 use Rattle.hotel_rows.specs.Joined.{FitEntries}
-use Rattle.hotel_statements.specs.Statements.{Known}
+use Rattle.hotel_statements.specs.declared.look_ups.Known.{Known}
 use Rattle.hotel_statements.specs.Steps.{is_below, is_up_to, counts_to, IsNextFit, IsNewRoom, IsRefit, IsNewNote}
 use Rattle.hotel_statements.specs.Steps.{IsNumbered}
-use Rattle.hotel_tables.specs.Applied.{MayMake, can_count, known_by_room, known_by_fit, told_for, counted_on, known_for}
+use Rattle.hotel_statements.specs.LookUps.{known_by_room}
+use Rattle.hotel_tables.specs.Applied.{MayMake, can_count, known_by_fit, told_for, counted_on, known_for}
 
 -- ---- tables before a row was put in
 
