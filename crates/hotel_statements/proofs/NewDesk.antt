@@ -1,6 +1,5 @@
 -- The row of meta is added to nine empty tables.
 use Rattle.std.proofs.Common.{◌≡◌, refl, sym, ap, subst, ◌∙◌, List, [], ◌∷◌, ℕ, pos, None, Ok, IsTrue, false, arith}
-use Rattle.std.specs.Ordering.{nat_cmp}
 use Rattle.sqlite_value.specs.declared.value.Value.TheVariants.{Null, Int}
 use Rattle.sqlite.specs.Order.{Row}
 use Rattle.sqlite.specs.Term.{Term, lit}
@@ -21,8 +20,7 @@ use Rattle.hotel_statements.specs.Trees.{note_tree, fit_tree}
 use Rattle.hotel_statements.specs.Schema.{desk_schema, meta_table, at_tree}
 use Rattle.hotel_statements.specs.Texts.{insert_meta}
 use Rattle.hotel_statements.specs.Values.{int}
-use Rattle.hotel_statements.specs.Columns.{meta_columns, meta_of, meta_written}
-use Rattle.hotel_statements.specs.Tables.{IsTable, by_key}
+use Rattle.hotel_statements.specs.Tables.{AreMetas}
 use Rattle.hotel_statements.specs.NewDesk.{IsBare, IsMade, IsEmptyDesk}
 use Rattle.hotel_statements.proofs.Statements.Changes as changes
 use Rattle.hotel_statements.proofs.Writing.{went, same_value, cast_null, cast_int}
@@ -83,7 +81,7 @@ empty_desk : (db : Trees) → db meta_tree ≡ meta_row ∷ [] → db kind_tree 
     ≡ [] → db note_tree ≡ [] → db fit_tree ≡ [] → IsEmptyDesk db
 empty_desk db meta kind room stay code card inside note fit = record {
   tables = record {
-    meta = subst (IsTable (by_key nat_cmp) meta_columns meta_of meta_written) (sym meta) (record { good = (refl, tt); apart = (tt, tt) });
+    meta = subst AreMetas (sym meta) (record { good = (refl, tt); apart = (tt, tt) });
     meta_row = (None, rw meta refl);
     kind = rw kind (record { good = tt; apart = tt });
     room = rw room (record { good = tt; apart = tt });

@@ -51,6 +51,34 @@ IsWrittenAs columns of written r = columns r ≡ written (of (columns r))
 abbrev pub IsTable : {X : Type 0} → (X → X → Ordering) → (Row → Row) → (Row → X) → (X → Row) → List Row → Type 0
 IsTable cmp columns of written = IsTableOf cmp (IsWrittenAs columns of written) (λ r. of (columns r))
 
+-- those of each table
+abbrev pub AreMetas : List Row → Type 0
+AreMetas rows = IsTable (by_key nat_cmp) meta_columns meta_of meta_written rows
+
+abbrev pub AreKinds : List Row → Type 0
+AreKinds rows = IsTable (slice_cmp nat_cmp) kind_columns kind_of kind_written rows
+
+abbrev pub AreRooms : List Row → Type 0
+AreRooms rows = IsTable (by_key nat_cmp) room_columns room_of room_written rows
+
+abbrev pub AreStays : List Row → Type 0
+AreStays rows = IsTable (by_key nat_cmp) stay_columns stay_of stay_written rows
+
+abbrev pub AreCodes : List Row → Type 0
+AreCodes rows = IsTable (by_key nat_cmp) code_columns code_of code_written rows
+
+abbrev pub AreCards : List Row → Type 0
+AreCards rows = IsTable (by_key nat_cmp) card_columns card_of card_written rows
+
+abbrev pub AreInside : List Row → Type 0
+AreInside rows = IsTable pair_cmp inside_columns inside_of inside_written rows
+
+abbrev pub AreNotes : List Row → Type 0
+AreNotes rows = IsTable (by_key pair_cmp) note_columns note_of note_written rows
+
+abbrev pub AreFits : List Row → Type 0
+AreFits rows = IsTable (by_key pair_cmp) fit_columns fit_of fit_written rows
+
 -- a row's number in its tree is an integer, and no two rows have the same
 abbrev pub HasId : Row → Type 0
 HasId r = rowid r ≡ Int (id_in (rowid r))
@@ -105,23 +133,23 @@ number_of_version Second = 2
 -- the table of the fits, which the first version doesn't have
 abbrev pub IsFitTable : Version → List Row → Type 0
 IsFitTable First rows = Unit {0}
-IsFitTable Second rows = IsTable (by_key pair_cmp) fit_columns fit_of fit_written rows
+IsFitTable Second rows = AreFits rows
 
 -- The trees are those of the tables of a version, written by the books.
 pub record AreTablesOf (version : Version) (db : Trees) : Type 0 where
-  pub meta : IsTable (by_key nat_cmp) meta_columns meta_of meta_written (db meta_tree)
+  pub meta : AreMetas (db meta_tree)
   -- meta has one row, of the version
   pub meta_row : (day : Option ℕ) × (metas_in db ≡ (1, (number_of_version version, day)) ∷ [])
-  pub kind : IsTable (slice_cmp nat_cmp) kind_columns kind_of kind_written (db kind_tree)
-  pub room : IsTable (by_key nat_cmp) room_columns room_of room_written (db room_tree)
-  pub stay : IsTable (by_key nat_cmp) stay_columns stay_of stay_written (db stay_tree)
-  pub code : IsTable (by_key nat_cmp) code_columns code_of code_written (db code_tree)
-  pub card : IsTable (by_key nat_cmp) card_columns card_of card_written (db card_tree)
-  pub inside : IsTable pair_cmp inside_columns inside_of inside_written (db inside_tree)
+  pub kind : AreKinds (db kind_tree)
+  pub room : AreRooms (db room_tree)
+  pub stay : AreStays (db stay_tree)
+  pub code : AreCodes (db code_tree)
+  pub card : AreCards (db card_tree)
+  pub inside : AreInside (db inside_tree)
   -- the numbers of its rows, by which one is deleted
   pub inside_numbered : AllByRecursion HasId (db inside_tree)
   pub inside_ids : AreApartIds (db inside_tree)
-  pub note : IsTable (by_key pair_cmp) note_columns note_of note_written (db note_tree)
+  pub note : AreNotes (db note_tree)
   pub fit : IsFitTable version (db fit_tree)
 
 -- those of the second version, written by the books

@@ -26,41 +26,13 @@ use Rattle.hotel_statements.specs.declared.version.Version.TheVariants.{First}
 use Rattle.hotel_statements.specs.Trees.{meta_tree, kind_tree, room_tree, stay_tree, code_tree, card_tree, inside_tree}
 use Rattle.hotel_statements.specs.Trees.{note_tree, fit_tree}
 use Rattle.hotel_statements.specs.Schema.{desk_schema, first_schema}
-use Rattle.hotel_statements.specs.Columns.{meta_columns, meta_of, meta_written, kind_columns, kind_of, kind_written}
-use Rattle.hotel_statements.specs.Columns.{room_columns, room_of, room_written, stay_columns, stay_of, stay_written}
-use Rattle.hotel_statements.specs.Columns.{code_columns, code_of, code_written, card_columns, card_of, card_written}
-use Rattle.hotel_statements.specs.Columns.{inside_columns, inside_of, inside_written, note_columns, note_of}
-use Rattle.hotel_statements.specs.Columns.{note_written, fit_columns, fit_of, fit_written}
-use Rattle.hotel_statements.specs.Tables.{IsTable, AreTables, AreTablesOf, IsFitTable, AreApartIds, HasId, rows_in}
-use Rattle.hotel_statements.specs.Tables.{fits_in, bare_rooms_in, bare_notes_in, bare_rows_in, listed, by_key}
+use Rattle.hotel_statements.specs.Columns.{meta_columns, meta_of, kind_columns, kind_of, room_columns, room_of}
+use Rattle.hotel_statements.specs.Columns.{stay_columns, stay_of, code_columns, code_of, card_columns, card_of}
+use Rattle.hotel_statements.specs.Columns.{inside_columns, inside_of, note_columns, note_of, fit_columns, fit_of}
+use Rattle.hotel_statements.specs.Tables.{AreMetas, AreKinds, AreRooms, AreStays, AreCodes, AreCards, AreInside}
+use Rattle.hotel_statements.specs.Tables.{AreNotes, AreFits, AreTables, AreTablesOf, IsFitTable, AreApartIds, HasId}
+use Rattle.hotel_statements.specs.Tables.{rows_in, fits_in, bare_rooms_in, bare_notes_in, bare_rows_in, listed, by_key}
 use Rattle.hotel_statements.specs.Steps.{MovesRows}
-
-abbrev pub AreMetas : List Row → Type 0
-AreMetas rows = IsTable (by_key nat_cmp) meta_columns meta_of meta_written rows
-
-abbrev pub AreKinds : List Row → Type 0
-AreKinds rows = IsTable (slice_cmp nat_cmp) kind_columns kind_of kind_written rows
-
-abbrev pub AreRooms : List Row → Type 0
-AreRooms rows = IsTable (by_key nat_cmp) room_columns room_of room_written rows
-
-abbrev pub AreStays : List Row → Type 0
-AreStays rows = IsTable (by_key nat_cmp) stay_columns stay_of stay_written rows
-
-abbrev pub AreCodes : List Row → Type 0
-AreCodes rows = IsTable (by_key nat_cmp) code_columns code_of code_written rows
-
-abbrev pub AreCards : List Row → Type 0
-AreCards rows = IsTable (by_key nat_cmp) card_columns card_of card_written rows
-
-abbrev pub AreInside : List Row → Type 0
-AreInside rows = IsTable pair_cmp inside_columns inside_of inside_written rows
-
-abbrev pub AreNotes : List Row → Type 0
-AreNotes rows = IsTable (by_key pair_cmp) note_columns note_of note_written rows
-
-abbrev pub AreFits : List Row → Type 0
-AreFits rows = IsTable (by_key pair_cmp) fit_columns fit_of fit_written rows
 
 -- each table has the same rows in both
 abbrev pub Same : Trees → Trees → Type 0

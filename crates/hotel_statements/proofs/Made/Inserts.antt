@@ -51,7 +51,8 @@ use Rattle.hotel_statements.specs.Columns.{room_columns, room_of, room_written, 
 use Rattle.hotel_statements.specs.Columns.{code_columns, code_of, code_written, card_columns, card_of, card_written}
 use Rattle.hotel_statements.specs.Columns.{fit_columns, fit_of, fit_written}
 use Rattle.hotel_rows.specs.Joined.{with_last, with_fit, with_count, under_fit, fit_of_number}
-use Rattle.hotel_statements.specs.Tables.{IsWrittenAs, by_key, listed, rows_in, fits_in, bare_rooms_in, bare_notes_in}
+use Rattle.hotel_statements.specs.Tables.{AreFits, IsWrittenAs, by_key, listed, rows_in, fits_in, bare_rooms_in}
+use Rattle.hotel_statements.specs.Tables.{bare_notes_in}
 use Rattle.hotel_core.specs.Refinement.Finds.{AnyRows}
 use Rattle.hotel_statements.specs.Steps.{IsMid, IsMidWith, IsNewNote, IsNextFit, IsWithoutFit, MovesRows}
 use Rattle.hotel_statements.specs.Steps.{bare_room}
@@ -67,7 +68,7 @@ use Rattle.hotel_rows.proofs.OfJoined.{joined_at, room_put, note_joined, note_pu
 use Rattle.hotel_statements.proofs.Joins.{rooms_fitted, notes_kept, noted_bare}
 use Rattle.hotel_statements.proofs.Risen.{rooms_rise, fits_rise, keys_rise}
 use Rattle.hotel_statements.proofs.Made.Desk.{Changed, changed, steps, rooms_set, stays_set, codes_set, cards_set}
-use Rattle.hotel_statements.proofs.Made.Desk.{AreFits, kinds_set, notes_set, fits_set}
+use Rattle.hotel_statements.proofs.Made.Desk.{kinds_set, notes_set, fits_set}
 use Rattle.hotel_statements.proofs.Made.Entries.{insert_makes, put_keyed, entry_put, key_put, key_total}
 use Rattle.hotel_statements.proofs.Made.Reads.{room_stored, room_good, room_reads, room_numbered, stay_stored}
 use Rattle.hotel_statements.proofs.Made.Reads.{stay_good, stay_reads, stay_numbered, code_stored, code_numbered}

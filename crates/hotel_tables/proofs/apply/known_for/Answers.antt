@@ -1,5 +1,5 @@
 use Rattle.std.proofs.Common.{◌≡◌, ◌∙◌, sym, ap, subst, rules, false, Some, None}
-use Rattle.std.specs.Prelude.{option_map, IsSome, if◌then◌else◌}
+use Rattle.std.specs.Prelude.{IsSome, if◌then◌else◌}
 use Rattle.sqlite.specs.Held.{state}
 use Rattle.hotel_statements.specs.Tables.{rows_in}
 use Rattle.hotel_tables.specs.Applied.{can_count, counted_on}
