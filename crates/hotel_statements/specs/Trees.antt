@@ -1,4 +1,5 @@
--- The trees of the nine tables, numbered from 0 on in the order of making; the numbers between are those of indexes.
+-- The trees of the nine tables, numbered from 0 on in the order of making; the numbers between are those of the indexes
+-- of their UNIQUE columns.
 use Rattle.std.specs.Prelude.{ℕ}
 
 abbrev pub meta_tree : ℕ
