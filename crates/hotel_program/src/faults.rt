@@ -4,10 +4,11 @@ ghost use Rattle.std.specs.Prelude.{◌≡◌, ◌++◌, codes, true, OnOk, OnEr
 ghost use Rattle.std.specs.Io.KnownBytes.{Appends};
 ghost use Rattle.hotel_lists.specs.Calls.{NoneForgotten};
 ghost use Rattle.hotel_lists.specs.Bytes.{AppendsFront};
-ghost use Rattle.hotel_program.specs.Faults.{cause_text, table_text, fault_text, fault_status, end_status, Tells};
+ghost use Rattle.hotel_program.specs.Faults.{table_text, fault_text, fault_status, end_status, Tells};
 
 use crate::statuses::{BROKEN, FAILED, USAGE};
 use hotel_asks::ValueName;
+use hotel_audit::stopped_text;
 use hotel_lists::{IoCalls, WriteFailed, write_bytes, write_parts};
 use hotel_rows::TableName;
 use keycard_rules::LookFault;
@@ -60,16 +61,6 @@ impl Fault {
             Fault::Memory | Fault::Store | Fault::Stopped { .. } => FAILED,
             _ => BROKEN,
         }
-    }
-}
-
-/// What stopped an import, and the end of the line.
-fn cause_text(by: LookFault) -> &'static [u8]
-    ensures { result.now ≡ cause_text by }
-{
-    match by {
-        LookFault::Memory => b": Memory\n",
-        LookFault::Store => b": Store\n",
     }
 }
 
@@ -135,24 +126,6 @@ fn write_damaged<W: Write>(
     write_parts(writer, &parts, calls)
 }
 
-/// Writes the line of an import that was stopped.
-fn write_stopped<W: Write>(
-    writer: &mut W,
-    answered: usize,
-    by: LookFault,
-    calls: &mut IoCalls,
-) -> Result<(), WriteFailed>
-    ensures ok { OnOk result (Appends (W.contents writer.old) (W.contents writer.new) (fault_text (Fault.Stopped answered by))) }
-    ensures err { OnErr result (AppendsFront (W.contents writer.old) (W.contents writer.new) (fault_text (Fault.Stopped answered by))) }
-    ensures failed { OnErr result (calls.new.write_failed ≡ true) }
-    ensures calls { NoneForgotten calls.old calls.new }
-{
-    let mut buffer = itoa::Buffer::new();
-    let number = buffer.format(answered).as_bytes();
-    let parts = [b"stopped after ".as_slice(), number, cause_text(by)];
-    write_parts(writer, &parts, calls)
-}
-
 /// Writes the line of a fault.
 fn write_fault<W: Write>(
     writer: &mut W,
@@ -174,7 +147,9 @@ fn write_fault<W: Write>(
         Fault::TooLarge => write_bytes(writer, b"too large\n", calls),
         Fault::NoHeader => write_bytes(writer, b"no header\n", calls),
         Fault::WrongHeader => write_bytes(writer, b"wrong header\n", calls),
-        Fault::Stopped { answered, by } => write_stopped(writer, *answered, *by, calls),
+        Fault::Stopped { answered, by } => {
+            write_bytes(writer, stopped_text(*answered, *by).as_bytes(), calls)
+        }
         Fault::NotADesk => write_bytes(writer, b"not a desk\n", calls),
         Fault::Damaged(table) => write_damaged(writer, *table, calls),
         Fault::Seed => write_bytes(writer, b"seed\n", calls),
