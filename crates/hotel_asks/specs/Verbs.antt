@@ -1,5 +1,6 @@
 -- The verbs of commands and lists.
-use Rattle.std.specs.Prelude.{ℕ, List, [], ◌∷◌, codes, find, Option, option_map}
+use Rattle.std.specs.Prelude.{ℕ, List, [], ◌∷◌, codes, find, map, Option, option_map}
+use Rattle.std.specs.Borrow.{Bor}
 use Rattle.std.specs.Str.{bytes_eq}
 use Rattle.hotel_asks.specs.declared.verbs.Verb.{Verb}
 use Rattle.hotel_asks.specs.declared.verbs.Verb.TheVariants.{Begin, AddKind, AddRoom, Reserve, Cancel, CheckIn, Spare}
@@ -31,6 +32,14 @@ verbs =
     (codes "audit-of", AuditOf) ∷
     []
 
+-- Rows of this table as they lie in memory.
+abbrev pub texts : List (Bor (List ℕ) × Verb) → List (List ℕ × Verb)
+texts rows = map (λ row. (row.0.now, row.1)) rows
+
+-- The verb of the first row with this word.
+abbrev pub verb_in : List ℕ → List (List ℕ × Verb) → Option Verb
+verb_in word rows = option_map (λ row. row.1) (find (λ row. bytes_eq word row.0) rows)
+
 -- The verb that a word is.
 unfoldable pub read_verb : List ℕ → Option Verb
-read_verb word = option_map (λ row. row.1) (find (λ row. bytes_eq word row.0) verbs)
+read_verb word = verb_in word verbs

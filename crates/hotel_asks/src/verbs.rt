@@ -1,7 +1,7 @@
 //! The verbs of commands and lists.
 
 ghost use Rattle.std.specs.Prelude.{◌≡◌};
-ghost use Rattle.hotel_asks.specs.{Names.names_of, Verbs.read_verb};
+ghost use Rattle.hotel_asks.specs.{Names.names_of, Verbs.read_verb, Verbs.texts, Verbs.verb_in};
 
 use crate::values::ValueName;
 
@@ -92,15 +92,22 @@ impl Verb {
     }
 }
 
-/// The verb that the word is, as `check-in`. None where it is another word.
-#[tactic(auto, unfolding(crate::specs::Verbs::read_verb))]
-pub fn read_verb(word: &[u8]) -> Option<Verb>
-    ensures { result ≡ read_verb word.now }
+/// The verb of the first row with this word.
+fn verb_in(word: &[u8], rows: &[(&str, Verb)]) -> Option<Verb>
+    ensures { result ≡ verb_in word.now (texts rows.now) }
 {
-    for (text, verb) in &VERBS {
+    for (text, verb) in rows {
         if word == text.as_bytes() {
             return Some(*verb);
         }
     }
     None
+}
+
+/// The verb that the word is, as `check-in`. None where it is another word.
+#[tactic(auto, unfolding(crate::specs::Verbs::read_verb))]
+pub fn read_verb(word: &[u8]) -> Option<Verb>
+    ensures { result ≡ read_verb word.now }
+{
+    verb_in(word, &VERBS)
 }

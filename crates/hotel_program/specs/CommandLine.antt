@@ -1,6 +1,5 @@
 -- The command line: its subcommands, each with the values that it takes.
 use Rattle.std.specs.Prelude.{ℕ, List, [], ◌∷◌, ◌++◌, map, codes, true, false, Some}
-use Rattle.std.specs.Borrow.{Bor}
 use Rattle.clap.specs.Words.{App, Rule, Shape, Text, new_rule}
 use Rattle.clap.specs.Simple.{new_shape}
 use Rattle.hotel_asks.specs.{Names.name_text, Names.names_of, Verbs.verbs}
@@ -19,10 +18,6 @@ leaf name values = record (new_shape name) { rules = map value_rule values }
 -- The subcommand of a verb of this word.
 abbrev pub verb_leaf : List ℕ × Verb → Shape
 verb_leaf row = leaf row.0 (names_of row.1)
-
--- Verbs and their words as they lie in memory.
-abbrev pub rows : List (Bor (List ℕ) × Verb) → List (List ℕ × Verb)
-rows verbs = map (λ row. (row.0.now, row.1)) verbs
 
 -- An option that names a file, before the subcommand.
 abbrev pub option_rule : Text → Rule

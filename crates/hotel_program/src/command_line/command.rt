@@ -3,7 +3,8 @@
 ghost use Rattle.std.specs.Prelude.{◌≡◌, IfOk, map, fold, false, []};
 ghost use Rattle.clap.specs.Words.{app_of, with_subcommand};
 ghost use Rattle.clap.specs.declared.builder.Command.TheViews.{out-Command as fields_of};
-ghost use Rattle.hotel_program.specs.CommandLine.{leaf, verb_leaf, rows, options, desk};
+ghost use Rattle.hotel_asks.specs.Verbs.{texts};
+ghost use Rattle.hotel_program.specs.CommandLine.{leaf, verb_leaf, options, desk};
 
 use super::help::{about_value, about_verb};
 use clap::{Arg, Command};
@@ -56,7 +57,7 @@ fn with_verbs<'a>(
     alloc: Global,
     verbs: &[(&'a str, Verb)],
 ) -> Result<Command<'a>, AllocError>
-    ensures shape { IfOk result (λ c. app_of c ≡ fold with_subcommand options (map verb_leaf (rows verbs.now))) }
+    ensures shape { IfOk result (λ c. app_of c ≡ fold with_subcommand options (map verb_leaf (texts verbs.now))) }
     ensures globals { IfOk result (λ c. (fields_of c).has_globals ≡ false) }
 {
     let mut command = with_options(alloc)?;

@@ -42,7 +42,7 @@ returns-in-Err-clause-imported g c =
     let old = c.args.books.now in
     let new = c.answer_line.new.books in
     let more : take (i + 1) xs ≡ take i xs ++ c.line-item.result ∷ [] = take_more xs i c.line-item.result c.loop-line-test.true ∙ ap (λ x. take i xs ++ x ∷ []) (sym c.line-item.is) in
-    let why : c.stopped.result ≡ Stopped (length given) by (has_taken given) = c.stopped.ensures ∙ ap (λ (as : List LineAnswer). Stopped (length as) by (has_taken as)) c.as_slice.ensures.value in
+    let why : c.stopped.result ≡ Stopped (length given) by (has_taken given) = c.stopped.ensures ∙ ap (λ (l : List LineAnswer). Stopped (length l) by (has_taken l)) c.as_slice.ensures.value in
     subst (λ (fault : ImportFault). Imports g.B.Issued rows (Ok xs) old new (Err fault)) (sym why)
     (answered_before g.B.Issued rows old new (g.met.B.Issued.clean_honest _) c.loop-line.books xs i given by inv.each f.was_clean f.was_honest inv.was_clean f.unchanged inv.happened
     inv.vouched inv.through (next_fails g.B.Issued rows old new (g.met.B.Issued.clean_honest _) c.loop-line.books xs i c.line-item.result by more f.went))

@@ -6,15 +6,16 @@ use Rattle.std.proofs.lemmas.Grind.{take_at_read}
 use Rattle.std.specs.Borrow.{Bor}
 use Rattle.clap.specs.Words.{App, with_subcommand}
 use Rattle.hotel_asks.specs.{declared.values.ValueName.ValueName, declared.verbs.Verb.Verb, Names.names_of}
-use Rattle.hotel_program.specs.CommandLine.{leaf, options, rows, verb_leaf}
+use Rattle.hotel_asks.specs.Verbs.{texts}
+use Rattle.hotel_program.specs.CommandLine.{leaf, options, verb_leaf}
 use Rattle.hotel_program.proofs.command_line.command.with_verbs.Goals as goal
 
 fold-more : (verbs : List (Bor (List ℕ) × Verb)) (i : ℕ) (d : Bor (List ℕ) × Verb) → i < length verbs
-    → with_subcommand (fold with_subcommand options (map verb_leaf (rows (take i verbs)))) (leaf (get_or verbs i d).0.now (names_of (get_or verbs i d).1))
-    ≡ fold with_subcommand options (map verb_leaf (rows (take (i + 1) verbs)))
+    → with_subcommand (fold with_subcommand options (map verb_leaf (texts (take i verbs)))) (leaf (get_or verbs i d).0.now (names_of (get_or verbs i d).1))
+    ≡ fold with_subcommand options (map verb_leaf (texts (take (i + 1) verbs)))
 fold-more verbs i d h =
     rw ((take_at_read verbs i d h).1, map-append, map-append)
-    (sym (fold_push with_subcommand options (map verb_leaf (rows (take i verbs))) (leaf (get_or verbs i d).0.now (names_of (get_or verbs i d).1))))
+    (sym (fold_push with_subcommand options (map verb_leaf (texts (take i verbs))) (leaf (get_or verbs i d).0.now (names_of (get_or verbs i d).1))))
 
 pub loop-row-preserved : goal.loop-row-preserved
 loop-row-preserved c =
