@@ -1,5 +1,5 @@
 -- The lines of a file, one after the other.
-use Rattle.std.proofs.Common.{◌≡◌, ◌≢◌, ◌∙◌, List, [], ◌∷◌, ◌++◌, refl, ap, arith, length, Ok, ◌||◌}
+use Rattle.std.proofs.Common.{◌≡◌, ◌≢◌, ◌∙◌, List, [], ◌∷◌, ◌++◌, refl, ap, arith, length, Ok}
 use Rattle.std.specs.Prelude.{zip}
 use Rattle.hotel_core.proofs.{Names.Stream, Names.Note, Names.Rows, Names.Steps, OfCode.Happens.passes_push}
 use Rattle.hotel_core.proofs.{OfCode.Happens.zip-push}
