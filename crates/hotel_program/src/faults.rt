@@ -126,6 +126,21 @@ fn write_damaged<W: Write>(
     write_parts(writer, &parts, calls)
 }
 
+/// Writes the line of an import that was stopped.
+fn write_stopped<W: Write>(
+    writer: &mut W,
+    answered: usize,
+    by: LookFault,
+    calls: &mut IoCalls,
+) -> Result<(), WriteFailed>
+    ensures ok { OnOk result (Appends (W.contents writer.old) (W.contents writer.new) (fault_text (Fault.Stopped answered by))) }
+    ensures err { OnErr result (AppendsFront (W.contents writer.old) (W.contents writer.new) (fault_text (Fault.Stopped answered by))) }
+    ensures failed { OnErr result (calls.new.write_failed ≡ true) }
+    ensures calls { NoneForgotten calls.old calls.new }
+{
+    write_bytes(writer, stopped_text(answered, by).as_bytes(), calls)
+}
+
 /// Writes the line of a fault.
 fn write_fault<W: Write>(
     writer: &mut W,
@@ -147,9 +162,7 @@ fn write_fault<W: Write>(
         Fault::TooLarge => write_bytes(writer, b"too large\n", calls),
         Fault::NoHeader => write_bytes(writer, b"no header\n", calls),
         Fault::WrongHeader => write_bytes(writer, b"wrong header\n", calls),
-        Fault::Stopped { answered, by } => {
-            write_bytes(writer, stopped_text(*answered, *by).as_bytes(), calls)
-        }
+        Fault::Stopped { answered, by } => write_stopped(writer, *answered, *by, calls),
         Fault::NotADesk => write_bytes(writer, b"not a desk\n", calls),
         Fault::Damaged(table) => write_damaged(writer, *table, calls),
         Fault::Seed => write_bytes(writer, b"seed\n", calls),
