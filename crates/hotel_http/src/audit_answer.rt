@@ -9,9 +9,7 @@ ghost use Rattle.hotel_http.specs.AuditAnswer.{lines_answer, fault_status, fault
 use crate::answer::{Media, head_text, write_short};
 use crate::buffer::HeadText;
 use crate::status::Status;
-use hotel_audit::{
-    AuditFault, ImportFault, LineAnswer, answer_text, stopped_text, write_answers,
-};
+use hotel_audit::{AuditFault, ImportFault, LineAnswer, answer_text, stopped_text, write_answers};
 use hotel_lists::{IoCalls, WriteFailed, write_bytes};
 use std::io::Write;
 

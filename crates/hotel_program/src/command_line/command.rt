@@ -53,10 +53,7 @@ fn with_options<'a>(alloc: Global) -> Result<Command<'a>, AllocError>
 }
 
 /// The program's own words and the subcommands of verbs.
-fn with_verbs<'a>(
-    alloc: Global,
-    verbs: &[(&'a str, Verb)],
-) -> Result<Command<'a>, AllocError>
+fn with_verbs<'a>(alloc: Global, verbs: &[(&'a str, Verb)]) -> Result<Command<'a>, AllocError>
     ensures shape { IfOk result (λ c. app_of c ≡ fold with_subcommand options (map verb_leaf (texts verbs.now))) }
     ensures globals { IfOk result (λ c. (fields_of c).has_globals ≡ false) }
 {
