@@ -1,6 +1,6 @@
 //! What a route asks for, by its path and the form behind the head.
 
-ghost use Rattle.std.specs.Prelude.{◌≡◌, true, [], ◌∷◌, map, IfOk, OnErr};
+ghost use Rattle.std.specs.Prelude.{◌≡◌, true, List, [], ◌∷◌, map, IfOk, OnErr};
 ghost use Rattle.hotel_asks.specs.{Asks.ask_of, Asks.ask_copies, Values.IsCopy};
 ghost use Rattle.hotel_http.specs.Tasks.{after_slash, before_slash, second_part, asked, of_field, of_part};
 ghost use Rattle.hotel_http.specs.Tasks.{of_part_and_room, of_room_and_kind, of_reservation, ask_in, has_fields};
@@ -57,6 +57,37 @@ fn ask(alloc: Global, verb: Verb, values: &[&[u8]]) -> Result<Option<Ask>, Alloc
     }
 }
 
+fn ask_one(alloc: Global, verb: Verb, value: &[u8]) -> Result<Option<Ask>, AllocError>
+    ensures read { IfOk result (λ given. given ≡ asked verb (value.now ∷ [])) }
+    ensures memory { OnErr result (IsCopy ask_copies (ask_of verb (value.now ∷ []))) }
+{
+    ask(alloc, verb, &[value])
+}
+
+fn ask_two<'v>(
+    alloc: Global,
+    verb: Verb,
+    first: &'v [u8],
+    second: &'v [u8],
+) -> Result<Option<Ask>, AllocError>
+    ensures { IfOk result (λ given. given ≡ asked verb (first.now ∷ second.now ∷ [])) }
+{
+    ask(alloc, verb, &[first, second])
+}
+
+fn ask_four<'v>(
+    alloc: Global,
+    verb: Verb,
+    kind: &'v [u8],
+    arrive: &'v [u8],
+    nights: &'v [u8],
+    guest: &'v [u8],
+) -> Result<Option<Ask>, AllocError>
+    ensures { IfOk result (λ given. given ≡ asked verb (kind.now ∷ arrive.now ∷ nights.now ∷ guest.now ∷ [])) }
+{
+    ask(alloc, verb, &[kind, arrive, nights, guest])
+}
+
 /// What a verb asks for whose value is a field of the form.
 fn ask_field(alloc: Global, verb: Verb, name: &str, body: &[u8]) -> Result<Option<Ask>, AllocError>
     ensures { IfOk result (λ given. given ≡ of_field verb name.now body.now) }
@@ -64,7 +95,7 @@ fn ask_field(alloc: Global, verb: Verb, name: &str, body: &[u8]) -> Result<Optio
     let Some(value) = read_form(alloc, body, name)? else {
         return Ok(None);
     };
-    ask(alloc, verb, &[value.as_bytes()])
+    ask_one(alloc, verb, value.as_bytes())
 }
 
 /// What a verb asks for whose value stands in the path.
@@ -72,7 +103,7 @@ fn ask_part(alloc: Global, verb: Verb, path: &str) -> Result<Option<Ask>, AllocE
     ensures read { IfOk result (λ given. given ≡ of_part verb path.now) }
     ensures sure { OnErr result (IsCopy ask_copies (ask_of verb (second_part path.now ∷ []))) }
 {
-    ask(alloc, verb, &[second_part(path).as_bytes()])
+    ask_one(alloc, verb, second_part(path).as_bytes())
 }
 
 /// What a verb asks for whose values are the party in the path and a room.
@@ -87,8 +118,7 @@ fn ask_part_and_room(
     let Some(room) = read_form(alloc, body, "room")? else {
         return Ok(None);
     };
-    let values = [second_part(path).as_bytes(), room.as_bytes()];
-    ask(alloc, verb, &values)
+    ask_two(alloc, verb, second_part(path).as_bytes(), room.as_bytes())
 }
 
 /// What a verb asks for whose values are a room and a kind.
@@ -101,7 +131,7 @@ fn ask_room_and_kind(alloc: Global, verb: Verb, body: &[u8]) -> Result<Option<As
     let Some(kind) = read_form(alloc, body, "kind")? else {
         return Ok(None);
     };
-    ask(alloc, verb, &[room.as_bytes(), kind.as_bytes()])
+    ask_two(alloc, verb, room.as_bytes(), kind.as_bytes())
 }
 
 /// What a verb asks for whose values are those of a reservation.
@@ -120,13 +150,14 @@ fn ask_reservation(alloc: Global, verb: Verb, body: &[u8]) -> Result<Option<Ask>
     let Some(guest) = read_form(alloc, body, "guest")? else {
         return Ok(None);
     };
-    let values = [
+    ask_four(
+        alloc,
+        verb,
         kind.as_bytes(),
         arrive.as_bytes(),
         nights.as_bytes(),
         guest.as_bytes(),
-    ];
-    ask(alloc, verb, &values)
+    )
 }
 
 /// What a route's verb asks for, its values from the path or the form. None where one of them is missing, stands twice
