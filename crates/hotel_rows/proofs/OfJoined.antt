@@ -14,17 +14,14 @@ use Rattle.hotel_model.proofs.OfTables.Pairs.{pair_exact, pair_is}
 use Rattle.hotel_core.proofs.OfTables.MapEntries.{at_is}
 use Rattle.hotel_model.proofs.OfTables.AtRoom.{is_before, picked_more, fits_are_picked}
 use Rattle.hotel_model.proofs.OfTables.FitLists.{last_more}
-use Rattle.hotel_rows.specs.Joined.{with_last, with_fit, fit_of_number, with_count, under_fit}
+use Rattle.hotel_rows.specs.Joined.{with_last, with_fit, fit_of_number, with_count, under_fit, FitEntries}
 pub mod Numbers
 pub mod FirstFits
-
-abbrev pub Fits : Type 0
-Fits = List ((ℕ × ℕ) × FitRow)
 
 -- ---- one row
 
 -- a room's entry joined is the row of its last fit, or the entry as it stands
-pub with_fit_is : (fits : Fits) (e : ℕ × RoomRow) → with_fit fits e
+pub with_fit_is : (fits : FitEntries) (e : ℕ × RoomRow) → with_fit fits e
     ≡ (e.0, said_of (last_fit (fits_at fits e.0)) e.1 (λ f. record e.1 { fit = f.fit; before = f.before }))
 with_fit_is fits e = by (last_fit (fits_at fits e.0))
   where
@@ -34,7 +31,7 @@ with_fit_is fits e = by (last_fit (fits_at fits e.0))
     by None = refl
 
 -- a note's entry joined is the note of its fit, or the entry as it stands
-pub under_fit_is : (fits : Fits) (e : (ℕ × ℕ) × Note)
+pub under_fit_is : (fits : FitEntries) (e : (ℕ × ℕ) × Note)
     → under_fit fits e ≡ (
       e.0,
       said_of (fit_of_number (fits_at fits e.0.0) e.0.1) e.1
@@ -49,17 +46,17 @@ under_fit_is fits e = by (fit_of_number (fits_at fits e.0.0) e.0.1)
 
 -- ---- keys
 
-pub keys_with_fit : (fits : Fits) (es : List (ℕ × RoomRow)) → keys_of (map (with_fit fits) es) ≡ keys_of es
+pub keys_with_fit : (fits : FitEntries) (es : List (ℕ × RoomRow)) → keys_of (map (with_fit fits) es) ≡ keys_of es
 keys_with_fit fits [] = refl
 keys_with_fit fits (e ∷ es) = ap (λ ks. e.0 ∷ ks) (keys_with_fit fits es)
 
-pub keys_under_fit : (fits : Fits) (es : List ((ℕ × ℕ) × Note)) → keys_of (map (under_fit fits) es) ≡ keys_of es
+pub keys_under_fit : (fits : FitEntries) (es : List ((ℕ × ℕ) × Note)) → keys_of (map (under_fit fits) es) ≡ keys_of es
 keys_under_fit fits [] = refl
 keys_under_fit fits (e ∷ es) = ap (λ ks. e.0 ∷ ks) (keys_under_fit fits es)
 
 -- ---- look-ups
 
-pub room_joined : (fits : Fits) (es : List (ℕ × RoomRow)) (q : ℕ)
+pub room_joined : (fits : FitEntries) (es : List (ℕ × RoomRow)) (q : ℕ)
     → at_number (map (with_fit fits) es) q ≡ option_map (with_last (last_fit (fits_at fits q))) (at_number es q)
 room_joined fits [] q = refl
 room_joined fits (e ∷ es) q = by (is_at (nat_cmp q) e.0) (λ t. eq_from e.0 q (sym (at_is q e.0) ∙ t))
@@ -79,10 +76,10 @@ pair_from q k t =
     (eq_from k.0 q.0 p.0, eq_from k.1 q.1 p.1)
 
 -- a note joined at a key
-abbrev pub joined_at : Fits → ℕ → ℕ → Note → Note
+abbrev pub joined_at : FitEntries → ℕ → ℕ → Note → Note
 joined_at fits room n note = with_count (fit_of_number (fits_at fits room) n) n note
 
-pub note_joined : (fits : Fits) (es : List ((ℕ × ℕ) × Note)) (q : ℕ × ℕ)
+pub note_joined : (fits : FitEntries) (es : List ((ℕ × ℕ) × Note)) (q : ℕ × ℕ)
     → lookup (is_at (pair_cmp q)) (map (under_fit fits) es)
     ≡ option_map (joined_at fits q.0 q.1) (lookup (is_at (pair_cmp q)) es)
 note_joined fits [] q = refl
@@ -100,7 +97,7 @@ note_joined fits (e ∷ es) q = by (is_at (pair_cmp q) e.0) (pair_from q e.0) (n
 -- ---- rows that are put in or changed
 
 -- a room put in, and joined
-pub room_put : (fits : Fits) (es : List (ℕ × RoomRow)) (room : ℕ) (row : RoomRow)
+pub room_put : (fits : FitEntries) (es : List (ℕ × RoomRow)) (room : ℕ) (row : RoomRow)
     → map (with_fit fits) (insert_entry nat_cmp es room row)
     ≡ insert_entry nat_cmp (map (with_fit fits) es) room (with_last (last_fit (fits_at fits room)) row)
 room_put fits [] room row = refl
@@ -121,7 +118,7 @@ room_put fits (e ∷ es) room row = by (nat_cmp room e.0) refl (room_put fits es
     by Greater c ih = ap (λ rest. with_fit fits e ∷ rest) ih
 
 -- a note put in, and joined
-pub note_put : (fits : Fits) (es : List ((ℕ × ℕ) × Note)) (k : ℕ × ℕ) (note : Note)
+pub note_put : (fits : FitEntries) (es : List ((ℕ × ℕ) × Note)) (k : ℕ × ℕ) (note : Note)
     → map (under_fit fits) (insert_entry pair_cmp es k note)
     ≡ insert_entry pair_cmp (map (under_fit fits) es) k (joined_at fits k.0 k.1 note)
 note_put fits [] k note = refl
@@ -140,7 +137,7 @@ note_put fits (e ∷ es) k note = by (pair_cmp k e.0) refl (note_put fits es k n
     by Greater c ih = ap (λ rest. under_fit fits e ∷ rest) ih
 
 -- a room changed, and joined: f changes the table's row, and g the joined one
-pub room_change_joined : (fits : Fits) (room : ℕ) (f g : RoomRow → RoomRow) (es : List (ℕ × RoomRow))
+pub room_change_joined : (fits : FitEntries) (room : ℕ) (f g : RoomRow → RoomRow) (es : List (ℕ × RoomRow))
     → ((row : RoomRow) → at_number es room ≡ Some row
     → with_last (last_fit (fits_at fits room)) (f row) ≡ g (with_last (last_fit (fits_at fits room)) row))
     → map (with_fit fits) (room_changed room f es) ≡ room_changed room g (map (with_fit fits) es)
@@ -167,11 +164,11 @@ room_change_joined fits room f g (e ∷ es) same =
 -- ---- one fit more
 
 -- the later fits are those before and one more, the last of its room
-abbrev pub HasOneMore : Fits → Fits → ℕ → FitRow → Type 0
+abbrev pub HasOneMore : FitEntries → FitEntries → ℕ → FitRow → Type 0
 HasOneMore fits later room f = (r : ℕ) → fits_at later r ≡ when (room == r) (and_last f) (fits_at fits r)
 
 -- a fit of a number above all of its room, put in
-pub fit_put : (fits : Fits) (room number : ℕ) (f : FitRow) → InOrder pair_cmp (keys_of fits)
+pub fit_put : (fits : FitEntries) (room number : ℕ) (f : FitRow) → InOrder pair_cmp (keys_of fits)
     → list_all (is_before room number) fits ≡ true
     → HasOneMore fits (insert_entry pair_cmp fits (room, number) f) room f
 fit_put fits room number f order all r =
@@ -180,26 +177,28 @@ fit_put fits room number f order all r =
     ∙ ap (λ fs. when (room == r) (and_last f) fs) (sym (fits_are_picked fits r))
 
 -- at another room nothing changes
-pub other_fits : (fits later : Fits) (room : ℕ) (f : FitRow) → HasOneMore fits later room f → (r : ℕ)
+pub other_fits : (fits later : FitEntries) (room : ℕ) (f : FitRow) → HasOneMore fits later room f → (r : ℕ)
     → (room == r) ≡ false → fits_at later r ≡ fits_at fits r
 other_fits fits later room f more r apart = more r ∙ ap (λ b. when b (and_last f) (fits_at fits r)) apart
 
-own_fits : (fits later : Fits) (room : ℕ) (f : FitRow) → HasOneMore fits later room f
+own_fits : (fits later : FitEntries) (room : ℕ) (f : FitRow) → HasOneMore fits later room f
     → fits_at later room ≡ fits_at fits room ++ f ∷ []
 own_fits fits later room f more = more room ∙ ap (λ b. when b (and_last f) (fits_at fits room)) (eq_self room)
 
-pub other_room_same : (fits later : Fits) (room : ℕ) (f : FitRow) → HasOneMore fits later room f → (e : ℕ × RoomRow)
+pub other_room_same : (fits later : FitEntries) (room : ℕ) (f : FitRow) → HasOneMore fits later room f
+    → (e : ℕ × RoomRow)
     → (room == e.0) ≡ false → with_fit later e ≡ with_fit fits e
 other_room_same fits later room f more e apart = ap (λ fs. (e.0, with_last (last_fit fs) e.1))
     (other_fits fits later room f more e.0 apart)
 
-pub other_note_same : (fits later : Fits) (room : ℕ) (f : FitRow) → HasOneMore fits later room f → (e : (ℕ × ℕ) × Note)
+pub other_note_same : (fits later : FitEntries) (room : ℕ) (f : FitRow) → HasOneMore fits later room f
+    → (e : (ℕ × ℕ) × Note)
     → (room == e.0.0) ≡ false → under_fit later e ≡ under_fit fits e
 other_note_same fits later room f more e apart = ap (λ fs. (e.0, with_count (fit_of_number fs e.0.1) e.0.1 e.1))
     (other_fits fits later room f more e.0.0 apart)
 
 -- the room's row is of that fit
-pub own_room_later : (fits later : Fits) (room : ℕ) (f : FitRow) → HasOneMore fits later room f → (row : RoomRow)
+pub own_room_later : (fits later : FitEntries) (room : ℕ) (f : FitRow) → HasOneMore fits later room f → (row : RoomRow)
     → with_fit later (room, row) ≡ (room, record row { fit = f.fit; before = f.before })
 own_room_later fits later room f more row = ap (λ fs. (room, with_last (last_fit fs) row))
     (own_fits fits later room f more) ∙ ap (λ o. (room, with_last o row)) (last_more (fits_at fits room) f)
@@ -267,7 +266,7 @@ abbrev pub is_earlier : ℕ → FitRow → (ℕ × ℕ) × Note → Bool
 is_earlier room f e = not (room == e.0.0) || nat_le e.0.1 f.before
 
 -- notes that were taken before one more fit stay as they are
-pub notes_stay : (fits later : Fits) (room : ℕ) (f : FitRow) → HasOneMore fits later room f
+pub notes_stay : (fits later : FitEntries) (room : ℕ) (f : FitRow) → HasOneMore fits later room f
     → (es : List ((ℕ × ℕ) × Note)) → list_all (is_earlier room f) es ≡ true
     → map (under_fit later) es ≡ map (under_fit fits) es
 notes_stay fits later room f more [] all = refl
@@ -289,7 +288,8 @@ notes_stay fits later room f more (e ∷ es) all =
     by false apart t = other_note_same fits later room f more e apart
 
 -- rooms but that of one more fit stay as they are
-pub rooms_stay : (fits later : Fits) (room : ℕ) (f : FitRow) → HasOneMore fits later room f → (es : List (ℕ × RoomRow))
+pub rooms_stay : (fits later : FitEntries) (room : ℕ) (f : FitRow) → HasOneMore fits later room f
+    → (es : List (ℕ × RoomRow))
     → at_number es room ≡ None → map (with_fit later) es ≡ map (with_fit fits) es
 rooms_stay fits later room f more [] none = refl
 rooms_stay fits later room f more (e ∷ es) none =
@@ -306,7 +306,7 @@ rooms_stay fits later room f more (e ∷ es) none =
     apart false here h = (turned e.0 room here, h)
 
 -- A new room with its first fit, put in and joined.
-pub new_room_joined : (fits later : Fits) (room : ℕ) (f : FitRow) → HasOneMore fits later room f
+pub new_room_joined : (fits later : FitEntries) (room : ℕ) (f : FitRow) → HasOneMore fits later room f
     → (es : List (ℕ × RoomRow)) (row : RoomRow) → at_number es room ≡ None
     → map (with_fit later) (insert_entry nat_cmp es room row)
     ≡ insert_entry nat_cmp (map (with_fit fits) es) room (record row { fit = f.fit; before = f.before })
@@ -332,7 +332,7 @@ once_in_order [] order = tt
 once_in_order (e ∷ es) order = (none_later e.0 es order.0, once_in_order es order.1)
 
 -- A room changed with one more fit, and joined: f changes the table's row, and g the joined one.
-pub refit_joined : (fits later : Fits) (room : ℕ) (x : FitRow) → HasOneMore fits later room x
+pub refit_joined : (fits later : FitEntries) (room : ℕ) (x : FitRow) → HasOneMore fits later room x
     → (f g : RoomRow → RoomRow) (es : List (ℕ × RoomRow)) → none_twice es
     → ((row : RoomRow) → at_number es room ≡ Some row
     → record (f row) { fit = x.fit; before = x.before } ≡ g (with_last (last_fit (fits_at fits room)) row))

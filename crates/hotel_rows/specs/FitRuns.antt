@@ -30,9 +30,9 @@ last_after f [] = f
 last_after f (g ∷ gs) = last_after g gs
 
 -- how many fits there are, the first and the last, and whether each comes next after the one before it
-abbrev pub run_of : List FitRow → Option FitRun
-run_of [] = None
-run_of (f ∷ fs) = Some (record {
+abbrev pub fit_run_of : List FitRow → Option FitRun
+fit_run_of [] = None
+fit_run_of (f ∷ fs) = Some (record {
   fits = length (f ∷ fs);
   fit = f.fit;
   place = f.place;
@@ -55,8 +55,8 @@ abbrev pub last_place_in : List (ℕ × FitRun) → ℕ → ℕ
 last_place_in runs room = said_of (at_number runs room) 0 (λ run. run.last_place)
 
 -- the map has what the fits of each room are
-abbrev pub RunsOf : List (ℕ × FitRun) → List PlainFit → Type 0
-RunsOf runs plain_rows = (room : ℕ) → at_number runs room ≡ run_of (fits_at (map fit_entry plain_rows) room)
+abbrev pub FitRunsOf : List (ℕ × FitRun) → List PlainFit → Type 0
+FitRunsOf runs plain_rows = (room : ℕ) → at_number runs room ≡ fit_run_of (fits_at (map fit_entry plain_rows) room)
 
 -- the room of a fit, and the place of the code that it begins with
 abbrev pub begin_key : PlainFit → ℕ × ℕ
@@ -74,7 +74,7 @@ BeginsOf begins plain_rows =
 
 -- What is known is of these fits.
 pub record FitsOf (fits : RoomFits) (plain_rows : List PlainFit) : Type 0 where
-  pub runs : RunsOf fits.runs.entries plain_rows
+  pub runs : FitRunsOf fits.runs.entries plain_rows
   pub begins : BeginsOf fits.begins.entries plain_rows
 
 -- the fits of a room are 1 to n, n from 1 to 99, the first at place 0 with no note before it

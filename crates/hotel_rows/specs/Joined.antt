@@ -7,13 +7,24 @@ use Rattle.hotel_model.specs.Words.{said_of}
 use Rattle.hotel_model.specs.Rows.{Rows, fits_at, last_fit}
 use Rattle.hotel_model.specs.Refits.{fit_row}
 
+-- a room, with the number of one of its fits, and with that of one of its notes among all of them
+abbrev pub FitKey : Type 0
+FitKey = ℕ × ℕ
+
+abbrev pub NoteKey : Type 0
+NoteKey = ℕ × ℕ
+
+-- the fits of rooms
+abbrev pub FitEntries : Type 0
+FitEntries = List (FitKey × FitRow)
+
 -- a room's row with the number of its last fit and how many notes were taken before that; as it stands without one
 abbrev pub with_last : Option FitRow → RoomRow → RoomRow
 with_last last row =
     record row { fit = said_of last row.fit (λ f. f.fit); before = said_of last row.before (λ f. f.before) }
 
 -- a room's entry with the last fit of the room
-abbrev pub with_fit : List ((ℕ × ℕ) × FitRow) → ℕ × RoomRow → ℕ × RoomRow
+abbrev pub with_fit : FitEntries → ℕ × RoomRow → ℕ × RoomRow
 with_fit fits e = (e.0, with_last (last_fit (fits_at fits e.0)) e.1)
 
 -- the fit under which a note of this number was taken: the last one with fewer notes before it
@@ -26,14 +37,14 @@ with_count of n note =
     record note { fit = said_of of note.fit (λ f. f.fit); count = said_of of note.count (λ f. n - f.before) }
 
 -- a note's entry with its fit and count, its number being that among all notes of the room
-abbrev pub under_fit : List ((ℕ × ℕ) × FitRow) → (ℕ × ℕ) × Note → (ℕ × ℕ) × Note
+abbrev pub under_fit : FitEntries → NoteKey × Note → NoteKey × Note
 under_fit fits e = (e.0, with_count (fit_of_number (fits_at fits e.0.0) e.0.1) e.0.1 e.1)
 
 -- rows whose rooms and notes are joined with these fits
-abbrev pub joined : List ((ℕ × ℕ) × FitRow) → Rows → Rows
+abbrev pub joined : FitEntries → Rows → Rows
 joined fits rows =
     record rows { rooms = map (with_fit fits) rows.rooms; notes = map (under_fit fits) rows.notes; fits = fits }
 
 -- the fits of rooms of which each has the one that it began with
-abbrev pub first_fits : List (ℕ × RoomRow) → List ((ℕ × ℕ) × FitRow)
+abbrev pub first_fits : List (ℕ × RoomRow) → FitEntries
 first_fits rooms = map (λ e. ((e.0, 1), fit_row e.0 1 0 0)) rooms

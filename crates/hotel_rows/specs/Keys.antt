@@ -11,6 +11,7 @@ use Rattle.hotel_rows.specs.declared.stored.PlainCard.{PlainCard}
 use Rattle.hotel_rows.specs.declared.stored.PlainNote.{PlainNote}
 use Rattle.hotel_rows.specs.declared.stored.PlainFit.{PlainFit}
 use Rattle.hotel_rows.specs.Stored.{number_of}
+use Rattle.hotel_rows.specs.Joined.{FitKey, NoteKey}
 
 abbrev pub room_key : PlainRoom → ℕ
 room_key plain = number_of plain.room
@@ -24,10 +25,10 @@ code_key plain = number_of plain.code
 abbrev pub card_key : PlainCard → ℕ
 card_key plain = number_of plain.number
 
-abbrev pub note_key : PlainNote → ℕ × ℕ
+abbrev pub note_key : PlainNote → NoteKey
 note_key plain = (number_of plain.room, number_of plain.n)
 
-abbrev pub fit_key : PlainFit → ℕ × ℕ
+abbrev pub fit_key : PlainFit → FitKey
 fit_key plain = (number_of plain.room, number_of plain.fit)
 
 -- the code that a card brought

@@ -10,13 +10,14 @@ use Rattle.hotel_rows.specs.declared.stored.PlainRoom.{PlainRoom}
 use Rattle.hotel_rows.specs.Stored.{number_of, note_entry}
 
 -- the first and the last of some numbers, and whether they count up
-abbrev pub run_of : List ℕ → Option NoteRun
-run_of [] = None
-run_of (n ∷ ns) = Some (record { first = n; last = last_of (n ∷ ns); counted = count_up n (n ∷ ns) })
+abbrev pub note_run_of : List ℕ → Option NoteRun
+note_run_of [] = None
+note_run_of (n ∷ ns) = Some (record { first = n; last = last_of (n ∷ ns); counted = count_up n (n ∷ ns) })
 
 -- the map has what the numbers of each room's notes are
-abbrev pub RunsOf : List (ℕ × NoteRun) → List PlainNote → Type 0
-RunsOf runs plain_rows = (room : ℕ) → at_number runs room ≡ run_of (numbers_at (map note_entry plain_rows) room)
+abbrev pub NoteRunsOf : List (ℕ × NoteRun) → List PlainNote → Type 0
+NoteRunsOf runs plain_rows = (room : ℕ)
+    → at_number runs room ≡ note_run_of (numbers_at (map note_entry plain_rows) room)
 
 -- the numbers of the room's notes are 1 and on, as many as the room's row says
 abbrev pub counted_as_due : List (ℕ × NoteRun) → PlainRoom → Bool

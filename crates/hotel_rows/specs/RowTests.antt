@@ -30,9 +30,10 @@ use Rattle.hotel_rows.specs.declared.stored.Stored.{Stored}
 use Rattle.hotel_rows.specs.Stored.{number_of, room_row, stay_row, note_row, link_row, fits_of, rows_of}
 use Rattle.hotel_rows.specs.Damage.{most_notes, room_columns, stay_columns, note_columns}
 
--- the map has the kinds
-abbrev pub KnowsKinds : List (List ℕ × ℕ) → List (List ℕ) → Type 0
-KnowsKinds known kinds = (q : List ℕ) → is_some (lookup (is_at (slice_cmp nat_cmp q)) known) ≡ list_any (λ k. bytes_eq k q) kinds
+-- the map has exactly these kinds
+abbrev pub HasKinds : List (List ℕ × ℕ) → List (List ℕ) → Type 0
+HasKinds known kinds = (q : List ℕ)
+    → is_some (lookup (is_at (slice_cmp nat_cmp q)) known) ≡ list_any (λ k. bytes_eq k q) kinds
 
 -- ---- room
 

@@ -1,6 +1,6 @@
 -- Stored rows as the rows of the books.
 use Rattle.std.specs.Prelude.{ℕ, ◌-◌, ◌^◌, ◌==◌, ℤ, pos, negsuc, List, map, Option, option_map, string_bytes}
-use Rattle.std.specs.Prelude.{if◌then◌else◌}
+use Rattle.std.specs.Prelude.{if◌then◌else◌, unwrap_or}
 use Rattle.keycard_rules.specs.declared.card.Card.{Card}
 use Rattle.keycard_rules.specs.declared.card.Link.{Link}
 use Rattle.keycard_rules.specs.Note.{Note}
@@ -23,7 +23,7 @@ use Rattle.hotel_rows.specs.declared.stored.PlainInside.{PlainInside}
 use Rattle.hotel_rows.specs.declared.stored.PlainNote.{PlainNote}
 use Rattle.hotel_rows.specs.declared.stored.PlainFit.{PlainFit}
 use Rattle.hotel_rows.specs.declared.stored.Stored.{Stored}
-use Rattle.hotel_rows.specs.Joined.{with_fit, under_fit}
+use Rattle.hotel_rows.specs.Joined.{with_fit, under_fit, FitKey, NoteKey, FitEntries}
 
 -- A stored number; one below 0 is read as a number that no rule takes.
 abbrev pub number_of : ℤ → ℕ
@@ -48,9 +48,11 @@ room_row plain = record {
   before = 0;
 }
 
--- how a stay stands; its columns are tested by a rule of their own
+-- how a stay stands, by the number of the state and the room; the columns are tested by a rule of their own
 abbrev pub state_of : ℕ → Option ℕ → StayState
-state_of n room = if n == 0 then state.Booked else if n == 1 then state.InHouse (said_of room no_number (λ r. r)) else if n == 2 then state.Done else state.Cancelled
+state_of n room =
+    if n == 0 then state.Booked else if n == 1 then state.InHouse (unwrap_or room no_number)
+    else if n == 2 then state.Done else state.Cancelled
 
 -- a stay
 abbrev pub stay_row : PlainStay → Stay
@@ -75,11 +77,12 @@ link_row plain = record { old_code = number_of plain.old_code; new_code = number
 abbrev pub card_row : PlainCard → Card
 card_row plain = record { number = number_of plain.number; party = number_of plain.party; link = link_row plain }
 
--- what a note says; its columns are tested by a rule of their own
-abbrev pub act_of : ℕ → ℕ → ℕ → ℕ → Act
+-- what happened, by the number of the act, the card (none where staff recoded the lock) and the two codes; the columns
+-- are tested by a rule of their own
+abbrev pub act_of : ℕ → Option ℕ → ℕ → ℕ → Act
 act_of n card first second =
-    if n == 0 then act.Entered card (record { old_code = first; new_code = second })
-    else if n == 1 then act.Left card (record { old_code = first; new_code = second })
+    if n == 0 then act.Entered (unwrap_or card no_number) (record { old_code = first; new_code = second })
+    else if n == 1 then act.Left (unwrap_or card no_number) (record { old_code = first; new_code = second })
     else act.Recoded first second
 
 -- a note: its table has no column for its fit, and its number is that among all notes of the room
@@ -88,7 +91,8 @@ note_row plain = record {
   room = number_of plain.room;
   fit = 0;
   count = number_of plain.n;
-  act = act_of (number_of plain.act) (said_of plain.card no_number number_of) (number_of plain.first_code) (number_of plain.second_code);
+  act = act_of (number_of plain.act) (option_map number_of plain.card) (number_of plain.first_code)
+      (number_of plain.second_code);
   day = number_of plain.day;
   second = number_of plain.second;
 }
@@ -120,10 +124,10 @@ card_entry plain = (number_of plain.number, card_row plain)
 abbrev pub inside_pair : PlainInside → ℕ × ℕ
 inside_pair plain = (number_of plain.room, number_of plain.card)
 
-abbrev pub note_entry : PlainNote → (ℕ × ℕ) × Note
+abbrev pub note_entry : PlainNote → NoteKey × Note
 note_entry plain = ((number_of plain.room, number_of plain.n), note_row plain)
 
-abbrev pub fit_entry : PlainFit → (ℕ × ℕ) × FitRow
+abbrev pub fit_entry : PlainFit → FitKey × FitRow
 fit_entry plain = ((number_of plain.room, number_of plain.fit), fit_row plain)
 
 -- the fit that a room begins with
@@ -135,15 +139,15 @@ abbrev pub plain_fits : Stored → List PlainFit
 plain_fits s = said_of s.fits (map first_fit s.rooms.items) (λ fits. fits.items)
 
 -- the fits of all rooms, by room and fit
-abbrev pub fits_of : Stored → List ((ℕ × ℕ) × FitRow)
+abbrev pub fits_of : Stored → FitEntries
 fits_of s = map fit_entry (plain_fits s)
 
 -- a room, joined with its last fit
-abbrev pub joined_row : List ((ℕ × ℕ) × FitRow) → PlainRoom → RoomRow
+abbrev pub joined_row : FitEntries → PlainRoom → RoomRow
 joined_row fits plain = (with_fit fits (room_entry plain)).1
 
 -- a note, joined with its fit
-abbrev pub joined_note : List ((ℕ × ℕ) × FitRow) → PlainNote → Note
+abbrev pub joined_note : FitEntries → PlainNote → Note
 joined_note fits plain = (under_fit fits (note_entry plain)).1
 
 -- The stored rows as the rows of the books, whatever they are; those of rooms and notes are joined with the fits.

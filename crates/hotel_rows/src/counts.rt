@@ -5,22 +5,20 @@ ghost use Rattle.std.specs.List.{list_all, count_by};
 ghost use Rattle.std.specs.Map.{keys_of, values_of};
 ghost use Rattle.keycard_rules.specs.declared.issued.LookFault.TheVariants.{Memory, Store};
 ghost use Rattle.hotel_nights.specs.Block.{one_if};
-ghost use Rattle.hotel_nights.specs.Guests.{is_guest};
 ghost use Rattle.hotel_nights.specs.Kinds.{is_kind};
-ghost use Rattle.hotel_model.specs.SoundRooms.{is_day};
 ghost use Rattle.hotel_core.specs.KindRooms.{is_there, rooms_in};
 ghost use Rattle.hotel_core.specs.NightIndex.{CountsNights};
-ghost use Rattle.hotel_rows.specs.Stored.{state_of, kind_text, stay_row, stay_entry};
+ghost use Rattle.hotel_rows.specs.Stored.{kind_text, stay_row, stay_entry};
 ghost use Rattle.hotel_rows.specs.Damage.{first_damaged_of};
 ghost use Rattle.hotel_rows.specs.RowTests.{is_room_of_kind};
-ghost use Rattle.hotel_rows.specs.Counts.{IsCountedOf, KnowsKinds, are_rooms_of, is_number_up_to, tells_state};
-ghost use Rattle.hotel_rows.specs.Counts.{tells_stay};
+ghost use Rattle.hotel_rows.specs.Counts.{IsCountedOf, KnowsKinds, are_rooms_of, tells_stay};
 
 use crate::damage::numbers::{number, number_if};
 use crate::stored::{PlainKind, PlainRoom, PlainStay, Stored};
+use crate::values::{counted, day, guest, kind_code, stay_state};
 use hotel_core::{KindRooms, NightIndex};
-use hotel_nights::{Day, Guest, GuestFault, KindCode, Stay, StayState};
-use keycard_rules::{LookFault, Number};
+use hotel_nights::Stay;
+use keycard_rules::LookFault;
 use std::alloc::Global;
 
 /// What books keep in memory of their rows.
@@ -28,66 +26,6 @@ use std::alloc::Global;
 pub struct Counts {
     pub kinds: KindRooms,
     pub nights: NightIndex,
-}
-
-pub(crate) fn counted<K, const MOST: u32>(n: u64) -> Result<Number<K, MOST>, LookFault>
-    ensures ok { IfOk result (λ number. number ≡ n) }
-    ensures err { IfErr result (λ why. why ≡ Store × (is_number_up_to MOST n ≡ false)) }
-{
-    if n > u64::from(MOST) {
-        return Err(LookFault::Store);
-    }
-    match Number::new(n as u32) {
-        Some(number) => Ok(number),
-        None => Err(LookFault::Store),
-    }
-}
-
-pub(crate) fn day(n: u64) -> Result<Day, LookFault>
-    ensures ok { IfOk result (λ day. day ≡ n) }
-    ensures err { IfErr result (λ why. why ≡ Store × (is_day n ≡ false)) }
-{
-    if n > 36_524 {
-        return Err(LookFault::Store);
-    }
-    match Day::new(n as u16) {
-        Some(day) => Ok(day),
-        None => Err(LookFault::Store),
-    }
-}
-
-pub(crate) fn kind_code(text: &str) -> Result<KindCode, LookFault>
-    ensures ok { IfOk result (λ kind. kind ≡ text.now) }
-    ensures err { IfErr result (λ why. why ≡ Store × (is_kind text.now ≡ false)) }
-{
-    match KindCode::read(text.as_bytes()) {
-        Some(kind) => Ok(kind),
-        None => Err(LookFault::Store),
-    }
-}
-
-fn guest(alloc: Global, text: &str) -> Result<Guest, LookFault>
-    ensures ok { IfOk result (λ guest. guest ≡ text.now) }
-    ensures err { IfErr result (λ why. why ≡ Store → is_guest text.now ≡ false) }
-{
-    match Guest::read(alloc, text) {
-        Ok(guest) => Ok(guest),
-        Err(GuestFault::Memory) => Err(LookFault::Memory),
-        Err(GuestFault::Unread) => Err(LookFault::Store),
-    }
-}
-
-fn stay_state(state: u64, room: Option<u64>) -> Result<StayState, LookFault>
-    ensures ok { IfOk result (λ is. is ≡ state_of state room) }
-    ensures err { IfErr result (λ why. why ≡ Store × (tells_state state room ≡ false)) }
-{
-    match (state, room) {
-        (0, None) => Ok(StayState::Booked),
-        (1, Some(room)) => Ok(StayState::InHouse(counted(room)?)),
-        (2, None) => Ok(StayState::Done),
-        (3, None) => Ok(StayState::Cancelled),
-        _ => Err(LookFault::Store),
-    }
 }
 
 /// A row of the table of stays, as a stay.

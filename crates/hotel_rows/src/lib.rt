@@ -6,6 +6,7 @@ mod counts;
 mod damage;
 mod rooms;
 mod stored;
+pub mod values;
 
 pub use counts::{Counts, counts_of};
 pub use damage::{first_damaged, undamaged_is_sound};

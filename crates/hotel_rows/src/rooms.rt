@@ -6,9 +6,9 @@ ghost use Rattle.keycard_rules.specs.declared.issued.LookFault.TheVariants.{Memo
 ghost use Rattle.hotel_rows.specs.Keys.{room_key};
 ghost use Rattle.hotel_rows.specs.RowTests.{is_room_number};
 
-use crate::counts::counted;
 use crate::damage::numbers::number;
 use crate::stored::PlainRoom;
+use crate::values::counted;
 use keycard_rules::{LookFault, RoomNo};
 use std::alloc::Global;
 

@@ -24,7 +24,8 @@ use Rattle.hotel_model.specs.Words.{pair_cmp}
 use Rattle.hotel_model.specs.Rows.{notes_at, fits_at, fit_at}
 use Rattle.hotel_model.specs.Refinement.ListsOnRows.{audit_on}
 use Rattle.hotel_model.proofs.OfTables.Pairs.{pair_cmp_total, pair_is}
-use Rattle.hotel_rows.specs.Joined.{with_count, fit_of_number, under_fit}
+use Rattle.hotel_rows.specs.Joined.{with_count, fit_of_number, under_fit, FitEntries}
+use Rattle.hotel_statements.specs.Trees.{note_tree, fit_tree}
 use Rattle.hotel_statements.specs.Values.{int}
 use Rattle.hotel_statements.specs.Columns.{note_columns, note_row_of, note_of, note_written, fit_columns, fit_row_of}
 use Rattle.hotel_statements.specs.Columns.{fit_of, fit_written}
@@ -108,9 +109,9 @@ module _ {V : Type 0} (tree : ℕ) (project : List Term) (columns : Row → Row)
 -- ---- the fits of a room
 
 abbrev pub fits_query : Query
-fits_query = single 13 (column_is 1 0 ∷ []) (columns (1 ∷ 2 ∷ 3 ∷ 4 ∷ [])) by_count
+fits_query = single fit_tree (column_is 1 0 ∷ []) (columns (1 ∷ 2 ∷ 3 ∷ 4 ∷ [])) by_count
 
-fits_listed : (room : ℕ) (es : List ((ℕ × ℕ) × FitRow)) → map (λ (e : (ℕ × ℕ) × FitRow). e.1) (filter (is_in room) es)
+fits_listed : (room : ℕ) (es : FitEntries) → map (λ (e : (ℕ × ℕ) × FitRow). e.1) (filter (is_in room) es)
     ≡ fits_at es room
 fits_listed room [] = refl
 fits_listed room (e ∷ es) = elim (cases_Bool (is_in room e)) [
@@ -124,12 +125,12 @@ fits_find db t room all a =
     let es = fits_in db in
     let fs = filter (is_in room) es in
     let rows : a.0 ≡ map fit_written fs =
-    in_order 13 (columns (1 ∷ 2 ∷ 3 ∷ 4 ∷ [])) fit_columns fit_of fit_written room db
+    in_order fit_tree (columns (1 ∷ 2 ∷ 3 ∷ 4 ∷ [])) fit_columns fit_of fit_written room db
     (λ r good. ap (λ v. column v 0) good) (λ r good. ap (λ v. column v 1) good) (λ r. refl) t.fit a.0 a.1 in
     let reads = all-filter _ (is_in room) es (all_listed (by_key pair_cmp) (key_total pair_cmp_total)
     (IsWrittenAs fit_columns fit_of fit_written)
-    (λ r. fit_of (fit_columns r)) (λ e. fit_row_of (fit_written e) ≡ e.1) (db 13)
-    (read_back fit_columns fit_of fit_written fit_row_of (λ v. refl) (db 13) t.fit.good)) in
+    (λ r. fit_of (fit_columns r)) (λ e. fit_row_of (fit_written e) ≡ e.1) (db fit_tree)
+    (read_back fit_columns fit_of fit_written fit_row_of (λ v. refl) (db fit_tree) t.fit.good)) in
     a.2 ∙ ap (map fit_row_of) rows ∙ fused fit_row_of fit_written fs
     ∙ map_all (λ e. fit_row_of (fit_written e)) (λ e. e.1) fs reads ∙ fits_listed room es
 
@@ -139,7 +140,7 @@ keyed : (rows : List Row) → AllByRecursion (λ (e : (ℕ × ℕ) × FitRow). e
 keyed [] = tt
 keyed (r ∷ rows) = (refl, keyed rows)
 
-numbered : (room number : ℕ) (es : List ((ℕ × ℕ) × FitRow))
+numbered : (room number : ℕ) (es : FitEntries)
     → AllByRecursion (λ (e : (ℕ × ℕ) × FitRow). e.1.fit ≡ e.0.1) es → lookup (is_at (pair_cmp (room, number))) es
     ≡ numbered_fit (fits_at es room) number
 numbered room number [] all = refl
@@ -154,19 +155,19 @@ pub fit_numbered : (db : Trees) (room number : ℕ) → fit_at (rows_in db) room
     ≡ numbered_fit (fits_at (fits_in db) room) number
 fit_numbered db room number =
     numbered room number (fits_in db) (all_listed (by_key pair_cmp) (key_total pair_cmp_total)
-    (IsWrittenAs fit_columns fit_of fit_written) (λ r. fit_of (fit_columns r)) (λ e. e.1.fit ≡ e.0.1) (db 13)
-    (keyed (db 13)))
+    (IsWrittenAs fit_columns fit_of fit_written) (λ r. fit_of (fit_columns r)) (λ e. e.1.fit ≡ e.0.1) (db fit_tree)
+    (keyed (db fit_tree)))
 
 -- ---- the notes of a room
 
 abbrev pub audit_query : Query
-audit_query = single 11 (column_is 1 0 ∷ []) all_eight by_count
+audit_query = single note_tree (column_is 1 0 ∷ []) all_eight by_count
 
 -- a note with its fit and count, in a room that has these fits
 abbrev noted : List FitRow → (ℕ × ℕ) × Note → Note
 noted fits e = with_count (fit_of_number fits e.0.1) e.0.1 e.1
 
-notes_listed : (fits : List ((ℕ × ℕ) × FitRow)) (room : ℕ) (es : List ((ℕ × ℕ) × Note))
+notes_listed : (fits : FitEntries) (room : ℕ) (es : List ((ℕ × ℕ) × Note))
     → map (noted (fits_at fits room)) (filter (is_in room) es) ≡ notes_at (map (under_fit fits) es) room
 notes_listed fits room [] = refl
 notes_listed fits room (e ∷ es) = elim (cases_Bool (is_in room e)) [
@@ -183,12 +184,12 @@ notes_said db t room fits are all a =
     let es = bare_notes_in db in
     let fs = filter (is_in room) es in
     let rows : a.0 ≡ map note_written fs =
-    in_order 11 all_eight note_columns note_of note_written room db (λ r good. ap (λ v. column v 0) good)
+    in_order note_tree all_eight note_columns note_of note_written room db (λ r good. ap (λ v. column v 0) good)
     (λ r good. ap (λ v. column v 1) good) (λ r. refl) t.note a.0 a.1 in
     let reads = all-filter _ (is_in room) es (all_listed (by_key pair_cmp) (key_total pair_cmp_total)
     (IsWrittenAs note_columns note_of note_written)
-    (λ r. note_of (note_columns r)) (λ e. note_row_of (note_written e) ≡ e.1) (db 11)
-    (read_back note_columns note_of note_written note_row_of (λ v. refl) (db 11) t.note.good)) in
+    (λ r. note_of (note_columns r)) (λ e. note_row_of (note_written e) ≡ e.1) (db note_tree)
+    (read_back note_columns note_of note_written note_row_of (λ v. refl) (db note_tree) t.note.good)) in
     a.2 ∙ ap (map (note_under fits)) rows ∙ fused (note_under fits) note_written fs ∙ each fs reads
     ∙ ap (λ f. map (noted f) fs) are ∙ notes_listed (fits_in db) room es
   where

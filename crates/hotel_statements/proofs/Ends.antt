@@ -10,7 +10,8 @@ use Rattle.sqlite.proofs.StateLemmas.{survives_then}
 use Rattle.hotel_model.specs.Rows.{Rows}
 use Rattle.hotel_statements.specs.Tables.{AreTables, rows_in}
 use Rattle.hotel_statements.specs.Books.{IsDesk, IsKept, IsBooks}
-use Rattle.hotel_statements.specs.Steps.{IsMid, IsMidWith, MovesRows, RunsStatement, MakesRows, any_rows, IsMadeOf}
+use Rattle.hotel_core.specs.Refinement.Finds.{AnyRows}
+use Rattle.hotel_statements.specs.Steps.{IsMid, IsMidWith, MovesRows, RunsStatement, MakesRows, IsMadeOf}
 
 -- ---- statements, one after the other
 
@@ -41,7 +42,7 @@ module _ {fits : Rows → Type 0} {f : Rows → Rows} {a b : State} where
 
   -- two, whatever the rows are
   pub then_makes : {g : Rows → Rows} {c : State} {u : Unit {0}} {r : Result (Unit {0}) Error}
-      → MakesRows fits f a b (Ok u) → MakesRows any_rows g b c r → MakesRows fits (λ rows. g (f rows)) a c r
+      → MakesRows fits f a b (Ok u) → MakesRows AnyRows g b c r → MakesRows fits (λ rows. g (f rows)) a c r
   then_makes one two = then_makes_if (λ _ _. tt) one two
 
   -- what failed promises no rows

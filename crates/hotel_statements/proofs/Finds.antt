@@ -27,6 +27,8 @@ use Rattle.hotel_model.specs.Guests.{those_in, are_none}
 use Rattle.hotel_model.specs.Rows.{Rows, has_kind, at_number, fit_at}
 use Rattle.hotel_model.specs.Refinement.Lookups.{codes_in, code_place, stay_at, card_at, inside_at}
 use Rattle.hotel_model.proofs.OfTables.Pairs.{pair_cmp_total}
+use Rattle.hotel_statements.specs.Trees.{meta_tree, kind_tree, room_tree, stay_tree, code_tree, card_tree, inside_tree}
+use Rattle.hotel_statements.specs.Trees.{note_tree, fit_tree}
 use Rattle.hotel_statements.specs.Values.{number_of, option_of, text_of, int}
 use Rattle.hotel_statements.specs.Columns.{meta_columns, meta_written, kind_columns, kind_of, kind_written}
 use Rattle.hotel_statements.specs.Columns.{room_columns, room_row_of, room_written, stay_columns, stay_row_of}
@@ -55,29 +57,39 @@ issued_where_found k rows = is_some-lookup (is_at (nat_cmp k)) rows.codes ∙ sa
 
 module _ (db : Trees) (t : AreTables db) where
   -- a room, a note and a fit, as their tables have them
-  pub room_finds : (k : ℕ) (o : Option RoomRow) → AnswersFirst room_row_of (single 3 by_rowid all_seven [])
+  pub room_finds : (k : ℕ) (o : Option RoomRow) → AnswersFirst room_row_of (single room_tree by_rowid all_seven [])
       (int k ∷ []) db o → o ≡ at_number (bare_rooms_in db) k
-  room_finds k o a = by_number 3 all_seven room_columns room_row_of room_written k db room_row_of (λ v. v) (λ r. refl) (λ e. refl) (λ r. refl) t.room o a ∙ same_option _
+  room_finds k o a = by_number room_tree all_seven room_columns room_row_of room_written k db room_row_of (λ v. v)
+      (λ r. refl) (λ e. refl) (λ r. refl) t.room o a ∙ same_option _
 
-  pub stay_finds : (k : ℕ) (o : Option Stay) → AnswersFirst stay_row_of (single 5 by_rowid all_seven []) (int k ∷ []) db o → o ≡ stay_at (rows_in db) k
-  stay_finds k o a = by_number 5 all_seven stay_columns stay_row_of stay_written k db stay_row_of (λ v. v) (λ r. refl) (λ e. refl) (λ r. refl) t.stay o a ∙ same_option _
+  pub stay_finds : (k : ℕ) (o : Option Stay)
+      → AnswersFirst stay_row_of (single stay_tree by_rowid all_seven []) (int k ∷ []) db o → o ≡ stay_at (rows_in db) k
+  stay_finds k o a = by_number stay_tree all_seven stay_columns stay_row_of stay_written k db stay_row_of (λ v. v)
+      (λ r. refl) (λ e. refl) (λ r. refl) t.stay o a ∙ same_option _
 
-  pub code_finds : (k : ℕ) (o : Option CodeRow) → AnswersFirst code_row_of (single 6 by_rowid (columns (0 ∷ 2 ∷ 3 ∷ [])) []) (int k ∷ []) db o → o ≡ code_place (rows_in db) k
-  code_finds k o a = by_number 6 (columns (0 ∷ 2 ∷ 3 ∷ [])) code_columns code_row_of code_written k db code_row_of (λ v. v) (λ r. refl) (λ e. refl) (λ r. refl) t.code o a
+  pub code_finds : (k : ℕ) (o : Option CodeRow)
+      → AnswersFirst code_row_of (single code_tree by_rowid (columns (0 ∷ 2 ∷ 3 ∷ [])) []) (int k ∷ []) db o
+      → o ≡ code_place (rows_in db) k
+  code_finds k o a = by_number code_tree (columns (0 ∷ 2 ∷ 3 ∷ [])) code_columns code_row_of code_written k db
+      code_row_of (λ v. v) (λ r. refl) (λ e. refl) (λ r. refl) t.code o a
       ∙ same_option _
 
-  pub card_finds : (k : ℕ) (o : Option Card) → AnswersFirst card_row_of (single 8 by_rowid (columns (0 ∷ 2 ∷ 3 ∷ 4 ∷ [])) []) (int k ∷ []) db o → o ≡ card_at (rows_in db) k
-  card_finds k o a = by_number 8 (columns (0 ∷ 2 ∷ 3 ∷ 4 ∷ [])) card_columns card_row_of card_written k db card_row_of (λ v. v) (λ r. refl) (λ e. refl) (λ r. refl) t.card o a
+  pub card_finds : (k : ℕ) (o : Option Card)
+      → AnswersFirst card_row_of (single card_tree by_rowid (columns (0 ∷ 2 ∷ 3 ∷ 4 ∷ [])) []) (int k ∷ []) db o
+      → o ≡ card_at (rows_in db) k
+  card_finds k o a = by_number card_tree (columns (0 ∷ 2 ∷ 3 ∷ 4 ∷ [])) card_columns card_row_of card_written k db
+      card_row_of (λ v. v) (λ r. refl) (λ e. refl) (λ r. refl) t.card o a
       ∙ same_option _
 
-  pub note_finds : (a b : ℕ) (o : Option Note) → AnswersFirst note_row_of (single 11 (by_pair 1 2) all_eight [])
+  pub note_finds : (a b : ℕ) (o : Option Note) → AnswersFirst note_row_of (single note_tree (by_pair 1 2) all_eight [])
       (int a ∷ int b ∷ []) db o → o ≡ lookup (is_at (pair_cmp (a, b))) (bare_notes_in db)
-  note_finds a b o answers = by_two 11 all_eight note_columns note_row_of note_written a b db (λ r. refl) (λ r. refl) (λ e. (refl, refl)) (λ r. refl) t.note o answers
+  note_finds a b o answers = by_two note_tree all_eight note_columns note_row_of note_written a b db (λ r. refl)
+      (λ r. refl) (λ e. (refl, refl)) (λ r. refl) t.note o answers
 
   pub fit_finds : (a b : ℕ) (o : Option FitRow) → AnswersFirst fit_row_of
-      (single 13 (by_pair 1 2) (columns (1 ∷ 2 ∷ 3 ∷ 4 ∷ [])) []) (int a ∷ int b ∷ []) db o → o
+      (single fit_tree (by_pair 1 2) (columns (1 ∷ 2 ∷ 3 ∷ 4 ∷ [])) []) (int a ∷ int b ∷ []) db o → o
       ≡ fit_at (rows_in db) a b
-  fit_finds a b o answers = by_two 13 (columns (1 ∷ 2 ∷ 3 ∷ 4 ∷ [])) fit_columns fit_row_of fit_written a b db
+  fit_finds a b o answers = by_two fit_tree (columns (1 ∷ 2 ∷ 3 ∷ 4 ∷ [])) fit_columns fit_row_of fit_written a b db
       (λ r. refl) (λ r. refl) (λ e. (refl, refl)) (λ r. refl) t.fit o answers
 
   -- the day, where the row of meta is there
@@ -85,11 +97,13 @@ module _ (db : Trees) (t : AreTables db) where
   flat f None o is = ap (λ w. unwrap_or w None) is
   flat f (Some v) o is = ap (λ w. unwrap_or w None) is
 
-  pub day_finds : (o : Option (Option ℕ)) → AnswersFirst (λ v. option_of (column v 0)) (single 0 by_rowid (columns (3 ∷ [])) []) (int 1 ∷ []) db o
+  pub day_finds : (o : Option (Option ℕ))
+      → AnswersFirst (λ v. option_of (column v 0)) (single meta_tree by_rowid (columns (3 ∷ [])) []) (int 1 ∷ []) db o
       → unwrap_or o None ≡ (rows_in db).day
   day_finds o a =
       flat (λ (m : ℕ × Option ℕ). m.1) (at_number (metas_in db) 1) o
-      (by_number 0 (columns (3 ∷ [])) meta_columns (λ v. (number_of (column v 1), option_of (column v 2))) meta_written 1 db (λ v. option_of (column v 0))
+      (by_number meta_tree (columns (3 ∷ [])) meta_columns (λ v. (number_of (column v 1), option_of (column v 2)))
+      meta_written 1 db (λ v. option_of (column v 0))
       (λ (m : ℕ × Option ℕ). m.1) (λ r. refl) (λ e. refl) (λ r. refl) t.meta o a)
 
   -- a kind
@@ -99,11 +113,15 @@ module _ (db : Trees) (t : AreTables db) where
       let key : column r 1 ≡ Text (kind_of (kind_columns r)) = ap (λ v. column v 0) good in
       and_true _ ∙ ap (λ v. is_true (binary (Compare Eq Binary) v (Text kind))) key ∙ equals_text (kind_of (kind_columns r)) kind
 
-  pub kind_finds : (kind : List ℕ) (o : Option (List ℕ)) → AnswersFirst (λ v. text_of (column v 0)) (single 1 (column_is 1 0 ∷ []) (columns (1 ∷ [])) []) (Text kind ∷ []) db o
+  pub kind_finds : (kind : List ℕ) (o : Option (List ℕ))
+      → AnswersFirst (λ v. text_of (column v 0)) (single kind_tree (column_is 1 0 ∷ []) (columns (1 ∷ [])) [])
+      (Text kind ∷ []) db o
       → is_some o ≡ has_kind (rows_in db) kind
-  kind_finds kind o a = some_found (λ v. text_of (column v 0)) (λ k. k) (single 1 (column_is 1 0 ∷ []) (columns (1 ∷ [])) []) (Text kind ∷ []) db (λ k. bytes_eq k kind)
+  kind_finds kind o a = some_found (λ v. text_of (column v 0)) (λ k. k)
+      (single kind_tree (column_is 1 0 ∷ []) (columns (1 ∷ [])) []) (Text kind ∷ []) db (λ k. bytes_eq k kind)
       (rows_in db).kinds
-      (λ rows answer. found_rows (slice_cmp nat_cmp) nat_list_cmp_total (IsWrittenAs kind_columns kind_of kind_written) (λ r. kind_of (kind_columns r)) 1 (column_is 1 0 ∷ [])
+      (λ rows answer. found_rows (slice_cmp nat_cmp) nat_list_cmp_total (IsWrittenAs kind_columns kind_of kind_written)
+      (λ r. kind_of (kind_columns r)) kind_tree (column_is 1 0 ∷ [])
       (columns (1 ∷ [])) [] (Text kind ∷ []) (λ k. bytes_eq k kind) (λ v. text_of (column v 0)) (λ k. k) db rows
       t.kind (kind_tests kind) (λ r. refl) answer) o a
 
@@ -131,18 +149,26 @@ module _ (db : Trees) (t : AreTables db) where
     | inr other ↦ rw (other, some_of_those room es) refl
   ]
 
-  pub inside_finds : (room card : ℕ) (o : Option ℕ) → AnswersFirst (λ v. number_of (column v 0)) (single 9 (by_pair 1 2) (columns (2 ∷ [])) []) (int room ∷ int card ∷ []) db o
+  pub inside_finds : (room card : ℕ) (o : Option ℕ)
+      → AnswersFirst (λ v. number_of (column v 0)) (single inside_tree (by_pair 1 2) (columns (2 ∷ [])) [])
+      (int room ∷ int card ∷ []) db o
       → is_some o ≡ is_one_of card (inside_at (rows_in db) room)
-  inside_finds room card o a = some_found (λ v. number_of (column v 0)) (λ (e : ℕ × ℕ). e.1) (single 9 (by_pair 1 2) (columns (2 ∷ [])) []) (int room ∷ int card ∷ []) db
+  inside_finds room card o a = some_found (λ v. number_of (column v 0)) (λ (e : ℕ × ℕ). e.1)
+      (single inside_tree (by_pair 1 2) (columns (2 ∷ [])) []) (int room ∷ int card ∷ []) db
       (λ (e : ℕ × ℕ). eqb e.0 room && eqb e.1 card) (rows_in db).inside
-      (λ rows answer. found_rows pair_cmp pair_cmp_total (IsWrittenAs inside_columns inside_of inside_written) (λ r. inside_of (inside_columns r)) 9 (by_pair 1 2)
+      (λ rows answer. found_rows pair_cmp pair_cmp_total (IsWrittenAs inside_columns inside_of inside_written)
+      (λ r. inside_of (inside_columns r)) inside_tree (by_pair 1 2)
       (columns (2 ∷ [])) [] (int room ∷ int card ∷ []) (λ (e : ℕ × ℕ). eqb e.0 room && eqb e.1 card)
       (λ v. number_of (column v 0)) (λ (e : ℕ × ℕ). e.1) db rows t.inside (pair_tests room card) (λ r. refl) answer) o a ∙ one_of_those room card (rows_in db).inside
 
-  pub any_inside_finds : (room : ℕ) (o : Option ℕ) → AnswersFirst (λ v. number_of (column v 0)) (single 9 (column_is 1 0 ∷ []) (columns (2 ∷ [])) []) (int room ∷ []) db o
+  pub any_inside_finds : (room : ℕ) (o : Option ℕ)
+      → AnswersFirst (λ v. number_of (column v 0)) (single inside_tree (column_is 1 0 ∷ []) (columns (2 ∷ [])) [])
+      (int room ∷ []) db o
       → is_some o ≡ not (are_none (inside_at (rows_in db) room))
-  any_inside_finds room o a = some_found (λ v. number_of (column v 0)) (λ (e : ℕ × ℕ). e.1) (single 9 (column_is 1 0 ∷ []) (columns (2 ∷ [])) []) (int room ∷ []) db
+  any_inside_finds room o a = some_found (λ v. number_of (column v 0)) (λ (e : ℕ × ℕ). e.1)
+      (single inside_tree (column_is 1 0 ∷ []) (columns (2 ∷ [])) []) (int room ∷ []) db
       (λ (e : ℕ × ℕ). eqb e.0 room) (rows_in db).inside
-      (λ rows answer. found_rows pair_cmp pair_cmp_total (IsWrittenAs inside_columns inside_of inside_written) (λ r. inside_of (inside_columns r)) 9 (column_is 1 0 ∷ [])
+      (λ rows answer. found_rows pair_cmp pair_cmp_total (IsWrittenAs inside_columns inside_of inside_written)
+      (λ r. inside_of (inside_columns r)) inside_tree (column_is 1 0 ∷ [])
       (columns (2 ∷ [])) [] (int room ∷ []) (λ (e : ℕ × ℕ). eqb e.0 room)
       (λ v. number_of (column v 0)) (λ (e : ℕ × ℕ). e.1) db rows t.inside (room_tests room) (λ r. refl) answer) o a ∙ some_of_those room (rows_in db).inside

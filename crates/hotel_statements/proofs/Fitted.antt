@@ -15,9 +15,10 @@ use Rattle.hotel_model.specs.Rows.{at_number, fits_at, fit_at, last_fit}
 use Rattle.hotel_model.specs.Refinement.Lookups.{room_at, of_fit, note_numbered, note_at}
 use Rattle.hotel_model.proofs.OfTables.Pairs.{pair_cmp_total, pair_exact}
 use Rattle.hotel_rows.specs.Joined.{with_last, with_count, fit_of_number}
+use Rattle.hotel_statements.specs.Trees.{note_tree}
 use Rattle.hotel_statements.specs.Columns.{note_columns, note_of, note_written}
 use Rattle.hotel_statements.specs.Tables.{IsWrittenAs, by_key, rows_in, fits_in, bare_rooms_in, bare_notes_in}
-use Rattle.hotel_statements.specs.LookUps.{numbered_fit, counts_of_row}
+use Rattle.hotel_statements.specs.LookUps.{numbered_fit, known_by_room}
 use Rattle.hotel_statements.proofs.Keyed.{key_total}
 use Rattle.hotel_statements.proofs.Ordered.{all_listed}
 use Rattle.hotel_rows.proofs.OfJoined.{room_joined, note_joined, joined_at}
@@ -37,13 +38,13 @@ pub room_lost : (db : Trees) (k : ℕ) → None ≡ at_number (bare_rooms_in db)
 room_lost db k none = ap (option_map (fitted (fits_in db) k)) none ∙ sym (room_joined (fits_in db) (bare_rooms_in db) k)
 
 -- the fits of a room aren't needed for its counts
-pub counts_are : (db : Trees) (k : ℕ) → option_map counts_of_row (at_number (bare_rooms_in db) k)
-    ≡ option_map counts_of_row (room_at (rows_in db) k)
-counts_are db k = by (at_number (bare_rooms_in db) k)
-    ∙ ap (option_map counts_of_row) (sym (room_joined (fits_in db) (bare_rooms_in db) k))
+pub known_are : (db : Trees) (k : ℕ) → option_map known_by_room (at_number (bare_rooms_in db) k)
+    ≡ option_map known_by_room (room_at (rows_in db) k)
+known_are db k = by (at_number (bare_rooms_in db) k)
+    ∙ ap (option_map known_by_room) (sym (room_joined (fits_in db) (bare_rooms_in db) k))
   where
-    by : (o : Option RoomRow) → option_map counts_of_row o
-        ≡ option_map counts_of_row (option_map (fitted (fits_in db) k) o)
+    by : (o : Option RoomRow) → option_map known_by_room o
+        ≡ option_map known_by_room (option_map (fitted (fits_in db) k) o)
     by (Some bare) = refl
     by None = refl
 
@@ -105,7 +106,7 @@ module _ (db : Trees) (room fit count : ℕ) (fits : List FitRow) (are : fits �
     note_is bare note there with =
         let all = all_listed (by_key pair_cmp) (key_total pair_cmp_total)
         (IsWrittenAs note_columns note_of note_written) (λ r. note_of (note_columns r)) (λ e. e.1.count ≡ e.0.1)
-        (db 11) (numbers (db 11)) in
+        (db note_tree) (numbers (db note_tree)) in
         let count_is : bare.count ≡ number = number_is (room, number) (bare_notes_in db) all bare (sym there) in
         let read : note ≡ joined_at (fits_in db) room number bare = with
         ∙ ap (λ n. with_count (fit_of_number fits n) n bare) count_is

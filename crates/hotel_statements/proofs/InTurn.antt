@@ -12,7 +12,8 @@ use Rattle.sqlite.specs.declared.error.ErrorCode.TheVariants.{TransactionState}
 use Rattle.sqlite_trees.specs.declared.store.Store.{Ghosts}
 use Rattle.hotel_model.specs.Rows.{Rows}
 use Rattle.hotel_statements.specs.Steps as step
-use Rattle.hotel_statements.specs.Steps.{IsMidWith, MovesRows, any_rows}
+use Rattle.hotel_core.specs.Refinement.Finds.{AnyRows}
+use Rattle.hotel_statements.specs.Steps.{IsMidWith, MovesRows}
 use Rattle.hotel_statements.specs.Statements.{Statement, RunsOne, RunsInTurn, RunsStatements, WritesBy}
 use Rattle.hotel_statements.proofs.Ends.{then_makes, then_makes_if, failed, as_made, makes_rows}
 
@@ -50,7 +51,8 @@ module _ {S : Type 0} {g : Ghosts S} {one : List Statement} {a b : Held S} where
   runs_stopped two {e} r is ran = record { in_turn = λ clean. in_turn_stopped g one two a b e r is (ran.in_turn clean) }
 
   module _ {fits : Rows → Type 0} {f : Rows → Rows} where
-    pub writes_then : {two : List Statement} {h : Rows → Rows} {c : Held S} {u : Unit {0}} {r : Result (Unit {0}) Error} → WritesBy g one fits f a b (Ok u) → WritesBy g two any_rows h b c r
+    pub writes_then : {two : List Statement} {h : Rows → Rows} {c : Held S} {u : Unit {0}} {r : Result (Unit {0}) Error}
+        → WritesBy g one fits f a b (Ok u) → WritesBy g two AnyRows h b c r
         → WritesBy g (one ++ two) fits (λ rows. h (f rows)) a c r
     writes_then first next = record { runs = runs_then first.runs next.rows.survives next.runs; rows = then_makes first.rows next.rows }
 

@@ -19,24 +19,21 @@ use Rattle.hotel_model.specs.Refinement.Change.{room_changed}
 use Rattle.hotel_model.proofs.OfTables.Tests.{and_true}
 use Rattle.hotel_model.proofs.OfTables.KeysInOrder.{InOrder}
 use Rattle.hotel_model.proofs.OfTables.FitLists.{last_more}
-use Rattle.hotel_rows.specs.Joined.{with_last, with_fit, fit_of_number, under_fit}
+use Rattle.hotel_rows.specs.Joined.{with_last, with_fit, fit_of_number, under_fit, FitEntries}
 use Rattle.hotel_rows.proofs.OfJoined.{HasOneMore, fit_put, is_earlier, notes_stay, once_in_order, refit_joined}
 use Rattle.hotel_rows.proofs.OfJoined.{room_joined, room_change_joined, number_before, number_after}
 use Rattle.hotel_statements.specs.Tables.{by_key}
 use Rattle.hotel_statements.specs.Steps.{is_below, is_up_to}
 use Rattle.hotel_statements.proofs.Risen.{keys_rise}
 
-abbrev Fits : Type 0
-Fits = List ((ℕ × ℕ) × FitRow)
-
 -- a room's row with the last of its fits
-abbrev pub fitted : Fits → ℕ → RoomRow → RoomRow
+abbrev pub fitted : FitEntries → ℕ → RoomRow → RoomRow
 fitted fits room row = with_last (last_fit (fits_at fits room)) row
 
 -- ---- a table that is written
 
 -- a change that moves neither the fit nor the notes before it
-pub room_moved : (fits : Fits) (k : ℕ) (f : RoomRow → RoomRow)
+pub room_moved : (fits : FitEntries) (k : ℕ) (f : RoomRow → RoomRow)
     → ((last : Option FitRow) (row : RoomRow) → with_last last (f row) ≡ f (with_last last row))
     → (es : List (ℕ × RoomRow))
     → map (with_fit fits) (room_changed k f es) ≡ room_changed k f (map (with_fit fits) es)
@@ -50,9 +47,9 @@ unmoved k (e ∷ es) = elim (cases_Bool (eqb e.0 k)) [
 ]
 
 -- one more fit, the last of its room
-module _ (fits : Fits) (fit : FitRow) (up : InOrder pair_cmp (keys_of fits))
+module _ (fits : FitEntries) (fit : FitRow) (up : InOrder pair_cmp (keys_of fits))
     (later : list_all (is_below fit.room fit.fit) fits ≡ true) where
-  abbrev more : Fits
+  abbrev more : FitEntries
   more = insert_entry pair_cmp fits (fit.room, fit.fit) fit
 
   one_more : HasOneMore fits more fit.room fit
@@ -81,7 +78,7 @@ module _ (fits : Fits) (fit : FitRow) (up : InOrder pair_cmp (keys_of fits))
   notes_kept es noted = notes_stay fits more fit.room fit one_more es (all_earlier es noted)
 
 -- the numbers of notes aren't moved
-pub noted_bare : (fits : Fits) (fit : FitRow) (es : List ((ℕ × ℕ) × Note))
+pub noted_bare : (fits : FitEntries) (fit : FitRow) (es : List ((ℕ × ℕ) × Note))
     → list_all (is_up_to fit.room fit.before) (map (under_fit fits) es) ≡ true
     → list_all (is_up_to fit.room fit.before) es ≡ true
 noted_bare fits fit [] noted = refl
@@ -113,11 +110,11 @@ of_taken fits i fit n low is =
 -- ---- what doesn't look at the fits
 
 -- a room that its table has is among the rows, with its last fit
-pub joined_there : (fits : Fits) (es : List (ℕ × RoomRow)) (e : ℕ × RoomRow) → at_number es e.0 ≡ Some e.1
+pub joined_there : (fits : FitEntries) (es : List (ℕ × RoomRow)) (e : ℕ × RoomRow) → at_number es e.0 ≡ Some e.1
     → at_number (map (with_fit fits) es) e.0 ≡ Some (fitted fits e.0 e.1)
 joined_there fits es e found = room_joined fits es e.0 ∙ ap (option_map (fitted fits e.0)) found
 
-pub values_kept : {R : Type 0} (fits : Fits) (f : RoomRow → Option R)
+pub values_kept : {R : Type 0} (fits : FitEntries) (f : RoomRow → Option R)
     → ((last : Option FitRow) (row : RoomRow) → f (with_last last row) ≡ f row) → (es : List (ℕ × RoomRow))
     → filter_map f (values_of (map (with_fit fits) es)) ≡ filter_map f (values_of es)
 values_kept fits f same [] = refl

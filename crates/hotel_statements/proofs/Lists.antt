@@ -29,6 +29,7 @@ use Rattle.hotel_model.specs.Words.{pair_cmp}
 use Rattle.hotel_model.specs.Guests.{those_in}
 use Rattle.hotel_model.specs.Refinement.Lookups.{code_at, first_code_at, stays_of_kind, inside_at}
 use Rattle.hotel_model.proofs.OfTables.Pairs.{pair_cmp_total}
+use Rattle.hotel_statements.specs.Trees.{stay_tree, code_tree, inside_tree}
 use Rattle.hotel_statements.specs.Values.{number_of, int}
 use Rattle.hotel_statements.specs.Columns.{stay_columns, stay_row_of, stay_of, stay_written, code_columns, code_of}
 use Rattle.hotel_statements.specs.Columns.{code_written, inside_columns, inside_of, inside_written}
@@ -85,7 +86,7 @@ module _ (db : Trees) (t : AreTables db) where
   by_code = (col 1 0, ascending Binary) ∷ []
 
   abbrev code_query : Query
-  code_query = single 6 (by_pair 2 3) (columns (0 ∷ [])) by_code
+  code_query = single code_tree (by_pair 2 3) (columns (0 ∷ [])) by_code
 
   pub code_at_finds : (room place : ℕ) (o : Option ℕ) → AnswersFirst (λ v. number_of (column v 0)) code_query (int room ∷ int place ∷ []) db o
       → o ≡ code_at (rows_in db) room place
@@ -96,7 +97,8 @@ module _ (db : Trees) (t : AreTables db) where
       let up : IsAscending (λ x y. output_cmp code_query x y ≡ Less) (map shown_number fs) =
       map_rises shown_number _ fs (ascending_weaker _ _ (λ x y less. then_nothing _ ∙ int_order x.0 y.0 ∙ less) fs (ascending-filter _ (stands_at room place) es rises)) in
       let all : (rows : List Row) → IsAnswer code_query (overlay db []) (int room ∷ int place ∷ []) rows → rows ≡ map (λ e. (shown_number e).1) fs = λ rows answer.
-      ordered_rows (by_key nat_cmp) (key_total nat_cmp_total) (IsWrittenAs code_columns code_of code_written) (λ r. code_of (code_columns r)) 6 (by_pair 2 3)
+      ordered_rows (by_key nat_cmp) (key_total nat_cmp_total) (IsWrittenAs code_columns code_of code_written)
+      (λ r. code_of (code_columns r)) code_tree (by_pair 2 3)
       (columns (0 ∷ [])) by_code (int room ∷ int place ∷ []) (stands_at room place) shown_number db rows fs
       t.code (place_tests room place) (λ r good. ap (λ v. (v ∷ [], v ∷ [])) (ap (λ v. column v 0) good)) (IsPermutation-refl fs) up answer in
       go o a all ∙ first_standing room place es
@@ -117,7 +119,7 @@ module _ (db : Trees) (t : AreTables db) where
   shown_stay_row e = (int e.0 ∷ [], stay_written e)
 
   abbrev stay_query : Query
-  stay_query = single 5 (column_is 3 0 ∷ []) all_seven by_code
+  stay_query = single stay_tree (column_is 3 0 ∷ []) all_seven by_code
 
   of_kind_tests : (kind : List ℕ) (r : Row) → IsWrittenAs stay_columns stay_of stay_written r
       → passes (column_is 3 0 ∷ []) (Text kind ∷ []) r ≡ is_of kind (stay_of (stay_columns r))
@@ -144,11 +146,13 @@ module _ (db : Trees) (t : AreTables db) where
       let up : IsAscending (λ x y. output_cmp stay_query x y ≡ Less) (map shown_stay_row fs) =
       map_rises shown_stay_row _ fs (ascending_weaker _ _ (λ x y less. then_nothing _ ∙ int_order x.0 y.0 ∙ less) fs (ascending-filter _ (is_of kind) es rises)) in
       let rows : a.0 ≡ map stay_written fs =
-      ordered_rows (by_key nat_cmp) (key_total nat_cmp_total) (IsWrittenAs stay_columns stay_of stay_written) (λ r. stay_of (stay_columns r)) 5
+      ordered_rows (by_key nat_cmp) (key_total nat_cmp_total) (IsWrittenAs stay_columns stay_of stay_written)
+      (λ r. stay_of (stay_columns r)) stay_tree
       (column_is 3 0 ∷ []) all_seven by_code (Text kind ∷ []) (is_of kind) shown_stay_row db a.0 fs
       t.stay (of_kind_tests kind) (λ r good. ap₂ (λ v w. (v ∷ [], w)) (ap (λ v. column v 0) good) good) (IsPermutation-refl fs) up a.1 in
       let reads = all-filter _ (is_of kind) es (all_listed (by_key nat_cmp) (key_total nat_cmp_total) (IsWrittenAs stay_columns stay_of stay_written)
-      (λ r. stay_of (stay_columns r)) (λ e. stay_row_of (stay_written e) ≡ e.1) (db 5) (read_rows (db 5) t.stay.good)) in
+      (λ r. stay_of (stay_columns r)) (λ e. stay_row_of (stay_written e) ≡ e.1) (db stay_tree)
+      (read_rows (db stay_tree) t.stay.good)) in
       a.2 ∙ ap (map stay_row_of) rows ∙ fused stay_row_of stay_written fs ∙ map_all (λ e. stay_row_of (stay_written e)) (λ e. e.1) fs reads ∙ of_values kind es
 
   -- ---- the cards inside a room
@@ -163,7 +167,7 @@ module _ (db : Trees) (t : AreTables db) where
   by_card = (col 1 2, ascending Binary) ∷ []
 
   abbrev inside_query : Query
-  inside_query = single 9 (column_is 1 0 ∷ []) (columns (2 ∷ [])) by_card
+  inside_query = single inside_tree (column_is 1 0 ∷ []) (columns (2 ∷ [])) by_card
 
   same_room : (room a b x y : ℕ) → eqb a room ≡ true → eqb b room ≡ true → pair_cmp (a, x) (b, y) ≡ Less → nat_cmp x y ≡ Less
   same_room room a b x y p q less =
@@ -200,7 +204,8 @@ module _ (db : Trees) (t : AreTables db) where
       let up : IsAscending (λ x y. output_cmp inside_query x y ≡ Less) (map shown_card fs) =
       map_rises shown_card _ fs (ascending_weaker _ _ (λ x y less. then_nothing _ ∙ int_order x.1 y.1 ∙ less) fs (room_rises room es rises)) in
       let rows : a.0 ≡ map (λ e. (shown_card e).1) fs =
-      ordered_rows pair_cmp pair_cmp_total (IsWrittenAs inside_columns inside_of inside_written) (λ r. inside_of (inside_columns r)) 9 (column_is 1 0 ∷ [])
+      ordered_rows pair_cmp pair_cmp_total (IsWrittenAs inside_columns inside_of inside_written)
+      (λ r. inside_of (inside_columns r)) inside_tree (column_is 1 0 ∷ [])
       (columns (2 ∷ [])) by_card (int room ∷ []) (is_in room) shown_card db a.0 fs
       t.inside (room_tests db t room) (λ r good. ap (λ v. (v ∷ [], v ∷ [])) (ap (λ v. column v 1) good)) (IsPermutation-refl fs) up a.1 in
       a.2 ∙ ap (map (λ v. number_of (column v 0))) rows ∙ fused (λ v. number_of (column v 0)) (λ e. (shown_card e).1) fs ∙ those_listed room es

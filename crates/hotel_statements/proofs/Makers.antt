@@ -15,6 +15,7 @@ use Rattle.sqlite.specs.Effect.{Database}
 use Rattle.sqlite.specs.State.{State, mode_of, Writes, ExecutesIn, ExecutesInside}
 use Rattle.sqlite.specs.declared.error.Error.{Error}
 use Rattle.sqlite.proofs.Callers.{runs_as}
+use Rattle.hotel_statements.specs.Trees.{stay_tree, card_tree, fit_tree}
 use Rattle.hotel_statements.specs.Texts.{create_meta, create_kind, create_room, create_stay, create_code, create_card}
 use Rattle.hotel_statements.specs.Texts.{create_inside, create_note, create_fit, create_stay_room, create_card_party}
 use Rattle.hotel_statements.specs.Schema.{no_schema, first_schema, tables_schema, with_stay_index, desk_schema}
@@ -110,12 +111,12 @@ keeps_last [] t a b keeps = keeps.0
 keeps_last (x ∷ ts) t a b keeps = keeps_last ts t a b keeps.1
 
 abbrev the_fits : Table
-the_fits = at_tree 13 fit_table
+the_fits = at_tree fit_tree fit_table
 
 -- the table of the fits and the two indexes, of eight tables with rows
 pub all_new : (a b c d : State) → HasTable first_schema fit_table a b
-    → HasIndex tables_schema (at_tree 5 stay_table) stay_by_room b c
-    → HasIndex with_stay_index (at_tree 8 card_table) card_by_party c d → HasNew a d
+    → HasIndex tables_schema (at_tree stay_tree stay_table) stay_by_room b c
+    → HasIndex with_stay_index (at_tree card_tree card_table) card_by_party c d → HasNew a d
 all_new a b c d one two three =
     let rows : KeepsRows tables_schema.tables b.now.trees d.now.trees =
     keeps_then tables_schema.tables b.now.trees c.now.trees d.now.trees two.rows three.rows in
@@ -136,11 +137,11 @@ new_bare old new did bare = record {
   empty = still_empty old.now.trees new.now.trees first_schema.tables the_fits did.rows bare.empty did.empty;
 }
 
-pub make_stay_room : IsIndexer tables_schema create_stay_room 3 (at_tree 5 stay_table) stay_by_room
+pub make_stay_room : IsIndexer tables_schema create_stay_room 3 (at_tree stay_tree stay_table) stay_by_room
 unfolding understood everything
 make_stay_room = record { command = refl; whole = refl; plain = (refl, refl); there = refl; defines = refl }
 
-pub make_card_party : IsIndexer with_stay_index create_card_party 5 (at_tree 8 card_table) card_by_party
+pub make_card_party : IsIndexer with_stay_index create_card_party 5 (at_tree card_tree card_table) card_by_party
 unfolding understood everything
 make_card_party = record { command = refl; whole = refl; plain = (refl, refl); there = refl; defines = refl }
 

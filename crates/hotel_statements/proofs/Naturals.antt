@@ -23,11 +23,9 @@ use Rattle.hotel_statements.specs.Columns.{meta_of, meta_written, kind_of, kind_
 use Rattle.hotel_statements.specs.Columns.{stay_of, stay_written, state_number, code_of, code_written, card_of}
 use Rattle.hotel_statements.specs.Columns.{card_written, inside_of, inside_written, note_of, note_written, fit_of}
 use Rattle.hotel_statements.specs.Columns.{fit_written, act_number, act_card, act_first, act_second}
-use Rattle.hotel_statements.specs.Columns as columns
-use Rattle.hotel_rows.specs.Stored.{number_of, state_of, act_of, no_number, kind_text, room_entry, stay_entry}
+use Rattle.hotel_rows.specs.Stored.{number_of, state_of, act_of, kind_text, room_entry, stay_entry}
 use Rattle.hotel_rows.specs.Stored.{code_entry, card_entry, inside_pair, note_entry, fit_entry}
 use Rattle.hotel_rows.specs.Damage.{room_columns, stay_columns, note_columns}
-use Rattle.hotel_model.specs.Words.{said_of}
 use Rattle.hotel_statements.specs.PlainRows.{maybe, is_natural, may_be_natural, meta_shown, kind_shown, room_shown}
 use Rattle.hotel_statements.specs.PlainRows.{room_natural, stay_shown, stay_natural, code_shown, code_natural}
 use Rattle.hotel_statements.specs.PlainRows.{card_shown, card_natural, inside_shown, inside_natural, note_shown}
@@ -74,40 +72,65 @@ some_mapped (Some n) = refl
 record IsState (n : ℕ) (room : Option ℕ) : Type 0 where
   number : n ≡ state_number (state_of n room)
   home : room ≡ room_of_state (state_of n room)
-  same : columns.state_of n room ≡ state_of n room
 
 is_state : (n : ℕ) (room : Option ℕ) → nat_le n 3 ≡ true → (cond (is_some room) (n == 1) (not (n == 1))) ≡ true → IsState n room
 is_state n None low h = elim (cases_Bool (eqb n 0)) [
-  | inl zero_is ↦ record { number = rw zero_is (grind (arith, nat_tests)); home = rw zero_is refl; same = rw zero_is refl }
+  | inl zero_is ↦ record {
+    number = rw zero_is (grind (arith, nat_tests));
+    home = rw zero_is refl;
+  }
   | inr not_zero ↦ elim (cases_Bool (eqb n 1)) [
     | inl one_is ↦ absurd (let w = rw one_is at h in false≢true w)
     | inr not_one ↦ elim (cases_Bool (eqb n 2)) [
-      | inl two_is ↦ record { number = rw (not_zero, not_one, two_is) (grind (arith, nat_tests)); home = rw (not_zero, not_one, two_is) refl; same = rw (not_zero, not_one, two_is) refl }
-      | inr not_two ↦ record { number = rw (not_zero, not_one, not_two) (grind (arith, nat_tests)); home = rw (not_zero, not_one, not_two) refl; same = rw (not_zero, not_one, not_two) refl }
+      | inl two_is ↦ record {
+        number = rw (not_zero, not_one, two_is) (grind (arith, nat_tests));
+        home = rw (not_zero, not_one, two_is) refl;
+      }
+      | inr not_two ↦ record {
+        number = rw (not_zero, not_one, not_two) (grind (arith, nat_tests));
+        home = rw (not_zero, not_one, not_two) refl;
+      }
     ]
   ]
 ]
 is_state n (Some room) low h =
     let not_zero : eqb n 0 ≡ false = grind (arith, nat_tests) in
-    record { number = rw (not_zero, h) (grind (arith, nat_tests)); home = rw (not_zero, h) refl; same = rw (not_zero, h) refl }
+    record {
+      number = rw (not_zero, h) (grind (arith, nat_tests));
+      home = rw (not_zero, h) refl;
+    }
 
 record IsAct (n : ℕ) (card : Option ℕ) (first second : ℕ) : Type 0 where
-  number : n ≡ act_number (act_of n (said_of card no_number (λ c. c)) first second)
-  by : card ≡ act_card (act_of n (said_of card no_number (λ c. c)) first second)
-  from : first ≡ act_first (act_of n (said_of card no_number (λ c. c)) first second)
-  to : second ≡ act_second (act_of n (said_of card no_number (λ c. c)) first second)
-  same : columns.act_of n card first second ≡ act_of n (said_of card no_number (λ c. c)) first second
+  number : n ≡ act_number (act_of n card first second)
+  by : card ≡ act_card (act_of n card first second)
+  from : first ≡ act_first (act_of n card first second)
+  to : second ≡ act_second (act_of n card first second)
 
 is_act : (n : ℕ) (card : Option ℕ) (first second : ℕ) → (cond (is_some card) (nat_le n 1) (n == 2)) ≡ true → IsAct n card first second
 is_act n None first second h =
     let not_zero : eqb n 0 ≡ false = grind (arith, nat_tests) in
     let not_one : eqb n 1 ≡ false = grind (arith, nat_tests) in
-    record { number = rw (not_zero, not_one) (grind (arith, nat_tests)); by = rw (not_zero, not_one) refl; from = rw (not_zero, not_one) refl; to = rw (not_zero, not_one) refl; same = rw (not_zero, not_one) refl }
+    record {
+      number = rw (not_zero, not_one) (grind (arith, nat_tests));
+      by = rw (not_zero, not_one) refl;
+      from = rw (not_zero, not_one) refl;
+      to = rw (not_zero, not_one) refl;
+    }
 is_act n (Some card) first second h = elim (cases_Bool (eqb n 0)) [
-  | inl zero_is ↦ record { number = rw zero_is (grind (arith, nat_tests)); by = rw zero_is refl; from = rw zero_is refl; to = rw zero_is refl; same = rw zero_is refl }
+  | inl zero_is ↦ record {
+    number = rw zero_is (grind (arith, nat_tests));
+    by = rw zero_is refl;
+    from = rw zero_is refl;
+    to = rw zero_is refl;
+  }
   | inr not_zero ↦
       let one_is : eqb n 1 ≡ true = grind (arith, nat_tests) in
-      record { number = rw (not_zero, one_is) (grind (arith, nat_tests)); by = rw (not_zero, one_is) refl; from = rw (not_zero, one_is) refl; to = rw (not_zero, one_is) refl; same = rw (not_zero, one_is) refl }
+      record {
+        number = rw (not_zero, one_is) (grind (arith, nat_tests));
+        by = rw (not_zero, one_is) refl;
+        from = rw (not_zero, one_is) refl;
+        to = rw (not_zero, one_is) refl;
+      }
 ]
 
 -- ---- the rows of the tables
@@ -183,7 +206,7 @@ stay_good l h fits =
     let number : Int l.state ≡ int (state_number (state_of n room)) = is_int l.state d.1 ∙ ap int it.number in
     let in_room : maybe l.room ≡ maybe_int (room_of_state (state_of n room)) = is_maybe l.room e.1 ∙ ap maybe_int it.home in (
       rw (is_int l.party a.0, is_int l.arrive a.1, is_int l.depart b.1, number, in_room) refl,
-      rw (says l.party a.0, says l.arrive a.1, says l.depart b.1, says l.state d.1, may_say l.room e.1, it.same) refl,
+      rw (says l.party a.0, says l.arrive a.1, says l.depart b.1, says l.state d.1, may_say l.room e.1) refl,
     )
 
 pub note_good : (l : PlainNote) → note_natural l ≡ true → note_columns l ≡ true → Good note_of note_written note_shown note_entry l
@@ -202,16 +225,22 @@ note_good l h fits =
     let t = and_true (nat_le n 2) _ fits in
     let by : cond (is_some card) (nat_le n 1) (n == 2) ≡ true = ap (λ s. cond s (nat_le n 1) (n == 2)) (some_mapped l.card) ∙ t.1 in
     let it = is_act n card first second by in
-    let said : said_of card no_number (λ c. c) ≡ said_of l.card no_number number_of = said_mapped l.card in
-    let act : act_of n (said_of card no_number (λ c. c)) first second ≡ act_of n (said_of l.card no_number number_of) first second = ap (λ c. act_of n c first second) said in
-    let number : Int l.act ≡ int (act_number (act_of n (said_of l.card no_number number_of) first second)) = is_int l.act b.1 ∙ ap int (it.number ∙ ap act_number act) in
-    let carded : maybe l.card ≡ maybe_int (act_card (act_of n (said_of l.card no_number number_of) first second)) = is_maybe l.card k.1 ∙ ap maybe_int (it.by ∙ ap act_card act) in
-    let from : Int l.first_code ≡ int (act_first (act_of n (said_of l.card no_number number_of) first second)) = is_int l.first_code d.1 ∙ ap int (it.from ∙ ap act_first act) in
-    let to : Int l.second_code ≡ int (act_second (act_of n (said_of l.card no_number number_of) first second)) = is_int l.second_code e.1 ∙ ap int (it.to ∙ ap act_second act) in (
+    let number : Int l.act ≡ int (act_number (act_of n card first second)) = is_int l.act b.1 ∙ ap int it.number in
+    let carded : maybe l.card ≡ maybe_int (act_card (act_of n card first second)) =
+    is_maybe l.card k.1 ∙ ap maybe_int it.by in
+    let from : Int l.first_code ≡ int (act_first (act_of n card first second)) =
+    is_int l.first_code d.1 ∙ ap int it.from in
+    let to : Int l.second_code ≡ int (act_second (act_of n card first second)) =
+    is_int l.second_code e.1 ∙ ap int it.to in (
       rw (is_int l.room a.0, is_int l.n a.1, number, carded, from, to, is_int l.day f.1, is_int l.second i.1) refl,
-      rw (says l.room a.0, says l.n a.1, says l.act b.1, may_say l.card k.1, says l.first_code d.1, says l.second_code e.1, says l.day f.1, says l.second i.1, it.same ∙ act) refl,
+      rw (
+        says l.room a.0,
+        says l.n a.1,
+        says l.act b.1,
+        may_say l.card k.1,
+        says l.first_code d.1,
+        says l.second_code e.1,
+        says l.day f.1,
+        says l.second i.1,
+      ) refl,
     )
-  where
-    said_mapped : (o : Option ℤ) → said_of (option_map number_of o) no_number (λ c. c) ≡ said_of o no_number number_of
-    said_mapped None = refl
-    said_mapped (Some c) = refl

@@ -1,6 +1,5 @@
 -- The row of meta is added to nine empty tables.
 use Rattle.std.proofs.Common.{◌≡◌, refl, sym, ap, subst, ◌∙◌, List, [], ◌∷◌, ℕ, pos, None, Ok, IsTrue, false, arith}
-use Rattle.std.specs.Ordering.{nat_cmp}
 use Rattle.sqlite_value.specs.declared.value.Value.TheVariants.{Null, Int}
 use Rattle.sqlite.specs.Order.{Row}
 use Rattle.sqlite.specs.Term.{Term, lit}
@@ -16,11 +15,12 @@ use Rattle.sqlite.specs.Listing.{understood}
 use Rattle.sqlite.specs.Effect.{Database}
 use Rattle.sqlite.specs.State.{State, mode_of, ExecutesIn, ExecutesInside}
 use Rattle.sqlite.proofs.Callers.{runs_as, one_step, statement_of}
+use Rattle.hotel_statements.specs.Trees.{meta_tree, kind_tree, room_tree, stay_tree, code_tree, card_tree, inside_tree}
+use Rattle.hotel_statements.specs.Trees.{note_tree, fit_tree}
 use Rattle.hotel_statements.specs.Schema.{desk_schema, meta_table, at_tree}
 use Rattle.hotel_statements.specs.Texts.{insert_meta}
 use Rattle.hotel_statements.specs.Values.{int}
-use Rattle.hotel_statements.specs.Columns.{meta_columns, meta_of, meta_written}
-use Rattle.hotel_statements.specs.Tables.{IsTable, by_key}
+use Rattle.hotel_statements.specs.Tables.{AreMetas}
 use Rattle.hotel_statements.specs.NewDesk.{IsBare, IsMade, IsEmptyDesk}
 use Rattle.hotel_statements.proofs.Statements.Changes as changes
 use Rattle.hotel_statements.proofs.Writing.{went, same_value, cast_null, cast_int}
@@ -29,20 +29,20 @@ abbrev meta_row : Row
 meta_row = int 1 ∷ Null ∷ int 2 ∷ Null ∷ []
 
 abbrev table : Table
-table = at_tree 0 meta_table
+table = at_tree meta_tree meta_table
 
 -- the trees after it
 record Entered (old new : State) : Type 0 where
   pub schema : new.now.schema ≡ desk_schema
-  pub meta : new.now.trees 0 ≡ put_row meta_row (old.now.trees 0)
-  pub kind : new.now.trees 1 ≡ old.now.trees 1
-  pub room : new.now.trees 3 ≡ old.now.trees 3
-  pub stay : new.now.trees 5 ≡ old.now.trees 5
-  pub code : new.now.trees 6 ≡ old.now.trees 6
-  pub card : new.now.trees 8 ≡ old.now.trees 8
-  pub inside : new.now.trees 9 ≡ old.now.trees 9
-  pub note : new.now.trees 11 ≡ old.now.trees 11
-  pub fit : new.now.trees 13 ≡ old.now.trees 13
+  pub meta : new.now.trees meta_tree ≡ put_row meta_row (old.now.trees meta_tree)
+  pub kind : new.now.trees kind_tree ≡ old.now.trees kind_tree
+  pub room : new.now.trees room_tree ≡ old.now.trees room_tree
+  pub stay : new.now.trees stay_tree ≡ old.now.trees stay_tree
+  pub code : new.now.trees code_tree ≡ old.now.trees code_tree
+  pub card : new.now.trees card_tree ≡ old.now.trees card_tree
+  pub inside : new.now.trees inside_tree ≡ old.now.trees inside_tree
+  pub note : new.now.trees note_tree ≡ old.now.trees note_tree
+  pub fit : new.now.trees fit_tree ≡ old.now.trees fit_tree
 
 enters : (old new : State) (count : ℕ) → old.now.schema ≡ desk_schema → ExecutesIn false insert_meta [] old new (Ok count) → Entered old new
 enters old new count has h =
@@ -61,26 +61,27 @@ enters old new count has h =
     let went_in = subst (λ all. Edited desk_schema (mode_of old).keys db (edit_of db table [] Chosen 0 all) (Ok written.0)) given.1.1 written.1 in
     let applied = one_step desk_schema (mode_of old).keys db written.0 (edit_of db table [] Chosen 0 (source ∷ [])) refl went_in in
     let edit : edited db (edit_of db table [] Chosen 0 (source ∷ []))
-    ≡ put_row meta_row (db 0) = rw (cast_null, cast_int (pos 1), cast_int (pos 2)) refl in
+    ≡ put_row meta_row (db meta_tree) = rw (cast_null, cast_int (pos 1), cast_int (pos 2)) refl in
     let at : (t : ℕ) → new.now.trees t ≡ written.0 t = λ t. ap (λ (d : Database). d.trees t) now ∙ ap (λ (s : Trees). s t) trees in
     record {
       schema = ap (λ (d : Database). d.schema) now;
-      meta = at 0 ∙ applied.rows ∙ edit;
-      kind = at 1 ∙ applied.tables.1.0 (λ e. omega (arith, e));
-      room = at 3 ∙ applied.tables.1.1.0 (λ e. omega (arith, e));
-      stay = at 5 ∙ applied.tables.1.1.1.0 (λ e. omega (arith, e));
-      code = at 6 ∙ applied.tables.1.1.1.1.0 (λ e. omega (arith, e));
-      card = at 8 ∙ applied.tables.1.1.1.1.1.0 (λ e. omega (arith, e));
-      inside = at 9 ∙ applied.tables.1.1.1.1.1.1.0 (λ e. omega (arith, e));
-      note = at 11 ∙ applied.tables.1.1.1.1.1.1.1.0 (λ e. omega (arith, e));
-      fit = at 13 ∙ applied.tables.1.1.1.1.1.1.1.1.0 (λ e. omega (arith, e));
+      meta = at meta_tree ∙ applied.rows ∙ edit;
+      kind = at kind_tree ∙ applied.tables.1.0 (λ e. omega (arith, e));
+      room = at room_tree ∙ applied.tables.1.1.0 (λ e. omega (arith, e));
+      stay = at stay_tree ∙ applied.tables.1.1.1.0 (λ e. omega (arith, e));
+      code = at code_tree ∙ applied.tables.1.1.1.1.0 (λ e. omega (arith, e));
+      card = at card_tree ∙ applied.tables.1.1.1.1.1.0 (λ e. omega (arith, e));
+      inside = at inside_tree ∙ applied.tables.1.1.1.1.1.1.0 (λ e. omega (arith, e));
+      note = at note_tree ∙ applied.tables.1.1.1.1.1.1.1.0 (λ e. omega (arith, e));
+      fit = at fit_tree ∙ applied.tables.1.1.1.1.1.1.1.1.0 (λ e. omega (arith, e));
     }
 
-empty_desk : (db : Trees) → db 0 ≡ meta_row ∷ [] → db 1 ≡ [] → db 3 ≡ [] → db 5 ≡ [] → db 6 ≡ [] → db 8 ≡ [] → db 9
-    ≡ [] → db 11 ≡ [] → db 13 ≡ [] → IsEmptyDesk db
+empty_desk : (db : Trees) → db meta_tree ≡ meta_row ∷ [] → db kind_tree ≡ [] → db room_tree ≡ [] → db stay_tree ≡ []
+    → db code_tree ≡ [] → db card_tree ≡ [] → db inside_tree
+    ≡ [] → db note_tree ≡ [] → db fit_tree ≡ [] → IsEmptyDesk db
 empty_desk db meta kind room stay code card inside note fit = record {
   tables = record {
-    meta = subst (IsTable (by_key nat_cmp) meta_columns meta_of meta_written) (sym meta) (record { good = (refl, tt); apart = (tt, tt) });
+    meta = subst AreMetas (sym meta) (record { good = (refl, tt); apart = (tt, tt) });
     meta_row = (None, rw meta refl);
     kind = rw kind (record { good = tt; apart = tt });
     room = rw room (record { good = tt; apart = tt });

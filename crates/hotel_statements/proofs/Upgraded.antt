@@ -18,7 +18,7 @@ use Rattle.sqlite.specs.declared.error.Error.{Error}
 use Rattle.sqlite.proofs.StateLemmas.{survives_then}
 use Rattle.hotel_model.specs.declared.rows.FitRow.{FitRow}
 use Rattle.hotel_model.proofs.OfTables.KeysInOrder.{AllAfter, InOrder}
-use Rattle.hotel_rows.specs.Joined.{joined, first_fits}
+use Rattle.hotel_rows.specs.Joined.{joined, first_fits, FitEntries}
 use Rattle.hotel_statements.specs.declared.version.Version.TheVariants.{First}
 use Rattle.hotel_statements.specs.Schema.{desk_schema}
 use Rattle.hotel_statements.specs.Tables.{AreTables, AreTablesOf, rows_in, rows_of_version, fits_in, bare_rooms_in}
@@ -26,7 +26,7 @@ use Rattle.hotel_statements.specs.Books.{IsDesk, IsKept, IsBooks}
 use Rattle.hotel_statements.specs.NewDesk.{MakesNew}
 use Rattle.hotel_statements.specs.Steps.{RunsStatement}
 use Rattle.hotel_statements.specs.Upgrade.{IsFirstDesk, IsFirstBooks, IsFirstMid, IsFirstWith, AreRoomsIn, IsUpgraded}
-use Rattle.hotel_statements.specs.Upgrade.{Upgrades, IsUpgradeOf, IsOutdated, IsBefore, Fits, first_of, HasFits}
+use Rattle.hotel_statements.specs.Upgrade.{Upgrades, IsUpgradeOf, IsOutdated, IsBefore, first_of, HasFits}
 use Rattle.hotel_statements.specs.Upgrade.{GivesFits}
 use Rattle.hotel_statements.proofs.Answers.{fused}
 use Rattle.hotel_statements.proofs.Risen.{rooms_rise, keys_rise}
@@ -45,7 +45,7 @@ commit_then one two = record {
 }
 
 -- one statement, given what it makes, and its parameters as they are bound
-pub gives_one : {Before : State → Type 0} {text : List ℕ} {given : Row} {fits : Fits} {old new : State}
+pub gives_one : {Before : State → Type 0} {text : List ℕ} {given : Row} {fits : FitEntries} {old new : State}
     {r : Result (Unit {0}) Error} (params : Row) → RunsStatement text given old new r
     → ((count : ℕ) → ExecutesInside 0 text params old new (Ok count) → (IsTrue old.is_open → Before old)
     → HasFits fits old new) → given ≡ params → GivesFits Before fits old new r
@@ -117,7 +117,7 @@ fits_more rooms i room low is =
     ap (λ x. map first_of (take i rooms) ++ first_of x ∷ []) is
     ∙ sym (ap (map first_of) (take_more rooms i room low) ∙ map_push first_of (take i rooms) (get_or rooms i room))
 
-abbrev AreEarlier : ℕ → Fits → Type 0
+abbrev AreEarlier : ℕ → FitEntries → Type 0
 AreEarlier room fits = AllByRecursion (λ (e : (ℕ × ℕ) × FitRow). e.0.0 < room) fits
 
 pub room_then : {rooms : List ℕ} {a b c : State} {u : Unit {0}} {r : Result (Unit {0}) Error} (i room : ℕ)
@@ -134,7 +134,7 @@ room_then {rooms} {a} {b} {c} {u} {r} i room low is one two = record {
     was : HasCleanDisk c → HasCleanDisk b
     was clean = omega (arith, two.survives.clean, clean)
 
-    so_far : Fits
+    so_far : FitEntries
     so_far = map first_of (take i rooms)
 
     go : (r : Result (Unit {0}) Error) → ((IsTrue a.is_open → IsFirstWith rooms a) → HasFits so_far a b)

@@ -10,6 +10,8 @@ use Rattle.sqlite.specs.Query.{IsAnswer, Output, output}
 use Rattle.sqlite.specs.Program.{overlay}
 use Rattle.sqlite.specs.Term.{Term, col, eval_all}
 use Rattle.sqlite.specs.Tree.{Trees}
+use Rattle.hotel_statements.specs.Trees.{meta_tree, kind_tree, room_tree, stay_tree, code_tree, card_tree, inside_tree}
+use Rattle.hotel_statements.specs.Trees.{note_tree, fit_tree}
 use Rattle.hotel_statements.specs.Texts as text
 use Rattle.hotel_statements.specs.Columns.{meta_columns, kind_columns, room_columns, stay_columns, code_columns}
 use Rattle.hotel_statements.specs.Columns.{card_columns, note_columns, fit_columns}
@@ -53,67 +55,67 @@ all_rows tree project order columns cut shows whole db rows a =
 
 -- ---- the tables that both versions have
 
-pub meta_whole : (version : Version) → IsWhole version text.read_meta 0 meta_columns first_three
+pub meta_whole : (version : Version) → IsWhole version text.read_meta meta_tree meta_columns first_three
 meta_whole version = record {
-  query = single 0 [] (columns (0 ∷ 2 ∷ 3 ∷ [])) by_rowid;
+  query = single meta_tree [] (columns (0 ∷ 2 ∷ 3 ∷ [])) by_rowid;
   asks = reads.read_meta version;
-  answers = all_rows 0 (columns (0 ∷ 2 ∷ 3 ∷ [])) by_rowid meta_columns first_three (λ r. refl) (λ r. refl);
+  answers = all_rows meta_tree (columns (0 ∷ 2 ∷ 3 ∷ [])) by_rowid meta_columns first_three (λ r. refl) (λ r. refl);
 }
 
-pub kind_whole : (version : Version) → IsWhole version text.read_kind 1 kind_columns first_one
+pub kind_whole : (version : Version) → IsWhole version text.read_kind kind_tree kind_columns first_one
 kind_whole version = record {
-  query = single 1 [] (columns (1 ∷ [])) by_first;
+  query = single kind_tree [] (columns (1 ∷ [])) by_first;
   asks = reads.read_kind version;
-  answers = all_rows 1 (columns (1 ∷ [])) by_first kind_columns first_one (λ r. refl) (λ r. refl);
+  answers = all_rows kind_tree (columns (1 ∷ [])) by_first kind_columns first_one (λ r. refl) (λ r. refl);
 }
 
-pub room_whole : (version : Version) → IsWhole version text.read_room 3 room_columns first_seven
+pub room_whole : (version : Version) → IsWhole version text.read_room room_tree room_columns first_seven
 room_whole version = record {
-  query = single 3 [] all_seven by_rowid;
+  query = single room_tree [] all_seven by_rowid;
   asks = reads.read_room version;
-  answers = all_rows 3 all_seven by_rowid room_columns first_seven (λ r. refl) (λ r. refl);
+  answers = all_rows room_tree all_seven by_rowid room_columns first_seven (λ r. refl) (λ r. refl);
 }
 
-pub stay_whole : (version : Version) → IsWhole version text.read_stay 5 stay_columns first_seven
+pub stay_whole : (version : Version) → IsWhole version text.read_stay stay_tree stay_columns first_seven
 stay_whole version = record {
-  query = single 5 [] all_seven by_rowid;
+  query = single stay_tree [] all_seven by_rowid;
   asks = reads.read_stay version;
-  answers = all_rows 5 all_seven by_rowid stay_columns first_seven (λ r. refl) (λ r. refl);
+  answers = all_rows stay_tree all_seven by_rowid stay_columns first_seven (λ r. refl) (λ r. refl);
 }
 
-pub code_whole : (version : Version) → IsWhole version text.read_code 6 code_columns first_three
+pub code_whole : (version : Version) → IsWhole version text.read_code code_tree code_columns first_three
 code_whole version = record {
-  query = single 6 [] (columns (0 ∷ 2 ∷ 3 ∷ [])) by_rowid;
+  query = single code_tree [] (columns (0 ∷ 2 ∷ 3 ∷ [])) by_rowid;
   asks = reads.read_code version;
-  answers = all_rows 6 (columns (0 ∷ 2 ∷ 3 ∷ [])) by_rowid code_columns first_three (λ r. refl) (λ r. refl);
+  answers = all_rows code_tree (columns (0 ∷ 2 ∷ 3 ∷ [])) by_rowid code_columns first_three (λ r. refl) (λ r. refl);
 }
 
-pub card_whole : (version : Version) → IsWhole version text.read_card 8 card_columns first_four
+pub card_whole : (version : Version) → IsWhole version text.read_card card_tree card_columns first_four
 card_whole version = record {
-  query = single 8 [] (columns (0 ∷ 2 ∷ 3 ∷ 4 ∷ [])) by_rowid;
+  query = single card_tree [] (columns (0 ∷ 2 ∷ 3 ∷ 4 ∷ [])) by_rowid;
   asks = reads.read_card version;
-  answers = all_rows 8 (columns (0 ∷ 2 ∷ 3 ∷ 4 ∷ [])) by_rowid card_columns first_four (λ r. refl) (λ r. refl);
+  answers = all_rows card_tree (columns (0 ∷ 2 ∷ 3 ∷ 4 ∷ [])) by_rowid card_columns first_four (λ r. refl) (λ r. refl);
 }
 
-pub inside_whole : (version : Version) → IsWhole version text.read_inside 9 numbered_columns first_three
+pub inside_whole : (version : Version) → IsWhole version text.read_inside inside_tree numbered_columns first_three
 inside_whole version = record {
-  query = single 9 [] (columns (0 ∷ 1 ∷ 2 ∷ [])) by_two;
+  query = single inside_tree [] (columns (0 ∷ 1 ∷ 2 ∷ [])) by_two;
   asks = reads.read_inside version;
-  answers = all_rows 9 (columns (0 ∷ 1 ∷ 2 ∷ [])) by_two numbered_columns first_three (λ r. refl) (λ r. refl);
+  answers = all_rows inside_tree (columns (0 ∷ 1 ∷ 2 ∷ [])) by_two numbered_columns first_three (λ r. refl) (λ r. refl);
 }
 
-pub note_whole : (version : Version) → IsWhole version text.read_note 11 note_columns first_eight
+pub note_whole : (version : Version) → IsWhole version text.read_note note_tree note_columns first_eight
 note_whole version = record {
-  query = single 11 [] all_eight by_two;
+  query = single note_tree [] all_eight by_two;
   asks = reads.read_note version;
-  answers = all_rows 11 all_eight by_two note_columns first_eight (λ r. refl) (λ r. refl);
+  answers = all_rows note_tree all_eight by_two note_columns first_eight (λ r. refl) (λ r. refl);
 }
 
 -- ---- the table of the second version alone
 
-pub fit_whole : IsWhole Second text.read_fit 13 fit_columns first_four
+pub fit_whole : IsWhole Second text.read_fit fit_tree fit_columns first_four
 fit_whole = record {
-  query = single 13 [] (columns (1 ∷ 2 ∷ 3 ∷ 4 ∷ [])) by_two;
+  query = single fit_tree [] (columns (1 ∷ 2 ∷ 3 ∷ 4 ∷ [])) by_two;
   asks = reads.read_fit;
-  answers = all_rows 13 (columns (1 ∷ 2 ∷ 3 ∷ 4 ∷ [])) by_two fit_columns first_four (λ r. refl) (λ r. refl);
+  answers = all_rows fit_tree (columns (1 ∷ 2 ∷ 3 ∷ 4 ∷ [])) by_two fit_columns first_four (λ r. refl) (λ r. refl);
 }

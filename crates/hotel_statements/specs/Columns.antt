@@ -1,5 +1,5 @@
 -- The rows of the nine tables: which columns each has, what a row with these columns says, and how the books write it.
-use Rattle.std.specs.Prelude.{ℕ, Bool, true, false, List, [], ◌∷◌, Option, Some, None, ◌==◌, if◌then◌else◌, unwrap_or}
+use Rattle.std.specs.Prelude.{ℕ, Bool, true, false, List, [], ◌∷◌, Option, Some, None, ◌==◌}
 use Rattle.sqlite_value.specs.declared.value.Value.TheVariants.{Text}
 use Rattle.sqlite.specs.Order.{Row, column}
 use Rattle.keycard_rules.specs.declared.card.Card.{Card}
@@ -13,6 +13,8 @@ use Rattle.hotel_model.specs.declared.rows.RoomRow.{RoomRow}
 use Rattle.hotel_model.specs.declared.rows.CodeRow.{CodeRow}
 use Rattle.hotel_model.specs.declared.rows.FitRow.{FitRow}
 use Rattle.hotel_model.specs.Stays.{room_of_state}
+use Rattle.hotel_rows.specs.Stored.{state_of, act_of}
+use Rattle.hotel_rows.specs.Joined.{FitKey, NoteKey}
 use Rattle.hotel_statements.specs.Values.{number_of, option_of, text_of, int, maybe_int}
 
 -- An integer key stands first in a stored row, and nothing in its own column; `.._columns` are the columns as they are
@@ -71,9 +73,6 @@ abbrev pub room_written : ℕ × RoomRow → Row
 room_written e = int e.0 ∷ Text e.1.kind ∷ int e.1.lock_place ∷ int e.1.codes ∷ int (bit_of e.1.secured) ∷ maybe_int e.1.party ∷ int e.1.notes ∷ []
 
 -- ---- stay
-
-abbrev pub state_of : ℕ → Option ℕ → StayState
-state_of n room = if n == 0 then Booked else if n == 1 then InHouse (unwrap_or room 0) else if n == 2 then Done else Cancelled
 
 abbrev pub state_number : StayState → ℕ
 state_number Booked = 0
@@ -145,12 +144,6 @@ inside_written e = int e.0 ∷ int e.1 ∷ []
 
 -- ---- note
 
--- what happened, by the number of the act, the card (none where staff recoded the lock) and the two codes
-abbrev pub act_of : ℕ → Option ℕ → ℕ → ℕ → Act
-act_of n card first second =
-    if n == 0 then Entered (unwrap_or card 0) (record { old_code = first; new_code = second })
-    else if n == 1 then Left (unwrap_or card 0) (record { old_code = first; new_code = second }) else Recoded first second
-
 abbrev pub act_number : Act → ℕ
 act_number (Entered card link) = 0
 act_number (Left card link) = 1
@@ -185,10 +178,10 @@ note_row_of v = record {
   second = number_of (column v 7);
 }
 
-abbrev pub note_of : Row → (ℕ × ℕ) × Note
+abbrev pub note_of : Row → NoteKey × Note
 note_of v = ((number_of (column v 0), number_of (column v 1)), note_row_of v)
 
-abbrev pub note_written : (ℕ × ℕ) × Note → Row
+abbrev pub note_written : NoteKey × Note → Row
 note_written e =
     int e.0.0 ∷ int e.0.1 ∷ int (act_number e.1.act) ∷ maybe_int (act_card e.1.act) ∷ int (act_first e.1.act) ∷ int (act_second e.1.act) ∷ int e.1.day ∷ int e.1.second ∷ []
 
@@ -205,8 +198,8 @@ fit_row_of v = record {
   before = number_of (column v 3);
 }
 
-abbrev pub fit_of : Row → (ℕ × ℕ) × FitRow
+abbrev pub fit_of : Row → FitKey × FitRow
 fit_of v = ((number_of (column v 0), number_of (column v 1)), fit_row_of v)
 
-abbrev pub fit_written : (ℕ × ℕ) × FitRow → Row
+abbrev pub fit_written : FitKey × FitRow → Row
 fit_written e = int e.0.0 ∷ int e.0.1 ∷ int e.1.place ∷ int e.1.before ∷ []

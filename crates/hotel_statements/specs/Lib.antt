@@ -1,3 +1,4 @@
+pub mod Trees
 pub mod Schema
 pub mod Texts
 pub mod Values

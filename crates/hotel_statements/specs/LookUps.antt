@@ -23,7 +23,7 @@ use Rattle.hotel_model.specs.declared.rows.FitRow.{FitRow}
 use Rattle.hotel_model.specs.declared.rows.RoomRow.{RoomRow}
 use Rattle.hotel_model.specs.Refinement.Lookups.{number_after}
 use Rattle.hotel_model.specs.Rows.{Rows}
-use Rattle.hotel_statements.specs.declared.look_ups.RoomCounts.{RoomCounts}
+use Rattle.hotel_statements.specs.declared.look_ups.Known.{Known}
 use Rattle.hotel_statements.specs.Schema.{desk_schema}
 use Rattle.hotel_statements.specs.Tables.{rows_in}
 use Rattle.hotel_statements.specs.Books.{IsKept, IsBooks, KeepsRows}
@@ -142,6 +142,6 @@ numbered_fit (f ∷ fs) number = if f.fit == number then Some f else numbered_fi
 abbrev pub next_numbers_of : Rows → NextNumbers
 next_numbers_of rows = record { party = number_after (length rows.stays); card = number_after (length rows.cards) }
 
--- how many codes and notes a room has, by its row
-abbrev pub counts_of_row : RoomRow → RoomCounts
-counts_of_row row = record { codes = row.codes; notes = row.notes }
+-- what a room's row tells the statements of a change
+abbrev pub known_by_room : RoomRow → Known
+known_by_room row = record { codes = row.codes; notes = row.notes; before = 0 }

@@ -15,6 +15,7 @@ use Rattle.sqlite.specs.Change.{next_tree, KeepsRows}
 use Rattle.sqlite_schema.specs.declared.schema.Index.{Index}
 use Rattle.sqlite_catalog.specs.Change.{created, indexed}
 use Rattle.hotel_model.specs.Rows.{no_rows}
+use Rattle.hotel_statements.specs.Trees.{fit_tree}
 use Rattle.hotel_statements.specs.Tables.{AreTables, rows_in}
 use Rattle.hotel_statements.specs.Schema.{desk_schema, first_schema, no_schema, meta_table, kind_table, room_table}
 use Rattle.hotel_statements.specs.Schema.{stay_table, code_table, card_table, inside_table}
@@ -114,7 +115,7 @@ pub record HasNew (old new : State) : Type 0 where
   pub was_open : IsTrue old.is_open
   pub schema_is : new.now.schema ≡ desk_schema
   pub rows : KeepsRows first_schema.tables old.now.trees new.now.trees
-  pub empty : new.now.trees 13 ≡ []
+  pub empty : new.now.trees fit_tree ≡ []
 
 -- if the connection was open and had the eight tables
 abbrev pub MakesNew : State → State → Type 0

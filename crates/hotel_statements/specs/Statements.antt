@@ -26,6 +26,7 @@ use Rattle.sqlite.specs.declared.error.Error.{Error}
 use Rattle.sqlite.specs.declared.error.Error.TheVariants.{SqliteFailure}
 use Rattle.sqlite.specs.declared.error.ErrorCode.TheVariants.{TransactionState}
 use Rattle.hotel_model.specs.Rows.{Rows}
+use Rattle.hotel_statements.specs.declared.look_ups.Known.{Known}
 use Rattle.hotel_statements.specs.Texts as text
 use Rattle.hotel_statements.specs.Values.{int, maybe_int}
 use Rattle.hotel_statements.specs.Columns.{bit_of, state_number, kind_written, room_written, stay_written, code_written}
@@ -144,12 +145,6 @@ moves_card (Comes card) room = adds_inside room card ∷ []
 abbrev pub takes_note : Note → ℕ → ℕ → Bool → InsideMove → List Statement
 takes_note note number lock_place secured insides = gives_note note number lock_place secured
     ++ moves_card insides note.room
-
--- how many codes stand at a room, how many notes it has, and how many of these were taken before its present fit
-pub record Known : Type 0 where
-  pub codes : ℕ
-  pub notes : ℕ
-  pub before : ℕ
 
 -- those of a change, where this is known of its room
 abbrev pub statements_of : Change → Known → List Statement

@@ -61,10 +61,6 @@ pub record MakesRows (fits : Rows → Type 0) (make : Rows → Rows) (old new : 
   pub kept : HasCleanDisk new → KeepsCommit old new
   pub survives : Survives old new (λ _. ⊥)
 
--- whatever the rows are
-abbrev pub any_rows : Rows → Type 0
-any_rows rows = Unit {0}
-
 -- The trees are those of a desk, whose rows are what is made of the rows before.
 pub record IsMadeOf (make : Rows → Rows) (old new : Trees) : Type 0 where
   pub tables : AreTables new

@@ -13,12 +13,13 @@ use Rattle.sqlite_value.specs.declared.value.Value.TheVariants.{Int}
 use Rattle.sqlite_keyed.specs.Lists.{sort_by}
 use Rattle.keycard_rules.specs.Note.{Note}
 use Rattle.hotel_model.specs.declared.rows.RoomRow.{RoomRow}
-use Rattle.hotel_model.specs.declared.rows.FitRow.{FitRow}
 use Rattle.hotel_model.specs.Words.{pair_cmp, said_of}
 use Rattle.hotel_model.specs.Rows.{Rows, at_number}
-use Rattle.hotel_rows.specs.Joined.{with_fit, under_fit, joined, first_fits}
+use Rattle.hotel_rows.specs.Joined.{with_fit, under_fit, joined, first_fits, NoteKey, FitEntries}
 use Rattle.hotel_statements.specs.declared.version.Version.{Version}
 use Rattle.hotel_statements.specs.declared.version.Version.TheVariants.{First, Second}
+use Rattle.hotel_statements.specs.Trees.{meta_tree, kind_tree, room_tree, stay_tree, code_tree, card_tree, inside_tree}
+use Rattle.hotel_statements.specs.Trees.{note_tree, fit_tree}
 use Rattle.hotel_statements.specs.Columns.{meta_columns, meta_of, meta_written, kind_columns, kind_of, kind_written}
 use Rattle.hotel_statements.specs.Columns.{room_columns, room_of, room_written, stay_columns, stay_of, stay_written}
 use Rattle.hotel_statements.specs.Columns.{code_columns, code_of, code_written, card_columns, card_of, card_written}
@@ -50,6 +51,34 @@ IsWrittenAs columns of written r = columns r ≡ written (of (columns r))
 abbrev pub IsTable : {X : Type 0} → (X → X → Ordering) → (Row → Row) → (Row → X) → (X → Row) → List Row → Type 0
 IsTable cmp columns of written = IsTableOf cmp (IsWrittenAs columns of written) (λ r. of (columns r))
 
+-- those of each table
+abbrev pub AreMetas : List Row → Type 0
+AreMetas rows = IsTable (by_key nat_cmp) meta_columns meta_of meta_written rows
+
+abbrev pub AreKinds : List Row → Type 0
+AreKinds rows = IsTable (slice_cmp nat_cmp) kind_columns kind_of kind_written rows
+
+abbrev pub AreRooms : List Row → Type 0
+AreRooms rows = IsTable (by_key nat_cmp) room_columns room_of room_written rows
+
+abbrev pub AreStays : List Row → Type 0
+AreStays rows = IsTable (by_key nat_cmp) stay_columns stay_of stay_written rows
+
+abbrev pub AreCodes : List Row → Type 0
+AreCodes rows = IsTable (by_key nat_cmp) code_columns code_of code_written rows
+
+abbrev pub AreCards : List Row → Type 0
+AreCards rows = IsTable (by_key nat_cmp) card_columns card_of card_written rows
+
+abbrev pub AreInside : List Row → Type 0
+AreInside rows = IsTable pair_cmp inside_columns inside_of inside_written rows
+
+abbrev pub AreNotes : List Row → Type 0
+AreNotes rows = IsTable (by_key pair_cmp) note_columns note_of note_written rows
+
+abbrev pub AreFits : List Row → Type 0
+AreFits rows = IsTable (by_key pair_cmp) fit_columns fit_of fit_written rows
+
 -- a row's number in its tree is an integer, and no two rows have the same
 abbrev pub HasId : Row → Type 0
 HasId r = rowid r ≡ Int (id_in (rowid r))
@@ -60,29 +89,29 @@ AreApartIds = IsAscending (λ a b. is_eq (value_cmp (rowid a) (rowid b)) ≡ fal
 -- ---- the trees of the tables; the numbers between are those of their indexes
 
 abbrev pub metas_in : Trees → List (ℕ × (ℕ × Option ℕ))
-metas_in db = listed (by_key nat_cmp) (λ r. meta_of (meta_columns r)) (db 0)
+metas_in db = listed (by_key nat_cmp) (λ r. meta_of (meta_columns r)) (db meta_tree)
 
 -- the fits of all rooms
-abbrev pub fits_in : Trees → List ((ℕ × ℕ) × FitRow)
-fits_in db = listed (by_key pair_cmp) (λ r. fit_of (fit_columns r)) (db 13)
+abbrev pub fits_in : Trees → FitEntries
+fits_in db = listed (by_key pair_cmp) (λ r. fit_of (fit_columns r)) (db fit_tree)
 
 -- the rooms and the notes as their tables have them
 abbrev pub bare_rooms_in : Trees → List (ℕ × RoomRow)
-bare_rooms_in db = listed (by_key nat_cmp) (λ r. room_of (room_columns r)) (db 3)
+bare_rooms_in db = listed (by_key nat_cmp) (λ r. room_of (room_columns r)) (db room_tree)
 
-abbrev pub bare_notes_in : Trees → List ((ℕ × ℕ) × Note)
-bare_notes_in db = listed (by_key pair_cmp) (λ r. note_of (note_columns r)) (db 11)
+abbrev pub bare_notes_in : Trees → List (NoteKey × Note)
+bare_notes_in db = listed (by_key pair_cmp) (λ r. note_of (note_columns r)) (db note_tree)
 
 -- The nine lists that the trees hold, those of rooms and notes joined with the fits.
 abbrev pub rows_in : Trees → Rows
 rows_in db = record {
   day = said_of (at_number (metas_in db) 1) None (λ meta. meta.1);
-  kinds = listed (slice_cmp nat_cmp) (λ r. kind_of (kind_columns r)) (db 1);
+  kinds = listed (slice_cmp nat_cmp) (λ r. kind_of (kind_columns r)) (db kind_tree);
   rooms = map (with_fit (fits_in db)) (bare_rooms_in db);
-  stays = listed (by_key nat_cmp) (λ r. stay_of (stay_columns r)) (db 5);
-  codes = listed (by_key nat_cmp) (λ r. code_of (code_columns r)) (db 6);
-  cards = listed (by_key nat_cmp) (λ r. card_of (card_columns r)) (db 8);
-  inside = listed pair_cmp (λ r. inside_of (inside_columns r)) (db 9);
+  stays = listed (by_key nat_cmp) (λ r. stay_of (stay_columns r)) (db stay_tree);
+  codes = listed (by_key nat_cmp) (λ r. code_of (code_columns r)) (db code_tree);
+  cards = listed (by_key nat_cmp) (λ r. card_of (card_columns r)) (db card_tree);
+  inside = listed pair_cmp (λ r. inside_of (inside_columns r)) (db inside_tree);
   notes = map (under_fit (fits_in db)) (bare_notes_in db);
   fits = fits_in db;
 }
@@ -104,24 +133,24 @@ number_of_version Second = 2
 -- the table of the fits, which the first version doesn't have
 abbrev pub IsFitTable : Version → List Row → Type 0
 IsFitTable First rows = Unit {0}
-IsFitTable Second rows = IsTable (by_key pair_cmp) fit_columns fit_of fit_written rows
+IsFitTable Second rows = AreFits rows
 
 -- The trees are those of the tables of a version, written by the books.
 pub record AreTablesOf (version : Version) (db : Trees) : Type 0 where
-  pub meta : IsTable (by_key nat_cmp) meta_columns meta_of meta_written (db 0)
+  pub meta : AreMetas (db meta_tree)
   -- meta has one row, of the version
   pub meta_row : (day : Option ℕ) × (metas_in db ≡ (1, (number_of_version version, day)) ∷ [])
-  pub kind : IsTable (slice_cmp nat_cmp) kind_columns kind_of kind_written (db 1)
-  pub room : IsTable (by_key nat_cmp) room_columns room_of room_written (db 3)
-  pub stay : IsTable (by_key nat_cmp) stay_columns stay_of stay_written (db 5)
-  pub code : IsTable (by_key nat_cmp) code_columns code_of code_written (db 6)
-  pub card : IsTable (by_key nat_cmp) card_columns card_of card_written (db 8)
-  pub inside : IsTable pair_cmp inside_columns inside_of inside_written (db 9)
+  pub kind : AreKinds (db kind_tree)
+  pub room : AreRooms (db room_tree)
+  pub stay : AreStays (db stay_tree)
+  pub code : AreCodes (db code_tree)
+  pub card : AreCards (db card_tree)
+  pub inside : AreInside (db inside_tree)
   -- the numbers of its rows, by which one is deleted
-  pub inside_numbered : AllByRecursion HasId (db 9)
-  pub inside_ids : AreApartIds (db 9)
-  pub note : IsTable (by_key pair_cmp) note_columns note_of note_written (db 11)
-  pub fit : IsFitTable version (db 13)
+  pub inside_numbered : AllByRecursion HasId (db inside_tree)
+  pub inside_ids : AreApartIds (db inside_tree)
+  pub note : AreNotes (db note_tree)
+  pub fit : IsFitTable version (db fit_tree)
 
 -- those of the second version, written by the books
 abbrev pub AreTables : Trees → Type 0

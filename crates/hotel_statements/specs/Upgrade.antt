@@ -9,7 +9,9 @@ use Rattle.sqlite.specs.State.{State, HasCleanDisk, KeepsCommit, Survives}
 use Rattle.sqlite.specs.declared.error.Error.{Error}
 use Rattle.hotel_model.specs.declared.rows.FitRow.{FitRow}
 use Rattle.hotel_model.specs.Refits.{fit_row}
+use Rattle.hotel_rows.specs.Joined.{FitKey, FitEntries}
 use Rattle.hotel_statements.specs.declared.version.Version.TheVariants.{First}
+use Rattle.hotel_statements.specs.Trees.{fit_tree}
 use Rattle.hotel_statements.specs.Schema.{first_schema, desk_schema}
 use Rattle.hotel_statements.specs.Tables.{AreTablesOf, AreTables, bare_rooms_in, fits_in, rows_in, bare_rows_in}
 use Rattle.hotel_statements.specs.Tables.{rows_of_version}
@@ -72,22 +74,19 @@ pub record IsOutdated (s : State) : Type 0 where
   pub schema : s.now.schema ≡ desk_schema
   pub inside : IsTrue s.in_transaction
   pub tables : AreTablesOf First s.now.trees
-  pub empty : s.now.trees 13 ≡ []
+  pub empty : s.now.trees fit_tree ≡ []
 
 -- Within a transaction, the tables are those of a desk, whose fits are of rooms before this one.
 pub record IsBefore (room : ℕ) (s : State) : Type 0 where
   pub mid : IsMid s
-  pub earlier : AllByRecursion (λ (e : (ℕ × ℕ) × FitRow). e.0.0 < room) (fits_in s.now.trees)
-
-abbrev pub Fits : Type 0
-Fits = List ((ℕ × ℕ) × FitRow)
+  pub earlier : AllByRecursion (λ (e : FitKey × FitRow). e.0.0 < room) (fits_in s.now.trees)
 
 -- the fit that a room began with
-abbrev pub first_of : ℕ → (ℕ × ℕ) × FitRow
+abbrev pub first_of : ℕ → FitKey × FitRow
 first_of room = ((room, 1), fit_row room 1 0 0)
 
 -- The tables became those of a desk with these fits, and the other rows stayed; nothing is committed.
-pub record HasFits (fits : Fits) (old new : State) : Type 0 where
+pub record HasFits (fits : FitEntries) (old new : State) : Type 0 where
   pub was_open : IsTrue old.is_open
   pub is_open : IsTrue new.is_open
   pub committed : new.committed ≡ old.committed
@@ -98,7 +97,7 @@ pub record HasFits (fits : Fits) (old new : State) : Type 0 where
 
 -- Statements of an upgrade, from old to new: where none failed, and old was such a state, the desk has these fits.
 -- Nothing is committed, and a crash leaves nothing new.
-pub record GivesFits (Before : State → Type 0) (fits : Fits) (old new : State) (result : Result (Unit {0}) Error)
+pub record GivesFits (Before : State → Type 0) (fits : FitEntries) (old new : State) (result : Result (Unit {0}) Error)
     : Type 0 where
   pub made : HasCleanDisk new → OnOk result ((IsTrue old.is_open → Before old) → HasFits fits old new)
   pub kept : HasCleanDisk new → KeepsCommit old new

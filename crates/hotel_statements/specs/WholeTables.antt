@@ -21,6 +21,8 @@ use Rattle.hotel_statements.specs.declared.plain_rows.NumberedInside.{NumberedIn
 use Rattle.hotel_statements.specs.declared.whole_tables.Tables.{Tables}
 use Rattle.hotel_statements.specs.declared.version.Version.{Version}
 use Rattle.hotel_statements.specs.declared.version.Version.TheVariants.{First, Second}
+use Rattle.hotel_statements.specs.Trees.{meta_tree, kind_tree, room_tree, stay_tree, code_tree, card_tree, inside_tree}
+use Rattle.hotel_statements.specs.Trees.{note_tree, fit_tree}
 use Rattle.hotel_statements.specs.Schema.{schema_of}
 use Rattle.hotel_statements.specs.Columns.{meta_columns, kind_columns, room_columns, stay_columns, code_columns}
 use Rattle.hotel_statements.specs.Columns.{card_columns, note_columns, fit_columns}
@@ -79,21 +81,24 @@ MayRead version Fails Says old new result = ReadsIf (IsKept old) version Fails S
 -- the rows of the first four tables, and of the next four
 abbrev pub AreFirst : (Vec PlainMeta Global × Vec PlainKind Global) × (Vec PlainRoom Global × Vec PlainStay Global) → Trees → Type 0
 AreFirst r db =
-    (ArePlainRows meta_columns meta_shown r.0.0.items (db 0) × ArePlainRows kind_columns kind_shown r.0.1.items (db 1))
-    × (ArePlainRows room_columns room_shown r.1.0.items (db 3) × ArePlainRows stay_columns stay_shown r.1.1.items (db 5))
+    (ArePlainRows meta_columns meta_shown r.0.0.items (db meta_tree)
+    × ArePlainRows kind_columns kind_shown r.0.1.items (db kind_tree))
+    × (ArePlainRows room_columns room_shown r.1.0.items (db room_tree)
+    × ArePlainRows stay_columns stay_shown r.1.1.items (db stay_tree))
 
 abbrev pub AreLast : (Vec PlainCode Global × Vec PlainCard Global) × (Vec NumberedInside Global × Vec PlainNote Global)
     → Trees → Type 0
 AreLast r db =
-    (ArePlainRows code_columns code_shown r.0.0.items (db 6) × ArePlainRows card_columns card_shown r.0.1.items (db 8))
-    × (ArePlainRows numbered_columns numbered_shown r.1.0.items (db 9)
-    × ArePlainRows note_columns note_shown r.1.1.items (db 11))
+    (ArePlainRows code_columns code_shown r.0.0.items (db code_tree)
+    × ArePlainRows card_columns card_shown r.0.1.items (db card_tree))
+    × (ArePlainRows numbered_columns numbered_shown r.1.0.items (db inside_tree)
+    × ArePlainRows note_columns note_shown r.1.1.items (db note_tree))
 
 -- the rows of the fits, which the first version doesn't have
 abbrev pub AreFitRows : Version → Option (Vec PlainFit Global) → Trees → Type 0
 AreFitRows First fits db = fits ≡ None
 AreFitRows Second None db = ⊥
-AreFitRows Second (Some fits) db = ArePlainRows fit_columns fit_shown fits.items (db 13)
+AreFitRows Second (Some fits) db = ArePlainRows fit_columns fit_shown fits.items (db fit_tree)
 
 -- the rows of all tables of a version
 abbrev pub AreRead : Version → Tables → Trees → Type 0

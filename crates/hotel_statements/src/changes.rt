@@ -3,7 +3,8 @@ ghost use Rattle.std.specs.Prelude.{◌≡◌};
 ghost use Rattle.hotel_model.specs.Refinement.Change.{made};
 ghost use Rattle.hotel_model.specs.declared.change.Change.TheVariants as change;
 ghost use Rattle.hotel_statements.specs.Statements.{WritesBy, opens_room, ends_stay};
-ghost use Rattle.hotel_statements.specs.Steps.{IsNewRoom, any_rows};
+ghost use Rattle.hotel_core.specs.Refinement.Finds.{AnyRows};
+ghost use Rattle.hotel_statements.specs.Steps.{IsNewRoom};
 
 use crate::steps::{free_room, insert_code, insert_fit, insert_room, set_state};
 use hotel_core::{CodeRow, FitRow, RoomRow};
@@ -54,7 +55,8 @@ pub fn end_stay<S: Alter>(
     room: RoomNo,
 ) -> Result<(), Error>
     ensures same_reference { tx.new.conn.ghost_name ≡ tx.old.conn.ghost_name }
-    ensures makes { WritesBy S.Store (ends_stay party room) any_rows (made (change.CheckedOut party room)) tx.old.conn.now tx.new.conn.now result }
+    ensures makes { WritesBy S.Store (ends_stay party room) AnyRows (made (change.CheckedOut party room))
+        tx.old.conn.now tx.new.conn.now result }
 {
     set_state(tx, party, StayState::Done)?;
     free_room(tx, room)

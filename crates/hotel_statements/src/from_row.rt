@@ -7,13 +7,15 @@ ghost use Rattle.hotel_statements.specs.Readable.{IsNatural, IsCount, IsText, Is
 ghost use Rattle.hotel_statements.specs.Readable.{IsBit, IsKind, IsGuest, OrNull};
 ghost use Rattle.hotel_statements.specs.Readable.{FailsToRead, IsState, IsAct};
 ghost use Rattle.hotel_statements.specs.Readable.{IsStay, IsCodeRow, IsCard, IsFit, BeginsWith};
-ghost use Rattle.hotel_statements.specs.Columns.{stay_row_of, code_row_of, card_row_of, fit_row_of, state_of, act_of};
+ghost use Rattle.hotel_statements.specs.Columns.{stay_row_of, code_row_of, card_row_of, fit_row_of};
+ghost use Rattle.hotel_rows.specs.Stored.{state_of, act_of};
 
 pub(crate) mod bare_rows;
 pub(crate) mod list_rows;
 
 use hotel_core::{CodeRow, FitRow};
-use hotel_nights::{Day, Guest, GuestFault, KindCode, Stay, StayState};
+use hotel_nights::{Day, Guest, KindCode, Stay, StayState};
+use hotel_rows::values;
 use keycard_rules::{Act, Card, Code, Link, LookFault, Number};
 use sqlite::{Error, ErrorCode, Row};
 use std::alloc::Global;
@@ -66,11 +68,11 @@ fn small_integer(row: &Row, at: usize) -> Result<u32, LookFault>
 }
 
 /// The number of a column that may be null.
-fn maybe_integer(row: &Row, at: usize) -> Result<Option<u32>, LookFault>
+fn maybe_integer(row: &Row, at: usize) -> Result<Option<u64>, LookFault>
     ensures reads { IfOk result (λ n. option_of (column row.now at) ≡ n) }
-    ensures unread { IfErr result (FailsToRead (OrNull IsCount) row.now at) }
+    ensures unread { IfErr result (FailsToRead (OrNull IsNatural) row.now at) }
 {
-    match row.get::<Option<u32>>(at) {
+    match row.get::<Option<u64>>(at) {
         Ok(n) => Ok(n),
         Err(error) => Err(fault_of(error)),
     }
@@ -92,11 +94,8 @@ fn counted<K, const MOST: u32>(row: &Row, at: usize) -> Result<Number<K, MOST>, 
     ensures reads { IfOk result (λ n. n ≡ number_of (column row.now at)) }
     ensures unread { IfErr result (FailsToRead (IsNumber MOST) row.now at) }
 {
-    let n = small_integer(row, at)?;
-    match Number::new(n) {
-        Some(number) => Ok(number),
-        None => Err(LookFault::Store),
-    }
+    let n = integer(row, at)?;
+    values::counted(n)
 }
 
 /// A number from 1 up to a greatest one, or none where the column is null.
@@ -110,10 +109,7 @@ fn maybe_counted<K, const MOST: u32>(
     let Some(n) = maybe_integer(row, at)? else {
         return Ok(None);
     };
-    match Number::new(n) {
-        Some(number) => Ok(Some(number)),
-        None => Err(LookFault::Store),
-    }
+    Ok(Some(values::counted(n)?))
 }
 
 fn code(row: &Row, at: usize) -> Result<Code, LookFault>
@@ -142,27 +138,12 @@ fn link(row: &Row, at: usize) -> Result<Link, LookFault>
     })
 }
 
-/// A day's number, which may be one of no day.
-fn day_number(row: &Row, at: usize) -> Result<u16, LookFault>
-    ensures reads { IfOk result (λ n. n ≡ number_of (column row.now at)) }
-    ensures unread { IfErr result (FailsToRead IsDay row.now at) }
-{
-    let n = small_integer(row, at)?;
-    if n > 36_524 {
-        return Err(LookFault::Store);
-    }
-    Ok(n as u16)
-}
-
 fn day(row: &Row, at: usize) -> Result<Day, LookFault>
     ensures reads { IfOk result (λ d. d ≡ number_of (column row.now at)) }
     ensures unread { IfErr result (FailsToRead IsDay row.now at) }
 {
-    let n = day_number(row, at)?;
-    match Day::new(n) {
-        Some(day) => Ok(day),
-        None => Err(LookFault::Store),
-    }
+    let n = integer(row, at)?;
+    values::day(n)
 }
 
 fn kind_code(row: &Row, at: usize) -> Result<KindCode, LookFault>
@@ -170,10 +151,7 @@ fn kind_code(row: &Row, at: usize) -> Result<KindCode, LookFault>
     ensures unread { IfErr result (FailsToRead IsKind row.now at) }
 {
     let text = text(row, at)?;
-    match KindCode::read(text.as_bytes()) {
-        Some(kind) => Ok(kind),
-        None => Err(LookFault::Store),
-    }
+    values::kind_code(text.as_str())
 }
 
 fn guest(alloc: Global, row: &Row, at: usize) -> Result<Guest, LookFault>
@@ -181,11 +159,7 @@ fn guest(alloc: Global, row: &Row, at: usize) -> Result<Guest, LookFault>
     ensures unread { IfErr result (FailsToRead IsGuest row.now at) }
 {
     let text = text(row, at)?;
-    match Guest::read(alloc, text.as_str()) {
-        Ok(guest) => Ok(guest),
-        Err(GuestFault::Memory) => Err(LookFault::Memory),
-        Err(GuestFault::Unread) => Err(LookFault::Store),
-    }
+    values::guest(alloc, text.as_str())
 }
 
 /// Whether the column is 1 and not 0.
@@ -207,15 +181,9 @@ fn stay_state(row: &Row) -> Result<StayState, LookFault>
     ensures unread { IfErr result (λ why. why ≢ LookFault.Memory → 7 ≤ length row.now
         → ¬ IsState (column row.now 5) (column row.now 6)) }
 {
-    let number = small_integer(row, 5)?;
-    let room = maybe_counted(row, 6)?;
-    match (number, room) {
-        (0, None) => Ok(StayState::Booked),
-        (1, Some(room)) => Ok(StayState::InHouse(room)),
-        (2, None) => Ok(StayState::Done),
-        (3, None) => Ok(StayState::Cancelled),
-        _ => Err(LookFault::Store),
-    }
+    let number = integer(row, 5)?;
+    let room = maybe_integer(row, 6)?;
+    values::stay_state(number, room)
 }
 
 /// What happened, from the number of the act, the card and the codes.
@@ -342,12 +310,6 @@ impl FromRow for Option<Day> {
         let Some(n) = maybe_integer(row, 0)? else {
             return Ok(None);
         };
-        if n > 36_524 {
-            return Err(LookFault::Store);
-        }
-        match Day::new(n as u16) {
-            Some(day) => Ok(Some(day)),
-            None => Err(LookFault::Store),
-        }
+        Ok(Some(values::day(n)?))
     }
 }

@@ -3,7 +3,8 @@ ghost use Rattle.std.specs.Prelude.{◌≡◌, ◌<◌, ◌-◌, ◌^◌};
 ghost use Rattle.hotel_model.specs.Refinement.Change.{made, codes_of};
 ghost use Rattle.hotel_model.specs.declared.change.Change.TheVariants as change;
 ghost use Rattle.hotel_statements.specs.Statements.{WritesBy, gives_code, gives_card, issues_card};
-ghost use Rattle.hotel_statements.specs.Steps.{any_rows, code_given, card_given};
+ghost use Rattle.hotel_core.specs.Refinement.Finds.{AnyRows};
+ghost use Rattle.hotel_statements.specs.Steps.{code_given, card_given};
 
 use crate::steps::{free_room, insert_card, insert_code, set_issued, set_state};
 use hotel_core::CodeRow;
@@ -19,7 +20,8 @@ fn give_code<S: Alter>(
     at: CodeRow,
 ) -> Result<(), Error>
     ensures same_reference { tx.new.conn.ghost_name ≡ tx.old.conn.ghost_name }
-    ensures makes { WritesBy S.Store (gives_code leaves code at) any_rows (code_given leaves code at) tx.old.conn.now tx.new.conn.now result }
+    ensures makes { WritesBy S.Store (gives_code leaves code at) AnyRows (code_given leaves code at) tx.old.conn.now
+        tx.new.conn.now result }
 {
     match leaves {
         Some(left) => {
@@ -38,7 +40,8 @@ fn give_card<S: Alter>(
     codes: u32,
 ) -> Result<(), Error>
     ensures same_reference { tx.new.conn.ghost_name ≡ tx.old.conn.ghost_name }
-    ensures makes { WritesBy S.Store (gives_card card room codes) any_rows (card_given card room codes) tx.old.conn.now tx.new.conn.now result }
+    ensures makes { WritesBy S.Store (gives_card card room codes) AnyRows (card_given card room codes) tx.old.conn.now
+        tx.new.conn.now result }
 {
     let party = card.party;
     set_issued(tx, room, codes, party)?;

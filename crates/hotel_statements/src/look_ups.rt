@@ -16,7 +16,7 @@ ghost use Rattle.hotel_statements.specs.Failures.{BareNoteFails, BareRoomFails, 
 ghost use Rattle.hotel_statements.specs.Failures.{DayFails, FitFails, FitsFail, HasInsideFails};
 ghost use Rattle.hotel_statements.specs.Failures.{InsideFails, IsInsideFails, KindFails, LastCardFails, LastPartyFails};
 ghost use Rattle.hotel_statements.specs.Failures.{NoteFails, NumbersFail, RoomFails, StayFails, StaysFail};
-ghost use Rattle.hotel_statements.specs.LookUps.{LooksUp, Finds, counts_of_row, numbered_fit, next_numbers_of};
+ghost use Rattle.hotel_statements.specs.LookUps.{LooksUp, Finds, known_by_room, numbered_fit, next_numbers_of};
 
 use crate::from_row::bare_rows::{BareNote, BareRoom, note_with, room_with};
 use crate::look::{look, look_all};
@@ -34,13 +34,15 @@ use keycard_rules::{
 use sqlite::{Alter, Connection};
 use std::alloc::Global;
 
-/// How many codes and notes a room has.
+/// What the statements of a change are told of its room; 0 is what they don't need.
 #[derive(Clone, Copy, Debug, PartialEq, Eq)]
-pub struct RoomCounts {
-    /// How many codes were issued at the room.
+pub struct Known {
+    /// How many codes stand there, of a change that adds one.
     pub codes: u32,
-    /// How many notes of its locks were taken.
+    /// How many notes were taken there, of a change that adds a code.
     pub notes: u32,
+    /// How many notes were taken there before the fit of the note that a change adds.
+    pub before: u32,
 }
 
 /// The day of the desk, where one was set.
@@ -128,20 +130,20 @@ pub fn room<S: Alter>(
     Ok(Some(room_with(&bare, &fits)?))
 }
 
-/// How many codes and notes a room has: its row alone says it, and no fit is read.
-pub fn room_counts<S: Alter>(
+/// What the row of a room tells the statements of a change; no fit is read.
+pub fn known_by_room<S: Alter>(
     alloc: Global,
     conn: &mut Connection<S>,
     room: RoomNo,
-) -> Result<Option<RoomCounts>, LookFault>
+) -> Result<Option<Known>, LookFault>
     requires { IsBooks (state S.Store conn.old) }
-    ensures { LooksUp (BareRoomFails room) (λ a. a) (λ rows. option_map counts_of_row (room_at rows room))
+    ensures { LooksUp (BareRoomFails room) (λ a. a) (λ rows. option_map known_by_room (room_at rows room))
         (state S.Store conn.old) (state S.Store conn.new) result }
 {
     let Some(bare) = bare_room(alloc, conn, room)? else {
         return Ok(None);
     };
-    Ok(Some(bare.counts()))
+    Ok(Some(bare.known()))
 }
 
 /// The stay of a party.

@@ -3,7 +3,8 @@ ghost use Rattle.std.specs.Prelude.{◌≡◌, ◌<◌, ◌-◌, ◌^◌};
 ghost use Rattle.hotel_model.specs.Refinement.Change.{made};
 ghost use Rattle.hotel_model.specs.declared.change.Change.TheVariants as change;
 ghost use Rattle.hotel_statements.specs.Statements.{WritesBy, replaces_lock, refits_room};
-ghost use Rattle.hotel_statements.specs.Steps.{IsRefit, any_rows, lock_replaced};
+ghost use Rattle.hotel_core.specs.Refinement.Finds.{AnyRows};
+ghost use Rattle.hotel_statements.specs.Steps.{IsRefit, lock_replaced};
 
 use crate::steps::{delete_insides, insert_code, insert_fit, set_refitted};
 use hotel_core::{CodeRow, FitRow};
@@ -19,7 +20,7 @@ fn replace_lock<S: Alter>(
 ) -> Result<(), Error>
     requires { codes < 2 ^ 32 - 1 }
     ensures same_reference { tx.new.conn.ghost_name ≡ tx.old.conn.ghost_name }
-    ensures makes { WritesBy S.Store (replaces_lock room code codes) any_rows
+    ensures makes { WritesBy S.Store (replaces_lock room code codes) AnyRows
         (lock_replaced room code codes) tx.old.conn.now tx.new.conn.now result }
 {
     insert_code(tx, code, CodeRow { room, place: codes })?;

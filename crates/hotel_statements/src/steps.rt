@@ -5,7 +5,8 @@ ghost use Rattle.hotel_statements.specs.Statements.{WritesBy, sets_day, adds_kin
 ghost use Rattle.hotel_statements.specs.Statements.{adds_card, adds_note, adds_fit, adds_inside, removes_inside};
 ghost use Rattle.hotel_statements.specs.Statements.{removes_insides, sets_issued, frees_room, sets_noted};
 ghost use Rattle.hotel_statements.specs.Statements.{sets_refitted, sets_state};
-ghost use Rattle.hotel_statements.specs.Steps.{IsNewNote, IsNextFit, IsWithoutFit, any_rows, day_set, kind_added};
+ghost use Rattle.hotel_core.specs.Refinement.Finds.{AnyRows};
+ghost use Rattle.hotel_statements.specs.Steps.{IsNewNote, IsNextFit, IsWithoutFit, day_set, kind_added};
 ghost use Rattle.hotel_statements.specs.Steps.{room_added, code_added, stay_added, card_added, note_added, fit_added};
 ghost use Rattle.hotel_statements.specs.Steps.{inside_added, inside_gone, insides_gone, room_issued, room_freed};
 ghost use Rattle.hotel_statements.specs.Steps.{room_noted, room_refitted, stay_set};
@@ -28,7 +29,7 @@ use sqlite::{Alter, Error, Transaction};
 /// Sets the day.
 pub fn set_day<S: Alter>(tx: &mut Transaction<'_, S>, day: Day) -> Result<(), Error>
     ensures same_reference { tx.new.conn.ghost_name ≡ tx.old.conn.ghost_name }
-    ensures makes { WritesBy S.Store (sets_day day ∷ []) any_rows (day_set day) tx.old.conn.now tx.new.conn.now result }
+    ensures makes { WritesBy S.Store (sets_day day ∷ []) AnyRows (day_set day) tx.old.conn.now tx.new.conn.now result }
 {
     run(tx, UPDATE_DAY, &[small(1), dated(day)])
 }
@@ -70,7 +71,8 @@ pub(crate) fn insert_code<S: Alter>(
     at: CodeRow,
 ) -> Result<(), Error>
     ensures same_reference { tx.new.conn.ghost_name ≡ tx.old.conn.ghost_name }
-    ensures makes { WritesBy S.Store (adds_code code at ∷ []) any_rows (code_added code at) tx.old.conn.now tx.new.conn.now result }
+    ensures makes { WritesBy S.Store (adds_code code at ∷ []) AnyRows (code_added code at) tx.old.conn.now
+        tx.new.conn.now result }
 {
     run(
         tx,
@@ -82,7 +84,8 @@ pub(crate) fn insert_code<S: Alter>(
 /// Adds a stay.
 pub fn insert_stay<S: Alter>(tx: &mut Transaction<'_, S>, stay: &Stay) -> Result<(), Error>
     ensures same_reference { tx.new.conn.ghost_name ≡ tx.old.conn.ghost_name }
-    ensures makes { WritesBy S.Store (adds_stay stay.now ∷ []) any_rows (stay_added stay.now) tx.old.conn.now tx.new.conn.now result }
+    ensures makes { WritesBy S.Store (adds_stay stay.now ∷ []) AnyRows (stay_added stay.now) tx.old.conn.now
+        tx.new.conn.now result }
 {
     run(
         tx,
@@ -102,7 +105,8 @@ pub fn insert_stay<S: Alter>(tx: &mut Transaction<'_, S>, stay: &Stay) -> Result
 /// Adds a card.
 pub fn insert_card<S: Alter>(tx: &mut Transaction<'_, S>, card: Card) -> Result<(), Error>
     ensures same_reference { tx.new.conn.ghost_name ≡ tx.old.conn.ghost_name }
-    ensures makes { WritesBy S.Store (adds_card card ∷ []) any_rows (card_added card) tx.old.conn.now tx.new.conn.now result }
+    ensures makes { WritesBy S.Store (adds_card card ∷ []) AnyRows (card_added card) tx.old.conn.now tx.new.conn.now
+        result }
 {
     run(
         tx,
@@ -168,7 +172,8 @@ pub(crate) fn insert_inside<S: Alter>(
     card: CardNo,
 ) -> Result<(), Error>
     ensures same_reference { tx.new.conn.ghost_name ≡ tx.old.conn.ghost_name }
-    ensures makes { WritesBy S.Store (adds_inside room card ∷ []) any_rows (inside_added room card) tx.old.conn.now tx.new.conn.now result }
+    ensures makes { WritesBy S.Store (adds_inside room card ∷ []) AnyRows (inside_added room card) tx.old.conn.now
+        tx.new.conn.now result }
 {
     run(tx, INSERT_INSIDE, &[numbered(room), numbered(card)])
 }
@@ -180,7 +185,8 @@ pub(crate) fn delete_inside<S: Alter>(
     card: CardNo,
 ) -> Result<(), Error>
     ensures same_reference { tx.new.conn.ghost_name ≡ tx.old.conn.ghost_name }
-    ensures makes { WritesBy S.Store (removes_inside room card ∷ []) any_rows (inside_gone room card) tx.old.conn.now tx.new.conn.now result }
+    ensures makes { WritesBy S.Store (removes_inside room card ∷ []) AnyRows (inside_gone room card) tx.old.conn.now
+        tx.new.conn.now result }
 {
     run(tx, DELETE_INSIDE, &[numbered(room), numbered(card)])
 }
@@ -191,7 +197,7 @@ pub(crate) fn delete_insides<S: Alter>(
     room: RoomNo,
 ) -> Result<(), Error>
     ensures same_reference { tx.new.conn.ghost_name ≡ tx.old.conn.ghost_name }
-    ensures makes { WritesBy S.Store (removes_insides room ∷ []) any_rows (insides_gone room)
+    ensures makes { WritesBy S.Store (removes_insides room ∷ []) AnyRows (insides_gone room)
         tx.old.conn.now tx.new.conn.now result }
 {
     run(tx, DELETE_INSIDES, &[numbered(room)])
@@ -205,7 +211,8 @@ pub(crate) fn set_issued<S: Alter>(
     party: PartyNo,
 ) -> Result<(), Error>
     ensures same_reference { tx.new.conn.ghost_name ≡ tx.old.conn.ghost_name }
-    ensures makes { WritesBy S.Store (sets_issued room codes party ∷ []) any_rows (room_issued room codes party) tx.old.conn.now tx.new.conn.now result }
+    ensures makes { WritesBy S.Store (sets_issued room codes party ∷ []) AnyRows (room_issued room codes party)
+        tx.old.conn.now tx.new.conn.now result }
 {
     run(
         tx,
@@ -217,7 +224,8 @@ pub(crate) fn set_issued<S: Alter>(
 /// Leaves a room without a party.
 pub fn free_room<S: Alter>(tx: &mut Transaction<'_, S>, room: RoomNo) -> Result<(), Error>
     ensures same_reference { tx.new.conn.ghost_name ≡ tx.old.conn.ghost_name }
-    ensures makes { WritesBy S.Store (frees_room room ∷ []) any_rows (room_freed room) tx.old.conn.now tx.new.conn.now result }
+    ensures makes { WritesBy S.Store (frees_room room ∷ []) AnyRows (room_freed room) tx.old.conn.now tx.new.conn.now
+        result }
 {
     run(tx, UPDATE_PARTY, &[numbered(room)])
 }
@@ -231,7 +239,8 @@ pub(crate) fn set_noted<S: Alter>(
     notes: u32,
 ) -> Result<(), Error>
     ensures same_reference { tx.new.conn.ghost_name ≡ tx.old.conn.ghost_name }
-    ensures makes { WritesBy S.Store (sets_noted room lock_place secured notes ∷ []) any_rows (room_noted room lock_place secured notes) tx.old.conn.now tx.new.conn.now result }
+    ensures makes { WritesBy S.Store (sets_noted room lock_place secured notes ∷ [])
+        AnyRows (room_noted room lock_place secured notes) tx.old.conn.now tx.new.conn.now result }
 {
     run(
         tx,
@@ -253,7 +262,7 @@ pub(crate) fn set_refitted<S: Alter>(
     codes: u32,
 ) -> Result<(), Error>
     ensures same_reference { tx.new.conn.ghost_name ≡ tx.old.conn.ghost_name }
-    ensures makes { WritesBy S.Store (sets_refitted room lock_place codes ∷ []) any_rows
+    ensures makes { WritesBy S.Store (sets_refitted room lock_place codes ∷ []) AnyRows
         (room_refitted room lock_place codes) tx.old.conn.now tx.new.conn.now result }
 {
     run(
@@ -270,7 +279,8 @@ pub fn set_state<S: Alter>(
     state_now: StayState,
 ) -> Result<(), Error>
     ensures same_reference { tx.new.conn.ghost_name ≡ tx.old.conn.ghost_name }
-    ensures makes { WritesBy S.Store (sets_state party state_now ∷ []) any_rows (stay_set party state_now) tx.old.conn.now tx.new.conn.now result }
+    ensures makes { WritesBy S.Store (sets_state party state_now ∷ []) AnyRows (stay_set party state_now)
+        tx.old.conn.now tx.new.conn.now result }
 {
     run(
         tx,

@@ -19,7 +19,8 @@ use Rattle.hotel_statements.specs.Tables.{rows_in}
 use Rattle.hotel_statements.specs.Books.{IsKept}
 use Rattle.hotel_statements.specs.LookUps.{HasCause, LeavesNoMore}
 use Rattle.hotel_statements.specs.Failures.{BareRoomFails, FitFails}
-use Rattle.hotel_statements.specs.Statements.{Statement, Known, RunsStatements}
+use Rattle.hotel_statements.specs.declared.look_ups.Known.{Known}
+use Rattle.hotel_statements.specs.Statements.{Statement, RunsStatements}
 use Rattle.hotel_statements.proofs.Since.{unchanged_then}
 use Rattle.hotel_tables.specs.Applied.{counted_on, told_for, known_for}
 use Rattle.hotel_tables.specs.Causes.{ToldFails, IsAsked, AsksEnded, AsksTold, FailsToWrite}

@@ -29,10 +29,12 @@ use Rattle.hotel_model.proofs.Starts.StartNotesOfFits.{notes_for_at_start, note_
 use Rattle.hotel_model.proofs.Starts.StartRows.{notes_counted}
 use Rattle.hotel_model.proofs.Invariants.FitsKept.{fit_found}
 use Rattle.hotel_rows.proofs.OfJoined.{number_of_last}
-use Rattle.hotel_statements.specs.Statements.{Known}
+use Rattle.hotel_rows.specs.Joined.{FitEntries}
+use Rattle.hotel_statements.specs.declared.look_ups.Known.{Known}
 use Rattle.hotel_statements.specs.Steps.{is_below, is_up_to, counts_to, IsNextFit, IsNewRoom, IsRefit, IsNewNote}
 use Rattle.hotel_statements.specs.Steps.{IsNumbered}
-use Rattle.hotel_tables.specs.Applied.{MayMake, can_count, known_by_room, known_by_fit, told_for, counted_on, known_for}
+use Rattle.hotel_statements.specs.LookUps.{known_by_room}
+use Rattle.hotel_tables.specs.Applied.{MayMake, can_count, known_by_fit, told_for, counted_on, known_for}
 
 -- ---- tables before a row was put in
 
@@ -72,10 +74,10 @@ below_missing room n (e ∷ es) all none =
     by false l apart = refl
 
 -- the room has one fit more
-abbrev HasOneMore : ℕ → List ((ℕ × ℕ) × FitRow) → List ((ℕ × ℕ) × FitRow) → Type 0
+abbrev HasOneMore : ℕ → FitEntries → FitEntries → Type 0
 HasOneMore room es later = length (fits_at later room) ≡ suc (length (fits_at es room))
 
-longer_by : (o : Ordering) (e : (ℕ × ℕ) × FitRow) (es : List ((ℕ × ℕ) × FitRow)) (room n : ℕ) (v : FitRow)
+longer_by : (o : Ordering) (e : (ℕ × ℕ) × FitRow) (es : FitEntries) (room n : ℕ) (v : FitRow)
     → pair_cmp (room, n) e.0 ≡ o → lookup (is_at (pair_cmp (room, n))) (e ∷ es) ≡ None
     → HasOneMore room es (insert_entry pair_cmp es (room, n) v)
     → HasOneMore room (e ∷ es)
@@ -93,7 +95,7 @@ longer_by Greater e es room n v c none ih =
     by true fs gs h = ap suc h
     by false fs gs h = h
 
-one_longer : (es : List ((ℕ × ℕ) × FitRow)) (room n : ℕ) (v : FitRow) → lookup (is_at (pair_cmp (room, n))) es ≡ None
+one_longer : (es : FitEntries) (room n : ℕ) (v : FitRow) → lookup (is_at (pair_cmp (room, n))) es ≡ None
     → HasOneMore room es (insert_entry pair_cmp es (room, n) v)
 one_longer [] room n v none = ap (λ b. length (when b (λ fits. v ∷ fits) [])) (eq_self room)
 one_longer (e ∷ es) room n v none =

@@ -28,7 +28,6 @@ use Rattle.keycard_rules.specs.declared.issued.LookFault.{LookFault}
 use Rattle.keycard_rules.specs.declared.issued.LookFault.TheVariants as look
 use Rattle.hotel_nights.specs.Block.{one_if}
 use Rattle.hotel_model.specs.declared.rows.RoomRow.{RoomRow}
-use Rattle.hotel_model.specs.declared.rows.FitRow.{FitRow}
 use Rattle.hotel_model.specs.Words.{pair_cmp, said_of}
 use Rattle.hotel_model.specs.Rows.{at_number}
 use Rattle.hotel_model.specs.Sound.{keys_in_order}
@@ -48,6 +47,8 @@ use Rattle.hotel_statements.specs.declared.whole_tables.Tables.{Tables}
 use Rattle.hotel_tables.specs.declared.opening.Found.{Found}
 use Rattle.hotel_tables.specs.declared.open_fault.OpenFault.{OpenFault}
 use Rattle.hotel_tables.specs.declared.open_fault.OpenFault.TheVariants as fault
+use Rattle.hotel_statements.specs.Trees.{meta_tree, kind_tree, room_tree, stay_tree, code_tree, card_tree, inside_tree}
+use Rattle.hotel_statements.specs.Trees.{note_tree, fit_tree}
 use Rattle.hotel_statements.specs.Columns.{meta_columns, meta_of, meta_written, kind_columns, kind_of, kind_written}
 use Rattle.hotel_statements.specs.Columns.{room_columns, room_of, room_written, stay_columns, stay_of, stay_written}
 use Rattle.hotel_statements.specs.Columns.{code_columns, code_of, code_written, card_columns, card_of, card_written}
@@ -72,7 +73,7 @@ use Rattle.hotel_tables.specs.Opening.{AreStoredAs, AreStored, AreApartInside, I
 use Rattle.hotel_tables.specs.Opening.{FaultFits, FailsToRead, Opens, all_rise, fits_natural, all_natural, id_inside}
 use Rattle.hotel_tables.specs.Opening.{plain_inside, fault_for}
 use Rattle.hotel_rows.specs.Counts.{IsCountedOf}
-use Rattle.hotel_rows.specs.Joined.{with_fit, under_fit, joined, first_fits}
+use Rattle.hotel_rows.specs.Joined.{with_fit, under_fit, joined, first_fits, FitEntries}
 use Rattle.hotel_rows.proofs.OfCounts.{counted_rooms, named_kind}
 use Rattle.hotel_rows.proofs.OfJoined.{keys_with_fit, keys_under_fit}
 use Rattle.hotel_statements.proofs.Answers.{fused}
@@ -98,7 +99,7 @@ one_number at l row same shown is =
     ap id_in (sym shown ∙ sym e ∙ is)
 
 pub lacks_row : (version : Version) (db : Trees) (meta : List PlainMeta)
-    → ArePlainRows meta_columns meta_shown meta (db 0) → LacksRow version meta → ¬ HasMetaRow version db
+    → ArePlainRows meta_columns meta_shown meta (db meta_tree) → LacksRow version meta → ¬ HasMetaRow version db
 lacks_row version db [] plain_rows none has =
     let here : IsPermutation (map meta_columns (has.0 ∷ [])) [] = subst (λ rows. IsPermutation (map meta_columns rows) []) has.1 plain_rows in
     absurd (omega (arith, length_permutation _ _ here))
@@ -123,17 +124,17 @@ one_row n day (r ∷ q ∷ rows) e = absurd (let w = ap length e in omega (arith
 pub stored_meta : {in_order : Bool} {version : Version} (s : Stored) (db : Trees) → AreStoredAs in_order version s db
     → HasMetaRow version db
 stored_meta {in_order} {version} s db stored =
-    one_row (number_of_version version) (maybe s.day) (db 0)
+    one_row (number_of_version version) (maybe s.day) (db meta_tree)
     (stored.meta ∙ ap (λ n. (Int (pos 1) ∷ Int n ∷ maybe s.day ∷ []) ∷ []) stored.version_is)
 
 -- and so have those that were read
 meta_only : (of : Version) (t : Tables) (db : Trees) (plain : PlainMeta) → AreRead of t db
     → IsMetaRow of t.meta.items plain
-    → map meta_columns (db 0) ≡ (Int (pos 1) ∷ Int (pos (number_of_version of)) ∷ maybe plain.day ∷ []) ∷ []
+    → map meta_columns (db meta_tree) ≡ (Int (pos 1) ∷ Int (pos (number_of_version of)) ∷ maybe plain.day ∷ []) ∷ []
 meta_only of t db plain read meta =
-    let one : IsPermutation (map meta_columns (db 0)) (meta_shown plain ∷ []) =
-    subst (λ ls. ArePlainRows meta_columns meta_shown ls (db 0)) meta.0 read.0.0.0 in
-    let only : map meta_columns (db 0) ≡ meta_shown plain ∷ [] =
+    let one : IsPermutation (map meta_columns (db meta_tree)) (meta_shown plain ∷ []) =
+    subst (λ ls. ArePlainRows meta_columns meta_shown ls (db meta_tree)) meta.0 read.0.0.0 in
+    let only : map meta_columns (db meta_tree) ≡ meta_shown plain ∷ [] =
     one_permutation (meta_shown plain) _ (IsPermutation-sym _ _ one) in
     only ∙ ap (λ n. (Int n ∷ Int plain.version ∷ maybe plain.day ∷ []) ∷ []) meta.1
     ∙ ap (λ n. (Int (pos 1) ∷ Int n ∷ maybe plain.day ∷ []) ∷ []) meta.2
@@ -141,7 +142,7 @@ meta_only of t db plain read meta =
 pub read_meta : (of : Version) (t : Tables) (db : Trees) (plain : PlainMeta) → AreRead of t db
     → IsMetaRow of t.meta.items plain → HasMetaRow of db
 read_meta of t db plain read meta =
-    one_row (number_of_version of) (maybe plain.day) (db 0) (meta_only of t db plain read meta)
+    one_row (number_of_version of) (maybe plain.day) (db meta_tree) (meta_only of t db plain read meta)
 
 pub small_number : (version : Version) → number_of_version version ≤ 2
 small_number First = omega arith
@@ -172,10 +173,11 @@ first_ids : (plain_rows : List NumberedInside) → map (λ (v : Row). column v 0
 first_ids [] = refl
 first_ids (l ∷ plain_rows) = ap (λ vs. Int l.id ∷ vs) (first_ids plain_rows)
 
-pub ids_apart : (plain_rows : List NumberedInside) (db : Trees) → ArePlainRows numbered_columns numbered_shown plain_rows (db 9)
+pub ids_apart : (plain_rows : List NumberedInside) (db : Trees)
+    → ArePlainRows numbered_columns numbered_shown plain_rows (db inside_tree)
     → IsAscending (λ a b. is_eq (int_cmp a b) ≡ false) (map id_inside plain_rows) → AreApartInside db
 ids_apart plain_rows db same apart =
-    let rows = db 9 in
+    let rows = db inside_tree in
     let ids : AllByRecursion (λ r. column (numbered_columns r) 0 ≡ Int (id_in (column (numbered_columns r) 0))) rows =
     all_unmap (λ (v : Row). column v 0 ≡ Int (id_in (column v 0))) numbered_columns rows
     (every_shuffled (λ (v : Row). column v 0 ≡ Int (id_in (column v 0))) (map numbered_shown plain_rows) (map numbered_columns rows) (IsPermutation-sym _ _ same) (all_ids plain_rows)) in
@@ -225,8 +227,8 @@ stored_are {in_order} {of} t db plain version inside first read meta same up = r
   codes = read.1.0.0.0;
   cards = read.1.0.0.1;
   inside =
-      subst (λ ls. ArePlainRows inside_columns inside_shown ls (db 9)) (sym same)
-      (inside_plain_rows t.inside.items (db 9) read.1.0.1.0);
+      subst (λ ls. ArePlainRows inside_columns inside_shown ls (db inside_tree)) (sym same)
+      (inside_plain_rows t.inside.items (db inside_tree) read.1.0.1.0);
   notes = read.1.0.1.1;
   fits = read.1.1;
   rise = up;
@@ -261,7 +263,7 @@ rising {K} {V} {L} {cmp} total entry ls e = tested_keys cmp total (λ (p : K × 
 -- ---- the fits
 
 -- those that the tables of a version hold
-abbrev pub fits_of_version : Version → Trees → List ((ℕ × ℕ) × FitRow)
+abbrev pub fits_of_version : Version → Trees → FitEntries
 fits_of_version First db = first_fits (bare_rooms_in db)
 fits_of_version Second db = fits_in db
 
@@ -275,11 +277,11 @@ begun : (rooms : List PlainRoom) → first_fits (map room_entry rooms) ≡ map f
 begun [] = refl
 begun (l ∷ rooms) = ap (λ es. fit_entry (first_fit l) ∷ es) (begun rooms)
 
-abbrev pub entries_of : List PlainRoom → Option (Vec PlainFit Global) → List ((ℕ × ℕ) × FitRow)
+abbrev pub entries_of : List PlainRoom → Option (Vec PlainFit Global) → FitEntries
 entries_of rooms fits = map fit_entry (said_of fits (map first_fit rooms) (λ f. f.items))
 
-abbrev AreFits : Version → Trees → List ((ℕ × ℕ) × FitRow) → Type 0
-AreFits version db fits = IsFitTable version (db 13) × (fits_of_version version db ≡ fits)
+abbrev AreFits : Version → Trees → FitEntries → Type 0
+AreFits version db fits = IsFitTable version (db fit_tree) × (fits_of_version version db ≡ fits)
 
 are_fits : (version : Version) (rooms : List PlainRoom) (fits : Option (Vec PlainFit Global)) (db : Trees)
     → AreFitRows version fits db → bare_rooms_in db ≡ map room_entry rooms → fits_natural fits ≡ true
@@ -290,7 +292,7 @@ are_fits First rooms (Some fits) db are here natural up =
 are_fits Second rooms None db are here natural up = absurd are
 are_fits Second rooms (Some fits) db are here natural up =
     read_back (by_key pair_cmp) (key_total pair_cmp_total) fit_columns fit_of fit_written fit_shown fit_entry
-    fits.items (db 13) are
+    fits.items (db fit_tree) are
     (each fit_natural _ fit_good fits.items natural) (rising pair_cmp_total fit_entry fits.items up)
 
 -- ---- the whole of the tables
@@ -320,26 +322,35 @@ are_desk {version} s db a ids keys columns natural =
     let f2 = and_true _ (list_all damage.note_columns s.notes.items) columns in
     let f1 = and_true (list_all damage.room_columns s.rooms.items) (list_all damage.stay_columns s.stays.items) f2.0 in
     let plain : PlainMeta = record { id = pos 1; version = s.version; day = s.day } in
-    let meta_plain : ArePlainRows meta_columns meta_shown (plain ∷ []) (db 0) = subst (λ xs. IsPermutation xs (meta_shown plain ∷ [])) (sym a.meta) (IsPermutation-refl (meta_shown plain ∷ [])) in
+    let meta_plain : ArePlainRows meta_columns meta_shown (plain ∷ []) (db meta_tree) =
+    subst (λ xs. IsPermutation xs (meta_shown plain ∷ [])) (sym a.meta)
+    (IsPermutation-refl (meta_shown plain ∷ [])) in
     let entry : PlainMeta → ℕ × (ℕ × Option ℕ) = λ l. (number_of l.id, (number_of l.version, option_map number_of l.day)) in
     let meta =
     read_back (by_key nat_cmp) (key_total nat_cmp_total) meta_columns meta_of meta_written meta_shown entry
-    (plain ∷ []) (db 0) meta_plain (meta_good plain refl a.version_is n1.0, tt) (tt, tt) in
-    let kind = read_back (slice_cmp nat_cmp) nat_list_cmp_total kind_columns kind_of kind_written kind_shown kind_text s.kinds.items (db 1) a.kinds (all_kinds s.kinds.items)
+    (plain ∷ []) (db meta_tree) meta_plain (meta_good plain refl a.version_is n1.0, tt) (tt, tt) in
+    let kind = read_back (slice_cmp nat_cmp) nat_list_cmp_total kind_columns kind_of kind_written kind_shown kind_text
+    s.kinds.items (db kind_tree) a.kinds (all_kinds s.kinds.items)
     (tested_order (slice_cmp nat_cmp) nat_list_cmp_total (map kind_text s.kinds.items) k1.0) in
-    let room = read_back (by_key nat_cmp) (key_total nat_cmp_total) room_columns room_of room_written room_shown room_entry s.rooms.items (db 3) a.rooms
+    let room = read_back (by_key nat_cmp) (key_total nat_cmp_total) room_columns room_of room_written room_shown
+    room_entry s.rooms.items (db room_tree) a.rooms
     (each_two room_natural damage.room_columns _ room_good s.rooms.items n1.1 f1.0)
     (rising nat_cmp_total room_entry s.rooms.items
     (ap (are_in_order nat_cmp) (sym (keys_with_fit (fits_of s) (map room_entry s.rooms.items))) ∙ k1.1)) in
-    let stay = read_back (by_key nat_cmp) (key_total nat_cmp_total) stay_columns stay_of stay_written stay_shown stay_entry s.stays.items (db 5) a.stays
+    let stay = read_back (by_key nat_cmp) (key_total nat_cmp_total) stay_columns stay_of stay_written stay_shown
+    stay_entry s.stays.items (db stay_tree) a.stays
     (each_two stay_natural damage.stay_columns _ stay_good s.stays.items n2.1 f1.1) (rising nat_cmp_total stay_entry s.stays.items k3.1) in
-    let code = read_back (by_key nat_cmp) (key_total nat_cmp_total) code_columns code_of code_written code_shown code_entry s.codes.items (db 6) a.codes
+    let code = read_back (by_key nat_cmp) (key_total nat_cmp_total) code_columns code_of code_written code_shown
+    code_entry s.codes.items (db code_tree) a.codes
     (each code_natural _ code_good s.codes.items n3.1) (rising nat_cmp_total code_entry s.codes.items k2.1) in
-    let card = read_back (by_key nat_cmp) (key_total nat_cmp_total) card_columns card_of card_written card_shown card_entry s.cards.items (db 8) a.cards
+    let card = read_back (by_key nat_cmp) (key_total nat_cmp_total) card_columns card_of card_written card_shown
+    card_entry s.cards.items (db card_tree) a.cards
     (each card_natural _ card_good s.cards.items n4.1) (rising nat_cmp_total card_entry s.cards.items k4.1) in
-    let inside = read_back pair_cmp pair_cmp_total inside_columns inside_of inside_written inside_shown inside_pair s.inside.items (db 9) a.inside
+    let inside = read_back pair_cmp pair_cmp_total inside_columns inside_of inside_written inside_shown inside_pair
+    s.inside.items (db inside_tree) a.inside
     (each inside_natural _ inside_good s.inside.items n5.1) (tested_order pair_cmp pair_cmp_total (map inside_pair s.inside.items) k5.1) in
-    let note = read_back (by_key pair_cmp) (key_total pair_cmp_total) note_columns note_of note_written note_shown note_entry s.notes.items (db 11) a.notes
+    let note = read_back (by_key pair_cmp) (key_total pair_cmp_total) note_columns note_of note_written note_shown
+    note_entry s.notes.items (db note_tree) a.notes
     (each_two note_natural damage.note_columns _ note_good s.notes.items n6.1 f2.1)
     (rising pair_cmp_total note_entry s.notes.items
     (ap (are_in_order pair_cmp) (sym (keys_under_fit (fits_of s) (map note_entry s.notes.items))) ∙ k6.1)) in
@@ -383,7 +394,7 @@ abbrev is_kind : List ℕ → RoomRow → Bool
 is_kind kind row = bytes_eq row.kind kind
 
 -- rooms that are joined with their fits are of their kinds
-joined_kinds : (kind : List ℕ) (fits : List ((ℕ × ℕ) × FitRow)) (es : List (ℕ × RoomRow))
+joined_kinds : (kind : List ℕ) (fits : FitEntries) (es : List (ℕ × RoomRow))
     → count_by (is_kind kind) (values_of es) ≡ count_by (is_kind kind) (values_of (map (with_fit fits) es))
 joined_kinds kind fits [] = refl
 joined_kinds kind fits (e ∷ es) =

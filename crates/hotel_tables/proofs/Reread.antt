@@ -42,6 +42,8 @@ use Rattle.hotel_rows.specs.declared.stored.PlainFit.{PlainFit}
 use Rattle.hotel_rows.specs.declared.stored.Stored.{Stored}
 use Rattle.hotel_tables.specs.declared.open_fault.OpenFault.{OpenFault}
 use Rattle.hotel_tables.specs.declared.open_fault.OpenFault.TheVariants as fault
+use Rattle.hotel_statements.specs.Trees.{meta_tree, room_tree, stay_tree, code_tree, card_tree, inside_tree, note_tree}
+use Rattle.hotel_statements.specs.Trees.{fit_tree}
 use Rattle.hotel_statements.specs.Values.{int, maybe_int}
 use Rattle.hotel_statements.specs.Columns.{meta_columns, meta_of, meta_written, room_columns, room_of, room_written}
 use Rattle.hotel_statements.specs.Columns.{bit_of, stay_columns, stay_of, stay_written, state_number}
@@ -189,27 +191,34 @@ record AreWritten (s : Stored) : Type 0 where
   fit : columns_fit s ≡ true
 
 fits_pass : (version : Version) (fits : Option (Vec PlainFit Global)) (db : Trees)
-    → IsFitTable version (db 13) → AreFitRows version fits db → fits_natural fits ≡ true
+    → IsFitTable version (db fit_tree) → AreFitRows version fits db → fits_natural fits ≡ true
 fits_pass First None db good are = refl
 fits_pass First (Some fits) db good are =
     absurd (let w : ◌≡◌ {A = Option (Vec PlainFit Global)} (Some fits) None = are in cc)
 fits_pass Second None db good are = absurd are
 fits_pass Second (Some fits) db good are =
     all_pass _ fit_natural fit_plain fits.items
-    (are_plain_rows fit_columns fit_of fit_written fit_shown fits.items (db 13) good.good are)
+    (are_plain_rows fit_columns fit_of fit_written fit_shown fits.items (db fit_tree) good.good are)
 
 are_written : {version : Version} (s : Stored) (db : Trees) → AreTablesOf version db
     → AreStored version s db → AreWritten s
 are_written {version} s db t a =
-    let metas : AllByRecursion (λ (v : Row). v ≡ meta_written (meta_of v)) (map meta_columns (db 0)) = all_map (λ (v : Row). v ≡ meta_written (meta_of v)) meta_columns (db 0) t.meta.good in
+    let metas : AllByRecursion (λ (v : Row). v ≡ meta_written (meta_of v)) (map meta_columns (db meta_tree)) =
+    all_map (λ (v : Row). v ≡ meta_written (meta_of v)) meta_columns (db meta_tree) t.meta.good in
     let meta = (subst (AllByRecursion (λ (v : Row). v ≡ meta_written (meta_of v))) a.meta metas).0 in
     let day : may_be_natural s.day ≡ true = may_natural s.day _ (ap (λ (v : Row). column v 2) meta) in
-    let rooms = are_plain_rows room_columns room_of room_written room_shown s.rooms.items (db 3) t.room.good a.rooms in
-    let stays = are_plain_rows stay_columns stay_of stay_written stay_shown s.stays.items (db 5) t.stay.good a.stays in
-    let codes = are_plain_rows code_columns code_of code_written code_shown s.codes.items (db 6) t.code.good a.codes in
-    let cards = are_plain_rows card_columns card_of card_written card_shown s.cards.items (db 8) t.card.good a.cards in
-    let inside = are_plain_rows inside_columns inside_of inside_written inside_shown s.inside.items (db 9) t.inside.good a.inside in
-    let notes = are_plain_rows note_columns note_of note_written note_shown s.notes.items (db 11) t.note.good a.notes in
+    let rooms = are_plain_rows room_columns room_of room_written room_shown s.rooms.items (db room_tree) t.room.good
+    a.rooms in
+    let stays = are_plain_rows stay_columns stay_of stay_written stay_shown s.stays.items (db stay_tree) t.stay.good
+    a.stays in
+    let codes = are_plain_rows code_columns code_of code_written code_shown s.codes.items (db code_tree) t.code.good
+    a.codes in
+    let cards = are_plain_rows card_columns card_of card_written card_shown s.cards.items (db card_tree) t.card.good
+    a.cards in
+    let inside = are_plain_rows inside_columns inside_of inside_written inside_shown s.inside.items (db inside_tree)
+    t.inside.good a.inside in
+    let notes = are_plain_rows note_columns note_of note_written note_shown s.notes.items (db note_tree) t.note.good
+    a.notes in
     let room = all_pass _ room_natural room_plain s.rooms.items rooms in
     let stay = all_pass _ stay_natural stay_plain s.stays.items stays in
     let code = all_pass _ code_natural code_plain s.codes.items codes in
@@ -375,9 +384,10 @@ has_row : {version : Version} (db : Trees) → AreTablesOf version db → HasMet
 has_row {version} db t =
     let n = number_of_version version in
     let cmp = by_key {K = ℕ} {V = ℕ × Option ℕ} nat_cmp in
-    let shuffled : IsPermutation ((1, (n, t.meta_row.0)) ∷ []) (map (λ r. meta_of (meta_columns r)) (db 0)) =
-    subst (λ es. IsPermutation es (map (λ r. meta_of (meta_columns r)) (db 0))) t.meta_row.1 (IsPermutation-sort_by cmp (key_total nat_cmp_total) (map (λ r. meta_of (meta_columns r)) (db 0))) in
-    only n t.meta_row.0 (db 0) t.meta.good (one_permutation (1, (n, t.meta_row.0)) _ shuffled)
+    let shuffled : IsPermutation ((1, (n, t.meta_row.0)) ∷ []) (map (λ r. meta_of (meta_columns r)) (db meta_tree)) =
+    subst (λ es. IsPermutation es (map (λ r. meta_of (meta_columns r)) (db meta_tree))) t.meta_row.1
+    (IsPermutation-sort_by cmp (key_total nat_cmp_total) (map (λ r. meta_of (meta_columns r)) (db meta_tree))) in
+    only n t.meta_row.0 (db meta_tree) t.meta.good (one_permutation (1, (n, t.meta_row.0)) _ shuffled)
   where
     told : List (ℕ × (ℕ × Option ℕ)) → ℕ
     told [] = 0

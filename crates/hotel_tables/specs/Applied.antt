@@ -4,7 +4,6 @@ use Rattle.std.specs.Prelude.{if◌then◌else◌, nat_lt, option_map}
 use Rattle.sqlite.specs.Tree.{Trees}
 use Rattle.sqlite.specs.State.{State, HasCleanDisk, Survives}
 use Rattle.keycard_rules.specs.declared.issued.LookFault.{LookFault}
-use Rattle.hotel_model.specs.declared.rows.RoomRow.{RoomRow}
 use Rattle.hotel_model.specs.declared.rows.FitRow.{FitRow}
 use Rattle.hotel_model.specs.declared.change.Change.{Change}
 use Rattle.hotel_model.specs.declared.change.Change.TheVariants.{Kind, Room, Issue, Refit, Noted}
@@ -15,12 +14,8 @@ use Rattle.hotel_model.specs.Rows.{Rows, has_kind, fit_at}
 use Rattle.hotel_statements.specs.Tables.{rows_in}
 use Rattle.hotel_statements.specs.Books.{IsBooks, IsKept}
 use Rattle.hotel_statements.specs.Steps.{IsMadeOf, IsNewRoom, IsRefit, IsNumbered}
-use Rattle.hotel_statements.specs.Statements.{Known}
-use Rattle.hotel_tables.specs.declared.apply.Known as code
-
--- what the statements of a change are told
-abbrev pub told : code.Known → Known
-told known = record { codes = known.codes; notes = known.notes; before = known.before }
+use Rattle.hotel_statements.specs.declared.look_ups.Known.{Known}
+use Rattle.hotel_statements.specs.LookUps.{known_by_room}
 
 -- what the statements of a change ask of the rows, where this is known of its room
 abbrev pub MayMake : Change → Known → Rows → Type 0
@@ -31,10 +26,7 @@ MayMake (Refit room code fit) known rows = IsRefit room fit known.codes known.no
 MayMake (Noted note lock_place secured insides) known rows = IsNumbered note (known.before + note.count) rows
 MayMake _ known rows = Unit {0}
 
--- what a room's row tells the statements of a change, and what the row of a fit does
-abbrev pub known_by_room : RoomRow → Known
-known_by_room row = record { codes = row.codes; notes = row.notes; before = 0 }
-
+-- what the row of a fit tells the statements of a change
 abbrev pub known_by_fit : FitRow → Known
 known_by_fit fit = record { codes = 0; notes = 0; before = fit.before }
 

@@ -10,7 +10,8 @@ use Rattle.hotel_model.specs.declared.change.Change.{Change}
 use Rattle.hotel_model.specs.declared.change.Change.TheVariants.{Cancelled, Issue, CheckedOut, Refit, Noted}
 use Rattle.hotel_statements.specs.Tables.{rows_in}
 use Rattle.hotel_statements.specs.LookUps.{fault_of, LeavesNoMore}
-use Rattle.hotel_statements.specs.Statements.{Statement, Known, RunsInTurn, statements_of}
+use Rattle.hotel_statements.specs.declared.look_ups.Known.{Known}
+use Rattle.hotel_statements.specs.Statements.{Statement, RunsInTurn, statements_of}
 use Rattle.hotel_statements.specs.Failures.{BareRoomFails}
 use Rattle.hotel_statements.specs.Failures.{DayFails, KindFails, RoomFails, FitFails, StayFails, StaysFail, CodeFails}
 use Rattle.hotel_statements.specs.Failures.{CodeAtFails, CardFails, InsideFails, IsInsideFails, HasInsideFails}

@@ -1,7 +1,3 @@
-pub use Rattle.hotel_statements.specs.Schema
-pub use Rattle.hotel_statements.specs.Tables
-pub use Rattle.hotel_statements.specs.Books
-pub use Rattle.hotel_statements.specs.NewDesk
 pub mod Applied
 pub mod Counted
 pub mod TableBooks

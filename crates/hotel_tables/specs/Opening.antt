@@ -18,6 +18,8 @@ use Rattle.hotel_model.specs.SoundRooms.{are_in_order}
 use Rattle.hotel_rows.specs.declared.stored.Stored.{Stored}
 use Rattle.hotel_statements.specs.declared.plain_rows.PlainMeta.{PlainMeta}
 use Rattle.hotel_statements.specs.declared.plain_rows.NumberedInside.{NumberedInside}
+use Rattle.hotel_statements.specs.Trees.{meta_tree, kind_tree, room_tree, stay_tree, code_tree, card_tree, inside_tree}
+use Rattle.hotel_statements.specs.Trees.{note_tree}
 use Rattle.hotel_statements.specs.Columns.{meta_columns, kind_columns, room_columns, stay_columns}
 use Rattle.hotel_statements.specs.Columns.{code_columns, card_columns, inside_columns, note_columns}
 use Rattle.hotel_statements.specs.PlainRows.{maybe, kind_shown, room_shown, stay_shown, code_shown, card_shown}
@@ -87,14 +89,14 @@ plain_inside l = l.plain
 -- its key.
 pub record AreStoredAs (in_order : Bool) (version : Version) (s : Stored) (db : Trees) : Type 0 where
   pub version_is : s.version ≡ pos (number_of_version version)
-  pub meta : map meta_columns (db 0) ≡ (Int (pos 1) ∷ Int s.version ∷ maybe s.day ∷ []) ∷ []
-  pub kinds : ArePlainRows kind_columns kind_shown s.kinds.items (db 1)
-  pub rooms : ArePlainRows room_columns room_shown s.rooms.items (db 3)
-  pub stays : ArePlainRows stay_columns stay_shown s.stays.items (db 5)
-  pub codes : ArePlainRows code_columns code_shown s.codes.items (db 6)
-  pub cards : ArePlainRows card_columns card_shown s.cards.items (db 8)
-  pub inside : ArePlainRows inside_columns inside_shown s.inside.items (db 9)
-  pub notes : ArePlainRows note_columns note_shown s.notes.items (db 11)
+  pub meta : map meta_columns (db meta_tree) ≡ (Int (pos 1) ∷ Int s.version ∷ maybe s.day ∷ []) ∷ []
+  pub kinds : ArePlainRows kind_columns kind_shown s.kinds.items (db kind_tree)
+  pub rooms : ArePlainRows room_columns room_shown s.rooms.items (db room_tree)
+  pub stays : ArePlainRows stay_columns stay_shown s.stays.items (db stay_tree)
+  pub codes : ArePlainRows code_columns code_shown s.codes.items (db code_tree)
+  pub cards : ArePlainRows card_columns card_shown s.cards.items (db card_tree)
+  pub inside : ArePlainRows inside_columns inside_shown s.inside.items (db inside_tree)
+  pub notes : ArePlainRows note_columns note_shown s.notes.items (db note_tree)
   pub fits : AreFitRows version s.fits db
   pub rise : all_rise s ≡ in_order
 
@@ -104,12 +106,12 @@ AreStored = AreStoredAs true
 
 -- the rows of those inside have numbers, no two the same
 abbrev pub AreApartInside : Trees → Type 0
-AreApartInside db = AllByRecursion HasId (db 9) × AreApartIds (db 9)
+AreApartInside db = AllByRecursion HasId (db inside_tree) × AreApartIds (db inside_tree)
 
 -- meta has exactly one row, the first, of this version
 abbrev pub HasMetaRow : Version → Trees → Type 0
 HasMetaRow version db =
-    (row : Row) × (db 0 ≡ row ∷ []) × (column (meta_columns row) 0 ≡ Int (pos 1))
+    (row : Row) × (db meta_tree ≡ row ∷ []) × (column (meta_columns row) 0 ≡ Int (pos 1))
     × (column (meta_columns row) 1 ≡ Int (pos (number_of_version version)))
 
 -- What was read is nothing that a query shows of the tables of a version, or that the rules leave: two rows inside have

@@ -5,15 +5,14 @@ ghost use Rattle.sqlite.specs.Held.{state};
 ghost use Rattle.sqlite.specs.State.{HasCleanDisk, Survives};
 ghost use Rattle.hotel_model.specs.Refinement.Change.{made};
 ghost use Rattle.hotel_model.specs.Refinement.Fits.{Fits};
-ghost use Rattle.hotel_model.specs.Refinement.Lookups.{room_at};
 ghost use Rattle.hotel_model.specs.Rows.{fit_at};
 ghost use Rattle.hotel_statements.specs.Tables.{rows_in};
 ghost use Rattle.hotel_statements.specs.Books.{IsBooks, IsKept};
 ghost use Rattle.hotel_statements.specs.Steps.{IsMadeOf};
 ghost use Rattle.hotel_statements.specs.Statements.{WritesBy, statements_of};
 ghost use Rattle.hotel_statements.specs.LookUps.{LooksUp, MayLook, HasCause};
-ghost use Rattle.hotel_statements.specs.Failures.{BareRoomFails, FitFails};
-ghost use Rattle.hotel_tables.specs.Applied.{MayMake, Applies, told, known_by_room, known_by_fit, told_for, known_for};
+ghost use Rattle.hotel_statements.specs.Failures.{FitFails};
+ghost use Rattle.hotel_tables.specs.Applied.{MayMake, Applies, known_by_fit, told_for, known_for};
 ghost use Rattle.hotel_tables.specs.Applied.{can_count};
 ghost use Rattle.hotel_tables.specs.Causes.{ToldFails, AsksTold, IsAsked, FailsToWrite, MakingFails};
 
@@ -24,21 +23,10 @@ use hotel_statements::issue::issue;
 use hotel_statements::lock_notes::take_note;
 use hotel_statements::refits::refit;
 use hotel_statements::steps::{insert_card, insert_kind, insert_stay, set_day, set_state};
-use hotel_statements::{fault_of, look_ups};
+use hotel_statements::{Known, fault_of, look_ups};
 use keycard_rules::{FitNo, LookFault, RoomNo};
 use sqlite::{Alter, Connection, Error, Transaction};
 use std::alloc::Global;
-
-/// What the statements of a change are told of its room; 0 is what they don't need.
-#[derive(Clone, Copy)]
-pub(crate) struct Known {
-    /// How many codes stand there, of a change that adds one.
-    pub codes: u32,
-    /// How many notes were taken there, of a change that adds a code.
-    pub notes: u32,
-    /// How many notes were taken there before the fit of the note that a change adds.
-    pub before: u32,
-}
 
 /// Writes a change within a transaction, by what is known of its room.
 fn write_change<S: Alter>(
@@ -46,9 +34,9 @@ fn write_change<S: Alter>(
     change: &Change,
     known: Known,
 ) -> Result<(), Error>
-    requires { can_count change.now (told known) ≡ true }
+    requires { can_count change.now known ≡ true }
     ensures same_reference { tx.new.conn.ghost_name ≡ tx.old.conn.ghost_name }
-    ensures makes { WritesBy S.Store (statements_of change.now (told known)) (MayMake change.now (told known))
+    ensures makes { WritesBy S.Store (statements_of change.now known) (MayMake change.now known)
         (made change.now) tx.old.conn.now tx.new.conn.now result }
 {
     match change {
@@ -83,9 +71,9 @@ fn make_change<S: Alter>(
     known: Known,
 ) -> Result<(), Error>
     requires books { IsBooks (state S.Store conn.old) }
-    requires counted { can_count change.now (told known) ≡ true }
+    requires counted { can_count change.now known ≡ true }
     requires fits { IsKept (state S.Store conn.old)
-        → MayMake change.now (told known) (rows_in (state S.Store conn.old).now.trees) }
+        → MayMake change.now known (rows_in (state S.Store conn.old).now.trees) }
     ensures books { IsBooks (state S.Store conn.new) }
     ensures was { IsKept (state S.Store conn.new) → IsKept (state S.Store conn.old) }
     ensures open_on { HasCleanDisk (state S.Store conn.new) → OnOk result (IsTrue (state S.Store conn.new).is_open) }
@@ -93,7 +81,7 @@ fn make_change<S: Alter>(
     ensures same { IsKept (state S.Store conn.new) → OnErr result ((state S.Store conn.new).now ≡ (state S.Store conn.old).now) }
     ensures crash { Survives (state S.Store conn.old) (state S.Store conn.new) (IsMadeOf (made change.now) (state S.Store conn.old).now.trees) }
     ensures failed { HasCleanDisk (state S.Store conn.new)
-        → IfErr result (FailsToWrite S.Store (statements_of change.now (told known)) conn.old conn.new) }
+        → IfErr result (FailsToWrite S.Store (statements_of change.now known) conn.old conn.new) }
 {
     let mut tx = conn.transaction();
     write_change(&mut tx, change, known)?;
@@ -102,7 +90,7 @@ fn make_change<S: Alter>(
 
 /// Whether one more code can be counted at the room of a change that adds one, or the number of a note that one adds.
 fn can_count(change: &Change, known: Known) -> bool
-    ensures { result ≡ can_count change.now (told known) }
+    ensures { result ≡ can_count change.now known }
 {
     match change {
         Change::Issue { .. } => known.codes < u32::MAX,
@@ -110,27 +98,6 @@ fn can_count(change: &Change, known: Known) -> bool
         Change::Noted { note, .. } => known.before <= u32::MAX - note.count().value(),
         _ => true,
     }
-}
-
-/// What a room's row tells of it.
-fn known_by_room<S: Alter>(
-    alloc: Global,
-    conn: &mut Connection<S>,
-    room: RoomNo,
-) -> Result<Option<Known>, LookFault>
-    requires { IsBooks (state S.Store conn.old) }
-    ensures { LooksUp (BareRoomFails room) (λ known. option_map told known)
-        (λ rows. option_map known_by_room (room_at rows room))
-        (state S.Store conn.old) (state S.Store conn.new) result }
-{
-    let Some(counts) = look_ups::room_counts(alloc, conn, room)? else {
-        return Ok(None);
-    };
-    Ok(Some(Known {
-        codes: counts.codes,
-        notes: counts.notes,
-        before: 0,
-    }))
 }
 
 /// What the row of a fit tells of it.
@@ -141,7 +108,7 @@ fn known_by_fit<S: Alter>(
     number: FitNo,
 ) -> Result<Option<Known>, LookFault>
     requires { IsBooks (state S.Store conn.old) }
-    ensures { LooksUp (FitFails room number) (λ known. option_map told known)
+    ensures { LooksUp (FitFails room number) (λ known. known)
         (λ rows. option_map known_by_fit (fit_at rows room number))
         (state S.Store conn.old) (state S.Store conn.new) result }
 {
@@ -164,15 +131,15 @@ fn told_for<S: Alter>(
     change: &Change,
 ) -> Result<Option<Known>, LookFault>
     requires { IsBooks (state S.Store conn.old) }
-    ensures looks { MayLook (λ known. option_map told known) (told_for change.now) (state S.Store conn.old)
+    ensures looks { MayLook (λ known. known) (told_for change.now) (state S.Store conn.old)
         (state S.Store conn.new) result }
     ensures cause { HasCause (ToldFails change.now) (state S.Store conn.old) (state S.Store conn.new) result }
     ensures asks { HasCleanDisk (state S.Store conn.new)
-        → IfOk result (λ known. AsksTold S.Store change.now (option_map told known) conn.old conn.new) }
+        → IfOk result (λ known. AsksTold S.Store change.now known conn.old conn.new) }
 {
     match change {
-        Change::Issue { room, .. } => known_by_room(alloc, conn, *room),
-        Change::Refit { room, .. } => known_by_room(alloc, conn, *room),
+        Change::Issue { room, .. } => look_ups::known_by_room(alloc, conn, *room),
+        Change::Refit { room, .. } => look_ups::known_by_room(alloc, conn, *room),
         Change::Noted { note, .. } => known_by_fit(alloc, conn, note.room(), note.fit()),
         _ => Ok(Some(Known {
             codes: 0,
@@ -192,13 +159,13 @@ fn known_for<S: Alter>(
 ) -> Result<Option<Known>, LookFault>
     requires books { IsBooks (state S.Store conn.old) }
     requires fits { IsKept (state S.Store conn.old) → Fits change.now (rows_in (state S.Store conn.old).now.trees) }
-    ensures looks { MayLook (λ known. option_map told known) (known_for change.now) (state S.Store conn.old)
+    ensures looks { MayLook (λ known. known) (known_for change.now) (state S.Store conn.old)
         (state S.Store conn.new) result }
-    ensures counted { IfOk result (λ known. IfSome known (λ k. can_count change.now (told k) ≡ true)) }
+    ensures counted { IfOk result (λ known. IfSome known (λ k. can_count change.now k ≡ true)) }
     ensures there { HasCleanDisk (state S.Store conn.new) → IfOk result IsSome }
     ensures cause { HasCause (ToldFails change.now) (state S.Store conn.old) (state S.Store conn.new) result }
     ensures known { HasCleanDisk (state S.Store conn.new) → IfOk result (λ known.
-        option_map told known ≡ known_for change.now (rows_in (state S.Store conn.old).now.trees)) }
+        known ≡ known_for change.now (rows_in (state S.Store conn.old).now.trees)) }
     ensures asked { HasCleanDisk (state S.Store conn.new)
         → OnOk result ((conn.new ≡ conn.old) ⊎ IsAsked S.Store conn.old conn.new) }
 {

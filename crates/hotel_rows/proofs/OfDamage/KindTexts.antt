@@ -11,7 +11,7 @@ use Rattle.std.proofs.lemmas.Slice.Eq.{bytes_eq-Decides}
 use Rattle.std.proofs.lemmas.List.{length-drop}
 use Rattle.hotel_nights.specs.Kinds.{is_kind, read_kind}
 use Rattle.hotel_model.specs.SoundRooms.{are_in_order}
-use Rattle.hotel_rows.specs.RowTests.{KnowsKinds}
+use Rattle.hotel_rows.specs.RowTests.{HasKinds}
 use Rattle.hotel_rows.proofs.OfDamage.Rising.{short_in_order}
 
 not_alike : (b : Bool) (k q : List ℕ) → bytes_eq k q ≡ b → is_kind k ≡ true → is_kind q ≡ false → b ≡ false
@@ -57,9 +57,10 @@ some_by true v o = refl
 some_by false v o = refl
 
 -- a kind more
-pub knows_more : (known later : List (List ℕ × ℕ)) (kinds : List (List ℕ)) (kind : List ℕ) (v : ℕ) → KnowsKinds known kinds
+pub knows_more : (known later : List (List ℕ × ℕ)) (kinds : List (List ℕ)) (kind : List ℕ) (v : ℕ)
+    → HasKinds known kinds
     → ((q : List ℕ) → lookup (is_at (slice_cmp nat_cmp q)) later ≡ cond (is_at (slice_cmp nat_cmp kind) q) (Some v) (lookup (is_at (slice_cmp nat_cmp q)) known))
-    → KnowsKinds later (kinds ++ kind ∷ [])
+    → HasKinds later (kinds ++ kind ∷ [])
 knows_more known later kinds kind v knows put q =
     ap is_some (put q)
     ∙ some_by (is_at (slice_cmp nat_cmp kind) q) v (lookup (is_at (slice_cmp nat_cmp q)) known)

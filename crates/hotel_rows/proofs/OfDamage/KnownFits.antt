@@ -15,7 +15,8 @@ use Rattle.hotel_rows.specs.declared.damage.placed.Placed.{Placed}
 use Rattle.hotel_rows.specs.declared.stored.Stored.{Stored}
 use Rattle.hotel_rows.specs.Stored.{number_of, fit_row, fit_entry, plain_fits, rows_of}
 use Rattle.hotel_rows.specs.Placed.{places_in, listed_in, PlacesOf, are_due_at}
-use Rattle.hotel_rows.specs.FitRuns.{run_of, fits_in, last_place_in, last_after, begin_key, begins_in, RunsOf, BeginsOf}
+use Rattle.hotel_rows.specs.FitRuns.{fit_run_of, fits_in, last_place_in, last_after, begin_key, begins_in, FitRunsOf}
+use Rattle.hotel_rows.specs.FitRuns.{BeginsOf}
 use Rattle.hotel_rows.proofs.OfDamage.Newest.{length_values, due_parts}
 
 -- what stands past the end of a list of fits
@@ -25,31 +26,33 @@ no_fit = record { room = pos 0; fit = pos 0; place = pos 0; before = pos 0 }
 -- ---- runs
 
 more_by : (b : Bool) (plain : PlainFit) (plain_rows : List PlainFit) (before : List (ℕ × FitRun)) (r : ℕ)
-    → (number_of plain.room == r) ≡ b → RunsOf before plain_rows
-    → cond b (run_of (fit_row plain ∷ fits_at (map fit_entry plain_rows) (number_of plain.room))) (at_number before r)
-    ≡ run_of (when b (λ fits. fit_row plain ∷ fits) (fits_at (map fit_entry plain_rows) r))
-more_by true plain plain_rows before r e is = ap (λ q. run_of (fit_row plain ∷ fits_at (map fit_entry plain_rows) q))
+    → (number_of plain.room == r) ≡ b → FitRunsOf before plain_rows
+    → cond b (fit_run_of (fit_row plain ∷ fits_at (map fit_entry plain_rows) (number_of plain.room)))
+    (at_number before r)
+    ≡ fit_run_of (when b (λ fits. fit_row plain ∷ fits) (fits_at (map fit_entry plain_rows) r))
+more_by true plain plain_rows before r e is =
+    ap (λ q. fit_run_of (fit_row plain ∷ fits_at (map fit_entry plain_rows) q))
     (eq_from (number_of plain.room) r e)
 more_by false plain plain_rows before r e is = is r
 
 -- a fit more, before the others
 pub runs_more : (before after : List (ℕ × FitRun)) (plain : PlainFit) (plain_rows : List PlainFit)
-    → RunsOf before plain_rows
-    → ((r : ℕ) (fs : List FitRow) → at_number before (number_of plain.room) ≡ run_of fs
-    → at_number after r ≡ cond (r == number_of plain.room) (run_of (fit_row plain ∷ fs)) (at_number before r))
-    → RunsOf after (plain ∷ plain_rows)
+    → FitRunsOf before plain_rows
+    → ((r : ℕ) (fs : List FitRow) → at_number before (number_of plain.room) ≡ fit_run_of fs
+    → at_number after r ≡ cond (r == number_of plain.room) (fit_run_of (fit_row plain ∷ fs)) (at_number before r))
+    → FitRunsOf after (plain ∷ plain_rows)
 runs_more before after plain plain_rows is put r =
     let fs = fits_at (map fit_entry plain_rows) (number_of plain.room) in
     put r fs (is (number_of plain.room))
-    ∙ ap (λ b. cond b (run_of (fit_row plain ∷ fs)) (at_number before r)) (eq_turned r (number_of plain.room))
+    ∙ ap (λ b. cond b (fit_run_of (fit_row plain ∷ fs)) (at_number before r)) (eq_turned r (number_of plain.room))
     ∙ more_by (number_of plain.room == r) plain plain_rows before r refl is
 
-run_length : (fs : List FitRow) → said_of (run_of fs) 0 (λ run. run.fits) ≡ length fs
+run_length : (fs : List FitRow) → said_of (fit_run_of fs) 0 (λ run. run.fits) ≡ length fs
 run_length [] = refl
 run_length (f ∷ fs) = refl
 
 -- how many fits a room has
-pub fits_counted : (runs : List (ℕ × FitRun)) (plain_rows : List PlainFit) (room : ℕ) → RunsOf runs plain_rows
+pub fits_counted : (runs : List (ℕ × FitRun)) (plain_rows : List PlainFit) (room : ℕ) → FitRunsOf runs plain_rows
     → fits_in runs room ≡ length (fits_at (map fit_entry plain_rows) room)
 fits_counted runs plain_rows room is = ap (λ o. said_of o 0 (λ run. run.fits)) (is room)
     ∙ run_length (fits_at (map fit_entry plain_rows) room)
@@ -64,7 +67,7 @@ few_at (l ∷ ls) room = by (number_of l.room == room) (few_at ls room)
     by false ih = omega arith
 
 -- a room has at most as many fits as there are
-pub few_fits : (runs : List (ℕ × FitRun)) (plain_rows : List PlainFit) (room n : ℕ) → RunsOf runs plain_rows
+pub few_fits : (runs : List (ℕ × FitRun)) (plain_rows : List PlainFit) (room n : ℕ) → FitRunsOf runs plain_rows
     → length plain_rows < n → fits_in runs room < n
 few_fits runs plain_rows room n is few =
     let same = fits_counted runs plain_rows room is in
@@ -77,12 +80,12 @@ last_is_after f [] = refl
 last_is_after f (g ∷ gs) = last_is_after g gs
 
 -- the place of a room's last fit
-pub last_placed : (runs : List (ℕ × FitRun)) (plain_rows : List PlainFit) (room : ℕ) → RunsOf runs plain_rows
+pub last_placed : (runs : List (ℕ × FitRun)) (plain_rows : List PlainFit) (room : ℕ) → FitRunsOf runs plain_rows
     → last_place_in runs room ≡ said_of (last_fit (fits_at (map fit_entry plain_rows) room)) 0 (λ f. f.place)
 last_placed runs plain_rows room is = ap (λ o. said_of o 0 (λ run. run.last_place)) (is room)
     ∙ by (fits_at (map fit_entry plain_rows) room)
   where
-    by : (fs : List FitRow) → said_of (run_of fs) 0 (λ run. run.last_place) ≡ said_of (last_fit fs) 0 (λ f. f.place)
+    by : (fs : List FitRow) → said_of (fit_run_of fs) 0 (λ run. run.last_place) ≡ said_of (last_fit fs) 0 (λ f. f.place)
     by [] = refl
     by (f ∷ fs) = sym (ap (λ o. said_of o 0 (λ f. f.place)) (last_is_after f fs))
 

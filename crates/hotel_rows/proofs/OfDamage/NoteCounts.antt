@@ -15,35 +15,37 @@ use Rattle.hotel_core.proofs.OfTables.MapEntries.{eq_from, eq_self, eq_turned}
 use Rattle.hotel_rows.specs.declared.damage.note_runs.NoteRun.{NoteRun}
 use Rattle.hotel_rows.specs.declared.stored.PlainNote.{PlainNote}
 use Rattle.hotel_rows.specs.declared.stored.Stored.{Stored}
-use Rattle.hotel_rows.specs.Joined.{under_fit}
+use Rattle.hotel_rows.specs.Joined.{under_fit, FitEntries}
 use Rattle.hotel_rows.specs.Stored.{number_of, note_row, note_entry, joined_note, fits_of, rows_of}
 use Rattle.hotel_rows.specs.Keys.{note_key}
 use Rattle.hotel_rows.specs.Damage.{note_columns, note_holds}
 use Rattle.hotel_rows.specs.RowTests.{plain_note_fits}
-use Rattle.hotel_rows.specs.NoteRuns.{run_of, RunsOf, counted_as_due}
+use Rattle.hotel_rows.specs.NoteRuns.{note_run_of, NoteRunsOf, counted_as_due}
 use Rattle.hotel_rows.proofs.OfDamage.RowsTogether.{all_and, all_alike, all_rooms}
-use Rattle.hotel_rows.proofs.OfJoined.{Fits}
 
 -- what stands past the end of a list of notes
 abbrev pub no_note : PlainNote
 no_note = record { room = pos 0; n = pos 0; act = pos 0; card = None; first_code = pos 0; second_code = pos 0; day = pos 0; second = pos 0 }
 
-more_by : (b : Bool) (plain : PlainNote) (plain_rows : List PlainNote) (before : List (ℕ × NoteRun)) (r : ℕ) → (number_of plain.room == r) ≡ b → RunsOf before plain_rows
-    → cond b (run_of (number_of plain.n ∷ numbers_at (map note_entry plain_rows) (number_of plain.room)))
+more_by : (b : Bool) (plain : PlainNote) (plain_rows : List PlainNote) (before : List (ℕ × NoteRun)) (r : ℕ)
+    → (number_of plain.room == r) ≡ b → NoteRunsOf before plain_rows
+    → cond b (note_run_of (number_of plain.n ∷ numbers_at (map note_entry plain_rows) (number_of plain.room)))
     (at_number before r)
-    ≡ run_of (when b (λ numbers. number_of plain.n ∷ numbers) (numbers_at (map note_entry plain_rows) r))
-more_by true plain plain_rows before r e is = ap (λ q. run_of
+    ≡ note_run_of (when b (λ numbers. number_of plain.n ∷ numbers) (numbers_at (map note_entry plain_rows) r))
+more_by true plain plain_rows before r e is = ap (λ q. note_run_of
     (number_of plain.n ∷ numbers_at (map note_entry plain_rows) q)) (eq_from (number_of plain.room) r e)
 more_by false plain plain_rows before r e is = is r
 
 -- a note more, before the others
-pub runs_more : (before after : List (ℕ × NoteRun)) (plain : PlainNote) (plain_rows : List PlainNote) → RunsOf before plain_rows
-    → ((r : ℕ) (ns : List ℕ) → at_number before (number_of plain.room) ≡ run_of ns → at_number after r ≡ cond (r == number_of plain.room) (run_of (number_of plain.n ∷ ns)) (at_number before r))
-    → RunsOf after (plain ∷ plain_rows)
+pub runs_more : (before after : List (ℕ × NoteRun)) (plain : PlainNote) (plain_rows : List PlainNote)
+    → NoteRunsOf before plain_rows
+    → ((r : ℕ) (ns : List ℕ) → at_number before (number_of plain.room) ≡ note_run_of ns
+    → at_number after r ≡ cond (r == number_of plain.room) (note_run_of (number_of plain.n ∷ ns)) (at_number before r))
+    → NoteRunsOf after (plain ∷ plain_rows)
 runs_more before after plain plain_rows is put r =
     let ns = numbers_at (map note_entry plain_rows) (number_of plain.room) in
     put r ns (is (number_of plain.room))
-    ∙ ap (λ b. cond b (run_of (number_of plain.n ∷ ns)) (at_number before r)) (eq_turned r (number_of plain.room))
+    ∙ ap (λ b. cond b (note_run_of (number_of plain.n ∷ ns)) (at_number before r)) (eq_turned r (number_of plain.room))
     ∙ more_by (number_of plain.room == r) plain plain_rows before r refl is
 
 and_parts : (a b : Bool) → (a && b) ≡ true → (a ≡ true) × (b ≡ true)
@@ -70,20 +72,23 @@ due_by true false n ns m e f = ap (λ z. z && (suc (length ns) == m)) (ap (λ q.
 due_by false true n ns m e f = refl
 due_by false false n ns m e f = refl
 
-pub due_as_counted : (ns : List ℕ) (m : ℕ) → (count_up 1 ns && (length ns == m)) ≡ said_of (run_of ns) (m == 0) (λ run. run.counted && (run.first == 1) && (run.last == m))
+pub due_as_counted : (ns : List ℕ) (m : ℕ)
+    → (count_up 1 ns && (length ns == m))
+    ≡ said_of (note_run_of ns) (m == 0) (λ run. run.counted && (run.first == 1) && (run.last == m))
 due_as_counted [] m = eq_turned 0 m
 due_as_counted (n ∷ ns) m =
     due_by (n == 1) (count_up (n + 1) ns) n ns m refl refl
     ∙ sym (ap (λ z. (z && count_up (n + 1) ns) && (n == 1) && (last_of (n ∷ ns) == m)) (eq_self n))
 
 -- the numbers of a room's notes are those of the table
-numbers_joined : (fits : Fits) (es : List ((ℕ × ℕ) × Note)) (r : ℕ)
+numbers_joined : (fits : FitEntries) (es : List ((ℕ × ℕ) × Note)) (r : ℕ)
     → numbers_at (map (under_fit fits) es) r ≡ numbers_at es r
 numbers_joined fits [] r = refl
 numbers_joined fits (e ∷ es) r = ap (λ ns. when (e.0.0 == r) (λ numbers. e.0.1 ∷ numbers) ns) (numbers_joined fits es r)
 
 -- the rule on the numbers of all rooms
-pub counts_as_due : (s : Stored) (runs : List (ℕ × NoteRun)) → RunsOf runs s.notes.items → notes_counted (rows_of s) ≡ list_all (counted_as_due runs) s.rooms.items
+pub counts_as_due : (s : Stored) (runs : List (ℕ × NoteRun)) → NoteRunsOf runs s.notes.items
+    → notes_counted (rows_of s) ≡ list_all (counted_as_due runs) s.rooms.items
 counts_as_due s runs is =
     all_rooms (λ (e : ℕ × RoomRow). count_up 1 (numbers_at (rows_of s).notes e.1.room)
     && (length (numbers_at (rows_of s).notes e.1.room) == e.1.notes)) (fits_of s) s.rooms.items
@@ -112,13 +117,13 @@ plain_fits true a t x d s e = ap (λ z. (((z && t) && x) && d) && s) e
 plain_fits false a t x d s e = refl
 
 -- the notes, joined with their fits
-pub notes_are : (fits : Fits) (ls : List PlainNote)
+pub notes_are : (fits : FitEntries) (ls : List PlainNote)
     → map (under_fit fits) (map note_entry ls) ≡ map (λ l. (note_key l, joined_note fits l)) ls
 notes_are fits [] = refl
 notes_are fits (l ∷ ls) = ap (λ es. (note_key l, joined_note fits l) ∷ es) (notes_are fits ls)
 
 -- a rule of all notes, joined with their fits
-pub all_notes : (t : (ℕ × ℕ) × Note → Bool) (fits : Fits) (ls : List PlainNote)
+pub all_notes : (t : (ℕ × ℕ) × Note → Bool) (fits : FitEntries) (ls : List PlainNote)
     → list_all t (map (under_fit fits) (map note_entry ls)) ≡ list_all (λ l. t (note_key l, joined_note fits l)) ls
 all_notes t fits ls = ap (list_all t) (notes_are fits ls) ∙ all_mapped t (λ l. (note_key l, joined_note fits l)) ls
 

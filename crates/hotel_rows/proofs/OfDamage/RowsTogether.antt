@@ -12,12 +12,11 @@ use Rattle.hotel_model.proofs.OfTables.RowTests.{all_mapped}
 use Rattle.hotel_core.proofs.OfTables.MapEntries.{eq_self}
 use Rattle.hotel_rows.specs.declared.stored.PlainRoom.{PlainRoom}
 use Rattle.hotel_rows.specs.declared.stored.Stored.{Stored}
-use Rattle.hotel_rows.specs.Joined.{with_fit}
+use Rattle.hotel_rows.specs.Joined.{with_fit, FitEntries}
 use Rattle.hotel_rows.specs.Stored.{number_of, fits_of, rows_of, room_entry, room_row, joined_row, card_entry}
 use Rattle.hotel_rows.specs.Keys.{room_key}
 use Rattle.hotel_rows.specs.Damage.{most_notes, notes_few, room_columns, room_holds}
 use Rattle.hotel_rows.specs.RowTests.{room_fits, is_room_number, is_at_home, is_secured_as_due}
-use Rattle.hotel_rows.proofs.OfJoined.{Fits}
 
 pub keys_mapped : {L X : Type 0} (key : L → ℕ) (row : L → X) (ls : List L) → keys_of (map (λ l. (key l, row l)) ls) ≡ map key ls
 keys_mapped key row [] = refl
@@ -58,18 +57,19 @@ left_and o f t u ls b e =
 -- ---- room
 
 -- the rooms, joined with their fits
-pub rooms_are : (fits : Fits) (ls : List PlainRoom)
+pub rooms_are : (fits : FitEntries) (ls : List PlainRoom)
     → map (with_fit fits) (map room_entry ls) ≡ map (λ l. (room_key l, joined_row fits l)) ls
 rooms_are fits [] = refl
 rooms_are fits (l ∷ ls) = ap (λ es. (room_key l, joined_row fits l) ∷ es) (rooms_are fits ls)
 
 -- a rule of all rooms, joined with their fits
-pub all_rooms : (t : ℕ × RoomRow → Bool) (fits : Fits) (ls : List PlainRoom)
+pub all_rooms : (t : ℕ × RoomRow → Bool) (fits : FitEntries) (ls : List PlainRoom)
     → list_all t (map (with_fit fits) (map room_entry ls)) ≡ list_all (λ l. t (room_key l, joined_row fits l)) ls
 all_rooms t fits ls = ap (list_all t) (rooms_are fits ls) ∙ all_mapped t (λ l. (room_key l, joined_row fits l)) ls
 
 -- what was joined so far, and a rule of rooms more
-left_rooms : (o : Bool) (fits : Fits) (t : ℕ × RoomRow → Bool) (u : PlainRoom → Bool) (ls : List PlainRoom) (b : Bool)
+left_rooms : (o : Bool) (fits : FitEntries) (t : ℕ × RoomRow → Bool) (u : PlainRoom → Bool) (ls : List PlainRoom)
+    (b : Bool)
     → b ≡ (o && list_all u ls)
     → (b && list_all t (map (with_fit fits) (map room_entry ls)))
     ≡ (o && list_all (λ l. u l && t (room_key l, joined_row fits l)) ls)

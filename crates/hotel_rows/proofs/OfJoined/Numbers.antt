@@ -9,8 +9,8 @@ use Rattle.hotel_core.proofs.Names.{nat_tests, list_all, is_at, lookup, said_of,
 use Rattle.hotel_core.proofs.Names.{count_up, none_fall, notes_before_each, first_is_first}
 use Rattle.hotel_model.proofs.OfTables.Tests.{eq_from, eq_self, and_true, not_both}
 use Rattle.hotel_model.proofs.OfTables.AtRoom.{first_in, none_in, keys_at, found_at, fits_are_picked}
-use Rattle.hotel_rows.specs.Joined.{fit_of_number, under_fit}
-use Rattle.hotel_rows.proofs.OfJoined.{Fits, joined_at, note_joined}
+use Rattle.hotel_rows.specs.Joined.{fit_of_number, under_fit, FitEntries}
+use Rattle.hotel_rows.proofs.OfJoined.{joined_at, note_joined}
 
 -- ---- numbers
 
@@ -191,7 +191,8 @@ stands_is n (suc j) (a ∷ fs) f o s =
 -- ---- fits of all rooms
 
 -- the numbers of a room's fits are those of its keys, where each row is of its key
-pub keys_are_numbers : (fits : Fits) (room : ℕ) → list_all (λ (e : (ℕ × ℕ) × FitRow). e.1.fit == e.0.1) fits ≡ true
+pub keys_are_numbers : (fits : FitEntries) (room : ℕ)
+    → list_all (λ (e : (ℕ × ℕ) × FitRow). e.1.fit == e.0.1) fits ≡ true
     → keys_at fits room ≡ numbers_of (fits_at fits room)
 keys_are_numbers [] room own = refl
 keys_are_numbers (e ∷ fits) room own =
@@ -204,7 +205,7 @@ keys_are_numbers (e ∷ fits) room own =
     by false same ih = ih
 
 -- the fit after j is found by its number
-pub fit_found : (fits : Fits) (room j : ℕ) → list_all (λ (e : (ℕ × ℕ) × FitRow). e.1.fit == e.0.1) fits ≡ true
+pub fit_found : (fits : FitEntries) (room j : ℕ) → list_all (λ (e : (ℕ × ℕ) × FitRow). e.1.fit == e.0.1) fits ≡ true
     → count_up 1 (numbers_of (fits_at fits room)) ≡ true
     → lookup (is_at (pair_cmp (room, 1 + j))) fits ≡ first_in (drop j (fits_at fits room))
 fit_found fits room j own up =
@@ -216,7 +217,7 @@ abbrev pub counted_under : ℕ → ℕ → Note → Note
 counted_under fit count note = record note { fit = fit; count = count }
 
 -- The note of a count of a fit, where notes are joined with fits: that of its number, if no later fit began before it.
-pub note_of_count : (fits : Fits) (es : List ((ℕ × ℕ) × Note)) (room j count : ℕ) (f : FitRow)
+pub note_of_count : (fits : FitEntries) (es : List ((ℕ × ℕ) × Note)) (room j count : ℕ) (f : FitRow)
     → count_up 1 (numbers_of (fits_at fits room)) ≡ true → none_fall (notes_before_each (fits_at fits room)) ≡ true
     → first_in (drop j (fits_at fits room)) ≡ Some f → 1 ≤ count
     → of_fit f.fit (lookup (is_at (pair_cmp (room, f.before + count))) (map (under_fit fits) es))

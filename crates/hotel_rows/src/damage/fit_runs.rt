@@ -6,7 +6,7 @@ ghost use Rattle.hotel_model.specs.declared.rows.FitRow.{FitRow};
 ghost use Rattle.hotel_model.specs.Words.{said_of, pair_cmp};
 ghost use Rattle.hotel_model.specs.Rows.{at_number};
 ghost use Rattle.hotel_rows.specs.Stored.{number_of, fit_row};
-ghost use Rattle.hotel_rows.specs.FitRuns.{run_of, first_in, comes_next, begin_key, RunsOf, BeginsOf, FitsOf};
+ghost use Rattle.hotel_rows.specs.FitRuns.{fit_run_of, first_in, comes_next, begin_key, FitRunsOf, BeginsOf, FitsOf};
 ghost use Rattle.hotel_rows.specs.FitRuns.{fits_in, last_place_in, begins_in, is_begun, is_ended, fitted_as_due};
 
 use crate::damage::numbers::number;
@@ -62,7 +62,7 @@ fn comes_next(fit: &PlainFit, run: &FitRun) -> bool
 /// What is known of the fits with one more before them.
 fn with_first(run: Option<FitRun>, fit: &PlainFit) -> FitRun
     requires { said_of run 0 (λ run. run.fits) < 2 ^ 63 }
-    ensures { (fs : List FitRow) → run ≡ run_of fs → Some result ≡ run_of (fit_row fit.now ∷ fs) }
+    ensures { (fs : List FitRow) → run ≡ fit_run_of fs → Some result ≡ fit_run_of (fit_row fit.now ∷ fs) }
 {
     let place = number(fit.place);
     let before = number(fit.before);
@@ -90,9 +90,10 @@ fn with_first(run: Option<FitRun>, fit: &PlainFit) -> FitRun
 
 fn add_fit(runs: &mut BTreeMap<u64, FitRun>, fit: &PlainFit) -> Result<(), Memory>
     requires { fits_in runs.old.entries (number_of fit.now.room) < 2 ^ 63 }
-    ensures { OnOk result ((r : ℕ) (fs : List FitRow) → at_number runs.old.entries (number_of fit.now.room) ≡ run_of fs
+    ensures { OnOk result ((r : ℕ) (fs : List FitRow)
+        → at_number runs.old.entries (number_of fit.now.room) ≡ fit_run_of fs
         → at_number runs.new.entries r
-        ≡ (if r == number_of fit.now.room then run_of (fit_row fit.now ∷ fs) else at_number runs.old.entries r)) }
+        ≡ (if r == number_of fit.now.room then fit_run_of (fit_row fit.now ∷ fs) else at_number runs.old.entries r)) }
 {
     let room = number(fit.room);
     let run = with_first(run_at(runs, room), fit);
@@ -103,7 +104,7 @@ fn add_fit(runs: &mut BTreeMap<u64, FitRun>, fit: &PlainFit) -> Result<(), Memor
 }
 
 fn runs_of(alloc: Global, fits: &[PlainFit]) -> Result<BTreeMap<u64, FitRun>, Memory>
-    ensures { IfOk result (λ runs. RunsOf runs.entries fits.now) }
+    ensures { IfOk result (λ runs. FitRunsOf runs.entries fits.now) }
 {
     let mut runs = BTreeMap::new(alloc);
     let len = fits.len();

@@ -7,7 +7,7 @@ ghost use Rattle.hotel_nights.specs.Kinds.{is_kind};
 ghost use Rattle.hotel_model.specs.SoundRooms.{are_in_order, kinds_read};
 ghost use Rattle.hotel_rows.specs.Stored.{kind_text, rows_of};
 ghost use Rattle.hotel_rows.specs.Damage.{kind_holds, meta_holds};
-ghost use Rattle.hotel_rows.specs.RowTests.{KnowsKinds};
+ghost use Rattle.hotel_rows.specs.RowTests.{HasKinds};
 
 use crate::damage::numbers::number_if;
 use crate::stored::{PlainKind, Stored};
@@ -50,7 +50,8 @@ pub(crate) fn read_kinds(
     kinds: &[PlainKind],
 ) -> Result<Option<BTreeMap<KindCode, u32>>, Memory>
     ensures { IfOk result (λ read. MatchOption read (list_all is_kind (map kind_text kinds.now) ≡ false)
-        (λ known. (list_all is_kind (map kind_text kinds.now) ≡ true) × KnowsKinds known.entries (map kind_text kinds.now))) }
+        (λ known. (list_all is_kind (map kind_text kinds.now) ≡ true)
+        × HasKinds known.entries (map kind_text kinds.now))) }
 {
     let mut known = BTreeMap::new(alloc);
     for i in 0..kinds.len() {
@@ -66,7 +67,8 @@ pub(crate) fn read_kinds(
 
 /// Whether a text is one of the kinds.
 pub(crate) fn has_kind(known: &BTreeMap<KindCode, u32>, text: &str) -> bool
-    ensures { (kinds : List (List ℕ)) → list_all is_kind kinds ≡ true → KnowsKinds known.now.entries kinds → result ≡ list_any (λ k. bytes_eq k text.now) kinds }
+    ensures { (kinds : List (List ℕ)) → list_all is_kind kinds ≡ true → HasKinds known.now.entries kinds
+        → result ≡ list_any (λ k. bytes_eq k text.now) kinds }
 {
     let Some(kind) = KindCode::read(text.as_bytes()) else {
         return false;
@@ -80,7 +82,8 @@ pub(crate) fn kinds_hold(
     stored: &Stored,
 ) -> Result<Option<BTreeMap<KindCode, u32>>, Memory>
     ensures { IfOk result (λ read. MatchOption read (kind_holds stored.now ≡ false)
-        (λ known. (kind_holds stored.now ≡ true) × (kinds_read (rows_of stored.now) ≡ true) × KnowsKinds known.entries (rows_of stored.now).kinds)) }
+        (λ known. (kind_holds stored.now ≡ true) × (kinds_read (rows_of stored.now) ≡ true)
+        × HasKinds known.entries (rows_of stored.now).kinds)) }
 {
     if !kinds_rise(&stored.kinds) {
         return Ok(None);

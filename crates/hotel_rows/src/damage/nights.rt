@@ -8,9 +8,10 @@ ghost use Rattle.hotel_rows.specs.declared.stored.Stored.{Stored as Rows};
 ghost use Rattle.hotel_rows.specs.Damage.{first_damaged_of};
 ghost use Rattle.hotel_rows.specs.Counts.{IsCountedOf, tells_night};
 
-use crate::counts::{Counts, counts_of, day, kind_code};
+use crate::counts::{Counts, counts_of};
 use crate::damage::numbers::number;
 use crate::stored::{PlainRoom, PlainStay, Stored};
+use crate::values::{day, kind_code};
 use keycard_rules::{LookFault, Memory};
 use std::alloc::Global;
 

@@ -3,7 +3,7 @@ ghost use Rattle.std.specs.Prelude.{◌≡◌, ℕ, List, ◌∷◌, ◌==◌, i
 ghost use Rattle.std.specs.List.{list_all};
 ghost use Rattle.hotel_model.specs.Rows.{at_number};
 ghost use Rattle.hotel_rows.specs.Stored.{number_of};
-ghost use Rattle.hotel_rows.specs.NoteRuns.{run_of, RunsOf, counted_as_due};
+ghost use Rattle.hotel_rows.specs.NoteRuns.{note_run_of, NoteRunsOf, counted_as_due};
 
 use crate::damage::numbers::number;
 use crate::stored::{PlainNote, PlainRoom, Stored};
@@ -27,7 +27,7 @@ fn run_at(runs: &BTreeMap<u64, NoteRun>, room: u64) -> Option<NoteRun>
 
 /// The same with a count before them.
 fn with_first(run: Option<NoteRun>, n: u64) -> NoteRun
-    ensures { (ns : List ℕ) → run ≡ run_of ns → Some result ≡ run_of (n ∷ ns) }
+    ensures { (ns : List ℕ) → run ≡ note_run_of ns → Some result ≡ note_run_of (n ∷ ns) }
 {
     let Some(run) = run else {
         return NoteRun {
@@ -44,8 +44,10 @@ fn with_first(run: Option<NoteRun>, n: u64) -> NoteRun
 }
 
 fn add_note(runs: &mut BTreeMap<u64, NoteRun>, note: &PlainNote) -> Result<(), Memory>
-    ensures { OnOk result ((r : ℕ) (ns : List ℕ) → at_number runs.old.entries (number_of note.now.room) ≡ run_of ns
-        → at_number runs.new.entries r ≡ (if r == number_of note.now.room then run_of (number_of note.now.n ∷ ns) else at_number runs.old.entries r)) }
+    ensures { OnOk result ((r : ℕ) (ns : List ℕ) → at_number runs.old.entries (number_of note.now.room) ≡ note_run_of ns
+        → at_number runs.new.entries r
+        ≡ (if r == number_of note.now.room then note_run_of (number_of note.now.n ∷ ns)
+        else at_number runs.old.entries r)) }
 {
     let room = number(note.room);
     let count = number(note.n);
@@ -58,7 +60,7 @@ fn add_note(runs: &mut BTreeMap<u64, NoteRun>, note: &PlainNote) -> Result<(), M
 
 /// The counts of each room's notes.
 pub(crate) fn runs_of(alloc: Global, notes: &[PlainNote]) -> Result<BTreeMap<u64, NoteRun>, Memory>
-    ensures { IfOk result (λ runs. RunsOf runs.entries notes.now) }
+    ensures { IfOk result (λ runs. NoteRunsOf runs.entries notes.now) }
 {
     let mut runs = BTreeMap::new(alloc);
     let len = notes.len();

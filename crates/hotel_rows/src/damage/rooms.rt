@@ -8,7 +8,7 @@ ghost use Rattle.hotel_rows.specs.Damage.{most_notes, room_columns, room_holds};
 ghost use Rattle.hotel_rows.specs.Places.{AreOf};
 ghost use Rattle.hotel_rows.specs.FitRuns.{FitsOf};
 ghost use Rattle.hotel_rows.specs.RowTests.{is_room_number, is_secured_as_due, has_few_codes, is_at_home};
-ghost use Rattle.hotel_rows.specs.RowTests.{room_fits, KnowsKinds};
+ghost use Rattle.hotel_rows.specs.RowTests.{room_fits, HasKinds};
 
 use crate::damage::fit_runs::{RoomFits, ends_with_fit, fits_of_room};
 use crate::damage::found::{Places, room_keys, stay_at};
@@ -109,7 +109,7 @@ fn room_fits(
     requires places { AreOf places.now stored.now }
     requires fits { FitsOf fits.now (plain_fits stored.now) }
     requires read { kinds_read (rows_of stored.now) ≡ true }
-    requires known { KnowsKinds known.now.entries (rows_of stored.now).kinds }
+    requires known { HasKinds known.now.entries (rows_of stored.now).kinds }
     ensures { result ≡ room_fits stored.now room.now }
 {
     if !has_columns(room) || !has_number(room) {
@@ -139,7 +139,7 @@ fn rooms_fit(
     requires places { AreOf places.now stored.now }
     requires fits { FitsOf fits.now (plain_fits stored.now) }
     requires read { kinds_read (rows_of stored.now) ≡ true }
-    requires known { KnowsKinds known.now.entries (rows_of stored.now).kinds }
+    requires known { HasKinds known.now.entries (rows_of stored.now).kinds }
     ensures { result ≡ list_all (room_fits stored.now) stored.now.rooms.items }
 {
     for i in 0..stored.rooms.len() {
@@ -161,7 +161,7 @@ pub(crate) fn rooms_hold(
     requires places { AreOf places.now stored.now }
     requires fits { FitsOf fits.now (plain_fits stored.now) }
     requires read { kinds_read (rows_of stored.now) ≡ true }
-    requires known { KnowsKinds known.now.entries (rows_of stored.now).kinds }
+    requires known { HasKinds known.now.entries (rows_of stored.now).kinds }
     ensures { IfOk result (λ hold. hold ≡ room_holds stored.now) }
 {
     let keys = room_keys(alloc, &stored.rooms)?;

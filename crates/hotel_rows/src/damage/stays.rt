@@ -6,7 +6,7 @@ ghost use Rattle.hotel_model.specs.SoundRooms.{kinds_read};
 ghost use Rattle.hotel_rows.specs.Stored.{rows_of, stay_row};
 ghost use Rattle.hotel_rows.specs.Damage.{stay_columns, stay_holds};
 ghost use Rattle.hotel_rows.specs.Places.{AreOf};
-ghost use Rattle.hotel_rows.specs.RowTests.{are_stay_days, has_home, stay_fits, KnowsKinds};
+ghost use Rattle.hotel_rows.specs.RowTests.{are_stay_days, has_home, stay_fits, HasKinds};
 
 use crate::damage::found::{Places, room_at, stay_keys};
 use crate::damage::kinds::has_kind;
@@ -78,7 +78,7 @@ fn stay_fits(
 ) -> Result<bool, Memory>
     requires places { AreOf places.now stored.now }
     requires read { kinds_read (rows_of stored.now) ≡ true }
-    requires known { KnowsKinds known.now.entries (rows_of stored.now).kinds }
+    requires known { HasKinds known.now.entries (rows_of stored.now).kinds }
     ensures { IfOk result (λ fits. fits ≡ stay_fits stored.now stay.now) }
 {
     if !has_columns(stay) {
@@ -105,7 +105,7 @@ pub(crate) fn stays_fit(
 ) -> Result<bool, Memory>
     requires places { AreOf places.now stored.now }
     requires read { kinds_read (rows_of stored.now) ≡ true }
-    requires known { KnowsKinds known.now.entries (rows_of stored.now).kinds }
+    requires known { HasKinds known.now.entries (rows_of stored.now).kinds }
     ensures { IfOk result (λ fit. fit ≡ list_all (stay_fits stored.now) stored.now.stays.items) }
 {
     for i in 0..stored.stays.len() {
@@ -125,7 +125,7 @@ pub(crate) fn stays_hold(
 ) -> Result<bool, Memory>
     requires places { AreOf places.now stored.now }
     requires read { kinds_read (rows_of stored.now) ≡ true }
-    requires known { KnowsKinds known.now.entries (rows_of stored.now).kinds }
+    requires known { HasKinds known.now.entries (rows_of stored.now).kinds }
     ensures { IfOk result (λ hold. hold ≡ stay_holds stored.now) }
 {
     let keys = stay_keys(alloc, &stored.stays)?;

@@ -17,6 +17,7 @@ use Rattle.sqlite.specs.Ops.{binary}
 use Rattle.sqlite_keyed.proofs.SortLemmas.{IsPermutation-sort_by}
 use Rattle.sqlite_keyed.proofs.ListLemmas.{none_from_any, all_both, all_map}
 use Rattle.hotel_model.specs.Words.{pair_cmp}
+use Rattle.hotel_statements.specs.Trees.{inside_tree}
 use Rattle.hotel_statements.specs.Tables.{HasId, listed}
 use Rattle.hotel_statements.proofs.Keys.{truly}
 use Rattle.hotel_statements.proofs.Made.Inserts.{pair_total}
@@ -30,20 +31,29 @@ not_true true h = sym h
 not_true false h = refl
 
 -- the new row passes the rule of the index
-passes_alone : (next : Trees) (row : Row) (rows : List Row) → Fits desk_schema next → next 9 ≡ put_row row rows → is_taken rows row ≡ false → passes Unique desk_schema next (at_tree 9 inside_table) row ≡ true
+passes_alone : (next : Trees) (row : Row) (rows : List Row) → Fits desk_schema next
+    → next inside_tree ≡ put_row row rows → is_taken rows row ≡ false
+    → passes Unique desk_schema next (at_tree inside_tree inside_table) row ≡ true
 passes_alone next row rows fits is fresh =
-    let keeps : AllByRecursion (λ r. passes Unique desk_schema next (at_tree 9 inside_table) r ≡ true) (next 9) = (fits.rules Unique (λ no. let e = no in cc)).1.1.1.1.1.1.0 in
-    let all = every_shuffled (λ r. passes Unique desk_schema next (at_tree 9 inside_table) r ≡ true) (put_row row rows) (row ∷ rows) (put_fresh row rows fresh) (subst (λ rs. AllByRecursion (λ r. passes Unique desk_schema next (at_tree 9 inside_table) r ≡ true) rs) is keeps) in
+    let keeps : AllByRecursion (λ r. passes Unique desk_schema next (at_tree inside_tree inside_table) r ≡ true)
+    (next inside_tree) = (fits.rules Unique (λ no. let e = no in cc)).1.1.1.1.1.1.0 in
+    let all = every_shuffled (λ r. passes Unique desk_schema next (at_tree inside_tree inside_table) r ≡ true)
+    (put_row row rows) (row ∷ rows) (put_fresh row rows fresh)
+    (subst (λ rs. AllByRecursion (λ r. passes Unique desk_schema next (at_tree inside_tree inside_table) r ≡ true)
+    rs) is keeps) in
     all.0
 
 -- so no row of the tree before has its key
-pub none_agrees : (next : Trees) (row : Row) (rows : List Row) → Fits desk_schema next → next 9 ≡ put_row row rows → is_taken rows row ≡ false
+pub none_agrees : (next : Trees) (row : Row) (rows : List Row) → Fits desk_schema next
+    → next inside_tree ≡ put_row row rows → is_taken rows row ≡ false
     → AllByRecursion (λ other. (((equal Binary (column other 1) (column row 1)) && (equal Binary (column other 2) (column row 2) && true)) && differ (rowid other) (rowid row)) ≡ false) rows
 unfolding first_key
 none_agrees next row rows fits is fresh =
-    let passed : (not (clashes plain (1 ∷ 2 ∷ []) (next 9) row) && true) ≡ true = passes_alone next row rows fits is fresh in
-    let free : clashes plain (1 ∷ 2 ∷ []) (next 9) row ≡ false = not_true _ passed in
-    let all = none_from_any (λ other. agree plain (1 ∷ 2 ∷ []) other (1 ∷ 2 ∷ []) row && differ (rowid other) (rowid row)) (next 9) free in
+    let passed : (not (clashes plain (1 ∷ 2 ∷ []) (next inside_tree) row) && true) ≡ true =
+    passes_alone next row rows fits is fresh in
+    let free : clashes plain (1 ∷ 2 ∷ []) (next inside_tree) row ≡ false = not_true _ passed in
+    let all = none_from_any (λ other. agree plain (1 ∷ 2 ∷ []) other (1 ∷ 2 ∷ []) row
+    && differ (rowid other) (rowid row)) (next inside_tree) free in
     (every_shuffled (λ other. (agree plain (1 ∷ 2 ∷ []) other (1 ∷ 2 ∷ []) row && differ (rowid other) (rowid row)) ≡ false) (put_row row rows) (row ∷ rows) (put_fresh row rows fresh) (subst (λ rs. AllByRecursion (λ other. (agree plain (1 ∷ 2 ∷ []) other (1 ∷ 2 ∷ []) row && differ (rowid other) (rowid row)) ≡ false) rs) is all)).1
 
 unequal : (o : Ordering) → is_eq o ≡ false → is_ne o ≡ true
@@ -60,7 +70,10 @@ lone true d h is = sym is ∙ h
 lone false d h is = refl
 
 -- the card isn't inside the room
-pub alone : (next : Trees) (room card : ℕ) (id : ℤ) (rows : List Row) → AllByRecursion Good rows → AllByRecursion HasId rows → Fits desk_schema next → next 9 ≡ put_row (inside_stored id (room, card)) rows → is_taken rows (inside_stored id (room, card)) ≡ false
+pub alone : (next : Trees) (room card : ℕ) (id : ℤ) (rows : List Row) → AllByRecursion Good rows
+    → AllByRecursion HasId rows → Fits desk_schema next
+    → next inside_tree ≡ put_row (inside_stored id (room, card)) rows
+    → is_taken rows (inside_stored id (room, card)) ≡ false
     → AllByRecursion (λ e. is_eq (pair_cmp (room, card) e) ≡ false) (listed pair_cmp read rows)
 alone next room card id rows good ids fits is fresh =
     let row : Row = inside_stored id (room, card) in

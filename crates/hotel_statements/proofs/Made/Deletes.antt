@@ -33,12 +33,14 @@ use Rattle.sqlite.specs.Tree.{Trees}
 use Rattle.sqlite.specs.State.{State, mode_of, ExecutesInside}
 use Rattle.sqlite.proofs.Callers.{one_step, one_permutation}
 use Rattle.hotel_model.specs.Words.{pair_cmp}
+use Rattle.hotel_statements.specs.Trees.{inside_tree}
 use Rattle.hotel_statements.specs.Schema.{desk_schema, inside_table, at_tree}
 use Rattle.hotel_statements.specs.Values.{int}
 use Rattle.hotel_statements.specs.Texts.{delete_inside}
 use Rattle.hotel_statements.specs.Columns.{inside_columns, inside_of, inside_written}
 use Rattle.hotel_statements.specs.Tables.{IsWrittenAs, AreApart, AreApartIds, HasId, listed}
-use Rattle.hotel_statements.specs.Steps.{IsMidWith, MovesRows, any_rows, inside_gone}
+use Rattle.hotel_core.specs.Refinement.Finds.{AnyRows}
+use Rattle.hotel_statements.specs.Steps.{IsMidWith, MovesRows, inside_gone}
 use Rattle.hotel_statements.proofs.Answers.{answered, single, env, passes}
 use Rattle.hotel_statements.proofs.Keys.{equals, and_true, is_key}
 use Rattle.hotel_statements.proofs.Perm.{gone_one, apart_filtered, apart_permuted, filter_makes}
@@ -106,7 +108,7 @@ none_gone p (r ∷ rows) none = elim (cases_Bool (p r)) [
 ]
 
 abbrev table : Table
-table = at_tree 9 inside_table
+table = at_tree inside_tree inside_table
 
 abbrev left_of : Trees → List Row → List Row
 left_of db rows = edited db (edit_of db table (ids_of rows) Given 0 [])
@@ -115,20 +117,25 @@ empty : (os : List Output) → IsPermutation [] os → os ≡ []
 empty [] same = refl
 empty (o ∷ os) same = absurd (omega (arith, length_permutation _ _ same))
 
-shown_ids : (room card : ℕ) (db : Trees) (rows : List Row) → AllByRecursion HasId (db 9) → AreApartIds (db 9) → (filter (test room card) (db 9) ≡ []) ⊎ ((r : Row) × (filter (test room card) (db 9) ≡ r ∷ []))
-    → IsAnswer (single 9 (by_pair 1 2) (col 1 0 ∷ []) []) (overlay db []) (int room ∷ int card ∷ []) rows → left_of db rows ≡ filter (λ r. not (test room card r)) (db 9)
+shown_ids : (room card : ℕ) (db : Trees) (rows : List Row) → AllByRecursion HasId (db inside_tree)
+    → AreApartIds (db inside_tree)
+    → (filter (test room card) (db inside_tree) ≡ [])
+    ⊎ ((r : Row) × (filter (test room card) (db inside_tree) ≡ r ∷ []))
+    → IsAnswer (single inside_tree (by_pair 1 2) (col 1 0 ∷ []) []) (overlay db []) (int room ∷ int card ∷ []) rows
+    → left_of db rows ≡ filter (λ r. not (test room card r)) (db inside_tree)
 shown_ids room card db rows keyed ids cases a =
-    let it = answered 9 (by_pair 1 2) (col 1 0 ∷ []) [] (overlay db []) (int room ∷ int card ∷ []) rows a in
-    let outs : Row → Output = λ r. output (single 9 (by_pair 1 2) (col 1 0 ∷ []) []) (env (int room ∷ int card ∷ []) r) in
+    let it = answered inside_tree (by_pair 1 2) (col 1 0 ∷ []) [] (overlay db []) (int room ∷ int card ∷ []) rows a in
+    let outs : Row → Output = λ r. output (single inside_tree (by_pair 1 2) (col 1 0 ∷ []) [])
+    (env (int room ∷ int card ∷ []) r) in
     elim cases [
       | inl none ↦
           let ordered : it.ordered ≡ [] = empty it.ordered (subst (λ rs. IsPermutation (map outs rs) it.ordered) none it.same) in
           let shown : rows ≡ [] = it.shown ∙ ap (map (λ o. o.1)) ordered in
-          ap (left_of db) shown ∙ sym (none_gone (test room card) (db 9) none)
+          ap (left_of db) shown ∙ sym (none_gone (test room card) (db inside_tree) none)
       | inr one ↦
           let ordered : it.ordered ≡ outs one.0 ∷ [] = one_permutation _ it.ordered (subst (λ rs. IsPermutation (map outs rs) it.ordered) one.1 it.same) in
           let shown : rows ≡ (rowid one.0 ∷ []) ∷ [] = it.shown ∙ ap (map (λ o. o.1)) ordered in
-          ap (left_of db) shown ∙ gone_one (test room card) one.0 (db 9) ids keyed one.1
+          ap (left_of db) shown ∙ gone_one (test room card) one.0 (db inside_tree) ids keyed one.1
     ]
 
 -- ---- the first equal pair is the only one
@@ -152,18 +159,24 @@ removed room card (e ∷ es) apart = elim (cases_Bool (is_pair room card e)) [
   | inr other ↦ let lost : is_at (pair_cmp (room, card)) e ≡ false = at_pair room card e ∙ other in rw (other, lost) (ap (λ rest. e ∷ rest) (removed room card es apart.1))
 ]
 
-pub gone_step : (old new : State) (room card count : ℕ) → ExecutesInside 0 delete_inside (int room ∷ int card ∷ []) old new (Ok count) → IsMidWith any_rows old → MovesRows old new (inside_gone room card)
+pub gone_step : (old new : State) (room card count : ℕ)
+    → ExecutesInside 0 delete_inside (int room ∷ int card ∷ []) old new (Ok count) → IsMidWith AnyRows old
+    → MovesRows old new (inside_gone room card)
 gone_step old new room card count h mid =
     let was = (mid h.1.was_open).0 in
     let db = old.now.trees in
-    let rows = db 9 in
+    let rows = db inside_tree in
     let stays = λ (r : Row). not (test room card r) in
-    let done = wrote old new 9 inside_table delete_inside (int room ∷ int card ∷ []) (Delete 6 (record { lets = []; body = single 9 (by_pair 1 2) (col 1 0 ∷ []) [] })) count changes.delete_inside (λ w. w) (λ _ does. does) was.schema h.0 in
+    let done = wrote old new inside_tree inside_table delete_inside (int room ∷ int card ∷ [])
+    (Delete 6 (record { lets = []; body = single inside_tree (by_pair 1 2) (col 1 0 ∷ []) [] })) count
+    changes.delete_inside (λ w. w) (λ _ does. does) was.schema h.0 in
     let given = went done.1 in
     let put = went given.2 in
     let applied = one_step desk_schema (mode_of old).keys db put.0 (edit_of db table (ids_of given.0) Given 0 []) refl put.1 in
     let left = shown_ids room card db given.0 was.tables.inside_numbered was.tables.inside_ids (few room card rows was.tables.inside.good was.tables.inside.apart) (given.1.answer Null) in
-    let did = changed old new put.0 9 (filter stays rows) (done.2 ∙ ap (λ (it : Written). record { schema = desk_schema; trees = it.trees }) (same_value put.2)) (applied.rows ∙ left) applied.tables in
+    let did = changed old new put.0 inside_tree (filter stays rows)
+    (done.2 ∙ ap (λ (it : Written). record { schema = desk_schema; trees = it.trees }) (same_value put.2))
+    (applied.rows ∙ left) applied.tables in
     let tests = all_weaker Good (λ r. stays r ≡ not (is_pair room card (read r))) (λ r g. ap not (tested room card r g)) rows was.tables.inside.good in
     let made = filter_makes pair_cmp pair_total Good read stays (λ e. not (is_pair room card e)) rows was.tables.inside tests in
     let sorted : AreApart pair_cmp (listed pair_cmp read rows) = apart_permuted pair_cmp pair_total _ _ (IsPermutation-sym _ _ (IsPermutation-sort_by pair_cmp pair_total (map read rows))) was.tables.inside.apart in

@@ -18,48 +18,21 @@ use Rattle.keycard_rules.specs.Note.{Note}
 use Rattle.hotel_nights.specs.declared.stay.Stay.{Stay}
 use Rattle.hotel_model.specs.declared.rows.RoomRow.{RoomRow}
 use Rattle.hotel_model.specs.declared.rows.CodeRow.{CodeRow}
-use Rattle.hotel_model.specs.declared.rows.FitRow.{FitRow}
 use Rattle.hotel_model.specs.Words.{pair_cmp, said_of}
 use Rattle.hotel_model.specs.Rows.{Rows, at_number}
-use Rattle.hotel_rows.specs.Joined.{with_fit, under_fit, joined}
+use Rattle.hotel_rows.specs.Joined.{with_fit, under_fit, joined, FitEntries}
 use Rattle.hotel_statements.specs.declared.version.Version.{Version}
 use Rattle.hotel_statements.specs.declared.version.Version.TheVariants.{First}
+use Rattle.hotel_statements.specs.Trees.{meta_tree, kind_tree, room_tree, stay_tree, code_tree, card_tree, inside_tree}
+use Rattle.hotel_statements.specs.Trees.{note_tree, fit_tree}
 use Rattle.hotel_statements.specs.Schema.{desk_schema, first_schema}
-use Rattle.hotel_statements.specs.Columns.{meta_columns, meta_of, meta_written, kind_columns, kind_of, kind_written}
-use Rattle.hotel_statements.specs.Columns.{room_columns, room_of, room_written, stay_columns, stay_of, stay_written}
-use Rattle.hotel_statements.specs.Columns.{code_columns, code_of, code_written, card_columns, card_of, card_written}
-use Rattle.hotel_statements.specs.Columns.{inside_columns, inside_of, inside_written, note_columns, note_of}
-use Rattle.hotel_statements.specs.Columns.{note_written, fit_columns, fit_of, fit_written}
-use Rattle.hotel_statements.specs.Tables.{IsTable, AreTables, AreTablesOf, IsFitTable, AreApartIds, HasId, rows_in}
-use Rattle.hotel_statements.specs.Tables.{fits_in, bare_rooms_in, bare_notes_in, bare_rows_in, listed, by_key}
+use Rattle.hotel_statements.specs.Columns.{meta_columns, meta_of, kind_columns, kind_of, room_columns, room_of}
+use Rattle.hotel_statements.specs.Columns.{stay_columns, stay_of, code_columns, code_of, card_columns, card_of}
+use Rattle.hotel_statements.specs.Columns.{inside_columns, inside_of, note_columns, note_of, fit_columns, fit_of}
+use Rattle.hotel_statements.specs.Tables.{AreMetas, AreKinds, AreRooms, AreStays, AreCodes, AreCards, AreInside}
+use Rattle.hotel_statements.specs.Tables.{AreNotes, AreFits, AreTables, AreTablesOf, IsFitTable, AreApartIds, HasId}
+use Rattle.hotel_statements.specs.Tables.{rows_in, fits_in, bare_rooms_in, bare_notes_in, bare_rows_in, listed, by_key}
 use Rattle.hotel_statements.specs.Steps.{MovesRows}
-
-abbrev pub AreMetas : List Row → Type 0
-AreMetas rows = IsTable (by_key nat_cmp) meta_columns meta_of meta_written rows
-
-abbrev pub AreKinds : List Row → Type 0
-AreKinds rows = IsTable (slice_cmp nat_cmp) kind_columns kind_of kind_written rows
-
-abbrev pub AreRooms : List Row → Type 0
-AreRooms rows = IsTable (by_key nat_cmp) room_columns room_of room_written rows
-
-abbrev pub AreStays : List Row → Type 0
-AreStays rows = IsTable (by_key nat_cmp) stay_columns stay_of stay_written rows
-
-abbrev pub AreCodes : List Row → Type 0
-AreCodes rows = IsTable (by_key nat_cmp) code_columns code_of code_written rows
-
-abbrev pub AreCards : List Row → Type 0
-AreCards rows = IsTable (by_key nat_cmp) card_columns card_of card_written rows
-
-abbrev pub AreInside : List Row → Type 0
-AreInside rows = IsTable pair_cmp inside_columns inside_of inside_written rows
-
-abbrev pub AreNotes : List Row → Type 0
-AreNotes rows = IsTable (by_key pair_cmp) note_columns note_of note_written rows
-
-abbrev pub AreFits : List Row → Type 0
-AreFits rows = IsTable (by_key pair_cmp) fit_columns fit_of fit_written rows
 
 -- each table has the same rows in both
 abbrev pub Same : Trees → Trees → Type 0
@@ -69,7 +42,8 @@ Same a b = AllByRecursion (λ (t : Table). b t.tree ≡ a t.tree) desk_schema.ta
 abbrev pub SameFront : Trees → Trees → Type 0
 SameFront a b = KeepsRows first_schema.tables a b
 
-pub same_tables : {version : Version} (a b : Trees) → SameFront a b → AreTablesOf version a → IsFitTable version (b 13)
+pub same_tables : {version : Version} (a b : Trees) → SameFront a b → AreTablesOf version a
+    → IsFitTable version (b fit_tree)
     → AreTablesOf version b
 same_tables a b same was fits = record {
   meta = subst AreMetas (sym same.0) was.meta;
@@ -91,20 +65,20 @@ same_tables a b same was fits = record {
 
 pub same_bare : (a b : Trees) → SameFront a b → bare_rows_in b ≡ bare_rows_in a
 same_bare a b same =
-    let meta : b 0 ≡ a 0 = same.0 in
-    let kind : b 1 ≡ a 1 = same.1.0 in
-    let room : b 3 ≡ a 3 = same.1.1.0 in
-    let stay : b 5 ≡ a 5 = same.1.1.1.0 in
-    let code : b 6 ≡ a 6 = same.1.1.1.1.0 in
-    let card : b 8 ≡ a 8 = same.1.1.1.1.1.0 in
-    let inside : b 9 ≡ a 9 = same.1.1.1.1.1.1.0 in
-    let note : b 11 ≡ a 11 = same.1.1.1.1.1.1.1.0 in
+    let meta : b meta_tree ≡ a meta_tree = same.0 in
+    let kind : b kind_tree ≡ a kind_tree = same.1.0 in
+    let room : b room_tree ≡ a room_tree = same.1.1.0 in
+    let stay : b stay_tree ≡ a stay_tree = same.1.1.1.0 in
+    let code : b code_tree ≡ a code_tree = same.1.1.1.1.0 in
+    let card : b card_tree ≡ a card_tree = same.1.1.1.1.1.0 in
+    let inside : b inside_tree ≡ a inside_tree = same.1.1.1.1.1.1.0 in
+    let note : b note_tree ≡ a note_tree = same.1.1.1.1.1.1.1.0 in
     rw (meta, kind, room, stay, code, card, inside, note) refl
 
-pub same_fits : (a b : Trees) → b 13 ≡ a 13 → fits_in b ≡ fits_in a
+pub same_fits : (a b : Trees) → b fit_tree ≡ a fit_tree → fits_in b ≡ fits_in a
 same_fits a b same = ap (listed (by_key pair_cmp) (λ r. fit_of (fit_columns r))) same
 
-pub front_of : (a b : Trees) → Same a b → SameFront a b × (b 13 ≡ a 13)
+pub front_of : (a b : Trees) → Same a b → SameFront a b × (b fit_tree ≡ a fit_tree)
 front_of a b same =
     let last = same.1.1.1.1 in (
       (same.0, (same.1.0, (same.1.1.0, (same.1.1.1.0, (last.0, (last.1.0, (last.1.1.0, (last.1.1.1.0, tt)))))))),
@@ -156,7 +130,7 @@ steps {tree} {rows} old new make shown did now =
 -- ---- which list moves
 
 pub rooms_set : {db : Trees} {rows : List Row} {list : List (ℕ × RoomRow)} → AreTables db → AreRooms rows × (listed (by_key nat_cmp) (λ r. room_of (room_columns r)) rows ≡ list)
-    → AreTables (with_tree db 3 rows) × (rows_in (with_tree db 3 rows)
+    → AreTables (with_tree db room_tree rows) × (rows_in (with_tree db room_tree rows)
     ≡ record (rows_in db) { rooms = map (with_fit (fits_in db)) list })
 rooms_set {db} was made = (
   record {
@@ -178,7 +152,8 @@ rooms_set {db} was made = (
 )
 
 pub stays_set : {db : Trees} {rows : List Row} {list : List (ℕ × Stay)} → AreTables db → AreStays rows × (listed (by_key nat_cmp) (λ r. stay_of (stay_columns r)) rows ≡ list)
-    → AreTables (with_tree db 5 rows) × (rows_in (with_tree db 5 rows) ≡ record (rows_in db) { stays = list })
+    → AreTables (with_tree db stay_tree rows)
+    × (rows_in (with_tree db stay_tree rows) ≡ record (rows_in db) { stays = list })
 stays_set {db} was made = (
   record {
     meta = was.meta;
@@ -199,7 +174,8 @@ stays_set {db} was made = (
 )
 
 pub codes_set : {db : Trees} {rows : List Row} {list : List (ℕ × CodeRow)} → AreTables db → AreCodes rows × (listed (by_key nat_cmp) (λ r. code_of (code_columns r)) rows ≡ list)
-    → AreTables (with_tree db 6 rows) × (rows_in (with_tree db 6 rows) ≡ record (rows_in db) { codes = list })
+    → AreTables (with_tree db code_tree rows)
+    × (rows_in (with_tree db code_tree rows) ≡ record (rows_in db) { codes = list })
 codes_set {db} was made = (
   record {
     meta = was.meta;
@@ -220,7 +196,8 @@ codes_set {db} was made = (
 )
 
 pub cards_set : {db : Trees} {rows : List Row} {list : List (ℕ × Card)} → AreTables db → AreCards rows × (listed (by_key nat_cmp) (λ r. card_of (card_columns r)) rows ≡ list)
-    → AreTables (with_tree db 8 rows) × (rows_in (with_tree db 8 rows) ≡ record (rows_in db) { cards = list })
+    → AreTables (with_tree db card_tree rows)
+    × (rows_in (with_tree db card_tree rows) ≡ record (rows_in db) { cards = list })
 cards_set {db} was made = (
   record {
     meta = was.meta;
@@ -241,7 +218,8 @@ cards_set {db} was made = (
 )
 
 pub kinds_set : {db : Trees} {rows : List Row} {list : List (List ℕ)} → AreTables db → AreKinds rows × (listed (slice_cmp nat_cmp) (λ r. kind_of (kind_columns r)) rows ≡ list)
-    → AreTables (with_tree db 1 rows) × (rows_in (with_tree db 1 rows) ≡ record (rows_in db) { kinds = list })
+    → AreTables (with_tree db kind_tree rows)
+    × (rows_in (with_tree db kind_tree rows) ≡ record (rows_in db) { kinds = list })
 kinds_set {db} was made = (
   record {
     meta = was.meta;
@@ -262,7 +240,7 @@ kinds_set {db} was made = (
 )
 
 pub notes_set : {db : Trees} {rows : List Row} {list : List ((ℕ × ℕ) × Note)} → AreTables db → AreNotes rows × (listed (by_key pair_cmp) (λ r. note_of (note_columns r)) rows ≡ list)
-    → AreTables (with_tree db 11 rows) × (rows_in (with_tree db 11 rows)
+    → AreTables (with_tree db note_tree rows) × (rows_in (with_tree db note_tree rows)
     ≡ record (rows_in db) { notes = map (under_fit (fits_in db)) list })
 notes_set {db} was made = (
   record {
@@ -284,10 +262,10 @@ notes_set {db} was made = (
   ap (λ notes. record (rows_in db) { notes = map (under_fit (fits_in db)) notes }) made.1,
 )
 
-pub fits_set : {db : Trees} {rows : List Row} {list : List ((ℕ × ℕ) × FitRow)} → AreTables db → AreFits rows
+pub fits_set : {db : Trees} {rows : List Row} {list : FitEntries} → AreTables db → AreFits rows
     × (listed (by_key pair_cmp) (λ r. fit_of (fit_columns r)) rows ≡ list)
-    → AreTables (with_tree db 13 rows)
-    × (rows_in (with_tree db 13 rows) ≡ record (rows_in db) {
+    → AreTables (with_tree db fit_tree rows)
+    × (rows_in (with_tree db fit_tree rows) ≡ record (rows_in db) {
       rooms = map (with_fit list) (bare_rooms_in db);
       notes = map (under_fit list) (bare_notes_in db);
       fits = list;
@@ -318,7 +296,8 @@ fits_set {db} was made = (
 )
 
 pub insides_set : {db : Trees} {rows : List Row} {list : List (ℕ × ℕ)} → AreTables db → AreInside rows × (listed pair_cmp (λ r. inside_of (inside_columns r)) rows ≡ list) → AllByRecursion HasId rows → AreApartIds rows
-    → AreTables (with_tree db 9 rows) × (rows_in (with_tree db 9 rows) ≡ record (rows_in db) { inside = list })
+    → AreTables (with_tree db inside_tree rows)
+    × (rows_in (with_tree db inside_tree rows) ≡ record (rows_in db) { inside = list })
 insides_set {db} was made numbered apart = (
   record {
     meta = was.meta;
@@ -340,7 +319,8 @@ insides_set {db} was made numbered apart = (
 
 pub day_set : {db : Trees} {rows : List Row} {day : Option ℕ} → AreTables db → AreMetas rows
     × (listed (by_key nat_cmp) (λ r. meta_of (meta_columns r)) rows ≡ (1, (2, day)) ∷ [])
-    → AreTables (with_tree db 0 rows) × (rows_in (with_tree db 0 rows) ≡ record (rows_in db) { day = day })
+    → AreTables (with_tree db meta_tree rows)
+    × (rows_in (with_tree db meta_tree rows) ≡ record (rows_in db) { day = day })
 day_set {day = day} was made = (
   record {
     meta = made.0;
@@ -361,14 +341,14 @@ day_set {day = day} was made = (
 )
 
 -- the version of meta, where there are no fits
-pub version_set : {db : Trees} {rows : List Row} (was : AreTablesOf First db) → db 13 ≡ [] → AreMetas rows
+pub version_set : {db : Trees} {rows : List Row} (was : AreTablesOf First db) → db fit_tree ≡ [] → AreMetas rows
     × (listed (by_key nat_cmp) (λ r. meta_of (meta_columns r)) rows ≡ (1, (2, was.meta_row.0)) ∷ [])
-    → AreTables (with_tree db 0 rows) × (bare_rows_in (with_tree db 0 rows) ≡ bare_rows_in db)
-    × (fits_in (with_tree db 0 rows) ≡ [])
+    → AreTables (with_tree db meta_tree rows) × (bare_rows_in (with_tree db meta_tree rows) ≡ bare_rows_in db)
+    × (fits_in (with_tree db meta_tree rows) ≡ [])
 version_set {db} {rows} was empty made =
     let day = was.meta_row.0 in
     let no_fits : AreFits [] = record { good = tt; apart = tt } in
-    let now : bare_rows_in (with_tree db 0 rows) ≡ record (bare_rows_in db) { day = day } = rw made.1 refl in
+    let now : bare_rows_in (with_tree db meta_tree rows) ≡ record (bare_rows_in db) { day = day } = rw made.1 refl in
     let before : bare_rows_in db ≡ record (bare_rows_in db) { day = day } =
     ap (λ (metas : List (ℕ × (ℕ × Option ℕ))). let all : Rows = record (bare_rows_in db) {
       day = said_of (at_number metas 1) None (λ meta. meta.1);

@@ -25,11 +25,13 @@ use Rattle.sqlite.specs.Tree.{Trees}
 use Rattle.sqlite.specs.State.{State, mode_of, ExecutesInside}
 use Rattle.sqlite.proofs.Callers.{one_step}
 use Rattle.hotel_model.specs.Words.{pair_cmp}
+use Rattle.hotel_statements.specs.Trees.{inside_tree}
 use Rattle.hotel_statements.specs.Schema.{desk_schema, inside_table, at_tree}
 use Rattle.hotel_statements.specs.Values.{int}
 use Rattle.hotel_statements.specs.Texts.{delete_insides}
 use Rattle.hotel_statements.specs.Tables.{AreApartIds, HasId}
-use Rattle.hotel_statements.specs.Steps.{IsMidWith, MovesRows, any_rows, insides_gone}
+use Rattle.hotel_core.specs.Refinement.Finds.{AnyRows}
+use Rattle.hotel_statements.specs.Steps.{IsMidWith, MovesRows, insides_gone}
 use Rattle.hotel_statements.proofs.Answers.{answered, single, env, passes, fused}
 use Rattle.hotel_statements.proofs.Keyed.{column_equals}
 use Rattle.hotel_statements.proofs.Keys.{and_true}
@@ -124,43 +126,45 @@ filter_alike p q same (r ∷ rows) = rw (same r) (ap (λ rest. cond (q r) (r ∷
 -- ---- the statement
 
 abbrev table : Table
-table = at_tree 9 inside_table
+table = at_tree inside_tree inside_table
 
-shown_left : (room : ℕ) (db : Trees) (rows : List Row) → AllByRecursion HasId (db 9) → AreApartIds (db 9)
-    → IsAnswer (single 9 (column_is 1 0 ∷ []) (col 1 0 ∷ []) []) (overlay db []) (int room ∷ []) rows
-    → edited db (edit_of db table (ids_of rows) Given 0 []) ≡ filter (λ r. not (test room r)) (db 9)
+shown_left : (room : ℕ) (db : Trees) (rows : List Row) → AllByRecursion HasId (db inside_tree)
+    → AreApartIds (db inside_tree)
+    → IsAnswer (single inside_tree (column_is 1 0 ∷ []) (col 1 0 ∷ []) []) (overlay db []) (int room ∷ []) rows
+    → edited db (edit_of db table (ids_of rows) Given 0 []) ≡ filter (λ r. not (test room r)) (db inside_tree)
 shown_left room db rows keyed ids a =
-    let it = answered 9 (column_is 1 0 ∷ []) (col 1 0 ∷ []) [] (overlay db []) (int room ∷ []) rows a in
-    let outs : Row → Output = λ r. output (single 9 (column_is 1 0 ∷ []) (col 1 0 ∷ []) []) (env (int room ∷ []) r) in
+    let it = answered inside_tree (column_is 1 0 ∷ []) (col 1 0 ∷ []) [] (overlay db []) (int room ∷ []) rows a in
+    let outs : Row → Output = λ r. output (single inside_tree (column_is 1 0 ∷ []) (col 1 0 ∷ []) [])
+    (env (int room ∷ []) r) in
     let number : Output → ℤ = λ o. own o.1 in
-    let some = filter (test room) (db 9) in
+    let some = filter (test room) (db inside_tree) in
     let same : IsPermutation (map own some) (map number it.ordered) = subst
     (λ xs. IsPermutation xs (map number it.ordered)) (fused number outs some)
     (IsPermutation-map number (map outs some) it.ordered it.same) in
     let shown : ids_of rows ≡ map number it.ordered = ap ids_of it.shown ∙ fused own (λ (o : Output). o.1) it.ordered in
-    ap (without_all (db 9)) shown ∙ gone_each (map number it.ordered) (db 9)
+    ap (without_all (db inside_tree)) shown ∙ gone_each (map number it.ordered) (db inside_tree)
     ∙ filter_alike (λ r. not (has_any (map number it.ordered) r)) (λ r. not (has_any (map own some) r))
     (λ r. ap not (sym (list_any-IsPermutation (λ id. has_rowid id r) (map own some) (map number it.ordered) same)))
-    (db 9)
-    ∙ passing (test room) (db 9) ids keyed
+    (db inside_tree)
+    ∙ passing (test room) (db inside_tree) ids keyed
 
 pub emptied_step : (old new : State) (room count : ℕ)
-    → ExecutesInside 0 delete_insides (int room ∷ []) old new (Ok count) → IsMidWith any_rows old
+    → ExecutesInside 0 delete_insides (int room ∷ []) old new (Ok count) → IsMidWith AnyRows old
     → MovesRows old new (insides_gone room)
 emptied_step old new room count h mid =
     let was = (mid h.1.was_open).0 in
     let db = old.now.trees in
-    let rows = db 9 in
+    let rows = db inside_tree in
     let stays = λ (r : Row). not (test room r) in
-    let done = wrote old new 9 inside_table delete_insides (int room ∷ [])
-    (Delete 6 (record { lets = []; body = single 9 (column_is 1 0 ∷ []) (col 1 0 ∷ []) [] })) count
+    let done = wrote old new inside_tree inside_table delete_insides (int room ∷ [])
+    (Delete 6 (record { lets = []; body = single inside_tree (column_is 1 0 ∷ []) (col 1 0 ∷ []) [] })) count
     changes.delete_insides (λ w. w) (λ _ does. does) was.schema h.0 in
     let given = went done.1 in
     let put = went given.2 in
     let applied = one_step desk_schema (mode_of old).keys db put.0 (edit_of db table (ids_of given.0) Given 0 []) refl
     put.1 in
     let left = shown_left room db given.0 was.tables.inside_numbered was.tables.inside_ids (given.1.answer Null) in
-    let did = changed old new put.0 9 (filter stays rows)
+    let did = changed old new put.0 inside_tree (filter stays rows)
     (done.2 ∙ ap (λ (it : Written). record { schema = desk_schema; trees = it.trees }) (same_value put.2))
     (applied.rows ∙ left) applied.tables in
     let tests = all_weaker Good (λ r. stays r ≡ not (eqb (read r).0 room)) (λ r g. ap not (tested room r g)) rows

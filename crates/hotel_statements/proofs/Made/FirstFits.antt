@@ -12,13 +12,15 @@ use Rattle.sqlite.specs.State.{State, Shows, ExecutesInside}
 use Rattle.hotel_model.specs.declared.rows.FitRow.{FitRow}
 use Rattle.hotel_model.specs.Words.{pair_cmp}
 use Rattle.hotel_model.specs.Refits.{fit_row}
+use Rattle.hotel_rows.specs.Joined.{FitEntries}
+use Rattle.hotel_statements.specs.Trees.{meta_tree}
 use Rattle.hotel_statements.specs.Schema.{meta_table}
 use Rattle.hotel_statements.specs.Texts.{update_version, insert_fit}
 use Rattle.hotel_statements.specs.Values.{int, maybe_int}
 use Rattle.hotel_statements.specs.Columns.{meta_columns, meta_of, meta_written}
 use Rattle.hotel_statements.specs.Tables.{AreTables, bare_rows_in, fits_in}
 use Rattle.hotel_statements.specs.Steps.{is_below}
-use Rattle.hotel_statements.specs.Upgrade.{Fits, IsOutdated, IsBefore, HasFits, first_of}
+use Rattle.hotel_statements.specs.Upgrade.{IsOutdated, IsBefore, HasFits, first_of}
 use Rattle.hotel_statements.proofs.Statements.Changes as changes
 use Rattle.hotel_statements.proofs.Writing.{cast_null, cast_int, cast_maybe}
 use Rattle.hotel_statements.proofs.Made.Desk.{Changed, same_desk, same_bare, same_fits, front_of, fits_set, version_set}
@@ -29,7 +31,7 @@ use Rattle.hotel_statements.proofs.Made.Inserts.{puts_fit}
 use Rattle.hotel_statements.proofs.Made.Updates.{sets}
 
 -- a statement wrote one table, and this is what its rows make of the desk
-has_fits : {tree : ℕ} {rows : List Row} {fits : Fits} (old new : State) → Shows old new new.now old.committed true
+has_fits : {tree : ℕ} {rows : List Row} {fits : FitEntries} (old new : State) → Shows old new new.now old.committed true
     → Changed tree rows old new → IsDatabase new.now → AreTables (with_tree old.now.trees tree rows)
     × (bare_rows_in (with_tree old.now.trees tree rows) ≡ bare_rows_in old.now.trees)
     × (fits_in (with_tree old.now.trees tree rows) ≡ fits) → HasFits fits old new
@@ -58,7 +60,7 @@ version_step old new count h before =
     let was = before h.1.was_open in
     let e = λ (r : Row). meta_of (meta_columns r) in
     let stored = λ (r : Row). meta_stored ((e r).0, (2, (e r).1.1)) in
-    let did = sets meta_columns meta_of meta_written meta_numbered 0 meta_table 1 (int 2 ∷ []) (λ x. (2, x.1))
+    let did = sets meta_columns meta_of meta_written meta_numbered meta_tree meta_table 1 (int 2 ∷ []) (λ x. (2, x.1))
     (λ r. int (e r).0 ∷ int (e r).0 ∷ Null ∷ int 2 ∷ maybe_int (e r).1.1 ∷ []) stored old new count refl
     changes.update_version (λ _ does. does)
     (record {
@@ -78,16 +80,16 @@ version_step old new count h before =
 
 -- ---- the first fit of a room, behind those of the rooms before it
 
-abbrev AreEarlier : ℕ → Fits → Type 0
+abbrev AreEarlier : ℕ → FitEntries → Type 0
 AreEarlier room fits = AllByRecursion (λ (e : (ℕ × ℕ) × FitRow). e.0.0 < room) fits
 
-all_below : (room n : ℕ) (fits : Fits) → AreEarlier room fits → list_all (is_below room n) fits ≡ true
+all_below : (room n : ℕ) (fits : FitEntries) → AreEarlier room fits → list_all (is_below room n) fits ≡ true
 all_below room n [] earlier = refl
 all_below room n (e ∷ fits) earlier =
     let other : (e.0.0 == room) ≡ false = grind (arith, nat_tests, earlier.0) in
     rw other (all_below room n fits earlier.1)
 
-put_last : (room n : ℕ) (f : FitRow) (fits : Fits) → AreEarlier room fits
+put_last : (room n : ℕ) (f : FitRow) (fits : FitEntries) → AreEarlier room fits
     → insert_entry pair_cmp fits (room, n) f ≡ fits ++ ((room, n), f) ∷ []
 put_last room n f [] earlier = refl
 put_last room n f (e ∷ fits) earlier =

@@ -41,6 +41,7 @@ use Rattle.hotel_model.specs.declared.rows.FitRow.{FitRow}
 use Rattle.hotel_model.specs.Words.{pair_cmp, said_of}
 use Rattle.hotel_model.specs.Rows.{has_kind, fits_at, last_fit}
 use Rattle.hotel_model.specs.Stays.{room_of_state}
+use Rattle.hotel_statements.specs.Trees.{kind_tree, room_tree, stay_tree, code_tree, card_tree, note_tree, fit_tree}
 use Rattle.hotel_statements.specs.Schema.{desk_schema, kind_table, note_table, room_table, stay_table, code_table}
 use Rattle.hotel_statements.specs.Schema.{card_table, fit_table}
 use Rattle.hotel_statements.specs.Values.{int, maybe_int}
@@ -50,8 +51,10 @@ use Rattle.hotel_statements.specs.Columns.{room_columns, room_of, room_written, 
 use Rattle.hotel_statements.specs.Columns.{code_columns, code_of, code_written, card_columns, card_of, card_written}
 use Rattle.hotel_statements.specs.Columns.{fit_columns, fit_of, fit_written}
 use Rattle.hotel_rows.specs.Joined.{with_last, with_fit, with_count, under_fit, fit_of_number}
-use Rattle.hotel_statements.specs.Tables.{IsWrittenAs, by_key, listed, rows_in, fits_in, bare_rooms_in, bare_notes_in}
-use Rattle.hotel_statements.specs.Steps.{IsMid, IsMidWith, IsNewNote, IsNextFit, IsWithoutFit, MovesRows, any_rows}
+use Rattle.hotel_statements.specs.Tables.{AreFits, IsWrittenAs, by_key, listed, rows_in, fits_in, bare_rooms_in}
+use Rattle.hotel_statements.specs.Tables.{bare_notes_in}
+use Rattle.hotel_core.specs.Refinement.Finds.{AnyRows}
+use Rattle.hotel_statements.specs.Steps.{IsMid, IsMidWith, IsNewNote, IsNextFit, IsWithoutFit, MovesRows}
 use Rattle.hotel_statements.specs.Steps.{bare_room}
 use Rattle.hotel_statements.specs.Steps.{counts_to, is_below, kind_added, note_added, fit_added, room_added, code_added}
 use Rattle.hotel_statements.specs.Steps.{stay_added, card_added}
@@ -65,7 +68,7 @@ use Rattle.hotel_rows.proofs.OfJoined.{joined_at, room_put, note_joined, note_pu
 use Rattle.hotel_statements.proofs.Joins.{rooms_fitted, notes_kept, noted_bare}
 use Rattle.hotel_statements.proofs.Risen.{rooms_rise, fits_rise, keys_rise}
 use Rattle.hotel_statements.proofs.Made.Desk.{Changed, changed, steps, rooms_set, stays_set, codes_set, cards_set}
-use Rattle.hotel_statements.proofs.Made.Desk.{AreFits, kinds_set, notes_set, fits_set}
+use Rattle.hotel_statements.proofs.Made.Desk.{kinds_set, notes_set, fits_set}
 use Rattle.hotel_statements.proofs.Made.Entries.{insert_makes, put_keyed, entry_put, key_put, key_total}
 use Rattle.hotel_statements.proofs.Made.Reads.{room_stored, room_good, room_reads, room_numbered, stay_stored}
 use Rattle.hotel_statements.proofs.Made.Reads.{stay_good, stay_reads, stay_numbered, code_stored, code_numbered}
@@ -110,11 +113,13 @@ put {at} {width} {text} {terms} tree t params source row old new count does on s
 -- ---- the tables whose rows have their key for a number
 
 pub code_step : (old new : State) (code : ℕ) (at : CodeRow) (count : ℕ) → ExecutesInside 0 insert_code (int code ∷ int at.room ∷ int at.place ∷ []) old new (Ok count)
-    → IsMidWith any_rows old → MovesRows old new (code_added code at)
+    → IsMidWith AnyRows old → MovesRows old new (code_added code at)
 code_step old new code at count h mid =
     let was = (mid h.1.was_open).0 in
     let row = code_stored code at in
-    let did : Put 6 row old new = put 6 code_table _ row row old new count changes.insert_code (λ _ does. does) refl (rw (cast_null, cast_int (pos code), cast_int (pos at.room), cast_int (pos at.place)) refl) was.schema h.0 in
+    let did : Put code_tree row old new =
+    put code_tree code_table _ row row old new count changes.insert_code (λ _ does. does) refl
+    (rw (cast_null, cast_int (pos code), cast_int (pos at.room), cast_int (pos at.place)) refl) was.schema h.0 in
     steps old new (code_added code at) h.1 did.changes (codes_set was.tables (insert_makes code_columns code_of code_written code_numbered row code at _ was.tables.code refl refl refl did.fresh))
 
 pub room_step : (old new : State) (row : RoomRow) (count : ℕ)
@@ -125,7 +130,8 @@ room_step old new r count h mid =
     let was = both.0 in
     let db = old.now.trees in
     let row = room_stored r in
-    let did : Put 3 row old new = put 3 room_table _ row row old new count changes.insert_room (λ _ does. does) refl
+    let did : Put room_tree row old new =
+    put room_tree room_table _ row row old new count changes.insert_room (λ _ does. does) refl
     (rw (cast_null, cast_int (pos r.room), cast_int (pos r.lock_place), cast_int (pos r.codes), cast_int (pos (bit_of r.secured)), cast_maybe r.party, cast_int (pos r.notes)) refl) was.schema h.0 in
     let set = rooms_set was.tables (insert_makes room_columns room_of room_written room_numbered row r.room
     (bare_room r) _ was.tables.room (room_good r) (room_reads r) refl did.fresh) in
@@ -142,20 +148,22 @@ room_step old new r count h mid =
 
 pub stay_step : (old new : State) (stay : Stay) (count : ℕ)
     → ExecutesInside 0 insert_stay (int stay.party ∷ Text stay.guest ∷ Text stay.kind ∷ int stay.arrive ∷ int stay.depart ∷ int (state_number stay.state) ∷ maybe_int (room_of_state stay.state) ∷ []) old new (Ok count)
-    → IsMidWith any_rows old → MovesRows old new (stay_added stay)
+    → IsMidWith AnyRows old → MovesRows old new (stay_added stay)
 stay_step old new s count h mid =
     let was = (mid h.1.was_open).0 in
     let row = stay_stored s in
-    let did : Put 5 row old new = put 5 stay_table _ row row old new count changes.insert_stay (λ _ does. does) refl
+    let did : Put stay_tree row old new =
+    put stay_tree stay_table _ row row old new count changes.insert_stay (λ _ does. does) refl
     (rw (cast_null, cast_int (pos s.party), cast_int (pos s.arrive), cast_int (pos s.depart), cast_int (pos (state_number s.state)), cast_maybe (room_of_state s.state)) refl) was.schema h.0 in
     steps old new (stay_added s) h.1 did.changes (stays_set was.tables (insert_makes stay_columns stay_of stay_written stay_numbered row s.party s _ was.tables.stay (stay_good s) (stay_reads s) refl did.fresh))
 
 pub card_step : (old new : State) (card : Card) (count : ℕ) → ExecutesInside 0 insert_card (int card.number ∷ int card.party ∷ int card.link.old_code ∷ int card.link.new_code ∷ []) old new (Ok count)
-    → IsMidWith any_rows old → MovesRows old new (card_added card)
+    → IsMidWith AnyRows old → MovesRows old new (card_added card)
 card_step old new c count h mid =
     let was = (mid h.1.was_open).0 in
     let row = card_stored c in
-    let did : Put 8 row old new = put 8 card_table _ row row old new count changes.insert_card (λ _ does. does) refl
+    let did : Put card_tree row old new =
+    put card_tree card_table _ row row old new count changes.insert_card (λ _ does. does) refl
     (rw (cast_null, cast_int (pos c.number), cast_int (pos c.party), cast_int (pos c.link.old_code), cast_int (pos c.link.new_code)) refl) was.schema h.0 in
     steps old new (card_added c) h.1 did.changes (cards_set was.tables (insert_makes card_columns card_of card_written card_numbered row c.number c _ was.tables.card refl refl refl did.fresh))
 
@@ -171,8 +179,10 @@ kind_step old new kind count h mid =
     let both = mid h.1.was_open in
     let was = both.0 in
     let kinds = (rows_in old.now.trees).kinds in
-    let row = kind_stored (next_rowid (old.now.trees 1)) kind in
-    let did : Put 1 row old new = put 1 kind_table _ (Null ∷ Text kind ∷ []) row old new count changes.insert_kind (λ _ does. does) refl (rw (cast_null, cast_text kind) refl) was.schema h.0 in
+    let row = kind_stored (next_rowid (old.now.trees kind_tree)) kind in
+    let did : Put kind_tree row old new =
+    put kind_tree kind_table _ (Null ∷ Text kind ∷ []) row old new count changes.insert_kind (λ _ does. does) refl
+    (rw (cast_null, cast_text kind) refl) was.schema h.0 in
     let apart = kind_apart kind kinds (none_from_any (λ k. bytes_eq k kind) kinds both.1) in
     let made = put_keyed (slice_cmp nat_cmp) nat_list_cmp_total (IsWrittenAs kind_columns kind_of kind_written) (λ r. kind_of (kind_columns r)) row kind _ was.tables.kind refl refl did.fresh apart in
     steps old new (kind_added kind) h.1 did.changes (kinds_set was.tables (made.0, made.1 ∙ key_put (slice_cmp nat_cmp) kind kinds apart))
@@ -209,9 +219,9 @@ note_step old new n number count h mid =
     let was = both.0 in
     let db = old.now.trees in
     let k : ℕ × ℕ = (n.room, number) in
-    let id = next_rowid (old.now.trees 11) in
+    let id = next_rowid (old.now.trees note_tree) in
     let row = note_stored id number n in
-    let did : Put 11 row old new = put 11 note_table _
+    let did : Put note_tree row old new = put note_tree note_table _
     (Null ∷ int n.room ∷ int number ∷ int (act_number n.act) ∷ maybe_int (act_card n.act) ∷ int (act_first n.act)
     ∷ int (act_second n.act) ∷ int n.day ∷ int n.second ∷ []) row
     old new count changes.insert_note (λ _ does. does) refl
@@ -261,7 +271,7 @@ none_at room number (e ∷ es) later =
 -- A fit of a room was put: the table has it behind its key, and no other moved.
 pub record PutsFit (fit : FitRow) (old new : State) : Type 0 where
   pub rows : List Row
-  pub changes : Changed 13 rows old new
+  pub changes : Changed fit_tree rows old new
   pub made : AreFits rows × (listed (by_key pair_cmp) (λ r. fit_of (fit_columns r)) rows
       ≡ insert_entry pair_cmp (fits_in old.now.trees) (fit.room, fit.fit) fit)
 
@@ -272,8 +282,9 @@ pub puts_fit : (old new : State) (fit : FitRow) (count : ℕ)
 puts_fit old new f count h was later =
     let fits = fits_in old.now.trees in
     let k : ℕ × ℕ = (f.room, f.fit) in
-    let row = fit_stored (next_rowid (old.now.trees 13)) f in
-    let did : Put 13 row old new = put 13 fit_table _ (Null ∷ int f.room ∷ int f.fit ∷ int f.place ∷ int f.before ∷ [])
+    let row = fit_stored (next_rowid (old.now.trees fit_tree)) f in
+    let did : Put fit_tree row old new =
+    put fit_tree fit_table _ (Null ∷ int f.room ∷ int f.fit ∷ int f.place ∷ int f.before ∷ [])
     row old new count changes.insert_fit (λ _ does. does) refl
     (rw (cast_null, cast_int (pos f.room), cast_int (pos f.fit), cast_int (pos f.place), cast_int (pos f.before)) refl)
     was.schema h in
@@ -281,7 +292,7 @@ puts_fit old new f count h was later =
     let made = put_keyed (by_key pair_cmp) (key_total pair_cmp pair_total) (IsWrittenAs fit_columns fit_of fit_written)
     (λ r. fit_of (fit_columns r)) row (k, f) _ was.tables.fit refl refl did.fresh apart in
     record {
-      rows = put_row row (old.now.trees 13);
+      rows = put_row row (old.now.trees fit_tree);
       changes = did.changes;
       made = (made.0, made.1 ∙ entry_put pair_cmp k f fits apart);
     }

@@ -11,12 +11,14 @@ use Rattle.sqlite.specs.Order.{Row, value_cmp}
 use Rattle.sqlite.specs.Tree.{put_row}
 use Rattle.sqlite.specs.State.{State, ExecutesInside}
 use Rattle.hotel_model.specs.Words.{pair_cmp}
+use Rattle.hotel_statements.specs.Trees.{inside_tree}
 use Rattle.hotel_statements.specs.Schema.{inside_table}
 use Rattle.hotel_statements.specs.Values.{int}
 use Rattle.hotel_statements.specs.Texts.{insert_inside}
 use Rattle.hotel_statements.specs.Columns.{inside_columns, inside_of, inside_written}
 use Rattle.hotel_statements.specs.Tables.{IsWrittenAs, AreApartIds, HasId, rows_in}
-use Rattle.hotel_statements.specs.Steps.{IsMidWith, MovesRows, any_rows, inside_added}
+use Rattle.hotel_core.specs.Refinement.Finds.{AnyRows}
+use Rattle.hotel_statements.specs.Steps.{IsMidWith, MovesRows, inside_added}
 use Rattle.hotel_statements.proofs.Statements.Changes as changes
 use Rattle.hotel_statements.proofs.Writing.{cast_null, cast_int}
 use Rattle.hotel_statements.proofs.Perm.{same_tie, put_fresh, apart_permuted, every_shuffled}
@@ -32,13 +34,15 @@ put_ids new rows fresh apart =
     apart_permuted (λ a b. value_cmp (rowid a) (rowid b)) (on_total rowid value_cmp_total) (new ∷ rows) (put_row new rows) (IsPermutation-sym _ _ (put_fresh new rows fresh)) (flipped, apart)
 
 pub inside_step : (old new : State) (room number count : ℕ) → ExecutesInside 0 insert_inside (int room ∷ int number ∷ []) old new (Ok count)
-    → IsMidWith any_rows old → MovesRows old new (inside_added room number)
+    → IsMidWith AnyRows old → MovesRows old new (inside_added room number)
 inside_step old new room number count h mid =
     let was = (mid h.1.was_open).0 in
     let e : ℕ × ℕ = (room, number) in
-    let rows = old.now.trees 9 in
+    let rows = old.now.trees inside_tree in
     let row = inside_stored (next_rowid rows) e in
-    let did : Put 9 row old new = put 9 inside_table _ (Null ∷ int room ∷ int number ∷ []) row old new count changes.insert_inside (λ _ does. does) refl
+    let did : Put inside_tree row old new =
+    put inside_tree inside_table _ (Null ∷ int room ∷ int number ∷ []) row old new count changes.insert_inside
+    (λ _ does. does) refl
     (rw (cast_null, cast_int (pos room), cast_int (pos number)) refl) was.schema h.0 in
     let out = alone did.next room number (next_rowid rows) rows was.tables.inside.good was.tables.inside_numbered did.fits did.next_is did.fresh in
     let made = put_keyed pair_cmp pair_total (IsWrittenAs inside_columns inside_of inside_written) (λ r. inside_of (inside_columns r)) row e rows was.tables.inside refl refl did.fresh out in

@@ -17,9 +17,10 @@ use Rattle.hotel_model.specs.declared.rows.FitRow.{FitRow}
 use Rattle.hotel_model.specs.Stays.{room_of_state}
 use Rattle.hotel_statements.specs.Values.{option_of, int, maybe_int}
 use Rattle.hotel_statements.specs.Columns.{meta_columns, meta_of, meta_written, bit_of, room_columns, room_of}
-use Rattle.hotel_statements.specs.Columns.{room_written, state_of, state_number, stay_columns, stay_of, stay_written}
+use Rattle.hotel_rows.specs.Stored.{state_of, act_of}
+use Rattle.hotel_statements.specs.Columns.{room_written, state_number, stay_columns, stay_of, stay_written}
 use Rattle.hotel_statements.specs.Columns.{code_columns, code_of, code_written, card_columns, card_of, card_written}
-use Rattle.hotel_statements.specs.Columns.{act_of, act_number, act_card, act_first, act_second, note_columns, note_of}
+use Rattle.hotel_statements.specs.Columns.{act_number, act_card, act_first, act_second, note_columns, note_of}
 use Rattle.hotel_statements.specs.Columns.{note_written}
 use Rattle.hotel_statements.specs.Tables.{IsWrittenAs}
 use Rattle.hotel_statements.specs.Steps.{bare_room}

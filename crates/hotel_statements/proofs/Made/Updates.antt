@@ -26,6 +26,7 @@ use Rattle.hotel_model.specs.declared.rows.RoomRow.{RoomRow}
 use Rattle.hotel_model.specs.declared.rows.FitRow.{FitRow}
 use Rattle.hotel_model.specs.Stays.{room_of_state, in_state, now_is}
 use Rattle.hotel_model.specs.Refinement.Change.{room_changed}
+use Rattle.hotel_statements.specs.Trees.{meta_tree, room_tree, stay_tree}
 use Rattle.hotel_statements.specs.Schema.{desk_schema, meta_table, room_table, stay_table}
 use Rattle.hotel_statements.specs.Texts.{update_day, update_issued, update_party, update_noted, update_refitted}
 use Rattle.hotel_statements.specs.Texts.{update_state}
@@ -33,7 +34,8 @@ use Rattle.hotel_statements.specs.Values.{int, maybe_int}
 use Rattle.hotel_statements.specs.Columns.{bit_of, state_number, meta_columns, meta_of, meta_written, room_columns}
 use Rattle.hotel_statements.specs.Columns.{room_of, room_written, stay_columns, stay_of, stay_written}
 use Rattle.hotel_statements.specs.Tables.{IsTable, IsWrittenAs, listed, by_key, rows_in, fits_in, bare_rooms_in}
-use Rattle.hotel_statements.specs.Steps.{IsMidWith, MovesRows, any_rows, day_set, room_issued, room_freed, room_noted}
+use Rattle.hotel_core.specs.Refinement.Finds.{AnyRows}
+use Rattle.hotel_statements.specs.Steps.{IsMidWith, MovesRows, day_set, room_issued, room_freed, room_noted}
 use Rattle.hotel_statements.specs.Steps.{room_refitted, stay_set}
 use Rattle.hotel_rows.specs.Joined.{with_last}
 use Rattle.hotel_statements.proofs.Joins.{room_moved}
@@ -105,12 +107,15 @@ module _ {X : Type 0} (columns : Row → Row) (of : Row → ℕ × X) (written :
 
 -- ---- the day of meta
 
-pub day_step : (old new : State) (day count : ℕ) → ExecutesInside 0 update_day (int 1 ∷ int day ∷ []) old new (Ok count) → IsMidWith any_rows old → MovesRows old new (day_set day)
+pub day_step : (old new : State) (day count : ℕ) → ExecutesInside 0 update_day (int 1 ∷ int day ∷ []) old new (Ok count)
+    → IsMidWith AnyRows old → MovesRows old new (day_set day)
 day_step old new day count h mid =
     let was = (mid h.1.was_open).0 in
     let e = λ (r : Row). meta_of (meta_columns r) in
     let stored = λ (r : Row). meta_stored ((e r).0, ((e r).1.0, Some day)) in
-    let did = sets meta_columns meta_of meta_written meta_numbered 0 meta_table 1 (int day ∷ []) (λ x. (x.0, Some day)) (λ r. int (e r).0 ∷ int (e r).0 ∷ Null ∷ int (e r).1.0 ∷ int day ∷ []) stored old new count refl
+    let did = sets meta_columns meta_of meta_written meta_numbered meta_tree meta_table 1 (int day ∷ [])
+    (λ x. (x.0, Some day)) (λ r. int (e r).0 ∷ int (e r).0 ∷ Null ∷ int (e r).1.0 ∷ int day ∷ []) stored old new
+    count refl
     changes.update_day (λ _ does. does)
     (record {
       given = λ r good. ap (λ (v : Row). column v 0 ∷ column v 0 ∷ Null ∷ column v 1 ∷ int day ∷ []) good;
@@ -134,15 +139,19 @@ no_fit = record { room = 0; fit = 0; place = 0; before = 0 }
 
 rooms_step : {text : List ℕ} {terms : List Term} (room : ℕ) (more : Row) (f : RoomRow → RoomRow) (source : RoomRow → Row) (old new : State) (count : ℕ) → ((x : RoomRow) → (f x).room ≡ x.room)
     → ((last : Option FitRow) (x : RoomRow) → with_last last (f x) ≡ f (with_last last x))
-    → Does text (update 2 3 terms) → IsOn 3 room_table (statement_of text (understood desk_schema text)) (update 2 3 terms) old (int room ∷ more)
+    → Does text (update 2 room_tree terms)
+    → IsOn room_tree room_table (statement_of text (understood desk_schema text)) (update 2 room_tree terms) old
+    (int room ∷ more)
     → ((r : Row) → IsWrittenAs room_columns room_of room_written r → eval_all terms (env (int room ∷ more) r) ≡ source (room_of (room_columns r)).1) → ((x : RoomRow) → rowid (source x) ≡ int x.room)
-    → ((x : RoomRow) → cast_row (at_place 3 room_table) (drop 1 (source x)) ≡ room_stored (f x)) → ExecutesInside 0 text (int room ∷ more) old new (Ok count) → IsMidWith any_rows old
+    → ((x : RoomRow) → cast_row (at_place room_tree room_table) (drop 1 (source x)) ≡ room_stored (f x))
+    → ExecutesInside 0 text (int room ∷ more) old new (Ok count) → IsMidWith AnyRows old
     → MovesRows old new (λ rows. record rows { rooms = room_changed room f rows.rooms })
 rooms_step room more f source old new count same apart does on given number cast h mid =
     let was = (mid h.1.was_open).0 in
     let db = old.now.trees in
     let x = λ (r : Row). (room_of (room_columns r)).1 in
-    let did = sets room_columns room_of room_written room_numbered 3 room_table room more f (λ r. source (x r)) (λ r. room_stored (f (x r))) old new count refl does on
+    let did = sets room_columns room_of room_written room_numbered room_tree room_table room more f (λ r. source (x r))
+    (λ r. room_stored (f (x r))) old new count refl does on
     (record {
       given = given;
       number = λ r. number (x r);
@@ -159,7 +168,7 @@ rooms_step room more f source old new count same apart does on given number cast
     )
 
 pub issued_step : (old new : State) (room codes party : ℕ) (count : ℕ) → ExecutesInside 0 update_issued (int room ∷ int codes ∷ int party ∷ []) old new (Ok count)
-    → IsMidWith any_rows old → MovesRows old new (room_issued room codes party)
+    → IsMidWith AnyRows old → MovesRows old new (room_issued room codes party)
 issued_step old new room codes party count =
     rooms_step room _ (λ x. record x { codes = codes; secured = false; party = Some party })
     (λ x. int x.room ∷ int x.room ∷ Null ∷ Text x.kind ∷ int x.lock_place ∷ int codes ∷ int 0 ∷ int party ∷ int x.notes
@@ -167,7 +176,9 @@ issued_step old new room codes party count =
     (λ r good. ap (λ (v : Row). column v 0 ∷ column v 0 ∷ Null ∷ column v 1 ∷ column v 2 ∷ int codes ∷ int 0 ∷ int party ∷ column v 6 ∷ []) good) (λ x. refl)
     (λ x. rw (cast_null, cast_int (pos x.room), cast_int (pos x.lock_place), cast_int (pos codes), cast_int (pos 0), cast_int (pos party), cast_int (pos x.notes)) refl)
 
-pub freed_step : (old new : State) (room : ℕ) (count : ℕ) → ExecutesInside 0 update_party (int room ∷ []) old new (Ok count) → IsMidWith any_rows old → MovesRows old new (room_freed room)
+pub freed_step : (old new : State) (room : ℕ) (count : ℕ)
+    → ExecutesInside 0 update_party (int room ∷ []) old new (Ok count) → IsMidWith AnyRows old
+    → MovesRows old new (room_freed room)
 freed_step old new room count =
     rooms_step room _ (λ x. record x { party = None })
     (λ x. int x.room ∷ int x.room ∷ Null ∷ Text x.kind ∷ int x.lock_place ∷ int x.codes ∷ int (bit_of x.secured) ∷ Null
@@ -176,7 +187,7 @@ freed_step old new room count =
     (λ x. rw (cast_null, cast_int (pos x.room), cast_int (pos x.lock_place), cast_int (pos x.codes), cast_int (pos (bit_of x.secured)), cast_int (pos x.notes)) refl)
 
 pub noted_step : (old new : State) (room lock_place : ℕ) (secured : Bool) (notes : ℕ) (count : ℕ) → ExecutesInside 0 update_noted (int room ∷ int lock_place ∷ int (bit_of secured) ∷ int notes ∷ []) old new (Ok count)
-    → IsMidWith any_rows old → MovesRows old new (room_noted room lock_place secured notes)
+    → IsMidWith AnyRows old → MovesRows old new (room_noted room lock_place secured notes)
 noted_step old new room lock_place secured notes count =
     rooms_step room _ (λ x. record x { lock_place = lock_place; secured = secured; notes = notes })
     (λ x. int x.room ∷ int x.room ∷ Null ∷ Text x.kind ∷ int lock_place ∷ int x.codes ∷ int (bit_of secured)
@@ -187,7 +198,7 @@ noted_step old new room lock_place secured notes count =
 
 pub refitted_step : (old new : State) (room lock_place codes : ℕ) (count : ℕ)
     → ExecutesInside 0 update_refitted (int room ∷ int lock_place ∷ int codes ∷ []) old new (Ok count)
-    → IsMidWith any_rows old → MovesRows old new (room_refitted room lock_place codes)
+    → IsMidWith AnyRows old → MovesRows old new (room_refitted room lock_place codes)
 refitted_step old new room lock_place codes count =
     rooms_step room _ (λ x. record x { lock_place = lock_place; codes = codes; secured = false })
     (λ x. int x.room ∷ int x.room ∷ Null ∷ Text x.kind ∷ int lock_place ∷ int codes ∷ int 0 ∷ maybe_int x.party
@@ -211,12 +222,12 @@ stays_same k state [] = refl
 stays_same k state (e ∷ es) = ap (λ rest. if e.0 == k then (e.0, now_is state e.1) ∷ es else e ∷ rest) (stays_same k state es)
 
 pub state_step : (old new : State) (party : ℕ) (state : StayState) (count : ℕ) → ExecutesInside 0 update_state (int party ∷ int (state_number state) ∷ maybe_int (room_of_state state) ∷ []) old new (Ok count)
-    → IsMidWith any_rows old → MovesRows old new (stay_set party state)
+    → IsMidWith AnyRows old → MovesRows old new (stay_set party state)
 state_step old new party state count h mid =
     let was = (mid h.1.was_open).0 in
     let x = λ (r : Row). (stay_of (stay_columns r)).1 in
     let now = int (state_number state) ∷ maybe_int (room_of_state state) ∷ [] in
-    let did = sets stay_columns stay_of stay_written stay_numbered 5 stay_table party now (now_is state)
+    let did = sets stay_columns stay_of stay_written stay_numbered stay_tree stay_table party now (now_is state)
     (λ r. int (x r).party ∷ int (x r).party ∷ Null ∷ Text (x r).guest ∷ Text (x r).kind ∷ int (x r).arrive ∷ int (x r).depart ∷ now) (λ r. stay_stored (now_is state (x r))) old new count refl
     changes.update_state (λ _ does. does)
     (record {

@@ -43,6 +43,7 @@ use Rattle.hotel_model.proofs.OfTables.Tests as tests
 use Rattle.hotel_model.proofs.OfTables.RowTests.{found_passes}
 use Rattle.hotel_model.proofs.OfTables.Tests.{le_from, lt_from}
 use Rattle.hotel_model.proofs.Starts.StartCodes.{room_is}
+use Rattle.hotel_statements.specs.Trees.{room_tree, code_tree}
 use Rattle.hotel_statements.specs.Schema.{compare}
 use Rattle.hotel_statements.specs.Values.{int}
 use Rattle.hotel_statements.specs.Columns.{room_columns, room_of, room_written, code_columns, code_of, code_written}
@@ -90,7 +91,7 @@ abbrev order : List (Term × Key)
 order = (col 1 0, ascending Binary) ∷ []
 
 abbrev tables : Join
-tables = inner 3 (inner 6 (inner 6 end))
+tables = inner room_tree (inner code_tree (inner code_tree end))
 
 abbrev pub behind_query : Query
 behind_query = over tables test project order
@@ -185,11 +186,11 @@ module _ (db : Trees) (t : AreTables db) (sound : IsSound (rows_in db)) where
   abbrev GoodRoom : Row → Type 0
   GoodRoom r = IsWrittenAs room_columns room_of room_written r × Known (room_of (room_columns r))
 
-  good_rooms : AllByRecursion GoodRoom (db 3)
+  good_rooms : AllByRecursion GoodRoom (db room_tree)
   good_rooms =
-      all_both _ _ GoodRoom (λ r good known. (good, known)) (db 3) t.room.good
-      (all_unmap Known (λ r. room_of (room_columns r)) (db 3)
-      (every_shuffled Known rooms (map (λ r. room_of (room_columns r)) (db 3))
+      all_both _ _ GoodRoom (λ r good known. (good, known)) (db room_tree) t.room.good
+      (all_unmap Known (λ r. room_of (room_columns r)) (db room_tree)
+      (every_shuffled Known rooms (map (λ r. room_of (room_columns r)) (db room_tree))
       (IsPermutation-sort_by (by_key nat_cmp) (key_total nat_cmp_total) _) (finds_itself rooms rooms_rise)))
 
   tests_there : (r c d : Row) → GoodRoom r → IsWrittenAs code_columns code_of code_written c → IsWrittenAs code_columns code_of code_written d
@@ -230,11 +231,15 @@ module _ (db : Trees) (t : AreTables db) (sound : IsSound (rows_in db)) where
   matched : IsPermutation (map (output behind_query) (matches (overlay db []) test tables ([] ∷ [])))
       (flat_map lefts_of rooms)
   matched =
-      one_more_table db test behind_query (by_key nat_cmp) (key_total nat_cmp_total) GoodRoom (λ r. room_of (room_columns r)) 3 (inner 6 (inner 6 end)) ([] ∷ [])
+      one_more_table db test behind_query (by_key nat_cmp) (key_total nat_cmp_total) GoodRoom
+      (λ r. room_of (room_columns r)) room_tree (inner code_tree (inner code_tree end)) ([] ∷ [])
       lefts_of good_rooms (λ r room.
-      one_more_table db test behind_query (by_key nat_cmp) (key_total nat_cmp_total) (IsWrittenAs code_columns code_of code_written) (λ c. code_of (code_columns c)) 6 (inner 6 end) ([] ∷ r ∷ [])
+      one_more_table db test behind_query (by_key nat_cmp) (key_total nat_cmp_total)
+      (IsWrittenAs code_columns code_of code_written) (λ c. code_of (code_columns c)) code_tree (inner code_tree end)
+      ([] ∷ r ∷ [])
       (with_held (room_of (room_columns r))) t.code.good (λ c held.
-      one_more_table db test behind_query (by_key nat_cmp) (key_total nat_cmp_total) (IsWrittenAs code_columns code_of code_written) (λ d. code_of (code_columns d)) 6 end ([] ∷ r ∷ c ∷ [])
+      one_more_table db test behind_query (by_key nat_cmp) (key_total nat_cmp_total)
+      (IsWrittenAs code_columns code_of code_written) (λ d. code_of (code_columns d)) code_tree end ([] ∷ r ∷ c ∷ [])
       (λ y. if are_there (room_of (room_columns r)) (code_of (code_columns c)) y then shown (room_of (room_columns r), ((code_of (code_columns c)).0, y.0)) ∷ [] else []) t.code.good
       (λ d last. last_table db test behind_query ([] ∷ r ∷ c ∷ d ∷ []) _ _ (tests_there r c d room held last) (shows r c d room held last))))
 

@@ -32,6 +32,7 @@ use Rattle.hotel_model.specs.Refinement.ListsOnRows.{state_at, chain_row_on, cha
 use Rattle.hotel_model.specs.Refinement.Lookups.{room_at, code_at}
 use Rattle.hotel_model.proofs.OfTables.Tests.{eq_from}
 use Rattle.hotel_model.proofs.Starts.StartCodes.{counted, room_is}
+use Rattle.hotel_statements.specs.Trees.{code_tree}
 use Rattle.hotel_statements.specs.Values.{int}
 use Rattle.hotel_statements.specs.Columns.{code_columns, code_of, code_written}
 use Rattle.hotel_statements.specs.Tables.{AreTables, IsWrittenAs, by_key, rows_in}
@@ -92,7 +93,7 @@ abbrev by_place : List (Term × Key)
 by_place = (col 1 3, ascending Binary) ∷ []
 
 abbrev pub chain_query : Query
-chain_query = single 6 (column_is 2 0 ∷ []) (columns (3 ∷ 0 ∷ [])) by_place
+chain_query = single code_tree (column_is 2 0 ∷ []) (columns (3 ∷ 0 ∷ [])) by_place
 
 abbrev shown : Placed → Output
 shown e = (int e.1.place ∷ [], int e.1.place ∷ int e.0 ∷ [])
@@ -178,7 +179,8 @@ module _ (db : Trees) (t : AreTables db) (sound : IsSound (rows_in db)) (room : 
       let up : IsAscending (λ x y. output_cmp chain_query x y ≡ Less) (map shown mine) =
       map_rises shown _ mine (ascending_weaker _ _ (λ x y less. then_nothing _ ∙ int_order x.1.place y.1.place ∙ less) mine in_order) in
       let shows : a.0 ≡ map (λ e. (shown e).1) mine =
-      ordered_rows (by_key nat_cmp) (key_total nat_cmp_total) (IsWrittenAs code_columns code_of code_written) (λ r. code_of (code_columns r)) 6
+      ordered_rows (by_key nat_cmp) (key_total nat_cmp_total) (IsWrittenAs code_columns code_of code_written)
+      (λ r. code_of (code_columns r)) code_tree
       (column_is 2 0 ∷ []) (columns (3 ∷ 0 ∷ [])) by_place (int room ∷ []) (of_room room) shown db a.0 mine
       t.code room_tests (λ r good. ap₂ (λ v w. (v ∷ [], v ∷ w ∷ [])) (ap (λ v. column v 2) good) (ap (λ v. column v 0) good))
       (IsPermutation-sym _ _ (IsPermutation-sort_by place_cmp place_total fs)) up a.1 in

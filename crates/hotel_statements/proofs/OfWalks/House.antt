@@ -32,6 +32,7 @@ use Rattle.hotel_model.proofs.OfTables.Tests.{eq_from}
 use Rattle.hotel_model.proofs.OfTables.Tests as tests
 use Rattle.hotel_model.proofs.OfTables.RowTests.{found_passes}
 use Rattle.hotel_model.proofs.Starts.StartCodes.{room_is}
+use Rattle.hotel_statements.specs.Trees.{room_tree, stay_tree}
 use Rattle.hotel_statements.specs.Schema.{compare}
 use Rattle.hotel_statements.specs.Values.{int, maybe_int}
 use Rattle.hotel_statements.specs.Columns.{bit_of, room_columns, room_of, room_written, stay_columns, stay_of}
@@ -66,7 +67,7 @@ abbrev order : List (Term × Key)
 order = (col 1 0, ascending Binary) ∷ []
 
 abbrev tables : Join
-tables = inner 3 (inner 5 end)
+tables = inner room_tree (inner stay_tree end)
 
 abbrev pub house_query : Query
 house_query = over tables test project order
@@ -122,9 +123,12 @@ module _ (db : Trees) (t : AreTables db) (sound : IsSound (rows_in db)) where
   matched : IsPermutation (map (output house_query) (matches (overlay db []) test tables ([] ∷ [])))
       (flat_map pairs_of rooms)
   matched =
-      one_more_table db test house_query (by_key nat_cmp) (key_total nat_cmp_total) (IsWrittenAs room_columns room_of room_written) (λ r. room_of (room_columns r)) 3 (inner 5 end) ([] ∷ [])
+      one_more_table db test house_query (by_key nat_cmp) (key_total nat_cmp_total)
+      (IsWrittenAs room_columns room_of room_written) (λ r. room_of (room_columns r)) room_tree (inner stay_tree end)
+      ([] ∷ [])
       pairs_of t.room.good (λ r room.
-      one_more_table db test house_query (by_key nat_cmp) (key_total nat_cmp_total) (IsWrittenAs stay_columns stay_of stay_written) (λ s. stay_of (stay_columns s)) 5 end ([] ∷ r ∷ [])
+      one_more_table db test house_query (by_key nat_cmp) (key_total nat_cmp_total)
+      (IsWrittenAs stay_columns stay_of stay_written) (λ s. stay_of (stay_columns s)) stay_tree end ([] ∷ r ∷ [])
       (λ x. if is_there (room_of (room_columns r)) x then shown (room_of (room_columns r), x.1) ∷ [] else []) t.stay.good (λ s stay.
       last_table db test house_query ([] ∷ r ∷ s ∷ []) _ _ (tests_there r s room stay) (shows r s room stay)))
 

@@ -20,6 +20,7 @@ use Rattle.hotel_nights.specs.declared.stay.StayState.{StayState}
 use Rattle.hotel_nights.specs.declared.stay.StayState.TheVariants.{Booked, InHouse, Done, Cancelled}
 use Rattle.hotel_model.specs.Stays.{is_booked_state}
 use Rattle.hotel_model.specs.Refinement.ListsOnRows.{arrives_on, arrivals_on}
+use Rattle.hotel_statements.specs.Trees.{stay_tree}
 use Rattle.hotel_statements.specs.Schema.{compare}
 use Rattle.hotel_statements.specs.Values.{int}
 use Rattle.hotel_statements.specs.Columns.{state_number, stay_columns, stay_row_of, stay_of, stay_written}
@@ -45,7 +46,7 @@ module _ (db : Trees) (t : AreTables db) where
   by_party = (col 1 0, ascending Binary) ∷ []
 
   abbrev pub arrival_query : Query
-  arrival_query = single 5 arrival_test all_seven by_party
+  arrival_query = single stay_tree arrival_test all_seven by_party
 
   booked : (state : StayState) → eqb (state_number state) 0 ≡ is_booked_state state
   booked Booked = refl
@@ -79,9 +80,11 @@ module _ (db : Trees) (t : AreTables db) where
       let up : IsAscending (λ x y. output_cmp arrival_query x y ≡ Less) (map shown_stay fs) =
       map_rises shown_stay _ fs (ascending_weaker _ _ (λ x y less. then_nothing _ ∙ int_order x.0 y.0 ∙ less) fs (ascending-filter _ (arrives day) es rises)) in
       let rows : a.0 ≡ map stay_written fs =
-      ordered_rows (by_key nat_cmp) (key_total nat_cmp_total) (IsWrittenAs stay_columns stay_of stay_written) (λ r. stay_of (stay_columns r)) 5
+      ordered_rows (by_key nat_cmp) (key_total nat_cmp_total) (IsWrittenAs stay_columns stay_of stay_written)
+      (λ r. stay_of (stay_columns r)) stay_tree
       arrival_test all_seven by_party (int day ∷ []) (arrives day) shown_stay db a.0 fs
       t.stay (arrival_tests day) (λ r good. ap₂ (λ v w. (v ∷ [], w)) (ap (λ v. column v 0) good) good) (IsPermutation-refl fs) up a.1 in
       let reads = all-filter _ (arrives day) es (all_listed (by_key nat_cmp) (key_total nat_cmp_total) (IsWrittenAs stay_columns stay_of stay_written)
-      (λ r. stay_of (stay_columns r)) (λ e. stay_row_of (stay_written e) ≡ e.1) (db 5) (read_back stay_columns stay_of stay_written stay_row_of (λ v. refl) (db 5) t.stay.good)) in
+      (λ r. stay_of (stay_columns r)) (λ e. stay_row_of (stay_written e) ≡ e.1) (db stay_tree)
+      (read_back stay_columns stay_of stay_written stay_row_of (λ v. refl) (db stay_tree) t.stay.good)) in
       a.2 ∙ ap (map stay_row_of) rows ∙ fused stay_row_of stay_written fs ∙ map_all (λ e. stay_row_of (stay_written e)) (λ e. e.1) fs reads ∙ values_passing (arrives_on day) es

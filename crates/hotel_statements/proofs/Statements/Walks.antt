@@ -9,6 +9,7 @@ use Rattle.sqlite.specs.Term.{lit, col}
 use Rattle.sqlite_sql.specs.Term.{op2}
 use Rattle.sqlite_sql.specs.declared.ops.BinaryOp.TheVariants.{Arith}
 use Rattle.sqlite_sql.specs.declared.ops.ArithOp.TheVariants.{Add, Sub}
+use Rattle.hotel_statements.specs.Trees.{room_tree, stay_tree, code_tree, note_tree}
 use Rattle.hotel_statements.specs.LookUps.{Asks}
 use Rattle.hotel_statements.specs.Texts as text
 use Rattle.hotel_statements.proofs.Answers.{single}
@@ -18,27 +19,32 @@ use Rattle.sqlite_sql.specs.declared.ops.CompareOp.TheVariants.{Eq, Lt, Le}
 use Rattle.hotel_statements.specs.Schema.{compare}
 
 pub walk_arrivals : Asks text.walk_arrivals
-    (single 5 (compare Eq (col 1 6) (lit (Int (pos 0))) ∷ compare Le (col 1 4) (col 0 0) ∷ compare Lt (col 0 0) (col 1 5) ∷ []) all_seven ((col 1 0, ascending Binary) ∷ []))
+    (single stay_tree (compare Eq (col 1 6) (lit (Int (pos 0))) ∷ compare Le (col 1 4) (col 0 0)
+    ∷ compare Lt (col 0 0) (col 1 5) ∷ []) all_seven ((col 1 0, ascending Binary) ∷ []))
 unfolding understood everything
 walk_arrivals = record { query = (_, refl); plain = (refl, refl); listing = refl }
 
-pub walk_chain : Asks text.walk_chain (single 6 (column_is 2 0 ∷ []) (columns (3 ∷ 0 ∷ [])) ((col 1 3, ascending Binary) ∷ []))
+pub walk_chain : Asks text.walk_chain
+    (single code_tree (column_is 2 0 ∷ []) (columns (3 ∷ 0 ∷ [])) ((col 1 3, ascending Binary) ∷ []))
 unfolding understood everything
 walk_chain = record { query = (_, refl); plain = (refl, refl); listing = refl }
 
-pub walk_audit : Asks text.walk_audit (single 11 (column_is 1 0 ∷ []) all_eight ((col 1 2, ascending Binary) ∷ []))
+pub walk_audit : Asks text.walk_audit
+    (single note_tree (column_is 1 0 ∷ []) all_eight ((col 1 2, ascending Binary) ∷ []))
 unfolding understood everything
 walk_audit = record { query = (_, refl); plain = (refl, refl); listing = refl }
 
 pub walk_in_house : Asks text.walk_in_house
-    (record (single 3 (compare Eq (col 2 0) (col 1 6) ∷ []) (col 1 0 ∷ col 1 6 ∷ col 2 2 ∷ col 2 3 ∷ col 2 5 ∷ col 1 5 ∷ []) ((col 1 0, ascending Binary) ∷ []))
-    { from = inner 3 (inner 5 end) })
+    (record (single room_tree (compare Eq (col 2 0) (col 1 6) ∷ [])
+    (col 1 0 ∷ col 1 6 ∷ col 2 2 ∷ col 2 3 ∷ col 2 5 ∷ col 1 5 ∷ []) ((col 1 0, ascending Binary) ∷ []))
+    { from = inner room_tree (inner stay_tree end) })
 unfolding understood everything
 walk_in_house = record { query = (_, refl); plain = (refl, refl); listing = refl }
 
-pub walk_left_behind : Asks text.walk_left_behind (record (single 3
+pub walk_left_behind : Asks text.walk_left_behind (record (single room_tree
     (compare Eq (col 2 2) (col 1 0) ∷ compare Eq (col 2 3) (col 1 3) ∷ compare Eq (col 3 2) (col 1 0) ∷ compare Eq (col 3 3)
     (op2 (Arith Sub) (col 1 4) (lit (Int (pos 1)))) ∷ compare Lt (op2 (Arith Add) (col 1 3) (lit (Int (pos 2)))) (col 1 4) ∷ [])
-    (col 1 0 ∷ col 2 0 ∷ col 3 0 ∷ col 1 3 ∷ col 1 4 ∷ []) ((col 1 0, ascending Binary) ∷ [])) { from = inner 3 (inner 6 (inner 6 end)) })
+    (col 1 0 ∷ col 2 0 ∷ col 3 0 ∷ col 1 3 ∷ col 1 4 ∷ []) ((col 1 0, ascending Binary) ∷ []))
+    { from = inner room_tree (inner code_tree (inner code_tree end)) })
 unfolding understood everything
 walk_left_behind = record { query = (_, refl); plain = (refl, refl); listing = refl }

@@ -4,14 +4,14 @@ ghost use Rattle.sqlite.specs.Order.{Row as SqlRow};
 ghost use Rattle.hotel_model.specs.Rows.{last_fit};
 ghost use Rattle.hotel_rows.specs.Joined.{with_last, with_count, fit_of_number};
 ghost use Rattle.hotel_statements.specs.Columns.{room_row_of, note_row_of};
-ghost use Rattle.hotel_statements.specs.LookUps.{counts_of_row};
+ghost use Rattle.hotel_statements.specs.LookUps.{known_by_room};
 ghost use Rattle.hotel_statements.specs.Readable.{IsRoom, IsNote, IsUnderFits};
 ghost use Rattle.hotel_statements.specs.Failures.{IsNoteUnder};
 ghost use Rattle.hotel_statements.specs.Walks.{note_under};
 
 use super::list_rows::RowReader;
-use super::{FromRow, act, bit, counted, day_number, kind_code, maybe_counted, small_integer};
-use crate::look_ups::RoomCounts;
+use super::{FromRow, act, bit, counted, day, kind_code, maybe_counted, small_integer};
+use crate::look_ups::Known;
 use hotel_core::{FitRow, RoomRow};
 use hotel_nights::KindCode;
 use keycard_rules::{Act, Count, LockNote, LookFault, PartyNo, RoomNo};
@@ -57,13 +57,14 @@ impl BareRoom {
         self.lock_place
     }
 
-    /// How many codes and notes it has.
-    pub(crate) fn counts(&self) -> RoomCounts
-        ensures { result ≡ counts_of_row self.now }
+    /// What it tells the statements of a change.
+    pub(crate) fn known(&self) -> Known
+        ensures { result ≡ known_by_room self.now }
     {
-        RoomCounts {
+        Known {
             codes: self.codes,
             notes: self.notes,
+            before: 0,
         }
     }
 }
@@ -121,7 +122,7 @@ impl FromRow for BareNote {
             room: counted(row, 0)?,
             number: small_integer(row, 1)?,
             act: act(row)?,
-            day: day_number(row, 6)?,
+            day: day(row, 6)?.number(),
             second: small_integer(row, 7)?,
         })
     }

@@ -1,6 +1,7 @@
 use Rattle.std.proofs.Common.{[], ◌∷◌, subst}
 use Rattle.hotel_statements.specs.Statements.{WritesBy, sets_noted}
-use Rattle.hotel_statements.specs.Steps.{any_rows, room_noted}
+use Rattle.hotel_core.specs.Refinement.Finds.{AnyRows}
+use Rattle.hotel_statements.specs.Steps.{room_noted}
 use Rattle.hotel_statements.proofs.InTurn.{writes_then, writes_stopped}
 use Rattle.hotel_statements.proofs.lock_notes.give_note.Goals as goal
 
@@ -12,7 +13,7 @@ returns-clause-makes g c =
     let place = c.args.lock_place in
     let secured = c.args.secured in
     let number = c.args.number in
-    let noted = subst (λ room. WritesBy g.S.Store (sets_noted room place secured number ∷ []) any_rows
+    let noted = subst (λ room. WritesBy g.S.Store (sets_noted room place secured number ∷ []) AnyRows
     (room_noted room place secured number) c.insert_note.new.tx.conn.now c.set_noted.new.tx.conn.now
     c.set_noted.result)
     c.room.ensures c.set_noted.ensures.makes in

@@ -3,7 +3,8 @@ use Rattle.hotel_model.specs.Refinement.Change.{made}
 use Rattle.hotel_model.specs.declared.change.Change.TheVariants as change
 use Rattle.hotel_model.specs.declared.change.InsideMove.TheVariants.{Same, Goes, Comes}
 use Rattle.hotel_statements.specs.Statements.{WritesBy, takes_note, removes_inside, adds_inside}
-use Rattle.hotel_statements.specs.Steps.{IsNumbered, any_rows, inside_gone, inside_added}
+use Rattle.hotel_core.specs.Refinement.Finds.{AnyRows}
+use Rattle.hotel_statements.specs.Steps.{IsNumbered, inside_gone, inside_added}
 use Rattle.hotel_statements.proofs.InTurn.{writes_then, writes_stopped, writes_as}
 use Rattle.hotel_statements.proofs.Made.Rooms.{note_is}
 use Rattle.hotel_statements.proofs.lock_notes.take_note.Goals as goal
@@ -33,7 +34,7 @@ returns-in_ok-give_note-in-Goes-clause-makes g c =
     let place = c.args.lock_place in
     let secured = c.args.secured in
     let card = c.in-Goes.card in
-    let goes = subst (λ room. WritesBy g.S.Store (removes_inside room card ∷ []) any_rows (inside_gone room card)
+    let goes = subst (λ room. WritesBy g.S.Store (removes_inside room card ∷ []) AnyRows (inside_gone room card)
     c.give_note-in-Goes.new.tx.conn.now c.delete_inside.new.tx.conn.now c.delete_inside.result)
     c.room.ensures c.delete_inside.ensures.makes in
     subst (λ insides. WritesBy g.S.Store (takes_note note number place secured insides) (IsNumbered note number)
@@ -49,7 +50,7 @@ returns-in_ok-give_note-in-Comes-clause-makes g c =
     let place = c.args.lock_place in
     let secured = c.args.secured in
     let card = c.in-Comes.card in
-    let comes = subst (λ room. WritesBy g.S.Store (adds_inside room card ∷ []) any_rows (inside_added room card)
+    let comes = subst (λ room. WritesBy g.S.Store (adds_inside room card ∷ []) AnyRows (inside_added room card)
     c.give_note-in-Comes.new.tx.conn.now c.insert_inside.new.tx.conn.now c.insert_inside.result)
     c.room-in-Comes.ensures c.insert_inside.ensures.makes in
     subst (λ insides. WritesBy g.S.Store (takes_note note number place secured insides) (IsNumbered note number)

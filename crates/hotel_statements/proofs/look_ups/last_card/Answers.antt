@@ -2,6 +2,7 @@ use Rattle.std.proofs.Common.{refl}
 use Rattle.std.proofs.lemmas.Result.{IfOk-weaker}
 use Rattle.keycard_rules.specs.declared.card.Card.{Card}
 use Rattle.sqlite.specs.Held.{state}
+use Rattle.hotel_statements.specs.Trees.{card_tree}
 use Rattle.hotel_statements.specs.Columns.{card_columns, card_of, card_written}
 use Rattle.hotel_statements.proofs.Statements.Selects as selects
 use Rattle.hotel_statements.proofs.Last.{last_finds}
@@ -19,7 +20,8 @@ returns g c =
       keeps = c.look.ensures.keeps;
       found = λ kept.
           let was = (c.look.ensures.keeps kept).0 in
-          IfOk-weaker c.look.result _ _ (λ o a. last_finds Card 8 card_columns card_of card_written old.now.trees (c.requires.books.desk was).tables.card (λ r. refl) (λ e. refl)
+          IfOk-weaker c.look.result _ _ (λ o a. last_finds Card card_tree card_columns card_of card_written
+          old.now.trees (c.requires.books.desk was).tables.card (λ r. refl) (λ e. refl)
           (c.requires.numbered was) o a)
           (c.look.ensures.found kept _ selects.select_last_card);
       open_on = λ _ clean. open_still old (state g.S.Store c.look.new.conn) c.look.result (c.look.ensures.unchanged clean);

@@ -2,6 +2,7 @@ use Rattle.std.proofs.Common.{refl}
 use Rattle.std.proofs.lemmas.Result.{IfOk-weaker}
 use Rattle.hotel_nights.specs.declared.stay.Stay.{Stay}
 use Rattle.sqlite.specs.Held.{state}
+use Rattle.hotel_statements.specs.Trees.{stay_tree}
 use Rattle.hotel_statements.specs.Columns.{stay_columns, stay_of, stay_written}
 use Rattle.hotel_statements.proofs.Statements.Selects as selects
 use Rattle.hotel_statements.proofs.Last.{last_finds}
@@ -19,7 +20,8 @@ returns g c =
       keeps = c.look.ensures.keeps;
       found = λ kept.
           let was = (c.look.ensures.keeps kept).0 in
-          IfOk-weaker c.look.result _ _ (λ o a. last_finds Stay 5 stay_columns stay_of stay_written old.now.trees (c.requires.books.desk was).tables.stay (λ r. refl) (λ e. refl)
+          IfOk-weaker c.look.result _ _ (λ o a. last_finds Stay stay_tree stay_columns stay_of stay_written
+          old.now.trees (c.requires.books.desk was).tables.stay (λ r. refl) (λ e. refl)
           (c.requires.numbered was) o a)
           (c.look.ensures.found kept _ selects.select_last_party);
       open_on = λ _ clean. open_still old (state g.S.Store c.look.new.conn) c.look.result (c.look.ensures.unchanged clean);

@@ -1,11 +1,11 @@
-use Rattle.std.proofs.Common.{◌≡◌, inl, inr, sym, ap, ◌∙◌, subst, Some, arith}
-use Rattle.std.specs.Prelude.{option_map, IsSome}
+use Rattle.std.proofs.Common.{◌≡◌, inl, inr, sym, ◌∙◌, subst, Some, arith}
+use Rattle.std.specs.Prelude.{IsSome}
 use Rattle.std.proofs.lemmas.Bool.{false≢true}
 use Rattle.sqlite.specs.Effect.{Database}
 use Rattle.sqlite.specs.Held.{state}
 use Rattle.sqlite.specs.State.{HasCleanDisk}
 use Rattle.hotel_statements.specs.Tables.{rows_in}
-use Rattle.hotel_tables.specs.Applied.{MayMake, told, known_for}
+use Rattle.hotel_tables.specs.Applied.{MayMake, known_for}
 use Rattle.hotel_tables.proofs.MayMake.{may_make}
 use Rattle.hotel_tables.proofs.Causes.{passed}
 use Rattle.hotel_tables.proofs.apply.apply_change.Goals as goal
@@ -14,10 +14,10 @@ pub make_change-requires-clause-fits : goal.make_change-requires-clause-fits
 make_change-requires-clause-fits g c = λ kept.
     let change = c.args.change.now in
     let old = state g.S.Store c.args.conn.now in
-    let known = told c.in-Some.known in
+    let known = c.in-Some.known in
     let same = c.in_ok-known.ensures.looks.keeps kept in
     let wanted : known_for change (rows_in old.now.trees) ≡ Some known =
-    sym (c.in_ok-known.ensures.looks.found kept) ∙ ap (option_map told) c.in-Some.is in
+    sym (c.in_ok-known.ensures.looks.found kept) ∙ c.in-Some.is in
     subst (λ (d : Database). MayMake change known (rows_in d.trees)) (sym same.1)
     (may_make change known (rows_in old.now.trees) (c.requires.fits same.0) wanted)
 
@@ -36,8 +36,8 @@ returns-in-Err-clause-cause g c = λ clean is.
     inr (record {
       begins = c.known_for.new.conn;
       asked = c.in_ok-known.ensures.asked before;
-      known = told c.in-Some.known;
-      is_known = sym (c.in_ok-known.ensures.known before) ∙ ap (option_map told) c.in-Some.is;
+      known = c.in-Some.known;
+      is_known = sym (c.in_ok-known.ensures.known before) ∙ c.in-Some.is;
       error = c.in-Err.error;
       is_store = sym c.fault_of.ensures ∙ is;
       failed = c.in-Err.ensures.failed clean;

@@ -6,7 +6,6 @@ use Rattle.hotel_model.specs.Refinement.Change.{made}
 use Rattle.hotel_statements.proofs.Ends.{Begins, Ends, ended}
 use Rattle.hotel_statements.specs.Statements.{statements_of}
 use Rattle.hotel_statements.proofs.InTurn.{answered}
-use Rattle.hotel_tables.specs.Applied.{told}
 use Rattle.hotel_tables.specs.Causes.{FailsToWrite}
 use Rattle.hotel_tables.proofs.Causes.{not_run, not_committed}
 use Rattle.hotel_tables.proofs.apply.make_change.Goals as goal
@@ -31,7 +30,7 @@ returns g c =
     ended begins c.requires.fits c.in_ok-write_change.ensures.makes.rows c.commit.result zero c.commit.ensures.ended
     c.commit.ensures.ok c.commit.ensures.err c.commit.ensures.survives in
     let failed : HasCleanDisk (state g.S.Store c.commit.new.self.0)
-    → IfErr c.commit.result (FailsToWrite g.S.Store (statements_of c.args.change.now (told c.args.known))
+    → IfErr c.commit.result (FailsToWrite g.S.Store (statements_of c.args.change.now c.args.known)
     c.args.conn.now c.commit.new.self.0) =
     not_committed g.S.Store c.args.conn.now c.transaction-tx.result.conn.now c.write_change.new.tx.conn.now
     c.commit.new.self.0 tt c.commit.result c.transaction-tx.ensures.begun c.in_ok-write_change.ensures.makes.runs

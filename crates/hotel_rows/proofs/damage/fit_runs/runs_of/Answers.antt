@@ -1,7 +1,7 @@
 use Rattle.std.proofs.Common.{rules, ◌-◌, ◌<◌, length, drop, get_or, subst, arith}
 use Rattle.std.proofs.lemmas.List.{length-drop}
 use Rattle.hotel_rows.specs.Stored.{number_of}
-use Rattle.hotel_rows.specs.FitRuns.{RunsOf}
+use Rattle.hotel_rows.specs.FitRuns.{FitRunsOf}
 use Rattle.hotel_rows.proofs.OfDamage.Placing.{at_back}
 use Rattle.hotel_rows.proofs.OfDamage.KnownFits.{no_fit, few_fits, runs_more}
 use Rattle.hotel_rows.proofs.damage.fit_runs.runs_of.Goals as goal
@@ -21,6 +21,6 @@ loop-k-preserved c =
     let xs = c.args.fits.now in
     let k = c.loop-k.k in
     let plain = get_or xs (length xs - 1 - k) no_fit in
-    subst (RunsOf c.add_fit.new.runs.entries) (at_back xs k no_fit c.loop-k-test.true)
+    subst (FitRunsOf c.add_fit.new.runs.entries) (at_back xs k no_fit c.loop-k-test.true)
     (runs_more c.loop-k.runs.entries c.add_fit.new.runs.entries plain
     (drop (length xs - k) xs) c.loop-k.invariant c.in_ok-add_fit.ensures)

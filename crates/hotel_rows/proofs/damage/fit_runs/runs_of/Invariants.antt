@@ -1,6 +1,6 @@
 use Rattle.std.proofs.Common.{◌-◌, length, drop}
-use Rattle.hotel_rows.specs.FitRuns.{RunsOf}
+use Rattle.hotel_rows.specs.FitRuns.{FitRunsOf}
 use Rattle.hotel_rows.proofs.damage.fit_runs.runs_of.Given as goal
 
 abbrev pub invariant-loop-k : goal.invariant-loop-k
-invariant-loop-k l = RunsOf l.runs.entries (drop (length l.fits - l.k) l.fits)
+invariant-loop-k l = FitRunsOf l.runs.entries (drop (length l.fits - l.k) l.fits)

@@ -1,9 +1,9 @@
 use Rattle.std.proofs.Common.{◌∙◌, sym, ap, Some}
 use Rattle.std.specs.Prelude.{option_map}
 use Rattle.sqlite.specs.Held.{state}
-use Rattle.hotel_statements.specs.LookUps.{counts_of_row}
-use Rattle.hotel_statements.proofs.Fitted.{counts_are}
-use Rattle.hotel_statements.proofs.look_ups.room_counts.Goals as goal
+use Rattle.hotel_statements.specs.LookUps.{known_by_room}
+use Rattle.hotel_statements.proofs.Fitted.{known_are}
+use Rattle.hotel_statements.proofs.look_ups.known_by_room.Goals as goal
 
 pub returns-in_default : goal.returns-in_default
 returns-in_default g c =
@@ -11,8 +11,8 @@ returns-in_default g c =
     record {
       books = c.in_ok-bare.ensures.books;
       keeps = c.in_ok-bare.ensures.keeps;
-      found = λ kept. ap (option_map counts_of_row) (sym c.in_default.is ∙ c.in_ok-bare.ensures.found kept)
-          ∙ counts_are old.now.trees c.args.room;
+      found = λ kept. ap (option_map known_by_room) (sym c.in_default.is ∙ c.in_ok-bare.ensures.found kept)
+          ∙ known_are old.now.trees c.args.room;
       open_on = λ _. c.in_ok-bare.ensures.open_on;
       unchanged = λ _. c.in_ok-bare.ensures.unchanged;
       cause = λ _. tt;
@@ -25,9 +25,9 @@ returns g c =
     record {
       books = c.in_ok-bare.ensures.books;
       keeps = c.in_ok-bare.ensures.keeps;
-      found = λ kept. ap Some c.counts.ensures
-          ∙ ap (option_map counts_of_row) (sym c.in-Some.is ∙ c.in_ok-bare.ensures.found kept)
-          ∙ counts_are old.now.trees c.args.room;
+      found = λ kept. ap Some c.known.ensures
+          ∙ ap (option_map known_by_room) (sym c.in-Some.is ∙ c.in_ok-bare.ensures.found kept)
+          ∙ known_are old.now.trees c.args.room;
       open_on = λ _. c.in_ok-bare.ensures.open_on;
       unchanged = λ _. c.in_ok-bare.ensures.unchanged;
       cause = λ _. tt;
