@@ -1,10 +1,11 @@
 -- The listing of a list over rows is that over a history for which they stand.
 use Rattle.std.proofs.Common.{◌≡◌, ℕ, List, Bool, true, false, sym, ap, ◌∙◌, Some, inl, inr, is_some}
-use Rattle.hotel_core.proofs.Names.{Rows, rows_of, History, is_room, Reached, StandsFor, room_at, chain_on, audit_on}
+use Rattle.hotel_core.proofs.Names.{Rows, rows_of, History, is_room, Reached, StandsFor, room_at, chain_on}
+use Rattle.hotel_core.proofs.Names.{notes, notes_at}
 use Rattle.std.proofs.lemmas.Bool.{cases_Bool}
 use Rattle.hotel_model.proofs.{Lifted.ListRows.lists_lift, OfTables.RoomNumbers.room_there}
 use Rattle.hotel_model.proofs.{OfTables.RoomNumbers.room_not_there}
-use Rattle.hotel_model.specs.Lists.{chain, audit_of}
+use Rattle.hotel_model.specs.Lists.{chain}
 use Rattle.hotel_lists.specs.Lines.{arrivals_header, in_house_header, chain_header, left_behind_header, audit_header}
 use Rattle.hotel_lists.specs.Lines.{arrival_line, house_line, chain_line, behind_line, note_line}
 use Rattle.hotel_lists.specs.Listings.{listing, of_room}
@@ -28,7 +29,7 @@ listing_lifts h (Arrivals day) ok = ap (λ rows. Some (listing arrivals_header a
 listing_lifts h InHouse ok = ap (λ rows. Some (listing in_house_header house_line rows)) (lists_lift h ok).of_house
 listing_lifts h (ChainOf room) ok = room_lifts h room chain_header chain_line (chain_on (rows_of h) room) (chain h room) ((lists_lift h ok).of_chain room)
 listing_lifts h LeftBehind ok = ap (λ rows. Some (listing left_behind_header behind_line rows)) (lists_lift h ok).of_left_behind
-listing_lifts h (AuditOf room) ok = room_lifts h room audit_header note_line (audit_on (rows_of h) room) (audit_of h room) (λ t. (lists_lift h ok).of_audit room)
+listing_lifts h (AuditOf room) ok = room_lifts h room audit_header note_line (notes_at (rows_of h).notes room) (notes h room) (λ t. (lists_lift h ok).of_audit room)
 
 pub listing_stands : (h : History) (rows : Rows) (its_list : ListAsk) → StandsFor h rows → listing_on rows its_list ≡ listing_over h its_list
 listing_stands h rows its_list stands = ap (λ (r : Rows). listing_on r its_list) stands.1 ∙ listing_lifts h its_list stands.0

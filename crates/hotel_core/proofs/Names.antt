@@ -24,10 +24,10 @@ pub use Rattle.hotel_model.specs.declared.reply.Reply.{Reply}
 pub use Rattle.hotel_model.specs.declared.reply.Reply.TheVariants.{Refused}
 pub use Rattle.hotel_model.proofs.Names.{accepted, Act, After, after, All-head, All-tail, and_last, answered}
 pub use Rattle.hotel_model.proofs.Names.{any_answered, are_none, AreWhole, arrivals_on, arrives_on, Assured, at_number}
-pub use Rattle.hotel_model.proofs.Names.{audit_on, awaited, bars_to_check_in, bars_to_transfer, before_in, Begun}
+pub use Rattle.hotel_model.proofs.Names.{awaited, bars_to_check_in, bars_to_transfer, before_in, Begun, effect, Event}
 pub use Rattle.hotel_model.proofs.Names.{behind_row_on, by_draw, bytes_eq-Decides, Card, card_at, card_of, cards}
 pub use Rattle.hotel_model.proofs.Names.{chain_on, chain_row_on, checks, checks_on, code_place, codes_in, codes_of}
-pub use Rattle.hotel_model.proofs.Names.{comes, Conflicting, cons_option, Copy, count_up, day, Draw, effect, Event}
+pub use Rattle.hotel_model.proofs.Names.{column_at, comes, Conflicting, cons_option, Copy, count_up, day, Draw}
 pub use Rattle.hotel_model.proofs.Names.{exact_unsigned, false≢true, first_code_at, first_is_first, fit_at, fits}
 pub use Rattle.hotel_model.proofs.Names.{fits_at, freed_by, Goes, GoesIf, grown, has_kind, has_link, has_link_on, held}
 pub use Rattle.hotel_model.proofs.Names.{held_on, History, house_row_on, in_house_on, in_state, insert_entry}
@@ -36,7 +36,7 @@ pub use Rattle.hotel_model.proofs.Names.{is_begun, is_booked_state, is_card, is_
 pub use Rattle.hotel_model.proofs.Names.{is_of_fit, is_one_of, is_room, is_standing, IsCommand, IsReply, IsSound}
 pub use Rattle.hotel_model.proofs.Names.{issued_codes, issued_on, IsTimed, IsTotalOrder, IsUntaken, keys_of}
 pub use Rattle.hotel_model.proofs.Names.{last_answered, last_fit, left_behind_on, Link, list_all, list_any}
-pub use Rattle.hotel_model.proofs.Names.{lock_place_on, lookup, made, made_by, match_ordering, moment_of, moved}
+pub use Rattle.hotel_model.proofs.Names.{lock_place_of, lookup, made, made_by, match_ordering, moment_of, moved}
 pub use Rattle.hotel_model.proofs.Names.{nat_cmp_total, nat_tests, needs, Next, next_card, next_fit, NextDay, none_fall}
 pub use Rattle.hotel_model.proofs.Names.{Note, note_at, note_numbered, note_of, notes, notes_at, notes_before}
 pub use Rattle.hotel_model.proofs.Names.{notes_before_each, notes_of, now_is, number_after, of_fit, OfOldFit, on_total}

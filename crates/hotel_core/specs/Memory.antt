@@ -1,13 +1,11 @@
 -- How books in memory keep their tables.
-use Rattle.std.specs.Prelude.{ℕ, ◌≡◌, ◌≤◌, ◌<◌, ◌^◌, List, [], ◌∷◌, None, bytes_eq}
-use Rattle.std.specs.List.{count_by}
+use Rattle.std.specs.Prelude.{ℕ, ◌≡◌, ◌≤◌, ◌<◌, ◌^◌, List, [], ◌∷◌, None}
 use Rattle.std.specs.Map.{lookup, values_of}
 use Rattle.std.specs.BTreeMap.{is_at}
 use Rattle.keycard_rules.specs.{Note.Note, Numbers.IsNumberUpTo}
 use Rattle.hotel_nights.specs.declared.stay.Stay.{Stay}
-use Rattle.hotel_model.specs.{declared.rows.RoomRow.RoomRow, declared.rows.CodeRow.CodeRow, Words.said_of}
-use Rattle.hotel_model.specs.{Words.pair_cmp}
-use Rattle.hotel_model.specs.{Rows.Rows, Rows.at_number, Refinement.Lookups.first_code_at}
+use Rattle.hotel_model.specs.{declared.rows.RoomRow.RoomRow, declared.rows.CodeRow.CodeRow, Words.pair_cmp}
+use Rattle.hotel_model.specs.{Rows.Rows, Rows.column_at, Rows.rooms_of_kind, Refinement.Lookups.first_code_at}
 use Rattle.hotel_core.specs.{NightIndex.CountsNights, KindRooms.rooms_in}
 
 -- the rows, and how many calls found no memory
@@ -21,7 +19,8 @@ PlacesAgree codes places = (room place : ℕ) → lookup (is_at (pair_cmp (room,
 
 -- At each room, the places from its number of codes on are free (all places, where the room isn't there).
 abbrev pub LaterPlacesFree : List (ℕ × RoomRow) → List (ℕ × CodeRow) → Type 0
-LaterPlacesFree rooms codes = (room place : ℕ) → said_of (at_number rooms room) 0 (λ row. row.codes) ≤ place → first_code_at codes room place ≡ None
+LaterPlacesFree rooms codes =
+    (room place : ℕ) → column_at rooms room (λ row. row.codes) ≤ place → first_code_at codes room place ≡ None
 
 -- Each room is kept under a room's number.
 abbrev pub HaveRoomNumbers : List (ℕ × RoomRow) → Type 0
@@ -30,7 +29,7 @@ HaveRoomNumbers (e ∷ es) = IsNumberUpTo 9999 e.0 × HaveRoomNumbers es
 
 -- As many rooms of each kind are counted as there are, and each has a room's number.
 pub record RoomsKnown (kinds : List (List ℕ × ℕ)) (rooms : List (ℕ × RoomRow)) : Type 0 where
-  pub counts : (kind : List ℕ) → rooms_in kinds kind ≡ count_by (λ (row : RoomRow). bytes_eq row.kind kind) (values_of rooms)
+  pub counts : (kind : List ℕ) → rooms_in kinds kind ≡ rooms_of_kind rooms kind
   pub numbers : HaveRoomNumbers rooms
 
 -- The tables of kinds, rooms and codes agree.

@@ -3,11 +3,11 @@ ghost use Rattle.std.specs.Prelude.{◌≡◌, ◌-◌, List, Option, Some, None
 ghost use Rattle.std.specs.Prelude.{Result, Err, length, not};
 ghost use Rattle.keycard_rules.specs.{Rise.HasRisen, Rise.NoFewer, declared.issued.LookFault.LookFault};
 ghost use Rattle.keycard_rules.specs.{declared.issued.LookFault.TheVariants.Store};
-ghost use Rattle.hotel_model.specs.{Words.is_one_of, Rows.Rows, Rows.has_kind, Rows.fit_at, Guests.are_none};
-ghost use Rattle.hotel_model.specs.{Refinement.Change.made};
+ghost use Rattle.hotel_model.specs.{Words.is_one_of, Rows.Rows, Rows.has_kind, Rows.fit_at, Rows.rooms_of_kind};
+ghost use Rattle.hotel_model.specs.{Guests.are_none, Refinement.Change.made};
 ghost use Rattle.hotel_core.specs.Books.Reads.{LooksUp};
 ghost use Rattle.hotel_model.specs.Refinement.Lookups.{room_at, codes_in, code_place, code_at, stay_at, stays_of_kind};
-ghost use Rattle.hotel_model.specs.Refinement.Lookups.{card_at, inside_at, note_at, rooms_of_kind, first_full_on};
+ghost use Rattle.hotel_model.specs.Refinement.Lookups.{card_at, inside_at, note_at, first_full_on};
 ghost use Rattle.hotel_model.specs.Refinement.Lookups.{number_after};
 ghost use Rattle.hotel_model.specs.{Refinement.Fits.Fits, Refinement.Fits.takes_memory, Sound.IsSound};
 ghost use Rattle.hotel_model.specs.{declared.change.Change.Change};
@@ -109,7 +109,7 @@ pub trait Books: Issued {
 
     /// How many rooms a kind has; 0 where it isn't there.
     fn rooms_of_kind(&mut self, kind: &KindCode) -> Result<u32, LookFault>
-        ensures { LooksUp Self.Issued false (λ a. a) (rooms_of_kind (rows self.old) kind.now) self.old self.new result };
+        ensures { LooksUp Self.Issued false (λ a. a) (rooms_of_kind (rows self.old).rooms kind.now) self.old self.new result };
 
     /// The numbers that the next party and the next card are given, up to 9,999,999.
     fn next_numbers(&mut self) -> Result<NextNumbers, LookFault>

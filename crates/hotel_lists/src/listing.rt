@@ -3,7 +3,7 @@ ghost use Rattle.std.specs.Prelude.{List, Bool, true, false};
 ghost use Rattle.hotel_model.specs.Rows.{Rows};
 ghost use Rattle.hotel_core.specs.Books.Walks.{WalksOver};
 ghost use Rattle.hotel_model.specs.Refinement.ListsOnRows.{arrivals_on, in_house_on, chain_on, left_behind_on};
-ghost use Rattle.hotel_model.specs.Refinement.ListsOnRows.{audit_on};
+ghost use Rattle.hotel_model.specs.Rows.{notes_at};
 
 use crate::line::Line;
 use hotel_core::{BehindRow, ChainRow, HouseRow, Sink, WalkFault, Walks};
@@ -96,7 +96,7 @@ pub(crate) struct AuditOf(pub(crate) RoomNo);
 impl<B: Walks> Listing<B> for AuditOf {
     type Row = LockNote;
 
-    ghost rows = { λ list rows. audit_on rows list.0 };
+    ghost rows = { λ list rows. notes_at rows.notes list.0 };
 
     ghost takes_memory = { false };
 

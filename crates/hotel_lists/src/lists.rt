@@ -2,7 +2,7 @@
 ghost use Rattle.std.specs.Prelude.{◌≡◌, [], Some, is_some, Err};
 ghost use Rattle.hotel_model.specs.Refinement.Lookups.{room_at};
 ghost use Rattle.hotel_model.specs.Refinement.ListsOnRows.{arrivals_on, in_house_on, chain_on, left_behind_on};
-ghost use Rattle.hotel_model.specs.Refinement.ListsOnRows.{audit_on};
+ghost use Rattle.hotel_model.specs.Rows.{notes_at};
 ghost use Rattle.hotel_lists.specs.Listings.{ListEnds, listing, of_room};
 ghost use Rattle.hotel_lists.specs.Lines.{LooksAt, arrivals_header, in_house_header, chain_header, left_behind_header};
 ghost use Rattle.hotel_lists.specs.Lines.{audit_header, arrival_line, house_line, chain_line, behind_line, note_line};
@@ -72,14 +72,14 @@ pub fn left_behind<B: Walks, W: Write>(
     write_left_behind(alloc, books, writer, &mut IoCalls::none())
 }
 
-/// Writes the notes of a room, by count. `NoRoom` where it isn't there.
+/// Writes the notes of a room, in the order in which they were taken. `NoRoom` where it isn't there.
 pub fn audit_of<B: Walks, W: Write>(
     alloc: Global,
     books: &mut B,
     room: RoomNo,
     writer: &mut W,
 ) -> Result<(), ListFault>
-    ensures text { B.is_honest books.new → ListEnds [] (of_room (is_some (room_at (B.rows books.old) room)) (listing audit_header note_line (audit_on (B.rows books.old) room))) (W.contents writer.old) (W.contents writer.new) result }
+    ensures text { B.is_honest books.new → ListEnds [] (of_room (is_some (room_at (B.rows books.old) room)) (listing audit_header note_line (notes_at (B.rows books.old).notes room))) (W.contents writer.old) (W.contents writer.new) result }
     ensures books { LooksAt B.Issued books.old books.new result }
 {
     write_audit_of(alloc, books, room, writer, &mut IoCalls::none())

@@ -2,7 +2,7 @@
 ghost use Rattle.std.specs.Prelude.{◌≡◌, true, [], Some, is_some, Err};
 ghost use Rattle.hotel_model.specs.Refinement.Lookups.{room_at};
 ghost use Rattle.hotel_model.specs.Refinement.ListsOnRows.{arrivals_on, in_house_on, chain_on, left_behind_on};
-ghost use Rattle.hotel_model.specs.Refinement.ListsOnRows.{audit_on};
+ghost use Rattle.hotel_model.specs.Rows.{notes_at};
 ghost use Rattle.hotel_lists.specs.{Calls.NoneForgotten, declared.fault.ListFault.TheVariants.NoRoom};
 ghost use Rattle.hotel_lists.specs.{declared.fault.ListFault.TheVariants.Write};
 ghost use Rattle.hotel_lists.specs.Listings.{ListEnds, listing, of_room};
@@ -154,7 +154,7 @@ pub fn write_left_behind<B: Walks, W: Write>(
     write_rows(alloc, books, &LeftBehind, BEHIND, writer, calls)
 }
 
-/// Writes the notes of a room, by count. `NoRoom` where it isn't there.
+/// Writes the notes of a room, in the order in which they were taken. `NoRoom` where it isn't there.
 pub fn write_audit_of<B: Walks, W: Write>(
     alloc: Global,
     books: &mut B,
@@ -162,7 +162,7 @@ pub fn write_audit_of<B: Walks, W: Write>(
     writer: &mut W,
     calls: &mut IoCalls,
 ) -> Result<(), ListFault>
-    ensures text { B.is_honest books.new → ListEnds [] (of_room (is_some (room_at (B.rows books.old) room)) (listing audit_header note_line (audit_on (B.rows books.old) room))) (W.contents writer.old) (W.contents writer.new) result }
+    ensures text { B.is_honest books.new → ListEnds [] (of_room (is_some (room_at (B.rows books.old) room)) (listing audit_header note_line (notes_at (B.rows books.old).notes room))) (W.contents writer.old) (W.contents writer.new) result }
     ensures books { LooksAt B.Issued books.old books.new result }
     ensures failed { result ≡ Err Write → calls.new.write_failed ≡ true }
     ensures calls { NoneForgotten calls.old calls.new }

@@ -4,7 +4,7 @@ pub use Rattle.hotel_model.specs.Refinement.Change.{without_party}
 pub use Rattle.hotel_model.specs.Refinement.Fits.{HasItsRows}
 pub use Rattle.hotel_model.specs.Refinement.Lookups.{card_at, code_at, code_place, codes_in, first_code_at}
 pub use Rattle.hotel_model.specs.Refinement.Lookups.{first_full_on, inside_at, note_at, note_numbered, number_after}
-pub use Rattle.hotel_model.specs.Refinement.Lookups.{of_fit, room_at, rooms_of_kind, stay_at, stays_of_kind}
+pub use Rattle.hotel_model.specs.Refinement.Lookups.{of_fit, room_at, stay_at, stays_of_kind}
 pub use Rattle.hotel_model.specs.Answer.{checks, effect, reported, told}
 unfoldable pub use Rattle.hotel_model.specs.Answer.{answer_to}
 pub use Rattle.hotel_model.specs.Cards.{card_of, cards, link_of_party, link_to, newest_link, same_link, with_spare}
@@ -15,7 +15,7 @@ pub use Rattle.hotel_model.specs.Stays.{day, first_full, in_state, is_booked_sta
 pub use Rattle.hotel_model.specs.Stays.{room_of_state, rooms, rooms_of, stays}
 pub use Rattle.hotel_model.specs.Event.{Begun, Cancelled, Issue, CheckOut, Entered, Event, Install, Kind, Left, Moment}
 pub use Rattle.hotel_model.specs.Event.{NextDay, Recoded, Refitted, Reserved, Spare, note_of, moment_of}
-pub use Rattle.hotel_model.specs.Guests.{are_none, inside, insiders, leaves, registered, secured, those_elsewhere}
+pub use Rattle.hotel_model.specs.Guests.{are_none, inside, insiders, registered, secured, those_elsewhere}
 pub use Rattle.hotel_model.specs.Guests.{those_in}
 pub use Rattle.hotel_model.specs.Headline.{Assured, Headline, LedgerHolds, NewestOpens, NoCodeTwice, OpensOwnRoom}
 pub use Rattle.hotel_model.specs.Headline.{SafeRoom, TakesTheFirst}
@@ -28,9 +28,10 @@ pub use Rattle.hotel_model.specs.Notes.{all_notes, and_note, notes, notes_of, sa
 pub use Rattle.hotel_model.specs.Outcome.{Outcome, accepted, bars, by_draw, grown, needs, refused, said, unless}
 pub use Rattle.hotel_model.specs.Ranges.{InRange, IsCommand, IsReply}
 pub use Rattle.hotel_model.specs.Refits.{fit_row, fits, fits_used_up, is_fit, next_fit, notes_before, present_fit}
-pub use Rattle.hotel_model.specs.Rows.{Rows, at_number, begins_fit, codes_at, codes_by_place, first_of, fit_at, fits_at}
+pub use Rattle.hotel_model.specs.Rows.{Rows, at_number, begins_fit, codes_at, codes_by_place, column_at, first_of}
+pub use Rattle.hotel_model.specs.Rows.{fit_at, fits_at}
 pub use Rattle.hotel_model.specs.Rows.{has_kind, last_fit, last_link_of, link_of_last_card, lock_place_of}
-pub use Rattle.hotel_model.specs.Rows.{newest_link_at, notes_at, or_else}
+pub use Rattle.hotel_model.specs.Rows.{newest_link_at, notes_at, or_else, room_is, rooms_of_kind}
 pub use Rattle.hotel_model.specs.RowsOf.{room_row, rows_of}
 pub use Rattle.hotel_model.specs.Run.{Ran, Reached, Runs, StandsFor, Steps, StepsIf, answered, any_answered, is_failed}
 pub use Rattle.hotel_model.specs.Run.{last_answered, run_on}
@@ -45,25 +46,27 @@ pub use Rattle.hotel_model.specs.SoundFits.{fit_places_rise, fit_rooms_there, la
 pub use Rattle.hotel_model.specs.SoundFits.{none_fall, notes_before_each, rise_by_few, rows_of_last_fits}
 pub use Rattle.hotel_model.specs.SoundNotes.{act_fits, card_is, comes_later, fits_inside, has_entered, has_link_at}
 pub use Rattle.hotel_model.specs.SoundNotes.{insides_fit, is_of_fit, last_fit_place, note_fits, notes_counted}
-pub use Rattle.hotel_model.specs.SoundNotes.{notes_fit, notes_of_fits, numbers_at, room_is}
+pub use Rattle.hotel_model.specs.SoundNotes.{notes_fit, notes_of_fits, numbers_at}
 pub use Rattle.hotel_model.specs.SoundRooms.{are_in_order, codes_few, count_up, day_before_kinds, day_in_range}
 pub use Rattle.hotel_model.specs.SoundRooms.{each_room, is_day, is_home_of, kinds_read, lock_places, note_counts}
 pub use Rattle.hotel_model.specs.SoundRooms.{parties_in_house, room_kinds_there, room_numbers, secured_hold_last}
-pub use Rattle.hotel_model.specs.SoundStays.{guests_read, has_party, nights_fit, rooms_with, stay_days}
-pub use Rattle.hotel_model.specs.SoundStays.{stay_kinds_there, stay_numbers, stay_rooms, stays_on}
+pub use Rattle.hotel_model.specs.SoundStays.{guests_read, has_party, nights_fit, stay_days}
+pub use Rattle.hotel_model.specs.SoundStays.{stay_kinds_there, stay_numbers, stay_rooms}
 pub use Rattle.hotel_model.specs.Standing.{After, Conflicting, Copy, Next, OfOldFit, Standing, standing, standing_among}
-pub use Rattle.hotel_model.specs.Words.{after, and_last, before, is_one_of, is_that, last_of, pair_cmp, said_of, when}
-pub use Rattle.hotel_model.specs.Words.{without}
-pub use Rattle.hotel_model.specs.Refinement.ChangeOf.{change_of, comes, other_than}
+pub use Rattle.hotel_model.specs.Words.{after, and_last, before, is_one_of, is_that, last_of, other_than, pair_cmp}
+pub use Rattle.hotel_model.specs.Words.{said_of, when, without}
+pub use Rattle.hotel_model.specs.Refinement.ChangeOf.{change_of, comes}
 pub use Rattle.hotel_model.specs.Refinement.CardsOnRows.{HasLink, bars_to_check_in, bars_to_transfer, issued_on}
 pub use Rattle.hotel_model.specs.Refinement.Lift.{Lifts, as_change}
-pub use Rattle.hotel_model.specs.Refinement.ListsOnRows.{arrivals_on, arrives_on, audit_on, awaited_on, behind_row_on}
+pub use Rattle.hotel_model.specs.Lists.{arrives_on}
+pub use Rattle.hotel_model.specs.Refinement.ListsOnRows.{arrivals_on, awaited_on, behind_row_on}
 pub use Rattle.hotel_model.specs.Refinement.ListsOnRows.{chain_on, chain_row_on, house_row_on, housed, in_house_on}
 pub use Rattle.hotel_model.specs.Refinement.ListsOnRows.{left_behind_on, state_at}
-pub use Rattle.hotel_model.specs.Refinement.NotesOnRows.{IsUntaken, opened_on}
+pub use Rattle.hotel_model.specs.Refinement.NotesOnRows.{IsUntaken}
 pub use Rattle.hotel_model.specs.Refinement.OnRows.{checks_on, effect_on, has_link_on, held_on, home_link_on, home_on}
-pub use Rattle.hotel_model.specs.Refinement.OnRows.{is_awaited_on, is_fit_on, kinds_agree_on, link_on, lock_place_on}
-pub use Rattle.hotel_model.specs.Refinement.OnRows.{place_on, present_fit_on, reported_on, room_is_on, said_code_at}
+pub use Rattle.hotel_model.specs.Refinement.OnRows.{last_link_on}
+pub use Rattle.hotel_model.specs.Refinement.OnRows.{is_awaited_on, is_fit_on, kinds_agree_on, link_on, opened_on}
+pub use Rattle.hotel_model.specs.Refinement.OnRows.{place_on, present_fit_on, reported_on, said_code_at}
 pub use Rattle.hotel_model.specs.Refinement.OnRows.{secured_after_on, secured_on, told_on, untaken_on}
 unfoldable pub use Rattle.hotel_model.specs.Refinement.OnRows.{outcome_on}
 pub use Rattle.hotel_model.specs.Refinement.GoesOnRows.{AreWhole, Goes, GoesIf, made_by}

@@ -2,6 +2,7 @@
 use Rattle.std.specs.Prelude.{ℕ, List, Option, Some, None}
 use Rattle.keycard_rules.specs.declared.card.Link.{Link}
 use Rattle.keycard_rules.specs.Note.{Note}
+use Rattle.keycard_rules.specs.declared.note.Act.{Act}
 use Rattle.keycard_rules.specs.declared.note.Act.TheVariants as act
 
 -- a day, and a second of it
@@ -42,9 +43,14 @@ pub data Event : Type 0 where
   -- a lock reports: staff recoded it
   Recoded : (room fit count from to : ℕ) → Moment → Event
 
+-- the note of a room's lock, by its count and what it says at a moment
+abbrev pub note_from : ℕ → ℕ → ℕ → Act → Moment → Note
+note_from room fit count its_act at =
+    record { room = room; fit = fit; count = count; act = its_act; day = at.0; second = at.1 }
+
 -- the note that an event took, where it took one
 abbrev pub note_of : Event → Option Note
-note_of (Entered room fit count number link at) = Some (record { room = room; fit = fit; count = count; act = act.Entered number link; day = at.0; second = at.1 })
-note_of (Left room fit count number link at) = Some (record { room = room; fit = fit; count = count; act = act.Left number link; day = at.0; second = at.1 })
-note_of (Recoded room fit count from to at) = Some (record { room = room; fit = fit; count = count; act = act.Recoded from to; day = at.0; second = at.1 })
+note_of (Entered room fit count number link at) = Some (note_from room fit count (act.Entered number link) at)
+note_of (Left room fit count number link at) = Some (note_from room fit count (act.Left number link) at)
+note_of (Recoded room fit count from to at) = Some (note_from room fit count (act.Recoded from to) at)
 note_of _ = None

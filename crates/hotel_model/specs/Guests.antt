@@ -3,21 +3,17 @@ use Rattle.std.specs.Prelude.{ℕ, Bool, true, false, List, [], ◌∷◌, Optio
 use Rattle.std.specs.BTreeMap.{is_at}
 use Rattle.std.specs.BTreeSet.{insert_key}
 use Rattle.std.specs.Set.{remove_key}
-use Rattle.hotel_model.specs.Words.{when, is_that, said_of, pair_cmp}
-use Rattle.hotel_model.specs.Rows.{at_number}
+use Rattle.hotel_model.specs.Words.{when, other_than, said_of, pair_cmp}
+use Rattle.hotel_model.specs.Rows.{at_number, room_is}
 use Rattle.hotel_model.specs.Event.{Install, Issue, CheckOut, Refitted, Entered, Left}
 use Rattle.hotel_model.specs.History.{History, start, ◌▷◌}
 use Rattle.hotel_model.specs.Issued.{current}
 
--- nobody, where it was this party
-abbrev pub leaves : ℕ → Option ℕ → Option ℕ
-leaves party registered = when (is_that registered party) (λ _. None) registered
-
 -- The party that was last given a card with a new code at a room, until it checks out or is given one elsewhere.
 abbrev pub registered : History → ℕ → Option ℕ
 registered (start t) r = said_of (at_number t.rooms r) None (λ row. row.party)
-registered (h ▷ Issue party room number code) r = when (room == r) (λ _. Some party) (leaves party (registered h r))
-registered (h ▷ CheckOut party) r = leaves party (registered h r)
+registered (h ▷ Issue party room number code) r = when (room == r) (λ _. Some party) (other_than party (registered h r))
+registered (h ▷ CheckOut party) r = other_than party (registered h r)
 registered (h ▷ _) r = registered h r
 
 -- the pairs of other rooms than this one
@@ -49,7 +45,7 @@ are_none (n ∷ ns) = false
 -- A room is secured when, since a code was last issued there, a card with the current code entered while nobody was
 -- inside.
 abbrev pub secured : History → ℕ → Bool
-secured (start t) r = said_of (at_number t.rooms r) false (λ row. row.secured)
+secured (start t) r = room_is t r (λ row. row.secured)
 secured (h ▷ Install room kind code) r = when (room == r) (λ _. false) (secured h r)
 secured (h ▷ Issue party room number code) r = when (room == r) (λ _. false) (secured h r)
 secured (h ▷ Refitted room fit code) r = when (room == r) (λ _. false) (secured h r)

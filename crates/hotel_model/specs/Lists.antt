@@ -1,9 +1,8 @@
 -- The rows of the five lists, read off a history.
-use Rattle.std.specs.Prelude.{ℕ, List, [], ◌∷◌, ◌++◌, Option, Some, None, ◌+◌, ◌&&◌, if◌then◌else◌, nat_le, nat_lt}
-use Rattle.std.specs.Prelude.{length, filter, filter_map}
+use Rattle.std.specs.Prelude.{ℕ, Bool, List, [], ◌∷◌, ◌++◌, Option, Some, None, ◌+◌, ◌&&◌, if◌then◌else◌, nat_le}
+use Rattle.std.specs.Prelude.{nat_lt, length, filter, filter_map}
 use Rattle.std.specs.Map.{keys_of, values_of}
 use Rattle.hotel_nights.specs.declared.stay.Stay.{Stay}
-use Rattle.keycard_rules.specs.Note.{Note}
 use Rattle.hotel_model.specs.declared.list_rows.HouseRow.{HouseRow}
 use Rattle.hotel_model.specs.declared.list_rows.ChainRow.{ChainRow}
 use Rattle.hotel_model.specs.declared.list_rows.BehindRow.{BehindRow}
@@ -17,11 +16,14 @@ use Rattle.hotel_model.specs.Lock.{held}
 use Rattle.hotel_model.specs.Ledger.{passed, awaited}
 use Rattle.hotel_model.specs.Guests.{registered, secured}
 use Rattle.hotel_model.specs.Stays.{rooms, stays, is_booked_state}
-use Rattle.hotel_model.specs.Notes.{notes}
+
+-- a booked stay that takes the night of a day
+abbrev pub arrives_on : ℕ → Stay → Bool
+arrives_on day stay = is_booked_state stay.state && nat_le stay.arrive day && nat_lt day stay.depart
 
 -- Booked stays that take the night of a day, by party.
 abbrev pub arrivals : History → ℕ → List Stay
-arrivals h day = filter (λ stay. is_booked_state stay.state && nat_le stay.arrive day && nat_lt day stay.depart) (values_of (stays h))
+arrivals h day = filter (arrives_on day) (values_of (stays h))
 
 -- the row of a stay at a room
 abbrev pub house_row_of : History → ℕ → Stay → HouseRow
@@ -51,7 +53,3 @@ behind_row h room = if nat_le 2 (length (awaited h room)) then Some (record { ro
 -- Rooms with two awaited codes or more, by room.
 abbrev pub left_behind : History → List BehindRow
 left_behind h = filter_map (behind_row h) (keys_of (rooms h))
-
--- A room's notes, by count.
-abbrev pub audit_of : History → ℕ → List Note
-audit_of h room = notes h room

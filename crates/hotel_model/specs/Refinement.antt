@@ -4,11 +4,11 @@ pub mod Lookups
 pub mod Change
 pub mod Fits
 pub mod ChangeOf
-pub mod Answered
 pub mod OnRows
+pub mod Answered
+pub mod CardsOnRows
+pub mod NotesOnRows
 pub mod ListsOnRows
 pub mod ListsLift
 pub mod Lift
 pub mod GoesOnRows
-pub mod CardsOnRows
-pub mod NotesOnRows

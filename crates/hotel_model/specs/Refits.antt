@@ -2,8 +2,8 @@
 use Rattle.std.specs.Prelude.{ℕ, Bool, List, ◌+◌, ◌==◌, nat_le, length}
 use Rattle.std.specs.BTreeMap.{insert_entry}
 use Rattle.hotel_model.specs.declared.rows.FitRow.{FitRow}
-use Rattle.hotel_model.specs.Words.{when, said_of, pair_cmp}
-use Rattle.hotel_model.specs.Rows.{at_number}
+use Rattle.hotel_model.specs.Words.{when, pair_cmp}
+use Rattle.hotel_model.specs.Rows.{column_at}
 use Rattle.hotel_model.specs.Event.{Install, Refitted}
 use Rattle.hotel_model.specs.History.{History, start, ◌▷◌}
 use Rattle.hotel_model.specs.Issued.{issued}
@@ -11,14 +11,14 @@ use Rattle.hotel_model.specs.Notes.{notes}
 
 -- The fit of a room: the number of its present lock. A new room has fit 1, and each refit gives the next.
 abbrev pub present_fit : History → ℕ → ℕ
-present_fit (start t) r = said_of (at_number t.rooms r) 0 (λ row. row.fit)
+present_fit (start t) r = column_at t.rooms r (λ row. row.fit)
 present_fit (h ▷ Install room kind code) r = when (room == r) (λ _. 1) (present_fit h r)
 present_fit (h ▷ Refitted room number code) r = when (room == r) (λ _. number) (present_fit h r)
 present_fit (h ▷ _) r = present_fit h r
 
 -- How many notes of a room were taken before its present fit.
 abbrev pub notes_before : History → ℕ → ℕ
-notes_before (start t) r = said_of (at_number t.rooms r) 0 (λ row. row.before)
+notes_before (start t) r = column_at t.rooms r (λ row. row.before)
 notes_before (h ▷ Refitted room number code) r = when (room == r) (λ _. length (notes h room)) (notes_before h r)
 notes_before (h ▷ _) r = notes_before h r
 

@@ -1,7 +1,8 @@
 -- The rows of the books: nine lists in the order of their keys, and the words that say what stands in them.
-use Rattle.std.specs.Prelude.{ℕ, Bool, List, [], ◌∷◌, Option, Some, None, ◌-◌, ◌==◌, if◌then◌else◌, length, bytes_eq}
+use Rattle.std.specs.Prelude.{ℕ, Bool, false, List, [], ◌∷◌, Option, Some, None, ◌-◌, ◌==◌, if◌then◌else◌, length}
+use Rattle.std.specs.Prelude.{bytes_eq}
 use Rattle.std.specs.Ordering.{nat_cmp}
-use Rattle.std.specs.List.{list_any}
+use Rattle.std.specs.List.{list_any, count_by}
 use Rattle.std.specs.BTreeMap.{is_at, insert_entry}
 use Rattle.std.specs.Map.{lookup, values_of}
 use Rattle.keycard_rules.specs.declared.card.Card.{Card}
@@ -46,6 +47,18 @@ has_kind rows kind = list_any (λ k. bytes_eq k kind) rows.kinds
 abbrev pub at_number : {X : Type 0} → List (ℕ × X) → ℕ → Option X
 at_number es n = lookup (is_at (nat_cmp n)) es
 
+-- whether the room is there, and its row so
+abbrev pub room_is : Rows → ℕ → (RoomRow → Bool) → Bool
+room_is rows room test = said_of (at_number rows.rooms room) false test
+
+-- what a column of a room's row says (0 where the room isn't there)
+abbrev pub column_at : List (ℕ × RoomRow) → ℕ → (RoomRow → ℕ) → ℕ
+column_at rooms room column = said_of (at_number rooms room) 0 column
+
+-- how many rooms a kind has
+abbrev pub rooms_of_kind : List (ℕ × RoomRow) → List ℕ → ℕ
+rooms_of_kind rooms kind = count_by (λ row. bytes_eq row.kind kind) (values_of rooms)
+
 -- the codes of a room, each with its place, in the order of places
 abbrev pub codes_by_place : List (ℕ × CodeRow) → ℕ → List (ℕ × ℕ)
 codes_by_place [] room = []
@@ -57,7 +70,7 @@ codes_at rows room = values_of (codes_by_place rows.codes room)
 
 -- the place of the code that the room's lock holds (0 where the room isn't there)
 abbrev pub lock_place_of : Rows → ℕ → ℕ
-lock_place_of rows room = said_of (at_number rows.rooms room) 0 (λ row. row.lock_place)
+lock_place_of rows room = column_at rows.rooms room (λ row. row.lock_place)
 
 -- the first of a list of codes (0 where there is none)
 abbrev pub first_of : List ℕ → ℕ

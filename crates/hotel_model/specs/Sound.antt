@@ -2,14 +2,14 @@
 use Rattle.std.specs.Prelude.{ℕ, ◌≡◌, ◌≤◌, ◌↔◌, Bool, true, List, ◌&&◌}
 use Rattle.std.specs.Ordering.{nat_cmp}
 use Rattle.std.specs.Cmp.Lexicographic.{slice_cmp}
-use Rattle.std.specs.Map.{keys_of}
+use Rattle.std.specs.Map.{keys_of, values_of}
 use Rattle.hotel_model.specs.Words.{pair_cmp}
-use Rattle.hotel_model.specs.Rows.{Rows}
+use Rattle.hotel_nights.specs.FullNight.{nights_taken}
+use Rattle.hotel_model.specs.Rows.{Rows, rooms_of_kind}
 use Rattle.hotel_model.specs.SoundRooms.{are_in_order, day_in_range, day_before_kinds, kinds_read, room_numbers}
 use Rattle.hotel_model.specs.SoundRooms.{lock_places, room_kinds_there, codes_few, note_counts, parties_in_house}
 use Rattle.hotel_model.specs.SoundRooms.{secured_hold_last}
 use Rattle.hotel_model.specs.SoundStays.{stay_numbers, guests_read, stay_kinds_there, stay_days, stay_rooms, nights_fit}
-use Rattle.hotel_model.specs.SoundStays.{stays_on, rooms_with}
 use Rattle.hotel_model.specs.SoundCards.{codes_in_range, code_rooms_there, places_once, card_numbers}
 use Rattle.hotel_model.specs.SoundCards.{card_parties_there, links_are_neighbours, links_of_one_party}
 use Rattle.hotel_model.specs.SoundCards.{neighbours_are_links, fits_without_links, newest_of_party, last_cards_newest}
@@ -47,7 +47,7 @@ pub record IsSound (rows : Rows) : Type 0 where
   pub stay_day : stay_days rows ≡ true
   pub stay_room : stay_rooms rows ≡ true
   -- on no night are more booked and in-house stays of a kind than its rooms
-  pub stay_nights : (kind : List ℕ) (d : ℕ) → stays_on rows kind d ≤ rooms_with rows kind
+  pub stay_nights : (kind : List ℕ) (d : ℕ) → nights_taken (values_of rows.stays) kind d ≤ rooms_of_kind rows.rooms kind
   -- code
   pub code_range : codes_in_range rows ≡ true
   pub code_room : code_rooms_there rows ≡ true

@@ -11,14 +11,10 @@ use Rattle.hotel_model.specs.declared.rows.CodeRow.{CodeRow}
 use Rattle.hotel_model.specs.declared.rows.RoomRow.{RoomRow}
 use Rattle.hotel_model.specs.declared.rows.FitRow.{FitRow}
 use Rattle.hotel_model.specs.Words.{when, said_of}
-use Rattle.hotel_model.specs.Rows.{Rows, at_number, fit_at, fits_at, last_fit}
+use Rattle.hotel_model.specs.Rows.{Rows, at_number, room_is, fit_at, fits_at, last_fit}
 use Rattle.hotel_model.specs.Cards.{same_link}
 use Rattle.hotel_model.specs.SoundRooms.{count_up, each_room, is_day}
 use Rattle.hotel_model.specs.SoundCards.{code_is, stands_at, is_newest}
-
--- whether the room is there, and its row so
-abbrev pub room_is : Rows → ℕ → (RoomRow → Bool) → Bool
-room_is rows room test = said_of (at_number rows.rooms room) false test
 
 -- whether the card is there, and so
 abbrev pub card_is : Rows → ℕ → (Card → Bool) → Bool

@@ -1,14 +1,13 @@
 -- The rules of sound rows, second part: the stays. Each rule is a test of all rows.
-use Rattle.std.specs.Prelude.{ℕ, Bool, true, false, List, ◌+◌, ◌==◌, ◌&&◌, nat_le, nat_lt, length, bytes_eq, count_by}
+use Rattle.std.specs.Prelude.{ℕ, Bool, true, ◌+◌, ◌==◌, ◌&&◌, nat_le, nat_lt, length}
 use Rattle.std.specs.List.{list_all}
 use Rattle.std.specs.Map.{keys_of, values_of}
 use Rattle.hotel_nights.specs.declared.stay.Stay.{Stay}
-use Rattle.hotel_model.specs.declared.rows.RoomRow.{RoomRow}
 use Rattle.hotel_model.specs.Words.{is_that, said_of}
-use Rattle.hotel_model.specs.Rows.{Rows, at_number, has_kind}
+use Rattle.hotel_model.specs.Rows.{Rows, has_kind, room_is, rooms_of_kind}
 use Rattle.hotel_model.specs.Stays.{room_of_state}
 use Rattle.hotel_model.specs.SoundRooms.{count_up, is_day}
-use Rattle.hotel_nights.specs.FullNight.{takes}
+use Rattle.hotel_nights.specs.FullNight.{nights_taken}
 use Rattle.hotel_nights.specs.Guests.{is_guest}
 
 -- the rule holds of each stay
@@ -33,20 +32,14 @@ stay_days rows = each_stay rows (λ stay. is_day stay.depart && nat_lt stay.arri
 
 -- the room is there, and has this party
 abbrev pub has_party : Rows → ℕ → ℕ → Bool
-has_party rows party room = said_of (at_number rows.rooms room) false (λ row. is_that row.party party)
+has_party rows party room = room_is rows room (λ row. is_that row.party party)
 
 -- the room of a stay in house has its party
 abbrev pub stay_rooms : Rows → Bool
 stay_rooms rows = each_stay rows (λ stay. said_of (room_of_state stay.state) true (has_party rows stay.party))
 
--- how many open stays of a kind take the night of a day
-abbrev pub stays_on : Rows → List ℕ → ℕ → ℕ
-stays_on rows kind d = count_by (takes kind d) (values_of rows.stays)
-
--- how many rooms a kind has
-abbrev pub rooms_with : Rows → List ℕ → ℕ
-rooms_with rows kind = count_by (λ (row : RoomRow). bytes_eq row.kind kind) (values_of rows.rooms)
-
 -- on the first night of each stay, its kind isn't taken by more stays than it has rooms
 abbrev pub nights_fit : Rows → Bool
-nights_fit rows = each_stay rows (λ stay. nat_le (stays_on rows stay.kind stay.arrive) (rooms_with rows stay.kind))
+nights_fit rows =
+    each_stay rows (λ stay.
+    nat_le (nights_taken (values_of rows.stays) stay.kind stay.arrive) (rooms_of_kind rows.rooms stay.kind))

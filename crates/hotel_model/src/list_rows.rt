@@ -14,7 +14,7 @@ pub struct HouseRow {
     pub kind: KindCode,
     /// The day of departure.
     pub depart: Day,
-    /// Whether, since the last issue at the room, a card of its newest link entered while no card was inside.
+    /// Whether, since the last issue at the room, a card with the current code entered while no card was inside.
     pub secured: bool,
 }
 

@@ -13,12 +13,12 @@ use Rattle.hotel_nights.specs.Guests.{is_guest}
 use Rattle.hotel_model.specs.declared.rows.RoomRow.{RoomRow}
 use Rattle.hotel_model.specs.declared.rows.CodeRow.{CodeRow}
 use Rattle.hotel_model.specs.Words.{said_of}
-use Rattle.hotel_model.specs.Rows.{Rows, has_kind, at_number, fits_at, begins_fit}
+use Rattle.hotel_model.specs.Rows.{Rows, has_kind, at_number, fits_at, begins_fit, room_is}
 use Rattle.hotel_model.specs.Stays.{room_of_state}
 use Rattle.hotel_model.specs.SoundRooms.{is_home_of, is_day}
 use Rattle.hotel_model.specs.SoundStays.{has_party}
 use Rattle.hotel_model.specs.SoundCards.{are_neighbours, code_is, stands_at, is_newest, has_newest}
-use Rattle.hotel_model.specs.SoundNotes.{comes_later, room_is, card_is, act_fits, fits_inside}
+use Rattle.hotel_model.specs.SoundNotes.{comes_later, card_is, act_fits, fits_inside}
 use Rattle.hotel_rows.specs.declared.stored.PlainRoom.{PlainRoom}
 use Rattle.hotel_rows.specs.declared.stored.PlainStay.{PlainStay}
 use Rattle.hotel_rows.specs.declared.stored.PlainCode.{PlainCode}

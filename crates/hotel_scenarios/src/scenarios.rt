@@ -541,7 +541,7 @@ pub const QUOTED_GUEST: &[Step] = &[
     ),
 ];
 
-/// The notes of a room, by count.
+/// The notes of a room, in the order in which they were taken.
 pub const NOTES_OF_A_ROOM: &[Step] = &[
     Step::Line(b"recoded 101 1 a0 a1 2031-05-01T14:59:59", b"taken\n"),
     Step::Line(b"entered 101 2 1 a0 a1 2031-05-01T15:00:00", b"taken\n"),

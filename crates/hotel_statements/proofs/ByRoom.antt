@@ -22,7 +22,6 @@ use Rattle.keycard_rules.specs.Note.{Note}
 use Rattle.hotel_model.specs.declared.rows.FitRow.{FitRow}
 use Rattle.hotel_model.specs.Words.{pair_cmp}
 use Rattle.hotel_model.specs.Rows.{notes_at, fits_at, fit_at}
-use Rattle.hotel_model.specs.Refinement.ListsOnRows.{audit_on}
 use Rattle.hotel_model.proofs.OfTables.Pairs.{pair_cmp_total, pair_is}
 use Rattle.hotel_rows.specs.Joined.{with_count, fit_of_number, under_fit, FitEntries}
 use Rattle.hotel_statements.specs.Trees.{note_tree, fit_tree}
@@ -179,7 +178,7 @@ notes_listed fits room (e ∷ es) = elim (cases_Bool (is_in room e)) [
 
 pub notes_said : (db : Trees) → AreTables db → (room : ℕ) (fits : List FitRow) → fits ≡ fits_at (fits_in db) room
     → (all : List Note) → AnswersAll (note_under fits) audit_query (int room ∷ []) db all
-    → all ≡ audit_on (rows_in db) room
+    → all ≡ notes_at (rows_in db).notes room
 notes_said db t room fits are all a =
     let es = bare_notes_in db in
     let fs = filter (is_in room) es in

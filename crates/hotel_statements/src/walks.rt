@@ -3,7 +3,7 @@
 ghost use Rattle.sqlite.specs.Held.{state};
 ghost use Rattle.hotel_model.specs.Sound.{IsSound};
 ghost use Rattle.hotel_model.specs.Refinement.ListsOnRows.{arrivals_on, in_house_on, chain_on, left_behind_on};
-ghost use Rattle.hotel_model.specs.Refinement.ListsOnRows.{audit_on};
+ghost use Rattle.hotel_model.specs.Rows.{notes_at};
 ghost use Rattle.hotel_statements.specs.Books.{IsBooks, IsKept};
 ghost use Rattle.hotel_statements.specs.Tables.{rows_in};
 ghost use Rattle.hotel_statements.specs.Walks.{WalksList};
@@ -43,7 +43,7 @@ pub fn audit<S: Alter, K: Sink<LockNote>>(
     sink: &mut K,
 ) -> Result<(), WalkFault>
     requires { IsBooks (state S.Store conn.old) }
-    ensures { WalksList (AuditFails room) K.Sink.after K.Sink.after_stop (λ rows. audit_on rows room)
+    ensures { WalksList (AuditFails room) K.Sink.after K.Sink.after_stop (λ rows. notes_at rows.notes room)
         (state S.Store conn.old) (state S.Store conn.new) sink.old sink.new result }
 {
     match look_ups::fits_of_room(alloc, conn, room) {

@@ -22,7 +22,7 @@ use Rattle.hotel_model.specs.declared.change.Change.{Change}
 use Rattle.hotel_model.specs.declared.change.Change.TheVariants as change
 use Rattle.hotel_model.specs.Rows.{Rows, has_kind}
 use Rattle.hotel_model.specs.Stays.{in_state}
-use Rattle.hotel_model.specs.Refinement.Lookups.{stay_at, rooms_of_kind}
+use Rattle.hotel_model.specs.{Refinement.Lookups.stay_at, Rows.rooms_of_kind}
 use Rattle.hotel_model.specs.Refinement.Change.{made, freed_by}
 use Rattle.hotel_model.specs.Refinement.Fits.{HasItsRows, Fits}
 use Rattle.hotel_core.specs.KindRooms.{is_there, rooms_in}
@@ -129,7 +129,7 @@ known_after _ rows mid later known there same k h = subst (λ kinds. is_there ki
 
 -- as many rooms of each kind are counted as there are
 abbrev CountsRooms : List (List ℕ × ℕ) → Rows → Type 0
-CountsRooms kinds rows = (kind : List ℕ) → rooms_in kinds kind ≡ rooms_of_kind rows kind
+CountsRooms kinds rows = (kind : List ℕ) → rooms_in kinds kind ≡ rooms_of_kind rows.rooms kind
 
 rooms_after : (change : Change) (rows : Rows) (mid later : List (List ℕ × ℕ)) → RoomsKnown mid rows.rooms → KnowsKinds mid rows → ((kind : List ℕ) → rooms_in mid kind < 2 ^ 32 - 1) → HasItsRows change rows
     → CountsItsRoom change mid later → CountsRooms later (made change rows)

@@ -8,7 +8,7 @@ use Rattle.hotel_nights.specs.declared.stay.Stay.{Stay}
 use Rattle.hotel_nights.specs.FullNight.{is_full, first_day}
 use Rattle.hotel_core.specs.declared.books.walks.WalkFault.{WalkFault}
 use Rattle.hotel_model.specs.Rows.{Rows}
-use Rattle.hotel_model.specs.Refinement.Lookups.{first_full_on, rooms_of_kind}
+use Rattle.hotel_model.specs.{Refinement.Lookups.first_full_on, Rows.rooms_of_kind}
 use Rattle.hotel_core.specs.Books.Walks.{Hands, failure_of}
 use Rattle.hotel_core.specs.KindRooms.{rooms_in}
 use Rattle.hotel_core.specs.NightIndex.{CountsNights}
@@ -36,7 +36,7 @@ module _ {S : Type 0} (shown : Held S → State) (inside self : Tabled S) (same 
   night_found kind rooms arrive depart found counted many found_is kept =
       let stays = values_of (rows_by inside).stays in
       let c = counted (subst (λ (b : Tabled S). IsKept (shown b.conn)) (sym same) kept) in
-      let as_many : rooms ≡ rooms_of_kind (rows_by inside) kind = many ∙ c.rooms kind in
+      let as_many : rooms ≡ rooms_of_kind (rows_by inside).rooms kind = many ∙ c.rooms kind in
       found_is stays c.stays ∙ ap (λ n. first_day (is_full stays kind n) arrive (depart - arrive)) as_many
       ∙ ap (λ (b : Tabled S). first_full_on (rows_by b) kind arrive (depart - arrive)) same
 

@@ -8,7 +8,7 @@ use Rattle.keycard_rules.specs.declared.issued.LookFault.{LookFault}
 use Rattle.keycard_rules.specs.declared.issued.LookFault.TheVariants.{Memory, Store}
 use Rattle.hotel_model.specs.Rows.{Rows, has_kind}
 use Rattle.hotel_model.specs.Sound.{IsSound}
-use Rattle.hotel_model.specs.Refinement.Lookups.{rooms_of_kind}
+use Rattle.hotel_model.specs.Rows.{rooms_of_kind}
 use Rattle.hotel_core.specs.NightIndex.{CountsNights}
 use Rattle.hotel_core.specs.KindRooms.{is_there, rooms_in}
 use Rattle.hotel_statements.specs.Tables.{rows_in}
@@ -40,7 +40,7 @@ failed b Store = b.store
 pub record IsCounted (kinds : List (List ℕ × ℕ)) (nights : List ((List ℕ × ℕ) × List ℕ)) (rows : Rows) : Type 0 where
   pub sound : IsSound rows
   pub known : (kind : List ℕ) → has_kind rows kind ≡ true → is_there kinds kind ≡ true
-  pub rooms : (kind : List ℕ) → rooms_in kinds kind ≡ rooms_of_kind rows kind
+  pub rooms : (kind : List ℕ) → rooms_in kinds kind ≡ rooms_of_kind rows.rooms kind
   pub stays : CountsNights nights (values_of rows.stays)
 
 -- What books over tables keep true, whatever has failed.

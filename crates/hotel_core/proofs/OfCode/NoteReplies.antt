@@ -3,7 +3,7 @@ use Rattle.std.proofs.Common.{◌≡◌, ℕ, Bool, true, false, List, [], ◌�
 use Rattle.std.proofs.Common.{if◌then◌else◌, is_some, ◌==◌, ◌+◌, ◌-◌}
 use Rattle.hotel_core.proofs.Names.{turn, Stream, Note, Act, Change, Reply, Refusal, RoomRow, Rows, said_of, is_one_of}
 use Rattle.hotel_core.proofs.Names.{comes, card_at, inside_at, note_at, room_at, same_note, outcome_on, reported_on}
-use Rattle.hotel_core.proofs.Names.{untaken_on, told_on, checks_on, has_link_on, held_on, place_on, lock_place_on}
+use Rattle.hotel_core.proofs.Names.{untaken_on, told_on, checks_on, has_link_on, held_on, place_on, lock_place_of}
 use Rattle.hotel_core.proofs.Names.{secured_on, secured_after_on, is_awaited_on, Outcome, accepted, needs, refused}
 use Rattle.hotel_core.proofs.Names.{said, unless, false≢true, is_failed}
 use Rattle.keycard_rules.specs.declared.note.Act.TheVariants as act
@@ -35,7 +35,7 @@ told_reply rows note (act.Entered number link) =
     (accepted reply.Taken (change.Noted note (place_on rows link.new_code) (secured_after_on rows note.room link) (comes (is_one_of number (inside_at rows note.room)) number))) tt
 told_reply rows note (act.Left number link) =
     unless_reply (needs (is_some (card_at rows number)) refusal.NoCard ∷ needs (has_link_on rows number link) refusal.CardDiffers ∷ needs (is_one_of number (inside_at rows note.room)) refusal.NotInside ∷ [])
-    (accepted reply.Taken (change.Noted note (lock_place_on rows note.room) (secured_on rows note.room) (Goes number))) tt
+    (accepted reply.Taken (change.Noted note (lock_place_of rows note.room) (secured_on rows note.room) (Goes number))) tt
 told_reply rows note (act.Recoded from to) =
     unless_reply (needs (held_on rows note.room == from) refusal.HeldDiffers ∷ needs (is_awaited_on rows note.room to) refusal.NotAwaited ∷ [])
     (accepted reply.Taken (change.Noted note (place_on rows to) (secured_on rows note.room) Same)) tt

@@ -1,14 +1,14 @@
 -- The places from a room's number of codes on stay free.
 use Rattle.std.proofs.Common.{ℕ, ◌≡◌, ◌+◌, ◌≤◌, ◌<◌, Bool, true, false, cond, Option, Some, None, IsSome, List, [], ◌∷◌}
 use Rattle.std.proofs.Common.{refl, ap, sym, ◌∙◌, subst, arith, ◌==◌, nat_cmp}
-use Rattle.hotel_core.proofs.Names.{is_at, insert_entry, RoomRow, CodeRow, said_of, at_number, first_code_at}
+use Rattle.hotel_core.proofs.Names.{is_at, insert_entry, RoomRow, CodeRow, said_of, at_number, column_at, first_code_at}
 use Rattle.hotel_core.proofs.Names.{room_changed, freed_by, LaterPlacesFree, nat_cmp_total}
 use Rattle.hotel_core.proofs.OfTables.MapEntries.{at_is, at_self, eq_from}
 use Rattle.hotel_core.proofs.OfTables.PlacedCodes.{placed, is_here, both_true}
 
 -- how many codes a room has
 abbrev pub codes_there : List (ℕ × RoomRow) → ℕ → ℕ
-codes_there rooms room = said_of (at_number rooms room) 0 (λ row. row.codes)
+codes_there rooms room = column_at rooms room (λ row. row.codes)
 
 -- ---- numbers of codes, when a room's row changes
 

@@ -1,7 +1,7 @@
 //! Walks over the rows of the lists, which are handed to a sink one after the other.
 ghost use Rattle.std.specs.Prelude.{◌≡◌, true, false, OnOk, OnErr};
 ghost use Rattle.hotel_model.specs.Refinement.ListsOnRows.{arrivals_on, in_house_on, chain_on, left_behind_on};
-ghost use Rattle.hotel_model.specs.Refinement.ListsOnRows.{audit_on};
+ghost use Rattle.hotel_model.specs.Rows.{notes_at};
 ghost use Rattle.hotel_core.specs.{Books.Walks.WalksOver, declared.books.walks.WalkFault.TheVariants.Memory};
 ghost use Rattle.hotel_core.specs.{declared.books.walks.WalkFault.TheVariants.Stopped};
 
@@ -79,7 +79,7 @@ pub trait Walks: Books {
     fn walk_left_behind<S: Sink<BehindRow>>(&mut self, sink: &mut S) -> Result<(), WalkFault>
         ensures { WalksOver Self.Issued false S.after S.after_stop (left_behind_on (Self.rows self.old)) self.old self.new sink.old sink.new result };
 
-    /// The notes of a room, by count; none where the room isn't there.
+    /// The notes of a room, in the order in which they were taken; none where the room isn't there.
     fn walk_audit<S: Sink<LockNote>>(&mut self, room: RoomNo, sink: &mut S) -> Result<(), WalkFault>
-        ensures { WalksOver Self.Issued false S.after S.after_stop (audit_on (Self.rows self.old) room) self.old self.new sink.old sink.new result };
+        ensures { WalksOver Self.Issued false S.after S.after_stop (notes_at (Self.rows self.old).notes room) self.old self.new sink.old sink.new result };
 }

@@ -6,7 +6,7 @@ ghost use Rattle.keycard_rules.specs.declared.note.Act.TheVariants as act;
 ghost use Rattle.hotel_model.specs.{Refinement.Answered.IsOutcome, Refinement.Lookups.inside_at};
 ghost use Rattle.hotel_core.specs.{Refinement.Finds.Finds, Refinement.Finds.AnyRows, Refinement.Finds.reply_of};
 ghost use Rattle.hotel_model.specs.{Guests.are_none, declared.reply.Refusal.TheVariants.Store};
-ghost use Rattle.hotel_model.specs.{Refinement.NotesOnRows.IsUntaken, Refinement.NotesOnRows.opened_on};
+ghost use Rattle.hotel_model.specs.{Refinement.NotesOnRows.IsUntaken, Refinement.OnRows.opened_on};
 ghost use Rattle.hotel_model.specs.{Refinement.NotesOnRows.secured_by, Refinement.ChangeOf.comes};
 ghost use Rattle.hotel_model.specs.{Refinement.OnRows.told_on, Refinement.OnRows.has_link_on, Words.is_one_of};
 ghost use Rattle.hotel_core.specs.Refinement.StepOnRows.{StepsAs};

@@ -3,9 +3,9 @@ ghost use Rattle.std.specs.Prelude.{◌≡◌, ◌<◌, ◌-◌, ◌^◌, false,
 ghost use Rattle.keycard_rules.specs.Draw.{words};
 ghost use Rattle.hotel_model.specs.Refinement.Answered.{IsOutcome};
 ghost use Rattle.hotel_core.specs.{Refinement.Finds.Finds, Refinement.Finds.reply_of, Refinement.StepOnRows.StepsAs};
-ghost use Rattle.hotel_model.specs.Refinement.CardsOnRows.{issued_on, HasCurrent, HasLink, last_link_on};
+ghost use Rattle.hotel_model.specs.Refinement.CardsOnRows.{issued_on, HasCurrent, HasLink};
 ghost use Rattle.hotel_model.specs.{Refinement.Lookups.room_at, Refinement.Lookups.code_at};
-ghost use Rattle.hotel_model.specs.{declared.reply.Refusal.TheVariants.Store};
+ghost use Rattle.hotel_model.specs.{Refinement.OnRows.last_link_on, declared.reply.Refusal.TheVariants.Store};
 
 use crate::books::Books;
 use crate::commands::changes::make;

@@ -1,6 +1,6 @@
 //! Changes of rows that are there: they take no memory.
 ghost use Rattle.std.specs.Prelude.{◌≡◌, ℕ, ◌+◌, ◌-◌, ◌^◌, ◌<◌, Some, None, false};
-ghost use Rattle.hotel_model.specs.{Words.said_of, Rows.at_number, Refinement.Change.room_changed};
+ghost use Rattle.hotel_model.specs.{Rows.column_at, Refinement.Change.room_changed};
 ghost use Rattle.hotel_model.specs.{Refinement.Change.without_party, Refinement.Change.freed_by, Stays.in_state};
 
 use hotel_model::RoomRow;
@@ -10,7 +10,7 @@ use std::collections::BTreeMap;
 
 /// How many codes were issued at a room; 0 where it isn't there.
 pub(crate) fn codes_issued(rooms: &BTreeMap<RoomNo, RoomRow>, room: RoomNo) -> u32
-    ensures { result ≡ said_of (at_number rooms.now.entries room) 0 (λ row. row.codes) }
+    ensures { result ≡ column_at rooms.now.entries room (λ row. row.codes) }
 {
     match rooms.get(&room) {
         Some(row) => row.codes,
@@ -20,7 +20,7 @@ pub(crate) fn codes_issued(rooms: &BTreeMap<RoomNo, RoomRow>, room: RoomNo) -> u
 
 /// How many notes a room has; 0 where it isn't there.
 pub(crate) fn notes_taken(rooms: &BTreeMap<RoomNo, RoomRow>, room: RoomNo) -> u32
-    ensures { result ≡ said_of (at_number rooms.now.entries room) 0 (λ row. row.notes) }
+    ensures { result ≡ column_at rooms.now.entries room (λ row. row.notes) }
 {
     match rooms.get(&room) {
         Some(row) => row.notes,
@@ -30,7 +30,7 @@ pub(crate) fn notes_taken(rooms: &BTreeMap<RoomNo, RoomRow>, room: RoomNo) -> u3
 
 /// How many notes of a room were taken before its present lock; 0 where it isn't there.
 pub(crate) fn notes_before(rooms: &BTreeMap<RoomNo, RoomRow>, room: RoomNo) -> u32
-    ensures { result ≡ said_of (at_number rooms.now.entries room) 0 (λ row. row.before) }
+    ensures { result ≡ column_at rooms.now.entries room (λ row. row.before) }
 {
     match rooms.get(&room) {
         Some(row) => row.before,
@@ -40,7 +40,7 @@ pub(crate) fn notes_before(rooms: &BTreeMap<RoomNo, RoomRow>, room: RoomNo) -> u
 
 /// The room has a new lock, which holds a new code.
 pub(crate) fn refit_at(rooms: &mut BTreeMap<RoomNo, RoomRow>, room: RoomNo, fit: FitNo)
-    requires { said_of (at_number rooms.old.entries room) 0 (λ row. row.codes) < 2 ^ 32 - 1 }
+    requires { column_at rooms.old.entries room (λ row. row.codes) < 2 ^ 32 - 1 }
     ensures { rooms.new.entries ≡ room_changed room (λ row. record row { lock_place = row.codes; codes = row.codes + 1; secured = false; fit = fit; before = row.notes }) rooms.old.entries }
 {
     if let Some(row) = rooms.get_mut(&room) {
@@ -57,7 +57,7 @@ pub(crate) fn refit_at(rooms: &mut BTreeMap<RoomNo, RoomRow>, room: RoomNo, fit:
 
 /// One more code was issued at the room, to the party that is registered there from now on.
 pub(crate) fn issue_at(rooms: &mut BTreeMap<RoomNo, RoomRow>, room: RoomNo, party: PartyNo)
-    requires { said_of (at_number rooms.old.entries room) 0 (λ row. row.codes) < 2 ^ 32 - 1 }
+    requires { column_at rooms.old.entries room (λ row. row.codes) < 2 ^ 32 - 1 }
     ensures { rooms.new.entries ≡ room_changed room (λ row. record row { codes = row.codes + 1; secured = false; party = Some party }) rooms.old.entries }
 {
     if let Some(row) = rooms.get_mut(&room) {
@@ -93,7 +93,7 @@ pub(crate) fn note_at(
     secured: bool,
     count: u32,
 )
-    requires { said_of (at_number rooms.old.entries room) 0 (λ row. row.before) + count < 2 ^ 32 }
+    requires { column_at rooms.old.entries room (λ row. row.before) + count < 2 ^ 32 }
     ensures { rooms.new.entries ≡ room_changed room (λ row. record row { lock_place = lock_place; secured = secured; notes = row.before + count }) rooms.old.entries }
 {
     if let Some(row) = rooms.get_mut(&room) {

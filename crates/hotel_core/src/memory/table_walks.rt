@@ -1,9 +1,10 @@
 //! Walks over the tables in memory.
 ghost use Rattle.std.specs.Prelude.{◌≡◌, IfOk, Err, None, filter_map};
 ghost use Rattle.std.specs.List.{range_with_len};
-ghost use Rattle.hotel_model.specs.Refinement.ListsOnRows.{arrivals_on, arrives_on, in_house_on, chain_on};
-ghost use Rattle.hotel_model.specs.Refinement.ListsOnRows.{left_behind_on, audit_on, house_row_on, chain_row_on};
+ghost use Rattle.hotel_model.specs.Refinement.ListsOnRows.{arrivals_on, in_house_on, chain_on};
+ghost use Rattle.hotel_model.specs.Refinement.ListsOnRows.{left_behind_on, house_row_on, chain_row_on};
 ghost use Rattle.hotel_model.specs.Refinement.ListsOnRows.{behind_row_on};
+ghost use Rattle.hotel_model.specs.{Lists.arrives_on, Rows.notes_at};
 ghost use Rattle.hotel_core.specs.{Books.Walks.Hands, Books.Walks.failure_of};
 ghost use Rattle.hotel_core.specs.{declared.books.walks.WalkFault.TheVariants.Store};
 
@@ -141,7 +142,7 @@ impl Tables {
         room: RoomNo,
         sink: &mut S,
     ) -> Result<(), WalkFault>
-        ensures hands { Hands S.after S.after_stop (audit_on self.now room) sink.old sink.new result }
+        ensures hands { Hands S.after S.after_stop (notes_at self.now.notes room) sink.old sink.new result }
         ensures sure { failure_of result ≡ None }
     {
         self.notes.walk(room, sink)

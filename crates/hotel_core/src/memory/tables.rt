@@ -3,9 +3,9 @@ ghost use Rattle.std.specs.Prelude.{◌≡◌, ◌-◌, ℕ, ◌^◌, ◌<◌, l
 ghost use Rattle.std.specs.Map.{keys_of};
 ghost use Rattle.keycard_rules.specs.Words.{is_one_of};
 ghost use Rattle.hotel_model.specs.{Guests.are_none, Rows.Rows, Rows.no_rows, Rows.at_number, Rows.has_kind};
-ghost use Rattle.hotel_model.specs.{Rows.fit_at};
+ghost use Rattle.hotel_model.specs.{Rows.fit_at, Rows.rooms_of_kind};
 ghost use Rattle.hotel_model.specs.Refinement.Lookups.{room_at, codes_in, code_place, code_at, stay_at, stays_of_kind};
-ghost use Rattle.hotel_model.specs.Refinement.Lookups.{card_at, inside_at, note_at, rooms_of_kind, first_full_on};
+ghost use Rattle.hotel_model.specs.Refinement.Lookups.{card_at, inside_at, note_at, first_full_on};
 ghost use Rattle.hotel_model.specs.Refinement.Lookups.{number_after};
 
 use crate::kind_rooms::KindRooms;
@@ -189,7 +189,7 @@ impl Tables {
     }
 
     pub(crate) fn rooms_of_kind(&self, kind: &KindCode) -> u32
-        ensures { result ≡ rooms_of_kind self.now kind.now }
+        ensures { result ≡ rooms_of_kind self.now.rooms kind.now }
     {
         self.kinds.rooms(kind)
     }

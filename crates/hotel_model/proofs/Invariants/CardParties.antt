@@ -3,7 +3,7 @@ use Rattle.std.proofs.Common.{ℕ, ◌≡◌, Bool, true, false, Option, Some, N
 use Rattle.std.proofs.Common.{refl, ap, sym, ◌∙◌, subst, append_assoc, ◌==◌, nat_cmp, is_some}
 use Rattle.hotel_model.proofs.Names.{insert_entry, Card, Link, CodeRow, when, is_that, at_number, Issue, Refitted}
 use Rattle.hotel_model.proofs.Names.{is_taken, Spare, CheckOut, History, start, ◌▷◌, is_fresh, cards, card_of}
-use Rattle.hotel_model.proofs.Names.{with_spare, link_of_party, link_to, newest_link, registered, leaves, next_card}
+use Rattle.hotel_model.proofs.Names.{with_spare, link_of_party, link_to, newest_link, registered, other_than, next_card}
 use Rattle.hotel_model.proofs.Names.{Reached}
 use Rattle.hotel_model.proofs.Facts.CodeFacts.{IsLink, HasCard, PartiesHaveCards, CardsOneParty, GuestsHaveCards}
 use Rattle.hotel_model.proofs.{OfTables.Tests.eq_from, OfTables.Tests.not_both, OfTables.TableKeys.row_inserted}
@@ -132,7 +132,7 @@ not_taken_here h room r p f e = by (room == r) refl
 pub guests_have_cards : (h : History) → Reached h → GuestsHaveCards h
 guests_have_cards (start t) ok r p e = guests_have_cards_at_start t ok r p e
 guests_have_cards (h ▷ Issue party room number code) ok r p e =
-    came_by (room == r) h party room number code r p (leaves party (registered h r)) ok.0 (eq_from room r) (may_follow h (Issue party room number code) ok).5
+    came_by (room == r) h party room number code r p (other_than party (registered h r)) ok.0 (eq_from room r) (may_follow h (Issue party room number code) ok).5
     (λ n. guests_have_cards h ok.0 r p (stayed (is_that (registered h r) party) party p (registered h r) n)) e
 guests_have_cards (h ▷ CheckOut party) ok r p e = guests_have_cards h ok.0 r p (stayed (is_that (registered h r) party) party p (registered h r) e)
 guests_have_cards (h ▷ Refitted room fit code) ok r p e =

@@ -2,7 +2,7 @@
 -- given.
 use Rattle.std.proofs.Common.{ℕ, ◌≡◌, Bool, true, false, Option, Some, None, List, refl, ap, sym, ◌∙◌, subst, ◌==◌, inl}
 use Rattle.std.proofs.Common.{inr}
-use Rattle.hotel_model.proofs.Names.{when, Event, Install, Issue, CheckOut, History, start, ◌▷◌, registered, leaves}
+use Rattle.hotel_model.proofs.Names.{when, Event, Install, Issue, CheckOut, History, start, ◌▷◌, registered, other_than}
 use Rattle.hotel_model.proofs.Names.{rooms, room_of, Reached, is_room}
 use Rattle.hotel_model.proofs.{OfTables.Numbered.true_is_not_false, OfTables.Numbered.apart_by}
 use Rattle.hotel_model.proofs.{OfTables.Grown.may_follow, OfTables.Tests.or_false, OfTables.TableKeys.key_inserted}
@@ -45,9 +45,9 @@ pub nobody_registered : (h : History) → Reached h → (r : ℕ) → is_room h 
 nobody_registered (start t) ok r e = nobody_at_start t r e
 nobody_registered (h ▷ Install room kind code) ok r e = nobody_registered h ok.0 r (not_added h room r code kind e).1
 nobody_registered (h ▷ Issue party room number code) ok r e =
-    ap (λ b. when b (λ _. Some party) (leaves party (registered h r))) (apart_rooms h room r (comes_by h party room (homes_match h ok.0) (nobody_registered h ok.0) (may_follow h (Issue party room number code) ok).0) e)
-    ∙ ap (leaves party) (nobody_registered h ok.0 r e)
-nobody_registered (h ▷ CheckOut party) ok r e = ap (leaves party) (nobody_registered h ok.0 r e)
+    ap (λ b. when b (λ _. Some party) (other_than party (registered h r))) (apart_rooms h room r (comes_by h party room (homes_match h ok.0) (nobody_registered h ok.0) (may_follow h (Issue party room number code) ok).0) e)
+    ∙ ap (other_than party) (nobody_registered h ok.0 r e)
+nobody_registered (h ▷ CheckOut party) ok r e = ap (other_than party) (nobody_registered h ok.0 r e)
 nobody_registered (h ▷ _) ok r e = nobody_registered h ok.0 r e
 
 -- The room of a party in house is there.

@@ -2,7 +2,7 @@
 use Rattle.std.proofs.Common.{ℕ, ◌≡◌, Bool, true, false, cond, Option, Some, None, refl, ap, sym, ◌∙◌, subst, ◌==◌}
 use Rattle.std.proofs.Common.{is_some, inl, inr}
 use Rattle.hotel_model.proofs.Names.{at_number, Reserved, Cancelled, Issue, CheckOut, History, start, ◌▷◌, registered}
-use Rattle.hotel_model.proofs.Names.{leaves, is_taken, stays, room_of, is_party, is_booked, Reached}
+use Rattle.hotel_model.proofs.Names.{other_than, is_taken, stays, room_of, is_party, is_booked, Reached}
 use Rattle.hotel_nights.specs.declared.stay.StayState.TheVariants as state
 use Rattle.hotel_model.proofs.{OfTables.Numbered.is_there, Invariants.Numbering.next_party_free}
 use Rattle.hotel_model.proofs.OfTables.StayStates.{home_of, home_changed, home_added, booked_has_no_home}
@@ -31,9 +31,9 @@ abbrev pub HomesMatch : History → Type 0
 HomesMatch h = Match (registered h) (room_of h)
 
 -- nobody but the party is registered at a room to which it comes
-nobody_else : (h : History) (party room : ℕ) → HomesMatch h → OrAtHome h party room (is_taken h room ≡ false) → leaves party (registered h room) ≡ None
-nobody_else h party room m (inl free) = ap (leaves party) (none_is (registered h room) free)
-nobody_else h party room m (inr home) = ap (leaves party) (m.back room party home) ∙ itself_leaves party
+nobody_else : (h : History) (party room : ℕ) → HomesMatch h → OrAtHome h party room (is_taken h room ≡ false) → other_than party (registered h room) ≡ None
+nobody_else h party room m (inl free) = ap (other_than party) (none_is (registered h room) free)
+nobody_else h party room m (inr home) = ap (other_than party) (m.back room party home) ∙ itself_leaves party
 
 -- A party is registered at a room exactly where it is in house there.
 pub homes_match : (h : History) → Reached h → HomesMatch h

@@ -16,7 +16,7 @@ rooms_by_kind h kind (e ∷ es) =
     ∙ sym (count_more (λ k. bytes_eq k kind) e.1 (values_of es))
 
 -- The rows have as many rooms of a kind as there are.
-pub rooms_counted : (h : History) (kind : List ℕ) → rooms_of_kind (rows_of h) kind ≡ rooms_of h kind
+pub rooms_counted : (h : History) (kind : List ℕ) → rooms_of_kind (rows_of h).rooms kind ≡ rooms_of h kind
 rooms_counted h kind = rooms_by_kind h kind (rooms h)
 
 -- The first full night of the rows is the history's.

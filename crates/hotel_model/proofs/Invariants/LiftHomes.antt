@@ -2,8 +2,8 @@
 use Rattle.std.proofs.Common.{ℕ, ◌≡◌, ◌-◌, Bool, true, false, Option, Some, None, refl, ap, sym, ◌∙◌, length, ◌==◌}
 use Rattle.std.proofs.Common.{is_some}
 use Rattle.hotel_model.proofs.Names.{Link, when, said_of, Issue, Refitted, CheckOut, History, start, ◌▷◌, link_to}
-use Rattle.hotel_model.proofs.Names.{newest_link, link_of_party, registered, leaves, issued, rows_of, room_of, no_link}
-use Rattle.hotel_model.proofs.Names.{codes_of, said_code_at, home_link_on, Reached}
+use Rattle.hotel_model.proofs.Names.{newest_link, link_of_party, registered, other_than, issued, rows_of, room_of}
+use Rattle.hotel_model.proofs.Names.{no_link, codes_of, said_code_at, home_link_on, last_link_on, Reached}
 use Rattle.hotel_model.proofs.{OfTables.Tests.eq_self, OfTables.Grown.may_follow, Invariants.CardParties.not_taken_here}
 use Rattle.hotel_model.proofs.{Invariants.Homes.stays_on}
 use Rattle.hotel_model.proofs.{Invariants.InHouse.registered_in_house, Invariants.InHouseLinks.in_house_has_link}
@@ -32,7 +32,7 @@ came_with_link false party p r link before newest of_party e others =
 pub has_newest : (h : History) → Reached h → HasNewest h
 has_newest (start t) ok r p e = has_newest_at_start t ok r p e
 has_newest (h ▷ Issue party room number code) ok r p e =
-    came_with_link (room == r) party p r (link_to h room code) (leaves party (registered h r)) (newest_link h r) (link_of_party h p) e
+    came_with_link (room == r) party p r (link_to h room code) (other_than party (registered h r)) (newest_link h r) (link_of_party h p) e
     (λ was. let s = stays_on party (registered h r) p was in (s.1, has_newest h ok.0 r p s.0))
 has_newest (h ▷ CheckOut party) ok r p e = has_newest h ok.0 r p (stays_on party (registered h r) p e).0
 has_newest (h ▷ Refitted room fit code) ok r p e =
@@ -56,7 +56,7 @@ home_link_found h ok party room e =
     let codes = newest_found h ok room l.0 l.2 in
     let n : codes_of (rows_of h) room ≡ length (issued h room) = codes_said h room (there_by_link h ok room l.0 l.2) in
     let here : home_link_on (rows_of h) party ≡ record { old_code = said_code_at (rows_of h) room (length (issued h room) - 2); new_code = said_code_at (rows_of h) room (length (issued h room) - 1) } =
-    ap (λ o. said_of o no_link (λ r. record { old_code = said_code_at (rows_of h) r (codes_of (rows_of h) r - 2); new_code = said_code_at (rows_of h) r (codes_of (rows_of h) r - 1) })) e
+    ap (λ o. said_of o no_link (last_link_on (rows_of h))) e
     ∙ ap (λ m. let x : Link = record { old_code = said_code_at (rows_of h) room (m - 2); new_code = said_code_at (rows_of h) room (m - 1) } in x) n in
     l.1 ∙ ap (λ z. Some z) (sym (here
     ∙ ap (λ o. let x : Link = record { old_code = said_of o 0 (λ c. c); new_code = said_code_at (rows_of h) room (length (issued h room) - 1) } in x) codes.0

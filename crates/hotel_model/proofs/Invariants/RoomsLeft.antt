@@ -4,7 +4,7 @@ use Rattle.std.proofs.Common.{subst, arith, ◌&&◌, nat_le, nat_lt, bytes_eq, 
 use Rattle.hotel_model.proofs.Names.{values_of, bytes_eq-Decides, Stay, takes, is_standing, is_full, nights_taken}
 use Rattle.hotel_model.proofs.Names.{said_of, at_number, Install, Reserved, Cancelled, Issue, CheckOut, History, start}
 use Rattle.hotel_model.proofs.Names.{◌▷◌, stays, rooms, rooms_of, nights, now_is, first_full, Reached, rows_of}
-use Rattle.hotel_model.proofs.Names.{stays_on, rooms_with}
+use Rattle.hotel_model.proofs.Names.{rooms_of_kind}
 use Rattle.std.proofs.lemmas.Bool.{leb-false}
 use Rattle.hotel_nights.specs.declared.stay.StayState.TheVariants as state
 use Rattle.hotel_model.proofs.{OfTables.Tests.and_true, OfTables.Tests.not_both, OfTables.TableKeys.no_key}
@@ -56,6 +56,7 @@ more_rooms true taken rooms_there rooms_now e le = omega arith
 more_rooms false taken rooms_there rooms_now e le = omega arith
 
 pub rooms_suffice : (h : History) → Reached h → RoomsSuffice h
+unfolding nights_taken
 rooms_suffice (start t) ok kind d = subst (λ n. count_by (takes kind d) (values_of t.stays) ≤ n) (rooms_of_start t kind) (ok.stay_nights kind d)
 rooms_suffice (h ▷ Install room k code) ok kind d =
     more_rooms (bytes_eq k kind) _ (rooms_of h kind) _ (count_inserted (λ x. bytes_eq x kind) (rooms h) room k (no_key (rooms h) room (may_follow h (Install room k code) ok).1)) (rooms_suffice h ok.0 kind d)
@@ -80,5 +81,5 @@ unfolding nights_taken
 none_oversold h ok kind d = rooms_suffice h ok kind d
 
 -- and of the rows
-pub rows_not_oversold : (h : History) → Reached h → (kind : List ℕ) (d : ℕ) → stays_on (rows_of h) kind d ≤ rooms_with (rows_of h) kind
-rows_not_oversold h ok kind d = subst (λ n. stays_on (rows_of h) kind d ≤ n) (sym (rooms_counted h kind)) (rooms_suffice h ok kind d)
+pub rows_not_oversold : (h : History) → Reached h → (kind : List ℕ) (d : ℕ) → nights h kind d ≤ rooms_of_kind (rows_of h).rooms kind
+rows_not_oversold h ok kind d = subst (λ n. nights h kind d ≤ n) (sym (rooms_counted h kind)) (none_oversold h ok kind d)

@@ -7,7 +7,7 @@ use Rattle.hotel_model.proofs.Names.{History, ◌▷◌, current, cards, held, a
 use Rattle.hotel_model.proofs.Names.{Conflicting, Next, After, notes, notes_of, notes_before, present_fit, same_note}
 use Rattle.hotel_model.proofs.Names.{rows_of, is_room, is_card, has_link, opens, card_at, note_at, inside_at, needs}
 use Rattle.hotel_model.proofs.Names.{accepted, said, refused, told, reported, moment_of, comes, told_on, untaken_on}
-use Rattle.hotel_model.proofs.Names.{reported_on, held_on, said_code_at, place_on, lock_place_on, secured_on}
+use Rattle.hotel_model.proofs.Names.{reported_on, held_on, said_code_at, place_on, lock_place_of, secured_on}
 use Rattle.hotel_model.proofs.Names.{secured_after_on, is_awaited_on, has_link_on, Reached, Lifts, as_change}
 use Rattle.keycard_rules.specs.declared.note.Act.TheVariants as act
 use Rattle.hotel_model.specs.{declared.change.InsideMove.InsideMove, declared.change.InsideMove.TheVariants.Same}
@@ -86,7 +86,7 @@ told_lifts h note (act.Left number link) found r =
     same_unless
     (needs (is_some (card_at rows number)) NoCard ∷ needs (has_link_on rows number link) CardDiffers ∷ needs (is_one_of number (inside_at rows note.room)) NotInside ∷ [])
     (needs (is_card h number) NoCard ∷ needs (has_link h number link) CardDiffers ∷ needs (is_one_of number (inside h note.room)) NotInside ∷ [])
-    (accepted reply.Taken (change.Noted n (lock_place_on rows note.room) (secured_on rows note.room) (Goes number)))
+    (accepted reply.Taken (change.Noted n (lock_place_of rows note.room) (secured_on rows note.room) (Goes number)))
     (as_change h (accepted reply.Taken e)) (
       ap (λ b. needs b NoCard) (is_there (cards h) number),
       λ _. (refl, λ _. (refl, λ _. taken_alike n _ _ _ _ (Goes number) (place_said h note.room r) (secured_said h note.room r))),

@@ -3,7 +3,7 @@ use Rattle.std.proofs.Common.{ℕ, ◌≡◌, ◌+◌, ◌-◌, Bool, true, fals
 use Rattle.std.proofs.Common.{arith, length, option_map, is_none, is_some, nat_lt, nat_le, bytes_eq}
 use Rattle.hotel_model.proofs.Names.{nat_tests, Stay, said_of, is_that, at_number, History, issued, link_to, passed}
 use Rattle.hotel_model.proofs.Names.{secured, stays, rooms, room_row, rows_of, is_room, is_of_kind, is_taken, is_home}
-use Rattle.hotel_model.proofs.Names.{number_after, codes_of, room_is_on, kinds_agree_on, lock_place_on, secured_on}
+use Rattle.hotel_model.proofs.Names.{number_after, codes_of, room_is, kinds_agree_on, lock_place_of, secured_on}
 use Rattle.hotel_model.proofs.Names.{present_fit, present_fit_on, said_code_at, link_on}
 use Rattle.hotel_model.proofs.{OfTables.RoomNumbers.room_found, OfTables.RoomNumbers.room_there}
 use Rattle.hotel_model.proofs.{Lifted.LiftFacts.CurrentFound}
@@ -21,7 +21,7 @@ pub codes_said : (h : History) (room : ℕ) → is_room h room ≡ true → code
 codes_said h room e = ap (λ o. said_of o 0 (λ row. row.codes)) (room_there h room e).2
 
 -- at which place the row of a room says that the lock stands
-pub place_said : (h : History) (room : ℕ) → is_room h room ≡ true → lock_place_on (rows_of h) room ≡ length (passed h room)
+pub place_said : (h : History) (room : ℕ) → is_room h room ≡ true → lock_place_of (rows_of h) room ≡ length (passed h room)
 place_said h room e = ap (λ o. said_of o 0 (λ row. row.lock_place)) (room_there h room e).2
 
 pub fit_said : (h : History) (room : ℕ) → is_room h room ≡ true → present_fit_on (rows_of h) room ≡ present_fit h room
@@ -30,10 +30,10 @@ fit_said h room e = ap (λ o. said_of o 0 (λ row. row.fit)) (room_there h room 
 pub secured_said : (h : History) (room : ℕ) → is_room h room ≡ true → secured_on (rows_of h) room ≡ secured h room
 secured_said h room e = ap (λ o. said_of o false (λ row. row.secured)) (room_there h room e).2
 
-pub taken_said : (h : History) (room : ℕ) → is_room h room ≡ true → room_is_on (rows_of h) room (λ row. is_some row.party) ≡ is_taken h room
+pub taken_said : (h : History) (room : ℕ) → is_room h room ≡ true → room_is (rows_of h) room (λ row. is_some row.party) ≡ is_taken h room
 taken_said h room e = ap (λ o. said_of o false (λ row. is_some row.party)) (room_there h room e).2
 
-pub home_said : (h : History) (room party : ℕ) → is_room h room ≡ true → room_is_on (rows_of h) room (λ row. is_that row.party party) ≡ is_home h room party
+pub home_said : (h : History) (room party : ℕ) → is_room h room ≡ true → room_is (rows_of h) room (λ row. is_that row.party party) ≡ is_home h room party
 home_said h room party e = ap (λ o. said_of o false (λ row. is_that row.party party)) (room_there h room e).2
 
 kind_by : (h : History) (room : ℕ) (o : Option (List ℕ)) (s : Option Stay) → said_of s false (λ stay. said_of (option_map (λ kind. room_row h room kind) o) false (λ row. bytes_eq row.kind stay.kind))

@@ -2,7 +2,7 @@
 use Rattle.std.proofs.Common.{ℕ, ◌≡◌, true, false, Option, Some, None, List, refl, ap, sym, ◌∙◌, length, ◌==◌, is_some}
 use Rattle.std.proofs.Common.{nat_cmp}
 use Rattle.hotel_model.proofs.Names.{insert_entry, RoomRow, when, and_last, said_of, Issue, CheckOut, History, ◌▷◌}
-use Rattle.hotel_model.proofs.Names.{issued, all_issued, registered, secured, leaves, rooms, room_row, rows_of, is_room}
+use Rattle.hotel_model.proofs.Names.{issued, all_issued, registered, secured, rooms, room_row, rows_of, is_room}
 use Rattle.hotel_model.proofs.Names.{is_in_house, room_of, Reached, room_changed, without_party, freed_by, other_than}
 use Rattle.hotel_model.proofs.{Facts.Follow.FollowsBy, RowsAfter.RowsRooms.rows_by, RowsAfter.RowsRooms.one_changed}
 use Rattle.hotel_model.proofs.{RowsAfter.RowsRooms.length_more}
@@ -25,7 +25,7 @@ two_homes e f = cc
 
 -- a room's row without a party that leaves
 abbrev pub row_without : History → ℕ → ℕ → List ℕ → RoomRow
-row_without h party r kind = record (room_row h r kind) { party = leaves party (registered h r) }
+row_without h party r kind = record (room_row h r kind) { party = other_than party (registered h r) }
 
 -- The rows of rooms without a party that leaves its room.
 pub left_room : (h : History) (party home : ℕ) → Reached h → room_of h party ≡ Some home → rows_by (row_without h party) (rooms h) ≡ without_party home (rows_of h).rooms
@@ -34,7 +34,7 @@ left_room h party home ok e =
     one_changed (row_without h party) (room_row h) (λ row. record row { party = None }) home
     (λ r k t. ap (λ p. record (room_row h r k) { party = p })
     (not_leaving party (registered h r) (λ s. true_is_not_false (ap (λ z. home == z) (sym (two_homes e (m.forth r party s))) ∙ eq_self home) t)))
-    (λ k. ap (λ p. record (room_row h home k) { party = p }) (ap (leaves party) (m.back home party e) ∙ itself_leaves party))
+    (λ k. ap (λ p. record (room_row h home k) { party = p }) (ap (other_than party) (m.back home party e) ∙ itself_leaves party))
     (rooms h) (rooms_once h ok)
 
 -- a party leaves for good
@@ -50,7 +50,7 @@ row_came h party room number code k =
     ap (λ b. record (room_row h room k) {
       codes = length (when b (and_last code) (issued h room));
       secured = when b (λ _. false) (secured h room);
-      party = when b (λ _. Some party) (leaves party (registered h room));
+      party = when b (λ _. Some party) (other_than party (registered h room));
     }) (eq_self room) ∙ ap (λ n. record (room_row h room k) { codes = n; secured = false; party = Some party }) (length_more (issued h room) code)
 
 -- and that of another one
@@ -59,11 +59,11 @@ row_left h party room number code r k t =
     ap (λ b. record (room_row h r k) {
       codes = length (when b (and_last code) (issued h r));
       secured = when b (λ _. false) (secured h r);
-      party = when b (λ _. Some party) (leaves party (registered h r));
+      party = when b (λ _. Some party) (other_than party (registered h r));
     }) t
 
 not_other : (room r : ℕ) (o : Option ℕ) → o ≡ Some r → other_than room o ≡ None → (room == r) ≡ false → ⊥
-not_other room r o e n t = let w : ◌≡◌ {A = Option ℕ} (Some r) None = sym (others_stay room r t) ∙ ap (leaves room) (sym e) ∙ n in cc
+not_other room r o e n t = let w : ◌≡◌ {A = Option ℕ} (Some r) None = sym (others_stay room r t) ∙ ap (other_than room) (sym e) ∙ n in cc
 
 -- the rows of rooms after a party came to one, by the room that it left
 rooms_by : (o : Option ℕ) (h : History) (party room number code : ℕ) → Reached h → other_than room (room_of h party) ≡ o

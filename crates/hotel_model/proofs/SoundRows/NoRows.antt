@@ -1,9 +1,11 @@
 -- The rows of an empty desk are sound.
 use Rattle.std.proofs.Common.{refl, arith}
+use Rattle.hotel_nights.specs.FullNight.{nights_taken}
 use Rattle.hotel_model.specs.Rows.{no_rows}
 use Rattle.hotel_model.specs.Sound.{IsSound}
 
 pub none_sound : IsSound no_rows
+unfolding nights_taken
 none_sound = record {
   keys = refl;
   meta_day = refl;

@@ -5,23 +5,34 @@ use Rattle.hotel_model.proofs.Names.{list_any, list_all, values_of, nat_tests, b
 use Rattle.hotel_model.proofs.Names.{is_standing, Rows, day_in_range, day_before_kinds, kinds_read, room_numbers}
 use Rattle.hotel_model.proofs.Names.{lock_places, room_kinds_there, codes_few, note_counts, parties_in_house}
 use Rattle.hotel_model.proofs.Names.{secured_hold_last, stay_numbers, guests_read, stay_kinds_there, stay_days}
-use Rattle.hotel_model.proofs.Names.{stay_rooms, nights_fit, stays_on, rooms_with, codes_in_range, code_rooms_there}
-use Rattle.hotel_model.proofs.Names.{places_once, card_numbers, card_parties_there, links_are_neighbours}
+use Rattle.hotel_model.proofs.Names.{stay_rooms, nights_fit, nights_taken, rooms_of_kind, codes_in_range}
+use Rattle.hotel_model.proofs.Names.{code_rooms_there, places_once, card_numbers, card_parties_there}
+use Rattle.hotel_model.proofs.Names.{links_are_neighbours}
 use Rattle.hotel_model.proofs.Names.{links_of_one_party, neighbours_are_links, newest_of_party, last_cards_newest}
 use Rattle.hotel_model.proofs.Names.{insides_fit, notes_counted, notes_fit, IsSound, passes_rules, fits_without_links}
 use Rattle.hotel_model.proofs.Names.{notes_of_fits, fit_rooms_there, fit_numbers, first_fits, fit_places_rise}
 use Rattle.hotel_model.proofs.Names.{fit_notes_rise, last_fits_held, last_fits_noted, fit_notes_few, rows_of_last_fits}
 use Rattle.hotel_nights.specs.FullNight.{is_of_kind}
-use Rattle.hotel_model.proofs.{OfTables.Tests.eq_from, OfTables.Tests.and_true, OfTables.Tests.or_false}
+use Rattle.hotel_model.proofs.{OfTables.Tests.eq_from, OfTables.Tests.le_from, OfTables.Tests.and_true}
+use Rattle.hotel_model.proofs.{OfTables.Tests.or_false}
 use Rattle.hotel_model.proofs.{OfTables.Tests.not_both, Invariants.KindCounts.count_more}
 use Rattle.hotel_model.proofs.{OfTables.RowTests.both, OfTables.Tests.le_tested}
 
+-- on a night, a kind isn't taken by more stays than it has rooms
+abbrev NightFits : Rows → List ℕ → ℕ → Type 0
+NightFits rows kind d = nights_taken (values_of rows.stays) kind d ≤ rooms_of_kind rows.rooms kind
+
+-- the same of the first night of a stay
+abbrev first_night_fits : Rows → ℕ × Stay → Bool
+first_night_fits rows e =
+    nat_le (nights_taken (values_of rows.stays) e.1.kind e.1.arrive) (rooms_of_kind rows.rooms e.1.kind)
+
 -- each first night of a stay fits, where all nights do
-begins_by : (rows : Rows) → ((kind : List ℕ) (d : ℕ) → stays_on rows kind d ≤ rooms_with rows kind) → (es : List (ℕ × Stay)) → list_all (λ (e : ℕ × Stay). nat_le (stays_on rows e.1.kind e.1.arrive) (rooms_with rows e.1.kind)) es ≡ true
+begins_by : (rows : Rows) → ((kind : List ℕ) (d : ℕ) → NightFits rows kind d) → (es : List (ℕ × Stay)) → list_all (first_night_fits rows) es ≡ true
 begins_by rows fit [] = refl
 begins_by rows fit (e ∷ es) = both _ _ (le_tested _ _ (fit e.1.kind e.1.arrive)) (begins_by rows fit es)
 
-begins_fit : (rows : Rows) → ((kind : List ℕ) (d : ℕ) → stays_on rows kind d ≤ rooms_with rows kind) → nights_fit rows ≡ true
+begins_fit : (rows : Rows) → ((kind : List ℕ) (d : ℕ) → NightFits rows kind d) → nights_fit rows ≡ true
 begins_fit rows fit = begins_by rows fit rows.stays
 
 -- the stay takes the night, and it is its first
@@ -29,22 +40,22 @@ abbrev begins : List ℕ → ℕ → ℕ × Stay → Bool
 begins kind d e = takes kind d e.1 && (e.1.arrive == d)
 
 -- where a stay begins on the night, the night fits
-begun_fits : (rows : Rows) (kind : List ℕ) (d : ℕ) (es : List (ℕ × Stay)) → list_all (λ (e : ℕ × Stay). nat_le (stays_on rows e.1.kind e.1.arrive) (rooms_with rows e.1.kind)) es ≡ true
-    → list_any (begins kind d) es ≡ true → stays_on rows kind d ≤ rooms_with rows kind
+begun_fits : (rows : Rows) (kind : List ℕ) (d : ℕ) (es : List (ℕ × Stay)) → list_all (first_night_fits rows) es ≡ true
+    → list_any (begins kind d) es ≡ true → NightFits rows kind d
 begun_fits rows kind d [] all any = not_both false any refl
 begun_fits rows kind d (e ∷ es) all any =
-    let p = and_true (nat_le (stays_on rows e.1.kind e.1.arrive) (rooms_with rows e.1.kind)) (list_all (λ (x : ℕ × Stay). nat_le (stays_on rows x.1.kind x.1.arrive) (rooms_with rows x.1.kind)) es) all in
+    let p = and_true (first_night_fits rows e) (list_all (first_night_fits rows) es) all in
     by (begins kind d e) refl any p.0 (begun_fits rows kind d es p.1)
   where
-    here : begins kind d e ≡ true → nat_le (stays_on rows e.1.kind e.1.arrive) (rooms_with rows e.1.kind) ≡ true → stays_on rows kind d ≤ rooms_with rows kind
+    here : begins kind d e ≡ true → first_night_fits rows e ≡ true → NightFits rows kind d
     here t le =
         let q = and_true (takes kind d e.1) (e.1.arrive == d) t in
         let k = and_true (is_standing e.1.state) (bytes_eq e.1.kind kind) (and_true (is_of_kind kind e.1) (nat_le e.1.arrive d && nat_lt d e.1.depart) q.0).0 in
-        let fits : stays_on rows e.1.kind e.1.arrive ≤ rooms_with rows e.1.kind = grind (arith, nat_tests) in
-        subst (λ z. stays_on rows kind z ≤ rooms_with rows kind) (eq_from e.1.arrive d q.1) (subst (λ z. stays_on rows z e.1.arrive ≤ rooms_with rows z) ((bytes_eq-Decides e.1.kind kind).0 k.1) fits)
+        let fits : NightFits rows e.1.kind e.1.arrive = le_from _ _ le in
+        subst (λ z. NightFits rows kind z) (eq_from e.1.arrive d q.1) (subst (λ z. NightFits rows z e.1.arrive) ((bytes_eq-Decides e.1.kind kind).0 k.1) fits)
 
-    by : (b : Bool) → begins kind d e ≡ b → (b || list_any (begins kind d) es) ≡ true → nat_le (stays_on rows e.1.kind e.1.arrive) (rooms_with rows e.1.kind) ≡ true
-        → (list_any (begins kind d) es ≡ true → stays_on rows kind d ≤ rooms_with rows kind) → stays_on rows kind d ≤ rooms_with rows kind
+    by : (b : Bool) → begins kind d e ≡ b → (b || list_any (begins kind d) es) ≡ true → first_night_fits rows e ≡ true
+        → (list_any (begins kind d) es ≡ true → NightFits rows kind d) → NightFits rows kind d
     by true t g le ih = here t le
     by false t g le ih = ih g
 
@@ -69,14 +80,15 @@ at_most false true f = omega arith
 at_most false false f = omega arith
 
 -- where no stay begins on the night, it is no fuller than the one before
-no_fuller : (kind : List ℕ) (d : ℕ) (es : List (ℕ × Stay)) → list_any (begins kind (suc d)) es ≡ false → count_by (takes kind (suc d)) (values_of es) ≤ count_by (takes kind d) (values_of es)
+no_fuller : (kind : List ℕ) (d : ℕ) (es : List (ℕ × Stay)) → list_any (begins kind (suc d)) es ≡ false → nights_taken (values_of es) kind (suc d) ≤ nights_taken (values_of es) kind d
+unfolding nights_taken
 no_fuller kind d [] none = omega arith
 no_fuller kind d (e ∷ es) none =
     let p = or_false (begins kind (suc d) e) (list_any (begins kind (suc d)) es) none in
     let now = count_more (takes kind (suc d)) e.1 (values_of es) in
     let was = count_more (takes kind d) e.1 (values_of es) in
     let one = at_most (takes kind (suc d) e.1) (takes kind d e.1) (took_before kind d e p.0) in
-    let rest = no_fuller kind d es p.1 in
+    let rest : count_by (takes kind (suc d)) (values_of es) ≤ count_by (takes kind d) (values_of es) = no_fuller kind d es p.1 in
     omega arith
 
 begins_at_zero : (kind : List ℕ) (e : ℕ × Stay) → takes kind 0 e.1 ≡ true → begins kind 0 e ≡ true
@@ -86,25 +98,26 @@ begins_at_zero kind e t =
     both _ _ t (grind (arith, nat_tests))
 
 -- where no stay begins on the first night of all, none takes it
-empty_first : (kind : List ℕ) (es : List (ℕ × Stay)) → list_any (begins kind 0) es ≡ false → count_by (takes kind 0) (values_of es) ≤ 0
+empty_first : (kind : List ℕ) (es : List (ℕ × Stay)) → list_any (begins kind 0) es ≡ false → nights_taken (values_of es) kind 0 ≤ 0
+unfolding nights_taken
 empty_first kind [] none = omega arith
 empty_first kind (e ∷ es) none =
     let p = or_false (begins kind 0 e) (list_any (begins kind 0) es) none in
     let now = count_more (takes kind 0) e.1 (values_of es) in
     let one : cond (takes kind 0 e.1) 1 0 ≤ 0 = at_most (takes kind 0 e.1) false (λ t. sym p.0 ∙ begins_at_zero kind e t) in
-    let rest = empty_first kind es p.1 in
+    let rest : count_by (takes kind 0) (values_of es) ≤ 0 = empty_first kind es p.1 in
     omega arith
 
 -- All nights fit, where each stay's first night does.
-all_nights_fit : (rows : Rows) → nights_fit rows ≡ true → (kind : List ℕ) (d : ℕ) → stays_on rows kind d ≤ rooms_with rows kind
+all_nights_fit : (rows : Rows) → nights_fit rows ≡ true → (kind : List ℕ) (d : ℕ) → NightFits rows kind d
 all_nights_fit rows all kind zero = by (list_any (begins kind 0) rows.stays) refl
   where
-    by : (b : Bool) → list_any (begins kind 0) rows.stays ≡ b → stays_on rows kind 0 ≤ rooms_with rows kind
+    by : (b : Bool) → list_any (begins kind 0) rows.stays ≡ b → NightFits rows kind 0
     by true t = begun_fits rows kind 0 rows.stays all t
     by false f = let none = empty_first kind rows.stays f in omega arith
 all_nights_fit rows all kind (suc d) = by (list_any (begins kind (suc d)) rows.stays) refl (all_nights_fit rows all kind d)
   where
-    by : (b : Bool) → list_any (begins kind (suc d)) rows.stays ≡ b → stays_on rows kind d ≤ rooms_with rows kind → stays_on rows kind (suc d) ≤ rooms_with rows kind
+    by : (b : Bool) → list_any (begins kind (suc d)) rows.stays ≡ b → NightFits rows kind d → NightFits rows kind (suc d)
     by true t ih = begun_fits rows kind (suc d) rows.stays all t
     by false f ih = let no_more = no_fuller kind d rows.stays f in omega arith
 

@@ -3,7 +3,7 @@ use Rattle.std.proofs.Common.{ℕ, ◌≡◌, ◌≤◌, ◌<◌, ◌+◌, Bool,
 use Rattle.std.proofs.Common.{take, refl, ap, sym, ◌∙◌, arith, ◌==◌, ◌&&◌, map, bytes_eq, nat_le, nat_cmp, is_eq}
 use Rattle.std.proofs.Common.{count_by}
 use Rattle.hotel_model.proofs.Names.{list_all, keys_of, values_of, RoomRow, said_of, Rows, at_number, codes_at}
-use Rattle.hotel_model.proofs.Names.{lock_place_of, notes_at, start, room_row, rows_of, rooms, rooms_of, rooms_with}
+use Rattle.hotel_model.proofs.Names.{lock_place_of, notes_at, start, room_row, rows_of, rooms, rooms_of, rooms_of_kind}
 use Rattle.hotel_model.proofs.Names.{IsSound}
 use Rattle.std.proofs.lemmas.List.{length-take-le}
 use Rattle.hotel_model.proofs.{Facts.Follow.ApartFrom, Facts.Follow.RoomsOnce, OfTables.KeysInOrder.AllAfter}
@@ -96,5 +96,5 @@ kinds_counted kind (e ∷ es) =
     ∙ sym (count_first (λ k. bytes_eq k kind) e.1.kind (values_of (with_kind es)))
 
 -- A start has as many rooms of a kind as its rows.
-pub rooms_of_start : (t : Rows) (kind : List ℕ) → rooms_with t kind ≡ rooms_of (start t) kind
+pub rooms_of_start : (t : Rows) (kind : List ℕ) → rooms_of_kind t.rooms kind ≡ rooms_of (start t) kind
 rooms_of_start t kind = kinds_counted kind t.rooms

@@ -1,25 +1,21 @@
 -- What comes of a card for a room, once the checks of the party and the room have passed.
-use Rattle.std.specs.Prelude.{ℕ, ◌<◌, ◌+◌, ◌-◌, ◌^◌, List, [], ◌∷◌, Option, IsSome, is_some, is_none, nat_lt, nat_le}
+use Rattle.std.specs.Prelude.{ℕ, ◌<◌, ◌-◌, ◌^◌, List, [], ◌∷◌, Option, IsSome, is_some, is_none, nat_lt, nat_le}
 use Rattle.std.specs.Prelude.{bytes_eq, length}
-use Rattle.keycard_rules.specs.declared.card.Link.{Link}
 use Rattle.hotel_nights.specs.declared.stay.Stay.{Stay}
 use Rattle.hotel_model.specs.{declared.change.Change.Change, declared.reply.Refusal.Refusal}
 use Rattle.hotel_model.specs.{declared.rows.RoomRow.RoomRow, Words.is_that}
-use Rattle.hotel_model.specs.declared.change.Change.TheVariants as change
-use Rattle.hotel_model.specs.declared.reply.Reply.TheVariants as reply
 use Rattle.hotel_model.specs.declared.reply.Refusal.TheVariants.{NotBooked, TooEarly, StayOver, WrongKind, SameRoom}
 use Rattle.hotel_model.specs.declared.reply.Refusal.TheVariants.{RoomTaken, NumbersUsedUp}
 use Rattle.hotel_model.specs.{Stays.is_booked_state, Rows.Rows, Refinement.Lookups.room_at, Refinement.Lookups.code_at}
-use Rattle.hotel_model.specs.{Refinement.Lookups.number_after, Cards.card_of}
+use Rattle.hotel_model.specs.{Refinement.Lookups.number_after}
 use Rattle.hotel_model.specs.{Refinement.Change.codes_of, Outcome.Outcome, Outcome.needs, Outcome.bars, Outcome.unless}
-use Rattle.hotel_model.specs.Refinement.OnRows.{with_fresh_on, link_on, said_code_at}
+use Rattle.hotel_model.specs.Refinement.OnRows.{issues_on}
 
 -- a card of a new code for a party at a room, where a number is left; the party may leave another room
 abbrev pub issued_on : Rows → List ℕ → ℕ → ℕ → Option ℕ → Outcome Change
 issued_on rows ahead party room leaves =
     unless (bars (is_none (number_after (length rows.cards))) NumbersUsedUp ∷ [])
-    (with_fresh_on rows ahead (λ code. reply.Issued (card_of (length rows.cards + 1) party (link_on rows room code)))
-    (λ code. change.Issue (card_of (length rows.cards + 1) party (link_on rows room code)) room leaves))
+    (issues_on rows ahead party room leaves)
 
 -- the room's last code is there, and it can have one more
 abbrev pub HasCurrent : ℕ → RoomRow → Rows → Type 0
@@ -28,10 +24,6 @@ HasCurrent room row rows = IsSome (code_at rows room (row.codes - 1)) × (row.co
 -- the room and its last two codes are there
 abbrev pub HasLink : ℕ → Rows → Type 0
 HasLink room rows = IsSome (room_at rows room) × IsSome (code_at rows room (codes_of rows room - 2)) × IsSome (code_at rows room (codes_of rows room - 1))
-
--- the link of a room's last two codes
-abbrev pub last_link_on : Rows → ℕ → Link
-last_link_on rows room = record { old_code = said_code_at rows room (codes_of rows room - 2); new_code = said_code_at rows room (codes_of rows room - 1) }
 
 -- what bars a party from coming to a room on a day
 abbrev pub bars_to_check_in : ℕ → RoomRow → Stay → List (Option Refusal)

@@ -11,7 +11,7 @@ use Rattle.hotel_model.specs.{declared.change.Change.Change}
 use Rattle.hotel_model.specs.declared.change.InsideMove.TheVariants.{Same, Goes, Comes}
 use Rattle.hotel_model.specs.declared.change.Change.TheVariants.{Begin, DayTo, Kind, Room, Reserved, Cancelled, Issue}
 use Rattle.hotel_model.specs.declared.change.Change.TheVariants.{Spare, CheckedOut, Refit, Noted}
-use Rattle.hotel_model.specs.{Words.said_of, Words.pair_cmp, Rows.Rows, Rows.at_number, Stays.in_state}
+use Rattle.hotel_model.specs.{Words.pair_cmp, Rows.Rows, Rows.column_at, Stays.in_state}
 use Rattle.hotel_model.specs.{Guests.those_elsewhere, Refits.fit_row}
 
 -- the rooms, with f done to the row of a number
@@ -36,14 +36,14 @@ moved (Comes number) room pairs = insert_key pair_cmp pairs (room, number)
 
 -- how many codes a room has (0 where it isn't there)
 abbrev pub codes_of : Rows → ℕ → ℕ
-codes_of rows room = said_of (at_number rows.rooms room) 0 (λ row. row.codes)
+codes_of rows room = column_at rows.rooms room (λ row. row.codes)
 
 -- how many notes a room has, and how many of them were taken before its present fit (0 where it isn't there)
 abbrev pub notes_in : Rows → ℕ → ℕ
-notes_in rows room = said_of (at_number rows.rooms room) 0 (λ row. row.notes)
+notes_in rows room = column_at rows.rooms room (λ row. row.notes)
 
 abbrev pub before_in : Rows → ℕ → ℕ
-before_in rows room = said_of (at_number rows.rooms room) 0 (λ row. row.before)
+before_in rows room = column_at rows.rooms room (λ row. row.before)
 
 -- The rows with those of the change added or altered, and no others.
 abbrev pub made : Change → Rows → Rows

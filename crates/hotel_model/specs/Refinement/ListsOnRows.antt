@@ -1,21 +1,16 @@
 -- The rows of the five lists, read off the rows of the books.
-use Rattle.std.specs.Prelude.{ℕ, Bool, List, [], Option, None, ◌-◌, ◌==◌, ◌&&◌, if◌then◌else◌, nat_le, nat_lt, filter}
+use Rattle.std.specs.Prelude.{ℕ, List, [], Option, None, ◌-◌, ◌==◌, if◌then◌else◌, nat_le, nat_lt, filter}
 use Rattle.std.specs.Prelude.{filter_map, option_map}
 use Rattle.std.specs.List.{range_with_len}
 use Rattle.std.specs.Map.{values_of}
-use Rattle.keycard_rules.specs.Note.{Note}
 use Rattle.hotel_nights.specs.declared.stay.Stay.{Stay}
 use Rattle.hotel_model.specs.{declared.rows.RoomRow.RoomRow, declared.list_rows.HouseRow.HouseRow}
 use Rattle.hotel_model.specs.{declared.list_rows.ChainRow.ChainRow}
 use Rattle.hotel_model.specs.{declared.list_rows.BehindRow.BehindRow, declared.list_rows.CodeState.CodeState}
-use Rattle.hotel_model.specs.{Words.said_of, Stays.is_booked_state}
+use Rattle.hotel_model.specs.{Words.said_of, Lists.arrives_on}
 use Rattle.hotel_model.specs.declared.list_rows.CodeState.TheVariants.{Passed, Held, Awaited}
-use Rattle.hotel_model.specs.{Rows.Rows, Rows.notes_at, Refinement.Lookups.room_at, Refinement.Lookups.stay_at}
+use Rattle.hotel_model.specs.{Rows.Rows, Refinement.Lookups.room_at, Refinement.Lookups.stay_at}
 use Rattle.hotel_model.specs.{Refinement.Lookups.code_at}
-
--- a booked stay that takes the night of a day
-abbrev pub arrives_on : ℕ → Stay → Bool
-arrives_on day stay = is_booked_state stay.state && nat_le stay.arrive day && nat_lt day stay.depart
 
 -- Booked stays that take the night of a day, by party.
 abbrev pub arrivals_on : Rows → ℕ → List Stay
@@ -60,7 +55,3 @@ behind_row_on rows row = if nat_le 2 (awaited_on row) then said_of (code_at rows
 -- Rooms with two awaited codes or more, by room.
 abbrev pub left_behind_on : Rows → List BehindRow
 left_behind_on rows = filter_map (behind_row_on rows) (values_of rows.rooms)
-
--- A room's notes, by count.
-abbrev pub audit_on : Rows → ℕ → List Note
-audit_on rows room = notes_at rows.notes room

@@ -1,13 +1,12 @@
 -- What the look-ups of the books answer, read off the rows.
 use Rattle.std.specs.Prelude.{ℕ, List, [], ◌∷◌, Option, Some, None, ◌+◌, ◌==◌, ◌&&◌, if◌then◌else◌, nat_lt, filter}
 use Rattle.std.specs.Prelude.{bytes_eq}
-use Rattle.std.specs.List.{count_by}
 use Rattle.std.specs.Map.{lookup, keys_of, values_of}
 use Rattle.std.specs.BTreeMap.{is_at}
 use Rattle.keycard_rules.specs.{declared.card.Card.Card, Note.Note}
 use Rattle.hotel_nights.specs.{declared.stay.Stay.Stay, FullNight.is_full, FullNight.first_day}
 use Rattle.hotel_model.specs.{declared.rows.RoomRow.RoomRow, declared.rows.CodeRow.CodeRow, Words.pair_cmp}
-use Rattle.hotel_model.specs.{Words.said_of, Rows.Rows, Rows.at_number, Rows.fit_at}
+use Rattle.hotel_model.specs.{Words.said_of, Rows.Rows, Rows.at_number, Rows.rooms_of_kind, Rows.fit_at}
 use Rattle.hotel_model.specs.Guests.{those_in}
 
 abbrev pub room_at : Rows → ℕ → Option RoomRow
@@ -57,13 +56,9 @@ note_numbered rows room number = lookup (is_at (pair_cmp (room, number))) rows.n
 abbrev pub note_at : Rows → ℕ → ℕ → ℕ → Option Note
 note_at rows room fit count = said_of (fit_at rows room fit) None (λ f. of_fit fit (note_numbered rows room (f.before + count)))
 
--- how many rooms a kind has
-abbrev pub rooms_of_kind : Rows → List ℕ → ℕ
-rooms_of_kind rows kind = count_by (λ row. bytes_eq row.kind kind) (values_of rows.rooms)
-
 -- the first night, of so many from a day on, on which the standing stays of a kind take all its rooms
 abbrev pub first_full_on : Rows → List ℕ → ℕ → ℕ → Option ℕ
-first_full_on rows kind d n = first_day (is_full (values_of rows.stays) kind (rooms_of_kind rows kind)) d n
+first_full_on rows kind d n = first_day (is_full (values_of rows.stays) kind (rooms_of_kind rows.rooms kind)) d n
 
 -- the number after so many, up to 9,999,999
 abbrev pub number_after : ℕ → Option ℕ

@@ -20,6 +20,7 @@ use Rattle.hotel_model.specs.declared.reply.Refusal.TheVariants.{PastEnd, KindFu
 use Rattle.hotel_model.specs.declared.reply.Refusal.TheVariants.{Gap, NoCard, CardDiffers, LockShut, NotInside}
 use Rattle.hotel_model.specs.declared.reply.Refusal.TheVariants.{HeldDiffers, NotAwaited, OldFit, NoFit, FitsUsedUp}
 use Rattle.hotel_model.specs.{Words.said_of, Words.is_one_of, Words.is_that, Rows.Rows, Rows.has_kind, Guests.are_none}
+use Rattle.hotel_model.specs.Rows.{column_at, lock_place_of, room_is}
 use Rattle.hotel_model.specs.{Notes.same_note, Cards.same_link, Cards.card_of, Stays.is_booked_state}
 use Rattle.hotel_model.specs.{Stays.room_of_state, Cases.no_link}
 use Rattle.hotel_model.specs.{Refinement.Change.codes_of, Refinement.ChangeOf.comes}
@@ -35,13 +36,9 @@ day_on rows = said_of rows.day 0 (λ d. d)
 abbrev pub stay_is_on : Rows → ℕ → (Stay → Bool) → Bool
 stay_is_on rows party test = said_of (stay_at rows party) false test
 
--- whether the room is so
-abbrev pub room_is_on : Rows → ℕ → (RoomRow → Bool) → Bool
-room_is_on rows room test = said_of (room_at rows room) false test
-
 -- the number of a room's present lock (0 where it isn't there)
 abbrev pub present_fit_on : Rows → ℕ → ℕ
-present_fit_on rows room = said_of (room_at rows room) 0 (λ row. row.fit)
+present_fit_on rows room = column_at rows.rooms room (λ row. row.fit)
 
 -- the room has had the lock of that number
 abbrev pub is_fit_on : Rows → ℕ → ℕ → Bool
@@ -49,7 +46,7 @@ is_fit_on rows room fit = nat_le fit (present_fit_on rows room)
 
 -- the room is of the kind of the party's stay
 abbrev pub kinds_agree_on : Rows → ℕ → ℕ → Bool
-kinds_agree_on rows room party = stay_is_on rows party (λ stay. room_is_on rows room (λ row. bytes_eq row.kind stay.kind))
+kinds_agree_on rows room party = stay_is_on rows party (λ stay. room_is rows room (λ row. bytes_eq row.kind stay.kind))
 
 -- the room in which the party is in house
 abbrev pub home_on : Rows → ℕ → Option ℕ
@@ -59,12 +56,8 @@ home_on rows party = said_of (stay_at rows party) None (λ stay. room_of_state s
 abbrev pub own_room_on : Rows → ℕ → ℕ
 own_room_on rows party = said_of (home_on rows party) 0 (λ room. room)
 
--- the place of the code that the room's lock holds
-abbrev pub lock_place_on : Rows → ℕ → ℕ
-lock_place_on rows room = said_of (room_at rows room) 0 (λ row. row.lock_place)
-
 abbrev pub secured_on : Rows → ℕ → Bool
-secured_on rows room = room_is_on rows room (λ row. row.secured)
+secured_on rows room = room_is rows room (λ row. row.secured)
 
 -- the code at a place of a room (0 where there is none)
 abbrev pub said_code_at : Rows → ℕ → ℕ → ℕ
@@ -72,16 +65,22 @@ said_code_at rows room place = said_of (code_at rows room place) 0 (λ code. cod
 
 -- the code that the room's lock holds
 abbrev pub held_on : Rows → ℕ → ℕ
-held_on rows room = said_code_at rows room (lock_place_on rows room)
+held_on rows room = said_code_at rows room (lock_place_of rows room)
 
 -- the link that a new code makes at a room
 abbrev pub link_on : Rows → ℕ → ℕ → Link
 link_on rows room code = record { old_code = said_code_at rows room (codes_of rows room - 1); new_code = code }
 
+-- the link of a room's last two codes
+abbrev pub last_link_on : Rows → ℕ → Link
+last_link_on rows room = record {
+  old_code = said_code_at rows room (codes_of rows room - 2);
+  new_code = said_code_at rows room (codes_of rows room - 1);
+}
+
 -- the link of the last two codes of the room in which the party is in house
 abbrev pub home_link_on : Rows → ℕ → Link
-home_link_on rows party = said_of (home_on rows party) no_link
-    (λ room. record { old_code = said_code_at rows room (codes_of rows room - 2); new_code = said_code_at rows room (codes_of rows room - 1) })
+home_link_on rows party = said_of (home_on rows party) no_link (last_link_on rows)
 
 -- the place of a code (0 where it isn't there)
 abbrev pub place_on : Rows → ℕ → ℕ
@@ -89,7 +88,8 @@ place_on rows code = said_of (code_place rows code) 0 (λ row. row.place)
 
 -- the code stands at the room, after the one that the lock holds
 abbrev pub is_awaited_on : Rows → ℕ → ℕ → Bool
-is_awaited_on rows room code = said_of (code_place rows code) false (λ row. (row.room == room) && nat_lt (lock_place_on rows room) row.place)
+is_awaited_on rows room code =
+    said_of (code_place rows code) false (λ row. (row.room == room) && nat_lt (lock_place_of rows room) row.place)
 
 -- the card of the number has this link
 abbrev pub has_link_on : Rows → ℕ → Link → Bool
@@ -100,14 +100,20 @@ abbrev pub secured_after_on : Rows → ℕ → Link → Bool
 secured_after_on rows room link =
     if are_none (inside_at rows room) && (place_on rows link.new_code + 1 == codes_of rows room) then true else secured_on rows room
 
+-- a card of this link opened the door: it is inside from now on, and the lock holds the link's new code
+abbrev pub opened_on : Rows → Note → ℕ → Link → Outcome Change
+opened_on rows note number link =
+    accepted reply.Taken (change.Noted note (place_on rows link.new_code) (secured_after_on rows note.room link)
+    (comes (is_one_of number (inside_at rows note.room)) number))
+
 -- the next note of a room: what it says must be so
 abbrev pub told_on : Rows → Note → Act → Outcome Change
 told_on rows note (act.Entered number link) =
     unless (needs (is_some (card_at rows number)) NoCard ∷ needs (has_link_on rows number link) CardDiffers ∷ needs (is_some (turn (held_on rows note.room) link)) LockShut ∷ [])
-    (accepted reply.Taken (change.Noted note (place_on rows link.new_code) (secured_after_on rows note.room link) (comes (is_one_of number (inside_at rows note.room)) number)))
+    (opened_on rows note number link)
 told_on rows note (act.Left number link) =
     unless (needs (is_some (card_at rows number)) NoCard ∷ needs (has_link_on rows number link) CardDiffers ∷ needs (is_one_of number (inside_at rows note.room)) NotInside ∷ [])
-    (accepted reply.Taken (change.Noted note (lock_place_on rows note.room) (secured_on rows note.room) (Goes number)))
+    (accepted reply.Taken (change.Noted note (lock_place_of rows note.room) (secured_on rows note.room) (Goes number)))
 told_on rows note (act.Recoded from to) =
     unless (needs (held_on rows note.room == from) HeldDiffers ∷ needs (is_awaited_on rows note.room to) NotAwaited ∷ [])
     (accepted reply.Taken (change.Noted note (place_on rows to) (secured_on rows note.room) Same))
@@ -126,6 +132,12 @@ reported_on rows note None =
 -- the reply and the change of the first fresh code that these words give
 abbrev pub with_fresh_on : Rows → List ℕ → (ℕ → Reply) → (ℕ → Change) → Outcome Change
 with_fresh_on rows ahead reply_with change_with = by_draw (draw_from (codes_in rows) ahead) reply_with change_with
+
+-- a fresh code is issued at the room, and the party is given a card with it; the party may leave another room
+abbrev pub issues_on : Rows → List ℕ → ℕ → ℕ → Option ℕ → Outcome Change
+issues_on rows ahead party room leaves =
+    with_fresh_on rows ahead (λ code. reply.Issued (card_of (length rows.cards + 1) party (link_on rows room code)))
+    (λ code. change.Issue (card_of (length rows.cards + 1) party (link_on rows room code)) room leaves)
 
 -- the checks of a further card for a party in house, in order
 abbrev pub further_card_checks_on : Rows → ℕ → List (Option Refusal)
@@ -149,20 +161,21 @@ checks_on rows (command.CheckIn party room) =
     needs (is_some rows.day) NotBegun ∷ needs (is_some (room_at rows room)) NoRoom ∷ needs (is_some (stay_at rows party)) NoParty
     ∷ needs (stay_is_on rows party (λ stay. is_booked_state stay.state)) NotBooked
     ∷ bars (stay_is_on rows party (λ stay. nat_lt (day_on rows) stay.arrive)) TooEarly ∷ bars (stay_is_on rows party (λ stay. nat_le stay.depart (day_on rows))) StayOver
-    ∷ needs (kinds_agree_on rows room party) WrongKind ∷ bars (room_is_on rows room (λ row. is_some row.party)) RoomTaken
+    ∷ needs (kinds_agree_on rows room party) WrongKind ∷ bars (room_is rows room (λ row. is_some row.party)) RoomTaken
     ∷ bars (is_none (number_after (length rows.cards))) NumbersUsedUp ∷ []
 checks_on rows (command.Spare party) = further_card_checks_on rows party
 checks_on rows (command.Reissue party) = further_card_checks_on rows party
 checks_on rows (command.Transfer party room) =
     needs (is_some rows.day) NotBegun ∷ needs (is_some (room_at rows room)) NoRoom ∷ needs (is_some (stay_at rows party)) NoParty
     ∷ needs (is_some (home_on rows party)) NotInHouse ∷ needs (kinds_agree_on rows room party) WrongKind
-    ∷ bars (room_is_on rows room (λ row. is_that row.party party)) SameRoom ∷ bars (room_is_on rows room (λ row. is_some row.party)) RoomTaken
+    ∷ bars (room_is rows room (λ row. is_that row.party party)) SameRoom
+    ∷ bars (room_is rows room (λ row. is_some row.party)) RoomTaken
     ∷ bars (is_none (number_after (length rows.cards))) NumbersUsedUp ∷ []
 checks_on rows (command.CheckOut party) =
     needs (is_some rows.day) NotBegun ∷ needs (is_some (stay_at rows party)) NoParty ∷ needs (is_some (home_on rows party)) NotInHouse ∷ []
 checks_on rows (command.Refit room) =
-    needs (is_some rows.day) NotBegun ∷ needs (is_some (room_at rows room)) NoRoom ∷ bars (room_is_on rows room (λ row. is_some row.party)) RoomTaken
-    ∷ bars (nat_le 99 (present_fit_on rows room)) FitsUsedUp ∷ []
+    needs (is_some rows.day) NotBegun ∷ needs (is_some (room_at rows room)) NoRoom
+    ∷ bars (room_is rows room (λ row. is_some row.party)) RoomTaken ∷ bars (nat_le 99 (present_fit_on rows room)) FitsUsedUp ∷ []
 checks_on rows command.NextDay = needs (is_some rows.day) NotBegun ∷ needs (nat_lt (day_on rows) 36524) LastDay ∷ []
 checks_on rows (command.Reported note) =
     needs (is_some rows.day) NotBegun ∷ needs (is_some (room_at rows note.room)) NoRoom ∷ needs (is_fit_on rows note.room note.fit) NoFit ∷ []
@@ -176,18 +189,13 @@ effect_on rows ahead (command.Reserve guest kind arrive nights) =
     accepted (reply.Reserved (length rows.stays + 1))
     (change.Reserved (record { party = length rows.stays + 1; guest = guest; kind = kind; arrive = arrive; depart = arrive + nights; state = state.Booked }))
 effect_on rows ahead (command.Cancel party) = accepted reply.Cancelled (change.Cancelled party)
-effect_on rows ahead (command.CheckIn party room) =
-    with_fresh_on rows ahead (λ code. reply.Issued (card_of (length rows.cards + 1) party (link_on rows room code)))
-    (λ code. change.Issue (card_of (length rows.cards + 1) party (link_on rows room code)) room None)
+effect_on rows ahead (command.CheckIn party room) = issues_on rows ahead party room None
 effect_on rows ahead (command.Spare party) =
     accepted (reply.Issued (card_of (length rows.cards + 1) party (home_link_on rows party))) (change.Spare (card_of (length rows.cards + 1) party (home_link_on rows party)))
-effect_on rows ahead (command.Reissue party) =
-    with_fresh_on rows ahead (λ code. reply.Issued (card_of (length rows.cards + 1) party (link_on rows (own_room_on rows party) code)))
-    (λ code. change.Issue (card_of (length rows.cards + 1) party (link_on rows (own_room_on rows party) code)) (own_room_on rows party) None)
-effect_on rows ahead (command.Transfer party room) =
-    with_fresh_on rows ahead (λ code. reply.Issued (card_of (length rows.cards + 1) party (link_on rows room code)))
-    (λ code. change.Issue (card_of (length rows.cards + 1) party (link_on rows room code)) room (home_on rows party))
-effect_on rows ahead (command.CheckOut party) = accepted reply.CheckedOut (change.CheckedOut party (said_of (home_on rows party) 0 (λ room. room)))
+effect_on rows ahead (command.Reissue party) = issues_on rows ahead party (own_room_on rows party) None
+effect_on rows ahead (command.Transfer party room) = issues_on rows ahead party room (home_on rows party)
+effect_on rows ahead (command.CheckOut party) =
+    accepted reply.CheckedOut (change.CheckedOut party (own_room_on rows party))
 effect_on rows ahead (command.Refit room) =
     with_fresh_on rows ahead (λ code. reply.Refitted code (present_fit_on rows room + 1)) (λ code. change.Refit room code (present_fit_on rows room + 1))
 effect_on rows ahead command.NextDay = accepted (reply.DayIs (day_on rows + 1)) (change.DayTo (day_on rows + 1))

@@ -1,7 +1,10 @@
 -- A scene: lines over empty books, each with its answer, and what holds where the model plays it.
-use Rattle.std.specs.Prelude.{ℕ, ◌≡◌, Bool, true, false, List, [], ◌∷◌, ◌++◌, ◌*◌, map, take, drop, replicate}
+use Rattle.std.specs.Prelude.{ℕ, ◌≡◌, Bool, true, false, None, List, [], ◌∷◌, ◌++◌, ◌*◌, map, take, drop, replicate}
 use Rattle.hotel_model.specs.declared.command.Command.{Command}
 use Rattle.hotel_model.specs.declared.reply.Reply.{Reply}
+use Rattle.hotel_model.specs.declared.reply.Reply.TheVariants as reply
+use Rattle.hotel_model.specs.declared.reply.Refusal.{Refusal}
+use Rattle.hotel_model.specs.declared.reply.Refusal.TheVariants.{NoFreshCode}
 use Rattle.keycard_rules.specs.Note.{Note}
 use Rattle.hotel_nights.specs.declared.stay.Stay.{Stay}
 use Rattle.hotel_model.specs.declared.list_rows.ChainRow.{ChainRow}
@@ -10,9 +13,10 @@ use Rattle.hotel_model.specs.declared.list_rows.BehindRow.{BehindRow}
 use Rattle.hotel_model.specs.Rows.{no_rows}
 use Rattle.hotel_model.specs.Event.{Event}
 use Rattle.hotel_model.specs.History.{History, start}
-use Rattle.hotel_model.specs.Outcome.{Outcome, grown}
+use Rattle.hotel_model.specs.Outcome.{Outcome, grown, refused}
 use Rattle.hotel_model.specs.Answer.{answer_to}
-use Rattle.hotel_model.specs.Lists.{arrivals, in_house, chain, left_behind, audit_of}
+use Rattle.hotel_model.specs.Lists.{arrivals, in_house, chain, left_behind}
+use Rattle.hotel_model.specs.Notes.{notes}
 use Rattle.hotel_model.specs.Cases.{is_room}
 use Rattle.hotel_model.specs.Scenes.Kept.{rows_made, rows_read, always_kept}
 
@@ -57,7 +61,7 @@ play h ahead (Arrivals day _ ∷ lines) = first_line (Arrivals day (arrivals h d
 play h ahead (InHouse _ ∷ lines) = first_line (InHouse (in_house h)) (play h ahead lines)
 play h ahead (Chain room _ ∷ lines) = first_line (chain_line (is_room h room) room (chain h room)) (play h ahead lines)
 play h ahead (LeftBehind _ ∷ lines) = first_line (LeftBehind (left_behind h)) (play h ahead lines)
-play h ahead (AuditOf room _ ∷ lines) = first_line (AuditOf room (audit_of h room)) (play h ahead lines)
+play h ahead (AuditOf room _ ∷ lines) = first_line (AuditOf room (notes h room)) (play h ahead lines)
 play h ahead (NoChain room ∷ lines) = first_line (chain_line (is_room h room) room (chain h room)) (play h ahead lines)
 
 -- the words that give these codes, and then the code that comes for ever
@@ -76,3 +80,13 @@ Holds codes last lines = AreAnswered lines (play (start no_rows) (source codes l
 -- examined.
 abbrev pub AreRefused : Played → List Line → Type 0
 AreRefused before lines = play before.history before.ahead lines ≡ record before { lines = lines }
+
+-- The command is refused so after a history, where these are the source's words.
+abbrev pub IsRefused : History → List ℕ → Command → Refusal → Type 0
+IsRefused h ahead command refusal = answer_to h ahead command ≡ refused refusal
+
+-- After what was played all other checks pass, and the draw examines 64 words, each of which gives an issued code.
+abbrev pub FindsNoCode : Played → Command → Type 0
+FindsNoCode before command =
+    answer_to before.history before.ahead command
+    ≡ record { reply = reply.Refused NoFreshCode; happens = None; examined = 64 }

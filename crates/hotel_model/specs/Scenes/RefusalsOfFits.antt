@@ -2,18 +2,15 @@
 -- reply, and the other stands beside it. Of two neighbours in that order these can't hold together: a room that isn't
 -- there has no party (Refit: NoRoom, RoomTaken); a count that is taken is of a lock that the room has had (Reported:
 -- NoFit, Conflict), and isn't new under an earlier one (Conflict, OldFit).
-use Rattle.std.specs.Prelude.{ℕ, ◌≡◌, ◌==◌, ◌&&◌, Bool, true, not, List, [], ◌∷◌, ◌++◌, None, is_some, map, take}
+use Rattle.std.specs.Prelude.{ℕ, ◌≡◌, ◌==◌, ◌&&◌, Bool, true, not, List, [], ◌∷◌, ◌++◌, is_some, map, take}
 use Rattle.std.specs.List.{list_all}
 use Rattle.hotel_model.specs.declared.rows.RoomRow.{RoomRow}
-use Rattle.hotel_model.specs.declared.reply.Refusal.{Refusal}
-use Rattle.hotel_model.specs.declared.reply.Refusal.TheVariants.{NoRoom, RoomTaken, NoFreshCode, Conflict, Gap, NoCard}
+use Rattle.hotel_model.specs.declared.reply.Refusal.TheVariants.{NoRoom, RoomTaken, Conflict, Gap, NoCard}
 use Rattle.hotel_model.specs.declared.reply.Refusal.TheVariants.{LockShut, NotInside, HeldDiffers, OldFit, NoFit}
 use Rattle.hotel_model.specs.declared.reply.Refusal.TheVariants.{FitsUsedUp}
-use Rattle.hotel_model.specs.declared.command.Command.{Command}
 use Rattle.hotel_model.specs.Rows.{no_rows}
 use Rattle.hotel_model.specs.History.{History, start}
 use Rattle.hotel_model.specs.Event.{Event}
-use Rattle.hotel_model.specs.Outcome as outcome
 use Rattle.hotel_model.specs.Outcome.{Outcome}
 use Rattle.hotel_model.specs.Answer.{answer_to}
 use Rattle.hotel_model.specs.RowsOf.{rows_of}
@@ -21,7 +18,8 @@ use Rattle.hotel_model.specs.Scenes.Words.{may, M, a0, a1, a2, a3, b0, DBL, bo, 
 use Rattle.hotel_model.specs.Scenes.Words.{check_out, refit, entered, left, recoded}
 use Rattle.hotel_model.specs.Scenes.Words.{entered_by, left_by, recoded_by, room_code, party, card, lock, checked_out}
 use Rattle.hotel_model.specs.Scenes.Words.{taken, seen, refused}
-use Rattle.hotel_model.specs.Scenes.Lines.{Line, ◌⇒◌, Played, play, source, AreAnswered}
+use Rattle.hotel_model.specs.Scenes.Lines.{Line, ◌⇒◌, Played, play, source, AreAnswered, IsRefused}
+use Rattle.hotel_model.specs.Scenes.Lines.{FindsNoCode}
 use Rattle.hotel_model.specs.Scenes.Openings.{opened, checked_in}
 
 -- Room 101 was left, its lock was replaced, and it is taken again; its second lock has one note. Room 102 is free.
@@ -83,27 +81,18 @@ abbrev pub LeaveAll : Played → List Line → Type 0
 LeaveAll before lines =
     ((play before.history before.ahead lines).lines ≡ lines) × (list_all (leaves_all before) lines ≡ true)
 
--- All other checks pass, and the draw examines 64 words, each of which gives an issued code.
-abbrev pub FindsNoCode : Command → Type 0
-FindsNoCode command =
-    answer_to busy.history busy.ahead command ≡ record { reply = refused NoFreshCode; happens = None; examined = 64 }
-
 -- The same hotel, each of its rooms with its last lock.
 abbrev pub at_the_last_fit : History
 at_the_last_fit =
     let rooms = map (λ (e : ℕ × RoomRow). (e.0, record e.1 { fit = 99 })) (rows_of busy.history).rooms in
     start (record (rows_of busy.history) { rooms = rooms })
 
--- The command is refused so where the source's words give issued codes.
-abbrev pub IsRefused : History → Command → Refusal → Type 0
-IsRefused h command refusal = answer_to h busy.ahead command ≡ outcome.refused refusal
-
 abbrev pub TheScene : Type 0
 TheScene =
     AreAnswered all_moves busy
     × LeaveAll busy of_notes × LeaveAll busy of_present_notes
-    × IsRefused busy.history (refit 999) NoRoom
-    × IsRefused busy.history (refit 101) RoomTaken  -- NoFreshCode
-    × IsRefused at_the_last_fit (refit 101) RoomTaken  -- FitsUsedUp
-    × IsRefused at_the_last_fit (refit 102) FitsUsedUp  -- NoFreshCode
-    × FindsNoCode (refit 102)
+    × IsRefused busy.history busy.ahead (refit 999) NoRoom
+    × IsRefused busy.history busy.ahead (refit 101) RoomTaken  -- NoFreshCode
+    × IsRefused at_the_last_fit busy.ahead (refit 101) RoomTaken  -- FitsUsedUp
+    × IsRefused at_the_last_fit busy.ahead (refit 102) FitsUsedUp  -- NoFreshCode
+    × FindsNoCode busy (refit 102)

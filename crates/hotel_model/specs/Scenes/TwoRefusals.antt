@@ -10,16 +10,12 @@ use Rattle.hotel_nights.specs.declared.stay.Stay.{Stay}
 use Rattle.hotel_model.specs.declared.reply.Refusal.TheVariants.{NotBegun, AlreadyBegun, KindExists, NoKind, RoomExists}
 use Rattle.hotel_model.specs.declared.reply.Refusal.TheVariants.{NoRoom, NoParty, NotBooked, NotInHouse, TooEarly}
 use Rattle.hotel_model.specs.declared.reply.Refusal.TheVariants.{StayOver, WrongKind, SameRoom, RoomTaken, PastArrival}
-use Rattle.hotel_model.specs.declared.reply.Refusal.TheVariants.{PastEnd, KindFull, NumbersUsedUp, NoFreshCode, LastDay}
+use Rattle.hotel_model.specs.declared.reply.Refusal.TheVariants.{PastEnd, KindFull, NumbersUsedUp, LastDay}
 use Rattle.hotel_model.specs.declared.reply.Refusal.TheVariants.{Conflict, Gap, NoCard, CardDiffers, LockShut}
 use Rattle.hotel_model.specs.declared.reply.Refusal.TheVariants.{NotInside, HeldDiffers, NotAwaited, NoFit}
-use Rattle.hotel_model.specs.declared.reply.Refusal.{Refusal}
-use Rattle.hotel_model.specs.declared.command.Command.{Command}
 use Rattle.hotel_model.specs.Rows.{no_rows}
 use Rattle.hotel_model.specs.History.{History, start}
 use Rattle.hotel_model.specs.Stays.{first_full}
-use Rattle.hotel_model.specs.Outcome as outcome
-use Rattle.hotel_model.specs.Answer.{answer_to}
 use Rattle.hotel_model.specs.RowsOf.{rows_of}
 use Rattle.hotel_model.specs.Scenes.Words.{may, M, a0, a1, b0, b1, c0, c1, d0, d1, DBL, SGL, TWN, TPL, guest, begin}
 use Rattle.hotel_model.specs.Scenes.Words.{add_kind, add_room, reserve, cancel, check_in, spare, reissue, transfer}
@@ -27,6 +23,7 @@ use Rattle.hotel_model.specs.Scenes.Words.{check_out, refit, next_day, entered_b
 use Rattle.hotel_model.specs.Scenes.Words.{recoded, begun, kind_added, room_code, party, cancelled, card, day, taken}
 use Rattle.hotel_model.specs.Scenes.Words.{seen, refused}
 use Rattle.hotel_model.specs.Scenes.Lines.{Line, ◌⇒◌, Played, play, source, AreAnswered, AreRefused}
+use Rattle.hotel_model.specs.Scenes.Lines.{IsRefused, FindsNoCode}
 
 -- Nothing happened yet.
 abbrev pub nothing : Played
@@ -145,10 +142,6 @@ of_notes =
     ∷ recoded 101 3 a1 a1 M ⇒ refused NotAwaited
     ∷ []
 
--- All other checks pass, and the draw examines 64 words, each of which gives an issued code.
-abbrev pub FindsNoCode : Command → Type 0
-FindsNoCode command = answer_to busy.history busy.ahead command ≡ record { reply = refused NoFreshCode; happens = None; examined = 64 }
-
 -- The last day, with a kind that has no rooms.
 abbrev pub last_day : Played
 last_day = play (start no_rows) (source [] a0) (begin 36524 ⇒ begun ∷ add_kind DBL ⇒ kind_added ∷ [])
@@ -167,25 +160,27 @@ with_cards cards = start (record (rows_of busy.history) { cards = cards })
 abbrev pub with_stays : List (ℕ × Stay) → History
 with_stays stays = start (record (rows_of busy.history) { stays = stays })
 
--- The command is refused so where the source's words give issued codes.
-abbrev pub IsRefused : History → Command → Refusal → Type 0
-IsRefused h command refusal = answer_to h busy.ahead command ≡ outcome.refused refusal
-
 -- Where 9,999,999 cards were given: the reasons that come before, and then NumbersUsedUp, before NoFreshCode.
 abbrev pub CardsEnd : Type 0
 CardsEnd =
     (cards : List (ℕ × Card)) → length cards ≡ 9999999
-    → IsRefused (with_cards cards) (check_in 6 101) RoomTaken × IsRefused (with_cards cards) (check_in 6 102) NumbersUsedUp
-    × IsRefused (with_cards cards) (spare 6) NotInHouse × IsRefused (with_cards cards) (spare 1) NumbersUsedUp
-    × IsRefused (with_cards cards) (reissue 6) NotInHouse × IsRefused (with_cards cards) (reissue 1) NumbersUsedUp
-    × IsRefused (with_cards cards) (transfer 1 103) RoomTaken × IsRefused (with_cards cards) (transfer 1 102) NumbersUsedUp
+    → IsRefused (with_cards cards) busy.ahead (check_in 6 101) RoomTaken
+    × IsRefused (with_cards cards) busy.ahead (check_in 6 102) NumbersUsedUp
+    × IsRefused (with_cards cards) busy.ahead (spare 6) NotInHouse
+    × IsRefused (with_cards cards) busy.ahead (spare 1) NumbersUsedUp
+    × IsRefused (with_cards cards) busy.ahead (reissue 6) NotInHouse
+    × IsRefused (with_cards cards) busy.ahead (reissue 1) NumbersUsedUp
+    × IsRefused (with_cards cards) busy.ahead (transfer 1 103) RoomTaken
+    × IsRefused (with_cards cards) busy.ahead (transfer 1 102) NumbersUsedUp
 
 -- Where 9,999,999 parties were given: KindFull comes before.
 abbrev pub PartiesEnd : Type 0
 PartiesEnd =
     (stays : List (ℕ × Stay)) → length stays ≡ 9999999
-    → (first_full (with_stays stays) DBL (may 2) 1 ≡ Some (may 2) → IsRefused (with_stays stays) (reserve DBL (may 2) 1 guest) (KindFull (may 2)))
-    × (first_full (with_stays stays) DBL (may 2) 1 ≡ None → IsRefused (with_stays stays) (reserve DBL (may 2) 1 guest) NumbersUsedUp)
+    → (first_full (with_stays stays) DBL (may 2) 1 ≡ Some (may 2)
+    → IsRefused (with_stays stays) busy.ahead (reserve DBL (may 2) 1 guest) (KindFull (may 2)))
+    × (first_full (with_stays stays) DBL (may 2) 1 ≡ None
+    → IsRefused (with_stays stays) busy.ahead (reserve DBL (may 2) 1 guest) NumbersUsedUp)
 
 abbrev pub TheScene : Type 0
 TheScene =
@@ -195,5 +190,5 @@ TheScene =
     × AreRefused busy of_guests
     × AreRefused busy of_notes
     × AreRefused last_day on_the_last_day
-    × FindsNoCode (add_room 104 DBL) × FindsNoCode (check_in 6 102) × FindsNoCode (reissue 1) × FindsNoCode (transfer 1 102)
-    × FindsNoCode (refit 102)
+    × FindsNoCode busy (add_room 104 DBL) × FindsNoCode busy (check_in 6 102) × FindsNoCode busy (reissue 1)
+    × FindsNoCode busy (transfer 1 102) × FindsNoCode busy (refit 102)

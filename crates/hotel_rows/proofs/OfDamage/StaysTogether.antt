@@ -5,13 +5,12 @@ use Rattle.std.specs.Prelude.{nat_le, nat_lt, string_bytes, bytes_eq}
 use Rattle.std.specs.List.{list_all, count_by}
 use Rattle.std.specs.Map.{values_of}
 use Rattle.hotel_nights.specs.declared.stay.Stay.{Stay}
-use Rattle.hotel_nights.specs.FullNight.{takes}
+use Rattle.hotel_nights.specs.FullNight.{takes, nights_taken}
 use Rattle.hotel_nights.specs.Guests.{is_guest}
 use Rattle.hotel_model.specs.declared.rows.RoomRow.{RoomRow}
-use Rattle.hotel_model.specs.Rows.{has_kind}
+use Rattle.hotel_model.specs.Rows.{has_kind, rooms_of_kind}
 use Rattle.hotel_model.specs.SoundRooms.{are_in_order, count_up, is_day}
 use Rattle.hotel_model.specs.SoundStays.{guests_read, stay_kinds_there, stay_days, stay_rooms, nights_fit}
-use Rattle.hotel_model.specs.SoundStays.{stays_on, rooms_with}
 use Rattle.hotel_model.proofs.OfTables.RowTests.{all_mapped}
 use Rattle.hotel_core.proofs.OfTables.MapEntries.{eq_self}
 use Rattle.hotel_model.proofs.OfTables.StayCounts.{count_first}
@@ -53,10 +52,11 @@ numbers_first true false e u w is = last_false (u && w)
 numbers_first false c e u w is = refl
 
 nights_together : (s : Stored) → nights_fit (rows_of s) ≡ list_all (has_night s) s.stays.items
+unfolding nights_taken
 nights_together s =
-    all_mapped (λ (e : ℕ × Stay). nat_le (stays_on (rows_of s) e.1.kind e.1.arrive) (rooms_with (rows_of s) e.1.kind)) stay_entry s.stays.items
+    all_mapped (λ (e : ℕ × Stay). nat_le (nights_taken (values_of (rows_of s).stays) e.1.kind e.1.arrive) (rooms_of_kind (rows_of s).rooms e.1.kind)) stay_entry s.stays.items
     ∙ all_alike _ (has_night s) s.stays.items (λ plain.
-    ap (λ n. nat_le n (rooms_with (rows_of s) (string_bytes plain.kind))) (counted (takes (string_bytes plain.kind) (number_of plain.arrive)) stay_key stay_row s.stays.items)
+    ap (λ n. nat_le n (rooms_of_kind (rows_of s).rooms (string_bytes plain.kind))) (counted (takes (string_bytes plain.kind) (number_of plain.arrive)) stay_key stay_row s.stays.items)
     ∙ ap (λ n. nat_le (count_by (λ (stay : PlainStay). takes (string_bytes plain.kind) (number_of plain.arrive) (stay_row stay)) s.stays.items) n)
     (ap (λ es. count_by (λ (row : RoomRow). bytes_eq row.kind (string_bytes plain.kind)) (values_of es))
     (rooms_are (fits_of s) s.rooms.items)

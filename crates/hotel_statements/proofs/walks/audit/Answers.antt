@@ -3,7 +3,7 @@ use Rattle.sqlite.specs.Effect.{Database}
 use Rattle.sqlite.specs.Held.{state}
 use Rattle.sqlite.specs.State.{HasCleanDisk, IsUnchanged}
 use Rattle.keycard_rules.specs.Note.{Note}
-use Rattle.hotel_model.specs.Refinement.ListsOnRows.{audit_on}
+use Rattle.hotel_model.specs.Rows.{notes_at}
 use Rattle.hotel_model.specs.Rows.{fits_at}
 use Rattle.hotel_statements.specs.Values.{int}
 use Rattle.hotel_statements.specs.Tables.{rows_in}
@@ -26,7 +26,7 @@ returns-in-Ok g c =
     let old = state g.S.Store c.args.conn.now in
     let mid = state g.S.Store c.fits_of_room.new.conn in
     let fits = c.in-Ok.fits.items in
-    let rows = audit_on (rows_in old.now.trees) c.args.room in
+    let rows = notes_at (rows_in old.now.trees).notes c.args.room in
     let are : IsKept mid → fits ≡ fits_at (rows_in old.now.trees).fits c.args.room = λ kept. rw c.in-Ok.is at
     (c.fits_of_room.ensures.found kept) in
     let unchanged : HasCleanDisk mid → IsUnchanged old mid = λ clean. rw c.in-Ok.is at

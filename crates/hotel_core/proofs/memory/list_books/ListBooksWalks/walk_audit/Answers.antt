@@ -1,9 +1,9 @@
 use Rattle.std.proofs.Common.{refl, rules}
-use Rattle.hotel_core.proofs.Names.{Hands, audit_on}
+use Rattle.hotel_core.proofs.Names.{Hands, notes_at}
 use Rattle.hotel_core.proofs.memory.list_books.ListBooksWalks.walk_audit.Goals as goal
 
 pub returns : goal.returns
 returns g c =
-    let rows = audit_on c.args.self.now.rows c.args.room in
+    let rows = notes_at c.args.self.now.rows.notes c.args.room in
     let hands : Hands g.S.Sink.after g.S.Sink.after_stop rows c.args.sink.now c.walk_audit.new.sink c.walk_audit.result = search rules in
     record { hands = (rows, hands, λ _. refl); kept = search rules; was_clean = search rules; was_honest = search rules; vouched = search rules; stop = search rules; counted = search rules; fault = search rules; cause = λ honest store. cc; sure = search rules }

@@ -1,5 +1,5 @@
 use Rattle.std.proofs.Common.{filter}
-use Rattle.hotel_model.specs.Refinement.ListsOnRows.{arrivals_on, arrives_on}
+use Rattle.hotel_model.specs.{Lists.arrives_on, Refinement.ListsOnRows.arrivals_on}
 use Rattle.hotel_core.proofs.OfCode.Walking.{SoFar}
 use Rattle.hotel_core.proofs.memory.tables.Tables.walk_arrivals.Given as goal
 

@@ -1,11 +1,11 @@
 use Rattle.std.proofs.Common.{◌∙◌, ap, sym, rules}
-use Rattle.hotel_core.proofs.{Names.audit_on, Names.Stopping, OfCode.HandedOn.handed_on, OfCode.HandedOn.same_sink}
+use Rattle.hotel_core.proofs.{Names.notes_at, Names.Stopping, OfCode.HandedOn.handed_on, OfCode.HandedOn.same_sink}
 use Rattle.hotel_core.proofs.stops.stopping_walks.StoppingBooksWalks.walk_audit.Goals as goal
 
 pub returns : goal.returns
 returns g c =
     let hands = c.walk_audit-end.ensures.hands in
-    let listed = hands.2 tt ∙ ap (λ (b : Stopping). audit_on b.rows c.args.room) c.self.view_is in
+    let listed = hands.2 tt ∙ ap (λ (b : Stopping). notes_at b.rows.notes c.args.room) c.self.view_is in
     let whole = handed_on g.S.Sink.after g.S.Sink.after_stop hands.0 _ _ _ _ _ _ c.new-passing.ensures.untouched c.ended.ensures.ends hands.1 listed in
     let back = sym (same_sink g.S.Sink.after g.S.Sink.after_stop hands.0 _ _ _ hands.1 ∙ c.new-passing.ensures.same_sink) in
     record { hands = search rules; kept = search rules; was_clean = search rules; was_honest = search rules; vouched = search rules; stop = search rules; counted = search rules; fault = search rules; cause = search rules; sure = search rules }
