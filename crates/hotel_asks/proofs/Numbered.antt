@@ -5,7 +5,7 @@ use Rattle.std.specs.Option.{ok_or}
 use Rattle.std.specs.Str.{is_utf8}
 use Rattle.keycard_rules.specs.Results.{◌>>=◌}
 use Rattle.hotel_nights.specs.{Days.read_day, Guests.is_guest, Kinds.read_kind, Moments.read_moment}
-use Rattle.hotel_asks.specs.{Asks.ask_of, Asks.link_in, Asks.card_note_of, Names.names_of, Values.IsReading}
+use Rattle.hotel_asks.specs.{Asks.ask_of, Asks.link_in, Asks.card_report, Names.names_of, Values.IsReading}
 use Rattle.hotel_asks.specs.{Values.guest_in, Values.slash_in, Values.fit_after, Values.lock_in, declared.asks.Ask.Ask}
 use Rattle.keycard_rules.specs.Numerals.{number_up_to, read_code}
 use Rattle.hotel_asks.specs.declared.values.ValueName.TheVariants.{Day, Kind, Arrive, Nights, Guest, Room, Lock, Party}
@@ -76,8 +76,8 @@ lock_numbered text = first (number_up_to 9999 (take (slash_in text) text)) Lock 
 link_numbered : (old new : List ℕ) → IsNumbered (link_in old new)
 link_numbered old new = first (read_code old) Old _ (λ o. first (read_code new) New _ (λ n. tt))
 
-note_numbered : (lock count card old new moment : List ℕ) → IsNumbered (card_note_of lock count card old new moment)
-note_numbered lock count card old new moment =
+report_numbered : (verb : Verb) (lock count card old new moment : List ℕ) → IsNumbered (card_report verb lock count card old new moment)
+report_numbered verb lock count card old new moment =
     after (lock_in lock) _ (lock_numbered lock) (λ r. first (number_up_to 9999999 count) Count _ (λ k. first (number_up_to 9999999 card) Card _ (λ n. after (link_in old new) _ (link_numbered old new) (λ l. first (read_moment moment) Moment _ (λ m. tt)))))
 
 abbrev Asks : Verb → List (List ℕ) → Type 0
@@ -97,8 +97,8 @@ numbered Transfer values n = two_texts (Asks Transfer) (λ a b. first (number_up
 numbered CheckOut values n = one_texts (Asks CheckOut) (λ a. first (number_up_to 9999999 a) Party _ (λ x. tt)) values n
 numbered Refit values n = one_texts (Asks Refit) (λ a. first (number_up_to 9999 a) Room _ (λ x. tt)) values n
 numbered NextDay values n = no_texts (Asks NextDay) tt values n
-numbered Entered values n = six_texts (Asks Entered) (λ a b c d e f. after (card_note_of a b c d e f) _ (note_numbered a b c d e f) (λ m. tt)) values n
-numbered Left values n = six_texts (Asks Left) (λ a b c d e f. after (card_note_of a b c d e f) _ (note_numbered a b c d e f) (λ m. tt)) values n
+numbered Entered values n = six_texts (Asks Entered) (report_numbered Entered) values n
+numbered Left values n = six_texts (Asks Left) (report_numbered Left) values n
 numbered Recoded values n = five_texts (Asks Recoded) (λ a b c d e. after (lock_in a) _ (lock_numbered a) (λ r. first (number_up_to 9999999 b) Count _ (λ k. first (read_code c) From _ (λ f. first (read_code d) To _ (λ t. first (read_moment e) Moment _ (λ m. tt)))))) values n
 numbered Arrivals values n = one_texts (Asks Arrivals) (λ a. first (read_day a) Day _ (λ x. tt)) values n
 numbered InHouse values n = no_texts (Asks InHouse) tt values n

@@ -5,7 +5,7 @@ use Rattle.keycard_rules.specs.{declared.card.Link.Link, declared.note.Act.Act}
 use Rattle.keycard_rules.specs.declared.note.Act.TheVariants as act
 use Rattle.hotel_model.specs.declared.command.Command.{Command}
 use Rattle.hotel_model.specs.declared.command.Command.TheVariants as command
-use Rattle.hotel_asks.specs.{declared.asks.Ask.Ask, declared.notes.CardNote.CardNote, declared.values.Lock.Lock}
+use Rattle.hotel_asks.specs.{declared.asks.Ask.Ask, declared.values.Lock.Lock}
 use Rattle.hotel_asks.specs.{declared.values.ValueFault.ValueFault, declared.values.ValueFault.TheVariants.Number}
 use Rattle.hotel_asks.specs.declared.asks.Ask.TheVariants as ask
 use Rattle.hotel_asks.specs.declared.lists.ListAsk.TheVariants as list
@@ -106,24 +106,25 @@ link_in old new = do
   n ← code_in New new
   Ok (record { old_code = o; new_code = n })
 
--- What a lock notes of a card that was shown to it.
-abbrev pub card_note_of : List ℕ → List ℕ → List ℕ → List ℕ → List ℕ → List ℕ → Result CardNote ValueFault
-card_note_of lock count card old new moment = do
+-- What a lock notes of a card that leaves it; else of one that opens it.
+abbrev pub card_act : Verb → ℕ → Link → Act
+card_act Left card link = act.Left card link
+card_act _ card link = act.Entered card link
+
+-- The report of what a lock notes of a card.
+abbrev pub card_report : Verb → List ℕ → List ℕ → List ℕ → List ℕ → List ℕ → List ℕ → Result Ask ValueFault
+card_report verb lock count card old new moment = do
   k ← lock_in lock
   c ← count_in count
   n ← card_in card
   l ← link_in old new
   m ← moment_in moment
-  Ok (record { lock = k; count = c; card = n; link = l; at = m })
+  Ok (report_of k c (card_act verb n l) m)
 
 -- A verb with six values.
 abbrev pub of_six : Verb → List ℕ → List ℕ → List ℕ → List ℕ → List ℕ → List ℕ → Result Ask ValueFault
-of_six Entered lock count card old new moment = do
-  n ← card_note_of lock count card old new moment
-  Ok (report_of n.lock n.count (act.Entered n.card n.link) n.at)
-of_six Left lock count card old new moment = do
-  n ← card_note_of lock count card old new moment
-  Ok (report_of n.lock n.count (act.Left n.card n.link) n.at)
+of_six Entered lock count card old new moment = card_report Entered lock count card old new moment
+of_six Left lock count card old new moment = card_report Left lock count card old new moment
 of_six _ lock count card old new moment = Err Number
 
 -- What a verb and the texts of its values ask for.

@@ -1,4 +1,4 @@
--- The words of verbs, and the names of their values, as users read them.
+-- The names of values, as users read them, and of the values of each verb.
 use Rattle.std.specs.Prelude.{ℕ, List, [], ◌∷◌, codes}
 use Rattle.hotel_asks.specs.{declared.values.ValueName.ValueName, declared.verbs.Verb.Verb}
 use Rattle.hotel_asks.specs.declared.values.ValueName.TheVariants.{Day, Kind, Arrive, Nights, Guest, Room, Lock, Party}
@@ -24,29 +24,6 @@ name_text To = codes "TO"
 name_text Moment = codes "MOMENT"
 name_text File = codes "FILE"
 name_text Port = codes "PORT"
-
--- The word of a verb.
-abbrev pub word_of : Verb → List ℕ
-word_of verb.Begin = codes "begin"
-word_of verb.AddKind = codes "add-kind"
-word_of verb.AddRoom = codes "add-room"
-word_of verb.Reserve = codes "reserve"
-word_of verb.Cancel = codes "cancel"
-word_of verb.CheckIn = codes "check-in"
-word_of verb.Spare = codes "spare"
-word_of verb.Reissue = codes "reissue"
-word_of verb.Transfer = codes "transfer"
-word_of verb.CheckOut = codes "check-out"
-word_of verb.Refit = codes "refit"
-word_of verb.NextDay = codes "next-day"
-word_of verb.Entered = codes "entered"
-word_of verb.Left = codes "left"
-word_of verb.Recoded = codes "recoded"
-word_of verb.Arrivals = codes "arrivals"
-word_of verb.InHouse = codes "in-house"
-word_of verb.ChainOf = codes "chain"
-word_of verb.LeftBehind = codes "left-behind"
-word_of verb.AuditOf = codes "audit-of"
 
 -- The values of a verb, in their order.
 abbrev pub names_of : Verb → List ValueName

@@ -1,32 +1,45 @@
 -- The verbs of commands and lists.
-use Rattle.std.specs.Prelude.{ℕ, List, codes, if◌then◌else◌, Option, Some, None}
+use Rattle.std.specs.Prelude.{ℕ, List, [], ◌∷◌, codes, find, map, Option, option_map}
+use Rattle.std.specs.Borrow.{Bor}
 use Rattle.std.specs.Str.{bytes_eq}
 use Rattle.hotel_asks.specs.declared.verbs.Verb.{Verb}
 use Rattle.hotel_asks.specs.declared.verbs.Verb.TheVariants.{Begin, AddKind, AddRoom, Reserve, Cancel, CheckIn, Spare}
 use Rattle.hotel_asks.specs.declared.verbs.Verb.TheVariants.{Reissue, Transfer, CheckOut, Refit, NextDay, Entered, Left}
 use Rattle.hotel_asks.specs.declared.verbs.Verb.TheVariants.{Recoded, Arrivals, InHouse, ChainOf, LeftBehind, AuditOf}
 
+-- The words of the verbs, in the order in which help lists them.
+abbrev pub verbs : List (List ℕ × Verb)
+verbs =
+    (codes "begin", Begin) ∷
+    (codes "add-kind", AddKind) ∷
+    (codes "add-room", AddRoom) ∷
+    (codes "reserve", Reserve) ∷
+    (codes "cancel", Cancel) ∷
+    (codes "check-in", CheckIn) ∷
+    (codes "spare", Spare) ∷
+    (codes "reissue", Reissue) ∷
+    (codes "transfer", Transfer) ∷
+    (codes "check-out", CheckOut) ∷
+    (codes "refit", Refit) ∷
+    (codes "next-day", NextDay) ∷
+    (codes "entered", Entered) ∷
+    (codes "left", Left) ∷
+    (codes "recoded", Recoded) ∷
+    (codes "arrivals", Arrivals) ∷
+    (codes "in-house", InHouse) ∷
+    (codes "chain", ChainOf) ∷
+    (codes "left-behind", LeftBehind) ∷
+    (codes "audit-of", AuditOf) ∷
+    []
+
+-- Rows of this table as they lie in memory.
+abbrev pub texts : List (Bor (List ℕ) × Verb) → List (List ℕ × Verb)
+texts rows = map (λ row. (row.0.now, row.1)) rows
+
+-- The verb of the first row with this word.
+abbrev pub verb_in : List ℕ → List (List ℕ × Verb) → Option Verb
+verb_in word rows = option_map (λ row. row.1) (find (λ row. bytes_eq word row.0) rows)
+
 -- The verb that a word is.
 unfoldable pub read_verb : List ℕ → Option Verb
-read_verb word =
-    if bytes_eq word (codes "begin") then Some Begin
-    else (if bytes_eq word (codes "add-kind") then Some AddKind
-    else (if bytes_eq word (codes "add-room") then Some AddRoom
-    else (if bytes_eq word (codes "reserve") then Some Reserve
-    else (if bytes_eq word (codes "cancel") then Some Cancel
-    else (if bytes_eq word (codes "check-in") then Some CheckIn
-    else (if bytes_eq word (codes "spare") then Some Spare
-    else (if bytes_eq word (codes "reissue") then Some Reissue
-    else (if bytes_eq word (codes "transfer") then Some Transfer
-    else (if bytes_eq word (codes "check-out") then Some CheckOut
-    else (if bytes_eq word (codes "refit") then Some Refit
-    else (if bytes_eq word (codes "next-day") then Some NextDay
-    else (if bytes_eq word (codes "entered") then Some Entered
-    else (if bytes_eq word (codes "left") then Some Left
-    else (if bytes_eq word (codes "recoded") then Some Recoded
-    else (if bytes_eq word (codes "arrivals") then Some Arrivals
-    else (if bytes_eq word (codes "in-house") then Some InHouse
-    else (if bytes_eq word (codes "chain") then Some ChainOf
-    else (if bytes_eq word (codes "left-behind") then Some LeftBehind
-    else (if bytes_eq word (codes "audit-of") then Some AuditOf
-    else None)))))))))))))))))))
+read_verb word = verb_in word verbs

@@ -6,7 +6,7 @@ ghost use Rattle.hotel_asks.specs.{declared.values.ValueFault.TheVariants.Number
 ghost use Rattle.hotel_asks.specs.Asks.{ask_copies, of_none, of_one, of_two, of_four, of_five, of_six, ask_of};
 
 use crate::lists::ListAsk;
-use crate::notes::{read_card_note, report_of};
+use crate::notes::{read_card_report, report_of};
 use crate::values::{
     AskFault, ValueFault, ValueName, read_code, read_count, read_day, read_guest, read_kind,
     read_lock, read_moment, read_nights, read_party, read_room,
@@ -145,15 +145,8 @@ fn read_six(
     ensures { IsReading ask_copies (of_six verb lock.now count.now card.now old.now new.now moment.now) result }
 {
     match verb {
-        Verb::Entered => {
-            let note = read_card_note(lock, count, card, old, new, moment)?;
-            let (card, link) = (note.card, note.link);
-            Ok(report_of(note.lock, note.count, Act::Entered { card, link }, note.at))
-        }
-        Verb::Left => {
-            let note = read_card_note(lock, count, card, old, new, moment)?;
-            let (card, link) = (note.card, note.link);
-            Ok(report_of(note.lock, note.count, Act::Left { card, link }, note.at))
+        Verb::Entered | Verb::Left => {
+            Ok(read_card_report(verb, lock, count, card, old, new, moment)?)
         }
         _ => Err(AskFault::Values(ValueFault::Number)),
     }

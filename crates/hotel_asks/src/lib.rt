@@ -16,4 +16,4 @@ pub use values::{
     AskFault, Lock, ValueFault, ValueName, read_card, read_code, read_count, read_day, read_guest,
     read_kind, read_lock, read_moment, read_nights, read_party, read_room,
 };
-pub use verbs::{Verb, read_verb};
+pub use verbs::{VERBS, Verb, read_verb};

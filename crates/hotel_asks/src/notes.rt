@@ -1,25 +1,16 @@
 //! What a lock notes, as verbs and values say it.
 
 ghost use Rattle.std.specs.Prelude.{◌≡◌};
-ghost use Rattle.hotel_asks.specs.Asks.{report_of, link_in, card_note_of};
+ghost use Rattle.hotel_asks.specs.Asks.{report_of, link_in, card_act, card_report};
 
 use crate::asks::Ask;
 use crate::values::{
     Lock, ValueFault, ValueName, read_card, read_code, read_count, read_lock, read_moment,
 };
+use crate::verbs::Verb;
 use hotel_core::Command;
 use hotel_nights::Moment;
 use keycard_rules::{Act, CardNo, Count, Link, LockNote};
-
-/// What a lock notes of a card that was shown to it.
-#[derive(Clone, Copy, Debug)]
-pub struct CardNote {
-    pub lock: Lock,
-    pub count: Count,
-    pub card: CardNo,
-    pub link: Link,
-    pub at: Moment,
-}
 
 /// The report of a lock's note.
 pub fn report_of(lock: Lock, count: Count, act: Act, at: Moment) -> Ask
@@ -40,27 +31,32 @@ fn read_link(old: &[u8], new: &[u8]) -> Result<Link, ValueFault>
     Ok(Link { old_code, new_code })
 }
 
-/// Reads what a lock noted of a card.
-pub fn read_card_note(
+/// What a lock notes of a card that leaves it; else of one that opens it.
+fn card_act(verb: Verb, card: CardNo, link: Link) -> Act
+    ensures { result ≡ card_act verb card link }
+{
+    match verb {
+        Verb::Left => Act::Left { card, link },
+        _ => Act::Entered { card, link },
+    }
+}
+
+/// Reads the report of what a lock noted of a card.
+pub fn read_card_report(
+    verb: Verb,
     lock: &[u8],
     count: &[u8],
     card: &[u8],
     old: &[u8],
     new: &[u8],
     moment: &[u8],
-) -> Result<CardNote, ValueFault>
-    ensures { result ≡ card_note_of lock.now count.now card.now old.now new.now moment.now }
+) -> Result<Ask, ValueFault>
+    ensures { result ≡ card_report verb lock.now count.now card.now old.now new.now moment.now }
 {
     let lock = read_lock(lock)?;
     let count = read_count(count)?;
     let card = read_card(card)?;
     let link = read_link(old, new)?;
     let at = read_moment(moment)?;
-    Ok(CardNote {
-        lock,
-        count,
-        card,
-        link,
-        at,
-    })
+    Ok(report_of(lock, count, card_act(verb, card, link), at))
 }

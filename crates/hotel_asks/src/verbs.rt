@@ -1,7 +1,7 @@
 //! The verbs of commands and lists.
 
 ghost use Rattle.std.specs.Prelude.{◌≡◌};
-ghost use Rattle.hotel_asks.specs.{Names.names_of, Names.word_of, Verbs.read_verb};
+ghost use Rattle.hotel_asks.specs.{Names.names_of, Verbs.read_verb, Verbs.texts, Verbs.verb_in};
 
 use crate::values::ValueName;
 
@@ -30,35 +30,31 @@ pub enum Verb {
     AuditOf,
 }
 
-impl Verb {
-    /// The word that it is written as.
-    pub fn word<'a>(self) -> &'a str
-        ensures { result.now ≡ word_of self }
-    {
-        match self {
-            Verb::Begin => "begin",
-            Verb::AddKind => "add-kind",
-            Verb::AddRoom => "add-room",
-            Verb::Reserve => "reserve",
-            Verb::Cancel => "cancel",
-            Verb::CheckIn => "check-in",
-            Verb::Spare => "spare",
-            Verb::Reissue => "reissue",
-            Verb::Transfer => "transfer",
-            Verb::CheckOut => "check-out",
-            Verb::Refit => "refit",
-            Verb::NextDay => "next-day",
-            Verb::Entered => "entered",
-            Verb::Left => "left",
-            Verb::Recoded => "recoded",
-            Verb::Arrivals => "arrivals",
-            Verb::InHouse => "in-house",
-            Verb::ChainOf => "chain",
-            Verb::LeftBehind => "left-behind",
-            Verb::AuditOf => "audit-of",
-        }
-    }
+/// The words of the verbs, in the order in which help lists them.
+pub static VERBS: [(&str, Verb); 20] = [
+    ("begin", Verb::Begin),
+    ("add-kind", Verb::AddKind),
+    ("add-room", Verb::AddRoom),
+    ("reserve", Verb::Reserve),
+    ("cancel", Verb::Cancel),
+    ("check-in", Verb::CheckIn),
+    ("spare", Verb::Spare),
+    ("reissue", Verb::Reissue),
+    ("transfer", Verb::Transfer),
+    ("check-out", Verb::CheckOut),
+    ("refit", Verb::Refit),
+    ("next-day", Verb::NextDay),
+    ("entered", Verb::Entered),
+    ("left", Verb::Left),
+    ("recoded", Verb::Recoded),
+    ("arrivals", Verb::Arrivals),
+    ("in-house", Verb::InHouse),
+    ("chain", Verb::ChainOf),
+    ("left-behind", Verb::LeftBehind),
+    ("audit-of", Verb::AuditOf),
+];
 
+impl Verb {
     /// The names of its values, in their order.
     pub fn values<'a>(self) -> &'a [ValueName]
         ensures { result.now ≡ names_of self }
@@ -96,52 +92,22 @@ impl Verb {
     }
 }
 
+/// The verb of the first row with this word.
+fn verb_in(word: &[u8], rows: &[(&str, Verb)]) -> Option<Verb>
+    ensures { result ≡ verb_in word.now (texts rows.now) }
+{
+    for (text, verb) in rows {
+        if word == text.as_bytes() {
+            return Some(*verb);
+        }
+    }
+    None
+}
+
 /// The verb that the word is, as `check-in`. None where it is another word.
 #[tactic(auto, unfolding(crate::specs::Verbs::read_verb))]
 pub fn read_verb(word: &[u8]) -> Option<Verb>
     ensures { result ≡ read_verb word.now }
 {
-    if word == b"begin".as_slice() {
-        Some(Verb::Begin)
-    } else if word == b"add-kind".as_slice() {
-        Some(Verb::AddKind)
-    } else if word == b"add-room".as_slice() {
-        Some(Verb::AddRoom)
-    } else if word == b"reserve".as_slice() {
-        Some(Verb::Reserve)
-    } else if word == b"cancel".as_slice() {
-        Some(Verb::Cancel)
-    } else if word == b"check-in".as_slice() {
-        Some(Verb::CheckIn)
-    } else if word == b"spare".as_slice() {
-        Some(Verb::Spare)
-    } else if word == b"reissue".as_slice() {
-        Some(Verb::Reissue)
-    } else if word == b"transfer".as_slice() {
-        Some(Verb::Transfer)
-    } else if word == b"check-out".as_slice() {
-        Some(Verb::CheckOut)
-    } else if word == b"refit".as_slice() {
-        Some(Verb::Refit)
-    } else if word == b"next-day".as_slice() {
-        Some(Verb::NextDay)
-    } else if word == b"entered".as_slice() {
-        Some(Verb::Entered)
-    } else if word == b"left".as_slice() {
-        Some(Verb::Left)
-    } else if word == b"recoded".as_slice() {
-        Some(Verb::Recoded)
-    } else if word == b"arrivals".as_slice() {
-        Some(Verb::Arrivals)
-    } else if word == b"in-house".as_slice() {
-        Some(Verb::InHouse)
-    } else if word == b"chain".as_slice() {
-        Some(Verb::ChainOf)
-    } else if word == b"left-behind".as_slice() {
-        Some(Verb::LeftBehind)
-    } else if word == b"audit-of".as_slice() {
-        Some(Verb::AuditOf)
-    } else {
-        None
-    }
+    verb_in(word, &VERBS)
 }

@@ -1,5 +1,5 @@
 -- How an import ends: with all lines answered, with those before one that failed, or before the first.
-use Rattle.std.proofs.Common.{ℕ, ◌≡◌, ◌≢◌, ◌⊎◌, ◌+◌, ◌∙◌, Bool, List, [], ◌∷◌, ◌++◌, Result, Ok, Err, OnOk, take, drop}
+use Rattle.std.proofs.Common.{ℕ, ◌≡◌, ◌≢◌, ◌⊎◌, ◌+◌, ◌∙◌, List, [], ◌∷◌, ◌++◌, Result, Ok, Err, OnOk, take, drop}
 use Rattle.std.proofs.Common.{length, sym, refl, ap, append_assoc}
 use Rattle.std.specs.Prelude.{zip}
 use Rattle.hotel_core.proofs.Names.{Rows}
@@ -9,10 +9,10 @@ use Rattle.std.proofs.lemmas.List.{take-append-drop}
 use Rattle.hotel_audit.specs.{declared.answer.LineAnswer.LineAnswer, declared.audit_file.AuditFault.AuditFault}
 use Rattle.hotel_audit.specs.{declared.imports.ImportFault.ImportFault, declared.line.Line.Line}
 use Rattle.hotel_audit.specs.declared.audit_file.AuditFault.TheVariants as fault
-use Rattle.hotel_audit.specs.declared.imports.ImportFault.TheVariants.{File}
+use Rattle.hotel_audit.specs.declared.imports.ImportFault.TheVariants.{File, Stopped}
 use Rattle.keycard_rules.specs.declared.issued.LookFault.{LookFault}
 use Rattle.hotel_core.specs.Books.Happens.{Passes}
-use Rattle.hotel_audit.specs.Import.{AreAnswered, EndsAfter, Imports, IsFrontOf, LeavesBehind, LineGoes, LineHappens}
+use Rattle.hotel_audit.specs.Import.{AreAnswered, EndsAfter, Imports, LeavesBehind, LineGoes, LineHappens}
 use Rattle.hotel_audit.specs.Import.{LinesLeadOn, NextFails, has_taken, replies_in}
 use Rattle.hotel_audit.proofs.LineAnswers.{lead-none, lead-same}
 
@@ -50,14 +50,13 @@ module _ {B : Type 0} (I : IssuedOf B) (rows : B → Rows) (old new : B) (honest
   next_fails mid lines i next why more fails = (next, drop (i + 1) lines, ap (λ ls. Ok ls) (around lines i next more), fails)
 
   -- a line failed behind the state mid: those before it were answered, and what they led to stands
-  pub answered_before : (mid : B) (lines : List Line) (i : ℕ) (answers : List LineAnswer) (answered : ℕ) (taken : Bool) (why : ImportFault)
-      → (IsFrontOf (Ok lines) (take i lines) answers answered taken → EndsAfter (Ok lines) (Err why) (take i lines) answers)
-      → AreAnswered (take i lines) answers → length answers ≡ answered → taken ≡ has_taken answers → (I.is_clean new → I.is_clean mid)
+  pub answered_before : (mid : B) (lines : List Line) (i : ℕ) (answers : List LineAnswer) (by : LookFault) → AreAnswered (take i lines) answers → (I.is_clean new → I.is_clean mid)
       → (I.is_honest new → I.is_honest mid) → (I.is_clean mid → I.is_clean old) → (I.is_clean new → rows new ≡ rows mid)
       → (I.is_honest mid → LinesLeadOn (I.is_clean old) (rows old) (take i lines) answers (I.is_clean mid) (rows mid)) → (I.is_honest mid → replies_in answers ≢ [] → I.is_clean mid)
-      → Passes (LineHappens I rows) old (zip (take i lines) answers) mid → LeavesBehind I rows (Ok lines) (take i lines) mid (Err why) new → Imports I rows (Ok lines) old new (Err why)
-  answered_before mid lines i answers answered taken why ends each count some clean_before honest_before began same happened vouched through fails =
-      ended (Ok lines) (Err why) (take i lines) answers each (ends (drop i lines, ap (λ ls. Ok ls) (sym (take-append-drop i lines)), count, sym some))
+      → Passes (LineHappens I rows) old (zip (take i lines) answers) mid → NextFails I rows (Ok lines) (take i lines) mid by new
+      → Imports I rows (Ok lines) old new (Err (Stopped (length answers) by (has_taken answers)))
+  answered_before mid lines i answers by each clean_before honest_before began same happened vouched through fails =
+      ended (Ok lines) (Err (Stopped (length answers) by (has_taken answers))) (take i lines) answers each (drop i lines, ap (λ ls. Ok ls) (sym (take-append-drop i lines)), refl, refl)
       (λ now. lead-same (I.is_clean old) (I.is_clean mid) (I.is_clean new) (rows old) (rows mid) (rows new) (take i lines) answers clean_before same (happened (honest_before now)))
       (λ now noted. began (vouched (honest_before now) noted)) (λ now. tt) tt mid through fails
 

@@ -1,5 +1,5 @@
 -- The lines of a file, one after the other.
-use Rattle.std.proofs.Common.{◌≡◌, ◌≢◌, ◌∙◌, List, [], ◌∷◌, ◌++◌, refl, ap, arith, length, Ok, ◌||◌}
+use Rattle.std.proofs.Common.{◌≡◌, ◌≢◌, ◌∙◌, List, [], ◌∷◌, ◌++◌, refl, ap, arith, length, Ok}
 use Rattle.std.specs.Prelude.{zip}
 use Rattle.hotel_core.proofs.{Names.Stream, Names.Note, Names.Rows, Names.Steps, OfCode.Happens.passes_push}
 use Rattle.hotel_core.proofs.{OfCode.Happens.zip-push}
@@ -11,7 +11,7 @@ use Rattle.hotel_model.specs.declared.reply.Reply.TheVariants as reply
 use Rattle.hotel_audit.specs.{declared.answer.LineAnswer.LineAnswer, declared.line.Cause.Cause, declared.line.Line.Line}
 use Rattle.hotel_audit.specs.declared.answer.LineAnswer.TheVariants as answer
 use Rattle.hotel_audit.specs.declared.line.Line.TheVariants as line
-use Rattle.hotel_audit.specs.Import.{AreAnswered, LinesLeadOn, answer_of, commands_of, has_taken, replies_in}
+use Rattle.hotel_audit.specs.Import.{AreAnswered, LinesLeadOn, answer_of, commands_of, replies_in}
 use Rattle.hotel_audit.proofs.NoteReplies.{answered_reply}
 
 commands_of-append : (lines more : List Line) → commands_of (lines ++ more) ≡ commands_of lines ++ commands_of more
@@ -32,12 +32,6 @@ AreAnswered-append [] more [] others h k = k
 AreAnswered-append (l ∷ lines) more (a ∷ answers) others h k = (h.0, AreAnswered-append lines more answers others h.1 k)
 AreAnswered-append [] more (a ∷ answers) others h k = absurd h
 AreAnswered-append (l ∷ lines) more [] others h k = absurd h
-
--- one more answer
-pub has_taken-push : (answers : List LineAnswer) (a : LineAnswer) → has_taken (answers ++ a ∷ []) ≡ (has_taken answers || has_taken (a ∷ []))
-has_taken-push [] a = refl
-has_taken-push (answer.Taken ∷ answers) a = refl
-has_taken-push (_ ∷ answers) a = has_taken-push answers a
 
 -- no lines change nothing
 pub lead-none : (was : Type 0) (rows : Rows) → LinesLeadOn was rows [] [] was rows

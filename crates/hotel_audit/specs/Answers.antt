@@ -1,6 +1,8 @@
--- The texts of the answers to an audit file's lines.
+-- The texts of the answers to an audit file's lines, and of an import that was stopped.
 use Rattle.std.specs.Prelude.{ℕ, List, [], ◌∷◌, ◌++◌, ◌+◌, codes}
 use Rattle.std.specs.Fmt.{decimal}
+use Rattle.keycard_rules.specs.declared.issued.LookFault.{LookFault}
+use Rattle.keycard_rules.specs.declared.issued.LookFault.TheVariants as look
 use Rattle.hotel_model.specs.declared.reply.Reply.TheVariants as reply
 use Rattle.hotel_core.specs.Texts.{reply_text}
 use Rattle.hotel_audit.specs.{declared.answer.LineAnswer.LineAnswer, declared.line.Cause.Cause}
@@ -35,3 +37,12 @@ answer_text number answer = decimal number ++ codes " " ++ said_of_line answer
 abbrev pub answers_text : ℕ → List LineAnswer → List ℕ
 answers_text number [] = []
 answers_text number (answer ∷ answers) = answer_text number answer ++ answers_text (number + 1) answers
+
+-- what stopped an import, and the end of the line
+abbrev pub cause_text : LookFault → List ℕ
+cause_text look.Memory = codes ": Memory\n"
+cause_text look.Store = codes ": Store\n"
+
+-- what is said of an import that was stopped behind so many lines
+abbrev pub stopped_text : ℕ → LookFault → List ℕ
+stopped_text answered by = codes "stopped after " ++ decimal answered ++ cause_text by

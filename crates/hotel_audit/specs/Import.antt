@@ -10,12 +10,13 @@ use Rattle.hotel_model.specs.declared.command.Command.TheVariants as command
 use Rattle.hotel_model.specs.declared.reply.Reply.TheVariants as reply
 use Rattle.hotel_model.specs.declared.reply.Refusal.TheVariants as refusal
 use Rattle.hotel_model.specs.Run.{Runs, is_failed}
+use Rattle.hotel_core.specs.Books.Failures.{refusal_of}
 use Rattle.hotel_core.specs.Books.Happens.{Happens, Passes, StepTold}
 use Rattle.hotel_audit.specs.{declared.answer.LineAnswer.LineAnswer, declared.audit_file.AuditFault.AuditFault}
 use Rattle.hotel_audit.specs.{declared.imports.ImportFault.ImportFault}
 use Rattle.hotel_audit.specs.declared.answer.LineAnswer.TheVariants.{Taken, Seen, Unread, Refused}
 use Rattle.hotel_audit.specs.declared.audit_file.AuditFault.TheVariants as fault
-use Rattle.hotel_audit.specs.declared.imports.ImportFault.TheVariants.{File, Memory, Store}
+use Rattle.hotel_audit.specs.declared.imports.ImportFault.TheVariants.{File, Stopped}
 use Rattle.hotel_audit.specs.declared.line.Line.{Line}
 use Rattle.hotel_audit.specs.declared.line.Line.TheVariants as line
 
@@ -80,8 +81,7 @@ IsFrontOf file lines answers answered taken = (rest : List Line) × (file ≡ Ok
 abbrev pub EndsAfter : Result (List Line) AuditFault → Result (List LineAnswer) ImportFault → List Line → List LineAnswer → Type 0
 EndsAfter file (Ok given) lines answers = (file ≡ Ok lines) × (answers ≡ given)
 EndsAfter file (Err (File why)) lines answers = (lines ≡ []) × (answers ≡ []) × ((why ≡ fault.Memory) ⊎ (file ≡ Err why))
-EndsAfter file (Err (Memory answered taken)) lines answers = IsFrontOf file lines answers answered taken
-EndsAfter file (Err (Store answered taken)) lines answers = IsFrontOf file lines answers answered taken
+EndsAfter file (Err (Stopped answered by taken)) lines answers = IsFrontOf file lines answers answered taken
 
 -- What lines with these answers show of books from old to new that may have failed for good, where an import of them
 -- ended so: the notes ran with these replies, and an answer to a note vouches that the books were clean before the
@@ -127,8 +127,7 @@ abbrev pub LeavesBehind : {B : Type 0} → IssuedOf B → (B → Rows) → Resul
     → B → Result (List LineAnswer) ImportFault → B → Type 0
 LeavesBehind I rows file lines old (Ok given) new = new ≡ old
 LeavesBehind I rows file lines old (Err (File why)) new = new ≡ old
-LeavesBehind I rows file lines old (Err (Memory answered taken)) new = NextFails I rows file lines old look.Memory new
-LeavesBehind I rows file lines old (Err (Store answered taken)) new = NextFails I rows file lines old look.Store new
+LeavesBehind I rows file lines old (Err (Stopped answered by taken)) new = NextFails I rows file lines old by new
 
 -- An import of a file into books from old to new ended so: some of its lines have these answers, by which the books
 -- went, from line to line.
@@ -144,6 +143,5 @@ Imports {B = B} I rows file old new outcome =
 -- The failure that stopped the import, which the books counted. That there was no memory to read the file or for its
 -- answers isn't counted.
 abbrev pub failures_of : ImportFault → List Refusal
-failures_of (Store answered taken) = refusal.Store ∷ []
-failures_of (Memory answered taken) = refusal.Memory ∷ []
+failures_of (Stopped answered by taken) = refusal_of by ∷ []
 failures_of (File why) = []

@@ -1,4 +1,8 @@
 //! What an import answers to a line.
+
+ghost use Rattle.std.specs.Prelude.{◌≡◌};
+ghost use Rattle.hotel_audit.specs.Import.{has_taken};
+
 use crate::line::Cause;
 use hotel_core::Refusal;
 
@@ -13,4 +17,16 @@ pub enum LineAnswer {
     Unread(Cause),
     /// The note was refused; nothing changed.
     Refused(Refusal),
+}
+
+/// Whether a line was taken.
+pub fn has_taken(answers: &[LineAnswer]) -> bool
+    ensures { result ≡ has_taken answers.now }
+{
+    for answer in answers {
+        if matches!(answer, LineAnswer::Taken) {
+            return true;
+        }
+    }
+    false
 }

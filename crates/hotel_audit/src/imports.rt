@@ -4,9 +4,9 @@ ghost use Rattle.keycard_rules.specs.Rise.{NoFewer};
 ghost use Rattle.hotel_core.specs.{Books.Failures.AreCounted, Books.Failures.refusal_of};
 ghost use Rattle.hotel_audit.specs.{declared.audit_file.AuditFault.AuditFault, AuditFile.audit_lines};
 ghost use Rattle.hotel_audit.specs.Import.{Imports, IsAnswerTo, LineGoes, LinesLeadOn};
-ghost use Rattle.hotel_audit.specs.Import.{answer_of, failures_of, outcome_of, replies_in};
+ghost use Rattle.hotel_audit.specs.Import.{answer_of, failures_of, has_taken, outcome_of, replies_in};
 
-use crate::answer::LineAnswer;
+use crate::answer::{LineAnswer, has_taken};
 use crate::audit_file::{AuditFault, read_notes};
 use crate::line::Line;
 use hotel_core::{Books, Refusal, Reply, report};
@@ -18,13 +18,13 @@ use std::alloc::Global;
 pub enum ImportFault {
     /// The bytes are no audit file, or there was no memory to read it or for its answers. Nothing was begun.
     File(AuditFault),
-    /// A growth of the books' memory was refused. So many lines were answered, which stand, and `taken` says whether
-    /// one of them was
-    /// Taken; the next one changed nothing.
-    Memory { answered: usize, taken: bool },
-    /// A call of the store failed. So many lines were answered, which stand, and `taken` says whether one of them was
-    /// Taken; the next one changed nothing.
-    Store { answered: usize, taken: bool },
+    /// A growth of the books' memory was refused, or a call of the store failed. So many lines were answered, which
+    /// stand, and `taken` says whether one of them was Taken; the next one changed nothing.
+    Stopped {
+        answered: usize,
+        by: LookFault,
+        taken: bool,
+    },
 }
 
 const fn answer_of(reply: &Reply) -> Result<LineAnswer, LookFault>
@@ -61,6 +61,17 @@ fn answer_line<B: Books>(books: &mut B, line: &Line) -> Result<LineAnswer, LookF
     }
 }
 
+/// An import that was stopped behind these answers.
+fn stopped(answers: &[LineAnswer], by: LookFault) -> ImportFault
+    ensures { result ≡ ImportFault.Stopped (length answers.now) by (has_taken answers.now) }
+{
+    ImportFault::Stopped {
+        answered: answers.len(),
+        by,
+        taken: has_taken(answers),
+    }
+}
+
 /// Carries out lines in order. The memory for all answers is taken before the first line.
 fn import_lines<B: Books>(
     alloc: Global,
@@ -77,17 +88,13 @@ fn import_lines<B: Books>(
     let Ok(mut answers) = Vec::with_capacity(alloc, lines.len()) else {
         return Err(ImportFault::File(AuditFault::Memory));
     };
-    let mut taken = false;
     for line in lines {
-        let answered = answers.len();
         let answer = match answer_line(books, line) {
             Ok(answer) => answer,
-            Err(LookFault::Memory) => return Err(ImportFault::Memory { answered, taken }),
-            Err(LookFault::Store) => return Err(ImportFault::Store { answered, taken }),
+            Err(by) => return Err(stopped(answers.as_slice(), by)),
         };
-        taken = taken || matches!(answer, LineAnswer::Taken);
         let Ok(()) = answers.push(answer) else {
-            return Err(ImportFault::Memory { answered, taken });
+            return Err(stopped(answers.as_slice(), LookFault::Memory));
         };
     }
     Ok(answers)

@@ -1,12 +1,12 @@
-//! The text of a line's answer.
+//! The texts of lines' answers, and of an import that was stopped.
 ghost use Rattle.std.specs.Prelude.{◌≡◌, ℕ, List, [], ◌∷◌, ◌++◌, ◌+◌, ◌≤◌, take, length, codes};
 ghost use Rattle.hotel_core.specs.Texts.{reply_text};
-ghost use Rattle.hotel_audit.specs.Answers.{answer_text, cause_name};
+ghost use Rattle.hotel_audit.specs.Answers.{answer_text, cause_name, cause_text, stopped_text};
 
 use crate::answer::LineAnswer;
 use crate::line::Cause;
 use hotel_core::{Reply, reply_text};
-use keycard_rules::ShortText;
+use keycard_rules::{LookFault, ShortText};
 
 /// The text of an answer: at most 85 bytes, the line feed included.
 pub type AnswerText = ShortText<85>;
@@ -54,5 +54,30 @@ pub fn answer_text(number: usize, answer: &LineAnswer) -> AnswerText
         }
         LineAnswer::Refused(refusal) => push_reply(&mut text, &Reply::Refused(*refusal)),
     }
+    text
+}
+
+/// The text of an import that was stopped: at most 43 bytes, the line feed included.
+pub type StoppedText = ShortText<43>;
+
+/// What stopped an import, and the end of the line.
+const fn cause_text(by: LookFault) -> &'static [u8]
+    ensures same { result.now ≡ cause_text by }
+    ensures short { length result.now ≤ 9 }
+{
+    match by {
+        LookFault::Memory => b": Memory\n",
+        LookFault::Store => b": Store\n",
+    }
+}
+
+/// What is said of an import that was stopped behind so many lines.
+pub fn stopped_text(answered: usize, by: LookFault) -> StoppedText
+    ensures { result ≡ stopped_text answered by }
+{
+    let mut text = StoppedText::new();
+    text.push(b"stopped after ");
+    text.push_number::<20>(answered as u128);
+    text.push(cause_text(by));
     text
 }

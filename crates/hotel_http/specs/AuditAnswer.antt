@@ -1,7 +1,6 @@
 -- The answer to an audit file.
-use Rattle.std.specs.Prelude.{ℕ, List, ◌++◌, codes, None}
-use Rattle.std.specs.Fmt.{decimal}
-use Rattle.hotel_audit.specs.{Answers.answers_text, declared.answer.LineAnswer.LineAnswer}
+use Rattle.std.specs.Prelude.{ℕ, List, codes, None}
+use Rattle.hotel_audit.specs.{Answers.answers_text, Answers.stopped_text, declared.answer.LineAnswer.LineAnswer}
 use Rattle.hotel_audit.specs.{declared.imports.ImportFault.ImportFault}
 use Rattle.hotel_audit.specs.declared.audit_file.AuditFault.TheVariants as file
 use Rattle.hotel_audit.specs.declared.imports.ImportFault.TheVariants as fault
@@ -18,8 +17,7 @@ fault_status (fault.File file.TooLarge) = ContentTooLarge
 fault_status (fault.File file.NoHeader) = BadRequest
 fault_status (fault.File file.WrongHeader) = BadRequest
 fault_status (fault.File file.Memory) = Unavailable
-fault_status (fault.Memory answered taken) = Unavailable
-fault_status (fault.Store answered taken) = Unavailable
+fault_status (fault.Stopped answered by taken) = Unavailable
 
 -- its text
 abbrev pub fault_body : ImportFault → List ℕ
@@ -27,8 +25,7 @@ fault_body (fault.File file.TooLarge) = codes "too large\n"
 fault_body (fault.File file.NoHeader) = codes "no header\n"
 fault_body (fault.File file.WrongHeader) = codes "wrong header\n"
 fault_body (fault.File file.Memory) = codes "refused 29 Memory\n"
-fault_body (fault.Memory answered taken) = codes "stopped after " ++ decimal answered ++ codes ": Memory\n"
-fault_body (fault.Store answered taken) = codes "stopped after " ++ decimal answered ++ codes ": Store\n"
+fault_body (fault.Stopped answered by taken) = stopped_text answered by
 
 -- the answer to an audit file whose import has no answers
 abbrev pub fault_answer : ImportFault → List ℕ

@@ -3,27 +3,15 @@
 ghost use Rattle.std.specs.Prelude.{◌≡◌, ◌≤◌, true, length, OnOk, OnErr};
 ghost use Rattle.std.specs.Io.KnownBytes.{Appends};
 ghost use Rattle.hotel_lists.specs.{Bytes.AppendsFront, Calls.NoneForgotten};
-ghost use Rattle.hotel_audit.specs.{Answers.answers_text, Import.has_taken};
+ghost use Rattle.hotel_audit.specs.{Answers.answers_text};
 ghost use Rattle.hotel_http.specs.AuditAnswer.{lines_answer, fault_status, fault_body, fault_answer};
 
 use crate::answer::{Media, head_text, write_short};
 use crate::buffer::HeadText;
 use crate::status::Status;
-use hotel_audit::{AuditFault, ImportFault, LineAnswer, answer_text, write_answers};
+use hotel_audit::{AuditFault, ImportFault, LineAnswer, answer_text, stopped_text, write_answers};
 use hotel_lists::{IoCalls, WriteFailed, write_bytes};
 use std::io::Write;
-
-/// Whether a line was taken.
-pub fn has_taken(answers: &[LineAnswer]) -> bool
-    ensures { result ≡ has_taken answers.now }
-{
-    for answer in answers {
-        if matches!(answer, LineAnswer::Taken) {
-            return true;
-        }
-    }
-    false
-}
 
 /// The number of bytes of the texts of answers. No sum of them overflows a `u128`.
 fn answers_size(answers: &[LineAnswer]) -> u128
@@ -61,7 +49,7 @@ pub fn fault_status(why: &ImportFault) -> Status
         ImportFault::File(AuditFault::TooLarge) => Status::ContentTooLarge,
         ImportFault::File(AuditFault::NoHeader | AuditFault::WrongHeader) => Status::BadRequest,
         ImportFault::File(AuditFault::Memory) => Status::Unavailable,
-        ImportFault::Memory { .. } | ImportFault::Store { .. } => Status::Unavailable,
+        ImportFault::Stopped { .. } => Status::Unavailable,
     }
 }
 
@@ -75,15 +63,8 @@ fn fault_body(why: &ImportFault) -> HeadText
         ImportFault::File(AuditFault::NoHeader) => text.push(b"no header\n"),
         ImportFault::File(AuditFault::WrongHeader) => text.push(b"wrong header\n"),
         ImportFault::File(AuditFault::Memory) => text.push(b"refused 29 Memory\n"),
-        ImportFault::Memory { answered, .. } => {
-            text.push(b"stopped after ");
-            text.push_number::<40>(*answered as u128);
-            text.push(b": Memory\n");
-        }
-        ImportFault::Store { answered, .. } => {
-            text.push(b"stopped after ");
-            text.push_number::<40>(*answered as u128);
-            text.push(b": Store\n");
+        ImportFault::Stopped { answered, by, .. } => {
+            text.push(stopped_text(*answered, *by).as_bytes())
         }
     }
     text

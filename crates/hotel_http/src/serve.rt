@@ -17,14 +17,14 @@ ghost use Rattle.hotel_http.specs.Serve.{FileComes, TaskComes, Comes, EndsAs, An
 ghost use Rattle.hotel_http.specs.Serve.{list_refusal, list_failures, text_in, Serves, IfUnwritten, serve_fault_of};
 
 use crate::answer::{rejection_status, reply_status, write_csv, write_rejection, write_reply};
-use crate::audit_answer::{fault_status, has_taken, write_audit, write_fault};
+use crate::audit_answer::{fault_status, write_audit, write_fault};
 use crate::rejection::Rejection;
 use crate::requests::{Request, RequestFault, read_request};
 use crate::routes::{Routes, make_routes};
 use crate::status::Status;
 use crate::tasks::Task;
 use hotel_asks::{Ask, ListAsk, write_list};
-use hotel_audit::{ImportFault, import};
+use hotel_audit::{ImportFault, has_taken, import};
 use hotel_core::{Command, Refusal, Reply, Walks, step};
 use hotel_lists::{IoCalls, ListFault, WriteFailed};
 use rand_core::Rng;
@@ -200,7 +200,7 @@ fn taken_by(why: &ImportFault) -> bool
 {
     match why {
         ImportFault::File(_) => false,
-        ImportFault::Memory { taken, .. } | ImportFault::Store { taken, .. } => *taken,
+        ImportFault::Stopped { taken, .. } => *taken,
     }
 }
 

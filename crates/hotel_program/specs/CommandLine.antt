@@ -1,14 +1,11 @@
 -- The command line: its subcommands, each with the values that it takes.
-use Rattle.std.specs.Prelude.{List, [], ◌∷◌, ◌++◌, map, codes, true, false, Some}
+use Rattle.std.specs.Prelude.{ℕ, List, [], ◌∷◌, ◌++◌, map, codes, true, false, Some}
 use Rattle.clap.specs.Words.{App, Rule, Shape, Text, new_rule}
 use Rattle.clap.specs.Simple.{new_shape}
-use Rattle.hotel_asks.specs.Names.{name_text, names_of, word_of}
+use Rattle.hotel_asks.specs.{Names.name_text, Names.names_of, Verbs.verbs}
 use Rattle.hotel_asks.specs.declared.values.ValueName.{ValueName}
 use Rattle.hotel_asks.specs.declared.values.ValueName.TheVariants.{File, Port, Count}
 use Rattle.hotel_asks.specs.declared.verbs.Verb.{Verb}
-use Rattle.hotel_asks.specs.declared.verbs.Verb.TheVariants.{Begin, AddKind, AddRoom, Reserve, Cancel, CheckIn, Spare}
-use Rattle.hotel_asks.specs.declared.verbs.Verb.TheVariants.{Reissue, Transfer, CheckOut, Refit, NextDay, Entered, Left}
-use Rattle.hotel_asks.specs.declared.verbs.Verb.TheVariants.{Recoded, Arrivals, InHouse, ChainOf, LeftBehind, AuditOf}
 
 -- A value that is always given.
 abbrev pub value_rule : ValueName → Rule
@@ -18,14 +15,9 @@ value_rule name = record (new_rule (name_text name)) { required = true }
 abbrev pub leaf : Text → List ValueName → Shape
 leaf name values = record (new_shape name) { rules = map value_rule values }
 
--- The subcommand of a verb.
-abbrev pub verb_leaf : Verb → Shape
-verb_leaf verb = leaf (word_of verb) (names_of verb)
-
--- The verbs, in the order in which help lists them.
-abbrev pub verbs : List Verb
-verbs = Begin ∷ AddKind ∷ AddRoom ∷ Reserve ∷ Cancel ∷ CheckIn ∷ Spare ∷ Reissue ∷ Transfer ∷ CheckOut ∷ Refit ∷ NextDay ∷ Entered ∷ Left ∷ Recoded
-    ∷ Arrivals ∷ InHouse ∷ ChainOf ∷ LeftBehind ∷ AuditOf ∷ []
+-- The subcommand of a verb of this word.
+abbrev pub verb_leaf : List ℕ × Verb → Shape
+verb_leaf row = leaf row.0 (names_of row.1)
 
 -- An option that names a file, before the subcommand.
 abbrev pub option_rule : Text → Rule

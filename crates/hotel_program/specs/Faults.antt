@@ -1,20 +1,13 @@
 -- What is said of a fault, and the exit status that goes with it.
 use Rattle.std.specs.Prelude.{ℕ, ◌≡◌, ◌≢◌, List, [], ◌∷◌, ◌++◌, codes, Result, Ok, Err}
-use Rattle.std.specs.Fmt.{decimal}
-use Rattle.keycard_rules.specs.declared.issued.LookFault.{LookFault}
-use Rattle.keycard_rules.specs.declared.issued.LookFault.TheVariants as look
 use Rattle.hotel_asks.specs.Names.{name_text}
+use Rattle.hotel_audit.specs.Answers.{stopped_text}
 use Rattle.hotel_rows.specs.declared.stored.TableName.{TableName}
 use Rattle.hotel_rows.specs.declared.stored.TableName.TheVariants as table
 use Rattle.hotel_program.specs.declared.faults.Fault.{Fault}
 use Rattle.hotel_program.specs.declared.faults.Fault.TheVariants.{Usage, Unread, Memory, Store, Read, Write, TooLarge}
 use Rattle.hotel_program.specs.declared.faults.Fault.TheVariants.{NoHeader, WrongHeader, Stopped, NotADesk, Damaged}
 use Rattle.hotel_program.specs.declared.faults.Fault.TheVariants.{Seed, File, Port, Closed}
-
--- What stopped an import, and the end of the line.
-abbrev pub cause_text : LookFault → List ℕ
-cause_text look.Memory = codes ": Memory\n"
-cause_text look.Store = codes ": Store\n"
 
 -- The name of a table, and the end of the line.
 abbrev pub table_text : TableName → List ℕ
@@ -39,7 +32,7 @@ fault_text Write = codes "write\n"
 fault_text TooLarge = codes "too large\n"
 fault_text NoHeader = codes "no header\n"
 fault_text WrongHeader = codes "wrong header\n"
-fault_text (Stopped answered by) = codes "stopped after " ++ decimal answered ++ cause_text by
+fault_text (Stopped answered by) = stopped_text answered by
 fault_text NotADesk = codes "not a desk\n"
 fault_text (Damaged its_table) = codes "damaged " ++ table_text its_table
 fault_text Seed = codes "seed\n"

@@ -4,10 +4,11 @@ ghost use Rattle.std.specs.Prelude.{◌≡◌, ◌++◌, codes, true, OnOk, OnEr
 ghost use Rattle.std.specs.Io.KnownBytes.{Appends};
 ghost use Rattle.hotel_lists.specs.Calls.{NoneForgotten};
 ghost use Rattle.hotel_lists.specs.Bytes.{AppendsFront};
-ghost use Rattle.hotel_program.specs.Faults.{cause_text, table_text, fault_text, fault_status, end_status, Tells};
+ghost use Rattle.hotel_program.specs.Faults.{table_text, fault_text, fault_status, end_status, Tells};
 
 use crate::statuses::{BROKEN, FAILED, USAGE};
 use hotel_asks::ValueName;
+use hotel_audit::stopped_text;
 use hotel_lists::{IoCalls, WriteFailed, write_bytes, write_parts};
 use hotel_rows::TableName;
 use keycard_rules::LookFault;
@@ -60,16 +61,6 @@ impl Fault {
             Fault::Memory | Fault::Store | Fault::Stopped { .. } => FAILED,
             _ => BROKEN,
         }
-    }
-}
-
-/// What stopped an import, and the end of the line.
-fn cause_text(by: LookFault) -> &'static [u8]
-    ensures { result.now ≡ cause_text by }
-{
-    match by {
-        LookFault::Memory => b": Memory\n",
-        LookFault::Store => b": Store\n",
     }
 }
 
@@ -147,10 +138,7 @@ fn write_stopped<W: Write>(
     ensures failed { OnErr result (calls.new.write_failed ≡ true) }
     ensures calls { NoneForgotten calls.old calls.new }
 {
-    let mut buffer = itoa::Buffer::new();
-    let number = buffer.format(answered).as_bytes();
-    let parts = [b"stopped after ".as_slice(), number, cause_text(by)];
-    write_parts(writer, &parts, calls)
+    write_bytes(writer, stopped_text(answered, by).as_bytes(), calls)
 }
 
 /// Writes the line of a fault.

@@ -13,7 +13,6 @@ use crate::statuses::{DONE, REFUSED};
 use hotel_audit::{AuditFault, ImportFault, LineAnswer, import, write_answers};
 use hotel_core::Books;
 use hotel_lists::{IoCalls, WriteFailed};
-use keycard_rules::LookFault;
 use std::alloc::Global;
 use std::io::Write;
 
@@ -50,14 +49,7 @@ fn import_fault(fault: ImportFault) -> Fault
 {
     match fault {
         ImportFault::File(why) => file_fault(why),
-        ImportFault::Memory { answered, .. } => Fault::Stopped {
-            answered,
-            by: LookFault::Memory,
-        },
-        ImportFault::Store { answered, .. } => Fault::Stopped {
-            answered,
-            by: LookFault::Store,
-        },
+        ImportFault::Stopped { answered, by, .. } => Fault::Stopped { answered, by },
     }
 }
 

@@ -3,36 +3,13 @@
 ghost use Rattle.std.specs.Prelude.{◌≡◌, IfOk, map, fold, false, []};
 ghost use Rattle.clap.specs.Words.{app_of, with_subcommand};
 ghost use Rattle.clap.specs.declared.builder.Command.TheViews.{out-Command as fields_of};
+ghost use Rattle.hotel_asks.specs.Verbs.{texts};
 ghost use Rattle.hotel_program.specs.CommandLine.{leaf, verb_leaf, options, desk};
 
 use super::help::{about_value, about_verb};
 use clap::{Arg, Command};
-use hotel_asks::{ValueName, Verb};
+use hotel_asks::{VERBS, ValueName, Verb};
 use std::alloc::{AllocError, Global};
-
-/// The verbs, in the order in which help lists them.
-static VERBS: [Verb; 20] = [
-    Verb::Begin,
-    Verb::AddKind,
-    Verb::AddRoom,
-    Verb::Reserve,
-    Verb::Cancel,
-    Verb::CheckIn,
-    Verb::Spare,
-    Verb::Reissue,
-    Verb::Transfer,
-    Verb::CheckOut,
-    Verb::Refit,
-    Verb::NextDay,
-    Verb::Entered,
-    Verb::Left,
-    Verb::Recoded,
-    Verb::Arrivals,
-    Verb::InHouse,
-    Verb::ChainOf,
-    Verb::LeftBehind,
-    Verb::AuditOf,
-];
 
 /// A subcommand with its values, which are all required.
 fn with_values<'a>(
@@ -76,13 +53,13 @@ fn with_options<'a>(alloc: Global) -> Result<Command<'a>, AllocError>
 }
 
 /// The program's own words and the subcommands of verbs.
-fn with_verbs<'a>(alloc: Global, verbs: &[Verb]) -> Result<Command<'a>, AllocError>
-    ensures shape { IfOk result (λ c. app_of c ≡ fold with_subcommand options (map verb_leaf verbs.now)) }
+fn with_verbs<'a>(alloc: Global, verbs: &[(&'a str, Verb)]) -> Result<Command<'a>, AllocError>
+    ensures shape { IfOk result (λ c. app_of c ≡ fold with_subcommand options (map verb_leaf (texts verbs.now))) }
     ensures globals { IfOk result (λ c. (fields_of c).has_globals ≡ false) }
 {
     let mut command = with_options(alloc)?;
-    for verb in verbs {
-        let subcommand = with_values(alloc, verb.word(), about_verb(*verb), verb.values())?;
+    for row in verbs {
+        let subcommand = with_values(alloc, row.0, about_verb(row.1), row.1.values())?;
         command = command.subcommand(subcommand)?;
     }
     Ok(command)

@@ -1,24 +1,17 @@
-use Rattle.std.proofs.Common.{◌≡◌, ◌∙◌, ◌+◌, subst, false, Ok, [], ◌∷◌, ◌++◌, take, arith, sym, refl, ap, inl, ◌||◌}
-use Rattle.hotel_core.proofs.{Names.take_more, OfCode.FailuresCounted.counted_after}
+use Rattle.std.proofs.Common.{◌≡◌, ◌∙◌, ◌+◌, subst, Ok, Err, List, [], ◌∷◌, ◌++◌, length, take, arith, sym, refl, ap, inl}
+use Rattle.hotel_core.proofs.{Names.AreCounted, Names.take_more, OfCode.FailuresCounted.counted_after}
 use Rattle.std.proofs.lemmas.List.{take_all}
-use Rattle.hotel_audit.specs.{declared.answer.LineAnswer.LineAnswer, declared.answer.LineAnswer.TheVariants.Taken}
-use Rattle.hotel_audit.specs.{Import.AreAnswered, Import.LineHappens, Import.LinesLeadOn, Import.has_taken}
+use Rattle.hotel_audit.specs.{declared.answer.LineAnswer.LineAnswer, declared.imports.ImportFault.ImportFault}
+use Rattle.hotel_audit.specs.{Import.AreAnswered, Import.Imports, Import.LineHappens, Import.LinesLeadOn}
+use Rattle.hotel_audit.specs.{Import.failures_of, Import.has_taken}
 use Rattle.std.specs.Prelude.{zip}
 use Rattle.hotel_core.specs.Books.Happens.{Passes}
-use Rattle.keycard_rules.specs.declared.issued.LookFault.TheVariants as look
 use Rattle.hotel_audit.specs.declared.audit_file.AuditFault.TheVariants as fault
-use Rattle.hotel_audit.specs.declared.imports.ImportFault.TheVariants.{Memory, Store}
-use Rattle.hotel_audit.proofs.LineAnswers.{AreAnswered-append, has_taken-push, lead-join, lead-none, passes_next}
+use Rattle.hotel_audit.specs.declared.imports.ImportFault.TheVariants.{Stopped}
+use Rattle.hotel_audit.proofs.LineAnswers.{AreAnswered-append, lead-join, lead-none, passes_next}
 use Rattle.hotel_audit.proofs.LineAnswers.{unasked_both, vouched_next}
 use Rattle.hotel_audit.proofs.ImportEnds.{all_answered, answered_before, next_fails, none_begun}
 use Rattle.hotel_audit.proofs.imports.import_lines.Goals as goal
-use Rattle.hotel_audit.proofs.imports.import_lines.Goals.{then-taken, else-taken+in-Taken}
-use Rattle.hotel_audit.proofs.imports.import_lines.Goals.{else-taken+in_default-matches}
-
--- an answer other than Taken
-has_taken-other : (a : LineAnswer) → (a ≡ Taken → ⊥) → has_taken (a ∷ []) ≡ false
-has_taken-other Taken other = absurd (other refl)
-has_taken-other _ other = refl
 
 pub loop-line-init : goal.loop-line-init
 loop-line-init g c = record {
@@ -26,7 +19,6 @@ loop-line-init g c = record {
   counted = λ cause. omega arith;
   room = omega (arith, c.in-Ok.ensures.capacity);
   number = c.in-Ok.ensures.len;
-  taken = rw (c.in-Ok.ensures.items) refl;
   each = rw (c.in-Ok.ensures.items) tt;
   through = refl;
   was_honest = λ honest. honest;
@@ -38,27 +30,22 @@ loop-line-init g c = record {
 pub returns-in_default-clause-imported : goal.returns-in_default-clause-imported
 returns-in_default-clause-imported g c = none_begun g.B.Issued g.B.Books.rows c.args.books.now (g.met.B.Issued.clean_honest _) (Ok c.args.lines.now) fault.Memory (inl refl)
 
-pub returns-in-Err-Memory-clause-imported : goal.returns-in-Err-Memory-clause-imported
-returns-in-Err-Memory-clause-imported g c =
+pub returns-in-Err-clause-imported : goal.returns-in-Err-clause-imported
+returns-in-Err-clause-imported g c =
     let inv = c.loop-line.invariant in
-    let f = c.in-Err-Memory.ensures in
+    let f = c.in-Err.ensures in
     let xs = c.args.lines.now in
     let i = c.loop-line.line-index in
+    let by = c.in-Err.by in
+    let given = c.loop-line.answers.items in
+    let rows = g.B.Books.rows in
+    let old = c.args.books.now in
+    let new = c.answer_line.new.books in
     let more : take (i + 1) xs ≡ take i xs ++ c.line-item.result ∷ [] = take_more xs i c.line-item.result c.loop-line-test.true ∙ ap (λ x. take i xs ++ x ∷ []) (sym c.line-item.is) in
-    answered_before g.B.Issued g.B.Books.rows c.args.books.now c.answer_line.new.books (g.met.B.Issued.clean_honest _) c.loop-line.books c.args.lines.now c.loop-line.line-index c.loop-line.answers.items
-    c.len-answered.result c.loop-line.taken (Memory c.len-answered.result c.loop-line.taken) (λ front. front) inv.each (omega (arith, c.len-answered.ensures)) inv.taken f.was_clean f.was_honest inv.was_clean f.unchanged inv.happened
-    inv.vouched inv.through (next_fails g.B.Issued g.B.Books.rows c.args.books.now c.answer_line.new.books (g.met.B.Issued.clean_honest _) c.loop-line.books xs i c.line-item.result look.Memory more (rw c.in-Err-Memory.field-0-is at f.went))
-
-pub returns-in-Err-Store-clause-imported : goal.returns-in-Err-Store-clause-imported
-returns-in-Err-Store-clause-imported g c =
-    let inv = c.loop-line.invariant in
-    let f = c.in-Err-Store.ensures in
-    let xs = c.args.lines.now in
-    let i = c.loop-line.line-index in
-    let more : take (i + 1) xs ≡ take i xs ++ c.line-item.result ∷ [] = take_more xs i c.line-item.result c.loop-line-test.true ∙ ap (λ x. take i xs ++ x ∷ []) (sym c.line-item.is) in
-    answered_before g.B.Issued g.B.Books.rows c.args.books.now c.answer_line.new.books (g.met.B.Issued.clean_honest _) c.loop-line.books c.args.lines.now c.loop-line.line-index c.loop-line.answers.items
-    c.len-answered.result c.loop-line.taken (Store c.len-answered.result c.loop-line.taken) (λ front. front) inv.each (omega (arith, c.len-answered.ensures)) inv.taken f.was_clean f.was_honest inv.was_clean f.unchanged inv.happened
-    inv.vouched inv.through (next_fails g.B.Issued g.B.Books.rows c.args.books.now c.answer_line.new.books (g.met.B.Issued.clean_honest _) c.loop-line.books xs i c.line-item.result look.Store more (rw c.in-Err-Store.field-0-is at f.went))
+    let why : c.stopped.result ≡ Stopped (length given) by (has_taken given) = c.stopped.ensures ∙ ap (λ (l : List LineAnswer). Stopped (length l) by (has_taken l)) c.as_slice.ensures.value in
+    subst (λ (fault : ImportFault). Imports g.B.Issued rows (Ok xs) old new (Err fault)) (sym why)
+    (answered_before g.B.Issued rows old new (g.met.B.Issued.clean_honest _) c.loop-line.books xs i given by inv.each f.was_clean f.was_honest inv.was_clean f.unchanged inv.happened
+    inv.vouched inv.through (next_fails g.B.Issued rows old new (g.met.B.Issued.clean_honest _) c.loop-line.books xs i c.line-item.result by more f.went))
 
 pub returns-clause-imported : goal.returns-clause-imported
 returns-clause-imported g c =
@@ -71,11 +58,10 @@ returns-clause-imported g c =
     (λ honest. subst (λ lines. LinesLeadOn (is_clean c.args.books.now) (rows c.args.books.now) lines c.loop-line.answers.items (is_clean c.loop-line.books) (rows c.loop-line.books)) all (inv.happened honest)) inv.vouched inv.unasked
     (subst (λ lines. Passes (LineHappens g.B.Issued rows) c.args.books.now (zip lines c.loop-line.answers.items) c.loop-line.books) all inv.through)
 
-pub returns-in-Err-Memory-clause-failed : goal.returns-in-Err-Memory-clause-failed
-returns-in-Err-Memory-clause-failed g c = λ clean. counted_after _ _ _ _ c.loop-line.invariant.counted (rw c.in-Err-Memory.field-0-is at (c.in-Err-Memory.ensures.failed clean))
-
-pub returns-in-Err-Store-clause-failed : goal.returns-in-Err-Store-clause-failed
-returns-in-Err-Store-clause-failed g c = λ clean. counted_after _ _ _ _ c.loop-line.invariant.counted (rw c.in-Err-Store.field-0-is at (c.in-Err-Store.ensures.failed clean))
+pub returns-in-Err-clause-failed : goal.returns-in-Err-clause-failed
+returns-in-Err-clause-failed g c = λ clean.
+    let failed = counted_after _ _ _ _ c.loop-line.invariant.counted (c.in-Err.ensures.failed clean) in
+    subst (λ (fault : ImportFault). AreCounted (g.B.Issued.failures c.args.books.now) (g.B.Issued.failures c.answer_line.new.books) (failures_of fault)) (sym c.stopped.ensures) failed
 
 pub loop-line-preserved : goal.loop-line-preserved
 loop-line-preserved g c =
@@ -86,18 +72,11 @@ loop-line-preserved g c =
     let xs = c.args.lines.now in
     let i = c.loop-line.line-index in
     let e : take (i + 1) xs ≡ take i xs ++ c.line-item.result ∷ [] = take_more xs i c.line-item.result c.loop-line-test.true ∙ ap (λ x. take i xs ++ x ∷ []) (sym c.line-item.is) in
-    let now : c.if-taken.taken ≡ (has_taken c.loop-line.answers.items || has_taken (c.in-Ok-answer_line.answer ∷ [])) =
-    elim c.if-taken.branch [
-      | then-taken w ↦ rw (sym inv.taken, w.if-taken.true) (w.taken-is ∙ w.if-taken.true)
-      | else-taken+in-Taken w ↦ rw (sym inv.taken, w.if-taken.false, w.in-Taken.is) w.taken-is
-      | else-taken+in_default-matches w ↦ rw (sym inv.taken, w.if-taken.false, has_taken-other c.in-Ok-answer_line.answer w.in_default-matches.not-Taken) w.taken-is
-    ] in
     record {
       was_clean = λ clean. inv.was_clean (f.was_clean clean);
       counted = λ cause. omega (arith, f.counted cause, inv.counted cause);
       room = omega (arith, c.in-Ok-push.ensures.capacity, inv.room);
       number = omega (arith, c.in-Ok-push.ensures.len, inv.number);
-      taken = rw c.in-Ok-push.ensures.items (now ∙ sym (has_taken-push c.loop-line.answers.items c.in-Ok-answer_line.answer));
       each = rw (e, c.in-Ok-push.ensures.items) (AreAnswered-append (take i xs) (c.line-item.result ∷ []) c.loop-line.answers.items (c.in-Ok-answer_line.answer ∷ []) inv.each (f.answer, tt));
       through = rw (e, c.in-Ok-push.ensures.items) (passes_next (LineHappens g.B.Issued rows) c.args.books.now (take i xs) c.loop-line.answers.items c.line-item.result c.in-Ok-answer_line.answer inv.each inv.through f.went);
       was_honest = λ honest. inv.was_honest (f.was_honest honest);

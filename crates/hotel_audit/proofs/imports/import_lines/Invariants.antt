@@ -2,7 +2,7 @@ use Rattle.std.proofs.Common.{◌≡◌, ◌≢◌, ◌≤◌, [], take, length,
 use Rattle.std.specs.Prelude.{zip}
 use Rattle.keycard_rules.specs.Rise.{NoFewer}
 use Rattle.hotel_core.specs.Books.Happens.{Passes}
-use Rattle.hotel_audit.specs.Import.{AreAnswered, LineHappens, LinesLeadOn, has_taken, replies_in}
+use Rattle.hotel_audit.specs.Import.{AreAnswered, LineHappens, LinesLeadOn, replies_in}
 use Rattle.hotel_audit.proofs.imports.import_lines.Given as goal
 
 abbrev pub invariant-loop-line : goal.invariant-loop-line
@@ -16,7 +16,6 @@ invariant-loop-line g l =
       counted : NoFewer (g.B.Issued.failures l.fn.books) (g.B.Issued.failures l.books);
       room : length l.lines ≤ vec_capacity l.answers;
       number : vec_len l.answers ≡ l.line-index;
-      taken : l.taken ≡ has_taken l.answers.items;
       each : AreAnswered (take l.line-index l.lines) l.answers.items;
       through : Passes (LineHappens g.B.Issued rows) l.fn.books (zip (take l.line-index l.lines) l.answers.items) l.books;
       happened : is_honest l.books → LinesLeadOn (is_clean l.fn.books) (rows l.fn.books) (take l.line-index l.lines) l.answers.items (is_clean l.books) (rows l.books);
