@@ -61,6 +61,7 @@ fn rooms_with(rooms: &[PlainRoom], kind: &str) -> usize
 /// Whether a stay's kind has a room for it on its first night, looked up among all stays: only where no counts tell it.
 fn has_night_among(_counts: Option<&Counts>, stored: &Stored, stay: &PlainStay) -> bool
     requires untold { IfSome _counts (λ counts. tells_night counts.now stay.now ≡ false) }
+    requires damaged { _counts ≡ None → ¬ (first_damaged_of stored.now ≡ None) }
     ensures { result ≡ has_night stored.now stay.now }
 {
     let kind = stay.kind.as_str();
@@ -96,7 +97,8 @@ fn has_night_by(counts: &Counts, stay: &PlainStay) -> Option<bool>
 
 /// The same answer: by the counts where there are any and they tell it, else looked up among all stays.
 fn has_night_of(counts: Option<&Counts>, stored: &Stored, stay: &PlainStay) -> bool
-    requires { IfSome counts (λ counts. IsCountedOf stored.now counts.now) }
+    requires counted { IfSome counts (λ counts. IsCountedOf stored.now counts.now) }
+    requires damaged { counts ≡ None → ¬ (first_damaged_of stored.now ≡ None) }
     ensures { result ≡ has_night stored.now stay.now }
 {
     let Some(counts) = counts else {

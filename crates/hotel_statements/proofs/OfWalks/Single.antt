@@ -19,12 +19,8 @@ use Rattle.hotel_nights.specs.declared.stay.Stay.{Stay}
 use Rattle.hotel_nights.specs.declared.stay.StayState.{StayState}
 use Rattle.hotel_nights.specs.declared.stay.StayState.TheVariants.{Booked, InHouse, Done, Cancelled}
 use Rattle.hotel_model.specs.Stays.{is_booked_state}
-<<<<<<< ours
-use Rattle.hotel_model.specs.Refinement.ListsOnRows.{arrives_on, arrivals_on}
-use Rattle.hotel_statements.specs.Trees.{stay_tree}
-=======
 use Rattle.hotel_model.specs.{Lists.arrives_on, Refinement.ListsOnRows.arrivals_on}
->>>>>>> theirs
+use Rattle.hotel_statements.specs.Trees.{stay_tree}
 use Rattle.hotel_statements.specs.Schema.{compare}
 use Rattle.hotel_statements.specs.Values.{int}
 use Rattle.hotel_statements.specs.Columns.{state_number, stay_columns, stay_row_of, stay_of, stay_written}
