@@ -5,7 +5,7 @@ use Rattle.hotel_rows.proofs.damage.nights.has_night_of.Goals as goal
 
 pub returns-in-Some-has_night_by : goal.returns-in-Some-has_night_by
 returns-in-Some-has_night_by c =
-    let counted = rw c.in-Some.is at c.requires in
+    let counted = rw c.in-Some.is at c.requires.counted in
     c.in-Some-has_night_by.ensures.has c.args.stored.now counted
 
 pub has_night_among-requires-in-None : goal.has_night_among-requires-in-None
@@ -14,4 +14,5 @@ has_night_among-requires-in-None c = record {
     | inl tells ↦ absurd (false≢true (c.in-None.ensures.told tells))
     | inr untold ↦ untold
   ];
+  damaged = λ none. absurd (clash none);
 }
