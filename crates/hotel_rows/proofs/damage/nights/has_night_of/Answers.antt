@@ -1,5 +1,6 @@
-use Rattle.std.proofs.Common.{true, false, inl, inr}
+use Rattle.std.proofs.Common.{true, false, inl, inr, sym}
 use Rattle.std.proofs.lemmas.Bool.{cases_Bool, false≢true}
+use Rattle.std.proofs.lemmas.Option.{none-some}
 use Rattle.hotel_rows.specs.Counts.{tells_night}
 use Rattle.hotel_rows.proofs.damage.nights.has_night_of.Goals as goal
 
@@ -14,5 +15,5 @@ has_night_among-requires-in-None c = record {
     | inl tells ↦ absurd (false≢true (c.in-None.ensures.told tells))
     | inr untold ↦ untold
   ];
-  damaged = λ none. absurd (clash none);
+  damaged = λ none. absurd (none-some _ (sym none));
 }
