@@ -17,7 +17,8 @@ sys.path.insert(0, str(HERE.parent / "bench"))
 from http_routes import DESK, serve  # noqa: E402
 import scripts  # noqa: E402
 
-# Where the folders of tests are made: in memory where the machine has such a folder, since nothing waits there for a sync.
+# Where the folders of tests are made: in memory where the machine has such a folder, since nothing waits there for a
+# sync.
 ROOM = "/dev/shm" if os.access("/dev/shm", os.W_OK) else None
 
 # The codes that a seed of zeros gives.
@@ -57,7 +58,8 @@ FIRST_NOTES = FIRST_HEADER + f"""\
 def answer(status, body, media="plain", allow=""):
     """The bytes of an answer."""
     allowed = f"Allow: {allow}\r\n" if allow else ""
-    head = f"HTTP/1.1 {status}\r\nContent-Type: text/{media}; charset=utf-8\r\nContent-Length: {len(body)}\r\n{allowed}Connection: close\r\n\r\n"
+    head = (f"HTTP/1.1 {status}\r\nContent-Type: text/{media}; charset=utf-8\r\nContent-Length: {len(body)}\r\n"
+            f"{allowed}Connection: close\r\n\r\n")
     return head.encode() + body
 
 
@@ -78,7 +80,8 @@ BOOKED = [
     (request("POST /begin", b"day=2031-05-01"), answer("200 OK", b"begun\n")),
     (request("POST /kinds", b"kind=DBL"), answer("200 OK", b"kind added\n")),
     (request("POST /rooms", b"room=101&kind=DBL"), answer("200 OK", f"room code {FIRST}\n".encode())),
-    (request("POST /reservations", b"kind=DBL&arrive=2031-05-01&nights=2&guest=Ann+Lee"), answer("200 OK", b"party 1\n")),
+    (request("POST /reservations", b"kind=DBL&arrive=2031-05-01&nights=2&guest=Ann+Lee"),
+     answer("200 OK", b"party 1\n")),
 ]
 
 
@@ -98,10 +101,11 @@ class Desk:
         (folder / "zeros").write_bytes(bytes(32))
 
     def run(self, given, *words, **calls):
-        """The status, the output and the faults of a run with these words on this input, of which these calls of the system fail."""
+        """The status, the output and the faults of a run with these words on this input, of which these calls of the
+        system fail."""
         seeded = ["--seed-file", self.folder / "zeros", *words] if words else []
-        child = subprocess.run([self.program, *seeded], input=given, stdout=subprocess.PIPE, stderr=subprocess.PIPE, timeout=60,
-                               env=self.environment(calls))
+        child = subprocess.run([self.program, *seeded], input=given, stdout=subprocess.PIPE, stderr=subprocess.PIPE,
+                               timeout=60, env=self.environment(calls))
         return child.returncode, child.stdout, child.stderr
 
     def environment(self, calls):
@@ -175,9 +179,11 @@ class Desk:
         return (self.stored if is_stored else self.run)(b"", "audit", file, **calls)
 
     def answers(self, requests, piece=1 << 20, is_stored=False, **calls):
-        """What a server says to these requests, one connection each, sent in pieces of so many bytes; and how it ends."""
+        """What a server says to these requests, one connection each, sent in pieces of so many bytes; and how it
+        ends."""
         words = ["--db", self.db] if is_stored else []
-        server, port = serve(self.program, len(requests), "--seed-file", self.folder / "zeros", *words, env=self.environment(calls))
+        server, port = serve(self.program, len(requests), "--seed-file", self.folder / "zeros", *words,
+                             env=self.environment(calls))
         said = [exchange(port, asked, piece) for asked in requests]
         return said, server.wait(60), server.stderr.read()
 
