@@ -1,14 +1,15 @@
 /* Has calls of the system fail in the program that it is preloaded into.
  *
- * READS, WRITES, TELLS, RECEIVES and SENDS are for reads of standard input, writes of standard output and standard error, and reads and
- * writes of sockets. Each is the most bytes that a call moves (0: as many as it asks for), and then threes of numbers, counted over the
- * calls of its kind: from the call of this number on, so many calls end with this errno, or with no byte where it is 0. STORES is the
- * same for calls that read, write, cut or sync a database file or its log (their names end in .db and .db-wal). TRACE is a file to which
- * each of these is appended that changes or syncs one, or that fails: `write LOG PLACE SIZE FAILED` with the bytes behind the line, `cut LOG
- * SIZE 0 FAILED`, `sync LOG 0 0 FAILED`, `read LOG PLACE SIZE 1`, where LOG is 1 of a log.
+ * READS, WRITES, TELLS, RECEIVES and SENDS are for reads of standard input, writes of standard output and standard
+ * error, and reads and writes of sockets. Each is the most bytes that a call moves (0: as many as it asks for), and
+ * then threes of numbers, counted over the calls of its kind: from the call of this number on, so many calls end with
+ * this errno, or with no byte where it is 0. STORES is the same for calls that read, write, cut or sync a database file
+ * or its log (their names end in .db and .db-wal). TRACE is a file to which each of these is appended that changes or
+ * syncs one, or that fails: `write LOG PLACE SIZE FAILED` with the bytes behind the line, `cut LOG SIZE 0 FAILED`,
+ * `sync LOG 0 0 FAILED`, `read LOG PLACE SIZE 1`, where LOG is 1 of a log.
  *
- * REFUSE_AT is the number of the allocation that finds no memory, from 1 on, over malloc, calloc, realloc, posix_memalign and
- * aligned_alloc; where the program comes to it, the file named by REFUSED is made.
+ * REFUSE_AT is the number of the allocation that finds no memory, from 1 on, over malloc, calloc, realloc,
+ * posix_memalign and aligned_alloc; where the program comes to it, the file named by REFUSED is made.
  *
  * Build: cc -O1 -shared -fPIC -o failing_calls.so failing_calls.c */
 #define _GNU_SOURCE
@@ -22,7 +23,8 @@
 #include <sys/syscall.h>
 #include <unistd.h>
 
-extern void *__libc_malloc(size_t), *__libc_calloc(size_t, size_t), *__libc_realloc(void *, size_t), *__libc_memalign(size_t, size_t);
+extern void *__libc_malloc(size_t), *__libc_calloc(size_t, size_t), *__libc_realloc(void *, size_t),
+    *__libc_memalign(size_t, size_t);
 
 /* The calls of one kind: what they are told to do, and how many there were. */
 struct kind {
@@ -30,7 +32,8 @@ struct kind {
     long calls;
 };
 
-static struct kind reads = {"READS", 0}, writes = {"WRITES", 0}, tells = {"TELLS", 0}, receives = {"RECEIVES", 0}, sends = {"SENDS", 0};
+static struct kind reads = {"READS", 0}, writes = {"WRITES", 0}, tells = {"TELLS", 0},
+    receives = {"RECEIVES", 0}, sends = {"SENDS", 0};
 
 static struct kind *kind_of(int file, int is_read) {
     struct stat about;
@@ -41,7 +44,8 @@ static struct kind *kind_of(int file, int is_read) {
     return is_read ? &receives : &sends;
 }
 
-/* Counts a call of a kind: whether it is one that fails, and then *result is what it answers; if not, *size is what it may move. */
+/* Counts a call of a kind: whether it is one that fails, and then *result is what it answers; if not, *size is what it
+ * may move. */
 static int fails(struct kind *kind, size_t *size, ssize_t *result) {
     char *rest = kind ? getenv(kind->name) : NULL;
     if (!rest) return 0;
@@ -59,7 +63,9 @@ static int fails(struct kind *kind, size_t *size, ssize_t *result) {
     return 0;
 }
 
-static int file_fails(int file, int is_read, size_t *size, ssize_t *result) { return fails(kind_of(file, is_read), size, result); }
+static int file_fails(int file, int is_read, size_t *size, ssize_t *result) {
+    return fails(kind_of(file, is_read), size, result);
+}
 
 ssize_t read(int file, void *bytes, size_t size) {
     ssize_t result;
@@ -123,7 +129,9 @@ ssize_t pwrite(int file, const void *bytes, size_t size, off_t place) {
     return store_fails("write", file, place, size, bytes) ? -1 : syscall(SYS_pwrite64, file, bytes, size, place);
 }
 
-int ftruncate(int file, off_t size) { return store_fails("cut", file, size, 0, NULL) ? -1 : syscall(SYS_ftruncate, file, size); }
+int ftruncate(int file, off_t size) {
+    return store_fails("cut", file, size, 0, NULL) ? -1 : syscall(SYS_ftruncate, file, size);
+}
 
 int fdatasync(int file) { return store_fails("sync", file, 0, 0, NULL) ? -1 : syscall(SYS_fdatasync, file); }
 
