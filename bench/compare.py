@@ -3,8 +3,9 @@
 
 usage: compare.py [PROGRAM [NAME ..]]      (the built hotel_desk and all scripts, where they aren't given)
 
-A line a script: the user and system time of both, the best of 15 runs that take turns; their ratio; the greatest memory of both; and
-whether the answers are equal. At the end, how long bookings take: the last thousand of 20,000 beside the first thousand.
+A line a script: the user and system time of both, the best of 15 runs that take turns; their ratio; the greatest memory
+of both; and whether the answers are equal. At the end, how long bookings take: the last thousand of 20,000 beside the
+first thousand.
 """
 import hashlib
 import os
@@ -38,7 +39,8 @@ def best(runs):
 
 
 def first_and_last(program, folder):
-    """The times of the first and of the last thousand of 20,000 bookings that stand, each as a difference of two scripts."""
+    """The times of the first and of the last thousand of 20,000 bookings that stand, each as a difference of two
+    scripts."""
     lines = scripts.SCRIPTS["one_kind"]()
     opening = len(lines) - 20000
     fronts = []
@@ -68,7 +70,8 @@ def main():
             print(f"{name:12} {time * 1000:7.1f} and {plain_time * 1000:7.1f} ms: {time / max(plain_time, 1e-6):5.2f}"
                   f"   {memory:5.1f} and {plain_memory:5.1f} MB: {memory / plain_memory:5.2f}   {equal}", flush=True)
         first, last = first_and_last(program, folder)
-        print(f"bookings: the first thousand {first * 1000:.1f} ms, the last {last * 1000:.1f} ms: {last / max(first, 1e-6):.2f}")
+        print(f"bookings: the first thousand {first * 1000:.1f} ms, the last {last * 1000:.1f} ms: "
+              f"{last / max(first, 1e-6):.2f}")
 
 
 if __name__ == "__main__":

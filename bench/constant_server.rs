@@ -1,11 +1,13 @@
-//! Answers each of so many connections by a constant, as soon as its head has ended: what an exchange over loopback takes by itself.
+//! Answers each of so many connections by a constant, as soon as its head has ended: what an exchange over loopback
+//! takes by itself.
 //!
 //! usage: constant_server serve PORT COUNT
 use std::env;
 use std::io::{Read, Write};
 use std::net::TcpListener;
 
-const ANSWER: &[u8] = b"HTTP/1.1 200 OK\r\nContent-Type: text/csv; charset=utf-8\r\nContent-Length: 37\r\nConnection: close\r\n\r\n\
+const ANSWER: &[u8] = b"HTTP/1.1 200 OK\r\nContent-Type: text/csv; charset=utf-8\r\nContent-Length: 37\r\n\
+Connection: close\r\n\r\n\
 room,party,guest,kind,depart,secured\n";
 
 fn main() {

@@ -1,5 +1,6 @@
 #!/usr/bin/env python3
-"""Reads the five lists of the built program with Python's csv module, and compares their fields with those that are to come.
+"""Reads the five lists of the built program with Python's csv module, and compares their fields with those that are to
+come.
 
 usage: csv_readers.py      (after `rt run` in crates/hotel_desk, which builds the program)
 

@@ -1,9 +1,11 @@
 #!/usr/bin/env python3
-"""Times exchanges over loopback: the desk's list of rooms in house, beside a server that answers the same bytes as a constant.
+"""Times exchanges over loopback: the desk's list of rooms in house, beside a server that answers the same bytes as a
+constant.
 
 usage: exchange.py [PROGRAM [COUNT]]      (the built hotel_desk and 10,000, where they aren't given)
 
-Needs rustc. Both servers are timed five times, taking turns; printed are the best time of an exchange of each, and their ratio.
+Needs rustc. Both servers are timed five times, taking turns; printed are the best time of an exchange of each, and
+their ratio.
 """
 import pathlib
 import socket

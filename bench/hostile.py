@@ -1,10 +1,12 @@
 #!/usr/bin/env python3
-"""Gives the built program random bytes: as a script, an audit file, a request and a database file, and a database with some bytes replaced.
+"""Gives the built program random bytes: as a script, an audit file, a request and a database file, and a database with
+some bytes replaced.
 
 usage: hostile.py [PROGRAM [RANDOM]]      (the built hotel_desk and 1,000,000 random bytes, where they aren't given)
 
-Each run has to end with a status and a fault that the desk names, and a database file has to be whole afterwards, or as it was. Prints
-what isn't so, and at last how many runs of each were as wanted. `.ci/bytes` cuts and damages each of them byte by byte.
+Each run has to end with a status and a fault that the desk names, and a database file has to be whole afterwards, or as
+it was. Prints what isn't so, and at last how many runs of each were as wanted. `.ci/bytes` cuts and damages each of
+them byte by byte.
 """
 import errno
 import pathlib
@@ -19,9 +21,11 @@ import tempfile
 from http_routes import serve
 from stored_desk import DESK, answered, faults_of
 
-CHECKED_IN = ["begin 2031-05-01", "add-kind DBL", "add-room 101 DBL", "reserve DBL 2031-05-01 2 Ann Lee", "check-in 1 101"]
+CHECKED_IN = ["begin 2031-05-01", "add-kind DBL", "add-room 101 DBL", "reserve DBL 2031-05-01 2 Ann Lee",
+              "check-in 1 101"]
 LISTS = ["in-house", "chain 101", "audit-of 101", "arrivals 2031-05-01", "left-behind"]
-FAULTS = re.compile(r"|memory\n|store\n|read\n|too large\n|no header\n|wrong header\n|not a desk\n|damaged [a-z]+\n|closed\n")
+FAULTS = re.compile(r"|memory\n|store\n|read\n|too large\n|no header\n|wrong header\n|not a desk\n"
+                    r"|damaged [a-z]+\n|closed\n")
 STATUSES = re.compile(rb"HTTP/1\.1 (200|400|404|405|409|413|431|501|503) ")
 
 
@@ -47,7 +51,8 @@ class Desk:
         shutil.copy(self.folder / "start.db", self.db)
 
     def run(self, given, *words):
-        child = subprocess.run([self.program, *words], input=given, stdout=subprocess.PIPE, stderr=subprocess.PIPE, timeout=60)
+        child = subprocess.run([self.program, *words], input=given, stdout=subprocess.PIPE, stderr=subprocess.PIPE,
+                               timeout=60)
         return child.returncode, child.stdout.decode(), child.stderr.decode()
 
     def is_whole(self):
@@ -80,7 +85,8 @@ def random_requests_tried(desk, told, pieces):
     for sent in pieces:
         said, is_cut = answer_to(port, sent)
         told("random request", STATUSES.match(said) is not None or is_cut, sent[:50])
-    told("server", server.wait(20) == 0 and desk.is_whole() and desk.db.read_bytes() == (desk.folder / "start.db").read_bytes(), b"")
+    told("server", server.wait(20) == 0 and desk.is_whole()
+         and desk.db.read_bytes() == (desk.folder / "start.db").read_bytes(), b"")
 
 
 def random_tried(desk, told, count):
@@ -98,7 +104,8 @@ def random_tried(desk, told, count):
         told("random audit file", is_named(status, faults) and desk.is_whole(), given[:50])
         desk.db.write_bytes(given)
         status, _, faults = desk.run(b"", *desk.words("in-house"))
-        told("random database", status in (4, 5) and FAULTS.fullmatch(faults) is not None and desk.db.read_bytes() == given, given[:50])
+        is_refused = status in (4, 5) and FAULTS.fullmatch(faults) is not None
+        told("random database", is_refused and desk.db.read_bytes() == given, given[:50])
     random_requests_tried(desk, told, pieces)
     desk.fresh()
     whole = desk.db.read_bytes()
@@ -125,7 +132,8 @@ def main():
     with tempfile.TemporaryDirectory() as made:
         desk = Desk(program, pathlib.Path(made))
         random_tried(desk, told, count)
-    print(", ".join(f"{what} {number}" for what, number in good.items()) + " as wanted" + (f"; not: {bad}" if bad else ""))
+    print(", ".join(f"{what} {number}" for what, number in good.items()) + " as wanted"
+          + (f"; not: {bad}" if bad else ""))
     sys.exit(1 if bad else 0)
 
 

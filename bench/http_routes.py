@@ -3,8 +3,8 @@
 
 usage: http_routes.py [PROGRAM]      (the built hotel_desk where it isn't given)
 
-Each client gets a server of its own, over books in memory and a seed of zeros. Prints what differs from what is wanted, and at last
-'N answers as wanted'; status 1 where something differs.
+Each client gets a server of its own, over books in memory and a seed of zeros. Prints what differs from what is wanted,
+and at last 'N answers as wanted'; status 1 where something differs.
 """
 import http.client
 import pathlib
@@ -23,18 +23,22 @@ HEADER = "room,fit,count,kind,card,old,new,at"
 FIRST_HEADER = "room,count,kind,card,old,new,at"
 LINK = "1,{first},{second},2031-05-01"
 
-# method, path, fields or a body, status, type, body: CODE stands for any code, {name} for one that an earlier body gave as (?P<name>..)
+# method, path, fields or a body, status, type, body: CODE stands for any code, {name} for one that an earlier body gave
+# as (?P<name>..)
 ROUTES = [
     ("POST", "/begin", {"day": "2031-05-01"}, 200, "plain", "begun\n"),
     ("POST", "/kinds", {"kind": "DBL"}, 200, "plain", "kind added\n"),
     ("POST", "/rooms", {"room": "101", "kind": "DBL"}, 200, "plain", f"room code (?P<first>{CODE})\n"),
     ("POST", "/rooms", {"room": "102", "kind": "DBL"}, 200, "plain", f"room code (?P<other>{CODE})\n"),
-    ("POST", "/reservations", {"kind": "DBL", "arrive": "2031-05-01", "nights": "2", "guest": "Ann Lee"}, 200, "plain", "party 1\n"),
-    ("POST", "/reservations", {"kind": "DBL", "arrive": "2031-05-01", "nights": "1", "guest": "Lee, Bo"}, 200, "plain", "party 2\n"),
+    ("POST", "/reservations", {"kind": "DBL", "arrive": "2031-05-01", "nights": "2", "guest": "Ann Lee"}, 200, "plain",
+     "party 1\n"),
+    ("POST", "/reservations", {"kind": "DBL", "arrive": "2031-05-01", "nights": "1", "guest": "Lee, Bo"}, 200, "plain",
+     "party 2\n"),
     ("GET", "/arrivals/2031-05-01", None, 200, "csv",
      'party,guest,kind,arrive,depart\n1,Ann Lee,DBL,2031-05-01,2031-05-03\n2,"Lee, Bo",DBL,2031-05-01,2031-05-02\n'),
     ("POST", "/reservations/2/cancel", {}, 200, "plain", "cancelled\n"),
-    ("POST", "/reservations/1/check-in", {"room": "101"}, 200, "plain", f"card 1 party 1 old {{first}} new (?P<second>{CODE})\n"),
+    ("POST", "/reservations/1/check-in", {"room": "101"}, 200, "plain",
+     f"card 1 party 1 old {{first}} new (?P<second>{CODE})\n"),
     ("POST", "/reservations/1/spare", {}, 200, "plain", "card 2 party 1 old {first} new {second}\n"),
     ("POST", "/audit", f"{HEADER}\n101,1,1,in,{LINK}T15:00:00\n101,1,2,out,{LINK}T16:00:00\n", 200, "plain",
      "1 taken\n2 taken\n"),
@@ -48,7 +52,8 @@ ROUTES = [
      f"101,1,3,in,{LINK}T16:00:00\n101,1,4,out,{LINK}T17:00:00\n"),
     ("GET", "/in-house", None, 200, "csv", "room,party,guest,kind,depart,secured\n101,1,Ann Lee,DBL,2031-05-03,yes\n"),
     ("POST", "/reservations/1/reissue", {}, 200, "plain", f"card 3 party 1 old {{second}} new {CODE}\n"),
-    ("POST", "/reservations/1/transfer", {"room": "102"}, 200, "plain", f"card 4 party 1 old {{other}} new (?P<third>{CODE})\n"),
+    ("POST", "/reservations/1/transfer", {"room": "102"}, 200, "plain",
+     f"card 4 party 1 old {{other}} new (?P<third>{CODE})\n"),
     ("GET", "/left-behind", None, 200, "csv", "room,held,current,awaited\n"),
     ("POST", "/rooms/102/refit", {}, 409, "plain", "refused 14 RoomTaken\n"),
     ("POST", "/reservations/1/check-out", {}, 200, "plain", "checked out\n"),
@@ -78,8 +83,8 @@ def by_curl(port, method, path, body, folder):
     elif body is not None:
         (folder / "body").write_text(body)
         words += ["--data-binary", f"@{folder / 'body'}"]
-    said = subprocess.run([*words, f"http://127.0.0.1:{port}{path}"], stdout=subprocess.PIPE, check=True).stdout.decode()
-    text, _, last = said.rpartition("\n")
+    child = subprocess.run([*words, f"http://127.0.0.1:{port}{path}"], stdout=subprocess.PIPE, check=True)
+    text, _, last = child.stdout.decode().rpartition("\n")
     status, _, kind = last.partition(" ")
     return int(status), kind, text
 
@@ -98,7 +103,8 @@ def serve(program, count, *words, env=None):
     with socket.socket() as probe:
         probe.bind(("127.0.0.1", 0))
         port = probe.getsockname()[1]
-    server = subprocess.Popen([program, *words, "serve", str(port), str(count)], stdout=subprocess.PIPE, stderr=subprocess.PIPE, env=env)
+    server = subprocess.Popen([program, *words, "serve", str(port), str(count)], stdout=subprocess.PIPE,
+                              stderr=subprocess.PIPE, env=env)
     line = server.stdout.readline().decode()
     assert line == f"listening on 127.0.0.1:{port}\n", f"{line!r} {server.stderr.read()!r}"
     return server, port

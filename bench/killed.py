@@ -1,12 +1,14 @@
 #!/usr/bin/env python3
-"""Kills the desk at random moments while a script or a client drives it over a database file, and looks at what stands then.
+"""Kills the desk at random moments while a script or a client drives it over a database file, and looks at what stands
+then.
 
 usage: killed.py [PROGRAM [TIMES [SEED]]]      (the built hotel_desk, 200 and 1, where they aren't given)
 
-Each time a new desk is begun and killed (SIGKILL) after a random part of the time that the whole script takes; every second time the
-lines come as requests of a client to `serve`. What was answered has to be what the same lines answer over memory, and the lists over
-the file have to answer as those over memory do after the lines that were answered, or after one line more; so every answer is true of
-the tables, and the desk opens. C SQLite has to find the file whole. Prints what differs, and at last how many runs were killed.
+Each time a new desk is begun and killed (SIGKILL) after a random part of the time that the whole script takes; every
+second time the lines come as requests of a client to `serve`. What was answered has to be what the same lines answer
+over memory, and the lists over the file have to answer as those over memory do after the lines that were answered, or
+after one line more; so every answer is true of the tables, and the desk opens. C SQLite has to find the file whole.
+Prints what differs, and at last how many runs were killed.
 """
 import http.client
 import pathlib
@@ -84,15 +86,18 @@ def is_true(program, words, lines, answers):
     """Whether the answers, and the lists over the file, are those of the lines that were answered, or of one more."""
     lists = lists_of(lines)
     found = answered(program, lists, *words, "script").split("\n")
-    over_memory = [answered(program, lines[:count] + lists).split("\n") for count in (len(answers), len(answers) + 1) if count <= len(lines)]
-    return over_memory[0][: len(answers)] == answers and found in [said[len(answers) + more :] for more, said in enumerate(over_memory)]
+    over_memory = [answered(program, lines[:count] + lists).split("\n")
+                   for count in (len(answers), len(answers) + 1) if count <= len(lines)]
+    return over_memory[0][: len(answers)] == answers and found in [
+        said[len(answers) + more :] for more, said in enumerate(over_memory)]
 
 
 def main():
     program = pathlib.Path(sys.argv[1] if len(sys.argv) > 1 else DESK).resolve()
     times = int(sys.argv[2]) if len(sys.argv) > 2 else 200
     chance = random.Random(int(sys.argv[3]) if len(sys.argv) > 3 else 1)
-    lines = [line for line in scripts.SCRIPTS["hotels_day"]() if line.split()[0] in KINDS or line.split()[0] in FORMS][:LINES]
+    lines = [line for line in scripts.SCRIPTS["hotels_day"]()
+             if line.split()[0] in KINDS or line.split()[0] in FORMS][:LINES]
     bad, stopped, counts, whole = 0, 0, [], {}
     with tempfile.TemporaryDirectory() as made:
         folder = pathlib.Path(made)
@@ -109,10 +114,12 @@ def main():
                 counts.append(len(answers))
             if not is_true(program, words, lines, answers) or faults_of(words[1]):
                 bad += 1
-                print(f"{drive.__name__}, ended with {status} after {len(answers)} answers: they aren't true of the file, or it isn't whole")
+                print(f"{drive.__name__}, ended with {status} after {len(answers)} answers: "
+                      "they aren't true of the file, or it isn't whole")
             for file in folder.glob(f"desk{turn}.db*"):
                 file.unlink()
-    print(f"{stopped} of {times} runs killed, after {min(counts)} to {max(counts)} of {len(lines)} answers; {bad} not as wanted")
+    print(f"{stopped} of {times} runs killed, after {min(counts)} to {max(counts)} of {len(lines)} answers; "
+          f"{bad} not as wanted")
     sys.exit(1 if bad else 0)
 
 

@@ -1,5 +1,6 @@
-//! A plain desk in Rust, unproved, to time the proved one against: std's maps, counts of the nights by kind, each answer
-//! written by itself. It takes the scripts of `scripts.py`, of which no line is refused, and ends at any other line.
+//! A plain desk in Rust, unproved, to time the proved one against: std's maps, counts of the nights by kind, each
+//! answer written by itself. It takes the scripts of `scripts.py`, of which no line is refused, and ends at any other
+//! line.
 use std::collections::{BTreeMap, BTreeSet};
 use std::io::{Read, Write};
 
@@ -270,7 +271,8 @@ impl Desk {
                 text += "place,code,state\n";
                 let room = &self.rooms[&words[1].parse().unwrap()];
                 for (place, code) in room.codes.iter().enumerate() {
-                    let state = ["passed", "held", "awaited"][(place >= room.place) as usize + (place > room.place) as usize];
+                    let at = (place >= room.place) as usize + (place > room.place) as usize;
+                    let state = ["passed", "held", "awaited"][at];
                     text += &format!("{place},{code:012x},{state}\n");
                 }
             }
@@ -293,7 +295,8 @@ impl Desk {
             }
             "audit-of" => {
                 text += "room,fit,count,kind,card,old,new,at\n";
-                for (i, (enters, card, link, day, s)) in self.rooms[&words[1].parse().unwrap()].notes.iter().enumerate() {
+                let room = &self.rooms[&words[1].parse().unwrap()];
+                for (i, (enters, card, link, day, s)) in room.notes.iter().enumerate() {
                     let (kind, at) = (if *enters { "in" } else { "out" }, date(*day));
                     let clock = format!("{:02}:{:02}:{:02}", s / 3600, s / 60 % 60, s % 60);
                     let codes = format!("{:012x},{:012x}", link.0, link.1);

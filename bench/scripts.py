@@ -70,7 +70,8 @@ def hotels_day(most, rooms):
         room, count, party = turn % rooms + 1, turn // rooms * 2 + 1, turn + 1
         link = (held[room - 1], next(source))
         held[room - 1] = link[1]
-        lines += [f"reserve K0 {FIRST} 1 Guest {party}", f"check-in {party} {room}", note("entered", room, count, party, link)]
+        lines += [f"reserve K0 {FIRST} 1 Guest {party}", f"check-in {party} {room}",
+                  note("entered", room, count, party, link)]
         lines += [note("left", room, count + 1, party, link), f"check-out {party}"]
 
 
@@ -89,7 +90,8 @@ def moves(most):
         room, party = turn % len(kind_of), 2 * turn + 1
         other = room + 1 if kind_of[room + 1 : room + 2] == [kind_of[room]] else room - 1
         book = f"reserve K{kind_of[room]} {FIRST} 1 G"
-        lines += [book, f"check-in {party} {room + 1}", f"spare {party}", f"transfer {party} {other + 1}", f"check-out {party}"]
+        lines += [book, f"check-in {party} {room + 1}", f"spare {party}", f"transfer {party} {other + 1}",
+                  f"check-out {party}"]
         lines += [book, f"cancel {party + 1}"]
 
 
@@ -110,7 +112,8 @@ def notes(most, rooms):
         if len(lines) >= most:
             return lines
         room, count = turn % rooms + 1, turn // rooms * 2 + 1
-        lines += [note("entered", room, count, room, links[room - 1]), note("left", room, count + 1, room, links[room - 1])]
+        lines += [note("entered", room, count, room, links[room - 1]),
+                  note("left", room, count + 1, room, links[room - 1])]
 
 
 def crowd(cards):

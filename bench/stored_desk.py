@@ -1,11 +1,12 @@
 #!/usr/bin/env python3
 """Runs scripts over a database file: the answers are those over memory, and C SQLite finds the file whole.
 
-usage: stored_desk.py [PROGRAM [LINES]]      (the built hotel_desk and the first 2,000 lines of each script, where they aren't given)
+usage: stored_desk.py [PROGRAM [LINES]]      (the built hotel_desk and the first 2,000 lines of each script, where they
+                                             aren't given)
 
-After each script of scripts.py the file has to pass `PRAGMA integrity_check` and `foreign_key_check` of Python's sqlite3, and a further
-run of the lists over the file has to answer as the script with the lists behind it does over memory. Prints what differs, and at last
-'N scripts as wanted'.
+After each script of scripts.py the file has to pass `PRAGMA integrity_check` and `foreign_key_check` of Python's
+sqlite3, and a further run of the lists over the file has to answer as the script with the lists behind it does over
+memory. Prints what differs, and at last 'N scripts as wanted'.
 """
 import pathlib
 import sqlite3
@@ -31,7 +32,8 @@ def lists_of(lines):
 
 def answered(program, lines, *words):
     """The answers of a script over memory, or over what the words name."""
-    child = subprocess.run([program, *words], input="".join(f"{line}\n" for line in lines).encode(), stdout=subprocess.PIPE, check=True)
+    script = "".join(f"{line}\n" for line in lines).encode()
+    child = subprocess.run([program, *words], input=script, stdout=subprocess.PIPE, check=True)
     return child.stdout.decode()
 
 

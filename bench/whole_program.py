@@ -3,8 +3,8 @@
 
 usage: whole_program.py [PROGRAM]      (the built hotel_desk where it isn't given)
 
-Prints what differs from what is wanted, and at last 'N runs as wanted'; status 1 where something differs. A file that must not be
-changed is compared byte by byte.
+Prints what differs from what is wanted, and at last 'N runs as wanted'; status 1 where something differs. A file that
+must not be changed is compared byte by byte.
 """
 import os
 import pathlib
@@ -24,8 +24,8 @@ HEADER = "room,fit,count,kind,card,old,new,at\n"
 FIRST_HEADER = "room,count,kind,card,old,new,at\n"
 ENTRY = f"101,1,1,in,1,{FIRST},{SECOND},2031-05-01T15:00:00\n"
 
-# One desk in one file, a run after the other: words, standard input, status, output, faults. The seed is of zeros in each run, so a
-# draw passes over the codes that were issued before.
+# One desk in one file, a run after the other: words, standard input, status, output, faults. The seed is of zeros in
+# each run, so a draw passes over the codes that were issued before.
 STORED = [
     ("begin 2031-05-01", "", 0, "begun\n", ""),
     ("begin 2031-05-01", "", 3, "refused 2 AlreadyBegun\n", ""),
@@ -88,14 +88,16 @@ class Runs:
         self.names["short"].write_bytes(bytes(31))
 
     def limited(self):
-        """Lets no file of the child grow past the limit; the signal that would tell so stays ignored, as Python has it."""
+        """Lets no file of the child grow past the limit; the signal that would tell so stays ignored, as Python has
+        it."""
         if self.limit is not None:
             resource.setrlimit(resource.RLIMIT_FSIZE, (self.limit, self.limit))
 
     def ran(self, words, given="", output=None):
         with open(output or self.folder / "output", "wb") as taken:
-            child = subprocess.run([self.program, *words], input=given.encode(), stdout=taken, stderr=subprocess.PIPE, timeout=60, user=self.user,
-                                   preexec_fn=self.limited, restore_signals=self.limit is None)
+            child = subprocess.run([self.program, *words], input=given.encode(), stdout=taken, stderr=subprocess.PIPE,
+                                   timeout=60, user=self.user, preexec_fn=self.limited,
+                                   restore_signals=self.limit is None)
         said = "" if output else (self.folder / "output").read_text()
         return child.returncode, said, child.stderr.decode()
 
@@ -121,9 +123,13 @@ class Runs:
 
 def damaged(runs, desk):
     """Each damaged table is named, and the file isn't changed."""
-    for table, statement in (("meta", "UPDATE meta SET day = NULL"), ("kind", "INSERT INTO kind VALUES ('dbl')"), ("room", "UPDATE room SET secured = 1, codes = 1, lock_place = 0"),
-                             ("stay", "UPDATE stay SET depart = arrive + 91"), ("code", "UPDATE code SET place = 5 WHERE place = 1"), ("card", "UPDATE card SET number = 5 WHERE number = 2"),
-                             ("inside", "UPDATE room SET lock_place = 0, secured = 0; INSERT INTO inside VALUES (101, 1)"), ("note", "UPDATE note SET n = 9 WHERE n = 2")):
+    for table, statement in (
+            ("meta", "UPDATE meta SET day = NULL"), ("kind", "INSERT INTO kind VALUES ('dbl')"),
+            ("room", "UPDATE room SET secured = 1, codes = 1, lock_place = 0"),
+            ("stay", "UPDATE stay SET depart = arrive + 91"), ("code", "UPDATE code SET place = 5 WHERE place = 1"),
+            ("card", "UPDATE card SET number = 5 WHERE number = 2"),
+            ("inside", "UPDATE room SET lock_place = 0, secured = 0; INSERT INTO inside VALUES (101, 1)"),
+            ("note", "UPDATE note SET n = 9 WHERE n = 2")):
         broken = runs.folder / f"damaged_{table}"
         broken.write_bytes(desk.read_bytes())
         with sqlite3.connect(broken) as to:
@@ -172,7 +178,8 @@ def others(runs, desk):
 
 def full(runs, desk):
     """A disk that takes no more of the database: nothing is done, and the same run is done once there is room."""
-    for runs.limit, *wanted in ((0, 4, "", "store\n"), (4096, 4, "refused 30 Store\n", ""), (None, 0, "kind added\n", "")):
+    for runs.limit, *wanted in ((0, 4, "", "store\n"), (4096, 4, "refused 30 Store\n", ""),
+                                (None, 0, "kind added\n", "")):
         runs.wanted(f"files of at most {runs.limit} bytes", runs.on(desk, "add-kind SGL"), *wanted)
 
 
@@ -183,8 +190,9 @@ def without_file(runs):
     if (runs.folder / "never").exists():
         runs.wanted("a short seed makes no file", True, False, None, None)
     runs.wanted("no seed file", runs.ran(["--seed-file", str(runs.names["missing"]), "in-house"]), 5, "", "seed\n")
-    runs.wanted("seed before audit file", runs.ran(["--seed-file", str(runs.names["short"]), "audit", str(runs.names["missing"])]), 5, "", "seed\n")
-    runs.wanted("words before seed", runs.ran(["--seed-file", str(runs.names["short"]), "chain", "x"]), 2, "", "unread ROOM\n")
+    short = ["--seed-file", str(runs.names["short"])]
+    runs.wanted("seed before audit file", runs.ran([*short, "audit", str(runs.names["missing"])]), 5, "", "seed\n")
+    runs.wanted("words before seed", runs.ran([*short, "chain", "x"]), 2, "", "unread ROOM\n")
     runs.wanted("a full disk", runs.ran([*seed, "in-house"], output="/dev/full"), 5, "", "write\n")
     runs.wanted("nothing", runs.ran([]), 0, "", "")
     runs.wanted("the system's source", runs.ran(["begin", "2031-05-01"]), 0, "begun\n", "")
@@ -194,7 +202,8 @@ def without_file(runs):
     runs.wanted("help of one", (status, "ROOM" in output, faults), 0, True, "")
     status, output, faults = runs.ran(["no-such-word"])
     runs.wanted("an unknown word", (status, output, "no-such-word" in faults), 2, "", True)
-    closed = subprocess.run(["bash", "-c", '"$0" "$@" >&-', runs.program, *seed, "in-house"], stderr=subprocess.PIPE, timeout=60)
+    closed = subprocess.run(["bash", "-c", '"$0" "$@" >&-', runs.program, *seed, "in-house"], stderr=subprocess.PIPE,
+                            timeout=60)
     runs.wanted("a closed output", (closed.returncode, "", closed.stderr.decode()), 5, "", "write\n")
 
 
