@@ -6,7 +6,7 @@ use Rattle.keycard_rules.specs.{Note.Note, Numerals.number_up_to, Numerals.read_
 use Rattle.keycard_rules.specs.{declared.note.Act.Act}
 use Rattle.keycard_rules.specs.declared.note.Act.TheVariants.{Entered, Left, Recoded}
 use Rattle.keycard_rules.specs.Results.{◌>>=◌}
-use Rattle.hotel_nights.specs.Moments.{read_moment}
+use Rattle.hotel_nights.specs.Moments.{note_from, read_moment}
 use Rattle.hotel_audit.specs.{declared.line.Cause.Cause, declared.line.Happening.Happening}
 use Rattle.hotel_audit.specs.declared.line.Cause.TheVariants.{FieldCount, BadRoom, BadFit, BadCount, BadKind, BadCard}
 use Rattle.hotel_audit.specs.declared.line.Cause.TheVariants.{BadOld, BadNew, BadMoment}
@@ -48,7 +48,7 @@ note_of fields = do
   old ← ok_or (read_code fields.old_code) BadOld
   new ← ok_or (read_code fields.new_code) BadNew
   moment ← ok_or (read_moment fields.moment) BadMoment
-  Ok (record { room = room; fit = fit; count = count; act = act_of what (record { old_code = old; new_code = new }); day = moment.0; second = moment.1 })
+  Ok (note_from room fit count (act_of what (record { old_code = old; new_code = new })) moment)
 
 -- the line of what was read
 abbrev pub line_of : Result Note Cause → Line

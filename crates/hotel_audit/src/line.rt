@@ -97,8 +97,7 @@ fn read_note(fields: &Fields) -> Result<LockNote, Cause>
     let new_code = Code::read(fields.new_code).ok_or(Cause::BadNew)?;
     let moment = Moment::read(fields.moment).ok_or(Cause::BadMoment)?;
     let act = act_of(happening, Link { old_code, new_code });
-    let day = moment.day().number();
-    LockNote::new(room, fit, count, act, day, moment.second()).ok_or(Cause::BadMoment)
+    Ok(moment.note(room, fit, count, act))
 }
 
 /// Reads one record after the header.

@@ -16,7 +16,8 @@ use Rattle.keycard_rules.specs.declared.note.Act.TheVariants as act
 use Rattle.keycard_rules.specs.Note.{Note}
 use Rattle.hotel_model.specs.Words.{is_one_of}
 use Rattle.hotel_model.specs.Event as event
-use Rattle.hotel_model.specs.Event.{Event, moment_of}
+use Rattle.hotel_model.specs.Event.{Event}
+use Rattle.hotel_nights.specs.Moments.{moment_of}
 use Rattle.hotel_model.specs.History.{History}
 use Rattle.hotel_model.specs.Cards.{card_of, link_to}
 use Rattle.hotel_model.specs.Ledger.{awaited}

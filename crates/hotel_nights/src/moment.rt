@@ -2,9 +2,10 @@
 
 ghost use Rattle.std.specs.Prelude.{◌≡◌, ℕ, ◌≤◌, Some};
 ghost use Rattle.hotel_nights.specs.Moments.{moment_within, read_moment, read_time, moment_text, time_text};
+ghost use Rattle.hotel_nights.specs.Moments.{moment_of, note_from};
 
 use crate::day::{Day, two_digits};
-use keycard_rules::read_numeral;
+use keycard_rules::{Act, Count, FitNo, LockNote, RoomNo, read_numeral};
 use std::marker::Model;
 
 /// A second of a day, in no time zone: each day has 86,400.
@@ -66,6 +67,29 @@ impl Moment {
             return None;
         }
         Some(Moment { day, second })
+    }
+
+    /// When the lock noted it.
+    pub fn of(note: &LockNote) -> Moment
+        ensures { result ≡ moment_of note.now }
+    {
+        let Some(day) = Day::new(note.day()) else {
+            unreachable!()
+        };
+        Moment {
+            day,
+            second: note.second(),
+        }
+    }
+
+    /// What a room's lock notes at this moment.
+    pub fn note(self, room: RoomNo, fit: FitNo, count: Count, act: Act) -> LockNote
+        ensures { result ≡ note_from room fit count act self }
+    {
+        match LockNote::new(room, fit, count, act, self.day.number(), self.second) {
+            Some(note) => note,
+            None => unreachable!(),
+        }
     }
 
     /// The day.
