@@ -2,6 +2,7 @@
 use Rattle.std.specs.Prelude.{ℕ, ◌+◌, ◌*◌, ◌/◌, ◌%◌, ◌&&◌, ◌||◌, ◌==◌, List, ◌∷◌, ◌++◌, length, if◌then◌else◌, nat_le}
 use Rattle.std.specs.Prelude.{Option, Some, None, slice_index, slice_range}
 use Rattle.keycard_rules.specs.{Numerals.numeral, Numerals.fixed_text, Note.Note, declared.note.Act.Act}
+use Rattle.keycard_rules.specs.declared.note.TheConstants.{LAST_SECOND}
 use Rattle.hotel_nights.specs.Days.{read_day, day_text, ◌>>=◌}
 
 -- the moment of a note
@@ -15,7 +16,7 @@ note_from room fit count act at =
 
 -- that second of the day, unless a day has fewer
 abbrev pub moment_within : ℕ → ℕ → Option (ℕ × ℕ)
-moment_within day second = if nat_le second 86399 then Some (day, second) else None
+moment_within day second = if nat_le second LAST_SECOND then Some (day, second) else None
 
 -- the second of the day that `HH:MM:SS` writes: eight bytes, colons (byte 58), hours to 23, minutes and seconds to 59
 abbrev pub read_time : List ℕ → Option ℕ
