@@ -16,15 +16,15 @@ use keycard_rules::{Act, CardNo, Code, Count, FitNo, Link, LockNote, RoomNo};
 pub enum Cause {
     /// It hasn't as many fields as the header.
     FieldCount,
-    /// The room isn't a number from 1 to 9,999.
+    /// The room isn't a room's number.
     BadRoom,
-    /// The number of the room's lock isn't one from 1 to 99.
+    /// The fit isn't a number of a room's locks.
     BadFit,
-    /// The count isn't a number from 1 to 9,999,999.
+    /// The count isn't one that a lock gives its notes.
     BadCount,
     /// The kind isn't `in`, `out` or `recode`.
     BadKind,
-    /// The card isn't a number from 1 to 9,999,999, or not empty where the kind is `recode`.
+    /// The card isn't a card's number, or not empty where the kind is `recode`.
     BadCard,
     /// The old code isn't one to twelve hexadecimal digits.
     BadOld,
