@@ -3,6 +3,7 @@ use Rattle.std.specs.Prelude.{ℕ, Bool, true, false, List, [], ◌∷◌, Resul
 use Rattle.keycard_rules.specs.Results.{◌>>=◌}
 use Rattle.keycard_rules.specs.{declared.card.Link.Link, declared.note.Act.Act}
 use Rattle.keycard_rules.specs.declared.note.Act.TheVariants as act
+use Rattle.hotel_nights.specs.Moments.{note_from}
 use Rattle.hotel_model.specs.declared.command.Command.{Command}
 use Rattle.hotel_model.specs.declared.command.Command.TheVariants as command
 use Rattle.hotel_asks.specs.{declared.asks.Ask.Ask, declared.values.Lock.Lock}
@@ -86,7 +87,7 @@ of_four _ kind arrive nights guest = Err Number
 
 -- The report of a lock's note: the note's count, what happened, and the day and second of it.
 abbrev pub report_of : Lock → ℕ → Act → ℕ × ℕ → Ask
-report_of lock count what at = ask.Command (command.Reported (record { room = lock.room; fit = lock.fit; count = count; act = what; day = at.0; second = at.1 }))
+report_of lock count what at = ask.Command (command.Reported (note_from lock.room lock.fit count what at))
 
 -- A verb with five values.
 abbrev pub of_five : Verb → List ℕ → List ℕ → List ℕ → List ℕ → List ℕ → Result Ask ValueFault

@@ -11,6 +11,7 @@ use Rattle.hotel_asks.specs.{declared.values.AskFault.AskFault}
 use Rattle.hotel_asks.specs.{declared.values.AskFault.TheVariants.Values, declared.values.AskFault.TheVariants.Memory}
 use Rattle.hotel_asks.specs.{declared.values.ValueName.ValueName, declared.values.Lock.Lock}
 use Rattle.keycard_rules.specs.Results.{◌>>=◌}
+use Rattle.keycard_rules.specs.declared.numbers.TheConstants.{LAST_FIT, LAST_NUMBER, LAST_ROOM}
 use Rattle.hotel_asks.specs.declared.values.ValueName.TheVariants.{Kind, Nights, Guest, Room, Lock as LockName, Party}
 use Rattle.hotel_asks.specs.declared.values.ValueName.TheVariants.{Card, Count, Moment}
 
@@ -32,7 +33,7 @@ abbrev pub guest_in : List ℕ → Result (List ℕ) ValueFault
 guest_in text = if is_utf8 text && is_guest text then Ok text else Err (Value Guest)
 
 abbrev pub room_in : List ℕ → Result ℕ ValueFault
-room_in text = ok_or (number_up_to 9999 text) (Value Room)
+room_in text = ok_or (number_up_to LAST_ROOM text) (Value Room)
 
 -- where a text's first slash is, or its length where it has none
 unfoldable pub slash_in : List ℕ → ℕ
@@ -40,24 +41,24 @@ slash_in text = position_or_len (λ b. b == 47) text
 
 -- the number of a lock after the slash at a place, or the first one where the text ends there
 abbrev pub fit_after : List ℕ → ℕ → Option ℕ
-fit_after text slash = if slash == length text then Some 1 else number_up_to 99 (drop (slash + 1) text)
+fit_after text slash = if slash == length text then Some 1 else number_up_to LAST_FIT (drop (slash + 1) text)
 
 -- A lock: a room, or a room, a slash and the number of the room's lock. Without that number it is the room's first
 -- lock.
 abbrev pub lock_in : List ℕ → Result Lock ValueFault
 lock_in text = do
-  r ← ok_or (number_up_to 9999 (take (slash_in text) text)) (Value LockName)
+  r ← ok_or (number_up_to LAST_ROOM (take (slash_in text) text)) (Value LockName)
   f ← ok_or (fit_after text (slash_in text)) (Value LockName)
   Ok (record { room = r; fit = f })
 
 abbrev pub party_in : List ℕ → Result ℕ ValueFault
-party_in text = ok_or (number_up_to 9999999 text) (Value Party)
+party_in text = ok_or (number_up_to LAST_NUMBER text) (Value Party)
 
 abbrev pub card_in : List ℕ → Result ℕ ValueFault
-card_in text = ok_or (number_up_to 9999999 text) (Value Card)
+card_in text = ok_or (number_up_to LAST_NUMBER text) (Value Card)
 
 abbrev pub count_in : List ℕ → Result ℕ ValueFault
-count_in text = ok_or (number_up_to 9999999 text) (Value Count)
+count_in text = ok_or (number_up_to LAST_NUMBER text) (Value Count)
 
 abbrev pub moment_in : List ℕ → Result (ℕ × ℕ) ValueFault
 moment_in text = ok_or (read_moment text) (Value Moment)

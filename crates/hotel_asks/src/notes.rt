@@ -10,17 +10,14 @@ use crate::values::{
 use crate::verbs::Verb;
 use hotel_core::Command;
 use hotel_nights::Moment;
-use keycard_rules::{Act, CardNo, Count, Link, LockNote};
+use keycard_rules::{Act, CardNo, Count, Link};
 
 /// The report of a lock's note.
 pub fn report_of(lock: Lock, count: Count, act: Act, at: Moment) -> Ask
     ensures { result ≡ report_of lock count act at }
 {
-    let day = at.day().number();
-    match LockNote::new(lock.room, lock.fit, count, act, day, at.second()) {
-        Some(note) => Ask::Command(Command::Reported(note)),
-        None => unreachable!(),
-    }
+    let note = at.note(lock.room, lock.fit, count, act);
+    Ask::Command(Command::Reported(note))
 }
 
 fn read_link(old: &[u8], new: &[u8]) -> Result<Link, ValueFault>

@@ -150,7 +150,7 @@ fn fit_after(text: &[u8], slash: usize) -> Option<FitNo>
     FitNo::read(&text[slash + 1..])
 }
 
-/// Reads a lock: a room's number, or that, a slash and the number of the room's lock, 1 to 99. Without a slash it is
+/// Reads a lock: a room's number, or that, a slash and the number of the room's lock. Without a slash it is
 /// the room's first lock. What isn't read is refused as `ValueName::Lock`.
 pub fn read_lock(text: &[u8]) -> Result<Lock, ValueFault>
     ensures { result ≡ lock_in text.now }

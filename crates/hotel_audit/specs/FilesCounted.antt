@@ -4,7 +4,8 @@ use Rattle.std.specs.List.{range_with_len, slice_get}
 use Rattle.rand_core.specs.Stream.{Stream}
 use Rattle.keycard_rules.specs.{Note.Note, declared.note.Act.Act}
 use Rattle.keycard_rules.specs.declared.note.Act.TheVariants as act
-use Rattle.hotel_model.specs.{declared.command.Command.Command, declared.reply.Reply.Reply, Event.moment_of}
+use Rattle.hotel_model.specs.{declared.command.Command.Command, declared.reply.Reply.Reply}
+use Rattle.hotel_nights.specs.Moments.{moment_of}
 use Rattle.hotel_model.specs.declared.command.Command.TheVariants as command
 use Rattle.hotel_model.specs.declared.reply.Reply.TheVariants as reply
 use Rattle.hotel_model.specs.{Event.Event, Event.Entered, Event.Left, Event.Recoded, History.History, History.◌▷◌}

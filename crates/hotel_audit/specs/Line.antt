@@ -6,7 +6,8 @@ use Rattle.keycard_rules.specs.{Note.Note, Numerals.number_up_to, Numerals.read_
 use Rattle.keycard_rules.specs.{declared.note.Act.Act}
 use Rattle.keycard_rules.specs.declared.note.Act.TheVariants.{Entered, Left, Recoded}
 use Rattle.keycard_rules.specs.Results.{◌>>=◌}
-use Rattle.hotel_nights.specs.Moments.{read_moment}
+use Rattle.keycard_rules.specs.declared.numbers.TheConstants.{LAST_FIT, LAST_NUMBER, LAST_ROOM}
+use Rattle.hotel_nights.specs.Moments.{note_from, read_moment}
 use Rattle.hotel_audit.specs.{declared.line.Cause.Cause, declared.line.Happening.Happening}
 use Rattle.hotel_audit.specs.declared.line.Cause.TheVariants.{FieldCount, BadRoom, BadFit, BadCount, BadKind, BadCard}
 use Rattle.hotel_audit.specs.declared.line.Cause.TheVariants.{BadOld, BadNew, BadMoment}
@@ -17,7 +18,7 @@ use Rattle.hotel_audit.specs.{declared.header.Columns.Columns, Fields.FieldTexts
 
 -- the number of a card
 abbrev pub card_in : List ℕ → Result ℕ Cause
-card_in text = ok_or (number_up_to 9999999 text) BadCard
+card_in text = ok_or (number_up_to LAST_NUMBER text) BadCard
 
 -- what the kind and the card say: `in` and `out` are of a card, `recode` of none
 abbrev pub happening : List ℕ → List ℕ → Result Happening Cause
@@ -41,14 +42,14 @@ act_of Recode link = Recoded link.old_code link.new_code
 -- the note of the fields, each read in its turn
 abbrev pub note_of : FieldTexts → Result Note Cause
 note_of fields = do
-  room ← ok_or (number_up_to 9999 fields.room) BadRoom
-  fit ← ok_or (number_up_to 99 fields.fit) BadFit
-  count ← ok_or (number_up_to 9999999 fields.count) BadCount
+  room ← ok_or (number_up_to LAST_ROOM fields.room) BadRoom
+  fit ← ok_or (number_up_to LAST_FIT fields.fit) BadFit
+  count ← ok_or (number_up_to LAST_NUMBER fields.count) BadCount
   what ← happening fields.kind fields.card
   old ← ok_or (read_code fields.old_code) BadOld
   new ← ok_or (read_code fields.new_code) BadNew
   moment ← ok_or (read_moment fields.moment) BadMoment
-  Ok (record { room = room; fit = fit; count = count; act = act_of what (record { old_code = old; new_code = new }); day = moment.0; second = moment.1 })
+  Ok (note_from room fit count (act_of what (record { old_code = old; new_code = new })) moment)
 
 -- the line of what was read
 abbrev pub line_of : Result Note Cause → Line

@@ -16,15 +16,15 @@ use keycard_rules::{Act, CardNo, Code, Count, FitNo, Link, LockNote, RoomNo};
 pub enum Cause {
     /// It hasn't as many fields as the header.
     FieldCount,
-    /// The room isn't a number from 1 to 9,999.
+    /// The room isn't a room's number.
     BadRoom,
-    /// The number of the room's lock isn't one from 1 to 99.
+    /// The fit isn't a number of a room's locks.
     BadFit,
-    /// The count isn't a number from 1 to 9,999,999.
+    /// The count isn't one that a lock gives its notes.
     BadCount,
     /// The kind isn't `in`, `out` or `recode`.
     BadKind,
-    /// The card isn't a number from 1 to 9,999,999, or not empty where the kind is `recode`.
+    /// The card isn't a card's number, or not empty where the kind is `recode`.
     BadCard,
     /// The old code isn't one to twelve hexadecimal digits.
     BadOld,
@@ -97,8 +97,7 @@ fn read_note(fields: &Fields) -> Result<LockNote, Cause>
     let new_code = Code::read(fields.new_code).ok_or(Cause::BadNew)?;
     let moment = Moment::read(fields.moment).ok_or(Cause::BadMoment)?;
     let act = act_of(happening, Link { old_code, new_code });
-    let day = moment.day().number();
-    LockNote::new(room, fit, count, act, day, moment.second()).ok_or(Cause::BadMoment)
+    Ok(moment.note(room, fit, count, act))
 }
 
 /// Reads one record after the header.

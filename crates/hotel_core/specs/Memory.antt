@@ -3,6 +3,7 @@ use Rattle.std.specs.Prelude.{ℕ, ◌≡◌, ◌≤◌, ◌<◌, ◌^◌, List,
 use Rattle.std.specs.Map.{lookup, values_of}
 use Rattle.std.specs.BTreeMap.{is_at}
 use Rattle.keycard_rules.specs.{Note.Note, Numbers.IsNumberUpTo}
+use Rattle.keycard_rules.specs.declared.numbers.TheConstants.{LAST_NUMBER, LAST_ROOM}
 use Rattle.hotel_nights.specs.declared.stay.Stay.{Stay}
 use Rattle.hotel_model.specs.{declared.rows.RoomRow.RoomRow, declared.rows.CodeRow.CodeRow, Words.pair_cmp}
 use Rattle.hotel_model.specs.{Rows.Rows, Rows.column_at, Rows.rooms_of_kind, Refinement.Lookups.first_code_at}
@@ -25,7 +26,7 @@ LaterPlacesFree rooms codes =
 -- Each room is kept under a room's number.
 abbrev pub HaveRoomNumbers : List (ℕ × RoomRow) → Type 0
 HaveRoomNumbers [] = Unit {0}
-HaveRoomNumbers (e ∷ es) = IsNumberUpTo 9999 e.0 × HaveRoomNumbers es
+HaveRoomNumbers (e ∷ es) = IsNumberUpTo LAST_ROOM e.0 × HaveRoomNumbers es
 
 -- As many rooms of each kind are counted as there are, and each has a room's number.
 pub record RoomsKnown (kinds : List (List ℕ × ℕ)) (rooms : List (ℕ × RoomRow)) : Type 0 where
@@ -44,7 +45,7 @@ CountsNightsOf blocks stays = CountsNights blocks (values_of stays)
 -- Each pair's second number is a card's.
 abbrev pub HaveCardNumbers : List (ℕ × ℕ) → Type 0
 HaveCardNumbers [] = Unit {0}
-HaveCardNumbers (e ∷ es) = IsNumberUpTo 9999999 e.1 × HaveCardNumbers es
+HaveCardNumbers (e ∷ es) = IsNumberUpTo LAST_NUMBER e.1 × HaveCardNumbers es
 
 -- Each note is kept under a number of 32 bits.
 abbrev pub HaveCounts : List ((ℕ × ℕ) × Note) → Type 0

@@ -8,8 +8,7 @@ use Rattle.keycard_rules.specs.{Rise.HasRisen, Rise.NoFewer, declared.issued.Iss
 use Rattle.keycard_rules.specs.{Numerals.code_text, Note.Note, declared.note.Act.Act}
 use Rattle.keycard_rules.specs.declared.issued.LookFault.TheVariants as look
 use Rattle.keycard_rules.specs.declared.note.Act.TheVariants.{Entered, Left, Recoded}
-use Rattle.hotel_model.specs.Event.{moment_of}
-use Rattle.hotel_nights.specs.{Days.day_text, Moments.moment_text, declared.stay.Stay.Stay}
+use Rattle.hotel_nights.specs.{Days.day_text, Moments.moment_of, Moments.moment_text, declared.stay.Stay.Stay}
 use Rattle.hotel_model.specs.{declared.rows.RoomRow.RoomRow, declared.list_rows.HouseRow.HouseRow}
 use Rattle.hotel_model.specs.{declared.list_rows.ChainRow.ChainRow}
 use Rattle.hotel_model.specs.{declared.list_rows.BehindRow.BehindRow, declared.list_rows.CodeState.CodeState}

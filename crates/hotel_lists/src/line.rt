@@ -2,14 +2,13 @@
 ghost use Rattle.std.specs.Prelude.{◌≡◌, ℕ, List, [], ◌∷◌, ◌++◌, OnOk};
 ghost use Rattle.std.specs.Fmt.{decimal};
 ghost use Rattle.keycard_rules.specs.Numerals.{code_text};
-ghost use Rattle.hotel_nights.specs.Moments.{moment_text};
-ghost use Rattle.hotel_model.specs.Event.{moment_of};
+ghost use Rattle.hotel_nights.specs.Moments.{moment_of, moment_text};
 ghost use Rattle.hotel_lists.specs.Lines.{line_of, arrival_line, house_line, chain_line, behind_line, note_line};
 ghost use Rattle.hotel_lists.specs.Lines.{yes_or_no, state_text};
 
 use crate::gathered::Gathered;
 use hotel_core::{BehindRow, ChainRow, CodeState, HouseRow};
-use hotel_nights::{Day, Moment, Stay};
+use hotel_nights::{Moment, Stay};
 use keycard_rules::{Act, Code, LockNote, Memory};
 
 /// A row that has a line.
@@ -105,19 +104,6 @@ impl Line for BehindRow {
     }
 }
 
-/// When the lock noted it.
-fn moment_of(note: &LockNote) -> Moment
-    ensures { result ≡ moment_of note.now }
-{
-    let Some(day) = Day::new(note.day()) else {
-        unreachable!()
-    };
-    let Some(moment) = Moment::new(day, note.second()) else {
-        unreachable!()
-    };
-    moment
-}
-
 /// The line of a note whose act has this kind, card and codes.
 fn note_fields(
     lines: &mut Gathered,
@@ -127,14 +113,14 @@ fn note_fields(
     old: Code,
     new: Code,
 ) -> Result<(), Memory>
-    ensures { OnOk result (lines.new ≡ lines.old ++ line_of (decimal note.now.room ∷ decimal note.now.fit ∷ decimal note.now.count ∷ kind.now ∷ card.now ∷ code_text old ∷ code_text new ∷ moment_text (note.now.day, note.now.second) ∷ [])) }
+    ensures { OnOk result (lines.new ≡ lines.old ++ line_of (decimal note.now.room ∷ decimal note.now.fit ∷ decimal note.now.count ∷ kind.now ∷ card.now ∷ code_text old ∷ code_text new ∷ moment_text (moment_of note.now) ∷ [])) }
 {
     let mut room = itoa::Buffer::new();
     let mut fit = itoa::Buffer::new();
     let mut count = itoa::Buffer::new();
     let old = old.print();
     let new = new.print();
-    let at = moment_of(note).print();
+    let at = Moment::of(note).print();
     lines.push(&[
         room.format(note.room().value()).as_bytes(),
         fit.format(note.fit().value()).as_bytes(),

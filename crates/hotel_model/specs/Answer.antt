@@ -14,9 +14,11 @@ use Rattle.hotel_model.specs.declared.reply.Refusal.TheVariants.{HeldDiffers, No
 use Rattle.keycard_rules.specs.declared.note.Act.{Act}
 use Rattle.keycard_rules.specs.declared.note.Act.TheVariants as act
 use Rattle.keycard_rules.specs.Note.{Note}
+use Rattle.keycard_rules.specs.declared.note.TheConstants.{LAST_DAY}
 use Rattle.hotel_model.specs.Words.{is_one_of}
 use Rattle.hotel_model.specs.Event as event
-use Rattle.hotel_model.specs.Event.{Event, moment_of}
+use Rattle.hotel_model.specs.Event.{Event}
+use Rattle.hotel_nights.specs.Moments.{moment_of}
 use Rattle.hotel_model.specs.History.{History}
 use Rattle.hotel_model.specs.Cards.{card_of, link_to}
 use Rattle.hotel_model.specs.Ledger.{awaited}
@@ -62,7 +64,7 @@ checks h (command.AddKind kind) = needs (is_begun h) NotBegun ∷ bars (is_kind 
 checks h (command.AddRoom room kind) = needs (is_begun h) NotBegun ∷ needs (is_kind h kind) NoKind ∷ bars (is_room h room) RoomExists ∷ []
 checks h (command.Reserve guest kind arrive nights) =
     needs (is_begun h) NotBegun ∷ needs (is_kind h kind) NoKind ∷ bars (nat_lt arrive (today h)) PastArrival
-    ∷ bars (nat_lt 36524 (arrive + nights)) PastEnd ∷ option_map KindFull (first_full h kind arrive nights) ∷ bars (parties_used_up h) NumbersUsedUp ∷ []
+    ∷ bars (nat_lt LAST_DAY (arrive + nights)) PastEnd ∷ option_map KindFull (first_full h kind arrive nights) ∷ bars (parties_used_up h) NumbersUsedUp ∷ []
 checks h (command.Cancel party) = needs (is_begun h) NotBegun ∷ needs (is_party h party) NoParty ∷ needs (is_booked h party) NotBooked ∷ []
 checks h (command.CheckIn party room) =
     needs (is_begun h) NotBegun ∷ needs (is_room h room) NoRoom ∷ needs (is_party h party) NoParty ∷ needs (is_booked h party) NotBooked
@@ -77,7 +79,7 @@ checks h (command.Transfer party room) =
 checks h (command.CheckOut party) = needs (is_begun h) NotBegun ∷ needs (is_party h party) NoParty ∷ needs (is_in_house h party) NotInHouse ∷ []
 checks h (command.Refit room) =
     needs (is_begun h) NotBegun ∷ needs (is_room h room) NoRoom ∷ bars (is_taken h room) RoomTaken ∷ bars (fits_used_up h room) FitsUsedUp ∷ []
-checks h command.NextDay = needs (is_begun h) NotBegun ∷ needs (nat_lt (today h) 36524) LastDay ∷ []
+checks h command.NextDay = needs (is_begun h) NotBegun ∷ needs (nat_lt (today h) LAST_DAY) LastDay ∷ []
 checks h (command.Reported note) = needs (is_begun h) NotBegun ∷ needs (is_room h note.room) NoRoom ∷ needs (is_fit h note.room note.fit) NoFit ∷ []
 
 -- a fresh code is issued at the room, and the party is given a card with it

@@ -9,6 +9,7 @@ use Rattle.hotel_model.specs.Rows.{at_number}
 use Rattle.hotel_model.specs.History.{History}
 use Rattle.hotel_model.specs.Cards.{cards, link_of_party, same_link}
 use Rattle.keycard_rules.specs.Lock.{turn}
+use Rattle.keycard_rules.specs.declared.numbers.TheConstants.{LAST_NUMBER}
 use Rattle.hotel_model.specs.Lock.{held}
 use Rattle.hotel_model.specs.Guests.{registered}
 use Rattle.hotel_model.specs.Stays.{day, kinds, rooms, stays, is_booked_state, room_of_state}
@@ -73,9 +74,9 @@ is_home h room party = is_that (registered h room) party
 abbrev pub is_taken : History → ℕ → Bool
 is_taken h room = is_some (registered h room)
 
--- Parties and cards are numbered from 1 on, up to 9,999,999: there are as many parties as there are numbers
+-- Parties and cards are numbered from 1 up to the last number: there are as many parties as there are numbers
 abbrev pub parties_used_up : History → Bool
-parties_used_up h = nat_le 9999999 (length (stays h))
+parties_used_up h = nat_le LAST_NUMBER (length (stays h))
 
 -- the number that the next party is given
 abbrev pub next_party : History → ℕ
@@ -83,7 +84,7 @@ next_party h = length (stays h) + 1
 
 -- there are as many cards as there are numbers
 abbrev pub cards_used_up : History → Bool
-cards_used_up h = nat_le 9999999 (length (cards h))
+cards_used_up h = nat_le LAST_NUMBER (length (cards h))
 
 -- the number that the next card is given
 abbrev pub next_card : History → ℕ

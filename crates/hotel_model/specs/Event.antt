@@ -2,16 +2,12 @@
 use Rattle.std.specs.Prelude.{ℕ, List, Option, Some, None}
 use Rattle.keycard_rules.specs.declared.card.Link.{Link}
 use Rattle.keycard_rules.specs.Note.{Note}
-use Rattle.keycard_rules.specs.declared.note.Act.{Act}
 use Rattle.keycard_rules.specs.declared.note.Act.TheVariants as act
+use Rattle.hotel_nights.specs.Moments.{note_from}
 
 -- a day, and a second of it
 abbrev pub Moment : Type 0
 Moment = ℕ × ℕ
-
--- the moment of a note
-abbrev pub moment_of : Note → Moment
-moment_of note = (note.day, note.second)
 
 -- What happened.
 pub data Event : Type 0 where
@@ -42,11 +38,6 @@ pub data Event : Type 0 where
   Left : (room fit count number : ℕ) → Link → Moment → Event
   -- a lock reports: staff recoded it
   Recoded : (room fit count from to : ℕ) → Moment → Event
-
--- the note of a room's lock, by its count and what it says at a moment
-abbrev pub note_from : ℕ → ℕ → ℕ → Act → Moment → Note
-note_from room fit count its_act at =
-    record { room = room; fit = fit; count = count; act = its_act; day = at.0; second = at.1 }
 
 -- the note that an event took, where it took one
 abbrev pub note_of : Event → Option Note

@@ -2,6 +2,8 @@
 use Rattle.std.specs.Prelude.{ℕ, ◌≡◌, ◌≤◌, ◌<◌, ◌^◌, ◌+◌, true}
 use Rattle.keycard_rules.specs.Numbers.{IsNumberUpTo}
 use Rattle.keycard_rules.specs.Note.{IsTimed}
+use Rattle.keycard_rules.specs.declared.note.TheConstants.{LAST_DAY}
+use Rattle.keycard_rules.specs.declared.numbers.TheConstants.{LAST_FIT, LAST_NUMBER, LAST_ROOM}
 use Rattle.hotel_nights.specs.Kinds.{is_kind}
 use Rattle.hotel_nights.specs.Guests.{is_guest}
 use Rattle.hotel_model.specs.declared.command.Command.{Command}
@@ -12,23 +14,23 @@ use Rattle.hotel_model.specs.Event.{Event, Begun, Kind, Install, Reserved, Issue
 
 -- a day of the calendar
 abbrev pub IsDay : ℕ → Type 0
-IsDay day = day ≤ 36524
+IsDay day = day ≤ LAST_DAY
 
 -- a code has 48 bits
 abbrev pub IsCode : ℕ → Type 0
 IsCode code = code < 2 ^ 48
 
--- a room has a number from 1 to 9999
+-- a room has a number from 1 on
 abbrev pub IsRoomNumber : ℕ → Type 0
-IsRoomNumber room = IsNumberUpTo 9999 room
+IsRoomNumber room = IsNumberUpTo LAST_ROOM room
 
 -- a count or a number of a party or card
 abbrev pub IsCount : ℕ → Type 0
-IsCount count = IsNumberUpTo 9999999 count
+IsCount count = IsNumberUpTo LAST_NUMBER count
 
--- a room's locks are numbered from 1 to 99
+-- a room's locks are numbered from 1 on
 abbrev pub IsFit : ℕ → Type 0
-IsFit fit = IsNumberUpTo 99 fit
+IsFit fit = IsNumberUpTo LAST_FIT fit
 
 -- the command's values are in their ranges
 abbrev pub IsCommand : Command → Type 0

@@ -1,6 +1,7 @@
 -- The fits of each room: its locks, one after the other, numbered from 1 on.
 use Rattle.std.specs.Prelude.{ℕ, Bool, List, ◌+◌, ◌==◌, nat_le, length}
 use Rattle.std.specs.BTreeMap.{insert_entry}
+use Rattle.keycard_rules.specs.declared.numbers.TheConstants.{LAST_FIT}
 use Rattle.hotel_model.specs.declared.rows.FitRow.{FitRow}
 use Rattle.hotel_model.specs.Words.{when, pair_cmp}
 use Rattle.hotel_model.specs.Rows.{column_at}
@@ -37,9 +38,9 @@ fits (h ▷ _) = fits h
 abbrev pub is_fit : History → ℕ → ℕ → Bool
 is_fit h room number = nat_le number (present_fit h room)
 
--- a room has up to 99 fits
+-- the room's fit is the last that a room can have
 abbrev pub fits_used_up : History → ℕ → Bool
-fits_used_up h room = nat_le 99 (present_fit h room)
+fits_used_up h room = nat_le LAST_FIT (present_fit h room)
 
 -- the fit that the room's next lock is given
 abbrev pub next_fit : History → ℕ → ℕ

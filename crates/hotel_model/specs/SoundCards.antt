@@ -5,6 +5,7 @@ use Rattle.std.specs.List.{list_any, list_all}
 use Rattle.std.specs.Map.{keys_of, values_of}
 use Rattle.keycard_rules.specs.declared.card.Card.{Card}
 use Rattle.keycard_rules.specs.declared.card.Link.{Link}
+use Rattle.keycard_rules.specs.declared.numbers.TheConstants.{LAST_NUMBER}
 use Rattle.hotel_model.specs.declared.rows.CodeRow.{CodeRow}
 use Rattle.hotel_model.specs.Words.{said_of}
 use Rattle.hotel_model.specs.Rows.{Rows, at_number, codes_by_place, codes_at, begins_fit, newest_link_at}
@@ -45,7 +46,7 @@ each_card rows rule = list_all (λ (e : ℕ × Card). rule e.1) rows.cards
 
 -- each row has the number that is its key; the numbers are 1 to n, n at most 9,999,999
 abbrev pub card_numbers : Rows → Bool
-card_numbers rows = list_all (λ (e : ℕ × Card). e.1.number == e.0) rows.cards && count_up 1 (keys_of rows.cards) && nat_le (length rows.cards) 9999999
+card_numbers rows = list_all (λ (e : ℕ × Card). e.1.number == e.0) rows.cards && count_up 1 (keys_of rows.cards) && nat_le (length rows.cards) LAST_NUMBER
 
 -- each card's party has a stay
 abbrev pub card_parties_there : Rows → Bool

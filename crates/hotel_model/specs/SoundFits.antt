@@ -2,6 +2,7 @@
 use Rattle.std.specs.Prelude.{ℕ, Bool, true, List, [], ◌∷◌, ◌++◌, ◌-◌, ◌==◌, ◌&&◌, nat_le, length, is_some, map}
 use Rattle.std.specs.Ordering.{nat_cmp}
 use Rattle.std.specs.List.{list_all}
+use Rattle.keycard_rules.specs.declared.numbers.TheConstants.{LAST_FIT, LAST_NUMBER}
 use Rattle.hotel_model.specs.declared.rows.RoomRow.{RoomRow}
 use Rattle.hotel_model.specs.declared.rows.FitRow.{FitRow}
 use Rattle.hotel_model.specs.Words.{said_of}
@@ -16,10 +17,10 @@ fit_rooms_there rows = list_all (λ (e : (ℕ × ℕ) × FitRow). is_some (at_nu
 abbrev pub each_fitted : Rows → (List FitRow → RoomRow → Bool) → Bool
 each_fitted rows rule = each_room rows (λ row. rule (fits_at rows.fits row.room) row)
 
--- each row is of its key; the numbers of each room's fits are 1 to n, n from 1 to 99
+-- each row is of its key; the numbers of each room's fits are 1 to n, n from 1 on
 abbrev pub fit_numbers : Rows → Bool
 fit_numbers rows = list_all (λ (e : (ℕ × ℕ) × FitRow). (e.1.room == e.0.0) && (e.1.fit == e.0.1)) rows.fits
-    && each_fitted rows (λ fits row. count_up 1 (map (λ (f : FitRow). f.fit) fits) && nat_le 1 (length fits) && nat_le (length fits) 99)
+    && each_fitted rows (λ fits row. count_up 1 (map (λ (f : FitRow). f.fit) fits) && nat_le 1 (length fits) && nat_le (length fits) LAST_FIT)
 
 -- the first of some fits is at place 0, with no note before it
 abbrev pub first_is_first : List FitRow → Bool
@@ -60,7 +61,7 @@ last_fits_noted rows = each_fitted rows (λ fits row. said_of (last_fit fits) tr
 abbrev pub rise_by_few : List ℕ → Bool
 rise_by_few [] = true
 rise_by_few (n ∷ []) = true
-rise_by_few (n ∷ m ∷ ns) = nat_le (m - n) 9999999 && rise_by_few (m ∷ ns)
+rise_by_few (n ∷ m ∷ ns) = nat_le (m - n) LAST_NUMBER && rise_by_few (m ∷ ns)
 
 -- no fit has more than 9,999,999 notes
 abbrev pub fit_notes_few : Rows → Bool

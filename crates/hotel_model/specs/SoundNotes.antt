@@ -7,6 +7,7 @@ use Rattle.keycard_rules.specs.declared.card.Link.{Link}
 use Rattle.keycard_rules.specs.Note.{Note}
 use Rattle.keycard_rules.specs.declared.note.Act.{Act}
 use Rattle.keycard_rules.specs.declared.note.Act.TheVariants as act
+use Rattle.keycard_rules.specs.declared.note.TheConstants.{LAST_SECOND}
 use Rattle.hotel_model.specs.declared.rows.CodeRow.{CodeRow}
 use Rattle.hotel_model.specs.declared.rows.RoomRow.{RoomRow}
 use Rattle.hotel_model.specs.declared.rows.FitRow.{FitRow}
@@ -59,7 +60,7 @@ act_fits rows room (act.Recoded from to) = code_is rows from (λ first. code_is 
 -- the note is of its room, which is there, what it says fits the room, and its time is one
 abbrev pub note_fits : Rows → (ℕ × ℕ) × Note → Bool
 note_fits rows e =
-    (e.1.room == e.0.0) && is_some (at_number rows.rooms e.0.0) && act_fits rows e.0.0 e.1.act && is_day e.1.day && nat_le e.1.second 86399
+    (e.1.room == e.0.0) && is_some (at_number rows.rooms e.0.0) && act_fits rows e.0.0 e.1.act && is_day e.1.day && nat_le e.1.second LAST_SECOND
 
 -- each note fits
 abbrev pub notes_fit : Rows → Bool

@@ -1,9 +1,11 @@
 -- The rules of sound rows, first part: the day, kinds and rooms. Each rule is a test of all rows.
-use Rattle.std.specs.Prelude.{ℕ, Bool, true, false, List, [], ◌∷◌, ◌+◌, ◌-◌, ◌==◌, ◌&&◌, ◌||◌, not, nat_le, nat_lt}
+use Rattle.std.specs.Prelude.{ℕ, Bool, true, false, List, [], ◌∷◌, ◌+◌, ◌*◌, ◌-◌, ◌==◌, ◌&&◌, ◌||◌, not, nat_le, nat_lt}
 use Rattle.std.specs.Prelude.{length, is_some, bytes_eq}
 use Rattle.std.specs.Ordering.{is_lt}
 use Rattle.std.specs.declared.cmp.Ordering.{Ordering}
 use Rattle.std.specs.List.{list_all}
+use Rattle.keycard_rules.specs.declared.note.TheConstants.{LAST_DAY}
+use Rattle.keycard_rules.specs.declared.numbers.TheConstants.{LAST_FIT, LAST_NUMBER, LAST_ROOM}
 use Rattle.hotel_model.specs.declared.rows.RoomRow.{RoomRow}
 use Rattle.hotel_model.specs.Words.{is_that, said_of}
 use Rattle.hotel_model.specs.Rows.{Rows, at_number, has_kind, fits_at, begins_fit}
@@ -25,7 +27,7 @@ count_up n (x ∷ xs) = (x == n) && count_up (n + 1) xs
 
 -- a day of the calendar
 abbrev pub is_day : ℕ → Bool
-is_day d = nat_le d 36524
+is_day d = nat_le d LAST_DAY
 
 -- the day is null or in range
 abbrev pub day_in_range : Rows → Bool
@@ -45,9 +47,9 @@ kinds_read rows = list_all is_kind rows.kinds
 abbrev pub each_room : Rows → (RoomRow → Bool) → Bool
 each_room rows rule = list_all (λ (e : ℕ × RoomRow). rule e.1) rows.rooms
 
--- each row has the number that is its key, 1 to 9999
+-- each row has the number that is its key, from 1 on
 abbrev pub room_numbers : Rows → Bool
-room_numbers rows = list_all (λ (e : ℕ × RoomRow). (e.1.room == e.0) && nat_le 1 e.0 && nat_le e.0 9999) rows.rooms
+room_numbers rows = list_all (λ (e : ℕ × RoomRow). (e.1.room == e.0) && nat_le 1 e.0 && nat_le e.0 LAST_ROOM) rows.rooms
 
 -- the lock's place is one of the room's codes
 abbrev pub lock_places : Rows → Bool
@@ -61,9 +63,9 @@ room_kinds_there rows = each_room rows (λ row. has_kind rows row.kind)
 abbrev pub codes_few : Rows → Bool
 codes_few rows = each_room rows (λ row. nat_le row.codes (length rows.cards + length (fits_at rows.fits row.room)))
 
--- a room has at most 99 times 9,999,999 notes
+-- a room has at most as many notes as all fits of a room can count
 abbrev pub note_counts : Rows → Bool
-note_counts rows = each_room rows (λ row. nat_le row.notes 989999901)
+note_counts rows = each_room rows (λ row. nat_le row.notes (LAST_FIT * LAST_NUMBER))
 
 -- the party is in house at the row's room, and booked its kind
 abbrev pub is_home_of : Rows → RoomRow → ℕ → Bool

@@ -2,6 +2,7 @@
 use Rattle.std.specs.Prelude.{ℕ, Bool, true, ◌+◌, ◌==◌, ◌&&◌, nat_le, nat_lt, length}
 use Rattle.std.specs.List.{list_all}
 use Rattle.std.specs.Map.{keys_of, values_of}
+use Rattle.keycard_rules.specs.declared.numbers.TheConstants.{LAST_NUMBER}
 use Rattle.hotel_nights.specs.declared.stay.Stay.{Stay}
 use Rattle.hotel_model.specs.Words.{is_that, said_of}
 use Rattle.hotel_model.specs.Rows.{Rows, has_kind, room_is, rooms_of_kind}
@@ -16,7 +17,7 @@ each_stay rows rule = list_all (λ (e : ℕ × Stay). rule e.1) rows.stays
 
 -- each row has the number that is its key; the numbers are 1 to n, n at most 9,999,999
 abbrev pub stay_numbers : Rows → Bool
-stay_numbers rows = list_all (λ (e : ℕ × Stay). e.1.party == e.0) rows.stays && count_up 1 (keys_of rows.stays) && nat_le (length rows.stays) 9999999
+stay_numbers rows = list_all (λ (e : ℕ × Stay). e.1.party == e.0) rows.stays && count_up 1 (keys_of rows.stays) && nat_le (length rows.stays) LAST_NUMBER
 
 -- each guest reads as a guest's name: 1 to 60 bytes of UTF-8, no control character, no space first or last
 abbrev pub guests_read : Rows → Bool

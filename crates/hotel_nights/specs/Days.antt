@@ -2,11 +2,11 @@
 use Rattle.std.specs.Prelude.{ℕ, zero, suc, ◌+◌, ◌-◌, ◌&&◌, ◌==◌, Bool, List, ◌∷◌, ◌++◌, length, if◌then◌else◌, nat_le}
 use Rattle.std.specs.Prelude.{nat_lt, Option, Some, None, option_and_then, slice_index, slice_range, pos}
 use Rattle.jiff_core.specs.Calendar.{days_in_month, day_count}
-use Rattle.keycard_rules.specs.Numerals.{numeral, fixed_text}
+use Rattle.keycard_rules.specs.{Numerals.numeral, Numerals.fixed_text, declared.note.TheConstants.LAST_DAY}
 
 -- the day of a number of days after 2000-01-01, unless it is after 2099-12-31
 abbrev pub day_of_number : ℕ → Option ℕ
-day_of_number n = if nat_le n 36524 then Some n else None
+day_of_number n = if nat_le n LAST_DAY then Some n else None
 
 -- a year, a month and a day
 pub record Ymd : Type 0 where

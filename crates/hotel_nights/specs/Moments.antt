@@ -1,12 +1,22 @@
 -- Moments: a day and a second of it.
 use Rattle.std.specs.Prelude.{ℕ, ◌+◌, ◌*◌, ◌/◌, ◌%◌, ◌&&◌, ◌||◌, ◌==◌, List, ◌∷◌, ◌++◌, length, if◌then◌else◌, nat_le}
 use Rattle.std.specs.Prelude.{Option, Some, None, slice_index, slice_range}
-use Rattle.keycard_rules.specs.Numerals.{numeral, fixed_text}
+use Rattle.keycard_rules.specs.{Numerals.numeral, Numerals.fixed_text, Note.Note, declared.note.Act.Act}
+use Rattle.keycard_rules.specs.declared.note.TheConstants.{LAST_SECOND}
 use Rattle.hotel_nights.specs.Days.{read_day, day_text, ◌>>=◌}
+
+-- the moment of a note
+abbrev pub moment_of : Note → ℕ × ℕ
+moment_of note = (note.day, note.second)
+
+-- the note of a room's lock, by its count and what it says at a moment
+abbrev pub note_from : ℕ → ℕ → ℕ → Act → ℕ × ℕ → Note
+note_from room fit count act at =
+    record { room = room; fit = fit; count = count; act = act; day = at.0; second = at.1 }
 
 -- that second of the day, unless a day has fewer
 abbrev pub moment_within : ℕ → ℕ → Option (ℕ × ℕ)
-moment_within day second = if nat_le second 86399 then Some (day, second) else None
+moment_within day second = if nat_le second LAST_SECOND then Some (day, second) else None
 
 -- the second of the day that `HH:MM:SS` writes: eight bytes, colons (byte 58), hours to 23, minutes and seconds to 59
 abbrev pub read_time : List ℕ → Option ℕ

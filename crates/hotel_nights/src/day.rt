@@ -2,16 +2,16 @@
 
 ghost use Rattle.std.specs.Prelude.{◌≡◌, ℕ, ◌≤◌, ◌+◌, Some, option_map};
 ghost use Rattle.hotel_nights.specs.Days.{day_of_number, read_ymd, ymd, read_day, day_text};
-ghost use Rattle.keycard_rules.specs.Numerals.{fixed_text};
+ghost use Rattle.keycard_rules.specs.{Numerals.fixed_text, declared.note.TheConstants.LAST_DAY};
 
 use jiff::civil::Date;
 use jiff_core::civil::Date as PlainDate;
-use keycard_rules::{read_numeral, write_fixed};
+use keycard_rules::{LAST_DAY, read_numeral, write_fixed};
 use std::marker::Model;
 
 /// A day from 2000-01-01 to 2099-12-31 of the Gregorian calendar.
 ///
-/// Contracts see a day as its number: how many days after 2000-01-01 it is, 0 to 36,524.
+/// Contracts see a day as its number: how many days after 2000-01-01 it is, 0 to `LAST_DAY`.
 /// Days are ordered by it.
 #[derive(Clone, Copy, PartialEq, Eq, PartialOrd, Ord, Hash, Debug)]
 pub struct Day {
@@ -23,13 +23,10 @@ impl Model for Day {
 
     ghost view = { λ d. d.number };
 
-    ghost invariant = { λ d. d.number ≤ 36524 };
+    ghost invariant = { λ d. d.number ≤ LAST_DAY };
 
     ghost inverse = { λ n. record { number = n } };
 }
-
-/// The number of 2099-12-31, the last day.
-const LAST: u16 = 36_524;
 
 /// The days from -9999-01-01, the first date of `jiff`, to 2000-01-01.
 const BEFORE: u32 = 4_382_544;
@@ -66,20 +63,20 @@ fn four_digits(number: u16) -> [u8; 4]
 }
 
 impl Day {
-    /// The day that many days after 2000-01-01; `None` above 36,524, which is 2099-12-31.
+    /// The day that many days after 2000-01-01; `None` above `LAST_DAY`, which is 2099-12-31.
     pub fn new(number: u16) -> Option<Day>
         ensures { result ≡ day_of_number number }
     {
-        if number > LAST {
+        if number > LAST_DAY {
             return None;
         }
         Some(Day { number })
     }
 
-    /// The days from 2000-01-01 to this day, 0 to 36,524.
+    /// The days from 2000-01-01 to this day, 0 to `LAST_DAY`.
     pub fn number(&self) -> u16
         ensures same { result ≡ self.now }
-        ensures known { result ≤ 36524 }
+        ensures known { result ≤ LAST_DAY }
     {
         self.number
     }

@@ -2,14 +2,16 @@
 
 ghost use Rattle.std.specs.Prelude.{◌≡◌, ℕ, ◌≤◌, Some};
 ghost use Rattle.hotel_nights.specs.Moments.{moment_within, read_moment, read_time, moment_text, time_text};
+ghost use Rattle.hotel_nights.specs.Moments.{moment_of, note_from};
+ghost use Rattle.keycard_rules.specs.declared.note.TheConstants.{LAST_DAY, LAST_SECOND};
 
 use crate::day::{Day, two_digits};
-use keycard_rules::read_numeral;
+use keycard_rules::{Act, Count, FitNo, LAST_SECOND, LockNote, RoomNo, read_numeral};
 use std::marker::Model;
 
 /// A second of a day, in no time zone: each day has 86,400.
 ///
-/// Contracts see a moment as the pair of its day's number and its second, 0 to 86,399.
+/// Contracts see a moment as the pair of its day's number and its second, 0 to `LAST_SECOND`.
 /// Moments are ordered by the day, and on one day by the second.
 #[derive(Clone, Copy, PartialEq, Eq, PartialOrd, Ord, Hash, Debug)]
 pub struct Moment {
@@ -22,13 +24,10 @@ impl Model for Moment {
 
     ghost view = { λ m. (m.day, m.second) };
 
-    ghost invariant = { λ m. (m.day ≤ 36524) × (m.second ≤ 86399) };
+    ghost invariant = { λ m. (m.day ≤ LAST_DAY) × (m.second ≤ LAST_SECOND) };
 
     ghost inverse = { λ v. record { day = v.0; second = v.1 } };
 }
-
-/// The last second of a day, 23:59:59.
-const LAST_SECOND: u32 = 86_399;
 
 /// The second of the day that `HH:MM:SS` writes.
 fn read_time(text: &[u8]) -> Option<u32>
@@ -48,7 +47,7 @@ fn read_time(text: &[u8]) -> Option<u32>
 
 /// The second of a day as `HH:MM:SS`.
 fn print_time(second: u32) -> [u8; 8]
-    requires { second ≤ 86399 }
+    requires { second ≤ LAST_SECOND }
     ensures { result ≡ time_text second }
 {
     let [a, b] = two_digits((second / 3600) as u8);
@@ -58,7 +57,7 @@ fn print_time(second: u32) -> [u8; 8]
 }
 
 impl Moment {
-    /// That second of the day; `None` above 86,399.
+    /// That second of the day; `None` above `LAST_SECOND`.
     pub fn new(day: Day, second: u32) -> Option<Moment>
         ensures { result ≡ moment_within day second }
     {
@@ -68,6 +67,29 @@ impl Moment {
         Some(Moment { day, second })
     }
 
+    /// When the lock noted it.
+    pub fn of(note: &LockNote) -> Moment
+        ensures { result ≡ moment_of note.now }
+    {
+        let Some(day) = Day::new(note.day()) else {
+            unreachable!()
+        };
+        Moment {
+            day,
+            second: note.second(),
+        }
+    }
+
+    /// What a room's lock notes at this moment.
+    pub fn note(self, room: RoomNo, fit: FitNo, count: Count, act: Act) -> LockNote
+        ensures { result ≡ note_from room fit count act self }
+    {
+        match LockNote::new(room, fit, count, act, self.day.number(), self.second) {
+            Some(note) => note,
+            None => unreachable!(),
+        }
+    }
+
     /// The day.
     pub fn day(&self) -> Day
         ensures { result ≡ self.now.0 }
@@ -75,10 +97,10 @@ impl Moment {
         self.day
     }
 
-    /// The second of the day, 0 to 86,399.
+    /// The second of the day, 0 to `LAST_SECOND`.
     pub fn second(&self) -> u32
         ensures same { result ≡ self.now.1 }
-        ensures known { result ≤ 86399 }
+        ensures known { result ≤ LAST_SECOND }
     {
         self.second
     }

@@ -21,7 +21,9 @@ pub use draw::{DrawFault, draw_fresh};
 pub use issued::{Issued, ListedCodes, LookFault};
 pub use listed_words::ListedWords;
 pub use lock::turn;
-pub use note::{Act, LockNote};
-pub use numbers::{CardNo, Count, FitNo, Number, PartyNo, RoomNo};
+pub use note::{Act, LAST_DAY, LAST_SECOND, LockNote};
+pub use numbers::{
+    CardNo, Count, FitNo, LAST_FIT, LAST_NUMBER, LAST_ROOM, Number, PartyNo, RoomNo,
+};
 pub use numerals::{read_numeral, write_fixed};
 pub use short_text::ShortText;

@@ -1,10 +1,17 @@
 //! What a lock notes of itself, counted by it from 1 on.
 ghost use Rattle.std.specs.Prelude.{◌≡◌, ◌≤◌, Some, None, if◌then◌else◌, nat_le, ◌&&◌};
+ghost use Rattle.keycard_rules.specs.declared.note.TheConstants.{LAST_DAY, LAST_SECOND};
 
 use crate::card::Link;
 use crate::code::Code;
 use crate::numbers::{CardNo, Count, FitNo, RoomNo};
 use std::marker::Model;
+
+/// The last day that is known, 2099-12-31: the days are counted from 2000-01-01 as day 0.
+pub const LAST_DAY: u16 = 36_524;
+
+/// The last second of a day, 23:59:59: the seconds are counted from 0.
+pub const LAST_SECOND: u32 = 86_399;
 
 /// What happened at a lock.
 #[derive(Clone, Copy, Debug, PartialEq, Eq)]
@@ -41,7 +48,7 @@ impl Model for LockNote {
 }
 
 impl LockNote {
-    /// The note of these, or `None` where the day is above 36,524 (2099-12-31) or the second above 86,399.
+    /// The note of these, or `None` where the day is after `LAST_DAY` or the second after `LAST_SECOND`.
     pub fn new(
         room: RoomNo,
         fit: FitNo,
@@ -50,9 +57,9 @@ impl LockNote {
         day: u16,
         second: u32,
     ) -> Option<LockNote>
-        ensures { result ≡ (if nat_le day 36524 && nat_le second 86399 then Some (record { room = room; fit = fit; count = count; act = act; day = day; second = second }) else None) }
+        ensures { result ≡ (if nat_le day LAST_DAY && nat_le second LAST_SECOND then Some (record { room = room; fit = fit; count = count; act = act; day = day; second = second }) else None) }
     {
-        if day > 36_524 || second > 86_399 {
+        if day > LAST_DAY || second > LAST_SECOND {
             return None;
         }
         Some(LockNote {
@@ -96,7 +103,7 @@ impl LockNote {
     /// The day of the note, counted from 2000-01-01 as day 0.
     pub fn day(&self) -> u16
         ensures same { result ≡ self.now.day }
-        ensures known { result ≤ 36524 }
+        ensures known { result ≤ LAST_DAY }
     {
         self.day
     }
@@ -104,7 +111,7 @@ impl LockNote {
     /// The second of its day, from 0 on.
     pub fn second(&self) -> u32
         ensures same { result ≡ self.now.second }
-        ensures known { result ≤ 86399 }
+        ensures known { result ≤ LAST_SECOND }
     {
         self.second
     }

@@ -12,6 +12,15 @@ use crate::numerals::read_numeral;
 use std::cmp::Ordering;
 use std::marker::{Model, PhantomData};
 
+/// The last number of a card, of a party and of the notes that one lock counts.
+pub const LAST_NUMBER: u32 = 9_999_999;
+
+/// The last number of a room.
+pub const LAST_ROOM: u32 = 9_999;
+
+/// The last number of a room's locks.
+pub const LAST_FIT: u32 = 99;
+
 /// A number from 1 up to `MOST`. `K` keeps the numbers of different things apart.
 #[derive(Clone, Copy, PartialEq, Eq, Debug)]
 pub struct Number<K, const MOST: u32> {
@@ -108,33 +117,33 @@ impl<K: Eq, const MOST: u32> PartialOrd for Number<K, MOST> {
 #[derive(Clone, Copy, PartialEq, Eq, PartialOrd, Ord, Debug)]
 pub struct CardKind;
 
-/// The number of a card, 1 to 9,999,999.
-pub type CardNo = Number<CardKind, 9_999_999>;
+/// The number of a card, from 1 on.
+pub type CardNo = Number<CardKind, LAST_NUMBER>;
 
 /// Marks the numbers of parties.
 #[derive(Clone, Copy, PartialEq, Eq, PartialOrd, Ord, Debug)]
 pub struct PartyKind;
 
-/// The number of a party, which is one reservation, 1 to 9,999,999.
-pub type PartyNo = Number<PartyKind, 9_999_999>;
+/// The number of a party, which is one reservation, from 1 on.
+pub type PartyNo = Number<PartyKind, LAST_NUMBER>;
 
 /// Marks the numbers of rooms.
 #[derive(Clone, Copy, PartialEq, Eq, PartialOrd, Ord, Debug)]
 pub struct RoomKind;
 
-/// The number of a room, 1 to 9,999.
-pub type RoomNo = Number<RoomKind, 9_999>;
+/// The number of a room, from 1 on.
+pub type RoomNo = Number<RoomKind, LAST_ROOM>;
 
 /// Marks the numbers of a room's locks.
 #[derive(Clone, Copy, PartialEq, Eq, PartialOrd, Ord, Debug)]
 pub struct FitKind;
 
-/// The number of a room's lock, 1 to 99: the first is 1.
-pub type FitNo = Number<FitKind, 99>;
+/// The number of a room's lock: the first is 1.
+pub type FitNo = Number<FitKind, LAST_FIT>;
 
 /// Marks the counts of lock notes.
 #[derive(Clone, Copy, PartialEq, Eq, PartialOrd, Ord, Debug)]
 pub struct NoteKind;
 
-/// The count that a lock gives its note, 1 to 9,999,999.
-pub type Count = Number<NoteKind, 9_999_999>;
+/// The count that a lock gives its note, from 1 on.
+pub type Count = Number<NoteKind, LAST_NUMBER>;

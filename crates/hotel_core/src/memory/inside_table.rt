@@ -4,7 +4,7 @@ ghost use Rattle.hotel_model.specs.{Words.is_one_of, Guests.those_in, Guests.are
 ghost use Rattle.hotel_model.specs.{Refinement.Change.moved};
 
 use hotel_model::InsideMove;
-use keycard_rules::{CardNo, Memory, RoomNo};
+use keycard_rules::{CardNo, LAST_NUMBER, Memory, RoomNo};
 use std::alloc::{AllocError, Global};
 use std::collections::BTreeSet;
 use std::marker::Model;
@@ -41,7 +41,7 @@ impl InsideTable {
     {
         let mut found = Vec::new(alloc);
         let least = CardNo::new(1).unwrap();
-        let most = CardNo::new(9_999_999).unwrap();
+        let most = CardNo::new(LAST_NUMBER).unwrap();
         for pair in self.pairs.range((room, least)..=(room, most)) {
             found.push(pair.1)?;
         }
@@ -60,7 +60,7 @@ impl InsideTable {
         ensures { result ≡ not (are_none (those_in self.now room)) }
     {
         let least = CardNo::new(1).unwrap();
-        let most = CardNo::new(9_999_999).unwrap();
+        let most = CardNo::new(LAST_NUMBER).unwrap();
         let mut pairs = self.pairs.range((room, least)..=(room, most));
         pairs.next().is_some()
     }

@@ -16,7 +16,9 @@ use crate::memory::note_table::NoteTable;
 use crate::memory::stay_table::StayTable;
 use hotel_model::{CodeRow, FitRow, NextNumbers, RoomRow};
 use hotel_nights::{Day, KindCode, Stay};
-use keycard_rules::{Card, CardNo, Code, Count, FitNo, LockNote, Number, PartyNo, RoomNo};
+use keycard_rules::{
+    Card, CardNo, Code, Count, FitNo, LAST_NUMBER, LockNote, Number, PartyNo, RoomNo,
+};
 use std::alloc::{AllocError, Global};
 use std::collections::BTreeMap;
 use std::marker::Model;
@@ -48,11 +50,11 @@ impl Model for Tables {
     ghost invariant = { λ t. TablesAgree t.kinds t.rooms.entries t.codes };
 }
 
-/// The number after so many that were given, up to 9,999,999.
-fn number_after<K>(given: usize) -> Option<Number<K, 9_999_999>>
+/// The number after so many that were given, up to the last one.
+fn number_after<K>(given: usize) -> Option<Number<K, LAST_NUMBER>>
     ensures { result ≡ number_after given }
 {
-    if given >= 9_999_999 {
+    if given >= LAST_NUMBER as usize {
         return None;
     }
     Number::new(given as u32 + 1)

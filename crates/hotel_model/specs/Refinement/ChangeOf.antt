@@ -3,12 +3,13 @@ use Rattle.std.specs.Prelude.{ℕ, Bool, true, false, ◌+◌, length}
 use Rattle.keycard_rules.specs.Note.{Note}
 use Rattle.keycard_rules.specs.declared.note.Act.TheVariants as act
 use Rattle.hotel_nights.specs.declared.stay.StayState.TheVariants as state
+use Rattle.hotel_nights.specs.Moments.{note_from}
 use Rattle.hotel_model.specs.{declared.change.InsideMove.InsideMove, declared.change.Change.Change}
 use Rattle.hotel_model.specs.{Words.other_than, Words.is_one_of}
 use Rattle.hotel_model.specs.declared.change.InsideMove.TheVariants.{Same, Goes, Comes}
 use Rattle.hotel_model.specs.declared.change.Change.TheVariants as change
 use Rattle.hotel_model.specs.Event.{Event, Begun, Kind, Install, Reserved, Cancelled, Issue, Spare, CheckOut, Refitted}
-use Rattle.hotel_model.specs.Event.{NextDay, Entered, Left, Recoded, note_from}
+use Rattle.hotel_model.specs.Event.{NextDay, Entered, Left, Recoded}
 use Rattle.hotel_model.specs.{History.History, History.◌▷◌, Cards.card_of, Cards.link_to, Ledger.passed, Guests.inside}
 use Rattle.hotel_model.specs.{Guests.secured}
 use Rattle.hotel_model.specs.Cases.{today, room_of, own_room, last_card_of}

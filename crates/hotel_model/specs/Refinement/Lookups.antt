@@ -4,6 +4,7 @@ use Rattle.std.specs.Prelude.{bytes_eq}
 use Rattle.std.specs.Map.{lookup, keys_of, values_of}
 use Rattle.std.specs.BTreeMap.{is_at}
 use Rattle.keycard_rules.specs.{declared.card.Card.Card, Note.Note}
+use Rattle.keycard_rules.specs.declared.numbers.TheConstants.{LAST_NUMBER}
 use Rattle.hotel_nights.specs.{declared.stay.Stay.Stay, FullNight.is_full, FullNight.first_day}
 use Rattle.hotel_model.specs.{declared.rows.RoomRow.RoomRow, declared.rows.CodeRow.CodeRow, Words.pair_cmp}
 use Rattle.hotel_model.specs.{Words.said_of, Rows.Rows, Rows.at_number, Rows.rooms_of_kind, Rows.fit_at}
@@ -62,4 +63,4 @@ first_full_on rows kind d n = first_day (is_full (values_of rows.stays) kind (ro
 
 -- the number after so many, up to 9,999,999
 abbrev pub number_after : ℕ → Option ℕ
-number_after n = if nat_lt n 9999999 then Some (n + 1) else None
+number_after n = if nat_lt n LAST_NUMBER then Some (n + 1) else None

@@ -4,6 +4,8 @@ use Rattle.std.specs.Prelude.{ℕ, Bool, true, false, List, [], ◌∷◌, Optio
 use Rattle.std.specs.Prelude.{if◌then◌else◌, nat_lt, nat_le, is_some, is_none, option_map, length, bytes_eq}
 use Rattle.keycard_rules.specs.{declared.card.Link.Link, declared.note.Act.Act, Note.Note, Lock.turn, Draw.draw_from}
 use Rattle.keycard_rules.specs.declared.note.Act.TheVariants as act
+use Rattle.keycard_rules.specs.declared.note.TheConstants.{LAST_DAY}
+use Rattle.keycard_rules.specs.declared.numbers.TheConstants.{LAST_FIT}
 use Rattle.hotel_nights.specs.declared.stay.Stay.{Stay}
 use Rattle.hotel_nights.specs.declared.stay.StayState.TheVariants as state
 use Rattle.hotel_model.specs.{declared.change.Change.Change, declared.change.InsideMove.TheVariants.Same}
@@ -153,7 +155,7 @@ checks_on rows (command.AddRoom room kind) =
     needs (is_some rows.day) NotBegun ∷ needs (has_kind rows kind) NoKind ∷ bars (is_some (room_at rows room)) RoomExists ∷ []
 checks_on rows (command.Reserve guest kind arrive nights) =
     needs (is_some rows.day) NotBegun ∷ needs (has_kind rows kind) NoKind ∷ bars (nat_lt arrive (day_on rows)) PastArrival
-    ∷ bars (nat_lt 36524 (arrive + nights)) PastEnd ∷ option_map KindFull (first_full_on rows kind arrive nights)
+    ∷ bars (nat_lt LAST_DAY (arrive + nights)) PastEnd ∷ option_map KindFull (first_full_on rows kind arrive nights)
     ∷ bars (is_none (number_after (length rows.stays))) NumbersUsedUp ∷ []
 checks_on rows (command.Cancel party) =
     needs (is_some rows.day) NotBegun ∷ needs (is_some (stay_at rows party)) NoParty ∷ needs (stay_is_on rows party (λ stay. is_booked_state stay.state)) NotBooked ∷ []
@@ -175,8 +177,8 @@ checks_on rows (command.CheckOut party) =
     needs (is_some rows.day) NotBegun ∷ needs (is_some (stay_at rows party)) NoParty ∷ needs (is_some (home_on rows party)) NotInHouse ∷ []
 checks_on rows (command.Refit room) =
     needs (is_some rows.day) NotBegun ∷ needs (is_some (room_at rows room)) NoRoom
-    ∷ bars (room_is rows room (λ row. is_some row.party)) RoomTaken ∷ bars (nat_le 99 (present_fit_on rows room)) FitsUsedUp ∷ []
-checks_on rows command.NextDay = needs (is_some rows.day) NotBegun ∷ needs (nat_lt (day_on rows) 36524) LastDay ∷ []
+    ∷ bars (room_is rows room (λ row. is_some row.party)) RoomTaken ∷ bars (nat_le LAST_FIT (present_fit_on rows room)) FitsUsedUp ∷ []
+checks_on rows command.NextDay = needs (is_some rows.day) NotBegun ∷ needs (nat_lt (day_on rows) LAST_DAY) LastDay ∷ []
 checks_on rows (command.Reported note) =
     needs (is_some rows.day) NotBegun ∷ needs (is_some (room_at rows note.room)) NoRoom ∷ needs (is_fit_on rows note.room note.fit) NoFit ∷ []
 

@@ -4,6 +4,7 @@
 -- NoFit, Conflict), and isn't new under an earlier one (Conflict, OldFit).
 use Rattle.std.specs.Prelude.{ℕ, ◌≡◌, ◌==◌, ◌&&◌, Bool, true, not, List, [], ◌∷◌, ◌++◌, is_some, map, take}
 use Rattle.std.specs.List.{list_all}
+use Rattle.keycard_rules.specs.declared.numbers.TheConstants.{LAST_FIT}
 use Rattle.hotel_model.specs.declared.rows.RoomRow.{RoomRow}
 use Rattle.hotel_model.specs.declared.reply.Refusal.TheVariants.{NoRoom, RoomTaken, Conflict, Gap, NoCard}
 use Rattle.hotel_model.specs.declared.reply.Refusal.TheVariants.{LockShut, NotInside, HeldDiffers, OldFit, NoFit}
@@ -84,7 +85,7 @@ LeaveAll before lines =
 -- The same hotel, each of its rooms with its last lock.
 abbrev pub at_the_last_fit : History
 at_the_last_fit =
-    let rooms = map (λ (e : ℕ × RoomRow). (e.0, record e.1 { fit = 99 })) (rows_of busy.history).rooms in
+    let rooms = map (λ (e : ℕ × RoomRow). (e.0, record e.1 { fit = LAST_FIT })) (rows_of busy.history).rooms in
     start (record (rows_of busy.history) { rooms = rooms })
 
 abbrev pub TheScene : Type 0

@@ -6,6 +6,8 @@
 -- (NextDay); a count isn't both taken and after the next one (Conflict, Gap).
 use Rattle.std.specs.Prelude.{ℕ, ◌≡◌, List, [], ◌∷◌, Some, None, length}
 use Rattle.keycard_rules.specs.declared.card.Card.{Card}
+use Rattle.keycard_rules.specs.declared.note.TheConstants.{LAST_DAY}
+use Rattle.keycard_rules.specs.declared.numbers.TheConstants.{LAST_NUMBER}
 use Rattle.hotel_nights.specs.declared.stay.Stay.{Stay}
 use Rattle.hotel_model.specs.declared.reply.Refusal.TheVariants.{NotBegun, AlreadyBegun, KindExists, NoKind, RoomExists}
 use Rattle.hotel_model.specs.declared.reply.Refusal.TheVariants.{NoRoom, NoParty, NotBooked, NotInHouse, TooEarly}
@@ -144,12 +146,12 @@ of_notes =
 
 -- The last day, with a kind that has no rooms.
 abbrev pub last_day : Played
-last_day = play (start no_rows) (source [] a0) (begin 36524 ⇒ begun ∷ add_kind DBL ⇒ kind_added ∷ [])
+last_day = play (start no_rows) (source [] a0) (begin LAST_DAY ⇒ begun ∷ add_kind DBL ⇒ kind_added ∷ [])
 
 abbrev pub on_the_last_day : List Line
 on_the_last_day =
     reserve DBL 36523 2 guest ⇒ refused PastArrival  -- PastEnd
-    ∷ reserve DBL 36524 1 guest ⇒ refused PastEnd  -- KindFull
+    ∷ reserve DBL LAST_DAY 1 guest ⇒ refused PastEnd  -- KindFull
     ∷ next_day ⇒ refused LastDay
     ∷ []
 
@@ -163,7 +165,7 @@ with_stays stays = start (record (rows_of busy.history) { stays = stays })
 -- Where 9,999,999 cards were given: the reasons that come before, and then NumbersUsedUp, before NoFreshCode.
 abbrev pub CardsEnd : Type 0
 CardsEnd =
-    (cards : List (ℕ × Card)) → length cards ≡ 9999999
+    (cards : List (ℕ × Card)) → length cards ≡ LAST_NUMBER
     → IsRefused (with_cards cards) busy.ahead (check_in 6 101) RoomTaken
     × IsRefused (with_cards cards) busy.ahead (check_in 6 102) NumbersUsedUp
     × IsRefused (with_cards cards) busy.ahead (spare 6) NotInHouse
@@ -176,7 +178,7 @@ CardsEnd =
 -- Where 9,999,999 parties were given: KindFull comes before.
 abbrev pub PartiesEnd : Type 0
 PartiesEnd =
-    (stays : List (ℕ × Stay)) → length stays ≡ 9999999
+    (stays : List (ℕ × Stay)) → length stays ≡ LAST_NUMBER
     → (first_full (with_stays stays) DBL (may 2) 1 ≡ Some (may 2)
     → IsRefused (with_stays stays) busy.ahead (reserve DBL (may 2) 1 guest) (KindFull (may 2)))
     × (first_full (with_stays stays) DBL (may 2) 1 ≡ None
