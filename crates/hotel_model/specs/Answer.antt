@@ -34,10 +34,12 @@ use Rattle.hotel_model.specs.Outcome.{Outcome, needs, bars, unless, accepted, sa
 -- The next note of a room: what it says must be so.
 abbrev pub told : History → Note → Act → Outcome Event
 told h note (act.Entered number link) =
-    unless (needs (is_card h number) NoCard ∷ needs (has_link h number link) CardDiffers ∷ needs (opens h note.room link) LockShut ∷ [])
+    unless (needs (is_card h number) NoCard ∷ needs (has_link h number link) CardDiffers
+        ∷ needs (opens h note.room link) LockShut ∷ [])
     (accepted reply.Taken (event.Entered note.room note.fit note.count number link (moment_of note)))
 told h note (act.Left number link) =
-    unless (needs (is_card h number) NoCard ∷ needs (has_link h number link) CardDiffers ∷ needs (is_one_of number (inside h note.room)) NotInside ∷ [])
+    unless (needs (is_card h number) NoCard ∷ needs (has_link h number link) CardDiffers
+        ∷ needs (is_one_of number (inside h note.room)) NotInside ∷ [])
     (accepted reply.Taken (event.Left note.room note.fit note.count number link (moment_of note)))
 told h note (act.Recoded from to) =
     unless (needs (holds h note.room from) HeldDiffers ∷ needs (is_one_of to (awaited h note.room)) NotAwaited ∷ [])
@@ -55,50 +57,64 @@ reported h note Next = told h note note.act
 -- The checks of a further card for a party in house, in order.
 abbrev pub further_card_checks : History → ℕ → List (Option Refusal)
 further_card_checks h party =
-    needs (is_begun h) NotBegun ∷ needs (is_party h party) NoParty ∷ needs (is_in_house h party) NotInHouse ∷ bars (cards_used_up h) NumbersUsedUp ∷ []
+    needs (is_begun h) NotBegun ∷ needs (is_party h party) NoParty ∷ needs (is_in_house h party) NotInHouse
+        ∷ bars (cards_used_up h) NumbersUsedUp ∷ []
 
 -- The checks of each command, in order.
 abbrev pub checks : History → Command → List (Option Refusal)
 checks h (command.Begin day) = bars (is_begun h) AlreadyBegun ∷ []
 checks h (command.AddKind kind) = needs (is_begun h) NotBegun ∷ bars (is_kind h kind) KindExists ∷ []
-checks h (command.AddRoom room kind) = needs (is_begun h) NotBegun ∷ needs (is_kind h kind) NoKind ∷ bars (is_room h room) RoomExists ∷ []
+checks h (command.AddRoom room kind) =
+    needs (is_begun h) NotBegun ∷ needs (is_kind h kind) NoKind ∷ bars (is_room h room) RoomExists ∷ []
 checks h (command.Reserve guest kind arrive nights) =
     needs (is_begun h) NotBegun ∷ needs (is_kind h kind) NoKind ∷ bars (nat_lt arrive (today h)) PastArrival
-    ∷ bars (nat_lt LAST_DAY (arrive + nights)) PastEnd ∷ option_map KindFull (first_full h kind arrive nights) ∷ bars (parties_used_up h) NumbersUsedUp ∷ []
-checks h (command.Cancel party) = needs (is_begun h) NotBegun ∷ needs (is_party h party) NoParty ∷ needs (is_booked h party) NotBooked ∷ []
+    ∷ bars (nat_lt LAST_DAY (arrive + nights)) PastEnd ∷ option_map KindFull (first_full h kind arrive nights)
+        ∷ bars (parties_used_up h) NumbersUsedUp ∷ []
+checks h (command.Cancel party) =
+    needs (is_begun h) NotBegun ∷ needs (is_party h party) NoParty ∷ needs (is_booked h party) NotBooked ∷ []
 checks h (command.CheckIn party room) =
-    needs (is_begun h) NotBegun ∷ needs (is_room h room) NoRoom ∷ needs (is_party h party) NoParty ∷ needs (is_booked h party) NotBooked
+    needs (is_begun h) NotBegun ∷ needs (is_room h room) NoRoom ∷ needs (is_party h party) NoParty
+        ∷ needs (is_booked h party) NotBooked
     ∷ bars (is_early h party) TooEarly ∷ bars (is_over h party) StayOver ∷ needs (is_of_kind h room party) WrongKind
     ∷ bars (is_taken h room) RoomTaken ∷ bars (cards_used_up h) NumbersUsedUp ∷ []
 checks h (command.Spare party) = further_card_checks h party
 checks h (command.Reissue party) = further_card_checks h party
 checks h (command.Transfer party room) =
-    needs (is_begun h) NotBegun ∷ needs (is_room h room) NoRoom ∷ needs (is_party h party) NoParty ∷ needs (is_in_house h party) NotInHouse
+    needs (is_begun h) NotBegun ∷ needs (is_room h room) NoRoom ∷ needs (is_party h party) NoParty
+        ∷ needs (is_in_house h party) NotInHouse
     ∷ needs (is_of_kind h room party) WrongKind ∷ bars (is_home h room party) SameRoom
     ∷ bars (is_taken h room) RoomTaken ∷ bars (cards_used_up h) NumbersUsedUp ∷ []
-checks h (command.CheckOut party) = needs (is_begun h) NotBegun ∷ needs (is_party h party) NoParty ∷ needs (is_in_house h party) NotInHouse ∷ []
+checks h (command.CheckOut party) =
+    needs (is_begun h) NotBegun ∷ needs (is_party h party) NoParty ∷ needs (is_in_house h party) NotInHouse ∷ []
 checks h (command.Refit room) =
-    needs (is_begun h) NotBegun ∷ needs (is_room h room) NoRoom ∷ bars (is_taken h room) RoomTaken ∷ bars (fits_used_up h room) FitsUsedUp ∷ []
+    needs (is_begun h) NotBegun ∷ needs (is_room h room) NoRoom ∷ bars (is_taken h room) RoomTaken
+        ∷ bars (fits_used_up h room) FitsUsedUp ∷ []
 checks h command.NextDay = needs (is_begun h) NotBegun ∷ needs (nat_lt (today h) LAST_DAY) LastDay ∷ []
-checks h (command.Reported note) = needs (is_begun h) NotBegun ∷ needs (is_room h note.room) NoRoom ∷ needs (is_fit h note.room note.fit) NoFit ∷ []
+checks h (command.Reported note) =
+    needs (is_begun h) NotBegun ∷ needs (is_room h note.room) NoRoom ∷ needs (is_fit h note.room note.fit) NoFit ∷ []
 
 -- a fresh code is issued at the room, and the party is given a card with it
 abbrev pub issues : History → List ℕ → ℕ → ℕ → Outcome Event
-issues h ahead party room = with_fresh h ahead (λ code. reply.Issued (card_of (next_card h) party (link_to h room code))) (λ code. event.Issue party room (next_card h) code)
+issues h ahead party room = with_fresh h ahead (λ code. reply.Issued
+    (card_of (next_card h) party (link_to h room code))) (λ code. event.Issue party room (next_card h) code)
 
 -- What comes of each command that passes its checks, where these are the source's next words.
 abbrev pub effect : History → List ℕ → Command → Outcome Event
 effect h ahead (command.Begin day) = accepted reply.Begun (event.Begun day)
 effect h ahead (command.AddKind kind) = accepted reply.KindAdded (event.Kind kind)
-effect h ahead (command.AddRoom room kind) = with_fresh h ahead (λ code. reply.RoomAdded code) (λ code. event.Install room kind code)
-effect h ahead (command.Reserve guest kind arrive nights) = accepted (reply.Reserved (next_party h)) (event.Reserved (next_party h) guest kind arrive (arrive + nights))
+effect h ahead (command.AddRoom room kind) =
+    with_fresh h ahead (λ code. reply.RoomAdded code) (λ code. event.Install room kind code)
+effect h ahead (command.Reserve guest kind arrive nights) =
+    accepted (reply.Reserved (next_party h)) (event.Reserved (next_party h) guest kind arrive (arrive + nights))
 effect h ahead (command.Cancel party) = accepted reply.Cancelled (event.Cancelled party)
 effect h ahead (command.CheckIn party room) = issues h ahead party room
-effect h ahead (command.Spare party) = accepted (reply.Issued (card_of (next_card h) party (last_card_of h party))) (event.Spare party (next_card h))
+effect h ahead (command.Spare party) =
+    accepted (reply.Issued (card_of (next_card h) party (last_card_of h party))) (event.Spare party (next_card h))
 effect h ahead (command.Reissue party) = issues h ahead party (own_room h party)
 effect h ahead (command.Transfer party room) = issues h ahead party room
 effect h ahead (command.CheckOut party) = accepted reply.CheckedOut (event.CheckOut party)
-effect h ahead (command.Refit room) = with_fresh h ahead (λ code. reply.Refitted code (next_fit h room)) (λ code. event.Refitted room (next_fit h room) code)
+effect h ahead (command.Refit room) = with_fresh h ahead (λ code. reply.Refitted code (next_fit h room))
+    (λ code. event.Refitted room (next_fit h room) code)
 effect h ahead command.NextDay = accepted (reply.DayIs (today h + 1)) event.NextDay
 effect h ahead (command.Reported note) = reported h note (standing h note)
 

@@ -25,7 +25,8 @@ newest_link (h ▷ _) r = newest_link h r
 -- The link of the card that a party was given last (a spare card has the same one again).
 abbrev pub link_of_party : History → ℕ → Option Link
 link_of_party (start t) p = link_of_last_card t.cards p
-link_of_party (h ▷ Issue party room number code) p = when (party == p) (λ _. Some (link_to h room code)) (link_of_party h p)
+link_of_party (h ▷ Issue party room number code) p =
+    when (party == p) (λ _. Some (link_to h room code)) (link_of_party h p)
 link_of_party (h ▷ _) p = link_of_party h p
 
 -- Both codes of two links are equal.
@@ -44,6 +45,7 @@ with_spare number party None all = all
 -- All cards, by number: one with a new code has a new link, a spare card has the link of the party's last one.
 abbrev pub cards : History → List (ℕ × Card)
 cards (start t) = t.cards
-cards (h ▷ Issue party room number code) = insert_entry nat_cmp (cards h) number (card_of number party (link_to h room code))
+cards (h ▷ Issue party room number code) =
+    insert_entry nat_cmp (cards h) number (card_of number party (link_to h room code))
 cards (h ▷ Spare party number) = with_spare number party (link_of_party h party) (cards h)
 cards (h ▷ _) = cards h

@@ -64,7 +64,8 @@ is_over h party = stay_is h party (λ stay. nat_le stay.depart (today h))
 
 -- the room is of the kind that the party booked
 abbrev pub is_of_kind : History → ℕ → ℕ → Bool
-is_of_kind h room party = stay_is h party (λ stay. said_of (at_number (rooms h) room) false (λ kind. bytes_eq kind stay.kind))
+is_of_kind h room party =
+    stay_is h party (λ stay. said_of (at_number (rooms h) room) false (λ kind. bytes_eq kind stay.kind))
 
 -- the party is registered at the room
 abbrev pub is_home : History → ℕ → ℕ → Bool

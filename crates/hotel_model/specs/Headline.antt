@@ -19,7 +19,8 @@ use Rattle.hotel_model.specs.Moved.{NotesMove}
 
 -- No code stands at two places, of one room or of two.
 abbrev pub NoCodeTwice : History → Type 0
-NoCodeTwice h = (r s code : ℕ) (before later before' later' : List ℕ) → issued h r ≡ before ++ code ∷ later → issued h s ≡ before' ++ code ∷ later' → (r ≡ s) × (before ≡ before')
+NoCodeTwice h = (r s code : ℕ) (before later before' later' : List ℕ) → issued h r ≡ before ++ code ∷ later
+    → issued h s ≡ before' ++ code ∷ later' → (r ≡ s) × (before ≡ before')
 
 -- At each room the passed codes, the held one and the awaited ones are the issued ones, in order.
 abbrev pub LedgerHolds : History → Type 0
@@ -34,18 +35,21 @@ TakesTheFirst (h ▷ _) = TakesTheFirst h
 
 -- A card opens only locks of rooms at which both codes of its link were issued.
 abbrev pub OpensOwnRoom : History → Type 0
-OpensOwnRoom h = (r number : ℕ) (card : Card) → is_room h r ≡ true → at_number (cards h) number ≡ Some card → IsSome (turn (held h r) card.link)
+OpensOwnRoom h = (r number : ℕ) (card : Card) → is_room h r ≡ true → at_number (cards h) number ≡ Some card
+    → IsSome (turn (held h r) card.link)
     → Contains (issued h r) card.link.old_code × Contains (issued h r) card.link.new_code
 
 -- A room's newest link opens its lock exactly where the lock awaits at most one code.
 abbrev pub NewestOpens : History → Type 0
-NewestOpens h = (r : ℕ) (link : Link) → newest_link h r ≡ Some link → IsSome (turn (held h r) link) ↔ (length (awaited h r) ≤ 1)
+NewestOpens h =
+    (r : ℕ) (link : Link) → newest_link h r ≡ Some link → IsSome (turn (held h r) link) ↔ (length (awaited h r) ≤ 1)
 
 -- In a secured room with a registered party the lock holds the current code, and each card inside has the newest link
 -- and is that party's.
 abbrev pub SafeRoom : History → Type 0
 SafeRoom h = (r party : ℕ) → secured h r ≡ true → registered h r ≡ Some party → (held h r ≡ current h r)
-    × ((number : ℕ) → Contains (inside h r) number → (card : Card) × (at_number (cards h) number ≡ Some card) × (newest_link h r ≡ Some card.link) × (card.party ≡ party))
+    × ((number : ℕ) → Contains (inside h r) number → (card : Card) × (at_number (cards h) number ≡ Some card)
+    × (newest_link h r ≡ Some card.link) × (card.party ≡ party))
 
 -- The seven parts of the headline.
 pub record Headline (h : History) : Type 0 where

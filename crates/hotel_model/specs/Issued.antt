@@ -25,9 +25,12 @@ current h r = last_of (issued h r)
 -- All issued codes, each with its room and its place in the order of issue there.
 abbrev pub all_issued : History → List (ℕ × CodeRow)
 all_issued (start t) = t.codes
-all_issued (h ▷ Install room kind code) = insert_entry nat_cmp (all_issued h) code (record { room = room; place = length (issued h room) })
-all_issued (h ▷ Issue party room number code) = insert_entry nat_cmp (all_issued h) code (record { room = room; place = length (issued h room) })
-all_issued (h ▷ Refitted room fit code) = insert_entry nat_cmp (all_issued h) code (record { room = room; place = length (issued h room) })
+all_issued (h ▷ Install room kind code) =
+    insert_entry nat_cmp (all_issued h) code (record { room = room; place = length (issued h room) })
+all_issued (h ▷ Issue party room number code) =
+    insert_entry nat_cmp (all_issued h) code (record { room = room; place = length (issued h room) })
+all_issued (h ▷ Refitted room fit code) =
+    insert_entry nat_cmp (all_issued h) code (record { room = room; place = length (issued h room) })
 all_issued (h ▷ _) = all_issued h
 
 -- The codes that were issued at any room.

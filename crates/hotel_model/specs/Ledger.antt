@@ -17,7 +17,8 @@ abbrev pub awaited : History → ℕ → List ℕ
 awaited (start t) r = drop (lock_place_of t r + 1) (codes_at t r)
 awaited (h ▷ Issue party room number code) r = when (room == r) (and_last code) (awaited h r)
 awaited (h ▷ Refitted room fit code) r = when (room == r) (λ _. []) (awaited h r)
-awaited (h ▷ Entered room fit count number link at) r = when ((room == r) && turns h room link) (without link.new_code) (awaited h r)
+awaited (h ▷ Entered room fit count number link at) r =
+    when ((room == r) && turns h room link) (without link.new_code) (awaited h r)
 awaited (h ▷ Recoded room fit count from to at) r = when (room == r) (after to) (awaited h r)
 awaited (h ▷ _) r = awaited h r
 
@@ -26,6 +27,8 @@ awaited (h ▷ _) r = awaited h r
 abbrev pub passed : History → ℕ → List ℕ
 passed (start t) r = take (lock_place_of t r) (codes_at t r)
 passed (h ▷ Refitted room fit code) r = when (room == r) (λ codes. codes ++ held h room ∷ awaited h room) (passed h r)
-passed (h ▷ Entered room fit count number link at) r = when ((room == r) && turns h room link) (and_last link.old_code) (passed h r)
-passed (h ▷ Recoded room fit count from to at) r = when (room == r) (λ codes. codes ++ from ∷ before to (awaited h r)) (passed h r)
+passed (h ▷ Entered room fit count number link at) r =
+    when ((room == r) && turns h room link) (and_last link.old_code) (passed h r)
+passed (h ▷ Recoded room fit count from to at) r =
+    when (room == r) (λ codes. codes ++ from ∷ before to (awaited h r)) (passed h r)
 passed (h ▷ _) r = passed h r

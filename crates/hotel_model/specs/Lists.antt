@@ -31,7 +31,8 @@ house_row_of h room stay = record { room = room; party = stay.party; guest = sta
 
 -- the row of a room's party, where one is registered there
 abbrev pub house_row : History → ℕ → Option HouseRow
-house_row h room = said_of (registered h room) None (λ party. said_of (at_number (stays h) party) None (λ stay. Some (house_row_of h room stay)))
+house_row h room = said_of (registered h room) None (λ party. said_of (at_number (stays h) party) None
+    (λ stay. Some (house_row_of h room stay)))
 
 -- Rooms with a registered party, by room.
 abbrev pub in_house : History → List HouseRow
@@ -40,15 +41,18 @@ in_house h = filter_map (house_row h) (keys_of (rooms h))
 -- the codes with their places from one place on, all in one state
 abbrev pub in_places : ℕ → CodeState → List ℕ → List ChainRow
 in_places place state [] = []
-in_places place state (code ∷ codes) = record { place = place; code = code; state = state } ∷ in_places (place + 1) state codes
+in_places place state (code ∷ codes) =
+    record { place = place; code = code; state = state } ∷ in_places (place + 1) state codes
 
 -- A room's codes with their places and states: the passed ones, the one held, the awaited ones.
 abbrev pub chain : History → ℕ → List ChainRow
-chain h room = in_places 0 Passed (passed h room) ++ in_places (length (passed h room)) Held (held h room ∷ []) ++ in_places (length (passed h room) + 1) Awaited (awaited h room)
+chain h room = in_places 0 Passed (passed h room) ++ in_places (length (passed h room)) Held (held h room ∷ [])
+    ++ in_places (length (passed h room) + 1) Awaited (awaited h room)
 
 -- the row of a room, where two codes or more are awaited
 abbrev pub behind_row : History → ℕ → Option BehindRow
-behind_row h room = if nat_le 2 (length (awaited h room)) then Some (record { room = room; held = held h room; current = current h room; awaited = length (awaited h room) }) else None
+behind_row h room = if nat_le 2 (length (awaited h room)) then Some
+    (record { room = room; held = held h room; current = current h room; awaited = length (awaited h room) }) else None
 
 -- Rooms with two awaited codes or more, by room.
 abbrev pub left_behind : History → List BehindRow

@@ -43,4 +43,5 @@ same_act _ _ = false
 
 -- All fields of two notes are equal.
 abbrev pub same_note : Note → Note → Bool
-same_note a b = (a.room == b.room) && (a.fit == b.fit) && (a.count == b.count) && same_act a.act b.act && (a.day == b.day) && (a.second == b.second)
+same_note a b = (a.room == b.room) && (a.fit == b.fit) && (a.count == b.count) && same_act a.act b.act
+    && (a.day == b.day) && (a.second == b.second)

@@ -53,7 +53,8 @@ abbrev pub InRange : Event → Type 0
 InRange (Begun day) = IsDay day
 InRange (Kind kind) = is_kind kind ≡ true
 InRange (Install room kind code) = IsRoomNumber room × IsCode code
-InRange (Reserved party guest kind arrive depart) = (is_guest guest ≡ true) × (arrive < depart) × (depart ≤ arrive + 90) × IsDay depart
+InRange (Reserved party guest kind arrive depart) =
+    (is_guest guest ≡ true) × (arrive < depart) × (depart ≤ arrive + 90) × IsDay depart
 InRange (Issue party room number code) = IsCode code
 InRange (Refitted room fit code) = IsCode code
 InRange (Entered room fit count number link at) = IsCount count × IsTimed at.0 at.1 × IsFit fit

@@ -31,7 +31,8 @@ fit_row room number place notes = record { room = room; fit = number; place = pl
 abbrev pub fits : History → List ((ℕ × ℕ) × FitRow)
 fits (start t) = t.fits
 fits (h ▷ Install room kind code) = insert_entry pair_cmp (fits h) (room, 1) (fit_row room 1 0 0)
-fits (h ▷ Refitted room number code) = insert_entry pair_cmp (fits h) (room, number) (fit_row room number (length (issued h room)) (length (notes h room)))
+fits (h ▷ Refitted room number code) =
+    insert_entry pair_cmp (fits h) (room, number) (fit_row room number (length (issued h room)) (length (notes h room)))
 fits (h ▷ _) = fits h
 
 -- the room has had that fit: it is the present one or an earlier one

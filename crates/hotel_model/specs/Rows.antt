@@ -62,7 +62,8 @@ rooms_of_kind rooms kind = count_by (λ row. bytes_eq row.kind kind) (values_of 
 -- the codes of a room, each with its place, in the order of places
 abbrev pub codes_by_place : List (ℕ × CodeRow) → ℕ → List (ℕ × ℕ)
 codes_by_place [] room = []
-codes_by_place (e ∷ es) room = when (e.1.room == room) (λ placed. insert_entry nat_cmp placed e.1.place e.0) (codes_by_place es room)
+codes_by_place (e ∷ es) room =
+    when (e.1.room == room) (λ placed. insert_entry nat_cmp placed e.1.place e.0) (codes_by_place es room)
 
 -- the codes of a room, in the order of places
 abbrev pub codes_at : Rows → ℕ → List ℕ
@@ -110,12 +111,14 @@ begins_fit rows room place = list_any (λ (f : FitRow). f.place == place) (fits_
 
 -- the link of the room's last two codes, where it has two and no fit begins with the last one
 abbrev pub newest_link_at : Rows → ℕ → Option Link
-newest_link_at rows room = if begins_fit rows room (length (codes_at rows room) - 1) then None else last_link_of (codes_at rows room)
+newest_link_at rows room =
+    if begins_fit rows room (length (codes_at rows room) - 1) then None else last_link_of (codes_at rows room)
 
 -- the link of the party's card of the greatest number
 abbrev pub link_of_last_card : List (ℕ × Card) → ℕ → Option Link
 link_of_last_card [] party = None
-link_of_last_card (e ∷ es) party = or_else (link_of_last_card es party) (if e.1.party == party then Some e.1.link else None)
+link_of_last_card (e ∷ es) party =
+    or_else (link_of_last_card es party) (if e.1.party == party then Some e.1.link else None)
 
 -- the notes of a room, in the order of their numbers
 abbrev pub notes_at : List ((ℕ × ℕ) × Note) → ℕ → List Note

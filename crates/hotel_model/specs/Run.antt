@@ -20,7 +20,8 @@ use Rattle.hotel_model.specs.Answer.{answer_to}
 -- values are in their ranges.
 abbrev pub Reached : History → Type 0
 Reached (start t) = IsSound t
-Reached (h ▷ event) = Reached h × (ahead : List ℕ) × (command : Command) × ((answer_to h ahead command).happens ≡ Some event) × InRange event
+Reached (h ▷ event) = Reached h × (ahead : List ℕ) × (command : Command)
+    × ((answer_to h ahead command).happens ≡ Some event) × InRange event
 
 -- The rows stand for a history that can be reached.
 abbrev pub StandsFor : History → Rows → Type 0
@@ -51,7 +52,8 @@ last_answered (first ∷ reply ∷ replies) = last_answered (reply ∷ replies)
 abbrev pub StepsIf : Bool → History → Stream → Command → Reply → History → Stream → Type 0
 StepsIf true h s command reply h' s' = (h' ≡ h) × MovedAtMost (answered h s command).examined s s'
 StepsIf false h s command reply h' s' =
-    (reply ≡ (answered h s command).reply) × (h' ≡ grown h (answered h s command).happens) × (s' ≡ past (answered h s command).examined s)
+    (reply ≡ (answered h s command).reply) × (h' ≡ grown h (answered h s command).happens)
+    × (s' ≡ past (answered h s command).examined s)
 
 -- A command may be given this reply, after which these are the history and the source. Memory or Store may stand in
 -- place of any answer.
@@ -87,4 +89,5 @@ go_on outcome later = first_reply outcome.reply (later outcome)
 abbrev pub run_on : History → List ℕ → List Command → Ran
 run_on h ahead [] = record { history = h; ahead = ahead; replies = [] }
 run_on h ahead (command ∷ commands) =
-    go_on (answer_to h (take 64 ahead) command) (λ outcome. run_on (grown h outcome.happens) (drop outcome.examined ahead) commands)
+    go_on (answer_to h (take 64 ahead) command) (λ outcome. run_on (grown h outcome.happens)
+        (drop outcome.examined ahead) commands)

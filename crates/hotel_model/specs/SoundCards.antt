@@ -35,7 +35,8 @@ codes_listed rows room = count_by (λ (row : CodeRow). row.room == room) (values
 
 -- each room's codes stand at the places 0 and on, each once, as many as its row says
 abbrev pub places_once : Rows → Bool
-places_once rows = each_room rows (λ row. count_up 0 (keys_of (codes_by_place rows.codes row.room)) && (length (codes_at rows row.room) == row.codes)
+places_once rows = each_room rows (λ row. count_up 0 (keys_of (codes_by_place rows.codes row.room))
+    && (length (codes_at rows row.room) == row.codes)
     && (codes_listed rows row.room == row.codes))
 
 -- ---- card
@@ -46,7 +47,8 @@ each_card rows rule = list_all (λ (e : ℕ × Card). rule e.1) rows.cards
 
 -- each row has the number that is its key; the numbers are 1 to n, n at most 9,999,999
 abbrev pub card_numbers : Rows → Bool
-card_numbers rows = list_all (λ (e : ℕ × Card). e.1.number == e.0) rows.cards && count_up 1 (keys_of rows.cards) && nat_le (length rows.cards) LAST_NUMBER
+card_numbers rows = list_all (λ (e : ℕ × Card). e.1.number == e.0) rows.cards && count_up 1 (keys_of rows.cards)
+    && nat_le (length rows.cards) LAST_NUMBER
 
 -- each card's party has a stay
 abbrev pub card_parties_there : Rows → Bool
@@ -62,11 +64,13 @@ stands_at rows room link = code_is rows link.old_code (λ old. code_is rows link
 
 -- a card's two codes are neighbours at one room
 abbrev pub links_are_neighbours : Rows → Bool
-links_are_neighbours rows = each_card rows (λ card. code_is rows card.link.new_code (λ new. stands_at rows new.room card.link))
+links_are_neighbours rows =
+    each_card rows (λ card. code_is rows card.link.new_code (λ new. stands_at rows new.room card.link))
 
 -- cards of one link have one party
 abbrev pub links_of_one_party : Rows → Bool
-links_of_one_party rows = each_card rows (λ card. each_card rows (λ other. not (same_link card.link other.link) || (card.party == other.party)))
+links_of_one_party rows = each_card rows (λ card. each_card rows
+    (λ other. not (same_link card.link other.link) || (card.party == other.party)))
 
 -- the code is the new code of a card
 abbrev pub is_new_code : Rows → ℕ → Bool
@@ -74,11 +78,13 @@ is_new_code rows code = list_any (λ (c : ℕ × Card). c.1.link.new_code == cod
 
 -- each code but the first of its room and those that fits begin with is the new code of a card
 abbrev pub neighbours_are_links : Rows → Bool
-neighbours_are_links rows = list_all (λ (e : ℕ × CodeRow). (e.1.place == 0) || begins_fit rows e.1.room e.1.place || is_new_code rows e.0) rows.codes
+neighbours_are_links rows = list_all (λ (e : ℕ × CodeRow). (e.1.place == 0) || begins_fit rows e.1.room e.1.place
+    || is_new_code rows e.0) rows.codes
 
 -- no code that a fit begins with is the new code of a card
 abbrev pub fits_without_links : Rows → Bool
-fits_without_links rows = list_all (λ (e : ℕ × CodeRow). not (begins_fit rows e.1.room e.1.place && is_new_code rows e.0)) rows.codes
+fits_without_links rows =
+    list_all (λ (e : ℕ × CodeRow). not (begins_fit rows e.1.room e.1.place && is_new_code rows e.0)) rows.codes
 
 -- the newest link of a room is this one
 abbrev pub is_newest : Rows → ℕ → Link → Bool

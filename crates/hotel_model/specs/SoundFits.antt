@@ -20,7 +20,8 @@ each_fitted rows rule = each_room rows (λ row. rule (fits_at rows.fits row.room
 -- each row is of its key; the numbers of each room's fits are 1 to n, n from 1 on
 abbrev pub fit_numbers : Rows → Bool
 fit_numbers rows = list_all (λ (e : (ℕ × ℕ) × FitRow). (e.1.room == e.0.0) && (e.1.fit == e.0.1)) rows.fits
-    && each_fitted rows (λ fits row. count_up 1 (map (λ (f : FitRow). f.fit) fits) && nat_le 1 (length fits) && nat_le (length fits) LAST_FIT)
+    && each_fitted rows (λ fits row. count_up 1 (map (λ (f : FitRow). f.fit) fits) && nat_le 1 (length fits)
+        && nat_le (length fits) LAST_FIT)
 
 -- the first of some fits is at place 0, with no note before it
 abbrev pub first_is_first : List FitRow → Bool
@@ -69,4 +70,5 @@ fit_notes_few rows = each_fitted rows (λ fits row. rise_by_few (notes_before_ea
 
 -- each room's row says of its last fit which it is, and how many notes were taken before it
 abbrev pub rows_of_last_fits : Rows → Bool
-rows_of_last_fits rows = each_fitted rows (λ fits row. said_of (last_fit fits) true (λ f. (row.fit == f.fit) && (row.before == f.before)))
+rows_of_last_fits rows =
+    each_fitted rows (λ fits row. said_of (last_fit fits) true (λ f. (row.fit == f.fit) && (row.before == f.before)))

@@ -35,11 +35,13 @@ has_entered rows room row new = nat_lt (last_fit_place rows room) new.place && n
 -- secured room it is the newest
 abbrev pub fits_inside : Rows → ℕ → RoomRow → Card → Bool
 fits_inside rows room row card =
-    stands_at rows room card.link && code_is rows card.link.new_code (has_entered rows room row) && (not row.secured || is_newest rows room card.link)
+    stands_at rows room card.link && code_is rows card.link.new_code (has_entered rows room row)
+        && (not row.secured || is_newest rows room card.link)
 
 -- what is inside is a card that fits its room
 abbrev pub insides_fit : Rows → Bool
-insides_fit rows = list_all (λ (e : ℕ × ℕ). room_is rows e.0 (λ row. card_is rows e.1 (fits_inside rows e.0 row))) rows.inside
+insides_fit rows =
+    list_all (λ (e : ℕ × ℕ). room_is rows e.0 (λ row. card_is rows e.1 (fits_inside rows e.0 row))) rows.inside
 
 -- ---- note
 
@@ -60,7 +62,8 @@ act_fits rows room (act.Recoded from to) = code_is rows from (λ first. code_is 
 -- the note is of its room, which is there, what it says fits the room, and its time is one
 abbrev pub note_fits : Rows → (ℕ × ℕ) × Note → Bool
 note_fits rows e =
-    (e.1.room == e.0.0) && is_some (at_number rows.rooms e.0.0) && act_fits rows e.0.0 e.1.act && is_day e.1.day && nat_le e.1.second LAST_SECOND
+    (e.1.room == e.0.0) && is_some (at_number rows.rooms e.0.0) && act_fits rows e.0.0 e.1.act && is_day e.1.day
+    && nat_le e.1.second LAST_SECOND
 
 -- each note fits
 abbrev pub notes_fit : Rows → Bool
@@ -73,7 +76,8 @@ numbers_at (e ∷ es) room = when (e.0.0 == room) (λ numbers. e.0.1 ∷ numbers
 
 -- the notes of each room are numbered from 1 to as many as its row says
 abbrev pub notes_counted : Rows → Bool
-notes_counted rows = each_room rows (λ row. count_up 1 (numbers_at rows.notes row.room) && (length (numbers_at rows.notes row.room) == row.notes))
+notes_counted rows = each_room rows (λ row. count_up 1 (numbers_at rows.notes row.room)
+    && (length (numbers_at rows.notes row.room) == row.notes))
 
 -- whether the room has the fit, and its row is so
 abbrev pub fit_is : Rows → ℕ → ℕ → (FitRow → Bool) → Bool

@@ -69,7 +69,8 @@ note_counts rows = each_room rows (λ row. nat_le row.notes (LAST_FIT * LAST_NUM
 
 -- the party is in house at the row's room, and booked its kind
 abbrev pub is_home_of : Rows → RoomRow → ℕ → Bool
-is_home_of rows row party = said_of (at_number rows.stays party) false (λ stay. is_that (room_of_state stay.state) row.room && bytes_eq row.kind stay.kind)
+is_home_of rows row party = said_of (at_number rows.stays party) false
+    (λ stay. is_that (room_of_state stay.state) row.room && bytes_eq row.kind stay.kind)
 
 -- a room's party is in house at this room, and booked its kind
 abbrev pub parties_in_house : Rows → Bool
@@ -77,4 +78,5 @@ parties_in_house rows = each_room rows (λ row. said_of row.party true (is_home_
 
 -- a secured room's lock holds its last code, which isn't its first, nor the first of a fit
 abbrev pub secured_hold_last : Rows → Bool
-secured_hold_last rows = each_room rows (λ row. not row.secured || ((row.lock_place == row.codes - 1) && nat_le 2 row.codes && not (begins_fit rows row.room (row.codes - 1))))
+secured_hold_last rows = each_room rows (λ row. not row.secured
+    || ((row.lock_place == row.codes - 1) && nat_le 2 row.codes && not (begins_fit rows row.room (row.codes - 1))))

@@ -17,7 +17,8 @@ each_stay rows rule = list_all (λ (e : ℕ × Stay). rule e.1) rows.stays
 
 -- each row has the number that is its key; the numbers are 1 to n, n at most 9,999,999
 abbrev pub stay_numbers : Rows → Bool
-stay_numbers rows = list_all (λ (e : ℕ × Stay). e.1.party == e.0) rows.stays && count_up 1 (keys_of rows.stays) && nat_le (length rows.stays) LAST_NUMBER
+stay_numbers rows = list_all (λ (e : ℕ × Stay). e.1.party == e.0) rows.stays && count_up 1 (keys_of rows.stays)
+    && nat_le (length rows.stays) LAST_NUMBER
 
 -- each guest reads as a guest's name: 1 to 60 bytes of UTF-8, no control character, no space first or last
 abbrev pub guests_read : Rows → Bool
@@ -29,7 +30,8 @@ stay_kinds_there rows = each_stay rows (λ stay. has_kind rows stay.kind)
 
 -- days in range, 1 to 90 nights
 abbrev pub stay_days : Rows → Bool
-stay_days rows = each_stay rows (λ stay. is_day stay.depart && nat_lt stay.arrive stay.depart && nat_le stay.depart (stay.arrive + 90))
+stay_days rows = each_stay rows (λ stay. is_day stay.depart && nat_lt stay.arrive stay.depart
+    && nat_le stay.depart (stay.arrive + 90))
 
 -- the room is there, and has this party
 abbrev pub has_party : Rows → ℕ → ℕ → Bool

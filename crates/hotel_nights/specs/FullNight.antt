@@ -38,4 +38,5 @@ first_day test d (suc n) = if test d then Some d else first_day test (suc d) n
 -- none does
 abbrev pub IsFirst : (ℕ → Bool) → ℕ → ℕ → Option ℕ → Type 0
 IsFirst test from after None = (d : ℕ) → from ≤ d → d < after → test d ≡ false
-IsFirst test from after (Some r) = (from ≤ r) × (r < after) × (test r ≡ true) × ((d : ℕ) → from ≤ d → d < r → test d ≡ false)
+IsFirst test from after (Some r) =
+    (from ≤ r) × (r < after) × (test r ≡ true) × ((d : ℕ) → from ≤ d → d < r → test d ≡ false)

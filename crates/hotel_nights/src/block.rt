@@ -31,8 +31,10 @@ fn add(tally: &mut Tally, stay: &Stay, kind: &KindCode, first: u16, after: u16)
     requires few { after ≤ first + 90 }
     requires begins_fit { (j : ℕ) → slice_index tally.old.begins j < 2 ^ 63 }
     requires ends_fit { (j : ℕ) → slice_index tally.old.ends j < 2 ^ 63 }
-    ensures begins { (j : ℕ) → slice_index tally.new.begins j ≡ slice_index tally.old.begins j + one_if (begins kind.now first after (first + j) stay.now) }
-    ensures ends { (j : ℕ) → slice_index tally.new.ends j ≡ slice_index tally.old.ends j + one_if (ends kind.now first after (first + j) stay.now) }
+    ensures begins { (j : ℕ) → slice_index tally.new.begins j ≡ slice_index tally.old.begins j + one_if
+        (begins kind.now first after (first + j) stay.now) }
+    ensures ends { (j : ℕ) → slice_index tally.new.ends j ≡ slice_index tally.old.ends j + one_if
+        (ends kind.now first after (first + j) stay.now) }
 {
     if !is_of_kind(stay, kind) {
         return;
@@ -52,7 +54,8 @@ fn add(tally: &mut Tally, stay: &Stay, kind: &KindCode, first: u16, after: u16)
 fn count_stays(stays: &[Stay], kind: &KindCode, first: u16, after: u16) -> Tally
     requires order { first < after }
     requires few { after ≤ first + 90 }
-    ensures begins { (j : ℕ) → slice_index result.begins j ≡ count_by (begins kind.now first after (first + j)) stays.now }
+    ensures begins { (j : ℕ) → slice_index result.begins j ≡ count_by
+        (begins kind.now first after (first + j)) stays.now }
     ensures ends { (j : ℕ) → slice_index result.ends j ≡ count_by (ends kind.now first after (first + j)) stays.now }
 {
     let mut tally = Tally {

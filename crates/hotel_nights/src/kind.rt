@@ -34,7 +34,8 @@ impl Model for KindCode {
 
     ghost view = { λ k. take k.len k.bytes };
 
-    ghost invariant = { λ k. (length k.bytes ≡ 8) × (k.len ≤ 8) × (drop k.len k.bytes ≡ replicate (8 - k.len) 0) × (is_kind (take k.len k.bytes) ≡ true) };
+    ghost invariant = { λ k. (length k.bytes ≡ 8) × (k.len ≤ 8) × (drop k.len k.bytes ≡ replicate (8 - k.len) 0)
+        × (is_kind (take k.len k.bytes) ≡ true) };
 
     ghost inverse = { λ l. record { bytes = l ++ replicate (8 - length l) 0; len = length l } };
 

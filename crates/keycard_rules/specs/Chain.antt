@@ -50,15 +50,18 @@ moves_on ledger link = (ledger.held == link.old_code) && is_next ledger.awaited 
 
 -- the codes after the lock has moved on to the first awaited one
 abbrev pub moved_on : Ledger → ℕ → Ledger
-moved_on ledger code = record { passed = ledger.passed ++ (ledger.held ∷ []); held = code; awaited = without_first ledger.awaited }
+moved_on ledger code =
+    record { passed = ledger.passed ++ (ledger.held ∷ []); held = code; awaited = without_first ledger.awaited }
 
 -- the codes after a card of the link: where its new code is held, nothing moves
 abbrev pub entered : Ledger → Link → Ledger
-entered ledger link = if ledger.held == link.new_code then ledger else (if moves_on ledger link then moved_on ledger link.new_code else ledger)
+entered ledger link = if ledger.held == link.new_code then ledger
+    else (if moves_on ledger link then moved_on ledger link.new_code else ledger)
 
 -- the codes held before and after, where the card opens
 abbrev pub turned : Ledger → Link → Option Turned
-turned ledger link = if (ledger.held == link.new_code) || moves_on ledger link then Some (record { before = ledger.held; after = link.new_code }) else None
+turned ledger link = if (ledger.held == link.new_code) || moves_on ledger link then Some
+    (record { before = ledger.held; after = link.new_code }) else None
 
 -- the first place of a code, or the number of codes
 unfoldable pub place_in : List ℕ → ℕ → ℕ
@@ -67,7 +70,8 @@ place_in codes code = position_or_len (λ c. c == code) codes
 -- what a recoding answers: the first code has to be held, the second one awaited
 abbrev pub recode_answer : Ledger → ℕ → ℕ → Result (Unit {0}) RecodeFault
 recode_answer ledger from to =
-    if not (ledger.held == from) then Err HeldDiffers else (if is_one_of to ledger.awaited then Ok tt else Err NotAwaited)
+    if not (ledger.held == from) then Err HeldDiffers else (if is_one_of to ledger.awaited then Ok tt
+        else Err NotAwaited)
 
 -- the codes after a recoding: the held one and those awaited before the new one are passed
 abbrev pub recoded : Ledger → ℕ → Ledger
@@ -83,4 +87,5 @@ refitted ledger code = record { passed = ledger.passed ++ (ledger.held ∷ ledge
 
 -- an issue made the link: its codes stand one after the other
 abbrev pub IsLinkOf : List ℕ → Link → Type 0
-IsLinkOf codes link = (earlier : List ℕ) × (later : List ℕ) × (codes ≡ earlier ++ (link.old_code ∷ link.new_code ∷ later))
+IsLinkOf codes link =
+    (earlier : List ℕ) × (later : List ℕ) × (codes ≡ earlier ++ (link.old_code ∷ link.new_code ∷ later))

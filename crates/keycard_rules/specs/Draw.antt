@@ -35,7 +35,8 @@ one_more draw = record { code = draw.code; examined = draw.examined + 1 }
 unfoldable pub draw_from : List ℕ → List ℕ → Draw
 draw_from issued [] = record { code = None; examined = 0 }
 draw_from issued (word ∷ later) =
-    if is_one_of (code_of word) issued then one_more (draw_from issued later) else record { code = Some (code_of word); examined = 1 }
+    if is_one_of (code_of word) issued then one_more (draw_from issued later)
+        else record { code = Some (code_of word); examined = 1 }
 
 -- the same of the next 64 words of a source
 unfoldable pub drawn : List ℕ → Stream → Draw
@@ -47,8 +48,10 @@ MovedAtMost n source later = (k : ℕ) × (k ≤ n) × (later ≡ past k source)
 
 -- What a draw answers, and where it leaves the source: the code that is drawn, or none where all 64 are issued.
 abbrev pub Draws : List ℕ → Stream → Result ℕ DrawFault → Stream → Type 0
-Draws issued source (Ok code) later = ((drawn issued source).code ≡ Some code) × (later ≡ past (drawn issued source).examined source)
-Draws issued source (Err NoFreshCode) later = ((drawn issued source).code ≡ None) × (later ≡ past (drawn issued source).examined source)
+Draws issued source (Ok code) later =
+    ((drawn issued source).code ≡ Some code) × (later ≡ past (drawn issued source).examined source)
+Draws issued source (Err NoFreshCode) later =
+    ((drawn issued source).code ≡ None) × (later ≡ past (drawn issued source).examined source)
 Draws issued source (Err Memory) later = MovedAtMost (drawn issued source).examined source later
 Draws issued source (Err Store) later = MovedAtMost (drawn issued source).examined source later
 

@@ -103,7 +103,8 @@ impl Chain {
         ensures answer { result ≡ turned self.old link.now }
         ensures moved { self.new ≡ entered self.old link.now }
         ensures same_codes { issued self.new ≡ issued self.old }
-        ensures lock_rule { IsLinkOf (issued self.old) link.now → option_map (λ t. t.after) result ≡ turn self.old.held link.now }
+        ensures lock_rule { IsLinkOf (issued self.old) link.now
+            → option_map (λ t. t.after) result ≡ turn self.old.held link.now }
     {
         let held = self.codes[self.place];
         if held == link.new_code {

@@ -24,9 +24,11 @@ pub enum DrawFault {
 /// no more
 /// than without it. Takes no memory of its own.
 pub fn draw_fresh<R: Rng, I: Issued>(source: &mut R, issued: &mut I) -> Result<Code, DrawFault>
-    ensures drawn { I.is_honest issued.new → Draws (I.issued issued.old) (R.stream source.old) result (R.stream source.new) }
+    ensures drawn { I.is_honest issued.new → Draws (I.issued issued.old) (R.stream source.old) result
+        (R.stream source.new) }
     ensures fresh { I.is_clean issued.new → IfOk result (λ code. is_one_of code (I.issued issued.old) ≡ false) }
-    ensures none_fresh { I.is_clean issued.new → result ≡ Err DrawFault.NoFreshCode → AllIssued (I.issued issued.old) (words 64 (R.stream source.old)) }
+    ensures none_fresh { I.is_clean issued.new → result ≡ Err DrawFault.NoFreshCode
+        → AllIssued (I.issued issued.old) (words 64 (R.stream source.old)) }
 
     ensures moved { MovedAtMost 64 (R.stream source.old) (R.stream source.new) }
     ensures none_moved { result ≡ Err DrawFault.NoFreshCode → R.stream source.new ≡ past 64 (R.stream source.old) }

@@ -6,8 +6,10 @@ use Rattle.hotel_model.specs.{Refinement.OnRows.outcome_on, Outcome.Outcome}
 
 -- This comes of some command on these rows, with some words ahead in the source.
 abbrev pub IsOutcome : Rows → Outcome Change → Type 0
-IsOutcome rows outcome = (ahead : List ℕ) × (command : Command) × IsCommand command × (outcome_on rows ahead command ≡ outcome)
+IsOutcome rows outcome =
+    (ahead : List ℕ) × (command : Command) × IsCommand command × (outcome_on rows ahead command ≡ outcome)
 
 -- This change and this reply come of some command on these rows, after some number of words was examined.
 abbrev pub IsAnswered : Rows → Change → Reply → Type 0
-IsAnswered rows change reply = (examined : ℕ) × IsOutcome rows (record { reply = reply; happens = Some change; examined = examined })
+IsAnswered rows change reply =
+    (examined : ℕ) × IsOutcome rows (record { reply = reply; happens = Some change; examined = examined })

@@ -23,14 +23,17 @@ HasCurrent room row rows = IsSome (code_at rows room (row.codes - 1)) × (row.co
 
 -- the room and its last two codes are there
 abbrev pub HasLink : ℕ → Rows → Type 0
-HasLink room rows = IsSome (room_at rows room) × IsSome (code_at rows room (codes_of rows room - 2)) × IsSome (code_at rows room (codes_of rows room - 1))
+HasLink room rows = IsSome (room_at rows room) × IsSome (code_at rows room (codes_of rows room - 2))
+    × IsSome (code_at rows room (codes_of rows room - 1))
 
 -- what bars a party from coming to a room on a day
 abbrev pub bars_to_check_in : ℕ → RoomRow → Stay → List (Option Refusal)
 bars_to_check_in day row stay =
-    needs (is_booked_state stay.state) NotBooked ∷ bars (nat_lt day stay.arrive) TooEarly ∷ bars (nat_le stay.depart day) StayOver
+    needs (is_booked_state stay.state) NotBooked ∷ bars (nat_lt day stay.arrive) TooEarly
+        ∷ bars (nat_le stay.depart day) StayOver
     ∷ needs (bytes_eq row.kind stay.kind) WrongKind ∷ bars (is_some row.party) RoomTaken ∷ []
 
 -- what bars a party in house from another room
 abbrev pub bars_to_transfer : ℕ → RoomRow → Stay → List (Option Refusal)
-bars_to_transfer party row stay = needs (bytes_eq row.kind stay.kind) WrongKind ∷ bars (is_that row.party party) SameRoom ∷ bars (is_some row.party) RoomTaken ∷ []
+bars_to_transfer party row stay = needs (bytes_eq row.kind stay.kind) WrongKind
+    ∷ bars (is_that row.party party) SameRoom ∷ bars (is_some row.party) RoomTaken ∷ []

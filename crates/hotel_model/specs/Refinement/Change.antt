@@ -59,7 +59,8 @@ made (Room room kind code) rows = record rows {
 made (Reserved stay) rows = record rows { stays = insert_entry nat_cmp rows.stays stay.party stay }
 made (Cancelled party) rows = record rows { stays = in_state party state.Cancelled rows.stays }
 made (Issue card room leaves) rows = record rows {
-  rooms = room_changed room (λ row. record row { codes = row.codes + 1; secured = false; party = Some card.party }) (freed_by leaves rows.rooms);
+  rooms = room_changed room (λ row. record row { codes = row.codes + 1; secured = false; party = Some card.party })
+      (freed_by leaves rows.rooms);
   codes = insert_entry nat_cmp rows.codes card.link.new_code (record { room = room; place = codes_of rows room });
   stays = in_state card.party (state.InHouse room) rows.stays;
   cards = insert_entry nat_cmp rows.cards card.number card;
@@ -76,7 +77,8 @@ made (Refit room code fit) rows = record rows {
   fits = insert_entry pair_cmp rows.fits (room, fit) (fit_row room fit (codes_of rows room) (notes_in rows room));
 }
 made (Noted note lock_place secured insides) rows = record rows {
-  rooms = room_changed note.room (λ row. record row { lock_place = lock_place; secured = secured; notes = row.before + note.count }) rows.rooms;
+  rooms = room_changed note.room
+      (λ row. record row { lock_place = lock_place; secured = secured; notes = row.before + note.count }) rows.rooms;
   inside = moved insides note.room rows.inside;
   notes = insert_entry pair_cmp rows.notes (note.room, before_in rows note.room + note.count) note;
 }

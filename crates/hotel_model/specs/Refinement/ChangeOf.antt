@@ -16,7 +16,8 @@ use Rattle.hotel_model.specs.Cases.{today, room_of, own_room, last_card_of}
 
 -- what a note leaves of its room's row, and who moves
 abbrev pub noted : History → Event → Note → InsideMove → Change
-noted h event note insides = change.Noted note (length (passed (h ▷ event) note.room)) (secured (h ▷ event) note.room) insides
+noted h event note insides =
+    change.Noted note (length (passed (h ▷ event) note.room)) (secured (h ▷ event) note.room) insides
 
 -- a card comes in, unless it is inside
 abbrev pub comes : Bool → ℕ → InsideMove
@@ -29,9 +30,11 @@ change_of h (Begun day) = change.Begin day
 change_of h (Kind kind) = change.Kind kind
 change_of h (Install room kind code) = change.Room room kind code
 change_of h (Reserved party guest kind arrive depart) =
-    change.Reserved (record { party = party; guest = guest; kind = kind; arrive = arrive; depart = depart; state = state.Booked })
+    change.Reserved
+        (record { party = party; guest = guest; kind = kind; arrive = arrive; depart = depart; state = state.Booked })
 change_of h (Cancelled party) = change.Cancelled party
-change_of h (Issue party room number code) = change.Issue (card_of number party (link_to h room code)) room (other_than room (room_of h party))
+change_of h (Issue party room number code) =
+    change.Issue (card_of number party (link_to h room code)) room (other_than room (room_of h party))
 change_of h (Spare party number) = change.Spare (card_of number party (last_card_of h party))
 change_of h (CheckOut party) = change.CheckedOut party (own_room h party)
 change_of h (Refitted room fit code) = change.Refit room code fit

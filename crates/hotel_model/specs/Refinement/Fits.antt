@@ -16,16 +16,22 @@ abbrev pub HasItsRows : Change → Rows → Type 0
 HasItsRows (change.Begin day) rows = rows.day ≡ None
 HasItsRows (change.DayTo day) rows = IsSome rows.day
 HasItsRows (change.Kind kind) rows = has_kind rows kind ≡ false
-HasItsRows (change.Room room kind code) rows = (has_kind rows kind ≡ true) × (room_at rows room ≡ None) × (code_place rows code ≡ None) × (fit_at rows room 1 ≡ None)
-HasItsRows (change.Reserved stay) rows = (stay.party ≡ length rows.stays + 1) × (stay.state ≡ state.Booked) × (stay_at rows stay.party ≡ None)
+HasItsRows (change.Room room kind code) rows = (has_kind rows kind ≡ true) × (room_at rows room ≡ None)
+    × (code_place rows code ≡ None) × (fit_at rows room 1 ≡ None)
+HasItsRows (change.Reserved stay) rows =
+    (stay.party ≡ length rows.stays + 1) × (stay.state ≡ state.Booked) × (stay_at rows stay.party ≡ None)
 HasItsRows (change.Cancelled party) rows = IsSome (stay_at rows party)
 HasItsRows (change.Issue card room leaves) rows =
-    IsSome (room_at rows room) × (codes_of rows room < 2 ^ 32 - 1) × (code_place rows card.link.new_code ≡ None) × (card.number ≡ length rows.cards + 1) × IsSome (stay_at rows card.party)
+    IsSome (room_at rows room) × (codes_of rows room < 2 ^ 32 - 1) × (code_place rows card.link.new_code ≡ None)
+        × (card.number ≡ length rows.cards + 1) × IsSome (stay_at rows card.party)
     × (said_of (stay_at rows card.party) true (λ stay. is_standing stay.state) ≡ true)
 HasItsRows (change.Spare card) rows = card.number ≡ length rows.cards + 1
 HasItsRows (change.CheckedOut party room) rows = IsSome (stay_at rows party) × IsSome (room_at rows room)
-HasItsRows (change.Refit room code fit) rows = IsSome (room_at rows room) × (codes_of rows room < 2 ^ 32 - 1) × (code_place rows code ≡ None) × (fit_at rows room fit ≡ None)
-HasItsRows (change.Noted note lock_place secured insides) rows = IsSome (room_at rows note.room) × (note_numbered rows note.room (before_in rows note.room + note.count) ≡ None) × (before_in rows note.room + note.count < 2 ^ 32)
+HasItsRows (change.Refit room code fit) rows = IsSome (room_at rows room) × (codes_of rows room < 2 ^ 32 - 1)
+    × (code_place rows code ≡ None) × (fit_at rows room fit ≡ None)
+HasItsRows (change.Noted note lock_place secured insides) rows = IsSome (room_at rows note.room)
+    × (note_numbered rows note.room (before_in rows note.room + note.count) ≡ None)
+    × (before_in rows note.room + note.count < 2 ^ 32)
 
 -- A change fits where it has its rows and what it makes is sound.
 abbrev pub Fits : Change → Rows → Type 0

@@ -16,7 +16,8 @@ made_by (Some change) rows = made change rows
 -- a failed step changed nothing, and examined at most the outcome's words; any other went as the outcome says
 abbrev pub GoesIf : Bool → Outcome Change → Rows → Stream → Reply → Rows → Stream → Type 0
 GoesIf true o rows source reply later rest = (later ≡ rows) × MovedAtMost o.examined source rest
-GoesIf false o rows source reply later rest = (reply ≡ o.reply) × (later ≡ made_by o.happens rows) × (rest ≡ past o.examined source)
+GoesIf false o rows source reply later rest =
+    (reply ≡ o.reply) × (later ≡ made_by o.happens rows) × (rest ≡ past o.examined source)
 
 abbrev pub Goes : Outcome Change → Rows → Stream → Reply → Rows → Stream → Type 0
 Goes o rows source reply later rest = GoesIf (is_failed reply) o rows source reply later rest
@@ -27,6 +28,8 @@ pub record AreWhole (rows : Rows) : Type 0 where
   pub current : (room : ℕ) (row : RoomRow) → room_at rows room ≡ Some row → IsSome (code_at rows room (row.codes - 1))
   pub held : (room : ℕ) (row : RoomRow) → room_at rows room ≡ Some row → IsSome (code_at rows room row.lock_place)
   pub few : (room : ℕ) (row : RoomRow) → room_at rows room ≡ Some row → row.codes < 2 ^ 32 - 1
-  pub noted : (room count : ℕ) (row : RoomRow) → room_at rows room ≡ Some row → 1 ≤ count → count ≤ row.notes - row.before → IsSome (note_at rows room row.fit count)
-  pub homes : (party room : ℕ) → home_on rows party ≡ Some room → IsSome (room_at rows room) × IsSome (code_at rows room (codes_of rows room - 2))
+  pub noted : (room count : ℕ) (row : RoomRow) → room_at rows room ≡ Some row → 1 ≤ count
+      → count ≤ row.notes - row.before → IsSome (note_at rows room row.fit count)
+  pub homes : (party room : ℕ) → home_on rows party ≡ Some room → IsSome (room_at rows room)
+      × IsSome (code_at rows room (codes_of rows room - 2))
   pub cards : (number : ℕ) (card : Card) → card_at rows number ≡ Some card → IsSome (code_place rows card.link.new_code)

@@ -20,4 +20,5 @@ AnswersLift = (h : History) (command : Command) → Reached h → IsCommand comm
 
 -- The rows after one more event are those that its change makes, and the change fits.
 abbrev pub ChangesFit : Type 0
-ChangesFit = (h : History) (event : Event) → Reached (h ▷ event) → (rows_of (h ▷ event) ≡ made (change_of h event) (rows_of h)) × Fits (change_of h event) (rows_of h)
+ChangesFit = (h : History) (event : Event) → Reached (h ▷ event)
+    → (rows_of (h ▷ event) ≡ made (change_of h event) (rows_of h)) × Fits (change_of h event) (rows_of h)

@@ -34,11 +34,14 @@ state_at lock_place place = if nat_lt place lock_place then Passed else if place
 
 -- the row of a room's code at a place, where one is there
 abbrev pub chain_row_on : Rows → RoomRow → ℕ → Option ChainRow
-chain_row_on rows row place = option_map (λ code. let r : ChainRow = record { place = place; code = code; state = state_at row.lock_place place } in r) (code_at rows row.room place)
+chain_row_on rows row place = option_map
+    (λ code. let r : ChainRow = record { place = place; code = code; state = state_at row.lock_place place } in r)
+    (code_at rows row.room place)
 
 -- A room's codes with their places and states, by place.
 abbrev pub chain_on : Rows → ℕ → List ChainRow
-chain_on rows room = said_of (room_at rows room) [] (λ row. filter_map (chain_row_on rows row) (range_with_len 0 row.codes))
+chain_on rows room =
+    said_of (room_at rows room) [] (λ row. filter_map (chain_row_on rows row) (range_with_len 0 row.codes))
 
 -- how many codes come after the one that the room's lock holds
 abbrev pub awaited_on : RoomRow → ℕ
@@ -50,7 +53,8 @@ behind_at row held current = record { room = row.room; held = held; current = cu
 
 -- the row of a room with two awaited codes or more
 abbrev pub behind_row_on : Rows → RoomRow → Option BehindRow
-behind_row_on rows row = if nat_le 2 (awaited_on row) then said_of (code_at rows row.room row.lock_place) None (λ held. option_map (behind_at row held) (code_at rows row.room (row.codes - 1))) else None
+behind_row_on rows row = if nat_le 2 (awaited_on row) then said_of (code_at rows row.room row.lock_place) None
+    (λ held. option_map (behind_at row held) (code_at rows row.room (row.codes - 1))) else None
 
 -- Rooms with two awaited codes or more, by room.
 abbrev pub left_behind_on : Rows → List BehindRow

@@ -24,7 +24,8 @@ code_place rows code = at_number rows.codes code
 -- the first code that stands at a place of a room
 abbrev pub first_code_at : List (ℕ × CodeRow) → ℕ → ℕ → Option ℕ
 first_code_at [] room place = None
-first_code_at (e ∷ es) room place = if (e.1.room == room) && (e.1.place == place) then Some e.0 else first_code_at es room place
+first_code_at (e ∷ es) room place =
+    if (e.1.room == room) && (e.1.place == place) then Some e.0 else first_code_at es room place
 
 -- the code at a place of a room
 abbrev pub code_at : Rows → ℕ → ℕ → Option ℕ
@@ -55,7 +56,8 @@ note_numbered rows room number = lookup (is_at (pair_cmp (room, number))) rows.n
 
 -- the note of a count of a fit: its number is that of those before the fit and its count
 abbrev pub note_at : Rows → ℕ → ℕ → ℕ → Option Note
-note_at rows room fit count = said_of (fit_at rows room fit) None (λ f. of_fit fit (note_numbered rows room (f.before + count)))
+note_at rows room fit count =
+    said_of (fit_at rows room fit) None (λ f. of_fit fit (note_numbered rows room (f.before + count)))
 
 -- the first night, of so many from a day on, on which the standing stays of a kind take all its rooms
 abbrev pub first_full_on : Rows → List ℕ → ℕ → ℕ → Option ℕ

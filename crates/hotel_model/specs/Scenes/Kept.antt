@@ -45,7 +45,8 @@ agree true b = b
 agree false b = not b
 
 abbrev pub newest_opens : History → ℕ → Bool
-newest_opens h r = said_of (newest_link h r) true (λ link. agree (is_some (turn (held h r) link)) (nat_le (length (awaited h r)) 1))
+newest_opens h r =
+    said_of (newest_link h r) true (λ link. agree (is_some (turn (held h r) link)) (nat_le (length (awaited h r)) 1))
 
 -- the link is the room's newest one
 abbrev pub is_newest : History → ℕ → Link → Bool
@@ -57,11 +58,13 @@ belongs h r party number =
     said_of (at_number (cards h) number) false (λ card. (card.party == party) && is_newest h r card.link)
 
 abbrev pub safe_room : History → ℕ → Bool
-safe_room h r = not (secured h r) || said_of (registered h r) true (λ party. (held h r == current h r) && list_all (belongs h r party) (inside h r))
+safe_room h r = not (secured h r) || said_of (registered h r) true
+    (λ party. (held h r == current h r) && list_all (belongs h r party) (inside h r))
 
 -- a card opens only where both of its codes were issued
 abbrev pub opens_own : History → ℕ → Bool
-opens_own h r = list_all (λ (e : ℕ × Card). not (is_some (turn (held h r) e.1.link)) || (is_one_of e.1.link.old_code (issued h r) && is_one_of e.1.link.new_code (issued h r))) (cards h)
+opens_own h r = list_all (λ (e : ℕ × Card). not (is_some (turn (held h r) e.1.link))
+    || (is_one_of e.1.link.old_code (issued h r) && is_one_of e.1.link.new_code (issued h r))) (cards h)
 
 -- the note is found among the rows by its fit and count
 abbrev pub is_found : Rows → ℕ → Note → Bool

@@ -56,7 +56,8 @@ chain_line false room rows = NoChain room
 -- them.
 abbrev pub play : History → List ℕ → List Line → Played
 play h ahead [] = record { lines = []; history = h; ahead = ahead }
-play h ahead ((command ⇒ _) ∷ lines) = go_on command (answer_to h (take 64 ahead) command) (λ outcome. play (grown h outcome.happens) (drop outcome.examined ahead) lines)
+play h ahead ((command ⇒ _) ∷ lines) = go_on command (answer_to h (take 64 ahead) command)
+    (λ outcome. play (grown h outcome.happens) (drop outcome.examined ahead) lines)
 play h ahead (Arrivals day _ ∷ lines) = first_line (Arrivals day (arrivals h day)) (play h ahead lines)
 play h ahead (InHouse _ ∷ lines) = first_line (InHouse (in_house h)) (play h ahead lines)
 play h ahead (Chain room _ ∷ lines) = first_line (chain_line (is_room h room) room (chain h room)) (play h ahead lines)
@@ -70,7 +71,8 @@ source codes last = map (λ code. code * 65536) (codes ++ replicate 64 last)
 
 -- The lines are answered so; the change of each event makes the rows; and what the headline says is kept throughout.
 abbrev pub AreAnswered : List Line → Played → Type 0
-AreAnswered lines played = (played.lines ≡ lines) × (rows_made played.history ≡ rows_read played.history) × (always_kept played.history ≡ true)
+AreAnswered lines played =
+    (played.lines ≡ lines) × (rows_made played.history ≡ rows_read played.history) × (always_kept played.history ≡ true)
 
 -- The scene holds over empty books, where the source gives these codes and then the last one for ever.
 abbrev pub Holds : List ℕ → ℕ → List Line → Type 0

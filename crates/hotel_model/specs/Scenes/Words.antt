@@ -194,4 +194,5 @@ awaited place code = record { place = place; code = code; state = Awaited }
 
 -- a party in a room of the kind DBL, secured or not
 abbrev pub house : ℕ → ℕ → List ℕ → ℕ → Bool → HouseRow
-house room its_party guest depart secured = record { room = room; party = its_party; guest = guest; kind = DBL; depart = depart; secured = secured }
+house room its_party guest depart secured =
+    record { room = room; party = its_party; guest = guest; kind = DBL; depart = depart; secured = secured }
