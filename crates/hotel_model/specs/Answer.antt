@@ -35,11 +35,11 @@ use Rattle.hotel_model.specs.Outcome.{Outcome, needs, bars, unless, accepted, sa
 abbrev pub told : History → Note → Act → Outcome Event
 told h note (act.Entered number link) =
     unless (needs (is_card h number) NoCard ∷ needs (has_link h number link) CardDiffers
-        ∷ needs (opens h note.room link) LockShut ∷ [])
+    ∷ needs (opens h note.room link) LockShut ∷ [])
     (accepted reply.Taken (event.Entered note.room note.fit note.count number link (moment_of note)))
 told h note (act.Left number link) =
     unless (needs (is_card h number) NoCard ∷ needs (has_link h number link) CardDiffers
-        ∷ needs (is_one_of number (inside h note.room)) NotInside ∷ [])
+    ∷ needs (is_one_of number (inside h note.room)) NotInside ∷ [])
     (accepted reply.Taken (event.Left note.room note.fit note.count number link (moment_of note)))
 told h note (act.Recoded from to) =
     unless (needs (holds h note.room from) HeldDiffers ∷ needs (is_one_of to (awaited h note.room)) NotAwaited ∷ [])
@@ -58,7 +58,7 @@ reported h note Next = told h note note.act
 abbrev pub further_card_checks : History → ℕ → List (Option Refusal)
 further_card_checks h party =
     needs (is_begun h) NotBegun ∷ needs (is_party h party) NoParty ∷ needs (is_in_house h party) NotInHouse
-        ∷ bars (cards_used_up h) NumbersUsedUp ∷ []
+    ∷ bars (cards_used_up h) NumbersUsedUp ∷ []
 
 -- The checks of each command, in order.
 abbrev pub checks : History → Command → List (Option Refusal)
@@ -69,26 +69,26 @@ checks h (command.AddRoom room kind) =
 checks h (command.Reserve guest kind arrive nights) =
     needs (is_begun h) NotBegun ∷ needs (is_kind h kind) NoKind ∷ bars (nat_lt arrive (today h)) PastArrival
     ∷ bars (nat_lt LAST_DAY (arrive + nights)) PastEnd ∷ option_map KindFull (first_full h kind arrive nights)
-        ∷ bars (parties_used_up h) NumbersUsedUp ∷ []
+    ∷ bars (parties_used_up h) NumbersUsedUp ∷ []
 checks h (command.Cancel party) =
     needs (is_begun h) NotBegun ∷ needs (is_party h party) NoParty ∷ needs (is_booked h party) NotBooked ∷ []
 checks h (command.CheckIn party room) =
     needs (is_begun h) NotBegun ∷ needs (is_room h room) NoRoom ∷ needs (is_party h party) NoParty
-        ∷ needs (is_booked h party) NotBooked
+    ∷ needs (is_booked h party) NotBooked
     ∷ bars (is_early h party) TooEarly ∷ bars (is_over h party) StayOver ∷ needs (is_of_kind h room party) WrongKind
     ∷ bars (is_taken h room) RoomTaken ∷ bars (cards_used_up h) NumbersUsedUp ∷ []
 checks h (command.Spare party) = further_card_checks h party
 checks h (command.Reissue party) = further_card_checks h party
 checks h (command.Transfer party room) =
     needs (is_begun h) NotBegun ∷ needs (is_room h room) NoRoom ∷ needs (is_party h party) NoParty
-        ∷ needs (is_in_house h party) NotInHouse
+    ∷ needs (is_in_house h party) NotInHouse
     ∷ needs (is_of_kind h room party) WrongKind ∷ bars (is_home h room party) SameRoom
     ∷ bars (is_taken h room) RoomTaken ∷ bars (cards_used_up h) NumbersUsedUp ∷ []
 checks h (command.CheckOut party) =
     needs (is_begun h) NotBegun ∷ needs (is_party h party) NoParty ∷ needs (is_in_house h party) NotInHouse ∷ []
 checks h (command.Refit room) =
     needs (is_begun h) NotBegun ∷ needs (is_room h room) NoRoom ∷ bars (is_taken h room) RoomTaken
-        ∷ bars (fits_used_up h room) FitsUsedUp ∷ []
+    ∷ bars (fits_used_up h room) FitsUsedUp ∷ []
 checks h command.NextDay = needs (is_begun h) NotBegun ∷ needs (nat_lt (today h) LAST_DAY) LastDay ∷ []
 checks h (command.Reported note) =
     needs (is_begun h) NotBegun ∷ needs (is_room h note.room) NoRoom ∷ needs (is_fit h note.room note.fit) NoFit ∷ []

@@ -90,4 +90,4 @@ abbrev pub run_on : History → List ℕ → List Command → Ran
 run_on h ahead [] = record { history = h; ahead = ahead; replies = [] }
 run_on h ahead (command ∷ commands) =
     go_on (answer_to h (take 64 ahead) command) (λ outcome. run_on (grown h outcome.happens)
-        (drop outcome.examined ahead) commands)
+    (drop outcome.examined ahead) commands)

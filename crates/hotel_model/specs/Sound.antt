@@ -22,7 +22,7 @@ abbrev pub keys_in_order : Rows → Bool
 keys_in_order rows = are_in_order (slice_cmp nat_cmp) rows.kinds && are_in_order nat_cmp (keys_of rows.rooms)
     && are_in_order nat_cmp (keys_of rows.codes)
     && are_in_order nat_cmp (keys_of rows.stays) && are_in_order nat_cmp (keys_of rows.cards)
-        && are_in_order pair_cmp rows.inside && are_in_order pair_cmp (keys_of rows.notes)
+    && are_in_order pair_cmp rows.inside && are_in_order pair_cmp (keys_of rows.notes)
     && are_in_order pair_cmp (keys_of rows.fits)
 
 -- Rows are sound where each rule holds.
@@ -84,17 +84,17 @@ pub record IsSound (rows : Rows) : Type 0 where
 abbrev pub passes_rules : Rows → Bool
 passes_rules rows =
     keys_in_order rows && day_in_range rows && day_before_kinds rows && kinds_read rows && room_numbers rows
-        && lock_places rows && room_kinds_there rows
+    && lock_places rows && room_kinds_there rows
     && codes_few rows && note_counts rows && parties_in_house rows && secured_hold_last rows && stay_numbers rows
-        && guests_read rows && stay_kinds_there rows
+    && guests_read rows && stay_kinds_there rows
     && stay_days rows && stay_rooms rows && nights_fit rows && codes_in_range rows && code_rooms_there rows
-        && places_once rows && card_numbers rows
+    && places_once rows && card_numbers rows
     && card_parties_there rows && links_are_neighbours rows && links_of_one_party rows && neighbours_are_links rows
-        && fits_without_links rows && newest_of_party rows
+    && fits_without_links rows && newest_of_party rows
     && last_cards_newest rows && insides_fit rows && notes_counted rows && notes_fit rows && notes_of_fits rows
-        && fit_rooms_there rows && fit_numbers rows
+    && fit_rooms_there rows && fit_numbers rows
     && first_fits rows && fit_places_rise rows && fit_notes_rise rows && last_fits_held rows && last_fits_noted rows
-        && fit_notes_few rows && rows_of_last_fits rows
+    && fit_notes_few rows && rows_of_last_fits rows
 
 -- Rows are sound exactly where they pass the test.
 abbrev pub RulesAreTested : Type 0

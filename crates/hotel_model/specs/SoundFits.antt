@@ -21,7 +21,7 @@ each_fitted rows rule = each_room rows (λ row. rule (fits_at rows.fits row.room
 abbrev pub fit_numbers : Rows → Bool
 fit_numbers rows = list_all (λ (e : (ℕ × ℕ) × FitRow). (e.1.room == e.0.0) && (e.1.fit == e.0.1)) rows.fits
     && each_fitted rows (λ fits row. count_up 1 (map (λ (f : FitRow). f.fit) fits) && nat_le 1 (length fits)
-        && nat_le (length fits) LAST_FIT)
+    && nat_le (length fits) LAST_FIT)
 
 -- the first of some fits is at place 0, with no note before it
 abbrev pub first_is_first : List FitRow → Bool

@@ -36,7 +36,7 @@ has_entered rows room row new = nat_lt (last_fit_place rows room) new.place && n
 abbrev pub fits_inside : Rows → ℕ → RoomRow → Card → Bool
 fits_inside rows room row card =
     stands_at rows room card.link && code_is rows card.link.new_code (has_entered rows room row)
-        && (not row.secured || is_newest rows room card.link)
+    && (not row.secured || is_newest rows room card.link)
 
 -- what is inside is a card that fits its room
 abbrev pub insides_fit : Rows → Bool

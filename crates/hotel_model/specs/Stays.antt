@@ -60,7 +60,7 @@ abbrev pub stays : History → List (ℕ × Stay)
 stays (start t) = t.stays
 stays (h ▷ Reserved party guest kind arrive depart) =
     insert_entry nat_cmp (stays h) party
-        (record { party = party; guest = guest; kind = kind; arrive = arrive; depart = depart; state = state.Booked })
+    (record { party = party; guest = guest; kind = kind; arrive = arrive; depart = depart; state = state.Booked })
 stays (h ▷ Cancelled party) = in_state party state.Cancelled (stays h)
 stays (h ▷ Issue party room number code) = in_state party (state.InHouse room) (stays h)
 stays (h ▷ CheckOut party) = in_state party state.Done (stays h)

@@ -71,7 +71,7 @@ place_in codes code = position_or_len (λ c. c == code) codes
 abbrev pub recode_answer : Ledger → ℕ → ℕ → Result (Unit {0}) RecodeFault
 recode_answer ledger from to =
     if not (ledger.held == from) then Err HeldDiffers else (if is_one_of to ledger.awaited then Ok tt
-        else Err NotAwaited)
+    else Err NotAwaited)
 
 -- the codes after a recoding: the held one and those awaited before the new one are passed
 abbrev pub recoded : Ledger → ℕ → Ledger

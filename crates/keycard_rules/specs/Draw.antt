@@ -36,7 +36,7 @@ unfoldable pub draw_from : List ℕ → List ℕ → Draw
 draw_from issued [] = record { code = None; examined = 0 }
 draw_from issued (word ∷ later) =
     if is_one_of (code_of word) issued then one_more (draw_from issued later)
-        else record { code = Some (code_of word); examined = 1 }
+    else record { code = Some (code_of word); examined = 1 }
 
 -- the same of the next 64 words of a source
 unfoldable pub drawn : List ℕ → Stream → Draw

@@ -30,7 +30,7 @@ HasLink room rows = IsSome (room_at rows room) × IsSome (code_at rows room (cod
 abbrev pub bars_to_check_in : ℕ → RoomRow → Stay → List (Option Refusal)
 bars_to_check_in day row stay =
     needs (is_booked_state stay.state) NotBooked ∷ bars (nat_lt day stay.arrive) TooEarly
-        ∷ bars (nat_le stay.depart day) StayOver
+    ∷ bars (nat_le stay.depart day) StayOver
     ∷ needs (bytes_eq row.kind stay.kind) WrongKind ∷ bars (is_some row.party) RoomTaken ∷ []
 
 -- what bars a party in house from another room

@@ -31,7 +31,7 @@ change_of h (Kind kind) = change.Kind kind
 change_of h (Install room kind code) = change.Room room kind code
 change_of h (Reserved party guest kind arrive depart) =
     change.Reserved
-        (record { party = party; guest = guest; kind = kind; arrive = arrive; depart = depart; state = state.Booked })
+    (record { party = party; guest = guest; kind = kind; arrive = arrive; depart = depart; state = state.Booked })
 change_of h (Cancelled party) = change.Cancelled party
 change_of h (Issue party room number code) =
     change.Issue (card_of number party (link_to h room code)) room (other_than room (room_of h party))

@@ -23,7 +23,7 @@ HasItsRows (change.Reserved stay) rows =
 HasItsRows (change.Cancelled party) rows = IsSome (stay_at rows party)
 HasItsRows (change.Issue card room leaves) rows =
     IsSome (room_at rows room) × (codes_of rows room < 2 ^ 32 - 1) × (code_place rows card.link.new_code ≡ None)
-        × (card.number ≡ length rows.cards + 1) × IsSome (stay_at rows card.party)
+    × (card.number ≡ length rows.cards + 1) × IsSome (stay_at rows card.party)
     × (said_of (stay_at rows card.party) true (λ stay. is_standing stay.state) ≡ true)
 HasItsRows (change.Spare card) rows = card.number ≡ length rows.cards + 1
 HasItsRows (change.CheckedOut party room) rows = IsSome (stay_at rows party) × IsSome (room_at rows room)

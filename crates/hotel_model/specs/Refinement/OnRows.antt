@@ -101,7 +101,7 @@ has_link_on rows number link = said_of (card_at rows number) false (λ card. sam
 abbrev pub secured_after_on : Rows → ℕ → Link → Bool
 secured_after_on rows room link =
     if are_none (inside_at rows room) && (place_on rows link.new_code + 1 == codes_of rows room) then true
-        else secured_on rows room
+    else secured_on rows room
 
 -- a card of this link opened the door: it is inside from now on, and the lock holds the link's new code
 abbrev pub opened_on : Rows → Note → ℕ → Link → Outcome Change
@@ -113,22 +113,22 @@ opened_on rows note number link =
 abbrev pub told_on : Rows → Note → Act → Outcome Change
 told_on rows note (act.Entered number link) =
     unless (needs (is_some (card_at rows number)) NoCard ∷ needs (has_link_on rows number link) CardDiffers
-        ∷ needs (is_some (turn (held_on rows note.room) link)) LockShut ∷ [])
+    ∷ needs (is_some (turn (held_on rows note.room) link)) LockShut ∷ [])
     (opened_on rows note number link)
 told_on rows note (act.Left number link) =
     unless (needs (is_some (card_at rows number)) NoCard ∷ needs (has_link_on rows number link) CardDiffers
-        ∷ needs (is_one_of number (inside_at rows note.room)) NotInside ∷ [])
+    ∷ needs (is_one_of number (inside_at rows note.room)) NotInside ∷ [])
     (accepted reply.Taken (change.Noted note (lock_place_of rows note.room) (secured_on rows note.room) (Goes number)))
 told_on rows note (act.Recoded from to) =
     unless (needs (held_on rows note.room == from) HeldDiffers ∷ needs (is_awaited_on rows note.room to) NotAwaited
-        ∷ [])
+    ∷ [])
     (accepted reply.Taken (change.Noted note (place_on rows to) (secured_on rows note.room) Same))
 
 -- a note of a room of this row that wasn't taken: of its present lock it is the next one, or leaves a gap
 abbrev pub untaken_on : Rows → Note → RoomRow → Outcome Change
 untaken_on rows note row =
     if note.fit == row.fit then (if note.count == row.notes - row.before + 1 then told_on rows note note.act
-        else refused (Gap (row.notes - row.before + 1))) else refused OldFit
+    else refused (Gap (row.notes - row.before + 1))) else refused OldFit
 
 -- a note whose count was taken under its lock is a copy or a conflict
 abbrev pub reported_on : Rows → Note → Option Note → Outcome Change
@@ -150,7 +150,7 @@ issues_on rows ahead party room leaves =
 abbrev pub further_card_checks_on : Rows → ℕ → List (Option Refusal)
 further_card_checks_on rows party =
     needs (is_some rows.day) NotBegun ∷ needs (is_some (stay_at rows party)) NoParty
-        ∷ needs (is_some (home_on rows party)) NotInHouse
+    ∷ needs (is_some (home_on rows party)) NotInHouse
     ∷ bars (is_none (number_after (length rows.cards))) NumbersUsedUp ∷ []
 
 -- the checks of each command, in order
@@ -159,43 +159,43 @@ checks_on rows (command.Begin day) = bars (is_some rows.day) AlreadyBegun ∷ []
 checks_on rows (command.AddKind kind) = needs (is_some rows.day) NotBegun ∷ bars (has_kind rows kind) KindExists ∷ []
 checks_on rows (command.AddRoom room kind) =
     needs (is_some rows.day) NotBegun ∷ needs (has_kind rows kind) NoKind
-        ∷ bars (is_some (room_at rows room)) RoomExists ∷ []
+    ∷ bars (is_some (room_at rows room)) RoomExists ∷ []
 checks_on rows (command.Reserve guest kind arrive nights) =
     needs (is_some rows.day) NotBegun ∷ needs (has_kind rows kind) NoKind
-        ∷ bars (nat_lt arrive (day_on rows)) PastArrival
+    ∷ bars (nat_lt arrive (day_on rows)) PastArrival
     ∷ bars (nat_lt LAST_DAY (arrive + nights)) PastEnd ∷ option_map KindFull (first_full_on rows kind arrive nights)
     ∷ bars (is_none (number_after (length rows.stays))) NumbersUsedUp ∷ []
 checks_on rows (command.Cancel party) =
     needs (is_some rows.day) NotBegun ∷ needs (is_some (stay_at rows party)) NoParty
-        ∷ needs (stay_is_on rows party (λ stay. is_booked_state stay.state)) NotBooked ∷ []
+    ∷ needs (stay_is_on rows party (λ stay. is_booked_state stay.state)) NotBooked ∷ []
 checks_on rows (command.CheckIn party room) =
     needs (is_some rows.day) NotBegun ∷ needs (is_some (room_at rows room)) NoRoom
-        ∷ needs (is_some (stay_at rows party)) NoParty
+    ∷ needs (is_some (stay_at rows party)) NoParty
     ∷ needs (stay_is_on rows party (λ stay. is_booked_state stay.state)) NotBooked
     ∷ bars (stay_is_on rows party (λ stay. nat_lt (day_on rows) stay.arrive)) TooEarly
-        ∷ bars (stay_is_on rows party (λ stay. nat_le stay.depart (day_on rows))) StayOver
+    ∷ bars (stay_is_on rows party (λ stay. nat_le stay.depart (day_on rows))) StayOver
     ∷ needs (kinds_agree_on rows room party) WrongKind ∷ bars (room_is rows room (λ row. is_some row.party)) RoomTaken
     ∷ bars (is_none (number_after (length rows.cards))) NumbersUsedUp ∷ []
 checks_on rows (command.Spare party) = further_card_checks_on rows party
 checks_on rows (command.Reissue party) = further_card_checks_on rows party
 checks_on rows (command.Transfer party room) =
     needs (is_some rows.day) NotBegun ∷ needs (is_some (room_at rows room)) NoRoom
-        ∷ needs (is_some (stay_at rows party)) NoParty
+    ∷ needs (is_some (stay_at rows party)) NoParty
     ∷ needs (is_some (home_on rows party)) NotInHouse ∷ needs (kinds_agree_on rows room party) WrongKind
     ∷ bars (room_is rows room (λ row. is_that row.party party)) SameRoom
     ∷ bars (room_is rows room (λ row. is_some row.party)) RoomTaken
     ∷ bars (is_none (number_after (length rows.cards))) NumbersUsedUp ∷ []
 checks_on rows (command.CheckOut party) =
     needs (is_some rows.day) NotBegun ∷ needs (is_some (stay_at rows party)) NoParty
-        ∷ needs (is_some (home_on rows party)) NotInHouse ∷ []
+    ∷ needs (is_some (home_on rows party)) NotInHouse ∷ []
 checks_on rows (command.Refit room) =
     needs (is_some rows.day) NotBegun ∷ needs (is_some (room_at rows room)) NoRoom
     ∷ bars (room_is rows room (λ row. is_some row.party)) RoomTaken
-        ∷ bars (nat_le LAST_FIT (present_fit_on rows room)) FitsUsedUp ∷ []
+    ∷ bars (nat_le LAST_FIT (present_fit_on rows room)) FitsUsedUp ∷ []
 checks_on rows command.NextDay = needs (is_some rows.day) NotBegun ∷ needs (nat_lt (day_on rows) LAST_DAY) LastDay ∷ []
 checks_on rows (command.Reported note) =
     needs (is_some rows.day) NotBegun ∷ needs (is_some (room_at rows note.room)) NoRoom
-        ∷ needs (is_fit_on rows note.room note.fit) NoFit ∷ []
+    ∷ needs (is_fit_on rows note.room note.fit) NoFit ∷ []
 
 -- what comes of each command that passes its checks, where these are the source's next words
 abbrev pub effect_on : Rows → List ℕ → Command → Outcome Change
@@ -210,14 +210,14 @@ effect_on rows ahead (command.Cancel party) = accepted reply.Cancelled (change.C
 effect_on rows ahead (command.CheckIn party room) = issues_on rows ahead party room None
 effect_on rows ahead (command.Spare party) =
     accepted (reply.Issued (card_of (length rows.cards + 1) party (home_link_on rows party)))
-        (change.Spare (card_of (length rows.cards + 1) party (home_link_on rows party)))
+    (change.Spare (card_of (length rows.cards + 1) party (home_link_on rows party)))
 effect_on rows ahead (command.Reissue party) = issues_on rows ahead party (own_room_on rows party) None
 effect_on rows ahead (command.Transfer party room) = issues_on rows ahead party room (home_on rows party)
 effect_on rows ahead (command.CheckOut party) =
     accepted reply.CheckedOut (change.CheckedOut party (own_room_on rows party))
 effect_on rows ahead (command.Refit room) =
     with_fresh_on rows ahead (λ code. reply.Refitted code (present_fit_on rows room + 1))
-        (λ code. change.Refit room code (present_fit_on rows room + 1))
+    (λ code. change.Refit room code (present_fit_on rows room + 1))
 effect_on rows ahead command.NextDay = accepted (reply.DayIs (day_on rows + 1)) (change.DayTo (day_on rows + 1))
 effect_on rows ahead (command.Reported note) = reported_on rows note (note_at rows note.room note.fit note.count)
 

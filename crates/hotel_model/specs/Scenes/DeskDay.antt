@@ -27,7 +27,7 @@ lines =
     ∷ next_day ⇒ day (may 2)
     ∷ check_in 2 101 ⇒ refused RoomTaken
     ∷ Arrivals (may 2) (record { party = 2; guest = bo; kind = DBL; arrive = may 2; depart = may 3; state = Booked }
-        ∷ [])
+    ∷ [])
     ∷ next_day ⇒ day (may 3)
     ∷ check_in 2 102 ⇒ refused StayOver
     ∷ cancel 2 ⇒ cancelled
