@@ -161,21 +161,21 @@ pub fn read_lock(text: &[u8]) -> Result<Lock, ValueFault>
     Ok(Lock { room, fit })
 }
 
-/// Reads a party's number, 1 to 9,999,999.
+/// Reads a party's number.
 pub fn read_party(text: &[u8]) -> Result<PartyNo, ValueFault>
     ensures { result ≡ party_in text.now }
 {
     PartyNo::read(text).ok_or(ValueFault::Value(ValueName::Party))
 }
 
-/// Reads a card's number, 1 to 9,999,999.
+/// Reads a card's number.
 pub fn read_card(text: &[u8]) -> Result<CardNo, ValueFault>
     ensures { result ≡ card_in text.now }
 {
     CardNo::read(text).ok_or(ValueFault::Value(ValueName::Card))
 }
 
-/// Reads a lock's count, 1 to 9,999,999.
+/// Reads a lock's count of a note.
 pub fn read_count(text: &[u8]) -> Result<Count, ValueFault>
     ensures { result ≡ count_in text.now }
 {

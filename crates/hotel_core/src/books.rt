@@ -111,7 +111,7 @@ pub trait Books: Issued {
     fn rooms_of_kind(&mut self, kind: &KindCode) -> Result<u32, LookFault>
         ensures { LooksUp Self.Issued false (λ a. a) (rooms_of_kind (rows self.old).rooms kind.now) self.old self.new result };
 
-    /// The numbers that the next party and the next card are given, up to 9,999,999.
+    /// The numbers that the next party and the next card are given, up to the last number.
     fn next_numbers(&mut self) -> Result<NextNumbers, LookFault>
         ensures { LooksUp Self.Issued false (λ a. a) (record { party = number_after (length (rows self.old).stays); card = number_after (length (rows self.old).cards) }) self.old self.new result };
 

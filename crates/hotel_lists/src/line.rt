@@ -113,7 +113,9 @@ fn note_fields(
     old: Code,
     new: Code,
 ) -> Result<(), Memory>
-    ensures { OnOk result (lines.new ≡ lines.old ++ line_of (decimal note.now.room ∷ decimal note.now.fit ∷ decimal note.now.count ∷ kind.now ∷ card.now ∷ code_text old ∷ code_text new ∷ moment_text (moment_of note.now) ∷ [])) }
+    ensures { OnOk result (lines.new ≡ lines.old ++ line_of (
+        decimal note.now.room ∷ decimal note.now.fit ∷ decimal note.now.count ∷ kind.now ∷ card.now
+        ∷ code_text old ∷ code_text new ∷ moment_text (moment_of note.now) ∷ [])) }
 {
     let mut room = itoa::Buffer::new();
     let mut fit = itoa::Buffer::new();

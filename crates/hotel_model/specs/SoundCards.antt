@@ -45,7 +45,7 @@ places_once rows = each_room rows (λ row. count_up 0 (keys_of (codes_by_place r
 abbrev pub each_card : Rows → (Card → Bool) → Bool
 each_card rows rule = list_all (λ (e : ℕ × Card). rule e.1) rows.cards
 
--- each row has the number that is its key; the numbers are 1 to n, n at most 9,999,999
+-- each row has the number that is its key; the numbers are 1 to n, n at most the last number
 abbrev pub card_numbers : Rows → Bool
 card_numbers rows = list_all (λ (e : ℕ × Card). e.1.number == e.0) rows.cards && count_up 1 (keys_of rows.cards)
     && nat_le (length rows.cards) LAST_NUMBER

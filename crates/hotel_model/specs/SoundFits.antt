@@ -17,7 +17,7 @@ fit_rooms_there rows = list_all (λ (e : (ℕ × ℕ) × FitRow). is_some (at_nu
 abbrev pub each_fitted : Rows → (List FitRow → RoomRow → Bool) → Bool
 each_fitted rows rule = each_room rows (λ row. rule (fits_at rows.fits row.room) row)
 
--- each row is of its key; the numbers of each room's fits are 1 to n, n from 1 on
+-- each row is of its key; the numbers of each room's fits are 1 to n, n from 1 to the last fit
 abbrev pub fit_numbers : Rows → Bool
 fit_numbers rows = list_all (λ (e : (ℕ × ℕ) × FitRow). (e.1.room == e.0.0) && (e.1.fit == e.0.1)) rows.fits
     && each_fitted rows (λ fits row. count_up 1 (map (λ (f : FitRow). f.fit) fits) && nat_le 1 (length fits)
@@ -58,13 +58,13 @@ last_fits_held rows = each_fitted rows (λ fits row. said_of (last_fit fits) tru
 abbrev pub last_fits_noted : Rows → Bool
 last_fits_noted rows = each_fitted rows (λ fits row. said_of (last_fit fits) true (λ f. nat_le f.before row.notes))
 
--- each number is at most 9,999,999 above the one before it
+-- each number is above the one before it by no more than a lock can count
 abbrev pub rise_by_few : List ℕ → Bool
 rise_by_few [] = true
 rise_by_few (n ∷ []) = true
 rise_by_few (n ∷ m ∷ ns) = nat_le (m - n) LAST_NUMBER && rise_by_few (m ∷ ns)
 
--- no fit has more than 9,999,999 notes
+-- no fit has more notes than a lock can count
 abbrev pub fit_notes_few : Rows → Bool
 fit_notes_few rows = each_fitted rows (λ fits row. rise_by_few (notes_before_each fits ++ row.notes ∷ []))
 

@@ -15,7 +15,7 @@ use Rattle.hotel_nights.specs.Guests.{is_guest}
 abbrev pub each_stay : Rows → (Stay → Bool) → Bool
 each_stay rows rule = list_all (λ (e : ℕ × Stay). rule e.1) rows.stays
 
--- each row has the number that is its key; the numbers are 1 to n, n at most 9,999,999
+-- each row has the number that is its key; the numbers are 1 to n, n at most the last number
 abbrev pub stay_numbers : Rows → Bool
 stay_numbers rows = list_all (λ (e : ℕ × Stay). e.1.party == e.0) rows.stays && count_up 1 (keys_of rows.stays)
     && nat_le (length rows.stays) LAST_NUMBER

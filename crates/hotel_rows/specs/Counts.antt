@@ -3,6 +3,7 @@ use Rattle.std.specs.Prelude.{◌≡◌, ◌+◌, ◌-◌, ◌^◌, ◌==◌, �
 use Rattle.std.specs.Prelude.{List, map, Option, option_map, bytes_eq, string_bytes}
 use Rattle.std.specs.List.{list_all, list_any, count_by}
 use Rattle.std.specs.Map.{values_of}
+use Rattle.keycard_rules.specs.declared.numbers.TheConstants.{LAST_NUMBER, LAST_ROOM}
 use Rattle.hotel_nights.specs.Guests.{is_guest}
 use Rattle.hotel_nights.specs.Kinds.{is_kind}
 use Rattle.hotel_model.specs.Words.{said_of}
@@ -43,17 +44,20 @@ tells_night c plain =
 abbrev pub is_number_up_to : ℕ → ℕ → Bool
 is_number_up_to most n = nat_le 1 n && nat_le n most
 
--- in house, 1, at a room from 1 to 9999; or booked, done or cancelled, 0, 2 or 3, without a room
+-- in house, 1, at a room's number; or booked, done or cancelled, 0, 2 or 3, without a room
 abbrev pub tells_state : ℕ → Option ℕ → Bool
-tells_state n room = said_of room (nat_le n 3 && not (n == 1)) (λ r. (n == 1) && is_number_up_to 9999 r)
+tells_state n room = said_of room (nat_le n 3 && not (n == 1)) (λ r. (n == 1) && is_number_up_to LAST_ROOM r)
 
 -- the columns are those of a stay, each in its range
 abbrev pub tells_stay : PlainStay → Bool
 tells_stay plain =
-    is_number_up_to 9999999 (number_of plain.party) && is_guest (string_bytes plain.guest) && is_kind (string_bytes plain.kind) && is_day (number_of plain.arrive)
-    && is_day (number_of plain.depart) && tells_state (number_of plain.state) (option_map number_of plain.room)
+    is_number_up_to LAST_NUMBER (number_of plain.party) && is_guest (string_bytes plain.guest)
+    && is_kind (string_bytes plain.kind) && is_day (number_of plain.arrive) && is_day (number_of plain.depart)
+    && tells_state (number_of plain.state) (option_map number_of plain.room)
 
--- at most 9999 rooms, each of one of the kinds, which read as kind codes
+-- no more rooms than numbers of rooms, each of one of the kinds, which read as kind codes
 abbrev pub are_rooms_of : List PlainKind → List PlainRoom → Bool
 are_rooms_of plain_kinds plain_rooms =
-    list_all (λ kind. is_kind (kind_text kind)) plain_kinds && list_all (λ room. names_kind (string_bytes room.kind) plain_kinds) plain_rooms && nat_le (length plain_rooms) 9999
+    list_all (λ kind. is_kind (kind_text kind)) plain_kinds
+    && list_all (λ room. names_kind (string_bytes room.kind) plain_kinds) plain_rooms
+    && nat_le (length plain_rooms) LAST_ROOM

@@ -1,10 +1,11 @@
 -- The rules of each table, and the first table of which one fails.
 use Rattle.std.specs.Prelude.{ℕ, ◌≡◌, ◌↔◌, Bool, true, List, [], ◌∷◌, Option, Some, None}
-use Rattle.std.specs.Prelude.{◌==◌, ◌&&◌, not, nat_le, is_some, if◌then◌else◌}
+use Rattle.std.specs.Prelude.{◌*◌, ◌==◌, ◌&&◌, not, nat_le, is_some, if◌then◌else◌}
 use Rattle.std.specs.List.{list_all}
 use Rattle.std.specs.Map.{keys_of}
 use Rattle.std.specs.Ordering.{nat_cmp}
 use Rattle.std.specs.Cmp.Lexicographic.{slice_cmp}
+use Rattle.keycard_rules.specs.declared.numbers.TheConstants.{LAST_FIT, LAST_NUMBER}
 use Rattle.hotel_model.specs.Words.{said_of, pair_cmp}
 use Rattle.hotel_model.specs.SoundRooms.{are_in_order, day_in_range, day_before_kinds, kinds_read}
 use Rattle.hotel_model.specs.SoundRooms.{room_numbers, lock_places, room_kinds_there, codes_few, each_room}
@@ -45,9 +46,9 @@ meta_holds s = day_in_range (rows_of s) && day_before_kinds (rows_of s)
 abbrev pub kind_holds : Stored → Bool
 kind_holds s = are_in_order (slice_cmp nat_cmp) (rows_of s).kinds && kinds_read (rows_of s)
 
--- the most notes of a room: those of 99 fits, or of one in the first version
+-- the most notes of a room: those that all its fits can count, or one in the first version
 abbrev pub most_notes : Stored → ℕ
-most_notes s = said_of s.fits 9999999 (λ fits. 989999901)
+most_notes s = said_of s.fits LAST_NUMBER (λ fits. LAST_FIT * LAST_NUMBER)
 
 abbrev pub notes_few : Stored → Bool
 notes_few s = each_room (rows_of s) (λ row. nat_le row.notes (most_notes s))

@@ -4,6 +4,7 @@ use Rattle.std.specs.Prelude.{List, [], ◌∷◌, map, length, Option, Some, No
 use Rattle.std.specs.List.{list_any}
 use Rattle.std.specs.Map.{lookup}
 use Rattle.std.specs.BTreeMap.{is_at}
+use Rattle.keycard_rules.specs.declared.numbers.TheConstants.{LAST_FIT, LAST_NUMBER}
 use Rattle.hotel_model.specs.declared.rows.FitRow.{FitRow}
 use Rattle.hotel_model.specs.Words.{said_of, pair_cmp}
 use Rattle.hotel_model.specs.Rows.{at_number, fits_at}
@@ -13,11 +14,12 @@ use Rattle.hotel_rows.specs.declared.stored.PlainFit.{PlainFit}
 use Rattle.hotel_rows.specs.declared.stored.PlainRoom.{PlainRoom}
 use Rattle.hotel_rows.specs.Stored.{number_of, fit_entry}
 
--- a fit comes next after another one: its number does, its place is later, and the notes before it aren't fewer, at
--- most 9,999,999 more
+-- a fit comes next after another one: its number does, its place is later, and the notes before it aren't fewer, and
+-- no more than a lock can count
 abbrev pub comes_next : FitRow → FitRow → Bool
 comes_next f g =
-    (g.fit == f.fit + 1) && nat_lt f.place g.place && nat_le f.before g.before && nat_le (g.before - f.before) 9999999
+    (g.fit == f.fit + 1) && nat_lt f.place g.place && nat_le f.before g.before
+    && nat_le (g.before - f.before) LAST_NUMBER
 
 -- each fit after this one comes next after the one before it
 abbrev pub all_follow : FitRow → List FitRow → Bool
@@ -77,15 +79,15 @@ pub record FitsOf (fits : RoomFits) (plain_rows : List PlainFit) : Type 0 where
   pub runs : FitRunsOf fits.runs.entries plain_rows
   pub begins : BeginsOf fits.begins.entries plain_rows
 
--- the fits of a room are 1 to n, n from 1 to 99, the first at place 0 with no note before it
+-- the fits of a room are 1 to n, n from 1 on, the first at place 0 with no note before it
 abbrev pub is_begun : FitRun → Bool
-is_begun run = run.in_order && (run.fit == 1) && (run.place == 0) && (run.before == 0) && nat_le run.fits 99
+is_begun run = run.in_order && (run.fit == 1) && (run.place == 0) && (run.before == 0) && nat_le run.fits LAST_FIT
 
--- the last of them isn't after the lock's place, nor after the notes, of which it has at most 9,999,999
+-- the last of them isn't after the lock's place, nor after the notes, of which it has no more than it can count
 abbrev pub is_ended : PlainRoom → FitRun → Bool
 is_ended plain run =
     nat_le run.last_place (number_of plain.lock_place) && nat_le run.last_before (number_of plain.notes)
-    && nat_le (number_of plain.notes - run.last_before) 9999999
+    && nat_le (number_of plain.notes - run.last_before) LAST_NUMBER
 
 -- the room's fits are as they must be
 abbrev pub fitted_as_due : List (ℕ × FitRun) → PlainRoom → Bool

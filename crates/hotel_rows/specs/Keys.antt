@@ -2,6 +2,7 @@
 use Rattle.std.specs.Prelude.{ℕ, ◌≡◌, ◌==◌, ◌&&◌, nat_le, length, Bool, List, [], ◌∷◌, Option, Some, None, option_map}
 use Rattle.std.specs.Prelude.{suc, if◌then◌else◌}
 use Rattle.std.specs.Ordering.{nat_cmp}
+use Rattle.keycard_rules.specs.declared.numbers.TheConstants.{LAST_NUMBER}
 use Rattle.hotel_model.specs.SoundRooms.{are_in_order, count_up}
 use Rattle.hotel_model.specs.Rows.{at_number}
 use Rattle.hotel_rows.specs.declared.stored.PlainRoom.{PlainRoom}
@@ -44,6 +45,6 @@ place_in (k ∷ ks) q = if k == q then Some 0 else option_map suc (place_in ks q
 abbrev pub Finds : List (ℕ × ℕ) → List ℕ → Type 0
 Finds places keys = (q : ℕ) → at_number places q ≡ place_in keys q
 
--- the numbers are 1 and on, in order, at most 9,999,999
+-- the numbers are 1 and on, in order, at most the last number
 abbrev pub are_numbered : List ℕ → Bool
-are_numbered keys = are_in_order nat_cmp keys && count_up 1 keys && nat_le (length keys) 9999999
+are_numbered keys = are_in_order nat_cmp keys && count_up 1 keys && nat_le (length keys) LAST_NUMBER

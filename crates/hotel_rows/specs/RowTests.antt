@@ -8,6 +8,8 @@ use Rattle.std.specs.Cmp.Lexicographic.{slice_cmp}
 use Rattle.std.specs.BTreeMap.{is_at}
 use Rattle.std.specs.Map.{lookup}
 use Rattle.keycard_rules.specs.declared.card.Card.{Card}
+use Rattle.keycard_rules.specs.declared.note.TheConstants.{LAST_SECOND}
+use Rattle.keycard_rules.specs.declared.numbers.TheConstants.{LAST_ROOM}
 use Rattle.hotel_nights.specs.declared.stay.Stay.{Stay}
 use Rattle.hotel_nights.specs.Guests.{is_guest}
 use Rattle.hotel_model.specs.declared.rows.RoomRow.{RoomRow}
@@ -39,7 +41,7 @@ HasKinds known kinds = (q : List ℕ)
 
 -- the room's number is in range
 abbrev pub is_room_number : PlainRoom → Bool
-is_room_number plain = nat_le 1 (number_of plain.room) && nat_le (number_of plain.room) 9999
+is_room_number plain = nat_le 1 (number_of plain.room) && nat_le (number_of plain.room) LAST_ROOM
 
 -- a fit of the room begins with its last code
 abbrev pub ends_with_fit : Stored → PlainRoom → Bool
@@ -161,7 +163,7 @@ inside_fits rows e = room_is rows e.0 (λ row. card_is rows e.1 (fits_inside row
 abbrev pub plain_note_fits : Rows → PlainNote → Bool
 plain_note_fits rows plain =
     note_columns plain && is_some (at_number rows.rooms (number_of plain.room)) && act_fits rows (number_of plain.room) (note_row plain).act && is_day (number_of plain.day)
-    && nat_le (number_of plain.second) 86399
+    && nat_le (number_of plain.second) LAST_SECOND
 
 -- ---- fit
 

@@ -14,7 +14,7 @@ use std::alloc::Global;
 
 /// The numbers of the rooms, in the order of their rows.
 ///
-/// `Store` only where one isn't 1 to 9999; `Memory` only where a growth was refused.
+/// `Store` only where one isn't a room's number; `Memory` only where a growth was refused.
 pub fn rooms_of(alloc: Global, rooms: &[PlainRoom]) -> Result<Vec<RoomNo>, LookFault>
     ensures ok { IfOk result (λ numbers. numbers.items ≡ map room_key rooms.now) }
     ensures err { list_all is_room_number rooms.now ≡ true → IfErr result (λ why. why ≡ Memory) }

@@ -57,8 +57,9 @@ impl LockNote {
         day: u16,
         second: u32,
     ) -> Option<LockNote>
-        ensures { result ≡ (if nat_le day LAST_DAY && nat_le second LAST_SECOND then Some
-            (record { room = room; fit = fit; count = count; act = act; day = day; second = second }) else None) }
+        ensures { result ≡ (if nat_le day LAST_DAY && nat_le second LAST_SECOND
+            then Some (record { room = room; fit = fit; count = count; act = act; day = day; second = second })
+            else None) }
     {
         if day > LAST_DAY || second > LAST_SECOND {
             return None;

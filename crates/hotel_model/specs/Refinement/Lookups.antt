@@ -63,6 +63,6 @@ note_at rows room fit count =
 abbrev pub first_full_on : Rows → List ℕ → ℕ → ℕ → Option ℕ
 first_full_on rows kind d n = first_day (is_full (values_of rows.stays) kind (rooms_of_kind rows.rooms kind)) d n
 
--- the number after so many, up to 9,999,999
+-- the number after so many, up to the last number
 abbrev pub number_after : ℕ → Option ℕ
 number_after n = if nat_lt n LAST_NUMBER then Some (n + 1) else None

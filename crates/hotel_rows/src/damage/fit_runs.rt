@@ -11,7 +11,7 @@ ghost use Rattle.hotel_rows.specs.FitRuns.{fits_in, last_place_in, begins_in, is
 
 use crate::damage::numbers::number;
 use crate::stored::{PlainFit, PlainRoom};
-use keycard_rules::Memory;
+use keycard_rules::{LAST_FIT, LAST_NUMBER, Memory};
 use std::alloc::Global;
 use std::collections::BTreeMap;
 
@@ -56,7 +56,7 @@ fn comes_next(fit: &PlainFit, run: &FitRun) -> bool
         return false;
     }
     let before = number(fit.before);
-    before <= run.before && run.before - before <= 9_999_999
+    before <= run.before && run.before - before <= u64::from(LAST_NUMBER)
 }
 
 /// What is known of the fits with one more before them.
@@ -181,17 +181,18 @@ pub(crate) fn ends_with_fit(fits: &RoomFits, room: u64, codes: u64) -> bool
     begins_fit(fits, room, codes.saturating_sub(1))
 }
 
-/// Whether the fits of a room are 1 to n, n at most 99, the first at place 0 with no note before it.
+/// Whether the fits of a room are 1 to n, as many as a room can have, the first at place 0 with no note before it.
 fn is_begun(run: &FitRun) -> bool
     ensures { result ≡ is_begun run.now }
 {
     if !run.in_order || run.fit != 1 {
         return false;
     }
-    run.place == 0 && run.before == 0 && run.fits <= 99
+    run.place == 0 && run.before == 0 && run.fits <= u64::from(LAST_FIT)
 }
 
-/// Whether the last fit of a room isn't after its lock's place, nor after its notes, of which it has at most 9,999,999.
+/// Whether the last fit of a room isn't after its lock's place, nor after its notes, of which it has no more than a
+/// lock can count.
 fn is_ended(run: &FitRun, room: &PlainRoom) -> bool
     ensures { result ≡ is_ended room.now run.now }
 {
@@ -199,7 +200,7 @@ fn is_ended(run: &FitRun, room: &PlainRoom) -> bool
         return false;
     }
     let notes = number(room.notes);
-    run.last_before <= notes && notes - run.last_before <= 9_999_999
+    run.last_before <= notes && notes - run.last_before <= u64::from(LAST_NUMBER)
 }
 
 /// Whether the fits of the room are as they must be.

@@ -12,7 +12,7 @@ ghost use Rattle.hotel_rows.specs.RowTests.{HasKinds};
 use crate::damage::numbers::number_if;
 use crate::stored::{PlainKind, Stored};
 use hotel_nights::KindCode;
-use keycard_rules::Memory;
+use keycard_rules::{LAST_DAY, Memory};
 use std::alloc::Global;
 use std::collections::BTreeMap;
 
@@ -23,7 +23,7 @@ pub(crate) fn meta_holds(stored: &Stored) -> bool
     let Some(day) = number_if(stored.day) else {
         return stored.kinds.is_empty();
     };
-    day <= 36_524
+    day <= u64::from(LAST_DAY)
 }
 
 fn is_before(a: &PlainKind, b: &PlainKind) -> bool

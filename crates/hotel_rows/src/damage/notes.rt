@@ -1,6 +1,7 @@
 //! The rules of the table of lock notes.
 ghost use Rattle.std.specs.Prelude.{◌≡◌, ◌&&◌, nat_le, IfOk};
 ghost use Rattle.std.specs.List.{list_all};
+ghost use Rattle.keycard_rules.specs.declared.note.TheConstants.{LAST_SECOND};
 ghost use Rattle.hotel_model.specs.SoundNotes.{act_fits, has_link_at};
 ghost use Rattle.hotel_model.specs.SoundRooms.{is_day};
 ghost use Rattle.hotel_rows.specs.Damage.{note_columns, note_holds};
@@ -13,7 +14,7 @@ use crate::damage::found::{Places, card_at, note_keys, room_at};
 use crate::damage::note_runs::{rooms_have_counts, runs_of};
 use crate::damage::numbers::{number, number_if, rise_in_pairs};
 use crate::stored::{PlainNote, Stored};
-use keycard_rules::Memory;
+use keycard_rules::{LAST_DAY, LAST_SECOND, Memory};
 use std::alloc::Global;
 
 /// Whether the card of the number has this link, which stands at the room.
@@ -60,9 +61,9 @@ fn act_fits(places: &Places, stored: &Stored, note: &PlainNote) -> bool
 }
 
 fn has_time(note: &PlainNote) -> bool
-    ensures { result ≡ (is_day (number_of note.now.day) && nat_le (number_of note.now.second) 86399) }
+    ensures { result ≡ (is_day (number_of note.now.day) && nat_le (number_of note.now.second) LAST_SECOND) }
 {
-    number(note.day) <= 36_524 && number(note.second) <= 86_399
+    number(note.day) <= u64::from(LAST_DAY) && number(note.second) <= u64::from(LAST_SECOND)
 }
 
 /// Whether the note fits the cards and codes of its room, and its time is one.

@@ -6,6 +6,8 @@ ghost use Rattle.hotel_model.specs.SoundRooms.{are_in_order, count_up};
 ghost use Rattle.hotel_rows.specs.Keys.{are_numbered};
 ghost use Rattle.hotel_rows.specs.Stored.{number_of};
 
+use keycard_rules::LAST_NUMBER;
+
 /// A stored number; one below 0 is read as the greatest number, which no rule takes.
 pub(crate) fn number(stored: i64) -> u64
     ensures { result ≡ number_of stored }
@@ -68,7 +70,7 @@ pub(crate) fn count_from_one(keys: &[u64]) -> bool
     true
 }
 
-/// Whether the keys are 1 and on, in order, at most 9,999,999.
+/// Whether the keys are 1 and on, in order, and no more than there are numbers.
 pub(crate) fn are_numbered(keys: &[u64]) -> bool
     ensures { result ≡ are_numbered keys.now }
 {
@@ -78,5 +80,5 @@ pub(crate) fn are_numbered(keys: &[u64]) -> bool
     if !count_from_one(keys) {
         return false;
     }
-    keys.len() <= 9_999_999
+    keys.len() <= LAST_NUMBER as usize
 }

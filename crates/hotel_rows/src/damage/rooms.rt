@@ -16,18 +16,18 @@ use crate::damage::kinds::has_kind;
 use crate::damage::numbers::{number, number_if, rise};
 use crate::stored::{PlainRoom, PlainStay, Stored};
 use hotel_nights::KindCode;
-use keycard_rules::Memory;
+use keycard_rules::{LAST_FIT, LAST_NUMBER, LAST_ROOM, Memory};
 use std::alloc::Global;
 use std::collections::BTreeMap;
 
-/// The most notes of a room: those of 99 fits, or of one in the first version.
+/// The most notes of a room: those that all its fits can count, or one in the first version.
 fn most_notes(stored: &Stored) -> u64
     ensures { result ≡ most_notes stored.now }
 {
     if stored.fits.is_none() {
-        return 9_999_999;
+        return u64::from(LAST_NUMBER);
     }
-    989_999_901
+    u64::from(LAST_FIT) * u64::from(LAST_NUMBER)
 }
 
 fn has_columns(room: &PlainRoom) -> bool
@@ -40,7 +40,7 @@ fn has_number(room: &PlainRoom) -> bool
     ensures { result ≡ is_room_number room.now }
 {
     let named = number(room.room);
-    named >= 1 && named <= 9999
+    named >= 1 && named <= u64::from(LAST_ROOM)
 }
 
 /// Whether the room has at most as many codes as there are cards, and those that its fits begin with.

@@ -15,7 +15,7 @@ use crate::damage::numbers::{are_numbered, number, number_if};
 use crate::damage::rooms::home_of;
 use crate::stored::{PlainStay, Stored};
 use hotel_nights::{Guest, GuestFault, KindCode};
-use keycard_rules::Memory;
+use keycard_rules::{LAST_DAY, Memory};
 use std::alloc::Global;
 use std::collections::BTreeMap;
 
@@ -38,7 +38,7 @@ fn has_days(stay: &PlainStay) -> bool
 {
     let arrive = number(stay.arrive);
     let depart = number(stay.depart);
-    depart <= 36_524 && arrive < depart && depart - arrive <= 90
+    depart <= u64::from(LAST_DAY) && arrive < depart && depart - arrive <= 90
 }
 
 /// Whether the room of a stay in house has its party.
