@@ -2,6 +2,7 @@ pub mod Joined
 pub mod Stored
 pub mod Keys
 pub mod Places
+pub mod Known
 pub mod Damage
 pub mod RowTests
 pub mod Placed

@@ -2,9 +2,8 @@
 ghost use Rattle.std.specs.Prelude.{◌≡◌, ◌∷◌, [], true, IfOk};
 ghost use Rattle.hotel_rows.specs.declared.stored.TableName.TheVariants as table;
 ghost use Rattle.hotel_rows.specs.Damage.{UndamagedIsSound, first_damaged_of, first_of_tables, stay_holds};
-ghost use Rattle.hotel_rows.specs.FitRuns.{FitsOf};
 ghost use Rattle.hotel_rows.specs.Stored.{plain_fits};
-ghost use Rattle.hotel_rows.specs.Places.{AreOf};
+ghost use Rattle.hotel_rows.specs.Known.{IsOfRows};
 
 mod cards;
 mod codes;
@@ -13,6 +12,7 @@ mod fits;
 mod found;
 mod insides;
 mod kinds;
+mod known;
 mod links;
 mod nights;
 mod note_runs;
@@ -25,13 +25,11 @@ mod stays;
 
 use crate::damage::cards::cards_hold;
 use crate::damage::codes::codes_hold;
-use crate::damage::fit_runs::{RoomFits, room_fits};
 use crate::damage::fits::{first_fits, fits_hold};
-use crate::damage::found::{Places, places_of};
 use crate::damage::insides::insides_hold;
 use crate::damage::kinds::{kinds_hold, meta_holds};
+use crate::damage::known::{Known, known_of};
 use crate::damage::notes::notes_hold;
-use crate::damage::placed::place_codes;
 use crate::damage::rooms::rooms_hold;
 use crate::damage::stays::stays_hold;
 use crate::stored::{PlainFit, Stored, TableName};
@@ -41,36 +39,33 @@ use std::alloc::Global;
 /// The first damaged one of the tables of codes, cards, insides, notes and fits, where the stays are sound.
 fn first_of_later(
     alloc: Global,
-    places: &Places,
+    known: &Known,
     stored: &Stored,
     plain: &[PlainFit],
-    fits: &RoomFits,
 ) -> Result<Option<TableName>, Memory>
+    requires known { IsOfRows known.now stored.now }
     requires plain { plain.now ≡ plain_fits stored.now }
-    requires places { AreOf places.now stored.now }
-    requires fits { FitsOf fits.now (plain_fits stored.now) }
     requires stays { stay_holds stored.now ≡ true }
     ensures { IfOk result (λ first.
         first ≡ first_of_tables (table.Code ∷ table.Card ∷ table.Inside ∷ table.Note ∷ table.Fit ∷ []) stored.now) }
 {
-    let placed = place_codes(alloc, &stored.codes)?;
-    let codes = codes_hold(alloc, places, stored, &placed)?;
+    let codes = codes_hold(alloc, known, stored)?;
     if !codes {
         return Ok(Some(TableName::Code));
     }
-    let cards = cards_hold(alloc, places, stored, &placed, fits)?;
+    let cards = cards_hold(alloc, known, stored)?;
     if !cards {
         return Ok(Some(TableName::Card));
     }
-    let insides = insides_hold(alloc, places, stored, &placed, fits)?;
+    let insides = insides_hold(alloc, known, stored)?;
     if !insides {
         return Ok(Some(TableName::Inside));
     }
-    let notes = notes_hold(alloc, places, stored)?;
+    let notes = notes_hold(alloc, &known.places, stored)?;
     if !notes {
         return Ok(Some(TableName::Note));
     }
-    let fitted = fits_hold(alloc, places, stored, plain, fits)?;
+    let fitted = fits_hold(alloc, known, stored, plain)?;
     if !fitted {
         return Ok(Some(TableName::Fit));
     }
@@ -90,20 +85,19 @@ fn first_with(
         return Ok(Some(TableName::Meta));
     }
     let kinds = kinds_hold(alloc, stored)?;
-    let Some(known) = kinds else {
+    let Some(kinds) = kinds else {
         return Ok(Some(TableName::Kind));
     };
-    let places = places_of(alloc, stored)?;
-    let fits = room_fits(alloc, plain)?;
-    let rooms = rooms_hold(alloc, &places, stored, &known, &fits)?;
+    let known = known_of(alloc, stored, kinds, plain)?;
+    let rooms = rooms_hold(alloc, &known, stored)?;
     if !rooms {
         return Ok(Some(TableName::Room));
     }
-    let stays = stays_hold(alloc, &places, stored, &known)?;
+    let stays = stays_hold(alloc, &known, stored)?;
     if !stays {
         return Ok(Some(TableName::Stay));
     }
-    first_of_later(alloc, &places, stored, plain, &fits)
+    first_of_later(alloc, &known, stored, plain)
 }
 
 /// The first table, in the order of their names, of which a rule fails.

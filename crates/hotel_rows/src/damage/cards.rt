@@ -1,24 +1,22 @@
 //! The rules of the table of cards.
 ghost use Rattle.std.specs.Prelude.{◌≡◌, true, IfOk};
 ghost use Rattle.std.specs.List.{list_all};
-ghost use Rattle.hotel_rows.specs.Stored.{plain_fits, rows_of, card_row};
+ghost use Rattle.hotel_rows.specs.Stored.{rows_of, card_row};
 ghost use Rattle.hotel_rows.specs.Places.{AreOf};
 ghost use Rattle.hotel_rows.specs.RowTests.{card_fits, stay_has_home, links_hold};
 ghost use Rattle.hotel_rows.specs.Damage.{card_holds};
-ghost use Rattle.hotel_rows.specs.FitRuns.{FitsOf};
-ghost use Rattle.hotel_rows.specs.Placed.{PlacesOf, placed_as_due};
+ghost use Rattle.hotel_rows.specs.Known.{IsOfRows};
+ghost use Rattle.hotel_rows.specs.Placed.{placed_as_due};
 
 use crate::damage::codes::stands_at;
-use crate::damage::fit_runs::RoomFits;
 use crate::damage::found::{Places, card_keys, code_at, index_of, stay_at};
+use crate::damage::known::Known;
 use crate::damage::links::{all_brought, all_have_lasts, all_have_owners, brought_codes, lasts_of};
 use crate::damage::numbers::{are_numbered, number};
 use crate::damage::owners::{all_agree, owners_of};
-use crate::damage::placed::Placed;
 use crate::stored::{PlainCard, Stored};
 use keycard_rules::Memory;
 use std::alloc::Global;
-use std::collections::BTreeMap;
 
 /// Whether the card's party has a stay, and its codes are neighbours at one room.
 fn card_fits(places: &Places, stored: &Stored, card: &PlainCard) -> bool
@@ -55,17 +53,9 @@ pub(crate) fn cards_fit(places: &Places, stored: &Stored) -> bool
 }
 
 /// Whether the rules on links hold: whose they are, that each was given, and which are the newest.
-fn links_hold(
-    alloc: Global,
-    places: &Places,
-    stored: &Stored,
-    placed: &BTreeMap<u64, Placed>,
-    fits: &RoomFits,
-) -> Result<bool, Memory>
-    requires places { AreOf places.now stored.now }
-    requires placed { PlacesOf placed.now.entries stored.now.codes.items }
-    requires fits { FitsOf fits.now (plain_fits stored.now) }
-    requires due { list_all (placed_as_due placed.now.entries) stored.now.rooms.items ≡ true }
+fn links_hold(alloc: Global, known: &Known, stored: &Stored) -> Result<bool, Memory>
+    requires known { IsOfRows known.now stored.now }
+    requires due { list_all (placed_as_due known.now.placed.entries) stored.now.rooms.items ≡ true }
     requires homes { list_all (stay_has_home stored.now) stored.now.stays.items ≡ true }
     ensures { IfOk result (λ hold. hold ≡ links_hold stored.now) }
 {
@@ -76,27 +66,19 @@ fn links_hold(
     if !all_agree(&owners, stored) {
         return Ok(false);
     }
-    if !all_brought(&brought, fits, stored) {
+    if !all_brought(&brought, &known.fits, stored) {
         return Ok(false);
     }
-    if !all_have_owners(&owners, placed, fits, stored) {
+    if !all_have_owners(&owners, known, stored) {
         return Ok(false);
     }
-    Ok(all_have_lasts(places, placed, fits, stored, &lasts))
+    Ok(all_have_lasts(known, stored, &lasts))
 }
 
 /// Whether the rules of the table of cards hold, where those of the stays and codes do.
-pub(crate) fn cards_hold(
-    alloc: Global,
-    places: &Places,
-    stored: &Stored,
-    placed: &BTreeMap<u64, Placed>,
-    fits: &RoomFits,
-) -> Result<bool, Memory>
-    requires places { AreOf places.now stored.now }
-    requires placed { PlacesOf placed.now.entries stored.now.codes.items }
-    requires fits { FitsOf fits.now (plain_fits stored.now) }
-    requires due { list_all (placed_as_due placed.now.entries) stored.now.rooms.items ≡ true }
+pub(crate) fn cards_hold(alloc: Global, known: &Known, stored: &Stored) -> Result<bool, Memory>
+    requires known { IsOfRows known.now stored.now }
+    requires due { list_all (placed_as_due known.now.placed.entries) stored.now.rooms.items ≡ true }
     requires homes { list_all (stay_has_home stored.now) stored.now.stays.items ≡ true }
     ensures { IfOk result (λ hold. hold ≡ card_holds stored.now) }
 {
@@ -104,8 +86,8 @@ pub(crate) fn cards_hold(
     if !are_numbered(&keys) {
         return Ok(false);
     }
-    if !cards_fit(places, stored) {
+    if !cards_fit(&known.places, stored) {
         return Ok(false);
     }
-    links_hold(alloc, places, stored, placed, fits)
+    links_hold(alloc, known, stored)
 }

@@ -4,17 +4,17 @@ ghost use Rattle.std.specs.List.{list_all};
 ghost use Rattle.hotel_model.specs.SoundCards.{stands_at};
 ghost use Rattle.hotel_rows.specs.Stored.{rows_of, code_row};
 ghost use Rattle.hotel_rows.specs.Damage.{code_holds};
-ghost use Rattle.hotel_rows.specs.Placed.{PlacesOf};
+ghost use Rattle.hotel_rows.specs.Known.{IsOfRows};
 ghost use Rattle.hotel_rows.specs.Places.{AreOf};
 ghost use Rattle.hotel_rows.specs.RowTests.{code_fits, are_apart, comes_after, recoding_fits};
 
 use crate::damage::found::{Places, code_at, code_keys, room_at};
+use crate::damage::known::Known;
 use crate::damage::numbers::{number, rise};
-use crate::damage::placed::{Placed, rooms_have_places};
+use crate::damage::placed::rooms_have_places;
 use crate::stored::{PlainCode, Stored};
 use keycard_rules::Memory;
 use std::alloc::Global;
-use std::collections::BTreeMap;
 
 /// The codes end below this number.
 const CODES: u64 = 281_474_976_710_656;
@@ -93,23 +93,17 @@ pub(crate) fn stands_later(places: &Places, stored: &Stored, room: u64, from: u6
     comes_later(room, first, second)
 }
 
-/// Whether the rules of the table of codes hold, where the map has the codes by their places.
-pub(crate) fn codes_hold(
-    alloc: Global,
-    places: &Places,
-    stored: &Stored,
-    placed: &BTreeMap<u64, Placed>,
-) -> Result<bool, Memory>
-    requires places { AreOf places.now stored.now }
-    requires placed { PlacesOf placed.now.entries stored.now.codes.items }
+/// Whether the rules of the table of codes hold.
+pub(crate) fn codes_hold(alloc: Global, known: &Known, stored: &Stored) -> Result<bool, Memory>
+    requires { IsOfRows known.now stored.now }
     ensures { IfOk result (λ hold. hold ≡ code_holds stored.now) }
 {
     let keys = code_keys(alloc, &stored.codes)?;
     if !rise(&keys) {
         return Ok(false);
     }
-    if !codes_fit(places, stored) {
+    if !codes_fit(&known.places, stored) {
         return Ok(false);
     }
-    Ok(rooms_have_places(placed, stored))
+    Ok(rooms_have_places(&known.placed, stored))
 }

@@ -3,12 +3,14 @@ ghost use Rattle.std.specs.Prelude.{◌≡◌, map, IfOk};
 ghost use Rattle.std.specs.List.{list_all};
 ghost use Rattle.hotel_rows.specs.Stored.{plain_fits, first_fit, rows_of};
 ghost use Rattle.hotel_rows.specs.Damage.{fit_holds};
-ghost use Rattle.hotel_rows.specs.FitRuns.{FitsOf, fitted_as_due};
+ghost use Rattle.hotel_rows.specs.FitRuns.{fitted_as_due};
+ghost use Rattle.hotel_rows.specs.Known.{IsOfRows};
 ghost use Rattle.hotel_rows.specs.Places.{AreOf};
 ghost use Rattle.hotel_rows.specs.RowTests.{has_room};
 
 use crate::damage::fit_runs::{RoomFits, is_fitted};
 use crate::damage::found::{Places, fit_keys, room_at};
+use crate::damage::known::Known;
 use crate::damage::numbers::{number, rise_in_pairs};
 use crate::stored::{PlainFit, PlainRoom, Stored};
 use keycard_rules::Memory;
@@ -68,22 +70,20 @@ pub(crate) fn rooms_are_fitted(fits: &RoomFits, stored: &Stored) -> bool
 /// Whether the rules of the table of fits hold.
 pub(crate) fn fits_hold(
     alloc: Global,
-    places: &Places,
+    known: &Known,
     stored: &Stored,
     plain: &[PlainFit],
-    fits: &RoomFits,
 ) -> Result<bool, Memory>
-    requires places { AreOf places.now stored.now }
+    requires known { IsOfRows known.now stored.now }
     requires plain { plain.now ≡ plain_fits stored.now }
-    requires fits { FitsOf fits.now (plain_fits stored.now) }
     ensures { IfOk result (λ hold. hold ≡ fit_holds stored.now) }
 {
     let keys = fit_keys(alloc, plain)?;
     if !rise_in_pairs(&keys) {
         return Ok(false);
     }
-    if !fits_have_rooms(places, stored, plain) {
+    if !fits_have_rooms(&known.places, stored, plain) {
         return Ok(false);
     }
-    Ok(rooms_are_fitted(fits, stored))
+    Ok(rooms_are_fitted(&known.fits, stored))
 }

@@ -8,17 +8,18 @@ ghost use Rattle.hotel_rows.specs.Lasts.{link_of_pair, link_pair, LastsOf};
 ghost use Rattle.hotel_rows.specs.Owners.{OwnersOf, owner_in};
 ghost use Rattle.hotel_model.specs.Words.{said_of};
 ghost use Rattle.hotel_rows.specs.Keys.{Finds, new_code_of};
-ghost use Rattle.hotel_rows.specs.Places.{AreOf};
 ghost use Rattle.hotel_rows.specs.FitRuns.{FitsOf};
-ghost use Rattle.hotel_rows.specs.Placed.{PlacesOf, are_due_at, placed_as_due};
+ghost use Rattle.hotel_rows.specs.Known.{IsOfRows};
+ghost use Rattle.hotel_rows.specs.Placed.{are_due_at, placed_as_due};
 ghost use Rattle.hotel_rows.specs.RowTests.{agrees, begins_one, is_brought, is_owned};
 ghost use Rattle.hotel_rows.specs.RowTests.{has_owner, has_last, stay_has_home};
 
 use crate::damage::fit_runs::{RoomFits, begins_fit, ends_with_fit};
-use crate::damage::found::{Places, room_at};
+use crate::damage::found::room_at;
+use crate::damage::known::Known;
 use crate::damage::numbers::{number, number_if};
 use crate::damage::owners::owner_of;
-use crate::damage::placed::{Placed, is_newest, newest_of};
+use crate::damage::placed::{is_newest, newest_of};
 use crate::damage::rooms::home_of;
 use crate::stored::{PlainCard, PlainCode, PlainRoom, PlainStay, Stored};
 use keycard_rules::Memory;
@@ -109,8 +110,7 @@ fn is_link_of(
 /// Whether the cards of the newest link of a room with so many codes are of a party.
 fn all_owned(
     owners: &BTreeMap<(u64, u64), u64>,
-    placed: &BTreeMap<u64, Placed>,
-    fits: &RoomFits,
+    known: &Known,
     stored: &Stored,
     room: u64,
     codes: u64,
@@ -118,15 +118,14 @@ fn all_owned(
 ) -> bool
     requires owners { OwnersOf owners.now.entries stored.now.cards.items }
     requires own { list_all (agrees stored.now) stored.now.cards.items ≡ true }
-    requires placed { PlacesOf placed.now.entries stored.now.codes.items }
-    requires fits { FitsOf fits.now (plain_fits stored.now) }
-    requires due { are_due_at placed.now.entries room codes ≡ true }
+    requires known { IsOfRows known.now stored.now }
+    requires due { are_due_at known.now.placed.entries room codes ≡ true }
     ensures { result ≡ list_all (is_owned stored.now room party) stored.now.cards.items }
 {
-    if ends_with_fit(fits, room, codes) {
+    if ends_with_fit(&known.fits, room, codes) {
         return true;
     }
-    let Some(link) = newest_of(placed, room, codes) else {
+    let Some(link) = newest_of(&known.placed, room, codes) else {
         return true;
     };
     is_link_of(owners, stored, link, party)
@@ -134,16 +133,14 @@ fn all_owned(
 
 fn has_owner(
     owners: &BTreeMap<(u64, u64), u64>,
-    placed: &BTreeMap<u64, Placed>,
-    fits: &RoomFits,
+    known: &Known,
     stored: &Stored,
     room: &PlainRoom,
 ) -> bool
     requires owners { OwnersOf owners.now.entries stored.now.cards.items }
     requires own { list_all (agrees stored.now) stored.now.cards.items ≡ true }
-    requires placed { PlacesOf placed.now.entries stored.now.codes.items }
-    requires fits { FitsOf fits.now (plain_fits stored.now) }
-    requires due { placed_as_due placed.now.entries room.now ≡ true }
+    requires known { IsOfRows known.now stored.now }
+    requires due { placed_as_due known.now.placed.entries room.now ≡ true }
     ensures { result ≡ has_owner stored.now room.now }
 {
     let Some(party) = number_if(room.party) else {
@@ -151,25 +148,23 @@ fn has_owner(
     };
     let named = number(room.room);
     let codes = number(room.codes);
-    all_owned(owners, placed, fits, stored, named, codes, party)
+    all_owned(owners, known, stored, named, codes, party)
 }
 
 /// Whether the cards of each room's newest link are of its party, where it has one.
 pub(crate) fn all_have_owners(
     owners: &BTreeMap<(u64, u64), u64>,
-    placed: &BTreeMap<u64, Placed>,
-    fits: &RoomFits,
+    known: &Known,
     stored: &Stored,
 ) -> bool
     requires owners { OwnersOf owners.now.entries stored.now.cards.items }
     requires own { list_all (agrees stored.now) stored.now.cards.items ≡ true }
-    requires placed { PlacesOf placed.now.entries stored.now.codes.items }
-    requires fits { FitsOf fits.now (plain_fits stored.now) }
-    requires due { list_all (placed_as_due placed.now.entries) stored.now.rooms.items ≡ true }
+    requires known { IsOfRows known.now stored.now }
+    requires due { list_all (placed_as_due known.now.placed.entries) stored.now.rooms.items ≡ true }
     ensures { result ≡ list_all (has_owner stored.now) stored.now.rooms.items }
 {
     for i in 0..stored.rooms.len() {
-        if !has_owner(owners, placed, fits, stored, &stored.rooms[i]) {
+        if !has_owner(owners, known, stored, &stored.rooms[i]) {
             return false;
         }
     }
@@ -214,41 +209,28 @@ fn last_of(lasts: &BTreeMap<u64, (u64, u64)>, party: u64) -> Option<(u64, u64)>
 }
 
 /// Whether a link is the newest of a room that is there.
-fn is_newest_at(
-    places: &Places,
-    placed: &BTreeMap<u64, Placed>,
-    fits: &RoomFits,
-    stored: &Stored,
-    home: u64,
-    link: (u64, u64),
-) -> bool
-    requires places { AreOf places.now stored.now }
-    requires placed { PlacesOf placed.now.entries stored.now.codes.items }
-    requires fits { FitsOf fits.now (plain_fits stored.now) }
-    requires due { list_all (placed_as_due placed.now.entries) stored.now.rooms.items ≡ true }
+fn is_newest_at(known: &Known, stored: &Stored, home: u64, link: (u64, u64)) -> bool
+    requires known { IsOfRows known.now stored.now }
+    requires due { list_all (placed_as_due known.now.placed.entries) stored.now.rooms.items ≡ true }
     requires there { is_some (at_number (rows_of stored.now).rooms home) ≡ true }
     ensures { result ≡ is_newest (rows_of stored.now) home (record { old_code = link.0; new_code = link.1 }) }
 {
-    let Some(room) = room_at(places, stored, home) else {
+    let Some(room) = room_at(&known.places, stored, home) else {
         return false;
     };
-    is_newest(placed, fits, stored, room, link.0, link.1)
+    is_newest(&known.placed, &known.fits, stored, room, link.0, link.1)
 }
 
 /// Whether the last card of a party has the newest link of a room that is there.
 fn has_newest(
-    places: &Places,
-    placed: &BTreeMap<u64, Placed>,
-    fits: &RoomFits,
+    known: &Known,
     stored: &Stored,
     lasts: &BTreeMap<u64, (u64, u64)>,
     party: u64,
     home: u64,
 ) -> bool
-    requires places { AreOf places.now stored.now }
-    requires placed { PlacesOf placed.now.entries stored.now.codes.items }
-    requires fits { FitsOf fits.now (plain_fits stored.now) }
-    requires due { list_all (placed_as_due placed.now.entries) stored.now.rooms.items ≡ true }
+    requires known { IsOfRows known.now stored.now }
+    requires due { list_all (placed_as_due known.now.placed.entries) stored.now.rooms.items ≡ true }
     requires lasts { LastsOf lasts.now.entries stored.now.cards.items }
     requires there { is_some (at_number (rows_of stored.now).rooms home) ≡ true }
     ensures { result ≡ has_newest (rows_of stored.now) party home }
@@ -256,21 +238,17 @@ fn has_newest(
     let Some(link) = last_of(lasts, party) else {
         return false;
     };
-    is_newest_at(places, placed, fits, stored, home, link)
+    is_newest_at(known, stored, home, link)
 }
 
 fn has_last(
-    places: &Places,
-    placed: &BTreeMap<u64, Placed>,
-    fits: &RoomFits,
+    known: &Known,
     stored: &Stored,
     lasts: &BTreeMap<u64, (u64, u64)>,
     stay: &PlainStay,
 ) -> bool
-    requires places { AreOf places.now stored.now }
-    requires placed { PlacesOf placed.now.entries stored.now.codes.items }
-    requires fits { FitsOf fits.now (plain_fits stored.now) }
-    requires due { list_all (placed_as_due placed.now.entries) stored.now.rooms.items ≡ true }
+    requires known { IsOfRows known.now stored.now }
+    requires due { list_all (placed_as_due known.now.placed.entries) stored.now.rooms.items ≡ true }
     requires lasts { LastsOf lasts.now.entries stored.now.cards.items }
     requires home { stay_has_home stored.now stay.now ≡ true }
     ensures { result ≡ has_last stored.now stay.now }
@@ -278,35 +256,23 @@ fn has_last(
     let Some(home) = home_of(stay) else {
         return true;
     };
-    has_newest(
-        places,
-        placed,
-        fits,
-        stored,
-        lasts,
-        number(stay.party),
-        home,
-    )
+    has_newest(known, stored, lasts, number(stay.party), home)
 }
 
 /// Whether the last card of each party in house has the newest link of its room.
 pub(crate) fn all_have_lasts(
-    places: &Places,
-    placed: &BTreeMap<u64, Placed>,
-    fits: &RoomFits,
+    known: &Known,
     stored: &Stored,
     lasts: &BTreeMap<u64, (u64, u64)>,
 ) -> bool
-    requires places { AreOf places.now stored.now }
-    requires placed { PlacesOf placed.now.entries stored.now.codes.items }
-    requires fits { FitsOf fits.now (plain_fits stored.now) }
-    requires due { list_all (placed_as_due placed.now.entries) stored.now.rooms.items ≡ true }
+    requires known { IsOfRows known.now stored.now }
+    requires due { list_all (placed_as_due known.now.placed.entries) stored.now.rooms.items ≡ true }
     requires lasts { LastsOf lasts.now.entries stored.now.cards.items }
     requires homes { list_all (stay_has_home stored.now) stored.now.stays.items ≡ true }
     ensures { result ≡ list_all (has_last stored.now) stored.now.stays.items }
 {
     for i in 0..stored.stays.len() {
-        if !has_last(places, placed, fits, stored, lasts, &stored.stays[i]) {
+        if !has_last(known, stored, lasts, &stored.stays[i]) {
             return false;
         }
     }

@@ -1,24 +1,23 @@
 //! The rules of the table of rooms.
-ghost use Rattle.std.specs.Prelude.{◌≡◌, true, IfOk};
+ghost use Rattle.std.specs.Prelude.{◌≡◌, IfOk};
 ghost use Rattle.std.specs.List.{list_all};
 ghost use Rattle.hotel_model.specs.Stays.{room_of_state};
 ghost use Rattle.hotel_rows.specs.Stored.{plain_fits, rows_of, room_row, stay_row};
-ghost use Rattle.hotel_model.specs.SoundRooms.{kinds_read};
 ghost use Rattle.hotel_rows.specs.Damage.{most_notes, room_columns, room_holds};
+ghost use Rattle.hotel_rows.specs.Known.{IsOfRows};
 ghost use Rattle.hotel_rows.specs.Places.{AreOf};
 ghost use Rattle.hotel_rows.specs.FitRuns.{FitsOf};
 ghost use Rattle.hotel_rows.specs.RowTests.{is_room_number, is_secured_as_due, has_few_codes, is_at_home};
-ghost use Rattle.hotel_rows.specs.RowTests.{room_fits, HasKinds};
+ghost use Rattle.hotel_rows.specs.RowTests.{room_fits};
 
 use crate::damage::fit_runs::{RoomFits, ends_with_fit, fits_of_room};
 use crate::damage::found::{Places, room_keys, stay_at};
 use crate::damage::kinds::has_kind;
+use crate::damage::known::Known;
 use crate::damage::numbers::{number, number_if, rise};
 use crate::stored::{PlainRoom, PlainStay, Stored};
-use hotel_nights::KindCode;
 use keycard_rules::{LAST_FIT, LAST_NUMBER, LAST_ROOM, Memory};
 use std::alloc::Global;
-use std::collections::BTreeMap;
 
 /// The most notes of a room: those that all its fits can count, or one in the first version.
 fn most_notes(stored: &Stored) -> u64
@@ -99,17 +98,8 @@ fn has_guest(places: &Places, stored: &Stored, room: &PlainRoom) -> bool
     home == number(room.room) && room.kind.as_str() == stay.kind.as_str()
 }
 
-fn room_fits(
-    places: &Places,
-    stored: &Stored,
-    known: &BTreeMap<KindCode, u32>,
-    fits: &RoomFits,
-    room: &PlainRoom,
-) -> bool
-    requires places { AreOf places.now stored.now }
-    requires fits { FitsOf fits.now (plain_fits stored.now) }
-    requires read { kinds_read (rows_of stored.now) ≡ true }
-    requires known { HasKinds known.now.entries (rows_of stored.now).kinds }
+fn room_fits(known: &Known, stored: &Stored, room: &PlainRoom) -> bool
+    requires { IsOfRows known.now stored.now }
     ensures { result ≡ room_fits stored.now room.now }
 {
     if !has_columns(room) || !has_number(room) {
@@ -118,32 +108,24 @@ fn room_fits(
     if number(room.lock_place) >= number(room.codes) {
         return false;
     }
-    if !has_kind(known, room.kind.as_str()) {
+    if !has_kind(&known.kinds, room.kind.as_str()) {
         return false;
     }
-    if !has_few_codes(stored, fits, room) {
+    if !has_few_codes(stored, &known.fits, room) {
         return false;
     }
     if number(room.notes) > most_notes(stored) {
         return false;
     }
-    has_guest(places, stored, room) && is_secured_as_due(stored, fits, room)
+    has_guest(&known.places, stored, room) && is_secured_as_due(stored, &known.fits, room)
 }
 
-fn rooms_fit(
-    places: &Places,
-    stored: &Stored,
-    known: &BTreeMap<KindCode, u32>,
-    fits: &RoomFits,
-) -> bool
-    requires places { AreOf places.now stored.now }
-    requires fits { FitsOf fits.now (plain_fits stored.now) }
-    requires read { kinds_read (rows_of stored.now) ≡ true }
-    requires known { HasKinds known.now.entries (rows_of stored.now).kinds }
+fn rooms_fit(known: &Known, stored: &Stored) -> bool
+    requires { IsOfRows known.now stored.now }
     ensures { result ≡ list_all (room_fits stored.now) stored.now.rooms.items }
 {
     for i in 0..stored.rooms.len() {
-        if !room_fits(places, stored, known, fits, &stored.rooms[i]) {
+        if !room_fits(known, stored, &stored.rooms[i]) {
             return false;
         }
     }
@@ -151,22 +133,13 @@ fn rooms_fit(
 }
 
 /// Whether the rules of the table of rooms hold, where those of the kinds do.
-pub(crate) fn rooms_hold(
-    alloc: Global,
-    places: &Places,
-    stored: &Stored,
-    known: &BTreeMap<KindCode, u32>,
-    fits: &RoomFits,
-) -> Result<bool, Memory>
-    requires places { AreOf places.now stored.now }
-    requires fits { FitsOf fits.now (plain_fits stored.now) }
-    requires read { kinds_read (rows_of stored.now) ≡ true }
-    requires known { HasKinds known.now.entries (rows_of stored.now).kinds }
+pub(crate) fn rooms_hold(alloc: Global, known: &Known, stored: &Stored) -> Result<bool, Memory>
+    requires { IsOfRows known.now stored.now }
     ensures { IfOk result (λ hold. hold ≡ room_holds stored.now) }
 {
     let keys = room_keys(alloc, &stored.rooms)?;
     if !rise(&keys) {
         return Ok(false);
     }
-    Ok(rooms_fit(places, stored, known, fits))
+    Ok(rooms_fit(known, stored))
 }

@@ -1,23 +1,23 @@
 //! The rules of the table of stays.
-ghost use Rattle.std.specs.Prelude.{◌≡◌, true, IfOk};
+ghost use Rattle.std.specs.Prelude.{◌≡◌, IfOk};
 ghost use Rattle.std.specs.List.{list_all};
 ghost use Rattle.hotel_nights.specs.Guests.{is_guest};
-ghost use Rattle.hotel_model.specs.SoundRooms.{kinds_read};
 ghost use Rattle.hotel_rows.specs.Stored.{rows_of, stay_row};
 ghost use Rattle.hotel_rows.specs.Damage.{stay_columns, stay_holds};
+ghost use Rattle.hotel_rows.specs.Known.{IsOfRows};
 ghost use Rattle.hotel_rows.specs.Places.{AreOf};
-ghost use Rattle.hotel_rows.specs.RowTests.{are_stay_days, has_home, stay_fits, HasKinds};
+ghost use Rattle.hotel_rows.specs.RowTests.{are_stay_days, has_home, stay_fits};
 
 use crate::damage::found::{Places, room_at, stay_keys};
 use crate::damage::kinds::has_kind;
+use crate::damage::known::Known;
 use crate::damage::nights::nights_fit;
 use crate::damage::numbers::{are_numbered, number, number_if};
 use crate::damage::rooms::home_of;
 use crate::stored::{PlainStay, Stored};
-use hotel_nights::{Guest, GuestFault, KindCode};
+use hotel_nights::{Guest, GuestFault};
 use keycard_rules::{LAST_DAY, Memory};
 use std::alloc::Global;
-use std::collections::BTreeMap;
 
 /// Whether the stay has a room exactly where it is in house.
 fn has_columns(stay: &PlainStay) -> bool
@@ -71,14 +71,11 @@ fn is_guest(alloc: Global, text: &str) -> Result<bool, Memory>
 
 fn stay_fits(
     alloc: Global,
-    places: &Places,
+    known: &Known,
     stored: &Stored,
-    known: &BTreeMap<KindCode, u32>,
     stay: &PlainStay,
 ) -> Result<bool, Memory>
-    requires places { AreOf places.now stored.now }
-    requires read { kinds_read (rows_of stored.now) ≡ true }
-    requires known { HasKinds known.now.entries (rows_of stored.now).kinds }
+    requires { IsOfRows known.now stored.now }
     ensures { IfOk result (λ fits. fits ≡ stay_fits stored.now stay.now) }
 {
     if !has_columns(stay) {
@@ -87,29 +84,22 @@ fn stay_fits(
     if !is_guest(alloc, stay.guest.as_str())? {
         return Ok(false);
     }
-    if !has_kind(known, stay.kind.as_str()) {
+    if !has_kind(&known.kinds, stay.kind.as_str()) {
         return Ok(false);
     }
     if !has_days(stay) {
         return Ok(false);
     }
-    Ok(has_home(places, stored, stay))
+    Ok(has_home(&known.places, stored, stay))
 }
 
 /// Whether each stay fits by itself.
-pub(crate) fn stays_fit(
-    alloc: Global,
-    places: &Places,
-    stored: &Stored,
-    known: &BTreeMap<KindCode, u32>,
-) -> Result<bool, Memory>
-    requires places { AreOf places.now stored.now }
-    requires read { kinds_read (rows_of stored.now) ≡ true }
-    requires known { HasKinds known.now.entries (rows_of stored.now).kinds }
+pub(crate) fn stays_fit(alloc: Global, known: &Known, stored: &Stored) -> Result<bool, Memory>
+    requires { IsOfRows known.now stored.now }
     ensures { IfOk result (λ fit. fit ≡ list_all (stay_fits stored.now) stored.now.stays.items) }
 {
     for i in 0..stored.stays.len() {
-        if !stay_fits(alloc, places, stored, known, &stored.stays[i])? {
+        if !stay_fits(alloc, known, stored, &stored.stays[i])? {
             return Ok(false);
         }
     }
@@ -117,22 +107,15 @@ pub(crate) fn stays_fit(
 }
 
 /// Whether the rules of the table of stays hold, where those of the kinds do.
-pub(crate) fn stays_hold(
-    alloc: Global,
-    places: &Places,
-    stored: &Stored,
-    known: &BTreeMap<KindCode, u32>,
-) -> Result<bool, Memory>
-    requires places { AreOf places.now stored.now }
-    requires read { kinds_read (rows_of stored.now) ≡ true }
-    requires known { HasKinds known.now.entries (rows_of stored.now).kinds }
+pub(crate) fn stays_hold(alloc: Global, known: &Known, stored: &Stored) -> Result<bool, Memory>
+    requires { IsOfRows known.now stored.now }
     ensures { IfOk result (λ hold. hold ≡ stay_holds stored.now) }
 {
     let keys = stay_keys(alloc, &stored.stays)?;
     if !are_numbered(&keys) {
         return Ok(false);
     }
-    let fit = stays_fit(alloc, places, stored, known)?;
+    let fit = stays_fit(alloc, known, stored)?;
     if !fit {
         return Ok(false);
     }

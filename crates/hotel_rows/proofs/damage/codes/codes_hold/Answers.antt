@@ -25,6 +25,6 @@ pub returns : goal.returns
 returns c =
     let s = c.args.stored.now in
     let order = c.rise.ensures ∙ ap (are_in_order nat_cmp) (c.deref-2.ensures.value ∙ c.in_ok-keys.ensures ∙ ap (map code_key) c.deref.ensures.value) in
-    c.rooms_have_places.ensures ∙ sym (places_as_due s c.args.placed.now.entries c.requires.placed)
+    c.rooms_have_places.ensures ∙ sym (places_as_due s c.args.known.now.placed.entries c.requires.placed)
     ∙ sym (codes_together s ∙ ap (λ b. b && list_all (code_fits (rows_of s)) s.codes.items && places_once (rows_of s)) (sym order ∙ c.if-not-rise.false)
     ∙ ap (λ b. b && places_once (rows_of s)) (sym c.codes_fit.ensures ∙ c.if-not-codes_fit.false))

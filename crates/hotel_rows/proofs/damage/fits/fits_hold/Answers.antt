@@ -12,20 +12,20 @@ use Rattle.hotel_rows.proofs.damage.fits.fits_hold.Goals as goal
 pub returns-then-not-rise_in_pairs : goal.returns-then-not-rise_in_pairs
 returns-then-not-rise_in_pairs c =
     let s = c.args.stored.now in
-    let runs = c.args.fits.now.runs.entries in
+    let runs = c.args.known.now.fits.runs.entries in
     let order = c.rise_in_pairs.ensures ∙ ap (are_in_order pair_cmp)
     (c.deref.ensures.value ∙ c.in_ok-keys.ensures ∙ ap (map fit_key) c.requires.plain) in
-    sym (fits_together s runs c.requires.fits.runs
+    sym (fits_together s runs c.requires.known.fits.runs
     ∙ ap (λ b. b && list_all (has_room (rows_of s)) (plain_fits s) && list_all (fitted_as_due runs) s.rooms.items)
     (sym order ∙ c.if-not-rise_in_pairs.true))
 
 pub returns-then-not-fits_have_rooms : goal.returns-then-not-fits_have_rooms
 returns-then-not-fits_have_rooms c =
     let s = c.args.stored.now in
-    let runs = c.args.fits.now.runs.entries in
+    let runs = c.args.known.now.fits.runs.entries in
     let order = c.rise_in_pairs.ensures ∙ ap (are_in_order pair_cmp)
     (c.deref.ensures.value ∙ c.in_ok-keys.ensures ∙ ap (map fit_key) c.requires.plain) in
-    sym (fits_together s runs c.requires.fits.runs
+    sym (fits_together s runs c.requires.known.fits.runs
     ∙ ap (λ b. b && list_all (has_room (rows_of s)) (plain_fits s) && list_all (fitted_as_due runs) s.rooms.items)
     (sym order ∙ c.if-not-rise_in_pairs.false)
     ∙ ap (λ b. b && list_all (fitted_as_due runs) s.rooms.items)
@@ -35,11 +35,11 @@ returns-then-not-fits_have_rooms c =
 pub returns : goal.returns
 returns c =
     let s = c.args.stored.now in
-    let runs = c.args.fits.now.runs.entries in
+    let runs = c.args.known.now.fits.runs.entries in
     let order = c.rise_in_pairs.ensures ∙ ap (are_in_order pair_cmp)
     (c.deref.ensures.value ∙ c.in_ok-keys.ensures ∙ ap (map fit_key) c.requires.plain) in
     c.rooms_are_fitted.ensures
-    ∙ sym (fits_together s runs c.requires.fits.runs
+    ∙ sym (fits_together s runs c.requires.known.fits.runs
     ∙ ap (λ b. b && list_all (has_room (rows_of s)) (plain_fits s) && list_all (fitted_as_due runs) s.rooms.items)
     (sym order ∙ c.if-not-rise_in_pairs.false)
     ∙ ap (λ b. b && list_all (fitted_as_due runs) s.rooms.items)

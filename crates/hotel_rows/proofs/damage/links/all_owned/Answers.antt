@@ -16,10 +16,10 @@ use Rattle.hotel_rows.proofs.damage.links.all_owned.Goals as goal
 pub returns-then-ends_with_fit : goal.returns-then-ends_with_fit
 returns-then-ends_with_fit c =
     let s = c.args.stored.now in
-    let placed = c.args.placed.now.entries in
-    let begins = c.args.fits.now.begins.entries in
+    let placed = c.args.known.now.placed.entries in
+    let begins = c.args.known.now.fits.begins.entries in
     let plain_rows = s.cards.items in
-    let newest = newest_known s placed begins c.args.room c.args.codes c.requires.placed c.requires.fits.begins
+    let newest = newest_known s placed begins c.args.room c.args.codes c.requires.known.placed c.requires.known.fits.begins
     c.requires.due
     ∙ ap (λ b. cond b None (last_link_of (values_of (places_in placed c.args.room))))
     (sym c.ends_with_fit.ensures ∙ c.if-ends_with_fit.true) in
@@ -30,11 +30,11 @@ returns-then-ends_with_fit c =
 pub returns-in_default : goal.returns-in_default
 returns-in_default c =
     let s = c.args.stored.now in
-    let placed = c.args.placed.now.entries in
-    let begins = c.args.fits.now.begins.entries in
+    let placed = c.args.known.now.placed.entries in
+    let begins = c.args.known.now.fits.begins.entries in
     let plain_rows = s.cards.items in
     let none : c.newest_of.result ≡ None = search rules in
-    let newest = newest_known s placed begins c.args.room c.args.codes c.requires.placed c.requires.fits.begins
+    let newest = newest_known s placed begins c.args.room c.args.codes c.requires.known.placed c.requires.known.fits.begins
     c.requires.due
     ∙ ap (λ b. cond b None (last_link_of (values_of (places_in placed c.args.room))))
     (sym c.ends_with_fit.ensures ∙ c.if-ends_with_fit.false)
@@ -46,10 +46,10 @@ returns-in_default c =
 pub returns : goal.returns
 returns c =
     let s = c.args.stored.now in
-    let placed = c.args.placed.now.entries in
-    let begins = c.args.fits.now.begins.entries in
+    let placed = c.args.known.now.placed.entries in
+    let begins = c.args.known.now.fits.begins.entries in
     let plain_rows = s.cards.items in
-    let newest = newest_known s placed begins c.args.room c.args.codes c.requires.placed c.requires.fits.begins
+    let newest = newest_known s placed begins c.args.room c.args.codes c.requires.known.placed c.requires.known.fits.begins
     c.requires.due
     ∙ ap (λ b. cond b None (last_link_of (values_of (places_in placed c.args.room))))
     (sym c.ends_with_fit.ensures ∙ c.if-ends_with_fit.false)

@@ -1,4 +1,4 @@
-use Rattle.std.proofs.Common.{true, false, inl, inr, sym}
+use Rattle.std.proofs.Common.{inl, inr, sym}
 use Rattle.std.proofs.lemmas.Bool.{cases_Bool, false≢true}
 use Rattle.std.proofs.lemmas.Option.{none-some}
 use Rattle.hotel_rows.specs.Counts.{tells_night}
