@@ -1,7 +1,7 @@
 -- What comes of a request: its answer, and the history of the books after it.
 use Rattle.std.specs.Prelude.{◌≡◌, ◌⊎◌, ℕ, Bool, true, false, not, List, [], ◌∷◌, ◌++◌, map, Option, Some, None, IfSome}
 use Rattle.std.specs.Prelude.{Result, Ok, Err}
-use Rattle.std.specs.Io.KnownBytes.{Appends}
+use Rattle.std.specs.{Io.KnownBytes.Appends, Option.unwrap_or}
 use Rattle.rand_core.specs.Stream.{Stream}
 use Rattle.hotel_model.specs.{declared.reply.Reply.Reply, declared.reply.Refusal.Refusal, History.History}
 use Rattle.hotel_core.specs.{Books.Failures.failure_in, Books.Happens.answered_by}
@@ -9,8 +9,7 @@ use Rattle.hotel_model.specs.declared.reply.Reply.TheVariants as reply
 use Rattle.hotel_model.specs.declared.reply.Refusal.TheVariants as refusal
 use Rattle.hotel_model.specs.Run.{Steps, Runs, is_failed}
 use Rattle.hotel_lists.specs.{Bytes.AppendsFront, declared.calls.WriteFailed.WriteFailed}
-use Rattle.hotel_lists.specs.{declared.fault.ListFault.ListFault}
-use Rattle.hotel_lists.specs.declared.fault.ListFault.TheVariants as list
+use Rattle.hotel_lists.specs.{Faults.told_refusal, declared.fault.ListFault.ListFault}
 use Rattle.hotel_lists.specs.Listings.{Listing, in_full}
 use Rattle.hotel_asks.specs.{declared.asks.Ask.Ask, Listings.listing_over}
 use Rattle.hotel_asks.specs.declared.asks.Ask.TheVariants as ask
@@ -148,10 +147,7 @@ IsListText None (Err _) = ⊥
 
 -- the refusal that a list's fault is answered by: a writer in memory fails for want of it
 abbrev pub list_refusal : ListFault → Refusal
-list_refusal list.NoRoom = refusal.NoRoom
-list_refusal list.Memory = refusal.Memory
-list_refusal list.Write = refusal.Memory
-list_refusal list.Store = refusal.Store
+list_refusal fault = unwrap_or (told_refusal fault) refusal.Memory
 
 -- the failures that the books counted of a list's text
 abbrev pub list_failures : Result (List ℕ) Refusal → List Refusal
