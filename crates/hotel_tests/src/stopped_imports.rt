@@ -24,9 +24,13 @@ fn lines_answered<A: Abort>(
             assert!(rt; why == AuditFault::Memory);
             0
         }
-        Err(ImportFault::Stopped {
-            answered, taken, ..
-        }) => {
+        Err(
+            ImportFault::Stopped {
+                answered,
+                taken,
+                ..
+            },
+        ) => {
             assert!(rt; sent.stops_behind(answered, taken));
             answered
         }
