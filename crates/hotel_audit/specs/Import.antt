@@ -17,7 +17,7 @@ use Rattle.hotel_audit.specs.{declared.imports.ImportFault.ImportFault}
 use Rattle.hotel_audit.specs.declared.answer.LineAnswer.TheVariants.{Taken, Seen, Unread, Refused}
 use Rattle.hotel_audit.specs.declared.audit_file.AuditFault.TheVariants as fault
 use Rattle.hotel_audit.specs.declared.imports.ImportFault.TheVariants.{File, Stopped}
-use Rattle.hotel_audit.specs.declared.line.Line.{Line}
+use Rattle.hotel_audit.specs.{declared.line.Cause.Cause, declared.line.Line.Line}
 use Rattle.hotel_audit.specs.declared.line.Line.TheVariants as line
 
 -- the commands that the lines are: each note is reported
@@ -26,13 +26,22 @@ commands_of [] = []
 commands_of (line.Note note ∷ lines) = command.Reported note ∷ commands_of lines
 commands_of (line.Unread cause ∷ lines) = commands_of lines
 
+-- the reply to a line's note, or why the line is none
+abbrev pub reply_or_cause : LineAnswer → Result Reply Cause
+reply_or_cause Taken = Ok reply.Taken
+reply_or_cause Seen = Ok reply.Seen
+reply_or_cause (Unread cause) = Err cause
+reply_or_cause (Refused refusal) = Ok (reply.Refused refusal)
+
+-- these replies behind that of a line, if it has one
+abbrev pub behind_reply : Result Reply Cause → List Reply → List Reply
+behind_reply (Ok given) replies = given ∷ replies
+behind_reply (Err cause) replies = replies
+
 -- the replies among the answers: those to notes
 abbrev pub replies_in : List LineAnswer → List Reply
 replies_in [] = []
-replies_in (Taken ∷ answers) = reply.Taken ∷ replies_in answers
-replies_in (Seen ∷ answers) = reply.Seen ∷ replies_in answers
-replies_in (Unread cause ∷ answers) = replies_in answers
-replies_in (Refused refusal ∷ answers) = reply.Refused refusal ∷ replies_in answers
+replies_in (answer ∷ answers) = behind_reply (reply_or_cause answer) (replies_in answers)
 
 -- An unread line is answered by its cause, a note by a reply other than that memory or the store failed.
 abbrev pub IsAnswerTo : Line → LineAnswer → Type 0
