@@ -3,6 +3,7 @@ ghost use Rattle.std.specs.Prelude.{◌≡◌, ◌≢◌, ◌<◌, [], ◌∷◌
 ghost use Rattle.keycard_rules.specs.Rise.{NoFewer};
 ghost use Rattle.hotel_core.specs.{Books.Failures.AreCounted, Books.Failures.refusal_of};
 ghost use Rattle.hotel_audit.specs.{declared.audit_file.AuditFault.AuditFault, AuditFile.audit_lines};
+ghost use Rattle.hotel_audit.specs.declared.audit_file.TheConstants.{AUDIT_BYTES};
 ghost use Rattle.hotel_audit.specs.Import.{Imports, IsAnswerTo, LineGoes, LinesLeadOn};
 ghost use Rattle.hotel_audit.specs.Import.{answer_of, failures_of, has_taken, outcome_of, replies_in};
 
@@ -110,7 +111,7 @@ pub fn import<B: Books>(
     bytes: &[u8],
 ) -> Result<Vec<LineAnswer>, ImportFault>
     ensures imported { Imports B.Issued B.rows (audit_lines bytes.now) books.old books.new (outcome_of (λ v. v.items) result) }
-    ensures large { 262144 < length bytes.now → result ≡ Err (ImportFault.File AuditFault.TooLarge) }
+    ensures large { AUDIT_BYTES < length bytes.now → result ≡ Err (ImportFault.File AuditFault.TooLarge) }
     ensures no_file { IfErr result (λ f. (why : AuditFault) → f ≡ ImportFault.File why → books.new ≡ books.old) }
     ensures failed { IfErr result (λ fault. B.is_clean books.new →
         AreCounted (B.failures books.old) (B.failures books.new) (failures_of fault)) }
