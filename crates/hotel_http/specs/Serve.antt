@@ -62,7 +62,8 @@ listed (Some listing) = outcome (list_answer (in_full [] (Some listing))) Succes
 -- a line was taken before an import ended without answers
 abbrev pub taken_by : ImportFault → Bool
 taken_by (import.File why) = false
-taken_by (import.Stopped answered by taken) = taken
+taken_by (import.Memory answered taken) = taken
+taken_by (import.Store answered taken) = taken
 
 -- the books failed behind a line that was taken, or behind none
 abbrev pub stopped_behind : Bool → List Bool
@@ -72,7 +73,8 @@ stopped_behind false = false ∷ []
 -- how the books answered in an import that ended without answers
 abbrev pub stopped_by : ImportFault → List Bool
 stopped_by (import.File why) = []
-stopped_by (import.Stopped answered by taken) = stopped_behind taken
+stopped_by (import.Memory answered taken) = stopped_behind taken
+stopped_by (import.Store answered taken) = stopped_behind taken
 
 abbrev pub imported : Result (List LineAnswer) ImportFault → Outcome
 imported (Ok answers) = outcome (lines_answer answers) Success (has_taken answers) (map (λ reply. true) (replies_in answers))

@@ -196,7 +196,7 @@ fn taken_by(why: &ImportFault) -> bool
 {
     match why {
         ImportFault::File(_) => false,
-        ImportFault::Stopped { taken, .. } => *taken,
+        ImportFault::Memory { taken, .. } | ImportFault::Store { taken, .. } => *taken,
     }
 }
 
