@@ -8,11 +8,13 @@ mod gathered;
 mod line;
 mod lines;
 mod listing;
+mod lists;
 mod write_lists;
 
 pub use bytes::{ReadFault, WholeFault, read_more, read_whole, write_bytes, write_parts};
 pub use calls::{IoCalls, ReadFailed, WriteFailed};
 pub use fault::ListFault;
+pub use lists::{arrivals, audit_of, chain_of, in_house, left_behind};
 pub use write_lists::{
     write_arrivals, write_audit_of, write_chain_of, write_in_house, write_left_behind,
 };

@@ -1,4 +1,4 @@
-//! The five lists as text: a header, and a line for each row. The writes of a list are added to the call's.
+//! The five lists as text, within a call whose reads and writes are counted. The writes of a list are added to them.
 ghost use Rattle.std.specs.Prelude.{◌≡◌, true, [], Some, is_some, Err};
 ghost use Rattle.hotel_model.specs.Refinement.Lookups.{room_at};
 ghost use Rattle.hotel_model.specs.Refinement.ListsOnRows.{arrivals_on, in_house_on, chain_on, left_behind_on};

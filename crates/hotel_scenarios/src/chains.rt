@@ -1,8 +1,7 @@
 //! The codes of room 101, as a list and by walks.
 use crate::desks::room;
-use hotel_asks::{ListAsk, write_list};
 use hotel_core::{ChainRow, Sink, Stop, WalkFault, Walks};
-use hotel_lists::IoCalls;
+use hotel_lists::chain_of;
 use std::alloc::Global;
 use std::test::Fail;
 
@@ -11,9 +10,9 @@ pub const TWO_CODES: &[u8] = b"place,code,state\n0,0000000000a0,passed\n1,000000
 
 /// Whether the list of the room's codes reads so.
 pub fn chain_reads<B: Walks>(alloc: Global, books: &mut B, text: &[u8]) -> Result<bool, Fail> {
-    let chain = ListAsk::ChainOf(room(101)?);
+    let room = room(101)?;
     let mut writer = Vec::new(alloc);
-    write_list(alloc, &chain, &mut writer, books, &mut IoCalls::none())?;
+    chain_of(alloc, books, room, &mut writer)?;
     Ok(writer.as_slice() == text)
 }
 

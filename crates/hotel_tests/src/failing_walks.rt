@@ -1,4 +1,4 @@
-//! Lists over books of which a call fails, each call in turn, for each cause: by calls of their own, and in a script.
+//! Lists over books of which a call fails, each call in turn, for each cause: by their own calls, and in a script.
 use crate::lists::{list_of, write_alone};
 use hotel_core::StoppingBooks;
 use hotel_lists::ListFault;

@@ -1,7 +1,7 @@
-//! Lists by their own call, over books in memory.
-use hotel_asks::{Ask, ListAsk, write_list};
+//! Lists by their own calls, over books in memory.
+use hotel_asks::{Ask, ListAsk};
 use hotel_core::Walks;
-use hotel_lists::{IoCalls, ListFault};
+use hotel_lists::{ListFault, arrivals, audit_of, chain_of, in_house, left_behind};
 use hotel_scenarios::chains::walks_end;
 use hotel_scenarios::desks::{Desk, room};
 use hotel_scenarios::line_asks::ask_of;
@@ -19,14 +19,20 @@ pub(crate) fn list_of(alloc: Global, line: &[u8]) -> Result<ListAsk, Fail> {
     }
 }
 
-/// Writes a list by a call of its own.
+/// Writes a list by its own call.
 pub(crate) fn write_alone<B: Walks, W: Write>(
     alloc: Global,
     list: &ListAsk,
     books: &mut B,
     writer: &mut W,
 ) -> Result<(), ListFault> {
-    write_list(alloc, list, writer, books, &mut IoCalls::none())
+    match list {
+        ListAsk::Arrivals(day) => arrivals(alloc, books, *day, writer),
+        ListAsk::InHouse => in_house(alloc, books, writer),
+        ListAsk::ChainOf(room) => chain_of(alloc, books, *room, writer),
+        ListAsk::LeftBehind => left_behind(alloc, books, writer),
+        ListAsk::AuditOf(room) => audit_of(alloc, books, *room, writer),
+    }
 }
 
 /// A desk of one room, of three codes, of which staff recoded the lock that was left behind.
@@ -42,10 +48,10 @@ fn recoded(alloc: Global) -> Result<Desk, Fail> {
 fn no_room(rt: &(impl Abort + AllocGlobal), desk: &mut Desk<impl Walks>) -> Result<(), Fail> {
     let absent = room(102)?;
     let mut writer = Vec::new(rt.alloc());
-    for list in [ListAsk::ChainOf(absent), ListAsk::AuditOf(absent)] {
-        let written = write_alone(rt.alloc(), &list, &mut desk.books, &mut writer);
-        assert!(rt; written == Err(ListFault::NoRoom));
-    }
+    let chain = chain_of(rt.alloc(), &mut desk.books, absent, &mut writer);
+    assert!(rt; chain == Err(ListFault::NoRoom));
+    let audit = audit_of(rt.alloc(), &mut desk.books, absent, &mut writer);
+    assert!(rt; audit == Err(ListFault::NoRoom));
     assert!(rt; writer.is_empty());
     Ok(())
 }
