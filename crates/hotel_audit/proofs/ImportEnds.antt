@@ -1,5 +1,5 @@
 -- How an import ends: with all lines answered, with those before one that failed, or before the first.
-use Rattle.std.proofs.Common.{ℕ, ◌≡◌, ◌≢◌, ◌⊎◌, ◌+◌, ◌∙◌, List, [], ◌∷◌, ◌++◌, Result, Ok, Err, OnOk, take, drop}
+use Rattle.std.proofs.Common.{ℕ, Bool, ◌≡◌, ◌≢◌, ◌⊎◌, ◌+◌, ◌∙◌, List, [], ◌∷◌, ◌++◌, Result, Ok, Err, OnOk, take, drop}
 use Rattle.std.proofs.Common.{length, sym, refl, ap, append_assoc}
 use Rattle.std.specs.Prelude.{zip}
 use Rattle.hotel_core.proofs.Names.{Rows}
@@ -9,12 +9,25 @@ use Rattle.std.proofs.lemmas.List.{take-append-drop}
 use Rattle.hotel_audit.specs.{declared.answer.LineAnswer.LineAnswer, declared.audit_file.AuditFault.AuditFault}
 use Rattle.hotel_audit.specs.{declared.imports.ImportFault.ImportFault, declared.line.Line.Line}
 use Rattle.hotel_audit.specs.declared.audit_file.AuditFault.TheVariants as fault
-use Rattle.hotel_audit.specs.declared.imports.ImportFault.TheVariants.{File, Stopped}
+use Rattle.hotel_audit.specs.declared.imports.ImportFault.TheVariants.{File}
 use Rattle.keycard_rules.specs.declared.issued.LookFault.{LookFault}
+use Rattle.keycard_rules.specs.declared.issued.LookFault.TheVariants as look
 use Rattle.hotel_core.specs.Books.Happens.{Passes}
 use Rattle.hotel_audit.specs.Import.{AreAnswered, EndsAfter, Imports, LeavesBehind, LineGoes, LineHappens}
-use Rattle.hotel_audit.specs.Import.{LinesLeadOn, NextFails, has_taken, replies_in}
+use Rattle.hotel_audit.specs.Import.{IsFrontOf, LinesLeadOn, NextFails, has_taken, replies_in, stopped}
 use Rattle.hotel_audit.proofs.LineAnswers.{lead-none, lead-same}
+
+-- an import that was stopped ended after a front of the file's lines
+ends_stopped : (by : LookFault) (file : Result (List Line) AuditFault) (lines : List Line) (answers : List LineAnswer) (answered : ℕ) (taken : Bool)
+    → IsFrontOf file lines answers answered taken → EndsAfter file (Err (stopped by answered taken)) lines answers
+ends_stopped look.Memory file lines answers answered taken front = front
+ends_stopped look.Store file lines answers answered taken front = front
+
+-- it left what the line left that failed
+leaves_stopped : {B : Type 0} (I : IssuedOf B) (rows : B → Rows) (by : LookFault) (file : Result (List Line) AuditFault) (lines : List Line) (old new : B) (answered : ℕ) (taken : Bool)
+    → NextFails I rows file lines old by new → LeavesBehind I rows file lines old (Err (stopped by answered taken)) new
+leaves_stopped I rows look.Memory file lines old new answered taken fails = fails
+leaves_stopped I rows look.Store file lines old new answered taken fails = fails
 
 -- the lines of a file, with one in their midst
 around : (lines : List Line) (i : ℕ) (next : Line) → take (i + 1) lines ≡ take i lines ++ next ∷ [] → lines ≡ take i lines ++ next ∷ drop (i + 1) lines
@@ -54,11 +67,13 @@ module _ {B : Type 0} (I : IssuedOf B) (rows : B → Rows) (old new : B) (honest
       → (I.is_honest new → I.is_honest mid) → (I.is_clean mid → I.is_clean old) → (I.is_clean new → rows new ≡ rows mid)
       → (I.is_honest mid → LinesLeadOn (I.is_clean old) (rows old) (take i lines) answers (I.is_clean mid) (rows mid)) → (I.is_honest mid → replies_in answers ≢ [] → I.is_clean mid)
       → Passes (LineHappens I rows) old (zip (take i lines) answers) mid → NextFails I rows (Ok lines) (take i lines) mid by new
-      → Imports I rows (Ok lines) old new (Err (Stopped (length answers) by (has_taken answers)))
+      → Imports I rows (Ok lines) old new (Err (stopped by (length answers) (has_taken answers)))
   answered_before mid lines i answers by each clean_before honest_before began same happened vouched through fails =
-      ended (Ok lines) (Err (Stopped (length answers) by (has_taken answers))) (take i lines) answers each (drop i lines, ap (λ ls. Ok ls) (sym (take-append-drop i lines)), refl, refl)
+      ended (Ok lines) (Err (stopped by (length answers) (has_taken answers))) (take i lines) answers each
+      (ends_stopped by (Ok lines) (take i lines) answers (length answers) (has_taken answers) (drop i lines, ap (λ ls. Ok ls) (sym (take-append-drop i lines)), refl, refl))
       (λ now. lead-same (I.is_clean old) (I.is_clean mid) (I.is_clean new) (rows old) (rows mid) (rows new) (take i lines) answers clean_before same (happened (honest_before now)))
-      (λ now noted. began (vouched (honest_before now) noted)) (λ now. tt) tt mid through fails
+      (λ now noted. began (vouched (honest_before now) noted)) (λ now. tt) tt mid through
+      (leaves_stopped I rows by (Ok lines) (take i lines) mid new (length answers) (has_taken answers) fails)
 
 -- nothing was begun
 pub none_begun : {B : Type 0} (I : IssuedOf B) (rows : B → Rows) (old : B) → (I.is_clean old → I.is_honest old) → (file : Result (List Line) AuditFault) (why : AuditFault) → (why ≡ fault.Memory) ⊎ (file ≡ Err why)

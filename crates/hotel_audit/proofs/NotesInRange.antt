@@ -23,6 +23,7 @@ use Rattle.hotel_audit.specs.declared.line.Line.TheVariants as line
 use Rattle.hotel_audit.specs.{Fields.FieldTexts, Fields.fields_under, Header.columns_of, Import.commands_of}
 use Rattle.keycard_rules.specs.Results.{◌>>=◌}
 use Rattle.hotel_audit.specs.Line.{act_of, happening, line_of, line_with, read_line}
+use Rattle.hotel_audit.specs.declared.audit_file.TheConstants.{AUDIT_BYTES}
 
 -- where there is a value, the test held, and it is this value
 given : {A : Type 0} (b : Bool) (a c : A) → (if b then Some a else None) ≡ Some c → (b ≡ true) × (a ≡ c)
@@ -151,7 +152,7 @@ file_by false rows lines e = rows_by rows lines e
 
 -- the lines that bytes are read as have their notes in range
 pub file_in_range : (bytes : List ℕ) (lines : List Line) → audit_lines bytes ≡ Ok lines → AreInRange lines
-file_in_range bytes lines e = file_by (nat_lt 262144 (length bytes)) (file_records bytes) lines e
+file_in_range bytes lines e = file_by (nat_lt AUDIT_BYTES (length bytes)) (file_records bytes) lines e
 
 pub front_in_range : (front rest : List Line) → AreInRange (front ++ rest) → AreInRange front
 front_in_range [] rest a = tt

@@ -1,12 +1,11 @@
 -- The texts of the answers to an audit file's lines, and of an import that was stopped.
-use Rattle.std.specs.Prelude.{ℕ, List, [], ◌∷◌, ◌++◌, ◌+◌, codes}
+use Rattle.std.specs.Prelude.{ℕ, List, [], ◌∷◌, ◌++◌, ◌+◌, codes, Result, Ok, Err}
 use Rattle.std.specs.Fmt.{decimal}
 use Rattle.keycard_rules.specs.declared.issued.LookFault.{LookFault}
 use Rattle.keycard_rules.specs.declared.issued.LookFault.TheVariants as look
-use Rattle.hotel_model.specs.declared.reply.Reply.TheVariants as reply
+use Rattle.hotel_model.specs.declared.reply.Reply.{Reply}
 use Rattle.hotel_core.specs.Texts.{reply_text}
-use Rattle.hotel_audit.specs.{declared.answer.LineAnswer.LineAnswer, declared.line.Cause.Cause}
-use Rattle.hotel_audit.specs.declared.answer.LineAnswer.TheVariants.{Taken, Seen, Unread, Refused}
+use Rattle.hotel_audit.specs.{declared.answer.LineAnswer.LineAnswer, declared.line.Cause.Cause, Import.reply_or_cause}
 use Rattle.hotel_audit.specs.declared.line.Cause.TheVariants.{FieldCount, BadRoom, BadFit, BadCount, BadKind, BadCard}
 use Rattle.hotel_audit.specs.declared.line.Cause.TheVariants.{BadOld, BadNew, BadMoment}
 
@@ -23,15 +22,13 @@ cause_name BadNew = codes "BadNew"
 cause_name BadMoment = codes "BadMoment"
 
 -- what is said of a line: the text of the reply to its note, or why it is none
-abbrev pub said_of_line : LineAnswer → List ℕ
-said_of_line Taken = reply_text reply.Taken
-said_of_line Seen = reply_text reply.Seen
-said_of_line (Unread cause) = codes "unread " ++ cause_name cause ++ (10 ∷ [])
-said_of_line (Refused refusal) = reply_text (reply.Refused refusal)
+abbrev pub said_of : Result Reply Cause → List ℕ
+said_of (Ok given) = reply_text given
+said_of (Err cause) = codes "unread " ++ cause_name cause ++ (10 ∷ [])
 
 -- the text of an answer: the line's number, a space and what is said of it
 abbrev pub answer_text : ℕ → LineAnswer → List ℕ
-answer_text number answer = decimal number ++ codes " " ++ said_of_line answer
+answer_text number answer = decimal number ++ codes " " ++ said_of (reply_or_cause answer)
 
 -- the texts of answers to the lines from a number on
 abbrev pub answers_text : ℕ → List LineAnswer → List ℕ

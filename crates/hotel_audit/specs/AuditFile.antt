@@ -4,6 +4,7 @@ use Rattle.csv.specs.Reading.{default_config, records, strip_bom}
 use Rattle.hotel_audit.specs.{declared.audit_file.AuditFault.AuditFault, declared.line.Line.Line}
 use Rattle.hotel_audit.specs.{declared.header.Columns.Columns, Header.columns_of, Line.read_line}
 use Rattle.hotel_audit.specs.declared.audit_file.AuditFault.TheVariants.{TooLarge, NoHeader, WrongHeader}
+use Rattle.hotel_audit.specs.declared.audit_file.TheConstants.{AUDIT_BYTES}
 
 -- the records of the bytes, without a byte order mark at their start
 abbrev pub file_records : List ℕ → List (List (List ℕ))
@@ -21,4 +22,4 @@ lines_of (first ∷ later) = lines_under (columns_of first) later
 
 -- what the bytes are read as: their lines, or why they are no audit file
 abbrev pub audit_lines : List ℕ → Result (List Line) AuditFault
-audit_lines bytes = if nat_lt 262144 (length bytes) then Err TooLarge else lines_of (file_records bytes)
+audit_lines bytes = if nat_lt AUDIT_BYTES (length bytes) then Err TooLarge else lines_of (file_records bytes)

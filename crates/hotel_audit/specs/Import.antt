@@ -16,8 +16,8 @@ use Rattle.hotel_audit.specs.{declared.answer.LineAnswer.LineAnswer, declared.au
 use Rattle.hotel_audit.specs.{declared.imports.ImportFault.ImportFault}
 use Rattle.hotel_audit.specs.declared.answer.LineAnswer.TheVariants.{Taken, Seen, Unread, Refused}
 use Rattle.hotel_audit.specs.declared.audit_file.AuditFault.TheVariants as fault
-use Rattle.hotel_audit.specs.declared.imports.ImportFault.TheVariants.{File, Stopped}
-use Rattle.hotel_audit.specs.declared.line.Line.{Line}
+use Rattle.hotel_audit.specs.declared.imports.ImportFault.TheVariants.{File, Memory, Store}
+use Rattle.hotel_audit.specs.{declared.line.Cause.Cause, declared.line.Line.Line}
 use Rattle.hotel_audit.specs.declared.line.Line.TheVariants as line
 
 -- the commands that the lines are: each note is reported
@@ -26,13 +26,22 @@ commands_of [] = []
 commands_of (line.Note note ∷ lines) = command.Reported note ∷ commands_of lines
 commands_of (line.Unread cause ∷ lines) = commands_of lines
 
+-- the reply to a line's note, or why the line is none
+abbrev pub reply_or_cause : LineAnswer → Result Reply Cause
+reply_or_cause Taken = Ok reply.Taken
+reply_or_cause Seen = Ok reply.Seen
+reply_or_cause (Unread cause) = Err cause
+reply_or_cause (Refused refusal) = Ok (reply.Refused refusal)
+
+-- these replies behind that of a line, if it has one
+abbrev pub behind_reply : Result Reply Cause → List Reply → List Reply
+behind_reply (Ok given) replies = given ∷ replies
+behind_reply (Err cause) replies = replies
+
 -- the replies among the answers: those to notes
 abbrev pub replies_in : List LineAnswer → List Reply
 replies_in [] = []
-replies_in (Taken ∷ answers) = reply.Taken ∷ replies_in answers
-replies_in (Seen ∷ answers) = reply.Seen ∷ replies_in answers
-replies_in (Unread cause ∷ answers) = replies_in answers
-replies_in (Refused refusal ∷ answers) = reply.Refused refusal ∷ replies_in answers
+replies_in (answer ∷ answers) = behind_reply (reply_or_cause answer) (replies_in answers)
 
 -- An unread line is answered by its cause, a note by a reply other than that memory or the store failed.
 abbrev pub IsAnswerTo : Line → LineAnswer → Type 0
@@ -67,6 +76,11 @@ has_taken (Seen ∷ answers) = has_taken answers
 has_taken (Unread cause ∷ answers) = has_taken answers
 has_taken (Refused refusal ∷ answers) = has_taken answers
 
+-- an import that was stopped by this behind so many answers, one of them Taken or none
+abbrev pub stopped : LookFault → ℕ → Bool → ImportFault
+stopped look.Memory answered taken = Memory answered taken
+stopped look.Store answered taken = Store answered taken
+
 -- the answers, or the fault that came in place of them
 abbrev pub outcome_of : {A : Type 0} → (A → List LineAnswer) → Result A ImportFault → Result (List LineAnswer) ImportFault
 outcome_of answers (Ok given) = Ok (answers given)
@@ -81,7 +95,8 @@ IsFrontOf file lines answers answered taken = (rest : List Line) × (file ≡ Ok
 abbrev pub EndsAfter : Result (List Line) AuditFault → Result (List LineAnswer) ImportFault → List Line → List LineAnswer → Type 0
 EndsAfter file (Ok given) lines answers = (file ≡ Ok lines) × (answers ≡ given)
 EndsAfter file (Err (File why)) lines answers = (lines ≡ []) × (answers ≡ []) × ((why ≡ fault.Memory) ⊎ (file ≡ Err why))
-EndsAfter file (Err (Stopped answered by taken)) lines answers = IsFrontOf file lines answers answered taken
+EndsAfter file (Err (Memory answered taken)) lines answers = IsFrontOf file lines answers answered taken
+EndsAfter file (Err (Store answered taken)) lines answers = IsFrontOf file lines answers answered taken
 
 -- What lines with these answers show of books from old to new that may have failed for good, where an import of them
 -- ended so: the notes ran with these replies, and an answer to a note vouches that the books were clean before the
@@ -127,7 +142,8 @@ abbrev pub LeavesBehind : {B : Type 0} → IssuedOf B → (B → Rows) → Resul
     → B → Result (List LineAnswer) ImportFault → B → Type 0
 LeavesBehind I rows file lines old (Ok given) new = new ≡ old
 LeavesBehind I rows file lines old (Err (File why)) new = new ≡ old
-LeavesBehind I rows file lines old (Err (Stopped answered by taken)) new = NextFails I rows file lines old by new
+LeavesBehind I rows file lines old (Err (Memory answered taken)) new = NextFails I rows file lines old look.Memory new
+LeavesBehind I rows file lines old (Err (Store answered taken)) new = NextFails I rows file lines old look.Store new
 
 -- An import of a file into books from old to new ended so: some of its lines have these answers, by which the books
 -- went, from line to line.
@@ -143,5 +159,6 @@ Imports {B = B} I rows file old new outcome =
 -- The failure that stopped the import, which the books counted. That there was no memory to read the file or for its
 -- answers isn't counted.
 abbrev pub failures_of : ImportFault → List Refusal
-failures_of (Stopped answered by taken) = refusal_of by ∷ []
+failures_of (Memory answered taken) = refusal_of look.Memory ∷ []
+failures_of (Store answered taken) = refusal_of look.Store ∷ []
 failures_of (File why) = []

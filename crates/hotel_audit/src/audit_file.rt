@@ -9,13 +9,13 @@ use crate::line::{Line, read_line};
 use csv::{ByteRecord, Error, ReaderBuilder};
 use std::alloc::Global;
 
-/// The greatest length of an audit file in bytes.
-const MOST_BYTES: usize = 262_144;
+/// The most bytes of an audit file.
+pub const AUDIT_BYTES: usize = 262_144;
 
 /// Why bytes give no lines.
 #[derive(Clone, Copy, Debug, PartialEq, Eq)]
 pub enum AuditFault {
-    /// There are more than 262,144 bytes.
+    /// There are more than `AUDIT_BYTES`.
     TooLarge,
     /// There is no record.
     NoHeader,
@@ -41,16 +41,16 @@ fn read_records(alloc: Global, bytes: &[u8]) -> Result<Vec<ByteRecord>, Error>
     Ok(rows)
 }
 
-/// Reads an audit file: at most 262,144 bytes of CSV. Its first record is `room,fit,count,kind,card,old,new,at`, or the
+/// Reads an audit file: at most `AUDIT_BYTES` of CSV. Its first record is `room,fit,count,kind,card,old,new,at`, or the
 /// same without `fit`, where each note is of its room's first lock. The lines are the records after it, in order. A
 /// byte
 /// order mark at the start is dropped.
 pub fn read_notes(alloc: Global, bytes: &[u8]) -> Result<Vec<Line>, AuditFault>
     ensures lines { IfOk result (λ v. audit_lines bytes.now ≡ Ok v.items) }
     ensures fault { IfErr result (λ e. e ≢ AuditFault.Memory → audit_lines bytes.now ≡ Err e) }
-    ensures large { (result ≡ Err AuditFault.TooLarge) ↔ (262144 < length bytes.now) }
+    ensures large { (result ≡ Err AuditFault.TooLarge) ↔ (AUDIT_BYTES < length bytes.now) }
 {
-    if bytes.len() > MOST_BYTES {
+    if bytes.len() > AUDIT_BYTES {
         return Err(AuditFault::TooLarge);
     }
     let Ok(rows) = read_records(alloc, bytes) else {

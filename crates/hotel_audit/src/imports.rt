@@ -3,8 +3,9 @@ ghost use Rattle.std.specs.Prelude.{◌≡◌, ◌≢◌, ◌<◌, [], ◌∷◌
 ghost use Rattle.keycard_rules.specs.Rise.{NoFewer};
 ghost use Rattle.hotel_core.specs.{Books.Failures.AreCounted, Books.Failures.refusal_of};
 ghost use Rattle.hotel_audit.specs.{declared.audit_file.AuditFault.AuditFault, AuditFile.audit_lines};
+ghost use Rattle.hotel_audit.specs.declared.audit_file.TheConstants.{AUDIT_BYTES};
 ghost use Rattle.hotel_audit.specs.Import.{Imports, IsAnswerTo, LineGoes, LinesLeadOn};
-ghost use Rattle.hotel_audit.specs.Import.{answer_of, failures_of, has_taken, outcome_of, replies_in};
+ghost use Rattle.hotel_audit.specs.Import.{answer_of, failures_of, has_taken, outcome_of, replies_in, stopped};
 
 use crate::answer::{LineAnswer, has_taken};
 use crate::audit_file::{AuditFault, read_notes};
@@ -18,13 +19,12 @@ use std::alloc::Global;
 pub enum ImportFault {
     /// The bytes are no audit file, or there was no memory to read it or for its answers. Nothing was begun.
     File(AuditFault),
-    /// A growth of the books' memory was refused, or a call of the store failed. So many lines were answered, which
-    /// stand, and `taken` says whether one of them was Taken; the next one changed nothing.
-    Stopped {
-        answered: usize,
-        by: LookFault,
-        taken: bool,
-    },
+    /// A growth of the books' memory was refused. So many lines were answered, which stand, and `taken` says whether
+    /// one of them was Taken; the next one changed nothing.
+    Memory { answered: usize, taken: bool },
+    /// A call of the store failed. So many lines were answered, which stand, and `taken` says whether one of them was
+    /// Taken; the next one changed nothing.
+    Store { answered: usize, taken: bool },
 }
 
 const fn answer_of(reply: &Reply) -> Result<LineAnswer, LookFault>
@@ -63,12 +63,12 @@ fn answer_line<B: Books>(books: &mut B, line: &Line) -> Result<LineAnswer, LookF
 
 /// An import that was stopped behind these answers.
 fn stopped(answers: &[LineAnswer], by: LookFault) -> ImportFault
-    ensures { result ≡ ImportFault.Stopped (length answers.now) by (has_taken answers.now) }
+    ensures { result ≡ stopped by (length answers.now) (has_taken answers.now) }
 {
-    ImportFault::Stopped {
-        answered: answers.len(),
-        by,
-        taken: has_taken(answers),
+    let (answered, taken) = (answers.len(), has_taken(answers));
+    match by {
+        LookFault::Memory => ImportFault::Memory { answered, taken },
+        LookFault::Store => ImportFault::Store { answered, taken },
     }
 }
 
@@ -110,7 +110,7 @@ pub fn import<B: Books>(
     bytes: &[u8],
 ) -> Result<Vec<LineAnswer>, ImportFault>
     ensures imported { Imports B.Issued B.rows (audit_lines bytes.now) books.old books.new (outcome_of (λ v. v.items) result) }
-    ensures large { 262144 < length bytes.now → result ≡ Err (ImportFault.File AuditFault.TooLarge) }
+    ensures large { AUDIT_BYTES < length bytes.now → result ≡ Err (ImportFault.File AuditFault.TooLarge) }
     ensures no_file { IfErr result (λ f. (why : AuditFault) → f ≡ ImportFault.File why → books.new ≡ books.old) }
     ensures failed { IfErr result (λ fault. B.is_clean books.new →
         AreCounted (B.failures books.old) (B.failures books.new) (failures_of fault)) }

@@ -12,7 +12,7 @@ mod texts;
 mod written;
 
 pub use answer::{LineAnswer, has_taken};
-pub use audit_file::{AuditFault, read_notes};
+pub use audit_file::{AUDIT_BYTES, AuditFault, read_notes};
 pub use imports::{ImportFault, import};
 pub use laws::{
     files_counted, records_of_bytes, seen_again, sent_again_at_once, stopped_and_sent_again,

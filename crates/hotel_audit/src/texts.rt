@@ -44,15 +44,13 @@ pub fn answer_text(number: usize, answer: &LineAnswer) -> AnswerText
     let mut text = AnswerText::new();
     text.push_number::<20>(number as u128);
     text.push(b" ");
-    match answer {
-        LineAnswer::Taken => push_reply(&mut text, &Reply::Taken),
-        LineAnswer::Seen => push_reply(&mut text, &Reply::Seen),
-        LineAnswer::Unread(cause) => {
+    match answer.reply() {
+        Ok(reply) => push_reply(&mut text, &reply),
+        Err(cause) => {
             text.push(b"unread ");
-            text.push(cause_name(*cause));
+            text.push(cause_name(cause));
             text.push(b"\n");
         }
-        LineAnswer::Refused(refusal) => push_reply(&mut text, &Reply::Refused(*refusal)),
     }
     text
 }

@@ -14,7 +14,7 @@ use Rattle.httparse.specs.declared.spans.RequestSpans.{RequestSpans}
 use Rattle.hotel_lists.specs.Bytes.{ReadsOnto}
 use Rattle.hotel_http.specs.declared.head.Judged.{Judged}
 use Rattle.hotel_http.specs.Head.{BeginsWith, HasNoHead, IsCut, IsMalformed, IsTooLong, HasTooManyFields, IsJudged}
-use Rattle.hotel_http.specs.Head.{most_bytes, most_fields}
+use Rattle.hotel_http.specs.declared.head.TheConstants.{HEAD_BYTES, HEAD_FIELDS}
 
 -- A head stays one where more follows.
 reads_longer : (front more : List ℕ) (h : RequestHead) (rest : List ℕ) → ReadsRequest front h rest → ReadsRequest (front ++ more) h (rest ++ more)
@@ -27,7 +27,7 @@ exceeds_longer : (room : ℕ) (front more : List ℕ) → RequestExceeds room fr
 exceeds_longer room front more (lines, rest, e, h, reads, over) =
     (lines, rest ++ more, ap (λ l. l ++ more) e ∙ append_assoc lines rest more, h, reads, over)
 
-no_head_where_overflows : (front more : List ℕ) → RequestOverflows most_fields front → HasNoHead (front ++ more)
+no_head_where_overflows : (front more : List ℕ) → RequestOverflows HEAD_FIELDS front → HasNoHead (front ++ more)
 no_head_where_overflows front more over h rest begins =
     let many = over more h rest begins.reads in
     let few = begins.few in
@@ -43,12 +43,12 @@ along P n bytes more p = subst P (sym (joins n bytes more)) p
 pub malformed : (n : ℕ) (bytes more : List ℕ) → NeverHasRequest (take n bytes) → IsMalformed (bytes ++ more)
 malformed n bytes more never = along NeverHasRequest n bytes more (never_longer _ (drop n bytes ++ more) never)
 
-pub too_many_fields : (n : ℕ) (bytes more : List ℕ) → RequestOverflows most_fields (take n bytes) → RequestExceeds most_fields (take n bytes)
+pub too_many_fields : (n : ℕ) (bytes more : List ℕ) → RequestOverflows HEAD_FIELDS (take n bytes) → RequestExceeds HEAD_FIELDS (take n bytes)
     → HasTooManyFields (bytes ++ more)
 too_many_fields n bytes more over exceeds =
-    (along (RequestExceeds most_fields) n bytes more (exceeds_longer _ _ _ exceeds), along HasNoHead n bytes more (no_head_where_overflows _ _ over))
+    (along (RequestExceeds HEAD_FIELDS) n bytes more (exceeds_longer _ _ _ exceeds), along HasNoHead n bytes more (no_head_where_overflows _ _ over))
 
-pub too_long : (n : ℕ) (bytes more : List ℕ) → n ≡ most_bytes → n < length bytes → HasNoRequest (take n bytes) → IsTooLong (bytes ++ more)
+pub too_long : (n : ℕ) (bytes more : List ℕ) → n ≡ HEAD_BYTES → n < length bytes → HasNoRequest (take n bytes) → IsTooLong (bytes ++ more)
 too_long n bytes more is long none =
     let same : take n (bytes ++ more) ≡ take n bytes = take-append-le n bytes more (omega arith) in
     let longer : n < length (bytes ++ more) = simp length-append (omega arith) in
@@ -57,13 +57,13 @@ too_long n bytes more is long none =
       none = subst (λ (k : ℕ). HasNoRequest (take k (bytes ++ more))) is (subst HasNoRequest (sym same) none);
     }
 
-pub cut : (n : ℕ) (bytes more : List ℕ) → n ≡ most_bytes → length bytes ≤ n → 0 < length bytes → more ≡ [] → HasNoRequest (take n bytes) → IsCut (bytes ++ more)
+pub cut : (n : ℕ) (bytes more : List ℕ) → n ≡ HEAD_BYTES → length bytes ≤ n → 0 < length bytes → more ≡ [] → HasNoRequest (take n bytes) → IsCut (bytes ++ more)
 cut n bytes more is short some end none =
     let all : bytes ≡ bytes ++ more = sym (ap (λ l. bytes ++ l) end ∙ append-nil bytes) in
     subst IsCut all (record { some = some; short = subst (λ (k : ℕ). length bytes ≤ k) is short; none = subst HasNoRequest (take_all n bytes short) none })
 
 -- A head that the first bytes have is the one that all begin with.
-pub begins : (n : ℕ) (bytes more : List ℕ) (headers : List HeaderSpan) (spans : RequestSpans) (h : RequestHead) → n ≡ most_bytes → length headers ≡ most_fields
+pub begins : (n : ℕ) (bytes more : List ℕ) (headers : List HeaderSpan) (spans : RequestSpans) (h : RequestHead) → n ≡ HEAD_BYTES → length headers ≡ HEAD_FIELDS
     → IsRequestWithin (take n bytes) headers spans → IsRequestAt (take n bytes) headers spans h → BeginsWith (bytes ++ more) h (drop spans.len (bytes ++ more))
 begins n bytes more headers spans h is room within at =
     let front = take n bytes in
@@ -76,10 +76,10 @@ begins n bytes more headers spans h is room within at =
     let covered : length (take spans.headers headers) ≡ length h.fields = sym (length-map (take spans.headers headers) _) ∙ ap length at.fields ∙ length-map h.fields _ in
     let written : length (take spans.headers headers) ≤ length headers = rw (length-take spans.headers headers) (omega arith) in
     let small : length (print_request h) ≤ n = subst (λ (k : ℕ). k ≤ n) at.len (omega arith) in
-    let few : length h.fields ≤ most_fields = subst (λ (k : ℕ). k ≤ most_fields) covered (subst (λ (k : ℕ). length (take spans.headers headers) ≤ k) room written) in
+    let few : length h.fields ≤ HEAD_FIELDS = subst (λ (k : ℕ). k ≤ HEAD_FIELDS) covered (subst (λ (k : ℕ). length (take spans.headers headers) ≤ k) room written) in
     record { reads = along (λ (l : List ℕ). ReadsRequest l h (drop spans.len l)) n bytes more there; short = subst (λ (k : ℕ). length (print_request h) ≤ k) is small; few = few }
 
-pub whole : (n : ℕ) (bytes more : List ℕ) (headers : List HeaderSpan) (spans : RequestSpans) → n ≡ most_bytes → length headers ≡ most_fields
+pub whole : (n : ℕ) (bytes more : List ℕ) (headers : List HeaderSpan) (spans : RequestSpans) → n ≡ HEAD_BYTES → length headers ≡ HEAD_FIELDS
     → IsRequestWithin (take n bytes) headers spans → IsRequestOf (take n bytes) headers spans
     → (h : RequestHead) × BeginsWith (bytes ++ more) h (drop spans.len (bytes ++ more)) × IsRequestAt (take n bytes) headers spans h
 whole n bytes more headers spans is room within (h, at) = (h, begins n bytes more headers spans h is room within at, at)

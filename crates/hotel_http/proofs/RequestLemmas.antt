@@ -9,7 +9,8 @@ use Rattle.httparse.specs.{declared.spans.HeaderSpan.HeaderSpan, declared.spans.
 use Rattle.hotel_http.specs.Reads.{ReadsWhile}
 use Rattle.hotel_http.proofs.ReadLemmas.{reads_while}
 use Rattle.hotel_http.specs.{Body.ReadsBody, Body.interim_where, Head.BeginsWith, Head.IsJudged, Head.WantsHead}
-use Rattle.hotel_http.specs.{Head.most_bytes, Head.most_fields, Plan.plan_in, Plan.path_of}
+use Rattle.hotel_http.specs.declared.head.TheConstants.{HEAD_BYTES, HEAD_FIELDS}
+use Rattle.hotel_http.specs.{Plan.plan_in, Plan.path_of}
 use Rattle.hotel_http.specs.Request.{Wanted, IsMeant, IsAsked, awaits, wanted_of, EndsBody, EndsHead, EndsRequest}
 use Rattle.hotel_http.specs.Request.{ReadsBehind, WantsBody, WantsMore}
 use Rattle.hotel_http.proofs.HeadLemmas.{begins}
@@ -124,7 +125,7 @@ then_behind head known mid new items len is taken read (inr (came, last, most, l
 )
 
 -- a whole head was read, and then what is behind it
-pub request_read : (known mid new : Option (List ℕ)) (n : ℕ) (items : List ℕ) (headers : List HeaderSpan) (spans : RequestSpans) → n ≡ most_bytes → length headers ≡ most_fields
+pub request_read : (known mid new : Option (List ℕ)) (n : ℕ) (items : List ℕ) (headers : List HeaderSpan) (spans : RequestSpans) → n ≡ HEAD_BYTES → length headers ≡ HEAD_FIELDS
     → IsRequestWithin (take n items) headers spans → IsRequestOf (take n items) headers spans → Consumes known mid items → ReadsWhile WantsHead known mid
     → ((head : RequestHead) → IsRequestAt (take n items) headers spans head → ReadsBehind head spans.len items mid new) → ReadsWhile WantsMore known new
 request_read known mid new n items headers spans is room within (head, at) taken read ends =

@@ -101,7 +101,8 @@ import_tells {I = I} {a = a} {b = b} file (Ok given) lines answers ends_after v 
     (subst (λ (l : List LineAnswer). replies_in l ≡ [] → I.is_clean a → I.is_clean b) ends_after.1 v.unasked) counted
 import_tells {I = I} {a = a} {b = b} file (Err (import.File why)) lines answers ends_after v same counted =
     record { counted = counted; began = λ k. absurd (false≢true k); ends = λ was. subst (λ x. I.is_clean x) (sym (same why refl)) was }
-import_tells file (Err (import.Stopped answered by taken)) lines answers ends_after v same counted = stopped _ taken answers ends_after.3 v.was_clean counted
+import_tells file (Err (import.Memory answered taken)) lines answers ends_after v same counted = stopped _ taken answers ends_after.3 v.was_clean counted
+import_tells file (Err (import.Store answered taken)) lines answers ends_after v same counted = stopped _ taken answers ends_after.3 v.was_clean counted
 
 -- an audit file is imported
 pub file_came : {S : Type 0} {I : IssuedOf S} {rows : S → Rows} {a b : S} (file : List ℕ) (import_end : Result (List LineAnswer) ImportFault) (old new : Option (List ℕ)) (end : Result Served Cut)

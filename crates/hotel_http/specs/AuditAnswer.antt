@@ -1,5 +1,6 @@
 -- The answer to an audit file.
 use Rattle.std.specs.Prelude.{ℕ, List, codes, None}
+use Rattle.keycard_rules.specs.declared.issued.LookFault.TheVariants as look
 use Rattle.hotel_audit.specs.{Answers.answers_text, Answers.stopped_text, declared.answer.LineAnswer.LineAnswer}
 use Rattle.hotel_audit.specs.{declared.imports.ImportFault.ImportFault}
 use Rattle.hotel_audit.specs.declared.audit_file.AuditFault.TheVariants as file
@@ -17,7 +18,8 @@ fault_status (fault.File file.TooLarge) = ContentTooLarge
 fault_status (fault.File file.NoHeader) = BadRequest
 fault_status (fault.File file.WrongHeader) = BadRequest
 fault_status (fault.File file.Memory) = Unavailable
-fault_status (fault.Stopped answered by taken) = Unavailable
+fault_status (fault.Memory answered taken) = Unavailable
+fault_status (fault.Store answered taken) = Unavailable
 
 -- its text
 abbrev pub fault_body : ImportFault → List ℕ
@@ -25,7 +27,8 @@ fault_body (fault.File file.TooLarge) = codes "too large\n"
 fault_body (fault.File file.NoHeader) = codes "no header\n"
 fault_body (fault.File file.WrongHeader) = codes "wrong header\n"
 fault_body (fault.File file.Memory) = codes "refused 29 Memory\n"
-fault_body (fault.Stopped answered by taken) = stopped_text answered by
+fault_body (fault.Memory answered taken) = stopped_text answered look.Memory
+fault_body (fault.Store answered taken) = stopped_text answered look.Store
 
 -- the answer to an audit file whose import has no answers
 abbrev pub fault_answer : ImportFault → List ℕ

@@ -8,6 +8,7 @@ use Rattle.std.specs.Str.Parse.{digits_value}
 use Rattle.hotel_http.specs.{declared.rejection.Rejection.Rejection, declared.fields.Named.Named}
 use Rattle.hotel_http.specs.declared.rejection.Rejection.TheVariants.{BadRequest, BodyTooLarge, NotImplemented}
 use Rattle.hotel_http.specs.declared.fields.Named.TheVariants.{Absent, Once, Often}
+use Rattle.hotel_audit.specs.declared.audit_file.TheConstants.{AUDIT_BYTES}
 
 -- a name and a value
 abbrev pub Pair : Type 0
@@ -37,9 +38,9 @@ is_host_wrong minor (host ∷ other ∷ hosts) = true
 abbrev pub is_number : List ℕ → Bool
 is_number text = nat_lt 0 (length text) && list_all is_ascii_digit text
 
--- the length, where a body may be so long
+-- the length, where a body may be so long: as an audit file
 abbrev pub within_limit : ℕ → Result ℕ Rejection
-within_limit length = if nat_lt 262144 length then Err BodyTooLarge else Ok length
+within_limit length = if nat_lt AUDIT_BYTES length then Err BodyTooLarge else Ok length
 
 -- the length that a value says
 abbrev pub length_said : List ℕ → Result ℕ Rejection

@@ -7,20 +7,13 @@ use Rattle.httparse.specs.{Spans.RequestExceeds, declared.spans.HeaderSpan.Heade
 use Rattle.hotel_http.specs.{declared.head.Judged.Judged, declared.head.Parsed.Parsed}
 use Rattle.hotel_http.specs.declared.head.Judged.TheVariants.{More, Closed, Whole, Malformed, TooLarge}
 use Rattle.hotel_http.specs.declared.head.Parsed.TheVariants as parsed
-
--- the most bytes of a head
-abbrev pub most_bytes : ℕ
-most_bytes = 16384
-
--- the most field lines of a head
-abbrev pub most_fields : ℕ
-most_fields = 64
+use Rattle.hotel_http.specs.declared.head.TheConstants.{HEAD_BYTES, HEAD_FIELDS}
 
 -- The input is this head, which is within both limits, and then the rest.
 pub record BeginsWith (input : List ℕ) (head : RequestHead) (rest : List ℕ) : Type 0 where
   pub reads : ReadsRequest input head rest
-  pub short : length (print_request head) ≤ most_bytes
-  pub few : length head.fields ≤ most_fields
+  pub short : length (print_request head) ≤ HEAD_BYTES
+  pub few : length head.fields ≤ HEAD_FIELDS
 
 -- It begins with no such head.
 abbrev pub HasNoHead : List ℕ → Type 0
@@ -29,7 +22,7 @@ HasNoHead input = (head : RequestHead) (rest : List ℕ) → ¬ (BeginsWith inpu
 -- The input ends inside a head, after its first byte.
 pub record IsCut (input : List ℕ) : Type 0 where
   pub some : 0 < length input
-  pub short : length input ≤ most_bytes
+  pub short : length input ≤ HEAD_BYTES
   pub none : HasNoRequest input
 
 -- No bytes that follow can make a head of it.
@@ -38,12 +31,12 @@ IsMalformed input = NeverHasRequest input
 
 -- The limit of bytes is passed before the head ends.
 pub record IsTooLong (input : List ℕ) : Type 0 where
-  pub long : most_bytes < length input
-  pub none : HasNoRequest (take most_bytes input)
+  pub long : HEAD_BYTES < length input
+  pub none : HasNoRequest (take HEAD_BYTES input)
 
 -- The limit of field lines is passed.
 abbrev pub HasTooManyFields : List ℕ → Type 0
-HasTooManyFields input = RequestExceeds most_fields input × HasNoHead input
+HasTooManyFields input = RequestExceeds HEAD_FIELDS input × HasNoHead input
 
 -- A head is malformed or cut.
 abbrev pub IsBad : List ℕ → Type 0
@@ -72,7 +65,7 @@ LiesWithin bytes headers TooLarge = Unit {0}
 
 -- These bytes are no head yet, and may become one.
 pub record IsUnended (bytes : List ℕ) : Type 0 where
-  pub short : length bytes ≤ most_bytes
+  pub short : length bytes ≤ HEAD_BYTES
   pub none : HasNoRequest bytes
   pub may : MayBecomeRequest bytes
 
@@ -92,5 +85,5 @@ IsOpen (Whole spans) = ⊥
 abbrev pub IsParsed : List ℕ → List HeaderSpan → Parsed → Type 0
 IsParsed bytes headers (parsed.Whole spans) = IsRequestWithin bytes headers spans × IsRequestOf bytes headers spans
 IsParsed bytes headers parsed.Part = HasNoRequest bytes × MayBecomeRequest bytes
-IsParsed bytes headers parsed.TooMany = RequestOverflows most_fields bytes × RequestExceeds most_fields bytes
+IsParsed bytes headers parsed.TooMany = RequestOverflows HEAD_FIELDS bytes × RequestExceeds HEAD_FIELDS bytes
 IsParsed bytes headers parsed.Bad = NeverHasRequest bytes

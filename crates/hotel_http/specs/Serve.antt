@@ -1,7 +1,7 @@
 -- What comes of a request: its answer, and the history of the books after it.
 use Rattle.std.specs.Prelude.{◌≡◌, ◌⊎◌, ℕ, Bool, true, false, not, List, [], ◌∷◌, ◌++◌, map, Option, Some, None, IfSome}
 use Rattle.std.specs.Prelude.{Result, Ok, Err}
-use Rattle.std.specs.Io.KnownBytes.{Appends}
+use Rattle.std.specs.{Io.KnownBytes.Appends, Option.unwrap_or}
 use Rattle.rand_core.specs.Stream.{Stream}
 use Rattle.hotel_model.specs.{declared.reply.Reply.Reply, declared.reply.Refusal.Refusal, History.History}
 use Rattle.hotel_core.specs.{Books.Failures.failure_in, Books.Happens.answered_by}
@@ -9,8 +9,7 @@ use Rattle.hotel_model.specs.declared.reply.Reply.TheVariants as reply
 use Rattle.hotel_model.specs.declared.reply.Refusal.TheVariants as refusal
 use Rattle.hotel_model.specs.Run.{Steps, Runs, is_failed}
 use Rattle.hotel_lists.specs.{Bytes.AppendsFront, declared.calls.WriteFailed.WriteFailed}
-use Rattle.hotel_lists.specs.{declared.fault.ListFault.ListFault}
-use Rattle.hotel_lists.specs.declared.fault.ListFault.TheVariants as list
+use Rattle.hotel_lists.specs.{Faults.told_refusal, declared.fault.ListFault.ListFault}
 use Rattle.hotel_lists.specs.Listings.{Listing, in_full}
 use Rattle.hotel_asks.specs.{declared.asks.Ask.Ask, Listings.listing_over}
 use Rattle.hotel_asks.specs.declared.asks.Ask.TheVariants as ask
@@ -63,7 +62,8 @@ listed (Some listing) = outcome (list_answer (in_full [] (Some listing))) Succes
 -- a line was taken before an import ended without answers
 abbrev pub taken_by : ImportFault → Bool
 taken_by (import.File why) = false
-taken_by (import.Stopped answered by taken) = taken
+taken_by (import.Memory answered taken) = taken
+taken_by (import.Store answered taken) = taken
 
 -- the books failed behind a line that was taken, or behind none
 abbrev pub stopped_behind : Bool → List Bool
@@ -73,7 +73,8 @@ stopped_behind false = false ∷ []
 -- how the books answered in an import that ended without answers
 abbrev pub stopped_by : ImportFault → List Bool
 stopped_by (import.File why) = []
-stopped_by (import.Stopped answered by taken) = stopped_behind taken
+stopped_by (import.Memory answered taken) = stopped_behind taken
+stopped_by (import.Store answered taken) = stopped_behind taken
 
 abbrev pub imported : Result (List LineAnswer) ImportFault → Outcome
 imported (Ok answers) = outcome (lines_answer answers) Success (has_taken answers) (map (λ reply. true) (replies_in answers))
@@ -148,10 +149,7 @@ IsListText None (Err _) = ⊥
 
 -- the refusal that a list's fault is answered by: a writer in memory fails for want of it
 abbrev pub list_refusal : ListFault → Refusal
-list_refusal list.NoRoom = refusal.NoRoom
-list_refusal list.Memory = refusal.Memory
-list_refusal list.Write = refusal.Memory
-list_refusal list.Store = refusal.Store
+list_refusal fault = unwrap_or (told_refusal fault) refusal.Memory
 
 -- the failures that the books counted of a list's text
 abbrev pub list_failures : Result (List ℕ) Refusal → List Refusal

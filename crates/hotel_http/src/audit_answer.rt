@@ -11,6 +11,7 @@ use crate::buffer::HeadText;
 use crate::status::Status;
 use hotel_audit::{AuditFault, ImportFault, LineAnswer, answer_text, stopped_text, write_answers};
 use hotel_lists::{IoCalls, WriteFailed, write_bytes};
+use keycard_rules::LookFault;
 use std::io::Write;
 
 /// The number of bytes of the texts of answers. No sum of them overflows a `u128`.
@@ -49,7 +50,7 @@ pub fn fault_status(why: &ImportFault) -> Status
         ImportFault::File(AuditFault::TooLarge) => Status::ContentTooLarge,
         ImportFault::File(AuditFault::NoHeader | AuditFault::WrongHeader) => Status::BadRequest,
         ImportFault::File(AuditFault::Memory) => Status::Unavailable,
-        ImportFault::Stopped { .. } => Status::Unavailable,
+        ImportFault::Memory { .. } | ImportFault::Store { .. } => Status::Unavailable,
     }
 }
 
@@ -63,8 +64,11 @@ fn fault_body(why: &ImportFault) -> HeadText
         ImportFault::File(AuditFault::NoHeader) => text.push(b"no header\n"),
         ImportFault::File(AuditFault::WrongHeader) => text.push(b"wrong header\n"),
         ImportFault::File(AuditFault::Memory) => text.push(b"refused 29 Memory\n"),
-        ImportFault::Stopped { answered, by, .. } => {
-            text.push(stopped_text(*answered, *by).as_bytes())
+        ImportFault::Memory { answered, .. } => {
+            text.push(stopped_text(*answered, LookFault::Memory).as_bytes())
+        }
+        ImportFault::Store { answered, .. } => {
+            text.push(stopped_text(*answered, LookFault::Store).as_bytes())
         }
     }
     text

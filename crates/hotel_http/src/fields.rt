@@ -7,10 +7,8 @@ ghost use Rattle.hotel_http.specs.Fields as spec;
 ghost use Rattle.hotel_http.specs.Fields.{Tells, values_named, length_said, framing, expects_continue};
 
 use crate::rejection::Rejection;
+use hotel_audit::AUDIT_BYTES;
 use httparse::spans::HeaderSpan;
-
-/// The most bytes of a body.
-pub const MOST_BYTES: usize = 262_144;
 
 /// How often a field stands, and its value where it stands once.
 #[derive(Clone, Copy, Debug)]
@@ -62,7 +60,7 @@ fn is_host_wrong(found: Named<'_>, minor: u8) -> bool
     }
 }
 
-/// The length that a value of Content-Length says.
+/// The length that a value of Content-Length says. A body is no longer than an audit file may be.
 fn read_length(text: &[u8]) -> Result<usize, Rejection>
     ensures { result ≡ length_said text.now }
 {
@@ -74,9 +72,9 @@ fn read_length(text: &[u8]) -> Result<usize, Rejection>
         if !digit.is_ascii_digit() {
             return Err(Rejection::BadRequest);
         }
-        number = (number * 10 + (*digit - b'0') as usize).min(MOST_BYTES + 1);
+        number = (number * 10 + (*digit - b'0') as usize).min(AUDIT_BYTES + 1);
     }
-    if number > MOST_BYTES {
+    if number > AUDIT_BYTES {
         return Err(Rejection::BodyTooLarge);
     }
     Ok(number)

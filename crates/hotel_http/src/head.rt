@@ -14,10 +14,10 @@ use httparse::{Error, Status};
 use std::io::Read;
 
 /// The most bytes of a head.
-const MOST_BYTES: usize = 16_384;
+pub const HEAD_BYTES: usize = 16_384;
 
 /// The most field lines of a head.
-pub const MOST_FIELDS: usize = 64;
+pub const HEAD_FIELDS: usize = 64;
 
 /// What is known of the head of an input.
 #[derive(Clone, Copy, Debug)]
@@ -34,14 +34,14 @@ pub enum Judged {
     TooLarge,
 }
 
-/// The bytes that may be those of a head: the first 16,384.
+/// The bytes that may be those of a head: the first `HEAD_BYTES`.
 pub fn head_part(bytes: &[u8]) -> &[u8]
-    ensures { result.now ≡ take 16384 bytes.now }
+    ensures { result.now ≡ take HEAD_BYTES bytes.now }
 {
-    if bytes.len() <= MOST_BYTES {
+    if bytes.len() <= HEAD_BYTES {
         bytes
     } else {
-        &bytes[..MOST_BYTES]
+        &bytes[..HEAD_BYTES]
     }
 }
 
@@ -54,7 +54,7 @@ enum Parsed {
 }
 
 fn parse(bytes: &[u8], headers: &mut [HeaderSpan]) -> Parsed
-    requires { length headers.old ≡ 64 }
+    requires { length headers.old ≡ HEAD_FIELDS }
     ensures { IsParsed bytes.now headers.new result }
 {
     match parse_request(bytes, headers) {
@@ -67,12 +67,12 @@ fn parse(bytes: &[u8], headers: &mut [HeaderSpan]) -> Parsed
 
 /// Judges a head that the parser answers is not whole.
 fn judge_part(bytes: &[u8], at_end: bool) -> Judged
-    ensures open { IsOpen result → (length bytes.now ≤ 16384) × (at_end ≢ true) }
-    ensures within { (headers : List HeaderSpan) → LiesWithin (take 16384 bytes.now) headers result }
-    ensures judged { (more : List ℕ) (headers : List HeaderSpan) → (at_end ≡ true → more ≡ []) → HasNoRequest (take 16384 bytes.now)
-        → IsJudged (bytes.now ++ more) (take 16384 bytes.now) headers result }
+    ensures open { IsOpen result → (length bytes.now ≤ HEAD_BYTES) × (at_end ≢ true) }
+    ensures within { (headers : List HeaderSpan) → LiesWithin (take HEAD_BYTES bytes.now) headers result }
+    ensures judged { (more : List ℕ) (headers : List HeaderSpan) → (at_end ≡ true → more ≡ []) → HasNoRequest (take HEAD_BYTES bytes.now)
+        → IsJudged (bytes.now ++ more) (take HEAD_BYTES bytes.now) headers result }
 {
-    if bytes.len() > MOST_BYTES {
+    if bytes.len() > HEAD_BYTES {
         Judged::TooLarge
     } else if !at_end {
         Judged::More
@@ -85,10 +85,10 @@ fn judge_part(bytes: &[u8], at_end: bool) -> Judged
 
 /// Judges the head by the bytes so far, which are all where the input is at its end.
 fn judge(bytes: &[u8], at_end: bool, headers: &mut [HeaderSpan]) -> Judged
-    requires { length headers.old ≡ 64 }
+    requires { length headers.old ≡ HEAD_FIELDS }
     ensures open { IsOpen result → IsUnended bytes.now × (at_end ≢ true) }
-    ensures within { LiesWithin (take 16384 bytes.now) headers.new result }
-    ensures judged { (more : List ℕ) → (at_end ≡ true → more ≡ []) → IsJudged (bytes.now ++ more) (take 16384 bytes.now) headers.new result }
+    ensures within { LiesWithin (take HEAD_BYTES bytes.now) headers.new result }
+    ensures judged { (more : List ℕ) → (at_end ≡ true → more ≡ []) → IsJudged (bytes.now ++ more) (take HEAD_BYTES bytes.now) headers.new result }
 {
     match parse(head_part(bytes), headers) {
         Parsed::Whole(spans) => Judged::Whole(spans),
@@ -105,12 +105,12 @@ pub fn read_head<R: Read>(
     headers: &mut [HeaderSpan],
     calls: &mut IoCalls,
 ) -> Result<Judged, ReadFault>
-    requires room { length headers.old ≡ 64 }
+    requires room { length headers.old ≡ HEAD_FIELDS }
     requires empty { bytes.old.items ≡ [] }
     ensures taken { OnOk result (Consumes (R.remaining reader.old) (R.remaining reader.new) bytes.new.items) }
     ensures wanted { ReadsWhile WantsHead (R.remaining reader.old) (R.remaining reader.new) }
-    ensures judged { IfOk result (λ judged. IfSome (R.remaining reader.old) (λ input. IsJudged input (take 16384 bytes.new.items) headers.new judged)) }
-    ensures within { IfOk result (LiesWithin (take 16384 bytes.new.items) headers.new) }
+    ensures judged { IfOk result (λ judged. IfSome (R.remaining reader.old) (λ input. IsJudged input (take HEAD_BYTES bytes.new.items) headers.new judged)) }
+    ensures within { IfOk result (LiesWithin (take HEAD_BYTES bytes.new.items) headers.new) }
     ensures done { IfOk result (λ judged. ¬ (IsOpen judged)) }
     ensures failed { IsErrOf result Read → calls.new.read_failed ≡ true }
     ensures calls { NoneForgotten calls.old calls.new }

@@ -9,10 +9,11 @@ ghost use Rattle.hotel_http.specs.Reads.{ReadsWhile};
 ghost use Rattle.hotel_http.specs.{Body.ReadsBody, Plan.plan_in, Request.request_fault_of, Request.IsMeant};
 ghost use Rattle.hotel_http.specs.{Request.EndsBody, Request.wanted_of, Request.EndsHead, Request.EndsRequest};
 ghost use Rattle.hotel_http.specs.Request.{ReadsBehind, WantsMore};
+ghost use Rattle.hotel_http.specs.declared.head.TheConstants.{HEAD_BYTES};
 ghost use Rattle.hotel_http.specs.declared.requests.RequestFault.TheVariants.{Write, Read, Memory};
 
 use crate::body::{read_body, write_interim};
-use crate::head::{Judged, MOST_FIELDS, head_part, read_head};
+use crate::head::{HEAD_FIELDS, Judged, head_part, read_head};
 use crate::plan::{Plan, make_plan, path_part};
 use crate::rejection::Rejection;
 use crate::routes::Routes;
@@ -147,10 +148,10 @@ fn read_behind_head<R: Read, W: Write>(
     spans: &RequestSpans,
     calls: &mut IoCalls,
 ) -> Result<Result<Request, Rejection>, RequestFault>
-    requires { IsRequestWithin (take 16384 bytes.now) headers.now spans.now }
-    ensures ends { (head : RequestHead) → IsRequestAt (take 16384 bytes.now) headers.now spans.now head
+    requires { IsRequestWithin (take HEAD_BYTES bytes.now) headers.now spans.now }
+    ensures ends { (head : RequestHead) → IsRequestAt (take HEAD_BYTES bytes.now) headers.now spans.now head
         → EndsHead head (λ left. drop spans.now.len (bytes.now ++ left)) (R.remaining reader.old) (W.contents writer.old) (W.contents writer.new) result }
-    ensures wanted { (head : RequestHead) → IsRequestAt (take 16384 bytes.now) headers.now spans.now head
+    ensures wanted { (head : RequestHead) → IsRequestAt (take HEAD_BYTES bytes.now) headers.now spans.now head
         → ReadsBehind head spans.now.len bytes.now (R.remaining reader.old) (R.remaining reader.new) }
     ensures read_failed { IsErrOf result Read → calls.new.read_failed ≡ true }
     ensures write_failed { IsErrOf result Write → calls.new.write_failed ≡ true }
@@ -183,7 +184,7 @@ pub fn read_request<R: Read, W: Write>(
     ensures calls { NoneForgotten calls.old calls.new }
 {
     let mut bytes = Vec::new(alloc);
-    let mut headers = [EMPTY_HEADER_SPAN; MOST_FIELDS];
+    let mut headers = [EMPTY_HEADER_SPAN; HEAD_FIELDS];
     match read_head(reader, &mut bytes, &mut headers, calls)? {
         Judged::More => unreachable!(),
         Judged::Closed => Err(RequestFault::Closed),

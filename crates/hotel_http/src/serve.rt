@@ -149,11 +149,7 @@ fn answer_command<W: Write, B: Walks, R: Rng>(
 fn list_refusal(fault: ListFault) -> Refusal
     ensures { result ≡ list_refusal fault }
 {
-    match fault {
-        ListFault::NoRoom => Refusal::NoRoom,
-        ListFault::Memory | ListFault::Write => Refusal::Memory,
-        ListFault::Store => Refusal::Store,
-    }
+    fault.told_refusal().unwrap_or(Refusal::Memory)
 }
 
 /// The text of a list, made whole in memory; or why it is refused.
@@ -200,7 +196,7 @@ fn taken_by(why: &ImportFault) -> bool
 {
     match why {
         ImportFault::File(_) => false,
-        ImportFault::Stopped { taken, .. } => *taken,
+        ImportFault::Memory { taken, .. } | ImportFault::Store { taken, .. } => *taken,
     }
 }
 

@@ -1,8 +1,9 @@
 //! Why a list was not written whole.
 ghost use Rattle.std.specs.Prelude.{◌≡◌};
-ghost use Rattle.hotel_lists.specs.declared.fault.ListFault.TheVariants.{Write};
+ghost use Rattle.hotel_lists.specs.{Faults.told_refusal, declared.fault.ListFault.TheVariants.Write};
 
 use crate::calls::WriteFailed;
+use hotel_core::Refusal;
 
 /// Why a list was not written whole.
 #[derive(Clone, Copy, PartialEq, Eq, Debug)]
@@ -15,6 +16,20 @@ pub enum ListFault {
     Store,
     /// A write failed, took no byte, or was the last interrupted one.
     Write,
+}
+
+impl ListFault {
+    /// The refusal that it is answered by. None where the writer itself failed.
+    pub fn told_refusal(self) -> Option<Refusal>
+        ensures { result ≡ told_refusal self }
+    {
+        match self {
+            ListFault::NoRoom => Some(Refusal::NoRoom),
+            ListFault::Memory => Some(Refusal::Memory),
+            ListFault::Store => Some(Refusal::Store),
+            ListFault::Write => None,
+        }
+    }
 }
 
 impl From<WriteFailed> for ListFault {

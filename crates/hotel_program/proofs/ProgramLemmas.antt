@@ -13,6 +13,7 @@ use Rattle.hotel_model.specs.History.{History, start}
 use Rattle.hotel_model.specs.Leads.{Leads}
 use Rattle.hotel_model.specs.Sound.{IsSound}
 use Rattle.hotel_model.proofs.Starts.StartRows.{rows_of_start}
+use Rattle.hotel_program.specs.declared.script.TheConstants.{SCRIPT_LIMIT}
 use Rattle.hotel_program.specs.declared.script.ScriptEnd.{ScriptEnd}
 use Rattle.hotel_program.specs.declared.script.ScriptFault.{ScriptFault}
 use Rattle.hotel_program.specs.declared.script.ScriptFault.TheVariants.{Read, TooLarge, Memory, Write}
@@ -39,7 +40,7 @@ pub script_ends : {W B S : Type 0} (I : IssuedOf B) (rows : B → Rows) (content
     → IfCut end (λ done. (script : List ℕ) × IsInput known script × (1 ≤ done) × (done ≤ length (answered_lines script))
     × HappensBy I rows books (ScriptCut (take done (answered_lines script)) s s' (contents old) (contents new)) books')
     → IfUnbegun end (NothingBegun books books' source source' old new)
-    → (IsErrOf end TooLarge → IfSome known (λ input. 1048576 < length input))
+    → (IsErrOf end TooLarge → IfSome known (λ input. SCRIPT_LIMIT < length input))
     → EndsOverNewDesk contents known old new end
 script_ends I rows contents known old new books books' source source' s s' n m (Ok end) clean at_rows at_zero counts counts' at_source sound ok cut unbegun large =
     (ok.0, ok.1, ok.2, new_desk (λ s s'. ScriptAnswered (answered_lines ok.0) s s' (contents old) (contents new)) s s' n m clean at_rows at_zero counts counts' at_source sound ok.3)

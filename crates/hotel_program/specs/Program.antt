@@ -16,6 +16,7 @@ use Rattle.hotel_model.specs.History.{History, start}
 use Rattle.hotel_model.specs.Headline.{Assured}
 use Rattle.hotel_program.specs.declared.faults.Fault.{Fault}
 use Rattle.hotel_program.specs.declared.faults.Fault.TheVariants as fault
+use Rattle.hotel_program.specs.declared.script.TheConstants.{SCRIPT_LIMIT}
 use Rattle.hotel_program.specs.declared.script.ScriptEnd.{ScriptEnd}
 use Rattle.hotel_program.specs.declared.script.ScriptFault.{ScriptFault}
 use Rattle.hotel_program.specs.declared.script.ScriptFault.TheVariants.{Read, TooLarge, Memory, Write}
@@ -58,7 +59,7 @@ EndsOverNewDesk contents known old new (Ok end) = (script : List ℕ) × IsInput
     × OverNewDesk (λ s s'. ScriptAnswered (answered_lines script) s s' (contents old) (contents new))
 EndsOverNewDesk contents known old new (Err (Write done)) = (script : List ℕ) × IsInput known script × (1 ≤ done) × (done ≤ length (answered_lines script))
     × OverNewDesk (λ s s'. ScriptCut (take done (answered_lines script)) s s' (contents old) (contents new))
-EndsOverNewDesk contents known old new (Err TooLarge) = IfSome known (λ input. 1048576 < length input) × (new ≡ old)
+EndsOverNewDesk contents known old new (Err TooLarge) = IfSome known (λ input. SCRIPT_LIMIT < length input) × (new ≡ old)
 EndsOverNewDesk contents known old new (Err _) = new ≡ old
 
 -- The exit status of a script that ended so, or the fault that is told.

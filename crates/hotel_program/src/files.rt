@@ -7,15 +7,13 @@ ghost use Rattle.hotel_program.specs.Files.{IsFront, read_fault};
 ghost use Rattle.hotel_program.specs.declared.faults.Fault.TheVariants.{Seed};
 
 use crate::faults::Fault;
+use hotel_audit::AUDIT_BYTES;
 use hotel_lists::{IoCalls, ReadFault, read_more};
 use std::alloc::Global;
 use std::io::Read;
 
 /// How many bytes a seed has.
 pub const SEED_BYTES: usize = 32;
-
-/// The most bytes that an audit file may have. It is read until more came, so that it is known to have too many.
-pub const AUDIT_BYTES: usize = 262_144;
 
 /// Reads all the bytes that the reader has; or, where it has more than `most`, more than `most` of them.
 fn read_front<R: Read>(alloc: Global, reader: &mut R, most: usize) -> Result<Vec<u8>, ReadFault>
@@ -61,11 +59,11 @@ pub fn seed_in<R: Read>(alloc: Global, reader: &mut R) -> Result<[u8; SEED_BYTES
 }
 
 /// The bytes of an audit file: all that the reader has; or, where it has more than such a file may have, more than
-/// that.
+/// that, so that it is known to have too many.
 pub fn audit_file_in<R: Read>(alloc: Global, reader: &mut R) -> Result<Vec<u8>, Fault>
-    ensures bytes { IfOk result (λ bytes. IfSome (R.remaining reader.old) (IsFront 262144 bytes.items)) }
-    ensures few { IfOk result (λ bytes. length bytes.items ≤ 266240) }
-    ensures wanted { ReadsWhile (λ came. length came ≤ 262144) (R.remaining reader.old) (R.remaining reader.new) }
+    ensures bytes { IfOk result (λ bytes. IfSome (R.remaining reader.old) (IsFront AUDIT_BYTES bytes.items)) }
+    ensures few { IfOk result (λ bytes. length bytes.items ≤ AUDIT_BYTES + 4096) }
+    ensures wanted { ReadsWhile (λ came. length came ≤ AUDIT_BYTES) (R.remaining reader.old) (R.remaining reader.new) }
     ensures fault { IfErr result IsOfFiles }
 {
     match read_front(alloc, reader, AUDIT_BYTES) {

@@ -24,9 +24,7 @@ fn lines_answered<A: Abort>(
             assert!(rt; why == AuditFault::Memory);
             0
         }
-        Err(ImportFault::Stopped {
-            answered, taken, ..
-        }) => {
+        Err(ImportFault::Memory { answered, taken } | ImportFault::Store { answered, taken }) => {
             assert!(rt; sent.stops_behind(answered, taken));
             answered
         }
@@ -53,7 +51,8 @@ fn counts_of(ended: Option<LookFault>) -> (u64, u64) {
 /// By which cause the import ended, where a call of the books failed.
 fn cause_of(end: &Result<Vec<LineAnswer>, ImportFault>) -> Option<LookFault> {
     match end {
-        Err(ImportFault::Stopped { by, .. }) => Some(*by),
+        Err(ImportFault::Memory { .. }) => Some(LookFault::Memory),
+        Err(ImportFault::Store { .. }) => Some(LookFault::Store),
         _ => None,
     }
 }

@@ -18,12 +18,12 @@ use Rattle.hotel_core.specs.Texts.{reply_text}
 use Rattle.hotel_core.specs.Books.Failures.{AreCounted}
 use Rattle.hotel_core.proofs.OfCode.FailuresCounted.{none_counted, one_counted}
 use Rattle.keycard_rules.specs.declared.issued.Issued.{Ghosts as IssuedOf}
-use Rattle.hotel_lists.specs.Bytes.{AppendsFront}
+use Rattle.hotel_lists.specs.{Bytes.AppendsFront, Faults.told_refusal}
 use Rattle.hotel_lists.specs.Lines.{LooksAt, Vouches}
 use Rattle.hotel_lists.specs.declared.fault.ListFault.{ListFault}
 use Rattle.hotel_lists.specs.declared.fault.ListFault.TheVariants as fault
 use Rattle.hotel_lists.specs.Listings.{Listing, ListEnds}
-use Rattle.hotel_program.specs.Script.ListAnswers.{refusal_text, told_refusal, failure_of, ends_by, tells_failure}
+use Rattle.hotel_program.specs.Script.ListAnswers.{refusal_text, failure_of, ends_by, tells_failure}
 use Rattle.hotel_program.specs.Script.ListAnswers.{AnswersList, ListAnswered}
 use Rattle.hotel_program.proofs.OfScript.ScriptLemmas.{appends_front}
 

@@ -3,6 +3,7 @@ use Rattle.std.specs.Prelude.{◌≡◌, ℕ, Bool, true, false, List, [], ◌�
 use Rattle.std.specs.Io.KnownBytes.{Appends}
 use Rattle.keycard_rules.specs.declared.issued.Issued.{Ghosts as IssuedOf}
 use Rattle.keycard_rules.specs.Rise.{NoFewer}
+use Rattle.keycard_rules.specs.declared.issued.LookFault.TheVariants as look
 use Rattle.hotel_model.specs.Rows.{Rows}
 use Rattle.hotel_core.specs.Books.Failures.{AreCounted}
 use Rattle.hotel_lists.specs.Bytes.{AppendsFront}
@@ -14,7 +15,7 @@ use Rattle.hotel_audit.specs.declared.answer.LineAnswer.TheVariants.{Taken, Seen
 use Rattle.hotel_audit.specs.declared.audit_file.AuditFault.{AuditFault}
 use Rattle.hotel_audit.specs.declared.audit_file.AuditFault.TheVariants as file
 use Rattle.hotel_audit.specs.declared.imports.ImportFault.{ImportFault}
-use Rattle.hotel_audit.specs.declared.imports.ImportFault.TheVariants.{File, Stopped}
+use Rattle.hotel_audit.specs.declared.imports.ImportFault.TheVariants.{File, Memory, Store}
 use Rattle.hotel_program.specs.declared.faults.Fault.{Fault}
 use Rattle.hotel_program.specs.declared.faults.Fault.TheVariants as fault
 
@@ -36,7 +37,8 @@ file_fault file.Memory = fault.Memory
 -- The fault of an import that has no answers.
 abbrev pub import_fault : ImportFault → Fault
 import_fault (File why) = file_fault why
-import_fault (Stopped answered by taken) = fault.Stopped answered by
+import_fault (Memory answered taken) = fault.Stopped answered look.Memory
+import_fault (Store answered taken) = fault.Stopped answered look.Store
 
 -- The exit status of an import with these answers or this fault, or the fault that is told: also where a write of its
 -- answers failed.

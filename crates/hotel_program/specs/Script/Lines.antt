@@ -1,6 +1,7 @@
 -- The lines of a script.
 use Rattle.std.specs.Prelude.{ℕ, ◌==◌, ◌&&◌, Bool, true, not, List, [], ◌∷◌, length, map, filter, if◌then◌else◌, nat_le}
 use Rattle.std.specs.Str.{is_utf8}
+use Rattle.hotel_program.specs.declared.script.lines.TheConstants.{LINE_LIMIT}
 use Rattle.hotel_program.specs.Script.Words.{trimmed_start, with_first}
 
 -- The lines of a script, without the line feeds at their ends. The last one may have none.
@@ -25,6 +26,6 @@ is_silent line = is_comment (trimmed_start line) where
 abbrev pub answered_lines : List ℕ → List (List ℕ)
 answered_lines script = filter (λ line. not (is_silent line)) (map without_return (lines script))
 
--- A line that is read: one of at most 1,024 bytes, and UTF-8.
+-- A line that is read: one that is not too long, and UTF-8.
 abbrev pub is_readable : List ℕ → Bool
-is_readable line = nat_le (length line) 1024 && is_utf8 line
+is_readable line = nat_le (length line) LINE_LIMIT && is_utf8 line

@@ -1,14 +1,11 @@
 -- The answer to a line that asks for a list.
-use Rattle.std.specs.Prelude.{◌≡◌, ◌⊎◌, ℕ, ◌-◌, Bool, true, ◌||◌, List, [], ◌++◌, length, drop, bytes_eq, Option, Some}
-use Rattle.std.specs.Prelude.{None}
+use Rattle.std.specs.Prelude.{◌≡◌, ◌⊎◌, ℕ, ◌-◌, Bool, true, ◌||◌, List, [], ◌++◌, length, drop, bytes_eq, Option}
 use Rattle.hotel_model.specs.declared.reply.Reply.TheVariants.{Refused}
 use Rattle.hotel_model.specs.declared.reply.Refusal.{Refusal}
 use Rattle.hotel_model.specs.declared.reply.Refusal.TheVariants as refusal
 use Rattle.hotel_model.specs.Run.{is_failed}
 use Rattle.hotel_program.specs.Script.Copies.{counted_in}
 use Rattle.hotel_core.specs.Texts.{reply_text}
-use Rattle.hotel_lists.specs.declared.fault.ListFault.{ListFault}
-use Rattle.hotel_lists.specs.declared.fault.ListFault.TheVariants as fault
 use Rattle.hotel_lists.specs.Listings.{Listing, IsFront, in_full}
 
 -- The line of a refusal.
@@ -40,10 +37,3 @@ tells_failure text = ends_by (refusal_text refusal.Memory) text || ends_by (refu
 -- Such an answer was written so, and its failures were counted so.
 abbrev pub ListAnswered : Option Listing → (List ℕ → Type 0) → (List Refusal → Type 0) → Type 0
 ListAnswered listing written counted = (text : List ℕ) × (failed : List Refusal) × AnswersList listing text failed × written text × counted failed
-
--- The refusal that a list's fault is answered by; none where the writer itself failed.
-abbrev pub told_refusal : ListFault → Option Refusal
-told_refusal fault.NoRoom = Some refusal.NoRoom
-told_refusal fault.Memory = Some refusal.Memory
-told_refusal fault.Store = Some refusal.Store
-told_refusal fault.Write = None

@@ -13,6 +13,7 @@ use crate::statuses::{DONE, REFUSED};
 use hotel_audit::{AuditFault, ImportFault, LineAnswer, import, write_answers};
 use hotel_core::Books;
 use hotel_lists::{IoCalls, WriteFailed};
+use keycard_rules::LookFault;
 use std::alloc::Global;
 use std::io::Write;
 
@@ -49,7 +50,14 @@ fn import_fault(fault: ImportFault) -> Fault
 {
     match fault {
         ImportFault::File(why) => file_fault(why),
-        ImportFault::Stopped { answered, by, .. } => Fault::Stopped { answered, by },
+        ImportFault::Memory { answered, .. } => Fault::Stopped {
+            answered,
+            by: LookFault::Memory,
+        },
+        ImportFault::Store { answered, .. } => Fault::Stopped {
+            answered,
+            by: LookFault::Store,
+        },
     }
 }
 

@@ -5,25 +5,13 @@ ghost use Rattle.rand_core.specs.Stream.{Stream};
 ghost use Rattle.hotel_core.specs.Books.Happens.{HappensBy};
 ghost use Rattle.hotel_asks.specs.declared.asks.Ask.TheVariants as ask;
 ghost use Rattle.hotel_lists.specs.Calls.{NoneForgotten};
-ghost use Rattle.hotel_program.specs.Script.{LineAnswers.AskEnds, ListAnswers.told_refusal};
+ghost use Rattle.hotel_program.specs.Script.{LineAnswers.AskEnds};
 
 use hotel_asks::{ListAsk, write_list};
-use hotel_core::{Refusal, Reply, Walks, reply_text};
-use hotel_lists::{IoCalls, ListFault, WriteFailed, write_bytes};
+use hotel_core::{Reply, Walks, reply_text};
+use hotel_lists::{IoCalls, WriteFailed, write_bytes};
 use std::alloc::Global;
 use std::io::Write;
-
-/// The refusal that a list's fault is answered by. None where the writer itself failed.
-fn told_refusal(fault: ListFault) -> Option<Refusal>
-    ensures { result ≡ told_refusal fault }
-{
-    match fault {
-        ListFault::NoRoom => Some(Refusal::NoRoom),
-        ListFault::Memory => Some(Refusal::Memory),
-        ListFault::Store => Some(Refusal::Store),
-        ListFault::Write => None,
-    }
-}
 
 /// Writes the answer to a list: its text; or, where the room isn't there, the line that says so; or,
 /// where memory or the store failed, whole rows of it and then the line that says so. The writes of the
@@ -42,7 +30,7 @@ pub fn answer_list<W: Write, B: Walks>(
     let Err(fault) = write_list(alloc, list, writer, books, calls) else {
         return Ok(());
     };
-    let Some(refusal) = told_refusal(fault) else {
+    let Some(refusal) = fault.told_refusal() else {
         return Err(WriteFailed);
     };
     let text = reply_text(&Reply::Refused(refusal));

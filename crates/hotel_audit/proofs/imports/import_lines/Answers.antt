@@ -1,13 +1,14 @@
-use Rattle.std.proofs.Common.{◌≡◌, ◌∙◌, ◌+◌, subst, Ok, Err, List, [], ◌∷◌, ◌++◌, length, take, arith, sym, refl, ap, inl}
-use Rattle.hotel_core.proofs.{Names.AreCounted, Names.take_more, OfCode.FailuresCounted.counted_after}
+use Rattle.std.proofs.Common.{ℕ, Bool, ◌≡◌, ◌∙◌, ◌+◌, subst, Ok, Err, List, [], ◌∷◌, ◌++◌, length, take, arith, sym, refl, ap, inl}
+use Rattle.hotel_core.proofs.{Names.Refusal, Names.AreCounted, Names.take_more, OfCode.FailuresCounted.counted_after}
 use Rattle.std.proofs.lemmas.List.{take_all}
 use Rattle.hotel_audit.specs.{declared.answer.LineAnswer.LineAnswer, declared.imports.ImportFault.ImportFault}
 use Rattle.hotel_audit.specs.{Import.AreAnswered, Import.Imports, Import.LineHappens, Import.LinesLeadOn}
-use Rattle.hotel_audit.specs.{Import.failures_of, Import.has_taken}
+use Rattle.hotel_audit.specs.{Import.failures_of, Import.has_taken, Import.stopped}
 use Rattle.std.specs.Prelude.{zip}
-use Rattle.hotel_core.specs.Books.Happens.{Passes}
+use Rattle.hotel_core.specs.{Books.Failures.refusal_of, Books.Happens.Passes}
 use Rattle.hotel_audit.specs.declared.audit_file.AuditFault.TheVariants as fault
-use Rattle.hotel_audit.specs.declared.imports.ImportFault.TheVariants.{Stopped}
+use Rattle.keycard_rules.specs.declared.issued.LookFault.{LookFault}
+use Rattle.keycard_rules.specs.declared.issued.LookFault.TheVariants as look
 use Rattle.hotel_audit.proofs.LineAnswers.{AreAnswered-append, lead-join, lead-none, passes_next}
 use Rattle.hotel_audit.proofs.LineAnswers.{unasked_both, vouched_next}
 use Rattle.hotel_audit.proofs.ImportEnds.{all_answered, answered_before, next_fails, none_begun}
@@ -42,7 +43,7 @@ returns-in-Err-clause-imported g c =
     let old = c.args.books.now in
     let new = c.answer_line.new.books in
     let more : take (i + 1) xs ≡ take i xs ++ c.line-item.result ∷ [] = take_more xs i c.line-item.result c.loop-line-test.true ∙ ap (λ x. take i xs ++ x ∷ []) (sym c.line-item.is) in
-    let why : c.stopped.result ≡ Stopped (length given) by (has_taken given) = c.stopped.ensures ∙ ap (λ (l : List LineAnswer). Stopped (length l) by (has_taken l)) c.as_slice.ensures.value in
+    let why : c.stopped.result ≡ stopped by (length given) (has_taken given) = c.stopped.ensures ∙ ap (λ (l : List LineAnswer). stopped by (length l) (has_taken l)) c.as_slice.ensures.value in
     subst (λ (fault : ImportFault). Imports g.B.Issued rows (Ok xs) old new (Err fault)) (sym why)
     (answered_before g.B.Issued rows old new (g.met.B.Issued.clean_honest _) c.loop-line.books xs i given by inv.each f.was_clean f.was_honest inv.was_clean f.unchanged inv.happened
     inv.vouched inv.through (next_fails g.B.Issued rows old new (g.met.B.Issued.clean_honest _) c.loop-line.books xs i c.line-item.result by more f.went))
@@ -58,10 +59,16 @@ returns-clause-imported g c =
     (λ honest. subst (λ lines. LinesLeadOn (is_clean c.args.books.now) (rows c.args.books.now) lines c.loop-line.answers.items (is_clean c.loop-line.books) (rows c.loop-line.books)) all (inv.happened honest)) inv.vouched inv.unasked
     (subst (λ lines. Passes (LineHappens g.B.Issued rows) c.args.books.now (zip lines c.loop-line.answers.items) c.loop-line.books) all inv.through)
 
+-- the failure of an import that was stopped
+failed_by_stop : (by : LookFault) (answered : ℕ) (taken : Bool) → failures_of (stopped by answered taken) ≡ refusal_of by ∷ []
+failed_by_stop look.Memory answered taken = refl
+failed_by_stop look.Store answered taken = refl
+
 pub returns-in-Err-clause-failed : goal.returns-in-Err-clause-failed
 returns-in-Err-clause-failed g c = λ clean.
     let failed = counted_after _ _ _ _ c.loop-line.invariant.counted (c.in-Err.ensures.failed clean) in
-    subst (λ (fault : ImportFault). AreCounted (g.B.Issued.failures c.args.books.now) (g.B.Issued.failures c.answer_line.new.books) (failures_of fault)) (sym c.stopped.ensures) failed
+    let why = ap failures_of c.stopped.ensures ∙ failed_by_stop c.in-Err.by _ _ in
+    subst (λ (by : List Refusal). AreCounted (g.B.Issued.failures c.args.books.now) (g.B.Issued.failures c.answer_line.new.books) by) (sym why) failed
 
 pub loop-line-preserved : goal.loop-line-preserved
 loop-line-preserved g c =
