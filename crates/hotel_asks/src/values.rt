@@ -34,7 +34,8 @@ pub enum ValueName {
 impl ValueName {
     /// The name as users read it: `ROOM`.
     pub fn text<'a>(self) -> &'a str
-        ensures { result.now ≡ name_text self }
+        ensures same { result.now ≡ name_text self }
+        ensures short { length result.now ≤ 6 }
     {
         match self {
             ValueName::Day => "DAY",

@@ -1,6 +1,6 @@
 //! Faults of the program and of its calls: what is said of each, where it is said, and its exit status.
 
-ghost use Rattle.std.specs.Prelude.{◌≡◌, ◌++◌, codes, true, OnOk, OnErr};
+ghost use Rattle.std.specs.Prelude.{◌≡◌, ◌≤◌, length, true, OnOk, OnErr};
 ghost use Rattle.std.specs.Io.KnownBytes.{Appends};
 ghost use Rattle.hotel_lists.specs.Calls.{NoneForgotten};
 ghost use Rattle.hotel_lists.specs.Bytes.{AppendsFront};
@@ -9,9 +9,9 @@ ghost use Rattle.hotel_program.specs.Faults.{table_text, fault_text, fault_statu
 use crate::statuses::{BROKEN, FAILED, USAGE};
 use hotel_asks::ValueName;
 use hotel_audit::stopped_text;
-use hotel_lists::{IoCalls, WriteFailed, write_bytes, write_parts};
+use hotel_lists::{IoCalls, WriteFailed, write_bytes};
 use hotel_rows::TableName;
-use keycard_rules::LookFault;
+use keycard_rules::{LookFault, ShortText};
 use std::io::Write;
 
 /// Why the program or a call of it didn't do its work to the end.
@@ -66,7 +66,8 @@ impl Fault {
 
 /// The name of a table, and the end of the line.
 fn table_text(table: TableName) -> &'static [u8]
-    ensures { result.now ≡ table_text table }
+    ensures same { result.now ≡ table_text table }
+    ensures short { length result.now ≤ 7 }
 {
     match table {
         TableName::Meta => b"meta\n",
@@ -81,64 +82,40 @@ fn table_text(table: TableName) -> &'static [u8]
     }
 }
 
-/// Writes a line of a text and a name.
-pub fn write_named<W: Write>(
-    writer: &mut W,
-    text: &[u8],
-    name: &[u8],
-    calls: &mut IoCalls,
-) -> Result<(), WriteFailed>
-    ensures ok { OnOk result (Appends (W.contents writer.old) (W.contents writer.new) (text.now ++ name.now ++ codes "\n")) }
-    ensures err { OnErr result (AppendsFront (W.contents writer.old) (W.contents writer.new) (text.now ++ name.now ++ codes "\n")) }
-    ensures failed { OnErr result (calls.new.write_failed ≡ true) }
-    ensures calls { NoneForgotten calls.old calls.new }
-{
-    let parts = [text, name, b"\n".as_slice()];
-    write_parts(writer, &parts, calls)
-}
+/// The line of a fault: at most 43 bytes, the line feed included.
+type FaultText = ShortText<43>;
 
-/// Writes the line of a value that is refused.
-fn write_unread<W: Write>(
-    writer: &mut W,
-    name: ValueName,
-    calls: &mut IoCalls,
-) -> Result<(), WriteFailed>
-    ensures ok { OnOk result (Appends (W.contents writer.old) (W.contents writer.new) (fault_text (Fault.Unread name))) }
-    ensures err { OnErr result (AppendsFront (W.contents writer.old) (W.contents writer.new) (fault_text (Fault.Unread name))) }
-    ensures failed { OnErr result (calls.new.write_failed ≡ true) }
-    ensures calls { NoneForgotten calls.old calls.new }
+/// The line of a fault.
+fn fault_text(fault: &Fault) -> FaultText
+    ensures { result ≡ fault_text fault.now }
 {
-    write_named(writer, b"unread ", name.text().as_bytes(), calls)
-}
-
-/// Writes the line of a table that is damaged.
-fn write_damaged<W: Write>(
-    writer: &mut W,
-    table: TableName,
-    calls: &mut IoCalls,
-) -> Result<(), WriteFailed>
-    ensures ok { OnOk result (Appends (W.contents writer.old) (W.contents writer.new) (fault_text (Fault.Damaged table))) }
-    ensures err { OnErr result (AppendsFront (W.contents writer.old) (W.contents writer.new) (fault_text (Fault.Damaged table))) }
-    ensures failed { OnErr result (calls.new.write_failed ≡ true) }
-    ensures calls { NoneForgotten calls.old calls.new }
-{
-    let parts = [b"damaged ".as_slice(), table_text(table)];
-    write_parts(writer, &parts, calls)
-}
-
-/// Writes the line of an import that was stopped.
-fn write_stopped<W: Write>(
-    writer: &mut W,
-    answered: usize,
-    by: LookFault,
-    calls: &mut IoCalls,
-) -> Result<(), WriteFailed>
-    ensures ok { OnOk result (Appends (W.contents writer.old) (W.contents writer.new) (fault_text (Fault.Stopped answered by))) }
-    ensures err { OnErr result (AppendsFront (W.contents writer.old) (W.contents writer.new) (fault_text (Fault.Stopped answered by))) }
-    ensures failed { OnErr result (calls.new.write_failed ≡ true) }
-    ensures calls { NoneForgotten calls.old calls.new }
-{
-    write_bytes(writer, stopped_text(answered, by).as_bytes(), calls)
+    let mut text = FaultText::new();
+    match fault {
+        Fault::Usage => text.push(b"usage\n"),
+        Fault::Unread(name) => {
+            text.push(b"unread ");
+            text.push(name.text().as_bytes());
+            text.push(b"\n");
+        }
+        Fault::Memory => text.push(b"memory\n"),
+        Fault::Store => text.push(b"store\n"),
+        Fault::Read => text.push(b"read\n"),
+        Fault::Write => text.push(b"write\n"),
+        Fault::TooLarge => text.push(b"too large\n"),
+        Fault::NoHeader => text.push(b"no header\n"),
+        Fault::WrongHeader => text.push(b"wrong header\n"),
+        Fault::Stopped { answered, by } => text.push(stopped_text(*answered, *by).as_bytes()),
+        Fault::NotADesk => text.push(b"not a desk\n"),
+        Fault::Damaged(table) => {
+            text.push(b"damaged ");
+            text.push(table_text(*table));
+        }
+        Fault::Seed => text.push(b"seed\n"),
+        Fault::File => text.push(b"file\n"),
+        Fault::Port => text.push(b"port\n"),
+        Fault::Closed => text.push(b"closed\n"),
+    }
+    text
 }
 
 /// Writes the line of a fault.
@@ -152,24 +129,7 @@ fn write_fault<W: Write>(
     ensures failed { OnErr result (calls.new.write_failed ≡ true) }
     ensures calls { NoneForgotten calls.old calls.new }
 {
-    match fault {
-        Fault::Usage => write_bytes(writer, b"usage\n", calls),
-        Fault::Unread(name) => write_unread(writer, *name, calls),
-        Fault::Memory => write_bytes(writer, b"memory\n", calls),
-        Fault::Store => write_bytes(writer, b"store\n", calls),
-        Fault::Read => write_bytes(writer, b"read\n", calls),
-        Fault::Write => write_bytes(writer, b"write\n", calls),
-        Fault::TooLarge => write_bytes(writer, b"too large\n", calls),
-        Fault::NoHeader => write_bytes(writer, b"no header\n", calls),
-        Fault::WrongHeader => write_bytes(writer, b"wrong header\n", calls),
-        Fault::Stopped { answered, by } => write_stopped(writer, *answered, *by, calls),
-        Fault::NotADesk => write_bytes(writer, b"not a desk\n", calls),
-        Fault::Damaged(table) => write_damaged(writer, *table, calls),
-        Fault::Seed => write_bytes(writer, b"seed\n", calls),
-        Fault::File => write_bytes(writer, b"file\n", calls),
-        Fault::Port => write_bytes(writer, b"port\n", calls),
-        Fault::Closed => write_bytes(writer, b"closed\n", calls),
-    }
+    write_bytes(writer, fault_text(fault).as_bytes(), calls)
 }
 
 /// Takes the faults that calls tell. Each writer is one.

@@ -1,19 +1,35 @@
 //! Connections on a port of the loopback address.
 
-ghost use Rattle.std.specs.Prelude.{◌≡◌, ◌≢◌, true, OnOk, OnErr};
+ghost use Rattle.std.specs.Prelude.{◌≡◌, ◌≢◌, ◌++◌, codes, true, OnOk, OnErr};
 ghost use Rattle.std.specs.Io.KnownBytes.{Appends};
 ghost use Rattle.hotel_lists.specs.Bytes.{AppendsFront};
 ghost use Rattle.hotel_lists.specs.Calls.{NoneForgotten};
 ghost use Rattle.hotel_program.specs.Acts.{ServeEnds, listening_text};
 
 use crate::connections::serve_connections;
-use crate::faults::{Fault, FaultSink, finish, write_named};
+use crate::faults::{Fault, FaultSink, finish};
 use crate::surroundings::Surroundings;
 use hotel_core::Walks;
-use hotel_lists::{IoCalls, WriteFailed};
+use hotel_lists::{IoCalls, WriteFailed, write_parts};
 use rand_core::Rng;
 use std::alloc::Global;
 use std::io::Write;
+
+/// Writes a line of a text and a name.
+fn write_named<W: Write>(
+    writer: &mut W,
+    text: &[u8],
+    name: &[u8],
+    calls: &mut IoCalls,
+) -> Result<(), WriteFailed>
+    ensures ok { OnOk result (Appends (W.contents writer.old) (W.contents writer.new) (text.now ++ name.now ++ codes "\n")) }
+    ensures err { OnErr result (AppendsFront (W.contents writer.old) (W.contents writer.new) (text.now ++ name.now ++ codes "\n")) }
+    ensures failed { OnErr result (calls.new.write_failed ≡ true) }
+    ensures calls { NoneForgotten calls.old calls.new }
+{
+    let parts = [text, name, b"\n".as_slice()];
+    write_parts(writer, &parts, calls)
+}
 
 /// Writes the line that says where connections are taken.
 fn write_listening<W: Write>(

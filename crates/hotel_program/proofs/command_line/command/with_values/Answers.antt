@@ -28,7 +28,7 @@ loop-value-preserved c =
     record {
       shape = c.in_ok-command.ensures.shape global ∙ ap (λ (a : App). with_rule a (rule_of c.required-arg.result)) c.loop-value.invariant.shape
           ∙ ap (λ (r : Rule). with_rule (record { top = leaf c.args.name.now (take c.loop-value.value-index c.args.values.now); subs = [] }) r) rule
-          ∙ ap (λ (t : Text). with_rule (record { top = leaf c.args.name.now (take c.loop-value.value-index c.args.values.now); subs = [] }) (record (new_rule t) { required = true })) c.text.ensures
+          ∙ ap (λ (t : Text). with_rule (record { top = leaf c.args.name.now (take c.loop-value.value-index c.args.values.now); subs = [] }) (record (new_rule t) { required = true })) c.text.ensures.same
           ∙ leaf-more c.args.name.now c.args.values.now c.loop-value.value-index _ (omega arith);
       globals = c.in_ok-command.ensures.globals ∙ ap₂ ◌||◌ c.loop-value.invariant.globals global;
     }
