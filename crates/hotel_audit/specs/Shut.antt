@@ -1,5 +1,5 @@
 -- What an import answers behind a failure that shut the books, where nobody else wrote what they are kept in.
-use Rattle.std.specs.Prelude.{◌×◌, List, ⊤, ⊥}
+use Rattle.std.specs.Prelude.{List, ⊤}
 use Rattle.std.specs.List.{AllByRecursion}
 use Rattle.keycard_rules.specs.declared.issued.Issued.{Ghosts as IssuedOf}
 use Rattle.hotel_model.specs.Rows.{Rows}
