@@ -42,8 +42,8 @@ pub fn files_counted()
     ensures of_runs { RunsTake }
 {}
 
-/// Behind a failure that shut the books no note is answered, where nobody else wrote what they are kept in: from the first
-/// state on that was not clean, each line that was answered is unread.
+/// Of an import (`imported`): from the first state on that was not clean, each line that was answered is unread, where
+/// nobody else wrote what the books are kept in. So none is a note.
 pub fn shut_import_answers_nothing<B: Books>()
     ensures { ImportsNothing B.Issued B.rows }
 {}

@@ -8,7 +8,7 @@ use Rattle.std.proofs.KnownBytes.{Appends-trans, Appends-nil}
 use Rattle.rand_core.specs.Stream.{Stream}
 use Rattle.keycard_rules.specs.declared.issued.Issued.{Ghosts as IssuedOf}
 use Rattle.hotel_core.proofs.OfCode.ShutBooks.{happens_shut, passes_before, passes_shut, tells_shut}
-use Rattle.hotel_core.specs.Books.Happens.{HappensBy, Passes, Tells, answered_by, has_answer}
+use Rattle.hotel_core.specs.Books.Happens.{answered_by, has_answer}
 use Rattle.hotel_core.specs.Books.Shut.{BeganShut}
 use Rattle.hotel_model.specs.{declared.reply.Refusal.Refusal, declared.reply.Reply.Reply, History.History, Rows.Rows}
 use Rattle.hotel_model.specs.declared.reply.Reply.TheVariants as reply
