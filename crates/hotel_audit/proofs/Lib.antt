@@ -3,6 +3,7 @@ mod Records
 mod NoteReplies
 mod ImportEnds
 mod LineAnswers
+mod ShutImports
 mod NotesKnown
 mod SentAgain
 mod NoteOutcomes

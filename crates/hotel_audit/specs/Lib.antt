@@ -5,6 +5,7 @@ pub mod AuditFile
 pub mod Readings
 pub mod Answers
 pub mod Import
+pub mod Shut
 pub mod SentAgain
 pub mod SentAtOnce
 pub mod FilesCounted

@@ -2,6 +2,9 @@
 ghost use Rattle.hotel_audit.specs.{FilesCounted.FilesCounted, FilesCounted.NotesCounted, FilesCounted.RunsTake};
 ghost use Rattle.hotel_audit.specs.{Readings.GivesFileRecords, Readings.HasOneReading};
 ghost use Rattle.hotel_audit.specs.{SentAgain.SeenAgain, SentAtOnce.SentAtOnce, SentAtOnce.StoppedAndSent};
+ghost use Rattle.hotel_audit.specs.Shut.{ImportsNothing};
+
+use hotel_core::Books;
 
 /// A reading of bytes as CSV gives the file's records, so that two readings of the same bytes are the same.
 pub fn records_of_bytes()
@@ -37,4 +40,10 @@ pub fn files_counted()
     ensures of_files { FilesCounted }
     ensures of_histories { NotesCounted }
     ensures of_runs { RunsTake }
+{}
+
+/// Of an import (`imported`): from the first state on that was not clean, each line that was answered is unread, where
+/// nobody else wrote what the books are kept in. So none is a note.
+pub fn shut_import_answers_nothing<B: Books>()
+    ensures { ImportsNothing B.Issued B.rows }
 {}

@@ -5,5 +5,6 @@ pub mod ProgramLemmas
 pub mod CommandLineLemmas
 pub mod PlanLemmas
 pub mod ConnectionsLemmas
+pub mod ShutLemmas
 pub mod FaultLemmas
 pub mod FileLemmas

@@ -5,7 +5,7 @@ use Rattle.std.specs.Fmt.{decimal}
 use Rattle.std.specs.Io.KnownBytes.{Appends}
 use Rattle.rand_core.specs.Stream.{Stream}
 use Rattle.keycard_rules.specs.declared.issued.Issued.{Ghosts as IssuedOf}
-use Rattle.hotel_core.specs.Books.Happens.{Happens, HappensBy, Passes}
+use Rattle.hotel_core.specs.Books.Happens.{Happens, Passes}
 use Rattle.hotel_model.specs.Rows.{Rows}
 use Rattle.hotel_model.specs.declared.command.Command.{Command}
 use Rattle.hotel_model.specs.declared.reply.Reply.{Reply}
@@ -21,8 +21,7 @@ use Rattle.hotel_program.specs.Faults.{end_status, Tells, TellsAll}
 use Rattle.hotel_program.specs.Script.Lines.{answered_lines}
 use Rattle.hotel_program.specs.Alone.ListRuns.{AnswerEndsFor, list_end}
 use Rattle.hotel_program.specs.Program.{script_end}
-use Rattle.hotel_program.specs.Script.WholeScript.{ScriptAnswered, ScriptCut, LinesPass, IsInput, IfCut, IfUnbegun}
-use Rattle.hotel_program.specs.Script.WholeScript.{NothingBegun}
+use Rattle.hotel_program.specs.Script.WholeScript.{LinesAnswered, LinesCut, IsInput, IfCut, IfUnbegun, NothingBegun}
 use Rattle.hotel_program.specs.Connections.{ConnectionEnd, ConnectionHappens, ServesAll, faults_of}
 use Rattle.hotel_program.specs.declared.command_line.plan.DeskAct.{DeskAct}
 use Rattle.hotel_program.specs.declared.command_line.plan.DeskAct.TheVariants.{One, List as AList, Audit, Script, Serve}
@@ -76,10 +75,9 @@ AuditEnds v bytes status old new = (outcome : Result (List LineAnswer) ImportFau
 -- What came of a script that ended so, of which these bytes are known.
 pub record ScriptCame {S R W F E : Type 0} (v : Views S R W F E) (known : Option (List ℕ)) (end : Result ScriptEnd ScriptFault) (old new : Desk S R W F E) : Type 0 where
   pub answered : IfOk end (λ script_end. (script : List ℕ) × IsInput known script × (script_end.lines ≡ length (answered_lines script))
-      × HappensBy v.issued v.rows old.books (ScriptAnswered (answered_lines script) (v.stream old.source) (v.stream new.source) (v.contents old.writer) (v.contents new.writer)) new.books)
+      × LinesAnswered v.issued v.rows v.stream v.contents (old.books, old.source, old.writer) (answered_lines script) (new.books, new.source, new.writer))
   pub cut : IfCut end (λ done. (script : List ℕ) × IsInput known script × (1 ≤ done) × (done ≤ length (answered_lines script))
-      × HappensBy v.issued v.rows old.books (ScriptCut (take done (answered_lines script)) (v.stream old.source) (v.stream new.source) (v.contents old.writer) (v.contents new.writer)) new.books)
-  pub through : LinesPass v.issued v.rows v.stream v.contents known end (old.books, old.source, old.writer) (new.books, new.source, new.writer)
+      × LinesCut v.issued v.rows v.stream v.contents (old.books, old.source, old.writer) (take done (answered_lines script)) (new.books, new.source, new.writer))
   pub unbegun : IfUnbegun end (NothingBegun old.books new.books old.source new.source old.writer new.writer)
   pub large : IsErrOf end TooLarge → IfSome known (λ input. 1048576 < length input)
 

@@ -6,6 +6,7 @@ pub mod Alone
 pub mod CommandLine
 pub mod Plans
 pub mod Connections
+pub mod Shut
 pub mod Files
 pub mod Acts
 pub mod Plan

@@ -1,12 +1,11 @@
 //! Scripts: lines of commands and lists, each answered before the next.
 
 ghost use Rattle.std.specs.Prelude.{◌≡◌, ℕ, true, List, ◌≤◌, ◌<◌, length, take, IfSome, IfOk, IsErrOf, OnOk, OnErr};
-ghost use Rattle.hotel_core.specs.Books.Happens.{HappensBy, Passes};
 ghost use Rattle.hotel_lists.specs.Calls.{NoneForgotten};
 ghost use Rattle.hotel_program.specs.declared.script.ScriptFault.TheVariants.{TooLarge};
 ghost use Rattle.hotel_program.specs.Script.Lines.{answered_lines};
 ghost use Rattle.hotel_program.specs.Script.WholeScript.{IfCut, IfUnbegun, IsInput, NothingBegun, fault_of};
-ghost use Rattle.hotel_program.specs.Script.WholeScript.{LineHappens, LinesCut, LinesPass, ScriptAnswered, ScriptCut};
+ghost use Rattle.hotel_program.specs.Script.WholeScript.{LinesAnswered, LinesCut};
 
 mod asks;
 mod line_answers;
@@ -74,16 +73,11 @@ fn answer_lines<W: Write, B: Walks, R: Rng>(
 ) -> Result<ScriptEnd, ScriptFault>
     requires { length script.now ≤ 1048576 }
     ensures count { IfOk result (λ script_end. script_end.lines ≡ length (answered_lines script.now)) }
-    ensures ok { OnOk result (HappensBy B.Issued B.rows books.old (ScriptAnswered (answered_lines script.now)
-        (R.stream source.old) (R.stream source.new) (W.contents writer.old) (W.contents writer.new)) books.new) }
-    ensures cut { IfCut result (λ done. (1 ≤ done) × (done ≤ length (answered_lines script.now))
-        × HappensBy B.Issued B.rows books.old (ScriptCut (take done (answered_lines script.now))
-        (R.stream source.old) (R.stream source.new) (W.contents writer.old) (W.contents writer.new)) books.new) }
-    ensures through { OnOk result (Passes (LineHappens B.Issued B.rows R.stream W.contents)
+    ensures ok { OnOk result (LinesAnswered B.Issued B.rows R.stream W.contents
         (books.old, source.old, writer.old) (answered_lines script.now) (books.new, source.new, writer.new)) }
-    ensures through_cut { IfCut result (λ done. LinesCut B.Issued B.rows R.stream W.contents
-        (books.old, source.old, writer.old) (take done (answered_lines script.now))
-        (books.new, source.new, writer.new)) }
+    ensures cut { IfCut result (λ done. (1 ≤ done) × (done ≤ length (answered_lines script.now))
+        × LinesCut B.Issued B.rows R.stream W.contents (books.old, source.old, writer.old)
+        (take done (answered_lines script.now)) (books.new, source.new, writer.new)) }
     ensures sure { IfUnbegun result ⊥ }
     ensures failed { OnErr result (calls.new.write_failed ≡ true) }
     ensures calls { NoneForgotten calls.old calls.new }
@@ -117,14 +111,12 @@ pub fn run_script<I: Read, W: Write, B: Walks, R: Rng>(
 ) -> Result<ScriptEnd, ScriptFault>
     ensures ok { IfOk result (λ script_end. (script : List ℕ) × IsInput (I.remaining reader.old) script
         × (script_end.lines ≡ length (answered_lines script))
-        × HappensBy B.Issued B.rows books.old (ScriptAnswered (answered_lines script)
-        (R.stream source.old) (R.stream source.new) (W.contents writer.old) (W.contents writer.new)) books.new) }
+        × LinesAnswered B.Issued B.rows R.stream W.contents (books.old, source.old, writer.old)
+        (answered_lines script) (books.new, source.new, writer.new)) }
     ensures cut { IfCut result (λ done. (script : List ℕ) × IsInput (I.remaining reader.old) script × (1 ≤ done)
         × (done ≤ length (answered_lines script))
-        × HappensBy B.Issued B.rows books.old (ScriptCut (take done (answered_lines script))
-        (R.stream source.old) (R.stream source.new) (W.contents writer.old) (W.contents writer.new)) books.new) }
-    ensures through { LinesPass B.Issued B.rows R.stream W.contents (I.remaining reader.old) result
-        (books.old, source.old, writer.old) (books.new, source.new, writer.new) }
+        × LinesCut B.Issued B.rows R.stream W.contents (books.old, source.old, writer.old)
+        (take done (answered_lines script)) (books.new, source.new, writer.new)) }
     ensures unbegun { IfUnbegun result (NothingBegun books.old books.new source.old source.new writer.old writer.new) }
     ensures large { IsErrOf result TooLarge → IfSome (I.remaining reader.old) (λ input. 1048576 < length input) }
 {

@@ -26,8 +26,8 @@ use Rattle.hotel_core.specs.Texts.{reply_text}
 use Rattle.hotel_lists.specs.{Bytes.AppendsFront, declared.calls.WriteFailed.WriteFailed}
 use Rattle.hotel_program.specs.Script.Lines.{lines, without_return, is_silent, answered_lines}
 use Rattle.hotel_program.specs.Script.LineAnswers.{AskEnds, AskGoes, LineGoes, Sure, answered_to}
-use Rattle.hotel_program.specs.Script.WholeScript.{ScriptGoes, ScriptAnswered, ScriptCut, LineHappens, LinesCut}
-use Rattle.hotel_program.specs.Script.WholeScript.{LinesPass, IsInput, IfCut, answers_to}
+use Rattle.hotel_program.specs.Script.WholeScript.{ScriptGoes, ScriptAnswered, ScriptCut, LineHappens, LinesAnswered}
+use Rattle.hotel_program.specs.Script.WholeScript.{LinesCut, PassesToCut, IfCut, answers_to}
 use Rattle.hotel_program.specs.declared.script.ScriptEnd.{ScriptEnd}
 use Rattle.hotel_program.specs.declared.script.ScriptFault.{ScriptFault}
 use Rattle.hotel_program.specs.declared.script.ScriptFault.TheVariants.{Read, TooLarge, Write}
@@ -127,7 +127,7 @@ went_next sure h mid h' s t u all done line later texts text failed more e first
     (script-push sure h mid h' s t u (take done all) texts line text failed more first next)
 
 -- one more line is answered
-pub answered_next : {S : Type 0} {I : IssuedOf S} {rows : S → Rows} {a b c : S} (s t u : Stream) (all : List (List ℕ)) (done : ℕ) (line : List ℕ) (later : List (List ℕ)) (old mid new : Option (List ℕ))
+answered_next : {S : Type 0} {I : IssuedOf S} {rows : S → Rows} {a b c : S} (s t u : Stream) (all : List (List ℕ)) (done : ℕ) (line : List ℕ) (later : List (List ℕ)) (old mid new : Option (List ℕ))
     → HappensBy I rows a (ScriptAnswered (take done all) s t old mid) b → drop done all ≡ line ∷ later → HappensBy I rows b (AskEnds (ask_in line) t u mid new (Ok tt)) c
     → HappensBy I rows a (ScriptAnswered (take (done + 1) all) s u old new) c
 answered_next s t u all done line later old mid new first e next =
@@ -142,7 +142,7 @@ answered_next s t u all done line later old mid new first e next =
     )) first next
 
 -- the next line is cut short
-pub cut_next : {S : Type 0} {I : IssuedOf S} {rows : S → Rows} {a b c : S} (s t u : Stream) (all : List (List ℕ)) (done : ℕ) (line : List ℕ) (later : List (List ℕ)) (old mid new : Option (List ℕ)) (failed : WriteFailed)
+cut_next : {S : Type 0} {I : IssuedOf S} {rows : S → Rows} {a b c : S} (s t u : Stream) (all : List (List ℕ)) (done : ℕ) (line : List ℕ) (later : List (List ℕ)) (old mid new : Option (List ℕ)) (failed : WriteFailed)
     → HappensBy I rows a (ScriptAnswered (take done all) s t old mid) b → drop done all ≡ line ∷ later → HappensBy I rows b (AskEnds (ask_in line) t u mid new (Err failed)) c
     → HappensBy I rows a (ScriptCut (take (done + 1) all) s u old new) c
 cut_next s t u all done line later old mid new failed first e next =
@@ -161,7 +161,7 @@ cut_next s t u all done line later old mid new failed first e next =
     )) first next
 
 -- no line is answered yet
-pub none_answered : {S : Type 0} (I : IssuedOf S) (rows : S → Rows) (a : S) (s : Stream) (known : Option (List ℕ)) → HappensBy I rows a (ScriptAnswered [] s s known known) a
+none_answered : {S : Type 0} (I : IssuedOf S) (rows : S → Rows) (a : S) (s : Stream) (known : Option (List ℕ)) → HappensBy I rows a (ScriptAnswered [] s s known known) a
 unfolding ScriptGoes answers_to
 none_answered I rows a s known = idle_by I rows a (ScriptAnswered [] s s known known) (λ kept told h none. ([], [], (refl, refl, refl), Appends-nil known, none))
 
@@ -176,7 +176,7 @@ one_cut : {S : Type 0} {I : IssuedOf S} {rows : S → Rows} {a b : S} (s t : Str
 one_cut {I = I} {rows = rows} {a = a} s t line old new failed = cut_next s s t (line ∷ []) 0 line [] old old new failed (none_answered I rows a s old) refl
 
 -- one more line is answered, in the state that those before it left
-pub passes_next : {S R W : Type 0} (I : IssuedOf S) (rows : S → Rows) (stream : R → Stream) (contents : W → Option (List ℕ)) (all : List (List ℕ)) (done : ℕ) (line : List ℕ) (later : List (List ℕ)) (old mid new : S × R × W)
+passes_next : {S R W : Type 0} (I : IssuedOf S) (rows : S → Rows) (stream : R → Stream) (contents : W → Option (List ℕ)) (all : List (List ℕ)) (done : ℕ) (line : List ℕ) (later : List (List ℕ)) (old mid new : S × R × W)
     → Passes (LineHappens I rows stream contents) old (take done all) mid → drop done all ≡ line ∷ later
     → HappensBy I rows mid.0 (AskEnds (ask_in line) (stream mid.1) (stream new.1) (contents mid.2) (contents new.2) (Ok tt)) new.0
     → Passes (LineHappens I rows stream contents) old (take (done + 1) all) new
@@ -185,12 +185,36 @@ passes_next I rows stream contents all done line later old mid new before e next
     (passes_push (LineHappens I rows stream contents) old (take done all) before (one_answered (stream mid.1) (stream new.1) line (contents mid.2) (contents new.2) next))
 
 -- the next line is cut short, in the state that those before it left
-pub passes_cut : {S R W : Type 0} (I : IssuedOf S) (rows : S → Rows) (stream : R → Stream) (contents : W → Option (List ℕ)) (all : List (List ℕ)) (done : ℕ) (line : List ℕ) (later : List (List ℕ)) (old mid new : S × R × W) (failed : WriteFailed)
+passes_cut : {S R W : Type 0} (I : IssuedOf S) (rows : S → Rows) (stream : R → Stream) (contents : W → Option (List ℕ)) (all : List (List ℕ)) (done : ℕ) (line : List ℕ) (later : List (List ℕ)) (old mid new : S × R × W) (failed : WriteFailed)
     → Passes (LineHappens I rows stream contents) old (take done all) mid → drop done all ≡ line ∷ later
     → HappensBy I rows mid.0 (AskEnds (ask_in line) (stream mid.1) (stream new.1) (contents mid.2) (contents new.2) (Err failed)) new.0
-    → LinesCut I rows stream contents old (take (done + 1) all) new
+    → PassesToCut I rows stream contents old (take (done + 1) all) new
 passes_cut I rows stream contents all done line later old mid new failed before e next =
     (take done all, line, (next_line all done line later e).2, mid, before, one_cut (stream mid.1) (stream new.1) line (contents mid.2) (contents new.2) failed next)
+
+-- no line is answered yet, in this state
+pub no_lines : {S R W : Type 0} (I : IssuedOf S) (rows : S → Rows) (stream : R → Stream) (contents : W → Option (List ℕ)) (old : S × R × W) → LinesAnswered I rows stream contents old [] old
+no_lines I rows stream contents old = record { went = none_answered I rows old.0 (stream old.1) (contents old.2); through = refl }
+
+-- lines were answered, and then one more
+pub lines_next : {S R W : Type 0} (I : IssuedOf S) (rows : S → Rows) (stream : R → Stream) (contents : W → Option (List ℕ)) (all : List (List ℕ)) (done : ℕ) (line : List ℕ) (later : List (List ℕ)) (old mid new : S × R × W)
+    → LinesAnswered I rows stream contents old (take done all) mid → drop done all ≡ line ∷ later
+    → HappensBy I rows mid.0 (AskEnds (ask_in line) (stream mid.1) (stream new.1) (contents mid.2) (contents new.2) (Ok tt)) new.0
+    → LinesAnswered I rows stream contents old (take (done + 1) all) new
+lines_next I rows stream contents all done line later old mid new before e next = record {
+  went = answered_next (stream old.1) (stream mid.1) (stream new.1) all done line later (contents old.2) (contents mid.2) (contents new.2) before.went e next;
+  through = passes_next I rows stream contents all done line later old mid new before.through e next;
+}
+
+-- lines were answered, and then one was cut short
+pub lines_cut : {S R W : Type 0} (I : IssuedOf S) (rows : S → Rows) (stream : R → Stream) (contents : W → Option (List ℕ)) (all : List (List ℕ)) (done : ℕ) (line : List ℕ) (later : List (List ℕ)) (old mid new : S × R × W) (failed : WriteFailed)
+    → LinesAnswered I rows stream contents old (take done all) mid → drop done all ≡ line ∷ later
+    → HappensBy I rows mid.0 (AskEnds (ask_in line) (stream mid.1) (stream new.1) (contents mid.2) (contents new.2) (Err failed)) new.0
+    → LinesCut I rows stream contents old (take (done + 1) all) new
+lines_cut I rows stream contents all done line later old mid new failed before e next = record {
+  went = cut_next (stream old.1) (stream mid.1) (stream new.1) all done line later (contents old.2) (contents mid.2) (contents new.2) failed before.went e next;
+  through = passes_cut I rows stream contents all done line later old mid new failed before.through e next;
+}
 
 -- bytes, and then a front of some more
 pub appends_front : (a b c : Option (List ℕ)) (output text : List ℕ) → AppendsFront b c text → Appends a b output → AppendsFront a c (output ++ text)
@@ -217,14 +241,3 @@ pub if_answered : {Led : Type 0} (r : Result ScriptEnd ScriptFault) (P Q : Scrip
     → ((end : ScriptEnd) → P end → Led → Q end) → IfOk r P → OnOk r Led → IfOk r Q
 if_answered (Ok end) P Q f p led = f end p led
 if_answered (Err fault) P Q f p led = tt
-
--- lines that passed so are those of the script that was read
-pub lines_pass : {S R W : Type 0} (I : IssuedOf S) (rows : S → Rows) (stream : R → Stream) (contents : W → Option (List ℕ)) (known : Option (List ℕ)) (script : List ℕ) (r : Result ScriptEnd ScriptFault) (old new : S × R × W)
-    → IsInput known script → IfOk r (λ end. end.lines ≡ length (answered_lines script)) → OnOk r (Passes (LineHappens I rows stream contents) old (answered_lines script) new)
-    → IfCut r (λ done. done ≤ length (answered_lines script)) → IfCut r (λ done. LinesCut I rows stream contents old (take done (answered_lines script)) new)
-    → LinesPass I rows stream contents known r old new
-lines_pass I rows stream contents known script (Ok end) old new input count went within cut = (script, input, count, went)
-lines_pass I rows stream contents known script (Err (Write done)) old new input count went within cut = (script, input, within, cut)
-lines_pass I rows stream contents known script (Err Read) old new input count went within cut = tt
-lines_pass I rows stream contents known script (Err TooLarge) old new input count went within cut = tt
-lines_pass I rows stream contents known script (Err no.Memory) old new input count went within cut = tt

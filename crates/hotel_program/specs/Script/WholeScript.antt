@@ -51,12 +51,23 @@ abbrev pub LineHappens : {S R W : Type 0} → IssuedOf S → (S → Rows) → (R
 LineHappens I rows stream contents old line new =
     HappensBy I rows old.0 (ScriptAnswered (line ∷ []) (stream old.1) (stream new.1) (contents old.2) (contents new.2)) new.0
 
--- Lines were cut short at the last one: those before it were answered, each in its turn, and then of the last one's
--- answer a front was written.
-abbrev pub LinesCut : {S R W : Type 0} → IssuedOf S → (S → Rows) → (R → Stream) → (W → Option (List ℕ)) → S × R × W → List (List ℕ) → S × R × W → Type 0
-LinesCut {S = S} {R = R} {W = W} I rows stream contents old lines new = (before : List (List ℕ)) × (last : List ℕ) × (lines ≡ before ++ last ∷ [])
+-- Lines were answered, by books, a source of words and a writer: they went over the books with their answers, and each
+-- was answered in the state that the one before it left.
+pub record LinesAnswered {S R W : Type 0} (I : IssuedOf S) (rows : S → Rows) (stream : R → Stream) (contents : W → Option (List ℕ)) (old : S × R × W) (lines : List (List ℕ)) (new : S × R × W) : Type 0 where
+  pub went : HappensBy I rows old.0 (ScriptAnswered lines (stream old.1) (stream new.1) (contents old.2) (contents new.2)) new.0
+  pub through : Passes (LineHappens I rows stream contents) old lines new
+
+-- Those before the last one were answered, each in its turn, and then of the last one's answer a front was written.
+abbrev pub PassesToCut : {S R W : Type 0} → IssuedOf S → (S → Rows) → (R → Stream) → (W → Option (List ℕ)) → S × R × W → List (List ℕ) → S × R × W → Type 0
+PassesToCut {S = S} {R = R} {W = W} I rows stream contents old lines new = (before : List (List ℕ)) × (last : List ℕ) × (lines ≡ before ++ last ∷ [])
     × (mid : S × R × W) × Passes (LineHappens I rows stream contents) old before mid
     × HappensBy I rows mid.0 (ScriptCut (last ∷ []) (stream mid.1) (stream new.1) (contents mid.2) (contents new.2)) new.0
+
+-- Lines were cut short at the last one: they went over the books with their answers, and each was carried out in the
+-- state that the one before it left.
+pub record LinesCut {S R W : Type 0} (I : IssuedOf S) (rows : S → Rows) (stream : R → Stream) (contents : W → Option (List ℕ)) (old : S × R × W) (lines : List (List ℕ)) (new : S × R × W) : Type 0 where
+  pub went : HappensBy I rows old.0 (ScriptCut lines (stream old.1) (stream new.1) (contents old.2) (contents new.2)) new.0
+  pub through : PassesToCut I rows stream contents old lines new
 
 -- The script is what the reader had, where its bytes are known, and at most 1,048,576 bytes.
 abbrev pub IsInput : Option (List ℕ) → List ℕ → Type 0
@@ -66,15 +77,6 @@ IsInput known script = (length script ≤ 1048576) × IfSome known (λ input. sc
 abbrev pub IfCut : Result ScriptEnd ScriptFault → (ℕ → Type 0) → Type 0
 IfCut (Err (Write done)) P = P done
 IfCut _ P = ⊤
-
--- The lines of a script that ended so were each answered in its turn; after a failed write, those that were carried
--- out, cut short at the last one.
-abbrev pub LinesPass : {S R W : Type 0} → IssuedOf S → (S → Rows) → (R → Stream) → (W → Option (List ℕ)) → Option (List ℕ) → Result ScriptEnd ScriptFault → S × R × W → S × R × W → Type 0
-LinesPass I rows stream contents known (Ok end) old new = (script : List ℕ) × IsInput known script × (end.lines ≡ length (answered_lines script))
-    × Passes (LineHappens I rows stream contents) old (answered_lines script) new
-LinesPass I rows stream contents known (Err (Write done)) old new = (script : List ℕ) × IsInput known script × (done ≤ length (answered_lines script))
-    × LinesCut I rows stream contents old (take done (answered_lines script)) new
-LinesPass I rows stream contents known (Err fault) old new = ⊤
 
 -- Where the script was not read whole, and so no line was begun, this holds.
 abbrev pub IfUnbegun : Result ScriptEnd ScriptFault → Type 0 → Type 0

@@ -1,9 +1,8 @@
 -- the lines that are done were answered, each in the state that the one before it left, and the others are left
 use Rattle.std.proofs.Common.{◌≡◌, ◌+◌, ◌≤◌, length, take, drop}
-use Rattle.hotel_core.specs.Books.Happens.{HappensBy, Passes}
 use Rattle.hotel_lists.specs.Calls.{NoneForgotten}
 use Rattle.hotel_program.specs.Script.Lines.{answered_lines}
-use Rattle.hotel_program.specs.Script.WholeScript.{LineHappens, ScriptAnswered}
+use Rattle.hotel_program.specs.Script.WholeScript.{LinesAnswered}
 use Rattle.hotel_program.proofs.script.answer_lines.Given as goal
 
 abbrev pub invariant-loop-line : goal.invariant-loop-line
@@ -11,9 +10,7 @@ invariant-loop-line g l = record {
   fits : l.done + length l.rest ≤ length l.script;
   within : l.done ≤ length (answered_lines l.script);
   left : drop l.done (answered_lines l.script) ≡ answered_lines l.rest;
-  went : HappensBy g.B.Issued g.B.Books.rows l.initial.books (ScriptAnswered (take l.done (answered_lines l.script)) (g.R.Rng.stream l.initial.source) (g.R.Rng.stream l.source)
-      (g.W.Write.contents l.initial.writer) (g.W.Write.contents l.writer)) l.books;
-  through : Passes (LineHappens g.B.Issued g.B.Books.rows g.R.Rng.stream g.W.Write.contents) (l.initial.books, l.initial.source, l.initial.writer)
+  went : LinesAnswered g.B.Issued g.B.Books.rows g.R.Rng.stream g.W.Write.contents (l.initial.books, l.initial.source, l.initial.writer)
       (take l.done (answered_lines l.script)) (l.books, l.source, l.writer);
   calls : NoneForgotten l.initial.calls l.calls;
 }

@@ -1,6 +1,6 @@
 use Rattle.std.proofs.Common.{rules}
 use Rattle.hotel_program.specs.Script.WholeScript.{IsInput}
-use Rattle.hotel_program.proofs.OfScript.ScriptLemmas.{if_answered, if_cut, lines_pass}
+use Rattle.hotel_program.proofs.OfScript.ScriptLemmas.{if_answered, if_cut}
 use Rattle.hotel_program.proofs.script.run_script.Goals as goal
 
 pub returns-clause-ok : goal.returns-clause-ok
@@ -15,11 +15,3 @@ returns-clause-cut g c =
     let script = c.deref.result.now in
     let input : IsInput (g.I.Read.remaining c.args.reader.now) script = search rules in
     if_cut c.answer_lines.result _ _ (λ done p. (script, input, p.0, p.1, p.2)) c.answer_lines.ensures.cut
-
-pub returns-clause-through : goal.returns-clause-through
-returns-clause-through g c =
-    let script = c.deref.result.now in
-    let input : IsInput (g.I.Read.remaining c.args.reader.now) script = search rules in
-    let ensured = c.answer_lines.ensures in
-    lines_pass g.B.Issued g.B.Books.rows g.R.Rng.stream g.W.Write.contents (g.I.Read.remaining c.args.reader.now) script c.answer_lines.result _ _
-    input ensured.count ensured.through (if_cut c.answer_lines.result _ _ (λ done p. p.1) ensured.cut) ensured.through_cut
