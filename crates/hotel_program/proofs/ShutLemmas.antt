@@ -102,8 +102,10 @@ task_takes_nothing task.Audit body h h' s s' out failed came k =
     import_takes_nothing : (end : Result (List LineAnswer) ImportFault) → has_answer (imported end).answered ≡ false → (imported end).acted ≡ false
     import_takes_nothing (Ok answers) k = not_taken answers k
     import_takes_nothing (Err (import.File why)) k = refl
-    import_takes_nothing (Err (import.Stopped answered by true)) k = cc k
-    import_takes_nothing (Err (import.Stopped answered by false)) k = refl
+    import_takes_nothing (Err (import.Memory answered true)) k = cc k
+    import_takes_nothing (Err (import.Memory answered false)) k = refl
+    import_takes_nothing (Err (import.Store answered true)) k = cc k
+    import_takes_nothing (Err (import.Store answered false)) k = refl
 
 takes_nothing : (wanted : Wanted) (h h' : History) (s s' : Stream) (out : Outcome) (failed : List Refusal) → Comes wanted h s out failed h' s' → has_answer out.answered ≡ false → out.acted ≡ false
 takes_nothing (Ok given) h h' s s' out failed came k = task_takes_nothing given.0 given.1 h h' s s' out failed came k
