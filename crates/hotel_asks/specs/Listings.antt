@@ -22,7 +22,8 @@ listing_over h (AuditOf room) = of_room (is_room h room) (listing audit_header n
 abbrev pub listing_on : Rows → ListAsk → Option Listing
 listing_on rows (Arrivals day) = Some (listing arrivals_header arrival_line (arrivals_on rows day))
 listing_on rows InHouse = Some (listing in_house_header house_line (in_house_on rows))
-listing_on rows (ChainOf room) = of_room (is_some (room_at rows room)) (listing chain_header chain_line (chain_on rows room))
+listing_on rows (ChainOf room) =
+    of_room (is_some (room_at rows room)) (listing chain_header chain_line (chain_on rows room))
 listing_on rows LeftBehind = Some (listing left_behind_header behind_line (left_behind_on rows))
 listing_on rows (AuditOf room) =
     of_room (is_some (room_at rows room)) (listing audit_header note_line (notes_at rows.notes room))

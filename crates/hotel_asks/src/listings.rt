@@ -21,7 +21,8 @@ pub fn write_list<W: Write, B: Walks>(
     books: &mut B,
     calls: &mut IoCalls,
 ) -> Result<(), ListFault>
-    ensures text { B.is_honest books.new → ListEnds [] (listing_on (B.rows books.old) list.now) (W.contents writer.old) (W.contents writer.new) result }
+    ensures text { B.is_honest books.new → ListEnds [] (listing_on (B.rows books.old) list.now) (W.contents writer.old)
+        (W.contents writer.new) result }
     ensures books { LooksAt B.Issued books.old books.new result }
     ensures failed { IsErrOf result ListFault.Write → calls.new.write_failed ≡ true }
     ensures calls { NoneForgotten calls.old calls.new }

@@ -50,7 +50,8 @@ IsFront file = (rest : List Line) × (audit_lines file.bytes ≡ Ok (file.lines 
 -- The files, one after the other, lead from a history to that at the end.
 abbrev pub FilesLead : History → List AnsweredFile → History → Type 0
 FilesLead h [] h' = h' ≡ h
-FilesLead h (file ∷ files) h' = IsFront file × (mid : History) × (s s' : Stream) × LinesLead h s file.lines file.answers mid s' × FilesLead mid files h'
+FilesLead h (file ∷ files) h' = IsFront file × (mid : History) × (s s' : Stream)
+    × LinesLead h s file.lines file.answers mid s' × FilesLead mid files h'
 
 -- the events of all files' notes that were answered Taken, in order
 abbrev pub all_events_taken : List AnsweredFile → List Event
@@ -67,7 +68,8 @@ AreNumbered h = (r fit : ℕ)
 -- Any files, cut, overlapping or repeated, lead to the history before them and then the events of the notes that were
 -- taken, and the notes are counted.
 abbrev pub FilesCounted : Type 0
-FilesCounted = (h h' : History) (files : List AnsweredFile) → Reached h → FilesLead h files h' → Reached h' × (h' ≡ followed_by h (all_events_taken files)) × AreNumbered h'
+FilesCounted = (h h' : History) (files : List AnsweredFile) → Reached h → FilesLead h files h' → Reached h'
+    × (h' ≡ followed_by h (all_events_taken files)) × AreNumbered h'
 
 -- The notes are counted after whatever was done at the desk.
 abbrev pub NotesCounted : Type 0
@@ -85,10 +87,12 @@ and_before r None later = later
 
 -- the notes of a room that were answered Taken, in order
 abbrev pub notes_taken : ℕ → List Command → List Reply → List Note
-notes_taken r (command ∷ commands) (reply ∷ replies) = and_before r (note_taken command reply) (notes_taken r commands replies)
+notes_taken r (command ∷ commands) (reply ∷ replies) =
+    and_before r (note_taken command reply) (notes_taken r commands replies)
 notes_taken r commands replies = []
 
 -- In any run, files and other commands in any mixture, a room's notes are those before it and then those that were
 -- answered Taken, in order.
 abbrev pub RunsTake : Type 0
-RunsTake = (h h' : History) (s s' : Stream) (commands : List Command) (replies : List Reply) (r : ℕ) → Runs h s commands replies h' s' → notes h' r ≡ notes h r ++ notes_taken r commands replies
+RunsTake = (h h' : History) (s s' : Stream) (commands : List Command) (replies : List Reply) (r : ℕ)
+    → Runs h s commands replies h' s' → notes h' r ≡ notes h r ++ notes_taken r commands replies

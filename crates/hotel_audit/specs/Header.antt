@@ -6,8 +6,10 @@ use Rattle.hotel_audit.specs.{declared.header.Columns.TheVariants.WithoutFit}
 
 -- the names of the columns that the lines have: one of them is the number of the room's lock, or none is
 abbrev pub names_of : Columns → List (List ℕ)
-names_of WithFit = codes "room" ∷ codes "fit" ∷ codes "count" ∷ codes "kind" ∷ codes "card" ∷ codes "old" ∷ codes "new" ∷ codes "at" ∷ []
-names_of WithoutFit = codes "room" ∷ codes "count" ∷ codes "kind" ∷ codes "card" ∷ codes "old" ∷ codes "new" ∷ codes "at" ∷ []
+names_of WithFit = codes "room" ∷ codes "fit" ∷ codes "count" ∷ codes "kind" ∷ codes "card" ∷ codes "old" ∷ codes "new"
+    ∷ codes "at" ∷ []
+names_of WithoutFit =
+    codes "room" ∷ codes "count" ∷ codes "kind" ∷ codes "card" ∷ codes "old" ∷ codes "new" ∷ codes "at" ∷ []
 
 -- as many texts, and each is the other's
 abbrev pub are_same_texts : List (List ℕ) → List (List ℕ) → Bool
@@ -19,4 +21,5 @@ are_same_texts (a ∷ texts) (b ∷ more) = bytes_eq a b && are_same_texts texts
 -- a header is the names of the columns and nothing else
 abbrev pub columns_of : List (List ℕ) → Option Columns
 columns_of fields =
-    if are_same_texts fields (names_of WithFit) then Some WithFit else (if are_same_texts fields (names_of WithoutFit) then Some WithoutFit else None)
+    if are_same_texts fields (names_of WithFit) then Some WithFit
+    else (if are_same_texts fields (names_of WithoutFit) then Some WithoutFit else None)

@@ -61,12 +61,14 @@ AreAnswered (line ∷ lines) [] = ⊥
 -- The lines with these answers lead from rows to later ones: their notes ran, with these replies, and no word of a
 -- source was taken.
 abbrev pub LinesLeadTo : Rows → List Line → List LineAnswer → Rows → Type 0
-LinesLeadTo rows lines answers later = (source : Stream) → Leads rows (λ h h'. Runs h source (commands_of lines) (replies_in answers) h' source) later
+LinesLeadTo rows lines answers later =
+    (source : Stream) → Leads rows (λ h h'. Runs h source (commands_of lines) (replies_in answers) h' source) later
 
 -- The same of books that may have failed for good: the rows are those of the history if they were kept before the first
 -- line, and the later ones if they are kept after the last.
 abbrev pub LinesLeadOn : Type 0 → Rows → List Line → List LineAnswer → Type 0 → Rows → Type 0
-LinesLeadOn was rows lines answers is later = (source : Stream) → LeadsOn was rows (λ h h'. Runs h source (commands_of lines) (replies_in answers) h' source) is later
+LinesLeadOn was rows lines answers is later = (source : Stream)
+    → LeadsOn was rows (λ h h'. Runs h source (commands_of lines) (replies_in answers) h' source) is later
 
 -- one of the answers is Taken
 abbrev pub has_taken : List LineAnswer → Bool
@@ -82,26 +84,31 @@ stopped look.Memory answered taken = Memory answered taken
 stopped look.Store answered taken = Store answered taken
 
 -- the answers, or the fault that came in place of them
-abbrev pub outcome_of : {A : Type 0} → (A → List LineAnswer) → Result A ImportFault → Result (List LineAnswer) ImportFault
+abbrev pub outcome_of : {A : Type 0} → (A → List LineAnswer) → Result A ImportFault
+    → Result (List LineAnswer) ImportFault
 outcome_of answers (Ok given) = Ok (answers given)
 outcome_of answers (Err why) = Err why
 
 -- These lines are a front of the file's. Their answers are so many, and one of them is Taken or none.
 abbrev pub IsFrontOf : Result (List Line) AuditFault → List Line → List LineAnswer → ℕ → Bool → Type 0
-IsFrontOf file lines answers answered taken = (rest : List Line) × (file ≡ Ok (lines ++ rest)) × (length answers ≡ answered) × (has_taken answers ≡ taken)
+IsFrontOf file lines answers answered taken =
+    (rest : List Line) × (file ≡ Ok (lines ++ rest)) × (length answers ≡ answered) × (has_taken answers ≡ taken)
 
 -- An import of a file ended so after these lines with these answers: with all of its lines; with none, where it is no
 -- file or there was no memory to read it; or it was stopped after some.
-abbrev pub EndsAfter : Result (List Line) AuditFault → Result (List LineAnswer) ImportFault → List Line → List LineAnswer → Type 0
+abbrev pub EndsAfter : Result (List Line) AuditFault → Result (List LineAnswer) ImportFault → List Line
+    → List LineAnswer → Type 0
 EndsAfter file (Ok given) lines answers = (file ≡ Ok lines) × (answers ≡ given)
-EndsAfter file (Err (File why)) lines answers = (lines ≡ []) × (answers ≡ []) × ((why ≡ fault.Memory) ⊎ (file ≡ Err why))
+EndsAfter file (Err (File why)) lines answers =
+    (lines ≡ []) × (answers ≡ []) × ((why ≡ fault.Memory) ⊎ (file ≡ Err why))
 EndsAfter file (Err (Memory answered taken)) lines answers = IsFrontOf file lines answers answered taken
 EndsAfter file (Err (Store answered taken)) lines answers = IsFrontOf file lines answers answered taken
 
 -- What lines with these answers show of books from old to new that may have failed for good, where an import of them
 -- ended so: the notes ran with these replies, and an answer to a note vouches that the books were clean before the
 -- first line, and, where no failure came behind it, that they are after the last.
-pub record Vouches {B : Type 0} (I : IssuedOf B) (rows : B → Rows) (lines : List Line) (answers : List LineAnswer) (old new : B) (outcome : Result (List LineAnswer) ImportFault) : Type 0 where
+pub record Vouches {B : Type 0} (I : IssuedOf B) (rows : B → Rows) (lines : List Line) (answers : List LineAnswer)
+    (old new : B) (outcome : Result (List LineAnswer) ImportFault) : Type 0 where
   pub happened : LinesLeadOn (I.is_clean old) (rows old) lines answers (I.is_clean new) (rows new)
   pub was_clean : replies_in answers ≢ [] → I.is_clean old
   pub is_clean : OnOk outcome (replies_in answers ≢ [] → I.is_clean new)
@@ -116,7 +123,8 @@ failed_by _ = look.Store
 abbrev pub answer_of : Reply → Result LineAnswer LookFault
 answer_of reply.Taken = Ok Taken
 answer_of reply.Seen = Ok Seen
-answer_of (reply.Refused refusal) = if is_failed (reply.Refused refusal) then Err (failed_by refusal) else Ok (Refused refusal)
+answer_of (reply.Refused refusal) =
+    if is_failed (reply.Refused refusal) then Err (failed_by refusal) else Ok (Refused refusal)
 answer_of _ = Err look.Store
 
 -- A line was carried out, and this came of it: by the reply to its note, which was reported; an unread line asked

@@ -14,4 +14,5 @@ GivesFileRecords = (bytes : List ℕ) (rows : List (List (List ℕ))) → ReadsA
 
 -- Two readings of the same bytes give the same records.
 abbrev pub HasOneReading : Type 0
-HasOneReading = (bytes : List ℕ) (rows more : List (List (List ℕ))) → ReadsAs bytes rows → ReadsAs bytes more → rows ≡ more
+HasOneReading =
+    (bytes : List ℕ) (rows more : List (List (List ℕ))) → ReadsAs bytes rows → ReadsAs bytes more → rows ≡ more

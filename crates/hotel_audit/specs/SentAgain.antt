@@ -19,6 +19,8 @@ LinesLead h s lines answers h' s' = AreAnswered lines answers × Runs h s (comma
 -- Lines that were all Taken or Seen, then whichever commands, then the same lines again: each is seen, and nothing
 -- happens.
 abbrev pub SeenAgain : Type 0
-SeenAgain = (h mid later end : History) (s source rest s' : Stream) (lines : List Line) (answers again : List LineAnswer) (commands : List Command) (replies : List Reply)
-    → All IsTakenOrSeen answers → LinesLead h s lines answers mid source → Runs mid source commands replies later rest → LinesLead later rest lines again end s'
+SeenAgain = (h mid later end : History) (s source rest s' : Stream) (lines : List Line)
+    (answers again : List LineAnswer) (commands : List Command) (replies : List Reply)
+    → All IsTakenOrSeen answers → LinesLead h s lines answers mid source → Runs mid source commands replies later rest
+    → LinesLead later rest lines again end s'
     → (again ≡ map (λ line. Seen) lines) × (end ≡ later)

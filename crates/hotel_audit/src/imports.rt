@@ -47,10 +47,12 @@ fn answer_line<B: Books>(books: &mut B, line: &Line) -> Result<LineAnswer, LookF
     ensures went { LineGoes B.Issued B.rows books.old line.now result books.new }
     ensures happened { IfOk result (λ answer. B.is_honest books.new →
         LinesLeadOn (B.is_clean books.old) (B.rows books.old) (line.now ∷ []) (answer ∷ []) (B.is_clean books.new) (B.rows books.new)) }
-    ensures vouched { IfOk result (λ answer. B.is_honest books.new → replies_in (answer ∷ []) ≢ [] → B.is_clean books.new) }
+    ensures vouched { IfOk result (λ answer. B.is_honest books.new → replies_in (answer ∷ []) ≢ []
+        → B.is_clean books.new) }
     ensures unasked { IfOk result (λ answer. replies_in (answer ∷ []) ≡ [] → books.new ≡ books.old) }
     ensures unchanged { OnErr result (B.is_clean books.new → B.rows books.new ≡ B.rows books.old) }
-    ensures failed { IfErr result (λ why. B.is_clean books.new → AreCounted (B.failures books.old) (B.failures books.new) (refusal_of why ∷ [])) }
+    ensures failed { IfErr result (λ why. B.is_clean books.new
+        → AreCounted (B.failures books.old) (B.failures books.new) (refusal_of why ∷ [])) }
     ensures was_clean { B.is_clean books.new → B.is_clean books.old }
     ensures was_honest { B.is_honest books.new → B.is_honest books.old }
     ensures counted { NoFewer (B.failures books.old) (B.failures books.new) }
@@ -80,7 +82,8 @@ fn import_lines<B: Books>(
 ) -> Result<Vec<LineAnswer>, ImportFault>
     ensures imported { Imports B.Issued B.rows (Ok lines.now) books.old books.new (outcome_of (λ v. v.items) result) }
     ensures no_file { IfErr result (λ f. (why : AuditFault) → f ≡ ImportFault.File why → books.new ≡ books.old) }
-    ensures failed { IfErr result (λ f. B.is_clean books.new → AreCounted (B.failures books.old) (B.failures books.new) (failures_of f)) }
+    ensures failed { IfErr result (λ f. B.is_clean books.new
+        → AreCounted (B.failures books.old) (B.failures books.new) (failures_of f)) }
     ensures was_clean { B.is_clean books.new → B.is_clean books.old }
     ensures was_honest { B.is_honest books.new → B.is_honest books.old }
     ensures counted { NoFewer (B.failures books.old) (B.failures books.new) }
@@ -109,7 +112,8 @@ pub fn import<B: Books>(
     books: &mut B,
     bytes: &[u8],
 ) -> Result<Vec<LineAnswer>, ImportFault>
-    ensures imported { Imports B.Issued B.rows (audit_lines bytes.now) books.old books.new (outcome_of (λ v. v.items) result) }
+    ensures imported { Imports B.Issued B.rows (audit_lines bytes.now) books.old books.new
+        (outcome_of (λ v. v.items) result) }
     ensures large { AUDIT_BYTES < length bytes.now → result ≡ Err (ImportFault.File AuditFault.TooLarge) }
     ensures no_file { IfErr result (λ f. (why : AuditFault) → f ≡ ImportFault.File why → books.new ≡ books.old) }
     ensures failed { IfErr result (λ fault. B.is_clean books.new →

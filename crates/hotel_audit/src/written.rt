@@ -18,7 +18,8 @@ pub fn write_answers<W: Write>(
     calls: &mut IoCalls,
 ) -> Result<(), WriteFailed>
     ensures ok { OnOk result (Appends (W.contents writer.old) (W.contents writer.new) (answers_text 1 answers.now)) }
-    ensures err { OnErr result (AppendsFront (W.contents writer.old) (W.contents writer.new) (answers_text 1 answers.now)) }
+    ensures err { OnErr result (AppendsFront (W.contents writer.old) (W.contents writer.new)
+        (answers_text 1 answers.now)) }
     ensures failed { OnErr result (calls.new.write_failed ≡ true) }
     ensures calls { NoneForgotten calls.old calls.new }
 {

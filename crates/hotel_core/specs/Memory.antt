@@ -16,7 +16,8 @@ pub record Listed : Type 0 where
 
 -- The table of places answers as a search through the codes does.
 abbrev pub PlacesAgree : List (ℕ × CodeRow) → List ((ℕ × ℕ) × ℕ) → Type 0
-PlacesAgree codes places = (room place : ℕ) → lookup (is_at (pair_cmp (room, place))) places ≡ first_code_at codes room place
+PlacesAgree codes places =
+    (room place : ℕ) → lookup (is_at (pair_cmp (room, place))) places ≡ first_code_at codes room place
 
 -- At each room, the places from its number of codes on are free (all places, where the room isn't there).
 abbrev pub LaterPlacesFree : List (ℕ × RoomRow) → List (ℕ × CodeRow) → Type 0
@@ -34,7 +35,8 @@ pub record RoomsKnown (kinds : List (List ℕ × ℕ)) (rooms : List (ℕ × Roo
   pub numbers : HaveRoomNumbers rooms
 
 -- The tables of kinds, rooms and codes agree.
-pub record TablesAgree (kinds : List (List ℕ × ℕ)) (rooms : List (ℕ × RoomRow)) (codes : List (ℕ × CodeRow)) : Type 0 where
+pub record TablesAgree (kinds : List (List ℕ × ℕ)) (rooms : List (ℕ × RoomRow))
+    (codes : List (ℕ × CodeRow)) : Type 0 where
   pub places : LaterPlacesFree rooms codes
   pub rooms_known : RoomsKnown kinds rooms
 

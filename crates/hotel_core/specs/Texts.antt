@@ -57,7 +57,8 @@ reply_line (reply.RoomAdded code) = codes "room code " ++ code_text code
 reply_line (reply.Reserved party) = codes "party " ++ decimal party
 reply_line reply.Cancelled = codes "cancelled"
 reply_line (reply.Issued card) =
-    codes "card " ++ decimal card.number ++ codes " party " ++ decimal card.party ++ codes " old " ++ code_text card.link.old_code ++ codes " new " ++ code_text card.link.new_code
+    codes "card " ++ decimal card.number ++ codes " party " ++ decimal card.party ++ codes " old "
+    ++ code_text card.link.old_code ++ codes " new " ++ code_text card.link.new_code
 reply_line reply.CheckedOut = codes "checked out"
 reply_line (reply.Refitted code fit) = codes "lock " ++ decimal fit ++ codes " code " ++ code_text code
 reply_line (reply.DayIs day) = codes "day " ++ day_text day

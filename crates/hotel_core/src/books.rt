@@ -62,7 +62,8 @@ pub trait Books: Issued {
 
     /// The stays of a kind, by the party's number.
     fn stays_of_kind(&mut self, kind: &KindCode) -> Result<Vec<Stay>, LookFault>
-        ensures { LooksUp Self.Issued true (λ v. v.items) (stays_of_kind (rows self.old) kind.now) self.old self.new result };
+        ensures { LooksUp Self.Issued true (λ v. v.items)
+            (stays_of_kind (rows self.old) kind.now) self.old self.new result };
 
     /// The first night from `arrive` on and before `depart` on which the kind's booked and in-house stays take all its
     /// rooms.
@@ -72,7 +73,8 @@ pub trait Books: Issued {
         arrive: Day,
         depart: Day,
     ) -> Result<Option<Day>, LookFault>
-        ensures { LooksUp Self.Issued false (λ a. a) (first_full_on (rows self.old) kind.now arrive (depart - arrive)) self.old self.new result };
+        ensures { LooksUp Self.Issued false (λ a. a) (first_full_on (rows self.old) kind.now arrive (depart - arrive))
+            self.old self.new result };
 
     /// A copy of a guest's name, which takes memory of the books' own.
     fn copy_guest(&mut self, guest: &Guest) -> Result<Guest, LookFault>
@@ -88,11 +90,13 @@ pub trait Books: Issued {
 
     /// Whether a card is inside a room.
     fn is_inside(&mut self, room: RoomNo, number: CardNo) -> Result<bool, LookFault>
-        ensures { LooksUp Self.Issued false (λ a. a) (is_one_of number (inside_at (rows self.old) room)) self.old self.new result };
+        ensures { LooksUp Self.Issued false (λ a. a) (is_one_of number (inside_at (rows self.old) room))
+            self.old self.new result };
 
     /// Whether any card is inside a room.
     fn has_inside(&mut self, room: RoomNo) -> Result<bool, LookFault>
-        ensures { LooksUp Self.Issued false (λ a. a) (not (are_none (inside_at (rows self.old) room))) self.old self.new result };
+        ensures { LooksUp Self.Issued false (λ a. a) (not (are_none (inside_at (rows self.old) room)))
+            self.old self.new result };
 
     /// A note that was taken, by its room, lock and count.
     fn note(
@@ -101,7 +105,8 @@ pub trait Books: Issued {
         fit: FitNo,
         count: Count,
     ) -> Result<Option<LockNote>, LookFault>
-        ensures { LooksUp Self.Issued false (λ a. a) (note_at (rows self.old) room fit count) self.old self.new result };
+        ensures { LooksUp Self.Issued false (λ a. a) (note_at (rows self.old) room fit count)
+            self.old self.new result };
 
     /// A lock of a room, by its number.
     fn fit(&mut self, room: RoomNo, fit: FitNo) -> Result<Option<FitRow>, LookFault>
@@ -109,11 +114,17 @@ pub trait Books: Issued {
 
     /// How many rooms a kind has; 0 where it isn't there.
     fn rooms_of_kind(&mut self, kind: &KindCode) -> Result<u32, LookFault>
-        ensures { LooksUp Self.Issued false (λ a. a) (rooms_of_kind (rows self.old).rooms kind.now) self.old self.new result };
+        ensures { LooksUp Self.Issued false (λ a. a) (rooms_of_kind (rows self.old).rooms kind.now)
+            self.old self.new result };
 
     /// The numbers that the next party and the next card are given, up to the last number.
     fn next_numbers(&mut self) -> Result<NextNumbers, LookFault>
-        ensures { LooksUp Self.Issued false (λ a. a) (record { party = number_after (length (rows self.old).stays); card = number_after (length (rows self.old).cards) }) self.old self.new result };
+        ensures { LooksUp Self.Issued false (λ a. a) (record {
+          party = number_after
+              (length (rows self.old).stays);
+          card = number_after (length (rows self.old).cards);
+        })
+            self.old self.new result };
 
     /// The rows are sound. The call does nothing.
     fn known_sound(&self)
@@ -130,7 +141,8 @@ pub trait Books: Issued {
         ensures stop { leaves_change change self.old self.new result }
         ensures counted { NoFewer (Self.failures self.old) (Self.failures self.new) }
         ensures fault { IfErr result (λ why. HasRisen (Self.failures self.old why) (Self.failures self.new why)) }
-        ensures cause { Self.is_honest self.new → IfErr result (λ why. why ≡ Store → change_fails change self.old self.new) }
+        ensures cause { Self.is_honest self.new → IfErr result
+            (λ why. why ≡ Store → change_fails change self.old self.new) }
         ensures sure { Self.never_fails → takes_memory change ≡ false → IsOk result };
 
     // What a look-up leaves has the same rows, and the issued codes are those of the rows.

@@ -5,7 +5,8 @@ ghost use Rattle.hotel_nights.specs.Block.{one_if};
 /// One more stay takes each night from the place `from` on and before `to`; a count stays at its greatest value.
 pub(crate) fn more(counts: &mut [usize; 32], from: usize, to: usize)
     requires { to ≤ 32 }
-    ensures { (j : ℕ) → slice_index counts.old j < 2 ^ 64 - 1 → slice_index counts.new j ≡ slice_index counts.old j + one_if (nat_le from j && nat_lt j to) }
+    ensures { (j : ℕ) → slice_index counts.old j < 2 ^ 64 - 1
+        → slice_index counts.new j ≡ slice_index counts.old j + one_if (nat_le from j && nat_lt j to) }
 {
     for place in from..to {
         counts[place] = counts[place].saturating_add(1);
@@ -16,7 +17,8 @@ pub(crate) fn more(counts: &mut [usize; 32], from: usize, to: usize)
 /// night.
 pub(crate) fn less(counts: &mut [usize; 32], from: usize, to: usize) -> bool
     requires { to ≤ 32 }
-    ensures counts { (j : ℕ) → slice_index counts.new j ≡ slice_index counts.old j - one_if (nat_le from j && nat_lt j to) }
+    ensures counts { (j : ℕ) → slice_index counts.new j ≡ slice_index counts.old j - one_if
+        (nat_le from j && nat_lt j to) }
     ensures none { result ≡ false → (j : ℕ) → slice_index counts.new j ≡ 0 }
 {
     for place in from..to {

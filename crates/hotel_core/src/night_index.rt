@@ -53,7 +53,8 @@ impl NightIndex {
     fn count_part(&mut self, kind: &KindCode, from: u16, to: u16) -> Result<(), Memory>
         requires order { from < to }
         requires one_block { to ≤ from / 32 * 32 + 32 }
-        ensures ok { OnOk result ((k : List ℕ) (d : ℕ) → counted self.old k d < 2 ^ 64 - 1 → counted self.new k d ≡ counted self.old k d + one_if (spans kind.now from to k d)) }
+        ensures ok { OnOk result ((k : List ℕ) (d : ℕ) → counted self.old k d < 2 ^ 64 - 1
+            → counted self.new k d ≡ counted self.old k d + one_if (spans kind.now from to k d)) }
         ensures err { OnErr result ((k : List ℕ) (d : ℕ) → counted self.new k d ≡ counted self.old k d) }
     {
         let block = from / 32;
@@ -75,7 +76,8 @@ impl NightIndex {
     fn uncount_part(&mut self, kind: &KindCode, from: u16, to: u16)
         requires order { from < to }
         requires one_block { to ≤ from / 32 * 32 + 32 }
-        ensures { (k : List ℕ) (d : ℕ) → counted self.new k d ≡ counted self.old k d - one_if (spans kind.now from to k d) }
+        ensures { (k : List ℕ) (d : ℕ) → counted self.new k d ≡ counted self.old k d - one_if
+            (spans kind.now from to k d) }
     {
         let block = from / 32;
         let first = usize::from(from % 32);
@@ -91,7 +93,8 @@ impl NightIndex {
 
     /// One stay less takes each night from `from` on and before `to`.
     fn uncount(&mut self, kind: &KindCode, from: u16, to: u16)
-        ensures { (k : List ℕ) (d : ℕ) → counted self.new k d ≡ counted self.old k d - one_if (spans kind.now from to k d) }
+        ensures { (k : List ℕ) (d : ℕ) → counted self.new k d ≡ counted self.old k d - one_if
+            (spans kind.now from to k d) }
     {
         let mut night = from;
         while night < to {
@@ -103,8 +106,10 @@ impl NightIndex {
 
     /// One stay more takes each night from `from` on and before `to`, or where memory is refused none does.
     fn add_nights(&mut self, kind: &KindCode, from: u16, to: u16) -> Result<(), Memory>
-        ensures ok { OnOk result ((k : List ℕ) (d : ℕ) → counted self.old k d < 2 ^ 63 → counted self.new k d ≡ counted self.old k d + one_if (spans kind.now from to k d)) }
-        ensures err { OnErr result ((k : List ℕ) (d : ℕ) → counted self.old k d < 2 ^ 63 → counted self.new k d ≡ counted self.old k d) }
+        ensures ok { OnOk result ((k : List ℕ) (d : ℕ) → counted self.old k d < 2 ^ 63
+            → counted self.new k d ≡ counted self.old k d + one_if (spans kind.now from to k d)) }
+        ensures err { OnErr result ((k : List ℕ) (d : ℕ) → counted self.old k d < 2 ^ 63
+            → counted self.new k d ≡ counted self.old k d) }
     {
         let mut night = from;
         while night < to {
@@ -123,8 +128,10 @@ impl NightIndex {
     ///
     /// A count that has reached its greatest value stays there, so what is said holds of counts below 2^63.
     pub fn add(&mut self, stay: &Stay) -> Result<(), Memory>
-        ensures ok { OnOk result ((kind : List ℕ) (d : ℕ) → counted self.old kind d < 2 ^ 63 → counted self.new kind d ≡ counted self.old kind d + one_if (takes kind d stay.now)) }
-        ensures err { OnErr result ((kind : List ℕ) (d : ℕ) → counted self.old kind d < 2 ^ 63 → counted self.new kind d ≡ counted self.old kind d) }
+        ensures ok { OnOk result ((kind : List ℕ) (d : ℕ) → counted self.old kind d < 2 ^ 63
+            → counted self.new kind d ≡ counted self.old kind d + one_if (takes kind d stay.now)) }
+        ensures err { OnErr result ((kind : List ℕ) (d : ℕ) → counted self.old kind d < 2 ^ 63
+            → counted self.new kind d ≡ counted self.old kind d) }
     {
         if !stay.state.is_standing() {
             return Ok(());
@@ -136,7 +143,8 @@ impl NightIndex {
 
     /// Counts a stay no longer: once less at each night that it takes, down to 0. It takes no memory.
     pub fn remove(&mut self, stay: &Stay)
-        ensures { (kind : List ℕ) (d : ℕ) → counted self.new kind d ≡ counted self.old kind d - one_if (takes kind d stay.now) }
+        ensures { (kind : List ℕ) (d : ℕ) → counted self.new kind d ≡ counted self.old kind d - one_if
+            (takes kind d stay.now) }
     {
         if stay.state.is_standing() {
             let first = stay.arrive.number();
@@ -183,7 +191,8 @@ impl NightIndex {
     /// kind,
     /// where these are the stays that are counted. It takes no memory.
     pub fn full_night(&self, kind: &KindCode, rooms: u32, arrive: Day, depart: Day) -> Option<Day>
-        ensures { (stays : List Stay) → CountsNights self.now stays → result ≡ first_day (is_full stays kind.now rooms) arrive (depart - arrive) }
+        ensures { (stays : List Stay) → CountsNights self.now stays
+            → result ≡ first_day (is_full stays kind.now rooms) arrive (depart - arrive) }
     {
         self.first_full(kind, rooms, arrive, depart)
     }

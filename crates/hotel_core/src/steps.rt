@@ -72,7 +72,8 @@ pub fn step<B: Books, R: Rng>(books: &mut B, source: &mut R, command: &Command) 
     ensures failed { B.is_clean books.new →
         AreCounted (B.failures books.old) (B.failures books.new) (failure_in result) }
     ensures happened { B.is_honest books.new → LeadsOn (B.is_clean books.old) (B.rows books.old)
-        (λ h h'. Steps h (R.stream source.old) command.now result h' (R.stream source.new)) (B.is_clean books.new) (B.rows books.new) }
+        (λ h h'. Steps h (R.stream source.old) command.now result h' (R.stream source.new)) (B.is_clean books.new)
+        (B.rows books.new) }
     ensures vouched { B.is_honest books.new → is_failed result ≡ false → B.is_clean books.new }
     ensures was_honest { B.is_honest books.new → B.is_honest books.old }
     ensures was_clean { B.is_clean books.new → B.is_clean books.old }
@@ -97,7 +98,8 @@ pub fn report<B: Books>(books: &mut B, note: &LockNote) -> Reply
     ensures failed { B.is_clean books.new →
         AreCounted (B.failures books.old) (B.failures books.new) (failure_in result) }
     ensures happened { B.is_honest books.new → (source : Stream) → LeadsOn (B.is_clean books.old) (B.rows books.old)
-        (λ h h'. Steps h source (command.Reported note.now) result h' source) (B.is_clean books.new) (B.rows books.new) }
+        (λ h h'. Steps h source (command.Reported note.now) result h' source) (B.is_clean books.new)
+        (B.rows books.new) }
     ensures vouched { B.is_honest books.new → is_failed result ≡ false → B.is_clean books.new }
     ensures was_honest { B.is_honest books.new → B.is_honest books.old }
     ensures was_clean { B.is_clean books.new → B.is_clean books.old }

@@ -30,7 +30,8 @@ method_name Post = codes "POST"
 
 -- what is asked for by its own method
 abbrev pub allowed : List ℕ → Target → Result Target Rejection
-allowed method target = if bytes_eq method (method_name (method_of target)) then Ok target else Err (WrongMethod (method_of target))
+allowed method target =
+    if bytes_eq method (method_name (method_of target)) then Ok target else Err (WrongMethod (method_of target))
 
 -- how many bytes of the body are read: none after a GET
 abbrev pub size_read : Method → ℕ → ℕ

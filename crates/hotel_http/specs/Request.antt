@@ -40,7 +40,8 @@ MayLackMemory plan rest = (nat_lt (length rest) plan.size ≡ false) × (reads_f
 
 -- It is what the plan asks for, or there was no memory to read the form.
 abbrev pub IsMeant : Plan → List ℕ → List ℕ → Wanted → Type 0
-IsMeant plan path rest wanted = (wanted ≡ meant plan path rest) ⊎ ((wanted ≡ Err rejection.Memory) × MayLackMemory plan rest)
+IsMeant plan path rest wanted =
+    (wanted ≡ meant plan path rest) ⊎ ((wanted ≡ Err rejection.Memory) × MayLackMemory plan rest)
 
 -- It is what a head asks for: the first rejection by the head, or what its plan asks for.
 abbrev pub IsAsked : Result Plan Rejection → List ℕ → List ℕ → Wanted → Type 0
@@ -54,13 +55,15 @@ awaits (Ok plan) = plan.awaited
 
 -- The input has no head, and this is why.
 abbrev pub IsHeadless : List ℕ → Wanted → Type 0
-IsHeadless input wanted = (IsBad input × (wanted ≡ Err rejection.BadRequest)) ⊎ (IsTooLarge input × (wanted ≡ Err rejection.HeadTooLarge))
+IsHeadless input wanted =
+    (IsBad input × (wanted ≡ Err rejection.BadRequest)) ⊎ (IsTooLarge input × (wanted ≡ Err rejection.HeadTooLarge))
 
 -- The input asks for this, with an interim answer before it or not: by its head and what stands behind that; or it has
 -- no head.
 abbrev pub Requests : List ℕ → Bool → Wanted → Type 0
 Requests input awaited wanted =
-    ((head : RequestHead) × (rest : List ℕ) × BeginsWith input head rest × (awaited ≡ awaits (plan_in head)) × IsAsked (plan_in head) (path_of head.target) rest wanted)
+    ((head : RequestHead) × (rest : List ℕ) × BeginsWith input head rest × (awaited ≡ awaits (plan_in head))
+    × IsAsked (plan_in head) (path_of head.target) rest wanted)
     ⊎ ((awaited ≡ false) × IsHeadless input wanted)
 
 -- The client of this input awaits an interim answer.
@@ -75,16 +78,19 @@ WantsBody (Ok plan) rest = length rest < plan.size
 -- What was read behind bytes that begin with a head: nothing where none was wanted, and nothing more once its body was
 -- there.
 abbrev pub ReadsBehind : RequestHead → ℕ → List ℕ → Option (List ℕ) → Option (List ℕ) → Type 0
-ReadsBehind head len bytes old new = Keeps old new ⊎ ReadsWhile (λ came. WantsBody (plan_in head) (drop len (bytes ++ came))) old new
+ReadsBehind head len bytes old new =
+    Keeps old new ⊎ ReadsWhile (λ came. WantsBody (plan_in head) (drop len (bytes ++ came))) old new
 
 -- More bytes of a request are wanted behind these: of its head, or of the body of its plan. Behind a head that is
 -- rejected none are.
 abbrev pub WantsMore : List ℕ → Type 0
-WantsMore bytes = WantsHead bytes ⊎ ((head : RequestHead) × (rest : List ℕ) × BeginsWith bytes head rest × WantsBody (plan_in head) rest)
+WantsMore bytes = WantsHead bytes ⊎ ((head : RequestHead) × (rest : List ℕ) × BeginsWith bytes head rest
+    × WantsBody (plan_in head) rest)
 
 -- Nothing was written, or the interim answer where the client awaits it.
 abbrev pub AtMostInterim : Option (List ℕ) → Option (List ℕ) → Option (List ℕ) → Type 0
-AtMostInterim known old new = (awaited : Bool) × Appends old new (interim_where awaited) × (awaited ≡ true → IfSome known IsAwaited)
+AtMostInterim known old new =
+    (awaited : Bool) × Appends old new (interim_where awaited) × (awaited ≡ true → IfSome known IsAwaited)
 
 -- What a request that was read comes to.
 abbrev pub wanted_of : Result Request Rejection → Wanted
@@ -96,16 +102,19 @@ request_fault_of more.Read = Read
 request_fault_of more.Memory = Memory
 
 -- The body of a plan was read behind these bytes, or not.
-abbrev pub EndsBody : Plan → List ℕ → List ℕ → Option (List ℕ) → Option (List ℕ) → Option (List ℕ) → Result (Result Request Rejection) RequestFault → Type 0
+abbrev pub EndsBody : Plan → List ℕ → List ℕ → Option (List ℕ) → Option (List ℕ) → Option (List ℕ)
+    → Result (Result Request Rejection) RequestFault → Type 0
 EndsBody plan path begun known old new (Ok got) =
-    Appends old new (interim_where plan.awaited) × IfSome known (λ left. IsMeant plan path (begun ++ left) (wanted_of got))
+    Appends old new (interim_where plan.awaited) × IfSome known
+    (λ left. IsMeant plan path (begun ++ left) (wanted_of got))
 EndsBody plan path begun known old new (Err Closed) = ⊥
 EndsBody plan path begun known old new (Err Write) = (plan.awaited ≡ true) × AppendsFront old new interim_text
 EndsBody plan path begun known old new (Err Read) = Appends old new (interim_where plan.awaited)
 EndsBody plan path begun known old new (Err Memory) = Appends old new (interim_where plan.awaited)
 
 -- What a head asks for was read, or not; what stands behind the head is said by the bytes that the reader still had.
-abbrev pub EndsHead : RequestHead → (List ℕ → List ℕ) → Option (List ℕ) → Option (List ℕ) → Option (List ℕ) → Result (Result Request Rejection) RequestFault → Type 0
+abbrev pub EndsHead : RequestHead → (List ℕ → List ℕ) → Option (List ℕ) → Option (List ℕ) → Option (List ℕ)
+    → Result (Result Request Rejection) RequestFault → Type 0
 EndsHead head behind known old new (Ok got) =
     Appends old new (interim_where (awaits (plan_in head)))
     × IfSome known (λ left. IsAsked (plan_in head) (path_of head.target) (behind left) (wanted_of got))
@@ -115,9 +124,11 @@ EndsHead head behind known old new (Err Read) = Appends old new (interim_where (
 EndsHead head behind known old new (Err Memory) = Appends old new (interim_where (awaits (plan_in head)))
 
 -- A request was read, or not.
-abbrev pub EndsRequest : Option (List ℕ) → Option (List ℕ) → Option (List ℕ) → Result (Result Request Rejection) RequestFault → Type 0
+abbrev pub EndsRequest : Option (List ℕ) → Option (List ℕ) → Option (List ℕ)
+    → Result (Result Request Rejection) RequestFault → Type 0
 EndsRequest known old new (Ok got) =
-    (awaited : Bool) × Appends old new (interim_where awaited) × IfSome known (λ input. Requests input awaited (wanted_of got))
+    (awaited : Bool) × Appends old new (interim_where awaited)
+    × IfSome known (λ input. Requests input awaited (wanted_of got))
 EndsRequest known old new (Err Closed) = Appends old new [] × IfSome known (λ input. input ≡ [])
 EndsRequest known old new (Err Write) = AppendsFront old new interim_text × IfSome known IsAwaited
 EndsRequest known old new (Err Read) = AtMostInterim known old new

@@ -41,7 +41,8 @@ pub record Outcome : Type 0 where
 
 -- an answer of this status
 abbrev pub outcome : List ℕ → Status → Bool → List Bool → Outcome
-outcome text status acted answered = record { text = text; status = number_of status; acted = acted; answered = answered }
+outcome text status acted answered =
+    record { text = text; status = number_of status; acted = acted; answered = answered }
 
 abbrev pub rejected : Rejection → Outcome
 rejected why = outcome (rejection_answer why) (rejection_status why) false []
@@ -77,7 +78,8 @@ stopped_by (import.Memory answered taken) = stopped_behind taken
 stopped_by (import.Store answered taken) = stopped_behind taken
 
 abbrev pub imported : Result (List LineAnswer) ImportFault → Outcome
-imported (Ok answers) = outcome (lines_answer answers) Success (has_taken answers) (map (λ reply. true) (replies_in answers))
+imported (Ok answers) =
+    outcome (lines_answer answers) Success (has_taken answers) (map (λ reply. true) (replies_in answers))
 imported (Err why) = outcome (fault_answer why) (fault_status why) (taken_by why) (stopped_by why)
 
 -- the failures that the books counted in an import that ended so
@@ -95,13 +97,15 @@ ListComes listing out failed =
 
 -- What comes of a command, which is a step, or of a list, which changes nothing.
 abbrev pub AskComes : Ask → History → Stream → Outcome → List Refusal → History → Stream → Type 0
-AskComes (ask.Command command) h s out failed h' s' = (given : Reply) × Steps h s command given h' s' × (out ≡ replied given) × (failed ≡ failure_in given)
+AskComes (ask.Command command) h s out failed h' s' =
+    (given : Reply) × Steps h s command given h' s' × (out ≡ replied given) × (failed ≡ failure_in given)
 AskComes (ask.List its_list) h s out failed h' s' = ListComes (listing_over h its_list) out failed × (h' ≡ h) × (s' ≡ s)
 
 -- What comes of an audit file: the run of the notes of its answered lines.
 abbrev pub FileComes : List ℕ → History → Stream → Outcome → List Refusal → History → Stream → Type 0
 FileComes file h s out failed h' s' =
-    (end : Result (List LineAnswer) ImportFault) × (lines : List Line) × (answers : List LineAnswer) × AreAnswered lines answers
+    (end : Result (List LineAnswer) ImportFault) × (lines : List Line) × (answers : List LineAnswer)
+    × AreAnswered lines answers
     × EndsAfter (audit_lines file) end lines answers × Runs h s (commands_of lines) (replies_in answers) h' s
     × (out ≡ imported end) × (failed ≡ import_failures end) × (s' ≡ s)
 
@@ -121,14 +125,17 @@ AnswerEnd = Result Served Cut
 
 -- The answer was written behind this text, whole; or a front of both.
 abbrev pub EndsAs : Outcome → List ℕ → Option (List ℕ) → Option (List ℕ) → AnswerEnd → Type 0
-EndsAs out before old new (Ok served) = (served.status ≡ out.status) × (served.acted ≡ out.acted) × Appends old new (before ++ out.text)
+EndsAs out before old new (Ok served) =
+    (served.status ≡ out.status) × (served.acted ≡ out.acted) × Appends old new (before ++ out.text)
 EndsAs out before old new (Err cut) = (cut.acted ≡ out.acted) × AppendsFront old new (before ++ out.text)
 
 -- This came, its answer was written so behind this text, and of its failures and the books' answers this is told.
-abbrev pub Answered : (History → Stream → Outcome → List Refusal → History → Stream → Type 0) → Stream → Stream → List ℕ → Option (List ℕ) → Option (List ℕ)
+abbrev pub Answered : (History → Stream → Outcome → List Refusal → History → Stream → Type 0) → Stream → Stream → List ℕ
+    → Option (List ℕ) → Option (List ℕ)
     → AnswerEnd → (List Refusal → List Bool → Type 0) → History → History → Type 0
 Answered came s s' before old new end told h h' =
-    (out : Outcome) × (failed : List Refusal) × came h s out failed h' s' × EndsAs out before old new end × told failed out.answered
+    (out : Outcome) × (failed : List Refusal) × came h s out failed h' s' × EndsAs out before old new end
+    × told failed out.answered
 
 -- How an answer ends that was written or not.
 abbrev pub ended : Result (Unit {0}) WriteFailed → Status → Bool → Result Served Cut
@@ -169,11 +176,13 @@ text_in items (Err why) = Err why
 -- A request was read and answered: this holds of what it asks for, whether there was an interim answer, and how its
 -- answer ended.
 abbrev pub WasAnswered : Option (List ℕ) → (Wanted → Bool → AnswerEnd → Type 0) → AnswerEnd → Type 0
-WasAnswered known went end = (wanted : Wanted) × (awaited : Bool) × IfSome known (λ input. Requests input awaited wanted) × went wanted awaited end
+WasAnswered known went end = (wanted : Wanted) × (awaited : Bool)
+    × IfSome known (λ input. Requests input awaited wanted) × went wanted awaited end
 
 -- How a request was served: it was answered; or its answer or the interim one was cut short; or no request was read.
 -- Where it wasn't begun, this is the same as before.
-abbrev pub Serves : Option (List ℕ) → Option (List ℕ) → Option (List ℕ) → Type 0 → (Wanted → Bool → AnswerEnd → Type 0) → Result Served ServeFault → Type 0
+abbrev pub Serves : Option (List ℕ) → Option (List ℕ) → Option (List ℕ) → Type 0 → (Wanted → Bool → AnswerEnd → Type 0)
+    → Result Served ServeFault → Type 0
 Serves known old new same went (Ok served) = WasAnswered known went (Ok served)
 Serves known old new same went (Err (Write acted)) =
     WasAnswered known went (Err (record { acted = acted }))

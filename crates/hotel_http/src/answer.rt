@@ -85,8 +85,10 @@ pub fn write_short<W: Write>(
     calls: &mut IoCalls,
 ) -> Result<(), WriteFailed>
     requires { length body.now ≤ 64 }
-    ensures ok { OnOk result (Appends (W.contents writer.old) (W.contents writer.new) (answer_text status Plain allow body.now)) }
-    ensures err { OnErr result (AppendsFront (W.contents writer.old) (W.contents writer.new) (answer_text status Plain allow body.now)) }
+    ensures ok { OnOk result (Appends (W.contents writer.old) (W.contents writer.new)
+        (answer_text status Plain allow body.now)) }
+    ensures err { OnErr result (AppendsFront (W.contents writer.old) (W.contents writer.new)
+        (answer_text status Plain allow body.now)) }
     ensures failed { OnErr result (calls.new.write_failed ≡ true) }
     ensures calls { NoneForgotten calls.old calls.new }
 {

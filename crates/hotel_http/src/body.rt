@@ -34,7 +34,8 @@ fn fill_body<R: Read>(
     size: usize,
     calls: &mut IoCalls,
 ) -> Result<(), ReadFault>
-    ensures holds { OnOk result (IfSome (R.remaining reader.old) (λ left. HoldsBody (body.old.items ++ left) size body.new.items)) }
+    ensures holds { OnOk result (IfSome (R.remaining reader.old)
+        (λ left. HoldsBody (body.old.items ++ left) size body.new.items)) }
     ensures wanted { ReadsBody body.old.items size (R.remaining reader.old) (R.remaining reader.new) }
     ensures failed { IsErrOf result Read → calls.new.read_failed ≡ true }
     ensures calls { NoneForgotten calls.old calls.new }
@@ -56,7 +57,8 @@ pub fn read_body<R: Read>(
     size: usize,
     calls: &mut IoCalls,
 ) -> Result<Vec<u8>, ReadFault>
-    ensures holds { IfOk result (λ body. IfSome (R.remaining reader.old) (λ left. HoldsBody (begun.now ++ left) size body.items)) }
+    ensures holds { IfOk result (λ body. IfSome (R.remaining reader.old)
+        (λ left. HoldsBody (begun.now ++ left) size body.items)) }
     ensures wanted { ReadsBody begun.now size (R.remaining reader.old) (R.remaining reader.new) }
     ensures failed { IsErrOf result Read → calls.new.read_failed ≡ true }
     ensures calls { NoneForgotten calls.old calls.new }

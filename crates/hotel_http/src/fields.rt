@@ -93,7 +93,8 @@ fn body_length(lengths: Named<'_>) -> Result<usize, Rejection>
 
 /// The length of a body that is not coded for its transfer.
 fn plain_length(codings: Named<'_>, lengths: Named<'_>) -> Result<usize, Rejection>
-    ensures { (coded values : List (List ℕ)) → Tells coded codings.entry → Tells values lengths.entry → result ≡ spec.plain_length coded values }
+    ensures { (coded values : List (List ℕ)) → Tells coded codings.entry → Tells values lengths.entry
+        → result ≡ spec.plain_length coded values }
 {
     match codings {
         Named::Absent => body_length(lengths),

@@ -23,7 +23,8 @@ fn look<'b>(
     text: CowStr<'b, Global>,
     name: &str,
 ) -> Texts<'b>
-    ensures { (texts : List (List ℕ)) → TellsTexts texts found.entry → TellsTexts (texts ++ text_of_field name.now (cow_str_bytes field.now) (cow_str_bytes text.entry)) result }
+    ensures { (texts : List (List ℕ)) → TellsTexts texts found.entry
+        → TellsTexts (texts ++ text_of_field name.now (cow_str_bytes field.now) (cow_str_bytes text.entry)) result }
 {
     if field.as_str() != name {
         return found;

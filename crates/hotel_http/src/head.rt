@@ -69,7 +69,8 @@ fn parse(bytes: &[u8], headers: &mut [HeaderSpan]) -> Parsed
 fn judge_part(bytes: &[u8], at_end: bool) -> Judged
     ensures open { IsOpen result → (length bytes.now ≤ HEAD_BYTES) × (at_end ≢ true) }
     ensures within { (headers : List HeaderSpan) → LiesWithin (take HEAD_BYTES bytes.now) headers result }
-    ensures judged { (more : List ℕ) (headers : List HeaderSpan) → (at_end ≡ true → more ≡ []) → HasNoRequest (take HEAD_BYTES bytes.now)
+    ensures judged { (more : List ℕ) (headers : List HeaderSpan) → (at_end ≡ true → more ≡ [])
+        → HasNoRequest (take HEAD_BYTES bytes.now)
         → IsJudged (bytes.now ++ more) (take HEAD_BYTES bytes.now) headers result }
 {
     if bytes.len() > HEAD_BYTES {
@@ -88,7 +89,8 @@ fn judge(bytes: &[u8], at_end: bool, headers: &mut [HeaderSpan]) -> Judged
     requires { length headers.old ≡ HEAD_FIELDS }
     ensures open { IsOpen result → IsUnended bytes.now × (at_end ≢ true) }
     ensures within { LiesWithin (take HEAD_BYTES bytes.now) headers.new result }
-    ensures judged { (more : List ℕ) → (at_end ≡ true → more ≡ []) → IsJudged (bytes.now ++ more) (take HEAD_BYTES bytes.now) headers.new result }
+    ensures judged { (more : List ℕ) → (at_end ≡ true → more ≡ [])
+        → IsJudged (bytes.now ++ more) (take HEAD_BYTES bytes.now) headers.new result }
 {
     match parse(head_part(bytes), headers) {
         Parsed::Whole(spans) => Judged::Whole(spans),
@@ -109,7 +111,8 @@ pub fn read_head<R: Read>(
     requires empty { bytes.old.items ≡ [] }
     ensures taken { OnOk result (Consumes (R.remaining reader.old) (R.remaining reader.new) bytes.new.items) }
     ensures wanted { ReadsWhile WantsHead (R.remaining reader.old) (R.remaining reader.new) }
-    ensures judged { IfOk result (λ judged. IfSome (R.remaining reader.old) (λ input. IsJudged input (take HEAD_BYTES bytes.new.items) headers.new judged)) }
+    ensures judged { IfOk result (λ judged. IfSome (R.remaining reader.old)
+        (λ input. IsJudged input (take HEAD_BYTES bytes.new.items) headers.new judged)) }
     ensures within { IfOk result (LiesWithin (take HEAD_BYTES bytes.new.items) headers.new) }
     ensures done { IfOk result (λ judged. ¬ (IsOpen judged)) }
     ensures failed { IsErrOf result Read → calls.new.read_failed ≡ true }

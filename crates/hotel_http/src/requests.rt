@@ -118,7 +118,8 @@ fn read_planned<R: Read, W: Write>(
     path: &str,
     calls: &mut IoCalls,
 ) -> Result<Result<Request, Rejection>, RequestFault>
-    ensures ends { EndsBody plan path.now begun.now (R.remaining reader.old) (W.contents writer.old) (W.contents writer.new) result }
+    ensures ends { EndsBody plan path.now begun.now (R.remaining reader.old) (W.contents writer.old)
+        (W.contents writer.new) result }
     ensures wanted { ReadsBody begun.now plan.size (R.remaining reader.old) (R.remaining reader.new) }
     ensures read_failed { IsErrOf result Read → calls.new.read_failed ≡ true }
     ensures write_failed { IsErrOf result Write → calls.new.write_failed ≡ true }
@@ -150,7 +151,8 @@ fn read_behind_head<R: Read, W: Write>(
 ) -> Result<Result<Request, Rejection>, RequestFault>
     requires { IsRequestWithin (take HEAD_BYTES bytes.now) headers.now spans.now }
     ensures ends { (head : RequestHead) → IsRequestAt (take HEAD_BYTES bytes.now) headers.now spans.now head
-        → EndsHead head (λ left. drop spans.now.len (bytes.now ++ left)) (R.remaining reader.old) (W.contents writer.old) (W.contents writer.new) result }
+        → EndsHead head (λ left. drop spans.now.len (bytes.now ++ left)) (R.remaining reader.old)
+        (W.contents writer.old) (W.contents writer.new) result }
     ensures wanted { (head : RequestHead) → IsRequestAt (take HEAD_BYTES bytes.now) headers.now spans.now head
         → ReadsBehind head spans.now.len bytes.now (R.remaining reader.old) (R.remaining reader.new) }
     ensures read_failed { IsErrOf result Read → calls.new.read_failed ≡ true }

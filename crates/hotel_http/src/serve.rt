@@ -135,7 +135,8 @@ fn answer_command<W: Write, B: Walks, R: Rng>(
     source: &mut R,
     calls: &mut IoCalls,
 ) -> Result<Served, Cut>
-    ensures went { Happens B.Issued B.rows books.old (Answered (AskComes (ask.Command command.now)) (R.stream source.old) (R.stream source.new) []
+    ensures went { Happens B.Issued B.rows books.old (Answered (AskComes (ask.Command command.now))
+        (R.stream source.old) (R.stream source.new) []
         (W.contents writer.old) (W.contents writer.new) result) books.new }
     ensures failed { OnErr result (calls.new.write_failed ≡ true) }
     ensures calls { NoneForgotten calls.old calls.new }
@@ -154,13 +155,16 @@ fn list_refusal(fault: ListFault) -> Refusal
 
 /// The text of a list, made whole in memory; or why it is refused.
 fn list_text<B: Walks>(alloc: Global, list: &ListAsk, books: &mut B) -> Result<Vec<u8>, Refusal>
-    ensures text { B.is_honest books.new → IsListText (listing_on (B.rows books.old) list.now) (text_in (λ t. t.items) result) }
-    ensures vouched { B.is_honest books.new → is_answered (text_in (λ t. t.items) result) ≡ true → B.is_clean books.new }
+    ensures text { B.is_honest books.new → IsListText (listing_on (B.rows books.old) list.now)
+        (text_in (λ t. t.items) result) }
+    ensures vouched { B.is_honest books.new → is_answered (text_in (λ t. t.items) result) ≡ true
+        → B.is_clean books.new }
     ensures kept { B.is_clean books.new → B.is_kept books.old books.new }
     ensures was_clean { B.is_clean books.new → B.is_clean books.old }
     ensures was_honest { B.is_honest books.new → B.is_honest books.old }
     ensures counted { NoFewer (B.failures books.old) (B.failures books.new) }
-    ensures failures { AreCounted (B.failures books.old) (B.failures books.new) (list_failures (text_in (λ t. t.items) result)) }
+    ensures failures { AreCounted (B.failures books.old) (B.failures books.new)
+        (list_failures (text_in (λ t. t.items) result)) }
 {
     let mut text = Vec::new(alloc);
     match write_list(alloc, list, &mut text, books, &mut IoCalls::none()) {
@@ -235,7 +239,8 @@ fn answer_ask<W: Write, B: Walks, R: Rng>(
     source: &mut R,
     calls: &mut IoCalls,
 ) -> Result<Served, Cut>
-    ensures went { Happens B.Issued B.rows books.old (Answered (AskComes asked.now) (R.stream source.old) (R.stream source.new) []
+    ensures went { Happens B.Issued B.rows books.old (Answered (AskComes asked.now) (R.stream source.old)
+        (R.stream source.new) []
         (W.contents writer.old) (W.contents writer.new) result) books.new }
     ensures failed { OnErr result (calls.new.write_failed ≡ true) }
     ensures calls { NoneForgotten calls.old calls.new }
@@ -255,7 +260,8 @@ fn answer_request<W: Write, B: Walks, R: Rng>(
     source: &mut R,
     calls: &mut IoCalls,
 ) -> Result<Served, Cut>
-    ensures went { Happens B.Issued B.rows books.old (Answered (TaskComes request.now.task request.now.body.items) (R.stream source.old) (R.stream source.new) []
+    ensures went { Happens B.Issued B.rows books.old (Answered (TaskComes request.now.task request.now.body.items)
+        (R.stream source.old) (R.stream source.new) []
         (W.contents writer.old) (W.contents writer.new) result) books.new }
     ensures failed { OnErr result (calls.new.write_failed ≡ true) }
     ensures calls { NoneForgotten calls.old calls.new }
@@ -277,8 +283,10 @@ pub fn serve_by<I: Read, W: Write, B: Walks, R: Rng>(
     source: &mut R,
     calls: &mut IoCalls,
 ) -> Result<Served, ServeFault>
-    ensures serves { Serves (I.remaining reader.old) (W.contents writer.old) (W.contents writer.new) ((books.new ≡ books.old) × (source.new ≡ source.old))
-        (λ wanted awaited end. Happens B.Issued B.rows books.old (Answered (Comes wanted) (R.stream source.old) (R.stream source.new) (interim_where awaited)
+    ensures serves { Serves (I.remaining reader.old) (W.contents writer.old) (W.contents writer.new)
+        ((books.new ≡ books.old) × (source.new ≡ source.old))
+        (λ wanted awaited end. Happens B.Issued B.rows books.old
+        (Answered (Comes wanted) (R.stream source.old) (R.stream source.new) (interim_where awaited)
         (W.contents writer.old) (W.contents writer.new) end) books.new) result }
     ensures was_clean { B.is_clean books.new → B.is_clean books.old }
     ensures was_honest { B.is_honest books.new → B.is_honest books.old }
@@ -308,8 +316,10 @@ pub fn serve_one<I: Read, W: Write, B: Walks, R: Rng>(
     books: &mut B,
     source: &mut R,
 ) -> Result<Served, ServeFault>
-    ensures serves { Serves (I.remaining reader.old) (W.contents writer.old) (W.contents writer.new) ((books.new ≡ books.old) × (source.new ≡ source.old))
-        (λ wanted awaited end. Happens B.Issued B.rows books.old (Answered (Comes wanted) (R.stream source.old) (R.stream source.new) (interim_where awaited)
+    ensures serves { Serves (I.remaining reader.old) (W.contents writer.old) (W.contents writer.new)
+        ((books.new ≡ books.old) × (source.new ≡ source.old))
+        (λ wanted awaited end. Happens B.Issued B.rows books.old
+        (Answered (Comes wanted) (R.stream source.old) (R.stream source.new) (interim_where awaited)
         (W.contents writer.old) (W.contents writer.new) end) books.new) result }
     ensures was_clean { B.is_clean books.new → B.is_clean books.old }
     ensures was_honest { B.is_honest books.new → B.is_honest books.old }

@@ -17,7 +17,8 @@ ConsumesAtMost most old new = (bytes : List ℕ) × (length bytes ≤ most) × C
 
 -- A reader lost n bytes at its front, and they were put behind the bytes that were there.
 abbrev pub ReadsOnto : Option (List ℕ) → Option (List ℕ) → List ℕ → List ℕ → ℕ → Type 0
-ReadsOnto old new before after n = (bytes : List ℕ) × (length bytes ≡ n) × Consumes old new bytes × (after ≡ before ++ bytes)
+ReadsOnto old new before after n =
+    (bytes : List ℕ) × (length bytes ≡ n) × Consumes old new bytes × (after ≡ before ++ bytes)
 
 -- The bytes of parts, one part after the other.
 abbrev pub joined : List (Bor (List ℕ)) → List ℕ

@@ -19,11 +19,14 @@ Gathers contents old new line =
 
 -- It stopped as it was to write these bytes: a write failed, or memory was refused.
 abbrev pub StopsAtWrite : {W : Type 0} → (W → Option (List ℕ)) → Lines W → Lines W → List ℕ → Type 0
-StopsAtWrite contents old new bytes = StopsBy new.write_failed (contents old.writer.now) (contents new.writer.now) bytes × (new.write_failed ≡ true → new.calls.now.write_failed ≡ true)
+StopsAtWrite contents old new bytes = StopsBy new.write_failed (contents old.writer.now) (contents new.writer.now) bytes
+    × (new.write_failed ≡ true → new.calls.now.write_failed ≡ true)
 
 -- How a walk's end became that of the list: a sink that stopped was left so; another one wrote what it had gathered, or
 -- stopped.
-abbrev pub Finishes : {W : Type 0} → (W → Option (List ℕ)) → Lines W → Lines W → Result (Unit {0}) WalkFault → Result (Unit {0}) WalkFault → Type 0
+abbrev pub Finishes : {W : Type 0} → (W → Option (List ℕ)) → Lines W → Lines W → Result (Unit {0}) WalkFault
+    → Result (Unit {0}) WalkFault → Type 0
 Finishes contents old new (Err walk.Stopped) result = (result ≡ Err walk.Stopped) × (new ≡ old)
 Finishes contents old new end (Err walk.Stopped) = StopsAtWrite contents old new old.gathered.now
-Finishes contents old new end result = (result ≡ end) × Appends (contents old.writer.now) (contents new.writer.now) old.gathered.now
+Finishes contents old new end result =
+    (result ≡ end) × Appends (contents old.writer.now) (contents new.writer.now) old.gathered.now

@@ -24,7 +24,8 @@ line_of fields = row_text default_writer fields
 
 -- a booked stay
 abbrev pub arrival_line : Stay → List ℕ
-arrival_line stay = line_of (decimal stay.party ∷ stay.guest ∷ stay.kind ∷ day_text stay.arrive ∷ day_text stay.depart ∷ [])
+arrival_line stay =
+    line_of (decimal stay.party ∷ stay.guest ∷ stay.kind ∷ day_text stay.arrive ∷ day_text stay.depart ∷ [])
 
 abbrev pub yes_or_no : Bool → List ℕ
 yes_or_no true = codes "yes"
@@ -32,7 +33,8 @@ yes_or_no false = codes "no"
 
 -- a room with its party
 abbrev pub house_line : HouseRow → List ℕ
-house_line row = line_of (decimal row.room ∷ decimal row.party ∷ row.guest ∷ row.kind ∷ day_text row.depart ∷ yes_or_no row.secured ∷ [])
+house_line row = line_of (decimal row.room ∷ decimal row.party ∷ row.guest ∷ row.kind ∷ day_text row.depart
+    ∷ yes_or_no row.secured ∷ [])
 
 abbrev pub state_text : CodeState → List ℕ
 state_text state.Passed = codes "passed"
@@ -55,7 +57,8 @@ act_fields (Recoded from to) = codes "recode" ∷ [] ∷ code_text from ∷ code
 
 -- a note
 abbrev pub note_line : Note → List ℕ
-note_line note = line_of (decimal note.room ∷ decimal note.fit ∷ decimal note.count ∷ act_fields note.act ++ moment_text (moment_of note) ∷ [])
+note_line note = line_of (decimal note.room ∷ decimal note.fit ∷ decimal note.count ∷ act_fields note.act
+    ++ moment_text (moment_of note) ∷ [])
 
 -- the first line of each list
 abbrev pub arrivals_header : List ℕ

@@ -28,13 +28,16 @@ in_full no_room (Some listing) = listing.header ++ concat listing.lines
 -- The header of a list and some whole lines from the first on; or nothing.
 abbrev pub IsFront : Option Listing → List ℕ → Type 0
 IsFront None text = text ≡ []
-IsFront (Some listing) text = (text ≡ []) ⊎ ((taken : List (List ℕ)) × (rest : List (List ℕ)) × (listing.lines ≡ taken ++ rest) × (text ≡ listing.header ++ concat taken))
+IsFront (Some listing) text = (text ≡ []) ⊎ ((taken : List (List ℕ)) × (rest : List (List ℕ))
+    × (listing.lines ≡ taken ++ rest) × (text ≡ listing.header ++ concat taken))
 
 -- What a writer took of a list that ended so, where this is said if its room isn't there: all; a front after a write of
 -- it failed, if there was anything to write; whole lines where memory or the store failed.
 abbrev pub ListEnds : List ℕ → Option Listing → Option (List ℕ) → Option (List ℕ) → Result (Unit {0}) ListFault → Type 0
 ListEnds no_room listing old new (Ok done) = (is_some listing ≡ true) × Appends old new (in_full no_room listing)
-ListEnds no_room listing old new (Err fault.NoRoom) = (is_some listing ≡ false) × Appends old new (in_full no_room listing)
-ListEnds no_room listing old new (Err fault.Write) = (is_some listing ≡ false → no_room ≢ []) × AppendsFront old new (in_full no_room listing)
+ListEnds no_room listing old new (Err fault.NoRoom) =
+    (is_some listing ≡ false) × Appends old new (in_full no_room listing)
+ListEnds no_room listing old new (Err fault.Write) =
+    (is_some listing ≡ false → no_room ≢ []) × AppendsFront old new (in_full no_room listing)
 ListEnds no_room listing old new (Err fault.Memory) = (front : List ℕ) × IsFront listing front × Appends old new front
 ListEnds no_room listing old new (Err fault.Store) = (front : List ℕ) × IsFront listing front × Appends old new front

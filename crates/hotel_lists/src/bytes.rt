@@ -81,7 +81,8 @@ pub fn read_more<R: Read>(
     bytes: &mut Vec<u8>,
     calls: &mut IoCalls,
 ) -> Result<usize, ReadFault>
-    ensures ok { IfOk result (λ n. ReadsOnto (R.remaining reader.old) (R.remaining reader.new) bytes.old.items bytes.new.items n) }
+    ensures ok { IfOk result (λ n. ReadsOnto (R.remaining reader.old)
+        (R.remaining reader.new) bytes.old.items bytes.new.items n) }
     ensures most { IfOk result (λ n. n ≤ 4096) }
     ensures end { IfOk result (λ n. n ≡ 0 → IsAtEnd (R.remaining reader.new)) }
     ensures lost { OnErr result (ConsumesAtMost 4096 (R.remaining reader.old) (R.remaining reader.new)) }
@@ -126,7 +127,8 @@ pub fn read_whole<R: Read>(
     ensures whole { IfOk result (λ bytes. IfSome (R.remaining reader.old) (λ input. bytes.items ≡ input)) }
     ensures within { IfOk result (λ bytes. length bytes.items ≤ limit) }
     ensures end { OnOk result (IsAtEnd (R.remaining reader.new)) }
-    ensures large { IsErrOf result WholeFault.TooLarge → IfSome (R.remaining reader.old) (λ input. limit < length input) }
+    ensures large { IsErrOf result WholeFault.TooLarge → IfSome (R.remaining reader.old)
+        (λ input. limit < length input) }
     ensures failed { IsErrOf result WholeFault.Read → calls.new.read_failed ≡ true }
     ensures calls { NoneForgotten calls.old calls.new }
 {

@@ -47,7 +47,8 @@ impl<'a, W: Write> Lines<'a, W> {
     /// Writes the lines that are gathered.
     fn write_gathered(&mut self) -> Result<(), Stop>
         ensures same { SameEnds self.old self.new }
-        ensures ok { OnOk result (Appends (W.contents self.old.writer.now) (W.contents self.new.writer.now) self.old.gathered.now) }
+        ensures ok { OnOk result (Appends (W.contents self.old.writer.now)
+            (W.contents self.new.writer.now) self.old.gathered.now) }
         ensures err { OnErr result (StopsAtWrite W.contents self.old self.new self.old.gathered.now) }
         ensures left { self.new.gathered.now ≡ [] }
     {
@@ -83,7 +84,8 @@ impl<'a, W: Write, R: Line> Sink<R> for Lines<'a, W> {
 
     ghost after = { λ old row new. SameEnds old new × Gathers W.contents old new (R.line row) };
 
-    ghost after_stop = { λ old row new. SameEnds old new × StopsAtWrite W.contents old new (old.gathered.now ++ R.line row) };
+    ghost after_stop = { λ old row new. SameEnds old new
+        × StopsAtWrite W.contents old new (old.gathered.now ++ R.line row) };
 
     fn take(&mut self, row: &R) -> Result<(), Stop> {
         if row.line(self.gathered).is_err() {

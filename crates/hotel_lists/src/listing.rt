@@ -22,7 +22,8 @@ pub(crate) trait Listing<B: Walks> {
 
     /// Walks over its rows.
     fn walk<S: Sink<Self::Row>>(&self, books: &mut B, sink: &mut S) -> Result<(), WalkFault>
-        ensures { WalksOver B.Issued takes_memory S.after S.after_stop (rows self.now (B.rows books.old)) books.old books.new sink.old sink.new result };
+        ensures { WalksOver B.Issued takes_memory S.after S.after_stop
+            (rows self.now (B.rows books.old)) books.old books.new sink.old sink.new result };
 }
 
 /// The booked stays that take the night of a day.

@@ -26,7 +26,9 @@ pub fn arrivals<B: Walks, W: Write>(
     day: Day,
     writer: &mut W,
 ) -> Result<(), ListFault>
-    ensures text { B.is_honest books.new → ListEnds [] (Some (listing arrivals_header arrival_line (arrivals_on (B.rows books.old) day))) (W.contents writer.old) (W.contents writer.new) result }
+    ensures text { B.is_honest books.new → ListEnds [] (Some
+        (listing arrivals_header arrival_line (arrivals_on (B.rows books.old) day))) (W.contents writer.old)
+        (W.contents writer.new) result }
     ensures no_room { result ≡ Err NoRoom → ⊥ }
     ensures books { LooksAt B.Issued books.old books.new result }
 {
@@ -39,7 +41,9 @@ pub fn in_house<B: Walks, W: Write>(
     books: &mut B,
     writer: &mut W,
 ) -> Result<(), ListFault>
-    ensures text { B.is_honest books.new → ListEnds [] (Some (listing in_house_header house_line (in_house_on (B.rows books.old)))) (W.contents writer.old) (W.contents writer.new) result }
+    ensures text { B.is_honest books.new → ListEnds [] (Some
+        (listing in_house_header house_line (in_house_on (B.rows books.old)))) (W.contents writer.old)
+        (W.contents writer.new) result }
     ensures no_room { result ≡ Err NoRoom → ⊥ }
     ensures books { LooksAt B.Issued books.old books.new result }
 {
@@ -53,7 +57,9 @@ pub fn chain_of<B: Walks, W: Write>(
     room: RoomNo,
     writer: &mut W,
 ) -> Result<(), ListFault>
-    ensures text { B.is_honest books.new → ListEnds [] (of_room (is_some (room_at (B.rows books.old) room)) (listing chain_header chain_line (chain_on (B.rows books.old) room))) (W.contents writer.old) (W.contents writer.new) result }
+    ensures text { B.is_honest books.new → ListEnds [] (of_room (is_some (room_at (B.rows books.old) room))
+        (listing chain_header chain_line (chain_on (B.rows books.old) room))) (W.contents writer.old)
+        (W.contents writer.new) result }
     ensures books { LooksAt B.Issued books.old books.new result }
 {
     write_chain_of(alloc, books, room, writer, &mut IoCalls::none())
@@ -65,7 +71,9 @@ pub fn left_behind<B: Walks, W: Write>(
     books: &mut B,
     writer: &mut W,
 ) -> Result<(), ListFault>
-    ensures text { B.is_honest books.new → ListEnds [] (Some (listing left_behind_header behind_line (left_behind_on (B.rows books.old)))) (W.contents writer.old) (W.contents writer.new) result }
+    ensures text { B.is_honest books.new → ListEnds [] (Some
+        (listing left_behind_header behind_line (left_behind_on (B.rows books.old)))) (W.contents writer.old)
+        (W.contents writer.new) result }
     ensures no_room { result ≡ Err NoRoom → ⊥ }
     ensures books { LooksAt B.Issued books.old books.new result }
 {
@@ -79,7 +87,9 @@ pub fn audit_of<B: Walks, W: Write>(
     room: RoomNo,
     writer: &mut W,
 ) -> Result<(), ListFault>
-    ensures text { B.is_honest books.new → ListEnds [] (of_room (is_some (room_at (B.rows books.old) room)) (listing audit_header note_line (notes_at (B.rows books.old).notes room))) (W.contents writer.old) (W.contents writer.new) result }
+    ensures text { B.is_honest books.new → ListEnds [] (of_room (is_some (room_at (B.rows books.old) room))
+        (listing audit_header note_line (notes_at (B.rows books.old).notes room))) (W.contents writer.old)
+        (W.contents writer.new) result }
     ensures books { LooksAt B.Issued books.old books.new result }
 {
     write_audit_of(alloc, books, room, writer, &mut IoCalls::none())

@@ -56,7 +56,9 @@ fn write_rows<B: Walks, L: Listing<B>, W: Write>(
     writer: &mut W,
     calls: &mut IoCalls,
 ) -> Result<(), ListFault>
-    ensures text { B.is_honest books.new → ListEnds [] (Some (listing header.now L.Row.line (L.rows list.now (B.rows books.old)))) (W.contents writer.old) (W.contents writer.new) result }
+    ensures text { B.is_honest books.new → ListEnds [] (Some
+        (listing header.now L.Row.line (L.rows list.now (B.rows books.old)))) (W.contents writer.old)
+        (W.contents writer.new) result }
     ensures no_room { result ≡ Err NoRoom → ⊥ }
     ensures books { LooksAt B.Issued books.old books.new result }
     ensures failed { result ≡ Err Write → calls.new.write_failed ≡ true }
@@ -80,7 +82,9 @@ fn write_room_rows<B: Walks, L: Listing<B>, W: Write>(
     writer: &mut W,
     calls: &mut IoCalls,
 ) -> Result<(), ListFault>
-    ensures text { B.is_honest books.new → ListEnds [] (of_room (is_some (room_at (B.rows books.old) room)) (listing header.now L.Row.line (L.rows list.now (B.rows books.old)))) (W.contents writer.old) (W.contents writer.new) result }
+    ensures text { B.is_honest books.new → ListEnds [] (of_room (is_some (room_at (B.rows books.old) room))
+        (listing header.now L.Row.line (L.rows list.now (B.rows books.old)))) (W.contents writer.old)
+        (W.contents writer.new) result }
     ensures books { LooksAt B.Issued books.old books.new result }
     ensures failed { result ≡ Err Write → calls.new.write_failed ≡ true }
     ensures calls { NoneForgotten calls.old calls.new }
@@ -97,7 +101,9 @@ pub fn write_arrivals<B: Walks, W: Write>(
     writer: &mut W,
     calls: &mut IoCalls,
 ) -> Result<(), ListFault>
-    ensures text { B.is_honest books.new → ListEnds [] (Some (listing arrivals_header arrival_line (arrivals_on (B.rows books.old) day))) (W.contents writer.old) (W.contents writer.new) result }
+    ensures text { B.is_honest books.new → ListEnds [] (Some
+        (listing arrivals_header arrival_line (arrivals_on (B.rows books.old) day))) (W.contents writer.old)
+        (W.contents writer.new) result }
     ensures no_room { result ≡ Err NoRoom → ⊥ }
     ensures books { LooksAt B.Issued books.old books.new result }
     ensures failed { result ≡ Err Write → calls.new.write_failed ≡ true }
@@ -113,7 +119,9 @@ pub fn write_in_house<B: Walks, W: Write>(
     writer: &mut W,
     calls: &mut IoCalls,
 ) -> Result<(), ListFault>
-    ensures text { B.is_honest books.new → ListEnds [] (Some (listing in_house_header house_line (in_house_on (B.rows books.old)))) (W.contents writer.old) (W.contents writer.new) result }
+    ensures text { B.is_honest books.new → ListEnds [] (Some
+        (listing in_house_header house_line (in_house_on (B.rows books.old)))) (W.contents writer.old)
+        (W.contents writer.new) result }
     ensures no_room { result ≡ Err NoRoom → ⊥ }
     ensures books { LooksAt B.Issued books.old books.new result }
     ensures failed { result ≡ Err Write → calls.new.write_failed ≡ true }
@@ -130,7 +138,9 @@ pub fn write_chain_of<B: Walks, W: Write>(
     writer: &mut W,
     calls: &mut IoCalls,
 ) -> Result<(), ListFault>
-    ensures text { B.is_honest books.new → ListEnds [] (of_room (is_some (room_at (B.rows books.old) room)) (listing chain_header chain_line (chain_on (B.rows books.old) room))) (W.contents writer.old) (W.contents writer.new) result }
+    ensures text { B.is_honest books.new → ListEnds [] (of_room (is_some (room_at (B.rows books.old) room))
+        (listing chain_header chain_line (chain_on (B.rows books.old) room))) (W.contents writer.old)
+        (W.contents writer.new) result }
     ensures books { LooksAt B.Issued books.old books.new result }
     ensures failed { result ≡ Err Write → calls.new.write_failed ≡ true }
     ensures calls { NoneForgotten calls.old calls.new }
@@ -145,7 +155,9 @@ pub fn write_left_behind<B: Walks, W: Write>(
     writer: &mut W,
     calls: &mut IoCalls,
 ) -> Result<(), ListFault>
-    ensures text { B.is_honest books.new → ListEnds [] (Some (listing left_behind_header behind_line (left_behind_on (B.rows books.old)))) (W.contents writer.old) (W.contents writer.new) result }
+    ensures text { B.is_honest books.new → ListEnds [] (Some
+        (listing left_behind_header behind_line (left_behind_on (B.rows books.old)))) (W.contents writer.old)
+        (W.contents writer.new) result }
     ensures no_room { result ≡ Err NoRoom → ⊥ }
     ensures books { LooksAt B.Issued books.old books.new result }
     ensures failed { result ≡ Err Write → calls.new.write_failed ≡ true }
@@ -162,7 +174,9 @@ pub fn write_audit_of<B: Walks, W: Write>(
     writer: &mut W,
     calls: &mut IoCalls,
 ) -> Result<(), ListFault>
-    ensures text { B.is_honest books.new → ListEnds [] (of_room (is_some (room_at (B.rows books.old) room)) (listing audit_header note_line (notes_at (B.rows books.old).notes room))) (W.contents writer.old) (W.contents writer.new) result }
+    ensures text { B.is_honest books.new → ListEnds [] (of_room (is_some (room_at (B.rows books.old) room))
+        (listing audit_header note_line (notes_at (B.rows books.old).notes room))) (W.contents writer.old)
+        (W.contents writer.new) result }
     ensures books { LooksAt B.Issued books.old books.new result }
     ensures failed { result ≡ Err Write → calls.new.write_failed ≡ true }
     ensures calls { NoneForgotten calls.old calls.new }

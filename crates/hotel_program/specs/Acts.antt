@@ -49,12 +49,14 @@ pub record Views (S R W F E : Type 0) : Type 1 where
   pub bound : E → ℕ → Result (Unit {0}) Fault → E → Type 0
 
 -- An act ended by this status, or by this fault, which was told.
-abbrev pub EndsBy : {S R W F E : Type 0} → Views S R W F E → Result ℕ Fault → ℕ → Desk S R W F E → Desk S R W F E → Type 0
+abbrev pub EndsBy : {S R W F E : Type 0} → Views S R W F E → Result ℕ Fault → ℕ → Desk S R W F E → Desk S R W F E
+    → Type 0
 EndsBy v end status old new = (status ≡ end_status end) × Tells v.told old.faults end new.faults
 
 -- One command: a step of the model, and its reply.
 abbrev pub OneEnds : {S R W F E : Type 0} → Views S R W F E → Command → ℕ → Desk S R W F E → Desk S R W F E → Type 0
-OneEnds v command status old new = (reply : Reply) × (write_failed : Bool) × EndsBy v (command_end reply write_failed) status old new
+OneEnds v command status old new =
+    (reply : Reply) × (write_failed : Bool) × EndsBy v (command_end reply write_failed) status old new
     × WritesReply (v.contents old.writer) (v.contents new.writer) reply write_failed
     × CommandEnds v.issued v.rows command reply old.books new.books (v.stream old.source) (v.stream new.source)
     × (new.around ≡ old.around)
@@ -62,28 +64,37 @@ OneEnds v command status old new = (reply : Reply) × (write_failed : Bool) × E
 -- A list: its text over the history.
 abbrev pub AListEnds : {S R W F E : Type 0} → Views S R W F E → ListAsk → ℕ → Desk S R W F E → Desk S R W F E → Type 0
 AListEnds v its_list status old new = (end : Result (Unit {0}) ListFault) × EndsBy v (list_end end) status old new
-    × (v.issued.is_honest new.books → AnswerEndsFor (v.rows old.books) its_list (v.contents old.writer) (v.contents new.writer) end)
+    × (v.issued.is_honest new.books → AnswerEndsFor (v.rows old.books) its_list (v.contents old.writer)
+    (v.contents new.writer) end)
     × LooksAt v.issued old.books new.books end × (new.source ≡ old.source) × (new.around ≡ old.around)
 
 -- An audit file of these bytes: its lines one after the other, and their answers.
 abbrev pub AuditEnds : {S R W F E : Type 0} → Views S R W F E → List ℕ → ℕ → Desk S R W F E → Desk S R W F E → Type 0
-AuditEnds v bytes status old new = (outcome : Result (List LineAnswer) ImportFault) × (write_failed : Bool) × EndsBy v (audit_end outcome write_failed) status old new
+AuditEnds v bytes status old new = (outcome : Result (List LineAnswer) ImportFault) × (write_failed : Bool)
+    × EndsBy v (audit_end outcome write_failed) status old new
     × WritesAnswers v.contents old.writer new.writer outcome write_failed
     × ImportEnds v.issued v.rows bytes old.books new.books outcome
     × (new.source ≡ old.source) × (new.around ≡ old.around)
 
 -- What came of a script that ended so, of which these bytes are known.
-pub record ScriptCame {S R W F E : Type 0} (v : Views S R W F E) (known : Option (List ℕ)) (end : Result ScriptEnd ScriptFault) (old new : Desk S R W F E) : Type 0 where
-  pub answered : IfOk end (λ script_end. (script : List ℕ) × IsInput known script × (script_end.lines ≡ length (answered_lines script))
-      × LinesAnswered v.issued v.rows v.stream v.contents (old.books, old.source, old.writer) (answered_lines script) (new.books, new.source, new.writer))
-  pub cut : IfCut end (λ done. (script : List ℕ) × IsInput known script × (1 ≤ done) × (done ≤ length (answered_lines script))
-      × LinesCut v.issued v.rows v.stream v.contents (old.books, old.source, old.writer) (take done (answered_lines script)) (new.books, new.source, new.writer))
+pub record ScriptCame {S R W F E : Type 0} (v : Views S R W F E) (known : Option (List ℕ))
+    (end : Result ScriptEnd ScriptFault) (old new : Desk S R W F E) : Type 0 where
+  pub answered : IfOk end (λ script_end. (script : List ℕ) × IsInput known script
+      × (script_end.lines ≡ length (answered_lines script))
+      × LinesAnswered v.issued v.rows v.stream v.contents (old.books, old.source, old.writer) (answered_lines script)
+      (new.books, new.source, new.writer))
+  pub cut : IfCut end (λ done. (script : List ℕ) × IsInput known script × (1 ≤ done)
+      × (done ≤ length (answered_lines script))
+      × LinesCut v.issued v.rows v.stream v.contents (old.books, old.source, old.writer)
+      (take done (answered_lines script)) (new.books, new.source, new.writer))
   pub unbegun : IfUnbegun end (NothingBegun old.books new.books old.source new.source old.writer new.writer)
   pub large : IsErrOf end TooLarge → IfSome known (λ input. 1048576 < length input)
 
 -- A script: its lines one after the other, each answered before the next.
-abbrev pub ScriptEnds : {S R W F E : Type 0} → Views S R W F E → Option (List ℕ) → ℕ → Desk S R W F E → Desk S R W F E → Type 0
-ScriptEnds v known status old new = (end : Result ScriptEnd ScriptFault) × EndsBy v (script_end end) status old new × ScriptCame v known end old new × (new.around ≡ old.around)
+abbrev pub ScriptEnds : {S R W F E : Type 0} → Views S R W F E → Option (List ℕ) → ℕ → Desk S R W F E → Desk S R W F E
+    → Type 0
+ScriptEnds v known status old new = (end : Result ScriptEnd ScriptFault) × EndsBy v (script_end end) status old new
+    × ScriptCame v known end old new × (new.around ≡ old.around)
 
 -- The line that says where connections are taken.
 abbrev pub listening_text : ℕ → List ℕ
@@ -91,7 +102,8 @@ listening_text port = codes "listening on 127.0.0.1:" ++ decimal port ++ codes "
 
 -- Connections were served: this many, each to its end, and the faults of these ends were told.
 abbrev pub Serves : {S R W F E : Type 0} → Views S R W F E → ℕ → Desk S R W F E → Desk S R W F E → Type 0
-Serves v count old new = (ends : List ConnectionEnd) × (length ends ≡ count) × TellsAll v.told old.faults (faults_of ends) new.faults
+Serves v count old new =
+    (ends : List ConnectionEnd) × (length ends ≡ count) × TellsAll v.told old.faults (faults_of ends) new.faults
     × Happens v.issued v.rows old.books (ServesAll ends (v.stream old.source) (v.stream new.source)) new.books
     × Passes (ConnectionHappens v.issued v.rows v.stream) (old.books, old.source) ends (new.books, new.source)
 
@@ -100,22 +112,29 @@ abbrev pub Untouched : {S R W F E : Type 0} → Desk S R W F E → Desk S R W F 
 Untouched old new = (new.books ≡ old.books) × (new.source ≡ old.source)
 
 -- The line was written and connections were served; or a write of it failed, and none was.
-abbrev pub ListensTo : {S R W F E : Type 0} → Views S R W F E → ℕ → ℕ → Bool → ℕ → Desk S R W F E → Desk S R W F E → Type 0
-ListensTo v port count false status old new = (status ≡ 0) × Appends (v.contents old.writer) (v.contents new.writer) (listening_text port) × Serves v count old new
+abbrev pub ListensTo : {S R W F E : Type 0} → Views S R W F E → ℕ → ℕ → Bool → ℕ → Desk S R W F E → Desk S R W F E
+    → Type 0
+ListensTo v port count false status old new = (status ≡ 0)
+    × Appends (v.contents old.writer) (v.contents new.writer) (listening_text port) × Serves v count old new
 ListensTo v port count true status old new = EndsBy v (Err fault.Write) status old new
     × AppendsFront (v.contents old.writer) (v.contents new.writer) (listening_text port) × Untouched old new
 
 -- What comes of a port that was asked for.
-abbrev pub PortEnds : {S R W F E : Type 0} → Views S R W F E → ℕ → ℕ → Result (Unit {0}) Fault → ℕ → Desk S R W F E → Desk S R W F E → Type 0
-PortEnds v port count (Ok done) status old new = (write_failed : Bool) × ListensTo v port count write_failed status old new
-PortEnds v port count (Err why) status old new = EndsBy v (Err why) status old new × Untouched old new × (new.writer ≡ old.writer)
+abbrev pub PortEnds : {S R W F E : Type 0} → Views S R W F E → ℕ → ℕ → Result (Unit {0}) Fault → ℕ → Desk S R W F E
+    → Desk S R W F E → Type 0
+PortEnds v port count (Ok done) status old new =
+    (write_failed : Bool) × ListensTo v port count write_failed status old new
+PortEnds v port count (Err why) status old new =
+    EndsBy v (Err why) status old new × Untouched old new × (new.writer ≡ old.writer)
 
 -- Connections on a port.
 abbrev pub ServeEnds : {S R W F E : Type 0} → Views S R W F E → ℕ → ℕ → ℕ → Desk S R W F E → Desk S R W F E → Type 0
-ServeEnds v port count status old new = (port_is : Result (Unit {0}) Fault) × v.bound old.around port port_is new.around × PortEnds v port count port_is status old new
+ServeEnds v port count status old new = (port_is : Result (Unit {0}) Fault) × v.bound old.around port port_is new.around
+    × PortEnds v port count port_is status old new
 
 -- An act, with the bytes of its audit file, and what is known of the script.
-abbrev pub ActEnds : {S R W F E : Type 0} → Views S R W F E → Option (List ℕ) → List ℕ → DeskAct → ℕ → Desk S R W F E → Desk S R W F E → Type 0
+abbrev pub ActEnds : {S R W F E : Type 0} → Views S R W F E → Option (List ℕ) → List ℕ → DeskAct → ℕ → Desk S R W F E
+    → Desk S R W F E → Type 0
 ActEnds v known bytes (One command) = OneEnds v command
 ActEnds v known bytes (AList its_list) = AListEnds v its_list
 ActEnds v known bytes (Audit name) = AuditEnds v bytes

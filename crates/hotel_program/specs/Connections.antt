@@ -25,29 +25,36 @@ NothingCame h s failed answered h' s' = (failed ≡ []) × (answered ≡ []) × 
 
 -- What a request asks for came, with these failures; its answer has this in it, and says how the books answered.
 abbrev pub RequestCame : (Outcome → Type 0) → History → Stream → List Refusal → List Bool → History → Stream → Type 0
-RequestCame said h s failed answered h' s' = (wanted : Wanted) × (out : Outcome) × Comes wanted h s out failed h' s' × said out × (answered ≡ out.answered)
+RequestCame said h s failed answered h' s' =
+    (wanted : Wanted) × (out : Outcome) × Comes wanted h s out failed h' s' × said out × (answered ≡ out.answered)
 
 -- What came of a connection that ended so.
 abbrev pub ConnectionCame : ConnectionEnd → History → Stream → List Refusal → List Bool → History → Stream → Type 0
 ConnectionCame (Some (Ok served)) = RequestCame (λ out. (served.status ≡ out.status) × (served.acted ≡ out.acted))
 ConnectionCame (Some (Err (serve.Write acted))) =
-    λ h s failed answered h' s'. RequestCame (λ out. acted ≡ out.acted) h s failed answered h' s' ⊎ ((acted ≡ false) × NothingCame h s failed answered h' s')
+    λ h s failed answered h' s'. RequestCame (λ out. acted ≡ out.acted) h s failed answered h' s'
+    ⊎ ((acted ≡ false) × NothingCame h s failed answered h' s')
 ConnectionCame _ = NothingCame
 
 -- What came of connections that ended so, one after the other.
 abbrev pub AllCame : List ConnectionEnd → History → Stream → List Refusal → List Bool → History → Stream → Type 0
 AllCame [] h s failed answered h' s' = NothingCame h s failed answered h' s'
 AllCame (end ∷ ends) h s failed answered h' s' =
-    (mid : History) × (t : Stream) × (first more : List Refusal) × (given later : List Bool) × ConnectionCame end h s first given mid t × AllCame ends mid t more later h' s'
+    (mid : History) × (t : Stream) × (first more : List Refusal) × (given later : List Bool)
+    × ConnectionCame end h s first given mid t × AllCame ends mid t more later h' s'
     × (failed ≡ first ++ more) × (answered ≡ given ++ later)
 
 -- Connections were served from one history to another, and this is told of their failures and of the books' answers.
-abbrev pub ServesAll : List ConnectionEnd → Stream → Stream → (List Refusal → List Bool → Type 0) → History → History → Type 0
-ServesAll ends s s' told h h' = (failed : List Refusal) × (answered : List Bool) × AllCame ends h s failed answered h' s' × told failed answered
+abbrev pub ServesAll : List ConnectionEnd → Stream → Stream → (List Refusal → List Bool → Type 0) → History → History
+    → Type 0
+ServesAll ends s s' told h h' =
+    (failed : List Refusal) × (answered : List Bool) × AllCame ends h s failed answered h' s' × told failed answered
 
 -- A connection was served to this end, by books and a source of words.
-abbrev pub ConnectionHappens : {S R : Type 0} → IssuedOf S → (S → Rows) → (R → Stream) → S × R → ConnectionEnd → S × R → Type 0
-ConnectionHappens I rows stream old end new = Happens I rows old.0 (ServesAll (end ∷ []) (stream old.1) (stream new.1)) new.0
+abbrev pub ConnectionHappens : {S R : Type 0} → IssuedOf S → (S → Rows) → (R → Stream) → S × R → ConnectionEnd → S × R
+    → Type 0
+ConnectionHappens I rows stream old end new =
+    Happens I rows old.0 (ServesAll (end ∷ []) (stream old.1) (stream new.1)) new.0
 
 -- The fault of a request that was served so.
 abbrev pub serve_end : Result Served ServeFault → Result (Unit {0}) Fault

@@ -40,8 +40,10 @@ pub record OuterViews (D W F E : Type 0) : Type 1 where
   pub of_database : IssuedOf D
   pub rows : D → Rows
 
-abbrev pub outer_views : {D W F E : Type 0} → (W → Option (List ℕ)) → (F → Fault → F → Type 0) → (F → List ℕ → F → Type 0) → (E → Option (List ℕ) → Result (List ℕ) Fault → E → Type 0)
-    → (E → List ℕ → Result (List ℕ) Fault → E → Type 0) → (E → List ℕ → Result D Fault → E → Type 0) → (E → ℕ → Result (Unit {0}) Fault → E → Type 0) → IssuedOf Listed → IssuedOf D → (D → Rows)
+abbrev pub outer_views : {D W F E : Type 0} → (W → Option (List ℕ)) → (F → Fault → F → Type 0)
+    → (F → List ℕ → F → Type 0) → (E → Option (List ℕ) → Result (List ℕ) Fault → E → Type 0)
+    → (E → List ℕ → Result (List ℕ) Fault → E → Type 0) → (E → List ℕ → Result D Fault → E → Type 0)
+    → (E → ℕ → Result (Unit {0}) Fault → E → Type 0) → IssuedOf Listed → IssuedOf D → (D → Rows)
     → OuterViews D W F E
 outer_views contents told shown seed_read file_read books_opened bound in_memory of_database rows = record {
   contents = contents;
@@ -57,57 +59,88 @@ outer_views contents told shown seed_read file_read books_opened bound in_memory
 }
 
 abbrev pub memory_views : {D W F E : Type 0} → OuterViews D W F E → Views Listed ChaCha W F E
-memory_views v = record { issued = v.in_memory; rows = λ books. books.rows; stream = stream_of (steps_u32 (next_word 10)); contents = v.contents; told = v.told; bound = v.bound }
+memory_views v = record {
+  issued = v.in_memory;
+  rows = λ books. books.rows;
+  stream = stream_of
+      (steps_u32 (next_word 10));
+  contents = v.contents;
+  told = v.told;
+  bound = v.bound;
+}
 
 abbrev pub database_views : {D W F E : Type 0} → OuterViews D W F E → Views D ChaCha W F E
-database_views v = record { issued = v.of_database; rows = v.rows; stream = stream_of (steps_u32 (next_word 10)); contents = v.contents; told = v.told; bound = v.bound }
+database_views v = record {
+  issued = v.of_database;
+  rows = v.rows;
+  stream = stream_of
+      (steps_u32 (next_word 10));
+  contents = v.contents;
+  told = v.told;
+  bound = v.bound;
+}
 
 -- Books and a source, with what is outside, in these surroundings.
 abbrev pub desk_with : {S W F E : Type 0} → S → ChaCha → Outer W F E → E → Desk S ChaCha W F E
-desk_with books source outer around = record { books = books; source = source; writer = outer.writer; faults = outer.faults; around = around }
+desk_with books source outer around =
+    record { books = books; source = source; writer = outer.writer; faults = outer.faults; around = around }
 
 -- It stopped by a fault, which was told; nothing was written, and nothing more was asked of the surroundings.
 abbrev pub StopsBy : {D W F E : Type 0} → OuterViews D W F E → Fault → E → ℕ → Outer W F E → Outer W F E → Type 0
-StopsBy v why at status old new = (status ≡ fault_status why) × v.told old.faults why new.faults × (new.writer ≡ old.writer) × (new.around ≡ at)
+StopsBy v why at status old new =
+    (status ≡ fault_status why) × v.told old.faults why new.faults × (new.writer ≡ old.writer) × (new.around ≡ at)
 
 -- An act over new books in memory.
-abbrev pub InMemory : {D W F E : Type 0} → OuterViews D W F E → Option (List ℕ) → DeskAct → List ℕ → ChaCha → E → ℕ → Outer W F E → Outer W F E → Type 0
+abbrev pub InMemory : {D W F E : Type 0} → OuterViews D W F E → Option (List ℕ) → DeskAct → List ℕ → ChaCha → E → ℕ
+    → Outer W F E → Outer W F E → Type 0
 InMemory v known act bytes source at status old new = (books : Listed) × (later : ChaCha)
-    × ActEnds (memory_views v) known bytes act status (desk_with (record { rows = no_rows; failures = 0 }) source old at) (desk_with books later new new.around)
+    × ActEnds (memory_views v) known bytes act status (desk_with
+    (record { rows = no_rows; failures = 0 }) source old at) (desk_with books later new new.around)
 
 -- What comes of a database that was asked for.
-abbrev pub AfterOpen : {D W F E : Type 0} → OuterViews D W F E → Option (List ℕ) → DeskAct → List ℕ → ChaCha → Result D Fault → E → ℕ → Outer W F E → Outer W F E → Type 0
+abbrev pub AfterOpen : {D W F E : Type 0} → OuterViews D W F E → Option (List ℕ) → DeskAct → List ℕ → ChaCha
+    → Result D Fault → E → ℕ → Outer W F E → Outer W F E → Type 0
 AfterOpen {D} v known act bytes source (Ok books) at status old new = (books' : D) × (later : ChaCha)
-    × ActEnds (database_views v) known bytes act status (desk_with books source old at) (desk_with books' later new new.around)
+    × ActEnds (database_views v) known bytes act status (desk_with books source old at)
+    (desk_with books' later new new.around)
 AfterOpen v known act bytes source (Err why) at status old new = StopsBy v why at status old new
 
 -- An act over books in memory, or over those of the database that is named.
-abbrev pub OverBooks : {D W F E : Type 0} → OuterViews D W F E → Option (List ℕ) → DeskAct → List ℕ → ChaCha → Option (List ℕ) → E → ℕ → Outer W F E → Outer W F E → Type 0
+abbrev pub OverBooks : {D W F E : Type 0} → OuterViews D W F E → Option (List ℕ) → DeskAct → List ℕ → ChaCha
+    → Option (List ℕ) → E → ℕ → Outer W F E → Outer W F E → Type 0
 OverBooks v known act bytes source None at status old new = InMemory v known act bytes source at status old new
 OverBooks {D} {W} {F} {E} v known act bytes source (Some name) at status old new =
-    (opened : Result D Fault) × (then : E) × v.books_opened at name opened then × AfterOpen v known act bytes source opened then status old new
+    (opened : Result D Fault) × (then : E)
+    × v.books_opened at name opened then × AfterOpen v known act bytes source opened then status old new
 
 -- The audit file was read, where one is asked for.
-abbrev pub FileIsRead : {E : Type 0} → (E → List ℕ → Result (List ℕ) Fault → E → Type 0) → DeskAct → E → Result (List ℕ) Fault → E → Type 0
+abbrev pub FileIsRead : {E : Type 0} → (E → List ℕ → Result (List ℕ) Fault → E → Type 0) → DeskAct → E
+    → Result (List ℕ) Fault → E → Type 0
 FileIsRead file_read (Audit name) old file new = file_read old name file new
 FileIsRead file_read _ old file new = (file ≡ Ok []) × (new ≡ old)
 
 -- What comes of an audit file that was asked for.
-abbrev pub AfterFile : {D W F E : Type 0} → OuterViews D W F E → Option (List ℕ) → Plan → ChaCha → Result (List ℕ) Fault → E → ℕ → Outer W F E → Outer W F E → Type 0
-AfterFile v known plan source (Ok bytes) at status old new = OverBooks v known plan.act bytes source plan.db at status old new
+abbrev pub AfterFile : {D W F E : Type 0} → OuterViews D W F E → Option (List ℕ) → Plan → ChaCha → Result (List ℕ) Fault
+    → E → ℕ → Outer W F E → Outer W F E → Type 0
+AfterFile v known plan source (Ok bytes) at status old new =
+    OverBooks v known plan.act bytes source plan.db at status old new
 AfterFile v known plan source (Err why) at status old new = StopsBy v why at status old new
 
 -- What comes of a seed that was asked for.
-abbrev pub AfterSeed : {D W F E : Type 0} → OuterViews D W F E → Option (List ℕ) → Plan → Result (List ℕ) Fault → E → ℕ → Outer W F E → Outer W F E → Type 0
+abbrev pub AfterSeed : {D W F E : Type 0} → OuterViews D W F E → Option (List ℕ) → Plan → Result (List ℕ) Fault → E → ℕ
+    → Outer W F E → Outer W F E → Type 0
 AfterSeed {D} {W} {F} {E} v known plan (Ok seed) at status old new =
-    (file : Result (List ℕ) Fault) × (then : E) × FileIsRead v.file_read plan.act at file then × AfterFile v known plan (of_seed seed) file then status old new
+    (file : Result (List ℕ) Fault) × (then : E) × FileIsRead v.file_read plan.act at file then × AfterFile v known plan
+    (of_seed seed) file then status old new
 AfterSeed v known plan (Err why) at status old new = StopsBy v why at status old new
 
 -- A plan was carried out: the seed was asked for, then the audit file, then the database, then the port; the first
 -- fault ended it.
-abbrev pub PlanEnds : {D W F E : Type 0} → OuterViews D W F E → Option (List ℕ) → Plan → ℕ → Outer W F E → Outer W F E → Type 0
+abbrev pub PlanEnds : {D W F E : Type 0} → OuterViews D W F E → Option (List ℕ) → Plan → ℕ → Outer W F E → Outer W F E
+    → Type 0
 PlanEnds {D} {W} {F} {E} v known plan status old new =
-    (seed : Result (List ℕ) Fault) × (then : E) × v.seed_read old.around plan.seed_file seed then × AfterSeed v known plan seed then status old new
+    (seed : Result (List ℕ) Fault) × (then : E)
+    × v.seed_read old.around plan.seed_file seed then × AfterSeed v known plan seed then status old new
 
 -- The words give this plan, or this fault.
 pub record ParseTo (words : List Text) (parsed : Result Plan UsageFault) : Type 0 where
@@ -122,21 +155,32 @@ abbrev pub AskForScript : List Text → Type 0
 AskForScript words = act_in (subcommand_of desk words) ≡ Some (Ok Script)
 
 -- Help was written; or a write of it failed.
-abbrev pub HelpEnds : {W F : Type 0} → (W → Option (List ℕ)) → (F → Fault → F → Type 0) → List ℕ → Bool → ℕ → W → W → F → F → Type 0
-HelpEnds contents told text false status old new f f' = (status ≡ 0) × Appends (contents old) (contents new) text × (f' ≡ f)
-HelpEnds contents told text true status old new f f' = (status ≡ 5) × AppendsFront (contents old) (contents new) text × told f fault.Write f'
+abbrev pub HelpEnds : {W F : Type 0} → (W → Option (List ℕ)) → (F → Fault → F → Type 0) → List ℕ → Bool → ℕ → W → W → F
+    → F → Type 0
+HelpEnds contents told text false status old new f f' =
+    (status ≡ 0) × Appends (contents old) (contents new) text × (f' ≡ f)
+HelpEnds contents told text true status old new f f' =
+    (status ≡ 5) × AppendsFront (contents old) (contents new) text × told f fault.Write f'
 
 -- Words that give no plan: what was said of them.
-abbrev pub UsageSaid : {W F : Type 0} → (W → Option (List ℕ)) → (F → Fault → F → Type 0) → (F → List ℕ → F → Type 0) → UsageFault → ℕ → W → W → F → F → Type 0
-UsageSaid contents told shown (Shown text) status old new f f' = (write_failed : Bool) × HelpEnds contents told (string_bytes text) write_failed status old new f f'
-UsageSaid contents told shown (Usage text) status old new f f' = (status ≡ 2) × shown f (string_bytes text) f' × (new ≡ old)
-UsageSaid contents told shown (Value name) status old new f f' = (status ≡ 2) × told f (fault.Unread name) f' × (new ≡ old)
+abbrev pub UsageSaid : {W F : Type 0} → (W → Option (List ℕ)) → (F → Fault → F → Type 0) → (F → List ℕ → F → Type 0)
+    → UsageFault → ℕ → W → W → F → F → Type 0
+UsageSaid contents told shown (Shown text) status old new f f' =
+    (write_failed : Bool) × HelpEnds contents told (string_bytes text) write_failed status old new f f'
+UsageSaid contents told shown (Usage text) status old new f f' =
+    (status ≡ 2) × shown f (string_bytes text) f' × (new ≡ old)
+UsageSaid contents told shown (Value name) status old new f f' =
+    (status ≡ 2) × told f (fault.Unread name) f' × (new ≡ old)
 UsageSaid contents told shown Memory status old new f f' = (status ≡ 4) × told f fault.Memory f' × (new ≡ old)
 
 -- What comes of words: where they give no plan, nothing is asked of the surroundings.
-abbrev pub ParsedEnds : {D W F E : Type 0} → OuterViews D W F E → Option (List ℕ) → Result Plan UsageFault → ℕ → Outer W F E → Outer W F E → Type 0
+abbrev pub ParsedEnds : {D W F E : Type 0} → OuterViews D W F E → Option (List ℕ) → Result Plan UsageFault → ℕ
+    → Outer W F E → Outer W F E → Type 0
 ParsedEnds v known (Ok plan) status old new = PlanEnds v known plan status old new
-ParsedEnds v known (Err why) status old new = UsageSaid v.contents v.told v.shown why status old.writer new.writer old.faults new.faults × (new.around ≡ old.around)
+ParsedEnds v known
+    (Err why)
+    status old new = UsageSaid v.contents v.told v.shown why status old.writer new.writer old.faults new.faults
+    × (new.around ≡ old.around)
 
 -- The words are faulty: they aren't those of the command line, or a value is refused.
 abbrev pub IsUsage : Result Plan UsageFault → Type 0
@@ -145,5 +189,7 @@ IsUsage (Err (Value name)) = Unit {0}
 IsUsage _ = ⊥
 
 -- The words were read, and what they ask for was carried out; the status is 2 exactly where they are faulty.
-abbrev pub WordsEnd : {D W F E : Type 0} → OuterViews D W F E → Option (List ℕ) → List Text → ℕ → Outer W F E → Outer W F E → Type 0
-WordsEnd v known words status old new = (parsed : Result Plan UsageFault) × ParseTo words parsed × ParsedEnds v known parsed status old new × (status ≡ 2 ↔ IsUsage parsed)
+abbrev pub WordsEnd : {D W F E : Type 0} → OuterViews D W F E → Option (List ℕ) → List Text → ℕ → Outer W F E
+    → Outer W F E → Type 0
+WordsEnd v known words status old new = (parsed : Result Plan UsageFault) × ParseTo words parsed
+    × ParsedEnds v known parsed status old new × (status ≡ 2 ↔ IsUsage parsed)

@@ -49,17 +49,24 @@ zero_seeded = stream_of (steps_u32 (next_word 10)) (of_seed (replicate 32 0))
 
 -- This went over a new desk in memory: from no rows, a source of zeros and no failure, to a history of which what is
 -- assured holds, while so many calls found no memory.
-abbrev pub OverNewDesk : (Stream → Stream → Type 0 → (List Refusal → List Bool → Type 0) → History → History → Type 0) → Type 0
-OverNewDesk went = (h : History) × (s : Stream) × (n : ℕ) × went zero_seeded s ⊤ (λ failed answered. AreCounted (of_memory 0) (of_memory n) failed) (start no_rows) h × Assured h
+abbrev pub OverNewDesk : (Stream → Stream → Type 0 → (List Refusal → List Bool → Type 0) → History → History → Type 0)
+    → Type 0
+OverNewDesk went = (h : History) × (s : Stream) × (n : ℕ)
+    × went zero_seeded s ⊤ (λ failed answered. AreCounted (of_memory 0) (of_memory n) failed) (start no_rows) h
+    × Assured h
 
 -- A script over a new desk ended so: all its lines were answered; after a failed write, its lines were cut short at
 -- one; after another fault the writer took nothing.
-abbrev pub EndsOverNewDesk : {W : Type 0} → (W → Option (List ℕ)) → Option (List ℕ) → W → W → Result ScriptEnd ScriptFault → Type 0
-EndsOverNewDesk contents known old new (Ok end) = (script : List ℕ) × IsInput known script × (end.lines ≡ length (answered_lines script))
+abbrev pub EndsOverNewDesk : {W : Type 0} → (W → Option (List ℕ)) → Option (List ℕ) → W → W
+    → Result ScriptEnd ScriptFault → Type 0
+EndsOverNewDesk contents known old new (Ok end) =
+    (script : List ℕ) × IsInput known script × (end.lines ≡ length (answered_lines script))
     × OverNewDesk (λ s s'. ScriptAnswered (answered_lines script) s s' (contents old) (contents new))
-EndsOverNewDesk contents known old new (Err (Write done)) = (script : List ℕ) × IsInput known script × (1 ≤ done) × (done ≤ length (answered_lines script))
+EndsOverNewDesk contents known old new (Err (Write done)) =
+    (script : List ℕ) × IsInput known script × (1 ≤ done) × (done ≤ length (answered_lines script))
     × OverNewDesk (λ s s'. ScriptCut (take done (answered_lines script)) s s' (contents old) (contents new))
-EndsOverNewDesk contents known old new (Err TooLarge) = IfSome known (λ input. SCRIPT_LIMIT < length input) × (new ≡ old)
+EndsOverNewDesk contents known old new (Err TooLarge) =
+    IfSome known (λ input. SCRIPT_LIMIT < length input) × (new ≡ old)
 EndsOverNewDesk contents known old new (Err _) = new ≡ old
 
 -- The exit status of a script that ended so, or the fault that is told.

@@ -46,7 +46,8 @@ fn serve_stream<I: Read, W: Write, B: Walks, R: Rng>(
     source: &mut R,
 ) -> Result<(), Fault>
     ensures ends { (end : Result Served ServeFault) × (result ≡ serve_end end)
-        × Happens B.Issued B.rows books.old (ServesAll (Some end ∷ []) (R.stream source.old) (R.stream source.new)) books.new }
+        × Happens B.Issued B.rows books.old (ServesAll (Some end ∷ []) (R.stream source.old) (R.stream source.new))
+        books.new }
 {
     match routes {
         Some(routes) => {
@@ -71,7 +72,8 @@ fn serve_connection<B: Walks, R: Rng, C: Clock>(
     source: &mut R,
 ) -> Result<(), Fault>
     ensures ends { (end : ConnectionEnd) × (result ≡ connection_end end)
-        × Happens B.Issued B.rows books.old (ServesAll (end ∷ []) (R.stream source.old) (R.stream source.new)) books.new }
+        × Happens B.Issued B.rows books.old (ServesAll (end ∷ []) (R.stream source.old) (R.stream source.new))
+        books.new }
 {
     let Ok((stream, _)) = listener.accept() else {
         return Err(Fault::Closed);
@@ -96,7 +98,8 @@ fn serve_and_tell<B: Walks, R: Rng, F: FaultSink, C: Clock>(
     calls: &mut IoCalls,
 )
     ensures ends { (end : ConnectionEnd) × TellsAll F.told faults.old (faults_of (end ∷ [])) faults.new
-        × Happens B.Issued B.rows books.old (ServesAll (end ∷ []) (R.stream source.old) (R.stream source.new)) books.new }
+        × Happens B.Issued B.rows books.old (ServesAll (end ∷ []) (R.stream source.old) (R.stream source.new))
+        books.new }
     ensures calls { NoneForgotten calls.old calls.new }
 {
     if let Err(fault) = serve_connection(alloc, routes, listener, clock, books, source) {
@@ -119,7 +122,8 @@ pub fn serve_connections<B: Walks, R: Rng, F: FaultSink, C: Clock>(
     faults: &mut F,
 ) -> u8
     ensures status { result ≡ 0 }
-    ensures ends { (ends : List ConnectionEnd) × (length ends ≡ count) × TellsAll F.told faults.old (faults_of ends) faults.new
+    ensures ends { (ends : List ConnectionEnd) × (length ends ≡ count)
+        × TellsAll F.told faults.old (faults_of ends) faults.new
         × Happens B.Issued B.rows books.old (ServesAll ends (R.stream source.old) (R.stream source.new)) books.new
         × Passes (ConnectionHappens B.Issued B.rows R.stream) (books.old, source.old) ends (books.new, source.new) }
 {

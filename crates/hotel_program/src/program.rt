@@ -32,7 +32,8 @@ fn answer_script<I: Read, W: Write>(
     reader: &mut I,
     writer: &mut W,
 ) -> Result<u8, Fault>
-    ensures { (end : Result ScriptEnd ScriptFault) × (result ≡ script_end end) × EndsOverNewDesk W.contents (I.remaining reader.old) writer.old writer.new end }
+    ensures { (end : Result ScriptEnd ScriptFault) × (result ≡ script_end end)
+        × EndsOverNewDesk W.contents (I.remaining reader.old) writer.old writer.new end }
 {
     let mut books = ListBooks::empty(alloc);
     books.known_sound();
@@ -54,7 +55,8 @@ fn run_in_memory<I: Read, W: Write, F: FaultSink, B: Walks + Drop, E: Databases<
 ) -> u8
     ensures ends { InMemory (outer_views W.contents F.told F.shown E.seed_read E.file_read E.books_opened E.port_bound ⟦<ListBooks as Issued>⟧ B.Issued B.rows)
         (I.remaining reader.old) act.now file.now source.old around.old result
-        (record { writer = writer.old; faults = faults.old; around = around.old }) (record { writer = writer.new; faults = faults.new; around = around.new }) }
+        (record { writer = writer.old; faults = faults.old; around = around.old })
+        (record { writer = writer.new; faults = faults.new; around = around.new }) }
     ensures unread { act.now ≢ Script → reader.new ≡ reader.old }
     ensures no_usage { result ≢ 2 }
 {
@@ -78,7 +80,8 @@ fn run_on_database<I: Read, W: Write, F: FaultSink, B: Walks + Drop, E: Database
 ) -> u8
     ensures ends { OverBooks (outer_views W.contents F.told F.shown E.seed_read E.file_read E.books_opened E.port_bound ⟦<ListBooks as Issued>⟧ B.Issued B.rows)
         (I.remaining reader.old) act.now file.now source.old (Some name.now) around.old result
-        (record { writer = writer.old; faults = faults.old; around = around.old }) (record { writer = writer.new; faults = faults.new; around = around.new }) }
+        (record { writer = writer.old; faults = faults.old; around = around.old })
+        (record { writer = writer.new; faults = faults.new; around = around.new }) }
     ensures unread { act.now ≢ Script → reader.new ≡ reader.old }
     ensures no_usage { result ≢ 2 }
 {
@@ -106,7 +109,8 @@ fn run_over_books<I: Read, W: Write, F: FaultSink, B: Walks + Drop, E: Databases
 ) -> u8
     ensures ends { OverBooks (outer_views W.contents F.told F.shown E.seed_read E.file_read E.books_opened E.port_bound ⟦<ListBooks as Issued>⟧ B.Issued B.rows)
         (I.remaining reader.old) plan.now.act file.now source.old plan.now.db around.old result
-        (record { writer = writer.old; faults = faults.old; around = around.old }) (record { writer = writer.new; faults = faults.new; around = around.new }) }
+        (record { writer = writer.old; faults = faults.old; around = around.old })
+        (record { writer = writer.new; faults = faults.new; around = around.new }) }
     ensures unread { plan.now.act ≢ Script → reader.new ≡ reader.old }
     ensures no_usage { result ≢ 2 }
 {
@@ -127,7 +131,8 @@ fn audit_file<E: Surroundings>(
     act: &DeskAct,
     around: &mut E,
 ) -> Result<Vec<u8>, Fault>
-    ensures read { FileIsRead E.file_read act.now around.old (result_map_both (λ bytes. bytes.items) (λ why. why) result) around.new }
+    ensures read { FileIsRead E.file_read act.now around.old
+        (result_map_both (λ bytes. bytes.items) (λ why. why) result) around.new }
     ensures fault { IfErr result IsOfFiles }
 {
     match act {
@@ -149,7 +154,8 @@ fn run_plan<I: Read, W: Write, F: FaultSink, B: Walks + Drop, E: Databases<B>>(
 ) -> u8
     ensures ends { PlanEnds (outer_views W.contents F.told F.shown E.seed_read E.file_read E.books_opened E.port_bound ⟦<ListBooks as Issued>⟧ B.Issued B.rows)
         (I.remaining reader.old) plan.now result
-        (record { writer = writer.old; faults = faults.old; around = around.old }) (record { writer = writer.new; faults = faults.new; around = around.new }) }
+        (record { writer = writer.old; faults = faults.old; around = around.old })
+        (record { writer = writer.new; faults = faults.new; around = around.new }) }
     ensures unread { plan.now.act ≢ Script → reader.new ≡ reader.old }
     ensures no_usage { result ≢ 2 }
 {
@@ -204,7 +210,8 @@ fn run_words<I: Read, W: Write, F: FaultSink, B: Walks + Drop, E: Databases<B>>(
 ) -> u8
     ensures ends { WordsEnd (outer_views W.contents F.told F.shown E.seed_read E.file_read E.books_opened E.port_bound ⟦<ListBooks as Issued>⟧ B.Issued B.rows)
         (I.remaining reader.old) (map string_bytes words.now) result
-        (record { writer = writer.old; faults = faults.old; around = around.old }) (record { writer = writer.new; faults = faults.new; around = around.new }) }
+        (record { writer = writer.old; faults = faults.old; around = around.old })
+        (record { writer = writer.new; faults = faults.new; around = around.new }) }
     ensures unread { ¬ (AskForScript (map string_bytes words.now)) → reader.new ≡ reader.old }
 {
     match parse_words(alloc, words) {
@@ -238,13 +245,17 @@ pub fn run_program<I: Read, W: Write, F: FaultSink, B: Walks + Drop, E: Database
     faults: &mut F,
     around: &mut E,
 ) -> u8
-    ensures no_text { IsNoText words → (result ≡ 2) × F.told faults.old Usage faults.new × (reader.new ≡ reader.old) × (writer.new ≡ writer.old) × (around.new ≡ around.old) }
-    ensures memory { LacksMemory words → (result ≡ 4) × F.told faults.old Memory faults.new × (reader.new ≡ reader.old) × (writer.new ≡ writer.old) × (around.new ≡ around.old) }
-    ensures script { HasNoWords words → (end : Result ScriptEnd ScriptFault) × (result ≡ end_status (script_end end)) × Tells F.told faults.old (script_end end) faults.new
+    ensures no_text { IsNoText words → (result ≡ 2) × F.told faults.old Usage faults.new × (reader.new ≡ reader.old)
+        × (writer.new ≡ writer.old) × (around.new ≡ around.old) }
+    ensures memory { LacksMemory words → (result ≡ 4) × F.told faults.old Memory faults.new × (reader.new ≡ reader.old)
+        × (writer.new ≡ writer.old) × (around.new ≡ around.old) }
+    ensures script { HasNoWords words → (end : Result ScriptEnd ScriptFault) × (result ≡ end_status (script_end end))
+        × Tells F.told faults.old (script_end end) faults.new
         × EndsOverNewDesk W.contents (I.remaining reader.old) writer.old writer.new end × (around.new ≡ around.old) }
     ensures words { IfWords words (λ texts. WordsEnd (outer_views W.contents F.told F.shown E.seed_read E.file_read E.books_opened E.port_bound ⟦<ListBooks as Issued>⟧ B.Issued B.rows)
         (I.remaining reader.old) texts result
-        (record { writer = writer.old; faults = faults.old; around = around.old }) (record { writer = writer.new; faults = faults.new; around = around.new })) }
+        (record { writer = writer.old; faults = faults.old; around = around.old })
+        (record { writer = writer.new; faults = faults.new; around = around.new })) }
     ensures unread { IfWords words (λ texts. ¬ (AskForScript texts) → reader.new ≡ reader.old) }
 {
     let words = match words {

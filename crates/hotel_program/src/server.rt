@@ -22,8 +22,10 @@ fn write_named<W: Write>(
     name: &[u8],
     calls: &mut IoCalls,
 ) -> Result<(), WriteFailed>
-    ensures ok { OnOk result (Appends (W.contents writer.old) (W.contents writer.new) (text.now ++ name.now ++ codes "\n")) }
-    ensures err { OnErr result (AppendsFront (W.contents writer.old) (W.contents writer.new) (text.now ++ name.now ++ codes "\n")) }
+    ensures ok { OnOk result (Appends (W.contents writer.old) (W.contents writer.new)
+        (text.now ++ name.now ++ codes "\n")) }
+    ensures err { OnErr result (AppendsFront (W.contents writer.old) (W.contents writer.new)
+        (text.now ++ name.now ++ codes "\n")) }
     ensures failed { OnErr result (calls.new.write_failed ≡ true) }
     ensures calls { NoneForgotten calls.old calls.new }
 {

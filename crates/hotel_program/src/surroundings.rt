@@ -30,7 +30,8 @@ pub trait Surroundings: Clock {
 
     /// The bytes of an audit file; or, where it has too many, more than it may have.
     fn read_file(&mut self, alloc: Global, name: &FileName) -> Result<Vec<u8>, Fault>
-        ensures read { file_read self.old name.now (result_map_both (λ bytes. bytes.items) (λ why. why) result) self.new }
+        ensures read { file_read self.old name.now (result_map_both (λ bytes. bytes.items)
+            (λ why. why) result) self.new }
         ensures fault { IfErr result IsOfFiles };
 
     /// Listens on a port of the loopback address.

@@ -34,11 +34,13 @@ room_columns plain = nat_le (number_of plain.secured) 1
 
 -- a stay's state is 0 to 3, and it has a room exactly in state 1, in house
 abbrev pub stay_columns : PlainStay → Bool
-stay_columns plain = nat_le (number_of plain.state) 3 && (if is_some plain.room then number_of plain.state == 1 else not (number_of plain.state == 1))
+stay_columns plain = nat_le (number_of plain.state) 3 && (if is_some plain.room then number_of plain.state == 1
+    else not (number_of plain.state == 1))
 
 -- a note's act is 0 to 2, and it has a card but in act 2, recoded
 abbrev pub note_columns : PlainNote → Bool
-note_columns plain = nat_le (number_of plain.act) 2 && (if is_some plain.card then nat_le (number_of plain.act) 1 else number_of plain.act == 2)
+note_columns plain = nat_le (number_of plain.act) 2 && (if is_some plain.card then nat_le (number_of plain.act) 1
+    else number_of plain.act == 2)
 
 abbrev pub meta_holds : Stored → Bool
 meta_holds s = day_in_range (rows_of s) && day_before_kinds (rows_of s)
@@ -55,20 +57,24 @@ notes_few s = each_room (rows_of s) (λ row. nat_le row.notes (most_notes s))
 
 abbrev pub room_holds : Stored → Bool
 room_holds s =
-    are_in_order nat_cmp (keys_of (rows_of s).rooms) && list_all room_columns s.rooms.items && room_numbers (rows_of s) && lock_places (rows_of s) && room_kinds_there (rows_of s)
+    are_in_order nat_cmp (keys_of (rows_of s).rooms) && list_all room_columns s.rooms.items && room_numbers (rows_of s)
+    && lock_places (rows_of s) && room_kinds_there (rows_of s)
     && codes_few (rows_of s) && notes_few s && parties_in_house (rows_of s) && secured_hold_last (rows_of s)
 
 abbrev pub stay_holds : Stored → Bool
 stay_holds s =
-    are_in_order nat_cmp (keys_of (rows_of s).stays) && list_all stay_columns s.stays.items && stay_numbers (rows_of s) && guests_read (rows_of s) && stay_kinds_there (rows_of s)
+    are_in_order nat_cmp (keys_of (rows_of s).stays) && list_all stay_columns s.stays.items && stay_numbers (rows_of s)
+    && guests_read (rows_of s) && stay_kinds_there (rows_of s)
     && stay_days (rows_of s) && stay_rooms (rows_of s) && nights_fit (rows_of s)
 
 abbrev pub code_holds : Stored → Bool
-code_holds s = are_in_order nat_cmp (keys_of (rows_of s).codes) && codes_in_range (rows_of s) && code_rooms_there (rows_of s) && places_once (rows_of s)
+code_holds s = are_in_order nat_cmp (keys_of (rows_of s).codes) && codes_in_range (rows_of s)
+    && code_rooms_there (rows_of s) && places_once (rows_of s)
 
 abbrev pub card_holds : Stored → Bool
 card_holds s =
-    are_in_order nat_cmp (keys_of (rows_of s).cards) && card_numbers (rows_of s) && card_parties_there (rows_of s) && links_are_neighbours (rows_of s) && links_of_one_party (rows_of s)
+    are_in_order nat_cmp (keys_of (rows_of s).cards) && card_numbers (rows_of s) && card_parties_there (rows_of s)
+    && links_are_neighbours (rows_of s) && links_of_one_party (rows_of s)
     && neighbours_are_links (rows_of s) && fits_without_links (rows_of s) && newest_of_party (rows_of s)
     && last_cards_newest (rows_of s)
 
@@ -76,7 +82,8 @@ abbrev pub inside_holds : Stored → Bool
 inside_holds s = are_in_order pair_cmp (rows_of s).inside && insides_fit (rows_of s)
 
 abbrev pub note_holds : Stored → Bool
-note_holds s = are_in_order pair_cmp (keys_of (rows_of s).notes) && list_all note_columns s.notes.items && notes_counted (rows_of s) && notes_fit (rows_of s)
+note_holds s = are_in_order pair_cmp (keys_of (rows_of s).notes) && list_all note_columns s.notes.items
+    && notes_counted (rows_of s) && notes_fit (rows_of s)
 
 -- that a room's row and a note are of a fit follows: they have no columns for it
 abbrev pub fit_holds : Stored → Bool
@@ -110,7 +117,8 @@ first_damaged_of = first_of_tables
 
 -- what the rows of the books don't show: each column is of its range
 abbrev pub columns_fit : Stored → Bool
-columns_fit s = list_all room_columns s.rooms.items && list_all stay_columns s.stays.items && list_all note_columns s.notes.items
+columns_fit s =
+    list_all room_columns s.rooms.items && list_all stay_columns s.stays.items && list_all note_columns s.notes.items
 
 -- No table is damaged exactly where the rows are sound and each column is of its range.
 abbrev pub UndamagedIsSound : Type 0

@@ -15,7 +15,8 @@ link_of_pair p = record { old_code = p.0; new_code = p.1 }
 
 -- the map has the link of each party's last card
 abbrev pub LastsOf : List (ℕ × (ℕ × ℕ)) → List PlainCard → Type 0
-LastsOf lasts plain_rows = (party : ℕ) → option_map link_of_pair (at_number lasts party) ≡ link_of_last_card (map card_entry plain_rows) party
+LastsOf lasts plain_rows =
+    (party : ℕ) → option_map link_of_pair (at_number lasts party) ≡ link_of_last_card (map card_entry plain_rows) party
 
 -- the link of two codes, where both are there
 abbrev pub link_of_both : Option ℕ → Option ℕ → Option Link

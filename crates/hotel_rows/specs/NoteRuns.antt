@@ -21,4 +21,5 @@ NoteRunsOf runs plain_rows = (room : ℕ)
 
 -- the numbers of the room's notes are 1 and on, as many as the room's row says
 abbrev pub counted_as_due : List (ℕ × NoteRun) → PlainRoom → Bool
-counted_as_due runs plain = said_of (at_number runs (number_of plain.room)) (number_of plain.notes == 0) (λ run. run.counted && (run.first == 1) && (run.last == number_of plain.notes))
+counted_as_due runs plain = said_of (at_number runs (number_of plain.room)) (number_of plain.notes == 0)
+    (λ run. run.counted && (run.first == 1) && (run.last == number_of plain.notes))

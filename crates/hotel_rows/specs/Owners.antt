@@ -15,7 +15,8 @@ owner_in (c ∷ cs) link = if same_link (link_row c) link then Some (number_of c
 
 -- the map has the party of each link
 abbrev pub OwnersOf : List ((ℕ × ℕ) × ℕ) → List PlainCard → Type 0
-OwnersOf owners plain_rows = (old new : ℕ) → lookup (is_at (pair_cmp (old, new))) owners ≡ owner_in plain_rows (record { old_code = old; new_code = new })
+OwnersOf owners plain_rows = (old new : ℕ) → lookup (is_at (pair_cmp (old, new))) owners ≡ owner_in plain_rows
+    (record { old_code = old; new_code = new })
 
 -- the card's party is that of the first card of its link
 abbrev pub is_own : List PlainCard → PlainCard → Bool

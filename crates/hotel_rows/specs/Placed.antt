@@ -29,7 +29,8 @@ PlacesOf placed plain_rows = (room : ℕ) → (places_in placed room ≡ codes_b
 -- the places of the room's codes are 0 and on, each once, so many
 abbrev pub are_due_at : List (ℕ × Placed) → ℕ → ℕ → Bool
 are_due_at placed room codes =
-    count_up 0 (keys_of (places_in placed room)) && (length (values_of (places_in placed room)) == codes) && (listed_in placed room == codes)
+    count_up 0 (keys_of (places_in placed room)) && (length (values_of (places_in placed room)) == codes)
+    && (listed_in placed room == codes)
 
 -- the same, as many as the room's row says
 abbrev pub placed_as_due : List (ℕ × Placed) → PlainRoom → Bool
@@ -37,4 +38,5 @@ placed_as_due placed plain = are_due_at placed (number_of plain.room) (number_of
 
 -- the room's last two codes are this link
 abbrev pub is_last_link : List (ℕ × Placed) → ℕ → Link → Bool
-is_last_link placed room link = said_of (last_link_of (values_of (places_in placed room))) false (λ newest. same_link newest link)
+is_last_link placed room link =
+    said_of (last_link_of (values_of (places_in placed room))) false (λ newest. same_link newest link)

@@ -64,7 +64,8 @@ is_at_home rows row = said_of row.party true (is_home_of rows row)
 
 abbrev pub room_fits : Stored → PlainRoom → Bool
 room_fits s plain =
-    room_columns plain && is_room_number plain && nat_lt (number_of plain.lock_place) (number_of plain.codes) && has_kind (rows_of s) (string_bytes plain.kind)
+    room_columns plain && is_room_number plain && nat_lt (number_of plain.lock_place) (number_of plain.codes)
+    && has_kind (rows_of s) (string_bytes plain.kind)
     && has_few_codes s plain && nat_le (number_of plain.notes) (most_notes s) && is_at_home (rows_of s) (room_row plain)
     && is_secured_as_due s plain
 
@@ -73,7 +74,8 @@ room_fits s plain =
 -- days in range, 1 to 90 nights
 abbrev pub are_stay_days : PlainStay → Bool
 are_stay_days plain =
-    is_day (number_of plain.depart) && nat_lt (number_of plain.arrive) (number_of plain.depart) && nat_le (number_of plain.depart) (number_of plain.arrive + 90)
+    is_day (number_of plain.depart) && nat_lt (number_of plain.arrive) (number_of plain.depart)
+    && nat_le (number_of plain.depart) (number_of plain.arrive + 90)
 
 abbrev pub has_home : Rows → Stay → Bool
 has_home rows stay = said_of (room_of_state stay.state) true (has_party rows stay.party)
@@ -83,7 +85,8 @@ stay_has_home s plain = has_home (rows_of s) (stay_row plain)
 
 abbrev pub stay_fits : Stored → PlainStay → Bool
 stay_fits s plain =
-    stay_columns plain && is_guest (string_bytes plain.guest) && has_kind (rows_of s) (string_bytes plain.kind) && are_stay_days plain
+    stay_columns plain && is_guest (string_bytes plain.guest) && has_kind (rows_of s) (string_bytes plain.kind)
+    && are_stay_days plain
     && has_home (rows_of s) (stay_row plain)
 
 abbrev pub is_room_of_kind : List ℕ → PlainRoom → Bool
@@ -92,7 +95,8 @@ is_room_of_kind kind plain = bytes_eq (string_bytes plain.kind) kind
 -- on the stay's first night, its kind isn't taken by more stays than it has rooms
 abbrev pub has_night : Stored → PlainStay → Bool
 has_night s plain =
-    nat_le (count_by (λ (stay : PlainStay). takes (string_bytes plain.kind) (number_of plain.arrive) (stay_row stay)) s.stays.items)
+    nat_le (count_by (λ (stay : PlainStay). takes (string_bytes plain.kind) (number_of plain.arrive) (stay_row stay))
+    s.stays.items)
     (count_by (is_room_of_kind (string_bytes plain.kind)) s.rooms.items)
 
 -- ---- code
@@ -113,7 +117,8 @@ recoding_fits rows room from to = code_is rows from (λ first. code_is rows to (
 
 -- a card's party has a stay, and its codes are neighbours at one room
 abbrev pub card_fits : Rows → Card → Bool
-card_fits rows card = is_some (at_number rows.stays card.party) && code_is rows card.link.new_code (λ new. stands_at rows new.room card.link)
+card_fits rows card = is_some (at_number rows.stays card.party)
+    && code_is rows card.link.new_code (λ new. stands_at rows new.room card.link)
 
 -- the card and each other one of the same link have one party
 abbrev pub agree : PlainCard → PlainCard → Bool
@@ -142,7 +147,8 @@ is_owned s room party card = not (is_newest (rows_of s) room (link_row card)) ||
 
 -- all cards of the room's newest link are of its party, where it has one
 abbrev pub has_owner : Stored → PlainRoom → Bool
-has_owner s plain = said_of (option_map number_of plain.party) true (λ party. list_all (is_owned s (number_of plain.room) party) s.cards.items)
+has_owner s plain = said_of (option_map number_of plain.party) true
+    (λ party. list_all (is_owned s (number_of plain.room) party) s.cards.items)
 
 -- the last card of a party in house has the newest link of its room
 abbrev pub has_last : Stored → PlainStay → Bool
@@ -151,7 +157,8 @@ has_last s plain = said_of (room_of_state (stay_row plain).state) true (has_newe
 -- the rules on links, each a test of each row
 abbrev pub links_hold : Stored → Bool
 links_hold s =
-    list_all (agrees s) s.cards.items && list_all (is_brought s) s.codes.items && list_all (has_owner s) s.rooms.items && list_all (has_last s) s.stays.items
+    list_all (agrees s) s.cards.items && list_all (is_brought s) s.codes.items && list_all (has_owner s) s.rooms.items
+    && list_all (has_last s) s.stays.items
 
 -- ---- inside
 
@@ -162,7 +169,8 @@ inside_fits rows e = room_is rows e.0 (λ row. card_is rows e.1 (fits_inside row
 
 abbrev pub plain_note_fits : Rows → PlainNote → Bool
 plain_note_fits rows plain =
-    note_columns plain && is_some (at_number rows.rooms (number_of plain.room)) && act_fits rows (number_of plain.room) (note_row plain).act && is_day (number_of plain.day)
+    note_columns plain && is_some (at_number rows.rooms (number_of plain.room))
+    && act_fits rows (number_of plain.room) (note_row plain).act && is_day (number_of plain.day)
     && nat_le (number_of plain.second) LAST_SECOND
 
 -- ---- fit

@@ -61,9 +61,12 @@ fn name_kinds(alloc: Global, kinds: &[PlainKind]) -> Result<KindRooms, LookFault
 
 /// One more room of its kind, where the kind is there and has fewer rooms than the greatest count.
 fn add_room(counts: &mut KindRooms, room: &PlainRoom) -> Result<(), LookFault>
-    ensures rooms { OnOk result ((kind : List ℕ) → rooms_in counts.new kind ≡ rooms_in counts.old kind + one_if (is_room_of_kind kind room.now)) }
+    ensures rooms { OnOk result ((kind : List ℕ) → rooms_in counts.new kind ≡ rooms_in counts.old kind + one_if
+        (is_room_of_kind kind room.now)) }
     ensures kinds { OnOk result (keys_of counts.new ≡ keys_of counts.old) }
-    ensures err { IfErr result (λ why. why ≡ Store × (is_kind (string_bytes room.now.kind) ≡ true → is_there counts.old (string_bytes room.now.kind) ≡ true → 2 ^ 32 - 1 ≤ rooms_in counts.old (string_bytes room.now.kind))) }
+    ensures err { IfErr result (λ why. why ≡ Store × (is_kind (string_bytes room.now.kind) ≡ true
+        → is_there counts.old (string_bytes room.now.kind) ≡ true
+        → 2 ^ 32 - 1 ≤ rooms_in counts.old (string_bytes room.now.kind))) }
 {
     let kind = kind_code(room.kind.as_str())?;
     if !counts.has(&kind) {
@@ -82,7 +85,8 @@ fn count_rooms(
     kinds: &[PlainKind],
     rooms: &[PlainRoom],
 ) -> Result<KindRooms, LookFault>
-    ensures rooms { IfOk result (λ counts. (kind : List ℕ) → rooms_in counts kind ≡ count_by (is_room_of_kind kind) rooms.now) }
+    ensures rooms { IfOk result (λ counts. (kind : List ℕ)
+        → rooms_in counts kind ≡ count_by (is_room_of_kind kind) rooms.now) }
     ensures known { IfOk result (λ counts. KnowsKinds counts kinds.now) }
     ensures err { IfErr result (λ why. why ≡ Store → are_rooms_of kinds.now rooms.now ≡ false) }
 {

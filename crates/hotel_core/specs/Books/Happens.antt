@@ -28,7 +28,8 @@ known_after was (false ∷ later) = known_after ⊥ later
 -- What failures and answers tell of books from old to new: the failures were counted, where the books are kept; each
 -- answer vouches that they were kept as it began, and the last one, where no failure came behind it, that they still
 -- are.
-pub record Tells {S : Type 0} (I : IssuedOf S) (old new : S) (failed : List Refusal) (answered : List Bool) : Type 0 where
+pub record Tells {S : Type 0} (I : IssuedOf S) (old new : S) (failed : List Refusal)
+    (answered : List Bool) : Type 0 where
   pub counted : I.is_clean new → AreCounted (I.failures old) (I.failures new) failed
   pub began : has_answer answered ≡ true → I.is_clean old
   pub ends : known_after (I.is_clean old) answered → I.is_clean new
@@ -36,19 +37,24 @@ pub record Tells {S : Type 0} (I : IssuedOf S) (old new : S) (failed : List Refu
 -- What went over books from old to new: for each history that they stand for as it begins it went to one that they
 -- stand for as it ends, where they are kept then; and where they are only honest, it went so too, and its answers vouch
 -- for them. What went is said by what is known only of kept books, and by what is told of failures and answers.
-pub record HappensBy {S : Type 0} (I : IssuedOf S) (rows : S → Rows) (old : S) (went : Type 0 → (List Refusal → List Bool → Type 0) → History → History → Type 0) (new : S) : Type 0 where
-  pub leads : I.is_clean new → Leads (rows old) (went ⊤ (λ failed answered. AreCounted (I.failures old) (I.failures new) failed)) (rows new)
-  pub happened : I.is_honest new → LeadsOn (I.is_clean old) (rows old) (went (I.is_clean new) (Tells I old new)) (I.is_clean new) (rows new)
+pub record HappensBy {S : Type 0} (I : IssuedOf S) (rows : S → Rows) (old : S)
+    (went : Type 0 → (List Refusal → List Bool → Type 0) → History → History → Type 0) (new : S) : Type 0 where
+  pub leads : I.is_clean new → Leads (rows old) (went ⊤
+      (λ failed answered. AreCounted (I.failures old) (I.failures new) failed)) (rows new)
+  pub happened : I.is_honest new → LeadsOn (I.is_clean old) (rows old) (went (I.is_clean new) (Tells I old new))
+      (I.is_clean new) (rows new)
   pub was_clean : I.is_clean new → I.is_clean old
   pub was_honest : I.is_honest new → I.is_honest old
   pub counted : NoFewer (I.failures old) (I.failures new)
 
 -- The same of what is known of all books.
-abbrev pub Happens : {S : Type 0} → IssuedOf S → (S → Rows) → S → ((List Refusal → List Bool → Type 0) → History → History → Type 0) → S → Type 0
+abbrev pub Happens : {S : Type 0} → IssuedOf S → (S → Rows) → S
+    → ((List Refusal → List Bool → Type 0) → History → History → Type 0) → S → Type 0
 Happens I rows old went new = HappensBy I rows old (λ kept. went) new
 
 -- A command went with this reply, of which this is told.
-abbrev pub StepTold : Stream → Command → Reply → Stream → (List Refusal → List Bool → Type 0) → History → History → Type 0
+abbrev pub StepTold : Stream → Command → Reply → Stream → (List Refusal → List Bool → Type 0) → History → History
+    → Type 0
 StepTold s command reply s' told h h' = Steps h s command reply h' s' × told (failure_in reply) (answered_by reply)
 
 -- There are states between: each of these was asked in its turn, in the state that the one before it left.
@@ -57,5 +63,7 @@ Passes asks old [] new = new ≡ old
 Passes {S = S} asks old (asked ∷ later) new = (mid : S) × asks old asked mid × Passes asks mid later new
 
 -- A command was carried out with this reply, by books and a source of words.
-abbrev pub CommandHappens : {S R : Type 0} → IssuedOf S → (S → Rows) → (R → Stream) → S × R → Command × Reply → S × R → Type 0
-CommandHappens I rows stream old asked new = Happens I rows old.0 (StepTold (stream old.1) asked.0 asked.1 (stream new.1)) new.0
+abbrev pub CommandHappens : {S R : Type 0} → IssuedOf S → (S → Rows) → (R → Stream) → S × R → Command × Reply → S × R
+    → Type 0
+CommandHappens I rows stream old asked new =
+    Happens I rows old.0 (StepTold (stream old.1) asked.0 asked.1 (stream new.1)) new.0

@@ -8,7 +8,8 @@ use Rattle.keycard_rules.specs.declared.issued.Issued.{Ghosts as IssuedOf}
 -- it leaves what a look-up may leave; it fails only where a failure of that cause was counted, and of the store only
 -- for a cause of the store's own. In memory no store fails, and a look-up that takes no memory doesn't fail at all.
 -- Where the state is honest at its end, an answer that is no fault says that the test holds.
-pub record LooksUp {S A R : Type 0} (I : IssuedOf S) (takes_memory : Bool) (said : R → A) (wanted : A) (old new : S) (result : Result R LookFault) : Type 0 where
+pub record LooksUp {S A R : Type 0} (I : IssuedOf S) (takes_memory : Bool) (said : R → A) (wanted : A) (old new : S)
+    (result : Result R LookFault) : Type 0 where
   pub answer : I.is_clean new → IfOk result (λ a. said a ≡ wanted)
   pub kept : I.is_clean new → I.is_kept old new
   pub was_clean : I.is_clean new → I.is_clean old

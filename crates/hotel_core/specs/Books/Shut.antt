@@ -14,18 +14,21 @@ BeganShut I old new = I.is_honest new × (I.is_clean old → ⊥)
 
 -- such a look-up found nothing: its answer is Memory or Store
 abbrev pub FindsNothing : {S : Type 0} → IssuedOf S → (A R : Type 0) → Type 0
-FindsNothing {S = S} I A R = (takes_memory : Bool) (said : R → A) (wanted : A) (old new : S) (result : Result R LookFault)
+FindsNothing {S = S} I A R = (takes_memory : Bool) (said : R → A) (wanted : A) (old new : S)
+    (result : Result R LookFault)
     → LooksUp I takes_memory said wanted old new result → BeganShut I old new → IsErr result
 
 -- such a change, with the clauses vouched and was_clean, was not made
 abbrev pub ChangesNothing : {S : Type 0} → IssuedOf S → Type 0
 ChangesNothing {S = S} I = (old new : S) (result : Result (Unit {0}) LookFault)
-    → (I.is_honest new → OnOk result (I.is_clean new)) → (I.is_clean new → I.is_clean old) → BeganShut I old new → IsErr result
+    → (I.is_honest new → OnOk result (I.is_clean new)) → (I.is_clean new → I.is_clean old) → BeganShut I old new
+    → IsErr result
 
 -- such a step's reply, with these clauses, is Memory or Store
 abbrev pub RepliesNothing : {S : Type 0} → IssuedOf S → Type 0
 RepliesNothing {S = S} I = (old new : S) (reply : Reply)
-    → (I.is_honest new → is_failed reply ≡ false → I.is_clean new) → (I.is_clean new → I.is_clean old) → BeganShut I old new → is_failed reply ≡ true
+    → (I.is_honest new → is_failed reply ≡ false → I.is_clean new) → (I.is_clean new → I.is_clean old)
+    → BeganShut I old new → is_failed reply ≡ true
 
 -- commands that were carried out one after the other, from such a state on: each reply is Memory or Store
 abbrev pub RunsNothing : {S R : Type 0} → IssuedOf S → (S → Rows) → (R → Stream) → Type 0

@@ -13,15 +13,18 @@ Takes after (row ∷ rows) sink end = (next : _) × after sink row next × Takes
 
 -- The sink took a front of the rows.
 abbrev pub TakesFront : {S R : Type 0} → (S → R → S → Type 0) → List R → S → S → Type 0
-TakesFront {R = R} after rows sink end = (taken : List R) × (rest : List R) × (rows ≡ taken ++ rest) × Takes after taken sink end
+TakesFront {R = R} after rows sink end = (taken : List R) × (rest : List R) × (rows ≡ taken ++ rest)
+    × Takes after taken sink end
 
 -- The sink took a front of the rows, and stopped at the row after them.
 abbrev pub StopsAt : {S R : Type 0} → (S → R → S → Type 0) → (S → R → S → Type 0) → List R → S → S → Type 0
-StopsAt {S = S} {R = R} after after_stop rows sink end = (taken : List R) × (row : R) × (rest : List R) × (rows ≡ taken ++ row ∷ rest) × (last : S) × Takes after taken sink last × after_stop last row end
+StopsAt {S = S} {R = R} after after_stop rows sink end = (taken : List R) × (row : R) × (rest : List R)
+    × (rows ≡ taken ++ row ∷ rest) × (last : S) × Takes after taken sink last × after_stop last row end
 
 -- What the sink took: all rows, or those before the one at which it stopped; or a front of them, where memory or the
 -- store failed.
-abbrev pub Hands : {S R : Type 0} → (S → R → S → Type 0) → (S → R → S → Type 0) → List R → S → S → Result (Unit {0}) WalkFault → Type 0
+abbrev pub Hands : {S R : Type 0} → (S → R → S → Type 0) → (S → R → S → Type 0) → List R → S → S
+    → Result (Unit {0}) WalkFault → Type 0
 Hands after after_stop rows sink end (Ok done) = Takes after rows sink end
 Hands after after_stop rows sink end (Err why.Stopped) = StopsAt after after_stop rows sink end
 Hands after after_stop rows sink end (Err why.Memory) = TakesFront after rows sink end
@@ -39,7 +42,8 @@ failure_of (Err why.Store) = Some look.Store
 -- state holds then; memory or the store fails only where a failure of that cause was counted, and the store only for a
 -- cause of its own. In memory no store fails, and a walk that takes no memory doesn't fail at all. Where the state is
 -- honest at its end and neither failed, the test holds.
-pub record WalksOver {B S R : Type 0} (I : IssuedOf B) (takes_memory : Bool) (after after_stop : S → R → S → Type 0) (rows : List R) (old new : B) (sink end : S) (result : Result (Unit {0}) WalkFault) : Type 0 where
+pub record WalksOver {B S R : Type 0} (I : IssuedOf B) (takes_memory : Bool) (after after_stop : S → R → S → Type 0)
+    (rows : List R) (old new : B) (sink end : S) (result : Result (Unit {0}) WalkFault) : Type 0 where
   pub hands : (handed : List R) × Hands after after_stop handed sink end result × (I.is_honest new → handed ≡ rows)
   pub kept : I.is_clean new → I.is_kept old new
   pub was_clean : I.is_clean new → I.is_clean old

@@ -40,14 +40,16 @@ Found why wanted (Err other) = is_failed (reply.Refused other) ≡ false → (wa
 
 -- A search from the state old to new, which changes no row; for whole rows, it fails only where a failure of that cause
 -- was counted, and in memory no store fails.
-pub record Finds {S A : Type 0} (I : IssuedOf S) (B : BooksOf S) (are_whole : Rows → Type 0) (why : Refusal) (wanted : Rows → Option A) (old new : S) (result : Result A Refusal) : Type 0 where
+pub record Finds {S A : Type 0} (I : IssuedOf S) (B : BooksOf S) (are_whole : Rows → Type 0) (why : Refusal)
+    (wanted : Rows → Option A) (old new : S) (result : Result A Refusal) : Type 0 where
   pub answer : I.is_clean new → Found why (wanted (B.rows old)) result
   pub same : I.is_clean new → B.rows new ≡ B.rows old
   pub was_clean : I.is_clean new → I.is_clean old
   pub was_honest : I.is_honest new → I.is_honest old
   pub vouched : I.is_honest new → has_failed result ≡ false → I.is_clean new
   pub counted : NoFewer (I.failures old) (I.failures new)
-  pub fault : I.is_clean new → are_whole (B.rows old) → (cause : LookFault) → result ≡ Err (refusal_of cause) → HasRisen (I.failures old cause) (I.failures new cause)
+  pub fault : I.is_clean new → are_whole (B.rows old) → (cause : LookFault) → result ≡ Err (refusal_of cause)
+      → HasRisen (I.failures old cause) (I.failures new cause)
 
 -- all rows are whole enough
 abbrev pub AnyRows : Rows → Type 0
@@ -72,15 +74,18 @@ Drew draw source rest (Ok code) = (draw.code ≡ Some code) × (rest ≡ past dr
 Drew draw source rest (Err why) = DrewNone (is_failed (reply.Refused why)) draw source rest why
 
 -- A draw over books, which changes no row.
-pub record DrawsCode {S : Type 0} (I : IssuedOf S) (B : BooksOf S) (old new : S) (source rest : Stream) (result : Result ℕ Refusal) : Type 0 where
+pub record DrawsCode {S : Type 0} (I : IssuedOf S) (B : BooksOf S) (old new : S) (source rest : Stream)
+    (result : Result ℕ Refusal) : Type 0 where
   pub answer : I.is_clean new → Drew (draw_from (codes_in (B.rows old)) (words 64 source)) source rest result
   pub same : I.is_clean new → B.rows new ≡ B.rows old
   pub was_clean : I.is_clean new → I.is_clean old
   pub was_honest : I.is_honest new → I.is_honest old
   pub vouched : I.is_honest new → has_failed result ≡ false → I.is_clean new
-  pub moved : I.is_honest new → has_failed result ≡ true → MovedAtMost (draw_from (codes_in (B.rows old)) (words 64 source)).examined source rest
+  pub moved : I.is_honest new → has_failed result ≡ true
+      → MovedAtMost (draw_from (codes_in (B.rows old)) (words 64 source)).examined source rest
   pub counted : NoFewer (I.failures old) (I.failures new)
-  pub fault : (cause : LookFault) → result ≡ Err (refusal_of cause) → HasRisen (I.failures old cause) (I.failures new cause)
+  pub fault : (cause : LookFault) → result ≡ Err (refusal_of cause)
+      → HasRisen (I.failures old cause) (I.failures new cause)
   pub sure : I.never_fails → has_failed result ≡ true → ⊥
 
 -- the first refusal of these checks

@@ -13,11 +13,14 @@ use Rattle.hotel_core.specs.declared.books.Books.{Ghosts as BooksOf}
 -- A part of a step from the state old to new, with the source moved to rest, where the outcome says what comes of it.
 -- Where the state is honest at its end, an answer that isn't failed says that it is clean, and a failed one left the
 -- source, or moved it by no more than the outcome over a clean state.
-pub record StepsAs {S : Type 0} (I : IssuedOf S) (B : BooksOf S) (outcome : Rows → Outcome Change) (old new : S) (source rest : Stream) (answer : Reply) : Type 0 where
+pub record StepsAs {S : Type 0} (I : IssuedOf S) (B : BooksOf S) (outcome : Rows → Outcome Change) (old new : S)
+    (source rest : Stream) (answer : Reply) : Type 0 where
   pub goes : I.is_clean new → Goes (outcome (B.rows old)) (B.rows old) source answer (B.rows new) rest
   pub was_clean : I.is_clean new → I.is_clean old
   pub was_honest : I.is_honest new → I.is_honest old
   pub vouched : I.is_honest new → is_failed answer ≡ false → I.is_clean new
-  pub moved : I.is_honest new → is_failed answer ≡ true → (rest ≡ source) ⊎ (I.is_clean old × MovedAtMost (outcome (B.rows old)).examined source rest)
+  pub moved : I.is_honest new → is_failed answer ≡ true → (rest ≡ source)
+      ⊎ (I.is_clean old × MovedAtMost (outcome (B.rows old)).examined source rest)
   pub counted : NoFewer (I.failures old) (I.failures new)
-  pub fault : I.is_clean new → AreWhole (B.rows old) → (cause : LookFault) → answer ≡ reply.Refused (refusal_of cause) → HasRisen (I.failures old cause) (I.failures new cause)
+  pub fault : I.is_clean new → AreWhole (B.rows old) → (cause : LookFault) → answer ≡ reply.Refused (refusal_of cause)
+      → HasRisen (I.failures old cause) (I.failures new cause)

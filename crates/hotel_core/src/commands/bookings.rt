@@ -32,7 +32,9 @@ fn first_full<B: Books>(
 
 /// Gives up a booking.
 pub(crate) fn cancel<B: Books>(books: &mut B, party: PartyNo) -> Result<Reply, Refusal>
-    ensures { (source : Stream) → StepsAs B.Issued B.Books.own (λ rows. outcome_on rows (words 64 source) (command.Cancel party)) books.old books.new source source (reply_of result) }
+    ensures { (source : Stream) → StepsAs B.Issued B.Books.own
+        (λ rows. outcome_on rows (words 64 source) (command.Cancel party)) books.old books.new source source
+        (reply_of result) }
 {
     today(books)?;
     let stay = stay_there(books, party)?;
@@ -60,7 +62,8 @@ pub(crate) fn reserve<B: Books>(
 ) -> Result<Reply, Refusal>
     requires { IsCommand (command.Reserve guest.now kind.now arrive nights) }
     ensures { (source : Stream) → StepsAs B.Issued B.Books.own
-        (λ rows. outcome_on rows (words 64 source) (command.Reserve guest.now kind.now arrive nights)) books.old books.new source source (reply_of result) }
+        (λ rows. outcome_on rows (words 64 source) (command.Reserve guest.now kind.now arrive nights))
+        books.old books.new source source (reply_of result) }
 {
     let today = today(books)?;
     if !is_kind(books, kind)? {

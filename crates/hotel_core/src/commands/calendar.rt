@@ -15,7 +15,9 @@ use hotel_nights::Day;
 /// Sets the first business day.
 pub(crate) fn begin<B: Books>(books: &mut B, day: Day) -> Result<Reply, Refusal>
     requires { IsCommand (command.Begin day) }
-    ensures steps { (source : Stream) → StepsAs B.Issued B.Books.own (λ rows. outcome_on rows (words 64 source) (command.Begin day)) books.old books.new source source (reply_of result) }
+    ensures steps { (source : Stream) → StepsAs B.Issued B.Books.own
+        (λ rows. outcome_on rows (words 64 source) (command.Begin day)) books.old books.new source source
+        (reply_of result) }
     ensures sure { B.never_fails → is_failed (reply_of result) ≡ false }
 {
     if day_if_set(books)?.is_some() {
@@ -26,7 +28,9 @@ pub(crate) fn begin<B: Books>(books: &mut B, day: Day) -> Result<Reply, Refusal>
 
 /// Moves the business day on by one.
 pub(crate) fn next_day<B: Books>(books: &mut B) -> Result<Reply, Refusal>
-    ensures steps { (source : Stream) → StepsAs B.Issued B.Books.own (λ rows. outcome_on rows (words 64 source) command.NextDay) books.old books.new source source (reply_of result) }
+    ensures steps { (source : Stream) → StepsAs B.Issued B.Books.own
+        (λ rows. outcome_on rows (words 64 source) command.NextDay) books.old books.new source source
+        (reply_of result) }
     ensures sure { B.never_fails → is_failed (reply_of result) ≡ false }
 {
     let day = today(books)?;

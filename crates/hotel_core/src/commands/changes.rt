@@ -15,7 +15,8 @@ use hotel_model::{Change, Refusal, Reply};
 pub(crate) fn make<B: Books>(books: &mut B, change: Change, reply: Reply) -> Result<Reply, Refusal>
     requires answered { B.is_clean books.old → IsAnswered (B.rows books.old) change reply }
     requires is_answer { is_failed reply ≡ false }
-    ensures steps { (source : Stream) → StepsAs B.Issued B.Books.own (λ _. accepted reply change) books.old books.new source source (reply_of result) }
+    ensures steps { (source : Stream) → StepsAs B.Issued B.Books.own
+        (λ _. accepted reply change) books.old books.new source source (reply_of result) }
     ensures sure { B.never_fails → takes_memory change ≡ false → is_failed (reply_of result) ≡ false }
 {
     books.known_sound();

@@ -35,7 +35,8 @@ fn secured_after<B: Books>(
     place: u32,
 ) -> Result<bool, Refusal>
     requires vouched { B.is_honest books.old → B.is_clean books.old }
-    ensures { Finds B.Issued B.Books.own AnyRows Store (λ rows. Some (secured_by row.now place (are_none (inside_at rows room)))) books.old books.new result }
+    ensures { Finds B.Issued B.Books.own AnyRows Store (λ rows. Some
+        (secured_by row.now place (are_none (inside_at rows room)))) books.old books.new result }
 {
     let is_current = u64::from(place) + 1 == u64::from(row.codes);
     if row.secured || !is_current {
@@ -64,9 +65,12 @@ fn open<B: Books>(
     number: CardNo,
     link: &Link,
 ) -> Result<Reply, Refusal>
-    requires known { B.is_clean books.old → IsUntaken note.now row.now (B.rows books.old) × (has_link_on (B.rows books.old) number link.now ≡ true) }
-    requires outcome { B.is_clean books.old → IsOutcome (B.rows books.old) (opened_on (B.rows books.old) note.now number link.now) }
-    ensures { (source : Stream) → StepsAs B.Issued B.Books.own (λ rows. opened_on rows note.now number link.now) books.old books.new source source (reply_of result) }
+    requires known { B.is_clean books.old → IsUntaken note.now row.now (B.rows books.old)
+        × (has_link_on (B.rows books.old) number link.now ≡ true) }
+    requires outcome { B.is_clean books.old → IsOutcome (B.rows books.old)
+        (opened_on (B.rows books.old) note.now number link.now) }
+    ensures { (source : Stream) → StepsAs B.Issued B.Books.own
+        (λ rows. opened_on rows note.now number link.now) books.old books.new source source (reply_of result) }
 {
     let lock_place = issued_place(books, link.new_code)?.place;
     let secured = secured_after(books, note.room(), row, lock_place)?;
@@ -94,8 +98,11 @@ pub(crate) fn enter<B: Books>(
     link: &Link,
 ) -> Result<Reply, Refusal>
     requires untaken { B.is_clean books.old → IsUntaken note.now row.now (B.rows books.old) }
-    requires outcome { B.is_clean books.old → IsOutcome (B.rows books.old) (told_on (B.rows books.old) note.now (act.Entered number link.now)) }
-    ensures { (source : Stream) → StepsAs B.Issued B.Books.own (λ rows. told_on rows note.now (act.Entered number link.now)) books.old books.new source source (reply_of result) }
+    requires outcome { B.is_clean books.old → IsOutcome (B.rows books.old)
+        (told_on (B.rows books.old) note.now (act.Entered number link.now)) }
+    ensures { (source : Stream) → StepsAs B.Issued B.Books.own
+        (λ rows. told_on rows note.now (act.Entered number link.now)) books.old books.new source source
+        (reply_of result) }
 {
     let card = card_there(books, number)?;
     if !same_link(&card.link, link) {

@@ -22,8 +22,10 @@ pub(crate) fn leave<B: Books>(
     link: &Link,
 ) -> Result<Reply, Refusal>
     requires untaken { B.is_clean books.old → IsUntaken note.now row.now (B.rows books.old) }
-    requires outcome { B.is_clean books.old → IsOutcome (B.rows books.old) (told_on (B.rows books.old) note.now (act.Left number link.now)) }
-    ensures { (source : Stream) → StepsAs B.Issued B.Books.own (λ rows. told_on rows note.now (act.Left number link.now)) books.old books.new source source (reply_of result) }
+    requires outcome { B.is_clean books.old → IsOutcome (B.rows books.old)
+        (told_on (B.rows books.old) note.now (act.Left number link.now)) }
+    ensures { (source : Stream) → StepsAs B.Issued B.Books.own
+        (λ rows. told_on rows note.now (act.Left number link.now)) books.old books.new source source (reply_of result) }
 {
     let card = card_there(books, number)?;
     if !same_link(&card.link, link) {

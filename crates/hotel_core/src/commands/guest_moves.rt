@@ -81,7 +81,9 @@ pub(crate) fn check_in<B: Books, R: Rng>(
     party: PartyNo,
     room: RoomNo,
 ) -> Result<Reply, Refusal>
-    ensures { StepsAs B.Issued B.Books.own (λ rows. outcome_on rows (words 64 (R.stream source.old)) (command.CheckIn party room)) books.old books.new (R.stream source.old) (R.stream source.new) (reply_of result) }
+    ensures { StepsAs B.Issued B.Books.own (λ rows. outcome_on rows (words 64 (R.stream source.old))
+        (command.CheckIn party room)) books.old books.new (R.stream source.old) (R.stream source.new)
+        (reply_of result) }
 {
     let day = today(books)?;
     let row = room_there(books, room)?;
@@ -97,7 +99,9 @@ pub(crate) fn transfer<B: Books, R: Rng>(
     party: PartyNo,
     room: RoomNo,
 ) -> Result<Reply, Refusal>
-    ensures { StepsAs B.Issued B.Books.own (λ rows. outcome_on rows (words 64 (R.stream source.old)) (command.Transfer party room)) books.old books.new (R.stream source.old) (R.stream source.new) (reply_of result) }
+    ensures { StepsAs B.Issued B.Books.own (λ rows. outcome_on rows (words 64 (R.stream source.old))
+        (command.Transfer party room)) books.old books.new (R.stream source.old) (R.stream source.new)
+        (reply_of result) }
 {
     today(books)?;
     let row = room_there(books, room)?;
@@ -111,7 +115,9 @@ pub(crate) fn transfer<B: Books, R: Rng>(
 
 /// Gives a party in house one more card of its last link.
 pub(crate) fn spare<B: Books>(books: &mut B, party: PartyNo) -> Result<Reply, Refusal>
-    ensures { (source : Stream) → StepsAs B.Issued B.Books.own (λ rows. outcome_on rows (words 64 source) (command.Spare party)) books.old books.new source source (reply_of result) }
+    ensures { (source : Stream) → StepsAs B.Issued B.Books.own
+        (λ rows. outcome_on rows (words 64 source) (command.Spare party)) books.old books.new source source
+        (reply_of result) }
 {
     today(books)?;
     let stay = stay_there(books, party)?;
@@ -134,7 +140,8 @@ pub(crate) fn reissue<B: Books, R: Rng>(
     source: &mut R,
     party: PartyNo,
 ) -> Result<Reply, Refusal>
-    ensures { StepsAs B.Issued B.Books.own (λ rows. outcome_on rows (words 64 (R.stream source.old)) (command.Reissue party)) books.old books.new (R.stream source.old) (R.stream source.new) (reply_of result) }
+    ensures { StepsAs B.Issued B.Books.own (λ rows. outcome_on rows (words 64 (R.stream source.old))
+        (command.Reissue party)) books.old books.new (R.stream source.old) (R.stream source.new) (reply_of result) }
 {
     today(books)?;
     let stay = stay_there(books, party)?;
@@ -147,7 +154,9 @@ pub(crate) fn reissue<B: Books, R: Rng>(
 
 /// Ends the stay of a party in house.
 pub(crate) fn check_out<B: Books>(books: &mut B, party: PartyNo) -> Result<Reply, Refusal>
-    ensures { (source : Stream) → StepsAs B.Issued B.Books.own (λ rows. outcome_on rows (words 64 source) (command.CheckOut party)) books.old books.new source source (reply_of result) }
+    ensures { (source : Stream) → StepsAs B.Issued B.Books.own
+        (λ rows. outcome_on rows (words 64 source) (command.CheckOut party)) books.old books.new source source
+        (reply_of result) }
 {
     today(books)?;
     let stay = stay_there(books, party)?;

@@ -18,7 +18,9 @@ use rand_core::Rng;
 /// Adds a kind.
 pub(crate) fn add_kind<B: Books>(books: &mut B, kind: &KindCode) -> Result<Reply, Refusal>
     requires { IsCommand (command.AddKind kind.now) }
-    ensures { (source : Stream) → StepsAs B.Issued B.Books.own (λ rows. outcome_on rows (words 64 source) (command.AddKind kind.now)) books.old books.new source source (reply_of result) }
+    ensures { (source : Stream) → StepsAs B.Issued B.Books.own
+        (λ rows. outcome_on rows (words 64 source) (command.AddKind kind.now)) books.old books.new source source
+        (reply_of result) }
 {
     today(books)?;
     if is_kind(books, kind)? {
@@ -35,7 +37,9 @@ pub(crate) fn add_room<B: Books, R: Rng>(
     kind: &KindCode,
 ) -> Result<Reply, Refusal>
     requires { IsCommand (command.AddRoom room kind.now) }
-    ensures { StepsAs B.Issued B.Books.own (λ rows. outcome_on rows (words 64 (R.stream source.old)) (command.AddRoom room kind.now)) books.old books.new (R.stream source.old) (R.stream source.new) (reply_of result) }
+    ensures { StepsAs B.Issued B.Books.own (λ rows. outcome_on rows (words 64 (R.stream source.old))
+        (command.AddRoom room kind.now)) books.old books.new (R.stream source.old) (R.stream source.new)
+        (reply_of result) }
 {
     today(books)?;
     if !is_kind(books, kind)? {

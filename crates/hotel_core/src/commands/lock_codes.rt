@@ -42,7 +42,8 @@ pub(crate) fn kept_note<B: Books>(
 ) -> Result<Option<LockNote>, Refusal>
     requires there { B.is_clean books.old → room_at (B.rows books.old) note.now.room ≡ Some row.now }
     requires vouched { B.is_honest books.old → B.is_clean books.old }
-    ensures { Finds B.Issued B.Books.own AnyRows Store (λ rows. Some (note_at rows note.now.room note.now.fit note.now.count)) books.old books.new result }
+    ensures { Finds B.Issued B.Books.own AnyRows Store (λ rows. Some
+        (note_at rows note.now.room note.now.fit note.now.count)) books.old books.new result }
 {
     books.known_sound();
     if is_past(note, row) {
@@ -54,7 +55,8 @@ pub(crate) fn kept_note<B: Books>(
 
 /// Where a card's new code stands, which sound books have.
 pub(crate) fn issued_place<B: Books>(books: &mut B, code: Code) -> Result<CodeRow, Refusal>
-    ensures { Finds B.Issued B.Books.own (λ rows. IsSome (code_place rows code)) Store (λ rows. code_place rows code) books.old books.new result }
+    ensures { Finds B.Issued B.Books.own (λ rows. IsSome (code_place rows code)) Store
+        (λ rows. code_place rows code) books.old books.new result }
 {
     let row = books.code_place(code);
     there_or(row, Refusal::Store)
@@ -74,7 +76,8 @@ pub(crate) fn is_inside<B: Books>(
     room: RoomNo,
     number: CardNo,
 ) -> Result<bool, Refusal>
-    ensures { Finds B.Issued B.Books.own AnyRows Store (λ rows. Some (is_one_of number (inside_at rows room))) books.old books.new result }
+    ensures { Finds B.Issued B.Books.own AnyRows Store (λ rows. Some (is_one_of number (inside_at rows room)))
+        books.old books.new result }
 {
     let answer = books.is_inside(room, number);
     known(answer)
@@ -82,7 +85,8 @@ pub(crate) fn is_inside<B: Books>(
 
 /// Whether any card is inside a room.
 pub(crate) fn has_inside<B: Books>(books: &mut B, room: RoomNo) -> Result<bool, Refusal>
-    ensures { Finds B.Issued B.Books.own AnyRows Store (λ rows. Some (not (are_none (inside_at rows room)))) books.old books.new result }
+    ensures { Finds B.Issued B.Books.own AnyRows Store (λ rows. Some (not (are_none (inside_at rows room))))
+        books.old books.new result }
 {
     let answer = books.has_inside(room);
     known(answer)

@@ -59,7 +59,8 @@ pub(crate) fn day_if_set<B: Books>(books: &mut B) -> Result<Option<Day>, Refusal
 }
 
 pub(crate) fn is_kind<B: Books>(books: &mut B, kind: &KindCode) -> Result<bool, Refusal>
-    ensures { Finds B.Issued B.Books.own AnyRows Store (λ rows. Some (has_kind rows kind.now)) books.old books.new result }
+    ensures { Finds B.Issued B.Books.own AnyRows Store (λ rows. Some (has_kind rows kind.now))
+        books.old books.new result }
 {
     let answer = books.kind(kind);
     known(answer)
@@ -81,7 +82,8 @@ pub(crate) fn stay_there<B: Books>(books: &mut B, party: PartyNo) -> Result<Stay
 
 /// The row of a room in which a party is in house, which sound books have.
 pub(crate) fn row_of<B: Books>(books: &mut B, room: RoomNo) -> Result<RoomRow, Refusal>
-    ensures { Finds B.Issued B.Books.own (λ rows. IsSome (room_at rows room)) Store (λ rows. room_at rows room) books.old books.new result }
+    ensures { Finds B.Issued B.Books.own (λ rows. IsSome (room_at rows room)) Store
+        (λ rows. room_at rows room) books.old books.new result }
 {
     let row = books.room(room);
     there_or(row, Refusal::Store)
@@ -100,7 +102,8 @@ pub(crate) fn room_if_there<B: Books>(
 
 /// The number of the next party.
 pub(crate) fn next_party<B: Books>(books: &mut B) -> Result<PartyNo, Refusal>
-    ensures { Finds B.Issued B.Books.own AnyRows NumbersUsedUp (λ rows. number_after (length rows.stays)) books.old books.new result }
+    ensures { Finds B.Issued B.Books.own AnyRows NumbersUsedUp
+        (λ rows. number_after (length rows.stays)) books.old books.new result }
 {
     let numbers = books.next_numbers();
     let number = known(numbers)?.party;
@@ -109,7 +112,8 @@ pub(crate) fn next_party<B: Books>(books: &mut B) -> Result<PartyNo, Refusal>
 
 /// The number of the next card.
 pub(crate) fn next_card<B: Books>(books: &mut B) -> Result<CardNo, Refusal>
-    ensures { Finds B.Issued B.Books.own AnyRows NumbersUsedUp (λ rows. number_after (length rows.cards)) books.old books.new result }
+    ensures { Finds B.Issued B.Books.own AnyRows NumbersUsedUp
+        (λ rows. number_after (length rows.cards)) books.old books.new result }
 {
     let numbers = books.next_numbers();
     let number = known(numbers)?.card;

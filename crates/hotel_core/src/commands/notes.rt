@@ -34,8 +34,10 @@ fn is_fit(note: &LockNote, row: &RoomRow) -> bool
 fn take_new<B: Books>(books: &mut B, note: &LockNote, row: &RoomRow) -> Result<Reply, Refusal>
     requires vouched { B.is_honest books.old → B.is_clean books.old }
     requires untaken { B.is_clean books.old → IsUntaken note.now row.now (B.rows books.old) }
-    requires outcome { B.is_clean books.old → IsOutcome (B.rows books.old) (reported_on (B.rows books.old) note.now None) }
-    ensures { (source : Stream) → StepsAs B.Issued B.Books.own (λ rows. reported_on rows note.now None) books.old books.new source source (reply_of result) }
+    requires outcome { B.is_clean books.old → IsOutcome (B.rows books.old)
+        (reported_on (B.rows books.old) note.now None) }
+    ensures { (source : Stream) → StepsAs B.Issued B.Books.own
+        (λ rows. reported_on rows note.now None) books.old books.new source source (reply_of result) }
 {
     if !is_present(note, row) {
         return Err(Refusal::OldFit);
@@ -60,7 +62,9 @@ fn take_new<B: Books>(books: &mut B, note: &LockNote, row: &RoomRow) -> Result<R
 /// Takes a note of a lock.
 pub(crate) fn take_note<B: Books>(books: &mut B, note: &LockNote) -> Result<Reply, Refusal>
     requires { IsCommand (command.Reported note.now) }
-    ensures { (source : Stream) → StepsAs B.Issued B.Books.own (λ rows. outcome_on rows (words 64 source) (command.Reported note.now)) books.old books.new source source (reply_of result) }
+    ensures { (source : Stream) → StepsAs B.Issued B.Books.own
+        (λ rows. outcome_on rows (words 64 source) (command.Reported note.now)) books.old books.new source source
+        (reply_of result) }
 {
     today(books)?;
     let row = room_there(books, note.room())?;

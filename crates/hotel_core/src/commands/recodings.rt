@@ -29,8 +29,10 @@ pub(crate) fn recode<B: Books>(
     to: Code,
 ) -> Result<Reply, Refusal>
     requires untaken { B.is_clean books.old → IsUntaken note.now row.now (B.rows books.old) }
-    requires outcome { B.is_clean books.old → IsOutcome (B.rows books.old) (told_on (B.rows books.old) note.now (act.Recoded from to)) }
-    ensures { (source : Stream) → StepsAs B.Issued B.Books.own (λ rows. told_on rows note.now (act.Recoded from to)) books.old books.new source source (reply_of result) }
+    requires outcome { B.is_clean books.old → IsOutcome (B.rows books.old)
+        (told_on (B.rows books.old) note.now (act.Recoded from to)) }
+    ensures { (source : Stream) → StepsAs B.Issued B.Books.own
+        (λ rows. told_on rows note.now (act.Recoded from to)) books.old books.new source source (reply_of result) }
 {
     let room = note.room();
     let held = code_in(books, room, row.lock_place)?;

@@ -19,7 +19,8 @@ pub(crate) fn refit<B: Books, R: Rng>(
     room: RoomNo,
 ) -> Result<Reply, Refusal>
     requires { IsCommand (command.Refit room) }
-    ensures { StepsAs B.Issued B.Books.own (λ rows. outcome_on rows (words 64 (R.stream source.old)) (command.Refit room)) books.old books.new (R.stream source.old) (R.stream source.new) (reply_of result) }
+    ensures { StepsAs B.Issued B.Books.own (λ rows. outcome_on rows (words 64 (R.stream source.old))
+        (command.Refit room)) books.old books.new (R.stream source.old) (R.stream source.new) (reply_of result) }
 {
     today(books)?;
     let row = room_there(books, room)?;

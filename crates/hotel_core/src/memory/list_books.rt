@@ -65,7 +65,8 @@ impl ListBooks {
         ensures same { result ≡ end }
         ensures rows { self.new.rows ≡ self.old.rows }
         ensures counted { NoFewer (of_memory self.old.failures) (of_memory self.new.failures) }
-        ensures risen { IfSome (failure_of end) (λ cause. HasRisen (of_memory self.old.failures cause) (of_memory self.new.failures cause)) }
+        ensures risen { IfSome (failure_of end) (λ cause. HasRisen (of_memory self.old.failures cause)
+            (of_memory self.new.failures cause)) }
     {
         if matches!(end, Err(WalkFault::Memory)) {
             self.wanting();

@@ -58,7 +58,8 @@ pub(crate) fn refit_at(rooms: &mut BTreeMap<RoomNo, RoomRow>, room: RoomNo, fit:
 /// One more code was issued at the room, to the party that is registered there from now on.
 pub(crate) fn issue_at(rooms: &mut BTreeMap<RoomNo, RoomRow>, room: RoomNo, party: PartyNo)
     requires { column_at rooms.old.entries room (λ row. row.codes) < 2 ^ 32 - 1 }
-    ensures { rooms.new.entries ≡ room_changed room (λ row. record row { codes = row.codes + 1; secured = false; party = Some party }) rooms.old.entries }
+    ensures { rooms.new.entries ≡ room_changed room
+        (λ row. record row { codes = row.codes + 1; secured = false; party = Some party }) rooms.old.entries }
 {
     if let Some(row) = rooms.get_mut(&room) {
         row.codes += 1;
@@ -94,7 +95,9 @@ pub(crate) fn note_at(
     count: u32,
 )
     requires { column_at rooms.old.entries room (λ row. row.before) + count < 2 ^ 32 }
-    ensures { rooms.new.entries ≡ room_changed room (λ row. record row { lock_place = lock_place; secured = secured; notes = row.before + count }) rooms.old.entries }
+    ensures { rooms.new.entries ≡ room_changed room
+        (λ row. record row { lock_place = lock_place; secured = secured; notes = row.before + count })
+        rooms.old.entries }
 {
     if let Some(row) = rooms.get_mut(&room) {
         row.lock_place = lock_place;

@@ -224,7 +224,8 @@ impl Tables {
         secured: bool,
         insides: InsideMove,
     ) -> Result<(), Memory>
-        requires untaken { note_numbered self.old note.now.room (before_in self.old note.now.room + note.now.count) ≡ None }
+        requires untaken { note_numbered self.old note.now.room
+            (before_in self.old note.now.room + note.now.count) ≡ None }
         requires few { before_in self.old note.now.room + note.now.count < 2 ^ 32 }
         ensures ok { OnOk result (self.new ≡ made (change.Noted note.now lock_place secured insides) self.old) }
         ensures err { OnErr result (self.new ≡ self.old) }

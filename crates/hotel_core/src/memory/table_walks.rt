@@ -100,7 +100,8 @@ impl Tables {
 
     /// Walks the codes of a room that is there.
     fn walk_places<S: Sink<ChainRow>>(&self, row: &RoomRow, sink: &mut S) -> Result<(), WalkFault>
-        ensures hands { Hands S.after S.after_stop (filter_map (chain_row_on self.now row.now) (range_with_len 0 row.now.codes)) sink.old sink.new result }
+        ensures hands { Hands S.after S.after_stop (filter_map (chain_row_on self.now row.now)
+            (range_with_len 0 row.now.codes)) sink.old sink.new result }
         ensures sure { failure_of result ≡ None }
     {
         for place in 0..row.codes {

@@ -197,7 +197,11 @@ impl Tables {
     }
 
     pub(crate) fn next_numbers(&self) -> NextNumbers
-        ensures { result ≡ record { party = number_after (length self.now.stays); card = number_after (length self.now.cards) } }
+        ensures { result ≡ record {
+          party = number_after (length self.now.stays);
+          card = number_after
+              (length self.now.cards);
+        } }
     {
         NextNumbers {
             party: number_after(self.stays.map().len()),

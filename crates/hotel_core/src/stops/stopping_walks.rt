@@ -37,9 +37,11 @@ impl<'a, R, S: Sink<R>> Sink<R> for Passing<'a, S> {
     ghost use Rattle.std.specs.Prelude.{◌≡◌};
     ghost use Rattle.hotel_core.specs.Stops.{StopsEither};
 
-    ghost after = { λ old row new. (new.sink.ghost_name ≡ old.sink.ghost_name) × S.after old.sink.now row new.sink.now };
+    ghost after = { λ old row new. (new.sink.ghost_name ≡ old.sink.ghost_name)
+        × S.after old.sink.now row new.sink.now };
 
-    ghost after_stop = { λ old row new. (new.sink.ghost_name ≡ old.sink.ghost_name) × StopsEither new.failed (new.sink.now ≡ old.sink.now) (S.after_stop old.sink.now row new.sink.now) };
+    ghost after_stop = { λ old row new. (new.sink.ghost_name ≡ old.sink.ghost_name)
+        × StopsEither new.failed (new.sink.now ≡ old.sink.now) (S.after_stop old.sink.now row new.sink.now) };
 
     fn take(&mut self, row: &R) -> Result<(), Stop> {
         self.failed = self.calls.fails();

@@ -49,14 +49,16 @@ audit_end (Err why) write_failed = Err (import_fault why)
 
 -- What a writer took of an import: the texts of its answers, a line each; a front of them where a write failed; nothing
 -- where it has no answers.
-abbrev pub WritesAnswers : {W : Type 0} → (W → Option (List ℕ)) → W → W → Result (List LineAnswer) ImportFault → Bool → Type 0
+abbrev pub WritesAnswers : {W : Type 0} → (W → Option (List ℕ)) → W → W → Result (List LineAnswer) ImportFault → Bool
+    → Type 0
 WritesAnswers contents old new (Ok answers) false = Appends (contents old) (contents new) (answers_text 1 answers)
 WritesAnswers contents old new (Ok answers) true = AppendsFront (contents old) (contents new) (answers_text 1 answers)
 WritesAnswers contents old new (Err why) write_failed = new ≡ old
 
 -- An import of the file ended so: the books went by its lines, all of them or those before a fault, or are as they were
 -- where it is none; a failure of the store, or of memory after the first line, was counted.
-pub record ImportEnds {B : Type 0} (I : IssuedOf B) (rows : B → Rows) (bytes : List ℕ) (old new : B) (outcome : Result (List LineAnswer) ImportFault) : Type 0 where
+pub record ImportEnds {B : Type 0} (I : IssuedOf B) (rows : B → Rows) (bytes : List ℕ) (old new : B)
+    (outcome : Result (List LineAnswer) ImportFault) : Type 0 where
   pub went : Imports I rows (audit_lines bytes) old new outcome
   pub no_file : IfErr outcome (λ fault. (why : AuditFault) → fault ≡ File why → new ≡ old)
   pub was_clean : I.is_clean new → I.is_clean old

@@ -19,7 +19,8 @@ AnswerEnds listing old new end = ListEnds (refusal_text refusal.NoRoom) listing 
 
 -- The same over each history that the rows stand for.
 abbrev pub AnswerEndsFor : Rows → ListAsk → Option (List ℕ) → Option (List ℕ) → Result (Unit {0}) ListFault → Type 0
-AnswerEndsFor rows its_list old new end = (h : History) → StandsFor h rows → AnswerEnds (listing_over h its_list) old new end
+AnswerEndsFor rows its_list old new end =
+    (h : History) → StandsFor h rows → AnswerEnds (listing_over h its_list) old new end
 
 -- The exit status of a list that ended so, or the fault that is told.
 abbrev pub list_end : Result (Unit {0}) ListFault → Result ℕ Fault

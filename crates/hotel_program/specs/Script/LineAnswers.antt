@@ -31,9 +31,12 @@ answer_text Unread = unread_text
 -- What is asked goes with this answer and these failures, which the books counted: a command is a step that gives the
 -- reply of that text; a list is answered, surely where the condition holds of its text; and where nothing is asked the
 -- line is unread. Of the last two nothing happens.
-abbrev pub AskGoes : (List ℕ → Type 0) → Option Ask → History → Stream → List ℕ → List Refusal → History → Stream → Type 0
-AskGoes sure (Some (ask.Command command)) h s text failed h' s' = (reply : Reply) × Steps h s command reply h' s' × (text ≡ reply_text reply) × (failed ≡ counted_in reply (copies command))
-AskGoes sure (Some (ask.List its_list)) h s text failed h' s' = (sure text → AnswersList (listing_over h its_list) text failed) × (h' ≡ h) × (s' ≡ s)
+abbrev pub AskGoes : (List ℕ → Type 0) → Option Ask → History → Stream → List ℕ → List Refusal → History → Stream
+    → Type 0
+AskGoes sure (Some (ask.Command command)) h s text failed h' s' = (reply : Reply) × Steps h s command reply h' s'
+    × (text ≡ reply_text reply) × (failed ≡ counted_in reply (copies command))
+AskGoes sure (Some (ask.List its_list)) h s text failed h' s' =
+    (sure text → AnswersList (listing_over h its_list) text failed) × (h' ≡ h) × (s' ≡ s)
 AskGoes sure None h s text failed h' s' = (text ≡ unread_text) × (failed ≡ []) × (h' ≡ h) × (s' ≡ s)
 
 -- A line goes with this answer as what it asks for does.
@@ -47,15 +50,19 @@ answered_to None text = []
 answered_to (Some wanted) text = not (tells_failure text) ∷ []
 
 -- What is asked went with an answer that was written so, and this is told of its failures and how the books answered.
-abbrev pub AskAnswered : (List ℕ → Type 0) → (List ℕ → Type 0) → (List ℕ → List Bool) → Option Ask → Stream → Stream → (List Refusal → List Bool → Type 0) → History → History → Type 0
+abbrev pub AskAnswered : (List ℕ → Type 0) → (List ℕ → Type 0) → (List ℕ → List Bool) → Option Ask → Stream → Stream
+    → (List Refusal → List Bool → Type 0) → History → History → Type 0
 AskAnswered sure written answered wanted s s' told h h' =
-    (text : List ℕ) × (failed : List Refusal) × AskGoes sure wanted h s text failed h' s' × written text × told failed (answered text)
+    (text : List ℕ) × (failed : List Refusal) × AskGoes sure wanted h s text failed h' s' × written text
+    × told failed (answered text)
 
 -- what is surely answered: also over books that failed for good what tells no failure, and the rest where they are kept
 abbrev pub Sure : Type 0 → List ℕ → Type 0
 Sure kept text = tells_failure text ≡ true → kept
 
 -- What is asked was answered: the answer was written whole; or a front of it, which vouches for nothing.
-abbrev pub AskEnds : Option Ask → Stream → Stream → Option (List ℕ) → Option (List ℕ) → Result (Unit {0}) WriteFailed → Type 0 → (List Refusal → List Bool → Type 0) → History → History → Type 0
+abbrev pub AskEnds : Option Ask → Stream → Stream → Option (List ℕ) → Option (List ℕ) → Result (Unit {0}) WriteFailed
+    → Type 0 → (List Refusal → List Bool → Type 0) → History → History → Type 0
 AskEnds wanted s s' old new (Ok done) kept = AskAnswered (Sure kept) (Appends old new) (answered_to wanted) wanted s s'
-AskEnds wanted s s' old new (Err failed) kept = AskAnswered (λ text. kept) (AppendsFront old new) (λ text. false ∷ []) wanted s s'
+AskEnds wanted s s' old new (Err failed) kept =
+    AskAnswered (λ text. kept) (AppendsFront old new) (λ text. false ∷ []) wanted s s'

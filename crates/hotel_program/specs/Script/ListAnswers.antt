@@ -20,11 +20,13 @@ failure_of why = counted_in (Refused why) true
 -- Whole lines of a list and then the line that memory or the store failed, with the failures that the books counted.
 abbrev pub IsCutShort : Option Listing → List ℕ → List Refusal → Type 0
 IsCutShort listing text failed =
-    (front : List ℕ) × (why : Refusal) × IsFront listing front × (is_failed (Refused why) ≡ true) × (text ≡ front ++ refusal_text why) × (failed ≡ failure_of why)
+    (front : List ℕ) × (why : Refusal) × IsFront listing front × (is_failed (Refused why) ≡ true)
+    × (text ≡ front ++ refusal_text why) × (failed ≡ failure_of why)
 
 -- The answer to a list: it in full, or the line that its room isn't there; or it is cut short.
 abbrev pub AnswersList : Option Listing → List ℕ → List Refusal → Type 0
-AnswersList listing text failed = ((text ≡ in_full (refusal_text refusal.NoRoom) listing) × (failed ≡ [])) ⊎ IsCutShort listing text failed
+AnswersList listing text failed =
+    ((text ≡ in_full (refusal_text refusal.NoRoom) listing) × (failed ≡ [])) ⊎ IsCutShort listing text failed
 
 -- a text ends by this one
 abbrev pub ends_by : List ℕ → List ℕ → Bool
@@ -36,4 +38,5 @@ tells_failure text = ends_by (refusal_text refusal.Memory) text || ends_by (refu
 
 -- Such an answer was written so, and its failures were counted so.
 abbrev pub ListAnswered : Option Listing → (List ℕ → Type 0) → (List Refusal → Type 0) → Type 0
-ListAnswered listing written counted = (text : List ℕ) × (failed : List Refusal) × AnswersList listing text failed × written text × counted failed
+ListAnswered listing written counted =
+    (text : List ℕ) × (failed : List Refusal) × AnswersList listing text failed × written text × counted failed

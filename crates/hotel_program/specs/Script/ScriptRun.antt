@@ -39,26 +39,34 @@ abbrev pub failed_of : List (Option Ask) → List Reply → List (List ℕ × Li
 failed_of [] replies lists = []
 failed_of (None ∷ later) replies lists = failed_of later replies lists
 failed_of (Some (ask.Command command) ∷ later) [] lists = []
-failed_of (Some (ask.Command command) ∷ later) (reply ∷ replies) lists = counted_in reply (copies command) ++ failed_of later replies lists
+failed_of (Some (ask.Command command) ∷ later) (reply ∷ replies) lists =
+    counted_in reply (copies command) ++ failed_of later replies lists
 failed_of (Some (ask.List its_list) ∷ later) replies [] = []
 failed_of (Some (ask.List its_list) ∷ later) replies (answer ∷ lists) = answer.1 ++ failed_of later replies lists
 
 -- The commands of lines are a run, and the answers and the failures are those of its replies and of the lists' answers.
 abbrev pub LinesRun : History → Stream → List (List ℕ) → List (List ℕ) → List Refusal → History → Stream → Type 0
 LinesRun h s lines texts failed h' s' =
-    (replies : List Reply) × (lists : List (List ℕ × List Refusal)) × Runs h s (commands_of (map ask_in lines)) replies h' s'
+    (replies : List Reply) × (lists : List (List ℕ × List Refusal))
+    × Runs h s (commands_of (map ask_in lines)) replies h' s'
     × (texts ≡ texts_of (map ask_in lines) replies lists) × (failed ≡ failed_of (map ask_in lines) replies lists)
 
 -- The lines of a script are a run of their commands, whatever test of the texts says which lists are surely answered.
 abbrev pub ScriptsRun : Type 0
-ScriptsRun = (sure : List ℕ → Bool) (h h' : History) (s s' : Stream) (lines texts : List (List ℕ)) (failed : List Refusal)
+ScriptsRun =
+    (sure : List ℕ → Bool) (h h' : History) (s s' : Stream) (lines texts : List (List ℕ)) (failed : List Refusal)
     → ScriptGoes (λ text. sure text ≡ true) h s lines texts failed h' s' → LinesRun h s lines texts failed h' s'
 
 -- Where a line asks for a list, the lines before it are a run to some history, the list is answered over that history
 -- where that is sure, and the lines after it are a run from there.
 abbrev pub ListsBetween : Type 0
-ListsBetween = (sure : List ℕ → Bool) (h h' : History) (s s' : Stream) (before later : List (List ℕ)) (line : List ℕ) (its_list : ListAsk) (texts : List (List ℕ)) (failed : List Refusal)
-    → ScriptGoes (λ text. sure text ≡ true) h s (before ++ line ∷ later) texts failed h' s' → ask_in line ≡ Some (ask.List its_list)
-    → (mid : History) × (source : Stream) × (first : List (List ℕ)) × (text : List ℕ) × (rest : List (List ℕ)) × (failed_first failed_text failed_rest : List Refusal)
-    × LinesRun h s before first failed_first mid source × (sure text ≡ true → AnswersList (listing_over mid its_list) text failed_text) × LinesRun mid source later rest failed_rest h' s'
+ListsBetween = (sure : List ℕ → Bool) (h h' : History) (s s' : Stream) (before later : List (List ℕ)) (line : List ℕ)
+    (its_list : ListAsk) (texts : List (List ℕ)) (failed : List Refusal)
+    → ScriptGoes (λ text. sure text ≡ true) h s (before ++ line ∷ later) texts failed h' s'
+    → ask_in line ≡ Some (ask.List its_list)
+    → (mid : History) × (source : Stream) × (first : List (List ℕ)) × (text : List ℕ) × (rest : List (List ℕ))
+    × (failed_first failed_text failed_rest : List Refusal)
+    × LinesRun h s before first failed_first mid source
+    × (sure text ≡ true → AnswersList (listing_over mid its_list) text failed_text)
+    × LinesRun mid source later rest failed_rest h' s'
     × (texts ≡ first ++ text ∷ rest) × (failed ≡ failed_first ++ failed_text ++ failed_rest)

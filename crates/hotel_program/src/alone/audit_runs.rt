@@ -70,7 +70,8 @@ fn import_and_write<B: Books, W: Write>(
     writer: &mut W,
     calls: &mut IoCalls,
 ) -> Result<u8, Fault>
-    ensures ends { (outcome : Result (List LineAnswer) ImportFault) × (write_failed : Bool) × (result ≡ audit_end outcome write_failed)
+    ensures ends { (outcome : Result (List LineAnswer) ImportFault) × (write_failed : Bool)
+        × (result ≡ audit_end outcome write_failed)
         × WritesAnswers W.contents writer.old writer.new outcome write_failed
         × ImportEnds B.Issued B.rows bytes.now books.old books.new outcome }
     ensures no_usage { end_status result ≢ 2 }
@@ -97,8 +98,10 @@ pub fn run_audit<B: Books, W: Write, F: FaultSink>(
     writer: &mut W,
     faults: &mut F,
 ) -> u8
-    ensures ends { (outcome : Result (List LineAnswer) ImportFault) × (write_failed : Bool) × (result ≡ end_status (audit_end outcome write_failed))
-        × Tells F.told faults.old (audit_end outcome write_failed) faults.new × WritesAnswers W.contents writer.old writer.new outcome write_failed
+    ensures ends { (outcome : Result (List LineAnswer) ImportFault) × (write_failed : Bool)
+        × (result ≡ end_status (audit_end outcome write_failed))
+        × Tells F.told faults.old (audit_end outcome write_failed) faults.new
+        × WritesAnswers W.contents writer.old writer.new outcome write_failed
         × ImportEnds B.Issued B.rows bytes.now books.old books.new outcome }
     ensures no_usage { result ≢ 2 }
 {

@@ -25,7 +25,8 @@ fn step_and_write<B: Books, R: Rng, W: Write>(
 ) -> Result<u8, Fault>
     ensures ends { (reply : Reply) × (write_failed : Bool) × (result ≡ command_end reply write_failed)
         × WritesReply (W.contents writer.old) (W.contents writer.new) reply write_failed
-        × CommandEnds B.Issued B.rows command.now reply books.old books.new (R.stream source.old) (R.stream source.new) }
+        × CommandEnds B.Issued B.rows command.now reply books.old books.new (R.stream source.old)
+        (R.stream source.new) }
     ensures no_usage { end_status result ≢ 2 }
     ensures failed { IsErrOf result Fault.Write → calls.new.write_failed ≡ true }
     ensures calls { NoneForgotten calls.old calls.new }
@@ -47,9 +48,11 @@ pub fn run_one<B: Books, R: Rng, W: Write, F: FaultSink>(
     writer: &mut W,
     faults: &mut F,
 ) -> u8
-    ensures ends { (reply : Reply) × (write_failed : Bool) × (result ≡ end_status (command_end reply write_failed)) × Tells F.told faults.old (command_end reply write_failed) faults.new
+    ensures ends { (reply : Reply) × (write_failed : Bool) × (result ≡ end_status (command_end reply write_failed))
+        × Tells F.told faults.old (command_end reply write_failed) faults.new
         × WritesReply (W.contents writer.old) (W.contents writer.new) reply write_failed
-        × CommandEnds B.Issued B.rows command.now reply books.old books.new (R.stream source.old) (R.stream source.new) }
+        × CommandEnds B.Issued B.rows command.now reply books.old books.new (R.stream source.old)
+        (R.stream source.new) }
     ensures no_usage { result ≢ 2 }
 {
     let mut calls = IoCalls::none();

@@ -24,7 +24,8 @@ fn write_list_or_refusal<W: Write, B: Walks>(
     books: &mut B,
     calls: &mut IoCalls,
 ) -> Result<(), ListFault>
-    ensures text { B.is_honest books.new → AnswerEnds (listing_on (B.rows books.old) list.now) (W.contents writer.old) (W.contents writer.new) result }
+    ensures text { B.is_honest books.new → AnswerEnds (listing_on (B.rows books.old) list.now) (W.contents writer.old)
+        (W.contents writer.new) result }
     ensures books { LooksAt B.Issued books.old books.new result }
     ensures failed { IsErrOf result ListFault.Write → calls.new.write_failed ≡ true }
     ensures calls { NoneForgotten calls.old calls.new }
@@ -63,8 +64,10 @@ pub fn run_list<B: Walks, W: Write, F: FaultSink>(
     writer: &mut W,
     faults: &mut F,
 ) -> u8
-    ensures ends { (end : Result (Unit {0}) ListFault) × (result ≡ end_status (list_end end)) × Tells F.told faults.old (list_end end) faults.new
-        × (B.is_honest books.new → AnswerEndsFor (B.rows books.old) list.now (W.contents writer.old) (W.contents writer.new) end)
+    ensures ends { (end : Result (Unit {0}) ListFault) × (result ≡ end_status (list_end end))
+        × Tells F.told faults.old (list_end end) faults.new
+        × (B.is_honest books.new → AnswerEndsFor (B.rows books.old) list.now (W.contents writer.old)
+        (W.contents writer.new) end)
         × LooksAt B.Issued books.old books.new end }
     ensures no_usage { result ≢ 2 }
 {

@@ -42,7 +42,8 @@ fn texts<'a>(
     matches: &ArgMatches<'a>,
     names: &[ValueName],
 ) -> Result<Vec<&'a [u8]>, UsageFault>
-    ensures { IsRead (λ texts. map (λ s. s.now) texts.items) (texts_in (rows_of (found_of matches.now)) names.now) result }
+    ensures { IsRead (λ texts. map (λ s. s.now) texts.items)
+        (texts_in (rows_of (found_of matches.now)) names.now) result }
 {
     let mut texts = Vec::new(alloc);
     for name in names {
@@ -179,7 +180,8 @@ fn plan(alloc: Global, matches: &ArgMatches) -> Result<Plan, UsageFault>
 pub fn parse_words(alloc: Global, words: &[String]) -> Result<Plan, UsageFault>
     ensures act { IfOk result (λ p. act_in (subcommand_of desk (map string_bytes words.now)) ≡ Some (Ok p.act)) }
     ensures db { IfOk result (λ p. p.db ≡ first_of (codes "db") (matches_of desk (map string_bytes words.now))) }
-    ensures seed { IfOk result (λ p. p.seed_file ≡ first_of (codes "seed-file") (matches_of desk (map string_bytes words.now))) }
+    ensures seed { IfOk result (λ p. p.seed_file ≡ first_of (codes "seed-file")
+        (matches_of desk (map string_bytes words.now))) }
     ensures value { IfErr result (IsRefusalOf (act_in (subcommand_of desk (map string_bytes words.now)))) }
     ensures takes { takes desk (map string_bytes words.now) ≡ true → IfErr result IsValueOrMemory }
 {

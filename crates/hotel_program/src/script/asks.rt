@@ -44,7 +44,8 @@ fn split_words(text: &[u8]) -> Option<LineValues<'_>>
 /// The first three words of a text, and the rest of it without the spaces at both ends. None where
 /// it has fewer words.
 fn split_reservation(text: &[u8]) -> Option<LineValues<'_>>
-    ensures { MatchOption result (length (words_and_rest 3 text.now) < 4) (λ values. values ≡ words_and_rest 3 text.now) }
+    ensures { MatchOption result (length (words_and_rest 3 text.now) < 4)
+        (λ values. values ≡ words_and_rest 3 text.now) }
 {
     let (kind, text) = next_word(text)?;
     let (arrive, text) = next_word(text)?;
@@ -70,7 +71,8 @@ fn split_values(verb: Verb, text: &[u8]) -> Option<LineValues<'_>>
 
 /// What a line asks for whose values were read.
 fn line_read(read: Result<Ask, AskFault>) -> Result<Ask, LineFault>
-    ensures { (wanted : Result Ask ValueFault) → IsReading ask_copies wanted read → IsLineRead ask_copies (asked wanted) result }
+    ensures { (wanted : Result Ask ValueFault) → IsReading ask_copies wanted read
+        → IsLineRead ask_copies (asked wanted) result }
 {
     match read {
         Ok(ask) => Ok(ask),

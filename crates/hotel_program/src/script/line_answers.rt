@@ -51,7 +51,8 @@ fn answer_command<W: Write, B: Walks, R: Rng>(
     source: &mut R,
     calls: &mut IoCalls,
 ) -> Result<(), WriteFailed>
-    ensures went { HappensBy B.Issued B.rows books.old (AskEnds (Some (ask.Command command.now)) (R.stream source.old) (R.stream source.new)
+    ensures went { HappensBy B.Issued B.rows books.old (AskEnds (Some (ask.Command command.now)) (R.stream source.old)
+        (R.stream source.new)
         (W.contents writer.old) (W.contents writer.new) result) books.new }
     ensures failed { OnErr result (calls.new.write_failed ≡ true) }
     ensures calls { NoneForgotten calls.old calls.new }
@@ -71,7 +72,8 @@ pub fn answer_line<W: Write, B: Walks, R: Rng>(
     source: &mut R,
     calls: &mut IoCalls,
 ) -> Result<(), WriteFailed>
-    ensures went { HappensBy B.Issued B.rows books.old (AskEnds (ask_in line.now) (R.stream source.old) (R.stream source.new)
+    ensures went { HappensBy B.Issued B.rows books.old (AskEnds (ask_in line.now) (R.stream source.old)
+        (R.stream source.new)
         (W.contents writer.old) (W.contents writer.new) result) books.new }
     ensures failed { OnErr result (calls.new.write_failed ≡ true) }
     ensures calls { NoneForgotten calls.old calls.new }

@@ -23,7 +23,8 @@ pub fn answer_list<W: Write, B: Walks>(
     books: &mut B,
     calls: &mut IoCalls,
 ) -> Result<(), WriteFailed>
-    ensures went { (s : Stream) → HappensBy B.Issued B.rows books.old (AskEnds (Some (ask.List list.now)) s s (W.contents writer.old) (W.contents writer.new) result) books.new }
+    ensures went { (s : Stream) → HappensBy B.Issued B.rows books.old
+        (AskEnds (Some (ask.List list.now)) s s (W.contents writer.old) (W.contents writer.new) result) books.new }
     ensures failed { OnErr result (calls.new.write_failed ≡ true) }
     ensures calls { NoneForgotten calls.old calls.new }
 {

@@ -172,7 +172,8 @@ pub(crate) fn room_at<'a>(places: &Places, stored: &'a Stored, room: u64) -> Opt
     ensures row { option_map (joined_row (fits_of stored.now)) (option_copied result)
         ≡ at_number (rows_of stored.now).rooms room }
     ensures key { IfSome result (λ plain. number_of plain.now.room ≡ room) }
-    ensures rules { IfSome result (λ plain. (t : PlainRoom → Bool) → list_all t stored.now.rooms.items ≡ true → t plain.now ≡ true) }
+    ensures rules { IfSome result (λ plain. (t : PlainRoom → Bool) → list_all t stored.now.rooms.items ≡ true
+        → t plain.now ≡ true) }
 {
     let Some(place) = place_at(&places.rooms, room) else {
         return None;

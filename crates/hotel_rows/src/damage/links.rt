@@ -174,7 +174,8 @@ pub(crate) fn all_have_owners(
 /// The link of the party's last card, among those after a card, or else that card's.
 fn add_last(lasts: &mut BTreeMap<u64, (u64, u64)>, card: &PlainCard) -> Result<(), Memory>
     ensures { OnOk result ((p : ℕ) → at_number lasts.new.entries p
-        ≡ (if is_some (at_number lasts.old.entries p) then at_number lasts.old.entries p else (if p == number_of card.now.party then Some (link_pair card.now) else None))) }
+        ≡ (if is_some (at_number lasts.old.entries p) then at_number lasts.old.entries p
+        else (if p == number_of card.now.party then Some (link_pair card.now) else None))) }
 {
     let party = number(card.party);
     if lasts.contains_key(&party) {

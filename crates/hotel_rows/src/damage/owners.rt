@@ -17,7 +17,8 @@ use std::collections::BTreeMap;
 
 fn add_owner(owners: &mut BTreeMap<(u64, u64), u64>, card: &PlainCard) -> Result<(), Memory>
     ensures { OnOk result ((q : ℕ × ℕ) → lookup (is_at (pair_cmp q)) owners.new.entries
-        ≡ (if is_at (pair_cmp (link_pair card.now)) q then Some (number_of card.now.party) else lookup (is_at (pair_cmp q)) owners.old.entries)) }
+        ≡ (if is_at (pair_cmp (link_pair card.now)) q then Some (number_of card.now.party)
+        else lookup (is_at (pair_cmp q)) owners.old.entries)) }
 {
     let link = (number(card.old_code), number(card.new_code));
     let party = number(card.party);

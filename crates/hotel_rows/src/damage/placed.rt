@@ -33,7 +33,8 @@ pub(crate) struct Placed {
 fn take_out(alloc: Global, placed: &mut BTreeMap<u64, Placed>, room: u64) -> Placed
     ensures places { result.by_place.entries ≡ places_in placed.old.entries room }
     ensures listed { result.listed ≡ listed_in placed.old.entries room }
-    ensures others { (r : ℕ) → at_number placed.new.entries r ≡ (if r == room then None else at_number placed.old.entries r) }
+    ensures others { (r : ℕ) → at_number placed.new.entries r
+        ≡ (if r == room then None else at_number placed.old.entries r) }
 {
     match placed.remove(&room) {
         Some(found) => found,
@@ -53,8 +54,10 @@ fn place_code(
     code: u64,
 ) -> Result<(), Memory>
     requires { listed_in placed.old.entries room < 2 ^ 63 }
-    ensures places { OnOk result ((r : ℕ) → places_in placed.new.entries r ≡ when (room == r) (λ es. insert_entry nat_cmp es place code) (places_in placed.old.entries r)) }
-    ensures listed { OnOk result ((r : ℕ) → listed_in placed.new.entries r ≡ listed_in placed.old.entries r + one_if (room == r)) }
+    ensures places { OnOk result ((r : ℕ) → places_in placed.new.entries r ≡ when (room == r)
+        (λ es. insert_entry nat_cmp es place code) (places_in placed.old.entries r)) }
+    ensures listed { OnOk result ((r : ℕ) → listed_in placed.new.entries r ≡ listed_in placed.old.entries r + one_if
+        (room == r)) }
 {
     let mut found = take_out(alloc, placed, room);
     let Ok(_) = found.by_place.insert(place, code) else {
@@ -74,8 +77,10 @@ fn place_plain(
 ) -> Result<(), Memory>
     requires { listed_in placed.old.entries (number_of code.now.room) < 2 ^ 63 }
     ensures places { OnOk result ((r : ℕ) → places_in placed.new.entries r
-        ≡ when (number_of code.now.room == r) (λ es. insert_entry nat_cmp es (number_of code.now.place) (number_of code.now.code)) (places_in placed.old.entries r)) }
-    ensures listed { OnOk result ((r : ℕ) → listed_in placed.new.entries r ≡ listed_in placed.old.entries r + one_if (number_of code.now.room == r)) }
+        ≡ when (number_of code.now.room == r) (λ es. insert_entry nat_cmp es (number_of code.now.place)
+        (number_of code.now.code)) (places_in placed.old.entries r)) }
+    ensures listed { OnOk result ((r : ℕ) → listed_in placed.new.entries r ≡ listed_in placed.old.entries r + one_if
+        (number_of code.now.room == r)) }
 {
     let room = number(code.room);
     let place = number(code.place);
@@ -176,7 +181,8 @@ pub(crate) fn is_newest(
     requires placed { PlacesOf placed.now.entries stored.now.codes.items }
     requires fits { FitsOf fits.now (plain_fits stored.now) }
     requires due { placed_as_due placed.now.entries room.now ≡ true }
-    ensures { result ≡ is_newest (rows_of stored.now) (number_of room.now.room) (record { old_code = old; new_code = new }) }
+    ensures { result ≡ is_newest (rows_of stored.now) (number_of room.now.room)
+        (record { old_code = old; new_code = new }) }
 {
     let named = number(room.room);
     let codes = number(room.codes);
