@@ -26,6 +26,7 @@ use Rattle.hotel_http.specs.declared.serve.ServeFault.TheVariants.{Closed, Read,
 use Rattle.hotel_http.specs.Request.{Wanted}
 use Rattle.hotel_http.specs.Serve.{Comes, Outcome, TaskComes, imported, is_accepted, listed}
 use Rattle.hotel_program.specs.Connections.{ConnectionCame, ConnectionEnd, ConnectionHappens}
+use Rattle.hotel_program.specs.Script.{Asks.ask_in, LineAnswers.answered_to}
 use Rattle.hotel_program.specs.Script.WholeScript.{LineHappens, ScriptGoes, answers_to}
 use Rattle.hotel_program.specs.Shut.{ComesToNothing, ScriptsNothing, ServesNothing, TookNothing}
 
@@ -47,7 +48,9 @@ none_answered_to : (line : List ℕ) (later one rest : List (List ℕ)) → leng
     → has_answer (answers_to (line ∷ later) (one ++ rest)) ≡ false
 unfolding answers_to
 none_answered_to line later [] rest n e f = absurd (omega (arith, n))
-none_answered_to line later (text ∷ []) rest n e f = none_in _ (answers_to later rest) (subst (λ (l : List Bool). has_answer l ≡ false) (append-nil _) e) f
+none_answered_to line later (text ∷ []) rest n e f =
+    let one = answered_to (ask_in line) text in
+    none_in one (answers_to later rest) (subst (λ (l : List Bool). has_answer l ≡ false) (append-nil one) e) f
 none_answered_to line later (text ∷ other ∷ more) rest n e f = absurd (omega (arith, n))
 
 no_line : {W : Type 0} (contents : W → Option (List ℕ)) (old new : W) → new ≡ old → (has_answer (answers_to [] []) ≡ false) × Appends (contents old) (contents new) []
