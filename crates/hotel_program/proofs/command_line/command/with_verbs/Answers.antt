@@ -29,6 +29,6 @@ loop-row-preserved c =
     let sub = c.in_ok-subcommand.ensures in
     let added = c.in_ok-command-2.ensures in
     record {
-      shape = added.shape sub.globals ∙ ap₂ with_subcommand c.loop-row.invariant.shape (ap (λ (a : App). a.top) sub.shape ∙ ap (λ (names : List ValueName). leaf _ names) c.values.ensures) ∙ fold-more c.args.verbs.now c.loop-row.row-index _ (omega arith);
+      shape = added.shape sub.globals ∙ ap₂ with_subcommand c.loop-row.invariant.shape (ap (λ (a : App). a.top) (rw c.values.ensures at sub.shape)) ∙ fold-more c.args.verbs.now c.loop-row.row-index _ (omega arith);
       globals = added.globals ∙ ap₂ ◌||◌ c.loop-row.invariant.globals sub.globals;
     }
