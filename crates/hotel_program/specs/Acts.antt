@@ -27,6 +27,7 @@ use Rattle.hotel_program.specs.declared.command_line.plan.DeskAct.{DeskAct}
 use Rattle.hotel_program.specs.declared.command_line.plan.DeskAct.TheVariants.{One, List as AList, Audit, Script, Serve}
 use Rattle.hotel_program.specs.declared.faults.Fault.{Fault}
 use Rattle.hotel_program.specs.declared.faults.Fault.TheVariants as fault
+use Rattle.hotel_program.specs.declared.script.TheConstants.{SCRIPT_LIMIT}
 use Rattle.hotel_program.specs.declared.script.ScriptEnd.{ScriptEnd}
 use Rattle.hotel_program.specs.declared.script.ScriptFault.{ScriptFault}
 use Rattle.hotel_program.specs.declared.script.ScriptFault.TheVariants.{TooLarge}
@@ -88,7 +89,7 @@ pub record ScriptCame {S R W F E : Type 0} (v : Views S R W F E) (known : Option
       × LinesCut v.issued v.rows v.stream v.contents (old.books, old.source, old.writer)
       (take done (answered_lines script)) (new.books, new.source, new.writer))
   pub unbegun : IfUnbegun end (NothingBegun old.books new.books old.source new.source old.writer new.writer)
-  pub large : IsErrOf end TooLarge → IfSome known (λ input. 1048576 < length input)
+  pub large : IsErrOf end TooLarge → IfSome known (λ input. SCRIPT_LIMIT < length input)
 
 -- A script: its lines one after the other, each answered before the next.
 abbrev pub ScriptEnds : {S R W F E : Type 0} → Views S R W F E → Option (List ℕ) → ℕ → Desk S R W F E → Desk S R W F E

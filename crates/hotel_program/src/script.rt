@@ -38,7 +38,7 @@ pub struct ScriptEnd {
 pub enum ScriptFault {
     /// A read failed; no line was begun.
     Read,
-    /// It has more than 1,048,576 bytes; no line was begun.
+    /// It has more than `SCRIPT_LIMIT` bytes; no line was begun.
     TooLarge,
     /// A growth of memory for its bytes was refused; no line was begun.
     Memory,
@@ -71,7 +71,7 @@ fn answer_lines<W: Write, B: Walks, R: Rng>(
     source: &mut R,
     calls: &mut IoCalls,
 ) -> Result<ScriptEnd, ScriptFault>
-    requires { length script.now ≤ 1048576 }
+    requires { length script.now ≤ SCRIPT_LIMIT }
     ensures count { IfOk result (λ script_end. script_end.lines ≡ length (answered_lines script.now)) }
     ensures ok { OnOk result (LinesAnswered B.Issued B.rows R.stream W.contents
         (books.old, source.old, writer.old) (answered_lines script.now) (books.new, source.new, writer.new)) }
@@ -118,7 +118,7 @@ pub fn run_script<I: Read, W: Write, B: Walks, R: Rng>(
         × LinesCut B.Issued B.rows R.stream W.contents (books.old, source.old, writer.old)
         (take done (answered_lines script)) (books.new, source.new, writer.new)) }
     ensures unbegun { IfUnbegun result (NothingBegun books.old books.new source.old source.new writer.old writer.new) }
-    ensures large { IsErrOf result TooLarge → IfSome (I.remaining reader.old) (λ input. 1048576 < length input) }
+    ensures large { IsErrOf result TooLarge → IfSome (I.remaining reader.old) (λ input. SCRIPT_LIMIT < length input) }
 {
     let mut calls = IoCalls::none();
     let script = read_whole(alloc, reader, SCRIPT_LIMIT, &mut calls)?;

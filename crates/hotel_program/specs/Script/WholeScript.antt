@@ -12,6 +12,7 @@ use Rattle.hotel_model.specs.Rows.{Rows}
 use Rattle.hotel_program.specs.Script.Asks.{ask_in}
 use Rattle.hotel_program.specs.Script.Lines.{answered_lines}
 use Rattle.hotel_program.specs.Script.LineAnswers.{LineGoes, Sure, answered_to}
+use Rattle.hotel_program.specs.declared.script.TheConstants.{SCRIPT_LIMIT}
 use Rattle.hotel_program.specs.declared.script.ScriptEnd.{ScriptEnd}
 use Rattle.hotel_program.specs.declared.script.ScriptFault.{ScriptFault}
 use Rattle.hotel_program.specs.declared.script.ScriptFault.TheVariants.{Read, TooLarge, Memory, Write}
@@ -85,9 +86,9 @@ pub record LinesCut {S R W : Type 0} (I : IssuedOf S) (rows : S → Rows) (strea
       new.0
   pub through : PassesToCut I rows stream contents old lines new
 
--- The script is what the reader had, where its bytes are known, and at most 1,048,576 bytes.
+-- The script is what the reader had, where its bytes are known, and no more than a script may have.
 abbrev pub IsInput : Option (List ℕ) → List ℕ → Type 0
-IsInput known script = (length script ≤ 1048576) × IfSome known (λ input. script ≡ input)
+IsInput known script = (length script ≤ SCRIPT_LIMIT) × IfSome known (λ input. script ≡ input)
 
 -- Where a write failed, this holds of the number of lines that were carried out.
 abbrev pub IfCut : Result ScriptEnd ScriptFault → (ℕ → Type 0) → Type 0
