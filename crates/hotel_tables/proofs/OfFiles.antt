@@ -15,7 +15,6 @@ use Rattle.sqlite.specs.Opening.{is_open_error}
 use Rattle.sqlite.specs.Files.{file_state, IsClosed, FailsToClose}
 use Rattle.sqlite.specs.Closing.{IsCopied}
 use Rattle.hotel_model.specs.Rows.{no_rows}
-use Rattle.hotel_model.specs.Sound.{IsSound}
 use Rattle.hotel_model.proofs.OfTables.RowTests.{both}
 use Rattle.hotel_tables.specs.declared.open_fault.OpenFault.{OpenFault}
 use Rattle.hotel_tables.specs.TableBooks.{Tabled}
@@ -23,8 +22,7 @@ use Rattle.hotel_statements.specs.Schema.{no_schema, first_schema}
 use Rattle.hotel_statements.specs.Books.{IsKept, IsBooks}
 use Rattle.hotel_statements.specs.Tables.{rows_in}
 use Rattle.hotel_statements.specs.NewDesk.{IsEmptyDesk}
-use Rattle.hotel_tables.specs.Applied.{LeavesAll}
-use Rattle.hotel_tables.specs.Opening.{IsOfVersion, Continues, IsUpgraded}
+use Rattle.hotel_tables.specs.Opening.{IsOpened}
 use Rattle.hotel_tables.specs.Exits.{LeavesBare, LeavesDatabase}
 use Rattle.hotel_tables.specs.Paths.{IsPathError}
 use Rattle.hotel_tables.specs.Files.{AreBooksOf, IsWhyNone, HoldBooks}
@@ -47,17 +45,13 @@ made_books old new bare empty crash vouched = record {
   vouched = vouched;
 }
 
-found_books : (old new : State) → ¬ (old.now.schema ≡ no_schema) → IsOfVersion old.now.schema
-    → (IsKept new → IsKept old) → (IsKept new → Continues old.now new.now)
-    → (IsKept old → Survives old new (IsUpgraded old.now))
-    → (old.now.schema ≡ first_schema → IsKept new → LeavesAll new)
-    → (IsKept new → IsSound (rows_in new.now.trees)) → (HasCleanDisk new → IsKept new) → AreBooksOf old new
-found_books old new other desk was continues crash whole sound vouched = record {
+found_books : (old new : State) → ¬ (old.now.schema ≡ no_schema) → IsOpened old new → AreBooksOf old new
+found_books old new other opened = record {
   made = λ bare. absurd (other bare);
-  found = λ _. (desk, λ kept. (was kept, continues kept), crash);
-  whole = whole;
-  sound = sound;
-  vouched = vouched;
+  found = λ _. (opened.schema, λ kept. (opened.was kept, opened.continues kept), opened.crash);
+  whole = opened.whole;
+  sound = opened.sound;
+  vouched = opened.vouched;
 }
 
 module _ {S : Type 0} (g : Ghosts S) (old : Held S) where
@@ -76,17 +70,10 @@ module _ {S : Type 0} (g : Ghosts S) (old : Held S) where
   all_made (Err e) bare empty crash vouched = tt
 
   -- those that were found in one that has tables
-  pub all_found : (r : Answer) → ¬ ((state g old).now.schema ≡ no_schema)
-      → IfOk r (λ _. IsOfVersion (state g old).now.schema) → OfBooks r (λ new. IsKept new → IsKept (state g old))
-      → OfBooks r (λ new. IsKept new → Continues (state g old).now new.now)
-      → (IsKept (state g old) → OfBooks r (λ new. Survives (state g old) new (IsUpgraded (state g old).now)))
-      → ((state g old).now.schema ≡ first_schema → OfBooks r (λ new. IsKept new → LeavesAll new))
-      → OfBooks r (λ new. IsKept new → IsSound (rows_in new.now.trees))
-      → OfBooks r (λ new. HasCleanDisk new → IsKept new)
+  pub all_found : (r : Answer) → ¬ ((state g old).now.schema ≡ no_schema) → OfBooks r (IsOpened (state g old))
       → OfBooks r (AreBooksOf (state g old))
-  all_found (Ok b) other desk was continues crash whole sound vouched =
-      found_books (state g old) (state g b.conn) other desk was continues crash whole sound vouched
-  all_found (Err e) other desk was continues crash whole sound vouched = tt
+  all_found (Ok b) other opened = found_books (state g old) (state g b.conn) other opened
+  all_found (Err e) other opened = tt
 
   pub none_made : (new : Held S) (why : OpenFault) → (state g old).now.schema ≡ no_schema → LeavesBare g old new why
       → IsWhyNone g old new why

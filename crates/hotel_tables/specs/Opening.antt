@@ -169,6 +169,19 @@ Continues old new =
 abbrev pub IsUpgraded : Database → Trees → Type 0
 IsUpgraded old db = (old.schema ≡ first_schema) × IsUpgradeOf old.trees db
 
+-- What the opening of a desk says of the connection of its books, from old to new: it continues the desk of a version,
+-- and what it holds is sound. A crash leaves what it could leave before, or the whole desk that is made of one of the
+-- first version. The connection is open where the disk returned what was written.
+pub record IsOpened (old new : State) : Type 0 where
+  pub schema : IsOfVersion old.now.schema
+  pub was : IsKept new → IsKept old
+  pub continues : IsKept new → Continues old.now new.now
+  pub sound : IsKept new → IsSound (rows_in new.now.trees)
+  pub crash : IsKept old → Survives old new (IsUpgraded old.now)
+  -- once one of the second was made, a crash leaves that
+  pub whole : old.now.schema ≡ first_schema → IsKept new → LeavesAll new
+  pub vouched : HasCleanDisk new → IsKept new
+
 -- memory was wanting, or a call of the store failed
 abbrev pub IsOfCall : OpenFault → Type 0
 IsOfCall fault.Memory = Unit {0}

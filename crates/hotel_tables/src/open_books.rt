@@ -1,13 +1,11 @@
 //! Books over a connection that has a desk's tables, and the connection of books.
 ghost use Rattle.std.specs.Prelude.{◌≡◌, false, IfOk, IfErr};
 ghost use Rattle.sqlite.specs.Held.{state};
-ghost use Rattle.sqlite.specs.State.{HasCleanDisk, IsLive, Survives};
+ghost use Rattle.sqlite.specs.State.{IsLive};
 ghost use Rattle.hotel_model.specs.Sound.{IsSound};
-ghost use Rattle.hotel_statements.specs.Schema.{first_schema};
 ghost use Rattle.hotel_statements.specs.Books.{IsBooks, IsKept};
 ghost use Rattle.hotel_statements.specs.Tables.{rows_in};
-ghost use Rattle.hotel_tables.specs.Applied.{LeavesAll};
-ghost use Rattle.hotel_tables.specs.Opening.{Continues, IsUpgraded, IsOfVersion};
+ghost use Rattle.hotel_tables.specs.Opening.{IsOpened};
 ghost use Rattle.hotel_tables.specs.Exits.{LeavesDatabase};
 
 use crate::desk_schema::version_of;
@@ -28,18 +26,8 @@ impl<S: Alter + Drop> TableBooks<S> {
         mut conn: Connection<S>,
     ) -> Result<TableBooks<S>, (OpenFault, Connection<S>)>
         requires alone { (state S.Store conn).in_transaction ≡ false }
-        ensures was { IfOk result (λ b. IsKept (state S.Store b.conn) → IsKept (state S.Store conn)) }
-        ensures continues { IfOk result (λ b. IsKept (state S.Store b.conn)
-            → Continues (state S.Store conn).now (state S.Store b.conn).now) }
-        ensures sound { IfOk result (λ b. IsKept (state S.Store b.conn) → IsSound (rows_in (state S.Store b.conn).now.trees)) }
+        ensures opened { IfOk result (λ b. IsOpened (state S.Store conn) (state S.Store b.conn)) }
         ensures unfailed { IfOk result (λ b. (b.memory ≡ 0) × (b.store ≡ 0)) }
-        ensures schema { IfOk result (λ _. IsOfVersion (state S.Store conn).now.schema) }
-        ensures crash { IsKept (state S.Store conn)
-            → IfOk result (λ b. Survives (state S.Store conn) (state S.Store b.conn)
-            (IsUpgraded (state S.Store conn).now)) }
-        ensures whole { (state S.Store conn).now.schema ≡ first_schema
-            → IfOk result (λ b. IsKept (state S.Store b.conn) → LeavesAll (state S.Store b.conn)) }
-        ensures vouched { IfOk result (λ b. HasCleanDisk (state S.Store b.conn) → IsKept (state S.Store b.conn)) }
         ensures left { IfErr result (λ e. LeavesDatabase S.Store conn e.1 e.0) }
     {
         // Outside a transaction nothing is uncommitted.
@@ -65,18 +53,8 @@ impl<S: Alter + Drop> TableBooks<S> {
     /// As `open_or_return`; on a fault the connection is dropped.
     pub fn open(alloc: Global, conn: Connection<S>) -> Result<TableBooks<S>, OpenFault>
         requires alone { (state S.Store conn).in_transaction ≡ false }
-        ensures was { IfOk result (λ b. IsKept (state S.Store b.conn) → IsKept (state S.Store conn)) }
-        ensures continues { IfOk result (λ b. IsKept (state S.Store b.conn)
-            → Continues (state S.Store conn).now (state S.Store b.conn).now) }
-        ensures sound { IfOk result (λ b. IsKept (state S.Store b.conn) → IsSound (rows_in (state S.Store b.conn).now.trees)) }
+        ensures opened { IfOk result (λ b. IsOpened (state S.Store conn) (state S.Store b.conn)) }
         ensures unfailed { IfOk result (λ b. (b.memory ≡ 0) × (b.store ≡ 0)) }
-        ensures schema { IfOk result (λ _. IsOfVersion (state S.Store conn).now.schema) }
-        ensures crash { IsKept (state S.Store conn)
-            → IfOk result (λ b. Survives (state S.Store conn) (state S.Store b.conn)
-            (IsUpgraded (state S.Store conn).now)) }
-        ensures whole { (state S.Store conn).now.schema ≡ first_schema
-            → IfOk result (λ b. IsKept (state S.Store b.conn) → LeavesAll (state S.Store b.conn)) }
-        ensures vouched { IfOk result (λ b. HasCleanDisk (state S.Store b.conn) → IsKept (state S.Store b.conn)) }
         ensures left { IfErr result (λ why. (last : _) × LeavesDatabase S.Store conn last why) }
     {
         match TableBooks::open_or_return(alloc, conn) {

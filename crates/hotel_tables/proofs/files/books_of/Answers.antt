@@ -19,11 +19,9 @@ returns-then-is_bare-clause-fault g c =
 
 pub returns-else-is_bare-clause-books : goal.returns-else-is_bare-clause-books
 returns-else-is_bare-clause-books g c =
-    let did = c.open_or_return.ensures in
     let other : ¬ ((state g.S.Store c.args.conn).now.schema ≡ no_schema) = λ bare.
     true≢false (sym (c.is_bare.ensures.1 bare) ∙ c.if-is_bare.false) in
-    all_found g.S.Store c.args.conn c.open_or_return.result other did.schema did.was did.continues did.crash did.whole
-    did.sound did.vouched
+    all_found g.S.Store c.args.conn c.open_or_return.result other c.open_or_return.ensures.opened
 
 pub returns-else-is_bare-clause-fault : goal.returns-else-is_bare-clause-fault
 returns-else-is_bare-clause-fault g c =
