@@ -70,7 +70,8 @@ abbrev pub room_of : Row → ℕ × RoomRow
 room_of v = (number_of (column v 0), room_row_of v)
 
 abbrev pub room_written : ℕ × RoomRow → Row
-room_written e = int e.0 ∷ Text e.1.kind ∷ int e.1.lock_place ∷ int e.1.codes ∷ int (bit_of e.1.secured) ∷ maybe_int e.1.party ∷ int e.1.notes ∷ []
+room_written e = int e.0 ∷ Text e.1.kind ∷ int e.1.lock_place ∷ int e.1.codes ∷ int (bit_of e.1.secured)
+    ∷ maybe_int e.1.party ∷ int e.1.notes ∷ []
 
 -- ---- stay
 
@@ -97,7 +98,8 @@ abbrev pub stay_of : Row → ℕ × Stay
 stay_of v = (number_of (column v 0), stay_row_of v)
 
 abbrev pub stay_written : ℕ × Stay → Row
-stay_written e = int e.0 ∷ Text e.1.guest ∷ Text e.1.kind ∷ int e.1.arrive ∷ int e.1.depart ∷ int (state_number e.1.state) ∷ maybe_int (room_of_state e.1.state) ∷ []
+stay_written e = int e.0 ∷ Text e.1.guest ∷ Text e.1.kind ∷ int e.1.arrive ∷ int e.1.depart
+    ∷ int (state_number e.1.state) ∷ maybe_int (room_of_state e.1.state) ∷ []
 
 -- ---- code
 
@@ -165,7 +167,8 @@ act_second (Left card link) = link.new_code
 act_second (Recoded from to) = to
 
 abbrev pub note_columns : Row → Row
-note_columns r = column r 1 ∷ column r 2 ∷ column r 3 ∷ column r 4 ∷ column r 5 ∷ column r 6 ∷ column r 7 ∷ column r 8 ∷ []
+note_columns r =
+    column r 1 ∷ column r 2 ∷ column r 3 ∷ column r 4 ∷ column r 5 ∷ column r 6 ∷ column r 7 ∷ column r 8 ∷ []
 
 -- it has no columns for its fit and its count; its number is that among all notes of the room
 abbrev pub note_row_of : Row → Note
@@ -183,7 +186,8 @@ note_of v = ((number_of (column v 0), number_of (column v 1)), note_row_of v)
 
 abbrev pub note_written : NoteKey × Note → Row
 note_written e =
-    int e.0.0 ∷ int e.0.1 ∷ int (act_number e.1.act) ∷ maybe_int (act_card e.1.act) ∷ int (act_first e.1.act) ∷ int (act_second e.1.act) ∷ int e.1.day ∷ int e.1.second ∷ []
+    int e.0.0 ∷ int e.0.1 ∷ int (act_number e.1.act) ∷ maybe_int (act_card e.1.act) ∷ int (act_first e.1.act)
+    ∷ int (act_second e.1.act) ∷ int e.1.day ∷ int e.1.second ∷ []
 
 -- ---- fit
 

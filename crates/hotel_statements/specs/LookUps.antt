@@ -52,7 +52,8 @@ Asks = AsksOf desk_schema
 -- the first row of an answer, or none where it has none
 abbrev pub AnswersFirst : {A : Type 0} → (Row → A) → Query → Row → Trees → Option A → Type 0
 AnswersFirst of q params db None = IsAnswer q (overlay db []) params []
-AnswersFirst of q params db (Some a) = (row : Row) × (rows : List Row) × IsAnswer q (overlay db []) params (row ∷ rows) × (a ≡ of row)
+AnswersFirst of q params db (Some a) =
+    (row : Row) × (rows : List Row) × IsAnswer q (overlay db []) params (row ∷ rows) × (a ≡ of row)
 
 -- all rows of an answer
 abbrev pub AnswersAll : {A : Type 0} → (Row → A) → Query → Row → Trees → List A → Type 0
@@ -63,7 +64,8 @@ abbrev pub FindsFirst : {A : Type 0} → (Row → A) → List ℕ → Row → St
 FindsFirst of text params old result = (q : Query) → Asks text q → IfOk result (AnswersFirst of q params old.now.trees)
 
 abbrev pub FindsAll : {A R : Type 0} → (R → List A) → (Row → A) → List ℕ → Row → State → Result R LookFault → Type 0
-FindsAll said of text params old result = (q : Query) → Asks text q → IfOk result (λ all. AnswersAll of q params old.now.trees (said all))
+FindsAll said of text params old result =
+    (q : Query) → Asks text q → IfOk result (λ all. AnswersAll of q params old.now.trees (said all))
 
 -- A crash at the second state leaves nothing that one at the first couldn't have left.
 abbrev pub LeavesNoMore : State → State → Type 0

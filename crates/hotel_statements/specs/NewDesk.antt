@@ -72,7 +72,8 @@ IfOpenBare before after = IfOpen (IsBare before) (IsBare after)
 
 -- whatever tables are there, the text's table is made
 abbrev pub Makes : List ℕ → State → State → Type 0
-Makes text old new = (schema : Schema) (t : Table) → IsMaker schema text t → IfOpen (IsBare schema) (IsBare (created schema t)) old new
+Makes text old new =
+    (schema : Schema) (t : Table) → IsMaker schema text t → IfOpen (IsBare schema) (IsBare (created schema t)) old new
 
 -- Within a transaction, a table was made, and no other table's rows changed.
 pub record HasTable (schema : Schema) (t : Table) (old new : State) : Type 0 where

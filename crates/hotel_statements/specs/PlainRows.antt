@@ -33,10 +33,12 @@ abbrev pub kind_shown : PlainKind → Row
 kind_shown l = Text (string_bytes l.kind) ∷ []
 
 abbrev pub room_shown : PlainRoom → Row
-room_shown l = Int l.room ∷ Text (string_bytes l.kind) ∷ Int l.lock_place ∷ Int l.codes ∷ Int l.secured ∷ maybe l.party ∷ Int l.notes ∷ []
+room_shown l = Int l.room ∷ Text (string_bytes l.kind) ∷ Int l.lock_place ∷ Int l.codes ∷ Int l.secured ∷ maybe l.party
+    ∷ Int l.notes ∷ []
 
 abbrev pub stay_shown : PlainStay → Row
-stay_shown l = Int l.party ∷ Text (string_bytes l.guest) ∷ Text (string_bytes l.kind) ∷ Int l.arrive ∷ Int l.depart ∷ Int l.state ∷ maybe l.room ∷ []
+stay_shown l = Int l.party ∷ Text (string_bytes l.guest) ∷ Text (string_bytes l.kind) ∷ Int l.arrive ∷ Int l.depart
+    ∷ Int l.state ∷ maybe l.room ∷ []
 
 abbrev pub code_shown : PlainCode → Row
 code_shown l = Int l.code ∷ Int l.room ∷ Int l.place ∷ []
@@ -55,7 +57,8 @@ abbrev pub numbered_columns : Row → Row
 numbered_columns r = column r 0 ∷ column r 1 ∷ column r 2 ∷ []
 
 abbrev pub note_shown : PlainNote → Row
-note_shown l = Int l.room ∷ Int l.n ∷ Int l.act ∷ maybe l.card ∷ Int l.first_code ∷ Int l.second_code ∷ Int l.day ∷ Int l.second ∷ []
+note_shown l = Int l.room ∷ Int l.n ∷ Int l.act ∷ maybe l.card ∷ Int l.first_code ∷ Int l.second_code ∷ Int l.day
+    ∷ Int l.second ∷ []
 
 abbrev pub fit_shown : PlainFit → Row
 fit_shown l = Int l.room ∷ Int l.fit ∷ Int l.place ∷ Int l.before ∷ []
@@ -75,7 +78,8 @@ abbrev pub first_seven : Row → Row
 first_seven r = column r 0 ∷ column r 1 ∷ column r 2 ∷ column r 3 ∷ column r 4 ∷ column r 5 ∷ column r 6 ∷ []
 
 abbrev pub first_eight : Row → Row
-first_eight r = column r 0 ∷ column r 1 ∷ column r 2 ∷ column r 3 ∷ column r 4 ∷ column r 5 ∷ column r 6 ∷ column r 7 ∷ []
+first_eight r =
+    column r 0 ∷ column r 1 ∷ column r 2 ∷ column r 3 ∷ column r 4 ∷ column r 5 ∷ column r 6 ∷ column r 7 ∷ []
 
 -- ---- the order of the keys, as they are stored
 
@@ -117,10 +121,12 @@ abbrev pub kind_natural : PlainKind → Bool
 kind_natural l = true
 
 abbrev pub room_natural : PlainRoom → Bool
-room_natural l = is_natural l.room && is_natural l.lock_place && is_natural l.codes && is_natural l.secured && may_be_natural l.party && is_natural l.notes
+room_natural l = is_natural l.room && is_natural l.lock_place && is_natural l.codes && is_natural l.secured
+    && may_be_natural l.party && is_natural l.notes
 
 abbrev pub stay_natural : PlainStay → Bool
-stay_natural l = is_natural l.party && is_natural l.arrive && is_natural l.depart && is_natural l.state && may_be_natural l.room
+stay_natural l =
+    is_natural l.party && is_natural l.arrive && is_natural l.depart && is_natural l.state && may_be_natural l.room
 
 abbrev pub code_natural : PlainCode → Bool
 code_natural l = is_natural l.code && is_natural l.room && is_natural l.place
@@ -133,7 +139,8 @@ inside_natural l = is_natural l.room && is_natural l.card
 
 abbrev pub note_natural : PlainNote → Bool
 note_natural l =
-    is_natural l.room && is_natural l.n && is_natural l.act && may_be_natural l.card && is_natural l.first_code && is_natural l.second_code && is_natural l.day
+    is_natural l.room && is_natural l.n && is_natural l.act && may_be_natural l.card && is_natural l.first_code
+    && is_natural l.second_code && is_natural l.day
     && is_natural l.second
 
 abbrev pub fit_natural : PlainFit → Bool

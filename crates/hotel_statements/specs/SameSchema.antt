@@ -83,7 +83,8 @@ same_order a b = a.digits == b.digits
 
 abbrev pub same_column : Column → Column → Bool
 same_column a b =
-    bytes_eq a.name b.name && same_kind a.kind b.kind && same_flag a.is_strict b.is_strict && same_flag a.not_null b.not_null
+    bytes_eq a.name b.name && same_kind a.kind b.kind && same_flag a.is_strict b.is_strict
+    && same_flag a.not_null b.not_null
     && is_null a.default && is_null b.default && is_binary a.collation && is_binary b.collation
 
 abbrev pub same_reference : Reference → Reference → Bool
@@ -99,7 +100,8 @@ same_shape a b =
 
 abbrev pub same_rules : Table → Table → Bool
 same_rules a b =
-    same_all same_term a.checks b.checks && same_all same_reference a.references b.references && bytes_eq a.computed b.computed
+    same_all same_term a.checks b.checks && same_all same_reference a.references b.references
+    && bytes_eq a.computed b.computed
     && has_no_stamps a.stamps && has_no_stamps b.stamps && same_flag a.is_counted b.is_counted
 
 abbrev pub same_table : Table → Table → Bool
@@ -112,7 +114,8 @@ same_index a b =
 
 abbrev pub same_schema : Schema → Schema → Bool
 same_schema a b =
-    same_all same_table a.tables b.tables && same_all same_index a.indexes b.indexes && length a.views == 0 && length b.views == 0
+    same_all same_table a.tables b.tables && same_all same_index a.indexes b.indexes && length a.views == 0
+    && length b.views == 0
 
 -- the one is the other without its tables and indexes past the first so many
 abbrev pub same_front : ℕ → ℕ → Schema → Schema → Bool

@@ -82,14 +82,16 @@ frees_room room = (text.update_party, int room ∷ [])
 
 -- the place of the room's lock, whether it is secured, and how many notes were taken
 abbrev pub sets_noted : ℕ → ℕ → Bool → ℕ → Statement
-sets_noted room lock_place secured notes = (text.update_noted, int room ∷ int lock_place ∷ int (bit_of secured) ∷ int notes ∷ [])
+sets_noted room lock_place secured notes =
+    (text.update_noted, int room ∷ int lock_place ∷ int (bit_of secured) ∷ int notes ∷ [])
 
 -- the place of the room's new lock, and how many codes the room has
 abbrev pub sets_refitted : ℕ → ℕ → ℕ → Statement
 sets_refitted room lock_place codes = (text.update_refitted, int room ∷ int lock_place ∷ int codes ∷ [])
 
 abbrev pub sets_state : ℕ → StayState → Statement
-sets_state party state = (text.update_state, int party ∷ int (state_number state) ∷ maybe_int (room_of_state state) ∷ [])
+sets_state party state =
+    (text.update_state, int party ∷ int (state_number state) ∷ maybe_int (room_of_state state) ∷ [])
 
 -- ---- several, in the order in which they run
 
@@ -101,11 +103,13 @@ abbrev pub gives_code : Option ℕ → ℕ → CodeRow → List Statement
 gives_code leaves code at = leaves_room leaves ++ adds_code code at ∷ []
 
 abbrev pub gives_card : Card → ℕ → ℕ → List Statement
-gives_card card room codes = sets_issued room codes card.party ∷ adds_card card ∷ sets_state card.party (state.InHouse room) ∷ []
+gives_card card room codes =
+    sets_issued room codes card.party ∷ adds_card card ∷ sets_state card.party (state.InHouse room) ∷ []
 
 -- the room had so many codes
 abbrev pub issues_card : Card → ℕ → Option ℕ → ℕ → List Statement
-issues_card card room leaves codes = gives_code leaves card.link.new_code (record { room = room; place = codes }) ++ gives_card card room (codes + 1)
+issues_card card room leaves codes =
+    gives_code leaves card.link.new_code (record { room = room; place = codes }) ++ gives_card card room (codes + 1)
 
 abbrev pub opens_room : ℕ → List ℕ → ℕ → List Statement
 opens_room room kind code =
@@ -181,10 +185,12 @@ module _ {S : Type 0} (g : Ghosts S) where
       ⊎ ((mid : Held S) × (count : ℕ) × RunsOne s old mid (Ok count) × RunsInTurn more mid new result)
 
   -- what these statements do, on a disk that returned what was written
-  pub record RunsStatements (statements : List Statement) (old new : Held S) (result : Result (Unit {0}) Error) : Type 0 where
+  pub record RunsStatements (statements : List Statement) (old new : Held S)
+      (result : Result (Unit {0}) Error) : Type 0 where
     pub in_turn : HasCleanDisk (held.state g new) → RunsInTurn statements old new result
 
   -- These statements are run; where none failed, and the rows fit, the rows are what is made of those before.
-  pub record WritesBy (statements : List Statement) (fits : Rows → Type 0) (make : Rows → Rows) (old new : Held S) (result : Result (Unit {0}) Error) : Type 0 where
+  pub record WritesBy (statements : List Statement) (fits : Rows → Type 0) (make : Rows → Rows) (old new : Held S)
+      (result : Result (Unit {0}) Error) : Type 0 where
     pub runs : RunsStatements statements old new result
     pub rows : MakesRows fits make (held.state g old) (held.state g new) result

@@ -45,7 +45,8 @@ pub record MovesRows (old new : State) (make : Rows → Rows) : Type 0 where
   pub rows_are : rows_in new.now.trees ≡ make (rows_in old.now.trees)
 
 -- A statement that was run in a transaction, from old to new.
-pub record RunsStatement (text : List ℕ) (params : Row) (old new : State) (result : Result (Unit {0}) Error) : Type 0 where
+pub record RunsStatement (text : List ℕ) (params : Row) (old new : State)
+    (result : Result (Unit {0}) Error) : Type 0 where
   pub ran : HasCleanDisk new → OnOk result ((count : ℕ) × ExecutesInside 0 text params old new (Ok count))
   pub kept : HasCleanDisk new → KeepsCommit old new
   pub survives : Survives old new (λ _. ⊥)
@@ -56,7 +57,8 @@ IsMidWith fits s = IsTrue s.is_open → IsMid s × fits (rows_in s.now.trees)
 
 -- Statements of a transaction, from old to new: where none failed, and the rows fit, the rows are what is made of those
 -- before. Nothing is committed, and a crash leaves nothing new.
-pub record MakesRows (fits : Rows → Type 0) (make : Rows → Rows) (old new : State) (result : Result (Unit {0}) Error) : Type 0 where
+pub record MakesRows (fits : Rows → Type 0) (make : Rows → Rows) (old new : State)
+    (result : Result (Unit {0}) Error) : Type 0 where
   pub made : HasCleanDisk new → OnOk result (IsMidWith fits old → MovesRows old new make)
   pub kept : HasCleanDisk new → KeepsCommit old new
   pub survives : Survives old new (λ _. ⊥)
@@ -131,14 +133,20 @@ note_added note number rows = record rows { notes = insert_entry pair_cmp rows.n
 
 -- a code was issued at the room, to the party
 abbrev pub room_issued : ℕ → ℕ → ℕ → Rows → Rows
-room_issued room codes party rows = record rows { rooms = room_changed room (λ row. record row { codes = codes; secured = false; party = Some party }) rows.rooms }
+room_issued room codes party rows = record rows {
+  rooms = room_changed room
+      (λ row. record row { codes = codes; secured = false; party = Some party }) rows.rooms;
+}
 
 abbrev pub room_freed : ℕ → Rows → Rows
 room_freed room rows = record rows { rooms = without_party room rows.rooms }
 
 -- a note of the room's lock was taken
 abbrev pub room_noted : ℕ → ℕ → Bool → ℕ → Rows → Rows
-room_noted room lock_place secured notes rows = record rows { rooms = room_changed room (λ row. record row { lock_place = lock_place; secured = secured; notes = notes }) rows.rooms }
+room_noted room lock_place secured notes rows = record rows {
+  rooms = room_changed room
+      (λ row. record row { lock_place = lock_place; secured = secured; notes = notes }) rows.rooms;
+}
 
 -- the lock was replaced: it holds the code at this place, and the room has so many
 abbrev pub room_refitted : ℕ → ℕ → ℕ → Rows → Rows
@@ -164,7 +172,8 @@ code_given leaves code at rows = code_added code at (record rows { rooms = freed
 
 -- the room has so many codes and the card's party, whose stay is in that room
 abbrev pub card_given : Card → ℕ → ℕ → Rows → Rows
-card_given card room codes rows = stay_set card.party (state.InHouse room) (card_added card (room_issued room codes card.party rows))
+card_given card room codes rows =
+    stay_set card.party (state.InHouse room) (card_added card (room_issued room codes card.party rows))
 
 -- ---- a room that is added
 

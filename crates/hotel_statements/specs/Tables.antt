@@ -35,7 +35,8 @@ abbrev pub by_key : {K V : Type 0} → (K → K → Ordering) → K × V → K �
 by_key cmp a b = cmp a.0 b.0
 
 -- The rows of a table: each is good, and no two have one key.
-pub record IsTableOf {X : Type 0} (cmp : X → X → Ordering) (Good : Row → Type 0) (of : Row → X) (rows : List Row) : Type 0 where
+pub record IsTableOf {X : Type 0} (cmp : X → X → Ordering) (Good : Row → Type 0) (of : Row → X)
+    (rows : List Row) : Type 0 where
   pub good : AllByRecursion Good rows
   pub apart : AreApart cmp (map of rows)
 

@@ -25,10 +25,12 @@ use Rattle.hotel_statements.specs.LookUps.{Asks, AnswersAll, FailsAt, LeavesNoMo
 
 -- A text that a desk understands as a query, each answer to which says these rows in order.
 abbrev pub SaysRows : {A : Type 0} → (Row → A) → List ℕ → Row → State → List A → Type 0
-SaysRows {A} of text params s rows = (q : Query) × Asks text q × (IsKept s → (all : List A) → AnswersAll of q params s.now.trees all → all ≡ rows)
+SaysRows {A} of text params s rows =
+    (q : Query) × Asks text q × (IsKept s → (all : List A) → AnswersAll of q params s.now.trees all → all ≡ rows)
 
 -- What came of one row: it was taken, or the sink stopped at it, or it was not handed over.
-abbrev pub HandsOne : {S R : Type 0} → (S → R → S → Type 0) → (S → R → S → Type 0) → R → S → S → Result (Unit {0}) WalkFault → Type 0
+abbrev pub HandsOne : {S R : Type 0} → (S → R → S → Type 0) → (S → R → S → Type 0) → R → S → S
+    → Result (Unit {0}) WalkFault → Type 0
 HandsOne after after_stop row sink end (Ok done) = after sink row end
 HandsOne after after_stop row sink end (Err why.Stopped) = after_stop sink row end
 HandsOne after after_stop row sink end (Err why.Memory) = end ≡ sink
@@ -78,7 +80,12 @@ house_row_of v = record {
 
 -- a place and its code, where the lock stands at a place
 abbrev pub chain_row_of : ℕ → Row → ChainRow
-chain_row_of lock_place v = record { place = number_of (column v 0); code = number_of (column v 1); state = state_at lock_place (number_of (column v 0)) }
+chain_row_of lock_place v = record {
+  place = number_of (column v 0);
+  code = number_of
+      (column v 1);
+  state = state_at lock_place (number_of (column v 0));
+}
 
 -- a room with the code that its lock holds, the last one, the place of the lock, and how many codes it has
 abbrev pub behind_row_of : Row → BehindRow

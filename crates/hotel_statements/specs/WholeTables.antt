@@ -42,7 +42,8 @@ pub record IsOurs (version : Version) (s : State) : Type 0 where
 pub record IsWhole (version : Version) (text : List ℕ) (tree : ℕ) (columns cut : Row → Row) : Type 0 where
   pub query : Query
   pub asks : AsksOf (schema_of version) text query
-  pub answers : (db : Trees) (rows : List Row) → IsAnswer query (overlay db []) [] rows → IsPermutation (map columns (db tree)) (map cut rows)
+  pub answers : (db : Trees) (rows : List Row) → IsAnswer query (overlay db []) [] rows
+      → IsPermutation (map columns (db tree)) (map cut rows)
 
 -- a row that begins with the columns of a plain row
 abbrev pub BeginsAs : {L : Type 0} → (L → Row) → Row → Type 0
@@ -79,7 +80,8 @@ abbrev pub MayRead : {R : Type 0} → Version → (State → State → Type 0) �
 MayRead version Fails Says old new result = ReadsIf (IsKept old) version Fails Says old new result
 
 -- the rows of the first four tables, and of the next four
-abbrev pub AreFirst : (Vec PlainMeta Global × Vec PlainKind Global) × (Vec PlainRoom Global × Vec PlainStay Global) → Trees → Type 0
+abbrev pub AreFirst : (Vec PlainMeta Global × Vec PlainKind Global) × (Vec PlainRoom Global × Vec PlainStay Global)
+    → Trees → Type 0
 AreFirst r db =
     (ArePlainRows meta_columns meta_shown r.0.0.items (db meta_tree)
     × ArePlainRows kind_columns kind_shown r.0.1.items (db kind_tree))

@@ -59,7 +59,9 @@ pub fn issue<S: Alter>(
 ) -> Result<(), Error>
     requires { codes < 2 ^ 32 - 1 }
     ensures same_reference { tx.new.conn.ghost_name ≡ tx.old.conn.ghost_name }
-    ensures makes { WritesBy S.Store (issues_card card.now room leaves codes) (λ rows. codes_of rows room ≡ codes) (made (change.Issue card.now room leaves)) tx.old.conn.now tx.new.conn.now result }
+    ensures makes { WritesBy S.Store (issues_card card.now room leaves codes)
+        (λ rows. codes_of rows room ≡ codes) (made (change.Issue card.now room leaves))
+        tx.old.conn.now tx.new.conn.now result }
 {
     let at = CodeRow { room, place: codes };
     let code = card.link.new_code;

@@ -24,7 +24,8 @@ pub(crate) fn look<S: Alter, R: FromRow>(
     requires asks { (q : Query) × Asks text.now q }
     ensures books { IsBooks (state S.Store conn.new) }
     ensures keeps { KeepsRows (state S.Store conn.old) (state S.Store conn.new) }
-    ensures found { IsKept (state S.Store conn.new) → FindsFirst R.FromRow.of text.now (bound params.now) (state S.Store conn.old) result }
+    ensures found { IsKept (state S.Store conn.new) → FindsFirst R.FromRow.of text.now (bound params.now)
+        (state S.Store conn.old) result }
     ensures unchanged { HasCleanDisk (state S.Store conn.new) → OnOk result
         (IsUnchanged (state S.Store conn.old) (state S.Store conn.new)) }
     ensures cause { HasCause (FailsAt R.FromRow.is_readable text.now (bound params.now))
@@ -64,7 +65,8 @@ pub(crate) fn look_all<S: Alter, R: FromRow + Drop>(
     requires asks { (q : Query) × Asks text.now q }
     ensures books { IsBooks (state S.Store conn.new) }
     ensures keeps { KeepsRows (state S.Store conn.old) (state S.Store conn.new) }
-    ensures found { IsKept (state S.Store conn.new) → FindsAll (λ all. all.items) R.FromRow.of text.now (bound params.now) (state S.Store conn.old) result }
+    ensures found { IsKept (state S.Store conn.new) → FindsAll
+        (λ all. all.items) R.FromRow.of text.now (bound params.now) (state S.Store conn.old) result }
     ensures unchanged { HasCleanDisk (state S.Store conn.new) → OnOk result
         (IsUnchanged (state S.Store conn.old) (state S.Store conn.new)) }
     ensures cause { HasCause (FailsAt R.FromRow.is_readable text.now (bound params.now))

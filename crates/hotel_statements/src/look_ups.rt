@@ -340,7 +340,8 @@ fn last_party<S: Alter>(
     conn: &mut Connection<S>,
 ) -> Result<Option<PartyNo>, LookFault>
     requires books { IsBooks (state S.Store conn.old) }
-    requires numbered { IsKept (state S.Store conn.old) → count_up 1 (keys_of (rows_in (state S.Store conn.old).now.trees).stays) ≡ true }
+    requires numbered { IsKept (state S.Store conn.old)
+        → count_up 1 (keys_of (rows_in (state S.Store conn.old).now.trees).stays) ≡ true }
     ensures { LooksUp LastPartyFails (λ o. unwrap_or o 0) (λ rows. length rows.stays)
         (state S.Store conn.old) (state S.Store conn.new) result }
 {
@@ -350,7 +351,8 @@ fn last_party<S: Alter>(
 /// The number of the last card, where there is one.
 fn last_card<S: Alter>(alloc: Global, conn: &mut Connection<S>) -> Result<Option<CardNo>, LookFault>
     requires books { IsBooks (state S.Store conn.old) }
-    requires numbered { IsKept (state S.Store conn.old) → count_up 1 (keys_of (rows_in (state S.Store conn.old).now.trees).cards) ≡ true }
+    requires numbered { IsKept (state S.Store conn.old)
+        → count_up 1 (keys_of (rows_in (state S.Store conn.old).now.trees).cards) ≡ true }
     ensures { LooksUp LastCardFails (λ o. unwrap_or o 0) (λ rows. length rows.cards)
         (state S.Store conn.old) (state S.Store conn.new) result }
 {
@@ -373,8 +375,10 @@ pub fn next_numbers<S: Alter>(
     conn: &mut Connection<S>,
 ) -> Result<NextNumbers, LookFault>
     requires books { IsBooks (state S.Store conn.old) }
-    requires parties { IsKept (state S.Store conn.old) → count_up 1 (keys_of (rows_in (state S.Store conn.old).now.trees).stays) ≡ true }
-    requires cards { IsKept (state S.Store conn.old) → count_up 1 (keys_of (rows_in (state S.Store conn.old).now.trees).cards) ≡ true }
+    requires parties { IsKept (state S.Store conn.old) → count_up 1
+        (keys_of (rows_in (state S.Store conn.old).now.trees).stays) ≡ true }
+    requires cards { IsKept (state S.Store conn.old) → count_up 1
+        (keys_of (rows_in (state S.Store conn.old).now.trees).cards) ≡ true }
     ensures { LooksUp NumbersFail (λ a. a) next_numbers_of (state S.Store conn.old) (state S.Store conn.new) result }
 {
     let party = last_party(alloc, conn)?;

@@ -19,10 +19,12 @@ use sqlite::{Alter, Error, Transaction};
 fn make<S: Alter>(tx: &mut Transaction<'_, S>, text: &str) -> Result<(), Error>
     ensures same_reference { tx.new.conn.ghost_name ≡ tx.old.conn.ghost_name }
     ensures answers { RunsStatements S.Store (makes_table text.now ∷ []) tx.old.conn.now tx.new.conn.now result }
-    ensures made { HasCleanDisk (state S.Store tx.new.conn.now) → OnOk result (Makes text.now (state S.Store tx.old.conn.now) (state S.Store tx.new.conn.now)) }
+    ensures made { HasCleanDisk (state S.Store tx.new.conn.now)
+        → OnOk result (Makes text.now (state S.Store tx.old.conn.now) (state S.Store tx.new.conn.now)) }
     ensures added { HasCleanDisk (state S.Store tx.new.conn.now) →
         OnOk result (AddsTable text.now (state S.Store tx.old.conn.now) (state S.Store tx.new.conn.now)) }
-    ensures kept { HasCleanDisk (state S.Store tx.new.conn.now) → KeepsCommit (state S.Store tx.old.conn.now) (state S.Store tx.new.conn.now) }
+    ensures kept { HasCleanDisk (state S.Store tx.new.conn.now)
+        → KeepsCommit (state S.Store tx.old.conn.now) (state S.Store tx.new.conn.now) }
     ensures survives { Survives (state S.Store tx.old.conn.now) (state S.Store tx.new.conn.now) (λ _. ⊥) }
 {
     run(tx, text, &[])
@@ -44,9 +46,12 @@ fn make_index<S: Alter>(tx: &mut Transaction<'_, S>, text: &str) -> Result<(), E
 /// Makes the tables of the desk, its kinds, rooms and stays.
 pub fn make_first<S: Alter>(tx: &mut Transaction<'_, S>) -> Result<(), Error>
     ensures same_reference { tx.new.conn.ghost_name ≡ tx.old.conn.ghost_name }
-    ensures answers { RunsStatements S.Store (makes_table texts.create_meta ∷ makes_table texts.create_kind ∷ makes_table texts.create_room ∷ makes_table texts.create_stay ∷ []) tx.old.conn.now tx.new.conn.now result }
-    ensures made { HasCleanDisk (state S.Store tx.new.conn.now) → OnOk result (IfOpenBare no_schema with_stay (state S.Store tx.old.conn.now) (state S.Store tx.new.conn.now)) }
-    ensures kept { HasCleanDisk (state S.Store tx.new.conn.now) → KeepsCommit (state S.Store tx.old.conn.now) (state S.Store tx.new.conn.now) }
+    ensures answers { RunsStatements S.Store (makes_table texts.create_meta ∷ makes_table texts.create_kind
+        ∷ makes_table texts.create_room ∷ makes_table texts.create_stay ∷ []) tx.old.conn.now tx.new.conn.now result }
+    ensures made { HasCleanDisk (state S.Store tx.new.conn.now)
+        → OnOk result (IfOpenBare no_schema with_stay (state S.Store tx.old.conn.now) (state S.Store tx.new.conn.now)) }
+    ensures kept { HasCleanDisk (state S.Store tx.new.conn.now)
+        → KeepsCommit (state S.Store tx.old.conn.now) (state S.Store tx.new.conn.now) }
     ensures survives { Survives (state S.Store tx.old.conn.now) (state S.Store tx.new.conn.now) (λ _. ⊥) }
 {
     make(tx, CREATE_META)?;
@@ -100,8 +105,11 @@ pub fn make_last<S: Alter>(tx: &mut Transaction<'_, S>) -> Result<(), Error>
         ∷ makes_table texts.create_note ∷ makes_table texts.create_fit ∷ makes_table texts.create_stay_room
         ∷ makes_table texts.create_card_party ∷ [])
         tx.old.conn.now tx.new.conn.now result }
-    ensures made { HasCleanDisk (state S.Store tx.new.conn.now) → OnOk result (IfOpenBare with_stay desk_schema (state S.Store tx.old.conn.now) (state S.Store tx.new.conn.now)) }
-    ensures kept { HasCleanDisk (state S.Store tx.new.conn.now) → KeepsCommit (state S.Store tx.old.conn.now) (state S.Store tx.new.conn.now) }
+    ensures made { HasCleanDisk (state S.Store tx.new.conn.now)
+        → OnOk result (IfOpenBare with_stay desk_schema (state S.Store tx.old.conn.now)
+        (state S.Store tx.new.conn.now)) }
+    ensures kept { HasCleanDisk (state S.Store tx.new.conn.now)
+        → KeepsCommit (state S.Store tx.old.conn.now) (state S.Store tx.new.conn.now) }
     ensures survives { Survives (state S.Store tx.old.conn.now) (state S.Store tx.new.conn.now) (λ _. ⊥) }
 {
     make(tx, CREATE_CODE)?;
@@ -113,8 +121,11 @@ pub fn make_last<S: Alter>(tx: &mut Transaction<'_, S>) -> Result<(), Error>
 pub fn enter_meta<S: Alter>(tx: &mut Transaction<'_, S>) -> Result<(), Error>
     ensures same_reference { tx.new.conn.ghost_name ≡ tx.old.conn.ghost_name }
     ensures answers { RunsStatements S.Store ((texts.insert_meta, []) ∷ []) tx.old.conn.now tx.new.conn.now result }
-    ensures made { HasCleanDisk (state S.Store tx.new.conn.now) → OnOk result (IfOpen (IsBare desk_schema) IsMade (state S.Store tx.old.conn.now) (state S.Store tx.new.conn.now)) }
-    ensures kept { HasCleanDisk (state S.Store tx.new.conn.now) → KeepsCommit (state S.Store tx.old.conn.now) (state S.Store tx.new.conn.now) }
+    ensures made { HasCleanDisk (state S.Store tx.new.conn.now)
+        → OnOk result (IfOpen (IsBare desk_schema) IsMade (state S.Store tx.old.conn.now)
+        (state S.Store tx.new.conn.now)) }
+    ensures kept { HasCleanDisk (state S.Store tx.new.conn.now)
+        → KeepsCommit (state S.Store tx.old.conn.now) (state S.Store tx.new.conn.now) }
     ensures survives { Survives (state S.Store tx.old.conn.now) (state S.Store tx.new.conn.now) (λ _. ⊥) }
 {
     run(tx, INSERT_META, &[])

@@ -36,7 +36,8 @@ pub(crate) trait PlainRow: Sized {
 
     fn of_row(row: &Row) -> Result<Self, Error>
         ensures shows { IfOk result (λ plain. shown plain ≡ cut row.now) }
-        ensures unread { IfErr result (λ e. e ≢ Error.SqliteFailure ErrorCode.OutOfMemory → (l : Self) (more : SqlRow) → shown l ++ more ≢ row.now) };
+        ensures unread { IfErr result (λ e. e ≢ Error.SqliteFailure ErrorCode.OutOfMemory → (l : Self) (more : SqlRow)
+            → shown l ++ more ≢ row.now) };
 }
 
 /// A row of a table by its key, and whether its numbers are such as the books write.

@@ -15,8 +15,10 @@ pub(crate) fn run<S: Alter>(
     params: &[ValueRef<'_>],
 ) -> Result<(), Error>
     ensures same_reference { tx.new.conn.ghost_name ≡ tx.old.conn.ghost_name }
-    ensures runs { RunsStatement text.now (bound params.now) (state S.Store tx.old.conn.now) (state S.Store tx.new.conn.now) result }
-    ensures answers { RunsStatements S.Store ((text.now, bound params.now) ∷ []) tx.old.conn.now tx.new.conn.now result }
+    ensures runs { RunsStatement text.now (bound params.now) (state S.Store tx.old.conn.now)
+        (state S.Store tx.new.conn.now) result }
+    ensures answers { RunsStatements S.Store ((text.now, bound params.now)
+        ∷ []) tx.old.conn.now tx.new.conn.now result }
 {
     tx.execute(text, params)?;
     Ok(())

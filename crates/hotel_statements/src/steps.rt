@@ -37,7 +37,8 @@ pub fn set_day<S: Alter>(tx: &mut Transaction<'_, S>, day: Day) -> Result<(), Er
 /// Adds a kind that isn't there.
 pub fn insert_kind<S: Alter>(tx: &mut Transaction<'_, S>, kind: &KindCode) -> Result<(), Error>
     ensures same_reference { tx.new.conn.ghost_name ≡ tx.old.conn.ghost_name }
-    ensures makes { WritesBy S.Store (adds_kind kind.now ∷ []) (λ rows. has_kind rows kind.now ≡ false) (kind_added kind.now) tx.old.conn.now tx.new.conn.now result }
+    ensures makes { WritesBy S.Store (adds_kind kind.now ∷ [])
+        (λ rows. has_kind rows kind.now ≡ false) (kind_added kind.now) tx.old.conn.now tx.new.conn.now result }
 {
     run(tx, INSERT_KIND, &[text(kind.as_bytes())])
 }

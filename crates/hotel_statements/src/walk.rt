@@ -54,7 +54,8 @@ pub(crate) fn walk<S: Alter, R: Drop, F: RowReader<R>, K: Sink<R>>(
 ) -> Result<(), WalkFault>
     requires books { IsBooks (state S.Store conn.old) }
     requires asks { (q : Query) × Asks text.now q }
-    ensures { (rows : List R) → SaysRows (F.RowReader.says reader.now) text.now (bound params.now) (state S.Store conn.old) rows
+    ensures { (rows : List R) → SaysRows (F.RowReader.says reader.now) text.now (bound params.now)
+        (state S.Store conn.old) rows
         → WalksRows (WalkFails (F.RowReader.is_readable reader.now) text.now (bound params.now))
         K.Sink.after K.Sink.after_stop rows (state S.Store conn.old) (state S.Store conn.new) sink.old sink.new result }
 {

@@ -29,7 +29,8 @@ taken_by (Some stay) kind d = one_if (takes kind d stay)
 
 -- the stay is counted, where counts are below 2^63
 abbrev pub CountsMore : Option Stay → List ((List ℕ × ℕ) × List ℕ) → List ((List ℕ × ℕ) × List ℕ) → Type 0
-CountsMore stay old new = (kind : List ℕ) (d : ℕ) → counted old kind d < 2 ^ 63 → counted new kind d ≡ counted old kind d + taken_by stay kind d
+CountsMore stay old new = (kind : List ℕ) (d : ℕ) → counted old kind d < 2 ^ 63
+    → counted new kind d ≡ counted old kind d + taken_by stay kind d
 
 -- the stay is counted no longer
 abbrev pub CountsLess : Option Stay → List ((List ℕ × ℕ) × List ℕ) → List ((List ℕ × ℕ) × List ℕ) → Type 0
@@ -48,7 +49,8 @@ HasItsKind _ kinds = Unit {0}
 -- A kind that is there has one room more.
 pub record CountsRoom (kind : List ℕ) (old new : List (List ℕ × ℕ)) : Type 0 where
   pub kinds : keys_of new ≡ keys_of old
-  pub rooms : is_there old kind ≡ true → rooms_in old kind < 2 ^ 32 - 1 → (k : List ℕ) → rooms_in new k ≡ rooms_in old k + one_if (bytes_eq kind k)
+  pub rooms : is_there old kind ≡ true → rooms_in old kind < 2 ^ 32 - 1 → (k : List ℕ)
+      → rooms_in new k ≡ rooms_in old k + one_if (bytes_eq kind k)
 
 -- the room that a change adds is counted
 abbrev pub CountsItsRoom : Change → List (List ℕ × ℕ) → List (List ℕ × ℕ) → Type 0

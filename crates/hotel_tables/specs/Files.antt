@@ -79,7 +79,8 @@ module _ {D : Type 0} {g : disk.Ghosts D} (is_part : Bool → D → Type 0) wher
 
   -- the books' connection is that of an opening
   abbrev pub AreOfOpening : Held (FileStore D g) → Type 0
-  AreOfOpening conn = (opened : Held (FileStore D g)) × IsAnswer (Ok opened) × AreBooksOf (file_state opened) (file_state conn)
+  AreOfOpening conn =
+      (opened : Held (FileStore D g)) × IsAnswer (Ok opened) × AreBooksOf (file_state opened) (file_state conn)
 
 module _ {D : Type 0} {g : disk.Ghosts D} where
   -- Where the disks of both files gave back what was written: the files hold what the connection last committed, and so
@@ -87,7 +88,8 @@ module _ {D : Type 0} {g : disk.Ghosts D} where
   abbrev pub HoldBooks : Held (FileStore D g) → Files D → Type 0
   HoldBooks conn files =
       IsTrue (g.is_clean files.log) → IsTrue (g.is_clean files.db)
-      → IsCopied conn files × ((again : Held (FileStore D g)) → IsOpened again → Finds files again → HasCleanDisk (file_state again) → (file_state again).now ≡ (file_state conn).now)
+      → IsCopied conn files × ((again : Held (FileStore D g)) → IsOpened again → Finds files again
+      → HasCleanDisk (file_state again) → (file_state again).now ≡ (file_state conn).now)
 
   -- The store is that of the connection after a close that failed so: a crash finds nothing but what it could find
   -- before.

@@ -60,15 +60,19 @@ fits_natural (Some fits) = list_all fit_natural fits.items
 -- each table is in the order of its key
 abbrev pub all_rise : Stored → Bool
 all_rise s =
-    are_in_order kind_order s.kinds.items && are_in_order room_order s.rooms.items && are_in_order stay_order s.stays.items && are_in_order code_order s.codes.items
-    && are_in_order card_order s.cards.items && are_in_order inside_order s.inside.items && are_in_order note_order s.notes.items
+    are_in_order kind_order s.kinds.items && are_in_order room_order s.rooms.items
+    && are_in_order stay_order s.stays.items && are_in_order code_order s.codes.items
+    && are_in_order card_order s.cards.items && are_in_order inside_order s.inside.items
+    && are_in_order note_order s.notes.items
     && fits_rise s.fits
 
 -- no number is below 0
 abbrev pub all_natural : Stored → Bool
 all_natural s =
-    may_be_natural s.day && list_all room_natural s.rooms.items && list_all stay_natural s.stays.items && list_all code_natural s.codes.items
-    && list_all card_natural s.cards.items && list_all inside_natural s.inside.items && list_all note_natural s.notes.items
+    may_be_natural s.day && list_all room_natural s.rooms.items && list_all stay_natural s.stays.items
+    && list_all code_natural s.codes.items
+    && list_all card_natural s.cards.items && list_all inside_natural s.inside.items
+    && list_all note_natural s.notes.items
     && fits_natural s.fits
 
 -- the one row of meta, of a version, and that it isn't there

@@ -29,8 +29,10 @@ ReadUndamaged = (version : Version) (db : Trees) → AreTablesOf version db
 -- tables and rows of the books.
 abbrev pub FilesKeepBooks : {D : Type 0} → Ghosts D → Type 0
 FilesKeepBooks {D} g =
-    (old again : Held (FileStore D g)) (files : Files D) → IsBooks (file_state old) → IsLive (file_state old) → IsCopied old files → IsOpened again → Finds files again
-    → HasCleanDisk (file_state again) → IsKept (file_state again) × IsBooks (file_state again) × ((file_state again).now ≡ (file_state old).now)
+    (old again : Held (FileStore D g)) (files : Files D) → IsBooks (file_state old) → IsLive (file_state old)
+    → IsCopied old files → IsOpened again → Finds files again
+    → HasCleanDisk (file_state again) → IsKept (file_state again) × IsBooks (file_state again)
+    × ((file_state again).now ≡ (file_state old).now)
 
 -- Over disks that return what was written each state of a connection is clean.
 abbrev pub FilesAreClean : {D : Type 0} → Ghosts D → Type 0

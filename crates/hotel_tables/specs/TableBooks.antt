@@ -44,7 +44,8 @@ pub record IsCounted (kinds : List (List ℕ × ℕ)) (nights : List ((List ℕ 
   pub stays : CountsNights nights (values_of rows.stays)
 
 -- What books over tables keep true, whatever has failed.
-pub record IsTabled (s : State) (kinds : List (List ℕ × ℕ)) (nights : List ((List ℕ × ℕ) × List ℕ)) (answers : Bool) : Type 0 where
+pub record IsTabled (s : State) (kinds : List (List ℕ × ℕ)) (nights : List ((List ℕ × ℕ) × List ℕ))
+    (answers : Bool) : Type 0 where
   pub books : IsBooks s
   pub counted : IsKept s → IsCounted kinds nights (rows_in s.now.trees)
   -- a connection that answered when it was last asked is open

@@ -77,9 +77,12 @@ fn make_change<S: Alter>(
     ensures books { IsBooks (state S.Store conn.new) }
     ensures was { IsKept (state S.Store conn.new) → IsKept (state S.Store conn.old) }
     ensures open_on { HasCleanDisk (state S.Store conn.new) → OnOk result (IsTrue (state S.Store conn.new).is_open) }
-    ensures made { IsKept (state S.Store conn.new) → OnOk result (rows_in (state S.Store conn.new).now.trees ≡ made change.now (rows_in (state S.Store conn.old).now.trees)) }
-    ensures same { IsKept (state S.Store conn.new) → OnErr result ((state S.Store conn.new).now ≡ (state S.Store conn.old).now) }
-    ensures crash { Survives (state S.Store conn.old) (state S.Store conn.new) (IsMadeOf (made change.now) (state S.Store conn.old).now.trees) }
+    ensures made { IsKept (state S.Store conn.new) → OnOk result
+        (rows_in (state S.Store conn.new).now.trees ≡ made change.now (rows_in (state S.Store conn.old).now.trees)) }
+    ensures same { IsKept (state S.Store conn.new) → OnErr result
+        ((state S.Store conn.new).now ≡ (state S.Store conn.old).now) }
+    ensures crash { Survives (state S.Store conn.old) (state S.Store conn.new)
+        (IsMadeOf (made change.now) (state S.Store conn.old).now.trees) }
     ensures failed { HasCleanDisk (state S.Store conn.new)
         → IfErr result (FailsToWrite S.Store (statements_of change.now known) conn.old conn.new) }
 {

@@ -19,7 +19,8 @@ use sqlite::Alter;
 impl<S: Alter> TableBooks<S> {
     /// Makes all of a change, or nothing, and keeps the counts in step.
     pub(crate) fn change_tables(&mut self, change: &Change) -> Result<(), LookFault>
-        requires { IsKept (state S.Store self.old.conn) → Fits change.now (rows_in (state S.Store self.old.conn).now.trees) }
+        requires { IsKept (state S.Store self.old.conn)
+            → Fits change.now (rows_in (state S.Store self.old.conn).now.trees) }
         ensures applies { Applies change.now (state S.Store self.old.conn) (state S.Store self.new.conn) result }
         ensures cause { HasCleanDisk (state S.Store self.new.conn)
             → IfErr result (λ why. why ≡ Store → ChangeFails S.Store change.now self.old.conn self.new.conn) }
