@@ -85,6 +85,7 @@ impl KindRooms {
     /// A kind that is there has one more room, up to the greatest count. It takes no memory.
     pub fn add_room(&mut self, kind: &KindCode)
         ensures kinds { keys_of self.new ≡ keys_of self.old }
+        ensures absent { is_there self.old kind.now ≡ false → self.new ≡ self.old }
         ensures rooms { is_there self.old kind.now ≡ true → rooms_in self.old kind.now < 2 ^ 32 - 1 → (k : List ℕ)
             → rooms_in self.new k ≡ rooms_in self.old k + one_if (bytes_eq kind.now k) }
     {

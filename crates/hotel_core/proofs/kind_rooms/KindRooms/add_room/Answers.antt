@@ -5,6 +5,11 @@ use Rattle.std.specs.Option.{unwrap_or}
 use Rattle.hotel_core.proofs.OfNights.KindKeys.{SetsKind, one_more_room, known_kind}
 use Rattle.hotel_core.proofs.kind_rooms.KindRooms.add_room.Goals as goal
 
+pub returns-clause-absent : goal.returns-clause-absent
+returns-clause-absent c = λ gone.
+    let there : is_there c.self.inside.counts.entries c.args.kind.now ≡ true = sym (known_kind c.self.inside.counts.entries c.args.kind.now) ∙ ap is_some (sym c.in-Some.ensures.value) in
+    absurd (false≢true (sym gone ∙ sym (ap (λ es. is_there es c.args.kind.now) c.self.view_is) ∙ there))
+
 pub returns-clause-rooms : goal.returns-clause-rooms
 returns-clause-rooms c = λ there few.
     let before = c.self.inside.counts.entries in
