@@ -54,6 +54,7 @@ pub fn kind_code(text: &str) -> Result<KindCode, LookFault>
 pub fn guest(alloc: Global, text: &str) -> Result<Guest, LookFault>
     ensures ok { IfOk result (λ guest. guest ≡ text.now) }
     ensures err { IfErr result (λ why. why ≡ Store → is_guest text.now ≡ false) }
+    ensures unread { is_guest text.now ≡ false → IfErr result (λ why. why ≡ Store) }
 {
     match Guest::read(alloc, text) {
         Ok(guest) => Ok(guest),
