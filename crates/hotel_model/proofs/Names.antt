@@ -13,9 +13,9 @@ pub use Rattle.hotel_model.specs.Cases.{is_kind, is_of_kind, is_party, is_room, 
 pub use Rattle.hotel_model.specs.Cases.{next_party, no_link, opens, own_room, parties_used_up, room_of, stay_is, today}
 pub use Rattle.hotel_model.specs.Stays.{day, first_full, in_state, is_booked_state, kinds, nights, now_is}
 pub use Rattle.hotel_model.specs.Stays.{room_of_state, rooms, rooms_of, stays}
-pub use Rattle.hotel_model.specs.Event.{Begun, Cancelled, Issue, CheckOut, Entered, Event, Install, Kind, Left, Moment}
+pub use Rattle.hotel_model.specs.Event.{Begun, Cancelled, Issue, CheckOut, Entered, Event, Install, Kind, Left}
 pub use Rattle.hotel_model.specs.Event.{NextDay, Recoded, Refitted, Reserved, Spare, note_of}
-pub use Rattle.hotel_nights.specs.Moments.{moment_of}
+pub use Rattle.hotel_nights.specs.Moments.{Moment, moment_of}
 pub use Rattle.hotel_model.specs.Guests.{are_none, inside, insiders, registered, secured, those_elsewhere}
 pub use Rattle.hotel_model.specs.Guests.{those_in}
 pub use Rattle.hotel_model.specs.Headline.{Assured, Headline, LedgerHolds, NewestOpens, NoCodeTwice, OpensOwnRoom}

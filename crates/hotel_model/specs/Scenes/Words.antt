@@ -5,7 +5,7 @@ use Rattle.keycard_rules.specs.declared.card.Link.{Link}
 use Rattle.keycard_rules.specs.Note.{Note}
 use Rattle.keycard_rules.specs.declared.note.Act.{Act}
 use Rattle.keycard_rules.specs.declared.note.Act.TheVariants as act
-use Rattle.hotel_model.specs.Event.{Moment}
+use Rattle.hotel_nights.specs.Moments.{Moment}
 use Rattle.hotel_model.specs.declared.command.Command.{Command}
 use Rattle.hotel_model.specs.declared.command.Command.TheVariants as command
 use Rattle.hotel_model.specs.declared.reply.Reply.{Reply}
