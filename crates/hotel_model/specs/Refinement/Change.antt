@@ -11,7 +11,7 @@ use Rattle.hotel_model.specs.{declared.change.Change.Change}
 use Rattle.hotel_model.specs.declared.change.InsideMove.TheVariants.{Same, Goes, Comes}
 use Rattle.hotel_model.specs.declared.change.Change.TheVariants.{Begin, DayTo, Kind, Room, Reserved, Cancelled, Issue}
 use Rattle.hotel_model.specs.declared.change.Change.TheVariants.{Spare, CheckedOut, Refit, Noted}
-use Rattle.hotel_model.specs.{Words.pair_cmp, Rows.Rows, Rows.column_at, Stays.in_state}
+use Rattle.hotel_model.specs.{Words.pair_cmp, Rows.Rows, Rows.InsideKey, Rows.column_at, Stays.in_state}
 use Rattle.hotel_model.specs.{Guests.those_elsewhere, Refits.fit_row}
 
 -- the rooms, with f done to the row of a number
@@ -29,7 +29,7 @@ freed_by (Some room) rooms = without_party room rooms
 freed_by None rooms = rooms
 
 -- the cards inside rooms, after a move at a room
-abbrev pub moved : InsideMove → ℕ → List (ℕ × ℕ) → List (ℕ × ℕ)
+abbrev pub moved : InsideMove → ℕ → List InsideKey → List InsideKey
 moved Same room pairs = pairs
 moved (Goes number) room pairs = remove_key (is_at (pair_cmp (room, number))) pairs
 moved (Comes number) room pairs = insert_key pair_cmp pairs (room, number)
