@@ -31,6 +31,10 @@ note_key plain = (number_of plain.room, number_of plain.n)
 abbrev pub fit_key : PlainFit → FitKey
 fit_key plain = (number_of plain.room, number_of plain.fit)
 
+-- the codes of a link: the old one, and the new one
+abbrev pub LinkKey : Type 0
+LinkKey = ℕ × ℕ
+
 -- the code that a card brought
 abbrev pub new_code_of : PlainCard → ℕ
 new_code_of plain = number_of plain.new_code
