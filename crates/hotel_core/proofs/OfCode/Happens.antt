@@ -1,5 +1,5 @@
 -- What went over books, made of its parts.
-use Rattle.std.proofs.Common.{◌≡◌, Bool, true, false, not, List, [], ◌∷◌, ◌++◌, length, zip, refl, ap, arith, subst}
+use Rattle.std.proofs.Common.{◌≡◌, Bool, true, false, not, List, [], ◌∷◌, ◌++◌, length, zip, refl, ap, arith}
 use Rattle.std.specs.Prelude.{⊤}
 use Rattle.std.proofs.lemmas.Bool.{not-true}
 use Rattle.hotel_core.proofs.Names.{false≢true, Stream, NoFewer, AreCounted, failure_in, is_failed, Steps, Command}
