@@ -1,6 +1,6 @@
 -- The names that the proofs of this crate cite most, passed on from one place. Declares nothing.
 pub use Rattle.hotel_model.specs.Refinement.Change.{before_in, codes_of, freed_by, made, moved, notes_in, room_changed}
-pub use Rattle.hotel_model.specs.Refinement.Change.{without_party}
+pub use Rattle.hotel_model.specs.Refinement.Change.{new_row, without_party}
 pub use Rattle.hotel_model.specs.Refinement.Fits.{HasItsRows}
 pub use Rattle.hotel_model.specs.Refinement.Lookups.{card_at, code_at, code_place, codes_in, first_code_at}
 pub use Rattle.hotel_model.specs.Refinement.Lookups.{first_full_on, inside_at, note_at, note_numbered, number_after}

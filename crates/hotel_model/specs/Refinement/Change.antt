@@ -45,14 +45,27 @@ notes_in rows room = column_at rows.rooms room (λ row. row.notes)
 abbrev pub before_in : Rows → ℕ → ℕ
 before_in rows room = column_at rows.rooms room (λ row. row.before)
 
+-- the row of a new room: its lock is the first fit, and holds its one code
+abbrev pub new_row : ℕ → List ℕ → RoomRow
+new_row room kind = record {
+  room = room;
+  kind = kind;
+  lock_place = 0;
+  codes = 1;
+  secured = false;
+  party = None;
+  notes = 0;
+  fit = 1;
+  before = 0;
+}
+
 -- The rows with those of the change added or altered, and no others.
 abbrev pub made : Change → Rows → Rows
 made (Begin day) rows = record rows { day = Some day }
 made (DayTo day) rows = record rows { day = Some day }
 made (Kind kind) rows = record rows { kinds = insert_key (slice_cmp nat_cmp) rows.kinds kind }
 made (Room room kind code) rows = record rows {
-  rooms = insert_entry nat_cmp rows.rooms room
-      (record { room = room; kind = kind; lock_place = 0; codes = 1; secured = false; party = None; notes = 0; fit = 1; before = 0 });
+  rooms = insert_entry nat_cmp rows.rooms room (new_row room kind);
   codes = insert_entry nat_cmp rows.codes code (record { room = room; place = 0 });
   fits = insert_entry pair_cmp rows.fits (room, 1) (fit_row room 1 0 0);
 }
