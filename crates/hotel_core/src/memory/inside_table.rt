@@ -1,5 +1,5 @@
 //! The cards inside rooms, found by room.
-ghost use Rattle.std.specs.Prelude.{◌≡◌, ℕ, [], not, IfOk, OnOk, OnErr};
+ghost use Rattle.std.specs.Prelude.{◌≡◌, [], not, IfOk, OnOk, OnErr};
 ghost use Rattle.hotel_model.specs.{Words.is_one_of, Guests.those_in, Guests.are_none, Guests.those_elsewhere};
 ghost use Rattle.hotel_model.specs.{Refinement.Change.moved};
 

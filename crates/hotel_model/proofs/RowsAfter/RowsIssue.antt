@@ -1,5 +1,5 @@
 -- The rows after a room was added, and the row of a room to which a party came.
-use Rattle.std.proofs.Common.{ℕ, ◌≡◌, ◌+◌, Bool, true, false, Option, Some, None, List, [], ◌∷◌, refl, ap, ◌∙◌, length}
+use Rattle.std.proofs.Common.{ℕ, ◌≡◌, ◌+◌, Bool, true, false, Option, Some, List, [], ◌∷◌, refl, ap, ◌∙◌, length}
 use Rattle.std.proofs.Common.{◌==◌, nat_cmp, Ordering, Less, Equal, Greater}
 use Rattle.hotel_model.proofs.Names.{match_ordering, insert_entry, exact_unsigned, RoomRow, when, and_last, said_of}
 use Rattle.hotel_model.proofs.Names.{Install, History, ◌▷◌, issued, all_issued, secured, present_fit, fits, fit_row}

@@ -1,6 +1,6 @@
 -- The steps of a room that is added, of a lock that is replaced and of a note that is taken make the change.
 use Rattle.std.proofs.Common.{◌≡◌, ◌+◌, inl, inr, refl, sym, ap, ap₂, ◌∙◌, List, [], ◌∷◌, ℕ, true, false, Bool}
-use Rattle.std.proofs.Common.{None, Some, arith, eqb, is_eq, nat_cmp, Ordering, Less, Equal, Greater}
+use Rattle.std.proofs.Common.{Some, arith, eqb, is_eq, nat_cmp, Ordering, Less, Equal, Greater}
 use Rattle.std.specs.Ordering.{match_ordering}
 use Rattle.std.specs.BTreeMap.{insert_entry}
 use Rattle.std.proofs.lemmas.Bool.{cases_Bool}
