@@ -15,7 +15,7 @@ pub use Rattle.hotel_model.specs.Stays.{day, first_full, in_state, is_booked_sta
 pub use Rattle.hotel_model.specs.Stays.{room_of_state, rooms, rooms_of, stays}
 pub use Rattle.hotel_model.specs.Event.{Begun, Cancelled, Issue, CheckOut, Entered, Event, Install, Kind, Left}
 pub use Rattle.hotel_model.specs.Event.{NextDay, Recoded, Refitted, Reserved, Spare, note_of}
-pub use Rattle.hotel_nights.specs.Moments.{Moment, moment_of}
+pub use Rattle.hotel_nights.specs.Moments.{Moment, moment_of, note_from}
 pub use Rattle.hotel_model.specs.Guests.{are_none, inside, insiders, registered, secured, those_elsewhere}
 pub use Rattle.hotel_model.specs.Guests.{those_in}
 pub use Rattle.hotel_model.specs.Headline.{Assured, Headline, LedgerHolds, NewestOpens, NoCodeTwice, OpensOwnRoom}
