@@ -15,12 +15,12 @@ use Rattle.hotel_model.specs.SoundCards.{codes_in_range, code_rooms_there, place
 use Rattle.hotel_model.specs.SoundCards.{card_parties_there, links_are_neighbours, links_of_one_party}
 use Rattle.hotel_model.specs.SoundCards.{neighbours_are_links, fits_without_links, newest_of_party}
 use Rattle.hotel_model.specs.SoundCards.{last_cards_newest}
-use Rattle.hotel_model.specs.SoundNotes.{insides_fit, notes_fit, notes_counted, notes_of_fits}
+use Rattle.hotel_model.specs.SoundNotes.{insides_fit, notes_fit, notes_counted}
 use Rattle.hotel_model.specs.SoundFits.{fit_rooms_there, fit_numbers, first_fits, fit_places_rise, fit_notes_rise}
-use Rattle.hotel_model.specs.SoundFits.{last_fits_held, last_fits_noted, fit_notes_few, rows_of_last_fits}
+use Rattle.hotel_model.specs.SoundFits.{last_fits_held, last_fits_noted, fit_notes_few}
 use Rattle.hotel_model.proofs.OfTables.Tests.{and_true, eq_from}
 use Rattle.hotel_model.proofs.OfTables.RowTests.{both, found_passes}
-use Rattle.hotel_model.proofs.SoundRows.TestsSound.{sound_pass, passing_are_sound}
+use Rattle.hotel_model.proofs.SoundRows.TestsSound.{nights_pass, passing_are_sound}
 use Rattle.hotel_rows.specs.declared.stored.Stored.{Stored}
 use Rattle.hotel_rows.specs.declared.stored.TableName.{TableName}
 use Rattle.hotel_rows.specs.declared.stored.TableName.TheVariants as table
@@ -151,35 +151,6 @@ rules_passed s h =
     fit_6.1) fit_7.1) fit_8.1 in
     (more fits (of_last_fits s), more (more room_1.1 stay_1.1) note_1.1)
 
--- the rule of nights, of rows that pass all rules
-nights_of : (rows : Rows) → passes_rules rows ≡ true → nights_fit rows ≡ true
-nights_of rows t =
-    let p = and_true _ (rows_of_last_fits rows) t in
-    let p = and_true _ (fit_notes_few rows) p.0 in
-    let p = and_true _ (last_fits_noted rows) p.0 in
-    let p = and_true _ (last_fits_held rows) p.0 in
-    let p = and_true _ (fit_notes_rise rows) p.0 in
-    let p = and_true _ (fit_places_rise rows) p.0 in
-    let p = and_true _ (first_fits rows) p.0 in
-    let p = and_true _ (fit_numbers rows) p.0 in
-    let p = and_true _ (fit_rooms_there rows) p.0 in
-    let p = and_true _ (notes_of_fits rows) p.0 in
-    let p = and_true _ (notes_fit rows) p.0 in
-    let p = and_true _ (notes_counted rows) p.0 in
-    let p = and_true _ (insides_fit rows) p.0 in
-    let p = and_true _ (last_cards_newest rows) p.0 in
-    let p = and_true _ (newest_of_party rows) p.0 in
-    let p = and_true _ (fits_without_links rows) p.0 in
-    let p = and_true _ (neighbours_are_links rows) p.0 in
-    let p = and_true _ (links_of_one_party rows) p.0 in
-    let p = and_true _ (links_are_neighbours rows) p.0 in
-    let p = and_true _ (card_parties_there rows) p.0 in
-    let p = and_true _ (card_numbers rows) p.0 in
-    let p = and_true _ (places_once rows) p.0 in
-    let p = and_true _ (code_rooms_there rows) p.0 in
-    let p = and_true _ (codes_in_range rows) p.0 in
-    (and_true _ (nights_fit rows) p.0).1
-
 rules_hold : (s : Stored) → IsSound (rows_of s) → columns_fit s ≡ true → AllHold s
 rules_hold s sound columns =
     let rows = rows_of s in
@@ -192,7 +163,7 @@ rules_hold s sound columns =
     let k1 = and_true _ (are_in_order nat_cmp (keys_of rows.rooms)) k2.0 in
     let c2 = and_true _ (list_all note_columns s.notes.items) columns in
     let c1 = and_true _ (list_all stay_columns s.stays.items) c2.0 in
-    let nights = nights_of rows (sound_pass rows sound) in
+    let nights = nights_pass rows sound.stay_nights in
     record {
       meta = more sound.meta_day sound.meta_kinds;
       kind = more k1.0 sound.kind_reads;
