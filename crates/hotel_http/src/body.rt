@@ -1,9 +1,8 @@
 //! The body of a request, and the interim answer before it.
 
 ghost use Rattle.std.specs.Prelude.{◌≡◌, ◌++◌, true, IfOk, OnOk, OnErr, IfSome, IsErrOf};
-ghost use Rattle.std.specs.Io.KnownBytes.{Appends, Keeps};
-ghost use Rattle.hotel_lists.specs.{Bytes.AppendsFront, Calls.NoneForgotten, declared.bytes.ReadFault.TheVariants.Read};
-ghost use Rattle.hotel_http.specs.Body.{HoldsBody, ReadsBody, interim_text, interim_where};
+ghost use Rattle.hotel_lists.specs.{Bytes.Writes, Calls.NoneForgotten, declared.bytes.ReadFault.TheVariants.Read};
+ghost use Rattle.hotel_http.specs.Body.{HoldsBody, ReadsBody, interim_where};
 
 use hotel_lists::{IoCalls, ReadFault, WriteFailed, read_more, write_bytes};
 use std::alloc::Global;
@@ -15,11 +14,9 @@ pub fn write_interim<W: Write>(
     awaited: bool,
     calls: &mut IoCalls,
 ) -> Result<(), WriteFailed>
-    ensures ok { OnOk result (Appends (W.contents writer.old) (W.contents writer.new) (interim_where awaited)) }
-    ensures err { OnErr result (AppendsFront (W.contents writer.old) (W.contents writer.new) interim_text) }
+    ensures writes { Writes (W.contents writer.old) (W.contents writer.new) (interim_where awaited)
+        calls.old calls.new result }
     ensures awaited { OnErr result (awaited ≡ true) }
-    ensures failed { OnErr result (calls.new.write_failed ≡ true) }
-    ensures calls { NoneForgotten calls.old calls.new }
 {
     if !awaited {
         return Ok(());

@@ -1,8 +1,8 @@
 //! Loops over one reader or one writer.
 
 ghost use Rattle.std.specs.Prelude.{◌≡◌, true, IfSome, IsErrOf, ◌<◌, ◌≤◌, length, IfOk, OnOk, OnErr};
-ghost use Rattle.std.specs.Io.KnownBytes.{Appends, Consumes, IsAtEnd, Keeps};
-ghost use Rattle.hotel_lists.specs.{Calls.NoneForgotten, Bytes.AppendsFront, Bytes.joined, Bytes.ReadsOnto};
+ghost use Rattle.std.specs.Io.KnownBytes.{IsAtEnd};
+ghost use Rattle.hotel_lists.specs.{Calls.NoneForgotten, Bytes.Writes, Bytes.joined, Bytes.ReadsOnto};
 ghost use Rattle.hotel_lists.specs.{Bytes.ConsumesAtMost, Bytes.whole_fault};
 ghost use Rattle.hotel_lists.specs.declared.bytes.ReadFault.TheVariants.{Read, Memory};
 
@@ -17,10 +17,7 @@ pub fn write_bytes<W: Write>(
     bytes: &[u8],
     calls: &mut IoCalls,
 ) -> Result<(), WriteFailed>
-    ensures ok { OnOk result (Appends (W.contents writer.old) (W.contents writer.new) bytes.now) }
-    ensures err { OnErr result (AppendsFront (W.contents writer.old) (W.contents writer.new) bytes.now) }
-    ensures failed { OnErr result (calls.new.write_failed ≡ true) }
-    ensures calls { NoneForgotten calls.old calls.new }
+    ensures writes { Writes (W.contents writer.old) (W.contents writer.new) bytes.now calls.old calls.new result }
 {
     let mut done = 0;
     while done < bytes.len() {
@@ -37,10 +34,8 @@ pub fn write_parts<W: Write>(
     parts: &[&[u8]],
     calls: &mut IoCalls,
 ) -> Result<(), WriteFailed>
-    ensures ok { OnOk result (Appends (W.contents writer.old) (W.contents writer.new) (joined parts.now)) }
-    ensures err { OnErr result (AppendsFront (W.contents writer.old) (W.contents writer.new) (joined parts.now)) }
-    ensures failed { OnErr result (calls.new.write_failed ≡ true) }
-    ensures calls { NoneForgotten calls.old calls.new }
+    ensures writes { Writes (W.contents writer.old) (W.contents writer.new) (joined parts.now)
+        calls.old calls.new result }
 {
     for part in parts {
         write_bytes(writer, part, calls)?;

@@ -34,7 +34,7 @@ returns-in-Ok-write_answers-clause-ends g c =
       Ok c.in-Ok.answers.items,
       false,
       ap (λ s. Ok s) (c.answers_status.ensures.status ∙ ap answers_status items),
-      subst (λ (l : List LineAnswer). Appends old new (answers_text 1 l)) items c.in-Ok-write_answers.ensures.ok,
+      subst (λ (l : List LineAnswer). Appends old new (answers_text 1 l)) items c.in-Ok-write_answers.ensures.writes.ok,
       record {
         went = e.imported;
         no_file = tt;
@@ -54,7 +54,7 @@ returns-clause-ends g c =
       Ok c.in-Ok.answers.items,
       true,
       refl,
-      subst (λ (l : List LineAnswer). AppendsFront old new (answers_text 1 l)) items c.in-Err-write_answers.ensures.err,
+      subst (λ (l : List LineAnswer). AppendsFront old new (answers_text 1 l)) items c.in-Err-write_answers.ensures.writes.err,
       record {
         went = e.imported;
         no_file = tt;
