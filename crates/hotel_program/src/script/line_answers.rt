@@ -1,10 +1,10 @@
 //! The answer to a line of a script.
 
-ghost use Rattle.std.specs.Prelude.{◌≡◌, true, Some, OnErr};
+ghost use Rattle.std.specs.Prelude.{Some, OnErr};
 ghost use Rattle.hotel_asks.specs.declared.asks.Ask.TheVariants as ask;
 ghost use Rattle.hotel_core.specs.Books.Happens.{HappensBy};
 ghost use Rattle.hotel_lists.specs.Bytes.{Writes};
-ghost use Rattle.hotel_lists.specs.Calls.{NoneForgotten};
+ghost use Rattle.hotel_lists.specs.Calls.{CountsWrites};
 ghost use Rattle.hotel_program.specs.Script.{Asks.ask_in, LineAnswers.AskEnds, LineAnswers.answer_text};
 
 use crate::script::asks::{LineFault, read_line};
@@ -51,8 +51,7 @@ fn answer_command<W: Write, B: Walks, R: Rng>(
     ensures went { HappensBy B.Issued B.rows books.old (AskEnds (Some (ask.Command command.now)) (R.stream source.old)
         (R.stream source.new)
         (W.contents writer.old) (W.contents writer.new) result) books.new }
-    ensures failed { OnErr result (calls.new.write_failed ≡ true) }
-    ensures calls { NoneForgotten calls.old calls.new }
+    ensures calls { CountsWrites calls.old calls.new (OnErr result) }
 {
     let answer = ScriptAnswer::Replied(step(books, source, command));
     write_answer(writer, &answer, calls)
@@ -72,8 +71,7 @@ pub fn answer_line<W: Write, B: Walks, R: Rng>(
     ensures went { HappensBy B.Issued B.rows books.old (AskEnds (ask_in line.now) (R.stream source.old)
         (R.stream source.new)
         (W.contents writer.old) (W.contents writer.new) result) books.new }
-    ensures failed { OnErr result (calls.new.write_failed ≡ true) }
-    ensures calls { NoneForgotten calls.old calls.new }
+    ensures calls { CountsWrites calls.old calls.new (OnErr result) }
 {
     match read_line(alloc, line) {
         Ok(Ask::Command(command)) => { answer_command(&command, writer, books, source, calls) }

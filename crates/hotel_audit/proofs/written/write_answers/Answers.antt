@@ -14,5 +14,5 @@ pub loop-index-preserved : goal.loop-index-preserved
 loop-index-preserved g c = (
   answers_written _ _ _ c.loop-index.index c.args.answers.now c.index-answers-index.result _ c.loop-index-test.true c.index-answers-index.is (c.as_bytes.ensures.same ∙ c.answer_text-text.ensures)
       c.loop-index.invariant.0 c.in_ok-write_bytes.ensures.writes.ok,
-  then_none_forgotten _ _ _ c.loop-index.invariant.1 c.write_bytes.ensures.writes.calls,
+  then_none_forgotten _ _ _ c.loop-index.invariant.1 c.write_bytes.ensures.writes.calls.none_forgotten,
 )

@@ -20,21 +20,13 @@ returns-clause-text g c = λ honest.
     let back = sym (same.writer ∙ c.new-lines.ensures.same_writer) in
     search rules
 
-pub returns-clause-failed : goal.returns-clause-failed
-returns-clause-failed g c = λ e.
-    let (handed, hands, _) = c.walk-walked.ensures.hands in
-    let (same, failed) = list_ended g.W.Write.contents g.L.Row.Line.line handed _ _ _ _ _ _ hands c.finish-end.ensures.same c.finish-end.ensures.ends c.listed.ensures in
-    let now = failed e in
-    let back = sym (same.calls ∙ c.new-lines.ensures.same_calls) in
-    search rules
-
 pub returns-clause-calls : goal.returns-clause-calls
 returns-clause-calls g c =
     let (handed, hands, _) = c.walk-walked.ensures.hands in
-    let (same, _) = list_ended g.W.Write.contents g.L.Row.Line.line handed _ _ _ _ _ _ hands c.finish-end.ensures.same c.finish-end.ensures.ends c.listed.ensures in
-    let none = then_none_forgotten _ _ _ (rw (← c.new-lines.ensures.uncalled) at c.in_ok-write_bytes.ensures.writes.calls) same.none_forgotten in
+    let (same, failed) = list_ended g.W.Write.contents g.L.Row.Line.line handed _ _ _ _ _ _ hands c.finish-end.ensures.same c.finish-end.ensures.ends c.listed.ensures in
+    let none = then_none_forgotten _ _ _ (rw (← c.new-lines.ensures.uncalled) at c.in_ok-write_bytes.ensures.writes.calls.none_forgotten) same.none_forgotten in
     let back = sym (same.calls ∙ c.new-lines.ensures.same_calls) in
-    search rules
+    record { failed = λ e. let now = failed e in search rules; none_forgotten = search rules }
 
 pub returns-clause-books : goal.returns-clause-books
 returns-clause-books g c =

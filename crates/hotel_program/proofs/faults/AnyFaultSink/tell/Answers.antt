@@ -6,4 +6,4 @@ pub returns-clause-told : goal.returns-clause-told
 returns-clause-told g c = front_taken c.write_fault.result _ _ (fault_text c.args.fault.now) c.write_fault.ensures.writes.ok c.write_fault.ensures.writes.err
 
 pub returns-clause-heard : goal.returns-clause-heard
-returns-clause-heard g c = taken_whole c.write_fault.result _ _ (fault_text c.args.fault.now) _ c.write_fault.ensures.writes.ok c.write_fault.ensures.writes.failed
+returns-clause-heard g c = taken_whole c.write_fault.result _ _ (fault_text c.args.fault.now) _ c.write_fault.ensures.writes.ok c.write_fault.ensures.writes.calls.failed
